@@ -1,2 +1,5 @@
 pub mod Counts
+pub mod Digest
+pub mod Name
+pub mod ObjectId
 pub mod Told

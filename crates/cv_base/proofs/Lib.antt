@@ -1,0 +1,3 @@
+pub mod Digests
+mod IdTexts
+pub mod Parts
