@@ -3,3 +3,9 @@ pub mod Digest
 pub mod Name
 pub mod ObjectId
 pub mod Told
+pub mod Path
+pub mod PathOrder
+pub mod PathText
+pub mod Decimal
+pub mod Target
+pub mod Token

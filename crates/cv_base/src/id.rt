@@ -74,6 +74,7 @@ impl ObjectId {
 
     /// The id of these digits and this suffix.
     fn of_parts(digits: &[u8], suffix: &[u8]) -> Option<ObjectId>
+        ensures digest { IfSome result (λ id. IsDigest id.hash) }
         ensures value { IfSome result (λ id. (digits.now ≡ encode_lower id.hash) × (suffix.now ≡ suffix_of id.kind)) }
         ensures found { (id : _) → IsDigest id.hash → digits.now ≡ encode_lower id.hash → suffix.now ≡ suffix_of id.kind → result ≡ Some id }
     {
@@ -86,6 +87,7 @@ impl ObjectId {
     /// `H` for history. None for any other text. It takes no memory.
     pub fn read(text: &str) -> Option<ObjectId>
         ensures value { IfSome result (λ id. text.now ≡ id_text id) }
+        ensures digest { IfSome result (λ id. IsDigest id.hash) }
         ensures found { (id : _) → IsDigest id.hash → text.now ≡ id_text id → result ≡ Some id }
     {
         let bytes = text.as_bytes();
@@ -108,6 +110,7 @@ impl ObjectId {
     /// The id of the object whose file has this name. None where there is none. It takes no memory.
     pub fn read_file_name(name: &[u8]) -> Option<ObjectId>
         ensures value { IfSome result (λ id. name.now ≡ file_name id) }
+        ensures digest { IfSome result (λ id. IsDigest id.hash) }
         ensures found { (id : _) → IsDigest id.hash → name.now ≡ file_name id → result ≡ Some id }
     {
         if name.len() < FILE_NAME_SIZE {

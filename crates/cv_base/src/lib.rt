@@ -1,16 +1,40 @@
 //! The values that every crate of cvkit speaks of.
 #![tactic(auto)]
 
+mod attr;
 mod bytes;
+mod decimal;
 mod digest;
+mod field;
 mod id;
 mod memory;
 mod name;
+mod object;
+mod path_fault;
+mod path_key;
+mod path_name;
+mod repo_path;
+mod steps;
+mod target;
+#[cfg(test)]
+mod tests;
 mod text;
+mod token;
 
+pub use attr::Attr;
 pub use bytes::Bytes;
+pub use decimal::read_decimal;
 pub use digest::{DIGEST_DIGITS, DIGEST_SIZE, digest_digits, digest_text, read_digest};
+pub use field::{split_u16, split_u32, split_u64};
 pub use id::{Kind, ObjectId};
 pub use memory::NoMemory;
 pub use name::{NAME_LIMIT, Name};
+pub use object::Object;
+pub use path_fault::PathFault;
+pub use path_key::PathKey;
+pub use path_name::{PathName, is_path_name};
+pub use repo_path::RepoPath;
+pub use steps::Steps;
+pub use target::{TARGET_LIMIT, Target};
 pub use text::Text;
+pub use token::Token;

@@ -1,0 +1,284 @@
+//! Paths of a repository.
+ghost use Rattle.std.specs.Prelude.{ℕ, List, Ok, ◌≡◌, ◌≤◌, ◌↔◌, ◌∷◌, ◌++◌, [], length, map, Some, refl, IfOk, IsTrue, string_bytes, position, not};
+ghost use Rattle.std.specs.Cmp.{eq_by_cmp_equiv, partial_equiv_from_equiv};
+ghost use Rattle.cv_base.specs.Path.{path_cmp, same_path, covers, overlap, text_of, key_of, is_path_name, IsPath};
+ghost use Rattle.cv_base.specs.PathText.{Spells, path_of, path_of_bare, joined, parts_of, names_of, bad_name, without_last_slash, IsUnlessMemory};
+ghost use Rattle.cv_base.specs.PathOrder.{path_total, paths_ordered};
+
+use crate::memory::NoMemory;
+use crate::path_fault::PathFault;
+use crate::path_key::PathKey;
+use crate::path_name::{PathName, is_path_name};
+use md5::{Digest, Md5};
+use std::alloc::{AllocError, Global};
+use std::cmp::Ordering;
+use std::marker::Model;
+
+/// The most bytes that a path's text has.
+const MAX_BYTES: usize = 4095;
+
+/// The most names that a path has.
+const MAX_NAMES: usize = 64;
+
+/// A path of a repository, by its names from the root on. It has at most 64 names, and its text at most 4,095 bytes.
+/// Paths are ordered by their names, and the names by their bytes.
+#[derive(Debug, Drop)]
+pub struct RepoPath {
+    names: Vec<PathName>,
+}
+
+impl Model for RepoPath {
+    ghost use Rattle.std.specs.Prelude.{List, ℕ};
+    ghost use Rattle.cv_base.specs.Path.{IsPath};
+
+    ghost Value = { List (List ℕ) };
+
+    ghost view = { λ path. path.names.items };
+
+    ghost invariant = { λ path. IsPath path.names.items };
+}
+
+impl RepoPath {
+    /// The root, which has no name. It takes no memory.
+    pub fn root(alloc: Global) -> RepoPath
+        ensures { result ≡ [] }
+    {
+        RepoPath {
+            names: Vec::new(alloc),
+        }
+    }
+
+    /// The path that a text says. One slash at the end is dropped, and the empty text is the root.
+    pub fn read(alloc: Global, text: &str) -> Result<RepoPath, PathFault>
+        ensures answer { IsUnlessMemory result (path_of text.now) }
+
+        // A path is read from its own text alone, with or without a slash at the end.
+        ensures grammar { IfOk result (λ path. IsPath path × Spells text.now path) }
+        ensures found { (path : List (List ℕ)) → IsPath path → Spells text.now path → IsUnlessMemory result (Ok path) }
+    {
+        read_bare(alloc, without_last_slash(text))
+    }
+
+    /// The path's text: a slash before each name.
+    pub fn text(&self, alloc: Global) -> Result<String, NoMemory>
+        ensures text { IfOk result (λ text. string_bytes text ≡ text_of self.now) }
+        ensures reads_back { IfOk result (λ text. path_of (string_bytes text) ≡ Ok self.now) }
+    {
+        let mut text = String::new(alloc);
+        for name in &self.names {
+            text.push('/')?;
+            text.push_str(name.as_str())?;
+        }
+        Ok(text)
+    }
+
+    /// The path with one more name behind its own.
+    pub fn join(&self, alloc: Global, name: &str) -> Result<RepoPath, PathFault>
+        ensures { IsUnlessMemory result (joined self.now name.now) }
+    {
+        if name.len() >= MAX_BYTES - text_len(&self.names) {
+            return Err(PathFault::TooLong);
+        }
+        if self.names.len() >= MAX_NAMES {
+            return Err(PathFault::TooDeep);
+        }
+        if !is_path_name(name) {
+            return Err(PathFault::BadName(0));
+        }
+        match names_and(alloc, &self.names, name) {
+            Ok(names) => Ok(RepoPath { names }),
+            Err(NoMemory) => Err(PathFault::NoMemory),
+        }
+    }
+
+    /// An equal path.
+    pub fn copy(&self, alloc: Global) -> Result<RepoPath, NoMemory>
+        ensures { IfOk result (λ made. made ≡ self.now) }
+    {
+        let names = copies(alloc, &self.names)?;
+        Ok(RepoPath { names })
+    }
+
+    /// The names, from the root on.
+    pub fn names(&self) -> &[PathName]
+        ensures names { result.now ≡ self.now }
+        ensures limits { IsPath self.now }
+    {
+        &self.names
+    }
+
+    /// Whether the other path is this one, or below it.
+    pub fn covers(&self, other: &RepoPath) -> bool
+        ensures { result ≡ covers self.now other.now }
+    {
+        other.names.starts_with(&self.names)
+    }
+
+    /// Whether one of the paths covers the other.
+    pub fn overlaps(&self, other: &RepoPath) -> bool
+        ensures { result ≡ overlap self.now other.now }
+    {
+        self.covers(other) || other.covers(self)
+    }
+
+    /// The MD5 of the path's text.
+    pub fn key(&self) -> PathKey
+        ensures { result.0 ≡ key_of self.now }
+    {
+        let mut hasher = Md5::new();
+        for name in &self.names {
+            hasher.update("/");
+            hasher.update(name.as_str());
+        }
+        PathKey(hasher.finalize())
+    }
+}
+
+impl PartialEq for RepoPath {
+    ghost eq = { λ p q. same_path p q };
+
+    ghost laws = { partial_equiv_from_equiv (eq_by_cmp_equiv path_total) };
+
+    fn eq(&self, other: &RepoPath) -> bool {
+        self.cmp(other) == Ordering::Equal
+    }
+}
+
+impl Eq for RepoPath {
+    ghost laws = { eq_by_cmp_equiv path_total };
+}
+
+impl PartialOrd for RepoPath {
+    ghost partial_cmp = { λ p q. Some (path_cmp p q) };
+
+    ghost laws = { paths_ordered };
+
+    fn partial_cmp(&self, other: &RepoPath) -> Option<Ordering> {
+        Some(self.cmp(other))
+    }
+}
+
+impl Ord for RepoPath {
+    ghost cmp = { λ p q. path_cmp p q };
+
+    ghost total = { path_total };
+
+    ghost matches_partial_cmp = { λ p q. refl };
+
+    ghost matches_eq = { λ p q. refl };
+
+    fn cmp(&self, other: &RepoPath) -> Ordering {
+        self.names.as_slice().cmp(other.names.as_slice())
+    }
+}
+
+/// The path that a text says which has no slash at its end.
+fn read_bare(alloc: Global, bare: &str) -> Result<RepoPath, PathFault>
+    ensures { IsUnlessMemory result (path_of_bare bare.now) }
+{
+    if bare.len() > MAX_BYTES {
+        return Err(PathFault::TooLong);
+    }
+    let Ok(parts) = parts_of(alloc, bare) else {
+        return Err(PathFault::NoMemory);
+    };
+    let names = names_of(&parts);
+    if names.len() > MAX_NAMES {
+        return Err(PathFault::TooDeep);
+    }
+    if let Some(place) = bad_name(&parts) {
+        return Err(PathFault::BadName(place));
+    }
+    match names_from(alloc, names) {
+        Ok(names) => Ok(RepoPath { names }),
+        Err(NoMemory) => Err(PathFault::NoMemory),
+    }
+}
+
+/// The text without the one slash at its end.
+fn without_last_slash(text: &str) -> &str
+    ensures { result.now ≡ without_last_slash text.now }
+{
+    text.strip_suffix('/').unwrap_or(text)
+}
+
+/// The parts of a text between its slashes.
+fn parts_of(alloc: Global, text: &str) -> Result<Vec<&str>, AllocError>
+    ensures { IfOk result (λ parts. map (λ part. part.now) parts.items ≡ parts_of text.now) }
+{
+    text.split('/').collect(alloc)
+}
+
+/// The names among the parts: all but the empty part before a leading slash.
+fn names_of<'a>(parts: &'a [&'a str]) -> &'a [&'a str]
+    ensures { map (λ part. part.now) result.now ≡ names_of (map (λ part. part.now) parts.now) }
+{
+    match parts {
+        [first, names @ ..] if first.is_empty() => names,
+        _ => parts,
+    }
+}
+
+/// The place of the first bad name among the parts. A text that doesn't begin with a slash has a bad name at 0.
+fn bad_name(parts: &[&str]) -> Option<usize>
+    ensures { result ≡ bad_name (map (λ part. part.now) parts.now) }
+{
+    match parts {
+        [first, names @ ..] if first.is_empty() => first_bad_name(names),
+        _ => Some(0),
+    }
+}
+
+/// The place of the first text that is no name in a path.
+fn first_bad_name(texts: &[&str]) -> Option<usize>
+    ensures { result ≡ position (λ text. not (is_path_name text.now)) texts.now }
+{
+    texts.iter().position(|text| !is_path_name(text))
+}
+
+/// Names of these texts.
+fn names_from(alloc: Global, texts: &[&str]) -> Result<Vec<PathName>, NoMemory>
+    ensures { IfOk result (λ names. names.items ≡ map (λ text. text.now) texts.now) }
+{
+    let mut names = Vec::new(alloc);
+    for text in texts {
+        names
+            .push(PathName::from_str(alloc, text)?)
+            .map_err(|_| NoMemory)?;
+    }
+    Ok(names)
+}
+
+/// Equal names.
+fn copies(alloc: Global, names: &[PathName]) -> Result<Vec<PathName>, NoMemory>
+    ensures { IfOk result (λ copies. copies.items ≡ names.now) }
+{
+    let mut copies = Vec::new(alloc);
+    for name in names {
+        let copy = PathName::from_str(alloc, name.as_str())?;
+        copies.push(copy).map_err(|_| NoMemory)?;
+    }
+    Ok(copies)
+}
+
+/// Equal names, and one more.
+fn names_and(alloc: Global, names: &[PathName], last: &str) -> Result<Vec<PathName>, NoMemory>
+    ensures { IfOk result (λ longer. longer.items ≡ names.now ++ last.now ∷ []) }
+{
+    let mut longer = copies(alloc, names)?;
+    let last = PathName::from_str(alloc, last)?;
+    longer.push(last).map_err(|_| NoMemory)?;
+    Ok(longer)
+}
+
+/// How many bytes the text of these names has.
+fn text_len(names: &[PathName]) -> usize
+    requires { length (text_of names.now) ≤ 4095 }
+    ensures { result ≡ length (text_of names.now) }
+{
+    let mut len = 0;
+    for name in names {
+        len += 1 + name.as_str().len();
+    }
+    len
+}
