@@ -1,0 +1,22 @@
+-- The calls of an object in memory, of which those of stated numbers fail.
+use Rattle.std.specs.Prelude.{ℕ, ◌+◌, ◌==◌, List, Bool, min, if◌then◌else◌}
+use Rattle.std.specs.List.{list_any}
+use Rattle.cv_base.specs.Counts.{last_count}
+
+-- the numbers of the calls that are to fail, how many calls were made, and how many failed
+pub record Calls : Type 0 where
+  pub failing : List ℕ
+  pub count : ℕ
+  pub faults : ℕ
+
+-- one more, up to the last number of 64 bits
+abbrev pub raised : ℕ → ℕ
+raised count = min (count + 1) last_count
+
+-- the next call is to fail: its number is among them
+abbrev pub fails : Calls → Bool
+fails c = list_any (λ number. number == raised c.count) c.failing
+
+-- after the next call
+abbrev pub called : Calls → Calls
+called c = record c { count = raised c.count; faults = if fails c then raised c.faults else c.faults }

@@ -1,0 +1,19 @@
+-- What a source has left and what a sink took, where they tell it.
+use Rattle.std.specs.Prelude.{◌≡◌, ◌++◌, ℕ, List, Option, Some, None}
+
+-- a piece, and then what is left, where it is told
+abbrev pub front : List ℕ → Option (List ℕ) → Option (List ℕ)
+front piece None = None
+front piece (Some rest) = Some (piece ++ rest)
+
+-- what was taken, and then a piece, where it is told
+abbrev pub onto : Option (List ℕ) → List ℕ → Option (List ℕ)
+onto None piece = None
+onto (Some before) piece = Some (before ++ piece)
+
+-- of a text that was to be written, the sink took a front
+pub record Wrote (old new : Option (List ℕ)) (text : List ℕ) : Type 0 where
+  pub written : List ℕ
+  pub unwritten : List ℕ
+  pub split : text ≡ written ++ unwritten
+  pub taken : new ≡ onto old written

@@ -1,0 +1,22 @@
+//! The outside: where bytes come from, where they go, and what time it is. Each has a form in memory.
+#![tactic(auto)]
+
+mod clock;
+mod failed;
+mod failing_calls;
+mod memory_clock;
+mod memory_sink;
+mod memory_source;
+mod sink;
+mod source;
+#[cfg(test)]
+mod tests;
+
+pub use clock::Clock;
+pub use failed::Failed;
+pub use failing_calls::FailingCalls;
+pub use memory_clock::MemoryClock;
+pub use memory_sink::MemorySink;
+pub use memory_source::MemorySource;
+pub use sink::{Sink, write_all};
+pub use source::Source;

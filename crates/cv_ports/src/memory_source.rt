@@ -1,0 +1,73 @@
+//! A source in memory.
+ghost use Rattle.std.specs.Prelude.{◌≡◌, ◌≤◌, ◌<◌, ℕ, List, Option, Some, [], length, take, drop, min, IsTrue, ◌↔◌, OnErr, IfOk, IsErr};
+ghost use Rattle.cv_base.specs.Counts.{HasCause};
+ghost use Rattle.cv_base.specs.Told.{WhereTold};
+ghost use Rattle.cv_ports.specs.Streams.{front};
+ghost use Rattle.cv_ports.specs.Calls.{fails, called};
+
+use crate::failed::Failed;
+use crate::failing_calls::FailingCalls;
+use crate::source::Source;
+use std::marker::Model;
+
+/// Gives stated bytes, in pieces of at most a stated size. The calls of stated numbers fail, from 1 on.
+#[derive(Debug, Drop)]
+pub struct MemorySource {
+    bytes: Vec<u8>,
+    given: usize,
+    piece: usize,
+    calls: FailingCalls,
+}
+
+impl Model for MemorySource {
+    ghost use Rattle.std.specs.Prelude.{◌≤◌, ◌<◌, vec_len, drop};
+    ghost use Rattle.cv_ports.specs.Memory.{SourceView};
+
+    ghost Value = { SourceView };
+
+    ghost view = { λ s. record { left = drop s.given s.bytes.items; piece = s.piece; calls = s.calls } };
+
+    ghost invariant = { λ s. (s.given ≤ vec_len s.bytes) × (0 < s.piece) };
+}
+
+impl MemorySource {
+    /// Gives these bytes, at most `piece` a call. The calls of the numbers in `failing` fail and give nothing.
+    pub fn new(bytes: Vec<u8>, piece: usize, failing: Vec<u64>) -> MemorySource
+        requires { 0 < piece }
+        ensures { result ≡ record { left = bytes.items; piece = piece; calls = record { failing = failing.items; count = 0; faults = 0 } } }
+    {
+        MemorySource {
+            bytes,
+            given: 0,
+            piece,
+            calls: FailingCalls::new(failing),
+        }
+    }
+}
+
+impl Source for MemorySource {
+    ghost left = { λ s. Some s.left };
+
+    ghost faults = { λ s. s.calls.faults };
+
+    fn read(&mut self, buf: &mut [u8]) -> Result<usize, Failed>
+        ensures fits { IfOk result (λ count. count ≤ length buf.old) }
+        ensures gives { IfOk result (λ count. Some self.old.left ≡ front (take count buf.new) (Some self.new.left)) }
+        ensures end { IfOk result (λ count. count ≡ 0 → 0 < length buf.old → WhereTold (Some self.new.left) (λ more. more ≡ [])) }
+        ensures unchanged { OnErr result (Some self.new.left ≡ Some self.old.left) }
+        ensures cause { HasCause self.old.calls.faults self.new.calls.faults (IsErr result) }
+        ensures most { IfOk result (λ count. count ≡ min (min (length self.old.left) (length buf.old)) self.old.piece) }
+        ensures calls { self.new.calls ≡ called self.old.calls }
+        ensures failing { IsErr result ↔ IsTrue (fails self.old.calls) }
+        ensures piece { self.new.piece ≡ self.old.piece }
+    {
+        if self.calls.next_fails() {
+            return Err(Failed);
+        }
+        let rest = &self.bytes[self.given..];
+        let count = rest.len().min(buf.len()).min(self.piece);
+        buf[..count].copy_from_slice(&rest[..count]);
+        self.given += count;
+        Ok(count)
+    }
+}

@@ -1,0 +1,25 @@
+//! Where bytes come from.
+ghost use Rattle.std.specs.Prelude.{◌≡◌, ◌≤◌, ◌<◌, ℕ, List, Option, [], length, take, OnErr, IfOk, IsErr};
+ghost use Rattle.cv_base.specs.Counts.{HasCause};
+ghost use Rattle.cv_base.specs.Told.{WhereTold};
+ghost use Rattle.cv_ports.specs.Streams.{front};
+
+use crate::failed::Failed;
+
+/// Where bytes come from, as a file, a pipe or a connection.
+pub trait Source {
+    /// The bytes that it will give from here on, where it tells.
+    ghost left: { Self → Option (List ℕ) };
+
+    /// How many of its calls failed, so far as 64 bits can count.
+    ghost faults: { Self → ℕ };
+
+    /// Puts the next bytes at the front of the buffer, and answers how many. 0 of a buffer that isn't empty is the
+    /// end of the input. A read that failed took nothing.
+    fn read(&mut self, buf: &mut [u8]) -> Result<usize, Failed>
+        ensures fits { IfOk result (λ count. count ≤ length buf.old) }
+        ensures gives { IfOk result (λ count. left self.old ≡ front (take count buf.new) (left self.new)) }
+        ensures end { IfOk result (λ count. count ≡ 0 → 0 < length buf.old → WhereTold (left self.new) (λ more. more ≡ [])) }
+        ensures unchanged { OnErr result (left self.new ≡ left self.old) }
+        ensures cause { HasCause (faults self.old) (faults self.new) (IsErr result) };
+}
