@@ -1,0 +1,17 @@
+pub mod Names
+pub mod Ascending
+pub mod Finding
+pub mod Values
+pub mod Reading
+pub mod Growing
+pub mod Changing
+pub mod Steps
+pub mod Settling
+pub mod Listing
+pub mod Failing
+pub mod Remembering
+pub mod Inside
+pub mod Walking
+pub mod Calling
+pub mod Storing
+pub mod Crashing

@@ -1,0 +1,69 @@
+-- Names that are the same or differ, and disks with another slot at a name.
+use Rattle.std.proofs.Common.{◌≡◌, ◌≢◌, ◌⊎◌, ◌≤◌, inl, inr, ap, subst, sym, ◌∙◌, Bool, true, false, refl, arith}
+use Rattle.std.specs.declared.cmp.Ordering.{Ordering}
+use Rattle.std.specs.declared.cmp.Ordering.TheVariants.{Less, Equal, Greater}
+use Rattle.std.specs.Ordering.{is_eq, ordering_index, ordering_reverse}
+use Rattle.std.specs.Cmp.{tied_itself}
+use Rattle.std.specs.Cmp.Lexicographic.{nat_list_cmp_total}
+use Rattle.std.specs.FinMap.{IsAntisymmetric, slice_cmp-IsAntisymmetric, nat_cmp-IsAntisymmetric}
+use Rattle.cv_vault.specs.Names.{Name, name_cmp, same_name}
+use Rattle.cv_vault.specs.Disk.{Disk, Slot, with_slot}
+
+pub name_exact : IsAntisymmetric name_cmp
+name_exact = slice_cmp-IsAntisymmetric nat_cmp-IsAntisymmetric
+
+is_equal : (r : Ordering) → is_eq r ≡ true → r ≡ Equal
+is_equal Less h = cc
+is_equal Equal h = refl
+is_equal Greater h = cc
+
+pub same_name_is : (a b : Name) → same_name a b ≡ true → a ≡ b
+same_name_is a b h = name_exact a b (is_equal _ h)
+
+pub same_name_itself : (a : Name) → same_name a a ≡ true
+same_name_itself a = ap is_eq (tied_itself nat_list_cmp_total a)
+
+-- names that differ aren't the same
+pub other_name : (a b : Name) → a ≢ b → same_name a b ≡ false
+other_name a b apart = by (same_name a b) refl
+  where
+    by : (r : Bool) → same_name a b ≡ r → same_name a b ≡ false
+    by true e = absurd (apart (same_name_is a b e))
+    by false e = e
+
+pub same_or_not : (a b : Name) → (a ≡ b) ⊎ (a ≢ b)
+same_or_not a b = by (same_name a b) refl
+  where
+    by : (r : Bool) → same_name a b ≡ r → (a ≡ b) ⊎ (a ≢ b)
+    by true e = inl (same_name_is a b e)
+    by false e = inr (λ s. let t : same_name b b ≡ false = subst (λ x. same_name x b ≡ false) s e in let u = same_name_itself b in cc)
+
+pub below_differs : (a b : Name) → name_cmp a b ≡ Less → a ≢ b
+below_differs a b h e = let t : name_cmp b b ≡ Less = subst (λ x. name_cmp x b ≡ Less) e h in let u = tied_itself nat_list_cmp_total b in cc
+
+-- what a name is against another falls where the name rises
+pub level_rises : (a b n : Name) → name_cmp a b ≡ Less → ordering_index (name_cmp a n) ≤ ordering_index (name_cmp b n)
+level_rises a b n below = by (name_cmp a n) (name_cmp b n) refl refl
+  where
+    turned : (x y : Name) (r : Ordering) → name_cmp x y ≡ r → name_cmp y x ≡ ordering_reverse r
+    turned x y r e = nat_list_cmp_total.antisymm y x ∙ ap ordering_reverse e
+
+    above : name_cmp n b ≡ Less → name_cmp b n ≡ Greater
+    above e = turned n b Less e
+
+    by : (r s : Ordering) → name_cmp a n ≡ r → name_cmp b n ≡ s → ordering_index r ≤ ordering_index s
+    by Less s p q = omega arith
+    by Equal Less p q = let e = above (sym (nat_list_cmp_total.congr a n b p) ∙ below) in cc
+    by Equal Equal p q = omega arith
+    by Equal Greater p q = omega arith
+    by Greater Less p q = let e = above (nat_list_cmp_total.trans n a b (turned a n Greater p) below) in cc
+    by Greater Equal p q = let e = above (nat_list_cmp_total.trans n a b (turned a n Greater p) below) in cc
+    by Greater Greater p q = omega arith
+
+-- the slot that was put
+pub here : (d : Disk) (n : Name) (s : Slot) → with_slot d n s n ≡ s
+here d n s = rw (same_name_itself n) refl
+
+-- every other slot
+pub elsewhere : (d : Disk) (n : Name) (s : Slot) (q : Name) → q ≢ n → with_slot d n s q ≡ d q
+elsewhere d n s q apart = rw (other_name q n apart) refl

@@ -1,0 +1,36 @@
+use Rattle.std.proofs.Common.{map, refl, ap, ◌∙◌}
+use Rattle.std.proofs.lemmas.List.{with_items_is}
+use Rattle.std.specs.Vec.{with_items}
+use Rattle.cv_vault.specs.Table.{settled_entry}
+use Rattle.cv_vault.specs.declared.table.Table.{Table}
+use Rattle.cv_vault.proofs.Changing.{table_recorded, adds_recorded}
+use Rattle.cv_vault.proofs.Settling.{SettlesAll, records_settled, any_unsettled-settled, file_count-settled}
+use Rattle.cv_vault.proofs.table.Table.settle.Goals as goal
+
+after_settle : goal.After-push_reserved → Table
+after_settle c = record c.args.self.now { entries = with_items c.args.self.now.entries c.settle_all.new.entries; changes = c.push_reserved.new.self }
+
+settles : (c : goal.After-push_reserved) → SettlesAll c.args.self.now (after_settle c)
+unfolding after_settle
+settles c = record {
+  names = refl;
+  contents = refl;
+  entries = with_items_is c.args.self.now.entries c.settle_all.new.entries (c.settle_all.auto.entries ∙ c.deref_mut.ensures.len) ∙ c.settle_all.ensures ∙ ap (map settled_entry) c.deref_mut.ensures.value;
+  changes = c.push_reserved.ensures.items;
+}
+
+pub returns-clause-table : goal.returns-clause-table
+unfolding after_settle
+returns-clause-table c = table_recorded c.args.self.now (after_settle c) _ _ c.requires.table (records_settled c.args.self.now (after_settle c) c.requires.table (settles c))
+
+pub returns-clause-adds : goal.returns-clause-adds
+unfolding after_settle
+returns-clause-adds c = adds_recorded c.args.self.now (after_settle c) _ _ (records_settled c.args.self.now (after_settle c) c.requires.table (settles c)) c.push_reserved.ensures.len c.push_reserved.ensures.capacity
+
+pub returns-clause-calm : goal.returns-clause-calm
+unfolding after_settle
+returns-clause-calm c = any_unsettled-settled c.args.self.now (after_settle c) (settles c)
+
+pub returns-clause-files : goal.returns-clause-files
+unfolding after_settle
+returns-clause-files c = file_count-settled c.args.self.now (after_settle c) (settles c)

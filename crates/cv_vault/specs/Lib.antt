@@ -1,0 +1,13 @@
+pub mod Names
+pub mod Disk
+pub mod Moments
+pub mod Crash
+pub mod Walks
+pub mod Store
+pub mod Failures
+pub mod Events
+pub mod Places
+pub mod Table
+pub mod Memory
+pub mod MemoryLaws
+pub mod MemoryVault

@@ -1,0 +1,15 @@
+-- Names of files are lists of bytes, in the order of their bytes.
+use Rattle.std.specs.Prelude.{ℕ, Bool, List}
+use Rattle.std.specs.declared.cmp.Ordering.{Ordering}
+use Rattle.std.specs.Ordering.{nat_cmp, is_eq}
+use Rattle.std.specs.Cmp.Lexicographic.{slice_cmp}
+
+abbrev pub Name : Type 0
+Name = List ℕ
+
+-- the order of names
+abbrev pub name_cmp : Name → Name → Ordering
+name_cmp = slice_cmp nat_cmp
+
+abbrev pub same_name : Name → Name → Bool
+same_name a b = is_eq (name_cmp a b)

@@ -1,0 +1,39 @@
+-- Calls of a vault, one after another, by which certain files may come to certain names.
+use Rattle.std.specs.Prelude.{◌≡◌, ◌⊎◌, ℕ, Bool, false}
+use Rattle.std.specs.declared.option.Option.{Option}
+use Rattle.std.specs.declared.option.Option.TheVariants.{Some}
+use Rattle.cv_vault.specs.Names.{Name}
+use Rattle.cv_vault.specs.Disk.{Disk, Slot, File, Files, May}
+use Rattle.cv_vault.specs.Moments.{LeavesOnly}
+
+-- From the slot s to the slot s': the file stays, or one of the files that B allows came. What a crash may leave afterwards it might
+-- have left before, or it is such a file
+pub data Change (B : File → Type 0) (s s' : Slot) : Type 0 where
+  Stays : (same : s'.now ≡ s.now) (less : (f : File) → May s' f → May s f) → Change B s s'
+  Comes : (came : B s'.now) (less : (f : File) → May s' f → May s f ⊎ B f) → Change B s s'
+
+-- From the disk d to the disk d', nothing came but the files that B allows at each name. The names that `away` tells are left out of account:
+-- there files are on their way, and nobody reads what a crash leaves of them
+pub record Gains (away : Name → Bool) (B : Name → File → Type 0) (d d' : Disk) : Type 0 where
+  pub each : (n : Name) → away n ≡ false → Change (B n) (d n) (d' n)
+
+-- each of the files is one that a crash of the disk d may leave, or one that B allows
+pub record Within (away : Name → Bool) (B : Name → File → Type 0) (d : Disk) (f : Files) : Type 0 where
+  pub each : (n : Name) → away n ≡ false → May (d n) (f n) ⊎ B n (f n)
+
+-- From v, whose disk is d, to v', whose disk has E: nothing came but the files that B allows, and a crash at any moment on the way leaves nothing else
+pub record Walks {V : Type 0} (disk : V → Option Disk) (count : V → ℕ) (left : V → ℕ → Files → Type 0) (away : Name → Bool) (B : Name → File → Type 0)
+    (E : Disk → Type 0) (d : Disk) (v v' : V) : Type 0 where
+  pub end : Disk
+  pub told : disk v' ≡ Some end
+  pub gains : Gains away B d end
+  pub leaves : LeavesOnly count left (Within away B d) v v'
+  pub is : E end
+
+-- no file comes
+abbrev pub Nothing : Name → File → Type 0
+Nothing n f = ⊥
+
+-- this file comes to this name
+abbrev pub ComesTo : Name → File → Name → File → Type 0
+ComesTo name file n f = (n ≡ name) × (f ≡ file)

@@ -1,0 +1,20 @@
+//! A vault keeps whole files under names, and its contract says what a crash at any moment may leave of them.
+#![tactic(auto)]
+
+#[cfg(test)]
+mod crash_tests;
+mod fate;
+mod memory_vault;
+mod mortal;
+mod place;
+mod schedule;
+mod store;
+mod table;
+#[cfg(test)]
+mod tests;
+mod vault;
+
+pub use memory_vault::MemoryVault;
+pub use mortal::Mortal;
+pub use store::store_file;
+pub use vault::{Vault, VaultFault};

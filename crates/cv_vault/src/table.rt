@@ -1,0 +1,452 @@
+//! The files of a vault in memory, with the record of their changes.
+ghost use Rattle.std.specs.Prelude.{◌≡◌, ◌+◌, ◌<◌, ◌≤◌, ◌≢◌, [], length, slice_index_or, slice_set, map, false, option_copied, IfOk, IfErr, OnOk, OnErr, IsSome, MatchBool, IsTrue, if◌then◌else◌, vec_len, vec_capacity};
+ghost use Rattle.std.specs.List.{list_all};
+ghost use Rattle.std.specs.Bool.{OnTrue, OnFalse};
+ghost use Rattle.std.specs.List.Sorted.{IsStrictlySortedBy};
+ghost use Rattle.cv_vault.specs.Names.{name_cmp};
+ghost use Rattle.cv_vault.specs.Disk.{IsListing, synced};
+ghost use Rattle.cv_vault.specs.Crash.{Crashes};
+ghost use Rattle.cv_vault.specs.Events.{write_of, rename_of, removal_of, any_unsettled, file_count, has_file, Puts, PutsTwo, Settles as all_settled};
+ghost use Rattle.cv_vault.specs.Places.{is_settled_place, file_in, slot_in, IsFileIn, IsPlaceIn};
+ghost use Rattle.cv_vault.specs.Table.{name_in, names_in, is_listed, IsGap, IsEntryOf, any_entry, settled_entry, crashed, entry_at, entries_of, past_of, table_disk, table_first, IsTable, Stays, Adds};
+
+use crate::place::{Place, PlaceMark, removed, renamed};
+use cv_base::{Bytes, Text};
+use std::alloc::{AllocError, Global};
+use std::cmp::Ordering;
+
+/// A name, by its number among the names, the file that it had when the record of changes began, and what stands there.
+#[derive(Clone, Copy)]
+pub struct Entry {
+    pub name: usize,
+    pub first: Option<usize>,
+    pub place: Place,
+}
+
+/// A change: one name or two together have another place, or all are settled.
+#[derive(Clone, Copy)]
+pub enum Change {
+    Puts(usize, Place),
+    PutsTwo(usize, Place, usize, Place),
+    Settles,
+}
+
+/// The files of a vault in memory.
+///
+/// The names and the contents stand in lists that only grow, so that every change is a few numbers and needs no memory but
+/// its place in the record. The entries are in ascending order of their names.
+#[derive(Drop)]
+pub struct Table {
+    pub names: Vec<Text>,
+    pub contents: Vec<Bytes>,
+    pub entries: Vec<Entry>,
+    pub changes: Vec<Change>,
+}
+
+// Settles every entry.
+fn settle_all(entries: &mut [Entry])
+    ensures { entries.new ≡ map settled_entry entries.old }
+{
+    for entry in entries.iter_mut() {
+        entry.place.mark = PlaceMark::Settled;
+    }
+}
+
+// Leaves of every entry what a crash leaves by the bits of a pick.
+fn crash_all(entries: &mut [Entry], pick: u64)
+    ensures { entries.new ≡ crashed pick entries.old }
+{
+    let mut rest = pick;
+    for row in entries.iter_mut() {
+        let now = row.place.left(rest);
+        rest = row.place.rest(rest);
+        row.first = now;
+        row.place = Place {
+            now,
+            mark: PlaceMark::Settled,
+        };
+    }
+}
+
+impl Table {
+    /// A table without names, with room for so many changes.
+    pub fn new(alloc: Global, room: usize) -> Result<Table, AllocError>
+        ensures table { IfOk result IsTable }
+        ensures empty { IfOk result (λ t. entries_of t ≡ []) }
+        ensures past { IfOk result (λ t. past_of t ≡ []) }
+        ensures room { IfOk result (λ t. vec_len t.changes + room ≤ vec_capacity t.changes) }
+        ensures names { IfOk result (λ t. length t.entries.items ≡ 0) }
+    {
+        Ok(Table {
+            names: Vec::new(alloc),
+            contents: Vec::new(alloc),
+            entries: Vec::new(alloc),
+            changes: Vec::with_capacity(alloc, room)?,
+        })
+    }
+
+    /// Takes room for so many changes.
+    pub fn reserve(&mut self, more: usize) -> Result<(), AllocError>
+        requires { IsTable self.old }
+        ensures table { IsTable self.new }
+        ensures entries { entries_of self.new ≡ entries_of self.old }
+        ensures past { past_of self.new ≡ past_of self.old }
+        ensures len { vec_len self.new.changes ≡ vec_len self.old.changes }
+        ensures kept { vec_capacity self.old.changes ≤ vec_capacity self.new.changes }
+        ensures room { OnOk result (vec_len self.new.changes + more ≤ vec_capacity self.new.changes) }
+        ensures names { length self.new.entries.items ≡ length self.old.entries.items }
+    {
+        self.changes.reserve(more)
+    }
+
+    /// The file under a name.
+    pub fn file(&self, name: &str) -> Option<&Bytes>
+        requires { IsTable self.now }
+        ensures { option_copied result ≡ (table_disk self.now name.now).now }
+    {
+        match self.place_of(name).now {
+            Some(number) => Some(&self.contents[number]),
+            None => None,
+        }
+    }
+
+    /// The names that have a file and begin with the prefix, in ascending order.
+    pub fn list(&self, alloc: Global, prefix: &str) -> Result<Vec<Text>, AllocError>
+        requires { IsTable self.now }
+        ensures { IfOk result (λ names. IsListing (table_disk self.now) prefix.now names.items) }
+    {
+        let mut listed = Vec::new(alloc);
+        for row in &self.entries {
+            if self.is_listed(*row, prefix) {
+                listed.push(Text::new(String::from_str(alloc, self.name_at(row.name))?))?;
+            }
+        }
+        Ok(listed)
+    }
+
+    /// Writes a file, or leaves the one that is there. The name is torn. There is room for the change.
+    pub fn write(
+        &mut self,
+        alloc: Global,
+        name: &str,
+        bytes: &[u8],
+        made: bool,
+    ) -> Result<(), AllocError>
+        requires table { IsTable self.old }
+        requires room { vec_len self.old.changes < vec_capacity self.old.changes }
+        ensures table { IsTable self.new }
+        ensures ok { OnOk result (Adds (write_of (table_disk self.old) name.now bytes.now made) self.old self.new) }
+        ensures err { OnErr result (Stays self.old self.new) }
+        ensures files { file_count (entries_of self.new) ≤ file_count (entries_of self.old) + 1 }
+        ensures names { length self.new.entries.items ≤ length self.old.entries.items + 1 }
+    {
+        let at = self.entry_for(alloc, name)?;
+        let now = self.content_for(alloc, at, bytes, made)?;
+        self.put(
+            at,
+            Place {
+                now,
+                mark: PlaceMark::Torn,
+            },
+        );
+        Ok(())
+    }
+
+    /// Moves a file to another name, or leaves it, and answers false where there is none. There is room for the change.
+    pub fn rename(
+        &mut self,
+        alloc: Global,
+        from: &str,
+        to: &str,
+        made: bool,
+    ) -> Result<bool, AllocError>
+        requires table { IsTable self.old }
+        requires apart { from.now ≢ to.now }
+        requires room { vec_len self.old.changes < vec_capacity self.old.changes }
+        ensures table { IsTable self.new }
+        ensures there { IfOk result (λ there. OnTrue there (IsSome (table_disk self.old from.now).now × Adds (rename_of (table_disk self.old) from.now to.now made) self.old self.new)) }
+        ensures absent { IfOk result (λ there. OnFalse there (((table_disk self.old from.now).now ≡ None) × Stays self.old self.new)) }
+        ensures err { OnErr result (Stays self.old self.new) }
+        ensures files { file_count (entries_of self.new) ≤ file_count (entries_of self.old) + 1 }
+        ensures names { length self.new.entries.items ≤ length self.old.entries.items + 1 }
+    {
+        let to_at = self.entry_for(alloc, to)?;
+        let Ok(from_at) = self.find(from) else {
+            return Ok(false);
+        };
+        let place = self.place_at(from_at);
+        if place.now.is_none() {
+            return Ok(false);
+        }
+        let (from_place, to_place) = renamed(place, self.place_at(to_at), made);
+        self.put_two(from_at, from_place, to_at, to_place);
+        Ok(true)
+    }
+
+    /// Removes a file, or leaves it, and answers false where there is none. There is room for the change.
+    pub fn remove(&mut self, name: &str, made: bool) -> bool
+        requires table { IsTable self.old }
+        requires room { IsSome (table_disk self.old name.now).now → vec_len self.old.changes < vec_capacity self.old.changes }
+        ensures table { IsTable self.new }
+        ensures there { OnTrue result (IsSome (table_disk self.old name.now).now × Adds (removal_of (table_disk self.old) name.now made) self.old self.new) }
+        ensures absent { OnFalse result (((table_disk self.old name.now).now ≡ None) × (self.new ≡ self.old)) }
+        ensures files { OnTrue result (file_count (entries_of self.new) + (if made then 1 else 0) ≡ file_count (entries_of self.old)) }
+        ensures names { length self.new.entries.items ≡ length self.old.entries.items }
+    {
+        let Ok(at) = self.find(name) else {
+            return false;
+        };
+        let place = self.place_at(at);
+        if place.now.is_none() {
+            return false;
+        }
+        self.put(at, removed(place, made));
+        true
+    }
+
+    /// Settles every name, and tells whether one wasn't. There is room for the change in that case.
+    pub fn sync(&mut self) -> bool
+        requires table { IsTable self.old }
+        requires room { IsTrue (any_unsettled (entries_of self.old)) → vec_len self.old.changes < vec_capacity self.old.changes }
+        ensures table { IsTable self.new }
+        ensures changes { result ≡ any_unsettled (entries_of self.old) }
+        ensures calm { any_unsettled (entries_of self.new) ≡ false }
+        ensures disk { table_disk self.new ≡ synced (table_disk self.old) }
+        ensures settles { OnTrue (any_unsettled (entries_of self.old)) (Adds all_settled self.old self.new) }
+        ensures unchanged { OnFalse (any_unsettled (entries_of self.old)) (self.new ≡ self.old) }
+        ensures files { file_count (entries_of self.new) ≡ file_count (entries_of self.old) }
+        ensures names { length self.new.entries.items ≡ length self.old.entries.items }
+    {
+        if self.is_calm() {
+            return false;
+        }
+        self.settle();
+        true
+    }
+
+    /// Leaves what a crash leaves by the bits of a pick, and begins the record of changes anew.
+    pub fn crash(&mut self, pick: u64)
+        requires { IsTable self.old }
+        ensures table { IsTable self.new }
+        ensures past { past_of self.new ≡ [] }
+        ensures crashes { Crashes pick (table_disk self.old) (table_disk self.new) }
+        ensures calm { any_unsettled (entries_of self.new) ≡ false }
+        ensures len { vec_len self.new.changes ≡ 0 }
+        ensures capacity { vec_capacity self.new.changes ≡ vec_capacity self.old.changes }
+        ensures names { length self.new.entries.items ≡ length self.old.entries.items }
+    {
+        crash_all(&mut self.entries, pick);
+        self.changes.clear();
+    }
+
+    /// How many changes there are in the record.
+    pub fn change_count(&self) -> usize
+        ensures { result ≡ vec_len self.now.changes }
+    {
+        self.changes.len()
+    }
+
+    // Settles every name, and records it. There is room for the change.
+    fn settle(&mut self)
+        requires table { IsTable self.old }
+        requires room { vec_len self.old.changes < vec_capacity self.old.changes }
+        ensures table { IsTable self.new }
+        ensures adds { Adds all_settled self.old self.new }
+        ensures calm { any_unsettled (entries_of self.new) ≡ false }
+        ensures files { file_count (entries_of self.new) ≡ file_count (entries_of self.old) }
+        ensures names { length self.new.entries.items ≡ length self.old.entries.items }
+    {
+        settle_all(&mut self.entries);
+        self.changes.push_reserved(Change::Settles);
+    }
+
+    // Whether every name is settled.
+    fn is_calm(&self) -> bool
+        ensures { result ≡ list_all (λ e. is_settled_place e.place) self.now.entries.items }
+    {
+        self.entries.iter().all(|entry| entry.place.is_settled())
+    }
+
+    // Whether an entry has a file and a name that begins so.
+    fn is_listed(&self, row: Entry, prefix: &str) -> bool
+        ensures { result ≡ is_listed self.now.names.items prefix.now row }
+    {
+        row.place.now.is_some() && self.name_at(row.name).starts_with(prefix)
+    }
+
+    // The name with a number.
+    fn name_at(&self, number: usize) -> &str
+        ensures { result.now ≡ name_in self.now.names.items number }
+    {
+        match self.names.get(number) {
+            Some(name) => name.as_str(),
+            None => "",
+        }
+    }
+
+    // The place of a name among the entries, or where it is to stand.
+    fn find(&self, name: &str) -> Result<usize, usize>
+        requires { IsStrictlySortedBy name_cmp (names_in self.now.names.items self.now.entries.items) }
+        ensures found { IfOk result (λ i. (i < length self.now.entries.items) × (name_in self.now.names.items (entry_at self.now i).name ≡ name.now)) }
+        ensures absent { IfErr result (λ i. IsGap (names_in self.now.names.items self.now.entries.items) name.now i) }
+    {
+        self.entries.binary_search_by(
+            |row: &Entry| -> Ordering
+                ensures { result ≡ name_cmp (name_in self.entry.now.names.items row.now.name) name.entry.now }
+            { self.name_at(row.name).cmp(name) },
+        )
+    }
+
+    // What stands at an entry.
+    fn place_at(&self, at: usize) -> Place
+        requires { at < length self.now.entries.items }
+        ensures { result ≡ (entry_at self.now at).place }
+    {
+        self.entries[at].place
+    }
+
+    // What stands at a name.
+    fn place_of(&self, name: &str) -> Place
+        requires { IsTable self.now }
+        ensures stands { slot_in self.now.contents.items result ≡ table_disk self.now name.now }
+        ensures within { IsPlaceIn (length self.now.contents.items) result }
+    {
+        match self.find(name) {
+            Ok(at) => self.place_at(at),
+            Err(_) => Place {
+                now: None,
+                mark: PlaceMark::Settled,
+            },
+        }
+    }
+
+    // The place of a name among the entries, where it is put if it isn't there.
+    fn entry_for(&mut self, alloc: Global, name: &str) -> Result<usize, AllocError>
+        requires { IsTable self.old }
+        ensures table { IsTable self.new }
+        ensures stays { Stays self.old self.new }
+        ensures at { IfOk result (λ i. IsEntryOf self.new name.now i) }
+        ensures names { length self.new.entries.items ≤ length self.old.entries.items + 1 }
+    {
+        match self.find(name) {
+            Ok(at) => Ok(at),
+            Err(at) => {
+                self.insert(alloc, at, name)?;
+                Ok(at)
+            }
+        }
+    }
+
+    // Puts a name into its gap among the entries.
+    fn insert(&mut self, alloc: Global, at: usize, name: &str) -> Result<(), AllocError>
+        requires table { IsTable self.old }
+        requires gap { IsGap (names_in self.old.names.items self.old.entries.items) name.now at }
+        ensures table { IsTable self.new }
+        ensures stays { Stays self.old self.new }
+        ensures at { OnOk result (IsEntryOf self.new name.now at) }
+        ensures names { length self.new.entries.items ≤ length self.old.entries.items + 1 }
+    {
+        let number = self.names.len();
+        self.names.push(Text::new(String::from_str(alloc, name)?))?;
+        self.entries.insert(
+            at,
+            Entry {
+                name: number,
+                first: None,
+                place: Place {
+                    now: None,
+                    mark: PlaceMark::Settled,
+                },
+            },
+        )?;
+        Ok(())
+    }
+
+    // Keeps a content, and gives its number.
+    fn keep(&mut self, alloc: Global, bytes: &[u8]) -> Result<usize, AllocError>
+        requires { IsTable self.old }
+        ensures table { IsTable self.new }
+        ensures stays { Stays self.old self.new }
+        ensures names { self.new.names.items ≡ self.old.names.items }
+        ensures entries { self.new.entries.items ≡ self.old.entries.items }
+        ensures file { IfOk result (λ k. (k < length self.new.contents.items) × (file_in self.new.contents.items (Some k) ≡ Some bytes.now)) }
+    {
+        let number = self.contents.len();
+        self.contents
+            .push(Bytes::new(Vec::from_slice(alloc, bytes)?))?;
+        Ok(number)
+    }
+
+    // The content that a write gives, or that the entry has.
+    fn content_for(
+        &mut self,
+        alloc: Global,
+        at: usize,
+        bytes: &[u8],
+        made: bool,
+    ) -> Result<Option<usize>, AllocError>
+        requires table { IsTable self.old }
+        requires at { at < length self.old.entries.items }
+        ensures table { IsTable self.new }
+        ensures stays { Stays self.old self.new }
+        ensures names { self.new.names.items ≡ self.old.names.items }
+        ensures entries { self.new.entries.items ≡ self.old.entries.items }
+        ensures within { IfOk result (IsFileIn (length self.new.contents.items)) }
+        ensures file { IfOk result (λ k. file_in self.new.contents.items k ≡ (if made then Some bytes.now else file_in self.old.contents.items (entry_at self.old at).place.now)) }
+    {
+        if made {
+            Ok(Some(self.keep(alloc, bytes)?))
+        } else {
+            Ok(self.place_at(at).now)
+        }
+    }
+
+    // Puts another place at an entry without a record, and gives the number of its name.
+    fn set_place(&mut self, at: usize, place: Place) -> usize
+        requires { at < length self.old.entries.items }
+        ensures entries { self.new.entries.items ≡ slice_set self.old.entries.items at (record (entry_at self.old at) { place = place }) }
+        ensures names { self.new.names ≡ self.old.names }
+        ensures contents { self.new.contents ≡ self.old.contents }
+        ensures changes { self.new.changes ≡ self.old.changes }
+        ensures name { result ≡ (entry_at self.old at).name }
+    {
+        let entry = &mut self.entries[at];
+        entry.place = place;
+        entry.name
+    }
+
+    // Puts another place at an entry, and records it. There is room for the change.
+    fn put(&mut self, at: usize, place: Place)
+        requires table { IsTable self.old }
+        requires at { at < length self.old.entries.items }
+        requires within { IsPlaceIn (length self.old.contents.items) place }
+        requires room { vec_len self.old.changes < vec_capacity self.old.changes }
+        ensures table { IsTable self.new }
+        ensures adds { Adds (Puts (name_in self.old.names.items (entry_at self.old at).name) (slot_in self.old.contents.items place)) self.old self.new }
+        ensures files { file_count (entries_of self.new) + has_file (slot_in self.old.contents.items (entry_at self.old at).place) ≡ file_count (entries_of self.old) + has_file (slot_in self.old.contents.items place) }
+        ensures names { length self.new.entries.items ≡ length self.old.entries.items }
+    {
+        let name = self.set_place(at, place);
+        self.changes.push_reserved(Change::Puts(name, place));
+    }
+
+    // Puts other places at two entries, and records them as one change. There is room for it.
+    fn put_two(&mut self, at: usize, place: Place, other: usize, other_place: Place)
+        requires table { IsTable self.old }
+        requires at { at < length self.old.entries.items }
+        requires within { IsPlaceIn (length self.old.contents.items) place }
+        requires other { other < length self.old.entries.items }
+        requires other_within { IsPlaceIn (length self.old.contents.items) other_place }
+        requires apart { at ≢ other }
+        requires room { vec_len self.old.changes < vec_capacity self.old.changes }
+        ensures table { IsTable self.new }
+        ensures adds { Adds (PutsTwo (name_in self.old.names.items (entry_at self.old at).name) (slot_in self.old.contents.items place) (name_in self.old.names.items (entry_at self.old other).name) (slot_in self.old.contents.items other_place)) self.old self.new }
+        ensures files { file_count (entries_of self.new) + (has_file (slot_in self.old.contents.items (entry_at self.old at).place) + has_file (slot_in self.old.contents.items (entry_at self.old other).place)) ≡ file_count (entries_of self.old) + (has_file (slot_in self.old.contents.items place) + has_file (slot_in self.old.contents.items other_place)) }
+        ensures names { length self.new.entries.items ≡ length self.old.entries.items }
+    {
+        let name = self.set_place(at, place);
+        let other_name = self.set_place(other, other_place);
+        self.changes
+            .push_reserved(Change::PutsTwo(name, place, other_name, other_place));
+    }
+}
