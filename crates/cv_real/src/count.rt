@@ -1,0 +1,25 @@
+//! A count of faults.
+ghost use Rattle.std.specs.Prelude.{◌≡◌, ⊤};
+ghost use Rattle.cv_base.specs.Counts.{HasCause};
+
+/// How many calls failed. The count stays at its last value.
+#[derive(Debug, Drop)]
+pub struct FaultCount {
+    pub number: u64,
+}
+
+impl FaultCount {
+    /// No call failed yet.
+    pub fn new() -> FaultCount
+        ensures { result.number ≡ 0 }
+    {
+        FaultCount { number: 0 }
+    }
+
+    /// One more call failed.
+    pub fn raise(&mut self)
+        ensures { HasCause self.old.number self.new.number ⊤ }
+    {
+        self.number = self.number.saturating_add(1);
+    }
+}

@@ -1,0 +1,15 @@
+//! The outside as the system gives it: thin adapters that tell nothing of content.
+#![tactic(auto)]
+
+mod clock;
+mod count;
+mod folder_vault;
+mod paths;
+mod streams;
+mod texts;
+
+pub use clock::SystemClock;
+pub use count::FaultCount;
+pub use folder_vault::FolderVault;
+pub use streams::{StreamSink, StreamSource};
+pub use texts::{program_words, text_or_empty};

@@ -1,0 +1,110 @@
+//! Any reader of std as a source, and any writer as a sink.
+ghost use Rattle.std.specs.Prelude.{◌≤◌, ◌<◌, None, IfOk, length};
+ghost use Rattle.std.specs.Io.{ReadsAtMost};
+
+use crate::count::FaultCount;
+use cv_ports::{Failed, Sink, Source};
+use std::io;
+use std::io::{ErrorKind, Read, Write};
+
+/// Reads, and begins again where a signal interrupted the call.
+fn read_retrying<T: Read>(inner: &mut T, buf: &mut [u8]) -> io::Result<usize>
+    ensures { ReadsAtMost result buf.new }
+{
+    for _ in 0..u64::MAX {
+        match inner.read(buf) {
+            Err(error) if error.kind() == ErrorKind::Interrupted => {}
+            done => return done,
+        }
+    }
+    Err(io::Error::from(ErrorKind::TimedOut))
+}
+
+/// Writes some of the bytes. A write that takes nothing is an error.
+fn write_retrying<T: Write>(inner: &mut T, bytes: &[u8]) -> io::Result<usize>
+    ensures { IfOk result (λ count. (count ≤ length bytes.now) × (0 < count)) }
+{
+    for _ in 0..u64::MAX {
+        match inner.write(bytes) {
+            Ok(0) => return Err(io::Error::from(ErrorKind::WriteZero)),
+            Err(error) if error.kind() == ErrorKind::Interrupted => {}
+            done => return done,
+        }
+    }
+    Err(io::Error::from(ErrorKind::TimedOut))
+}
+
+/// A source over what std reads: standard input, a file or a connection. It tells nothing of its content.
+#[derive(Drop)]
+pub struct StreamSource<T: Read> {
+    inner: T,
+    faults: FaultCount,
+}
+
+impl<T: Read> StreamSource<T> {
+    /// A source over this reader. No call failed yet.
+    pub fn new(inner: T) -> StreamSource<T> {
+        StreamSource {
+            inner,
+            faults: FaultCount::new(),
+        }
+    }
+}
+
+impl<T: Read> Source for StreamSource<T> {
+    ghost left = { λ s. None };
+
+    ghost faults = { λ s. s.faults.number };
+
+    fn read(&mut self, buf: &mut [u8]) -> Result<usize, Failed> {
+        if let Ok(count) = read_retrying(&mut self.inner, buf) {
+            return Ok(count);
+        }
+        self.faults.raise();
+        Err(Failed)
+    }
+}
+
+/// A sink over what std writes: standard output, a file or a connection. It tells nothing of its content.
+#[derive(Drop)]
+pub struct StreamSink<T: Write> {
+    inner: T,
+    faults: FaultCount,
+}
+
+impl<T: Write> StreamSink<T> {
+    /// A sink over this writer. No call failed yet.
+    pub fn new(inner: T) -> StreamSink<T> {
+        StreamSink {
+            inner,
+            faults: FaultCount::new(),
+        }
+    }
+}
+
+impl<T: Write> Sink for StreamSink<T> {
+    ghost taken = { λ s. None };
+
+    ghost faults = { λ s. s.faults.number };
+
+    fn write(&mut self, bytes: &[u8]) -> Result<usize, Failed> {
+        if bytes.is_empty() {
+            return Ok(0);
+        }
+        if let Ok(count) = write_retrying(&mut self.inner, bytes) {
+            return Ok(count);
+        }
+        self.faults.raise();
+        Err(Failed)
+    }
+
+    fn flush(&mut self) -> Result<(), Failed> {
+        match self.inner.flush() {
+            Ok(()) => Ok(()),
+            Err(_) => {
+                self.faults.raise();
+                Err(Failed)
+            }
+        }
+    }
+}
