@@ -1,0 +1,7 @@
+pub mod Numbers
+pub mod OneMore
+pub mod Room
+pub mod Windows
+pub mod Streams
+pub mod Refusals
+pub mod OneReading

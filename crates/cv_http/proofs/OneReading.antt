@@ -1,0 +1,97 @@
+-- Bytes are read in one way.
+use Rattle.std.proofs.Common.{◌≡◌, ◌≤◌, ◌-◌, ◌++◌, ℕ, List, [], length, take, refl, ap, sym, subst, ◌∙◌, append-nil, length-append, ◌∷◌, arith, inl, inr}
+use Rattle.std.specs.Prelude.{◌⊎◌, Some, None}
+use Rattle.std.proofs.lemmas.List.{take_all}
+use Rattle.httparse.specs.Grammar.{RequestHead as ParsedHead, IsRequestHead, IsField, is_token_byte, is_uri_byte, lf, HasNoRequest, EndsInTarget, print_request}
+use Rattle.httparse.proofs.GrammarLemmas.{request_unique, print_request-append}
+use Rattle.httparse.proofs.OpenLemmas.{letter_is_token}
+use Rattle.std.proofs.lemmas.List.Elements.{All-cons, All-nil}
+use Rattle.std.proofs.lemmas.Str.{IsUtf8-from_ascii}
+use Rattle.std.proofs.lemmas.Str.Ascii.{IsAscii-cons, IsAscii-nil}
+use Rattle.std.specs.Prelude.{IsTrue}
+use Rattle.cv_http.proofs.Streams.{seen_more}
+use Rattle.cv_http.specs.Heads.{window, head_limit, HasHead, fault_of_head, head_of, Begins, Never, Unfinished, Refused, never, large, judged, IsCut}
+use Rattle.cv_http.specs.declared.head.RequestHead.{RequestHead}
+use Rattle.cv_http.specs.declared.fault.HttpFault.{HttpFault}
+use Rattle.cv_http.specs.declared.fault.HttpFault.TheVariants.{BadHead}
+
+same_head : {b later later' : List ℕ} {parsed parsed' : ParsedHead} → HasHead b parsed later → HasHead b parsed' later'
+    → (parsed ≡ parsed') × (later ≡ later')
+same_head {b} {later} {later'} {parsed} {parsed'} has has' = request_unique b parsed parsed' later later' has.reads has'.reads
+
+-- the window has the head
+in_window : {b later : List ℕ} {parsed : ParsedHead} → HasHead b parsed later → HasNoRequest (window b) → ⊥
+in_window {b} {later} {parsed} has none =
+    let text = print_request parsed in
+    let seen : window b ≡ print_request parsed ++ take (16384 - length (print_request parsed)) later =
+    ap window has.reads.1 ∙ seen_more 16384 (print_request parsed) later
+    ∙ ap (λ x. x ++ take (16384 - length (print_request parsed)) later) (take_all 16384 (print_request parsed) has.limit) in
+    none parsed (take (16384 - length (print_request parsed)) later) (has.reads.0, seen)
+
+not_never : {b later : List ℕ} {parsed : ParsedHead} → HasHead b parsed later → Never b → ⊥
+not_never {b} has h = in_window has (subst HasNoRequest (append-nil (window b)) (h.never []))
+
+-- no bytes complete what may become a head, but for one that ends inside its target
+in_target : {b : List ℕ} → Never b → Unfinished b → EndsInTarget (window b)
+in_target h open_ = elim open_.may [ inl more ↦ absurd (h.never more.0 more.1 [] more.2) | inr ends ↦ ends ]
+
+pub one_head : (b later later' : List ℕ) (head head' : RequestHead) → Begins b head later → Begins b head' later' → (head ≡ head') × (later ≡ later')
+one_head b later later' head head' begins begins' =
+    let same = same_head begins.has begins'.has in
+    (begins.says ∙ ap head_of same.0 ∙ sym begins'.says, same.1)
+
+pub not_refused : (b later : List ℕ) (head : RequestHead) (fault : HttpFault) → Begins b head later → Refused b fault → ⊥
+not_refused b later head _ begins (never h) = not_never begins.has h
+not_refused b later head _ begins (large long h) = in_window begins.has h.not_yet
+not_refused b later head _ begins (judged parsed later' fault has is) =
+    let same = same_head begins.has has in
+    let e : None ≡ Some fault = sym begins.faultless ∙ ap fault_of_head same.0 ∙ is in cc
+
+pub not_cut : (b later : List ℕ) (head : RequestHead) → Begins b head later → IsCut b → ⊥
+not_cut b later head begins cut = in_window begins.has cut.unfinished.not_yet
+
+pub one_refusal : (b : List ℕ) (fault fault' : HttpFault) → Refused b fault → Refused b fault' → (fault ≡ fault') ⊎ ((head_limit ≤ length b) × EndsInTarget (window b))
+one_refusal b _ _ (never h) (never h') = inl refl
+one_refusal b _ _ (never h) (large long open_) = inr (long, in_target h open_)
+one_refusal b _ _ (never h) (judged parsed later fault has is) = absurd (not_never has h)
+one_refusal b _ _ (large long open_) (never h) = inr (long, in_target h open_)
+one_refusal b _ _ (large long open_) (large long' open') = inl refl
+one_refusal b _ _ (large long open_) (judged parsed later fault has is) = absurd (in_window has open_.not_yet)
+one_refusal b _ _ (judged parsed later fault has is) (never h) = absurd (not_never has h)
+one_refusal b _ _ (judged parsed later fault has is) (large long open_) = absurd (in_window has open_.not_yet)
+one_refusal b _ _ (judged parsed later fault has is) (judged parsed' later' fault' has' is') =
+    let same = same_head has has' in
+    let e : Some fault ≡ Some fault' = sym is ∙ ap fault_of_head same.0 ∙ is' in inl (cc)
+
+pub refused_in_target : (b : List ℕ) (fault : HttpFault) → Refused b fault → IsCut b → (fault ≡ BadHead) × EndsInTarget (window b)
+refused_in_target b _ (never h) cut = (refl, in_target h cut.unfinished)
+refused_in_target b _ (large long open_) cut = absurd (let short = cut.short in omega (arith, long, short))
+refused_in_target b _ (judged parsed later fault has is) cut = absurd (in_window has cut.unfinished.not_yet)
+
+-- the least of heads, "A B HTTP/1.0" and an empty line
+least : ParsedHead
+least = record { blank = []; method = 65 ∷ []; target = 66 ∷ []; minor = 0; line_end = lf; fields = []; last = lf }
+
+least_is_head : IsRequestHead least
+unfolding least
+least_is_head = record {
+  method = (omega arith, All-cons (λ b. IsTrue (is_token_byte b)) 65 [] letter_is_token (All-nil _));
+  target = (omega arith, All-cons (λ b. IsTrue (is_uri_byte b)) 66 [] refl (All-nil _));
+  target_text = IsUtf8-from_ascii (66 ∷ []) (IsAscii-cons 66 [] (omega arith) IsAscii-nil);
+  minor = omega arith;
+  fields = All-nil IsField;
+}
+
+no_head : {parsed : ParsedHead} {later : List ℕ} → HasHead [] parsed later → ⊥
+no_head {parsed} {later} has =
+    let all = ap length (has.reads.1 ∙ print_request-append parsed later) in
+    let name = has.reads.0.method.0 in
+    grind (arith, length-append, all, name)
+
+pub empty_begun : (later : List ℕ) (head : RequestHead) → Begins [] head later → ⊥
+empty_begun later head begins = no_head begins.has
+
+pub empty_refused : (fault : HttpFault) → Refused [] fault → ⊥
+empty_refused _ (never h) = h.never (print_request least) least [] (least_is_head, sym (append-nil (print_request least)))
+empty_refused _ (large long h) = omega (arith, long)
+empty_refused _ (judged parsed later fault has is) = no_head has

@@ -1,0 +1,12 @@
+use Rattle.std.proofs.Common.{◌≡◌, ◌≤◌, length, ◌-◌}
+use Rattle.cv_http.specs.Wires.{rest}
+use Rattle.cv_http.proofs.wire.Wire.read_head.Given as goal
+
+abbrev pub invariant-pieces : goal.invariant-pieces
+invariant-pieces g l = record {
+  stream : rest g.R.Source.left l.self ≡ rest g.R.Source.left l.fn.self;
+  later : g.R.Source.faults l.fn.self.source ≤ g.R.Source.faults l.self.source;
+}
+
+abbrev pub decreases-pieces : goal.decreases-pieces
+decreases-pieces g l = 16384 - length l.self.held

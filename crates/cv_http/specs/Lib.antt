@@ -1,0 +1,6 @@
+pub mod Faults
+pub mod Fields
+pub mod Heads
+pub mod Judgements
+pub mod Replies
+pub mod Wires

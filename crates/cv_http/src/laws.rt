@@ -1,0 +1,35 @@
+//! What bytes are is one thing: at most one head, and either a head or a refusal or a part of a head.
+//!
+//! The functions do nothing. Their contracts hold of all bytes.
+ghost use Rattle.std.specs.Prelude.{◌≡◌, ◌≤◌, ◌⊎◌, ℕ, List, [], length};
+ghost use Rattle.httparse.specs.Grammar.{EndsInTarget};
+ghost use Rattle.cv_http.specs.Heads.{head_limit, window, Begins, Refused, IsCut};
+ghost use Rattle.cv_http.specs.declared.head.RequestHead.{RequestHead};
+ghost use Rattle.cv_http.specs.declared.fault.HttpFault.{HttpFault};
+ghost use Rattle.cv_http.specs.declared.fault.HttpFault.TheVariants.{BadHead};
+
+/// Bytes begin with at most one head, which ends at one place.
+pub fn one_head()
+    ensures { (b later later' : List ℕ) (head head' : RequestHead) → Begins b head later → Begins b head' later' → (head ≡ head') × (later ≡ later') }
+{}
+
+/// Bytes that begin with a head are neither refused nor cut inside a head.
+pub fn head_or_fault()
+    ensures refused { (b later : List ℕ) (head : RequestHead) (fault : HttpFault) → Begins b head later → ¬ (Refused b fault) }
+    ensures cut { (b later : List ℕ) (head : RequestHead) → Begins b head later → ¬ (IsCut b) }
+{}
+
+/// Bytes are refused by at most one fault, and bytes that are refused aren't cut inside a head. One case is open: the
+/// first 16,384 bytes, or all, end inside a target. Where that target can't become UTF-8 any more, the bytes may be
+/// refused as no head, since nothing completes them, or be too long or cut, since a target is judged at its end.
+pub fn one_fault()
+    ensures refused { (b : List ℕ) (fault fault' : HttpFault) → Refused b fault → Refused b fault'
+        → (fault ≡ fault') ⊎ ((head_limit ≤ length b) × EndsInTarget (window b)) }
+    ensures cut { (b : List ℕ) (fault : HttpFault) → Refused b fault → IsCut b → (fault ≡ BadHead) × EndsInTarget (window b) }
+{}
+
+/// Input without bytes has no head, and isn't refused.
+pub fn empty_input()
+    ensures begun { (later : List ℕ) (head : RequestHead) → ¬ (Begins [] head later) }
+    ensures refused { (fault : HttpFault) → ¬ (Refused [] fault) }
+{}

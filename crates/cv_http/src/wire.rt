@@ -1,0 +1,237 @@
+//! Requests on a stream.
+ghost use Rattle.std.specs.Prelude.{◌≡◌, ◌≢◌, ◌≤◌, ◌<◌, ◌+◌, ◌++◌, ℕ, List, Option, Some, None, Ok, Err, [], length, drop, true, false, min, OnOk, OnErr, IfOk, IfSome, IfErr, IsTrue};
+ghost use Rattle.cv_base.specs.Counts.{HasCause};
+ghost use Rattle.cv_base.specs.Told.{WhereTold};
+ghost use Rattle.cv_ports.specs.Streams.{front};
+ghost use Rattle.cv_http.specs.Wires.{WireView, rest};
+ghost use Rattle.cv_http.specs.Heads.{Begins, Refused, IsCut};
+ghost use Rattle.cv_http.specs.Judgements.{Judges};
+ghost use Rattle.cv_http.specs.Faults.{IsHeadFault, IsBodyFault, IsPieceFault};
+ghost use Rattle.cv_http.specs.declared.fault.HttpFault.TheVariants.{Short, ReadFault, NoMemory as MemoryFault};
+
+use crate::fault::HttpFault;
+use crate::head::RequestHead;
+use crate::judge::{HEAD_LIMIT, Judged, judge};
+use cv_base::{Bytes, NoMemory};
+use cv_ports::Source;
+use httparse::spans::{EMPTY_HEADER_SPAN, HeaderSpan};
+use std::alloc::Global;
+use std::marker::Model;
+
+/// The most bytes of a read.
+const PIECE: usize = 65_536;
+
+/// The most header fields that 16,384 bytes can hold: each takes three bytes at least.
+const ROOM: usize = 5_462;
+
+/// A source of requests, with the bytes that it gave and that weren't used yet. It holds at most 16,384 bytes and a
+/// piece of 65,536, and from the first head on room for the fields of a head.
+#[derive(Drop)]
+pub struct Wire<R: Source + Drop> {
+    source: R,
+    held: Vec<u8>,
+    used: usize,
+    piece: Vec<u8>,
+    room: Vec<HeaderSpan>,
+}
+
+impl<R: Source + Drop> Model for Wire<R> {
+    ghost use Rattle.std.specs.Prelude.{◌≤◌, drop, vec_len};
+    ghost use Rattle.cv_http.specs.Wires.{WireView};
+
+    ghost Value = { WireView R };
+
+    ghost view = { λ w. record { source = w.source; held = drop w.used w.held.items } };
+
+    ghost invariant = { λ w. w.used ≤ vec_len w.held };
+}
+
+/// Reads a piece to the end of what is held. `false` is the end of the source.
+#[tactic(auto, using(crate::proofs::Streams::reads_on))]
+fn read_piece<R: Source>(
+    source: &mut R,
+    piece: &mut [u8],
+    held: &mut Vec<u8>,
+) -> Result<bool, HttpFault>
+    requires { 0 < length piece.old }
+    ensures stream { front held.new.items (R.left source.new) ≡ front held.old.items (R.left source.old) }
+    ensures more { result ≡ Ok true → length held.old.items < length held.new.items }
+    ensures end { result ≡ Ok false → (held.new.items ≡ held.old.items) × WhereTold (R.left source.new) (λ left. left ≡ []) }
+    ensures faults { IfErr result IsPieceFault }
+    ensures cause { HasCause (R.faults source.old) (R.faults source.new) (result ≡ Err ReadFault) }
+{
+    if held.reserve(piece.len()).is_err() {
+        return Err(HttpFault::NoMemory);
+    }
+    let Ok(count) = source.read(piece) else {
+        return Err(HttpFault::ReadFault);
+    };
+    if held.extend_from_slice(&piece[..count]).is_err() {
+        unreachable!();
+    }
+    Ok(count > 0)
+}
+
+/// Makes room for each field of a head.
+fn make_room(alloc: Global, room: &mut Vec<HeaderSpan>) -> Result<(), NoMemory>
+    ensures { OnOk result (5462 ≤ length room.new.items) }
+{
+    if room.len() < ROOM {
+        *room = vec![in alloc; EMPTY_HEADER_SPAN; ROOM]?;
+    }
+    Ok(())
+}
+
+impl<R: Source + Drop> Wire<R> {
+    /// Nothing of the source was read yet.
+    pub fn new(alloc: Global, source: R) -> Wire<R>
+        ensures { result ≡ record { source = source; held = [] } }
+    {
+        Wire {
+            source,
+            held: Vec::new(alloc),
+            used: 0,
+            piece: Vec::new(alloc),
+            room: Vec::new(alloc),
+        }
+    }
+
+    /// The source. What was held is lost.
+    pub fn into_source(self) -> R
+        ensures { result ≡ self.source }
+    {
+        self.source
+    }
+
+    /// What is held.
+    fn bytes(&self) -> &[u8]
+        ensures { result.now ≡ self.now.held }
+    {
+        &self.held[self.used..]
+    }
+
+    /// Uses bytes up.
+    fn skip(&mut self, count: usize)
+        requires { count ≤ length self.old.held }
+        ensures { self.new ≡ record self.old { held = drop count self.old.held } }
+    {
+        self.used += count;
+    }
+
+    /// Reads more of the source. `false` is its end.
+    fn fill(&mut self) -> Result<bool, HttpFault>
+        ensures stream { rest R.left self.new ≡ rest R.left self.old }
+        ensures more { result ≡ Ok true → length self.old.held < length self.new.held }
+        ensures end { result ≡ Ok false → (self.new.held ≡ self.old.held) × WhereTold (R.left self.new.source) (λ left. left ≡ []) }
+        ensures faults { IfErr result IsPieceFault }
+        ensures cause { HasCause (R.faults self.old.source) (R.faults self.new.source) (result ≡ Err ReadFault) }
+    {
+        self.held.drain(..self.used);
+        self.used = 0;
+        if self.piece.resize(PIECE, 0).is_err() {
+            return Err(HttpFault::NoMemory);
+        }
+        read_piece(&mut self.source, self.piece.as_mut_slice(), &mut self.held)
+    }
+
+    /// Judges what is held.
+    fn judge_held(&mut self, alloc: Global) -> Result<Judged, NoMemory>
+        ensures same { self.new ≡ self.old }
+        ensures judged { IfOk result (Judges self.old.held) }
+    {
+        make_room(alloc, &mut self.room)?;
+        let (_, held) = self.held.as_slice().split_at(self.used);
+        judge(alloc, held, self.room.as_mut_slice())
+    }
+
+    /// Reads the next head (RFC 9112, sections 2 and 3). `None` is the end of the input where a head might begin. A whole
+    /// head is answered before more is read. A fault takes nothing of what is left.
+    pub fn read_head(&mut self, alloc: Global) -> Result<Option<RequestHead>, HttpFault>
+        ensures head { IfOk result (λ found. IfSome found (λ head. WhereTold (rest R.left self.old) (λ b.
+            (later : List ℕ) × (rest R.left self.new ≡ Some later) × Begins b head later))) }
+        ensures end { result ≡ Ok None → WhereTold (rest R.left self.old) (λ b. b ≡ []) }
+        ensures nothing_left { result ≡ Ok None → WhereTold (rest R.left self.new) (λ b. b ≡ []) }
+        ensures refused { IfErr result (λ fault. fault ≢ Short → fault ≢ ReadFault → fault ≢ MemoryFault
+            → WhereTold (rest R.left self.old) (λ b. Refused b fault)) }
+        ensures short { result ≡ Err Short → WhereTold (rest R.left self.old) IsCut }
+        ensures cut { result ≡ Err Short → WhereTold (R.left self.new.source) (λ left. left ≡ []) }
+        ensures unchanged { OnErr result (rest R.left self.new ≡ rest R.left self.old) }
+        ensures faults { IfErr result IsHeadFault }
+        ensures cause { HasCause (R.faults self.old.source) (R.faults self.new.source) (result ≡ Err ReadFault) }
+    {
+        'pieces: loop {
+            let Ok(judged) = self.judge_held(alloc) else {
+                return Err(HttpFault::NoMemory);
+            };
+            match judged {
+                Judged::Whole { head, size } => {
+                    self.skip(size);
+                    return Ok(Some(head));
+                }
+                Judged::Refused(fault) => return Err(fault),
+                Judged::More => {}
+            }
+            if self.bytes().len() >= HEAD_LIMIT {
+                return Err(HttpFault::HeadTooLarge);
+            }
+            if !self.fill()? {
+                return if self.bytes().is_empty() {
+                    Ok(None)
+                } else {
+                    Err(HttpFault::Short)
+                };
+            }
+        }
+    }
+
+    /// Holds a byte at least, unless the source is at its end.
+    fn has_some(&mut self) -> Result<bool, HttpFault>
+        ensures stream { rest R.left self.new ≡ rest R.left self.old }
+        ensures some { result ≡ Ok true → 0 < length self.new.held }
+        ensures end { result ≡ Ok false → (self.new.held ≡ []) × WhereTold (R.left self.new.source) (λ left. left ≡ []) }
+        ensures faults { IfErr result IsPieceFault }
+        ensures cause { HasCause (R.faults self.old.source) (R.faults self.new.source) (result ≡ Err ReadFault) }
+    {
+        if !self.bytes().is_empty() {
+            return Ok(true);
+        }
+        self.fill()
+    }
+
+    /// Moves what is held to a body, so many bytes at most.
+    #[tactic(auto, using(crate::proofs::Streams::parts_on))]
+    fn take_part(&mut self, body: &mut Vec<u8>, most: usize) -> Result<(), NoMemory>
+        ensures stream { OnOk result (front body.new.items (rest R.left self.new) ≡ front body.old.items (rest R.left self.old)) }
+        ensures moved { OnOk result (length body.new.items ≡ length body.old.items + min (length self.old.held) most) }
+        ensures source { self.new.source ≡ self.old.source }
+    {
+        let count = self.bytes().len().min(most);
+        body.extend_from_slice(&self.bytes()[..count])?;
+        self.skip(count);
+        Ok(())
+    }
+
+    /// Reads the next `size` bytes. The memory that is taken grows with what has come, not with `size`. After a fault a
+    /// part of the bytes may be lost.
+    pub fn read_body(&mut self, alloc: Global, size: u64) -> Result<Bytes, HttpFault>
+        ensures whole { IfOk result (λ body. length body ≡ size) }
+        ensures body { IfOk result (λ body. front body (rest R.left self.new) ≡ rest R.left self.old) }
+        ensures short { result ≡ Err Short → WhereTold (rest R.left self.old) (λ b. length b < size) }
+        ensures cut { result ≡ Err Short → WhereTold (R.left self.new.source) (λ left. left ≡ []) }
+        ensures faults { IfErr result IsBodyFault }
+        ensures cause { HasCause (R.faults self.old.source) (R.faults self.new.source) (result ≡ Err ReadFault) }
+    {
+        let size = size as usize;
+        let mut body = Vec::new(alloc);
+        'parts: while body.len() < size {
+            if !self.has_some()? {
+                return Err(HttpFault::Short);
+            }
+            let most = size - body.len();
+            if self.take_part(&mut body, most).is_err() {
+                return Err(HttpFault::NoMemory);
+            }
+        }
+        Ok(Bytes::new(body))
+    }
+}
