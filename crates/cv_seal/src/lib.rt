@@ -1,0 +1,12 @@
+//! Signatures: what signs and verifies, and the keyed hash HMAC-SHA1.
+#![tactic(auto)]
+
+mod hmac;
+mod keyed_hash;
+mod signer;
+#[cfg(test)]
+mod tests;
+
+pub use hmac::hmac_sha1;
+pub use keyed_hash::KeyedHash;
+pub use signer::Signer;
