@@ -1,0 +1,37 @@
+-- Keys, and the table of a gateway's keys.
+use Rattle.std.specs.Prelude.{ℕ, ◌≡◌, ◌≤◌, Bool, true, not, ◌&&◌, nat_le, List, [], ◌∷◌, length, Option, position}
+use Rattle.std.specs.List.{list_all, list_any}
+use Rattle.std.specs.Str.{bytes_eq}
+use Rattle.cv_keys.specs.declared.key.Key.{Key}
+
+-- an ASCII character that is seen, so that no id has a space
+abbrev pub is_visible : ℕ → Bool
+is_visible b = nat_le 33 b && nat_le b 126
+
+-- an id: 1 to 255 such characters
+abbrev pub is_key_id : List ℕ → Bool
+is_key_id id = nat_le 1 (length id) && nat_le (length id) 255 && list_all is_visible id
+
+-- a secret: 1 to 255 bytes
+abbrev pub is_secret : List ℕ → Bool
+is_secret secret = nat_le 1 (length secret) && nat_le (length secret) 255
+
+-- one of the keys has this id
+abbrev pub has_id : List Key → List ℕ → Bool
+has_id keys id = list_any (λ key. bytes_eq key.id id) keys
+
+-- no two keys have one id
+abbrev pub is_distinct : List Key → Bool
+is_distinct [] = true
+is_distinct (key ∷ keys) = not (has_id keys key.id) && is_distinct keys
+
+-- the place of the key of this id
+abbrev pub place_of : List Key → List ℕ → Option ℕ
+place_of keys id = position (λ key. bytes_eq key.id id) keys
+
+-- a table: 1 to 256 keys, each with an id of its own
+pub record IsTable (keys : List Key) : Type 0 where
+  pub some : 1 ≤ length keys
+  pub few : length keys ≤ 256
+  pub ids : list_all (λ key. is_key_id key.id) keys ≡ true
+  pub distinct : is_distinct keys ≡ true

@@ -1,0 +1,4 @@
+pub mod ObjectText
+pub mod Key
+pub mod KeysText
+pub mod Header

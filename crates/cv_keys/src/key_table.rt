@@ -1,0 +1,159 @@
+//! The table of a gateway's keys.
+ghost use Rattle.std.specs.Prelude.{◌≡◌, ◌<◌, ℕ, List, Ok, Err, Some, None, length, slice_get, option_map, IfOk, MatchResult, string_bytes};
+ghost use Rattle.cv_keys.specs.Key.{place_of};
+ghost use Rattle.cv_keys.specs.KeysText.{IsSaid, keys_of};
+ghost use Rattle.cv_keys.specs.Header.{header_of, is_mac, decoded, checked, checked_parts, IsUnlessMemory};
+
+use crate::auth_fault::AuthFault;
+use crate::key::Key;
+use crate::key_fault::KeyFault;
+use crate::key_no::KeyNo;
+use crate::object_text::read_object;
+use crate::read_keys::read_keys;
+use base64::DecodeAllocError;
+use base64::engine::general_purpose::STANDARD;
+use cv_base::{Bytes, NoMemory, digest_digits};
+use cv_seal::hmac_sha1;
+use std::alloc::Global;
+use std::marker::Model;
+
+/// The keys of a gateway: 1 to 256, in the order of the keys text, each with an id of its own.
+/// Clauses see them as a list.
+#[derive(Debug, Drop)]
+pub struct KeyTable {
+    keys: Vec<Key>,
+}
+
+impl Model for KeyTable {
+    ghost use Rattle.std.specs.Prelude.{List};
+    ghost use Rattle.cv_keys.specs.declared.key.Key.{Key};
+    ghost use Rattle.cv_keys.specs.Key.{IsTable};
+
+    ghost Value = { List Key };
+
+    ghost view = { λ table. table.keys.items };
+
+    ghost invariant = { λ table. IsTable table.keys.items };
+}
+
+impl KeyTable {
+    /// The table that a keys text says: `{"keys":[{"id":"K","secret":"S"}]}` with an element for each
+    /// key. Other members are passed over, and of a member that stands twice the last counts.
+    pub fn read(alloc: Global, json: &[u8]) -> Result<KeyTable, KeyFault>
+        ensures { MatchResult result (λ table. keys_of json.now ≡ Ok table) (λ fault. IsSaid fault (keys_of json.now ≡ Err fault)) }
+    {
+        let value = match read_object(alloc, json) {
+            Ok(Some(value)) => value,
+            Ok(None) => return Err(KeyFault::NotJson),
+            Err(NoMemory) => return Err(KeyFault::NoMemory),
+        };
+        let keys = read_keys(alloc, &value)?;
+        Ok(KeyTable { keys })
+    }
+
+    /// The key's id.
+    pub fn id(&self, key: KeyNo) -> &str
+        requires { key.0 < length self.now }
+        ensures { option_map (λ found. found.id) (slice_get self.now key.0) ≡ Some result.now }
+    {
+        self.keys[key.0 as usize].id.as_str()
+    }
+
+    /// The header that the key gives a message.
+    pub fn header(&self, alloc: Global, key: KeyNo, message: &[u8]) -> Result<String, NoMemory>
+        requires { key.0 < length self.now }
+        ensures header { IfOk result (λ text. option_map (λ found. header_of found message.now) (slice_get self.now key.0) ≡ Some (string_bytes text)) }
+        ensures accepted { IfOk result (λ text. checked self.now (Some (string_bytes text)) message.now ≡ Ok key) }
+    {
+        header_of(alloc, &self.keys[key.0 as usize], message)
+    }
+
+    /// The key that gives the message this header, or the first fault.
+    pub fn check(
+        &self,
+        alloc: Global,
+        header: Option<&str>,
+        message: &[u8],
+    ) -> Result<KeyNo, AuthFault>
+        ensures answer { IsUnlessMemory result (checked self.now (option_map (λ text. text.now) header.entry) message.now) }
+        ensures known { IfOk result (λ key. key.0 < length self.now) }
+    {
+        let Some(header) = header else {
+            return Err(AuthFault::NoHeader);
+        };
+        match header.split_once(' ') {
+            Some((id, code)) => self.check_parts(alloc, id, code, message),
+            None => Err(AuthFault::BadHeader),
+        }
+    }
+
+    /// The key of this id that gives the message this code, or the first fault.
+    fn check_parts(
+        &self,
+        alloc: Global,
+        id: &str,
+        code: &str,
+        message: &[u8],
+    ) -> Result<KeyNo, AuthFault>
+        ensures answer { IsUnlessMemory result (checked_parts self.now id.now (decoded code.now) message.now) }
+        ensures known { IfOk result (λ key. key.0 < length self.now) }
+    {
+        let mac = match decode_mac(alloc, code.as_bytes()) {
+            Ok(Some(mac)) => mac,
+            Ok(None) => return Err(AuthFault::BadHeader),
+            Err(NoMemory) => return Err(AuthFault::NoMemory),
+        };
+        let Some(place) = place_of(&self.keys, id) else {
+            return Err(AuthFault::UnknownKey);
+        };
+        if is_mac(&self.keys, place, mac.as_slice(), message) {
+            Ok(KeyNo(place as u32))
+        } else {
+            Err(AuthFault::WrongMac)
+        }
+    }
+}
+
+/// The header that a key gives a message.
+fn header_of(alloc: Global, key: &Key, message: &[u8]) -> Result<String, NoMemory>
+    ensures { IfOk result (λ text. string_bytes text ≡ header_of key.now message.now) }
+{
+    let mac = digest_digits(&hmac_sha1(key.secret.as_str().as_bytes(), message));
+    let mut text = String::from_str(alloc, key.id.as_str())?;
+    text.push(' ')?;
+    STANDARD.encode_string(&mac, &mut text)?;
+    Ok(text)
+}
+
+/// The 40 bytes whose base64 a text is.
+fn decode_mac(alloc: Global, text: &[u8]) -> Result<Option<Bytes>, NoMemory>
+    ensures { IfOk result (λ found. found ≡ decoded text.now) }
+{
+    match STANDARD.decode(alloc, text) {
+        Ok(bytes) => {
+            if bytes.len() == 40 {
+                Ok(Some(Bytes::new(bytes)))
+            } else {
+                Ok(None)
+            }
+        }
+        Err(DecodeAllocError::OutOfMemory) => Err(NoMemory),
+        Err(_) => Ok(None),
+    }
+}
+
+/// The place of the key of this id.
+fn place_of(keys: &[Key], id: &str) -> Option<usize>
+    ensures { result ≡ place_of keys.now id.now }
+{
+    keys.iter().position(|key| key.id.as_str() == id)
+}
+
+/// Whether the mac is that of the key at this place for the message.
+fn is_mac(keys: &[Key], place: usize, mac: &[u8], message: &[u8]) -> bool
+    requires { place < length keys.now }
+    ensures { result ≡ is_mac (slice_get keys.now place) mac.now message.now }
+{
+    let own = digest_digits(&hmac_sha1(keys[place].secret.as_str().as_bytes(), message));
+    mac == own.as_slice()
+}

@@ -1,0 +1,18 @@
+//! The keys of a gateway, and the Authorization header.
+#![tactic(auto)]
+
+mod auth_fault;
+mod key;
+mod key_fault;
+mod key_no;
+mod key_table;
+mod object_text;
+mod read_keys;
+#[cfg(test)]
+mod tests;
+
+pub use auth_fault::AuthFault;
+pub use key::Key;
+pub use key_fault::KeyFault;
+pub use key_no::KeyNo;
+pub use key_table::KeyTable;
