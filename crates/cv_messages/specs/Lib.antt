@@ -1,0 +1,5 @@
+pub mod ObjectText
+pub mod Member
+pub mod LeaseAsk
+pub mod Refusal
+pub mod Answer

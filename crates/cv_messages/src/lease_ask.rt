@@ -1,0 +1,63 @@
+//! The message that asks for a lease.
+ghost use Rattle.std.specs.Prelude.{◌≡◌, Ok, Err, codes, IfOk, MatchResult};
+ghost use Rattle.serde_json.specs.Data.{string, object, member, no_members};
+ghost use Rattle.serde_json.specs.View.{view};
+ghost use Rattle.serde_json.specs.Written.{compact_text};
+ghost use Rattle.cv_messages.specs.Member.{IsSaid};
+
+use crate::member::Member;
+use crate::message_fault::MessageFault;
+use crate::object_text::read_object;
+use crate::write_value::write_value;
+use cv_base::{NoMemory, Text};
+use serde_json::{Value, json};
+use std::alloc::{AllocError, Global};
+
+/// Asks for a lease on a path.
+#[derive(Debug, Drop)]
+pub struct LeaseAsk {
+    /// The repository's name, and behind it nothing, or the path's text.
+    pub path: Text,
+}
+
+impl LeaseAsk {
+    ghost use Rattle.cv_messages.specs.LeaseAsk.{lease_ask_data, lease_ask_of};
+
+    /// The message that bytes are: a JSON object with the text `path`. Other members are passed over,
+    /// and of a member that stands twice the last counts.
+    pub fn read(alloc: Global, bytes: &[u8]) -> Result<LeaseAsk, MessageFault>
+        ensures { MatchResult result (λ ask. lease_ask_of bytes.now ≡ Ok ask) (λ fault. IsSaid fault (lease_ask_of bytes.now ≡ Err fault)) }
+    {
+        let value = match read_object(alloc, bytes) {
+            Ok(Some(value)) => value,
+            Ok(None) => return Err(MessageFault::NotJson),
+            Err(NoMemory) => return Err(MessageFault::NoMemory),
+        };
+        let Some(path) = value.get("path") else {
+            return Err(MessageFault::Missing(Member::Path));
+        };
+        let Some(path) = path.as_str() else {
+            return Err(MessageFault::WrongType(Member::Path));
+        };
+        match Text::from_str(alloc, path) {
+            Ok(path) => Ok(LeaseAsk { path }),
+            Err(NoMemory) => Err(MessageFault::NoMemory),
+        }
+    }
+
+    /// The message as compact JSON.
+    pub fn write(&self, alloc: Global) -> Result<Vec<u8>, NoMemory>
+        ensures text { IfOk result (λ bytes. bytes.items ≡ compact_text (lease_ask_data self.now)) }
+        ensures reads_back { IfOk result (λ bytes. lease_ask_of bytes.items ≡ Ok self.now) }
+    {
+        let value = lease_ask_value(alloc, self.path.as_str())?;
+        write_value(alloc, &value)
+    }
+}
+
+/// The message as JSON.
+fn lease_ask_value(alloc: Global, path: &str) -> Result<Value, AllocError>
+    ensures { IfOk result (λ value. view value ≡ object (member (codes "path") (string path.now) no_members)) }
+{
+    json!(in alloc; {"path": path})
+}
