@@ -1,0 +1,8 @@
+pub mod Contents
+pub mod Feeding
+pub mod Hashes
+pub mod Lines
+pub mod NamedIds
+pub mod Packs
+pub mod Steps
+pub mod Numbers

@@ -1,0 +1,14 @@
+//! A pack that was read.
+
+use crate::objects::Objects;
+
+/// A pack that was read.
+#[derive(Debug, Drop)]
+pub struct Pack {
+    /// The objects, in the order of their lines.
+    pub objects: Objects,
+    /// The bytes of the header.
+    pub header: u64,
+    /// The SHA-1 of the header (FIPS 180-4).
+    pub digest: [u8; 20],
+}
