@@ -1,0 +1,6 @@
+mod Answering
+mod Commands
+mod OneAsking
+mod Opening
+mod SessionSteps
+mod Targeting

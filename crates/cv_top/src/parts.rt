@@ -1,0 +1,20 @@
+//! The outside of the program.
+
+/// The outside of the program: what it reads and writes. The clock, the keys and the seal aren't read yet.
+#[derive(Drop)]
+pub struct Parts<V, R, W, E, C> {
+    /// The files of the repository.
+    pub vault: V,
+    /// Where requests come from.
+    pub input: R,
+    /// Where replies go.
+    pub output: W,
+    /// Where the line on a status goes.
+    pub errors: E,
+    /// The time.
+    pub clock: C,
+    /// The text of the keys.
+    pub keys: String,
+    /// The text of the seal.
+    pub seal: String,
+}

@@ -1,0 +1,119 @@
+//! The program's own call.
+ghost use Rattle.std.specs.Prelude.{◌≡◌, ◌≢◌, ◌≤◌, ◌⊎◌, ℕ, List, map, string_bytes};
+ghost use Rattle.cv_base.specs.Counts.{HasCause};
+ghost use Rattle.cv_base.specs.Told.{WhereTold};
+ghost use Rattle.cv_ports.specs.Streams.{Wrote};
+ghost use Rattle.cv_top.specs.Words.{Asks, IsCommand};
+ghost use Rattle.cv_top.specs.Serving.{Serves, IsRefusal};
+ghost use Rattle.cv_top.specs.Status.{line_of};
+ghost use Rattle.cv_top.specs.declared.words.Command.TheVariants.{Stdio};
+ghost use Rattle.cv_top.specs.declared.status.Status.TheVariants.{Usage, InputFailed, OutputFailed, StoreFailed, OutOfMemory};
+
+use crate::parts::Parts;
+use crate::session::answer_requests;
+use crate::status::Status;
+use crate::target::MANIFEST;
+use crate::words::{Command, WordsFault, read_words};
+use cv_base::Name;
+use cv_http::Wire;
+use cv_ports::{Clock, Sink, Source, write_all};
+use cv_vault::{Vault, VaultFault};
+use std::alloc::Global;
+
+/// Answers the requests of the input on the output, over the manifest as it stands now.
+fn serve_stream<V: Vault, R: Source + Drop, W: Sink>(
+    alloc: Global,
+    repository: &Name,
+    vault: &mut V,
+    input: R,
+    output: &mut W,
+) -> (Status, R)
+    ensures serves { WhereTold (R.left input) (λ b.
+        Serves repository.now (V.disk vault.old) b (R.left result.1) (W.taken output.old) (W.taken output.new) (V.faults vault.old) (V.faults vault.new) result.0) }
+    ensures same { V.disk vault.new ≡ V.disk vault.old }
+    ensures usage { result.0 ≢ Usage }
+    ensures reads { HasCause (R.faults input) (R.faults result.1) (result.0 ≡ InputFailed) }
+    ensures writes { HasCause (W.faults output.old) (W.faults output.new) (result.0 ≡ OutputFailed) }
+    ensures fetches { HasCause (V.faults vault.old) (V.faults vault.new) (result.0 ≡ StoreFailed) }
+{
+    let manifest = match vault.read(MANIFEST) {
+        Ok(Some(manifest)) => manifest,
+        Ok(None) => return (Status::NoRepository, input),
+        Err(VaultFault::Failed) => return (Status::StoreFailed, input),
+        Err(VaultFault::NoMemory) => return (Status::OutOfMemory, input),
+    };
+    let mut wire = Wire::new(alloc, input);
+    let end = answer_requests(alloc, repository, &manifest, vault, &mut wire, output);
+    (Status::of(end), wire.into_source())
+}
+
+/// Does what the words ask for.
+fn do_command<V: Vault, R: Source + Drop, W: Sink>(
+    alloc: Global,
+    words: &[String],
+    vault: &mut V,
+    input: R,
+    output: &mut W,
+) -> (Status, R)
+    ensures stdio { (repository : List ℕ) → Asks (map string_bytes words.now) (Stdio repository) → WhereTold (R.left input) (λ b.
+        Serves repository (V.disk vault.old) b (R.left result.1) (W.taken output.old) (W.taken output.new) (V.faults vault.old) (V.faults vault.new) result.0) }
+    ensures usage { result.0 ≡ Usage → IsCommand (map string_bytes words.now) → ⊥ }
+    ensures other_words { (IsCommand (map string_bytes words.now) → ⊥) → IsRefusal result.0 × (W.taken output.new ≡ W.taken output.old) }
+    ensures same { V.disk vault.new ≡ V.disk vault.old }
+    ensures reads { HasCause (R.faults input) (R.faults result.1) (result.0 ≡ InputFailed) }
+    ensures writes { HasCause (W.faults output.old) (W.faults output.new) (result.0 ≡ OutputFailed) }
+    ensures fetches { HasCause (V.faults vault.old) (V.faults vault.new) (result.0 ≡ StoreFailed) }
+{
+    match read_words(alloc, words) {
+        Ok(Command::Stdio(name)) => serve_stream(alloc, &name, vault, input, output),
+        Err(WordsFault::Usage) => (Status::Usage, input),
+        Err(WordsFault::NoMemory) => (Status::OutOfMemory, input),
+    }
+}
+
+/// Does what the words after the program's name ask for, on these parts. Answers how the program ends, whose line it wrote
+/// on `errors`, and the parts again. `stdio <repository>` reads requests (RFC 9112) from the input and answers them on the
+/// output.
+pub fn run<V: Vault, R: Source + Drop, W: Sink, E: Sink, C: Clock>(
+    alloc: Global,
+    words: &[String],
+    parts: Parts<V, R, W, E, C>,
+) -> (Status, Parts<V, R, W, E, C>)
+    ensures stdio { (repository : List ℕ) → Asks (map string_bytes words.now) (Stdio repository) → WhereTold (R.left parts.input) (λ b.
+        Serves repository (V.disk parts.vault) b (R.left result.1.input) (W.taken parts.output) (W.taken result.1.output) (V.faults parts.vault) (V.faults result.1.vault) result.0) }
+    ensures usage { result.0 ≡ Usage → IsCommand (map string_bytes words.now) → ⊥ }
+    ensures other_words { (IsCommand (map string_bytes words.now) → ⊥) → IsRefusal result.0 × (W.taken result.1.output ≡ W.taken parts.output) }
+    ensures files { V.disk result.1.vault ≡ V.disk parts.vault }
+
+    // Each failure has its cause in this call.
+    ensures reads { HasCause (R.faults parts.input) (R.faults result.1.input) (result.0 ≡ InputFailed) }
+    ensures writes { HasCause (W.faults parts.output) (W.faults result.1.output) (result.0 ≡ OutputFailed) }
+    ensures fetches { HasCause (V.faults parts.vault) (V.faults result.1.vault) (result.0 ≡ StoreFailed) }
+
+    // A line that can't be written changes no status.
+    ensures errors { Wrote (E.taken parts.errors) (E.taken result.1.errors) (line_of result.0) }
+    ensures clock { result.1.clock ≡ parts.clock }
+    ensures texts { (result.1.keys ≡ parts.keys) × (result.1.seal ≡ parts.seal) }
+{
+    let Parts {
+        mut vault,
+        input,
+        mut output,
+        mut errors,
+        clock,
+        keys,
+        seal,
+    } = parts;
+    let (status, input) = do_command(alloc, words, &mut vault, input, &mut output);
+    let _ = write_all(&mut errors, status.line().as_bytes());
+    let parts = Parts {
+        vault,
+        input,
+        output,
+        errors,
+        clock,
+        keys,
+        seal,
+    };
+    (status, parts)
+}

@@ -1,0 +1,74 @@
+//! How the program ends.
+ghost use Rattle.std.specs.Prelude.{◌≡◌};
+ghost use Rattle.cv_top.specs.Status.{code_of, line_of, status_of};
+
+use crate::session_end::SessionEnd;
+
+/// How the program ends. Each status but `Done` has a line on standard error.
+#[derive(Clone, Copy, Debug, PartialEq, Eq)]
+pub enum Status {
+    /// What was asked is done. A session over standard input ended where the input ends, or by a
+    /// request that asked for the end or was the last that a session takes.
+    Done,
+    /// The words aren't in the grammar of the command line.
+    Usage,
+    /// There is no repository: the vault has no manifest.
+    NoRepository,
+    /// The input failed.
+    InputFailed,
+    /// The output failed.
+    OutputFailed,
+    /// The vault failed when the repository was opened.
+    StoreFailed,
+    /// A request that no further one can follow: it was faulty, or was cut.
+    BadRequest,
+    /// There was no memory.
+    OutOfMemory,
+}
+
+impl Status {
+    /// How the program ends where its session over standard input and output ended so.
+    pub fn of(end: SessionEnd) -> Status
+        ensures { result ≡ status_of end }
+    {
+        match end {
+            SessionEnd::Clean | SessionEnd::Closed => Status::Done,
+            SessionEnd::Bad(_) => Status::BadRequest,
+            SessionEnd::ReadFault => Status::InputFailed,
+            SessionEnd::WriteFault => Status::OutputFailed,
+            SessionEnd::NoMemory => Status::OutOfMemory,
+        }
+    }
+
+    /// The exit status of the program.
+    pub fn code(self) -> u8
+        ensures { result ≡ code_of self }
+    {
+        match self {
+            Status::Done => 0,
+            Status::Usage => 2,
+            Status::NoRepository => 3,
+            Status::InputFailed => 5,
+            Status::OutputFailed => 6,
+            Status::StoreFailed => 7,
+            Status::BadRequest => 14,
+            Status::OutOfMemory => 70,
+        }
+    }
+
+    /// The line on standard error, with its newline. Empty where there is none.
+    pub fn line(self) -> &'static str
+        ensures { result.now ≡ line_of self }
+    {
+        match self {
+            Status::Done => "",
+            Status::Usage => "cvkit: usage\n",
+            Status::NoRepository => "cvkit: repository: missing\n",
+            Status::InputFailed => "cvkit: input failed\n",
+            Status::OutputFailed => "cvkit: output failed\n",
+            Status::StoreFailed => "cvkit: store failed\n",
+            Status::BadRequest => "cvkit: bad request\n",
+            Status::OutOfMemory => "cvkit: out of memory\n",
+        }
+    }
+}
