@@ -1,8 +1,8 @@
 //! The program's own call.
 ghost use Rattle.std.specs.Prelude.{◌≡◌, ◌≢◌, ◌≤◌, ◌⊎◌, ℕ, List, map, string_bytes};
-ghost use Rattle.cv_base.specs.Counts.{HasCause};
+ghost use Rattle.cv_base.specs.Counts.{HasCause, Rose};
 ghost use Rattle.cv_base.specs.Told.{WhereTold};
-ghost use Rattle.cv_ports.specs.Streams.{Wrote};
+ghost use Rattle.cv_ports.specs.Streams.{onto, Wrote};
 ghost use Rattle.cv_top.specs.Words.{Asks, IsCommand};
 ghost use Rattle.cv_top.specs.Serving.{Serves, IsRefusal};
 ghost use Rattle.cv_top.specs.Status.{line_of};
@@ -16,7 +16,7 @@ use crate::target::MANIFEST;
 use crate::words::{Command, WordsFault, read_words};
 use cv_base::Name;
 use cv_http::Wire;
-use cv_ports::{Clock, Sink, Source, write_all};
+use cv_ports::{Clock, Failed, Sink, Source, write_all};
 use cv_vault::{Vault, VaultFault};
 use std::alloc::Global;
 
@@ -71,6 +71,17 @@ fn do_command<V: Vault, R: Source + Drop, W: Sink>(
     }
 }
 
+/// Writes the line of a status. A line that can't be written whole is a fault of the sink.
+fn write_line<E: Sink>(errors: &mut E, status: Status)
+    ensures whole { (E.taken errors.new ≡ onto (E.taken errors.old) (line_of status)) ⊎ Rose 1 (E.faults errors.old) (E.faults errors.new) }
+    ensures part { Wrote (E.taken errors.old) (E.taken errors.new) (line_of status) }
+{
+    match write_all(errors, status.line().as_bytes()) {
+        Ok(()) => {}
+        Err(Failed) => {}
+    }
+}
+
 /// Does what the words after the program's name ask for, on these parts. Answers how the program ends, whose line it wrote
 /// on `errors`, and the parts again. `stdio <repository>` reads requests (RFC 9112) from the input and answers them on the
 /// output.
@@ -90,7 +101,8 @@ pub fn run<V: Vault, R: Source + Drop, W: Sink, E: Sink, C: Clock>(
     ensures writes { HasCause (W.faults parts.output) (W.faults result.1.output) (result.0 ≡ OutputFailed) }
     ensures fetches { HasCause (V.faults parts.vault) (V.faults result.1.vault) (result.0 ≡ StoreFailed) }
 
-    // A line that can't be written changes no status.
+    // The line of the status is written whole, unless the sink failed. That changes no status.
+    ensures line { (E.taken result.1.errors ≡ onto (E.taken parts.errors) (line_of result.0)) ⊎ Rose 1 (E.faults parts.errors) (E.faults result.1.errors) }
     ensures errors { Wrote (E.taken parts.errors) (E.taken result.1.errors) (line_of result.0) }
     ensures clock { result.1.clock ≡ parts.clock }
     ensures texts { (result.1.keys ≡ parts.keys) × (result.1.seal ≡ parts.seal) }
@@ -105,7 +117,7 @@ pub fn run<V: Vault, R: Source + Drop, W: Sink, E: Sink, C: Clock>(
         seal,
     } = parts;
     let (status, input) = do_command(alloc, words, &mut vault, input, &mut output);
-    let _ = write_all(&mut errors, status.line().as_bytes());
+    write_line(&mut errors, status);
     let parts = Parts {
         vault,
         input,
