@@ -67,3 +67,13 @@ here d n s = rw (same_name_itself n) refl
 -- every other slot
 pub elsewhere : (d : Disk) (n : Name) (s : Slot) (q : Name) → q ≢ n → with_slot d n s q ≡ d q
 elsewhere d n s q apart = rw (other_name q n apart) refl
+
+-- a slot that stands there already
+pub unchanged : (d : Disk) (n : Name) (s : Slot) → s ≡ d n → with_slot d n s ≡ d
+unchanged d n s e = λ i q. at q i
+  where
+    at : (q : Name) → with_slot d n s q ≡ d q
+    at q = elim (same_or_not q n) [
+      | inl k ↦ subst (λ (m : Name). with_slot d n s m ≡ d m) (sym k) (here d n s ∙ e)
+      | inr ne ↦ elsewhere d n s q ne
+    ]

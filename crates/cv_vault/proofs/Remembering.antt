@@ -1,14 +1,15 @@
 -- The calls of a vault in memory, by its record of changes.
-use Rattle.std.proofs.Common.{◌≡◌, ◌⊎◌, inl, inr, ℕ, ◌+◌, ◌≤◌, Bool, true, false, not, cond, ◌==◌, List, [], ◌∷◌, ◌++◌, length, take, min, nat_lt, refl, ap, sym, subst, ◌∙◌, arith, length-append}
+use Rattle.std.proofs.Common.{◌≡◌, ◌≢◌, ◌⊎◌, inl, inr, ℕ, ◌+◌, ◌≤◌, Bool, true, false, not, cond, ◌==◌, List, [], ◌∷◌, ◌++◌, length, take, min, nat_lt, refl, ap, sym, subst, ◌∙◌, arith, length-append}
 use Rattle.std.specs.declared.result.Result.{Result}
 use Rattle.std.specs.declared.result.Result.TheVariants.{Ok, Err}
 use Rattle.std.proofs.lemmas.List.{take_all, take-append-le}
 use Rattle.std.proofs.lemmas.Bool.Decides.{nat_tests}
 use Rattle.cv_base.specs.Counts.{last_count}
+use Rattle.cv_vault.specs.Names.{Name}
 use Rattle.cv_vault.specs.Disk.{Disk, Files, Image}
-use Rattle.cv_vault.specs.Events.{Event, LeftBy, after, replay}
+use Rattle.cv_vault.specs.Events.{Event, Differs, Same, LeftBy, after, replay}
 use Rattle.cv_vault.specs.Failures.{next_call, fate_of, fate_fails, fate_makes}
-use Rattle.cv_vault.specs.Memory.{Memory, began, memory_disk, times, MemoryCalls, Kept, Changed, Numbered}
+use Rattle.cv_vault.specs.Memory.{Memory, began, memory_disk, times, MemoryCalls, Kept, Changed, Makes, Counted, Numbered}
 use Rattle.cv_vault.specs.declared.fate.Fate.{Fate}
 use Rattle.cv_vault.specs.declared.fate.Fate.TheVariants.{Works, FailsUnmade, FailsMade}
 use Rattle.cv_vault.specs.declared.vault.VaultFault.{VaultFault}
@@ -66,6 +67,23 @@ calls_changed R e v v' c r = record {
       | inl k ↦ inl (record { moment = l.moment; since = l.since; until = k; image = subst (λ d. Image d f) (earlier l.moment k) l.image })
       | inr k ↦ inr (subst (λ d. Image d f) (ap (λ es. replay es (began v)) (take_all l.moment (v.past ++ e ∷ []) (omega (arith, length-append v.past (e ∷ [])))) ∙ now) l.image)
     ]
+
+-- a change was made, recorded or not
+pub calls_makes : (R : Disk → Disk → Type 0) (e : Event) (v v' : Memory) → Makes e v v' → R (memory_disk v) (after e (memory_disk v)) → MemoryCalls R v v'
+calls_makes R e v v' (Differs n h c) r = calls_changed R e v v' c r
+calls_makes R e v v' (Same h k) r = calls_kept R v v' k (subst (R (memory_disk v)) h r)
+
+pub counted_kept : (v v' : Memory) → Kept v v' → Counted v v'
+counted_kept v v' k = Same (memory_disk-kept v v' k) k
+
+pub counted_changed : (e : Event) (v v' : Memory) (n : Name) → Changed e v v' → after e (memory_disk v) n ≢ memory_disk v n → Counted v v'
+counted_changed e v v' n c h =
+    Differs n (subst (λ (d : Disk). d n ≢ memory_disk v n) (sym (memory_disk-changed e v v' c)) h)
+    (let p = ap (λ (es : List Event). length es) c.past in omega (arith, length-append v.past (e ∷ [])))
+
+pub counted_makes : (e : Event) (v v' : Memory) → Makes e v v' → Counted v v'
+counted_makes e v v' (Differs n h c) = counted_changed e v v' n c h
+counted_makes e v v' (Same h k) = counted_kept v v' k
 
 fails_by : (none once : Bool) → fate_fails (cond none Works (cond once FailsUnmade FailsMade)) ≡ not none
 fails_by true once = refl

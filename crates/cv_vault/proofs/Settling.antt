@@ -1,5 +1,5 @@
 -- A table whose names are all settled.
-use Rattle.std.proofs.Common.{◌≡◌, ℕ, Bool, true, false, not, ◌&&◌, ◌||◌, cond, List, [], ◌∷◌, ◌++◌, map, length, refl, ap, sym, ◌∙◌}
+use Rattle.std.proofs.Common.{◌≡◌, ◌≢◌, ℕ, suc, ◌<◌, get_or, arith, Bool, true, false, not, ◌&&◌, ◌||◌, cond, List, [], ◌∷◌, ◌++◌, map, length, refl, ap, sym, ◌∙◌}
 use Rattle.std.specs.List.{list_all}
 use Rattle.std.specs.Prelude.{sum}
 use Rattle.std.proofs.lemmas.List.Sums.{sum-map}
@@ -10,12 +10,12 @@ use Rattle.cv_vault.specs.Disk.{Disk, Slot, slot, is_settled, synced}
 use Rattle.cv_vault.specs.Events.{NamedSlot, disk_of, first_disk, file_count, has_file, any_unsettled}
 use Rattle.cv_vault.specs.Events as event
 use Rattle.cv_vault.specs.Places.{file_in, mark_in, slot_in, is_settled_place}
-use Rattle.cv_vault.specs.Table.{name_in, names_in, settled_entry, entries_of, IsEntryIn, IsTable}
+use Rattle.cv_vault.specs.Table.{name_in, names_in, settled_entry, entry_at, any_entry, table_disk, entries_of, IsEntryIn, IsTable}
 use Rattle.cv_vault.specs.declared.table.Entry.{Entry}
 use Rattle.cv_vault.specs.declared.table.Table.{Table}
 use Rattle.cv_vault.specs.declared.table.Change.TheVariants.{Settles}
 use Rattle.cv_vault.proofs.Reading.{resolved}
-use Rattle.cv_vault.proofs.Steps.{settled_in}
+use Rattle.cv_vault.proofs.Steps.{settled_in, slot_at}
 use Rattle.cv_vault.proofs.Changing.{Records}
 
 or_false : (a b : Bool) → (a || b) ≡ false → (a ≡ false) × (b ≡ false)
@@ -111,3 +111,24 @@ pub file_count-settled : (t t' : Table) → SettlesAll t t' → file_count (entr
 file_count-settled t t' h =
     rw (h.names, h.contents, h.entries) (sym (sum-map (λ (e : NamedSlot). has_file e.stands) (resolved t.names.items t.contents.items (map settled_entry t.entries.items)))
     ∙ ap sum (files_settled t.names.items t.contents.items t.entries.items) ∙ sum-map (λ (e : NamedSlot). has_file e.stands) (entries_of t))
+
+-- an entry that isn't settled
+pub record Unsettled (names : List Name) (contents : List (List ℕ)) (es : List Entry) : Type 0 where
+  pub place : ℕ
+  pub within : place < length es
+  pub mark : is_settled (slot_in contents (get_or es place any_entry).place).mark ≡ false
+
+unsettled_entry : (names : List Name) (contents : List (List ℕ)) (es : List Entry) → any_unsettled (resolved names contents es) ≡ true → Unsettled names contents es
+unsettled_entry names contents [] h = cc
+unsettled_entry names contents (e ∷ es) h = by (is_settled (mark_in contents e.place.mark)) refl (unsettled_entry names contents es)
+  where
+    by : (b : Bool) → is_settled (mark_in contents e.place.mark) ≡ b → (any_unsettled (resolved names contents es) ≡ true → Unsettled names contents es) → Unsettled names contents (e ∷ es)
+    by true k rest = let u = rest (rw k at h) in record { place = suc u.place; within = (let w = u.within in omega arith); mark = u.mark }
+    by false k rest = record { place = 0; within = omega arith; mark = k }
+
+-- a sync of a disk with an unsettled name changes it
+pub unsettled_differs : (t : Table) → IsTable t → any_unsettled (entries_of t) ≡ true → (n : Name) × (synced (table_disk t) n ≢ table_disk t n)
+unsettled_differs t is h =
+    let u = unsettled_entry t.names.items t.contents.items t.entries.items h in
+    let n : Name = name_in t.names.items (entry_at t u.place).name in
+    (n, λ e. (let m : disk.Settled ≡ (slot_in t.contents.items (entry_at t u.place).place).mark = ap (λ (s : Slot). s.mark) (e ∙ slot_at t n u.place is (u.within, refl)) in let k = ap is_settled m in let f = u.mark in cc))

@@ -1,22 +1,24 @@
 -- The calls of a table, as changes of its disk.
-use Rattle.std.proofs.Common.{◌≡◌, ℕ, ◌+◌, Bool, true, false, cond, get_or, ◌&&◌, is_some, List, [], refl, ap, sym, ◌∙◌, vec_len}
+use Rattle.std.proofs.Common.{◌≡◌, ◌≢◌, ◌⊎◌, inl, inr, ℕ, ◌+◌, ◌<◌, length, subst, Bool, true, false, cond, get_or, ◌&&◌, is_some, List, [], refl, ap, sym, ◌∙◌, vec_len}
 use Rattle.std.specs.Prelude.{IsSome}
 use Rattle.std.specs.Vec.{vec_capacity}
 use Rattle.std.specs.declared.option.Option.{Option}
 use Rattle.std.specs.declared.option.Option.TheVariants.{None, Some}
 use Rattle.cv_vault.specs.Names.{Name}
-use Rattle.cv_vault.specs.Disk.{File, Slot, slot, is_settled, moved, Torn}
-use Rattle.cv_vault.specs.Events.{Event, Puts, PutsTwo, after, write_of, rename_of, removal_of}
+use Rattle.cv_vault.specs.Disk.{Disk, File, Slot, slot, with_slot, is_settled, moved, Torn}
+use Rattle.cv_vault.specs.Events.{Event, Puts, PutsTwo, Differs, Same, after, write_of, rename_of, removal_of}
 use Rattle.cv_vault.specs.Places.{file_in, mark_in, slot_in, moved_place, is_settled_place}
-use Rattle.cv_vault.specs.Table.{name_in, any_entry, entry_at, IsEntryOf, IsTable, Stays, Adds, table_disk}
+use Rattle.cv_vault.specs.Table.{name_in, any_entry, entry_at, IsEntryOf, IsTable, Stays, Adds, Makes, table_disk}
 use Rattle.cv_vault.specs.declared.place.Place.{Place}
 use Rattle.cv_vault.specs.declared.place.PlaceMark.{PlaceMark}
 use Rattle.cv_vault.specs.declared.place.PlaceMark.TheVariants as mark
 use Rattle.cv_vault.specs.declared.table.Entry.{Entry}
 use Rattle.cv_vault.specs.declared.table.Table.{Table}
+use Rattle.cv_vault.proofs.Names.{here, elsewhere, unchanged}
 use Rattle.cv_vault.proofs.Reading.{slot_found}
+use Rattle.cv_vault.proofs.Changing.{stays_then}
 
-pub adds_after : (e : Event) (t u v : Table) → Stays t u → Adds e u v → Adds e t v
+adds_after : (e : Event) (t u v : Table) → Stays t u → Adds e u v → Adds e t v
 adds_after e t u v a b = record {
   disk = b.disk ∙ ap (after e) a.disk;
   first = b.first ∙ a.first;
@@ -24,6 +26,10 @@ adds_after e t u v a b = record {
   len = b.len ∙ ap (λ c. vec_len c + 1) a.changes;
   capacity = b.capacity ∙ ap (λ c. vec_capacity c) a.changes;
 }
+
+pub makes_after : (e : Event) (t u v : Table) → Stays t u → Makes e u v → Makes e t v
+makes_after e t u v a (Differs n h b) = Differs n (subst (λ (d : Disk). after e d n ≢ d n) a.disk h) (adds_after e t u v a b)
+makes_after e t u v a (Same h b) = Same (subst (λ (d : Disk). after e d ≡ d) a.disk h) (stays_then t u v a b)
 
 pub slot_at : (t : Table) (n : Name) (i : ℕ) → IsTable t → IsEntryOf t n i → table_disk t n ≡ slot_in t.contents.items (entry_at t i).place
 slot_at t n i is h = slot_found t.names.items t.contents.items t.entries.items i any_entry n is.ascending h.0 h.1
@@ -48,6 +54,44 @@ pub settled_in : (contents : List (List ℕ)) (m : PlaceMark) → is_settled (ma
 settled_in contents mark.Settled = refl
 settled_in contents mark.Torn = refl
 settled_in contents (mark.Moved before) = refl
+
+-- A change is recorded where another slot comes to a name.
+
+stays_itself : (t : Table) → Stays t t
+stays_itself t = record { disk = refl; first = refl; past = refl; changes = refl; files = refl; unsettled = refl }
+
+-- the name of an entry
+abbrev pub name_of : Table → ℕ → Name
+name_of t i = name_in t.names.items (entry_at t i).name
+
+-- what stands at an entry
+abbrev pub slot_of : Table → ℕ → Slot
+slot_of t i = slot_in t.contents.items (entry_at t i).place
+
+stands_at : (t : Table) (i : ℕ) → IsTable t → i < length t.entries.items → table_disk t (name_of t i) ≡ slot_of t i
+stands_at t i is lt = slot_at t (name_of t i) i is (lt, refl)
+
+pub makes_none : (t : Table) (i : ℕ) (s : Slot) → IsTable t → i < length t.entries.items → s ≡ slot_of t i → Makes (Puts (name_of t i) s) t t
+makes_none t i s is lt e = Same (unchanged (table_disk t) (name_of t i) s (e ∙ sym (stands_at t i is lt))) (stays_itself t)
+
+pub makes_put : (t t' : Table) (i : ℕ) (s : Slot) → IsTable t → i < length t.entries.items → s ≢ slot_of t i → Adds (Puts (name_of t i) s) t t' → Makes (Puts (name_of t i) s) t t'
+makes_put t t' i s is lt other a = Differs (name_of t i) (λ e. other (sym (here (table_disk t) (name_of t i) s) ∙ e ∙ stands_at t i is lt)) a
+
+pub makes_neither : (t : Table) (i j : ℕ) (s r : Slot) → IsTable t → i < length t.entries.items → j < length t.entries.items → s ≡ slot_of t i → r ≡ slot_of t j
+    → Makes (PutsTwo (name_of t i) s (name_of t j) r) t t
+makes_neither t i j s r is lt lt' e f =
+    let d = table_disk t in
+    let one : with_slot d (name_of t i) s ≡ d = unchanged d (name_of t i) s (e ∙ sym (stands_at t i is lt)) in
+    Same (ap (λ (x : Disk). with_slot x (name_of t j) r) one ∙ unchanged d (name_of t j) r (f ∙ sym (stands_at t j is lt'))) (stays_itself t)
+
+pub makes_two : (t t' : Table) (i j : ℕ) (s r : Slot) → IsTable t → i < length t.entries.items → j < length t.entries.items → name_of t i ≢ name_of t j → (s ≢ slot_of t i) ⊎ (r ≢ slot_of t j)
+    → Adds (PutsTwo (name_of t i) s (name_of t j) r) t t' → Makes (PutsTwo (name_of t i) s (name_of t j) r) t t'
+makes_two t t' i j s r is lt lt' apart other a =
+    let d = table_disk t in
+    elim other [
+      | inl ne ↦ Differs (name_of t i) (λ e. ne (sym (here d (name_of t i) s) ∙ sym (elsewhere (with_slot d (name_of t i) s) (name_of t j) r (name_of t i) apart) ∙ e ∙ stands_at t i is lt)) a
+      | inr ne ↦ Differs (name_of t j) (λ e. ne (sym (here (with_slot d (name_of t i) s) (name_of t j) r) ∙ e ∙ stands_at t j is lt')) a
+    ]
 
 -- the events by what stands there
 abbrev pub write_by : Name → List ℕ → Bool → Slot → Event

@@ -1,5 +1,5 @@
 -- A disk in memory: the names that were ever used, and the record of the changes since the record began.
-use Rattle.std.specs.Prelude.{ℕ, ◌≤◌, Bool, List, [], ◌∷◌, map, length, take, not, is_some, count_by, if◌then◌else◌}
+use Rattle.std.specs.Prelude.{◌≡◌, ◌≢◌, ℕ, ◌≤◌, Bool, List, [], ◌∷◌, map, length, take, not, is_some, count_by, if◌then◌else◌}
 use Rattle.std.specs.List.{list_any}
 use Rattle.std.specs.declared.option.Option.TheVariants.{None, Some}
 use Rattle.cv_vault.specs.Names.{Name, same_name}
@@ -26,6 +26,11 @@ after Settles d = synced d
 abbrev pub replay : List Event → Disk → Disk
 replay [] d = d
 replay (e ∷ es) d = replay es (after e d)
+
+-- A where some name or its state is another on the disk d' than on d, and B where none is
+pub data IfDiffers (d d' : Disk) (A B : Type 0) : Type 0 where
+  Differs : (name : Name) (other : d' name ≢ d name) (a : A) → IfDiffers d d' A B
+  Same : (same : d' ≡ d) (b : B) → IfDiffers d d' A B
 
 -- what a list of pairs has at a name, where this stands for what it hasn't
 abbrev pub value_at : {X : Type 0} → X → List (Name × X) → Name → X

@@ -7,7 +7,7 @@ use Rattle.std.specs.declared.result.Result.TheVariants.{Ok, Err}
 use Rattle.cv_base.specs.Counts.{last_count}
 use Rattle.cv_vault.specs.Names.{Name}
 use Rattle.cv_vault.specs.Disk.{File, Files, Disk, settled}
-use Rattle.cv_vault.specs.Events.{NamedSlot, Event, LeftBy, replay, value_at, file_count, any_unsettled}
+use Rattle.cv_vault.specs.Events.{NamedSlot, Event, IfDiffers, LeftBy, after, replay, value_at, file_count, any_unsettled}
 use Rattle.cv_vault.specs.Moments.{Calls}
 use Rattle.cv_vault.specs.Failures.{times_next, next_call, later_failures}
 use Rattle.cv_vault.specs.declared.vault.VaultFault.{VaultFault}
@@ -55,6 +55,14 @@ pub record Kept (v v' : Memory) : Type 0 where
 pub record Changed (e : Event) (v v' : Memory) : Type 0 where
   pub first : began v' ≡ began v
   pub past : v'.past ≡ v.past ++ e ∷ []
+
+-- the change was made: the record has it where a name or its state is another by it, and else nothing is added
+abbrev pub Makes : Event → Memory → Memory → Type 0
+Makes e v v' = IfDiffers (memory_disk v) (after e (memory_disk v)) (Changed e v v') (Kept v v')
+
+-- the count of changes rose by one exactly where a name or its state is another after the call, and else nothing is added
+abbrev pub Counted : Memory → Memory → Type 0
+Counted v v' = IfDiffers (memory_disk v) (memory_disk v') (memory_count v' ≡ memory_count v + 1) (Kept v v')
 
 -- the call has the next number. It answers Failed only where that number is to fail, and doesn't answer Ok where it is
 pub record Numbered {X : Type 0} (v v' : Memory) (r : Result X VaultFault) : Type 0 where

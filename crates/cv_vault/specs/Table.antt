@@ -8,7 +8,7 @@ use Rattle.std.specs.declared.cmp.Ordering.TheVariants.{Less, Greater}
 use Rattle.cv_vault.specs.Names.{Name, name_cmp}
 use Rattle.cv_vault.specs.Disk as disk
 use Rattle.cv_vault.specs.Disk.{File, Slot, slot}
-use Rattle.cv_vault.specs.Events.{NamedSlot, Event, replay, disk_of, first_disk, any_unsettled, file_count}
+use Rattle.cv_vault.specs.Events.{NamedSlot, Event, IfDiffers, replay, disk_of, first_disk, any_unsettled, file_count}
 use Rattle.cv_vault.specs.Events as event
 use Rattle.cv_vault.specs.Places.{file_in, slot_in, left_place, next_pick, IsFileIn, IsPlaceIn}
 use Rattle.cv_vault.specs.declared.table.Table.{Table}
@@ -110,4 +110,14 @@ pub record Adds (e : Event) (t t' : Table) : Type 0 where
   pub first : table_first t' ≡ table_first t
   pub past : past_of t' ≡ past_of t ++ e ∷ []
   pub len : vec_len t'.changes ≡ vec_len t.changes + 1
+  pub capacity : vec_capacity t'.changes ≡ vec_capacity t.changes
+
+-- the change is made: the record has one change more where a name or its state is another by it, and else all is as before
+abbrev pub Makes : Event → Table → Table → Type 0
+Makes e t t' = IfDiffers (table_disk t) (event.after e (table_disk t)) (Adds e t t') (Stays t t')
+
+-- the record has at most one change more, in the room that it had
+pub record TakesOne (t t' : Table) : Type 0 where
+  pub not_less : vec_len t.changes ≤ vec_len t'.changes
+  pub at_most : vec_len t'.changes ≤ vec_len t.changes + 1
   pub capacity : vec_capacity t'.changes ≡ vec_capacity t.changes

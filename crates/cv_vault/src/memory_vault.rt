@@ -5,7 +5,7 @@ ghost use Rattle.cv_base.specs.Counts.{HasCause};
 ghost use Rattle.cv_vault.specs.Crash.{CrashesTo};
 ghost use Rattle.cv_vault.specs.Disk.{Reads, Measures, Lists, Writes, Renames, Removes, Syncs};
 ghost use Rattle.cv_vault.specs.Events.{write_of, rename_of, removal_of};
-ghost use Rattle.cv_vault.specs.Memory.{memory_disk, memory_told, memory_count, memory_left, times, MemoryCalls, Numbered, Kept, Changed};
+ghost use Rattle.cv_vault.specs.Memory.{memory_disk, memory_told, memory_count, memory_left, times, MemoryCalls, Numbered, Kept, Makes, Counted};
 ghost use Rattle.cv_vault.specs.declared.vault.VaultFault.TheVariants as fault;
 
 use crate::mortal::Mortal;
@@ -19,7 +19,8 @@ use std::marker::Model;
 /// A vault in memory.
 ///
 /// It keeps a record of its changes, so that what a crash could have left at each earlier moment is a function of what it
-/// holds. The contents of all files that were ever written stay in memory until the vault is dropped.
+/// holds. A call that leaves every name and its state as they were adds nothing to the record. The contents of all files
+/// that were ever written stay in memory until the vault is dropped.
 #[derive(Drop)]
 pub struct MemoryVault {
     alloc: Global,
@@ -136,7 +137,8 @@ impl Vault for MemoryVault {
         ensures call { MemoryCalls (Writes name.now bytes.now result) self.old self.new }
         ensures cause { HasCause self.old.faults self.new.faults (IsErrOf result fault.Failed) }
         ensures numbered { Numbered self.old self.new result }
-        ensures failed { result ≡ Err fault.Failed → Changed (write_of (memory_disk self.old) name.now bytes.now (nat_lt 1 (times self.old))) self.old self.new }
+        ensures counted { Counted self.old self.new }
+        ensures failed { result ≡ Err fault.Failed → Makes (write_of (memory_disk self.old) name.now bytes.now (nat_lt 1 (times self.old))) self.old self.new }
     {
         let fate = self.schedule.next();
         let more = self.owed.checked_add(4).ok_or(NoMemory)?;
@@ -151,7 +153,8 @@ impl Vault for MemoryVault {
         ensures call { MemoryCalls (Renames from.now to.now result) self.old self.new }
         ensures cause { HasCause self.old.faults self.new.faults (IsErrOf result fault.Failed) }
         ensures numbered { Numbered self.old self.new result }
-        ensures failed { result ≡ Err fault.Failed → IsSome (memory_disk self.old from.now).now → Changed (rename_of (memory_disk self.old) from.now to.now (nat_lt 1 (times self.old))) self.old self.new }
+        ensures counted { Counted self.old self.new }
+        ensures failed { result ≡ Err fault.Failed → IsSome (memory_disk self.old from.now).now → Makes (rename_of (memory_disk self.old) from.now to.now (nat_lt 1 (times self.old))) self.old self.new }
     {
         let fate = self.schedule.next();
         let more = self.owed.checked_add(4).ok_or(NoMemory)?;
@@ -165,7 +168,8 @@ impl Vault for MemoryVault {
         ensures call { MemoryCalls (Removes name.now result) self.old self.new }
         ensures cause { HasCause self.old.faults self.new.faults (IsErrOf result fault.Failed) }
         ensures numbered { Numbered self.old self.new result }
-        ensures failed { result ≡ Err fault.Failed → IsSome (memory_disk self.old name.now).now → Changed (removal_of (memory_disk self.old) name.now (nat_lt 1 (times self.old))) self.old self.new }
+        ensures counted { Counted self.old self.new }
+        ensures failed { result ≡ Err fault.Failed → IsSome (memory_disk self.old name.now).now → Makes (removal_of (memory_disk self.old) name.now (nat_lt 1 (times self.old))) self.old self.new }
         ensures memory { result ≢ Err fault.NoMemory }
     {
         let fate = self.schedule.next();
@@ -178,6 +182,7 @@ impl Vault for MemoryVault {
         ensures call { MemoryCalls (Syncs result) self.old self.new }
         ensures cause { HasCause self.old.faults self.new.faults (IsErrOf result fault.Failed) }
         ensures numbered { Numbered self.old self.new result }
+        ensures counted { Counted self.old self.new }
         ensures memory { result ≢ Err fault.NoMemory }
     {
         if self.schedule.next().fails() {

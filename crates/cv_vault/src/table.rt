@@ -1,14 +1,14 @@
 //! The files of a vault in memory, with the record of their changes.
 ghost use Rattle.std.specs.Prelude.{◌≡◌, ◌+◌, ◌<◌, ◌≤◌, ◌≢◌, [], length, slice_index_or, slice_set, map, false, option_copied, IfOk, IfErr, OnOk, OnErr, IsSome, MatchBool, IsTrue, if◌then◌else◌, vec_len, vec_capacity};
 ghost use Rattle.std.specs.List.{list_all};
-ghost use Rattle.std.specs.Bool.{OnTrue, OnFalse};
+ghost use Rattle.std.specs.Bool.{OnTrue, OnFalse, Decides};
 ghost use Rattle.std.specs.List.Sorted.{IsStrictlySortedBy};
 ghost use Rattle.cv_vault.specs.Names.{name_cmp};
 ghost use Rattle.cv_vault.specs.Disk.{IsListing, synced};
 ghost use Rattle.cv_vault.specs.Crash.{Crashes};
 ghost use Rattle.cv_vault.specs.Events.{write_of, rename_of, removal_of, any_unsettled, file_count, has_file, Puts, PutsTwo, Settles as all_settled};
-ghost use Rattle.cv_vault.specs.Places.{is_settled_place, file_in, slot_in, IsFileIn, IsPlaceIn};
-ghost use Rattle.cv_vault.specs.Table.{name_in, names_in, is_listed, IsGap, IsEntryOf, any_entry, settled_entry, crashed, entry_at, entries_of, past_of, table_disk, table_first, IsTable, Stays, Adds};
+ghost use Rattle.cv_vault.specs.Places.{is_settled_place, file_in, mark_in, slot_in, IsFileIn, IsMarkIn, IsPlaceIn};
+ghost use Rattle.cv_vault.specs.Table.{name_in, names_in, is_listed, IsGap, IsEntryOf, any_entry, settled_entry, crashed, entry_at, entries_of, past_of, table_disk, table_first, IsTable, Stays, Adds, Makes, TakesOne};
 
 use crate::place::{Place, PlaceMark, removed, renamed};
 use cv_base::{Bytes, Text};
@@ -135,14 +135,15 @@ impl Table {
         requires table { IsTable self.old }
         requires room { vec_len self.old.changes < vec_capacity self.old.changes }
         ensures table { IsTable self.new }
-        ensures ok { OnOk result (Adds (write_of (table_disk self.old) name.now bytes.now made) self.old self.new) }
+        ensures ok { OnOk result (Makes (write_of (table_disk self.old) name.now bytes.now made) self.old self.new) }
         ensures err { OnErr result (Stays self.old self.new) }
+        ensures takes { TakesOne self.old self.new }
         ensures files { file_count (entries_of self.new) ≤ file_count (entries_of self.old) + 1 }
         ensures names { length self.new.entries.items ≤ length self.old.entries.items + 1 }
     {
         let at = self.entry_for(alloc, name)?;
         let now = self.content_for(alloc, at, bytes, made)?;
-        self.put(
+        self.change(
             at,
             Place {
                 now,
@@ -164,9 +165,10 @@ impl Table {
         requires apart { from.now ≢ to.now }
         requires room { vec_len self.old.changes < vec_capacity self.old.changes }
         ensures table { IsTable self.new }
-        ensures there { IfOk result (λ there. OnTrue there (IsSome (table_disk self.old from.now).now × Adds (rename_of (table_disk self.old) from.now to.now made) self.old self.new)) }
+        ensures there { IfOk result (λ there. OnTrue there (IsSome (table_disk self.old from.now).now × Makes (rename_of (table_disk self.old) from.now to.now made) self.old self.new)) }
         ensures absent { IfOk result (λ there. OnFalse there (((table_disk self.old from.now).now ≡ None) × Stays self.old self.new)) }
         ensures err { OnErr result (Stays self.old self.new) }
+        ensures takes { TakesOne self.old self.new }
         ensures files { file_count (entries_of self.new) ≤ file_count (entries_of self.old) + 1 }
         ensures names { length self.new.entries.items ≤ length self.old.entries.items + 1 }
     {
@@ -179,7 +181,7 @@ impl Table {
             return Ok(false);
         }
         let (from_place, to_place) = renamed(place, self.place_at(to_at), made);
-        self.put_two(from_at, from_place, to_at, to_place);
+        self.change_two(from_at, from_place, to_at, to_place);
         Ok(true)
     }
 
@@ -188,8 +190,10 @@ impl Table {
         requires table { IsTable self.old }
         requires room { IsSome (table_disk self.old name.now).now → vec_len self.old.changes < vec_capacity self.old.changes }
         ensures table { IsTable self.new }
-        ensures there { OnTrue result (IsSome (table_disk self.old name.now).now × Adds (removal_of (table_disk self.old) name.now made) self.old self.new) }
+        ensures there { OnTrue result (IsSome (table_disk self.old name.now).now × Makes (removal_of (table_disk self.old) name.now made) self.old self.new) }
         ensures absent { OnFalse result (((table_disk self.old name.now).now ≡ None) × (self.new ≡ self.old)) }
+        ensures takes { TakesOne self.old self.new }
+        ensures made { OnTrue result (vec_len self.old.changes + (if made then 1 else 0) ≤ vec_len self.new.changes) }
         ensures files { OnTrue result (file_count (entries_of self.new) + (if made then 1 else 0) ≡ file_count (entries_of self.old)) }
         ensures names { length self.new.entries.items ≡ length self.old.entries.items }
     {
@@ -200,7 +204,7 @@ impl Table {
         if place.now.is_none() {
             return false;
         }
-        self.put(at, removed(place, made));
+        self.change(at, removed(place, made));
         true
     }
 
@@ -377,7 +381,7 @@ impl Table {
         Ok(number)
     }
 
-    // The content that a write gives, or that the entry has.
+    // The content that a write gives, or that the entry has. It is kept only where the entry has another.
     fn content_for(
         &mut self,
         alloc: Global,
@@ -394,10 +398,21 @@ impl Table {
         ensures within { IfOk result (IsFileIn (length self.new.contents.items)) }
         ensures file { IfOk result (λ k. file_in self.new.contents.items k ≡ (if made then Some bytes.now else file_in self.old.contents.items (entry_at self.old at).place.now)) }
     {
-        if made {
-            Ok(Some(self.keep(alloc, bytes)?))
-        } else {
-            Ok(self.place_at(at).now)
+        if !made || self.has_content(at, bytes) {
+            return Ok(self.place_at(at).now);
+        }
+        Ok(Some(self.keep(alloc, bytes)?))
+    }
+
+    // Whether an entry has this content.
+    fn has_content(&self, at: usize, bytes: &[u8]) -> bool
+        requires table { IsTable self.now }
+        requires at { at < length self.now.entries.items }
+        ensures { Decides result (file_in self.now.contents.items (entry_at self.now at).place.now ≡ Some bytes.now) }
+    {
+        match self.place_at(at).now {
+            Some(number) => self.contents[number].as_slice() == bytes,
+            None => false,
         }
     }
 
@@ -413,6 +428,87 @@ impl Table {
         let entry = &mut self.entries[at];
         entry.place = place;
         entry.name
+    }
+
+    // Whether two files are the same.
+    fn is_same_file(&self, file: Option<usize>, other: Option<usize>) -> bool
+        requires within { IsFileIn (length self.now.contents.items) file }
+        requires other_within { IsFileIn (length self.now.contents.items) other }
+        ensures { Decides result (file_in self.now.contents.items file ≡ file_in self.now.contents.items other) }
+    {
+        match (file, other) {
+            (Some(file), Some(other)) => {
+                self.contents[file].as_slice() == self.contents[other].as_slice()
+            },
+            (None, None) => true,
+            _ => false,
+        }
+    }
+
+    // Whether two marks are the same.
+    fn is_same_mark(&self, mark: PlaceMark, other: PlaceMark) -> bool
+        requires within { IsMarkIn (length self.now.contents.items) mark }
+        requires other_within { IsMarkIn (length self.now.contents.items) other }
+        ensures { Decides result (mark_in self.now.contents.items mark ≡ mark_in self.now.contents.items other) }
+    {
+        match (mark, other) {
+            (PlaceMark::Settled, PlaceMark::Settled) => true,
+            (PlaceMark::Torn, PlaceMark::Torn) => true,
+            (PlaceMark::Moved(before), PlaceMark::Moved(other_before)) => {
+                self.is_same_file(before, other_before)
+            },
+            _ => false,
+        }
+    }
+
+    // Whether a place has the file and the mark that an entry has.
+    fn stands(&self, at: usize, place: Place) -> bool
+        requires table { IsTable self.now }
+        requires at { at < length self.now.entries.items }
+        requires within { IsPlaceIn (length self.now.contents.items) place }
+        ensures { Decides result (slot_in self.now.contents.items place ≡ slot_in self.now.contents.items (entry_at self.now at).place) }
+    {
+        let old = self.place_at(at);
+        self.is_same_mark(place.mark, old.mark) && self.is_same_file(place.now, old.now)
+    }
+
+    // Puts another place at an entry, and records it if that is a change. There is room for it.
+    fn change(&mut self, at: usize, place: Place)
+        requires table { IsTable self.old }
+        requires at { at < length self.old.entries.items }
+        requires within { IsPlaceIn (length self.old.contents.items) place }
+        requires room { vec_len self.old.changes < vec_capacity self.old.changes }
+        ensures table { IsTable self.new }
+        ensures makes { Makes (Puts (name_in self.old.names.items (entry_at self.old at).name) (slot_in self.old.contents.items place)) self.old self.new }
+        ensures takes { TakesOne self.old self.new }
+        ensures files { file_count (entries_of self.new) + has_file (slot_in self.old.contents.items (entry_at self.old at).place) ≡ file_count (entries_of self.old) + has_file (slot_in self.old.contents.items place) }
+        ensures names { length self.new.entries.items ≡ length self.old.entries.items }
+    {
+        if self.stands(at, place) {
+            return;
+        }
+        self.put(at, place);
+    }
+
+    // Puts other places at two entries, and records them as one change if they are one. There is room for it.
+    fn change_two(&mut self, at: usize, place: Place, other: usize, other_place: Place)
+        requires table { IsTable self.old }
+        requires at { at < length self.old.entries.items }
+        requires within { IsPlaceIn (length self.old.contents.items) place }
+        requires other { other < length self.old.entries.items }
+        requires other_within { IsPlaceIn (length self.old.contents.items) other_place }
+        requires apart { name_in self.old.names.items (entry_at self.old at).name ≢ name_in self.old.names.items (entry_at self.old other).name }
+        requires room { vec_len self.old.changes < vec_capacity self.old.changes }
+        ensures table { IsTable self.new }
+        ensures makes { Makes (PutsTwo (name_in self.old.names.items (entry_at self.old at).name) (slot_in self.old.contents.items place) (name_in self.old.names.items (entry_at self.old other).name) (slot_in self.old.contents.items other_place)) self.old self.new }
+        ensures takes { TakesOne self.old self.new }
+        ensures files { file_count (entries_of self.new) + (has_file (slot_in self.old.contents.items (entry_at self.old at).place) + has_file (slot_in self.old.contents.items (entry_at self.old other).place)) ≡ file_count (entries_of self.old) + (has_file (slot_in self.old.contents.items place) + has_file (slot_in self.old.contents.items other_place)) }
+        ensures names { length self.new.entries.items ≡ length self.old.entries.items }
+    {
+        if self.stands(at, place) && self.stands(other, other_place) {
+            return;
+        }
+        self.put_two(at, place, other, other_place);
     }
 
     // Puts another place at an entry, and records it. There is room for the change.

@@ -1,3 +1,4 @@
+use crate::table::Table;
 use crate::{MemoryVault, Mortal, Vault, VaultFault, store_file};
 use std::alloc::Global;
 use std::test::Fail;
@@ -86,5 +87,44 @@ fn a_stored_file_survives_a_crash(rt: HostRuntime) -> Result<(), Fail> {
     let mut after = vault.crash(0);
     assert!(rt; has(&mut after, "head", b"second")?);
     assert!(rt; lacks(&mut after, "txn/1")?);
+    Ok(())
+}
+
+#[test]
+fn a_change_that_is_none_is_not_recorded(rt: HostRuntime) -> Result<(), Fail> {
+    let alloc = rt.alloc();
+    let mut table = Table::new(alloc, 8)?;
+    table.write(alloc, "a", b"x", true)?;
+    assert_eq!(rt; table.change_count(), 1);
+    // The same bytes over a torn name, and a removal of it that fails and isn't made.
+    table.write(alloc, "a", b"x", true)?;
+    let _there = table.remove("a", false);
+    assert_eq!(rt; table.change_count(), 1);
+    // A rename that isn't made tears the other name, and then it leaves both.
+    let _there = table.rename(alloc, "a", "b", false)?;
+    assert_eq!(rt; table.change_count(), 2);
+    let _there = table.rename(alloc, "a", "b", false)?;
+    assert_eq!(rt; table.change_count(), 2);
+    // A removal that isn't made moves a settled name, then it tears the moved name, and then it leaves it.
+    let _changed = table.sync();
+    let _there = table.remove("a", false);
+    assert_eq!(rt; table.change_count(), 4);
+    let _there = table.remove("a", false);
+    assert_eq!(rt; table.change_count(), 5);
+    let _there = table.remove("a", false);
+    assert_eq!(rt; table.change_count(), 5);
+    Ok(())
+}
+
+#[test]
+fn the_same_bytes_over_a_settled_name_are_a_change(rt: HostRuntime) -> Result<(), Fail> {
+    let alloc = rt.alloc();
+    let mut table = Table::new(alloc, 4)?;
+    table.write(alloc, "a", b"x", true)?;
+    let _changed = table.sync();
+    table.write(alloc, "a", b"x", true)?;
+    assert_eq!(rt; table.change_count(), 3);
+    table.write(alloc, "a", b"x", true)?;
+    assert_eq!(rt; table.change_count(), 3);
     Ok(())
 }

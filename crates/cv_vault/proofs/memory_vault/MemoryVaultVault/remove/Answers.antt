@@ -1,5 +1,5 @@
 use Rattle.cv_vault.specs.declared.memory_vault.MemoryVault.TheInside.{Inside}
-use Rattle.cv_vault.proofs.Inside.{numbered_answer, remove_calls, remove_failed, removal_room}
+use Rattle.cv_vault.proofs.Inside.{numbered_answer, remove_calls, remove_failed, removal_counted, removal_room}
 use Rattle.cv_vault.proofs.memory_vault.MemoryVaultVault.remove.Goals as goal
 
 pub remove-there-requires-clause-room : goal.remove-there-requires-clause-room
@@ -23,3 +23,8 @@ returns-clause-failed c =
     let after : Inside = record c.self.inside { table = c.remove-there.new.self; schedule = c.next-fate.new.self } in
     rw (← c.self.view_is) (remove_failed c.self.inside after c.args.name.now c.next-fate.result c.remove-there.result c.answer.result c.self.invariant.table c.answer.ensures
     (rw c.makes.ensures at c.remove-there.ensures.there) c.remove-there.ensures.absent (record { fate = n.fate; failing = n.failing; calls = n.calls; faults = n.faults }))
+
+pub returns-clause-counted : goal.returns-clause-counted
+returns-clause-counted c =
+    let after : Inside = record c.self.inside { table = c.remove-there.new.self; schedule = c.next-fate.new.self } in
+    rw (← c.self.view_is) (removal_counted c.self.inside after c.args.name.now c.makes.result c.remove-there.result c.self.invariant.table c.remove-there.ensures.there c.remove-there.ensures.absent)

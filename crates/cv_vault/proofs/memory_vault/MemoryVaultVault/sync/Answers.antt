@@ -1,5 +1,5 @@
 use Rattle.cv_vault.specs.declared.memory_vault.MemoryVault.TheInside.{Inside}
-use Rattle.cv_vault.proofs.Inside.{numbered_failed, sync_calls}
+use Rattle.cv_vault.proofs.Inside.{numbered_failed, sync_calls, sync_counted}
 use Rattle.cv_vault.proofs.memory_vault.MemoryVaultVault.sync.Goals as goal
 
 pub returns-then-fails-clause-numbered : goal.returns-then-fails-clause-numbered
@@ -12,3 +12,8 @@ pub returns-clause-call : goal.returns-clause-call
 returns-clause-call c =
     let after : Inside = record c.self.inside { table = c.sync-changed.new.self; schedule = c.next.new.self } in
     rw (← c.self.view_is) (sync_calls c.self.inside after c.self.invariant.table c.sync-changed.ensures.settles c.sync-changed.ensures.unchanged c.sync-changed.ensures.disk)
+
+pub returns-clause-counted : goal.returns-clause-counted
+returns-clause-counted c =
+    let after : Inside = record c.self.inside { table = c.sync-changed.new.self; schedule = c.next.new.self } in
+    rw (← c.self.view_is) (sync_counted c.self.inside after c.self.invariant.table c.sync-changed.ensures.settles c.sync-changed.ensures.unchanged)

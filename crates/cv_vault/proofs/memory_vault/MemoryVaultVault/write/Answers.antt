@@ -1,5 +1,5 @@
 use Rattle.cv_vault.specs.declared.memory_vault.MemoryVault.TheInside.{Inside}
-use Rattle.cv_vault.proofs.Inside.{kept_entries, kept_then, no_memory, numbered_none, numbered_answer, writes_none_of, write_calls, write_failed}
+use Rattle.cv_vault.proofs.Inside.{kept_entries, kept_then, no_memory, numbered_none, numbered_answer, writes_none_of, write_calls, write_failed, write_counted}
 use Rattle.cv_vault.proofs.memory_vault.MemoryVaultVault.write.Goals as goal
 
 pub returns-in_err-reserve-clause-call : goal.returns-in_err-reserve-clause-call
@@ -46,3 +46,10 @@ returns-clause-failed c =
     let after : Inside = record roomy { table = c.write.new.self } in
     rw (← c.self.view_is) (write_failed c.self.inside roomy after c.args.name.now c.args.bytes.now c.next-fate.result c.answer.result c.reserve.ensures.table
     (kept_entries c.self.inside roomy c.reserve.ensures.entries c.reserve.ensures.past) c.answer.ensures (rw c.makes.ensures at c.in_ok-write.ensures.ok) (record { fate = n.fate; failing = n.failing; calls = n.calls; faults = n.faults }))
+
+pub returns-clause-counted : goal.returns-clause-counted
+returns-clause-counted c =
+    let roomy : Inside = record c.self.inside { table = c.reserve.new.self; schedule = c.next-fate.new.self } in
+    let after : Inside = record roomy { table = c.write.new.self } in
+    rw (← c.self.view_is) (write_counted c.self.inside roomy after c.args.name.now c.args.bytes.now c.makes.result c.reserve.ensures.table
+    (kept_entries c.self.inside roomy c.reserve.ensures.entries c.reserve.ensures.past) c.in_ok-write.ensures.ok)

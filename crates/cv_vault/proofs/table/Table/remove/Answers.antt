@@ -2,7 +2,7 @@ use Rattle.std.proofs.Common.{refl, sym, ap, subst, ◌∙◌}
 use Rattle.std.specs.Prelude.{IsSome}
 use Rattle.cv_vault.specs.Disk.{Slot}
 use Rattle.cv_vault.specs.Events.{Event}
-use Rattle.cv_vault.specs.Table.{entry_at, Adds}
+use Rattle.cv_vault.specs.Table.{entry_at, Makes}
 use Rattle.cv_vault.proofs.Reading.{slot_missing}
 use Rattle.cv_vault.proofs.Steps.{slot_at, present, missing, removal_is}
 use Rattle.cv_vault.proofs.table.Table.remove.Goals as goal
@@ -17,8 +17,8 @@ returns-then-is_none-clause-absent c =
     let t = c.args.self.now in
     (ap (λ (s : Slot). s.now) (slot_at t c.args.name.now c.in-Ok.at c.requires.table c.in-Ok.ensures.found) ∙ missing t.contents.items (entry_at t c.in-Ok.at).place.now (rw c.place_at-place.ensures at c.if-is_none.ensures), refl)
 
-pub put-requires-clause-room : goal.put-requires-clause-room
-put-requires-clause-room c =
+pub change-requires-clause-room : goal.change-requires-clause-room
+change-requires-clause-room c =
     let t = c.args.self.now in
     c.requires.room (subst (λ (s : Slot). IsSome s.now) (sym (slot_at t c.args.name.now c.in-Ok.at c.requires.table c.in-Ok.ensures.found)) (present t.contents.items (entry_at t c.in-Ok.at).place.now (rw c.place_at-place.ensures at c.if-is_none.ensures)))
 
@@ -26,5 +26,5 @@ pub returns-clause-there : goal.returns-clause-there
 returns-clause-there c =
     let t = c.args.self.now in (
       subst (λ (s : Slot). IsSome s.now) (sym (slot_at t c.args.name.now c.in-Ok.at c.requires.table c.in-Ok.ensures.found)) (present t.contents.items (entry_at t c.in-Ok.at).place.now (rw c.place_at-place.ensures at c.if-is_none.ensures)),
-      subst (λ (e : Event). Adds e t c.put.new.self) (removal_is t c.args.name.now c.in-Ok.at c.args.made c.removed.result c.requires.table c.in-Ok.ensures.found (rw c.place_at-place.ensures at c.removed.ensures)) c.put.ensures.adds,
+      subst (λ (e : Event). Makes e t c.change.new.self) (removal_is t c.args.name.now c.in-Ok.at c.args.made c.removed.result c.requires.table c.in-Ok.ensures.found (rw c.place_at-place.ensures at c.removed.ensures)) c.change.ensures.makes,
     )

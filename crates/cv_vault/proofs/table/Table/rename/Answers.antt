@@ -2,9 +2,9 @@ use Rattle.std.proofs.Common.{sym, ap, subst, ◌∙◌}
 use Rattle.std.specs.Prelude.{IsSome}
 use Rattle.cv_vault.specs.Disk.{Disk, Slot}
 use Rattle.cv_vault.specs.Events.{Event, rename_of}
-use Rattle.cv_vault.specs.Table.{entry_at, Adds, table_disk}
+use Rattle.cv_vault.specs.Table.{entry_at, Makes, table_disk}
 use Rattle.cv_vault.proofs.Reading.{slot_missing}
-use Rattle.cv_vault.proofs.Steps.{slot_at, present, missing, adds_after, rename_is}
+use Rattle.cv_vault.proofs.Steps.{slot_at, present, missing, makes_after, rename_is}
 use Rattle.cv_vault.proofs.table.Table.rename.Goals as goal
 
 pub returns-in_default-clause-absent : goal.returns-in_default-clause-absent
@@ -31,9 +31,9 @@ returns-clause-there c =
     let there : IsSome (table_disk u c.args.from.now).now = subst (λ (s : Slot). IsSome s.now) (sym (slot_at u c.args.from.now c.in-Ok.from_at c.in_ok-to_at.ensures.table c.in-Ok.ensures.found))
     (present u.contents.items (entry_at u c.in-Ok.from_at).place.now (rw c.place_at-place.ensures at c.if-is_none.ensures)) in (
       subst (λ (d : Disk). IsSome (d c.args.from.now).now) c.in_ok-to_at.ensures.stays.disk there,
-      adds_after (rename_of (table_disk t) c.args.from.now c.args.to.now c.args.made) t u c.put_two.new.self c.in_ok-to_at.ensures.stays
-          (subst (λ (e : Event). Adds e u c.put_two.new.self)
+      makes_after (rename_of (table_disk t) c.args.from.now c.args.to.now c.args.made) t u c.change_two.new.self c.in_ok-to_at.ensures.stays
+          (subst (λ (e : Event). Makes e u c.change_two.new.self)
           (rename_is u c.args.from.now c.args.to.now c.in-Ok.from_at c.in_ok-to_at.to_at c.args.made c.renamed.result.0 c.renamed.result.1 c.in_ok-to_at.ensures.table c.in-Ok.ensures.found c.in_ok-to_at.ensures.at
           (rw (c.place_at-place.ensures, c.place_at.ensures) at c.renamed.ensures.from) (rw (c.place_at-place.ensures, c.place_at.ensures) at c.renamed.ensures.to)
-          ∙ ap (λ (d : Disk). rename_of d c.args.from.now c.args.to.now c.args.made) c.in_ok-to_at.ensures.stays.disk) c.put_two.ensures.adds),
+          ∙ ap (λ (d : Disk). rename_of d c.args.from.now c.args.to.now c.args.made) c.in_ok-to_at.ensures.stays.disk) c.change_two.ensures.makes),
     )
