@@ -1,12 +1,14 @@
-//! The outside: where bytes come from, where they go, and what time it is. Each has a form in memory.
+//! The outside: where bytes come from and go, where objects stand, and what time it is. Each has a form in memory.
 #![tactic(auto)]
 
 mod clock;
 mod failed;
 mod failing_calls;
 mod memory_clock;
+mod memory_shelf;
 mod memory_sink;
 mod memory_source;
+mod shelf;
 mod sink;
 mod source;
 #[cfg(test)]
@@ -16,7 +18,9 @@ pub use clock::Clock;
 pub use failed::Failed;
 pub use failing_calls::FailingCalls;
 pub use memory_clock::MemoryClock;
+pub use memory_shelf::MemoryShelf;
 pub use memory_sink::MemorySink;
 pub use memory_source::MemorySource;
+pub use shelf::{Shelf, ShelfFault};
 pub use sink::{Sink, write_all};
 pub use source::Source;

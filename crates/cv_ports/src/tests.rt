@@ -2,10 +2,14 @@
 use crate::clock::Clock;
 use crate::failed::Failed;
 use crate::memory_clock::MemoryClock;
+use crate::memory_shelf::MemoryShelf;
 use crate::memory_sink::MemorySink;
 use crate::memory_source::MemorySource;
+use crate::shelf::{Shelf, ShelfFault};
 use crate::sink::{Sink, write_all};
 use crate::source::Source;
+use cv_base::{Bytes, Kind, Object, ObjectId};
+use std::alloc::Global;
 use std::test::Fail;
 
 #[test]
@@ -41,5 +45,57 @@ fn clock_repeats_its_last_moment(rt: HostRuntime) -> Result<(), Fail> {
     assert_eq!(rt; clock.now(), 7);
     assert_eq!(rt; clock.now(), 5);
     assert_eq!(rt; clock.now(), 5);
+    Ok(())
+}
+
+// The SHA-1 of no bytes, and of `hello` and a newline.
+const EMPTY: [u8; 20] = [
+    0xda, 0x39, 0xa3, 0xee, 0x5e, 0x6b, 0x4b, 0x0d, 0x32, 0x55, 0xbf, 0xef, 0x95, 0x60, 0x18, 0x90,
+    0xaf, 0xd8, 0x07, 0x09,
+];
+
+const HELLO: [u8; 20] = [
+    0xf5, 0x72, 0xd3, 0x96, 0xfa, 0xe9, 0x20, 0x66, 0x28, 0x71, 0x4f, 0xb2, 0xce, 0x00, 0xf7, 0x2e,
+    0x94, 0xf2, 0x25, 0x8f,
+];
+
+fn object(alloc: Global, id: ObjectId, bytes: &[u8]) -> Result<Object, Fail> {
+    let bytes = Bytes::from_slice(alloc, bytes)?;
+    Ok(Object { id, bytes })
+}
+
+#[test]
+fn shelf_gives_the_first_of_an_id(rt: HostRuntime) -> Result<(), Fail> {
+    let alloc = rt.alloc();
+    let hello = ObjectId {
+        hash: HELLO,
+        kind: Kind::Plain,
+    };
+    let damaged = ObjectId {
+        hash: HELLO,
+        kind: Kind::History,
+    };
+    let absent = ObjectId {
+        hash: HELLO,
+        kind: Kind::Catalogue,
+    };
+    let mut objects = Vec::new(alloc);
+    objects.push(object(alloc, hello, b"hello\n")?)?;
+    objects.push(object(alloc, damaged, b"")?)?;
+    objects.push(object(alloc, hello, b"hellO\n")?)?;
+    let mut shelf = MemoryShelf::new(alloc, objects, Vec::from_slice(alloc, &[2])?)?;
+    match shelf.fetch(alloc, &hello) {
+        Ok(Some(bytes)) => assert_eq!(rt; bytes.as_slice(), b"hello\n".as_slice()),
+        _ => assert!(rt; false),
+    }
+    assert_eq!(rt; shelf.length(alloc, &hello), Err(ShelfFault::Failed));
+    assert_eq!(rt; shelf.length(alloc, &damaged), Ok(Some(0)));
+    assert_eq!(rt; shelf.length(alloc, &absent), Ok(None));
+    assert!(rt; matches!(shelf.fetch(alloc, &absent), Ok(None)));
+    let fault = ShelfFault::Damaged {
+        id: damaged,
+        found: EMPTY,
+    };
+    assert_eq!(rt; shelf.fetch(alloc, &damaged).err(), Some(fault));
     Ok(())
 }
