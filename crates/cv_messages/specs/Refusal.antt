@@ -1,6 +1,10 @@
 -- Refusals as JSON.
-use Rattle.std.specs.Prelude.{ℕ, List, codes, Option, Some, None}
+use Rattle.std.specs.Prelude.{ℕ, Bool, true, false, not, ◌&&◌, List, [], ◌∷◌, codes, find, Option, Some, None, Result, Ok}
+use Rattle.std.specs.Str.{bytes_eq}
 use Rattle.serde_json.specs.Data.{Data, Members, string, object, member, no_members}
+use Rattle.serde_json.specs.Find.{get}
+use Rattle.cv_messages.specs.Member.{and_then, known, text_member}
+use Rattle.cv_messages.specs.declared.message_fault.MessageFault.{MessageFault}
 use Rattle.cv_messages.specs.declared.member.Member.{Member}
 use Rattle.cv_messages.specs.declared.member.Member.TheVariants.{Path, OldRoot, NewRoot, Tag, SessionToken, Digest, HeaderSize, Status, Reason as TheReason, Other}
 use Rattle.cv_messages.specs.declared.reason.Reason.{Reason}
@@ -50,3 +54,54 @@ refusal_members reason (Some name) = member (codes "member") (string (member_nam
 -- a refusal as JSON
 abbrev pub refusal_data : Refusal → Data
 refusal_data refusal = object (refusal_members refusal.reason refusal.member)
+
+abbrev pub reasons : List Reason
+reasons =
+    reason.BadPath ∷ reason.TooManyLeases ∷ reason.NoParent ∷ reason.InvalidToken ∷ reason.WrongKey ∷ reason.JournalFull
+    ∷ reason.NoMemory ∷ reason.NoAuthorization ∷ reason.BadAuthorization ∷ reason.UnknownKey ∷ reason.WrongMac
+    ∷ reason.NotJson ∷ reason.MissingMember ∷ reason.WrongType ∷ reason.BadValue ∷ reason.UnknownRepository ∷ []
+
+-- the reason whose text a text is
+abbrev pub reason_of : List ℕ → Option Reason
+reason_of text = find (λ why. bytes_eq (reason_text why) text) reasons
+
+-- the members that a refusal can name
+abbrev pub named_members : List Member
+named_members = Path ∷ OldRoot ∷ NewRoot ∷ Tag ∷ SessionToken ∷ Digest ∷ HeaderSize ∷ Status ∷ TheReason ∷ []
+
+-- the member whose name a text is
+abbrev pub member_of : List ℕ → Option Member
+member_of text = find (λ name. bytes_eq (member_name name) text) named_members
+
+-- a refusal for this reason names a member
+abbrev pub names_member : Reason → Bool
+names_member reason.MissingMember = true
+names_member reason.WrongType = true
+names_member reason.BadValue = true
+names_member _ = false
+
+-- a member that has a name of its own
+abbrev pub is_named : Member → Bool
+is_named Other = false
+is_named _ = true
+
+abbrev pub fits_reason : Reason → Option Member → Bool
+fits_reason why None = not (names_member why)
+fits_reason why (Some name) = names_member why && is_named name
+
+-- a refusal names a member exactly where its reason asks for one, and one that has a name of its own
+abbrev pub is_refusal : Refusal → Bool
+is_refusal refusal = fits_reason refusal.reason refusal.member
+
+-- the member that a refusal for this reason names
+abbrev pub refused_member : Bool → Data → Result (Option Member) MessageFault
+refused_member false d = Ok None
+refused_member true d =
+    and_then (text_member Other (get (codes "member") d)) (λ text. and_then (known Other (member_of text)) (λ name. Ok (Some name)))
+
+-- the refusal that an object says, or its first fault
+abbrev pub refusal_in : Data → Result Refusal MessageFault
+refusal_in d =
+    and_then (text_member TheReason (get (codes "reason") d)) (λ text.
+    and_then (known TheReason (reason_of text)) (λ why.
+    and_then (refused_member (names_member why) d) (λ name. Ok (record { reason = why; member = name }))))

@@ -1,10 +1,13 @@
 //! Answers of the gateway.
-ghost use Rattle.std.specs.Prelude.{◌≡◌, Some, IfOk};
+ghost use Rattle.std.specs.Prelude.{◌≡◌, true, Ok, Err, IfOk, MatchResult};
 ghost use Rattle.serde_json.specs.Written.{compact_text};
-ghost use Rattle.cv_messages.specs.ObjectText.{object_in};
+ghost use Rattle.cv_messages.specs.Member.{IsSaid};
 
 use crate::answer_value::answer_value;
 use crate::lease_items::LeaseItems;
+use crate::message_fault::MessageFault;
+use crate::object_text::read_object;
+use crate::read_answer::read_answer;
 use crate::refusal::Refusal;
 use crate::texts::Texts;
 use crate::write_value::write_value;
@@ -42,11 +45,29 @@ pub enum Answer {
 
 impl Answer {
     ghost use Rattle.cv_messages.specs.Answer.{answer_data};
+    ghost use Rattle.cv_messages.specs.AnswerText.{is_answer, answer_of};
+
+    /// The answer that bytes say: a JSON object. Other members are passed over, and of a member that
+    /// stands twice the last counts.
+    pub fn read(alloc: Global, bytes: &[u8]) -> Result<Answer, MessageFault>
+        ensures answer { MatchResult result (λ answer. answer_of bytes.now ≡ Ok answer) (λ fault. IsSaid fault (answer_of bytes.now ≡ Err fault)) }
+
+        // What was read can be written.
+        ensures writable { IfOk result (λ answer. is_answer answer ≡ true) }
+    {
+        let value = match read_object(alloc, bytes) {
+            Ok(Some(value)) => value,
+            Ok(None) => return Err(MessageFault::NotJson),
+            Err(NoMemory) => return Err(MessageFault::NoMemory),
+        };
+        read_answer(alloc, &value)
+    }
 
     /// The answer as compact JSON, with members in ascending order.
     pub fn write(&self, alloc: Global) -> Result<Vec<u8>, NoMemory>
+        requires { is_answer self.now ≡ true }
         ensures text { IfOk result (λ bytes. bytes.items ≡ compact_text (answer_data self.now)) }
-        ensures reads_back { IfOk result (λ bytes. object_in bytes.items ≡ Some (answer_data self.now)) }
+        ensures reads_back { IfOk result (λ bytes. answer_of bytes.items ≡ Ok self.now) }
     {
         let value = answer_value(alloc, self)?;
         write_value(alloc, &value)

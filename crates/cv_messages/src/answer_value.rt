@@ -1,9 +1,12 @@
 //! Answers as JSON values.
 ghost use Rattle.std.specs.Prelude.{◌≡◌, map, codes, IfOk};
+ghost use Rattle.cv_base.specs.Digest.{IsDigest};
 ghost use Rattle.serde_json.specs.Data.{string, number, unsigned, object, member, no_members};
 ghost use Rattle.serde_json.specs.View.{view};
 ghost use Rattle.cv_messages.specs.Refusal.{member_name, refusal_data};
 ghost use Rattle.cv_messages.specs.Answer.{granted_data, done_data, committed_data, lease_item_data, leases_data, repos_data, path_busy_data, answer_data};
+ghost use Rattle.cv_messages.specs.Spelling.{IsToken};
+ghost use Rattle.cv_messages.specs.AnswerText.{IsWhole};
 
 use crate::answer::Answer;
 use crate::lease_item::LeaseItem;
@@ -14,7 +17,8 @@ use std::alloc::{AllocError, Global};
 
 /// An answer as JSON.
 pub(crate) fn answer_value(alloc: Global, answer: &Answer) -> Result<Value, NoMemory>
-    ensures { IfOk result (λ value. view value ≡ answer_data answer.now) }
+    ensures json { IfOk result (λ value. view value ≡ answer_data answer.now) }
+    ensures whole { IsWhole answer.now }
 {
     match answer {
         Answer::Granted {
@@ -38,7 +42,9 @@ fn granted_value(
     revision: u64,
     root: &[u8; 20],
 ) -> Result<Value, NoMemory>
-    ensures { IfOk result (λ value. view value ≡ granted_data token revision root.now) }
+    ensures json { IfOk result (λ value. view value ≡ granted_data token revision root.now) }
+    ensures token { IsToken token }
+    ensures root { IsDigest root.now }
 {
     let token = token.text(alloc)?;
     let root = digest_text(alloc, root)?;
@@ -59,7 +65,8 @@ fn done_value(alloc: Global) -> Result<Value, AllocError>
 
 /// A revision that was made.
 fn committed_value(alloc: Global, revision: u64, root: &[u8; 20]) -> Result<Value, NoMemory>
-    ensures { IfOk result (λ value. view value ≡ committed_data revision root.now) }
+    ensures json { IfOk result (λ value. view value ≡ committed_data revision root.now) }
+    ensures root { IsDigest root.now }
 {
     let root = digest_text(alloc, root)?;
     Ok(json!(in alloc; {
@@ -122,7 +129,8 @@ fn repos_value(alloc: Global, names: &[Text]) -> Result<Value, NoMemory>
 
 /// A live lease that overlaps.
 fn path_busy_value(alloc: Global, token: Token, remaining: u64) -> Result<Value, NoMemory>
-    ensures { IfOk result (λ value. view value ≡ path_busy_data token remaining) }
+    ensures json { IfOk result (λ value. view value ≡ path_busy_data token remaining) }
+    ensures token { IsToken token }
 {
     let token = token.text(alloc)?;
     Ok(json!(in alloc; {

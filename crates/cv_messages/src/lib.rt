@@ -7,8 +7,10 @@ mod lease_ask;
 mod lease_item;
 mod lease_items;
 mod member;
+mod members;
 mod message_fault;
 mod object_text;
+mod read_answer;
 mod reason;
 mod refusal;
 #[cfg(test)]

@@ -1,6 +1,19 @@
 //! The members that faults name.
 ghost use Rattle.std.specs.Prelude.{◌≡◌};
 
+/// The members that have a name of their own.
+const NAMED: [Member; 9] = [
+    Member::Path,
+    Member::OldRoot,
+    Member::NewRoot,
+    Member::Tag,
+    Member::SessionToken,
+    Member::Digest,
+    Member::HeaderSize,
+    Member::Status,
+    Member::Reason,
+];
+
 /// A member of a message or an answer, as faults name it.
 #[derive(Clone, Copy, Debug, PartialEq, Eq)]
 pub enum Member {
@@ -27,7 +40,14 @@ pub enum Member {
 }
 
 impl Member {
-    ghost use Rattle.cv_messages.specs.Refusal.{member_name};
+    ghost use Rattle.cv_messages.specs.Refusal.{member_name, member_of};
+
+    /// The member whose name a text is. None for any other text, also for `other`.
+    pub(crate) fn read(text: &str) -> Option<Member>
+        ensures { result ≡ member_of text.now }
+    {
+        NAMED.iter().copied().find(|member| member.as_str() == text)
+    }
 
     /// The member's name in JSON.
     pub fn as_str(self) -> &'static str

@@ -1,6 +1,26 @@
 //! Reasons of refusals.
 ghost use Rattle.std.specs.Prelude.{◌≡◌};
 
+/// All reasons.
+const REASONS: [Reason; 16] = [
+    Reason::BadPath,
+    Reason::TooManyLeases,
+    Reason::NoParent,
+    Reason::InvalidToken,
+    Reason::WrongKey,
+    Reason::JournalFull,
+    Reason::NoMemory,
+    Reason::NoAuthorization,
+    Reason::BadAuthorization,
+    Reason::UnknownKey,
+    Reason::WrongMac,
+    Reason::NotJson,
+    Reason::MissingMember,
+    Reason::WrongType,
+    Reason::BadValue,
+    Reason::UnknownRepository,
+];
+
 /// Why a request is refused.
 #[derive(Clone, Copy, Debug, PartialEq, Eq)]
 pub enum Reason {
@@ -39,7 +59,27 @@ pub enum Reason {
 }
 
 impl Reason {
-    ghost use Rattle.cv_messages.specs.Refusal.{reason_text};
+    ghost use Rattle.cv_messages.specs.Refusal.{reason_text, reason_of, names_member};
+
+    /// The reason whose text a text is.
+    pub(crate) fn read(text: &str) -> Option<Reason>
+        ensures { result ≡ reason_of text.now }
+    {
+        REASONS
+            .iter()
+            .copied()
+            .find(|reason| reason.as_str() == text)
+    }
+
+    /// Whether a refusal for this reason names a member.
+    pub(crate) fn names_member(self) -> bool
+        ensures { result ≡ names_member self }
+    {
+        matches!(
+            self,
+            Reason::MissingMember | Reason::WrongType | Reason::BadValue
+        )
+    }
 
     /// The reason's text.
     pub fn as_str(self) -> &'static str

@@ -1,0 +1,70 @@
+//! Members of objects, each judged for being there, for its type and for its value.
+ghost use Rattle.std.specs.Prelude.{◌≡◌, Ok, Err, MatchResult};
+ghost use Rattle.serde_json.specs.Find.{get};
+ghost use Rattle.serde_json.specs.View.{view};
+ghost use Rattle.cv_messages.specs.Member.{text_member, number_member, token_member, digest_member};
+
+use crate::member::Member;
+use crate::message_fault::MessageFault;
+use cv_base::{Token, read_digest};
+use serde_json::Value;
+
+/// The text of a member.
+pub(crate) fn text_member<'a>(
+    value: &'a Value,
+    key: &str,
+    name: Member,
+) -> Result<&'a str, MessageFault>
+    ensures { MatchResult result (λ text. text_member name (get key.now (view value.now)) ≡ Ok text.now)
+        (λ fault. text_member name (get key.now (view value.now)) ≡ Err fault) }
+{
+    let Some(member) = value.get(key) else {
+        return Err(MessageFault::Missing(name));
+    };
+    match member.as_str() {
+        Some(text) => Ok(text),
+        None => Err(MessageFault::WrongType(name)),
+    }
+}
+
+/// The whole number of a member.
+pub(crate) fn number_member(value: &Value, key: &str, name: Member) -> Result<u64, MessageFault>
+    ensures { result ≡ number_member name (get key.now (view value.now)) }
+{
+    let Some(member) = value.get(key) else {
+        return Err(MessageFault::Missing(name));
+    };
+    let Some(number) = member.as_number() else {
+        return Err(MessageFault::WrongType(name));
+    };
+    number.as_u64().ok_or(MessageFault::BadValue(name))
+}
+
+/// The token of a member.
+pub(crate) fn token_member(value: &Value, key: &str, name: Member) -> Result<Token, MessageFault>
+    ensures { result ≡ token_member name (get key.now (view value.now)) }
+{
+    let text = text_member(value, key, name)?;
+    match Token::read(text) {
+        Some(token) => {
+            let Token { epoch, number } = token;
+            Ok(Token { epoch, number })
+        }
+        None => Err(MessageFault::BadValue(name)),
+    }
+}
+
+/// The digest of a member.
+pub(crate) fn digest_member(
+    value: &Value,
+    key: &str,
+    name: Member,
+) -> Result<[u8; 20], MessageFault>
+    ensures { result ≡ digest_member name (get key.now (view value.now)) }
+{
+    let text = text_member(value, key, name)?;
+    match read_digest(text.as_bytes()) {
+        Some(hash) => Ok(hash),
+        None => Err(MessageFault::BadValue(name)),
+    }
+}
