@@ -1,0 +1,11 @@
+pub mod Clear
+pub mod Cuts
+pub mod Endings
+pub mod Ends
+pub mod Exact
+pub mod OneFault
+pub mod Progress
+pub mod Puts
+pub mod Shown
+pub mod Splits
+pub mod Written

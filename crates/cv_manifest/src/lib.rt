@@ -1,0 +1,17 @@
+//! The manifest of a repository: its newest head under a seal, both ways.
+#![tactic(auto)]
+
+mod field;
+mod fields;
+mod head;
+mod line;
+mod manifest;
+mod manifest_fault;
+mod parts;
+#[cfg(test)]
+mod tests;
+mod values;
+
+pub use head::Head;
+pub use manifest::Manifest;
+pub use manifest_fault::ManifestFault;
