@@ -1,0 +1,11 @@
+pub mod ChainLaws
+pub mod FieldFaults
+pub mod FieldOrder
+pub mod NoFaults
+pub mod Places
+pub mod RecordReading
+pub mod Spelling
+pub mod TextFaults
+pub mod TextValues
+pub mod WalksBack
+pub mod Written

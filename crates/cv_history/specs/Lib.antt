@@ -1,0 +1,4 @@
+pub mod Record
+pub mod Faults
+pub mod Reading
+pub mod Chain

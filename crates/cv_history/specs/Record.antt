@@ -1,0 +1,67 @@
+-- A record of the history, and its bytes.
+use Rattle.std.specs.Prelude.{◌≡◌, ◌≤◌, ◌<◌, ◌^◌, ℕ, Bool, true, nat_le, List, [], ◌∷◌, length, codes, replicate}
+use Rattle.std.specs.Int.{w16, w64, to_be_bytes}
+use Rattle.std.specs.List.{concat, list_all}
+use Rattle.cv_base.specs.Digest.{IsDigest}
+use Rattle.cv_base.specs.Path.{IsPath, text_of}
+use Rattle.cv_base.specs.Target.{is_target}
+use Rattle.cv_history.specs.declared.record.Record.{Record}
+
+-- the bytes of a record, field by field: numbers with the highest byte first, and each text behind its length
+abbrev pub fields : Record → List (List ℕ)
+fields r =
+    codes "CVH1" ∷ to_be_bytes w64 r.revision
+    ∷ r.previous ∷ r.root ∷ r.offered
+    ∷ to_be_bytes w64 r.token.epoch ∷ to_be_bytes w64 r.token.number
+    ∷ to_be_bytes w16 (length (text_of r.path)) ∷ text_of r.path
+    ∷ to_be_bytes w16 (length r.key) ∷ r.key
+    ∷ to_be_bytes w64 r.time
+    ∷ to_be_bytes w16 (length r.tag) ∷ r.tag ∷ []
+
+abbrev pub record_bytes : Record → List ℕ
+record_bytes r = concat (fields r)
+
+-- the previous hash of the first record
+abbrev pub no_hash : List ℕ
+no_hash = replicate 20 0
+
+-- a byte of a tag, which is no control byte
+abbrev pub is_tag_byte : ℕ → Bool
+is_tag_byte b = nat_le 32 b
+
+-- the first record has no predecessor, and no lease led to it
+pub record IsFirst (r : Record) : Type 0 where
+  pub previous : r.previous ≡ no_hash
+  pub offered : r.offered ≡ r.root
+  pub epoch : r.token.epoch ≡ 0
+  pub number : r.token.number ≡ 0
+  pub path : r.path ≡ []
+  pub key : r.key ≡ []
+  pub tag : r.tag ≡ []
+
+-- the limits of a record
+pub record IsRecord (r : Record) : Type 0 where
+  pub from_one : 1 ≤ r.revision
+  pub revision : r.revision ≤ 262144
+  pub key : length r.key ≤ 255
+  pub time : r.time < 2 ^ 62
+  pub tag : length r.tag ≤ 255
+  pub tag_bytes : list_all is_tag_byte r.tag ≡ true
+  pub first : r.revision ≡ 1 → IsFirst r
+
+-- what the types of its fields say of every record
+pub record IsTyped (r : Record) : Type 0 where
+  pub previous : IsDigest r.previous
+  pub root : IsDigest r.root
+  pub offered : IsDigest r.offered
+  pub epoch : r.token.epoch < 2 ^ 64
+  pub number : r.token.number < 2 ^ 64
+  pub path : IsPath r.path
+  pub key : is_target r.key ≡ true
+  pub tag : is_target r.tag ≡ true
+
+-- the bytes spell the record
+pub record Spells (text : List ℕ) (r : Record) : Type 0 where
+  pub typed : IsTyped r
+  pub limits : IsRecord r
+  pub bytes : text ≡ record_bytes r
