@@ -1,0 +1,16 @@
+//! The published tree of a repository, as a map from paths to nodes.
+#![tactic(auto)]
+
+mod joined;
+mod node;
+mod node_map;
+mod part;
+#[cfg(test)]
+mod tests;
+mod tree;
+mod tree_fault;
+
+pub use node::{FileRef, Node};
+pub use part::Part;
+pub use tree::Tree;
+pub use tree_fault::TreeFault;

@@ -1,0 +1,108 @@
+//! Trees.
+ghost use Rattle.std.specs.Prelude.{◌≡◌, IfOk, IfSome, OnOk, OnErr};
+ghost use Rattle.std.specs.Option.{option_copied};
+ghost use Rattle.std.specs.FinMap as map;
+ghost use Rattle.cv_tree.specs.declared.node.Node.TheVariants.{Dir};
+ghost use Rattle.cv_tree.specs.Node.{IsNode, IsAttr};
+ghost use Rattle.cv_tree.specs.Tree.{IsPart, IsTree, single, put};
+ghost use Rattle.cv_tree.specs.Changes.{insertion, replacement, subtree_of, IsUnlessMemory, nodes_of, FitsUnder, IsTreeAtRoot};
+
+use crate::node::Node;
+use crate::node_map::NodeMap;
+use crate::part::Part;
+use crate::tree_fault::TreeFault;
+use cv_base::{Attr, NoMemory, RepoPath};
+use std::alloc::Global;
+use std::marker::Model;
+
+/// The tree of a repository. Clauses see it as a finite map from paths to nodes, in which the root is a
+/// directory, and so is the parent of every other path.
+#[derive(Drop)]
+pub struct Tree {
+    nodes: NodeMap,
+}
+
+impl Model for Tree {
+    ghost use Rattle.std.specs.FinMap as map;
+    ghost use Rattle.std.specs.Coded.{coded_ℕ, coded_list};
+    ghost use Rattle.cv_base.specs.Path.{path_cmp};
+    ghost use Rattle.cv_tree.specs.declared.node.Node.{Node};
+    ghost use Rattle.cv_tree.specs.contracts.node.Node as node;
+    ghost use Rattle.cv_tree.specs.Tree.{IsTree};
+
+    ghost Value = { map.FinMap path_cmp Node };
+
+    ghost coded = { map.code (coded_list (coded_list coded_ℕ)) node.the_row.coded };
+
+    ghost view = { λ a. a.nodes };
+
+    ghost invariant = { λ a. IsTree a.nodes };
+}
+
+impl Tree {
+    /// A tree of one directory, the root.
+    pub fn new(alloc: Global, root: Attr) -> Result<Tree, NoMemory>
+        requires { IsAttr root }
+        ensures { IfOk result (λ tree. tree ≡ single (Dir root)) }
+    {
+        let nodes = NodeMap::single(alloc, Node::Dir(root))?;
+        Ok(Tree { nodes })
+    }
+
+    /// The node at a path.
+    pub fn get(&self, path: &RepoPath) -> Option<&Node>
+        ensures value { option_copied result ≡ map.get self.now path.now }
+        ensures tree { IsTree self.now }
+        ensures limits { IfSome result (λ node. IsNode node.now) }
+    {
+        self.nodes.get(path)
+    }
+
+    /// A copy of what stands at a path and below it. None where nothing stands at the path.
+    pub fn subtree(&self, alloc: Global, path: &RepoPath) -> Result<Option<Part>, NoMemory>
+        ensures { IfOk result (λ found. found ≡ subtree_of self.now path.now) }
+    {
+        if self.nodes.get(path).is_none() {
+            return Ok(None);
+        }
+        let nodes = self.nodes.at(alloc, path)?;
+        Ok(Some(Part { nodes }))
+    }
+
+    /// Adds a node at a path that is not there yet. A refusal changes nothing.
+    pub fn insert(&mut self, path: &RepoPath, node: Node) -> Result<(), TreeFault>
+        requires { IsNode node }
+        ensures answer { IsUnlessMemory result (insertion self.old path.now) }
+        ensures ok { OnOk result (self.new ≡ map.insert self.old path.now node) }
+        ensures err { OnErr result (self.new ≡ self.old) }
+    {
+        self.nodes.add(path, node)
+    }
+
+    /// Takes out all that stands at a path and below it, and sets the part there, if there is one. It
+    /// never answers that the path exists. A refusal changes nothing: the new map is made beside the old
+    /// one, so that it takes memory for both.
+    pub fn replace(&mut self, path: &RepoPath, part: Option<Part>) -> Result<(), TreeFault>
+        // At the root there has to be a part, whose root is a directory.
+        requires root { IsTreeAtRoot path.now (nodes_of part) }
+        // The paths of the part keep the limits of a path behind this one.
+        requires limits { IfSome part (FitsUnder path.now) }
+        ensures answer { IsUnlessMemory result (replacement self.old path.now) }
+        ensures ok { OnOk result (self.new ≡ put self.old path.now (nodes_of part)) }
+        ensures err { OnErr result (self.new ≡ self.old) }
+    {
+        let nodes = nodes_of(self.nodes.alloc(), part);
+        self.nodes.replace(path, nodes)
+    }
+}
+
+/// The nodes of a part, or none.
+fn nodes_of(alloc: Global, part: Option<Part>) -> NodeMap
+    ensures nodes { result ≡ nodes_of part }
+    ensures part { IfSome part IsPart }
+{
+    match part {
+        Some(part) => part.nodes,
+        None => NodeMap::new(alloc),
+    }
+}
