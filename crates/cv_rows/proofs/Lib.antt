@@ -1,0 +1,17 @@
+pub mod Sizes
+pub mod Texts
+pub mod FieldLaws
+pub mod Loop
+pub mod RowFields
+pub mod FileLaws
+pub mod RowLaws
+pub mod Sorting
+pub mod ParentLaws
+pub mod Steps
+pub mod RootLaws
+pub mod Reach
+pub mod PlaceLaws
+pub mod Walks
+pub mod MarkerLaws
+pub mod NestedLaws
+pub mod RuleLaws

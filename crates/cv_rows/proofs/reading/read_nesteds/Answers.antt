@@ -1,0 +1,17 @@
+use Rattle.std.proofs.lemmas.Result.{err_from_is_err_and}
+use Rattle.cv_rows.specs.Reading.{nested_at, many_at}
+use Rattle.cv_rows.proofs.Loop.{goes_on, ends, is_done}
+use Rattle.cv_rows.proofs.reading.read_nesteds.Goals as goal
+
+pub returns-in_err-entry : goal.returns-in_err-entry
+returns-in_err-entry c =
+    let p = err_from_is_err_and c.from_residual.result c.from_residual.ensures.1 in
+    rw (p.1, p.2) (ends (nested_at c.args.all) c.in_err-entry.field-0.0 c.loop.nested.items c.args.count c.loop.counter c.loop.rest.now (many_at (nested_at c.args.all) c.args.count c.args.text.now) c.loop-test.true c.in_err-entry.ensures c.loop.invariant)
+
+pub loop-preserved : goal.loop-preserved
+loop-preserved c =
+    rw c.in_ok-push.ensures.items (goes_on (nested_at c.args.all) c.loop.nested.items c.args.count c.loop.counter c.loop.rest.now c.in_ok-entry.entry c.in_ok-entry.after.now (many_at (nested_at c.args.all) c.args.count c.args.text.now) c.loop-test.true c.in_ok-entry.ensures c.loop.invariant)
+
+pub returns : goal.returns
+returns c =
+    is_done (nested_at c.args.all) c.loop.nested.items c.args.count c.loop.counter c.loop.rest.now (many_at (nested_at c.args.all) c.args.count c.args.text.now) c.loop-test.false c.loop.invariant

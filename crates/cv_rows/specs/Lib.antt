@@ -1,0 +1,9 @@
+pub mod Catalogue
+pub mod Faults
+pub mod Markers
+pub mod Nested
+pub mod NestedList
+pub mod Parents
+pub mod Places
+pub mod Reading
+pub mod Row

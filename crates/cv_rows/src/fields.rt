@@ -1,0 +1,348 @@
+//! The fields of row files, read at the front of bytes. `all` is the count of all bytes of the file, by
+//! which a fault names the offset of a field. Each function gives what follows its field too.
+ghost use Rattle.std.specs.Prelude.{◌≡◌, true, false, IfOk, MatchOption};
+ghost use Rattle.std.specs.Int.{w16, w32, w64};
+ghost use Rattle.cv_rows.specs.Reading.{Gives, bad, number_at, bytes_at, kind_of, kind_at, attr_at, permissions, is_size, size_at, hash_at, length_at, name_at, row_name_of, target_limit, is_size_of, target_at, only_path, path_named, path_at};
+ghost use Rattle.std.specs.Str.{is_utf8};
+ghost use Rattle.cv_base.specs.PathText.{path_of};
+ghost use Rattle.cv_base.specs.Target.{target_of};
+ghost use Rattle.cv_rows.specs.Row.{is_row_name};
+
+use crate::row_fault::RowFault;
+use crate::row_kind::RowKind;
+use cv_base::{
+    Attr, NoMemory, PathFault, PathKey, RepoPath, TARGET_LIMIT, Target, is_path_name, split_u16,
+    split_u32, split_u64,
+};
+use std::alloc::Global;
+
+/// The most bytes of a name.
+const NAME_LIMIT: usize = 255;
+
+/// The most bytes of the text of a path.
+const PATH_LIMIT: usize = 4095;
+
+/// The fault that the field which begins with this text isn't as it has to be.
+pub fn bad(all: usize, text: &[u8]) -> RowFault
+    ensures { result ≡ bad all text.now }
+{
+    RowFault::BadField(all.saturating_sub(text.len()))
+}
+
+/// A number of two bytes.
+fn read_u16(text: &[u8]) -> Result<(u16, &[u8]), RowFault>
+    ensures { Gives (λ x. (x.0, x.1.now)) result (number_at w16 text.now) }
+{
+    split_u16(text).ok_or(RowFault::Short)
+}
+
+/// A number of four bytes.
+pub fn read_u32(text: &[u8]) -> Result<(u32, &[u8]), RowFault>
+    ensures { Gives (λ x. (x.0, x.1.now)) result (number_at w32 text.now) }
+{
+    split_u32(text).ok_or(RowFault::Short)
+}
+
+/// A number of eight bytes.
+pub fn read_u64(text: &[u8]) -> Result<(u64, &[u8]), RowFault>
+    ensures { Gives (λ x. (x.0, x.1.now)) result (number_at w64 text.now) }
+{
+    split_u64(text).ok_or(RowFault::Short)
+}
+
+/// So many bytes.
+pub fn read_bytes(text: &[u8], len: usize) -> Result<(&[u8], &[u8]), RowFault>
+    ensures { Gives (λ x. (x.0.now, x.1.now)) result (bytes_at len text.now) }
+{
+    if text.len() < len {
+        return Err(RowFault::Short);
+    }
+    Ok(text.split_at(len))
+}
+
+/// Twenty bytes.
+pub fn read_digest(text: &[u8]) -> Result<([u8; 20], &[u8]), RowFault>
+    ensures { Gives (λ x. (x.0, x.1.now)) result (bytes_at 20 text.now) }
+{
+    match text.split_first_chunk::<20>() {
+        Some((digest, rest)) => Ok((*digest, rest)),
+        None => Err(RowFault::Short),
+    }
+}
+
+/// A key.
+pub fn read_key(text: &[u8]) -> Result<(PathKey, &[u8]), RowFault>
+    ensures { Gives (λ x. (x.0.0, x.1.now)) result (bytes_at 16 text.now) }
+{
+    match text.split_first_chunk::<16>() {
+        Some((key, rest)) => Ok((PathKey(*key), rest)),
+        None => Err(RowFault::Short),
+    }
+}
+
+/// The kind that these flags stand for.
+fn kind_of_flags(flags: u32) -> Option<RowKind>
+    ensures { result ≡ kind_of flags }
+{
+    match flags {
+        1 => Some(RowKind::Directory),
+        3 => Some(RowKind::Transition),
+        33 => Some(RowKind::NestedRoot),
+        4 => Some(RowKind::File),
+        12 => Some(RowKind::Link),
+        _ => None,
+    }
+}
+
+/// The flags.
+#[tactic(auto, unfolding(crate::specs::Reading::kind_at))]
+pub fn read_kind(all: usize, text: &[u8]) -> Result<(RowKind, &[u8]), RowFault>
+    ensures { Gives (λ x. (x.0, x.1.now)) result (kind_at all text.now) }
+{
+    let (flags, rest) = read_u32(text)?;
+    match kind_of_flags(flags) {
+        Some(kind) => Ok((kind, rest)),
+        None => Err(bad(all, text)),
+    }
+}
+
+/// The permission bits in a mode of this kind.
+fn permissions(kind: RowKind, mode: u32) -> Option<u32>
+    ensures { result ≡ permissions kind mode }
+{
+    let bits = kind.type_bits();
+    if bits <= mode && mode < bits + 0o10000 {
+        Some(mode - bits)
+    } else {
+        None
+    }
+}
+
+/// The mode, the time, the user and the group.
+#[tactic(auto, unfolding(crate::specs::Reading::attr_at))]
+pub fn read_attr(all: usize, kind: RowKind, text: &[u8]) -> Result<(Attr, &[u8]), RowFault>
+    ensures { Gives (λ x. (x.0, x.1.now)) result (attr_at all kind text.now) }
+{
+    let (mode, rest) = read_u32(text)?;
+    let Some(mode) = permissions(kind, mode) else {
+        return Err(bad(all, text));
+    };
+    let (mtime, rest) = read_u64(rest)?;
+    let (uid, rest) = read_u32(rest)?;
+    let (gid, rest) = read_u32(rest)?;
+    let attr = Attr {
+        mode,
+        mtime,
+        uid,
+        gid,
+    };
+    Ok((attr, rest))
+}
+
+/// Whether a row of this kind may have this size.
+fn is_size(kind: RowKind, size: u64) -> bool
+    ensures { result ≡ is_size kind size }
+{
+    match kind {
+        RowKind::Directory | RowKind::Transition | RowKind::NestedRoot => size == 0,
+        RowKind::File => size <= 16_777_216,
+        RowKind::Link => 1 <= size && size <= 4095,
+    }
+}
+
+/// The size.
+#[tactic(auto, unfolding(crate::specs::Reading::size_at))]
+pub fn read_size(all: usize, kind: RowKind, text: &[u8]) -> Result<(u64, &[u8]), RowFault>
+    ensures { Gives (λ x. (x.0, x.1.now)) result (size_at all kind text.now) }
+{
+    let (size, rest) = read_u64(text)?;
+    if is_size(kind, size) {
+        Ok((size, rest))
+    } else {
+        Err(bad(all, text))
+    }
+}
+
+/// The hash, with its length.
+#[tactic(auto, unfolding(crate::specs::Reading::hash_at))]
+pub fn read_hash(
+    all: usize,
+    kind: RowKind,
+    text: &[u8],
+) -> Result<(Option<[u8; 20]>, &[u8]), RowFault>
+    ensures { Gives (λ x. (x.0, x.1.now)) result (hash_at all kind text.now) }
+{
+    match (kind, text) {
+        (_, []) => Err(RowFault::Short),
+        (RowKind::File, [20, rest @ ..]) => {
+            let (hash, rest) = read_digest(rest)?;
+            Ok((Some(hash), rest))
+        }
+        (RowKind::File, _) => Err(bad(all, text)),
+        (_, [0, rest @ ..]) => Ok((None, rest)),
+        _ => Err(bad(all, text)),
+    }
+}
+
+/// The length of a text of at most `limit` bytes.
+#[tactic(auto, unfolding(crate::specs::Reading::length_at))]
+pub fn read_length(all: usize, limit: usize, text: &[u8]) -> Result<(usize, &[u8]), RowFault>
+    ensures { Gives (λ x. (x.0, x.1.now)) result (length_at all limit text.now) }
+{
+    let (len, rest) = read_u16(text)?;
+    let len = usize::from(len);
+    if len <= limit {
+        Ok((len, rest))
+    } else {
+        Err(bad(all, text))
+    }
+}
+
+/// Whether a text is the name of a row with this parent key.
+fn is_row_name(parent: &PathKey, name: &str) -> bool
+    ensures { result ≡ is_row_name parent.now.0 name.now }
+{
+    if name.is_empty() {
+        parent.0 == [0; 16]
+    } else {
+        is_path_name(name)
+    }
+}
+
+/// The name of a row with this parent key.
+#[tactic(auto, unfolding(crate::specs::Reading::name_at))]
+pub fn read_name<'a>(
+    alloc: Global,
+    all: usize,
+    parent: &PathKey,
+    text: &'a [u8],
+) -> Result<(Target, &'a [u8]), RowFault>
+    ensures { Gives (λ x. (x.0, x.1.now)) result (name_at all parent.now.0 text.now) }
+{
+    let (len, rest) = read_length(all, NAME_LIMIT, text)?;
+    let (name, after) = read_bytes(rest, len)?;
+    match name_of(alloc, parent, name) {
+        Ok(Some(name)) => Ok((name, after)),
+        Ok(None) => Err(bad(all, rest)),
+        Err(NoMemory) => Err(RowFault::NoMemory),
+    }
+}
+
+/// The text that these bytes are, if they are UTF-8.
+fn as_text(bytes: &[u8]) -> Option<&str>
+    ensures { MatchOption result (is_utf8 bytes.now ≡ false) (λ text. (text.now ≡ bytes.now) × (is_utf8 bytes.now ≡ true)) }
+{
+    match std::str::from_utf8(bytes) {
+        Ok(text) => Some(text),
+        Err(_) => None,
+    }
+}
+
+/// The name that these bytes are, in a row with this parent key.
+fn name_of(alloc: Global, parent: &PathKey, name: &[u8]) -> Result<Option<Target>, NoMemory>
+    ensures { IfOk result (λ found. found ≡ row_name_of parent.now.0 name.now) }
+{
+    let Some(name) = as_text(name) else {
+        return Ok(None);
+    };
+    if !is_row_name(parent, name) {
+        return Ok(None);
+    }
+    Target::read(alloc, name)
+}
+
+/// The most bytes of the target of a row of this kind.
+fn target_limit(kind: RowKind) -> usize
+    ensures { result ≡ target_limit kind }
+{
+    match kind {
+        RowKind::Link => TARGET_LIMIT,
+        _ => 0,
+    }
+}
+
+/// Whether the size of a row of this kind may stand beside this target.
+fn is_size_of(kind: RowKind, size: u64, target: &[u8]) -> bool
+    ensures { result ≡ is_size_of kind size target.now }
+{
+    match kind {
+        RowKind::Link => target.len() as u64 == size,
+        _ => true,
+    }
+}
+
+/// The target that these bytes are.
+fn target_of(alloc: Global, target: &[u8]) -> Result<Option<Target>, NoMemory>
+    ensures { IfOk result (λ found. found ≡ target_of target.now) }
+{
+    match as_text(target) {
+        Some(target) => Target::read(alloc, target),
+        None => Ok(None),
+    }
+}
+
+/// The target of a row of this kind. Its size is this, and begins the text `sized`.
+#[tactic(auto, unfolding(crate::specs::Reading::target_at))]
+pub fn read_target<'a>(
+    alloc: Global,
+    all: usize,
+    kind: RowKind,
+    size: u64,
+    sized: &[u8],
+    text: &'a [u8],
+) -> Result<(Target, &'a [u8]), RowFault>
+    ensures { Gives (λ x. (x.0, x.1.now)) result (target_at all kind size sized.now text.now) }
+{
+    let (len, rest) = read_length(all, target_limit(kind), text)?;
+    let (target, after) = read_bytes(rest, len)?;
+    if !is_size_of(kind, size, target) {
+        return Err(bad(all, sized));
+    }
+    match target_of(alloc, target) {
+        Ok(Some(target)) => Ok((target, after)),
+        Ok(None) => Err(bad(all, rest)),
+        Err(NoMemory) => Err(RowFault::NoMemory),
+    }
+}
+
+/// The path whose text this is.
+fn path_of_text(alloc: Global, name: &str) -> Result<Option<RepoPath>, NoMemory>
+    ensures { IfOk result (λ found. found ≡ only_path name.now (path_of name.now)) }
+{
+    match RepoPath::read(alloc, name) {
+        Ok(path) => {
+            let text = path.text(alloc)?;
+            Ok(if text.as_str() == name {
+                Some(path)
+            } else {
+                None
+            })
+        }
+        Err(PathFault::NoMemory) => Err(NoMemory),
+        Err(_) => Ok(None),
+    }
+}
+
+/// The path whose text these bytes are.
+fn path_named(alloc: Global, name: &[u8]) -> Result<Option<RepoPath>, NoMemory>
+    ensures { IfOk result (λ found. found ≡ path_named name.now) }
+{
+    match as_text(name) {
+        Some(name) => path_of_text(alloc, name),
+        None => Ok(None),
+    }
+}
+
+/// The path of a nested entry.
+#[tactic(auto, unfolding(crate::specs::Reading::path_at))]
+pub fn read_path(alloc: Global, all: usize, text: &[u8]) -> Result<(RepoPath, &[u8]), RowFault>
+    ensures { Gives (λ x. (x.0, x.1.now)) result (path_at all text.now) }
+{
+    let (len, rest) = read_length(all, PATH_LIMIT, text)?;
+    let (name, after) = read_bytes(rest, len)?;
+    match path_named(alloc, name) {
+        Ok(Some(path)) => Ok((path, after)),
+        Ok(None) => Err(bad(all, rest)),
+        Err(NoMemory) => Err(RowFault::NoMemory),
+    }
+}

@@ -1,0 +1,276 @@
+//! Where the rows of a catalogue stand.
+ghost use Rattle.std.specs.Prelude.{◌≡◌, ◌≢◌, ℕ, ◌+◌, ◌<◌, ◌≤◌, ◌↔◌, false, None, List, length, IsTrue, IfOk, MatchOption, Contains};
+ghost use Rattle.std.specs.List.{HoldsAt, All};
+ghost use Rattle.std.specs.List.Sorted.{IsStrictlySortedBy};
+ghost use Rattle.md5.specs.Md5.{md5};
+ghost use Rattle.cv_base.specs.Path.{text_of, key_of, IsPath};
+ghost use Rattle.cv_rows.specs.Catalogue.{row_cmp};
+ghost use Rattle.cv_rows.specs.Places.{IsRoot, IsChild, StandsAt, root_parent, root_name};
+ghost use Rattle.cv_rows.specs.Parents.{IsParentOf, AreParents, AreAbove, AreInside, IsPlacing, IsPathOf, IsBelow};
+ghost use Rattle.cv_rows.specs.Faults.{IsFirst, IsOrphan, IsMisplaced, AllFit};
+ghost use Rattle.cv_base.specs.declared.path_fault.PathFault.TheVariants as faults;
+ghost use Rattle.cv_rows.specs.declared.row.Row.{Row as TheRow};
+
+use crate::row::Row;
+use crate::row_kind::RowKind;
+use cv_base::{NoMemory, PathFault, PathName, RepoPath};
+use md5::{Digest, Md5};
+use std::alloc::Global;
+
+/// So many doublings make 65,536 steps, which are more than there are rows.
+const DOUBLINGS: u32 = 16;
+
+/// The most names of a path.
+const MAX_NAMES: usize = 64;
+
+/// The key of the path of these names.
+fn key_of_names(names: &[PathName]) -> [u8; 16]
+    ensures { result ≡ md5 (text_of names.now) }
+{
+    let mut hasher = Md5::new();
+    for name in names {
+        hasher.update("/");
+        hasher.update(name.as_str());
+    }
+    hasher.finalize()
+}
+
+/// The parent key of the root row of the catalogue at a place.
+fn root_parent(at: &RepoPath) -> [u8; 16]
+    ensures { result ≡ root_parent at.now }
+{
+    match at.names() {
+        [] => [0; 16],
+        [above @ .., _] => key_of_names(above),
+    }
+}
+
+/// Whether a row has the key, the kind and the parent key of the root row of the catalogue at a place.
+pub fn is_root(at: &RepoPath, row: &Row) -> bool
+    ensures { IsTrue result ↔ IsRoot at.now row.now }
+{
+    let is_kind = match row.kind {
+        RowKind::Directory => at.names().is_empty(),
+        RowKind::NestedRoot => !at.names().is_empty(),
+        _ => false,
+    };
+    is_kind && row.key.0 == at.key().0 && row.parent.0 == root_parent(at)
+}
+
+/// The key of a row.
+fn key_of_row(row: &Row) -> [u8; 16]
+    ensures { result ≡ row.now.key.0 }
+{
+    row.key.0
+}
+
+/// The index of the row with this key.
+pub fn position(rows: &[Row], key: &[u8; 16]) -> Option<usize>
+    requires { IsStrictlySortedBy row_cmp rows.now }
+    ensures { MatchOption result ((r : TheRow) → Contains rows.now r → r.key.0 ≢ key.now) (λ i. (i < length rows.now) × HoldsAt (λ r. r.key.0 ≡ key.now) rows.now i) }
+{
+    rows.binary_search_by_key(key, key_of_row).ok()
+}
+
+/// The index of the root row of the catalogue at a place.
+pub fn root_position(at: &RepoPath, rows: &[Row]) -> Option<usize>
+    requires { IsStrictlySortedBy row_cmp rows.now }
+    ensures { MatchOption result ((r : TheRow) → Contains rows.now r → IsRoot at.now r → ⊥) (λ i. (i < length rows.now) × HoldsAt (IsRoot at.now) rows.now i) }
+{
+    let Some(i) = position(rows, &at.key().0) else {
+        return None;
+    };
+    if is_root(at, &rows[i]) { Some(i) } else { None }
+}
+
+/// Whether a row is a child of another.
+fn is_child(row: &Row, parent: &Row) -> bool
+    ensures { IsTrue result ↔ IsChild row.now parent.now }
+{
+    row.kind != RowKind::NestedRoot
+        && parent.kind.holds_rows()
+        && row.parent.0 == parent.key.0
+        && row.key.0 != parent.key.0
+}
+
+/// The index of the parent of a row, or the count of rows where it has none.
+fn parent_of(rows: &[Row], root: usize, row: usize) -> usize
+    requires ordered { IsStrictlySortedBy row_cmp rows.now }
+    requires root { root < length rows.now }
+    requires row { row < length rows.now }
+    ensures { IsParentOf rows.now root row result }
+{
+    if row == root {
+        return root;
+    }
+    let child = &rows[row];
+    let Some(parent) = position(rows, &child.parent.0) else {
+        return rows.len();
+    };
+    if is_child(child, &rows[parent]) {
+        parent
+    } else {
+        rows.len()
+    }
+}
+
+/// The index of the parent of each row.
+pub fn parents(alloc: Global, rows: &[Row], root: usize) -> Result<Vec<usize>, NoMemory>
+    requires ordered { IsStrictlySortedBy row_cmp rows.now }
+    requires root { root < length rows.now }
+    requires count { length rows.now ≤ 50000 }
+    ensures { IfOk result (λ parents. AreParents rows.now root parents.items) }
+{
+    let mut parents = Vec::with_capacity(alloc, rows.len() + 1)?;
+    for row in 0..rows.len() {
+        parents
+            .push(parent_of(rows, root, row))
+            .map_err(|_| NoMemory)?;
+    }
+    parents.push(rows.len()).map_err(|_| NoMemory)?;
+    Ok(parents)
+}
+
+/// What stands twice as many steps above each.
+fn doubled(alloc: Global, far: &[usize]) -> Result<Vec<usize>, NoMemory>
+    requires { AreInside far.now }
+    ensures { IfOk result (λ farther. AreAbove 2 far.now farther.items) }
+{
+    let mut farther = Vec::new(alloc);
+    for above in far {
+        farther.push(far[*above]).map_err(|_| NoMemory)?;
+    }
+    Ok(farther)
+}
+
+/// What stands 65,536 steps above each, which is more steps than there are rows.
+pub fn far_above(alloc: Global, parents: &[usize]) -> Result<Vec<usize>, NoMemory>
+    requires { AreInside parents.now }
+    ensures { IfOk result (λ far. AreAbove 65536 parents.now far.items) }
+{
+    let mut far = Vec::from_slice(alloc, parents)?;
+    for _ in 0..DOUBLINGS {
+        far = doubled(alloc, &far)?;
+    }
+    Ok(far)
+}
+
+/// The index of the first row that stands nowhere.
+pub fn first_orphan(
+    alloc: Global,
+    rows: &[Row],
+    root: usize,
+    parents: &[usize],
+) -> Result<Option<usize>, NoMemory>
+    requires count { length rows.now ≤ 50000 }
+    requires root { root < length rows.now }
+    requires parents { AreParents rows.now root parents.now }
+    ensures { (at : List (List ℕ)) → IsPlacing at rows.now root parents.now → IfOk result (λ found. MatchOption found (All (λ r. (q : List (List ℕ)) × StandsAt at rows.now r q) rows.now) (IsFirst (IsOrphan at rows.now) rows.now)) }
+{
+    let far = far_above(alloc, parents)?;
+    for row in 0..rows.len() {
+        if far[row] != root {
+            return Ok(Some(row));
+        }
+    }
+    Ok(None)
+}
+
+/// The path at which a row stands, unless it passes the limits of a path. Then it has more than `left`
+/// names behind those of the catalogue's place.
+pub fn path_of_row(
+    alloc: Global,
+    at: &RepoPath,
+    rows: &[Row],
+    root: usize,
+    parents: &[usize],
+    row: usize,
+    left: usize,
+) -> Result<Option<RepoPath>, NoMemory>
+    requires place { IsPath at.now }
+    requires placing { IsPlacing at.now rows.now root parents.now }
+    requires stand { All (λ r. (q : List (List ℕ)) × StandsAt at.now rows.now r q) rows.now }
+    requires row { row < length rows.now }
+    ensures { IfOk result (IsPathOf at.now rows.now row left) }
+{
+    if row == root {
+        return Ok(Some(at.copy(alloc)?));
+    }
+    if left == 0 {
+        return Ok(None);
+    }
+    let above = path_of_row(alloc, at, rows, root, parents, parents[row], left - 1)?;
+    match above {
+        Some(above) => below(alloc, &above, rows[row].name.text()),
+        None => Ok(None),
+    }
+}
+
+/// No path where a name breaks the limits of a path.
+fn none_unless_memory(fault: PathFault) -> Result<Option<RepoPath>, NoMemory>
+    ensures { IfOk result (λ found. (found ≡ None) × (fault ≢ faults.NoMemory)) }
+{
+    match fault {
+        PathFault::NoMemory => Err(NoMemory),
+        _ => Ok(None),
+    }
+}
+
+/// A path with one more name, unless that passes the limits of a path.
+fn below(alloc: Global, above: &RepoPath, name: &str) -> Result<Option<RepoPath>, NoMemory>
+    ensures { IfOk result (IsBelow above.now name.now) }
+{
+    match above.join(alloc, name) {
+        Ok(path) => Ok(Some(path)),
+        Err(fault) => none_unless_memory(fault),
+    }
+}
+
+/// The name of the root row of the catalogue at a place.
+fn root_name(at: &RepoPath) -> &str
+    ensures { result.now ≡ root_name at.now }
+{
+    match at.names().last() {
+        Some(last) => last.as_str(),
+        None => "",
+    }
+}
+
+/// Whether a row fits the path at which it stands.
+fn fits(at: &RepoPath, row: &Row, path: &RepoPath) -> bool
+    ensures { IsTrue result ↔ ((row.now.key.0 ≡ key_of path.now) × (IsRoot at.now row.now → row.now.name ≡ root_name at.now)) }
+{
+    row.key.0 == path.key().0 && (!is_root(at, row) || row.name.text() == root_name(at))
+}
+
+/// Whether a row fits the path at which it stands, if it passes no limit.
+fn fits_if_any(at: &RepoPath, row: &Row, path: &Option<RepoPath>) -> bool
+    ensures { MatchOption path.now (result ≡ false) (λ path. IsTrue result ↔ ((row.now.key.0 ≡ key_of path) × (IsRoot at.now row.now → row.now.name ≡ root_name at.now))) }
+{
+    match path {
+        Some(path) => fits(at, row, path),
+        None => false,
+    }
+}
+
+/// The index of the first row that doesn't fit the path at which it stands.
+pub fn first_misplaced(
+    alloc: Global,
+    at: &RepoPath,
+    rows: &[Row],
+    root: usize,
+    parents: &[usize],
+) -> Result<Option<usize>, NoMemory>
+    requires placing { IsPlacing at.now rows.now root parents.now }
+    requires stand { All (λ r. (q : List (List ℕ)) × StandsAt at.now rows.now r q) rows.now }
+    ensures { IfOk result (λ found. MatchOption found (AllFit at.now rows.now) (IsFirst (IsMisplaced at.now rows.now) rows.now)) }
+{
+    let left = MAX_NAMES - at.names().len();
+    for row in 0..rows.len() {
+        let path = path_of_row(alloc, at, rows, root, parents, row, left)?;
+        if !fits_if_any(at, &rows[row], &path) {
+            return Ok(Some(row));
+        }
+    }
+    Ok(None)
+}

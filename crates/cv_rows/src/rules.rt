@@ -1,0 +1,92 @@
+//! The rules that rows and nested entries keep, and the first that is broken.
+ghost use Rattle.std.specs.Prelude.{◌≡◌, ℕ, ◌<◌, ◌≤◌, List, Ok, length, MatchResult};
+ghost use Rattle.std.specs.List.{HoldsAt};
+ghost use Rattle.cv_rows.specs.Places.{IsRoot};
+ghost use Rattle.cv_rows.specs.Faults.{AreOrdered, IsRuleFault, IsFirstFault, KeepsRules, Checks};
+ghost use Rattle.cv_rows.specs.Reading.{entries_of};
+
+use crate::markers::first_marked_badly;
+use crate::nested::Nested;
+use crate::nested_list::{first_unlisted, first_unnamed};
+use crate::order::{nested_disorder, row_disorder};
+use crate::places::{first_misplaced, first_orphan, parents, root_position};
+use crate::reading::{Entries, read_file};
+use crate::row::Row;
+use crate::row_fault::RowFault;
+use cv_base::{NoMemory, RepoPath};
+use std::alloc::Global;
+
+/// Checks that rows and nested entries are in order.
+fn check_order(alloc: Global, rows: &[Row], nested: &[Nested]) -> Result<(), RowFault>
+    requires rows { length rows.now ≤ 50000 }
+    requires nested { length nested.now ≤ 16777216 }
+    ensures { (at : List (List ℕ)) → Checks (AreOrdered rows.now nested.now) (IsRuleFault at rows.now nested.now) result }
+{
+    if let Some(row) = row_disorder(rows) {
+        return Err(RowFault::Order(row));
+    }
+    match nested_disorder(alloc, nested) {
+        Ok(None) => Ok(()),
+        Ok(Some(entry)) => Err(RowFault::Order(rows.len() + entry)),
+        Err(NoMemory) => Err(RowFault::NoMemory),
+    }
+}
+
+/// Checks rows and nested entries in order, by the index of the root row.
+fn check_places(
+    alloc: Global,
+    at: &RepoPath,
+    rows: &[Row],
+    root: usize,
+    nested: &[Nested],
+) -> Result<(), RowFault>
+    requires count { length rows.now ≤ 50000 }
+    requires ordered { AreOrdered rows.now nested.now }
+    requires root { root < length rows.now }
+    requires is_root { HoldsAt (IsRoot at.now) rows.now root }
+    ensures { Checks (KeepsRules at.now rows.now nested.now) (IsRuleFault at.now rows.now nested.now) result }
+{
+    let above = parents(alloc, rows, root)?;
+    if let Some(row) = first_orphan(alloc, rows, root, &above)? {
+        return Err(RowFault::Orphan(row));
+    }
+    if let Some(row) = first_misplaced(alloc, at, rows, root, &above)? {
+        return Err(RowFault::BadKey(row));
+    }
+    if let Some(row) = first_marked_badly(alloc, at, rows)? {
+        return Err(RowFault::Marker(row));
+    }
+    if let Some(entry) = first_unnamed(alloc, at, rows, root, &above, nested)? {
+        return Err(RowFault::NestedList(entry));
+    }
+    match first_unlisted(alloc, rows, nested)? {
+        Some(_) => Err(RowFault::NestedList(nested.len())),
+        None => Ok(()),
+    }
+}
+
+/// Checks that rows and nested entries keep all rules of the catalogue at a place.
+fn check(alloc: Global, at: &RepoPath, rows: &[Row], nested: &[Nested]) -> Result<(), RowFault>
+    requires rows { length rows.now ≤ 50000 }
+    requires nested { length nested.now ≤ 16777216 }
+    ensures { Checks (KeepsRules at.now rows.now nested.now) (IsRuleFault at.now rows.now nested.now) result }
+{
+    check_order(alloc, rows, nested)?;
+    match root_position(at, rows) {
+        Some(root) => check_places(alloc, at, rows, root, nested),
+        None => Err(RowFault::Orphan(0)),
+    }
+}
+
+/// The rows and nested entries of the row file of the catalogue at a place, or the first fault.
+pub fn read(alloc: Global, bytes: &[u8], at: &RepoPath) -> Result<Entries, RowFault>
+    ensures { MatchResult result
+        (λ entries. (entries_of bytes.now ≡ Ok (entries.0.items, entries.1.items)) × KeepsRules at.now entries.0.items entries.1.items)
+        (IsFirstFault bytes.now at.now) }
+{
+    let (rows, nested) = read_file(alloc, bytes)?;
+    match check(alloc, at, &rows, &nested) {
+        Ok(()) => Ok((rows, nested)),
+        Err(fault) => Err(fault),
+    }
+}
