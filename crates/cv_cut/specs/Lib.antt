@@ -1,0 +1,4 @@
+pub mod Cuts
+pub mod Catalogues
+pub mod Means
+pub mod Reached
