@@ -1,0 +1,2 @@
+mod LastNames
+pub mod Tables

@@ -1,0 +1,16 @@
+//! Why a lease isn't granted.
+
+use cv_base::Token;
+
+/// Why a lease isn't granted. Where several of these hold, the first of them is answered.
+#[derive(Clone, Copy, Debug, PartialEq, Eq)]
+pub enum LeaseFault {
+    /// The last name of the path is that of the file which marks nested catalogues.
+    BadPath,
+    /// A lease on this path, above it or below it is live. Of several, the one granted last is named.
+    PathBusy(Token),
+    /// As many leases are live as can be.
+    TooManyLeases,
+    /// There was no memory for it.
+    NoMemory,
+}

@@ -1,0 +1,69 @@
+//! What the contracts can't say: that calls find memory, with the worked rows of leases.
+
+ghost use Rattle.std.specs.Prelude.{◌≡◌, IfOk};
+
+use crate::{Lease, LeaseFault, LeaseTable};
+use cv_base::{RepoPath, Text, Token};
+use std::alloc::Global;
+use std::test::Fail;
+
+/// The token of this number in epoch 1.
+fn token(number: u64) -> Token
+    ensures { result ≡ record { epoch = 1; number = number } }
+{
+    Token { epoch: 1, number }
+}
+
+/// A lease of `k1` on the path of this text.
+fn lease(alloc: Global, number: u64, text: &str, deadline: u64) -> Result<Lease, Fail>
+    ensures { IfOk result (λ lease. (lease.token ≡ record { epoch = 1; number = number }) × (lease.deadline ≡ deadline)) }
+{
+    let path = RepoPath::read(alloc, text)?;
+    Ok(Lease {
+        token: token(number),
+        key: Text::from_str(alloc, "k1")?,
+        path,
+        deadline,
+        from_revision: 1,
+    })
+}
+
+#[test]
+fn a_lease_excludes_those_above_and_below_it(rt: HostRuntime) -> Result<(), Fail> {
+    let mut table = LeaseTable::new(rt.alloc());
+    table.grant(lease(rt.alloc(), 1, "/a/b", 10)?)?;
+    table.grant(lease(rt.alloc(), 2, "/a/c", 20)?)?;
+    let above = table.grant(lease(rt.alloc(), 3, "/a", 30)?);
+    assert_eq!(rt; above, Err(LeaseFault::PathBusy(token(2))));
+    let below = table.grant(lease(rt.alloc(), 3, "/a/b/d", 30)?);
+    assert_eq!(rt; below, Err(LeaseFault::PathBusy(token(1))));
+    let beside = table.grant(lease(rt.alloc(), 3, "/a/bb", 30)?);
+    assert_eq!(rt; beside, Ok(()));
+    Ok(())
+}
+
+#[test]
+fn a_marker_is_never_leased(rt: HostRuntime) -> Result<(), Fail> {
+    let mut table = LeaseTable::new(rt.alloc());
+    let marker = table.grant(lease(rt.alloc(), 1, "/a/.cvmfscatalog", 10)?);
+    assert_eq!(rt; marker, Err(LeaseFault::BadPath));
+    assert_eq!(rt; table.count(), 0);
+    Ok(())
+}
+
+#[test]
+fn leases_are_found_and_end(rt: HostRuntime) -> Result<(), Fail> {
+    let mut table = LeaseTable::new(rt.alloc());
+    table.grant(lease(rt.alloc(), 1, "/a", 10)?)?;
+    table.grant(lease(rt.alloc(), 2, "/b", 20)?)?;
+    table.grant(lease(rt.alloc(), 3, "/c", 20)?)?;
+    assert_eq!(rt; table.find(token(2)).map(|lease| lease.deadline), Some(20));
+    assert_eq!(rt; table.at(2).map(|lease| lease.token), Some(token(3)));
+    assert!(rt; table.at(3).is_none() && table.find(token(4)).is_none());
+    assert!(rt; table.end(token(2)) && !table.end(token(2)));
+    table.expire(9);
+    assert_eq!(rt; table.count(), 2);
+    table.expire(10);
+    assert_eq!(rt; table.at(0).map(|lease| lease.token), Some(token(3)));
+    Ok(())
+}
