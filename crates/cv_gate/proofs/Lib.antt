@@ -1,0 +1,7 @@
+mod Effects
+mod Growth
+mod Leases
+mod Lines
+mod States
+mod Steps
+mod Tokens

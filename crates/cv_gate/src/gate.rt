@@ -1,0 +1,107 @@
+//! The gate.
+ghost use Rattle.std.specs.Prelude.{◌≡◌, ◌≤◌, ◌<◌, ◌++◌, ◌∷◌, ◌^◌, [], max, IfOk, vec_len, vec_capacity};
+ghost use Rattle.cv_gate.specs.Lines.{lines_of};
+ghost use Rattle.cv_gate.specs.Step.{IsOp};
+ghost use Rattle.cv_gate.specs.Gate.{IsServed, Steps};
+
+use crate::act::Act;
+use crate::entry::Entry;
+use crate::gate_state::GateState;
+use crate::lease_line::LeaseLine;
+use crate::op::Op;
+use crate::reply::Reply;
+use cv_base::NoMemory;
+use std::alloc::Global;
+use std::marker::Model;
+
+/// The most entries of a journal.
+pub const JOURNAL_LIMIT: usize = 262_144;
+
+/// The gate of a repository: it grants and ends leases, one step after another, and keeps a journal of all that was
+/// asked of it.
+#[derive(Drop)]
+pub struct Gate {
+    state: GateState,
+    journal: Vec<Entry>,
+}
+
+impl Model for Gate {
+    ghost use Rattle.std.specs.Prelude.{◌≤◌, vec_capacity};
+    ghost use Rattle.cv_gate.specs.Gate.{GateView, IsGate, journal_limit};
+
+    ghost Value = { GateView };
+
+    ghost view = { λ g. record { state = g.state; journal = g.journal.items } };
+
+    ghost invariant = { λ g. IsGate (record { state = g.state; journal = g.journal.items }) × (journal_limit ≤ vec_capacity g.journal) };
+}
+
+impl Gate {
+    /// A gate that stands over no repository: at this revision with this root, whose tree is a directory with nothing in
+    /// it. Its epoch is 1.
+    pub fn plain(alloc: Global, revision: u64, root: [u8; 20]) -> Result<Gate, NoMemory>
+        ensures { IfOk result (λ gate. gate ≡ record { state = record { revision = revision; root = root; epoch = 1; leases = []; moment = 0; next = 1 }; journal = [] }) }
+    {
+        Ok(Gate {
+            state: GateState::new(alloc, revision, root),
+            journal: Vec::with_capacity(alloc, JOURNAL_LIMIT)?,
+        })
+    }
+
+    /// Does what is asked from a seat at a moment, below 2 to the 62nd, and notes it in the journal with its answer.
+    pub fn step(&mut self, alloc: Global, seat: u32, now: u64, op: Op) -> Reply
+        requires moment { now < 2 ^ 62 }
+        requires op { IsOp op }
+        requires served { IsServed op }
+        ensures { Steps op seat now self.old self.new result }
+    {
+        if self.journal.len() >= JOURNAL_LIMIT {
+            return Reply::JournalFull;
+        }
+        self.state.age(now);
+        let (key, act, outcome) = match op {
+            Op::Lease { key, path } => {
+                let outcome = self.state.lease(alloc, &key, &path);
+                (key, Act::Lease(path), outcome)
+            }
+            Op::Cancel { key, token } => {
+                let outcome = self.state.cancel(&key, token);
+                (key, Act::Cancel(token), outcome)
+            }
+            Op::Store { .. } | Op::Commit { .. } => unreachable!(),
+        };
+        let entry = Entry {
+            seat,
+            now,
+            key,
+            act,
+            reply: outcome.reply(),
+        };
+        note(&mut self.journal, entry);
+        outcome.reply()
+    }
+
+    /// The leases that are live at a moment, and not before the latest moment at which something was asked, in the order
+    /// in which they were granted. It is noted nowhere.
+    pub fn live(&self, alloc: Global, now: u64) -> Result<Vec<LeaseLine>, NoMemory>
+        ensures { IfOk result (λ lines. lines.items ≡ lines_of (max self.now.state.moment now) self.now.state.leases) }
+    {
+        self.state.live(alloc, now)
+    }
+
+    /// All that was asked of the gate, in order.
+    pub fn journal(&self) -> &[Entry]
+        ensures { result.now ≡ self.now.journal }
+    {
+        self.journal.as_slice()
+    }
+}
+
+/// Puts an entry into a place that was taken before.
+fn note(journal: &mut Vec<Entry>, entry: Entry)
+    requires { vec_len journal.old < vec_capacity journal.old }
+    ensures items { journal.new.items ≡ journal.old.items ++ entry ∷ [] }
+    ensures room { vec_capacity journal.old ≤ vec_capacity journal.new }
+{
+    let _ = journal.push(entry);
+}
