@@ -115,4 +115,5 @@ def main():
         print(f"FAULT {what} | {place} | {fault} | {data.hex()}")
 
 
-main()
+if __name__ == "__main__":
+    main()
