@@ -2,6 +2,7 @@ pub mod Decimals
 pub mod Digests
 pub mod Fields
 mod IdTexts
+mod LastNames
 pub mod Parts
 pub mod PathGrammar
 pub mod PathPrefixes

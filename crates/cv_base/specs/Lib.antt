@@ -1,5 +1,6 @@
 pub mod Counts
 pub mod Digest
+pub mod Marker
 pub mod Name
 pub mod ObjectId
 pub mod Told

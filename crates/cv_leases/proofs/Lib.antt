@@ -1,2 +1,1 @@
-mod LastNames
 pub mod Tables

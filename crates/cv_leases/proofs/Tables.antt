@@ -3,7 +3,7 @@ use Rattle.std.proofs.Common.{◌≡◌, ◌≤◌, ◌<◌, ◌+◌, ◌&&◌, 
 use Rattle.std.proofs.lemmas.Bool.{eqb-true}
 use Rattle.std.specs.List.{filter, last_or, AllByRecursion}
 use Rattle.cv_base.specs.Path.{Path, overlap}
-use Rattle.cv_leases.specs.Marker.{marker, ends_in}
+use Rattle.cv_base.specs.Marker.{marker, ends_in}
 use Rattle.cv_base.specs.declared.token.Token.{Token}
 use Rattle.cv_leases.specs.declared.lease.Lease.{Lease}
 use Rattle.cv_leases.specs.Leases.{same_token, lease_of, busy, IsBefore, AreInOrder, IsTable}

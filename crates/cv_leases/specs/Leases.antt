@@ -2,7 +2,7 @@
 use Rattle.std.specs.Prelude.{◌≤◌, ◌≡◌, ◌&&◌, ◌==◌, ⊤, nat_le, nat_lt, not, false, ℕ, Bool, List, [], ◌∷◌, length, Option, None, Some, Result, Ok, Err, if◌then◌else◌}
 use Rattle.std.specs.List.{filter, find, last_or, AllByRecursion}
 use Rattle.cv_base.specs.Path.{Path, overlap}
-use Rattle.cv_leases.specs.Marker.{marker, ends_in}
+use Rattle.cv_base.specs.Marker.{marker, ends_in}
 use Rattle.cv_base.specs.declared.token.Token.{Token}
 use Rattle.cv_leases.specs.declared.lease.Lease.{Lease}
 use Rattle.cv_leases.specs.declared.lease_fault.LeaseFault.{LeaseFault}

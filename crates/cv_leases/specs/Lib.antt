@@ -1,2 +1,1 @@
 pub mod Leases
-pub mod Marker

@@ -5,8 +5,7 @@ ghost use Rattle.cv_leases.specs.Leases.{lease_of, without, unexpired, busy, ref
 
 use crate::lease::Lease;
 use crate::lease_fault::LeaseFault;
-use crate::marker::ends_in_marker;
-use cv_base::{RepoPath, Token};
+use cv_base::{RepoPath, Token, ends_in_marker};
 use std::alloc::Global;
 use std::marker::Model;
 

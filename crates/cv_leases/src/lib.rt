@@ -4,11 +4,9 @@
 mod lease;
 mod lease_fault;
 mod lease_table;
-mod marker;
 #[cfg(test)]
 mod tests;
 
 pub use lease::Lease;
 pub use lease_fault::LeaseFault;
 pub use lease_table::{LEASE_LIMIT, LeaseTable};
-pub use marker::ends_in_marker;

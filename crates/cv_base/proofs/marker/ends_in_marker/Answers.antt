@@ -1,8 +1,8 @@
 use Rattle.std.proofs.Common.{rules, ◌≡◌, ◌-◌, length, Some}
 use Rattle.std.specs.List.{slice_get}
 use Rattle.std.proofs.lemmas.Map.Text.{is_eq-slice_cmp}
-use Rattle.cv_leases.proofs.LastNames.{ends_in_last}
-use Rattle.cv_leases.proofs.marker.ends_in_marker.Goals as goal
+use Rattle.cv_base.proofs.LastNames.{ends_in_last}
+use Rattle.cv_base.proofs.marker.ends_in_marker.Goals as goal
 
 pub returns-in-Some : goal.returns-in-Some
 returns-in-Some c =
