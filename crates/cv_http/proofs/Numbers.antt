@@ -1,6 +1,6 @@
 -- Numbers, and elements of comma lists.
 use Rattle.std.proofs.Common.{◌≡◌, ◌<◌, ◌≤◌, ◌+◌, ℕ, List, [], ◌∷◌, zero, suc, add-one, length, take, drop, get_or, refl, ap, sym, ◌∙◌, arith, true, false, rules, inl, inr}
-use Rattle.std.specs.Prelude.{Option, Some, None, Result, Ok, Err, IsUtf8, nat_lt, position}
+use Rattle.std.specs.Prelude.{Option, Some, Result, Ok, Err, IsUtf8, nat_lt, position}
 use Rattle.std.specs.Result.{result_ok}
 use Rattle.std.specs.List.{list_all, position_or_len}
 use Rattle.std.proofs.lemmas.List.Sums.{fails_before_first}
@@ -37,10 +37,6 @@ parsed {E} text (Err e) parses digits =
         | inl small ↦ absurd (not (ltb-true 0 (length text) some, ltb-true (digits_value 10 text) 18446744073709551616 small))
       ]
     ]
-
-pub not_decimal : (text : List ℕ) → list_all is_ascii_digit text ≡ false → None ≡ number_of text
-not_decimal text other =
-    elim (cases_Bool (nat_lt 0 (length text))) [ inr none ↦ rw none refl | inl some ↦ rw (some, other) refl ]
 
 pub text_kept : (value text : List ℕ) → text ≡ value → IsUtf8 value → text ≡ text_or_empty value
 text_kept value text same utf8 = rw (is_utf8-from_IsUtf8 value utf8) same

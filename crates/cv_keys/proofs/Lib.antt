@@ -1,4 +1,3 @@
 pub mod Objects
-pub mod Faults
 pub mod Tables
 pub mod Headers

@@ -1,6 +1,6 @@
 //! The table of a gateway's keys.
-ghost use Rattle.std.specs.Prelude.{◌≡◌, ◌<◌, ℕ, List, Ok, Err, Some, None, length, slice_get, option_map, IfOk, MatchResult, string_bytes};
-ghost use Rattle.cv_keys.specs.Key.{place_of};
+ghost use Rattle.std.specs.Prelude.{◌≡◌, ◌<◌, ℕ, List, true, Ok, Err, Some, None, length, slice_get, option_map, IfOk, MatchResult, string_bytes};
+ghost use Rattle.cv_keys.specs.Key.{is_key_id, place_of};
 ghost use Rattle.cv_keys.specs.KeysText.{IsSaid, keys_of};
 ghost use Rattle.cv_keys.specs.Header.{header_of, is_mac, decoded, checked, checked_parts, IsUnlessMemory};
 
@@ -54,7 +54,10 @@ impl KeyTable {
     /// The key's id.
     pub fn id(&self, key: KeyNo) -> &str
         requires { key.0 < length self.now }
-        ensures { option_map (λ found. found.id) (slice_get self.now key.0) ≡ Some result.now }
+        ensures id { option_map (λ found. found.id) (slice_get self.now key.0) ≡ Some result.now }
+
+        // It is the id of a key.
+        ensures grammar { is_key_id result.now ≡ true }
     {
         self.keys[key.0 as usize].id.as_str()
     }

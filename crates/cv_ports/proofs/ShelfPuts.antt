@@ -6,7 +6,6 @@ use Rattle.std.specs.Cmp.Lexicographic.{slice_cmp}
 use Rattle.std.specs.Str.{bytes_eq}
 use Rattle.std.specs.BTreeMap.{BTreeMap, Updates, is_at}
 use Rattle.std.specs.Map.{lookup}
-use Rattle.std.proofs.lemmas.List.{append-nil}
 use Rattle.std.proofs.lemmas.Map.Text.{is_eq-slice_cmp}
 use Rattle.cv_base.specs.declared.id.Kind.{Kind}
 use Rattle.cv_base.specs.declared.id.Kind.TheVariants.{Plain, Catalogue, History}
@@ -81,14 +80,6 @@ no_objects : (s : ShelfView) (k : Kind) → s.plain ≡ [] → s.catalogues ≡ 
 no_objects s Plain p c h = p
 no_objects s Catalogue p c h = c
 no_objects s History p c h = h
-
--- nothing was put yet
-pub none_put : (all : List Object) (s : ShelfView) → s.plain ≡ [] → s.catalogues ≡ [] → s.history ≡ [] → IsPartOf all all s
-none_put all s p c h = record {
-  put = [];
-  split = sym (append-nil all);
-  objects = λ id. ap (under id.hash) (no_objects s id.kind p c h);
-}
 
 -- the last that was left is put
 pub one_put : {left left' all : List Object} {s s' : ShelfView} (o : Object) → IsPartOf left all s → left ≡ left' ++ o ∷ []

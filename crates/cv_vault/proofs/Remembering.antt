@@ -107,12 +107,6 @@ makes_if_twice n fate is fails =
     twice : (n : ℕ) → nat_lt 0 n ≡ true → not (n == 1) ≡ nat_lt 1 n
     twice n met = grind (arith, nat_tests)
 
--- a call that doesn't fail makes its change
-pub makes_if_works : (fate : Fate) → fate_fails fate ≡ false → fate_makes fate ≡ true
-makes_if_works Works e = refl
-makes_if_works FailsUnmade e = cc
-makes_if_works FailsMade e = cc
-
 -- a call has the next number
 pub numbered_by : {X : Type 0} (v v' : Memory) (fate : Fate) (r : Result X VaultFault) → v'.failing ≡ v.failing → v'.calls ≡ next_call v.calls → fate ≡ fate_of (times v)
     → v'.faults ≡ cond (fate_fails fate) (min (v.faults + 1) last_count) v.faults → (r ≡ Err Failed → fate_fails fate ≡ true) → ((x : X) → r ≡ Ok x → fate_fails fate ≡ false) → Numbered v v' r
