@@ -1,7 +1,3 @@
-pub mod Objects
-pub mod AnswerData
+mod Objects
 pub mod Spellings
-pub mod Lists
-pub mod MemberReads
-pub mod ReadBack
-pub mod ReadAnswers
+mod MemberReads

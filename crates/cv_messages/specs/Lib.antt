@@ -1,7 +1,5 @@
 pub mod ObjectText
 pub mod Spelling
 pub mod Member
+pub mod MemberName
 pub mod LeaseAsk
-pub mod Refusal
-pub mod Answer
-pub mod AnswerText

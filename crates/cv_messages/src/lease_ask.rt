@@ -7,8 +7,7 @@ ghost use Rattle.cv_messages.specs.Member.{IsSaid};
 
 use crate::member::Member;
 use crate::message_fault::MessageFault;
-use crate::object_text::read_object;
-use crate::write_value::write_value;
+use crate::object_text::{read_object, write_object};
 use cv_base::{NoMemory, Text};
 use serde_json::{Value, json};
 use std::alloc::{AllocError, Global};
@@ -51,7 +50,7 @@ impl LeaseAsk {
         ensures reads_back { IfOk result (λ bytes. lease_ask_of bytes.items ≡ Ok self.now) }
     {
         let value = lease_ask_value(alloc, self.path.as_str())?;
-        write_value(alloc, &value)
+        write_object(alloc, &value)
     }
 }
 

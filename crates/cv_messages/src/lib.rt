@@ -1,30 +1,16 @@
-//! The JSON messages of the gateway's interface.
+//! The JSON messages that ask something of the gateway, and the reading of their members.
 #![tactic(auto)]
 
-mod answer;
-mod answer_value;
 mod lease_ask;
-mod lease_item;
-mod lease_items;
 mod member;
 mod members;
 mod message_fault;
 mod object_text;
-mod read_answer;
-mod reason;
-mod refusal;
 #[cfg(test)]
 mod tests;
-mod texts;
-mod write_value;
 
-pub use answer::Answer;
 pub use lease_ask::LeaseAsk;
-pub use lease_item::LeaseItem;
-pub use lease_items::LeaseItems;
 pub use member::Member;
+pub use members::{digest_member, number_member, text_member, token_member};
 pub use message_fault::MessageFault;
-pub use object_text::read_object;
-pub use reason::Reason;
-pub use refusal::Refusal;
-pub use texts::Texts;
+pub use object_text::{read_object, write_object};

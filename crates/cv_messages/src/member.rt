@@ -40,10 +40,10 @@ pub enum Member {
 }
 
 impl Member {
-    ghost use Rattle.cv_messages.specs.Refusal.{member_name, member_of};
+    ghost use Rattle.cv_messages.specs.MemberName.{member_name, member_of};
 
     /// The member whose name a text is. None for any other text, also for `other`.
-    pub(crate) fn read(text: &str) -> Option<Member>
+    pub fn read(text: &str) -> Option<Member>
         ensures { result ≡ member_of text.now }
     {
         NAMED.iter().copied().find(|member| member.as_str() == text)

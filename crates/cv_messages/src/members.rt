@@ -10,11 +10,7 @@ use cv_base::{Token, read_digest};
 use serde_json::Value;
 
 /// The text of a member.
-pub(crate) fn text_member<'a>(
-    value: &'a Value,
-    key: &str,
-    name: Member,
-) -> Result<&'a str, MessageFault>
+pub fn text_member<'a>(value: &'a Value, key: &str, name: Member) -> Result<&'a str, MessageFault>
     ensures { MatchResult result (λ text. text_member name (get key.now (view value.now)) ≡ Ok text.now)
         (λ fault. text_member name (get key.now (view value.now)) ≡ Err fault) }
 {
@@ -28,7 +24,7 @@ pub(crate) fn text_member<'a>(
 }
 
 /// The whole number of a member.
-pub(crate) fn number_member(value: &Value, key: &str, name: Member) -> Result<u64, MessageFault>
+pub fn number_member(value: &Value, key: &str, name: Member) -> Result<u64, MessageFault>
     ensures { result ≡ number_member name (get key.now (view value.now)) }
 {
     let Some(member) = value.get(key) else {
@@ -41,7 +37,7 @@ pub(crate) fn number_member(value: &Value, key: &str, name: Member) -> Result<u6
 }
 
 /// The token of a member.
-pub(crate) fn token_member(value: &Value, key: &str, name: Member) -> Result<Token, MessageFault>
+pub fn token_member(value: &Value, key: &str, name: Member) -> Result<Token, MessageFault>
     ensures { result ≡ token_member name (get key.now (view value.now)) }
 {
     let text = text_member(value, key, name)?;
@@ -55,11 +51,7 @@ pub(crate) fn token_member(value: &Value, key: &str, name: Member) -> Result<Tok
 }
 
 /// The digest of a member.
-pub(crate) fn digest_member(
-    value: &Value,
-    key: &str,
-    name: Member,
-) -> Result<[u8; 20], MessageFault>
+pub fn digest_member(value: &Value, key: &str, name: Member) -> Result<[u8; 20], MessageFault>
     ensures { result ≡ digest_member name (get key.now (view value.now)) }
 {
     let text = text_member(value, key, name)?;

@@ -1,0 +1,4 @@
+mod AnswerData
+mod Lists
+mod ReadBack
+mod ReadAnswers

@@ -1,0 +1,73 @@
+//! Answers of the gateway.
+ghost use Rattle.std.specs.Prelude.{◌≡◌, true, Ok, Err, IfOk, MatchResult};
+ghost use Rattle.serde_json.specs.Written.{compact_text};
+ghost use Rattle.cv_messages.specs.Member.{IsSaid};
+
+use crate::answer_value::answer_value;
+use crate::lease_items::LeaseItems;
+use crate::read_answer::read_answer;
+use crate::refusal::Refusal;
+use crate::texts::Texts;
+use cv_base::{NoMemory, Token};
+use cv_messages::{MessageFault, read_object, write_object};
+use std::alloc::Global;
+
+/// What the gateway answers to a request.
+#[derive(Debug, Drop)]
+pub enum Answer {
+    /// The lease that was granted: its token, and the newest revision with its root's hash.
+    Granted {
+        token: Token,
+        revision: u64,
+        root: [u8; 20],
+    },
+    /// Done as asked.
+    Done,
+    /// The revision that was made, with its root's hash.
+    Committed {
+        revision: u64,
+        root: [u8; 20],
+    },
+    /// The live leases.
+    Leases(LeaseItems),
+    /// The names of the repositories.
+    Repos(Texts),
+    /// A live lease overlaps the path: its token, and the seconds until it ends.
+    PathBusy {
+        token: Token,
+        remaining: u64,
+    },
+    /// Refused.
+    Refused(Refusal),
+}
+
+impl Answer {
+    ghost use Rattle.cv_answers.specs.Answer.{answer_data};
+    ghost use Rattle.cv_answers.specs.AnswerText.{is_answer, answer_of};
+
+    /// The answer that bytes say: a JSON object. Other members are passed over, and of a member that
+    /// stands twice the last counts.
+    pub fn read(alloc: Global, bytes: &[u8]) -> Result<Answer, MessageFault>
+        ensures answer { MatchResult result (λ answer. answer_of bytes.now ≡ Ok answer) (λ fault. IsSaid fault (answer_of bytes.now ≡ Err fault)) }
+
+        // What was read can be written.
+        ensures writable { IfOk result (λ answer. is_answer answer ≡ true) }
+    {
+        let value = match read_object(alloc, bytes) {
+            Ok(Some(value)) => value,
+            Ok(None) => return Err(MessageFault::NotJson),
+            Err(NoMemory) => return Err(MessageFault::NoMemory),
+        };
+        read_answer(alloc, &value)
+    }
+
+    /// The answer as compact JSON, with members in ascending order.
+    pub fn write(&self, alloc: Global) -> Result<Vec<u8>, NoMemory>
+        requires { is_answer self.now ≡ true }
+        ensures text { IfOk result (λ bytes. bytes.items ≡ compact_text (answer_data self.now)) }
+        ensures reads_back { IfOk result (λ bytes. answer_of bytes.items ≡ Ok self.now) }
+    {
+        let value = answer_value(alloc, self)?;
+        write_object(alloc, &value)
+    }
+}

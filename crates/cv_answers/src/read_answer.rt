@@ -1,0 +1,204 @@
+//! Reading answers.
+ghost use Rattle.std.specs.Prelude.{◌≡◌, Ok, Err, List, map, codes, MatchResult};
+ghost use Rattle.serde_json.specs.Find.{get};
+ghost use Rattle.serde_json.specs.View.{view};
+ghost use Rattle.cv_messages.specs.Member.{IsSaid};
+ghost use Rattle.cv_answers.specs.Refusal.{names_member, refused_member, refusal_in};
+ghost use Rattle.cv_answers.specs.AnswerText.{granted_in, committed_in, each_of, array_member, lease_item_in, leases_in, repo_in, repos_in, path_busy_in, ok_in, answer_in};
+
+use crate::answer::Answer;
+use crate::lease_item::LeaseItem;
+use crate::lease_items::LeaseItems;
+use crate::reason::Reason;
+use crate::refusal::Refusal;
+use crate::texts::Texts;
+use cv_base::{NoMemory, Text};
+use cv_messages::{Member, MessageFault, digest_member, number_member, text_member, token_member};
+use serde_json::Value;
+use std::alloc::Global;
+
+/// The answer that an object says.
+pub(crate) fn read_answer(alloc: Global, value: &Value) -> Result<Answer, MessageFault>
+    ensures { MatchResult result (λ answer. answer_in (view value.now) ≡ Ok answer)
+        (λ fault. IsSaid fault (answer_in (view value.now) ≡ Err fault)) }
+{
+    match text_member(value, "status", Member::Status)? {
+        "ok" => read_ok(alloc, value),
+        "path_busy" => read_path_busy(value),
+        "error" => Ok(Answer::Refused(read_refusal(value)?)),
+        _ => Err(MessageFault::BadValue(Member::Status)),
+    }
+}
+
+/// The ok answer that an object says.
+fn read_ok(alloc: Global, value: &Value) -> Result<Answer, MessageFault>
+    ensures { MatchResult result (λ answer. ok_in (view value.now) ≡ Ok answer)
+        (λ fault. IsSaid fault (ok_in (view value.now) ≡ Err fault)) }
+{
+    if value.get("session_token").is_some() {
+        read_granted(value)
+    } else if value.get("final_revision").is_some() {
+        read_committed(value)
+    } else if value.get("data").is_some() {
+        read_leases(alloc, value)
+    } else if value.get("repos").is_some() {
+        read_repos(alloc, value)
+    } else {
+        Ok(Answer::Done)
+    }
+}
+
+/// The lease that was granted.
+fn read_granted(value: &Value) -> Result<Answer, MessageFault>
+    ensures { result ≡ granted_in (view value.now) }
+{
+    let revision = number_member(value, "revision", Member::Other)?;
+    let root = digest_member(value, "root_hash", Member::Other)?;
+    let token = token_member(value, "session_token", Member::SessionToken)?;
+    Ok(Answer::Granted {
+        token,
+        revision,
+        root,
+    })
+}
+
+/// The revision that was made.
+fn read_committed(value: &Value) -> Result<Answer, MessageFault>
+    ensures { result ≡ committed_in (view value.now) }
+{
+    let revision = number_member(value, "final_revision", Member::Other)?;
+    let root = digest_member(value, "root_hash", Member::Other)?;
+    Ok(Answer::Committed { revision, root })
+}
+
+/// The live leases.
+fn read_leases(alloc: Global, value: &Value) -> Result<Answer, MessageFault>
+    ensures { MatchResult result (λ answer. leases_in (view value.now) ≡ Ok answer)
+        (λ fault. IsSaid fault (leases_in (view value.now) ≡ Err fault)) }
+{
+    let list = array_member(value, "data")?;
+    let items = read_lease_items(alloc, list)?;
+    Ok(Answer::Leases(LeaseItems::new(items)))
+}
+
+/// The array of a member.
+fn array_member<'a>(value: &'a Value, key: &str) -> Result<&'a [Value], MessageFault>
+    ensures { MatchResult result (λ list. array_member (get key.now (view value.now)) ≡ Ok (map view list.now))
+        (λ fault. array_member (get key.now (view value.now)) ≡ Err fault) }
+{
+    let Some(member) = value.get(key) else {
+        return Err(MessageFault::Missing(Member::Other));
+    };
+    match member.as_array() {
+        Some(list) => Ok(list),
+        None => Err(MessageFault::WrongType(Member::Other)),
+    }
+}
+
+/// The leases that values say.
+fn read_lease_items(alloc: Global, values: &[Value]) -> Result<Vec<LeaseItem>, MessageFault>
+    ensures { MatchResult result (λ items. each_of lease_item_in (map view values.now) ≡ Ok items.items)
+        (λ fault. IsSaid fault (each_of lease_item_in (map view values.now) ≡ Err fault)) }
+{
+    let mut items = Vec::new(alloc);
+    for value in values {
+        let item = read_lease_item(alloc, value)?;
+        if items.push(item).is_err() {
+            return Err(MessageFault::NoMemory);
+        }
+    }
+    Ok(items)
+}
+
+/// The lease that a value says.
+fn read_lease_item(alloc: Global, value: &Value) -> Result<LeaseItem, MessageFault>
+    ensures { MatchResult result (λ item. lease_item_in (view value.now) ≡ Ok item)
+        (λ fault. IsSaid fault (lease_item_in (view value.now) ≡ Err fault)) }
+{
+    if !value.is_object() {
+        return Err(MessageFault::WrongType(Member::Other));
+    }
+    let key = text_member(value, "key_id", Member::Other)?;
+    let path = text_member(value, "path", Member::Path)?;
+    let remaining = number_member(value, "time_remaining", Member::Other)?;
+    match (Text::from_str(alloc, key), Text::from_str(alloc, path)) {
+        (Ok(key), Ok(path)) => Ok(LeaseItem {
+            key,
+            path,
+            remaining,
+        }),
+        _ => Err(MessageFault::NoMemory),
+    }
+}
+
+/// The names of the repositories.
+fn read_repos(alloc: Global, value: &Value) -> Result<Answer, MessageFault>
+    ensures { MatchResult result (λ answer. repos_in (view value.now) ≡ Ok answer)
+        (λ fault. IsSaid fault (repos_in (view value.now) ≡ Err fault)) }
+{
+    let list = array_member(value, "repos")?;
+    let names = read_names(alloc, list)?;
+    Ok(Answer::Repos(Texts::new(names)))
+}
+
+/// The names that values say.
+fn read_names(alloc: Global, values: &[Value]) -> Result<Vec<Text>, MessageFault>
+    ensures { MatchResult result (λ names. each_of repo_in (map view values.now) ≡ Ok names.items)
+        (λ fault. IsSaid fault (each_of repo_in (map view values.now) ≡ Err fault)) }
+{
+    let mut names = Vec::new(alloc);
+    for value in values {
+        let name = read_name(alloc, value)?;
+        if names.push(name).is_err() {
+            return Err(MessageFault::NoMemory);
+        }
+    }
+    Ok(names)
+}
+
+/// The name that a value says.
+fn read_name(alloc: Global, value: &Value) -> Result<Text, MessageFault>
+    ensures { MatchResult result (λ name. repo_in (view value.now) ≡ Ok name)
+        (λ fault. IsSaid fault (repo_in (view value.now) ≡ Err fault)) }
+{
+    let Some(name) = value.as_str() else {
+        return Err(MessageFault::WrongType(Member::Other));
+    };
+    match Text::from_str(alloc, name) {
+        Ok(name) => Ok(name),
+        Err(NoMemory) => Err(MessageFault::NoMemory),
+    }
+}
+
+/// The live lease that overlaps.
+fn read_path_busy(value: &Value) -> Result<Answer, MessageFault>
+    ensures { result ≡ path_busy_in (view value.now) }
+{
+    let token = token_member(value, "lease", Member::Other)?;
+    let remaining = number_member(value, "time_remaining", Member::Other)?;
+    Ok(Answer::PathBusy { token, remaining })
+}
+
+/// The refusal that an object says.
+fn read_refusal(value: &Value) -> Result<Refusal, MessageFault>
+    ensures { result ≡ refusal_in (view value.now) }
+{
+    let text = text_member(value, "reason", Member::Reason)?;
+    let reason = Reason::read(text).ok_or(MessageFault::BadValue(Member::Reason))?;
+    let member = refused_member(reason, value)?;
+    Ok(Refusal { reason, member })
+}
+
+/// The member that a refusal for this reason names.
+fn refused_member(reason: Reason, value: &Value) -> Result<Option<Member>, MessageFault>
+    ensures { result ≡ refused_member (names_member reason) (view value.now) }
+{
+    if !reason.names_member() {
+        return Ok(None);
+    }
+    let text = text_member(value, "member", Member::Other)?;
+    match Member::read(text) {
+        Some(name) => Ok(Some(name)),
+        None => Err(MessageFault::BadValue(Member::Other)),
+    }
+}

@@ -1,0 +1,107 @@
+//! Reasons of refusals.
+ghost use Rattle.std.specs.Prelude.{◌≡◌};
+
+/// All reasons.
+const REASONS: [Reason; 16] = [
+    Reason::BadPath,
+    Reason::TooManyLeases,
+    Reason::NoParent,
+    Reason::InvalidToken,
+    Reason::WrongKey,
+    Reason::JournalFull,
+    Reason::NoMemory,
+    Reason::NoAuthorization,
+    Reason::BadAuthorization,
+    Reason::UnknownKey,
+    Reason::WrongMac,
+    Reason::NotJson,
+    Reason::MissingMember,
+    Reason::WrongType,
+    Reason::BadValue,
+    Reason::UnknownRepository,
+];
+
+/// Why a request is refused.
+#[derive(Clone, Copy, Debug, PartialEq, Eq)]
+pub enum Reason {
+    /// What follows the repository's name is no path, or a path that no lease is granted on.
+    BadPath,
+    /// As many leases are live as may be.
+    TooManyLeases,
+    /// The parent of the path is no directory.
+    NoParent,
+    /// No live lease has the token.
+    InvalidToken,
+    /// The lease was granted to another key.
+    WrongKey,
+    /// The gateway's journal is full.
+    JournalFull,
+    /// There was no memory.
+    NoMemory,
+    /// The request has no Authorization header.
+    NoAuthorization,
+    /// The Authorization header has another form.
+    BadAuthorization,
+    /// No key has the id of the Authorization header.
+    UnknownKey,
+    /// The Authorization header is not that of its key for this request.
+    WrongMac,
+    /// The message is no JSON object.
+    NotJson,
+    /// A member of the message is lacking.
+    MissingMember,
+    /// A member of the message has another type.
+    WrongType,
+    /// A member of the message is out of its limits.
+    BadValue,
+    /// The path is not of this repository.
+    UnknownRepository,
+}
+
+impl Reason {
+    ghost use Rattle.cv_answers.specs.Refusal.{reason_text, reason_of, names_member};
+
+    /// The reason whose text a text is.
+    pub(crate) fn read(text: &str) -> Option<Reason>
+        ensures { result ≡ reason_of text.now }
+    {
+        REASONS
+            .iter()
+            .copied()
+            .find(|reason| reason.as_str() == text)
+    }
+
+    /// Whether a refusal for this reason names a member.
+    pub(crate) fn names_member(self) -> bool
+        ensures { result ≡ names_member self }
+    {
+        matches!(
+            self,
+            Reason::MissingMember | Reason::WrongType | Reason::BadValue
+        )
+    }
+
+    /// The reason's text.
+    pub fn as_str(self) -> &'static str
+        ensures { result.now ≡ reason_text self }
+    {
+        match self {
+            Reason::BadPath => "bad_path",
+            Reason::TooManyLeases => "too_many_leases",
+            Reason::NoParent => "no_parent",
+            Reason::InvalidToken => "invalid_token",
+            Reason::WrongKey => "wrong_key",
+            Reason::JournalFull => "journal_full",
+            Reason::NoMemory => "no_memory",
+            Reason::NoAuthorization => "no_authorization",
+            Reason::BadAuthorization => "bad_authorization",
+            Reason::UnknownKey => "unknown_key",
+            Reason::WrongMac => "wrong_mac",
+            Reason::NotJson => "not_json",
+            Reason::MissingMember => "missing_member",
+            Reason::WrongType => "wrong_type",
+            Reason::BadValue => "bad_value",
+            Reason::UnknownRepository => "unknown_repository",
+        }
+    }
+}

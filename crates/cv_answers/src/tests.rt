@@ -1,0 +1,249 @@
+//! What the contracts can't say: values from outside, and that calls find memory.
+ghost use Rattle.std.specs.Prelude.{◌≡◌, true};
+ghost use Rattle.cv_answers.specs.AnswerText.{is_answer};
+
+use crate::{Answer, LeaseItem, LeaseItems, Reason, Refusal, Texts};
+use cv_base::{Text, Token};
+use cv_messages::{Member, MessageFault};
+use std::alloc::Global;
+use std::test::Fail;
+
+/// Texts of answers as another writer may have them, and the same answers as they are written.
+static ANSWERS: [(&str, &str); 8] = [
+    (
+        r#" { "status" : "ok", "session_token":"1-1","x":[{}],"root_hash":"00112233445566778899aabbccddeeff00112233" , "revision":18446744073709551615 }"#,
+        r#"{"revision":18446744073709551615,"root_hash":"00112233445566778899aabbccddeeff00112233","session_token":"1-1","status":"ok"}"#,
+    ),
+    (
+        r#"{"status":"ok","root_hash":"abababababababababababababababababababab","final_revision":2,"final_revision":3,"data":0}"#,
+        r#"{"final_revision":3,"root_hash":"abababababababababababababababababababab","status":"ok"}"#,
+    ),
+    (
+        r#"{"status":"ok","repos":0,"data":[{"time_remaining":7200,"path":"r/a","key_id":"k1"},{"key_id":"k2","path":"r","time_remaining":0}]}"#,
+        r#"{"data":[{"key_id":"k1","path":"r/a","time_remaining":7200},{"key_id":"k2","path":"r","time_remaining":0}],"status":"ok"}"#,
+    ),
+    (
+        r#"{"status":"ok","repos":["a","\u0062\n"]}"#,
+        r#"{"repos":["a","b\n"],"status":"ok"}"#,
+    ),
+    (r#"{"revision":"x","status":"ok"}"#, r#"{"status":"ok"}"#),
+    (
+        r#"{"time_remaining":1,"lease":"3-70","status":"path_busy"}"#,
+        r#"{"lease":"3-70","status":"path_busy","time_remaining":1}"#,
+    ),
+    (
+        r#"{"status":"error","reason":"wrong_key","member":0}"#,
+        r#"{"reason":"wrong_key","status":"error"}"#,
+    ),
+    (
+        r#"{"status":"error","reason":"bad_value","member":"payload_digest"}"#,
+        r#"{"member":"payload_digest","reason":"bad_value","status":"error"}"#,
+    ),
+];
+
+/// Texts that are no answer, and the first fault of each.
+static ANSWER_FAULTS: [(&str, MessageFault); 27] = [
+    ("[]", MessageFault::NotJson),
+    (r#"{"revision":1}"#, MessageFault::Missing(Member::Status)),
+    (r#"{"status":1}"#, MessageFault::WrongType(Member::Status)),
+    (r#"{"status":"OK"}"#, MessageFault::BadValue(Member::Status)),
+    (
+        r#"{"status":"ok","session_token":1}"#,
+        MessageFault::Missing(Member::Other),
+    ),
+    (
+        r#"{"status":"ok","session_token":1,"revision":"1"}"#,
+        MessageFault::WrongType(Member::Other),
+    ),
+    (
+        r#"{"status":"ok","session_token":1,"revision":-1}"#,
+        MessageFault::BadValue(Member::Other),
+    ),
+    (
+        r#"{"status":"ok","session_token":1,"revision":1.0}"#,
+        MessageFault::BadValue(Member::Other),
+    ),
+    (
+        r#"{"status":"ok","session_token":1,"revision":18446744073709551616}"#,
+        MessageFault::BadValue(Member::Other),
+    ),
+    (
+        r#"{"status":"ok","session_token":1,"revision":1,"root_hash":1}"#,
+        MessageFault::WrongType(Member::Other),
+    ),
+    (
+        r#"{"status":"ok","session_token":1,"revision":1,"root_hash":"ABABABABABABABABABABABABABABABABABABABAB"}"#,
+        MessageFault::BadValue(Member::Other),
+    ),
+    (
+        r#"{"status":"ok","session_token":1,"revision":1,"root_hash":"ababababababababababababababababababababC"}"#,
+        MessageFault::BadValue(Member::Other),
+    ),
+    (
+        r#"{"status":"ok","session_token":1,"revision":1,"root_hash":"abababababababababababababababababababab"}"#,
+        MessageFault::WrongType(Member::SessionToken),
+    ),
+    (
+        r#"{"status":"ok","session_token":"01-1","revision":1,"root_hash":"abababababababababababababababababababab"}"#,
+        MessageFault::BadValue(Member::SessionToken),
+    ),
+    (
+        r#"{"status":"ok","final_revision":1}"#,
+        MessageFault::Missing(Member::Other),
+    ),
+    (
+        r#"{"status":"ok","data":{}}"#,
+        MessageFault::WrongType(Member::Other),
+    ),
+    (
+        r#"{"status":"ok","data":["a"]}"#,
+        MessageFault::WrongType(Member::Other),
+    ),
+    (
+        r#"{"status":"ok","data":[{"key_id":"k","time_remaining":"x"}]}"#,
+        MessageFault::Missing(Member::Path),
+    ),
+    (
+        r#"{"status":"ok","data":[{"key_id":"k","path":"p","time_remaining":1e2}]}"#,
+        MessageFault::BadValue(Member::Other),
+    ),
+    (
+        r#"{"status":"ok","repos":["a",1]}"#,
+        MessageFault::WrongType(Member::Other),
+    ),
+    (
+        r#"{"status":"path_busy","time_remaining":-1}"#,
+        MessageFault::Missing(Member::Other),
+    ),
+    (
+        r#"{"status":"path_busy","lease":"1-18446744073709551616"}"#,
+        MessageFault::BadValue(Member::Other),
+    ),
+    (
+        r#"{"status":"error"}"#,
+        MessageFault::Missing(Member::Reason),
+    ),
+    (
+        r#"{"status":"error","reason":"no"}"#,
+        MessageFault::BadValue(Member::Reason),
+    ),
+    (
+        r#"{"status":"error","reason":"wrong_type"}"#,
+        MessageFault::Missing(Member::Other),
+    ),
+    (
+        r#"{"status":"error","reason":"wrong_type","member":null}"#,
+        MessageFault::WrongType(Member::Other),
+    ),
+    (
+        r#"{"status":"error","reason":"wrong_type","member":"other"}"#,
+        MessageFault::BadValue(Member::Other),
+    ),
+];
+
+/// The token of the first lease.
+const TOKEN: Token = Token {
+    epoch: 1,
+    number: 1,
+};
+
+/// The fault of this text, if it is no answer.
+fn answer_fault(alloc: Global, text: &str) -> Option<MessageFault> {
+    Answer::read(alloc, text.as_bytes()).err()
+}
+
+/// The text of an answer.
+fn text_of(alloc: Global, answer: &Answer) -> Result<String, Fail>
+    requires { is_answer answer.now ≡ true }
+{
+    let bytes = answer.write(alloc)?;
+    Ok(String::from_str(alloc, std::str::from_utf8(&bytes)?)?)
+}
+
+#[test]
+fn answers_are_written_in_order(rt: HostRuntime) -> Result<(), Fail> {
+    let granted = Answer::Granted {
+        token: TOKEN,
+        revision: 1,
+        root: [0; 20],
+    };
+    let text =
+        r#"{"revision":1,"root_hash":"0000000000000000000000000000000000000000","session_token":"1-1","status":"ok"}"#;
+    assert_eq!(rt; text_of(rt.alloc(), &granted)?.as_str(), text);
+    let busy = Answer::PathBusy {
+        token: TOKEN,
+        remaining: 1,
+    };
+    let text = r#"{"lease":"1-1","status":"path_busy","time_remaining":1}"#;
+    assert_eq!(rt; text_of(rt.alloc(), &busy)?.as_str(), text);
+    assert_eq!(rt; text.len(), 55);
+    assert_eq!(rt;
+        text_of(rt.alloc(), &Answer::Done)?.as_str(),
+        r#"{"status":"ok"}"#
+    );
+    let made = Answer::Committed {
+        revision: 2,
+        root: [0xab; 20],
+    };
+    let text =
+        r#"{"final_revision":2,"root_hash":"abababababababababababababababababababab","status":"ok"}"#;
+    assert_eq!(rt; text_of(rt.alloc(), &made)?.as_str(), text);
+    Ok(())
+}
+
+#[test]
+fn an_answer_is_read_in_any_spelling(rt: HostRuntime) -> Result<(), Fail> {
+    for (text, written) in ANSWERS {
+        let read = Answer::read(rt.alloc(), text.as_bytes())?;
+        assert_eq!(rt; text_of(rt.alloc(), &read)?.as_str(), written, "{text}");
+        let again = Answer::read(rt.alloc(), written.as_bytes())?;
+        assert_eq!(rt; text_of(rt.alloc(), &again)?.as_str(), written, "{text}");
+    }
+    Ok(())
+}
+
+#[test]
+fn an_answer_has_its_first_fault(rt: HostRuntime) {
+    for (text, fault) in ANSWER_FAULTS {
+        assert_eq!(rt; answer_fault(rt.alloc(), text), Some(fault), "{text}");
+    }
+}
+
+#[test]
+fn refusals_are_written_in_order(rt: HostRuntime) -> Result<(), Fail> {
+    let wrong_key = Answer::Refused(Refusal {
+        reason: Reason::WrongKey,
+        member: None,
+    });
+    let text = r#"{"reason":"wrong_key","status":"error"}"#;
+    assert_eq!(rt; text_of(rt.alloc(), &wrong_key)?.as_str(), text);
+    let missing = Answer::Refused(Refusal {
+        reason: Reason::MissingMember,
+        member: Some(Member::Path),
+    });
+    let text = r#"{"member":"path","reason":"missing_member","status":"error"}"#;
+    assert_eq!(rt; text_of(rt.alloc(), &missing)?.as_str(), text);
+    Ok(())
+}
+
+#[test]
+fn lists_are_written_in_order(rt: HostRuntime) -> Result<(), Fail> {
+    let mut items = Vec::new(rt.alloc());
+    for number in 1..3 {
+        items.push(LeaseItem {
+            key: Text::from_str(rt.alloc(), "k1")?,
+            path: Text::from_str(rt.alloc(), "sw.example.org/\"a\"")?,
+            remaining: number,
+        })?;
+    }
+    let leases = Answer::Leases(LeaseItems::new(items));
+    let text =
+        r#"{"data":[{"key_id":"k1","path":"sw.example.org/\"a\"","time_remaining":1},{"key_id":"k1","path":"sw.example.org/\"a\"","time_remaining":2}],"status":"ok"}"#;
+    assert_eq!(rt; text_of(rt.alloc(), &leases)?.as_str(), text);
+    let mut names = Vec::new(rt.alloc());
+    names.push(Text::from_str(rt.alloc(), "sw.example.org")?)?;
+    let repos = Answer::Repos(Texts::new(names));
+    let text = r#"{"repos":["sw.example.org"],"status":"ok"}"#;
+    assert_eq!(rt; text_of(rt.alloc(), &repos)?.as_str(), text);
+    Ok(())
+}
