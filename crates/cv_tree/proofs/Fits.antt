@@ -1,5 +1,5 @@
 -- Parts that fit at a path of a tree.
-use Rattle.std.proofs.Common.{◌≡◌, true, false, cond, [], ◌++◌, IsSome, is_some, refl, sym, subst, append-nil}
+use Rattle.std.proofs.Common.{◌≡◌, true, false, cond, ◌++◌, IsSome, is_some, refl, sym, subst}
 use Rattle.std.specs.Ordering.{eq_by_cmp}
 use Rattle.std.specs.Prelude.{IfSome}
 use Rattle.std.specs.declared.option.Option.{Option}
@@ -9,7 +9,7 @@ use Rattle.cv_base.specs.Path.{Path, path_cmp, IsPath}
 use Rattle.cv_base.specs.PathOrder.{path_total, same_path_is}
 use Rattle.cv_tree.specs.declared.node.Node.{Node}
 use Rattle.cv_tree.specs.Tree.{Nodes, IsTree, at}
-use Rattle.cv_tree.specs.Changes.{nodes_of, subtree_of, FitsUnder, IsTreeAtRoot}
+use Rattle.cv_tree.specs.Changes.{nodes_of, subtree_of, FitsUnder}
 use Rattle.cv_tree.proofs.Replacements.{get-at}
 use Rattle.cv_tree.proofs.Shapes.{nothing_at}
 
@@ -28,11 +28,6 @@ FitsUnder-subtree_of t p h =
       | true ↦ λ q some. h.part.paths (p ++ q) (rw (get-at t p q) at some)
       | false ↦ tt
     ]
-
-pub IsTreeAtRoot-subtree_of : (t : Nodes) (p : Path) → IsTree t → IsTreeAtRoot p (nodes_of (subtree_of t p))
-IsTreeAtRoot-subtree_of t p h root =
-    let there : is_some (get t p) ≡ true = rw root h.part.root in
-    rw there (rw (get-at t p [], append-nil p, root) h.root)
 
 -- a part that fits fits with one more node whose path keeps its limits there
 pub FitsUnder-insert : (p : Path) (s : Nodes) (q : Path) (node : Node) → FitsUnder p s → IsPath (p ++ q) → FitsUnder p (insert s q node)

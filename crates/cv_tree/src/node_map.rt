@@ -67,6 +67,18 @@ impl NodeMap {
         self.nodes.get(path)
     }
 
+    /// Equal nodes, each with its path, in the order of the paths.
+    pub(crate) fn entries(&self, alloc: Global) -> Result<Vec<(RepoPath, Node)>, NoMemory>
+        ensures { IfOk result (λ entries. entries.items ≡ map.entries self.now) }
+    {
+        let mut entries = Vec::new(alloc);
+        for (path, node) in &self.nodes {
+            let entry = (path.copy(alloc)?, node.copy(alloc)?);
+            entries.push(entry).map_err(|_| NoMemory)?;
+        }
+        Ok(entries)
+    }
+
     /// Sets the node at a path.
     pub(crate) fn set(&mut self, path: RepoPath, node: Node) -> Result<(), NoMemory>
         ensures ok { OnOk result (self.new ≡ map.insert self.old path node) }

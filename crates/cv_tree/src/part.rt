@@ -4,7 +4,7 @@ ghost use Rattle.std.specs.Option.{option_copied};
 ghost use Rattle.std.specs.FinMap as map;
 ghost use Rattle.cv_tree.specs.Node.{IsNode};
 ghost use Rattle.cv_tree.specs.Tree.{IsPart, single};
-ghost use Rattle.cv_tree.specs.Changes.{insertion, IsUnlessMemory, nodes_of};
+ghost use Rattle.cv_tree.specs.Changes.{insertion, IsUnlessMemory};
 
 use crate::node::Node;
 use crate::node_map::NodeMap;

@@ -83,6 +83,7 @@ fn small_tree(alloc: Global) -> Result<Tree, Fail> {
 #[test]
 fn a_node_stands_in_a_directory(rt: HostRuntime) -> Result<(), Fail> {
     let mut tree = small_tree(rt.alloc())?;
+    assert_eq!(rt; tree.entries(rt.alloc())?.len(), 5);
     let inserts = [
         ("/x/y", false, Err(TreeFault::NoParent)),
         ("/d", true, Err(TreeFault::Exists)),

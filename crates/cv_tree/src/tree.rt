@@ -58,6 +58,14 @@ impl Tree {
         self.nodes.get(path)
     }
 
+    /// A copy of all nodes, each with its path, in the order of the paths: that of a directory stands before those below it.
+    pub fn entries(&self, alloc: Global) -> Result<Vec<(RepoPath, Node)>, NoMemory>
+        ensures entries { IfOk result (λ entries. entries.items ≡ map.entries self.now) }
+        ensures tree { IsTree self.now }
+    {
+        self.nodes.entries(alloc)
+    }
+
     /// A copy of what stands at a path and below it. None where nothing stands at the path.
     pub fn subtree(&self, alloc: Global, path: &RepoPath) -> Result<Option<Part>, NoMemory>
         ensures { IfOk result (λ found. found ≡ subtree_of self.now path.now) }
