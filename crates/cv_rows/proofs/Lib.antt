@@ -6,6 +6,9 @@ pub mod RowFields
 pub mod FileLaws
 pub mod RowLaws
 pub mod Sorting
+pub mod TextOrder
+pub mod Apart
+pub mod InOrder
 pub mod ParentLaws
 pub mod Steps
 pub mod RootLaws
@@ -15,3 +18,9 @@ pub mod Walks
 pub mod MarkerLaws
 pub mod NestedLaws
 pub mod RuleLaws
+pub mod OneFault
+pub mod Regions
+pub mod Covers
+pub mod Left
+pub mod Covering
+pub mod TestLaws

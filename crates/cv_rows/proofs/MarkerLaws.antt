@@ -1,12 +1,10 @@
 -- Directories with markers.
-use Rattle.std.proofs.Common.{◌≡◌, ℕ, Bool, true, false, cond, ◌||◌, ◌&&◌, List, refl, ap, ◌∙◌}
+use Rattle.std.proofs.Common.{◌≡◌, ℕ, Bool, true, false, cond, ◌||◌, List, refl, ap, ◌∙◌}
 use Rattle.std.specs.Prelude.{bytes_eq}
 use Rattle.std.specs.Ordering.{nat_cmp, is_eq}
 use Rattle.std.specs.Cmp.Lexicographic.{slice_cmp}
 use Rattle.std.specs.BTreeSet.{BTreeSet, contains, Updates}
 use Rattle.std.proofs.lemmas.Map.Text.{is_eq-slice_cmp}
-use Rattle.cv_rows.specs.Catalogue.{is_marker}
-use Rattle.cv_rows.specs.declared.row.Row.{Row}
 
 or_cond : (a b : Bool) → cond b true a ≡ (a || b)
 or_cond true true = refl
@@ -18,9 +16,3 @@ or_cond false false = refl
 pub one_more : (s n : BTreeSet (List ℕ)) (k : List ℕ) → Updates (slice_cmp nat_cmp) s n k true → (key : List ℕ) → contains (slice_cmp nat_cmp) n key ≡ (contains (slice_cmp nat_cmp) s key || bytes_eq k key)
 one_more s n k u key =
     u.0 key ∙ or_cond (contains (slice_cmp nat_cmp) s key) (is_eq (slice_cmp nat_cmp k key)) ∙ ap (λ (b : Bool). contains (slice_cmp nat_cmp) s key || b) (is_eq-slice_cmp k key)
-
--- the same for the parent key of a marker
-pub marked_more : (s n : BTreeSet (List ℕ)) (r : Row) → true ≡ is_marker r → Updates (slice_cmp nat_cmp) s n r.parent.0 true → (key : List ℕ)
-    → contains (slice_cmp nat_cmp) n key ≡ (contains (slice_cmp nat_cmp) s key || is_marker r && bytes_eq r.parent.0 key)
-marked_more s n r is u key =
-    one_more s n r.parent.0 u key ∙ ap (λ (b : Bool). contains (slice_cmp nat_cmp) s key || b && bytes_eq r.parent.0 key) is

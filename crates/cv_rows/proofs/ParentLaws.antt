@@ -10,18 +10,6 @@ use Rattle.cv_rows.specs.Parents.{IsParentOf}
 use Rattle.cv_rows.specs.declared.row.Row.{Row}
 use Rattle.cv_rows.proofs.Sorting.{same_row}
 
--- the row at j is the parent
-pub is_parent : (rows : List Row) (root i j : ℕ) (r p : Row) → i ≢ root → i < length rows → j < length rows → r ≡ get_or rows i r → p ≡ get_or rows j p → IsChild r p → IsParentOf rows root i j
-is_parent rows root i j r p apart li lj r-is p-is child = record {
-  bound = omega arith;
-  root_is = λ same. absurd (apart same);
-  some = λ ne lt d.
-      let r-at : r ≡ get_or rows i d = r-is ∙ get_or_default rows i r d li in
-      let p-at : p ≡ get_or rows j d = p-is ∙ get_or_default rows j p d lj in
-      subst (λ (x : Row). IsChild x (get_or rows j d)) r-at (subst (λ (x : Row). IsChild r x) p-at child);
-  none = λ ne le. absurd (omega arith);
-}
-
 -- the row has no parent
 pub no_parent : (rows : List Row) (root i : ℕ) (r : Row) → i ≢ root → i < length rows → r ≡ get_or rows i r → ((p : Row) → Contains rows p → IsChild r p → ⊥) → IsParentOf rows root i (length rows)
 no_parent rows root i r apart li r-is none = record {

@@ -131,14 +131,6 @@ row_parts : (r : Row) (rest : List ℕ) → row_bytes r ++ rest
     ≡ r.key.0 ++ (r.parent.0 ++ (to_be_bytes w32 (flags_of r.kind) ++ (attr_bytes r.kind r.attr ++ (to_be_bytes w64 r.size ++ (hash_field r.hash ++ (text_field r.name ++ (text_field r.target ++ rest)))))))
 row_parts r rest = simp append_assoc
 
--- a text that begins with each field in turn begins with the row
-fields_whole : (r : Row) (text a b c d s h n rest : List ℕ) → text ≡ r.key.0 ++ a → a ≡ r.parent.0 ++ b → b ≡ to_be_bytes w32 (flags_of r.kind) ++ c → c ≡ attr_bytes r.kind r.attr ++ d
-    → d ≡ to_be_bytes w64 r.size ++ s → s ≡ hash_field r.hash ++ h → h ≡ text_field r.name ++ n → n ≡ text_field r.target ++ rest → text ≡ row_bytes r ++ rest
-fields_whole r text a b c d s h n rest ta tb tc td ts th tn tr =
-    ta ∙ ap (λ (y : List ℕ). r.key.0 ++ y) (tb ∙ ap (λ (y : List ℕ). r.parent.0 ++ y) (tc ∙ ap (λ (y : List ℕ). to_be_bytes w32 (flags_of r.kind) ++ y)
-    (td ∙ ap (λ (y : List ℕ). attr_bytes r.kind r.attr ++ y) (ts ∙ ap (λ (y : List ℕ). to_be_bytes w64 r.size ++ y) (th ∙ ap (λ (y : List ℕ). hash_field r.hash ++ y)
-    (tn ∙ ap (λ (y : List ℕ). text_field r.name ++ y) tr)))))) ∙ sym (row_parts r rest)
-
 row_next : (all : ℕ) (text : List ℕ) → row_at all text ≡ (bytes_at 16 text >>= λ k. from_parent all k.0 k.1)
 unfolding row_at from_parent from_kind from_attr from_size from_hash from_name from_target
 row_next all text = refl

@@ -10,7 +10,7 @@ use Rattle.hex.specs.Hex.{IsBytes}
 use Rattle.cv_base.specs.Path.{Path, IsPath}
 use Rattle.cv_rows.specs.Places.{IsRoot, StandsAt, root}
 use Rattle.cv_rows.specs.Catalogue.{Contents, IsCatalogue, IsUnlessMemory, IsMarkedWell, IsTransitionAt, IsListed, row_cmp, nested_cmp, file_of, catalogue_bytes}
-use Rattle.cv_rows.specs.Faults.{IsFirst, IsFirstDisorder, AreOrdered, AllStand, AllFit, IsRuleFault, IsFaultOf, IsSaid, IsFirstFault, KeepsRules}
+use Rattle.cv_rows.specs.Faults.{IsFirst, IsFirstDisorder, IsFirstOrphan, IsMisplaced, AreOrdered, AllStand, AllFit, IsRuleFault, IsFaultOf, IsFirstFault, KeepsRules}
 use Rattle.cv_rows.specs.Reading.{Entries, Fails, entries_of}
 use Rattle.cv_rows.specs.declared.row.Row.{Row}
 use Rattle.cv_rows.specs.declared.nested.Nested.{Nested}
@@ -24,36 +24,49 @@ use Rattle.cv_rows.proofs.FieldLaws.{ok_is}
 use Rattle.cv_rows.proofs.FileLaws.{HasFile, file_takes, file_reads}
 
 -- an element at an index
-some_element : {X : Type 0} (xs : List X) (i : ℕ) → i < length xs → X
+pub some_element : {X : Type 0} (xs : List X) (i : ℕ) → i < length xs → X
 some_element [] i lt = absurd (omega arith)
 some_element (x ∷ xs) i lt = x
 
 -- what is sorted isn't out of order anywhere
-no_disorder : {X : Type 0} (cmp : X → X → Ordering) (xs : List X) (i : ℕ) → IsStrictlySortedBy cmp xs → IsFirstDisorder cmp xs i → ⊥
+pub no_disorder : {X : Type 0} (cmp : X → X → Ordering) (xs : List X) (i : ℕ) → IsStrictlySortedBy cmp xs → IsFirstDisorder cmp xs i → ⊥
 no_disorder cmp xs i sorted first =
     let d = some_element xs i first.within in
     let later = first.later in
     let within = first.within in
     first.here d (Less-from_sorted cmp xs (i - 1) i d sorted (omega arith) within)
 
-no_first : {X : Type 0} (Bad : X → Type 0) (xs : List X) (i : ℕ) → ((k : ℕ) (d : X) → k < length xs → Bad (get_or xs k d) → ⊥) → IsFirst Bad xs i → ⊥
+pub no_first : {X : Type 0} (Bad : X → Type 0) (xs : List X) (i : ℕ) → ((k : ℕ) (d : X) → k < length xs → Bad (get_or xs k d) → ⊥) → IsFirst Bad xs i → ⊥
 no_first Bad xs i none first = let d = some_element xs i first.within in none i d first.within (first.here d)
+
+-- ---- a rule that is kept isn't broken
+
+pub order_none : (rows : List Row) (nested : List Nested) (i : ℕ) → AreOrdered rows nested → (at : Path) → IsRuleFault at rows nested (Order i) → ⊥
+order_none rows nested i ordered at (inl f) = no_disorder row_cmp rows i ordered.0 f
+order_none rows nested i ordered at (inr f) = no_disorder nested_cmp nested f.1.0 ordered.1 f.1.2
+
+pub orphan_none : (at : Path) (rows : List Row) (i : ℕ) → AllStand at rows → IsFirstOrphan at rows i → ⊥
+orphan_none at rows i stand (inl none) = none.0 stand.root.0 stand.root.1 stand.root.2
+orphan_none at rows i stand (inr first) = no_first _ rows i (λ k d lt orphan. let p = stand.each k d lt in orphan p.0 p.1) first.1
+
+pub misplaced_none : (at : Path) (rows : List Row) (i : ℕ) → IsStrictlySortedBy row_cmp rows → AllFit at rows → IsFirst (IsMisplaced at rows) rows i → ⊥
+misplaced_none at rows i sorted fit = no_first _ rows i (λ k d lt bad. bad.2 (fits_there at rows (get_or rows k d) bad.0 sorted fit bad.1))
+
+pub marked_none : (at : Path) (rows : List Row) (i : ℕ) → All (IsMarkedWell at rows) rows → IsFirst (λ r. IsMarkedWell at rows r → ⊥) rows i → ⊥
+marked_none at rows i marked = no_first _ rows i (λ k d lt bad. bad (marked k d lt))
+
+pub named_none : (at : Path) (rows : List Row) (nested : List Nested) (i : ℕ) → All (λ n. IsTransitionAt at rows n.path) nested → IsFirst (λ n. IsTransitionAt at rows n.path → ⊥) nested i → ⊥
+named_none at rows nested i named = no_first _ nested i (λ k d lt bad. bad (named k d lt))
 
 -- a catalogue has none of the faults
 no_fault : (c : Contents) (fault : RowFault) → IsCatalogue c → IsRuleFault c.at c.rows c.nested fault → ⊥
-no_fault c (Order i) is f = elim f [
-  | inl rows ↦ no_disorder row_cmp c.rows i is.ordered rows
-  | inr nested ↦ no_disorder nested_cmp c.nested nested.1.0 is.nested_ordered nested.1.2
-]
-no_fault c (Orphan i) is f = elim f.1 [
-  | inl none ↦ let r = is.region.root in none.0 r.0 r.1 r.2
-  | inr first ↦ no_first _ c.rows i (λ k d lt orphan. let p = is.region.placed k d lt in orphan p.0 p.1) first.1
-]
-no_fault c (BadKey i) is f =
-    no_first _ c.rows i (λ k d lt bad. bad.2 (fits_there c.at c.rows (get_or c.rows k d) bad.0 is.ordered is.region.placed bad.1)) f.2
-no_fault c (Marker i) is f = no_first _ c.rows i (λ k d lt bad. bad (is.region.marked k d lt)) f.3
+no_fault c (Order i) is f = order_none c.rows c.nested i (is.ordered, is.nested_ordered) c.at f
+no_fault c (Orphan i) is f =
+    orphan_none c.at c.rows i (record { root = is.region.root; each = λ k d lt. let p = is.region.placed k d lt in (p.0, p.1) }) f.1
+no_fault c (BadKey i) is f = misplaced_none c.at c.rows i is.ordered is.region.placed f.2
+no_fault c (Marker i) is f = marked_none c.at c.rows i is.region.marked f.3
 no_fault c (NestedList i) is f = elim f.4 [
-  | inl first ↦ no_first _ c.nested i (λ k d lt bad. bad (is.region.named k d lt)) first
+  | inl first ↦ named_none c.at c.rows c.nested i is.region.named first
   | inr last ↦
       let bad = last.2 in
       let has = bad.1 in
@@ -141,10 +154,6 @@ field_fault bytes at (Marker i) h = rw h refl
 field_fault bytes at (NestedList i) h = rw h refl
 field_fault bytes at TrailingBytes h = rw h refl
 field_fault bytes at TooLarge h = rw h refl
-
--- a fault of a rule is the first where the fields have none
-pub rule_fault : (bytes : List ℕ) (at : Path) (rows : List Row) (nested : List Nested) (fault : RowFault) → entries_of bytes ≡ Ok (rows, nested) → IsSaid fault (IsRuleFault at rows nested fault) → IsFirstFault bytes at fault
-rule_fault bytes at rows nested fault reads h = subst (λ (e : Result Entries RowFault). IsSaid fault (IsFaultOf at e fault)) (sym reads) h
 
 -- the root row is there
 pub root_there : (at : Path) (rows : List Row) (top : ℕ) → top < length rows → HoldsAt (IsRoot at) rows top → (r : Row) × Contains rows r × IsRoot at r

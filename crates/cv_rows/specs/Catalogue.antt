@@ -6,6 +6,7 @@ use Rattle.std.specs.Cmp.Lexicographic.{slice_cmp}
 use Rattle.std.specs.Int.{w32, to_be_bytes}
 use Rattle.std.specs.List.{flat_map, list_any, All, AllByRecursion}
 use Rattle.std.specs.List.Sorted.{IsStrictlySortedBy}
+use Rattle.cv_base.specs.Marker.{marker}
 use Rattle.cv_base.specs.Path.{Path, IsPath, text_of, key_of}
 use Rattle.cv_rows.specs.Row.{IsRow, row_bytes, same_kind}
 use Rattle.cv_rows.specs.Nested.{IsNested, nested_bytes}
@@ -58,10 +59,7 @@ pub record FitsAt (at : Path) (r : Row) (q : Path) : Type 0 where
 
 -- ---- markers
 
-abbrev pub marker : List ℕ
-marker = codes ".cvmfscatalog"
-
--- a file of that name
+-- a file that marks its directory as the root of a nested catalogue
 abbrev pub is_marker : Row → Bool
 is_marker r = same_kind r.kind File && bytes_eq r.name marker
 

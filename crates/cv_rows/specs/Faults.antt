@@ -54,6 +54,12 @@ IsFirstOrphan at rows i =
     (((r : Row) → Contains rows r → IsRoot at r → ⊥) × (i ≡ 0))
     ⊎ (((r : Row) × Contains rows r × IsRoot at r) × IsFirst (IsOrphan at rows) rows i)
 
+-- a nested entry has no Transition row, or else a Transition row has no entry
+abbrev pub IsFirstUnlisted : Path → List Row → List Nested → ℕ → Type 0
+IsFirstUnlisted at rows nested i =
+    IsFirst (λ n. IsTransitionAt at rows n.path → ⊥) nested i
+    ⊎ (All (λ n. IsTransitionAt at rows n.path) nested × (i ≡ length nested) × ((r : Row) × Contains rows r × (IsListed at rows nested r → ⊥)))
+
 -- the first rule that is broken, by its fault
 abbrev pub IsRuleFault : Path → List Row → List Nested → RowFault → Type 0
 IsRuleFault at rows nested (Order i) =
@@ -64,9 +70,7 @@ IsRuleFault at rows nested (BadKey i) = AreOrdered rows nested × AllStand at ro
 IsRuleFault at rows nested (Marker i) =
     AreOrdered rows nested × AllStand at rows × AllFit at rows × IsFirst (λ r. IsMarkedWell at rows r → ⊥) rows i
 IsRuleFault at rows nested (NestedList i) =
-    AreOrdered rows nested × AllStand at rows × AllFit at rows × All (IsMarkedWell at rows) rows
-    × (IsFirst (λ n. IsTransitionAt at rows n.path → ⊥) nested i
-    ⊎ (All (λ n. IsTransitionAt at rows n.path) nested × (i ≡ length nested) × ((r : Row) × Contains rows r × (IsListed at rows nested r → ⊥))))
+    AreOrdered rows nested × AllStand at rows × AllFit at rows × All (IsMarkedWell at rows) rows × IsFirstUnlisted at rows nested i
 IsRuleFault at rows nested fault = ⊥
 
 -- the fault of a field comes before those of the rules

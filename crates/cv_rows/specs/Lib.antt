@@ -1,9 +1,12 @@
 pub mod Catalogue
+pub mod Made
 pub mod Faults
 pub mod Markers
 pub mod Nested
 pub mod NestedList
+pub mod Order
 pub mod Parents
 pub mod Places
 pub mod Reading
 pub mod Row
+pub mod Without

@@ -1,8 +1,8 @@
 -- The parents of rows, by index.
-use Rattle.std.specs.Prelude.{◌≡◌, ◌≢◌, ℕ, zero, suc, ◌+◌, ◌<◌, ◌≤◌, List, [], ◌∷◌, ◌++◌, length, Option, Some, None, slice_index, slice_index_or, Contains}
+use Rattle.std.specs.Prelude.{◌≡◌, ◌≢◌, Bool, false, ℕ, zero, suc, ◌+◌, ◌<◌, ◌≤◌, List, [], ◌∷◌, ◌++◌, length, Option, Some, None, slice_index, slice_index_or, Contains}
 use Rattle.std.specs.List.{HoldsAt}
 use Rattle.std.specs.List.Sorted.{IsStrictlySortedBy}
-use Rattle.cv_base.specs.Path.{Path, IsPath}
+use Rattle.cv_base.specs.Path.{Path, IsPath, covers}
 use Rattle.cv_rows.specs.Catalogue.{row_cmp}
 use Rattle.cv_rows.specs.Places.{IsRoot, IsChild, StandsAt}
 use Rattle.cv_rows.specs.declared.row.Row.{Row}
@@ -54,3 +54,8 @@ IsPathOf at rows i left (Some path) = IsPath path × ((d : Row) → StandsAt at 
 abbrev pub IsBelow : Path → List ℕ → Option Path → Type 0
 IsBelow above name None = IsPath (above ++ name ∷ []) → ⊥
 IsBelow above name (Some path) = (path ≡ above ++ name ∷ []) × IsPath path
+
+-- the path, if one was found, is covered
+abbrev pub is_covered : Path → Option Path → Bool
+is_covered path None = false
+is_covered path (Some found) = covers path found

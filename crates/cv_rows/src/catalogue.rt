@@ -1,11 +1,17 @@
 //! Catalogues.
-ghost use Rattle.std.specs.Prelude.{◌≡◌, ◌≢◌, IfOk, IfErr, MatchOption, Contains, filter};
+ghost use Rattle.std.specs.Prelude.{◌≡◌, ◌≢◌, ◌++◌, true, false, IfOk, IfErr, Err, MatchOption, Contains, filter};
+ghost use Rattle.cv_base.specs.Marker.{marker, ends_in};
+ghost use Rattle.cv_base.specs.Path.{covers};
 
 use crate::children::children_of;
+use crate::covered::{covered_keys, drop_nested, drop_rows};
+use crate::judging::{extend, judge};
 use crate::nested::Nested;
+use crate::order::{nested_by_text, rows_by_key};
 use crate::places::position;
 use crate::row::Row;
 use crate::row_fault::RowFault;
+use crate::with_fault::WithFault;
 use crate::{rules, write};
 use cv_base::{NoMemory, PathKey, RepoPath};
 use std::alloc::Global;
@@ -34,7 +40,11 @@ impl Model for Catalogue {
 impl Catalogue {
     ghost use Rattle.cv_rows.specs.Catalogue.{Contents, IsCatalogue, IsUnlessMemory, catalogue_bytes, is_below};
     ghost use Rattle.cv_rows.specs.Faults.{IsFirstFault};
+    ghost use Rattle.cv_rows.specs.Made.{AreParts, AreApart, IsTwice, PassesLimit, keys_of, in_order};
+    ghost use Rattle.cv_rows.specs.Without.{IsWithout};
     ghost use Rattle.cv_rows.specs.declared.row.Row.{Row as TheRow};
+    ghost use Rattle.cv_rows.specs.declared.with_fault.WithFault.TheVariants as fault;
+    ghost use Rattle.cv_base.specs.declared.path_key.PathKey.{PathKey as ThePathKey};
 
     /// The catalogue at a path whose row file these bytes are. Else the first fault, in this order: too
     /// many bytes or rows, the format's name, the fields from the first byte on, bytes that follow,
@@ -56,6 +66,100 @@ impl Catalogue {
         }
     }
 
+    /// The catalogue of the cut at a path, of all its rows, the root row among them, and all its nested entries. Both may
+    /// stand in any order. Collision names a key that two rows have. Full says that no two have one, but that there are more
+    /// rows or bytes than a row file may have.
+    pub fn of(
+        alloc: Global,
+        at: &RepoPath,
+        rows: Vec<Row>,
+        nested: Vec<Nested>,
+    ) -> Result<Catalogue, WithFault>
+        requires { AreParts at.now rows.items nested.items }
+        ensures made { IfOk result (λ c. c ≡ in_order at.now rows.items nested.items) }
+        ensures apart { IfOk result (λ c. AreApart (keys_of rows.items)) }
+        ensures fits { IfOk result (λ c. PassesLimit rows.items nested.items → ⊥) }
+        ensures collision { (key : ThePathKey) → result ≡ Err (fault.Collision key) → IsTwice (keys_of rows.items) key.0 }
+        ensures full { result ≡ Err fault.Full → AreApart (keys_of rows.items) × PassesLimit rows.items nested.items }
+    {
+        let at = at.copy(alloc)?;
+        match judge(alloc, &rows, &nested) {
+            Ok(()) => Ok(Catalogue {
+                at,
+                rows: rows_by_key(rows),
+                nested: nested_by_text(nested),
+            }),
+            Err(fault) => Err(fault),
+        }
+    }
+
+    /// The catalogue with more rows and nested entries, in any order. The faults are those of `of`, for all rows and nested
+    /// entries together. After one the catalogue comes back as it was.
+    pub fn with(
+        self,
+        alloc: Global,
+        rows: Vec<Row>,
+        nested: Vec<Nested>,
+    ) -> Result<Catalogue, (Catalogue, WithFault)>
+        requires { AreParts self.at (self.rows ++ rows.items) (self.nested ++ nested.items) }
+        ensures made { IfOk result (λ c. c ≡ in_order self.at (self.rows ++ rows.items) (self.nested ++ nested.items)) }
+        ensures apart { IfOk result (λ c. AreApart (keys_of (self.rows ++ rows.items))) }
+        ensures fits { IfOk result (λ c. PassesLimit (self.rows ++ rows.items) (self.nested ++ nested.items) → ⊥) }
+        ensures unchanged { IfErr result (λ back. back.0 ≡ self) }
+        ensures collision { (key : ThePathKey) → IfErr result (λ back. back.1 ≡ fault.Collision key → IsTwice (keys_of (self.rows ++ rows.items)) key.0) }
+        ensures full { IfErr result (λ back. back.1 ≡ fault.Full → AreApart (keys_of (self.rows ++ rows.items)) × PassesLimit (self.rows ++ rows.items) (self.nested ++ nested.items)) }
+    {
+        let Catalogue {
+            at,
+            rows: mut all_rows,
+            nested: mut all_nested,
+        } = self;
+        let row_count = all_rows.len();
+        let nested_count = all_nested.len();
+        match extend(alloc, &mut all_rows, &mut all_nested, rows, nested) {
+            Ok(()) => Ok(Catalogue {
+                at,
+                rows: rows_by_key(all_rows),
+                nested: nested_by_text(all_nested),
+            }),
+            Err(fault) => {
+                all_rows.truncate(row_count);
+                all_nested.truncate(nested_count);
+                let catalogue = Catalogue {
+                    at,
+                    rows: all_rows,
+                    nested: all_nested,
+                };
+                Err((catalogue, fault))
+            }
+        }
+    }
+
+    /// The catalogue without the rows that stand at or below a path, and without the nested entries there. The path lies below
+    /// the catalogue's own place, and doesn't end in the marker's name. Where there is no memory the catalogue comes back as
+    /// it was.
+    pub fn without(self, alloc: Global, path: &RepoPath) -> Result<Catalogue, (Catalogue, NoMemory)>
+        requires below { covers self.at path.now ≡ true }
+        requires apart { path.now ≢ self.at }
+        requires unmarked { ends_in marker path.now ≡ false }
+        ensures left { IfOk result (IsWithout self path.now) }
+        ensures unchanged { IfErr result (λ back. back.0 ≡ self) }
+    {
+        match covered_keys(alloc, &self.at, &self.rows, path) {
+            Ok(covered) => {
+                let Catalogue {
+                    at,
+                    mut rows,
+                    mut nested,
+                } = self;
+                drop_rows(&mut rows, &covered);
+                drop_nested(&mut nested, path);
+                Ok(Catalogue { at, rows, nested })
+            }
+            Err(NoMemory) => Err((self, NoMemory)),
+        }
+    }
+
     /// The row with this key.
     pub fn find(&self, key: PathKey) -> Option<&Row>
         ensures { MatchOption result
@@ -74,6 +178,14 @@ impl Catalogue {
         ensures { IfOk result (λ rows. rows.items ≡ filter (λ r. is_below r key.0) self.now.rows) }
     {
         children_of(alloc, &self.rows, &key.0)
+    }
+
+    /// The rows, in ascending order of key.
+    pub fn rows(&self) -> &[Row]
+        ensures rows { result.now ≡ self.now.rows }
+        ensures rules { IsCatalogue self.now }
+    {
+        &self.rows
     }
 
     /// The nested entries, in ascending order of the texts of their paths.

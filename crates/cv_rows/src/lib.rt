@@ -3,7 +3,10 @@
 
 mod catalogue;
 mod children;
+mod covered;
 mod fields;
+mod judging;
+mod keys;
 pub mod laws;
 mod markers;
 mod nested;
@@ -15,6 +18,7 @@ mod row;
 mod row_fault;
 mod row_kind;
 mod rules;
+mod with_fault;
 mod write;
 
 pub use catalogue::Catalogue;
@@ -22,6 +26,7 @@ pub use nested::Nested;
 pub use row::Row;
 pub use row_fault::RowFault;
 pub use row_kind::RowKind;
+pub use with_fault::WithFault;
 
 #[cfg(test)]
 mod tests;

@@ -8,15 +8,13 @@ ghost use Rattle.cv_rows.specs.Catalogue.{is_marker, has_marker, IsMarkedWell};
 ghost use Rattle.cv_rows.specs.Faults.{IsFirst};
 ghost use Rattle.cv_rows.specs.Markers.{MarksWell};
 
+use crate::keys::add;
 use crate::places::is_root;
 use crate::row::Row;
 use crate::row_kind::RowKind;
-use cv_base::{NoMemory, RepoPath};
+use cv_base::{MARKER, NoMemory, RepoPath};
 use std::alloc::Global;
 use std::collections::BTreeSet;
-
-/// The name of the file that marks the root of a nested catalogue.
-const MARKER: &str = ".cvmfscatalog";
 
 /// Whether a row is a marker.
 fn is_marker(row: &Row) -> bool
@@ -35,10 +33,8 @@ fn mark(keys: &mut BTreeSet<[u8; 16]>, row: &Row) -> Result<(), NoMemory>
     if !is_marker(row) {
         return Ok(());
     }
-    match keys.insert(row.parent.0) {
-        Ok(_) => Ok(()),
-        Err(_) => Err(NoMemory),
-    }
+    add(keys, row.parent.0)?;
+    Ok(())
 }
 
 /// The keys of the directories that have a marker.

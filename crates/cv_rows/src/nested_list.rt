@@ -1,26 +1,23 @@
 //! The list of nested entries.
-ghost use Rattle.std.specs.Prelude.{◌≡◌, ◌||◌, ℕ, List, bytes_eq, IfOk, OnOk, MatchBool, MatchOption};
+ghost use Rattle.std.specs.Prelude.{◌≡◌, ℕ, List, IfOk, MatchBool, MatchOption};
 ghost use Rattle.std.specs.Ordering.{nat_cmp};
 ghost use Rattle.std.specs.Cmp.Lexicographic.{slice_cmp};
 ghost use Rattle.std.specs.BTreeSet.{contains};
 ghost use Rattle.std.specs.List.{All};
-ghost use Rattle.cv_base.specs.Path.{key_of};
 ghost use Rattle.cv_rows.specs.Places.{StandsAt};
 ghost use Rattle.cv_rows.specs.Parents.{IsPlacing};
 ghost use Rattle.cv_rows.specs.Catalogue.{IsTransitionAt};
 ghost use Rattle.cv_rows.specs.Faults.{IsFirst, AllFit};
 ghost use Rattle.cv_rows.specs.NestedList.{is_transition, has_key, HasNested, IsListedBy};
 
+use crate::keys::add;
 use crate::nested::Nested;
-use crate::places::{path_of_row, position};
+use crate::places::{MAX_NAMES, path_of_row, position};
 use crate::row::Row;
 use crate::row_kind::RowKind;
 use cv_base::{NoMemory, RepoPath};
 use std::alloc::Global;
 use std::collections::BTreeSet;
-
-/// The most names of a path.
-const MAX_NAMES: usize = 64;
 
 /// Whether a row, of which this path was found, is the Transition row of a path.
 fn is_transition(row: &Row, found: &Option<RepoPath>, path: &RepoPath) -> bool
@@ -76,23 +73,13 @@ pub fn first_unnamed(
     Ok(None)
 }
 
-/// Adds the key of a path.
-fn note(keys: &mut BTreeSet<[u8; 16]>, path: &RepoPath) -> Result<(), NoMemory>
-    ensures { OnOk result ((key : List ℕ) → contains (slice_cmp nat_cmp) keys.new key ≡ (contains (slice_cmp nat_cmp) keys.old key || bytes_eq (key_of path.now) key)) }
-{
-    match keys.insert(path.key().0) {
-        Ok(_) => Ok(()),
-        Err(_) => Err(NoMemory),
-    }
-}
-
 /// The keys of the paths of nested entries.
 fn nested_keys(alloc: Global, nested: &[Nested]) -> Result<BTreeSet<[u8; 16]>, NoMemory>
     ensures { IfOk result (λ set. (key : List ℕ) → contains (slice_cmp nat_cmp) set key ≡ has_key nested.now key) }
 {
     let mut keys = BTreeSet::new(alloc);
     for entry in nested {
-        note(&mut keys, &entry.path)?;
+        add(&mut keys, entry.path.key().0)?;
     }
     Ok(keys)
 }

@@ -21,7 +21,7 @@ use std::alloc::Global;
 const DOUBLINGS: u32 = 16;
 
 /// The most names of a path.
-const MAX_NAMES: usize = 64;
+pub const MAX_NAMES: usize = 64;
 
 /// The key of the path of these names.
 fn key_of_names(names: &[PathName]) -> [u8; 16]
@@ -58,7 +58,7 @@ pub fn is_root(at: &RepoPath, row: &Row) -> bool
 }
 
 /// The key of a row.
-fn key_of_row(row: &Row) -> [u8; 16]
+pub fn key_of_row(row: &Row) -> [u8; 16]
     ensures { result ≡ row.now.key.0 }
 {
     row.key.0

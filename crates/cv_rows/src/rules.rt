@@ -13,11 +13,11 @@ use crate::places::{first_misplaced, first_orphan, parents, root_position};
 use crate::reading::{Entries, read_file};
 use crate::row::Row;
 use crate::row_fault::RowFault;
-use cv_base::{NoMemory, RepoPath};
+use cv_base::RepoPath;
 use std::alloc::Global;
 
 /// Checks that rows and nested entries are in order.
-fn check_order(alloc: Global, rows: &[Row], nested: &[Nested]) -> Result<(), RowFault>
+fn check_order(rows: &[Row], nested: &[Nested]) -> Result<(), RowFault>
     requires rows { length rows.now ≤ 50000 }
     requires nested { length nested.now ≤ 16777216 }
     ensures { (at : List (List ℕ)) → Checks (AreOrdered rows.now nested.now) (IsRuleFault at rows.now nested.now) result }
@@ -25,10 +25,9 @@ fn check_order(alloc: Global, rows: &[Row], nested: &[Nested]) -> Result<(), Row
     if let Some(row) = row_disorder(rows) {
         return Err(RowFault::Order(row));
     }
-    match nested_disorder(alloc, nested) {
-        Ok(None) => Ok(()),
-        Ok(Some(entry)) => Err(RowFault::Order(rows.len() + entry)),
-        Err(NoMemory) => Err(RowFault::NoMemory),
+    match nested_disorder(nested) {
+        Some(entry) => Err(RowFault::Order(rows.len() + entry)),
+        None => Ok(()),
     }
 }
 
@@ -71,7 +70,7 @@ fn check(alloc: Global, at: &RepoPath, rows: &[Row], nested: &[Nested]) -> Resul
     requires nested { length nested.now ≤ 16777216 }
     ensures { Checks (KeepsRules at.now rows.now nested.now) (IsRuleFault at.now rows.now nested.now) result }
 {
-    check_order(alloc, rows, nested)?;
+    check_order(rows, nested)?;
     match root_position(at, rows) {
         Some(root) => check_places(alloc, at, rows, root, nested),
         None => Err(RowFault::Orphan(0)),

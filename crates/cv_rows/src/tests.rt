@@ -1,5 +1,13 @@
+ghost use Rattle.std.specs.Prelude.{◌≡◌, ◌++◌, ◌||◌, true, false, not, bytes_eq, Contains, IfOk};
+ghost use Rattle.std.specs.List.{list_any};
+ghost use Rattle.std.specs.List.Sorted.{IsPermutation, IsStrictlySortedBy};
+ghost use Rattle.cv_rows.specs.Catalogue.{Contents, IsCatalogue, row_cmp};
+ghost use Rattle.cv_rows.specs.declared.row.Row.{Row as TheRow};
+
 use super::*;
-use cv_base::RepoPath;
+use crate::reading::Entries;
+use crate::rules::read;
+use cv_base::{RepoPath, ends_in_marker};
 use hex::decode;
 use std::alloc::Global;
 use std::test::*;
@@ -29,6 +37,14 @@ const OUTER: &str =
 /// The catalogue of the same files without a marker.
 const PLAIN: &str =
     "43565231000000040000000008227ee67df92d3f9e3516ba38228da60c606f9929ab0de4b9d1961ce5dfdadf00000004000081a4000000006553f1000000000000000000000000000000000214a9fcd54b25e7e863d72cd47c08af46e61b74b56100016600000c606f9929ab0de4b9d1961ce5dfdadfd41d8cd98f00b204e9800998ecf8427e00000001000041ed000000006553f10000000000000000000000000000000000000001640000d41d8cd98f00b204e9800998ecf8427e0000000000000000000000000000000000000001000041ed000000006553f100000000000000000000000000000000000000000000fe6d224f2fe186dff9a69bd329190c210c606f9929ab0de4b9d1961ce5dfdadf00000004000081a4000000006553f1000000000000000000000000000000000214a5938ace3f424be1a26904781cdb06d55b614e6b0001670000";
+
+/// A directory `/a` with a nested catalogue `/a/x`, and one at `/a-b`, whose text stands below.
+const CROSSED: &str =
+    "4356523100000004000000020639767f3e9eaad729b54037a7e2abf5d41d8cd98f00b204e9800998ecf8427e00000001000041ed000000006553f1000000000000000000000000000000000000000161000038630e36435207ce0906dbd63835ac8ed41d8cd98f00b204e9800998ecf8427e00000003000041ed000000006553f10000000000000000000000000000000000000003612d62000075ff9e22fcb34fb766b4299397b986060639767f3e9eaad729b54037a7e2abf500000003000041ed000000006553f10000000000000000000000000000000000000001780000d41d8cd98f00b204e9800998ecf8427e0000000000000000000000000000000000000001000041ed000000006553f10000000000000000000000000000000000000000000000042f612d6215e722b24d77179e50b53e6f895e28a36c0c7be9000000000000016c00042f612f7815e722b24d77179e50b53e6f895e28a36c0c7be9000000000000016c";
+
+/// The same without `/a`.
+const PRUNED: &str =
+    "43565231000000020000000138630e36435207ce0906dbd63835ac8ed41d8cd98f00b204e9800998ecf8427e00000003000041ed000000006553f10000000000000000000000000000000000000003612d620000d41d8cd98f00b204e9800998ecf8427e0000000000000000000000000000000000000001000041ed000000006553f10000000000000000000000000000000000000000000000042f612d6215e722b24d77179e50b53e6f895e28a36c0c7be9000000000000016c";
 
 /// Places, texts and their faults.
 const FAULTS: [(&str, &str, RowFault); 28] = [
@@ -251,5 +267,87 @@ fn nested_entries_name_their_catalogues(rt: HostRuntime) -> Result<(), Fail> {
         let copy = entry.copy(rt.alloc())?;
         assert!(rt; copy.path == entry.path && copy.hash == entry.hash);
     }
+    Ok(())
+}
+
+/// The catalogue of a text, and its rows and nested entries.
+fn opened(alloc: Global, text: &str, at: &RepoPath) -> Result<(Catalogue, Entries), Fail>
+    ensures is { IfOk result (λ x. IsCatalogue x.0) }
+    ensures parts { IfOk result (λ x. x.0 ≡ record { at = at.now; rows = x.1.0.items; nested = x.1.1.items }) }
+{
+    let bytes = decode(alloc, text).ok().ok_or("hex digits")?;
+    match (
+        Catalogue::decode(alloc, &bytes, at),
+        read(alloc, &bytes, at),
+    ) {
+        (Ok(catalogue), Ok(parts)) => Ok((catalogue, parts)),
+        _ => Err("a catalogue")?,
+    }
+}
+
+/// Whether a catalogue has no row with the key of a row.
+fn lacks(catalogue: &Catalogue, row: &Row) -> bool
+    ensures { result ≡ not (list_any (λ r. bytes_eq r.key.0 row.now.key.0) catalogue.now.rows) }
+{
+    catalogue.find(row.key).is_none()
+}
+
+/// Those of all rows that a catalogue lacks.
+fn lacking(catalogue: &Catalogue, rows: Vec<Row>) -> Vec<Row>
+    requires sorted { IsStrictlySortedBy row_cmp rows.items }
+    requires within { (r : TheRow) → Contains catalogue.now.rows r → Contains rows.items r }
+    ensures there { (r : TheRow) → Contains rows.items r → Contains (catalogue.now.rows ++ result.items) r }
+    ensures back { (r : TheRow) → Contains (catalogue.now.rows ++ result.items) r → Contains rows.items r }
+{
+    let mut lacking = rows;
+    lacking.retain(|row| lacks(catalogue, row));
+    lacking
+}
+
+/// Whether a catalogue is written as this text.
+fn is_written_so(alloc: Global, catalogue: &Catalogue, text: &str) -> Result<bool, Fail> {
+    let bytes = decode(alloc, text).ok().ok_or("hex digits")?;
+    Ok(catalogue.encode(alloc)?.as_slice() == bytes.as_slice())
+}
+
+/// A list the other way round.
+fn reversed<T>(items: Vec<T>) -> Vec<T>
+    ensures { IsPermutation items.items result.items }
+{
+    let mut reversed = items;
+    reversed.as_mut_slice().reverse();
+    reversed
+}
+
+#[test]
+fn rows_and_entries_are_put_in_order(rt: HostRuntime) -> Result<(), Fail> {
+    let at = RepoPath::root(rt.alloc());
+    let (_, (rows, nested)) = opened(rt.alloc(), CROSSED, &at)?;
+    let made = Catalogue::of(rt.alloc(), &at, reversed(rows), reversed(nested))
+        .ok()
+        .ok_or("a catalogue")?;
+    assert!(rt; is_written_so(rt.alloc(), &made, CROSSED)?);
+    Ok(())
+}
+
+#[test]
+fn what_was_dropped_is_added_again(rt: HostRuntime) -> Result<(), Fail> {
+    let at = RepoPath::root(rt.alloc());
+    let a = RepoPath::read(rt.alloc(), "/a")?;
+    if !at.covers(&a) || a == at || ends_in_marker(&a) {
+        return Err("a path below the root")?;
+    }
+    let (whole, (rows, mut nested)) = opened(rt.alloc(), CROSSED, &at)?;
+    let Ok(left) = whole.without(rt.alloc(), &a) else {
+        return Err("memory")?;
+    };
+    assert!(rt; is_written_so(rt.alloc(), &left, PRUNED)?);
+    let more = lacking(&left, rows);
+    nested.retain(|entry| a.covers(&entry.path));
+    let again = left
+        .with(rt.alloc(), more, nested)
+        .ok()
+        .ok_or("a catalogue")?;
+    assert!(rt; is_written_so(rt.alloc(), &again, CROSSED)?);
     Ok(())
 }

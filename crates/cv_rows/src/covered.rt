@@ -1,0 +1,73 @@
+//! The rows and nested entries that a path covers.
+ghost use Rattle.std.specs.Prelude.{◌≡◌, ◌≤◌, ℕ, List, not, length, filter, IfOk, Contains};
+ghost use Rattle.std.specs.Ordering.{nat_cmp};
+ghost use Rattle.std.specs.Cmp.Lexicographic.{slice_cmp};
+ghost use Rattle.std.specs.BTreeSet.{contains};
+ghost use Rattle.std.specs.List.Sorted.{IsStrictlySortedBy};
+ghost use Rattle.cv_base.specs.Path.{IsPath, covers};
+ghost use Rattle.cv_rows.specs.Catalogue.{row_cmp};
+ghost use Rattle.cv_rows.specs.Faults.{AllStand, AllFit};
+ghost use Rattle.cv_rows.specs.Parents.{is_covered};
+ghost use Rattle.cv_rows.specs.Places.{StandsAt};
+ghost use Rattle.cv_rows.specs.declared.row.Row.{Row as TheRow};
+
+use crate::keys::add;
+use crate::nested::Nested;
+use crate::places::{MAX_NAMES, parents, path_of_row, root_position};
+use crate::row::Row;
+use cv_base::{NoMemory, RepoPath};
+use std::alloc::Global;
+use std::collections::BTreeSet;
+
+/// Whether a path covers that of a row, if one was found.
+fn is_covered(path: &RepoPath, found: &Option<RepoPath>) -> bool
+    ensures { result ≡ is_covered path.now found.now }
+{
+    match found {
+        Some(found) => path.covers(found),
+        None => false,
+    }
+}
+
+/// The keys of the rows that stand at paths which this path covers.
+pub fn covered_keys(
+    alloc: Global,
+    at: &RepoPath,
+    rows: &[Row],
+    path: &RepoPath,
+) -> Result<BTreeSet<[u8; 16]>, NoMemory>
+    requires place { IsPath at.now }
+    requires count { length rows.now ≤ 50000 }
+    requires ordered { IsStrictlySortedBy row_cmp rows.now }
+    requires stand { AllStand at.now rows.now }
+    requires fit { AllFit at.now rows.now }
+    ensures { IfOk result (λ keys. (r : TheRow) (q : List (List ℕ)) → StandsAt at.now rows.now r q → contains (slice_cmp nat_cmp) keys r.key.0 ≡ covers path.now q) }
+{
+    let Some(root) = root_position(at, rows) else {
+        unreachable!("a catalogue has a root row");
+    };
+    let above = parents(alloc, rows, root)?;
+    let left = MAX_NAMES - at.names().len();
+    let mut keys = BTreeSet::new(alloc);
+    for row in 0..rows.len() {
+        let found = path_of_row(alloc, at, rows, root, &above, row, left)?;
+        if is_covered(path, &found) {
+            add(&mut keys, rows[row].key.0)?;
+        }
+    }
+    Ok(keys)
+}
+
+/// Drops the rows with these keys.
+pub fn drop_rows(rows: &mut Vec<Row>, keys: &BTreeSet<[u8; 16]>)
+    ensures { rows.new.items ≡ filter (λ r. not (contains (slice_cmp nat_cmp) keys.now r.key.0)) rows.old.items }
+{
+    rows.retain(|row| !keys.contains(&row.key.0));
+}
+
+/// Drops the nested entries that a path covers.
+pub fn drop_nested(nested: &mut Vec<Nested>, path: &RepoPath)
+    ensures { nested.new.items ≡ filter (λ n. not (covers path.now n.path)) nested.old.items }
+{
+    nested.retain(|entry| !path.covers(&entry.path));
+}
