@@ -8,7 +8,8 @@ use Rattle.cv_base.specs.Path.{Path, overlap, text_of}
 use Rattle.cv_tree.specs.Tree.{Nodes, IsTree, at, put, is_directory}
 use Rattle.cv_tree.specs.declared.node.Node.{Node}
 use Rattle.cv_tree.proofs.Replacements.{get-at, at-put, at-put_apart, at-at}
-use Rattle.cv_rows.specs.Catalogue.{bytes_cmp, catalogue_bytes, marker}
+use Rattle.cv_base.specs.Marker.{marker}
+use Rattle.cv_rows.specs.Catalogue.{bytes_cmp, catalogue_bytes}
 use Rattle.cv_cut.specs.Cuts.{is_file, is_inner, inner, region}
 use Rattle.cv_cut.specs.Catalogues.{row_file, rows_of, entry_of, catalogue, cat}
 

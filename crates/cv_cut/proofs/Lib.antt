@@ -1,1 +1,22 @@
-mod Canonical
+pub mod Bools
+pub mod Canonical
+pub mod Members
+pub mod Entries
+pub mod Ends
+pub mod Keys
+pub mod RowFacts
+pub mod RowRules
+pub mod Regions
+pub mod RegionRules
+pub mod Twice
+pub mod RegionLists
+pub mod Sorted
+pub mod CanonicalRules
+pub mod Markers
+pub mod Between
+pub mod RegionPaths
+pub mod KindLaws
+pub mod MadeEntries
+pub mod Seen
+pub mod Collisions
+pub mod CutLaws

@@ -1,9 +1,9 @@
 -- The cuts of a tree, and the regions between them.
 use Rattle.std.specs.Prelude.{Bool, true, false, not, ◌&&◌, List, [], ◌∷◌, ◌++◌, map, Option, Some, None}
 use Rattle.std.specs.List.{filter, list_all}
-use Rattle.std.specs.FinMap.{get, entries}
+use Rattle.std.specs.FinMap.{get, entries, keys}
 use Rattle.cv_base.specs.Path.{Path}
-use Rattle.cv_rows.specs.Catalogue.{marker}
+use Rattle.cv_base.specs.Marker.{marker}
 use Rattle.cv_tree.specs.Tree.{Nodes, is_directory}
 use Rattle.cv_tree.specs.declared.node.Node.{Node}
 use Rattle.cv_tree.specs.declared.node.Node.TheVariants.{Dir, File, Link}
@@ -22,6 +22,10 @@ is_marked t p = is_directory (get t p) && is_file (get t (p ++ marker ∷ []))
 abbrev pub is_cut : Nodes → Path → Bool
 is_cut t [] = true
 is_cut t (name ∷ names) = is_marked t (name ∷ names)
+
+-- the cuts of a tree, in the order of their paths
+abbrev pub cuts_of : Nodes → List Path
+cuts_of t = filter (is_cut t) (keys t)
 
 -- the paths properly between the root and a path, from above
 abbrev pub between : Path → List Path

@@ -1,4 +1,5 @@
 pub mod Cuts
 pub mod Catalogues
+pub mod Cut
 pub mod Means
 pub mod Reached

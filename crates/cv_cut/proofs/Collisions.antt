@@ -1,0 +1,163 @@
+-- Paths of a region that share a key, by their places in it.
+use Rattle.std.proofs.Common.{◌≡◌, ℕ, ◌<◌, ◌≤◌, ◌+◌, true, Some, List, ◌++◌, map, reverse, length, get_or, sym, ap, subst, ◌∙◌, arith, is_some, ◌⊎◌, inl, inr, Result, Ok, Err}
+use Rattle.std.specs.Prelude.{Contains, slice_get, IfErr, IsErrAnd}
+use Rattle.std.specs.BTreeMap.{BTreeMap}
+use Rattle.std.specs.FinMap.{get, entries, keys}
+use Rattle.std.proofs.lemmas.Bool.{cases_lt}
+use Rattle.std.proofs.lemmas.List.{length-map, get_or_default}
+use Rattle.std.proofs.lemmas.List.Sorted.{IsPermutation-reverse, IsPermutation-sym, Contains-permutation}
+use Rattle.std.proofs.lemmas.Option.{slice_get-get_or, slice_get_within}
+use Rattle.cv_base.specs.Path.{Path, key_of}
+use Rattle.cv_base.specs.PathOrder.{path_exact}
+use Rattle.cv_tree.specs.Tree.{Nodes, IsTree, at}
+use Rattle.cv_tree.specs.declared.node.Node.{Node}
+use Rattle.cv_rows.specs.Made.{AreApart}
+use Rattle.cv_cut.specs.Cuts.{cuts_of, is_cut, region}
+use Rattle.cv_cut.specs.Catalogues.{IsInRegion, SharesKey}
+use Rattle.cv_cut.specs.Cut.{AreSame, ShareKey, IsCollision, IsShared, keys_at, region_at}
+use Rattle.cv_cut.specs.declared.cut_fault.CutFault.{CutFault}
+use Rattle.cv_cut.specs.declared.cut_fault.CutFault.TheVariants.{PathCollision, CatalogueFull, NoMemory}
+use Rattle.cv_cut.proofs.Members.{comes_from, goes_to, passes, passing}
+use Rattle.cv_cut.proofs.Entries.{has_entry}
+use Rattle.cv_cut.proofs.Seen.{HasSeen, all_seen}
+use Rattle.cv_cut.proofs.Twice.{image_at, image_there, stands_there, StandOnce, once_image}
+use Rattle.cv_cut.proofs.CanonicalRules.{cut_some}
+use Rattle.cv_cut.proofs.RegionLists.{region_near, near_region, region_once}
+use Rattle.cv_cut.proofs.Ends.{back}
+use Rattle.cv_cut.proofs.Regions.{some_node}
+
+-- the key of the entry that was read
+pub key_there : (region : List (Path × Node)) (i : ℕ) (d : Path × Node) (key : List ℕ) → i < length region → key ≡ key_of (get_or region i d).0 → slice_get (keys_at region) i ≡ Some key
+key_there region i d key lt key-is = image_there (λ e. key_of e.0) region i (get_or region i d) (slice_get-get_or region i d lt) ∙ ap Some (sym key-is)
+
+some_same : {X : Type 0} (x y : X) → Some x ≡ Some y → x ≡ y
+some_same x y h = cc
+
+-- two places of one key, with the paths that were read there
+pub shares : (region : List (Path × Node)) (i j : ℕ) (a b : Path × Node) (p q : Path) → AreSame (keys_at region) i j → p ≡ (get_or region i a).0 → q ≡ (get_or region j b).0 → ShareKey region p q
+shares region i j a b p q same p-is q-is =
+    let li = inside region i same.key same.one in
+    let lj = inside region j same.key same.other in
+    let one = slice_get-get_or region i a li in
+    let other = slice_get-get_or region j b lj in
+    let keys = sym (image_there (λ e. key_of e.0) region i (get_or region i a) one) ∙ same.one in
+    let more = sym (image_there (λ e. key_of e.0) region j (get_or region j b) other) ∙ same.other in
+    record {
+      first = i;
+      second = j;
+      order = same.order;
+      one = image_there (λ e. e.0) region i (get_or region i a) one ∙ ap Some (sym p-is);
+      other = image_there (λ e. e.0) region j (get_or region j b) other ∙ ap Some (sym q-is);
+      keys = ap key_of p-is ∙ some_same (key_of (get_or region i a).0) (key_of (get_or region j b).0) (keys ∙ sym more) ∙ ap key_of (sym q-is);
+    }
+  where
+    inside : (region : List (Path × Node)) (i : ℕ) (key : List ℕ) → slice_get (keys_at region) i ≡ Some key → i < length region
+    inside region i key h = let lt = slice_get_within (keys_at region) i key h in omega (arith, lt, length-map region (λ e. key_of e.0))
+
+-- all keys were seen
+pub all_keys : (region : List (Path × Node)) (n : ℕ) (seen : BTreeMap (List ℕ) ℕ) → HasSeen (keys_at region) n seen → length region ≤ n → AreApart (keys_at region)
+all_keys region n seen has all = all_seen (keys_at region) n seen has (omega (arith, all, length-map region (λ e. key_of e.0)))
+
+-- ---- in a tree
+
+-- the cuts that a list in reverse has
+pub among_cuts : (t : Nodes) (cuts : List Path) (c : Path) → cuts ≡ reverse (cuts_of t) → Contains cuts c → is_cut t c ≡ true
+among_cuts t cuts c is has =
+    let there = Contains-permutation (reverse (cuts_of t)) (cuts_of t) c (IsPermutation-sym (cuts_of t) (reverse (cuts_of t)) (IsPermutation-reverse (cuts_of t))) (subst (λ xs. Contains xs c) is has) in
+    (passes (is_cut t) (keys t) c there).1
+
+pub cut_among : (t : Nodes) (cuts : List Path) (c : Path) → IsTree t → cuts ≡ reverse (cuts_of t) → is_cut t c ≡ true → Contains cuts c
+cut_among t cuts c tree is cut =
+    let n = some_node (get t c) (cut_some t c tree cut) in
+    let there = passing (is_cut t) (keys t) c (goes_to (λ e. e.0) (entries t) (c, n.0) (has_entry path_exact t c n.0 n.1)) cut in
+    subst (λ xs. Contains xs c) (sym is) (Contains-permutation (cuts_of t) (reverse (cuts_of t)) c (IsPermutation-reverse (cuts_of t)) there)
+
+-- the region's paths by their places
+place_of : (t : Nodes) (c p : Path) (i : ℕ) → slice_get (map (λ e. e.0) (region_at t c)) i ≡ Some p → IsInRegion t c p
+place_of t c p i h =
+    let e = image_at (λ e. e.0) (region_at t c) i p h in
+    let f = image_at {Y = Path × Node} (λ e. (c ++ e.0, e.1)) (region (at t c)) i e.0 e.1 in
+    let near = region_near (at t c) f.0.0 f.0.1 (stands_there (region (at t c)) i f.0 f.1) in
+    (f.0.0, sym e.2 ∙ ap (λ x. x.0) (sym f.2), ap is_some near.there, near.near)
+
+region_paths_once : (t : Nodes) (c : Path) → StandOnce (map (λ e. e.0) (region_at t c))
+region_paths_once t c = once_image (λ e. e.0) (region_at t c)
+    (once_image (λ e. (c ++ e.0, e.1)) (region (at t c)) (region_once (at t c)) (λ a b has had is. same_entry a b has had (back c a.0 b.0 (ap (λ x. x.0) is))))
+    (λ a b has had is.
+    let e = comes_from (λ e. (c ++ e.0, e.1)) (region (at t c)) a has in
+    let f = comes_from (λ e. (c ++ e.0, e.1)) (region (at t c)) b had in
+    let pair = same_entry e.0 f.0 e.1 f.1 (back c e.0.0 f.0.0 (ap (λ x. x.0) e.2 ∙ is ∙ sym (ap (λ x. x.0) f.2))) in
+    sym e.2 ∙ ap (λ (x : Path × Node). (c ++ x.0, x.1)) pair ∙ f.2)
+  where
+    same_entry : (a b : Path × Node) → Contains (region (at t c)) a → Contains (region (at t c)) b → a.0 ≡ b.0 → a ≡ b
+    same_entry a b has had is =
+        let one = (region_near (at t c) a.0 a.1 has).there in
+        let two = (region_near (at t c) b.0 b.1 had).there in
+        let value : a.1 ≡ b.1 = some_same a.1 b.1 (sym one ∙ ap (get (at t c)) is ∙ two) in
+        λ i. (is i, value i)
+
+-- two places of one key are two paths that share it
+pub sharing : (t : Nodes) (c : Path) (fault : CutFault) → is_cut t c ≡ true → IsCollision (region_at t c) fault → IsShared t fault
+sharing t c (PathCollision p q) cut same = record {
+  cut = c;
+  is_cut_ = cut;
+  first = place_of t c p same.first same.one;
+  second = place_of t c q same.second same.other;
+  differ = λ is. (region_paths_once t c).each same.first same.second p same.order same.one (same.other ∙ ap Some (sym is));
+  keys = same.keys;
+}
+sharing t c (CatalogueFull d) cut same = absurd same
+sharing t c NoMemory cut same = tt
+
+-- where the keys of each region are apart no two paths share one
+pub no_sharing : (t : Nodes) → ((c : Path) → is_cut t c ≡ true → AreApart (keys_at (region_at t c))) → (p q : Path) → SharesKey t p q → ⊥
+no_sharing t apart p q s =
+    let one = key_place s.cut p s.first in
+    let other = key_place s.cut q s.second in
+    elim (apart_or_same one.0 other.0) [
+      | inl lt ↦ apart s.cut s.is_cut_ (key_of p) (record { first = one.0; second = other.0; order = lt; one = one.1; other = other.1 ∙ ap Some (sym s.keys) })
+      | inr rest ↦ elim rest [
+        | inl gt ↦ apart s.cut s.is_cut_ (key_of p) (record { first = other.0; second = one.0; order = gt; one = other.1 ∙ ap Some (sym s.keys); other = one.1 })
+        | inr same ↦ s.differ (some_same p q (sym one.2 ∙ ap (slice_get (map (λ e. e.0) (region_at t s.cut))) same ∙ other.2))
+      ]
+    ]
+  where
+    key_place : (c p : Path) → IsInRegion t c p → (i : ℕ) × (slice_get (keys_at (region_at t c)) i ≡ Some (key_of p)) × (slice_get (map (λ e. e.0) (region_at t c)) i ≡ Some p)
+    key_place c p r =
+        let n = some_node (get (at t c) r.0) r.2 in
+        let has = near_region (at t c) r.0 n.0 (record { there = n.1; near = r.3 }) in
+        let e = slice_get-get_or (region (at t c)) has.0 (r.0, n.0) has.1 ∙ ap Some has.2 in
+        let f = image_there {Y = Path × Node} (λ e. (c ++ e.0, e.1)) (region (at t c)) has.0 (r.0, n.0) e in
+        (has.0, image_there (λ e. key_of e.0) (region_at t c) has.0 (c ++ r.0, n.0) f ∙ ap (λ x. Some (key_of x)) (sym r.1), image_there (λ e. e.0) (region_at t c) has.0 (c ++ r.0, n.0) f ∙ ap Some (sym r.1))
+
+    apart_or_same : (i j : ℕ) → (i < j) ⊎ ((j < i) ⊎ (i ≡ j))
+    apart_or_same i j = elim (cases_lt i j) [ inl lt ↦ inl lt | inr ge ↦ elim (cases_lt j i) [ inl gt ↦ inr (inl gt) | inr le ↦ inr (inr (omega (arith, ge, le))) ] ]
+
+-- those of each cut of a list that has all
+pub each_apart : (t : Nodes) (cuts : List Path) (n : ℕ) → IsTree t → cuts ≡ reverse (cuts_of t) → length cuts ≤ n → ((k : ℕ) (d : Path) → k < n → AreApart (keys_at (region_at t (get_or cuts k d)))) → (p q : Path) → SharesKey t p q → ⊥
+each_apart t cuts n tree is all apart = no_sharing t (λ c cut.
+    let has = cut_among t cuts c tree is cut in
+    let lt = has.1 in
+    subst (λ (x : Path). AreApart (keys_at (region_at t x))) has.2 (apart has.0 c (omega (arith, lt, all))))
+
+-- one more cut
+pub one_apart : (t : Nodes) (cuts : List Path) (i : ℕ) (c : Path) (region : List (Path × Node)) → ((k : ℕ) (d : Path) → k < i → AreApart (keys_at (region_at t (get_or cuts k d)))) → i < length cuts → c ≡ get_or cuts i c
+    → region ≡ region_at t c → AreApart (keys_at region) → (k : ℕ) (d : Path) → k < i + 1 → AreApart (keys_at (region_at t (get_or cuts k d)))
+one_apart t cuts i c region before lt c-is is apart k d less =
+    elim (cases_lt k i) [
+      | inl below ↦ before k d below
+      | inr last ↦
+          let k-is : i ≡ k = omega (arith, less, last) in
+          let cut-is : c ≡ get_or cuts k d = c-is ∙ get_or_default cuts i c d lt ∙ ap (λ j. get_or cuts j d) k-is in
+          subst (λ (x : Path). AreApart (keys_at (region_at t x))) cut-is (subst (λ es. AreApart (keys_at es)) is apart)
+    ]
+
+-- the fault of the region of a cut that was read
+pub sharing_there : (t : Nodes) (cuts : List Path) (i : ℕ) (c : Path) (region : List (Path × Node)) (fault : CutFault) → cuts ≡ reverse (cuts_of t) → i < length cuts → c ≡ get_or cuts i c → region ≡ region_at t c → IsCollision region fault → IsShared t fault
+sharing_there t cuts i c region fault is lt c-is region-is h =
+    sharing t c fault (among_cuts t cuts c is (i, lt, sym c-is)) (subst (λ es. IsCollision es fault) region-is h)
+
+-- a fault that is handed on
+pub handed_on : {X : Type 0} (P : CutFault → Type 0) (r : Result X CutFault) (fault : CutFault) → IsErrAnd r (λ f. f ≡ fault) → P fault → IfErr r P
+handed_on P (Ok x) fault is h = tt
+handed_on P (Err f) fault is h = subst P (sym is) h

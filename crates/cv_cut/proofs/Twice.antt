@@ -1,0 +1,58 @@
+-- Lists in which nothing stands twice.
+use Rattle.std.proofs.Common.{◌≡◌, ℕ, zero, suc, ◌<◌, true, Some, List, [], ◌∷◌, map, refl, sym, ap, ◌∙◌, arith}
+use Rattle.std.specs.Prelude.{Contains, slice_get}
+use Rattle.std.specs.declared.cmp.Ordering.{Ordering}
+use Rattle.std.specs.declared.cmp.Ordering.TheVariants.{Less, Equal}
+use Rattle.std.specs.Cmp.{IsTotalOrder, tied_itself}
+use Rattle.std.specs.Option.{option_map}
+use Rattle.std.specs.FinMap.{is_sorted}
+use Rattle.std.specs.FinMap.Entries.{below_all}
+use Rattle.std.proofs.lemmas.Option.{slice_get_within, get_or_from_slice_get}
+use Rattle.cv_cut.proofs.Entries.{below_each}
+use Rattle.cv_cut.proofs.Bools.{first_true, second_true}
+
+-- what stands at an index is there
+pub stands_there : {X : Type 0} (xs : List X) (i : ℕ) (x : X) → slice_get xs i ≡ Some x → Contains xs x
+stands_there xs i x h = (i, slice_get_within xs i x h, get_or_from_slice_get xs i x x h)
+
+-- an element of an image, by its index
+pub image_at : {X Y : Type 0} (f : X → Y) (xs : List X) (i : ℕ) (y : Y) → slice_get (map f xs) i ≡ Some y → (x : X) × (slice_get xs i ≡ Some x) × (f x ≡ y)
+image_at f [] i y h = absurd cc
+image_at f (x ∷ xs) zero y h = (x, refl, cc)
+image_at f (x ∷ xs) (suc i) y h = image_at f xs i y h
+
+pub image_there : {X Y : Type 0} (f : X → Y) (xs : List X) (i : ℕ) (x : X) → slice_get xs i ≡ Some x → slice_get (map f xs) i ≡ Some (f x)
+image_there f [] i x h = absurd cc
+image_there f (y ∷ xs) zero x h = ap (λ o. option_map f o) h
+image_there f (y ∷ xs) (suc i) x h = image_there f xs i x h
+
+-- no element stands at two places
+pub record StandOnce {X : Type 0} (xs : List X) : Type 0 where
+  pub each : (i j : ℕ) (x : X) → i < j → slice_get xs i ≡ Some x → slice_get xs j ≡ Some x → ⊥
+
+-- nor does one of their images, where these differ
+pub once_image : {X Y : Type 0} (f : X → Y) (xs : List X) → StandOnce xs → ((a b : X) → Contains xs a → Contains xs b → f a ≡ f b → a ≡ b) → StandOnce (map f xs)
+once_image f xs once apart = record {
+  each = λ i j y lt one other.
+      let a = image_at f xs i y one in
+      let b = image_at f xs j y other in
+      let same = apart a.0 b.0 (stands_there xs i a.0 a.1) (stands_there xs j b.0 b.1) (a.2 ∙ sym b.2) in
+      once.each i j a.0 lt a.1 (b.1 ∙ ap Some (sym same));
+}
+
+not_below : (r : Ordering) → r ≡ Less → r ≡ Equal → ⊥
+not_below r h k = let e : Less ≡ Equal = sym h ∙ k in cc
+
+rising_once : {K X : Type 0} (R : K → K → Ordering) → IsTotalOrder R → (es : List (K × X)) → is_sorted R es ≡ true → (i j : ℕ) (x : K × X) → i < j → slice_get es i ≡ Some x → slice_get es j ≡ Some x → ⊥
+rising_once R o [] rises i j x lt one other = cc
+rising_once R o (e ∷ es) rises i zero x lt one other = omega arith
+rising_once R o (e ∷ es) rises zero (suc j) x lt one other =
+    let same : e ≡ x = cc in
+    let less = below_each R e.0 es x.0 x.1 (first_true (below_all R e.0 es) (is_sorted R es) rises) (stands_there es j x other) in
+    not_below (R e.0 x.0) less (ap (λ y. R y.0 x.0) same ∙ tied_itself o x.0)
+rising_once R o (e ∷ es) rises (suc i) (suc j) x lt one other =
+    rising_once R o es (second_true (below_all R e.0 es) (is_sorted R es) rises) i j x (omega arith) one other
+
+-- entries whose keys rise
+pub sorted_once : {K X : Type 0} (R : K → K → Ordering) → IsTotalOrder R → (es : List (K × X)) → is_sorted R es ≡ true → StandOnce es
+sorted_once R o es rises = record { each = rising_once R o es rises }

@@ -1,0 +1,120 @@
+-- What a tree is cut into.
+use Rattle.std.specs.Prelude.{◌≡◌, ℕ, ◌<◌, ◌≤◌, List, [], ◌++◌, Bool, true, false, not, ◌&&◌, nat_lt, Option, Some, None, map, reverse, length, slice_get, unwrap_or}
+use Rattle.std.specs.List.{list_any}
+use Rattle.std.specs.BTreeMap.{BTreeMap}
+use Rattle.std.specs.BTreeMap as tree
+use Rattle.sha1.specs.Sha1.{sha1}
+use Rattle.cv_base.specs.Path.{Path, path_cmp, behind, covers, key_of}
+use Rattle.cv_base.specs.ObjectId.{object_id}
+use Rattle.cv_base.specs.declared.object.Object.{Object}
+use Rattle.cv_base.specs.declared.id.Kind.TheVariants.{Catalogue}
+use Rattle.cv_tree.specs.Tree.{Nodes, at}
+use Rattle.cv_tree.specs.declared.node.Node.{Node}
+use Rattle.cv_rows.specs.declared.row.Row.{Row}
+use Rattle.cv_rows.specs.declared.nested.Nested.{Nested}
+use Rattle.cv_cut.specs.Cuts.{cuts_of, is_near, is_inner, region}
+use Rattle.cv_cut.specs.Catalogues.{kind_of, row_of, entry_of, cat, root_of, SharesKey, IsFull}
+use Rattle.cv_cut.specs.declared.tree_cut.Cut.{Cut}
+use Rattle.cv_cut.specs.declared.cut_fault.CutFault.{CutFault}
+use Rattle.cv_cut.specs.declared.cut_fault.CutFault.TheVariants.{PathCollision, CatalogueFull, NoMemory}
+
+-- whether a path is in the region of the cut at c
+abbrev pub near_rest : Nodes → Option Path → Bool
+near_rest u None = false
+near_rest u (Some q) = is_near u q
+
+abbrev pub is_in_region : Nodes → Path → Path → Bool
+is_in_region t c p = near_rest (at t c) (behind c p)
+
+-- the region of a cut, with its paths from the root of the repository on
+abbrev pub region_at : Nodes → Path → List (Path × Node)
+region_at t c = map (λ e. (c ++ e.0, e.1)) (region (at t c))
+
+-- d is properly below c, and p properly below d
+abbrev pub is_between : Path → Path → Path → Bool
+is_between c d p = nat_lt (length c) (length d) && nat_lt (length d) (length p) && covers c d && covers d p
+
+-- p is c, or below it with none of the cuts between
+unfoldable pub is_within : List Path → Path → Path → Bool
+is_within others c p = covers c p && not (list_any (λ d. is_between c d p) others)
+
+-- the catalogue of the cut at a path, under its id
+abbrev pub catalogue_object : Nodes → Path → Object
+catalogue_object t c = record { id = object_id (sha1 (cat t c)) Catalogue; bytes = cat t c }
+
+-- the catalogues of all cuts, those nested in another before it
+abbrev pub cut_of : Nodes → Cut
+cut_of t = record {
+  root = object_id (root_of t) Catalogue;
+  size = length (cat t []);
+  catalogues = map (catalogue_object t) (reverse (cuts_of t));
+}
+
+-- ---- rows and nested entries
+
+-- what is left of a path behind a cut
+abbrev pub rest_of : Path → Path → Path
+rest_of c p = unwrap_or (behind c p) []
+
+-- the row of an entry in the catalogue of the cut at c
+abbrev pub row_in : Nodes → Path → Path × Node → Row
+row_in t c e = row_of (kind_of c (at t c) (rest_of c e.0) e.1) e.0 e.1
+
+-- whether the path of the region of the cut at c is another cut
+abbrev pub is_other : Nodes → Path → Path → Bool
+is_other t c p = is_inner (at t c) (rest_of c p)
+
+-- the nested entry of a cut
+abbrev pub nested_in : Nodes → Path → Nested
+nested_in t d = entry_of d (cat t d)
+
+-- what has been made: the nested entries of cuts, none of which has more than 16 MiB
+pub record HasMade (t : Nodes) (made : BTreeMap Path Nested) : Type 0 where
+  pub each : (d : Path) (n : Nested) → tree.get path_cmp made d ≡ Some n → n ≡ nested_in t d
+  pub sizes : (d : Path) (n : Nested) → tree.get path_cmp made d ≡ Some n → n.size ≤ 16777216
+
+-- the entry is that of a path which is another cut
+pub record IsOtherEntry (t : Nodes) (c p : Path) (n : Nested) : Type 0 where
+  pub other : is_other t c p ≡ true
+  pub is : n ≡ nested_in t p
+  pub size : n.size ≤ 16777216
+
+-- the fault names a cut whose catalogue is full, or is want of memory
+abbrev pub IsFullCut : Nodes → CutFault → Type 0
+IsFullCut t (PathCollision first second) = ⊥
+IsFullCut t (CatalogueFull c) = IsFull t c
+IsFullCut t NoMemory = Unit {0}
+
+-- ---- collisions
+
+-- two places of a list with paths of one key
+pub record ShareKey (region : List (Path × Node)) (p q : Path) : Type 0 where
+  pub first : ℕ
+  pub second : ℕ
+  pub order : first < second
+  pub one : slice_get (map (λ e. e.0) region) first ≡ Some p
+  pub other : slice_get (map (λ e. e.0) region) second ≡ Some q
+  pub keys : key_of p ≡ key_of q
+
+-- the keys of the paths
+abbrev pub keys_at : List (Path × Node) → List (List ℕ)
+keys_at region = map (λ e. key_of e.0) region
+
+-- the same key stands at two places
+pub record AreSame (keys : List (List ℕ)) (i j : ℕ) : Type 0 where
+  pub key : List ℕ
+  pub order : i < j
+  pub one : slice_get keys i ≡ Some key
+  pub other : slice_get keys j ≡ Some key
+
+-- the fault names two such paths, or is want of memory
+abbrev pub IsCollision : List (Path × Node) → CutFault → Type 0
+IsCollision region (PathCollision first second) = ShareKey region first second
+IsCollision region (CatalogueFull c) = ⊥
+IsCollision region NoMemory = Unit {0}
+
+-- the same of all regions of a tree
+abbrev pub IsShared : Nodes → CutFault → Type 0
+IsShared t (PathCollision first second) = SharesKey t first second
+IsShared t (CatalogueFull c) = ⊥
+IsShared t NoMemory = Unit {0}

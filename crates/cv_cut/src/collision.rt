@@ -1,0 +1,77 @@
+//! Paths of one region that share a key.
+ghost use Rattle.std.specs.Prelude.{◌≡◌, Some, reverse, IfOk, OnOk, IfErr, MatchOption};
+ghost use Rattle.std.specs.BTreeMap.{Updates};
+ghost use Rattle.std.specs.Cmp.Lexicographic.{slice_cmp};
+ghost use Rattle.std.specs.FinMap as map;
+ghost use Rattle.std.specs.Ordering.{nat_cmp};
+ghost use Rattle.cv_base.specs.Path.{Path};
+ghost use Rattle.cv_rows.specs.Made.{AreApart};
+ghost use Rattle.cv_tree.specs.Tree.{Nodes, IsTree};
+ghost use Rattle.cv_cut.specs.Cuts.{cuts_of};
+ghost use Rattle.cv_cut.specs.Catalogues.{SharesKey};
+ghost use Rattle.cv_cut.specs.Cut.{AreSame, IsCollision, IsShared, keys_at};
+
+use crate::cut_fault::CutFault;
+use crate::region::region;
+use cv_base::{NoMemory, RepoPath};
+use cv_tree::Node;
+use std::alloc::Global;
+use std::collections::BTreeMap;
+
+/// Keeps the place of a key.
+fn note(seen: &mut BTreeMap<[u8; 16], usize>, key: [u8; 16], place: usize) -> Result<(), NoMemory>
+    ensures { OnOk result (Updates (slice_cmp nat_cmp) seen.old seen.new key (Some place)) }
+{
+    match seen.insert(key, place) {
+        Ok(_) => Ok(()),
+        Err(_) => Err(NoMemory),
+    }
+}
+
+/// The places of two entries whose paths have one key: the first at which such an entry follows another, and the other's.
+fn shared_key(
+    alloc: Global,
+    region: &[(RepoPath, Node)],
+) -> Result<Option<(usize, usize)>, NoMemory>
+    ensures { IfOk result (λ found. MatchOption found (AreApart (keys_at region.now)) (λ places. AreSame (keys_at region.now) places.0 places.1)) }
+{
+    let mut seen = BTreeMap::new(alloc);
+    for second in 0..region.len() {
+        let key = region[second].0.key().0;
+        if let Some(first) = seen.get(&key) {
+            return Ok(Some((*first, second)));
+        }
+        note(&mut seen, key, second)?;
+    }
+    Ok(None)
+}
+
+/// Looks for two paths of a region that have one key.
+fn check_region(alloc: Global, region: &[(RepoPath, Node)]) -> Result<(), CutFault>
+    ensures ok { OnOk result (AreApart (keys_at region.now)) }
+    ensures err { IfErr result (IsCollision region.now) }
+{
+    let Some((first, second)) = shared_key(alloc, region)? else {
+        return Ok(());
+    };
+    Err(CutFault::PathCollision {
+        first: region[first].0.copy(alloc)?,
+        second: region[second].0.copy(alloc)?,
+    })
+}
+
+/// Looks in the region of each cut for two paths that have one key, where these are the entries and the cuts of a tree.
+pub(crate) fn check_keys(
+    alloc: Global,
+    entries: &[(RepoPath, Node)],
+    cuts: &[RepoPath],
+) -> Result<(), CutFault>
+    ensures ok { (t : Nodes) → IsTree t → entries.now ≡ map.entries t → cuts.now ≡ reverse (cuts_of t) → OnOk result ((p q : Path) → SharesKey t p q → ⊥) }
+    ensures err { (t : Nodes) → IsTree t → entries.now ≡ map.entries t → cuts.now ≡ reverse (cuts_of t) → IfErr result (IsShared t) }
+{
+    for cut in cuts {
+        let region = region(alloc, entries, cuts, cut)?;
+        check_region(alloc, &region)?;
+    }
+    Ok(())
+}

@@ -1,0 +1,42 @@
+//! Directories that are marked as roots of nested catalogues.
+ghost use Rattle.std.specs.Prelude.{◌≡◌, ◌≢◌, ◌∷◌, ◌++◌, [], false, IfOk};
+ghost use Rattle.std.specs.FinMap as map;
+ghost use Rattle.cv_base.specs.Marker.{marker};
+ghost use Rattle.cv_base.specs.declared.path_fault.PathFault.TheVariants as faults;
+ghost use Rattle.cv_tree.specs.Tree.{IsTree};
+ghost use Rattle.cv_cut.specs.Cuts.{is_file, is_marked};
+
+use cv_base::{MARKER, NoMemory, PathFault, RepoPath};
+use cv_tree::{Node, Tree};
+use std::alloc::Global;
+
+/// No file where a name breaks the limits of a path.
+fn no_file(fault: PathFault) -> Result<bool, NoMemory>
+    ensures { IfOk result (λ holds. (holds ≡ false) × (fault ≢ faults.NoMemory)) }
+{
+    match fault {
+        PathFault::NoMemory => Err(NoMemory),
+        _ => Ok(false),
+    }
+}
+
+/// Whether a directory of this path holds a marker.
+fn holds_marker(alloc: Global, tree: &Tree, path: &RepoPath) -> Result<bool, NoMemory>
+    requires { IsTree tree.now }
+    ensures { IfOk result (λ holds. holds ≡ is_file (map.get tree.now (path.now ++ marker ∷ []))) }
+{
+    match path.join(alloc, MARKER) {
+        Ok(file) => Ok(matches!(tree.get(&file), Some(Node::File(_, _)))),
+        Err(fault) => no_file(fault),
+    }
+}
+
+/// Whether a marked directory stands at a path.
+pub(crate) fn is_marked(alloc: Global, tree: &Tree, path: &RepoPath) -> Result<bool, NoMemory>
+    ensures { IfOk result (λ marked. marked ≡ is_marked tree.now path.now) }
+{
+    match tree.get(path) {
+        Some(Node::Dir(_)) => holds_marker(alloc, tree, path),
+        _ => Ok(false),
+    }
+}

@@ -1,0 +1,67 @@
+//! The nested entries of a region.
+ghost use Rattle.std.specs.Prelude.{◌≡◌, ◌≤◌, true, false, map, filter, IfOk, MatchOption};
+ghost use Rattle.std.specs.List.{All};
+ghost use Rattle.cv_base.specs.Path.{covers};
+ghost use Rattle.cv_cut.specs.Cut.{HasMade, IsOtherEntry, is_other, nested_in};
+
+use crate::marks::is_marked;
+use cv_base::{NoMemory, RepoPath};
+use cv_rows::Nested;
+use cv_tree::{Node, Tree};
+use std::alloc::Global;
+use std::collections::BTreeMap;
+
+/// Whether a path of the region of a cut is another cut.
+fn is_other(alloc: Global, tree: &Tree, cut: &RepoPath, path: &RepoPath) -> Result<bool, NoMemory>
+    requires { covers cut.now path.now ≡ true }
+    ensures { IfOk result (λ other. other ≡ is_other tree.now cut.now path.now) }
+{
+    if path.names().len() == cut.names().len() {
+        return Ok(false);
+    }
+    is_marked(alloc, tree, path)
+}
+
+/// The nested entry of a path of the region of a cut. None where the path is no other cut.
+fn other_entry(
+    alloc: Global,
+    tree: &Tree,
+    cut: &RepoPath,
+    path: &RepoPath,
+    made: &BTreeMap<RepoPath, Nested>,
+) -> Result<Option<Nested>, NoMemory>
+    requires path { covers cut.now path.now ≡ true }
+    requires made { HasMade tree.now made.now }
+    ensures { IfOk result (λ found. MatchOption found (is_other tree.now cut.now path.now ≡ false) (IsOtherEntry tree.now cut.now path.now)) }
+{
+    if !is_other(alloc, tree, cut, path)? {
+        return Ok(None);
+    }
+    match made.get(path) {
+        Some(entry) => Ok(Some(entry.copy(alloc)?)),
+        // The cuts below another are made before it.
+        None => Err(NoMemory),
+    }
+}
+
+/// The nested entries of the catalogue of a cut, one for each other cut of its region.
+pub(crate) fn nested(
+    alloc: Global,
+    tree: &Tree,
+    cut: &RepoPath,
+    region: &[(RepoPath, Node)],
+    made: &BTreeMap<RepoPath, Nested>,
+) -> Result<Vec<Nested>, NoMemory>
+    requires paths { All (λ e. covers cut.now e.0 ≡ true) region.now }
+    requires made { HasMade tree.now made.now }
+    ensures entries { IfOk result (λ nested. nested.items ≡ map (λ e. nested_in tree.now e.0) (filter (λ e. is_other tree.now cut.now e.0) region.now)) }
+    ensures sizes { IfOk result (λ nested. All (λ n. n.size ≤ 16777216) nested.items) }
+{
+    let mut nested = Vec::new(alloc);
+    for entry in region {
+        if let Some(other) = other_entry(alloc, tree, cut, &entry.0, made)? {
+            nested.push(other).map_err(|_| NoMemory)?;
+        }
+    }
+    Ok(nested)
+}

@@ -1,0 +1,257 @@
+//! Catalogues of trees against those of another program, which no clause speaks of: it finds memory.
+ghost use Rattle.std.specs.Prelude.{IfOk};
+ghost use Rattle.cv_tree.specs.Node.{IsNode};
+
+use super::*;
+use cv_base::{Attr, Kind, Object, ObjectId, RepoPath, Target};
+use cv_tree::{FileRef, Node, Tree};
+use std::alloc::Global;
+use std::process::Abort;
+use std::test::Fail;
+
+// The table is that of tools/cut_vectors.py, which makes the catalogues from the definition of the format.
+
+/// Trees as texts of their paths, in which `/d/` is a directory, `/l=t` a link to `t`, and anything else a file whose
+/// content is the text of its path; the id of the root's catalogue and its bytes; how many catalogues there are, and
+/// their bytes together.
+const TREES: [(&str, &str, u64, usize, usize); 20] = [
+    ("", "307aac20fe5391faacd0ea38f9589fb797a3685cC", 81, 1, 81),
+    (
+        "/a",
+        "8a09cceb9eb0c35c21403e91e4d626391987af7dC",
+        171,
+        1,
+        171,
+    ),
+    (
+        "/d/ /d/f /d/g",
+        "c6e6232b7f54c1e9842163420699a32bd71dbe3aC",
+        331,
+        1,
+        331,
+    ),
+    (
+        "/d/ /d/f /d/g /d/.cvmfscatalog",
+        "fbc70809ab50d727c19f55d42764d2e02c8a71c6C",
+        183,
+        2,
+        547,
+    ),
+    (
+        "/.cvmfscatalog",
+        "c7e0923057f2dd5e4c87ab9bd8f5b2a3209833f8C",
+        183,
+        1,
+        183,
+    ),
+    (
+        "/e/ /e/.cvmfscatalog",
+        "724fb5a3f80917f6199888c59a13e54d94b59e50C",
+        183,
+        2,
+        367,
+    ),
+    (
+        "/e/ /e/.cvmfscatalog/",
+        "ba40da3244579d920b23c87eede08988a801ed5eC",
+        233,
+        1,
+        233,
+    ),
+    (
+        "/e/ /e/.cvmfscatalog=../a",
+        "3f7f3c2db7cf19114dff703695cd719de9e9c841C",
+        237,
+        1,
+        237,
+    ),
+    (
+        "/a/ /a/.cvmfscatalog /a/b/ /a/b/.cvmfscatalog /a/b/c/ /a/b/c/.cvmfscatalog /a/b/c/f",
+        "a78b6e61f2a693f1d431bc6ac868a01ad8635c27C",
+        183,
+        4,
+        1035,
+    ),
+    (
+        "/a/ /a/b/ /a/b/.cvmfscatalog /a/b/c/ /a/b/c/d/ /a/b/c/d/.cvmfscatalog /a/b/c/d/e/ /a/x",
+        "e4bed835ca6cf8cc065e3a86de6528bba909bcbfC",
+        345,
+        3,
+        961,
+    ),
+    (
+        "/a/ /a-b/ /a/x/ /a/x/.cvmfscatalog /a-b/.cvmfscatalog /a-b/f",
+        "3a256a6a0b743397b04fcfa376a95621c2db5247C",
+        361,
+        3,
+        821,
+    ),
+    (
+        "/a/ /a/.cvmfscatalog /a-b/ /a-b/.cvmfscatalog /a.b/ /a.b/.cvmfscatalog /a/x",
+        "d3dad34e01527aba28ce5cae750167a8926d37f2C",
+        395,
+        4,
+        1041,
+    ),
+    (
+        "/l=a /k=/cvmfs/sw.example.org/l /d/ /d/l=../l",
+        "5a5ba4cf281bc17d9b6bb7951ae179b88c488106C",
+        389,
+        1,
+        389,
+    ),
+    (
+        "/é/ /é/ü=ñ /é/.cvmfscatalog /日本/ /日本/語",
+        "b0c96fc27f54f3727f7bed50d2d8e58cf4288792C",
+        352,
+        2,
+        610,
+    ),
+    (
+        "/empty/ /empty/er/ /empty/er/still/",
+        "c44f69d05e76623b7ec7feb81b6933d4a12eacf3C",
+        300,
+        1,
+        300,
+    ),
+    (
+        "/1/ /1/.cvmfscatalog /2/ /2/.cvmfscatalog /3/ /3/.cvmfscatalog /4/ /4/.cvmfscatalog",
+        "26bebda7a95332ad76ed94ed297734ddcb1306bbC",
+        489,
+        5,
+        1225,
+    ),
+    (
+        "/d/ /d/.cvmfscatalog /d/e/ /d/e/f/ /d/e/f/.cvmfscatalog /d/e/g /d/e/f/h /i",
+        "e80518aa02c54736883783f23a83cc127184b523C",
+        273,
+        3,
+        997,
+    ),
+    (
+        "/d/ /d/.cvmfscatalogue /d/.cvmfscatalo /.cvmfscatalog",
+        "e50209a074b2b908ebfbc751dabb6bc2add53fe5C",
+        458,
+        1,
+        458,
+    ),
+    (
+        "/x/ /x/y/ /x/y/z/ /x/y/z/.cvmfscatalog /x/y/.cvmfscatalog /x/.cvmfscatalog /.cvmfscatalog",
+        "85cb82cab207ce6d36e4a0c368e70204a90dae55C",
+        285,
+        4,
+        1047,
+    ),
+    (
+        "/a/ /a/a/ /a/a/a/ /a/a/a/a/ /a/a/a/a/.cvmfscatalog /a/a/.cvmfscatalog",
+        "cb424b10c343ffab28a3887a1789ad65675f24c7C",
+        255,
+        3,
+        801,
+    ),
+];
+
+const DIRECTORY: Attr = Attr {
+    mode: 0o755,
+    mtime: 1_700_000_000,
+    uid: 0,
+    gid: 0,
+};
+
+const FILE: Attr = Attr {
+    mode: 0o644,
+    mtime: 1_700_000_000,
+    uid: 0,
+    gid: 0,
+};
+
+const LINK: Attr = Attr {
+    mode: 0o777,
+    mtime: 1_700_000_000,
+    uid: 0,
+    gid: 0,
+};
+
+/// A file whose content is this text.
+fn file(text: &str) -> Result<Node, Fail>
+    ensures { IfOk result IsNode }
+{
+    if text.len() > 4095 {
+        return Err(Fail::new("a long text"));
+    }
+    let hash = ObjectId::of(Kind::Plain, text.as_bytes()).hash;
+    let size = text.len() as u64;
+    Ok(Node::File(FILE, FileRef { hash, size }))
+}
+
+/// A link with this target.
+fn link(alloc: Global, text: &str) -> Result<Node, Fail>
+    ensures { IfOk result IsNode }
+{
+    let Some(target) = Target::read(alloc, text)? else {
+        return Err(Fail::new("no target"));
+    };
+    if target.text().is_empty() {
+        return Err(Fail::new("an empty target"));
+    }
+    Ok(Node::Link(LINK, target))
+}
+
+/// Adds what a word says to a tree.
+fn add(alloc: Global, tree: &mut Tree, word: &str) -> Result<(), Fail> {
+    if let Some((path, target)) = word.split_once('=') {
+        tree.insert(&RepoPath::read(alloc, path)?, link(alloc, target)?)?;
+    } else if word.ends_with('/') {
+        tree.insert(&RepoPath::read(alloc, word)?, Node::Dir(DIRECTORY))?;
+    } else if !word.is_empty() {
+        tree.insert(&RepoPath::read(alloc, word)?, file(word)?)?;
+    }
+    Ok(())
+}
+
+/// The tree that a text says.
+fn tree_of(alloc: Global, text: &str) -> Result<Tree, Fail> {
+    let mut tree = Tree::new(alloc, DIRECTORY)?;
+    for word in text.split(' ') {
+        add(alloc, &mut tree, word)?;
+    }
+    Ok(tree)
+}
+
+/// How many bytes the objects have together.
+fn bytes_of(objects: &[Object]) -> usize {
+    let mut bytes: usize = 0;
+    for object in objects {
+        bytes = bytes.saturating_add(object.bytes.as_slice().len());
+    }
+    bytes
+}
+
+/// Cuts a tree, and compares its catalogues with what the table has.
+fn check(
+    rt: &impl Abort,
+    alloc: Global,
+    text: &str,
+    root: &str,
+    size: u64,
+    count: usize,
+    total: usize,
+) -> Result<(), Fail> {
+    let tree = tree_of(alloc, text)?;
+    let made = cut(alloc, &tree)?;
+    let catalogues = made.catalogues.as_slice();
+    assert_eq!(rt; made.root.text(alloc)?.as_str(), root, "the root of {text}");
+    assert_eq!(rt; made.size, size, "its size");
+    assert_eq!(rt; catalogues.len(), count, "the catalogues of {text}");
+    assert_eq!(rt; bytes_of(catalogues), total, "their bytes");
+    assert!(rt; catalogues.last().is_some_and(|last| last.id == made.root));
+    Ok(())
+}
+
+#[test]
+fn trees_have_these_catalogues(rt: HostRuntime) -> Result<(), Fail> {
+    for (text, root, size, count, total) in TREES {
+        check(&rt, rt.alloc(), text, root, size, count, total)?;
+    }
+    Ok(())
+}
