@@ -1,0 +1,16 @@
+pub mod Behind
+pub mod CutRows
+pub mod Kept
+pub mod OneTree
+pub mod Opening
+pub mod Growing
+pub mod Filling
+pub mod Standing
+pub mod Assembly
+pub mod WholeRegions
+pub mod Sameness
+pub mod OwnRows
+pub mod OwnCatalogues
+pub mod Means
+pub mod Whole
+pub mod InTheWay

@@ -1,0 +1,4 @@
+use Rattle.cv_load.proofs.placing.+place.Given as goal
+
+abbrev pub decreases-place : goal.decreases-place
+decreases-place l = l.left

@@ -1,0 +1,124 @@
+//! Catalogues at the places at which they are named.
+ghost use Rattle.std.specs.Prelude.{◌≡◌, ◌<◌, ◌↔◌, length, IfOk, IsErrOf, IsTrue, Contains};
+ghost use Rattle.std.specs.Option.{option_copied};
+ghost use Rattle.cv_base.specs.Counts.{HasCause};
+ghost use Rattle.cv_base.specs.Told.{WhereTold};
+ghost use Rattle.cv_base.specs.declared.id.Kind.TheVariants as id_kind;
+ghost use Rattle.cv_rows.specs.Catalogue.{IsCatalogue};
+ghost use Rattle.cv_rows.specs.Catalogue.{IsCatalogue};
+ghost use Rattle.cv_load.specs.Growth.{FitsRow, IsFitting, Decoded, Opens, OpensNested};
+ghost use Rattle.cv_load.specs.declared.load_fault.LoadFault.TheVariants as faults;
+
+use crate::load_fault::LoadFault;
+use crate::objects::{check_size, fetched};
+use cv_base::{Kind, ObjectId, RepoPath};
+use cv_ports::Shelf;
+use cv_rows::{Catalogue, Nested, Row, RowFault};
+use std::alloc::Global;
+
+/// Whether two rows have the same fields but for their kinds.
+fn same_fields(root: &Row, transition: &Row) -> bool
+    ensures { IsTrue result ↔ (root.now ≡ record transition.now { kind = root.now.kind }) }
+{
+    root.key == transition.key
+        && root.parent == transition.parent
+        && root.attr == transition.attr
+        && root.size == transition.size
+        && root.hash == transition.hash
+        && root.name.text() == transition.name.text()
+        && root.target.text() == transition.target.text()
+}
+
+/// Whether the root row of the catalogue at a place has the fields of the Transition row that names it.
+fn fits_row(catalogue: &Catalogue, at: &RepoPath, transition: &Row) -> bool
+    requires rules { IsCatalogue catalogue.now }
+    requires place { catalogue.now.at ≡ at.now }
+    ensures { IsTrue result ↔ FitsRow catalogue.now transition.now }
+{
+    match catalogue.find(at.key()) {
+        Some(root) => same_fields(root, transition),
+        None => false,
+    }
+}
+
+/// The catalogue, if it fits the Transition row that names it.
+fn fitting(
+    id: &ObjectId,
+    catalogue: Catalogue,
+    at: &RepoPath,
+    row: Option<&Row>,
+) -> Result<Catalogue, LoadFault>
+    requires rules { IsCatalogue catalogue }
+    requires place { catalogue.at ≡ at.now }
+    ensures { IsFitting id.now catalogue (option_copied row.entry) result }
+{
+    match row {
+        Some(transition) if !fits_row(&catalogue, at, transition) => Err(LoadFault::Bad(*id)),
+        _ => Ok(catalogue),
+    }
+}
+
+/// The catalogue that the bytes under an id are, at its place.
+fn decoded(
+    alloc: Global,
+    id: &ObjectId,
+    bytes: &[u8],
+    at: &RepoPath,
+    row: Option<&Row>,
+) -> Result<Catalogue, LoadFault>
+    ensures { Decoded (record { path = at.now; row = option_copied row.entry }) bytes.now id.now result }
+{
+    match Catalogue::decode(alloc, bytes, at) {
+        Ok(catalogue) => fitting(id, catalogue, at, row),
+        Err(RowFault::NoMemory) => Err(LoadFault::NoMemory),
+        Err(_) => Err(LoadFault::Bad(*id)),
+    }
+}
+
+/// The catalogue under an id, at its place.
+pub fn catalogue_at<S: Shelf>(
+    alloc: Global,
+    shelf: &mut S,
+    id: &ObjectId,
+    at: &RepoPath,
+    row: Option<&Row>,
+) -> Result<Catalogue, LoadFault>
+    requires { id.now.kind ≡ id_kind.Catalogue }
+    ensures told { WhereTold (S.shelf shelf.old) (λ standing. Opens standing id.now (record { path = at.now; row = option_copied row.entry }) result) }
+    ensures rules { IfOk result IsCatalogue }
+    ensures place { IfOk result (λ catalogue. catalogue.at ≡ at.now) }
+    ensures unchanged { S.shelf shelf.new ≡ S.shelf shelf.old }
+    ensures cause { HasCause (S.faults shelf.old) (S.faults shelf.new) (IsErrOf result faults.Failed) }
+{
+    let bytes = fetched(alloc, shelf, id)?;
+    decoded(alloc, id, bytes.as_slice(), at, row)
+}
+
+/// The catalogue that a nested entry of another names.
+pub fn nested_catalogue<S: Shelf>(
+    alloc: Global,
+    shelf: &mut S,
+    id: &ObjectId,
+    catalogue: &Catalogue,
+    nested: &Nested,
+) -> Result<Catalogue, LoadFault>
+    requires kind { id.now.kind ≡ id_kind.Catalogue }
+    requires rules { IsCatalogue catalogue.now }
+    requires entry { Contains catalogue.now.nested nested.now }
+    ensures told { WhereTold (S.shelf shelf.old) (λ standing. OpensNested standing id.now catalogue.now nested.now result) }
+    ensures rules { IfOk result IsCatalogue }
+    ensures place { IfOk result (λ below. below.at ≡ nested.now.path) }
+    ensures deeper { length catalogue.now.at < length nested.now.path }
+    ensures unchanged { S.shelf shelf.new ≡ S.shelf shelf.old }
+    ensures cause { HasCause (S.faults shelf.old) (S.faults shelf.new) (IsErrOf result faults.Failed) }
+{
+    let below = ObjectId {
+        hash: nested.hash,
+        kind: Kind::Catalogue,
+    };
+    check_size(alloc, shelf, &below, nested.size, id)?;
+    let Some(row) = catalogue.find(nested.path.key()) else {
+        unreachable!();
+    };
+    catalogue_at(alloc, shelf, &below, &nested.path, Some(row))
+}

@@ -1,0 +1,78 @@
+//! Loading.
+ghost use Rattle.std.specs.Prelude.{◌≡◌, IfOk, IsErrOf};
+ghost use Rattle.cv_base.specs.Counts.{HasCause};
+ghost use Rattle.cv_base.specs.Told.{WhereTold};
+ghost use Rattle.cv_base.specs.declared.id.Kind.TheVariants as id_kind;
+ghost use Rattle.cv_rows.specs.Catalogue.{IsCatalogue};
+ghost use Rattle.cv_load.specs.Answers.{Loads};
+ghost use Rattle.cv_load.specs.Growth.{IsRootOf, FillsFrom};
+ghost use Rattle.cv_load.specs.declared.load_fault.LoadFault.TheVariants as faults;
+
+use crate::catalogues::{catalogue_at, nested_catalogue};
+use crate::files::check_files;
+use crate::load_fault::LoadFault;
+use crate::placing::place_rows;
+use cv_base::{Kind, NoMemory, ObjectId, RepoPath};
+use cv_ports::Shelf;
+use cv_rows::Catalogue;
+use cv_tree::Tree;
+use std::alloc::Global;
+
+/// The tree of the root row of a catalogue alone.
+fn root_of(alloc: Global, at: &RepoPath, catalogue: &Catalogue) -> Result<Tree, NoMemory>
+    requires rules { IsCatalogue catalogue.now }
+    requires place { catalogue.now.at ≡ at.now }
+    ensures { IfOk result (IsRootOf catalogue.now) }
+{
+    let Some(root) = catalogue.find(at.key()) else {
+        unreachable!();
+    };
+    Tree::new(alloc, root.attr)
+}
+
+/// Adds to a tree what is reached from the catalogue under an id.
+fn fill<S: Shelf>(
+    alloc: Global,
+    shelf: &mut S,
+    id: &ObjectId,
+    at: &RepoPath,
+    catalogue: &Catalogue,
+    tree: &mut Tree,
+) -> Result<(), LoadFault>
+    requires kind { id.now.kind ≡ id_kind.Catalogue }
+    requires rules { IsCatalogue catalogue.now }
+    requires place { catalogue.now.at ≡ at.now }
+    ensures told { WhereTold (S.shelf shelf.old) (λ standing. FillsFrom standing id.now catalogue.now tree.old tree.new result) }
+    ensures unchanged { S.shelf shelf.new ≡ S.shelf shelf.old }
+    ensures cause { HasCause (S.faults shelf.old) (S.faults shelf.new) (IsErrOf result faults.Failed) }
+{
+    check_files(alloc, shelf, id, catalogue)?;
+    place_rows(alloc, at, catalogue, tree)?;
+    for nested in catalogue.nested() {
+        let below = nested_catalogue(alloc, shelf, id, catalogue, nested)?;
+        let below_id = ObjectId {
+            hash: nested.hash,
+            kind: Kind::Catalogue,
+        };
+        fill(alloc, shelf, &below_id, &nested.path, &below, tree)?;
+    }
+    Ok(())
+}
+
+/// The tree that the hash of a root catalogue means on a shelf.
+///
+/// The contents of files aren't fetched: their lengths are asked for.
+pub fn load<S: Shelf>(alloc: Global, shelf: &mut S, root: &ObjectId) -> Result<Tree, LoadFault>
+    requires { root.now.kind ≡ id_kind.Catalogue }
+
+    // The tree that the hash means; or an object that is reached and lacking, or a catalogue that is damaged or bad.
+    ensures told { WhereTold (S.shelf shelf.old) (λ standing. Loads standing root.now.hash result) }
+    ensures unchanged { S.shelf shelf.new ≡ S.shelf shelf.old }
+    ensures cause { HasCause (S.faults shelf.old) (S.faults shelf.new) (IsErrOf result faults.Failed) }
+{
+    let at = RepoPath::root(alloc);
+    let catalogue = catalogue_at(alloc, shelf, root, &at, None)?;
+    let mut tree = root_of(alloc, &at, &catalogue)?;
+    fill(alloc, shelf, root, &at, &catalogue, &mut tree)?;
+    Ok(tree)
+}

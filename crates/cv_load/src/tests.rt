@@ -1,0 +1,257 @@
+//! The catalogues are those that `tools/row_vectors.py` writes, the digests those that `sha1sum` gives of them.
+ghost use Rattle.std.specs.Prelude.{IfOk};
+ghost use Rattle.cv_tree.specs.Node.{IsNode};
+
+use crate::load_fault::LoadFault;
+use crate::loading::load;
+use cv_base::{Attr, Bytes, Kind, Object, ObjectId, RepoPath};
+use cv_cut::cut;
+use cv_ports::MemoryShelf;
+use cv_tree::{FileRef, Node, Tree};
+use hex::decode;
+use std::alloc::Global;
+use std::test::*;
+
+/// The catalogue of the root: the root and `/d`, which has a marker.
+const OUTER: &str =
+    "4356523100000002000000010c606f9929ab0de4b9d1961ce5dfdadfd41d8cd98f00b204e9800998ecf8427e00000003000041ed000000006553f10000000000000000000000000000000000000001640000d41d8cd98f00b204e9800998ecf8427e0000000000000000000000000000000000000001000041ed000000006553f10000000000000000000000000000000000000000000000022f6415e722b24d77179e50b53e6f895e28a36c0c7be9000000000000016c";
+
+/// That of `/d`: the files `f` and `g` and the marker.
+const INNER: &str =
+    "43565231000000040000000008227ee67df92d3f9e3516ba38228da60c606f9929ab0de4b9d1961ce5dfdadf00000004000081a4000000006553f1000000000000000000000000000000000214a9fcd54b25e7e863d72cd47c08af46e61b74b56100016600000c606f9929ab0de4b9d1961ce5dfdadfd41d8cd98f00b204e9800998ecf8427e00000021000041ed000000006553f1000000000000000000000000000000000000000164000080d24ab2d14dc16dba54ba605a2f406e0c606f9929ab0de4b9d1961ce5dfdadf00000004000081a4000000006553f1000000000000000000000000000000000014da39a3ee5e6b4b0d3255bfef95601890afd80709000d2e63766d6673636174616c6f670000fe6d224f2fe186dff9a69bd329190c210c606f9929ab0de4b9d1961ce5dfdadf00000004000081a4000000006553f1000000000000000000000000000000000214a5938ace3f424be1a26904781cdb06d55b614e6b0001670000";
+
+const OUTER_ID: &str = "ed86bc027f62370252daf1586037a02ac7cd165aC";
+
+const INNER_ID: &str = "15e722b24d77179e50b53e6f895e28a36c0c7be9C";
+
+const F_ID: &str = "a9fcd54b25e7e863d72cd47c08af46e61b74b561";
+
+const G_ID: &str = "a5938ace3f424be1a26904781cdb06d55b614e6b";
+
+const MARKER_ID: &str = "da39a3ee5e6b4b0d3255bfef95601890afd80709";
+
+/// All that is reached, by the texts of ids and the digits of bytes.
+const OBJECTS: [(&str, &str); 5] = [
+    (OUTER_ID, OUTER),
+    (INNER_ID, INNER),
+    (F_ID, "660a"),
+    (G_ID, "670a"),
+    (MARKER_ID, ""),
+];
+
+fn id_of(text: &str) -> Result<ObjectId, Fail> {
+    match ObjectId::read(text) {
+        Some(id) => Ok(id),
+        None => Err(Fail::new("no id")),
+    }
+}
+
+/// The shelf of all objects, but that the bytes under one id are others or none.
+fn shelf_with(
+    alloc: Global,
+    changed: &str,
+    other: Option<&str>,
+    failing: Vec<u64>,
+) -> Result<MemoryShelf, Fail> {
+    let mut objects = Vec::new(alloc);
+    for (text, digits) in OBJECTS {
+        let digits = if text == changed { other } else { Some(digits) };
+        if let Some(digits) = digits {
+            let bytes = Bytes::new(decode(alloc, digits)?);
+            let id = id_of(text)?;
+            objects.push(Object { id, bytes })?;
+        }
+    }
+    Ok(MemoryShelf::new(alloc, objects, failing)?)
+}
+
+/// What a load of the root answers there.
+fn loaded(alloc: Global, mut shelf: MemoryShelf) -> Result<Result<Tree, LoadFault>, Fail> {
+    let root = ObjectId {
+        hash: id_of(OUTER_ID)?.hash,
+        kind: Kind::Catalogue,
+    };
+    Ok(load(alloc, &mut shelf, &root))
+}
+
+/// The fault that it answers.
+fn fault_with(
+    alloc: Global,
+    changed: &str,
+    other: Option<&str>,
+) -> Result<Option<LoadFault>, Fail> {
+    let shelf = shelf_with(alloc, changed, other, Vec::new(alloc))?;
+    Ok(loaded(alloc, shelf)?.err())
+}
+
+/// The size of a file, and 0 for a directory.
+fn size_of(node: Option<&Node>) -> Option<u64> {
+    match node {
+        Some(Node::File(_, content)) => Some(content.size),
+        Some(_) => Some(0),
+        None => None,
+    }
+}
+
+#[test]
+fn a_root_gives_its_tree(rt: HostRuntime) -> Result<(), Fail> {
+    let shelf = shelf_with(rt.alloc(), "", None, Vec::new(rt.alloc()))?;
+    let Ok(tree) = loaded(rt.alloc(), shelf)? else {
+        return Err(Fail::new("no tree"));
+    };
+    let places = [
+        ("/", Some(0)),
+        ("/d", Some(0)),
+        ("/d/f", Some(2)),
+        ("/d/g", Some(2)),
+        ("/d/.cvmfscatalog", Some(0)),
+        ("/f", None),
+        ("/d/h", None),
+    ];
+    for (text, expected) in places {
+        let path = RepoPath::read(rt.alloc(), text)?;
+        assert_eq!(rt; size_of(tree.get(&path)), expected, "at {text}");
+    }
+    Ok(())
+}
+
+#[test]
+fn a_fault_names_its_object(rt: HostRuntime) -> Result<(), Fail> {
+    let alloc = rt.alloc();
+    let inner = id_of(INNER_ID)?;
+    assert_eq!(rt;
+        fault_with(alloc, F_ID, None)?,
+        Some(LoadFault::Missing(id_of(F_ID)?))
+    );
+    assert_eq!(rt;
+        fault_with(alloc, OUTER_ID, None)?,
+        Some(LoadFault::Missing(id_of(OUTER_ID)?))
+    );
+    assert_eq!(rt;
+        fault_with(alloc, INNER_ID, None)?,
+        Some(LoadFault::Missing(inner))
+    );
+    assert_eq!(rt;
+        fault_with(alloc, F_ID, Some("66"))?,
+        Some(LoadFault::Bad(inner))
+    );
+    assert_eq!(rt;
+        fault_with(alloc, INNER_ID, Some("00"))?,
+        Some(LoadFault::Bad(id_of(OUTER_ID)?))
+    );
+    let failing = vec![in alloc; 2u64]?;
+    let failed = loaded(alloc, shelf_with(alloc, "", None, failing)?)?.err();
+    assert_eq!(rt; failed, Some(LoadFault::Failed));
+    Ok(())
+}
+
+#[test]
+fn a_changed_catalogue_is_damaged(rt: HostRuntime) -> Result<(), Fail> {
+    let alloc = rt.alloc();
+    let Some(front) = INNER.strip_suffix("00") else {
+        return Err(Fail::new("another end"));
+    };
+    let other = format!(in alloc; "{front}01")?;
+    let found = id_of("d4e0f7a2399222df2b6f27bc2b25d0ff2acb4ac3")?.hash;
+    assert_eq!(rt;
+        fault_with(alloc, INNER_ID, Some(other.as_str()))?,
+        Some(LoadFault::Damaged {
+            id: id_of(INNER_ID)?,
+            found
+        })
+    );
+    Ok(())
+}
+
+/// Directories, of which each is marked but the root.
+const DIRECTORIES: [&str; 3] = ["/a", "/a/b", "/a/b/c"];
+
+/// Files, of which each holds the text of its path.
+const FILES: [&str; 4] = [
+    "/a/.cvmfscatalog",
+    "/a/b/.cvmfscatalog",
+    "/a/b/c/.cvmfscatalog",
+    "/a/b/c/f",
+];
+
+/// The id of the tree's root catalogue, by `tools/cut_vectors.py`.
+const CUT_ID: &str = "a78b6e61f2a693f1d431bc6ac868a01ad8635c27C";
+
+const DIRECTORY: Attr = Attr {
+    mode: 0o755,
+    mtime: 1_700_000_000,
+    uid: 0,
+    gid: 0,
+};
+
+const FILE: Attr = Attr {
+    mode: 0o644,
+    mtime: 1_700_000_000,
+    uid: 0,
+    gid: 0,
+};
+
+/// A file whose content is this text.
+fn file(text: &str) -> Result<Node, Fail>
+    ensures { IfOk result IsNode }
+{
+    if text.len() > 4095 {
+        return Err(Fail::new("a long text"));
+    }
+    let hash = ObjectId::of(Kind::Plain, text.as_bytes()).hash;
+    let size = text.len() as u64;
+    Ok(Node::File(FILE, FileRef { hash, size }))
+}
+
+/// The tree of those directories and files.
+fn tree_of(alloc: Global) -> Result<Tree, Fail> {
+    let mut tree = Tree::new(alloc, DIRECTORY)?;
+    for text in DIRECTORIES {
+        tree.insert(&RepoPath::read(alloc, text)?, Node::Dir(DIRECTORY))?;
+    }
+    for text in FILES {
+        tree.insert(&RepoPath::read(alloc, text)?, file(text)?)?;
+    }
+    Ok(tree)
+}
+
+/// The shelf of its catalogues and of the contents of its files.
+fn shelf_of(alloc: Global) -> Result<MemoryShelf, Fail> {
+    let mut objects = cut(alloc, &tree_of(alloc)?)?.catalogues.into_vec();
+    for text in FILES {
+        let id = ObjectId::of(Kind::Plain, text.as_bytes());
+        let bytes = Bytes::from_slice(alloc, text.as_bytes())?;
+        objects.push(Object { id, bytes })?;
+    }
+    Ok(MemoryShelf::new(alloc, objects, Vec::new(alloc))?)
+}
+
+#[test]
+fn a_tree_that_was_cut_is_loaded(rt: HostRuntime) -> Result<(), Fail> {
+    let alloc = rt.alloc();
+    let mut shelf = shelf_of(alloc)?;
+    let root = ObjectId {
+        hash: id_of(CUT_ID)?.hash,
+        kind: Kind::Catalogue,
+    };
+    let Ok(tree) = load(alloc, &mut shelf, &root) else {
+        return Err(Fail::new("no tree"));
+    };
+    let places = [
+        ("/", Some(0)),
+        ("/a", Some(0)),
+        ("/a/.cvmfscatalog", Some(16)),
+        ("/a/b", Some(0)),
+        ("/a/b/.cvmfscatalog", Some(18)),
+        ("/a/b/c", Some(0)),
+        ("/a/b/c/.cvmfscatalog", Some(20)),
+        ("/a/b/c/f", Some(8)),
+        ("/a/b/f", None),
+    ];
+    for (text, expected) in places {
+        let path = RepoPath::read(alloc, text)?;
+        assert_eq!(rt; size_of(tree.get(&path)), expected, "at {text}");
+    }
+    assert_eq!(rt; cut(alloc, &tree)?.root, root);
+    Ok(())
+}
