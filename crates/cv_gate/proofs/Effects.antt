@@ -6,7 +6,7 @@ use Rattle.std.specs.Prelude.{bytes_eq}
 use Rattle.std.proofs.lemmas.Map.Text.{is_eq-slice_cmp}
 use Rattle.cv_base.specs.PathOrder.{same_name_is}
 use Rattle.cv_base.specs.Path.{Path}
-use Rattle.cv_leases.specs.Marker.{marker, ends_in}
+use Rattle.cv_base.specs.Marker.{marker, ends_in}
 use Rattle.cv_base.specs.declared.object.Object.{Object}
 use Rattle.cv_base.specs.declared.token.Token.{Token}
 use Rattle.cv_leases.specs.Leases.{busy, without}

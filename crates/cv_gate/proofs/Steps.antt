@@ -4,7 +4,7 @@ use Rattle.std.specs.declared.option.Option.TheVariants.{None, Some}
 use Rattle.std.specs.FinMap.{empty, get-insert, get-empty}
 use Rattle.cv_base.specs.Path.{Path, path_cmp, parent}
 use Rattle.cv_base.specs.PathOrder.{path_total}
-use Rattle.cv_leases.specs.Marker.{marker, ends_in}
+use Rattle.cv_base.specs.Marker.{marker, ends_in}
 use Rattle.cv_base.specs.declared.token.Token.{Token}
 use Rattle.cv_tree.specs.Tree.{single, is_directory}
 use Rattle.cv_tree.specs.Changes.{has_place}
@@ -14,7 +14,7 @@ use Rattle.cv_leases.specs.Leases.{busy, unexpired}
 use Rattle.cv_leases.specs.declared.lease.Lease.{Lease}
 use Rattle.cv_gate.specs.State.{State}
 use Rattle.cv_gate.specs.Step.{LeaseStep, CancelStep, MayLackMemory, IsOp, Step, is_key_id}
-use Rattle.cv_gate.specs.Gate.{StateView, GateView, Steps, made, journal_limit, state_of, lone_revision, refusal_of, refusal_beside, is_at_top, with_lease, next_token, reply_of, AsksLease, refused, granted, unremembered, AsksEnd, absent, foreign, ends}
+use Rattle.cv_gate.specs.Gate.{StateView, GateView, Steps, made, journal_limit, state_of, lone_revision, refusal_of, refusal_beside, is_at_top, with_lease, next_token, reply_of, is_plain, AsksLease, refused, granted, unremembered, AsksEnd, absent, foreign, ends}
 use Rattle.cv_gate.specs.declared.op.Op.{Op}
 use Rattle.cv_gate.specs.declared.op.Op.TheVariants as op
 use Rattle.cv_gate.specs.declared.act.Act.TheVariants as act
@@ -140,3 +140,15 @@ after_cancel o seat now before after aged ended key token out r b is asks same g
     stepped o seat now before after r _ b.room refl refl (sym replied) grown
     (subst (λ (x : Op). Step (state_of before.state) x (record { seat = seat; now = now; key = key; act = act.Cancel token; reply = reply_of out }) (state_of after.state)) (sym is)
     (cancel_step before.state after.state seat now key token out id b.now_ b.next done))
+
+-- what comes of asking without a disk is answered without one
+pub plain_reply : (o : Outcome) → is_plain (reply_of o) ≡ true
+plain_reply (outcome.Granted token revision root) = refl
+plain_reply outcome.Cancelled = refl
+plain_reply outcome.BadPath = refl
+plain_reply (outcome.PathBusy token remaining) = refl
+plain_reply outcome.TooManyLeases = refl
+plain_reply outcome.NoParent = refl
+plain_reply outcome.InvalidToken = refl
+plain_reply outcome.WrongKey = refl
+plain_reply outcome.NoMemory = refl

@@ -1,7 +1,7 @@
 -- A gate, as it is seen, and the state for which it stands.
 use Rattle.std.specs.Prelude.{◌≡◌, ◌≤◌, ◌<◌, ◌+◌, ◌-◌, ◌^◌, ℕ, Bool, true, false, nat_le, bytes_eq, List, [], ◌∷◌, ◌++◌, length, Option, None, Some, if◌then◌else◌}
 use Rattle.cv_base.specs.Path.{Path}
-use Rattle.cv_leases.specs.Marker.{marker, ends_in}
+use Rattle.cv_base.specs.Marker.{marker, ends_in}
 use Rattle.cv_base.specs.declared.token.Token.{Token}
 use Rattle.cv_tree.specs.Tree.{single}
 use Rattle.cv_tree.specs.declared.node.Node.TheVariants.{Dir}
@@ -90,6 +90,20 @@ pub data Steps (o : Op) (seat now : ℕ) (before after : GateView) (r : Reply) :
   full : length before.journal ≡ journal_limit → r ≡ reply.JournalFull → after ≡ before → Steps o seat now before after r
   made : length before.journal < journal_limit → (e : Entry) → e.seat ≡ seat → e.now ≡ now → e.reply ≡ r → after.journal ≡ before.journal ++ e ∷ []
       → ((st : State) → StandsFor before st → (st' : State) × Step st o e st' × StandsFor after st') → Steps o seat now before after r
+
+-- the replies that there are without a disk
+abbrev pub is_plain : Reply → Bool
+is_plain (reply.Granted token revision root) = true
+is_plain reply.Cancelled = true
+is_plain reply.BadPath = true
+is_plain (reply.PathBusy token remaining) = true
+is_plain reply.TooManyLeases = true
+is_plain reply.NoParent = true
+is_plain reply.InvalidToken = true
+is_plain reply.WrongKey = true
+is_plain reply.JournalFull = true
+is_plain reply.NoMemory = true
+is_plain other = false
 
 -- ---- inside a step
 

@@ -1,8 +1,8 @@
 //! The gate.
-ghost use Rattle.std.specs.Prelude.{◌≡◌, ◌≤◌, ◌<◌, ◌++◌, ◌∷◌, ◌^◌, [], max, IfOk, vec_len, vec_capacity};
+ghost use Rattle.std.specs.Prelude.{◌≡◌, ◌≤◌, ◌<◌, ◌++◌, ◌∷◌, ◌^◌, [], true, max, IfOk, vec_len, vec_capacity};
 ghost use Rattle.cv_gate.specs.Lines.{lines_of};
 ghost use Rattle.cv_gate.specs.Step.{IsOp};
-ghost use Rattle.cv_gate.specs.Gate.{IsServed, Steps};
+ghost use Rattle.cv_gate.specs.Gate.{IsServed, Steps, is_plain};
 
 use crate::act::Act;
 use crate::entry::Entry;
@@ -53,7 +53,10 @@ impl Gate {
         requires moment { now < 2 ^ 62 }
         requires op { IsOp op }
         requires served { IsServed op }
-        ensures { Steps op seat now self.old self.new result }
+        ensures steps { Steps op seat now self.old self.new result }
+
+        // It never says that a disk failed, or anything of objects and revisions.
+        ensures plain { is_plain result ≡ true }
     {
         if self.journal.len() >= JOURNAL_LIMIT {
             return Reply::JournalFull;

@@ -6,8 +6,8 @@ ghost use Rattle.cv_gate.specs.Gate.{AsksLease, AsksEnd, refusal_of, new_lease};
 
 use crate::lease_line::LeaseLine;
 use crate::outcome::Outcome;
-use cv_base::{NoMemory, RepoPath, Text, Token};
-use cv_leases::{LEASE_LIMIT, Lease, LeaseTable, ends_in_marker};
+use cv_base::{NoMemory, RepoPath, Text, Token, ends_in_marker};
+use cv_leases::{LEASE_LIMIT, Lease, LeaseTable};
 use std::alloc::Global;
 use std::marker::Model;
 
