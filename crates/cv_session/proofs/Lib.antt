@@ -1,0 +1,4 @@
+mod Asking
+mod OneAsking
+mod Slashes
+mod Targeting

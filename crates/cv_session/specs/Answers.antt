@@ -1,0 +1,40 @@
+-- How the gate's replies and lists are answered.
+use Rattle.std.specs.Prelude.{ℕ, ◌++◌, List, [], ◌∷◌, map, Option, Some, None}
+use Rattle.cv_base.specs.Path.{text_of}
+use Rattle.cv_answers.specs.declared.answer.Answer.{Answer}
+use Rattle.cv_answers.specs.declared.answer.Answer.TheVariants.{Granted, Done, Leases, Repos, PathBusy, Refused}
+use Rattle.cv_answers.specs.declared.lease_item.LeaseItem.{LeaseItem}
+use Rattle.cv_answers.specs.declared.reason.Reason.{Reason}
+use Rattle.cv_answers.specs.declared.reason.Reason.TheVariants as reason
+use Rattle.cv_gate.specs.declared.lease_line.LeaseLine.{LeaseLine}
+use Rattle.cv_gate.specs.declared.reply.Reply.{Reply}
+use Rattle.cv_gate.specs.declared.reply.Reply.TheVariants as reply
+
+abbrev pub refused : Reason → Option Answer
+refused why = Some (Refused (record { reason = why; member = None }))
+
+-- how a reply of the gate is answered; a gate over no disk gives no other replies than these
+abbrev pub answer_of : Reply → Option Answer
+answer_of (reply.Granted token revision root) = Some (Granted token revision root)
+answer_of reply.Cancelled = Some Done
+answer_of reply.BadPath = refused reason.BadPath
+answer_of (reply.PathBusy token remaining) = Some (PathBusy token remaining)
+answer_of reply.TooManyLeases = refused reason.TooManyLeases
+answer_of reply.NoParent = refused reason.NoParent
+answer_of reply.InvalidToken = refused reason.InvalidToken
+answer_of reply.WrongKey = refused reason.WrongKey
+answer_of reply.JournalFull = refused reason.JournalFull
+answer_of reply.NoMemory = refused reason.NoMemory
+answer_of other = None
+
+-- a live lease as it is listed: its path is the repository's name and the path's text
+abbrev pub item_of : List ℕ → LeaseLine → LeaseItem
+item_of repository line = record { key = line.key; path = repository ++ text_of line.path; remaining = line.remaining }
+
+-- the live leases of the repository, in the order of grant
+abbrev pub leases_answer : List ℕ → List LeaseLine → Answer
+leases_answer repository lines = Leases (map (item_of repository) lines)
+
+-- the one repository that is served
+abbrev pub repositories_answer : List ℕ → Answer
+repositories_answer repository = Repos (repository ∷ [])

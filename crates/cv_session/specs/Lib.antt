@@ -1,0 +1,4 @@
+pub mod Answers
+pub mod Denials
+pub mod Targets
+pub mod Turns

@@ -1,0 +1,107 @@
+//! How the gate's replies and lists are answered.
+ghost use Rattle.std.specs.Prelude.{◌≡◌, Some, IfOk, true, false, map};
+ghost use Rattle.cv_answers.specs.AnswerText.{is_answer};
+ghost use Rattle.cv_answers.specs.Refusal.{names_member};
+ghost use Rattle.cv_gate.specs.Gate.{is_plain};
+ghost use Rattle.cv_session.specs.Answers.{answer_of, refused, item_of, leases_answer, repositories_answer};
+
+use cv_answers::{Answer, LeaseItem, LeaseItems, Reason, Refusal, Texts};
+use cv_base::{Name, NoMemory, Text};
+use cv_gate::{LeaseLine, Reply};
+use std::alloc::Global;
+
+/// The answer to a reply that a gate over no disk gives. It takes no memory.
+pub fn answer_reply(reply: &Reply) -> Answer
+    requires { is_plain reply.now ≡ true }
+    ensures answer { answer_of reply.now ≡ Some result }
+    ensures writable { is_answer result ≡ true }
+{
+    match reply {
+        Reply::Granted {
+            token,
+            revision,
+            root,
+        } => Answer::Granted {
+            token: *token,
+            revision: *revision,
+            root: *root,
+        },
+        Reply::Cancelled => Answer::Done,
+        Reply::PathBusy { token, remaining } => Answer::PathBusy {
+            token: *token,
+            remaining: *remaining,
+        },
+        Reply::BadPath => refused(Reason::BadPath),
+        Reply::TooManyLeases => refused(Reason::TooManyLeases),
+        Reply::NoParent => refused(Reason::NoParent),
+        Reply::InvalidToken => refused(Reason::InvalidToken),
+        Reply::WrongKey => refused(Reason::WrongKey),
+        Reply::JournalFull => refused(Reason::JournalFull),
+        Reply::NoMemory => refused(Reason::NoMemory),
+        _ => unreachable!(),
+    }
+}
+
+/// A refusal that names no member.
+fn refused(reason: Reason) -> Answer
+    requires { names_member reason ≡ false }
+    ensures answer { refused reason ≡ Some result }
+    ensures writable { is_answer result ≡ true }
+{
+    Answer::Refused(Refusal {
+        reason,
+        member: None,
+    })
+}
+
+/// The answer that lists the live leases of the repository, in the order of grant.
+pub fn list_leases(
+    alloc: Global,
+    repository: &Name,
+    lines: &[LeaseLine],
+) -> Result<Answer, NoMemory>
+    ensures { IfOk result (λ answer. answer ≡ leases_answer repository.now lines.now) }
+{
+    let items = lease_items(alloc, repository.text(), lines)?;
+    Ok(Answer::Leases(LeaseItems::new(items)))
+}
+
+/// The items of live leases.
+fn lease_items(
+    alloc: Global,
+    repository: &str,
+    lines: &[LeaseLine],
+) -> Result<Vec<LeaseItem>, NoMemory>
+    ensures { IfOk result (λ items. items.items ≡ map (item_of repository.now) lines.now) }
+{
+    let mut items = Vec::new(alloc);
+    for line in lines {
+        let item = lease_item(alloc, repository, line)?;
+        items.push(item).map_err(|_| NoMemory)?;
+    }
+    Ok(items)
+}
+
+/// A live lease as it is listed.
+fn lease_item(alloc: Global, repository: &str, line: &LeaseLine) -> Result<LeaseItem, NoMemory>
+    ensures { IfOk result (λ item. item ≡ item_of repository.now line.now) }
+{
+    let path = line.path.text(alloc)?;
+    let mut text = String::from_str(alloc, repository)?;
+    text.push_str(path.as_str())?;
+    Ok(LeaseItem {
+        key: line.key.copy(alloc)?,
+        path: Text::new(text),
+        remaining: line.remaining,
+    })
+}
+
+/// The answer that lists the one repository.
+pub fn list_repositories(alloc: Global, repository: &Name) -> Result<Answer, NoMemory>
+    ensures { IfOk result (λ answer. answer ≡ repositories_answer repository.now) }
+{
+    let name = Text::from_str(alloc, repository.text())?;
+    let mut names = Vec::new(alloc);
+    names.push(name).map_err(|_| NoMemory)?;
+    Ok(Answer::Repos(Texts::new(names)))
+}

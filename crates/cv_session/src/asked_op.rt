@@ -1,0 +1,109 @@
+//! The steps of the gate that requests ask for.
+ghost use Rattle.std.specs.Prelude.{◌≡◌, ◌==◌, ℕ, List, true, false, length, drop, bytes_eq, option_map, IfOk, MatchOption, MatchResult};
+ghost use Rattle.std.specs.List.{before_first};
+ghost use Rattle.cv_gate.specs.Step.{is_key_id};
+ghost use Rattle.cv_gate.specs.declared.op.Op.TheVariants as op;
+ghost use Rattle.cv_messages.specs.Spelling.{token_of};
+ghost use Rattle.cv_session.specs.Denials.{Asks, Denies};
+ghost use Rattle.cv_session.specs.Turns.{signed, lease_on, lease_turn, end_turn, token_by};
+ghost use Rattle.cv_session.specs.declared.turn.Turn.{Turn};
+ghost use Rattle.cv_session.specs.declared.turn.Turn.TheVariants.{Step};
+
+use crate::denial::Denial;
+use cv_answers::Reason;
+use cv_base::{Name, PathFault, RepoPath, Text, Token};
+use cv_gate::Op;
+use cv_keys::KeyTable;
+use cv_messages::LeaseAsk;
+use std::alloc::Global;
+
+/// The token that no lease has.
+const NO_TOKEN: Token = Token {
+    epoch: 0,
+    number: 0,
+};
+
+/// The lease that is asked for by an Authorization header and a body.
+pub(crate) fn asked_lease(
+    alloc: Global,
+    repository: &Name,
+    keys: &KeyTable,
+    header: Option<&str>,
+    body: &[u8],
+) -> Result<Op, Denial>
+    ensures { Asks (lease_turn repository.now keys.now (option_map (λ text. text.now) header.entry) body.now) result }
+{
+    let key = read_signer(alloc, keys, header, body)?;
+    let ask = LeaseAsk::read(alloc, body)?;
+    let path = read_leased(alloc, repository, ask.path.as_str())?;
+    Ok(Op::Lease { key, path })
+}
+
+/// The end of a lease that is asked for by an Authorization header and the text of the lease's token.
+pub(crate) fn asked_end(
+    alloc: Global,
+    keys: &KeyTable,
+    header: Option<&str>,
+    token: &str,
+) -> Result<Op, Denial>
+    ensures { Asks (end_turn keys.now (option_map (λ text. text.now) header.entry) token.now) result }
+{
+    let key = read_signer(alloc, keys, header, token.as_bytes())?;
+    let token = read_token(token);
+    Ok(Op::Cancel { key, token })
+}
+
+/// The id of the key that signed the message by this header.
+fn read_signer(
+    alloc: Global,
+    keys: &KeyTable,
+    header: Option<&str>,
+    message: &[u8],
+) -> Result<Text, Denial>
+    ensures signed { (asks : List ℕ → Turn) →
+        let turn = signed keys.now (option_map (λ text. text.now) header.entry) message.now asks in
+        MatchResult result (λ key. turn ≡ asks key) (Denies turn) }
+    ensures key { IfOk result (λ key. is_key_id key ≡ true) }
+{
+    let key = keys.check(alloc, header, message)?;
+    Ok(Text::from_str(alloc, keys.id(key))?)
+}
+
+/// The path of a lease on what a text says: the repository's name, and behind it nothing or the text of a path.
+fn read_leased(alloc: Global, repository: &Name, text: &str) -> Result<RepoPath, Denial>
+    ensures { (key : List ℕ) →
+        let turn = lease_on repository.now text.now key in
+        MatchResult result (λ path. turn ≡ Step (op.Lease key path)) (Denies turn) }
+{
+    let Some(path) = strip_name(repository, text) else {
+        return Err(Denial::new(Reason::UnknownRepository));
+    };
+    match RepoPath::read(alloc, path) {
+        Ok(path) => Ok(path),
+        Err(PathFault::NoMemory) => Err(Denial::NoMemory),
+        Err(_) => Err(Denial::new(Reason::BadPath)),
+    }
+}
+
+/// What follows the repository's name, where that is what a text has before its first slash.
+fn strip_name<'a>(repository: &Name, text: &'a str) -> Option<&'a str>
+    ensures { MatchOption result (bytes_eq (before_first (λ b. b == 47) text.now) repository.now ≡ false)
+        (λ rest. (bytes_eq (before_first (λ b. b == 47) text.now) repository.now ≡ true) × (rest.now ≡ drop (length repository.now) text.now)) }
+{
+    let rest = text.strip_prefix(repository.text())?;
+    if rest.is_empty() || rest.starts_with('/') {
+        Some(rest)
+    } else {
+        None
+    }
+}
+
+/// The token of a text, or the one that no lease has.
+fn read_token(text: &str) -> Token
+    ensures { result ≡ token_by (token_of text.now) }
+{
+    match Token::read(text) {
+        Some(token) => token,
+        None => NO_TOKEN,
+    }
+}
