@@ -21,3 +21,7 @@ asks_stdio text words a b first second name least most a-is b-is first-is second
     let found = cond_some (is_name second) second name named in
     let texts : map text words ≡ codes "stdio" ∷ name ∷ [] = rw two (rw (← first-is, ← second-is, word, found.1) refl) in
     stdio name texts (subst (λ (x : List ℕ). IsTrue (is_name x)) found.1 found.0)
+
+-- words ask for one repository
+pub one_repository : (words : List (List ℕ)) (a b : List ℕ) → Asks words (Stdio a) → Asks words (Stdio b) → a ≡ b
+one_repository words a b (stdio _ is named) (stdio _ is' named') = cc

@@ -1,6 +1,8 @@
-mod Answering
 mod Commands
+mod KeyFaults
+mod Ledgers
 mod OneAsking
 mod Opening
 mod SessionSteps
-mod Targeting
+mod Texts
+mod TurnsDone

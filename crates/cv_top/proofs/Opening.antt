@@ -6,10 +6,18 @@ use Rattle.cv_ports.specs.Streams.{front}
 use Rattle.cv_vault.specs.Disk.{Disk, Files, Reads}
 use Rattle.cv_vault.specs.Moments.{Calls}
 use Rattle.cv_http.specs.declared.fault.HttpFault.TheVariants.{Short}
-use Rattle.cv_top.specs.Targets.{manifest_name}
+use Rattle.cv_keys.specs.KeysText.{keys_of}
+use Rattle.cv_keys.specs.declared.key.Key.{Key}
+use Rattle.cv_session.specs.Targets.{manifest_name}
+use Rattle.cv_top.specs.Answers.{IsFile}
 use Rattle.cv_top.specs.Sessions.{Session}
 use Rattle.cv_top.specs.Serving.{Serves, ended}
+use Rattle.cv_top.specs.Standing.{standing, Ledger, opened}
 use Rattle.cv_top.specs.Status.{status_of}
+use Rattle.cv_top.specs.Words.{Asks}
+use Rattle.cv_top.specs.declared.words.Command.TheVariants.{Stdio}
+use Rattle.cv_top.specs.declared.status.Status.{Status}
+use Rattle.cv_top.proofs.Commands.{one_repository}
 use Rattle.cv_top.specs.declared.session_end.SessionEnd.{SessionEnd}
 use Rattle.cv_top.specs.declared.session_end.SessionEnd.TheVariants.{Clean, Bad}
 
@@ -35,12 +43,28 @@ left_none (a ∷ held) None none l told = cc
 left_none (a ∷ held) (Some x) none l told = let h = none (a ∷ held ++ x) refl in cc
 
 -- the session's end says the status
-pub serves_ended : {repository b bytes : List ℕ} {disk there : Option Disk} {left taken taken' : Option (List ℕ)} {f mid f' : ℕ} {end : SessionEnd}
-    → there ≡ disk → f ≤ mid → WhereTold disk (λ d. (d manifest_name).now ≡ Some bytes) → Session repository there b taken taken' mid f' end
+pub serves_ended : {repository text b bytes : List ℕ} {keys : List Key} {disk there : Option Disk} {left taken taken' : Option (List ℕ)} {f mid f' : ℕ} {moments moments' : Option (ℕ → ℕ)}
+    {first last : Ledger} {end : SessionEnd} → keys_of text ≡ Ok keys → there ≡ disk → f ≤ mid → IsFile disk manifest_name (Some bytes) → first ≡ opened
+    → Session repository keys there b taken taken' (standing mid moments first) (standing f' moments' last) end
     → (end ≡ Clean → WhereTold left (λ l. l ≡ [])) → (end ≡ Bad Short → WhereTold left (λ l. l ≡ []))
-    → Serves repository disk b left taken taken' f f' (status_of end)
-serves_ended {repository} {b} {bytes} {disk} {there} {left} {taken} {taken'} {f} {mid} {f'} {end} same later is s clean cut =
-    let here = subst (λ (o : Option Disk). Session repository o b taken taken' mid f' end) same s in
-    ended end (λ d told. rw (is d told) refl)
-    (record { exchanges = here.exchanges; asked = here.asked; said = here.said; fit = here.fit; rose = let was = here.rose in omega (arith, was, later) })
-    (record { clean = clean; cut = cut })
+    → Serves repository text disk b left taken taken' f f' moments moments' (status_of end)
+serves_ended {repository} {text} {b} {bytes} {keys} {disk} {there} {left} {taken} {taken'} {f} {mid} {f'} {moments} {moments'} {first} {last} {end} says same later is begins s clean cut =
+    let here = subst (λ (o : Option Disk). Session repository keys o b taken taken' (standing mid moments first) (standing f' moments' last) end) same s in
+    let begun = subst (λ (l : Ledger). Session repository keys disk b taken taken' (standing mid moments l) (standing f' moments' last) end) begins here in
+    ended keys end last says (λ d told. rw (is d told) refl) (record {
+      exchanges = begun.exchanges;
+      asked = begun.asked;
+      said = begun.said;
+      leads = begun.leads;
+      run = begun.run;
+      journal = begun.journal;
+      clock = begun.clock;
+      rose = let was = begun.rose in omega (arith, was, later);
+    }) (record { clean = clean; cut = cut })
+
+-- words ask to serve one repository
+pub serves_asked : {words : List (List ℕ)} {a repository text b : List ℕ} {disk : Option Disk} {left taken taken' : Option (List ℕ)} {f f' : ℕ} {moments moments' : Option (ℕ → ℕ)} {status : Status}
+    → Serves repository text disk b left taken taken' f f' moments moments' status → Asks words (Stdio a) → Asks words (Stdio repository)
+    → Serves a text disk b left taken taken' f f' moments moments' status
+serves_asked {words} {a} {repository} {text} {b} {disk} {left} {taken} {taken'} {f} {f'} {moments} {moments'} {status} serves asks asked =
+    subst (λ (r : List ℕ). Serves r text disk b left taken taken' f f' moments moments' status) (one_repository words repository a asked asks) serves

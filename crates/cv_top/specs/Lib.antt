@@ -3,6 +3,6 @@ pub mod Exchanges
 pub mod Requests
 pub mod Serving
 pub mod Sessions
+pub mod Standing
 pub mod Status
-pub mod Targets
 pub mod Words

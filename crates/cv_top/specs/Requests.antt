@@ -6,6 +6,7 @@ use Rattle.cv_http.specs.declared.fault.HttpFault.{HttpFault}
 use Rattle.cv_http.specs.declared.fault.HttpFault.TheVariants.{BadHead, HeadTooLarge, BodyTooLarge, NoLength, Coding, Short, ReadFault, NoMemory}
 use Rattle.cv_http.specs.declared.code.Code.{Code}
 use Rattle.cv_http.specs.declared.code.Code.TheVariants.{BadRequest, FieldsTooLarge, ContentTooLarge, LengthRequired, NotImplemented}
+use Rattle.cv_top.specs.declared.request.Request.{Request}
 
 -- the most bytes of a body
 abbrev pub body_limit : ℕ
@@ -15,12 +16,11 @@ body_limit = 65536
 abbrev pub body_size : RequestHead → ℕ
 body_size head = unwrap_or head.length 0
 
--- the bytes are a whole request with this head, and then these
-pub record IsRequest (b : List ℕ) (head : RequestHead) (later : List ℕ) : Type 0 where
-  pub body : List ℕ
-  pub begins : Begins b head (body ++ later)
-  pub size : length body ≡ body_size head
-  pub limit : body_size head ≤ body_limit
+-- the bytes are a whole request, and then these
+pub record IsRequest (b : List ℕ) (request : Request) (later : List ℕ) : Type 0 where
+  pub begins : Begins b request.head (request.body ++ later)
+  pub size : length request.body ≡ body_size request.head
+  pub limit : body_size request.head ≤ body_limit
 
 -- the bytes begin with something that is refused by this fault
 pub data IsBad (b : List ℕ) : HttpFault → Type 0 where
@@ -43,9 +43,8 @@ code_of_fault Short = None
 code_of_fault ReadFault = None
 code_of_fault NoMemory = None
 
--- so many bytes were passed over, and then this is left
-pub record IsPassed (size : ℕ) (b : List ℕ) (left : Option (List ℕ)) : Type 0 where
-  pub body : List ℕ
+-- the bytes begin with this body, of so many bytes, and then these are left
+pub record IsBody (size : ℕ) (b body : List ℕ) (left : Option (List ℕ)) : Type 0 where
   pub later : List ℕ
   pub told : left ≡ Some later
   pub split : b ≡ body ++ later

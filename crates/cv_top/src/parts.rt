@@ -1,6 +1,6 @@
 //! The outside of the program.
 
-/// The outside of the program: what it reads and writes. The clock, the keys and the seal aren't read yet.
+/// The outside of the program: what it reads and writes. The seal isn't read yet.
 #[derive(Drop)]
 pub struct Parts<V, R, W, E, C> {
     /// The files of the repository.
@@ -13,7 +13,7 @@ pub struct Parts<V, R, W, E, C> {
     pub errors: E,
     /// The time.
     pub clock: C,
-    /// The text of the keys.
+    /// The text of the keys of those who may change the repository.
     pub keys: String,
     /// The text of the seal.
     pub seal: String,

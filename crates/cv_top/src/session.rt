@@ -4,18 +4,21 @@ ghost use Rattle.cv_base.specs.Counts.{HasCause};
 ghost use Rattle.cv_base.specs.Told.{WhereTold};
 ghost use Rattle.cv_http.specs.Wires.{rest};
 ghost use Rattle.cv_http.specs.declared.fault.HttpFault.TheVariants.{Short};
-ghost use Rattle.cv_top.specs.Targets.{manifest_name};
+ghost use Rattle.cv_session.specs.Targets.{manifest_name};
+ghost use Rattle.cv_top.specs.Answers.{IsFile};
 ghost use Rattle.cv_top.specs.Exchanges.{EndsBy};
 ghost use Rattle.cv_top.specs.Sessions.{Session};
+ghost use Rattle.cv_top.specs.Standing.{IsReadOn, standing, ledger_of};
 ghost use Rattle.cv_top.specs.declared.session_end.SessionEnd.TheVariants.{Clean, Bad, ReadFault, WriteFault};
 
 use crate::answer::{Answer, write_answer};
-use crate::exchange::{answer_request, ends_with};
+use crate::exchange::answer_request;
 use crate::request::{fault_code, next_request};
+use crate::service::Service;
 use crate::session_end::SessionEnd;
-use cv_base::{Bytes, Name};
+use cv_gate::Gate;
 use cv_http::{HttpFault, SendFault, Wire};
-use cv_ports::{Sink, Source};
+use cv_ports::{Clock, Sink, Source};
 use cv_vault::Vault;
 use std::alloc::Global;
 
@@ -39,18 +42,21 @@ fn refuse<W: Sink>(alloc: Global, sink: &mut W, fault: HttpFault) -> SessionEnd
 }
 
 /// Answers the requests of a connection, one after another, until the input ends, a request asks for the end, is refused or
-/// is the last that a connection may have, or a stream fails. A body is read and passed over.
-pub fn answer_requests<V: Vault, R: Source + Drop, W: Sink>(
+/// is the last that a connection may have, the gate's journal is full, or a stream fails.
+pub fn answer_requests<V: Vault, C: Clock, R: Source + Drop, W: Sink>(
     alloc: Global,
-    repository: &Name,
-    manifest: &Bytes,
+    service: &Service,
     vault: &mut V,
+    gate: &mut Gate,
+    clock: &mut C,
     wire: &mut Wire<R>,
     sink: &mut W,
 ) -> SessionEnd
-    requires manifest { WhereTold (V.disk vault.old) (λ d. (d manifest_name).now ≡ Some manifest.now) }
+    requires manifest { IsFile (V.disk vault.old) manifest_name (Some service.now.manifest) }
     ensures session { WhereTold (rest R.left wire.old) (λ b.
-        Session repository.now (V.disk vault.old) b (W.taken sink.old) (W.taken sink.new) (V.faults vault.old) (V.faults vault.new) result) }
+        Session service.now.name service.now.keys (V.disk vault.old) b (W.taken sink.old) (W.taken sink.new)
+        (standing (V.faults vault.old) (C.moments clock.old) (ledger_of gate.old)) (standing (V.faults vault.new) (C.moments clock.new) (ledger_of gate.new)) result) }
+    ensures clock { IsReadOn (C.moments clock.old) (C.moments clock.new) }
     ensures nothing_left { result ≡ Clean → WhereTold (R.left wire.new.source) (λ left. left ≡ []) }
     ensures cut { result ≡ Bad Short → WhereTold (R.left wire.new.source) (λ left. left ≡ []) }
     ensures reads { HasCause (R.faults wire.old.source) (R.faults wire.new.source) (result ≡ ReadFault) }
@@ -60,20 +66,15 @@ pub fn answer_requests<V: Vault, R: Source + Drop, W: Sink>(
 {
     let mut count = 0;
     'requests: loop {
-        let head = match next_request(alloc, wire) {
-            Ok(Some(head)) => head,
+        let request = match next_request(alloc, wire) {
+            Ok(Some(request)) => request,
             Ok(None) => return SessionEnd::Clean,
             Err(fault) => return refuse(alloc, sink, fault),
         };
         count += 1;
-        let last = ends_with(head.last, count);
-        match answer_request(alloc, repository, manifest, vault, sink, head, last) {
-            Ok(()) => {}
-            Err(SendFault::WriteFault) => return SessionEnd::WriteFault,
-            Err(SendFault::NoMemory) => return SessionEnd::NoMemory,
-        }
-        if last {
-            return SessionEnd::Closed;
+        match answer_request(alloc, service, vault, gate, clock, sink, &request, count) {
+            Some(end) => return end,
+            None => {}
         }
     }
 }

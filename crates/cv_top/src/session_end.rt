@@ -15,6 +15,8 @@ pub enum SessionEnd {
     ReadFault,
     /// The sink failed.
     WriteFault,
+    /// The gate's journal was full, and the reply that says so was written.
+    JournalFull,
     /// There was no memory.
     NoMemory,
 }

@@ -1,8 +1,9 @@
 //! How the program ends.
 ghost use Rattle.std.specs.Prelude.{◌≡◌};
-ghost use Rattle.cv_top.specs.Status.{code_of, line_of, status_of};
+ghost use Rattle.cv_top.specs.Status.{code_of, line_of, status_of, status_of_keys};
 
 use crate::session_end::SessionEnd;
+use cv_keys::KeyFault;
 
 /// How the program ends. Each status but `Done` has a line on standard error.
 #[derive(Clone, Copy, Debug, PartialEq, Eq)]
@@ -20,8 +21,12 @@ pub enum Status {
     OutputFailed,
     /// The vault failed when the repository was opened.
     StoreFailed,
+    /// The journal of the gate was full, and a request was answered so.
+    JournalFull,
     /// A request that no further one can follow: it was faulty, or was cut.
     BadRequest,
+    /// The keys text has a fault.
+    BadKeys,
     /// There was no memory.
     OutOfMemory,
 }
@@ -36,7 +41,18 @@ impl Status {
             SessionEnd::Bad(_) => Status::BadRequest,
             SessionEnd::ReadFault => Status::InputFailed,
             SessionEnd::WriteFault => Status::OutputFailed,
+            SessionEnd::JournalFull => Status::JournalFull,
             SessionEnd::NoMemory => Status::OutOfMemory,
+        }
+    }
+
+    /// How the program ends by a fault of the keys text.
+    pub fn of_keys(fault: KeyFault) -> Status
+        ensures { result ≡ status_of_keys fault }
+    {
+        match fault {
+            KeyFault::NoMemory => Status::OutOfMemory,
+            _ => Status::BadKeys,
         }
     }
 
@@ -51,7 +67,9 @@ impl Status {
             Status::InputFailed => 5,
             Status::OutputFailed => 6,
             Status::StoreFailed => 7,
+            Status::JournalFull => 9,
             Status::BadRequest => 14,
+            Status::BadKeys => 16,
             Status::OutOfMemory => 70,
         }
     }
@@ -67,7 +85,9 @@ impl Status {
             Status::InputFailed => "cvkit: input failed\n",
             Status::OutputFailed => "cvkit: output failed\n",
             Status::StoreFailed => "cvkit: store failed\n",
+            Status::JournalFull => "cvkit: journal full\n",
             Status::BadRequest => "cvkit: bad request\n",
+            Status::BadKeys => "cvkit: bad keys\n",
             Status::OutOfMemory => "cvkit: out of memory\n",
         }
     }

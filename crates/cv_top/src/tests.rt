@@ -1,5 +1,5 @@
 //! The program on worked inputs. The expected bytes are those of the protocol's tables, and not the program's own.
-ghost use Rattle.std.specs.Prelude.{◌≡◌, ◌∷◌, [], IfOk};
+ghost use Rattle.std.specs.Prelude.{◌≡◌, ◌+◌, ◌∷◌, [], IfOk};
 
 use crate::{Parts, Status, run};
 use cv_base::NoMemory;
@@ -9,6 +9,12 @@ use std::alloc::Global;
 use std::test::Fail;
 
 const MANIFEST: (&str, &str) = (".cvmfspublished", "M\n");
+
+/// The keys text of two keys.
+const KEYS: &str = r#"{"keys":[{"id":"k1","secret":"s1"},{"id":"k2","secret":"s2"}]}"#;
+
+/// The first moment of the tests.
+const START: u64 = 1_700_000_000;
 
 const OBJECT: &str = "data/f5/72d396fae9206628714fb2ce00f72e94f2258f";
 
@@ -51,13 +57,40 @@ fn vault_with(
     Ok(vault)
 }
 
-/// The one moment of the tests.
-fn one_moment(alloc: Global) -> Result<Vec<u64>, NoMemory>
-    ensures { IfOk result (λ moments. moments.items ≡ 1700000000 ∷ []) }
+/// Three moments, so many seconds after the first of the tests.
+fn moments_at(alloc: Global, seconds: (u32, u32, u32)) -> Result<Vec<u64>, NoMemory>
+    ensures { IfOk result (λ moments. moments.items ≡ (1700000000 + seconds.0) ∷ (1700000000 + seconds.1) ∷ (1700000000 + seconds.2) ∷ []) }
 {
     let mut moments = Vec::new(alloc);
-    moments.push(1_700_000_000).map_err(|_| NoMemory)?;
+    moments
+        .push(START + u64::from(seconds.0))
+        .map_err(|_| NoMemory)?;
+    moments
+        .push(START + u64::from(seconds.1))
+        .map_err(|_| NoMemory)?;
+    moments
+        .push(START + u64::from(seconds.2))
+        .map_err(|_| NoMemory)?;
     Ok(moments)
+}
+
+/// What a run has besides its files and its input.
+#[derive(Drop)]
+struct Around {
+    keys: &'static str,
+    seconds: (u32, u32, u32),
+    failing: Failing,
+}
+
+impl Around {
+    /// Two keys, one moment, and nothing fails.
+    fn usual(alloc: Global) -> Around {
+        Around {
+            keys: KEYS,
+            seconds: (0, 0, 0),
+            failing: Failing::nothing(alloc),
+        }
+    }
 }
 
 /// Runs the program on these words, files and input.
@@ -66,8 +99,13 @@ fn run_on(
     words: &[&str],
     files: &[(&str, &str)],
     input: &str,
-    failing: Failing,
+    around: Around,
 ) -> Result<Ended, NoMemory> {
+    let Around {
+        keys,
+        seconds,
+        failing,
+    } = around;
     let mut owned = Vec::new(alloc);
     for word in words {
         owned
@@ -83,8 +121,8 @@ fn run_on(
         ),
         output: MemorySink::new(alloc, 200_000, failing.output)?,
         errors: MemorySink::new(alloc, 100, Vec::new(alloc))?,
-        clock: MemoryClock::new(one_moment(alloc)?),
-        keys: String::new(alloc),
+        clock: MemoryClock::new(moments_at(alloc, seconds)?),
+        keys: String::from_str(alloc, keys)?,
         seal: String::new(alloc),
     };
     let (status, parts) = run(alloc, &owned, parts);
@@ -188,7 +226,7 @@ fn answers_worked_inputs(rt: HostRuntime) -> Result<(), Fail> {
             &["stdio", "sw.example.org"],
             files,
             input,
-            Failing::nothing(rt.alloc()),
+            Around::usual(rt.alloc()),
         )?;
         assert_eq!(rt; ended.output.as_slice(), output.as_bytes(), "{input}");
         assert_eq!(rt; ended.status.code(), code, "{input}");
@@ -222,7 +260,11 @@ fn names_the_part_that_failed(rt: HostRuntime) -> Result<(), Fail> {
             &["stdio", "sw.example.org"],
             &[MANIFEST, (OBJECT, "hello\n")],
             input,
-            failing,
+            Around {
+                keys: KEYS,
+                seconds: (0, 0, 0),
+                failing,
+            },
         )?;
         assert_eq!(rt; ended.status.code(), code, "{vault} {source} {sink}");
         assert_eq!(rt;
@@ -243,7 +285,7 @@ fn refuses_other_words(rt: HostRuntime) -> Result<(), Fail> {
             &["stdio", word],
             &[],
             "",
-            Failing::nothing(rt.alloc()),
+            Around::usual(rt.alloc()),
         )?;
         assert_eq!(rt; ended.status.code(), 2, "{word}");
         assert_eq!(rt; ended.errors.as_slice(), b"cvkit: usage\n".as_slice());
@@ -262,7 +304,7 @@ fn closes_with_the_thousandth_reply(rt: HostRuntime) -> Result<(), Fail> {
         &["stdio", "sw.example.org"],
         &[MANIFEST],
         input.as_str(),
-        Failing::nothing(rt.alloc()),
+        Around::usual(rt.alloc()),
     )?;
     assert_eq!(rt; ended.status.code(), 0);
     assert_eq!(rt; ended.output.len(), 1000 * 80 + 19);
@@ -270,6 +312,102 @@ fn closes_with_the_thousandth_reply(rt: HostRuntime) -> Result<(), Fail> {
         ended
             .output
             .ends_with(b"\r\nConnection: close\r\n\r\nM\n".as_slice())
+    );
+    Ok(())
+}
+
+/// The seconds of the clock, the requests and the replies of sessions, by `tools/session_vectors.py`.
+static SESSIONS: [((u32, u32, u32), &str, &str); 6] = [
+    (
+        (0, 0, 0),
+        "POST /api/v1/leases HTTP/1.1\r\nHost: x\r\nAuthorization: k1 YjY0MTExZmNjYzY5Njk0YjFlZDE5OGE5YzFmNTllZGZhZjAzMDA1Mg==\r\nContent-Length: 27\r\n\r\n{\"path\":\"sw.example.org/a\"}DELETE /api/v1/leases/1-1 HTTP/1.1\r\nHost: x\r\nAuthorization: k2 YTJiOTFhYWNhYWUwMzZiZTlmNDA5ZjY3NTM2YzQxMjI3MzI3NDc4ZA==\r\n\r\nDELETE /api/v1/leases/1-1 HTTP/1.1\r\nHost: x\r\nAuthorization: k1 NGI4MjQzZjE5NWRkOGE1OGQzYTE4MjBhMTFiZjcxZjE1YjQ4MjExYg==\r\n\r\nDELETE /api/v1/leases/1-1 HTTP/1.1\r\nHost: x\r\nAuthorization: k1 NGI4MjQzZjE5NWRkOGE1OGQzYTE4MjBhMTFiZjcxZjE1YjQ4MjExYg==\r\n\r\n",
+        "HTTP/1.1 200 OK\r\nContent-Type: application/json\r\nContent-Length: 105\r\n\r\n{\"revision\":1,\"root_hash\":\"0000000000000000000000000000000000000000\",\"session_token\":\"1-1\",\"status\":\"ok\"}HTTP/1.1 200 OK\r\nContent-Type: application/json\r\nContent-Length: 39\r\n\r\n{\"reason\":\"wrong_key\",\"status\":\"error\"}HTTP/1.1 200 OK\r\nContent-Type: application/json\r\nContent-Length: 15\r\n\r\n{\"status\":\"ok\"}HTTP/1.1 200 OK\r\nContent-Type: application/json\r\nContent-Length: 43\r\n\r\n{\"reason\":\"invalid_token\",\"status\":\"error\"}",
+    ),
+    (
+        (0, 0, 0),
+        "POST /api/v1/leases HTTP/1.1\r\nHost: x\r\nAuthorization: k1 YjY0MTExZmNjYzY5Njk0YjFlZDE5OGE5YzFmNTllZGZhZjAzMDA1Mg==\r\nContent-Length: 27\r\n\r\n{\"path\":\"sw.example.org/a\"}POST /api/v1/leases HTTP/1.1\r\nHost: x\r\nAuthorization: k2 ODBmN2Y3NmNhNTMwNmI0N2ZlOGI0ZWQxOTI1OTIzZTMyOTViYzEyYQ==\r\nContent-Length: 28\r\n\r\n{\"path\":\"sw.example.org/ab\"}GET /api/v1/leases HTTP/1.1\r\nHost: x\r\n\r\n",
+        "HTTP/1.1 200 OK\r\nContent-Type: application/json\r\nContent-Length: 105\r\n\r\n{\"revision\":1,\"root_hash\":\"0000000000000000000000000000000000000000\",\"session_token\":\"1-1\",\"status\":\"ok\"}HTTP/1.1 200 OK\r\nContent-Type: application/json\r\nContent-Length: 105\r\n\r\n{\"revision\":1,\"root_hash\":\"0000000000000000000000000000000000000000\",\"session_token\":\"1-2\",\"status\":\"ok\"}HTTP/1.1 200 OK\r\nContent-Type: application/json\r\nContent-Length: 153\r\n\r\n{\"data\":[{\"key_id\":\"k1\",\"path\":\"sw.example.org/a\",\"time_remaining\":7200},{\"key_id\":\"k2\",\"path\":\"sw.example.org/ab\",\"time_remaining\":7200}],\"status\":\"ok\"}",
+    ),
+    (
+        (0, 0, 0),
+        "POST /api/v1/leases HTTP/1.1\r\nHost: x\r\nAuthorization: k1 YjY0MTExZmNjYzY5Njk0YjFlZDE5OGE5YzFmNTllZGZhZjAzMDA1Mg==\r\nContent-Length: 27\r\n\r\n{\"path\":\"sw.example.org/a\"}POST /api/v1/leases HTTP/1.1\r\nHost: x\r\nAuthorization: k1 NzFjNDI4MWU3YmFlZTE1ZWFjYTBhNGFmZTU3YTQ1MDhmNGYyZDAwZQ==\r\nContent-Length: 29\r\n\r\n{\"path\":\"sw.example.org/a/b\"}",
+        "HTTP/1.1 200 OK\r\nContent-Type: application/json\r\nContent-Length: 105\r\n\r\n{\"revision\":1,\"root_hash\":\"0000000000000000000000000000000000000000\",\"session_token\":\"1-1\",\"status\":\"ok\"}HTTP/1.1 200 OK\r\nContent-Type: application/json\r\nContent-Length: 58\r\n\r\n{\"lease\":\"1-1\",\"status\":\"path_busy\",\"time_remaining\":7200}",
+    ),
+    (
+        (0, 7199, 7200),
+        "POST /api/v1/leases HTTP/1.1\r\nHost: x\r\nAuthorization: k1 YjY0MTExZmNjYzY5Njk0YjFlZDE5OGE5YzFmNTllZGZhZjAzMDA1Mg==\r\nContent-Length: 27\r\n\r\n{\"path\":\"sw.example.org/a\"}POST /api/v1/leases HTTP/1.1\r\nHost: x\r\nAuthorization: k1 YjY0MTExZmNjYzY5Njk0YjFlZDE5OGE5YzFmNTllZGZhZjAzMDA1Mg==\r\nContent-Length: 27\r\n\r\n{\"path\":\"sw.example.org/a\"}POST /api/v1/leases HTTP/1.1\r\nHost: x\r\nAuthorization: k1 YjY0MTExZmNjYzY5Njk0YjFlZDE5OGE5YzFmNTllZGZhZjAzMDA1Mg==\r\nContent-Length: 27\r\n\r\n{\"path\":\"sw.example.org/a\"}",
+        "HTTP/1.1 200 OK\r\nContent-Type: application/json\r\nContent-Length: 105\r\n\r\n{\"revision\":1,\"root_hash\":\"0000000000000000000000000000000000000000\",\"session_token\":\"1-1\",\"status\":\"ok\"}HTTP/1.1 200 OK\r\nContent-Type: application/json\r\nContent-Length: 55\r\n\r\n{\"lease\":\"1-1\",\"status\":\"path_busy\",\"time_remaining\":1}HTTP/1.1 200 OK\r\nContent-Type: application/json\r\nContent-Length: 105\r\n\r\n{\"revision\":1,\"root_hash\":\"0000000000000000000000000000000000000000\",\"session_token\":\"1-2\",\"status\":\"ok\"}",
+    ),
+    (
+        (0, 5, 4),
+        "POST /api/v1/leases HTTP/1.1\r\nHost: x\r\nAuthorization: k1 M2ZiMDg1YWY3ZGZiMGYzOTcyMzhhZTkyNzc3NDZkMmJlMWU5NmE5NA==\r\nContent-Length: 27\r\n\r\n{\"path\":\"sw.example.org/a\"}POST /api/v1/leases HTTP/1.1\r\nHost: x\r\nAuthorization: k9 YjY0MTExZmNjYzY5Njk0YjFlZDE5OGE5YzFmNTllZGZhZjAzMDA1Mg==\r\nContent-Length: 27\r\n\r\n{\"path\":\"sw.example.org/a\"}POST /api/v1/leases HTTP/1.1\r\nHost: x\r\nContent-Length: 27\r\n\r\n{\"path\":\"sw.example.org/a\"}GET /api/v1/repos HTTP/1.1\r\nHost: x\r\n\r\nPOST /api/v1/leases HTTP/1.1\r\nHost: x\r\nAuthorization: k1 MTY3ODY2ZTNhN2I2NjhiMGMwZTc5MThmNGY5ODAwNDYzY2M1OTk5Nw==\r\nContent-Length: 28\r\n\r\n{\"path\":\"sw.example.org/a/\"}GET /api/v1/leases HTTP/1.1\r\nHost: x\r\n\r\nDELETE /api/v1/leases/1-1 HTTP/1.1\r\nHost: x\r\nAuthorization: k1 NGI4MjQzZjE5NWRkOGE1OGQzYTE4MjBhMTFiZjcxZjE1YjQ4MjExYg==\r\n\r\n",
+        "HTTP/1.1 200 OK\r\nContent-Type: application/json\r\nContent-Length: 39\r\n\r\n{\"reason\":\"wrong_mac\",\"status\":\"error\"}HTTP/1.1 200 OK\r\nContent-Type: application/json\r\nContent-Length: 41\r\n\r\n{\"reason\":\"unknown_key\",\"status\":\"error\"}HTTP/1.1 200 OK\r\nContent-Type: application/json\r\nContent-Length: 46\r\n\r\n{\"reason\":\"no_authorization\",\"status\":\"error\"}HTTP/1.1 200 OK\r\nContent-Type: application/json\r\nContent-Length: 42\r\n\r\n{\"repos\":[\"sw.example.org\"],\"status\":\"ok\"}HTTP/1.1 200 OK\r\nContent-Type: application/json\r\nContent-Length: 105\r\n\r\n{\"revision\":1,\"root_hash\":\"0000000000000000000000000000000000000000\",\"session_token\":\"1-1\",\"status\":\"ok\"}HTTP/1.1 200 OK\r\nContent-Type: application/json\r\nContent-Length: 88\r\n\r\n{\"data\":[{\"key_id\":\"k1\",\"path\":\"sw.example.org/a\",\"time_remaining\":7195}],\"status\":\"ok\"}HTTP/1.1 200 OK\r\nContent-Type: application/json\r\nContent-Length: 15\r\n\r\n{\"status\":\"ok\"}",
+    ),
+    (
+        (0, 0, 0),
+        "POST /api/v1/leases HTTP/1.1\r\nHost: x\r\nAuthorization: k1 NjQwNTVkOTU3ZjFlY2E4OTM0N2MwYjU2NjIzMTdlNzk2N2IxMDM2Yg==\r\nContent-Length: 41\r\n\r\n{\"path\":\"sw.example.org/a/.cvmfscatalog\"}POST /api/v1/leases HTTP/1.1\r\nHost: x\r\nAuthorization: k1 ZGFlNWIzMzVkNDllMDczNTY5ZjI3NDNjZDA2NmZlNzI1NDI3MDRiYg==\r\nContent-Length: 29\r\n\r\n{\"path\":\"sw.example.org/n/m\"}POST /api/v1/leases HTTP/1.1\r\nHost: x\r\nAuthorization: k1 OTlkZDNiNTE4OTNmZmVmOGMxNDJkODM0MzY4NjRkYjkwMzY0OTQ3MQ==\r\nContent-Length: 22\r\n\r\n{\"path\":\"other.org/a\"}",
+        "HTTP/1.1 200 OK\r\nContent-Type: application/json\r\nContent-Length: 38\r\n\r\n{\"reason\":\"bad_path\",\"status\":\"error\"}HTTP/1.1 200 OK\r\nContent-Type: application/json\r\nContent-Length: 39\r\n\r\n{\"reason\":\"no_parent\",\"status\":\"error\"}HTTP/1.1 200 OK\r\nContent-Type: application/json\r\nContent-Length: 48\r\n\r\n{\"reason\":\"unknown_repository\",\"status\":\"error\"}",
+    ),
+];
+
+#[test]
+fn leases_paths(rt: HostRuntime) -> Result<(), Fail> {
+    for (seconds, input, output) in SESSIONS {
+        let ended = run_on(
+            rt.alloc(),
+            &["stdio", "sw.example.org"],
+            &[MANIFEST],
+            input,
+            Around {
+                keys: KEYS,
+                seconds,
+                failing: Failing::nothing(rt.alloc()),
+            },
+        )?;
+        assert_eq!(rt; ended.output.as_slice(), output.as_bytes(), "{input}");
+        assert_eq!(rt; ended.status.code(), 0, "{input}");
+    }
+    Ok(())
+}
+
+#[test]
+fn judges_the_keys_before_the_vault(rt: HostRuntime) -> Result<(), Fail> {
+    for keys in ["", "{}", r#"{"keys":[]}"#] {
+        let ended = run_on(
+            rt.alloc(),
+            &["stdio", "sw.example.org"],
+            &[],
+            "GET / HTTP/1.1\r\nHost: x\r\n\r\n",
+            Around {
+                keys,
+                seconds: (0, 0, 0),
+                failing: Failing::nothing(rt.alloc()),
+            },
+        )?;
+        assert_eq!(rt; ended.status.code(), 16, "{keys}");
+        assert_eq!(rt; ended.errors.as_slice(), b"cvkit: bad keys\n".as_slice());
+        assert!(rt; ended.output.is_empty());
+    }
+    Ok(())
+}
+
+#[test]
+fn refuses_a_head_of_a_byte_too_many(rt: HostRuntime) -> Result<(), Fail> {
+    let mut input = String::from_str(rt.alloc(), "GET /")?;
+    for _ in 0..16_380 {
+        input.push('a')?;
+    }
+    let ended = run_on(
+        rt.alloc(),
+        &["stdio", "sw.example.org"],
+        &[MANIFEST],
+        input.as_str(),
+        Around::usual(rt.alloc()),
+    )?;
+    assert_eq!(rt; ended.status.code(), 14);
+    assert_eq!(rt;
+        ended.output.as_slice(),
+        b"HTTP/1.1 431 Request Header Fields Too Large\r\nContent-Type: text/plain\r\nContent-Length: 32\r\nConnection: close\r\n\r\nRequest Header Fields Too Large\n".as_slice()
     );
     Ok(())
 }

@@ -9,30 +9,29 @@ use Rattle.cv_top.proofs.request.next_request.Goals as goal
 pub returns-in-Ok-clause-request : goal.returns-in-Ok-clause-request
 returns-in-Ok-clause-request g c = λ b told.
     let at = (rw c.in-Ok-Some.field-0-is at c.in-Ok-Some.ensures.head) b told in
-    let passed = c.in-Ok.ensures.passed at.0 at.1 in (
-      passed.later,
-      passed.told,
+    let read = c.in-Ok.ensures.body at.0 at.1 in (
+      read.later,
+      read.told,
       record {
-        body = passed.body;
-        begins = subst (λ (later : List ℕ). Begins b c.in-Ok-Some.head later) passed.split at.2;
-        size = passed.is_size;
-        limit = passed.limit;
+        begins = subst (λ (later : List ℕ). Begins b c.in-Ok-Some.head later) read.split at.2;
+        size = read.is_size;
+        limit = read.limit;
       },
     )
 
-pub returns-in-Err-pass_body-clause-bad : goal.returns-in-Err-pass_body-clause-bad
-returns-in-Err-pass_body-clause-bad g c = λ not-short not-read not-memory b told.
+pub returns-in-Err-read_body-clause-bad : goal.returns-in-Err-read_body-clause-bad
+returns-in-Err-read_body-clause-bad g c = λ not-short not-read not-memory b told.
     let at = (rw c.in-Ok-Some.field-0-is at c.in-Ok-Some.ensures.head) b told in
-    let is-large = c.in-Err-pass_body.ensures.faults not-short not-read not-memory in
+    let is-large = c.in-Err-read_body.ensures.faults not-short not-read not-memory in
     subst (λ (fault : HttpFault). IsBad b fault) (sym is-large)
-    (body_refused c.in-Ok-Some.head at.0 at.2 (c.pass_body.ensures.large (c.in-Err-pass_body.is ∙ ap (λ fault. Err fault) is-large)))
+    (body_refused c.in-Ok-Some.head at.0 at.2 (c.read_body.ensures.large (c.in-Err-read_body.is ∙ ap (λ fault. Err fault) is-large)))
 
-pub returns-in-Err-pass_body-clause-short : goal.returns-in-Err-pass_body-clause-short
-returns-in-Err-pass_body-clause-short g c = λ is b told.
+pub returns-in-Err-read_body-clause-short : goal.returns-in-Err-read_body-clause-short
+returns-in-Err-read_body-clause-short g c = λ is b told.
     let at = (rw c.in-Ok-Some.field-0-is at c.in-Ok-Some.ensures.head) b told in
-    let is-short : c.in-Err-pass_body.fault ≡ Short = cc in
-    let result = c.in-Err-pass_body.is ∙ ap (λ fault. Err fault) is-short in
-    inside_body c.in-Ok-Some.head at.0 at.2 (c.pass_body.ensures.within result) (c.pass_body.ensures.short result at.0 at.1)
+    let is-short : c.in-Err-read_body.fault ≡ Short = cc in
+    let result = c.in-Err-read_body.is ∙ ap (λ fault. Err fault) is-short in
+    inside_body c.in-Ok-Some.head at.0 at.2 (c.read_body.ensures.within result) (c.read_body.ensures.short result at.0 at.1)
 
 pub returns-in-Err-clause-bad : goal.returns-in-Err-clause-bad
 returns-in-Err-clause-bad g c = λ not-short not-read not-memory b told.

@@ -1,5 +1,0 @@
-use Rattle.cv_top.proofs.OneAsking.{one_turn}
-use Rattle.cv_top.proofs.laws.one_turn.Goals as goal
-
-pub returns : goal.returns
-returns c = one_turn
