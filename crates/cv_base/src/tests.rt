@@ -156,77 +156,81 @@ fn fault_of(alloc: Global, text: &str) -> Option<PathFault> {
 
 #[test]
 fn keys_are_those_of_hashlib(rt: HostRuntime) -> Result<(), Fail> {
-    for (text, key) in KEYS {
-        assert_eq!(rt; key_text(rt.alloc(), text)?.as_str(), key);
+    for (text, key) in &KEYS {
+        assert!(rt; key_text(rt.alloc(), text)?.as_str() == *key);
     }
     Ok(())
 }
 
 #[test]
 fn keys_of_long_names_are_those_of_hashlib(rt: HostRuntime) -> Result<(), Fail> {
-    for (letter, count, key) in KEYS_OF_LONG_NAMES {
-        let name = repeated(rt.alloc(), letter, count)?;
+    for (letter, count, key) in &KEYS_OF_LONG_NAMES {
+        let name = repeated(rt.alloc(), letter, *count)?;
         let mut text = String::from_str(rt.alloc(), "/")?;
         text.push_str(name.as_str())?;
-        assert_eq!(rt; key_text(rt.alloc(), text.as_str())?.as_str(), key);
+        assert!(rt; key_text(rt.alloc(), text.as_str())?.as_str() == *key);
     }
     Ok(())
 }
 
 #[test]
 fn keys_of_deep_paths_are_those_of_hashlib(rt: HostRuntime) -> Result<(), Fail> {
-    for (name, count, key) in KEYS_OF_DEEP_PATHS {
+    for (name, count, key) in &KEYS_OF_DEEP_PATHS {
         let mut part = String::from_str(rt.alloc(), "/")?;
         part.push_str(name)?;
-        let text = repeated(rt.alloc(), part.as_str(), count)?;
-        assert_eq!(rt; key_text(rt.alloc(), text.as_str())?.as_str(), key);
+        let text = repeated(rt.alloc(), part.as_str(), *count)?;
+        assert!(rt; key_text(rt.alloc(), text.as_str())?.as_str() == *key);
     }
     Ok(())
 }
 
 #[test]
 fn a_text_that_is_no_path_has_its_first_fault(rt: HostRuntime) {
-    for (text, fault) in FAULTS {
-        assert_eq!(rt; fault_of(rt.alloc(), text), Some(fault));
+    for (text, fault) in &FAULTS {
+        assert!(rt; fault_of(rt.alloc(), text) == Some(*fault));
     }
 }
 
+/// Texts repeated to one that passes a limit, and the fault.
+static LIMITS: [(&str, usize, PathFault); 3] = [
+    ("/aaaaaaa", 512, PathFault::TooLong),
+    ("/..", 65, PathFault::TooDeep),
+    ("a/", 65, PathFault::TooDeep),
+];
+
 #[test]
 fn the_limits_of_a_path_come_before_its_names(rt: HostRuntime) -> Result<(), Fail> {
-    let long = repeated(rt.alloc(), "/aaaaaaa", 512)?;
-    assert_eq!(rt;
-        fault_of(rt.alloc(), long.as_str()),
-        Some(PathFault::TooLong)
-    );
-    let deep = repeated(rt.alloc(), "/..", 65)?;
-    assert_eq!(rt;
-        fault_of(rt.alloc(), deep.as_str()),
-        Some(PathFault::TooDeep)
-    );
-    let bare = repeated(rt.alloc(), "a/", 65)?;
-    assert_eq!(rt;
-        fault_of(rt.alloc(), bare.as_str()),
-        Some(PathFault::TooDeep)
-    );
-    let long_name = repeated(rt.alloc(), "a", 256)?;
-    let path = RepoPath::read(rt.alloc(), "/a")?;
-    let joined = path.join(rt.alloc(), long_name.as_str());
-    assert_eq!(rt; joined.err(), Some(PathFault::BadName(0)));
+    for (part, count, fault) in &LIMITS {
+        let text = repeated(rt.alloc(), part, *count)?;
+        assert!(rt; fault_of(rt.alloc(), text.as_str()) == Some(*fault));
+    }
     Ok(())
 }
 
 #[test]
-fn a_path_is_written_joined_and_copied(rt: HostRuntime) -> Result<(), Fail> {
+fn a_name_of_256_bytes_is_not_joined(rt: HostRuntime) -> Result<(), Fail> {
+    let name = repeated(rt.alloc(), "a", 256)?;
+    let path = RepoPath::read(rt.alloc(), "/a")?;
+    let joined = path.join(rt.alloc(), name.as_str());
+    assert!(rt; joined.err() == Some(PathFault::BadName(0)));
+    Ok(())
+}
+
+#[test]
+fn a_path_is_written_and_copied(rt: HostRuntime) -> Result<(), Fail> {
     let path = RepoPath::read(rt.alloc(), "/a/b/")?;
-    assert_eq!(rt; path.names().len(), 2);
-    assert_eq!(rt; path.text(rt.alloc())?.as_str(), "/a/b");
+    assert!(rt; path.names().len() == 2);
+    assert!(rt; path.text(rt.alloc())?.as_str() == "/a/b");
     assert!(rt; path.copy(rt.alloc())? == path);
-    assert_eq!(rt;
-        path.join(rt.alloc(), "..").err(),
-        Some(PathFault::BadName(0))
-    );
+    Ok(())
+}
+
+#[test]
+fn a_path_covers_what_is_joined_to_it(rt: HostRuntime) -> Result<(), Fail> {
+    let path = RepoPath::read(rt.alloc(), "/a/b")?;
+    assert!(rt; path.join(rt.alloc(), "..").err() == Some(PathFault::BadName(0)));
     let longer = path.join(rt.alloc(), "c")?;
-    assert_eq!(rt; longer.text(rt.alloc())?.as_str(), "/a/b/c");
+    assert!(rt; longer.text(rt.alloc())?.as_str() == "/a/b/c");
     assert!(rt; path.covers(&longer) && !longer.covers(&path) && longer.overlaps(&path));
     assert!(rt; RepoPath::root(rt.alloc()).covers(&path) && path < longer);
     let beside = RepoPath::read(rt.alloc(), "/a/bc")?;
@@ -234,49 +238,76 @@ fn a_path_is_written_joined_and_copied(rt: HostRuntime) -> Result<(), Fail> {
     Ok(())
 }
 
+/// Texts that are no name.
+static NO_NAMES: [&str; 4] = ["", "a b", "a/b", "é"];
+
 #[test]
 fn a_name_is_read_and_copied(rt: HostRuntime) -> Result<(), Fail> {
     let Some(name) = Name::read(rt.alloc(), "sw.example.org")? else {
         return Err(Fail::new("no name"));
     };
-    assert_eq!(rt; name.copy(rt.alloc())?.text(), "sw.example.org");
-    let long = repeated(rt.alloc(), "a", 255)?;
-    assert!(rt; Name::read(rt.alloc(), long.as_str())?.is_some());
-    let too_long = repeated(rt.alloc(), "a", 256)?;
-    for text in ["", "a b", "a/b", "é", too_long.as_str()] {
+    assert!(rt; name.copy(rt.alloc())?.text() == "sw.example.org");
+    for text in &NO_NAMES {
         assert!(rt; Name::read(rt.alloc(), text)?.is_none());
     }
     Ok(())
 }
 
-/// The SHA-1 of nothing, as `sha1sum` says it.
-const NOTHING: &str = "da39a3ee5e6b4b0d3255bfef95601890afd80709";
+#[test]
+fn a_name_has_255_bytes_at_most(rt: HostRuntime) -> Result<(), Fail> {
+    let long = repeated(rt.alloc(), "a", 255)?;
+    assert!(rt; Name::read(rt.alloc(), long.as_str())?.is_some());
+    let too_long = repeated(rt.alloc(), "a", 256)?;
+    assert!(rt; Name::read(rt.alloc(), too_long.as_str())?.is_none());
+    Ok(())
+}
+
+/// Ids of no bytes, whose SHA-1 is as `sha1sum` says it: the kind, the text and the name of the file.
+static IDS: [(Kind, &str, &str); 3] = [
+    (
+        Kind::Plain,
+        "da39a3ee5e6b4b0d3255bfef95601890afd80709",
+        "data/da/39a3ee5e6b4b0d3255bfef95601890afd80709",
+    ),
+    (
+        Kind::Catalogue,
+        "da39a3ee5e6b4b0d3255bfef95601890afd80709C",
+        "data/da/39a3ee5e6b4b0d3255bfef95601890afd80709C",
+    ),
+    (
+        Kind::History,
+        "da39a3ee5e6b4b0d3255bfef95601890afd80709H",
+        "data/da/39a3ee5e6b4b0d3255bfef95601890afd80709H",
+    ),
+];
+
+/// Texts that are no id.
+static NO_IDS: [&str; 6] = [
+    "",
+    "DA39A3EE5E6B4B0D3255BFEF95601890AFD80709",
+    "da39a3ee5e6b4b0d3255bfef95601890afd8070",
+    "da39a3ee5e6b4b0d3255bfef95601890afd80709X",
+    "da39a3ee5e6b4b0d3255bfef95601890afd80709CC",
+    "ga39a3ee5e6b4b0d3255bfef95601890afd80709",
+];
 
 #[test]
 fn an_id_is_written_and_read(rt: HostRuntime) -> Result<(), Fail> {
-    let plain = ObjectId::of(Kind::Plain, b"");
-    assert_eq!(rt; plain.text(rt.alloc())?.as_str(), NOTHING);
-    assert_eq!(rt; ObjectId::read(NOTHING), Some(plain));
-    let file = "data/da/39a3ee5e6b4b0d3255bfef95601890afd80709";
-    assert_eq!(rt; plain.file_name(rt.alloc())?.as_str(), file);
-    assert_eq!(rt; ObjectId::read_file_name(file.as_bytes()), Some(plain));
-    let catalogue = ObjectId::of(Kind::Catalogue, b"");
-    let file = "data/da/39a3ee5e6b4b0d3255bfef95601890afd80709C";
-    assert_eq!(rt; catalogue.file_name(rt.alloc())?.as_str(), file);
-    let history = ObjectId::of(Kind::History, b"");
-    let text = "da39a3ee5e6b4b0d3255bfef95601890afd80709H";
-    assert_eq!(rt; history.text(rt.alloc())?.as_str(), text);
-    for text in [
-        "",
-        "DA39A3EE5E6B4B0D3255BFEF95601890AFD80709",
-        "da39a3ee5e6b4b0d3255bfef95601890afd8070",
-        "da39a3ee5e6b4b0d3255bfef95601890afd80709X",
-        "da39a3ee5e6b4b0d3255bfef95601890afd80709CC",
-        "ga39a3ee5e6b4b0d3255bfef95601890afd80709",
-    ] {
-        assert_eq!(rt; ObjectId::read(text), None);
+    for (kind, text, file) in &IDS {
+        let id = ObjectId::of(*kind, b"");
+        assert!(rt; id.text(rt.alloc())?.as_str() == *text);
+        assert!(rt; id.file_name(rt.alloc())?.as_str() == *file);
+        assert!(rt; ObjectId::read(text) == Some(id));
+        assert!(rt; ObjectId::read_file_name(file.as_bytes()) == Some(id));
     }
     Ok(())
+}
+
+#[test]
+fn a_text_of_other_digits_is_no_id(rt: HostRuntime) {
+    for text in &NO_IDS {
+        assert!(rt; ObjectId::read(text).is_none());
+    }
 }
 
 #[test]
@@ -287,49 +318,47 @@ fn a_target_is_read_and_copied(rt: HostRuntime) -> Result<(), Fail> {
     let Some(target) = Target::read(rt.alloc(), "/a")? else {
         return Err(Fail::new("no target"));
     };
-    assert_eq!(rt; target.copy(rt.alloc())?.text(), "/a");
+    assert!(rt; target.copy(rt.alloc())?.text() == "/a");
     Ok(())
 }
 
+/// Texts that are no token.
+static NO_TOKENS: [&str; 8] = [
+    "3-07",
+    "3",
+    "-7",
+    "3-",
+    "3-7-1",
+    "+3-7",
+    "3-7 ",
+    "3-18446744073709551616",
+];
+
 #[test]
-fn tokens_and_decimals_are_read_exactly(rt: HostRuntime) -> Result<(), Fail> {
+fn a_token_is_read_exactly(rt: HostRuntime) -> Result<(), Fail> {
     let token = Token {
         epoch: 3,
         number: 7,
     };
-    assert_eq!(rt; token.text(rt.alloc())?.as_str(), "3-7");
-    assert_eq!(rt; Token::read("3-7"), Some(token));
-    for text in [
-        "3-07",
-        "3",
-        "-7",
-        "3-",
-        "3-7-1",
-        "+3-7",
-        "3-7 ",
-        "3-18446744073709551616",
-    ] {
-        assert_eq!(rt; Token::read(text), None);
+    assert!(rt; token.text(rt.alloc())?.as_str() == "3-7");
+    assert!(rt; Token::read("3-7") == Some(token));
+    for text in &NO_TOKENS {
+        assert!(rt; Token::read(text).is_none());
     }
-    assert_eq!(rt; read_decimal(b"18446744073709551615"), Some(u64::MAX));
-    assert_eq!(rt; read_decimal(b"0"), Some(0));
-    assert_eq!(rt; read_decimal(b"\xff"), None);
     Ok(())
 }
 
 #[test]
+fn a_decimal_fits_64_bits(rt: HostRuntime) {
+    assert!(rt; read_decimal(b"18446744073709551615") == Some(u64::MAX));
+    assert!(rt; read_decimal(b"0") == Some(0));
+    assert!(rt; read_decimal(b"\xff").is_none());
+}
+
+#[test]
 fn fields_are_big_endian(rt: HostRuntime) {
-    assert_eq!(rt;
-        split_u16(b"\x01\x02\x03"),
-        Some((0x0102, b"\x03".as_slice()))
-    );
-    assert_eq!(rt;
-        split_u32(b"\x01\x02\x03\x04"),
-        Some((0x0102_0304, b"".as_slice()))
-    );
-    assert_eq!(rt;
-        split_u64(b"\0\0\0\0\0\0\x01\x02"),
-        Some((0x0102, b"".as_slice()))
-    );
-    assert_eq!(rt; split_u64(b"\0\0\0\0\0\0\x01"), None);
+    assert!(rt; split_u16(b"\x01\x02\x03").is_some_and(|field| field.0 == 0x0102));
+    assert!(rt; split_u32(b"\x01\x02\x03\x04").is_some_and(|field| field.0 == 0x0102_0304));
+    assert!(rt; split_u64(b"\0\0\0\0\0\0\x01\x02").is_some_and(|field| field.1.is_empty()));
+    assert!(rt; split_u64(b"\0\0\0\0\0\0\x01").is_none());
 }
