@@ -76,11 +76,6 @@ pub record IsPartOf (left all : List Object) (shelf : ShelfView) : Type 0 where
   pub split : all ≡ left ++ put
   pub objects : (id : ObjectId) → standing shelf id ≡ shelf_of put id
 
-no_objects : (s : ShelfView) (k : Kind) → s.plain ≡ [] → s.catalogues ≡ [] → s.history ≡ [] → of_kind s k ≡ []
-no_objects s Plain p c h = p
-no_objects s Catalogue p c h = c
-no_objects s History p c h = h
-
 -- the last that was left is put
 pub one_put : {left left' all : List Object} {s s' : ShelfView} (o : Object) → IsPartOf left all s → left ≡ left' ++ o ∷ []
     → ((id : ObjectId) → standing s' id ≡ cond (same_id o.id id) (Some o.bytes) (standing s id)) → IsPartOf left' all s'
