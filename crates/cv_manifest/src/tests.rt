@@ -210,12 +210,12 @@ fn a_manifest_is_written_and_read(rt: HostRuntime) -> Result<(), Fail> {
 
 #[test]
 fn each_fault_is_told(rt: HostRuntime) -> Result<(), Fail> {
-    for (text, fault) in TEXTS {
-        assert_eq!(rt; fault_of(rt.alloc(), text)?, Some(fault));
+    for (text, fault) in &TEXTS {
+        assert_eq!(rt; fault_of(rt.alloc(), text)?, Some(*fault));
     }
-    for (number, bytes, fault) in CHANGES {
-        let text = sealed(rt.alloc(), &changed(rt.alloc(), number, bytes)?)?;
-        assert_eq!(rt; fault_of(rt.alloc(), &text)?, Some(fault));
+    for (number, bytes, fault) in &CHANGES {
+        let text = sealed(rt.alloc(), &changed(rt.alloc(), *number, bytes)?)?;
+        assert_eq!(rt; fault_of(rt.alloc(), &text)?, Some(*fault));
     }
     Ok(())
 }

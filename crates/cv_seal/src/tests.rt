@@ -205,11 +205,11 @@ fn repeated(alloc: Global, text: &str, count: usize) -> Result<String, Fail> {
 
 #[test]
 fn macs_are_those_of_python(rt: HostRuntime) -> Result<(), Fail> {
-    for (key, key_count, text, text_count, mac) in MACS {
-        let key = repeated(rt.alloc(), key, key_count)?;
-        let text = repeated(rt.alloc(), text, text_count)?;
+    for (key, key_count, text, text_count, mac) in &MACS {
+        let key = repeated(rt.alloc(), key, *key_count)?;
+        let text = repeated(rt.alloc(), text, *text_count)?;
         let own = mac_text(rt.alloc(), key.as_bytes(), text.as_str())?;
-        assert_eq!(rt; own.as_str(), mac);
+        assert_eq!(rt; own.as_str(), *mac);
     }
     Ok(())
 }
@@ -218,9 +218,9 @@ fn macs_are_those_of_python(rt: HostRuntime) -> Result<(), Fail> {
 fn macs_are_those_of_rfc_2202(rt: HostRuntime) -> Result<(), Fail> {
     let own = mac_text(rt.alloc(), b"Jefe", "what do ya want for nothing?")?;
     assert_eq!(rt; own.as_str(), "effcdf6ae5eb2fa2d27416d5f184df9c259a7c79");
-    for (byte, count, text, mac) in VECTORS {
-        let key = vec![in rt.alloc(); byte; count]?;
-        assert_eq!(rt; mac_text(rt.alloc(), &key, text)?.as_str(), mac);
+    for (byte, count, text, mac) in &VECTORS {
+        let key = vec![in rt.alloc(); *byte; *count]?;
+        assert_eq!(rt; mac_text(rt.alloc(), &key, text)?.as_str(), *mac);
     }
     Ok(())
 }

@@ -220,7 +220,7 @@ static RUNS: [(&[(&str, &str)], &str, &str, u8); 16] = [
 
 #[test]
 fn answers_worked_inputs(rt: HostRuntime) -> Result<(), Fail> {
-    for (files, input, output, code) in RUNS {
+    for (files, input, output, code) in &RUNS {
         let ended = run_on(
             rt.alloc(),
             &["stdio", "sw.example.org"],
@@ -229,7 +229,7 @@ fn answers_worked_inputs(rt: HostRuntime) -> Result<(), Fail> {
             Around::usual(rt.alloc()),
         )?;
         assert_eq!(rt; ended.output.as_slice(), output.as_bytes(), "{input}");
-        assert_eq!(rt; ended.status.code(), code, "{input}");
+        assert_eq!(rt; ended.status.code(), *code, "{input}");
     }
     Ok(())
 }
@@ -249,11 +249,11 @@ static FAULTS: [(u64, u64, u64, u8, &str, usize); 6] = [
 fn names_the_part_that_failed(rt: HostRuntime) -> Result<(), Fail> {
     let input =
         "GET /cvmfs/sw.example.org/data/f5/72d396fae9206628714fb2ce00f72e94f2258f HTTP/1.1\r\nHost: x\r\n\r\nGET /cvmfs/sw.example.org/.cvmfspublished HTTP/1.1\r\nHost: x\r\n\r\n";
-    for (vault, source, sink, code, line, size) in FAULTS {
+    for (vault, source, sink, code, line, size) in &FAULTS {
         let failing = Failing {
-            vault: vec![in rt.alloc(); vault]?,
-            input: vec![in rt.alloc(); source]?,
-            output: vec![in rt.alloc(); sink]?,
+            vault: vec![in rt.alloc(); *vault]?,
+            input: vec![in rt.alloc(); *source]?,
+            output: vec![in rt.alloc(); *sink]?,
         };
         let ended = run_on(
             rt.alloc(),
@@ -266,13 +266,13 @@ fn names_the_part_that_failed(rt: HostRuntime) -> Result<(), Fail> {
                 failing,
             },
         )?;
-        assert_eq!(rt; ended.status.code(), code, "{vault} {source} {sink}");
+        assert_eq!(rt; ended.status.code(), *code, "{vault} {source} {sink}");
         assert_eq!(rt;
             ended.errors.as_slice(),
             line.as_bytes(),
             "{vault} {source} {sink}"
         );
-        assert_eq!(rt; ended.output.len(), size, "{vault} {source} {sink}");
+        assert_eq!(rt; ended.output.len(), *size, "{vault} {source} {sink}");
     }
     Ok(())
 }
@@ -352,7 +352,7 @@ static SESSIONS: [((u32, u32, u32), &str, &str); 6] = [
 
 #[test]
 fn leases_paths(rt: HostRuntime) -> Result<(), Fail> {
-    for (seconds, input, output) in SESSIONS {
+    for (seconds, input, output) in &SESSIONS {
         let ended = run_on(
             rt.alloc(),
             &["stdio", "sw.example.org"],
@@ -360,7 +360,7 @@ fn leases_paths(rt: HostRuntime) -> Result<(), Fail> {
             input,
             Around {
                 keys: KEYS,
-                seconds,
+                seconds: *seconds,
                 failing: Failing::nothing(rt.alloc()),
             },
         )?;
