@@ -1,7 +1,6 @@
 //! What the journal keeps of what was asked.
 
-use crate::lists::Ids;
-use cv_base::{RepoPath, Text, Token};
+use cv_base::{Items, ObjectId, RepoPath, Text, Token};
 
 /// What the journal keeps of an op, without its key and without the bytes of objects.
 #[derive(Debug, Drop)]
@@ -15,7 +14,7 @@ pub enum Act {
         /// In a pack with a header of this SHA-1.
         digest: [u8; 20],
         /// The ids of those that the repository lacked. None where an earlier refusal came.
-        fresh: Ids,
+        fresh: Items<ObjectId>,
     },
     /// A commit was asked.
     Commit {

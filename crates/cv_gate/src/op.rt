@@ -1,7 +1,6 @@
 //! What is asked of the gate.
 
-use crate::lists::Batch;
-use cv_base::{RepoPath, Text, Token};
+use cv_base::{Items, Object, RepoPath, Text, Token};
 
 /// What a publisher asks of the gate under the id of a key.
 #[derive(Debug, Drop)]
@@ -22,7 +21,7 @@ pub enum Op {
         /// The SHA-1 of the header of the pack in which they came.
         digest: [u8; 20],
         /// The objects.
-        batch: Batch,
+        batch: Items<Object>,
     },
     /// That the leased subtree of the newest tree be replaced by that of an offered tree.
     Commit {

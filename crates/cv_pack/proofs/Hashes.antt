@@ -12,44 +12,25 @@ use Rattle.cv_pack.specs.declared.pack_fault.PackFault.TheVariants.{BadHeader}
 use Rattle.cv_pack.specs.Reading.{is_hash_digit, digits_at}
 use Rattle.cv_pack.proofs.Numbers.{chosen, ok_is, digit_range, some_is}
 
--- the digit of a value
-digit_of : (v : ℕ) → v < 16 → slice_index lower_digits v ≡ cond (ltb v 10) (48 + v) (87 + v)
-digit_of zero h = refl
-digit_of (suc zero) h = refl
-digit_of (suc (suc zero)) h = refl
-digit_of (suc (suc (suc zero))) h = refl
-digit_of (suc (suc (suc (suc zero)))) h = refl
-digit_of (suc (suc (suc (suc (suc zero))))) h = refl
-digit_of (suc (suc (suc (suc (suc (suc zero)))))) h = refl
-digit_of (suc (suc (suc (suc (suc (suc (suc zero))))))) h = refl
-digit_of (suc (suc (suc (suc (suc (suc (suc (suc zero)))))))) h = refl
-digit_of (suc (suc (suc (suc (suc (suc (suc (suc (suc zero))))))))) h = refl
-digit_of (suc (suc (suc (suc (suc (suc (suc (suc (suc (suc zero)))))))))) h = refl
-digit_of (suc (suc (suc (suc (suc (suc (suc (suc (suc (suc (suc zero))))))))))) h = refl
-digit_of (suc (suc (suc (suc (suc (suc (suc (suc (suc (suc (suc (suc zero)))))))))))) h = refl
-digit_of (suc (suc (suc (suc (suc (suc (suc (suc (suc (suc (suc (suc (suc zero))))))))))))) h = refl
-digit_of (suc (suc (suc (suc (suc (suc (suc (suc (suc (suc (suc (suc (suc (suc zero)))))))))))))) h = refl
-digit_of (suc (suc (suc (suc (suc (suc (suc (suc (suc (suc (suc (suc (suc (suc (suc zero))))))))))))))) h = refl
-digit_of (suc (suc (suc (suc (suc (suc (suc (suc (suc (suc (suc (suc (suc (suc (suc (suc v)))))))))))))))) h = absurd (omega arith)
-
-digit_passes : (v : ℕ) → v < 16 → is_hash_digit (slice_index lower_digits v) ≡ true
-digit_passes zero h = refl
-digit_passes (suc zero) h = refl
-digit_passes (suc (suc zero)) h = refl
-digit_passes (suc (suc (suc zero))) h = refl
-digit_passes (suc (suc (suc (suc zero)))) h = refl
-digit_passes (suc (suc (suc (suc (suc zero))))) h = refl
-digit_passes (suc (suc (suc (suc (suc (suc zero)))))) h = refl
-digit_passes (suc (suc (suc (suc (suc (suc (suc zero))))))) h = refl
-digit_passes (suc (suc (suc (suc (suc (suc (suc (suc zero)))))))) h = refl
-digit_passes (suc (suc (suc (suc (suc (suc (suc (suc (suc zero))))))))) h = refl
-digit_passes (suc (suc (suc (suc (suc (suc (suc (suc (suc (suc zero)))))))))) h = refl
-digit_passes (suc (suc (suc (suc (suc (suc (suc (suc (suc (suc (suc zero))))))))))) h = refl
-digit_passes (suc (suc (suc (suc (suc (suc (suc (suc (suc (suc (suc (suc zero)))))))))))) h = refl
-digit_passes (suc (suc (suc (suc (suc (suc (suc (suc (suc (suc (suc (suc (suc zero))))))))))))) h = refl
-digit_passes (suc (suc (suc (suc (suc (suc (suc (suc (suc (suc (suc (suc (suc (suc zero)))))))))))))) h = refl
-digit_passes (suc (suc (suc (suc (suc (suc (suc (suc (suc (suc (suc (suc (suc (suc (suc zero))))))))))))))) h = refl
-digit_passes (suc (suc (suc (suc (suc (suc (suc (suc (suc (suc (suc (suc (suc (suc (suc (suc v)))))))))))))))) h = absurd (omega arith)
+-- the digit of a value, which is one of a hash
+digit_at : (v : ℕ) → v < 16 → (slice_index lower_digits v ≡ cond (ltb v 10) (48 + v) (87 + v)) × (is_hash_digit (slice_index lower_digits v) ≡ true)
+digit_at zero h = (refl, refl)
+digit_at (suc zero) h = (refl, refl)
+digit_at (suc (suc zero)) h = (refl, refl)
+digit_at (suc (suc (suc zero))) h = (refl, refl)
+digit_at (suc (suc (suc (suc zero)))) h = (refl, refl)
+digit_at (suc (suc (suc (suc (suc zero))))) h = (refl, refl)
+digit_at (suc (suc (suc (suc (suc (suc zero)))))) h = (refl, refl)
+digit_at (suc (suc (suc (suc (suc (suc (suc zero))))))) h = (refl, refl)
+digit_at (suc (suc (suc (suc (suc (suc (suc (suc zero)))))))) h = (refl, refl)
+digit_at (suc (suc (suc (suc (suc (suc (suc (suc (suc zero))))))))) h = (refl, refl)
+digit_at (suc (suc (suc (suc (suc (suc (suc (suc (suc (suc zero)))))))))) h = (refl, refl)
+digit_at (suc (suc (suc (suc (suc (suc (suc (suc (suc (suc (suc zero))))))))))) h = (refl, refl)
+digit_at (suc (suc (suc (suc (suc (suc (suc (suc (suc (suc (suc (suc zero)))))))))))) h = (refl, refl)
+digit_at (suc (suc (suc (suc (suc (suc (suc (suc (suc (suc (suc (suc (suc zero))))))))))))) h = (refl, refl)
+digit_at (suc (suc (suc (suc (suc (suc (suc (suc (suc (suc (suc (suc (suc (suc zero)))))))))))))) h = (refl, refl)
+digit_at (suc (suc (suc (suc (suc (suc (suc (suc (suc (suc (suc (suc (suc (suc (suc zero))))))))))))))) h = (refl, refl)
+digit_at (suc (suc (suc (suc (suc (suc (suc (suc (suc (suc (suc (suc (suc (suc (suc (suc v)))))))))))))))) h = absurd (omega arith)
 
 -- the value of a digit, and back
 letter_range : (c : ℕ) → (leb 97 c && leb c 102) ≡ true → (97 ≤ c) × (c ≤ 102)
@@ -72,7 +53,7 @@ digit_back c v is value = elim (cases_Bool (is_ascii_digit c)) [
       let v-is : c - 48 ≡ v = some_is _ _ (sym computed ∙ value) in
       let small : ltb v 10 ≡ true = lt-ltb _ _ (omega arith) in
       let back : 48 + v ≡ c = omega arith in
-      (omega arith, digit_of v (omega arith) ∙ rw small back)
+      (omega arith, (digit_at v (omega arith)).0 ∙ rw small back)
   | inr letter ↦
       let rest : (leb 97 c && leb c 102) ≡ true = rw letter at is in
       let range = letter_range c rest in
@@ -82,7 +63,7 @@ digit_back c v is value = elim (cases_Bool (is_ascii_digit c)) [
       let v-is : c - 87 ≡ v = some_is _ _ (sym computed ∙ value) in
       let large : ltb v 10 ≡ false = le-ltb _ _ (omega arith) in
       let back : 87 + v ≡ c = omega arith in
-      (omega arith, digit_of v (omega arith) ∙ rw large back)
+      (omega arith, (digit_at v (omega arith)).0 ∙ rw large back)
 ]
 
 hex_bind : {A B : Type 0} (r : Result A FromHexError) (f : A → Result B FromHexError) (y : B) → (r >=> f) ≡ Ok y → (x : A) × (r ≡ Ok x) × (f x ≡ Ok y)
@@ -142,8 +123,8 @@ unfolding encode_with
 digits_pass [] is = refl
 digits_pass (b ∷ rest) is =
     let small : b < 256 = is 0 in
-    let high = digit_passes (b / 16) (omega arith) in
-    let low = digit_passes (b % 16) (omega arith) in
+    let high = (digit_at (b / 16) (omega arith)).1 in
+    let low = (digit_at (b % 16) (omega arith)).1 in
     rw (high, low) (digits_pass rest (λ i. is (suc i)))
 
 -- ---- digits in a line

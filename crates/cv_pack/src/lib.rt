@@ -8,14 +8,12 @@ mod entries;
 mod entry;
 mod field;
 mod header_reader;
-mod objects;
 mod pack;
 mod pack_fault;
 mod pack_reader;
 mod pack_writer;
 
 pub use add_fault::AddFault;
-pub use objects::Objects;
 pub use pack::Pack;
 pub use pack_fault::PackFault;
 pub use pack_reader::PackReader;

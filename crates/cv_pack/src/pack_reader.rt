@@ -7,9 +7,9 @@ ghost use Rattle.cv_pack.specs.PackReader.{Fed, IsFed, Feeds, fault_of, answer_o
 
 use crate::contents_reader::ContentsReader;
 use crate::header_reader::HeaderReader;
-use crate::objects::Objects;
 use crate::pack::Pack;
 use crate::pack_fault::PackFault;
+use cv_base::Items;
 use sha1::Sha1;
 use std::alloc::Global;
 
@@ -107,7 +107,7 @@ impl PackReader {
             return Err(PackFault::Short);
         }
         Ok(Pack {
-            objects: Objects::new(objects),
+            objects: Items::new(objects),
             header: header.at,
             digest: header_hash.finalize(),
         })

@@ -207,8 +207,8 @@ fn see_fault(rt: &impl Abort, alloc: Global, text: &[u8], fault: PackFault) -> R
 
 #[test]
 fn shows_each_fault(rt: HostRuntime) -> Result<(), Fail> {
-    for (text, fault) in FAULTS {
-        see_fault(&rt, rt.alloc(), text, fault)?;
+    for (text, fault) in &FAULTS {
+        see_fault(&rt, rt.alloc(), text, *fault)?;
     }
     Ok(())
 }
