@@ -1,3 +1,4 @@
+mod Elements
 pub mod Objects
 pub mod Tables
 pub mod Headers

@@ -1,10 +1,10 @@
 //! Reading the keys text.
-ghost use Rattle.std.specs.Prelude.{◌≡◌, ◌+◌, ◌≤◌, ◌<◌, ◌^◌, ℕ, List, Bool, Ok, Err, Some, IfOk, codes, map, length, option_map, MatchResult, MatchOption};
+ghost use Rattle.std.specs.Prelude.{◌≡◌, ◌+◌, ◌≤◌, ◌<◌, ◌^◌, ℕ, List, [], Bool, Ok, Err, Some, IfOk, codes, map, length, option_map, MatchResult, MatchOption};
 ghost use Rattle.std.specs.List.{list_all};
 ghost use Rattle.serde_json.specs.Find.{get};
 ghost use Rattle.serde_json.specs.View.{view};
 ghost use Rattle.cv_keys.specs.Key.{is_visible, is_key_id, is_secret, has_id, IsTable};
-ghost use Rattle.cv_keys.specs.KeysText.{IsSaid, member_text, key_in, new_key, array_keys, keys_in_object};
+ghost use Rattle.cv_keys.specs.KeysText.{IsSaid, member_text, key_in, new_key, keys_behind, array_keys, keys_in_object};
 
 use crate::key::Key;
 use crate::key_fault::KeyFault;
@@ -133,6 +133,15 @@ fn read_array(alloc: Global, list: &[Value]) -> Result<Vec<Key>, KeyFault>
     if list.is_empty() {
         return Err(KeyFault::NoKey);
     }
+    read_elements(alloc, list)
+}
+
+/// The keys of the elements of an array.
+fn read_elements(alloc: Global, list: &[Value]) -> Result<Vec<Key>, KeyFault>
+    requires { length list.now ≤ 256 }
+    ensures { MatchResult result (λ keys. keys_behind [] 1 (map view list.now) ≡ Ok keys.items)
+        (λ fault. IsSaid fault (keys_behind [] 1 (map view list.now) ≡ Err fault)) }
+{
     let mut keys = Vec::new(alloc);
     for i in 0..list.len() {
         let key = read_new_key(alloc, &keys, &list[i], i as u32 + 1)?;

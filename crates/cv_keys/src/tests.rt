@@ -7,314 +7,60 @@ use std::test::Fail;
 /// The keys text of two keys.
 const KEYS: &[u8] = br#"{"keys":[{"id":"k1","secret":"s1"},{"id":"k2","secret":"s2"}]}"#;
 
-/// A key's id, a message that is a text repeated, and its header, by the `hmac` and `base64` of Python.
-static HEADERS: [(&str, &str, usize, &str); 51] = [
-    (
-        "k1",
-        "m",
-        0,
-        "k1 NzFmNDg3MzQxNWZkZmU5YTQ0YjU0YWIxNTAzZDE1MDZiMDVmMTI5NA==",
-    ),
-    (
-        "k1",
-        "m",
-        1,
-        "k1 N2E0NDI0ZjZiMDQxZWI4ODgyYzY0NmQ5MzQ3Mzc1ZmQ0ZDBjODFhMQ==",
-    ),
-    (
-        "k1",
-        "m",
-        2,
-        "k1 ZTRlYWNmOGUyZDRkNTA4MzZkZDI5NDBiN2MxZDY4M2ZmYmM2YmRjNw==",
-    ),
-    (
-        "k1",
-        "m",
-        3,
-        "k1 ZDAxMTEzM2ZjZmFkYjdiOWNiMzJhZmY3M2RjNjU5MjJjZTA3NjJjYQ==",
-    ),
-    (
-        "k1",
-        "m",
-        5,
-        "k1 OTQ2NjYzZWE3ZTJhMDkyMWIwZmFkYjJmMjYwYzhkNDJmOTU0NDYzNg==",
-    ),
-    (
-        "k1",
-        "m",
-        7,
-        "k1 MDcxNDhhYzQ5ZTVmYmVjN2U5NzBiYzgyZGJkMDIxNGJmNzMxZDk0OA==",
-    ),
-    (
-        "k1",
-        "m",
-        8,
-        "k1 NjI4MzE5NjFhY2VlYWMzODI1NzE1MzI2N2JiNWQyMDZlMmQyNDY2Ng==",
-    ),
-    (
-        "k1",
-        "m",
-        13,
-        "k1 YTI5MTJmYjI1ZTU5NDY1MTA0MDI1NzEwODJjMjdlNDBiZGM1ZWI5Yg==",
-    ),
-    (
-        "k1",
-        "m",
-        19,
-        "k1 YWY3NzlkYzM0NDljOGFlODFmMTE1OWZkOGE3MDMxYWQyNjE3ODRlZA==",
-    ),
-    (
-        "k1",
-        "m",
-        20,
-        "k1 YzZjMDlmZDM1MjZjYjA2YTc5Y2Y0NzAwMmIyYTJlZDFmMjA4YjU2ZQ==",
-    ),
-    (
-        "k1",
-        "m",
-        21,
-        "k1 YTZhMWRkNzdkODQwZjczMTU0YTAyNjBjZjYxMjZmZTI5ZDU5YWIyYQ==",
-    ),
-    (
-        "k1",
-        "m",
-        31,
-        "k1 ZmQwNDUzZGRiYjg4MGY0ZTQyOGYzYmExY2IyNmU1MGI3NGMzMjU3MQ==",
-    ),
-    (
-        "k1",
-        "m",
-        33,
-        "k1 NWVhZTNjMjM0M2VhOWUwODA4YzdmNDE1MDliYzJkMzYyMmNjMDdhYg==",
-    ),
-    (
-        "k1",
-        "m",
-        54,
-        "k1 NTFiMDQ3ZmQ1OThlNDZjOTU2MWIyZWFiYmViZmNiZmUxOGJlZTZlMg==",
-    ),
-    (
-        "k1",
-        "m",
-        55,
-        "k1 Mzg0NjA0ZWJhM2M4ZDhlYWZmNjU1Yzc1ZTFhOTI5MWQ0NzkyNTYxNA==",
-    ),
-    (
-        "k1",
-        "m",
-        56,
-        "k1 Zjg2ZGZkZDZlNjRhN2YzMDUyZGI1MDA3NGQ5MGVlZTVmZGI5YzcxMA==",
-    ),
-    (
-        "k1",
-        "m",
-        57,
-        "k1 ZDk2NjA0ZjlhNTI2M2ZmODc3NmJiNjY0MGYxYzJmMDlhZWM2Njg1MQ==",
-    ),
-    (
-        "k1",
-        "m",
-        62,
-        "k1 MDljMjNkYWNlOTZhMTc4MTQyMjVmY2Q1OTYyNDBhMDNkNjkzYWUzYw==",
-    ),
-    (
-        "k1",
-        "m",
-        63,
-        "k1 MDY3MTA0ZjJlNWViODg1ZDIxNzY0ODhiZmExMmFmODhlM2RjYzZmZA==",
-    ),
-    (
-        "k1",
-        "m",
-        64,
-        "k1 NDg5ZTNiOTBmMWQ0NzEzNzBmZDlhYjU1OTViMjA1Njc0OGRlZmQzZg==",
-    ),
-    (
-        "k1",
-        "m",
-        65,
-        "k1 OGNhNmVhNWY1YzBiZWQ3NDAwYjVjYzNkMmM1MzhkZTA4OWZlNzlmMw==",
-    ),
-    (
-        "k1",
-        "m",
-        66,
-        "k1 YmJlZTVlMzljZmM1M2YwYmEzNmQ1YTc1NDVhYjRjNjU3ZWM0MjJlZA==",
-    ),
-    (
-        "k1",
-        "m",
-        119,
-        "k1 MjNjMjBkY2Q0YmUxMThmMTY2ODVlMmE3ZGI0YjA3MmVkNTIzOGRjNA==",
-    ),
-    (
-        "k1",
-        "m",
-        120,
-        "k1 NWE2MjdiMWY5M2Y0ZjQ5M2Q2NmFhNWFiN2Y0ZWUyOGEzYWNmZDI0OA==",
-    ),
-    (
-        "k1",
-        "m",
-        127,
-        "k1 YTc4MWU4OWNiMTFlNTQzZjViZGZjNzA5ODIyODE5ZTZmYjAxZWUxYg==",
-    ),
-    (
-        "k1",
-        "m",
-        128,
-        "k1 NjE4YWM5Y2ZiMjliMmYyNGE2Y2U5NWMwMThiOTQxYzUwOGZlYzYyNA==",
-    ),
-    (
-        "k1",
-        "m",
-        129,
-        "k1 MjZjODQ3YzkzNGZlOTc2NTY1ZmE4MTVhMWU5NjNiZGNlNTI0NjE1Zg==",
-    ),
-    (
-        "k1",
-        "m",
-        200,
-        "k1 ZmVjMGJiMGEyOTM4MzJlMzQ3MmQ5ZmQ1ZGI4NzcyYWNjMmZhZWNiMw==",
-    ),
-    (
-        "k1",
-        "m",
-        1000,
-        "k1 NDhlNjc5M2ZlZTk5YzIyMjIyZTI3MjZjODg2ZWQ0YmZjY2IwOTQ1NA==",
-    ),
-    (
-        "k2",
-        "é",
-        0,
-        "k2 ZDNjNWQ4OTYzM2VlZmU5YjIyYWQ5ODMzNjAyYTY3NDYyMDYzZDU3Yg==",
-    ),
-    (
-        "k2",
-        "é",
-        1,
-        "k2 YTliMjEwYjk4Y2Y0NzFlNWI3ZDdmMTc4OTUzZmJmMWQ1YTg2ZmYxMA==",
-    ),
-    (
-        "k2",
-        "é",
-        2,
-        "k2 ZjY4MzY0NzczMjcyYjU4NzdhZjU3ZDhkNGMzMzY3MGFlYTg4NTZiNg==",
-    ),
-    (
-        "k2",
-        "é",
-        15,
-        "k2 ZjU2N2JmNjEzNDNkMzVhMzE3ZDNkMzVkMzUwYTA5YThmOGE0NzE5NA==",
-    ),
-    (
-        "k2",
-        "é",
-        16,
-        "k2 MmJlN2Y4NGJmZmU4MDNhOTQyMTJhYTZiNjIyOTliMTNkNjZhMjE3ZQ==",
-    ),
-    (
-        "k2",
-        "é",
-        17,
-        "k2 OWJhYTg4MjdjZDEyNDkxNWMwMDFmMzYxNmFjZTViZDBjNmVkMzg3Zg==",
-    ),
-    (
-        "k2",
-        "é",
-        31,
-        "k2 ZWQ3ZTk3OWJmNmI2NjMyODJmODlmNjgzMzdhNTI2Y2VmM2QzODliOQ==",
-    ),
-    (
-        "k2",
-        "é",
-        32,
-        "k2 OGExYzgzMGY3YWY1YmZlZWM5ZDZjYThhZWU3NmY5MzkxNGQwNTYyYg==",
-    ),
-    (
-        "k2",
-        "é",
-        33,
-        "k2 Y2M2MWI0YmU3YWJkZDcyNmViZTY2ZWZiYjNkYmNhOTM2ZjkxYmUzNA==",
-    ),
-    (
-        "k2",
-        "é",
-        47,
-        "k2 Y2ZkMWY1N2ViZWZkNWIwMzZmYWNmOTQyMzdmNjMwNjQ5MGZjNDMzMA==",
-    ),
-    (
-        "k2",
-        "é",
-        48,
-        "k2 ZmU0OTFjNzczYmIzOTVhNDI5M2I0MGNiMGU1Yzc3ZjRkZjJjMjZjNA==",
-    ),
-    (
-        "k2",
-        "é",
-        49,
-        "k2 ZWY0NmZmMTI3NDZmYzRmOTdmNTJlYTYxOTgyN2Y0MDY4NTQ3YjFmYg==",
-    ),
-    (
-        "k2",
-        "é",
-        63,
-        "k2 MGJmNGYwZTdjY2IyMmJmNzBlMjUzMmE5ZDc0MjU4NjU1Y2I0NTgzNQ==",
-    ),
-    (
-        "k2",
-        "é",
-        64,
-        "k2 OWUwODFlYTJlNzc4MDkwZjdjNTY1NWI3ZmVlYzNiYWIyZDUxNmJlNg==",
-    ),
-    (
-        "k2",
-        "é",
-        65,
-        "k2 Njk2MGU1NDY1ZGI3OWE1Njk4NWVmM2MyYjZhNWMwZWNhYzUwY2M4OQ==",
-    ),
-    (
-        "k2",
-        "é",
-        95,
-        "k2 NGI0OTYxN2U2OWFjYTljZGE1YWQ1YWU1NTlmYjJmZjkwNDg4MjQ5Zg==",
-    ),
-    (
-        "k2",
-        "é",
-        96,
-        "k2 MDY3OTI1MTE5NTVmMTQwOTg0YjQ1MjdjZDE5NDIyMDc5OWUxZWU4Zg==",
-    ),
-    (
-        "k2",
-        "é",
-        97,
-        "k2 NWIxNjIwMzg4MzEzMjgyMjlhYmJkMjQ5OWJmMjQ3NTAwNTQyMjQ0Yw==",
-    ),
-    (
-        "k2",
-        "é",
-        127,
-        "k2 YjkyZjhhYjJjMDRhZWU1YTdiMjg4NTIyMzA2NGJlMjYyNmQxMjJmMA==",
-    ),
-    (
-        "k2",
-        "é",
-        128,
-        "k2 NjdhYWU3NGVlMzQ0OThjNTZlYTFhNGJlN2M1ZTk1OGFlNTAzZDYxZQ==",
-    ),
-    (
-        "k2",
-        "é",
-        129,
-        "k2 NDc4MmQ5MTVkMjU1OGRkOGEzZTBmMzU5ZmM5Mjg4NGM3NWJlMTYxNg==",
-    ),
-    (
-        "k2",
-        "é",
-        500,
-        "k2 MWVhMTZkMGFlMTFiNWRkMmFkNzYxZWQyYWUyM2E3MWY3OTkxNGUxNg==",
-    ),
+/// The headers of the messages that are `mé` 0, 1, 2 and more times, by the keys `k1` and `k2` in turn, as
+/// `tools/key_vectors.py` prints them.
+static HEADERS: [&str; 51] = [
+    "k1 NzFmNDg3MzQxNWZkZmU5YTQ0YjU0YWIxNTAzZDE1MDZiMDVmMTI5NA==",
+    "k2 N2M5ZjFjMzMzMWExZjc2NjQ4MDBmY2M3NjA3ZWJkNTY5NWJkZTBlNQ==",
+    "k1 ZmVjOGRkYTRkZjMzMTVjNGUxY2U2ZjA0YzYyYTRlZWUwZDFjZDFhYw==",
+    "k2 ODJiMWFjM2JmYzNhZWFlYjdjNTU3MjQzODY5YzRjZWMwMDBmNTE0Mw==",
+    "k1 YjJlMWMxMjIyODNkMzFmYmQ4NjBkYTFmY2NiNDljZmRhOTBlOWU4Ng==",
+    "k2 MmIyNzMzZDIxYmIxYjQyYjMwZmE4ODVkMDU1ZTA1MTliOTE4YTM5YQ==",
+    "k1 NzA5MDQ3NzVjZWM2ODVkYjBmYmVlYWEzZGY0YmNhY2FjZTMwYTEwNg==",
+    "k2 MzQyYTQ4MThmYTg5NjhmYmQ1YmY4ODQyNmI3MDViZTFiYWFmNjI3Mg==",
+    "k1 MTk4YTI4MGFiYmQxYWNmYzY2MmE0OGZkOTVlMGUxM2I1YzE5MjA5OA==",
+    "k2 ZTBlZmE2MWM1MzM0MjBmYmFhMWNiNDE2YmU4Y2NkNDZkMjEwMTRmYw==",
+    "k1 ZDVlZDEwM2Q5NjJjY2MyNzczYTMxOGRhNWFmYzdmYzk3MjNmNGZlZA==",
+    "k2 ODIxMzhjN2YxN2Y0OGM3NjA0MmM4NjdmNjcyMDdmNWY3NzI3MTY1NA==",
+    "k1 ZWQzMjAyMTc0OWVhMTUxYjA5ODhkYTI2Yjk2NTU2OTU1YzA3OWI4NA==",
+    "k2 ODFmMTM2YTc4ZjQ5ZWJiNDQ5MzlhZGJjMTUxYTM0N2MxZTgzM2EwYg==",
+    "k1 ZjA3NjI2YjEyM2EzMGI1NWU2OTAyMDUyZTUyMzE2NTVhMzkyZjI1Yg==",
+    "k2 NDQzNTVhMTU4MTMxZmUzZTAxNTc3OWQzYTYxOGMwOGZmODRjNTZhYQ==",
+    "k1 MDk5OTZlNWVlYzQyNDQ3OTY3YzYwMzRkNzhhNDliZGJiOTBmOThlNQ==",
+    "k2 NWUzZjM1ZjUzZTFmYWUxNmM5ZTBlYzcyODI3NDIxYjgwM2M1MzBhMQ==",
+    "k1 YjA1Njg1YWM4ZjNhYWEwMjAwMzdhZjRjMGFlOWZjMWE5NGRlZjc1Yw==",
+    "k2 YmNkMGI0NTYxNGZkMmU2ODI0N2UyZmEwYTE5ZmQ2NzVkMjEwNWM4OQ==",
+    "k1 MmY3MDYzZDk4YjA3NGJlNmEyYmYyYzEzZDYzNWU5ZTVjMmY2Yjc5Ng==",
+    "k2 MmNlZGRhYjc1ZDc0ZjM0Yjg2ODQzNDUxNGYyMjU1ZmVjY2E5ZTA1MQ==",
+    "k1 Y2UwYjQxMTY5MGYyMTI4ZGY0NGNmOTlmNWE0MWQ0OWEyNWY1Y2ExOA==",
+    "k2 MjE3YjQ0YTk5ODQ3NGE1ZWM3NzlkNzkyNmMyZDAxNWFmYmQ2MzRkNw==",
+    "k1 Y2YwYWM4YzcyMWJmZTZlMGYyODM0MDAzMGY2MDc3NjRhMTVhZTk5Yw==",
+    "k2 OTM4OWUxYzNhNGY3YTE3MWZhNTMyMDE3ZjNmOWRjMDZlNDZmYzdmZA==",
+    "k1 ZDY4MmIyYjg3NWE2NDA3ZWViOGQ2ZDk5ZmQ4NGU5NTRmYzRmYjRkMA==",
+    "k2 NWMwNTE0ZDBkMDZlMmI2ZTk1NTU2Y2VjMzk5OGIwNzk3YThmYTMzNQ==",
+    "k1 MzBiODdmNDQ0M2FkNmQ1NjdkOTNhNDc3MDc4NmM4NTQzODA1MmM0ZA==",
+    "k2 MDgyMWU1MjhmNjZkN2QzMzllMjdkYzhmZjdlNGNmZWJhZTU4NzlhYw==",
+    "k1 Y2M4MWU2NTIzNTU4MTE0NGFmMDEyYTJkMmFhMWJjM2Y1Y2Q5ODFjYQ==",
+    "k2 ZGVhNDBlNGY0MzRjMTY4YWI5NWE1ZTkwODMyZjA5MTNhOTYyYTdmOA==",
+    "k1 YmI1NWQwMjZmOTA2ZjEwNjg0NzdjZDQ3Zjg0YmI2NWZlNTA4ZjM3Yw==",
+    "k2 OGJhMjFmODRmZTYxMTkzODdmOWRmZTUzZDNhNjJlODViMWI2MjZlMQ==",
+    "k1 MjNkMmYyOGYxZTkyYmNkY2E1ZGZlM2RmMmI3ZjM4YmU2YzkzYzIzMw==",
+    "k2 NTZmNTVlMzU4NWUyOWExMGI0ZDEzYjkwMjk5MDIzZmMxODk3ZmFiMg==",
+    "k1 ZGI1Y2NlMjk2NzcwZjE3MjcwNGQwMDZmYjE4NTk4YTdjOGM5NGYxMQ==",
+    "k2 MzFjMDE2NGNlY2FiMmNmMWQ4ODA0YmNjMThhNDA2ZDE2ZjNkMTA5Yg==",
+    "k1 MWEyMjA2NzdiNjM3MmYwZTQ5NTJlNzY2NGQ4MWQwMDQyZDY5ZDNlYw==",
+    "k2 ZmEzODFmZjVlNWExYmQyMmVlYmEwMThhNTkxNzM5MTgyYWZhZWRhNA==",
+    "k1 YzU5NjI3OWY4NGM1YjM1ODI0ZThhMDM4MzAyNmFiZmVkMGZjZjM2NA==",
+    "k2 NDJmYzVhYjc3ZTIyNGIzMmFkMTE5NTJiYzA3NzQyZjA1Nzk0ODZlNg==",
+    "k1 ZDA1ZDZkMjlkMDc1MGI3ZmYyZTFjOGE4MTZhNmRmMDZhZDMxYmRlMQ==",
+    "k2 NTNiZjY2Mzc2MzQxMzJjZjg5NjE2NzYwNzExZDNkZjlmMGY5YzEwMQ==",
+    "k1 Zjc1MTJmM2ExMjE3NjdhYmExZmI5MTEwYTgzNTYyNzY2MDFmOTE1ZA==",
+    "k2 MWQwOTg4N2M4ZWE4MGRkMWU2OThmNThkNTQ2YmJlNGU3ZjYxOGZhOQ==",
+    "k1 OTdjOGJjZGJkYjAyOTc0NjMzYTJiYWRiMzBiNmM3OGIwYTc1NWZjMg==",
+    "k2 MzQ1Y2JiNWMyZjFhOWJkZjU0Mjg5ZWJjYjk0NWIzNGU5MTBhZDk1ZA==",
+    "k1 YTNlNjM5ZTY5NzE2NWU4ZWY4NjRjODAxMTZjM2EwMTYxMGFhNmJkNg==",
+    "k2 YmRjNjkzZDc5ZmU4ZTUyZGZjYzIzMzhmODZmMGViZGI2NzYzZjZkZA==",
+    "k1 OWFlYzUwZWM2ZjM5Nzk3ZjA1OTQ2MDUyZDMwZWNiNzQ3NDhjODdlOQ==",
 ];
 
 /// Texts that are no keys text, and the first fault of each.
@@ -370,49 +116,108 @@ static FAULTS: [(&str, KeyFault); 22] = [
     ),
 ];
 
+/// Headers that no key gives the message `x`, and the first fault of each.
+static HEADER_FAULTS: [(Option<&str>, AuthFault); 7] = [
+    (None, AuthFault::NoHeader),
+    (Some(""), AuthFault::BadHeader),
+    (Some("k9"), AuthFault::BadHeader),
+    (Some("k9 ZWZm"), AuthFault::BadHeader),
+    (Some("k1  "), AuthFault::BadHeader),
+    (
+        Some("k9 ZWZmY2RmNmFlNWViMmZhMmQyNzQxNmQ1ZjE4NGRmOWMyNTlhN2M3OQ=="),
+        AuthFault::UnknownKey,
+    ),
+    (
+        Some("k1 ZWZmY2RmNmFlNWViMmZhMmQyNzQxNmQ1ZjE4NGRmOWMyNTlhN2M3OQ=="),
+        AuthFault::WrongMac,
+    ),
+];
+
+/// A text of a front, copies of a text, as many of another, and a back. It has this fault.
+struct Limit {
+    front: &'static str,
+    open: &'static str,
+    close: &'static str,
+    count: usize,
+    back: &'static str,
+    fault: KeyFault,
+}
+
+/// Texts at a limit, or one past it.
+static LIMITS: [Limit; 4] = [
+    Limit {
+        front: r#"{"keys":["#,
+        open: "0,",
+        close: "",
+        count: 256,
+        back: "0]}",
+        fault: KeyFault::TooMany,
+    },
+    Limit {
+        front: r#"{"keys":["#,
+        open: "0,",
+        close: "",
+        count: 255,
+        back: "0]}",
+        fault: KeyFault::WrongType(1),
+    },
+    Limit {
+        front: r#"{"keys":[{"secret":"s","id":""#,
+        open: "a",
+        close: "",
+        count: 256,
+        back: r#""}]}"#,
+        fault: KeyFault::BadValue(1),
+    },
+    Limit {
+        front: r#"{"keys":"#,
+        open: "[",
+        close: "]",
+        count: 127,
+        back: "}",
+        fault: KeyFault::NotJson,
+    },
+];
+
 /// The fault of this text, if it is no keys text.
 fn fault_of(alloc: Global, text: &str) -> Option<KeyFault> {
     KeyTable::read(alloc, text.as_bytes()).err()
 }
 
-/// A text of this many copies of another.
-fn repeated(alloc: Global, text: &str, count: usize) -> Result<String, Fail> {
-    let mut all = String::new(alloc);
+/// Pushes this many copies of a text.
+fn push_copies(all: &mut String, text: &str, count: usize) -> Result<(), Fail> {
     for _ in 0..count {
         all.push_str(text)?;
     }
-    Ok(all)
+    Ok(())
 }
 
-/// A text between two others.
-fn between(alloc: Global, front: &str, text: &str, back: &str) -> Result<String, Fail> {
-    let mut all = String::from_str(alloc, front)?;
-    all.push_str(text)?;
-    all.push_str(back)?;
-    Ok(all)
+/// The fault of the text of this limit.
+fn fault_at(alloc: Global, limit: &Limit) -> Result<Option<KeyFault>, Fail> {
+    let mut all = String::from_str(alloc, limit.front)?;
+    push_copies(&mut all, limit.open, limit.count)?;
+    push_copies(&mut all, limit.close, limit.count)?;
+    all.push_str(limit.back)?;
+    Ok(fault_of(alloc, all.as_str()))
 }
 
-/// The id of the key whose header this is, and the header that it gives the message.
-fn id_and_header(
-    alloc: Global,
-    table: &KeyTable,
-    header: &str,
-    message: &[u8],
-) -> Result<(String, String), Fail> {
-    let key = table.check(alloc, Some(header), message)?;
-    let id = String::from_str(alloc, table.id(key))?;
-    let written = table.header(alloc, key, message)?;
-    Ok((id, written))
+/// Whether a key gives the message this header, and is taken by it.
+fn is_header(alloc: Global, table: &KeyTable, message: &str, header: &str) -> Result<bool, Fail> {
+    let key = table.check(alloc, Some(header), message.as_bytes())?;
+    let written = table.header(alloc, key, message.as_bytes())?;
+    Ok(header.starts_with(table.id(key)) && written.as_str() == header)
 }
 
 #[test]
 fn headers_are_those_of_python(rt: HostRuntime) -> Result<(), Fail> {
     let table = KeyTable::read(rt.alloc(), KEYS)?;
-    for (id, text, count, header) in HEADERS {
-        let message = repeated(rt.alloc(), text, count)?;
-        let (found, written) = id_and_header(rt.alloc(), &table, header, message.as_bytes())?;
-        assert_eq!(rt; found.as_str(), id);
-        assert_eq!(rt; written.as_str(), header);
+    let mut message = String::new(rt.alloc());
+    for header in &HEADERS {
+        assert!(rt;
+            is_header(rt.alloc(), &table, message.as_str(), header)?,
+            "{header}"
+        );
+        message.push_str("mé")?;
     }
     Ok(())
 }
@@ -420,56 +225,24 @@ fn headers_are_those_of_python(rt: HostRuntime) -> Result<(), Fail> {
 #[test]
 fn a_header_has_its_first_fault(rt: HostRuntime) -> Result<(), Fail> {
     let table = KeyTable::read(rt.alloc(), KEYS)?;
-    let code = "ZWZmY2RmNmFlNWViMmZhMmQyNzQxNmQ1ZjE4NGRmOWMyNTlhN2M3OQ==";
-    let unknown = between(rt.alloc(), "k9", " ", code)?;
-    let wrong = between(rt.alloc(), "k1", " ", code)?;
-    for (header, fault) in [
-        (None, AuthFault::NoHeader),
-        (Some(""), AuthFault::BadHeader),
-        (Some("k9"), AuthFault::BadHeader),
-        (Some("k9 ZWZm"), AuthFault::BadHeader),
-        (Some("k1  "), AuthFault::BadHeader),
-        (Some(unknown.as_str()), AuthFault::UnknownKey),
-        (Some(wrong.as_str()), AuthFault::WrongMac),
-    ] {
-        assert_eq!(rt; table.check(rt.alloc(), header, b"x"), Err(fault));
+    for (header, fault) in &HEADER_FAULTS {
+        assert_eq!(rt; table.check(rt.alloc(), *header, b"x").err(), Some(*fault));
     }
     Ok(())
 }
 
 #[test]
 fn a_keys_text_has_its_first_fault(rt: HostRuntime) {
-    for (text, fault) in FAULTS {
-        assert_eq!(rt; fault_of(rt.alloc(), text), Some(fault), "{text}");
+    for (text, fault) in &FAULTS {
+        assert_eq!(rt; fault_of(rt.alloc(), text), Some(*fault), "{text}");
     }
 }
 
 #[test]
 fn the_limits_of_a_keys_text(rt: HostRuntime) -> Result<(), Fail> {
-    let many = repeated(rt.alloc(), "0,", 256)?;
-    let many = between(rt.alloc(), r#"{"keys":["#, many.as_str(), "0]}")?;
-    assert_eq!(rt;
-        fault_of(rt.alloc(), many.as_str()),
-        Some(KeyFault::TooMany)
-    );
-    let long = repeated(rt.alloc(), "a", 256)?;
-    let long = between(
-        rt.alloc(),
-        r#"{"keys":[{"id":"k","secret":""#,
-        long.as_str(),
-        r#""}]}"#,
-    )?;
-    assert_eq!(rt;
-        fault_of(rt.alloc(), long.as_str()),
-        Some(KeyFault::BadValue(1))
-    );
-    let open = repeated(rt.alloc(), "[", 127)?;
-    let close = repeated(rt.alloc(), "]", 127)?;
-    let deep = between(rt.alloc(), r#"{"keys":"#, open.as_str(), close.as_str())?;
-    let deep = between(rt.alloc(), deep.as_str(), "}", "")?;
-    assert_eq!(rt;
-        fault_of(rt.alloc(), deep.as_str()),
-        Some(KeyFault::NotJson)
-    );
+    for limit in &LIMITS {
+        let fault = fault_at(rt.alloc(), limit)?;
+        assert_eq!(rt; fault, Some(limit.fault), "{}", limit.front);
+    }
     Ok(())
 }

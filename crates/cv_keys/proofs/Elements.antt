@@ -1,0 +1,44 @@
+-- Keys that are read one after another.
+use Rattle.std.proofs.Common.{◌≡◌, ℕ, ◌+◌, ◌<◌, List, [], ◌∷◌, ◌++◌, length, map, get_or, drop, Result, Ok, Err, refl, sym, ap, subst, ◌∙◌}
+use Rattle.std.specs.Prelude.{MatchResult}
+use Rattle.std.specs.Result.{IsErrAnd}
+use Rattle.std.proofs.lemmas.List.{drop_more}
+use Rattle.serde_json.specs.View.{view}
+use Rattle.serde_json.specs.declared.value.Value.{Value}
+use Rattle.cv_keys.specs.KeysText.{IsSaid, new_key, keys_behind}
+use Rattle.cv_keys.specs.declared.key.Key.{Key}
+use Rattle.cv_keys.specs.declared.key_fault.KeyFault.{KeyFault}
+use Rattle.cv_keys.specs.declared.key_fault.KeyFault.TheVariants.{NotJson, Missing, WrongType, BadValue, Repeated, TooMany, NoKey, NoMemory}
+
+-- what is left of a list begins with the element of its place
+drop_is : (vs : List Value) (i : ℕ) (v : Value) → i < length vs → v ≡ get_or vs i v → drop i vs ≡ v ∷ drop (i + 1) vs
+drop_is vs i v below is = drop_more vs i v below ∙ ap (λ w. w ∷ drop (i + 1) vs) (sym is)
+
+-- what is said of a fault, and what follows from it
+IsSaid-map : {P Q : Type 0} (fault : KeyFault) → (P → Q) → IsSaid fault P → IsSaid fault Q
+IsSaid-map NotJson f h = f h
+IsSaid-map (Missing place) f h = f h
+IsSaid-map (WrongType place) f h = f h
+IsSaid-map (BadValue place) f h = f h
+IsSaid-map (Repeated place) f h = f h
+IsSaid-map TooMany f h = f h
+IsSaid-map NoKey f h = f h
+IsSaid-map NoMemory f h = tt
+
+-- one key more was read
+pub keys_behind-more : (vs : List Value) (i : ℕ) (v : Value) (key : Key) (before after : List Key) (all : Result (List Key) KeyFault)
+    → i < length vs → v ≡ get_or vs i v → new_key before (i + 1) (view v) ≡ Ok key → after ≡ before ++ key ∷ []
+    → all ≡ keys_behind before (i + 1) (map view (drop i vs)) → all ≡ keys_behind after (i + 1 + 1) (map view (drop (i + 1) vs))
+keys_behind-more vs i v key before after all below is told pushed so_far =
+    let cut = drop_is vs i v below is in
+    so_far ∙ rw (pushed, cut, told) refl
+
+-- a fault of an element is that of all
+pub keys_behind-fault : {T : Type 0} (vs : List Value) (i : ℕ) (v : Value) (fault : KeyFault) (before : List Key) (all : Result (List Key) KeyFault) (r : Result T KeyFault) (P : T → Type 0)
+    → i < length vs → v ≡ get_or vs i v → IsSaid fault (new_key before (i + 1) (view v) ≡ Err fault)
+    → all ≡ keys_behind before (i + 1) (map view (drop i vs)) → IsErrAnd r (λ given. given ≡ fault) → MatchResult r P (λ given. IsSaid given (all ≡ Err given))
+keys_behind-fault vs i v fault before all (Ok x) P below is told so_far given = absurd given
+keys_behind-fault vs i v fault before all (Err other) P below is told so_far given =
+    let cut = drop_is vs i v below is in
+    let first : new_key before (i + 1) (view v) ≡ Err fault → all ≡ Err fault = λ e. so_far ∙ rw (cut, e) refl in
+    subst (λ w. IsSaid w (all ≡ Err w)) (sym given) (IsSaid-map fault first told)
