@@ -1,15 +1,65 @@
 -- Values that are read one after another.
-use Rattle.std.proofs.Common.{◌≡◌, List, [], ◌∷◌, ◌++◌, Option, Some, Result, Ok, refl, ap}
+use Rattle.std.proofs.Common.{◌≡◌, ℕ, ◌+◌, ◌<◌, List, [], ◌∷◌, ◌++◌, length, map, get_or, take, drop, Option, Some, Result, Ok, Err, refl, sym, ap, subst, ◌∙◌, append_assoc}
+use Rattle.std.specs.Prelude.{MatchResult}
+use Rattle.std.specs.Result.{IsErrAnd}
+use Rattle.std.proofs.lemmas.List.{map-append, take_more, drop_more}
 use Rattle.serde_json.specs.Data.{Data}
 use Rattle.serde_json.specs.Find.{as_array}
-use Rattle.serde_json.specs.View.{items_of}
-use Rattle.cv_messages.specs.Member.{and_then}
-use Rattle.cv_answers.specs.AnswerText.{elements, array_member}
+use Rattle.serde_json.specs.View.{view, items_of}
+use Rattle.serde_json.specs.declared.value.Value.{Value}
+use Rattle.cv_messages.specs.Member.{IsSaid, and_then}
+use Rattle.cv_answers.specs.AnswerText.{each_of, elements, array_member}
 use Rattle.cv_messages.specs.declared.message_fault.MessageFault.{MessageFault}
+use Rattle.cv_messages.specs.declared.message_fault.MessageFault.TheVariants.{NotJson, Missing, WrongType, BadValue, NoMemory}
 
 -- the values behind others
 abbrev pub behind : {A : Type 0} → List A → Result (List A) MessageFault → Result (List A) MessageFault
 behind before later = and_then later (λ xs. Ok (before ++ xs))
+
+-- a value before others stands last behind those that are before it
+behind-one : {A : Type 0} (before : List A) (x : A) (later : Result (List A) MessageFault) → behind before (and_then later (λ xs. Ok (x ∷ xs))) ≡ behind (before ++ x ∷ []) later
+behind-one before x (Ok xs) = ap Ok (sym (append_assoc before (x ∷ []) xs))
+behind-one before x (Err fault) = refl
+
+-- what is left of a list begins with the element of its place
+drop_is : (vs : List Value) (i : ℕ) (v : Value) → i < length vs → v ≡ get_or vs i v → drop i vs ≡ v ∷ drop (i + 1) vs
+drop_is vs i v below is = drop_more vs i v below ∙ ap (λ w. w ∷ drop (i + 1) vs) (sym is)
+
+-- what is said of a fault, and what follows from it
+IsSaid-map : {P Q : Type 0} (fault : MessageFault) → (P → Q) → IsSaid fault P → IsSaid fault Q
+IsSaid-map NotJson f h = f h
+IsSaid-map (Missing name) f h = f h
+IsSaid-map (WrongType name) f h = f h
+IsSaid-map (BadValue name) f h = f h
+IsSaid-map NoMemory f h = tt
+
+-- one value more was read
+pub behind-more : {A : Type 0} (says : Data → Result A MessageFault) (vs : List Value) (i : ℕ) (v : Value) (x : A) (before after : List A) (all : Result (List A) MessageFault)
+    → i < length vs → v ≡ get_or vs i v → says (view v) ≡ Ok x → after ≡ before ++ x ∷ []
+    → all ≡ behind before (each_of says (map view (drop i vs))) → all ≡ behind after (each_of says (map view (drop (i + 1) vs)))
+behind-more says vs i v x before after all below is told pushed so_far =
+    let later = each_of says (map view (drop (i + 1) vs)) in
+    let cut = drop_is vs i v below is in
+    let here : each_of says (map view (drop i vs)) ≡ and_then later (λ xs. Ok (x ∷ xs)) = rw (cut, told) refl in
+    so_far ∙ ap (behind before) here ∙ behind-one before x later ∙ ap (λ w. behind w later) (sym pushed)
+
+-- a fault of a value is that of all
+pub behind-fault : {A T : Type 0} (says : Data → Result A MessageFault) (vs : List Value) (i : ℕ) (v : Value) (fault : MessageFault) (before : List A) (all : Result (List A) MessageFault)
+    (r : Result T MessageFault) (P : T → Type 0) → i < length vs → v ≡ get_or vs i v → IsSaid fault (says (view v) ≡ Err fault)
+    → all ≡ behind before (each_of says (map view (drop i vs))) → IsErrAnd r (λ given. given ≡ fault) → MatchResult r P (λ given. IsSaid given (all ≡ Err given))
+behind-fault says vs i v fault before all (Ok x) P below is told so_far given = absurd given
+behind-fault says vs i v fault before all (Err other) P below is told so_far given =
+    let cut = drop_is vs i v below is in
+    let first : says (view v) ≡ Err fault → all ≡ Err fault = λ e. so_far ∙ rw (cut, e) refl in
+    subst (λ w. IsSaid w (all ≡ Err w)) (sym given) (IsSaid-map fault first told)
+
+-- one value more was made
+pub seen-more : {A : Type 0} (data_of : A → Data) (xs : List A) (i : ℕ) (x : A) (before after : List Value) (v : Value)
+    → i < length xs → x ≡ get_or xs i x → view v ≡ data_of x → after ≡ before ++ v ∷ []
+    → map view before ≡ map data_of (take i xs) → map view after ≡ map data_of (take (i + 1) xs)
+seen-more data_of xs i x before after v below is made pushed so_far =
+    let grown : take (i + 1) xs ≡ take i xs ++ x ∷ [] = take_more xs i x below ∙ ap (λ w. take i xs ++ w ∷ []) (sym is) in
+    rw (pushed, grown, map-append view before (v ∷ []), map-append data_of (take i xs) (x ∷ []), so_far, made) refl
 
 pub elements-items_of : (ds : List Data) → elements (items_of ds) ≡ ds
 elements-items_of [] = refl

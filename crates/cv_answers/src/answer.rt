@@ -4,11 +4,10 @@ ghost use Rattle.serde_json.specs.Written.{compact_text};
 ghost use Rattle.cv_messages.specs.Member.{IsSaid};
 
 use crate::answer_value::answer_value;
-use crate::lease_items::LeaseItems;
+use crate::lease_item::LeaseItem;
 use crate::read_answer::read_answer;
 use crate::refusal::Refusal;
-use crate::texts::Texts;
-use cv_base::{NoMemory, Token};
+use cv_base::{Items, NoMemory, Text, Token};
 use cv_messages::{MessageFault, read_object, write_object};
 use std::alloc::Global;
 
@@ -29,9 +28,9 @@ pub enum Answer {
         root: [u8; 20],
     },
     /// The live leases.
-    Leases(LeaseItems),
+    Leases(Items<LeaseItem>),
     /// The names of the repositories.
-    Repos(Texts),
+    Repos(Items<Text>),
     /// A live lease overlaps the path: its token, and the seconds until it ends.
     PathBusy {
         token: Token,

@@ -1,20 +1,22 @@
 //! Answers as JSON values.
 ghost use Rattle.std.specs.Prelude.{◌≡◌, map, codes, IfOk};
 ghost use Rattle.cv_base.specs.Digest.{IsDigest};
-ghost use Rattle.serde_json.specs.Data.{string, number, unsigned, object, member, no_members};
-ghost use Rattle.serde_json.specs.View.{view};
+ghost use Rattle.serde_json.specs.Data.{put, string, array, object, member, no_members};
+ghost use Rattle.serde_json.specs.View.{view, items_view, members_view};
 ghost use Rattle.cv_messages.specs.MemberName.{member_name};
-ghost use Rattle.cv_answers.specs.Refusal.{refusal_data};
+ghost use Rattle.cv_answers.specs.Refusal.{reason_members, refusal_data};
 ghost use Rattle.cv_answers.specs.Answer.{granted_data, done_data, committed_data, lease_item_data, leases_data, repos_data, path_busy_data, answer_data};
 ghost use Rattle.cv_messages.specs.Spelling.{IsToken};
 ghost use Rattle.cv_answers.specs.AnswerText.{IsWhole};
 
 use crate::answer::Answer;
 use crate::lease_item::LeaseItem;
+use crate::reason::Reason;
 use crate::refusal::Refusal;
-use cv_base::{NoMemory, Text, Token, digest_text};
-use serde_json::{Value, json};
-use std::alloc::{AllocError, Global};
+use cv_base::{NoMemory, Text, Token};
+use cv_messages::{Members, with_digest, with_number, with_text, with_token, with_value};
+use serde_json::{Map, Value};
+use std::alloc::Global;
 
 /// An answer as JSON.
 pub(crate) fn answer_value(alloc: Global, answer: &Answer) -> Result<Value, NoMemory>
@@ -27,12 +29,12 @@ pub(crate) fn answer_value(alloc: Global, answer: &Answer) -> Result<Value, NoMe
             revision,
             root,
         } => granted_value(alloc, *token, *revision, root),
-        Answer::Done => Ok(done_value(alloc)?),
+        Answer::Done => done_value(alloc),
         Answer::Committed { revision, root } => committed_value(alloc, *revision, root),
         Answer::Leases(list) => leases_value(alloc, list.as_slice()),
         Answer::Repos(names) => repos_value(alloc, names.as_slice()),
         Answer::PathBusy { token, remaining } => path_busy_value(alloc, *token, *remaining),
-        Answer::Refused(refusal) => Ok(refusal_value(alloc, *refusal)?),
+        Answer::Refused(refusal) => refusal_value(alloc, *refusal),
     }
 }
 
@@ -47,21 +49,19 @@ fn granted_value(
     ensures token { IsToken token }
     ensures root { IsDigest root.now }
 {
-    let token = token.text(alloc)?;
-    let root = digest_text(alloc, root)?;
-    Ok(json!(in alloc; {
-        "revision": revision,
-        "root_hash": root.as_str(),
-        "session_token": token.as_str(),
-        "status": "ok",
-    })?)
+    let members = status_members(alloc, "ok")?;
+    let members = with_token(alloc, members, "session_token", token)?;
+    let members = with_digest(alloc, members, "root_hash", root)?;
+    let members = with_number(alloc, members, "revision", revision)?;
+    Ok(Value::Object(members))
 }
 
 /// What was done as asked.
-fn done_value(alloc: Global) -> Result<Value, AllocError>
+fn done_value(alloc: Global) -> Result<Value, NoMemory>
     ensures { IfOk result (λ value. view value ≡ done_data) }
 {
-    json!(in alloc; {"status": "ok"})
+    let members = status_members(alloc, "ok")?;
+    Ok(Value::Object(members))
 }
 
 /// A revision that was made.
@@ -69,23 +69,20 @@ fn committed_value(alloc: Global, revision: u64, root: &[u8; 20]) -> Result<Valu
     ensures json { IfOk result (λ value. view value ≡ committed_data revision root.now) }
     ensures root { IsDigest root.now }
 {
-    let root = digest_text(alloc, root)?;
-    Ok(json!(in alloc; {
-        "final_revision": revision,
-        "root_hash": root.as_str(),
-        "status": "ok",
-    })?)
+    let members = status_members(alloc, "ok")?;
+    let members = with_digest(alloc, members, "root_hash", root)?;
+    let members = with_number(alloc, members, "final_revision", revision)?;
+    Ok(Value::Object(members))
 }
 
 /// A live lease.
-fn lease_item_value(alloc: Global, item: &LeaseItem) -> Result<Value, AllocError>
+fn lease_item_value(alloc: Global, item: &LeaseItem) -> Result<Value, NoMemory>
     ensures { IfOk result (λ value. view value ≡ lease_item_data item.now) }
 {
-    json!(in alloc; {
-        "key_id": item.key.as_str(),
-        "path": item.path.as_str(),
-        "time_remaining": item.remaining,
-    })
+    let members = with_number(alloc, Map::new(alloc), "time_remaining", item.remaining)?;
+    let members = with_text(alloc, members, "path", item.path.as_str())?;
+    let members = with_text(alloc, members, "key_id", item.key.as_str())?;
+    Ok(Value::Object(members))
 }
 
 /// The live leases, one after another.
@@ -95,17 +92,11 @@ fn lease_item_values(alloc: Global, items: &[LeaseItem]) -> Result<Vec<Value>, N
     let mut values = Vec::new(alloc);
     for item in items {
         let value = lease_item_value(alloc, item)?;
-        values.push(value).map_err(|_| NoMemory)?;
+        if values.push(value).is_err() {
+            return Err(NoMemory);
+        }
     }
     Ok(values)
-}
-
-/// The live leases.
-fn leases_value(alloc: Global, items: &[LeaseItem]) -> Result<Value, NoMemory>
-    ensures { IfOk result (λ value. view value ≡ leases_data items.now) }
-{
-    let list = Value::Array(lease_item_values(alloc, items)?);
-    Ok(json!(in alloc; {"data": list, "status": "ok"})?)
 }
 
 /// Texts, one after another.
@@ -115,17 +106,36 @@ fn text_values(alloc: Global, texts: &[Text]) -> Result<Vec<Value>, NoMemory>
     let mut values = Vec::new(alloc);
     for text in texts {
         let value = Value::try_from_str(alloc, text.as_str())?;
-        values.push(value).map_err(|_| NoMemory)?;
+        if values.push(value).is_err() {
+            return Err(NoMemory);
+        }
     }
     Ok(values)
+}
+
+/// A list under this name.
+fn list_value(alloc: Global, name: &str, list: Vec<Value>) -> Result<Value, NoMemory>
+    ensures { IfOk result (λ value. view value ≡ object (put name.now (array (items_view list.items)) (member (codes "status") (string (codes "ok")) no_members))) }
+{
+    let members = status_members(alloc, "ok")?;
+    let members = with_value(alloc, members, name, Value::Array(list))?;
+    Ok(Value::Object(members))
+}
+
+/// The live leases.
+fn leases_value(alloc: Global, items: &[LeaseItem]) -> Result<Value, NoMemory>
+    ensures { IfOk result (λ value. view value ≡ leases_data items.now) }
+{
+    let list = lease_item_values(alloc, items)?;
+    list_value(alloc, "data", list)
 }
 
 /// The names of the repositories.
 fn repos_value(alloc: Global, names: &[Text]) -> Result<Value, NoMemory>
     ensures { IfOk result (λ value. view value ≡ repos_data names.now) }
 {
-    let list = Value::Array(text_values(alloc, names)?);
-    Ok(json!(in alloc; {"repos": list, "status": "ok"})?)
+    let list = text_values(alloc, names)?;
+    list_value(alloc, "repos", list)
 }
 
 /// A live lease that overlaps.
@@ -133,25 +143,35 @@ fn path_busy_value(alloc: Global, token: Token, remaining: u64) -> Result<Value,
     ensures json { IfOk result (λ value. view value ≡ path_busy_data token remaining) }
     ensures token { IsToken token }
 {
-    let token = token.text(alloc)?;
-    Ok(json!(in alloc; {
-        "lease": token.as_str(),
-        "status": "path_busy",
-        "time_remaining": remaining,
-    })?)
+    let members = status_members(alloc, "path_busy")?;
+    let members = with_token(alloc, members, "lease", token)?;
+    let members = with_number(alloc, members, "time_remaining", remaining)?;
+    Ok(Value::Object(members))
+}
+
+/// The members of a refusal for this reason, but the member that it names.
+fn reason_members(alloc: Global, reason: Reason) -> Result<Members, NoMemory>
+    ensures { IfOk result (λ members. members_view members.entries ≡ reason_members reason) }
+{
+    let members = status_members(alloc, "error")?;
+    with_text(alloc, members, "reason", reason.as_str())
 }
 
 /// A refusal.
-fn refusal_value(alloc: Global, refusal: Refusal) -> Result<Value, AllocError>
+fn refusal_value(alloc: Global, refusal: Refusal) -> Result<Value, NoMemory>
     ensures { IfOk result (λ value. view value ≡ refusal_data refusal) }
 {
-    let reason = refusal.reason.as_str();
-    match refusal.member {
-        Some(name) => json!(in alloc; {
-            "member": name.as_str(),
-            "reason": reason,
-            "status": "error",
-        }),
-        None => json!(in alloc; {"reason": reason, "status": "error"}),
-    }
+    let members = reason_members(alloc, refusal.reason)?;
+    let members = match refusal.member {
+        Some(name) => with_text(alloc, members, "member", name.as_str())?,
+        None => members,
+    };
+    Ok(Value::Object(members))
+}
+
+/// The member `status`, and no other.
+fn status_members(alloc: Global, status: &str) -> Result<Members, NoMemory>
+    ensures { IfOk result (λ members. members_view members.entries ≡ member (codes "status") (string status.now) no_members) }
+{
+    with_text(alloc, Map::new(alloc), "status", status)
 }

@@ -4,17 +4,13 @@
 mod answer;
 mod answer_value;
 mod lease_item;
-mod lease_items;
 mod read_answer;
 mod reason;
 mod refusal;
 #[cfg(test)]
 mod tests;
-mod texts;
 
 pub use answer::Answer;
 pub use lease_item::LeaseItem;
-pub use lease_items::LeaseItems;
 pub use reason::Reason;
 pub use refusal::Refusal;
-pub use texts::Texts;

@@ -1,5 +1,5 @@
 //! Reading answers.
-ghost use Rattle.std.specs.Prelude.{◌≡◌, Ok, Err, List, map, codes, MatchResult};
+ghost use Rattle.std.specs.Prelude.{◌≡◌, Ok, Err, List, map, codes, is_some, IfOk, MatchResult};
 ghost use Rattle.serde_json.specs.Find.{get};
 ghost use Rattle.serde_json.specs.View.{view};
 ghost use Rattle.cv_messages.specs.Member.{IsSaid};
@@ -8,11 +8,9 @@ ghost use Rattle.cv_answers.specs.AnswerText.{granted_in, committed_in, each_of,
 
 use crate::answer::Answer;
 use crate::lease_item::LeaseItem;
-use crate::lease_items::LeaseItems;
 use crate::reason::Reason;
 use crate::refusal::Refusal;
-use crate::texts::Texts;
-use cv_base::{NoMemory, Text};
+use cv_base::{Items, NoMemory, Text};
 use cv_messages::{Member, MessageFault, digest_member, number_member, text_member, token_member};
 use serde_json::Value;
 use std::alloc::Global;
@@ -30,18 +28,25 @@ pub(crate) fn read_answer(alloc: Global, value: &Value) -> Result<Answer, Messag
     }
 }
 
+/// Whether an object has a member of this name.
+fn has_member(value: &Value, key: &str) -> bool
+    ensures { result ≡ is_some (get key.now (view value.now)) }
+{
+    value.get(key).is_some()
+}
+
 /// The ok answer that an object says.
 fn read_ok(alloc: Global, value: &Value) -> Result<Answer, MessageFault>
     ensures { MatchResult result (λ answer. ok_in (view value.now) ≡ Ok answer)
         (λ fault. IsSaid fault (ok_in (view value.now) ≡ Err fault)) }
 {
-    if value.get("session_token").is_some() {
+    if has_member(value, "session_token") {
         read_granted(value)
-    } else if value.get("final_revision").is_some() {
+    } else if has_member(value, "final_revision") {
         read_committed(value)
-    } else if value.get("data").is_some() {
+    } else if has_member(value, "data") {
         read_leases(alloc, value)
-    } else if value.get("repos").is_some() {
+    } else if has_member(value, "repos") {
         read_repos(alloc, value)
     } else {
         Ok(Answer::Done)
@@ -78,7 +83,7 @@ fn read_leases(alloc: Global, value: &Value) -> Result<Answer, MessageFault>
 {
     let list = array_member(value, "data")?;
     let items = read_lease_items(alloc, list)?;
-    Ok(Answer::Leases(LeaseItems::new(items)))
+    Ok(Answer::Leases(Items::new(items)))
 }
 
 /// The array of a member.
@@ -121,14 +126,23 @@ fn read_lease_item(alloc: Global, value: &Value) -> Result<LeaseItem, MessageFau
     let key = text_member(value, "key_id", Member::Other)?;
     let path = text_member(value, "path", Member::Path)?;
     let remaining = number_member(value, "time_remaining", Member::Other)?;
-    match (Text::from_str(alloc, key), Text::from_str(alloc, path)) {
-        (Ok(key), Ok(path)) => Ok(LeaseItem {
-            key,
-            path,
-            remaining,
-        }),
-        _ => Err(MessageFault::NoMemory),
+    match lease_item(alloc, key, path, remaining) {
+        Ok(item) => Ok(item),
+        Err(NoMemory) => Err(MessageFault::NoMemory),
     }
+}
+
+/// The lease of these members.
+fn lease_item(alloc: Global, key: &str, path: &str, remaining: u64) -> Result<LeaseItem, NoMemory>
+    ensures { IfOk result (λ item. item ≡ record { key = key.now; path = path.now; remaining = remaining }) }
+{
+    let key = Text::from_str(alloc, key)?;
+    let path = Text::from_str(alloc, path)?;
+    Ok(LeaseItem {
+        key,
+        path,
+        remaining,
+    })
 }
 
 /// The names of the repositories.
@@ -138,7 +152,7 @@ fn read_repos(alloc: Global, value: &Value) -> Result<Answer, MessageFault>
 {
     let list = array_member(value, "repos")?;
     let names = read_names(alloc, list)?;
-    Ok(Answer::Repos(Texts::new(names)))
+    Ok(Answer::Repos(Items::new(names)))
 }
 
 /// The names that values say.

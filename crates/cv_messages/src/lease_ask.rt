@@ -6,11 +6,13 @@ ghost use Rattle.serde_json.specs.Written.{compact_text};
 ghost use Rattle.cv_messages.specs.Member.{IsSaid};
 
 use crate::member::Member;
+use crate::members::text_member;
 use crate::message_fault::MessageFault;
+use crate::object_members::with_text;
 use crate::object_text::{read_object, write_object};
 use cv_base::{NoMemory, Text};
-use serde_json::{Value, json};
-use std::alloc::{AllocError, Global};
+use serde_json::{Map, Value};
+use std::alloc::Global;
 
 /// Asks for a lease on a path.
 #[derive(Debug, Drop)]
@@ -32,12 +34,7 @@ impl LeaseAsk {
             Ok(None) => return Err(MessageFault::NotJson),
             Err(NoMemory) => return Err(MessageFault::NoMemory),
         };
-        let Some(path) = value.get("path") else {
-            return Err(MessageFault::Missing(Member::Path));
-        };
-        let Some(path) = path.as_str() else {
-            return Err(MessageFault::WrongType(Member::Path));
-        };
+        let path = text_member(&value, "path", Member::Path)?;
         match Text::from_str(alloc, path) {
             Ok(path) => Ok(LeaseAsk { path }),
             Err(NoMemory) => Err(MessageFault::NoMemory),
@@ -55,8 +52,9 @@ impl LeaseAsk {
 }
 
 /// The message as JSON.
-fn lease_ask_value(alloc: Global, path: &str) -> Result<Value, AllocError>
+fn lease_ask_value(alloc: Global, path: &str) -> Result<Value, NoMemory>
     ensures { IfOk result (λ value. view value ≡ object (member (codes "path") (string path.now) no_members)) }
 {
-    json!(in alloc; {"path": path})
+    let members = with_text(alloc, Map::new(alloc), "path", path)?;
+    Ok(Value::Object(members))
 }

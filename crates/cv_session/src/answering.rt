@@ -5,8 +5,8 @@ ghost use Rattle.cv_answers.specs.Refusal.{names_member};
 ghost use Rattle.cv_gate.specs.Gate.{is_plain};
 ghost use Rattle.cv_session.specs.Answers.{answer_of, refused, item_of, leases_answer, repositories_answer};
 
-use cv_answers::{Answer, LeaseItem, LeaseItems, Reason, Refusal, Texts};
-use cv_base::{Name, NoMemory, Text};
+use cv_answers::{Answer, LeaseItem, Reason, Refusal};
+use cv_base::{Items, Name, NoMemory, Text};
 use cv_gate::{LeaseLine, Reply};
 use std::alloc::Global;
 
@@ -63,7 +63,7 @@ pub fn list_leases(
     ensures { IfOk result (λ answer. answer ≡ leases_answer repository.now lines.now) }
 {
     let items = lease_items(alloc, repository.text(), lines)?;
-    Ok(Answer::Leases(LeaseItems::new(items)))
+    Ok(Answer::Leases(Items::new(items)))
 }
 
 /// The items of live leases.
@@ -103,5 +103,5 @@ pub fn list_repositories(alloc: Global, repository: &Name) -> Result<Answer, NoM
     let name = Text::from_str(alloc, repository.text())?;
     let mut names = Vec::new(alloc);
     names.push(name).map_err(|_| NoMemory)?;
-    Ok(Answer::Repos(Texts::new(names)))
+    Ok(Answer::Repos(Items::new(names)))
 }
