@@ -1,6 +1,10 @@
 #!/usr/bin/env python3
-"""Row files for the tests of cv_rows, written by the format's table alone. Run with no argument: it
-prints the texts that crates/cv_rows/src/tests.rt has."""
+"""Row files for the tests of cv_rows, written by the format's table alone.
+
+Run `python3 tools/row_vectors.py` in any folder. It prints what crates/cv_rows/src/tests.rt has: the good texts as
+constants of hex digits, and the table FAULTS. A bad text stands there as the change of a good one: the place, the good
+text, the offsets between which its bytes are others, the hex digits of these others, and the fault. To change a text or
+to add one, change `main`, paste what is printed in place of both, and run `rt fmt` in the crate's folder."""
 import hashlib
 import struct
 
@@ -18,22 +22,18 @@ def parent(path):
     return NO_KEY if path == "" else key(path.rsplit("/", 1)[0])
 
 
-def row(path, kind, content=b"", mode=None, key_=None, parent_=None, flags=None, size=None, name=None, target=None, hash_=None):
+def row(path, kind, content=b"", mode=None, key_=None, size=None, name=None, target=None):
     if mode is None:
         mode = 0o644 if kind == "file" else 0o777 if kind == "link" else 0o755
-    bits = TYPES[kind] | mode
     if target is None:
         target = content if kind == "link" else b""
     if size is None:
         size = len(content)
-    if hash_ is None:
-        hash_ = hashlib.sha1(content).digest() if kind == "file" else b""
+    hash_ = hashlib.sha1(content).digest() if kind == "file" else b""
     if name is None:
         name = path.rsplit("/", 1)[-1].encode()
     k = key(path) if key_ is None else key_
-    p = parent(path) if parent_ is None else parent_
-    f = FLAGS[kind] if flags is None else flags
-    return (k, k + p + struct.pack(">IIQIIQ", f, bits, TIME, 0, 0, size)
+    return (k, k + parent(path) + struct.pack(">IIQIIQ", FLAGS[kind], TYPES[kind] | mode, TIME, 0, 0, size)
             + bytes([len(hash_)]) + hash_ + struct.pack(">H", len(name)) + name + struct.pack(">H", len(target)) + target)
 
 
@@ -53,66 +53,90 @@ def at(data, offset, new):
 
 
 def index(rows, path):
-    return sorted(rows).index(row_of(rows, path))
+    return [r[0] for r in sorted(rows)].index(key(path))
 
 
-def row_of(rows, path):
-    return [r for r in rows if r[0] == key(path)][0]
+def change(good, bad):
+    """The offsets between which a good text has other bytes than a bad one, and the bytes of the bad one there."""
+    start = 0
+    while start < min(len(good), len(bad)) and good[start] == bad[start]:
+        start += 1
+    same = 0
+    while same < min(len(good), len(bad)) - start and good[-1 - same] == bad[-1 - same]:
+        same += 1
+    end = len(good) - same
+    new = bad[start:len(bad) - same]
+    assert good[:start] + new + good[end:] == bad
+    return start, end, new
 
 
 def main():
     root = row("", "dir")
-    empty = file([root])
-    assert len(empty) == 81
-    one = file([root, row("/a", "file", b"hello\n")])
-    assert len(one) == 171
-    linked = file([root, row("/l", "link", b"../t")])
-    inner_rows = [row("/d", "nested"), row("/d/f", "file", b"f\n"), row("/d/g", "file", b"g\n"), row("/d/.cvmfscatalog", "file")]
-    inner = file(inner_rows)
+    a = row("/a", "file", b"hello\n")
+    d = row("/d", "dir")
+    f = row("/d/f", "file", b"f\n")
+    g = row("/d/g", "file", b"g\n")
+    marker = row("/d/.cvmfscatalog", "file")
+    inner_root = row("/d", "nested")
+    inner = file([inner_root, f, g, marker])
     outer_rows = [root, row("/d", "transition")]
-    outer = file(outer_rows, [entry("/d", inner)])
-    plain_rows = [root, row("/d", "dir"), row("/d/f", "file", b"f\n"), row("/d/g", "file", b"g\n")]
-    plain = file(plain_rows)
-    good = [("EMPTY", "", empty), ("ONE", "", one), ("LINKED", "", linked), ("INNER", "/d", inner), ("OUTER", "", outer), ("PLAIN", "", plain)]
-    for name, place, data in good:
-        print(f"{name} {place!r} {len(data)} {data.hex()}")
-    marked_rows = plain_rows + [row("/d/.cvmfscatalog", "file")]
-    bare_rows = [r for r in inner_rows if r[0] != key("/d/.cvmfscatalog")]
-    moved = [root, row("/a", "file", b"hello\n", key_=bytes(16))]
-    deep = [row("" if i == 0 else "/" + "/".join(["n"] * i), "dir") for i in range(66)]
+    crossed_rows = [root, row("/a", "dir"), row("/a/x", "transition"), row("/a-b", "transition")]
+    good = {
+        "EMPTY": ("The empty tree.", file([root])),
+        "ONE": ("The root and a file `/a` of the bytes `hello` and a newline.", file([root, a])),
+        "LINKED": ("The root and a link `/l`.", file([root, row("/l", "link", b"../t")])),
+        "INNER": ("The nested catalogue of `/d`, with `f`, `g` and the marker.", inner),
+        "OUTER": ("The catalogue above it.", file(outer_rows, [entry("/d", inner)])),
+        "PLAIN": ("The catalogue of the same files without a marker.", file([root, d, f, g])),
+        "CROSSED": ("A directory `/a` with a nested catalogue `/a/x`, and one at `/a-b`, whose text stands below.",
+                    file(crossed_rows, [entry("/a-b", inner), entry("/a/x", inner)])),
+        "PRUNED": ("The same without `/a`.", file([root, crossed_rows[3]], [entry("/a-b", inner)])),
+    }
+    text = {name: data for name, (_, data) in good.items()}
+    empty, one, outer = text["EMPTY"], text["ONE"], text["OUTER"]
+    assert len(empty) == 81 and len(one) == 171
+    for name, (what, data) in good.items():
+        print(f'/// {what}\nconst {name}: &str =\n    "{data.hex()}";\n')
+    deep = "/n" * 64
+    far = row("/x/f", "file", b"f\n")
     faults = [
-        ("an empty text", "", b"", "Short"),
-        ("eleven bytes", "", empty[:11], "Short"),
-        ("the last byte lacks", "", empty[:80], "Short"),
-        ("another name of the format", "", b"CVR2" + empty[4:], "BadMagic"),
-        ("50,001 rows", "", b"CVR2" + struct.pack(">I", 50001), "TooLarge"),
-        ("flags of no kind", "", at(empty, 44, struct.pack(">I", 2)), "BadField(44)"),
-        ("a bit above the type", "", at(empty, 48, struct.pack(">I", 0o240755)), "BadField(48)"),
-        ("a directory with a size", "", at(empty, 68, struct.pack(">Q", 1)), "BadField(68)"),
-        ("a directory with a hash", "", at(empty, 76, b"\x14"), "BadField(76)"),
-        ("a name of 256 bytes", "", at(empty, 77, struct.pack(">H", 256)), "BadField(77)"),
-        ("a name with a slash", "", file([row("", "dir", name=b"/")]), "BadField(79)"),
-        ("no name below a directory", "", at(empty, 28, b"\x01"), "BadField(79)"),
-        ("a directory with a target", "", file([row("", "dir", target=b"t")]), "BadField(79)"),
-        ("a link with a longer size", "", file([row("", "link", b"t", size=2)]), "BadField(68)"),
-        ("a target with NUL", "", file([row("", "link", b"\0")]), "BadField(81)"),
-        ("a nested path with a slash at its end", "", file([root], [entry("/d/", b"")]), "BadField(83)"),
-        ("a byte more", "", empty + b"\0", "TrailingBytes"),
-        ("rows out of order", "", file([root, row("/a", "file", b"hello\n")], sort=False), "Order(1)"),
-        ("an entry twice", "", file(outer_rows, [entry("/d", inner)] * 2), "Order(3)"),
-        ("no rows", "", file([]), "Orphan(0)"),
-        ("a root row of another key", "", at(empty, 12, b"\0"), "Orphan(0)"),
-        ("a file in no directory", "", file([root, row("/x/f", "file", b"f\n")]), f"Orphan({index([root, row('/x/f', 'file', b'f' + bytes([10]))], '/x/f')})"),
-        ("a key of another path", "", file(moved), "BadKey(0)"),
-        ("a path of 65 names", "", file(deep), f"BadKey({index(deep, '/' + '/'.join(['n'] * 65))})"),
-        ("a root row of another name", "/d", file([row("/d", "nested", name=b"e")] + inner_rows[1:]), f"BadKey({index(inner_rows, '/d')})"),
-        ("a marked directory", "", file(marked_rows), f"Marker({index(marked_rows, '/d')})"),
-        ("a nested root without a marker", "/d", file(bare_rows), f"Marker({index(bare_rows, '/d')})"),
-        ("an entry of a plain directory", "", file(plain_rows, [entry("/d", inner)]), "NestedList(0)"),
-        ("a transition without an entry", "", file(outer_rows), "NestedList(0)"),
+        ("an empty text", "", "EMPTY", b"", "Short"),
+        ("eleven bytes", "", "EMPTY", empty[:11], "Short"),
+        ("the last byte lacks", "", "EMPTY", empty[:80], "Short"),
+        ("another name of the format", "", "EMPTY", at(empty, 3, b"2"), "BadMagic"),
+        ("50,001 rows", "", "EMPTY", b"CVR2" + struct.pack(">I", 50001), "TooLarge"),
+        ("flags of no kind", "", "EMPTY", at(empty, 44, struct.pack(">I", 2)), "BadField(44)"),
+        ("a bit above the type", "", "EMPTY", at(empty, 48, struct.pack(">I", 0o240755)), "BadField(48)"),
+        ("a directory with a size", "", "EMPTY", at(empty, 68, struct.pack(">Q", 1)), "BadField(68)"),
+        ("a directory with a hash", "", "EMPTY", at(empty, 76, b"\x14"), "BadField(76)"),
+        ("a name of 256 bytes", "", "EMPTY", at(empty, 77, struct.pack(">H", 256)), "BadField(77)"),
+        ("a name with a slash", "", "EMPTY", file([row("", "dir", name=b"/")]), "BadField(79)"),
+        ("no name below a directory", "", "EMPTY", at(empty, 28, b"\x01"), "BadField(79)"),
+        ("a directory with a target", "", "EMPTY", file([row("", "dir", target=b"t")]), "BadField(79)"),
+        ("a link with a longer size", "", "EMPTY", file([row("", "link", b"t", size=2)]), "BadField(68)"),
+        ("a target with NUL", "", "EMPTY", file([row("", "link", b"\0")]), "BadField(81)"),
+        ("a nested path with a slash at its end", "", "EMPTY", file([root], [entry("/d/", b"")]), "BadField(83)"),
+        ("a byte more", "", "EMPTY", empty + b"\0", "TrailingBytes"),
+        ("rows out of order", "", "ONE", file([root, a], sort=False), "Order(1)"),
+        ("an entry twice", "", "CROSSED", file(crossed_rows, [entry("/a-b", inner)] * 2), "Order(5)"),
+        ("no rows", "", "EMPTY", file([]), "Orphan(0)"),
+        ("a root row of another key", "", "EMPTY", at(empty, 12, b"\0"), "Orphan(0)"),
+        ("a file in no directory", "", "ONE", file([root, far]), f"Orphan({index([root, far], '/x/f')})"),
+        ("a key of another path", "", "ONE", file([root, row("/a", "file", b"hello\n", key_=bytes(16))]), "BadKey(0)"),
+        ("a path of 65 names", deep, "EMPTY", file([row(deep, "nested"), row(deep + "/.cvmfscatalog", "file")]),
+         f"BadKey({index([row(deep, 'nested'), row(deep + '/.cvmfscatalog', 'file')], deep + '/.cvmfscatalog')})"),
+        ("a root row of another name", "/d", "INNER", file([row("/d", "nested", name=b"e"), f, g, marker]),
+         f"BadKey({index([inner_root, f, g, marker], '/d')})"),
+        ("a marked directory", "", "PLAIN", file([root, d, f, marker]), f"Marker({index([root, d, f, marker], '/d')})"),
+        ("a nested root without a marker", "/d", "INNER", file([inner_root, f, g]), f"Marker({index([inner_root, f, g], '/d')})"),
+        ("an entry of a plain directory", "", "OUTER", file([root, d], [entry("/d", inner)]), "NestedList(0)"),
+        ("a transition without an entry", "", "OUTER", file(outer_rows), "NestedList(0)"),
     ]
-    for what, place, data, fault in faults:
-        print(f"FAULT {what} | {place} | {fault} | {data.hex()}")
+    print(f"const FAULTS: [Change; {len(faults)}] = [")
+    for what, place, name, bad, fault in faults:
+        start, end, new = change(text[name], bad)
+        print(f'    // {what}\n    ("{place}", Good::{name.capitalize()}, {start}, {end}, "{new.hex()}", RowFault::{fault}),')
+    print("];")
 
 
 if __name__ == "__main__":

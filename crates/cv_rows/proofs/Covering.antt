@@ -7,7 +7,7 @@ use Rattle.std.proofs.lemmas.Slice.Eq.{bytes_eq-Decides}
 use Rattle.cv_base.specs.Path.{Path, covers}
 use Rattle.cv_rows.specs.Catalogue.{row_cmp}
 use Rattle.cv_rows.specs.Faults.{AllFit}
-use Rattle.cv_rows.specs.Parents.{IsPathOf, is_covered}
+use Rattle.cv_rows.specs.Parents.{HasPath, is_covered}
 use Rattle.cv_rows.specs.Places.{StandsAt}
 use Rattle.cv_rows.specs.declared.row.Row.{Row}
 use Rattle.cv_rows.proofs.NestedLaws.{fits_there}
@@ -20,12 +20,9 @@ pub record AreKnown (at : Path) (rows : List Row) (path : Path) (i : ℕ) (knows
   pub above : (k : ℕ) (d : Row) → i ≤ k → k < length rows → knows (get_or rows k d).key.0 ≡ false
 
 -- what the code tells of a row
-pub covered_is : (at : Path) (rows : List Row) (path : Path) (i left : ℕ) (found : Option Path) → IsStrictlySortedBy row_cmp rows → AllFit at rows → 64 ≤ length at + left → IsPathOf at rows i left found → (d : Row) (q : Path) → StandsAt at rows (get_or rows i d) q → is_covered path found ≡ covers path q
-covered_is at rows path i left None sorted fit enough has d q s =
-    let fits = fits_there at rows (get_or rows i d) q sorted fit s in
-    let long = has d q s fits.path in
-    absurd (omega (arith, fits.path.depth))
-covered_is at rows path i left (Some p) sorted fit enough has d q s = ap (covers path) (one_place sorted (has.1 d) s)
+pub covered_is : (at : Path) (rows : List Row) (path : Path) (i : ℕ) (found : Option Path) → IsStrictlySortedBy row_cmp rows → AllFit at rows → HasPath at rows i found → (d : Row) (q : Path) → StandsAt at rows (get_or rows i d) q → is_covered path found ≡ covers path q
+covered_is at rows path i None sorted fit has d q s = absurd (has d q s (fits_there at rows (get_or rows i d) q sorted fit s).path)
+covered_is at rows path i (Some p) sorted fit has d q s = ap (covers path) (one_place sorted (has.1 d) s)
 
 other_key : (rows : List Row) (i k : ℕ) (d : Row) → IsStrictlySortedBy row_cmp rows → i < length rows → k < length rows → k ≢ i → bytes_eq (get_or rows i d).key.0 (get_or rows k d).key.0 ≡ false
 other_key rows i k d sorted li lk apart =

@@ -38,9 +38,6 @@ module _ {X : Type 0} (p : X → Bool) where
   pub was_there : (xs : List X) (x : X) → Contains (filter p xs) x → Contains xs x
   was_there xs x has = All-contains (Contains xs) (filter p xs) x (All-filter p (Contains xs) xs (All-contains_itself xs)) has
 
-  pub passes_there : (xs : List X) (x : X) → Contains (filter p xs) x → p x ≡ true
-  passes_there xs x has = All-contains (λ y. p y ≡ true) (filter p xs) x (filter_passes p xs) has
-
   -- what holds of the elements that pass
   all_kept : (P Q : X → Type 0) (xs : List X) → All P xs → ((x : X) → Contains xs x → p x ≡ true → P x → Q x) → All Q (filter p xs)
   all_kept P Q xs all so = λ k d lt.

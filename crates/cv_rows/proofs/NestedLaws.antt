@@ -1,5 +1,5 @@
 -- Nested entries and Transition rows.
-use Rattle.std.proofs.Common.{◌≡◌, ◌≢◌, ℕ, ◌+◌, ◌<◌, ◌≤◌, Bool, true, false, ◌&&◌, ◌||◌, zero, suc, List, [], ◌∷◌, length, get_or, Option, Some, None, refl, sym, ap, subst, ◌∙◌, arith, MatchBool}
+use Rattle.std.proofs.Common.{◌≡◌, ◌≢◌, ℕ, ◌+◌, ◌<◌, Bool, true, false, ◌&&◌, ◌||◌, zero, suc, List, [], ◌∷◌, length, get_or, Option, Some, None, refl, sym, ap, subst, ◌∙◌, arith, MatchBool}
 use Rattle.std.specs.Prelude.{Contains, bytes_eq}
 use Rattle.std.specs.List.{HoldsAt, All, list_any}
 use Rattle.std.specs.List.Sorted.{IsStrictlySortedBy}
@@ -10,7 +10,7 @@ use Rattle.std.specs.Cmp.{tied_itself}
 use Rattle.std.specs.Ordering.{is_eq}
 use Rattle.cv_rows.specs.Row.{same_kind}
 use Rattle.cv_rows.specs.Places.{StandsAt}
-use Rattle.cv_rows.specs.Parents.{IsPlacing, IsPathOf}
+use Rattle.cv_rows.specs.Parents.{IsPlacing, HasPath}
 use Rattle.cv_rows.specs.Catalogue.{row_cmp, FitsAt, IsTransitionAt, IsListed}
 use Rattle.cv_rows.specs.Faults.{AllFit}
 use Rattle.cv_rows.specs.NestedList.{is_transition, has_key, HasNested}
@@ -51,25 +51,25 @@ no_transition at rows path key sorted fit key-is none t =
     none t.row (stands_contained t.stands) ((fits_there at rows t.row path sorted fit t.stands).key ∙ sym key-is)
 
 -- the row with the key of the path is its Transition row, or there is none
-pub transition_is : (at : Path) (rows : List Row) (top : ℕ) (parents : List ℕ) (i left : ℕ) (r : Row) (path : Path) (key : List ℕ) (found : Option Path) → IsPlacing at rows top parents → AllFit at rows → 64 ≤ length at + left → i < length rows
-    → r ≡ get_or rows i r → key ≡ key_of path → HoldsAt (λ x. x.key.0 ≡ key) rows i → IsPathOf at rows i left found → (is : Bool) → is ≡ is_transition r found path → MatchBool is (IsTransitionAt at rows path) (IsTransitionAt at rows path → ⊥)
-transition_is at rows top parents i left r path key found placing fit enough lt r-is key-is holds has true is = is_one found has is
+pub transition_is : (at : Path) (rows : List Row) (top : ℕ) (parents : List ℕ) (i : ℕ) (r : Row) (path : Path) (key : List ℕ) (found : Option Path) → IsPlacing at rows top parents → AllFit at rows → i < length rows
+    → r ≡ get_or rows i r → key ≡ key_of path → HoldsAt (λ x. x.key.0 ≡ key) rows i → HasPath at rows i found → (is : Bool) → is ≡ is_transition r found path → MatchBool is (IsTransitionAt at rows path) (IsTransitionAt at rows path → ⊥)
+transition_is at rows top parents i r path key found placing fit lt r-is key-is holds has true is = is_one found has is
   where
-    is_one : (found : Option Path) → IsPathOf at rows i left found → true ≡ is_transition r found path → IsTransitionAt at rows path
+    is_one : (found : Option Path) → HasPath at rows i found → true ≡ is_transition r found path → IsTransitionAt at rows path
     is_one None has is = absurd cc
     is_one (Some q) has is =
         let kind = transition_kind r.kind (first_true (same_kind r.kind Transition) (same_path q path) (sym is)) in
         let same : q ≡ path = same_path_is q path (second_true (same_kind r.kind Transition) (same_path q path) (sym is)) in
         record { row = r; kind = kind; stands = subst (λ (x : Row). StandsAt at rows x path) (sym r-is) (subst (λ (p : Path). StandsAt at rows (get_or rows i r) p) same (has.1 r)) }
-transition_is at rows top parents i left r path key found placing fit enough lt r-is key-is holds has false is = λ t.
+transition_is at rows top parents i r path key found placing fit lt r-is key-is holds has false is = λ t.
     let fits = fits_there at rows t.row path placing.ordered fit t.stands in
     let same : get_or rows i r ≡ t.row = same_row rows i r t.row placing.ordered lt (stands_contained t.stands) (holds r ∙ key-is ∙ sym fits.key) in
     let stands : StandsAt at rows (get_or rows i r) path = subst (λ (x : Row). StandsAt at rows x path) (sym same) t.stands in
     let kind : r.kind ≡ Transition = ap (λ (x : Row). x.kind) (r-is ∙ same) ∙ t.kind in
     not_one found has stands fits.path kind is
   where
-    not_one : (found : Option Path) → IsPathOf at rows i left found → StandsAt at rows (get_or rows i r) path → IsPath path → r.kind ≡ Transition → false ≡ is_transition r found path → ⊥
-    not_one None has stands is_path kind is = let long = has r path stands is_path in omega (arith, is_path.depth)
+    not_one : (found : Option Path) → HasPath at rows i found → StandsAt at rows (get_or rows i r) path → IsPath path → r.kind ≡ Transition → false ≡ is_transition r found path → ⊥
+    not_one None has stands is_path kind is = has r path stands is_path
     not_one (Some q) has stands is_path kind is =
         let same : path ≡ q = one_place placing.ordered stands (has.1 r) in
         let first : same_kind r.kind Transition ≡ true = ap (λ (k : RowKind). same_kind k Transition) kind in

@@ -1,5 +1,5 @@
 -- A catalogue breaks no rule, and what breaks none is one.
-use Rattle.std.proofs.Common.{◌≡◌, ℕ, ◌-◌, ◌<◌, ◌≤◌, List, [], ◌∷◌, length, get_or, Result, Ok, Err, Option, Some, None, MatchOption, refl, sym, ap, subst, ◌∙◌, arith, inl, inr}
+use Rattle.std.proofs.Common.{◌≡◌, ℕ, ◌-◌, ◌<◌, ◌≤◌, List, [], ◌∷◌, length, get_or, Result, Ok, Err, sym, ap, subst, ◌∙◌, arith, inl, inr}
 use Rattle.std.specs.Prelude.{Contains}
 use Rattle.std.specs.declared.cmp.Ordering.{Ordering}
 use Rattle.std.specs.List.{HoldsAt, All}
@@ -11,7 +11,7 @@ use Rattle.cv_base.specs.Path.{Path, IsPath}
 use Rattle.cv_rows.specs.Places.{IsRoot, StandsAt, root}
 use Rattle.cv_rows.specs.Catalogue.{Contents, IsCatalogue, IsUnlessMemory, IsMarkedWell, IsTransitionAt, IsListed, row_cmp, nested_cmp, file_of, catalogue_bytes}
 use Rattle.cv_rows.specs.Faults.{IsFirst, IsFirstDisorder, IsFirstOrphan, IsMisplaced, AreOrdered, AllStand, AllFit, IsRuleFault, IsFaultOf, IsFirstFault, KeepsRules}
-use Rattle.cv_rows.specs.Reading.{Entries, Fails, entries_of}
+use Rattle.cv_rows.specs.Reading.{Entries, entries_of}
 use Rattle.cv_rows.specs.declared.row.Row.{Row}
 use Rattle.cv_rows.specs.declared.nested.Nested.{Nested}
 use Rattle.cv_rows.specs.declared.row_fault.RowFault.{RowFault}
@@ -141,34 +141,11 @@ only_catalogue c bytes at rows nested reads is place spelled =
     let both : x ≡ y = ok_is x y (sym reads ∙ catalogue_reads c bytes is spelled) in
     ap (λ (e : Entries). contents at e.0 e.1) both ∙ ap (λ (p : Path). contents p c.rows c.nested) (sym place)
 
--- a fault of a field is the first
-pub field_fault : (bytes : List ℕ) (at : Path) (fault : RowFault) → Fails fault (entries_of bytes) → IsFirstFault bytes at fault
-field_fault bytes at NoMemory h = tt
-field_fault bytes at Short h = rw h refl
-field_fault bytes at BadMagic h = rw h refl
-field_fault bytes at (BadField i) h = rw h refl
-field_fault bytes at (Order i) h = rw h refl
-field_fault bytes at (BadKey i) h = rw h refl
-field_fault bytes at (Orphan i) h = rw h refl
-field_fault bytes at (Marker i) h = rw h refl
-field_fault bytes at (NestedList i) h = rw h refl
-field_fault bytes at TrailingBytes h = rw h refl
-field_fault bytes at TooLarge h = rw h refl
-
 -- the root row is there
 pub root_there : (at : Path) (rows : List Row) (top : ℕ) → top < length rows → HoldsAt (IsRoot at) rows top → (r : Row) × Contains rows r × IsRoot at r
 root_there at rows top lt is = let d = some_element rows top lt in (get_or rows top d, Contains-get_or rows top d lt, is d)
 
--- what a search says where it found nothing, and where it found something
-pub none_of : (A : Type 0) (B : ℕ → Type 0) (found : Option ℕ) → found ≡ None → MatchOption found A B → A
-none_of A B found is h = subst (λ (o : Option ℕ). MatchOption o A B) is h
-
-pub some_of : (A : Type 0) (B : ℕ → Type 0) (found : Option ℕ) (i : ℕ) → found ≡ Some i → MatchOption found A B → B i
-some_of A B found i is h = subst (λ (o : Option ℕ). MatchOption o A B) is h
-
-abbrev pub Stand : Path → List Row → Type 0
-Stand at rows = All (λ r. (q : Path) × StandsAt at rows r q) rows
-
+-- the index of the root row and the parents place rows in order
 pub placing : (at : Path) (rows : List Row) (nested : List Nested) (top : ℕ) (parents items : List ℕ) → AreOrdered rows nested → top < length rows → HoldsAt (IsRoot at) rows top → AreParents rows top items → parents ≡ items → IsPlacing at rows top parents
 placing at rows nested top parents items ordered inside is_root are same = record {
   ordered = ordered.0;
@@ -177,7 +154,7 @@ placing at rows nested top parents items ordered inside is_root are same = recor
   are = subst (λ (ps : List ℕ). AreParents rows top ps) (sym same) are;
 }
 
-pub all_stand : (at : Path) (rows : List Row) (top : ℕ) → top < length rows → HoldsAt (IsRoot at) rows top → Stand at rows → AllStand at rows
+pub all_stand : (at : Path) (rows : List Row) (top : ℕ) → top < length rows → HoldsAt (IsRoot at) rows top → All (λ r. (q : Path) × StandsAt at rows r q) rows → AllStand at rows
 all_stand at rows top lt is stand = record { root = root_there at rows top lt is; each = stand }
 
 -- a Transition row whose key no nested entry has, has none

@@ -6,7 +6,7 @@ use Rattle.std.specs.List.{AllByRecursion, list_any}
 use Rattle.std.specs.List.Sorted.{IsPermutation, IsStrictlySortedBy}
 use Rattle.std.proofs.lemmas.List.Elements.{Contains-append_left, Contains-append_right, Contains-append_cases, Contains-get_or}
 use Rattle.std.proofs.lemmas.List.Folds.{Any-from_list_any, list_any_at, list_any_none}
-use Rattle.std.proofs.lemmas.List.Sorted.{IsPermutation-map, IsPermutation-sym, IsPermutation-filter_both, Contains-permutation}
+use Rattle.std.proofs.lemmas.List.Sorted.{IsPermutation-map, IsPermutation-refl, IsPermutation-sym, IsPermutation-filter_both, Contains-permutation}
 use Rattle.std.proofs.lemmas.Map.Keys.{IsDistinct-from_sorted}
 use Rattle.std.proofs.lemmas.Slice.Eq.{bytes_eq-Decides}
 use Rattle.cv_base.specs.Path.{Path, text_of, covers}
@@ -103,3 +103,14 @@ parts_again c left path at rows more nested more_nested is w same there back res
     let left_is : left.nested ≡ filter stay nested = w.nested ∙ ap (λ (x : Contents). filter stay x.nested) same in
     subst (λ (p : Path). AreParts p (left.rows ++ more) (left.nested ++ more_nested)) (sym (w.at ∙ ap (λ (x : Contents). x.at) same))
     (subst (λ (n : List Nested). AreParts at (left.rows ++ more) n) (λ i. sym left_is i ++ sym rest i) parts)
+
+-- the rows of a catalogue and some of them once more, with its nested entries, are its parts, but that keys are equal
+pub parts_more : (c : Contents) (at : Path) (p : Row → Bool) (rows more all : List Row) (nested all_nested : List Nested) → IsCatalogue c → c ≡ record { at = at; rows = rows; nested = nested } → more ≡ filter p c.rows → all ≡ rows ++ more → all_nested ≡ nested → AreParts at all all_nested
+parts_more c at p rows more all nested all_nested is same some all_is nested_is =
+    let whole : IsCatalogue (record { at = at; rows = rows; nested = nested }) = subst (λ (x : Contents). IsCatalogue x) same is in
+    let there : (r : Row) → Contains more r → Contains rows r = λ r has. subst (λ (x : Contents). Contains x.rows r) same (was_there p c.rows r (subst (λ (x : List Row). Contains x r) some has)) in
+    let parts : AreParts at (rows ++ more) nested = record {
+      region = region_moved at rows (rows ++ more) nested nested (λ r has. Contains-append_left rows more r has) (λ r has. elim (Contains-append_cases rows more r has) [ inl here ↦ here | inr again ↦ there r again ]) (λ n has. has) (λ n has. has) whole.region;
+      apart = texts_apart nested nested whole.nested_ordered (IsPermutation-refl nested);
+    } in
+    subst (λ (x : List Row). AreParts at x all_nested) (sym all_is) (subst (λ (x : List Nested). AreParts at (rows ++ more) x) (sym nested_is) parts)

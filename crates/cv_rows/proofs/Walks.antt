@@ -12,7 +12,7 @@ use Rattle.cv_base.specs.declared.path_fault.PathFault.TheVariants.{BadName, Too
 use Rattle.cv_rows.specs.Catalogue.{row_cmp, FitsAt}
 use Rattle.cv_rows.specs.Faults.{IsFirst, IsOrphan, IsMisplaced}
 use Rattle.cv_rows.specs.Places.{IsRoot, IsChild, StandsAt, root_name, root, below}
-use Rattle.cv_rows.specs.Parents.{step, times, AreAbove, IsPlacing, IsPathOf, IsBelow}
+use Rattle.cv_rows.specs.Parents.{step, times, AreAbove, IsPlacing, IsPathOf, HasPath, IsBelow}
 use Rattle.cv_rows.specs.declared.row.Row.{Row}
 use Rattle.cv_rows.proofs.Sorting.{same_row}
 use Rattle.cv_rows.proofs.PlaceLaws.{stands_contained, one_place, root_index, stands_above, orphan}
@@ -154,6 +154,15 @@ pub if_below : {E : Type 0} (at : Path) (rows : List Row) (top : ℕ) (parents :
 if_below at rows top parents i left r placing stand lt apart r-is above has (Ok found) is = above_some at rows top parents i left r placing stand lt apart r-is above has found is
 if_below at rows top parents i left r placing stand lt apart r-is above has (Err e) is = tt
 
+-- as many names as a path may have are left
+has_path : (at : Path) (rows : List Row) (i left : ℕ) (found : Option Path) → 64 ≤ length at + left → IsPathOf at rows i left found → HasPath at rows i found
+has_path at rows i left None enough none = λ d q s is. omega (arith, none d q s is, is.depth)
+has_path at rows i left (Some path) enough has = has
+
+pub if_path : {E : Type 0} (at : Path) (rows : List Row) (i left : ℕ) (result : Result (Option Path) E) → 64 ≤ length at + left → IfOk result (IsPathOf at rows i left) → IfOk result (HasPath at rows i)
+if_path at rows i left (Ok found) enough is = has_path at rows i left found enough is
+if_path at rows i left (Err e) enough is = tt
+
 -- the last name of a place
 pub root_name-last : (at names : Path) (last : List ℕ) → names ≡ at → Some last ≡ slice_get names (length names - 1) → last ≡ root_name at
 root_name-last at names last same is = subst (λ (p : Path). last ≡ root_name p) same (at_last names last is)
@@ -190,20 +199,20 @@ all_stand_is at rows top parents far n placing above before all = λ j d lj.
 abbrev Fits : Path → Row → Path → Type 0
 Fits at r q = (r.key.0 ≡ key_of q) × (IsRoot at r → r.name ≡ root_name at)
 
-pub row_fits : (at : Path) (rows : List Row) (i left : ℕ) (r : Row) (found : Option Path) (result : Bool) → i < length rows → r ≡ get_or rows i r → IsPathOf at rows i left found → MatchOption found (result ≡ false) (λ path. IsTrue result ↔ Fits at r path) → result ≡ true
+pub row_fits : (at : Path) (rows : List Row) (i : ℕ) (r : Row) (found : Option Path) (result : Bool) → i < length rows → r ≡ get_or rows i r → HasPath at rows i found → MatchOption found (result ≡ false) (λ path. IsTrue result ↔ Fits at r path) → result ≡ true
     → (d : Row) → (q : Path) × StandsAt at rows (get_or rows i d) q × FitsAt at (get_or rows i d) q
-row_fits at rows i left r None result lt r-is has tells passed d = absurd cc
-row_fits at rows i left r (Some path) result lt r-is has tells passed d =
+row_fits at rows i r None result lt r-is has tells passed d = absurd cc
+row_fits at rows i r (Some path) result lt r-is has tells passed d =
     let fits = tells.0 passed in
     let same : r ≡ get_or rows i d = r-is ∙ get_or_default rows i r d lt in
     (path, has.1 d, subst (λ (x : Row). FitsAt at x path) same (record { key = fits.0; path = has.0; name = fits.1 }))
 
-pub row_misplaced : (at : Path) (rows : List Row) (i left : ℕ) (r : Row) (found : Option Path) (result : Bool) → i < length rows → All (λ r. (q : Path) × StandsAt at rows r q) rows → 64 ≤ length at + left → r ≡ get_or rows i r → IsPathOf at rows i left found
+pub row_misplaced : (at : Path) (rows : List Row) (i : ℕ) (r : Row) (found : Option Path) (result : Bool) → i < length rows → All (λ r. (q : Path) × StandsAt at rows r q) rows → r ≡ get_or rows i r → HasPath at rows i found
     → MatchOption found (result ≡ false) (λ path. IsTrue result ↔ Fits at r path) → result ≡ false → (d : Row) → IsMisplaced at rows (get_or rows i d)
-row_misplaced at rows i left r None result lt stand enough r-is has tells no_fit d =
+row_misplaced at rows i r None result lt stand r-is has tells no_fit d =
     let s = stand i d lt in
-    (s.0, s.1, λ fit. let long = has d s.0 s.1 fit.path in omega (arith, fit.path.depth))
-row_misplaced at rows i left r (Some path) result lt stand enough r-is has tells no_fit d =
+    (s.0, s.1, λ fit. has d s.0 s.1 fit.path)
+row_misplaced at rows i r (Some path) result lt stand r-is has tells no_fit d =
     let same : get_or rows i d ≡ r = sym (r-is ∙ get_or_default rows i r d lt) in (
       path,
       has.1 d,

@@ -50,6 +50,11 @@ abbrev pub IsPathOf : Path → List Row → ℕ → ℕ → Option Path → Type
 IsPathOf at rows i left None = (d : Row) (q : Path) → StandsAt at rows (slice_index_or rows i d) q → IsPath q → length at + left < length q
 IsPathOf at rows i left (Some path) = IsPath path × ((d : Row) → StandsAt at rows (slice_index_or rows i d) path)
 
+-- what is found of the path of the row at an index: none where it passes the limits of a path
+abbrev pub HasPath : Path → List Row → ℕ → Option Path → Type 0
+HasPath at rows i None = (d : Row) (q : Path) → StandsAt at rows (slice_index_or rows i d) q → IsPath q → ⊥
+HasPath at rows i (Some path) = IsPath path × ((d : Row) → StandsAt at rows (slice_index_or rows i d) path)
+
 -- a path with one more name, unless that passes a limit
 abbrev pub IsBelow : Path → List ℕ → Option Path → Type 0
 IsBelow above name None = IsPath (above ++ name ∷ []) → ⊥

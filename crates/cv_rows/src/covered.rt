@@ -13,7 +13,7 @@ ghost use Rattle.cv_rows.specs.declared.row.Row.{Row as TheRow};
 
 use crate::keys::add;
 use crate::nested::Nested;
-use crate::places::{MAX_NAMES, parents, path_of_row, root_position};
+use crate::places::{parents, path_of_row, root_position};
 use crate::row::Row;
 use cv_base::{NoMemory, RepoPath};
 use std::alloc::Global;
@@ -47,10 +47,9 @@ pub fn covered_keys(
         unreachable!("a catalogue has a root row");
     };
     let above = parents(alloc, rows, root)?;
-    let left = MAX_NAMES - at.names().len();
     let mut keys = BTreeSet::new(alloc);
     for row in 0..rows.len() {
-        let found = path_of_row(alloc, at, rows, root, &above, row, left)?;
+        let found = path_of_row(alloc, at, rows, root, &above, row)?;
         if is_covered(path, &found) {
             add(&mut keys, rows[row].key.0)?;
         }

@@ -12,7 +12,7 @@ ghost use Rattle.cv_rows.specs.NestedList.{is_transition, has_key, HasNested, Is
 
 use crate::keys::add;
 use crate::nested::Nested;
-use crate::places::{MAX_NAMES, path_of_row, position};
+use crate::places::{path_of_row, position};
 use crate::row::Row;
 use crate::row_kind::RowKind;
 use cv_base::{NoMemory, RepoPath};
@@ -43,11 +43,10 @@ fn is_transition_at(
     requires fit { AllFit at.now rows.now }
     ensures { IfOk result (λ is. MatchBool is (IsTransitionAt at.now rows.now path.now) (IsTransitionAt at.now rows.now path.now → ⊥)) }
 {
-    let left = MAX_NAMES - at.names().len();
     let Some(row) = position(rows, &path.key().0) else {
         return Ok(false);
     };
-    let found = path_of_row(alloc, at, rows, root, parents, row, left)?;
+    let found = path_of_row(alloc, at, rows, root, parents, row)?;
     Ok(is_transition(&rows[row], &found, path))
 }
 

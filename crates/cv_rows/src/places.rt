@@ -2,48 +2,25 @@
 ghost use Rattle.std.specs.Prelude.{◌≡◌, ◌≢◌, ℕ, ◌+◌, ◌<◌, ◌≤◌, ◌↔◌, false, None, List, length, IsTrue, IfOk, MatchOption, Contains};
 ghost use Rattle.std.specs.List.{HoldsAt, All};
 ghost use Rattle.std.specs.List.Sorted.{IsStrictlySortedBy};
-ghost use Rattle.md5.specs.Md5.{md5};
-ghost use Rattle.cv_base.specs.Path.{text_of, key_of, IsPath};
+ghost use Rattle.cv_base.specs.Path.{key_of, IsPath};
 ghost use Rattle.cv_rows.specs.Catalogue.{row_cmp};
-ghost use Rattle.cv_rows.specs.Places.{IsRoot, IsChild, StandsAt, root_parent, root_name};
-ghost use Rattle.cv_rows.specs.Parents.{IsParentOf, AreParents, AreAbove, AreInside, IsPlacing, IsPathOf, IsBelow};
+ghost use Rattle.cv_rows.specs.Places.{IsRoot, IsChild, StandsAt, root_name};
+ghost use Rattle.cv_rows.specs.Parents.{IsParentOf, AreParents, AreAbove, AreInside, IsPlacing, IsPathOf, HasPath, IsBelow};
 ghost use Rattle.cv_rows.specs.Faults.{IsFirst, IsOrphan, IsMisplaced, AllFit};
 ghost use Rattle.cv_base.specs.declared.path_fault.PathFault.TheVariants as faults;
 ghost use Rattle.cv_rows.specs.declared.row.Row.{Row as TheRow};
 
+use crate::path_fields::{last_name, parent_key};
 use crate::row::Row;
 use crate::row_kind::RowKind;
-use cv_base::{NoMemory, PathFault, PathName, RepoPath};
-use md5::{Digest, Md5};
+use cv_base::{NoMemory, PathFault, RepoPath};
 use std::alloc::Global;
 
 /// So many doublings make 65,536 steps, which are more than there are rows.
 const DOUBLINGS: u32 = 16;
 
 /// The most names of a path.
-pub const MAX_NAMES: usize = 64;
-
-/// The key of the path of these names.
-fn key_of_names(names: &[PathName]) -> [u8; 16]
-    ensures { result ≡ md5 (text_of names.now) }
-{
-    let mut hasher = Md5::new();
-    for name in names {
-        hasher.update("/");
-        hasher.update(name.as_str());
-    }
-    hasher.finalize()
-}
-
-/// The parent key of the root row of the catalogue at a place.
-fn root_parent(at: &RepoPath) -> [u8; 16]
-    ensures { result ≡ root_parent at.now }
-{
-    match at.names() {
-        [] => [0; 16],
-        [above @ .., _] => key_of_names(above),
-    }
-}
+const MAX_NAMES: usize = 64;
 
 /// Whether a row has the key, the kind and the parent key of the root row of the catalogue at a place.
 pub fn is_root(at: &RepoPath, row: &Row) -> bool
@@ -54,7 +31,7 @@ pub fn is_root(at: &RepoPath, row: &Row) -> bool
         RowKind::NestedRoot => !at.names().is_empty(),
         _ => false,
     };
-    is_kind && row.key.0 == at.key().0 && row.parent.0 == root_parent(at)
+    is_kind && row.key.0 == at.key().0 && row.parent.0 == parent_key(at).0
 }
 
 /// The key of a row.
@@ -178,7 +155,7 @@ pub fn first_orphan(
 
 /// The path at which a row stands, unless it passes the limits of a path. Then it has more than `left`
 /// names behind those of the catalogue's place.
-pub fn path_of_row(
+fn path_within(
     alloc: Global,
     at: &RepoPath,
     rows: &[Row],
@@ -199,11 +176,29 @@ pub fn path_of_row(
     if left == 0 {
         return Ok(None);
     }
-    let above = path_of_row(alloc, at, rows, root, parents, parents[row], left - 1)?;
+    let above = path_within(alloc, at, rows, root, parents, parents[row], left - 1)?;
     match above {
         Some(above) => below(alloc, &above, rows[row].name.text()),
         None => Ok(None),
     }
+}
+
+/// The path at which a row stands, unless it passes the limits of a path.
+pub fn path_of_row(
+    alloc: Global,
+    at: &RepoPath,
+    rows: &[Row],
+    root: usize,
+    parents: &[usize],
+    row: usize,
+) -> Result<Option<RepoPath>, NoMemory>
+    requires placing { IsPlacing at.now rows.now root parents.now }
+    requires stand { All (λ r. (q : List (List ℕ)) × StandsAt at.now rows.now r q) rows.now }
+    requires row { row < length rows.now }
+    ensures { IfOk result (HasPath at.now rows.now row) }
+{
+    let left = MAX_NAMES - at.names().len();
+    path_within(alloc, at, rows, root, parents, row, left)
 }
 
 /// No path where a name breaks the limits of a path.
@@ -226,21 +221,11 @@ fn below(alloc: Global, above: &RepoPath, name: &str) -> Result<Option<RepoPath>
     }
 }
 
-/// The name of the root row of the catalogue at a place.
-fn root_name(at: &RepoPath) -> &str
-    ensures { result.now ≡ root_name at.now }
-{
-    match at.names().last() {
-        Some(last) => last.as_str(),
-        None => "",
-    }
-}
-
 /// Whether a row fits the path at which it stands.
 fn fits(at: &RepoPath, row: &Row, path: &RepoPath) -> bool
     ensures { IsTrue result ↔ ((row.now.key.0 ≡ key_of path.now) × (IsRoot at.now row.now → row.now.name ≡ root_name at.now)) }
 {
-    row.key.0 == path.key().0 && (!is_root(at, row) || row.name.text() == root_name(at))
+    row.key.0 == path.key().0 && (!is_root(at, row) || row.name.text() == last_name(at))
 }
 
 /// Whether a row fits the path at which it stands, if it passes no limit.
@@ -265,9 +250,8 @@ pub fn first_misplaced(
     requires stand { All (λ r. (q : List (List ℕ)) × StandsAt at.now rows.now r q) rows.now }
     ensures { IfOk result (λ found. MatchOption found (AllFit at.now rows.now) (IsFirst (IsMisplaced at.now rows.now) rows.now)) }
 {
-    let left = MAX_NAMES - at.names().len();
     for row in 0..rows.len() {
-        let path = path_of_row(alloc, at, rows, root, parents, row, left)?;
+        let path = path_of_row(alloc, at, rows, root, parents, row)?;
         if !fits_if_any(at, &rows[row], &path) {
             return Ok(Some(row));
         }

@@ -1,8 +1,10 @@
 //! The rules that rows and nested entries keep, and the first that is broken.
 ghost use Rattle.std.specs.Prelude.{◌≡◌, ℕ, ◌<◌, ◌≤◌, List, Ok, length, MatchResult};
-ghost use Rattle.std.specs.List.{HoldsAt};
+ghost use Rattle.std.specs.List.{HoldsAt, All};
+ghost use Rattle.cv_rows.specs.Catalogue.{IsMarkedWell};
 ghost use Rattle.cv_rows.specs.Places.{IsRoot};
-ghost use Rattle.cv_rows.specs.Faults.{AreOrdered, IsRuleFault, IsFirstFault, KeepsRules, Checks};
+ghost use Rattle.cv_rows.specs.Parents.{IsPlacing};
+ghost use Rattle.cv_rows.specs.Faults.{AreOrdered, AllStand, AllFit, IsRuleFault, IsFirstFault, KeepsRules, Checks};
 ghost use Rattle.cv_rows.specs.Reading.{entries_of};
 
 use crate::markers::first_marked_badly;
@@ -31,6 +33,72 @@ fn check_order(rows: &[Row], nested: &[Nested]) -> Result<(), RowFault>
     }
 }
 
+/// Checks rows whose directories are marked well, and nested entries.
+fn check_nested(
+    alloc: Global,
+    at: &RepoPath,
+    rows: &[Row],
+    root: usize,
+    parents: &[usize],
+    nested: &[Nested],
+) -> Result<(), RowFault>
+    requires ordered { AreOrdered rows.now nested.now }
+    requires placing { IsPlacing at.now rows.now root parents.now }
+    requires stand { AllStand at.now rows.now }
+    requires fit { AllFit at.now rows.now }
+    requires marked { All (IsMarkedWell at.now rows.now) rows.now }
+    ensures { Checks (KeepsRules at.now rows.now nested.now) (IsRuleFault at.now rows.now nested.now) result }
+{
+    if let Some(entry) = first_unnamed(alloc, at, rows, root, parents, nested)? {
+        return Err(RowFault::NestedList(entry));
+    }
+    match first_unlisted(alloc, rows, nested)? {
+        Some(_) => Err(RowFault::NestedList(nested.len())),
+        None => Ok(()),
+    }
+}
+
+/// Checks rows that fit the paths at which they stand, and nested entries.
+fn check_markers(
+    alloc: Global,
+    at: &RepoPath,
+    rows: &[Row],
+    root: usize,
+    parents: &[usize],
+    nested: &[Nested],
+) -> Result<(), RowFault>
+    requires ordered { AreOrdered rows.now nested.now }
+    requires placing { IsPlacing at.now rows.now root parents.now }
+    requires stand { AllStand at.now rows.now }
+    requires fit { AllFit at.now rows.now }
+    ensures { Checks (KeepsRules at.now rows.now nested.now) (IsRuleFault at.now rows.now nested.now) result }
+{
+    match first_marked_badly(alloc, at, rows)? {
+        Some(row) => Err(RowFault::Marker(row)),
+        None => check_nested(alloc, at, rows, root, parents, nested),
+    }
+}
+
+/// Checks rows that each stand at a path, and nested entries.
+fn check_keys(
+    alloc: Global,
+    at: &RepoPath,
+    rows: &[Row],
+    root: usize,
+    parents: &[usize],
+    nested: &[Nested],
+) -> Result<(), RowFault>
+    requires ordered { AreOrdered rows.now nested.now }
+    requires placing { IsPlacing at.now rows.now root parents.now }
+    requires stand { AllStand at.now rows.now }
+    ensures { Checks (KeepsRules at.now rows.now nested.now) (IsRuleFault at.now rows.now nested.now) result }
+{
+    match first_misplaced(alloc, at, rows, root, parents)? {
+        Some(row) => Err(RowFault::BadKey(row)),
+        None => check_markers(alloc, at, rows, root, parents, nested),
+    }
+}
+
 /// Checks rows and nested entries in order, by the index of the root row.
 fn check_places(
     alloc: Global,
@@ -46,21 +114,9 @@ fn check_places(
     ensures { Checks (KeepsRules at.now rows.now nested.now) (IsRuleFault at.now rows.now nested.now) result }
 {
     let above = parents(alloc, rows, root)?;
-    if let Some(row) = first_orphan(alloc, rows, root, &above)? {
-        return Err(RowFault::Orphan(row));
-    }
-    if let Some(row) = first_misplaced(alloc, at, rows, root, &above)? {
-        return Err(RowFault::BadKey(row));
-    }
-    if let Some(row) = first_marked_badly(alloc, at, rows)? {
-        return Err(RowFault::Marker(row));
-    }
-    if let Some(entry) = first_unnamed(alloc, at, rows, root, &above, nested)? {
-        return Err(RowFault::NestedList(entry));
-    }
-    match first_unlisted(alloc, rows, nested)? {
-        Some(_) => Err(RowFault::NestedList(nested.len())),
-        None => Ok(()),
+    match first_orphan(alloc, rows, root, &above)? {
+        Some(row) => Err(RowFault::Orphan(row)),
+        None => check_keys(alloc, at, rows, root, &above, nested),
     }
 }
 

@@ -1,13 +1,15 @@
 //! The bytes of row files.
-ghost use Rattle.std.specs.Prelude.{◌≡◌, ◌+◌, ◌++◌, ◌<◌, ◌^◌, ◌≤◌, length, IfOk, OnOk};
+ghost use Rattle.std.specs.Prelude.{◌≡◌, ◌+◌, ◌++◌, ◌<◌, ◌^◌, ◌≤◌, length, flat_map, IfOk, OnOk};
 ghost use Rattle.std.specs.List.{AllByRecursion};
-ghost use Rattle.cv_rows.specs.Row.{IsRow, hash_field, text_field, row_bytes};
+ghost use Rattle.std.specs.Int.{w32, w64, to_be_bytes};
+ghost use Rattle.cv_rows.specs.Row.{IsRow, hash_field, text_field, row_bytes, type_bits};
 ghost use Rattle.cv_rows.specs.Nested.{IsNested, nested_bytes};
 ghost use Rattle.cv_rows.specs.Catalogue.{file_of};
 
 use crate::nested::Nested;
 use crate::row::Row;
-use cv_base::NoMemory;
+use crate::row_kind::RowKind;
+use cv_base::{Attr, NoMemory};
 use std::alloc::Global;
 
 /// The four bytes that a row file begins with.
@@ -37,6 +39,18 @@ fn put_text(out: &mut Vec<u8>, text: &str) -> Result<(), NoMemory>
     Ok(())
 }
 
+/// Adds the mode with the bits of this kind, the time, the user and the group.
+fn put_attr(out: &mut Vec<u8>, kind: RowKind, attr: &Attr) -> Result<(), NoMemory>
+    requires { attr.now.mode < 4096 }
+    ensures { OnOk result (out.new.items ≡ out.old.items ++ to_be_bytes w32 (type_bits kind + attr.now.mode) ++ to_be_bytes w64 attr.now.mtime ++ to_be_bytes w32 attr.now.uid ++ to_be_bytes w32 attr.now.gid) }
+{
+    out.extend_from_slice(&(kind.type_bits() + attr.mode).to_be_bytes())?;
+    out.extend_from_slice(&attr.mtime.to_be_bytes())?;
+    out.extend_from_slice(&attr.uid.to_be_bytes())?;
+    out.extend_from_slice(&attr.gid.to_be_bytes())?;
+    Ok(())
+}
+
 /// Adds the fields of a row.
 fn put_row(out: &mut Vec<u8>, row: &Row) -> Result<(), NoMemory>
     requires { IsRow row.now }
@@ -45,10 +59,7 @@ fn put_row(out: &mut Vec<u8>, row: &Row) -> Result<(), NoMemory>
     out.extend_from_slice(&row.key.0)?;
     out.extend_from_slice(&row.parent.0)?;
     out.extend_from_slice(&row.kind.flags().to_be_bytes())?;
-    out.extend_from_slice(&(row.kind.type_bits() + row.attr.mode).to_be_bytes())?;
-    out.extend_from_slice(&row.attr.mtime.to_be_bytes())?;
-    out.extend_from_slice(&row.attr.uid.to_be_bytes())?;
-    out.extend_from_slice(&row.attr.gid.to_be_bytes())?;
+    put_attr(out, row.kind, &row.attr)?;
     out.extend_from_slice(&row.size.to_be_bytes())?;
     put_hash(out, &row.hash)?;
     put_text(out, row.name.text())?;
@@ -67,6 +78,28 @@ fn put_nested(alloc: Global, out: &mut Vec<u8>, nested: &Nested) -> Result<(), N
     Ok(())
 }
 
+/// Adds the fields of rows.
+fn put_rows(out: &mut Vec<u8>, rows: &[Row]) -> Result<(), NoMemory>
+    requires { AllByRecursion IsRow rows.now }
+    ensures { OnOk result (out.new.items ≡ out.old.items ++ flat_map row_bytes rows.now) }
+{
+    for row in rows {
+        put_row(out, row)?;
+    }
+    Ok(())
+}
+
+/// Adds the fields of nested entries.
+fn put_entries(alloc: Global, out: &mut Vec<u8>, nested: &[Nested]) -> Result<(), NoMemory>
+    requires { AllByRecursion IsNested nested.now }
+    ensures { OnOk result (out.new.items ≡ out.old.items ++ flat_map nested_bytes nested.now) }
+{
+    for entry in nested {
+        put_nested(alloc, out, entry)?;
+    }
+    Ok(())
+}
+
 /// The bytes of the row file of these rows and nested entries.
 pub fn catalogue(alloc: Global, rows: &[Row], nested: &[Nested]) -> Result<Vec<u8>, NoMemory>
     requires rows { length rows.now ≤ 50000 }
@@ -75,15 +108,10 @@ pub fn catalogue(alloc: Global, rows: &[Row], nested: &[Nested]) -> Result<Vec<u
     requires nested_spelled { AllByRecursion IsNested nested.now }
     ensures { IfOk result (λ bytes. bytes.items ≡ file_of rows.now nested.now) }
 {
-    let mut out = Vec::new(alloc);
-    out.extend_from_slice(MAGIC)?;
+    let mut out = Vec::from_slice(alloc, MAGIC)?;
     out.extend_from_slice(&(rows.len() as u32).to_be_bytes())?;
     out.extend_from_slice(&(nested.len() as u32).to_be_bytes())?;
-    for row in rows {
-        put_row(&mut out, row)?;
-    }
-    for entry in nested {
-        put_nested(alloc, &mut out, entry)?;
-    }
+    put_rows(&mut out, rows)?;
+    put_entries(alloc, &mut out, nested)?;
     Ok(out)
 }

@@ -1,4 +1,4 @@
-use Rattle.std.proofs.Common.{◌≡◌, ℕ, ◌-◌, List, length, get_or, ap, sym, ◌∙◌, ◌||◌, true, false, bytes_eq, arith}
+use Rattle.std.proofs.Common.{◌≡◌, ℕ, List, get_or, ap, sym, ◌∙◌, ◌||◌, true, false, bytes_eq}
 use Rattle.std.specs.Ordering.{nat_cmp}
 use Rattle.std.specs.Cmp.Lexicographic.{slice_cmp}
 use Rattle.std.specs.BTreeSet.{BTreeSet, contains}
@@ -19,7 +19,7 @@ loop-row-preserved c =
     let rows = c.args.rows.now in
     let knows = λ (keys : BTreeSet (List ℕ)). contains (slice_cmp nat_cmp) keys in
     let so : (d : Row) (q : Path) → StandsAt c.args.at.now rows (get_or rows i d) q → c.is_covered.result ≡ covers c.args.path.now q = λ d q s.
-    c.is_covered.ensures ∙ covered_is c.args.at.now rows c.args.path.now i (64 - length c.names.result.now) c.in_ok-found.found c.requires.ordered c.requires.fit (omega (arith, ap length c.names.ensures.names)) c.in_ok-found.ensures d q s in
+    c.is_covered.ensures ∙ covered_is c.args.at.now rows c.args.path.now i c.in_ok-found.found c.requires.ordered c.requires.fit c.in_ok-found.ensures d q s in
     elim c.if-is_covered.branch [
       | then-is_covered+in_ok-add w ↦
           rw w.keys-is (known_more c.args.at.now rows c.args.path.now i (knows c.loop-row.keys) (knows w.add.new.keys) true c.requires.ordered c.loop-row-test.true (λ d q s. sym w.if-is_covered.true ∙ so d q s)

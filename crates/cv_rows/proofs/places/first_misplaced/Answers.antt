@@ -1,4 +1,3 @@
-use Rattle.std.proofs.Common.{◌-◌, length, ap, arith}
 use Rattle.cv_base.specs.Path.{Path}
 use Rattle.cv_rows.specs.Places.{StandsAt}
 use Rattle.cv_rows.specs.Catalogue.{FitsAt}
@@ -7,12 +6,10 @@ use Rattle.cv_rows.proofs.places.first_misplaced.Goals as goal
 
 pub returns-then-not-fits_if_any : goal.returns-then-not-fits_if_any
 returns-then-not-fits_if_any c =
-    let left = 64 - length c.names.result.now in
     first_misplaced_is c.args.at.now c.args.rows.now c.loop-row.row c.requires.placing.ordered c.loop-row.invariant c.loop-row-test.true
-    (λ d. row_misplaced c.args.at.now c.args.rows.now c.loop-row.row left _ c.in_ok-path.path c.fits_if_any.result c.loop-row-test.true c.requires.stand (omega (arith, ap length c.names.ensures.names)) c.index-rows-row.is c.in_ok-path.ensures c.fits_if_any.ensures c.if-not-fits_if_any.true d)
+    (λ d. row_misplaced c.args.at.now c.args.rows.now c.loop-row.row _ c.in_ok-path.path c.fits_if_any.result c.loop-row-test.true c.requires.stand c.index-rows-row.is c.in_ok-path.ensures c.fits_if_any.ensures c.if-not-fits_if_any.true d)
 
 pub loop-row-preserved : goal.loop-row-preserved
 loop-row-preserved c =
-    let left = 64 - length c.names.result.now in
     one_more_row (λ r. (q : Path) × StandsAt c.args.at.now c.args.rows.now r q × FitsAt c.args.at.now r q) c.args.rows.now c.loop-row.row c.loop-row.invariant
-    (λ d. row_fits c.args.at.now c.args.rows.now c.loop-row.row left _ c.in_ok-path.path c.fits_if_any.result c.loop-row-test.true c.index-rows-row.is c.in_ok-path.ensures c.fits_if_any.ensures c.if-not-fits_if_any.false d)
+    (λ d. row_fits c.args.at.now c.args.rows.now c.loop-row.row _ c.in_ok-path.path c.fits_if_any.result c.loop-row-test.true c.index-rows-row.is c.in_ok-path.ensures c.fits_if_any.ensures c.if-not-fits_if_any.false d)

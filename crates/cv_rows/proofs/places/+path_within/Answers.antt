@@ -4,7 +4,7 @@ use Rattle.cv_base.specs.Path.{Path}
 use Rattle.cv_rows.specs.declared.row.Row.{Row}
 use Rattle.cv_rows.specs.Parents.{step, IsPathOf, IsBelow}
 use Rattle.cv_rows.proofs.Walks.{root_stands, none_left, parent_inside, above_none, if_below}
-use Rattle.cv_rows.proofs.places.+path_of_row.Goals as goal
+use Rattle.cv_rows.proofs.places.+path_within.Goals as goal
 
 pub returns-then-row-root : goal.returns-then-row-root
 returns-then-row-root t c =
@@ -14,8 +14,8 @@ pub returns-then-left-eq0 : goal.returns-then-left-eq0
 returns-then-left-eq0 t c =
     none_left c.args.at.now c.args.rows.now c.args.root c.args.parents.now c.args.row c.args.left c.requires.placing c.requires.row c.if-row-root.false c.if-left-eq0.true
 
-pub path_of_row-requires : goal.path_of_row-requires
-path_of_row-requires t c = (
+pub path_within-requires : goal.path_within-requires
+path_within-requires t c = (
   omega arith,
   (
     c.requires.place,

@@ -1,0 +1,4 @@
+use Rattle.cv_rows.proofs.places.+path_within.Given as goal
+
+abbrev pub decreases-path_within : goal.decreases-path_within
+decreases-path_within l = l.left
