@@ -5,8 +5,8 @@
 
 Adds to a copy of the crates a program that reads paths from standard input, makes a tree of them, and measures the best of
 three cuts of it and of three loads from a shelf in memory; has it proved and built by `rt run`; and gives it trees of 5,000
-and of 50,000 files in 500 directories, of which 50 have a marker. With FOLDER, a copy of the repository that has been
-built, it works there.
+and of 50,000 files in 500 directories, of which 50 have a marker, and trees of 1,000 and of 10,000 directories that have a
+marker each. With FOLDER, a copy of the repository that has been built, it works there.
 """
 import os
 import shutil
@@ -162,6 +162,14 @@ def paths(files):
     return "\n".join(lines).encode()
 
 
+def marked(directories):
+    """So many directories, each with a marker and a file."""
+    lines = []
+    for i in range(directories):
+        lines += [f"/d{i}/", f"/d{i}/.cvmfscatalog", f"/d{i}/f"]
+    return "\n".join(lines).encode()
+
+
 def times(folder):
     crate = os.path.join(folder, "crates", "cut_bench")
     os.makedirs(os.path.join(crate, "src"), exist_ok=True)
@@ -173,8 +181,8 @@ def times(folder):
     program = os.path.join(crate, "out", "cut_bench")
     if not os.path.exists(program):
         sys.exit(built.stdout)
-    for files in (5_000, 50_000):
-        run = subprocess.run([program], input=paths(files), stdout=subprocess.PIPE)
+    for lines in (paths(5_000), paths(50_000), marked(1_000), marked(10_000)):
+        run = subprocess.run([program], input=lines, stdout=subprocess.PIPE)
         yield [int(word) for word in run.stdout.split()]
 
 
@@ -186,6 +194,8 @@ with tempfile.TemporaryDirectory() as empty:
         )
         for name in ("crates.txt", "HANDLES"):
             shutil.copy(os.path.join(here, name), folder)
-    (cut_few, load_few), (cut_many, load_many) = times(folder)
-for what, few, many in (("cut", cut_few, cut_many), ("load", load_few, load_many)):
+    files, more_files, marks, more_marks = times(folder)
+for what, few, many in zip(("cut", "load"), files, more_files):
     print(f"{what}: 5,000 files in {few / 1e6:.1f} ms, 50,000 in {many / 1e6:.1f} ms, growth {many / few:.1f}-fold")
+for what, few, many in zip(("cut", "load"), marks, more_marks):
+    print(f"{what}: 1,000 markers in {few / 1e6:.1f} ms, 10,000 in {many / 1e6:.1f} ms, growth {many / few:.1f}-fold")

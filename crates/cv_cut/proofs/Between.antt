@@ -1,12 +1,9 @@
--- What is between a cut and a path, by the cuts of the tree.
-use Rattle.std.proofs.Common.{◌≡◌, ◌≢◌, ◌<◌, Bool, true, false, not, ◌&&◌, Option, None, Some, List, [], ◌∷◌, ◌++◌, map, reverse, length, refl, sym, ap, subst, ◌∙◌, append-nil, append_assoc, arith, length-append, is_some, inl, inr}
-use Rattle.std.specs.Prelude.{Contains, nat_lt}
-use Rattle.std.specs.List.{list_any, list_all}
-use Rattle.std.specs.Cmp.{both_ways}
+-- Which paths below a cut are near it: those with no other cut between.
+use Rattle.std.proofs.Common.{◌≡◌, ◌≢◌, Bool, true, false, not, ◌&&◌, Option, None, Some, List, [], ◌∷◌, ◌++◌, map, refl, sym, ap, subst, ◌∙◌, append-nil, append_assoc, is_some, inl, inr}
+use Rattle.std.specs.Prelude.{Contains, unwrap_or}
+use Rattle.std.specs.List.{list_all}
 use Rattle.std.specs.FinMap.{get, entries, keys}
-use Rattle.std.proofs.lemmas.Bool.{lt-ltb, ltb-true}
-use Rattle.std.proofs.lemmas.List.Folds.{Any-from_list_any, list_any-from_Any, list_all_at}
-use Rattle.std.proofs.lemmas.List.Sorted.{IsPermutation-reverse, list_any-IsPermutation}
+use Rattle.std.proofs.lemmas.List.Folds.{list_all_at}
 use Rattle.cv_base.specs.Marker.{marker}
 use Rattle.cv_base.specs.Path.{Path, covers, behind}
 use Rattle.cv_base.specs.PathOrder.{path_exact}
@@ -14,12 +11,14 @@ use Rattle.cv_base.proofs.PathPrefixes.{behind-Some, behind-append}
 use Rattle.cv_tree.specs.Tree.{Nodes, at, is_directory}
 use Rattle.cv_tree.specs.declared.node.Node.{Node}
 use Rattle.cv_tree.proofs.Replacements.{get-at}
-use Rattle.cv_cut.specs.Cuts.{is_file, is_marked, is_cut, is_near, cuts_of, between}
-use Rattle.cv_cut.specs.Cut.{is_between, is_within, is_in_region, near_rest}
-use Rattle.cv_cut.proofs.Members.{none_there, first_there, later_there, first_or_later, comes_from, goes_to, passes, passing}
+use Rattle.cv_cut.specs.Cuts.{is_file, is_marked, is_cut, is_inner, is_near, cuts_of, between}
+use Rattle.cv_cut.specs.Cut.{is_other}
+use Rattle.cv_cut.proofs.Members.{none_there, first_there, later_there, first_or_later, comes_from, goes_to, passing}
 use Rattle.cv_cut.proofs.Entries.{has_entry}
-use Rattle.cv_cut.proofs.Bools.{first_true, second_true}
 use Rattle.cv_cut.proofs.Ends.{back}
+use Rattle.cv_cut.proofs.RegionLists.{inner_is, is_inner_}
+use Rattle.cv_cut.proofs.RegionPaths.{is_in_region, near_rest}
+use Rattle.cv_cut.proofs.Bools.{false_not}
 
 -- ---- the paths between
 
@@ -53,116 +52,111 @@ between_is (a ∷ b ∷ q) r has =
           }
     ]
 
--- ---- marks
+-- ---- other cuts
 
 pub marked-at : (t : Nodes) (c r : Path) → is_marked (at t c) r ≡ is_marked t (c ++ r)
 marked-at t c r =
     ap (λ o. is_directory o && is_file (get (at t c) (r ++ marker ∷ []))) (get-at t c r)
     ∙ ap (λ o. is_directory (get t (c ++ r)) && is_file o) (get-at t c (r ++ marker ∷ []) ∙ ap (get t) (sym (append_assoc c r (marker ∷ []))))
 
+-- what is behind a path that covers another
+pub behind_it : (p q : Path) → covers p q ≡ true → (r : Path) × (behind p q ≡ Some r)
+behind_it p q h = some_rest (behind p q) h
+  where
+    some_rest : (o : Option Path) → is_some o ≡ true → (r : Path) × (o ≡ Some r)
+    some_rest None h = cc
+    some_rest (Some r) h = (r, refl)
+
+-- another cut below the one at c is a marked directory there
+pub record StandsBelow (t : Nodes) (c d : Path) : Type 0 where
+  pub rest : Path
+  pub is : d ≡ c ++ rest
+  pub some : rest ≢ []
+  pub marked : is_marked t d ≡ true
+
+pub stands_below : (t : Nodes) (c d : Path) → is_other t c d ≡ true → StandsBelow t c d
+stands_below t c d other = by_rest (behind c d) refl other
+  where
+    by_rest : (o : Option Path) → behind c d ≡ o → is_inner (at t c) (unwrap_or o []) ≡ true → StandsBelow t c d
+    by_rest None e h = absurd ((inner_is (at t c) [] h).0 refl)
+    by_rest (Some r) e h =
+        let is = behind-Some c d r e in
+        let inner = inner_is (at t c) r h in
+        record { rest = r; is = is; some = inner.0; marked = ap (is_marked t) is ∙ sym (marked-at t c r) ∙ inner.1 }
+
+-- the cut covers it
+pub below_covered : (t : Nodes) (c d : Path) → is_other t c d ≡ true → covers c d ≡ true
+below_covered t c d other = let o = stands_below t c d other in ap (covers c) o.is ∙ ap is_some (behind-append c o.rest)
+
+other_there : (t : Nodes) (c r : Path) → r ≢ [] → is_marked (at t c) r ≡ true → is_other t c (c ++ r) ≡ true
+other_there t c r some marked = ap (λ o. is_inner (at t c) (unwrap_or o [])) (behind-append c r) ∙ is_inner_ (at t c) r some marked
+
 cut_marked : (t : Nodes) (d : Path) → d ≢ [] → is_cut t d ≡ is_marked t d
 cut_marked t [] some = absurd (some refl)
 cut_marked t (a ∷ d) some = refl
 
-some_there : (o : Option Node) (b : Bool) → (is_directory o && b) ≡ true → (n : Node) × (o ≡ Some n)
-some_there None b h = cc
-some_there (Some n) b h = (n, refl)
-
--- a marked directory is among the cuts
-marked_cut : (t : Nodes) (d : Path) → d ≢ [] → is_marked t d ≡ true → Contains (cuts_of t) d
-marked_cut t d some marked =
-    let n = some_there (get t d) (is_file (get t (d ++ marker ∷ []))) marked in
-    passing (is_cut t) (keys t) d (goes_to (λ e. e.0) (entries t) (d, n.0) (has_entry path_exact t d n.0 n.1)) (cut_marked t d some ∙ marked)
-
--- ---- the test
-
-not_nil : (c r : Path) → length c < length (c ++ r) → r ≢ []
-not_nil c r lt none = let same : length (c ++ r) ≡ length c = ap length (ap (λ (x : Path). c ++ x) none ∙ append-nil c) in omega arith
-
-longer : (c r : Path) → r ≢ [] → length c < length (c ++ r)
-longer c [] some = absurd (some refl)
-longer c (a ∷ r) some = omega (arith, length-append c (a ∷ r))
-
-covered : (o : Option Path) → is_some o ≡ true → (r : Path) × (o ≡ Some r)
-covered None h = cc
-covered (Some r) h = (r, refl)
-
-not_false : (b : Bool) → not b ≡ true → b ≡ false
-not_false true h = cc
-not_false false h = refl
-
-false_not : (b : Bool) → (b ≡ true → ⊥) → not b ≡ true
-false_not true h = absurd (h refl)
-false_not false h = refl
-
--- a cut between makes the path no near one
-not_near : (t : Nodes) (c d q : Path) → is_between c d (c ++ q) ≡ true → is_cut t d ≡ true → is_near (at t c) q ≡ false
-not_near t c d q h cut =
-    let three = first_true (nat_lt (length c) (length d) && nat_lt (length d) (length (c ++ q)) && covers c d) (covers d (c ++ q)) h in
-    let two = first_true (nat_lt (length c) (length d) && nat_lt (length d) (length (c ++ q))) (covers c d) three in
-    let r = covered (behind c d) (second_true (nat_lt (length c) (length d) && nat_lt (length d) (length (c ++ q))) (covers c d) three) in
-    let s = covered (behind d (c ++ q)) (second_true (nat_lt (length c) (length d) && nat_lt (length d) (length (c ++ q)) && covers c d) (covers d (c ++ q)) h) in
-    let d-is : d ≡ c ++ r.0 = behind-Some c d r.0 r.1 in
-    let p-is : c ++ q ≡ d ++ s.0 = behind-Some d (c ++ q) s.0 s.1 in
-    let q-is : q ≡ r.0 ++ s.0 = back c q (r.0 ++ s.0) (p-is ∙ ap (λ (x : Path). x ++ s.0) d-is ∙ append_assoc c r.0 s.0) in
-    let some : r.0 ≢ [] = not_nil c r.0 (subst (λ (x : Path). length c < length x) d-is (ltb-true (length c) (length d) (first_true (nat_lt (length c) (length d)) (nat_lt (length d) (length (c ++ q))) two))) in
-    let more : s.0 ≢ [] = not_nil d s.0 (subst (λ (x : Path). length d < length x) p-is (ltb-true (length d) (length (c ++ q)) (second_true (nat_lt (length c) (length d)) (nat_lt (length d) (length (c ++ q))) two))) in
-    let here : Contains (between q) r.0 = subst (λ (x : Path). Contains (between x) r.0) (sym q-is) (between_has r.0 s.0 some more) in
-    let below : d ≢ [] = λ none. some (back c r.0 [] (sym d-is ∙ none ∙ nil_of c r.0 (sym d-is ∙ none))) in
-    let marked : is_marked (at t c) r.0 ≡ true = marked-at t c r.0 ∙ ap (is_marked t) (sym d-is) ∙ sym (cut_marked t d below) ∙ cut in
-    list_all_at (λ x. not (is_marked (at t c) x)) (between q) here.0 r.0 here.1 (ap (λ x. not (is_marked (at t c) x)) here.2 ∙ ap not marked)
+-- it is an entry of the tree
+pub other_stands : (t : Nodes) (c d : Path) → is_other t c d ≡ true → (n : Node) × Contains (entries t) (d, n)
+other_stands t c d other =
+    let n = some_there (get t d) (is_file (get t (d ++ marker ∷ []))) (stands_below t c d other).marked in
+    (n.0, has_entry path_exact t d n.0 n.1)
   where
-    nil_of : (c r : Path) → c ++ r ≡ [] → [] ≡ c ++ []
-    nil_of [] r h = refl
-    nil_of (a ∷ c) r h = cc
+    some_there : (o : Option Node) (b : Bool) → (is_directory o && b) ≡ true → (n : Node) × (o ≡ Some n)
+    some_there None b h = cc
+    some_there (Some n) b h = (n, refl)
 
-true_any : (p : Path → Bool) (xs : List Path) (x : Path) → Contains xs x → p x ≡ true → list_any p xs ≡ true
-true_any p xs x has h = list_any-from_Any p xs (has.0, x, has.1, has.2, h)
+-- and among the cuts
+pub other_cut : (t : Nodes) (c d : Path) → is_other t c d ≡ true → Contains (cuts_of t) d
+other_cut t c d other =
+    let o = stands_below t c d other in
+    let e = other_stands t c d other in
+    passing (is_cut t) (keys t) d (goes_to (λ e. e.0) (entries t) (d, e.0) e.1) (cut_marked t d (λ none. o.some (nothing_behind c o.rest (sym o.is ∙ none))) ∙ o.marked)
+  where
+    nothing_behind : (c r : Path) → c ++ r ≡ [] → r ≡ []
+    nothing_behind [] r h = h
+    nothing_behind (a ∷ c) r h = cc
+
+-- ---- near paths
 
 each_pass : (p : Path → Bool) (xs : List Path) → ((x : Path) → Contains xs x → p x ≡ true) → list_all p xs ≡ true
 each_pass p [] h = refl
 each_pass p (x ∷ xs) h = rw (h x (first_there x xs)) (each_pass p xs (λ y has. h y (later_there x xs y has)))
 
-some_between : (t : Nodes) (c q r : Path) → Contains (between q) r → is_marked (at t c) r ≡ true → list_any (λ d. is_between c d (c ++ q)) (cuts_of t) ≡ true
-some_between t c q r has marked =
+-- below another cut no path is near
+not_near : (t : Nodes) (c d q : Path) → is_other t c d ≡ true → covers d (c ++ q) ≡ true → d ≢ c ++ q → is_near (at t c) q ≡ false
+not_near t c d q other covered differs =
+    let o = stands_below t c d other in
+    let s = behind_it d (c ++ q) covered in
+    let p-is : c ++ q ≡ d ++ s.0 = behind-Some d (c ++ q) s.0 s.1 in
+    let q-is : q ≡ o.rest ++ s.0 = back c q (o.rest ++ s.0) (p-is ∙ ap (λ (x : Path). x ++ s.0) o.is ∙ append_assoc c o.rest s.0) in
+    let more : s.0 ≢ [] = λ none. differs (sym (p-is ∙ ap (λ (x : Path). d ++ x) none ∙ append-nil d)) in
+    let here : Contains (between q) o.rest = subst (λ (x : Path). Contains (between x) o.rest) (sym q-is) (between_has o.rest s.0 o.some more) in
+    let marked : is_marked (at t c) o.rest ≡ true = marked-at t c o.rest ∙ ap (is_marked t) (sym o.is) ∙ o.marked in
+    list_all_at (λ x. not (is_marked (at t c) x)) (between q) here.0 o.rest here.1 (ap (λ x. not (is_marked (at t c) x)) here.2 ∙ ap not marked)
+
+-- and all others are
+near : (t : Nodes) (c q : Path) → ((d : Path) → is_other t c d ≡ true → covers d (c ++ q) ≡ true → d ≢ c ++ q → ⊥) → is_near (at t c) q ≡ true
+near t c q none = each_pass (λ r. not (is_marked (at t c) r)) (between q) (λ r has. false_not (is_marked (at t c) r) (λ marked.
     let s = between_is q r has in
-    let d = c ++ r in
-    let p-is : c ++ q ≡ d ++ s.rest = ap (λ (x : Path). c ++ x) s.is ∙ sym (append_assoc c r s.rest) in
-    let below : d ≢ [] = λ none. s.some (nil_back c r none) in
-    let lower : nat_lt (length c) (length d) ≡ true = lt-ltb _ _ (longer c r s.some) in
-    let upper : nat_lt (length d) (length (c ++ q)) ≡ true = lt-ltb _ _ (subst (λ (x : Path). length d < length x) (sym p-is) (longer d s.rest s.more)) in
-    let first : covers c d ≡ true = ap is_some (behind-append c r) in
-    let second : covers d (c ++ q) ≡ true = ap (covers d) p-is ∙ ap is_some (behind-append d s.rest) in
-    true_any (λ d. is_between c d (c ++ q)) (cuts_of t) d (marked_cut t d below (sym (marked-at t c r) ∙ marked)) (rw (lower, upper, first, second) refl)
+    let p-is : c ++ q ≡ (c ++ r) ++ s.rest = ap (λ (x : Path). c ++ x) s.is ∙ sym (append_assoc c r s.rest) in
+    none (c ++ r) (other_there t c r s.some marked) (ap (covers (c ++ r)) p-is ∙ ap is_some (behind-append (c ++ r) s.rest)) (λ same. s.more (sym (back r [] s.rest (append-nil r ∙ back c r q same ∙ s.is))))))
+
+pub not_in_region : (t : Nodes) (c d p : Path) → covers c p ≡ true → is_other t c d ≡ true → covers d p ≡ true → d ≢ p → is_in_region t c p ≡ false
+not_in_region t c d p below other covered differs =
+    let r = behind_it c p below in
+    let p-is = behind-Some c p r.0 r.1 in
+    ap (near_rest (at t c)) r.1 ∙ not_near t c d r.0 other (ap (covers d) (sym p-is) ∙ covered) (λ same. differs (same ∙ sym p-is))
+
+pub in_region : (t : Nodes) (c p : Path) → covers c p ≡ true → ((d : Path) → is_other t c d ≡ true → covers d p ≡ true → d ≢ p → ⊥) → is_in_region t c p ≡ true
+in_region t c p below none =
+    let r = behind_it c p below in
+    let p-is = behind-Some c p r.0 r.1 in
+    ap (near_rest (at t c)) r.1 ∙ near t c r.0 (λ d other covered differs. none d other (ap (covers d) p-is ∙ covered) (λ same. differs (same ∙ p-is)))
+
+-- what the cut doesn't cover isn't in its region
+pub outside : (t : Nodes) (c p : Path) → covers c p ≡ false → is_in_region t c p ≡ false
+outside t c p h = by_rest (behind c p) h
   where
-    nil_back : (c r : Path) → c ++ r ≡ [] → r ≡ []
-    nil_back [] r h = h
-    nil_back (a ∷ c) r h = cc
-
-no_between : (t : Nodes) (c q : Path) → list_any (λ d. is_between c d (c ++ q)) (cuts_of t) ≡ false → is_near (at t c) q ≡ true
-no_between t c q none = each_pass (λ r. not (is_marked (at t c) r)) (between q) (λ r has. false_not (is_marked (at t c) r) (λ marked.
-    let some = some_between t c q r has marked in
-    let e : true ≡ false = sym some ∙ none in
-    cc))
-
--- no cut is between where the path is near
-pub near_is : (t : Nodes) (c q : Path) → not (list_any (λ d. is_between c d (c ++ q)) (cuts_of t)) ≡ is_near (at t c) q
-near_is t c q = both_ways _ _
-    (λ h. no_between t c q (not_false _ h))
-    (λ near. false_not _ (λ some.
-    let d = Any-from_list_any (λ d. is_between c d (c ++ q)) (cuts_of t) some in
-    let cut = passes (is_cut t) (keys t) d.1 (d.0, d.2, d.3) in
-    let e : true ≡ false = sym near ∙ not_near t c d.1 q d.4 cut.1 in
-    cc))
-
-any_moved : (p : Path → Bool) (xs : List Path) → list_any p (reverse xs) ≡ list_any p xs
-any_moved p xs = sym (list_any-IsPermutation p xs (reverse xs) (IsPermutation-reverse xs))
-
--- the test of the code
-pub in_region : (t : Nodes) (c p : Path) → is_within (reverse (cuts_of t)) c p ≡ is_in_region t c p
-unfolding is_within
-in_region t c p = rw (any_moved (λ d. is_between c d p) (cuts_of t)) (by_rest (behind c p) refl)
-  where
-    by_rest : (o : Option Path) → behind c p ≡ o → (is_some o && not (list_any (λ d. is_between c d p) (cuts_of t))) ≡ near_rest (at t c) o
-    by_rest None e = refl
-    by_rest (Some q) e = subst (λ (x : Path). not (list_any (λ d. is_between c d x) (cuts_of t)) ≡ is_near (at t c) q) (sym (behind-Some c p q e)) (near_is t c q)
+    by_rest : (o : Option Path) → is_some o ≡ false → near_rest (at t c) o ≡ false
+    by_rest None h = refl
+    by_rest (Some r) h = cc

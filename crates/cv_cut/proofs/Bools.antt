@@ -1,5 +1,5 @@
 -- Tests, and what they tell.
-use Rattle.std.proofs.Common.{◌≡◌, Bool, true, false, ◌&&◌, refl}
+use Rattle.std.proofs.Common.{◌≡◌, Bool, true, false, not, ◌&&◌, Option, None, Some, IsSome, refl}
 use Rattle.std.specs.Prelude.{T}
 use Rattle.std.specs.declared.cmp.Ordering.{Ordering}
 use Rattle.std.specs.declared.cmp.Ordering.TheVariants.{Less, Equal, Greater}
@@ -20,6 +20,22 @@ both_true false b ha hb = cc
 pub so : (b : Bool) → T b → b ≡ true
 so true h = refl
 so false h = absurd h
+
+pub false_not : (b : Bool) → (b ≡ true → ⊥) → not b ≡ true
+false_not true h = absurd (h refl)
+false_not false h = refl
+
+pub not_true : (b : Bool) → not b ≡ true → b ≡ false
+not_true true h = cc
+not_true false h = refl
+
+pub not_false : (b : Bool) → not b ≡ false → b ≡ true
+not_false true h = refl
+not_false false h = cc
+
+pub none_some : {X : Type 0} (o : Option X) → o ≡ None → IsSome o → ⊥
+none_some None h some = cc
+none_some (Some x) h some = cc
 
 pub is_less : (r : Ordering) → is_lt r ≡ true → r ≡ Less
 is_less Less h = refl

@@ -1,12 +1,12 @@
 -- The catalogues of a tree, one cut after another.
-use Rattle.std.proofs.Common.{◌≡◌, ℕ, ◌+◌, ◌<◌, ◌≤◌, true, Some, List, [], ◌∷◌, ◌++◌, map, take, reverse, length, get_or, sym, ap, subst, ◌∙◌, inl, inr, Result, Ok, Err}
+use Rattle.std.proofs.Common.{◌≡◌, ℕ, ◌+◌, ◌<◌, ◌≤◌, true, Some, List, [], ◌∷◌, ◌++◌, map, take, reverse, length, get_or, IsSome, refl, sym, ap, subst, ◌∙◌, inl, inr, Result, Ok, Err}
 use Rattle.std.specs.Prelude.{IfOk, IfErr}
 use Rattle.std.specs.List.{All, filter}
 use Rattle.std.specs.BTreeMap.{BTreeMap, Updates}
 use Rattle.std.specs.BTreeMap as tree
 use Rattle.std.proofs.lemmas.Bool.{cases_lt}
 use Rattle.std.proofs.lemmas.List.{length-map, map-append, take_more}
-use Rattle.std.proofs.lemmas.List.Elements.{All-more, All-contains}
+use Rattle.std.proofs.lemmas.List.Elements.{All-more, All-contains, Contains-get_or}
 use Rattle.sha1.specs.Sha1.{sha1}
 use Rattle.cv_base.specs.Path.{Path, path_cmp}
 use Rattle.cv_base.specs.ObjectId.{object_id}
@@ -20,7 +20,7 @@ use Rattle.cv_rows.specs.declared.row.Row.{Row}
 use Rattle.cv_rows.specs.declared.nested.Nested.{Nested}
 use Rattle.cv_cut.specs.Cuts.{is_cut, cuts_of, region}
 use Rattle.cv_cut.specs.Catalogues.{cat, entry_of, SharesKey, IsFull, Fits}
-use Rattle.cv_cut.specs.Cut.{HasMade, IsFullCut, row_in, nested_in, is_other, catalogue_object, region_at}
+use Rattle.cv_cut.specs.Cut.{HasMade, IsFullCut, row_in, nested_in, is_other, cuts_below, catalogue_object, region_at}
 use Rattle.cv_cut.specs.declared.cut_fault.CutFault.{CutFault}
 use Rattle.cv_cut.specs.declared.cut_fault.CutFault.TheVariants.{CatalogueFull}
 use Rattle.cv_cut.proofs.RowFacts.{row_at}
@@ -28,7 +28,9 @@ use Rattle.cv_cut.proofs.RegionRules.{stands_at_cut}
 use Rattle.cv_cut.proofs.RegionLists.{row_list, nested_list, keys_apart, texts_apart, are_parts}
 use Rattle.cv_cut.proofs.CanonicalRules.{region_apart, cat_in_order, order_length}
 use Rattle.cv_cut.proofs.Collisions.{among_cuts, cut_among}
+use Rattle.cv_cut.proofs.Members.{passes}
 use Rattle.cv_cut.proofs.KindLaws.{rows_are}
+use Rattle.cv_cut.proofs.CutOrder.{taken_before}
 use Rattle.cv_cut.proofs.MadeEntries.{entries_are, entries_small, one_made}
 
 -- ---- one catalogue
@@ -101,11 +103,22 @@ not_full_cut t c rows nested whole cut apart made none full =
 pub record AreMade (t : Nodes) (cuts : List Path) (i : ℕ) (objects : List Object) (made : BTreeMap Path Nested) : Type 0 where
   pub objects_are : objects ≡ map (catalogue_object t) (take i cuts)
   pub fits : All (λ c. IsFull t c → ⊥) (take i cuts)
-  pub made_ : HasMade t made
+  pub made_ : HasMade t (take i cuts) made
 
 -- the cut that was read
 pub cut_there : (t : Nodes) (cuts : List Path) (i : ℕ) (c : Path) → cuts ≡ reverse (cuts_of t) → i < length cuts → c ≡ get_or cuts i c → is_cut t c ≡ true
 cut_there t cuts i c is lt c-is = among_cuts t cuts c is (i, lt, sym c-is)
+
+-- with it, all that its catalogue needs are made
+pub below_made : (t : Nodes) (cuts : List Path) (i : ℕ) (c : Path) (made : BTreeMap Path Nested) → cuts ≡ reverse (cuts_of t) → i < length cuts → c ≡ get_or cuts i c → HasMade t (take i cuts) made → HasMade t (cuts_below t c) made
+below_made t cuts i c made is lt c-is has = record {
+  all = λ k d within.
+      let x = get_or (cuts_below t c) k d in
+      let other = passes (is_other t c) (cuts_of t) x (Contains-get_or (cuts_below t c) k d within) in
+      All-contains (λ d. IsSome (tree.get path_cmp made d)) (take i cuts) x has.all (taken_before t cuts i c x is lt c-is other.1);
+  each = has.each;
+  sizes = has.sizes;
+}
 
 within : (n : ℕ) → (16777216 < n → ⊥) → n ≤ 16777216
 within n none = elim (cases_lt 16777216 n) [ inl lt ↦ absurd (none lt) | inr le ↦ le ]
@@ -123,7 +136,7 @@ next_made t cuts i c bytes objects more old new are is lt c-is bytes-is fits u m
           ∙ sym (map-append (catalogue_object t) (take i cuts) (c ∷ []))
           ∙ ap (map (catalogue_object t)) (ap (λ (x : Path). take i cuts ++ x ∷ []) c-is ∙ sym (take_more cuts i c lt));
       fits = All-more (λ c. IsFull t c → ⊥) cuts i c lt are.fits (subst (λ (x : Path). IsFull t x → ⊥) c-is fits);
-      made_ = one_made t old new c (entry_of c bytes) are.made_ u (ap (entry_of c) bytes-is) (subst (λ (b : List ℕ). length b ≤ 16777216) (sym bytes-is) small);
+      made_ = one_made t cuts i old new c (entry_of c bytes) are.made_ lt c-is u (ap (entry_of c) bytes-is) (subst (λ (b : List ℕ). length b ≤ 16777216) (sym bytes-is) small);
     }
 
 -- ---- the whole
@@ -138,6 +151,12 @@ tree_fits t cuts whole is apart fit = record {
 
 pub full_only : {X : Type 0} (t : Nodes) (r : Result X CutFault) → IfErr r (IsFullCut t) → (c : Path) → r ≡ Err (CatalogueFull c) → IsFull t c
 full_only t r h c is = subst (λ x. IfErr x (IsFullCut t)) is h
+
+-- ---- the root
+
+-- it is the last cut, so that it is made
+pub root_made : (t : Nodes) (cuts : List Path) (made : BTreeMap Path Nested) → IsTree t → cuts ≡ reverse (cuts_of t) → HasMade t cuts made → IsSome (tree.get path_cmp made [])
+root_made t cuts made whole is has = All-contains (λ d. IsSome (tree.get path_cmp made d)) cuts [] has.all (cut_among t cuts [] whole is refl)
 
 -- the entry at the root
 pub root_there : {E : Type 0} (made : BTreeMap Path Nested) (p : Path) (n : Nested) (r : Result Nested E) → p ≡ [] → tree.get path_cmp made p ≡ Some n → IfOk r (λ m. m ≡ n) → IfOk r (λ m. tree.get path_cmp made [] ≡ Some m)

@@ -13,9 +13,12 @@ pub mod RegionLists
 pub mod Sorted
 pub mod CanonicalRules
 pub mod Markers
-pub mod Between
 pub mod RegionPaths
+pub mod Between
+pub mod Sides
+pub mod Collecting
 pub mod KindLaws
+pub mod CutOrder
 pub mod MadeEntries
 pub mod Seen
 pub mod Collisions

@@ -1,21 +1,24 @@
 -- Nested entries of cuts that were made.
-use Rattle.std.proofs.Common.{◌≡◌, ◌≢◌, ℕ, ◌+◌, ◌<◌, ◌≤◌, ◌^◌, Bool, true, false, cond, Some, List, [], ◌∷◌, ◌++◌, map, length, length-append, refl, sym, ap, subst, ◌∙◌, append-nil, arith, Result, Ok, Err}
+use Rattle.std.proofs.Common.{◌≡◌, ◌≢◌, ℕ, ◌+◌, ◌<◌, ◌≤◌, ◌^◌, Bool, true, false, cond, None, Some, IsSome, List, [], ◌∷◌, ◌++◌, map, take, length, get_or, length-append, refl, sym, ap, subst, ◌∙◌, append-nil, arith, Result, Ok, Err}
 use Rattle.std.specs.Prelude.{IfOk, Contains}
 use Rattle.std.specs.Ordering.{is_eq}
+use Rattle.std.specs.Cmp.{tied_itself}
 use Rattle.std.specs.List.{All, filter}
 use Rattle.std.specs.BTreeMap.{BTreeMap, Updates}
 use Rattle.std.specs.BTreeMap as tree
-use Rattle.std.proofs.lemmas.List.Elements.{All-contains}
+use Rattle.std.proofs.lemmas.List.Elements.{All-contains, All-more, All-weaker}
 use Rattle.cv_base.specs.Path.{Path, path_cmp, covers}
-use Rattle.cv_base.specs.PathOrder.{same_path_is}
+use Rattle.cv_base.specs.PathOrder.{path_total, same_path_is}
 use Rattle.cv_base.proofs.PathPrefixes.{behind-append}
 use Rattle.cv_tree.specs.Tree.{Nodes, at}
 use Rattle.cv_tree.specs.declared.node.Node.{Node}
 use Rattle.cv_rows.specs.declared.nested.Nested.{Nested}
-use Rattle.cv_cut.specs.Cuts.{is_marked, is_inner, region}
+use Rattle.cv_cut.specs.Cuts.{cuts_of, is_marked, is_inner, region}
 use Rattle.cv_cut.specs.Catalogues.{entry_of, cat}
-use Rattle.cv_cut.specs.Cut.{HasMade, IsOtherEntry, rest_of, is_other, nested_in, region_at}
-use Rattle.cv_cut.proofs.Between.{marked-at}
+use Rattle.cv_cut.specs.Cut.{HasMade, IsOtherEntry, rest_of, is_other, cuts_below, nested_in, region_at}
+use Rattle.cv_cut.proofs.Members.{passing}
+use Rattle.cv_cut.proofs.Between.{marked-at, other_cut}
+use Rattle.cv_cut.proofs.Bools.{none_some}
 use Rattle.cv_cut.proofs.KindLaws.{rest_is}
 use Rattle.cv_cut.proofs.RegionRules.{IsOther}
 use Rattle.cv_cut.proofs.RegionLists.{nested_list, nested_list_are}
@@ -42,16 +45,26 @@ other_below t c p cs ps (Err e) h ps-is cs-is other is = tt
 -- ---- entries
 
 -- what is found of a cut that was made
-pub entry_made : (t : Nodes) (made : BTreeMap Path Nested) (c p : Path) (n m : Nested) → HasMade t made → tree.get path_cmp made p ≡ Some n → m ≡ n → is_other t c p ≡ true → IsOtherEntry t c p m
-entry_made t made c p n m has is same other = record {
+pub entry_made : (t : Nodes) (cuts : List Path) (made : BTreeMap Path Nested) (c p : Path) (n m : Nested) → HasMade t cuts made → tree.get path_cmp made p ≡ Some n → m ≡ n → is_other t c p ≡ true → IsOtherEntry t c p m
+entry_made t cuts made c p n m has is same other = record {
   other = other;
   is = same ∙ has.each p n is;
   size = subst (λ (x : Nested). x.size ≤ 16777216) (sym same) (has.sizes p n is);
 }
 
--- one more entry was made
-pub one_made : (t : Nodes) (old new : BTreeMap Path Nested) (c : Path) (n : Nested) → HasMade t old → Updates path_cmp old new c (Some n) → n ≡ nested_in t c → n.size ≤ 16777216 → HasMade t new
-one_made t old new c n has u is small = record {
+-- the other cuts below one are found
+pub not_unmade : (t : Nodes) (made : BTreeMap Path Nested) (c p : Path) → HasMade t (cuts_below t c) made → tree.get path_cmp made p ≡ None → is_other t c p ≡ true → ⊥
+not_unmade t made c p has none other =
+    let there = All-contains (λ d. IsSome (tree.get path_cmp made d)) (cuts_below t c) p has.all (passing (is_other t c) (cuts_of t) p (other_cut t c p other) other) in
+    none_some (tree.get path_cmp made p) none there
+
+-- one more entry was made, of the next cut
+pub one_made : (t : Nodes) (cuts : List Path) (i : ℕ) (old new : BTreeMap Path Nested) (c : Path) (n : Nested) → HasMade t (take i cuts) old → i < length cuts → c ≡ get_or cuts i c
+    → Updates path_cmp old new c (Some n) → n ≡ nested_in t c → n.size ≤ 16777216 → HasMade t (take (i + 1) cuts) new
+one_made t cuts i old new c n has lt c-is u is small = record {
+  all = All-more (λ d. IsSome (tree.get path_cmp new d)) cuts i c lt
+      (All-weaker (λ d. IsSome (tree.get path_cmp old d)) (λ d. IsSome (tree.get path_cmp new d)) (λ d there. subst IsSome (sym (u.0 d)) (elim (is_eq (path_cmp c d)) as (λ b. IsSome (cond b (Some n) (tree.get path_cmp old d))) [ true ↦ refl | false ↦ there ])) (take i cuts) has.all)
+      (subst (λ (x : Path). IsSome (tree.get path_cmp new x)) c-is (subst IsSome (sym (u.0 c ∙ ap (λ o. cond (is_eq o) (Some n) (tree.get path_cmp old c)) (tied_itself path_total c))) refl));
   each = λ d m found. elim (is_eq (path_cmp c d)) as (λ b. is_eq (path_cmp c d) ≡ b → cond b (Some n) (tree.get path_cmp old d) ≡ Some m → m ≡ nested_in t d) [
     | true ↦ λ same it. (let m-is : n ≡ m = cc in sym m-is ∙ is ∙ ap (nested_in t) (same_path_is c d same))
     | false ↦ λ other it. has.each d m it

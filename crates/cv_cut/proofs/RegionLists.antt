@@ -47,11 +47,12 @@ row_list_are c u = record {
   all = λ q n has. goes_to (λ e. row_at c u e.0 e.1) (region u) (q, n) (near_region u q n has);
 }
 
-inner_is : (u : Nodes) (d : Path) → is_inner u d ≡ true → (d ≢ []) × (is_marked u d ≡ true)
+-- another cut is a marked directory that isn't the cut itself
+pub inner_is : (u : Nodes) (d : Path) → is_inner u d ≡ true → (d ≢ []) × (is_marked u d ≡ true)
 inner_is u [] h = cc
 inner_is u (a ∷ d) h = (λ e. cc, h)
 
-is_inner_ : (u : Nodes) (d : Path) → d ≢ [] → is_marked u d ≡ true → is_inner u d ≡ true
+pub is_inner_ : (u : Nodes) (d : Path) → d ≢ [] → is_marked u d ≡ true → is_inner u d ≡ true
 is_inner_ u [] some marked = absurd (some refl)
 is_inner_ u (a ∷ d) some marked = marked
 

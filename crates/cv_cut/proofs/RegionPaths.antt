@@ -1,5 +1,5 @@
 -- The region of a cut, by the entries of the tree.
-use Rattle.std.proofs.Common.{◌≡◌, ℕ, ◌≤◌, true, false, cond, length, take, reverse, None, Some, List, [], ◌∷◌, ◌++◌, map, refl, sym, ap, ◌∙◌}
+use Rattle.std.proofs.Common.{◌≡◌, Bool, true, false, cond, Option, None, Some, List, [], ◌∷◌, ◌++◌, map, refl, sym, ap, ◌∙◌}
 use Rattle.std.specs.declared.cmp.Ordering.TheVariants.{Less}
 use Rattle.std.specs.Ordering.{is_lt, ordering_then}
 use Rattle.std.specs.List.{filter, AllByRecursion}
@@ -15,12 +15,17 @@ use Rattle.cv_base.proofs.PathPrefixes.{behind-Some}
 use Rattle.cv_tree.specs.Tree.{Nodes, at, cons_behind, entries_behind}
 use Rattle.cv_tree.specs.declared.node.Node.{Node}
 use Rattle.cv_tree.proofs.Maps.{entries-from_entries}
-use Rattle.std.proofs.lemmas.List.{take_all}
-use Rattle.std.proofs.lemmas.List.Elements.{filter_agree}
-use Rattle.cv_cut.specs.Cuts.{cuts_of, is_near}
-use Rattle.cv_cut.specs.Cut.{near_rest, is_in_region, is_within, region_at}
-use Rattle.cv_cut.proofs.Between.{in_region}
+use Rattle.cv_cut.specs.Cuts.{is_near}
+use Rattle.cv_cut.specs.Cut.{region_at}
 use Rattle.cv_cut.proofs.Bools.{first_true, second_true, both_true, so, is_less}
+
+-- whether a path is in the region of the cut at c
+abbrev pub near_rest : Nodes → Option Path → Bool
+near_rest u None = false
+near_rest u (Some q) = is_near u q
+
+abbrev pub is_in_region : Nodes → Path → Path → Bool
+is_in_region t c p = near_rest (at t c) (behind c p)
 
 -- paths behind one path are in the order of what is behind it
 cmp-behind : (c q r : Path) → path_cmp (c ++ q) (c ++ r) ≡ path_cmp q r
@@ -52,7 +57,7 @@ module _ {X : Type 0} where
   keys_above k [] below = tt
   keys_above k (e ∷ es) below = (is_less (path_cmp k e.0) (first_true (is_lt (path_cmp k e.0)) (below_all path_cmp k es) below), keys_above k es (second_true (is_lt (path_cmp k e.0)) (below_all path_cmp k es) below))
 
-  keys_rise : (es : List (Path × X)) → is_sorted path_cmp es ≡ true → IsStrictlySortedBy path_cmp (keys_of es)
+  pub keys_rise : (es : List (Path × X)) → is_sorted path_cmp es ≡ true → IsStrictlySortedBy path_cmp (keys_of es)
   unfolding IsStrictlySortedBy
   keys_rise [] rises = tt
   keys_rise (e ∷ es) rises = (keys_above e.0 es (first_true (below_all path_cmp e.0 es) (is_sorted path_cmp es) rises), keys_rise es (second_true (below_all path_cmp e.0 es) (is_sorted path_cmp es) rises))
@@ -79,13 +84,3 @@ region_behind u c (e ∷ es) =
 -- the entries whose paths are in the region
 pub region_is : (t : Nodes) (c : Path) → filter (λ e. is_in_region t c e.0) (entries t) ≡ region_at t c
 region_is t c = region_behind (at t c) c (entries t) ∙ ap (λ es. map {B = Path × Node} (λ e. (c ++ e.0, e.1)) (filter (λ e. is_near (at t c) e.0) es)) (sym (entries-at t c))
-
--- what a loop over all entries collects
-pub collected : (t : Nodes) (c : Path) (cuts : List Path) (es found : List (Path × Node)) (n : ℕ) → found ≡ filter (λ e. is_within cuts c e.0) (take n es)
-    → length es ≤ n → es ≡ entries t → cuts ≡ reverse (cuts_of t) → found ≡ region_at t c
-collected t c cuts es found n is all es-is cuts-is =
-    is
-    ∙ ap (filter (λ e. is_within cuts c e.0)) (take_all n es all ∙ es-is)
-    ∙ ap (λ (ds : List Path). filter (λ e. is_within ds c e.0) (entries t)) cuts-is
-    ∙ filter_agree (λ e. is_within (reverse (cuts_of t)) c e.0) (λ e. is_in_region t c e.0) (λ e. in_region t c e.0) (entries t)
-    ∙ region_is t c

@@ -23,7 +23,7 @@ use Rattle.cv_rows.specs.declared.row_kind.RowKind.{RowKind}
 use Rattle.cv_rows.specs.declared.row_kind.RowKind.TheVariants.{Directory, Transition, NestedRoot, File, Link}
 use Rattle.cv_cut.specs.Cuts.{is_file, is_marked, is_cut}
 use Rattle.cv_cut.specs.Catalogues.{entry_of, kind_of}
-use Rattle.cv_cut.proofs.Ends.{some_last}
+use Rattle.cv_cut.proofs.Ends.{HasLast, some_last}
 use Rattle.cv_cut.proofs.RowFacts.{row_at, row_key, row_kind, row_name, parent_at, name_at, root_row, transition_marked, marked_transition, directory_unmarked, file_node, node_file, nested_root_at}
 use Rattle.cv_cut.proofs.RowRules.{row_keeps, suits}
 use Rattle.cv_cut.proofs.Regions.{IsNear, KeysApart, AreRowsOf, above, root_node, only_root, stands}
@@ -109,24 +109,30 @@ fits c u cut apart q n has = record {
 
 -- ---- markers
 
--- a marker of the region stands in the directory whose key its row has above it
+-- the file of a row with the marker's name stands in the directory whose key the row has above it
+marker_at : (c : Path) (u : Nodes) → StandsAtCut c u → KeysApart c u → (q p : Path) (n m : Node) (r : Row) → IsNear u q n → IsNear u p m → HasLast p → r ≡ row_at c u p m
+    → is_file (Some m) ≡ true → bytes_eq r.name marker ≡ true → bytes_eq r.parent.0 (key_of (c ++ q)) ≡ true → is_file (get u (q ++ marker ∷ [])) ≡ true
+marker_at c u cut apart q p n m r has near l row-is file named keyed =
+    let has_l : IsNear u (l.front ++ l.name ∷ []) m = subst (λ (x : Path). IsNear u x m) l.is near in
+    let row_l : r ≡ row_at c u (l.front ++ l.name ∷ []) m = row-is ∙ ap (λ (x : Path). row_at c u x m) l.is in
+    let name : l.name ≡ marker = sym (name_at c u l.front l.name m) ∙ ap (λ (x : Row). x.name) (sym row_l) ∙ (bytes_eq-Decides r.name marker).0 named in
+    let key : key_of (c ++ l.front) ≡ key_of (c ++ q) = sym (parent_at c u l.front l.name m) ∙ ap (λ (x : Row). x.parent.0) (sym row_l) ∙ (bytes_eq-Decides r.parent.0 (key_of (c ++ q))).0 keyed in
+    let a = above u cut.part l.front l.name m has_l in
+    let same : l.front ≡ q = apart.each l.front q a.node_ n a.there has key in
+    let place : l.front ++ l.name ∷ [] ≡ q ++ marker ∷ [] = ap (λ (x : Path). x ++ l.name ∷ []) same ∙ ap (λ (x : List ℕ). q ++ x ∷ []) name in
+    ap is_file (ap (get u) (sym place) ∙ has_l.there) ∙ file
+
 marker_there : (c : Path) (u : Nodes) (rows : List Row) → StandsAtCut c u → KeysApart c u → AreRowsOf c u rows → (q : Path) (n : Node) → IsNear u q n
     → has_marker rows (key_of (c ++ q)) ≡ true → is_file (get u (q ++ marker ∷ [])) ≡ true
 marker_there c u rows cut apart are q n has h =
     let found = Any-from_list_any (λ f. is_marker f && bytes_eq f.parent.0 (key_of (c ++ q))) rows h in
     let e = are.each found.1 (found.0, found.2, found.3) in
     let is = first_true (is_marker found.1) (bytes_eq found.1.parent.0 (key_of (c ++ q))) found.4 in
-    let key = (bytes_eq-Decides found.1.parent.0 (key_of (c ++ q))).0 (second_true (is_marker found.1) (bytes_eq found.1.parent.0 (key_of (c ++ q))) found.4) in
     let kind : kind_of c u e.0 e.1 ≡ File = sym (row_kind _ (c ++ e.0) e.1) ∙ ap (λ (x : Row). x.kind) (sym e.3) ∙ file_kind found.1.kind (first_true (same_kind found.1.kind File) (bytes_eq found.1.name marker) is) in
     let f = file_node c u e.0 e.1 kind in
-    let l = some_last e.0 f.0 in
-    let has_l : IsNear u (l.front ++ l.name ∷ []) e.1 = subst (λ (x : Path). IsNear u x e.1) l.is e.2 in
-    let row-is : found.1 ≡ row_at c u (l.front ++ l.name ∷ []) e.1 = e.3 ∙ ap (λ (x : Path). row_at c u x e.1) l.is in
-    let name : l.name ≡ marker = sym (name_at c u l.front l.name e.1) ∙ ap (λ (x : Row). x.name) (sym row-is) ∙ (bytes_eq-Decides found.1.name marker).0 (second_true (same_kind found.1.kind File) (bytes_eq found.1.name marker) is) in
-    let a = above u cut.part l.front l.name e.1 has_l in
-    let same : l.front ≡ q = apart.each l.front q a.node_ n a.there has (sym (parent_at c u l.front l.name e.1) ∙ ap (λ (x : Row). x.parent.0) (sym row-is) ∙ key) in
-    let place : l.front ++ l.name ∷ [] ≡ q ++ marker ∷ [] = ap (λ (x : Path). x ++ l.name ∷ []) same ∙ ap (λ (x : List ℕ). q ++ x ∷ []) name in
-    ap is_file (ap (get u) (sym place) ∙ has_l.there) ∙ f.1
+    marker_at c u cut apart q e.0 n e.1 found.1 has e.2 (some_last e.0 f.0) e.3 f.1
+    (second_true (same_kind found.1.kind File) (bytes_eq found.1.name marker) is)
+    (second_true (is_marker found.1) (bytes_eq found.1.parent.0 (key_of (c ++ q))) found.4)
 
 file_some : (o : Option Node) → is_file o ≡ true → (n : Node) × (o ≡ Some n) × (is_file (Some n) ≡ true)
 file_some None file = absurd cc

@@ -1,7 +1,10 @@
 -- What the rows of a region say.
 use Rattle.std.proofs.Common.{◌≡◌, ◌≢◌, true, false, cond, List, [], ◌∷◌, ◌++◌, refl, sym, ap, ◌∙◌, append-nil, append_assoc}
 use Rattle.std.specs.declared.option.Option.TheVariants.{Some}
-use Rattle.cv_base.specs.Path.{Path, key_of}
+use Rattle.std.specs.List.{list_all}
+use Rattle.std.proofs.lemmas.Str.{IsUtf8-nil, is_utf8-from_IsUtf8}
+use Rattle.cv_base.specs.Path.{Path, key_of, is_path_name}
+use Rattle.cv_base.specs.Target.{is_target}
 use Rattle.cv_tree.specs.Tree.{Nodes, is_directory}
 use Rattle.cv_tree.specs.declared.node.Node.{Node}
 use Rattle.cv_tree.specs.declared.node.Node.TheVariants as node
@@ -12,11 +15,24 @@ use Rattle.cv_rows.specs.declared.row_kind.RowKind.{RowKind}
 use Rattle.cv_rows.specs.declared.row_kind.RowKind.TheVariants.{Directory, Transition, NestedRoot, File}
 use Rattle.cv_cut.specs.Cuts.{is_file, is_marked}
 use Rattle.cv_cut.specs.Catalogues.{kind_of, row_of}
+use Rattle.cv_rows.proofs.Texts.{path_name-target}
 use Rattle.cv_cut.proofs.Ends.{root_parent-append, root_name-append}
+use Rattle.cv_cut.proofs.Bools.{first_true, second_true}
 
 -- the row of the path behind a cut
 abbrev pub row_at : Path → Nodes → Path → Node → Row
 row_at c u q n = row_of (kind_of c u q n) (c ++ q) n
+
+-- ---- names
+
+pub empty_target : is_target [] ≡ true
+empty_target = rw (is_utf8-from_IsUtf8 [] IsUtf8-nil) refl
+
+-- the name of a row is a target
+pub name_target : (p : Path) → list_all is_path_name p ≡ true → is_target (root_name p) ≡ true
+name_target [] h = empty_target
+name_target (a ∷ []) h = path_name-target a (first_true (is_path_name a) true h)
+name_target (a ∷ b ∷ p) h = name_target (b ∷ p) (second_true (is_path_name a) (list_all is_path_name (b ∷ p)) h)
 
 -- ---- fields
 

@@ -11,6 +11,7 @@ use Rattle.std.proofs.lemmas.Slice.Eq.{bytes_eq-Decides}
 use Rattle.std.proofs.lemmas.Option.{slice_get_within}
 use Rattle.cv_rows.specs.Made.{AreApart}
 use Rattle.cv_cut.specs.Cut.{AreSame}
+use Rattle.cv_cut.proofs.Bools.{none_some}
 
 abbrev Map : Type 0
 Map = BTreeMap (List ℕ) ℕ
@@ -54,16 +55,12 @@ one_seen keys n seen more key has here new u = record {
         let key-is : key ≡ k = some_same key k (sym here ∙ ap (slice_get keys) j-is ∙ other) in
         let there = has.all i k (omega (arith, lt, j-is)) one in
         let none = ap (at_key seen) (sym key-is) ∙ new in
-        nothing (at_key seen k) none there
+        none_some (at_key seen k) none there
   ];
 }
   where
     some_same : (a b : List ℕ) → Some a ≡ Some b → a ≡ b
     some_same a b h = cc
-
-    nothing : (o : Option ℕ) → o ≡ None → IsSome o → ⊥
-    nothing None h some = cc
-    nothing (Some x) h some = cc
 
 -- all keys were seen
 pub all_seen : (keys : List (List ℕ)) (n : ℕ) (seen : BTreeMap (List ℕ) ℕ) → HasSeen keys n seen → length keys ≤ n → AreApart keys

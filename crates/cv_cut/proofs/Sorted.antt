@@ -1,5 +1,5 @@
 -- Rows in the order of their keys, and nested entries in that of their texts, are the same ones.
-use Rattle.std.proofs.Common.{◌≡◌, ℕ, zero, suc, true, cond, Option, None, Some, List, [], ◌∷◌, map, length, refl, sym, ap, subst, ◌∙◌, arith}
+use Rattle.std.proofs.Common.{◌≡◌, ℕ, zero, suc, true, cond, None, Some, List, [], ◌∷◌, map, refl, sym, ap, subst, ◌∙◌, arith}
 use Rattle.std.specs.Prelude.{Contains, slice_get}
 use Rattle.std.specs.declared.cmp.Ordering.{Ordering}
 use Rattle.std.specs.declared.cmp.Ordering.TheVariants.{Less, Equal, Greater}
@@ -9,6 +9,7 @@ use Rattle.std.specs.List.{AllByRecursion}
 use Rattle.std.specs.List.Sorted.{IsPermutation, IsStrictlySortedBy}
 use Rattle.std.specs.FinMap.{IsAntisymmetric, slice_cmp-IsAntisymmetric, nat_cmp-IsAntisymmetric, find, put, entries, entries_sorted, is_sorted, from_entries, values, get-entries, get-from_entries, entries-insert, empty, len-entries, len-empty}
 use Rattle.std.specs.FinMap.Entries.{below_all, by_order}
+use Rattle.std.proofs.lemmas.List.{nil_from_length}
 use Rattle.std.proofs.lemmas.List.Sorted.{IsPermutation-refl, IsPermutation-sym, IsPermutation-cons, IsPermutation-trans, IsPermutation-middle, IsPermutation-map, Contains-permutation}
 use Rattle.cv_rows.specs.Catalogue.{bytes_cmp}
 use Rattle.cv_rows.specs.Made.{AreApart}
@@ -44,10 +45,6 @@ apart_tail : (x : List ℕ) (xs : List (List ℕ)) → AreApart (x ∷ xs) → A
 apart_tail x xs apart = λ y t. apart y (record { first = suc t.first; second = suc t.second; order = (let lt = t.order in omega arith); one = t.one; other = t.other })
 
 module _ {X : Type 0} where
-  no_length : (es : List (List ℕ × X)) → length es ≡ 0 → es ≡ []
-  no_length [] h = refl
-  no_length (e ∷ es) h = absurd (omega arith)
-
   new_key : (k : List ℕ) (es : List (List ℕ × X)) → AreApart (k ∷ map (λ e. e.0) es) → find bytes_cmp k es ≡ None
   new_key k es apart =
       elim (find bytes_cmp k es) as (λ o. find bytes_cmp k es ≡ o → o ≡ None) [
@@ -61,7 +58,7 @@ module _ {X : Type 0} where
   -- a map of entries with keys apart has just these entries
   moved : (es : List (List ℕ × X)) → AreApart (map (λ e. e.0) es) → IsPermutation es (entries (from_entries {R = bytes_cmp} es))
   moved [] apart =
-      let none : entries (from_entries {R = bytes_cmp} []) ≡ [] = no_length (entries (empty {X = X} {R = bytes_cmp})) (sym (len-entries (empty {X = X} {R = bytes_cmp})) ∙ len-empty bytes_cmp X) in
+      let none : entries (from_entries {R = bytes_cmp} []) ≡ [] = nil_from_length (entries (empty {X = X} {R = bytes_cmp})) (sym (len-entries (empty {X = X} {R = bytes_cmp})) ∙ len-empty bytes_cmp X) in
       subst (IsPermutation []) (sym none) (IsPermutation-refl [])
   moved (e ∷ es) apart =
       let rest = moved es (apart_tail e.0 (map (λ e. e.0) es) apart) in

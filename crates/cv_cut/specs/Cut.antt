@@ -1,10 +1,12 @@
 -- What a tree is cut into.
-use Rattle.std.specs.Prelude.{◌≡◌, ℕ, ◌<◌, ◌≤◌, List, [], ◌++◌, Bool, true, false, not, ◌&&◌, nat_lt, Option, Some, None, map, reverse, length, slice_get, unwrap_or}
-use Rattle.std.specs.List.{list_any}
+use Rattle.std.specs.Prelude.{◌≡◌, ℕ, ◌<◌, ◌≤◌, List, [], ◌++◌, Bool, true, not, Some, IsSome, map, reverse, length, slice_get, unwrap_or}
+use Rattle.std.specs.List.{All, filter}
+use Rattle.std.specs.Ordering.{is_lt}
+use Rattle.std.specs.FinMap.{is_sorted}
 use Rattle.std.specs.BTreeMap.{BTreeMap}
 use Rattle.std.specs.BTreeMap as tree
 use Rattle.sha1.specs.Sha1.{sha1}
-use Rattle.cv_base.specs.Path.{Path, path_cmp, behind, covers, key_of}
+use Rattle.cv_base.specs.Path.{Path, path_cmp, behind, key_of}
 use Rattle.cv_base.specs.ObjectId.{object_id}
 use Rattle.cv_base.specs.declared.object.Object.{Object}
 use Rattle.cv_base.specs.declared.id.Kind.TheVariants.{Catalogue}
@@ -12,31 +14,20 @@ use Rattle.cv_tree.specs.Tree.{Nodes, at}
 use Rattle.cv_tree.specs.declared.node.Node.{Node}
 use Rattle.cv_rows.specs.declared.row.Row.{Row}
 use Rattle.cv_rows.specs.declared.nested.Nested.{Nested}
-use Rattle.cv_cut.specs.Cuts.{cuts_of, is_near, is_inner, region}
+use Rattle.cv_cut.specs.Cuts.{cuts_of, is_inner, region}
 use Rattle.cv_cut.specs.Catalogues.{kind_of, row_of, entry_of, cat, root_of, SharesKey, IsFull}
 use Rattle.cv_cut.specs.declared.tree_cut.Cut.{Cut}
 use Rattle.cv_cut.specs.declared.cut_fault.CutFault.{CutFault}
 use Rattle.cv_cut.specs.declared.cut_fault.CutFault.TheVariants.{PathCollision, CatalogueFull, NoMemory}
 
--- whether a path is in the region of the cut at c
-abbrev pub near_rest : Nodes → Option Path → Bool
-near_rest u None = false
-near_rest u (Some q) = is_near u q
-
-abbrev pub is_in_region : Nodes → Path → Path → Bool
-is_in_region t c p = near_rest (at t c) (behind c p)
-
 -- the region of a cut, with its paths from the root of the repository on
 abbrev pub region_at : Nodes → Path → List (Path × Node)
 region_at t c = map (λ e. (c ++ e.0, e.1)) (region (at t c))
 
--- d is properly below c, and p properly below d
-abbrev pub is_between : Path → Path → Path → Bool
-is_between c d p = nat_lt (length c) (length d) && nat_lt (length d) (length p) && covers c d && covers d p
-
--- p is c, or below it with none of the cuts between
-unfoldable pub is_within : List Path → Path → Path → Bool
-is_within others c p = covers c p && not (list_any (λ d. is_between c d p) others)
+-- entries in the order of their paths, of which none stands before p
+pub record StandFrom (p : Path) (es : List (Path × Node)) : Type 0 where
+  pub rises : is_sorted path_cmp es ≡ true
+  pub from : All (λ e. not (is_lt (path_cmp e.0 p)) ≡ true) es
 
 -- the catalogue of the cut at a path, under its id
 abbrev pub catalogue_object : Nodes → Path → Object
@@ -60,7 +51,7 @@ rest_of c p = unwrap_or (behind c p) []
 abbrev pub row_in : Nodes → Path → Path × Node → Row
 row_in t c e = row_of (kind_of c (at t c) (rest_of c e.0) e.1) e.0 e.1
 
--- whether the path of the region of the cut at c is another cut
+-- whether a path that the cut at c covers is another cut
 abbrev pub is_other : Nodes → Path → Path → Bool
 is_other t c p = is_inner (at t c) (rest_of c p)
 
@@ -68,8 +59,13 @@ is_other t c p = is_inner (at t c) (rest_of c p)
 abbrev pub nested_in : Nodes → Path → Nested
 nested_in t d = entry_of d (cat t d)
 
--- what has been made: the nested entries of cuts, none of which has more than 16 MiB
-pub record HasMade (t : Nodes) (made : BTreeMap Path Nested) : Type 0 where
+-- the other cuts that the cut at c covers
+abbrev pub cuts_below : Nodes → Path → List Path
+cuts_below t c = filter (is_other t c) (cuts_of t)
+
+-- what has been made: nested entries of cuts, among them those of all of a list, and none of more than 16 MiB
+pub record HasMade (t : Nodes) (cuts : List Path) (made : BTreeMap Path Nested) : Type 0 where
+  pub all : All (λ d. IsSome (tree.get path_cmp made d)) cuts
   pub each : (d : Path) (n : Nested) → tree.get path_cmp made d ≡ Some n → n ≡ nested_in t d
   pub sizes : (d : Path) (n : Nested) → tree.get path_cmp made d ≡ Some n → n.size ≤ 16777216
 

@@ -6,7 +6,7 @@ ghost use Rattle.std.specs.FinMap as map;
 ghost use Rattle.std.specs.Ordering.{nat_cmp};
 ghost use Rattle.cv_base.specs.Path.{Path};
 ghost use Rattle.cv_rows.specs.Made.{AreApart};
-ghost use Rattle.cv_tree.specs.Tree.{Nodes, IsTree};
+ghost use Rattle.cv_tree.specs.Tree.{IsTree};
 ghost use Rattle.cv_cut.specs.Cuts.{cuts_of};
 ghost use Rattle.cv_cut.specs.Catalogues.{SharesKey};
 ghost use Rattle.cv_cut.specs.Cut.{AreSame, IsCollision, IsShared, keys_at};
@@ -14,7 +14,7 @@ ghost use Rattle.cv_cut.specs.Cut.{AreSame, IsCollision, IsShared, keys_at};
 use crate::cut_fault::CutFault;
 use crate::region::region;
 use cv_base::{NoMemory, RepoPath};
-use cv_tree::Node;
+use cv_tree::{Node, Tree};
 use std::alloc::Global;
 use std::collections::BTreeMap;
 
@@ -63,14 +63,18 @@ fn check_region(alloc: Global, region: &[(RepoPath, Node)]) -> Result<(), CutFau
 /// Looks in the region of each cut for two paths that have one key, where these are the entries and the cuts of a tree.
 pub(crate) fn check_keys(
     alloc: Global,
+    tree: &Tree,
     entries: &[(RepoPath, Node)],
     cuts: &[RepoPath],
 ) -> Result<(), CutFault>
-    ensures ok { (t : Nodes) → IsTree t → entries.now ≡ map.entries t → cuts.now ≡ reverse (cuts_of t) → OnOk result ((p q : Path) → SharesKey t p q → ⊥) }
-    ensures err { (t : Nodes) → IsTree t → entries.now ≡ map.entries t → cuts.now ≡ reverse (cuts_of t) → IfErr result (IsShared t) }
+    requires tree { IsTree tree.now }
+    requires entries { entries.now ≡ map.entries tree.now }
+    requires cuts { cuts.now ≡ reverse (cuts_of tree.now) }
+    ensures ok { OnOk result ((p q : Path) → SharesKey tree.now p q → ⊥) }
+    ensures err { IfErr result (IsShared tree.now) }
 {
     for cut in cuts {
-        let region = region(alloc, entries, cuts, cut)?;
+        let region = region(alloc, tree, entries, cut)?;
         check_region(alloc, &region)?;
     }
     Ok(())

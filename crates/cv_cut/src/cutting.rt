@@ -1,5 +1,5 @@
 //! Cutting a tree into catalogues.
-ghost use Rattle.std.specs.Prelude.{◌≡◌, ◌≤◌, true, Some, Err, IfOk, IfErr, OnOk, map, reverse, length, ◌++◌, ◌∷◌, []};
+ghost use Rattle.std.specs.Prelude.{◌≡◌, ◌≤◌, true, Some, Err, IsSome, IfOk, IfErr, OnOk, map, reverse, length, ◌++◌, ◌∷◌, []};
 ghost use Rattle.std.specs.List.{All};
 ghost use Rattle.std.specs.BTreeMap.{Updates, get};
 ghost use Rattle.std.specs.FinMap as finmap;
@@ -7,20 +7,19 @@ ghost use Rattle.cv_base.specs.Path.{Path, path_cmp};
 ghost use Rattle.cv_tree.specs.Tree.{IsTree};
 ghost use Rattle.cv_cut.specs.Cuts.{is_cut, cuts_of};
 ghost use Rattle.cv_cut.specs.Catalogues.{Fits, SharesKey, IsFull, cat, entry_of};
-ghost use Rattle.cv_cut.specs.Cut.{HasMade, IsFullCut, catalogue_object, cut_of, region_at};
+ghost use Rattle.cv_cut.specs.Cut.{HasMade, IsFullCut, cuts_below, catalogue_object, cut_of, region_at};
 ghost use Rattle.sha1.specs.Sha1.{sha1};
 ghost use Rattle.cv_base.specs.ObjectId.{object_id};
 ghost use Rattle.cv_base.specs.declared.id.Kind.TheVariants as kinds;
 ghost use Rattle.cv_cut.specs.declared.cut_fault.CutFault.TheVariants as fault;
 
-use crate::catalogues::Catalogues;
 use crate::collision::check_keys;
 use crate::cut_fault::CutFault;
 use crate::nested::nested;
 use crate::region::{cuts, region};
 use crate::rows::rows;
 use crate::tree_cut::Cut;
-use cv_base::{Bytes, Kind, NoMemory, Object, ObjectId, RepoPath};
+use cv_base::{Bytes, Items, Kind, NoMemory, Object, ObjectId, RepoPath};
 use cv_rows::{Catalogue, Nested, WithFault};
 use cv_tree::{Node, Tree};
 use std::alloc::Global;
@@ -38,7 +37,7 @@ fn catalogue(
     requires cut { is_cut tree.now cut.now ≡ true }
     requires region { region.now ≡ region_at tree.now cut.now }
     requires apart { (p q : Path) → SharesKey tree.now p q → ⊥ }
-    requires made { HasMade tree.now made.now }
+    requires made { HasMade tree.now (cuts_below tree.now cut.now) made.now }
     ensures bytes { IfOk result (λ bytes. bytes.items ≡ cat tree.now cut.now) }
     ensures fits { OnOk result (IsFull tree.now cut.now → ⊥) }
     ensures full { IfErr result (IsFullCut tree.now) }
@@ -90,15 +89,15 @@ fn catalogues(
     requires entries { entries.now ≡ finmap.entries tree.now }
     requires cuts { cuts.now ≡ reverse (cuts_of tree.now) }
     requires apart { (p q : Path) → SharesKey tree.now p q → ⊥ }
-    requires made { HasMade tree.now made.old }
+    requires made { HasMade tree.now [] made.old }
     ensures objects { IfOk result (λ objects. objects.items ≡ map (catalogue_object tree.now) cuts.now) }
     ensures fits { OnOk result (All (λ c. IsFull tree.now c → ⊥) cuts.now) }
-    ensures made { OnOk result (HasMade tree.now made.new) }
+    ensures made { OnOk result (HasMade tree.now cuts.now made.new) }
     ensures full { IfErr result (IsFullCut tree.now) }
 {
     let mut objects = Vec::new(alloc);
     for cut in cuts {
-        let region = region(alloc, entries, cuts, cut)?;
+        let region = region(alloc, tree, entries, cut)?;
         let bytes = catalogue(alloc, tree, cut, &region, made)?;
         keep(alloc, made, &mut objects, cut, bytes)?;
     }
@@ -107,12 +106,12 @@ fn catalogues(
 
 /// The entry of the root's catalogue, which was made.
 fn root_entry(alloc: Global, made: &BTreeMap<RepoPath, Nested>) -> Result<Nested, NoMemory>
+    requires { IsSome (get path_cmp made.now []) }
     ensures { IfOk result (λ entry. get path_cmp made.now [] ≡ Some entry) }
 {
     match made.get(&RepoPath::root(alloc)) {
         Some(entry) => entry.copy(alloc),
-        // The root is a cut of every tree.
-        None => Err(NoMemory),
+        None => unreachable!(),
     }
 }
 
@@ -128,7 +127,7 @@ pub fn cut(alloc: Global, tree: &Tree) -> Result<Cut, CutFault>
 {
     let entries = tree.entries(alloc)?;
     let cuts = cuts(alloc, tree, &entries)?;
-    check_keys(alloc, &entries, &cuts)?;
+    check_keys(alloc, tree, &entries, &cuts)?;
     let mut made = BTreeMap::new(alloc);
     let objects = catalogues(alloc, tree, &entries, &cuts, &mut made)?;
     let root = root_entry(alloc, &made)?;
@@ -137,6 +136,6 @@ pub fn cut(alloc: Global, tree: &Tree) -> Result<Cut, CutFault>
     Ok(Cut {
         root: ObjectId { hash, kind },
         size: root.size,
-        catalogues: Catalogues::new(objects),
+        catalogues: Items::new(objects),
     })
 }

@@ -1,7 +1,6 @@
 //! A tree and its catalogues: what the hash of a root catalogue means.
 #![tactic(auto)]
 
-mod catalogues;
 mod collision;
 mod cut_fault;
 mod cutting;
@@ -14,7 +13,6 @@ mod rows;
 mod tests;
 mod tree_cut;
 
-pub use catalogues::Catalogues;
 pub use cut_fault::CutFault;
 pub use cutting::cut;
 pub use tree_cut::Cut;

@@ -1,10 +1,12 @@
 //! Directories that are marked as roots of nested catalogues.
-ghost use Rattle.std.specs.Prelude.{◌≡◌, ◌≢◌, ◌∷◌, ◌++◌, [], false, IfOk};
+ghost use Rattle.std.specs.Prelude.{◌≡◌, ◌≢◌, ◌∷◌, ◌++◌, [], true, false, IfOk};
 ghost use Rattle.std.specs.FinMap as map;
 ghost use Rattle.cv_base.specs.Marker.{marker};
+ghost use Rattle.cv_base.specs.Path.{covers};
 ghost use Rattle.cv_base.specs.declared.path_fault.PathFault.TheVariants as faults;
 ghost use Rattle.cv_tree.specs.Tree.{IsTree};
 ghost use Rattle.cv_cut.specs.Cuts.{is_file, is_marked};
+ghost use Rattle.cv_cut.specs.Cut.{is_other};
 
 use cv_base::{MARKER, NoMemory, PathFault, RepoPath};
 use cv_tree::{Node, Tree};
@@ -39,4 +41,20 @@ pub(crate) fn is_marked(alloc: Global, tree: &Tree, path: &RepoPath) -> Result<b
         Some(Node::Dir(_)) => holds_marker(alloc, tree, path),
         _ => Ok(false),
     }
+}
+
+/// Whether a path that a cut covers is another cut.
+pub(crate) fn is_other(
+    alloc: Global,
+    tree: &Tree,
+    cut: &RepoPath,
+    path: &RepoPath,
+) -> Result<bool, NoMemory>
+    requires { covers cut.now path.now ≡ true }
+    ensures { IfOk result (λ other. other ≡ is_other tree.now cut.now path.now) }
+{
+    if path.names().len() == cut.names().len() {
+        return Ok(false);
+    }
+    is_marked(alloc, tree, path)
 }

@@ -2,25 +2,14 @@
 ghost use Rattle.std.specs.Prelude.{◌≡◌, ◌≤◌, true, false, map, filter, IfOk, MatchOption};
 ghost use Rattle.std.specs.List.{All};
 ghost use Rattle.cv_base.specs.Path.{covers};
-ghost use Rattle.cv_cut.specs.Cut.{HasMade, IsOtherEntry, is_other, nested_in};
+ghost use Rattle.cv_cut.specs.Cut.{HasMade, IsOtherEntry, cuts_below, is_other, nested_in};
 
-use crate::marks::is_marked;
+use crate::marks::is_other;
 use cv_base::{NoMemory, RepoPath};
 use cv_rows::Nested;
 use cv_tree::{Node, Tree};
 use std::alloc::Global;
 use std::collections::BTreeMap;
-
-/// Whether a path of the region of a cut is another cut.
-fn is_other(alloc: Global, tree: &Tree, cut: &RepoPath, path: &RepoPath) -> Result<bool, NoMemory>
-    requires { covers cut.now path.now ≡ true }
-    ensures { IfOk result (λ other. other ≡ is_other tree.now cut.now path.now) }
-{
-    if path.names().len() == cut.names().len() {
-        return Ok(false);
-    }
-    is_marked(alloc, tree, path)
-}
 
 /// The nested entry of a path of the region of a cut. None where the path is no other cut.
 fn other_entry(
@@ -31,7 +20,7 @@ fn other_entry(
     made: &BTreeMap<RepoPath, Nested>,
 ) -> Result<Option<Nested>, NoMemory>
     requires path { covers cut.now path.now ≡ true }
-    requires made { HasMade tree.now made.now }
+    requires made { HasMade tree.now (cuts_below tree.now cut.now) made.now }
     ensures { IfOk result (λ found. MatchOption found (is_other tree.now cut.now path.now ≡ false) (IsOtherEntry tree.now cut.now path.now)) }
 {
     if !is_other(alloc, tree, cut, path)? {
@@ -40,7 +29,7 @@ fn other_entry(
     match made.get(path) {
         Some(entry) => Ok(Some(entry.copy(alloc)?)),
         // The cuts below another are made before it.
-        None => Err(NoMemory),
+        None => unreachable!(),
     }
 }
 
@@ -53,7 +42,7 @@ pub(crate) fn nested(
     made: &BTreeMap<RepoPath, Nested>,
 ) -> Result<Vec<Nested>, NoMemory>
     requires paths { All (λ e. covers cut.now e.0 ≡ true) region.now }
-    requires made { HasMade tree.now made.now }
+    requires made { HasMade tree.now (cuts_below tree.now cut.now) made.now }
     ensures entries { IfOk result (λ nested. nested.items ≡ map (λ e. nested_in tree.now e.0) (filter (λ e. is_other tree.now cut.now e.0) region.now)) }
     ensures sizes { IfOk result (λ nested. All (λ n. n.size ≤ 16777216) nested.items) }
 {

@@ -1,12 +1,12 @@
 //! The cuts of a tree, and their regions.
-ghost use Rattle.std.specs.Prelude.{◌≡◌, IfOk, reverse};
-ghost use Rattle.std.specs.List.{list_any};
+ghost use Rattle.std.specs.Prelude.{◌≡◌, ◌≤◌, true, not, filter, length, take, drop, reverse, IfOk, if◌then◌else◌};
 ghost use Rattle.std.specs.FinMap as map;
-ghost use Rattle.cv_tree.specs.Tree.{Nodes};
+ghost use Rattle.std.specs.Ordering.{is_lt};
+ghost use Rattle.cv_base.specs.Path.{path_cmp, covers};
 ghost use Rattle.cv_cut.specs.Cuts.{is_cut, cuts_of};
-ghost use Rattle.cv_cut.specs.Cut.{is_between, is_within, region_at};
+ghost use Rattle.cv_cut.specs.Cut.{StandFrom, is_other, region_at};
 
-use crate::marks::is_marked;
+use crate::marks::{is_marked, is_other};
 use cv_base::{NoMemory, RepoPath};
 use cv_tree::{Node, Tree};
 use std::alloc::Global;
@@ -40,29 +40,59 @@ pub(crate) fn cuts(
     Ok(found)
 }
 
-/// Whether a path is properly below a cut, and properly above another path.
-fn is_between(cut: &RepoPath, path: &RepoPath, below: &RepoPath) -> bool
-    ensures { result ≡ is_between cut.now path.now below.now }
+/// The entries that don't stand before a path, of sorted ones.
+fn starting_at<'a>(entries: &'a [(RepoPath, Node)], path: &RepoPath) -> &'a [(RepoPath, Node)]
+    requires { map.is_sorted path_cmp entries.now ≡ true }
+    ensures { result.now ≡ filter (λ e. not (is_lt (path_cmp e.0 path.now))) entries.now }
 {
-    cut.names().len() < path.names().len()
-        && path.names().len() < below.names().len()
-        && cut.covers(path)
-        && path.covers(below)
+    let start = entries.partition_point(
+        |entry: &(RepoPath, Node)| -> bool
+            ensures { result ≡ is_lt (path_cmp entry.now.0 path.entry.now) }
+        { entry.0 < *path },
+    );
+    &entries[start..]
 }
 
-/// Whether one of the cuts is between a cut and a path.
-fn has_between(cuts: &[RepoPath], cut: &RepoPath, path: &RepoPath) -> bool
-    ensures { result ≡ list_any (λ other. is_between cut.now other path.now) cuts.now }
+/// How many entries a path covers, of sorted ones of which none stands before it: they are the first.
+fn count_covered(entries: &[(RepoPath, Node)], path: &RepoPath) -> usize
+    requires { StandFrom path.now entries.now }
+    ensures count { result ≤ length entries.now }
+    ensures covered { take result entries.now ≡ filter (λ e. covers path.now e.0) entries.now }
+    ensures others { drop result entries.now ≡ filter (λ e. not (covers path.now e.0)) entries.now }
 {
-    cuts.iter().any(|other| is_between(cut, other, path))
+    entries.partition_point(
+        |entry: &(RepoPath, Node)| -> bool
+            ensures { result ≡ covers path.entry.now entry.now.0 }
+        { path.covers(&entry.0) },
+    )
 }
 
-/// Whether a path is that of a cut, or below it with none of the cuts between.
-#[tactic(auto, unfolding(crate::specs::Cut::is_within))]
-fn is_within(cuts: &[RepoPath], cut: &RepoPath, path: &RepoPath) -> bool
-    ensures { result ≡ is_within cuts.now cut.now path.now }
+/// The entries that a path covers, of sorted ones.
+fn covered<'a>(entries: &'a [(RepoPath, Node)], path: &RepoPath) -> &'a [(RepoPath, Node)]
+    requires { map.is_sorted path_cmp entries.now ≡ true }
+    ensures { result.now ≡ filter (λ e. covers path.now e.0) entries.now }
 {
-    cut.covers(path) && !has_between(cuts, cut, path)
+    let rest = starting_at(entries, path);
+    &rest[..count_covered(rest, path)]
+}
+
+/// What is left of the entries behind one in the region of a cut: where it is another cut, those that it doesn't cover.
+fn left_behind<'a>(
+    alloc: Global,
+    tree: &Tree,
+    cut: &RepoPath,
+    path: &RepoPath,
+    more: &'a [(RepoPath, Node)],
+) -> Result<&'a [(RepoPath, Node)], NoMemory>
+    requires covered { covers cut.now path.now ≡ true }
+    requires more { StandFrom path.now more.now }
+    ensures { IfOk result (λ rest. rest.now ≡ (if is_other tree.now cut.now path.now then filter (λ e. not (covers path.now e.0)) more.now else more.now)) }
+{
+    if is_other(alloc, tree, cut, path)? {
+        Ok(&more[count_covered(more, path)..])
+    } else {
+        Ok(more)
+    }
 }
 
 /// An equal entry.
@@ -72,20 +102,21 @@ fn copy(alloc: Global, entry: &(RepoPath, Node)) -> Result<(RepoPath, Node), NoM
     Ok((entry.0.copy(alloc)?, entry.1.copy(alloc)?))
 }
 
-/// The entries of the region of a cut, of all entries and cuts of a tree.
+/// The entries of the region of a cut, of all entries of a tree. What stands below another cut in it is passed over.
 pub(crate) fn region(
     alloc: Global,
+    tree: &Tree,
     entries: &[(RepoPath, Node)],
-    cuts: &[RepoPath],
     cut: &RepoPath,
 ) -> Result<Vec<(RepoPath, Node)>, NoMemory>
-    ensures { (t : Nodes) → entries.now ≡ map.entries t → cuts.now ≡ reverse (cuts_of t) → IfOk result (λ region. region.items ≡ region_at t cut.now) }
+    requires { entries.now ≡ map.entries tree.now }
+    ensures { IfOk result (λ region. region.items ≡ region_at tree.now cut.now) }
 {
     let mut region = Vec::new(alloc);
-    for entry in entries {
-        if is_within(cuts, cut, &entry.0) {
-            region.push(copy(alloc, entry)?).map_err(|_| NoMemory)?;
-        }
+    let mut rest = covered(entries, cut);
+    while let Some((first, more)) = rest.split_first() {
+        region.push(copy(alloc, first)?).map_err(|_| NoMemory)?;
+        rest = left_behind(alloc, tree, cut, &first.0, more)?;
     }
     Ok(region)
 }

@@ -1,9 +1,9 @@
 //! The rows of a region.
 ghost use Rattle.std.specs.Prelude.{◌≡◌, true, map, IfOk, if◌then◌else◌};
 ghost use Rattle.std.specs.List.{All};
-ghost use Rattle.md5.specs.Md5.{md5};
-ghost use Rattle.cv_base.specs.Path.{text_of, covers};
-ghost use Rattle.cv_rows.specs.Places.{root_kind, root_parent, root_name};
+ghost use Rattle.cv_base.specs.Path.{covers};
+ghost use Rattle.cv_base.specs.Target.{is_target};
+ghost use Rattle.cv_rows.specs.Places.{root_kind, root_name};
 ghost use Rattle.cv_rows.specs.declared.row_kind.RowKind.TheVariants as kinds;
 ghost use Rattle.cv_tree.specs.Tree.{at};
 ghost use Rattle.cv_cut.specs.Cuts.{is_marked};
@@ -11,52 +11,19 @@ ghost use Rattle.cv_cut.specs.Catalogues.{kind_of, row_of};
 ghost use Rattle.cv_cut.specs.Cut.{rest_of, row_in};
 
 use crate::marks::is_marked;
-use cv_base::{NoMemory, PathKey, PathName, RepoPath, Target};
-use cv_rows::{Row, RowKind};
+use cv_base::{NoMemory, RepoPath, Target};
+use cv_rows::{Row, RowKind, last_name, parent_key};
 use cv_tree::{Node, Tree};
-use md5::{Digest, Md5};
 use std::alloc::Global;
-
-/// The key of the path of these names.
-fn key_of_names(names: &[PathName]) -> [u8; 16]
-    ensures { result ≡ md5 (text_of names.now) }
-{
-    let mut hasher = Md5::new();
-    for name in names {
-        hasher.update("/");
-        hasher.update(name.as_str());
-    }
-    hasher.finalize()
-}
-
-/// The key above a path. That of the root is zero bytes.
-fn parent_key(path: &RepoPath) -> PathKey
-    ensures { result.0 ≡ root_parent path.now }
-{
-    match path.names() {
-        [] => PathKey([0; 16]),
-        [above @ .., _] => PathKey(key_of_names(above)),
-    }
-}
-
-/// The last name of a path. That of the root is the empty text.
-fn last_name(path: &RepoPath) -> &str
-    ensures { result.now ≡ root_name path.now }
-{
-    match path.names().last() {
-        Some(last) => last.as_str(),
-        None => "",
-    }
-}
 
 /// A text as the target that it is.
 fn as_target(alloc: Global, text: &str) -> Result<Target, NoMemory>
+    requires { is_target text.now ≡ true }
     ensures { IfOk result (λ target. target ≡ text.now) }
 {
     match Target::read(alloc, text)? {
         Some(target) => Ok(target),
-        // A name has no more bytes than a target may have.
-        None => Err(NoMemory),
+        None => unreachable!(),
     }
 }
 
@@ -103,7 +70,18 @@ fn kind(
     }
 }
 
+/// The name of the row of a path: the path's last name, and empty for the root of the repository.
+fn name(alloc: Global, path: &RepoPath) -> Result<Target, NoMemory>
+    ensures { IfOk result (λ name. name ≡ root_name path.now) }
+{
+    if path.names().is_empty() {
+        return as_target(alloc, "");
+    }
+    as_target(alloc, last_name(path))
+}
+
 /// The row of this kind for a node at a path.
+#[tactic(auto, using(crate::proofs::RowFacts::empty_target))]
 fn row(alloc: Global, kind: RowKind, path: &RepoPath, node: &Node) -> Result<Row, NoMemory>
     ensures { IfOk result (λ row. row ≡ row_of kind path.now node.now) }
 {
@@ -119,7 +97,7 @@ fn row(alloc: Global, kind: RowKind, path: &RepoPath, node: &Node) -> Result<Row
         attr,
         size,
         hash,
-        name: as_target(alloc, last_name(path))?,
+        name: name(alloc, path)?,
         target,
     })
 }

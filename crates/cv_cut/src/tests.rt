@@ -250,8 +250,48 @@ fn check(
 
 #[test]
 fn trees_have_these_catalogues(rt: HostRuntime) -> Result<(), Fail> {
-    for (text, root, size, count, total) in TREES {
-        check(&rt, rt.alloc(), text, root, size, count, total)?;
+    for (text, root, size, count, total) in &TREES {
+        check(&rt, rt.alloc(), text, root, *size, *count, *total)?;
     }
+    Ok(())
+}
+
+/// The most rows of a catalogue.
+const MOST_ROWS: u32 = 50_000;
+
+/// Adds a file to a directory for each number of a range.
+fn add_files(
+    alloc: Global,
+    tree: &mut Tree,
+    directory: &str,
+    first: u32,
+    end: u32,
+) -> Result<(), Fail> {
+    for number in first..end {
+        let path = format!(in alloc; "{directory}/f{number}")?;
+        tree.insert(&RepoPath::read(alloc, &path)?, file("one")?)?;
+    }
+    Ok(())
+}
+
+/// Which cut a tree has whose catalogue is full, by the text of its path.
+fn full_cut(alloc: Global, tree: &Tree) -> Result<Option<String>, Fail> {
+    match cut(alloc, tree) {
+        Err(CutFault::CatalogueFull(path)) => Ok(Some(path.text(alloc)?)),
+        Err(fault) => Err(fault.into()),
+        Ok(_) => Ok(None),
+    }
+}
+
+#[test]
+fn a_nested_catalogue_of_too_many_rows_is_full(rt: HostRuntime) -> Result<(), Fail> {
+    let alloc = rt.alloc();
+
+    // The rows of the directory and of its marker are there already.
+    let mut tree = tree_of(alloc, "/d/ /d/.cvmfscatalog")?;
+    add_files(alloc, &mut tree, "/d", 2, MOST_ROWS)?;
+    assert!(&rt; full_cut(alloc, &tree)?.is_none());
+    add_files(alloc, &mut tree, "/d", MOST_ROWS, MOST_ROWS + 1)?;
+    assert_eq!(&rt; full_cut(alloc, &tree)?.as_deref(), Some("/d"));
     Ok(())
 }

@@ -1,7 +1,6 @@
 //! What a tree is cut into.
 
-use crate::catalogues::Catalogues;
-use cv_base::ObjectId;
+use cv_base::{Items, Object, ObjectId};
 
 /// A tree as catalogues.
 #[derive(Debug, Drop)]
@@ -11,5 +10,5 @@ pub struct Cut {
     /// How many bytes that catalogue has.
     pub size: u64,
     /// The catalogue of each cut, behind those nested in it.
-    pub catalogues: Catalogues,
+    pub catalogues: Items<Object>,
 }

@@ -4,13 +4,13 @@ use Rattle.cv_cut.proofs.Collisions.{each_apart, one_apart, sharing_there, hande
 use Rattle.cv_cut.proofs.collision.check_keys.Goals as goal
 
 pub returns-in_err-check_region-clause-err : goal.returns-in_err-check_region-clause-err
-returns-in_err-check_region-clause-err c t tree entries-is cuts-is =
-    let f = sharing_there t c.args.cuts.now c.loop-cut.cut-index _ _ c.in_err-check_region.field-0.0 cuts-is c.loop-cut-test.true c.cut-item.is (c.deref.ensures.value ∙ c.in_ok-region.ensures t entries-is cuts-is) c.in_err-check_region.ensures.err in
-    handed_on (IsShared t) _ _ c.from_residual-in_err-check_region.ensures.1 f
+returns-in_err-check_region-clause-err c =
+    let f = sharing_there c.args.tree.now c.args.cuts.now c.loop-cut.cut-index _ _ c.in_err-check_region.field-0.0 c.requires.cuts c.loop-cut-test.true c.cut-item.is (c.deref.ensures.value ∙ c.in_ok-region.ensures) c.in_err-check_region.ensures.err in
+    handed_on (IsShared c.args.tree.now) _ _ c.from_residual-in_err-check_region.ensures.1 f
 
 pub loop-cut-preserved : goal.loop-cut-preserved
-loop-cut-preserved c t tree entries-is cuts-is =
-    one_apart t c.args.cuts.now c.loop-cut.cut-index _ _ (c.loop-cut.invariant t tree entries-is cuts-is) c.loop-cut-test.true c.cut-item.is (c.deref.ensures.value ∙ c.in_ok-region.ensures t entries-is cuts-is) c.in_ok-check_region.ensures.ok
+loop-cut-preserved c =
+    one_apart c.args.tree.now c.args.cuts.now c.loop-cut.cut-index _ _ c.loop-cut.invariant c.loop-cut-test.true c.cut-item.is (c.deref.ensures.value ∙ c.in_ok-region.ensures) c.in_ok-check_region.ensures.ok
 
 pub returns-clause-ok : goal.returns-clause-ok
-returns-clause-ok c t tree entries-is cuts-is = each_apart t c.args.cuts.now c.loop-cut.cut-index tree cuts-is c.loop-cut-test.false (c.loop-cut.invariant t tree entries-is cuts-is)
+returns-clause-ok c = each_apart c.args.tree.now c.args.cuts.now c.loop-cut.cut-index c.requires.tree c.requires.cuts c.loop-cut-test.false c.loop-cut.invariant

@@ -1,7 +1,9 @@
-use Rattle.std.proofs.Common.{◌≡◌, take}
-use Rattle.std.specs.List.{filter}
-use Rattle.cv_cut.specs.Cut.{is_within}
+use Rattle.std.proofs.Common.{length}
+use Rattle.cv_cut.proofs.Collecting.{Collects}
 use Rattle.cv_cut.proofs.region.region.Given as goal
 
-abbrev pub invariant-loop-entry : goal.invariant-loop-entry
-invariant-loop-entry l = l.region.items ≡ filter (λ e. is_within l.cuts l.cut e.0) (take l.entry-index l.entries)
+abbrev pub invariant-loop-first : goal.invariant-loop-first
+invariant-loop-first l = Collects l.tree l.cut l.region.items l.rest
+
+abbrev pub decreases-loop-first : goal.decreases-loop-first
+decreases-loop-first l = length l.rest
