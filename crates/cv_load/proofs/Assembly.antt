@@ -78,7 +78,7 @@ both true true ha hb = refl
 both true false ha hb = absurd cc
 both false b ha hb = absurd cc
 
-not_true : (b : Bool) → (b ≡ true → ⊥) → b ≡ false
+pub not_true : (b : Bool) → (b ≡ true → ⊥) → b ≡ false
 not_true true h = absurd (h refl)
 not_true false h = refl
 

@@ -1,6 +1,6 @@
 -- How a tree grows by rows.
 use Rattle.std.proofs.Common.{◌≡◌, ◌≢◌, ℕ, ◌+◌, ◌-◌, ◌<◌, ◌≤◌, Bool, true, false, cond, List, [], ◌∷◌, ◌++◌, length, get_or, None, Some, IsSome, is_some, refl, sym, ap, subst, ◌∙◌, arith, length-append, ◌⊎◌, inl, inr}
-use Rattle.std.specs.Prelude.{Contains}
+use Rattle.std.specs.Prelude.{Contains, IsTrue, ◌↔◌}
 use Rattle.std.specs.Option.{option_copied}
 use Rattle.std.specs.Borrow.{Bor}
 use Rattle.std.specs.declared.option.Option.{Option}
@@ -91,12 +91,16 @@ place_of c r is has =
 parent_there : (c : Contents) (at : Path) (r : Row) → IsCatalogue c → c.at ≡ at → Contains c.rows r → r.key.0 ≢ key_of at → (p : Row) × HasParent c r p
 parent_there c at r is place has differs = let s = place_of c r is has in parent_of c r s.0 s.1 (not_root c at r place differs)
 
-pub parent_found : (c : Contents) (at : Path) (r : Row) → IsCatalogue c → c.at ≡ at → Contains c.rows r → r.key.0 ≢ key_of at → ((p : Row) → Contains c.rows p → p.key.0 ≢ r.parent.0) → ⊥
-parent_found c at r is place has differs none = let p = parent_there c at r is place has differs in none p.0 p.1.parent (sym p.1.child.parent)
+-- what a test tells doesn't hold where the test fails
+not_by_test : {A : Type 0} (test : Bool) → IsTrue test ↔ A → test ≡ false → A → ⊥
+not_by_test test says fails is = let yes : true ≡ false = sym (says.1 is) ∙ fails in cc
 
-pub parent_by_key : (c : Contents) (at : Path) (r p : Row) → IsCatalogue c → c.at ≡ at → Contains c.rows r → r.key.0 ≢ key_of at → Contains c.rows p → p.key.0 ≡ r.parent.0 → HasParent c r p
-parent_by_key c at r p is place has differs there key =
-    let o = parent_there c at r is place has differs in
+pub parent_found : (c : Contents) (at : Path) (r : Row) (test : Bool) → IsCatalogue c → c.at ≡ at → Contains c.rows r → IsTrue test ↔ (r.key.0 ≡ key_of at) → test ≡ false → ((p : Row) → Contains c.rows p → p.key.0 ≢ r.parent.0) → ⊥
+parent_found c at r test is place has says fails none = let p = parent_there c at r is place has (not_by_test test says fails) in none p.0 p.1.parent (sym p.1.child.parent)
+
+pub parent_by_key : (c : Contents) (at : Path) (r p : Row) (test : Bool) → IsCatalogue c → c.at ≡ at → Contains c.rows r → IsTrue test ↔ (r.key.0 ≡ key_of at) → test ≡ false → Contains c.rows p → p.key.0 ≡ r.parent.0 → HasParent c r p
+parent_by_key c at r p test is place has says fails there key =
+    let o = parent_there c at r is place has (not_by_test test says fails) in
     subst (HasParent c r) (same_by_key c.rows o.0 p is.ordered o.1.parent there (sym o.1.child.parent ∙ sym key)) o.1
 
 -- a row stands at the path of its parent with its name
@@ -150,6 +154,10 @@ each_more P xs i x before lt is here k d le =
 -- all of them
 pub each_all : {X : Type 0} (P : X → Type 0) (xs : List X) → ((k : ℕ) (d : X) → k < length xs → P (get_or xs k d)) → (x : X) → Contains xs x → P x
 each_all P xs each x has = subst P has.2 (each has.0 x has.1)
+
+-- the element of a loop, in the list that the loop goes over
+pub item_of : {X : Type 0} (xs ys : List X) (i : ℕ) (x : X) → ys ≡ xs → i < length ys → x ≡ get_or ys i x → (i < length xs) × (x ≡ get_or xs i x)
+item_of {X} xs ys i x same lt is = (subst (λ (zs : List X). i < length zs) same lt, is ∙ ap (λ (zs : List X). get_or zs i x) same)
 
 pub item_there : {X : Type 0} (xs : List X) (i : ℕ) (x : X) → i < length xs → x ≡ get_or xs i x → Contains xs x
 item_there xs i x lt is = (i, lt, sym is)

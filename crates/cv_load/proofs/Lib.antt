@@ -6,6 +6,7 @@ pub mod Opening
 pub mod Growing
 pub mod Filling
 pub mod Standing
+pub mod Below
 pub mod Assembly
 pub mod WholeRegions
 pub mod Sameness
@@ -13,4 +14,7 @@ pub mod OwnRows
 pub mod OwnCatalogues
 pub mod Means
 pub mod Whole
+pub mod Fetching
+pub mod CutFetches
+pub mod Clearing
 pub mod InTheWay

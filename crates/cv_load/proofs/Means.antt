@@ -63,12 +63,12 @@ directory_row r = go r.kind
     go Link h other = absurd cc
 
 -- the catalogue that is reached at a cut
-record IsOpenAt (shelf : Shelf) (top : List ℕ) (t : Nodes) (p : Path) : Type 0 where
-  hash : List ℕ
-  place : Place
-  reached : ReachesCatalogue shelf top hash place
-  full_ : IsFull shelf t hash place
-  at_ : full_.contents.at ≡ p
+pub record IsOpenAt (shelf : Shelf) (top : List ℕ) (t : Nodes) (p : Path) : Type 0 where
+  pub hash : List ℕ
+  pub place : Place
+  pub reached : ReachesCatalogue shelf top hash place
+  pub full_ : IsFull shelf t hash place
+  pub at_ : full_.contents.at ≡ p
 
 -- the file of a row
 file_of_row : (r : Row) (attr : Attr) (file : FileRef) → node.File attr file ≡ node_of r → r.kind ≡ File → (file.hash ≡ hash_of r.hash) × (file.size ≡ r.size)
@@ -98,7 +98,7 @@ module _ {shelf : Shelf} {top : List ℕ} {t : Nodes} (whole : IsWhole shelf top
       let f = full_of whole itself in
       record { hash = top; place = root_place; reached = itself; full_ = f; at_ = f.has.2.at }
 
-  cut_opened : (p : Path) → is_cut t p ≡ true → IsOpenAt shelf top t p
+  pub cut_opened : (p : Path) → is_cut t p ≡ true → IsOpenAt shelf top t p
   cut_opened [] cut = top_opened
   cut_opened (a ∷ p) cut =
       let n = some_directory (get t (a ∷ p)) (is_file (get t ((a ∷ p) ++ marker ∷ []))) cut in

@@ -9,13 +9,11 @@ use Rattle.cv_base.specs.ObjectId.{object_id}
 use Rattle.cv_base.specs.declared.id.ObjectId.{ObjectId}
 use Rattle.cv_base.specs.declared.id.Kind.TheVariants as id_kind
 use Rattle.cv_ports.specs.Shelf.{Shelf}
-use Rattle.cv_rows.specs.Catalogue.{Contents, IsCatalogue, IsUnlessMemory, IsTransitionAt}
+use Rattle.cv_rows.specs.Catalogue.{Contents, IsCatalogue, IsTransitionAt}
 use Rattle.cv_rows.specs.Places.{IsRoot, StandsAt, root, below, root_kind}
 use Rattle.cv_rows.specs.declared.row.Row.{Row}
 use Rattle.cv_rows.specs.declared.nested.Nested.{Nested}
 use Rattle.cv_rows.specs.declared.row_kind.RowKind.TheVariants.{Transition, File}
-use Rattle.cv_rows.specs.declared.row_fault.RowFault.{RowFault}
-use Rattle.cv_rows.specs.declared.row_fault.RowFault.TheVariants as row_fault
 use Rattle.cv_rows.proofs.PlaceLaws.{stands_contained, same_by_key}
 use Rattle.cv_rows.proofs.NestedLaws.{fits_there}
 use Rattle.cv_rows.proofs.RuleLaws.{has_file}

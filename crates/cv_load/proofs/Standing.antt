@@ -118,7 +118,7 @@ not_less a b less same =
     cc
 
 -- an entry that stands before another has another path
-entry_before : (c : Contents) (i j : ℕ) (m n : Nested) → IsCatalogue c → i < j → i < length c.nested → j < length c.nested → get_or c.nested i m ≡ m → get_or c.nested j n ≡ n → m.path ≡ n.path → ⊥
+pub entry_before : (c : Contents) (i j : ℕ) (m n : Nested) → IsCatalogue c → i < j → i < length c.nested → j < length c.nested → get_or c.nested i m ≡ m → get_or c.nested j n ≡ n → m.path ≡ n.path → ⊥
 entry_before c i j m n is lt li lj at had same =
     let less = Less-from_sorted nested_cmp c.nested i j m is.nested_ordered lt lj in
     let second : get_or c.nested j m ≡ n = get_or_default c.nested j m n lj ∙ had in
@@ -143,7 +143,7 @@ root_not : (c : Path) → root_kind c ≢ Transition
 root_not [] h = cc
 root_not (a ∷ c) h = cc
 
-holds_not : (k : RowKind) → k ≡ Transition → holds_rows k ≡ true → ⊥
+pub holds_not : (k : RowKind) → k ≡ Transition → holds_rows k ≡ true → ⊥
 holds_not k is h = let f : false ≡ true = ap holds_rows (sym is) ∙ h in cc
 
 -- ---- the row that names a catalogue
@@ -283,7 +283,7 @@ one_holder {shelf} {top} {q} a b = one_up_to shelf top (length q) q (omega arith
 
 -- ---- what stands at a path is one node
 
-dir_of : (r : Row) → r.kind ≡ Transition → node_of r ≡ Dir r.attr
+pub dir_of : (r : Row) → r.kind ≡ Transition → node_of r ≡ Dir r.attr
 dir_of r kind = ap (λ (k : RowKind). node_as k r) kind
 
 pub root_dir : (c : Path) (r : Row) → r.kind ≡ root_kind c → node_of r ≡ Dir r.attr

@@ -16,20 +16,21 @@ use Rattle.cv_cut.specs.Reached.{Place, ReachesCatalogue, itself, root_place}
 use Rattle.cv_load.specs.declared.load_fault.LoadFault.{LoadFault}
 use Rattle.cv_load.specs.Answers.{MayFail}
 use Rattle.cv_load.specs.Growth.{Opens, IsCatalogueAt, IsRootOf, IsOfRows, FillsFrom}
+use Rattle.cv_load.proofs.Assembly.{IsWhole}
 use Rattle.cv_load.proofs.Standing.{root_dir}
 use Rattle.cv_load.proofs.Means.{means}
 
-abbrev place_at : Path → Place
+abbrev pub place_at : Path → Place
 place_at p = record { path = p; row = None }
 
-at_root_place : (shelf : Shelf) (id : ObjectId) (p : Path) (c : Contents) → p ≡ [] → IsCatalogueAt shelf id (place_at p) c → IsCatalogueAt shelf id root_place c
+pub at_root_place : (shelf : Shelf) (id : ObjectId) (p : Path) (c : Contents) → p ≡ [] → IsCatalogueAt shelf id (place_at p) c → IsCatalogueAt shelf id root_place c
 at_root_place shelf id p c e h = subst (λ (q : Path). IsCatalogueAt shelf id (place_at q) c) e h
 
 pub loads_unopened : (shelf : Shelf) (id : ObjectId) (p : Path) (f : LoadFault) → p ≡ [] → Opens shelf id (place_at p) (Err f) → MayFail shelf id.hash f
 loads_unopened shelf id p f e h = h id.hash (subst (λ (q : Path). ReachesCatalogue shelf id.hash id.hash (place_at q)) (sym e) itself)
 
 -- a single node at the root of the repository
-single_entry : (m : Node) (q : Path) (n : Node) → get (single m) q ≡ Some n → (q ≡ []) × (n ≡ m)
+pub single_entry : (m : Node) (q : Path) (n : Node) → get (single m) q ≡ Some n → (q ≡ []) × (n ≡ m)
 single_entry m q n e =
     elim (eq_by_cmp path_cmp q []) as (λ b. eq_by_cmp path_cmp q [] ≡ b → cond b (Some m) None ≡ Some n → (q ≡ []) × (n ≡ m)) [
       | true ↦ λ same f. (same_path_is q [] same, sym cc)
@@ -56,9 +57,13 @@ loads_unfilled shelf id p c old new f e stands is h =
     let at = at_root_place shelf id p c e stands in
     h id.hash root_place itself at (root_of_rows shelf id c old at is)
 
-pub loads_all : (shelf : Shelf) (id : ObjectId) (p : Path) (c : Contents) (old new : Nodes) → p ≡ [] → IsCatalogueAt shelf id (place_at p) c → IsRootOf c old
-    → FillsFrom shelf id c old new {X = Unit {0}} (Ok (tt {0})) → IsTree new → Means shelf id.hash new
-loads_all shelf id p c old new e stands is h tree =
+pub loads_whole : (shelf : Shelf) (id : ObjectId) (p : Path) (c : Contents) (old new : Nodes) → p ≡ [] → IsCatalogueAt shelf id (place_at p) c → IsRootOf c old
+    → FillsFrom shelf id c old new {X = Unit {0}} (Ok (tt {0})) → IsTree new → IsWhole shelf id.hash new
+loads_whole shelf id p c old new e stands is h tree =
     let at = at_root_place shelf id p c e stands in
     let f = h id.hash root_place itself at (root_of_rows shelf id c old at is) in
-    means (record { tree = tree; filled = f.filled; rows = f.rows })
+    record { tree = tree; filled = f.filled; rows = f.rows }
+
+pub loads_all : (shelf : Shelf) (id : ObjectId) (p : Path) (c : Contents) (old new : Nodes) → p ≡ [] → IsCatalogueAt shelf id (place_at p) c → IsRootOf c old
+    → FillsFrom shelf id c old new {X = Unit {0}} (Ok (tt {0})) → IsTree new → Means shelf id.hash new
+loads_all shelf id p c old new e stands is h tree = means (loads_whole shelf id p c old new e stands is h tree)

@@ -1,13 +1,13 @@
 -- How a tree grows by the rows of catalogues.
-use Rattle.std.specs.Prelude.{◌≡◌, ◌≢◌, ◌⊎◌, ◌≤◌, ◌+◌, ℕ, List, [], length, Option, Some, None, Result, Ok, Err, IsSome, IsSomeAnd, IfSome, Contains}
+use Rattle.std.specs.Prelude.{◌≡◌, ◌≢◌, ◌⊎◌, ◌≤◌, ◌+◌, ℕ, true, false, List, [], length, Option, Some, None, Result, Ok, Err, IsSome, IsSomeAnd, IfSome, Contains}
 use Rattle.std.specs.FinMap.{get}
 use Rattle.sha1.specs.Sha1.{sha1}
-use Rattle.cv_base.specs.Path.{Path}
+use Rattle.cv_base.specs.Path.{Path, covers}
 use Rattle.cv_base.specs.ObjectId.{object_id}
 use Rattle.cv_base.specs.declared.id.Kind.TheVariants.{Plain, Catalogue}
 use Rattle.cv_base.specs.declared.id.ObjectId.{ObjectId}
 use Rattle.cv_ports.specs.Shelf.{Shelf}
-use Rattle.cv_tree.specs.Tree.{Nodes, single}
+use Rattle.cv_tree.specs.Tree.{Nodes, single, is_directory}
 use Rattle.cv_tree.specs.declared.node.Node.{Node}
 use Rattle.cv_tree.specs.declared.node.Node.TheVariants as node
 use Rattle.cv_rows.specs.Catalogue.{Contents, catalogue_bytes}
@@ -58,6 +58,20 @@ pub record GrowsBy (at : Path) (rows : List Row) (old new : Nodes) : Type 0 wher
 pub record IsAdded (path : Path) (r : Row) (old new : Nodes) : Type 0 where
   pub grows : Grows old new
   pub comes : (q : Path) (n : Node) → get new q ≡ Some n → (get old q ≡ Some n) ⊎ ((q ≡ path) × (n ≡ node_of r))
+
+-- the tree has a directory at the path, and nothing below it
+pub record IsClear (p : Path) (t : Nodes) : Type 0 where
+  pub directory : is_directory (get t p) ≡ true
+  pub alone : (q : Path) → IsSome (get t q) → covers p q ≡ true → q ≡ p
+
+-- the tree has a directory at the catalogue's place, and of these rows what it has below it
+pub record IsReady (at : Path) (rows : List Row) (t : Nodes) : Type 0 where
+  pub directory : is_directory (get t at) ≡ true
+  pub below : (q : Path) (n : Node) → get t q ≡ Some n → covers at q ≡ true → q ≢ at → IsRowNode at rows q n
+
+-- nothing has changed but at the path and below it
+abbrev pub ChangesBelow : Path → Nodes → Nodes → Type 0
+ChangesBelow p old new = (q : Path) → covers p q ≡ false → get new q ≡ get old q
 
 -- the row stands at most so many names behind the catalogue's place
 abbrev pub IsWithin : Path → List Row → Row → ℕ → Type 0

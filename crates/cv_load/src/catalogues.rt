@@ -4,9 +4,10 @@ ghost use Rattle.std.specs.Option.{option_copied};
 ghost use Rattle.cv_base.specs.Counts.{HasCause};
 ghost use Rattle.cv_base.specs.Told.{WhereTold};
 ghost use Rattle.cv_base.specs.declared.id.Kind.TheVariants as id_kind;
-ghost use Rattle.cv_rows.specs.Catalogue.{IsCatalogue};
+ghost use Rattle.cv_ports.specs.Calls.{raised};
 ghost use Rattle.cv_rows.specs.Catalogue.{IsCatalogue};
 ghost use Rattle.cv_load.specs.Growth.{FitsRow, IsFitting, Decoded, Opens, OpensNested};
+ghost use Rattle.cv_load.specs.Fetches.{FetchesOne};
 ghost use Rattle.cv_load.specs.declared.load_fault.LoadFault.TheVariants as faults;
 
 use crate::load_fault::LoadFault;
@@ -89,6 +90,7 @@ pub fn catalogue_at<S: Shelf>(
     ensures place { IfOk result (λ catalogue. catalogue.at ≡ at.now) }
     ensures unchanged { S.shelf shelf.new ≡ S.shelf shelf.old }
     ensures cause { HasCause (S.faults shelf.old) (S.faults shelf.new) (IsErrOf result faults.Failed) }
+    ensures taken { S.taken shelf.new ≡ raised (S.taken shelf.old) }
 {
     let bytes = fetched(alloc, shelf, id)?;
     decoded(alloc, id, bytes.as_slice(), at, row)
@@ -111,6 +113,7 @@ pub fn nested_catalogue<S: Shelf>(
     ensures deeper { length catalogue.now.at < length nested.now.path }
     ensures unchanged { S.shelf shelf.new ≡ S.shelf shelf.old }
     ensures cause { HasCause (S.faults shelf.old) (S.faults shelf.new) (IsErrOf result faults.Failed) }
+    ensures taken { FetchesOne (S.taken shelf.old) (S.taken shelf.new) result }
 {
     let below = ObjectId {
         hash: nested.hash,

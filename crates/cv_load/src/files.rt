@@ -23,6 +23,7 @@ fn check_file<S: Shelf>(
     ensures told { WhereTold (S.shelf shelf.old) (λ standing. FileSizes standing owner.now row.now result) }
     ensures unchanged { S.shelf shelf.new ≡ S.shelf shelf.old }
     ensures cause { HasCause (S.faults shelf.old) (S.faults shelf.new) (IsErrOf result faults.Failed) }
+    ensures taken { S.taken shelf.new ≡ S.taken shelf.old }
 {
     match (row.kind, row.hash) {
         (RowKind::File, Some(hash)) => {
@@ -47,6 +48,7 @@ pub fn check_files<S: Shelf>(
     ensures told { WhereTold (S.shelf shelf.old) (λ standing. HasFiles standing id.now catalogue.now result) }
     ensures unchanged { S.shelf shelf.new ≡ S.shelf shelf.old }
     ensures cause { HasCause (S.faults shelf.old) (S.faults shelf.new) (IsErrOf result faults.Failed) }
+    ensures taken { S.taken shelf.new ≡ S.taken shelf.old }
 {
     for row in catalogue.rows() {
         check_file(alloc, shelf, id, row)?;

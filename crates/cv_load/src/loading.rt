@@ -1,11 +1,13 @@
 //! Loading.
-ghost use Rattle.std.specs.Prelude.{◌≡◌, IfOk, IsErrOf};
+ghost use Rattle.std.specs.Prelude.{◌≡◌, length, IfOk, IsErrOf};
 ghost use Rattle.cv_base.specs.Counts.{HasCause};
 ghost use Rattle.cv_base.specs.Told.{WhereTold};
 ghost use Rattle.cv_base.specs.declared.id.Kind.TheVariants as id_kind;
 ghost use Rattle.cv_rows.specs.Catalogue.{IsCatalogue};
+ghost use Rattle.cv_cut.specs.Cuts.{cuts_of};
 ghost use Rattle.cv_load.specs.Answers.{Loads};
-ghost use Rattle.cv_load.specs.Growth.{IsRootOf, FillsFrom};
+ghost use Rattle.cv_load.specs.Growth.{IsRootOf, IsClear, ChangesBelow, FillsFrom};
+ghost use Rattle.cv_load.specs.Fetches.{raised_by, FetchesBelow, FetchesOnce};
 ghost use Rattle.cv_load.specs.declared.load_fault.LoadFault.TheVariants as faults;
 
 use crate::catalogues::{catalogue_at, nested_catalogue};
@@ -42,9 +44,12 @@ fn fill<S: Shelf>(
     requires kind { id.now.kind ≡ id_kind.Catalogue }
     requires rules { IsCatalogue catalogue.now }
     requires place { catalogue.now.at ≡ at.now }
+    requires clear { IsClear catalogue.now.at tree.old }
     ensures told { WhereTold (S.shelf shelf.old) (λ standing. FillsFrom standing id.now catalogue.now tree.old tree.new result) }
     ensures unchanged { S.shelf shelf.new ≡ S.shelf shelf.old }
     ensures cause { HasCause (S.faults shelf.old) (S.faults shelf.new) (IsErrOf result faults.Failed) }
+    ensures fetches { WhereTold (S.shelf shelf.old) (λ standing. FetchesBelow standing id.now catalogue.now (S.taken shelf.old) (S.taken shelf.new) result) }
+    ensures within { ChangesBelow catalogue.now.at tree.old tree.new }
 {
     check_files(alloc, shelf, id, catalogue)?;
     place_rows(alloc, at, catalogue, tree)?;
@@ -69,6 +74,12 @@ pub fn load<S: Shelf>(alloc: Global, shelf: &mut S, root: &ObjectId) -> Result<T
     ensures told { WhereTold (S.shelf shelf.old) (λ standing. Loads standing root.now.hash result) }
     ensures unchanged { S.shelf shelf.new ≡ S.shelf shelf.old }
     ensures cause { HasCause (S.faults shelf.old) (S.faults shelf.new) (IsErrOf result faults.Failed) }
+
+    // Whatever it answers, its fetches are as many as some visits to catalogues that are reached, no two at one path.
+    ensures fetches { WhereTold (S.shelf shelf.old) (λ standing. FetchesOnce standing root.now.hash (S.taken shelf.old) (S.taken shelf.new)) }
+
+    // After Ok they are as many as the tree has cuts.
+    ensures cuts { WhereTold (S.shelf shelf.old) (λ standing. IfOk result (λ tree. S.taken shelf.new ≡ raised_by (length (cuts_of tree)) (S.taken shelf.old))) }
 {
     let at = RepoPath::root(alloc);
     let catalogue = catalogue_at(alloc, shelf, root, &at, None)?;

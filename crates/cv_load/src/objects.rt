@@ -2,6 +2,7 @@
 ghost use Rattle.std.specs.Prelude.{◌≡◌, IsErrOf};
 ghost use Rattle.cv_base.specs.Counts.{HasCause};
 ghost use Rattle.cv_base.specs.Told.{WhereTold};
+ghost use Rattle.cv_ports.specs.Calls.{raised};
 ghost use Rattle.cv_load.specs.Growth.{Sizes, Fetched};
 ghost use Rattle.cv_load.specs.declared.load_fault.LoadFault.TheVariants as faults;
 
@@ -15,6 +16,7 @@ pub fn fetched<S: Shelf>(alloc: Global, shelf: &mut S, id: &ObjectId) -> Result<
     ensures told { WhereTold (S.shelf shelf.old) (λ standing. Fetched standing id.now result) }
     ensures unchanged { S.shelf shelf.new ≡ S.shelf shelf.old }
     ensures cause { HasCause (S.faults shelf.old) (S.faults shelf.new) (IsErrOf result faults.Failed) }
+    ensures taken { S.taken shelf.new ≡ raised (S.taken shelf.old) }
 {
     match shelf.fetch(alloc, id) {
         Ok(Some(bytes)) => Ok(bytes),
@@ -36,6 +38,7 @@ pub fn check_size<S: Shelf>(
     ensures told { WhereTold (S.shelf shelf.old) (λ standing. Sizes standing id.now size owner.now result) }
     ensures unchanged { S.shelf shelf.new ≡ S.shelf shelf.old }
     ensures cause { HasCause (S.faults shelf.old) (S.faults shelf.new) (IsErrOf result faults.Failed) }
+    ensures taken { S.taken shelf.new ≡ S.taken shelf.old }
 {
     match shelf.length(alloc, id) {
         Ok(Some(length)) if length == size => Ok(()),

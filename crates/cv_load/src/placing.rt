@@ -1,16 +1,17 @@
 //! The rows of a catalogue in a tree.
 ghost use Rattle.std.specs.Prelude.{◌≡◌, ◌↔◌, ◌++◌, ◌∷◌, [], IfOk, OnOk, IsSome, IsTrue, Contains};
 ghost use Rattle.std.specs.FinMap.{get};
-ghost use Rattle.cv_base.specs.Path.{key_of};
+ghost use Rattle.cv_base.specs.Path.{IsPath, key_of};
 ghost use Rattle.cv_rows.specs.Row.{IsRow};
 ghost use Rattle.cv_rows.specs.Catalogue.{IsCatalogue};
 ghost use Rattle.cv_rows.specs.Places.{StandsAt};
 ghost use Rattle.cv_tree.specs.Node.{IsNode};
-ghost use Rattle.cv_load.specs.Growth.{node_of, IsAdded, IsWithin, HasRows, GrowsBy};
+ghost use Rattle.cv_tree.specs.Changes.{has_place};
+ghost use Rattle.cv_load.specs.Growth.{node_of, IsAdded, IsClear, IsReady, IsWithin, HasRows, GrowsBy};
 
-use cv_base::{NoMemory, RepoPath};
+use cv_base::{NoMemory, PathFault, RepoPath};
 use cv_rows::{Catalogue, Row, RowKind};
-use cv_tree::{FileRef, Node, Tree};
+use cv_tree::{FileRef, Node, Tree, TreeFault};
 use std::alloc::Global;
 
 /// The most names of a path.
@@ -37,7 +38,8 @@ fn node_of(alloc: Global, row: &Row) -> Result<Node, NoMemory>
 
 /// Sees to it that a row's path is in the tree.
 fn add(alloc: Global, tree: &mut Tree, path: &RepoPath, row: &Row) -> Result<(), NoMemory>
-    requires { IsRow row.now }
+    requires row { IsRow row.now }
+    requires place { IsTrue (has_place tree.old path.now) }
     ensures there { OnOk result (IsSome (get tree.new path.now)) }
     ensures added { IsAdded path.now row.now tree.old tree.new }
 {
@@ -45,21 +47,26 @@ fn add(alloc: Global, tree: &mut Tree, path: &RepoPath, row: &Row) -> Result<(),
         return Ok(());
     }
     let node = node_of(alloc, row)?;
-    // No clause tells a refusal of the tree from want of memory: either is answered so.
     match tree.insert(path, node) {
         Ok(()) => Ok(()),
-        Err(_) => Err(NoMemory),
+        Err(fault) => match fault {
+            TreeFault::NoMemory => Err(NoMemory),
+            _ => unreachable!(),
+        },
     }
 }
 
 /// A path with one more name.
 fn below(alloc: Global, above: &RepoPath, name: &str) -> Result<RepoPath, NoMemory>
+    requires { IsPath (above.now ++ name.now ∷ []) }
     ensures { IfOk result (λ path. path ≡ above.now ++ name.now ∷ []) }
 {
-    // No clause tells a path past the limits from want of memory: either is answered so.
     match above.join(alloc, name) {
         Ok(path) => Ok(path),
-        Err(_) => Err(NoMemory),
+        Err(fault) => match fault {
+            PathFault::NoMemory => Err(NoMemory),
+            _ => unreachable!(),
+        },
     }
 }
 
@@ -84,14 +91,13 @@ fn place(
     requires place { catalogue.now.at ≡ at.now }
     requires row { Contains catalogue.now.rows row.now }
     requires left { IsWithin catalogue.now.at catalogue.now.rows row.now left }
+    requires ready { IsReady catalogue.now.at catalogue.now.rows tree.old }
     ensures stands { IfOk result (StandsAt catalogue.now.at catalogue.now.rows row.now) }
     ensures there { IfOk result (λ path. IsSome (get tree.new path)) }
     ensures grows { GrowsBy catalogue.now.at catalogue.now.rows tree.old tree.new }
 {
     if has_key(row, at) {
-        let path = at.copy(alloc)?;
-        add(alloc, tree, &path, row)?;
-        return Ok(path);
+        return at.copy(alloc);
     }
     let Some(parent) = catalogue.find(row.parent) else {
         unreachable!();
@@ -111,6 +117,7 @@ pub fn place_rows(
 ) -> Result<(), NoMemory>
     requires rules { IsCatalogue catalogue.now }
     requires place { catalogue.now.at ≡ at.now }
+    requires clear { IsClear catalogue.now.at tree.old }
     ensures there { OnOk result (HasRows catalogue.now tree.new) }
     ensures grows { GrowsBy catalogue.now.at catalogue.now.rows tree.old tree.new }
 {

@@ -54,8 +54,12 @@ fn shelf_with(
     failing: Vec<u64>,
 ) -> Result<MemoryShelf, Fail> {
     let mut objects = Vec::new(alloc);
-    for (text, digits) in OBJECTS {
-        let digits = if text == changed { other } else { Some(digits) };
+    for (text, digits) in &OBJECTS {
+        let digits = if *text == changed {
+            other
+        } else {
+            Some(*digits)
+        };
         if let Some(digits) = digits {
             let bytes = Bytes::new(decode(alloc, digits)?);
             let id = id_of(text)?;
@@ -253,5 +257,135 @@ fn a_tree_that_was_cut_is_loaded(rt: HostRuntime) -> Result<(), Fail> {
         assert_eq!(rt; size_of(tree.get(&path)), expected, "at {text}");
     }
     assert_eq!(rt; cut(alloc, &tree)?.root, root);
+    Ok(())
+}
+
+/// The end of the root's catalogue: the hash and the size of that of `/d`.
+const INNER_ENTRY: &str = "15e722b24d77179e50b53e6f895e28a36c0c7be9000000000000016c";
+
+/// Catalogues that can't stand at `/d`, by `tools/load_vectors.py`: the digits of the hash under which one stands, of its
+/// size and of its bytes.
+static WRONG: [(&str, &str, &str); 4] = [
+    // it has no marker
+    (
+        "40d7ba19e448ac762a87b14d03c7f29ce69eac0a",
+        "0000000000000052",
+        "4356523100000001000000000c606f9929ab0de4b9d1961ce5dfdadfd41d8cd98f00b204e9800998ecf8427e00000021000041ed000000006553f10000000000000000000000000000000000000001640000",
+    ),
+    // its root row has another mode
+    (
+        "079fe1d4648e7da626f78a0764f213807e23fff4",
+        "00000000000000b8",
+        "4356523100000002000000000c606f9929ab0de4b9d1961ce5dfdadfd41d8cd98f00b204e9800998ecf8427e00000021000041c0000000006553f1000000000000000000000000000000000000000164000080d24ab2d14dc16dba54ba605a2f406e0c606f9929ab0de4b9d1961ce5dfdadf00000004000081a4000000006553f1000000000000000000000000000000000014da39a3ee5e6b4b0d3255bfef95601890afd80709000d2e63766d6673636174616c6f670000",
+    ),
+    // it is the catalogue of another place
+    (
+        "2c539410fc09f2f8a47841b9a517e0f95f6f5e88",
+        "00000000000000b8",
+        "4356523100000002000000004db00d963c2498e4e7bdf49ff1ff11a3d41d8cd98f00b204e9800998ecf8427e00000021000041ed000000006553f10000000000000000000000000000000000000001650000a67c012781bd5b7e1021603d3a4a9b984db00d963c2498e4e7bdf49ff1ff11a300000004000081a4000000006553f1000000000000000000000000000000000014da39a3ee5e6b4b0d3255bfef95601890afd80709000d2e63766d6673636174616c6f670000",
+    ),
+    // it is a catalogue of the root
+    (
+        "307aac20fe5391faacd0ea38f9589fb797a3685c",
+        "0000000000000051",
+        "435652310000000100000000d41d8cd98f00b204e9800998ecf8427e0000000000000000000000000000000000000001000041ed000000006553f100000000000000000000000000000000000000000000",
+    ),
+];
+
+/// One that names what stands under the hash `11`, forty digits of it, which it is itself.
+const NAMES_ITSELF: (&str, &str, &str) = (
+    "1111111111111111111111111111111111111111",
+    "0000000000000120",
+    "4356523100000003000000010c606f9929ab0de4b9d1961ce5dfdadfd41d8cd98f00b204e9800998ecf8427e00000021000041ed000000006553f1000000000000000000000000000000000000000164000080d24ab2d14dc16dba54ba605a2f406e0c606f9929ab0de4b9d1961ce5dfdadf00000004000081a4000000006553f1000000000000000000000000000000000014da39a3ee5e6b4b0d3255bfef95601890afd80709000d2e63766d6673636174616c6f670000f4c5ce1b21553fffda3b6386bf573d4c0c606f9929ab0de4b9d1961ce5dfdadf00000003000041ed000000006553f1000000000000000000000000000000000000000165000000042f642f6511111111111111111111111111111111111111110000000000000120",
+);
+
+/// The id of a catalogue of this hash.
+fn catalogue_id(hash: &str) -> Result<ObjectId, Fail> {
+    Ok(ObjectId {
+        hash: id_of(hash)?.hash,
+        kind: Kind::Catalogue,
+    })
+}
+
+/// The bytes of a catalogue of the root that names one of this hash and size at `/d`.
+fn root_above(alloc: Global, hash: &str, size: &str) -> Result<Bytes, Fail> {
+    let Some(front) = OUTER.strip_suffix(INNER_ENTRY) else {
+        return Err(Fail::new("another end"));
+    };
+    let digits = format!(in alloc; "{front}{hash}{size}")?;
+    Ok(Bytes::new(decode(alloc, digits.as_str())?))
+}
+
+/// The fault of a root whose catalogue names one of this hash and size at `/d`, where these bytes stand under the hash.
+fn fault_above(
+    alloc: Global,
+    hash: &str,
+    size: &str,
+    digits: &str,
+) -> Result<Option<LoadFault>, Fail> {
+    let outer = root_above(alloc, hash, size)?;
+    let root = ObjectId {
+        hash: ObjectId::of(Kind::Catalogue, outer.as_slice()).hash,
+        kind: Kind::Catalogue,
+    };
+    let id = catalogue_id(hash)?;
+    let bytes = Bytes::new(decode(alloc, digits)?);
+    let mut objects = Vec::new(alloc);
+    objects.push(Object { id, bytes })?;
+    objects.push(Object {
+        id: root,
+        bytes: outer,
+    })?;
+    let mut shelf = MemoryShelf::new(alloc, objects, Vec::new(alloc))?;
+    Ok(load(alloc, &mut shelf, &root).err())
+}
+
+#[test]
+fn a_wrong_catalogue_is_named(rt: HostRuntime) -> Result<(), Fail> {
+    for (hash, size, digits) in &WRONG {
+        let fault = fault_above(rt.alloc(), hash, size, digits)?;
+        let id = catalogue_id(hash)?;
+        assert_eq!(rt; fault, Some(LoadFault::Bad(id)), "{hash}");
+    }
+    Ok(())
+}
+
+#[test]
+fn a_catalogue_that_names_itself_is_damaged(rt: HostRuntime) -> Result<(), Fail> {
+    let (hash, size, digits) = NAMES_ITSELF;
+    let fault = fault_above(rt.alloc(), hash, size, digits)?;
+    let id = catalogue_id(hash)?;
+    let found = id_of("d030a7de0a6329a15c4d7424e528df095148bfa2")?.hash;
+    assert_eq!(rt; fault, Some(LoadFault::Damaged { id, found }));
+    Ok(())
+}
+
+/// The id of the root's catalogue where `/d` has no marker.
+const PLAIN_ID: &str = "6e3569955e612c74b6d8ec7e11381115765ffa2fC";
+
+/// Takes out what stands at a path.
+fn take_out(tree: &mut Tree, path: &RepoPath) -> Result<(), Fail> {
+    if path.names().is_empty() {
+        return Err(Fail::new("the root"));
+    }
+    tree.replace(path, None)?;
+    Ok(())
+}
+
+#[test]
+fn a_marker_taken_out_brings_the_first_root_back(rt: HostRuntime) -> Result<(), Fail> {
+    let alloc = rt.alloc();
+    let shelf = shelf_with(alloc, "", None, Vec::new(alloc))?;
+    let Ok(mut tree) = loaded(alloc, shelf)? else {
+        return Err(Fail::new("no tree"));
+    };
+    assert_eq!(rt; cut(alloc, &tree)?.root, id_of(OUTER_ID)?);
+    let marker = RepoPath::read(alloc, "/d/.cvmfscatalog")?;
+    take_out(&mut tree, &marker)?;
+    assert_eq!(rt; cut(alloc, &tree)?.root, id_of(PLAIN_ID)?);
+    tree.insert(&marker, file("")?)?;
+    assert_eq!(rt; cut(alloc, &tree)?.root, id_of(OUTER_ID)?);
+    take_out(&mut tree, &marker)?;
+    assert_eq!(rt; cut(alloc, &tree)?.root, id_of(PLAIN_ID)?);
     Ok(())
 }

@@ -9,4 +9,5 @@ invariant-loop-row g l = record {
   files : WhereTold (g.S.Shelf.shelf l.fn.shelf) (λ standing. (k : ℕ) (d : Row) → k < l.row-index → HasFile standing (get_or l.fn.catalogue.rows k d));
   unchanged : g.S.Shelf.shelf l.shelf ≡ g.S.Shelf.shelf l.fn.shelf;
   later : g.S.Shelf.faults l.fn.shelf ≤ g.S.Shelf.faults l.shelf;
+  taken : g.S.Shelf.taken l.shelf ≡ g.S.Shelf.taken l.fn.shelf;
 }

@@ -5,7 +5,14 @@ use Rattle.cv_rows.specs.Places.{StandsAt}
 use Rattle.cv_rows.specs.declared.row.Row.{Row}
 use Rattle.cv_rows.proofs.PlaceLaws.{stands_contained}
 use Rattle.cv_load.proofs.Growing.{within_limit, grows_more, still_there, row_there, each_more, each_all}
+use Rattle.cv_load.proofs.Clearing.{ready_clear, ready_grown}
 use Rattle.cv_load.proofs.placing.place_rows.Goals as goal
+
+pub place-requires-clause-ready : goal.place-requires-clause-ready
+place-requires-clause-ready c =
+    let at = c.args.catalogue.now.at in
+    let rows = c.args.catalogue.now.rows in
+    ready_grown at rows c.args.tree.now c.loop-row.tree (ready_clear at rows c.args.tree.now c.requires.clear) c.loop-row.invariant.grows
 
 pub place-requires-clause-left : goal.place-requires-clause-left
 place-requires-clause-left c = within_limit c.args.catalogue.now c.row-item.result c.requires.rules

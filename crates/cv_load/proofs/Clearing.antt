@@ -1,0 +1,162 @@
+-- What a catalogue's rows find in the tree, and leave to the catalogues below.
+use Rattle.std.proofs.Common.{◌≡◌, ◌≢◌, ℕ, ◌+◌, ◌<◌, ◌≤◌, true, false, List, [], ◌∷◌, ◌++◌, length, get_or, Option, None, Some, IsSome, is_some, refl, sym, ap, subst, ◌∙◌, arith, length-append, inl, inr}
+use Rattle.std.specs.Prelude.{Contains, Result, Ok, Err}
+use Rattle.std.specs.FinMap.{get, empty, get-insert}
+use Rattle.cv_base.specs.PathOrder.{path_total}
+use Rattle.cv_base.specs.Path.{Path, IsPath, covers}
+use Rattle.cv_tree.specs.Changes.{has_place, insertion, IsUnlessMemory}
+use Rattle.cv_tree.specs.Tree.{Nodes, single, is_directory}
+use Rattle.cv_tree.specs.declared.node.Node.{Node}
+use Rattle.cv_tree.specs.declared.node.Node.TheVariants.{Dir}
+use Rattle.cv_tree.specs.declared.tree_fault.TreeFault.{TreeFault}
+use Rattle.cv_tree.specs.declared.tree_fault.TreeFault.TheVariants as tree_fault
+use Rattle.cv_tree.proofs.Shapes.{has_place-append}
+use Rattle.cv_rows.specs.Row.{holds_rows}
+use Rattle.cv_rows.specs.Catalogue.{Contents, IsCatalogue}
+use Rattle.cv_rows.specs.Places.{StandsAt}
+use Rattle.cv_rows.specs.declared.row.Row.{Row}
+use Rattle.cv_rows.specs.declared.nested.Nested.{Nested}
+use Rattle.cv_rows.specs.declared.row_kind.RowKind.{RowKind}
+use Rattle.cv_rows.specs.declared.row_kind.RowKind.TheVariants.{Directory, Transition, NestedRoot, File, Link}
+use Rattle.cv_rows.proofs.NestedLaws.{fits_there}
+use Rattle.cv_load.specs.Growth.{node_of, node_as, GrowsBy, IsClear, IsReady, ChangesBelow, HasRows, IsRootOf}
+use Rattle.cv_load.proofs.Opening.{transition_of}
+use Rattle.cv_load.proofs.Growing.{HasParent, some_there, stands_below}
+use Rattle.cv_load.proofs.Filling.{one_row}
+use Rattle.cv_load.proofs.Standing.{dir_of, so_root, so_below, stands_so}
+use Rattle.cv_load.proofs.Assembly.{not_true}
+use Rattle.cv_load.proofs.Whole.{single_entry}
+use Rattle.cv_load.proofs.Below.{covers_itself, covers_long, stands_covered, nothing_below, entries_apart, entry_below}
+
+-- ---- answers that aren't given
+
+-- a tree that has a place for a path, and nothing there, refuses nothing but for memory
+pub not_refused : (t : Nodes) (p : Path) (f : TreeFault) → has_place t p ≡ true → get t p ≡ None → IsUnlessMemory (Err f) (insertion t p) → f ≢ tree_fault.NoMemory → ⊥
+not_refused t p f place none answer other = is f answer other (rw (place, none) refl)
+  where
+    is : (g : TreeFault) → IsUnlessMemory (Err g) (insertion t p) → g ≢ tree_fault.NoMemory → insertion t p ≡ Ok (tt {0}) → ⊥
+    is tree_fault.NoParent answer other ok = let wrong : ◌≡◌ {A = Result (Unit {0}) TreeFault} (Err tree_fault.NoParent) (Ok (tt {0})) = answer ∙ ok in cc
+    is tree_fault.Exists answer other ok = let wrong : ◌≡◌ {A = Result (Unit {0}) TreeFault} (Err tree_fault.Exists) (Ok (tt {0})) = answer ∙ ok in cc
+    is tree_fault.NoMemory answer other ok = other refl
+
+-- ---- directories
+
+directory_there : (o : Option Node) → is_directory o ≡ true → (n : Node) × (o ≡ Some n) × (is_directory (Some n) ≡ true)
+directory_there None h = absurd cc
+directory_there (Some n) h = (n, refl, h)
+
+pub directory_some : (o : Option Node) → is_directory o ≡ true → IsSome o
+directory_some None h = absurd cc
+directory_some (Some n) h = refl
+
+-- a row below which rows may stand is a directory
+holder_directory : (k : RowKind) (r : Row) → holds_rows k ≡ true → is_directory (Some (node_as k r)) ≡ true
+holder_directory Directory r h = refl
+holder_directory Transition r h = absurd cc
+holder_directory NestedRoot r h = refl
+holder_directory File r h = absurd cc
+holder_directory Link r h = absurd cc
+
+-- ---- the rows of a catalogue
+
+pub ready_clear : (at : Path) (rows : List Row) (t : Nodes) → IsClear at t → IsReady at rows t
+ready_clear at rows t clear = record {
+  directory = clear.directory;
+  below = λ q n e under other. absurd (other (clear.alone q (ap is_some e) under));
+}
+
+pub ready_grown : (at : Path) (rows : List Row) (t u : Nodes) → IsReady at rows t → GrowsBy at rows t u → IsReady at rows u
+ready_grown at rows t u ready grown = record {
+  directory = (let d = directory_there (get t at) ready.directory in ap is_directory (grown.grows at d.0 d.1) ∙ d.2);
+  below = λ q n e under other. elim (grown.comes q n e) [ inl was ↦ ready.below q n was under other | inr new ↦ new ];
+}
+
+-- what stands at the path of a row below which rows may stand is a directory
+holder_there : (c : Contents) (p : Row) (q : Path) (t : Nodes) → IsCatalogue c → IsReady c.at c.rows t → StandsAt c.at c.rows p q → holds_rows p.kind ≡ true → IsSome (get t q) → is_directory (get t q) ≡ true
+holder_there c p q t is ready stands holds some = elim (stands_so stands) [
+  | so_root has top at_p ↦ ap (λ (x : Path). is_directory (get t x)) at_p ∙ ready.directory
+  | so_below o front has other up child way ↦
+      let n = some_there (get t q) some in
+      let apart : q ≢ c.at = λ same. (let long = covers_long c.at front (stands_covered up) in omega (arith, long, ap (λ (x : Path). length x) (sym same ∙ way), length-append front (p.name ∷ []))) in
+      let own = ready.below q n.0 n.1 (stands_covered stands) apart in
+      let one : own.row ≡ p = one_row c own.row p q is own.stands stands in
+      ap is_directory (n.1 ∙ ap Some own.is) ∙ holder_directory own.row.kind own.row (subst (λ (x : Row). holds_rows x.kind ≡ true) (sym one) holds)
+]
+
+-- there is a place for the path of a row below it
+pub place_below : (c : Contents) (r p : Row) (q path : Path) (t : Nodes) → IsCatalogue c → IsReady c.at c.rows t → HasParent c r p → StandsAt c.at c.rows p q → IsSome (get t q) → path ≡ q ++ r.name ∷ [] → has_place t path ≡ true
+place_below c r p q path t is ready h stands some way = ap (has_place t) way ∙ has_place-append t q r.name ∙ holder_there c p q t is ready stands h.child.holds some
+
+-- which keeps the limits
+pub path_below : (c : Contents) (r p : Row) (q : Path) → IsCatalogue c → HasParent c r p → StandsAt c.at c.rows p q → IsPath (q ++ r.name ∷ [])
+path_below c r p q is h stands = (fits_there c.at c.rows r (q ++ r.name ∷ []) is.ordered is.region.placed (stands_below c r p q (q ++ r.name ∷ []) h stands refl)).path
+
+-- ---- what the rows leave to nested catalogues
+
+-- rows change nothing but at the catalogue's place and below it
+pub grows_within : (at : Path) (rows : List Row) (t u : Nodes) → GrowsBy at rows t u → ChangesBelow at t u
+grows_within at rows t u grown q outside =
+    elim (get t q) as (λ o. get t q ≡ o → get u q ≡ get t q) [
+      | Some n ↦ λ e. grown.grows q n e ∙ sym e
+      | None ↦ λ e. elim (get u q) as (λ o. get u q ≡ o → o ≡ get t q) [
+        | None ↦ λ f. sym e
+        | Some n ↦ λ f. absurd (elim (grown.comes q n f) [
+          | inl was ↦ (let wrong : None ≡ Some n = sym e ∙ was in cc)
+          | inr new ↦ (let wrong : true ≡ false = sym (stands_covered new.stands) ∙ outside in cc)
+        ])
+      ] refl
+    ] refl
+
+-- where nothing was below the catalogue's place, its rows leave a directory at each nested entry, and nothing below it
+pub entry_clear : (c : Contents) (n : Nested) (t u : Nodes) → IsCatalogue c → Contains c.nested n → IsClear c.at t → GrowsBy c.at c.rows t u → HasRows c u → IsClear n.path u
+entry_clear c n t u is has clear grown there =
+    let tr = transition_of c n is has in
+    let ready = ready_grown c.at c.rows t u (ready_clear c.at c.rows t clear) grown in
+    let own = λ (q : Path) (under : covers n.path q ≡ true) (m : Node) (e : get u q ≡ Some m). (let at_q = entry_below c n q is has under in ready.below q m e at_q.0 at_q.1) in
+    let m = some_there (get u n.path) (there tr.0 n.path tr.1.stands) in
+    let row = own n.path (covers_itself n.path) m.0 m.1 in
+    let one : row.row ≡ tr.0 = one_row c row.row tr.0 n.path is row.stands tr.1.stands in
+    record {
+      directory = ap is_directory (m.1 ∙ ap Some (row.is ∙ ap node_of one ∙ dir_of tr.0 tr.1.kind));
+      alone = λ q some under.
+          let k = some_there (get u q) some in
+          sym (nothing_below is tr.1.stands tr.1.kind (own q under k.0 k.1).stands under);
+    }
+
+-- ---- what nested catalogues leave to each other
+
+-- what is clear stays so where nothing changes but elsewhere
+clear_kept : (p r : Path) (t u : Nodes) → ((q : Path) → covers p q ≡ true → covers r q ≡ true → ⊥) → ChangesBelow p t u → IsClear r t → IsClear r u
+clear_kept p r t u apart changes clear =
+    let same : (q : Path) → covers r q ≡ true → get u q ≡ get t q = λ q under. changes q (not_true (covers p q) (λ over. apart q over under)) in
+    record {
+      directory = ap is_directory (same r (covers_itself r)) ∙ clear.directory;
+      alone = λ q some under. clear.alone q (subst IsSome (same q under) some) under;
+    }
+
+-- those of the later entries of a catalogue
+abbrev pub AreClear : Contents → ℕ → Nodes → Type 0
+AreClear c i t = (k : ℕ) (n : Nested) → i ≤ k → k < length c.nested → get_or c.nested k n ≡ n → IsClear n.path t
+
+pub clear_first : (c : Contents) (t u : Nodes) → IsCatalogue c → IsClear c.at t → GrowsBy c.at c.rows t u → HasRows c u → AreClear c 0 u
+clear_first c t u is clear grown there k n le lt at = entry_clear c n t u is (k, lt, at) clear grown there
+
+pub clear_more : (c : Contents) (n : Nested) (i : ℕ) (t u : Nodes) → IsCatalogue c → i < length c.nested → n ≡ get_or c.nested i n → ChangesBelow n.path t u → AreClear c i t → AreClear c (i + 1) u
+clear_more c n i t u is lt item changes clear k m le inside at =
+    clear_kept n.path m.path t u (λ q first second. entries_apart c i k n m q is (omega (arith, le)) lt inside (sym item) at first second) changes (clear k m (omega (arith, le)) inside at)
+
+-- nothing has changed but at the catalogue's place and below it
+pub changes_more : (c : Contents) (n : Nested) (t u v : Nodes) → IsCatalogue c → Contains c.nested n → ChangesBelow c.at t u → ChangesBelow n.path u v → ChangesBelow c.at t v
+changes_more c n t u v is has first later q outside =
+    later q (not_true (covers n.path q) (λ under. let over = (entry_below c n q is has under).0 in let wrong : true ≡ false = sym over ∙ outside in cc)) ∙ first q outside
+
+-- ---- the root
+
+pub root_clear : (c : Contents) (t : Nodes) → c.at ≡ [] → IsRootOf c t → IsClear c.at t
+root_clear c t place is =
+    let here : get (single (Dir is.0.attr)) [] ≡ Some (Dir is.0.attr) = get-insert path_total empty [] (Dir is.0.attr) [] in
+    let same : get t c.at ≡ Some (Dir is.0.attr) = ap (λ (u : Nodes). get u c.at) is.3 ∙ ap (λ (p : Path). get (single (Dir is.0.attr)) p) place ∙ here in
+    record {
+      directory = ap is_directory same;
+      alone = λ q some under. (let n = some_there (get t q) some in (single_entry (Dir is.0.attr) q n.0 (ap (λ (u : Nodes). get u q) (sym is.3) ∙ n.1)).0 ∙ sym place);
+    }
