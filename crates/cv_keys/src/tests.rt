@@ -144,7 +144,7 @@ struct Limit {
 }
 
 /// Texts at a limit, or one past it.
-static LIMITS: [Limit; 4] = [
+static LIMITS: [Limit; 5] = [
     Limit {
         front: r#"{"keys":["#,
         open: "0,",
@@ -160,6 +160,14 @@ static LIMITS: [Limit; 4] = [
         count: 255,
         back: "0]}",
         fault: KeyFault::WrongType(1),
+    },
+    Limit {
+        front: r#"{"keys":[{"id":"k","secret":""#,
+        open: "a",
+        close: "",
+        count: 256,
+        back: r#""}]}"#,
+        fault: KeyFault::BadValue(1),
     },
     Limit {
         front: r#"{"keys":[{"secret":"s","id":""#,
