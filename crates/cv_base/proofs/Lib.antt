@@ -1,3 +1,4 @@
+pub mod Bools
 pub mod Decimals
 pub mod Digests
 pub mod Fields
@@ -7,3 +8,5 @@ pub mod Parts
 pub mod PathGrammar
 pub mod PathPrefixes
 pub mod PathTexts
+mod NotText
+mod TextOrder

@@ -1,5 +1,5 @@
 -- A text says a path exactly where it is the text of that path, with or without a slash at its end.
-use Rattle.std.proofs.Common.{◌≡◌, ◌≢◌, ℕ, ◌+◌, ◌≤◌, ◌==◌, Bool, true, false, not, cond, ◌&&◌, List, [], ◌∷◌, ◌++◌, length, Option, Some, None, Result, Ok, Err, ◌⊎◌, inl, inr, refl, sym, ap, subst, ◌∙◌, append-nil, nat_lt, nat_le}
+use Rattle.std.proofs.Common.{◌≡◌, ◌≢◌, ℕ, ◌+◌, ◌≤◌, ◌==◌, true, false, not, cond, ◌&&◌, List, [], ◌∷◌, ◌++◌, length, Option, Some, None, Result, Ok, Err, ◌⊎◌, inl, inr, refl, sym, ap, subst, ◌∙◌, append-nil, nat_lt, nat_le}
 use Rattle.std.specs.Prelude.{position, IfOk}
 use Rattle.std.specs.List.{list_all, position_from}
 use Rattle.std.specs.Str.{is_utf8}
@@ -10,14 +10,7 @@ use Rattle.cv_base.specs.declared.path_fault.PathFault.TheVariants.{BadName, Too
 use Rattle.cv_base.specs.Path.{Path, text_of, is_path_name, is_path_byte, IsPath}
 use Rattle.cv_base.specs.PathText.{Spells, parts_of, names_of, bad_name, without_last_slash, of_names, within_limits, path_of, IsUnlessMemory}
 use Rattle.cv_base.proofs.PathTexts.{without_last_slash-slash, text_of-names_of, IsPath-names_of}
-
-first_true : (a b : Bool) → (a && b) ≡ true → a ≡ true
-first_true true b h = refl
-first_true false b h = cc
-
-second_true : (a b : Bool) → (a && b) ≡ true → b ≡ true
-second_true true b h = h
-second_true false b h = cc
+use Rattle.cv_base.proofs.Bools.{first_true, second_true}
 
 -- a byte of a name is no slash
 no_slash : (b : ℕ) → is_path_byte b ≡ true → (b == 47) ≡ false

@@ -9,4 +9,5 @@ pub mod PathOrder
 pub mod PathText
 pub mod Decimal
 pub mod Target
+pub mod TextOrder
 pub mod Token

@@ -1,5 +1,5 @@
 -- Paths of a repository: a path is the list of its names, from the root on, and a name is the list of its bytes.
-use Rattle.std.specs.Prelude.{ℕ, ◌≤◌, ◌≡◌, Bool, true, false, not, ◌==◌, ◌||◌, ◌&&◌, nat_le, List, [], ◌∷◌, length, Option, Some, None, is_some, if◌then◌else◌}
+use Rattle.std.specs.Prelude.{ℕ, ◌≤◌, ◌≡◌, Bool, true, false, not, ◌==◌, ◌||◌, ◌&&◌, nat_le, List, [], ◌∷◌, length, replicate, Option, Some, None, is_some, if◌then◌else◌}
 use Rattle.std.specs.declared.cmp.Ordering.{Ordering}
 use Rattle.std.specs.Ordering.{nat_cmp, is_eq}
 use Rattle.std.specs.Cmp.Lexicographic.{slice_cmp}
@@ -17,6 +17,27 @@ text_of path = flat_map (λ name. 47 ∷ name) path
 -- the key of a path: the MD5 of its text
 abbrev pub key_of : Path → List ℕ
 key_of path = md5 (text_of path)
+
+-- all names but the last
+abbrev pub parent : Path → Path
+parent [] = []
+parent (a ∷ []) = []
+parent (a ∷ b ∷ p) = a ∷ parent (b ∷ p)
+
+-- sixteen zero bytes, the key of the directory in which the root stands
+abbrev pub no_key : List ℕ
+no_key = replicate 16 0
+
+-- the key of the directory in which a path stands
+abbrev pub parent_key_of : Path → List ℕ
+parent_key_of [] = no_key
+parent_key_of (a ∷ p) = key_of (parent (a ∷ p))
+
+-- the last name of a path, and none for the root
+abbrev pub last_name_of : Path → List ℕ
+last_name_of [] = []
+last_name_of (a ∷ []) = a
+last_name_of (a ∷ b ∷ p) = last_name_of (b ∷ p)
 
 -- `.` and `..`, which name no entry of their own
 abbrev pub is_dots : List ℕ → Bool
@@ -67,9 +88,3 @@ covers p q = is_some (behind p q)
 -- one covers the other
 abbrev pub overlap : Path → Path → Bool
 overlap p q = covers p q || covers q p
-
--- all names but the last
-abbrev pub parent : Path → Path
-parent [] = []
-parent (a ∷ []) = []
-parent (a ∷ b ∷ p) = a ∷ parent (b ∷ p)

@@ -1,6 +1,7 @@
 -- What a text says as a path, and which fault it has first.
-use Rattle.std.specs.Prelude.{ℕ, ◌≡◌, ◌==◌, ◌⊎◌, not, nat_lt, List, [], ◌∷◌, ◌++◌, length, Option, Some, None, Result, Ok, Err, position, if◌then◌else◌}
+use Rattle.std.specs.Prelude.{ℕ, ◌≡◌, ◌==◌, ◌⊎◌, not, nat_lt, bytes_eq, List, [], ◌∷◌, ◌++◌, length, Option, Some, None, Result, Ok, Err, position, if◌then◌else◌}
 use Rattle.std.specs.List.{slice_split}
+use Rattle.std.specs.Str.{is_utf8}
 use Rattle.cv_base.specs.Path.{Path, text_of, is_path_name}
 use Rattle.cv_base.specs.declared.path_fault.PathFault.{PathFault}
 use Rattle.cv_base.specs.declared.path_fault.PathFault.TheVariants.{BadName, TooLong, TooDeep, NoMemory}
@@ -48,6 +49,15 @@ path_of_bare bare = within_limits (length bare) (names_of (parts_of bare)) (bad_
 -- the path that a text says, or its first fault
 abbrev pub path_of : List ℕ → Result Path PathFault
 path_of text = path_of_bare (without_last_slash text)
+
+-- the path that a text says, if the text is its own, with no slash at the end
+abbrev pub only_path : List ℕ → Result Path PathFault → Option Path
+only_path text (Ok path) = if bytes_eq (text_of path) text then Some path else None
+only_path text (Err fault) = None
+
+-- the path whose own text these bytes are
+abbrev pub path_named : List ℕ → Option Path
+path_named text = if is_utf8 text then only_path text (path_of text) else None
 
 -- a path with one more name, or the first fault
 abbrev pub joined : Path → List ℕ → Result Path PathFault

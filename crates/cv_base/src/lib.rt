@@ -21,7 +21,9 @@ mod target;
 #[cfg(test)]
 mod tests;
 mod text;
+mod text_order;
 mod token;
+mod utf8;
 
 pub use attr::Attr;
 pub use bytes::Bytes;
@@ -36,9 +38,10 @@ pub use name::{NAME_LIMIT, Name};
 pub use object::Object;
 pub use path_fault::PathFault;
 pub use path_key::PathKey;
-pub use path_name::{PathName, is_path_name};
-pub use repo_path::RepoPath;
+pub use path_name::{PATH_NAME_LIMIT, PathName, is_path_name};
+pub use repo_path::{NAMES_LIMIT, PATH_LIMIT, RepoPath};
 pub use steps::Steps;
 pub use target::{TARGET_LIMIT, Target};
 pub use text::Text;
+pub use text_order::cmp_texts;
 pub use token::Token;

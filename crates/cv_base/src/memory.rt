@@ -1,6 +1,6 @@
 //! Want of memory.
 
-use std::alloc::AllocError;
+use std::alloc::{AllocError, AllocFailed};
 
 /// There was no memory for what was asked. It may come of any call that allocates, and of no other.
 #[derive(Clone, Copy, Debug, PartialEq, Eq)]
@@ -8,6 +8,12 @@ pub struct NoMemory;
 
 impl From<AllocError> for NoMemory {
     fn from(_error: AllocError) -> NoMemory {
+        NoMemory
+    }
+}
+
+impl<T: Drop> From<AllocFailed<T>> for NoMemory {
+    fn from(_error: AllocFailed<T>) -> NoMemory {
         NoMemory
     }
 }

@@ -11,6 +11,9 @@ use std::alloc::Global;
 use std::cmp::Ordering;
 use std::marker::Model;
 
+/// The most bytes of a name in a path.
+pub const PATH_NAME_LIMIT: usize = 255;
+
 /// One name of a path, which clauses see as its bytes. Names are ordered by their bytes.
 #[derive(Debug, Drop)]
 pub struct PathName {
@@ -48,7 +51,7 @@ impl PathName {
 pub fn is_path_name(name: &str) -> bool
     ensures { result ≡ is_path_name name.now }
 {
-    if name.is_empty() || name.len() > 255 {
+    if name.is_empty() || name.len() > PATH_NAME_LIMIT {
         return false;
     }
     has_path_bytes(name) && !is_dots(name)

@@ -1,24 +1,25 @@
 //! Paths of a repository.
-ghost use Rattle.std.specs.Prelude.{ℕ, List, Ok, ◌≡◌, ◌≤◌, ◌↔◌, ◌∷◌, ◌++◌, [], length, map, Some, refl, IfOk, IsTrue, string_bytes, position, not};
+ghost use Rattle.std.specs.Prelude.{ℕ, List, Ok, ◌≡◌, ◌≤◌, ◌↔◌, ◌∷◌, ◌++◌, [], length, map, Some, refl, IfOk, IfSome, IsTrue, string_bytes, position, not};
 ghost use Rattle.std.specs.Cmp.{eq_by_cmp_equiv, partial_equiv_from_equiv};
-ghost use Rattle.cv_base.specs.Path.{path_cmp, same_path, covers, overlap, text_of, key_of, is_path_name, IsPath};
-ghost use Rattle.cv_base.specs.PathText.{Spells, path_of, path_of_bare, joined, parts_of, names_of, bad_name, without_last_slash, IsUnlessMemory};
+ghost use Rattle.cv_base.specs.Path.{path_cmp, same_path, covers, overlap, text_of, key_of, parent_key_of, last_name_of, is_path_name, IsPath};
+ghost use Rattle.cv_base.specs.PathText.{Spells, path_of, path_of_bare, only_path, path_named, joined, parts_of, names_of, bad_name, without_last_slash, IsUnlessMemory};
 ghost use Rattle.cv_base.specs.PathOrder.{path_total, paths_ordered};
 
 use crate::memory::NoMemory;
 use crate::path_fault::PathFault;
 use crate::path_key::PathKey;
 use crate::path_name::{PathName, is_path_name};
+use crate::utf8::as_text;
 use md5::{Digest, Md5};
 use std::alloc::{AllocError, Global};
 use std::cmp::Ordering;
 use std::marker::Model;
 
-/// The most bytes that a path's text has.
-const MAX_BYTES: usize = 4095;
+/// The most bytes of a path's text.
+pub const PATH_LIMIT: usize = 4095;
 
-/// The most names that a path has.
-const MAX_NAMES: usize = 64;
+/// The most names of a path.
+pub const NAMES_LIMIT: usize = 64;
 
 /// A path of a repository, by its names from the root on. It has at most 64 names, and its text at most 4,095 bytes.
 /// Paths are ordered by their names, and the names by their bytes.
@@ -59,6 +60,17 @@ impl RepoPath {
         read_bare(alloc, without_last_slash(text))
     }
 
+    /// The path whose own text these bytes are, without a slash at the end. None where they are no path's.
+    pub fn of_bytes(alloc: Global, bytes: &[u8]) -> Result<Option<RepoPath>, NoMemory>
+        ensures found { IfOk result (λ found. found ≡ path_named bytes.now) }
+        ensures own { IfOk result (λ found. IfSome found (λ path. IsPath path × (text_of path ≡ bytes.now))) }
+    {
+        match as_text(bytes) {
+            Some(text) => own_path(alloc, text),
+            None => Ok(None),
+        }
+    }
+
     /// The path's text: a slash before each name.
     pub fn text(&self, alloc: Global) -> Result<String, NoMemory>
         ensures text { IfOk result (λ text. string_bytes text ≡ text_of self.now) }
@@ -72,14 +84,26 @@ impl RepoPath {
         Ok(text)
     }
 
+    /// How many bytes the path's text has.
+    pub fn text_len(&self) -> usize
+        ensures value { result ≡ length (text_of self.now) }
+        ensures bound { result ≤ 4095 }
+    {
+        let mut len = 0;
+        for name in &self.names {
+            len += 1 + name.as_str().len();
+        }
+        len
+    }
+
     /// The path with one more name behind its own.
     pub fn join(&self, alloc: Global, name: &str) -> Result<RepoPath, PathFault>
         ensures { IsUnlessMemory result (joined self.now name.now) }
     {
-        if name.len() >= MAX_BYTES - text_len(&self.names) {
+        if name.len() >= PATH_LIMIT - self.text_len() {
             return Err(PathFault::TooLong);
         }
-        if self.names.len() >= MAX_NAMES {
+        if self.names.len() >= NAMES_LIMIT {
             return Err(PathFault::TooDeep);
         }
         if !is_path_name(name) {
@@ -107,6 +131,16 @@ impl RepoPath {
         &self.names
     }
 
+    /// The last name. Empty for the root.
+    pub fn last_name(&self) -> &str
+        ensures { result.now ≡ last_name_of self.now }
+    {
+        match self.names.last() {
+            Some(last) => last.as_str(),
+            None => "",
+        }
+    }
+
     /// Whether the other path is this one, or below it.
     pub fn covers(&self, other: &RepoPath) -> bool
         ensures { result ≡ covers self.now other.now }
@@ -125,12 +159,17 @@ impl RepoPath {
     pub fn key(&self) -> PathKey
         ensures { result.0 ≡ key_of self.now }
     {
-        let mut hasher = Md5::new();
-        for name in &self.names {
-            hasher.update("/");
-            hasher.update(name.as_str());
+        key_of(&self.names)
+    }
+
+    /// The key of the directory in which the path stands. Zero bytes for the root.
+    pub fn parent_key(&self) -> PathKey
+        ensures { result.0 ≡ parent_key_of self.now }
+    {
+        match self.names.as_slice() {
+            [] => PathKey([0; 16]),
+            [above @ .., _] => key_of(above),
         }
-        PathKey(hasher.finalize())
     }
 }
 
@@ -172,18 +211,49 @@ impl Ord for RepoPath {
     }
 }
 
+/// The key of the path of these names.
+fn key_of(names: &[PathName]) -> PathKey
+    ensures { result.0 ≡ key_of names.now }
+{
+    let mut hasher = Md5::new();
+    for name in names {
+        hasher.update("/");
+        hasher.update(name.as_str());
+    }
+    PathKey(hasher.finalize())
+}
+
+/// The path whose own text this is.
+fn own_path(alloc: Global, text: &str) -> Result<Option<RepoPath>, NoMemory>
+    ensures found { IfOk result (λ found. found ≡ only_path text.now (path_of text.now)) }
+    ensures own { IfOk result (λ found. IfSome found (λ path. IsPath path × (text_of path ≡ text.now))) }
+{
+    match RepoPath::read(alloc, text) {
+        Ok(path) => {
+            let own = path.text(alloc)?;
+            Ok(if own.as_str() == text {
+                Some(path)
+            } else {
+                None
+            })
+        }
+        Err(PathFault::NoMemory) => Err(NoMemory),
+        Err(_) => Ok(None),
+    }
+}
+
 /// The path that a text says which has no slash at its end.
 fn read_bare(alloc: Global, bare: &str) -> Result<RepoPath, PathFault>
     ensures { IsUnlessMemory result (path_of_bare bare.now) }
 {
-    if bare.len() > MAX_BYTES {
+    if bare.len() > PATH_LIMIT {
         return Err(PathFault::TooLong);
     }
     let Ok(parts) = parts_of(alloc, bare) else {
         return Err(PathFault::NoMemory);
     };
     let names = names_of(&parts);
-    if names.len() > MAX_NAMES {
+    if names.len() > NAMES_LIMIT {
         return Err(PathFault::TooDeep);
     }
     if let Some(place) = bad_name(&parts) {
@@ -242,9 +312,7 @@ fn names_from(alloc: Global, texts: &[&str]) -> Result<Vec<PathName>, NoMemory>
 {
     let mut names = Vec::new(alloc);
     for text in texts {
-        names
-            .push(PathName::from_str(alloc, text)?)
-            .map_err(|_| NoMemory)?;
+        names.push(PathName::from_str(alloc, text)?)?;
     }
     Ok(names)
 }
@@ -256,7 +324,7 @@ fn copies(alloc: Global, names: &[PathName]) -> Result<Vec<PathName>, NoMemory>
     let mut copies = Vec::new(alloc);
     for name in names {
         let copy = PathName::from_str(alloc, name.as_str())?;
-        copies.push(copy).map_err(|_| NoMemory)?;
+        copies.push(copy)?;
     }
     Ok(copies)
 }
@@ -267,18 +335,6 @@ fn names_and(alloc: Global, names: &[PathName], last: &str) -> Result<Vec<PathNa
 {
     let mut longer = copies(alloc, names)?;
     let last = PathName::from_str(alloc, last)?;
-    longer.push(last).map_err(|_| NoMemory)?;
+    longer.push(last)?;
     Ok(longer)
-}
-
-/// How many bytes the text of these names has.
-fn text_len(names: &[PathName]) -> usize
-    requires { length (text_of names.now) ≤ 4095 }
-    ensures { result ≡ length (text_of names.now) }
-{
-    let mut len = 0;
-    for name in names {
-        len += 1 + name.as_str().len();
-    }
-    len
 }

@@ -4,6 +4,7 @@ ghost use Rattle.std.specs.List.{list_all};
 ghost use Rattle.cv_base.specs.Target.{is_target, is_target_byte, target_of};
 
 use crate::memory::NoMemory;
+use crate::utf8::as_text;
 use std::alloc::Global;
 use std::marker::Model;
 
@@ -53,6 +54,16 @@ impl Target {
         Ok(Some(Target {
             text: String::from_str(alloc, text)?,
         }))
+    }
+
+    /// The target whose text these bytes are. None where they are no target's.
+    pub fn of_bytes(alloc: Global, bytes: &[u8]) -> Result<Option<Target>, NoMemory>
+        ensures { IfOk result (λ found. found ≡ target_of bytes.now) }
+    {
+        match as_text(bytes) {
+            Some(text) => Target::read(alloc, text),
+            None => Ok(None),
+        }
     }
 
     /// The target's text.

@@ -1,10 +1,11 @@
 //! What the contracts can't say: values from outside, and that calls find memory.
 
 use crate::{
-    Kind, Name, ObjectId, PathFault, RepoPath, Target, Token, read_decimal, split_u16, split_u32,
-    split_u64,
+    Kind, Name, ObjectId, PathFault, RepoPath, Target, Token, cmp_texts, read_decimal, split_u16,
+    split_u32, split_u64,
 };
 use std::alloc::Global;
+use std::cmp::Ordering;
 use std::test::Fail;
 
 /// Paths and their keys, by the `hashlib` of Python.
@@ -238,6 +239,39 @@ fn a_path_covers_what_is_joined_to_it(rt: HostRuntime) -> Result<(), Fail> {
     Ok(())
 }
 
+/// Texts of paths, their last names, and the MD5 of the text above, in hex.
+static ENDS: [(&str, &str, &str); 3] = [
+    ("", "", "00000000000000000000000000000000"),
+    ("/d", "d", "d41d8cd98f00b204e9800998ecf8427e"),
+    ("/a/b", "b", "0639767f3e9eaad729b54037a7e2abf5"),
+];
+
+/// Whether the path of these bytes has as many, this last name, and this key above it, in hex.
+fn ends_so(alloc: Global, text: &str, last: &str, above: &str) -> Result<bool, Fail> {
+    let Some(path) = RepoPath::of_bytes(alloc, text.as_bytes())? else {
+        return Ok(false);
+    };
+    let key = hex::encode(alloc, &path.parent_key().0)?;
+    Ok(path.text_len() == text.len() && path.last_name() == last && key.as_str() == above)
+}
+
+#[test]
+fn a_path_has_a_last_name_and_a_key_above(rt: HostRuntime) -> Result<(), Fail> {
+    for (text, last, above) in &ENDS {
+        assert!(rt; ends_so(rt.alloc(), text, last, above)?);
+    }
+    assert!(rt; RepoPath::of_bytes(rt.alloc(), b"/a/")?.is_none());
+    Ok(())
+}
+
+#[test]
+fn the_order_of_texts_is_not_that_of_names(rt: HostRuntime) -> Result<(), Fail> {
+    let below = RepoPath::read(rt.alloc(), "/a/x")?;
+    let beside = RepoPath::read(rt.alloc(), "/a-b")?;
+    assert!(rt; cmp_texts(&beside, &below) == Ordering::Less && below < beside);
+    Ok(())
+}
+
 /// Texts that are no name.
 static NO_NAMES: [&str; 4] = ["", "a b", "a/b", "é"];
 
@@ -315,7 +349,8 @@ fn a_target_is_read_and_copied(rt: HostRuntime) -> Result<(), Fail> {
     assert!(rt; Target::read(rt.alloc(), "a\0b")?.is_none());
     let long = repeated(rt.alloc(), "a", 4096)?;
     assert!(rt; Target::read(rt.alloc(), long.as_str())?.is_none());
-    let Some(target) = Target::read(rt.alloc(), "/a")? else {
+    assert!(rt; Target::of_bytes(rt.alloc(), b"\xff")?.is_none());
+    let Some(target) = Target::of_bytes(rt.alloc(), b"/a")? else {
         return Err(Fail::new("no target"));
     };
     assert!(rt; target.copy(rt.alloc())?.text() == "/a");
