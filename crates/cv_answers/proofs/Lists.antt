@@ -7,8 +7,9 @@ use Rattle.serde_json.specs.Data.{Data}
 use Rattle.serde_json.specs.Find.{as_array}
 use Rattle.serde_json.specs.View.{view, items_of}
 use Rattle.serde_json.specs.declared.value.Value.{Value}
+use Rattle.cv_json.proofs.Elements.{elements-items_of}
 use Rattle.cv_messages.specs.Member.{IsSaid, and_then}
-use Rattle.cv_answers.specs.AnswerText.{each_of, elements, array_member}
+use Rattle.cv_answers.specs.AnswerText.{each_of, array_member}
 use Rattle.cv_messages.specs.declared.message_fault.MessageFault.{MessageFault}
 use Rattle.cv_messages.specs.declared.message_fault.MessageFault.TheVariants.{NotJson, Missing, WrongType, BadValue, NoMemory}
 
@@ -60,10 +61,6 @@ pub seen-more : {A : Type 0} (data_of : A → Data) (xs : List A) (i : ℕ) (x :
 seen-more data_of xs i x before after v below is made pushed so_far =
     let grown : take (i + 1) xs ≡ take i xs ++ x ∷ [] = take_more xs i x below ∙ ap (λ w. take i xs ++ w ∷ []) (sym is) in
     rw (pushed, grown, map-append view before (v ∷ []), map-append data_of (take i xs) (x ∷ []), so_far, made) refl
-
-pub elements-items_of : (ds : List Data) → elements (items_of ds) ≡ ds
-elements-items_of [] = refl
-elements-items_of (d ∷ ds) = ap (λ l. d ∷ l) (elements-items_of ds)
 
 -- an array that is seen by its elements
 pub array_member-is : (found : Option Data) (d : Data) (ds : List Data) → Some d ≡ found → Some (items_of ds) ≡ as_array d → array_member found ≡ Ok ds

@@ -2,9 +2,10 @@
 use Rattle.std.proofs.Common.{◌≡◌, ℕ, Bool, true, false, not, List, [], ◌∷◌, map, Option, Some, None, Ok, refl, ap, ◌∙◌}
 use Rattle.std.proofs.lemmas.Bool.{and_parts}
 use Rattle.serde_json.specs.Data.{Data, string}
+use Rattle.cv_json.proofs.Elements.{elements-items_of}
 use Rattle.cv_base.specs.Digest.{IsDigest}
 use Rattle.cv_base.specs.declared.token.Token.{Token}
-use Rattle.cv_messages.specs.ObjectText.{object_in}
+use Rattle.cv_json.specs.ObjectText.{object_in}
 use Rattle.cv_messages.specs.Spelling.{IsToken}
 use Rattle.cv_answers.specs.Answer.{granted_data, committed_data, lease_item_data, leases_data, repos_data, path_busy_data, answer_data}
 use Rattle.cv_messages.specs.MemberName.{member_name, member_of, is_named}
@@ -18,7 +19,6 @@ use Rattle.cv_messages.specs.declared.member.Member.TheVariants.{Path, OldRoot, 
 use Rattle.cv_answers.specs.declared.reason.Reason.{Reason}
 use Rattle.cv_answers.specs.declared.reason.Reason.TheVariants as reason
 use Rattle.cv_messages.proofs.Spellings.{token_of-token_text, digest_of-encode_lower}
-use Rattle.cv_answers.proofs.Lists.{elements-items_of}
 
 granted_back : (token : Token) (revision : ℕ) (root : List ℕ) → IsToken token → IsDigest root
     → answer_in (granted_data token revision root) ≡ Ok (Granted token revision root)

@@ -3,11 +3,12 @@
 -- elements of a list one after another.
 use Rattle.std.specs.Prelude.{◌∷◌, ℕ, Bool, true, List, [], codes, Option, Some, None, is_some, Result, Ok, Err, if◌then◌else◌}
 use Rattle.std.specs.Str.{bytes_eq}
-use Rattle.serde_json.specs.Data.{Data, Items, no_items, item}
+use Rattle.serde_json.specs.Data.{Data, Items}
 use Rattle.serde_json.specs.Find.{get, as_str, as_array, as_object}
+use Rattle.cv_json.specs.Elements.{elements}
 use Rattle.cv_base.specs.Digest.{IsDigest}
 use Rattle.cv_messages.specs.Spelling.{IsToken}
-use Rattle.cv_messages.specs.ObjectText.{object_in}
+use Rattle.cv_json.specs.ObjectText.{object_in}
 use Rattle.cv_messages.specs.Member.{and_then, text_of, text_member, number_member, token_member, digest_member}
 use Rattle.cv_answers.specs.Refusal.{is_refusal, refusal_in}
 use Rattle.cv_messages.specs.declared.member.Member.TheVariants.{Path, SessionToken, Status, Other}
@@ -44,11 +45,6 @@ committed_in d =
 abbrev pub each_of : {A : Type 0} → (Data → Result A MessageFault) → List Data → Result (List A) MessageFault
 each_of says [] = Ok []
 each_of says (d ∷ ds) = and_then (says d) (λ x. and_then (each_of says ds) (λ xs. Ok (x ∷ xs)))
-
--- the elements of an array
-abbrev pub elements : Items → List Data
-elements no_items = []
-elements (item d ds) = d ∷ elements ds
 
 abbrev pub elements_of : Option Items → Result (List Data) MessageFault
 elements_of None = Err (WrongType Other)

@@ -8,7 +8,8 @@ use crate::lease_item::LeaseItem;
 use crate::read_answer::read_answer;
 use crate::refusal::Refusal;
 use cv_base::{Items, NoMemory, Text, Token};
-use cv_messages::{MessageFault, read_object, write_object};
+use cv_json::{read_object, write_object};
+use cv_messages::MessageFault;
 use std::alloc::Global;
 
 /// What the gateway answers to a request.

@@ -14,7 +14,8 @@ use crate::lease_item::LeaseItem;
 use crate::reason::Reason;
 use crate::refusal::Refusal;
 use cv_base::{NoMemory, Text, Token};
-use cv_messages::{Members, with_digest, with_number, with_text, with_token, with_value};
+use cv_json::{Members, with_number, with_text, with_value};
+use cv_messages::{with_digest, with_token};
 use serde_json::{Map, Value};
 use std::alloc::Global;
 

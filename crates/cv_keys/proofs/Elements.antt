@@ -1,14 +1,21 @@
--- Keys that are read one after another.
-use Rattle.std.proofs.Common.{◌≡◌, ℕ, ◌+◌, ◌<◌, List, [], ◌∷◌, ◌++◌, length, map, get_or, drop, Result, Ok, Err, refl, sym, ap, subst, ◌∙◌}
+-- Keys that are read of them one after another.
+use Rattle.std.proofs.Common.{◌≡◌, ℕ, ◌+◌, ◌<◌, List, [], ◌∷◌, ◌++◌, length, map, get_or, drop, codes, Some, Result, Ok, Err, refl, sym, ap, subst, ◌∙◌}
 use Rattle.std.specs.Prelude.{MatchResult}
 use Rattle.std.specs.Result.{IsErrAnd}
 use Rattle.std.proofs.lemmas.List.{drop_more}
-use Rattle.serde_json.specs.View.{view}
+use Rattle.serde_json.specs.Data.{Data}
+use Rattle.serde_json.specs.Find.{get, as_array}
+use Rattle.serde_json.specs.View.{view, items_of}
 use Rattle.serde_json.specs.declared.value.Value.{Value}
-use Rattle.cv_keys.specs.KeysText.{IsSaid, new_key, keys_behind}
+use Rattle.cv_json.proofs.Elements.{elements-items_of}
+use Rattle.cv_keys.specs.KeysText.{IsSaid, new_key, keys_behind, array_keys, keys_in_object}
 use Rattle.cv_keys.specs.declared.key.Key.{Key}
 use Rattle.cv_keys.specs.declared.key_fault.KeyFault.{KeyFault}
 use Rattle.cv_keys.specs.declared.key_fault.KeyFault.TheVariants.{NotJson, Missing, WrongType, BadValue, Repeated, TooMany, NoKey, NoMemory}
+
+-- the keys of an object whose member `keys` is an array of these
+pub keys_in_object-array : (d e : Data) (ds : List Data) → get (codes "keys") d ≡ Some e → as_array e ≡ Some (items_of ds) → keys_in_object (Some d) ≡ array_keys ds
+keys_in_object-array d e ds member is_array = rw (member, is_array, elements-items_of ds) refl
 
 -- what is left of a list begins with the element of its place
 drop_is : (vs : List Value) (i : ℕ) (v : Value) → i < length vs → v ≡ get_or vs i v → drop i vs ≡ v ∷ drop (i + 1) vs

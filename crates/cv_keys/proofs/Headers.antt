@@ -1,5 +1,5 @@
 -- The header that a key gives a message is checked as that key's.
-use Rattle.std.proofs.Common.{◌≡◌, ℕ, zero, suc, ◌+◌, ◌<◌, ◌==◌, nat_lt, Bool, true, false, ◌&&◌, List, [], ◌∷◌, ◌++◌, length, take, drop, get_or, Some, Result, Ok, Err, refl, sym, ap, subst, ◌∙◌, arith, rules, length-append, lit<, option_map, Global, String, string_bytes}
+use Rattle.std.proofs.Common.{◌≡◌, ℕ, zero, suc, ◌+◌, ◌<◌, ◌==◌, nat_lt, Bool, true, false, List, [], ◌∷◌, ◌++◌, length, take, drop, get_or, Some, Result, Ok, Err, refl, sym, ap, subst, ◌∙◌, arith, rules, length-append, lit<, option_map, Global, String, string_bytes}
 use Rattle.std.specs.Prelude.{slice_get, slice_index, IsAscii, IfOk}
 use Rattle.std.specs.List.{list_all, position_or_len, before_first, after_first}
 use Rattle.std.specs.Str.{bytes_eq}
@@ -15,18 +15,11 @@ use Rattle.base64.proofs.EngineFacts.{decode_of-encode_of}
 use Rattle.cv_base.specs.Digest.{IsDigest}
 use Rattle.cv_seal.specs.Hmac.{hmac_sha1}
 use Rattle.cv_base.proofs.Digests.{digest_sha1}
+use Rattle.cv_base.proofs.Bools.{first_true, second_true}
 use Rattle.cv_keys.specs.Key.{is_visible, is_key_id, IsTable}
 use Rattle.cv_keys.specs.Header.{mac_of, header_of, decoded, checked_parts, checked}
 use Rattle.cv_keys.specs.declared.key.Key.{Key}
 use Rattle.cv_keys.proofs.Tables.{place_of-distinct}
-
-first_true : (a b : Bool) → (a && b) ≡ true → a ≡ true
-first_true true b h = refl
-first_true false b h = cc
-
-second_true : (a b : Bool) → (a && b) ≡ true → b ≡ true
-second_true true b h = h
-second_true false b h = cc
 
 -- a visible byte is no space
 no_space : (b : ℕ) → is_visible b ≡ true → (b == 32) ≡ false

@@ -1,4 +1,3 @@
 mod Elements
-pub mod Objects
 pub mod Tables
 pub mod Headers

@@ -1,5 +1,5 @@
 -- What is read of a keys text is a table, in which each key is found by its id.
-use Rattle.std.proofs.Common.{◌≡◌, ◌≢◌, ℕ, zero, suc, ◌+◌, ◌==◌, nat_lt, Bool, true, false, not, cond, ◌&&◌, ◌||◌, List, [], ◌∷◌, ◌++◌, length, Option, Some, None, Result, Ok, Err, is_some, codes, refl, sym, ap, subst, ◌∙◌, arith, length-append, Vec, Global}
+use Rattle.std.proofs.Common.{◌≡◌, ◌≢◌, ℕ, zero, suc, ◌+◌, ◌==◌, nat_lt, Bool, true, false, not, cond, ◌||◌, List, [], ◌∷◌, ◌++◌, length, Option, Some, None, Result, Ok, Err, is_some, codes, refl, sym, ap, subst, ◌∙◌, arith, length-append, Vec, Global}
 use Rattle.std.specs.Prelude.{slice_get, IfOk, MatchResult}
 use Rattle.std.specs.List.{list_all, position_from}
 use Rattle.std.specs.Str.{bytes_eq}
@@ -7,6 +7,7 @@ use Rattle.std.proofs.lemmas.Bool.{eq-eqb, ltb-false}
 use Rattle.std.proofs.lemmas.List.Folds.{list_any-append, list_all-append}
 use Rattle.std.proofs.lemmas.Slice.Eq.{bytes_eq-Decides}
 use Rattle.std.proofs.lemmas.Iterator.Adapters.{position_from-zero}
+use Rattle.cv_base.proofs.Bools.{first_true, second_true}
 use Rattle.serde_json.specs.Data.{Data}
 use Rattle.serde_json.specs.Find.{get, as_str, as_object}
 use Rattle.cv_keys.specs.Key.{is_key_id, is_secret, has_id, is_distinct, place_of, IsTable}
@@ -14,14 +15,6 @@ use Rattle.cv_keys.specs.KeysText.{and_then, tested_text, member_text, key_in, n
 use Rattle.cv_keys.specs.declared.key.Key.{Key}
 use Rattle.cv_keys.specs.declared.key_fault.KeyFault.{KeyFault}
 use Rattle.cv_keys.specs.declared.key_fault.KeyFault.TheVariants.{WrongType, BadValue, Repeated, TooMany, NoKey}
-
-first_true : (a b : Bool) → (a && b) ≡ true → a ≡ true
-first_true true b h = refl
-first_true false b h = cc
-
-second_true : (a b : Bool) → (a && b) ≡ true → b ≡ true
-second_true true b h = h
-second_true false b h = cc
 
 first_false : (a b : Bool) → (a || b) ≡ false → a ≡ false
 first_false true b h = cc

@@ -1,8 +1,9 @@
 -- The keys text, and its first fault.
 use Rattle.std.specs.Prelude.{ℕ, ◌+◌, ◌==◌, Bool, nat_lt, List, [], ◌∷◌, ◌++◌, length, codes, Option, Some, None, is_some, Result, Ok, Err, if◌then◌else◌}
-use Rattle.serde_json.specs.Data.{Data, Items}
+use Rattle.serde_json.specs.Data.{Data, Items, no_items, item}
 use Rattle.serde_json.specs.Find.{get, as_str, as_array, as_object}
-use Rattle.cv_keys.specs.ObjectText.{object_in, elements}
+use Rattle.cv_json.specs.Elements.{elements}
+use Rattle.cv_json.specs.ObjectText.{object_in}
 use Rattle.cv_keys.specs.Key.{is_key_id, is_secret, has_id}
 use Rattle.cv_keys.specs.declared.key.Key.{Key}
 use Rattle.cv_keys.specs.declared.key_fault.KeyFault.{KeyFault}

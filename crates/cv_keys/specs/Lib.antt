@@ -1,4 +1,3 @@
-pub mod ObjectText
 pub mod Key
 pub mod KeysText
 pub mod Header

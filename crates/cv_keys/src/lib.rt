@@ -6,7 +6,6 @@ mod key;
 mod key_fault;
 mod key_no;
 mod key_table;
-mod object_text;
 mod read_keys;
 #[cfg(test)]
 mod tests;

@@ -1,3 +1,2 @@
-mod Objects
 pub mod Spellings
 mod MemberReads

@@ -2,7 +2,7 @@
 use Rattle.std.specs.Prelude.{ℕ, List, codes, Option, Some, None, Result, Ok, Err}
 use Rattle.serde_json.specs.Data.{Data, string, object, member, no_members}
 use Rattle.serde_json.specs.Find.{get}
-use Rattle.cv_messages.specs.ObjectText.{object_in}
+use Rattle.cv_json.specs.ObjectText.{object_in}
 use Rattle.cv_messages.specs.Member.{text_member}
 use Rattle.cv_messages.specs.declared.lease_ask.LeaseAsk.{LeaseAsk}
 use Rattle.cv_messages.specs.declared.member.Member.TheVariants.{Path}

@@ -1,4 +1,3 @@
-pub mod ObjectText
 pub mod Spelling
 pub mod Member
 pub mod MemberName

@@ -8,9 +8,8 @@ ghost use Rattle.cv_messages.specs.Member.{IsSaid};
 use crate::member::Member;
 use crate::members::text_member;
 use crate::message_fault::MessageFault;
-use crate::object_members::with_text;
-use crate::object_text::{read_object, write_object};
 use cv_base::{NoMemory, Text};
+use cv_json::{read_object, with_text, write_object};
 use serde_json::{Map, Value};
 use std::alloc::Global;
 

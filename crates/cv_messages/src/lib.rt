@@ -1,12 +1,11 @@
-//! The JSON messages that ask something of the gateway, and the members of JSON objects, read and written.
+//! The JSON messages that ask something of the gateway, and the members that messages and answers share.
 #![tactic(auto)]
 
 mod lease_ask;
 mod member;
 mod members;
 mod message_fault;
-mod object_members;
-mod object_text;
+mod spelled_members;
 #[cfg(test)]
 mod tests;
 
@@ -14,5 +13,4 @@ pub use lease_ask::LeaseAsk;
 pub use member::Member;
 pub use members::{digest_member, number_member, text_member, token_member};
 pub use message_fault::MessageFault;
-pub use object_members::{Members, with_digest, with_number, with_text, with_token, with_value};
-pub use object_text::{read_object, write_object};
+pub use spelled_members::{with_digest, with_token};

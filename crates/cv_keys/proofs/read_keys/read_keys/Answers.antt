@@ -1,6 +1,6 @@
 use Rattle.std.proofs.Common.{sym, map}
 use Rattle.serde_json.specs.View.{view}
-use Rattle.cv_keys.proofs.Objects.{keys_in_object-array}
+use Rattle.cv_keys.proofs.Elements.{keys_in_object-array}
 use Rattle.cv_keys.proofs.Tables.{IsTable-read}
 use Rattle.cv_keys.proofs.read_keys.read_keys.Goals as goal
 

@@ -1,6 +1,6 @@
 use Rattle.serde_json.specs.View.{view}
-use Rattle.cv_messages.proofs.Objects.{object_in-Some}
-use Rattle.cv_messages.proofs.object_text.write_object.Goals as goal
+use Rattle.cv_json.proofs.Objects.{object_in-Some}
+use Rattle.cv_json.proofs.object_text.write_object.Goals as goal
 
 pub returns-clause-reads_back : goal.returns-clause-reads_back
 returns-clause-reads_back c =

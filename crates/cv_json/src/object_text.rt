@@ -5,7 +5,7 @@ ghost use Rattle.serde_json.specs.Find.{as_object};
 ghost use Rattle.serde_json.specs.Read.{max_depth};
 ghost use Rattle.serde_json.specs.View.{view};
 ghost use Rattle.serde_json.specs.Written.{compact_text, has_float};
-ghost use Rattle.cv_messages.specs.ObjectText.{object_in};
+ghost use Rattle.cv_json.specs.ObjectText.{object_in};
 
 use cv_base::NoMemory;
 use serde_json::Value;

@@ -6,7 +6,7 @@ use Rattle.std.proofs.lemmas.Str.{is_utf8-from_IsUtf8, IsUtf8-from_is_utf8}
 use Rattle.serde_json.specs.Data.{Data, null, boolean, number, string, array, object}
 use Rattle.serde_json.specs.Find.{as_object}
 use Rattle.serde_json.specs.Read.{read}
-use Rattle.cv_messages.specs.ObjectText.{only_object, object_in}
+use Rattle.cv_json.specs.ObjectText.{only_object, object_in}
 
 only_object-Some : (d : Data) → is_some (as_object d) ≡ true → only_object d ≡ Some d
 only_object-Some null h = cc

@@ -1,7 +1,7 @@
 use Rattle.std.proofs.Common.{sym}
 use Rattle.serde_json.specs.View.{view}
-use Rattle.cv_keys.proofs.Objects.{object_in-Some, object_in-None}
-use Rattle.cv_keys.proofs.object_text.read_object.Goals as goal
+use Rattle.cv_json.proofs.Objects.{object_in-Some, object_in-None}
+use Rattle.cv_json.proofs.object_text.read_object.Goals as goal
 
 pub returns-then-is_object : goal.returns-then-is_object
 returns-then-is_object c =
