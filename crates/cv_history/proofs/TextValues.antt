@@ -1,5 +1,5 @@
 -- Texts that are read.
-use Rattle.std.proofs.Common.{◌≡◌, ◌<◌, arith, slice_index, ℕ, zero, suc, true, false, List, [], ◌∷◌, inl, refl, ap, ◌∙◌}
+use Rattle.std.proofs.Common.{◌≡◌, ◌<◌, arith, slice_index, ℕ, zero, suc, true, List, [], ◌∷◌, inl, refl}
 use Rattle.std.specs.Prelude.{Ok}
 use Rattle.std.specs.Str.{IsUtf8, is_utf8, bytes_eq}
 use Rattle.std.specs.List.{list_all}
@@ -9,30 +9,10 @@ use Rattle.std.proofs.lemmas.Slice.Eq.{bytes_eq-Decides}
 use Rattle.cv_base.specs.Path.{Path, IsPath, is_path_name, text_of}
 use Rattle.cv_base.proofs.PathGrammar.{path_of-Spells}
 use Rattle.cv_base.specs.PathText.{path_of}
-use Rattle.cv_base.specs.Target.{is_target}
-use Rattle.cv_history.specs.Faults.{is_path_text, is_own_text}
-
-pub not_utf8 : (text : List ℕ) → (IsUtf8 text → ⊥) → is_utf8 text ≡ false
-not_utf8 text h = elim (is_utf8 text) as (λ b. is_utf8 text ≡ b → b ≡ false) [
-  | true ↦ λ e. absurd (h (IsUtf8-from_is_utf8 text e))
-  | false ↦ λ e. refl
-] refl
-
--- bytes that are no text are neither a target nor a path
-pub not_target : (text : List ℕ) → (IsUtf8 text → ⊥) → is_target text ≡ false
-not_target text h = rw (not_utf8 text h) refl
-
-pub not_path : (text : List ℕ) → (IsUtf8 text → ⊥) → is_path_text text ≡ false
-not_path text h = rw (not_utf8 text h) refl
+use Rattle.cv_history.specs.Faults.{is_path_text}
 
 pub bytes_eq_self : (a : List ℕ) → bytes_eq a a ≡ true
 bytes_eq_self a = (bytes_eq-Decides a a).1 refl
-
--- a path's own text
-pub own_path : (text : List ℕ) (path : Path) → IsUtf8 text → path_of text ≡ Ok path → text_of path ≡ text → is_path_text text ≡ true
-own_path text path utf8 says own =
-    let same : is_own_text text (Ok path) ≡ true = ap (λ (t : List ℕ). bytes_eq t text) own ∙ bytes_eq_self text in
-    rw (is_utf8-from_IsUtf8 text utf8, says) same
 
 slash_ascii : (i : ℕ) → slice_index (47 ∷ []) i < 128
 slash_ascii zero = omega arith
@@ -47,4 +27,6 @@ utf8_names (name ∷ path) h =
 
 -- the text of a path is its own
 pub path_text : (path : Path) → IsPath path → is_path_text (text_of path) ≡ true
-path_text path h = own_path (text_of path) path (utf8_names path h.names) (path_of-Spells (text_of path) path h (inl refl)) refl
+path_text path h =
+    let says : path_of (text_of path) ≡ Ok path = path_of-Spells (text_of path) path h (inl refl) in
+    rw (is_utf8-from_IsUtf8 (text_of path) (utf8_names path h.names), says, bytes_eq_self (text_of path)) refl

@@ -1,12 +1,10 @@
 -- The first fault of bytes that are no record, field by field in the order of their offsets.
-use Rattle.std.specs.Prelude.{ℕ, ◌+◌, ◌^◌, ◌==◌, Bool, true, false, ◌&&◌, nat_le, nat_lt, List, length, take, drop, codes, Option, Some, None, Result, Ok, Err, if◌then◌else◌}
+use Rattle.std.specs.Prelude.{ℕ, ◌+◌, ◌^◌, ◌==◌, Bool, true, ◌&&◌, nat_le, nat_lt, List, length, take, drop, codes, Option, Some, None, is_some, if◌then◌else◌}
 use Rattle.std.specs.Int.{w16, w64, from_be_bytes}
 use Rattle.std.specs.List.{list_all}
-use Rattle.std.specs.Str.{bytes_eq, is_utf8}
-use Rattle.cv_base.specs.Path.{Path, text_of}
-use Rattle.cv_base.specs.PathText.{path_of}
+use Rattle.std.specs.Str.{bytes_eq}
+use Rattle.cv_base.specs.PathText.{path_named}
 use Rattle.cv_base.specs.Target.{is_target}
-use Rattle.cv_base.specs.declared.path_fault.PathFault.{PathFault}
 use Rattle.cv_history.specs.Record.{no_hash, is_tag_byte}
 
 -- so many bytes of a text from one offset on, and the numbers there
@@ -43,13 +41,9 @@ text_fault text at limit right =
     field_fault text at 2 (nat_le (u16_at text at) limit)
     before field_fault text (at + 2) (u16_at text at) (right (part text (at + 2) (u16_at text at)))
 
--- the text is that of the path which it says
-abbrev pub is_own_text : List ℕ → Result Path PathFault → Bool
-is_own_text text (Ok path) = bytes_eq (text_of path) text
-is_own_text text (Err fault) = false
-
+-- the text is a path's own
 abbrev pub is_path_text : List ℕ → Bool
-is_path_text text = is_utf8 text && is_own_text text (path_of text)
+is_path_text text = is_some (path_named text)
 
 abbrev pub is_tag : List ℕ → Bool
 is_tag text = is_target text && list_all is_tag_byte text

@@ -11,12 +11,8 @@ use crate::fields::{text_at, u64_at};
 use crate::front::Front;
 use crate::record::Record;
 use crate::record_fault::RecordFault;
-use cv_base::{PathFault, RepoPath, Target};
+use cv_base::{PATH_LIMIT, RepoPath, Target};
 use std::alloc::Global;
-use std::str;
-
-/// The most bytes of a path's text.
-const PATH_LIMIT: usize = 4095;
 
 /// The most bytes of a key's id, and of a tag.
 const TEXT_LIMIT: usize = 255;
@@ -36,20 +32,7 @@ fn read_path(alloc: Global, bytes: &[u8], at: usize) -> Result<RepoPath, RecordF
     ensures judged { Judges (if is_path_text bytes.now then None else Some at) result }
     ensures value { IfOk result (λ path. IsPath path × (bytes.now ≡ text_of path)) }
 {
-    let Ok(text) = str::from_utf8(bytes) else {
-        return Err(RecordFault::BadRecord(at));
-    };
-    let path = match RepoPath::read(alloc, text) {
-        Ok(path) => path,
-        Err(PathFault::NoMemory) => return Err(RecordFault::NoMemory),
-        Err(_) => return Err(RecordFault::BadRecord(at)),
-    };
-    let own = path.text(alloc)?;
-    if own.as_str() == text {
-        Ok(path)
-    } else {
-        Err(RecordFault::BadRecord(at))
-    }
+    RepoPath::of_bytes(alloc, bytes)?.ok_or(RecordFault::BadRecord(at))
 }
 
 /// The text of a key's id or a tag at an offset.
@@ -57,13 +40,7 @@ fn read_target(alloc: Global, bytes: &[u8], at: usize) -> Result<Target, RecordF
     ensures judged { Judges (if is_target bytes.now then None else Some at) result }
     ensures value { IfOk result (λ target. target ≡ bytes.now) }
 {
-    let Ok(text) = str::from_utf8(bytes) else {
-        return Err(RecordFault::BadRecord(at));
-    };
-    match Target::read(alloc, text)? {
-        Some(target) => Ok(target),
-        None => Err(RecordFault::BadRecord(at)),
-    }
+    Target::of_bytes(alloc, bytes)?.ok_or(RecordFault::BadRecord(at))
 }
 
 /// Whether bytes have no control byte.
