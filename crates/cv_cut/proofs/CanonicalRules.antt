@@ -13,6 +13,7 @@ use Rattle.std.proofs.lemmas.List.Concat.{length-flat_map}
 use Rattle.cv_base.specs.Marker.{marker}
 use Rattle.cv_base.specs.Path.{Path, same_path, text_of}
 use Rattle.cv_base.specs.PathOrder.{path_total, same_path_is}
+use Rattle.cv_base.proofs.Bools.{first_true, second_true}
 use Rattle.cv_tree.specs.Tree.{Nodes, IsTree, at, is_directory}
 use Rattle.cv_tree.proofs.Replacements.{get-at}
 use Rattle.cv_tree.specs.declared.node.Node.{Node}
@@ -30,7 +31,6 @@ use Rattle.cv_cut.proofs.RegionRules.{stands_at_cut, IsOther, AreEntriesOf, regi
 use Rattle.cv_cut.proofs.RegionLists.{row_list, nested_list, row_list_are, nested_list_are, keys_apart, texts_apart, rows_of-by_key, nested_of-by_text}
 use Rattle.cv_cut.proofs.RowFacts.{row_at}
 use Rattle.cv_cut.proofs.Sorted.{order_moves, order_rises}
-use Rattle.cv_cut.proofs.Bools.{first_true, second_true}
 use Rattle.cv_cut.proofs.Ends.{back}
 
 -- ---- lists in another order

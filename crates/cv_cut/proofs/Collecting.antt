@@ -13,6 +13,7 @@ use Rattle.std.proofs.lemmas.List.Elements.{Contains-get_or}
 use Rattle.std.proofs.lemmas.List.Filters.{length-filter_both}
 use Rattle.cv_base.specs.Path.{Path, path_cmp, covers}
 use Rattle.cv_base.specs.PathOrder.{path_total}
+use Rattle.cv_base.proofs.Bools.{first_true, second_true}
 use Rattle.cv_tree.specs.Tree.{Nodes}
 use Rattle.cv_tree.specs.declared.node.Node.{Node}
 use Rattle.cv_cut.specs.Cut.{StandFrom, is_other, region_at}
@@ -21,7 +22,7 @@ use Rattle.cv_cut.proofs.Entries.{below_each}
 use Rattle.cv_cut.proofs.Between.{below_covered, other_stands, not_in_region, in_region, outside}
 use Rattle.cv_cut.proofs.RegionPaths.{is_in_region, region_is}
 use Rattle.cv_cut.proofs.Sides.{covers_before, covers_through, filter_within, sorted_filter}
-use Rattle.cv_cut.proofs.Bools.{first_true, second_true, false_not, not_false, so}
+use Rattle.cv_cut.proofs.Bools.{false_not, not_false, so}
 
 -- what was found, and what is left of the entries that the cut covers: each other cut that covers one of those is still
 -- among them

@@ -3,11 +3,10 @@ use Rattle.std.proofs.Common.{◌≡◌, ◌≢◌, Bool, true, false, not, ◌&
 use Rattle.std.proofs.lemmas.List.{map-append}
 use Rattle.std.proofs.lemmas.List.Folds.{list_all-append}
 use Rattle.std.specs.List.{list_all}
-use Rattle.cv_base.specs.Path.{Path, parent, key_of}
+use Rattle.cv_base.specs.Path.{Path, parent, key_of, parent_key_of, last_name_of}
+use Rattle.cv_base.proofs.Bools.{first_true, second_true}
 use Rattle.cv_tree.specs.Tree.{Nodes}
-use Rattle.cv_rows.specs.Places.{root_parent, root_name}
 use Rattle.cv_cut.specs.Cuts.{between, is_near, is_marked}
-use Rattle.cv_cut.proofs.Bools.{first_true, second_true}
 
 -- a path is the root, or a path with one more name
 pub record HasLast (q : Path) : Type 0 where
@@ -36,14 +35,14 @@ parent-append (b ∷ []) a = refl
 parent-append (b ∷ c ∷ q) a = ap (λ (w : Path). b ∷ w) (parent-append (c ∷ q) a)
 
 -- the parent key and the name of a path with one more name
-pub root_parent-append : (q : Path) (a : List _) → root_parent (q ++ a ∷ []) ≡ key_of q
-root_parent-append [] a = refl
-root_parent-append (b ∷ q) a = ap key_of (parent-append (b ∷ q) a)
+pub parent_key-append : (q : Path) (a : List _) → parent_key_of (q ++ a ∷ []) ≡ key_of q
+parent_key-append [] a = refl
+parent_key-append (b ∷ q) a = ap key_of (parent-append (b ∷ q) a)
 
-pub root_name-append : (q : Path) (a : List _) → root_name (q ++ a ∷ []) ≡ a
-root_name-append [] a = refl
-root_name-append (b ∷ []) a = refl
-root_name-append (b ∷ c ∷ q) a = root_name-append (c ∷ q) a
+pub last_name-append : (q : Path) (a : List _) → last_name_of (q ++ a ∷ []) ≡ a
+last_name-append [] a = refl
+last_name-append (b ∷ []) a = refl
+last_name-append (b ∷ c ∷ q) a = last_name-append (c ∷ q) a
 
 -- what is above a path with one more name
 pub between-append : (b : List _) (q : Path) (a : List _) → between (b ∷ q ++ a ∷ []) ≡ between (b ∷ q) ++ (b ∷ q) ∷ []

@@ -6,9 +6,8 @@ use Rattle.std.proofs.lemmas.Bool.{cases_lt}
 use Rattle.std.proofs.lemmas.List.{get_or_past}
 use Rattle.md5.specs.Md5.{md5, digest_bytes}
 use Rattle.md5.proofs.StandardFacts.{length-md5}
-use Rattle.cv_base.specs.Path.{Path, key_of}
-use Rattle.cv_rows.specs.Row.{IsKey, no_key}
-use Rattle.cv_rows.specs.Places.{root_parent}
+use Rattle.cv_base.specs.Path.{Path, key_of, no_key, parent_key_of}
+use Rattle.cv_rows.specs.Row.{IsKey}
 
 abbrev IsByte : ℕ → Type 0
 IsByte b = b < 256
@@ -45,6 +44,6 @@ pub key_is : (p : Path) → IsKey (key_of p)
 key_is p = md5_key _
 
 -- so is the key above it
-pub parent_is : (p : Path) → IsKey (root_parent p)
+pub parent_is : (p : Path) → IsKey (parent_key_of p)
 parent_is [] = record { size = refl; bytes = bytes_at no_key (All-replicate IsByte 16 0 (omega arith)) }
 parent_is (a ∷ p) = md5_key _

@@ -7,15 +7,16 @@ use Rattle.std.proofs.lemmas.List.Elements.{Contains-get_or, recursion_from_All}
 use Rattle.std.proofs.lemmas.List.Folds.{Any-from_list_any, list_any-from_Any}
 use Rattle.std.proofs.lemmas.Slice.Eq.{bytes_eq-Decides}
 use Rattle.cv_base.specs.Marker.{marker}
-use Rattle.cv_base.specs.Path.{Path, IsPath, key_of}
+use Rattle.cv_base.specs.Path.{Path, IsPath, key_of, last_name_of}
 use Rattle.cv_base.proofs.Digests.{digest_sha1}
+use Rattle.cv_base.proofs.Bools.{first_true, second_true}
 use Rattle.cv_tree.specs.Tree.{Nodes, is_directory, IsPart, IsTree, at}
 use Rattle.cv_tree.specs.declared.node.Node.{Node}
 use Rattle.cv_tree.proofs.Replacements.{get-at}
 use Rattle.cv_tree.proofs.Shapes.{IsPart-at}
 use Rattle.cv_rows.specs.Row.{IsRow, same_kind}
 use Rattle.cv_rows.specs.Nested.{IsNested}
-use Rattle.cv_rows.specs.Places.{IsRoot, StandsAt, root_name}
+use Rattle.cv_rows.specs.Places.{IsRoot, StandsAt}
 use Rattle.cv_rows.specs.Catalogue.{FitsAt, IsMarkedWell, IsTransitionAt, IsListed, IsRegion, is_marker, has_marker}
 use Rattle.cv_rows.specs.declared.row.Row.{Row}
 use Rattle.cv_rows.specs.declared.nested.Nested.{Nested}
@@ -27,7 +28,6 @@ use Rattle.cv_cut.proofs.Ends.{HasLast, some_last}
 use Rattle.cv_cut.proofs.RowFacts.{row_at, row_key, row_kind, row_name, parent_at, name_at, root_row, transition_marked, marked_transition, directory_unmarked, file_node, node_file, nested_root_at}
 use Rattle.cv_cut.proofs.RowRules.{row_keeps, suits}
 use Rattle.cv_cut.proofs.Regions.{IsNear, KeysApart, AreRowsOf, above, root_node, only_root, stands}
-use Rattle.cv_cut.proofs.Bools.{first_true, second_true}
 
 -- ---- the place
 
@@ -104,7 +104,7 @@ fits : (c : Path) (u : Nodes) → StandsAtCut c u → KeysApart c u → (q : Pat
 fits c u cut apart q n has = record {
   key = row_key _ (c ++ q) n;
   path = path_there c u cut q n has;
-  name = λ is. row_name _ (c ++ q) n ∙ ap root_name (ap (λ (x : Path). c ++ x) (only_root c u cut.part apart q n has is) ∙ append-nil c);
+  name = λ is. row_name _ (c ++ q) n ∙ ap last_name_of (ap (λ (x : Path). c ++ x) (only_root c u cut.part apart q n has is) ∙ append-nil c);
 }
 
 -- ---- markers

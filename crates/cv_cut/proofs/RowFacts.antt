@@ -3,21 +3,21 @@ use Rattle.std.proofs.Common.{◌≡◌, ◌≢◌, true, false, cond, List, [],
 use Rattle.std.specs.declared.option.Option.TheVariants.{Some}
 use Rattle.std.specs.List.{list_all}
 use Rattle.std.proofs.lemmas.Str.{IsUtf8-nil, is_utf8-from_IsUtf8}
-use Rattle.cv_base.specs.Path.{Path, key_of, is_path_name}
+use Rattle.cv_base.specs.Path.{Path, key_of, is_path_name, parent_key_of, last_name_of}
 use Rattle.cv_base.specs.Target.{is_target}
+use Rattle.cv_base.proofs.Bools.{first_true, second_true}
 use Rattle.cv_tree.specs.Tree.{Nodes, is_directory}
 use Rattle.cv_tree.specs.declared.node.Node.{Node}
 use Rattle.cv_tree.specs.declared.node.Node.TheVariants as node
 use Rattle.cv_rows.specs.Row.{holds_rows}
-use Rattle.cv_rows.specs.Places.{IsRoot, root_kind, root_parent, root_name}
+use Rattle.cv_rows.specs.Places.{IsRoot, root_kind}
 use Rattle.cv_rows.specs.declared.row.Row.{Row}
 use Rattle.cv_rows.specs.declared.row_kind.RowKind.{RowKind}
 use Rattle.cv_rows.specs.declared.row_kind.RowKind.TheVariants.{Directory, Transition, NestedRoot, File}
 use Rattle.cv_cut.specs.Cuts.{is_file, is_marked}
 use Rattle.cv_cut.specs.Catalogues.{kind_of, row_of}
 use Rattle.cv_rows.proofs.Texts.{path_name-target}
-use Rattle.cv_cut.proofs.Ends.{root_parent-append, root_name-append}
-use Rattle.cv_cut.proofs.Bools.{first_true, second_true}
+use Rattle.cv_cut.proofs.Ends.{parent_key-append, last_name-append}
 
 -- the row of the path behind a cut
 abbrev pub row_at : Path → Nodes → Path → Node → Row
@@ -29,7 +29,7 @@ pub empty_target : is_target [] ≡ true
 empty_target = rw (is_utf8-from_IsUtf8 [] IsUtf8-nil) refl
 
 -- the name of a row is a target
-pub name_target : (p : Path) → list_all is_path_name p ≡ true → is_target (root_name p) ≡ true
+pub name_target : (p : Path) → list_all is_path_name p ≡ true → is_target (last_name_of p) ≡ true
 name_target [] h = empty_target
 name_target (a ∷ []) h = path_name-target a (first_true (is_path_name a) true h)
 name_target (a ∷ b ∷ p) h = name_target (b ∷ p) (second_true (is_path_name a) (list_all is_path_name (b ∷ p)) h)
@@ -41,7 +41,7 @@ row_key kind p (node.Dir attr) = refl
 row_key kind p (node.File attr file) = refl
 row_key kind p (node.Link attr target) = refl
 
-pub row_parent : (kind : RowKind) (p : Path) (n : Node) → (row_of kind p n).parent.0 ≡ root_parent p
+pub row_parent : (kind : RowKind) (p : Path) (n : Node) → (row_of kind p n).parent.0 ≡ parent_key_of p
 row_parent kind p (node.Dir attr) = refl
 row_parent kind p (node.File attr file) = refl
 row_parent kind p (node.Link attr target) = refl
@@ -51,24 +51,24 @@ row_kind kind p (node.Dir attr) = refl
 row_kind kind p (node.File attr file) = refl
 row_kind kind p (node.Link attr target) = refl
 
-pub row_name : (kind : RowKind) (p : Path) (n : Node) → (row_of kind p n).name ≡ root_name p
+pub row_name : (kind : RowKind) (p : Path) (n : Node) → (row_of kind p n).name ≡ last_name_of p
 row_name kind p (node.Dir attr) = refl
 row_name kind p (node.File attr file) = refl
 row_name kind p (node.Link attr target) = refl
 
 -- the same of a path with one more name
 pub parent_at : (c : Path) (u : Nodes) (front : Path) (name : List _) (n : Node) → (row_at c u (front ++ name ∷ []) n).parent.0 ≡ key_of (c ++ front)
-parent_at c u front name n = row_parent _ (c ++ (front ++ name ∷ [])) n ∙ ap root_parent (sym (append_assoc c front (name ∷ []))) ∙ root_parent-append (c ++ front) name
+parent_at c u front name n = row_parent _ (c ++ (front ++ name ∷ [])) n ∙ ap parent_key_of (sym (append_assoc c front (name ∷ []))) ∙ parent_key-append (c ++ front) name
 
 pub name_at : (c : Path) (u : Nodes) (front : Path) (name : List _) (n : Node) → (row_at c u (front ++ name ∷ []) n).name ≡ name
-name_at c u front name n = row_name _ (c ++ (front ++ name ∷ [])) n ∙ ap root_name (sym (append_assoc c front (name ∷ []))) ∙ root_name-append (c ++ front) name
+name_at c u front name n = row_name _ (c ++ (front ++ name ∷ [])) n ∙ ap last_name_of (sym (append_assoc c front (name ∷ []))) ∙ last_name-append (c ++ front) name
 
 -- the row of the cut itself
 pub root_row : (c : Path) (u : Nodes) (n : Node) → IsRoot c (row_at c u [] n)
 root_row c u n = record {
   key = row_key _ (c ++ []) n ∙ ap key_of (append-nil c);
   kind = row_kind (root_kind c) (c ++ []) n;
-  parent = row_parent _ (c ++ []) n ∙ ap root_parent (append-nil c);
+  parent = row_parent _ (c ++ []) n ∙ ap parent_key_of (append-nil c);
 }
 
 -- ---- kinds

@@ -5,20 +5,19 @@ use Rattle.std.proofs.lemmas.List.Folds.{list_all-append}
 use Rattle.std.proofs.lemmas.Bool.{le-leb}
 use Rattle.std.proofs.lemmas.Slice.Eq.{bytes_eq-Decides}
 use Rattle.std.specs.Str.{is_utf8}
-use Rattle.cv_base.specs.Path.{Path, IsPath, is_path_name}
+use Rattle.cv_base.specs.Path.{Path, IsPath, is_path_name, no_key, parent_key_of, last_name_of}
+use Rattle.cv_base.proofs.Bools.{first_true, second_true}
 use Rattle.cv_tree.specs.Node.{IsNode}
 use Rattle.cv_tree.specs.Tree.{Nodes, is_directory}
 use Rattle.cv_tree.specs.declared.node.Node.{Node}
 use Rattle.cv_tree.specs.declared.node.Node.TheVariants as node
-use Rattle.cv_rows.specs.Row.{IsRow, is_row_name, no_key}
-use Rattle.cv_rows.specs.Places.{root_parent, root_name}
+use Rattle.cv_rows.specs.Row.{IsRow, is_row_name}
 use Rattle.cv_rows.specs.declared.row_kind.RowKind.{RowKind}
 use Rattle.cv_rows.specs.declared.row_kind.RowKind.TheVariants.{Directory, Transition, NestedRoot, File, Link}
 use Rattle.cv_cut.specs.Cuts.{is_marked}
 use Rattle.cv_cut.specs.Catalogues.{kind_of, row_of}
-use Rattle.cv_cut.proofs.Ends.{some_last, root_name-append}
+use Rattle.cv_cut.proofs.Ends.{some_last, last_name-append}
 use Rattle.cv_cut.proofs.Keys.{key_is, parent_is}
-use Rattle.cv_cut.proofs.Bools.{first_true, second_true}
 
 name_here : (parent name : List ℕ) → is_path_name name ≡ true → is_row_name parent name ≡ true
 name_here parent [] h =
@@ -34,12 +33,12 @@ last_name front name h =
     first_true (is_path_name name) true (second_true (list_all is_path_name front) _ (sym (list_all-append is_path_name front (name ∷ [])) ∙ h))
 
 -- the last name of a path is the name of a row
-pub named : (p : Path) → IsPath p → is_row_name (root_parent p) (root_name p) ≡ true
+pub named : (p : Path) → IsPath p → is_row_name (parent_key_of p) (last_name_of p) ≡ true
 named [] path = (bytes_eq-Decides no_key no_key).1 refl
 named (a ∷ p) path =
     let l = some_last (a ∷ p) (λ e. cc) in
     let whole : list_all is_path_name (l.front ++ l.name ∷ []) ≡ true = ap (list_all is_path_name) (sym l.is) ∙ path.names in
-    name_here (root_parent (a ∷ p)) (root_name (a ∷ p)) (ap is_path_name (ap root_name l.is ∙ root_name-append l.front l.name) ∙ last_name l.front l.name whole)
+    name_here (parent_key_of (a ∷ p)) (last_name_of (a ∷ p)) (ap is_path_name (ap last_name_of l.is ∙ last_name-append l.front l.name) ∙ last_name l.front l.name whole)
 
 -- the kinds that the row of a node may have
 abbrev pub Suits : RowKind → Node → Type 0

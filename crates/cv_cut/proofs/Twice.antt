@@ -8,8 +8,8 @@ use Rattle.std.specs.Option.{option_map}
 use Rattle.std.specs.FinMap.{is_sorted}
 use Rattle.std.specs.FinMap.Entries.{below_all}
 use Rattle.std.proofs.lemmas.Option.{slice_get_within, get_or_from_slice_get}
+use Rattle.cv_base.proofs.Bools.{first_true, second_true}
 use Rattle.cv_cut.proofs.Entries.{below_each}
-use Rattle.cv_cut.proofs.Bools.{first_true, second_true}
 
 -- what stands at an index is there
 pub stands_there : {X : Type 0} (xs : List X) (i : ℕ) (x : X) → slice_get xs i ≡ Some x → Contains xs x

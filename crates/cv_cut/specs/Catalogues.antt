@@ -2,12 +2,12 @@
 use Rattle.std.specs.Prelude.{◌≡◌, ◌≢◌, ◌<◌, ◌⊎◌, ◌^◌, ℕ, zero, suc, List, [], ◌∷◌, ◌++◌, map, length, Some, None, IsTrue, IsSome, if◌then◌else◌}
 use Rattle.std.specs.FinMap.{get, from_entries, values}
 use Rattle.sha1.specs.Sha1.{sha1}
-use Rattle.cv_base.specs.Path.{Path, text_of, key_of}
+use Rattle.cv_base.specs.Path.{Path, text_of, key_of, parent_key_of, last_name_of}
 use Rattle.cv_tree.specs.Tree.{Nodes, at}
 use Rattle.cv_tree.specs.declared.node.Node.{Node}
 use Rattle.cv_tree.specs.declared.node.Node.TheVariants as node
 use Rattle.cv_rows.specs.Catalogue.{bytes_cmp, catalogue_bytes}
-use Rattle.cv_rows.specs.Places.{root_kind, root_parent, root_name}
+use Rattle.cv_rows.specs.Places.{root_kind}
 use Rattle.cv_rows.specs.declared.row.Row.{Row}
 use Rattle.cv_rows.specs.declared.nested.Nested.{Nested}
 use Rattle.cv_rows.specs.declared.row_kind.RowKind.{RowKind}
@@ -27,32 +27,32 @@ kind_of c u (name ∷ names) (node.Link attr target) = Link
 abbrev pub row_of : RowKind → Path → Node → Row
 row_of kind p (node.Dir attr) = record {
   key = record { 0 = key_of p };
-  parent = record { 0 = root_parent p };
+  parent = record { 0 = parent_key_of p };
   kind = kind;
   attr = attr;
   size = 0;
   hash = None;
-  name = root_name p;
+  name = last_name_of p;
   target = [];
 }
 row_of kind p (node.File attr file) = record {
   key = record { 0 = key_of p };
-  parent = record { 0 = root_parent p };
+  parent = record { 0 = parent_key_of p };
   kind = kind;
   attr = attr;
   size = file.size;
   hash = Some file.hash;
-  name = root_name p;
+  name = last_name_of p;
   target = [];
 }
 row_of kind p (node.Link attr target) = record {
   key = record { 0 = key_of p };
-  parent = record { 0 = root_parent p };
+  parent = record { 0 = parent_key_of p };
   kind = kind;
   attr = attr;
   size = length target;
   hash = None;
-  name = root_name p;
+  name = last_name_of p;
   target = target;
 }
 

@@ -70,7 +70,7 @@ fn keep(
         size: bytes.len() as u64,
     };
     let bytes = Bytes::new(bytes);
-    objects.push(Object { id, bytes }).map_err(|_| NoMemory)?;
+    objects.push(Object { id, bytes })?;
     match made.insert(cut.copy(alloc)?, entry) {
         Ok(_) => Ok(()),
         Err(_) => Err(NoMemory),

@@ -49,7 +49,7 @@ pub(crate) fn nested(
     let mut nested = Vec::new(alloc);
     for entry in region {
         if let Some(other) = other_entry(alloc, tree, cut, &entry.0, made)? {
-            nested.push(other).map_err(|_| NoMemory)?;
+            nested.push(other)?;
         }
     }
     Ok(nested)

@@ -33,7 +33,7 @@ pub(crate) fn cuts(
     let mut found = Vec::new(alloc);
     for entry in entries {
         if is_cut(alloc, tree, &entry.0)? {
-            found.push(entry.0.copy(alloc)?).map_err(|_| NoMemory)?;
+            found.push(entry.0.copy(alloc)?)?;
         }
     }
     found.reverse();
@@ -115,7 +115,7 @@ pub(crate) fn region(
     let mut region = Vec::new(alloc);
     let mut rest = covered(entries, cut);
     while let Some((first, more)) = rest.split_first() {
-        region.push(copy(alloc, first)?).map_err(|_| NoMemory)?;
+        region.push(copy(alloc, first)?)?;
         rest = left_behind(alloc, tree, cut, &first.0, more)?;
     }
     Ok(region)

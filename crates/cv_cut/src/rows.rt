@@ -1,9 +1,9 @@
 //! The rows of a region.
 ghost use Rattle.std.specs.Prelude.{◌≡◌, true, map, IfOk, if◌then◌else◌};
 ghost use Rattle.std.specs.List.{All};
-ghost use Rattle.cv_base.specs.Path.{covers};
+ghost use Rattle.cv_base.specs.Path.{covers, last_name_of};
 ghost use Rattle.cv_base.specs.Target.{is_target};
-ghost use Rattle.cv_rows.specs.Places.{root_kind, root_name};
+ghost use Rattle.cv_rows.specs.Places.{root_kind};
 ghost use Rattle.cv_rows.specs.declared.row_kind.RowKind.TheVariants as kinds;
 ghost use Rattle.cv_tree.specs.Tree.{at};
 ghost use Rattle.cv_cut.specs.Cuts.{is_marked};
@@ -12,7 +12,7 @@ ghost use Rattle.cv_cut.specs.Cut.{rest_of, row_in};
 
 use crate::marks::is_marked;
 use cv_base::{NoMemory, RepoPath, Target};
-use cv_rows::{Row, RowKind, last_name, parent_key};
+use cv_rows::{Row, RowKind};
 use cv_tree::{Node, Tree};
 use std::alloc::Global;
 
@@ -72,12 +72,12 @@ fn kind(
 
 /// The name of the row of a path: the path's last name, and empty for the root of the repository.
 fn name(alloc: Global, path: &RepoPath) -> Result<Target, NoMemory>
-    ensures { IfOk result (λ name. name ≡ root_name path.now) }
+    ensures { IfOk result (λ name. name ≡ last_name_of path.now) }
 {
     if path.names().is_empty() {
         return as_target(alloc, "");
     }
-    as_target(alloc, last_name(path))
+    as_target(alloc, path.last_name())
 }
 
 /// The row of this kind for a node at a path.
@@ -92,7 +92,7 @@ fn row(alloc: Global, kind: RowKind, path: &RepoPath, node: &Node) -> Result<Row
     };
     Ok(Row {
         key: path.key(),
-        parent: parent_key(path),
+        parent: path.parent_key(),
         kind,
         attr,
         size,
@@ -116,7 +116,7 @@ pub(crate) fn rows(
     for entry in region {
         let kind = kind(alloc, tree, cut, &entry.0, &entry.1)?;
         let row = row(alloc, kind, &entry.0, &entry.1)?;
-        rows.push(row).map_err(|_| NoMemory)?;
+        rows.push(row)?;
     }
     Ok(rows)
 }

@@ -19,12 +19,12 @@ use Rattle.cv_rows.specs.declared.row.Row.{Row}
 use Rattle.cv_rows.specs.declared.nested.Nested.{Nested}
 use Rattle.cv_rows.specs.declared.row_kind.RowKind.{RowKind}
 use Rattle.cv_rows.specs.declared.row_kind.RowKind.TheVariants.{Directory, Transition, NestedRoot, File, Link}
-use Rattle.cv_rows.proofs.Texts.{first_true, second_true}
 use Rattle.cv_rows.proofs.PlaceLaws.{stands_contained, same_by_key, one_place}
 use Rattle.cv_cut.specs.Reached.{Place, HasCatalogue, ReachesCatalogue, itself, nested, root_place}
 use Rattle.cv_cut.specs.Cuts.{is_file, is_marked}
 use Rattle.cv_base.specs.ObjectId.{object_id}
 use Rattle.cv_base.specs.declared.id.Kind.TheVariants as id_kind
+use Rattle.cv_base.proofs.Bools.{first_true, second_true}
 use Rattle.cv_load.specs.Growth.{node_of, node_as, HasRows, HasFile, HasSize, IsOfRows, IsFilled, filled}
 use Rattle.cv_load.proofs.Growing.{place_of, some_there}
 use Rattle.cv_load.proofs.Standing.{IsOpen, Standing, so_root, so_below, stands_so, rules_of, same_contents, contents_same, row_same, one_holder, one_node, last_same, moved, parent_standing}

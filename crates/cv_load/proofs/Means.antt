@@ -14,7 +14,6 @@ use Rattle.cv_rows.specs.Catalogue.{Contents, catalogue_bytes}
 use Rattle.cv_rows.specs.declared.row.Row.{Row}
 use Rattle.cv_rows.specs.declared.row_kind.RowKind.{RowKind}
 use Rattle.cv_rows.specs.declared.row_kind.RowKind.TheVariants.{Directory, Transition, NestedRoot, File, Link}
-use Rattle.cv_rows.proofs.Texts.{first_true}
 use Rattle.cv_rows.proofs.PlaceLaws.{stands_contained}
 use Rattle.cv_cut.specs.Reached.{Place, ReachesCatalogue, itself, root_place}
 use Rattle.cv_cut.specs.Cuts.{is_file}
@@ -38,6 +37,7 @@ use Rattle.cv_load.proofs.OwnRows.{same_rows}
 use Rattle.std.proofs.Common.{◌⊎◌}
 use Rattle.std.proofs.lemmas.List.{length-map}
 use Rattle.cv_base.specs.declared.attr.Attr.{Attr}
+use Rattle.cv_base.proofs.Bools.{first_true}
 use Rattle.cv_tree.specs.declared.node.FileRef.{FileRef}
 use Rattle.cv_cut.specs.Cuts.{region}
 use Rattle.cv_cut.specs.Catalogues.{SharesKey, IsFull as PassesLimit}

@@ -14,7 +14,6 @@ use Rattle.cv_rows.specs.Catalogue.{Contents, catalogue_bytes}
 use Rattle.cv_rows.specs.Places.{root}
 use Rattle.cv_rows.specs.declared.nested.Nested.{Nested}
 use Rattle.cv_rows.specs.declared.row_kind.RowKind.TheVariants.{Transition}
-use Rattle.cv_rows.proofs.Texts.{first_true}
 use Rattle.cv_cut.specs.Reached.{Place, ReachesCatalogue, nested}
 use Rattle.cv_cut.specs.Cuts.{is_file, is_marked}
 use Rattle.cv_base.specs.ObjectId.{object_id}
@@ -30,6 +29,7 @@ use Rattle.cv_cut.proofs.Sorted.{order_rises}
 use Rattle.cv_load.proofs.Sameness.{same_list}
 use Rattle.cv_load.proofs.WholeRegions.{marked_at, transition_marked, row_near}
 use Rattle.cv_base.specs.Path.{text_of}
+use Rattle.cv_base.proofs.Bools.{first_true}
 use Rattle.cv_rows.specs.Catalogue.{nested_cmp, file_of}
 use Rattle.cv_rows.proofs.Sorting.{nested_total}
 use Rattle.cv_tree.proofs.Shapes.{IsPart-at}

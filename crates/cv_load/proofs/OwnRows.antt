@@ -6,7 +6,7 @@ use Rattle.std.specs.FinMap.{get}
 use Rattle.std.specs.List.Sorted.{IsStrictlySortedBy}
 use Rattle.std.proofs.lemmas.List.{append_cancel_left}
 use Rattle.std.proofs.lemmas.List.Elements.{All-contains}
-use Rattle.cv_base.specs.Path.{Path, key_of}
+use Rattle.cv_base.specs.Path.{Path, key_of, parent_key_of, last_name_of}
 use Rattle.cv_ports.specs.Shelf.{Shelf}
 use Rattle.cv_tree.specs.Tree.{Nodes, at}
 use Rattle.cv_tree.proofs.Replacements.{get-at}
@@ -29,12 +29,11 @@ use Rattle.std.specs.Prelude.{IsSomeAnd}
 use Rattle.std.proofs.lemmas.List.Elements.{All-from_recursion}
 use Rattle.cv_base.specs.Digest.{IsDigest}
 use Rattle.cv_rows.specs.Row.{IsRow, HasContent}
-use Rattle.cv_rows.specs.Places.{root_parent, root_name}
 use Rattle.cv_rows.specs.Catalogue.{row_cmp}
 use Rattle.cv_rows.proofs.NestedLaws.{fits_there}
 use Rattle.cv_rows.proofs.Sorting.{row_total}
 use Rattle.cv_cut.specs.Catalogues.{kind_of, row_of, rows_of}
-use Rattle.cv_cut.proofs.Ends.{root_parent-append, root_name-append}
+use Rattle.cv_cut.proofs.Ends.{parent_key-append, last_name-append}
 use Rattle.cv_cut.proofs.RowFacts.{row_at}
 use Rattle.cv_cut.proofs.Regions.{KeysApart, AreRowsOf}
 use Rattle.cv_cut.proofs.RegionLists.{row_list, keys_apart, rows_of-by_key}
@@ -50,7 +49,7 @@ pub some_hash : (o : Option (List ℕ)) → IsSomeAnd o IsDigest → o ≡ Some 
 some_hash None h = absurd h
 some_hash (Some hash) h = refl
 
-row_back : (k : RowKind) (p : Path) (r : Row) → k ≡ r.kind → r.key.0 ≡ key_of p → r.parent.0 ≡ root_parent p → r.name ≡ root_name p → HasContent r.kind r.size r.hash r.target → r ≡ row_of k p (node_of r)
+row_back : (k : RowKind) (p : Path) (r : Row) → k ≡ r.kind → r.key.0 ≡ key_of p → r.parent.0 ≡ parent_key_of p → r.name ≡ last_name_of p → HasContent r.kind r.size r.hash r.target → r ≡ row_of k p (node_of r)
 row_back k p r same key parent name content = go r.kind (sym same) content
   where
     go : (kd : RowKind) → kd ≡ k → HasContent kd r.size r.hash r.target → r ≡ row_of k p (node_as kd r)
@@ -62,18 +61,18 @@ row_back k p r same key parent name content = go r.kind (sym same) content
 
 record HasFields (r : Row) (q : Path) : Type 0 where
   key : r.key.0 ≡ key_of q
-  parent : r.parent.0 ≡ root_parent q
-  name : r.name ≡ root_name q
+  parent : r.parent.0 ≡ parent_key_of q
+  name : r.name ≡ last_name_of q
 
 fields_at : (c : Contents) (r : Row) (q : Path) → IsCatalogue c → StandsAt c.at c.rows r q → HasFields r q
 fields_at c r q is s =
     let fits = fits_there c.at c.rows r q is.ordered is.region.placed s in
     elim (stands_so s) [
-      | so_root has is_r at_r ↦ record { key = fits.key; parent = is_r.parent ∙ ap root_parent (sym at_r); name = fits.name is_r ∙ ap root_name (sym at_r) }
+      | so_root has is_r at_r ↦ record { key = fits.key; parent = is_r.parent ∙ ap parent_key_of (sym at_r); name = fits.name is_r ∙ ap last_name_of (sym at_r) }
       | so_below p front has other up child way ↦ record {
         key = fits.key;
-        parent = child.parent ∙ (fits_there c.at c.rows p front is.ordered is.region.placed up).key ∙ sym (ap root_parent way ∙ root_parent-append front r.name);
-        name = sym (ap root_name way ∙ root_name-append front r.name);
+        parent = child.parent ∙ (fits_there c.at c.rows p front is.ordered is.region.placed up).key ∙ sym (ap parent_key_of way ∙ parent_key-append front r.name);
+        name = sym (ap last_name_of way ∙ last_name-append front r.name);
       }
     ]
 

@@ -10,6 +10,7 @@ use Rattle.std.proofs.lemmas.List.Kept.{IsStrictlySortedBy-filter}
 use Rattle.std.proofs.lemmas.Slice.Eq.{bytes_eq-Decides}
 use Rattle.cv_base.specs.Path.{Path, covers}
 use Rattle.cv_base.specs.Marker.{marker, ends_in}
+use Rattle.cv_base.proofs.Bools.{first_true, second_true}
 use Rattle.cv_rows.specs.Row.{IsRow, row_bytes, same_kind}
 use Rattle.cv_rows.specs.Nested.{IsNested, nested_bytes}
 use Rattle.cv_rows.specs.Places.{StandsAt, root, below, root_kind}
@@ -23,7 +24,6 @@ use Rattle.cv_rows.proofs.Covers.{covers_below, covers_last, ends_so}
 use Rattle.cv_rows.proofs.PlaceLaws.{stands_contained, one_place, same_by_key}
 use Rattle.cv_rows.proofs.Regions.{same_test, file_len}
 use Rattle.cv_rows.proofs.RuleLaws.{contents}
-use Rattle.cv_rows.proofs.Texts.{first_true, second_true}
 
 -- ---- filters
 

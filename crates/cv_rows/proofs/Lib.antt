@@ -6,12 +6,10 @@ pub mod RowFields
 pub mod FileLaws
 pub mod RowLaws
 pub mod Sorting
-pub mod TextOrder
 pub mod Apart
 pub mod InOrder
 pub mod ParentLaws
 pub mod Steps
-pub mod RootLaws
 pub mod Reach
 pub mod PlaceLaws
 pub mod Walks

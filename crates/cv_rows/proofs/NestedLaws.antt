@@ -8,6 +8,7 @@ use Rattle.cv_base.specs.Path.{Path, IsPath, key_of, same_path}
 use Rattle.cv_base.specs.PathOrder.{path_total, same_path_is}
 use Rattle.std.specs.Cmp.{tied_itself}
 use Rattle.std.specs.Ordering.{is_eq}
+use Rattle.cv_base.proofs.Bools.{first_true, second_true}
 use Rattle.cv_rows.specs.Row.{same_kind}
 use Rattle.cv_rows.specs.Places.{StandsAt}
 use Rattle.cv_rows.specs.Parents.{IsPlacing, HasPath}
@@ -20,7 +21,6 @@ use Rattle.cv_rows.specs.declared.row_kind.RowKind.{RowKind}
 use Rattle.cv_rows.specs.declared.row_kind.RowKind.TheVariants.{Directory, Transition, NestedRoot, File, Link}
 use Rattle.cv_rows.proofs.Sorting.{same_row}
 use Rattle.cv_rows.proofs.PlaceLaws.{stands_contained, one_place, same_by_key}
-use Rattle.cv_rows.proofs.Texts.{first_true, second_true}
 
 -- a row that stands at a path fits it
 pub fits_there : (at : Path) (rows : List Row) (r : Row) (q : Path) → IsStrictlySortedBy row_cmp rows → AllFit at rows → StandsAt at rows r q → FitsAt at r q

@@ -11,13 +11,13 @@ use Rattle.cv_base.specs.Target.{is_target}
 use Rattle.cv_base.specs.declared.attr.Attr.{Attr}
 use Rattle.std.specs.List.{list_all}
 use Rattle.std.specs.Str.{is_utf8}
+use Rattle.cv_base.proofs.Bools.{first_true, second_true}
 use Rattle.cv_rows.specs.declared.row_kind.RowKind.{RowKind}
 use Rattle.cv_rows.specs.declared.row_kind.RowKind.TheVariants.{Directory, Transition, NestedRoot, File, Link}
 use Rattle.cv_rows.specs.declared.row_fault.RowFault.{RowFault}
 use Rattle.cv_rows.specs.Row.{flags_of, type_bits, is_row_name, hash_field, text_field}
 use Rattle.cv_rows.specs.Reading.{◌>>=◌, bad, accepted, number_at, bytes_at, kind_of, kind_at, permissions, attr_at, is_size, size_at, hash_at, length_at, name_at, target_limit, is_size_of, target_at}
 use Rattle.cv_rows.proofs.FieldLaws.{bind_ok, guard_ended, passes, accepted_ok, ok_is, Takes, Takes-then, TakesBytes, wide16, wide32, wide64, number_takes, number_again, bytes_take, bytes_again}
-use Rattle.cv_rows.proofs.Texts.{first_true, second_true}
 
 -- which way a test went
 pub either : {A : Type 0} (b : Bool) (x y z : A) → cond b x y ≡ z → ((b ≡ true) × (x ≡ z)) ⊎ ((b ≡ false) × (y ≡ z))

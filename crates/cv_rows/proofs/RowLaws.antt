@@ -9,15 +9,15 @@ use Rattle.std.proofs.lemmas.Str.{IsUtf8-nil, is_utf8-from_IsUtf8}
 use Rattle.hex.specs.Hex.{IsBytes}
 use Rattle.cv_base.specs.Target.{is_target, is_target_byte}
 use Rattle.cv_base.specs.declared.attr.Attr.{Attr}
+use Rattle.cv_base.proofs.Bools.{first_true, second_true}
 use Rattle.cv_rows.specs.declared.row.Row.{Row}
 use Rattle.cv_rows.specs.declared.row_kind.RowKind.{RowKind}
 use Rattle.cv_rows.specs.declared.row_kind.RowKind.TheVariants.{Directory, Transition, NestedRoot, File, Link}
 use Rattle.cv_rows.specs.declared.row_fault.RowFault.{RowFault}
 use Rattle.cv_rows.specs.Row.{flags_of, is_row_name, IsKey, IsRow, HasContent, hash_field, text_field, row_bytes}
-use Rattle.cv_rows.specs.Reading.{◌>>=◌, bytes_at, kind_at, attr_at, is_size, size_at, hash_at, name_at, target_limit, is_size_of, target_at, row_at}
+use Rattle.cv_rows.specs.Reading.{◌>>=◌, bytes_at, kind_at, attr_at, is_size, size_at, hash_at, name_at, target_limit, is_size_of, target_at, row_behind, row_at}
 use Rattle.cv_rows.proofs.FieldLaws.{bind_ok, ok_is, Takes, bytes_take, bytes_again}
 use Rattle.cv_rows.proofs.RowFields.{kind_takes, kind_reads, attr_bytes, AttrFits, attr_takes, attr_reads, size_takes, size_reads, HashFits, hash_takes, hash_reads, name_takes, name_reads, TargetFits, target_takes, target_reads}
-use Rattle.cv_rows.proofs.Texts.{first_true, second_true}
 
 -- ---- what a row says of its content
 
@@ -86,11 +86,8 @@ from_name all key parent kind attr size sized hash text = name_at all parent tex
 unfoldable from_hash : ℕ → List ℕ → List ℕ → RowKind → Attr → ℕ → List ℕ → List ℕ → ReadRow
 from_hash all key parent kind attr size sized text = hash_at all kind text >>= λ h. from_name all key parent kind attr size sized h.0 h.1
 
-unfoldable from_size : ℕ → List ℕ → List ℕ → RowKind → Attr → List ℕ → ReadRow
-from_size all key parent kind attr text = size_at all kind text >>= λ s. from_hash all key parent kind attr s.0 text s.1
-
 unfoldable from_attr : ℕ → List ℕ → List ℕ → RowKind → List ℕ → ReadRow
-from_attr all key parent kind text = attr_at all kind text >>= λ a. from_size all key parent kind a.0 a.1
+from_attr all key parent kind text = attr_at all kind text >>= λ a. row_behind all key parent kind a.0 a.1
 
 unfoldable from_kind : ℕ → List ℕ → List ℕ → List ℕ → ReadRow
 from_kind all key parent text = kind_at all text >>= λ k. from_attr all key parent k.0 k.1
@@ -110,11 +107,11 @@ hash_next : (all : ℕ) (key : List ℕ) (parent : List ℕ) (kind : RowKind) (a
 unfolding from_hash
 hash_next all key parent kind attr size sized text = refl
 
-size_next : (all : ℕ) (key : List ℕ) (parent : List ℕ) (kind : RowKind) (attr : Attr) (text : List ℕ) → from_size all key parent kind attr text ≡ (size_at all kind text >>= λ s. from_hash all key parent kind attr s.0 text s.1)
-unfolding from_size
+size_next : (all : ℕ) (key : List ℕ) (parent : List ℕ) (kind : RowKind) (attr : Attr) (text : List ℕ) → row_behind all key parent kind attr text ≡ (size_at all kind text >>= λ s. from_hash all key parent kind attr s.0 text s.1)
+unfolding row_behind from_hash from_name from_target
 size_next all key parent kind attr text = refl
 
-attr_next : (all : ℕ) (key : List ℕ) (parent : List ℕ) (kind : RowKind) (text : List ℕ) → from_attr all key parent kind text ≡ (attr_at all kind text >>= λ a. from_size all key parent kind a.0 a.1)
+attr_next : (all : ℕ) (key : List ℕ) (parent : List ℕ) (kind : RowKind) (text : List ℕ) → from_attr all key parent kind text ≡ (attr_at all kind text >>= λ a. row_behind all key parent kind a.0 a.1)
 unfolding from_attr
 attr_next all key parent kind text = refl
 
@@ -132,7 +129,7 @@ row_parts : (r : Row) (rest : List ℕ) → row_bytes r ++ rest
 row_parts r rest = simp append_assoc
 
 row_next : (all : ℕ) (text : List ℕ) → row_at all text ≡ (bytes_at 16 text >>= λ k. from_parent all k.0 k.1)
-unfolding row_at from_parent from_kind from_attr from_size from_hash from_name from_target
+unfolding row_at from_parent from_kind from_attr
 row_next all text = refl
 
 -- What is read from a field on is the fields of the row that is read, and the text begins with them.
@@ -209,7 +206,7 @@ record FromSize (key parent : List ℕ) (kind : RowKind) (attr : Attr) (text : L
   content : HasContent kind r.size r.hash r.target
 
 take_size : (all : ℕ) (key parent : List ℕ) (kind : RowKind) (attr : Attr) (text : List ℕ) (r : Row) (rest : List ℕ) → IsBytes text
-    → from_size all key parent kind attr text ≡ Ok (r, rest) → FromSize key parent kind attr text r rest
+    → row_behind all key parent kind attr text ≡ Ok (r, rest) → FromSize key parent kind attr text r rest
 take_size all key parent kind attr text r rest fits e =
     let x : Row × List ℕ = (r, rest) in
     let s = bind_ok (size_at all kind text) (λ q. from_hash all key parent kind attr q.0 text q.1) x (sym (size_next all key parent kind attr text) ∙ e) in
@@ -236,7 +233,7 @@ take_attr : (all : ℕ) (key parent : List ℕ) (kind : RowKind) (text : List �
     → from_attr all key parent kind text ≡ Ok (r, rest) → FromAttr key parent kind text r rest
 take_attr all key parent kind text r rest fits e =
     let x : Row × List ℕ = (r, rest) in
-    let a = bind_ok (attr_at all kind text) (λ q. from_size all key parent kind q.0 q.1) x (sym (attr_next all key parent kind text) ∙ e) in
+    let a = bind_ok (attr_at all kind text) (λ q. row_behind all key parent kind q.0 q.1) x (sym (attr_next all key parent kind text) ∙ e) in
     let took = attr_takes all kind text a.0.0 a.0.1 fits a.1 in
     let after = take_size all key parent kind a.0.0 a.0.1 r rest took.0.rest_fits a.2 in
     let attr_is : a.0.0 ≡ r.attr = ap (λ (z : Row). z.attr) after.same in
@@ -334,7 +331,7 @@ row_reads all r rest is =
     let e1 : from_target all r.key.0 r.parent.0 r.kind r.attr r.size sized r.hash r.name last ≡ Ok (r, rest) = target_next all r.key.0 r.parent.0 r.kind r.attr r.size sized r.hash r.name last ∙ rw (target_reads all r.kind r.size sized r.target rest parts.target_is) refl in
     let e2 : from_name all r.key.0 r.parent.0 r.kind r.attr r.size sized r.hash named ≡ Ok (r, rest) = name_next all r.key.0 r.parent.0 r.kind r.attr r.size sized r.hash named ∙ rw (name_reads all r.parent.0 r.name last is.name) e1 in
     let e3 : from_hash all r.key.0 r.parent.0 r.kind r.attr r.size sized hashed ≡ Ok (r, rest) = hash_next all r.key.0 r.parent.0 r.kind r.attr r.size sized hashed ∙ rw (hash_reads all r.kind r.hash named parts.hash_is) e2 in
-    let e4 : from_size all r.key.0 r.parent.0 r.kind r.attr sized ≡ Ok (r, rest) = size_next all r.key.0 r.parent.0 r.kind r.attr sized ∙ rw (size_reads all r.kind r.size hashed parts.size_fits parts.size_is) e3 in
+    let e4 : row_behind all r.key.0 r.parent.0 r.kind r.attr sized ≡ Ok (r, rest) = size_next all r.key.0 r.parent.0 r.kind r.attr sized ∙ rw (size_reads all r.kind r.size hashed parts.size_fits parts.size_is) e3 in
     let e5 : from_attr all r.key.0 r.parent.0 r.kind owned ≡ Ok (r, rest) = attr_next all r.key.0 r.parent.0 r.kind owned ∙ rw (attr_reads all r.kind r.attr sized attr) e4 in
     let e6 : from_kind all r.key.0 r.parent.0 flagged ≡ Ok (r, rest) = kind_next all r.key.0 r.parent.0 flagged ∙ rw (kind_reads all r.kind owned) e5 in
     let e7 : from_parent all r.key.0 below ≡ Ok (r, rest) = parent_next all r.key.0 below ∙ rw (bytes_again 16 r.parent.0 flagged is.parent.size) e6 in

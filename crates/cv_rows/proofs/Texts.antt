@@ -1,28 +1,14 @@
--- Names of rows are UTF-8, and targets too.
-use Rattle.std.proofs.Common.{◌≡◌, ℕ, Bool, true, false, not, ◌&&◌, ◌==◌, nat_le, List, [], ◌∷◌, length, refl, sym, subst, arith}
+-- Names of rows are targets.
+use Rattle.std.proofs.Common.{◌≡◌, ℕ, true, false, cond, not, ◌&&◌, ◌==◌, nat_le, List, [], ◌∷◌, length, Some, None, refl, subst, ◌∙◌, arith}
 use Rattle.std.specs.List.{list_all}
-use Rattle.std.specs.Str.{is_utf8, IsUtf8}
-use Rattle.std.proofs.lemmas.Str.{is_utf8-from_IsUtf8, IsUtf8-from_is_utf8, IsUtf8-nil}
+use Rattle.std.specs.Str.{is_utf8}
+use Rattle.std.proofs.lemmas.Str.{is_utf8-from_IsUtf8, IsUtf8-nil}
 use Rattle.std.proofs.lemmas.Bool.Decides.{nat_tests}
 use Rattle.cv_base.specs.Path.{is_path_byte, is_path_name, is_dots}
 use Rattle.cv_base.specs.Target.{is_target, is_target_byte, target_of}
+use Rattle.cv_base.proofs.Bools.{first_true, second_true}
 use Rattle.cv_rows.specs.Row.{is_row_name}
 use Rattle.cv_rows.specs.Reading.{row_name_of}
-
--- the test fails where the bytes aren't UTF-8
-pub not_utf8 : (bytes : List ℕ) → (IsUtf8 bytes → ⊥) → is_utf8 bytes ≡ false
-not_utf8 bytes not_text = elim (is_utf8 bytes) as (λ t. is_utf8 bytes ≡ t → t ≡ false) [
-  | true ↦ λ e. absurd (not_text (IsUtf8-from_is_utf8 bytes e))
-  | false ↦ λ e. refl
-] refl
-
-pub first_true : (a b : Bool) → (a && b) ≡ true → a ≡ true
-first_true true b h = refl
-first_true false b h = cc
-
-pub second_true : (a b : Bool) → (a && b) ≡ true → b ≡ true
-second_true true b h = h
-second_true false b h = cc
 
 path_byte : (b : ℕ) → is_path_byte b ≡ true → is_target_byte b ≡ true
 path_byte b h = second_true (not (b == 47)) (not (b == 0)) h
@@ -53,14 +39,16 @@ pub row_name-target : (parent name : List ℕ) → is_row_name parent name ≡ t
 row_name-target parent [] h = rw (is_utf8-from_IsUtf8 [] IsUtf8-nil) refl
 row_name-target parent (b ∷ name) h = path_name-target (b ∷ name) h
 
--- what isn't UTF-8 is no name
-pub row_name-utf8 : (parent name : List ℕ) → is_utf8 name ≡ false → is_row_name parent name ≡ false
-row_name-utf8 parent [] h = let empty = is_utf8-from_IsUtf8 [] IsUtf8-nil in cc
-row_name-utf8 parent (b ∷ name) h = rw h refl
+-- what is no target is no name of a row
+pub no_row_name : (parent name : List ℕ) → target_of name ≡ None → row_name_of parent name ≡ None
+no_row_name parent name no_target = elim (is_row_name parent name) as (λ t. is_row_name parent name ≡ t → cond t (Some name) None ≡ None) [
+  | true ↦ λ is. absurd (let target : target_of name ≡ Some name = rw (row_name-target parent name is) refl in cc)
+  | false ↦ λ is. refl
+] refl
 
--- the name of a row is the target of its text
-pub row_name_of-target : (parent name text : List ℕ) → text ≡ name → true ≡ is_row_name parent text → row_name_of parent name ≡ target_of text
-row_name_of-target parent name text same h =
-    let is : is_row_name parent text ≡ true = sym h in
-    let target = row_name-target parent text is in
-    subst (λ (x : List ℕ). row_name_of parent x ≡ target_of text) same (rw (is, target) refl)
+-- a target that is no name of a row
+pub other_row_name : (parent name target text : List ℕ) → target_of name ≡ Some target → text ≡ target → is_row_name parent text ≡ false → row_name_of parent name ≡ None
+other_row_name parent name target text is same other = rw (subst (λ (t : List ℕ). is_row_name parent t ≡ false) (same ∙ target_is is) other) refl
+  where
+    target_is : target_of name ≡ Some target → target ≡ name
+    target_is h = elim (is_target name) as (λ t. cond t (Some name) None ≡ Some target → target ≡ name) [ true ↦ λ e. cc | false ↦ λ e. cc ] h

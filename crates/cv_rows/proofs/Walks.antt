@@ -1,22 +1,22 @@
 -- The path of a row, found step by step.
-use Rattle.std.proofs.Common.{◌≡◌, ◌≢◌, ℕ, suc, ◌+◌, ◌-◌, ◌<◌, ◌≤◌, Bool, true, false, ltb, List, [], ◌∷◌, ◌++◌, length, get_or, Option, Some, None, Result, Ok, Err, refl, sym, ap, subst, ◌∙◌, arith, inl, inr, length-append}
-use Rattle.std.specs.Prelude.{IfOk, IsTrue, ◌↔◌, MatchOption, slice_get}
+use Rattle.std.proofs.Common.{◌≡◌, ◌≢◌, ℕ, ◌+◌, ◌-◌, ◌<◌, ◌≤◌, Bool, true, false, ltb, List, [], ◌∷◌, ◌++◌, length, get_or, Option, Some, None, Result, Ok, Err, refl, sym, ap, subst, ◌∙◌, arith, inl, inr, length-append}
+use Rattle.std.specs.Prelude.{IfOk, IsTrue, ◌↔◌, MatchOption}
 use Rattle.std.specs.List.{All, list_all}
 use Rattle.std.specs.List.Sorted.{IsStrictlySortedBy}
 use Rattle.std.proofs.lemmas.Bool.{cases_lt, le-ltb}
 use Rattle.std.proofs.lemmas.List.{get_or_default}
-use Rattle.cv_base.specs.Path.{Path, IsPath, text_of, key_of, is_path_name}
+use Rattle.cv_base.specs.Path.{Path, IsPath, text_of, key_of, is_path_name, last_name_of}
 use Rattle.cv_base.specs.PathText.{joined, IsUnlessMemory}
 use Rattle.cv_base.specs.declared.path_fault.PathFault.{PathFault}
 use Rattle.cv_base.specs.declared.path_fault.PathFault.TheVariants.{BadName, TooLong, TooDeep, NoMemory}
+use Rattle.cv_base.proofs.Bools.{first_true, second_true}
 use Rattle.cv_rows.specs.Catalogue.{row_cmp, FitsAt}
 use Rattle.cv_rows.specs.Faults.{IsFirst, IsOrphan, IsMisplaced}
-use Rattle.cv_rows.specs.Places.{IsRoot, IsChild, StandsAt, root_name, root, below}
+use Rattle.cv_rows.specs.Places.{IsRoot, IsChild, StandsAt, root, below}
 use Rattle.cv_rows.specs.Parents.{step, times, AreAbove, IsPlacing, IsPathOf, HasPath, IsBelow}
 use Rattle.cv_rows.specs.declared.row.Row.{Row}
 use Rattle.cv_rows.proofs.Sorting.{same_row}
 use Rattle.cv_rows.proofs.PlaceLaws.{stands_contained, one_place, root_index, stands_above, orphan}
-use Rattle.cv_rows.proofs.Texts.{first_true, second_true}
 
 -- ---- names and limits
 
@@ -163,15 +163,6 @@ pub if_path : {E : Type 0} (at : Path) (rows : List Row) (i left : ℕ) (result 
 if_path at rows i left (Ok found) enough is = has_path at rows i left found enough is
 if_path at rows i left (Err e) enough is = tt
 
--- the last name of a place
-pub root_name-last : (at names : Path) (last : List ℕ) → names ≡ at → Some last ≡ slice_get names (length names - 1) → last ≡ root_name at
-root_name-last at names last same is = subst (λ (p : Path). last ≡ root_name p) same (at_last names last is)
-  where
-    at_last : (p : Path) (last : List ℕ) → Some last ≡ slice_get p (length p - 1) → last ≡ root_name p
-    at_last [] last h = absurd cc
-    at_last (a ∷ []) last h = cc
-    at_last (a ∷ b ∷ p) last h = at_last (b ∷ p) last (let e : length (a ∷ b ∷ p) - 1 ≡ suc (length (b ∷ p) - 1) = omega arith in h ∙ ap (λ (k : ℕ). slice_get (a ∷ b ∷ p) k) e)
-
 -- ---- orphans
 
 -- the rows before lead to the root row, and this one doesn't
@@ -197,7 +188,7 @@ all_stand_is at rows top parents far n placing above before all = λ j d lj.
 -- ---- rows that fit
 
 abbrev Fits : Path → Row → Path → Type 0
-Fits at r q = (r.key.0 ≡ key_of q) × (IsRoot at r → r.name ≡ root_name at)
+Fits at r q = (r.key.0 ≡ key_of q) × (IsRoot at r → r.name ≡ last_name_of at)
 
 pub row_fits : (at : Path) (rows : List Row) (i : ℕ) (r : Row) (found : Option Path) (result : Bool) → i < length rows → r ≡ get_or rows i r → HasPath at rows i found → MatchOption found (result ≡ false) (λ path. IsTrue result ↔ Fits at r path) → result ≡ true
     → (d : Row) → (q : Path) × StandsAt at rows (get_or rows i d) q × FitsAt at (get_or rows i d) q

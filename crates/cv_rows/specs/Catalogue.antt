@@ -7,10 +7,10 @@ use Rattle.std.specs.Int.{w32, to_be_bytes}
 use Rattle.std.specs.List.{flat_map, list_any, All, AllByRecursion}
 use Rattle.std.specs.List.Sorted.{IsStrictlySortedBy}
 use Rattle.cv_base.specs.Marker.{marker}
-use Rattle.cv_base.specs.Path.{Path, IsPath, text_of, key_of}
+use Rattle.cv_base.specs.Path.{Path, IsPath, text_of, key_of, last_name_of}
 use Rattle.cv_rows.specs.Row.{IsRow, row_bytes, same_kind}
 use Rattle.cv_rows.specs.Nested.{IsNested, nested_bytes}
-use Rattle.cv_rows.specs.Places.{IsRoot, StandsAt, root_name}
+use Rattle.cv_rows.specs.Places.{IsRoot, StandsAt}
 use Rattle.cv_rows.specs.declared.row.Row.{Row}
 use Rattle.cv_rows.specs.declared.nested.Nested.{Nested}
 use Rattle.cv_rows.specs.declared.row_fault.RowFault.{RowFault}
@@ -55,7 +55,7 @@ nested_cmp a b = bytes_cmp (text_of a.path) (text_of b.path)
 pub record FitsAt (at : Path) (r : Row) (q : Path) : Type 0 where
   pub key : r.key.0 ≡ key_of q
   pub path : IsPath q
-  pub name : IsRoot at r → r.name ≡ root_name at
+  pub name : IsRoot at r → r.name ≡ last_name_of at
 
 -- ---- markers
 

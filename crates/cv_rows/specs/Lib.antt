@@ -4,7 +4,6 @@ pub mod Faults
 pub mod Markers
 pub mod Nested
 pub mod NestedList
-pub mod Order
 pub mod Parents
 pub mod Places
 pub mod Reading

@@ -1,7 +1,7 @@
 -- Where the rows of a catalogue stand.
-use Rattle.std.specs.Prelude.{◌≡◌, ◌≢◌, ℕ, true, List, [], ◌∷◌, ◌++◌, Contains}
-use Rattle.cv_base.specs.Path.{Path, key_of, parent}
-use Rattle.cv_rows.specs.Row.{holds_rows, no_key}
+use Rattle.std.specs.Prelude.{◌≡◌, ◌≢◌, true, List, [], ◌∷◌, ◌++◌, Contains}
+use Rattle.cv_base.specs.Path.{Path, key_of, parent_key_of}
+use Rattle.cv_rows.specs.Row.{holds_rows}
 use Rattle.cv_rows.specs.declared.row.Row.{Row}
 use Rattle.cv_rows.specs.declared.row_kind.RowKind.{RowKind}
 use Rattle.cv_rows.specs.declared.row_kind.RowKind.TheVariants.{Directory, NestedRoot}
@@ -12,20 +12,11 @@ abbrev pub root_kind : Path → RowKind
 root_kind [] = Directory
 root_kind (a ∷ p) = NestedRoot
 
-abbrev pub root_parent : Path → List ℕ
-root_parent [] = no_key
-root_parent (a ∷ p) = key_of (parent (a ∷ p))
-
-abbrev pub root_name : Path → List ℕ
-root_name [] = []
-root_name (a ∷ []) = a
-root_name (a ∷ b ∷ p) = root_name (b ∷ p)
-
 -- the row has the key, the kind and the parent key of the root row of the catalogue at this place
 pub record IsRoot (at : Path) (r : Row) : Type 0 where
   pub key : r.key.0 ≡ key_of at
   pub kind : r.kind ≡ root_kind at
-  pub parent : r.parent.0 ≡ root_parent at
+  pub parent : r.parent.0 ≡ parent_key_of at
 
 -- r is no NestedRoot, and has the key of p as its parent key, where p is another row, a Directory or a NestedRoot
 pub record IsChild (r p : Row) : Type 0 where

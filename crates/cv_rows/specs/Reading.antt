@@ -5,12 +5,10 @@
 -- a link is judged at once where no target has that size, and once the target is there otherwise.
 use Rattle.std.specs.Prelude.{◌≡◌, ℕ, zero, suc, ◌+◌, ◌-◌, Bool, true, not, ◌&&◌, ◌==◌, nat_le, nat_lt, bytes_eq, if◌then◌else◌, List, [], ◌∷◌, length, take, drop, codes, Option, Some, None, Result, Ok, Err}
 use Rattle.std.specs.Int.{Width, w16, w32, w64, byte_len, from_be_bytes}
-use Rattle.std.specs.Str.{is_utf8}
-use Rattle.cv_base.specs.Path.{Path, text_of}
-use Rattle.cv_base.specs.PathText.{path_of}
+use Rattle.cv_base.specs.Path.{Path}
+use Rattle.cv_base.specs.PathText.{path_named}
 use Rattle.cv_base.specs.Target.{is_target}
 use Rattle.cv_base.specs.declared.attr.Attr.{Attr}
-use Rattle.cv_base.specs.declared.path_fault.PathFault.{PathFault}
 use Rattle.cv_rows.specs.Row.{type_bits, is_row_name}
 use Rattle.cv_rows.specs.declared.row.Row.{Row}
 use Rattle.cv_rows.specs.declared.nested.Nested.{Nested}
@@ -140,27 +138,24 @@ target_at all kind size sized text = do
       else if is_target target.0 then Ok target
       else Err (bad all len.1)
 
+-- the row of these first fields, whose size, hash, name and target begin the text
+unfoldable pub row_behind : ℕ → List ℕ → List ℕ → RowKind → Attr → List ℕ → Result (Row × List ℕ) RowFault
+row_behind all key parent kind attr text = do
+  size ← size_at all kind text
+  hash ← hash_at all kind size.1
+  name ← name_at all parent hash.1
+  target ← target_at all kind size.0 text name.1
+  Ok (record { key = record { 0 = key }; parent = record { 0 = parent }; kind = kind; attr = attr; size = size.0; hash = hash.0; name = name.0; target = target.0 }, target.1)
+
 unfoldable pub row_at : ℕ → List ℕ → Result (Row × List ℕ) RowFault
 row_at all text = do
   key ← bytes_at 16 text
   parent ← bytes_at 16 key.1
   kind ← kind_at all parent.1
   attr ← attr_at all kind.0 kind.1
-  size ← size_at all kind.0 attr.1
-  hash ← hash_at all kind.0 size.1
-  name ← name_at all parent.0 hash.1
-  target ← target_at all kind.0 size.0 attr.1 name.1
-  Ok (record { key = record { 0 = key.0 }; parent = record { 0 = parent.0 }; kind = kind.0; attr = attr.0; size = size.0; hash = hash.0; name = name.0; target = target.0 }, target.1)
+  row_behind all key.0 parent.0 kind.0 attr.0 attr.1
 
 -- ---- the fields of a nested entry
-
-abbrev pub only_path : List ℕ → Result Path PathFault → Option Path
-only_path text (Ok path) = if bytes_eq (text_of path) text then Some path else None
-only_path text (Err fault) = None
-
--- the path whose text this is
-abbrev pub path_named : List ℕ → Option Path
-path_named text = if is_utf8 text then only_path text (path_of text) else None
 
 unfoldable pub path_at : ℕ → List ℕ → Result (Path × List ℕ) RowFault
 path_at all text = do

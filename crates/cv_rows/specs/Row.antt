@@ -1,9 +1,9 @@
 -- A row, and its bytes.
-use Rattle.std.specs.Prelude.{◌≡◌, ℕ, ◌+◌, ◌^◌, ◌<◌, ◌≤◌, Bool, true, false, ◌&&◌, ◌==◌, nat_le, bytes_eq, List, [], ◌∷◌, ◌++◌, length, replicate, Option, Some, None, IsSomeAnd}
+use Rattle.std.specs.Prelude.{◌≡◌, ℕ, ◌+◌, ◌^◌, ◌<◌, ◌≤◌, Bool, true, false, ◌&&◌, ◌==◌, nat_le, bytes_eq, List, [], ◌∷◌, ◌++◌, length, Option, Some, None, IsSomeAnd}
 use Rattle.std.specs.Int.{w16, w32, w64, to_be_bytes}
 use Rattle.hex.specs.Hex.{IsBytes}
 use Rattle.cv_base.specs.Digest.{IsDigest}
-use Rattle.cv_base.specs.Path.{is_path_name}
+use Rattle.cv_base.specs.Path.{is_path_name, no_key}
 use Rattle.cv_base.specs.Target.{is_target}
 use Rattle.cv_rows.specs.declared.row.Row.{Row}
 use Rattle.cv_rows.specs.declared.row_kind.RowKind.{RowKind}
@@ -44,10 +44,6 @@ same_kind a b = flags_of a == flags_of b
 pub record IsKey (key : List ℕ) : Type 0 where
   pub size : length key ≡ 16
   pub bytes : IsBytes key
-
--- sixteen zero bytes, which is the parent key of the root of the repository
-abbrev pub no_key : List ℕ
-no_key = replicate 16 0
 
 -- a name in a path. It is empty only in a row whose parent key is zero bytes
 abbrev pub is_row_name : List ℕ → List ℕ → Bool

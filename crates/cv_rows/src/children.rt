@@ -20,7 +20,7 @@ pub fn children_of(alloc: Global, rows: &[Row], key: &[u8; 16]) -> Result<Vec<Ro
     let mut children = Vec::new(alloc);
     for row in rows {
         if is_below(row, key) {
-            children.push(row.copy(alloc)?).map_err(|_| NoMemory)?;
+            children.push(row.copy(alloc)?)?;
         }
     }
     Ok(children)

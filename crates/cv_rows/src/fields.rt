@@ -1,26 +1,17 @@
 //! The fields of row files, read at the front of bytes. `all` is the count of all bytes of the file, by
 //! which a fault names the offset of a field. Each function gives what follows its field too.
-ghost use Rattle.std.specs.Prelude.{◌≡◌, true, false, IfOk, MatchOption};
+ghost use Rattle.std.specs.Prelude.{◌≡◌, IfOk};
 ghost use Rattle.std.specs.Int.{w16, w32, w64};
-ghost use Rattle.cv_rows.specs.Reading.{Gives, bad, number_at, bytes_at, kind_of, kind_at, attr_at, permissions, is_size, size_at, hash_at, length_at, name_at, row_name_of, target_limit, is_size_of, target_at, only_path, path_named, path_at};
-ghost use Rattle.std.specs.Str.{is_utf8};
-ghost use Rattle.cv_base.specs.PathText.{path_of};
-ghost use Rattle.cv_base.specs.Target.{target_of};
+ghost use Rattle.cv_rows.specs.Reading.{Gives, bad, number_at, bytes_at, kind_of, kind_at, attr_at, permissions, is_size, size_at, hash_at, length_at, name_at, row_name_of, target_limit, is_size_of, target_at, path_at};
 ghost use Rattle.cv_rows.specs.Row.{is_row_name};
 
 use crate::row_fault::RowFault;
 use crate::row_kind::RowKind;
 use cv_base::{
-    Attr, NoMemory, PathFault, PathKey, RepoPath, TARGET_LIMIT, Target, is_path_name, split_u16,
-    split_u32, split_u64,
+    Attr, NoMemory, PATH_LIMIT, PATH_NAME_LIMIT, PathKey, RepoPath, TARGET_LIMIT, Target,
+    is_path_name, split_u16, split_u32, split_u64,
 };
 use std::alloc::Global;
-
-/// The most bytes of a name.
-const NAME_LIMIT: usize = 255;
-
-/// The most bytes of the text of a path.
-const PATH_LIMIT: usize = 4095;
 
 /// The fault that the field which begins with this text isn't as it has to be.
 pub fn bad(all: usize, text: &[u8]) -> RowFault
@@ -60,22 +51,12 @@ pub fn read_bytes(text: &[u8], len: usize) -> Result<(&[u8], &[u8]), RowFault>
     Ok(text.split_at(len))
 }
 
-/// Twenty bytes.
-pub fn read_digest(text: &[u8]) -> Result<([u8; 20], &[u8]), RowFault>
-    ensures { Gives (λ x. (x.0, x.1.now)) result (bytes_at 20 text.now) }
+/// An array of bytes.
+pub fn read_array<const N: usize>(text: &[u8]) -> Result<([u8; N], &[u8]), RowFault>
+    ensures { Gives (λ x. (x.0, x.1.now)) result (bytes_at N text.now) }
 {
-    match text.split_first_chunk::<20>() {
-        Some((digest, rest)) => Ok((*digest, rest)),
-        None => Err(RowFault::Short),
-    }
-}
-
-/// A key.
-pub fn read_key(text: &[u8]) -> Result<(PathKey, &[u8]), RowFault>
-    ensures { Gives (λ x. (x.0.0, x.1.now)) result (bytes_at 16 text.now) }
-{
-    match text.split_first_chunk::<16>() {
-        Some((key, rest)) => Ok((PathKey(*key), rest)),
+    match text.split_first_chunk::<N>() {
+        Some((array, rest)) => Ok((*array, rest)),
         None => Err(RowFault::Short),
     }
 }
@@ -172,14 +153,16 @@ pub fn read_hash(
 ) -> Result<(Option<[u8; 20]>, &[u8]), RowFault>
     ensures { Gives (λ x. (x.0, x.1.now)) result (hash_at all kind text.now) }
 {
-    match (kind, text) {
-        (_, []) => Err(RowFault::Short),
-        (RowKind::File, [20, rest @ ..]) => {
-            let (hash, rest) = read_digest(rest)?;
+    let Some((len, rest)) = text.split_first() else {
+        return Err(RowFault::Short);
+    };
+    match (kind, *len) {
+        (RowKind::File, 20) => {
+            let (hash, rest) = read_array(rest)?;
             Ok((Some(hash), rest))
         }
         (RowKind::File, _) => Err(bad(all, text)),
-        (_, [0, rest @ ..]) => Ok((None, rest)),
+        (_, 0) => Ok((None, rest)),
         _ => Err(bad(all, text)),
     }
 }
@@ -219,7 +202,7 @@ pub fn read_name<'a>(
 ) -> Result<(Target, &'a [u8]), RowFault>
     ensures { Gives (λ x. (x.0, x.1.now)) result (name_at all parent.now.0 text.now) }
 {
-    let (len, rest) = read_length(all, NAME_LIMIT, text)?;
+    let (len, rest) = read_length(all, PATH_NAME_LIMIT, text)?;
     let (name, after) = read_bytes(rest, len)?;
     match name_of(alloc, parent, name) {
         Ok(Some(name)) => Ok((name, after)),
@@ -228,27 +211,18 @@ pub fn read_name<'a>(
     }
 }
 
-/// The text that these bytes are, if they are UTF-8.
-fn as_text(bytes: &[u8]) -> Option<&str>
-    ensures { MatchOption result (is_utf8 bytes.now ≡ false) (λ text. (text.now ≡ bytes.now) × (is_utf8 bytes.now ≡ true)) }
-{
-    match std::str::from_utf8(bytes) {
-        Ok(text) => Some(text),
-        Err(_) => None,
-    }
-}
-
 /// The name that these bytes are, in a row with this parent key.
 fn name_of(alloc: Global, parent: &PathKey, name: &[u8]) -> Result<Option<Target>, NoMemory>
     ensures { IfOk result (λ found. found ≡ row_name_of parent.now.0 name.now) }
 {
-    let Some(name) = as_text(name) else {
+    let Some(name) = Target::of_bytes(alloc, name)? else {
         return Ok(None);
     };
-    if !is_row_name(parent, name) {
-        return Ok(None);
+    if is_row_name(parent, name.text()) {
+        Ok(Some(name))
+    } else {
+        Ok(None)
     }
-    Target::read(alloc, name)
 }
 
 /// The most bytes of the target of a row of this kind.
@@ -271,16 +245,6 @@ fn is_size_of(kind: RowKind, size: u64, target: &[u8]) -> bool
     }
 }
 
-/// The target that these bytes are.
-fn target_of(alloc: Global, target: &[u8]) -> Result<Option<Target>, NoMemory>
-    ensures { IfOk result (λ found. found ≡ target_of target.now) }
-{
-    match as_text(target) {
-        Some(target) => Target::read(alloc, target),
-        None => Ok(None),
-    }
-}
-
 /// The target of a row of this kind. Its size is this, and begins the text `sized`.
 #[tactic(auto, unfolding(crate::specs::Reading::target_at))]
 pub fn read_target<'a>(
@@ -298,38 +262,10 @@ pub fn read_target<'a>(
     if !is_size_of(kind, size, target) {
         return Err(bad(all, sized));
     }
-    match target_of(alloc, target) {
+    match Target::of_bytes(alloc, target) {
         Ok(Some(target)) => Ok((target, after)),
         Ok(None) => Err(bad(all, rest)),
         Err(NoMemory) => Err(RowFault::NoMemory),
-    }
-}
-
-/// The path whose text this is.
-fn path_of_text(alloc: Global, name: &str) -> Result<Option<RepoPath>, NoMemory>
-    ensures { IfOk result (λ found. found ≡ only_path name.now (path_of name.now)) }
-{
-    match RepoPath::read(alloc, name) {
-        Ok(path) => {
-            let text = path.text(alloc)?;
-            Ok(if text.as_str() == name {
-                Some(path)
-            } else {
-                None
-            })
-        }
-        Err(PathFault::NoMemory) => Err(NoMemory),
-        Err(_) => Ok(None),
-    }
-}
-
-/// The path whose text these bytes are.
-fn path_named(alloc: Global, name: &[u8]) -> Result<Option<RepoPath>, NoMemory>
-    ensures { IfOk result (λ found. found ≡ path_named name.now) }
-{
-    match as_text(name) {
-        Some(name) => path_of_text(alloc, name),
-        None => Ok(None),
     }
 }
 
@@ -340,7 +276,7 @@ pub fn read_path(alloc: Global, all: usize, text: &[u8]) -> Result<(RepoPath, &[
 {
     let (len, rest) = read_length(all, PATH_LIMIT, text)?;
     let (name, after) = read_bytes(rest, len)?;
-    match path_named(alloc, name) {
+    match RepoPath::of_bytes(alloc, name) {
         Ok(Some(path)) => Ok((path, after)),
         Ok(None) => Err(bad(all, rest)),
         Err(NoMemory) => Err(RowFault::NoMemory),

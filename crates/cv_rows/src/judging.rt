@@ -2,7 +2,6 @@
 //! no limit.
 ghost use Rattle.std.specs.Prelude.{◌≡◌, ◌+◌, ◌<◌, ◌≤◌, ◌↔◌, ◌++◌, take, length, IsTrue, IfOk, OnOk, MatchBool, MatchOption};
 ghost use Rattle.std.specs.List.{flat_map, AllByRecursion};
-ghost use Rattle.cv_base.specs.Path.{text_of};
 ghost use Rattle.cv_rows.specs.Row.{IsRow, row_bytes};
 ghost use Rattle.cv_rows.specs.Nested.{IsNested, nested_bytes};
 ghost use Rattle.cv_rows.specs.Made.{AreApart, IsTwice, Judges, PassesLimit, keys_of};
@@ -12,7 +11,7 @@ use crate::nested::Nested;
 use crate::reading::{FILE_LIMIT, ROW_LIMIT};
 use crate::row::Row;
 use crate::with_fault::WithFault;
-use cv_base::{NoMemory, PathKey, RepoPath};
+use cv_base::{NoMemory, PathKey};
 use std::alloc::Global;
 use std::collections::BTreeSet;
 
@@ -56,18 +55,6 @@ fn rows_len(rows: &[Row]) -> usize
     len
 }
 
-/// How many bytes the text of a path has.
-fn text_len(path: &RepoPath) -> usize
-    ensures value { result ≡ length (text_of path.now) }
-    ensures bound { result ≤ 4095 }
-{
-    let mut len = 0;
-    for name in path.names() {
-        len += 1 + name.as_str().len();
-    }
-    len
-}
-
 /// Whether nested entries, behind so many bytes, pass the limit of a row file.
 fn is_too_long(len: usize, nested: &[Nested]) -> bool
     requires len { len ≤ 413950012 }
@@ -79,7 +66,7 @@ fn is_too_long(len: usize, nested: &[Nested]) -> bool
         if total > FILE_LIMIT {
             return true;
         }
-        total += 30 + text_len(&entry.path);
+        total += 30 + entry.path.text_len();
     }
     total > FILE_LIMIT
 }

@@ -12,8 +12,5 @@ pub fn add(keys: &mut BTreeSet<[u8; 16]>, key: [u8; 16]) -> Result<bool, NoMemor
     ensures added { OnOk result ((k : List ℕ) → contains (slice_cmp nat_cmp) keys.new k ≡ (contains (slice_cmp nat_cmp) keys.old k || bytes_eq key k)) }
     ensures is_new { IfOk result (λ is_new. is_new ≡ not (contains (slice_cmp nat_cmp) keys.old key)) }
 {
-    match keys.insert(key) {
-        Ok(is_new) => Ok(is_new),
-        Err(_) => Err(NoMemory),
-    }
+    Ok(keys.insert(key)?)
 }

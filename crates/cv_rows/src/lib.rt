@@ -12,7 +12,6 @@ mod markers;
 mod nested;
 mod nested_list;
 mod order;
-mod path_fields;
 mod places;
 mod reading;
 mod row;
@@ -24,7 +23,6 @@ mod write;
 
 pub use catalogue::Catalogue;
 pub use nested::Nested;
-pub use path_fields::{last_name, parent_key};
 pub use row::Row;
 pub use row_fault::RowFault;
 pub use row_kind::RowKind;

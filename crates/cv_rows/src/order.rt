@@ -1,17 +1,14 @@
 //! The order of rows and nested entries.
-ghost use Rattle.std.specs.Prelude.{◌≡◌, ◌≢◌, ◌++◌, List, ℕ, true, MatchOption};
-ghost use Rattle.std.specs.List.{list_all};
+ghost use Rattle.std.specs.Prelude.{◌≡◌, MatchOption};
 ghost use Rattle.std.specs.List.Sorted.{IsStrictlySortedBy, IsPermutation};
-ghost use Rattle.cv_base.specs.Path.{text_of, is_path_byte};
-ghost use Rattle.cv_rows.specs.Catalogue.{bytes_cmp, row_cmp, nested_cmp};
+ghost use Rattle.cv_rows.specs.Catalogue.{row_cmp, nested_cmp};
 ghost use Rattle.cv_rows.specs.Faults.{IsFirstDisorder};
 ghost use Rattle.cv_rows.specs.Made.{AreApart, keys_of, texts_of, by_key, by_text};
-ghost use Rattle.cv_rows.specs.Order.{Follows};
 
 use crate::nested::Nested;
 use crate::places::key_of_row;
 use crate::row::Row;
-use cv_base::RepoPath;
+use cv_base::cmp_texts;
 use std::cmp::Ordering;
 
 /// The index of the first row whose key isn't above its predecessor's.
@@ -26,50 +23,11 @@ pub fn row_disorder(rows: &[Row]) -> Option<usize>
     None
 }
 
-/// How two texts are ordered that begin with different names, each followed by a slash where the path goes on.
-fn name_order(a: &str, a_goes_on: bool, b: &str, b_goes_on: bool) -> Ordering
-    requires apart { a.now ≢ b.now }
-    requires a_has_no_slash { list_all is_path_byte a.now ≡ true }
-    requires b_has_no_slash { list_all is_path_byte b.now ≡ true }
-    ensures { (s t : List ℕ) → Follows a_goes_on s → Follows b_goes_on t → result ≡ bytes_cmp (a.now ++ s) (b.now ++ t) }
-{
-    let a = a.as_bytes();
-    let b = b.as_bytes();
-    if a_goes_on && b.starts_with(a) {
-        return b'/'.cmp(&b[a.len()]);
-    }
-    if b_goes_on && a.starts_with(b) {
-        return a[b.len()].cmp(&b'/');
-    }
-    a.cmp(b)
-}
-
-/// How the texts of two paths are ordered. `/a-b` stands below `/a/x`, since `-` is below `/`.
-fn text_order(a: &RepoPath, b: &RepoPath) -> Ordering
-    ensures { result ≡ bytes_cmp (text_of a.now) (text_of b.now) }
-{
-    let a = a.names();
-    let b = b.names();
-    for i in 0..a.len().min(b.len()) {
-        let name = &a[i];
-        let other = &b[i];
-        if name != other {
-            return name_order(
-                name.as_str(),
-                i + 1 < a.len(),
-                other.as_str(),
-                i + 1 < b.len(),
-            );
-        }
-    }
-    a.len().cmp(&b.len())
-}
-
 /// How two nested entries are ordered.
 fn nested_order(a: &Nested, b: &Nested) -> Ordering
     ensures { result ≡ nested_cmp a.now b.now }
 {
-    text_order(&a.path, &b.path)
+    cmp_texts(&a.path, &b.path)
 }
 
 /// The index of the first nested entry whose path isn't above its predecessor's.

@@ -2,25 +2,21 @@
 ghost use Rattle.std.specs.Prelude.{◌≡◌, ◌≢◌, ℕ, ◌+◌, ◌<◌, ◌≤◌, ◌↔◌, false, None, List, length, IsTrue, IfOk, MatchOption, Contains};
 ghost use Rattle.std.specs.List.{HoldsAt, All};
 ghost use Rattle.std.specs.List.Sorted.{IsStrictlySortedBy};
-ghost use Rattle.cv_base.specs.Path.{key_of, IsPath};
+ghost use Rattle.cv_base.specs.Path.{key_of, IsPath, last_name_of};
 ghost use Rattle.cv_rows.specs.Catalogue.{row_cmp};
-ghost use Rattle.cv_rows.specs.Places.{IsRoot, IsChild, StandsAt, root_name};
+ghost use Rattle.cv_rows.specs.Places.{IsRoot, IsChild, StandsAt};
 ghost use Rattle.cv_rows.specs.Parents.{IsParentOf, AreParents, AreAbove, AreInside, IsPlacing, IsPathOf, HasPath, IsBelow};
 ghost use Rattle.cv_rows.specs.Faults.{IsFirst, IsOrphan, IsMisplaced, AllFit};
 ghost use Rattle.cv_base.specs.declared.path_fault.PathFault.TheVariants as faults;
 ghost use Rattle.cv_rows.specs.declared.row.Row.{Row as TheRow};
 
-use crate::path_fields::{last_name, parent_key};
 use crate::row::Row;
 use crate::row_kind::RowKind;
-use cv_base::{NoMemory, PathFault, RepoPath};
+use cv_base::{NAMES_LIMIT, NoMemory, PathFault, RepoPath};
 use std::alloc::Global;
 
 /// So many doublings make 65,536 steps, which are more than there are rows.
 const DOUBLINGS: u32 = 16;
-
-/// The most names of a path.
-const MAX_NAMES: usize = 64;
 
 /// Whether a row has the key, the kind and the parent key of the root row of the catalogue at a place.
 pub fn is_root(at: &RepoPath, row: &Row) -> bool
@@ -31,7 +27,7 @@ pub fn is_root(at: &RepoPath, row: &Row) -> bool
         RowKind::NestedRoot => !at.names().is_empty(),
         _ => false,
     };
-    is_kind && row.key.0 == at.key().0 && row.parent.0 == parent_key(at).0
+    is_kind && row.key.0 == at.key().0 && row.parent.0 == at.parent_key().0
 }
 
 /// The key of a row.
@@ -100,11 +96,9 @@ pub fn parents(alloc: Global, rows: &[Row], root: usize) -> Result<Vec<usize>, N
 {
     let mut parents = Vec::with_capacity(alloc, rows.len() + 1)?;
     for row in 0..rows.len() {
-        parents
-            .push(parent_of(rows, root, row))
-            .map_err(|_| NoMemory)?;
+        parents.push(parent_of(rows, root, row))?;
     }
-    parents.push(rows.len()).map_err(|_| NoMemory)?;
+    parents.push(rows.len())?;
     Ok(parents)
 }
 
@@ -115,7 +109,7 @@ fn doubled(alloc: Global, far: &[usize]) -> Result<Vec<usize>, NoMemory>
 {
     let mut farther = Vec::new(alloc);
     for above in far {
-        farther.push(far[*above]).map_err(|_| NoMemory)?;
+        farther.push(far[*above])?;
     }
     Ok(farther)
 }
@@ -197,7 +191,7 @@ pub fn path_of_row(
     requires row { row < length rows.now }
     ensures { IfOk result (HasPath at.now rows.now row) }
 {
-    let left = MAX_NAMES - at.names().len();
+    let left = NAMES_LIMIT - at.names().len();
     path_within(alloc, at, rows, root, parents, row, left)
 }
 
@@ -223,14 +217,14 @@ fn below(alloc: Global, above: &RepoPath, name: &str) -> Result<Option<RepoPath>
 
 /// Whether a row fits the path at which it stands.
 fn fits(at: &RepoPath, row: &Row, path: &RepoPath) -> bool
-    ensures { IsTrue result ↔ ((row.now.key.0 ≡ key_of path.now) × (IsRoot at.now row.now → row.now.name ≡ root_name at.now)) }
+    ensures { IsTrue result ↔ ((row.now.key.0 ≡ key_of path.now) × (IsRoot at.now row.now → row.now.name ≡ last_name_of at.now)) }
 {
-    row.key.0 == path.key().0 && (!is_root(at, row) || row.name.text() == last_name(at))
+    row.key.0 == path.key().0 && (!is_root(at, row) || row.name.text() == at.last_name())
 }
 
 /// Whether a row fits the path at which it stands, if it passes no limit.
 fn fits_if_any(at: &RepoPath, row: &Row, path: &Option<RepoPath>) -> bool
-    ensures { MatchOption path.now (result ≡ false) (λ path. IsTrue result ↔ ((row.now.key.0 ≡ key_of path) × (IsRoot at.now row.now → row.now.name ≡ root_name at.now))) }
+    ensures { MatchOption path.now (result ≡ false) (λ path. IsTrue result ↔ ((row.now.key.0 ≡ key_of path) × (IsRoot at.now row.now → row.now.name ≡ last_name_of at.now))) }
 {
     match path {
         Some(path) => fits(at, row, path),

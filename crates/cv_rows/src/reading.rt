@@ -1,15 +1,17 @@
 //! Reading the rows and nested entries of a row file.
 ghost use Rattle.std.specs.Prelude.{◌≡◌, ◌+◌, ◌≤◌, length};
-ghost use Rattle.cv_rows.specs.Reading.{Gives, row_at, nested_at, many_at, entries_at, entries_of, number_in, is_too_large};
+ghost use Rattle.cv_rows.specs.Reading.{Gives, row_behind, row_at, nested_at, many_at, entries_at, entries_of, number_in, is_too_large};
 
 use crate::fields::{
-    read_attr, read_digest, read_hash, read_key, read_kind, read_name, read_path, read_size,
-    read_target, read_u32, read_u64,
+    read_array, read_attr, read_hash, read_kind, read_name, read_path, read_size, read_target,
+    read_u64,
 };
 use crate::nested::Nested;
 use crate::row::Row;
 use crate::row_fault::RowFault;
+use crate::row_kind::RowKind;
 use crate::write::MAGIC;
+use cv_base::{Attr, PathKey};
 use std::alloc::Global;
 
 /// The most bytes of a row file.
@@ -21,19 +23,23 @@ pub const ROW_LIMIT: u32 = 50_000;
 /// The rows and the nested entries of a row file, in its order.
 pub type Entries = (Vec<Row>, Vec<Nested>);
 
-/// A row at the front of a text.
-#[tactic(auto, unfolding(crate::specs::Reading::row_at))]
-fn read_row(alloc: Global, all: usize, text: &[u8]) -> Result<(Row, &[u8]), RowFault>
-    ensures { Gives (λ x. (x.0, x.1.now)) result (row_at all text.now) }
+/// The row of these first fields, whose others are at the front of a text.
+#[tactic(auto, unfolding(crate::specs::Reading::row_behind))]
+fn read_behind(
+    alloc: Global,
+    all: usize,
+    key: PathKey,
+    parent: PathKey,
+    kind: RowKind,
+    attr: Attr,
+    text: &[u8],
+) -> Result<(Row, &[u8]), RowFault>
+    ensures { Gives (λ x. (x.0, x.1.now)) result (row_behind all key.0 parent.0 kind attr text.now) }
 {
-    let (key, rest) = read_key(text)?;
-    let (parent, rest) = read_key(rest)?;
-    let (kind, rest) = read_kind(all, rest)?;
-    let (attr, sized) = read_attr(all, kind, rest)?;
-    let (size, rest) = read_size(all, kind, sized)?;
+    let (size, rest) = read_size(all, kind, text)?;
     let (hash, rest) = read_hash(all, kind, rest)?;
     let (name, rest) = read_name(alloc, all, &parent, rest)?;
-    let (target, rest) = read_target(alloc, all, kind, size, sized, rest)?;
+    let (target, rest) = read_target(alloc, all, kind, size, text, rest)?;
     let row = Row {
         key,
         parent,
@@ -47,13 +53,25 @@ fn read_row(alloc: Global, all: usize, text: &[u8]) -> Result<(Row, &[u8]), RowF
     Ok((row, rest))
 }
 
+/// A row at the front of a text.
+#[tactic(auto, unfolding(crate::specs::Reading::row_at))]
+fn read_row(alloc: Global, all: usize, text: &[u8]) -> Result<(Row, &[u8]), RowFault>
+    ensures { Gives (λ x. (x.0, x.1.now)) result (row_at all text.now) }
+{
+    let (key, rest) = read_array(text)?;
+    let (parent, rest) = read_array(rest)?;
+    let (kind, rest) = read_kind(all, rest)?;
+    let (attr, rest) = read_attr(all, kind, rest)?;
+    read_behind(alloc, all, PathKey(key), PathKey(parent), kind, attr, rest)
+}
+
 /// A nested entry at the front of a text.
 #[tactic(auto, unfolding(crate::specs::Reading::nested_at))]
 fn read_nested(alloc: Global, all: usize, text: &[u8]) -> Result<(Nested, &[u8]), RowFault>
     ensures { Gives (λ x. (x.0, x.1.now)) result (nested_at all text.now) }
 {
     let (path, rest) = read_path(alloc, all, text)?;
-    let (hash, rest) = read_digest(rest)?;
+    let (hash, rest) = read_array(rest)?;
     let (size, rest) = read_u64(rest)?;
     Ok((Nested { path, hash, size }, rest))
 }

@@ -221,6 +221,12 @@ fn is_written_so(alloc: Global, catalogue: &Catalogue, text: &str) -> Result<boo
     Ok(catalogue.encode(alloc)?.as_slice() == bytes.as_slice())
 }
 
+/// Whether a text is read as the catalogue at a place, and written again.
+fn is_kept(alloc: Global, text: &str, place: &str) -> Result<bool, Fail> {
+    let catalogue = catalogue_of(alloc, text, place)?;
+    is_written_so(alloc, &catalogue, text)
+}
+
 #[test]
 fn catalogues_are_read_and_written(rt: HostRuntime) -> Result<(), Fail> {
     for (text, place) in &[
@@ -231,8 +237,7 @@ fn catalogues_are_read_and_written(rt: HostRuntime) -> Result<(), Fail> {
         (OUTER, ""),
         (PLAIN, ""),
     ] {
-        let catalogue = catalogue_of(rt.alloc(), text, place)?;
-        assert!(rt; is_written_so(rt.alloc(), &catalogue, text)?);
+        assert!(rt; is_kept(rt.alloc(), text, place)?);
     }
     Ok(())
 }
@@ -292,33 +297,30 @@ fn a_file_of_more_than_16_mib_is_too_large(rt: HostRuntime) -> Result<(), Fail> 
     Ok(())
 }
 
-/// Whether the catalogue of a text at the root has a row of this name at a path.
-fn has_row(alloc: Global, text: &str, path: &str, name: &str) -> Result<bool, Fail> {
+/// Whether the catalogue of a text at the root has a row of this name at a path, and so many rows below it.
+fn has_row(
+    alloc: Global,
+    text: &str,
+    path: &str,
+    name: Option<&str>,
+    below: usize,
+) -> Result<bool, Fail> {
     let catalogue = catalogue_of(alloc, text, "")?;
-    let path = RepoPath::read(alloc, path)?;
-    Ok(match catalogue.find(path.key()) {
-        Some(row) => row.name.text() == name,
-        None => false,
-    })
-}
-
-/// How many rows stand below a path in the catalogue of a text at the root.
-fn count_below(alloc: Global, text: &str, path: &str) -> Result<usize, Fail> {
-    let catalogue = catalogue_of(alloc, text, "")?;
-    let path = RepoPath::read(alloc, path)?;
-    Ok(catalogue.children(alloc, path.key())?.len())
+    let key = RepoPath::read(alloc, path)?.key();
+    let children = catalogue.children(alloc, key)?;
+    let is_found = match (catalogue.find(key), name) {
+        (Some(row), Some(name)) => row.name.text() == name,
+        (None, None) => true,
+        _ => false,
+    };
+    Ok(is_found && children.len() == below)
 }
 
 #[test]
 fn rows_are_found_by_key_and_by_parent(rt: HostRuntime) -> Result<(), Fail> {
-    for (path, name, is_there, count) in &[
-        ("", "", true, 1),
-        ("/d", "d", true, 2),
-        ("/e", "e", false, 0),
-    ] {
-        assert!(rt; has_row(rt.alloc(), PLAIN, path, name)? == *is_there);
-        assert!(rt; count_below(rt.alloc(), PLAIN, path)? == *count);
-    }
+    assert!(rt; has_row(rt.alloc(), PLAIN, "", Some(""), 1)?);
+    assert!(rt; has_row(rt.alloc(), PLAIN, "/d", Some("d"), 2)?);
+    assert!(rt; has_row(rt.alloc(), PLAIN, "/e", None, 0)?);
     Ok(())
 }
 
@@ -386,59 +388,43 @@ fn rows_and_entries_are_put_in_order(rt: HostRuntime) -> Result<(), Fail> {
 
 #[test]
 fn the_empty_tree_is_one_row_of_81_bytes(rt: HostRuntime) -> Result<(), Fail> {
-    assert!(rt; bytes_of(rt.alloc(), EMPTY)?.len() == 81);
+    assert!(rt; EMPTY.len() == 2 * 81);
     assert!(rt; catalogue_of(rt.alloc(), EMPTY, "")?.rows().len() == 1);
     assert!(rt; is_remade(rt.alloc(), EMPTY)?);
     Ok(())
 }
 
-/// What comes of the catalogue of a text at the root with the children of its root row once more.
-fn with_children_twice(
-    alloc: Global,
-    text: &str,
-) -> Result<Result<Catalogue, (Catalogue, WithFault)>, Fail> {
+/// Whether the children of the root row collide at a path with themselves in the catalogue of a text at the root, which
+/// comes back as it was.
+fn collides_again(alloc: Global, text: &str, path: &str) -> Result<bool, Fail> {
     let at = RepoPath::root(alloc);
+    let first = RepoPath::read(alloc, path)?.key();
     let (whole, _) = opened(alloc, text, &at)?;
     let more = whole.children(alloc, at.key())?;
-    Ok(whole.with(alloc, more, Vec::new(alloc)))
+    match whole.with(alloc, more, Vec::new(alloc)) {
+        Err((back, fault)) => {
+            Ok(fault == WithFault::Collision { first } && is_written_so(alloc, &back, text)?)
+        }
+        Ok(_) => Ok(false),
+    }
 }
 
-/// What comes of the rows and nested entries of a text at the root with the children of its root row twice.
-fn of_children_twice(alloc: Global, text: &str) -> Result<Result<Catalogue, WithFault>, Fail> {
+/// Whether the rows of a text at the root, with the children of its root row twice, collide at a path.
+fn collides_twice(alloc: Global, text: &str, path: &str) -> Result<bool, Fail> {
     let at = RepoPath::root(alloc);
+    let first = RepoPath::read(alloc, path)?.key();
     let (whole, (mut rows, nested)) = opened(alloc, text, &at)?;
     let mut more = whole.children(alloc, at.key())?;
     rows.append(&mut more)?;
-    Ok(Catalogue::of(alloc, &at, rows, nested))
-}
-
-/// Whether a fault is that the path of a text collides.
-fn is_collision(alloc: Global, fault: WithFault, path: &str) -> Result<bool, Fail> {
-    let first = RepoPath::read(alloc, path)?.key();
-    Ok(fault == WithFault::Collision { first })
+    let made = Catalogue::of(alloc, &at, rows, nested);
+    Ok(made.err() == Some(WithFault::Collision { first }))
 }
 
 #[test]
 fn a_row_that_is_there_collides_and_changes_nothing(rt: HostRuntime) -> Result<(), Fail> {
-    match with_children_twice(rt.alloc(), ONE)? {
-        Err((back, fault)) => {
-            assert!(rt; is_collision(rt.alloc(), fault, "/a")?);
-            assert!(rt; is_written_so(rt.alloc(), &back, ONE)?);
-            Ok(())
-        }
-        Ok(_) => Err("a collision")?,
-    }
-}
-
-#[test]
-fn a_row_that_is_given_twice_collides(rt: HostRuntime) -> Result<(), Fail> {
-    match of_children_twice(rt.alloc(), ONE)? {
-        Err(fault) => {
-            assert!(rt; is_collision(rt.alloc(), fault, "/a")?);
-            Ok(())
-        }
-        Ok(_) => Err("a collision")?,
-    }
+    assert!(rt; collides_again(rt.alloc(), ONE, "/a")?);
+    assert!(rt; collides_twice(rt.alloc(), ONE, "/a")?);
+    Ok(())
 }
 
 /// Whether a catalogue has no row with the key of a row.
@@ -479,14 +465,16 @@ fn parted(alloc: Global, text: &str, path: &RepoPath) -> Result<(Catalogue, Entr
 }
 
 /// Whether what is left without a path, in the catalogue of a text at the root, is written as another text.
-fn leaves(alloc: Global, text: &str, path: &RepoPath, rest: &str) -> Result<bool, Fail> {
-    let (left, _) = parted(alloc, text, path)?;
+fn leaves(alloc: Global, text: &str, path: &str, rest: &str) -> Result<bool, Fail> {
+    let path = RepoPath::read(alloc, path)?;
+    let (left, _) = parted(alloc, text, &path)?;
     is_written_so(alloc, &left, rest)
 }
 
 /// Whether what is left without a path, with what was dropped, is the catalogue of a text at the root.
-fn comes_back(alloc: Global, text: &str, path: &RepoPath) -> Result<bool, Fail> {
-    let (left, (rows, nested)) = parted(alloc, text, path)?;
+fn comes_back(alloc: Global, text: &str, path: &str) -> Result<bool, Fail> {
+    let path = RepoPath::read(alloc, path)?;
+    let (left, (rows, nested)) = parted(alloc, text, &path)?;
     match left.with(alloc, rows, nested) {
         Ok(whole) => is_written_so(alloc, &whole, text),
         Err(_) => Ok(false),
@@ -495,8 +483,8 @@ fn comes_back(alloc: Global, text: &str, path: &RepoPath) -> Result<bool, Fail> 
 
 #[test]
 fn what_was_dropped_is_added_again(rt: HostRuntime) -> Result<(), Fail> {
-    let a = RepoPath::read(rt.alloc(), "/a")?;
-    assert!(rt; leaves(rt.alloc(), CROSSED, &a, PRUNED)?);
-    assert!(rt; comes_back(rt.alloc(), CROSSED, &a)?);
+    assert!(rt; leaves(rt.alloc(), CROSSED, "/a", PRUNED)?);
+    assert!(rt; comes_back(rt.alloc(), CROSSED, "/a")?);
+    assert!(rt; comes_back(rt.alloc(), PLAIN, "/d")?);
     Ok(())
 }
