@@ -77,7 +77,7 @@ fn lease_items(
     let mut items = Vec::new(alloc);
     for line in lines {
         let item = lease_item(alloc, repository, line)?;
-        items.push(item).map_err(|_| NoMemory)?;
+        items.push(item)?;
     }
     Ok(items)
 }
@@ -102,6 +102,6 @@ pub fn list_repositories(alloc: Global, repository: &Name) -> Result<Answer, NoM
 {
     let name = Text::from_str(alloc, repository.text())?;
     let mut names = Vec::new(alloc);
-    names.push(name).map_err(|_| NoMemory)?;
+    names.push(name)?;
     Ok(Answer::Repos(Items::new(names)))
 }

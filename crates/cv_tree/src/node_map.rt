@@ -74,7 +74,7 @@ impl NodeMap {
         let mut entries = Vec::new(alloc);
         for (path, node) in &self.nodes {
             let entry = (path.copy(alloc)?, node.copy(alloc)?);
-            entries.push(entry).map_err(|_| NoMemory)?;
+            entries.push(entry)?;
         }
         Ok(entries)
     }
