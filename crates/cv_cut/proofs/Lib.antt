@@ -1,25 +1,25 @@
 pub mod Bools
 pub mod Canonical
 pub mod Members
-pub mod Entries
+mod Entries
 pub mod Ends
-pub mod Keys
+mod Keys
 pub mod RowFacts
-pub mod RowRules
+mod RowRules
 pub mod Regions
 pub mod RegionRules
-pub mod Twice
+mod Twice
 pub mod RegionLists
 pub mod Sorted
 pub mod CanonicalRules
-pub mod Markers
-pub mod RegionPaths
-pub mod Between
-pub mod Sides
-pub mod Collecting
+mod Markers
+mod RegionPaths
+mod Between
+mod Sides
+mod Collecting
 pub mod KindLaws
-pub mod CutOrder
-pub mod MadeEntries
-pub mod Seen
-pub mod Collisions
-pub mod CutLaws
+mod CutOrder
+mod MadeEntries
+mod Seen
+mod Collisions
+mod CutLaws

@@ -1,24 +1,25 @@
-pub mod Sizes
+mod Sizes
 pub mod Texts
-pub mod FieldLaws
-pub mod Loop
-pub mod RowFields
+mod FieldLaws
+mod Loop
+mod Writing
+mod RowFields
 pub mod FileLaws
-pub mod RowLaws
+mod RowLaws
 pub mod Sorting
-pub mod Apart
-pub mod InOrder
-pub mod ParentLaws
-pub mod Steps
-pub mod Reach
+mod Apart
+mod InOrder
+mod ParentLaws
+mod Steps
+mod Reach
 pub mod PlaceLaws
 pub mod Walks
-pub mod MarkerLaws
+mod MarkerLaws
 pub mod NestedLaws
 pub mod RuleLaws
-pub mod OneFault
+mod OneFault
 pub mod Regions
 pub mod Covers
-pub mod Left
-pub mod Covering
-pub mod TestLaws
+mod Left
+mod Covering
+mod TestLaws
