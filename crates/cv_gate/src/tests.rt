@@ -38,63 +38,90 @@ fn cancel(alloc: Global, key: &str, number: u64) -> Result<Op, Fail>
     })
 }
 
-/// The number of the lease that was granted, or 0.
-fn number_granted(reply: &Reply) -> u64 {
-    match reply {
-        Reply::Granted { token, .. } => token.number,
-        _ => 0,
+/// What an asking for a lease is answered.
+#[derive(Clone, Copy)]
+enum Said {
+    /// The lease of this number is granted.
+    Granted(u64),
+    /// That of this number is in the way, with so many seconds left.
+    Busy(u64, u64),
+}
+
+/// Whether a reply says so.
+fn is_said(reply: &Reply, said: &Said) -> bool {
+    match (reply, said) {
+        (Reply::Granted { token, .. }, Said::Granted(number)) => token.number == *number,
+        (Reply::PathBusy { token, remaining }, Said::Busy(number, left)) => {
+            token.number == *number && remaining == left
+        }
+        _ => false,
     }
 }
 
-/// The number of the lease in the way and the seconds that it has left, or zeros.
-fn in_the_way(reply: &Reply) -> (u64, u64) {
-    match reply {
-        Reply::PathBusy { token, remaining } => (token.number, *remaining),
-        _ => (0, 0),
-    }
+/// The seat, the seconds since the start, and the path of a lease that is asked, and what is said.
+type Asking = (u32, u32, &'static str, Said);
+
+/// Askings under one key, until the first lease's last second.
+static ASKED: [Asking; 4] = [
+    (0, 0, "/a", Said::Granted(1)),
+    (0, 7199, "/a", Said::Busy(1, 1)),
+    (1, 7199, "/a/b", Said::Busy(1, 1)),
+    (0, 7199, "/ab", Said::Granted(2)),
+];
+
+/// Whether a gate answers an asking so.
+fn answers(alloc: Global, gate: &mut Gate, asking: &Asking) -> Result<bool, Fail> {
+    let (seat, seconds, path, said) = asking;
+    let now = START + u64::from(*seconds);
+    let reply = gate.step(alloc, *seat, now, lease(alloc, path)?);
+    Ok(is_said(&reply, said))
+}
+
+/// Whether so many leases are live at so many seconds since the start.
+fn has_live(alloc: Global, gate: &Gate, seconds: u32, count: usize) -> Result<bool, Fail> {
+    Ok(gate.live(alloc, START + u64::from(seconds))?.len() == count)
 }
 
 #[test]
 fn a_lease_excludes_what_it_overlaps_until_its_deadline(rt: HostRuntime) -> Result<(), Fail> {
-    let alloc = rt.alloc();
-    let mut gate = Gate::plain(alloc, 1, [0; 20])?;
-    let first = gate.step(alloc, 0, START, lease(alloc, "/a")?);
-    assert_eq!(rt; number_granted(&first), 1);
-    let again = gate.step(alloc, 0, START + 7199, lease(alloc, "/a")?);
-    assert_eq!(rt; in_the_way(&again), (1, 1));
-    let below = gate.step(alloc, 1, START + 7199, lease(alloc, "/a/b")?);
-    assert_eq!(rt; in_the_way(&below), (1, 1));
-    let beside = gate.step(alloc, 0, START + 7199, lease(alloc, "/ab")?);
-    assert_eq!(rt; number_granted(&beside), 2);
-    assert_eq!(rt; gate.live(alloc, START + 7199)?.len(), 2);
-    assert_eq!(rt; gate.live(alloc, START + 7200)?.len(), 1);
-    let later = gate.step(alloc, 0, START + 7200, lease(alloc, "/a")?);
-    assert_eq!(rt; number_granted(&later), 3);
-    assert_eq!(rt; gate.journal().len(), 5);
+    let mut gate = Gate::plain(rt.alloc(), 1, [0; 20])?;
+    for asking in &ASKED {
+        assert!(rt; answers(rt.alloc(), &mut gate, asking)?);
+    }
+    assert!(rt; has_live(rt.alloc(), &gate, 7199, 2)?);
+    assert!(rt; has_live(rt.alloc(), &gate, 7200, 1)?);
+    let later = (0, 7200, "/a", Said::Granted(3));
+    assert!(rt; answers(rt.alloc(), &mut gate, &later)?);
+    assert!(rt; gate.journal().len() == 5);
     Ok(())
+}
+
+/// What the first second's cancel of the lease 1 under a key is answered.
+fn cancelled(alloc: Global, gate: &mut Gate, key: &str) -> Result<Reply, Fail>
+    requires { is_key_id key.now ≡ true }
+{
+    Ok(gate.step(alloc, 0, START, cancel(alloc, key, 1)?))
 }
 
 #[test]
 fn a_lease_is_ended_by_its_key_alone(rt: HostRuntime) -> Result<(), Fail> {
-    let alloc = rt.alloc();
-    let mut gate = Gate::plain(alloc, 1, [0; 20])?;
-    gate.step(alloc, 0, START, lease(alloc, "/a")?);
-    let other = gate.step(alloc, 0, START, cancel(alloc, "k2", 1)?);
-    assert!(rt; matches!(other, Reply::WrongKey));
-    let own = gate.step(alloc, 0, START, cancel(alloc, "k1", 1)?);
-    assert!(rt; matches!(own, Reply::Cancelled));
-    let again = gate.step(alloc, 0, START, cancel(alloc, "k1", 1)?);
-    assert!(rt; matches!(again, Reply::InvalidToken));
+    let mut gate = Gate::plain(rt.alloc(), 1, [0; 20])?;
+    assert!(rt; answers(rt.alloc(), &mut gate, &ASKED[0])?);
+    assert!(rt; matches!(cancelled(rt.alloc(), &mut gate, "k2")?, Reply::WrongKey));
+    assert!(rt; matches!(cancelled(rt.alloc(), &mut gate, "k1")?, Reply::Cancelled));
+    assert!(rt; matches!(cancelled(rt.alloc(), &mut gate, "k1")?, Reply::InvalidToken));
     Ok(())
+}
+
+/// What the first asking of a lease on a path is answered.
+fn asked(alloc: Global, text: &str) -> Result<Reply, Fail> {
+    let mut gate = Gate::plain(alloc, 1, [0; 20])?;
+    Ok(gate.step(alloc, 0, START, lease(alloc, text)?))
 }
 
 #[test]
 fn a_lease_needs_a_place_in_the_newest_tree(rt: HostRuntime) -> Result<(), Fail> {
-    let alloc = rt.alloc();
-    let mut gate = Gate::plain(alloc, 1, [0; 20])?;
-    let marker = gate.step(alloc, 0, START, lease(alloc, "/a/.cvmfscatalog")?);
-    assert!(rt; matches!(marker, Reply::BadPath));
-    let orphan = gate.step(alloc, 0, START, lease(alloc, "/n/m")?);
-    assert!(rt; matches!(orphan, Reply::NoParent));
+    assert!(rt; matches!(asked(rt.alloc(), "/a/.cvmfscatalog")?, Reply::BadPath));
+    assert!(rt; matches!(asked(rt.alloc(), "/n/m")?, Reply::NoParent));
     Ok(())
 }

@@ -1,5 +1,6 @@
 //! The catalogues are those that `tools/row_vectors.py` writes, the digests those that `sha1sum` gives of them.
-ghost use Rattle.std.specs.Prelude.{IfOk};
+ghost use Rattle.std.specs.Prelude.{◌≡◌, IfOk};
+ghost use Rattle.cv_base.specs.declared.id.Kind.TheVariants as id_kind;
 ghost use Rattle.cv_tree.specs.Node.{IsNode};
 
 use crate::load_fault::LoadFault;
@@ -46,6 +47,16 @@ fn id_of(text: &str) -> Result<ObjectId, Fail> {
     }
 }
 
+/// The id of the catalogue of the hash in this text.
+fn catalogue_id(text: &str) -> Result<ObjectId, Fail>
+    ensures { IfOk result (λ id. id.kind ≡ id_kind.Catalogue) }
+{
+    Ok(ObjectId {
+        hash: id_of(text)?.hash,
+        kind: Kind::Catalogue,
+    })
+}
+
 /// The shelf of all objects, but that the bytes under one id are others or none.
 fn shelf_with(
     alloc: Global,
@@ -71,11 +82,7 @@ fn shelf_with(
 
 /// What a load of the root answers there.
 fn loaded(alloc: Global, mut shelf: MemoryShelf) -> Result<Result<Tree, LoadFault>, Fail> {
-    let root = ObjectId {
-        hash: id_of(OUTER_ID)?.hash,
-        kind: Kind::Catalogue,
-    };
-    Ok(load(alloc, &mut shelf, &root))
+    Ok(load(alloc, &mut shelf, &catalogue_id(OUTER_ID)?))
 }
 
 /// The fault that it answers.
@@ -97,73 +104,100 @@ fn size_of(node: Option<&Node>) -> Option<u64> {
     }
 }
 
+/// A path, and the size of the file there, which is 0 for a directory.
+type Place = (&'static str, Option<u64>);
+
+/// What stands at a path of the root's tree.
+static PLACES: [Place; 7] = [
+    ("/", Some(0)),
+    ("/d", Some(0)),
+    ("/d/f", Some(2)),
+    ("/d/g", Some(2)),
+    ("/d/.cvmfscatalog", Some(0)),
+    ("/f", None),
+    ("/d/h", None),
+];
+
+/// Whether this is what stands at a path of a tree.
+fn stands(alloc: Global, tree: &Tree, place: &Place) -> Result<bool, Fail> {
+    let (text, size) = place;
+    let path = RepoPath::read(alloc, text)?;
+    Ok(size_of(tree.get(&path)) == *size)
+}
+
+/// Whether this is what stands at all of these paths.
+fn all_stand(alloc: Global, tree: &Tree, places: &[Place]) -> Result<bool, Fail> {
+    for place in places {
+        if !stands(alloc, tree, place)? {
+            return Ok(false);
+        }
+    }
+    Ok(true)
+}
+
+/// The tree of the root.
+fn root_tree(alloc: Global) -> Result<Tree, Fail> {
+    let shelf = shelf_with(alloc, "", None, Vec::new(alloc))?;
+    match loaded(alloc, shelf)? {
+        Ok(tree) => Ok(tree),
+        Err(_) => Err(Fail::new("no tree")),
+    }
+}
+
 #[test]
 fn a_root_gives_its_tree(rt: HostRuntime) -> Result<(), Fail> {
-    let shelf = shelf_with(rt.alloc(), "", None, Vec::new(rt.alloc()))?;
-    let Ok(tree) = loaded(rt.alloc(), shelf)? else {
-        return Err(Fail::new("no tree"));
-    };
-    let places = [
-        ("/", Some(0)),
-        ("/d", Some(0)),
-        ("/d/f", Some(2)),
-        ("/d/g", Some(2)),
-        ("/d/.cvmfscatalog", Some(0)),
-        ("/f", None),
-        ("/d/h", None),
-    ];
-    for (text, expected) in places {
-        let path = RepoPath::read(rt.alloc(), text)?;
-        assert_eq!(rt; size_of(tree.get(&path)), expected, "at {text}");
-    }
+    let tree = root_tree(rt.alloc())?;
+    assert!(rt; all_stand(rt.alloc(), &tree, &PLACES)?);
     Ok(())
+}
+
+/// Whether nothing stands under an id, which is then missing.
+fn is_missing(alloc: Global, text: &str) -> Result<bool, Fail> {
+    Ok(fault_with(alloc, text, None)? == Some(LoadFault::Missing(id_of(text)?)))
+}
+
+/// Whether other bytes under an id make the catalogue of another id bad.
+fn makes_bad(alloc: Global, text: &str, digits: &str, bad: &str) -> Result<bool, Fail> {
+    Ok(fault_with(alloc, text, Some(digits))? == Some(LoadFault::Bad(id_of(bad)?)))
+}
+
+/// The fault where the second fetch fails.
+fn fault_of_a_fetch(alloc: Global) -> Result<Option<LoadFault>, Fail> {
+    let failing = vec![in alloc; 2u64]?;
+    Ok(loaded(alloc, shelf_with(alloc, "", None, failing)?)?.err())
 }
 
 #[test]
 fn a_fault_names_its_object(rt: HostRuntime) -> Result<(), Fail> {
-    let alloc = rt.alloc();
-    let inner = id_of(INNER_ID)?;
-    assert_eq!(rt;
-        fault_with(alloc, F_ID, None)?,
-        Some(LoadFault::Missing(id_of(F_ID)?))
-    );
-    assert_eq!(rt;
-        fault_with(alloc, OUTER_ID, None)?,
-        Some(LoadFault::Missing(id_of(OUTER_ID)?))
-    );
-    assert_eq!(rt;
-        fault_with(alloc, INNER_ID, None)?,
-        Some(LoadFault::Missing(inner))
-    );
-    assert_eq!(rt;
-        fault_with(alloc, F_ID, Some("66"))?,
-        Some(LoadFault::Bad(inner))
-    );
-    assert_eq!(rt;
-        fault_with(alloc, INNER_ID, Some("00"))?,
-        Some(LoadFault::Bad(id_of(OUTER_ID)?))
-    );
-    let failing = vec![in alloc; 2u64]?;
-    let failed = loaded(alloc, shelf_with(alloc, "", None, failing)?)?.err();
-    assert_eq!(rt; failed, Some(LoadFault::Failed));
+    for text in [F_ID, OUTER_ID, INNER_ID] {
+        assert!(rt; is_missing(rt.alloc(), text)?);
+    }
+    assert!(rt; makes_bad(rt.alloc(), F_ID, "66", INNER_ID)?);
+    assert!(rt; makes_bad(rt.alloc(), INNER_ID, "00", OUTER_ID)?);
+    assert!(rt; fault_of_a_fetch(rt.alloc())? == Some(LoadFault::Failed));
     Ok(())
 }
 
-#[test]
-fn a_changed_catalogue_is_damaged(rt: HostRuntime) -> Result<(), Fail> {
-    let alloc = rt.alloc();
+/// The fault where another byte ends the catalogue of `/d`.
+fn fault_of_another_end(alloc: Global) -> Result<Option<LoadFault>, Fail> {
     let Some(front) = INNER.strip_suffix("00") else {
         return Err(Fail::new("another end"));
     };
     let other = format!(in alloc; "{front}01")?;
-    let found = id_of("d4e0f7a2399222df2b6f27bc2b25d0ff2acb4ac3")?.hash;
-    assert_eq!(rt;
-        fault_with(alloc, INNER_ID, Some(other.as_str()))?,
-        Some(LoadFault::Damaged {
-            id: id_of(INNER_ID)?,
-            found
-        })
-    );
+    fault_with(alloc, INNER_ID, Some(other.as_str()))
+}
+
+/// The fault that other bytes, of this hash, stand under an id.
+fn damaged(id: &str, hash: &str) -> Result<Option<LoadFault>, Fail> {
+    let id = id_of(id)?;
+    let found = id_of(hash)?.hash;
+    Ok(Some(LoadFault::Damaged { id, found }))
+}
+
+#[test]
+fn a_changed_catalogue_is_damaged(rt: HostRuntime) -> Result<(), Fail> {
+    let fault = damaged(INNER_ID, "d4e0f7a2399222df2b6f27bc2b25d0ff2acb4ac3")?;
+    assert!(rt; fault_of_another_end(rt.alloc())? == fault);
     Ok(())
 }
 
@@ -230,33 +264,38 @@ fn shelf_of(alloc: Global) -> Result<MemoryShelf, Fail> {
     Ok(MemoryShelf::new(alloc, objects, Vec::new(alloc))?)
 }
 
+/// What stands at a path of that tree.
+static CUT_PLACES: [Place; 9] = [
+    ("/", Some(0)),
+    ("/a", Some(0)),
+    ("/a/.cvmfscatalog", Some(16)),
+    ("/a/b", Some(0)),
+    ("/a/b/.cvmfscatalog", Some(18)),
+    ("/a/b/c", Some(0)),
+    ("/a/b/c/.cvmfscatalog", Some(20)),
+    ("/a/b/c/f", Some(8)),
+    ("/a/b/f", None),
+];
+
+/// The tree that is loaded again.
+fn tree_again(alloc: Global) -> Result<Tree, Fail> {
+    let mut shelf = shelf_of(alloc)?;
+    match load(alloc, &mut shelf, &catalogue_id(CUT_ID)?) {
+        Ok(tree) => Ok(tree),
+        Err(_) => Err(Fail::new("no tree")),
+    }
+}
+
+/// Whether a tree has this root.
+fn has_root(alloc: Global, tree: &Tree, root: &str) -> Result<bool, Fail> {
+    Ok(cut(alloc, tree)?.root == id_of(root)?)
+}
+
 #[test]
 fn a_tree_that_was_cut_is_loaded(rt: HostRuntime) -> Result<(), Fail> {
-    let alloc = rt.alloc();
-    let mut shelf = shelf_of(alloc)?;
-    let root = ObjectId {
-        hash: id_of(CUT_ID)?.hash,
-        kind: Kind::Catalogue,
-    };
-    let Ok(tree) = load(alloc, &mut shelf, &root) else {
-        return Err(Fail::new("no tree"));
-    };
-    let places = [
-        ("/", Some(0)),
-        ("/a", Some(0)),
-        ("/a/.cvmfscatalog", Some(16)),
-        ("/a/b", Some(0)),
-        ("/a/b/.cvmfscatalog", Some(18)),
-        ("/a/b/c", Some(0)),
-        ("/a/b/c/.cvmfscatalog", Some(20)),
-        ("/a/b/c/f", Some(8)),
-        ("/a/b/f", None),
-    ];
-    for (text, expected) in places {
-        let path = RepoPath::read(alloc, text)?;
-        assert_eq!(rt; size_of(tree.get(&path)), expected, "at {text}");
-    }
-    assert_eq!(rt; cut(alloc, &tree)?.root, root);
+    let tree = tree_again(rt.alloc())?;
+    assert!(rt; all_stand(rt.alloc(), &tree, &CUT_PLACES)?);
+    assert!(rt; has_root(rt.alloc(), &tree, CUT_ID)?);
     Ok(())
 }
 
@@ -299,14 +338,6 @@ const NAMES_ITSELF: (&str, &str, &str) = (
     "4356523100000003000000010c606f9929ab0de4b9d1961ce5dfdadfd41d8cd98f00b204e9800998ecf8427e00000021000041ed000000006553f1000000000000000000000000000000000000000164000080d24ab2d14dc16dba54ba605a2f406e0c606f9929ab0de4b9d1961ce5dfdadf00000004000081a4000000006553f1000000000000000000000000000000000014da39a3ee5e6b4b0d3255bfef95601890afd80709000d2e63766d6673636174616c6f670000f4c5ce1b21553fffda3b6386bf573d4c0c606f9929ab0de4b9d1961ce5dfdadf00000003000041ed000000006553f1000000000000000000000000000000000000000165000000042f642f6511111111111111111111111111111111111111110000000000000120",
 );
 
-/// The id of a catalogue of this hash.
-fn catalogue_id(hash: &str) -> Result<ObjectId, Fail> {
-    Ok(ObjectId {
-        hash: id_of(hash)?.hash,
-        kind: Kind::Catalogue,
-    })
-}
-
 /// The bytes of a catalogue of the root that names one of this hash and size at `/d`.
 fn root_above(alloc: Global, hash: &str, size: &str) -> Result<Bytes, Fail> {
     let Some(front) = OUTER.strip_suffix(INNER_ENTRY) else {
@@ -340,23 +371,34 @@ fn fault_above(
     Ok(load(alloc, &mut shelf, &root).err())
 }
 
+/// Whether a catalogue that can't stand at `/d` is the one that is bad.
+fn is_named_bad(alloc: Global, wrong: &(&str, &str, &str)) -> Result<bool, Fail> {
+    let (hash, size, digits) = wrong;
+    let fault = fault_above(alloc, hash, size, digits)?;
+    Ok(fault == Some(LoadFault::Bad(catalogue_id(hash)?)))
+}
+
 #[test]
 fn a_wrong_catalogue_is_named(rt: HostRuntime) -> Result<(), Fail> {
-    for (hash, size, digits) in &WRONG {
-        let fault = fault_above(rt.alloc(), hash, size, digits)?;
-        let id = catalogue_id(hash)?;
-        assert_eq!(rt; fault, Some(LoadFault::Bad(id)), "{hash}");
+    for wrong in &WRONG {
+        assert!(rt; is_named_bad(rt.alloc(), wrong)?);
     }
     Ok(())
 }
 
+/// The fault of the one that names itself.
+fn fault_of_itself(alloc: Global) -> Result<Option<LoadFault>, Fail> {
+    let (hash, size, digits) = NAMES_ITSELF;
+    fault_above(alloc, hash, size, digits)
+}
+
 #[test]
 fn a_catalogue_that_names_itself_is_damaged(rt: HostRuntime) -> Result<(), Fail> {
-    let (hash, size, digits) = NAMES_ITSELF;
-    let fault = fault_above(rt.alloc(), hash, size, digits)?;
-    let id = catalogue_id(hash)?;
-    let found = id_of("d030a7de0a6329a15c4d7424e528df095148bfa2")?.hash;
-    assert_eq!(rt; fault, Some(LoadFault::Damaged { id, found }));
+    let fault = damaged(
+        "1111111111111111111111111111111111111111C",
+        "d030a7de0a6329a15c4d7424e528df095148bfa2",
+    )?;
+    assert!(rt; fault_of_itself(rt.alloc())? == fault);
     Ok(())
 }
 
@@ -374,18 +416,14 @@ fn take_out(tree: &mut Tree, path: &RepoPath) -> Result<(), Fail> {
 
 #[test]
 fn a_marker_taken_out_brings_the_first_root_back(rt: HostRuntime) -> Result<(), Fail> {
-    let alloc = rt.alloc();
-    let shelf = shelf_with(alloc, "", None, Vec::new(alloc))?;
-    let Ok(mut tree) = loaded(alloc, shelf)? else {
-        return Err(Fail::new("no tree"));
-    };
-    assert_eq!(rt; cut(alloc, &tree)?.root, id_of(OUTER_ID)?);
-    let marker = RepoPath::read(alloc, "/d/.cvmfscatalog")?;
+    let mut tree = root_tree(rt.alloc())?;
+    let marker = RepoPath::read(rt.alloc(), "/d/.cvmfscatalog")?;
+    assert!(rt; has_root(rt.alloc(), &tree, OUTER_ID)?);
     take_out(&mut tree, &marker)?;
-    assert_eq!(rt; cut(alloc, &tree)?.root, id_of(PLAIN_ID)?);
+    assert!(rt; has_root(rt.alloc(), &tree, PLAIN_ID)?);
     tree.insert(&marker, file("")?)?;
-    assert_eq!(rt; cut(alloc, &tree)?.root, id_of(OUTER_ID)?);
+    assert!(rt; has_root(rt.alloc(), &tree, OUTER_ID)?);
     take_out(&mut tree, &marker)?;
-    assert_eq!(rt; cut(alloc, &tree)?.root, id_of(PLAIN_ID)?);
+    assert!(rt; has_root(rt.alloc(), &tree, PLAIN_ID)?);
     Ok(())
 }

@@ -44,6 +44,18 @@ struct Ended {
     errors: Vec<u8>,
 }
 
+impl Ended {
+    /// Whether the status has this code, and this is the output.
+    fn wrote(&self, code: u8, output: &str) -> bool {
+        self.status.code() == code && self.output.as_slice() == output.as_bytes()
+    }
+
+    /// Whether the status has this code, and this is its line.
+    fn said(&self, code: u8, line: &str) -> bool {
+        self.status.code() == code && self.errors.as_slice() == line.as_bytes()
+    }
+}
+
 /// A vault with these files. Its calls are numbered from the first of the writes.
 fn vault_with(
     alloc: Global,
@@ -52,7 +64,9 @@ fn vault_with(
 ) -> Result<MemoryVault, NoMemory> {
     let mut vault = MemoryVault::new(alloc, failing)?;
     for (name, text) in files {
-        vault.write(name, text.as_bytes()).map_err(|_| NoMemory)?;
+        if vault.write(name, text.as_bytes()).is_err() {
+            return Err(NoMemory);
+        }
     }
     Ok(vault)
 }
@@ -62,15 +76,9 @@ fn moments_at(alloc: Global, seconds: (u32, u32, u32)) -> Result<Vec<u64>, NoMem
     ensures { IfOk result (λ moments. moments.items ≡ (1700000000 + seconds.0) ∷ (1700000000 + seconds.1) ∷ (1700000000 + seconds.2) ∷ []) }
 {
     let mut moments = Vec::new(alloc);
-    moments
-        .push(START + u64::from(seconds.0))
-        .map_err(|_| NoMemory)?;
-    moments
-        .push(START + u64::from(seconds.1))
-        .map_err(|_| NoMemory)?;
-    moments
-        .push(START + u64::from(seconds.2))
-        .map_err(|_| NoMemory)?;
+    moments.push(START + u64::from(seconds.0))?;
+    moments.push(START + u64::from(seconds.1))?;
+    moments.push(START + u64::from(seconds.2))?;
     Ok(moments)
 }
 
@@ -93,6 +101,9 @@ impl Around {
     }
 }
 
+/// The words of a run that serves the one repository.
+const STDIO: [&str; 2] = ["stdio", "sw.example.org"];
+
 /// Runs the program on these words, files and input.
 fn run_on(
     alloc: Global,
@@ -108,9 +119,7 @@ fn run_on(
     } = around;
     let mut owned = Vec::new(alloc);
     for word in words {
-        owned
-            .push(String::from_str(alloc, word)?)
-            .map_err(|_| NoMemory)?;
+        owned.push(String::from_str(alloc, word)?)?;
     }
     let parts = Parts {
         vault: vault_with(alloc, files, failing.vault)?,
@@ -131,6 +140,11 @@ fn run_on(
         output: parts.output.into_vec(),
         errors: parts.errors.into_vec(),
     })
+}
+
+/// Serves the one repository on these files and this input.
+fn served(alloc: Global, files: &[(&str, &str)], input: &str) -> Result<Ended, NoMemory> {
+    run_on(alloc, &STDIO, files, input, Around::usual(alloc))
 }
 
 /// Files, input, output and status of runs of `stdio sw.example.org`.
@@ -221,15 +235,10 @@ static RUNS: [(&[(&str, &str)], &str, &str, u8); 16] = [
 #[test]
 fn answers_worked_inputs(rt: HostRuntime) -> Result<(), Fail> {
     for (files, input, output, code) in &RUNS {
-        let ended = run_on(
-            rt.alloc(),
-            &["stdio", "sw.example.org"],
-            files,
-            input,
-            Around::usual(rt.alloc()),
-        )?;
-        assert_eq!(rt; ended.output.as_slice(), output.as_bytes(), "{input}");
-        assert_eq!(rt; ended.status.code(), *code, "{input}");
+        assert!(rt;
+            served(rt.alloc(), files, input)?.wrote(*code, output),
+            "{input}"
+        );
     }
     Ok(())
 }
@@ -245,34 +254,31 @@ static FAULTS: [(u64, u64, u64, u8, &str, usize); 6] = [
     (0, 0, 0, 0, "", 164),
 ];
 
+/// An object and the manifest, asked one after the other.
+const TWO: &str =
+    "GET /cvmfs/sw.example.org/data/f5/72d396fae9206628714fb2ce00f72e94f2258f HTTP/1.1\r\nHost: x\r\n\r\nGET /cvmfs/sw.example.org/.cvmfspublished HTTP/1.1\r\nHost: x\r\n\r\n";
+
+/// How the answers to both end where these calls fail.
+fn ended_by(alloc: Global, vault: u64, source: u64, sink: u64) -> Result<Ended, NoMemory> {
+    let failing = Failing {
+        vault: vec![in alloc; vault]?,
+        input: vec![in alloc; source]?,
+        output: vec![in alloc; sink]?,
+    };
+    let around = Around {
+        keys: KEYS,
+        seconds: (0, 0, 0),
+        failing,
+    };
+    run_on(alloc, &STDIO, &[MANIFEST, (OBJECT, "hello\n")], TWO, around)
+}
+
 #[test]
 fn names_the_part_that_failed(rt: HostRuntime) -> Result<(), Fail> {
-    let input =
-        "GET /cvmfs/sw.example.org/data/f5/72d396fae9206628714fb2ce00f72e94f2258f HTTP/1.1\r\nHost: x\r\n\r\nGET /cvmfs/sw.example.org/.cvmfspublished HTTP/1.1\r\nHost: x\r\n\r\n";
     for (vault, source, sink, code, line, size) in &FAULTS {
-        let failing = Failing {
-            vault: vec![in rt.alloc(); *vault]?,
-            input: vec![in rt.alloc(); *source]?,
-            output: vec![in rt.alloc(); *sink]?,
-        };
-        let ended = run_on(
-            rt.alloc(),
-            &["stdio", "sw.example.org"],
-            &[MANIFEST, (OBJECT, "hello\n")],
-            input,
-            Around {
-                keys: KEYS,
-                seconds: (0, 0, 0),
-                failing,
-            },
-        )?;
-        assert_eq!(rt; ended.status.code(), *code, "{vault} {source} {sink}");
-        assert_eq!(rt;
-            ended.errors.as_slice(),
-            line.as_bytes(),
-            "{vault} {source} {sink}"
-        );
-        assert_eq!(rt; ended.output.len(), *size, "{vault} {source} {sink}");
+        let ended = ended_by(rt.alloc(), *vault, *source, *sink)?;
+        assert!(rt; ended.said(*code, line), "{vault} {source} {sink}");
+        assert!(rt; ended.output.len() == *size, "{vault} {source} {sink}");
     }
     Ok(())
 }
@@ -280,39 +286,31 @@ fn names_the_part_that_failed(rt: HostRuntime) -> Result<(), Fail> {
 #[test]
 fn refuses_other_words(rt: HostRuntime) -> Result<(), Fail> {
     for word in ["", "a b", "a/b", "é"] {
-        let ended = run_on(
-            rt.alloc(),
-            &["stdio", word],
-            &[],
-            "",
-            Around::usual(rt.alloc()),
-        )?;
-        assert_eq!(rt; ended.status.code(), 2, "{word}");
-        assert_eq!(rt; ended.errors.as_slice(), b"cvkit: usage\n".as_slice());
+        let around = Around::usual(rt.alloc());
+        let ended = run_on(rt.alloc(), &["stdio", word], &[], "", around)?;
+        assert!(rt; ended.said(2, "cvkit: usage\n"), "{word}");
     }
     Ok(())
 }
 
+/// A text so many times.
+fn repeated(alloc: Global, text: &str, count: usize) -> Result<String, NoMemory> {
+    let mut all = String::new(alloc);
+    for _ in 0..count {
+        all.push_str(text)?;
+    }
+    Ok(all)
+}
+
 #[test]
 fn closes_with_the_thousandth_reply(rt: HostRuntime) -> Result<(), Fail> {
-    let mut input = String::new(rt.alloc());
-    for _ in 0..1001 {
-        input.push_str("GET /cvmfs/sw.example.org/.cvmfspublished HTTP/1.1\r\nHost: x\r\n\r\n")?;
-    }
-    let ended = run_on(
-        rt.alloc(),
-        &["stdio", "sw.example.org"],
-        &[MANIFEST],
-        input.as_str(),
-        Around::usual(rt.alloc()),
-    )?;
-    assert_eq!(rt; ended.status.code(), 0);
-    assert_eq!(rt; ended.output.len(), 1000 * 80 + 19);
-    assert!(rt;
-        ended
-            .output
-            .ends_with(b"\r\nConnection: close\r\n\r\nM\n".as_slice())
-    );
+    let asking = "GET /cvmfs/sw.example.org/.cvmfspublished HTTP/1.1\r\nHost: x\r\n\r\n";
+    let input = repeated(rt.alloc(), asking, 1001)?;
+    let ended = served(rt.alloc(), &[MANIFEST], input.as_str())?;
+    let end = b"\r\nConnection: close\r\n\r\nM\n";
+    assert!(rt; ended.status.code() == 0);
+    assert!(rt; ended.output.len() == 1000 * 80 + 19);
+    assert!(rt; ended.output.ends_with(end.as_slice()));
     Ok(())
 }
 
@@ -350,42 +348,43 @@ static SESSIONS: [((u32, u32, u32), &str, &str); 6] = [
     ),
 ];
 
+/// How a session of these requests ends, at these seconds of the clock.
+fn leased(alloc: Global, seconds: (u32, u32, u32), input: &str) -> Result<Ended, NoMemory> {
+    let around = Around {
+        keys: KEYS,
+        seconds,
+        failing: Failing::nothing(alloc),
+    };
+    run_on(alloc, &STDIO, &[MANIFEST], input, around)
+}
+
 #[test]
 fn leases_paths(rt: HostRuntime) -> Result<(), Fail> {
     for (seconds, input, output) in &SESSIONS {
-        let ended = run_on(
-            rt.alloc(),
-            &["stdio", "sw.example.org"],
-            &[MANIFEST],
-            input,
-            Around {
-                keys: KEYS,
-                seconds: *seconds,
-                failing: Failing::nothing(rt.alloc()),
-            },
-        )?;
-        assert_eq!(rt; ended.output.as_slice(), output.as_bytes(), "{input}");
-        assert_eq!(rt; ended.status.code(), 0, "{input}");
+        assert!(rt;
+            leased(rt.alloc(), *seconds, input)?.wrote(0, output),
+            "{input}"
+        );
     }
     Ok(())
+}
+
+/// How the program ends with this keys text, where there is no manifest.
+fn ended_with_keys(alloc: Global, keys: &'static str) -> Result<Ended, NoMemory> {
+    let around = Around {
+        keys,
+        seconds: (0, 0, 0),
+        failing: Failing::nothing(alloc),
+    };
+    let input = "GET / HTTP/1.1\r\nHost: x\r\n\r\n";
+    run_on(alloc, &STDIO, &[], input, around)
 }
 
 #[test]
 fn judges_the_keys_before_the_vault(rt: HostRuntime) -> Result<(), Fail> {
     for keys in ["", "{}", r#"{"keys":[]}"#] {
-        let ended = run_on(
-            rt.alloc(),
-            &["stdio", "sw.example.org"],
-            &[],
-            "GET / HTTP/1.1\r\nHost: x\r\n\r\n",
-            Around {
-                keys,
-                seconds: (0, 0, 0),
-                failing: Failing::nothing(rt.alloc()),
-            },
-        )?;
-        assert_eq!(rt; ended.status.code(), 16, "{keys}");
-        assert_eq!(rt; ended.errors.as_slice(), b"cvkit: bad keys\n".as_slice());
+        let ended = ended_with_keys(rt.alloc(), keys)?;
+        assert!(rt; ended.said(16, "cvkit: bad keys\n"), "{keys}");
         assert!(rt; ended.output.is_empty());
     }
     Ok(())
@@ -394,20 +393,13 @@ fn judges_the_keys_before_the_vault(rt: HostRuntime) -> Result<(), Fail> {
 #[test]
 fn refuses_a_head_of_a_byte_too_many(rt: HostRuntime) -> Result<(), Fail> {
     let mut input = String::from_str(rt.alloc(), "GET /")?;
-    for _ in 0..16_380 {
-        input.push('a')?;
-    }
-    let ended = run_on(
-        rt.alloc(),
-        &["stdio", "sw.example.org"],
-        &[MANIFEST],
-        input.as_str(),
-        Around::usual(rt.alloc()),
-    )?;
-    assert_eq!(rt; ended.status.code(), 14);
-    assert_eq!(rt;
-        ended.output.as_slice(),
-        b"HTTP/1.1 431 Request Header Fields Too Large\r\nContent-Type: text/plain\r\nContent-Length: 32\r\nConnection: close\r\n\r\nRequest Header Fields Too Large\n".as_slice()
+    input.push_str(repeated(rt.alloc(), "a", 16_380)?.as_str())?;
+    let ended = served(rt.alloc(), &[MANIFEST], input.as_str())?;
+    assert!(rt;
+        ended.wrote(
+            14,
+            "HTTP/1.1 431 Request Header Fields Too Large\r\nContent-Type: text/plain\r\nContent-Length: 32\r\nConnection: close\r\n\r\nRequest Header Fields Too Large\n",
+        )
     );
     Ok(())
 }
