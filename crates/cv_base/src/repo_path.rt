@@ -1,8 +1,8 @@
 //! Paths of a repository.
-ghost use Rattle.std.specs.Prelude.{ℕ, List, Ok, ◌≡◌, ◌≤◌, ◌↔◌, ◌∷◌, ◌++◌, [], length, map, Some, refl, IfOk, IfSome, IsTrue, string_bytes, position, not};
+ghost use Rattle.std.specs.Prelude.{ℕ, List, Err, MatchOption, ◌≡◌, ◌≤◌, ◌↔◌, ◌∷◌, ◌++◌, [], length, map, Some, refl, IfOk, IfSome, IsTrue, string_bytes, position, not};
 ghost use Rattle.std.specs.Cmp.{eq_by_cmp_equiv, partial_equiv_from_equiv};
-ghost use Rattle.cv_base.specs.Path.{path_cmp, same_path, covers, overlap, text_of, key_of, parent_key_of, last_name_of, is_path_name, IsPath};
-ghost use Rattle.cv_base.specs.PathText.{Spells, path_of, path_of_bare, only_path, path_named, joined, parts_of, names_of, bad_name, without_last_slash, IsUnlessMemory};
+ghost use Rattle.cv_base.specs.Path.{parent, path_cmp, same_path, covers, overlap, text_of, key_of, parent_key_of, last_name_of, is_path_name, IsPath};
+ghost use Rattle.cv_base.specs.PathText.{Spells, path_of, path_of_bare, only_path, path_named, joined, Joins, parts_of, names_of, bad_name, without_last_slash, IsUnlessMemory};
 ghost use Rattle.cv_base.specs.PathOrder.{path_total, paths_ordered};
 
 use crate::memory::NoMemory;
@@ -97,22 +97,53 @@ impl RepoPath {
     }
 
     /// The path with one more name behind its own.
+    ///
+    /// # Errors
+    ///
+    /// `TooLong`, `TooDeep` and `BadName(0)`, in this order, by the limits of a path; else want of memory.
     pub fn join(&self, alloc: Global, name: &str) -> Result<RepoPath, PathFault>
         ensures { IsUnlessMemory result (joined self.now name.now) }
     {
-        if name.len() >= PATH_LIMIT - self.text_len() {
-            return Err(PathFault::TooLong);
-        }
-        if self.names.len() >= NAMES_LIMIT {
-            return Err(PathFault::TooDeep);
-        }
-        if !is_path_name(name) {
-            return Err(PathFault::BadName(0));
+        if let Some(fault) = self.name_fault(name) {
+            return Err(fault);
         }
         match names_and(alloc, &self.names, name) {
             Ok(names) => Ok(RepoPath { names }),
             Err(NoMemory) => Err(PathFault::NoMemory),
         }
+    }
+
+    /// The path with one more name behind its own, as `join` makes it. No name that it has is copied.
+    ///
+    /// # Errors
+    ///
+    /// Those of `join`. The path is gone then.
+    pub fn with_name(self, alloc: Global, name: &str) -> Result<RepoPath, PathFault>
+        ensures { IsUnlessMemory result (joined self name.now) }
+    {
+        if let Some(fault) = self.name_fault(name) {
+            return Err(fault);
+        }
+        match with_last(alloc, self.names, name) {
+            Ok(names) => Ok(RepoPath { names }),
+            Err(NoMemory) => Err(PathFault::NoMemory),
+        }
+    }
+
+    /// Why the name can't stand behind the path's own.
+    fn name_fault(&self, name: &str) -> Option<PathFault>
+        ensures fault { MatchOption result (Joins self.now name.now) (λ fault. joined self.now name.now ≡ Err fault) }
+    {
+        if name.len() >= PATH_LIMIT - self.text_len() {
+            return Some(PathFault::TooLong);
+        }
+        if self.names.len() >= NAMES_LIMIT {
+            return Some(PathFault::TooDeep);
+        }
+        if !is_path_name(name) {
+            return Some(PathFault::BadName(0));
+        }
+        None
     }
 
     /// An equal path.
@@ -153,6 +184,19 @@ impl RepoPath {
         ensures { result ≡ overlap self.now other.now }
     {
         self.covers(other) || other.covers(self)
+    }
+
+    /// The path of the directory in which the path stands. That of the root is the root. It takes no memory.
+    pub fn into_parent(self) -> RepoPath
+        ensures { result ≡ parent self }
+    {
+        let mut names = self.names;
+        let count = names.as_slice().len();
+        if count == 0 {
+            return RepoPath { names };
+        }
+        names.truncate(count - 1);
+        RepoPath { names }
     }
 
     /// The MD5 of the path's text.
@@ -333,8 +377,13 @@ fn copies(alloc: Global, names: &[PathName]) -> Result<Vec<PathName>, NoMemory>
 fn names_and(alloc: Global, names: &[PathName], last: &str) -> Result<Vec<PathName>, NoMemory>
     ensures { IfOk result (λ longer. longer.items ≡ names.now ++ last.now ∷ []) }
 {
-    let mut longer = copies(alloc, names)?;
-    let last = PathName::from_str(alloc, last)?;
-    longer.push(last)?;
-    Ok(longer)
+    with_last(alloc, copies(alloc, names)?, last)
+}
+
+/// These names, and one more behind them.
+fn with_last(alloc: Global, mut names: Vec<PathName>, last: &str) -> Result<Vec<PathName>, NoMemory>
+    ensures { IfOk result (λ longer. longer.items ≡ names.items ++ last.now ∷ []) }
+{
+    names.push(PathName::from_str(alloc, last)?)?;
+    Ok(names)
 }

@@ -232,6 +232,8 @@ fn a_path_covers_what_is_joined_to_it(rt: HostRuntime) -> Result<(), Fail> {
     assert!(rt; path.join(rt.alloc(), "..").err() == Some(PathFault::BadName(0)));
     let longer = path.join(rt.alloc(), "c")?;
     assert!(rt; longer.text(rt.alloc())?.as_str() == "/a/b/c");
+    assert!(rt; path.copy(rt.alloc())?.with_name(rt.alloc(), "c")? == longer);
+    assert!(rt; longer.copy(rt.alloc())?.into_parent() == path);
     assert!(rt; path.covers(&longer) && !longer.covers(&path) && longer.overlaps(&path));
     assert!(rt; RepoPath::root(rt.alloc()).covers(&path) && path < longer);
     let beside = RepoPath::read(rt.alloc(), "/a/bc")?;
