@@ -1,3 +1,4 @@
 pub mod Streams
 pub mod Pieces
 pub mod ShelfPuts
+pub mod Laws

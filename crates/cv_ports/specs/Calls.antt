@@ -1,5 +1,5 @@
--- The calls of an object in memory, of which those of stated numbers fail.
-use Rattle.std.specs.Prelude.{ℕ, ◌+◌, ◌==◌, List, Bool, min, if◌then◌else◌}
+-- Counts that stay at their last number, and the calls of an object in memory, of which those of stated numbers fail.
+use Rattle.std.specs.Prelude.{◌≡◌, ◌≤◌, ℕ, zero, suc, ◌+◌, ◌==◌, List, Bool, min, if◌then◌else◌}
 use Rattle.std.specs.List.{list_any}
 use Rattle.cv_base.specs.Counts.{last_count}
 
@@ -12,6 +12,15 @@ pub record Calls : Type 0 where
 -- one more, up to the last number of 64 bits
 abbrev pub raised : ℕ → ℕ
 raised count = min (count + 1) last_count
+
+-- so many more, up to the last number of 64 bits
+abbrev pub raised_by : ℕ → ℕ → ℕ
+raised_by zero count = count
+raised_by (suc n) count = raised (raised_by n count)
+
+-- at most so many more
+abbrev pub RaisedAtMost : ℕ → ℕ → ℕ → Type 0
+RaisedAtMost most before after = (n : ℕ) × (n ≤ most) × (after ≡ raised_by n before)
 
 -- the next call is to fail: its number is among them
 abbrev pub fails : Calls → Bool

@@ -5,3 +5,4 @@ pub mod Memory
 pub mod Shelf
 pub mod Objects
 pub mod MemoryShelf
+pub mod Folder

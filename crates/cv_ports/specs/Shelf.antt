@@ -12,6 +12,14 @@ use Rattle.cv_ports.specs.declared.shelf.ShelfFault.TheVariants.{Failed, Damaged
 abbrev pub Shelf : Type 0
 Shelf = ObjectId → Option (List ℕ)
 
+-- what stands under an id has the id's hash
+pub record IsShelf (shelf : Shelf) : Type 0 where
+  pub hash : (id : ObjectId) (bytes : List ℕ) → shelf id ≡ Some bytes → id.hash ≡ sha1 bytes
+
+-- the second shelf has what the first has
+abbrev pub HasMore : Shelf → Shelf → Type 0
+HasMore shelf more = (id : ObjectId) (bytes : List ℕ) → shelf id ≡ Some bytes → more id ≡ Some bytes
+
 -- what stands under an id, as a fetch gives it: the bytes where they have the id's hash, and their own digest where they have another
 abbrev pub fetched : ObjectId → Option (List ℕ) → Result (Option (List ℕ)) ShelfFault
 fetched id None = Ok None

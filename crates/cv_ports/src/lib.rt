@@ -4,6 +4,7 @@
 mod clock;
 mod failed;
 mod failing_calls;
+mod folder;
 mod memory_clock;
 mod memory_shelf;
 mod memory_sink;
@@ -17,6 +18,7 @@ mod tests;
 pub use clock::Clock;
 pub use failed::Failed;
 pub use failing_calls::FailingCalls;
+pub use folder::{Folder, FolderFault, FolderItem, FoundKind};
 pub use memory_clock::MemoryClock;
 pub use memory_shelf::MemoryShelf;
 pub use memory_sink::MemorySink;

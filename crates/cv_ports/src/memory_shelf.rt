@@ -1,5 +1,6 @@
 //! A shelf in memory.
-ghost use Rattle.std.specs.Prelude.{◌≡◌, ◌↔◌, IfErr, IfOk, IsErrOf, IsTrue, OnOk, Some, option_copied, if◌then◌else◌};
+ghost use Rattle.std.proofs.Common.{◌∙◌};
+ghost use Rattle.std.specs.Prelude.{◌≡◌, refl, ◌↔◌, IfErr, IfOk, IsErrOf, IsTrue, OnOk, Some, option_copied, if◌then◌else◌};
 ghost use Rattle.std.specs.BTreeMap.{Updates};
 ghost use Rattle.std.specs.Cmp.Lexicographic.{slice_cmp};
 ghost use Rattle.std.specs.Ordering.{nat_cmp};
@@ -130,9 +131,12 @@ impl Shelf for MemoryShelf {
 
     ghost taken = { λ s. s.taken };
 
+    ghost reads = { λ a b. standing b ≡ standing a };
+
     fn fetch(&mut self, alloc: Global, id: &ObjectId) -> Result<Option<Bytes>, ShelfFault>
         ensures told { WhereTold (Some (standing self.old)) (Fetches id.now result) }
         ensures suits { Suits id.now result }
+        ensures reads { standing self.new ≡ standing self.old }
         ensures unchanged { Some (standing self.new) ≡ Some (standing self.old) }
         ensures cause { HasCause self.old.calls.faults self.new.calls.faults (IsErrOf result fault.Failed) }
         ensures taken { self.new.taken ≡ raised self.old.taken }
@@ -149,6 +153,7 @@ impl Shelf for MemoryShelf {
     fn length(&mut self, _alloc: Global, id: &ObjectId) -> Result<Option<u64>, ShelfFault>
         ensures told { WhereTold (Some (standing self.old)) (Measures id.now result) }
         ensures unread { IfErr result IsUnread }
+        ensures reads { standing self.new ≡ standing self.old }
         ensures unchanged { Some (standing self.new) ≡ Some (standing self.old) }
         ensures cause { HasCause self.old.calls.faults self.new.calls.faults (IsErrOf result fault.Failed) }
         ensures taken { self.new.taken ≡ self.old.taken }
@@ -163,4 +168,10 @@ impl Shelf for MemoryShelf {
             None => Ok(None),
         }
     }
+
+    ghost reads_none = { λ a. refl };
+
+    ghost reads_then = { λ a b c ab bc. bc ∙ ab };
+
+    ghost reads_same = { λ a b ab i. Some (ab i) };
 }

@@ -55,10 +55,14 @@ pub trait Shelf {
     /// How many objects were fetched from it, or asked for in vain, so far as 64 bits can count.
     ghost taken: { Self → ℕ };
 
+    /// From one value to a later one nothing but reads went by: what stands under the shelf is as it was, beside its objects too.
+    ghost reads: { Self → Self → Type 0 };
+
     /// The object's bytes, if it stands there. Bytes of another digest are never given.
     fn fetch(&mut self, alloc: Global, id: &ObjectId) -> Result<Option<Bytes>, ShelfFault>
         ensures told { WhereTold (shelf self.old) (Fetches id.now result) }
         ensures suits { Suits id.now result }
+        ensures reads { reads self.old self.new }
         ensures unchanged { shelf self.new ≡ shelf self.old }
         ensures cause { HasCause (faults self.old) (faults self.new) (IsErrOf result fault.Failed) }
         ensures taken { taken self.new ≡ raised (taken self.old) };
@@ -67,7 +71,17 @@ pub trait Shelf {
     fn length(&mut self, alloc: Global, id: &ObjectId) -> Result<Option<u64>, ShelfFault>
         ensures told { WhereTold (shelf self.old) (Measures id.now result) }
         ensures unread { IfErr result IsUnread }
+        ensures reads { reads self.old self.new }
         ensures unchanged { shelf self.new ≡ shelf self.old }
         ensures cause { HasCause (faults self.old) (faults self.new) (IsErrOf result fault.Failed) }
         ensures taken { taken self.new ≡ taken self.old };
+
+    /// Where no call went by, nothing but reads went by.
+    ghost reads_none: { (a : Self) → reads a a };
+
+    /// Reads that follow reads are reads.
+    ghost reads_then: { (a b c : Self) → reads a b → reads b c → reads a c };
+
+    /// Where nothing but reads went by, the same bytes stand under each id.
+    ghost reads_same: { (a b : Self) → reads a b → shelf b ≡ shelf a };
 }

@@ -1,0 +1,23 @@
+-- What a folder holds, and what its calls answer of it.
+use Rattle.std.specs.Prelude.{ℕ, List, [], ◌∷◌, take}
+use Rattle.std.specs.List.Sorted.{IsStrictlySortedBy}
+use Rattle.cv_base.specs.Path.{Path, name_cmp}
+use Rattle.cv_ports.specs.declared.folder.FolderItem.{FolderItem}
+
+-- the items of the directory at a path, and the content of the file at one, by the paths from the folder on
+pub record FolderView : Type 0 where
+  pub items : Path → List FolderItem
+  pub content : Path → List ℕ
+
+-- the names of these items
+abbrev pub names_of : List FolderItem → List (List ℕ)
+names_of [] = []
+names_of (item ∷ items) = item.name ∷ names_of items
+
+-- what is read of a content: the first bytes of it, one more than a file may have
+abbrev pub read_front : List ℕ → List ℕ
+read_front content = take 16777217 content
+
+-- the names of a listing ascend by their bytes, so that none stands twice
+abbrev pub Ascend : List FolderItem → Type 0
+Ascend items = IsStrictlySortedBy name_cmp (names_of items)

@@ -1,0 +1,72 @@
+//! Where a folder of changes stands.
+ghost use Rattle.std.specs.Prelude.{◌≡◌, ℕ, Option, IfOk, OnErr, IsErrOf, length, ◌≤◌};
+ghost use Rattle.cv_base.specs.Counts.{HasCause};
+ghost use Rattle.cv_base.specs.Told.{WhereTold};
+ghost use Rattle.cv_ports.specs.Folder.{FolderView, Ascend, read_front};
+ghost use Rattle.cv_ports.specs.declared.folder.FolderFault.TheVariants as fault;
+
+use cv_base::{Bytes, Items, RepoPath, Text};
+use std::alloc::Global;
+
+/// What stands under a name.
+#[derive(Debug, Drop)]
+pub enum FoundKind {
+    /// A directory.
+    Dir,
+    /// A regular file.
+    File,
+    /// A symbolic link, with the text that it leads to.
+    Link(Text),
+    /// Anything else, as a pipe or a device.
+    Special,
+}
+
+/// One item of a directory.
+#[derive(Debug, Drop)]
+pub struct FolderItem {
+    /// Its name, which may be any text.
+    pub name: Text,
+    /// What it is.
+    pub kind: FoundKind,
+    /// The mode as the system gives it.
+    pub mode: u32,
+    /// The time of the last change of content, in seconds since 1970.
+    pub mtime: u64,
+}
+
+/// Why a folder gave no answer.
+#[derive(Clone, Copy, Debug, PartialEq, Eq)]
+pub enum FolderFault {
+    /// The folder failed. The count of faults rose in this call.
+    Failed,
+    /// There was no memory.
+    NoMemory,
+}
+
+/// A folder. It tells what it holds or it doesn't. Only `root` changes what stands there.
+pub trait Folder {
+    /// What it holds, where it tells.
+    ghost folder: { Self → Option FolderView };
+
+    /// How many of its calls failed, so far as 64 bits can count.
+    ghost faults: { Self → ℕ };
+
+    /// Names the folder at which the paths of the later calls begin.
+    fn root(&mut self, alloc: Global, name: &str) -> Result<(), FolderFault>
+        ensures unchanged { OnErr result (folder self.new ≡ folder self.old) }
+        ensures cause { HasCause (faults self.old) (faults self.new) (IsErrOf result fault.Failed) };
+
+    /// The items of the directory at a path, in the order of the bytes of their names.
+    fn list(&mut self, alloc: Global, path: &RepoPath) -> Result<Items<FolderItem>, FolderFault>
+        ensures told { WhereTold (folder self.old) (λ holds. IfOk result (λ items. items ≡ holds.items path.now)) }
+        ensures ascend { IfOk result (λ items. Ascend items) }
+        ensures unchanged { folder self.new ≡ folder self.old }
+        ensures cause { HasCause (faults self.old) (faults self.new) (IsErrOf result fault.Failed) };
+
+    /// The content of the file at a path, of which it gives at most the first 16,777,217 bytes.
+    fn read(&mut self, alloc: Global, path: &RepoPath) -> Result<Bytes, FolderFault>
+        ensures told { WhereTold (folder self.old) (λ holds. IfOk result (λ bytes. bytes ≡ read_front (holds.content path.now))) }
+        ensures limit { IfOk result (λ bytes. length bytes ≤ 16777217) }
+        ensures unchanged { folder self.new ≡ folder self.old }
+        ensures cause { HasCause (faults self.old) (faults self.new) (IsErrOf result fault.Failed) };
+}
