@@ -1,0 +1,4 @@
+pub mod Laws
+mod Lists
+mod OneList
+mod Segments

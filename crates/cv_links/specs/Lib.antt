@@ -1,0 +1,5 @@
+pub mod Links
+pub mod Arena
+pub mod Chains
+pub mod Lends
+pub mod RawSteps
