@@ -6,7 +6,7 @@ use Rattle.std.specs.declared.option.Option.TheVariants.{None}
 use Rattle.std.specs.declared.result.Result.{Result}
 use Rattle.std.specs.declared.result.Result.TheVariants.{Ok, Err}
 use Rattle.cv_vault.specs.Names.{Name}
-use Rattle.cv_vault.specs.Disk.{Disk, Slot, File, Mark, Settled, Torn, Moved, LeftAt, May, Absent, Made, Unmade, Reads, Measures, Lists, Writes, Renames, Removes, Syncs, slot, with_slot, renamed, unrenamed, removed, unremoved}
+use Rattle.cv_vault.specs.Disk.{Disk, Slot, File, Files, Image, IsCalm, Mark, Settled, Torn, Moved, LeftAt, May, Absent, Made, Unmade, Reads, Measures, Lists, Writes, Renames, Removes, Syncs, slot, with_slot, moved, both_settled, renamed, unrenamed, removed, unremoved}
 use Rattle.cv_vault.specs.Walks.{Change, Stays, Comes, Gains}
 use Rattle.cv_vault.specs.declared.vault.VaultFault.{VaultFault}
 use Rattle.cv_vault.specs.declared.vault.VaultFault.TheVariants.{Failed, NoMemory}
@@ -123,3 +123,41 @@ module _ {away : Name → Bool} {B : Name → File → Type 0} (n : Name) (d : D
   removes (Err Failed) d' (Made a e) = subst (Gains away B d) (sym e) gains_removed
   removes (Err Failed) d' (Unmade a e) = subst (Gains away B d) (sym e) gains_unremoved
   removes (Err NoMemory) d' h = gains_none h
+
+-- a removal of a name that is left out of account
+pub removes_away : {away : Name → Bool} {B : Name → File → Type 0} (n : Name) (r : Result Bool VaultFault) (d d' : Disk) → away n ≡ true → Removes n r d d' → Gains away B d d'
+removes_away {away} {B} n (Ok true) d d' w h = subst (Gains away B d) (sym h.1) (gains_away d n _ w)
+removes_away n (Ok false) d d' w h = gains_none h.1
+removes_away n (Err Failed) d d' w (Absent a e) = gains_none e
+removes_away {away} {B} n (Err Failed) d d' w (Made a e) = subst (Gains away B d) (sym e) (gains_away d n _ w)
+removes_away {away} {B} n (Err Failed) d d' w (Unmade a e) = subst (Gains away B d) (sym e) (gains_away d n _ w)
+removes_away n (Err NoMemory) d d' w h = gains_none h
+
+-- a settled name to which one file may come has its file or that one, and a crash leaves one of them
+pub settled_change : (file : File) (s s' : Slot) → s.mark ≡ Settled → Change (λ f. f ≡ file) s s' → ((s'.now ≡ s.now) ⊎ (s'.now ≡ file)) × ((f : File) → May s' f → (f ≡ s.now) ⊎ (f ≡ file))
+settled_change file s s' e (Stays same less) = (inl same, λ f m. inl (subst (λ (k : Mark). LeftAt s.now k f) e (less f m)))
+settled_change file s s' e (Comes came less) = (
+  inr came,
+  λ f m. elim (less f m) [
+    | inl x ↦ inl (subst (λ (k : Mark). LeftAt s.now k f) e x)
+    | inr x ↦ inr x
+  ],
+)
+
+-- what stands at each name after a rename that was made
+pub renamed_to : (d : Disk) (from to : Name) → renamed d from to to ≡ slot (d from).now (moved (both_settled d from to) (d to).now)
+renamed_to d from to = here (with_slot d from (slot None (moved (both_settled d from to) (d from).now))) to (slot (d from).now (moved (both_settled d from to) (d to).now))
+
+pub renamed_from : (d : Disk) (from to : Name) → from ≢ to → renamed d from to from ≡ slot None (moved (both_settled d from to) (d from).now)
+renamed_from d from to ne =
+    elsewhere (with_slot d from (slot None (moved (both_settled d from to) (d from).now))) to (slot (d from).now (moved (both_settled d from to) (d to).now)) from ne
+    ∙ here d from (slot None (moved (both_settled d from to) (d from).now))
+
+pub renamed_elsewhere : (d : Disk) (from to n : Name) → n ≢ from → n ≢ to → renamed d from to n ≡ d n
+renamed_elsewhere d from to n not_from not_to =
+    elsewhere (with_slot d from (slot None (moved (both_settled d from to) (d from).now))) to (slot (d from).now (moved (both_settled d from to) (d to).now)) n not_to
+    ∙ elsewhere d from (slot None (moved (both_settled d from to) (d from).now)) n not_from
+
+-- of a calm disk there is one image
+pub calm_image : (d : Disk) → IsCalm d → (f : Files) → Image d f → (n : Name) → f n ≡ (d n).now
+calm_image d calm f i n = may_settled d n (f n) (calm n) (i n)

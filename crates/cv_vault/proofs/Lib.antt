@@ -13,5 +13,7 @@ pub mod Remembering
 pub mod Inside
 pub mod Walking
 pub mod Calling
-pub mod Storing
+pub mod Quiet
+pub mod Replacing
 pub mod Crashing
+pub mod Laws

@@ -1,5 +1,5 @@
 -- Walks, one after another.
-use Rattle.std.proofs.Common.{◌≡◌, ◌⊎◌, ℕ, Bool, refl, sym, subst, ◌∙◌, inl, inr, arith}
+use Rattle.std.proofs.Common.{◌≡◌, ◌⊎◌, ℕ, Bool, false, refl, sym, subst, ◌∙◌, inl, inr, arith}
 use Rattle.std.specs.declared.option.Option.{Option}
 use Rattle.std.specs.declared.option.Option.TheVariants.{Some}
 use Rattle.cv_vault.specs.Names.{Name}
@@ -125,3 +125,20 @@ bind w more next =
       leaves = leaves_then w.leaves u.leaves (λ f x. within_more more f x) (λ f x. within_then (gains_more more w.gains) f x);
       is = u.is;
     }
+
+-- more names are left out of account
+pub gains_wider : {away wider : Name → Bool} {B : Name → File → Type 0} {d d' : Disk} → ((n : Name) → wider n ≡ false → away n ≡ false) → Gains away B d d' → Gains wider B d d'
+gains_wider h g = record { each = λ n w. g.each n (h n w) }
+
+pub within_wider : {away wider : Name → Bool} {B : Name → File → Type 0} {d : Disk} → ((n : Name) → wider n ≡ false → away n ≡ false) → (f : Files) → Within away B d f → Within wider B d f
+within_wider h f i = record { each = λ n w. i.each n (h n w) }
+
+pub walks_wider : {V : Type 0} {disk : V → Option Disk} {count : V → ℕ} {left : V → ℕ → Files → Type 0} {away wider : Name → Bool} {B : Name → File → Type 0} {E : Disk → Type 0} {d : Disk} {v v' : V}
+    → ((n : Name) → wider n ≡ false → away n ≡ false) → Walks disk count left away B E d v v' → Walks disk count left wider B E d v v'
+walks_wider h w = record {
+  end = w.end;
+  told = w.told;
+  gains = gains_wider h w.gains;
+  leaves = leaves_more w.leaves (λ f x. within_wider h f x);
+  is = w.is;
+}

@@ -3,7 +3,7 @@ pub mod Disk
 pub mod Moments
 pub mod Crash
 pub mod Walks
-pub mod Store
+pub mod Replace
 pub mod Failures
 pub mod Events
 pub mod Places

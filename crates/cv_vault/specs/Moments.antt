@@ -21,3 +21,7 @@ pub record LeavesOnly {V : Type 0} (count : V → ℕ) (left : V → ℕ → Fil
   pub each : (f : Files) → left new (count old) f → P f
   -- for a run that began earlier
   pub before : (m : ℕ) (f : Files) → m ≤ count old → left new m f → left old m f ⊎ P f
+
+-- nothing but reads went by: the disk is as it was, marks included, and a crash leaves what it might have left before
+abbrev pub OnlyReads : {V : Type 0} (disk : V → Option Disk) (count : V → ℕ) (left : V → ℕ → Files → Type 0) → V → V → Type 0
+OnlyReads disk count left old new = Calls disk count left (λ d d'. d' ≡ d) old new

@@ -4,17 +4,17 @@
 #[cfg(test)]
 mod crash_tests;
 mod fate;
+mod files;
 mod memory_vault;
 mod mortal;
 mod place;
 mod schedule;
-mod store;
 mod table;
 #[cfg(test)]
 mod tests;
 mod vault;
 
+pub use files::{is_sure, move_in, put_on_way, replace};
 pub use memory_vault::MemoryVault;
 pub use mortal::Mortal;
-pub use store::store_file;
 pub use vault::{Vault, VaultFault};

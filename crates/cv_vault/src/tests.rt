@@ -1,5 +1,5 @@
 use crate::table::Table;
-use crate::{MemoryVault, Mortal, Vault, VaultFault, store_file};
+use crate::{MemoryVault, Mortal, Vault, VaultFault, replace};
 use std::alloc::Global;
 use std::test::Fail;
 
@@ -82,8 +82,8 @@ fn names_are_listed_in_ascending_order(rt: HostRuntime) -> Result<(), Fail> {
 fn a_stored_file_survives_a_crash(rt: HostRuntime) -> Result<(), Fail> {
     let alloc = rt.alloc();
     let mut vault = MemoryVault::new(alloc, Vec::new(alloc))?;
-    store_file(&mut vault, "txn/1", "head", b"first")?;
-    store_file(&mut vault, "txn/1", "head", b"second")?;
+    replace(&mut vault, "txn/1", "head", b"first")?;
+    replace(&mut vault, "txn/1", "head", b"second")?;
     let mut after = vault.crash(0);
     assert!(rt; has(&mut after, "head", b"second")?);
     assert!(rt; lacks(&mut after, "txn/1")?);

@@ -1,0 +1,15 @@
+-- What this crate proves for those above it, which cite it from here.
+
+-- names, one or another
+pub use Rattle.cv_vault.proofs.Names.{here, elsewhere, same_or_not}
+-- what stands after a rename that was made, what comes to a settled name, and the one image of a calm disk
+pub use Rattle.cv_vault.proofs.Calling.{renamed_to, renamed_from, renamed_elsewhere, settled_change, may_settled, calm_image, apart}
+-- what comes by each call
+pub use Rattle.cv_vault.proofs.Calling.{reads, measures, lists, writes, renames, removes, removes_away, syncs}
+-- reads, one after another: a walk by which nothing comes
+pub use Rattle.cv_vault.proofs.Quiet.{quiet_none, quiet_then, quiet_walks, quiet_same, quiet_call}
+-- walks, one after another, and with more names left out of account
+pub use Rattle.cv_vault.proofs.Walking.{stand, call, bind, looser, leaves_then, leaves_more, gains_none, gains_then, gains_more, within_image, within_then, within_more}
+pub use Rattle.cv_vault.proofs.Walking.{gains_wider, within_wider, walks_wider}
+-- syncs as walks
+pub use Rattle.cv_vault.proofs.Replacing.{ok, err, sync_ok, sync_err, calm_then}
