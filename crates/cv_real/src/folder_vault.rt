@@ -4,47 +4,63 @@ ghost use Rattle.cv_base.specs.Counts.{HasCause};
 ghost use Rattle.cv_vault.specs.declared.vault.VaultFault.TheVariants.{Failed};
 
 use crate::count::FaultCount;
+use crate::names::{NEXT, folder_of, is_name, is_root};
 use crate::paths::{
-    create_with_folders, folder_of, is_absence, is_file, is_memory, list_files, note, note_folders,
-    rename_with_folders, sync_below, sync_each, sync_path,
+    Unsynced, clear_below, find_file, is_memory, list_files, make_folders, move_file, note,
+    put_file, read_found, sync_folder, sync_folders,
 };
 use cv_base::{Bytes, Text};
 use cv_vault::{Vault, VaultFault};
 use std::alloc::{AllocError, Global};
-use std::fs::OpenFile;
-use std::io::{ErrorKind, Read, Write};
+use std::fs::{File, Metadata, OpenFile};
+use std::io::ErrorKind;
 use std::rt::Files;
 use std::{fs, io};
 
 /// The room for a path, from the constructor on. The system takes no longer path.
 const PATH_ROOM: usize = 4_096;
 
-/// A vault over a folder of regular files, in which each name is the path below the folder. Links and special files aren't
-/// names of the vault, and none of them is opened. It tells nothing of content.
-///
-/// A sync makes each file and each folder durable that was changed since the last one. The first sync of a process does so
-/// with all below the folder, since it can't know what a process before it left in the system's memory. After a sync that
-/// failed the system may take pages for written that aren't, so each later sync fails until the process ends.
+/// What a vault has of its folder.
 #[derive(Drop)]
-pub struct FolderVault<R: Files + AllocGlobal + Clone + Drop> {
-    rt: R,
-    root: String,
-    path: String,
-    files: Vec<String>,
-    folders: Vec<String>,
-    broken: bool,
-    settled: bool,
-    faults: FaultCount,
+enum Hold {
+    /// The folder is open and locked: no other vault holds it, in this process or another.
+    Held(File),
+    /// No folder is there. The first write makes it.
+    Absent,
+    /// Another vault holds the folder, or it couldn't be opened, locked or gone through. Each call fails.
+    Refused,
 }
 
-/// The bytes of a regular file.
-fn read_whole<R: Files>(rt: &R, alloc: Global, path: &str) -> io::Result<Vec<u8>> {
-    let mut file = fs::open(rt, path)?;
-    let length = file.metadata()?.len();
-    let room = usize::try_from(length).unwrap_or(0).saturating_add(1);
-    let mut bytes = Vec::with_capacity(alloc, room)?;
-    file.read_to_end(&mut bytes)?;
-    Ok(bytes)
+/// A vault over a folder of regular files, in which each name is the path below the folder.
+///
+/// A name has parts between slashes, none of which is empty, `.`, `..` or begins with `.cvkit-`, and no byte of it is NUL.
+/// Each call with another text fails. A name is there exactly where a regular file stands at it and folders stand above it
+/// up to the vault's own. Links, special files and what stands behind a link to a folder aren't names: no call opens,
+/// follows or removes one, but a write or a rename takes the place of one at its last part. It tells nothing of content.
+///
+/// A write makes a new file beside the name, makes its bytes durable and then gives it the name, so that a name has whole
+/// files at all times, and a file that others have under another name isn't changed. A sync makes the folders durable
+/// that changed since the last one. The first sync of a process does so with the folder, each one below it and the one
+/// above it, since it can't know what a process before it left in the system's memory. Where the system lost what was
+/// written to a folder it says so once, so each later sync fails until the process ends.
+///
+/// One vault at a time holds a folder, by the system's lock on it. Over a network the lock keeps out the vaults of the same
+/// machine alone. Nobody else may change the folder meanwhile.
+#[derive(Drop)]
+pub struct FolderVault<R: Files<File = File> + AllocGlobal + Clone + Drop> {
+    rt: R,
+    /// The folder's path, without a slash at its end.
+    root: String,
+    /// The path of the name that a call is about.
+    path: String,
+    /// The path of the adapter's own file beside that name.
+    next: String,
+    /// The folders to be synced.
+    folders: Vec<String>,
+    hold: Hold,
+    /// Whether the system lost what was written to a folder.
+    broken: bool,
+    faults: FaultCount,
 }
 
 /// The same names as texts of their own type.
@@ -56,34 +72,177 @@ fn as_texts(alloc: Global, names: Vec<String>) -> Result<Vec<Text>, AllocError> 
     Ok(texts)
 }
 
-impl<R: Files + AllocGlobal + Clone + Drop> FolderVault<R> {
-    /// The vault over the folder at this path, which need not be there yet.
+/// The error of a call that isn't made.
+fn refused() -> io::Error {
+    io::Error::from(ErrorKind::InvalidInput)
+}
+
+/// Opens and locks a folder whose path ends in a slash.
+fn lock_folder<R: Files<File = File>>(rt: &R, folder: &str) -> io::Result<File> {
+    let open = fs::open(rt, folder)?;
+    open.try_lock()?;
+    Ok(open)
+}
+
+/// Whether the error says that another process has made the folder, or holds it.
+fn is_taken(error: &io::Error) -> bool {
+    error.kind() == ErrorKind::AlreadyExists || error.kind() == ErrorKind::WouldBlock
+}
+
+/// Makes a folder, and opens and locks it by its path with a slash at the end. Where it can't be opened it goes again, so
+/// that a later try may make it.
+fn make_held<R: Files<File = File>>(rt: &R, folder: &str, with_slash: &str) -> io::Result<File> {
+    fs::create_dir(rt, folder)?;
+    let held = lock_folder(rt, with_slash);
+    if held.as_ref().is_err_and(|error| !is_taken(error)) {
+        let _ = fs::remove_dir(rt, folder);
+    }
+    held
+}
+
+/// Notes the folder above, where this process may read it, and all that is to be synced from the folder on.
+fn note_all<R: Files + AllocGlobal + Clone + Drop>(
+    rt: &R,
+    root: &str,
+    notes: &mut Vec<String>,
+) -> io::Result<()> {
+    let alloc = rt.alloc();
+    match fs::open(rt, folder_of(root)) {
+        Ok(_) => note(notes, folder_of(root))?,
+        Err(error) if error.kind() == ErrorKind::PermissionDenied => {}
+        Err(error) => return Err(error),
+    }
+    let folder = format!(in alloc; "{root}/")?;
+    clear_below(rt, folder.as_str(), notes)
+}
+
+impl<R: Files<File = File> + AllocGlobal + Clone + Drop> FolderVault<R> {
+    /// The vault over the folder at this path, which need not be there yet. It takes the memory of the first sync. Where
+    /// another vault holds the folder, or it can't be gone through, each call of the vault fails.
     pub fn new(rt: R, root: &str) -> Result<FolderVault<R>, AllocError> {
         let alloc = rt.alloc();
-        Ok(FolderVault {
+        let mut vault = FolderVault {
             root: String::from_str(alloc, root)?,
             path: String::with_capacity(alloc, PATH_ROOM)?,
-            files: Vec::new(alloc),
+            next: String::with_capacity(alloc, PATH_ROOM)?,
             folders: Vec::new(alloc),
+            hold: Hold::Refused,
             broken: false,
-            settled: false,
             faults: FaultCount::new(),
             rt,
-        })
+        };
+        match vault.hold_now() {
+            Ok(()) => {}
+            Err(error) if is_memory(&error) => return Err(AllocError),
+            Err(_) => vault.hold = Hold::Refused,
+        }
+        Ok(vault)
+    }
+
+    /// Holds the folder, if it is there.
+    fn hold_now(&mut self) -> io::Result<()>
+        ensures { self.new.faults ≡ self.old.faults }
+    {
+        if !is_root(self.root.as_str()) {
+            return Err(refused());
+        }
+        self.set_root()?;
+        match lock_folder(&self.rt, self.path.as_str()) {
+            Ok(open) => {
+                note_all(&self.rt, self.root.as_str(), &mut self.folders)?;
+                self.hold = Hold::Held(open);
+            }
+            Err(error) if error.kind() == ErrorKind::NotFound => self.hold = Hold::Absent,
+            Err(error) => return Err(error),
+        }
+        Ok(())
+    }
+
+    /// Makes the folder, which wasn't there, and holds it. What another process has made there since isn't taken: each
+    /// later call of the vault fails.
+    fn make_root(&mut self) -> io::Result<()>
+        ensures { self.new.faults ≡ self.old.faults }
+    {
+        note(&mut self.folders, folder_of(self.root.as_str()))?;
+        self.set_root()?;
+        match make_held(&self.rt, self.root.as_str(), self.path.as_str()) {
+            Ok(open) => {
+                self.hold = Hold::Held(open);
+                Ok(())
+            }
+            Err(error) => {
+                if is_taken(&error) {
+                    self.hold = Hold::Refused;
+                }
+                Err(error)
+            }
+        }
+    }
+
+    /// Makes the path of the folder, with a slash at its end, without taking memory.
+    fn set_root(&mut self) -> io::Result<()>
+        ensures { self.new.faults ≡ self.old.faults }
+    {
+        self.path.clear();
+        if self.root.len() + 1 >= PATH_ROOM {
+            return Err(refused());
+        }
+        self.path.push_str(self.root.as_str())?;
+        self.path.push('/')?;
+        Ok(())
     }
 
     /// Makes the path of a name, without taking memory.
     fn set_path(&mut self, name: &str) -> io::Result<()>
         ensures { self.new.faults ≡ self.old.faults }
     {
-        self.path.clear();
-        if self.root.len() + name.len() + 1 >= PATH_ROOM {
-            return Err(io::Error::from(ErrorKind::InvalidFilename));
+        if !is_name(name) || self.root.len() + name.len() + 1 >= PATH_ROOM {
+            return Err(refused());
         }
-        self.path.push_str(self.root.as_str())?;
-        self.path.push('/')?;
+        self.set_root()?;
         self.path.push_str(name)?;
         Ok(())
+    }
+
+    /// Makes the path of the own file beside the path that is set, without taking memory.
+    fn set_next(&mut self) -> io::Result<()>
+        ensures { self.new.faults ≡ self.old.faults }
+    {
+        let folder = folder_of(self.path.as_str());
+        self.next.clear();
+        if folder.len() + NEXT.len() >= PATH_ROOM {
+            return Err(refused());
+        }
+        self.next.push_str(folder)?;
+        self.next.push_str(NEXT)?;
+        Ok(())
+    }
+
+    /// Makes the path of a name, and tells whether the vault has a folder.
+    fn begin(&mut self, name: &str) -> io::Result<bool>
+        ensures { self.new.faults ≡ self.old.faults }
+    {
+        self.set_path(name)?;
+        self.is_held()
+    }
+
+    /// Whether the vault has a folder.
+    fn is_held(&self) -> io::Result<bool> {
+        match &self.hold {
+            Hold::Held(_) => Ok(true),
+            Hold::Absent => Ok(false),
+            Hold::Refused => Err(refused()),
+        }
+    }
+
+    /// The file of a name, if it is there. Its path is then set.
+    fn find(&mut self, name: &str) -> io::Result<Option<Metadata>>
+        ensures { self.new.faults ≡ self.old.faults }
+    {
+        if !self.begin(name)? {
+            return Ok(None);
+        }
+        find_file(&self.rt, self.path.as_str(), self.root.len() + 1)
     }
 
     /// One more fault.
@@ -109,79 +268,67 @@ impl<R: Files + AllocGlobal + Clone + Drop> FolderVault<R> {
     fn read_now(&mut self, name: &str) -> io::Result<Option<Vec<u8>>>
         ensures { self.new.faults ≡ self.old.faults }
     {
-        self.set_path(name)?;
-        if !is_file(&self.rt, self.path.as_str())? {
+        let Some(found) = self.find(name)? else {
             return Ok(None);
-        }
-        Ok(Some(read_whole(&self.rt, self.rt.alloc(), self.path.as_str())?))
+        };
+        let alloc = self.rt.alloc();
+        Ok(Some(read_found(&self.rt, alloc, self.path.as_str(), &found)?))
     }
 
     fn length_now(&mut self, name: &str) -> io::Result<Option<u64>>
         ensures { self.new.faults ≡ self.old.faults }
     {
-        self.set_path(name)?;
-        let found = fs::symlink_metadata(&self.rt, self.path.as_str())?;
-        if found.is_file() {
-            Ok(Some(found.len()))
-        } else {
-            Ok(None)
-        }
+        Ok(self.find(name)?.map(|found| found.len()))
     }
 
     fn list_now(&mut self, prefix: &str) -> io::Result<Vec<Text>>
         ensures { self.new.faults ≡ self.old.faults }
     {
+        let alloc = self.rt.alloc();
+        if !self.is_held()? {
+            return Ok(Vec::new(alloc));
+        }
         let names = list_files(&self.rt, self.root.as_str(), prefix)?;
-        Ok(as_texts(self.rt.alloc(), names)?)
+        Ok(as_texts(alloc, names)?)
     }
 
-    /// Opens the file and notes it, before anything is changed.
-    fn begin_write(&mut self, name: &str) -> io::Result<R::File>
+    fn write_now(&mut self, name: &str, bytes: &[u8]) -> io::Result<()>
         ensures { self.new.faults ≡ self.old.faults }
     {
-        self.set_path(name)?;
-        note(&mut self.files, self.path.as_str())?;
-        note(&mut self.folders, folder_of(self.path.as_str()))?;
-        match fs::create(&self.rt, self.path.as_str()) {
-            Err(error) if error.kind() == ErrorKind::NotFound => {
-                note_folders(&mut self.folders, self.path.as_str())?;
-                create_with_folders(&self.rt, self.path.as_str())
-            }
-            made => made,
+        if !self.begin(name)? {
+            self.make_root()?;
+            self.set_path(name)?;
         }
-    }
-
-    /// Notes what a rename from `source` to the path that is set will change.
-    fn note_rename(&mut self, source: &str) -> Result<(), AllocError>
-        ensures { self.new.faults ≡ self.old.faults }
-    {
-        note(&mut self.folders, folder_of(source))?;
-        note(&mut self.folders, folder_of(self.path.as_str()))?;
-        if self.files.iter().any(|known| known.as_str() == source) {
-            note(&mut self.files, self.path.as_str())?;
-        }
-        Ok(())
+        self.set_next()?;
+        make_folders(
+            &self.rt,
+            self.path.as_str(),
+            self.root.len() + 1,
+            &mut self.folders,
+        )?;
+        put_file(&self.rt, self.next.as_str(), self.path.as_str(), bytes)
     }
 
     /// Whether the file was there. From there on each error is a fault.
     fn rename_now(&mut self, from: &str, to: &str) -> io::Result<bool>
         ensures { self.new.faults ≡ self.old.faults }
     {
-        self.set_path(from)?;
-        let source = String::from_str(self.rt.alloc(), self.path.as_str())?;
-        if !is_file(&self.rt, source.as_str())? {
-            return Ok(false);
+        if !is_name(to) {
+            return Err(refused());
         }
-        self.set_path(to)?;
-        self.note_rename(source.as_str())?;
-        let done = match fs::rename(&self.rt, source.as_str(), self.path.as_str()) {
-            Err(error) if error.kind() == ErrorKind::NotFound => {
-                note_folders(&mut self.folders, self.path.as_str())?;
-                rename_with_folders(&self.rt, source.as_str(), self.path.as_str())
-            }
-            done => done,
+        let Some(found) = self.find(from)? else {
+            return Ok(false);
         };
-        done?;
+        let source = String::from_str(self.rt.alloc(), self.path.as_str())?;
+        self.set_path(to)?;
+        note(&mut self.folders, folder_of(source.as_str()))?;
+        make_folders(
+            &self.rt,
+            self.path.as_str(),
+            self.root.len() + 1,
+            &mut self.folders,
+        )?;
+        move_file(&self.rt, source.as_str(), &found, self.path.as_str())?;
         Ok(true)
     }
 
@@ -189,47 +336,47 @@ impl<R: Files + AllocGlobal + Clone + Drop> FolderVault<R> {
     fn remove_now(&mut self, name: &str) -> io::Result<bool>
         ensures { self.new.faults ≡ self.old.faults }
     {
-        self.set_path(name)?;
-        match fs::remove_file(&self.rt, self.path.as_str()) {
-            Ok(()) => {}
-            Err(error) if is_absence(error.kind()) => return Ok(false),
-            Err(error) => return Err(error),
+        if self.find(name)?.is_none() {
+            return Ok(false);
         }
         let folder = folder_of(self.path.as_str());
-        if note(&mut self.folders, folder).is_err() {
-            sync_path(&self.rt, folder)?;
+        if note(&mut self.folders, folder).is_ok() {
+            fs::remove_file(&self.rt, self.path.as_str())?;
+            return Ok(true);
+        }
+        let open = fs::open(&self.rt, folder)?;
+        fs::remove_file(&self.rt, self.path.as_str())?;
+        if let Err(error) = open.sync_all() {
+            self.broken = true;
+            return Err(error);
         }
         Ok(true)
-    }
-
-    /// Files before the folders that name them.
-    fn sync_all(&mut self) -> io::Result<()>
-        ensures { self.new.faults ≡ self.old.faults }
-    {
-        if !self.settled {
-            sync_below(&self.rt, self.root.as_str())?;
-            self.settled = true;
-        }
-        sync_each(&self.rt, &self.files)?;
-        sync_each(&self.rt, &self.folders)?;
-        self.files.clear();
-        self.folders.clear();
-        Ok(())
     }
 
     fn sync_now(&mut self) -> io::Result<()>
         ensures { self.new.faults ≡ self.old.faults }
     {
-        if self.broken {
-            return Err(io::Error::from(ErrorKind::InvalidData));
+        if !self.is_held()? {
+            return Ok(());
         }
-        let done = self.sync_all();
-        self.broken = done.is_err();
-        done
+        if self.broken {
+            return Err(refused());
+        }
+        match sync_folders(&self.rt, &self.folders) {
+            Ok(()) => {
+                self.folders.clear();
+                Ok(())
+            }
+            Err(Unsynced::NotOpened) => Err(refused()),
+            Err(Unsynced::Lost) => {
+                self.broken = true;
+                Err(refused())
+            }
+        }
     }
 }
 
-impl<R: Files + AllocGlobal + Clone + Drop> Vault for FolderVault<R> {
+impl<R: Files<File = File> + AllocGlobal + Clone + Drop> Vault for FolderVault<R> {
     ghost disk = { λ v. None };
 
     ghost faults = { λ v. v.faults.number };
@@ -246,7 +393,6 @@ impl<R: Files + AllocGlobal + Clone + Drop> Vault for FolderVault<R> {
         match self.read_now(name) {
             Ok(Some(bytes)) => Ok(Some(Bytes::new(bytes))),
             Ok(None) => Ok(None),
-            Err(error) if is_absence(error.kind()) => Ok(None),
             Err(error) => Err(self.fault_of(&error)),
         }
     }
@@ -254,7 +400,6 @@ impl<R: Files + AllocGlobal + Clone + Drop> Vault for FolderVault<R> {
     fn length(&mut self, name: &str) -> Result<Option<u64>, VaultFault> {
         match self.length_now(name) {
             Ok(length) => Ok(length),
-            Err(error) if is_absence(error.kind()) => Ok(None),
             Err(error) => Err(self.fault_of(&error)),
         }
     }
@@ -267,13 +412,9 @@ impl<R: Files + AllocGlobal + Clone + Drop> Vault for FolderVault<R> {
     }
 
     fn write(&mut self, name: &str, bytes: &[u8]) -> Result<(), VaultFault> {
-        let mut file = match self.begin_write(name) {
-            Ok(file) => file,
-            Err(error) => return Err(self.fault_of(&error)),
-        };
-        match file.write_all(bytes) {
+        match self.write_now(name, bytes) {
             Ok(()) => Ok(()),
-            Err(_) => Err(self.fault()),
+            Err(error) => Err(self.fault_of(&error)),
         }
     }
 

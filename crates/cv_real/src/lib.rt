@@ -4,12 +4,15 @@
 mod clock;
 mod count;
 mod folder_vault;
+mod names;
 mod paths;
 mod streams;
 mod texts;
 
 pub use clock::SystemClock;
-pub use count::FaultCount;
 pub use folder_vault::FolderVault;
 pub use streams::{StreamSink, StreamSource};
 pub use texts::{program_words, text_or_empty};
+
+#[cfg(test)]
+mod tests;

@@ -1,16 +1,21 @@
-//! Paths of a folder, and notes of what is to be synced.
+//! What stands in a folder, without going through a link, and what of it is to be synced. A folder's path ends in a slash:
+//! the system then opens nothing but a folder there.
 
+use crate::names::{NEXT, OWN, folder_of};
 use std::alloc::{AllocError, Global};
-use std::fs::OpenFile;
-use std::io::ErrorKind;
+use std::fs::{File, Metadata, OpenFile};
+use std::io::{ErrorKind, Read, Write};
+use std::os::unix::fs::MetadataExt;
 use std::rt::Files;
 use std::{fs, io};
 
-/// Whether the error says that nothing stands there as a file.
-pub fn is_absence(kind: ErrorKind) -> bool {
-    kind == ErrorKind::NotFound
-        || kind == ErrorKind::NotADirectory
-        || kind == ErrorKind::IsADirectory
+/// A sync that didn't come to its end.
+#[derive(Clone, Copy)]
+pub enum Unsynced {
+    /// A folder couldn't be opened. The system told nothing of what was written, and a later try is as good as this one.
+    NotOpened,
+    /// The system said that it lost what was written. It says so once.
+    Lost,
 }
 
 /// Whether the error is want of memory in this process, and not an error that the system gave.
@@ -18,122 +23,216 @@ pub fn is_memory(error: &io::Error) -> bool {
     error.kind() == ErrorKind::OutOfMemory && error.raw_os_error().is_none()
 }
 
-/// The folder that a path stands in.
-pub fn folder_of(path: &str) -> &str {
-    match path.rsplit_once('/') {
-        Some((folder, _)) => folder,
-        None => ".",
+/// What stands at a path, where something does. Of a link this tells the link itself.
+pub fn seen(rt: &impl Files, path: &str) -> io::Result<Option<Metadata>> {
+    match fs::symlink_metadata(rt, path) {
+        Ok(found) => Ok(Some(found)),
+        Err(error) => match error.kind() {
+            ErrorKind::NotFound | ErrorKind::NotADirectory => Ok(None),
+            _ => Err(error),
+        },
     }
 }
 
-/// Notes a path once.
-pub fn note(notes: &mut Vec<String>, path: &str) -> Result<(), AllocError> {
-    if notes.iter().any(|known| known.as_str() == path) {
+/// Whether both tell of the same file.
+pub fn is_same(one: &Metadata, other: &Metadata) -> bool {
+    one.dev() == other.dev() && one.ino() == other.ino()
+}
+
+/// Whether each folder of the path that stands past the first `from` bytes is a folder, and no link to one.
+fn has_folders(rt: &impl Files, path: &str, from: usize) -> io::Result<bool> {
+    for end in from..path.len() {
+        if let Some((folder, rest)) = path.split_at_checked(end) {
+            if rest.starts_with('/') && !seen(rt, folder)?.is_some_and(|found| found.is_dir()) {
+                return Ok(false);
+            }
+        }
+    }
+    Ok(true)
+}
+
+/// The regular file at a path, if one is there. The first `from` bytes of the path aren't looked at.
+pub fn find_file(rt: &impl Files, path: &str, from: usize) -> io::Result<Option<Metadata>> {
+    if !has_folders(rt, path, from)? {
+        return Ok(None);
+    }
+    Ok(seen(rt, path)?.filter(|found| found.is_file()))
+}
+
+/// Notes a folder once.
+pub fn note(notes: &mut Vec<String>, folder: &str) -> Result<(), AllocError> {
+    if notes.iter().any(|known| known.as_str() == folder) {
         return Ok(());
     }
     let alloc: Global = *notes.allocator();
-    notes.push(String::from_str(alloc, path)?)?;
+    notes.push(String::from_str(alloc, folder)?)?;
     Ok(())
 }
 
-/// Notes the folder of a path and each one above it, since making a folder changes the one above.
-pub fn note_folders(notes: &mut Vec<String>, path: &str) -> Result<(), AllocError> {
-    let mut rest = path;
-    for _ in 0..path.len() {
-        let folder = folder_of(rest);
-        note(notes, folder)?;
-        if folder == "." {
-            break;
+/// Makes a folder where nothing stands, and notes the one that it comes into.
+fn make_folder(rt: &impl Files, folder: &str, notes: &mut Vec<String>) -> io::Result<()> {
+    match seen(rt, folder)? {
+        Some(found) if found.is_dir() => Ok(()),
+        Some(_) => Err(io::Error::from(ErrorKind::NotADirectory)),
+        None => {
+            note(notes, folder_of(folder))?;
+            fs::create_dir(rt, folder)
         }
-        rest = folder;
     }
-    Ok(())
 }
 
-/// Makes a file, and the folders above it where they are missing.
-pub fn create_with_folders<R: Files>(rt: &R, path: &str) -> io::Result<R::File> {
-    match fs::create(rt, path) {
-        Err(error) if error.kind() == ErrorKind::NotFound => {
-            fs::create_dir_all(rt, folder_of(path))?;
-            fs::create(rt, path)
+/// Makes the folders of the path that are missing past its first `from` bytes, and notes each folder that changes and the
+/// one that the path stands in.
+pub fn make_folders(
+    rt: &impl Files,
+    path: &str,
+    from: usize,
+    notes: &mut Vec<String>,
+) -> io::Result<()> {
+    for end in from..path.len() {
+        if let Some((folder, rest)) = path.split_at_checked(end) {
+            if rest.starts_with('/') {
+                make_folder(rt, folder, notes)?;
+            }
+        }
+    }
+    Ok(note(notes, folder_of(path))?)
+}
+
+/// The bytes of a file that was found. What has come into its place since then is not read.
+pub fn read_found<R: Files>(
+    rt: &R,
+    alloc: Global,
+    path: &str,
+    found: &Metadata,
+) -> io::Result<Vec<u8>> {
+    let mut file = fs::open(rt, path)?;
+    let opened = file.metadata()?;
+    if !opened.is_file() || !is_same(found, &opened) {
+        return Err(io::Error::from(ErrorKind::InvalidData));
+    }
+    let room = usize::try_from(opened.len()).unwrap_or(0).saturating_add(1);
+    let mut bytes = Vec::with_capacity(alloc, room)?;
+    file.read_to_end(&mut bytes)?;
+    Ok(bytes)
+}
+
+/// A new file, which nobody else has. What an earlier process left under that name goes.
+fn create_next<R: Files>(rt: &R, path: &str) -> io::Result<R::File> {
+    match File::create_new(rt, path) {
+        Err(error) if error.kind() == ErrorKind::AlreadyExists => {
+            fs::remove_file(rt, path)?;
+            File::create_new(rt, path)
         }
         made => made,
     }
 }
 
-/// Renames a file, and makes the folders above its new place where they are missing.
-pub fn rename_with_folders(rt: &impl Files, from: &str, to: &str) -> io::Result<()> {
-    match fs::rename(rt, from, to) {
-        Err(error) if error.kind() == ErrorKind::NotFound => {
-            fs::create_dir_all(rt, folder_of(to))?;
-            fs::rename(rt, from, to)
-        }
-        done => done,
+/// Makes a new file with these bytes, durable before it has the name.
+fn put_next<R: Files>(rt: &R, next: &str, path: &str, bytes: &[u8]) -> io::Result<()> {
+    let mut file = create_next(rt, next)?;
+    file.write_all(bytes)?;
+    file.sync_all()?;
+    fs::rename(rt, next, path)
+}
+
+/// Makes a new file with these bytes under `next`, and gives it its name once they are durable. Where that fails the file
+/// goes again.
+pub fn put_file<R: Files>(rt: &R, next: &str, path: &str, bytes: &[u8]) -> io::Result<()> {
+    let done = put_next(rt, next, path, bytes);
+    if done.is_err() {
+        let _ = fs::remove_file(rt, next);
     }
+    done
 }
 
-/// Whether a regular file stands at the path. A link to one isn't one.
-pub fn is_file(rt: &impl Files, path: &str) -> io::Result<bool> {
-    match fs::symlink_metadata(rt, path) {
-        Ok(found) => Ok(found.is_file()),
-        Err(error) if is_absence(error.kind()) => Ok(false),
-        Err(error) => Err(error),
+/// Gives a file another name. Of two names of one file the system's own rename leaves both.
+pub fn move_file(rt: &impl Files, from: &str, found: &Metadata, to: &str) -> io::Result<()> {
+    if found.nlink() > 1 && seen(rt, to)?.is_some_and(|other| is_same(found, &other)) {
+        return fs::remove_file(rt, from);
     }
+    fs::rename(rt, from, to)
 }
 
-/// Makes what stands at the path durable.
-pub fn sync_path(rt: &impl Files, path: &str) -> io::Result<()> {
-    let file = fs::open(rt, path)?;
-    file.sync_all()
-}
-
-/// Makes each path durable. One that is gone since needs no sync of its own.
-pub fn sync_each(rt: &impl Files, paths: &Vec<String>) -> io::Result<()> {
-    for path in paths {
-        match sync_path(rt, path.as_str()) {
-            Err(error) if is_absence(error.kind()) => {}
-            done => done?,
-        }
-    }
-    Ok(())
-}
-
-/// Makes each file and each folder below a folder durable.
-pub fn sync_below<R: Files + AllocGlobal + Clone + Drop>(rt: &R, root: &str) -> io::Result<()> {
-    let mut todo = Vec::new(rt.alloc());
-    todo.push(String::from_str(rt.alloc(), root)?)
-        .map_err(AllocError::from)?;
-    for _ in 0..u64::MAX {
-        let Some(folder) = todo.pop() else {
-            break;
-        };
-        sync_folder(rt, folder.as_str(), &mut todo)?;
+/// Makes what a folder holds durable, by names alone.
+pub fn sync_folder(rt: &impl Files, folder: &str) -> Result<(), Unsynced> {
+    let Ok(open) = fs::open(rt, folder) else {
+        return Err(Unsynced::NotOpened);
+    };
+    if open.sync_all().is_err() {
+        return Err(Unsynced::Lost);
     }
     Ok(())
 }
 
-/// Makes the files of a folder and then the folder durable, and adds the folders in it to what is to be done.
-fn sync_folder<R: Files + AllocGlobal + Clone + Drop>(
+/// Makes each folder durable.
+pub fn sync_folders(rt: &impl Files, folders: &Vec<String>) -> Result<(), Unsynced> {
+    for folder in folders {
+        sync_folder(rt, folder.as_str())?;
+    }
+    Ok(())
+}
+
+/// Whether a listing goes on without what this error hides: a name that isn't UTF-8, a path that is longer than the system
+/// takes, or nothing at all. No name of a vault is behind it.
+fn is_no_name(error: &io::Error) -> bool {
+    error.kind() == ErrorKind::InvalidFilename || error.kind() == ErrorKind::NotFound
+}
+
+/// What stands at an entry of a folder. Nothing stands at one whose path is longer than the system takes.
+fn seen_entry<R: Files>(rt: &R, path: &str) -> io::Result<Option<Metadata>> {
+    match seen(rt, path) {
+        Err(error) if is_no_name(&error) => Ok(None),
+        found => found,
+    }
+}
+
+/// Removes what an earlier process left in a folder, and adds the folders in it to what is to be done.
+fn clear_folder<R: Files + AllocGlobal + Clone + Drop>(
     rt: &R,
     folder: &str,
     todo: &mut Vec<String>,
 ) -> io::Result<()> {
-    let entries = match fs::read_dir(rt, folder) {
-        Ok(entries) => entries,
-        Err(error) if is_absence(error.kind()) => return Ok(()),
-        Err(error) => return Err(error),
-    };
-    for entry in entries {
-        let entry = entry?;
-        let kind = entry.file_type()?;
-        if kind.is_dir() {
-            let below = String::from_str(rt.alloc(), entry.path().as_str())?;
+    for entry in fs::read_dir(rt, folder)? {
+        let entry = match entry {
+            Err(error) if is_no_name(&error) => continue,
+            entry => entry?,
+        };
+        let last = entry.file_name();
+        let path = entry.path();
+        if last == NEXT {
+            let _ = fs::remove_file(rt, path);
+        } else if !last.starts_with(OWN)
+            && seen_entry(rt, path.as_str())?.is_some_and(|found| found.is_dir())
+        {
+            let below = format!(in rt.alloc(); "{folder}{last}/")?;
             todo.push(below).map_err(AllocError::from)?;
-        } else if kind.is_file() {
-            sync_path(rt, entry.path().as_str())?;
         }
     }
-    sync_path(rt, folder)
+    Ok(())
+}
+
+/// Notes a folder and each one below it that this process may read, and removes what an earlier process left there.
+pub fn clear_below<R: Files + AllocGlobal + Clone + Drop>(
+    rt: &R,
+    root: &str,
+    notes: &mut Vec<String>,
+) -> io::Result<()> {
+    let mut todo = Vec::new(rt.alloc());
+    todo.push(String::from_str(rt.alloc(), root)?)
+        .map_err(AllocError::from)?;
+    // Each turn takes one folder of the disk; the bound is never met.
+    for _ in 0..u64::MAX {
+        let Some(folder) = todo.pop() else {
+            break;
+        };
+        match clear_folder(rt, folder.as_str(), &mut todo) {
+            Ok(()) => notes.push(folder).map_err(AllocError::from)?,
+            Err(error) if error.kind() == ErrorKind::PermissionDenied || is_no_name(&error) => {}
+            Err(error) => return Err(error),
+        }
+    }
+    Ok(())
 }
 
 /// The names below a root that begin with the prefix, in ascending order of bytes.
@@ -146,11 +245,15 @@ pub fn list_files<R: Files + AllocGlobal + Clone + Drop>(
     let mut todo = Vec::new(rt.alloc());
     todo.push(String::new(rt.alloc()))
         .map_err(AllocError::from)?;
+    // Each turn takes one folder of the disk; the bound is never met.
     for _ in 0..u64::MAX {
         let Some(folder) = todo.pop() else {
             break;
         };
-        list_folder(rt, root, folder.as_str(), prefix, &mut found, &mut todo)?;
+        match list_folder(rt, root, folder.as_str(), prefix, &mut found, &mut todo) {
+            Err(error) if is_no_name(&error) => {}
+            done => done?,
+        }
     }
     found.sort_unstable();
     Ok(found)
@@ -166,23 +269,28 @@ fn list_folder<R: Files + AllocGlobal + Clone + Drop>(
     todo: &mut Vec<String>,
 ) -> io::Result<()> {
     let at = format!(in rt.alloc(); "{root}/{folder}")?;
-    let entries = match fs::read_dir(rt, at.as_str()) {
-        Ok(entries) => entries,
-        Err(error) if is_absence(error.kind()) => return Ok(()),
-        Err(error) => return Err(error),
-    };
-    for entry in entries {
-        let entry = entry?;
-        let name = entry.file_name();
-        let path = format!(in rt.alloc(); "{folder}{name}")?;
-        let kind = entry.file_type()?;
+    for entry in fs::read_dir(rt, at.as_str())? {
+        let entry = match entry {
+            Err(error) if is_no_name(&error) => continue,
+            entry => entry?,
+        };
+        let last = entry.file_name();
+        if last.starts_with(OWN) {
+            continue;
+        }
+        let name = format!(in rt.alloc(); "{folder}{last}")?;
+        let below = format!(in rt.alloc(); "{name}/")?;
+        let is_found = name.as_str().starts_with(prefix);
+        if !is_found && !prefix.starts_with(below.as_str()) {
+            continue;
+        }
+        let Some(kind) = seen_entry(rt, entry.path().as_str())? else {
+            continue;
+        };
         if kind.is_dir() {
-            let below = format!(in rt.alloc(); "{path}/")?;
-            if below.as_str().starts_with(prefix) || prefix.starts_with(below.as_str()) {
-                todo.push(below).map_err(AllocError::from)?;
-            }
-        } else if kind.is_file() && path.as_str().starts_with(prefix) {
-            found.push(path).map_err(AllocError::from)?;
+            todo.push(below).map_err(AllocError::from)?;
+        } else if kind.is_file() && is_found {
+            found.push(name).map_err(AllocError::from)?;
         }
     }
     Ok(())

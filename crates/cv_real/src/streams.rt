@@ -11,6 +11,7 @@ use std::io::{ErrorKind, Read, Write};
 fn read_retrying<T: Read>(inner: &mut T, buf: &mut [u8]) -> io::Result<usize>
     ensures { ReadsAtMost result buf.new }
 {
+    // Each turn but the last is a signal; the bound is never met.
     for _ in 0..u64::MAX {
         match inner.read(buf) {
             Err(error) if error.kind() == ErrorKind::Interrupted => {}
@@ -24,6 +25,7 @@ fn read_retrying<T: Read>(inner: &mut T, buf: &mut [u8]) -> io::Result<usize>
 fn write_retrying<T: Write>(inner: &mut T, bytes: &[u8]) -> io::Result<usize>
     ensures { IfOk result (λ count. (count ≤ length bytes.now) × (0 < count)) }
 {
+    // Each turn but the last is a signal; the bound is never met.
     for _ in 0..u64::MAX {
         match inner.write(bytes) {
             Ok(0) => return Err(io::Error::from(ErrorKind::WriteZero)),

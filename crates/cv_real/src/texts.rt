@@ -1,16 +1,19 @@
 //! Words and small texts of the environment.
 
+use crate::paths::is_memory;
 use cv_base::NoMemory;
 use std::alloc::AllocError;
-use std::io::ErrorKind;
 use std::rt::{Env, Files};
-use std::{env, fs};
+use std::{env, fs, io};
+
+/// The most bytes that a text is read of. More than each text of the product may have.
+const TEXT_LIMIT: u64 = 16_777_216;
 
 /// The words after the program's name. None where the words can't be had, since one of them isn't UTF-8.
 pub fn program_words<R: Env + AllocGlobal>(rt: &R) -> Result<Option<Vec<String>>, NoMemory> {
     let arguments = match env::args(rt) {
         Ok(arguments) => arguments,
-        Err(error) if error.kind() == ErrorKind::OutOfMemory => return Err(NoMemory),
+        Err(error) if is_memory(&error) => return Err(NoMemory),
         Err(_) => return Ok(None),
     };
     let mut words = Vec::new(rt.alloc());
@@ -20,11 +23,21 @@ pub fn program_words<R: Env + AllocGlobal>(rt: &R) -> Result<Option<Vec<String>>
     Ok(Some(words))
 }
 
-/// The text of a file. Empty where the file is missing, can't be read or isn't UTF-8.
+/// The text of a regular file of at most 16,777,216 bytes. A pipe or a device, which may have no end, isn't opened.
+fn regular_text<R: Files + AllocGlobal>(rt: &R, name: &str) -> io::Result<String> {
+    let found = fs::metadata(rt, name)?;
+    if !found.is_file() || found.len() > TEXT_LIMIT {
+        return Ok(String::new(rt.alloc()));
+    }
+    fs::read_to_string(rt, name)
+}
+
+/// The text of a regular file. Empty where no such file is there, it has more than 16,777,216 bytes, can't be read or
+/// isn't UTF-8.
 pub fn text_or_empty<R: Files + AllocGlobal>(rt: &R, name: &str) -> Result<String, NoMemory> {
-    match fs::read_to_string(rt, name) {
+    match regular_text(rt, name) {
         Ok(text) => Ok(text),
-        Err(error) if error.kind() == ErrorKind::OutOfMemory => Err(NoMemory),
+        Err(error) if is_memory(&error) => Err(NoMemory),
         Err(_) => Ok(String::new(rt.alloc())),
     }
 }
