@@ -13,7 +13,7 @@ use base64::DecodeAllocError;
 use base64::engine::general_purpose::STANDARD;
 use cv_base::{Bytes, NoMemory, digest_digits};
 use cv_json::read_object;
-use cv_seal::hmac_sha1;
+use cv_seal::{hmac_sha1, same_bytes};
 use std::alloc::Global;
 use std::marker::Model;
 
@@ -158,5 +158,5 @@ fn is_mac(keys: &[Key], place: usize, mac: &[u8], message: &[u8]) -> bool
     ensures { result ≡ is_mac (slice_get keys.now place) mac.now message.now }
 {
     let own = digest_digits(&hmac_sha1(keys[place].secret.as_str().as_bytes(), message));
-    mac == own.as_slice()
+    same_bytes(mac, &own)
 }

@@ -4,6 +4,7 @@ ghost use Rattle.std.specs.Str.{bytes_eq};
 ghost use Rattle.cv_seal.specs.Hmac.{hmac_sha1};
 ghost use Rattle.cv_seal.specs.Seals.{bytes_eq-itself};
 
+use crate::compare::same_bytes;
 use crate::hmac::hmac_sha1;
 use crate::signer::Signer;
 use cv_base::{Bytes, NoMemory};
@@ -49,6 +50,6 @@ impl Signer for KeyedHash {
 
     fn verifies(&self, text: &[u8], seal: &[u8]) -> bool {
         let own = hmac_sha1(self.secret.as_bytes(), text);
-        seal == own.as_slice()
+        same_bytes(seal, &own)
     }
 }

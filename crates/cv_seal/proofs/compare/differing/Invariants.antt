@@ -1,0 +1,7 @@
+use Rattle.std.proofs.Common.{◌≡◌, ℕ, length, ◌==◌, ◌+◌, ◌-◌, ◌*◌, ◌<◌, ◌≤◌, ◌&&◌, drop}
+use Rattle.std.specs.Str.{bytes_eq}
+use Rattle.cv_seal.proofs.compare.differing.Given as goal
+
+abbrev pub invariant-loop-place : goal.invariant-loop-place
+invariant-loop-place l =
+    bytes_eq l.one l.other ≡ ((l.found == 0) && bytes_eq (drop l.place l.one) (drop l.place l.other))
