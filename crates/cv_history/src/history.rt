@@ -30,6 +30,7 @@ fn record_of(alloc: Global, id: &ObjectId, bytes: &Bytes) -> Result<Record, Chai
 fn record_at<S: Shelf>(alloc: Global, shelf: &mut S, id: &ObjectId) -> Result<Record, ChainFault>
     ensures told { WhereTold (S.shelf shelf.old) (λ standing. Reads standing id.now result) }
     ensures named { IfOk result (Names id.now) }
+    ensures reads { S.reads shelf.old shelf.new }
     ensures unchanged { S.shelf shelf.new ≡ S.shelf shelf.old }
     ensures cause { HasCause (S.faults shelf.old) (S.faults shelf.new) (IsErrOf result fault.Failed) }
     ensures taken { S.taken shelf.new ≡ raised (S.taken shelf.old) }
@@ -52,6 +53,7 @@ fn records_back<S: Shelf>(
 ) -> Result<Vec<Record>, ChainFault>
     ensures told { WhereTold (S.shelf shelf.old) (λ standing. GivesBack standing revision last.now result) }
     ensures linked { IfOk result (λ rs. Chain Names revision last.now (reverse rs.items)) }
+    ensures reads { S.reads shelf.old shelf.new }
     ensures unchanged { S.shelf shelf.new ≡ S.shelf shelf.old }
     ensures cause { HasCause (S.faults shelf.old) (S.faults shelf.new) (IsErrOf result fault.Failed) }
     ensures fetches { S.taken shelf.new ≤ S.taken shelf.old + revision }
@@ -97,6 +99,7 @@ pub fn chain<S: Shelf>(
 
     // Also where the shelf doesn't tell, each record has the hash by which it was named.
     ensures linked { IfOk result (λ rs. Chain Names revision last.now rs.items) }
+    ensures reads { S.reads shelf.old shelf.new }
     ensures unchanged { S.shelf shelf.new ≡ S.shelf shelf.old }
     ensures cause { HasCause (S.faults shelf.old) (S.faults shelf.new) (IsErrOf result fault.Failed) }
     ensures fetches { S.taken shelf.new ≤ S.taken shelf.old + revision }

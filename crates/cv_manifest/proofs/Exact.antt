@@ -53,7 +53,7 @@ one_said lines a b a-say b-say =
     ∙ ap (λ (x : List ℕ). made b.name b.ttl b.head.revision b.head.root b.head.size x a.head.time) history
     ∙ ap (λ (x : ℕ). made b.name b.ttl b.head.revision b.head.root b.head.size b.head.history x) time
 
-one_reading : (is_seal : Seals) (text : List ℕ) (a b : Manifest) → Says is_seal text a → Says is_seal text b → a ≡ b
+pub one_reading : (is_seal : Seals) (text : List ℕ) (a b : Manifest) → Says is_seal text a → Says is_seal text b → a ≡ b
 one_reading is_seal text a b a-reads b-reads =
     let parts = one_parts text a-reads.parts b-reads.parts a-reads.has b-reads.has in
     let say : LinesSay b-reads.parts.lines a = subst (λ (p : Parts). LinesSay p.lines a) parts a-reads.say in

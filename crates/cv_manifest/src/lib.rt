@@ -4,6 +4,7 @@
 mod field;
 mod fields;
 mod head;
+pub mod laws;
 mod line;
 mod manifest;
 mod manifest_fault;

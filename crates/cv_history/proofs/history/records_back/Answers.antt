@@ -36,6 +36,7 @@ records-preserved g c =
       linked = rw c.in-Ok.ensures.items
           (leads_more Names _ _ _ c.records.wanted (c.records.wanted - 1) c.records.id c.in_ok-record.record some
           c.records.invariant.linked c.in_ok-record.ensures.named c.if-record-wanted.false);
+      reads = g.met.S.Shelf.reads_then _ _ _ c.records.invariant.reads c.in_ok-record.ensures.reads;
       unchanged = c.in_ok-record.ensures.unchanged ∙ c.records.invariant.unchanged;
       later = omega (arith, c.in_ok-record.ensures.cause.later);
       fetches = omega (arith, c.in_ok-record.ensures.taken);
