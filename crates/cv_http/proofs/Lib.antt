@@ -5,3 +5,4 @@ pub mod Windows
 pub mod Streams
 pub mod Refusals
 pub mod OneReading
+pub mod Lemmas

@@ -1,6 +1,6 @@
 -- What is judged of the bytes held holds of all that is left.
-use Rattle.std.proofs.Common.{◌≡◌, ◌≤◌, ◌-◌, ◌++◌, ℕ, List, length, take, drop, refl, ap, sym, subst, ◌∙◌, append_assoc, append-nil, arith, inl, inr, length-append}
-use Rattle.std.specs.Prelude.{Option, Some, None}
+use Rattle.std.proofs.Common.{◌≡◌, ◌≤◌, ◌-◌, ◌++◌, ℕ, List, [], length, take, drop, refl, ap, sym, subst, ◌∙◌, append_assoc, append-nil, arith, inl, inr, length-append}
+use Rattle.std.specs.Prelude.{Option, Some, None, Result, Ok, Err, IsErrAnd}
 use Rattle.std.proofs.lemmas.List.{take-append-le, take-append-drop, take_all}
 use Rattle.std.proofs.lemmas.Bool.{cases_lt}
 use Rattle.std.proofs.Math.Seq.{take-append-add}
@@ -10,8 +10,14 @@ use Rattle.httparse.proofs.GrammarLemmas.{ReadsRequest-append}
 use Rattle.cv_ports.specs.Streams.{front}
 use Rattle.cv_ports.proofs.Streams.{front_twice}
 use Rattle.cv_http.specs.Heads.{window, HasHead, Begins, Never, Unfinished, Refused, never, large, judged}
+use Rattle.cv_http.specs.Heads.{IsCut}
+use Rattle.cv_http.specs.Wires.{WireView, Gets, Reads, HeadRead, BodyRead}
+use Rattle.cv_http.specs.Faults.{IsRefusal, IsPieceFault}
 use Rattle.cv_http.specs.declared.head.RequestHead.{RequestHead}
 use Rattle.cv_http.specs.declared.fault.HttpFault.{HttpFault}
+use Rattle.cv_http.specs.declared.fault.HttpFault.TheVariants.{BadHead, HeadTooLarge, BodyTooLarge, NoLength, Coding, Short, ReadFault, NoMemory}
+
+-- ---- where a source tells
 
 -- a piece more is held, and left no more
 pub reads_on : (held piece held' : List ℕ) (old new : Option (List ℕ)) → held' ≡ held ++ piece → old ≡ front piece new → front held' new ≡ front held old
@@ -29,10 +35,95 @@ front_some : (held : List ℕ) (left : Option (List ℕ)) (b : List ℕ) → fro
 front_some held None b h = cc
 front_some held (Some l) b h = (l, refl, cc)
 
+-- ---- what was got
+
+-- nothing was got
+pub gets_none : (left : Option (List ℕ)) (held : List ℕ) → Gets left left held held
+gets_none None held = record { got = []; told = refl; more = sym (append-nil held) }
+gets_none (Some l) held = record { got = []; told = refl; more = sym (append-nil held) }
+
+-- nothing was got, and the same is held
+pub gets_same : (left : Option (List ℕ)) (held held' : List ℕ) → held' ≡ held → Gets left left held held'
+gets_same left held held' same = subst (Gets left left held) (sym same) (gets_none left held)
+
+-- what was got, and then more
+pub gets_on : {a b c : Option (List ℕ)} {h h' h'' : List ℕ} → Gets a b h h' → Gets b c h' h'' → Gets a c h h''
+gets_on {a} {b} {c} {h} {h'} {h''} first then_ = record {
+  got = first.got ++ then_.got;
+  told = first.told ∙ ap (front first.got) then_.told ∙ front_twice c first.got then_.got;
+  more = then_.more ∙ ap (λ x. x ++ then_.got) first.more ∙ append_assoc h first.got then_.got;
+}
+
+-- a part more of a body
+pub parted : (body body' held held' : List ℕ) (n : ℕ) → body' ≡ body ++ take n held → held' ≡ drop n held → body' ++ held' ≡ body ++ held
+parted body body' held held' n is then_ = rw (is, then_) (append_assoc body (take n held) (drop n held) ∙ ap (λ x. body ++ x) (take-append-drop n held))
+
+module _ {R : Type 0} (left : R → Option (List ℕ)) where
+  -- what was got is so, with what was held before
+  pub reads_of : (w w' : WireView R) (held : List ℕ) (Are : List ℕ → Type 0) → Gets (left w.source) (left w'.source) w.held held → Are held → Reads left w w' Are
+  reads_of w w' held Are gets are = record { got = gets.got; told = gets.told; are = subst Are gets.more are }
+
+  -- no part of a body yet
+  pub body_none : (w : WireView R) → Reads left w w (λ b. b ≡ [] ++ w.held)
+  body_none w = reads_of w w w.held (λ b. b ≡ w.held) (gets_none (left w.source) w.held) refl
+
+  -- a part more
+  pub body_on : (w0 w m w' : WireView R) (body body' : List ℕ) → Reads left w0 w (λ b. b ≡ body ++ w.held) → Gets (left w.source) (left m.source) w.held m.held
+      → w'.source ≡ m.source → body' ++ w'.held ≡ body ++ m.held → Reads left w0 w' (λ b. b ≡ body' ++ w'.held)
+  body_on w0 w m w' body body' r g source parts = record {
+    got = r.got ++ g.got;
+    told = r.told ∙ ap (front r.got) g.told ∙ front_twice (left m.source) r.got g.got ∙ ap (λ s. front (r.got ++ g.got) (left s)) (sym source);
+    are = sym (append_assoc w0.held r.got g.got) ∙ ap (λ x. x ++ g.got) r.are ∙ append_assoc body w.held g.got ∙ ap (λ x. body ++ x) (sym g.more) ∙ sym parts;
+  }
+
+  -- what was read, and then more of it was got
+  pub reads_then : (w0 w w' : WireView R) (P Q S : List ℕ → Type 0) → Reads left w0 w P → Reads left w w' Q
+      → ((b more : List ℕ) → P b → Q (w.held ++ more) → S (b ++ more)) → Reads left w0 w' S
+  reads_then w0 w w' P Q S r q joins = record {
+    got = r.got ++ q.got;
+    told = r.told ∙ ap (front r.got) q.told ∙ front_twice (left w'.source) r.got q.got;
+    are = subst S (append_assoc w0.held r.got q.got) (joins (w0.held ++ r.got) q.got r.are q.are);
+  }
+
+  -- what was read, in other words
+  pub reads_as : (w w' : WireView R) (P Q : List ℕ → Type 0) → Reads left w w' P → ((b : List ℕ) → P b → Q b) → Reads left w w' Q
+  reads_as w w' P Q r as_ = record { got = r.got; told = r.told; are = as_ (w.held ++ r.got) r.are }
+
+  -- nothing was read
+  pub reads_none : (w : WireView R) (P : List ℕ → Type 0) → P w.held → Reads left w w P
+  reads_none w P are = reads_of w w w.held P (gets_none (left w.source) w.held) are
+
+  -- more was got, and a part of it is lost
+  pub reads_lost : (w0 w m w' : WireView R) (P : List ℕ → Type 0) → Reads left w0 w P → Gets (left w.source) (left m.source) w.held m.held → w'.source ≡ m.source
+      → Reads left w0 w' (λ b. Unit {0})
+  reads_lost w0 w m w' P r g source = record {
+    got = r.got ++ g.got;
+    told = r.told ∙ ap (front r.got) g.told ∙ front_twice (left m.source) r.got g.got ∙ ap (λ s. front (r.got ++ g.got) (left s)) (sym source);
+    are = tt;
+  }
+
+-- a fault that is handed on
+pub by_fault : {A : Type 0} (r : Result A HttpFault) (fault : HttpFault) (P : Result A HttpFault → Type 0) → IsErrAnd r (λ d. d ≡ fault) → P (Err fault) → P r
+by_fault (Ok made) fault P h p = absurd h
+by_fault (Err d) fault P h p = subst (λ (x : HttpFault). P (Err x)) (sym h) p
+
+-- a body that wasn't read for a fault of the source or want of memory
+pub body_unread : {A : Type 0} (P : List ℕ → A → Type 0) (b held : List ℕ) (size : ℕ) (fault : HttpFault) → IsPieceFault fault → BodyRead size P b held (Err fault)
+body_unread P b held size BadHead is = absurd is
+body_unread P b held size HeadTooLarge is = absurd is
+body_unread P b held size BodyTooLarge is = absurd is
+body_unread P b held size NoLength is = absurd is
+body_unread P b held size Coding is = absurd is
+body_unread P b held size Short is = absurd is
+body_unread P b held size ReadFault is = tt
+body_unread P b held size NoMemory is = tt
+
+-- ---- what was judged
+
 has_head_on : {held later : List ℕ} {parsed : ParsedHead} (l : List ℕ) → HasHead held parsed later → HasHead (held ++ l) parsed (later ++ l)
 has_head_on {held} {later} {parsed} l has = record { reads = ReadsRequest-append held parsed later l has.reads; limit = has.limit }
 
-begins_on : {held later : List ℕ} {head : RequestHead} (l : List ℕ) → Begins held head later → Begins (held ++ l) head (later ++ l)
+pub begins_on : {held later : List ℕ} {head : RequestHead} (l : List ℕ) → Begins held head later → Begins (held ++ l) head (later ++ l)
 begins_on l begins = record { parsed = begins.parsed; has = has_head_on l begins.has; faultless = begins.faultless; says = begins.says }
 
 -- the first bytes of more are more of the first bytes
@@ -56,7 +147,7 @@ unfinished_on {held} l long h =
     let same : window (held ++ l) ≡ window held = take-append-le 16384 held l long in
     record { not_yet = subst HasNoRequest (sym same) h.not_yet; may = subst MayBecomeRequest (sym same) h.may }
 
-refused_on : {held : List ℕ} {fault : HttpFault} (l : List ℕ) → Refused held fault → Refused (held ++ l) fault
+pub refused_on : {held : List ℕ} {fault : HttpFault} (l : List ℕ) → Refused held fault → Refused (held ++ l) fault
 refused_on l (never h) = never (never_on l h)
 refused_on {held} l (large long h) = large (rw length-append (omega (arith, long))) (unfinished_on l long h)
 refused_on l (judged parsed later fault has is) = judged parsed (later ++ l) fault (has_head_on l has) is
@@ -71,3 +162,24 @@ pub told_refused : (held : List ℕ) (fault : HttpFault) (left : Option (List �
 told_refused held fault left b refused told =
     let at = front_some held left b told in
     subst (λ (x : List ℕ). Refused x fault) (sym at.2) (refused_on at.0 refused)
+
+-- the bytes read are refused, or weren't judged
+pub read_refused : {b held : List ℕ} (fault : HttpFault) → IsRefusal fault → Refused b fault → held ≡ b → HeadRead b held (Err fault)
+read_refused BadHead is refused same = (refused, same)
+read_refused HeadTooLarge is refused same = (refused, same)
+read_refused BodyTooLarge is refused same = (refused, same)
+read_refused NoLength is refused same = (refused, same)
+read_refused Coding is refused same = (refused, same)
+read_refused Short is refused same = absurd is
+read_refused ReadFault is refused same = absurd is
+read_refused NoMemory is refused same = absurd is
+
+pub read_nothing : {b held : List ℕ} (fault : HttpFault) → IsPieceFault fault → held ≡ b → HeadRead b held (Err fault)
+read_nothing BadHead is same = absurd is
+read_nothing HeadTooLarge is same = absurd is
+read_nothing BodyTooLarge is same = absurd is
+read_nothing NoLength is same = absurd is
+read_nothing Coding is same = absurd is
+read_nothing Short is same = absurd is
+read_nothing ReadFault is same = same
+read_nothing NoMemory is same = same

@@ -1,6 +1,11 @@
--- What is still to be read.
-use Rattle.std.specs.Prelude.{ℕ, List, Option}
+-- What is still to be read, and what was read.
+use Rattle.std.specs.Prelude.{◌≡◌, ◌<◌, ◌++◌, ℕ, List, [], length, Option, Result, Ok, Err}
+use Rattle.std.specs.declared.option.Option.TheVariants.{Some, None}
 use Rattle.cv_ports.specs.Streams.{front}
+use Rattle.cv_http.specs.Heads.{Begins, Refused, IsCut}
+use Rattle.cv_http.specs.declared.head.RequestHead.{RequestHead}
+use Rattle.cv_http.specs.declared.fault.HttpFault.{HttpFault}
+use Rattle.cv_http.specs.declared.fault.HttpFault.TheVariants.{BadHead, HeadTooLarge, BodyTooLarge, NoLength, Coding, Short, ReadFault, NoMemory}
 
 -- a source, and what it gave that wasn't used yet
 pub record WireView (R : Type 0) : Type 0 where
@@ -10,3 +15,53 @@ pub record WireView (R : Type 0) : Type 0 where
 -- the bytes that weren't used yet, where they are told
 abbrev pub rest : {R : Type 0} → (R → Option (List ℕ)) → WireView R → Option (List ℕ)
 rest left wire = front wire.held (left wire.source)
+
+-- so much was got of a source, and is held behind what was held
+pub record Gets (left left' : Option (List ℕ)) (held held' : List ℕ) : Type 0 where
+  pub got : List ℕ
+  pub told : left ≡ front got left'
+  pub more : held' ≡ held ++ got
+
+-- the bytes that were read meanwhile, those held before and then those got of the source, are so
+pub record Reads {R : Type 0} (left : R → Option (List ℕ)) (wire wire' : WireView R) (Are : List ℕ → Type 0) : Type 0 where
+  pub got : List ℕ
+  pub told : left wire.source ≡ front got (left wire'.source)
+  pub are : Are (wire.held ++ got)
+
+-- what the bytes read are where a head was asked for, and which of them are still held
+abbrev pub HeadRead : List ℕ → List ℕ → Result (Option RequestHead) HttpFault → Type 0
+HeadRead b held (Ok (Some head)) = Begins b head held
+HeadRead b held (Ok None) = (b ≡ []) × (held ≡ b)
+HeadRead b held (Err Short) = IsCut b × (held ≡ b)
+HeadRead b held (Err ReadFault) = held ≡ b
+HeadRead b held (Err NoMemory) = held ≡ b
+HeadRead b held (Err BadHead) = Refused b BadHead × (held ≡ b)
+HeadRead b held (Err HeadTooLarge) = Refused b HeadTooLarge × (held ≡ b)
+HeadRead b held (Err BodyTooLarge) = Refused b BodyTooLarge × (held ≡ b)
+HeadRead b held (Err NoLength) = Refused b NoLength × (held ≡ b)
+HeadRead b held (Err Coding) = Refused b Coding × (held ≡ b)
+
+-- what the bytes read are where so many bytes were asked for: a body of which this was made, and then what is still held;
+-- or fewer, where the input ended
+abbrev pub BodyRead : {A : Type 0} → ℕ → (List ℕ → A → Type 0) → List ℕ → List ℕ → Result A HttpFault → Type 0
+BodyRead size Made b held (Ok made) = (body : List ℕ) × (b ≡ body ++ held) × (length body ≡ size) × Made body made
+BodyRead size Made b held (Err Short) = length b < size
+BodyRead size Made b held (Err BadHead) = Unit {0}
+BodyRead size Made b held (Err HeadTooLarge) = Unit {0}
+BodyRead size Made b held (Err BodyTooLarge) = Unit {0}
+BodyRead size Made b held (Err NoLength) = Unit {0}
+BodyRead size Made b held (Err Coding) = Unit {0}
+BodyRead size Made b held (Err ReadFault) = Unit {0}
+BodyRead size Made b held (Err NoMemory) = Unit {0}
+
+-- the same where a piece was asked for, one byte at least
+abbrev pub PieceRead : List ℕ → List ℕ → Result (List ℕ) HttpFault → Type 0
+PieceRead b held (Ok piece) = b ≡ piece ++ held
+PieceRead b held (Err Short) = b ≡ []
+PieceRead b held (Err BadHead) = Unit {0}
+PieceRead b held (Err HeadTooLarge) = Unit {0}
+PieceRead b held (Err BodyTooLarge) = Unit {0}
+PieceRead b held (Err NoLength) = Unit {0}
+PieceRead b held (Err Coding) = Unit {0}
+PieceRead b held (Err ReadFault) = Unit {0}
+PieceRead b held (Err NoMemory) = Unit {0}

@@ -1,10 +1,10 @@
 //! Requests on a stream.
-ghost use Rattle.std.specs.Prelude.{◌≡◌, ◌≢◌, ◌≤◌, ◌<◌, ◌+◌, ◌++◌, ℕ, List, Option, Some, None, Ok, Err, [], length, drop, true, false, min, OnOk, OnErr, IfOk, IfSome, IfErr, IsTrue};
+ghost use Rattle.std.specs.Prelude.{◌≡◌, ◌≢◌, ◌≤◌, ◌<◌, ◌+◌, ◌++◌, ℕ, List, Some, None, Ok, Err, [], length, drop, true, false, min, OnOk, OnErr, IfOk, IfSome, IfErr};
 ghost use Rattle.cv_base.specs.Counts.{HasCause};
 ghost use Rattle.cv_base.specs.Told.{WhereTold};
 ghost use Rattle.cv_ports.specs.Streams.{front};
-ghost use Rattle.cv_http.specs.Wires.{WireView, rest};
 ghost use Rattle.cv_http.specs.Heads.{Begins, Refused, IsCut};
+ghost use Rattle.cv_http.specs.Wires.{WireView, rest, Gets, Reads, HeadRead, BodyRead, PieceRead};
 ghost use Rattle.cv_http.specs.Judgements.{Judges};
 ghost use Rattle.cv_http.specs.Faults.{IsHeadFault, IsBodyFault, IsPieceFault};
 ghost use Rattle.cv_http.specs.declared.fault.HttpFault.TheVariants.{Short, ReadFault, NoMemory as MemoryFault};
@@ -47,7 +47,7 @@ impl<R: Source + Drop> Model for Wire<R> {
 }
 
 /// Reads a piece to the end of what is held. `false` is the end of the source.
-#[tactic(auto, using(crate::proofs::Streams::reads_on))]
+#[tactic(auto, using(crate::proofs::Streams::reads_on, crate::proofs::Streams::gets_none))]
 fn read_piece<R: Source>(
     source: &mut R,
     piece: &mut [u8],
@@ -55,6 +55,7 @@ fn read_piece<R: Source>(
 ) -> Result<bool, HttpFault>
     requires { 0 < length piece.old }
     ensures stream { front held.new.items (R.left source.new) ≡ front held.old.items (R.left source.old) }
+    ensures gets { Gets (R.left source.old) (R.left source.new) held.old.items held.new.items }
     ensures more { result ≡ Ok true → length held.old.items < length held.new.items }
     ensures end { result ≡ Ok false → (held.new.items ≡ held.old.items) × WhereTold (R.left source.new) (λ left. left ≡ []) }
     ensures faults { IfErr result IsPieceFault }
@@ -119,8 +120,10 @@ impl<R: Source + Drop> Wire<R> {
     }
 
     /// Reads more of the source. `false` is its end.
+    #[tactic(auto, using(crate::proofs::Streams::gets_same))]
     fn fill(&mut self) -> Result<bool, HttpFault>
         ensures stream { rest R.left self.new ≡ rest R.left self.old }
+        ensures gets { Gets (R.left self.old.source) (R.left self.new.source) self.old.held self.new.held }
         ensures more { result ≡ Ok true → length self.old.held < length self.new.held }
         ensures end { result ≡ Ok false → (self.new.held ≡ self.old.held) × WhereTold (R.left self.new.source) (λ left. left ≡ []) }
         ensures faults { IfErr result IsPieceFault }
@@ -147,6 +150,7 @@ impl<R: Source + Drop> Wire<R> {
     /// Reads the next head (RFC 9112, sections 2 and 3). `None` is the end of the input where a head might begin. A whole
     /// head is answered before more is read. A fault takes nothing of what is left.
     pub fn read_head(&mut self, alloc: Global) -> Result<Option<RequestHead>, HttpFault>
+        ensures reads { Reads R.left self.old self.new (λ b. HeadRead b self.new.held result) }
         ensures head { IfOk result (λ found. IfSome found (λ head. WhereTold (rest R.left self.old) (λ b.
             (later : List ℕ) × (rest R.left self.new ≡ Some later) × Begins b head later))) }
         ensures end { result ≡ Ok None → WhereTold (rest R.left self.old) (λ b. b ≡ []) }
@@ -187,6 +191,7 @@ impl<R: Source + Drop> Wire<R> {
     /// Holds a byte at least, unless the source is at its end.
     fn has_some(&mut self) -> Result<bool, HttpFault>
         ensures stream { rest R.left self.new ≡ rest R.left self.old }
+        ensures gets { Gets (R.left self.old.source) (R.left self.new.source) self.old.held self.new.held }
         ensures some { result ≡ Ok true → 0 < length self.new.held }
         ensures end { result ≡ Ok false → (self.new.held ≡ []) × WhereTold (R.left self.new.source) (λ left. left ≡ []) }
         ensures faults { IfErr result IsPieceFault }
@@ -199,9 +204,10 @@ impl<R: Source + Drop> Wire<R> {
     }
 
     /// Moves what is held to a body, so many bytes at most.
-    #[tactic(auto, using(crate::proofs::Streams::parts_on))]
+    #[tactic(auto, using(crate::proofs::Streams::parts_on, crate::proofs::Streams::parted))]
     fn take_part(&mut self, body: &mut Vec<u8>, most: usize) -> Result<(), NoMemory>
         ensures stream { OnOk result (front body.new.items (rest R.left self.new) ≡ front body.old.items (rest R.left self.old)) }
+        ensures parts { OnOk result (body.new.items ++ self.new.held ≡ body.old.items ++ self.old.held) }
         ensures moved { OnOk result (length body.new.items ≡ length body.old.items + min (length self.old.held) most) }
         ensures source { self.new.source ≡ self.old.source }
     {
@@ -211,9 +217,31 @@ impl<R: Source + Drop> Wire<R> {
         Ok(())
     }
 
+    /// Reads the next bytes, `left` and 65,536 of them at most, and one at least.
+    pub fn read_some(&mut self, alloc: Global, left: u64) -> Result<Bytes, HttpFault>
+        requires { 0 < left }
+        ensures reads { Reads R.left self.old self.new (λ b. PieceRead b self.new.held result) }
+        ensures some { IfOk result (λ piece. 0 < length piece) }
+        ensures most { IfOk result (λ piece. length piece ≤ left) }
+        ensures cut { result ≡ Err Short → WhereTold (R.left self.new.source) (λ left. left ≡ []) }
+        ensures faults { IfErr result IsBodyFault }
+        ensures cause { HasCause (R.faults self.old.source) (R.faults self.new.source) (result ≡ Err ReadFault) }
+    {
+        if !self.has_some()? {
+            return Err(HttpFault::Short);
+        }
+        let most = left.min(PIECE as u64) as usize;
+        let mut piece = Vec::new(alloc);
+        if self.take_part(&mut piece, most).is_err() {
+            return Err(HttpFault::NoMemory);
+        }
+        Ok(Bytes::new(piece))
+    }
+
     /// Reads the next `size` bytes. The memory that is taken grows with what has come, not with `size`. After a fault a
     /// part of the bytes may be lost.
     pub fn read_body(&mut self, alloc: Global, size: u64) -> Result<Bytes, HttpFault>
+        ensures reads { Reads R.left self.old self.new (λ b. BodyRead size (λ text body. body ≡ text) b self.new.held result) }
         ensures whole { IfOk result (λ body. length body ≡ size) }
         ensures body { IfOk result (λ body. front body (rest R.left self.new) ≡ rest R.left self.old) }
         ensures short { result ≡ Err Short → WhereTold (rest R.left self.old) (λ b. length b < size) }
