@@ -61,6 +61,10 @@ reason_back reason.MissingMember = refl
 reason_back reason.WrongType = refl
 reason_back reason.BadValue = refl
 reason_back reason.UnknownRepository = refl
+reason_back reason.BadMessageSize = refl
+reason_back reason.BadDigest = refl
+reason_back reason.BadPack = refl
+reason_back reason.BadHeaderSize = refl
 
 member_back : (name : Member) → is_named name ≡ true → member_of (member_name name) ≡ Some name
 member_back Path h = refl

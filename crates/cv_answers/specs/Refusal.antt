@@ -30,6 +30,10 @@ reason_text reason.MissingMember = codes "missing_member"
 reason_text reason.WrongType = codes "wrong_type"
 reason_text reason.BadValue = codes "bad_value"
 reason_text reason.UnknownRepository = codes "unknown_repository"
+reason_text reason.BadMessageSize = codes "bad_message_size"
+reason_text reason.BadDigest = codes "bad_digest"
+reason_text reason.BadPack = codes "bad_pack"
+reason_text reason.BadHeaderSize = codes "bad_header_size"
 
 -- the members of a refusal without a member's name
 abbrev pub reason_members : Reason → Members
@@ -47,7 +51,8 @@ abbrev pub reasons : List Reason
 reasons =
     reason.BadPath ∷ reason.TooManyLeases ∷ reason.NoParent ∷ reason.InvalidToken ∷ reason.WrongKey ∷ reason.JournalFull
     ∷ reason.NoMemory ∷ reason.NoAuthorization ∷ reason.BadAuthorization ∷ reason.UnknownKey ∷ reason.WrongMac
-    ∷ reason.NotJson ∷ reason.MissingMember ∷ reason.WrongType ∷ reason.BadValue ∷ reason.UnknownRepository ∷ []
+    ∷ reason.NotJson ∷ reason.MissingMember ∷ reason.WrongType ∷ reason.BadValue ∷ reason.UnknownRepository ∷ reason.BadMessageSize
+    ∷ reason.BadDigest ∷ reason.BadPack ∷ reason.BadHeaderSize ∷ []
 
 -- the reason whose text a text is
 abbrev pub reason_of : List ℕ → Option Reason

@@ -2,7 +2,7 @@
 ghost use Rattle.std.specs.Prelude.{◌≡◌};
 
 /// All reasons.
-const REASONS: [Reason; 16] = [
+const REASONS: [Reason; 20] = [
     Reason::BadPath,
     Reason::TooManyLeases,
     Reason::NoParent,
@@ -19,6 +19,10 @@ const REASONS: [Reason; 16] = [
     Reason::WrongType,
     Reason::BadValue,
     Reason::UnknownRepository,
+    Reason::BadMessageSize,
+    Reason::BadDigest,
+    Reason::BadPack,
+    Reason::BadHeaderSize,
 ];
 
 /// Why a request is refused.
@@ -56,6 +60,14 @@ pub enum Reason {
     BadValue,
     /// The path is not of this repository.
     UnknownRepository,
+    /// Message-Size is lacking, is no decimal, or is too large.
+    BadMessageSize,
+    /// The pack's header hasn't the digest that the message says.
+    BadDigest,
+    /// The pack has a fault.
+    BadPack,
+    /// The pack's header has another length than the message says.
+    BadHeaderSize,
 }
 
 impl Reason {
@@ -102,6 +114,10 @@ impl Reason {
             Reason::WrongType => "wrong_type",
             Reason::BadValue => "bad_value",
             Reason::UnknownRepository => "unknown_repository",
+            Reason::BadMessageSize => "bad_message_size",
+            Reason::BadDigest => "bad_digest",
+            Reason::BadPack => "bad_pack",
+            Reason::BadHeaderSize => "bad_header_size",
         }
     }
 }

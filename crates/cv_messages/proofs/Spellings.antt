@@ -33,7 +33,7 @@ none (Some x) never = absurd (never x refl)
 same_bytes : (text : List ℕ) → bytes_eq text text ≡ true
 same_bytes text = (bytes_eq-Decides text text).1 refl
 
-decimal_of-decimal : (n : ℕ) → n < 2 ^ 64 → decimal_of (decimal n) ≡ Some n
+pub decimal_of-decimal : (n : ℕ) → n < 2 ^ 64 → decimal_of (decimal n) ≡ Some n
 decimal_of-decimal n small =
     let value : digits_value 10 (decimal n) ≡ n = (decimal_is_IsNumeral n small).1 in
     rw (value, lt-ltb n (2 ^ 64) small, same_bytes (decimal n)) refl

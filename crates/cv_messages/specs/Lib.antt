@@ -2,3 +2,4 @@ pub mod Spelling
 pub mod Member
 pub mod MemberName
 pub mod LeaseAsk
+pub mod PayloadAsk

@@ -3,7 +3,7 @@ use Rattle.std.specs.Prelude.{ℕ, List, Option, Some, None, Result, Ok, Err}
 use Rattle.serde_json.specs.Data.{Data, Num}
 use Rattle.serde_json.specs.Find.{as_str, as_number, as_u64}
 use Rattle.cv_base.specs.declared.token.Token.{Token}
-use Rattle.cv_messages.specs.Spelling.{token_of, digest_of}
+use Rattle.cv_messages.specs.Spelling.{decimal_of, token_of, digest_of}
 use Rattle.cv_messages.specs.declared.message_fault.MessageFault.{MessageFault}
 use Rattle.cv_messages.specs.declared.message_fault.MessageFault.TheVariants.{Missing, WrongType, BadValue, NoMemory}
 use Rattle.cv_messages.specs.declared.member.Member.{Member}
@@ -50,3 +50,13 @@ token_member name value = and_then (text_member name value) (λ text. known name
 -- a member that has to be there, and forty digits
 abbrev pub digest_member : Member → Option Data → Result (List ℕ) MessageFault
 digest_member name value = and_then (text_member name value) (λ text. known name (digest_of text))
+
+-- a value that has to be the text of a decimal, or a whole number
+abbrev pub size_of : Member → Option (List ℕ) → Option Num → Result ℕ MessageFault
+size_of name (Some text) number = known name (decimal_of text)
+size_of name None number = whole_of name number
+
+-- a member that has to be there, and such a number below 2^64
+abbrev pub size_member : Member → Option Data → Result ℕ MessageFault
+size_member name None = Err (Missing name)
+size_member name (Some d) = size_of name (as_str d) (as_number d)

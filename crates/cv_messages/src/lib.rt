@@ -5,12 +5,16 @@ mod lease_ask;
 mod member;
 mod members;
 mod message_fault;
+mod payload_ask;
 mod spelled_members;
 #[cfg(test)]
 mod tests;
 
 pub use lease_ask::LeaseAsk;
 pub use member::Member;
-pub use members::{digest_member, number_member, text_member, token_member};
+pub use members::{
+    decimal_in, digest_member, number_member, size_member, text_member, token_member,
+};
 pub use message_fault::MessageFault;
+pub use payload_ask::PayloadAsk;
 pub use spelled_members::{with_digest, with_token};

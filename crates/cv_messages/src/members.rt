@@ -2,11 +2,12 @@
 ghost use Rattle.std.specs.Prelude.{◌≡◌, Ok, Err, MatchResult};
 ghost use Rattle.serde_json.specs.Find.{get};
 ghost use Rattle.serde_json.specs.View.{view};
-ghost use Rattle.cv_messages.specs.Member.{text_member, number_member, token_member, digest_member};
+ghost use Rattle.cv_messages.specs.Member.{text_member, number_member, size_member, token_member, digest_member};
+ghost use Rattle.cv_messages.specs.Spelling.{decimal_of};
 
 use crate::member::Member;
 use crate::message_fault::MessageFault;
-use cv_base::{Token, read_digest};
+use cv_base::{Token, read_decimal, read_digest};
 use serde_json::Value;
 
 /// The text of a member.
@@ -23,6 +24,16 @@ pub fn text_member<'a>(value: &'a Value, key: &str, name: Member) -> Result<&'a 
     }
 }
 
+/// The whole number that the value of a member is.
+fn whole_number(member: &Value, name: Member) -> Result<u64, MessageFault>
+    ensures { result ≡ number_member name (Some (view member.now)) }
+{
+    let Some(number) = member.as_number() else {
+        return Err(MessageFault::WrongType(name));
+    };
+    number.as_u64().ok_or(MessageFault::BadValue(name))
+}
+
 /// The whole number of a member.
 pub fn number_member(value: &Value, key: &str, name: Member) -> Result<u64, MessageFault>
     ensures { result ≡ number_member name (get key.now (view value.now)) }
@@ -30,10 +41,30 @@ pub fn number_member(value: &Value, key: &str, name: Member) -> Result<u64, Mess
     let Some(member) = value.get(key) else {
         return Err(MessageFault::Missing(name));
     };
-    let Some(number) = member.as_number() else {
-        return Err(MessageFault::WrongType(name));
+    whole_number(member, name)
+}
+
+/// The number that a text is the decimal of.
+pub fn decimal_in(text: &str) -> Option<u64>
+    ensures { result ≡ decimal_of text.now }
+{
+    match read_decimal(text.as_bytes()) {
+        Some(number) => Some(number),
+        None => None,
+    }
+}
+
+/// The whole number of a member, which may be the text of a decimal.
+pub fn size_member(value: &Value, key: &str, name: Member) -> Result<u64, MessageFault>
+    ensures { result ≡ size_member name (get key.now (view value.now)) }
+{
+    let Some(member) = value.get(key) else {
+        return Err(MessageFault::Missing(name));
     };
-    number.as_u64().ok_or(MessageFault::BadValue(name))
+    if let Some(text) = member.as_str() {
+        return decimal_in(text).ok_or(MessageFault::BadValue(name));
+    }
+    whole_number(member, name)
 }
 
 /// The token of a member.

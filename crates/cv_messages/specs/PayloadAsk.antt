@@ -1,0 +1,26 @@
+-- The message of a payload.
+use Rattle.std.specs.Prelude.{ℕ, List, codes, Option, Some, None, Result, Ok, Err}
+use Rattle.serde_json.specs.Data.{Data}
+use Rattle.serde_json.specs.Find.{get}
+use Rattle.cv_json.specs.ObjectText.{object_in}
+use Rattle.cv_messages.specs.Member.{and_then, text_member, digest_member, size_member}
+use Rattle.cv_messages.specs.declared.payload_ask.PayloadAsk.{PayloadAsk}
+use Rattle.cv_messages.specs.declared.member.Member.TheVariants.{SessionToken, Digest, HeaderSize}
+use Rattle.cv_messages.specs.declared.message_fault.MessageFault.{MessageFault}
+use Rattle.cv_messages.specs.declared.message_fault.MessageFault.TheVariants.{NotJson}
+
+-- the message that an object is, or its first fault
+abbrev pub payload_ask_members : Data → Result PayloadAsk MessageFault
+payload_ask_members d =
+    and_then (text_member SessionToken (get (codes "session_token") d)) (λ token.
+    and_then (digest_member Digest (get (codes "payload_digest") d)) (λ digest.
+    and_then (size_member HeaderSize (get (codes "header_size") d)) (λ size.
+    Ok (record { token = token; digest = digest; header_size = size }))))
+
+abbrev pub payload_ask_in : Option Data → Result PayloadAsk MessageFault
+payload_ask_in None = Err NotJson
+payload_ask_in (Some d) = payload_ask_members d
+
+-- the message that a text is, or its first fault
+abbrev pub payload_ask_of : List ℕ → Result PayloadAsk MessageFault
+payload_ask_of text = payload_ask_in (object_in text)

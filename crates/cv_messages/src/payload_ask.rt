@@ -1,0 +1,56 @@
+//! The message of a payload.
+ghost use Rattle.std.specs.Prelude.{◌≡◌, Ok, Err, MatchResult};
+ghost use Rattle.serde_json.specs.View.{view};
+ghost use Rattle.cv_messages.specs.Member.{IsSaid};
+ghost use Rattle.cv_messages.specs.PayloadAsk.{payload_ask_members};
+
+use crate::member::Member;
+use crate::members::{digest_member, size_member, text_member};
+use crate::message_fault::MessageFault;
+use cv_base::{NoMemory, Text};
+use cv_json::read_object;
+use serde_json::Value;
+use std::alloc::Global;
+
+/// Says of a pack that follows to which lease it belongs.
+#[derive(Debug, Drop)]
+pub struct PayloadAsk {
+    /// The text of the lease's token.
+    pub token: Text,
+    /// The SHA-1 of the pack's header (FIPS 180-4).
+    pub digest: [u8; 20],
+    /// The bytes of the pack's header.
+    pub header_size: u64,
+}
+
+/// The message that an object is.
+fn read_members(alloc: Global, value: &Value) -> Result<PayloadAsk, MessageFault>
+    ensures { MatchResult result (λ ask. payload_ask_members (view value.now) ≡ Ok ask) (λ fault. IsSaid fault (payload_ask_members (view value.now) ≡ Err fault)) }
+{
+    let token = text_member(value, "session_token", Member::SessionToken)?;
+    let digest = digest_member(value, "payload_digest", Member::Digest)?;
+    let header_size = size_member(value, "header_size", Member::HeaderSize)?;
+    match Text::from_str(alloc, token) {
+        Ok(token) => Ok(PayloadAsk {
+            token,
+            digest,
+            header_size,
+        }),
+        Err(NoMemory) => Err(MessageFault::NoMemory),
+    }
+}
+
+impl PayloadAsk {
+    ghost use Rattle.cv_messages.specs.PayloadAsk.{payload_ask_of};
+
+    /// The message that bytes are: a JSON object with the texts `session_token` and `payload_digest`, and `header_size`.
+    pub fn read(alloc: Global, bytes: &[u8]) -> Result<PayloadAsk, MessageFault>
+        ensures { MatchResult result (λ ask. payload_ask_of bytes.now ≡ Ok ask) (λ fault. IsSaid fault (payload_ask_of bytes.now ≡ Err fault)) }
+    {
+        match read_object(alloc, bytes) {
+            Ok(Some(value)) => read_members(alloc, &value),
+            Ok(None) => Err(MessageFault::NotJson),
+            Err(NoMemory) => Err(MessageFault::NoMemory),
+        }
+    }
+}
