@@ -1,6 +1,9 @@
 pub mod Fits
 pub mod Gathers
+pub mod Grafts
+pub mod Made
 pub mod Maps
 pub mod PathLimits
 pub mod Replacements
 pub mod Shapes
+pub mod Laws

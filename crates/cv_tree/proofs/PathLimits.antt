@@ -80,14 +80,6 @@ stripped-None p q front names is_front is_names apart =
 pub IsPath-behind : (p q rest : Path) → IsPath q → behind p q ≡ Some rest → IsPath rest
 IsPath-behind p q rest h is = IsPath-back p rest (subst IsPath (behind-Some p q rest is) h)
 
--- all names but the last are the parent's
-pub take-parent : (p : Path) → take (length p - 1) p ≡ parent p
-take-parent [] = refl
-take-parent (a ∷ []) = refl
-take-parent (a ∷ b ∷ p) =
-    let one : length (a ∷ b ∷ p) - 1 ≡ suc (length (b ∷ p) - 1) = omega arith in
-    rw one (ap (λ w. a ∷ w) (take-parent (b ∷ p)))
-
 -- one more of the names behind a start was joined
 pub joined-next : (start names path : Path) (i : ℕ) (name : List ℕ) (longer : Path) → IsPath (start ++ names) → path ++ drop i names ≡ start ++ names
     → i < length names → name ≡ get_or names i name → Ok longer ≡ joined path name → longer ++ drop (i + 1) names ≡ start ++ names

@@ -13,7 +13,7 @@ fn extended(alloc: Global, start: RepoPath, names: &[PathName]) -> Result<RepoPa
     let mut path = start;
     for name in names {
         // The path keeps its limits, so that only memory may be wanting.
-        let Ok(longer) = path.join(alloc, name.as_str()) else {
+        let Ok(longer) = path.with_name(alloc, name.as_str()) else {
             return Err(NoMemory);
         };
         path = longer;
@@ -22,14 +22,10 @@ fn extended(alloc: Global, start: RepoPath, names: &[PathName]) -> Result<RepoPa
 }
 
 /// The path without its last name. The root stays as it is.
-pub(crate) fn parent(alloc: Global, path: &RepoPath) -> Result<RepoPath, NoMemory>
+pub fn parent(alloc: Global, path: &RepoPath) -> Result<RepoPath, NoMemory>
     ensures { IfOk result (λ above. above ≡ parent path.now) }
 {
-    let root = RepoPath::root(alloc);
-    match path.names() {
-        [] => Ok(root),
-        [above @ .., _last] => extended(alloc, root, above),
-    }
+    Ok(path.copy(alloc)?.into_parent())
 }
 
 /// A path with those of another behind it.

@@ -10,6 +10,7 @@ mod tests;
 mod tree;
 mod tree_fault;
 
+pub use joined::parent;
 pub use node::{FileRef, Node};
 pub use part::Part;
 pub use tree::Tree;

@@ -55,6 +55,22 @@ impl NodeMap {
         Ok(nodes)
     }
 
+    /// The map of these entries. Of several at one path the first counts.
+    #[tactic(auto, using(crate::proofs::Made::one_made, crate::proofs::Made::all_made))]
+    pub(crate) fn of_entries(
+        alloc: Global,
+        entries: Vec<(RepoPath, Node)>,
+    ) -> Result<NodeMap, NoMemory>
+        ensures { IfOk result (λ made. made ≡ map.from_entries entries.items) }
+    {
+        let mut made = NodeMap::new(alloc);
+        let mut rest = entries;
+        'entries: while let Some((path, node)) = rest.pop() {
+            made.set(path, node)?;
+        }
+        Ok(made)
+    }
+
     /// What the map takes its memory from.
     pub(crate) fn alloc(&self) -> Global {
         self.alloc

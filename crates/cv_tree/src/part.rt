@@ -47,6 +47,23 @@ impl Part {
         Ok(Part { nodes })
     }
 
+    /// The part of these entries. Of several at one path the first counts.
+    pub fn of_entries(alloc: Global, entries: Vec<(RepoPath, Node)>) -> Result<Part, NoMemory>
+        requires { IsPart (map.from_entries entries.items) }
+        ensures { IfOk result (λ part. part ≡ map.from_entries entries.items) }
+    {
+        let nodes = NodeMap::of_entries(alloc, entries)?;
+        Ok(Part { nodes })
+    }
+
+    /// A copy of all nodes, each with its path, in the order of the paths: that of a directory stands before those below it.
+    pub fn entries(&self, alloc: Global) -> Result<Vec<(RepoPath, Node)>, NoMemory>
+        ensures entries { IfOk result (λ entries. entries.items ≡ map.entries self.now) }
+        ensures part { IsPart self.now }
+    {
+        self.nodes.entries(alloc)
+    }
+
     /// The node at a path, counted from the part's root.
     pub fn get(&self, path: &RepoPath) -> Option<&Node>
         ensures value { option_copied result ≡ map.get self.now path.now }

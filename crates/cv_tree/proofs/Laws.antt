@@ -1,0 +1,6 @@
+-- What this crate proves for those above it: laws of what stands at a path and of what is set there.
+pub use Rattle.cv_tree.proofs.Grafts.{IsTree-put_at, has_place-put_apart}
+pub use Rattle.cv_tree.proofs.Maps.{entries-from_entries}
+pub use Rattle.cv_tree.proofs.PathLimits.{joined-Ok}
+pub use Rattle.cv_tree.proofs.Replacements.{at-at, at-put, at-put_apart, at_rest, find-append, get-at, get-put, kept-put, put-at}
+pub use Rattle.cv_tree.proofs.Shapes.{IsPart-at, IsTree-put, IsTree-single, has_place-append, nothing_at}
