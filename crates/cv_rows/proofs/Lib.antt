@@ -16,6 +16,7 @@ pub mod PlaceLaws
 pub mod Walks
 mod MarkerLaws
 pub mod NestedLaws
+pub mod Standing
 pub mod RuleLaws
 mod OneFault
 pub mod Regions
@@ -23,3 +24,5 @@ pub mod Covers
 mod Left
 mod Covering
 mod TestLaws
+mod RenewedLaws
+mod Listing

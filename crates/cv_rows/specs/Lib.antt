@@ -9,3 +9,7 @@ pub mod Places
 pub mod Reading
 pub mod Row
 pub mod Without
+pub mod Within
+pub mod Renewed
+pub mod Listing
+pub mod Toward

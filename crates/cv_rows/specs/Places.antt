@@ -30,3 +30,10 @@ pub record IsChild (r p : Row) : Type 0 where
 pub data StandsAt (at : Path) (rows : List Row) : Row → Path → Type 0 where
   root : {r : Row} → Contains rows r → IsRoot at r → StandsAt at rows r at
   below : {r p : Row} {q : Path} → Contains rows r → (IsRoot at r → ⊥) → StandsAt at rows p q → IsChild r p → StandsAt at rows r (q ++ r.name ∷ [])
+
+-- each row of a list stands at the path that another list has in its place
+abbrev pub StandEach : Path → List Row → List Row → List Path → Type 0
+StandEach at rows [] [] = Unit {0}
+StandEach at rows [] (q ∷ qs) = ⊥
+StandEach at rows (r ∷ rs) [] = ⊥
+StandEach at rows (r ∷ rs) (q ∷ qs) = StandsAt at rows r q × StandEach at rows rs qs

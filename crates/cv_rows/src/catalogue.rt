@@ -1,14 +1,17 @@
 //! Catalogues.
-ghost use Rattle.std.specs.Prelude.{◌≡◌, ◌≢◌, ◌++◌, true, false, IfOk, IfErr, Err, MatchOption, Contains, filter};
+ghost use Rattle.std.specs.Prelude.{◌≡◌, ◌≢◌, ◌++◌, true, false, IfOk, IfErr, Err, MatchOption, Contains, filter, map};
 ghost use Rattle.cv_base.specs.Marker.{marker, ends_in};
+ghost use Rattle.cv_base.specs.Digest.{IsDigest};
 ghost use Rattle.cv_base.specs.Path.{covers};
 
-use crate::children::children_of;
-use crate::covered::{covered_keys, drop_nested, drop_rows};
+use crate::children::{children_of, rows_below};
+use crate::covered::{copy_nested, copy_rows, covered_keys, drop_nested, drop_rows};
 use crate::judging::{extend, judge};
 use crate::nested::Nested;
+use crate::nested_list::{nested_position, position_above};
 use crate::order::{nested_by_text, rows_by_key};
-use crate::places::position;
+use crate::places::{path_at, places_of, position, root_position, stands_at};
+use crate::renewing::renew_entry;
 use crate::row::Row;
 use crate::row_fault::RowFault;
 use crate::with_fault::WithFault;
@@ -41,8 +44,14 @@ impl Catalogue {
     ghost use Rattle.cv_rows.specs.Catalogue.{Contents, IsCatalogue, IsUnlessMemory, catalogue_bytes, is_below};
     ghost use Rattle.cv_rows.specs.Faults.{IsFirstFault};
     ghost use Rattle.cv_rows.specs.Made.{AreParts, AreApart, IsTwice, PassesLimit, keys_of, in_order};
+    ghost use Rattle.cv_rows.specs.Listing.{IsListing};
+    ghost use Rattle.cv_rows.specs.Places.{IsRoot, StandsAt, StandEach};
+    ghost use Rattle.cv_rows.specs.Renewed.{renewed};
+    ghost use Rattle.cv_rows.specs.Toward.{IsAbove};
+    ghost use Rattle.cv_rows.specs.Within.{IsWithin};
     ghost use Rattle.cv_rows.specs.Without.{IsWithout};
     ghost use Rattle.cv_rows.specs.declared.row.Row.{Row as TheRow};
+    ghost use Rattle.cv_rows.specs.declared.nested.Nested.{Nested as TheNested};
     ghost use Rattle.cv_rows.specs.declared.with_fault.WithFault.TheVariants as fault;
     ghost use Rattle.cv_base.specs.declared.path_key.PathKey.{PathKey as ThePathKey};
 
@@ -76,6 +85,7 @@ impl Catalogue {
         nested: Vec<Nested>,
     ) -> Result<Catalogue, WithFault>
         requires { AreParts at.now rows.items nested.items }
+        ensures rules { IfOk result IsCatalogue }
         ensures made { IfOk result (λ c. c ≡ in_order at.now rows.items nested.items) }
         ensures apart { IfOk result (λ c. AreApart (keys_of rows.items)) }
         ensures fits { IfOk result (λ c. PassesLimit rows.items nested.items → ⊥) }
@@ -102,6 +112,7 @@ impl Catalogue {
         nested: Vec<Nested>,
     ) -> Result<Catalogue, (Catalogue, WithFault)>
         requires { AreParts self.at (self.rows ++ rows.items) (self.nested ++ nested.items) }
+        ensures rules { IfOk result IsCatalogue }
         ensures made { IfOk result (λ c. c ≡ in_order self.at (self.rows ++ rows.items) (self.nested ++ nested.items)) }
         ensures apart { IfOk result (λ c. AreApart (keys_of (self.rows ++ rows.items))) }
         ensures fits { IfOk result (λ c. PassesLimit (self.rows ++ rows.items) (self.nested ++ nested.items) → ⊥) }
@@ -142,6 +153,7 @@ impl Catalogue {
         requires below { covers self.at path.now ≡ true }
         requires apart { path.now ≢ self.at }
         requires unmarked { ends_in marker path.now ≡ false }
+        ensures rules { IfOk result IsCatalogue }
         ensures left { IfOk result (IsWithout self path.now) }
         ensures unchanged { IfErr result (λ back. back.0 ≡ self) }
     {
@@ -160,6 +172,75 @@ impl Catalogue {
         }
     }
 
+    /// Equal rows of those that stand at or below a path, and equal nested entries of those there.
+    pub fn within(
+        &self,
+        alloc: Global,
+        path: &RepoPath,
+    ) -> Result<(Vec<Row>, Vec<Nested>), NoMemory>
+        ensures { IfOk result (λ found. IsWithin self.now path.now found.0.items found.1.items) }
+    {
+        let covered = covered_keys(alloc, &self.at, &self.rows, path)?;
+        let rows = copy_rows(alloc, &self.rows, &covered)?;
+        let nested = copy_nested(alloc, &self.nested, path)?;
+        Ok((rows, nested))
+    }
+
+    /// The path of the catalogue's cut.
+    pub fn at(&self) -> &RepoPath
+        ensures { result.now ≡ self.now.at }
+    {
+        &self.at
+    }
+
+    /// The root row: that of the cut itself.
+    pub fn root(&self) -> &Row
+        ensures { Contains self.now.rows result.now × IsRoot self.now.at result.now }
+    {
+        match root_position(&self.at, &self.rows) {
+            Some(row) => &self.rows[row],
+            None => unreachable!("a catalogue has a root row"),
+        }
+    }
+
+    /// The path of each row, in the order of the rows.
+    pub fn places(&self, alloc: Global) -> Result<Vec<RepoPath>, NoMemory>
+        ensures { IfOk result (λ paths. StandEach self.now.at self.now.rows self.now.rows paths.items) }
+    {
+        places_of(alloc, &self.at, &self.rows)
+    }
+
+    /// Equal rows of those that stand directly in the directory at a path, in ascending order of key. The root row isn't among
+    /// them, since its directory is that of another catalogue. Where no row stands at the path there are none.
+    pub fn rows_in(&self, alloc: Global, path: &RepoPath) -> Result<Vec<Row>, NoMemory>
+        ensures { IfOk result (λ rows. IsListing self.now path.now rows.items) }
+    {
+        match self.row_at(path) {
+            Some(directory) => { rows_below(alloc, &self.rows, &directory.key.0, &self.at.key().0) }
+            None => Ok(Vec::new(alloc)),
+        }
+    }
+
+    /// The path at which a row of the catalogue stands.
+    pub fn path_of(&self, alloc: Global, row: &Row) -> Result<RepoPath, NoMemory>
+        requires { Contains self.now.rows row.now }
+        ensures { IfOk result (StandsAt self.now.at self.now.rows row.now) }
+    {
+        let Some(place) = position(&self.rows, &row.key.0) else {
+            unreachable!("the row is there");
+        };
+        path_at(alloc, &self.at, &self.rows, place)
+    }
+
+    /// Gives the nested entry of a path another hash and size. The catalogue has as many bytes as before.
+    pub fn renew(&mut self, path: &RepoPath, hash: [u8; 20], size: u64)
+        requires { IsDigest hash }
+        ensures renewed { self.new ≡ record self.old { nested = map (renewed path.now hash size) self.old.nested } }
+        ensures rules { IsCatalogue self.new }
+    {
+        renew_entry(&mut self.nested, path, hash, size);
+    }
+
     /// The row with this key.
     pub fn find(&self, key: PathKey) -> Option<&Row>
         ensures { MatchOption result
@@ -169,6 +250,26 @@ impl Catalogue {
         match position(&self.rows, &key.0) {
             Some(row) => Some(&self.rows[row]),
             None => None,
+        }
+    }
+
+    /// The row that stands at a path. It takes no memory.
+    pub fn row_at(&self, path: &RepoPath) -> Option<&Row>
+        ensures rules { IsCatalogue self.now }
+        ensures row { MatchOption result
+            ((r : TheRow) → StandsAt self.now.at self.now.rows r path.now → ⊥)
+            (λ row. StandsAt self.now.at self.now.rows row.now path.now) }
+    {
+        let Some(root) = root_position(&self.at, &self.rows) else {
+            return None;
+        };
+        let Some(row) = position(&self.rows, &path.key().0) else {
+            return None;
+        };
+        if stands_at(&self.at, &self.rows, root, row, path.names()) {
+            Some(&self.rows[row])
+        } else {
+            None
         }
     }
 
@@ -193,6 +294,32 @@ impl Catalogue {
         ensures { result.now ≡ self.now.nested }
     {
         &self.nested
+    }
+
+    /// The nested entry of a path.
+    pub fn entry_at(&self, path: &RepoPath) -> Option<&Nested>
+        ensures rules { IsCatalogue self.now }
+        ensures entry { MatchOption result
+            ((n : TheNested) → Contains self.now.nested n → n.path ≢ path.now)
+            (λ entry. Contains self.now.nested entry.now × (entry.now.path ≡ path.now)) }
+    {
+        match nested_position(&self.nested, path) {
+            Some(entry) => Some(&self.nested[entry]),
+            None => None,
+        }
+    }
+
+    /// The nested entry whose path is properly above this one: that of the next cut on the way to the path.
+    pub fn toward(&self, path: &RepoPath) -> Option<&Nested>
+        ensures rules { IsCatalogue self.now }
+        ensures entry { MatchOption result
+            ((n : TheNested) → Contains self.now.nested n → IsAbove n.path path.now → ⊥)
+            (λ entry. Contains self.now.nested entry.now × IsAbove entry.now.path path.now) }
+    {
+        match position_above(&self.nested, path) {
+            Some(entry) => Some(&self.nested[entry]),
+            None => None,
+        }
     }
 
     /// The bytes of the catalogue's row file.

@@ -70,3 +70,44 @@ pub fn drop_nested(nested: &mut Vec<Nested>, path: &RepoPath)
 {
     nested.retain(|entry| !path.covers(&entry.path));
 }
+
+/// Whether the key of a row is among these.
+fn is_among(keys: &BTreeSet<[u8; 16]>, row: &Row) -> bool
+    ensures { result ≡ contains (slice_cmp nat_cmp) keys.now row.now.key.0 }
+{
+    keys.contains(&row.key.0)
+}
+
+/// Equal rows of those with these keys.
+pub fn copy_rows(
+    alloc: Global,
+    rows: &[Row],
+    keys: &BTreeSet<[u8; 16]>,
+) -> Result<Vec<Row>, NoMemory>
+    ensures { IfOk result (λ found. found.items ≡ filter (λ r. contains (slice_cmp nat_cmp) keys.now r.key.0) rows.now) }
+{
+    let mut found = Vec::new(alloc);
+    for row in rows {
+        if is_among(keys, row) {
+            found.push(row.copy(alloc)?)?;
+        }
+    }
+    Ok(found)
+}
+
+/// Equal entries of those that a path covers.
+pub fn copy_nested(
+    alloc: Global,
+    nested: &[Nested],
+    path: &RepoPath,
+) -> Result<Vec<Nested>, NoMemory>
+    ensures { IfOk result (λ found. found.items ≡ filter (λ n. covers path.now n.path) nested.now) }
+{
+    let mut found = Vec::new(alloc);
+    for entry in nested {
+        if path.covers(&entry.path) {
+            found.push(entry.copy(alloc)?)?;
+        }
+    }
+    Ok(found)
+}

@@ -14,6 +14,7 @@ mod nested_list;
 mod order;
 mod places;
 mod reading;
+mod renewing;
 mod row;
 mod row_fault;
 mod row_kind;
@@ -23,6 +24,7 @@ mod write;
 
 pub use catalogue::Catalogue;
 pub use nested::Nested;
+pub use places::below;
 pub use row::Row;
 pub use row_fault::RowFault;
 pub use row_kind::RowKind;

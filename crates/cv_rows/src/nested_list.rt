@@ -1,13 +1,15 @@
 //! The list of nested entries.
-ghost use Rattle.std.specs.Prelude.{◌≡◌, ℕ, List, IfOk, MatchBool, MatchOption};
+ghost use Rattle.std.specs.Prelude.{◌≡◌, ◌≢◌, ◌<◌, ℕ, List, length, Contains, IfOk, MatchBool, MatchOption};
+ghost use Rattle.cv_rows.specs.declared.nested.Nested.{Nested as TheNested};
 ghost use Rattle.std.specs.Ordering.{nat_cmp};
 ghost use Rattle.std.specs.Cmp.Lexicographic.{slice_cmp};
 ghost use Rattle.std.specs.BTreeSet.{contains};
-ghost use Rattle.std.specs.List.{All};
+ghost use Rattle.std.specs.List.{All, HoldsAt};
 ghost use Rattle.cv_rows.specs.Places.{StandsAt};
 ghost use Rattle.cv_rows.specs.Parents.{IsPlacing};
 ghost use Rattle.cv_rows.specs.Catalogue.{IsTransitionAt};
 ghost use Rattle.cv_rows.specs.Faults.{IsFirst, AllFit};
+ghost use Rattle.cv_rows.specs.Toward.{IsAbove};
 ghost use Rattle.cv_rows.specs.NestedList.{is_transition, has_key, HasNested, IsListedBy};
 
 use crate::keys::add;
@@ -108,4 +110,37 @@ pub fn first_unlisted(
         }
     }
     Ok(None)
+}
+
+/// The index of the nested entry of a path.
+pub fn nested_position(nested: &[Nested], path: &RepoPath) -> Option<usize>
+    ensures { MatchOption result ((n : TheNested) → Contains nested.now n → n.path ≢ path.now) (λ i. (i < length nested.now) × HoldsAt (λ n. n.path ≡ path.now) nested.now i) }
+{
+    for i in 0..nested.len() {
+        if nested[i].path == *path {
+            return Some(i);
+        }
+    }
+    None
+}
+
+/// Whether a path is properly above another.
+fn is_above(above: &RepoPath, path: &RepoPath) -> bool
+    ensures { MatchBool result (IsAbove above.now path.now) (IsAbove above.now path.now → ⊥) }
+{
+    above.covers(path) && *path != *above
+}
+
+/// The index of the nested entry whose path is properly above this one.
+pub fn position_above(nested: &[Nested], path: &RepoPath) -> Option<usize>
+    ensures { MatchOption result
+        ((n : TheNested) → Contains nested.now n → IsAbove n.path path.now → ⊥)
+        (λ i. (i < length nested.now) × HoldsAt (λ n. IsAbove n.path path.now) nested.now i) }
+{
+    for i in 0..nested.len() {
+        if is_above(&nested[i].path, path) {
+            return Some(i);
+        }
+    }
+    None
 }

@@ -1,18 +1,18 @@
 //! Where the rows of a catalogue stand.
-ghost use Rattle.std.specs.Prelude.{◌≡◌, ◌≢◌, ℕ, ◌+◌, ◌<◌, ◌≤◌, ◌↔◌, false, None, List, length, IsTrue, IfOk, MatchOption, Contains};
+ghost use Rattle.std.specs.Prelude.{◌≡◌, ◌≢◌, ℕ, ◌+◌, ◌<◌, ◌≤◌, ◌↔◌, false, None, List, length, IsTrue, IfOk, MatchOption, Contains, slice_index_or};
 ghost use Rattle.std.specs.List.{HoldsAt, All};
 ghost use Rattle.std.specs.List.Sorted.{IsStrictlySortedBy};
 ghost use Rattle.cv_base.specs.Path.{key_of, IsPath, last_name_of};
 ghost use Rattle.cv_rows.specs.Catalogue.{row_cmp};
-ghost use Rattle.cv_rows.specs.Places.{IsRoot, IsChild, StandsAt};
+ghost use Rattle.cv_rows.specs.Places.{IsRoot, IsChild, StandsAt, StandEach};
 ghost use Rattle.cv_rows.specs.Parents.{IsParentOf, AreParents, AreAbove, AreInside, IsPlacing, IsPathOf, HasPath, IsBelow};
-ghost use Rattle.cv_rows.specs.Faults.{IsFirst, IsOrphan, IsMisplaced, AllFit};
+ghost use Rattle.cv_rows.specs.Faults.{IsFirst, IsOrphan, IsMisplaced, AllStand, AllFit};
 ghost use Rattle.cv_base.specs.declared.path_fault.PathFault.TheVariants as faults;
 ghost use Rattle.cv_rows.specs.declared.row.Row.{Row as TheRow};
 
 use crate::row::Row;
 use crate::row_kind::RowKind;
-use cv_base::{NAMES_LIMIT, NoMemory, PathFault, RepoPath};
+use cv_base::{NAMES_LIMIT, NoMemory, PathFault, PathName, RepoPath};
 use std::alloc::Global;
 
 /// So many doublings make 65,536 steps, which are more than there are rows.
@@ -172,7 +172,7 @@ fn path_within(
     }
     let above = path_within(alloc, at, rows, root, parents, parents[row], left - 1)?;
     match above {
-        Some(above) => below(alloc, &above, rows[row].name.text()),
+        Some(above) => further(alloc, above, rows[row].name.text()),
         None => Ok(None),
     }
 }
@@ -195,6 +195,65 @@ pub fn path_of_row(
     path_within(alloc, at, rows, root, parents, row, left)
 }
 
+/// The path at which a row stands, of rows that each fit theirs.
+fn path_there(
+    alloc: Global,
+    at: &RepoPath,
+    rows: &[Row],
+    root: usize,
+    parents: &[usize],
+    row: usize,
+) -> Result<RepoPath, NoMemory>
+    requires placing { IsPlacing at.now rows.now root parents.now }
+    requires stand { AllStand at.now rows.now }
+    requires fit { AllFit at.now rows.now }
+    requires row { row < length rows.now }
+    ensures { IfOk result (λ path. (d : TheRow) → StandsAt at.now rows.now (slice_index_or rows.now row d) path) }
+{
+    match path_of_row(alloc, at, rows, root, parents, row)? {
+        Some(path) => Ok(path),
+        None => unreachable!("a row of a catalogue fits its path"),
+    }
+}
+
+/// The path at which the row at an index of a catalogue stands.
+pub fn path_at(alloc: Global, at: &RepoPath, rows: &[Row], row: usize) -> Result<RepoPath, NoMemory>
+    requires place { IsPath at.now }
+    requires count { length rows.now ≤ 50000 }
+    requires ordered { IsStrictlySortedBy row_cmp rows.now }
+    requires stand { AllStand at.now rows.now }
+    requires fit { AllFit at.now rows.now }
+    requires row { row < length rows.now }
+    ensures { IfOk result (λ path. (d : TheRow) → StandsAt at.now rows.now (slice_index_or rows.now row d) path) }
+{
+    let Some(root) = root_position(at, rows) else {
+        unreachable!("a catalogue has a root row");
+    };
+    let above = parents(alloc, rows, root)?;
+    path_there(alloc, at, rows, root, &above, row)
+}
+
+/// The path of each row of a catalogue, in their order.
+pub fn places_of(alloc: Global, at: &RepoPath, rows: &[Row]) -> Result<Vec<RepoPath>, NoMemory>
+    requires place { IsPath at.now }
+    requires count { length rows.now ≤ 50000 }
+    requires ordered { IsStrictlySortedBy row_cmp rows.now }
+    requires stand { AllStand at.now rows.now }
+    requires fit { AllFit at.now rows.now }
+    ensures { IfOk result (λ paths. StandEach at.now rows.now rows.now paths.items) }
+{
+    let Some(root) = root_position(at, rows) else {
+        unreachable!("a catalogue has a root row");
+    };
+    let above = parents(alloc, rows, root)?;
+    let mut paths = Vec::new(alloc);
+    for row in 0..rows.len() {
+        let path = path_there(alloc, at, rows, root, &above, row)?;
+        paths.push(path)?;
+    }
+    Ok(paths)
+}
+
 /// No path where a name breaks the limits of a path.
 fn none_unless_memory(fault: PathFault) -> Result<Option<RepoPath>, NoMemory>
     ensures { IfOk result (λ found. (found ≡ None) × (fault ≢ faults.NoMemory)) }
@@ -206,10 +265,17 @@ fn none_unless_memory(fault: PathFault) -> Result<Option<RepoPath>, NoMemory>
 }
 
 /// A path with one more name, unless that passes the limits of a path.
-fn below(alloc: Global, above: &RepoPath, name: &str) -> Result<Option<RepoPath>, NoMemory>
+pub fn below(alloc: Global, above: &RepoPath, name: &str) -> Result<Option<RepoPath>, NoMemory>
     ensures { IfOk result (IsBelow above.now name.now) }
 {
-    match above.join(alloc, name) {
+    further(alloc, above.copy(alloc)?, name)
+}
+
+/// The same of a path that comes to an end: no name that it has is copied.
+fn further(alloc: Global, above: RepoPath, name: &str) -> Result<Option<RepoPath>, NoMemory>
+    ensures { IfOk result (IsBelow above name.now) }
+{
+    match above.with_name(alloc, name) {
         Ok(path) => Ok(Some(path)),
         Err(fault) => none_unless_memory(fault),
     }
@@ -251,4 +317,25 @@ pub fn first_misplaced(
         }
     }
     Ok(None)
+}
+
+/// Whether a row stands at the path of these names.
+pub fn stands_at(at: &RepoPath, rows: &[Row], root: usize, row: usize, names: &[PathName]) -> bool
+    requires ordered { IsStrictlySortedBy row_cmp rows.now }
+    requires inside { root < length rows.now }
+    requires is_root { HoldsAt (IsRoot at.now) rows.now root }
+    requires row { row < length rows.now }
+    ensures { (d : TheRow) → IsTrue result ↔ StandsAt at.now rows.now (slice_index_or rows.now row d) names.now }
+{
+    if row == root {
+        return names == at.names();
+    }
+    let [above @ .., last] = names else {
+        return false;
+    };
+    if rows[row].name.text() != last.as_str() {
+        return false;
+    }
+    let parent = parent_of(rows, root, row);
+    parent < rows.len() && stands_at(at, rows, root, parent, above)
 }

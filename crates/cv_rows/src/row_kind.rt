@@ -44,7 +44,7 @@ impl RowKind {
     }
 
     /// Whether other rows of the catalogue can stand below such a row.
-    pub(crate) fn holds_rows(self) -> bool
+    pub fn holds_rows(self) -> bool
         ensures { result ≡ holds_rows self }
     {
         matches!(self, RowKind::Directory | RowKind::NestedRoot)

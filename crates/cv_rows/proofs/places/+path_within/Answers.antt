@@ -33,7 +33,7 @@ pub returns-in-Some : goal.returns-in-Some
 returns-in-Some t c =
     if_below c.args.at.now c.args.rows.now c.args.root c.args.parents.now c.args.row c.args.left _ c.requires.placing c.requires.stand c.requires.row c.if-row-root.false c.index-rows-row.is c.in-Some.above
     (subst (λ (o : Option Path). IsPathOf c.args.at.now c.args.rows.now (step c.args.parents.now c.args.row) (c.args.left - 1) o) c.in-Some.is c.in_ok-above.ensures)
-    c.below.result (subst (λ (n : List ℕ). IfOk c.below.result (IsBelow c.in-Some.above n)) (c.text.ensures.text ∙ ap (λ (r : Row). r.name) (sym c.index-rows-row.is)) c.below.ensures)
+    c.further.result (subst (λ (n : List ℕ). IfOk c.further.result (IsBelow c.in-Some.above n)) (c.text.ensures.text ∙ ap (λ (r : Row). r.name) (sym c.index-rows-row.is)) c.further.ensures)
 
 pub returns-in-None : goal.returns-in-None
 returns-in-None t c =

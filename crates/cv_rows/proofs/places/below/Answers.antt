@@ -1,5 +1,8 @@
-use Rattle.cv_rows.proofs.Walks.{no_longer}
+use Rattle.std.proofs.Common.{subst}
+use Rattle.std.specs.Prelude.{IfOk}
+use Rattle.cv_base.specs.Path.{Path}
+use Rattle.cv_rows.specs.Parents.{IsBelow}
 use Rattle.cv_rows.proofs.places.below.Goals as goal
 
-pub returns-in-Err : goal.returns-in-Err
-returns-in-Err c = no_longer c.args.above.now c.args.name.now c.in-Err.fault c.none_unless_memory.result c.in-Err.ensures c.none_unless_memory.ensures
+pub returns : goal.returns
+returns c = subst (λ (p : Path). IfOk c.further.result (IsBelow p c.args.name.now)) c.in_ok-copy.ensures c.further.ensures

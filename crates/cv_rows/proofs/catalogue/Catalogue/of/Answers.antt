@@ -22,3 +22,9 @@ pub returns-in-Err-clause-full : goal.returns-in-Err-clause-full
 returns-in-Err-clause-full c = λ is.
     let same : c.in-Err.fault ≡ Full = cc in
     full_is c.args.rows.items c.args.nested.items c.in-Err.fault same (judges_as c.args.rows.items _ c.args.nested.items _ (Err c.in-Err.fault) c.deref.ensures.value c.deref-2.ensures.value c.in-Err.ensures)
+
+pub returns-in-Ok-clause-rules : goal.returns-in-Ok-clause-rules
+returns-in-Ok-clause-rules c =
+    let judged = judges_as c.args.rows.items _ c.args.nested.items _ (Ok tt) c.deref.ensures.value c.deref-2.ensures.value c.in-Ok.ensures in
+    subst (λ (p : Path). IsCatalogue (contents p c.rows_by_key.result.items c.nested_by_text.result.items)) (sym c.in_ok-at.ensures)
+    (catalogue_made c.args.at.now c.args.rows.items c.rows_by_key.result.items c.args.nested.items c.nested_by_text.result.items c.requires.region judged.1 c.rows_by_key.ensures.permutation c.nested_by_text.ensures.permutation c.rows_by_key.ensures.sorted c.nested_by_text.ensures.sorted)

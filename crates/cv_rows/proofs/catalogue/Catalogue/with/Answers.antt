@@ -27,3 +27,10 @@ pub returns-in-Err-clause-full : goal.returns-in-Err-clause-full
 returns-in-Err-clause-full c = λ is.
     full_is (c.args.self.rows ++ c.args.rows.items) (c.args.self.nested ++ c.args.nested.items) c.in-Err.fault is
     (subst (λ (x : Contents). Judges (x.rows ++ c.args.rows.items) (x.nested ++ c.args.nested.items) (Err c.in-Err.fault)) c.self.view_is c.in-Err.ensures.judges)
+
+pub returns-in-Ok-clause-rules : goal.returns-in-Ok-clause-rules
+returns-in-Ok-clause-rules c =
+    let e = c.in-Ok.ensures in
+    let region = subst (λ (x : Contents). IsRegion x.at (x.rows ++ c.args.rows.items) (x.nested ++ c.args.nested.items)) (sym c.self.view_is) c.requires.region in
+    catalogue_made c.self.inside.at c.extend.new.rows.items c.rows_by_key.result.items c.extend.new.nested.items c.nested_by_text.result.items
+    (rw (e.rows, e.nested) region) (rw (e.rows, e.nested) e.judges.1) c.rows_by_key.ensures.permutation c.nested_by_text.ensures.permutation c.rows_by_key.ensures.sorted c.nested_by_text.ensures.sorted
