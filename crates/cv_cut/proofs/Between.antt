@@ -22,20 +22,20 @@ use Rattle.cv_cut.proofs.Bools.{false_not}
 
 -- ---- the paths between
 
-between_has : (r s : Path) → r ≢ [] → s ≢ [] → Contains (between (r ++ s)) r
+pub between_has : (r s : Path) → r ≢ [] → s ≢ [] → Contains (between (r ++ s)) r
 between_has [] s some more = absurd (some refl)
 between_has (a ∷ []) [] some more = absurd (more refl)
 between_has (a ∷ []) (b ∷ s) some more = first_there (a ∷ []) (map (λ q. a ∷ q) (between (b ∷ s)))
 between_has (a ∷ b ∷ r) s some more =
     later_there (a ∷ []) (map (λ q. a ∷ q) (between (b ∷ r ++ s))) (a ∷ b ∷ r) (goes_to (λ q. a ∷ q) (between (b ∷ r ++ s)) (b ∷ r) (between_has (b ∷ r) s (λ e. cc) more))
 
-record StandsBetween (q r : Path) : Type 0 where
-  rest : Path
-  is : q ≡ r ++ rest
-  some : r ≢ []
-  more : rest ≢ []
+pub record StandsBetween (q r : Path) : Type 0 where
+  pub rest : Path
+  pub is : q ≡ r ++ rest
+  pub some : r ≢ []
+  pub more : rest ≢ []
 
-between_is : (q r : Path) → Contains (between q) r → StandsBetween q r
+pub between_is : (q r : Path) → Contains (between q) r → StandsBetween q r
 between_is [] r has = absurd (none_there r has)
 between_is (a ∷ []) r has = absurd (none_there r has)
 between_is (a ∷ b ∷ q) r has =

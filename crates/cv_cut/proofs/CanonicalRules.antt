@@ -19,19 +19,18 @@ use Rattle.cv_tree.proofs.Replacements.{get-at}
 use Rattle.cv_tree.specs.declared.node.Node.{Node}
 use Rattle.cv_rows.specs.Row.{row_bytes}
 use Rattle.cv_rows.specs.Nested.{nested_bytes}
-use Rattle.cv_rows.specs.Catalogue.{Contents, IsCatalogue, catalogue_bytes, file_of}
+use Rattle.cv_rows.specs.Catalogue.{IsCatalogue, catalogue_bytes, file_of}
 use Rattle.cv_rows.specs.Made.{AreApart, keys_of, texts_of, by_key, by_text, in_order}
 use Rattle.cv_rows.specs.declared.row.Row.{Row}
 use Rattle.cv_rows.specs.declared.nested.Nested.{Nested}
 use Rattle.cv_cut.specs.Cuts.{is_file, is_cut, region}
-use Rattle.cv_cut.specs.Catalogues.{rows_of, nested_of, cat, SharesKey, Fits}
+use Rattle.cv_cut.specs.Catalogues.{nested_of, cat, SharesKey, Fits, contents_of}
 use Rattle.cv_cut.proofs.Canonical.{cat_is}
-use Rattle.cv_cut.proofs.Regions.{KeysApart, AreRowsOf}
-use Rattle.cv_cut.proofs.RegionRules.{stands_at_cut, IsOther, AreEntriesOf, region_rules}
+use Rattle.cv_cut.proofs.RegionRules.{stands_at_cut, region_rules}
 use Rattle.cv_cut.proofs.RegionLists.{row_list, nested_list, row_list_are, nested_list_are, keys_apart, texts_apart, rows_of-by_key, nested_of-by_text}
-use Rattle.cv_cut.proofs.RowFacts.{row_at}
 use Rattle.cv_cut.proofs.Sorted.{order_moves, order_rises}
 use Rattle.cv_cut.proofs.Ends.{back}
+use Rattle.cv_cut.specs.Region.{KeysApart, AreRowsOf, IsOther, AreEntriesOf, row_at}
 
 -- ---- lists in another order
 
@@ -122,10 +121,6 @@ other_cut t c d o = named (c ++ d) (ap is_directory (sym (get-at t c d)) ∙ fir
     named : (p : Path) → is_directory (get t p) ≡ true → is_file (get t (p ++ marker ∷ [])) ≡ true → is_cut t p ≡ true
     named [] directory file = refl
     named (a ∷ p) directory file = rw (directory, file) refl
-
--- the canonical catalogue of a cut
-abbrev pub contents_of : Nodes → Path → Contents
-contents_of t c = record { at = c; rows = rows_of c (at t c); nested = nested_of c (at t c) (λ d. cat t (c ++ d)) }
 
 not_full : (n m : ℕ) → (n < m → ⊥) → m ≤ n
 not_full n m h = elim (cases_lt n m) [ inl lt ↦ absurd (h lt) | inr le ↦ le ]

@@ -23,7 +23,6 @@ use Rattle.cv_cut.specs.Catalogues.{cat, entry_of, SharesKey, IsFull, Fits}
 use Rattle.cv_cut.specs.Cut.{HasMade, IsFullCut, row_in, nested_in, is_other, cuts_below, catalogue_object, region_at}
 use Rattle.cv_cut.specs.declared.cut_fault.CutFault.{CutFault}
 use Rattle.cv_cut.specs.declared.cut_fault.CutFault.TheVariants.{CatalogueFull}
-use Rattle.cv_cut.proofs.RowFacts.{row_at}
 use Rattle.cv_cut.proofs.RegionRules.{stands_at_cut}
 use Rattle.cv_cut.proofs.RegionLists.{row_list, nested_list, keys_apart, texts_apart, are_parts}
 use Rattle.cv_cut.proofs.CanonicalRules.{region_apart, cat_in_order, order_length}
@@ -32,6 +31,7 @@ use Rattle.cv_cut.proofs.Members.{passes}
 use Rattle.cv_cut.proofs.KindLaws.{rows_are}
 use Rattle.cv_cut.proofs.CutOrder.{taken_before}
 use Rattle.cv_cut.proofs.MadeEntries.{entries_are, entries_small, one_made}
+use Rattle.cv_cut.specs.Region.{row_at}
 
 -- ---- one catalogue
 

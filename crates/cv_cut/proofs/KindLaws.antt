@@ -18,8 +18,8 @@ use Rattle.cv_cut.specs.Cuts.{is_marked, region}
 use Rattle.cv_cut.specs.Catalogues.{kind_of, row_of}
 use Rattle.cv_cut.specs.Cut.{rest_of, row_in, region_at}
 use Rattle.cv_cut.proofs.Between.{marked-at}
-use Rattle.cv_cut.proofs.RowFacts.{row_at}
 use Rattle.cv_cut.proofs.RegionLists.{row_list}
+use Rattle.cv_cut.specs.Region.{row_at}
 
 -- what is behind a cut that covers the path
 pub rest_is : (c p : Path) → covers c p ≡ true → p ≡ c ++ rest_of c p

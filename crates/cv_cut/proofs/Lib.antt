@@ -14,7 +14,7 @@ pub mod Sorted
 pub mod CanonicalRules
 mod Markers
 mod RegionPaths
-mod Between
+pub mod Between
 mod Sides
 mod Collecting
 pub mod KindLaws
@@ -23,3 +23,22 @@ mod MadeEntries
 mod Seen
 mod Collisions
 mod CutLaws
+pub mod Grafts
+pub mod Single
+pub mod Over
+pub mod Told
+pub mod Opening
+pub mod Sameness
+pub mod Behind
+pub mod MarkLaws
+pub mod Joined
+pub mod Renewed
+pub mod Lists
+pub mod Contents
+pub mod Trees
+pub mod Holder
+pub mod Upper
+pub mod Fitting
+pub mod WayCuts
+pub mod MeansAfter
+pub mod PublicLaws

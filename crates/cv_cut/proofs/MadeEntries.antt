@@ -20,8 +20,8 @@ use Rattle.cv_cut.proofs.Members.{passing}
 use Rattle.cv_cut.proofs.Between.{marked-at, other_cut}
 use Rattle.cv_cut.proofs.Bools.{none_some}
 use Rattle.cv_cut.proofs.KindLaws.{rest_is}
-use Rattle.cv_cut.proofs.RegionRules.{IsOther}
 use Rattle.cv_cut.proofs.RegionLists.{nested_list, nested_list_are}
+use Rattle.cv_cut.specs.Region.{IsOther}
 
 -- ---- other cuts
 

@@ -18,11 +18,11 @@ use Rattle.cv_cut.specs.Catalogues.{entry_of, rows_of, nested_of}
 use Rattle.cv_cut.proofs.Members.{passes, passing, comes_from, goes_to}
 use Rattle.cv_cut.proofs.Entries.{there_found, entry_has, has_entry}
 use Rattle.cv_cut.proofs.Twice.{StandOnce, once_image, sorted_once}
-use Rattle.cv_cut.proofs.RowFacts.{row_at, row_key}
-use Rattle.cv_cut.proofs.Regions.{IsNear, KeysApart, AreRowsOf}
-use Rattle.cv_cut.proofs.RegionRules.{StandsAtCut, IsOther, AreEntriesOf, path_there, region_rules}
+use Rattle.cv_cut.proofs.RowFacts.{row_key}
+use Rattle.cv_cut.proofs.RegionRules.{StandsAtCut, path_there, region_rules}
 use Rattle.cv_cut.proofs.Bools.{so}
 use Rattle.cv_cut.proofs.Ends.{back}
+use Rattle.cv_cut.specs.Region.{row_at, IsNear, KeysApart, AreRowsOf, IsOther, AreEntriesOf}
 
 abbrev pub row_list : Path → Nodes → List Row
 row_list c u = map (λ e. row_at c u e.0 e.1) (region u)

@@ -25,9 +25,10 @@ use Rattle.cv_rows.specs.declared.row_kind.RowKind.TheVariants.{Directory, Trans
 use Rattle.cv_cut.specs.Cuts.{is_file, is_marked, is_cut}
 use Rattle.cv_cut.specs.Catalogues.{entry_of, kind_of}
 use Rattle.cv_cut.proofs.Ends.{HasLast, some_last}
-use Rattle.cv_cut.proofs.RowFacts.{row_at, row_key, row_kind, row_name, parent_at, name_at, root_row, transition_marked, marked_transition, directory_unmarked, file_node, node_file, nested_root_at}
+use Rattle.cv_cut.proofs.RowFacts.{row_key, row_kind, row_name, parent_at, name_at, root_row, transition_marked, marked_transition, directory_unmarked, file_node, node_file, nested_root_at}
 use Rattle.cv_cut.proofs.RowRules.{row_keeps, suits}
-use Rattle.cv_cut.proofs.Regions.{IsNear, KeysApart, AreRowsOf, above, root_node, only_root, stands}
+use Rattle.cv_cut.proofs.Regions.{above, root_node, only_root, stands}
+use Rattle.cv_cut.specs.Region.{row_at, IsNear, KeysApart, AreRowsOf, IsOther, AreEntriesOf}
 
 -- ---- the place
 
@@ -61,18 +62,6 @@ stands_at_cut t c tree cut =
     }
 
 -- ---- nested entries
-
--- another cut of the region
-pub record IsOther (u : Nodes) (d : Path) : Type 0 where
-  pub node_ : Node
-  pub there : IsNear u d node_
-  pub below : d ≢ []
-  pub marked : is_marked u d ≡ true
-
--- in whatever order, these are the nested entries of the region, where the other cuts have these files
-pub record AreEntriesOf (c : Path) (u : Nodes) (file : Path → List ℕ) (nested : List Nested) : Type 0 where
-  pub each : (n : Nested) → Contains nested n → (d : Path) × IsOther u d × (n ≡ entry_of (c ++ d) (file d))
-  pub all : (d : Path) → IsOther u d → Contains nested (entry_of (c ++ d) (file d))
 
 -- ---- the rules of rows
 

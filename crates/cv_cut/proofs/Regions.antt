@@ -1,6 +1,5 @@
 -- Where the rows of a region stand: the row of each path there, and nowhere else.
 use Rattle.std.proofs.Common.{◌≡◌, ◌≢◌, ℕ, zero, suc, ◌≤◌, true, false, List, [], ◌∷◌, ◌++◌, length, length-append, refl, sym, ap, subst, ◌∙◌, append-nil, append_assoc, arith, IsSome}
-use Rattle.std.specs.Prelude.{Contains}
 use Rattle.std.specs.declared.option.Option.{Option}
 use Rattle.std.specs.declared.option.Option.TheVariants.{None, Some}
 use Rattle.std.specs.FinMap.{get}
@@ -10,25 +9,12 @@ use Rattle.cv_tree.specs.declared.node.Node.{Node}
 use Rattle.cv_rows.specs.Row.{holds_rows}
 use Rattle.cv_rows.specs.Places.{IsRoot, IsChild, StandsAt, root, below}
 use Rattle.cv_rows.specs.declared.row.Row.{Row}
-use Rattle.cv_cut.specs.Cuts.{is_near, is_marked}
+use Rattle.cv_cut.specs.Cuts.{is_marked}
 use Rattle.cv_cut.proofs.Ends.{some_last, last_some, near_parent, parent_unmarked}
-use Rattle.cv_cut.proofs.RowFacts.{row_at, row_key, row_kind, parent_at, name_at, root_row, not_nested_root, directory_holds}
+use Rattle.cv_cut.proofs.RowFacts.{row_key, row_kind, parent_at, name_at, root_row, not_nested_root, directory_holds}
+use Rattle.cv_cut.specs.Region.{row_at, IsNear, KeysApart, AreRowsOf}
 
 -- In what follows u is what stands at a cut c, and its paths begin there.
-
--- the region has this node at a path
-pub record IsNear (u : Nodes) (q : Path) (n : Node) : Type 0 where
-  pub there : get u q ≡ Some n
-  pub near : is_near u q ≡ true
-
--- no two paths of the region share a key
-pub record KeysApart (c : Path) (u : Nodes) : Type 0 where
-  pub each : (q r : Path) (m n : Node) → IsNear u q m → IsNear u r n → key_of (c ++ q) ≡ key_of (c ++ r) → q ≡ r
-
--- in whatever order, these are the rows of the region
-pub record AreRowsOf (c : Path) (u : Nodes) (rows : List Row) : Type 0 where
-  pub each : (r : Row) → Contains rows r → (q : Path) × (n : Node) × IsNear u q n × (r ≡ row_at c u q n)
-  pub all : (q : Path) (n : Node) → IsNear u q n → Contains rows (row_at c u q n)
 
 pub some_node : (o : Option Node) → IsSome o → (n : Node) × (o ≡ Some n)
 some_node None some = absurd cc

@@ -11,17 +11,13 @@ use Rattle.cv_tree.specs.declared.node.Node.{Node}
 use Rattle.cv_tree.specs.declared.node.Node.TheVariants as node
 use Rattle.cv_rows.specs.Row.{holds_rows}
 use Rattle.cv_rows.specs.Places.{IsRoot, root_kind}
-use Rattle.cv_rows.specs.declared.row.Row.{Row}
 use Rattle.cv_rows.specs.declared.row_kind.RowKind.{RowKind}
 use Rattle.cv_rows.specs.declared.row_kind.RowKind.TheVariants.{Directory, Transition, NestedRoot, File}
 use Rattle.cv_cut.specs.Cuts.{is_file, is_marked}
 use Rattle.cv_cut.specs.Catalogues.{kind_of, row_of}
 use Rattle.cv_rows.proofs.Texts.{path_name-target}
 use Rattle.cv_cut.proofs.Ends.{parent_key-append, last_name-append}
-
--- the row of the path behind a cut
-abbrev pub row_at : Path → Nodes → Path → Node → Row
-row_at c u q n = row_of (kind_of c u q n) (c ++ q) n
+use Rattle.cv_cut.specs.Region.{row_at}
 
 -- ---- names
 

@@ -6,7 +6,7 @@ use Rattle.cv_base.specs.Path.{Path, text_of, key_of, parent_key_of, last_name_o
 use Rattle.cv_tree.specs.Tree.{Nodes, at}
 use Rattle.cv_tree.specs.declared.node.Node.{Node}
 use Rattle.cv_tree.specs.declared.node.Node.TheVariants as node
-use Rattle.cv_rows.specs.Catalogue.{bytes_cmp, catalogue_bytes}
+use Rattle.cv_rows.specs.Catalogue.{Contents, bytes_cmp, catalogue_bytes}
 use Rattle.cv_rows.specs.Places.{root_kind}
 use Rattle.cv_rows.specs.declared.row.Row.{Row}
 use Rattle.cv_rows.specs.declared.nested.Nested.{Nested}
@@ -83,6 +83,10 @@ catalogue (suc n) c u = row_file c u (λ d. catalogue n (c ++ d) (at u d))
 -- the canonical catalogue of a cut of a tree
 abbrev pub cat : Nodes → Path → List ℕ
 cat t c = catalogue 65 c (at t c)
+
+-- and the same, decoded
+abbrev pub contents_of : Nodes → Path → Contents
+contents_of t c = record { at = c; rows = rows_of c (at t c); nested = nested_of c (at t c) (λ d. cat t (c ++ d)) }
 
 -- the root of a tree: the SHA-1 of the catalogue at its root
 abbrev pub root_of : Nodes → List ℕ

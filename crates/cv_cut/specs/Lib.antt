@@ -1,5 +1,13 @@
 pub mod Cuts
 pub mod Catalogues
 pub mod Cut
+pub mod Above
+pub mod Region
+pub mod Replaced
+pub mod Over
+pub mod Told
+pub mod Open
 pub mod Means
 pub mod Reached
+pub mod Good
+pub mod Opening

@@ -1,0 +1,29 @@
+-- What this crate proves for those above it: the catalogues of a tree, how they are opened, and what becomes of them where a
+-- subtree is replaced.
+pub use Rattle.cv_cut.proofs.Behind.{is_behind}
+pub use Rattle.cv_cut.proofs.Bools.{not_false, not_true, so}
+pub use Rattle.cv_cut.proofs.Canonical.{cat_is}
+pub use Rattle.cv_cut.proofs.CanonicalRules.{canonical, cut_some, order_count, other_cut, region_apart}
+pub use Rattle.cv_cut.proofs.Ends.{last_name-append, last_some, near_below, parent_key-append, some_last}
+pub use Rattle.cv_cut.proofs.Fitting.{apart_after, fits_after, passes_of, put-root}
+pub use Rattle.cv_cut.proofs.Grafts.{Means-more, Means-put, cut_covers}
+pub use Rattle.cv_cut.proofs.Holder.{at_cut, cat_after, covers_p, cut_after, full_after, goes_at, here, holders, keys_after, not_full_after, stays_at, there}
+pub use Rattle.cv_cut.proofs.Joined.{covers-shift, is_near-in, is_near-out, path-in, rest_behind}
+pub use Rattle.cv_cut.proofs.KindLaws.{rest_is}
+pub use Rattle.cv_cut.proofs.Lists.{apart_append, kept_apart, sorted_apart}
+pub use Rattle.cv_cut.proofs.MarkLaws.{covers_append, longer_covers_not, marked-at, marked-out, near-here, near-out, same_rest}
+pub use Rattle.cv_cut.proofs.MeansAfter.{means_after}
+pub use Rattle.cv_cut.proofs.Members.{comes_from, first_or_later, first_there, goes_to, later_there, none_there, passes, passing}
+pub use Rattle.cv_cut.proofs.Opening.{IsThere, Unsized, left_by, misstating_bad, nested_long, nested_there, nested_unopened, opens_there, root_by_key, root_found, stands_long, transition_long, transition_of, unopened}
+pub use Rattle.cv_cut.proofs.Over.{more_over, nearest, same_ends, same_over}
+pub use Rattle.cv_cut.proofs.RegionLists.{keys_apart, keys_once, nested_list, nested_of-by_text, row_list, rows_of-by_key, texts_apart}
+pub use Rattle.cv_cut.proofs.RegionRules.{stands_at_cut}
+pub use Rattle.cv_cut.proofs.Regions.{IsRowThere, above, root_node, stands, stands_only}
+pub use Rattle.cv_cut.proofs.Renewed.{differs}
+pub use Rattle.cv_cut.proofs.RowFacts.{marked_transition, root_row, row_key, row_kind, transition_marked}
+pub use Rattle.cv_cut.proofs.Sameness.{same_list}
+pub use Rattle.cv_cut.proofs.Single.{Fits-single, cut_single}
+pub use Rattle.cv_cut.proofs.Sorted.{order_rises}
+pub use Rattle.cv_cut.proofs.Told.{entries_are, entry_tells, nested_decodes, no_row_tells, one_decoding, root_decodes, row_tells, row_tells_cut, rows_are}
+pub use Rattle.cv_cut.proofs.Upper.{above_contents, above_cut}
+pub use Rattle.cv_cut.proofs.WayCuts.{at-root, cuts_some, holder_way, made_all, made_deeper, made_here, pass_way}

@@ -1,0 +1,66 @@
+//! Single catalogues, opened at their places.
+ghost use Rattle.std.specs.Prelude.{◌≡◌, ◌↔◌, IfOk, IsTrue, MatchOption};
+ghost use Rattle.std.specs.Option.{option_copied};
+ghost use Rattle.cv_rows.specs.Catalogue.{Contents, IsCatalogue};
+ghost use Rattle.cv_cut.specs.Reached.{Decodes};
+ghost use Rattle.cv_cut.specs.Open.{FitsRow, IsFitting};
+
+use cv_base::{NoMemory, RepoPath};
+use cv_rows::{Catalogue, Row, RowFault};
+use std::alloc::Global;
+
+/// Whether two rows have the same fields but for their kinds.
+fn same_fields(root: &Row, transition: &Row) -> bool
+    ensures { IsTrue result ↔ (root.now ≡ record transition.now { kind = root.now.kind }) }
+{
+    root.key == transition.key
+        && root.parent == transition.parent
+        && root.attr == transition.attr
+        && root.size == transition.size
+        && root.hash == transition.hash
+        && root.name.text() == transition.name.text()
+        && root.target.text() == transition.target.text()
+}
+
+/// Whether the root row of the catalogue at a place has the fields of the Transition row that names it.
+fn fits_row(catalogue: &Catalogue, at: &RepoPath, transition: &Row) -> bool
+    requires rules { IsCatalogue catalogue.now }
+    requires place { catalogue.now.at ≡ at.now }
+    ensures { IsTrue result ↔ FitsRow catalogue.now transition.now }
+{
+    match catalogue.find(at.key()) {
+        Some(root) => same_fields(root, transition),
+        None => false,
+    }
+}
+
+/// The catalogue, if it fits the Transition row that names it.
+fn fitting(catalogue: Catalogue, at: &RepoPath, row: Option<&Row>) -> Option<Catalogue>
+    requires rules { IsCatalogue catalogue }
+    requires place { catalogue.at ≡ at.now }
+    ensures { IsFitting catalogue (option_copied row.entry) result }
+{
+    match row {
+        Some(transition) if !fits_row(&catalogue, at, transition) => None,
+        _ => Some(catalogue),
+    }
+}
+
+/// The catalogue that bytes are at a place: at a path, and with the fields of the Transition row that names it, if one
+/// does. None where they decode as none there.
+pub fn opened(
+    alloc: Global,
+    bytes: &[u8],
+    at: &RepoPath,
+    row: Option<&Row>,
+) -> Result<Option<Catalogue>, NoMemory>
+    ensures decodes { IfOk result (λ found. MatchOption found
+        ((c : Contents) → Decodes (record { path = at.now; row = option_copied row.entry }) bytes.now c → ⊥)
+        (Decodes (record { path = at.now; row = option_copied row.entry }) bytes.now)) }
+{
+    match Catalogue::decode(alloc, bytes, at) {
+        Ok(catalogue) => Ok(fitting(catalogue, at, row)),
+        Err(RowFault::NoMemory) => Err(NoMemory),
+        Err(_) => Ok(None),
+    }
+}
