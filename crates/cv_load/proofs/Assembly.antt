@@ -6,14 +6,13 @@ use Rattle.std.specs.FinMap.{get}
 use Rattle.std.proofs.lemmas.List.Elements.{All-contains}
 use Rattle.std.proofs.lemmas.List.Folds.{Any-from_list_any, list_any-from_Any}
 use Rattle.std.proofs.lemmas.Slice.Eq.{bytes_eq-Decides}
-use Rattle.sha1.specs.Sha1.{sha1}
 use Rattle.cv_base.specs.Marker.{marker}
 use Rattle.cv_base.specs.Path.{Path}
 use Rattle.cv_ports.specs.Shelf.{Shelf}
 use Rattle.cv_tree.specs.Tree.{Nodes, IsTree, is_directory}
 use Rattle.cv_tree.specs.declared.node.Node.{Node}
 use Rattle.cv_rows.specs.Row.{holds_rows, same_kind}
-use Rattle.cv_rows.specs.Catalogue.{Contents, IsMarkedWell, catalogue_bytes, is_marker, has_marker}
+use Rattle.cv_rows.specs.Catalogue.{Contents, IsMarkedWell, is_marker, has_marker}
 use Rattle.cv_rows.specs.Places.{IsRoot, StandsAt, root, root_kind}
 use Rattle.cv_rows.specs.declared.row.Row.{Row}
 use Rattle.cv_rows.specs.declared.nested.Nested.{Nested}
@@ -25,9 +24,11 @@ use Rattle.cv_cut.specs.Cuts.{is_file, is_marked}
 use Rattle.cv_base.specs.ObjectId.{object_id}
 use Rattle.cv_base.specs.declared.id.Kind.TheVariants as id_kind
 use Rattle.cv_base.proofs.Bools.{first_true, second_true}
-use Rattle.cv_load.specs.Growth.{node_of, node_as, HasRows, HasFile, HasSize, IsOfRows, IsFilled, filled}
+use Rattle.cv_load.specs.Growth.{HasRows, IsOfRows, IsFilled, filled}
+use Rattle.cv_cut.specs.Told.{node_of, node_as}
 use Rattle.cv_load.proofs.Growing.{place_of, some_there}
 use Rattle.cv_load.proofs.Standing.{IsOpen, Standing, so_root, so_below, stands_so, rules_of, same_contents, contents_same, row_same, one_holder, one_node, last_same, moved, parent_standing}
+use Rattle.cv_cut.specs.Good.{HasFile, HasSize}
 
 -- ---- kinds of rows
 
@@ -96,7 +97,7 @@ all_filled whole itself = whole
 all_filled {shelf} {top} {t = t} whole (nested {hash = above} {place = over} {c = c} {n = n} {r = r} reached has there kind stands) = go (all_filled whole reached)
   where
     go : IsFilled shelf t above over → IsFilled shelf t n.hash (record { path = n.path; row = Some r })
-    go (filled {c = d} had sha files sizes all deeper) =
+    go (filled {c = d} had files sizes all deeper) =
         let same = same_contents shelf above above over over c d refl refl has had in
         deeper n r (subst (λ (x : Contents). Contains x.nested n) same there) kind (subst (λ (x : Contents). StandsAt x.at x.rows r n.path) same stands)
 
@@ -104,13 +105,12 @@ all_filled {shelf} {top} {t = t} whole (nested {hash = above} {place = over} {c 
 pub record IsFull (shelf : Shelf) (t : Nodes) (hash : List ℕ) (place : Place) : Type 0 where
   pub contents : Contents
   pub has : HasCatalogue shelf hash place contents
-  pub sha : sha1 (catalogue_bytes contents) ≡ hash
   pub files : (r : Row) → Contains contents.rows r → HasFile shelf r
   pub sizes : (n : Nested) → Contains contents.nested n → HasSize shelf (object_id n.hash id_kind.Catalogue) n.size
   pub there : HasRows contents t
 
 pub full : {shelf : Shelf} {t : Nodes} {hash : List ℕ} {place : Place} → IsFilled shelf t hash place → IsFull shelf t hash place
-full (filled {c = c} has sha files sizes there deeper) = record { contents = c; has = has; sha = sha; files = files; sizes = sizes; there = there }
+full (filled {c = c} has files sizes there deeper) = record { contents = c; has = has; files = files; sizes = sizes; there = there }
 
 module _ {shelf : Shelf} {top : List ℕ} {t : Nodes} (whole : IsWhole shelf top t) where
   pub full_of : {hash : List ℕ} {place : Place} → ReachesCatalogue shelf top hash place → IsFull shelf t hash place

@@ -19,14 +19,15 @@ use Rattle.cv_rows.specs.declared.nested.Nested.{Nested}
 use Rattle.cv_rows.specs.declared.row_kind.RowKind.{RowKind}
 use Rattle.cv_rows.specs.declared.row_kind.RowKind.TheVariants.{Directory, Transition, NestedRoot, File, Link}
 use Rattle.cv_rows.proofs.NestedLaws.{fits_there}
-use Rattle.cv_load.specs.Growth.{node_of, node_as, GrowsBy, IsClear, IsReady, ChangesBelow, HasRows, IsRootOf}
-use Rattle.cv_load.proofs.Opening.{transition_of}
+use Rattle.cv_load.specs.Growth.{GrowsBy, IsClear, IsReady, ChangesBelow, HasRows, IsRootOf}
+use Rattle.cv_cut.specs.Told.{node_of, node_as}
 use Rattle.cv_load.proofs.Growing.{HasParent, some_there, stands_below}
 use Rattle.cv_load.proofs.Filling.{one_row}
 use Rattle.cv_load.proofs.Standing.{dir_of, so_root, so_below, stands_so}
 use Rattle.cv_load.proofs.Assembly.{not_true}
-use Rattle.cv_load.proofs.Whole.{single_entry}
+use Rattle.cv_load.proofs.LoadedTree.{single_entry}
 use Rattle.cv_load.proofs.Below.{covers_itself, covers_long, stands_covered, nothing_below, entries_apart, entry_below}
+use Rattle.cv_cut.proofs.Opening.{transition_of}
 
 -- ---- answers that aren't given
 

@@ -21,12 +21,13 @@ use Rattle.cv_cut.specs.Reached.{Place, ReachesCatalogue, itself, nested, root_p
 use Rattle.cv_cut.proofs.Bools.{so}
 use Rattle.cv_cut.proofs.Members.{passes, passing, comes_from, goes_to}
 use Rattle.cv_cut.proofs.RegionLists.{keys_once}
-use Rattle.cv_load.specs.Fetches.{raised_by, Visit}
+use Rattle.cv_load.specs.Fetches.{Visit}
 use Rattle.cv_load.proofs.Standing.{IsOpen}
 use Rattle.cv_load.proofs.Assembly.{IsWhole, full_of}
 use Rattle.cv_load.proofs.OwnCatalogues.{is_cut_open, some_open}
 use Rattle.cv_load.proofs.Means.{cut_opened}
 use Rattle.cv_load.proofs.Fetching.{AreUnder, FetchesAll}
+use Rattle.cv_ports.specs.Calls.{raised_by}
 
 pairs_map : {X Y : Type 0} (f : X → Y) (xs : List X) → AllPairs (λ a b. f a ≢ f b) xs → AllPairs (λ (y z : Y). y ≢ z) (map f xs)
 pairs_map f [] apart = λ i j d lt within. absurd (omega arith)
@@ -55,7 +56,7 @@ module _ {shelf : Shelf} {top : List ℕ} {t : Nodes} (whole : IsWhole shelf top
       let reached = All-contains (λ (w : Visit). ReachesCatalogue shelf top w.hash w.place) visits v.0 reached_ v.1 in
       let f = full_of whole reached in
       let o : IsOpen shelf top v.0.hash v.0.place f.contents = record { reached = reached; has = f.has } in
-      let at_q : f.contents.at ≡ q = f.has.2.at ∙ v.2 in
+      let at_q : f.contents.at ≡ q = f.has.decodes.at ∙ v.2 in
       let here = is_member-Decides same_place (keys t) q in
       let key = here.0 (sym (contains_key-keys t q) ∙ subst (λ (p : Path). IsSome (get t p)) at_q (some_open whole o)) in
       passing (is_cut t) (keys t) q key (subst (λ (p : Path). is_cut t p ≡ true) at_q (is_cut_open whole o))
@@ -64,7 +65,7 @@ module _ {shelf : Shelf} {top : List ℕ} {t : Nodes} (whole : IsWhole shelf top
   cut_visited : (q : Path) → Contains (cuts_of t) q → Contains paths q
   cut_visited q has =
       let o = cut_opened whole q (passes (is_cut t) (keys t) q has).1 in
-      subst (Contains paths) (sym o.full_.has.2.at ∙ o.at_) (goes_to (λ (v : Visit). v.place.path) visits (record { hash = o.hash; place = o.place }) (all_visited o.reached))
+      subst (Contains paths) (sym o.full_.has.decodes.at ∙ o.at_) (goes_to (λ (v : Visit). v.place.path) visits (record { hash = o.hash; place = o.place }) (all_visited o.reached))
 
   pub as_many : length visits ≡ length (cuts_of t)
   as_many =

@@ -8,34 +8,34 @@ use Rattle.cv_base.specs.Path.{Path, covers}
 use Rattle.cv_base.specs.ObjectId.{object_id}
 use Rattle.cv_base.specs.declared.id.Kind.TheVariants as id_kind
 use Rattle.cv_base.specs.declared.id.ObjectId.{ObjectId}
-use Rattle.cv_ports.specs.Calls.{raised}
+use Rattle.cv_ports.specs.Calls.{raised, raised_by}
 use Rattle.cv_ports.specs.Shelf.{Shelf}
 use Rattle.cv_rows.specs.Catalogue.{Contents, IsCatalogue}
 use Rattle.cv_rows.specs.Places.{StandsAt}
 use Rattle.cv_rows.specs.declared.row.Row.{Row}
 use Rattle.cv_rows.specs.declared.nested.Nested.{Nested}
-use Rattle.cv_cut.specs.Reached.{Place, HasCatalogue, ReachesCatalogue, itself, root_place}
-use Rattle.cv_load.specs.declared.load_fault.LoadFault.{LoadFault}
-use Rattle.cv_load.specs.declared.load_fault.LoadFault.TheVariants as fault
-use Rattle.cv_load.specs.Growth.{IsCatalogueAt, IsNestedCatalogue}
-use Rattle.cv_load.specs.Fetches.{raised_by, Visit, Visited, FetchesOnce, IsInside, HasEntry, HasEntries, IsClosed, AreBelow, FetchesBelow}
-use Rattle.cv_load.proofs.Opening.{transition_of}
+use Rattle.cv_cut.specs.Reached.{Reaches, Place, HasCatalogue, ReachesCatalogue, itself, root_place}
+use Rattle.cv_cut.specs.declared.load_fault.LoadFault.{LoadFault}
+use Rattle.cv_cut.specs.declared.load_fault.LoadFault.TheVariants as fault
+use Rattle.cv_load.specs.Fetches.{Visit, Visited, FetchesOnce, IsInside, HasEntry, HasEntries, IsClosed, AreBelow, FetchesBelow}
 use Rattle.cv_load.proofs.Growing.{each_more, each_all}
 use Rattle.cv_load.proofs.Filling.{one_row}
 use Rattle.cv_load.proofs.Standing.{same_contents}
-use Rattle.cv_load.proofs.Whole.{place_at, at_root_place}
+use Rattle.cv_load.proofs.LoadedTree.{place_at, at_root_place}
 use Rattle.cv_load.proofs.Below.{covers_itself, entries_apart, entry_below}
+use Rattle.cv_cut.specs.Opening.{IsNestedCatalogue}
+use Rattle.cv_cut.proofs.Opening.{transition_of}
 
 -- ---- lists
 
-pairs_append : {X : Type 0} (R : X → X → Type 0) (xs ys : List X) → AllPairs R xs → AllPairs R ys → All (λ x. All (R x) ys) xs → AllPairs R (xs ++ ys)
+pub pairs_append : {X : Type 0} (R : X → X → Type 0) (xs ys : List X) → AllPairs R xs → AllPairs R ys → All (λ x. All (R x) ys) xs → AllPairs R (xs ++ ys)
 pairs_append R [] ys first then across = then
 pairs_append R (x ∷ xs) ys first then across =
     let head : All (R x) xs = λ j d lt. first 0 (suc j) d (omega arith) (omega (arith, lt)) in
     let tail : AllPairs R xs = λ i j d lt within. first (suc i) (suc j) d (omega arith) (omega arith) in
     AllPairs-cons R x (xs ++ ys) (All-append (R x) xs ys head (All-head (λ y. All (R y) ys) x xs across)) (pairs_append R xs ys tail then (All-tail (λ y. All (R y) ys) x xs across))
 
-raised_more : (m n count : ℕ) → raised_by m (raised_by n count) ≡ raised_by (n + m) count
+pub raised_more : (m n count : ℕ) → raised_by m (raised_by n count) ≡ raised_by (n + m) count
 raised_more zero n count = ap (λ (k : ℕ). raised_by k count) (let e : n ≡ n + 0 = omega arith in e)
 raised_more (suc m) n count = ap raised (raised_more m n count) ∙ ap (λ (k : ℕ). raised_by k count) (let e : suc (n + m) ≡ n + suc m = omega arith in e)
 
@@ -106,7 +106,7 @@ fetches_alone shelf top hash place before after f reached (inr taken) =
     }
 
 -- what is inside a catalogue is properly below its place
-inside_below : (c : Contents) (p q : Path) → IsCatalogue c → c.at ≡ p → IsInside c q → (covers p q ≡ true) × (p ≢ q)
+pub inside_below : (c : Contents) (p q : Path) → IsCatalogue c → c.at ≡ p → IsInside c q → (covers p q ≡ true) × (p ≢ q)
 inside_below c p q is place inside =
     let e = entry_below c inside.0 q is inside.1 inside.2 in
     (subst (λ (x : Path). covers x q ≡ true) place e.0, λ same. e.1 (sym (place ∙ same)))
@@ -128,12 +128,12 @@ closed_with {shelf} v c vs has below = λ w d there stands.
     first_one a b (suc k, lt, is) = absurd (omega arith)
 
 -- a catalogue was given, and then those below it
-pub fetches_with : {X : Type 0} (shelf : Shelf) (top : List ℕ) (id : ObjectId) (place : Place) (c : Contents) (before middle after : ℕ) (result : Result X LoadFault) → ReachesCatalogue shelf top id.hash place → IsCatalogueAt shelf id place c → middle ≡ raised before
+pub fetches_with : {X : Type 0} (shelf : Shelf) (top : List ℕ) (id : ObjectId) (place : Place) (c : Contents) (before middle after : ℕ) (result : Result X LoadFault) → ReachesCatalogue shelf top id.hash place → HasCatalogue shelf id.hash place c → middle ≡ raised before
     → FetchesBelow shelf id c middle after result → FetchesUnder shelf top id.hash place before after result
 fetches_with shelf top id place c before middle after result reached stands taken deeper =
     let v : Visit = record { hash = id.hash; place = place } in
     let d = deeper top place reached stands in
-    let below = λ (w : Visit) (inside : IsInside c w.place.path). inside_below c place.path w.place.path stands.has.2.is stands.has.2.at inside in
+    let below = λ (w : Visit) (inside : IsInside c w.place.path). inside_below c place.path w.place.path stands.decodes.is stands.decodes.at inside in
     let across : All (λ (u : Visit). All (λ (w : Visit). u.place.path ≢ w.place.path) d.visits) (v ∷ []) =
     All-cons (λ (u : Visit). All (λ (w : Visit). u.place.path ≢ w.place.path) d.visits) v []
     (All-weaker (λ (w : Visit). IsInside c w.place.path) (λ (w : Visit). place.path ≢ w.place.path) (λ w inside. (below w inside).1) d.visits d.inside)
@@ -144,7 +144,7 @@ fetches_with shelf top id place c before middle after result reached stands take
       under = All-cons (λ (w : Visit). covers place.path w.place.path ≡ true) v d.visits (covers_itself place.path)
           (All-weaker (λ (w : Visit). IsInside c w.place.path) (λ (w : Visit). covers place.path w.place.path ≡ true) (λ w inside. (below w inside).0) d.visits d.inside);
       all = IfOk-weaker result (λ given. AreBelow shelf c d.visits) (λ given. AreUnder shelf id.hash place (v ∷ d.visits))
-          (λ given all. record { own = (0, omega arith, refl); deeper = closed_with v c d.visits stands.has all }) d.all;
+          (λ given all. record { own = (0, omega arith, refl); deeper = closed_with v c d.visits stands all }) d.all;
     }
 
 -- ---- the entries of a catalogue, one after another
@@ -172,7 +172,7 @@ pub record FetchesFirst (shelf : Shelf) (top : List ℕ) (c : Contents) (i befor
 
 -- at each place at which the catalogue under the id is reached
 abbrev pub FetchesFirstOf : Shelf → ObjectId → Contents → ℕ → ℕ → ℕ → {X : Type 0} → Result X LoadFault → Type 0
-FetchesFirstOf shelf id c i before after result = (top : List ℕ) (place : Place) → ReachesCatalogue shelf top id.hash place → IsCatalogueAt shelf id place c → FetchesFirst shelf top c i before after result
+FetchesFirstOf shelf id c i before after result = (top : List ℕ) (place : Place) → ReachesCatalogue shelf top id.hash place → HasCatalogue shelf id.hash place c → FetchesFirst shelf top c i before after result
 
 pub first_none : {X : Type 0} (shelf : Shelf) (id : ObjectId) (c : Contents) (before after : ℕ) (result : Result X LoadFault) → after ≡ before → FetchesFirstOf shelf id c 0 before after result
 first_none {X = X} shelf id c before after result same = λ top place reached stands. record {
@@ -219,7 +219,7 @@ pub first_unopened : {X : Type 0} (shelf : Shelf) (id : ObjectId) (c : Contents)
 first_unopened shelf id c n i before middle after f is lt item first taken = λ top place reached stands.
     let has : Contains c.nested n = (i, lt, sym item) in
     let t = transition_of c n is has in
-    let deeper = ReachesCatalogue.nested reached stands.has has t.1.kind t.1.stands in
+    let deeper = Reaches.nested reached stands has t.1.kind t.1.stands in
     first_more shelf top c n t.0 i before middle after (Err f) is lt item t.1.stands (first top place reached stands) (fetches_alone shelf top n.hash (record { path = n.path; row = Some t.0 }) middle after f deeper taken)
 
 -- one more, whose catalogue is opened, with those below it
@@ -227,7 +227,7 @@ pub first_opened : {X : Type 0} (shelf : Shelf) (id : ObjectId) (c below : Conte
     → FetchesFirstOf shelf id c i before middle {X = Unit {0}} (Ok (tt {0})) → IsNestedCatalogue shelf c n below → opened ≡ raised middle → FetchesBelow shelf (object_id n.hash id_kind.Catalogue) below opened after result → FetchesFirstOf shelf id c (i + 1) before after result
 first_opened shelf id c below n i before middle opened after result is lt item first open_ taken then = λ top place reached stands.
     let has : Contains c.nested n = (i, lt, sym item) in
-    let deeper = ReachesCatalogue.nested reached stands.has has open_.kind_ open_.stands in
+    let deeper = Reaches.nested reached stands has open_.kind_ open_.stands in
     first_more shelf top c n open_.row i before middle after result is lt item open_.stands (first top place reached stands)
     (fetches_with shelf top (object_id n.hash id_kind.Catalogue) (record { path = n.path; row = Some open_.row }) below middle opened after result deeper open_.opened taken then)
 
@@ -257,7 +257,7 @@ once_unopened shelf id before after taken = let f = fetches_alone {X = Unit {0}}
 abbrev pub FetchesAll : Shelf → ObjectId → ℕ → ℕ → {X : Type 0} → Result X LoadFault → Type 0
 FetchesAll shelf id before after result = FetchesUnder shelf id.hash id.hash root_place before after result
 
-pub root_opened : {X : Type 0} (shelf : Shelf) (id : ObjectId) (p : Path) (c : Contents) (before middle after : ℕ) (result : Result X LoadFault) → p ≡ [] → IsCatalogueAt shelf id (place_at p) c → middle ≡ raised before → FetchesBelow shelf id c middle after result
+pub root_opened : {X : Type 0} (shelf : Shelf) (id : ObjectId) (p : Path) (c : Contents) (before middle after : ℕ) (result : Result X LoadFault) → p ≡ [] → HasCatalogue shelf id.hash (place_at p) c → middle ≡ raised before → FetchesBelow shelf id c middle after result
     → FetchesAll shelf id before after result
 root_opened shelf id p c before middle after result e stands taken deeper = fetches_with shelf id.hash id root_place c before middle after result itself (at_root_place shelf id p c e stands) taken deeper
 

@@ -14,23 +14,26 @@ use Rattle.cv_rows.specs.declared.nested.Nested.{Nested}
 use Rattle.cv_rows.specs.declared.row_kind.RowKind.TheVariants.{Transition}
 use Rattle.cv_rows.proofs.PlaceLaws.{stands_contained, same_by_key}
 use Rattle.cv_rows.proofs.NestedLaws.{fits_there}
-use Rattle.cv_cut.specs.Reached.{Place, ReachesCatalogue}
-use Rattle.cv_load.specs.declared.load_fault.LoadFault.{LoadFault}
-use Rattle.cv_load.specs.Growth.{Grows, GrowsBy, HasRows, HasSize, HasFiles, IsOfRows, IsFilled, filled, FillsFrom, IsCatalogueAt, IsNestedCatalogue}
+use Rattle.cv_cut.specs.Reached.{Reaches, Place, ReachesCatalogue, HasCatalogue, root_place}
+use Rattle.cv_cut.proofs.Opening.{nested_unopened}
+use Rattle.cv_cut.specs.declared.load_fault.LoadFault.{LoadFault}
+use Rattle.cv_load.specs.Growth.{Grows, GrowsBy, HasRows, HasFiles, IsOfRows, IsFilled, filled, FillsFrom}
 use Rattle.cv_load.proofs.Growing.{still_there, each_more, each_all}
+use Rattle.cv_cut.specs.Good.{HasSize}
+use Rattle.cv_cut.specs.Opening.{OpensNested, IsNestedCatalogue}
 
 -- a tree that has grown still has all
 pub filled_more : {shelf : Shelf} {t : Nodes} {hash : List ℕ} {place : Place} (u : Nodes) → Grows t u → IsFilled shelf t hash place → IsFilled shelf u hash place
-filled_more {t = t} u grows (filled has sha files sizes there nested) =
-    filled has sha files sizes (λ r q s. still_there t u q grows (there r q s)) (λ n r a b c. filled_more u grows (nested n r a b c))
+filled_more {t = t} u grows (filled has files sizes there nested) =
+    filled has files sizes (λ r q s. still_there t u q grows (there r q s)) (λ n r a b c. filled_more u grows (nested n r a b c))
 
 -- what grew by the rows of a reached catalogue is of rows that are reached
-pub of_rows_grown : (shelf : Shelf) (top : List ℕ) (id : ObjectId) (place : Place) (c : Contents) (old new : Nodes) → ReachesCatalogue shelf top id.hash place → IsCatalogueAt shelf id place c
+pub of_rows_grown : (shelf : Shelf) (top : List ℕ) (id : ObjectId) (place : Place) (c : Contents) (old new : Nodes) → ReachesCatalogue shelf top id.hash place → HasCatalogue shelf id.hash place c
     → GrowsBy c.at c.rows old new → IsOfRows shelf top old → IsOfRows shelf top new
 of_rows_grown shelf top id place c old new reached stands grown before = λ q n e.
     elim (grown.comes q n e) [
       | inl was ↦ before q n was
-      | inr came ↦ record { hash = id.hash; place = place; contents = c; reached = reached; has = stands.has; node_ = came }
+      | inr came ↦ record { hash = id.hash; place = place; contents = c; reached = reached; has = stands; node_ = came }
     ]
 
 -- the catalogue of a nested entry is there with all that is reached from it on
@@ -47,7 +50,7 @@ pub record FillsSome (shelf : Shelf) (top : List ℕ) (c : Contents) (old new : 
 
 -- at each place at which the catalogue under the id is reached
 abbrev pub FillsSomeFrom : Shelf → ObjectId → Contents → Nodes → Nodes → ℕ → Type 0
-FillsSomeFrom shelf id c old new i = (top : List ℕ) (place : Place) → ReachesCatalogue shelf top id.hash place → IsCatalogueAt shelf id place c → IsOfRows shelf top old → FillsSome shelf top c old new i
+FillsSomeFrom shelf id c old new i = (top : List ℕ) (place : Place) → ReachesCatalogue shelf top id.hash place → HasCatalogue shelf id.hash place c → IsOfRows shelf top old → FillsSome shelf top c old new i
 
 pub fills_none : (shelf : Shelf) (id : ObjectId) (c : Contents) (old new : Nodes) → GrowsBy c.at c.rows old new → HasRows c new → FillsSomeFrom shelf id c old new 0
 fills_none shelf id c old new grown there = λ top place reached stands before. record {
@@ -68,7 +71,7 @@ pub fills_more : (shelf : Shelf) (id : ObjectId) (c below : Contents) (n : Neste
 fills_more shelf id c below n old t new i x is inside item some opened h = λ top place reached stands before.
     let s = some top place reached stands before in
     let has : Contains c.nested n = (i, inside, sym item) in
-    let deeper = ReachesCatalogue.nested reached stands.has has opened.kind_ opened.stands in
+    let deeper = Reaches.nested reached stands has opened.kind_ opened.stands in
     let f = h top (record { path = n.path; row = Some opened.row }) deeper opened.opened s.rows in
     record {
       grows = λ q m e. f.grows q m (s.grows q m e);
@@ -90,14 +93,18 @@ fills_all shelf id c old new i x y enough files some = λ top place reached stan
     record {
       grows = s.grows;
       rows = s.rows;
-      filled = filled stands.has stands.hash files (λ n has. (nested n has).size) s.there (λ n r has kind at. (nested n has).filled r kind at);
+      filled = filled stands files (λ n has. (nested n has).size) s.there (λ n r has kind at. (nested n has).filled r kind at);
     }
 
 -- ---- faults
+
+pub fills_unopened : (shelf : Shelf) (id : ObjectId) (c : Contents) (n : Nested) (old new : Nodes) (X : Type 0) (f : LoadFault) → id.kind ≡ id_kind.Catalogue → Contains c.nested n
+    → OpensNested shelf id c n (Err f) → FillsFrom shelf id c old new {X = X} (Err f)
+fills_unopened shelf id c n old new X f kind there h = λ top place reached stands before. nested_unopened shelf top root_place id place c n kind reached stands there f h
 
 pub fills_broken : (shelf : Shelf) (id : ObjectId) (c below : Contents) (n : Nested) (old t new : Nodes) (i : ℕ) (X : Type 0) (f : LoadFault) → i < length c.nested → n ≡ get_or c.nested i n
     → FillsSomeFrom shelf id c old t i → IsNestedCatalogue shelf c n below → FillsFrom shelf (object_id n.hash id_kind.Catalogue) below t new {X = X} (Err f) → FillsFrom shelf id c old new {X = X} (Err f)
 fills_broken shelf id c below n old t new i X f inside item some opened h = λ top place reached stands before.
     let s = some top place reached stands before in
     let has : Contains c.nested n = (i, inside, sym item) in
-    h top (record { path = n.path; row = Some opened.row }) (ReachesCatalogue.nested reached stands.has has opened.kind_ opened.stands) opened.opened s.rows
+    h top (record { path = n.path; row = Some opened.row }) (Reaches.nested reached stands has opened.kind_ opened.stands) opened.opened s.rows

@@ -23,17 +23,19 @@ use Rattle.cv_rows.specs.declared.row_kind.RowKind.{RowKind}
 use Rattle.cv_cut.specs.Cuts.{is_cut}
 use Rattle.cv_cut.specs.Catalogues.{kind_of, row_of, cat}
 use Rattle.cv_cut.specs.Means.{Means}
-use Rattle.cv_cut.specs.Reached.{Place, Decodes, HasCatalogue, ReachesCatalogue, itself, Reached, Lacking, Misstates, Bad}
+use Rattle.cv_cut.specs.Reached.{ReachedFrom, Reaches, Place, Decodes, HasCatalogue, ReachesCatalogue, itself, Reached, Lacking, Misstates, Bad}
 use Rattle.cv_cut.proofs.Canonical.{cat_is}
 use Rattle.cv_cut.proofs.Regions.{IsRowThere, root_node, stands_only}
 use Rattle.cv_cut.proofs.RegionRules.{stands_at_cut}
-use Rattle.cv_cut.proofs.RowFacts.{row_at, root_row}
-use Rattle.cv_cut.proofs.CanonicalRules.{contents_of, canonical, other_cut, region_apart}
-use Rattle.cv_load.specs.Answers.{IsDamaged}
+use Rattle.cv_cut.proofs.RowFacts.{root_row}
+use Rattle.cv_cut.proofs.CanonicalRules.{canonical, other_cut, region_apart}
+use Rattle.cv_cut.specs.Catalogues.{contents_of}
 use Rattle.cv_load.proofs.CutRows.{IsKept}
 use Rattle.cv_load.proofs.Kept.{kept}
 use Rattle.cv_load.proofs.OneTree.{cut_there}
-use Rattle.cv_load.proofs.Opening.{one_catalogue}
+use Rattle.cv_cut.specs.Opening.{IsDamaged}
+use Rattle.cv_cut.proofs.Told.{one_decoding}
+use Rattle.cv_cut.specs.Region.{row_at}
 
 not_none : {X : Type 0} (o : Option X) (x : X) → o ≡ Some x → o ≡ None → ⊥
 not_none o x some none = let e : Some x ≡ None = sym some ∙ none in cc
@@ -59,35 +61,35 @@ sized None size h = absurd h
 sized (Some bytes) size h = (bytes, refl, h)
 
 module _ {shelf : Shelf} {top : List ℕ} {t : Nodes} (is : Means shelf top t) where
-  canon : (p : Path) → is_cut t p ≡ true → IsKept p (at t p) (λ d. cat t (p ++ d))
+  pub canon : (p : Path) → is_cut t p ≡ true → IsKept p (at t p) (λ d. cat t (p ++ d))
   canon p cut = kept t is.tree is.fits p cut
 
   -- a reached catalogue is that of a cut
-  record IsCanonical (hash : List ℕ) (place : Place) : Type 0 where
-    cut : is_cut t place.path ≡ true
-    named : hash ≡ sha1 (cat t place.path)
-    decodes : Decodes place (cat t place.path) (contents_of t place.path)
+  pub record IsCanonical (hash : List ℕ) (place : Place) : Type 0 where
+    pub cut : is_cut t place.path ≡ true
+    pub named : hash ≡ sha1 (cat t place.path)
+    pub decodes : Decodes place (cat t place.path) (contents_of t place.path)
 
-  there_is : {hash : List ℕ} {place : Place} → IsCanonical hash place → shelf (object_id hash id_kind.Catalogue) ≡ Some (cat t place.path)
+  pub there_is : {hash : List ℕ} {place : Place} → IsCanonical hash place → shelf (object_id hash id_kind.Catalogue) ≡ Some (cat t place.path)
   there_is {place = place} c = ap (λ (h : List ℕ). shelf (object_id h id_kind.Catalogue)) c.named ∙ is.catalogues place.path c.cut
 
   same_bytes : {hash : List ℕ} {place : Place} → IsCanonical hash place → (bytes : List ℕ) → shelf (object_id hash id_kind.Catalogue) ≡ Some bytes → bytes ≡ cat t place.path
   same_bytes {place = place} c bytes there = let e : Some bytes ≡ Some (cat t place.path) = sym there ∙ there_is c in cc
 
   same_catalogue : {hash : List ℕ} {place : Place} → IsCanonical hash place → (c : Contents) → HasCatalogue shelf hash place c → c ≡ contents_of t place.path
-  same_catalogue {hash} {place} known c has = one_catalogue place (cat t place.path) c (contents_of t place.path) (subst (λ (b : List ℕ). Decodes place b c) (same_bytes known has.0 has.1) has.2) known.decodes
+  same_catalogue {hash} {place} known c has = one_decoding place (cat t place.path) c (contents_of t place.path) (subst (λ (b : List ℕ). Decodes place b c) (same_bytes known has.bytes has.there) has.decodes) known.decodes
 
-  decodes_at : (p : Path) (row : Option Row) → is_cut t p ≡ true → IfSome row (λ r. (top_row : Row) × Contains (contents_of t p).rows top_row × IsRoot p top_row × (top_row ≡ record r { kind = top_row.kind }))
+  pub decodes_at : (p : Path) (row : Option Row) → is_cut t p ≡ true → IfSome row (λ r. (top_row : Row) × Contains (contents_of t p).rows top_row × IsRoot p top_row × (top_row ≡ record r { kind = top_row.kind }))
       → Decodes (record { path = p; row = row }) (cat t p) (contents_of t p)
   decodes_at p row cut fits = record { at = refl; is = canonical t p is.tree cut is.fits; spelled = cat_is t p is.tree (cut_there t p is.tree cut); row = fits }
 
   -- a nested entry of the catalogue of a cut is that of another cut
-  record IsOwnEntry (n : Nested) : Type 0 where
-    cut : is_cut t n.path ≡ true
-    hash : n.hash ≡ sha1 (cat t n.path)
-    size : n.size ≡ length (cat t n.path)
+  pub record IsOwnEntry (n : Nested) : Type 0 where
+    pub cut : is_cut t n.path ≡ true
+    pub hash : n.hash ≡ sha1 (cat t n.path)
+    pub size : n.size ≡ length (cat t n.path)
 
-  own_entry : (p : Path) (n : Nested) → is_cut t p ≡ true → Contains (contents_of t p).nested n → IsOwnEntry n
+  pub own_entry : (p : Path) (n : Nested) → is_cut t p ≡ true → Contains (contents_of t p).nested n → IsOwnEntry n
   own_entry p n cut has =
       let e = (canon p cut).entries.each n has in
       subst IsOwnEntry (sym e.2) (record { cut = other_cut t p e.0 e.1; hash = refl; size = refl })
@@ -104,24 +106,24 @@ module _ {shelf : Shelf} {top : List ℕ} {t : Nodes} (is : Means shelf top t) w
       let nodes = one_node p q s.rest m.0 s.node_ m.1.there s.there.there s.place in
       (row_at q (at t q) [] m.0, (canon q cut).rows.all [] m.0 m.1, root_row q (at t q) m.0, same_fields (root_kind q) (kind_of p (at t p) s.rest s.node_) (q ++ []) (p ++ s.rest) m.0 s.node_ r (append-nil q ∙ s.place) nodes s.row)
 
-  canonical_entry : (p : Path) (n : Nested) (r : Row) → is_cut t p ≡ true → Contains (contents_of t p).nested n → StandsAt p (contents_of t p).rows r n.path → IsCanonical n.hash (record { path = n.path; row = Some r })
+  pub canonical_entry : (p : Path) (n : Nested) (r : Row) → is_cut t p ≡ true → Contains (contents_of t p).nested n → StandsAt p (contents_of t p).rows r n.path → IsCanonical n.hash (record { path = n.path; row = Some r })
   canonical_entry p n r cut has s =
       let e = own_entry p n cut has in
       let there = stands_only p (at t p) (contents_of t p).rows (stands_at_cut t p is.tree cut).part (region_apart t p cut is.fits.apart) (canon p cut).rows s in
       record { cut = e.cut; named = e.hash; decodes = decodes_at n.path (Some r) e.cut (root_fits p n.path r e.cut there) }
 
-  canonical_reached : {hash : List ℕ} {place : Place} → ReachesCatalogue shelf top hash place → IsCanonical hash place
+  pub canonical_reached : {hash : List ℕ} {place : Place} → ReachesCatalogue shelf top hash place → IsCanonical hash place
   canonical_reached itself = record { cut = refl; named = is.root; decodes = decodes_at [] None refl tt }
-  canonical_reached (ReachesCatalogue.nested {place = over} {c = c} {n = n} {r = r} reached has there kind s) =
+  canonical_reached (Reaches.nested {place = over} {c = c} {n = n} {r = r} reached has there kind s) =
       let known = canonical_reached reached in
       let same = same_catalogue known c has in
       canonical_entry over.path n r known.cut (subst (λ (x : Contents). Contains x.nested n) same there) (subst (λ (x : Contents). StandsAt x.at x.rows r n.path) same s)
 
   -- the content of a file row is there, of its size
-  content_there : {hash : List ℕ} {place : Place} → IsCanonical hash place → (c : Contents) → Decodes place (cat t place.path) c → (r : Row) → Contains c.rows r → (content : List ℕ) → r.hash ≡ Some content
+  pub content_there : {hash : List ℕ} {place : Place} → IsCanonical hash place → (c : Contents) → Decodes place (cat t place.path) c → (r : Row) → Contains c.rows r → (content : List ℕ) → r.hash ≡ Some content
       → IsSomeAnd (shelf (object_id content id_kind.Plain)) (λ bytes. length bytes ≡ r.size)
   content_there {place = place} known c decodes r has content e =
-      let same = one_catalogue place (cat t place.path) c (contents_of t place.path) decodes known.decodes in
+      let same = one_decoding place (cat t place.path) c (contents_of t place.path) decodes known.decodes in
       let k = canon place.path known.cut in
       let f = k.rows.each r (subst (λ (x : Contents). Contains x.rows r) same has) in
       let parts = file_parts (kind_of place.path (at t place.path) f.0 f.1) (place.path ++ f.0) f.1 content (ap (λ (x : Row). x.hash) (sym f.3) ∙ e) in
@@ -131,10 +133,10 @@ module _ {shelf : Shelf} {top : List ℕ} {t : Nodes} (is : Means shelf top t) w
       (subst (λ (n : ℕ). IsSomeAnd (shelf (object_id parts.1.hash id_kind.Plain)) (λ bytes. length bytes ≡ n)) (sym size) there)
 
   reached_there : {x : ObjectId} → Reached shelf top x → shelf x ≡ None → ⊥
-  reached_there (Reached.catalogue_ reached) none = let known = canonical_reached reached in not_none _ _ (there_is known) none
-  reached_there (Reached.file {hash = hash} {content = content} {place = place} {c = c} {r = r} reached has there kind e) none =
+  reached_there (ReachedFrom.catalogue_ reached) none = let known = canonical_reached reached in not_none _ _ (there_is known) none
+  reached_there (ReachedFrom.file {hash = hash} {content = content} {place = place} {c = c} {r = r} reached has there kind e) none =
       let known = canonical_reached reached in
-      let s = sized (shelf (object_id content id_kind.Plain)) r.size (content_there known c (subst (λ (b : List ℕ). Decodes place b c) (same_bytes known has.0 has.1) has.2) r there content e) in
+      let s = sized (shelf (object_id content id_kind.Plain)) r.size (content_there known c (subst (λ (b : List ℕ). Decodes place b c) (same_bytes known has.bytes has.there) has.decodes) r there content e) in
       not_none _ _ s.1 none
 
   pub none_lacking : (x : ObjectId) → Lacking shelf top x → ⊥
@@ -142,7 +144,7 @@ module _ {shelf : Shelf} {top : List ℕ} {t : Nodes} (is : Means shelf top t) w
 
   no_misstatement : {hash : List ℕ} {place : Place} → IsCanonical hash place → (c : Contents) → Decodes place (cat t place.path) c → Misstates shelf c → ⊥
   no_misstatement {place = place} known c decodes (Misstates.nested {n = n} {bytes = bytes} has there differs) =
-      let same = one_catalogue place (cat t place.path) c (contents_of t place.path) decodes known.decodes in
+      let same = one_decoding place (cat t place.path) c (contents_of t place.path) decodes known.decodes in
       let e = own_entry place.path n known.cut (subst (λ (x : Contents). Contains x.nested n) same has) in
       let own : Some bytes ≡ Some (cat t n.path) = sym there ∙ ap (λ (h : List ℕ). shelf (object_id h id_kind.Catalogue)) e.hash ∙ is.catalogues n.path e.cut in
       let bytes_are : bytes ≡ cat t n.path = cc in
@@ -164,8 +166,8 @@ module _ {shelf : Shelf} {top : List ℕ} {t : Nodes} (is : Means shelf top t) w
 
   -- the bytes of a reached catalogue have its hash
   same_digest : {x : ObjectId} → Reached shelf top x → x.kind ≡ id_kind.Catalogue → (bytes : List ℕ) → shelf x ≡ Some bytes → sha1 bytes ≡ x.hash
-  same_digest (Reached.catalogue_ reached) kind bytes there = let known = canonical_reached reached in ap sha1 (same_bytes known bytes there) ∙ sym known.named
-  same_digest (Reached.file reached has own is content) kind bytes there = absurd cc
+  same_digest (ReachedFrom.catalogue_ reached) kind bytes there = let known = canonical_reached reached in ap sha1 (same_bytes known bytes there) ∙ sym known.named
+  same_digest (ReachedFrom.file reached has own is content) kind bytes there = absurd cc
 
   pub none_damaged : (id : ObjectId) (found : List ℕ) → IsDamaged shelf top id found → ⊥
-  none_damaged id found h = h.other (h.digest ∙ same_digest h.reached h.kind h.bytes h.there)
+  none_damaged id found h = h.damage.other (h.damage.digest ∙ same_digest h.reached h.kind h.damage.bytes h.damage.there)

@@ -19,17 +19,15 @@ use Rattle.cv_cut.specs.Reached.{Place, ReachesCatalogue, itself, root_place}
 use Rattle.cv_cut.specs.Cuts.{is_file}
 use Rattle.cv_base.specs.ObjectId.{object_id}
 use Rattle.cv_base.specs.declared.id.Kind.TheVariants as id_kind
-use Rattle.cv_load.specs.Growth.{node_of, node_as}
+use Rattle.cv_cut.specs.Told.{node_of, node_as}
 use Rattle.cv_load.proofs.Growing.{some_there}
 use Rattle.cv_load.proofs.Assembly.{IsWhole, IsFull, full_of, standing_of, directory_unmarked}
 use Rattle.cv_load.proofs.Standing.{IsOpen, Standing, so_root, so_below, stands_so, rules_of, same_contents}
 use Rattle.std.specs.Prelude.{IsSomeAnd}
 use Rattle.cv_rows.specs.Row.{HasContent}
 use Rattle.cv_cut.specs.Catalogues.{rows_of}
-use Rattle.cv_cut.proofs.RowFacts.{row_at}
-use Rattle.cv_cut.proofs.Regions.{KeysApart}
 use Rattle.cv_cut.proofs.RegionLists.{row_list, keys_apart, rows_of-by_key}
-use Rattle.cv_load.specs.Growth.{hash_of}
+use Rattle.cv_cut.specs.Told.{hash_of}
 use Rattle.cv_cut.specs.Cuts.{is_cut}
 use Rattle.cv_cut.specs.Catalogues.{cat}
 use Rattle.cv_load.proofs.WholeRegions.{names_open}
@@ -46,6 +44,7 @@ use Rattle.cv_cut.proofs.CanonicalRules.{order_count}
 use Rattle.cv_load.proofs.Assembly.{file_row}
 use Rattle.cv_load.proofs.OwnRows.{own_keys, some_hash, row_content}
 use Rattle.cv_load.proofs.OwnCatalogues.{part_open, spelled}
+use Rattle.cv_cut.specs.Region.{row_at, KeysApart}
 
 some_directory : (o : Option Node) (b : Bool) → (is_directory o && b) ≡ true → (n : Node) × (o ≡ Some n) × (is_directory (Some n) ≡ true)
 some_directory None b h = absurd cc
@@ -91,12 +90,12 @@ module _ {shelf : Shelf} {top : List ℕ} {t : Nodes} (whole : IsWhole shelf top
   named p s kind =
       let n = names_open whole p s kind in
       let f = full_of whole n.reached in
-      record { hash = n.entry.hash; place = record { path = n.entry.path; row = Some s.row }; reached = n.reached; full_ = f; at_ = f.has.2.at ∙ n.path }
+      record { hash = n.entry.hash; place = record { path = n.entry.path; row = Some s.row }; reached = n.reached; full_ = f; at_ = f.has.decodes.at ∙ n.path }
 
   abbrev top_opened : IsOpenAt shelf top t []
   top_opened =
       let f = full_of whole itself in
-      record { hash = top; place = root_place; reached = itself; full_ = f; at_ = f.has.2.at }
+      record { hash = top; place = root_place; reached = itself; full_ = f; at_ = f.has.decodes.at }
 
   pub cut_opened : (p : Path) → is_cut t p ≡ true → IsOpenAt shelf top t p
   cut_opened [] cut = top_opened
@@ -119,10 +118,10 @@ module _ {shelf : Shelf} {top : List ℕ} {t : Nodes} (whole : IsWhole shelf top
   spelled_at {p} o = subst (λ (q : Path). cat t q ≡ catalogue_bytes o.full_.contents) o.at_ (spelled whole (open_of o))
 
   hash_at : {p : Path} (o : IsOpenAt shelf top t p) → o.hash ≡ sha1 (cat t p)
-  hash_at o = sym o.full_.sha ∙ ap sha1 (sym (spelled_at o))
+  hash_at o = sym o.full_.has.digest ∙ ap sha1 (o.full_.has.decodes.spelled ∙ sym (spelled_at o))
 
   bytes_at : {p : Path} (o : IsOpenAt shelf top t p) → shelf (object_id (sha1 (cat t p)) id_kind.Catalogue) ≡ Some (cat t p)
-  bytes_at o = ap (λ (h : List ℕ). shelf (object_id h id_kind.Catalogue)) (sym (hash_at o)) ∙ o.full_.has.1 ∙ ap Some (o.full_.has.2.spelled ∙ sym (spelled_at o))
+  bytes_at o = ap (λ (h : List ℕ). shelf (object_id h id_kind.Catalogue)) (sym (hash_at o)) ∙ o.full_.has.there ∙ ap Some (o.full_.has.decodes.spelled ∙ sym (spelled_at o))
 
   rows_at : {p : Path} (o : IsOpenAt shelf top t p) → rows_of p (at t p) ≡ o.full_.contents.rows
   rows_at o = subst (λ (q : Path). rows_of q (at t q) ≡ o.full_.contents.rows) o.at_ (same_rows whole (open_of o) (part_open whole (open_of o)))
@@ -143,7 +142,7 @@ module _ {shelf : Shelf} {top : List ℕ} {t : Nodes} (whole : IsWhole shelf top
   limits : (p : Path) → PassesLimit t p → ⊥
   limits p full =
       let o = cut_opened p full.is_cut_ in
-      let rules = o.full_.has.2.is in
+      let rules = o.full_.has.decodes.is in
       elim full.passes [
         | inl many ↦
             let rows = ap (λ (rs : List Row). length rs) (sym (rows_of-by_key p (at t p)) ∙ rows_at o) in

@@ -19,10 +19,10 @@ use Rattle.cv_cut.specs.Cuts.{is_file, is_marked, is_near, is_inner, is_cut}
 use Rattle.cv_cut.specs.Catalogues.{cat}
 use Rattle.cv_cut.specs.Means.{Means}
 use Rattle.cv_cut.proofs.Canonical.{cat_is}
-use Rattle.cv_cut.proofs.Regions.{IsNear}
-use Rattle.cv_load.proofs.Behind.{is_behind}
+use Rattle.cv_cut.proofs.Behind.{is_behind}
 use Rattle.cv_load.proofs.Kept.{AreKept, kept}
 use Rattle.cv_load.proofs.CutRows.{shared, one_hash, contents_at, transition_of_inner, inner_of_transition}
+use Rattle.cv_cut.specs.Region.{IsNear}
 
 -- ---- what stands at two cuts is the same where their regions are, and what stands at the other cuts
 

@@ -18,15 +18,14 @@ use Rattle.cv_cut.specs.Reached.{Place, ReachesCatalogue, nested}
 use Rattle.cv_cut.specs.Cuts.{is_file, is_marked}
 use Rattle.cv_base.specs.ObjectId.{object_id}
 use Rattle.cv_base.specs.declared.id.Kind.TheVariants as id_kind
-use Rattle.cv_load.specs.Growth.{node_of, HasSize}
+use Rattle.cv_cut.specs.Told.{node_of}
 use Rattle.cv_tree.specs.Tree.{IsPart}
-use Rattle.cv_load.proofs.Opening.{transition_long}
 use Rattle.cv_load.proofs.Assembly.{IsWhole, full_of, node_there, open_marked}
 use Rattle.cv_load.proofs.Standing.{IsOpen, Standing, rules_of, same_contents}
 use Rattle.std.specs.Prelude.{IsSomeAnd}
 use Rattle.cv_cut.specs.Catalogues.{kind_of}
 use Rattle.cv_cut.proofs.Sorted.{order_rises}
-use Rattle.cv_load.proofs.Sameness.{same_list}
+use Rattle.cv_cut.proofs.Sameness.{same_list}
 use Rattle.cv_load.proofs.WholeRegions.{marked_at, transition_marked, row_near}
 use Rattle.cv_base.specs.Path.{text_of}
 use Rattle.cv_base.proofs.Bools.{first_true}
@@ -36,13 +35,15 @@ use Rattle.cv_tree.proofs.Shapes.{IsPart-at}
 use Rattle.cv_cut.specs.Cuts.{is_cut}
 use Rattle.cv_cut.specs.Catalogues.{cat, nested_of, entry_of}
 use Rattle.cv_cut.proofs.Canonical.{cat_is}
-use Rattle.cv_cut.proofs.RegionRules.{IsOther, AreEntriesOf, stands_at_cut}
+use Rattle.cv_cut.proofs.RegionRules.{stands_at_cut}
 use Rattle.cv_cut.proofs.RegionLists.{nested_list, texts_apart, nested_of-by_text}
 use Rattle.cv_cut.proofs.RowFacts.{marked_transition}
-use Rattle.cv_load.proofs.Opening.{transition_of}
-use Rattle.cv_load.proofs.Kept.{entries_are}
+use Rattle.cv_cut.proofs.Told.{entries_are}
 use Rattle.cv_load.proofs.WholeRegions.{names_open}
 use Rattle.cv_load.proofs.OwnRows.{kind_is, near_of, same_rows}
+use Rattle.cv_cut.specs.Good.{HasSize}
+use Rattle.cv_cut.proofs.Opening.{transition_long, transition_of}
+use Rattle.cv_cut.specs.Region.{IsOther, AreEntriesOf}
 
 -- a marked directory is a cut, and so is the root
 pub marked_cut : (t : Nodes) (p : Path) → (p ≢ [] → is_marked t p ≡ true) → is_cut t p ≡ true
@@ -81,15 +82,15 @@ module _ {shelf : Shelf} {top : List ℕ} {t : Nodes} (whole : IsWhole shelf top
       let reached : ReachesCatalogue shelf top n.hash (record { path = n.path; row = Some tr.0 }) = nested o.reached o.has has tr.1.kind tr.1.stands in
       let f = full_of whole reached in
       let own : IsOpen shelf top n.hash (record { path = n.path; row = Some tr.0 }) f.contents = record { reached = reached; has = f.has } in
-      let at_n : f.contents.at ≡ n.path = f.has.2.at in
+      let at_n : f.contents.at ≡ n.path = f.has.decodes.at in
       let bytes : cat t n.path ≡ catalogue_bytes f.contents =
       subst (λ (p : Path). cat t p ≡ catalogue_bytes f.contents) at_n (deep n.hash (record { path = n.path; row = Some tr.0 }) f.contents own (let size = ap (λ (p : Path). length p) at_n in omega (arith, long, size))) in
       let mine = full_of whole o.reached in
       let same = same_contents shelf hash hash place place c mine.contents refl refl o.has mine.has in
       let sized : HasSize shelf (object_id n.hash id_kind.Catalogue) n.size = mine.sizes n (subst (λ (x : Contents). Contains x.nested n) same has) in
-      let length_is : length f.has.0 ≡ n.size = subst (λ (b : Option (List ℕ)). IsSomeAnd b (λ bytes. length bytes ≡ n.size)) f.has.1 sized in
-      let size : n.size ≡ length (cat t n.path) = sym length_is ∙ ap (λ (b : List ℕ). length b) (f.has.2.spelled ∙ sym bytes) in
-      let sha : n.hash ≡ sha1 (cat t n.path) = sym f.sha ∙ ap sha1 (sym bytes) in
+      let length_is : length f.has.bytes ≡ n.size = subst (λ (b : Option (List ℕ)). IsSomeAnd b (λ bytes. length bytes ≡ n.size)) f.has.there sized in
+      let size : n.size ≡ length (cat t n.path) = sym length_is ∙ ap (λ (b : List ℕ). length b) (f.has.decodes.spelled ∙ sym bytes) in
+      let sha : n.hash ≡ sha1 (cat t n.path) = sym f.has.digest ∙ ap sha1 (f.has.decodes.spelled ∙ sym bytes) in
       let entry : n ≡ entry_of n.path (cat t n.path) = λ i. record { path = n.path; hash = sha i; size = size i } in (
         near.0,
         record {

@@ -18,11 +18,10 @@ use Rattle.cv_rows.specs.declared.row_kind.RowKind.TheVariants.{Directory, Trans
 use Rattle.cv_rows.proofs.PlaceLaws.{stands_contained, same_by_key, one_place}
 use Rattle.cv_cut.specs.Reached.{Place}
 use Rattle.cv_cut.specs.Cuts.{is_marked}
-use Rattle.cv_load.specs.Growth.{node_of, node_as}
+use Rattle.cv_cut.specs.Told.{node_of, node_as}
 use Rattle.cv_load.proofs.Filling.{one_row}
 use Rattle.cv_load.proofs.Growing.{place_of}
 use Rattle.cv_tree.specs.Tree.{IsPart}
-use Rattle.cv_cut.proofs.Regions.{IsNear}
 use Rattle.cv_load.proofs.Assembly.{IsWhole, node_there, directory_unmarked}
 use Rattle.cv_load.proofs.Standing.{IsOpen, Standing, so_root, so_below, stands_so, rules_of}
 use Rattle.std.specs.Prelude.{IsSomeAnd}
@@ -34,14 +33,13 @@ use Rattle.cv_rows.proofs.NestedLaws.{fits_there}
 use Rattle.cv_rows.proofs.Sorting.{row_total}
 use Rattle.cv_cut.specs.Catalogues.{kind_of, row_of, rows_of}
 use Rattle.cv_cut.proofs.Ends.{parent_key-append, last_name-append}
-use Rattle.cv_cut.proofs.RowFacts.{row_at}
-use Rattle.cv_cut.proofs.Regions.{KeysApart, AreRowsOf}
 use Rattle.cv_cut.proofs.RegionLists.{row_list, keys_apart, rows_of-by_key}
 use Rattle.cv_cut.proofs.Sorted.{order_rises}
-use Rattle.cv_load.specs.Growth.{hash_of}
-use Rattle.cv_load.proofs.Kept.{rows_are}
-use Rattle.cv_load.proofs.Sameness.{same_list}
+use Rattle.cv_cut.specs.Told.{hash_of}
+use Rattle.cv_cut.proofs.Told.{rows_are}
+use Rattle.cv_cut.proofs.Sameness.{same_list}
 use Rattle.cv_load.proofs.WholeRegions.{marked_at, near_by, transition_marked, row_near}
+use Rattle.cv_cut.specs.Region.{IsNear, row_at, KeysApart, AreRowsOf}
 
 -- ---- the row of a node
 

@@ -21,9 +21,11 @@ use Rattle.cv_rows.specs.declared.row_kind.RowKind.{RowKind}
 use Rattle.cv_rows.specs.declared.row_kind.RowKind.TheVariants.{Transition}
 use Rattle.cv_rows.proofs.PlaceLaws.{stands_contained, same_by_key}
 use Rattle.cv_cut.specs.Reached.{Place, Decodes, HasCatalogue, ReachesCatalogue, itself, nested, root_place}
-use Rattle.cv_load.specs.Growth.{node_of, node_as, FitsRow}
-use Rattle.cv_load.proofs.Opening.{one_catalogue, transition_long}
+use Rattle.cv_cut.specs.Told.{node_of, node_as}
 use Rattle.cv_load.proofs.Filling.{one_row}
+use Rattle.cv_cut.specs.Open.{FitsRow}
+use Rattle.cv_cut.proofs.Told.{one_decoding}
+use Rattle.cv_cut.proofs.Opening.{transition_long}
 
 -- ---- by equations
 
@@ -52,17 +54,17 @@ pub record IsOpen (shelf : Shelf) (top hash : List ℕ) (place : Place) (c : Con
   pub has : HasCatalogue shelf hash place c
 
 pub rules_of : {shelf : Shelf} {top hash : List ℕ} {place : Place} {c : Contents} → IsOpen shelf top hash place c → IsCatalogue c
-rules_of o = o.has.2.is
+rules_of o = o.has.decodes.is
 
 pub place_is : {shelf : Shelf} {top hash : List ℕ} {place : Place} {c : Contents} → IsOpen shelf top hash place c → c.at ≡ place.path
-place_is o = o.has.2.at
+place_is o = o.has.decodes.at
 
 -- under one hash and at one place stands one catalogue
 pub same_contents : (shelf : Shelf) (hash other : List ℕ) (place there : Place) (c d : Contents) → hash ≡ other → place ≡ there → HasCatalogue shelf hash place c → HasCatalogue shelf other there d → c ≡ d
 same_contents shelf hash other place there c d same at has had =
-    let bytes : Some has.0 ≡ Some had.0 = sym has.1 ∙ ap (λ (h : List ℕ). shelf (object_id h id_kind.Catalogue)) same ∙ had.1 in
-    let one : has.0 ≡ had.0 = cc in
-    one_catalogue there had.0 c d (subst (λ (b : List ℕ). Decodes there b c) one (subst (λ (p : Place). Decodes p has.0 c) at has.2)) had.2
+    let bytes : Some has.bytes ≡ Some had.bytes = sym has.there ∙ ap (λ (h : List ℕ). shelf (object_id h id_kind.Catalogue)) same ∙ had.there in
+    let one : has.bytes ≡ had.bytes = cc in
+    one_decoding there had.bytes c d (subst (λ (b : List ℕ). Decodes there b c) one (subst (λ (p : Place). Decodes p has.bytes c) at has.decodes)) had.decodes
 
 -- a row of a reached catalogue stands at a path
 pub record Standing (shelf : Shelf) (top : List ℕ) (q : Path) : Type 0 where
@@ -293,7 +295,7 @@ root_dir (a ∷ c) r kind = ap (λ (k : RowKind). node_as k r) kind
 -- the root row of a catalogue and the Transition row that names it have one node
 pub named_node : {shelf : Shelf} {top : List ℕ} {q : Path} (s : Standing shelf top q) → IsRoot s.contents.at s.row → (m : IsNamedBy s) → node_of s.row ≡ node_of m.row.row
 named_node s is m =
-    let fits : IfSome (Some m.row.row) (FitsRow s.contents) = subst (λ (p : Place). IfSome p.row (FitsRow s.contents)) m.place s.open_.has.2.row in
+    let fits : IfSome (Some m.row.row) (FitsRow s.contents) = subst (λ (p : Place). IfSome p.row (FitsRow s.contents)) m.place s.open_.has.decodes.row in
     let rules = rules_of s.open_ in
     let same : fits.0 ≡ s.row = same_by_key s.contents.rows fits.0 s.row rules.ordered fits.1 (stands_contained s.stands) (fits.2.key ∙ sym is.key) in
     let attr : s.row.attr ≡ m.row.row.attr = ap (λ (r : Row). r.attr) (sym same ∙ fits.3) in

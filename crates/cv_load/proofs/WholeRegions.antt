@@ -20,13 +20,14 @@ use Rattle.cv_rows.specs.declared.row_kind.RowKind.TheVariants.{Directory, Trans
 use Rattle.cv_rows.proofs.PlaceLaws.{stands_contained, one_place}
 use Rattle.cv_cut.specs.Reached.{Place, ReachesCatalogue, nested}
 use Rattle.cv_cut.specs.Cuts.{is_file, is_marked, is_near}
-use Rattle.cv_load.specs.Growth.{node_of, node_as}
+use Rattle.cv_cut.specs.Told.{node_of, node_as}
 use Rattle.cv_tree.specs.Tree.{IsPart}
 use Rattle.cv_cut.proofs.Ends.{some_last, near_below}
-use Rattle.cv_cut.proofs.Regions.{IsNear, above}
-use Rattle.cv_load.proofs.Opening.{transition_long}
+use Rattle.cv_cut.proofs.Regions.{above}
 use Rattle.cv_load.proofs.Assembly.{IsWhole, full_of, standing_of, node_there, open_marked, directory_unmarked}
 use Rattle.cv_load.proofs.Standing.{named_by, IsOpen, Standing, Holds, AreTogether, so_root, so_below, stands_so, rules_of, contents_same, one_holder, one_node, last_same, moved, not_empty, parent_standing}
+use Rattle.cv_cut.proofs.Opening.{transition_long}
+use Rattle.cv_cut.specs.Region.{IsNear}
 
 holder_kind : (k : RowKind) → holds_rows k ≡ true → k ≢ NestedRoot → k ≡ Directory
 holder_kind Directory h other = refl
@@ -98,7 +99,7 @@ module _ {shelf : Shelf} {top : List ℕ} {t : Nodes} (whole : IsWhole shelf top
       let n = names_open q s kind in
       let f = full_of whole n.reached in
       let o : IsOpen shelf top n.entry.hash (record { path = n.entry.path; row = Some s.row }) f.contents = record { reached = n.reached; has = f.has } in
-      let same : f.contents.at ≡ q = f.has.2.at ∙ n.path in
+      let same : f.contents.at ≡ q = f.has.decodes.at ∙ n.path in
       let long = transition_long s.stands kind in
       subst (λ (p : Path). is_marked t p ≡ true) same (open_marked whole o (λ none. let size = ap (λ (p : Path). length p) (sym same ∙ none) in omega (arith, long, size)))
 

@@ -1,8 +1,8 @@
 -- Which catalogues a load fetches.
-use Rattle.std.specs.Prelude.{◌≡◌, ◌≢◌, ◌⊎◌, ℕ, zero, suc, true, List, length, Some, Result, Ok, Err, IfOk, All, AllPairs, Contains}
+use Rattle.std.specs.Prelude.{◌≡◌, ◌≢◌, ℕ, zero, suc, true, List, length, Some, Result, IfOk, All, AllPairs, Contains}
 use Rattle.cv_base.specs.Path.{Path, covers}
 use Rattle.cv_base.specs.declared.id.ObjectId.{ObjectId}
-use Rattle.cv_ports.specs.Calls.{raised}
+use Rattle.cv_ports.specs.Calls.{raised_by}
 use Rattle.cv_ports.specs.Shelf.{Shelf}
 use Rattle.cv_rows.specs.Catalogue.{Contents}
 use Rattle.cv_rows.specs.Places.{StandsAt}
@@ -10,13 +10,7 @@ use Rattle.cv_rows.specs.declared.nested.Nested.{Nested}
 use Rattle.cv_rows.specs.declared.row.Row.{Row}
 use Rattle.cv_rows.specs.declared.row_kind.RowKind.TheVariants.{Transition}
 use Rattle.cv_cut.specs.Reached.{Place, HasCatalogue, ReachesCatalogue}
-use Rattle.cv_load.specs.declared.load_fault.LoadFault.{LoadFault}
-use Rattle.cv_load.specs.Growth.{IsCatalogueAt}
-
--- a count that was raised so many times
-abbrev pub raised_by : ℕ → ℕ → ℕ
-raised_by zero count = count
-raised_by (suc n) count = raised (raised_by n count)
+use Rattle.cv_cut.specs.declared.load_fault.LoadFault.{LoadFault}
 
 -- a fetch of the catalogue under a hash, for a place
 pub record Visit : Type 0 where
@@ -34,11 +28,6 @@ abbrev pub FetchesOnce : Shelf → List ℕ → ℕ → ℕ → Type 0
 FetchesOnce shelf root before after = (visits : List Visit) × Visited shelf root visits before after
 
 -- ---- what single steps fetch
-
--- one object, or where there is a fault none or one
-abbrev pub FetchesOne : ℕ → ℕ → {X : Type 0} → Result X LoadFault → Type 0
-FetchesOne before after (Ok given) = after ≡ raised before
-FetchesOne before after (Err fault) = (after ≡ before) ⊎ (after ≡ raised before)
 
 -- the path is that of a nested entry of the catalogue, or below it
 abbrev pub IsInside : Contents → Path → Type 0
@@ -70,5 +59,5 @@ pub record FetchesInside (shelf : Shelf) (root : List ℕ) (c : Contents) (befor
 
 -- the same of the catalogue that stands under an id, at each place at which it is reached
 abbrev pub FetchesBelow : Shelf → ObjectId → Contents → ℕ → ℕ → {X : Type 0} → Result X LoadFault → Type 0
-FetchesBelow shelf id c before after result = (root : List ℕ) (place : Place) → ReachesCatalogue shelf root id.hash place → IsCatalogueAt shelf id place c
+FetchesBelow shelf id c before after result = (root : List ℕ) (place : Place) → ReachesCatalogue shelf root id.hash place → HasCatalogue shelf id.hash place c
     → FetchesInside shelf root c before after result

@@ -1,7 +1,6 @@
 -- How a tree grows by the rows of catalogues.
-use Rattle.std.specs.Prelude.{◌≡◌, ◌≢◌, ◌⊎◌, ◌≤◌, ◌+◌, ℕ, true, false, List, [], length, Option, Some, None, Result, Ok, Err, IsSome, IsSomeAnd, IfSome, Contains}
+use Rattle.std.specs.Prelude.{◌≡◌, ◌≢◌, ◌⊎◌, ◌≤◌, ◌+◌, ℕ, true, false, List, length, Some, Result, Ok, Err, IsSome, Contains}
 use Rattle.std.specs.FinMap.{get}
-use Rattle.sha1.specs.Sha1.{sha1}
 use Rattle.cv_base.specs.Path.{Path, covers}
 use Rattle.cv_base.specs.ObjectId.{object_id}
 use Rattle.cv_base.specs.declared.id.Kind.TheVariants.{Plain, Catalogue}
@@ -10,32 +9,16 @@ use Rattle.cv_ports.specs.Shelf.{Shelf}
 use Rattle.cv_tree.specs.Tree.{Nodes, single, is_directory}
 use Rattle.cv_tree.specs.declared.node.Node.{Node}
 use Rattle.cv_tree.specs.declared.node.Node.TheVariants as node
-use Rattle.cv_rows.specs.Catalogue.{Contents, catalogue_bytes}
+use Rattle.cv_rows.specs.Catalogue.{Contents}
 use Rattle.cv_rows.specs.Places.{IsRoot, StandsAt}
 use Rattle.cv_rows.specs.declared.row.Row.{Row}
 use Rattle.cv_rows.specs.declared.nested.Nested.{Nested}
-use Rattle.cv_rows.specs.declared.row_kind.RowKind.{RowKind}
 use Rattle.cv_rows.specs.declared.row_kind.RowKind.TheVariants as kind
-use Rattle.cv_cut.specs.Reached.{Place, Decodes, HasCatalogue, ReachesCatalogue}
-use Rattle.cv_load.specs.declared.load_fault.LoadFault.{LoadFault}
-use Rattle.cv_load.specs.declared.load_fault.LoadFault.TheVariants as fault
-use Rattle.cv_load.specs.Answers.{MayFail}
-
--- ---- the node of a row
-
-abbrev pub hash_of : Option (List ℕ) → List ℕ
-hash_of None = []
-hash_of (Some hash) = hash
-
-abbrev pub node_as : RowKind → Row → Node
-node_as kind.Directory r = node.Dir r.attr
-node_as kind.Transition r = node.Dir r.attr
-node_as kind.NestedRoot r = node.Dir r.attr
-node_as kind.File r = node.File r.attr (record { hash = hash_of r.hash; size = r.size })
-node_as kind.Link r = node.Link r.attr r.target
-
-abbrev pub node_of : Row → Node
-node_of r = node_as r.kind r
+use Rattle.cv_cut.specs.Told.{node_of}
+use Rattle.cv_cut.specs.Good.{HasFile, HasSize}
+use Rattle.cv_cut.specs.Reached.{Place, HasCatalogue, ReachesCatalogue}
+use Rattle.cv_cut.specs.declared.load_fault.LoadFault.{LoadFault}
+use Rattle.cv_cut.specs.Opening.{Sizes, MayFail}
 
 -- ---- growth
 
@@ -96,17 +79,9 @@ pub record IsOfRow (shelf : Shelf) (root : List ℕ) (q : Path) (n : Node) : Typ
 abbrev pub IsOfRows : Shelf → List ℕ → Nodes → Type 0
 IsOfRows shelf root t = (q : Path) (n : Node) → get t q ≡ Some n → IsOfRow shelf root q n
 
--- bytes of this length stand under the id
-abbrev pub HasSize : Shelf → ObjectId → ℕ → Type 0
-HasSize shelf id size = IsSomeAnd (shelf id) (λ bytes. length bytes ≡ size)
-
--- the content of the row, if it is a file, has the row's size
-abbrev pub HasFile : Shelf → Row → Type 0
-HasFile shelf r = (hash : List ℕ) → r.kind ≡ kind.File → r.hash ≡ Some hash → HasSize shelf (object_id hash Plain) r.size
-
 -- the tree has all that is reached from a catalogue on: a node for each row, and all contents have their sizes
 pub data IsFilled (shelf : Shelf) (t : Nodes) : List ℕ → Place → Type 0 where
-  filled : {hash : List ℕ} {place : Place} {c : Contents} → HasCatalogue shelf hash place c → sha1 (catalogue_bytes c) ≡ hash
+  filled : {hash : List ℕ} {place : Place} {c : Contents} → HasCatalogue shelf hash place c
       → ((r : Row) → Contains c.rows r → HasFile shelf r)
       → ((n : Nested) → Contains c.nested n → HasSize shelf (object_id n.hash Catalogue) n.size)
       → HasRows c t
@@ -119,11 +94,6 @@ pub record FillsIn (shelf : Shelf) (root hash : List ℕ) (place : Place) (old n
   pub rows : IsOfRows shelf root new
   pub filled : IsFilled shelf new hash place
 
--- the catalogue that stands under an id and decodes at a place
-pub record IsCatalogueAt (shelf : Shelf) (id : ObjectId) (place : Place) (c : Contents) : Type 0 where
-  pub has : HasCatalogue shelf id.hash place c
-  pub hash : sha1 (catalogue_bytes c) ≡ id.hash
-
 -- it did, or there is the cause of a fault
 abbrev pub Fills : Shelf → List ℕ → List ℕ → Place → Nodes → Nodes → {X : Type 0} → Result X LoadFault → Type 0
 Fills shelf root hash place old new (Ok done) = FillsIn shelf root hash place old new
@@ -131,67 +101,10 @@ Fills shelf root hash place old new (Err f) = MayFail shelf root f
 
 -- the same of the catalogue that stands under an id, at each place at which it is reached, and a tree of rows that are reached
 abbrev pub FillsFrom : Shelf → ObjectId → Contents → Nodes → Nodes → {X : Type 0} → Result X LoadFault → Type 0
-FillsFrom shelf id c old new result = (root : List ℕ) (place : Place) → ReachesCatalogue shelf root id.hash place → IsCatalogueAt shelf id place c → IsOfRows shelf root old
+FillsFrom shelf id c old new result = (root : List ℕ) (place : Place) → ReachesCatalogue shelf root id.hash place → HasCatalogue shelf id.hash place c → IsOfRows shelf root old
     → Fills shelf root id.hash place old new result
 
 -- ---- what single steps answer
-
--- the object under an id has this size, or why not, by the catalogue under `owner` that states the size
-abbrev pub Sizes : Shelf → ObjectId → ℕ → ObjectId → {X : Type 0} → Result X LoadFault → Type 0
-Sizes shelf id size owner (Ok done) = HasSize shelf id size
-Sizes shelf id size owner (Err (fault.Missing x)) = (x ≡ id) × (shelf id ≡ None)
-Sizes shelf id size owner (Err (fault.Bad x)) = (x ≡ owner) × IsSomeAnd (shelf id) (λ bytes. length bytes ≢ size)
-Sizes shelf id size owner (Err fault.Failed) = Unit {0}
-Sizes shelf id size owner (Err (fault.Damaged x found)) = ⊥
-Sizes shelf id size owner (Err fault.NoMemory) = Unit {0}
-
--- the bytes under an id, or why not
-abbrev pub Fetched : Shelf → ObjectId → Result (List ℕ) LoadFault → Type 0
-Fetched shelf id (Ok bytes) = (shelf id ≡ Some bytes) × (sha1 bytes ≡ id.hash)
-Fetched shelf id (Err (fault.Missing x)) = (x ≡ id) × (shelf id ≡ None)
-Fetched shelf id (Err (fault.Bad x)) = ⊥
-Fetched shelf id (Err fault.Failed) = Unit {0}
-Fetched shelf id (Err (fault.Damaged x found)) = (x ≡ id) × ((bytes : List ℕ) × (shelf id ≡ Some bytes) × (found ≡ sha1 bytes) × (found ≢ id.hash))
-Fetched shelf id (Err fault.NoMemory) = Unit {0}
-
--- the root row of the catalogue has the fields of the row but for its kind
-abbrev pub FitsRow : Contents → Row → Type 0
-FitsRow c transition = (root : Row) × Contains c.rows root × IsRoot c.at root × (root ≡ record transition { kind = root.kind })
-
--- whether a catalogue fits the row that names it, if one does
-abbrev pub IsFitting : ObjectId → Contents → Option Row → Result Contents LoadFault → Type 0
-IsFitting id c row (Ok given) = (given ≡ c) × IfSome row (FitsRow c)
-IsFitting id c row (Err (fault.Missing x)) = ⊥
-IsFitting id c row (Err (fault.Bad x)) = (x ≡ id) × (IfSome row (FitsRow c) → ⊥)
-IsFitting id c row (Err fault.Failed) = ⊥
-IsFitting id c row (Err (fault.Damaged x found)) = ⊥
-IsFitting id c row (Err fault.NoMemory) = ⊥
-
--- whether bytes decode at a place
-abbrev pub Decoded : Place → List ℕ → ObjectId → Result Contents LoadFault → Type 0
-Decoded place bytes id (Ok c) = Decodes place bytes c
-Decoded place bytes id (Err (fault.Missing x)) = ⊥
-Decoded place bytes id (Err (fault.Bad x)) = (x ≡ id) × ((c : Contents) → Decodes place bytes c → ⊥)
-Decoded place bytes id (Err fault.Failed) = ⊥
-Decoded place bytes id (Err (fault.Damaged x found)) = ⊥
-Decoded place bytes id (Err fault.NoMemory) = Unit {0}
-
--- it, or the cause of a fault, where the place is one that is reached
-abbrev pub Opens : Shelf → ObjectId → Place → Result Contents LoadFault → Type 0
-Opens shelf id place (Ok c) = IsCatalogueAt shelf id place c
-Opens shelf id place (Err fault) = (root : List ℕ) → ReachesCatalogue shelf root id.hash place → MayFail shelf root fault
-
--- the catalogue of a nested entry of another, at its place there
-pub record IsNestedCatalogue (shelf : Shelf) (c : Contents) (n : Nested) (below : Contents) : Type 0 where
-  pub row : Row
-  pub kind_ : row.kind ≡ kind.Transition
-  pub stands : StandsAt c.at c.rows row n.path
-  pub size : HasSize shelf (object_id n.hash Catalogue) n.size
-  pub opened : IsCatalogueAt shelf (object_id n.hash Catalogue) (record { path = n.path; row = Some row }) below
-
-abbrev pub OpensNested : Shelf → ObjectId → Contents → Nested → Result Contents LoadFault → Type 0
-OpensNested shelf id c n (Ok below) = IsNestedCatalogue shelf c n below
-OpensNested shelf id c n (Err fault) = (root : List ℕ) (place : Place) → ReachesCatalogue shelf root id.hash place → HasCatalogue shelf id.hash place c → MayFail shelf root fault
 
 -- the contents of all files of a catalogue have their sizes, or there is the cause of a fault
 abbrev pub HasFiles : Shelf → ObjectId → Contents → {X : Type 0} → Result X LoadFault → Type 0

@@ -1,3 +1,5 @@
 pub mod Answers
 pub mod Fetches
 pub mod Growth
+pub mod Known
+pub mod NewFetches

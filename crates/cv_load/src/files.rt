@@ -4,11 +4,10 @@ ghost use Rattle.cv_base.specs.Counts.{HasCause};
 ghost use Rattle.cv_base.specs.Told.{WhereTold};
 ghost use Rattle.cv_base.specs.declared.id.Kind.TheVariants as id_kind;
 ghost use Rattle.cv_load.specs.Growth.{FileSizes, HasFiles};
-ghost use Rattle.cv_load.specs.declared.load_fault.LoadFault.TheVariants as faults;
+ghost use Rattle.cv_cut.specs.declared.load_fault.LoadFault.TheVariants as faults;
 
-use crate::load_fault::LoadFault;
-use crate::objects::check_size;
 use cv_base::{Kind, ObjectId};
+use cv_cut::{LoadFault, check_size};
 use cv_ports::Shelf;
 use cv_rows::{Catalogue, Row, RowKind};
 use std::alloc::Global;
@@ -21,6 +20,7 @@ fn check_file<S: Shelf>(
     row: &Row,
 ) -> Result<(), LoadFault>
     ensures told { WhereTold (S.shelf shelf.old) (λ standing. FileSizes standing owner.now row.now result) }
+    ensures reads { S.reads shelf.old shelf.new }
     ensures unchanged { S.shelf shelf.new ≡ S.shelf shelf.old }
     ensures cause { HasCause (S.faults shelf.old) (S.faults shelf.new) (IsErrOf result faults.Failed) }
     ensures taken { S.taken shelf.new ≡ S.taken shelf.old }
@@ -46,6 +46,7 @@ pub fn check_files<S: Shelf>(
 ) -> Result<(), LoadFault>
     requires { id.now.kind ≡ id_kind.Catalogue }
     ensures told { WhereTold (S.shelf shelf.old) (λ standing. HasFiles standing id.now catalogue.now result) }
+    ensures reads { S.reads shelf.old shelf.new }
     ensures unchanged { S.shelf shelf.new ≡ S.shelf shelf.old }
     ensures cause { HasCause (S.faults shelf.old) (S.faults shelf.new) (IsErrOf result faults.Failed) }
     ensures taken { S.taken shelf.new ≡ S.taken shelf.old }

@@ -1,15 +1,17 @@
 //! The tree that a hash means on a shelf.
 #![tactic(auto)]
 
-mod catalogues;
+mod checking;
 mod files;
+mod known_set;
 pub mod laws;
-mod load_fault;
 mod loading;
-mod objects;
 mod placing;
 #[cfg(test)]
 mod tests;
+#[cfg(test)]
+mod tests_whole;
 
-pub use load_fault::LoadFault;
+pub use checking::whole;
+pub use known_set::KnownSet;
 pub use loading::load;

@@ -7,14 +7,14 @@ ghost use Rattle.cv_rows.specs.Catalogue.{IsCatalogue};
 ghost use Rattle.cv_cut.specs.Cuts.{cuts_of};
 ghost use Rattle.cv_load.specs.Answers.{Loads};
 ghost use Rattle.cv_load.specs.Growth.{IsRootOf, IsClear, ChangesBelow, FillsFrom};
-ghost use Rattle.cv_load.specs.Fetches.{raised_by, FetchesBelow, FetchesOnce};
-ghost use Rattle.cv_load.specs.declared.load_fault.LoadFault.TheVariants as faults;
+ghost use Rattle.cv_load.specs.Fetches.{FetchesBelow, FetchesOnce};
+ghost use Rattle.cv_cut.specs.declared.load_fault.LoadFault.TheVariants as faults;
+ghost use Rattle.cv_ports.specs.Calls.{raised_by};
 
-use crate::catalogues::{catalogue_at, nested_catalogue};
 use crate::files::check_files;
-use crate::load_fault::LoadFault;
 use crate::placing::place_rows;
 use cv_base::{Kind, NoMemory, ObjectId, RepoPath};
+use cv_cut::{LoadFault, catalogue_at, nested_catalogue};
 use cv_ports::Shelf;
 use cv_rows::Catalogue;
 use cv_tree::Tree;
@@ -46,6 +46,7 @@ fn fill<S: Shelf>(
     requires place { catalogue.now.at ≡ at.now }
     requires clear { IsClear catalogue.now.at tree.old }
     ensures told { WhereTold (S.shelf shelf.old) (λ standing. FillsFrom standing id.now catalogue.now tree.old tree.new result) }
+    ensures reads { S.reads shelf.old shelf.new }
     ensures unchanged { S.shelf shelf.new ≡ S.shelf shelf.old }
     ensures cause { HasCause (S.faults shelf.old) (S.faults shelf.new) (IsErrOf result faults.Failed) }
     ensures fetches { WhereTold (S.shelf shelf.old) (λ standing. FetchesBelow standing id.now catalogue.now (S.taken shelf.old) (S.taken shelf.new) result) }
@@ -72,6 +73,7 @@ pub fn load<S: Shelf>(alloc: Global, shelf: &mut S, root: &ObjectId) -> Result<T
 
     // The tree that the hash means; or an object that is reached and lacking, or a catalogue that is damaged or bad.
     ensures told { WhereTold (S.shelf shelf.old) (λ standing. Loads standing root.now.hash result) }
+    ensures reads { S.reads shelf.old shelf.new }
     ensures unchanged { S.shelf shelf.new ≡ S.shelf shelf.old }
     ensures cause { HasCause (S.faults shelf.old) (S.faults shelf.new) (IsErrOf result faults.Failed) }
 

@@ -7,7 +7,8 @@ ghost use Rattle.cv_rows.specs.Catalogue.{IsCatalogue};
 ghost use Rattle.cv_rows.specs.Places.{StandsAt};
 ghost use Rattle.cv_tree.specs.Node.{IsNode};
 ghost use Rattle.cv_tree.specs.Changes.{has_place};
-ghost use Rattle.cv_load.specs.Growth.{node_of, IsAdded, IsClear, IsReady, IsWithin, HasRows, GrowsBy};
+ghost use Rattle.cv_load.specs.Growth.{IsAdded, IsClear, IsReady, IsWithin, HasRows, GrowsBy};
+ghost use Rattle.cv_cut.specs.Told.{node_of};
 
 use cv_base::{NoMemory, PathFault, RepoPath};
 use cv_rows::{Catalogue, Row, RowKind};
@@ -57,11 +58,11 @@ fn add(alloc: Global, tree: &mut Tree, path: &RepoPath, row: &Row) -> Result<(),
 }
 
 /// A path with one more name.
-fn below(alloc: Global, above: &RepoPath, name: &str) -> Result<RepoPath, NoMemory>
-    requires { IsPath (above.now ++ name.now ∷ []) }
-    ensures { IfOk result (λ path. path ≡ above.now ++ name.now ∷ []) }
+fn below(alloc: Global, above: RepoPath, name: &str) -> Result<RepoPath, NoMemory>
+    requires { IsPath (above ++ name.now ∷ []) }
+    ensures { IfOk result (λ path. path ≡ above ++ name.now ∷ []) }
 {
-    match above.join(alloc, name) {
+    match above.with_name(alloc, name) {
         Ok(path) => Ok(path),
         Err(fault) => match fault {
             PathFault::NoMemory => Err(NoMemory),
@@ -103,7 +104,7 @@ fn place(
         unreachable!();
     };
     let above = place(alloc, at, catalogue, tree, parent, left - 1)?;
-    let path = below(alloc, &above, row.name.text())?;
+    let path = below(alloc, above, row.name.text())?;
     add(alloc, tree, &path, row)?;
     Ok(path)
 }

@@ -3,10 +3,9 @@ ghost use Rattle.std.specs.Prelude.{◌≡◌, IfOk};
 ghost use Rattle.cv_base.specs.declared.id.Kind.TheVariants as id_kind;
 ghost use Rattle.cv_tree.specs.Node.{IsNode};
 
-use crate::load_fault::LoadFault;
 use crate::loading::load;
 use cv_base::{Attr, Bytes, Kind, Object, ObjectId, RepoPath};
-use cv_cut::cut;
+use cv_cut::{LoadFault, cut};
 use cv_ports::MemoryShelf;
 use cv_tree::{FileRef, Node, Tree};
 use hex::decode;
@@ -215,7 +214,8 @@ const FILES: [&str; 4] = [
 /// The id of the tree's root catalogue, by `tools/cut_vectors.py`.
 const CUT_ID: &str = "a78b6e61f2a693f1d431bc6ac868a01ad8635c27C";
 
-const DIRECTORY: Attr = Attr {
+/// The attributes of each directory.
+pub(crate) const DIRECTORY: Attr = Attr {
     mode: 0o755,
     mtime: 1_700_000_000,
     uid: 0,
@@ -230,7 +230,7 @@ const FILE: Attr = Attr {
 };
 
 /// A file whose content is this text.
-fn file(text: &str) -> Result<Node, Fail>
+pub(crate) fn file(text: &str) -> Result<Node, Fail>
     ensures { IfOk result IsNode }
 {
     if text.len() > 4095 {

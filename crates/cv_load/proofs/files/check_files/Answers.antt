@@ -2,9 +2,10 @@ use Rattle.std.proofs.Common.{List, ◌∙◌, subst}
 use Rattle.std.specs.Prelude.{Contains}
 use Rattle.cv_rows.specs.declared.row.Row.{Row}
 use Rattle.cv_load.specs.Growth.{HasFiles}
-use Rattle.cv_load.proofs.Opening.{left_by, file_unsized}
 use Rattle.cv_load.proofs.Growing.{item_there}
 use Rattle.cv_load.proofs.files.check_files.Goals as goal
+use Rattle.cv_cut.proofs.Opening.{left_by}
+use Rattle.cv_load.proofs.Sizing.{file_unsized}
 
 pub returns-in_err-check_file-clause-told : goal.returns-in_err-check_file-clause-told
 returns-in_err-check_file-clause-told g c = λ standing told.

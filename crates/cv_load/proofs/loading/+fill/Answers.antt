@@ -2,15 +2,15 @@ use Rattle.std.proofs.Common.{List, length, Ok, Err, Result, sym, ap, subst, ◌
 use Rattle.std.specs.Prelude.{Contains}
 use Rattle.cv_base.specs.Path.{Path}
 use Rattle.cv_rows.specs.declared.nested.Nested.{Nested}
-use Rattle.cv_load.specs.declared.load_fault.LoadFault.{LoadFault}
+use Rattle.cv_cut.specs.declared.load_fault.LoadFault.{LoadFault}
 use Rattle.cv_load.specs.Growth.{FillsFrom, IsClear, ChangesBelow}
 use Rattle.cv_load.specs.Fetches.{FetchesBelow}
-use Rattle.cv_load.proofs.Opening.{left_by}
 use Rattle.cv_load.proofs.Growing.{item_of}
-use Rattle.cv_load.proofs.Filling.{fills_none, fills_more, fills_all, fills_broken}
+use Rattle.cv_load.proofs.Filling.{fills_none, fills_unopened, fills_more, fills_all, fills_broken}
 use Rattle.cv_load.proofs.Clearing.{clear_first, clear_more, grows_within, changes_more}
 use Rattle.cv_load.proofs.Fetching.{first_none, first_unopened, first_opened, first_all}
 use Rattle.cv_load.proofs.loading.+fill.Goals as goal
+use Rattle.cv_cut.proofs.Opening.{left_by}
 
 pub returns-in_err-check_files-clause-fetches : goal.returns-in_err-check_files-clause-fetches
 returns-in_err-check_files-clause-fetches g t c = λ standing told.
@@ -30,6 +30,7 @@ returns-in_err-place_rows-clause-within g t c = grows_within c.args.catalogue.no
 pub loop-nested-init : goal.loop-nested-init
 loop-nested-init g t c = record {
   fills = λ standing told. fills_none standing c.args.id.now c.args.catalogue.now c.args.tree.now c.place_rows.new.tree c.in_ok-place_rows.ensures.grows c.in_ok-place_rows.ensures.there;
+  reads = c.check_files.ensures.reads;
   unchanged = c.check_files.ensures.unchanged;
   clear = clear_first c.args.catalogue.now c.args.tree.now c.place_rows.new.tree c.requires.rules c.requires.clear c.in_ok-place_rows.ensures.grows c.in_ok-place_rows.ensures.there;
   within = grows_within c.args.catalogue.now.at c.args.catalogue.now.rows c.args.tree.now c.place_rows.new.tree c.in_ok-place_rows.ensures.grows;
@@ -79,6 +80,7 @@ loop-nested-preserved g t c =
           let there = c.loop-nested.invariant.unchanged ∙ told in
           fills_more standing c.args.id.now c.args.catalogue.now c.in_ok-below.below c.nested-item.result c.args.tree.now c.loop-nested.tree c.fill.new.tree c.loop-nested.nested-index (tt {0}) c.requires.rules item.0 item.1
           (c.loop-nested.invariant.fills standing told) (c.in_ok-below.ensures.told standing there) (c.in_ok-fill.ensures.told standing (c.nested_catalogue.ensures.unchanged ∙ there));
+      reads = g.met.S.Shelf.reads_then _ _ _ c.loop-nested.invariant.reads (g.met.S.Shelf.reads_then _ _ _ c.nested_catalogue.ensures.reads c.fill.ensures.reads);
       unchanged = c.fill.ensures.unchanged ∙ c.nested_catalogue.ensures.unchanged ∙ c.loop-nested.invariant.unchanged;
       clear = clear_more c.args.catalogue.now c.nested-item.result c.loop-nested.nested-index c.loop-nested.tree c.fill.new.tree c.requires.rules item.0 item.1 within c.loop-nested.invariant.clear;
       within = changes_more c.args.catalogue.now c.nested-item.result c.args.tree.now c.loop-nested.tree c.fill.new.tree c.requires.rules has c.loop-nested.invariant.within within;
@@ -107,3 +109,12 @@ returns-clause-fetches g t c = λ standing told.
     let size = ap (λ (ns : List Nested). length ns) c.nested-nested-items.ensures in
     let end = c.loop-nested-test.false in
     first_all standing c.args.id.now c.args.catalogue.now _ _ _ (Ok (tt {0})) (omega (arith, size, end)) (c.loop-nested.invariant.fetches standing told)
+
+pub returns-in_err-fill-clause-reads : goal.returns-in_err-fill-clause-reads
+returns-in_err-fill-clause-reads g t c = g.met.S.Shelf.reads_then _ _ _ c.loop-nested.invariant.reads (g.met.S.Shelf.reads_then _ _ _ c.nested_catalogue.ensures.reads c.fill.ensures.reads)
+
+pub returns-in_err-below-clause-told : goal.returns-in_err-below-clause-told
+returns-in_err-below-clause-told g t c = λ standing told.
+    let item = item_of c.args.catalogue.now.nested c.nested-nested-items.result.now c.loop-nested.nested-index c.nested-item.result c.nested-nested-items.ensures c.loop-nested-test.true c.nested-item.is in
+    left_by (FillsFrom standing c.args.id.now c.args.catalogue.now c.args.tree.now c.loop-nested.tree) _ _ c.from_residual-in_err-below.ensures.1
+    (fills_unopened standing c.args.id.now c.args.catalogue.now c.nested-item.result c.args.tree.now c.loop-nested.tree (Unit {0}) _ c.requires.kind (c.loop-nested.nested-index, item.0, sym item.1) (c.in_err-below.ensures.told standing (c.loop-nested.invariant.unchanged ∙ told)))

@@ -12,6 +12,7 @@ decreases-fill g l = 64 - length l.at.now
 abbrev pub invariant-loop-nested : goal.invariant-loop-nested
 invariant-loop-nested g l = record {
   fills : WhereTold (g.S.Shelf.shelf l.fn.shelf) (λ standing. FillsSomeFrom standing l.fn.id l.fn.catalogue l.fn.tree l.tree l.nested-index);
+  reads : g.S.Shelf.reads l.fn.shelf l.shelf;
   unchanged : g.S.Shelf.shelf l.shelf ≡ g.S.Shelf.shelf l.fn.shelf;
   clear : AreClear l.fn.catalogue l.nested-index l.tree;
   within : ChangesBelow l.fn.catalogue.at l.fn.tree l.tree;

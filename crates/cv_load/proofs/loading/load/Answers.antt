@@ -1,17 +1,17 @@
 use Rattle.std.proofs.Common.{Ok, ◌∙◌, subst}
 use Rattle.cv_tree.specs.Tree.{IsTree}
 use Rattle.cv_load.specs.Answers.{Loads}
-use Rattle.cv_load.proofs.Opening.{left_by}
-use Rattle.cv_load.proofs.Whole.{loads_unopened, loads_unfilled, loads_whole, loads_all}
+use Rattle.cv_load.proofs.LoadedTree.{loads_unopened, loads_unfilled, loads_whole, loads_all}
 use Rattle.cv_load.proofs.Clearing.{root_clear}
 use Rattle.cv_load.proofs.Fetching.{once_unopened, once_opened, root_opened}
 use Rattle.cv_load.proofs.CutFetches.{cuts_fetched}
 use Rattle.cv_load.proofs.loading.load.Goals as goal
+use Rattle.cv_cut.proofs.Opening.{left_by}
 
 pub returns-in_err-catalogue-clause-told : goal.returns-in_err-catalogue-clause-told
 returns-in_err-catalogue-clause-told g c = λ standing told.
     left_by (Loads standing c.args.root.now.hash) _ _ c.from_residual.ensures.1
-    (loads_unopened standing c.args.root.now c.root-at.result _ c.root-at.ensures (c.in_err-catalogue.ensures.told standing told))
+    (loads_unopened standing c.args.root.now c.root-at.result _ c.requires c.root-at.ensures (c.in_err-catalogue.ensures.told standing told))
 
 pub returns-in_err-fill-clause-told : goal.returns-in_err-fill-clause-told
 returns-in_err-fill-clause-told g c = λ standing told.
