@@ -1,0 +1,146 @@
+-- What a graft answers of the trees that both roots mean.
+use Rattle.std.proofs.Common.{◌≡◌, ◌≢◌, ℕ, zero, suc, ◌+◌, ◌≤◌, true, false, List, [], ◌∷◌, ◌++◌, length, Some, None, Result, Ok, Err, IsSome, IsTrue, is_some, refl, sym, ap, subst, ◌∙◌, append-nil, append_assoc, arith, length-append}
+use Rattle.std.specs.declared.option.Option.{Option}
+use Rattle.std.specs.Option.{option_map}
+use Rattle.std.specs.FinMap.{empty, get, same_map, get-empty}
+use Rattle.sha1.specs.Sha1.{sha1}
+use Rattle.cv_base.specs.Path.{Path, IsPath, path_cmp}
+use Rattle.cv_base.specs.PathOrder.{path_total, path_exact}
+use Rattle.cv_base.specs.ObjectId.{object_id}
+use Rattle.cv_base.specs.declared.id.ObjectId.{ObjectId}
+use Rattle.cv_base.specs.declared.id.Kind.TheVariants.{Catalogue}
+use Rattle.cv_base.specs.declared.object.Object.{Object}
+use Rattle.cv_ports.specs.Shelf.{Shelf}
+use Rattle.cv_tree.specs.Tree.{Nodes, IsTree, IsPart, at, put, is_directory}
+use Rattle.cv_tree.specs.Changes.{has_place, FitsUnder}
+use Rattle.cv_tree.specs.declared.node.Node.{Node}
+use Rattle.cv_cut.specs.Means.{Means}
+use Rattle.cv_cut.specs.Catalogues.{cat, root_of, Fits}
+use Rattle.cv_cut.specs.Above.{cuts_above, OnWay}
+use Rattle.cv_graft.specs.Graft.{HasWay, Grafts}
+use Rattle.cv_ports.specs.Calls.{raised_by, RaisedAtMost}
+use Rattle.cv_ports.proofs.Laws.{raised_both}
+use Rattle.cv_cut.specs.Reached.{HasCatalogue}
+use Rattle.cv_cut.specs.Opening.{IsUnread}
+use Rattle.cv_cut.specs.declared.load_fault.LoadFault.{LoadFault}
+use Rattle.cv_cut.specs.declared.load_fault.LoadFault.TheVariants as load
+use Rattle.cv_graft.specs.Faults.{of_load}
+use Rattle.cv_graft.specs.Way.{IsMade, IsOffered, Finds, Rebuilds}
+use Rattle.cv_cut.specs.Catalogues.{contents_of}
+use Rattle.cv_graft.proofs.Finding.{opened_is}
+use Rattle.cv_rows.specs.Catalogue.{Contents, IsCatalogue}
+use Rattle.cv_graft.specs.declared.grafted.Grafted.{Grafted}
+use Rattle.cv_graft.specs.declared.made.Made.{Made}
+use Rattle.cv_graft.specs.declared.graft_fault.GraftFault.{GraftFault}
+use Rattle.cv_graft.specs.declared.graft_fault.GraftFault.TheVariants as fault
+use Rattle.cv_tree.proofs.Laws.{get-at, IsPart-at, IsTree-put}
+use Rattle.cv_cut.proofs.PublicLaws.{some_last, put-root, made_all, at-root}
+
+pub way_of : (shelf : Shelf) (hash : List ℕ) (t : Nodes) (p : Path) → Means shelf hash t → HasWay shelf hash t p
+way_of shelf hash t p m = record { tree = m.tree; fits = m.fits; root = m.root; catalogues = λ c cut covered apart. m.catalogues c cut }
+
+-- ---- the tree afterwards
+
+directory_some : (o : Option Node) → is_directory o ≡ true → IsSome o
+directory_some None h = cc
+directory_some (Some n) h = refl
+
+-- what stands at a longer path stands at the path
+front_some : (n : Nodes) (p : Path) → IsPart n → (k : ℕ) (q : Path) → length q ≤ k → IsSome (get n (p ++ q)) → IsSome (get n p)
+front_some n p part k [] le some = subst (λ (x : Path). IsSome (get n x)) (append-nil p) some
+front_some n p part zero (a ∷ q) le some = absurd (omega arith)
+front_some n p part (suc k) (a ∷ q) le some =
+    let l = some_last (a ∷ q) (λ e. cc) in
+    let there : IsSome (get n ((p ++ l.front) ++ l.name ∷ [])) = subst (λ (x : Path). IsSome (get n x)) (ap (λ (x : Path). p ++ x) l.is ∙ sym (append_assoc p l.front (l.name ∷ []))) some in
+    front_some n p part k l.front (omega (arith, ap (λ (x : Path). length x) l.is, length-append l.front (l.name ∷ []))) (directory_some _ (part.parents (p ++ l.front) l.name there))
+
+none_of : (o : Option Node) → (IsSome o → ⊥) → o ≡ None
+none_of None h = refl
+none_of (Some x) h = absurd (h refl)
+
+nothing_at : (n : Nodes) (p : Path) → IsPart n → get n p ≡ None → at n p ≡ empty
+nothing_at n p part none = same_map path_total path_exact _ _ (λ q.
+    none_of (get (at n p) q) (λ some. (let there = front_some n p part (length q) q (omega arith) (subst IsSome (get-at n p q) some) in let wrong : is_some (get n p) ≡ false = ap is_some none in cc))
+    ∙ sym (get-empty path_cmp q))
+
+pub tree_after : (t n : Nodes) (p : Path) → IsTree t → IsTree n → has_place t p ≡ true → IsTree (put t p (at n p))
+tree_after t n p tree other place = of (get n p) refl
+  where
+    fits : (q : Path) → IsSome (get (at n p) q) → IsPath (p ++ q)
+    fits q some = other.part.paths (p ++ q) (subst IsSome (get-at n p q) some)
+
+    top : p ≡ [] → IsTrue (is_directory (get (at n p) []))
+    top none = ap is_directory (get-at n p [] ∙ ap (λ (x : Path). get n (x ++ [])) none) ∙ other.root
+
+    of : (o : Option Node) → get n p ≡ o → IsTree (put t p (at n p))
+    of None e = subst (λ (s : Nodes). IsTree (put t p s)) (sym (nothing_at n p other.part e))
+        (IsTree-put t p None tree tt place (subst (FitsUnder p) (nothing_at n p other.part e) fits) (λ none. subst (λ (s : Nodes). IsTrue (is_directory (get s []))) (nothing_at n p other.part e) (top none)))
+    of (Some x) e = IsTree-put t p (Some (at n p)) tree (IsPart-at n p other.part (ap is_some e)) place fits top
+
+-- ---- the root
+
+sized : (o : Option (List ℕ)) (bytes : List ℕ) (len : ℕ) → o ≡ Some bytes → Some len ≡ option_map length o → len ≡ length bytes
+sized o bytes len is h = (let e : Some len ≡ Some (length bytes) = h ∙ ap (option_map length) is in cc)
+
+pub whole_root : (shelf : Shelf) (offered : ObjectId) (t n : Nodes) (size : ℕ) (g : Grafted) → Means shelf offered.hash n → offered.kind ≡ Catalogue → Some size ≡ option_map length (shelf offered) → g ≡ record { root = offered; size = size; added = [] } → Grafts (put t [] (at n [])) [] (Ok g)
+whole_root shelf offered t n size g m kind len is =
+    let same = put-root t n in
+    let id : offered ≡ object_id (root_of n) Catalogue = λ i. record { hash = m.root i; kind = kind i } in
+    let there : shelf offered ≡ Some (cat n []) = ap shelf id ∙ m.catalogues [] refl in
+    let long = sized (shelf offered) (cat n []) size there len in (
+      subst Fits (sym same) m.fits,
+      is ∙ (λ i. record { root = id i; size = long i; added = [] }) ∙ ap (λ (u : Nodes). record { root = object_id (root_of u) Catalogue; size = length (cat u []); added = [] }) (sym same),
+    )
+
+-- ---- below it
+
+pub root_way : (t : Nodes) (p : Path) → p ≢ [] → OnWay t p [] p
+root_way t p some = record { is = refl; some = some; cut = refl }
+
+pub offered_of : (n : Nodes) (p : Path) (k : Contents) → IsTree n → Fits n → Finds n p (Ok k) → IsOffered n p k
+offered_of n p k tree fits h = record { tree = tree; fits = fits; cut = h.0; rest = h.1; holds = h.2; is = h.3 }
+
+pub made_graft : (t' : Nodes) (p : Path) (after : List Object) (made : Made) (g : Grafted) → IsMade t' [] p [] after made → g ≡ record { root = object_id made.hash Catalogue; size = made.size; added = after } → Grafts t' p (Ok g)
+made_graft t' p after made g m is =
+    (m.fits, is ∙ (λ i. record { root = object_id (m.hash i) Catalogue; size = m.size i; added = (m.added ∙ made_all t' p) i }))
+
+pub fault_graft : (t' : Nodes) (p : Path) (before after : List Object) (f : GraftFault) → Rebuilds t' [] p before after (Err f) → Grafts t' p (Err f)
+fault_graft t' p before after (fault.PathCollision a b) h = h
+fault_graft t' p before after (fault.CatalogueFull c) h = h
+fault_graft t' p before after fault.Failed h = tt
+fault_graft t' p before after (fault.Damaged id found) h = h
+fault_graft t' p before after fault.NoMemory h = tt
+
+pub unread_graft : (t' : Nodes) (p : Path) (f : LoadFault) → IsUnread f → Grafts t' p (Err (of_load f))
+unread_graft t' p (load.Missing x) h = absurd h
+unread_graft t' p (load.Bad x) h = absurd h
+unread_graft t' p load.Failed h = tt
+unread_graft t' p (load.Damaged id found) h = absurd h
+unread_graft t' p load.NoMemory h = tt
+
+-- the catalogue at the root
+pub record IsTop (t : Nodes) (p : Path) (k : Contents) : Type 0 where
+  pub place : k.at ≡ []
+  pub on : OnWay t p k.at p
+  pub is : k ≡ contents_of t k.at
+
+pub top_is : (shelf : Shelf) (root : ObjectId) (t : Nodes) (p top : Path) (k : Contents) → HasWay shelf root.hash t p → p ≢ [] → HasCatalogue shelf root.hash (record { path = top; row = None }) k → top ≡ [] → IsTop t p k
+top_is shelf root t p top k way some has none =
+    let place : k.at ≡ [] = has.decodes.at ∙ none in
+    let w = root_way t p some in
+    let same = opened_is shelf root.hash t p [] p root.hash (record { path = top; row = None }) k way w way.root none has in
+    record { place = place; on = subst (λ (x : Path). OnWay t p x p) (sym place) w; is = same ∙ ap (contents_of t) (sym place) }
+
+pub top_count : (t : Nodes) (p : Path) (k : Contents) → IsTop t p k → length (cuts_above (at t k.at) p) ≡ length (cuts_above t p)
+top_count t p k h = ap (λ (x : Path). length (cuts_above (at t x) p)) h.place ∙ ap (λ (u : Nodes). length (cuts_above u p)) (at-root t)
+
+-- two walks, one after another
+pub two_walks : (a b : ℕ) (old between after : ℕ) (k m : ℕ) → k ≤ a → between ≡ raised_by k old → m ≤ b → after ≡ raised_by m between → RaisedAtMost (a + b) old after
+two_walks a b old between after k m le is le_ then_ = raised_both a b old between after (k, le, is) (m, le_, then_)
+
+pub rebuilt_at : (t' : Nodes) (p : Path) (k : Contents) (t : Nodes) (before after : List Object) (r : Result Made GraftFault) → IsTop t p k → Rebuilds t' k.at p before after r → Rebuilds t' [] p before after r
+rebuilt_at t' p k t before after r h m = subst (λ (x : Path). Rebuilds t' x p before after r) h.place m
+
+-- at the root
+pub at_root : (t n : Nodes) (p names : Path) (r : Result Grafted GraftFault) → names ≡ p → names ≡ [] → Grafts (put t [] (at n [])) [] r → Grafts (put t p (at n p)) p r
+at_root t n p names r same none h = subst (λ (x : Path). Grafts (put t x (at n x)) x r) (sym (sym same ∙ none)) h

@@ -1,0 +1,45 @@
+use Rattle.std.proofs.Common.{suc, Result, ap, ◌∙◌, arith}
+use Rattle.cv_graft.proofs.Finding.{some_count, raised_more, top_unread, top_unopened, fails_top}
+use Rattle.std.specs.Prelude.{IfErr}
+use Rattle.cv_rows.specs.Catalogue.{Contents}
+use Rattle.cv_cut.specs.Opening.{MayFail}
+use Rattle.cv_cut.specs.declared.load_fault.LoadFault.{LoadFault}
+use Rattle.cv_graft.specs.Way.{Finds}
+use Rattle.cv_graft.proofs.Grafts.{top_is, top_count}
+use Rattle.cv_graft.proofs.grafting.holder.Goals as goal
+use Rattle.cv_ports.specs.Calls.{raised_by}
+use Rattle.cv_cut.proofs.PublicLaws.{left_by}
+
+pub returns-in_err-catalogue-clause-taken : goal.returns-in_err-catalogue-clause-taken
+returns-in_err-catalogue-clause-taken g c = λ standing told n way. (1, some_count n c.args.path.now c.requires.path, c.in_err-catalogue.ensures.taken)
+
+pub returns-clause-told : goal.returns-clause-told
+returns-clause-told g c = λ standing told n way.
+    let top = top_is standing c.args.root.now n c.args.path.now c.root-top.result c.in_ok-catalogue.catalogue way c.requires.path (c.in_ok-catalogue.ensures.told standing told) c.root-top.ensures in
+    c.holder_from.ensures.told standing (c.catalogue_at.ensures.unchanged ∙ told) c.args.root.now.hash n c.args.path.now way top.on top.is
+
+pub returns-clause-taken : goal.returns-clause-taken
+returns-clause-taken g c = λ standing told n way.
+    let top = top_is standing c.args.root.now n c.args.path.now c.root-top.result c.in_ok-catalogue.catalogue way c.requires.path (c.in_ok-catalogue.ensures.told standing told) c.root-top.ensures in
+    let deep = c.holder_from.ensures.taken standing (c.catalogue_at.ensures.unchanged ∙ told) c.args.root.now.hash n c.args.path.now way top.on top.is in
+    let le = deep.1 in
+    let count = top_count n c.args.path.now c.in_ok-catalogue.catalogue top in
+    (suc deep.0, omega (arith, le, count), deep.2 ∙ ap (raised_by deep.0) c.catalogue_at.ensures.taken ∙ raised_more deep.0 (g.S.Shelf.taken c.args.shelf.now))
+
+pub returns-clause-reads : goal.returns-clause-reads
+returns-clause-reads g c = g.met.S.Shelf.reads_then _ _ _ c.catalogue_at.ensures.reads c.holder_from.ensures.reads
+
+pub returns-in_err-catalogue-clause-told : goal.returns-in_err-catalogue-clause-told
+returns-in_err-catalogue-clause-told g c = λ standing told n way.
+    left_by (Finds n c.args.path.now) _ _ c.from_residual.ensures.1
+    (top_unread standing c.args.root.now n c.args.path.now c.root-top.result _ way c.requires.path c.requires.kind c.root-top.ensures (c.in_err-catalogue.ensures.told standing told))
+
+pub returns-in_err-catalogue-clause-fault : goal.returns-in_err-catalogue-clause-fault
+returns-in_err-catalogue-clause-fault g c = λ standing told.
+    left_by (λ (x : Result Contents LoadFault). IfErr x (MayFail standing c.args.root.now.hash)) _ _ c.from_residual.ensures.1
+    (top_unopened standing c.args.root.now c.root-top.result _ c.requires.kind c.root-top.ensures (c.in_err-catalogue.ensures.told standing told))
+
+pub returns-clause-fault : goal.returns-clause-fault
+returns-clause-fault g c = λ standing told.
+    fails_top standing c.args.root.now c.root-top.result c.in_ok-catalogue.catalogue c.holder_from.result c.root-top.ensures (c.in_ok-catalogue.ensures.told standing told)
+    (c.holder_from.ensures.fault standing (c.catalogue_at.ensures.unchanged ∙ told))

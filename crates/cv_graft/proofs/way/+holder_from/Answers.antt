@@ -1,0 +1,59 @@
+use Rattle.std.proofs.Common.{suc, Result, ap, subst, ◌∙◌, arith}
+use Rattle.cv_rows.specs.Catalogue.{Contents}
+use Rattle.cv_graft.specs.Way.{HasNone, IsNext, Finds, FailsFrom}
+use Rattle.cv_cut.specs.declared.load_fault.LoadFault.{LoadFault}
+use Rattle.cv_graft.proofs.Finding.{raised_more, none_holds, step_unread, step_down, step_count, more_than_one, at_most_below, fails_next, fails_below}
+use Rattle.cv_graft.proofs.way.+holder_from.Goals as goal
+use Rattle.cv_ports.specs.Calls.{raised_by}
+use Rattle.cv_cut.proofs.PublicLaws.{left_by}
+
+pub returns-in_default-clause-told : goal.returns-in_default-clause-told
+returns-in_default-clause-told g t c = λ standing told hash n r way w is.
+    let none : HasNone c.args.catalogue c.args.path.now = rw c.in_default.is at c.in_ok-entry.ensures.found in
+    (c.args.catalogue.at, r, none_holds n c.args.path.now c.args.catalogue.at r way.tree w (subst (λ (x : Contents). HasNone x c.args.path.now) is none), is)
+
+pub returns-in_err-below-clause-told : goal.returns-in_err-below-clause-told
+returns-in_err-below-clause-told g t c = λ standing told hash n r way w is.
+    let next : IsNext c.args.catalogue c.args.path.now c.in-Some.entry = rw c.in-Some.is at c.in_ok-entry.ensures.found in
+    left_by (Finds n c.args.path.now) _ _ c.from_residual-in_err-below.ensures.1
+    (step_unread standing hash n c.args.path.now r c.args.catalogue c.in-Some.entry way w is next c.args.id.now _ (c.in_err-below.ensures.told standing told))
+
+pub returns-in_err-below-clause-taken : goal.returns-in_err-below-clause-taken
+returns-in_err-below-clause-taken g t c = λ standing told hash n r way w is.
+    let next : IsNext c.args.catalogue c.args.path.now c.in-Some.entry = rw c.in-Some.is at c.in_ok-entry.ensures.found in
+    at_most_below _ _ _ (more_than_one standing hash n c.args.path.now r c.args.catalogue c.in-Some.entry way w is next) c.in_err-below.ensures.taken
+
+pub returns-clause-told : goal.returns-clause-told
+returns-clause-told g t c = λ standing told hash n r way w is.
+    let next : IsNext c.args.catalogue c.args.path.now c.in-Some.entry = rw c.in-Some.is at c.in_ok-entry.ensures.found in
+    let s = step_down standing hash n c.args.path.now r c.args.catalogue c.in-Some.entry way w is next c.in_ok-below.below (c.in_ok-below.ensures.told standing told) in
+    c.holder_from.ensures.told standing (c.nested_catalogue.ensures.unchanged ∙ told) hash n s.f way s.on s.is_
+
+pub returns-clause-taken : goal.returns-clause-taken
+returns-clause-taken g t c = λ standing told hash n r way w is.
+    let next : IsNext c.args.catalogue c.args.path.now c.in-Some.entry = rw c.in-Some.is at c.in_ok-entry.ensures.found in
+    let s = step_down standing hash n c.args.path.now r c.args.catalogue c.in-Some.entry way w is next c.in_ok-below.below (c.in_ok-below.ensures.told standing told) in
+    let count = step_count standing hash n c.args.path.now r c.args.catalogue c.in-Some.entry way w is next c.in_ok-below.below s in
+    let deep = c.holder_from.ensures.taken standing (c.nested_catalogue.ensures.unchanged ∙ told) hash n s.f way s.on s.is_ in
+    let le = deep.1 in
+    (suc deep.0, omega (arith, count, le), deep.2 ∙ ap (raised_by deep.0) c.in_ok-below.ensures.taken ∙ raised_more deep.0 (g.S.Shelf.taken c.args.shelf.now))
+
+pub returns-clause-reads : goal.returns-clause-reads
+returns-clause-reads g t c = g.met.S.Shelf.reads_then _ _ _ c.nested_catalogue.ensures.reads c.holder_from.ensures.reads
+
+pub returns-in_err-below-clause-fault : goal.returns-in_err-below-clause-fault
+returns-in_err-below-clause-fault g t c = λ standing told.
+    let next : IsNext c.args.catalogue c.args.path.now c.in-Some.entry = rw c.in-Some.is at c.in_ok-entry.ensures.found in
+    left_by (λ (x : Result Contents LoadFault). FailsFrom standing c.args.id.now c.args.catalogue x) _ _ c.from_residual-in_err-below.ensures.1
+    (fails_next Contents standing c.args.id.now c.args.catalogue c.in-Some.entry _ c.requires.kind next.has (c.in_err-below.ensures.told standing told))
+
+pub returns-clause-fault : goal.returns-clause-fault
+returns-clause-fault g t c = λ standing told.
+    let next : IsNext c.args.catalogue c.args.path.now c.in-Some.entry = rw c.in-Some.is at c.in_ok-entry.ensures.found in
+    fails_below standing c.args.id.now c.args.catalogue c.in_ok-below.below c.in-Some.entry c.holder_from.result next.has (c.in_ok-below.ensures.told standing told)
+    (c.holder_from.ensures.fault standing (c.nested_catalogue.ensures.unchanged ∙ told))
+
+pub nested_catalogue-requires-clause-entry : goal.nested_catalogue-requires-clause-entry
+nested_catalogue-requires-clause-entry g t c =
+    let next : IsNext c.args.catalogue c.args.path.now c.in-Some.entry = rw c.in-Some.is at c.in_ok-entry.ensures.found in
+    next.has

@@ -1,0 +1,5 @@
+pub mod Places
+pub mod Faults
+pub mod Graft
+pub mod Joins
+pub mod Way

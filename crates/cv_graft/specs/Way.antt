@@ -1,0 +1,92 @@
+-- The catalogues on the way to a path.
+use Rattle.std.specs.Prelude.{◌≡◌, ◌≢◌, ◌≤◌, ℕ, zero, suc, Bool, true, false, List, [], ◌++◌, length, Some, Contains, Result, Ok, Err}
+use Rattle.sha1.specs.Sha1.{sha1}
+use Rattle.cv_base.specs.Path.{Path, covers}
+use Rattle.cv_base.specs.Marker.{marker, ends_in}
+use Rattle.cv_base.specs.declared.id.ObjectId.{ObjectId}
+use Rattle.cv_base.specs.declared.object.Object.{Object}
+use Rattle.cv_ports.specs.Calls.{raised}
+use Rattle.cv_ports.specs.Shelf.{Shelf}
+use Rattle.std.specs.FinMap.{get}
+use Rattle.cv_tree.specs.Tree.{Nodes, IsTree, is_directory, at}
+use Rattle.cv_rows.specs.Catalogue.{Contents, catalogue_bytes}
+use Rattle.cv_rows.specs.declared.nested.Nested.{Nested}
+use Rattle.cv_cut.specs.Cuts.{is_cut, is_near}
+use Rattle.cv_cut.specs.Catalogues.{rows_of, nested_of, cat, Fits, SharesKey, IsFull, contents_of}
+use Rattle.cv_cut.specs.Above.{made_from, replaced, Holds, OnWay}
+use Rattle.cv_cut.specs.Reached.{Place, Reaches, HasCatalogue}
+use Rattle.cv_cut.specs.Opening.{HasOtherDigest, MayFailFrom, IsUnread}
+use Rattle.cv_cut.specs.declared.load_fault.LoadFault.{LoadFault}
+use Rattle.cv_graft.specs.declared.made.Made.{Made}
+use Rattle.cv_graft.specs.declared.graft_fault.GraftFault.{GraftFault}
+use Rattle.cv_graft.specs.declared.graft_fault.GraftFault.TheVariants as fault
+
+-- where bytes of another digest are the cause, they stand under the id that is named
+abbrev pub TellsDamage : Shelf → {X : Type 0} → Result X GraftFault → Type 0
+TellsDamage shelf (Ok x) = Unit {0}
+TellsDamage shelf (Err (fault.PathCollision a b)) = Unit {0}
+TellsDamage shelf (Err (fault.CatalogueFull c)) = Unit {0}
+TellsDamage shelf (Err fault.Failed) = Unit {0}
+TellsDamage shelf (Err (fault.Damaged id found)) = HasOtherDigest shelf id found
+TellsDamage shelf (Err fault.NoMemory) = Unit {0}
+
+-- the nested entry of a catalogue properly above the path
+pub record IsNext (c : Contents) (p : Path) (n : Nested) : Type 0 where
+  pub has : Contains c.nested n
+  pub covered : covers n.path p ≡ true
+  pub apart : p ≢ n.path
+
+-- there is none
+abbrev pub HasNone : Contents → Path → Type 0
+HasNone c p = (n : Nested) → Contains c.nested n → covers n.path p ≡ true → p ≡ n.path
+
+-- what a search for the catalogue that directly holds a path answers
+abbrev pub Finds : Nodes → Path → Result Contents LoadFault → Type 0
+Finds t p (Ok k) = (c : Path) × (r : Path) × Holds t p c r × (k ≡ contents_of t c)
+Finds t p (Err f) = IsUnread f
+
+-- the tree n fits, and this is its catalogue that directly holds the path
+pub record IsOffered (n : Nodes) (p : Path) (k : Contents) : Type 0 where
+  pub tree : IsTree n
+  pub fits : Fits n
+  pub cut : Path
+  pub rest : Path
+  pub holds : Holds n p cut rest
+  pub is : k ≡ contents_of n cut
+
+-- what is asked of both trees, where the cut at c directly holds the path in the one, and that at d in the other
+pub record IsAsked (t n : Nodes) (p c r d v : Path) : Type 0 where
+  pub tree : IsTree t
+  pub fits : Fits t
+  pub other : IsTree n
+  pub fits_ : Fits n
+  pub after : IsTree (replaced t n p)
+  pub unmarked : ends_in marker p ≡ false
+  pub holds : Holds t p c r
+  pub held : Holds n p d v
+
+-- what was made of the catalogue of the cut at c, above the path p, which is r behind it
+pub record IsMade (t' : Nodes) (c r : Path) (before after : List Object) (made : Made) : Type 0 where
+  pub hash : made.hash ≡ sha1 (cat t' c)
+  pub size : made.size ≡ length (cat t' c)
+  pub added : after ≡ before ++ made_from t' c r
+  pub fits : Fits t'
+
+-- or why the tree t' doesn't fit
+abbrev pub Rebuilds : Nodes → Path → Path → List Object → List Object → Result Made GraftFault → Type 0
+Rebuilds t' c r before after (Ok made) = IsMade t' c r before after made
+Rebuilds t' c r before after (Err (fault.PathCollision a b)) = SharesKey t' a b
+Rebuilds t' c r before after (Err (fault.CatalogueFull d)) = IsFull t' d × ((a b : Path) → SharesKey t' a b → ⊥)
+Rebuilds t' c r before after (Err fault.Failed) = Unit {0}
+Rebuilds t' c r before after (Err (fault.Damaged x found)) = ⊥
+Rebuilds t' c r before after (Err fault.NoMemory) = Unit {0}
+
+-- what a question for a directory answers
+abbrev pub Tells : Nodes → Path → Result Bool LoadFault → Type 0
+Tells t p (Ok found) = found ≡ is_directory (get t p)
+Tells t p (Err f) = IsUnread f
+
+-- where a fault is answered, its cause is in what is reached from the catalogue under an id on, wherever that is reached
+abbrev pub FailsFrom : Shelf → ObjectId → Contents → {X : Type 0} → Result X LoadFault → Type 0
+FailsFrom shelf id c (Ok x) = Unit {0}
+FailsFrom shelf id c (Err f) = (from : List ℕ) (start place : Place) → Reaches shelf from start id.hash place → HasCatalogue shelf id.hash place c → MayFailFrom shelf from start f

@@ -1,0 +1,137 @@
+//! Grafting.
+ghost use Rattle.std.specs.Prelude.{◌≡◌, ◌≢◌, ◌≤◌, ◌+◌, [], true, false, ℕ, List, length, IfOk, IfErr, IsTrue, IsErrOf};
+ghost use Rattle.cv_base.specs.Counts.{HasCause};
+ghost use Rattle.cv_base.specs.Marker.{marker, ends_in};
+ghost use Rattle.cv_base.specs.Path.{covers};
+ghost use Rattle.cv_base.specs.Told.{WhereTold};
+ghost use Rattle.cv_base.specs.declared.id.Kind.TheVariants as id_kind;
+ghost use Rattle.cv_rows.specs.Catalogue.{IsCatalogue};
+ghost use Rattle.cv_tree.specs.Tree.{Nodes};
+ghost use Rattle.cv_tree.specs.Changes.{has_place};
+ghost use Rattle.cv_cut.specs.Means.{Means};
+ghost use Rattle.cv_ports.specs.Calls.{RaisedAtMost};
+ghost use Rattle.cv_cut.specs.Above.{cuts_above, replaced};
+ghost use Rattle.cv_cut.specs.Opening.{MayFail};
+ghost use Rattle.cv_cut.specs.declared.load_fault.LoadFault.TheVariants as load_faults;
+ghost use Rattle.cv_graft.specs.Graft.{Grafts, HasWay};
+ghost use Rattle.cv_graft.specs.Way.{Finds, TellsDamage};
+ghost use Rattle.cv_graft.specs.declared.graft_fault.GraftFault.TheVariants as faults;
+
+use crate::graft_fault::GraftFault;
+use crate::grafted::Grafted;
+use crate::rebuilding::rebuilt;
+use crate::way::holder_from;
+use cv_base::{Items, Kind, ObjectId, RepoPath};
+use cv_cut::{LoadFault, catalogue_at};
+use cv_ports::{Shelf, ShelfFault};
+use cv_rows::Catalogue;
+use std::alloc::Global;
+
+/// The catalogue under a root that directly holds a path below it.
+pub(crate) fn holder<S: Shelf>(
+    alloc: Global,
+    shelf: &mut S,
+    root: &ObjectId,
+    path: &RepoPath,
+) -> Result<Catalogue, LoadFault>
+    requires kind { root.now.kind ≡ id_kind.Catalogue }
+    requires path { path.now ≢ [] }
+    ensures told { WhereTold (S.shelf shelf.old) (λ standing. (n : Nodes) → HasWay standing root.now.hash n path.now → Finds n path.now result) }
+    ensures rules { IfOk result IsCatalogue }
+    ensures covered { IfOk result (λ c. (covers c.at path.now ≡ true) × (path.now ≢ c.at)) }
+    ensures fault { WhereTold (S.shelf shelf.old) (λ standing. IfErr result (MayFail standing root.now.hash)) }
+    ensures reads { S.reads shelf.old shelf.new }
+    ensures unchanged { S.shelf shelf.new ≡ S.shelf shelf.old }
+    ensures cause { HasCause (S.faults shelf.old) (S.faults shelf.new) (IsErrOf result load_faults.Failed) }
+    ensures taken { WhereTold (S.shelf shelf.old) (λ standing. (n : Nodes) → HasWay standing root.now.hash n path.now → RaisedAtMost (length (cuts_above n path.now)) (S.taken shelf.old) (S.taken shelf.new)) }
+{
+    let top = RepoPath::root(alloc);
+    let catalogue = catalogue_at(alloc, shelf, root, &top, None)?;
+    holder_from(alloc, shelf, root, catalogue, path)
+}
+
+/// The offered tree as it is.
+fn whole<S: Shelf>(alloc: Global, shelf: &mut S, offered: &ObjectId) -> Result<Grafted, GraftFault>
+    requires { offered.now.kind ≡ id_kind.Catalogue }
+    ensures told { WhereTold (S.shelf shelf.old) (λ standing. (t n : Nodes) → Means standing offered.now.hash n → Grafts (replaced t n []) [] result) }
+    ensures damaged { WhereTold (S.shelf shelf.old) (λ standing. TellsDamage standing result) }
+    ensures reads { S.reads shelf.old shelf.new }
+    ensures unchanged { S.shelf shelf.new ≡ S.shelf shelf.old }
+    ensures cause { HasCause (S.faults shelf.old) (S.faults shelf.new) (IsErrOf result faults.Failed) }
+    ensures taken { S.taken shelf.new ≡ S.taken shelf.old }
+{
+    match shelf.length(alloc, offered) {
+        Ok(Some(size)) => Ok(Grafted {
+            root: *offered,
+            size,
+            added: Items::new(Vec::new(alloc)),
+        }),
+        Ok(None) => Err(GraftFault::NoMemory),
+        Err(ShelfFault::Failed) => Err(GraftFault::Failed),
+        Err(ShelfFault::Damaged { .. }) => unreachable!(),
+        Err(ShelfFault::NoMemory) => Err(GraftFault::NoMemory),
+    }
+}
+
+/// The offered subtree in the place of the newest tree's, at a path below the root.
+fn below_root<S: Shelf>(
+    alloc: Global,
+    shelf: &mut S,
+    newest: &ObjectId,
+    offered: &ObjectId,
+    path: &RepoPath,
+) -> Result<Grafted, GraftFault>
+    requires newest { newest.now.kind ≡ id_kind.Catalogue }
+    requires offered { offered.now.kind ≡ id_kind.Catalogue }
+    requires path { path.now ≢ [] }
+    requires unmarked { ends_in marker path.now ≡ false }
+    ensures told { WhereTold (S.shelf shelf.old) (λ standing. (t n : Nodes) → Means standing newest.now.hash t → Means standing offered.now.hash n → IsTrue (has_place t path.now) → Grafts (replaced t n path.now) path.now result) }
+    ensures damaged { WhereTold (S.shelf shelf.old) (λ standing. TellsDamage standing result) }
+    ensures reads { S.reads shelf.old shelf.new }
+    ensures unchanged { S.shelf shelf.new ≡ S.shelf shelf.old }
+    ensures cause { HasCause (S.faults shelf.old) (S.faults shelf.new) (IsErrOf result faults.Failed) }
+    ensures taken { WhereTold (S.shelf shelf.old) (λ standing. (t n : Nodes) → Means standing newest.now.hash t → Means standing offered.now.hash n → RaisedAtMost (length (cuts_above n path.now) + length (cuts_above t path.now)) (S.taken shelf.old) (S.taken shelf.new)) }
+{
+    let other = holder(alloc, shelf, offered, path)?;
+    let top = RepoPath::root(alloc);
+    let catalogue = catalogue_at(alloc, shelf, newest, &top, None)?;
+    let mut added = Vec::new(alloc);
+    let made = rebuilt(
+        alloc, shelf, newest, &top, catalogue, &other, path, &mut added,
+    )?;
+    let hash = made.hash;
+    let kind = Kind::Catalogue;
+    Ok(Grafted {
+        root: ObjectId { hash, kind },
+        size: made.size,
+        added: Items::new(added),
+    })
+}
+
+/// The newest tree with the subtree at a path replaced by the offered tree's, or taken out where the offered tree lacks the
+/// path. Only the catalogues on the way to the path are read, and only those properly above it are made.
+///
+/// A catalogue on the way that isn't there or doesn't decode, and a path whose parent is no directory of the newest tree, are
+/// answered as want of memory.
+pub fn graft<S: Shelf>(
+    alloc: Global,
+    shelf: &mut S,
+    newest: &ObjectId,
+    offered: &ObjectId,
+    path: &RepoPath,
+) -> Result<Grafted, GraftFault>
+    requires newest { newest.now.kind ≡ id_kind.Catalogue }
+    requires offered { offered.now.kind ≡ id_kind.Catalogue }
+    requires unmarked { ends_in marker path.now ≡ false }
+    ensures told { WhereTold (S.shelf shelf.old) (λ standing. (t n : Nodes) → Means standing newest.now.hash t → Means standing offered.now.hash n → IsTrue (has_place t path.now) → Grafts (replaced t n path.now) path.now result) }
+    ensures damaged { WhereTold (S.shelf shelf.old) (λ standing. TellsDamage standing result) }
+    ensures reads { S.reads shelf.old shelf.new }
+    ensures unchanged { S.shelf shelf.new ≡ S.shelf shelf.old }
+    ensures cause { HasCause (S.faults shelf.old) (S.faults shelf.new) (IsErrOf result faults.Failed) }
+    ensures taken { WhereTold (S.shelf shelf.old) (λ standing. (t n : Nodes) → Means standing newest.now.hash t → Means standing offered.now.hash n → RaisedAtMost (length (cuts_above n path.now) + length (cuts_above t path.now)) (S.taken shelf.old) (S.taken shelf.new)) }
+{
+    if path.names().is_empty() {
+        return whole(alloc, shelf, offered);
+    }
+    below_root(alloc, shelf, newest, offered, path)
+}

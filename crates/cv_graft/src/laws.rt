@@ -1,0 +1,26 @@
+//! Laws over the definitions alone: what a graft leaves on a shelf.
+ghost use Rattle.std.specs.Prelude.{◌≡◌, Some, List, ℕ, IsTrue, Contains, true};
+ghost use Rattle.sha1.specs.Sha1.{sha1};
+ghost use Rattle.cv_base.specs.ObjectId.{object_id};
+ghost use Rattle.cv_base.specs.Path.{Path};
+ghost use Rattle.cv_base.specs.declared.id.Kind.TheVariants.{Catalogue};
+ghost use Rattle.cv_base.specs.declared.id.ObjectId.{ObjectId};
+ghost use Rattle.cv_ports.specs.Shelf.{Shelf, HasMore};
+ghost use Rattle.cv_tree.specs.Tree.{Nodes, IsTree};
+ghost use Rattle.cv_tree.specs.Changes.{has_place};
+ghost use Rattle.cv_cut.specs.Catalogues.{Fits, cat, root_of};
+ghost use Rattle.cv_cut.specs.Means.{Means};
+ghost use Rattle.cv_cut.specs.Above.{cuts_above, replaced};
+
+/// A replaced subtree leaves a tree, where the path's parent is a directory.
+pub fn a_graft_is_a_tree()
+    ensures { (t n : Nodes) (p : Path) → IsTree t → IsTree n → IsTrue (has_place t p) → IsTree (replaced t n p) }
+{}
+
+/// On a shelf that has at least what the first has, and the catalogues of the cuts properly above the path, the new root
+/// means the new tree.
+pub fn a_graft_means_its_tree()
+    ensures { (shelf more : Shelf) (hash other : List ℕ) (t n : Nodes) (p : Path) → Means shelf hash t → Means shelf other n → has_place t p ≡ true → Fits (replaced t n p) → HasMore shelf more
+        → ((c : Path) → Contains (cuts_above (replaced t n p) p) c → more (object_id (sha1 (cat (replaced t n p) c)) Catalogue) ≡ Some (cat (replaced t n p) c))
+        → Means more (root_of (replaced t n p)) (replaced t n p) }
+{}

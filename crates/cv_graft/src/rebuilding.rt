@@ -1,0 +1,137 @@
+//! The catalogues above a path, made anew from the one that directly holds it upwards.
+ghost use Rattle.std.specs.Prelude.{◌≡◌, ◌≢◌, ◌≤◌, ◌+◌, ◌<◌, ◌++◌, ◌∷◌, [], true, false, ℕ, List, length, map, IfOk, OnOk, IsErrOf};
+ghost use Rattle.sha1.specs.Sha1.{sha1};
+ghost use Rattle.cv_base.specs.Counts.{HasCause};
+ghost use Rattle.cv_base.specs.Digest.{IsDigest};
+ghost use Rattle.cv_base.specs.Marker.{marker, ends_in};
+ghost use Rattle.cv_base.specs.ObjectId.{object_id};
+ghost use Rattle.cv_base.specs.Path.{covers};
+ghost use Rattle.cv_base.specs.Told.{WhereTold};
+ghost use Rattle.cv_base.specs.declared.id.Kind.TheVariants as id_kind;
+ghost use Rattle.cv_ports.specs.Shelf.{Shelf as Shelf_};
+ghost use Rattle.cv_rows.specs.Catalogue.{IsCatalogue, catalogue_bytes};
+ghost use Rattle.cv_rows.specs.Renewed.{renewed};
+ghost use Rattle.cv_tree.specs.Tree.{Nodes, IsTree, at};
+ghost use Rattle.cv_ports.specs.Calls.{raised_by};
+ghost use Rattle.cv_cut.specs.Above.{cuts_above, replaced, OnWay};
+ghost use Rattle.cv_graft.specs.Graft.{HasWay};
+ghost use Rattle.cv_graft.specs.Way.{IsAsked, IsOffered, Rebuilds, TellsDamage};
+ghost use Rattle.cv_cut.specs.Catalogues.{contents_of};
+ghost use Rattle.cv_graft.specs.declared.graft_fault.GraftFault.TheVariants as faults;
+
+use crate::graft_fault::GraftFault;
+use crate::joining::joined;
+use crate::made::Made;
+use crate::way::entry_above;
+use cv_base::{Bytes, Kind, NoMemory, Object, ObjectId, RepoPath};
+use cv_cut::nested_catalogue;
+use cv_ports::Shelf;
+use cv_rows::Catalogue;
+use std::alloc::Global;
+
+/// The catalogue with another hash and size in the nested entry of a path.
+fn with_entry(mut catalogue: Catalogue, path: &RepoPath, made: &Made) -> Catalogue
+    requires { IsDigest made.now.hash }
+    ensures { result ≡ record catalogue { nested = map (renewed path.now made.now.hash made.now.size) catalogue.nested } }
+{
+    let hash = made.hash;
+    catalogue.renew(path, hash, made.size);
+    catalogue
+}
+
+/// Keeps a catalogue as an object.
+fn keep(alloc: Global, catalogue: &Catalogue, added: &mut Vec<Object>) -> Result<Made, NoMemory>
+    ensures hash { IfOk result (λ made. made.hash ≡ sha1 (catalogue_bytes catalogue.now)) }
+    ensures size { IfOk result (λ made. made.size ≡ length (catalogue_bytes catalogue.now)) }
+    ensures added { OnOk result (added.new.items ≡ added.old.items ++ record { id = object_id (sha1 (catalogue_bytes catalogue.now)) id_kind.Catalogue; bytes = catalogue_bytes catalogue.now } ∷ []) }
+    ensures digest { IfOk result (λ made. IsDigest made.hash) }
+{
+    let bytes = catalogue.encode(alloc)?;
+    let id = ObjectId::of(Kind::Catalogue, &bytes);
+    let hash = id.hash;
+    let made = Made {
+        hash,
+        size: bytes.len() as u64,
+    };
+    let bytes = Bytes::new(bytes);
+    added.push(Object { id, bytes })?;
+    Ok(made)
+}
+
+/// The catalogue that directly holds the path, with what the other tree's has there.
+fn rejoined(
+    alloc: Global,
+    cut: &RepoPath,
+    catalogue: Catalogue,
+    other: &Catalogue,
+    path: &RepoPath,
+    added: &mut Vec<Object>,
+) -> Result<Made, GraftFault>
+    requires place { catalogue.at ≡ cut.now }
+    requires rules { IsCatalogue catalogue }
+    requires below { covers catalogue.at path.now ≡ true }
+    requires apart { path.now ≢ catalogue.at }
+    requires other { IsCatalogue other.now }
+    requires other_below { covers other.now.at path.now ≡ true }
+    requires other_apart { path.now ≢ other.now.at }
+    requires unmarked { ends_in marker path.now ≡ false }
+    ensures made { (t n : Nodes) (r d v : List (List ℕ)) → IsAsked t n path.now catalogue.at r d v → catalogue ≡ contents_of t catalogue.at → other.now ≡ contents_of n d → Rebuilds (replaced t n path.now) catalogue.at r added.old.items added.new.items result }
+    ensures unread { IsErrOf result faults.Failed → ⊥ }
+    ensures undamaged { (standing : Shelf_) → TellsDamage standing result }
+    ensures digest { IfOk result (λ made. IsDigest made.hash) }
+{
+    let joined = joined(alloc, cut, catalogue, other, path)?;
+    Ok(keep(alloc, &joined, added)?)
+}
+
+/// Makes the catalogues from one on downwards to the path, those below before it, and tells of this one.
+pub(crate) fn rebuilt<S: Shelf>(
+    alloc: Global,
+    shelf: &mut S,
+    id: &ObjectId,
+    cut: &RepoPath,
+    catalogue: Catalogue,
+    other: &Catalogue,
+    path: &RepoPath,
+    added: &mut Vec<Object>,
+) -> Result<Made, GraftFault>
+    requires kind { id.now.kind ≡ id_kind.Catalogue }
+    requires place { catalogue.at ≡ cut.now }
+    requires rules { IsCatalogue catalogue }
+    requires below { covers catalogue.at path.now ≡ true }
+    requires apart { path.now ≢ catalogue.at }
+    requires other { IsCatalogue other.now }
+    requires other_below { covers other.now.at path.now ≡ true }
+    requires other_apart { path.now ≢ other.now.at }
+    requires unmarked { ends_in marker path.now ≡ false }
+    ensures told { WhereTold (S.shelf shelf.old) (λ standing. (hash : List ℕ) (t n : Nodes) (r : List (List ℕ)) → HasWay standing hash t path.now → IsOffered n path.now other.now → IsTree (replaced t n path.now)
+        → OnWay t path.now catalogue.at r → catalogue ≡ contents_of t catalogue.at → Rebuilds (replaced t n path.now) catalogue.at r added.old.items added.new.items result) }
+    ensures digest { IfOk result (λ made. IsDigest made.hash) }
+    ensures damaged { WhereTold (S.shelf shelf.old) (λ standing. TellsDamage standing result) }
+    ensures reads { S.reads shelf.old shelf.new }
+    ensures unchanged { S.shelf shelf.new ≡ S.shelf shelf.old }
+    ensures cause { HasCause (S.faults shelf.old) (S.faults shelf.new) (IsErrOf result faults.Failed) }
+    ensures taken { WhereTold (S.shelf shelf.old) (λ standing. (hash : List ℕ) (t : Nodes) (r : List (List ℕ)) → HasWay standing hash t path.now → OnWay t path.now catalogue.at r → catalogue ≡ contents_of t catalogue.at
+        → (k : ℕ) × (k + 1 ≤ length (cuts_above (at t catalogue.at) r)) × (S.taken shelf.new ≡ raised_by k (S.taken shelf.old))) }
+{
+    let Some(entry) = entry_above(alloc, &catalogue, path)? else {
+        return rejoined(alloc, cut, catalogue, other, path, added);
+    };
+    let below = nested_catalogue(alloc, shelf, id, &catalogue, &entry)?;
+    let below_id = ObjectId {
+        hash: entry.hash,
+        kind: Kind::Catalogue,
+    };
+    let made = rebuilt(
+        alloc,
+        shelf,
+        &below_id,
+        &entry.path,
+        below,
+        other,
+        path,
+        added,
+    )?;
+    let catalogue = with_entry(catalogue, &entry.path, &made);
+    Ok(keep(alloc, &catalogue, added)?)
+}

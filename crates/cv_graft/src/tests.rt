@@ -1,0 +1,202 @@
+//! Grafts against the cutting of the whole tree by another program, that of `tools/graft_vectors.py`.
+ghost use Rattle.std.specs.Prelude.{◌≡◌, IfOk};
+ghost use Rattle.cv_base.specs.declared.id.Kind.TheVariants as id_kind;
+ghost use Rattle.cv_tree.specs.Node.{IsNode};
+
+use super::*;
+use cv_base::{Attr, Kind, Object, ObjectId, RepoPath, ends_in_marker};
+use cv_cut::cut;
+use cv_ports::MemoryShelf;
+use cv_tree::{FileRef, Node, Tree};
+use std::alloc::Global;
+use std::test::*;
+
+/// A newest tree, the path at which it takes the offered tree's subtree, and the offered tree; the id of the new root's
+/// catalogue, and how many catalogues are made.
+///
+/// Trees are texts of their paths, in which `/d/` is a directory and anything else a file whose content is the text of its
+/// path.
+const GRAFTS: [(&str, &str, &str, &str, usize); 9] = [
+    (
+        "/a/ /a/f /b",
+        "/a",
+        "/a/ /a/g",
+        "85bb0ba1c7deeb447be9719081fbaa19b1ac662dC",
+        1,
+    ),
+    (
+        "/a/ /a/f /b",
+        "/a",
+        "/c",
+        "c219e2f686baafbcd32a9323f48aabc8d1eddda7C",
+        1,
+    ),
+    (
+        "/a/ /a/f /b",
+        "/a",
+        "/a/ /a/.cvmfscatalog /a/g",
+        "15a3a7aee8823993c915c28912030ac30fb7ee41C",
+        1,
+    ),
+    (
+        "/a/ /a/.cvmfscatalog /a/f /b",
+        "/a",
+        "/a/ /a/g",
+        "85bb0ba1c7deeb447be9719081fbaa19b1ac662dC",
+        1,
+    ),
+    (
+        "/a/ /a/.cvmfscatalog /a/b/ /a/b/x",
+        "/a/b",
+        "/a/ /a/b/ /a/b/y",
+        "848254e4491e18710e07da861be2008006dcb603C",
+        2,
+    ),
+    (
+        "/a/ /a/.cvmfscatalog /a/b/ /a/b/.cvmfscatalog /a/b/c/ /a/z",
+        "/a/b/c",
+        "/a/ /a/b/ /a/b/c/ /a/b/c/d/ /a/b/c/d/.cvmfscatalog",
+        "7f174e52808f4719b500146ae6165a4ef83fa086C",
+        3,
+    ),
+    (
+        "/a/ /a/b/ /a/b/x",
+        "/a/b",
+        "/a/ /a/.cvmfscatalog /a/b/ /a/b/.cvmfscatalog /a/b/y",
+        "da2263931854af3eb05f6c1e7e9db6eb40a6c36dC",
+        1,
+    ),
+    (
+        "/a/ /a/f",
+        "/",
+        "/b/ /b/.cvmfscatalog",
+        "25b1ec6b68cb1ad49d9a3778019ec5a7d4227fa4C",
+        0,
+    ),
+    (
+        "/a/ /a/f /b",
+        "/a",
+        "/a",
+        "25044deb63180e6c29735f5fbddfb9a67ddf5aadC",
+        1,
+    ),
+];
+
+/// A tree.
+const PLACES: &str = "/a/ /a/.cvmfscatalog /a/b/ /a/b/x /c";
+
+/// Whether a path is a directory of it.
+const DIRECTORIES: [(&str, bool); 9] = [
+    ("/", true),
+    ("/a", true),
+    ("/a/b", true),
+    ("/a/b/x", false),
+    ("/a/d", false),
+    ("/a/d/e", false),
+    ("/c", false),
+    ("/c/d", false),
+    ("/b", false),
+];
+
+const DIRECTORY: Attr = Attr {
+    mode: 0o755,
+    mtime: 1_700_000_000,
+    uid: 0,
+    gid: 0,
+};
+
+const FILE: Attr = Attr {
+    mode: 0o644,
+    mtime: 1_700_000_000,
+    uid: 0,
+    gid: 0,
+};
+
+/// A file whose content is this text.
+fn file(text: &str) -> Result<Node, Fail>
+    ensures { IfOk result IsNode }
+{
+    if text.len() > 4095 {
+        return Err(Fail::new("a long text"));
+    }
+    let hash = ObjectId::of(Kind::Plain, text.as_bytes()).hash;
+    let size = text.len() as u64;
+    Ok(Node::File(FILE, FileRef { hash, size }))
+}
+
+/// Adds what a word says to a tree.
+fn add(alloc: Global, tree: &mut Tree, word: &str) -> Result<(), Fail> {
+    if word.ends_with('/') {
+        tree.insert(&RepoPath::read(alloc, word)?, Node::Dir(DIRECTORY))?;
+    } else if !word.is_empty() {
+        tree.insert(&RepoPath::read(alloc, word)?, file(word)?)?;
+    }
+    Ok(())
+}
+
+/// The tree that a text says.
+fn tree_of(alloc: Global, text: &str) -> Result<Tree, Fail> {
+    let mut tree = Tree::new(alloc, DIRECTORY)?;
+    for word in text.split(' ') {
+        add(alloc, &mut tree, word)?;
+    }
+    Ok(tree)
+}
+
+/// Adds the catalogues of the tree that a text says, and gives the root's id.
+fn add_catalogues(alloc: Global, objects: &mut Vec<Object>, text: &str) -> Result<ObjectId, Fail>
+    ensures { IfOk result (λ id. id.kind ≡ id_kind.Catalogue) }
+{
+    let made = cut(alloc, &tree_of(alloc, text)?)?;
+    let hash = made.root.hash;
+    for object in made.catalogues.into_vec() {
+        objects.push(object)?;
+    }
+    let kind = Kind::Catalogue;
+    Ok(ObjectId { hash, kind })
+}
+
+/// What a graft gives.
+fn grafted(alloc: Global, newest: &str, at: &str, offered: &str) -> Result<Grafted, Fail> {
+    let mut objects = Vec::new(alloc);
+    let newest = add_catalogues(alloc, &mut objects, newest)?;
+    let offered = add_catalogues(alloc, &mut objects, offered)?;
+    let mut shelf = MemoryShelf::new(alloc, objects, Vec::new(alloc))?;
+    let path = RepoPath::read(alloc, at)?;
+    if ends_in_marker(&path) {
+        return Err(Fail::new("a marker"));
+    }
+    match graft(alloc, &mut shelf, &newest, &offered, &path) {
+        Ok(grafted) => Ok(grafted),
+        Err(_) => Err(Fail::new("no graft")),
+    }
+}
+
+#[test]
+fn a_graft_is_the_cut_of_the_tree(rt: HostRuntime) -> Result<(), Fail> {
+    for (newest, at, offered, root, made) in &GRAFTS {
+        let grafted = grafted(rt.alloc(), newest, at, offered)?;
+        assert!(rt; Some(grafted.root) == ObjectId::read(root));
+        assert!(rt; grafted.added.as_slice().len() == *made);
+    }
+    Ok(())
+}
+
+/// Whether a path is a directory of the tree.
+fn is_directory(alloc: Global, path: &str) -> Result<bool, Fail> {
+    let mut objects = Vec::new(alloc);
+    let root = add_catalogues(alloc, &mut objects, PLACES)?;
+    let mut shelf = MemoryShelf::new(alloc, objects, Vec::new(alloc))?;
+    match directory_at(alloc, &mut shelf, &root, &RepoPath::read(alloc, path)?) {
+        Ok(is) => Ok(is),
+        Err(_) => Err(Fail::new("no answer")),
+    }
+}
+
+#[test]
+fn directories_are_told(rt: HostRuntime) -> Result<(), Fail> {
+    for (path, is) in &DIRECTORIES {
+        assert!(rt; is_directory(rt.alloc(), path)? == *is);
+    }
+    Ok(())
+}
