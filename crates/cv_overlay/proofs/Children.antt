@@ -1,0 +1,68 @@
+-- The children of a directory by their names.
+use Rattle.std.proofs.Common.{◌≡◌, Bool, true, false, List, ℕ, [], ◌∷◌, ◌++◌, ◌&&◌, is_some, refl, sym, ap, ◌∙◌, length, ◌≤◌, ◌<◌, ◌+◌, ◌||◌, suc, drop, get_or, add-one, drop-cons, arith}
+use Rattle.std.specs.Prelude.{Result, Ok, Err, nat_lt}
+use Rattle.std.specs.List.{list_all}
+use Rattle.std.specs.declared.option.Option.TheVariants.{None, Some}
+use Rattle.std.specs.FinMap.{get}
+use Rattle.cv_base.specs.Path.{Path, text_of, last_name_of, is_path_name, IsPath}
+use Rattle.cv_base.specs.PathText.{joined}
+use Rattle.cv_base.specs.declared.path_fault.PathFault.{PathFault}
+use Rattle.cv_tree.specs.Tree.{Nodes, IsTree}
+use Rattle.cv_overlay.specs.Whiteout.{is_whiteout}
+use Rattle.cv_overlay.specs.Overlay.{named, is_leaf, hides, hidden_from, hidden}
+use Rattle.cv_tree.proofs.PathLimits.{joined-Ok}
+
+pub last_of : (p : Path) (a : List ℕ) → last_name_of (p ++ a ∷ []) ≡ a
+last_of [] a = refl
+last_of (b ∷ []) a = refl
+last_of (b ∷ c ∷ p) a = last_of (c ∷ p) a
+
+all_last : (p : Path) (a : List ℕ) → list_all is_path_name (p ++ a ∷ []) ≡ true → is_path_name a ≡ true
+all_last [] a h = elim (is_path_name a) as (λ (b : Bool). (b && true) ≡ true → b ≡ true) [ true ↦ λ _. refl | false ↦ λ e. e ] h
+all_last (b ∷ p) a h = all_last p a (elim (is_path_name b) as (λ (t : Bool). (t && list_all is_path_name (p ++ a ∷ [])) ≡ true → list_all is_path_name (p ++ a ∷ []) ≡ true) [ true ↦ λ e. e | false ↦ λ e. cc ] h)
+
+not_lt : (a b : ℕ) → b ≤ a → nat_lt a b ≡ false
+not_lt a b h = grind arith
+
+-- what keeps the limits is joined
+pub joins : (p : Path) (name : List ℕ) → IsPath (p ++ name ∷ []) → joined p name ≡ Ok (p ++ name ∷ [])
+joins p name h =
+    rw (not_lt 4095 (length (text_of (p ++ name ∷ []))) h.size, not_lt 64 (length (p ++ name ∷ [])) h.depth, all_last p name h.names) refl
+
+-- no node has a path that isn't joined
+pub none_joined : (t : Nodes) (p : Path) (name : List ℕ) (fault : PathFault) → IsTree t → joined p name ≡ Err fault → get t (p ++ name ∷ []) ≡ None
+none_joined t p name fault h refused =
+    elim (get t (p ++ name ∷ [])) as (λ o. get t (p ++ name ∷ []) ≡ o → o ≡ None) [
+      | None ↦ λ _. refl
+      | Some node ↦ λ there. let ok = joins p name (h.part.paths (p ++ name ∷ []) (ap is_some there)) in
+          let no : ◌≡◌ {A = Result Path PathFault} (Ok (p ++ name ∷ [])) (Err fault) = sym ok ∙ refused in cc
+    ] refl
+
+-- a whiteout is nothing that the folder puts
+pub whiteout_unnamed : (c : Nodes) (p : Path) (name : List ℕ) → is_whiteout name ≡ true → is_leaf (named c (p ++ name ∷ [])) ≡ false
+whiteout_unnamed c p name h = rw (last_of p name, h) refl
+
+pub other_named : (c : Nodes) (p : Path) (name : List ℕ) → is_whiteout name ≡ false → named c (p ++ name ∷ []) ≡ get c (p ++ name ∷ [])
+other_named c p name h = rw (last_of p name, h) refl
+
+pub refused_child : (t : Nodes) (p : Path) (name : List ℕ) (fault : PathFault) → IsTree t → Err fault ≡ joined p name → None ≡ get t (p ++ name ∷ [])
+refused_child t p name fault h e = sym (none_joined t p name fault h (sym e))
+
+or_false : (b : Bool) → (false || b) ≡ b
+or_false b = refl
+
+-- one name more on the way
+pub next_hidden : (c : Nodes) (above longer path : Path) (i : ℕ) (name : List ℕ) → Ok longer ≡ joined above name → hides c above name ≡ false → i < length path → name ≡ get_or path i name
+    → hidden_from c above (drop i path) ≡ hidden c path → hidden_from c longer (drop (i + 1) path) ≡ hidden c path
+next_hidden c above longer path i name join shown more is h =
+    let split : drop i path ≡ name ∷ drop (i + 1) path = rw add-one (drop-cons path i name more ∙ ap (λ w. w ∷ drop (suc i) path) (sym is)) in
+    let all : hidden_from c above (name ∷ drop (i + 1) path) ≡ hidden c path = ap (hidden_from c above) (sym split) ∙ h in
+    rw (joined-Ok above name longer join) (rw shown at all)
+
+-- a name on the way hides the rest
+pub here_hidden : (c : Nodes) (above path : Path) (i : ℕ) (name : List ℕ) → hides c above name ≡ true → i < length path → name ≡ get_or path i name
+    → hidden_from c above (drop i path) ≡ hidden c path → true ≡ hidden c path
+here_hidden c above path i name hid more is h =
+    let split : drop i path ≡ name ∷ drop (i + 1) path = rw add-one (drop-cons path i name more ∙ ap (λ w. w ∷ drop (suc i) path) (sym is)) in
+    let all : hidden_from c above (name ∷ drop (i + 1) path) ≡ hidden c path = ap (hidden_from c above) (sym split) ∙ h in
+    rw hid at all

@@ -1,0 +1,5 @@
+pub mod Over
+pub mod Children
+pub mod Bases
+pub mod Leasts
+pub mod Trails

@@ -1,0 +1,19 @@
+//! Faults of a folder of changes.
+
+use cv_base::RepoPath;
+
+/// Why a folder's changes weren't read: the first fault of its walk. Paths count from the folder.
+#[derive(Debug, Drop)]
+pub enum ReadFault {
+    /// No directory, file or link stands at this path.
+    Special(RepoPath),
+    /// In the directory at this path stands a name that no path has, a link to a text that is no target, or what passes a
+    /// limit of a path behind the published path.
+    BadName(RepoPath),
+    /// The file at this path has more than 16 MiB, or the files up to it more than 1 GiB.
+    TooLarge(RepoPath),
+    /// The folder failed. Its count of faults rose.
+    Failed,
+    /// There was no memory.
+    NoMemory,
+}
