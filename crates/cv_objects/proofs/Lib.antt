@@ -1,0 +1,12 @@
+pub mod Naming
+pub mod Lists
+pub mod Noted
+pub mod Looking
+pub mod Writing
+pub mod Placing
+pub mod Batching
+pub mod Stores
+pub mod Telling
+pub mod Once
+pub mod Noting
+pub mod Meaning

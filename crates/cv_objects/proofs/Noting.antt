@@ -1,0 +1,66 @@
+-- Ids that are noted.
+use Rattle.std.proofs.Common.{◌≡◌, ◌||◌, ℕ, Bool, true, false, cond, List, [], ◌∷◌, ◌++◌, take, length, ◌<◌, ◌+◌, get_or, refl, ap, ◌∙◌}
+use Rattle.std.specs.Prelude.{Vec, is_some, is_none}
+use Rattle.std.specs.declared.option.Option.{Option}
+use Rattle.std.specs.declared.option.Option.TheVariants.{None, Some}
+use Rattle.std.specs.declared.result.Result.{Result}
+use Rattle.std.specs.declared.result.Result.TheVariants.{Ok, Err}
+use Rattle.cv_base.specs.Digest.{IsDigest}
+use Rattle.cv_base.specs.declared.id.ObjectId.{ObjectId}
+use Rattle.cv_base.specs.declared.object.Object.{Object}
+use Rattle.cv_vault.specs.Names.{on_way}
+use Rattle.cv_vault.specs.Disk.{Disk, Files}
+use Rattle.cv_vault.specs.Walks.{Walks, Nothing}
+use Rattle.cv_vault.proofs.Walking.{looser}
+use Rattle.cv_ports.specs.Objects.{same_id}
+use Rattle.cv_objects.specs.Names.{standing_on}
+use Rattle.cv_objects.specs.Fresh.{lacking}
+use Rattle.cv_objects.specs.Places.{place_of, is_noted}
+use Rattle.cv_objects.specs.Batches.{Notes, again, anew, Noted, has_file, has_none, NotesOne, Looked, GivesFresh, Shows, by_one, by_itself, IsOutside}
+use Rattle.cv_objects.specs.declared.places.Places.{Places}
+use Rattle.cv_objects.specs.declared.store_fault.StoreFault.{StoreFault}
+use Rattle.cv_objects.specs.declared.store_fault.StoreFault.TheVariants.{NoMemory}
+use Rattle.cv_objects.proofs.Lists.{among}
+use Rattle.cv_objects.proofs.Looking.{shows_outside}
+use Rattle.cv_objects.proofs.Once.{AreOnce, once_there, once_again, once_anew}
+use Rattle.cv_objects.proofs.Telling.{standing_is}
+
+-- the id is noted now
+pub noted_now : (old : List ObjectId) (was : Places) (id : ObjectId) (new : List ObjectId) (are : Places) (p : ℕ) → is_noted was id ≡ false → new ≡ old ++ id ∷ []
+    → ((x : ObjectId) → place_of are x ≡ cond (same_id id x) (Some p) (place_of was x)) → Notes old was id new are
+noted_now old was id new are p other end put = anew other end (λ x. ap is_some (put x) ∙ by (same_id id x) (place_of was x))
+  where
+    by : (b : Bool) (o : Option ℕ) → is_some (cond b (Some p) o) ≡ (b || is_some o)
+    by true o = refl
+    by false o = refl
+
+-- an object more was looked at
+pub fresh_more : (d : Disk) (batch : List Object) (i : ℕ) (o : Object) (ids new : List ObjectId) (was are : Places) → i < length batch → o ≡ get_or batch i o
+    → AreOnce (lacking (take i batch) (standing_on d)) ids (is_noted was) → Noted d o ids was new are → AreOnce (lacking (take (i + 1) batch) (standing_on d)) new (is_noted are)
+fresh_more d batch i o ids new was are lt is once (has_file there same kept) = rw (same, kept) (once_there (standing_on d) batch i o ids (is_noted was) lt is (ap is_none there) once)
+fresh_more d batch i o ids new was are lt is once (has_none absent (again noted same kept)) = rw (same, kept) (once_again (standing_on d) batch i o ids (is_noted was) lt is (ap is_none absent) noted once)
+fresh_more d batch i o ids new was are lt is once (has_none absent (anew other end more)) = rw end (once_anew (standing_on d) batch i o ids (is_noted was) (is_noted are) lt is (ap is_none absent) other more once)
+
+pub fresh_none : (d : Disk) (batch : List Object) (places : Places) → ((id : ObjectId) → place_of places id ≡ None) → AreOnce (lacking (take 0 batch) (standing_on d)) [] (is_noted places)
+fresh_none d batch places none = record { ids_ = refl; noted_ = λ x. ap is_some (none x) }
+
+module _ {V : Type 0} {disk : V → Option Disk} {count : V → ℕ} {left : V → ℕ → Files → Type 0} {d : Disk} {v v1 : V} (o : Object) (ids : List ObjectId) (was : Places) where
+  pub notes_not : {X : Type 0} (new : List ObjectId) (are : Places) (r : Result X StoreFault) (e : StoreFault) → r ≡ Err e → Walks disk count left on_way Nothing (Looked d o (Err e)) d v v1 → Walks disk count left on_way Nothing (NotesOne d o ids was new are r) d v v1
+  notes_not new are r e is w = rw is (looser w (λ n f b. b) (λ d' g l. l))
+
+  pub notes_there : IsDigest o.id.hash → Walks disk count left on_way Nothing (Looked d o (Ok true)) d v v1 → Walks disk count left on_way Nothing (λ d'. (d' ≡ d) × Noted d o ids was ids was) d v v1
+  notes_there digest w = looser w (λ n f b. b) (λ d' g l. (l.0, has_file (standing_is d o.id digest ∙ l.1) refl refl))
+
+  pub notes_new : (new : List ObjectId) (are : Places) → IsDigest o.id.hash → Notes ids was o.id new are → Walks disk count left on_way Nothing (Looked d o (Ok false)) d v v1 → Walks disk count left on_way Nothing (λ d'. (d' ≡ d) × Noted d o ids was new are) d v v1
+  notes_new new are digest h w = looser w (λ n f b. b) (λ d' g l. (l.0, has_none (standing_is d o.id digest ∙ l.1) h))
+
+  pub notes_wants : {X : Type 0} (new : List ObjectId) (are : Places) (r : Result X StoreFault) (e : StoreFault) → r ≡ Err e → IsOutside e → Walks disk count left on_way Nothing (Looked d o (Ok false)) d v v1 → Walks disk count left on_way Nothing (NotesOne d o ids was new are r) d v v1
+  notes_wants new are r e is out w = rw is (looser w (λ n f b. b) (λ d' g l. (l.0, shows_outside d o e out)))
+
+-- an object that shows a fault, after others
+pub fresh_shows : {Z : Type 0} (d : Disk) (batch : List Object) (i : ℕ) (o : Object) (r : Result (Vec ObjectId Z) StoreFault) (e : StoreFault) (d' : Disk) → i < length batch → o ≡ get_or batch i o → r ≡ Err e → (d' ≡ d) → Shows d o e → GivesFresh d batch r d'
+fresh_shows d batch i o r e d' lt is fails same h = rw fails (same, by_one (record { object = o; among = among batch i o lt is; shows = h }))
+
+-- there was no memory to look at all
+pub fresh_wants : {Z : Type 0} (d : Disk) (batch : List Object) (r : Result (Vec ObjectId Z) StoreFault) → r ≡ Err NoMemory → GivesFresh d batch r d
+fresh_wants d batch r is = rw is (refl, by_itself tt)

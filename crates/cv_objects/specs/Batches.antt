@@ -1,0 +1,214 @@
+-- What storing a batch does.
+use Rattle.std.specs.Prelude.{◌≡◌, ◌≢◌, ◌⊎◌, ℕ, Bool, true, false, ◌||◌, List, [], ◌∷◌, ◌++◌, Vec}
+use Rattle.std.specs.List.{Contains}
+use Rattle.std.specs.declared.option.Option.TheVariants.{None, Some}
+use Rattle.std.specs.declared.result.Result.{Result}
+use Rattle.std.specs.declared.result.Result.TheVariants.{Ok, Err}
+use Rattle.sha1.specs.Sha1.{sha1}
+use Rattle.std.specs.declared.option.Option.{Option}
+use Rattle.cv_base.specs.Digest.{IsDigest}
+use Rattle.cv_base.specs.ObjectId.{file_name}
+use Rattle.cv_base.specs.declared.id.ObjectId.{ObjectId}
+use Rattle.cv_base.specs.declared.object.Object.{Object}
+use Rattle.cv_ports.specs.Objects.{same_id}
+use Rattle.cv_ports.specs.Shelf.{Shelf}
+use Rattle.cv_vault.specs.Names.{Name, on_way}
+use Rattle.cv_vault.specs.Disk.{Disk, File, Files, May, IsCalm, Settled, slot}
+use Rattle.cv_vault.specs.Walks.{Gains, Nothing}
+use Rattle.cv_objects.specs.Names.{way_name, standing_on}
+use Rattle.cv_objects.specs.Fresh.{fresh_of}
+use Rattle.cv_objects.specs.Places.{is_noted}
+use Rattle.cv_objects.specs.declared.places.Places.{Places}
+use Rattle.cv_objects.specs.declared.store_fault.StoreFault.{StoreFault}
+use Rattle.cv_objects.specs.declared.store_fault.StoreFault.TheVariants.{Collision, Failed, Damaged, NoMemory}
+
+-- each object's id is that of its bytes
+pub record AreNamed (batch : List Object) : Type 0 where
+  pub each : (o : Object) → Contains batch o → o.id.hash ≡ sha1 o.bytes
+
+-- objects of one id have the same bytes
+pub record IsOne (batch : List Object) : Type 0 where
+  pub each : (a b : Object) → Contains batch a → Contains batch b → a.id ≡ b.id → a.bytes ≡ b.bytes
+
+-- ---- faults
+
+-- other bytes of the same hash stand under the object's name
+pub record HasOther (d : Disk) (o : Object) : Type 0 where
+  pub bytes : List ℕ
+  pub present : (d (file_name o.id)).now ≡ Some bytes
+  pub other : bytes ≢ o.bytes
+  pub hash : sha1 bytes ≡ o.id.hash
+
+-- bytes of another hash stand there
+pub record IsDamaged (d : Disk) (o : Object) (found : List ℕ) : Type 0 where
+  pub bytes : List ℕ
+  pub present : (d (file_name o.id)).now ≡ Some bytes
+  pub digest : found ≡ sha1 bytes
+  pub other : found ≢ o.id.hash
+
+-- what a fault says of an object
+abbrev pub Shows : Disk → Object → StoreFault → Type 0
+Shows d o (Collision id) = (id ≡ o.id) × HasOther d o
+Shows d o Failed = Unit {0}
+Shows d o (Damaged id found) = (id ≡ o.id) × IsDamaged d o found
+Shows d o NoMemory = Unit {0}
+
+-- two objects of the batch have this id and differ
+pub record Clashes (batch : List Object) (id : ObjectId) : Type 0 where
+  pub a : Object
+  pub b : Object
+  pub has_a : Contains batch a
+  pub has_b : Contains batch b
+  pub is_a : a.id ≡ id
+  pub is_b : b.id ≡ id
+  pub differ : a.bytes ≢ b.bytes
+
+-- an object of the batch shows the fault
+pub record ShownBy (d : Disk) (batch : List Object) (fault : StoreFault) : Type 0 where
+  pub object : Object
+  pub among : Contains batch object
+  pub shows : Shows d object fault
+
+-- the fault is the vault's, or want of memory
+abbrev pub IsOutside : StoreFault → Type 0
+IsOutside (Collision id) = ⊥
+IsOutside Failed = Unit {0}
+IsOutside (Damaged id found) = ⊥
+IsOutside NoMemory = Unit {0}
+
+-- what a fault says of a batch: those of the vault and want of memory say nothing
+pub data ShownIn (d : Disk) (batch : List Object) : StoreFault → Type 0 where
+  by_one : {fault : StoreFault} (shown : ShownBy d batch fault) → ShownIn d batch fault
+  by_two : {id : ObjectId} (clash : Clashes batch id) → ShownIn d batch (Collision id)
+  by_itself : {fault : StoreFault} (outside : IsOutside fault) → ShownIn d batch fault
+
+-- ---- one object
+
+-- whether it stands under its name
+abbrev pub Looked : Disk → Object → Result Bool StoreFault → Disk → Type 0
+Looked d o (Ok true) d' = (d' ≡ d) × ((d (file_name o.id)).now ≡ Some o.bytes)
+Looked d o (Ok false) d' = (d' ≡ d) × ((d (file_name o.id)).now ≡ None)
+Looked d o (Err fault) d' = (d' ≡ d) × Shows d o fault
+
+-- it stands under its name, or is on its way
+pub data IsReady (d : Disk) (o : Object) : Type 0 where
+  is_there : (there : (d (file_name o.id)).now ≡ Some o.bytes) → IsReady d o
+  is_coming : (absent : (d (file_name o.id)).now ≡ None) (on_its_way : (d (way_name o.id)).now ≡ Some o.bytes) → IsReady d o
+
+-- it stands under its name, or can be brought there
+pub data Waits (d : Disk) (o : Object) : Type 0 where
+  stands : (there : (d (file_name o.id)).now ≡ Some o.bytes) → Waits d o
+  can : (absent : d (file_name o.id) ≡ slot None Settled) (on_its_way : d (way_name o.id) ≡ slot (Some o.bytes) Settled) → Waits d o
+
+-- what putting it on its way leaves
+pub record IsWritten (d : Disk) (o : Object) (d' : Disk) : Type 0 where
+  pub ready : IsReady d' o
+  pub others : (n : Name) → n ≢ way_name o.id → d' n ≡ d n
+
+abbrev pub Wrote : Disk → Object → {X : Type 0} → Result X StoreFault → Disk → Type 0
+Wrote d o (Ok x) d' = IsWritten d o d'
+Wrote d o (Err fault) d' = Shows d o fault
+
+-- it comes to its name, which had no file
+pub record BringsOne (d : Disk) (o : Object) (n : Name) (f : File) : Type 0 where
+  pub name : n ≡ file_name o.id
+  pub file : f ≡ Some o.bytes
+  pub absent : (d n).now ≡ None
+
+-- what bringing it leaves
+pub record IsPlaced (d : Disk) (o : Object) (d' : Disk) : Type 0 where
+  pub there : (d' (file_name o.id)).now ≡ Some o.bytes
+  pub others : (n : Name) → n ≢ way_name o.id → n ≢ file_name o.id → d' n ≡ d n
+
+abbrev pub Placed : Disk → Object → {X : Type 0} → Result X StoreFault → Disk → Type 0
+Placed d o (Ok x) d' = IsPlaced d o d'
+Placed d o (Err fault) d' = IsOutside fault
+
+-- ---- a batch
+
+-- an object of the batch comes to its name, which had no file
+pub record Brings (d : Disk) (batch : List Object) (n : Name) (f : File) : Type 0 where
+  pub object : Object
+  pub among : Contains batch object
+  pub one : BringsOne d object n f
+
+pub record AreReady (d : Disk) (batch : List Object) : Type 0 where
+  pub each : (o : Object) → Contains batch o → IsReady d o
+
+pub record AllWait (d : Disk) (batch : List Object) : Type 0 where
+  pub each : (o : Object) → Contains batch o → Waits d o
+
+-- all stand under their names
+pub record Has (d : Disk) (batch : List Object) : Type 0 where
+  pub each : (o : Object) → Contains batch o → (d (file_name o.id)).now ≡ Some o.bytes
+
+abbrev pub WroteAll : Disk → List Object → {X : Type 0} → Result X StoreFault → Disk → Type 0
+WroteAll d batch (Ok x) d' = AreReady d' batch
+WroteAll d batch (Err fault) d' = ShownIn d batch fault
+
+abbrev pub PlacedAll : Disk → List Object → {X : Type 0} → Result X StoreFault → Disk → Type 0
+PlacedAll d batch (Ok x) d' = Has d' batch
+PlacedAll d batch (Err fault) d' = IsOutside fault
+
+-- all is settled, and the batch is there
+pub record AreStored (batch : List Object) (d' : Disk) : Type 0 where
+  pub calm : IsCalm d'
+  pub has : Has d' batch
+
+-- a store is refused, and nothing came
+pub record IsRefused (d : Disk) (batch : List Object) (fault : StoreFault) (d' : Disk) : Type 0 where
+  pub shown : ShownIn d batch fault
+  pub same : Gains on_way Nothing d d'
+
+-- what a store leaves. After a fault that is none of the batch's some of it may have come, but never one of two that differ under one id
+abbrev pub Stored : Disk → List Object → {X : Type 0} → Result X StoreFault → Disk → Type 0
+Stored d batch (Ok x) d' = AreStored batch d'
+Stored d batch (Err (Collision id)) d' = IsRefused d batch (Collision id) d'
+Stored d batch (Err Failed) d' = IsOne batch
+Stored d batch (Err (Damaged id found)) d' = IsRefused d batch (Damaged id found) d'
+Stored d batch (Err NoMemory) d' = IsOne batch ⊎ Gains on_way Nothing d d'
+
+-- the ids that the shelf lacks, each once, in the order of the batch; and objects of one id are one
+abbrev pub GivesFresh : Disk → List Object → {Z : Type 0} → Result (Vec ObjectId Z) StoreFault → Disk → Type 0
+GivesFresh d batch (Ok ids) d' = (d' ≡ d) × (ids.items ≡ fresh_of batch (standing_on d)) × IsOne batch
+GivesFresh d batch (Err fault) d' = (d' ≡ d) × ShownIn d batch fault
+
+-- bytes that stand under an object's name, against it
+abbrev pub Compares : Object → List ℕ → Result Bool StoreFault → Type 0
+Compares o bytes (Ok true) = bytes ≡ o.bytes
+Compares o bytes (Ok false) = ⊥
+Compares o bytes (Err (Collision id)) = (id ≡ o.id) × (bytes ≢ o.bytes) × (sha1 bytes ≡ o.id.hash)
+Compares o bytes (Err (Damaged id found)) = (id ≡ o.id) × (found ≡ sha1 bytes) × (found ≢ o.id.hash)
+Compares o bytes (Err fault) = ⊥
+
+-- an id is noted behind others, unless it is noted already
+pub data Notes (old : List ObjectId) (was : Places) (id : ObjectId) (new : List ObjectId) (are : Places) : Type 0 where
+  again : (noted : is_noted was id ≡ true) (same : new ≡ old) (kept : are ≡ was) → Notes old was id new are
+  anew : (other : is_noted was id ≡ false) (end : new ≡ old ++ id ∷ []) (more : (x : ObjectId) → is_noted are x ≡ same_id id x || is_noted was x) → Notes old was id new are
+
+-- the id of an object without a file is noted
+pub data Noted (d : Disk) (o : Object) (old : List ObjectId) (was : Places) (new : List ObjectId) (are : Places) : Type 0 where
+  has_file : (there : standing_on d o.id ≡ Some o.bytes) (same : new ≡ old) (kept : are ≡ was) → Noted d o old was new are
+  has_none : (absent : standing_on d o.id ≡ None) (notes : Notes old was o.id new are) → Noted d o old was new are
+
+abbrev pub NotesOne : Disk → Object → List ObjectId → Places → List ObjectId → Places → {X : Type 0} → Result X StoreFault → Disk → Type 0
+NotesOne d o old was new are (Ok x) d' = (d' ≡ d) × Noted d o old was new are
+NotesOne d o old was new are (Err fault) d' = (d' ≡ d) × Shows d o fault
+
+-- ---- what a store means
+
+-- a crash leaves no bytes of another hash under an object's name
+pub record AreHashed (d : Disk) : Type 0 where
+  pub each : (id : ObjectId) → IsDigest id.hash → (file : File) → May (d (file_name id)) file → (bytes : List ℕ) → file ≡ Some bytes → sha1 bytes ≡ id.hash
+
+-- no file has bytes of another hash under an object's name
+pub record HaveHashes (f : Files) : Type 0 where
+  pub each : (id : ObjectId) → IsDigest id.hash → (bytes : List ℕ) → f (file_name id) ≡ Some bytes → sha1 bytes ≡ id.hash
+
+-- an object of the batch came to the id, under which nothing stood
+pub record IsGained (batch : List Object) (before : Shelf) (id : ObjectId) (now : Option (List ℕ)) : Type 0 where
+  pub object : Object
+  pub among : Contains batch object
+  pub is : id ≡ object.id
+  pub file : now ≡ Some object.bytes
+  pub absent : before id ≡ None

@@ -1,0 +1,119 @@
+//! Objects are stored whole or not at all.
+ghost use Rattle.std.specs.Prelude.{◌≡◌, IsErrOf};
+ghost use Rattle.sha1.specs.Sha1.{sha1};
+ghost use Rattle.cv_base.specs.Counts.{HasCause};
+ghost use Rattle.cv_base.specs.Digest.{IsDigest};
+ghost use Rattle.cv_base.specs.Told.{WhereTold};
+ghost use Rattle.cv_vault.specs.Names.{on_way};
+ghost use Rattle.cv_vault.specs.Walks.{Walks, Nothing};
+ghost use Rattle.cv_objects.specs.Batches.{Compares, Looked, Wrote, Placed, WroteAll, PlacedAll, Stored, Brings, BringsOne, AreNamed, IsOne, Waits, AllWait};
+ghost use Rattle.cv_objects.specs.declared.store_fault.StoreFault.TheVariants as fault;
+
+use crate::names::{name_of, way_of};
+use crate::store_fault::StoreFault;
+use cv_base::{Bytes, Object, ObjectId};
+use cv_vault::Vault;
+use std::alloc::Global;
+
+/// What bytes that stand under an object's name are against it.
+fn compare(object: &Object, found: &Bytes) -> Result<bool, StoreFault>
+    ensures { Compares object.now found.now result }
+{
+    if found.as_slice() == object.bytes.as_slice() {
+        return Ok(true);
+    }
+    let other = ObjectId::of(object.id.kind, found.as_slice());
+    if other.hash == object.id.hash {
+        Err(StoreFault::Collision(object.id))
+    } else {
+        Err(StoreFault::Damaged {
+            id: object.id,
+            found: other.hash,
+        })
+    }
+}
+
+/// Whether an object stands under its name.
+pub fn stands<V: Vault>(vault: &mut V, alloc: Global, object: &Object) -> Result<bool, StoreFault>
+    ensures walks { WhereTold (V.disk vault.old) (λ d. Walks V.disk V.count V.left on_way Nothing (Looked d object.now result) d vault.old vault.new) }
+    ensures cause { HasCause (V.faults vault.old) (V.faults vault.new) (IsErrOf result fault.Failed) }
+    ensures digest { IsDigest object.now.id.hash }
+{
+    let name = name_of(alloc, object.id)?;
+    match vault.read(name.as_str())? {
+        None => Ok(false),
+        Some(found) => compare(object, &found),
+    }
+}
+
+/// Puts an absent object on its way.
+fn write_one<V: Vault>(vault: &mut V, alloc: Global, object: &Object) -> Result<(), StoreFault>
+    ensures walks { WhereTold (V.disk vault.old) (λ d. Walks V.disk V.count V.left on_way Nothing (Wrote d object.now result) d vault.old vault.new) }
+    ensures cause { HasCause (V.faults vault.old) (V.faults vault.new) (IsErrOf result fault.Failed) }
+{
+    if stands(vault, alloc, object)? {
+        return Ok(());
+    }
+    let way = way_of(alloc, object.id)?;
+    vault.write(way.as_str(), object.bytes.as_slice())?;
+    Ok(())
+}
+
+/// Brings an object that is on its way, unless it is there.
+fn place_one<V: Vault>(vault: &mut V, alloc: Global, object: &Object) -> Result<(), StoreFault>
+    requires named { object.now.id.hash ≡ sha1 object.now.bytes }
+    ensures walks { WhereTold (V.disk vault.old) (λ d. Waits d object.now → Walks V.disk V.count V.left on_way (BringsOne d object.now) (Placed d object.now result) d vault.old vault.new) }
+    ensures cause { HasCause (V.faults vault.old) (V.faults vault.new) (IsErrOf result fault.Failed) }
+{
+    if stands(vault, alloc, object)? {
+        return Ok(());
+    }
+    let way = way_of(alloc, object.id)?;
+    let name = name_of(alloc, object.id)?;
+    if vault.rename(way.as_str(), name.as_str())? {
+        Ok(())
+    } else {
+        // It can't be, where the vault tells.
+        Err(StoreFault::NoMemory)
+    }
+}
+
+/// Puts the absent objects of a batch on their way.
+fn write_absent<V: Vault>(vault: &mut V, alloc: Global, batch: &[Object]) -> Result<(), StoreFault>
+    requires named { AreNamed batch.now }
+    requires one { IsOne batch.now }
+    ensures walks { WhereTold (V.disk vault.old) (λ d. Walks V.disk V.count V.left on_way Nothing (WroteAll d batch.now result) d vault.old vault.new) }
+    ensures cause { HasCause (V.faults vault.old) (V.faults vault.new) (IsErrOf result fault.Failed) }
+{
+    for object in batch {
+        write_one(vault, alloc, object)?;
+    }
+    Ok(())
+}
+
+/// Brings those that are on their way.
+fn place_absent<V: Vault>(vault: &mut V, alloc: Global, batch: &[Object]) -> Result<(), StoreFault>
+    requires named { AreNamed batch.now }
+    requires one { IsOne batch.now }
+    ensures walks { WhereTold (V.disk vault.old) (λ d. AllWait d batch.now → Walks V.disk V.count V.left on_way (Brings d batch.now) (PlacedAll d batch.now result) d vault.old vault.new) }
+    ensures cause { HasCause (V.faults vault.old) (V.faults vault.new) (IsErrOf result fault.Failed) }
+{
+    for object in batch {
+        place_one(vault, alloc, object)?;
+    }
+    Ok(())
+}
+
+/// Stores the objects of a batch that the vault lacks. It settles first.
+pub fn store_all<V: Vault>(vault: &mut V, alloc: Global, batch: &[Object]) -> Result<(), StoreFault>
+    requires named { AreNamed batch.now }
+    requires one { IsOne batch.now }
+    ensures walks { WhereTold (V.disk vault.old) (λ d. Walks V.disk V.count V.left on_way (Brings d batch.now) (Stored d batch.now result) d vault.old vault.new) }
+    ensures cause { HasCause (V.faults vault.old) (V.faults vault.new) (IsErrOf result fault.Failed) }
+{
+    vault.sync()?;
+    write_absent(vault, alloc, batch)?;
+    vault.sync()?;
+    place_absent(vault, alloc, batch)?;
+    Ok(vault.sync()?)
+}
