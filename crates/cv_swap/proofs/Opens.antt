@@ -1,0 +1,89 @@
+-- Opening, call by call.
+use Rattle.std.proofs.Common.{◌≡◌, ◌+◌, ℕ, Bool, List, ap, subst, ◌∙◌}
+use Rattle.std.specs.Prelude.{IsErrAnd}
+use Rattle.std.specs.declared.option.Option.{Option}
+use Rattle.std.specs.declared.option.Option.TheVariants.{Some}
+use Rattle.std.specs.declared.result.Result.{Result}
+use Rattle.std.specs.declared.result.Result.TheVariants.{Ok, Err}
+use Rattle.cv_base.specs.Told.{WhereTold}
+use Rattle.cv_vault.specs.declared.vault.VaultFault.{VaultFault}
+use Rattle.cv_vault.specs.declared.vault.VaultFault.TheVariants as vault
+use Rattle.cv_vault.specs.Names.{on_way}
+use Rattle.cv_vault.specs.Disk.{Disk, Files, ImageOf, Syncs, files_now, synced}
+use Rattle.cv_vault.specs.Moments.{Calls, OnlyReads}
+use Rattle.cv_vault.specs.Walks.{Walks, Nothing, ComesTo}
+use Rattle.cv_vault.specs.Replace.{Replaced}
+use Rattle.cv_vault.proofs.Walking.{bind, looser, leaves_then, leaves_more, gains_then, gains_more}
+use Rattle.cv_vault.proofs.Quiet.{quiet_walks}
+use Rattle.cv_vault.proofs.Replacing.{ok, err, sync_ok, sync_err}
+use Rattle.cv_swap.specs.Faults.{open_fault_of}
+use Rattle.cv_swap.specs.Stands.{epoch_name, epoch_text}
+use Rattle.cv_swap.specs.Opening.{Finds, IsFound, Refuses, Opens, before, after}
+use Rattle.cv_swap.specs.declared.found.Found.{Found}
+use Rattle.cv_swap.specs.declared.open_fault.OpenFault.{OpenFault}
+use Rattle.cv_swap.proofs.Raising.{as_raised}
+
+pub same_fault : {T : Type 0} (r : Result T OpenFault) (e : OpenFault) → IsErrAnd r (λ x. x ≡ e) → r ≡ Err e
+same_fault (Ok x) e h = absurd h
+same_fault (Err x) e h = ap Err h
+
+pub vault_fault : {T : Type 0} (r : Result T OpenFault) (x : VaultFault) → IsErrAnd r (λ e. e ≡ open_fault_of x) → r ≡ Err (open_fault_of x)
+vault_fault (Ok t) x h = absurd h
+vault_fault (Err e) x h = ap Err h
+
+-- a fault of the vault is shown by no file
+pub refuses_vault : (name : List ℕ) (is_seal : List ℕ → List ℕ → Bool) (f : Files) (x : VaultFault) → Refuses name is_seal f (open_fault_of x)
+refuses_vault name is_seal f vault.Failed = tt
+refuses_vault name is_seal f vault.NoMemory = tt
+
+module _ {V : Type 0} {disk : V → Option Disk} {count : V → ℕ} {left : V → ℕ → Files → Type 0} (name : List ℕ) (is_seal : List ℕ → List ℕ → Bool) {d : Disk} {v v1 : V} where
+  -- the first sync failed
+  pub opens_not : (x : VaultFault) (r : Result Found OpenFault) → r ≡ Err (open_fault_of x) → ((f : Files) → left v (count v) f → ImageOf (disk v) f) → disk v ≡ Some d → Calls disk count left (Syncs (err x)) v v1 → Opens disk count left name is_seal d r v v1
+  opens_not x r is only e c =
+      let w : Walks disk count left on_way Nothing (λ d'. d' ≡ d) d v v1 = sync_err x only e c in
+      rw is (record { end = w.end; told = w.told; finds = refuses_vault name is_seal (files_now d) x; leaves = leaves_more w.leaves (λ f i. before i); opened = tt })
+
+  module _ {v2 : V} (only : (f : Files) → left v (count v) f → ImageOf (disk v) f) (only1 : (f : Files) → left v1 (count v1) f → ImageOf (disk v1) f) (e : disk v ≡ Some d) (c : Calls disk count left (Syncs ok) v v1) (q : OnlyReads disk count left v1 v2) where
+    -- all that was read, after the first sync
+    pub read : Walks disk count left on_way Nothing (λ d'. d' ≡ synced d) d v v2
+    read = bind (sync_ok only e c) (λ n f b. b) (λ d1 told g is. looser (quiet_walks only1 told q) (λ n f b. b) (λ d2 g2 same. same ∙ is))
+
+    found_first : (r : Result Found OpenFault) → WhereTold (disk v1) (λ d1. Finds name is_seal (files_now d1) r) → Finds name is_seal (files_now d) r
+    found_first r h = let w : Walks disk count left on_way Nothing (λ d'. d' ≡ synced d) d v v1 = sync_ok only e c in
+        subst (λ (x : Disk). Finds name is_seal (files_now x) r) w.is (h w.end w.told)
+
+    -- nothing was found to open
+    pub opens_none : (r : Result Found OpenFault) (x : OpenFault) → r ≡ Err x → WhereTold (disk v1) (λ d1. Finds name is_seal (files_now d1) (Err x)) → Opens disk count left name is_seal d r v v2
+    opens_none r x is h = rw is (record { end = read.end; told = read.told; finds = found_first (Err x) h; leaves = leaves_more read.leaves (λ f i. before i); opened = tt })
+
+    module _ (found : Found) (h : WhereTold (disk v1) (λ d1. Finds name is_seal (files_now d1) (Ok found))) where
+      is_found : IsFound name is_seal (files_now d) found
+      is_found = found_first (Ok found) h
+
+      module _ {v3 : V} where
+        -- the epoch came for sure
+        pub opens_now : {u : Unit {0}} → WhereTold (disk v2) (λ d2. Walks disk count left on_way (ComesTo epoch_name (Some (epoch_text (found.epoch + 1)))) (Replaced d2 epoch_name (epoch_text (found.epoch + 1)) {X = Unit {0}} (Ok u)) d2 v2 v3)
+            → Opens disk count left name is_seal d (Ok found) v v3
+        opens_now raise =
+            let u = raise read.end read.told in
+            record {
+              end = u.end;
+              told = u.told;
+              finds = is_found;
+              leaves = leaves_then read.leaves u.leaves (λ f i. before i) (λ f i. after (as_raised d read.end found.epoch f read.is is_found.epoch is_found.room i));
+              opened = record { sure = u.is; gains = gains_then (gains_more (λ n f b. absurd b) read.gains) u.gains };
+            }
+
+        -- it may have come or not
+        pub opens_or_not : (x : VaultFault) (r : Result Found OpenFault) → r ≡ Err (open_fault_of x)
+            → WhereTold (disk v2) (λ d2. Walks disk count left on_way (ComesTo epoch_name (Some (epoch_text (found.epoch + 1)))) (Replaced d2 epoch_name (epoch_text (found.epoch + 1)) {X = Unit {0}} (Err x)) d2 v2 v3)
+            → Opens disk count left name is_seal d r v v3
+        opens_or_not x r is raise =
+            let u = raise read.end read.told in
+            rw is (record {
+              end = u.end;
+              told = u.told;
+              finds = refuses_vault name is_seal (files_now d) x;
+              leaves = leaves_then read.leaves u.leaves (λ f i. before i) (λ f i. after (as_raised d read.end found.epoch f read.is is_found.epoch is_found.room i));
+              opened = tt;
+            })

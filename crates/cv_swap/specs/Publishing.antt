@@ -1,0 +1,75 @@
+-- What preparing a revision, and swapping it in, leaves on the disk.
+use Rattle.std.specs.Prelude.{◌≡◌, ◌⊎◌, ℕ, List, Some}
+use Rattle.std.specs.declared.option.Option.{Option}
+use Rattle.std.specs.declared.result.Result.{Result}
+use Rattle.std.specs.declared.result.Result.TheVariants.{Ok, Err}
+use Rattle.cv_base.specs.declared.object.Object.{Object}
+use Rattle.cv_vault.specs.Names.{Name, on_way}
+use Rattle.cv_vault.specs.Disk.{Disk, File, Files}
+use Rattle.cv_vault.specs.Moments.{LeavesOnly}
+use Rattle.cv_vault.specs.Walks.{Gains, Within, Nothing, ComesTo}
+use Rattle.cv_vault.specs.Replace.{IsSure}
+use Rattle.cv_objects.specs.Batches.{Has, Brings, IsOne, IsRefused}
+use Rattle.cv_objects.specs.declared.store_fault.StoreFault.{StoreFault}
+use Rattle.cv_objects.specs.declared.store_fault.StoreFault.TheVariants.{Collision, Failed, Damaged, NoMemory}
+use Rattle.cv_swap.specs.Stands.{head_name, head_way, epoch_name, epoch_text}
+
+-- all is settled, the batch is there, and the manifest is on its way
+pub record ArePrepared (batch : List Object) (manifest : List ℕ) (d' : Disk) : Type 0 where
+  pub sure : IsSure head_way manifest d'
+  pub has : Has d' batch
+
+-- what preparing leaves: after a refusal nothing came; after another fault some of the batch may have come, but never one of two that differ
+-- under one id
+abbrev pub Prepared : Disk → List Object → List ℕ → {X : Type 0} → Result X StoreFault → Disk → Type 0
+Prepared d batch manifest (Ok x) d' = ArePrepared batch manifest d'
+Prepared d batch manifest (Err (Collision id)) d' = IsRefused d batch (Collision id) d'
+Prepared d batch manifest (Err Failed) d' = IsOne batch
+Prepared d batch manifest (Err (Damaged id found)) d' = IsRefused d batch (Damaged id found) d'
+Prepared d batch manifest (Err NoMemory) d' = IsOne batch ⊎ Gains on_way Nothing d d'
+
+-- what comes before the head of a first revision: its objects, and the first epoch
+pub data BringsFirst (d : Disk) (batch : List Object) (n : Name) (f : File) : Type 0 where
+  an_object : (brings : Brings d batch n f) → BringsFirst d batch n f
+  the_epoch : (comes : ComesTo epoch_name (Some (epoch_text 0)) n f) → BringsFirst d batch n f
+
+-- all of a first revision but its head stands for sure
+pub record AreBuilt (batch : List Object) (d' : Disk) : Type 0 where
+  pub sure : IsSure epoch_name (epoch_text 0) d'
+  pub has : Has d' batch
+
+-- what building it leaves: after a refusal nothing came
+abbrev pub Built : Disk → List Object → {X : Type 0} → Result X StoreFault → Disk → Type 0
+Built d batch (Ok x) d' = AreBuilt batch d'
+Built d batch (Err (Collision id)) d' = IsRefused d batch (Collision id) d'
+Built d batch (Err Failed) d' = Unit {0}
+Built d batch (Err (Damaged id found)) d' = IsRefused d batch (Damaged id found) d'
+Built d batch (Err NoMemory) d' = Unit {0}
+
+-- while a first revision comes, a crash leaves what might have been left before with some of what comes before the head, or, with all
+-- of that for sure, the head or none
+pub data WhileFirst (d : Disk) (batch : List Object) (manifest : List ℕ) (f : Files) : Type 0 where
+  before_head : (within : Within on_way (BringsFirst d batch) d f) → WhileFirst d batch manifest f
+  with_head : (built : Disk) (are : AreBuilt batch built) (gains : Gains on_way (BringsFirst d batch) d built) (within : Within on_way (ComesTo head_name (Some manifest)) built f) → WhileFirst d batch manifest f
+
+-- the first revision is there for sure
+pub record IsInit (d : Disk) (batch : List Object) (manifest : List ℕ) (d' : Disk) : Type 0 where
+  pub built : Disk
+  pub are : AreBuilt batch built
+  pub gains : Gains on_way (BringsFirst d batch) d built
+  pub comes : Gains on_way (ComesTo head_name (Some manifest)) built d'
+  pub sure : IsSure head_name manifest d'
+
+abbrev pub Inited : Disk → List Object → List ℕ → {X : Type 0} → Result X StoreFault → Disk → Type 0
+Inited d batch manifest (Ok x) d' = IsInit d batch manifest d'
+Inited d batch manifest (Err (Collision id)) d' = IsRefused d batch (Collision id) d'
+Inited d batch manifest (Err Failed) d' = Unit {0}
+Inited d batch manifest (Err (Damaged id found)) d' = IsRefused d batch (Damaged id found) d'
+Inited d batch manifest (Err NoMemory) d' = Unit {0}
+
+-- what making a first revision does, whatever it answers
+pub record Inits {V : Type 0} (disk : V → Option Disk) (count : V → ℕ) (left : V → ℕ → Files → Type 0) (d : Disk) (batch : List Object) (manifest : List ℕ) {X : Type 0} (r : Result X StoreFault) (v v' : V) : Type 0 where
+  pub end : Disk
+  pub told : disk v' ≡ Some end
+  pub leaves : LeavesOnly count left (WhileFirst d batch manifest) v v'
+  pub is : Inited d batch manifest r end

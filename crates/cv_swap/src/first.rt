@@ -1,0 +1,89 @@
+//! The first revision: the tree of one directory.
+ghost use Rattle.std.specs.Prelude.{◌≡◌, ◌<◌, ◌^◌, [], Some, IfOk};
+ghost use Rattle.cv_history.specs.Record.{IsRecord};
+ghost use Rattle.cv_cut.specs.Cut.{cut_of};
+ghost use Rattle.cv_objects.specs.Batches.{AreNamed};
+ghost use Rattle.cv_swap.specs.First.{first_record, first_tree, first_size, first_batch};
+ghost use Rattle.cv_swap.specs.Stands.{head_with, Publishes};
+ghost use Rattle.cv_cut.specs.Catalogues.{root_of};
+
+use crate::making::{Parts, make_parts};
+use cv_base::{Attr, Name, NoMemory, RepoPath, Target, Token};
+use cv_cut::{Cut, cut};
+use cv_history::Record;
+use cv_seal::Signer;
+use cv_tree::Tree;
+use std::alloc::Global;
+
+/// The tree of one directory, made at a moment, as catalogues.
+fn first_cut(alloc: Global, now: u64) -> Result<Cut, NoMemory>
+    ensures { IfOk result (λ made. made ≡ cut_of (first_tree now)) }
+{
+    let root = Attr {
+        mode: 0o755,
+        mtime: now,
+        uid: 0,
+        gid: 0,
+    };
+    let tree = Tree::new(alloc, root)?;
+    match cut(alloc, &tree) {
+        Ok(made) => Ok(made),
+        // No two paths share a key there, and no catalogue is full.
+        Err(_) => Err(NoMemory),
+    }
+}
+
+/// A target without a byte.
+fn no_target(alloc: Global) -> Result<Target, NoMemory>
+    ensures { IfOk result (λ made. made ≡ []) }
+{
+    match Target::read(alloc, "")? {
+        Some(made) => Ok(made),
+        None => Err(NoMemory),
+    }
+}
+
+/// The record of the first revision.
+fn record_of(alloc: Global, root: [u8; 20], now: u64) -> Result<Record, NoMemory>
+    requires { now < 2 ^ 62 }
+    ensures value { IfOk result (λ made. made ≡ first_record root now) }
+    ensures limits { IfOk result IsRecord }
+{
+    Ok(Record {
+        revision: 1,
+        previous: [0; 20],
+        root,
+        offered: root,
+        token: Token {
+            epoch: 0,
+            number: 0,
+        },
+        path: RepoPath::root(alloc),
+        key: no_target(alloc)?,
+        time: now,
+        tag: no_target(alloc)?,
+    })
+}
+
+/// The parts of the first revision, made at a moment.
+pub fn first_parts<S: Signer>(
+    alloc: Global,
+    name: &Name,
+    signer: &S,
+    now: u64,
+) -> Result<Parts, NoMemory>
+    requires { now < 2 ^ 62 }
+    ensures batch { IfOk result (λ parts. parts.batch ≡ first_batch now) }
+    ensures named { IfOk result (λ parts. AreNamed parts.batch) }
+    ensures head { IfOk result (λ parts. parts.head ≡ head_with (first_record (root_of (first_tree now)) now) (first_size now)) }
+    ensures says { IfOk result (λ parts. Publishes name.now (S.is_seal signer.now) (Some parts.manifest) parts.head) }
+{
+    let Cut {
+        root,
+        size,
+        catalogues,
+    } = first_cut(alloc, now)?;
+    let hash = root.hash;
+    let next = record_of(alloc, hash, now)?;
+    make_parts(alloc, name, signer, &next, size, catalogues.into_vec())
+}

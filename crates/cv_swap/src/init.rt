@@ -1,0 +1,52 @@
+//! A repository is made: its first revision.
+ghost use Rattle.std.specs.Prelude.{◌≡◌, ◌<◌, ◌^◌, ◌≢◌, None, true, false, IsErrOf};
+ghost use Rattle.cv_base.specs.Counts.{HasCause};
+ghost use Rattle.cv_base.specs.Told.{WhereTold};
+ghost use Rattle.cv_vault.specs.Moments.{OnlyReads};
+ghost use Rattle.cv_vault.specs.declared.vault.VaultFault.TheVariants as vault_fault;
+ghost use Rattle.cv_swap.specs.Init.{HasHead, MakesFirst};
+ghost use Rattle.cv_swap.specs.declared.init_fault.InitFault.TheVariants as fault;
+
+use crate::first::first_parts;
+use crate::init_fault::InitFault;
+use crate::opening::HEAD_NAME;
+use crate::publishing::init_on;
+use cv_base::Name;
+use cv_objects::Objects;
+use cv_seal::Signer;
+use cv_vault::{Vault, VaultFault};
+use std::alloc::Global;
+
+/// Whether there is a manifest.
+fn has_head<V: Vault>(vault: &mut V) -> Result<bool, VaultFault>
+    ensures told { WhereTold (V.disk vault.old) (HasHead result) }
+    ensures reads { OnlyReads V.disk V.count V.left vault.old vault.new }
+    ensures cause { HasCause (V.faults vault.old) (V.faults vault.new) (IsErrOf result vault_fault.Failed) }
+{
+    Ok(vault.length(HEAD_NAME)?.is_some())
+}
+
+/// Makes the first revision of a repository in a vault without one.
+pub fn init_in<V: Vault + Drop, S: Signer>(
+    objects: &mut Objects<V>,
+    alloc: Global,
+    name: &Name,
+    signer: &S,
+    now: u64,
+) -> Result<(), InitFault>
+    requires { now < 2 ^ 62 }
+    ensures makes { WhereTold (V.disk objects.old.vault) (λ d. MakesFirst V.disk V.count V.left name.now (S.is_seal signer.now) now d result objects.old.vault objects.new.vault) }
+    ensures cause { HasCause (V.faults objects.old.vault) (V.faults objects.new.vault) (IsErrOf result fault.Failed) }
+{
+    if has_head(&mut objects.vault)? {
+        return Err(InitFault::Exists);
+    }
+    let parts = first_parts(alloc, name, signer, now)?;
+    init_on(
+        objects,
+        alloc,
+        parts.batch.as_slice(),
+        parts.manifest.as_slice(),
+    )?;
+    Ok(())
+}

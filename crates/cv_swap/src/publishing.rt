@@ -1,0 +1,96 @@
+//! Revisions that come to the vault: first what they reach, then their head.
+ghost use Rattle.std.specs.Prelude.{◌≡◌, ℕ, List, Some, IsErrOf};
+ghost use Rattle.cv_base.specs.Counts.{HasCause};
+ghost use Rattle.cv_base.specs.Told.{WhereTold};
+ghost use Rattle.cv_vault.specs.Names.{on_way};
+ghost use Rattle.cv_vault.specs.Walks.{Walks, Nothing, ComesTo};
+ghost use Rattle.cv_vault.specs.Replace.{IsSure, MovedIn, Replaced, Found};
+ghost use Rattle.cv_vault.specs.declared.vault.VaultFault.TheVariants as vault_fault;
+ghost use Rattle.cv_objects.specs.Batches.{AreNamed, Brings};
+ghost use Rattle.cv_objects.specs.declared.store_fault.StoreFault.TheVariants as fault;
+ghost use Rattle.cv_swap.specs.Stands.{head_name, head_way};
+ghost use Rattle.cv_swap.specs.Publishing.{Prepared, BringsFirst, Built, Inits};
+
+use crate::opening::{HEAD_NAME, set_epoch};
+use cv_base::Object;
+use cv_objects::{Objects, StoreFault};
+use cv_vault::{Vault, VaultFault, is_sure, move_in, put_on_way, replace};
+use std::alloc::Global;
+
+/// The name by which a manifest comes.
+const HEAD_WAY: &str = "txn/manifest";
+
+/// Stores a batch, and puts a manifest on its way, for sure.
+pub fn prepare_on<V: Vault + Drop>(
+    objects: &mut Objects<V>,
+    alloc: Global,
+    batch: &[Object],
+    manifest: &[u8],
+) -> Result<(), StoreFault>
+    requires named { AreNamed batch.now }
+    ensures walks { WhereTold (V.disk objects.old.vault) (λ d.
+        Walks V.disk V.count V.left on_way (Brings d batch.now) (Prepared d batch.now manifest.now result) d objects.old.vault objects.new.vault) }
+    ensures cause { HasCause (V.faults objects.old.vault) (V.faults objects.new.vault) (IsErrOf result fault.Failed) }
+{
+    objects.store(alloc, batch)?;
+    put_on_way(&mut objects.vault, HEAD_WAY, manifest)?;
+    Ok(())
+}
+
+/// Brings the manifest that is on its way to its name, for sure.
+pub fn swap_on<V: Vault>(vault: &mut V) -> Result<(), VaultFault>
+    ensures walks { WhereTold (V.disk vault.old) (λ d. (manifest : List ℕ) → IsSure head_way manifest d
+        → Walks V.disk V.count V.left on_way (ComesTo head_name (Some manifest)) (MovedIn d head_name manifest result) d vault.old vault.new) }
+    ensures cause { HasCause (V.faults vault.old) (V.faults vault.new) (IsErrOf result vault_fault.Failed) }
+{
+    move_in(vault, HEAD_WAY, HEAD_NAME)
+}
+
+/// Whether the manifest came to its name. It settles first.
+pub fn was_swapped<V: Vault>(vault: &mut V, manifest: &[u8]) -> Result<bool, VaultFault>
+    ensures walks { WhereTold (V.disk vault.old) (λ d. Walks V.disk V.count V.left on_way Nothing (Found head_name manifest.now result) d vault.old vault.new) }
+    ensures cause { HasCause (V.faults vault.old) (V.faults vault.new) (IsErrOf result vault_fault.Failed) }
+{
+    is_sure(vault, HEAD_NAME, manifest)
+}
+
+/// Brings all of a first revision but its head: its objects, and the first epoch.
+pub fn build_first<V: Vault + Drop>(
+    objects: &mut Objects<V>,
+    alloc: Global,
+    batch: &[Object],
+) -> Result<(), StoreFault>
+    requires named { AreNamed batch.now }
+    ensures walks { WhereTold (V.disk objects.old.vault) (λ d.
+        Walks V.disk V.count V.left on_way (BringsFirst d batch.now) (Built d batch.now result) d objects.old.vault objects.new.vault) }
+    ensures cause { HasCause (V.faults objects.old.vault) (V.faults objects.new.vault) (IsErrOf result fault.Failed) }
+{
+    objects.store(alloc, batch)?;
+    set_epoch(&mut objects.vault, alloc, 0)?;
+    Ok(())
+}
+
+/// Brings a head whole to its name.
+pub fn set_head<V: Vault>(vault: &mut V, manifest: &[u8]) -> Result<(), VaultFault>
+    ensures walks { WhereTold (V.disk vault.old) (λ d.
+        Walks V.disk V.count V.left on_way (ComesTo head_name (Some manifest.now)) (Replaced d head_name manifest.now result) d vault.old vault.new) }
+    ensures cause { HasCause (V.faults vault.old) (V.faults vault.new) (IsErrOf result vault_fault.Failed) }
+{
+    replace(vault, HEAD_WAY, HEAD_NAME, manifest)
+}
+
+/// Makes a first revision of its objects and its manifest.
+pub fn init_on<V: Vault + Drop>(
+    objects: &mut Objects<V>,
+    alloc: Global,
+    batch: &[Object],
+    manifest: &[u8],
+) -> Result<(), StoreFault>
+    requires named { AreNamed batch.now }
+    ensures inits { WhereTold (V.disk objects.old.vault) (λ d. Inits V.disk V.count V.left d batch.now manifest.now result objects.old.vault objects.new.vault) }
+    ensures cause { HasCause (V.faults objects.old.vault) (V.faults objects.new.vault) (IsErrOf result fault.Failed) }
+{
+    build_first(objects, alloc, batch)?;
+    set_head(&mut objects.vault, manifest)?;
+    Ok(())
+}
