@@ -1,1 +1,3 @@
-pub mod Tables
+mod Tables
+mod Beside
+pub mod Laws

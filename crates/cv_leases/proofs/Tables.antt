@@ -2,11 +2,14 @@
 use Rattle.std.proofs.Common.{◌≡◌, ◌≤◌, ◌<◌, ◌+◌, ◌&&◌, nat_eq, Bool, true, false, cond, List, [], ◌∷◌, ◌++◌, length, arith, refl, sym, subst, Some, None}
 use Rattle.std.proofs.lemmas.Bool.{eqb-true}
 use Rattle.std.specs.List.{filter, last_or, AllByRecursion}
+use Rattle.std.proofs.lemmas.List.Elements.{All-from_recursion}
+use Rattle.std.proofs.lemmas.List.Kept.{AllPairs-filter}
+use Rattle.std.proofs.lemmas.List.Quantifiers.{all_pairs_push}
 use Rattle.cv_base.specs.Path.{Path, overlap}
 use Rattle.cv_base.specs.Marker.{marker, ends_in}
 use Rattle.cv_base.specs.declared.token.Token.{Token}
 use Rattle.cv_leases.specs.declared.lease.Lease.{Lease}
-use Rattle.cv_leases.specs.Leases.{same_token, lease_of, busy, IsBefore, AreInOrder, IsTable}
+use Rattle.cv_leases.specs.Leases.{lease_limit, same_token, lease_of, busy, IsTable}
 
 -- tokens that compare equal are
 pub same_token_is : (a b : Token) → same_token a b ≡ true → a ≡ b
@@ -24,14 +27,6 @@ all_filter P test (x ∷ xs) h =
       | false ↦ all_filter P test xs h.1
     ]
 
-order_filter : (test : Lease → Bool) (leases : List Lease) → AreInOrder leases → AreInOrder (filter test leases)
-order_filter test [] h = tt
-order_filter test (lease ∷ leases) h =
-    elim (test lease) as (λ b. AreInOrder (cond b (lease ∷ filter test leases) (filter test leases))) [
-      | true ↦ (all_filter _ test leases h.0, order_filter test leases h.1)
-      | false ↦ order_filter test leases h.1
-    ]
-
 count_filter : (test : Lease → Bool) (leases : List Lease) → length (filter test leases) ≤ length leases
 count_filter test [] = omega arith
 count_filter test (lease ∷ leases) =
@@ -44,7 +39,9 @@ count_filter test (lease ∷ leases) =
 -- where leases leave it
 pub table_filter : (test : Lease → Bool) (leases : List Lease) → IsTable leases → IsTable (filter test leases)
 table_filter test leases h = record {
-  order = order_filter test leases h.order;
+  apart = AllPairs-filter (λ (a b : Lease). overlap a.path b.path ≡ false) test leases h.apart;
+  tokens = AllPairs-filter (λ (a b : Lease). same_token a.token b.token ≡ false) test leases h.tokens;
+  deadlines = AllPairs-filter (λ (a b : Lease). a.deadline ≤ b.deadline) test leases h.deadlines;
   paths = all_filter _ test leases h.paths;
   count = (let fewer = count_filter test leases in let few = h.count in omega (arith, fewer, few));
 }
@@ -57,38 +54,34 @@ last_or_some : {X : Type 0} (x : X) (xs : List X) → last_or (Some x) xs ≡ No
 last_or_some x [] h = cc
 last_or_some x (y ∷ ys) h = last_or_some y ys h
 
--- where no lease overlaps, the first doesn't
-not_busy : (lease : Lease) (leases : List Lease) (path : Path) → busy (lease ∷ leases) path ≡ None → (overlap lease.path path ≡ false) × (busy leases path ≡ None)
-not_busy lease leases path h =
-    elim (overlap lease.path path) as (λ b. overlap lease.path path ≡ b → last_or None (cond b (lease ∷ filter (λ other. overlap other.path path) leases) (filter (λ other. overlap other.path path) leases)) ≡ None → (overlap lease.path path ≡ false) × (busy leases path ≡ None)) [
+-- where no lease overlaps, none does
+none_overlaps : (leases : List Lease) (path : Path) → busy leases path ≡ None → AllByRecursion (λ lease. overlap lease.path path ≡ false) leases
+none_overlaps [] path h = tt
+none_overlaps (lease ∷ leases) path h =
+    elim (overlap lease.path path) as (λ b. overlap lease.path path ≡ b → last_or None (cond b (lease ∷ filter (λ other. overlap other.path path) leases) (filter (λ other. overlap other.path path) leases)) ≡ None → (overlap lease.path path ≡ false) × AllByRecursion (λ other. overlap other.path path ≡ false) leases) [
       | true ↦ λ e none. absurd (last_or_some lease (filter (λ other. overlap other.path path) leases) none)
-      | false ↦ λ e none. (e, none)
+      | false ↦ λ e none. (e, none_overlaps leases path none)
     ] refl h
 
--- where no lease has the token, the first doesn't
-not_found : (lease : Lease) (leases : List Lease) (token : Token) → lease_of token (lease ∷ leases) ≡ None → (same_token lease.token token ≡ false) × (lease_of token leases ≡ None)
-not_found lease leases token h =
-    elim (same_token lease.token token) as (λ b. same_token lease.token token ≡ b → cond b (Some lease) (lease_of token leases) ≡ None → (same_token lease.token token ≡ false) × (lease_of token leases ≡ None)) [
+-- where no lease is found by the token, none has it
+none_has : (leases : List Lease) (token : Token) → lease_of token leases ≡ None → AllByRecursion (λ lease. same_token lease.token token ≡ false) leases
+none_has [] token h = tt
+none_has (lease ∷ leases) token h =
+    elim (same_token lease.token token) as (λ b. same_token lease.token token ≡ b → cond b (Some lease) (lease_of token leases) ≡ None → (same_token lease.token token ≡ false) × AllByRecursion (λ other. same_token other.token token ≡ false) leases) [
       | true ↦ λ e none. cc
-      | false ↦ λ e none. (e, none)
+      | false ↦ λ e none. (e, none_has leases token none)
     ] refl h
-
-order_push : (leases : List Lease) (lease : Lease) → AreInOrder leases → busy leases lease.path ≡ None → lease_of lease.token leases ≡ None → AllByRecursion (λ other. other.deadline ≤ lease.deadline) leases → AreInOrder (leases ++ lease ∷ [])
-order_push [] lease h free new last = (tt, tt)
-order_push (first ∷ leases) lease h free new last =
-    let path = not_busy first leases lease.path free in
-    let token = not_found first leases lease.token new in
-    let before : IsBefore first lease = record { paths = path.0; tokens = token.0; deadlines = last.0 } in
-    (all_push _ leases lease h.0 before, order_push leases lease h.1 path.1 token.1 last.1)
 
 length_push : {X : Type 0} (xs : List X) (x : X) → length (xs ++ x ∷ []) ≡ length xs + 1
 length_push [] x = refl
 length_push (y ∷ ys) x = let rest = length_push ys x in omega (arith, rest)
 
 -- where a lease comes to it that isn't refused
-pub table_push : (leases : List Lease) (lease : Lease) → IsTable leases → ends_in marker lease.path ≡ false → busy leases lease.path ≡ None → length leases < 4096 → lease_of lease.token leases ≡ None → AllByRecursion (λ other. other.deadline ≤ lease.deadline) leases → IsTable (leases ++ lease ∷ [])
+pub table_push : (leases : List Lease) (lease : Lease) → IsTable leases → ends_in marker lease.path ≡ false → busy leases lease.path ≡ None → length leases < lease_limit → lease_of lease.token leases ≡ None → AllByRecursion (λ other. other.deadline ≤ lease.deadline) leases → IsTable (leases ++ lease ∷ [])
 table_push leases lease h unmarked free room new last = record {
-  order = order_push leases lease h.order free new last;
+  apart = all_pairs_push (λ (a b : Lease). overlap a.path b.path ≡ false) leases lease h.apart (All-from_recursion (λ l. overlap l.path lease.path ≡ false) leases (none_overlaps leases lease.path free));
+  tokens = all_pairs_push (λ (a b : Lease). same_token a.token b.token ≡ false) leases lease h.tokens (All-from_recursion (λ l. same_token l.token lease.token ≡ false) leases (none_has leases lease.token new));
+  deadlines = all_pairs_push (λ (a b : Lease). a.deadline ≤ b.deadline) leases lease h.deadlines (All-from_recursion (λ l. l.deadline ≤ lease.deadline) leases last);
   paths = all_push _ leases lease h.paths unmarked;
   count = (let more = length_push leases lease in omega (arith, more, room));
 }

@@ -1,5 +1,5 @@
 -- Leases in the order in which they were granted.
-use Rattle.std.specs.Prelude.{◌≤◌, ◌≡◌, ◌&&◌, ◌==◌, ⊤, nat_le, nat_lt, not, false, ℕ, Bool, List, [], ◌∷◌, length, Option, None, Some, Result, Ok, Err, if◌then◌else◌}
+use Rattle.std.specs.Prelude.{◌≤◌, ◌≡◌, ◌&&◌, ◌==◌, nat_le, nat_lt, not, false, ℕ, Bool, List, length, Option, None, Some, Result, Ok, Err, AllPairs, if◌then◌else◌}
 use Rattle.std.specs.List.{filter, find, last_or, AllByRecursion}
 use Rattle.cv_base.specs.Path.{Path, overlap}
 use Rattle.cv_base.specs.Marker.{marker, ends_in}
@@ -7,6 +7,10 @@ use Rattle.cv_base.specs.declared.token.Token.{Token}
 use Rattle.cv_leases.specs.declared.lease.Lease.{Lease}
 use Rattle.cv_leases.specs.declared.lease_fault.LeaseFault.{LeaseFault}
 use Rattle.cv_leases.specs.declared.lease_fault.LeaseFault.TheVariants.{BadPath, PathBusy, TooManyLeases, NoMemory}
+
+-- the most leases at one time
+abbrev pub lease_limit : ℕ
+lease_limit = 4096
 
 abbrev pub same_token : Token → Token → Bool
 same_token a b = (a.epoch == b.epoch) && (a.number == b.number)
@@ -35,7 +39,7 @@ refusal leases path =
   where
     on_busy : Option Lease → Option LeaseFault
     on_busy (Some lease) = Some (PathBusy lease.token)
-    on_busy None = if nat_le 4096 (length leases) then Some TooManyLeases else None
+    on_busy None = if nat_le lease_limit (length leases) then Some TooManyLeases else None
 
 -- the call is refused for this reason, or granted where there is none, or it wanted memory
 abbrev pub IsAnswer : Option LeaseFault → Result Unit LeaseFault → Type 0
@@ -43,20 +47,24 @@ IsAnswer why (Ok done) = why ≡ None
 IsAnswer why (Err NoMemory) = why ≡ None
 IsAnswer why (Err fault) = why ≡ Some fault
 
--- a lease and one that was granted later: neither covers the other, they have two tokens, and the later one doesn't end
--- earlier
-pub record IsBefore (a b : Lease) : Type 0 where
-  pub paths : overlap a.path b.path ≡ false
-  pub tokens : same_token a.token b.token ≡ false
-  pub deadlines : a.deadline ≤ b.deadline
+-- ---- what holds of the leases of a table, in the order of grant
 
--- so it is with each lease and each later one
-abbrev pub AreInOrder : List Lease → Type 0
-AreInOrder [] = ⊤
-AreInOrder (lease ∷ leases) = AllByRecursion (IsBefore lease) leases × AreInOrder leases
+-- no two overlap
+abbrev pub AreApart : List Lease → Type 0
+AreApart leases = AllPairs (λ a b. overlap a.path b.path ≡ false) leases
+
+-- no two have one token
+abbrev pub TokensDiffer : List Lease → Type 0
+TokensDiffer leases = AllPairs (λ a b. same_token a.token b.token ≡ false) leases
+
+-- none ends before one that was granted earlier
+abbrev pub DeadlinesRise : List Lease → Type 0
+DeadlinesRise leases = AllPairs (λ a b. a.deadline ≤ b.deadline) leases
 
 -- what holds of a table at any time
 pub record IsTable (leases : List Lease) : Type 0 where
-  pub order : AreInOrder leases
+  pub apart : AreApart leases
+  pub tokens : TokensDiffer leases
+  pub deadlines : DeadlinesRise leases
   pub paths : AllByRecursion (λ lease. ends_in marker lease.path ≡ false) leases
-  pub count : length leases ≤ 4096
+  pub count : length leases ≤ lease_limit

@@ -1,7 +1,7 @@
 //! The table of leases.
 ghost use Rattle.std.specs.Prelude.{◌≡◌, ◌≤◌, ◌++◌, ◌∷◌, [], length, None, is_ok, is_some, slice_get, option_copied, if◌then◌else◌};
 ghost use Rattle.std.specs.List.{AllByRecursion};
-ghost use Rattle.cv_leases.specs.Leases.{lease_of, without, unexpired, busy, refusal, IsAnswer, IsTable};
+ghost use Rattle.cv_leases.specs.Leases.{lease_of, without, unexpired, busy, refusal, IsAnswer};
 
 use crate::lease::Lease;
 use crate::lease_fault::LeaseFault;
@@ -101,8 +101,7 @@ impl LeaseTable {
 
     /// How many leases there are.
     pub fn count(&self) -> usize
-        ensures count { result ≡ length self.now }
-        ensures table { IsTable self.now }
+        ensures { result ≡ length self.now }
     {
         self.leases.len()
     }
