@@ -1,21 +1,35 @@
 -- What an op does in a settled, aged state, whatever was asked.
-use Rattle.std.proofs.Common.{◌≡◌, ◌⊎◌, ◌<◌, ◌+◌, ℕ, Bool, true, false, List, [], ◌∷◌, ◌++◌, length, refl, sym, ap, ◌∙◌, inl, inr, arith}
-use Rattle.std.specs.declared.option.Option.{Option}
+use Rattle.std.proofs.Common.{◌≡◌, ◌⊎◌, ◌+◌, ℕ, true, false, List, [], ◌∷◌, ◌++◌, refl, sym, ap, subst, ◌∙◌, inl, inr}
 use Rattle.std.specs.declared.option.Option.TheVariants.{None, Some}
-use Rattle.std.specs.Prelude.{bytes_eq}
+use Rattle.std.specs.Prelude.{bytes_eq, reverse}
+use Rattle.std.specs.List.{AllByRecursion, Contains}
 use Rattle.std.proofs.lemmas.Map.Text.{is_eq-slice_cmp}
+use Rattle.sha1.specs.Sha1.{sha1}
 use Rattle.cv_base.specs.PathOrder.{same_name_is}
-use Rattle.cv_base.specs.Path.{Path}
-use Rattle.cv_base.specs.Marker.{marker, ends_in}
+use Rattle.cv_base.specs.Path.{Path, IsPath}
+use Rattle.cv_base.specs.declared.id.ObjectId.{ObjectId}
 use Rattle.cv_base.specs.declared.object.Object.{Object}
 use Rattle.cv_base.specs.declared.token.Token.{Token}
-use Rattle.cv_leases.specs.Leases.{busy, without}
+use Rattle.cv_tree.specs.Tree.{Nodes}
+use Rattle.cv_cut.specs.Above.{cuts_above}
+use Rattle.cv_cut.specs.Catalogues.{Fits}
+use Rattle.cv_cut.specs.Cut.{catalogue_object}
+use Rattle.cv_cut.specs.Means.{Means}
+use Rattle.cv_cut.proofs.Members.{none_there, first_or_later, comes_from}
+use Rattle.cv_history.proofs.TextValues.{bytes_eq_self}
+use Rattle.cv_leases.specs.Leases.{lease_of, without}
 use Rattle.cv_leases.specs.declared.lease.Lease.{Lease}
-use Rattle.cv_leases.proofs.Tables.{lease_of_token}
-use Rattle.cv_gate.specs.State.{State, Revision, with_revision}
+use Rattle.cv_leases.proofs.Laws.{lease_of_token}
+use Rattle.cv_objects.specs.Batches.{AreNamed}
+use Rattle.cv_objects.specs.Coming.{ClashesOn}
+use Rattle.cv_swap.specs.Kept.{Revision, newest, record_object}
+use Rattle.cv_gate.specs.State.{State, with_revision}
 use Rattle.cv_gate.specs.Objects.{GainsSome, GainsAll}
-use Rattle.cv_gate.specs.Commits.{made}
-use Rattle.cv_gate.specs.Step.{Refuses, RefusesIf, IsFault, MayFail, granted, LeaseStep, OnLease, Stores, StoreStep, Publishes, collides, fails, commits, doubts, Commits, CommitStep, CancelStep, Acts, Records}
+use Rattle.cv_gate.specs.Commits.{committed, made}
+use Rattle.cv_gate.specs.Passing.{granted, IsFree, Passes, MakesNew}
+use Rattle.cv_gate.specs.Step.{Refuses, RefusesIf, IsFault, MayFail, Grants, adds, LeaseStep, OnLease, Stores, StoreStep, Publishes, collides, fails, commits, doubts, Commits, CommitStep, Cancels, takes, CancelStep, Acts, Records, is_key_id, IsSent, IsValid}
+use Rattle.cv_gate.specs.Sound.{IsHeld}
+use Rattle.cv_gate.specs.Kept.{BringsObjects, whole, makes}
 use Rattle.cv_gate.specs.Laws.{is_committed, token_given, IsAsked}
 use Rattle.cv_gate.specs.declared.op.Op.{Op}
 use Rattle.cv_gate.specs.declared.op.Op.TheVariants as op
@@ -29,63 +43,58 @@ pub record IsQuiet (r : Reply) : Type 0 where
   pub no_revision : is_committed r ≡ false
   pub no_token : token_given r ≡ None
 
--- the revision is made for this key, token, offered root and tag
-pub record IsFor (key : List ℕ) (token : Token) (new_root tag : List ℕ) (new : Revision) : Type 0 where
-  pub key_ : new.record_.key ≡ key
-  pub token_ : new.record_.token ≡ token
-  pub offered : new.record_.offered ≡ new_root
-  pub tag_ : new.record_.tag ≡ tag
+-- the op is a commit that may be asked and that passes, and makes the revision, for which the entry asked
+pub record IsPublished (st : State) (o : Op) (e : Entry) (new : Revision) : Type 0 where
+  pub valid : IsValid o
+  pub makes_new : MakesNew st o new
+  pub asked : IsAsked e new
 
-pub data Effect (Asked : Revision → Type 0) (st : State) (r : Reply) (st' : State) : Type 0 where
-  nothing : IsQuiet r → st' ≡ st → Effect Asked st r st'
-  gains : (objects : List Object) → IsQuiet r → GainsSome objects st st' → Effect Asked st r st'
-  stores : (objects : List Object) → IsQuiet r → GainsAll objects st st' → Effect Asked st r st'
-  grants : (key : List ℕ) (p : Path) (head : Revision) → ends_in marker p ≡ false → busy st.leases p ≡ None → length st.leases < 4096
+-- the entry asked for a lease on the path
+pub record IsWanted (e : Entry) (key : List ℕ) (p : Path) : Type 0 where
+  pub key_ : e.key ≡ key
+  pub is : e.act ≡ act.Lease p
+
+pub data Effect (Asked : Revision → Type 0) (Wants : List ℕ → Path → Type 0) (Sends : List Object → Type 0) (st : State) (r : Reply) (st' : State) : Type 0 where
+  nothing : IsQuiet r → st' ≡ st → Effect Asked Wants Sends st r st'
+  gains : (objects : List Object) → Sends objects → IsQuiet r → GainsSome objects st st' → Effect Asked Wants Sends st r st'
+  stores : (objects : List Object) → Sends objects → IsQuiet r → GainsAll objects st st' → Effect Asked Wants Sends st r st'
+  grants : (key : List ℕ) (p : Path) (head : Revision) → Wants key p → IsFree st p head → IsHeld (granted st key p head)
       → r ≡ reply.Granted (record { epoch = st.epoch; number = st.next }) head.record_.revision head.record_.root
-      → st' ≡ record st { leases = st.leases ++ granted st key p head ∷ []; next = st.next + 1 } → Effect Asked st r st'
-  cancels : (token : Token) → r ≡ reply.Cancelled → st' ≡ record st { leases = without token st.leases } → Effect Asked st r st'
-  publishes : (new : Revision) → Asked new → r ≡ reply.Committed new.record_.revision new.record_.root
-      → (stored : State) → GainsAll (made new) st stored → st' ≡ with_revision stored new → Effect Asked st r st'
-  wavers : (new : Revision) → Asked new → r ≡ reply.StoreFailed
-      → (stored : State) → GainsAll (made new) st stored → st' ≡ record stored { doubt = Some new } → Effect Asked st r st'
+      → st' ≡ record st { leases = st.leases ++ granted st key p head ∷ []; next = st.next + 1 } → Effect Asked Wants Sends st r st'
+  cancels : (token : Token) → r ≡ reply.Cancelled → st' ≡ record st { leases = without token st.leases } → Effect Asked Wants Sends st r st'
+  publishes : (new : Revision) → Asked new → Sends (made new) → r ≡ reply.Committed new.record_.revision new.record_.root
+      → (stored : State) → GainsAll (made new) st stored → st' ≡ with_revision stored new → Effect Asked Wants Sends st r st'
+  wavers : (new : Revision) → Asked new → Sends (made new) → r ≡ reply.StoreFailed
+      → (stored : State) → GainsAll (made new) st stored → st' ≡ record stored { doubt = Some new } → Effect Asked Wants Sends st r st'
 
 pub quiet_fault : (r : Reply) → IsFault r → IsQuiet r
 quiet_fault r (inl e) = record { no_revision = ap is_committed e; no_token = ap token_given e }
 quiet_fault r (inr e) = record { no_revision = ap is_committed e; no_token = ap token_given e }
 
-module _ {Asked : Revision → Type 0} {st : State} {r : Reply} {st' : State} where
-  quiet : {say : Reply} → IsQuiet say → r ≡ say → st' ≡ st → Effect Asked st r st'
+module _ {Asked : Revision → Type 0} {Wants : List ℕ → Path → Type 0} {Sends : List Object → Type 0} {st : State} {r : Reply} {st' : State} where
+  quiet : {say : Reply} → IsQuiet say → r ≡ say → st' ≡ st → Effect Asked Wants Sends st r st'
   quiet q e same = nothing (record { no_revision = ap is_committed e ∙ q.no_revision; no_token = ap token_given e ∙ q.no_token }) same
 
-  refused_or : {X : Type 0} {P : X → Type 0} {say : X → Reply} {rest : Type 0} → ((x : X) → IsQuiet (say x)) → Refuses st r st' P say rest → Effect Asked st r st' ⊎ (((x : X) → P x → ⊥) × rest)
+  refused_or : {X : Type 0} {P : X → Type 0} {say : X → Reply} {rest : Type 0} → ((x : X) → IsQuiet (say x)) → Refuses st r st' P say rest → Effect Asked Wants Sends st r st' ⊎ (((x : X) → P x → ⊥) × rest)
   refused_or q (inl w) = inl (quiet (q w.0) w.2 w.3)
   refused_or q (inr w) = inr w
 
-  refused_if_or : {P : Type 0} {say : Reply} {rest : Type 0} → IsQuiet say → RefusesIf st r st' P say rest → Effect Asked st r st' ⊎ ((P → ⊥) × rest)
+  refused_if_or : {P : Type 0} {say : Reply} {rest : Type 0} → IsQuiet say → RefusesIf st r st' P say rest → Effect Asked Wants Sends st r st' ⊎ ((P → ⊥) × rest)
   refused_if_or q (inl w) = inl (quiet q w.1 w.2)
   refused_if_or q (inr w) = inr w
 
-  failed_or : {rest : Type 0} → MayFail st r st' rest → Effect Asked st r st' ⊎ rest
+  failed_or : {rest : Type 0} → MayFail st r st' rest → Effect Asked Wants Sends st r st' ⊎ rest
   failed_or (inl w) = inl (nothing (quiet_fault r w.0) w.1)
   failed_or (inr w) = inr w
 
 is_quiet : {r : Reply} → is_committed r ≡ false → token_given r ≡ None → IsQuiet r
 is_quiet a b = record { no_revision = a; no_token = b }
 
-none_of : {X : Type 0} (o : Option X) → ((x : X) → o ≡ Some x → ⊥) → o ≡ None
-none_of None h = refl
-none_of (Some x) h = absurd (h x refl)
+of_grant : {Asked : Revision → Type 0} {Wants : List ℕ → Path → Type 0} {Sends : List Object → Type 0} (st : State) (key : List ℕ) (p : Path) (r : Reply) (st' : State) → Wants key p → is_key_id key ≡ true → IsPath p → Grants st key p r st' → Effect Asked Wants Sends st r st'
+of_grant st key p r st' wants id path (adds head free is s) = grants key p head wants free (record { key = id; path = path }) is s
 
-false_of : (b : Bool) → (b ≡ true → ⊥) → b ≡ false
-false_of true h = absurd (h refl)
-false_of false h = refl
-
-true_of : (b : Bool) → (b ≡ false → ⊥) → b ≡ true
-true_of true h = refl
-true_of false h = absurd (h refl)
-
-of_lease : {Asked : Revision → Type 0} (st : State) (key : List ℕ) (p : Path) (r : Reply) (st' : State) → LeaseStep st key p r st' → Effect Asked st r st'
-of_lease st key p r st' h =
+of_lease : {Asked : Revision → Type 0} {Wants : List ℕ → Path → Type 0} {Sends : List Object → Type 0} (st : State) (key : List ℕ) (p : Path) (r : Reply) (st' : State) → Wants key p → is_key_id key ≡ true → IsPath p → LeaseStep st key p r st' → Effect Asked Wants Sends st r st'
+of_lease st key p r st' wants id path h =
     elim (refused_if_or (is_quiet refl refl) h) [
       | inl e ↦ e
       | inr w ↦ elim (refused_or (λ _. is_quiet refl refl) w.1) [
@@ -96,7 +105,7 @@ of_lease st key p r st' h =
             | inl e ↦ e
             | inr w4 ↦ elim (refused_if_or (is_quiet refl refl) w4.2) [
               | inl e ↦ e
-              | inr w5 ↦ (let few = w3.0 in grants key p w4.0 (false_of _ w.0) (none_of _ w2.0) (omega (arith, few)) w5.1.0 w5.1.1)
+              | inr w5 ↦ of_grant st key p r st' wants id path w5.1
             ]
           ]
         ]
@@ -104,88 +113,150 @@ of_lease st key p r st' h =
     ]
 
 -- lists that compare equal are
-bytes_are : (a b : List ℕ) → bytes_eq a b ≡ true → a ≡ b
+pub bytes_are : (a b : List ℕ) → bytes_eq a b ≡ true → a ≡ b
 bytes_are a b h = same_name_is a b (is_eq-slice_cmp a b ∙ h)
 
-on_lease : {Asked : Revision → Type 0} (st : State) (key : List ℕ) (token : Token) (r : Reply) (st' : State) (does : Lease → Type 0)
-    → ((lease : Lease) → lease.token ≡ token → lease.key ≡ key → does lease → Effect Asked st r st') → OnLease st key token r st' does → Effect Asked st r st'
+on_lease : {Asked : Revision → Type 0} {Wants : List ℕ → Path → Type 0} {Sends : List Object → Type 0} (st : State) (key : List ℕ) (token : Token) (r : Reply) (st' : State) (does : Lease → Type 0)
+    → ((lease : Lease) → lease_of token st.leases ≡ Some lease → does lease → Effect Asked Wants Sends st r st') → OnLease st key token r st' does → Effect Asked Wants Sends st r st'
 on_lease st key token r st' does then h =
     elim (refused_if_or (is_quiet refl refl) h) [
       | inl e ↦ e
       | inr w ↦ elim (refused_if_or (is_quiet refl refl) w.1.2) [
         | inl e ↦ e
-        | inr w2 ↦ then w.1.0 (lease_of_token token st.leases w.1.0 w.1.1) (bytes_are _ _ (true_of _ w2.0)) w2.1
+        | inr w2 ↦ then w.1.0 w.1.1 w2.1
       ]
     ]
 
-of_store : {Asked : Revision → Type 0} (st : State) (key : List ℕ) (token : Token) (batch : List Object) (r : Reply) (st' : State) → StoreStep st key token batch r st' → Effect Asked st r st'
-of_store st key token batch r st' h = on_lease st key token r st' (λ lease. Stores st batch r st') (λ lease t k d. elim d [
-  | inl f ↦ gains batch (quiet_fault r f.0) f.1
+hashed_batch : (batch : List Object) → AllByRecursion IsSent batch → AreNamed batch
+hashed_batch batch sent = record { each = λ object has. ap (λ (id : ObjectId). id.hash) (among batch sent object has).0 }
+  where
+    among : (batch : List Object) → AllByRecursion IsSent batch → (object : Object) → Contains batch object → IsSent object
+    among [] sent object has = absurd (none_there object has)
+    among (first ∷ batch) sent object has = elim (first_or_later first batch object has) [
+      | inl same ↦ subst IsSent same sent.0
+      | inr later ↦ among batch sent.1 object later
+    ]
+
+pub hashed_made : (new : Revision) → AreNamed (made new)
+hashed_made new = record {
+  each = λ object has. elim (first_or_later (record_object new) _ object has) [
+    | inl same ↦ subst (λ (o : Object). o.id.hash ≡ sha1 o.bytes) same refl
+    | inr later ↦
+        let from = comes_from (catalogue_object new.tree) (reverse (cuts_above new.tree new.record_.path)) object later in
+        subst (λ (o : Object). o.id.hash ≡ sha1 o.bytes) from.2 refl
+  ];
+}
+
+of_store : {Asked : Revision → Type 0} {Wants : List ℕ → Path → Type 0} {Sends : List Object → Type 0} (st : State) (key : List ℕ) (token : Token) (batch : List Object) (r : Reply) (st' : State) → Sends batch → StoreStep st key token batch r st' → Effect Asked Wants Sends st r st'
+of_store st key token batch r st' sent h = on_lease st key token r st' (λ lease. Stores st batch r st') (λ lease t d. elim d [
+  | inl f ↦ gains batch sent (quiet_fault r f.0) f.1
   | inr n ↦ elim (refused_or (λ _. is_quiet refl refl) n) [
     | inl e ↦ e
-    | inr w ↦ stores batch (is_quiet (ap is_committed w.1.0) (ap token_given w.1.0)) w.1.1
+    | inr w ↦ stores batch sent (is_quiet (ap is_committed w.1.0) (ap token_given w.1.0)) w.1.1
   ]
 ]) h
 
-of_cancel : {Asked : Revision → Type 0} (st : State) (key : List ℕ) (token : Token) (r : Reply) (st' : State) → CancelStep st key token r st' → Effect Asked st r st'
-of_cancel st key token r st' h = on_lease st key token r st' (λ lease. (r ≡ reply.Cancelled) × (st' ≡ record st { leases = without token st.leases })) (λ lease t k d. cancels token d.0 d.1) h
+of_takes : {Asked : Revision → Type 0} {Wants : List ℕ → Path → Type 0} {Sends : List Object → Type 0} (st : State) (token : Token) (r : Reply) (st' : State) → Cancels st token r st' → Effect Asked Wants Sends st r st'
+of_takes st token r st' (takes is s) = cancels token is s
 
-of_end : {Asked : Revision → Type 0} {st : State} {new : Revision} {r : Reply} {st' : State} → Asked new → Publishes st new r st' → Effect Asked st r st'
-of_end {new = new} asked (collides id c e g) = gains (made new) (is_quiet (ap is_committed e) (ap token_given e)) g
-of_end {new = new} {r = r} asked (fails f g) = gains (made new) (quiet_fault r f) g
-of_end {new = new} asked (commits c e stored g s) = publishes new asked e stored g s
-of_end {new = new} asked (doubts c e stored g s) = wavers new asked e stored g s
+of_cancel : {Asked : Revision → Type 0} {Wants : List ℕ → Path → Type 0} {Sends : List Object → Type 0} (st : State) (key : List ℕ) (token : Token) (r : Reply) (st' : State) → CancelStep st key token r st' → Effect Asked Wants Sends st r st'
+of_cancel st key token r st' h = on_lease st key token r st' (λ lease. Cancels st token r st') (λ lease t d. of_takes st token r st' d) h
 
-of_commit : (st : State) (key : List ℕ) (token : Token) (old_root new_root tag : List ℕ) (r : Reply) (st' : State) → CommitStep st key token old_root new_root tag r st'
-    → Effect (IsFor key token new_root tag) st r st'
-of_commit st key token old_root new_root tag r st' h = on_lease st key token r st' (Commits st old_root new_root tag r st') (λ lease t k d.
-    elim (refused_if_or (is_quiet refl refl) d) [
-      | inl e ↦ e
-      | inr w ↦ elim (refused_if_or (is_quiet refl refl) w.1) [
+module _ {Asked : Revision → Type 0} {Wants : List ℕ → Path → Type 0} {Sends : List Object → Type 0} (st : State) (key : List ℕ) (token : Token) (old_root new_root tag : List ℕ) (r : Reply) (st' : State) where
+  of_end : (new : Revision) → (Passes st key token old_root new_root tag new → Asked new) → Sends (made new) → Publishes st key token old_root new_root tag new r st' → Effect Asked Wants Sends st r st'
+  of_end new asked sent (collides id c e g) = gains (made new) sent (is_quiet (ap is_committed e) (ap token_given e)) g
+  of_end new asked sent (fails f g) = gains (made new) sent (quiet_fault r f) g
+  of_end new asked sent (commits p e stored g s) = publishes new (asked p) sent e stored g s
+  of_end new asked sent (doubts p e stored g s) = wavers new (asked p) sent e stored g s
+
+  of_commit : ((new : Revision) → Passes st key token old_root new_root tag new → Asked new)
+      → ((lease : Lease) (head : Revision) (n : Nodes) → lease_of token st.leases ≡ Some lease → newest st.history ≡ Some head → Means st.shelf new_root n → Sends (made (committed st.moment head lease n new_root tag)))
+      → CommitStep st key token old_root new_root tag r st' → Effect Asked Wants Sends st r st'
+  of_commit asked sent h = on_lease st key token r st' (Commits st key token old_root new_root tag r st') (λ lease t d.
+      elim (refused_if_or (is_quiet refl refl) d.2) [
         | inl e ↦ e
-        | inr w2 ↦ elim (refused_or (λ _. is_quiet refl refl) w2.1) [
+        | inr w ↦ elim (refused_if_or (is_quiet refl refl) w.1) [
           | inl e ↦ e
-          | inr w3 ↦ elim (failed_or w3.1) [
+          | inr w2 ↦ elim (refused_or (λ _. is_quiet refl refl) w2.1) [
             | inl e ↦ e
-            | inr w4 ↦ elim w4 [
-              | inl none ↦ elim none.why [ inl m ↦ quiet (is_quiet refl refl) m.0 none.same | inr m ↦ quiet (is_quiet refl refl) m.0 none.same ]
-              | inr n ↦ elim (refused_or (λ _. is_quiet refl refl) n.2.2) [
-                | inl e ↦ e
-                | inr w5 ↦ elim (refused_or (λ _. is_quiet refl refl) w5.1) [
+            | inr w3 ↦ elim (failed_or w3.1) [
+              | inl e ↦ e
+              | inr w4 ↦ elim w4 [
+                | inl none ↦ elim none.why [ inl m ↦ quiet (is_quiet refl refl) m.0 none.same | inr m ↦ quiet (is_quiet refl refl) m.0 none.same ]
+                | inr n ↦ elim (refused_or (λ _. is_quiet refl refl) n.2) [
                   | inl e ↦ e
-                  | inr w6 ↦ of_end (record { key_ = k; token_ = t; offered = refl; tag_ = refl }) w6.1
+                  | inr w5 ↦ elim (refused_or (λ _. is_quiet refl refl) w5.1) [
+                    | inl e ↦ e
+                    | inr w6 ↦
+                        let new : Revision = committed st.moment d.0 lease n.0 new_root tag in
+                        of_end new (asked new) (sent lease d.0 n.0 t d.1 n.1) w6.1
+                  ]
                 ]
               ]
             ]
           ]
         ]
-      ]
-    ]) h
+      ]) h
 
-asks : (e : Entry) (key : List ℕ) (token : Token) (old_root new_root tag : List ℕ) (new : Revision) → e.key ≡ key → e.act ≡ act.Commit token old_root new_root tag
-    → IsFor key token new_root tag new → IsAsked e new
-asks e key token old_root new_root tag new k a for = record {
-  key = k ∙ sym for.key_;
-  old_root = old_root;
-  is = a ∙ (λ i. act.Commit (sym for.token_ i) old_root (sym for.offered i) (sym for.tag_ i));
-}
+-- ---- what is said of a commit is said of its revision
 
--- what the entry asked for
-asked_by : (e : Entry) (key : List ℕ) (token : Token) (old_root new_root tag : List ℕ) (st : State) (st' : State) → e.key ≡ key → e.act ≡ act.Commit token old_root new_root tag
-    → Effect (IsFor key token new_root tag) st e.reply st' → Effect (IsAsked e) st e.reply st'
-asked_by e key token old_root new_root tag st st' k a (nothing q s) = nothing q s
-asked_by e key token old_root new_root tag st st' k a (gains objects q g) = gains objects q g
-asked_by e key token old_root new_root tag st st' k a (stores objects q g) = stores objects q g
-asked_by e key token old_root new_root tag st st' k a (grants key2 p head m f c r s) = grants key2 p head m f c r s
-asked_by e key token old_root new_root tag st st' k a (cancels token2 r s) = cancels token2 r s
-asked_by e key token old_root new_root tag st st' k a (publishes new for r stored g s) = publishes new (asks e key token old_root new_root tag new k a for) r stored g s
-asked_by e key token old_root new_root tag st st' k a (wavers new for r stored g s) = wavers new (asks e key token old_root new_root tag new k a for) r stored g s
+-- the op is a commit for the revision's key, token, offered root and tag
+pub record IsItsOwn (st : State) (o : Op) (new : Revision) : Type 0 where
+  pub old_root : List ℕ
+  pub is : o ≡ op.Commit new.record_.key new.record_.token old_root new.record_.offered new.record_.tag
+  pub passes : Passes st new.record_.key new.record_.token old_root new.record_.offered new.record_.tag new
 
-pub of_act : (st : State) (o : Op) (e : Entry) (st' : State) → Records e o → Acts st o e st' → Effect (IsAsked e) st e.reply st'
-of_act st (op.Lease key path) e st' recorded h = elim h [ inl m ↦ quiet (is_quiet refl refl) m.0 m.1 | inr d ↦ of_lease st key path e.reply st' d ]
-of_act st (op.Store key token digest batch) e st' recorded h = elim h.3 [ inl m ↦ quiet (is_quiet refl refl) m.0 m.1 | inr d ↦ of_store st key token batch e.reply st' d ]
-of_act st (op.Commit key token old_root new_root tag) e st' recorded h = elim h [
+pub own : (st : State) (o : Op) (new : Revision) → MakesNew st o new → IsItsOwn st o new
+own st (op.Lease key path) new h = absurd h
+own st (op.Store key token digest batch) new h = absurd h
+own st (op.Commit key token old_root new_root tag) new p =
+    let token_is : p.lease.token ≡ token = lease_of_token token st.leases p.lease p.live in
+    let key_is : p.lease.key ≡ key = bytes_are p.lease.key key p.own in
+    subst (λ (r : Revision). IsItsOwn st (op.Commit key token old_root new_root tag) r) (sym p.is) (record {
+      old_root = old_root;
+      is = λ i. op.Commit (sym key_is i) (sym token_is i) old_root new_root tag;
+      passes = record {
+        lease = p.lease;
+        live = ap (λ x. lease_of x st.leases) token_is ∙ p.live;
+        own = bytes_eq_self p.lease.key;
+        head = p.head;
+        is_newest = p.is_newest;
+        room = p.room;
+        base = p.base;
+        free = p.free;
+        offered = p.offered;
+        means = p.means;
+        is = refl;
+        fits = subst (λ (r : Revision). Fits r.tree) p.is p.fits;
+        apart = subst (λ (r : Revision). (id : ObjectId) → ClashesOn st.shelf (made r) id → ⊥) p.is p.apart;
+      };
+    })
+own st (op.Cancel key token) new h = absurd h
+
+asks : (st : State) (e : Entry) (key : List ℕ) (token : Token) (old_root new_root tag : List ℕ) (new : Revision) → Records e (op.Commit key token old_root new_root tag) → Passes st key token old_root new_root tag new → IsAsked e new
+asks st e key token old_root new_root tag new recorded p =
+    let token_is : p.lease.token ≡ token = lease_of_token token st.leases p.lease p.live in
+    let key_is : p.lease.key ≡ key = bytes_are p.lease.key key p.own in
+    subst (IsAsked e) (sym p.is) (record {
+      key = recorded.0 ∙ sym key_is;
+      old_root = old_root;
+      is = recorded.1 ∙ ap (λ t. act.Commit t old_root new_root tag) (sym token_is);
+    })
+
+-- the objects are those of the op, and each has its hash
+pub record AreSent (st : State) (o : Op) (objects : List Object) : Type 0 where
+  pub hashed : AreNamed objects
+  pub brings : BringsObjects st o objects
+
+pub of_act : (st : State) (o : Op) (e : Entry) (st' : State) → IsValid o → Records e o → Acts st o e st' → Effect (IsPublished st o e) (IsWanted e) (AreSent st o) st e.reply st'
+of_act st (op.Lease key path) e st' valid recorded h = elim h [ inl m ↦ quiet (is_quiet refl refl) m.0 m.1 | inr d ↦ of_lease st key path e.reply st' (record { key_ = recorded.0; is = recorded.1 }) valid.0 valid.1 d ]
+of_act st (op.Store key token digest batch) e st' valid recorded h = elim h.2 [
   | inl m ↦ quiet (is_quiet refl refl) m.0 m.1
-  | inr d ↦ asked_by e key token old_root new_root tag st st' recorded.0 recorded.1 (of_commit st key token old_root new_root tag e.reply st' d)
+  | inr d ↦ of_store st key token batch e.reply st' (record { hashed = hashed_batch batch valid.0.1; brings = whole }) d.1
 ]
-of_act st (op.Cancel key token) e st' recorded h = of_cancel st key token e.reply st' h
+of_act st (op.Commit key token old_root new_root tag) e st' valid recorded h = elim h [
+  | inl m ↦ quiet (is_quiet refl refl) m.0 m.1
+  | inr d ↦ of_commit st key token old_root new_root tag e.reply st' (λ new p. record { valid = valid; makes_new = p; asked = asks st e key token old_root new_root tag new recorded p })
+      (λ lease head n live is_newest means. record { hashed = hashed_made (committed st.moment head lease n new_root tag); brings = makes lease head n live is_newest means }) d
+]
+of_act st (op.Cancel key token) e st' valid recorded h = of_cancel st key token e.reply st' h

@@ -1,17 +1,21 @@
 -- Leases stay apart, and each stays as it was granted.
-use Rattle.std.proofs.Common.{◌≡◌, ◌⊎◌, ◌≤◌, ◌+◌, ◌&&◌, ℕ, Bool, true, false, cond, nat_eq, List, [], ◌∷◌, ◌++◌, refl, sym, subst, ◌∙◌, inl, inr, arith}
+use Rattle.std.proofs.Common.{length, ◌<◌, ◌≡◌, ◌≤◌, ◌+◌, ◌&&◌, ℕ, Bool, true, false, cond, nat_eq, List, [], ◌∷◌, ◌++◌, refl, sym, subst, ◌∙◌, inl, inr, arith}
 use Rattle.std.specs.declared.option.Option.{Option}
 use Rattle.std.specs.declared.option.Option.TheVariants.{None, Some}
-use Rattle.std.specs.Prelude.{MatchOption}
 use Rattle.std.specs.List.{filter, AllByRecursion}
 use Rattle.std.proofs.lemmas.Bool.{eqb-true}
 use Rattle.cv_base.specs.declared.id.ObjectId.{ObjectId}
 use Rattle.cv_ports.specs.Shelf.{Shelf}
-use Rattle.cv_leases.specs.Leases.{lease_of, IsTable}
+use Rattle.cv_base.specs.Marker.{marker, ends_in}
+use Rattle.cv_leases.specs.Leases.{lease_limit, lease_of, busy, IsTable}
 use Rattle.cv_leases.specs.declared.lease.Lease.{Lease}
-use Rattle.cv_leases.proofs.Tables.{all_filter, all_push, table_filter, table_push}
-use Rattle.cv_gate.specs.State.{State, Revision, aged, with_revision, Settled}
-use Rattle.cv_gate.specs.Step.{granted, lease_time, Step, Run}
+use Rattle.cv_leases.proofs.Laws.{all_filter, all_push, table_filter, table_push}
+use Rattle.cv_base.specs.Path.{Path}
+use Rattle.cv_base.specs.declared.object.Object.{Object}
+use Rattle.cv_gate.specs.State.{State, aged, Settled, certain, unmade, published}
+use Rattle.cv_swap.specs.Kept.{Revision}
+use Rattle.cv_gate.specs.Passing.{lease_time, granted}
+use Rattle.cv_gate.specs.Step.{Step, Run}
 use Rattle.cv_gate.specs.Sound.{IsGranted, AreLeases}
 use Rattle.cv_gate.specs.declared.op.Op.{Op}
 use Rattle.cv_gate.specs.declared.reply.Reply.{Reply}
@@ -67,37 +71,39 @@ ends_last st [] h = tt
 ends_last st (lease ∷ leases) h = (h.0.deadline, ends_last st leases h.1)
 
 -- what the disk holds and what is in doubt doesn't matter
-unchanged : (st : State) (doubt : Option Revision) (shelf : Shelf) (loose : ObjectId → Bool) → AreLeases st → AreLeases (record st { doubt = doubt; shelf = shelf; loose = loose })
+pub unchanged : (st : State) (doubt : Option Revision) (shelf : Shelf) (loose : ObjectId → Bool) → AreLeases st → AreLeases (record st { doubt = doubt; shelf = shelf; loose = loose })
 unchanged st doubt shelf loose h = same st _ (record { epoch = refl; next = omega arith; moment = omega arith }) refl h
 
-pub by_effect : {Asked : Revision → Type 0} (st : State) (r : Reply) (st' : State) → AreLeases st → Effect Asked st r st' → AreLeases st'
-by_effect st r st' h (nothing q e) = subst AreLeases (sym e) h
-by_effect st r st' h (gains objects q g) = subst AreLeases (sym g.others) (unchanged st _ _ _ h)
-by_effect st r st' h (stores objects q g) = subst AreLeases (sym g.others) (unchanged st _ _ _ h)
-by_effect st r st' h (grants key p head unmarked free few e s) =
+-- a lease that overlaps none is granted
+pub granted_apart : (st : State) (key : List ℕ) (p : Path) (head : Revision) → AreLeases st → ends_in marker p ≡ false → busy st.leases p ≡ None → length st.leases < lease_limit
+    → AreLeases (record st { leases = st.leases ++ granted st key p head ∷ []; next = st.next + 1 })
+granted_apart st key p head h unmarked free few =
     let lease : Lease = granted st key p head in
     let after : State = record st { leases = st.leases ++ lease ∷ []; next = st.next + 1 } in
     let goes : Later st after = record { epoch = refl; next = omega arith; moment = omega arith } in
     let is : IsGranted after lease = record { epoch = refl; number = omega arith; deadline = omega arith } in
-    subst AreLeases (sym s) (record {
+    record {
       table = table_push st.leases lease h.table unmarked free few (is_new st st.leases h.granted) (ends_last st st.leases h.granted);
       granted = all_push _ st.leases lease (later st after goes st.leases h.granted) is;
-    })
+    }
+
+pub by_effect : {Asked : Revision → Type 0} {Wants : List ℕ → Path → Type 0} {Sends : List Object → Type 0} (st : State) (r : Reply) (st' : State) → AreLeases st → Effect Asked Wants Sends st r st' → AreLeases st'
+by_effect st r st' h (nothing q e) = subst AreLeases (sym e) h
+by_effect st r st' h (gains objects hashed q g) = subst AreLeases (sym g.others) (unchanged st _ _ _ h)
+by_effect st r st' h (stores objects hashed q g) = subst AreLeases (sym g.others) (unchanged st _ _ _ h)
+by_effect st r st' h (grants key p head w g held e s) = subst AreLeases (sym s) (granted_apart st key p head h g.unmarked g.clear g.few)
 by_effect st r st' h (cancels token e s) = subst AreLeases (sym s) (filtered _ st _ (record { epoch = refl; next = omega arith; moment = omega arith }) refl h)
-by_effect st r st' h (publishes new asked e stored g s) =
+by_effect st r st' h (publishes new asked sent e stored g s) =
     let there : AreLeases stored = subst AreLeases (sym g.others) (unchanged st _ _ _ h) in
     subst AreLeases (sym s) (filtered _ stored _ (record { epoch = refl; next = omega arith; moment = omega arith }) refl there)
-by_effect st r st' h (wavers new asked e stored g s) =
+by_effect st r st' h (wavers new asked sent e stored g s) =
     let there : AreLeases stored = subst AreLeases (sym g.others) (unchanged st _ _ _ h) in
     subst AreLeases (sym s) (unchanged stored _ _ _ there)
 
-by_settling : (st settled : State) → AreLeases st → Settled st settled → AreLeases settled
-by_settling st settled h s = by st.doubt s
-  where
-    by : (doubt : Option Revision) → MatchOption doubt (settled ≡ st) (λ new. (settled ≡ record st { doubt = None }) ⊎ (settled ≡ with_revision (record st { doubt = None }) new)) → AreLeases settled
-    by None e = subst AreLeases (sym e) h
-    by (Some new) (inl e) = subst AreLeases (sym e) (unchanged st _ _ _ h)
-    by (Some new) (inr e) = subst AreLeases (sym e) (filtered _ st _ (record { epoch = refl; next = omega arith; moment = omega arith }) refl h)
+pub by_settling : (st settled : State) → AreLeases st → Settled st settled → AreLeases settled
+by_settling st settled h (certain calm e) = subst AreLeases (sym e) h
+by_settling st settled h (unmade new is e) = subst AreLeases (sym e) (unchanged st _ _ _ h)
+by_settling st settled h (published new is e) = subst AreLeases (sym e) (filtered _ st _ (record { epoch = refl; next = omega arith; moment = omega arith }) refl h)
 
 pub by_ageing : (st : State) (now : ℕ) → AreLeases st → AreLeases (aged st now)
 by_ageing st now h = filtered _ st _ (record { epoch = refl; next = omega arith; moment = omega arith }) refl h
@@ -105,7 +111,7 @@ by_ageing st now h = filtered _ st _ (record { epoch = refl; next = omega arith;
 by_step : (st : State) (o : Op) (e : Entry) (st' : State) → Step st o e st' → AreLeases st → AreLeases st'
 by_step st o e st' s h = elim s.does [
   | inl w ↦ subst AreLeases (sym w.same) h
-  | inr g ↦ by_effect (aged g.settled e.now) e.reply st' (by_ageing g.settled e.now (by_settling st g.settled h g.settles)) (of_act (aged g.settled e.now) o e st' s.records g.acts)
+  | inr g ↦ by_effect (aged g.settled e.now) e.reply st' (by_ageing g.settled e.now (by_settling st g.settled h g.settles)) (of_act (aged g.settled e.now) o e st' s.op s.records g.acts)
 ]
 
 pub by_run : (st : State) (entries : List Entry) (st' : State) → Run st entries st' → AreLeases st → AreLeases st'

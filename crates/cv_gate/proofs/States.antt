@@ -5,14 +5,14 @@ use Rattle.std.specs.List.{AllByRecursion}
 use Rattle.cv_base.specs.Path.{Path}
 use Rattle.cv_base.specs.Marker.{marker, ends_in}
 use Rattle.cv_base.specs.declared.token.Token.{Token}
-use Rattle.cv_leases.specs.Leases.{busy, lease_of, without, unexpired}
+use Rattle.cv_leases.specs.Leases.{lease_limit, busy, lease_of, without, unexpired}
 use Rattle.cv_leases.specs.declared.lease.Lease.{Lease}
-use Rattle.cv_gate.specs.State.{Revision}
-use Rattle.cv_gate.specs.Gate.{StateView, IsState, state_of, lone_revision, refusal_of, refusal_beside, is_at_top, with_lease, next_token, new_lease}
+use Rattle.cv_swap.specs.Kept.{Revision}
+use Rattle.cv_gate.specs.Passing.{lease_time}
+use Rattle.cv_gate.specs.Gate.{StateView, IsState, state_of, lone_revision}
+use Rattle.cv_gate.specs.GateState.{refusal_of, refusal_beside, is_at_top, with_lease, new_lease}
 use Rattle.cv_gate.specs.declared.outcome.Outcome.TheVariants as outcome
-use Rattle.cv_gate.specs.declared.reply.Reply.TheVariants as reply
-use Rattle.cv_gate.proofs.Effects.{grants}
-use Rattle.cv_gate.proofs.Leases.{by_effect, by_ageing, filtered, is_new, ends_last}
+use Rattle.cv_gate.proofs.Leases.{granted_apart, by_ageing, filtered, is_new, ends_last}
 
 pub state_aged : (s s' : StateView) (now : ℕ) → now < 2 ^ 62 → IsState s → s' ≡ record s { moment = max s.moment now; leases = unexpired (max s.moment now) s.leases } → IsState s'
 state_aged s s' now limit h e = subst IsState (sym e) (record {
@@ -27,21 +27,21 @@ state_ended s s' token h e = subst IsState (sym e) (record {
 })
 
 -- what a path has that isn't refused
-pub record IsFree (s : StateView) (path : Path) : Type 0 where
+pub record HasRoom (s : StateView) (path : Path) : Type 0 where
   pub unmarked : ends_in marker path ≡ false
   pub free : busy s.leases path ≡ None
-  pub few : length s.leases < 4096
+  pub few : length s.leases < lease_limit
   pub top : is_at_top path ≡ true
 
-pub not_refused : (s : StateView) (path : Path) → refusal_of s path ≡ None → IsFree s path
+pub not_refused : (s : StateView) (path : Path) → refusal_of s path ≡ None → HasRoom s path
 not_refused s path h =
-    elim (ends_in marker path) as (λ m. ends_in marker path ≡ m → cond m (Some outcome.BadPath) (refusal_beside (busy s.leases path) s path) ≡ None → IsFree s path) [
+    elim (ends_in marker path) as (λ m. ends_in marker path ≡ m → cond m (Some outcome.BadPath) (refusal_beside (busy s.leases path) s path) ≡ None → HasRoom s path) [
       | true ↦ λ m none. cc
-      | false ↦ λ m none. elim (busy s.leases path) as (λ b. busy s.leases path ≡ b → refusal_beside b s path ≡ None → IsFree s path) [
+      | false ↦ λ m none. elim (busy s.leases path) as (λ b. busy s.leases path ≡ b → refusal_beside b s path ≡ None → HasRoom s path) [
         | Some lease ↦ λ b none2. cc
-        | None ↦ λ b none2. elim (nat_le 4096 (length s.leases)) as (λ many. nat_le 4096 (length s.leases) ≡ many → cond many (Some outcome.TooManyLeases) (cond (is_at_top path) None (Some outcome.NoParent)) ≡ None → IsFree s path) [
+        | None ↦ λ b none2. elim (nat_le lease_limit (length s.leases)) as (λ many. nat_le lease_limit (length s.leases) ≡ many → cond many (Some outcome.TooManyLeases) (cond (is_at_top path) None (Some outcome.NoParent)) ≡ None → HasRoom s path) [
           | true ↦ λ many none3. cc
-          | false ↦ λ many none3. elim (is_at_top path) as (λ t. is_at_top path ≡ t → cond t None (Some outcome.NoParent) ≡ None → IsFree s path) [
+          | false ↦ λ many none3. elim (is_at_top path) as (λ t. is_at_top path ≡ t → cond t None (Some outcome.NoParent) ≡ None → HasRoom s path) [
             | true ↦ λ t none4. record { unmarked = m; free = b; few = search rules; top = t }
             | false ↦ λ t none4. cc
           ] refl none3
@@ -51,10 +51,10 @@ not_refused s path h =
 
 pub state_granted : (s s' : StateView) (key : List ℕ) (path : Path) → IsState s → refusal_of s path ≡ None → s' ≡ with_lease s key path → IsState s'
 state_granted s s' key path h none e =
-    let free : IsFree s path = not_refused s path none in
+    let free : HasRoom s path = not_refused s path none in
     let head : Revision = lone_revision s.revision s.root in
     subst IsState (sym e) (record {
-      leases = by_effect {Asked = λ new. ⊥} (state_of s) (reply.Granted (next_token s) s.revision s.root) (state_of (with_lease s key path)) h.leases (grants key path head free.unmarked free.free free.few refl refl);
+      leases = granted_apart (state_of s) key path head h.leases free.unmarked free.free free.few;
       moment = h.moment;
     })
 
@@ -66,4 +66,4 @@ pub deadline_is_last : (s : StateView) (lease : Lease) (leases : List Lease) (ke
     → AllByRecursion (λ other. other.deadline ≤ lease.deadline) leases
 deadline_is_last s lease leases key path h same e =
     subst (λ (l : Lease). AllByRecursion (λ other. other.deadline ≤ l.deadline) leases) (sym e)
-    (subst (AllByRecursion (λ other. other.deadline ≤ s.moment + 7200)) (sym same) (ends_last (state_of s) s.leases h.leases.granted))
+    (subst (AllByRecursion (λ other. other.deadline ≤ s.moment + lease_time)) (sym same) (ends_last (state_of s) s.leases h.leases.granted))

@@ -1,5 +1,5 @@
 -- What is done to a gate is a step from the state for which it stands.
-use Rattle.std.proofs.Common.{◌≡◌, ◌<◌, ◌≤◌, ◌-◌, ◌^◌, ℕ, true, false, cond, nat_le, List, [], ◌∷◌, ◌++◌, length, max, refl, sym, subst, ap, ◌∙◌, inl, inr, arith, rules}
+use Rattle.std.proofs.Common.{◌≡◌, ◌<◌, ◌≤◌, ◌-◌, ◌^◌, ℕ, Bool, true, false, cond, nat_le, List, [], ◌∷◌, ◌++◌, length, max, refl, sym, subst, ap, ◌∙◌, inl, inr, arith, rules}
 use Rattle.std.specs.declared.option.Option.TheVariants.{None, Some}
 use Rattle.std.specs.FinMap.{empty, get-insert, get-empty}
 use Rattle.cv_base.specs.Path.{Path, path_cmp, parent}
@@ -10,19 +10,26 @@ use Rattle.cv_tree.specs.Tree.{single, is_directory}
 use Rattle.cv_tree.specs.Changes.{has_place}
 use Rattle.cv_tree.specs.declared.node.Node.TheVariants.{Dir}
 use Rattle.cv_base.specs.declared.attr.Attr.{Attr}
-use Rattle.cv_leases.specs.Leases.{busy, unexpired}
+use Rattle.cv_leases.specs.Leases.{lease_limit, busy, unexpired}
 use Rattle.cv_leases.specs.declared.lease.Lease.{Lease}
-use Rattle.cv_gate.specs.State.{State}
-use Rattle.cv_gate.specs.Step.{LeaseStep, CancelStep, MayLackMemory, IsOp, Step, is_key_id}
-use Rattle.cv_gate.specs.Gate.{StateView, GateView, Steps, made, journal_limit, state_of, lone_revision, refusal_of, refusal_beside, is_at_top, with_lease, next_token, reply_of, is_plain, AsksLease, refused, granted, unremembered, AsksEnd, absent, foreign, ends}
+use Rattle.cv_ports.specs.Shelf.{Shelf}
+use Rattle.cv_base.specs.declared.id.ObjectId.{ObjectId}
+use Rattle.cv_gate.specs.State.{State, certain}
+use Rattle.cv_gate.specs.Passing.{IsFree}
+use Rattle.cv_gate.specs.Step.{adds, LeaseStep, takes, CancelStep, MayLackMemory, IsValid, Acts, Records, Step, last_number}
+use Rattle.cv_gate.specs.Gate.{StateView, GateView, StandsFor, HasSameObjects, Steps, made, journal_limit, state_of, lone_revision, is_plain}
+use Rattle.cv_gate.specs.GateState.{refusal_of, refusal_beside, is_at_top, with_lease, next_token, reply_of, AsksLease, refused, granted, unremembered, AsksEnd, absent, foreign, ends}
 use Rattle.cv_gate.specs.declared.op.Op.{Op}
 use Rattle.cv_gate.specs.declared.op.Op.TheVariants as op
+use Rattle.cv_gate.specs.declared.act.Act.{Act}
 use Rattle.cv_gate.specs.declared.act.Act.TheVariants as act
 use Rattle.cv_gate.specs.declared.outcome.Outcome.{Outcome}
 use Rattle.cv_gate.specs.declared.outcome.Outcome.TheVariants as outcome
 use Rattle.cv_gate.specs.declared.reply.Reply.{Reply}
+use Rattle.cv_gate.specs.declared.reply.Reply.TheVariants as reply
+use Rattle.cv_base.specs.declared.object.Object.{Object}
 use Rattle.cv_gate.specs.declared.entry.Entry.{Entry}
-use Rattle.cv_gate.proofs.States.{IsFree, not_refused}
+use Rattle.cv_gate.proofs.States.{HasRoom, not_refused}
 
 -- in a tree of its root alone there is place for one name
 has_place-single : (attr : Attr) (path : Path) → has_place (single (Dir attr)) path ≡ is_at_top path
@@ -37,8 +44,8 @@ has_room s path top = has_place-single _ path ∙ top
 data Why (s : StateView) (path : Path) (o : Outcome) : Type 0 where
   marked : ends_in marker path ≡ true → o ≡ outcome.BadPath → Why s path o
   beside : (lease : Lease) → ends_in marker path ≡ false → busy s.leases path ≡ Some lease → o ≡ outcome.PathBusy lease.token (lease.deadline - s.moment) → Why s path o
-  many : ends_in marker path ≡ false → busy s.leases path ≡ None → 4096 ≤ length s.leases → o ≡ outcome.TooManyLeases → Why s path o
-  astray : ends_in marker path ≡ false → busy s.leases path ≡ None → length s.leases < 4096 → is_at_top path ≡ false → o ≡ outcome.NoParent → Why s path o
+  many : ends_in marker path ≡ false → busy s.leases path ≡ None → lease_limit ≤ length s.leases → o ≡ outcome.TooManyLeases → Why s path o
+  astray : ends_in marker path ≡ false → busy s.leases path ≡ None → length s.leases < lease_limit → is_at_top path ≡ false → o ≡ outcome.NoParent → Why s path o
 
 why : (s : StateView) (path : Path) (o : Outcome) → refusal_of s path ≡ Some o → Why s path o
 why s path o h =
@@ -46,7 +53,7 @@ why s path o h =
       | true ↦ λ m is. marked m cc
       | false ↦ λ m is. elim (busy s.leases path) as (λ b. busy s.leases path ≡ b → refusal_beside b s path ≡ Some o → Why s path o) [
         | Some lease ↦ λ b is2. beside lease m b cc
-        | None ↦ λ b is2. elim (nat_le 4096 (length s.leases)) as (λ n. nat_le 4096 (length s.leases) ≡ n → cond n (Some outcome.TooManyLeases) (cond (is_at_top path) None (Some outcome.NoParent)) ≡ Some o → Why s path o) [
+        | None ↦ λ b is2. elim (nat_le lease_limit (length s.leases)) as (λ n. nat_le lease_limit (length s.leases) ≡ n → cond n (Some outcome.TooManyLeases) (cond (is_at_top path) None (Some outcome.NoParent)) ≡ Some o → Why s path o) [
           | true ↦ λ n is3. many m b (search rules) cc
           | false ↦ λ n is3. elim (is_at_top path) as (λ t. is_at_top path ≡ t → cond t None (Some outcome.NoParent) ≡ Some o → Why s path o) [
             | true ↦ λ t is4. cc
@@ -56,90 +63,141 @@ why s path o h =
       ] refl is
     ] refl h
 
-refused_step : (s : StateView) (key : List ℕ) (path : Path) (o : Outcome) (st' : State) → Why s path o → st' ≡ state_of s → LeaseStep (state_of s) key path (reply_of o) st'
-refused_step s key path o st' (marked m is) same = inl (m, ap reply_of is, same)
-refused_step s key path o st' (beside lease m b is) same = inr ((λ t. cc), inl (lease, b, ap reply_of is, same))
-refused_step s key path o st' (many m b n is) same = inr ((λ t. cc), inr ((λ lease e. cc), inl (n, ap reply_of is, same)))
-refused_step s key path o st' (astray m b few t is) same =
-    inr ((λ t. cc), inr ((λ lease e. cc), inr ((λ n. omega (arith, few, n)), inr (lone_revision s.revision s.root, refl, inl (has_place-single _ path ∙ t, ap reply_of is, same)))))
-
-granted_step : (s : StateView) (key : List ℕ) (path : Path) (o : Outcome) (st' : State) → IsFree s path → o ≡ outcome.Granted (next_token s) s.revision s.root → st' ≡ state_of (with_lease s key path)
-    → LeaseStep (state_of s) key path (reply_of o) st'
-granted_step s key path o st' free is e =
-    let m = free.unmarked in
-    let b = free.free in
-    let few = free.few in
-    inr ((λ t. cc), inr ((λ lease e. cc), inr ((λ n. omega (arith, few, n)), inr (lone_revision s.revision s.root, refl, inr ((λ t. let has = has_room s path free.top in cc), (ap reply_of is, e))))))
-
-lease_acts : (s s' : StateView) (key : List ℕ) (path : Path) (o : Outcome) → AsksLease key path s o s' → MayLackMemory (state_of s) (reply_of o) (state_of s') (LeaseStep (state_of s) key path (reply_of o) (state_of s'))
-lease_acts s s' key path o (refused h same) = inr (refused_step s key path o (state_of s') (why s path o h) (ap state_of same))
-lease_acts s s' key path o (granted h is e) = inr (granted_step s key path o (state_of s') (not_refused s path h) is (ap state_of e))
-lease_acts s s' key path o (unremembered is same) = inl (ap reply_of is, ap state_of same)
-
-cancel_acts : (s s' : StateView) (key : List ℕ) (token : Token) (o : Outcome) → AsksEnd key token s o s' → CancelStep (state_of s) key token (reply_of o) (state_of s')
-cancel_acts s s' key token o (absent h is same) = inl (h, ap reply_of is, ap state_of same)
-cancel_acts s s' key token o (foreign lease h other is same) = inr ((λ none. cc), (lease, h, inl (other, ap reply_of is, ap state_of same)))
-cancel_acts s s' key token o (ends lease h own is e) = inr ((λ none. cc), (lease, h, inr ((λ other. cc), (ap reply_of is, ap state_of e))))
-
 abbrev aged_view : StateView → ℕ → StateView
 aged_view s now = record s { moment = max s.moment now; leases = unexpired (max s.moment now) s.leases }
 
--- the whole step of a lease, and of the end of one
-lease_step : (s s' : StateView) (seat now : ℕ) (key : List ℕ) (path : Path) (o : Outcome) → is_key_id key ≡ true → now < 2 ^ 62 → s.next < 18446744073709551615 → AsksLease key path (aged_view s now) o s'
-    → Step (state_of s) (op.Lease key path) (record { seat = seat; now = now; key = key; act = act.Lease path; reply = reply_of o }) (state_of s')
-lease_step s s' seat now key path o id limit next h = record {
-  op = id;
-  now = limit;
-  next = next;
-  records = (refl, refl);
-  does = inr (record { settled = state_of s; settles = refl; acts = lease_acts (aged_view s now) s' key path o h });
-}
+-- over any shelf
+module _ (shelf : Shelf) (loose : ObjectId → Bool) where
+  abbrev over : StateView → State
+  over s = record (state_of s) { shelf = shelf; loose = loose }
 
-cancel_step : (s s' : StateView) (seat now : ℕ) (key : List ℕ) (token : Token) (o : Outcome) → is_key_id key ≡ true → now < 2 ^ 62 → s.next < 18446744073709551615 → AsksEnd key token (aged_view s now) o s'
-    → Step (state_of s) (op.Cancel key token) (record { seat = seat; now = now; key = key; act = act.Cancel token; reply = reply_of o }) (state_of s')
-cancel_step s s' seat now key token o id limit next h = record {
-  op = id;
-  now = limit;
-  next = next;
-  records = (refl, refl);
-  does = inr (record { settled = state_of s; settles = refl; acts = cancel_acts (aged_view s now) s' key token o h });
-}
+  refused_step : (s : StateView) (key : List ℕ) (path : Path) (o : Outcome) (st' : State) → Why s path o → st' ≡ over s → LeaseStep (over s) key path (reply_of o) st'
+  refused_step s key path o st' (marked m is) same = inl (m, ap reply_of is, same)
+  refused_step s key path o st' (beside lease m b is) same = inr ((λ t. cc), inl (lease, b, ap reply_of is, same))
+  refused_step s key path o st' (many m b n is) same = inr ((λ t. cc), inr ((λ lease e. cc), inl (n, ap reply_of is, same)))
+  refused_step s key path o st' (astray m b few t is) same =
+      inr ((λ t. cc), inr ((λ lease e. cc), inr ((λ n. omega (arith, few, n)), inr (lone_revision s.revision s.root, refl, inl (has_place-single _ path ∙ t, ap reply_of is, same)))))
 
--- a gate whose journal grew by an entry that is a step
-stepped : (o : Op) (seat now : ℕ) (before after : GateView) (r : Reply) (e : Entry) → length before.journal < journal_limit → e.seat ≡ seat → e.now ≡ now → e.reply ≡ r → after.journal ≡ before.journal ++ e ∷ []
-    → Step (state_of before.state) o e (state_of after.state) → Steps o seat now before after r
-stepped o seat now before after r e room is_seat is_now is_reply grown step =
-    made room e is_seat is_now is_reply grown (λ st stands. (state_of after.state, subst (λ (s : State). Step s o e (state_of after.state)) (sym stands) step, refl))
+  granted_step : (s : StateView) (key : List ℕ) (path : Path) (o : Outcome) (st' : State) → HasRoom s path → o ≡ outcome.Granted (next_token s) s.revision s.root → st' ≡ over (with_lease s key path)
+      → LeaseStep (over s) key path (reply_of o) st'
+  granted_step s key path o st' free is e =
+      let m = free.unmarked in
+      let b = free.free in
+      let few = free.few in
+      let head = lone_revision s.revision s.root in
+      let clear : IsFree (over s) path head = record { unmarked = m; clear = b; few = few; is_newest = refl; place = has_room s path free.top } in
+      inr ((λ t. cc), inr ((λ lease e. cc), inr ((λ n. omega (arith, few, n)), inr (head, refl, inr ((λ t. let has = has_room s path free.top in cc), adds head clear (ap reply_of is) e)))))
+
+  lease_acts : (s s' : StateView) (key : List ℕ) (path : Path) (o : Outcome) → AsksLease key path s o s' → MayLackMemory (over s) (reply_of o) (over s') (LeaseStep (over s) key path (reply_of o) (over s'))
+  lease_acts s s' key path o (refused h same) = inr (refused_step s key path o (over s') (why s path o h) (ap over same))
+  lease_acts s s' key path o (granted h is e) = inr (granted_step s key path o (over s') (not_refused s path h) is (ap over e))
+  lease_acts s s' key path o (unremembered is same) = inl (ap reply_of is, ap over same)
+
+  cancel_acts : (s s' : StateView) (key : List ℕ) (token : Token) (o : Outcome) → AsksEnd key token s o s' → CancelStep (over s) key token (reply_of o) (over s')
+  cancel_acts s s' key token o (absent h is same) = inl (h, ap reply_of is, ap over same)
+  cancel_acts s s' key token o (foreign lease h other is same) = inr ((λ none. cc), (lease, h, inl (other, ap reply_of is, ap over same)))
+  cancel_acts s s' key token o (ends lease h own is e) = inr ((λ none. cc), (lease, h, inr ((λ other. cc), takes (ap reply_of is) (ap over e))))
+
+-- ---- the whole step
 
 -- what holds when a step begins, with the state after ageing
 pub record Begins (o : Op) (now : ℕ) (before : GateView) (aged : StateView) : Type 0 where
-  pub op : IsOp o
+  pub op : IsValid o
   pub now_ : now < 2 ^ 62
-  pub next : before.state.next < 18446744073709551615
+  pub next : before.state.next < last_number
   pub room : length before.journal < journal_limit
   pub aged_ : aged ≡ aged_view before.state now
 
+-- a gate stands for some state
+pub stands_alone : (g : GateView) → StandsFor g (state_of g.state)
+stands_alone g = record { history = refl; doubt = refl; leases = refl; moment = refl; epoch = refl; next = refl }
+
+-- a state without objects for which a gate stands is the one that it knows
+pub stands_bare : (g g' : GateView) (st : State) → StandsFor g' st → HasSameObjects (state_of g.state) st → st ≡ state_of g'.state
+stands_bare g g' st h same = λ i. record {
+  history = h.history i;
+  leases = sym h.leases i;
+  doubt = h.doubt i;
+  shelf = same.shelf i;
+  loose = same.loose i;
+  moment = sym h.moment i;
+  epoch = sym h.epoch i;
+  next = sym h.next i;
+}
+
+-- the state is that of the gate, over its own shelf
+stands_over : (g : GateView) (st : State) → StandsFor g st → st ≡ over st.shelf st.loose g.state
+stands_over g st h = λ i. record {
+  history = h.history i;
+  leases = sym h.leases i;
+  doubt = h.doubt i;
+  shelf = st.shelf;
+  loose = st.loose;
+  moment = sym h.moment i;
+  epoch = sym h.epoch i;
+  next = sym h.next i;
+}
+
+-- a gate whose journal grew by an entry that is a step over any shelf
+stepped : (o : Op) (seat now : ℕ) (before after : GateView) (aged : StateView) (r : Reply) (e : Entry) → Begins o now before aged → e.seat ≡ seat → e.now ≡ now → e.reply ≡ r → Records e o → after.journal ≡ before.journal ++ e ∷ []
+    → ((shelf : Shelf) (loose : ObjectId → Bool) → Acts (over shelf loose (aged_view before.state e.now)) o e (over shelf loose after.state)) → Steps o seat now before after r
+stepped o seat now before after aged r e b is_seat is_now is_reply recorded grown acts =
+    made b.room e is_seat is_now is_reply recorded grown (λ st stands. (
+      over st.shelf st.loose after.state,
+      subst (λ (s : State). Step s o e (over st.shelf st.loose after.state)) (sym (stands_over before st stands)) (record {
+        noted = record { op = b.op; now = subst (λ n. n < 2 ^ 62) (sym is_now) b.now_; records = recorded };
+        next = b.next;
+        does = inr (record { settled = over st.shelf st.loose before.state; settles = certain refl refl; acts = acts st.shelf st.loose });
+      }),
+      record { history = refl; doubt = refl; leases = refl; moment = refl; epoch = refl; next = refl },
+      record { shelf = refl; loose = refl },
+    ))
+
+abbrev noted_by : ℕ → ℕ → List ℕ → Act → Reply → Entry
+noted_by seat now key a r = record { seat = seat; now = now; key = key; act = a; reply = r }
+
 pub after_lease : (o : Op) (seat now : ℕ) (before after : GateView) (aged asked : StateView) (key : List ℕ) (path : Path) (out : Outcome) (r : Reply) → Begins o now before aged → o ≡ op.Lease key path
-    → AsksLease key path aged out asked → after.state ≡ asked → after.journal ≡ before.journal ++ record { seat = seat; now = now; key = key; act = act.Lease path; reply = reply_of out } ∷ [] → r ≡ reply_of out
+    → AsksLease key path aged out asked → after.state ≡ asked → after.journal ≡ before.journal ++ noted_by seat now key (act.Lease path) (reply_of out) ∷ [] → r ≡ reply_of out
     → Steps o seat now before after r
 after_lease o seat now before after aged asked key path out r b is asks same grown replied =
-    let id : is_key_id key ≡ true = subst IsOp is b.op in
+    let e : Entry = noted_by seat now key (act.Lease path) (reply_of out) in
     let done : AsksLease key path (aged_view before.state now) out after.state =
     subst (λ (s : StateView). AsksLease key path (aged_view before.state now) out s) (sym same) (subst (λ (s : StateView). AsksLease key path s out asked) b.aged_ asks) in
-    stepped o seat now before after r _ b.room refl refl (sym replied) grown
-    (subst (λ (x : Op). Step (state_of before.state) x (record { seat = seat; now = now; key = key; act = act.Lease path; reply = reply_of out }) (state_of after.state)) (sym is)
-    (lease_step before.state after.state seat now key path out id b.now_ b.next done))
+    stepped o seat now before after aged r e b refl refl (sym replied) (subst (Records e) (sym is) (refl, refl)) grown
+    (λ shelf loose. subst (λ (x : Op). Acts (over shelf loose (aged_view before.state now)) x e (over shelf loose after.state)) (sym is)
+    (lease_acts shelf loose (aged_view before.state now) after.state key path out done))
 
 pub after_cancel : (o : Op) (seat now : ℕ) (before after : GateView) (aged ended : StateView) (key : List ℕ) (token : Token) (out : Outcome) (r : Reply) → Begins o now before aged → o ≡ op.Cancel key token
-    → AsksEnd key token aged out ended → after.state ≡ ended → after.journal ≡ before.journal ++ record { seat = seat; now = now; key = key; act = act.Cancel token; reply = reply_of out } ∷ [] → r ≡ reply_of out
+    → AsksEnd key token aged out ended → after.state ≡ ended → after.journal ≡ before.journal ++ noted_by seat now key (act.Cancel token) (reply_of out) ∷ [] → r ≡ reply_of out
     → Steps o seat now before after r
 after_cancel o seat now before after aged ended key token out r b is asks same grown replied =
-    let id : is_key_id key ≡ true = subst IsOp is b.op in
+    let e : Entry = noted_by seat now key (act.Cancel token) (reply_of out) in
     let done : AsksEnd key token (aged_view before.state now) out after.state =
     subst (λ (s : StateView). AsksEnd key token (aged_view before.state now) out s) (sym same) (subst (λ (s : StateView). AsksEnd key token s out ended) b.aged_ asks) in
-    stepped o seat now before after r _ b.room refl refl (sym replied) grown
-    (subst (λ (x : Op). Step (state_of before.state) x (record { seat = seat; now = now; key = key; act = act.Cancel token; reply = reply_of out }) (state_of after.state)) (sym is)
-    (cancel_step before.state after.state seat now key token out id b.now_ b.next done))
+    stepped o seat now before after aged r e b refl refl (sym replied) (subst (Records e) (sym is) (refl, refl)) grown
+    (λ shelf loose. subst (λ (x : Op). Acts (over shelf loose (aged_view before.state now)) x e (over shelf loose after.state)) (sym is)
+    (cancel_acts shelf loose (aged_view before.state now) after.state key token out done))
+
+-- objects and commits are answered so far that memory is lacking
+pub after_store : (o : Op) (seat now : ℕ) (before after : GateView) (aged : StateView) (key : List ℕ) (token : Token) (digest : List ℕ) (batch : List Object) (r : Reply) → Begins o now before aged
+    → o ≡ op.Store key token digest batch → after.state ≡ aged
+    → after.journal ≡ before.journal ++ noted_by seat now key (act.Store token digest []) reply.NoMemory ∷ [] → r ≡ reply.NoMemory
+    → Steps o seat now before after r
+after_store o seat now before after aged key token digest batch r b is same grown replied =
+    let e : Entry = noted_by seat now key (act.Store token digest []) reply.NoMemory in
+    stepped o seat now before after aged r e b refl refl (sym replied) (subst (Records e) (sym is) (refl, ([], refl))) grown
+    (λ shelf loose. subst (λ (x : Op). Acts (over shelf loose (aged_view before.state now)) x e (over shelf loose after.state)) (sym is)
+    ([], refl, inl (refl, ap (over shelf loose) (same ∙ b.aged_), refl)))
+
+pub after_commit : (o : Op) (seat now : ℕ) (before after : GateView) (aged : StateView) (key : List ℕ) (token : Token) (old_root new_root tag : List ℕ) (r : Reply) → Begins o now before aged
+    → o ≡ op.Commit key token old_root new_root tag → after.state ≡ aged
+    → after.journal ≡ before.journal ++ noted_by seat now key (act.Commit token old_root new_root tag) reply.NoMemory ∷ [] → r ≡ reply.NoMemory
+    → Steps o seat now before after r
+after_commit o seat now before after aged key token old_root new_root tag r b is same grown replied =
+    let e : Entry = noted_by seat now key (act.Commit token old_root new_root tag) reply.NoMemory in
+    stepped o seat now before after aged r e b refl refl (sym replied) (subst (Records e) (sym is) (refl, refl)) grown
+    (λ shelf loose. subst (λ (x : Op). Acts (over shelf loose (aged_view before.state now)) x e (over shelf loose after.state)) (sym is)
+    (inl (refl, ap (over shelf loose) (same ∙ b.aged_))))
 
 -- what comes of asking without a disk is answered without one
 pub plain_reply : (o : Outcome) → is_plain (reply_of o) ≡ true

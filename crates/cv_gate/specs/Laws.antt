@@ -1,8 +1,9 @@
 -- What holds of all runs.
-use Rattle.std.specs.Prelude.{◌≡◌, ℕ, ◌+◌, Bool, true, false, List, [], ◌∷◌, length, Option, None, Some}
+use Rattle.std.specs.Prelude.{◌≡◌, ℕ, ◌+◌, Bool, true, false, List, [], ◌∷◌, ◌++◌, length, Option, None, Some}
 use Rattle.std.specs.List.{filter_map}
 use Rattle.cv_base.specs.declared.token.Token.{Token}
-use Rattle.cv_gate.specs.State.{State, Revision}
+use Rattle.cv_gate.specs.State.{State, Settled}
+use Rattle.cv_swap.specs.Kept.{Revision}
 use Rattle.cv_gate.specs.declared.entry.Entry.{Entry}
 use Rattle.cv_gate.specs.declared.act.Act.TheVariants as act
 use Rattle.cv_gate.specs.declared.reply.Reply.{Reply}
@@ -30,6 +31,15 @@ pub data Makes : List Entry → List Revision → Type 0 where
       → IsAsked e new → Makes entries news → Makes (e ∷ entries) (new ∷ news)
   skips : {e : Entry} {entries : List Entry} {news : List Revision} → is_committed e.reply ≡ false → Makes entries news → Makes (e ∷ entries) news
 
+-- over a run, however its end is settled, the history grows from a settlement of its start by the revisions that its entries
+-- made
+pub record GrowsBy (st : State) (entries : List Entry) (end : State) : Type 0 where
+  pub start : State
+  pub settles : Settled st start
+  pub news : List Revision
+  pub history : end.history ≡ start.history ++ news
+  pub makes : Makes entries news
+
 -- ---- tokens
 
 abbrev pub token_given : Reply → Option Token
@@ -40,7 +50,7 @@ token_given other = None
 abbrev pub tokens_given : List Entry → List Token
 tokens_given entries = filter_map (λ e. token_given e.reply) entries
 
--- the tokens of an epoch with the numbers from one on, so many
+-- the tokens of an epoch with the numbers from one on, as many as there are in the list
 abbrev pub tokens_from : ℕ → ℕ → List Token → List Token
 tokens_from epoch next [] = []
 tokens_from epoch next (t ∷ ts) = record { epoch = epoch; number = next } ∷ tokens_from epoch (next + 1) ts

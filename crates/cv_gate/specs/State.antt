@@ -1,17 +1,10 @@
 -- The state of a gate, and how it ages and settles.
-use Rattle.std.specs.Prelude.{◌≡◌, ◌⊎◌, ℕ, max, Bool, List, [], ◌∷◌, ◌++◌, Option, None, MatchOption}
-use Rattle.std.specs.List.{last_or}
+use Rattle.std.specs.Prelude.{◌≡◌, ℕ, max, Bool, List, [], ◌∷◌, ◌++◌, Option, None, Some}
 use Rattle.cv_ports.specs.Shelf.{Shelf}
 use Rattle.cv_base.specs.declared.id.ObjectId.{ObjectId}
-use Rattle.cv_tree.specs.Tree.{Nodes}
 use Rattle.cv_leases.specs.Leases.{without, unexpired}
 use Rattle.cv_leases.specs.declared.lease.Lease.{Lease}
-use Rattle.cv_history.specs.declared.record.Record.{Record}
-
--- a record of the history, with the tree that its root means
-pub record Revision : Type 0 where
-  pub record_ : Record
-  pub tree : Nodes
+use Rattle.cv_swap.specs.Kept.{Revision}
 
 pub record State : Type 0 where
   -- the revisions, from the first on
@@ -31,9 +24,6 @@ pub record State : Type 0 where
   -- the number of the next lease
   pub next : ℕ
 
-abbrev pub newest : List Revision → Option Revision
-newest history = last_or None history
-
 -- the moment has come to `now`, and leases whose deadline has come are gone
 abbrev pub aged : State → ℕ → State
 aged st now = record st { leases = unexpired (max st.moment now) st.leases; moment = max st.moment now }
@@ -43,6 +33,7 @@ abbrev pub with_revision : State → Revision → State
 with_revision st new = record st { history = st.history ++ new ∷ []; leases = without new.record_.token st.leases }
 
 -- without a doubt the state itself is settled; with one, the state in which the commit wasn't made, or in which it was
-abbrev pub Settled : State → State → Type 0
-Settled st settled = MatchOption st.doubt (settled ≡ st) (λ new.
-    (settled ≡ record st { doubt = None }) ⊎ (settled ≡ with_revision (record st { doubt = None }) new))
+pub data Settled (st settled : State) : Type 0 where
+  certain : st.doubt ≡ None → settled ≡ st → Settled st settled
+  unmade : (new : Revision) → st.doubt ≡ Some new → settled ≡ record st { doubt = None } → Settled st settled
+  published : (new : Revision) → st.doubt ≡ Some new → settled ≡ with_revision (record st { doubt = None }) new → Settled st settled

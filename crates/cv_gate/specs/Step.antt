@@ -1,8 +1,10 @@
 -- One step of the gate, as an entry of its journal records it.
 use Rattle.std.specs.Prelude.{◌≡◌, ◌≢◌, ◌⊎◌, ℕ, ◌+◌, ◌-◌, ◌<◌, ◌≤◌, ◌^◌, Bool, true, false, ◌&&◌, nat_le, bytes_eq, List, [], ◌∷◌, ◌++◌, length, None, Some, IsSome}
 use Rattle.std.specs.List.{list_all, AllByRecursion}
+use Rattle.std.specs.Str.{is_utf8}
 use Rattle.sha1.specs.Sha1.{sha1}
-use Rattle.cv_base.specs.Path.{Path}
+use Rattle.cv_base.specs.Digest.{IsDigest}
+use Rattle.cv_base.specs.Path.{Path, IsPath}
 use Rattle.cv_base.specs.Marker.{marker, ends_in}
 use Rattle.cv_base.specs.ObjectId.{object_id}
 use Rattle.cv_base.specs.declared.id.ObjectId.{ObjectId}
@@ -14,11 +16,15 @@ use Rattle.cv_tree.specs.Changes.{has_place}
 use Rattle.cv_cut.specs.Catalogues.{SharesKey, IsFull}
 use Rattle.cv_cut.specs.Means.{Means}
 use Rattle.cv_cut.specs.Reached.{Lacking, Bad}
-use Rattle.cv_leases.specs.Leases.{busy, lease_of, without}
+use Rattle.cv_leases.specs.Leases.{lease_limit, busy, lease_of, without}
 use Rattle.cv_leases.specs.declared.lease.Lease.{Lease}
-use Rattle.cv_gate.specs.State.{State, Revision, newest, aged, with_revision, Settled}
-use Rattle.cv_gate.specs.Objects.{Clashes, GainsSome, GainsAll, fresh_of}
-use Rattle.cv_gate.specs.Commits.{is_base, tagged, committed, made}
+use Rattle.cv_objects.specs.Fresh.{fresh_of}
+use Rattle.cv_objects.specs.Coming.{ClashesOn}
+use Rattle.cv_swap.specs.Kept.{Revision, newest, revision_limit}
+use Rattle.cv_gate.specs.State.{State, aged, with_revision, Settled}
+use Rattle.cv_gate.specs.Objects.{GainsSome, GainsAll}
+use Rattle.cv_gate.specs.Commits.{is_base, IsTaken, committed, made}
+use Rattle.cv_gate.specs.Passing.{granted, IsFree, Passes}
 use Rattle.cv_gate.specs.declared.op.Op.{Op}
 use Rattle.cv_gate.specs.declared.op.Op.TheVariants as op
 use Rattle.cv_gate.specs.declared.act.Act.{Act}
@@ -51,29 +57,21 @@ MayLackMemory st r st' rest = ((r ≡ reply.NoMemory) × (st' ≡ st)) ⊎ rest
 
 -- ---- a lease is asked
 
--- the seconds for which a lease is granted
-abbrev pub lease_time : ℕ
-lease_time = 7200
-
-abbrev pub granted : State → List ℕ → Path → Revision → Lease
-granted st key p head = record {
-  token = record { epoch = st.epoch; number = st.next };
-  key = key;
-  path = p;
-  deadline = st.moment + lease_time;
-  from_revision = head.record_.revision;
-}
+-- nothing stands against it: the lease is added last
+pub data Grants (st : State) (key : List ℕ) (p : Path) (r : Reply) (st' : State) : Type 0 where
+  adds : (head : Revision) → IsFree st p head
+      → r ≡ reply.Granted (record { epoch = st.epoch; number = st.next }) head.record_.revision head.record_.root
+      → st' ≡ record st { leases = st.leases ++ granted st key p head ∷ []; next = st.next + 1 } → Grants st key p r st'
 
 abbrev pub LeaseStep : State → List ℕ → Path → Reply → State → Type 0
 LeaseStep st key p r st' =
     RefusesIf st r st' (ends_in marker p ≡ true) reply.BadPath (
     Refuses st r st' (λ (lease : Lease). busy st.leases p ≡ Some lease) (λ lease. reply.PathBusy lease.token (lease.deadline - st.moment)) (
-    RefusesIf st r st' (4096 ≤ length st.leases) reply.TooManyLeases (
+    RefusesIf st r st' (lease_limit ≤ length st.leases) reply.TooManyLeases (
     MayFail st r st' (
     (head : Revision) × (newest st.history ≡ Some head) × (
     RefusesIf st r st' (has_place head.tree p ≡ false) reply.NoParent (
-    (r ≡ reply.Granted (record { epoch = st.epoch; number = st.next }) head.record_.revision head.record_.root)
-    × (st' ≡ record st { leases = st.leases ++ granted st key p head ∷ []; next = st.next + 1 })))))))
+    Grants st key p r st'))))))
 
 -- ---- something is asked of a lease
 
@@ -89,28 +87,30 @@ OnLease st key token r st' does =
 abbrev pub Stores : State → List Object → Reply → State → Type 0
 Stores st batch r st' =
     (IsFault r × GainsSome batch st st') ⊎ (
-    Refuses st r st' (Clashes st.shelf batch) reply.Collision (
+    Refuses st r st' (ClashesOn st.shelf batch) reply.Collision (
     (r ≡ reply.Stored) × GainsAll batch st st'))
 
 abbrev pub StoreStep : State → List ℕ → Token → List Object → Reply → State → Type 0
 StoreStep st key token batch r st' = OnLease st key token r st' (λ lease. Stores st batch r st')
 
--- the ids that the entry has as fresh: those that the shelf lacked, and none where a refusal came before they were known
-abbrev pub FreshIs : State → List Object → Reply → List ObjectId → Type 0
-FreshIs st batch r fresh =
-    ((fresh ≡ fresh_of batch st.shelf) × ((r ≡ reply.Stored) ⊎ IsFault r)) ⊎ ((fresh ≡ []) × (r ≢ reply.Stored))
+-- the ids that the entry has as fresh: those that the shelf lacked, or none where a refusal or a fault came before they were
+-- known, and nothing changed
+abbrev pub FreshIs : State → List Object → Reply → State → List ObjectId → Type 0
+FreshIs st batch r st' fresh =
+    ((fresh ≡ fresh_of batch st.shelf) × ((r ≡ reply.Stored) ⊎ IsFault r)) ⊎ ((fresh ≡ []) × (r ≢ reply.Stored) × (st' ≡ st))
 
 -- ---- a commit is asked
 
--- the end of a commit that no check refused
-pub data Publishes (st : State) (new : Revision) (r : Reply) (st' : State) : Type 0 where
-  collides : (id : ObjectId) → Clashes st.shelf (made new) id → r ≡ reply.Collision id → GainsSome (made new) st st' → Publishes st new r st'
-  fails : IsFault r → GainsSome (made new) st st' → Publishes st new r st'
-  commits : ((id : ObjectId) → Clashes st.shelf (made new) id → ⊥) → r ≡ reply.Committed new.record_.revision new.record_.root
-      → (stored : State) → GainsAll (made new) st stored → st' ≡ with_revision stored new → Publishes st new r st'
+-- the end of a commit whose tree fits: its objects clash, or a fault came, with some of them there; or nothing refuses it
+pub data Publishes (st : State) (key : List ℕ) (token : Token) (old_root new_root tag : List ℕ) (new : Revision) (r : Reply) (st' : State) : Type 0 where
+  collides : (id : ObjectId) → ClashesOn st.shelf (made new) id → r ≡ reply.Collision id → GainsSome (made new) st st'
+      → Publishes st key token old_root new_root tag new r st'
+  fails : IsFault r → GainsSome (made new) st st' → Publishes st key token old_root new_root tag new r st'
+  commits : Passes st key token old_root new_root tag new → r ≡ reply.Committed new.record_.revision new.record_.root
+      → (stored : State) → GainsAll (made new) st stored → st' ≡ with_revision stored new → Publishes st key token old_root new_root tag new r st'
   -- the swap failed, so that the commit is in doubt
-  doubts : ((id : ObjectId) → Clashes st.shelf (made new) id → ⊥) → r ≡ reply.StoreFailed
-      → (stored : State) → GainsAll (made new) st stored → st' ≡ record stored { doubt = Some new } → Publishes st new r st'
+  doubts : Passes st key token old_root new_root tag new → r ≡ reply.StoreFailed
+      → (stored : State) → GainsAll (made new) st stored → st' ≡ record stored { doubt = Some new } → Publishes st key token old_root new_root tag new r st'
 
 -- the offered root means no tree, and the reply names what is lacking or bad
 pub record MeansNone (st : State) (root : List ℕ) (r : Reply) (st' : State) : Type 0 where
@@ -119,32 +119,31 @@ pub record MeansNone (st : State) (root : List ℕ) (r : Reply) (st' : State) : 
   pub why : ((r ≡ reply.MissingObject id) × Lacking st.shelf root id) ⊎ ((r ≡ reply.BadCatalogue id) × Bad st.shelf root id)
   pub same : st' ≡ st
 
--- a revision has the tag, which isn't empty
-abbrev pub IsTaken : State → List ℕ → Revision → Type 0
-IsTaken st tag r = (tag ≢ []) × (tagged tag st.history ≡ Some r)
-
-abbrev pub Commits : State → List ℕ → List ℕ → List ℕ → Reply → State → Lease → Type 0
-Commits st old_root new_root tag r st' lease =
-    RefusesIf st r st' (262144 ≤ length st.history) reply.RevisionsFull (
+abbrev pub Commits : State → List ℕ → Token → List ℕ → List ℕ → List ℕ → Reply → State → Lease → Type 0
+Commits st key token old_root new_root tag r st' lease =
+    (head : Revision) × (newest st.history ≡ Some head) × (
+    RefusesIf st r st' (revision_limit ≤ head.record_.revision) reply.RevisionsFull (
     RefusesIf st r st' (is_base st.history lease.from_revision old_root ≡ false) (reply.StaleBase lease.from_revision) (
-    Refuses st r st' (IsTaken st tag) (λ taken. reply.TagTaken taken.record_.revision) (
+    Refuses st r st' (IsTaken st.history tag) (λ taken. reply.TagTaken taken.record_.revision) (
     MayFail st r st' (
     MeansNone st new_root r st' ⊎ (
     (n : Nodes) × Means st.shelf new_root n × (
-    (head : Revision) × (newest st.history ≡ Some head) × (
-    let new : Revision = committed st head lease n new_root tag in
+    let new : Revision = committed st.moment head lease n new_root tag in
     Refuses st r st' (λ (pq : Path × Path). SharesKey new.tree pq.0 pq.1) (λ pq. reply.PathCollision pq.0 pq.1) (
     Refuses st r st' (IsFull new.tree) reply.CatalogueFull (
-    Publishes st new r st')))))))))
+    Publishes st key token old_root new_root tag new r st')))))))))
 
 abbrev pub CommitStep : State → List ℕ → Token → List ℕ → List ℕ → List ℕ → Reply → State → Type 0
-CommitStep st key token old_root new_root tag r st' = OnLease st key token r st' (Commits st old_root new_root tag r st')
+CommitStep st key token old_root new_root tag r st' = OnLease st key token r st' (Commits st key token old_root new_root tag r st')
 
 -- ---- the end of a lease is asked
 
+-- the lease ends
+pub data Cancels (st : State) (token : Token) (r : Reply) (st' : State) : Type 0 where
+  takes : r ≡ reply.Cancelled → st' ≡ record st { leases = without token st.leases } → Cancels st token r st'
+
 abbrev pub CancelStep : State → List ℕ → Token → Reply → State → Type 0
-CancelStep st key token r st' =
-    OnLease st key token r st' (λ lease. (r ≡ reply.Cancelled) × (st' ≡ record st { leases = without token st.leases }))
+CancelStep st key token r st' = OnLease st key token r st' (λ lease. Cancels st token r st')
 
 -- ---- the step
 
@@ -152,9 +151,9 @@ CancelStep st key token r st' =
 abbrev pub is_key_id : List ℕ → Bool
 is_key_id key = nat_le 1 (length key) && nat_le (length key) 255 && list_all (λ b. nat_le 33 b && nat_le b 126) key
 
--- at most 255 bytes, and no control bytes
+-- at most 255 bytes of UTF-8, and no control bytes
 abbrev pub is_tag : List ℕ → Bool
-is_tag tag = nat_le (length tag) 255 && list_all (λ b. nat_le 32 b) tag
+is_tag tag = is_utf8 tag && nat_le (length tag) 255 && list_all (λ b. nat_le 32 b) tag
 
 -- the object has the id of its bytes, and is no record of the history
 abbrev pub IsSent : Object → Type 0
@@ -167,6 +166,17 @@ IsOp (op.Store key token digest batch) = (is_key_id key ≡ true) × AllByRecurs
 IsOp (op.Commit key token old_root new_root tag) = (is_key_id key ≡ true) × (is_tag tag ≡ true)
 IsOp (op.Cancel key token) = is_key_id key ≡ true
 
+-- what the types of its fields say of every op: a path is one, and a digest has twenty bytes
+abbrev pub HasTypes : Op → Type 0
+HasTypes (op.Lease key path) = IsPath path
+HasTypes (op.Store key token digest batch) = IsDigest digest
+HasTypes (op.Commit key token old_root new_root tag) = IsDigest old_root × IsDigest new_root
+HasTypes (op.Cancel key token) = Unit {0}
+
+-- an op that a step may have: it may be asked, and its fields have their types
+abbrev pub IsValid : Op → Type 0
+IsValid o = IsOp o × HasTypes o
+
 -- the entry has the op's key, and its act is the op
 abbrev pub Records : Entry → Op → Type 0
 Records e (op.Lease key path) = (e.key ≡ key) × (e.act ≡ act.Lease path)
@@ -174,12 +184,22 @@ Records e (op.Store key token digest batch) = (e.key ≡ key) × ((fresh : List 
 Records e (op.Commit key token old_root new_root tag) = (e.key ≡ key) × (e.act ≡ act.Commit token old_root new_root tag)
 Records e (op.Cancel key token) = (e.key ≡ key) × (e.act ≡ act.Cancel token)
 
+-- the entry notes an op that may be asked, at a moment that may be
+pub record IsNoted (o : Op) (e : Entry) : Type 0 where
+  pub op : IsValid o
+  pub now : e.now < 2 ^ 62
+  pub records : Records e o
+
+-- memory was wanted before the ids were known, or they are noted
+abbrev pub SendStep : State → List ℕ → Token → List Object → List ObjectId → Reply → State → Type 0
+SendStep st key token batch fresh r st' =
+    ((r ≡ reply.NoMemory) × (st' ≡ st) × (fresh ≡ [])) ⊎ (FreshIs st batch r st' fresh × StoreStep st key token batch r st')
+
 -- what an op does in a settled, aged state
 abbrev pub Acts : State → Op → Entry → State → Type 0
 Acts st (op.Lease key path) e st' = MayLackMemory st e.reply st' (LeaseStep st key path e.reply st')
 Acts st (op.Store key token digest batch) e st' =
-    (fresh : List ObjectId) × (e.act ≡ act.Store token digest fresh) × FreshIs st batch e.reply fresh
-    × MayLackMemory st e.reply st' (StoreStep st key token batch e.reply st')
+    (fresh : List ObjectId) × (e.act ≡ act.Store token digest fresh) × SendStep st key token batch fresh e.reply st'
 Acts st (op.Commit key token old_root new_root tag) e st' = MayLackMemory st e.reply st' (CommitStep st key token old_root new_root tag e.reply st')
 Acts st (op.Cancel key token) e st' = CancelStep st key token e.reply st'
 
@@ -201,11 +221,14 @@ pub record Goes (st : State) (o : Op) (e : Entry) (st' : State) : Type 0 where
   pub settles : Settled st settled
   pub acts : Acts (aged settled e.now) o e st'
 
+-- the number that no lease is given: the last below 2 to the 64th
+abbrev pub last_number : ℕ
+last_number = 18446744073709551615
+
 pub record Step (st : State) (o : Op) (e : Entry) (st' : State) : Type 0 where
-  pub op : IsOp o
-  pub now : e.now < 2 ^ 62
-  pub next : st.next < 18446744073709551615
-  pub records : Records e o
+  pub noted : IsNoted o e
+  pub open noted use *
+  pub next : st.next < last_number
   pub does : Waits st e st' ⊎ Goes st o e st'
 
 -- the entries are steps one after another

@@ -1,13 +1,14 @@
 //! The state of the gate.
 ghost use Rattle.std.specs.Prelude.{◌≡◌, ◌<◌, ◌^◌, ◌++◌, ◌∷◌, [], max, IfOk, OnOk};
+ghost use Rattle.cv_base.specs.Path.{IsPath};
 ghost use Rattle.cv_leases.specs.Leases.{unexpired};
 ghost use Rattle.cv_gate.specs.Lines.{lines_of};
-ghost use Rattle.cv_gate.specs.Gate.{AsksLease, AsksEnd, refusal_of, new_lease};
+ghost use Rattle.cv_gate.specs.GateState.{AsksLease, AsksEnd, refusal_of, new_lease};
 
 use crate::lease_line::LeaseLine;
 use crate::outcome::Outcome;
 use cv_base::{NoMemory, RepoPath, Text, Token, ends_in_marker};
-use cv_leases::{LEASE_LIMIT, Lease, LeaseTable};
+use cv_leases::{LEASE_LIMIT, Lease, LeaseFault, LeaseTable};
 use std::alloc::Global;
 use std::marker::Model;
 
@@ -62,8 +63,10 @@ impl GateState {
 
     /// Why a lease on the path isn't granted now, if it isn't.
     fn refusal(&self, path: &RepoPath) -> Option<Outcome>
-        ensures { result ≡ refusal_of self.now path.now }
+        ensures answer { result ≡ refusal_of self.now path.now }
+        ensures path { IsPath path.now }
     {
+        let depth = path.names().len();
         if ends_in_marker(path) {
             return Some(Outcome::BadPath);
         }
@@ -76,7 +79,7 @@ impl GateState {
         if self.leases.count() >= LEASE_LIMIT {
             return Some(Outcome::TooManyLeases);
         }
-        if path.names().len() > 1 {
+        if depth > 1 {
             return Some(Outcome::NoParent);
         }
         None
@@ -85,7 +88,8 @@ impl GateState {
     /// Grants a lease on the path, or says why not.
     pub(crate) fn lease(&mut self, alloc: Global, key: &Text, path: &RepoPath) -> Outcome
         requires { self.old.next < 18446744073709551615 }
-        ensures { AsksLease key.now path.now self.old result self.new }
+        ensures answer { AsksLease key.now path.now self.old result self.new }
+        ensures path { IsPath path.now }
     {
         if let Some(outcome) = self.refusal(path) {
             return outcome;
@@ -103,7 +107,8 @@ impl GateState {
                     root: self.root,
                 }
             }
-            Err(_) => Outcome::NoMemory,
+            Err(LeaseFault::NoMemory) => Outcome::NoMemory,
+            Err(_) => unreachable!(),
         }
     }
 

@@ -29,7 +29,7 @@ pub(crate) enum Outcome {
 }
 
 impl Outcome {
-    ghost use Rattle.cv_gate.specs.Gate.{reply_of};
+    ghost use Rattle.cv_gate.specs.GateState.{reply_of};
 
     /// How it is answered.
     pub(crate) fn reply(self) -> Reply

@@ -2,7 +2,6 @@
 
 ghost use Rattle.std.specs.Prelude.{◌≡◌, true, IfOk};
 ghost use Rattle.cv_gate.specs.Step.{IsOp, is_key_id};
-ghost use Rattle.cv_gate.specs.Gate.{IsServed};
 
 use crate::{Gate, Op, Reply};
 use cv_base::{RepoPath, Text, Token};
@@ -19,7 +18,7 @@ fn token(number: u64) -> Token {
 
 /// The op of asking a lease of `k1` on the path of this text.
 fn lease(alloc: Global, text: &str) -> Result<Op, Fail>
-    ensures { IfOk result (λ o. IsOp o × IsServed o) }
+    ensures { IfOk result (λ o. IsOp o) }
 {
     Ok(Op::Lease {
         key: Text::from_str(alloc, "k1")?,
@@ -30,7 +29,7 @@ fn lease(alloc: Global, text: &str) -> Result<Op, Fail>
 /// The op of asking under a key that the lease of this number end.
 fn cancel(alloc: Global, key: &str, number: u64) -> Result<Op, Fail>
     requires { is_key_id key.now ≡ true }
-    ensures { IfOk result (λ o. IsOp o × IsServed o) }
+    ensures { IfOk result (λ o. IsOp o) }
 {
     Ok(Op::Cancel {
         key: Text::from_str(alloc, key)?,
@@ -73,13 +72,13 @@ static ASKED: [Asking; 4] = [
 fn answers(alloc: Global, gate: &mut Gate, asking: &Asking) -> Result<bool, Fail> {
     let (seat, seconds, path, said) = asking;
     let now = START + u64::from(*seconds);
-    let reply = gate.step(alloc, *seat, now, lease(alloc, path)?);
+    let reply = gate.step(*seat, now, lease(alloc, path)?);
     Ok(is_said(&reply, said))
 }
 
 /// Whether so many leases are live at so many seconds since the start.
-fn has_live(alloc: Global, gate: &Gate, seconds: u32, count: usize) -> Result<bool, Fail> {
-    Ok(gate.live(alloc, START + u64::from(seconds))?.len() == count)
+fn has_live(gate: &Gate, seconds: u32, count: usize) -> Result<bool, Fail> {
+    Ok(gate.live(START + u64::from(seconds))?.len() == count)
 }
 
 #[test]
@@ -88,8 +87,8 @@ fn a_lease_excludes_what_it_overlaps_until_its_deadline(rt: HostRuntime) -> Resu
     for asking in &ASKED {
         assert!(rt; answers(rt.alloc(), &mut gate, asking)?);
     }
-    assert!(rt; has_live(rt.alloc(), &gate, 7199, 2)?);
-    assert!(rt; has_live(rt.alloc(), &gate, 7200, 1)?);
+    assert!(rt; has_live(&gate, 7199, 2)?);
+    assert!(rt; has_live(&gate, 7200, 1)?);
     let later = (0, 7200, "/a", Said::Granted(3));
     assert!(rt; answers(rt.alloc(), &mut gate, &later)?);
     assert!(rt; gate.journal().len() == 5);
@@ -100,7 +99,7 @@ fn a_lease_excludes_what_it_overlaps_until_its_deadline(rt: HostRuntime) -> Resu
 fn cancelled(alloc: Global, gate: &mut Gate, key: &str) -> Result<Reply, Fail>
     requires { is_key_id key.now ≡ true }
 {
-    Ok(gate.step(alloc, 0, START, cancel(alloc, key, 1)?))
+    Ok(gate.step(0, START, cancel(alloc, key, 1)?))
 }
 
 #[test]
@@ -116,7 +115,7 @@ fn a_lease_is_ended_by_its_key_alone(rt: HostRuntime) -> Result<(), Fail> {
 /// What the first asking of a lease on a path is answered.
 fn asked(alloc: Global, text: &str) -> Result<Reply, Fail> {
     let mut gate = Gate::plain(alloc, 1, [0; 20])?;
-    Ok(gate.step(alloc, 0, START, lease(alloc, text)?))
+    Ok(gate.step(0, START, lease(alloc, text)?))
 }
 
 #[test]

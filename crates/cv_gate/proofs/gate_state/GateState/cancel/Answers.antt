@@ -1,5 +1,5 @@
 use Rattle.std.proofs.Common.{rules}
-use Rattle.cv_gate.specs.Gate.{foreign, ends}
+use Rattle.cv_gate.specs.GateState.{foreign, ends}
 use Rattle.cv_gate.proofs.States.{state_ended}
 use Rattle.cv_gate.proofs.gate_state.GateState.cancel.Goals as goal
 
