@@ -2,3 +2,9 @@ mod Asking
 mod OneAsking
 mod Slashes
 mod Targeting
+mod Payloads
+mod Mades
+mod TurnsDone
+mod Readings
+mod Sessioning
+mod OneAsked

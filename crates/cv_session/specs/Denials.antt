@@ -2,7 +2,6 @@
 use Rattle.std.specs.Prelude.{◌≡◌, true, Result, Ok, Err}
 use Rattle.cv_answers.specs.Refusal.{is_refusal}
 use Rattle.cv_answers.specs.declared.reason.Reason.TheVariants as reason
-use Rattle.cv_gate.specs.Gate.{IsServed}
 use Rattle.cv_gate.specs.Step.{IsOp}
 use Rattle.cv_gate.specs.declared.op.Op.{Op}
 use Rattle.cv_session.specs.Turns.{denied}
@@ -23,5 +22,5 @@ Denies turn NoMemory = Unit {0}
 
 -- the turn is this step, which the gate takes, or is denied
 abbrev pub Asks : Turn → Result Op Denial → Type 0
-Asks turn (Ok o) = (turn ≡ Step o) × IsOp o × IsServed o
+Asks turn (Ok o) = (turn ≡ Step o) × IsOp o
 Asks turn (Err denial) = Denies turn denial

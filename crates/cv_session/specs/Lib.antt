@@ -2,3 +2,11 @@ pub mod Answers
 pub mod Denials
 pub mod Targets
 pub mod Turns
+pub mod Payloads
+pub mod Standing
+pub mod Responses
+pub mod Requests
+pub mod Exchanges
+pub mod Asking
+pub mod OneAsked
+pub mod Sessions

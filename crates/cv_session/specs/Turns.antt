@@ -20,7 +20,6 @@ use Rattle.cv_messages.specs.declared.message_fault.MessageFault.TheVariants as 
 use Rattle.cv_answers.specs.Refusal.{is_refusal}
 use Rattle.cv_answers.specs.declared.reason.Reason.{Reason}
 use Rattle.cv_answers.specs.declared.reason.Reason.TheVariants as reason
-use Rattle.cv_gate.specs.Gate.{IsServed}
 use Rattle.cv_gate.specs.Step.{IsOp}
 use Rattle.cv_gate.specs.declared.op.Op.TheVariants as op
 use Rattle.cv_http.specs.declared.head.RequestHead.{RequestHead}
@@ -125,6 +124,6 @@ pub data Wants (repository : List ℕ) (keys : List Key) (head : RequestHead) (b
 
 -- the gate takes the op of a step, and a refusal can be written
 abbrev pub IsGood : Turn → Type 0
-IsGood (Step o) = IsOp o × IsServed o
+IsGood (Step o) = IsOp o
 IsGood (Deny refusal) = is_refusal refusal ≡ true
 IsGood other = Unit {0}

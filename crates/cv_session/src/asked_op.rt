@@ -1,6 +1,7 @@
 //! The steps of the gate that requests ask for.
 ghost use Rattle.std.specs.Prelude.{◌≡◌, ◌==◌, ℕ, List, true, false, length, drop, bytes_eq, option_map, IfOk, MatchOption, MatchResult};
 ghost use Rattle.std.specs.List.{before_first};
+ghost use Rattle.cv_base.specs.Path.{IsPath};
 ghost use Rattle.cv_gate.specs.Step.{is_key_id};
 ghost use Rattle.cv_gate.specs.declared.op.Op.TheVariants as op;
 ghost use Rattle.cv_messages.specs.Spelling.{token_of};
@@ -54,7 +55,7 @@ pub(crate) fn asked_end(
 }
 
 /// The id of the key that signed the message by this header.
-fn read_signer(
+pub(crate) fn read_signer(
     alloc: Global,
     keys: &KeyTable,
     header: Option<&str>,
@@ -71,9 +72,10 @@ fn read_signer(
 
 /// The path of a lease on what a text says: the repository's name, and behind it nothing or the text of a path.
 fn read_leased(alloc: Global, repository: &Name, text: &str) -> Result<RepoPath, Denial>
-    ensures { (key : List ℕ) →
+    ensures turn { (key : List ℕ) →
         let turn = lease_on repository.now text.now key in
         MatchResult result (λ path. turn ≡ Step (op.Lease key path)) (Denies turn) }
+    ensures path { IfOk result (λ path. IsPath path) }
 {
     let Some(path) = strip_name(repository, text) else {
         return Err(Denial::new(Reason::UnknownRepository));
@@ -99,7 +101,7 @@ fn strip_name<'a>(repository: &Name, text: &'a str) -> Option<&'a str>
 }
 
 /// The token of a text, or the one that no lease has.
-fn read_token(text: &str) -> Token
+pub(crate) fn read_token(text: &str) -> Token
     ensures { result ≡ token_by (token_of text.now) }
 {
     match Token::read(text) {

@@ -97,7 +97,7 @@ fn delete_turn(alloc: Global, keys: &KeyTable, head: &RequestHead) -> Result<Tur
 }
 
 /// The value of the Authorization header.
-fn authorization(head: &RequestHead) -> Option<&str>
+pub(crate) fn authorization(head: &RequestHead) -> Option<&str>
     ensures { option_map (λ text. text.now) result ≡ head.now.authorization }
 {
     head.authorization.as_ref().map(|text| text.as_str())

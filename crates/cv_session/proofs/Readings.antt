@@ -1,0 +1,133 @@
+-- Reading a request.
+use Rattle.std.proofs.Common.{◌≡◌, ◌≢◌, ◌<◌, ◌≤◌, ◌++◌, ◌∷◌, ℕ, List, [], length, refl, ap, sym, subst, ◌∙◌, append-nil, append_assoc, length-append, arith, true, false, Ok, Err}
+use Rattle.std.specs.Prelude.{Option, Bool, Result, ◌&&◌, bytes_eq, IfOk}
+use Rattle.std.specs.declared.option.Option.TheVariants.{Some, None}
+use Rattle.cv_ports.specs.Streams.{onto, Wrote}
+use Rattle.cv_http.specs.Faults.{IsBodyFault, IsHeadFault}
+use Rattle.cv_http.specs.Heads.{Begins, Refused, IsCut}
+use Rattle.cv_http.specs.Wires.{WireView, Reads, HeadRead, BodyRead}
+use Rattle.cv_http.specs.declared.head.RequestHead.{RequestHead}
+use Rattle.cv_http.specs.declared.fault.HttpFault.{HttpFault}
+use Rattle.cv_http.specs.declared.fault.HttpFault.TheVariants.{BadHead, HeadTooLarge, BodyTooLarge, NoLength, Coding, Short, ReadFault, NoMemory}
+use Rattle.cv_http.proofs.Lemmas.{begins_on, reads_as, reads_then}
+use Rattle.cv_keys.specs.declared.key.Key.{Key}
+use Rattle.cv_session.specs.Payloads.{ReadsBody, Says, is_payload, payload_turn}
+use Rattle.cv_session.specs.Turns.{Wants, IsGood}
+use Rattle.cv_session.specs.declared.turn.Turn.{Turn}
+use Rattle.cv_session.specs.Requests.{Request, IsRequest, IsBad, head_refused, body_refused, EndsInside, inside_head, inside_body, Reached, before_head, behind_head, WantsAny, Asks, body_size, body_limit, waits, line_text}
+use Rattle.cv_session.specs.Requests.WantsAny.{payload as payload_wants, other as other_wants}
+use Rattle.cv_session.specs.Exchanges.{IsWhy, Gets, whole, ended, fault, unsaid, GetsBehind, behind, large, breaks, unsaid_behind}
+use Rattle.cv_session.specs.declared.request.Asked.{Asked}
+use Rattle.cv_session.specs.declared.request.Unread.{Unread}
+use Rattle.cv_session.specs.declared.request.Unread.TheVariants.{Fault, Unsaid}
+
+pub onto_nothing : (o : Option (List ℕ)) → o ≡ onto o []
+onto_nothing None = refl
+onto_nothing (Some t) = ap (λ l. Some l) (sym (append-nil t))
+
+inside_why : {b later : List ℕ} {head : RequestHead} → Begins b head later → (why : HttpFault) → IsBodyFault why → body_size head ≤ body_limit head → (why ≡ Short → length later < body_size head) → IsWhy b (waits head) why
+inside_why {later = later} {head = head} begins Short is limit short = inside_body head later begins limit (short refl)
+inside_why begins ReadFault is limit short = tt
+inside_why begins NoMemory is limit short = tt
+inside_why begins BadHead is limit short = absurd is
+inside_why begins HeadTooLarge is limit short = absurd is
+inside_why begins BodyTooLarge is limit short = absurd is
+inside_why begins NoLength is limit short = absurd is
+inside_why begins Coding is limit short = absurd is
+
+-- the first bytes were a head, and what was read then was read behind it
+module _ {repository : List ℕ} {keys : List Key} {b later : List ℕ} {head : RequestHead} (begins : Begins b head later) {held : List ℕ} {taken taken' : Option (List ℕ)} where
+  pub gets_asked : {asked : Asked} → GetsBehind repository keys head later held taken taken' (Ok asked) → Gets repository keys b held taken taken' (Ok (Some asked))
+  gets_asked (behind asked body limit split size asks last took) =
+      whole (record { head = head; body = body }) asked (record { begins = subst (λ (l : List ℕ). Begins b head l) split begins; size = size; limit = limit }) asks.0 last took
+
+  pub gets_unread : {why : Unread} → GetsBehind repository keys head later held taken taken' (Err why) → Gets repository keys b held taken taken' (Err why)
+  gets_unread (large is same) = fault BodyTooLarge false before_head (body_refused head later begins is, refl) (same ∙ onto_nothing taken)
+  gets_unread (breaks why limit is short took) = fault why (waits head) (behind_head head later begins limit) (inside_why begins why is limit short) took
+  gets_unread (unsaid_behind limit waits_is took) = unsaid (subst (Reached b) waits_is (behind_head head later begins limit)) took
+
+-- no head was read
+module _ {repository : List ℕ} {keys : List Key} {b held : List ℕ} {taken : Option (List ℕ)} where
+  pub head_fault : (why : HttpFault) → IsHeadFault why → HeadRead b held (Err why) → Gets repository keys b held taken taken (Err (Fault why))
+  head_fault Short is read = fault Short false before_head (inside_head read.0) (onto_nothing taken)
+  head_fault ReadFault is read = fault ReadFault false before_head tt (onto_nothing taken)
+  head_fault NoMemory is read = fault NoMemory false before_head tt (onto_nothing taken)
+  head_fault BadHead is read = fault BadHead false before_head (head_refused BadHead read.0, refl) (onto_nothing taken)
+  head_fault HeadTooLarge is read = fault HeadTooLarge false before_head (head_refused HeadTooLarge read.0, refl) (onto_nothing taken)
+  head_fault BodyTooLarge is read = absurd is
+  head_fault NoLength is read = fault NoLength false before_head (head_refused NoLength read.0, refl) (onto_nothing taken)
+  head_fault Coding is read = fault Coding false before_head (head_refused Coding read.0, refl) (onto_nothing taken)
+
+-- a fault says the same whatever was to be made
+same_fault : {A B : Type 0} (P : List ℕ → A → Type 0) (Q : List ℕ → B → Type 0) (b held : List ℕ) (size : ℕ) (why : HttpFault) → BodyRead size P b held (Err why) → BodyRead size Q b held (Err why)
+same_fault P Q b held size Short read = read
+same_fault P Q b held size BadHead read = tt
+same_fault P Q b held size HeadTooLarge read = tt
+same_fault P Q b held size BodyTooLarge read = tt
+same_fault P Q b held size NoLength read = tt
+same_fault P Q b held size Coding read = tt
+same_fault P Q b held size ReadFault read = tt
+same_fault P Q b held size NoMemory read = tt
+
+-- a body that is short says so
+short_body : {A : Type 0} (P : List ℕ → A → Type 0) (b held : List ℕ) (size : ℕ) (why : HttpFault) → BodyRead size P b held (Err why) → why ≡ Short → length b < size
+short_body P b held size Short read is = read
+short_body P b held size BadHead read is = cc
+short_body P b held size HeadTooLarge read is = cc
+short_body P b held size BodyTooLarge read is = cc
+short_body P b held size NoLength read is = cc
+short_body P b held size Coding read is = cc
+short_body P b held size ReadFault read is = cc
+short_body P b held size NoMemory read is = cc
+
+module _ {R : Type 0} (left : R → Option (List ℕ)) (repository : List ℕ) (keys : List Key) where
+  -- the turn of a body
+  pub turn_of_payload : (w w' : WireView R) (head : RequestHead) (r : Result Turn HttpFault) → is_payload head ≡ true
+      → ReadsBody left w w' (body_size head) (Says (payload_turn keys head.authorization head.message_size)) r → ReadsBody left w w' (body_size head) (Asks repository keys head) r
+  turn_of_payload w w' head (Ok turn) is read = reads_as left w w' _ _ read (λ b said. (
+    said.0,
+    said.1,
+    said.2,
+    (subst (WantsAny repository keys head said.0) (sym said.3.0) (payload_wants is), said.3.1),
+  ))
+  turn_of_payload w w' head (Err why) is read = reads_as left w w' _ _ read (λ b. same_fault (Says (payload_turn keys head.authorization head.message_size)) (Asks repository keys head) b w'.held (body_size head) why)
+
+  pub turn_of_other : (w w' : WireView R) (head : RequestHead) (body : List ℕ) (turn : Turn) → is_payload head ≡ false
+      → Reads left w w' (λ b. BodyRead (body_size head) (λ text made. made ≡ text) b w'.held (Ok body)) → Wants repository keys head body turn → IsGood turn
+      → ReadsBody left w w' (body_size head) (Asks repository keys head) (Ok turn)
+  turn_of_other w w' head body turn is read wants good = reads_as left w w' _ _ read (λ b said. (
+    said.0,
+    said.1,
+    said.2,
+    (other_wants turn is (subst (λ (x : List ℕ). Wants repository keys head x turn) said.3 wants), good),
+  ))
+
+  pub no_turn : {A B : Type 0} (P : List ℕ → A → Type 0) (Q : List ℕ → B → Type 0) (w w' : WireView R) (size : ℕ) (r : Result A HttpFault) → ReadsBody left w w' size P r → ReadsBody left w w' size Q (Err NoMemory)
+  no_turn P Q w w' size r read = reads_as left w w' _ _ read (λ b said. tt)
+
+  pub fault_of_body : {A B : Type 0} (P : List ℕ → A → Type 0) (Q : List ℕ → B → Type 0) (w w' : WireView R) (size : ℕ) (why : HttpFault) → ReadsBody left w w' size P (Err why) → ReadsBody left w w' size Q (Err why)
+  fault_of_body P Q w w' size why read = reads_as left w w' _ _ read (λ b. same_fault P Q b w'.held size why)
+
+  -- what was read behind a head
+  pub behind_whole : (w w' : WireView R) (taken taken' : Option (List ℕ)) (head : RequestHead) (turn : Turn) → body_size head ≤ body_limit head → ReadsBody left w w' (body_size head) (Asks repository keys head) (Ok turn)
+      → taken' ≡ onto taken (line_text (waits head)) → Reads left w w' (λ b. GetsBehind repository keys head b w'.held taken taken' (Ok (record { turn = turn; last = head.last })))
+  behind_whole w w' taken taken' head turn limit read took = reads_as left w w' _ _ read (λ b said. behind (record { turn = turn; last = head.last }) said.0 limit said.1 said.2 said.3 refl took)
+
+  pub behind_fault : (w w' : WireView R) (taken taken' : Option (List ℕ)) (head : RequestHead) (why : HttpFault) → body_size head ≤ body_limit head → IsBodyFault why → ReadsBody left w w' (body_size head) (Asks repository keys head) (Err why)
+      → taken' ≡ onto taken (line_text (waits head)) → Reads left w w' (λ b. GetsBehind repository keys head b w'.held taken taken' (Err (Fault why)))
+  behind_fault w w' taken taken' head why limit is read took = reads_as left w w' _ _ read (λ b said. breaks why limit is (short_body (Asks repository keys head) b w'.held (body_size head) why said) took)
+
+  -- a head was read, and then what follows it
+  pub read_whole : (w0 w w' : WireView R) (taken taken' : Option (List ℕ)) (head : RequestHead) (asked : Asked) → Reads left w0 w (λ b. HeadRead b w.held (Ok (Some head)))
+      → Reads left w w' (λ b. GetsBehind repository keys head b w'.held taken taken' (Ok asked)) → Reads left w0 w' (λ b. Gets repository keys b w'.held taken taken' (Ok (Some asked)))
+  read_whole w0 w w' taken taken' head asked first then_ = reads_then left w0 w w' _ _ _ first then_ (λ b more begins gets. gets_asked (begins_on more begins) gets)
+
+  pub read_unread : (w0 w w' : WireView R) (taken taken' : Option (List ℕ)) (head : RequestHead) (why : Unread) → Reads left w0 w (λ b. HeadRead b w.held (Ok (Some head)))
+      → Reads left w w' (λ b. GetsBehind repository keys head b w'.held taken taken' (Err why)) → Reads left w0 w' (λ b. Gets repository keys b w'.held taken taken' (Err why))
+  read_unread w0 w w' taken taken' head why first then_ = reads_then left w0 w w' _ _ _ first then_ (λ b more begins gets. gets_unread (begins_on more begins) gets)
+
+  pub read_fault : (w w' : WireView R) (taken : Option (List ℕ)) (why : HttpFault) → IsHeadFault why → Reads left w w' (λ b. HeadRead b w'.held (Err why)) → Reads left w w' (λ b. Gets repository keys b w'.held taken taken (Err (Fault why)))
+  read_fault w w' taken why is read = reads_as left w w' _ _ read (λ b said. head_fault why is said)
+
+  pub read_end : (w w' : WireView R) (taken : Option (List ℕ)) → Reads left w w' (λ b. HeadRead b w'.held (Ok None)) → Reads left w w' (λ b. Gets repository keys b w'.held taken taken (Ok None))
+  read_end w w' taken read = reads_as left w w' _ _ read (λ b said. ended said.0 said.1 refl)

@@ -1,0 +1,27 @@
+use Rattle.std.proofs.Common.{◌≡◌, ap, length, arith}
+use Rattle.cv_http.proofs.Lemmas.{by_fault}
+use Rattle.cv_session.specs.Payloads.{ReadsBody}
+use Rattle.cv_session.proofs.Payloads.{came_none, came_on, came_short}
+use Rattle.cv_session.proofs.payload.pass_over.Goals as goal
+
+pub pieces-init : goal.pieces-init
+pieces-init g c = record { came = came_none g.R.Source.left _ (λ body. Unit {0}) tt; below = omega arith; reads = omega arith }
+
+pub pieces-preserved : goal.pieces-preserved
+pieces-preserved g c =
+    let same : length c.as_slice.result.now ≡ length c.in_ok-piece.piece = ap length c.as_slice.ensures in
+    let most = c.in_ok-piece.ensures.most in
+    let below = c.pieces.invariant.below in
+    let was = c.pieces.invariant.reads in
+    let read = c.in_ok-piece.ensures.cause.later in
+    record {
+      came = rw c.as_slice.ensures
+          (came_on g.R.Source.left _ _ _ c.pieces.count c.in_ok-piece.piece (λ body. Unit {0}) (λ body. Unit {0}) c.pieces.invariant.came c.in_ok-piece.ensures.reads (λ body size so. tt));
+      below = omega (arith, same, most, below);
+      reads = omega (arith, was, read);
+    }
+
+pub returns-in_err-piece-clause-reads : goal.returns-in_err-piece-clause-reads
+returns-in_err-piece-clause-reads g c =
+    by_fault c.from_residual.result _ (λ r. ReadsBody g.R.Source.left c.args.wire.now c.read_some.new.self c.args.size (λ body made. Unit {0}) r) c.from_residual.ensures.1
+    (came_short g.R.Source.left {A = Unit {0}} (λ body made. Unit {0}) _ _ _ c.pieces.count c.args.size (λ body. Unit {0}) _ c.pieces.invariant.came c.in_err-piece.ensures.reads (omega (arith, c.pieces-test.true)))

@@ -1,0 +1,34 @@
+use Rattle.std.proofs.Common.{◌≡◌, ◌∙◌, ap, length, arith}
+use Rattle.cv_http.proofs.Lemmas.{by_fault}
+use Rattle.cv_session.specs.Payloads.{ReadsBody, Says, payload_on}
+use Rattle.cv_session.proofs.Payloads.{came_none, came_on, came_short, fed_none, Fed_}
+use Rattle.cv_session.proofs.payload.read_pack.Goals as goal
+
+pub pieces-init : goal.pieces-init
+pieces-init g c = record {
+  came = came_none g.R.Source.left _ (Fed_ c.new-reader.result c.new-hasher.result c.args.announced.ask.header_size) (fed_none _ _ _ c.new-reader.ensures.fed c.new-hasher.ensures);
+  below = omega arith;
+  reads = omega arith;
+}
+
+pub pieces-preserved : goal.pieces-preserved
+pieces-preserved g c =
+    let same : length c.as_slice-in-pieces-2.result.now ≡ length c.in_ok-piece.piece = ap length c.as_slice-in-pieces-2.ensures in
+    let most = c.in_ok-piece.ensures.most in
+    let below = c.pieces.invariant.below in
+    let was = c.pieces.invariant.reads in
+    let read = c.in_ok-piece.ensures.cause.later in
+    let hashes = rw c.as_slice.ensures at c.hash_front.ensures in
+    let feeds = rw c.as_slice-in-pieces.ensures at c.feed.ensures in
+    record {
+      came = rw c.as_slice-in-pieces-2.ensures
+          (came_on g.R.Source.left _ _ _ c.pieces.count c.in_ok-piece.piece _ _ c.pieces.invariant.came c.in_ok-piece.ensures.reads
+          (λ body size so. (feeds body so.0, hashes body size so.1)));
+      below = omega (arith, same, most, below);
+      reads = omega (arith, was, read);
+    }
+
+pub returns-in_err-piece-clause-reads : goal.returns-in_err-piece-clause-reads
+returns-in_err-piece-clause-reads g c =
+    by_fault c.from_residual.result _ (λ r. ReadsBody g.R.Source.left c.args.wire.now c.read_some.new.self c.args.size (Says (payload_on c.args.announced.key c.args.announced.ask)) r) c.from_residual.ensures.1
+    (came_short g.R.Source.left (Says (payload_on c.args.announced.key c.args.announced.ask)) _ _ _ c.pieces.count c.args.size _ _ c.pieces.invariant.came c.in_err-piece.ensures.reads (omega (arith, c.pieces-test.true)))

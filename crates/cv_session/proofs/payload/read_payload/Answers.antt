@@ -1,0 +1,14 @@
+use Rattle.std.proofs.Common.{◌∙◌, sym, ap, ℕ, List}
+use Rattle.cv_messages.specs.PayloadAsk.{payload_ask_of}
+use Rattle.cv_session.specs.Payloads.{message_size, payload_by_ask}
+use Rattle.cv_session.specs.Turns.{signed}
+use Rattle.cv_session.proofs.Payloads.{payload_read}
+use Rattle.cv_session.proofs.payload.read_payload.Goals as goal
+
+pub returns-clause-reads : goal.returns-clause-reads
+returns-clause-reads g c =
+    payload_read g.R.Source.left c.args.keys.now c.args.head.now.authorization c.args.head.now.message_size _ _ _ c.args.size c.in-Some.count c.in_ok-message.message c.read_rest.result
+    (sym (c.message_size.ensures ∙ ap (λ text. message_size text c.args.size) c.message_header.ensures) ∙ c.in-Some.is) c.in_ok-message.ensures.reads
+    (c.read_rest.ensures.reads
+    (λ pack. signed c.args.keys.now c.args.head.now.authorization c.in_ok-message.message (payload_by_ask (payload_ask_of c.in_ok-message.message) pack))
+    (rw (c.authorization.ensures, c.as_slice.ensures) at c.read_announced-announced.ensures.says))

@@ -1,0 +1,68 @@
+use Rattle.std.proofs.Common.{◌≡◌, ◌∙◌, ◌+◌, [], refl, ap, subst, Ok, Err, arith}
+use Rattle.cv_http.specs.declared.fault.HttpFault.TheVariants.{Short}
+use Rattle.cv_http.proofs.Lemmas.{reads_none, reads_then}
+use Rattle.cv_session.specs.declared.session_end.SessionEnd.TheVariants.{Clean, Bad, ReadFault}
+use Rattle.cv_session.proofs.Sessioning.{not_clean, by_short, by_read_fault, begin, so_more, clean_end, other_end, answered_one, goes_below, not_by_reading}
+use Rattle.cv_session.proofs.serving.session.Goals as goal
+
+pub requests-init : goal.requests-init
+requests-init g c = record {
+  so_far = reads_none g.R.Source.left c.args.wire.now _ (begin g.K.Desk.does g.met.K.Desk.does_none (g.K.Desk.named c.args.desk.now) c.args.keys.now (g.S.Signer.seal_of c.args.signer.now) c.args.wire.now.held (g.W.Sink.taken c.args.sink.now) _);
+  below = omega arith;
+  named = refl;
+  reads = omega arith;
+  writes = omega arith;
+  counted = omega arith;
+}
+
+pub returns-in-Ok-None-clause-session : goal.returns-in-Ok-None-clause-session
+returns-in-Ok-None-clause-session g c =
+    reads_then g.R.Source.left _ _ _ _ _ _ c.requests.invariant.so_far (rw c.in-Ok-None.field-0-is at c.in-Ok-None.ensures.gets) (λ b more s gets.
+    clean_end g.met.K.Desk.does_none g.met.K.Desk.does_more (so_more more s) (c.name.ensures ∙ c.requests.invariant.named) gets)
+
+pub returns-in-Err-clause-session : goal.returns-in-Err-clause-session
+returns-in-Err-clause-session g c =
+    reads_then g.R.Source.left _ _ _ _ _ _ c.requests.invariant.so_far c.in-Err.ensures.gets (λ b more s gets.
+    other_end g.met.K.Desk.does_none g.met.K.Desk.does_more (so_more more s) (c.name.ensures ∙ c.requests.invariant.named) gets c.refuse.ensures.ends)
+
+pub returns-in-Some-clause-session : goal.returns-in-Some-clause-session
+returns-in-Some-clause-session g c =
+    reads_then g.R.Source.left _ _ _ _ _ _ c.requests.invariant.so_far (rw c.in-Ok-Some.field-0-is at c.in-Ok-Some.ensures.gets) (λ b more s gets.
+    answered_one g.met.K.Desk.does_none g.met.K.Desk.does_more (so_more more s) (c.name.ensures ∙ c.requests.invariant.named) c.requests.invariant.named gets c.ends_with-last.ensures c.in-Some.ensures.handles)
+
+pub returns-in-Some-clause-nothing_left : goal.returns-in-Some-clause-nothing_left
+returns-in-Some-clause-nothing_left g c = λ is. absurd (not_by_reading Clean refl c.in-Some.ensures.handles is)
+
+pub returns-in-Some-clause-cut : goal.returns-in-Some-clause-cut
+returns-in-Some-clause-cut g c = λ is. absurd (not_by_reading (Bad Short) refl c.in-Some.ensures.handles is)
+
+pub returns-in-Some-clause-reads : goal.returns-in-Some-clause-reads
+returns-in-Some-clause-reads g c = record {
+  later = let read = c.next_asked.ensures.reads.later in let was = c.requests.invariant.reads in omega (arith, read, was);
+  failed = λ is. absurd (not_by_reading ReadFault refl c.in-Some.ensures.handles is);
+}
+
+pub requests-preserved : goal.requests-preserved
+requests-preserved g c = record {
+  so_far = reads_then g.R.Source.left _ _ _ _ _ _ c.requests.invariant.so_far (rw c.in-Ok-Some.field-0-is at c.in-Ok-Some.ensures.gets) (λ b more s gets.
+      answered_one g.met.K.Desk.does_none g.met.K.Desk.does_more (so_more more s) (c.name.ensures ∙ c.requests.invariant.named) c.requests.invariant.named gets c.ends_with-last.ensures c.in-None.ensures.handles);
+  below = let not = goes_below c.in-Ok-Some.asked.last (c.requests.count + 1) c.ends_with-last.ensures c.in-None.ensures.handles in omega (arith, not);
+  named = c.in-None.ensures.named ∙ c.requests.invariant.named;
+  reads = let read = c.next_asked.ensures.reads.later in let was = c.requests.invariant.reads in omega (arith, read, was);
+  writes = let line = c.next_asked.ensures.writes.later in let reply = c.in-None.ensures.cause.later in let was = c.requests.invariant.writes in omega (arith, line, reply, was);
+  counted = let more = c.in-None.ensures.later in let was = c.requests.invariant.counted in omega (arith, more, was);
+}
+
+pub returns-in-Err-clause-nothing_left : goal.returns-in-Err-clause-nothing_left
+returns-in-Err-clause-nothing_left g c = λ is. absurd (not_clean c.refuse.ensures.ends is)
+
+pub returns-in-Err-clause-cut : goal.returns-in-Err-clause-cut
+returns-in-Err-clause-cut g c = λ is. c.next_asked.ensures.cut (c.in-Err.is ∙ ap (λ why. Err why) (by_short c.refuse.ensures.ends is))
+
+pub returns-in-Err-clause-reads : goal.returns-in-Err-clause-reads
+returns-in-Err-clause-reads g c = record {
+  later = let read = c.next_asked.ensures.reads.later in let was = c.requests.invariant.reads in omega (arith, read, was);
+  failed = λ is.
+      let rose = c.next_asked.ensures.reads.failed (c.in-Err.is ∙ ap (λ why. Err why) (by_read_fault c.refuse.ensures.ends is)) in
+      let was = c.requests.invariant.reads in omega (arith, rose, was);
+}

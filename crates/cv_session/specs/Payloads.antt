@@ -1,0 +1,108 @@
+-- What a payload asks: its message size is judged first, then the authorization, the message, the digest of the pack's header,
+-- the pack, and the header's length.
+use Rattle.std.specs.Prelude.{◌≡◌, ◌==◌, ◌++◌, ℕ, Bool, true, false, List, Option, Some, None, Result, Ok, Err, bytes_eq, codes, take, drop, length, nat_le, ◌&&◌, if◌then◌else◌}
+use Rattle.sha1.specs.Sha1.{sha1}
+use Rattle.cv_base.specs.declared.object.Object.{Object}
+use Rattle.cv_http.specs.Wires.{WireView, Reads, BodyRead}
+use Rattle.cv_http.specs.declared.fault.HttpFault.{HttpFault}
+use Rattle.cv_http.specs.declared.fault.HttpFault.TheVariants as http
+use Rattle.cv_http.specs.declared.head.RequestHead.{RequestHead}
+use Rattle.cv_http.specs.declared.method.Method.{Method}
+use Rattle.cv_http.specs.declared.method.Method.TheVariants.{Get, Post, Delete, Other}
+use Rattle.cv_keys.specs.declared.key.Key.{Key}
+use Rattle.cv_messages.specs.PayloadAsk.{payload_ask_of}
+use Rattle.cv_messages.specs.Spelling.{decimal_of, token_of}
+use Rattle.cv_messages.specs.declared.message_fault.MessageFault.{MessageFault}
+use Rattle.cv_messages.specs.declared.payload_ask.PayloadAsk.{PayloadAsk}
+use Rattle.cv_answers.specs.declared.reason.Reason.TheVariants as reason
+use Rattle.cv_gate.specs.declared.op.Op.TheVariants as op
+use Rattle.cv_pack.specs.Pack.{header_bytes}
+use Rattle.cv_pack.specs.Reading.{reading}
+use Rattle.cv_pack.specs.declared.pack_fault.PackFault.{PackFault}
+use Rattle.cv_pack.specs.declared.pack_fault.PackFault.TheVariants.{BadHeader, TooLarge, TooMany, HashDiffers, Short, Trailing, Duplicate, NoMemory}
+use Rattle.cv_session.specs.Turns.{IsGood, denied, denied_message, signed, token_by}
+use Rattle.cv_session.specs.declared.turn.Turn.{Turn}
+use Rattle.cv_session.specs.declared.turn.Turn.TheVariants.{Step}
+
+-- the target of payloads
+abbrev pub payloads_target : List ℕ
+payloads_target = codes "/api/v1/payloads"
+
+abbrev pub is_post : Method → Bool
+is_post Post = true
+is_post Get = false
+is_post Delete = false
+is_post Other = false
+
+-- the head is that of a payload
+abbrev pub is_payload : RequestHead → Bool
+is_payload head = is_post head.method && bytes_eq head.target payloads_target
+
+-- the most bytes of a payload's message
+abbrev pub message_limit : ℕ
+message_limit = 65536
+
+abbrev pub fitting : ℕ → Option ℕ → Option ℕ
+fitting size None = None
+fitting size (Some n) = if nat_le n message_limit && nat_le n size then Some n else None
+
+-- the bytes of the message at the front of a body of so many bytes, by the value of Message-Size
+abbrev pub message_size : Option (List ℕ) → ℕ → Option ℕ
+message_size None size = None
+message_size (Some text) size = fitting size (decimal_of text)
+
+-- objects that came in a pack under a lease
+abbrev pub store_on : List ℕ → PayloadAsk → List Object → Turn
+store_on key ask objects =
+    if length (header_bytes objects) == ask.header_size
+    then Step (op.Store key (token_by (token_of ask.token)) ask.digest objects)
+    else denied reason.BadHeaderSize
+
+abbrev pub pack_turn : List ℕ → PayloadAsk → Result (List Object) PackFault → Turn
+pack_turn key ask (Err fault) = denied reason.BadPack
+pack_turn key ask (Ok objects) = store_on key ask objects
+
+-- a pack that a message announces: its header has the digest that the message says, the pack no fault, and the header the length
+abbrev pub payload_on : List ℕ → PayloadAsk → List ℕ → Turn
+payload_on key ask pack =
+    if bytes_eq (sha1 (take ask.header_size pack)) ask.digest then pack_turn key ask (reading pack) else denied reason.BadDigest
+
+abbrev pub payload_by_ask : Result PayloadAsk MessageFault → List ℕ → List ℕ → Turn
+payload_by_ask (Ok ask) pack key = payload_on key ask pack
+payload_by_ask (Err fault) pack key = denied_message fault
+
+abbrev pub payload_from : List Key → Option (List ℕ) → Option ℕ → List ℕ → Turn
+payload_from keys header None body = denied reason.BadMessageSize
+payload_from keys header (Some n) body = signed keys header (take n body) (payload_by_ask (payload_ask_of (take n body)) (drop n body))
+
+-- what a payload asks, by its Authorization and Message-Size headers and its body
+abbrev pub payload_turn : List Key → Option (List ℕ) → Option (List ℕ) → List ℕ → Turn
+payload_turn keys header text body = payload_from keys header (message_size text (length body)) body
+
+-- a body says this turn, whose op the gate takes or whose refusal can be written
+abbrev pub Says : (List ℕ → Turn) → List ℕ → Turn → Type 0
+Says says body turn = (turn ≡ says body) × IsGood turn
+
+-- ---- inside the reading of a payload
+
+-- a body of so many bytes was read, of which this was made, or not for a fault
+abbrev pub ReadsBody : {R A : Type 0} → (R → Option (List ℕ)) → WireView R → WireView R → ℕ → (List ℕ → A → Type 0) → Result A HttpFault → Type 0
+ReadsBody left wire wire' size Made result = Reads left wire wire' (λ b. BodyRead size Made b wire'.held result)
+
+-- so many bytes came, which are so, and then what is held
+pub record Came (count : ℕ) (So : List ℕ → Type 0) (b held : List ℕ) : Type 0 where
+  pub body : List ℕ
+  pub split : b ≡ body ++ held
+  pub size : length body ≡ count
+  pub so : So body
+
+-- the turn of a pack with a fault, unless memory was wanted
+abbrev pub refused_pack : PackFault → Result Turn HttpFault
+refused_pack (BadHeader at) = Ok (denied reason.BadPack)
+refused_pack TooLarge = Ok (denied reason.BadPack)
+refused_pack TooMany = Ok (denied reason.BadPack)
+refused_pack (HashDiffers index) = Ok (denied reason.BadPack)
+refused_pack Short = Ok (denied reason.BadPack)
+refused_pack Trailing = Ok (denied reason.BadPack)
+refused_pack (Duplicate index) = Ok (denied reason.BadPack)
+refused_pack NoMemory = Err http.NoMemory

@@ -1,0 +1,84 @@
+-- What is answered to a turn, by what the desk answered.
+use Rattle.std.specs.Prelude.{◌≡◌, ◌≢◌, ◌∷◌, ℕ, List, [], Option, Result, Ok, Err, Bool, true, false}
+use Rattle.std.specs.declared.option.Option.TheVariants.{Some, None}
+use Rattle.sha1.specs.Sha1.{sha1}
+use Rattle.serde_json.specs.Written.{compact_text}
+use Rattle.cv_base.specs.declared.id.ObjectId.{ObjectId}
+use Rattle.cv_ports.specs.declared.shelf.ShelfFault.{ShelfFault}
+use Rattle.cv_ports.specs.declared.shelf.ShelfFault.TheVariants.{NoMemory as no_memory}
+use Rattle.cv_http.specs.Replies.{reply, text_of}
+use Rattle.cv_http.specs.declared.code.Code.{Code}
+use Rattle.cv_http.specs.declared.code.Code.TheVariants.{Success, NotFound, ServerError}
+use Rattle.cv_http.specs.declared.body_kind.BodyKind.TheVariants.{Json, Octets, Text}
+use Rattle.cv_manifest.specs.Manifest.{manifest, manifest_text}
+use Rattle.cv_manifest.specs.declared.head.Head.{Head}
+use Rattle.cv_answers.specs.Answer.{answer_data}
+use Rattle.cv_answers.specs.AnswerText.{is_answer}
+use Rattle.cv_answers.specs.declared.answer.Answer.{Answer as MessageData}
+use Rattle.cv_answers.specs.declared.answer.Answer.TheVariants.{Refused}
+use Rattle.cv_answers.specs.declared.refusal.Refusal.{Refusal}
+use Rattle.cv_gate.specs.Gate.{is_plain}
+use Rattle.cv_gate.specs.declared.lease_line.LeaseLine.{LeaseLine}
+use Rattle.cv_gate.specs.declared.op.Op.{Op}
+use Rattle.cv_gate.specs.declared.reply.Reply.{Reply as ReplyData}
+use Rattle.cv_gate.specs.Desk.{Call, asked, listed, fetched, told}
+use Rattle.cv_session.specs.Answers.{answer_of, leases_answer, repositories_answer}
+use Rattle.cv_session.specs.declared.target.Resource.TheVariants.{Manifest, Object}
+use Rattle.cv_session.specs.declared.turn.Turn.{Turn}
+use Rattle.cv_session.specs.declared.turn.Turn.TheVariants as turn
+use Rattle.cv_session.specs.Standing.{Standing, Made}
+use Rattle.cv_session.specs.declared.response.Response.{Response}
+use Rattle.cv_session.specs.declared.response.Response.TheVariants.{Content, Fixed, Message, Reply}
+
+-- ---- the bytes of a reply
+
+-- the reply with an answer of the interface
+abbrev pub message_reply : MessageData → Bool → List ℕ
+message_reply message last = reply Success Json last (compact_text (answer_data message))
+
+-- the same of an answer that there may be
+abbrev pub said_reply : Option MessageData → Bool → List ℕ
+said_reply None last = []
+said_reply (Some message) last = message_reply message last
+
+-- the bytes of the reply with an answer
+abbrev pub reply_of : Response → Bool → List ℕ
+reply_of (Content bytes) last = reply Success Octets last bytes
+reply_of (Fixed code) last = reply code Text last (text_of code)
+reply_of (Message message) last = message_reply message last
+reply_of (Reply replied) last = said_reply (answer_of replied) last
+
+-- an answer that can be written
+abbrev pub is_writable : Response → Bool
+is_writable (Content bytes) = true
+is_writable (Fixed code) = true
+is_writable (Message message) = is_answer message
+is_writable (Reply replied) = is_plain replied
+
+-- ---- what comes of a turn
+
+-- the seconds for which a client may take the head for the newest one
+abbrev pub time_to_live : ℕ
+time_to_live = 240
+
+-- the answer to a turn by the calls of the desk that were made for it, or none where memory was wanted for the answer or its reply
+pub data Answers (repository : List ℕ) (seal : List ℕ → List ℕ) : Turn → List Call → Option Response → Type 0 where
+  newest : (head : Head) → Answers repository seal (turn.Serve Manifest) (told head ∷ []) (Some (Content (manifest_text seal (manifest repository time_to_live head))))
+  object : (id : ObjectId) (bytes : List ℕ) → sha1 bytes ≡ id.hash → Answers repository seal (turn.Serve (Object id)) (fetched id (Ok (Some bytes)) ∷ []) (Some (Content bytes))
+  absent : (id : ObjectId) → Answers repository seal (turn.Serve (Object id)) (fetched id (Ok None) ∷ []) (Some (Fixed NotFound))
+  failed : (id : ObjectId) (fault : ShelfFault) → fault ≢ no_memory → Answers repository seal (turn.Serve (Object id)) (fetched id (Err fault) ∷ []) (Some (Fixed ServerError))
+  repositories : Answers repository seal turn.Repositories [] (Some (Message (repositories_answer repository)))
+  leases : (now : ℕ) (lines : List LeaseLine) → Answers repository seal turn.Leases (listed now (Some lines) ∷ []) (Some (Message (leases_answer repository lines)))
+  step : (o : Op) (now : ℕ) (r : ReplyData) → is_plain r ≡ true → Answers repository seal (turn.Step o) (asked o now r ∷ []) (Some (Reply r))
+  denied : (refusal : Refusal) → Answers repository seal (turn.Deny refusal) [] (Some (Message (Refused refusal)))
+  refused : (code : Code) → Answers repository seal (turn.Refuse code) [] (Some (Fixed code))
+  -- memory was wanted
+  unlisted : (now : ℕ) (lines : Option (List LeaseLine)) → Answers repository seal turn.Leases (listed now lines ∷ []) None
+  unfetched : (id : ObjectId) → Answers repository seal (turn.Serve (Object id)) (fetched id (Err no_memory) ∷ []) None
+  unsaid : {asked_ : Turn} {calls : List Call} (answer : Response) → Answers repository seal asked_ calls (Some answer) → Answers repository seal asked_ calls None
+
+-- what comes of a turn, from where the repository stood to where it stands
+pub record Does {K : Type 0} (does : K → List Call → K → Type 0) (repository : List ℕ) (seal : List ℕ → List ℕ) (turn : Turn) (answer : Option Response) (before after : Standing K) : Type 0 where
+  pub calls : List Call
+  pub answers : Answers repository seal turn calls answer
+  pub made : Made does before calls after

@@ -1,0 +1,88 @@
+-- What is said to a connection.
+use Rattle.std.specs.Prelude.{◌≡◌, ◌+◌, ◌++◌, ◌∷◌, ◌||◌, ℕ, List, [], length, map, Bool, true, false, Option}
+use Rattle.std.specs.declared.option.Option.TheVariants.{Some, None}
+use Rattle.std.specs.List.{flat_map, AllByRecursion}
+use Rattle.cv_ports.specs.Streams.{onto, Wrote}
+use Rattle.cv_http.specs.Replies.{continue_line}
+use Rattle.cv_http.specs.declared.fault.HttpFault.{HttpFault}
+use Rattle.cv_http.specs.declared.code.Code.{Code}
+use Rattle.cv_keys.specs.declared.key.Key.{Key}
+use Rattle.cv_gate.specs.Desk.{Call}
+use Rattle.cv_session.specs.Asking.{Turned, refusing, IsNext, Opens, IsAsked}
+use Rattle.cv_session.specs.Exchanges.{is_full}
+use Rattle.cv_session.specs.Requests.{IsBad, Reached, line_text, code_of_fault}
+use Rattle.cv_session.specs.Responses.{Answers, reply_of}
+use Rattle.cv_session.specs.Standing.{Standing, Made}
+use Rattle.cv_session.specs.declared.response.Response.{Response}
+use Rattle.cv_session.specs.declared.session_end.SessionEnd.{SessionEnd}
+use Rattle.cv_session.specs.declared.session_end.SessionEnd.TheVariants.{ReadFault, WriteFault, JournalFull, NoMemory}
+
+-- what was asked, what the desk was asked for it and answered, and the answer
+pub record Exchange : Type 0 where
+  pub asked : Turned
+  pub calls : List Call
+  pub answer : Response
+
+abbrev pub turns : List Exchange → List Turned
+turns = map (λ e. e.asked)
+
+abbrev pub calls_of : List Exchange → List Call
+calls_of = flat_map (λ e. e.calls)
+
+-- the reply closes the connection: the bytes end the session with it, or the gate's journal is full
+abbrev pub is_last : Exchange → Bool
+is_last e = is_full e.answer || e.asked.last
+
+-- what is said in an exchange: the line that asks for the body, where it is waited for, and the reply
+abbrev pub saying : Exchange → List ℕ
+saying e = line_text e.asked.waited ++ reply_of e.answer (is_last e)
+
+abbrev pub sayings : List Exchange → List ℕ
+sayings = flat_map saying
+
+module _ (repository : List ℕ) (keys : List Key) (seal : List ℕ → List ℕ) where
+  -- the answer is one to what was asked, by what the desk answered
+  abbrev pub IsAnswered : Exchange → Type 0
+  IsAnswered e = Answers repository seal e.asked.what e.calls (Some e.answer)
+
+  -- behind so many requests this turn comes next
+  pub data Comes (count : ℕ) (rest : List ℕ) (t : Turned) : Type 0 where
+    request : (later : List ℕ) → IsNext repository keys (count + 1) rest t later → Comes count rest t
+    fault : (why : HttpFault) (code : Code) → IsBad rest why → code_of_fault why ≡ Some code → t ≡ refusing code → Comes count rest t
+
+  module _ (b : List ℕ) where
+    -- b begins by asking for these exchanges, none of which ended the session, and then this is left
+    pub record Opened (es : List Exchange) (rest : List ℕ) : Type 0 where
+      pub opens : Opens repository keys 0 b (turns es) rest
+      pub open_ : AllByRecursion (λ e. is_full e.answer ≡ false) es
+
+    -- how a session ended over the bytes read, of which these are still held: what was said whole in these exchanges, what the desk
+    -- was asked besides, and what the sink took
+    pub data Ended (held : List ℕ) (taken : Option (List ℕ)) (es : List Exchange) : List Call → Option (List ℕ) → SessionEnd → Type 0 where
+      -- by the bytes
+      by_bytes : (line : Bool) (end : SessionEnd) (taken' : Option (List ℕ)) → IsAsked repository keys b (turns es) line end → AllByRecursion (λ e. is_full e.answer ≡ false) es
+          → taken' ≡ onto taken (sayings es ++ line_text line) → Ended held taken es [] taken' end
+      -- by the last reply, that the journal is full
+      full : (first : List Exchange) (e : Exchange) (rest : List ℕ) (taken' : Option (List ℕ)) → es ≡ first ++ e ∷ [] → Opened first rest
+          → IsNext repository keys (length first + 1) rest e.asked held → is_full e.answer ≡ true → taken' ≡ onto taken (sayings es) → Ended held taken es [] taken' JournalFull
+      -- the source failed: all before was answered, and nothing then
+      unread : (rest : List ℕ) (line : Bool) (taken' : Option (List ℕ)) → Opened es rest → Reached rest line → taken' ≡ onto taken (sayings es ++ line_text line) → Ended held taken es [] taken' ReadFault
+      -- the sink failed in a reply: all before was answered, and no further turn was taken
+      broken : (e : Exchange) (rest : List ℕ) (taken' : Option (List ℕ)) → Opened es rest → Comes (length es) rest e.asked → IsAnswered e
+          → Wrote (onto taken (sayings es)) taken' (saying e) → Ended held taken es e.calls taken' WriteFault
+      -- the sink failed in the line that asks for a body
+      broken_line : (rest : List ℕ) (taken' : Option (List ℕ)) → Opened es rest → Reached rest true → Wrote (onto taken (sayings es)) taken' continue_line → Ended held taken es [] taken' WriteFault
+      -- memory was wanted where a request was read
+      forgotten : (rest : List ℕ) (line : Bool) (taken' : Option (List ℕ)) → Opened es rest → Reached rest line → taken' ≡ onto taken (sayings es ++ line_text line) → Ended held taken es [] taken' NoMemory
+      -- memory was wanted for an answer or its reply
+      silent : (t : Turned) (calls : List Call) (rest : List ℕ) (taken' : Option (List ℕ)) → Opened es rest → IsNext repository keys (length es + 1) rest t held → Answers repository seal t.what calls None
+          → taken' ≡ onto taken (sayings es ++ line_text t.waited) → Ended held taken es calls taken' NoMemory
+
+-- A session over the bytes b that were read, of which these are still held: what they ask was said, with the answers of the desk.
+pub record Session {K : Type 0} (does : K → List Call → K → Type 0) (repository : List ℕ) (keys : List Key) (seal : List ℕ → List ℕ) (b held : List ℕ) (taken taken' : Option (List ℕ)) (before after : Standing K)
+    (end : SessionEnd) : Type 0 where
+  pub exchanges : List Exchange
+  pub answered : AllByRecursion (IsAnswered repository keys seal) exchanges
+  pub others : List Call
+  pub ended : Ended repository keys seal b held taken exchanges others taken' end
+  pub made : Made does before (calls_of exchanges ++ others) after

@@ -1,0 +1,79 @@
+//! One turn and its reply.
+ghost use Rattle.std.specs.Prelude.{◌≡◌, ◌≤◌, Some, None, Err, OnOk, is_some, true};
+ghost use Rattle.cv_base.specs.Counts.{HasCause};
+ghost use Rattle.cv_ports.specs.Streams.{onto, Wrote};
+ghost use Rattle.cv_http.specs.declared.reply.SendFault.TheVariants.{WriteFault as write_fault, NoMemory as no_memory};
+ghost use Rattle.cv_session.specs.Turns.{IsGood};
+ghost use Rattle.cv_session.specs.Responses.{is_writable, reply_of};
+ghost use Rattle.cv_session.specs.Exchanges.{ends, is_full, end_after, Handles, Sends};
+ghost use Rattle.cv_session.specs.Standing.{standing};
+ghost use Rattle.cv_session.specs.declared.session_end.SessionEnd.TheVariants.{WriteFault};
+
+use crate::responding::find_answer;
+use crate::response::{Response, write_answer};
+use crate::session_end::SessionEnd;
+use crate::turn::Turn;
+use cv_base::NoMemory;
+use cv_gate::{Desk, Reply};
+use cv_http::SendFault;
+use cv_ports::{Clock, Sink};
+use cv_seal::Signer;
+use std::alloc::Global;
+
+/// The most requests of a connection.
+const REQUEST_LIMIT: u64 = 1_000;
+
+/// Whether the request of this number is to be the last.
+pub(crate) fn ends_with(last: bool, number: u64) -> bool
+    ensures { result ≡ ends last number }
+{
+    last || number == REQUEST_LIMIT
+}
+
+/// How the session ends with the reply to a request that is to be the last or isn't, if it does.
+fn end_after(answer: &Response, last: bool) -> Option<SessionEnd>
+    ensures { result ≡ end_after answer.now last }
+{
+    match answer {
+        Response::Reply(Reply::JournalFull) => Some(SessionEnd::JournalFull),
+        _ if last => Some(SessionEnd::Closed),
+        _ => None,
+    }
+}
+
+/// Writes the reply with an answer to a request that is to be the last or isn't. How the session ends then, if it does.
+fn send<W: Sink>(alloc: Global, sink: &mut W, answer: &Response, last: bool) -> Option<SessionEnd>
+    requires { is_writable answer.now ≡ true }
+    ensures sends { Sends answer.now last (W.taken sink.old) (W.taken sink.new) result }
+    ensures cause { HasCause (W.faults sink.old) (W.faults sink.new) (result ≡ Some WriteFault) }
+{
+    let end = end_after(answer, last);
+    match write_answer(alloc, sink, answer, end.is_some()) {
+        Ok(()) => end,
+        Err(SendFault::WriteFault) => Some(SessionEnd::WriteFault),
+        Err(SendFault::NoMemory) => Some(SessionEnd::NoMemory),
+    }
+}
+
+/// Answers the turn of a request that is to be the last or isn't. How the session ends with it, if it does.
+pub(crate) fn answer_turn<K: Desk, S: Signer, C: Clock, W: Sink>(
+    alloc: Global,
+    desk: &mut K,
+    signer: &S,
+    clock: &mut C,
+    sink: &mut W,
+    turn: Turn,
+    last: bool,
+) -> Option<SessionEnd>
+    requires { IsGood turn }
+    ensures handles { Handles K.does (K.named desk.old) (S.seal_of signer.now) turn last (W.taken sink.old) (W.taken sink.new)
+        (standing desk.old (C.moments clock.old) (K.faults desk.old)) (standing desk.new (C.moments clock.new) (K.faults desk.new)) result }
+    ensures named { K.named desk.new ≡ K.named desk.old }
+    ensures later { K.faults desk.old ≤ K.faults desk.new }
+    ensures cause { HasCause (W.faults sink.old) (W.faults sink.new) (result ≡ Some WriteFault) }
+{
+    match find_answer(alloc, desk, signer, clock, turn) {
+        Ok(answer) => send(alloc, sink, &answer, last),
+        Err(NoMemory) => Some(SessionEnd::NoMemory),
+    }
+}

@@ -1,0 +1,92 @@
+//! Answers, and their replies.
+ghost use Rattle.std.specs.Prelude.{◌≡◌, Err, IfOk, OnOk, true};
+ghost use Rattle.cv_base.specs.Counts.{HasCause};
+ghost use Rattle.cv_ports.specs.Streams.{onto, Wrote};
+ghost use Rattle.cv_http.specs.Replies.{reply};
+ghost use Rattle.cv_http.specs.declared.body_kind.BodyKind.TheVariants.{Json};
+ghost use Rattle.cv_http.specs.declared.code.Code.TheVariants.{Success};
+ghost use Rattle.cv_http.specs.declared.reply.SendFault.TheVariants.{WriteFault, NoMemory};
+ghost use Rattle.cv_answers.specs.AnswerText.{is_answer};
+ghost use Rattle.cv_session.specs.Responses.{is_writable, message_reply, reply_of};
+
+use crate::answering::answer_reply;
+use cv_answers::Answer as MessageData;
+use cv_base::Bytes;
+use cv_gate::Reply;
+use cv_http::{BodyKind, Code, SendFault, write_reply};
+use cv_ports::Sink;
+use std::alloc::Global;
+
+/// What is answered.
+#[derive(Debug, Drop)]
+pub(crate) enum Response {
+    /// The manifest or an object.
+    Content(Bytes),
+    /// A code alone.
+    Fixed(Code),
+    /// An answer of the interface for which the gate takes no step.
+    Message(MessageData),
+    /// What the gate replied to a step.
+    Reply(Reply),
+}
+
+/// Writes the reply with an answer of the interface.
+fn write_message<W: Sink>(
+    alloc: Global,
+    sink: &mut W,
+    message: &MessageData,
+    last: bool,
+) -> Result<(), SendFault>
+    requires { is_answer message.now ≡ true }
+    ensures whole { OnOk result (W.taken sink.new ≡ onto (W.taken sink.old) (message_reply message.now last)) }
+    ensures part { Wrote (W.taken sink.old) (W.taken sink.new) (message_reply message.now last) }
+    ensures nothing { result ≡ Err NoMemory → W.taken sink.new ≡ W.taken sink.old }
+    ensures cause { HasCause (W.faults sink.old) (W.faults sink.new) (result ≡ Err WriteFault) }
+{
+    match message.write(alloc) {
+        Ok(text) => write_reply(
+            alloc,
+            sink,
+            Code::Success,
+            BodyKind::Json,
+            last,
+            text.as_slice(),
+        ),
+        Err(_) => Err(SendFault::NoMemory),
+    }
+}
+
+/// Writes the reply with an answer.
+pub(crate) fn write_answer<W: Sink>(
+    alloc: Global,
+    sink: &mut W,
+    answer: &Response,
+    last: bool,
+) -> Result<(), SendFault>
+    requires { is_writable answer.now ≡ true }
+    ensures whole { OnOk result (W.taken sink.new ≡ onto (W.taken sink.old) (reply_of answer.now last)) }
+    ensures part { Wrote (W.taken sink.old) (W.taken sink.new) (reply_of answer.now last) }
+    ensures nothing { result ≡ Err NoMemory → W.taken sink.new ≡ W.taken sink.old }
+    ensures cause { HasCause (W.faults sink.old) (W.faults sink.new) (result ≡ Err WriteFault) }
+{
+    match answer {
+        Response::Content(bytes) => write_reply(
+            alloc,
+            sink,
+            Code::Success,
+            BodyKind::Octets,
+            last,
+            bytes.as_slice(),
+        ),
+        Response::Fixed(code) => write_reply(
+            alloc,
+            sink,
+            *code,
+            BodyKind::Text,
+            last,
+            code.text().as_bytes(),
+        ),
+        Response::Message(message) => write_message(alloc, sink, message, last),
+        Response::Reply(reply) => write_message(alloc, sink, &answer_reply(reply), last),
+    }
+}
