@@ -6,6 +6,7 @@ use Rattle.cv_vault.specs.Disk.{Disk, Files, Reads}
 use Rattle.cv_vault.specs.Moments.{Calls}
 use Rattle.cv_gate.specs.Gate.{GateView, state_of, Steps, made}
 use Rattle.cv_gate.specs.Gate.{full as is_full}
+use Rattle.cv_gate.proofs.Lemmas.{stands_alone, stands_bare}
 use Rattle.cv_gate.specs.State.{State}
 use Rattle.cv_gate.specs.declared.entry.Entry.{Entry}
 use Rattle.cv_gate.specs.declared.op.Op.{Op}
@@ -45,10 +46,11 @@ module _ {repository : List ℕ} {disk : Option Disk} {f f' : ℕ} where
       → Does repository disk (StepTurn o) (Some (Reply r)) (standing f clock (ledger_of g)) (standing f' later (ledger_of g'))
   stepped {o} {now} {g} {g'} {r} rose gives (is_full count is same) =
       at_moment now [] rose gives (rw (is, same) (full o now count))
-  stepped {o} {now} {g} {g'} {r} {clock} {later} rose gives (made room e seat moment is journal steps) =
-      let taken = steps (state_of g.state) refl in
+  stepped {o} {now} {g} {g'} {r} {clock} {later} rose gives (made room e seat moment is records journal steps) =
+      let taken = steps (state_of g.state) (stands_alone g) in
+      let knows : taken.0 ≡ state_of g'.state = stands_bare g g' taken.0 taken.2 taken.3 in
       at_moment e.now (e ∷ []) rose (subst (λ (n : ℕ). Gives clock (n ∷ []) later) (sym moment) gives)
       (subst (λ (l : Ledger). Answers repository disk (ledger_of g) (StepTurn o) (outcome (Some (Reply r)) 0 (e.now ∷ []) (e ∷ [])) l)
-      (same_ledger taken.2 (sym journal))
+      (same_ledger knows (sym journal))
       (subst (λ (x : ReplyData). Answers repository disk (ledger_of g) (StepTurn o) (outcome (Some (Reply x)) 0 (e.now ∷ []) (e ∷ []))
       (ledger taken.0 (g.journal ++ e ∷ []))) is (step o e taken.0 room seat taken.1)))

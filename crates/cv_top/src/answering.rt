@@ -1,7 +1,7 @@
 //! What is answered to a turn.
 ghost use Rattle.std.specs.Prelude.{◌≡◌, ◌≤◌, ℕ, List, Option, IfOk, Some, true};
 ghost use Rattle.std.specs.Result.{result_ok};
-ghost use Rattle.cv_gate.specs.Gate.{IsServed, is_plain};
+ghost use Rattle.cv_gate.specs.Gate.{is_plain};
 ghost use Rattle.cv_gate.specs.Step.{IsOp};
 ghost use Rattle.cv_session.specs.Targets.{manifest_name};
 ghost use Rattle.cv_session.specs.Turns.{IsGood};
@@ -89,20 +89,19 @@ fn show_leases<C: Clock>(
         Does repository.now disk Leases (result_ok result) (standing faults (C.moments clock.old) (ledger_of gate.now)) (standing faults (C.moments clock.new) (ledger_of gate.now)) }
     ensures writable { IfOk result (λ answer. is_writable answer ≡ true) }
 {
-    let lines = gate.live(alloc, clock.now())?;
+    let lines = gate.live(clock.now())?;
     Ok(Answer::Message(list_leases(alloc, repository, lines.as_slice())?))
 }
 
 /// What the gate replies to an op at the clock's moment.
-fn take_step<C: Clock>(alloc: Global, gate: &mut Gate, clock: &mut C, op: Op) -> Reply
+fn take_step<C: Clock>(gate: &mut Gate, clock: &mut C, op: Op) -> Reply
     requires op { IsOp op }
-    requires served { IsServed op }
     ensures does { (repository : List ℕ) (disk : Option Disk) (faults : ℕ) →
         Does repository disk (Step op) (Some (reply result)) (standing faults (C.moments clock.old) (ledger_of gate.old)) (standing faults (C.moments clock.new) (ledger_of gate.new)) }
     ensures plain { is_plain result ≡ true }
 {
     let now = clock.now();
-    gate.step(alloc, SEAT, now, op)
+    gate.step(SEAT, now, op)
 }
 
 /// The answer to a turn.
@@ -125,7 +124,7 @@ pub fn find_answer<V: Vault, C: Clock>(
         Turn::Serve(resource) => serve(alloc, &service.manifest, vault, resource),
         Turn::Repositories => name_repositories(alloc, &service.name),
         Turn::Leases => show_leases(alloc, &service.name, gate, clock),
-        Turn::Step(op) => Ok(Answer::Reply(take_step(alloc, gate, clock, op))),
+        Turn::Step(op) => Ok(Answer::Reply(take_step(gate, clock, op))),
         Turn::Deny(refusal) => Ok(Answer::Message(MessageData::Refused(refusal))),
         Turn::Refuse(code) => Ok(Answer::Fixed(code)),
     }

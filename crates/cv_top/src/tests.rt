@@ -245,12 +245,13 @@ fn answers_worked_inputs(rt: HostRuntime) -> Result<(), Fail> {
 
 /// A failing call of the vault (the two files take the first two), of the input and of the output; 0 where none fails.
 /// Then the status, the line and the length of the output.
-static FAULTS: [(u64, u64, u64, u8, &str, usize); 6] = [
+static FAULTS: [(u64, u64, u64, u8, &str, usize); 7] = [
     (3, 0, 0, 7, "cvkit: store failed\n", 0),
     (4, 0, 0, 0, "", 186),
     (0, 1, 0, 5, "cvkit: input failed\n", 0),
     (0, 0, 1, 6, "cvkit: output failed\n", 0),
     (0, 0, 2, 6, "cvkit: output failed\n", 78),
+    (0, 0, 6, 6, "cvkit: output failed\n", 164),
     (0, 0, 0, 0, "", 164),
 ];
 
@@ -279,6 +280,44 @@ fn names_the_part_that_failed(rt: HostRuntime) -> Result<(), Fail> {
         let ended = ended_by(rt.alloc(), *vault, *source, *sink)?;
         assert!(rt; ended.said(*code, line), "{vault} {source} {sink}");
         assert!(rt; ended.output.len() == *size, "{vault} {source} {sink}");
+    }
+    Ok(())
+}
+
+/// Requests that come in one read, and the length of their replies.
+static AT_ONCE: [(&str, usize); 3] = [
+    ("GET / HTTP/1.1\r\nHost: x\r\n\r\n", 82),
+    (
+        "GET / HTTP/1.1\r\nHost: x\r\n\r\nGET / HTTP/1.1\r\nHost: x\r\n\r\n",
+        164,
+    ),
+    (
+        "POST / HTTP/1.1\r\nHost: x\r\nContent-Length: 1\r\n\r\na",
+        82,
+    ),
+];
+
+/// How a session of these requests ends where the second read fails.
+fn ended_at_second_read(alloc: Global, input: &str) -> Result<Ended, NoMemory> {
+    let failing = Failing {
+        vault: Vec::new(alloc),
+        input: vec![in alloc; 2]?,
+        output: Vec::new(alloc),
+    };
+    let around = Around {
+        keys: KEYS,
+        seconds: (0, 0, 0),
+        failing,
+    };
+    run_on(alloc, &STDIO, &[MANIFEST], input, around)
+}
+
+#[test]
+fn answers_what_has_come_before_it_reads_on(rt: HostRuntime) -> Result<(), Fail> {
+    for (input, size) in &AT_ONCE {
+        let ended = ended_at_second_read(rt.alloc(), input)?;
+        assert!(rt; ended.said(5, "cvkit: input failed\n"), "{input}");
+        assert!(rt; ended.output.len() == *size, "{input}");
     }
     Ok(())
 }
