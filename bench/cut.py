@@ -1,23 +1,25 @@
 #!/usr/bin/env python3
 """The time of cutting a tree into catalogues and of loading it again, by its files.
 
-    bench/cut.py [FOLDER]
+    bench/cut.py [--short] [FOLDER]
 
-Adds to a copy of the crates a program that reads paths from standard input, makes a tree of them, and measures the best of
-three cuts of it and of three loads from a shelf in memory; has it proved and built by `rt run`; and gives it trees of 5,000
-and of 50,000 files in 500 directories, of which 50 have a marker, and trees of 1,000 and of 10,000 directories that have a
-marker each. With FOLDER, a copy of the repository that has been built, it works there.
+The program reads paths from standard input, makes a tree of them, and measures the best of three cuts of it and of three
+loads from a shelf in memory. It gets trees of 5,000 and of 50,000 files in 500 directories, of which 50 have a marker, and
+trees of 1,000 and of 10,000 directories that have a marker each. The smaller two must have the root that
+`tools/cut_vectors.py` gives them. The short form has a tree of 20 files and prints no time. FOLDER is a copy of the
+repository in which to build.
 """
+import hashlib
 import os
-import shutil
-import subprocess
 import sys
-import tempfile
 
-here = os.path.dirname(os.path.dirname(os.path.abspath(__file__)))
+sys.path.insert(0, os.path.join(os.path.dirname(os.path.abspath(__file__)), "..", "tools"))
+import cut_vectors
+from program import READ_ALL, program, words
 
 PROGRAM = """\
-//! Cuts the tree of the paths on standard input and loads it again, and prints the nanoseconds of the best cut and load.
+//! Cuts the tree of the paths on standard input and loads it again, and prints the id of its root and the nanoseconds of
+//! the best cut and load.
 #![tactic(auto)]
 ghost use Rattle.std.specs.Prelude.{IfSome};
 ghost use Rattle.cv_tree.specs.Node.{IsNode};
@@ -31,29 +33,19 @@ use cv_tree::{FileRef, Node, Tree};
 use std::alloc::Global;
 use std::time::{Clock, Instant};
 
-/// The bytes of a piece.
-const PIECE: usize = 65_536;
-
-const ATTR: Attr = Attr {
-    mode: 0o755,
+const FILE: Attr = Attr {
+    mode: 0o644,
     mtime: 1_700_000_000,
     uid: 0,
     gid: 0,
 };
 
-/// All bytes of a source, of at most 64 MiB.
-fn read_all<S: Source + Drop>(alloc: Global, source: &mut S) -> Option<Vec<u8>> {
-    let mut buffer = vec![in alloc; 0u8; PIECE].ok()?;
-    let mut bytes = Vec::new(alloc);
-    for _ in 0..1024u64 {
-        let count = source.read(buffer.as_mut_slice()).ok()?;
-        if count == 0 {
-            break;
-        }
-        bytes.extend_from_slice(&buffer[..count]).ok()?;
-    }
-    Some(bytes)
-}
+const DIRECTORY: Attr = Attr {
+    mode: 0o755,
+    mtime: 1_700_000_000,
+    uid: 0,
+    gid: 0,
+};
 
 /// A file whose content is this text.
 fn file(text: &str) -> Option<Node>
@@ -64,14 +56,14 @@ fn file(text: &str) -> Option<Node>
     }
     let hash = ObjectId::of(Kind::Plain, text.as_bytes()).hash;
     let size = text.len() as u64;
-    Some(Node::File(ATTR, FileRef { hash, size }))
+    Some(Node::File(FILE, FileRef { hash, size }))
 }
 
 /// Adds the directory or the file of a line, and the file's content.
 fn add(alloc: Global, tree: &mut Tree, contents: &mut Vec<Object>, line: &str) -> Option<()> {
     let path = RepoPath::read(alloc, line).ok()?;
     if line.ends_with('/') {
-        return tree.insert(&path, Node::Dir(ATTR)).ok();
+        return tree.insert(&path, Node::Dir(DIRECTORY)).ok();
     }
     tree.insert(&path, file(line)?).ok()?;
     contents
@@ -84,7 +76,7 @@ fn add(alloc: Global, tree: &mut Tree, contents: &mut Vec<Object>, line: &str) -
 
 /// The tree of these lines, and the contents of its files.
 fn tree_of(alloc: Global, text: &str) -> Option<(Tree, Vec<Object>)> {
-    let mut tree = Tree::new(alloc, ATTR).ok()?;
+    let mut tree = Tree::new(alloc, DIRECTORY).ok()?;
     let mut contents = Vec::new(alloc);
     for line in text.lines() {
         add(alloc, &mut tree, &mut contents, line)?;
@@ -129,12 +121,13 @@ fn time_loads(clock: &impl Clock, alloc: Global, tree: &Tree, contents: Vec<Obje
     Some(best)
 }
 
-/// Both times over the tree of these lines.
-fn measure(clock: &impl Clock, alloc: Global, text: &str) -> Option<(u128, u128)> {
+/// The text of the root's id, and both times over the tree of these lines.
+fn measure(clock: &impl Clock, alloc: Global, text: &str) -> Option<(String, u128, u128)> {
     let (tree, contents) = tree_of(alloc, text)?;
+    let root = cut(alloc, &tree).ok()?.root.text(alloc).ok()?;
     let cuts = time_cuts(clock, alloc, &tree)?;
     let loads = time_loads(clock, alloc, &tree, contents)?;
-    Some((cuts, loads))
+    Some((root, cuts, loads))
 }
 
 fn main(rt: HostRuntime) {
@@ -145,20 +138,23 @@ fn main(rt: HostRuntime) {
     let Ok(text) = std::str::from_utf8(&bytes) else {
         return;
     };
-    if let Some((cuts, loads)) = measure(&rt, rt.alloc(), text) {
-        let _ = println!(rt; "{cuts} {loads}");
+    if let Some((root, cuts, loads)) = measure(&rt, rt.alloc(), text) {
+        let _ = println!(rt; "{root} {cuts} {loads}");
     }
 }
 """
 
 
-def paths(files):
-    """500 directories, 10 in each of 50, of which each has a marker, and so many files in them."""
+LIBRARIES = "cv_base cv_ports cv_vault cv_real cv_tree cv_cut cv_load"
+
+
+def paths(files, tops=50):
+    """Directories with a marker, so many, nine directories in each, and so many files in all."""
     lines = []
-    for i in range(50):
+    for i in range(tops):
         lines += [f"/r{i}/", f"/r{i}/.cvmfscatalog"]
         lines += [f"/r{i}/d{j}/" for j in range(9)]
-    lines += [f"/r{k % 50}/d{k // 50 % 9}/f{k}" for k in range(files - 50)]
+    lines += [f"/r{k % tops}/d{k // tops % 9}/f{k}" for k in range(files - tops)]
     return "\n".join(lines).encode()
 
 
@@ -170,32 +166,31 @@ def marked(directories):
     return "\n".join(lines).encode()
 
 
-def times(folder):
-    crate = os.path.join(folder, "crates", "cut_bench")
-    os.makedirs(os.path.join(crate, "src"), exist_ok=True)
-    with open(os.path.join(crate, "src", "main.rt"), "w") as file:
-        file.write(PROGRAM)
-    with open(os.path.join(folder, "crates.txt"), "a") as file:
-        file.write("\ncut_bench: cv_base cv_ports cv_vault cv_real cv_tree cv_cut cv_load\n")
-    built = subprocess.run(["rt", "run"], cwd=crate, stdin=subprocess.DEVNULL, stdout=subprocess.PIPE, stderr=subprocess.STDOUT, text=True)
-    program = os.path.join(crate, "out", "cut_bench")
-    if not os.path.exists(program):
-        sys.exit(built.stdout)
-    for lines in (paths(5_000), paths(50_000), marked(1_000), marked(10_000)):
-        run = subprocess.run([program], input=lines, stdout=subprocess.PIPE)
-        yield [int(word) for word in run.stdout.split()]
+def root_of(lines):
+    """The id of the root's catalogue, by the table of the format."""
+    catalogues = cut_vectors.catalogues(cut_vectors.read(lines.decode()))
+    return hashlib.sha1(catalogues[""]).hexdigest() + "C"
 
 
-with tempfile.TemporaryDirectory() as empty:
-    folder = sys.argv[1] if len(sys.argv) > 1 else empty
-    if folder == empty:
-        shutil.copytree(
-            os.path.join(here, "crates"), os.path.join(folder, "crates"), ignore=shutil.ignore_patterns("out", "must-fail")
-        )
-        for name in ("crates.txt", "HANDLES"):
-            shutil.copy(os.path.join(here, name), folder)
-    files, more_files, marks, more_marks = times(folder)
+def measured(made, lines, root=None):
+    """The nanoseconds of cutting and of loading the tree of these lines, which must have this root where one is named."""
+    output = made.output(lines).decode().split()
+    if len(output) != 3 or root not in (None, output[0]):
+        sys.exit(f"cut.py: FAILED: the tree of root {root} was cut as {output}")
+    return int(output[1]), int(output[2])
+
+
+SHORT, FOLDER = words()
+with program("cut_bench", LIBRARIES, PROGRAM + READ_ALL, SHORT, FOLDER) as made:
+    if SHORT:
+        small = paths(20, 3)
+        measured(made, small, root_of(small))
+        print("a tree of 20 files with 4 catalogues was cut and loaded")
+        sys.exit()
+    small, marks = paths(5_000), marked(1_000)
+    files, more_files = measured(made, small, root_of(small)), measured(made, paths(50_000))
+    markers, more_markers = measured(made, marks, root_of(marks)), measured(made, marked(10_000))
 for what, few, many in zip(("cut", "load"), files, more_files):
     print(f"{what}: 5,000 files in {few / 1e6:.1f} ms, 50,000 in {many / 1e6:.1f} ms, growth {many / few:.1f}-fold")
-for what, few, many in zip(("cut", "load"), marks, more_marks):
+for what, few, many in zip(("cut", "load"), markers, more_markers):
     print(f"{what}: 1,000 markers in {few / 1e6:.1f} ms, 10,000 in {many / 1e6:.1f} ms, growth {many / few:.1f}-fold")

@@ -1,18 +1,15 @@
 #!/usr/bin/env python3
 """The time of walking a chain of records over a shelf in memory, by its length.
 
-    bench/history.py
+    bench/history.py [--short] [FOLDER]
 
-Copies the crates into a temporary folder, adds a program that makes chains of 1,000 and of 10,000
-records and walks each, has it proved and built by `rt run`, and prints the best of five walks of
-each length and the growth of the time. The program itself measures, so that building the shelf and
-starting the program don't count.
+The program makes chains of 1,000 and of 10,000 records and walks each, and the best of five walks counts, if it gave as many
+records. The program itself measures, so that building the shelf and starting the program don't count. The short form has
+chains of 5 and of 10 records and prints no time. FOLDER is a copy of the repository in which to build.
 """
-import os
-import shutil
-import subprocess
 import sys
-import tempfile
+
+from program import program, words
 
 PROGRAM = """\
 //! Walks chains of records over a shelf in memory, and prints the nanoseconds of each best walk.
@@ -23,6 +20,9 @@ use cv_history::chain;
 use cv_ports::MemoryShelf;
 use std::alloc::{AllocError, Global};
 use std::time::{Clock, Instant};
+
+/// The lengths of the chains.
+const LENGTHS: [u64; 2] = [1_000, 10_000];
 
 /// The bytes of a record under the root path, without key and tag.
 fn record_bytes(alloc: Global, revision: u64, previous: &[u8; 20]) -> Result<Vec<u8>, AllocError> {
@@ -76,29 +76,23 @@ fn best_walk(clock: &impl Clock, alloc: Global, count: u64) -> Option<u128> {
 }
 
 fn main(rt: HostRuntime) {
-    for count in [1_000, 10_000] {
+    for count in LENGTHS {
         let nanoseconds = best_walk(&rt, rt.alloc(), count).unwrap_or(0);
         let _ = println!(rt; "{count} {nanoseconds}");
     }
 }
 """
 
-here = os.path.dirname(os.path.dirname(os.path.abspath(__file__)))
-with tempfile.TemporaryDirectory() as folder:
-    shutil.copytree(
-        os.path.join(here, "crates"), os.path.join(folder, "crates"), ignore=shutil.ignore_patterns("out", "must-fail")
-    )
-    for name in ("crates.txt", "HANDLES"):
-        shutil.copy(os.path.join(here, name), folder)
-    crate = os.path.join(folder, "crates", "history_bench")
-    os.makedirs(os.path.join(crate, "src"))
-    with open(os.path.join(crate, "src", "main.rt"), "w") as file:
-        file.write(PROGRAM)
-    with open(os.path.join(folder, "crates.txt"), "a") as file:
-        file.write("\nhistory_bench: cv_base cv_ports cv_history\n")
-    run = subprocess.run(["rt", "run"], cwd=crate, stdout=subprocess.PIPE, stderr=subprocess.STDOUT, text=True)
-    times = dict(line.split() for line in run.stdout.splitlines() if line.startswith(("1000 ", "10000 ")))
-    if len(times) != 2 or "0" in times.values():
-        sys.exit(run.stdout)
-short, long = int(times["1000"]), int(times["10000"])
-print(f"chain of 1,000 records: {short / 1e6:.2f} ms; of 10,000: {long / 1e6:.2f} ms; growth {long / short:.1f}-fold")
+SHORT, FOLDER = words()
+LENGTHS = (5, 10) if SHORT else (1_000, 10_000)
+SOURCE = PROGRAM.replace("1_000, 10_000", ", ".join(map(str, LENGTHS)))
+with program("history_bench", "cv_base cv_ports cv_history", SOURCE, SHORT, FOLDER) as made:
+    lines = [line.split() for line in made.output().decode().splitlines()]
+times = {int(count): int(nanoseconds) for count, nanoseconds in lines}
+if tuple(times) != LENGTHS or 0 in times.values():
+    sys.exit(f"history.py: FAILED: a chain was not walked: {lines}")
+if SHORT:
+    print(f"chains of {LENGTHS[0]} and {LENGTHS[1]} records were walked")
+else:
+    short, long = times.values()
+    print(f"chain of 1,000 records: {short / 1e6:.2f} ms; of 10,000: {long / 1e6:.2f} ms; growth {long / short:.1f}-fold")

@@ -1,19 +1,21 @@
 #!/usr/bin/env python3
 """The rate of reading an object pack in pieces, beside sha1sum, and the memory that it takes.
 
-    bench/pack.py
+    bench/pack.py [--short] [FOLDER]
 
-Copies the crates into a temporary folder, adds a program that reads a pack from standard input in pieces of 64 KiB,
-has it proved and built by `rt run`, and gives it a pack of 32 MiB in 100 objects. It prints both rates, the best of
-five runs each, their ratio, and the peak memory of the program over that of one that reads the empty pack.
+The program reads a pack from standard input in pieces of 64 KiB. It gets a pack of 32 MiB in 100 objects. Printed are both
+rates, the best of five runs each, their ratio, and the peak memory of the program over that of one that reads the empty
+pack. The short form reads a pack of 4 KiB in 4 objects and prints no time. FOLDER is a copy of the repository in which to
+build.
 """
 import hashlib
 import os
-import shutil
 import subprocess
 import sys
 import tempfile
 import time
+
+from program import program, words
 
 PROGRAM = """\
 //! Reads a pack from standard input in pieces of 64 KiB, and prints how many objects it has.
@@ -52,8 +54,7 @@ fn main(rt: HostRuntime) {
 }
 """
 
-OBJECTS = 100
-TOTAL = 32 << 20
+LIBRARIES = "cv_base cv_ports cv_vault cv_real cv_pack"
 
 
 def pack(contents):
@@ -81,35 +82,34 @@ def peak_on(program, path):
     return int(subprocess.run([sys.executable, "-c", MEASURE, program, path], stdout=subprocess.PIPE).stdout) / 1024
 
 
-here = os.path.dirname(os.path.dirname(os.path.abspath(__file__)))
-with tempfile.TemporaryDirectory() as folder:
-    shutil.copytree(
-        os.path.join(here, "crates"), os.path.join(folder, "crates"), ignore=shutil.ignore_patterns("out", "must-fail")
-    )
-    for name in ("crates.txt", "HANDLES"):
-        shutil.copy(os.path.join(here, name), folder)
-    crate = os.path.join(folder, "crates", "pack_bench")
-    os.makedirs(os.path.join(crate, "src"))
-    with open(os.path.join(crate, "src", "main.rt"), "w") as file:
-        file.write(PROGRAM)
-    with open(os.path.join(folder, "crates.txt"), "a") as file:
-        file.write("\npack_bench: cv_base cv_ports cv_vault cv_real cv_pack\n")
-    sizes = [TOTAL // OBJECTS] * OBJECTS
-    sizes[-1] += TOTAL - sum(sizes)
+def contents(total, count):
+    sizes = [total // count] * count
+    sizes[-1] += total - sum(sizes)
+    return [os.urandom(size) for size in sizes]
+
+
+def measure(made, folder):
+    mib = 32
     whole, empty = (os.path.join(folder, name) for name in ("pack", "empty"))
     with open(whole, "wb") as file:
-        file.write(pack([os.urandom(size) for size in sizes]))
+        file.write(pack(contents(mib << 20, 100)))
     with open(empty, "wb") as file:
         file.write(pack([]))
-    built = subprocess.run(["rt", "run"], cwd=crate, stdin=subprocess.DEVNULL, stdout=subprocess.PIPE, stderr=subprocess.STDOUT, text=True)
-    program = os.path.join(crate, "out", "pack_bench")
-    if not os.path.exists(program):
-        sys.exit(built.stdout)
-    runs = [run_on([program], whole) for _ in range(5)]
+    runs = [run_on([made.path], whole) for _ in range(5)]
     assert all(output == b"100\n" for _, output in runs), runs[0][1]
     beside = [run_on(["sha1sum"], whole)[0] for _ in range(5)]
     read, summed = min(run[0] for run in runs), min(beside)
-    mib = TOTAL / (1 << 20)
     print(f"pack reader {mib / read:.0f} MiB/s, sha1sum {mib / summed:.0f} MiB/s, ratio {summed / read:.2f}")
-    peaks = peak_on(program, whole), peak_on(program, empty)
+    peaks = peak_on(made.path, whole), peak_on(made.path, empty)
     print(f"peak memory {peaks[0]:.1f} MiB, {peaks[1]:.1f} MiB for a pack of nothing; contents {mib:.0f} MiB")
+
+
+SHORT, FOLDER = words()
+with program("pack_bench", LIBRARIES, PROGRAM, SHORT, FOLDER) as made, tempfile.TemporaryDirectory() as folder:
+    if SHORT:
+        output = made.output(pack(contents(4096, 4)))
+        if output != b"4\n":
+            sys.exit(f"pack.py: FAILED: a pack of 4 objects was read as {output}")
+        print("a pack of 4 objects was read")
+    else:
+        measure(made, folder)

@@ -1,67 +1,64 @@
 #!/usr/bin/env python3
 """Object bytes and requests a second through `cvkit stdio`, beside sha1sum.
 
-    bench/stdio.py [PROGRAM]
+    bench/stdio.py [--short] [PROGRAM]
 
-Makes a repository folder with an object of 16 MiB and one of 1 KiB, and prints ratios of one run: the best of three each.
+Asks for an object of 16 MiB fifty times and for one of 1 KiB 999 times, each over one connection, and prints ratios of one
+run: the best of three each. What is answered is compared first, a few times. The short form compares, with small objects, and
+prints no time.
 """
-import hashlib
 import os
 import subprocess
 import sys
-import tempfile
 import time
 
-program = os.path.abspath(sys.argv[1] if len(sys.argv) > 1 else "crates/cvkit/out/cvkit")
-name = "sw.example.org"
-
-
-def timed(run):
-    begin = time.perf_counter()
-    run()
-    return time.perf_counter() - begin
+sys.path.insert(0, os.path.join(os.path.dirname(os.path.abspath(__file__)), "..", "tools"))
+from cvkit_client import digest_of, expect, file_reply, get, main, object_name, object_path, repository, serve
 
 
 def best(run, times=3):
-    return min(timed(run) for _ in range(times))
+    """The seconds of the shortest of some runs, and what that run gave."""
+
+    def timed():
+        begin = time.perf_counter()
+        given = run()
+        return time.perf_counter() - begin, given
+
+    return min((timed() for _ in range(times)), key=lambda one: one[0])
 
 
-def write_object(folder, content):
-    digest = hashlib.sha1(content).hexdigest()
-    path = os.path.join(folder, "srv", "data", digest[:2])
-    os.makedirs(path, exist_ok=True)
-    with open(os.path.join(path, digest[2:]), "wb") as file:
-        file.write(content)
-    return digest, os.path.join(path, digest[2:])
+def compare(program, folder, contents, times):
+    """Sees that the objects come, each so many times."""
+    asked = b"".join(get(object_name(digest_of(content))) for content in contents)
+    written, _ = serve(program, folder, asked * times)
+    wanted = b"".join(map(file_reply, contents)) * times
+    expect(written == wanted, "the replies are others than the objects", len(written))
 
 
-def requests(digest, count):
-    head = f"GET /cvmfs/{name}/data/{digest[:2]}/{digest[2:]} HTTP/1.1\r\nHost: x\r\n\r\n"
-    return head.encode() * count
+def measure(program, folder, large, small):
+    def ask(content, times):
+        asked = get(object_name(digest_of(content))) * times
+        return best(lambda: serve(program, folder, asked, subprocess.DEVNULL))
+
+    path = object_path(folder, digest_of(large))
+    served, (_, peak) = ask(large, 50)
+    hashed, _ = best(lambda: subprocess.run(["sha1sum"] + [path] * 50, stdout=subprocess.DEVNULL, check=True))
+    many, (_, small_peak) = ask(small, 999)
+    total = 50 * len(large) / (1 << 20)
+    ratio = hashed / served
+    print(f"object of 16 MiB, 50 times: {total / served:.0f} MiB/s; sha1sum {total / hashed:.0f} MiB/s; ratio {ratio:.2f}")
+    print(f"object of 1 KiB: {999 / many:.0f} requests/s in one session of 999, the program's start included")
+    print(f"peak memory of the program: {peak:.0f} MiB; with the small object {small_peak:.0f} MiB")
 
 
-with tempfile.TemporaryDirectory() as folder:
-    os.makedirs(os.path.join(folder, "srv"))
-    with open(os.path.join(folder, "srv", ".cvmfspublished"), "w") as file:
-        file.write("M\n")
-    large, large_path = write_object(folder, os.urandom(16 << 20))
-    small, _ = write_object(folder, os.urandom(1024))
-    peak = 0
+def script(program, short):
+    contents = [os.urandom(100_000 if short else 16 << 20), os.urandom(1024), b""]
+    with repository(program, objects=contents) as folder:
+        compare(program, folder, contents, 3)
+        if short:
+            print("each object came as it stands")
+        else:
+            measure(program, folder, *contents[:2])
 
-    def serve(asked):
-        global peak
-        child = subprocess.Popen([program, "stdio", name], stdin=subprocess.PIPE, stdout=subprocess.DEVNULL, cwd=folder)
-        child.stdin.write(asked)
-        child.stdin.close()
-        _, status, used = os.wait4(child.pid, 0)
-        child.returncode = os.waitstatus_to_exitcode(status)
-        assert child.returncode == 0, child.returncode
-        peak = max(peak, used.ru_maxrss / 1024)
 
-    served = best(lambda: serve(requests(large, 50)))
-    hashed = best(lambda: subprocess.run(["sha1sum"] + [large_path] * 50, stdout=subprocess.DEVNULL, check=True))
-    many = best(lambda: serve(requests(small, 999)))
-    total = 50 * 16
-    print(f"object of 16 MiB, 50 times: {total / served:.0f} MiB/s; sha1sum {total / hashed:.0f} MiB/s; ratio {hashed / served:.2f}")
-    print(f"object of 1 KiB: {999 / many:.0f} requests/s in one session of 999")
-    print(f"peak memory of the program: {peak:.0f} MiB")
+main(script)

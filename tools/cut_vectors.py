@@ -1,11 +1,12 @@
 #!/usr/bin/env python3
 """Catalogues of small trees for the tests of cv_cut, made from the definition of the format and not by cutting.
 
-Run with no argument: it prints the table that crates/cv_cut/src/tests.rt has. A tree is a text of paths, one after
-another: `/d/` is a directory, `/l=t` a link to `t`, anything else a file whose content is the text of its path.
+A tree is a text of paths, one after another: `/d/` is a directory, `/l=t` a link to `t`, anything else a file whose content is the text of its path.
 """
 import hashlib
 import struct
+
+from vectors import settle, table
 
 TIME = 1700000000
 MARKER = ".cvmfscatalog"
@@ -100,12 +101,15 @@ def catalogues(nodes):
     return made
 
 
-def main():
+def item():
+    rows = []
     for text in TREES:
         made = catalogues(read(text))
         total = sum(len(data) for data in made.values())
         root = made[""]
-        print('    (\n        "%s",\n        "%sC",\n        %d,\n        %d,\n        %d,\n    ),' % (text, hashlib.sha1(root).hexdigest(), len(root), len(made), total))
+        rows.append(f'("{text}", "{hashlib.sha1(root).hexdigest()}C", {len(root)}, {len(made)}, {total})')
+    return table("TREES", "(&str, &str, u64, usize, usize)", rows)
 
 
-main()
+if __name__ == "__main__":
+    settle("crates/cv_cut/src/tests.rt", [item()])

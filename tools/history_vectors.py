@@ -1,41 +1,20 @@
 #!/usr/bin/env python3
 """Expected values for the tests of history records, worked out from the format and not by the reader.
 
-    tools/history_vectors.py
-
-Prints the first record of the empty repository at time 1700000000 and the record of its second
-revision (the file `/a` of `hello` and a newline, published under the lease 1-1 on `/a` with the key
-`k1`), each with its SHA-1; and for a table of edits of these two the offset of the first field that
-is wrong then. A row is the record, its new length, the offset of the byte that is set, that byte, and
-the expected offset. What a field may be is said here a second time, on whole records.
+The tests have the first record of the empty repository at time 1700000000 and the record of its second revision (the file
+`/a` of `hello` and a newline, published under the lease 1-1 on `/a` with the key `k1`), each with its SHA-1; and for a table
+of edits of these two the offset of the first field that is wrong then. A row is the offset of the byte that is set, that
+byte, and the expected offset. What a field may be is said here a second time, on whole records.
 """
 import hashlib
 import struct
 
+from row_vectors import file, row
+from vectors import array, numbers, settle
+
 
 def sha1(data):
     return hashlib.sha1(data).digest()
-
-
-def md5(data):
-    return hashlib.md5(data).digest()
-
-
-def row(path, parent, flags, mode, size, digest, name):
-    return (
-        md5(path)
-        + parent
-        + struct.pack(">IIQIIQ", flags, mode, 1700000000, 0, 0, size)
-        + bytes([len(digest)])
-        + digest
-        + struct.pack(">H", len(name))
-        + name
-        + struct.pack(">H", 0)
-    )
-
-
-def catalogue(rows):
-    return b"CVR1" + struct.pack(">II", len(rows), 0) + b"".join(sorted(rows))
 
 
 def sized(text):
@@ -58,13 +37,13 @@ def record(revision, previous, root, offered, token, path, key, time, tag):
 
 
 hello = b"hello\n"
-root_row = row(b"", bytes(16), 1, 0o040755, 0, b"", b"")
-file_row = row(b"/a", md5(b""), 4, 0o100644, len(hello), sha1(hello), b"a")
-empty_root = sha1(catalogue([root_row]))
-next_root = sha1(catalogue([root_row, file_row]))
+root_row = row("", "dir")
+file_row = row("/a", "file", hello)
+empty_root = sha1(file([root_row]))
+next_root = sha1(file([root_row, file_row]))
 first = record(1, bytes(20), empty_root, empty_root, (0, 0), b"", b"", 1700000000, b"")
 second = record(2, sha1(first), next_root, next_root, (1, 1), b"/a", b"k1", 1700000000, b"")
-assert len(catalogue([root_row])) == 81 and len(first) == 102
+assert len(first) == 102
 
 
 def is_text(text):
@@ -137,28 +116,39 @@ def wrong(data):
     return at if at < len(data) else None
 
 
-def literal(data):
-    return ", ".join(str(b) for b in data)
+def edited(data, at, byte):
+    """The row of an edit."""
+    bad = wrong(data[:at] + bytes([byte]) + data[at + 1 :])
+    assert bad is not None, (at, byte)
+    return f"({at}, {byte}, {bad})"
 
 
-for name, data in (("FIRST", first), ("SECOND", second)):
-    print(name, len(data), literal(data))
-    print(name, "SHA-1", sha1(data).hex(), literal(sha1(data)))
-print("roots", literal(empty_root), "and", literal(next_root))
+def function(name, data):
+    return f"fn {name}() -> [u8; {len(data)}] {{\n    {numbers(data)}\n}}"
 
-edits = []
-for size in (0, 3, 4, 11, 12, 31, 51, 71, 79, 87, 89, 91, 93, 95, 103, 105, 107):
-    edits.append(("SECOND", size, 0, ord("C")))
-for at, byte in ((3, ord("2")), (4, 1), (11, 0), (9, 5), (88, 16), (90, ord("a")), (91, 0), (91, ord("/")), (92, 1), (94, 0xFF), (96, 64), (104, 1)):
-    edits.append(("SECOND", 106, at, byte))
-for at, byte in ((12, 1), (31, 1), (52, 0), (79, 1), (87, 1), (89, 1), (91, 1), (101, 1)):
-    edits.append(("FIRST", 102, at, byte))
-edits.append(("FIRST", 101, 0, ord("C")))
-for which, size, at, byte in edits:
-    data = bytearray({"FIRST": first, "SECOND": second}[which][:size])
-    data += bytes(size - len(data))
-    if at < len(data):
-        data[at] = byte
-    bad = wrong(bytes(data))
-    assert bad is not None, (which, size, at, byte)
-    print(f"    ({which}, {size}, {at}, {byte}) {bad}")
+
+FIRST_EDITS = ((12, 1), (31, 1), (52, 0), (79, 1), (87, 1), (89, 1), (91, 1), (101, 1))
+SECOND_EDITS = (
+    (3, ord("2")), (4, 1), (11, 0), (9, 5), (88, 16), (90, ord("a")),
+    (91, 0), (91, ord("/")), (92, 1), (94, 0xFF), (96, 64), (104, 1),
+)
+
+# A record that is cut is wrong at its end, and a longer one behind the record.
+for whole in (first, second):
+    assert wrong(whole) is None
+    assert all(wrong(whole[:size]) == size for size in range(len(whole)))
+    assert wrong(whole + bytes(1)) == len(whole)
+
+settle(
+    "crates/cv_history/src/tests.rt",
+    [
+        function("first", first),
+        function("second", second),
+        function("first_hash", sha1(first)),
+        function("second_hash", sha1(second)),
+        function("nothing", sha1(b"")),
+        function("hello", sha1(hello)),
+        array([edited(first, *edit) for edit in FIRST_EDITS]),
+        array([edited(second, *edit) for edit in SECOND_EDITS]),
+    ],
+)

@@ -1,28 +1,22 @@
 #!/usr/bin/env python3
 """Requests for the tests of cv_session, with what each asks, by the tables of the interface and not by the program.
 
-Prints a row for each: method, target, Authorization header, body, and the turn in words. The headers are made by
-Python's hmac and base64, and the turns by a second telling of the rules, over regular expressions and Python's json.
+A row is a request: method, target, Authorization header, body, and the turn in words. The headers are made by Python's hmac
+and base64, and the turns by a second telling of the rules, over regular expressions and Python's json.
 """
 import base64
-import hashlib
-import hmac
 import json
 import re
 
-REPOSITORY = "sw.example.org"
-SECRETS = {"k1": b"s1", "k2": b"s2"}
-LEASES = "/api/v1/leases"
+import cvkit_client
+from cvkit_client import KEYS, LEASES, REPOSITORY, mac
+from vectors import raw_text, settle, table
+
 HASH = "f572d396fae9206628714fb2ce00f72e94f2258f"
 
 
-def mac(secret, message):
-    return hmac.new(secret, message.encode(), hashlib.sha1).hexdigest()
-
-
 def header(key, message, secret=None):
-    digits = mac(secret or SECRETS[key], message)
-    return key + " " + base64.b64encode(digits.encode()).decode()
+    return cvkit_client.authorization(key, message.encode(), secret)
 
 
 def signer(authorization, message):
@@ -33,9 +27,9 @@ def signer(authorization, message):
     if not parts:
         return None, "bad_authorization"
     key, code = parts.groups()
-    if key not in SECRETS:
+    if key not in KEYS:
         return None, "unknown_key"
-    if base64.b64decode(code).decode("latin-1") != mac(SECRETS[key], message):
+    if base64.b64decode(code).decode("latin-1") != mac(KEYS[key], message.encode()):
         return None, "wrong_mac"
     return key, None
 
@@ -92,7 +86,7 @@ def ask(path):
 
 GOOD = ask("sw.example.org/a")
 ROWS = [("Post", LEASES, None, GOOD)]
-ROWS += [("Post", LEASES, text, GOOD) for text in ["k1", header("k9", GOOD, b"s1"), header("k1", GOOD, b"s2")]]
+ROWS += [("Post", LEASES, text, GOOD) for text in ["k1", header("k9", GOOD, "s1"), header("k1", GOOD, "s2")]]
 ROWS += [("Post", LEASES, header("k1", GOOD), "{")]
 for body in ["{", "{}", '{"path":1}']:
     ROWS.append(("Post", LEASES, header("k1", body), body))
@@ -111,11 +105,11 @@ for file in [".cvmfspublished", "data/%s/%sC" % (HASH[:2], HASH[2:])]:
 ROWS.append(("Other", LEASES, None, ""))
 
 
-def rust(text):
-    return 'r#"%s"#' % text if '"' in text else '"%s"' % text
+def row(method, target, authorization, body):
+    given = "None" if authorization is None else f"Some({raw_text(authorization)})"
+    words = raw_text(turn(method, target, authorization, body))
+    return f"(Method::{method}, {raw_text(target)}, {given}, {raw_text(body)}, {words})"
 
 
-for method, target, authorization, body in ROWS:
-    given = "None" if authorization is None else "Some(%s)" % rust(authorization)
-    words = rust(turn(method, target, authorization, body))
-    print("    (Method::%s, %s, %s, %s, %s)," % (method, rust(target), given, rust(body), words))
+ITEM = table("REQUESTS", "(Method, &str, Option<&str>, &str, &str)", [row(*request) for request in ROWS], "static")
+settle("crates/cv_session/src/tests.rt", [ITEM])

@@ -1,13 +1,16 @@
 #!/usr/bin/env python3
 """Expected values for the tests of manifests, worked out from the format and not by the reader.
 
-Run as `python3 tools/manifest_vectors.py`. It prints the manifest of an empty repository (its
-catalogue is the one row of the root, its history the record of revision 1), and a table of faulty
-texts with the fault that each shows. Seals are by the `hmac` of Python under the secret `seal`.
+The tests have the manifest of an empty repository (its catalogue is the one row of the root, its history the record of
+revision 1), and tables of faulty texts with the fault that each shows. Seals are by the `hmac` of Python under the secret
+`seal`.
 """
 import hashlib
 import hmac
 import struct
+
+from row_vectors import file, row
+from vectors import constant, numbers, settle, table
 
 SECRET = b"seal"
 NAME = b"sw.example.org"
@@ -26,13 +29,7 @@ def sealed(lines, secret=SECRET):
     return lines + b"--\n" + digits + b"\n" + hmac.new(secret, digits, "sha1").digest()
 
 
-row = (
-    hashlib.md5(b"").digest()
-    + bytes(16)
-    + struct.pack(">IIQIIQ", 1, 0o040755, TIME, 0, 0, 0)
-    + bytes(1 + 2 + 2)
-)
-catalogue = b"CVR1" + struct.pack(">II", 1, 0) + row
+catalogue = file([row("", "dir")])
 root = hashlib.sha1(catalogue).digest()
 record = (
     b"CVH1"
@@ -82,10 +79,7 @@ def literal(data):
 
 WHOLE = sealed(lines())
 assert (len(catalogue), len(record), len(WHOLE)) == (81, 102, 222)
-print("root", ", ".join("0x%02x" % b for b in root))
-print("history", ", ".join("0x%02x" % b for b in history))
-print("manifest", len(WHOLE), literal(WHOLE))
-print("in any order", literal(sealed(b"Xpassed over\n" + b"".join(reversed(lines().splitlines(True))) + b"- \n")))
+IN_ANY_ORDER = sealed(b"Xpassed over\n" + b"".join(reversed(lines().splitlines(True))) + b"- \n")
 
 C, H = FIELDS[b"C"], FIELDS[b"H"]
 # the line of a number in place of that of the manifest (9 is behind them), and the fault under the seal
@@ -114,13 +108,10 @@ CHANGES = [
     (7, b"H" + H + b"H\n", "BadLine(7)"),
     (8, b"T%d\n" % 2**62, "BadLine(8)"),
 ]
-for number, text, fault in CHANGES:
-    print("    (%d, %s, ManifestFault::%s)," % (number, literal(text), fault))
-
 # whole texts under a seal of 20 zero bytes
 NOTHING = sha1(b"")
 ZEROS = bytes(20)
-for text, fault in [
+TEXTS = [
     (b"", "NoEnd"),
     (b"--", "NoEnd"),
     (b"--\n", "NoEnd"),
@@ -132,7 +123,28 @@ for text, fault in [
     (b"--\n--\n" + NOTHING + b"\n" + ZEROS, "NoEnd"),
     (b"--\n" + NOTHING + b"\n", "BadSeal"),
     (b"--\n" + NOTHING + b"\n" + ZEROS, "BadSeal"),
-]:
-    print("    (%s, ManifestFault::%s)," % (literal(text), fault))
-print("stated", ", ".join("0x%02x" % b for b in hashlib.sha1(b"").digest()))
-print("computed", ", ".join("0x%02x" % b for b in hashlib.sha1(b"\n").digest()))
+]
+
+
+def digest(name, data):
+    return constant(name, "[u8; 20]", numbers(data, "0x%02x"))
+
+
+settle(
+    "crates/cv_manifest/src/tests.rt",
+    [
+        digest("ROOT", root),
+        digest("HISTORY", history),
+        constant("WHOLE", "&[u8]", literal(WHOLE)),
+        constant("IN_ANY_ORDER", "&[u8]", literal(IN_ANY_ORDER)),
+        table("LINES", "&[u8]", [literal(line) for line in lines().splitlines(True) + [b""]]),
+        table(
+            "CHANGES",
+            "(usize, &[u8], ManifestFault)",
+            [f"({number}, {literal(text)}, ManifestFault::{fault})" for number, text, fault in CHANGES],
+        ),
+        table("TEXTS", "(&[u8], ManifestFault)", [f"({literal(text)}, ManifestFault::{fault})" for text, fault in TEXTS]),
+        digest("OF_NOTHING", hashlib.sha1(b"").digest()),
+        digest("OF_NEWLINE", hashlib.sha1(b"\n").digest()),
+    ],
+)

@@ -1,35 +1,19 @@
 #!/usr/bin/env python3
 """Expected values for the tests of object packs, worked out from the format and not by the reader.
 
-Prints the pack of two objects (a file of `hello` and a newline, and the catalogue that has it), and
-for each text of a table the shortest front of it that shows the fault, with that fault. What a byte
-shows is said here a second time, over whole fronts: a front shows a fault where no pack that begins
-with it has that fault's field as the format wants it.
+The tests have the pack of two objects (a file of `hello` and a newline, and the catalogue that has it), and for each text of a
+table the shortest front of it that shows the fault, with that fault. What a byte shows is said here a second time, over whole
+fronts: a front shows a fault where no pack that begins with it has that fault's field as the format wants it.
 """
 import hashlib
 import re
-import struct
+
+from row_vectors import file, row
+from vectors import constant, numbers, settle, table
 
 
 def sha1(data):
     return hashlib.sha1(data).hexdigest()
-
-
-def md5(data):
-    return hashlib.md5(data).digest()
-
-
-def row(path, parent, flags, mode, size, digest, name):
-    return (
-        md5(path)
-        + parent
-        + struct.pack(">IIQIIQ", flags, mode, 1700000000, 0, 0, size)
-        + bytes([len(digest)])
-        + digest
-        + struct.pack(">H", len(name))
-        + name
-        + struct.pack(">H", 0)
-    )
 
 
 def pack(objects):
@@ -41,20 +25,10 @@ def pack(objects):
 
 
 hello = b"hello\n"
-rows = sorted(
-    [
-        row(b"", bytes(16), 1, 0o040755, 0, b"", b""),
-        row(b"/a", md5(b""), 4, 0o100644, len(hello), hashlib.sha1(hello).digest(), b"a"),
-    ]
-)
-catalogue = b"CVR1" + struct.pack(">II", 2, 0) + b"".join(rows)
+catalogue = file([row("", "dir"), row("/a", "file", hello)])
 header, whole = pack([(sha1(hello), hello), (sha1(catalogue) + "C", catalogue)])
-print("catalogue", len(catalogue), ", ".join(str(b) for b in catalogue))
-print("header", len(header), header, sha1(header))
-print("header digest", ", ".join(str(b) for b in hashlib.sha1(header).digest()))
-print("pack", len(whole))
 empty_header, empty = pack([])
-print("empty", len(empty), empty, ", ".join(str(b) for b in hashlib.sha1(empty_header).digest()))
+assert (len(catalogue), len(header), len(whole)) == (171, 107, 284)
 
 
 def line_fault(front, at, pattern, whole_pattern):
@@ -165,11 +139,30 @@ TABLE = [
     b"V2\nS1\nN3\n--\nC " + NOTHING + b" 0\nC " + A + b" 1\nC " + NOTHING + b"C 0\naa",
     b"V2\nS0\nN0\n--\n\n",
 ]
-for text in TABLE:
-    for end in range(len(text) + 1):
-        shown = fault(text[:end])
-        if shown:
-            break
-    print("        (b%s, PackFault::%s)," % (ascii(text[:end])[1:].replace("'", '"'), shown))
-for text in [b"V2\nS0\nN0\n--", b"V2\nS1\nN1\n--\nC " + A + b" 1\n", b""]:
-    print("lacking", text, fault(text))
+
+
+def literal(data):
+    return "b" + ascii(data)[1:].replace("'", '"')
+
+
+def shown(data):
+    """The row of a text: its shortest front that shows a fault, and the fault."""
+    front = next(data[:end] for end in range(len(data) + 1) if fault(data[:end]))
+    return f"({literal(front)}, PackFault::{fault(front)})"
+
+
+# A pack whose last bytes lack shows no fault yet.
+for data in [b"V2\nS0\nN0\n--", b"V2\nS1\nN1\n--\nC " + A + b" 1\n", b""]:
+    assert fault(data) is None
+
+settle(
+    "crates/cv_pack/src/tests.rt",
+    [
+        constant("HEADER", "&[u8]", literal(header)),
+        constant("HEADER_DIGEST", "[u8; 20]", numbers(hashlib.sha1(header).digest())),
+        constant("HELLO", "&[u8]", literal(hello)),
+        constant("CATALOGUE", "[u8; 171]", numbers(catalogue)),
+        constant("EMPTY_DIGEST", "[u8; 20]", numbers(hashlib.sha1(empty_header).digest())),
+        table("FAULTS", "(&[u8], PackFault)", [shown(data) for data in TABLE]),
+    ],
+)

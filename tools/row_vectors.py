@@ -1,12 +1,14 @@
 #!/usr/bin/env python3
 """Row files for the tests of cv_rows, written by the format's table alone.
 
-Run `python3 tools/row_vectors.py` in any folder. It prints what crates/cv_rows/src/tests.rt has: the good texts as
-constants of hex digits, and the table FAULTS. A bad text stands there as the change of a good one: the place, the good
-text, the offsets between which its bytes are others, the hex digits of these others, and the fault. To change a text or
-to add one, change `main`, paste what is printed in place of both, and run `rt fmt` in the crate's folder."""
+The tests have the good texts as constants of hex digits, and the table FAULTS. A bad text stands there as the change of a
+good one: the place, the good text, the offsets between which its bytes are others, the hex digits of these others, and the
+fault. To change a text or to add one, change `items`, paste what is printed in place of both, and run `rt fmt` in the
+crate's folder."""
 import hashlib
 import struct
+
+from vectors import settle
 
 TIME = 1700000000
 FLAGS = {"dir": 1, "transition": 3, "nested": 33, "file": 4, "link": 12}
@@ -70,7 +72,8 @@ def change(good, bad):
     return start, end, new
 
 
-def main():
+def items():
+    """The good texts as constants, and the table of the bad ones."""
     root = row("", "dir")
     a = row("/a", "file", b"hello\n")
     d = row("/d", "dir")
@@ -96,7 +99,7 @@ def main():
     empty, one, outer = text["EMPTY"], text["ONE"], text["OUTER"]
     assert len(empty) == 81 and len(one) == 171
     for name, (what, data) in good.items():
-        print(f'/// {what}\nconst {name}: &str =\n    "{data.hex()}";\n')
+        yield f'/// {what}\nconst {name}: &str =\n    "{data.hex()}";'
     deep = "/n" * 64
     far = row("/x/f", "file", b"f\n")
     faults = [
@@ -132,12 +135,13 @@ def main():
         ("an entry of a plain directory", "", "OUTER", file([root, d], [entry("/d", inner)]), "NestedList(0)"),
         ("a transition without an entry", "", "OUTER", file(outer_rows), "NestedList(0)"),
     ]
-    print(f"const FAULTS: [Change; {len(faults)}] = [")
+    lines = [f"const FAULTS: [Change; {len(faults)}] = ["]
     for what, place, name, bad, fault in faults:
         start, end, new = change(text[name], bad)
-        print(f'    // {what}\n    ("{place}", Good::{name.capitalize()}, {start}, {end}, "{new.hex()}", RowFault::{fault}),')
-    print("];")
+        lines.append(f'    // {what}')
+        lines.append(f'    ("{place}", Good::{name.capitalize()}, {start}, {end}, "{new.hex()}", RowFault::{fault}),')
+    yield "\n".join(lines + ["];"])
 
 
 if __name__ == "__main__":
-    main()
+    settle("crates/cv_rows/src/tests.rt", list(items()))

@@ -1,40 +1,27 @@
 #!/usr/bin/env python3
 """Sessions for the tests of cv_top: requests, and their replies by the tables of the interface, not by the program.
 
-Prints a row for each session: the seconds of the clock after its first moment, the input and the output. The Authorization
-headers are made by Python's hmac and base64, the answers by json.
+A row is a session: the seconds of the clock after its first moment, the input and the output. The Authorization headers are
+made by Python's hmac and base64, the answers by json.
 """
-import base64
-import hashlib
-import hmac
 import json
 
-REPOSITORY = "sw.example.org"
-SECRETS = {"k1": b"s1", "k2": b"s2"}
-LEASES = "/api/v1/leases"
+import cvkit_client
+from cvkit_client import LEASES, REPOSITORY, authorization, lease_message
+from vectors import settle, table, text
 
 
-def header(key, message, secret=None):
-    digits = hmac.new(secret or SECRETS[key], message.encode(), hashlib.sha1).hexdigest()
-    return key + " " + base64.b64encode(digits.encode()).decode()
-
-
-def request(method, target, authorization=None, body=None):
-    lines = ["%s %s HTTP/1.1" % (method, target), "Host: x"]
-    if authorization is not None:
-        lines.append("Authorization: " + authorization)
-    if body is not None:
-        lines.append("Content-Length: %d" % len(body))
-    return "\r\n".join(lines) + "\r\n\r\n" + (body or "")
+def request(method, target, signed=None, body=None):
+    return cvkit_client.request(method, target, body, signed).decode()
 
 
 def ask(path, key="k1", repository=REPOSITORY, secret=None, signed=True):
-    body = json.dumps({"path": repository + path}, separators=(",", ":"))
-    return request("POST", LEASES, header(key, body, secret) if signed else None, body)
+    body = lease_message(path, repository)
+    return request("POST", LEASES, authorization(key, body, secret) if signed else None, body)
 
 
 def end(token, key):
-    return request("DELETE", LEASES + "/" + token, header(key, token))
+    return cvkit_client.end(token, key).decode()
 
 
 def reply(answer):
@@ -70,8 +57,8 @@ SESSIONS = [
     (
         (0, 5, 4),
         [
-            (ask("/a", secret=b"s2"), refused("wrong_mac")),
-            (ask("/a", "k9", secret=b"s1"), refused("unknown_key")),
+            (ask("/a", secret="s2"), refused("wrong_mac")),
+            (ask("/a", "k9", secret="s1"), refused("unknown_key")),
             (ask("/a", signed=False), refused("no_authorization")),
             (request("GET", "/api/v1/repos"), REPOSITORIES),
             (ask("/a/"), granted("1-1")),
@@ -90,14 +77,10 @@ SESSIONS = [
 ]
 
 
-def rust(text):
-    text = text.replace("\\", "\\\\").replace('"', '\\"').replace("\r", "\\r").replace("\n", "\\n")
-    return '"%s"' % text
+def row(seconds, exchanges):
+    asked, said = ("".join(part) for part in zip(*exchanges))
+    return f"({seconds}, {text(asked)}, {text(said)})"
 
 
-for seconds, exchanges in SESSIONS:
-    print("    (")
-    print("        %s," % (seconds,))
-    print("        %s," % rust("".join(asked for asked, _ in exchanges)))
-    print("        %s," % rust("".join(said for _, said in exchanges)))
-    print("    ),")
+ROWS = [row(seconds, exchanges) for seconds, exchanges in SESSIONS]
+settle("crates/cv_top/src/tests.rt", [table("SESSIONS", "((u32, u32, u32), &str, &str)", ROWS, "static")])

@@ -1,0 +1,130 @@
+#!/usr/bin/env python3
+"""The fsyncs of files and of folders that calls of the vault over a folder cost, by strace.
+
+    bench/vault.py [--short] [FOLDER]
+
+The program of `tools/vault_calls.py` stores batches of objects, replaces a manifest and makes the first sync over many files,
+each over a folder of its own and all in one run. By `strace -f -y` each of its fsyncs shows what it is of. The counts are
+compared with those below. The full form has batches of 1,000 objects and a sync over 50,000 files too, and prints the time of
+that one; the short form has batches of 1 and 10, and a sync over 10 files. FOLDER is a copy of the repository in which to build.
+"""
+import os
+import re
+import shutil
+import sys
+import tempfile
+import time
+
+sys.dont_write_bytecode = True
+sys.path.insert(0, os.path.join(os.path.dirname(os.path.dirname(os.path.abspath(__file__))), "tools"))
+from program import program, words
+from vault_calls import LIBRARIES, PROGRAM
+
+MANIFEST = "write=txn/manifest>{} sync rename=txn/manifest>.cvmfspublished sync"
+FSYNC = re.compile(r"\bf(?:data)?sync\(\d+<([^>]*)>")
+
+
+def nothing(folder):
+    """No folder is there."""
+
+
+def buckets(folder):
+    """The folders of all objects are there, and `txn`."""
+    for bucket in range(256):
+        os.makedirs(os.path.join(folder, "srv", "data", f"{bucket:02x}"))
+    os.mkdir(os.path.join(folder, "srv", "txn"))
+
+
+def files(count):
+    """These folders, with so many files."""
+
+    def prepare(folder):
+        buckets(folder)
+        for number in range(count):
+            with open(os.path.join(folder, "srv", "data", f"{number % 256:02x}", f"{number:038x}"), "wb") as file:
+                file.write(b"x" * 100)
+
+    return prepare
+
+
+def batch(count, before, wanted):
+    """A row of a batch of so many objects."""
+    prepare, there = (buckets, "the folders are there") if before else (nothing, "no folder is there")
+    what = f"a batch of {count:,} object{'s' if count > 1 else ''}, where {there}"
+    return what, prepare, before, f"store={count}>1000", wanted
+
+
+def rows(short):
+    """What is done; how its folder is made; calls that aren't counted, and those that are; their fsyncs of files and folders."""
+    once = "sync " + MANIFEST.format(1)
+    found = [batch(1, "", (1, 7)), batch(10, "", (10, 16))]
+    found += [batch(1, "sync", (1, 3)), batch(10, "sync", (10, 12))]
+    found += [("a replaced manifest", buckets, once, MANIFEST.format(2), (1, 3))]
+    if short:
+        return found + [("a first sync over 10 files in 256 folders", files(10), "", "sync", (0, 260))]
+    found += [batch(1_000, "", (1_000, 262)), batch(1_000, "sync", (1_000, 258))]
+    return found + [("a first sync over 50,000 files in 256 folders", files(50_000), "", "sync", (0, 260))]
+
+
+def traced(made, runs, top):
+    """The fsyncs of files and of folders of each run, a way to make a folder with calls over it."""
+    arguments = []
+    for number, (prepare, calls) in enumerate(runs):
+        folder = os.path.join(top, str(number))
+        os.mkdir(folder)
+        prepare(folder)
+        root = os.path.join(folder, "srv")
+        arguments += [f"at={root}" if arguments else root] + calls.split()
+    log = os.path.join(top, "strace.log")
+    told = made.output(arguments=arguments, tracer=["strace", "-f", "-y", "-o", log, "-e", "trace=fsync,fdatasync"]).decode()
+    if set(told.split()) - {"ok", "yes"}:
+        sys.exit(f"a call failed: {told}")
+    counts = [[0, 0] for _ in runs]
+    with open(log, errors="replace") as file:
+        for path in FSYNC.findall(file.read()):
+            if path.startswith(top + os.sep):
+                number = int(path[len(top) + 1 :].split(os.sep)[0])
+                counts[number][not path.endswith(".cvkit-next")] += 1
+    return counts
+
+
+def measured(made, all_rows, top):
+    """The fsyncs of the calls of each row that are counted."""
+    runs = []
+    for _, prepare, before, calls, _ in all_rows:
+        runs += [(prepare, f"{before} {calls}"), (prepare, before)]
+    counts = traced(made, runs, top)
+    return [(both[0] - first[0], both[1] - first[1]) for both, first in zip(counts[::2], counts[1::2])]
+
+
+def timed(made, top):
+    """The seconds of a start and a first sync over 50,000 files."""
+    folder = os.path.join(top, "timed")
+    os.mkdir(folder)
+    files(50_000)(folder)
+    begin = time.perf_counter()
+    made.output(arguments=[os.path.join(folder, "srv"), "sync"])
+    return time.perf_counter() - begin
+
+
+def main():
+    short, folder = words()
+    if shutil.which("strace") is None:
+        print("skipped: the fsyncs of the vault: there is no strace on this machine")
+        return
+    all_rows, wrong = rows(short), 0
+    # The time is that of the disk on which this is run.
+    place = None if short else os.getcwd()
+    with program("vault_calls", LIBRARIES, PROGRAM, short, folder) as made, tempfile.TemporaryDirectory(dir=place) as top:
+        counts = measured(made, all_rows, top)
+        print("| What | fsyncs of files | of folders |\n|---|---|---|")
+        for (what, _, _, _, wanted), found in zip(all_rows, counts):
+            so = found == wanted
+            wrong += not so
+            print(f"| {what} | {found[0]:,} | {found[1]:,} |" + ("" if so else f" not {wanted[0]:,} and {wanted[1]:,}"))
+        if not short:
+            print(f"a start and a first sync over 50,000 files: {timed(made, top):.2f} s")
+    sys.exit(wrong != 0)
+
+
+main()

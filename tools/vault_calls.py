@@ -1,0 +1,208 @@
+"""A program that makes calls of the vault over a folder by words, for `tools/hostile_folder` and `bench/vault.py`.
+
+`PROGRAM` is its source, and `LIBRARIES` are the crates below it. `build(folder)` copies the crates into the folder, adds the
+program, has it proved and built by `rt run`, and gives its path. Where VAULT_CALLS names a program that was built before, it gives that one.
+
+    PROGRAM ROOT CALL..      each call prints one line with its answer
+
+    read=NAME  length=NAME  list=PREFIX  write=NAME>TEXT  rename=FROM>TO  remove=NAME  sync
+    store=COUNT>SIZE         writes COUNT objects of SIZE bytes under txn/, syncs, renames each to its name below data/, syncs
+    wait                     reads a byte of standard input
+    at=ROOT                  goes on over ROOT
+    also=ROOT                opens a second vault, over ROOT, and reads `file` there
+"""
+import os
+import shutil
+import subprocess
+import sys
+
+here = os.path.dirname(os.path.dirname(os.path.abspath(__file__)))
+LIBRARIES = "cv_base cv_ports cv_vault cv_real"
+
+PROGRAM = """\
+//! Makes calls of the vault over a folder, by words.
+#![tactic(auto)]
+
+use cv_real::{FolderVault, program_words};
+use cv_vault::{Vault, VaultFault};
+use std::io;
+use std::io::Read;
+use std::process::ExitCode;
+
+type Vaulted = FolderVault<HostRuntime>;
+
+/// What a call answers.
+#[derive(Clone, Copy)]
+enum Answer {
+    Done,
+    Yes,
+    No,
+    Failed,
+    NoMemory,
+    NoCall,
+}
+
+fn fault_answer(fault: VaultFault) -> Answer {
+    match fault {
+        VaultFault::Failed => Answer::Failed,
+        VaultFault::NoMemory => Answer::NoMemory,
+    }
+}
+
+fn done_answer(answer: Result<(), VaultFault>) -> Answer {
+    match answer {
+        Ok(()) => Answer::Done,
+        Err(fault) => fault_answer(fault),
+    }
+}
+
+fn there_answer(answer: Result<bool, VaultFault>) -> Answer {
+    match answer {
+        Ok(true) => Answer::Yes,
+        Ok(false) => Answer::No,
+        Err(fault) => fault_answer(fault),
+    }
+}
+
+fn word_of(answer: Answer) -> &'static str {
+    match answer {
+        Answer::Done => "ok",
+        Answer::Yes => "yes",
+        Answer::No => "no",
+        Answer::Failed => "failed",
+        Answer::NoMemory => "no memory",
+        Answer::NoCall => "no such call",
+    }
+}
+
+fn write_all(rt: &HostRuntime, vault: &mut Vaulted, count: u32, size: usize) -> io::Result<bool> {
+    let bytes = vec![in rt.alloc(); 120u8; size]?;
+    for number in 0..count {
+        let way = format!(in rt.alloc(); "txn/{number:038x}")?;
+        if vault.write(way.as_str(), bytes.as_slice()).is_err() {
+            return Ok(false);
+        }
+    }
+    Ok(vault.sync().is_ok())
+}
+
+fn move_all(rt: &HostRuntime, vault: &mut Vaulted, count: u32) -> io::Result<bool> {
+    for number in 0..count {
+        let way = format!(in rt.alloc(); "txn/{number:038x}")?;
+        let bucket = number % 256;
+        let name = format!(in rt.alloc(); "data/{bucket:02x}/{number:038x}")?;
+        if way.as_str() == name.as_str() || vault.rename(way.as_str(), name.as_str()).is_err() {
+            return Ok(false);
+        }
+    }
+    Ok(vault.sync().is_ok())
+}
+
+fn print_names(rt: &HostRuntime, vault: &mut Vaulted, prefix: &str) -> io::Result<()> {
+    match vault.list(prefix) {
+        Ok(names) => {
+            print!(rt; "names")?;
+            for name in names.iter().take(20) {
+                let name = name.as_str();
+                print!(rt; " {name}")?;
+            }
+            println!(rt; "")
+        }
+        Err(fault) => {
+            let word = word_of(fault_answer(fault));
+            println!(rt; "{word}")
+        }
+    }
+}
+
+fn answer_of(rt: &HostRuntime, vault: &mut Vaulted, call: &str, name: &str, other: &str) -> io::Result<Answer> {
+    match call {
+        "read" => Ok(there_answer(vault.read(name).map(|file| file.is_some()))),
+        "length" => Ok(there_answer(vault.length(name).map(|length| length.is_some()))),
+        "write" => Ok(done_answer(vault.write(name, other.as_bytes()))),
+        "rename" if name != other => Ok(there_answer(vault.rename(name, other))),
+        "remove" => Ok(there_answer(vault.remove(name))),
+        "sync" => Ok(done_answer(vault.sync())),
+        "store" => {
+            let count = name.parse::<u32>().unwrap_or(0);
+            let size = other.parse::<usize>().unwrap_or(1_000);
+            if write_all(rt, vault, count, size)? && move_all(rt, vault, count)? {
+                Ok(Answer::Done)
+            } else {
+                Ok(Answer::Failed)
+            }
+        }
+        "wait" => {
+            let mut byte = [0u8; 1];
+            let _ = rt.stdin().read(&mut byte);
+            Ok(Answer::Done)
+        }
+        "also" => {
+            let mut second = FolderVault::new(*rt, name)?;
+            Ok(there_answer(second.read("file").map(|file| file.is_some())))
+        }
+        _ => Ok(Answer::NoCall),
+    }
+}
+
+fn make_call(rt: &HostRuntime, vault: &mut Vaulted, call: &str, name: &str, other: &str) -> io::Result<()> {
+    if call == "list" {
+        return print_names(rt, vault, name);
+    }
+    let word = word_of(answer_of(rt, vault, call, name, other)?);
+    println!(rt; "{word}")
+}
+
+fn make_calls(rt: &HostRuntime, words: &Vec<String>) -> io::Result<()> {
+    let root = words.first().map_or("srv", |word| word.as_str());
+    let mut vault = FolderVault::new(*rt, root)?;
+    for word in words.iter().skip(1) {
+        let word = word.as_str();
+        let (call, names) = word.split_once('=').unwrap_or((word, ""));
+        let (name, other) = names.split_once('>').unwrap_or((names, ""));
+        if call == "at" {
+            vault = FolderVault::new(*rt, name)?;
+        } else {
+            make_call(rt, &mut vault, call, name, other)?;
+        }
+    }
+    Ok(())
+}
+
+fn main(rt: HostRuntime) -> ExitCode {
+    match program_words(&rt) {
+        Ok(Some(words)) => match make_calls(&rt, &words) {
+            Ok(()) => ExitCode::from(0),
+            Err(_) => ExitCode::from(1),
+        },
+        _ => ExitCode::from(2),
+    }
+}
+"""
+
+
+def build(folder):
+    """The path of the program, built in this folder."""
+    if "VAULT_CALLS" in os.environ:
+        return os.path.abspath(os.environ["VAULT_CALLS"])
+    os.makedirs(os.path.join(folder, "crates"))
+    for name in LIBRARIES.split():
+        shutil.copytree(
+            os.path.join(here, "crates", name),
+            os.path.join(folder, "crates", name),
+            ignore=shutil.ignore_patterns("out", "must-fail"),
+        )
+    crate = os.path.join(folder, "crates", "vault_calls")
+    os.makedirs(os.path.join(crate, "src"))
+    with open(os.path.join(crate, "src", "main.rt"), "w") as file:
+        file.write(PROGRAM)
+    with open(os.path.join(here, "crates.txt")) as file:
+        lines = [line for line in file if line.split(":")[0] in LIBRARIES.split()]
+    with open(os.path.join(folder, "crates.txt"), "w") as file:
+        file.writelines(lines + [f"vault_calls: {LIBRARIES}\n"])
+    shutil.copy(os.path.join(here, "HANDLES"), folder)
+    run = subprocess.run(["rt", "run"], cwd=crate, stdout=subprocess.PIPE, stderr=subprocess.STDOUT, text=True)
+    program = os.path.join(crate, "out", "vault_calls")
+    if not os.access(program, os.X_OK):
+        sys.exit(run.stdout)
+    return program
