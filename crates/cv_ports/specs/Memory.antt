@@ -8,9 +8,10 @@ pub record SourceView : Type 0 where
   pub piece : ℕ
   pub calls : Calls
 
--- what a sink took, how many bytes it has room for in all, and its calls
+-- what a sink took, what it passed on of that, how many bytes it has room for in all, and its calls
 pub record SinkView : Type 0 where
   pub taken : List ℕ
+  pub passed : List ℕ
   pub room : ℕ
   pub calls : Calls
 

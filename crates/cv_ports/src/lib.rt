@@ -1,11 +1,14 @@
-//! The outside: where bytes come from and go, where objects stand, and what time it is. Each has a form in memory.
+//! The outside: where bytes come from and go, where objects stand, what time it is, and where a session is held. Each has a form in
+//! memory.
 #![tactic(auto)]
 
 mod clock;
 mod failed;
 mod failing_calls;
 mod folder;
+mod hold;
 mod memory_clock;
+mod memory_hold;
 mod memory_shelf;
 mod memory_sink;
 mod memory_source;
@@ -19,7 +22,9 @@ pub use clock::Clock;
 pub use failed::Failed;
 pub use failing_calls::FailingCalls;
 pub use folder::{Folder, FolderFault, FolderItem, FoundKind};
+pub use hold::{Hold, NoHold, Point};
 pub use memory_clock::MemoryClock;
+pub use memory_hold::{MemoryHold, Pause};
 pub use memory_shelf::MemoryShelf;
 pub use memory_sink::MemorySink;
 pub use memory_source::MemorySource;

@@ -1,5 +1,5 @@
 //! A sink in memory.
-ghost use Rattle.std.specs.Prelude.{◌≡◌, ◌≤◌, ◌<◌, ◌-◌, ℕ, List, Option, Some, [], length, take, min, IsTrue, ◌↔◌, ◌⊎◌, OnErr, IfOk, IsErr, is_err, if◌then◌else◌};
+ghost use Rattle.std.specs.Prelude.{◌≡◌, ◌≤◌, ◌<◌, ◌-◌, ℕ, List, Option, Some, [], length, take, min, IsTrue, ◌↔◌, ◌⊎◌, OnOk, OnErr, IfOk, IsErr, is_err, if◌then◌else◌};
 ghost use Rattle.cv_base.specs.Counts.{HasCause};
 ghost use Rattle.cv_ports.specs.Streams.{onto};
 ghost use Rattle.cv_ports.specs.Calls.{fails, called, raised};
@@ -17,28 +17,30 @@ use std::marker::Model;
 #[derive(Debug, Drop)]
 pub struct MemorySink {
     taken: Vec<u8>,
+    passed: usize,
     room: usize,
     calls: FailingCalls,
 }
 
 impl Model for MemorySink {
-    ghost use Rattle.std.specs.Prelude.{◌≤◌, vec_len, vec_capacity};
+    ghost use Rattle.std.specs.Prelude.{◌≤◌, take, vec_len, vec_capacity};
     ghost use Rattle.cv_ports.specs.Memory.{SinkView};
 
     ghost Value = { SinkView };
 
-    ghost view = { λ s. record { taken = s.taken.items; room = s.room; calls = s.calls } };
+    ghost view = { λ s. record { taken = s.taken.items; passed = take s.passed s.taken.items; room = s.room; calls = s.calls } };
 
-    ghost invariant = { λ s. (vec_len s.taken ≤ s.room) × (s.room ≤ vec_capacity s.taken) };
+    ghost invariant = { λ s. (s.passed ≤ vec_len s.taken) × (vec_len s.taken ≤ s.room) × (s.room ≤ vec_capacity s.taken) };
 }
 
 impl MemorySink {
     /// Took nothing, and has room for `room` bytes in all. The calls of the numbers in `failing` fail and take nothing.
     pub fn new(alloc: Global, room: usize, failing: Vec<u64>) -> Result<MemorySink, NoMemory>
-        ensures { IfOk result (λ sink. sink ≡ record { taken = []; room = room; calls = record { failing = failing.items; count = 0; faults = 0 } }) }
+        ensures { IfOk result (λ sink. sink ≡ record { taken = []; passed = []; room = room; calls = record { failing = failing.items; count = 0; faults = 0 } }) }
     {
         Ok(MemorySink {
             taken: Vec::with_capacity(alloc, room)?,
+            passed: 0,
             room,
             calls: FailingCalls::new(failing),
         })
@@ -49,6 +51,13 @@ impl MemorySink {
         ensures { result.now ≡ self.now.taken }
     {
         self.taken.as_slice()
+    }
+
+    /// What it passed on.
+    pub fn passed(&self) -> &[u8]
+        ensures { result.now ≡ self.now.passed }
+    {
+        &self.taken[..self.passed]
     }
 
     /// What it took, without taking memory.
@@ -62,6 +71,8 @@ impl MemorySink {
 impl Sink for MemorySink {
     ghost taken = { λ s. Some s.taken };
 
+    ghost passed = { λ s. Some s.passed };
+
     ghost faults = { λ s. s.calls.faults };
 
     fn write(&mut self, bytes: &[u8]) -> Result<usize, Failed>
@@ -69,6 +80,7 @@ impl Sink for MemorySink {
         ensures some { IfOk result (λ count. 0 < length bytes.now → 0 < count) }
         ensures takes { IfOk result (λ count. Some self.new.taken ≡ onto (Some self.old.taken) (take count bytes.now)) }
         ensures unchanged { OnErr result (Some self.new.taken ≡ Some self.old.taken) }
+        ensures held { Some self.new.passed ≡ Some self.old.passed }
         ensures cause { HasCause self.old.calls.faults self.new.calls.faults (IsErr result) }
         ensures most { IfOk result (λ count. count ≡ min (length bytes.now) (self.old.room - length self.old.taken)) }
         ensures failing { IsErr result ↔ (IsTrue (fails self.old.calls) ⊎ IsFull self.old bytes.now) }
@@ -91,14 +103,16 @@ impl Sink for MemorySink {
 
     fn flush(&mut self) -> Result<(), Failed>
         ensures same { Some self.new.taken ≡ Some self.old.taken }
+        ensures passes { OnOk result (Some self.new.passed ≡ Some self.new.taken) }
+        ensures held { OnErr result (Some self.new.passed ≡ Some self.old.passed) }
         ensures cause { HasCause self.old.calls.faults self.new.calls.faults (IsErr result) }
         ensures failing { IsErr result ↔ IsTrue (fails self.old.calls) }
-        ensures after { self.new ≡ record self.old { calls = called self.old.calls } }
+        ensures after { self.new ≡ record self.old { passed = if fails self.old.calls then self.old.passed else self.old.taken; calls = called self.old.calls } }
     {
         if self.calls.next_fails() {
-            Err(Failed)
-        } else {
-            Ok(())
+            return Err(Failed);
         }
+        self.passed = self.taken.len();
+        Ok(())
     }
 }

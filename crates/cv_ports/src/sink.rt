@@ -10,6 +10,9 @@ pub trait Sink {
     /// The bytes that it took so far, where it tells.
     ghost taken: { Self → Option (List ℕ) };
 
+    /// What it passed on of them: all that it had taken at its last flush that didn't fail, where it tells.
+    ghost passed: { Self → Option (List ℕ) };
+
     /// How many of its calls failed, so far as 64 bits can count.
     ghost faults: { Self → ℕ };
 
@@ -20,11 +23,14 @@ pub trait Sink {
         ensures some { IfOk result (λ count. 0 < length bytes.now → 0 < count) }
         ensures takes { IfOk result (λ count. taken self.new ≡ onto (taken self.old) (take count bytes.now)) }
         ensures unchanged { OnErr result (taken self.new ≡ taken self.old) }
+        ensures held { passed self.new ≡ passed self.old }
         ensures cause { HasCause (faults self.old) (faults self.new) (IsErr result) };
 
     /// Passes on what was taken and may still be held. What was taken stays taken.
     fn flush(&mut self) -> Result<(), Failed>
         ensures same { taken self.new ≡ taken self.old }
+        ensures passes { OnOk result (passed self.new ≡ taken self.new) }
+        ensures held { OnErr result (passed self.new ≡ passed self.old) }
         ensures cause { HasCause (faults self.old) (faults self.new) (IsErr result) };
 }
 
@@ -32,6 +38,7 @@ pub trait Sink {
 pub fn write_all<W: Sink>(sink: &mut W, bytes: &[u8]) -> Result<(), Failed>
     ensures whole { OnOk result (W.taken sink.new ≡ onto (W.taken sink.old) bytes.now) }
     ensures part { Wrote (W.taken sink.old) (W.taken sink.new) bytes.now }
+    ensures held { W.passed sink.new ≡ W.passed sink.old }
     ensures cause { HasCause (W.faults sink.old) (W.faults sink.new) (IsErr result) }
 {
     let mut written = 0;

@@ -1,7 +1,9 @@
 //! Each form in memory once, with a call that fails.
 use crate::clock::Clock;
 use crate::failed::Failed;
+use crate::hold::{Hold, Point};
 use crate::memory_clock::MemoryClock;
+use crate::memory_hold::{MemoryHold, Pause};
 use crate::memory_shelf::MemoryShelf;
 use crate::memory_sink::MemorySink;
 use crate::memory_source::MemorySource;
@@ -33,8 +35,11 @@ fn sink_takes_what_fits(rt: HostRuntime) -> Result<(), Fail> {
     let mut sink = MemorySink::new(rt.alloc(), 4, failing)?;
     assert_eq!(rt; write_all(&mut sink, b"ab"), Ok(()));
     assert_eq!(rt; sink.flush(), Err(Failed));
+    assert_eq!(rt; sink.passed(), b"".as_slice());
+    assert_eq!(rt; sink.flush(), Ok(()));
     assert_eq!(rt; write_all(&mut sink, b"cde"), Err(Failed));
     assert_eq!(rt; sink.as_slice(), b"abcd".as_slice());
+    assert_eq!(rt; sink.passed(), b"ab".as_slice());
     assert_eq!(rt; sink.into_vec().as_slice(), b"abcd".as_slice());
     Ok(())
 }
@@ -45,6 +50,22 @@ fn clock_repeats_its_last_moment(rt: HostRuntime) -> Result<(), Fail> {
     assert_eq!(rt; clock.now(), 7);
     assert_eq!(rt; clock.now(), 5);
     assert_eq!(rt; clock.now(), 5);
+    Ok(())
+}
+
+#[test]
+fn hold_counts_and_waits(rt: HostRuntime) -> Result<(), Fail> {
+    let hold = MemoryHold::new(Some(Pause {
+        at: Point::PayloadRead,
+        until: Point::LeaseAnswered,
+        times: 2,
+    }));
+    hold.at(Point::LeaseAnswered);
+    hold.at(Point::LeaseAnswered);
+    hold.at(Point::PayloadRead);
+    assert_eq!(rt; hold.count(Point::PayloadRead), 1);
+    assert_eq!(rt; hold.count(Point::LeaseAnswered), 2);
+    assert_eq!(rt; hold.spent(), 0);
     Ok(())
 }
 

@@ -87,6 +87,8 @@ impl<T: Write> StreamSink<T> {
 impl<T: Write> Sink for StreamSink<T> {
     ghost taken = { λ s. None };
 
+    ghost passed = { λ s. None };
+
     ghost faults = { λ s. s.faults.number };
 
     fn write(&mut self, bytes: &[u8]) -> Result<usize, Failed> {

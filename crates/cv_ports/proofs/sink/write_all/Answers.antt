@@ -8,6 +8,7 @@ pub writes-preserved : goal.writes-preserved
 writes-preserved g c = record {
   within = grind (arith, common_steps);
   taken = one_more _ _ _ c.args.bytes.now c.writes.written c.in_ok-written.field-0 c.writes.invariant.taken c.in_ok-written.ensures.takes;
+  held = c.write.ensures.held ∙ c.writes.invariant.held;
   later = omega (arith, c.write.ensures.cause.later);
 }
 
