@@ -1,33 +1,39 @@
 -- Entries that change, and the disk that they stand for.
-use Rattle.std.proofs.Common.{◌≡◌, ◌≢◌, ℕ, ◌<◌, ◌≤◌, ◌+◌, Bool, false, not, cond, ◌||◌, List, [], ◌∷◌, ◌++◌, length, get_or, set, take, drop, map, refl, ap, subst, sym, ◌∙◌, arith, length-append, length-drop, length-set, length-take-le, get_or-set_other, add-zero, vec_len}
+use Rattle.std.proofs.Common.{◌≡◌, ◌≢◌, ◌⊎◌, inl, inr, ℕ, ◌<◌, ◌≤◌, ◌+◌, Bool, false, not, cond, ◌||◌, List, [], ◌∷◌, ◌++◌, length, get_or, set, map, refl, ap, subst, sym, ◌∙◌, arith, length-append, length-set, get_or-set_other, add-zero, vec_len}
 use Rattle.std.specs.Vec.{vec_capacity}
+use Rattle.std.specs.Str.{bytes_eq}
+use Rattle.std.specs.BTreeMap.{get_by_text, IsOrdered}
+use Rattle.std.specs.String.{string_cmp}
 use Rattle.std.proofs.Math.ListN as list
-use Rattle.std.specs.List.{All, AllByRecursion, insert, list_any}
-use Rattle.std.specs.List.Sorted.{IsStrictlySortedBy}
-use Rattle.std.specs.declared.option.Option.TheVariants.{None}
-use Rattle.std.specs.declared.cmp.Ordering.TheVariants.{Less}
-use Rattle.std.specs.Ordering.{ordering_reverse}
-use Rattle.std.specs.Cmp.Lexicographic.{nat_list_cmp_total}
-use Rattle.std.proofs.lemmas.List.Elements.{All-head, All-tail, All-set, All-push, All-append, All-take, All-drop, All-cons, recursion_from_All, All-from_recursion}
-use Rattle.std.proofs.lemmas.List.{append-nil, map-set, map-append, take-map, drop-map, length-map, get_or-drop, get_or-take, take-append-drop}
-use Rattle.std.proofs.lemmas.List.Sums.{sum_by-set, sum_by-insert}
+use Rattle.std.proofs.Math.ListN.{get_or-append}
+use Rattle.std.specs.List.{All, list_any}
+use Rattle.std.specs.declared.option.Option.{Option}
+use Rattle.std.specs.declared.option.Option.TheVariants.{None, Some}
+use Rattle.std.proofs.lemmas.List.Elements.{All-set, All-push}
+use Rattle.std.proofs.lemmas.List.{append-nil, map-set, map-append, length-map}
+use Rattle.std.proofs.lemmas.List.Sums.{sum_by-set, sum_by-append}
 use Rattle.std.proofs.Math.Seq.{map-set_same, get_or-append_seam}
-use Rattle.cv_vault.specs.Names.{Name, name_cmp, same_name}
+use Rattle.cv_vault.specs.Names.{Name, same_name}
 use Rattle.cv_vault.specs.Disk as disk
 use Rattle.cv_vault.specs.Disk.{Disk, File, Slot, slot, with_slot, is_settled, settled}
 use Rattle.cv_vault.specs.Events.{NamedSlot, Event, after, replay, value_at, disk_of, first_disk, has_file, file_count, any_unsettled}
 use Rattle.cv_vault.specs.Events as event
 use Rattle.cv_vault.specs.Places.{slot_in, IsPlaceIn}
-use Rattle.cv_vault.specs.Table.{name_in, names_in, named_in, event_in, any_entry, entry_at, entries_of, past_of, table_disk, table_first, IsGap, IsEntryIn, IsChangeIn, IsTable, Stays, Adds}
+use Rattle.cv_vault.specs.Table.{name_in, names_in, named_in, event_in, any_entry, entry_at, entries_of, past_of, table_disk, table_first, Lacks, AreNumbers, AreUnsettled, IsEntryIn, IsChangeIn, IsTable, Stays, Adds}
 use Rattle.cv_vault.specs.declared.place.Place.{Place}
 use Rattle.cv_vault.specs.declared.place.PlaceMark.TheVariants.{Settled}
 use Rattle.cv_vault.specs.declared.table.Entry.{Entry}
 use Rattle.cv_vault.specs.declared.table.Table.{Table}
 use Rattle.cv_vault.specs.declared.table.Change.{Change}
 use Rattle.cv_vault.specs.declared.table.Change.TheVariants.{Puts, PutsTwo}
-use Rattle.cv_vault.proofs.Values.{Lacks, value_at-set, value_at-insert}
+use Rattle.cv_vault.proofs.Names.{same_or_not, bytes_eq_same, bytes_eq_other}
+use Rattle.cv_vault.proofs.Values.{AreApart, value_at-set, value_at-push}
+use Rattle.cv_vault.proofs.Unsettled.{unsettled_pushed}
 use Rattle.cv_vault.proofs.Growing.{Grows, names_grown, table_grown, stays_grown}
-use Rattle.cv_vault.proofs.Reading.{pair_of, resolved, firsts-pairs, pairs_at, length-pairs, gap_differs, lacks}
+use Rattle.cv_vault.proofs.Reading.{pair_of, resolved, firsts-pairs, pairs_at, length-pairs, numbers_apart}
+
+pub names_apart : (t : Table) → IsTable t → AreApart (names_in t.names.items t.entries.items)
+names_apart t is = numbers_apart (get_by_text t.numbers) (names_in t.names.items t.entries.items) is.numbers
 
 abbrev pub first_of : NamedSlot → Name × File
 first_of e = (e.name, e.first)
@@ -44,12 +50,26 @@ pub record IsPut (names : List Name) (contents : List (List ℕ)) (es es' : List
   pub files : file_count (resolved names contents es') + has_file old ≡ file_count (resolved names contents es) + has_file new
 
 module _ (names : List Name) (contents : List (List ℕ)) where
-  pub is_put : (es : List Entry) (i : ℕ) (d : Entry) (n : Name) (p : Place) → IsStrictlySortedBy name_cmp (names_in names es) → i < length es → name_in names (get_or es i d).name ≡ n
+  -- the disk with another entry of the same name
+  pub set_disk : (es : List Entry) (i : ℕ) (d : Entry) (n : Name) (x : Entry) → AreApart (names_in names es) → i < length es → name_in names (get_or es i d).name ≡ n → x.name ≡ (get_or es i d).name
+      → (q : Name) → disk_of (resolved names contents (set es i x)) q ≡ with_slot (disk_of (resolved names contents es)) n (slot_in contents x.place) q
+  set_disk es i d n x differ lt is same q =
+      let ps = map pair_of (resolved names contents es) in
+      let absent : Slot = slot None disk.Settled in
+      let y : Slot = slot_in contents x.place in
+      let h = value_at-set absent ps i (pair_of (named_in names contents d)) y (rw (firsts-pairs names contents es) differ) (rw (length-pairs names contents es) lt) q in
+      let slots : map pair_of (resolved names contents (set es i x)) ≡ set ps i (name_in names (get_or es i d).name, y) =
+      (ap (map pair_of) (map-set (named_in names contents) es i x) ∙ map-set pair_of (resolved names contents es) i (named_in names contents x) ∙ ap (λ k. set ps i (name_in names k, y)) same) in
+      ap (λ xs. value_at absent xs q) slots
+      ∙ subst (λ (z : Name × Slot). value_at absent (set ps i (z.0, y)) q ≡ cond (same_name q z.0) y (value_at absent ps q)) (pairs_at names contents es i d) h
+      ∙ ap (λ m. cond (same_name q m) y (value_at absent ps q)) is
+
+  pub is_put : (es : List Entry) (i : ℕ) (d : Entry) (n : Name) (p : Place) → AreApart (names_in names es) → i < length es → name_in names (get_or es i d).name ≡ n
       → IsPut names contents es (set es i (record (get_or es i d) { place = p })) n (slot_in contents (get_or es i d).place) (slot_in contents p)
-  is_put es i d n p sorted lt is = record {
+  is_put es i d n p differ lt is = record {
     names_same = map-set_same (λ (e : Entry). name_in names e.name) es i (record (get_or es i d) { place = p }) d refl;
     first = ap (λ ps. settled (value_at None ps)) first_pairs;
-    disk = λ k q. at q k;
+    disk = λ k q. set_disk es i d n (record (get_or es i d) { place = p }) differ lt is refl q k;
     files = rw (map-set (named_in names contents) es i (record (get_or es i d) { place = p })) count;
   }
     where
@@ -60,18 +80,6 @@ module _ (names : List Name) (contents : List (List ℕ)) where
       first_pairs = rw (map-set (named_in names contents) es i (record (get_or es i d) { place = p }))
           (map-set_same first_of (resolved names contents es) i (named_in names contents (record (get_or es i d) { place = p })) (named_in names contents d) (ap first_of (sym at_old)))
 
-      slots : map pair_of (resolved names contents (set es i (record (get_or es i d) { place = p }))) ≡ set (map pair_of (resolved names contents es)) i (name_in names (get_or es i d).name, slot_in contents p)
-      slots = ap (map pair_of) (map-set (named_in names contents) es i (record (get_or es i d) { place = p })) ∙ map-set pair_of (resolved names contents es) i (named_in names contents (record (get_or es i d) { place = p }))
-
-      at : (q : Name) → disk_of (resolved names contents (set es i (record (get_or es i d) { place = p }))) q ≡ with_slot (disk_of (resolved names contents es)) n (slot_in contents p) q
-      at q =
-          let ps = map pair_of (resolved names contents es) in
-          let absent : Slot = slot None disk.Settled in
-          let h = value_at-set absent ps i (pair_of (named_in names contents d)) (slot_in contents p) (rw (firsts-pairs names contents es) sorted) (rw (length-pairs names contents es) lt) q in
-          ap (λ xs. value_at absent xs q) slots
-          ∙ subst (λ (y : Name × Slot). value_at absent (set ps i (y.0, slot_in contents p)) q ≡ cond (same_name q y.0) (slot_in contents p) (value_at absent ps q)) (pairs_at names contents es i d) h
-          ∙ ap (λ m. cond (same_name q m) (slot_in contents p) (value_at absent ps q)) is
-
       count : file_count (set (resolved names contents es) i (named_in names contents (record (get_or es i d) { place = p }))) + has_file (slot_in contents (get_or es i d).place) ≡ file_count (resolved names contents es) + has_file (slot_in contents p)
       count =
           subst (λ (z : NamedSlot). file_count (set (resolved names contents es) i (named_in names contents (record (get_or es i d) { place = p }))) + has_file z.stands ≡ file_count (resolved names contents es) + has_file (slot_in contents p)) at_old
@@ -79,100 +87,140 @@ module _ (names : List Name) (contents : List (List ℕ)) where
 
 -- Another name.
 
-all_inserted : {X : Type 0} (P : X → Type 0) (xs ys : List X) (x : X) → AllByRecursion P (xs ++ ys) → P x → AllByRecursion P (xs ++ x ∷ ys)
-all_inserted P [] ys x h p = (p, h)
-all_inserted P (y ∷ xs) ys x h p = (h.0, all_inserted P xs ys x h.1 p)
+any_pushed : {X : Type 0} (p : X → Bool) (xs : List X) (x : X) → p x ≡ false → list_any p (xs ++ x ∷ []) ≡ list_any p xs
+any_pushed p [] x h = rw h refl
+any_pushed p (y ∷ xs) x h = ap (λ b. p y || b) (any_pushed p xs x h)
 
-sorted_inserted : (xs ys : List Name) (n : Name) → IsStrictlySortedBy name_cmp (xs ++ ys) → All (λ m. name_cmp m n ≡ Less) xs → All (λ m. name_cmp n m ≡ Less) ys → IsStrictlySortedBy name_cmp (xs ++ n ∷ ys)
-unfolding IsStrictlySortedBy
-sorted_inserted [] ys n h below above = (recursion_from_All (λ m. name_cmp n m ≡ Less) ys above, h)
-sorted_inserted (x ∷ xs) ys n h below above = (
-  all_inserted (λ m. name_cmp x m ≡ Less) xs ys n h.0 (All-head (λ m. name_cmp m n ≡ Less) x xs below),
-  sorted_inserted xs ys n h.1 (All-tail (λ m. name_cmp m n ≡ Less) x xs below) above,
-)
+module _ (names : List Name) (contents : List (List ℕ)) (es : List Entry) (new : Entry) where
+  resolved_pushed : resolved names contents (es ++ new ∷ []) ≡ resolved names contents es ++ named_in names contents new ∷ []
+  resolved_pushed = map-append (named_in names contents) es (new ∷ [])
 
-any_inserted : {X : Type 0} (p : X → Bool) (xs ys : List X) (x : X) → p x ≡ false → list_any p (xs ++ x ∷ ys) ≡ list_any p (xs ++ ys)
-any_inserted p [] ys x h = rw h refl
-any_inserted p (y ∷ xs) ys x h = ap (λ b. p y || b) (any_inserted p xs ys x h)
-
-below_gap : (ns : List Name) (n : Name) (i : ℕ) → IsGap ns n i → All (λ m. name_cmp m n ≡ Less) (take i ns)
-below_gap ns n i gap k d lt =
-    let within : i ≤ length ns = gap.0 in
-    let below : k < i = omega (arith, length-take-le i ns within) in
-    rw (get_or-take i ns k d below) (gap.1.0 k d (omega arith) below)
-
-above_gap : (ns : List Name) (n : Name) (i : ℕ) → IsGap ns n i → All (λ m. name_cmp n m ≡ Less) (drop i ns)
-above_gap ns n i gap k d lt =
-    rw (get_or-drop i ns k d) (nat_list_cmp_total.antisymm n (get_or ns (i + k) d) ∙ ap ordering_reverse (gap.1.1 (i + k) d (omega arith) (omega (arith, length-drop i ns))))
-
-map_inserted : {X Y : Type 0} (f : X → Y) (xs : List X) (i : ℕ) (x : X) → map f (insert xs i x) ≡ insert (map f xs) i (f x)
-map_inserted f xs i x = map-append f (take i xs) (x ∷ drop i xs) ∙ rw (take-map f i xs, drop-map f i xs) refl
-
-module _ (names : List Name) (contents : List (List ℕ)) (es : List Entry) (i : ℕ) (new : Entry) where
-  resolved_inserted : resolved names contents (insert es i new) ≡ insert (resolved names contents es) i (named_in names contents new)
-  resolved_inserted = map_inserted (named_in names contents) es i new
-
-  names_inserted : names_in names (insert es i new) ≡ insert (names_in names es) i (name_in names new.name)
-  names_inserted = map_inserted (λ (e : Entry). name_in names e.name) es i new
-
-  value_inserted : {X : Type 0} (f : NamedSlot → X) (absent : X) → f (named_in names contents new) ≡ absent → IsGap (names_in names es) (name_in names new.name) i
-      → (q : Name) → value_at absent (map (λ (e : NamedSlot). (e.name, f e)) (resolved names contents (insert es i new))) q ≡ value_at absent (map (λ (e : NamedSlot). (e.name, f e)) (resolved names contents es)) q
-  value_inserted {X} f absent is gap q =
+  value_pushed : {X : Type 0} (f : NamedSlot → X) (absent : X) → f (named_in names contents new) ≡ absent
+      → (q : Name) → value_at absent (map (λ (e : NamedSlot). (e.name, f e)) (resolved names contents (es ++ new ∷ []))) q ≡ value_at absent (map (λ (e : NamedSlot). (e.name, f e)) (resolved names contents es)) q
+  value_pushed {X} f absent is q =
       let g : NamedSlot → Name × X = λ e. (e.name, f e) in
       let n : Name = name_in names new.name in
       let ps = map g (resolved names contents es) in
-      let is_there : map g (resolved names contents (insert es i new)) ≡ take i ps ++ (n, absent) ∷ drop i ps =
-      (ap (map g) resolved_inserted ∙ map_inserted g (resolved names contents es) i (named_in names contents new) ∙ ap (λ (x : X). take i ps ++ (n, x) ∷ drop i ps) is) in
-      let none : Lacks n ps = lacks names contents f es n (gap_differs (names_in names es) n i gap) in
-      let none_later : Lacks n (drop i ps) = recursion_from_All (λ (p : Name × X). n ≢ p.0) (drop i ps) (All-drop (λ (p : Name × X). n ≢ p.0) i ps (All-from_recursion (λ (p : Name × X). n ≢ p.0) ps none)) in
-      ap (λ xs. value_at absent xs q) is_there ∙ value_at-insert absent (take i ps) (drop i ps) n none_later q ∙ ap (λ xs. value_at absent xs q) (take-append-drop i ps)
+      let is_there : map g (resolved names contents (es ++ new ∷ [])) ≡ ps ++ (n, absent) ∷ [] =
+      (ap (map g) resolved_pushed ∙ map-append g (resolved names contents es) (named_in names contents new ∷ []) ∙ ap (λ (x : X). ps ++ (n, x) ∷ []) is) in
+      ap (λ xs. value_at absent xs q) is_there ∙ value_at-push absent ps n q
 
 -- an entry that stands for no file
 abbrev pub new_entry : ℕ → Entry
 new_entry k = record { name = k; first = None; place = record { now = None; mark = Settled } }
 
--- a table with one entry more, that stands for no file
-pub record Inserts (t t' : Table) (k i : ℕ) : Type 0 where
-  pub number : k < length t.names.items
-  pub gap : IsGap (names_in t.names.items t.entries.items) (name_in t.names.items k) i
-  pub names : t'.names.items ≡ t.names.items
+before_or_at : (k n : ℕ) → k < n + 1 → (k < n) ⊎ (k ≡ n)
+before_or_at k n h = grind arith
+
+-- the numbers of names with one name more
+numbers_pushed : (f f' : Name → Option ℕ) (ns : List Name) (n : Name) → AreNumbers f ns → Lacks n ns → ((q : Name) → f' q ≡ cond (bytes_eq n q) (Some (length ns)) (f q)) → AreNumbers f' (ns ++ n ∷ [])
+numbers_pushed f f' ns n h lacks put q i = (forward, backward)
+  where
+    more : ◌≡◌ {A = ℕ} (length (ns ++ n ∷ [])) (length ns + 1)
+    more = length-append ns (n ∷ [])
+
+    at_end : get_or (ns ++ n ∷ []) (length ns) [] ≡ n
+    at_end = get_or-append_seam ns n [] []
+
+    same : {k l : ℕ} → Some k ≡ Some l → k ≡ l
+    same e = cc
+
+    forward : f' q ≡ Some i → (i < length (ns ++ n ∷ [])) × (get_or (ns ++ n ∷ []) i [] ≡ q)
+    forward e = elim (same_or_not n q) [
+      | inl is ↦
+          let i_is : length ns ≡ i = same (sym (put q ∙ rw (bytes_eq_same n q is) refl) ∙ e) in
+          (omega (arith, more), ap (λ k. get_or (ns ++ n ∷ []) k []) (sym i_is) ∙ at_end ∙ is)
+      | inr ne ↦
+          let old = (h q i).0 (sym (put q ∙ rw (bytes_eq_other n q ne) refl) ∙ e) in
+          (let lt = old.0 in omega (arith, more), get_or-append ns (n ∷ []) [] i old.0 ∙ old.1)
+    ]
+
+    backward : (i < length (ns ++ n ∷ [])) × (get_or (ns ++ n ∷ []) i [] ≡ q) → f' q ≡ Some i
+    backward at = elim (before_or_at i (length ns) (let lt = at.0 in omega (arith, more))) [
+      | inl lt ↦
+          let is : get_or ns i [] ≡ q = sym (get_or-append ns (n ∷ []) [] i lt) ∙ at.1 in
+          put q ∙ rw (bytes_eq_other n q (λ e. lacks i [] lt (e ∙ sym is))) ((h q i).1 (lt, is))
+      | inr end ↦
+          let is : n ≡ q = sym at_end ∙ ap (λ k. get_or (ns ++ n ∷ []) k []) (sym end) ∙ at.1 in
+          put q ∙ rw (bytes_eq_same n q is) (ap Some (sym end))
+    ]
+
+-- t' is t with one name more and its entry, which stands for no file
+pub record Pushes (t t' : Table) (n : Name) : Type 0 where
+  pub lacks : Lacks n (names_in t.names.items t.entries.items)
+  pub names : t'.names.items ≡ t.names.items ++ n ∷ []
   pub contents : t'.contents.items ≡ t.contents.items
-  pub entries : t'.entries.items ≡ insert t.entries.items i (new_entry k)
+  pub entries : t'.entries.items ≡ t.entries.items ++ new_entry (length t.names.items) ∷ []
+  pub ordered : IsOrdered string_cmp t'.numbers
+  pub numbers : (q : Name) → get_by_text t'.numbers q ≡ cond (bytes_eq n q) (Some (length t.entries.items)) (get_by_text t.numbers q)
+  pub unsettled : t'.unsettled.items ≡ t.unsettled.items
+  pub room : length t.entries.items + 1 ≤ vec_capacity t'.unsettled
   pub changes : t'.changes ≡ t.changes
 
-pub stays_inserted : (t t' : Table) (k i : ℕ) → Inserts t t' k i → Stays t t'
-stays_inserted t t' k i h =
-    let names = t.names.items in
-    let contents = t.contents.items in
-    let es = t.entries.items in
-    let new = new_entry k in
-    let is : entries_of t' ≡ insert (entries_of t) i (named_in names contents new) = rw (h.names, h.contents, h.entries) (resolved_inserted names contents es i new) in
-    let is' : entries_of t' ≡ resolved names contents (insert es i new) = rw (h.names, h.contents, h.entries) refl in
-    record {
-      disk = ap disk_of is' ∙ (λ j q. value_inserted names contents es i new (λ e. e.stands) (slot None disk.Settled) refl h.gap q j);
-      first = ap first_disk is' ∙ (λ j q. slot (value_inserted names contents es i new (λ e. e.first) None refl h.gap q j) disk.Settled);
-      past = rw (h.names, h.contents, h.changes) refl;
-      changes = h.changes;
-      files = ap file_count is ∙ sum_by-insert (λ (e : NamedSlot). has_file e.stands) (entries_of t) i (named_in names contents new) ∙ add-zero (file_count (entries_of t));
-      unsettled = ap any_unsettled is ∙ any_inserted (λ (e : NamedSlot). not (is_settled e.stands.mark)) (take i (entries_of t)) (drop i (entries_of t)) (named_in names contents new) refl ∙ ap any_unsettled (take-append-drop i (entries_of t));
-    }
+module _ (t t' : Table) (n : Name) (is : IsTable t) (h : Pushes t t' n) where
+  -- the table with the name, without its entry
+  named : Table
+  named = record t { names = t'.names }
 
-pub table_inserted : (t t' : Table) (k i : ℕ) → IsTable t → Inserts t t' k i → IsTable t'
-table_inserted t t' k i is h =
-    let names = t.names.items in
-    let es = t.entries.items in
-    let ns = names_in names es in
-    let n = name_in names k in
-    let P = IsEntryIn (length names) (length t.contents.items) in
-    let s = stays_inserted t t' k i h in
-    record {
-      entries = rw (h.names, h.contents, h.entries) (All-append P (take i es) (new_entry k ∷ drop i es) (All-take P i es is.entries)
-          (All-cons P (new_entry k) (drop i es) (record { name = h.number; first = tt; place = record { file = tt; mark = tt } }) (All-drop P i es is.entries)));
-      changes = rw (h.names, h.contents, h.changes) is.changes;
-      ascending = rw (h.names, h.entries) (subst (IsStrictlySortedBy name_cmp) (sym (names_inserted names t.contents.items es i (new_entry k)))
-          (sorted_inserted (take i ns) (drop i ns) n (subst (IsStrictlySortedBy name_cmp) (sym (take-append-drop i ns)) is.ascending) (below_gap ns n i h.gap) (above_gap ns n i h.gap)));
-      linked = s.disk ∙ is.linked ∙ (let p = s.past in let f = s.first in cc);
-    }
+  grows : Grows t named
+  unfolding named
+  grows = record { names_more = n ∷ []; names = h.names; contents_more = []; contents = sym (append-nil t.contents.items); entries = refl; numbers = refl; unsettled = refl; room = omega arith; changes = refl }
+
+  resolved_is : entries_of t' ≡ resolved t'.names.items t.contents.items (t.entries.items ++ new_entry (length t.names.items) ∷ [])
+  resolved_is = rw (h.contents, h.entries) refl
+
+  from_named : Stays named t'
+  unfolding named
+  from_named =
+      let names = t'.names.items in
+      let contents = t.contents.items in
+      let es = t.entries.items in
+      let new = new_entry (length t.names.items) in
+      let pushed : entries_of t' ≡ resolved names contents es ++ named_in names contents new ∷ [] = resolved_is ∙ resolved_pushed names contents es new in
+      record {
+        disk = ap disk_of resolved_is ∙ (λ j q. value_pushed names contents es new (λ e. e.stands) (slot None disk.Settled) refl q j);
+        first = ap first_disk resolved_is ∙ (λ j q. slot (value_pushed names contents es new (λ e. e.first) None refl q j) disk.Settled);
+        past = rw (h.contents, h.changes) refl;
+        changes = h.changes;
+        files = ap file_count pushed ∙ sum_by-append (λ (e : NamedSlot). has_file e.stands) (resolved names contents es) (named_in names contents new ∷ []) ∙ add-zero (file_count (resolved names contents es));
+        unsettled = ap any_unsettled pushed ∙ any_pushed (λ (e : NamedSlot). not (is_settled e.stands.mark)) (resolved names contents es) (named_in names contents new) refl;
+      }
+
+  pub stays_pushed : Stays t t'
+  stays_pushed = let a = stays_grown t named is grows in let b = from_named in record {
+    disk = b.disk ∙ a.disk;
+    first = b.first ∙ a.first;
+    past = b.past ∙ a.past;
+    changes = b.changes ∙ a.changes;
+    files = b.files ∙ a.files;
+    unsettled = b.unsettled ∙ a.unsettled;
+  }
+
+  names_pushed : names_in t'.names.items t'.entries.items ≡ names_in t.names.items t.entries.items ++ n ∷ []
+  names_pushed =
+      let es = t.entries.items in
+      let f : Entry → Name = λ e. name_in t'.names.items e.name in
+      let number : name_in t'.names.items (length t.names.items) ≡ n = rw h.names (get_or-append_seam t.names.items n [] []) in
+      let before : names_in t'.names.items es ≡ names_in t.names.items es = rw h.names (names_grown t.names.items t.contents.items (n ∷ []) [] es is.entries) in
+      ap (map f) h.entries ∙ map-append f es (new_entry (length t.names.items) ∷ []) ∙ ap (λ ns. ns ++ name_in t'.names.items (length t.names.items) ∷ []) before ∙ ap (λ m. names_in t.names.items es ++ m ∷ []) number
+
+  pub table_pushed : IsTable t'
+  unfolding named
+  table_pushed =
+      let grown = table_grown t named is grows in
+      let s = stays_pushed in
+      let P = IsEntryIn (length t'.names.items) (length t.contents.items) in
+      record {
+        entries = rw (h.contents, h.entries) (All-push P t.entries.items (new_entry (length t.names.items)) grown.entries
+            (record { name = omega (arith, ap (λ (xs : List Name). length xs) h.names, length-append t.names.items (n ∷ [])); first = tt; place = record { file = tt; mark = tt } }));
+        changes = rw (h.contents, h.changes) grown.changes;
+        ordered = h.ordered;
+        numbers = subst (AreNumbers (get_by_text t'.numbers)) (sym names_pushed)
+            (numbers_pushed (get_by_text t.numbers) (get_by_text t'.numbers) (names_in t.names.items t.entries.items) n is.numbers h.lacks
+            (λ q. rw (length-map t.entries.items (λ (e : Entry). name_in t.names.items e.name)) (h.numbers q)));
+        unsettled = rw h.entries (unsettled_pushed t.unsettled t'.unsettled t.entries.items (new_entry (length t.names.items)) is.unsettled refl h.unsettled h.room);
+        linked = s.disk ∙ is.linked ∙ (let p = s.past in let f = s.first in cc);
+      }
 
 pub stays_then : (t u v : Table) → Stays t u → Stays u v → Stays t v
 stays_then t u v a b = record {
@@ -184,40 +232,6 @@ stays_then t u v a b = record {
   unsettled = b.unsettled ∙ a.unsettled;
 }
 
--- t1 has one name more than t, and t' its entry too
-pub record Names (t t1 t' : Table) (n : Name) (i : ℕ) : Type 0 where
-  pub gap : IsGap (names_in t.names.items t.entries.items) n i
-  pub names : t1.names.items ≡ t.names.items ++ n ∷ []
-  pub contents : t1.contents.items ≡ t.contents.items
-  pub entries : t1.entries.items ≡ t.entries.items
-  pub changes : t1.changes ≡ t.changes
-  pub names_same : t'.names.items ≡ t1.names.items
-  pub contents_same : t'.contents.items ≡ t1.contents.items
-  pub inserted : t'.entries.items ≡ insert t1.entries.items i (new_entry (length t.names.items))
-  pub changes_same : t'.changes ≡ t1.changes
-
-grows_named : (t t1 t' : Table) (n : Name) (i : ℕ) → Names t t1 t' n i → Grows t t1
-grows_named t t1 t' n i h = record { names_more = n ∷ []; names = h.names; contents_more = []; contents = h.contents ∙ sym (append-nil t.contents.items); entries = h.entries; changes = h.changes }
-
-inserts_named : (t t1 t' : Table) (n : Name) (i : ℕ) → IsTable t → Names t t1 t' n i → Inserts t1 t' (length t.names.items) i
-inserts_named t t1 t' n i is h =
-    let number : name_in t1.names.items (length t.names.items) ≡ n = rw h.names (get_or-append_seam t.names.items n [] []) in
-    let same : names_in t1.names.items t1.entries.items ≡ names_in t.names.items t.entries.items = rw (h.names, h.entries) (names_grown t.names.items t.contents.items (n ∷ []) [] t.entries.items is.entries) in
-    record {
-      number = omega (arith, ap (λ (xs : List Name). length xs) h.names, length-append t.names.items (n ∷ []));
-      gap = rw (number, same) h.gap;
-      names = h.names_same;
-      contents = h.contents_same;
-      entries = h.inserted;
-      changes = h.changes_same;
-    }
-
-pub table_named : (t t1 t' : Table) (n : Name) (i : ℕ) → IsTable t → Names t t1 t' n i → IsTable t'
-table_named t t1 t' n i is h = table_inserted t1 t' (length t.names.items) i (table_grown t t1 is (grows_named t t1 t' n i h)) (inserts_named t t1 t' n i is h)
-
-pub stays_named : (t t1 t' : Table) (n : Name) (i : ℕ) → IsTable t → Names t t1 t' n i → Stays t t'
-stays_named t t1 t' n i is h = stays_then t t1 t' (stays_grown t t1 is (grows_named t t1 t' n i h)) (stays_inserted t1 t' (length t.names.items) i (inserts_named t t1 t' n i is h))
-
 -- A change that is recorded.
 
 -- a table whose entries changed by an event that its record has last
@@ -226,6 +240,8 @@ pub record Records (t t' : Table) (c : Change) (e : Event) : Type 0 where
   pub contents : t'.contents.items ≡ t.contents.items
   pub entries : All (IsEntryIn (length t.names.items) (length t.contents.items)) t'.entries.items
   pub names_same : names_in t.names.items t'.entries.items ≡ names_in t.names.items t.entries.items
+  pub numbers : t'.numbers ≡ t.numbers
+  pub unsettled : AreUnsettled t'.unsettled t'.entries.items
   pub first : first_disk (resolved t.names.items t.contents.items t'.entries.items) ≡ table_first t
   pub disk : disk_of (resolved t.names.items t.contents.items t'.entries.items) ≡ after e (table_disk t)
   pub changes : t'.changes.items ≡ t.changes.items ++ c ∷ []
@@ -249,7 +265,9 @@ pub table_recorded : (t t' : Table) (c : Change) (e : Event) → IsTable t → R
 table_recorded t t' c e is h = record {
   entries = rw (h.names, h.contents) h.entries;
   changes = rw (h.names, h.contents, h.changes) (All-push (IsChangeIn (length t.names.items) (length t.contents.items)) t.changes.items c is.changes h.within);
-  ascending = rw (h.names, h.names_same) is.ascending;
+  ordered = rw h.numbers is.ordered;
+  numbers = rw (h.names, h.names_same, h.numbers) is.numbers;
+  unsettled = h.unsettled;
   linked = disk_recorded t t' c e h ∙ ap (after e) is.linked ∙ sym (replay-push (past_of t) e (table_first t)) ∙ (let p = past_recorded t t' c e h in let f = first_recorded t t' c e h in cc);
 }
 
@@ -266,6 +284,8 @@ all_put names contents es i p all lt within =
 -- t' is t with another place at an entry, and the change
 pub record PutsOne (t t' : Table) (i : ℕ) (p : Place) : Type 0 where
   pub at : i < length t.entries.items
+  pub numbers : t'.numbers ≡ t.numbers
+  pub unsettled : AreUnsettled t'.unsettled t'.entries.items
   pub within : IsPlaceIn (length t.contents.items) p
   pub names : t'.names.items ≡ t.names.items
   pub contents : t'.contents.items ≡ t.contents.items
@@ -276,7 +296,7 @@ put_in : (t t' : Table) (i : ℕ) (p : Place) → IsTable t → PutsOne t t' i p
     → IsPut t.names.items t.contents.items t.entries.items t'.entries.items (name_in t.names.items (entry_at t i).name) (slot_in t.contents.items (entry_at t i).place) (slot_in t.contents.items p)
 put_in t t' i p is h =
     subst (λ es. IsPut t.names.items t.contents.items t.entries.items es (name_in t.names.items (entry_at t i).name) (slot_in t.contents.items (entry_at t i).place) (slot_in t.contents.items p)) (sym h.entries)
-    (is_put t.names.items t.contents.items t.entries.items i any_entry (name_in t.names.items (entry_at t i).name) p is.ascending h.at refl)
+    (is_put t.names.items t.contents.items t.entries.items i any_entry (name_in t.names.items (entry_at t i).name) p (names_apart t is) h.at refl)
 
 pub records_put : (t t' : Table) (i : ℕ) (p : Place) → IsTable t → PutsOne t t' i p → Records t t' (Puts (entry_at t i).name p) (event.Puts (name_in t.names.items (entry_at t i).name) (slot_in t.contents.items p))
 records_put t t' i p is h =
@@ -287,6 +307,8 @@ records_put t t' i p is h =
       contents = h.contents;
       entries = rw h.entries (all_put t.names.items t.contents.items t.entries.items i p is.entries h.at h.within);
       names_same = put.names_same;
+      numbers = h.numbers;
+      unsettled = h.unsettled;
       first = put.first;
       disk = put.disk;
       changes = h.changes;
@@ -300,6 +322,8 @@ files_put t t' i p is h = rw (h.names, h.contents) ((put_in t t' i p is h).files
 -- t' is t with other places at two entries, and the change
 pub record PutsBoth (t t' : Table) (i : ℕ) (p : Place) (j : ℕ) (q : Place) : Type 0 where
   pub at : i < length t.entries.items
+  pub numbers : t'.numbers ≡ t.numbers
+  pub unsettled : AreUnsettled t'.unsettled t'.entries.items
   pub within : IsPlaceIn (length t.contents.items) p
   pub other : j < length t.entries.items
   pub other_within : IsPlaceIn (length t.contents.items) q
@@ -318,16 +342,16 @@ other_same t t' i p j q h = get_or-set_other t.entries.items i j (record (entry_
 
 first_put_in : (t t' : Table) (i : ℕ) (p : Place) (j : ℕ) (q : Place) → IsTable t → PutsBoth t t' i p j q
     → IsPut t.names.items t.contents.items t.entries.items (one_put t i p) (name_in t.names.items (entry_at t i).name) (slot_in t.contents.items (entry_at t i).place) (slot_in t.contents.items p)
-first_put_in t t' i p j q is h = is_put t.names.items t.contents.items t.entries.items i any_entry (name_in t.names.items (entry_at t i).name) p is.ascending h.at refl
+first_put_in t t' i p j q is h = is_put t.names.items t.contents.items t.entries.items i any_entry (name_in t.names.items (entry_at t i).name) p (names_apart t is) h.at refl
 
 second_put_in : (t t' : Table) (i : ℕ) (p : Place) (j : ℕ) (q : Place) → IsTable t → PutsBoth t t' i p j q
     → IsPut t.names.items t.contents.items (one_put t i p) t'.entries.items (name_in t.names.items (entry_at t j).name) (slot_in t.contents.items (entry_at t j).place) (slot_in t.contents.items q)
 second_put_in t t' i p j q is h =
     let es1 = one_put t i p in
     let same = other_same t t' i p j q h in
-    let sorted : IsStrictlySortedBy name_cmp (names_in t.names.items es1) = rw (first_put_in t t' i p j q is h).names_same is.ascending in
+    let differ : AreApart (names_in t.names.items es1) = rw (first_put_in t t' i p j q is h).names_same (names_apart t is) in
     let lt : j < length es1 = rw (length-set t.entries.items i (record (entry_at t i) { place = p })) h.other in
-    let put = is_put t.names.items t.contents.items es1 j any_entry (name_in t.names.items (entry_at t j).name) q sorted lt (ap (λ (e : Entry). name_in t.names.items e.name) same) in
+    let put = is_put t.names.items t.contents.items es1 j any_entry (name_in t.names.items (entry_at t j).name) q differ lt (ap (λ (e : Entry). name_in t.names.items e.name) same) in
     subst (λ es. IsPut t.names.items t.contents.items es1 es (name_in t.names.items (entry_at t j).name) (slot_in t.contents.items (entry_at t j).place) (slot_in t.contents.items q)) (sym h.entries)
     (subst (λ (e : Entry). IsPut t.names.items t.contents.items es1 (set es1 j (record (get_or es1 j any_entry) { place = q })) (name_in t.names.items (entry_at t j).name) (slot_in t.contents.items e.place) (slot_in t.contents.items q)) same put)
 
@@ -345,6 +369,8 @@ records_both t t' i p j q is h =
       contents = h.contents;
       entries = rw h.entries (all_put t.names.items t.contents.items (one_put t i p) j q (all_put t.names.items t.contents.items t.entries.items i p is.entries h.at h.within) lt h.other_within);
       names_same = b.names_same ∙ a.names_same;
+      numbers = h.numbers;
+      unsettled = h.unsettled;
       first = b.first ∙ a.first;
       disk = b.disk ∙ ap (λ d. with_slot d (name_in t.names.items (entry_at t j).name) (slot_in t.contents.items q)) a.disk;
       changes = h.changes;

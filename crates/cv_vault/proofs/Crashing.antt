@@ -1,34 +1,33 @@
 -- What a crash leaves of a table.
-use Rattle.std.proofs.Common.{◌≡◌, ◌≢◌, inl, inr, ℕ, ◌/◌, ◌%◌, ◌==◌, Bool, true, false, not, cond, List, [], ◌∷◌, ◌++◌, length, get_or, take, drop, refl, ap, subst, sym, ◌∙◌, arith}
+use Rattle.std.proofs.Common.{◌≡◌, ◌≢◌, ◌⊎◌, inl, inr, ℕ, ◌<◌, ◌/◌, ◌%◌, ◌==◌, Bool, true, false, not, cond, List, [], ◌∷◌, length, get_or, set, map, length-set, get_or-set_other, refl, ap, subst, sym, ◌∙◌, arith}
+use Rattle.std.specs.Vec.{vec_capacity}
 use Rattle.std.specs.List.{All, Contains, filter}
 use Rattle.std.specs.List.Sorted.{IsStrictlySortedBy}
-use Rattle.std.specs.declared.option.Option.TheVariants.{None}
+use Rattle.std.specs.String.{string_bytes}
 use Rattle.std.specs.declared.cmp.Ordering.TheVariants.{Less}
-use Rattle.std.proofs.lemmas.List.Elements.{All-head, All-tail, All-cons, All-from_recursion, recursion_from_All}
+use Rattle.std.proofs.Math.Seq.{map-set_same}
+use Rattle.std.proofs.lemmas.List.{get_or-set_same}
+use Rattle.std.proofs.lemmas.List.Kept.{IsStrictlySortedBy-filter}
+use Rattle.std.proofs.lemmas.List.Elements.{All-nil, All-head, All-tail, All-cons, All-set, All-filter, All-weaker, All-from_get_or, All-from_recursion}
 use Rattle.cv_vault.specs.Names.{Name, name_cmp, same_name}
 use Rattle.cv_vault.specs.Disk as disk
-use Rattle.cv_vault.specs.Disk.{Disk, File, Slot, May, Image, LeftAt, slot, settled, is_settled}
+use Rattle.cv_vault.specs.Disk.{Disk, Slot, May, Image, LeftAt, slot, with_slot, is_settled}
 use Rattle.cv_vault.specs.Crash.{Crashes, file_before, left_by, picks}
 use Rattle.cv_vault.specs.Events.{disk_of, first_disk, any_unsettled}
 use Rattle.cv_vault.specs.Places.{file_in, mark_in, slot_in, is_settled_place, before_place, left_place, next_pick, IsFileIn, IsMarkIn, IsPlaceIn}
-use Rattle.cv_vault.specs.Table.{crashed_entry, crashed, name_in, names_in, entry_at, entries_of, past_of, table_disk, IsEntryIn, IsTable}
+use Rattle.cv_vault.specs.Table.{any_entry, crash_at, crashed, name_in, names_in, entries_of, past_of, table_disk, Lacks, IsEntryIn, IsTable}
 use Rattle.cv_vault.specs.declared.place.Place.{Place}
 use Rattle.cv_vault.specs.declared.place.PlaceMark.{PlaceMark}
 use Rattle.cv_vault.specs.declared.place.PlaceMark.TheVariants as mark
 use Rattle.cv_vault.specs.declared.table.Entry.{Entry}
 use Rattle.cv_vault.specs.declared.table.Table.{Table}
-use Rattle.cv_vault.proofs.Names.{other_name, same_name_itself, same_or_not, below_differs}
-use Rattle.cv_vault.proofs.Reading.{resolved, slot_found}
+use Rattle.cv_vault.proofs.Names.{here, elsewhere, other_name, same_name_itself, same_or_not, below_differs}
+use Rattle.cv_vault.proofs.Values.{AreApart}
+use Rattle.cv_vault.proofs.Reading.{resolved}
+use Rattle.cv_vault.proofs.Unsettled.{Contains-rest, unsettled_none}
+use Rattle.cv_vault.proofs.Changing.{set_disk, names_apart}
 use Rattle.cv_vault.proofs.Steps.{slot_at, settled_in}
-use Rattle.cv_vault.proofs.Listing.{all_filtered, sorted_filtered, found_or_not, kept_is, is_kept, none_at}
-
--- a loop over the entries xs has come to the place i, with the entries ys and the pick p
-pub record CrashedUpTo (pick : ℕ) (xs ys : List Entry) (p i : ℕ) : Type 0 where
-  pub done : crashed pick xs ≡ take i ys ++ crashed p (drop i xs)
-  pub rest : drop i ys ≡ drop i xs
-
-abbrev pub crash_at : ℕ → Entry → Entry
-crash_at p x = crashed_entry x (left_place p x.place)
+use Rattle.cv_vault.proofs.Ordered.{names_of, all_names, ascending, placed, numbers_in_range, covered, among_or_none, passes, passed}
 
 -- Each entry is settled with its file, which is its first as well.
 
@@ -45,29 +44,75 @@ file_left_in n pick p h = by (is_settled_place p) (pick % 2 == 0) p.mark h.mark
     by false true m k = before m k
     by false false m k = h.file
 
-crashed_in : (names contents pick : ℕ) (es : List Entry) → All (IsEntryIn names contents) es → All (IsEntryIn names contents) (crashed pick es)
-crashed_in names contents pick [] h = h
-crashed_in names contents pick (e ∷ es) h =
-    let P = IsEntryIn names contents in
-    let old : IsEntryIn names contents e = All-head P e es h in
-    let file = file_left_in contents pick e.place old.place in
-    All-cons P (crash_at pick e) (crashed (next_pick pick e.place) es) (record { name = old.name; first = file; place = record { file = file; mark = tt } }) (crashed_in names contents (next_pick pick e.place) es (All-tail P e es h))
+-- the entries, where one is crashed
+abbrev pub crash_one : ℕ → List Entry → ℕ → List Entry
+crash_one pick es k = set es k (crash_at pick (get_or es k any_entry))
+
+abbrev pub pick_after : ℕ → List Entry → ℕ → ℕ
+pick_after pick es k = next_pick pick (get_or es k any_entry).place
+
+-- the entry is settled with its first file
+abbrev pub IsFresh : Entry → Type 0
+IsFresh e = e.place ≡ record { now = e.first; mark = mark.Settled }
+
+same_or_other : (k i : ℕ) → (k ≡ i) ⊎ (k ≢ i)
+same_or_other k i = grind arith
+
+module _ {K : Type 0} where
+  pub length-crashed : (pick : ℕ) (ps : List (K × ℕ)) (es : List Entry) → length (crashed pick ps es) ≡ length es
+  length-crashed pick [] es = refl
+  length-crashed pick (p ∷ ps) es = length-crashed (pick_after pick es p.1) ps (crash_one pick es p.1) ∙ length-set es p.1 (crash_at pick (get_or es p.1 any_entry))
+
+  pub in_range : (pick k : ℕ) (ps : List (K × ℕ)) (es : List Entry) → All (λ (p : K × ℕ). p.1 < length es) ps → All (λ (p : K × ℕ). p.1 < length (crash_one pick es k)) ps
+  in_range pick k ps es h = subst (λ n. All (λ (p : K × ℕ). p.1 < n) ps) (sym (length-set es k (crash_at pick (get_or es k any_entry)))) h
+
+  fresh_at : (pick : ℕ) (ps : List (K × ℕ)) (es : List Entry) (i : ℕ) → i < length es → Contains (map (λ (p : K × ℕ). p.1) ps) i ⊎ IsFresh (get_or es i any_entry) → IsFresh (get_or (crashed pick ps es) i any_entry)
+  fresh_at pick [] es i lt (inl c) = absurd (let l = c.1 in omega arith)
+  fresh_at pick [] es i lt (inr h) = h
+  fresh_at pick (p ∷ ps) es i lt h =
+      let x : Entry = crash_at pick (get_or es p.1 any_entry) in
+      let lt' : i < length (crash_one pick es p.1) = rw (length-set es p.1 x) lt in
+      elim (same_or_other i p.1) [
+        | inl e ↦ fresh_at (pick_after pick es p.1) ps (crash_one pick es p.1) i lt'
+            (inr (subst IsFresh (sym (ap (λ j. get_or (crash_one pick es p.1) j any_entry) e ∙ get_or-set_same es p.1 x any_entry (subst (λ j. j < length es) e lt))) refl))
+        | inr ne ↦ fresh_at (pick_after pick es p.1) ps (crash_one pick es p.1) i lt' (elim h [
+          | inl c ↦ inl (Contains-rest p.1 (map (λ (p : K × ℕ). p.1) ps) i (λ e. ne (sym e)) c)
+          | inr was ↦ inr (subst IsFresh (sym (get_or-set_other es p.1 i x any_entry ne)) was)
+        ])
+      ]
+
+  pub all_fresh : (pick : ℕ) (ps : List (K × ℕ)) (es : List Entry) → ((i : ℕ) → i < length es → Contains (map (λ (p : K × ℕ). p.1) ps) i) → All IsFresh (crashed pick ps es)
+  all_fresh pick ps es h = All-from_get_or IsFresh (crashed pick ps es) any_entry (λ i lt. let within : i < length es = subst (λ k. i < k) (length-crashed pick ps es) lt in fresh_at pick ps es i within (inl (h i within)))
+
+  crashed_in : (names contents pick : ℕ) (ps : List (K × ℕ)) (es : List Entry) → All (λ (p : K × ℕ). p.1 < length es) ps → All (IsEntryIn names contents) es → All (IsEntryIn names contents) (crashed pick ps es)
+  crashed_in names contents pick [] es range h = h
+  crashed_in names contents pick (p ∷ ps) es range h =
+      let P = IsEntryIn names contents in
+      let Q : K × ℕ → Type 0 = λ p. p.1 < length es in
+      let e : Entry = get_or es p.1 any_entry in
+      let old : IsEntryIn names contents e = h p.1 any_entry (All-head Q p ps range) in
+      let file = file_left_in contents pick e.place old.place in
+      crashed_in names contents (pick_after pick es p.1) ps (crash_one pick es p.1) (in_range pick p.1 ps es (All-tail Q p ps range))
+      (All-set P es p.1 (crash_at pick e) (record { name = old.name; first = file; place = record { file = file; mark = tt } }) h)
 
 module _ (names : List Name) (contents : List (List ℕ)) where
-  names_crashed : (pick : ℕ) (es : List Entry) → names_in names (crashed pick es) ≡ names_in names es
-  names_crashed pick [] = refl
-  names_crashed pick (e ∷ es) = ap (λ ns. name_in names e.name ∷ ns) (names_crashed (next_pick pick e.place) es)
+  names_one : (pick : ℕ) (es : List Entry) (k : ℕ) → names_in names (crash_one pick es k) ≡ names_in names es
+  names_one pick es k = map-set_same (λ (e : Entry). name_in names e.name) es k (crash_at pick (get_or es k any_entry)) any_entry refl
 
-  first_crashed : (pick : ℕ) (es : List Entry) (n : Name) → disk_of (resolved names contents (crashed pick es)) n ≡ first_disk (resolved names contents (crashed pick es)) n
-  first_crashed pick [] n = refl
-  first_crashed pick (e ∷ es) n =
-      let rest = first_crashed (next_pick pick e.place) es n in
-      elim (same_name n (name_in names e.name)) as (λ b. cond b (slot (file_in contents (left_place pick e.place)) disk.Settled) (disk_of (resolved names contents (crashed (next_pick pick e.place) es)) n)
-      ≡ slot (cond b (file_in contents (left_place pick e.place)) (first_disk (resolved names contents (crashed (next_pick pick e.place) es)) n).now) disk.Settled) [ true ↦ refl | false ↦ rest ]
+  names_crashed : {K : Type 0} (pick : ℕ) (ps : List (K × ℕ)) (es : List Entry) → names_in names (crashed pick ps es) ≡ names_in names es
+  names_crashed pick [] es = refl
+  names_crashed pick (p ∷ ps) es = names_crashed (pick_after pick es p.1) ps (crash_one pick es p.1) ∙ names_one pick es p.1
 
-  calm_crashed : (pick : ℕ) (es : List Entry) → any_unsettled (resolved names contents (crashed pick es)) ≡ false
-  calm_crashed pick [] = refl
-  calm_crashed pick (e ∷ es) = calm_crashed (next_pick pick e.place) es
+  first_fresh : (es : List Entry) (n : Name) → All IsFresh es → disk_of (resolved names contents es) n ≡ first_disk (resolved names contents es) n
+  first_fresh [] n h = refl
+  first_fresh (e ∷ es) n h =
+      let rest = first_fresh es n (All-tail IsFresh e es h) in
+      rw (All-head IsFresh e es h) (elim (same_name n (name_in names e.name)) as (λ b. cond b (slot (file_in contents e.first) disk.Settled) (disk_of (resolved names contents es) n)
+      ≡ slot (cond b (file_in contents e.first) (first_disk (resolved names contents es) n).now) disk.Settled) [ true ↦ refl | false ↦ rest ])
+
+  calm_fresh : (es : List Entry) → All IsFresh es → any_unsettled (resolved names contents es) ≡ false
+  calm_fresh [] h = refl
+  calm_fresh (e ∷ es) h = rw (All-head IsFresh e es h) (calm_fresh es (All-tail IsFresh e es h))
 
   -- what is left at one entry, by what stands there
   left_at : (pick : ℕ) (p : Place) → is_settled_place p ≡ false → file_in contents (left_place pick p) ≡ left_by pick (slot_in contents p)
@@ -79,74 +124,131 @@ module _ (names : List Name) (contents : List (List ℕ)) where
       by true (mark.Moved f) = refl
       by false m = refl
 
-  abbrev pub unsettled_in : List Entry → List Name
-  unsettled_in es = names_in names (filter (λ (e : Entry). not (is_settled_place e.place)) es)
+-- a name that the list lacks has its file
+picks_lacks : (pick : ℕ) (ms : List Name) (d : Disk) (n : Name) → Lacks n ms → picks pick ms d n ≡ (d n).now
+picks_lacks pick [] d n h = refl
+picks_lacks pick (m ∷ ms) d n h = rw (other_name n m (All-head (λ m. n ≢ m) m ms h)) (picks_lacks (pick / 2) ms d n (All-tail (λ m. n ≢ m) m ms h))
 
-  -- a name that the list lacks has its file
-  picks_lacks : (pick : ℕ) (ms : List Name) (d : Disk) (n : Name) → All (λ m. n ≢ m) ms → picks pick ms d n ≡ (d n).now
-  picks_lacks pick [] d n h = refl
-  picks_lacks pick (m ∷ ms) d n h = rw (other_name n m (All-head (λ m. n ≢ m) m ms h)) (picks_lacks (pick / 2) ms d n (All-tail (λ m. n ≢ m) m ms h))
+-- the names that follow in an ascending list differ
+later_names : (m : Name) (ns : List Name) → IsStrictlySortedBy name_cmp (m ∷ ns) → Lacks m ns
+unfolding IsStrictlySortedBy
+later_names m ns h i d lt = below_differs m (get_or ns i d) (All-from_recursion (λ k. name_cmp m k ≡ Less) ns h.0 i d lt)
 
-  all_filtered_names : (p : Entry → Bool) (P : Name → Type 0) (es : List Entry) → All P (names_in names es) → All P (names_in names (filter p es))
-  all_filtered_names p P es h = All-from_recursion P (names_in names (filter p es)) (all_filtered names p P es (recursion_from_All P (names_in names es) h))
+sorted_tail : (m : Name) (ns : List Name) → IsStrictlySortedBy name_cmp (m ∷ ns) → IsStrictlySortedBy name_cmp ns
+unfolding IsStrictlySortedBy
+sorted_tail m ns h = h.1
 
-  -- the names that follow in an ascending list differ
-  later_names : (m : Name) (ns : List Name) → IsStrictlySortedBy name_cmp (m ∷ ns) → All (λ k. m ≢ k) ns
-  unfolding IsStrictlySortedBy
-  later_names m ns h i d lt = below_differs m (get_or ns i d) (All-from_recursion (λ k. name_cmp m k ≡ Less) ns h.0 i d lt)
+-- names with the numbers of their entries, where the disk d has what stands at each
+module _ {K : Type 0} (key : K → Name) (names : List Name) (contents : List (List ℕ)) (d : Disk) where
+  abbrev pub unsettled_in : List (K × ℕ) → List Name
+  unsettled_in ps = filter (λ m. not (is_settled (d m).mark)) (names_of key ps)
 
-  sorted_tail : (m : Name) (ns : List Name) → IsStrictlySortedBy name_cmp (m ∷ ns) → IsStrictlySortedBy name_cmp ns
-  unfolding IsStrictlySortedBy
-  sorted_tail m ns h = h.1
+  pub record Agrees (es : List Entry) (p : K × ℕ) : Type 0 where
+    pub within : p.1 < length es
+    pub name : name_in names (get_or es p.1 any_entry).name ≡ key p.0
+    pub stands : d (key p.0) ≡ slot_in contents (get_or es p.1 any_entry).place
 
-  unsettled_rest : (e : Entry) (es : List Entry) → is_settled_place e.place ≡ true → unsettled_in (e ∷ es) ≡ unsettled_in es
-  unsettled_rest e es h = rw h refl
+  agrees_rest : (pick : ℕ) (es : List Entry) (p : K × ℕ) (ps : List (K × ℕ)) → Lacks (key p.0) (names_of key ps) → Agrees es p → All (Agrees es) ps → All (Agrees (crash_one pick es p.1)) ps
+  agrees_rest pick es p [] apart a all = All-nil (Agrees (crash_one pick es p.1))
+  agrees_rest pick es p (q ∷ ps) apart a all =
+      let x : Entry = crash_at pick (get_or es p.1 any_entry) in
+      let b : Agrees es q = All-head (Agrees es) q ps all in
+      let ne : key p.0 ≢ key q.0 = All-head (λ m. key p.0 ≢ m) (key q.0) (names_of key ps) apart in
+      let other : q.1 ≢ p.1 = (λ e. ne (sym a.name ∙ ap (λ k. name_in names (get_or es k any_entry).name) (sym e) ∙ b.name)) in
+      let same : get_or (crash_one pick es p.1) q.1 any_entry ≡ get_or es q.1 any_entry = get_or-set_other es p.1 q.1 x any_entry other in
+      All-cons (Agrees (crash_one pick es p.1)) q ps
+      (record {
+        within = rw (length-set es p.1 x) b.within;
+        name = ap (λ (e : Entry). name_in names e.name) same ∙ b.name;
+        stands = b.stands ∙ ap (λ (e : Entry). slot_in contents e.place) (sym same);
+      })
+      (agrees_rest pick es p ps (All-tail (λ m. key p.0 ≢ m) (key q.0) (names_of key ps) apart) a (All-tail (Agrees es) q ps all))
 
-  unsettled_first : (e : Entry) (es : List Entry) → is_settled_place e.place ≡ false → unsettled_in (e ∷ es) ≡ name_in names e.name ∷ unsettled_in es
-  unsettled_first e es h = rw h refl
+  -- the disk after one entry is crashed
+  disk_one : (pick : ℕ) (es : List Entry) (p : K × ℕ) → AreApart (names_in names es) → Agrees es p → (n : Name)
+      → disk_of (resolved names contents (crash_one pick es p.1)) n ≡ with_slot (disk_of (resolved names contents es)) (key p.0) (slot (file_in contents (left_place pick (get_or es p.1 any_entry).place)) disk.Settled) n
+  disk_one pick es p differ a n = set_disk names contents es p.1 any_entry (key p.0) (crash_at pick (get_or es p.1 any_entry)) differ a.within a.name refl n
 
-  -- what is left at the first entry
-  picks_here : (pick : ℕ) (e : Entry) (es : List Entry) (d : Disk) → IsStrictlySortedBy name_cmp (names_in names (e ∷ es)) → d (name_in names e.name) ≡ slot_in contents e.place
-      → file_in contents (left_place pick e.place) ≡ picks pick (unsettled_in (e ∷ es)) d (name_in names e.name)
-  picks_here pick e es d sorted at = by (is_settled_place e.place) refl
+  apart_one : (pick : ℕ) (es : List Entry) (k : ℕ) → AreApart (names_in names es) → AreApart (names_in names (crash_one pick es k))
+  apart_one pick es k h = rw (names_one names contents pick es k) h
+
+  -- the names that aren't among them
+  untouched : (pick : ℕ) (ps : List (K × ℕ)) (es : List Entry) (n : Name) → IsStrictlySortedBy name_cmp (names_of key ps) → AreApart (names_in names es) → All (Agrees es) ps → Lacks n (names_of key ps)
+      → disk_of (resolved names contents (crashed pick ps es)) n ≡ disk_of (resolved names contents es) n
+  untouched pick [] es n sorted differ all h = refl
+  untouched pick (p ∷ ps) es n sorted differ all h =
+      let a : Agrees es p = All-head (Agrees es) p ps all in
+      let ns : List Name = names_of key ps in
+      untouched (pick_after pick es p.1) ps (crash_one pick es p.1) n (sorted_tail (key p.0) ns sorted) (apart_one pick es p.1 differ)
+      (agrees_rest pick es p ps (later_names (key p.0) ns sorted) a (All-tail (Agrees es) p ps all)) (All-tail (λ m. n ≢ m) (key p.0) ns h)
+      ∙ disk_one pick es p differ a n
+      ∙ elsewhere (disk_of (resolved names contents es)) (key p.0) (slot (file_in contents (left_place pick (get_or es p.1 any_entry).place)) disk.Settled) n (All-head (λ m. n ≢ m) (key p.0) ns h)
+
+  lacks_filtered : (n : Name) (f : Name → Bool) (ns : List Name) → Lacks n ns → Lacks n (filter f ns)
+  lacks_filtered n f ns h = All-filter f (λ m. n ≢ m) ns h
+
+  settled_by : (p : Place) (n : Name) → d n ≡ slot_in contents p → is_settled_place p ≡ is_settled (d n).mark
+  settled_by p n e = settled_in contents p.mark ∙ ap (λ (s : Slot). is_settled s.mark) (sym e)
+
+  rest_if_settled : (p : K × ℕ) (ps : List (K × ℕ)) → is_settled (d (key p.0)).mark ≡ true → unsettled_in (p ∷ ps) ≡ unsettled_in ps
+  rest_if_settled p ps h = rw h refl
+
+  first_if_open : (p : K × ℕ) (ps : List (K × ℕ)) → is_settled (d (key p.0)).mark ≡ false → unsettled_in (p ∷ ps) ≡ key p.0 ∷ unsettled_in ps
+  first_if_open p ps h = rw h refl
+
+  -- what is left at the first name
+  picks_here : (pick : ℕ) (es : List Entry) (p : K × ℕ) (ps : List (K × ℕ)) → Lacks (key p.0) (names_of key ps) → Agrees es p
+      → file_in contents (left_place pick (get_or es p.1 any_entry).place) ≡ picks pick (unsettled_in (p ∷ ps)) d (key p.0)
+  picks_here pick es p ps apart a = by (is_settled_place (get_or es p.1 any_entry).place) refl
     where
-      by : (s : Bool) → is_settled_place e.place ≡ s → file_in contents (left_place pick e.place) ≡ picks pick (unsettled_in (e ∷ es)) d (name_in names e.name)
+      by : (s : Bool) → is_settled_place (get_or es p.1 any_entry).place ≡ s → file_in contents (left_place pick (get_or es p.1 any_entry).place) ≡ picks pick (unsettled_in (p ∷ ps)) d (key p.0)
       by true h =
-          let n : Name = name_in names e.name in
-          let apart : All (λ m. n ≢ m) (unsettled_in es) = all_filtered_names (λ (e : Entry). not (is_settled_place e.place)) (λ m. n ≢ m) es (later_names n (names_in names es) sorted) in
-          let now : file_in contents (left_place pick e.place) ≡ file_in contents e.place.now = rw h refl in
-          now ∙ ap (λ (s : Slot). s.now) (sym at) ∙ sym (picks_lacks pick (unsettled_in es) d n apart) ∙ ap (λ ms. picks pick ms d n) (sym (unsettled_rest e es h))
+          let n : Name = key p.0 in
+          let q : Place = (get_or es p.1 any_entry).place in
+          let now : file_in contents (left_place pick q) ≡ file_in contents q.now = rw h refl in
+          now ∙ ap (λ (s : Slot). s.now) (sym a.stands) ∙ sym (picks_lacks pick (unsettled_in ps) d n (lacks_filtered n (λ m. not (is_settled (d m).mark)) (names_of key ps) apart))
+          ∙ ap (λ ms. picks pick ms d n) (sym (rest_if_settled p ps (sym (settled_by q n a.stands) ∙ h)))
       by false h =
-          let n : Name = name_in names e.name in
-          let first : picks pick (n ∷ unsettled_in es) d n ≡ left_by pick (d n) = rw (same_name_itself n) refl in
-          left_at pick e.place h ∙ ap (left_by pick) (sym at) ∙ sym first ∙ ap (λ ms. picks pick ms d n) (sym (unsettled_first e es h))
+          let n : Name = key p.0 in
+          let q : Place = (get_or es p.1 any_entry).place in
+          let first : picks pick (n ∷ unsettled_in ps) d n ≡ left_by pick (d n) = rw (same_name_itself n) refl in
+          left_at names contents pick q h ∙ ap (left_by pick) (sym a.stands) ∙ sym first ∙ ap (λ ms. picks pick ms d n) (sym (first_if_open p ps (sym (settled_by q n a.stands) ∙ h)))
 
   -- what is left at another name
-  picks_there : (pick : ℕ) (e : Entry) (es : List Entry) (d : Disk) (n : Name) → n ≢ name_in names e.name → picks (next_pick pick e.place) (unsettled_in es) d n ≡ picks pick (unsettled_in (e ∷ es)) d n
-  picks_there pick e es d n other = by (is_settled_place e.place) refl
+  picks_there : (pick : ℕ) (es : List Entry) (p : K × ℕ) (ps : List (K × ℕ)) (n : Name) → Agrees es p → n ≢ key p.0
+      → picks (pick_after pick es p.1) (unsettled_in ps) d n ≡ picks pick (unsettled_in (p ∷ ps)) d n
+  picks_there pick es p ps n a other = by (is_settled_place (get_or es p.1 any_entry).place) refl
     where
-      by : (s : Bool) → is_settled_place e.place ≡ s → picks (next_pick pick e.place) (unsettled_in es) d n ≡ picks pick (unsettled_in (e ∷ es)) d n
-      by true h = ap (λ b. picks (cond b pick (pick / 2)) (unsettled_in es) d n) h ∙ ap (λ ms. picks pick ms d n) (sym (unsettled_rest e es h))
+      by : (s : Bool) → is_settled_place (get_or es p.1 any_entry).place ≡ s → picks (pick_after pick es p.1) (unsettled_in ps) d n ≡ picks pick (unsettled_in (p ∷ ps)) d n
+      by true h =
+          ap (λ b. picks (cond b pick (pick / 2)) (unsettled_in ps) d n) h
+          ∙ ap (λ ms. picks pick ms d n) (sym (rest_if_settled p ps (sym (settled_by (get_or es p.1 any_entry).place (key p.0) a.stands) ∙ h)))
       by false h =
-          let skip : picks pick (name_in names e.name ∷ unsettled_in es) d n ≡ picks (pick / 2) (unsettled_in es) d n = rw (other_name n (name_in names e.name) other) refl in
-          ap (λ b. picks (cond b pick (pick / 2)) (unsettled_in es) d n) h ∙ sym skip ∙ ap (λ ms. picks pick ms d n) (sym (unsettled_first e es h))
+          let skip : picks pick (key p.0 ∷ unsettled_in ps) d n ≡ picks (pick / 2) (unsettled_in ps) d n = rw (other_name n (key p.0) other) refl in
+          ap (λ b. picks (cond b pick (pick / 2)) (unsettled_in ps) d n) h ∙ sym skip
+          ∙ ap (λ ms. picks pick ms d n) (sym (first_if_open p ps (sym (settled_by (get_or es p.1 any_entry).place (key p.0) a.stands) ∙ h)))
 
-  -- the files that the pick leaves, where the disk d has what stands at each entry
-  crashed_at : (pick : ℕ) (es : List Entry) (d : Disk) (n : Name) → IsStrictlySortedBy name_cmp (names_in names es) → All (λ (e : Entry). d (name_in names e.name) ≡ slot_in contents e.place) es
-      → (All (λ m. n ≢ m) (names_in names es) → (d n).now ≡ None) → disk_of (resolved names contents (crashed pick es)) n ≡ slot (picks pick (unsettled_in es) d n) disk.Settled
-  crashed_at pick [] d n sorted agree missing = ap (λ f. slot f disk.Settled) (sym (missing (λ k d lt. absurd (omega arith))))
-  crashed_at pick (e ∷ es) d n sorted agree missing =
-      let P : Entry → Type 0 = λ e. d (name_in names e.name) ≡ slot_in contents e.place in
-      let m : Name = name_in names e.name in
-      let rest = crashed_at (next_pick pick e.place) es d n (sorted_tail m (names_in names es) sorted) (All-tail P e es agree) in
+  -- the files that the pick leaves
+  pub crashed_at : (pick : ℕ) (ps : List (K × ℕ)) (es : List Entry) (n : Name) → IsStrictlySortedBy name_cmp (names_of key ps) → AreApart (names_in names es) → All (Agrees es) ps
+      → (Lacks n (names_of key ps) → disk_of (resolved names contents es) n ≡ slot (d n).now disk.Settled)
+      → disk_of (resolved names contents (crashed pick ps es)) n ≡ slot (picks pick (unsettled_in ps) d n) disk.Settled
+  crashed_at pick [] es n sorted differ all missing = missing (λ k d lt. absurd (omega arith))
+  crashed_at pick (p ∷ ps) es n sorted differ all missing =
+      let a : Agrees es p = All-head (Agrees es) p ps all in
+      let m : Name = key p.0 in
+      let ns : List Name = names_of key ps in
+      let left : Slot = slot (file_in contents (left_place pick (get_or es p.1 any_entry).place)) disk.Settled in
+      let rest = agrees_rest pick es p ps (later_names m ns sorted) a (All-tail (Agrees es) p ps all) in
       elim (same_or_not n m) [
         | inl same ↦
-            let yes : same_name n m ≡ true = rw same (same_name_itself m) in
-            let here : file_in contents (left_place pick e.place) ≡ picks pick (unsettled_in (e ∷ es)) d n = rw same (picks_here pick e es d sorted (All-head P e es agree)) in
-            rw yes (ap (λ f. slot f disk.Settled) here)
+            untouched (pick_after pick es p.1) ps (crash_one pick es p.1) n (sorted_tail m ns sorted) (apart_one pick es p.1 differ) rest (subst (λ k. Lacks k ns) (sym same) (later_names m ns sorted))
+            ∙ disk_one pick es p differ a n
+            ∙ subst (λ k. with_slot (disk_of (resolved names contents es)) m left k ≡ left) (sym same) (here (disk_of (resolved names contents es)) m left)
+            ∙ ap (λ f. slot f disk.Settled) (picks_here pick es p ps (later_names m ns sorted) a ∙ ap (λ k. picks pick (unsettled_in (p ∷ ps)) d k) (sym same))
         | inr other ↦
-            let no : same_name n m ≡ false = other_name n m other in
-            rw no (rest (λ h. missing (All-cons (λ k. n ≢ k) m (names_in names es) other h)) ∙ ap (λ f. slot f disk.Settled) (picks_there pick e es d n other))
+            crashed_at (pick_after pick es p.1) ps (crash_one pick es p.1) n (sorted_tail m ns sorted) (apart_one pick es p.1 differ) rest
+            (λ h. disk_one pick es p differ a n ∙ elsewhere (disk_of (resolved names contents es)) m left n other ∙ missing (All-cons (λ k. n ≢ k) m ns other h))
+            ∙ ap (λ f. slot f disk.Settled) (picks_there pick es p ps n a other)
       ]
 
 -- a pick leaves an image
@@ -187,47 +289,66 @@ unturned false h = refl
 pub record IsCrashed (pick : ℕ) (t t' : Table) : Type 0 where
   pub names : t'.names.items ≡ t.names.items
   pub contents : t'.contents.items ≡ t.contents.items
-  pub entries : t'.entries.items ≡ crashed pick t.entries.items
+  pub entries : t'.entries.items ≡ crashed pick t.numbers.entries t.entries.items
+  pub numbers : t'.numbers ≡ t.numbers
+  pub unsettled : t'.unsettled.items ≡ []
+  pub room : vec_capacity t'.unsettled ≡ vec_capacity t.unsettled
   pub changes : t'.changes.items ≡ []
 
 pub past_crashed : (pick : ℕ) (t t' : Table) → IsCrashed pick t t' → past_of t' ≡ []
 past_crashed pick t t' h = rw h.changes refl
 
-pub table_crashed : (pick : ℕ) (t t' : Table) → IsTable t → IsCrashed pick t t' → IsTable t'
-table_crashed pick t t' is h = record {
-  entries = rw (h.names, h.contents, h.entries) (crashed_in (length t.names.items) (length t.contents.items) pick t.entries.items is.entries);
-  changes = rw h.changes (λ k d lt. absurd (omega arith));
-  ascending = rw (h.names, h.entries, names_crashed t.names.items t.contents.items pick t.entries.items) is.ascending;
-  linked = rw (h.names, h.contents, h.entries, h.changes) (λ i n. first_crashed t.names.items t.contents.items pick t.entries.items n i);
-}
+module _ (pick : ℕ) (t t' : Table) (is : IsTable t) (h : IsCrashed pick t t') where
+  fresh : All IsFresh (crashed pick t.numbers.entries t.entries.items)
+  fresh = all_fresh pick t.numbers.entries t.entries.items (covered t is)
 
-pub calm_after : (pick : ℕ) (t t' : Table) → IsCrashed pick t t' → any_unsettled (entries_of t') ≡ false
-calm_after pick t t' h = rw (h.names, h.contents, h.entries) (calm_crashed t.names.items t.contents.items pick t.entries.items)
+  pub table_crashed : IsTable t'
+  table_crashed = record {
+    entries = rw (h.names, h.contents, h.entries) (crashed_in (length t.names.items) (length t.contents.items) pick t.numbers.entries t.entries.items
+        (numbers_in_range t is) is.entries);
+    changes = rw h.changes (λ k d lt. absurd (omega arith));
+    ordered = rw h.numbers is.ordered;
+    numbers = rw (h.names, h.entries, h.numbers, names_crashed t.names.items t.contents.items pick t.numbers.entries t.entries.items) is.numbers;
+    unsettled = unsettled_none t'.unsettled t'.entries.items h.unsettled (rw h.entries (All-weaker IsFresh _ settled_if_fresh (crashed pick t.numbers.entries t.entries.items) fresh))
+        (rw (h.entries, h.room, length-crashed pick t.numbers.entries t.entries.items) is.unsettled.room);
+    linked = rw (h.names, h.contents, h.entries, h.changes) (λ i n. first_fresh t.names.items t.contents.items (crashed pick t.numbers.entries t.entries.items) n fresh i);
+  }
+    where
+      settled_if_fresh : (e : Entry) → IsFresh e → is_settled_place e.place ≡ true
+      settled_if_fresh e f = rw f refl
 
-pub crashes : (pick : ℕ) (t t' : Table) → IsTable t → IsCrashed pick t t' → Crashes pick (table_disk t) (table_disk t')
-crashes pick t t' is h =
-    let test : Entry → Bool = λ e. not (is_settled_place e.place) in
-    let us : List Name = unsettled_in t.names.items t.contents.items t.entries.items in
-    record {
-      unsettled = us;
-      ascending = sorted_filtered t.names.items test t.entries.items is.ascending;
-      exact = λ n. (is_unsettled n, is_among n);
-      left = rw (h.names, h.contents, h.entries) (λ i n. crashed_at t.names.items t.contents.items pick t.entries.items (table_disk t) n is.ascending agree (λ none. ap (λ (s : Slot). s.now) (none_at t n none)) i);
-      image = picks_image pick us (table_disk t);
-    }
-  where
-    agree : All (λ (e : Entry). table_disk t (name_in t.names.items e.name) ≡ slot_in t.contents.items e.place) t.entries.items
-    agree = λ k d lt. slot_found t.names.items t.contents.items t.entries.items k d (name_in t.names.items (get_or t.entries.items k d).name) is.ascending lt refl
+  pub calm_after : any_unsettled (entries_of t') ≡ false
+  calm_after = rw (h.names, h.contents, h.entries) (calm_fresh t.names.items t.contents.items (crashed pick t.numbers.entries t.entries.items) fresh)
 
-    is_unsettled : (n : Name) → Contains (unsettled_in t.names.items t.contents.items t.entries.items) n → is_settled (table_disk t n).mark ≡ false
-    is_unsettled n c =
-        let k = kept_is t (λ (e : Entry). not (is_settled_place e.place)) n c in
-        ap (λ (s : Slot). is_settled s.mark) (slot_at t n k.0 is k.1) ∙ sym (settled_in t.contents.items (entry_at t k.0).place.mark) ∙ unturned (is_settled_place (entry_at t k.0).place) k.2
+  pub count_after : length t'.entries.items ≡ length t.entries.items
+  count_after = rw h.entries (length-crashed pick t.numbers.entries t.entries.items)
 
-    is_among : (n : Name) → is_settled (table_disk t n).mark ≡ false → Contains (unsettled_in t.names.items t.contents.items t.entries.items) n
-    is_among n u = elim (found_or_not t.names.items t.entries.items n) [
-      | inl f ↦
-          let at : is_settled_place (entry_at t f.0).place ≡ false = settled_in t.contents.items (entry_at t f.0).place.mark ∙ ap (λ (s : Slot). is_settled s.mark) (sym (slot_at t n f.0 is (f.1, f.2))) ∙ u in
-          is_kept t (λ (e : Entry). not (is_settled_place e.place)) n f.0 (f.1, f.2) (ap not at)
-      | inr none ↦ absurd (settled_there (sym (ap (λ (s : Slot). is_settled s.mark) (none_at t n none)) ∙ u))
-    ]
+  pub crashes : Crashes pick (table_disk t) (table_disk t')
+  crashes = record {
+    unsettled = open_names;
+    ascending = IsStrictlySortedBy-filter name_cmp (λ m. not (is_settled (table_disk t m).mark)) (all_names t) (ascending t is);
+    exact = λ n. (λ c. unturned (is_settled (table_disk t n).mark) (passed (λ m. not (is_settled (table_disk t m).mark)) (all_names t) n c), is_among n);
+    left = rw (h.names, h.contents, h.entries) (λ i n. crashed_at string_bytes t.names.items t.contents.items (table_disk t) pick t.numbers.entries t.entries.items n (ascending t is) (names_apart t is) agree (missing n) i);
+    image = picks_image pick open_names (table_disk t);
+  }
+    where
+      open_names : List Name
+      open_names = unsettled_in string_bytes t.names.items t.contents.items (table_disk t) t.numbers.entries
+
+      agree : All (Agrees string_bytes t.names.items t.contents.items (table_disk t) t.entries.items) t.numbers.entries
+      agree k e lt =
+          let at = placed t is k e lt in
+          let p = get_or t.numbers.entries k e in
+          record { within = at.0; name = at.1; stands = slot_at t (string_bytes p.0) p.1 is at }
+
+      missing : (n : Name) → Lacks n (all_names t) → table_disk t n ≡ slot (table_disk t n).now disk.Settled
+      missing n lacks = elim (among_or_none t is n) [
+        | inl c ↦ absurd (lacks c.0 n c.1 (sym c.2))
+        | inr none ↦ none ∙ ap (λ (s : Slot). slot s.now disk.Settled) (sym none)
+      ]
+
+      is_among : (n : Name) → is_settled (table_disk t n).mark ≡ false → Contains (unsettled_in string_bytes t.names.items t.contents.items (table_disk t) t.numbers.entries) n
+      is_among n u = elim (among_or_none t is n) [
+        | inl c ↦ passes (λ m. not (is_settled (table_disk t m).mark)) (all_names t) n c (ap not u)
+        | inr none ↦ absurd (settled_there (sym (ap (λ (s : Slot). is_settled s.mark) none) ∙ u))
+      ]

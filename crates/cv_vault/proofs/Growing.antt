@@ -1,16 +1,23 @@
 -- A table whose lists of names and contents grow stands for the same disk and the same changes.
-use Rattle.std.proofs.Common.{◌≡◌, ℕ, List, [], ◌∷◌, ◌++◌, length, map, refl, ap, subst, sym, ◌∙◌, arith, length-append}
+use Rattle.std.proofs.Common.{◌≡◌, ◌≤◌, Global, ℕ, List, [], ◌∷◌, ◌++◌, length, map, refl, ap, subst, sym, ◌∙◌, arith, length-append}
 use Rattle.std.specs.List.{All}
-use Rattle.std.specs.List.Sorted.{IsStrictlySortedBy}
 use Rattle.std.specs.declared.option.Option.{Option}
 use Rattle.std.specs.declared.option.Option.TheVariants.{None, Some}
 use Rattle.std.proofs.lemmas.List.Elements.{All-head, All-tail, All-weaker, All-nil}
 use Rattle.std.proofs.Math.ListN.{get_or-append}
+use Rattle.std.specs.BTreeMap.{BTreeMap, get_by_text, is_at}
+use Rattle.std.specs.Map.{lookup}
+use Rattle.std.specs.Prelude.{String}
+use Rattle.std.specs.List.Sorted.{IsStrictlySortedBy}
+use Rattle.std.specs.String.{string_bytes, string_cmp}
+use Rattle.std.specs.Ordering.{nat_cmp}
+use Rattle.std.specs.Cmp.Lexicographic.{slice_cmp}
+use Rattle.std.specs.Vec.{vec_capacity}
 use Rattle.cv_vault.specs.Disk as disk
-use Rattle.cv_vault.specs.Names.{Name, name_cmp}
+use Rattle.cv_vault.specs.Names.{Name}
 use Rattle.cv_vault.specs.Events.{disk_of, first_disk, file_count, any_unsettled}
 use Rattle.cv_vault.specs.Places.{file_in, mark_in, slot_in, IsFileIn, IsMarkIn, IsPlaceIn}
-use Rattle.cv_vault.specs.Table.{name_in, names_in, named_in, event_in, entries_of, past_of, IsEntryIn, IsChangeIn, IsTable, Stays}
+use Rattle.cv_vault.specs.Table.{name_in, names_in, named_in, event_in, entries_of, past_of, IsEntryIn, IsChangeIn, AreNumbers, AreUnsettled, IsTable, Stays}
 use Rattle.cv_vault.specs.declared.place.Place.{Place}
 use Rattle.cv_vault.specs.declared.place.PlaceMark.{PlaceMark}
 use Rattle.cv_vault.specs.declared.place.PlaceMark.TheVariants.{Settled, Torn, Moved}
@@ -93,7 +100,24 @@ pub record Grows (t t' : Table) : Type 0 where
   pub contents_more : List (List ℕ)
   pub contents : t'.contents.items ≡ t.contents.items ++ contents_more
   pub entries : t'.entries.items ≡ t.entries.items
+  pub numbers : t'.numbers.entries ≡ t.numbers.entries
+  pub unsettled : t'.unsettled.items ≡ t.unsettled.items
+  pub room : vec_capacity t.unsettled ≤ vec_capacity t'.unsettled
   pub changes : t'.changes ≡ t.changes
+
+-- a map with the same entries gives the same numbers
+pub numbers_same : {Y : Type 0} (m m' : BTreeMap (String Y) ℕ) → m'.entries ≡ m.entries → get_by_text m' ≡ get_by_text m
+numbers_same {Y} m m' e =
+    let find : List (String Y × ℕ) → Name → Option ℕ = λ es n. lookup (is_at (λ (k : String Y). slice_cmp nat_cmp n (string_bytes k))) es in
+    ap find e
+
+unsettled_grown : (t t' : Table) → AreUnsettled t.unsettled t.entries.items → Grows t t' → AreUnsettled t'.unsettled t'.entries.items
+unsettled_grown t t' u g = record {
+  within = rw (g.unsettled, g.entries) u.within;
+  each = rw (g.unsettled, g.entries) u.each;
+  count = rw (g.unsettled, g.entries) u.count;
+  room = rw g.entries (let r = u.room in let s = g.room in omega arith);
+}
 
 pub entries_of-grown : (t t' : Table) → IsTable t → Grows t t' → entries_of t' ≡ entries_of t
 entries_of-grown t t' is g = rw (g.names, g.contents, g.entries) (entries_grown t.names.items t.contents.items g.names_more g.contents_more t.entries.items is.entries)
@@ -112,15 +136,36 @@ table_grown t t' is g =
     record {
       entries = rw (g.names, g.contents, g.entries) (All-weaker _ _ (entry_within t.names.items t.contents.items g.names_more g.contents_more) t.entries.items is.entries);
       changes = rw (g.names, g.contents, g.changes) (All-weaker _ _ (change_within t.names.items t.contents.items g.names_more g.contents_more) t.changes.items is.changes);
-      ascending = rw (g.names, g.entries) (subst (IsStrictlySortedBy name_cmp) (sym (names_grown t.names.items t.contents.items g.names_more g.contents_more t.entries.items is.entries)) is.ascending);
+      ordered = subst (λ (ks : List (String Global × ℕ)). IsStrictlySortedBy string_cmp (map (λ (k : String Global × ℕ). k.0) ks)) (sym g.numbers) is.ordered;
+      numbers = rw (g.names, g.entries)
+          (subst (λ f. AreNumbers f (names_in (t.names.items ++ g.names_more) t.entries.items)) (sym (numbers_same t.numbers t'.numbers g.numbers))
+          (subst (AreNumbers (get_by_text t.numbers)) (sym (names_grown t.names.items t.contents.items g.names_more g.contents_more t.entries.items is.entries)) is.numbers));
+      unsettled = unsettled_grown t t' is.unsettled g;
       linked = s.disk ∙ is.linked ∙ (let p = s.past in let f = s.first in cc);
     }
 
-pub table_none : (t : Table) → t.entries.items ≡ [] → t.changes.items ≡ [] → IsTable t
+-- a table without names
+pub record IsNone (t : Table) : Type 0 where
+  pub entries : t.entries.items ≡ []
+  pub numbers : t.numbers.entries ≡ []
+  pub unsettled : t.unsettled.items ≡ []
+  pub changes : t.changes.items ≡ []
+
+pub table_none : (t : Table) → IsNone t → IsTable t
 unfolding IsStrictlySortedBy
-table_none t no_entry no_change = record {
-  entries = rw no_entry (All-nil _);
-  changes = rw no_change (All-nil _);
-  ascending = rw no_entry tt;
-  linked = rw (no_entry, no_change) refl;
+table_none t h = record {
+  entries = rw h.entries (All-nil _);
+  changes = rw h.changes (All-nil _);
+  ordered = rw h.numbers tt;
+  numbers = λ n i. rw (h.entries, h.numbers) (none i, λ l. absurd (let lt = l.0 in omega arith));
+  unsettled = record {
+    within = rw h.unsettled (All-nil _);
+    each = rw h.entries (λ i lt. absurd (omega arith));
+    count = rw (h.entries, h.unsettled) refl;
+    room = rw h.entries (omega arith);
+  };
+  linked = rw (h.entries, h.changes) refl;
 }
+  where
+    none : {X : Type 0} (i : ℕ) → None ≡ Some i → X
+    none i e = cc

@@ -1,12 +1,12 @@
 pub mod Names
-pub mod Ascending
-pub mod Finding
 pub mod Values
 pub mod Reading
+pub mod Unsettled
 pub mod Growing
 pub mod Changing
 pub mod Steps
 pub mod Settling
+pub mod Ordered
 pub mod Listing
 pub mod Failing
 pub mod Remembering

@@ -1,9 +1,11 @@
 -- Names that are the same or differ, and disks with another slot at a name.
-use Rattle.std.proofs.Common.{◌≡◌, ◌≢◌, ◌⊎◌, ◌≤◌, inl, inr, ap, subst, sym, ◌∙◌, Bool, true, false, refl, arith}
+use Rattle.std.proofs.Common.{◌≡◌, ◌≢◌, ◌⊎◌, inl, inr, ap, subst, sym, ◌∙◌, Bool, true, false, refl}
 use Rattle.std.specs.declared.cmp.Ordering.{Ordering}
 use Rattle.std.specs.declared.cmp.Ordering.TheVariants.{Less, Equal, Greater}
-use Rattle.std.specs.Ordering.{is_eq, ordering_index, ordering_reverse}
+use Rattle.std.specs.Ordering.{is_eq}
 use Rattle.std.specs.Cmp.{tied_itself}
+use Rattle.std.specs.Str.{bytes_eq}
+use Rattle.std.proofs.lemmas.Slice.Eq.{bytes_eq-Decides}
 use Rattle.std.specs.Cmp.Lexicographic.{nat_list_cmp_total}
 use Rattle.std.specs.FinMap.{IsAntisymmetric, slice_cmp-IsAntisymmetric, nat_cmp-IsAntisymmetric}
 use Rattle.cv_vault.specs.Names.{Name, name_cmp, same_name}
@@ -41,24 +43,16 @@ same_or_not a b = by (same_name a b) refl
 pub below_differs : (a b : Name) → name_cmp a b ≡ Less → a ≢ b
 below_differs a b h e = let t : name_cmp b b ≡ Less = subst (λ x. name_cmp x b ≡ Less) e h in let u = tied_itself nat_list_cmp_total b in cc
 
--- what a name is against another falls where the name rises
-pub level_rises : (a b n : Name) → name_cmp a b ≡ Less → ordering_index (name_cmp a n) ≤ ordering_index (name_cmp b n)
-level_rises a b n below = by (name_cmp a n) (name_cmp b n) refl refl
+-- a test on bytes tells whether names are the same
+pub bytes_eq_same : (a b : Name) → a ≡ b → bytes_eq a b ≡ true
+bytes_eq_same a b e = (bytes_eq-Decides a b).1 e
+
+pub bytes_eq_other : (a b : Name) → a ≢ b → bytes_eq a b ≡ false
+bytes_eq_other a b apart = by (bytes_eq a b) refl
   where
-    turned : (x y : Name) (r : Ordering) → name_cmp x y ≡ r → name_cmp y x ≡ ordering_reverse r
-    turned x y r e = nat_list_cmp_total.antisymm y x ∙ ap ordering_reverse e
-
-    above : name_cmp n b ≡ Less → name_cmp b n ≡ Greater
-    above e = turned n b Less e
-
-    by : (r s : Ordering) → name_cmp a n ≡ r → name_cmp b n ≡ s → ordering_index r ≤ ordering_index s
-    by Less s p q = omega arith
-    by Equal Less p q = let e = above (sym (nat_list_cmp_total.congr a n b p) ∙ below) in cc
-    by Equal Equal p q = omega arith
-    by Equal Greater p q = omega arith
-    by Greater Less p q = let e = above (nat_list_cmp_total.trans n a b (turned a n Greater p) below) in cc
-    by Greater Equal p q = let e = above (nat_list_cmp_total.trans n a b (turned a n Greater p) below) in cc
-    by Greater Greater p q = omega arith
+    by : (r : Bool) → bytes_eq a b ≡ r → bytes_eq a b ≡ false
+    by true e = absurd (apart ((bytes_eq-Decides a b).0 e))
+    by false e = e
 
 -- the slot that was put
 pub here : (d : Disk) (n : Name) (s : Slot) → with_slot d n s n ≡ s

@@ -1,23 +1,33 @@
 -- What a table has at a name.
-use Rattle.std.proofs.Common.{◌≡◌, ◌≢◌, ℕ, ◌<◌, ◌≤◌, ◌⊎◌, inl, inr, List, [], ◌∷◌, length, get_or, map, refl, ap, subst, sym, ◌∙◌, arith}
+use Rattle.std.proofs.Common.{◌≡◌, ◌≢◌, ℕ, ◌<◌, List, [], ◌∷◌, length, get_or, map, refl, ap, subst, sym, ◌∙◌}
 use Rattle.std.proofs.Math.ListN as list
-use Rattle.std.specs.List.{All}
-use Rattle.std.specs.List.Sorted.{IsStrictlySortedBy}
-use Rattle.std.specs.declared.option.Option.TheVariants.{None}
-use Rattle.std.specs.declared.cmp.Ordering.TheVariants.{Less, Equal, Greater}
-use Rattle.std.specs.declared.cmp.Ordering.{Ordering}
-use Rattle.std.specs.Cmp.{tied_itself}
-use Rattle.std.specs.Cmp.Lexicographic.{nat_list_cmp_total}
+use Rattle.std.specs.declared.option.Option.{Option}
+use Rattle.std.specs.declared.option.Option.TheVariants.{None, Some}
 use Rattle.std.proofs.lemmas.List.Elements.{All-head, All-tail}
-use Rattle.std.proofs.lemmas.List.{length-map}
-use Rattle.cv_vault.specs.Names.{Name, name_cmp}
+use Rattle.std.proofs.lemmas.List.{length-map, get_or_default, get_or-map}
+use Rattle.cv_vault.specs.Names.{Name}
 use Rattle.cv_vault.specs.Disk as disk
 use Rattle.cv_vault.specs.Disk.{Slot, slot}
 use Rattle.cv_vault.specs.Events.{NamedSlot, value_at, disk_of}
-use Rattle.cv_vault.specs.Table.{name_in, names_in, IsGap, named_in}
+use Rattle.cv_vault.specs.Table.{name_in, names_in, Lacks, named_in, AreNumbers, any_entry, entry_at, IsEntryOf}
 use Rattle.cv_vault.specs.Places.{slot_in}
 use Rattle.cv_vault.specs.declared.table.Entry.{Entry}
-use Rattle.cv_vault.proofs.Values.{Lacks, firsts, value_at-get, value_at-lacks}
+use Rattle.cv_vault.specs.declared.table.Table.{Table}
+use Rattle.cv_vault.proofs.Values.{AreApart, LacksPair, firsts, value_at-get, value_at-lacks}
+
+-- names that have numbers differ
+pub numbers_apart : (f : Name → Option ℕ) (ns : List Name) → AreNumbers f ns → AreApart ns
+numbers_apart f ns h i j li lj e = same (sym ((h (get_or ns j []) i).1 (li, e)) ∙ (h (get_or ns j []) j).1 (lj, refl))
+  where
+    same : {k l : ℕ} → Some k ≡ Some l → k ≡ l
+    same e = cc
+
+-- a name without a number isn't there
+pub numbers_lack : (f : Name → Option ℕ) (ns : List Name) (n : Name) → AreNumbers f ns → f n ≡ None → Lacks n ns
+numbers_lack f ns n h none i d lt e = differ (sym none ∙ (h n i).1 (lt, sym (e ∙ get_or_default ns i d [] lt)))
+  where
+    differ : {i : ℕ} → None ≡ Some i → ⊥
+    differ e = cc
 
 abbrev pub pair_of : NamedSlot → Name × Slot
 pair_of e = (e.name, e.stands)
@@ -36,33 +46,33 @@ module _ (names : List Name) (contents : List (List ℕ)) where
   pub length-pairs : (es : List Entry) → length (map pair_of (resolved es)) ≡ length es
   length-pairs es = length-map (resolved es) pair_of ∙ length-map es (named_in names contents)
 
-  pub slot_found : (es : List Entry) (i : ℕ) (d : Entry) (n : Name) → IsStrictlySortedBy name_cmp (names_in names es) → i < length es → name_in names (get_or es i d).name ≡ n
+  pub slot_found : (es : List Entry) (i : ℕ) (d : Entry) (n : Name) → AreApart (names_in names es) → i < length es → name_in names (get_or es i d).name ≡ n
       → disk_of (resolved es) n ≡ slot_in contents (get_or es i d).place
-  slot_found es i d n sorted lt is =
+  slot_found es i d n differ lt is =
       let ps = map pair_of (resolved es) in
       let at = pairs_at es i d in
-      let h = value_at-get (slot None disk.Settled) ps i (pair_of (named_in names contents d)) (rw (firsts-pairs es) sorted) (rw (length-pairs es) lt) in
+      let h = value_at-get (slot None disk.Settled) ps i (pair_of (named_in names contents d)) (rw (firsts-pairs es) differ) (rw (length-pairs es) lt) in
       subst (λ m. disk_of (resolved es) m ≡ slot_in contents (get_or es i d).place) is
       (subst (λ (p : Name × Slot). value_at (slot None disk.Settled) ps p.0 ≡ p.1) at h)
 
--- names that compare differ
-compared_differ : (a b : Name) (o : Ordering) → o ≢ Equal → name_cmp a b ≡ o → b ≢ a
-compared_differ a b o other h e = other (sym h ∙ subst (λ m. name_cmp a m ≡ Equal) (sym e) (tied_itself nat_list_cmp_total a))
-
--- no name is that of a gap
-pub gap_differs : (ns : List Name) (n : Name) (i : ℕ) → IsGap ns n i → All (λ m. n ≢ m) ns
-gap_differs ns n i gap k d lt = elim (before_or_after k i) [
-  | inl b ↦ compared_differ (get_or ns k d) n Less (λ e. cc) (gap.1.0 k d (omega arith) b)
-  | inr a ↦ compared_differ (get_or ns k d) n Greater (λ e. cc) (gap.1.1 k d a lt)
-]
-  where
-    before_or_after : (k i : ℕ) → (k < i) ⊎ (i ≤ k)
-    before_or_after k i = grind arith
-
 module _ (names : List Name) (contents : List (List ℕ)) where
-  pub lacks : {X : Type 0} (f : NamedSlot → X) (es : List Entry) (n : Name) → All (λ m. n ≢ m) (names_in names es) → Lacks n (map (λ (e : NamedSlot). (e.name, f e)) (resolved names contents es))
-  lacks f [] n h = tt
-  lacks f (e ∷ es) n h = (All-head (λ m. n ≢ m) (name_in names e.name) (names_in names es) h, lacks f es n (All-tail (λ m. n ≢ m) (name_in names e.name) (names_in names es) h))
+  lacks : (es : List Entry) (n : Name) → Lacks n (names_in names es) → LacksPair n (map pair_of (resolved names contents es))
+  lacks [] n h = tt
+  lacks (e ∷ es) n h = (All-head (λ m. n ≢ m) (name_in names e.name) (names_in names es) h, lacks es n (All-tail (λ m. n ≢ m) (name_in names e.name) (names_in names es) h))
 
-  pub slot_missing : (es : List Entry) (n : Name) (i : ℕ) → IsGap (names_in names es) n i → disk_of (resolved names contents es) n ≡ slot None disk.Settled
-  slot_missing es n i gap = value_at-lacks (slot None disk.Settled) (map pair_of (resolved names contents es)) n (lacks (λ e. e.stands) es n (gap_differs (names_in names es) n i gap))
+  pub slot_missing : (es : List Entry) (n : Name) → Lacks n (names_in names es) → disk_of (resolved names contents es) n ≡ slot None disk.Settled
+  slot_missing es n h = value_at-lacks (slot None disk.Settled) (map pair_of (resolved names contents es)) n (lacks es n h)
+
+-- an entry at the place of a name
+module _ (t : Table) where
+  pub names_at : (n : Name) (i : ℕ) → (i < length (names_in t.names.items t.entries.items)) × (get_or (names_in t.names.items t.entries.items) i [] ≡ n) → IsEntryOf t n i
+  names_at n i h =
+      let f : Entry → Name = λ e. name_in t.names.items e.name in
+      let lt : i < length t.entries.items = subst (λ k. i < k) (length-map t.entries.items f) h.0 in
+      (lt, sym (get_or-map f t.entries.items i any_entry [] lt) ∙ h.1)
+
+  pub at_names : (i : ℕ) → i < length t.entries.items
+      → (i < length (names_in t.names.items t.entries.items)) × (get_or (names_in t.names.items t.entries.items) i [] ≡ name_in t.names.items (entry_at t i).name)
+  at_names i lt =
+      let f : Entry → Name = λ e. name_in t.names.items e.name in
+      (subst (λ k. i < k) (sym (length-map t.entries.items f)) lt, get_or-map f t.entries.items i any_entry [] lt)

@@ -1,5 +1,5 @@
 -- Files that come to their names, call by call.
-use Rattle.std.proofs.Common.{◌≡◌, ◌≢◌, ℕ, Bool, ◌&&◌, true, false, List, refl, sym, ap, subst, ◌∙◌}
+use Rattle.std.proofs.Common.{◌≡◌, ◌≢◌, ℕ, Bool, true, false, List, refl, sym, ap, subst, ◌∙◌}
 use Rattle.std.specs.Prelude.{IsErrAnd}
 use Rattle.std.specs.Str.{bytes_eq}
 use Rattle.std.specs.declared.option.Option.{Option}
@@ -8,13 +8,13 @@ use Rattle.std.specs.declared.result.Result.{Result}
 use Rattle.std.specs.declared.result.Result.TheVariants.{Ok, Err}
 use Rattle.std.proofs.lemmas.Slice.Eq.{bytes_eq-Decides}
 use Rattle.cv_vault.specs.Names.{Name, on_way}
-use Rattle.cv_vault.specs.Disk.{Disk, Slot, File, Files, ImageOf, IsCalm, Torn, Reads, Writes, Renames, Syncs, slot, with_slot, written, synced, moved, both_settled}
+use Rattle.cv_vault.specs.Disk.{Disk, Slot, File, Files, ImageOf, IsCalm, Torn, Reads, Writes, Renames, Syncs, slot, written, synced}
 use Rattle.cv_vault.specs.Moments.{Calls}
 use Rattle.cv_vault.specs.Walks.{Gains, Walks, Nothing, ComesTo}
-use Rattle.cv_vault.specs.Replace.{IsSure, IsOther, PutOnWay, MovedIn, Replaced, Found}
+use Rattle.cv_vault.specs.Replace.{IsSure, PutOnWay, MovedIn, Replaced, Found}
 use Rattle.cv_vault.specs.declared.vault.VaultFault.{VaultFault}
 use Rattle.cv_vault.specs.declared.vault.VaultFault.TheVariants.{Failed, NoMemory}
-use Rattle.cv_vault.proofs.Names.{here, elsewhere}
+use Rattle.cv_vault.proofs.Names.{here}
 use Rattle.cv_vault.proofs.Walking.{call, bind, looser}
 use Rattle.cv_vault.proofs.Calling.{writes, syncs, renames, renamed_to, reads}
 

@@ -16,7 +16,7 @@ use Rattle.cv_vault.specs.declared.table.Entry.{Entry}
 use Rattle.cv_vault.specs.declared.table.Table.{Table}
 use Rattle.cv_vault.proofs.Names.{here, elsewhere, unchanged}
 use Rattle.cv_vault.proofs.Reading.{slot_found}
-use Rattle.cv_vault.proofs.Changing.{stays_then}
+use Rattle.cv_vault.proofs.Changing.{stays_then, names_apart}
 
 adds_after : (e : Event) (t u v : Table) → Stays t u → Adds e u v → Adds e t v
 adds_after e t u v a b = record {
@@ -32,7 +32,7 @@ makes_after e t u v a (Differs n h b) = Differs n (subst (λ (d : Disk). after e
 makes_after e t u v a (Same h b) = Same (subst (λ (d : Disk). after e d ≡ d) a.disk h) (stays_then t u v a b)
 
 pub slot_at : (t : Table) (n : Name) (i : ℕ) → IsTable t → IsEntryOf t n i → table_disk t n ≡ slot_in t.contents.items (entry_at t i).place
-slot_at t n i is h = slot_found t.names.items t.contents.items t.entries.items i any_entry n is.ascending h.0 h.1
+slot_at t n i is h = slot_found t.names.items t.contents.items t.entries.items i any_entry n (names_apart t is) h.0 h.1
 
 pub present : (contents : List (List ℕ)) (k : Option ℕ) → is_some k ≡ true → IsSome (file_in contents k)
 present contents None e = e
@@ -49,6 +49,11 @@ file_chosen contents false j k = refl
 moved_slot : (contents : List (List ℕ)) (p : Place) (k : Option ℕ) (all_settled : Bool) → slot_in contents (moved_place p k all_settled) ≡ slot (file_in contents k) (moved all_settled (file_in contents p.now))
 moved_slot contents p k true = refl
 moved_slot contents p k false = refl
+
+-- a place that was renamed or removed isn't settled
+pub moved_torn : (p q : Place) (k : Option ℕ) (all_settled : Bool) → q ≡ moved_place p k all_settled → is_settled_place q ≡ false
+moved_torn p q k true e = rw e refl
+moved_torn p q k false e = rw e refl
 
 pub settled_in : (contents : List (List ℕ)) (m : PlaceMark) → is_settled (mark_in [] m) ≡ is_settled (mark_in contents m)
 settled_in contents mark.Settled = refl

@@ -1,16 +1,16 @@
 -- What the numbers of a table in memory stand for.
-use Rattle.std.specs.List.{starts_with}
-use Rattle.std.specs.Prelude.{◌≡◌, ℕ, Bool, ◌&&◌, is_some, nat_eq, ◌+◌, ◌≤◌, ◌<◌, List, [], ◌∷◌, ◌++◌, map, slice_index_or, length, All, vec_len, vec_capacity}
-use Rattle.std.specs.List.Sorted.{IsPartitionPoint, IsStrictlySortedBy}
+use Rattle.std.specs.Prelude.{◌≡◌, ◌≢◌, ◌↔◌, ℕ, Bool, false, ◌&&◌, is_some, not, nat_eq, count_by, ◌+◌, ◌≤◌, ◌<◌, List, Vec, [], ◌∷◌, ◌++◌, map, slice_index_or, slice_set, length, All, vec_len, vec_capacity}
+use Rattle.std.specs.List.{Contains, starts_with}
+use Rattle.std.specs.BTreeMap.{get_by_text, IsOrdered}
+use Rattle.std.specs.String.{string_cmp}
 use Rattle.std.specs.declared.option.Option.{Option}
-use Rattle.std.specs.declared.option.Option.TheVariants.{None}
-use Rattle.std.specs.declared.cmp.Ordering.TheVariants.{Less, Greater}
-use Rattle.cv_vault.specs.Names.{Name, name_cmp}
+use Rattle.std.specs.declared.option.Option.TheVariants.{None, Some}
+use Rattle.cv_vault.specs.Names.{Name}
 use Rattle.cv_vault.specs.Disk as disk
 use Rattle.cv_vault.specs.Disk.{File, Slot, slot}
 use Rattle.cv_vault.specs.Events.{NamedSlot, Event, IfDiffers, replay, disk_of, first_disk, any_unsettled, file_count}
 use Rattle.cv_vault.specs.Events as event
-use Rattle.cv_vault.specs.Places.{file_in, slot_in, left_place, next_pick, IsFileIn, IsPlaceIn}
+use Rattle.cv_vault.specs.Places.{file_in, slot_in, is_settled_place, left_place, next_pick, IsFileIn, IsPlaceIn}
 use Rattle.cv_vault.specs.declared.table.Table.{Table}
 use Rattle.cv_vault.specs.declared.place.PlaceMark.TheVariants.{Settled}
 use Rattle.cv_vault.specs.declared.table.Entry.{Entry}
@@ -28,30 +28,44 @@ name_in names k = slice_index_or names k []
 abbrev pub names_in : List Name → List Entry → List Name
 names_in names es = map (λ e. name_in names e.name) es
 
--- the place among ascending names where a name is to stand that isn't there
-abbrev pub IsGap : List Name → Name → ℕ → Type 0
-IsGap ns n i = (i ≤ length ns) × IsPartitionPoint (λ m. name_cmp m n ≡ Less) (λ m. name_cmp m n ≡ Greater) ns i
+-- the name isn't among these
+abbrev pub Lacks : Name → List Name → Type 0
+Lacks n ns = All (λ m. n ≢ m) ns
+
+-- each name has its place among the names for a number, and no other has one
+abbrev pub AreNumbers : (Name → Option ℕ) → List Name → Type 0
+AreNumbers number ns = (n : Name) (i : ℕ) → (number n ≡ Some i) ↔ ((i < length ns) × (slice_index_or ns i [] ≡ n))
 
 -- the entry at a place
 abbrev pub entry_at : Table → ℕ → Entry
 entry_at t i = slice_index_or t.entries.items i any_entry
 
--- an entry has a file and a name that begins so
-abbrev pub is_listed : List Name → Name → Entry → Bool
-is_listed names prefix e = is_some e.place.now && starts_with nat_eq (name_in names e.name) prefix
+-- a name has a file and begins so
+abbrev pub is_listed : disk.Disk → Name → Name → Bool
+is_listed d prefix n = is_some (d n).now && starts_with nat_eq n prefix
 
 -- an entry that is settled
 abbrev pub settled_entry : Entry → Entry
 settled_entry e = record { name = e.name; first = e.first; place = record { now = e.place.now; mark = Settled } }
 
+-- the entries, where those with these numbers are settled
+abbrev pub settled_each : List ℕ → List Entry → List Entry
+settled_each [] es = es
+settled_each (k ∷ ks) es = settled_each ks (slice_set es k (settled_entry (slice_index_or es k any_entry)))
+
 -- an entry that a crash left with this file
 abbrev pub crashed_entry : Entry → Option ℕ → Entry
 crashed_entry e k = record { name = e.name; first = k; place = record { now = k; mark = Settled } }
 
--- the entries that a crash leaves by the bits of a pick
-abbrev pub crashed : ℕ → List Entry → List Entry
-crashed pick [] = []
-crashed pick (e ∷ es) = crashed_entry e (left_place pick e.place) ∷ crashed (next_pick pick e.place) es
+-- the entry after a crash by the lowest bit of a pick
+abbrev pub crash_at : ℕ → Entry → Entry
+crash_at pick e = crashed_entry e (left_place pick e.place)
+
+-- the entries that a crash leaves by the bits of a pick, which goes over these names with the numbers of their entries
+abbrev pub crashed : {K : Type 0} → ℕ → List (K × ℕ) → List Entry → List Entry
+crashed pick [] es = es
+crashed pick (p ∷ ps) es =
+    crashed (next_pick pick (slice_index_or es p.1 any_entry).place) ps (slice_set es p.1 (crash_at pick (slice_index_or es p.1 any_entry)))
 
 -- the entry at a place is that of a name
 abbrev pub IsEntryOf : Table → Name → ℕ → Type 0
@@ -88,11 +102,20 @@ IsChangeIn names contents (Puts n p) = (n < names) × IsPlaceIn contents p
 IsChangeIn names contents (PutsTwo n p m q) = (n < names) × IsPlaceIn contents p × (m < names) × IsPlaceIn contents q
 IsChangeIn names contents Settles = Unit {0}
 
--- the numbers are in range, the names ascend, and the entries say what the record of changes says
+-- the numbers are those of the entries that aren't settled, each once, and there is room for all
+pub record AreUnsettled {Y : Type 0} (numbers : Vec ℕ Y) (es : List Entry) : Type 0 where
+  pub within : All (λ k. k < length es) numbers.items
+  pub each : (i : ℕ) → i < length es → is_settled_place (slice_index_or es i any_entry).place ≡ false → Contains numbers.items i
+  pub count : length numbers.items ≡ count_by (λ e. not (is_settled_place e.place)) es
+  pub room : length es ≤ vec_capacity numbers
+
+-- the numbers are in range and say what the entries say, and so does the record of changes
 pub record IsTable (t : Table) : Type 0 where
   pub entries : All (IsEntryIn (length t.names.items) (length t.contents.items)) t.entries.items
   pub changes : All (IsChangeIn (length t.names.items) (length t.contents.items)) t.changes.items
-  pub ascending : IsStrictlySortedBy name_cmp (names_in t.names.items t.entries.items)
+  pub ordered : IsOrdered string_cmp t.numbers
+  pub numbers : AreNumbers (get_by_text t.numbers) (names_in t.names.items t.entries.items)
+  pub unsettled : AreUnsettled t.unsettled t.entries.items
   pub linked : table_disk t ≡ replay (past_of t) (table_first t)
 
 -- the disk and the record of its changes are as before

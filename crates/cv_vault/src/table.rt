@@ -1,19 +1,19 @@
 //! The files of a vault in memory, with the record of their changes.
-ghost use Rattle.std.specs.Prelude.{◌≡◌, ◌+◌, ◌<◌, ◌≤◌, ◌≢◌, [], length, slice_index_or, slice_set, map, false, option_copied, IfOk, IfErr, OnOk, OnErr, IsSome, MatchBool, IsTrue, if◌then◌else◌, vec_len, vec_capacity};
+ghost use Rattle.std.specs.Prelude.{◌≡◌, ◌+◌, ◌<◌, ◌≤◌, ◌≢◌, [], length, slice_index_or, slice_set, All, false, option_copied, IfOk, IfSome, None, Some, OnOk, OnErr, IsSome, IsTrue, if◌then◌else◌, vec_len, vec_capacity};
 ghost use Rattle.std.specs.List.{list_all};
+ghost use Rattle.std.specs.BTreeMap.{IsOrdered, Updates};
+ghost use Rattle.std.specs.String.{string_cmp};
 ghost use Rattle.std.specs.Bool.{OnTrue, OnFalse, Decides};
-ghost use Rattle.std.specs.List.Sorted.{IsStrictlySortedBy};
-ghost use Rattle.cv_vault.specs.Names.{name_cmp};
 ghost use Rattle.cv_vault.specs.Disk.{IsListing, synced};
 ghost use Rattle.cv_vault.specs.Crash.{Crashes};
 ghost use Rattle.cv_vault.specs.Events.{write_of, rename_of, removal_of, any_unsettled, file_count, has_file, Puts, PutsTwo, Settles as all_settled};
-ghost use Rattle.cv_vault.specs.Places.{is_settled_place, file_in, mark_in, slot_in, IsFileIn, IsMarkIn, IsPlaceIn};
-ghost use Rattle.cv_vault.specs.Table.{name_in, names_in, is_listed, IsGap, IsEntryOf, any_entry, settled_entry, crashed, entry_at, entries_of, past_of, table_disk, table_first, IsTable, Stays, Adds, Makes, TakesOne};
+ghost use Rattle.cv_vault.specs.Places.{is_settled_place, next_pick, file_in, mark_in, slot_in, IsFileIn, IsMarkIn, IsPlaceIn};
+ghost use Rattle.cv_vault.specs.Table.{name_in, names_in, is_listed, IsEntryOf, Lacks, AreUnsettled, any_entry, settled_each, crash_at, crashed, entry_at, entries_of, past_of, table_disk, table_first, IsTable, Stays, Adds, Makes, TakesOne};
 
 use crate::place::{Place, PlaceMark, removed, renamed};
 use cv_base::{Bytes, Text};
 use std::alloc::{AllocError, Global};
-use std::cmp::Ordering;
+use std::collections::BTreeMap;
 
 /// A name, by its number among the names, the file that it had when the record of changes began, and what stands there.
 #[derive(Clone, Copy)]
@@ -33,38 +33,71 @@ pub enum Change {
 
 /// The files of a vault in memory.
 ///
-/// The names and the contents stand in lists that only grow, so that every change is a few numbers and needs no memory but
-/// its place in the record. The entries are in ascending order of their names.
+/// The names, the contents and the entries stand in lists that only grow, so that every change is a few numbers and needs
+/// no memory but its place in the record.
 #[derive(Drop)]
 pub struct Table {
     pub names: Vec<Text>,
     pub contents: Vec<Bytes>,
     pub entries: Vec<Entry>,
+    /// The number of the entry of each name.
+    pub numbers: BTreeMap<String, usize>,
+    /// The numbers of the entries that aren't settled, each once, with room for all.
+    pub unsettled: Vec<usize>,
     pub changes: Vec<Change>,
 }
 
-// Settles every entry.
-fn settle_all(entries: &mut [Entry])
-    ensures { entries.new ≡ map settled_entry entries.old }
+// Settles the entries with these numbers.
+fn settle_all(entries: &mut [Entry], numbers: &[usize])
+    requires { All (λ k. k < length entries.old) numbers.now }
+    ensures { entries.new ≡ settled_each numbers.now entries.old }
 {
-    for entry in entries.iter_mut() {
-        entry.place.mark = PlaceMark::Settled;
+    for number in numbers {
+        entries[*number].place.mark = PlaceMark::Settled;
     }
 }
 
-// Leaves of every entry what a crash leaves by the bits of a pick.
-fn crash_all(entries: &mut [Entry], pick: u64)
-    ensures { entries.new ≡ crashed pick entries.old }
+// Leaves of an entry what a crash leaves by the lowest bit of a pick, and gives the pick for the next one.
+fn crash_one(entries: &mut [Entry], number: usize, pick: u64) -> u64
+    requires { number < length entries.old }
+    ensures pick { result ≡ next_pick pick (slice_index_or entries.old number any_entry).place }
+    ensures entries { entries.new ≡ slice_set entries.old number (crash_at pick (slice_index_or entries.old number any_entry)) }
+{
+    let entry = &mut entries[number];
+    let place = entry.place;
+    let now = place.left(pick);
+    entry.first = now;
+    entry.place = Place {
+        now,
+        mark: PlaceMark::Settled,
+    };
+    place.rest(pick)
+}
+
+// Leaves of the entries with the numbers of these names what a crash leaves by the bits of a pick, in the order of the names.
+fn crash_all(entries: &mut [Entry], numbers: &BTreeMap<String, usize>, pick: u64)
+    requires { All (λ p. p.1 < length entries.old) numbers.now.entries }
+    ensures { entries.new ≡ crashed pick numbers.now.entries entries.old }
 {
     let mut rest = pick;
-    for row in entries.iter_mut() {
-        let now = row.place.left(rest);
-        rest = row.place.rest(rest);
-        row.first = now;
-        row.place = Place {
-            now,
-            mark: PlaceMark::Settled,
-        };
+    for (_, number) in numbers {
+        rest = crash_one(entries, *number, rest);
+    }
+}
+
+// Gives a name a number.
+fn set_number(
+    numbers: &mut BTreeMap<String, usize>,
+    name: String,
+    number: usize,
+) -> Result<(), AllocError>
+    ensures ok { OnOk result (Updates string_cmp numbers.old numbers.new name (Some number)) }
+    ensures err { OnErr result (numbers.new.entries ≡ numbers.old.entries) }
+    ensures ordered { IsOrdered string_cmp numbers.new }
+{
+    match numbers.insert(name, number) {
+        Ok(_) => Ok(()),
+        Err(_) => Err(AllocError),
     }
 }
 
@@ -81,6 +114,8 @@ impl Table {
             names: Vec::new(alloc),
             contents: Vec::new(alloc),
             entries: Vec::new(alloc),
+            numbers: BTreeMap::new(alloc),
+            unsettled: Vec::new(alloc),
             changes: Vec::with_capacity(alloc, room)?,
         })
     }
@@ -116,9 +151,9 @@ impl Table {
         ensures { IfOk result (λ names. IsListing (table_disk self.now) prefix.now names.items) }
     {
         let mut listed = Vec::new(alloc);
-        for row in &self.entries {
-            if self.is_listed(*row, prefix) {
-                listed.push(Text::new(String::from_str(alloc, self.name_at(row.name))?))?;
+        for (name, number) in &self.numbers {
+            if self.is_listed(name.as_str(), *number, prefix) {
+                listed.push(Text::new(String::from_str(alloc, name.as_str())?))?;
             }
         }
         Ok(listed)
@@ -173,7 +208,7 @@ impl Table {
         ensures names { length self.new.entries.items ≤ length self.old.entries.items + 1 }
     {
         let to_at = self.entry_for(alloc, to)?;
-        let Ok(from_at) = self.find(from) else {
+        let Some(from_at) = self.find(from) else {
             return Ok(false);
         };
         let place = self.place_at(from_at);
@@ -197,7 +232,7 @@ impl Table {
         ensures files { OnTrue result (file_count (entries_of self.new) + (if made then 1 else 0) ≡ file_count (entries_of self.old)) }
         ensures names { length self.new.entries.items ≡ length self.old.entries.items }
     {
-        let Ok(at) = self.find(name) else {
+        let Some(at) = self.find(name) else {
             return false;
         };
         let place = self.place_at(at);
@@ -239,7 +274,8 @@ impl Table {
         ensures capacity { vec_capacity self.new.changes ≡ vec_capacity self.old.changes }
         ensures names { length self.new.entries.items ≡ length self.old.entries.items }
     {
-        crash_all(&mut self.entries, pick);
+        crash_all(&mut self.entries, &self.numbers, pick);
+        self.unsettled.clear();
         self.changes.clear();
     }
 
@@ -260,45 +296,35 @@ impl Table {
         ensures files { file_count (entries_of self.new) ≡ file_count (entries_of self.old) }
         ensures names { length self.new.entries.items ≡ length self.old.entries.items }
     {
-        settle_all(&mut self.entries);
+        settle_all(&mut self.entries, &self.unsettled);
+        self.unsettled.clear();
         self.changes.push_reserved(Change::Settles);
     }
 
     // Whether every name is settled.
     fn is_calm(&self) -> bool
+        requires { IsTable self.now }
         ensures { result ≡ list_all (λ e. is_settled_place e.place) self.now.entries.items }
     {
-        self.entries.iter().all(|entry| entry.place.is_settled())
+        self.unsettled.is_empty()
     }
 
-    // Whether an entry has a file and a name that begins so.
-    fn is_listed(&self, row: Entry, prefix: &str) -> bool
-        ensures { result ≡ is_listed self.now.names.items prefix.now row }
+    // Whether a name has a file and begins so, by the number of its entry.
+    fn is_listed(&self, name: &str, number: usize, prefix: &str) -> bool
+        requires table { IsTable self.now }
+        requires number { IsEntryOf self.now name.now number }
+        ensures { result ≡ is_listed (table_disk self.now) prefix.now name.now }
     {
-        row.place.now.is_some() && self.name_at(row.name).starts_with(prefix)
+        self.place_at(number).now.is_some() && name.starts_with(prefix)
     }
 
-    // The name with a number.
-    fn name_at(&self, number: usize) -> &str
-        ensures { result.now ≡ name_in self.now.names.items number }
+    // The number of the entry of a name.
+    fn find(&self, name: &str) -> Option<usize>
+        requires { IsTable self.now }
+        ensures found { IfSome result (IsEntryOf self.now name.now) }
+        ensures absent { result ≡ None → Lacks name.now (names_in self.now.names.items self.now.entries.items) }
     {
-        match self.names.get(number) {
-            Some(name) => name.as_str(),
-            None => "",
-        }
-    }
-
-    // The place of a name among the entries, or where it is to stand.
-    fn find(&self, name: &str) -> Result<usize, usize>
-        requires { IsStrictlySortedBy name_cmp (names_in self.now.names.items self.now.entries.items) }
-        ensures found { IfOk result (λ i. (i < length self.now.entries.items) × (name_in self.now.names.items (entry_at self.now i).name ≡ name.now)) }
-        ensures absent { IfErr result (λ i. IsGap (names_in self.now.names.items self.now.entries.items) name.now i) }
-    {
-        self.entries.binary_search_by(
-            |row: &Entry| -> Ordering
-                ensures { result ≡ name_cmp (name_in self.entry.now.names.items row.now.name) name.entry.now }
-            { self.name_at(row.name).cmp(name) },
-        )
+        self.numbers.get(name).copied()
     }
 
     // What stands at an entry.
@@ -316,8 +342,8 @@ impl Table {
         ensures within { IsPlaceIn (length self.now.contents.items) result }
     {
         match self.find(name) {
-            Ok(at) => self.place_at(at),
-            Err(_) => Place {
+            Some(at) => self.place_at(at),
+            None => Place {
                 now: None,
                 mark: PlaceMark::Settled,
             },
@@ -333,37 +359,36 @@ impl Table {
         ensures names { length self.new.entries.items ≤ length self.old.entries.items + 1 }
     {
         match self.find(name) {
-            Ok(at) => Ok(at),
-            Err(at) => {
-                self.insert(alloc, at, name)?;
-                Ok(at)
-            }
+            Some(at) => Ok(at),
+            None => self.insert(alloc, name),
         }
     }
 
-    // Puts a name into its gap among the entries.
-    fn insert(&mut self, alloc: Global, at: usize, name: &str) -> Result<(), AllocError>
+    // Puts a name that isn't there behind the entries, and gives its number.
+    fn insert(&mut self, alloc: Global, name: &str) -> Result<usize, AllocError>
         requires table { IsTable self.old }
-        requires gap { IsGap (names_in self.old.names.items self.old.entries.items) name.now at }
+        requires absent { Lacks name.now (names_in self.old.names.items self.old.entries.items) }
         ensures table { IsTable self.new }
         ensures stays { Stays self.old self.new }
-        ensures at { OnOk result (IsEntryOf self.new name.now at) }
+        ensures at { IfOk result (IsEntryOf self.new name.now) }
         ensures names { length self.new.entries.items ≤ length self.old.entries.items + 1 }
     {
         let number = self.names.len();
+        let at = self.entries.len();
         self.names.push(Text::new(String::from_str(alloc, name)?))?;
-        self.entries.insert(
-            at,
-            Entry {
-                name: number,
-                first: None,
-                place: Place {
-                    now: None,
-                    mark: PlaceMark::Settled,
-                },
+        self.entries.reserve(1)?;
+        self.unsettled.reserve(at + 1)?;
+        let key = String::from_str(alloc, name)?;
+        set_number(&mut self.numbers, key, at)?;
+        self.entries.push_reserved(Entry {
+            name: number,
+            first: None,
+            place: Place {
+                now: None,
+                mark: PlaceMark::Settled,
             },
-        )?;
-        Ok(())
+        });
+        Ok(at)
     }
 
     // Keeps a content, and gives its number.
@@ -416,9 +441,13 @@ impl Table {
         }
     }
 
-    // Puts another place at an entry without a record, and gives the number of its name.
+    // Puts another place, which isn't settled, at an entry without a record, and gives the number of its name.
     fn set_place(&mut self, at: usize, place: Place) -> usize
-        requires { at < length self.old.entries.items }
+        requires at { at < length self.old.entries.items }
+        requires torn { is_settled_place place ≡ false }
+        requires unsettled { AreUnsettled self.old.unsettled self.old.entries.items }
+        ensures unsettled { AreUnsettled self.new.unsettled self.new.entries.items }
+        ensures numbers { self.new.numbers ≡ self.old.numbers }
         ensures entries { self.new.entries.items ≡ slice_set self.old.entries.items at (record (entry_at self.old at) { place = place }) }
         ensures names { self.new.names ≡ self.old.names }
         ensures contents { self.new.contents ≡ self.old.contents }
@@ -426,8 +455,13 @@ impl Table {
         ensures name { result ≡ (entry_at self.old at).name }
     {
         let entry = &mut self.entries[at];
+        let was_settled = entry.place.is_settled();
         entry.place = place;
-        entry.name
+        let name = entry.name;
+        if was_settled {
+            self.unsettled.push_reserved(at);
+        }
+        name
     }
 
     // Whether two files are the same.
@@ -472,9 +506,10 @@ impl Table {
         self.is_same_mark(place.mark, old.mark) && self.is_same_file(place.now, old.now)
     }
 
-    // Puts another place at an entry, and records it if that is a change. There is room for it.
+    // Puts another place, which isn't settled, at an entry, and records it if that is a change. There is room for it.
     fn change(&mut self, at: usize, place: Place)
         requires table { IsTable self.old }
+        requires torn { is_settled_place place ≡ false }
         requires at { at < length self.old.entries.items }
         requires within { IsPlaceIn (length self.old.contents.items) place }
         requires room { vec_len self.old.changes < vec_capacity self.old.changes }
@@ -490,9 +525,11 @@ impl Table {
         self.put(at, place);
     }
 
-    // Puts other places at two entries, and records them as one change if they are one. There is room for it.
+    // Puts other places, which aren't settled, at two entries, and records them as one change if they are one. There is room for it.
     fn change_two(&mut self, at: usize, place: Place, other: usize, other_place: Place)
         requires table { IsTable self.old }
+        requires torn { is_settled_place place ≡ false }
+        requires other_torn { is_settled_place other_place ≡ false }
         requires at { at < length self.old.entries.items }
         requires within { IsPlaceIn (length self.old.contents.items) place }
         requires other { other < length self.old.entries.items }
@@ -511,9 +548,10 @@ impl Table {
         self.put_two(at, place, other, other_place);
     }
 
-    // Puts another place at an entry, and records it. There is room for the change.
+    // Puts another place, which isn't settled, at an entry, and records it. There is room for the change.
     fn put(&mut self, at: usize, place: Place)
         requires table { IsTable self.old }
+        requires torn { is_settled_place place ≡ false }
         requires at { at < length self.old.entries.items }
         requires within { IsPlaceIn (length self.old.contents.items) place }
         requires room { vec_len self.old.changes < vec_capacity self.old.changes }
@@ -526,9 +564,11 @@ impl Table {
         self.changes.push_reserved(Change::Puts(name, place));
     }
 
-    // Puts other places at two entries, and records them as one change. There is room for it.
+    // Puts other places, which aren't settled, at two entries, and records them as one change. There is room for it.
     fn put_two(&mut self, at: usize, place: Place, other: usize, other_place: Place)
         requires table { IsTable self.old }
+        requires torn { is_settled_place place ≡ false }
+        requires other_torn { is_settled_place other_place ≡ false }
         requires at { at < length self.old.entries.items }
         requires within { IsPlaceIn (length self.old.contents.items) place }
         requires other { other < length self.old.entries.items }

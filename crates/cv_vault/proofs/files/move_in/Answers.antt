@@ -1,6 +1,6 @@
 use Rattle.std.proofs.Common.{ap}
 use Rattle.std.specs.declared.result.Result.TheVariants.{Err}
-use Rattle.cv_vault.proofs.Replacing.{move, move_not, move_absent, move_unsure, handed_on}
+use Rattle.cv_vault.proofs.Replacing.{move, move_not, move_unsure, handed_on}
 use Rattle.cv_vault.proofs.files.move_in.Goals as goal
 
 pub returns-in_err-rename-clause-walks : goal.returns-in_err-rename-clause-walks

@@ -1,5 +1,8 @@
-use Rattle.cv_vault.proofs.Crashing.{CrashedUpTo}
+use Rattle.std.proofs.Common.{◌≡◌, ◌<◌, length}
+use Rattle.std.specs.List.{All}
+use Rattle.cv_vault.specs.Table.{crashed}
 use Rattle.cv_vault.proofs.table.crash_all.Given as goal
 
-abbrev pub invariant-loop-row : goal.invariant-loop-row
-invariant-loop-row l = CrashedUpTo l.pick l.initial.entries l.entries l.rest l.row-index
+abbrev pub invariant-loop-number : goal.invariant-loop-number
+invariant-loop-number l =
+    (crashed l.rest l.number-iterator l.entries ≡ crashed l.pick l.numbers.entries l.initial.entries) × All (λ p. p.1 < length l.entries) l.number-iterator

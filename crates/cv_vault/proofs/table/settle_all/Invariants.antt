@@ -1,6 +1,7 @@
-use Rattle.std.proofs.Common.{◌≡◌, ◌++◌, map, take, drop}
-use Rattle.cv_vault.specs.Table.{settled_entry}
+use Rattle.std.proofs.Common.{◌≡◌, drop, length}
+use Rattle.cv_vault.specs.Table.{settled_each}
 use Rattle.cv_vault.proofs.table.settle_all.Given as goal
 
-abbrev pub invariant-loop-entry : goal.invariant-loop-entry
-invariant-loop-entry l = l.entries ≡ map settled_entry (take l.entry-index l.initial.entries) ++ drop l.entry-index l.initial.entries
+abbrev pub invariant-loop-number : goal.invariant-loop-number
+invariant-loop-number l =
+    (settled_each (drop l.number-index l.numbers) l.entries ≡ settled_each l.numbers l.initial.entries) × (length l.entries ≡ length l.initial.entries)

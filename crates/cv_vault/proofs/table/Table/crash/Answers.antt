@@ -3,20 +3,28 @@ use Rattle.std.proofs.lemmas.List.{with_items_is}
 use Rattle.std.specs.Vec.{with_items}
 use Rattle.cv_vault.specs.Table.{crashed}
 use Rattle.cv_vault.specs.declared.table.Table.{Table}
-use Rattle.cv_vault.proofs.Crashing.{IsCrashed, past_crashed, table_crashed, calm_after, crashes}
+use Rattle.cv_vault.proofs.Ordered.{numbers_in_range}
+use Rattle.cv_vault.proofs.Crashing.{IsCrashed, past_crashed, table_crashed, calm_after, count_after, crashes}
 use Rattle.cv_vault.proofs.table.Table.crash.Goals as goal
 
-after_crash : goal.After-clear → Table
-after_crash c = record c.args.self.now { entries = with_items c.args.self.now.entries c.crash_all.new.entries; changes = c.clear.new.self }
+after_crash : goal.After-clear-2 → Table
+after_crash c = record c.args.self.now { entries = with_items c.args.self.now.entries c.crash_all.new.entries; unsettled = c.clear.new.self; changes = c.clear-2.new.self }
 
-is_crashed : (c : goal.After-clear) → IsCrashed c.args.pick c.args.self.now (after_crash c)
+is_crashed : (c : goal.After-clear-2) → IsCrashed c.args.pick c.args.self.now (after_crash c)
 unfolding after_crash
 is_crashed c = record {
   names = refl;
   contents = refl;
-  entries = with_items_is c.args.self.now.entries c.crash_all.new.entries (c.crash_all.auto.entries ∙ c.deref_mut.ensures.len) ∙ c.crash_all.ensures ∙ ap (crashed c.args.pick) c.deref_mut.ensures.value;
-  changes = c.clear.ensures.items;
+  entries = with_items_is c.args.self.now.entries c.crash_all.new.entries (c.crash_all.auto.entries ∙ c.deref_mut.ensures.len)
+      ∙ c.crash_all.ensures ∙ ap (crashed c.args.pick c.args.self.now.numbers.entries) c.deref_mut.ensures.value;
+  numbers = refl;
+  unsettled = c.clear.ensures.items;
+  room = c.clear.ensures.capacity;
+  changes = c.clear-2.ensures.items;
 }
+
+pub crash_all-requires : goal.crash_all-requires
+crash_all-requires c = rw c.deref_mut.ensures.value (numbers_in_range c.args.self.now c.requires)
 
 pub returns-clause-table : goal.returns-clause-table
 unfolding after_crash
@@ -32,4 +40,8 @@ returns-clause-crashes c = crashes c.args.pick c.args.self.now (after_crash c) c
 
 pub returns-clause-calm : goal.returns-clause-calm
 unfolding after_crash
-returns-clause-calm c = calm_after c.args.pick c.args.self.now (after_crash c) (is_crashed c)
+returns-clause-calm c = calm_after c.args.pick c.args.self.now (after_crash c) c.requires (is_crashed c)
+
+pub returns-clause-names : goal.returns-clause-names
+unfolding after_crash
+returns-clause-names c = count_after c.args.pick c.args.self.now (after_crash c) c.requires (is_crashed c)

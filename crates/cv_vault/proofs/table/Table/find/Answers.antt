@@ -1,16 +1,21 @@
-use Rattle.cv_vault.specs.Names.{name_cmp}
-use Rattle.cv_vault.specs.Table.{name_in}
-use Rattle.std.proofs.lemmas.Fn.{always_returns_same}
-use Rattle.cv_vault.specs.declared.table.Entry.{Entry}
-use Rattle.cv_vault.proofs.Finding.{found_name, found_gap}
+use Rattle.std.proofs.Common.{◌≡◌, ℕ, sym, ◌∙◌}
+use Rattle.std.specs.Prelude.{IfSome}
+use Rattle.std.specs.BTreeMap.{get_by_text}
+use Rattle.std.specs.declared.option.Option.{Option}
+use Rattle.std.specs.declared.option.Option.TheVariants.{None, Some}
+use Rattle.cv_vault.specs.Names.{Name}
+use Rattle.cv_vault.specs.Table.{names_in, IsEntryOf, IsTable}
+use Rattle.cv_vault.specs.declared.table.Table.{Table}
+use Rattle.cv_vault.proofs.Reading.{names_at, numbers_lack}
 use Rattle.cv_vault.proofs.table.Table.find.Goals as goal
 
+found : (t : Table) (n : Name) (r : Option ℕ) → IsTable t → r ≡ get_by_text t.numbers n → IfSome r (IsEntryOf t n)
+found t n None is e = tt
+found t n (Some i) is e = names_at t n i ((is.numbers n i).0 (sym e))
+
 pub returns-clause-found : goal.returns-clause-found
-returns-clause-found c =
-    found_name c.args.self.now.names.items c.args.self.now.entries.items c.args.name.now c.binary_search_by.result (rw c.deref.ensures.value at c.binary_search_by.ensures.bound)
-    (rw c.deref.ensures.value at (c.binary_search_by.ensures.position (λ (e : Entry). name_cmp (name_in c.args.self.now.names.items e.name) c.args.name.now) (always_returns_same _ _ _ (λ a r f' k. (k.met.1, λ j. (k.met.0.0 j, k.met.0.1 j))))))
+returns-clause-found c = found c.args.self.now c.args.name.now c.copied.result c.requires (c.copied.ensures ∙ c.get.ensures.value)
 
 pub returns-clause-absent : goal.returns-clause-absent
-returns-clause-absent c =
-    found_gap c.args.self.now.names.items c.args.self.now.entries.items c.args.name.now c.requires c.binary_search_by.result (rw c.deref.ensures.value at c.binary_search_by.ensures.bound)
-    (rw c.deref.ensures.value at (c.binary_search_by.ensures.position (λ (e : Entry). name_cmp (name_in c.args.self.now.names.items e.name) c.args.name.now) (always_returns_same _ _ _ (λ a r f' k. (k.met.1, λ j. (k.met.0.0 j, k.met.0.1 j))))))
+returns-clause-absent c = λ none. (
+    let t = c.args.self.now in numbers_lack (get_by_text t.numbers) (names_in t.names.items t.entries.items) c.args.name.now c.requires.numbers (sym (c.copied.ensures ∙ c.get.ensures.value) ∙ none))

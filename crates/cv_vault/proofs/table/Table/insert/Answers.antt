@@ -1,44 +1,72 @@
-use Rattle.std.proofs.Common.{[], ◌∷◌, ◌++◌, refl, sym, ap, ◌∙◌}
-use Rattle.std.specs.List.{insert}
+use Rattle.std.proofs.Common.{◌≡◌, [], ◌∷◌, ◌++◌, length, cond, refl, sym, ap, subst, ◌∙◌, arith}
+use Rattle.std.specs.BTreeMap.{get_by_text}
+use Rattle.std.specs.Str.{bytes_eq}
+use Rattle.std.specs.String.{string_bytes}
+use Rattle.std.specs.declared.option.Option.TheVariants.{Some}
+use Rattle.std.proofs.lemmas.Map.Text.{btree_map_updates_text}
 use Rattle.std.proofs.lemmas.List.{append-nil}
 use Rattle.cv_vault.specs.Names.{Name}
 use Rattle.cv_vault.specs.declared.table.Table.{Table}
 use Rattle.cv_vault.proofs.Growing.{table_grown, stays_grown}
-use Rattle.cv_vault.proofs.Changing.{Names, new_entry, table_named, stays_named}
+use Rattle.cv_vault.proofs.Changing.{Pushes, new_entry, table_pushed, stays_pushed}
 use Rattle.cv_vault.proofs.table.Table.insert.Goals as goal
 
-pub returns-in_err-insert-clause-table : goal.returns-in_err-insert-clause-table
-returns-in_err-insert-clause-table c =
-    table_grown c.args.self.now _ c.requires.table (record { names_more = _; names = c.in_ok-push.ensures.items; contents_more = []; contents = sym (append-nil _); entries = c.in_err-insert.ensures.items; changes = refl })
+pub returns-in_err-push-clause-table : goal.returns-in_err-push-clause-table
+returns-in_err-push-clause-table c = table_grown c.args.self.now _ c.requires.table (record { names_more = []; names = c.in_err-push.ensures.items ∙ sym (append-nil _); entries = refl; numbers = refl; unsettled = refl; room = omega arith; contents_more = []; contents = sym (append-nil _); changes = refl })
 
-pub returns-in_err-insert-clause-stays : goal.returns-in_err-insert-clause-stays
-returns-in_err-insert-clause-stays c =
-    stays_grown c.args.self.now _ c.requires.table (record { names_more = _; names = c.in_ok-push.ensures.items; contents_more = []; contents = sym (append-nil _); entries = c.in_err-insert.ensures.items; changes = refl })
+pub returns-in_err-push-clause-stays : goal.returns-in_err-push-clause-stays
+returns-in_err-push-clause-stays c = stays_grown c.args.self.now _ c.requires.table (record { names_more = []; names = c.in_err-push.ensures.items ∙ sym (append-nil _); entries = refl; numbers = refl; unsettled = refl; room = omega arith; contents_more = []; contents = sym (append-nil _); changes = refl })
 
-with_name : goal.In_ok-insert → Table
-with_name c = record c.args.self.now { names = c.push.new.self }
+pub returns-in_err-reserve-clause-table : goal.returns-in_err-reserve-clause-table
+returns-in_err-reserve-clause-table c = table_grown c.args.self.now _ c.requires.table (record { names_more = _; names = c.in_ok-push.ensures.items; entries = c.in_err-reserve.ensures.items; numbers = refl; unsettled = refl; room = omega arith; contents_more = []; contents = sym (append-nil _); changes = refl })
 
-with_entry : goal.In_ok-insert → Table
-with_entry c = record c.args.self.now { names = c.push.new.self; entries = c.insert.new.self }
+pub returns-in_err-reserve-clause-stays : goal.returns-in_err-reserve-clause-stays
+returns-in_err-reserve-clause-stays c = stays_grown c.args.self.now _ c.requires.table (record { names_more = _; names = c.in_ok-push.ensures.items; entries = c.in_err-reserve.ensures.items; numbers = refl; unsettled = refl; room = omega arith; contents_more = []; contents = sym (append-nil _); changes = refl })
 
-named : (c : goal.In_ok-insert) → Names c.args.self.now (with_name c) (with_entry c) c.args.name.now c.args.at
-unfolding with_name with_entry
-named c = record {
-  gap = c.requires.gap;
-  names = c.in_ok-push.ensures.items ∙ ap (λ (x : Name). c.args.self.now.names.items ++ x ∷ []) (c.new.ensures ∙ c.in_ok-from_str.ensures.ok);
-  contents = refl;
-  entries = refl;
-  changes = refl;
-  names_same = refl;
-  contents_same = refl;
-  inserted = c.in_ok-insert.ensures.items ∙ ap (λ k. insert c.args.self.now.entries.items c.args.at (new_entry k)) (c.len-number.ensures ∙ c.args.self.now.names.ok.0);
-  changes_same = refl;
-}
+pub returns-in_err-reserve-2-clause-table : goal.returns-in_err-reserve-2-clause-table
+returns-in_err-reserve-2-clause-table c = table_grown c.args.self.now _ c.requires.table (record { names_more = _; names = c.in_ok-push.ensures.items; entries = c.in_ok-reserve.ensures.items; numbers = refl; unsettled = c.in_err-reserve-2.ensures.items; room = c.in_err-reserve-2.ensures.capacity; contents_more = []; contents = sym (append-nil _); changes = refl })
+
+pub returns-in_err-reserve-2-clause-stays : goal.returns-in_err-reserve-2-clause-stays
+returns-in_err-reserve-2-clause-stays c = stays_grown c.args.self.now _ c.requires.table (record { names_more = _; names = c.in_ok-push.ensures.items; entries = c.in_ok-reserve.ensures.items; numbers = refl; unsettled = c.in_err-reserve-2.ensures.items; room = c.in_err-reserve-2.ensures.capacity; contents_more = []; contents = sym (append-nil _); changes = refl })
+
+pub returns-in_err-set_number-clause-table : goal.returns-in_err-set_number-clause-table
+returns-in_err-set_number-clause-table c = table_grown c.args.self.now _ c.requires.table (record { names_more = _; names = c.in_ok-push.ensures.items; entries = c.in_ok-reserve.ensures.items; numbers = c.in_err-set_number.ensures.err; unsettled = c.in_ok-reserve-2.ensures.items; room = c.in_ok-reserve-2.ensures.capacity; contents_more = []; contents = sym (append-nil _); changes = refl })
+
+pub returns-in_err-set_number-clause-stays : goal.returns-in_err-set_number-clause-stays
+returns-in_err-set_number-clause-stays c = stays_grown c.args.self.now _ c.requires.table (record { names_more = _; names = c.in_ok-push.ensures.items; entries = c.in_ok-reserve.ensures.items; numbers = c.in_err-set_number.ensures.err; unsettled = c.in_ok-reserve-2.ensures.items; room = c.in_ok-reserve-2.ensures.capacity; contents_more = []; contents = sym (append-nil _); changes = refl })
+
+pub returns-in_err-key-clause-table : goal.returns-in_err-key-clause-table
+returns-in_err-key-clause-table c = table_grown c.args.self.now _ c.requires.table (record { names_more = _; names = c.in_ok-push.ensures.items; entries = c.in_ok-reserve.ensures.items; numbers = refl; unsettled = c.in_ok-reserve-2.ensures.items; room = c.in_ok-reserve-2.ensures.capacity; contents_more = []; contents = sym (append-nil _); changes = refl })
+
+pub returns-in_err-key-clause-stays : goal.returns-in_err-key-clause-stays
+returns-in_err-key-clause-stays c = stays_grown c.args.self.now _ c.requires.table (record { names_more = _; names = c.in_ok-push.ensures.items; entries = c.in_ok-reserve.ensures.items; numbers = refl; unsettled = c.in_ok-reserve-2.ensures.items; room = c.in_ok-reserve-2.ensures.capacity; contents_more = []; contents = sym (append-nil _); changes = refl })
+
+pushed : goal.After-push_reserved → Table
+pushed c = record c.args.self.now { names = c.push.new.self; entries = c.push_reserved.new.self; numbers = c.set_number.new.numbers; unsettled = c.reserve-2.new.self }
+
+pushes : (c : goal.After-push_reserved) → Pushes c.args.self.now (pushed c) c.args.name.now
+unfolding pushed
+pushes c =
+    let t = c.args.self.now in
+    let at = c.len-at.ensures ∙ t.entries.ok.0 in
+    record {
+      lacks = c.requires.absent;
+      names = c.in_ok-push.ensures.items ∙ ap (λ (x : Name). t.names.items ++ x ∷ []) (c.new.ensures ∙ c.in_ok-from_str.ensures.ok);
+      contents = refl;
+      entries = c.push_reserved.ensures.items ∙ ap (λ es. es ++ new_entry c.len-number.result ∷ []) c.in_ok-reserve.ensures.items ∙ ap (λ k. t.entries.items ++ new_entry k ∷ []) (c.len-number.ensures ∙ t.names.ok.0);
+      ordered = c.in_ok-set_number.ensures.ordered;
+      numbers = λ q. (subst (λ bs. get_by_text c.set_number.new.numbers q ≡ cond (bytes_eq bs q) (Some (length t.entries.items)) (get_by_text t.numbers q)) c.in_ok-key.ensures.ok
+          (subst (λ k. get_by_text c.set_number.new.numbers q ≡ cond (bytes_eq (string_bytes c.in_ok-key.key) q) (Some k) (get_by_text t.numbers q)) at
+          (btree_map_updates_text (string_bytes c.in_ok-key.key) t.numbers c.set_number.new.numbers (Some c.len-at.result) c.in_ok-set_number.ensures.ok q)));
+      unsettled = c.in_ok-reserve-2.ensures.items;
+      room = let r = c.in_ok-reserve-2.ensures.ok in let a = at in omega arith;
+      changes = refl;
+    }
 
 pub returns-clause-table : goal.returns-clause-table
-unfolding with_name with_entry
-returns-clause-table c = table_named c.args.self.now (with_name c) (with_entry c) c.args.name.now c.args.at c.requires.table (named c)
+unfolding pushed
+returns-clause-table c = table_pushed c.args.self.now (pushed c) c.args.name.now c.requires.table (pushes c)
 
 pub returns-clause-stays : goal.returns-clause-stays
-unfolding with_name with_entry
-returns-clause-stays c = stays_named c.args.self.now (with_name c) (with_entry c) c.args.name.now c.args.at c.requires.table (named c)
+unfolding pushed
+returns-clause-stays c = stays_pushed c.args.self.now (pushed c) c.args.name.now c.requires.table (pushes c)

@@ -1,16 +1,16 @@
-use Rattle.std.proofs.Common.{sym, ap, ◌∙◌}
+use Rattle.std.proofs.Common.{refl, sym, ap, ◌∙◌}
 use Rattle.cv_vault.specs.Places.{slot_in}
 use Rattle.cv_vault.specs.declared.place.Place.{Place}
 use Rattle.cv_vault.proofs.Reading.{slot_missing}
 use Rattle.cv_vault.proofs.Steps.{slot_at}
 use Rattle.cv_vault.proofs.table.Table.place_of.Goals as goal
 
-pub returns-in-Ok-clause-stands : goal.returns-in-Ok-clause-stands
-returns-in-Ok-clause-stands c =
+pub returns-in-Some-clause-stands : goal.returns-in-Some-clause-stands
+returns-in-Some-clause-stands c =
     let t = c.args.self.now in
-    ap (λ (p : Place). slot_in t.contents.items p) c.place_at.ensures ∙ sym (slot_at t c.args.name.now c.in-Ok.at c.requires c.in-Ok.ensures.found)
+    ap (λ (p : Place). slot_in t.contents.items p) c.place_at.ensures ∙ sym (slot_at t c.args.name.now c.in-Some.at c.requires c.in-Some.ensures.found)
 
-pub returns-in-Err-clause-stands : goal.returns-in-Err-clause-stands
-returns-in-Err-clause-stands c =
+pub returns-in-None-clause-stands : goal.returns-in-None-clause-stands
+returns-in-None-clause-stands c =
     let t = c.args.self.now in
-    sym (slot_missing t.names.items t.contents.items t.entries.items c.args.name.now c.in-Err.field-0 c.in-Err.ensures.absent)
+    sym (slot_missing t.names.items t.contents.items t.entries.items c.args.name.now (c.in-None.ensures.absent refl))

@@ -13,6 +13,8 @@ put_one c =
     let same = c.set_place-name.ensures in
     record {
       at = c.requires.at;
+      numbers = same.numbers;
+      unsettled = same.unsettled;
       within = c.requires.within;
       names = ap (λ v. v.items) same.names;
       contents = ap (λ v. v.items) same.contents;

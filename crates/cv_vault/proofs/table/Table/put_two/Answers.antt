@@ -20,6 +20,8 @@ put_both c =
     ∙ ap (λ (e : Entry). e.name) (get_or-set_other t.entries.items c.args.at c.args.other (record (entry_at t c.args.at) { place = c.args.place }) any_entry (λ e. c.requires.apart (sym e)))) in
     record {
       at = c.requires.at;
+      numbers = two.numbers ∙ one.numbers;
+      unsettled = two.unsettled;
       within = c.requires.within;
       other = c.requires.other;
       other_within = c.requires.other_within;

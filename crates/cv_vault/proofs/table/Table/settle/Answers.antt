@@ -1,23 +1,31 @@
-use Rattle.std.proofs.Common.{map, refl, ap, ◌∙◌}
+use Rattle.std.proofs.Common.{refl, ap, ◌∙◌}
 use Rattle.std.proofs.lemmas.List.{with_items_is}
 use Rattle.std.specs.Vec.{with_items}
-use Rattle.cv_vault.specs.Table.{settled_entry}
+use Rattle.cv_vault.specs.Table.{settled_each}
 use Rattle.cv_vault.specs.declared.table.Table.{Table}
 use Rattle.cv_vault.proofs.Changing.{table_recorded, adds_recorded}
-use Rattle.cv_vault.proofs.Settling.{SettlesAll, records_settled, any_unsettled-settled, file_count-settled}
+use Rattle.cv_vault.proofs.Settling.{SettlesAll, each_is_all, records_settled, any_unsettled-settled, file_count-settled}
 use Rattle.cv_vault.proofs.table.Table.settle.Goals as goal
 
 after_settle : goal.After-push_reserved → Table
-after_settle c = record c.args.self.now { entries = with_items c.args.self.now.entries c.settle_all.new.entries; changes = c.push_reserved.new.self }
+after_settle c = record c.args.self.now { entries = with_items c.args.self.now.entries c.settle_all.new.entries; unsettled = c.clear.new.self; changes = c.push_reserved.new.self }
 
 settles : (c : goal.After-push_reserved) → SettlesAll c.args.self.now (after_settle c)
 unfolding after_settle
 settles c = record {
   names = refl;
   contents = refl;
-  entries = with_items_is c.args.self.now.entries c.settle_all.new.entries (c.settle_all.auto.entries ∙ c.deref_mut.ensures.len) ∙ c.settle_all.ensures ∙ ap (map settled_entry) c.deref_mut.ensures.value;
+  entries = with_items_is c.args.self.now.entries c.settle_all.new.entries (c.settle_all.auto.entries ∙ c.deref_mut.ensures.len)
+      ∙ c.settle_all.ensures ∙ ap (settled_each c.deref.result.now) c.deref_mut.ensures.value ∙ ap (λ ks. settled_each ks c.args.self.now.entries.items) c.deref.ensures.value
+      ∙ each_is_all c.args.self.now.unsettled c.args.self.now.entries.items c.requires.table.unsettled;
+  numbers = refl;
+  unsettled = c.clear.ensures.items;
+  room = c.clear.ensures.capacity;
   changes = c.push_reserved.ensures.items;
 }
+
+pub settle_all-requires : goal.settle_all-requires
+settle_all-requires c = rw (c.deref_mut.ensures.value, c.deref.ensures.value) c.requires.table.unsettled.within
 
 pub returns-clause-table : goal.returns-clause-table
 unfolding after_settle
