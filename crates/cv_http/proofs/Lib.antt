@@ -6,3 +6,4 @@ pub mod Streams
 pub mod Refusals
 pub mod OneReading
 pub mod Lemmas
+mod HeadEnds

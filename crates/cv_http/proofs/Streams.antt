@@ -1,5 +1,5 @@
 -- What is judged of the bytes held holds of all that is left.
-use Rattle.std.proofs.Common.{◌≡◌, ◌≤◌, ◌-◌, ◌++◌, ℕ, List, [], length, take, drop, refl, ap, sym, subst, ◌∙◌, append_assoc, append-nil, arith, inl, inr, length-append}
+use Rattle.std.proofs.Common.{◌≡◌, ◌<◌, ◌≤◌, ◌-◌, ◌++◌, ℕ, List, [], length, take, drop, refl, ap, sym, subst, ◌∙◌, append_assoc, append-nil, arith, inl, inr, length-append}
 use Rattle.std.specs.Prelude.{Option, Some, None, Result, Ok, Err, IsErrAnd}
 use Rattle.std.proofs.lemmas.List.{take-append-le, take-append-drop, take_all}
 use Rattle.std.proofs.lemmas.Bool.{cases_lt}
@@ -10,9 +10,10 @@ use Rattle.httparse.proofs.GrammarLemmas.{ReadsRequest-append}
 use Rattle.cv_ports.specs.Streams.{front}
 use Rattle.cv_ports.proofs.Streams.{front_twice}
 use Rattle.cv_http.specs.Heads.{window, HasHead, Begins, Never, Unfinished, Refused, never, large, judged}
-use Rattle.cv_http.specs.Heads.{IsCut}
-use Rattle.cv_http.specs.Wires.{WireView, Gets, Reads, HeadRead, BodyRead}
-use Rattle.cv_http.specs.Faults.{IsRefusal, IsPieceFault}
+use Rattle.cv_http.specs.Heads.{IsAwaited}
+use Rattle.cv_http.specs.Wires.{WireView, Gets, Reads, HeadLost, HeadFound, HeadRead, BodyRead}
+use Rattle.cv_http.specs.Faults.{IsHeadFault, IsPieceFault}
+use Rattle.cv_http.proofs.Refusals.{refusal}
 use Rattle.cv_http.specs.declared.head.RequestHead.{RequestHead}
 use Rattle.cv_http.specs.declared.fault.HttpFault.{HttpFault}
 use Rattle.cv_http.specs.declared.fault.HttpFault.TheVariants.{BadHead, HeadTooLarge, BodyTooLarge, NoLength, Coding, Short, ReadFault, NoMemory}
@@ -29,11 +30,6 @@ pub parts_on : (body body' held : List ℕ) (left all : Option (List ℕ)) (n : 
 parts_on body body' held left all n is was =
     ap (λ x. front x (front (drop n held) left)) is ∙ sym (front_twice (front (drop n held) left) body (take n held))
     ∙ ap (front body) (front_twice left (take n held) (drop n held) ∙ ap (λ x. front x left) (take-append-drop n held)) ∙ was
-
--- where all is told, what is left is told
-front_some : (held : List ℕ) (left : Option (List ℕ)) (b : List ℕ) → front held left ≡ Some b → (l : List ℕ) × (left ≡ Some l) × (b ≡ held ++ l)
-front_some held None b h = cc
-front_some held (Some l) b h = (l, refl, cc)
 
 -- ---- what was got
 
@@ -107,16 +103,16 @@ pub by_fault : {A : Type 0} (r : Result A HttpFault) (fault : HttpFault) (P : Re
 by_fault (Ok made) fault P h p = absurd h
 by_fault (Err d) fault P h p = subst (λ (x : HttpFault). P (Err x)) (sym h) p
 
--- a body that wasn't read for a fault of the source or want of memory
-pub body_unread : {A : Type 0} (P : List ℕ → A → Type 0) (b held : List ℕ) (size : ℕ) (fault : HttpFault) → IsPieceFault fault → BodyRead size P b held (Err fault)
-body_unread P b held size BadHead is = absurd is
-body_unread P b held size HeadTooLarge is = absurd is
-body_unread P b held size BodyTooLarge is = absurd is
-body_unread P b held size NoLength is = absurd is
-body_unread P b held size Coding is = absurd is
-body_unread P b held size Short is = absurd is
-body_unread P b held size ReadFault is = tt
-body_unread P b held size NoMemory is = tt
+-- a body that wasn't read for a fault of the source or want of memory, of which fewer bytes were there
+pub body_unread : {A : Type 0} (P : List ℕ → A → Type 0) (b held : List ℕ) (size : ℕ) (fault : HttpFault) → IsPieceFault fault → length b < size → BodyRead size P b held (Err fault)
+body_unread P b held size BadHead is short = absurd is
+body_unread P b held size HeadTooLarge is short = absurd is
+body_unread P b held size BodyTooLarge is short = absurd is
+body_unread P b held size NoLength is short = absurd is
+body_unread P b held size Coding is short = absurd is
+body_unread P b held size Short is short = absurd is
+body_unread P b held size ReadFault is short = short
+body_unread P b held size NoMemory is short = tt
 
 -- ---- what was judged
 
@@ -152,34 +148,33 @@ refused_on l (never h) = never (never_on l h)
 refused_on {held} l (large long h) = large (rw length-append (omega (arith, long))) (unfinished_on l long h)
 refused_on l (judged parsed later fault has is) = judged parsed (later ++ l) fault (has_head_on l has) is
 
-pub told_begins : (held later : List ℕ) (head : RequestHead) (left : Option (List ℕ)) (b : List ℕ) → Begins held head later → front held left ≡ Some b
-    → (x : List ℕ) × (front later left ≡ Some x) × Begins b head x
-told_begins held later head left b begins told =
-    let at = front_some held left b told in
-    (later ++ at.0, ap (front later) at.1, subst (λ (x : List ℕ). Begins x head (later ++ at.0)) (sym at.2) (begins_on at.0 begins))
+-- a fault is another than this
+abbrev pub IsOther : HttpFault → HttpFault → Type 0
+IsOther other fault = (r : Result (Option RequestHead) HttpFault) → r ≡ Err fault → r ≡ Err other → ⊥
 
-pub told_refused : (held : List ℕ) (fault : HttpFault) (left : Option (List ℕ)) (b : List ℕ) → Refused held fault → front held left ≡ Some b → Refused b fault
-told_refused held fault left b refused told =
-    let at = front_some held left b told in
-    subst (λ (x : List ℕ). Refused x fault) (sym at.2) (refused_on at.0 refused)
+-- the bytes read are refused, or weren't judged: neither did the source fail nor the input end
+pub read_lost : (b held : List ℕ) (fault : HttpFault) → HeadLost b held fault → HeadRead b held (Err fault) × IsHeadFault fault × IsOther ReadFault fault × IsOther Short fault
+read_lost b held BadHead lost = (lost, tt, λ r is same. cc, λ r is same. cc)
+read_lost b held HeadTooLarge lost = (lost, tt, λ r is same. cc, λ r is same. cc)
+read_lost b held BodyTooLarge lost = absurd (refusal b BodyTooLarge lost.0)
+read_lost b held NoLength lost = (lost, tt, λ r is same. cc, λ r is same. cc)
+read_lost b held Coding lost = (lost, tt, λ r is same. cc, λ r is same. cc)
+read_lost b held Short lost = absurd (refusal b Short lost.0)
+read_lost b held ReadFault lost = absurd (refusal b ReadFault lost.0)
+read_lost b held NoMemory lost = (lost, tt, λ r is same. cc, λ r is same. cc)
 
--- the bytes read are refused, or weren't judged
-pub read_refused : {b held : List ℕ} (fault : HttpFault) → IsRefusal fault → Refused b fault → held ≡ b → HeadRead b held (Err fault)
-read_refused BadHead is refused same = (refused, same)
-read_refused HeadTooLarge is refused same = (refused, same)
-read_refused BodyTooLarge is refused same = (refused, same)
-read_refused NoLength is refused same = (refused, same)
-read_refused Coding is refused same = (refused, same)
-read_refused Short is refused same = absurd is
-read_refused ReadFault is refused same = absurd is
-read_refused NoMemory is refused same = absurd is
+-- where no head was found, a part of one is held
+pub found_none : (IsPart : List ℕ → Type 0) (b held : List ℕ) (found : Option RequestHead) → HeadFound IsPart b held (Ok found) → ((head : RequestHead) → found ≡ Some head → ⊥) → IsPart b × (held ≡ b)
+found_none IsPart b held None part lacks = part
+found_none IsPart b held (Some head) part lacks = absurd (lacks head refl)
 
-pub read_nothing : {b held : List ℕ} (fault : HttpFault) → IsPieceFault fault → held ≡ b → HeadRead b held (Err fault)
-read_nothing BadHead is same = absurd is
-read_nothing HeadTooLarge is same = absurd is
-read_nothing BodyTooLarge is same = absurd is
-read_nothing NoLength is same = absurd is
-read_nothing Coding is same = absurd is
-read_nothing Short is same = absurd is
-read_nothing ReadFault is same = same
-read_nothing NoMemory is same = same
+-- the source failed, or memory was wanted
+pub read_nothing : {b held : List ℕ} (fault : HttpFault) → IsPieceFault fault → IsAwaited b → held ≡ b → HeadRead b held (Err fault)
+read_nothing BadHead is waits same = absurd is
+read_nothing HeadTooLarge is waits same = absurd is
+read_nothing BodyTooLarge is waits same = absurd is
+read_nothing NoLength is waits same = absurd is
+read_nothing Coding is waits same = absurd is
+read_nothing Short is waits same = absurd is
+read_nothing ReadFault is waits same = (waits, same)
+read_nothing NoMemory is waits same = same

@@ -122,6 +122,11 @@ pub data Refused (b : List ℕ) : HttpFault → Type 0 where
   large : head_limit ≤ length b → Unfinished b → Refused b HeadTooLarge
   judged : (parsed : ParsedHead) (later : List ℕ) (fault : HttpFault) → HasHead b parsed later → fault_of_head parsed ≡ Some fault → Refused b fault
 
+-- the bytes begin with no whole head, and have room for more of one
+pub record IsAwaited (b : List ℕ) : Type 0 where
+  pub short : length b < head_limit
+  pub none : HasNoRequest b
+
 -- the bytes end inside a head
 pub record IsCut (b : List ℕ) : Type 0 where
   pub some : b ≢ []

@@ -2,7 +2,7 @@
 use Rattle.std.specs.Prelude.{◌≡◌, ◌<◌, ◌++◌, ℕ, List, [], length, Option, Result, Ok, Err}
 use Rattle.std.specs.declared.option.Option.TheVariants.{Some, None}
 use Rattle.cv_ports.specs.Streams.{front}
-use Rattle.cv_http.specs.Heads.{Begins, Refused, IsCut}
+use Rattle.cv_http.specs.Heads.{Begins, Refused, IsAwaited, IsCut}
 use Rattle.cv_http.specs.declared.head.RequestHead.{RequestHead}
 use Rattle.cv_http.specs.declared.fault.HttpFault.{HttpFault}
 use Rattle.cv_http.specs.declared.fault.HttpFault.TheVariants.{BadHead, HeadTooLarge, BodyTooLarge, NoLength, Coding, Short, ReadFault, NoMemory}
@@ -28,12 +28,23 @@ pub record Reads {R : Type 0} (left : R → Option (List ℕ)) (wire wire' : Wir
   pub told : left wire.source ≡ front got (left wire'.source)
   pub are : Are (wire.held ++ got)
 
+-- the bytes are refused by this fault, or memory was wanted, and all are still held
+abbrev pub HeadLost : List ℕ → List ℕ → HttpFault → Type 0
+HeadLost b held NoMemory = held ≡ b
+HeadLost b held fault = Refused b fault × (held ≡ b)
+
+-- what the bytes held are where a head is taken of them: a head, and then what is still held; or a part of one
+abbrev pub HeadFound : (List ℕ → Type 0) → List ℕ → List ℕ → Result (Option RequestHead) HttpFault → Type 0
+HeadFound IsPart b held (Ok (Some head)) = Begins b head held
+HeadFound IsPart b held (Ok None) = IsPart b × (held ≡ b)
+HeadFound IsPart b held (Err fault) = HeadLost b held fault
+
 -- what the bytes read are where a head was asked for, and which of them are still held
 abbrev pub HeadRead : List ℕ → List ℕ → Result (Option RequestHead) HttpFault → Type 0
 HeadRead b held (Ok (Some head)) = Begins b head held
 HeadRead b held (Ok None) = (b ≡ []) × (held ≡ b)
 HeadRead b held (Err Short) = IsCut b × (held ≡ b)
-HeadRead b held (Err ReadFault) = held ≡ b
+HeadRead b held (Err ReadFault) = IsAwaited b × (held ≡ b)
 HeadRead b held (Err NoMemory) = held ≡ b
 HeadRead b held (Err BadHead) = Refused b BadHead × (held ≡ b)
 HeadRead b held (Err HeadTooLarge) = Refused b HeadTooLarge × (held ≡ b)
@@ -42,7 +53,7 @@ HeadRead b held (Err NoLength) = Refused b NoLength × (held ≡ b)
 HeadRead b held (Err Coding) = Refused b Coding × (held ≡ b)
 
 -- what the bytes read are where so many bytes were asked for: a body of which this was made, and then what is still held;
--- or fewer, where the input ended
+-- or fewer, where the input ended or the source failed
 abbrev pub BodyRead : {A : Type 0} → ℕ → (List ℕ → A → Type 0) → List ℕ → List ℕ → Result A HttpFault → Type 0
 BodyRead size Made b held (Ok made) = (body : List ℕ) × (b ≡ body ++ held) × (length body ≡ size) × Made body made
 BodyRead size Made b held (Err Short) = length b < size
@@ -51,7 +62,7 @@ BodyRead size Made b held (Err HeadTooLarge) = Unit {0}
 BodyRead size Made b held (Err BodyTooLarge) = Unit {0}
 BodyRead size Made b held (Err NoLength) = Unit {0}
 BodyRead size Made b held (Err Coding) = Unit {0}
-BodyRead size Made b held (Err ReadFault) = Unit {0}
+BodyRead size Made b held (Err ReadFault) = length b < size
 BodyRead size Made b held (Err NoMemory) = Unit {0}
 
 -- the same where a piece was asked for, one byte at least
@@ -63,5 +74,5 @@ PieceRead b held (Err HeadTooLarge) = Unit {0}
 PieceRead b held (Err BodyTooLarge) = Unit {0}
 PieceRead b held (Err NoLength) = Unit {0}
 PieceRead b held (Err Coding) = Unit {0}
-PieceRead b held (Err ReadFault) = Unit {0}
+PieceRead b held (Err ReadFault) = b ≡ []
 PieceRead b held (Err NoMemory) = Unit {0}

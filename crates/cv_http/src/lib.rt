@@ -5,6 +5,7 @@ mod body_kind;
 mod code;
 mod fault;
 mod head;
+mod head_end;
 mod head_parts;
 mod judge;
 mod judgement;

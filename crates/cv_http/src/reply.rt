@@ -1,5 +1,5 @@
 //! Replies.
-ghost use Rattle.std.specs.Prelude.{◌≡◌, ◌++◌, ℕ, List, length, OnOk, IfOk, IsErr, Bool, string_bytes};
+ghost use Rattle.std.specs.Prelude.{◌≡◌, ◌≢◌, ◌++◌, ℕ, List, length, OnOk, IfOk, IsErr, Bool, string_bytes};
 ghost use Rattle.cv_base.specs.Counts.{HasCause};
 ghost use Rattle.cv_ports.specs.Streams.{onto, Wrote};
 ghost use Rattle.cv_http.specs.Replies.{close_line, reply_head, reply, continue_line};
@@ -54,6 +54,7 @@ fn head_text(
 fn send_parts<W: Sink>(sink: &mut W, head: &[u8], body: &[u8]) -> Result<(), Failed>
     ensures whole { OnOk result (W.taken sink.new ≡ onto (W.taken sink.old) (head.now ++ body.now)) }
     ensures part { Wrote (W.taken sink.old) (W.taken sink.new) (head.now ++ body.now) }
+    ensures flushed { OnOk result (W.passed sink.new ≡ W.taken sink.new) }
     ensures cause { HasCause (W.faults sink.old) (W.faults sink.new) (IsErr result) }
 {
     write_all(sink, head)?;
@@ -74,6 +75,7 @@ pub fn write_reply<W: Sink>(
     ensures whole { OnOk result (W.taken sink.new ≡ onto (W.taken sink.old) (reply code kind last body.now)) }
     ensures part { Wrote (W.taken sink.old) (W.taken sink.new) (reply code kind last body.now) }
     ensures nothing { result ≡ Err NoMemory → W.taken sink.new ≡ W.taken sink.old }
+    ensures flushed { result ≢ Err WriteFault → W.passed sink.old ≡ W.taken sink.old → W.passed sink.new ≡ W.taken sink.new }
     ensures cause { HasCause (W.faults sink.old) (W.faults sink.new) (result ≡ Err WriteFault) }
 {
     let Ok(head) = head_text(alloc, code, kind, body.len(), last) else {
@@ -89,6 +91,7 @@ pub fn write_reply<W: Sink>(
 pub fn write_continue<W: Sink>(sink: &mut W) -> Result<(), Failed>
     ensures whole { OnOk result (W.taken sink.new ≡ onto (W.taken sink.old) continue_line) }
     ensures part { Wrote (W.taken sink.old) (W.taken sink.new) continue_line }
+    ensures flushed { OnOk result (W.passed sink.new ≡ W.taken sink.new) }
     ensures cause { HasCause (W.faults sink.old) (W.faults sink.new) (IsErr result) }
 {
     write_all(sink, b"HTTP/1.1 100 Continue\r\n\r\n")?;

@@ -3,14 +3,16 @@ ghost use Rattle.std.specs.Prelude.{◌≡◌, ◌≢◌, ◌≤◌, ◌<◌, �
 ghost use Rattle.cv_base.specs.Counts.{HasCause};
 ghost use Rattle.cv_base.specs.Told.{WhereTold};
 ghost use Rattle.cv_ports.specs.Streams.{front};
-ghost use Rattle.cv_http.specs.Heads.{Begins, Refused, IsCut};
-ghost use Rattle.cv_http.specs.Wires.{WireView, rest, Gets, Reads, HeadRead, BodyRead, PieceRead};
+ghost use Rattle.cv_http.specs.Heads.{IsAwaited, Unfinished};
+ghost use Rattle.cv_http.specs.HeadEnds.{NoneWithin, may_end};
+ghost use Rattle.cv_http.specs.Wires.{WireView, rest, Gets, Reads, HeadFound, HeadRead, BodyRead, PieceRead};
 ghost use Rattle.cv_http.specs.Judgements.{Judges};
 ghost use Rattle.cv_http.specs.Faults.{IsHeadFault, IsBodyFault, IsPieceFault};
 ghost use Rattle.cv_http.specs.declared.fault.HttpFault.TheVariants.{Short, ReadFault, NoMemory as MemoryFault};
 
 use crate::fault::HttpFault;
 use crate::head::RequestHead;
+use crate::head_end::has_empty_line;
 use crate::judge::{HEAD_LIMIT, Judged, judge};
 use cv_base::{Bytes, NoMemory};
 use cv_ports::Source;
@@ -57,6 +59,7 @@ fn read_piece<R: Source>(
     ensures stream { front held.new.items (R.left source.new) ≡ front held.old.items (R.left source.old) }
     ensures gets { Gets (R.left source.old) (R.left source.new) held.old.items held.new.items }
     ensures more { result ≡ Ok true → length held.old.items < length held.new.items }
+    ensures lost { OnErr result (held.new.items ≡ held.old.items) }
     ensures end { result ≡ Ok false → (held.new.items ≡ held.old.items) × WhereTold (R.left source.new) (λ left. left ≡ []) }
     ensures faults { IfErr result IsPieceFault }
     ensures cause { HasCause (R.faults source.old) (R.faults source.new) (result ≡ Err ReadFault) }
@@ -125,6 +128,7 @@ impl<R: Source + Drop> Wire<R> {
         ensures stream { rest R.left self.new ≡ rest R.left self.old }
         ensures gets { Gets (R.left self.old.source) (R.left self.new.source) self.old.held self.new.held }
         ensures more { result ≡ Ok true → length self.old.held < length self.new.held }
+        ensures lost { OnErr result (self.new.held ≡ self.old.held) }
         ensures end { result ≡ Ok false → (self.new.held ≡ self.old.held) × WhereTold (R.left self.new.source) (λ left. left ≡ []) }
         ensures faults { IfErr result IsPieceFault }
         ensures cause { HasCause (R.faults self.old.source) (R.faults self.new.source) (result ≡ Err ReadFault) }
@@ -147,43 +151,84 @@ impl<R: Source + Drop> Wire<R> {
         judge(alloc, held, self.room.as_mut_slice())
     }
 
+    /// Takes the head with which what is held begins. `None` where it is a part of one.
+    fn take_head(&mut self, alloc: Global) -> Result<Option<RequestHead>, HttpFault>
+        ensures found { HeadFound Unfinished self.old.held self.new.held result }
+        ensures source { self.new.source ≡ self.old.source }
+    {
+        let Ok(judged) = self.judge_held(alloc) else {
+            return Err(HttpFault::NoMemory);
+        };
+        match judged {
+            Judged::Whole { head, size } => {
+                self.skip(size);
+                Ok(Some(head))
+            }
+            Judged::Refused(fault) => Err(fault),
+            Judged::More => Ok(None),
+        }
+    }
+
+    /// Whether a head may end behind the first bytes that are held, `seen` of them, or there is no room for more of one.
+    fn may_end(&self, seen: usize) -> bool
+        requires { seen ≤ length self.now.held }
+        ensures { result ≡ may_end seen self.now.held }
+    {
+        let bytes = self.bytes();
+        bytes.len() >= HEAD_LIMIT || has_empty_line(&bytes[seen.saturating_sub(2)..])
+    }
+
+    /// Takes the head with which what is held begins, where none begins with the first bytes, `seen` of them, alone. `None`
+    /// where more is to come.
+    fn seek_head(&mut self, alloc: Global, seen: usize) -> Result<Option<RequestHead>, HttpFault>
+        requires within { seen ≤ length self.old.held }
+        requires none { NoneWithin seen self.old.held }
+        ensures found { HeadFound IsAwaited self.old.held self.new.held result }
+        ensures source { self.new.source ≡ self.old.source }
+    {
+        if !self.may_end(seen) {
+            return Ok(None);
+        }
+        match self.take_head(alloc)? {
+            Some(head) => Ok(Some(head)),
+            None if self.bytes().len() >= HEAD_LIMIT => Err(HttpFault::HeadTooLarge),
+            None => Ok(None),
+        }
+    }
+
+    /// Takes the head with which the input ends. `None` where it ended before one.
+    fn end_head(&mut self, alloc: Global) -> Result<Option<RequestHead>, HttpFault>
+        requires { length self.old.held < 16384 }
+        ensures read { HeadRead self.old.held self.new.held result }
+        ensures source { self.new.source ≡ self.old.source }
+        ensures faults { result ≢ Err ReadFault }
+    {
+        match self.take_head(alloc)? {
+            Some(head) => Ok(Some(head)),
+            None if self.bytes().is_empty() => Ok(None),
+            None => Err(HttpFault::Short),
+        }
+    }
+
     /// Reads the next head (RFC 9112, sections 2 and 3). `None` is the end of the input where a head might begin. A whole
-    /// head is answered before more is read. A fault takes nothing of what is left.
+    /// head is answered before more is read: where the source fails, none is there. Bytes that begin no head are refused
+    /// once an empty line ends in them, they fill the room for a head, or the input ends. A fault takes nothing of what is
+    /// left.
     pub fn read_head(&mut self, alloc: Global) -> Result<Option<RequestHead>, HttpFault>
         ensures reads { Reads R.left self.old self.new (λ b. HeadRead b self.new.held result) }
-        ensures head { IfOk result (λ found. IfSome found (λ head. WhereTold (rest R.left self.old) (λ b.
-            (later : List ℕ) × (rest R.left self.new ≡ Some later) × Begins b head later))) }
-        ensures end { result ≡ Ok None → WhereTold (rest R.left self.old) (λ b. b ≡ []) }
         ensures nothing_left { result ≡ Ok None → WhereTold (rest R.left self.new) (λ b. b ≡ []) }
-        ensures refused { IfErr result (λ fault. fault ≢ Short → fault ≢ ReadFault → fault ≢ MemoryFault
-            → WhereTold (rest R.left self.old) (λ b. Refused b fault)) }
-        ensures short { result ≡ Err Short → WhereTold (rest R.left self.old) IsCut }
         ensures cut { result ≡ Err Short → WhereTold (R.left self.new.source) (λ left. left ≡ []) }
-        ensures unchanged { OnErr result (rest R.left self.new ≡ rest R.left self.old) }
         ensures faults { IfErr result IsHeadFault }
         ensures cause { HasCause (R.faults self.old.source) (R.faults self.new.source) (result ≡ Err ReadFault) }
     {
+        let mut seen = 0;
         'pieces: loop {
-            let Ok(judged) = self.judge_held(alloc) else {
-                return Err(HttpFault::NoMemory);
-            };
-            match judged {
-                Judged::Whole { head, size } => {
-                    self.skip(size);
-                    return Ok(Some(head));
-                }
-                Judged::Refused(fault) => return Err(fault),
-                Judged::More => {}
+            if let Some(head) = self.seek_head(alloc, seen)? {
+                return Ok(Some(head));
             }
-            if self.bytes().len() >= HEAD_LIMIT {
-                return Err(HttpFault::HeadTooLarge);
-            }
+            seen = self.bytes().len();
             if !self.fill()? {
-                return if self.bytes().is_empty() {
-                    Ok(None)
-                } else {
-                    Err(HttpFault::Short)
-                };
+                return self.end_head(alloc);
             }
         }
     }
@@ -194,6 +239,7 @@ impl<R: Source + Drop> Wire<R> {
         ensures gets { Gets (R.left self.old.source) (R.left self.new.source) self.old.held self.new.held }
         ensures some { result ≡ Ok true → 0 < length self.new.held }
         ensures end { result ≡ Ok false → (self.new.held ≡ []) × WhereTold (R.left self.new.source) (λ left. left ≡ []) }
+        ensures lost { OnErr result ((self.old.held ≡ []) × (self.new.held ≡ [])) }
         ensures faults { IfErr result IsPieceFault }
         ensures cause { HasCause (R.faults self.old.source) (R.faults self.new.source) (result ≡ Err ReadFault) }
     {

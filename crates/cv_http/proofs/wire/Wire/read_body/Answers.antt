@@ -1,4 +1,4 @@
-use Rattle.std.proofs.Common.{rules, ◌≡◌, ◌≤◌, ◌++◌, refl, vec_len}
+use Rattle.std.proofs.Common.{rules, ◌≡◌, ◌≤◌, ◌++◌, ◌∙◌, length, append-nil, ap, refl, arith, vec_len}
 use Rattle.cv_ports.specs.Streams.{front}
 use Rattle.cv_http.specs.Wires.{rest, Reads, BodyRead}
 use Rattle.cv_http.proofs.Streams.{body_on, reads_as, reads_lost, by_fault, body_unread}
@@ -8,8 +8,11 @@ pub returns-in_err-has_some-clause-reads : goal.returns-in_err-has_some-clause-r
 returns-in_err-has_some-clause-reads g c =
     by_fault c.from_residual.result _ (λ r. Reads g.R.Source.left c.args.self.now c.has_some.new.self (λ b. BodyRead c.args.size (λ text body. body ≡ text) b c.has_some.new.self.held r)) c.from_residual.ensures.1
     (reads_as g.R.Source.left c.args.self.now c.has_some.new.self _ _
-    (reads_lost g.R.Source.left c.args.self.now c.parts.self c.has_some.new.self c.has_some.new.self _ c.parts.invariant.reads c.has_some.ensures.gets refl)
-    (λ b read. body_unread (λ text body. body ≡ text) b c.has_some.new.self.held c.args.size _ c.in_err-has_some.ensures.faults))
+    (body_on g.R.Source.left c.args.self.now c.parts.self c.has_some.new.self c.has_some.new.self c.parts.body.items c.parts.body.items c.parts.invariant.reads c.has_some.ensures.gets refl refl)
+    (λ b read.
+    let size : length b ≡ length c.parts.body.items = ap length (read ∙ ap (λ x. c.parts.body.items ++ x) c.in_err-has_some.ensures.lost.1 ∙ append-nil c.parts.body.items) in
+    let below = c.parts-test.true in
+    body_unread (λ text body. body ≡ text) b c.has_some.new.self.held c.args.size _ c.in_err-has_some.ensures.faults (omega (arith, size, below))))
 
 pub returns-then-is_err-clause-reads : goal.returns-then-is_err-clause-reads
 returns-then-is_err-clause-reads g c =

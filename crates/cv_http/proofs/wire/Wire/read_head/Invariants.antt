@@ -1,11 +1,13 @@
-use Rattle.std.proofs.Common.{◌≡◌, ◌≤◌, length, ◌-◌}
-use Rattle.cv_http.specs.Wires.{rest, Gets}
+use Rattle.std.proofs.Common.{◌≤◌, length, ◌-◌}
+use Rattle.cv_http.specs.Wires.{Gets}
+use Rattle.cv_http.specs.HeadEnds.{NoneWithin}
 use Rattle.cv_http.proofs.wire.Wire.read_head.Given as goal
 
 abbrev pub invariant-pieces : goal.invariant-pieces
 invariant-pieces g l = record {
-  stream : rest g.R.Source.left l.self ≡ rest g.R.Source.left l.fn.self;
   gets : Gets (g.R.Source.left l.fn.self.source) (g.R.Source.left l.self.source) l.fn.self.held l.self.held;
+  within : l.seen ≤ length l.self.held;
+  none : NoneWithin l.seen l.self.held;
   later : g.R.Source.faults l.fn.self.source ≤ g.R.Source.faults l.self.source;
 }
 
