@@ -65,6 +65,8 @@ reason_back reason.BadMessageSize = refl
 reason_back reason.BadDigest = refl
 reason_back reason.BadPack = refl
 reason_back reason.BadHeaderSize = refl
+reason_back reason.StoreFailed = refl
+reason_back reason.RevisionsFull = refl
 
 member_back : (name : Member) → is_named name ≡ true → member_of (member_name name) ≡ Some name
 member_back Path h = refl

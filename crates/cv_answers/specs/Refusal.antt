@@ -34,6 +34,8 @@ reason_text reason.BadMessageSize = codes "bad_message_size"
 reason_text reason.BadDigest = codes "bad_digest"
 reason_text reason.BadPack = codes "bad_pack"
 reason_text reason.BadHeaderSize = codes "bad_header_size"
+reason_text reason.StoreFailed = codes "store_failed"
+reason_text reason.RevisionsFull = codes "revisions_full"
 
 -- the members of a refusal without a member's name
 abbrev pub reason_members : Reason → Members
@@ -52,7 +54,7 @@ reasons =
     reason.BadPath ∷ reason.TooManyLeases ∷ reason.NoParent ∷ reason.InvalidToken ∷ reason.WrongKey ∷ reason.JournalFull
     ∷ reason.NoMemory ∷ reason.NoAuthorization ∷ reason.BadAuthorization ∷ reason.UnknownKey ∷ reason.WrongMac
     ∷ reason.NotJson ∷ reason.MissingMember ∷ reason.WrongType ∷ reason.BadValue ∷ reason.UnknownRepository ∷ reason.BadMessageSize
-    ∷ reason.BadDigest ∷ reason.BadPack ∷ reason.BadHeaderSize ∷ []
+    ∷ reason.BadDigest ∷ reason.BadPack ∷ reason.BadHeaderSize ∷ reason.StoreFailed ∷ reason.RevisionsFull ∷ []
 
 -- the reason whose text a text is
 abbrev pub reason_of : List ℕ → Option Reason

@@ -2,7 +2,7 @@
 ghost use Rattle.std.specs.Prelude.{◌≡◌};
 
 /// All reasons.
-const REASONS: [Reason; 20] = [
+const REASONS: [Reason; 22] = [
     Reason::BadPath,
     Reason::TooManyLeases,
     Reason::NoParent,
@@ -23,6 +23,8 @@ const REASONS: [Reason; 20] = [
     Reason::BadDigest,
     Reason::BadPack,
     Reason::BadHeaderSize,
+    Reason::StoreFailed,
+    Reason::RevisionsFull,
 ];
 
 /// Why a request is refused.
@@ -68,6 +70,10 @@ pub enum Reason {
     BadPack,
     /// The pack's header has another length than the message says.
     BadHeaderSize,
+    /// The gateway's store failed.
+    StoreFailed,
+    /// There are as many revisions as may be.
+    RevisionsFull,
 }
 
 impl Reason {
@@ -118,6 +124,8 @@ impl Reason {
             Reason::BadDigest => "bad_digest",
             Reason::BadPack => "bad_pack",
             Reason::BadHeaderSize => "bad_header_size",
+            Reason::StoreFailed => "store_failed",
+            Reason::RevisionsFull => "revisions_full",
         }
     }
 }

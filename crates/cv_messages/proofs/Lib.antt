@@ -1,2 +1,3 @@
 pub mod Spellings
 mod MemberReads
+mod PayloadAsks

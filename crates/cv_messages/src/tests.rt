@@ -1,6 +1,6 @@
 //! What the contracts can't say: values from outside, and that calls find memory.
 
-use crate::{LeaseAsk, Member, MessageFault};
+use crate::{LeaseAsk, Member, MessageFault, PayloadAsk};
 use std::alloc::Global;
 use std::test::Fail;
 
@@ -52,5 +52,47 @@ fn a_lease_message_is_read_and_written(rt: HostRuntime) -> Result<(), Fail> {
     assert!(rt; is_rewritten(rt.alloc(), text)?);
     let twice = br#" {"x":[1.5],"path":"a","path":"b"}"#;
     assert!(rt; asks_for(rt.alloc(), twice, "b")?);
+    Ok(())
+}
+
+/// The payload message of a pack of no objects, whose header has this digest by `sha1sum`.
+const PAYLOAD: &str =
+    r#"{"header_size":12,"payload_digest":"b08a09c720c29d01eac55d89ccc12bad7186d45f","session_token":"1-1"}"#;
+
+/// Texts that are no payload message, and the first fault of each.
+static PAYLOAD_FAULTS: [(&str, MessageFault); 6] = [
+    ("[]", MessageFault::NotJson),
+    ("{}", MessageFault::Missing(Member::SessionToken)),
+    (
+        r#"{"session_token":1,"header_size":1}"#,
+        MessageFault::WrongType(Member::SessionToken),
+    ),
+    (
+        r#"{"session_token":"x","payload_digest":"B08A09c720c29d01eac55d89ccc12bad7186d45f"}"#,
+        MessageFault::BadValue(Member::Digest),
+    ),
+    (
+        r#"{"session_token":"x","payload_digest":"b08a09c720c29d01eac55d89ccc12bad7186d45f","header_size":"012"}"#,
+        MessageFault::BadValue(Member::HeaderSize),
+    ),
+    (
+        r#"{"session_token":"x","payload_digest":"b08a09c720c29d01eac55d89ccc12bad7186d45f","header_size":[12]}"#,
+        MessageFault::WrongType(Member::HeaderSize),
+    ),
+];
+
+#[test]
+fn a_payload_message_has_its_first_fault(rt: HostRuntime) {
+    for (text, fault) in &PAYLOAD_FAULTS {
+        let found = PayloadAsk::read(rt.alloc(), text.as_bytes()).err();
+        assert_eq!(rt; found, Some(*fault), "{text}");
+    }
+}
+
+#[test]
+fn a_payload_message_is_read_and_written(rt: HostRuntime) -> Result<(), Fail> {
+    let ask = PayloadAsk::read(rt.alloc(), PAYLOAD.as_bytes())?;
+    let bytes = ask.write(rt.alloc())?;
+    assert_eq!(rt; bytes.as_slice(), PAYLOAD.as_bytes());
     Ok(())
 }
