@@ -14,6 +14,7 @@ mod Steps
 mod Reach
 pub mod PlaceLaws
 pub mod Walks
+mod Spelled
 mod MarkerLaws
 pub mod NestedLaws
 pub mod Standing
@@ -26,3 +27,4 @@ mod Covering
 mod TestLaws
 mod RenewedLaws
 mod Listing
+pub mod Lemmas

@@ -1,12 +1,11 @@
 -- The paths of rows, one after another, and the rows that stand directly in a directory.
-use Rattle.std.proofs.Common.{◌≡◌, ◌≢◌, ℕ, ◌+◌, ◌<◌, ◌≤◌, ◌↔◌, Bool, true, false, not, ◌&&◌, bytes_eq, List, [], ◌∷◌, ◌++◌, length, take, filter, get_or, refl, sym, ap, subst, ◌∙◌, arith, inl, inr, None, Some}
+use Rattle.std.proofs.Common.{◌≡◌, ◌≢◌, ℕ, ◌+◌, ◌<◌, ◌≤◌, ◌↔◌, Bool, true, false, not, ◌&&◌, bytes_eq, List, [], ◌∷◌, ◌++◌, length, take, filter, get_or, refl, sym, ap, subst, ◌∙◌, arith, inl, inr}
 use Rattle.std.specs.Prelude.{Contains, MatchBool}
 use Rattle.std.specs.Ordering.{is_eq}
 use Rattle.std.specs.Cmp.{tied_itself}
-use Rattle.std.specs.declared.option.Option.{Option}
 use Rattle.std.proofs.lemmas.Bool.{and_parts}
 use Rattle.std.proofs.lemmas.List.{take_more, take_all, get_or_default}
-use Rattle.cv_base.specs.Path.{Path, key_of, covers, same_path, path_cmp}
+use Rattle.cv_base.specs.Path.{Path, key_of, covers, same_path}
 use Rattle.cv_base.specs.PathOrder.{same_path_is, path_total}
 use Rattle.cv_rows.specs.Catalogue.{Contents, IsCatalogue, is_below}
 use Rattle.cv_rows.specs.Listing.{IsListing, is_in}

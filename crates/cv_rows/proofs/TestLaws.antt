@@ -78,7 +78,7 @@ pub parts_moved : (c : Contents) (at : Path) (rows moved : List Row) (nested nes
 parts_moved c at rows moved nested nested_moved is same p q =
     let whole : IsCatalogue (record { at = at; rows = rows; nested = nested }) = subst (λ (x : Contents). IsCatalogue x) same is in
     record {
-      region = region_moved at rows moved nested nested_moved (λ r has. Contains-permutation rows moved r p has) (λ r has. Contains-permutation moved rows r (IsPermutation-sym rows moved p) has) (λ n has. Contains-permutation nested nested_moved n q has) (λ n has. Contains-permutation nested_moved nested n (IsPermutation-sym nested nested_moved q) has) whole.region;
+      region = λ _. region_moved at rows moved nested nested_moved (λ r has. Contains-permutation rows moved r p has) (λ r has. Contains-permutation moved rows r (IsPermutation-sym rows moved p) has) (λ n has. Contains-permutation nested nested_moved n q has) (λ n has. Contains-permutation nested_moved nested n (IsPermutation-sym nested nested_moved q) has) whole.region;
       apart = texts_apart nested nested_moved whole.nested_ordered q;
     }
 
@@ -97,7 +97,7 @@ parts_again c left path at rows more nested more_nested is w same there back res
     let both = filter stay nested ++ filter go nested in
     let moved : IsPermutation nested both = IsPermutation-filter_both stay go (λ n. twice_not (covers path n.path)) nested in
     let parts : AreParts at (left.rows ++ more) both = record {
-      region = region_moved at rows (left.rows ++ more) nested both there back (λ n has. Contains-permutation nested both n moved has) (λ n has. Contains-permutation both nested n (IsPermutation-sym nested both moved) has) whole.region;
+      region = λ _. region_moved at rows (left.rows ++ more) nested both there back (λ n has. Contains-permutation nested both n moved has) (λ n has. Contains-permutation both nested n (IsPermutation-sym nested both moved) has) whole.region;
       apart = texts_apart nested both whole.nested_ordered moved;
     } in
     let left_is : left.nested ≡ filter stay nested = w.nested ∙ ap (λ (x : Contents). filter stay x.nested) same in
@@ -110,7 +110,7 @@ parts_more c at p rows more all nested all_nested is same some all_is nested_is 
     let whole : IsCatalogue (record { at = at; rows = rows; nested = nested }) = subst (λ (x : Contents). IsCatalogue x) same is in
     let there : (r : Row) → Contains more r → Contains rows r = λ r has. subst (λ (x : Contents). Contains x.rows r) same (was_there p c.rows r (subst (λ (x : List Row). Contains x r) some has)) in
     let parts : AreParts at (rows ++ more) nested = record {
-      region = region_moved at rows (rows ++ more) nested nested (λ r has. Contains-append_left rows more r has) (λ r has. elim (Contains-append_cases rows more r has) [ inl here ↦ here | inr again ↦ there r again ]) (λ n has. has) (λ n has. has) whole.region;
+      region = λ _. region_moved at rows (rows ++ more) nested nested (λ r has. Contains-append_left rows more r has) (λ r has. elim (Contains-append_cases rows more r has) [ inl here ↦ here | inr again ↦ there r again ]) (λ n has. has) (λ n has. has) whole.region;
       apart = texts_apart nested nested whole.nested_ordered (IsPermutation-refl nested);
     } in
     subst (λ (x : List Row). AreParts at x all_nested) (sym all_is) (subst (λ (x : List Nested). AreParts at (rows ++ more) x) (sym nested_is) parts)

@@ -1,11 +1,11 @@
 -- The path of a row, found step by step.
-use Rattle.std.proofs.Common.{◌≡◌, ◌≢◌, ℕ, ◌+◌, ◌-◌, ◌<◌, ◌≤◌, Bool, true, false, ltb, List, [], ◌∷◌, ◌++◌, length, get_or, Option, Some, None, Result, Ok, Err, refl, sym, ap, subst, ◌∙◌, arith, inl, inr, length-append}
-use Rattle.std.specs.Prelude.{IfOk, IsTrue, ◌↔◌, MatchOption}
+use Rattle.std.proofs.Common.{◌≡◌, ◌≢◌, ℕ, ◌+◌, ◌-◌, ◌<◌, ◌≤◌, true, false, ltb, List, [], ◌∷◌, ◌++◌, length, get_or, Option, Some, None, Result, Ok, Err, refl, sym, ap, subst, ◌∙◌, arith, inl, inr, length-append}
+use Rattle.std.specs.Prelude.{IfOk}
 use Rattle.std.specs.List.{All, list_all}
 use Rattle.std.specs.List.Sorted.{IsStrictlySortedBy}
 use Rattle.std.proofs.lemmas.Bool.{cases_lt, le-ltb}
 use Rattle.std.proofs.lemmas.List.{get_or_default}
-use Rattle.cv_base.specs.Path.{Path, IsPath, text_of, key_of, is_path_name, last_name_of}
+use Rattle.cv_base.specs.Path.{Path, IsPath, text_of, is_path_name}
 use Rattle.cv_base.specs.PathText.{joined, IsUnlessMemory}
 use Rattle.cv_base.specs.declared.path_fault.PathFault.{PathFault}
 use Rattle.cv_base.specs.declared.path_fault.PathFault.TheVariants.{BadName, TooLong, TooDeep, NoMemory}
@@ -24,7 +24,7 @@ all_front : (p : Path) (name : List ℕ) → list_all is_path_name (p ++ name �
 all_front [] name h = refl
 all_front (a ∷ p) name h = rw (first_true (is_path_name a) (list_all is_path_name (p ++ name ∷ [])) h) (all_front p name (second_true (is_path_name a) (list_all is_path_name (p ++ name ∷ [])) h))
 
-all_last : (p : Path) (name : List ℕ) → list_all is_path_name (p ++ name ∷ []) ≡ true → is_path_name name ≡ true
+pub all_last : (p : Path) (name : List ℕ) → list_all is_path_name (p ++ name ∷ []) ≡ true → is_path_name name ≡ true
 all_last [] name h = first_true (is_path_name name) true h
 all_last (a ∷ p) name h = all_last p name (second_true (is_path_name a) (list_all is_path_name (p ++ name ∷ [])) h)
 
@@ -155,7 +155,7 @@ if_below at rows top parents i left r placing stand lt apart r-is above has (Ok 
 if_below at rows top parents i left r placing stand lt apart r-is above has (Err e) is = tt
 
 -- as many names as a path may have are left
-has_path : (at : Path) (rows : List Row) (i left : ℕ) (found : Option Path) → 64 ≤ length at + left → IsPathOf at rows i left found → HasPath at rows i found
+pub has_path : (at : Path) (rows : List Row) (i left : ℕ) (found : Option Path) → 64 ≤ length at + left → IsPathOf at rows i left found → HasPath at rows i found
 has_path at rows i left None enough none = λ d q s is. omega (arith, none d q s is, is.depth)
 has_path at rows i left (Some path) enough has = has
 
@@ -186,32 +186,6 @@ all_stand_is at rows top parents far n placing above before all = λ j d lj.
     stands_above at rows top parents placing.ordered placing.inside placing.is_root placing.are 65536 j d lj (sym (above.each j (omega (arith, placing.are.size))) ∙ before j (omega arith))
 
 -- ---- rows that fit
-
-abbrev Fits : Path → Row → Path → Type 0
-Fits at r q = (r.key.0 ≡ key_of q) × (IsRoot at r → r.name ≡ last_name_of at)
-
-pub row_fits : (at : Path) (rows : List Row) (i : ℕ) (r : Row) (found : Option Path) (result : Bool) → i < length rows → r ≡ get_or rows i r → HasPath at rows i found → MatchOption found (result ≡ false) (λ path. IsTrue result ↔ Fits at r path) → result ≡ true
-    → (d : Row) → (q : Path) × StandsAt at rows (get_or rows i d) q × FitsAt at (get_or rows i d) q
-row_fits at rows i r None result lt r-is has tells passed d = absurd cc
-row_fits at rows i r (Some path) result lt r-is has tells passed d =
-    let fits = tells.0 passed in
-    let same : r ≡ get_or rows i d = r-is ∙ get_or_default rows i r d lt in
-    (path, has.1 d, subst (λ (x : Row). FitsAt at x path) same (record { key = fits.0; path = has.0; name = fits.1 }))
-
-pub row_misplaced : (at : Path) (rows : List Row) (i : ℕ) (r : Row) (found : Option Path) (result : Bool) → i < length rows → All (λ r. (q : Path) × StandsAt at rows r q) rows → r ≡ get_or rows i r → HasPath at rows i found
-    → MatchOption found (result ≡ false) (λ path. IsTrue result ↔ Fits at r path) → result ≡ false → (d : Row) → IsMisplaced at rows (get_or rows i d)
-row_misplaced at rows i r None result lt stand r-is has tells no_fit d =
-    let s = stand i d lt in
-    (s.0, s.1, λ fit. has d s.0 s.1 fit.path)
-row_misplaced at rows i r (Some path) result lt stand r-is has tells no_fit d =
-    let same : get_or rows i d ≡ r = sym (r-is ∙ get_or_default rows i r d lt) in (
-      path,
-      has.1 d,
-      λ fit.
-          let own : FitsAt at r path = subst (λ (x : Row). FitsAt at x path) same fit in
-          let passed : result ≡ true = tells.1 (own.key, own.name) in
-          cc,
-    )
 
 -- the rows before fit, and this one doesn't
 pub first_misplaced_is : (at : Path) (rows : List Row) (i : ℕ) → IsStrictlySortedBy row_cmp rows → ((k : ℕ) (d : Row) → k < i → (q : Path) × StandsAt at rows (get_or rows k d) q × FitsAt at (get_or rows k d) q) → i < length rows

@@ -1,6 +1,6 @@
 -- The first fault of bytes that are no row file: that of a field, or else the first rule that rows and
 -- nested entries break.
-use Rattle.std.specs.Prelude.{◌≡◌, ◌≢◌, ℕ, ◌+◌, ◌-◌, ◌<◌, ◌⊎◌, List, length, slice_index_or, Contains, Result, Ok, Err}
+use Rattle.std.specs.Prelude.{◌≡◌, ◌≢◌, ℕ, Bool, true, false, ◌+◌, ◌-◌, ◌<◌, ◌⊎◌, List, length, slice_index_or, Contains, Result, Ok, Err}
 use Rattle.std.specs.declared.cmp.Ordering.{Ordering}
 use Rattle.std.specs.declared.cmp.Ordering.TheVariants.{Less}
 use Rattle.std.specs.List.{All, AllWithin, AllAdjacentBelow, HoldsAt}
@@ -47,6 +47,11 @@ IsOrphan at rows r = (q : Path) → StandsAt at rows r q → ⊥
 
 abbrev pub IsMisplaced : Path → List Row → Row → Type 0
 IsMisplaced at rows r = (q : Path) × StandsAt at rows r q × (FitsAt at r q → ⊥)
+
+-- what is told of the row at an index: whether it stands at a path that it fits
+abbrev pub IsPlaced : Path → List Row → ℕ → Bool → Type 0
+IsPlaced at rows i true = (d : Row) → (q : Path) × StandsAt at rows (slice_index_or rows i d) q × FitsAt at (slice_index_or rows i d) q
+IsPlaced at rows i false = (d : Row) → IsMisplaced at rows (slice_index_or rows i d)
 
 -- without a root row every row is an orphan, and so is the first where there are no rows
 abbrev pub IsFirstOrphan : Path → List Row → ℕ → Type 0

@@ -36,10 +36,10 @@ by_text nested = values (from_entries {R = bytes_cmp} (map (λ n. (text_of n.pat
 abbrev pub in_order : Path → List Row → List Nested → Contents
 in_order at rows nested = record { at = at; rows = by_key rows; nested = by_text nested }
 
--- they keep the rules of a catalogue at this place, but that they may stand in any order, that keys may be equal, and that
--- a limit may be passed
+-- where no two rows have one key, they keep the rules of a catalogue at this place, but that they may stand in any order, and
+-- that a limit may be passed. Of rows with one key no more is asked: the rules go by keys, and say nothing of them
 pub record AreParts (at : Path) (rows : List Row) (nested : List Nested) : Type 0 where
-  pub region : IsRegion at rows nested
+  pub region : AreApart (keys_of rows) → IsRegion at rows nested
   pub apart : AreApart (texts_of nested)
 
 -- more than 50,000 rows, or more than 16 MiB of bytes

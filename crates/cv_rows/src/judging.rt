@@ -82,8 +82,8 @@ fn passes_limit(rows: &[Row], nested: &[Nested]) -> bool
 
 /// Why no catalogue has these rows and nested entries, if none has.
 pub fn judge(alloc: Global, rows: &[Row], nested: &[Nested]) -> Result<(), WithFault>
-    requires spelled { AllByRecursion IsRow rows.now }
-    requires nested_spelled { AllByRecursion IsNested nested.now }
+    requires spelled { AreApart (keys_of rows.now) → AllByRecursion IsRow rows.now }
+    requires nested_spelled { AreApart (keys_of rows.now) → AllByRecursion IsNested nested.now }
     ensures { Judges rows.now nested.now result }
 {
     if let Some(first) = key_twice(alloc, rows)? {
@@ -104,8 +104,8 @@ pub fn extend(
     more_rows: Vec<Row>,
     more_nested: Vec<Nested>,
 ) -> Result<(), WithFault>
-    requires spelled { AllByRecursion IsRow (rows.old.items ++ more_rows.items) }
-    requires nested_spelled { AllByRecursion IsNested (nested.old.items ++ more_nested.items) }
+    requires spelled { AreApart (keys_of (rows.old.items ++ more_rows.items)) → AllByRecursion IsRow (rows.old.items ++ more_rows.items) }
+    requires nested_spelled { AreApart (keys_of (rows.old.items ++ more_rows.items)) → AllByRecursion IsNested (nested.old.items ++ more_nested.items) }
     ensures rows { OnOk result (rows.new.items ≡ rows.old.items ++ more_rows.items) }
     ensures nested { OnOk result (nested.new.items ≡ nested.old.items ++ more_nested.items) }
     ensures judges { Judges (rows.old.items ++ more_rows.items) (nested.old.items ++ more_nested.items) result }

@@ -19,6 +19,7 @@ mod row;
 mod row_fault;
 mod row_kind;
 mod rules;
+mod spelling;
 mod with_fault;
 mod write;
 

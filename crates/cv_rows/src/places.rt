@@ -2,11 +2,11 @@
 ghost use Rattle.std.specs.Prelude.{◌≡◌, ◌≢◌, ℕ, ◌+◌, ◌<◌, ◌≤◌, ◌↔◌, false, None, List, length, IsTrue, IfOk, MatchOption, Contains, slice_index_or};
 ghost use Rattle.std.specs.List.{HoldsAt, All};
 ghost use Rattle.std.specs.List.Sorted.{IsStrictlySortedBy};
-ghost use Rattle.cv_base.specs.Path.{key_of, IsPath, last_name_of};
+ghost use Rattle.cv_base.specs.Path.{IsPath};
 ghost use Rattle.cv_rows.specs.Catalogue.{row_cmp};
 ghost use Rattle.cv_rows.specs.Places.{IsRoot, IsChild, StandsAt, StandEach};
 ghost use Rattle.cv_rows.specs.Parents.{IsParentOf, AreParents, AreAbove, AreInside, IsPlacing, IsPathOf, HasPath, IsBelow};
-ghost use Rattle.cv_rows.specs.Faults.{IsFirst, IsOrphan, IsMisplaced, AllStand, AllFit};
+ghost use Rattle.cv_rows.specs.Faults.{IsFirst, IsOrphan, AllStand, AllFit};
 ghost use Rattle.cv_base.specs.declared.path_fault.PathFault.TheVariants as faults;
 ghost use Rattle.cv_rows.specs.declared.row.Row.{Row as TheRow};
 
@@ -279,44 +279,6 @@ fn further(alloc: Global, above: RepoPath, name: &str) -> Result<Option<RepoPath
         Ok(path) => Ok(Some(path)),
         Err(fault) => none_unless_memory(fault),
     }
-}
-
-/// Whether a row fits the path at which it stands.
-fn fits(at: &RepoPath, row: &Row, path: &RepoPath) -> bool
-    ensures { IsTrue result ↔ ((row.now.key.0 ≡ key_of path.now) × (IsRoot at.now row.now → row.now.name ≡ last_name_of at.now)) }
-{
-    row.key.0 == path.key().0 && (!is_root(at, row) || row.name.text() == at.last_name())
-}
-
-/// Whether a row fits the path at which it stands, if it passes no limit.
-fn fits_if_any(at: &RepoPath, row: &Row, path: &Option<RepoPath>) -> bool
-    ensures { MatchOption path.now (result ≡ false) (λ path. IsTrue result ↔ ((row.now.key.0 ≡ key_of path) × (IsRoot at.now row.now → row.now.name ≡ last_name_of at.now))) }
-{
-    match path {
-        Some(path) => fits(at, row, path),
-        None => false,
-    }
-}
-
-/// The index of the first row that doesn't fit the path at which it stands.
-pub fn first_misplaced(
-    alloc: Global,
-    at: &RepoPath,
-    rows: &[Row],
-    root: usize,
-    parents: &[usize],
-) -> Result<Option<usize>, NoMemory>
-    requires placing { IsPlacing at.now rows.now root parents.now }
-    requires stand { All (λ r. (q : List (List ℕ)) × StandsAt at.now rows.now r q) rows.now }
-    ensures { IfOk result (λ found. MatchOption found (AllFit at.now rows.now) (IsFirst (IsMisplaced at.now rows.now) rows.now)) }
-{
-    for row in 0..rows.len() {
-        let path = path_of_row(alloc, at, rows, root, parents, row)?;
-        if !fits_if_any(at, &rows[row], &path) {
-            return Ok(Some(row));
-        }
-    }
-    Ok(None)
 }
 
 /// Whether a row stands at the path of these names.

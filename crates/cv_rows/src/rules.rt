@@ -11,10 +11,11 @@ use crate::markers::first_marked_badly;
 use crate::nested::Nested;
 use crate::nested_list::{first_unlisted, first_unnamed};
 use crate::order::{nested_disorder, row_disorder};
-use crate::places::{first_misplaced, first_orphan, parents, root_position};
+use crate::places::{first_orphan, parents, root_position};
 use crate::reading::{Entries, read_file};
 use crate::row::Row;
 use crate::row_fault::RowFault;
+use crate::spelling::first_misplaced;
 use cv_base::RepoPath;
 use std::alloc::Global;
 

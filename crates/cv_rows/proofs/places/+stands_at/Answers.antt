@@ -1,8 +1,4 @@
-use Rattle.std.proofs.Common.{◌∙◌, sym, ap}
-use Rattle.std.specs.Bool.{Decides}
 use Rattle.std.proofs.lemmas.Slice.Eq.{slice_eq-Decides}
-use Rattle.cv_base.specs.PathOrder.{same_name_is, same_name_itself}
-use Rattle.cv_rows.specs.declared.row.Row.{Row}
 use Rattle.cv_rows.proofs.Standing.{same_names, at_root, no_names, other_name, without_parent, goes_up}
 use Rattle.cv_rows.proofs.places.+stands_at.Goals as goal
 

@@ -1,5 +1,3 @@
-use Rattle.std.proofs.Common.{None, get_or}
-use Rattle.cv_rows.specs.Parents.{HasPath}
 use Rattle.cv_rows.proofs.places.path_there.Goals as goal
 
 pub unreachable-requires : goal.unreachable-requires

@@ -1,4 +1,4 @@
-use Rattle.std.proofs.Common.{ℕ, ◌<◌, ◌^◌, List, sym, subst, arith}
+use Rattle.std.proofs.Common.{◌<◌, ◌^◌, List, sym, subst, arith}
 use Rattle.cv_rows.specs.Catalogue.{IsCatalogue}
 use Rattle.cv_rows.specs.declared.nested.Nested.{Nested}
 use Rattle.cv_rows.proofs.RuleLaws.{contents}

@@ -1,10 +1,20 @@
 use Rattle.std.proofs.Common.{List, ◌++◌, Err, sym, ap, subst, ◌∙◌}
-use Rattle.cv_rows.specs.Catalogue.{Contents, IsRegion}
-use Rattle.cv_rows.specs.Made.{AreApart, Judges, keys_of, texts_of}
+use Rattle.cv_rows.specs.Catalogue.{Contents}
+use Rattle.cv_rows.specs.Made.{AreApart, AreParts, Judges, keys_of, texts_of}
 use Rattle.cv_rows.specs.declared.row.Row.{Row}
 use Rattle.cv_rows.specs.declared.nested.Nested.{Nested}
 use Rattle.cv_rows.proofs.Regions.{full_is, catalogue_made}
 use Rattle.cv_rows.proofs.catalogue.Catalogue.with.Goals as goal
+
+pub extend-requires-clause-spelled : goal.extend-requires-clause-spelled
+extend-requires-clause-spelled c = λ apart.
+    let parts = subst (λ (x : Contents). AreParts x.at (x.rows ++ c.args.rows.items) (x.nested ++ c.args.nested.items)) (sym c.self.view_is) c.requires in
+    (parts.region apart).spelled
+
+pub extend-requires-clause-nested_spelled : goal.extend-requires-clause-nested_spelled
+extend-requires-clause-nested_spelled c = λ apart.
+    let parts = subst (λ (x : Contents). AreParts x.at (x.rows ++ c.args.rows.items) (x.nested ++ c.args.nested.items)) (sym c.self.view_is) c.requires in
+    (parts.region apart).nested_spelled
 
 pub rows_by_key-requires : goal.rows_by_key-requires
 rows_by_key-requires c = subst (λ (rows : List Row). AreApart (keys_of rows)) (sym c.in-Ok.ensures.rows) c.in-Ok.ensures.judges.0
@@ -16,7 +26,8 @@ nested_by_text-requires c =
 pub invariant_of-result : goal.invariant_of-result
 invariant_of-result c =
     let e = c.in-Ok.ensures in
-    let region = subst (λ (x : Contents). IsRegion x.at (x.rows ++ c.args.rows.items) (x.nested ++ c.args.nested.items)) (sym c.self.view_is) c.requires.region in
+    let parts = subst (λ (x : Contents). AreParts x.at (x.rows ++ c.args.rows.items) (x.nested ++ c.args.nested.items)) (sym c.self.view_is) c.requires in
+    let region = parts.region e.judges.0 in
     catalogue_made c.self.inside.at c.extend.new.rows.items c.rows_by_key.result.items c.extend.new.nested.items c.nested_by_text.result.items
     (rw (e.rows, e.nested) region) (rw (e.rows, e.nested) e.judges.1) c.rows_by_key.ensures.permutation c.nested_by_text.ensures.permutation c.rows_by_key.ensures.sorted c.nested_by_text.ensures.sorted
 
@@ -31,6 +42,7 @@ returns-in-Err-clause-full c = λ is.
 pub returns-in-Ok-clause-rules : goal.returns-in-Ok-clause-rules
 returns-in-Ok-clause-rules c =
     let e = c.in-Ok.ensures in
-    let region = subst (λ (x : Contents). IsRegion x.at (x.rows ++ c.args.rows.items) (x.nested ++ c.args.nested.items)) (sym c.self.view_is) c.requires.region in
+    let parts = subst (λ (x : Contents). AreParts x.at (x.rows ++ c.args.rows.items) (x.nested ++ c.args.nested.items)) (sym c.self.view_is) c.requires in
+    let region = parts.region e.judges.0 in
     catalogue_made c.self.inside.at c.extend.new.rows.items c.rows_by_key.result.items c.extend.new.nested.items c.nested_by_text.result.items
     (rw (e.rows, e.nested) region) (rw (e.rows, e.nested) e.judges.1) c.rows_by_key.ensures.permutation c.nested_by_text.ensures.permutation c.rows_by_key.ensures.sorted c.nested_by_text.ensures.sorted

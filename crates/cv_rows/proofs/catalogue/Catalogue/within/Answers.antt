@@ -1,4 +1,4 @@
-use Rattle.std.proofs.Common.{List, ◌≡◌, refl, sym, ap, subst, ◌∙◌, filter, Bool}
+use Rattle.std.proofs.Common.{List, ◌≡◌, sym, ap, subst, ◌∙◌, filter, Bool}
 use Rattle.std.specs.Ordering.{nat_cmp}
 use Rattle.std.specs.Cmp.Lexicographic.{slice_cmp}
 use Rattle.std.specs.BTreeSet.{contains}

@@ -3,7 +3,7 @@ use Rattle.cv_base.specs.Path.{Path}
 use Rattle.cv_rows.specs.Places.{StandsAt}
 use Rattle.cv_rows.specs.Catalogue.{FitsAt}
 use Rattle.cv_rows.specs.declared.row.Row.{Row}
-use Rattle.cv_rows.proofs.places.first_misplaced.Given as goal
+use Rattle.cv_rows.proofs.spelling.first_misplaced.Given as goal
 
 abbrev pub invariant-loop-row : goal.invariant-loop-row
 invariant-loop-row l =

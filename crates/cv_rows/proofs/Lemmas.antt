@@ -1,0 +1,10 @@
+-- What this crate proves for those above it: how rows stand, and how row files are spelled and put in order.
+pub use Rattle.cv_rows.proofs.Covers.{covers_below, covers_last, ends_so, not_above}
+pub use Rattle.cv_rows.proofs.FileLaws.{one_file}
+pub use Rattle.cv_rows.proofs.NestedLaws.{fits_there}
+pub use Rattle.cv_rows.proofs.PlaceLaws.{one_place, same_by_key, stands_contained}
+pub use Rattle.cv_rows.proofs.Regions.{file_len, same_test, stands_among}
+pub use Rattle.cv_rows.proofs.RuleLaws.{has_file}
+pub use Rattle.cv_rows.proofs.Sorting.{nested_total, row_total}
+pub use Rattle.cv_rows.proofs.Texts.{path_name-target}
+pub use Rattle.cv_rows.proofs.Walks.{no_longer}
