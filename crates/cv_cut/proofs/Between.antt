@@ -10,7 +10,7 @@ use Rattle.cv_base.specs.PathOrder.{path_exact}
 use Rattle.cv_base.proofs.PathPrefixes.{behind-Some, behind-append}
 use Rattle.cv_tree.specs.Tree.{Nodes, at, is_directory}
 use Rattle.cv_tree.specs.declared.node.Node.{Node}
-use Rattle.cv_tree.proofs.Replacements.{get-at}
+use Rattle.cv_tree.proofs.Laws.{get-at}
 use Rattle.cv_cut.specs.Cuts.{is_file, is_marked, is_cut, is_inner, is_near, cuts_of, between}
 use Rattle.cv_cut.specs.Cut.{is_other}
 use Rattle.cv_cut.proofs.Members.{none_there, first_there, later_there, first_or_later, comes_from, goes_to, passing}

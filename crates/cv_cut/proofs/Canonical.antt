@@ -7,7 +7,7 @@ use Rattle.std.specs.FinMap.{get, from_entries, values}
 use Rattle.cv_base.specs.Path.{Path, overlap, text_of}
 use Rattle.cv_tree.specs.Tree.{Nodes, IsTree, at, put, is_directory}
 use Rattle.cv_tree.specs.declared.node.Node.{Node}
-use Rattle.cv_tree.proofs.Replacements.{get-at, at-put, at-put_apart, at-at}
+use Rattle.cv_tree.proofs.Laws.{get-at, at-put, at-put_apart, at-at}
 use Rattle.cv_base.specs.Marker.{marker}
 use Rattle.cv_rows.specs.Catalogue.{bytes_cmp, catalogue_bytes}
 use Rattle.cv_cut.specs.Cuts.{is_file, is_inner, inner, region}

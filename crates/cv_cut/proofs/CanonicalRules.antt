@@ -15,7 +15,7 @@ use Rattle.cv_base.specs.Path.{Path, same_path, text_of}
 use Rattle.cv_base.specs.PathOrder.{path_total, same_path_is}
 use Rattle.cv_base.proofs.Bools.{first_true, second_true}
 use Rattle.cv_tree.specs.Tree.{Nodes, IsTree, at, is_directory}
-use Rattle.cv_tree.proofs.Replacements.{get-at}
+use Rattle.cv_tree.proofs.Laws.{get-at}
 use Rattle.cv_tree.specs.declared.node.Node.{Node}
 use Rattle.cv_rows.specs.Row.{row_bytes}
 use Rattle.cv_rows.specs.Nested.{nested_bytes}
@@ -30,7 +30,7 @@ use Rattle.cv_cut.proofs.RegionRules.{stands_at_cut, region_rules}
 use Rattle.cv_cut.proofs.RegionLists.{row_list, nested_list, row_list_are, nested_list_are, keys_apart, texts_apart, rows_of-by_key, nested_of-by_text}
 use Rattle.cv_cut.proofs.Sorted.{order_moves, order_rises}
 use Rattle.cv_cut.proofs.Ends.{back}
-use Rattle.cv_cut.specs.Region.{KeysApart, AreRowsOf, IsOther, AreEntriesOf, row_at}
+use Rattle.cv_cut.specs.Region.{KeysApart, AreRowsOf, IsOther, AreEntriesOf, FitsAtCut, row_at}
 
 -- ---- lists in another order
 
@@ -129,29 +129,38 @@ not_full n m h = elim (cases_lt n m) [ inl lt ↦ absurd (h lt) | inr le ↦ le 
 pub cat_fits : (t : Nodes) (c : Path) → Fits t → is_cut t c ≡ true → length (cat t c) ≤ 16777216
 cat_fits t c fits cut = not_full 16777216 (length (cat t c)) (λ lt. fits.limits c (record { is_cut_ = cut; passes = inr lt }))
 
-pub canonical : (t : Nodes) (c : Path) → IsTree t → is_cut t c ≡ true → Fits t → IsCatalogue (contents_of t c)
-canonical t c tree cut fits =
+-- a tree that fits does so at each cut
+pub fits_at_cut : (t : Nodes) (c : Path) → is_cut t c ≡ true → Fits t → FitsAtCut t c
+fits_at_cut t c cut fits = record {
+  apart = region_apart t c cut fits.apart;
+  limits = fits.limits c;
+  sizes = λ d o. (let le = cat_fits t (c ++ d) fits (other_cut t c d o) in small (length (cat t (c ++ d))) le);
+}
+  where
+    small : (n : ℕ) → n ≤ 16777216 → n < 2 ^ 64
+    small n h = omega arith
+
+pub canonical_at : (t : Nodes) (c : Path) → IsTree t → is_cut t c ≡ true → FitsAtCut t c → IsCatalogue (contents_of t c)
+canonical_at t c tree cut fits =
     let u = at t c in
     let file = λ (d : Path). cat t (c ++ d) in
     let here = stands_at_cut t c tree cut in
-    let apart = region_apart t c cut fits.apart in
-    let keys = keys_apart c u apart in
+    let keys = keys_apart c u fits.apart in
     let texts = texts_apart c u file here in
     let rows = row_list c u in
     let nested = nested_list c u file in
     let moved = order_moves (λ r. r.key.0) rows keys in
     let moved_nested = order_moves (λ n. text_of n.path) nested texts in
-    let sizes = λ (d : Path) (o : IsOther u d). (let le = cat_fits t (c ++ d) fits (other_cut t c d o) in small (length (cat t (c ++ d))) le) in
-    let count : length (region u) ≤ 50000 = not_full 50000 (length (region u)) (λ lt. fits.limits c (record { is_cut_ = cut; passes = inl lt })) in
-    let bytes = cat_fits t c fits cut in
+    let count : length (region u) ≤ 50000 = not_full 50000 (length (region u)) (λ lt. fits.limits (record { is_cut_ = cut; passes = inl lt })) in
+    let bytes = not_full 16777216 (length (cat t c)) (λ lt. fits.limits (record { is_cut_ = cut; passes = inr lt })) in
     let made : IsCatalogue (in_order c rows nested) = record {
-      region = region_rules c u file (by_key rows) (by_text nested) here apart (rows_moved c u rows (by_key rows) moved (row_list_are c u)) (entries_moved c u file nested (by_text nested) moved_nested (nested_list_are c u file)) sizes;
+      region = region_rules c u file (by_key rows) (by_text nested) here fits.apart (rows_moved c u rows (by_key rows) moved (row_list_are c u)) (entries_moved c u file nested (by_text nested) moved_nested (nested_list_are c u file)) fits.sizes;
       ordered = order_rises (λ r. r.key.0) rows keys;
       nested_ordered = order_rises (λ n. text_of n.path) nested texts;
       count = omega (arith, count, order_count rows keys, length-map (region u) (λ e. row_at c u e.0 e.1));
       size = subst (λ (x : List ℕ). length x ≤ 16777216) (cat_in_order t c tree cut) bytes;
     } in
     subst IsCatalogue (λ i. record { at = c; rows = sym (rows_of-by_key c u) i; nested = sym (nested_of-by_text c u file) i }) made
-  where
-    small : (n : ℕ) → n ≤ 16777216 → n < 2 ^ 64
-    small n h = omega arith
+
+pub canonical : (t : Nodes) (c : Path) → IsTree t → is_cut t c ≡ true → Fits t → IsCatalogue (contents_of t c)
+canonical t c tree cut fits = canonical_at t c tree cut (fits_at_cut t c cut fits)

@@ -1,10 +1,11 @@
 -- Paths of a region that share a key, by their places in it.
-use Rattle.std.proofs.Common.{◌≡◌, ℕ, ◌<◌, ◌≤◌, ◌+◌, true, Some, List, ◌++◌, map, reverse, length, get_or, sym, ap, subst, ◌∙◌, arith, is_some, ◌⊎◌, inl, inr, Result, Ok, Err}
-use Rattle.std.specs.Prelude.{Contains, slice_get, IfErr, IsErrAnd}
+use Rattle.std.proofs.Common.{◌≡◌, ℕ, ◌<◌, ◌≤◌, ◌+◌, true, Some, List, ◌++◌, map, reverse, length, get_or, sym, ap, subst, ◌∙◌, arith, is_some, Result, Ok, Err}
+use Rattle.std.specs.Prelude.{Contains, slice_get, take, IfErr, IsErrAnd}
+use Rattle.std.specs.List.{All}
 use Rattle.std.specs.BTreeMap.{BTreeMap}
 use Rattle.std.specs.FinMap.{get, entries, keys}
-use Rattle.std.proofs.lemmas.Bool.{cases_lt}
-use Rattle.std.proofs.lemmas.List.{length-map, get_or_default}
+use Rattle.std.proofs.lemmas.List.{length-map, take_all}
+use Rattle.std.proofs.lemmas.List.Elements.{All-more, All-contains}
 use Rattle.std.proofs.lemmas.List.Sorted.{IsPermutation-reverse, IsPermutation-sym, Contains-permutation}
 use Rattle.std.proofs.lemmas.Option.{slice_get-get_or, slice_get_within}
 use Rattle.cv_base.specs.Path.{Path, key_of}
@@ -14,7 +15,8 @@ use Rattle.cv_tree.specs.declared.node.Node.{Node}
 use Rattle.cv_rows.specs.Made.{AreApart}
 use Rattle.cv_cut.specs.Cuts.{cuts_of, is_cut, region}
 use Rattle.cv_cut.specs.Catalogues.{IsInRegion, SharesKey}
-use Rattle.cv_cut.specs.Cut.{AreSame, ShareKey, IsCollision, IsShared, keys_at, region_at}
+use Rattle.cv_cut.specs.Cut.{AreSame, ShareKey, IsCollision, IsCutFault, IsShared, keys_at, region_at}
+use Rattle.cv_cut.specs.Region.{KeysApart}
 use Rattle.cv_cut.specs.declared.cut_fault.CutFault.{CutFault}
 use Rattle.cv_cut.specs.declared.cut_fault.CutFault.TheVariants.{PathCollision, CatalogueFull, NoMemory}
 use Rattle.cv_cut.proofs.Members.{comes_from, goes_to, passes, passing}
@@ -22,7 +24,7 @@ use Rattle.cv_cut.proofs.Entries.{has_entry}
 use Rattle.cv_cut.proofs.Seen.{HasSeen, all_seen}
 use Rattle.cv_cut.proofs.Twice.{image_at, image_there, stands_there, StandOnce, once_image}
 use Rattle.cv_cut.proofs.CanonicalRules.{cut_some}
-use Rattle.cv_cut.proofs.RegionLists.{region_near, near_region, region_once}
+use Rattle.cv_cut.proofs.RegionLists.{region_near, region_once, rows_tell_keys, keys_at_are}
 use Rattle.cv_cut.proofs.Ends.{back}
 use Rattle.cv_cut.proofs.Regions.{some_node}
 
@@ -96,6 +98,10 @@ region_paths_once t c = once_image (λ e. e.0) (region_at t c)
         let value : a.1 ≡ b.1 = some_same a.1 b.1 (sym one ∙ ap (get (at t c)) is ∙ two) in
         λ i. (is i, value i)
 
+-- all of a list that was gone through
+pub all_apart : (t : Nodes) (cuts : List Path) (n : ℕ) → length cuts ≤ n → All (λ c. KeysApart c (at t c)) (take n cuts) → All (λ c. KeysApart c (at t c)) cuts
+all_apart t cuts n all h = subst (λ (cs : List Path). All (λ c. KeysApart c (at t c)) cs) (take_all n cuts all) h
+
 -- two places of one key are two paths that share it
 pub sharing : (t : Nodes) (c : Path) (fault : CutFault) → is_cut t c ≡ true → IsCollision (region_at t c) fault → IsShared t fault
 sharing t c (PathCollision p q) cut same = record {
@@ -110,47 +116,34 @@ sharing t c (CatalogueFull d) cut same = absurd same
 sharing t c NoMemory cut same = tt
 
 -- where the keys of each region are apart no two paths share one
-pub no_sharing : (t : Nodes) → ((c : Path) → is_cut t c ≡ true → AreApart (keys_at (region_at t c))) → (p q : Path) → SharesKey t p q → ⊥
+pub no_sharing : (t : Nodes) → ((c : Path) → is_cut t c ≡ true → KeysApart c (at t c)) → (p q : Path) → SharesKey t p q → ⊥
 no_sharing t apart p q s =
-    let one = key_place s.cut p s.first in
-    let other = key_place s.cut q s.second in
-    elim (apart_or_same one.0 other.0) [
-      | inl lt ↦ apart s.cut s.is_cut_ (key_of p) (record { first = one.0; second = other.0; order = lt; one = one.1; other = other.1 ∙ ap Some (sym s.keys) })
-      | inr rest ↦ elim rest [
-        | inl gt ↦ apart s.cut s.is_cut_ (key_of p) (record { first = other.0; second = one.0; order = gt; one = other.1 ∙ ap Some (sym s.keys); other = one.1 })
-        | inr same ↦ s.differ (some_same p q (sym one.2 ∙ ap (slice_get (map (λ e. e.0) (region_at t s.cut))) same ∙ other.2))
-      ]
-    ]
-  where
-    key_place : (c p : Path) → IsInRegion t c p → (i : ℕ) × (slice_get (keys_at (region_at t c)) i ≡ Some (key_of p)) × (slice_get (map (λ e. e.0) (region_at t c)) i ≡ Some p)
-    key_place c p r =
-        let n = some_node (get (at t c) r.0) r.2 in
-        let has = near_region (at t c) r.0 n.0 (record { there = n.1; near = r.3 }) in
-        let e = slice_get-get_or (region (at t c)) has.0 (r.0, n.0) has.1 ∙ ap Some has.2 in
-        let f = image_there {Y = Path × Node} (λ e. (c ++ e.0, e.1)) (region (at t c)) has.0 (r.0, n.0) e in
-        (has.0, image_there (λ e. key_of e.0) (region_at t c) has.0 (c ++ r.0, n.0) f ∙ ap (λ x. Some (key_of x)) (sym r.1), image_there (λ e. e.0) (region_at t c) has.0 (c ++ r.0, n.0) f ∙ ap Some (sym r.1))
-
-    apart_or_same : (i j : ℕ) → (i < j) ⊎ ((j < i) ⊎ (i ≡ j))
-    apart_or_same i j = elim (cases_lt i j) [ inl lt ↦ inl lt | inr ge ↦ elim (cases_lt j i) [ inl gt ↦ inr (inl gt) | inr le ↦ inr (inr (omega (arith, ge, le))) ] ]
+    let m = some_node (get (at t s.cut) s.first.0) s.first.2 in
+    let n = some_node (get (at t s.cut) s.second.0) s.second.2 in
+    let same = (apart s.cut s.is_cut_).each s.first.0 s.second.0 m.0 n.0 (record { there = m.1; near = s.first.3 }) (record { there = n.1; near = s.second.3 }) (ap key_of (sym s.first.1) ∙ s.keys ∙ ap key_of s.second.1) in
+    s.differ (s.first.1 ∙ ap (λ (x : Path). s.cut ++ x) same ∙ sym s.second.1)
 
 -- those of each cut of a list that has all
-pub each_apart : (t : Nodes) (cuts : List Path) (n : ℕ) → IsTree t → cuts ≡ reverse (cuts_of t) → length cuts ≤ n → ((k : ℕ) (d : Path) → k < n → AreApart (keys_at (region_at t (get_or cuts k d)))) → (p q : Path) → SharesKey t p q → ⊥
-each_apart t cuts n tree is all apart = no_sharing t (λ c cut.
-    let has = cut_among t cuts c tree is cut in
-    let lt = has.1 in
-    subst (λ (x : Path). AreApart (keys_at (region_at t x))) has.2 (apart has.0 c (omega (arith, lt, all))))
+pub each_apart : (t : Nodes) (cuts : List Path) → IsTree t → cuts ≡ reverse (cuts_of t) → All (λ c. KeysApart c (at t c)) cuts → (p q : Path) → SharesKey t p q → ⊥
+each_apart t cuts tree is apart = no_sharing t (λ c cut. All-contains (λ c. KeysApart c (at t c)) cuts c apart (cut_among t cuts c tree is cut))
+
+-- the keys of the region of a cut that was read
+pub region_keys : (t : Nodes) (c : Path) (region : List (Path × Node)) → region ≡ region_at t c → AreApart (keys_at region) → KeysApart c (at t c)
+region_keys t c region is apart = rows_tell_keys c (at t c) (subst AreApart (ap keys_at is ∙ keys_at_are t c) apart)
 
 -- one more cut
-pub one_apart : (t : Nodes) (cuts : List Path) (i : ℕ) (c : Path) (region : List (Path × Node)) → ((k : ℕ) (d : Path) → k < i → AreApart (keys_at (region_at t (get_or cuts k d)))) → i < length cuts → c ≡ get_or cuts i c
-    → region ≡ region_at t c → AreApart (keys_at region) → (k : ℕ) (d : Path) → k < i + 1 → AreApart (keys_at (region_at t (get_or cuts k d)))
-one_apart t cuts i c region before lt c-is is apart k d less =
-    elim (cases_lt k i) [
-      | inl below ↦ before k d below
-      | inr last ↦
-          let k-is : i ≡ k = omega (arith, less, last) in
-          let cut-is : c ≡ get_or cuts k d = c-is ∙ get_or_default cuts i c d lt ∙ ap (λ j. get_or cuts j d) k-is in
-          subst (λ (x : Path). AreApart (keys_at (region_at t x))) cut-is (subst (λ es. AreApart (keys_at es)) is apart)
-    ]
+pub one_apart : (t : Nodes) (cuts : List Path) (i : ℕ) (c : Path) → All (λ c. KeysApart c (at t c)) (take i cuts) → i < length cuts → c ≡ get_or cuts i c → KeysApart c (at t c) → All (λ c. KeysApart c (at t c)) (take (i + 1) cuts)
+one_apart t cuts i c before lt c-is apart =
+    All-more (λ c. KeysApart c (at t c)) cuts i c lt before (subst (λ (x : Path). KeysApart x (at t x)) c-is apart)
+
+-- the fault of the region of a cut
+pub sharing_of : (t : Nodes) (c : Path) (region : List (Path × Node)) (fault : CutFault) → is_cut t c ≡ true → region ≡ region_at t c → IsCollision region fault → IsCutFault t fault
+sharing_of t c region fault cut is h = weaker fault (sharing t c fault cut (subst (λ es. IsCollision es fault) is h))
+  where
+    weaker : (fault : CutFault) → IsShared t fault → IsCutFault t fault
+    weaker (PathCollision p q) h = h
+    weaker (CatalogueFull d) h = absurd h
+    weaker NoMemory h = tt
 
 -- the fault of the region of a cut that was read
 pub sharing_there : (t : Nodes) (cuts : List Path) (i : ℕ) (c : Path) (region : List (Path × Node)) (fault : CutFault) → cuts ≡ reverse (cuts_of t) → i < length cuts → c ≡ get_or cuts i c → region ≡ region_at t c → IsCollision region fault → IsShared t fault

@@ -10,7 +10,7 @@ use Rattle.cv_rows.specs.Catalogue.{row_cmp, nested_cmp}
 use Rattle.cv_rows.specs.Made.{AreApart, keys_of, texts_of, by_key, by_text}
 use Rattle.cv_rows.specs.declared.row.Row.{Row}
 use Rattle.cv_rows.specs.declared.nested.Nested.{Nested}
-use Rattle.cv_rows.proofs.Sorting.{row_total, nested_total}
+use Rattle.cv_rows.proofs.Lemmas.{row_total, nested_total}
 use Rattle.cv_cut.specs.Cuts.{region}
 use Rattle.cv_cut.specs.Catalogues.{rows_of, nested_of}
 use Rattle.cv_cut.proofs.RegionRules.{StandsAtCut}

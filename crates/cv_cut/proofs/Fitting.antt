@@ -4,7 +4,7 @@ use Rattle.std.specs.FinMap.{get, same_map}
 use Rattle.cv_base.specs.Path.{Path, covers, key_of}
 use Rattle.cv_base.specs.PathOrder.{path_total, path_exact}
 use Rattle.cv_tree.specs.Tree.{Nodes, at, put}
-use Rattle.cv_tree.proofs.Replacements.{get-at, get-put, at-put, at-at, at-put_apart}
+use Rattle.cv_tree.proofs.Laws.{get-at, get-put, at-put, at-at, at-put_apart}
 use Rattle.cv_cut.specs.Cuts.{is_cut, is_marked, is_near, region}
 use Rattle.cv_cut.specs.Catalogues.{catalogue, Fits, SharesKey}
 use Rattle.cv_cut.proofs.CanonicalRules.{region_apart}

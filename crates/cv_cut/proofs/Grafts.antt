@@ -14,8 +14,7 @@ use Rattle.cv_ports.specs.Shelf.{Shelf, HasMore}
 use Rattle.cv_tree.specs.Tree.{Nodes, IsTree, is_directory, at, put}
 use Rattle.cv_tree.specs.Changes.{has_place}
 use Rattle.cv_tree.specs.declared.node.Node.TheVariants.{File}
-use Rattle.cv_tree.proofs.Replacements.{at_rest, get-at, get-put, at-put, at-put_apart, at-at}
-use Rattle.cv_tree.proofs.Grafts.{IsTree-put_at}
+use Rattle.cv_tree.proofs.Laws.{at_rest, get-at, get-put, at-put, at-put_apart, at-at, IsTree-put_at}
 use Rattle.cv_cut.specs.Cuts.{is_cut, is_marked, is_file, between}
 use Rattle.cv_cut.specs.Above.{above, cuts_above}
 use Rattle.cv_cut.specs.Catalogues.{catalogue, cat, root_of, Fits}

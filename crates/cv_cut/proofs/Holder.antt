@@ -8,7 +8,7 @@ use Rattle.cv_base.specs.Path.{Path, covers, overlap, text_of, key_of, IsPath}
 use Rattle.cv_base.proofs.PathGrammar.{text_of-injective}
 use Rattle.cv_tree.specs.Tree.{Nodes, at, put}
 use Rattle.cv_tree.specs.declared.node.Node.{Node}
-use Rattle.cv_tree.proofs.Replacements.{at-at}
+use Rattle.cv_tree.proofs.Laws.{at-at}
 use Rattle.cv_rows.specs.Catalogue.{Contents, catalogue_bytes, file_of}
 use Rattle.cv_rows.specs.Made.{AreApart, PassesLimit, keys_of, texts_of, in_order}
 use Rattle.cv_rows.specs.Without.{IsWithout}

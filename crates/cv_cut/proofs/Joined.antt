@@ -15,7 +15,7 @@ use Rattle.cv_base.specs.PathOrder.{same_name_itself}
 use Rattle.cv_tree.specs.Tree.{Nodes, at, put}
 use Rattle.cv_tree.specs.declared.node.Node.{Node}
 use Rattle.cv_tree.specs.declared.node.Node.TheVariants as node
-use Rattle.cv_tree.proofs.Replacements.{get-at, kept-put}
+use Rattle.cv_tree.proofs.Laws.{get-at, kept-put}
 use Rattle.cv_rows.specs.declared.row.Row.{Row}
 use Rattle.cv_rows.specs.declared.nested.Nested.{Nested}
 use Rattle.cv_rows.specs.declared.row_kind.RowKind.TheVariants.{Directory, Transition}

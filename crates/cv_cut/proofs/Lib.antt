@@ -41,4 +41,4 @@ pub mod Upper
 pub mod Fitting
 pub mod WayCuts
 pub mod MeansAfter
-pub mod PublicLaws
+pub mod Lemmas

@@ -14,8 +14,7 @@ use Rattle.cv_rows.specs.Places.{IsRoot, StandsAt, root, below, root_kind}
 use Rattle.cv_rows.specs.declared.row.Row.{Row}
 use Rattle.cv_rows.specs.declared.nested.Nested.{Nested}
 use Rattle.cv_rows.specs.declared.row_kind.RowKind.TheVariants.{Transition}
-use Rattle.cv_rows.proofs.PlaceLaws.{stands_contained, same_by_key}
-use Rattle.cv_rows.proofs.NestedLaws.{fits_there}
+use Rattle.cv_rows.proofs.Lemmas.{stands_contained, same_by_key, fits_there}
 use Rattle.cv_cut.specs.Open.{FitsRow}
 use Rattle.cv_cut.specs.Reached.{ReachedFrom, Reaches, Place, Decodes, HasCatalogue, Misstates, BadFrom}
 use Rattle.cv_cut.specs.Good.{HasSize}

@@ -1,13 +1,14 @@
 -- The rows and nested entries of a region, in the order of its paths.
 use Rattle.std.proofs.Common.{◌≡◌, ◌≢◌, ℕ, ◌<◌, ◌^◌, Bool, true, false, cond, Option, Some, List, [], ◌∷◌, ◌++◌, map, length, refl, sym, ap, subst, ◌∙◌}
-use Rattle.std.specs.Prelude.{Contains, T}
+use Rattle.std.specs.Prelude.{Contains, T, slice_get, unwrap_or}
 use Rattle.std.specs.List.{filter}
 use Rattle.std.specs.FinMap.{get, entries, is_sorted, entries_sorted, from_entries, values}
 use Rattle.std.specs.FinMap.Entries.{is_sorted-where_key}
+use Rattle.std.proofs.lemmas.Option.{slice_get-get_or}
 use Rattle.cv_base.specs.Path.{Path, path_cmp, text_of, key_of}
 use Rattle.cv_base.specs.PathOrder.{path_total, path_exact}
 use Rattle.cv_base.proofs.PathGrammar.{text_of-injective}
-use Rattle.cv_tree.specs.Tree.{Nodes}
+use Rattle.cv_tree.specs.Tree.{Nodes, at}
 use Rattle.cv_tree.specs.declared.node.Node.{Node}
 use Rattle.cv_rows.specs.Catalogue.{bytes_cmp}
 use Rattle.cv_rows.specs.Made.{AreParts, AreApart, keys_of, texts_of, by_key, by_text}
@@ -15,9 +16,10 @@ use Rattle.cv_rows.specs.declared.row.Row.{Row}
 use Rattle.cv_rows.specs.declared.nested.Nested.{Nested}
 use Rattle.cv_cut.specs.Cuts.{is_near, is_marked, is_inner, region, inner}
 use Rattle.cv_cut.specs.Catalogues.{entry_of, rows_of, nested_of}
+use Rattle.cv_cut.specs.Cut.{keys_at, region_at}
 use Rattle.cv_cut.proofs.Members.{passes, passing, comes_from, goes_to}
 use Rattle.cv_cut.proofs.Entries.{there_found, entry_has, has_entry}
-use Rattle.cv_cut.proofs.Twice.{StandOnce, once_image, sorted_once}
+use Rattle.cv_cut.proofs.Twice.{StandOnce, image_there, one_place, once_image, sorted_once}
 use Rattle.cv_cut.proofs.RowFacts.{row_key}
 use Rattle.cv_cut.proofs.RegionRules.{StandsAtCut, path_there, region_rules}
 use Rattle.cv_cut.proofs.Bools.{so}
@@ -139,10 +141,37 @@ texts_apart c u file cut =
     let place = same a.0 b.0 a.1 b.1 (ap (λ (n : Nested). text_of n.path) a.2 ∙ t ∙ sym (ap (λ (n : Nested). text_of n.path) b.2)) in
     sym a.2 ∙ ap entry place ∙ b.2))
 
--- where no two paths of a region share a key, its rows and nested entries are parts of a catalogue
-pub are_parts : (c : Path) (u : Nodes) (file : Path → List ℕ) → StandsAtCut c u → KeysApart c u → ((d : Path) → IsOther u d → length (file d) < 2 ^ 64) → AreParts c (row_list c u) (nested_list c u file)
-are_parts c u file cut keys sizes = record {
-  region = region_rules c u file (row_list c u) (nested_list c u file) cut keys (row_list_are c u) (nested_list_are c u file) sizes;
+-- and the keys of the region where those of its rows are
+pub rows_tell_keys : (c : Path) (u : Nodes) → AreApart (keys_of (row_list c u)) → KeysApart c u
+rows_tell_keys c u apart = record {
+  each = λ q r m n has had k.
+      let a = near_region u q m has in
+      let b = near_region u r n had in
+      let same = one_place (keys_of (row_list c u)) (key_of (c ++ q)) a.0 b.0 apart (key_at q m a) (key_at r n b ∙ ap Some (sym k)) in
+      let pair : Some (q, m) ≡ Some (r, n) = sym (entry_at q m a) ∙ ap (slice_get (region u)) same ∙ entry_at r n b in
+      ap (λ (o : Option (Path × Node)). (unwrap_or o (q, m)).0) pair;
+}
+  where
+    entry_at : (q : Path) (n : Node) → (has : Contains (region u) (q, n)) → slice_get (region u) has.0 ≡ Some (q, n)
+    entry_at q n has = slice_get-get_or (region u) has.0 (q, n) has.1 ∙ ap Some has.2
+
+    key_at : (q : Path) (n : Node) → (has : Contains (region u) (q, n)) → slice_get (keys_of (row_list c u)) has.0 ≡ Some (key_of (c ++ q))
+    key_at q n has =
+        let row = image_there (λ (e : Path × Node). row_at c u e.0 e.1) (region u) has.0 (q, n) (entry_at q n has) in
+        image_there (λ (r : Row). r.key.0) (row_list c u) has.0 (row_at c u q n) row ∙ ap Some (row_key _ (c ++ q) n)
+
+keys_behind : (c : Path) (u : Nodes) (es : List (Path × Node)) → map (λ e. key_of e.0) (map {B = Path × Node} (λ e. (c ++ e.0, e.1)) es) ≡ keys_of (map (λ e. row_at c u e.0 e.1) es)
+keys_behind c u [] = refl
+keys_behind c u (e ∷ es) = let k = sym (row_key _ (c ++ e.0) e.1) in let rest = keys_behind c u es in λ i. k i ∷ rest i
+
+-- the keys of its paths are those of its rows
+pub keys_at_are : (t : Nodes) (c : Path) → keys_at (region_at t c) ≡ keys_of (row_list c (at t c))
+keys_at_are t c = keys_behind c (at t c) (region (at t c))
+
+-- the rows and nested entries of a region are parts of a catalogue
+pub are_parts : (c : Path) (u : Nodes) (file : Path → List ℕ) → StandsAtCut c u → ((d : Path) → IsOther u d → length (file d) < 2 ^ 64) → AreParts c (row_list c u) (nested_list c u file)
+are_parts c u file cut sizes = record {
+  region = λ apart. region_rules c u file (row_list c u) (nested_list c u file) cut (rows_tell_keys c u apart) (row_list_are c u) (nested_list_are c u file) sizes;
   apart = texts_apart c u file cut;
 }
 

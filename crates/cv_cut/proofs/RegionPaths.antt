@@ -15,7 +15,7 @@ use Rattle.cv_base.proofs.PathPrefixes.{behind-Some}
 use Rattle.cv_base.proofs.Bools.{first_true, second_true}
 use Rattle.cv_tree.specs.Tree.{Nodes, at, cons_behind, entries_behind}
 use Rattle.cv_tree.specs.declared.node.Node.{Node}
-use Rattle.cv_tree.proofs.Maps.{entries-from_entries}
+use Rattle.cv_tree.proofs.Laws.{entries-from_entries}
 use Rattle.cv_cut.specs.Cuts.{is_near}
 use Rattle.cv_cut.specs.Cut.{region_at}
 use Rattle.cv_cut.proofs.Bools.{both_true, so, is_less}

@@ -12,8 +12,7 @@ use Rattle.cv_base.proofs.Digests.{digest_sha1}
 use Rattle.cv_base.proofs.Bools.{first_true, second_true}
 use Rattle.cv_tree.specs.Tree.{Nodes, is_directory, IsPart, IsTree, at}
 use Rattle.cv_tree.specs.declared.node.Node.{Node}
-use Rattle.cv_tree.proofs.Replacements.{get-at}
-use Rattle.cv_tree.proofs.Shapes.{IsPart-at}
+use Rattle.cv_tree.proofs.Laws.{get-at, IsPart-at}
 use Rattle.cv_rows.specs.Row.{IsRow, same_kind}
 use Rattle.cv_rows.specs.Nested.{IsNested}
 use Rattle.cv_rows.specs.Places.{IsRoot, StandsAt}
@@ -178,7 +177,7 @@ listed c u file rows nested cut apart are entries q n has kind =
     let o : IsOther u q = record { node_ = n; there = has; below = t.0; marked = t.1 } in
     (entry_of (c ++ q) (file q), entries.all q o, stands c u rows cut.part apart are q n has)
 
--- the rows and nested entries of a region are those of a catalogue
+-- the rows and nested entries of a region are those of a catalogue, where no two of its paths share a key
 pub region_rules : (c : Path) (u : Nodes) (file : Path → List ℕ) (rows : List Row) (nested : List Nested) → StandsAtCut c u → KeysApart c u → AreRowsOf c u rows → AreEntriesOf c u file nested
     → ((d : Path) → IsOther u d → length (file d) < 2 ^ 64) → IsRegion c rows nested
 region_rules c u file rows nested cut apart are entries sizes =

@@ -15,7 +15,7 @@ use Rattle.cv_rows.specs.declared.row_kind.RowKind.{RowKind}
 use Rattle.cv_rows.specs.declared.row_kind.RowKind.TheVariants.{Directory, Transition, NestedRoot, File}
 use Rattle.cv_cut.specs.Cuts.{is_file, is_marked}
 use Rattle.cv_cut.specs.Catalogues.{kind_of, row_of}
-use Rattle.cv_rows.proofs.Texts.{path_name-target}
+use Rattle.cv_rows.proofs.Lemmas.{path_name-target}
 use Rattle.cv_cut.proofs.Ends.{parent_key-append, last_name-append}
 use Rattle.cv_cut.specs.Region.{row_at}
 

@@ -14,9 +14,7 @@ use Rattle.cv_tree.specs.declared.node.Node.{Node}
 use Rattle.cv_tree.specs.declared.node.Node.TheVariants.{Dir}
 use Rattle.cv_tree.specs.Node.{IsAttr}
 use Rattle.cv_tree.specs.Tree.{Nodes, IsTree, single, at}
-use Rattle.cv_tree.proofs.Maps.{entries-from_entries}
-use Rattle.cv_tree.proofs.Replacements.{get-at}
-use Rattle.cv_tree.proofs.Shapes.{IsTree-single}
+use Rattle.cv_tree.proofs.Laws.{entries-from_entries, get-at, IsTree-single}
 use Rattle.cv_rows.specs.Catalogue.{bytes_cmp, file_of}
 use Rattle.cv_rows.specs.Row.{row_bytes, text_field}
 use Rattle.cv_rows.specs.declared.row.Row.{Row}

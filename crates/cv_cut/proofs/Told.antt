@@ -10,7 +10,7 @@ use Rattle.cv_base.proofs.Bools.{first_true}
 use Rattle.cv_tree.specs.Tree.{Nodes, IsTree, at, is_directory}
 use Rattle.cv_tree.specs.declared.node.Node.{Node}
 use Rattle.cv_tree.specs.declared.node.Node.TheVariants as node
-use Rattle.cv_tree.proofs.Replacements.{get-at}
+use Rattle.cv_tree.proofs.Laws.{get-at}
 use Rattle.cv_rows.specs.Catalogue.{Contents}
 use Rattle.cv_rows.specs.Made.{by_key, by_text}
 use Rattle.cv_rows.specs.Places.{StandsAt, root_kind}
@@ -19,8 +19,7 @@ use Rattle.cv_rows.specs.declared.row.Row.{Row}
 use Rattle.cv_rows.specs.declared.nested.Nested.{Nested}
 use Rattle.cv_rows.specs.declared.row_kind.RowKind.{RowKind}
 use Rattle.cv_rows.specs.declared.row_kind.RowKind.TheVariants as kind
-use Rattle.cv_rows.proofs.FileLaws.{one_file}
-use Rattle.cv_rows.proofs.RuleLaws.{has_file}
+use Rattle.cv_rows.proofs.Lemmas.{one_file, has_file}
 use Rattle.cv_cut.specs.Cuts.{is_cut, is_marked, is_file}
 use Rattle.cv_cut.specs.Catalogues.{kind_of, row_of, entry_of, rows_of, nested_of, cat, Fits}
 use Rattle.cv_cut.specs.Reached.{Place, root_place, Decodes}
@@ -34,9 +33,9 @@ use Rattle.cv_cut.proofs.RegionRules.{StandsAtCut, stands_at_cut}
 use Rattle.cv_cut.proofs.RegionLists.{row_list, nested_list, row_list_are, nested_list_are, keys_apart, texts_apart, rows_of-by_key, nested_of-by_text}
 use Rattle.cv_cut.proofs.Sorted.{order_moves}
 use Rattle.cv_cut.proofs.RowFacts.{row_kind, root_row, transition_marked, marked_transition}
-use Rattle.cv_cut.proofs.CanonicalRules.{canonical, cut_some, other_cut, region_apart}
+use Rattle.cv_cut.proofs.CanonicalRules.{canonical_at, cut_some, fits_at_cut, other_cut, region_apart}
 use Rattle.cv_cut.proofs.Between.{marked-at}
-use Rattle.cv_cut.specs.Region.{IsNear, KeysApart, AreRowsOf, AreEntriesOf, row_at}
+use Rattle.cv_cut.specs.Region.{IsNear, KeysApart, FitsAtCut, AreRowsOf, AreEntriesOf, row_at}
 
 -- ---- rows and entries of a region
 
@@ -100,12 +99,15 @@ transition_is kind.NestedRoot h = absurd cc
 transition_is kind.File h = absurd cc
 transition_is kind.Link h = absurd cc
 
--- ---- a cut of a tree that fits
+-- ---- a cut of a tree
 
-module _ (t : Nodes) (tree : IsTree t) (fits : Fits t) (c : Path) (cut : is_cut t c ≡ true) where
-  apart : KeysApart c (at t c)
-  apart = region_apart t c cut fits.apart
+-- the nested entries are those of cuts
+pub entry_tells : (t : Nodes) → IsTree t → (c : Path) → is_cut t c ≡ true → (n : Nested) → Contains (contents_of t c).nested n → IsEntryOfCut t n
+entry_tells t tree c cut n has =
+    let e = (entries_are c (at t c) (λ d. cat t (c ++ d)) (stands_at_cut t c tree cut)).each n has in
+    subst (IsEntryOfCut t) (sym e.2) (record { cut = other_cut t c e.0 e.1; hash = refl; size = refl })
 
+module _ (t : Nodes) (tree : IsTree t) (c : Path) (cut : is_cut t c ≡ true) (apart : KeysApart c (at t c)) where
   here : StandsAtCut c (at t c)
   here = stands_at_cut t c tree cut
 
@@ -160,13 +162,7 @@ module _ (t : Nodes) (tree : IsTree t) (fits : Fits t) (c : Path) (cut : is_cut 
             absurd (none _ (subst (λ (w : Path). StandsAt c (rows_of c (at t c)) (row_at c (at t c) rest m) w) place st))
       ] refl
 
-  -- the nested entries are those of cuts
-  pub entry_tells : (n : Nested) → Contains (contents_of t c).nested n → IsEntryOfCut t n
-  entry_tells n has =
-      let e = (entries_are c (at t c) (λ d. cat t (c ++ d)) here).each n has in
-      subst (IsEntryOfCut t) (sym e.2) (record { cut = other_cut t c e.0 e.1; hash = refl; size = refl })
-
-  -- and each other cut of the region has one
+  -- each other cut of the region has a nested entry
   pub transition_listed : (r : Row) (q : Path) → StandsAt c (contents_of t c).rows r q → r.kind ≡ kind.Transition → Contains (contents_of t c).nested (entry_of q (cat t q))
   transition_listed r q st is =
       let s = there st in
@@ -187,29 +183,39 @@ same_fields k l p q m n r places nodes is =
     other_kind k l p m ∙ ap (λ (x : Row). record x { kind = (row_of k p m).kind }) same
 
 -- the canonical catalogue at the root decodes there
+pub root_decodes_at : (t : Nodes) → IsTree t → FitsAtCut t [] → Decodes root_place (cat t []) (contents_of t [])
+root_decodes_at t tree fits = record { at = refl; is = canonical_at t [] tree refl fits; spelled = cat_is t [] tree (cut_some t [] tree refl); row = tt }
+
 pub root_decodes : (t : Nodes) → IsTree t → Fits t → Decodes root_place (cat t []) (contents_of t [])
-root_decodes t tree fits = record { at = refl; is = canonical t [] tree refl fits; spelled = cat_is t [] tree (cut_some t [] tree refl); row = tt }
+root_decodes t tree fits = root_decodes_at t tree (fits_at_cut t [] refl fits)
 
 -- that of a Transition row decodes at its path
-pub nested_decodes : (t : Nodes) (tree : IsTree t) (fits : Fits t) (c : Path) (cut : is_cut t c ≡ true) (r : Row) (q : Path) → StandsAt c (contents_of t c).rows r q → r.kind ≡ kind.Transition
+pub nested_decodes_at : (t : Nodes) (tree : IsTree t) (c : Path) (cut : is_cut t c ≡ true) (apart : KeysApart c (at t c)) (r : Row) (q : Path) → StandsAt c (contents_of t c).rows r q → r.kind ≡ kind.Transition → FitsAtCut t q
     → Decodes (record { path = q; row = Some r }) (cat t q) (contents_of t q)
-nested_decodes t tree fits c cut r q st is =
-    let s = there t tree fits c cut st in
-    let cut_q = transition_cut t tree fits c cut s is in
+nested_decodes_at t tree c cut apart r q st is fits =
+    let s = there t tree c cut apart st in
+    let cut_q = transition_cut t tree c cut apart s is in
     let m = root_node (at t q) (stands_at_cut t q tree cut_q).part in
-    let one : Some m.0 ≡ Some s.node_ = sym m.1.there ∙ get-at t q [] ∙ ap (get t) (append-nil q) ∙ node_there t tree fits c cut s in
+    let one : Some m.0 ≡ Some s.node_ = sym m.1.there ∙ get-at t q [] ∙ ap (get t) (append-nil q) ∙ node_there t tree c cut apart s in
     let nodes : m.0 ≡ s.node_ = cc in
     record {
       at = refl;
-      is = canonical t q tree cut_q fits;
+      is = canonical_at t q tree cut_q fits;
       spelled = cat_is t q tree (cut_some t q tree cut_q);
       row = (
         row_at q (at t q) [] m.0,
-        (rows_are q (at t q) (region_apart t q cut_q fits.apart)).all [] m.0 m.1,
+        (rows_are q (at t q) fits.apart).all [] m.0 m.1,
         root_row q (at t q) m.0,
         same_fields (root_kind q) (kind_of c (at t c) s.rest s.node_) (q ++ []) (c ++ s.rest) m.0 s.node_ r (append-nil q ∙ s.place) nodes s.row,
       );
     }
+
+pub nested_decodes : (t : Nodes) (tree : IsTree t) (fits : Fits t) (c : Path) (cut : is_cut t c ≡ true) (r : Row) (q : Path) → StandsAt c (contents_of t c).rows r q → r.kind ≡ kind.Transition
+    → Decodes (record { path = q; row = Some r }) (cat t q) (contents_of t q)
+nested_decodes t tree fits c cut r q st is =
+    let apart = region_apart t c cut fits.apart in
+    let cut_q = transition_cut t tree c cut apart (there t tree c cut apart st) is in
+    nested_decodes_at t tree c cut apart r q st is (fits_at_cut t q cut_q fits)
 
 -- bytes decode at a place in one way
 pub one_decoding : (place : Place) (bytes : List ℕ) (c d : Contents) → Decodes place bytes c → Decodes place bytes d → c ≡ d

@@ -5,7 +5,7 @@ use Rattle.cv_base.specs.Marker.{marker, ends_in}
 use Rattle.cv_base.specs.Path.{Path, covers}
 use Rattle.cv_base.specs.PathOrder.{path_total, path_exact}
 use Rattle.cv_tree.specs.Tree.{Nodes, at, put}
-use Rattle.cv_tree.proofs.Replacements.{at_rest, get-at, get-put}
+use Rattle.cv_tree.proofs.Laws.{at_rest, get-at, get-put}
 use Rattle.cv_cut.specs.Cuts.{is_marked, is_cut}
 use Rattle.cv_cut.proofs.MarkLaws.{marked-at, marked-out, marked-in}
 use Rattle.cv_cut.proofs.Joined.{behind-shift}

@@ -1,5 +1,5 @@
 -- Lists in which nothing stands twice.
-use Rattle.std.proofs.Common.{◌≡◌, ℕ, zero, suc, ◌<◌, true, Some, List, [], ◌∷◌, map, refl, sym, ap, ◌∙◌, arith}
+use Rattle.std.proofs.Common.{◌≡◌, ℕ, zero, suc, ◌<◌, true, Some, List, [], ◌∷◌, map, refl, sym, ap, ◌∙◌, arith, inl, inr}
 use Rattle.std.specs.Prelude.{Contains, slice_get}
 use Rattle.std.specs.declared.cmp.Ordering.{Ordering}
 use Rattle.std.specs.declared.cmp.Ordering.TheVariants.{Less, Equal}
@@ -7,8 +7,10 @@ use Rattle.std.specs.Cmp.{IsTotalOrder, tied_itself}
 use Rattle.std.specs.Option.{option_map}
 use Rattle.std.specs.FinMap.{is_sorted}
 use Rattle.std.specs.FinMap.Entries.{below_all}
+use Rattle.std.proofs.lemmas.Bool.{cases_lt}
 use Rattle.std.proofs.lemmas.Option.{slice_get_within, get_or_from_slice_get}
 use Rattle.cv_base.proofs.Bools.{first_true, second_true}
+use Rattle.cv_rows.specs.Made.{AreApart}
 use Rattle.cv_cut.proofs.Entries.{below_each}
 
 -- what stands at an index is there
@@ -25,6 +27,17 @@ pub image_there : {X Y : Type 0} (f : X → Y) (xs : List X) (i : ℕ) (x : X) �
 image_there f [] i x h = absurd cc
 image_there f (y ∷ xs) zero x h = ap (λ o. option_map f o) h
 image_there f (y ∷ xs) (suc i) x h = image_there f xs i x h
+
+-- where nothing stands twice, what stands at two places stands at one
+pub one_place : (xs : List (List ℕ)) (x : List ℕ) (i j : ℕ) → AreApart xs → slice_get xs i ≡ Some x → slice_get xs j ≡ Some x → i ≡ j
+one_place xs x i j apart one other =
+    elim (cases_lt i j) [
+      | inl lt ↦ absurd (apart x (record { first = i; second = j; order = lt; one = one; other = other }))
+      | inr ge ↦ elim (cases_lt j i) [
+        | inl gt ↦ absurd (apart x (record { first = j; second = i; order = gt; one = other; other = one }))
+        | inr le ↦ omega (arith, ge, le)
+      ]
+    ]
 
 -- no element stands at two places
 pub record StandOnce {X : Type 0} (xs : List X) : Type 0 where

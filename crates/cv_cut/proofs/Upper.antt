@@ -16,7 +16,7 @@ use Rattle.cv_rows.specs.Row.{text_field}
 use Rattle.cv_rows.specs.Nested.{nested_bytes}
 use Rattle.cv_rows.specs.declared.row.Row.{Row}
 use Rattle.cv_rows.specs.declared.nested.Nested.{Nested}
-use Rattle.cv_rows.proofs.Regions.{file_len}
+use Rattle.cv_rows.proofs.Lemmas.{file_len}
 use Rattle.cv_cut.specs.Cuts.{is_cut, is_marked, is_near, between, region}
 use Rattle.cv_cut.specs.Catalogues.{rows_of, nested_of, entry_of, cat, IsFull}
 use Rattle.cv_cut.proofs.Canonical.{cat_is, cat-put_apart}

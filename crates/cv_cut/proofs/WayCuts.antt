@@ -10,7 +10,7 @@ use Rattle.cv_base.specs.Path.{Path, covers}
 use Rattle.cv_base.specs.PathOrder.{path_total, path_exact}
 use Rattle.cv_base.proofs.Bools.{first_true, second_true}
 use Rattle.cv_tree.specs.Tree.{Nodes, at, put}
-use Rattle.cv_tree.proofs.Replacements.{get-at, at-at}
+use Rattle.cv_tree.proofs.Laws.{get-at, at-at}
 use Rattle.cv_cut.specs.Cuts.{is_cut, is_marked, is_near, between}
 use Rattle.cv_cut.specs.Cut.{catalogue_object}
 use Rattle.cv_cut.proofs.Members.{first_there, later_there}

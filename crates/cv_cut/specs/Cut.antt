@@ -75,11 +75,17 @@ pub record IsOtherEntry (t : Nodes) (c p : Path) (n : Nested) : Type 0 where
   pub is : n ≡ nested_in t p
   pub size : n.size ≤ 16777216
 
--- the fault names a cut whose catalogue is full, or is want of memory
-abbrev pub IsFullCut : Nodes → CutFault → Type 0
-IsFullCut t (PathCollision first second) = ⊥
-IsFullCut t (CatalogueFull c) = IsFull t c
-IsFullCut t NoMemory = Unit {0}
+-- the fault names two paths that share a key, or a cut whose catalogue is full, or is want of memory
+abbrev pub IsCutFault : Nodes → CutFault → Type 0
+IsCutFault t (PathCollision first second) = SharesKey t first second
+IsCutFault t (CatalogueFull c) = IsFull t c
+IsCutFault t NoMemory = Unit {0}
+
+-- and no catalogue is said to be full where two paths share a key
+abbrev pub IsFirstFault : Nodes → CutFault → Type 0
+IsFirstFault t (PathCollision first second) = SharesKey t first second
+IsFirstFault t (CatalogueFull c) = IsFull t c × ((p q : Path) → SharesKey t p q → ⊥)
+IsFirstFault t NoMemory = Unit {0}
 
 -- ---- collisions
 

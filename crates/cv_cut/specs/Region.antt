@@ -1,5 +1,5 @@
 -- The rows and nested entries of the region of a cut, in whatever order.
-use Rattle.std.specs.Prelude.{◌≡◌, ◌≢◌, ℕ, true, List, [], ◌++◌, Some, Contains}
+use Rattle.std.specs.Prelude.{◌≡◌, ◌≢◌, ◌<◌, ◌^◌, ℕ, true, List, [], ◌++◌, Some, Contains, length}
 use Rattle.std.specs.FinMap.{get}
 use Rattle.cv_base.specs.Path.{Path, key_of}
 use Rattle.cv_tree.specs.Tree.{Nodes, at}
@@ -7,7 +7,7 @@ use Rattle.cv_tree.specs.declared.node.Node.{Node}
 use Rattle.cv_rows.specs.declared.row.Row.{Row}
 use Rattle.cv_rows.specs.declared.nested.Nested.{Nested}
 use Rattle.cv_cut.specs.Cuts.{is_cut, is_marked, is_near}
-use Rattle.cv_cut.specs.Catalogues.{kind_of, row_of, entry_of}
+use Rattle.cv_cut.specs.Catalogues.{kind_of, row_of, entry_of, cat, IsFull}
 
 -- In what follows u is what stands at a cut c, and its paths begin there.
 
@@ -40,6 +40,14 @@ pub record IsOther (u : Nodes) (d : Path) : Type 0 where
 pub record AreEntriesOf (c : Path) (u : Nodes) (file : Path → List ℕ) (nested : List Nested) : Type 0 where
   pub each : (n : Nested) → Contains nested n → (d : Path) × IsOther u d × (n ≡ entry_of (c ++ d) (file d))
   pub all : (d : Path) → IsOther u d → Contains nested (entry_of (c ++ d) (file d))
+
+-- ---- what fits at one cut
+
+-- no two paths of its region share a key, its catalogue passes no limit, and the sizes of those nested in it have 64 bits
+pub record FitsAtCut (t : Nodes) (c : Path) : Type 0 where
+  pub apart : KeysApart c (at t c)
+  pub limits : IsFull t c → ⊥
+  pub sizes : (d : Path) → IsOther (at t c) d → length (cat t (c ++ d)) < 2 ^ 64
 
 -- ---- the next cut on the way to a path
 

@@ -47,7 +47,7 @@ fn shared_key(
 }
 
 /// Looks for two paths of a region that have one key.
-fn check_region(alloc: Global, region: &[(RepoPath, Node)]) -> Result<(), CutFault>
+pub(crate) fn check_region(alloc: Global, region: &[(RepoPath, Node)]) -> Result<(), CutFault>
     ensures ok { OnOk result (AreApart (keys_at region.now)) }
     ensures err { IfErr result (IsCollision region.now) }
 {

@@ -1,5 +1,5 @@
 //! Cutting a tree into catalogues.
-ghost use Rattle.std.specs.Prelude.{◌≡◌, ◌≤◌, true, Some, Err, IsSome, IfOk, IfErr, OnOk, map, reverse, length, ◌++◌, ◌∷◌, []};
+ghost use Rattle.std.specs.Prelude.{◌≡◌, true, Some, Err, IsSome, IfOk, IfErr, OnOk, map, reverse, ◌++◌, ◌∷◌, []};
 ghost use Rattle.std.specs.List.{All};
 ghost use Rattle.std.specs.BTreeMap.{Updates, get};
 ghost use Rattle.std.specs.FinMap as finmap;
@@ -7,13 +7,15 @@ ghost use Rattle.cv_base.specs.Path.{Path, path_cmp};
 ghost use Rattle.cv_tree.specs.Tree.{IsTree};
 ghost use Rattle.cv_cut.specs.Cuts.{is_cut, cuts_of};
 ghost use Rattle.cv_cut.specs.Catalogues.{Fits, SharesKey, IsFull, cat, entry_of};
-ghost use Rattle.cv_cut.specs.Cut.{HasMade, IsFullCut, cuts_below, catalogue_object, cut_of, region_at};
+ghost use Rattle.cv_cut.specs.Cut.{HasMade, IsCutFault, IsFirstFault, cuts_below, catalogue_object, cut_of, region_at};
+ghost use Rattle.cv_cut.specs.Region.{KeysApart};
+ghost use Rattle.cv_tree.specs.Tree.{at};
 ghost use Rattle.sha1.specs.Sha1.{sha1};
 ghost use Rattle.cv_base.specs.ObjectId.{object_id};
 ghost use Rattle.cv_base.specs.declared.id.Kind.TheVariants as kinds;
 ghost use Rattle.cv_cut.specs.declared.cut_fault.CutFault.TheVariants as fault;
 
-use crate::collision::check_keys;
+use crate::collision::{check_keys, check_region};
 use crate::cut_fault::CutFault;
 use crate::nested::nested;
 use crate::region::{cuts, region};
@@ -25,7 +27,8 @@ use cv_tree::{Node, Tree};
 use std::alloc::Global;
 use std::collections::BTreeMap;
 
-/// The bytes of the catalogue of a cut, where no two paths of one region share a key and those nested in it are made.
+/// The bytes of the catalogue of a cut, where those nested in it are made. Two paths of its region may share a key: then the
+/// fault names them.
 fn catalogue(
     alloc: Global,
     tree: &Tree,
@@ -36,18 +39,21 @@ fn catalogue(
     requires tree { IsTree tree.now }
     requires cut { is_cut tree.now cut.now ≡ true }
     requires region { region.now ≡ region_at tree.now cut.now }
-    requires apart { (p q : Path) → SharesKey tree.now p q → ⊥ }
     requires made { HasMade tree.now (cuts_below tree.now cut.now) made.now }
     ensures bytes { IfOk result (λ bytes. bytes.items ≡ cat tree.now cut.now) }
+    ensures apart { OnOk result (KeysApart cut.now (at tree.now cut.now)) }
     ensures fits { OnOk result (IsFull tree.now cut.now → ⊥) }
-    ensures full { IfErr result (IsFullCut tree.now) }
+    ensures fault { IfErr result (IsCutFault tree.now) }
 {
     let rows = rows(alloc, tree, cut, region)?;
     let nested = nested(alloc, tree, cut, region, made)?;
     match Catalogue::of(alloc, cut, rows, nested) {
         Ok(catalogue) => Ok(catalogue.encode(alloc)?),
         Err(WithFault::Full) => Err(CutFault::CatalogueFull(cut.copy(alloc)?)),
-        Err(WithFault::Collision { first: _ }) => unreachable!(),
+        Err(WithFault::Collision { first: _ }) => {
+            check_region(alloc, region)?;
+            unreachable!("two paths have the key that two rows have")
+        }
         Err(WithFault::NoMemory) => Err(CutFault::NoMemory),
     }
 }
@@ -77,7 +83,7 @@ fn keep(
     }
 }
 
-/// Makes the catalogue of each cut, where no two paths of one region share a key.
+/// Makes the catalogue of each cut.
 fn catalogues(
     alloc: Global,
     tree: &Tree,
@@ -88,12 +94,12 @@ fn catalogues(
     requires tree { IsTree tree.now }
     requires entries { entries.now ≡ finmap.entries tree.now }
     requires cuts { cuts.now ≡ reverse (cuts_of tree.now) }
-    requires apart { (p q : Path) → SharesKey tree.now p q → ⊥ }
     requires made { HasMade tree.now [] made.old }
     ensures objects { IfOk result (λ objects. objects.items ≡ map (catalogue_object tree.now) cuts.now) }
+    ensures apart { OnOk result (All (λ c. KeysApart c (at tree.now c)) cuts.now) }
     ensures fits { OnOk result (All (λ c. IsFull tree.now c → ⊥) cuts.now) }
     ensures made { OnOk result (HasMade tree.now cuts.now made.new) }
-    ensures full { IfErr result (IsFullCut tree.now) }
+    ensures fault { IfErr result (IsCutFault tree.now) }
 {
     let mut objects = Vec::new(alloc);
     for cut in cuts {
@@ -115,6 +121,30 @@ fn root_entry(alloc: Global, made: &BTreeMap<RepoPath, Nested>) -> Result<Nested
     }
 }
 
+/// The fault of a cut where this one came. A full catalogue is named only where no two paths share a key, also in regions
+/// whose turn hadn't come.
+fn first_fault(
+    alloc: Global,
+    tree: &Tree,
+    entries: &[(RepoPath, Node)],
+    cuts: &[RepoPath],
+    fault: CutFault,
+) -> CutFault
+    requires tree { IsTree tree.now }
+    requires entries { entries.now ≡ finmap.entries tree.now }
+    requires cuts { cuts.now ≡ reverse (cuts_of tree.now) }
+    requires fault { IsCutFault tree.now fault }
+    ensures { IsFirstFault tree.now result }
+{
+    let CutFault::CatalogueFull(cut) = fault else {
+        return fault;
+    };
+    match check_keys(alloc, tree, entries, cuts) {
+        Ok(()) => CutFault::CatalogueFull(cut),
+        Err(shared) => shared,
+    }
+}
+
 /// Cuts a tree into its catalogues, one for the root and one for each directory that holds a regular file
 /// `.cvmfscatalog`. The bytes of each are those of its row file.
 pub fn cut(alloc: Global, tree: &Tree) -> Result<Cut, CutFault>
@@ -127,9 +157,11 @@ pub fn cut(alloc: Global, tree: &Tree) -> Result<Cut, CutFault>
 {
     let entries = tree.entries(alloc)?;
     let cuts = cuts(alloc, tree, &entries)?;
-    check_keys(alloc, tree, &entries, &cuts)?;
     let mut made = BTreeMap::new(alloc);
-    let objects = catalogues(alloc, tree, &entries, &cuts, &mut made)?;
+    let objects = match catalogues(alloc, tree, &entries, &cuts, &mut made) {
+        Ok(objects) => objects,
+        Err(fault) => return Err(first_fault(alloc, tree, &entries, &cuts, fault)),
+    };
     let root = root_entry(alloc, &made)?;
     let hash = root.hash;
     let kind = Kind::Catalogue;

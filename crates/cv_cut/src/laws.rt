@@ -28,7 +28,7 @@ ghost use Rattle.cv_cut.specs.Told.{node_of, IsEntryOfCut};
 ghost use Rattle.cv_cut.specs.Catalogues.{contents_of};
 ghost use Rattle.cv_cut.specs.Over.{cuts_over, IsNearest};
 ghost use Rattle.cv_cut.specs.Above.{cuts_above, OnWay, replaced};
-ghost use Rattle.cv_cut.specs.Region.{IsNear, KeysApart, Passes, row_at};
+ghost use Rattle.cv_cut.specs.Region.{FitsAtCut, IsNear, KeysApart, Passes, row_at};
 ghost use Rattle.cv_cut.specs.Replaced.{Grafting, IsPassed, IsSound, Replacing};
 ghost use Rattle.cv_cut.specs.Opening.{IsDamagedFrom};
 ghost use Rattle.cv_cut.specs.Means.{Means};
@@ -53,27 +53,32 @@ pub fn the_last_cut_is_the_nearest()
     ensures { (t : Nodes) (p : Path) (front : List Path) (c : Path) → cuts_over t p ≡ front ++ c ∷ [] → IsNearest t c p }
 {}
 
-/// Each row of the catalogue of a cut tells which node stands at its path, and whether another cut does; and below a path
-/// of which the cut is the nearest, nothing stands where no row does.
+/// Each row of the catalogue of a cut whose keys are apart tells which node stands at its path, and whether another cut does;
+/// and below a path of which the cut is the nearest, nothing stands where no row does.
 pub fn rows_tell_the_tree()
-    ensures node { (t : Nodes) → IsTree t → Fits t → (c : Path) → is_cut t c ≡ true → (r : TheRow) (q : Path) → StandsAt c (contents_of t c).rows r q → get t q ≡ Some (node_of r) }
-    ensures cut { (t : Nodes) → IsTree t → Fits t → (c : Path) → is_cut t c ≡ true → (r : TheRow) (q : Path) → StandsAt c (contents_of t c).rows r q → q ≢ c → is_cut t q ≡ same_kind r.kind kind.Transition }
-    ensures nothing { (t : Nodes) → IsTree t → Fits t → (c : Path) → is_cut t c ≡ true → (p : Path) (name : List ℕ) → IsNearest t c p
+    ensures node { (t : Nodes) → IsTree t → (c : Path) → is_cut t c ≡ true → KeysApart c (at t c) → (r : TheRow) (q : Path) → StandsAt c (contents_of t c).rows r q → get t q ≡ Some (node_of r) }
+    ensures cut { (t : Nodes) → IsTree t → (c : Path) → is_cut t c ≡ true → KeysApart c (at t c) → (r : TheRow) (q : Path) → StandsAt c (contents_of t c).rows r q → q ≢ c → is_cut t q ≡ same_kind r.kind kind.Transition }
+    ensures nothing { (t : Nodes) → IsTree t → (c : Path) → is_cut t c ≡ true → KeysApart c (at t c) → (p : Path) (name : List ℕ) → IsNearest t c p
         → ((r : TheRow) → StandsAt c (contents_of t c).rows r (p ++ name ∷ []) → ⊥) → get t (p ++ name ∷ []) ≡ None }
 {}
 
-/// The nested entries of the catalogue of a cut are those of the other cuts of its region, one for each Transition row.
+/// The nested entries of the catalogue of a cut are those of other cuts; where its keys are apart each Transition row has one.
 pub fn entries_name_the_cuts()
-    ensures each { (t : Nodes) → IsTree t → Fits t → (c : Path) → is_cut t c ≡ true → (n : TheNested) → Contains (contents_of t c).nested n → IsEntryOfCut t n }
-    ensures all { (t : Nodes) → IsTree t → Fits t → (c : Path) → is_cut t c ≡ true → (r : TheRow) (q : Path) → StandsAt c (contents_of t c).rows r q → r.kind ≡ kind.Transition
+    ensures each { (t : Nodes) → IsTree t → (c : Path) → is_cut t c ≡ true → (n : TheNested) → Contains (contents_of t c).nested n → IsEntryOfCut t n }
+    ensures all { (t : Nodes) → IsTree t → (c : Path) → is_cut t c ≡ true → KeysApart c (at t c) → (r : TheRow) (q : Path) → StandsAt c (contents_of t c).rows r q → r.kind ≡ kind.Transition
         → Contains (contents_of t c).nested (entry_of q (cat t q)) }
 {}
 
-/// The catalogue of a cut decodes alone at its place, and as nothing else.
+/// A tree that fits its catalogues does so at each cut.
+pub fn what_fits_does_so_at_each_cut()
+    ensures { (t : Nodes) (c : Path) → is_cut t c ≡ true → Fits t → FitsAtCut t c }
+{}
+
+/// The catalogue of a cut at which the tree fits decodes alone at its place, and as nothing else.
 pub fn catalogues_decode_alone()
-    ensures root { (t : Nodes) → IsTree t → Fits t → Decodes root_place (cat t []) (contents_of t []) }
-    ensures nested { (t : Nodes) → IsTree t → Fits t → (c : Path) → is_cut t c ≡ true → (r : TheRow) (q : Path) → StandsAt c (contents_of t c).rows r q → r.kind ≡ kind.Transition
-        → Decodes (record { path = q; row = Some r }) (cat t q) (contents_of t q) }
+    ensures root { (t : Nodes) → IsTree t → FitsAtCut t [] → Decodes root_place (cat t []) (contents_of t []) }
+    ensures nested { (t : Nodes) → IsTree t → (c : Path) → is_cut t c ≡ true → KeysApart c (at t c) → (r : TheRow) (q : Path) → StandsAt c (contents_of t c).rows r q → r.kind ≡ kind.Transition
+        → FitsAtCut t q → Decodes (record { path = q; row = Some r }) (cat t q) (contents_of t q) }
     ensures one { (place : Place) (bytes : List ℕ) (c d : Contents) → Decodes place bytes c → Decodes place bytes d → c ≡ d }
 {}
 

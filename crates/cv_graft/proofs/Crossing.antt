@@ -10,7 +10,7 @@ use Rattle.cv_rows.specs.Places.{StandsAt}
 use Rattle.cv_rows.specs.declared.row.Row.{Row}
 use Rattle.cv_graft.specs.Joins.{AreCrossed}
 use Rattle.cv_graft.specs.Places.{HasPlace}
-use Rattle.cv_cut.proofs.PublicLaws.{first_or_later, none_there, rest_behind}
+use Rattle.cv_cut.proofs.Lemmas.{first_or_later, none_there, rest_behind}
 
 pub crossed_none : (left right : List Row) → AreCrossed left (take 0 right)
 crossed_none left right a b has had = absurd (none_there b had)

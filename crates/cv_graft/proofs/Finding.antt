@@ -32,9 +32,8 @@ use Rattle.cv_rows.specs.Places.{StandsAt}
 use Rattle.cv_rows.specs.declared.row.Row.{Row}
 use Rattle.cv_cut.specs.Region.{IsOther, Passes}
 use Rattle.cv_tree.proofs.Laws.{at-at}
-use Rattle.cv_cut.proofs.PublicLaws.{cat_is, canonical, cut_some, stands_at_cut, IsThere, opens_there, nested_there, unopened, nested_unopened, root_decodes, nested_decodes, covers_append, same_rest, marked-at, covers-shift, rest_behind, entries_are, passes_of, pass_way, holder_way, cuts_some}
-use Rattle.cv_rows.proofs.RuleLaws.{has_file}
-use Rattle.cv_rows.proofs.FileLaws.{one_file}
+use Rattle.cv_cut.proofs.Lemmas.{cat_is, canonical, cut_some, stands_at_cut, IsThere, opens_there, nested_there, unopened, nested_unopened, root_decodes, nested_decodes, covers_append, same_rest, marked-at, covers-shift, rest_behind, entries_are, passes_of, pass_way, holder_way, cuts_some}
+use Rattle.cv_rows.proofs.Lemmas.{has_file, one_file}
 
 -- ---- counts
 

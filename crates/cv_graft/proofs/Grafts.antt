@@ -34,7 +34,7 @@ use Rattle.cv_graft.specs.declared.made.Made.{Made}
 use Rattle.cv_graft.specs.declared.graft_fault.GraftFault.{GraftFault}
 use Rattle.cv_graft.specs.declared.graft_fault.GraftFault.TheVariants as fault
 use Rattle.cv_tree.proofs.Laws.{get-at, IsPart-at, IsTree-put}
-use Rattle.cv_cut.proofs.PublicLaws.{some_last, put-root, made_all, at-root}
+use Rattle.cv_cut.proofs.Lemmas.{some_last, put-root, made_all, at-root}
 
 pub way_of : (shelf : Shelf) (hash : List ℕ) (t : Nodes) (p : Path) → Means shelf hash t → HasWay shelf hash t p
 way_of shelf hash t p m = record { tree = m.tree; fits = m.fits; root = m.root; catalogues = λ c cut covered apart. m.catalogues c cut }

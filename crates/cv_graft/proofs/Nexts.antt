@@ -11,7 +11,7 @@ use Rattle.cv_rows.specs.declared.row.Row.{Row}
 use Rattle.cv_rows.specs.declared.nested.Nested.{Nested}
 use Rattle.cv_rows.specs.declared.row_kind.RowKind.TheVariants.{Transition}
 use Rattle.cv_graft.specs.Way.{IsNext, HasNone}
-use Rattle.cv_cut.proofs.PublicLaws.{first_or_later, none_there, rest_behind, differs}
+use Rattle.cv_cut.proofs.Lemmas.{first_or_later, none_there, rest_behind, differs}
 
 -- ---- the test
 

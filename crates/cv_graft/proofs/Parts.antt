@@ -23,11 +23,8 @@ use Rattle.cv_rows.specs.declared.row_kind.RowKind.{RowKind}
 use Rattle.cv_rows.specs.declared.row_kind.RowKind.TheVariants.{Directory, NestedRoot, File}
 use Rattle.cv_rows.specs.Within.{IsWithin}
 use Rattle.cv_graft.specs.Places.{HasPlace}
-use Rattle.cv_cut.proofs.PublicLaws.{passes, passing, comes_from, kept_apart, sorted_apart, apart_append}
-use Rattle.cv_rows.proofs.Covers.{covers_last, ends_so, not_above}
-use Rattle.cv_rows.proofs.PlaceLaws.{stands_contained, one_place}
-use Rattle.cv_rows.proofs.NestedLaws.{fits_there}
-use Rattle.cv_rows.proofs.Regions.{stands_among}
+use Rattle.cv_cut.proofs.Lemmas.{passes, passing, comes_from, kept_apart, sorted_apart, apart_append}
+use Rattle.cv_rows.proofs.Lemmas.{covers_last, ends_so, not_above, stands_contained, one_place, fits_there, stands_among}
 
 -- ---- paths with one more name
 
@@ -271,7 +268,7 @@ module _ (c o rest : Contents) (p : Path) (rows : List Row) (nested : List Neste
       let wrong : not true ≡ true = ap not (sym will.1 ∙ ap (covers p) (sym same)) ∙ was.1 in cc))
 
   pub parts_joined : AreParts rest.at (rest.rows ++ rows) (rest.nested ++ nested)
-  parts_joined = record { region = region_joined; apart = text_paths }
+  parts_joined = record { region = λ _. region_joined; apart = text_paths }
 
   -- no key stands twice
   pub keys_joined : AreApart (keys_of (rest.rows ++ rows))

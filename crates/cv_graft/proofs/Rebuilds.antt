@@ -31,8 +31,8 @@ use Rattle.cv_graft.specs.declared.graft_fault.GraftFault.TheVariants as fault
 use Rattle.cv_cut.proofs.Upper as upper
 use Rattle.cv_cut.specs.Region.{IsNear, StandsOnWay, Passes}
 use Rattle.cv_cut.specs.Replaced.{Grafting, IsPassed, Replacing}
-use Rattle.cv_cut.proofs.PublicLaws.{cat_is, cut_some, region_apart, passes, row_key, stands_only, covers_append, longer_covers_not, marked-out, near-out, near-here, rest_behind, path-in, is_near-out, is_near-in, rows_are, at_cut, covers_p, holders, here, there, stays_at, goes_at, cut_after, keys_after, cat_after, full_after, not_full_after, above_cut, above_contents, fits_after, apart_after, holder_way, pass_way, made_here, made_deeper}
-use Rattle.cv_rows.proofs.Regions.{stands_among}
+use Rattle.cv_cut.proofs.Lemmas.{cat_is, cut_some, region_apart, passes, row_key, stands_only, covers_append, longer_covers_not, marked-out, near-out, near-here, rest_behind, path-in, is_near-out, is_near-in, rows_are, at_cut, covers_p, holders, here, there, stays_at, goes_at, cut_after, keys_after, cat_after, full_after, not_full_after, above_cut, above_contents, fits_after, apart_after, holder_way, pass_way, made_here, made_deeper}
+use Rattle.cv_rows.proofs.Lemmas.{stands_among}
 
 -- ---- the catalogue that directly holds the path
 

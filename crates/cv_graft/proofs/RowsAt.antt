@@ -19,9 +19,8 @@ use Rattle.cv_cut.specs.Catalogues.{contents_of}
 use Rattle.cv_cut.specs.Above.{Holds}
 use Rattle.cv_cut.specs.Region.{row_at, IsNear}
 use Rattle.cv_tree.proofs.Laws.{get-at}
-use Rattle.cv_cut.proofs.PublicLaws.{region_apart, row_kind, stands, stands_only, stands_at_cut, same_rest, rows_are, differs}
-use Rattle.cv_rows.proofs.PlaceLaws.{stands_contained, same_by_key, one_place}
-use Rattle.cv_rows.proofs.NestedLaws.{fits_there}
+use Rattle.cv_cut.proofs.Lemmas.{region_apart, row_kind, stands, stands_only, stands_at_cut, same_rest, rows_are, differs}
+use Rattle.cv_rows.proofs.Lemmas.{stands_contained, same_by_key, one_place, fits_there}
 
 -- ---- nodes
 

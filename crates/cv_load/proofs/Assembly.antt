@@ -18,7 +18,7 @@ use Rattle.cv_rows.specs.declared.row.Row.{Row}
 use Rattle.cv_rows.specs.declared.nested.Nested.{Nested}
 use Rattle.cv_rows.specs.declared.row_kind.RowKind.{RowKind}
 use Rattle.cv_rows.specs.declared.row_kind.RowKind.TheVariants.{Directory, Transition, NestedRoot, File, Link}
-use Rattle.cv_rows.proofs.PlaceLaws.{stands_contained, same_by_key, one_place}
+use Rattle.cv_rows.proofs.Lemmas.{stands_contained, same_by_key, one_place}
 use Rattle.cv_cut.specs.Reached.{Place, HasCatalogue, ReachesCatalogue, itself, nested, root_place}
 use Rattle.cv_cut.specs.Cuts.{is_file, is_marked}
 use Rattle.cv_base.specs.ObjectId.{object_id}

@@ -9,13 +9,12 @@ use Rattle.cv_rows.specs.Places.{StandsAt, root, below}
 use Rattle.cv_rows.specs.declared.row.Row.{Row}
 use Rattle.cv_rows.specs.declared.nested.Nested.{Nested}
 use Rattle.cv_rows.specs.declared.row_kind.RowKind.TheVariants.{Transition}
-use Rattle.cv_rows.proofs.Covers.{covers_below, covers_last}
+use Rattle.cv_rows.proofs.Lemmas.{covers_below, covers_last}
 use Rattle.cv_cut.specs.Cut.{rest_of}
-use Rattle.cv_cut.proofs.KindLaws.{rest_is}
+use Rattle.cv_cut.proofs.Lemmas.{rest_is, transition_of, transition_long, nested_long}
 use Rattle.std.specs.Prelude.{Contains}
 use Rattle.cv_load.proofs.Filling.{one_row}
 use Rattle.cv_load.proofs.Standing.{holds_not, entry_before}
-use Rattle.cv_cut.proofs.Opening.{transition_of, transition_long, nested_long}
 
 pub covers_itself : (p : Path) → covers p p ≡ true
 covers_itself p = subst (λ (q : Path). covers p q ≡ true) (append-nil p) (ap is_some (behind-append p []))

@@ -13,7 +13,7 @@ use Rattle.cv_rows.specs.declared.row.Row.{Row}
 use Rattle.cv_rows.specs.declared.nested.Nested.{Nested}
 use Rattle.cv_rows.specs.declared.row_kind.RowKind.TheVariants.{Transition}
 use Rattle.cv_cut.specs.Reached.{Reaches, root_place, itself, HasCatalogue}
-use Rattle.cv_cut.proofs.Opening.{nested_unopened}
+use Rattle.cv_cut.proofs.Lemmas.{nested_unopened}
 use Rattle.cv_cut.specs.declared.load_fault.LoadFault.{LoadFault}
 use Rattle.cv_load.specs.declared.known_set.KnownSet.{KnownSet}
 use Rattle.cv_load.specs.Growth.{HasFiles}

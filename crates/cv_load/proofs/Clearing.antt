@@ -10,7 +10,7 @@ use Rattle.cv_tree.specs.declared.node.Node.{Node}
 use Rattle.cv_tree.specs.declared.node.Node.TheVariants.{Dir}
 use Rattle.cv_tree.specs.declared.tree_fault.TreeFault.{TreeFault}
 use Rattle.cv_tree.specs.declared.tree_fault.TreeFault.TheVariants as tree_fault
-use Rattle.cv_tree.proofs.Shapes.{has_place-append}
+use Rattle.cv_tree.proofs.Laws.{has_place-append}
 use Rattle.cv_rows.specs.Row.{holds_rows}
 use Rattle.cv_rows.specs.Catalogue.{Contents, IsCatalogue}
 use Rattle.cv_rows.specs.Places.{StandsAt}
@@ -18,7 +18,7 @@ use Rattle.cv_rows.specs.declared.row.Row.{Row}
 use Rattle.cv_rows.specs.declared.nested.Nested.{Nested}
 use Rattle.cv_rows.specs.declared.row_kind.RowKind.{RowKind}
 use Rattle.cv_rows.specs.declared.row_kind.RowKind.TheVariants.{Directory, Transition, NestedRoot, File, Link}
-use Rattle.cv_rows.proofs.NestedLaws.{fits_there}
+use Rattle.cv_rows.proofs.Lemmas.{fits_there}
 use Rattle.cv_load.specs.Growth.{GrowsBy, IsClear, IsReady, ChangesBelow, HasRows, IsRootOf}
 use Rattle.cv_cut.specs.Told.{node_of, node_as}
 use Rattle.cv_load.proofs.Growing.{HasParent, some_there, stands_below}
@@ -27,7 +27,7 @@ use Rattle.cv_load.proofs.Standing.{dir_of, so_root, so_below, stands_so}
 use Rattle.cv_load.proofs.Assembly.{not_true}
 use Rattle.cv_load.proofs.LoadedTree.{single_entry}
 use Rattle.cv_load.proofs.Below.{covers_itself, covers_long, stands_covered, nothing_below, entries_apart, entry_below}
-use Rattle.cv_cut.proofs.Opening.{transition_of}
+use Rattle.cv_cut.proofs.Lemmas.{transition_of}
 
 -- ---- answers that aren't given
 

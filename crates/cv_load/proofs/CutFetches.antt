@@ -15,12 +15,10 @@ use Rattle.cv_base.specs.PathOrder.{path_total, same_path_is}
 use Rattle.cv_base.specs.declared.id.ObjectId.{ObjectId}
 use Rattle.cv_ports.specs.Shelf.{Shelf}
 use Rattle.cv_tree.specs.Tree.{Nodes}
-use Rattle.cv_rows.proofs.Regions.{same_test}
+use Rattle.cv_rows.proofs.Lemmas.{same_test}
 use Rattle.cv_cut.specs.Cuts.{is_cut, cuts_of}
 use Rattle.cv_cut.specs.Reached.{Place, ReachesCatalogue, itself, nested, root_place}
-use Rattle.cv_cut.proofs.Bools.{so}
-use Rattle.cv_cut.proofs.Members.{passes, passing, comes_from, goes_to}
-use Rattle.cv_cut.proofs.RegionLists.{keys_once}
+use Rattle.cv_cut.proofs.Lemmas.{so, passes, passing, comes_from, goes_to, keys_once}
 use Rattle.cv_load.specs.Fetches.{Visit}
 use Rattle.cv_load.proofs.Standing.{IsOpen}
 use Rattle.cv_load.proofs.Assembly.{IsWhole, full_of}

@@ -18,10 +18,10 @@ use Rattle.cv_rows.specs.declared.row.Row.{Row}
 use Rattle.cv_rows.specs.declared.nested.Nested.{Nested}
 use Rattle.cv_rows.specs.declared.row_kind.RowKind.{RowKind}
 use Rattle.cv_rows.specs.declared.row_kind.RowKind.TheVariants as kind
-use Rattle.cv_rows.proofs.PlaceLaws.{stands_contained, one_place}
+use Rattle.cv_rows.proofs.Lemmas.{stands_contained, one_place}
 use Rattle.cv_cut.specs.Cuts.{is_file, is_inner}
 use Rattle.cv_cut.specs.Catalogues.{kind_of, row_of, rows_of, nested_of}
-use Rattle.cv_cut.proofs.RowFacts.{row_kind, transition_marked, marked_transition}
+use Rattle.cv_cut.proofs.Lemmas.{row_kind, transition_marked, marked_transition}
 use Rattle.cv_cut.specs.Region.{IsNear, AreRowsOf, AreEntriesOf, row_at}
 
 -- ---- single rows

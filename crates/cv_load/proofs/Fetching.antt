@@ -24,7 +24,7 @@ use Rattle.cv_load.proofs.Standing.{same_contents}
 use Rattle.cv_load.proofs.LoadedTree.{place_at, at_root_place}
 use Rattle.cv_load.proofs.Below.{covers_itself, entries_apart, entry_below}
 use Rattle.cv_cut.specs.Opening.{IsNestedCatalogue}
-use Rattle.cv_cut.proofs.Opening.{transition_of}
+use Rattle.cv_cut.proofs.Lemmas.{transition_of}
 
 -- ---- lists
 

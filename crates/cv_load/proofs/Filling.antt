@@ -12,10 +12,9 @@ use Rattle.cv_rows.specs.Places.{StandsAt}
 use Rattle.cv_rows.specs.declared.row.Row.{Row}
 use Rattle.cv_rows.specs.declared.nested.Nested.{Nested}
 use Rattle.cv_rows.specs.declared.row_kind.RowKind.TheVariants.{Transition}
-use Rattle.cv_rows.proofs.PlaceLaws.{stands_contained, same_by_key}
-use Rattle.cv_rows.proofs.NestedLaws.{fits_there}
+use Rattle.cv_rows.proofs.Lemmas.{stands_contained, same_by_key, fits_there}
 use Rattle.cv_cut.specs.Reached.{Reaches, Place, ReachesCatalogue, HasCatalogue, root_place}
-use Rattle.cv_cut.proofs.Opening.{nested_unopened}
+use Rattle.cv_cut.proofs.Lemmas.{nested_unopened}
 use Rattle.cv_cut.specs.declared.load_fault.LoadFault.{LoadFault}
 use Rattle.cv_load.specs.Growth.{Grows, GrowsBy, HasRows, HasFiles, IsOfRows, IsFilled, filled, FillsFrom}
 use Rattle.cv_load.proofs.Growing.{still_there, each_more, each_all}

@@ -23,8 +23,7 @@ use Rattle.cv_load.proofs.OneTree.{cut_there}
 use Rattle.cv_load.proofs.Standing.{same_contents}
 use Rattle.cv_load.proofs.InTheWay.{IsCanonical, there_is, decodes_at, own_entry, canonical_entry, content_there, canonical_reached}
 use Rattle.cv_cut.specs.Good.{HasFile, HasSize, IsGood, good, IsWholeAt}
-use Rattle.cv_cut.proofs.Opening.{transition_long}
-use Rattle.cv_cut.proofs.Told.{one_decoding}
+use Rattle.cv_cut.proofs.Lemmas.{transition_long, one_decoding}
 
 -- ---- what is good, opened
 

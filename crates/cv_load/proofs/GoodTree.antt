@@ -17,11 +17,10 @@ use Rattle.cv_rows.specs.declared.row.Row.{Row}
 use Rattle.cv_rows.specs.declared.nested.Nested.{Nested}
 use Rattle.cv_rows.specs.declared.row_kind.RowKind.{RowKind}
 use Rattle.cv_rows.specs.declared.row_kind.RowKind.TheVariants.{Directory, Transition, NestedRoot, File, Link}
-use Rattle.cv_rows.proofs.PlaceLaws.{stands_contained, one_place}
-use Rattle.cv_rows.proofs.NestedLaws.{fits_there}
+use Rattle.cv_rows.proofs.Lemmas.{stands_contained, one_place, fits_there}
 use Rattle.cv_cut.specs.Reached.{Place, ReachesCatalogue, Reaches, root_place}
 use Rattle.cv_cut.specs.Means.{Means}
-use Rattle.cv_cut.proofs.Members.{none_there, first_there, later_there, first_or_later}
+use Rattle.cv_cut.proofs.Lemmas.{none_there, first_there, later_there, first_or_later, transition_of}
 use Rattle.cv_load.specs.Growth.{Grows, GrowsBy, IsOfRows, IsFilled, filled, FillsIn}
 use Rattle.cv_cut.specs.Told.{node_of, node_as, hash_of}
 use Rattle.cv_load.proofs.Growing.{place_of, some_there, still_there, added_by_insert, inserted_there, grows_more, grows_added}
@@ -33,7 +32,6 @@ use Rattle.cv_load.proofs.Standing.{root_dir, Standing, so_root, so_below, stand
 use Rattle.cv_load.proofs.Assembly.{IsWhole, all_filled, full}
 use Rattle.cv_load.proofs.Means.{means}
 use Rattle.cv_cut.specs.Good.{IsGood, good}
-use Rattle.cv_cut.proofs.Opening.{transition_of}
 
 -- ---- the rows of one catalogue
 

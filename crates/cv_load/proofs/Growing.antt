@@ -16,11 +16,10 @@ use Rattle.cv_tree.specs.declared.node.Node.{Node}
 use Rattle.cv_rows.specs.Catalogue.{Contents, IsCatalogue}
 use Rattle.cv_rows.specs.Places.{IsRoot, IsChild, StandsAt, root, below}
 use Rattle.cv_rows.specs.declared.row.Row.{Row}
-use Rattle.cv_rows.proofs.PlaceLaws.{stands_contained, same_by_key, one_place}
-use Rattle.cv_rows.proofs.NestedLaws.{fits_there}
+use Rattle.cv_rows.proofs.Lemmas.{stands_contained, same_by_key, one_place, fits_there}
 use Rattle.cv_load.specs.Growth.{Grows, GrowsBy, IsAdded, IsWithin}
 use Rattle.cv_cut.specs.Told.{node_of}
-use Rattle.cv_cut.proofs.Opening.{root_by_key, stands_long}
+use Rattle.cv_cut.proofs.Lemmas.{root_by_key, stands_long}
 
 -- ---- growth
 

@@ -14,7 +14,7 @@ use Rattle.cv_tree.specs.Tree.{Nodes, at}
 use Rattle.cv_tree.specs.declared.node.FileRef.{FileRef}
 use Rattle.cv_tree.specs.declared.node.Node.{Node}
 use Rattle.cv_tree.specs.declared.node.Node.TheVariants as node
-use Rattle.cv_tree.proofs.Replacements.{get-at}
+use Rattle.cv_tree.proofs.Laws.{get-at}
 use Rattle.cv_rows.specs.Catalogue.{Contents}
 use Rattle.cv_rows.specs.Places.{IsRoot, StandsAt, root_kind}
 use Rattle.cv_rows.specs.declared.row.Row.{Row}
@@ -24,17 +24,12 @@ use Rattle.cv_cut.specs.Cuts.{is_cut}
 use Rattle.cv_cut.specs.Catalogues.{kind_of, row_of, cat}
 use Rattle.cv_cut.specs.Means.{Means}
 use Rattle.cv_cut.specs.Reached.{ReachedFrom, Reaches, Place, Decodes, HasCatalogue, ReachesCatalogue, itself, Reached, Lacking, Misstates, Bad}
-use Rattle.cv_cut.proofs.Canonical.{cat_is}
-use Rattle.cv_cut.proofs.Regions.{IsRowThere, root_node, stands_only}
-use Rattle.cv_cut.proofs.RegionRules.{stands_at_cut}
-use Rattle.cv_cut.proofs.RowFacts.{root_row}
-use Rattle.cv_cut.proofs.CanonicalRules.{canonical, other_cut, region_apart}
+use Rattle.cv_cut.proofs.Lemmas.{cat_is, IsRowThere, root_node, stands_only, stands_at_cut, root_row, canonical, other_cut, region_apart, one_decoding}
 use Rattle.cv_cut.specs.Catalogues.{contents_of}
 use Rattle.cv_load.proofs.CutRows.{IsKept}
 use Rattle.cv_load.proofs.Kept.{kept}
 use Rattle.cv_load.proofs.OneTree.{cut_there}
 use Rattle.cv_cut.specs.Opening.{IsDamaged}
-use Rattle.cv_cut.proofs.Told.{one_decoding}
 use Rattle.cv_cut.specs.Region.{row_at}
 
 not_none : {X : Type 0} (o : Option X) (x : X) → o ≡ Some x → o ≡ None → ⊥

@@ -2,13 +2,10 @@
 use Rattle.std.proofs.Common.{◌++◌, IsTrue, sym, ◌∙◌}
 use Rattle.cv_base.specs.Path.{Path}
 use Rattle.cv_tree.specs.Tree.{Nodes, IsTree, at}
-use Rattle.cv_tree.proofs.Replacements.{get-at}
-use Rattle.cv_cut.proofs.Told.{rows_are, entries_are}
+use Rattle.cv_tree.proofs.Laws.{get-at}
+use Rattle.cv_cut.proofs.Lemmas.{rows_are, entries_are, stands, stands_at_cut, canonical, region_apart}
 use Rattle.cv_cut.specs.Cuts.{is_cut}
 use Rattle.cv_cut.specs.Catalogues.{rows_of, cat, Fits}
-use Rattle.cv_cut.proofs.Regions.{stands}
-use Rattle.cv_cut.proofs.RegionRules.{stands_at_cut}
-use Rattle.cv_cut.proofs.CanonicalRules.{canonical, region_apart}
 use Rattle.cv_load.proofs.CutRows.{IsKept}
 
 -- the catalogue of each cut keeps its rules

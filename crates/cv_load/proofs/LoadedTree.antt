@@ -16,7 +16,7 @@ use Rattle.cv_cut.specs.Means.{Means}
 use Rattle.cv_cut.specs.Reached.{Place, ReachesCatalogue, itself, root_place, HasCatalogue}
 use Rattle.cv_cut.specs.declared.load_fault.LoadFault.{LoadFault}
 use Rattle.cv_load.specs.Growth.{IsRootOf, IsOfRows, FillsFrom}
-use Rattle.cv_cut.proofs.Opening.{unopened}
+use Rattle.cv_cut.proofs.Lemmas.{unopened}
 use Rattle.cv_load.proofs.Assembly.{IsWhole}
 use Rattle.cv_load.proofs.Standing.{root_dir}
 use Rattle.cv_load.proofs.Means.{means}

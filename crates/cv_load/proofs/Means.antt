@@ -14,7 +14,7 @@ use Rattle.cv_rows.specs.Catalogue.{Contents, catalogue_bytes}
 use Rattle.cv_rows.specs.declared.row.Row.{Row}
 use Rattle.cv_rows.specs.declared.row_kind.RowKind.{RowKind}
 use Rattle.cv_rows.specs.declared.row_kind.RowKind.TheVariants.{Directory, Transition, NestedRoot, File, Link}
-use Rattle.cv_rows.proofs.PlaceLaws.{stands_contained}
+use Rattle.cv_rows.proofs.Lemmas.{stands_contained}
 use Rattle.cv_cut.specs.Reached.{Place, ReachesCatalogue, itself, root_place}
 use Rattle.cv_cut.specs.Cuts.{is_file}
 use Rattle.cv_base.specs.ObjectId.{object_id}
@@ -26,7 +26,7 @@ use Rattle.cv_load.proofs.Standing.{IsOpen, Standing, so_root, so_below, stands_
 use Rattle.std.specs.Prelude.{IsSomeAnd}
 use Rattle.cv_rows.specs.Row.{HasContent}
 use Rattle.cv_cut.specs.Catalogues.{rows_of}
-use Rattle.cv_cut.proofs.RegionLists.{row_list, keys_apart, rows_of-by_key}
+use Rattle.cv_cut.proofs.Lemmas.{row_list, keys_apart, rows_of-by_key, order_count}
 use Rattle.cv_cut.specs.Told.{hash_of}
 use Rattle.cv_cut.specs.Cuts.{is_cut}
 use Rattle.cv_cut.specs.Catalogues.{cat}
@@ -40,7 +40,6 @@ use Rattle.cv_tree.specs.declared.node.FileRef.{FileRef}
 use Rattle.cv_cut.specs.Cuts.{region}
 use Rattle.cv_cut.specs.Catalogues.{SharesKey, IsFull as PassesLimit}
 use Rattle.cv_cut.specs.Means.{Means}
-use Rattle.cv_cut.proofs.CanonicalRules.{order_count}
 use Rattle.cv_load.proofs.Assembly.{file_row}
 use Rattle.cv_load.proofs.OwnRows.{own_keys, some_hash, row_content}
 use Rattle.cv_load.proofs.OwnCatalogues.{part_open, spelled}

@@ -19,7 +19,7 @@ use Rattle.cv_load.proofs.LoadedTree.{place_at, at_root_place}
 use Rattle.cv_load.proofs.Below.{covers_itself, entries_apart}
 use Rattle.cv_load.proofs.Fetching.{pairs_append, raised_more, inside_below, IsInsideFirst}
 use Rattle.cv_cut.specs.Opening.{IsNestedCatalogue}
-use Rattle.cv_cut.proofs.Opening.{transition_of}
+use Rattle.cv_cut.proofs.Lemmas.{transition_of}
 
 abbrev pub IsNew : Shelf → KnownSet → List ℕ → Visit → Type 0
 IsNew shelf known top v = ReachesNew shelf known top v.hash v.place

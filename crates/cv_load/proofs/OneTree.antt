@@ -11,15 +11,13 @@ use Rattle.cv_base.specs.declared.id.Kind.TheVariants.{Catalogue}
 use Rattle.cv_ports.specs.Shelf.{Shelf}
 use Rattle.cv_tree.specs.Tree.{Nodes, IsTree, is_directory, at}
 use Rattle.cv_tree.specs.declared.node.Node.{Node}
-use Rattle.cv_tree.proofs.Replacements.{get-at, at-at}
+use Rattle.cv_tree.proofs.Laws.{get-at, at-at}
 use Rattle.cv_rows.specs.Catalogue.{catalogue_bytes}
-use Rattle.cv_rows.proofs.FileLaws.{one_file}
-use Rattle.cv_rows.proofs.RuleLaws.{has_file}
+use Rattle.cv_rows.proofs.Lemmas.{one_file, has_file}
 use Rattle.cv_cut.specs.Cuts.{is_file, is_marked, is_near, is_inner, is_cut}
 use Rattle.cv_cut.specs.Catalogues.{cat}
 use Rattle.cv_cut.specs.Means.{Means}
-use Rattle.cv_cut.proofs.Canonical.{cat_is}
-use Rattle.cv_cut.proofs.Behind.{is_behind}
+use Rattle.cv_cut.proofs.Lemmas.{cat_is, is_behind}
 use Rattle.cv_load.proofs.Kept.{AreKept, kept}
 use Rattle.cv_load.proofs.CutRows.{shared, one_hash, contents_at, transition_of_inner, inner_of_transition}
 use Rattle.cv_cut.specs.Region.{IsNear}

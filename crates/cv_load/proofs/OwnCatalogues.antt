@@ -24,25 +24,18 @@ use Rattle.cv_load.proofs.Assembly.{IsWhole, full_of, node_there, open_marked}
 use Rattle.cv_load.proofs.Standing.{IsOpen, Standing, rules_of, same_contents}
 use Rattle.std.specs.Prelude.{IsSomeAnd}
 use Rattle.cv_cut.specs.Catalogues.{kind_of}
-use Rattle.cv_cut.proofs.Sorted.{order_rises}
-use Rattle.cv_cut.proofs.Sameness.{same_list}
+use Rattle.cv_cut.proofs.Lemmas.{order_rises, same_list, cat_is, stands_at_cut, nested_list, texts_apart, nested_of-by_text, marked_transition, entries_are, transition_long, transition_of}
 use Rattle.cv_load.proofs.WholeRegions.{marked_at, transition_marked, row_near}
 use Rattle.cv_base.specs.Path.{text_of}
 use Rattle.cv_base.proofs.Bools.{first_true}
 use Rattle.cv_rows.specs.Catalogue.{nested_cmp, file_of}
-use Rattle.cv_rows.proofs.Sorting.{nested_total}
-use Rattle.cv_tree.proofs.Shapes.{IsPart-at}
+use Rattle.cv_rows.proofs.Lemmas.{nested_total}
+use Rattle.cv_tree.proofs.Laws.{IsPart-at}
 use Rattle.cv_cut.specs.Cuts.{is_cut}
 use Rattle.cv_cut.specs.Catalogues.{cat, nested_of, entry_of}
-use Rattle.cv_cut.proofs.Canonical.{cat_is}
-use Rattle.cv_cut.proofs.RegionRules.{stands_at_cut}
-use Rattle.cv_cut.proofs.RegionLists.{nested_list, texts_apart, nested_of-by_text}
-use Rattle.cv_cut.proofs.RowFacts.{marked_transition}
-use Rattle.cv_cut.proofs.Told.{entries_are}
 use Rattle.cv_load.proofs.WholeRegions.{names_open}
 use Rattle.cv_load.proofs.OwnRows.{kind_is, near_of, same_rows}
 use Rattle.cv_cut.specs.Good.{HasSize}
-use Rattle.cv_cut.proofs.Opening.{transition_long, transition_of}
 use Rattle.cv_cut.specs.Region.{IsOther, AreEntriesOf}
 
 -- a marked directory is a cut, and so is the root

@@ -9,13 +9,13 @@ use Rattle.std.proofs.lemmas.List.Elements.{All-contains}
 use Rattle.cv_base.specs.Path.{Path, key_of, parent_key_of, last_name_of}
 use Rattle.cv_ports.specs.Shelf.{Shelf}
 use Rattle.cv_tree.specs.Tree.{Nodes, at}
-use Rattle.cv_tree.proofs.Replacements.{get-at}
+use Rattle.cv_tree.proofs.Laws.{get-at}
 use Rattle.cv_rows.specs.Catalogue.{Contents, IsCatalogue}
 use Rattle.cv_rows.specs.Places.{StandsAt, root}
 use Rattle.cv_rows.specs.declared.row.Row.{Row}
 use Rattle.cv_rows.specs.declared.row_kind.RowKind.{RowKind}
 use Rattle.cv_rows.specs.declared.row_kind.RowKind.TheVariants.{Directory, Transition, NestedRoot, File, Link}
-use Rattle.cv_rows.proofs.PlaceLaws.{stands_contained, same_by_key, one_place}
+use Rattle.cv_rows.proofs.Lemmas.{stands_contained, same_by_key, one_place, fits_there, row_total}
 use Rattle.cv_cut.specs.Reached.{Place}
 use Rattle.cv_cut.specs.Cuts.{is_marked}
 use Rattle.cv_cut.specs.Told.{node_of, node_as}
@@ -29,15 +29,9 @@ use Rattle.std.proofs.lemmas.List.Elements.{All-from_recursion}
 use Rattle.cv_base.specs.Digest.{IsDigest}
 use Rattle.cv_rows.specs.Row.{IsRow, HasContent}
 use Rattle.cv_rows.specs.Catalogue.{row_cmp}
-use Rattle.cv_rows.proofs.NestedLaws.{fits_there}
-use Rattle.cv_rows.proofs.Sorting.{row_total}
 use Rattle.cv_cut.specs.Catalogues.{kind_of, row_of, rows_of}
-use Rattle.cv_cut.proofs.Ends.{parent_key-append, last_name-append}
-use Rattle.cv_cut.proofs.RegionLists.{row_list, keys_apart, rows_of-by_key}
-use Rattle.cv_cut.proofs.Sorted.{order_rises}
+use Rattle.cv_cut.proofs.Lemmas.{parent_key-append, last_name-append, row_list, keys_apart, rows_of-by_key, order_rises, rows_are, same_list}
 use Rattle.cv_cut.specs.Told.{hash_of}
-use Rattle.cv_cut.proofs.Told.{rows_are}
-use Rattle.cv_cut.proofs.Sameness.{same_list}
 use Rattle.cv_load.proofs.WholeRegions.{marked_at, near_by, transition_marked, row_near}
 use Rattle.cv_cut.specs.Region.{IsNear, row_at, KeysApart, AreRowsOf}
 

@@ -13,7 +13,7 @@ use Rattle.cv_cut.specs.Reached.{ReachedFrom, Place, HasCatalogue, ReachesCatalo
 use Rattle.cv_cut.specs.Opening.{MayFail}
 use Rattle.cv_cut.specs.declared.load_fault.LoadFault.{LoadFault}
 use Rattle.cv_cut.specs.declared.load_fault.LoadFault.TheVariants as fault
-use Rattle.cv_cut.proofs.Opening.{Unsized, misstating_bad}
+use Rattle.cv_cut.proofs.Lemmas.{Unsized, misstating_bad}
 
 misstated : (o : Option (List ℕ)) (size : ℕ) → IsSomeAnd o (λ bytes. length bytes ≢ size) → (bytes : List ℕ) × (o ≡ Some bytes) × (length bytes ≢ size)
 misstated None size h = absurd h

@@ -19,13 +19,12 @@ use Rattle.cv_rows.specs.declared.row.Row.{Row}
 use Rattle.cv_rows.specs.declared.nested.Nested.{Nested}
 use Rattle.cv_rows.specs.declared.row_kind.RowKind.{RowKind}
 use Rattle.cv_rows.specs.declared.row_kind.RowKind.TheVariants.{Transition}
-use Rattle.cv_rows.proofs.PlaceLaws.{stands_contained, same_by_key}
+use Rattle.cv_rows.proofs.Lemmas.{stands_contained, same_by_key}
 use Rattle.cv_cut.specs.Reached.{Place, Decodes, HasCatalogue, ReachesCatalogue, itself, nested, root_place}
 use Rattle.cv_cut.specs.Told.{node_of, node_as}
 use Rattle.cv_load.proofs.Filling.{one_row}
 use Rattle.cv_cut.specs.Open.{FitsRow}
-use Rattle.cv_cut.proofs.Told.{one_decoding}
-use Rattle.cv_cut.proofs.Opening.{transition_long}
+use Rattle.cv_cut.proofs.Lemmas.{one_decoding, transition_long}
 
 -- ---- by equations
 

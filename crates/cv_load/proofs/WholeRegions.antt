@@ -9,7 +9,7 @@ use Rattle.cv_base.specs.Path.{Path}
 use Rattle.cv_ports.specs.Shelf.{Shelf}
 use Rattle.cv_tree.specs.Tree.{Nodes, at, is_directory}
 use Rattle.cv_tree.specs.declared.node.Node.{Node}
-use Rattle.cv_tree.proofs.Replacements.{get-at}
+use Rattle.cv_tree.proofs.Laws.{get-at}
 use Rattle.cv_rows.specs.Row.{holds_rows}
 use Rattle.cv_rows.specs.Catalogue.{Contents, IsListed}
 use Rattle.cv_rows.specs.Places.{StandsAt, root, below}
@@ -17,16 +17,14 @@ use Rattle.cv_rows.specs.declared.row.Row.{Row}
 use Rattle.cv_rows.specs.declared.nested.Nested.{Nested}
 use Rattle.cv_rows.specs.declared.row_kind.RowKind.{RowKind}
 use Rattle.cv_rows.specs.declared.row_kind.RowKind.TheVariants.{Directory, Transition, NestedRoot, File, Link}
-use Rattle.cv_rows.proofs.PlaceLaws.{stands_contained, one_place}
+use Rattle.cv_rows.proofs.Lemmas.{stands_contained, one_place}
 use Rattle.cv_cut.specs.Reached.{Place, ReachesCatalogue, nested}
 use Rattle.cv_cut.specs.Cuts.{is_file, is_marked, is_near}
 use Rattle.cv_cut.specs.Told.{node_of, node_as}
 use Rattle.cv_tree.specs.Tree.{IsPart}
-use Rattle.cv_cut.proofs.Ends.{some_last, near_below}
-use Rattle.cv_cut.proofs.Regions.{above}
+use Rattle.cv_cut.proofs.Lemmas.{some_last, near_below, above, transition_long}
 use Rattle.cv_load.proofs.Assembly.{IsWhole, full_of, standing_of, node_there, open_marked, directory_unmarked}
 use Rattle.cv_load.proofs.Standing.{named_by, IsOpen, Standing, Holds, AreTogether, so_root, so_below, stands_so, rules_of, contents_same, one_holder, one_node, last_same, moved, not_empty, parent_standing}
-use Rattle.cv_cut.proofs.Opening.{transition_long}
 use Rattle.cv_cut.specs.Region.{IsNear}
 
 holder_kind : (k : RowKind) → holds_rows k ≡ true → k ≢ NestedRoot → k ≡ Directory

@@ -1,6 +1,6 @@
 use Rattle.std.proofs.Common.{◌∙◌}
 use Rattle.cv_cut.specs.Cut.{IsShared}
-use Rattle.cv_cut.proofs.Collisions.{each_apart, one_apart, sharing_there, handed_on}
+use Rattle.cv_cut.proofs.Collisions.{all_apart, each_apart, one_apart, region_keys, sharing_there, handed_on}
 use Rattle.cv_cut.proofs.collision.check_keys.Goals as goal
 
 pub returns-in_err-check_region-clause-err : goal.returns-in_err-check_region-clause-err
@@ -10,7 +10,8 @@ returns-in_err-check_region-clause-err c =
 
 pub loop-cut-preserved : goal.loop-cut-preserved
 loop-cut-preserved c =
-    one_apart c.args.tree.now c.args.cuts.now c.loop-cut.cut-index _ _ c.loop-cut.invariant c.loop-cut-test.true c.cut-item.is (c.deref.ensures.value ∙ c.in_ok-region.ensures) c.in_ok-check_region.ensures.ok
+    let keys = region_keys c.args.tree.now _ _ (c.deref.ensures.value ∙ c.in_ok-region.ensures) c.in_ok-check_region.ensures.ok in
+    one_apart c.args.tree.now c.args.cuts.now c.loop-cut.cut-index _ c.loop-cut.invariant c.loop-cut-test.true c.cut-item.is keys
 
 pub returns-clause-ok : goal.returns-clause-ok
-returns-clause-ok c = each_apart c.args.tree.now c.args.cuts.now c.loop-cut.cut-index c.requires.tree c.requires.cuts c.loop-cut-test.false c.loop-cut.invariant
+returns-clause-ok c = each_apart c.args.tree.now c.args.cuts.now c.requires.tree c.requires.cuts (all_apart c.args.tree.now c.args.cuts.now c.loop-cut.cut-index c.loop-cut-test.false c.loop-cut.invariant)

@@ -6,7 +6,7 @@ catalogue-requires-clause-cut c = cut_there c.args.tree.now c.args.cuts.now c.lo
 
 pub loop-cut-preserved : goal.loop-cut-preserved
 loop-cut-preserved c =
-    next_made _ _ _ _ _ _ _ _ _ c.loop-cut.invariant c.requires.cuts c.loop-cut-test.true c.cut-item.is c.in_ok-bytes.ensures.bytes c.in_ok-bytes.ensures.fits c.in_ok-keep.ensures.made c.in_ok-keep.ensures.objects
+    next_made _ _ _ _ _ _ _ _ _ c.loop-cut.invariant c.requires.cuts c.loop-cut-test.true c.cut-item.is c.in_ok-bytes.ensures.bytes c.in_ok-bytes.ensures.apart c.in_ok-bytes.ensures.fits c.in_ok-keep.ensures.made c.in_ok-keep.ensures.objects
 
 pub catalogue-requires-clause-made : goal.catalogue-requires-clause-made
 catalogue-requires-clause-made c = below_made c.args.tree.now c.args.cuts.now c.loop-cut.cut-index _ _ c.requires.cuts c.loop-cut-test.true c.cut-item.is c.loop-cut.invariant.made_

@@ -1,6 +1,6 @@
 use Rattle.std.proofs.Common.{sym, ap, ◌∙◌, ◌++◌}
 use Rattle.cv_tree.specs.Tree.{Nodes, at, put}
-use Rattle.cv_tree.proofs.Replacements.{at-at, at-put}
+use Rattle.cv_tree.proofs.Laws.{at-at, at-put}
 use Rattle.cv_cut.specs.Catalogues.{catalogue}
 use Rattle.cv_cut.proofs.laws.parts_come.Goals as goal
 

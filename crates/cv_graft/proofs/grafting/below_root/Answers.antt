@@ -10,7 +10,7 @@ use Rattle.cv_graft.specs.declared.graft_fault.GraftFault.{GraftFault}
 use Rattle.cv_graft.proofs.grafting.below_root.Goals as goal
 use Rattle.cv_ports.specs.Calls.{raised_by}
 use Rattle.cv_cut.specs.Above.{replaced}
-use Rattle.cv_cut.proofs.PublicLaws.{left_by}
+use Rattle.cv_cut.proofs.Lemmas.{left_by}
 
 pub returns-in_err-other-clause-taken : goal.returns-in_err-other-clause-taken
 returns-in_err-other-clause-taken g c = λ standing told t n mt mn.

@@ -8,7 +8,7 @@ use Rattle.cv_graft.specs.Way.{Finds}
 use Rattle.cv_graft.proofs.Grafts.{top_is, top_count}
 use Rattle.cv_graft.proofs.grafting.holder.Goals as goal
 use Rattle.cv_ports.specs.Calls.{raised_by}
-use Rattle.cv_cut.proofs.PublicLaws.{left_by}
+use Rattle.cv_cut.proofs.Lemmas.{left_by}
 
 pub returns-in_err-catalogue-clause-taken : goal.returns-in_err-catalogue-clause-taken
 returns-in_err-catalogue-clause-taken g c = λ standing told n way. (1, some_count n c.args.path.now c.requires.path, c.in_err-catalogue.ensures.taken)

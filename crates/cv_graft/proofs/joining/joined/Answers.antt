@@ -16,7 +16,7 @@ use Rattle.cv_graft.specs.declared.graft_fault.GraftFault.{GraftFault}
 use Rattle.cv_graft.specs.declared.graft_fault.GraftFault.TheVariants as fault
 use Rattle.cv_graft.proofs.Parts.{AreJoinable, parts_joined, keys_joined}
 use Rattle.cv_graft.proofs.joining.joined.Goals as goal
-use Rattle.cv_cut.proofs.PublicLaws.{passes}
+use Rattle.cv_cut.proofs.Lemmas.{passes}
 
 came_from : (o : Contents) (p : Path) (rows there : List Row) (nested : List Nested) → IsWithin o p rows nested → there ≡ rows → (r : Row) → Contains there r → Contains o.rows r
 came_from o p rows there nested w same r has = (passes w.goes o.rows r (subst (λ (l : List Row). Contains l r) (same ∙ w.rows_are) has)).0

@@ -8,7 +8,7 @@ use Rattle.cv_graft.proofs.Rebuilds.{asked_of, above_of, above_made, upper_fault
 use Rattle.cv_graft.proofs.rebuilding.+rebuilt.Goals as goal
 use Rattle.cv_ports.specs.Calls.{raised_by}
 use Rattle.cv_cut.specs.Above.{replaced}
-use Rattle.cv_cut.proofs.PublicLaws.{left_by}
+use Rattle.cv_cut.proofs.Lemmas.{left_by}
 
 pub returns-in_default-clause-told : goal.returns-in_default-clause-told
 returns-in_default-clause-told g m c = λ standing told hash t n r way offered after w is.

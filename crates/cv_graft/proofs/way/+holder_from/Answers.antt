@@ -5,7 +5,7 @@ use Rattle.cv_cut.specs.declared.load_fault.LoadFault.{LoadFault}
 use Rattle.cv_graft.proofs.Finding.{raised_more, none_holds, step_unread, step_down, step_count, more_than_one, at_most_below, fails_next, fails_below}
 use Rattle.cv_graft.proofs.way.+holder_from.Goals as goal
 use Rattle.cv_ports.specs.Calls.{raised_by}
-use Rattle.cv_cut.proofs.PublicLaws.{left_by}
+use Rattle.cv_cut.proofs.Lemmas.{left_by}
 
 pub returns-in_default-clause-told : goal.returns-in_default-clause-told
 returns-in_default-clause-told g t c = λ standing told hash n r way w is.

@@ -7,7 +7,7 @@ use Rattle.cv_load.proofs.Checks.{checks_known, checks_unopened, checks_more, ch
 use Rattle.cv_load.proofs.Listing.{lists_none, lists_known, lists_more, lists_all, has_added}
 use Rattle.cv_load.proofs.NewFetching.{new_none, new_ended, new_opened, new_all}
 use Rattle.cv_load.proofs.checking.+check.Goals as goal
-use Rattle.cv_cut.proofs.Opening.{left_by}
+use Rattle.cv_cut.proofs.Lemmas.{left_by}
 
 pub loop-nested-preserved-then-is_known : goal.loop-nested-preserved-then-is_known
 loop-nested-preserved-then-is_known g t c =

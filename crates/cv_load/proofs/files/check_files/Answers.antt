@@ -4,7 +4,7 @@ use Rattle.cv_rows.specs.declared.row.Row.{Row}
 use Rattle.cv_load.specs.Growth.{HasFiles}
 use Rattle.cv_load.proofs.Growing.{item_there}
 use Rattle.cv_load.proofs.files.check_files.Goals as goal
-use Rattle.cv_cut.proofs.Opening.{left_by}
+use Rattle.cv_cut.proofs.Lemmas.{left_by}
 use Rattle.cv_load.proofs.Sizing.{file_unsized}
 
 pub returns-in_err-check_file-clause-told : goal.returns-in_err-check_file-clause-told

@@ -10,7 +10,7 @@ use Rattle.cv_load.proofs.Filling.{fills_none, fills_unopened, fills_more, fills
 use Rattle.cv_load.proofs.Clearing.{clear_first, clear_more, grows_within, changes_more}
 use Rattle.cv_load.proofs.Fetching.{first_none, first_unopened, first_opened, first_all}
 use Rattle.cv_load.proofs.loading.+fill.Goals as goal
-use Rattle.cv_cut.proofs.Opening.{left_by}
+use Rattle.cv_cut.proofs.Lemmas.{left_by}
 
 pub returns-in_err-check_files-clause-fetches : goal.returns-in_err-check_files-clause-fetches
 returns-in_err-check_files-clause-fetches g t c = λ standing told.

@@ -4,7 +4,7 @@ use Rattle.cv_tree.specs.Tree.{Nodes, single}
 use Rattle.cv_tree.specs.declared.node.Node.TheVariants.{Dir}
 use Rattle.cv_load.specs.Growth.{IsRootOf}
 use Rattle.cv_load.proofs.loading.root_of.Goals as goal
-use Rattle.cv_cut.proofs.Opening.{root_by_key, root_found}
+use Rattle.cv_cut.proofs.Lemmas.{root_by_key, root_found}
 
 pub unreachable-requires : goal.unreachable-requires
 unreachable-requires c = root_found c.args.catalogue.now c.args.at.now c.requires.rules c.requires.place (λ r has key. c.in_default.ensures r has (key ∙ sym c.key.ensures))

@@ -1,5 +1,5 @@
 use Rattle.std.proofs.Common.{ℕ, None, Ok, refl}
-use Rattle.cv_rows.proofs.Walks.{no_longer}
+use Rattle.cv_rows.proofs.Lemmas.{no_longer}
 use Rattle.cv_tree.proofs.Laws.{joined-Ok}
 use Rattle.cv_load.proofs.placing.below.Goals as goal
 

@@ -3,7 +3,7 @@ use Rattle.std.specs.FinMap.{get}
 use Rattle.cv_base.specs.Path.{Path}
 use Rattle.cv_rows.specs.Places.{StandsAt}
 use Rattle.cv_rows.specs.declared.row.Row.{Row}
-use Rattle.cv_rows.proofs.PlaceLaws.{stands_contained}
+use Rattle.cv_rows.proofs.Lemmas.{stands_contained}
 use Rattle.cv_load.proofs.Growing.{within_limit, grows_more, still_there, row_there, each_more, each_all}
 use Rattle.cv_load.proofs.Clearing.{ready_clear, ready_grown}
 use Rattle.cv_load.proofs.placing.place_rows.Goals as goal
