@@ -10,3 +10,5 @@ pub mod Telling
 pub mod Once
 pub mod Noting
 pub mod Meaning
+pub mod Clashing
+pub mod Lemmas

@@ -1,5 +1,5 @@
 -- Ids that are noted.
-use Rattle.std.proofs.Common.{◌≡◌, ◌||◌, ℕ, Bool, true, false, cond, List, [], ◌∷◌, ◌++◌, take, length, ◌<◌, ◌+◌, get_or, refl, ap, ◌∙◌}
+use Rattle.std.proofs.Common.{◌≡◌, ◌||◌, ℕ, Bool, true, false, cond, List, [], ◌∷◌, ◌++◌, take, length, ◌<◌, ◌+◌, get_or, refl, sym, subst, ap, ◌∙◌, inl, inr, arith}
 use Rattle.std.specs.Prelude.{Vec, is_some, is_none}
 use Rattle.std.specs.declared.option.Option.{Option}
 use Rattle.std.specs.declared.option.Option.TheVariants.{None, Some}
@@ -16,11 +16,11 @@ use Rattle.cv_ports.specs.Objects.{same_id}
 use Rattle.cv_objects.specs.Names.{standing_on}
 use Rattle.cv_objects.specs.Fresh.{lacking}
 use Rattle.cv_objects.specs.Places.{place_of, is_noted}
-use Rattle.cv_objects.specs.Batches.{Notes, again, anew, Noted, has_file, has_none, NotesOne, Looked, GivesFresh, Shows, by_one, by_itself, IsOutside}
+use Rattle.cv_objects.specs.Batches.{Notes, again, anew, Noted, has_file, has_none, NotesOne, Looked, GivesFresh, Agrees, Shows, by_one, by_itself, IsOutside}
 use Rattle.cv_objects.specs.declared.places.Places.{Places}
 use Rattle.cv_objects.specs.declared.store_fault.StoreFault.{StoreFault}
 use Rattle.cv_objects.specs.declared.store_fault.StoreFault.TheVariants.{NoMemory}
-use Rattle.cv_objects.proofs.Lists.{among}
+use Rattle.cv_objects.proofs.Lists.{among, last_or_earlier}
 use Rattle.cv_objects.proofs.Looking.{shows_outside}
 use Rattle.cv_objects.proofs.Once.{AreOnce, once_there, once_again, once_anew}
 use Rattle.cv_objects.proofs.Telling.{standing_is}
@@ -43,6 +43,26 @@ fresh_more d batch i o ids new was are lt is once (has_none absent (anew other e
 
 pub fresh_none : (d : Disk) (batch : List Object) (places : Places) → ((id : ObjectId) → place_of places id ≡ None) → AreOnce (lacking (take 0 batch) (standing_on d)) [] (is_noted places)
 fresh_none d batch places none = record { ids_ = refl; noted_ = λ x. ap is_some (none x) }
+
+some_is : {a b : List ℕ} → Some a ≡ Some b → a ≡ b
+some_is e = cc
+
+-- what stands under its id is its own
+pub agrees_more : (d : Disk) (batch : List Object) (i : ℕ) (o : Object) (ids new : List ObjectId) (was are : Places) → i < length batch → o ≡ get_or batch i o
+    → Agrees (take i batch) (standing_on d) → Noted d o ids was new are → Agrees (take (i + 1) batch) (standing_on d)
+agrees_more d batch i o ids new was are lt is agrees noted = record {
+  each = λ a h. elim (last_or_earlier batch i o a lt is h) [
+    | inl old ↦ agrees.each a old
+    | inr e ↦ subst (λ (x : Object). (bytes : List ℕ) → standing_on d x.id ≡ Some bytes → bytes ≡ x.bytes) e (own noted)
+  ];
+}
+  where
+    own : Noted d o ids was new are → (bytes : List ℕ) → standing_on d o.id ≡ Some bytes → bytes ≡ o.bytes
+    own (has_file there same kept) bytes e = some_is (sym e ∙ there)
+    own (has_none absent notes) bytes e = absurd (let k : None ≡ Some bytes = sym absent ∙ e in cc)
+
+pub agrees_none : (d : Disk) (batch : List Object) → Agrees (take 0 batch) (standing_on d)
+agrees_none d batch = record { each = λ o h. absurd (let lt = h.1 in omega arith) }
 
 module _ {V : Type 0} {disk : V → Option Disk} {count : V → ℕ} {left : V → ℕ → Files → Type 0} {d : Disk} {v v1 : V} (o : Object) (ids : List ObjectId) (was : Places) where
   pub notes_not : {X : Type 0} (new : List ObjectId) (are : Places) (r : Result X StoreFault) (e : StoreFault) → r ≡ Err e → Walks disk count left on_way Nothing (Looked d o (Err e)) d v v1 → Walks disk count left on_way Nothing (NotesOne d o ids was new are r) d v v1

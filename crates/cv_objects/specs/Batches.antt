@@ -142,12 +142,21 @@ pub record AllWait (d : Disk) (batch : List Object) : Type 0 where
 pub record Has (d : Disk) (batch : List Object) : Type 0 where
   pub each : (o : Object) → Contains batch o → (d (file_name o.id)).now ≡ Some o.bytes
 
+-- no object of the batch comes by this name, or to it
+pub record IsApart (batch : List Object) (n : Name) : Type 0 where
+  pub way : (o : Object) → Contains batch o → n ≢ way_name o.id
+  pub name : (o : Object) → Contains batch o → n ≢ file_name o.id
+
+-- under the names apart from the batch stands what stood there
+pub record KeepsOthers (d : Disk) (batch : List Object) (d' : Disk) : Type 0 where
+  pub each : (n : Name) → IsApart batch n → (d' n).now ≡ (d n).now
+
 abbrev pub WroteAll : Disk → List Object → {X : Type 0} → Result X StoreFault → Disk → Type 0
-WroteAll d batch (Ok x) d' = AreReady d' batch
+WroteAll d batch (Ok x) d' = AreReady d' batch × KeepsOthers d batch d'
 WroteAll d batch (Err fault) d' = ShownIn d batch fault
 
 abbrev pub PlacedAll : Disk → List Object → {X : Type 0} → Result X StoreFault → Disk → Type 0
-PlacedAll d batch (Ok x) d' = Has d' batch
+PlacedAll d batch (Ok x) d' = Has d' batch × KeepsOthers d batch d'
 PlacedAll d batch (Err fault) d' = IsOutside fault
 
 -- all is settled, and the batch is there
@@ -168,9 +177,23 @@ Stored d batch (Err Failed) d' = IsOne batch
 Stored d batch (Err (Damaged id found)) d' = IsRefused d batch (Damaged id found) d'
 Stored d batch (Err NoMemory) d' = IsOne batch ⊎ Gains on_way Nothing d d'
 
--- the ids that the shelf lacks, each once, in the order of the batch; and objects of one id are one
+-- the same, and what it leaves under the other names where it succeeds
+abbrev pub StoredAll : Disk → List Object → {X : Type 0} → Result X StoreFault → Disk → Type 0
+StoredAll d batch (Ok x) d' = AreStored batch d' × KeepsOthers d batch d'
+StoredAll d batch {X} (Err fault) d' = Stored d batch {X = X} (Err fault) d'
+
+-- the same with a file that is put on its way beside the batch
+abbrev pub StoredWith : Disk → List Object → Name → List ℕ → {X : Type 0} → Result X StoreFault → Disk → Type 0
+StoredWith d batch way bytes (Ok x) d' = AreStored batch d' × ((d' way).now ≡ Some bytes)
+StoredWith d batch way bytes {X} (Err fault) d' = Stored d batch {X = X} (Err fault) d'
+
+-- what stands on a shelf under an id of the batch is that object's bytes
+pub record Agrees (batch : List Object) (shelf : Shelf) : Type 0 where
+  pub each : (o : Object) → Contains batch o → (bytes : List ℕ) → shelf o.id ≡ Some bytes → bytes ≡ o.bytes
+
+-- the ids that the shelf lacks, each once, in the order of the batch; objects of one id are one, and what stands there is theirs
 abbrev pub GivesFresh : Disk → List Object → {Z : Type 0} → Result (Vec ObjectId Z) StoreFault → Disk → Type 0
-GivesFresh d batch (Ok ids) d' = (d' ≡ d) × (ids.items ≡ fresh_of batch (standing_on d)) × IsOne batch
+GivesFresh d batch (Ok ids) d' = (d' ≡ d) × (ids.items ≡ fresh_of batch (standing_on d)) × IsOne batch × Agrees batch (standing_on d)
 GivesFresh d batch (Err fault) d' = (d' ≡ d) × ShownIn d batch fault
 
 -- bytes that stand under an object's name, against it

@@ -1,6 +1,6 @@
 //! Objects over a vault.
 ghost use Rattle.std.proofs.Common.{ap};
-ghost use Rattle.std.specs.Prelude.{◌≡◌, ◌≢◌, ℕ, Option, IfErr, IsErrOf};
+ghost use Rattle.std.specs.Prelude.{◌≡◌, ◌≢◌, ℕ, Option, true, IfErr, IsErrOf};
 ghost use Rattle.std.specs.Option.{option_map};
 ghost use Rattle.cv_base.specs.Counts.{HasCause};
 ghost use Rattle.cv_base.specs.Told.{WhereTold};
@@ -12,7 +12,7 @@ ghost use Rattle.cv_vault.specs.Walks.{Walks, Nothing};
 ghost use Rattle.cv_vault.specs.declared.vault.VaultFault.TheVariants as vault_fault;
 ghost use Rattle.cv_vault.proofs.Quiet.{quiet_none, quiet_then, quiet_same};
 ghost use Rattle.cv_objects.specs.Names.{standing_on};
-ghost use Rattle.cv_objects.specs.Batches.{AreNamed, Brings, GivesFresh, Stored};
+ghost use Rattle.cv_objects.specs.Batches.{AreNamed, Brings, GivesFresh, IsApart, Stored, StoredWith};
 ghost use Rattle.cv_objects.specs.declared.store_fault.StoreFault.TheVariants as fault;
 
 use crate::batch::clash_in;
@@ -89,6 +89,32 @@ impl<V: Vault + Drop> Objects<V> {
         if let Some(id) = clash_in(alloc, batch)? {
             return Err(StoreFault::Collision(id));
         }
+        store_all(&mut self.vault, alloc, batch)
+    }
+
+    /// Stores the objects of a batch that the shelf lacks, as `store` does, and puts a file on its way: the syncs that the
+    /// objects need settle it too.
+    ///
+    /// The file's name is one on the way that no object of the batch has there.
+    pub fn store_with(
+        &mut self,
+        alloc: Global,
+        batch: &[Object],
+        way: &str,
+        bytes: &[u8],
+    ) -> Result<(), StoreFault>
+        requires named { AreNamed batch.now }
+        requires way { on_way way.now ≡ true }
+        requires apart { IsApart batch.now way.now }
+        ensures walks { WhereTold (V.disk self.old.vault) (λ d.
+            Walks V.disk V.count V.left on_way (Brings d batch.now) (StoredWith d batch.now way.now bytes.now result) d self.old.vault self.new.vault) }
+        ensures cause { HasCause (V.faults self.old.vault) (V.faults self.new.vault) (IsErrOf result fault.Failed) }
+        ensures taken { self.new.taken ≡ self.old.taken }
+    {
+        if let Some(id) = clash_in(alloc, batch)? {
+            return Err(StoreFault::Collision(id));
+        }
+        self.vault.write(way, bytes)?;
         store_all(&mut self.vault, alloc, batch)
     }
 }

@@ -6,7 +6,7 @@ ghost use Rattle.cv_base.specs.Digest.{IsDigest};
 ghost use Rattle.cv_base.specs.Told.{WhereTold};
 ghost use Rattle.cv_vault.specs.Names.{on_way};
 ghost use Rattle.cv_vault.specs.Walks.{Walks, Nothing};
-ghost use Rattle.cv_objects.specs.Batches.{Compares, Looked, Wrote, Placed, WroteAll, PlacedAll, Stored, Brings, BringsOne, AreNamed, IsOne, Waits, AllWait};
+ghost use Rattle.cv_objects.specs.Batches.{Compares, Looked, Wrote, Placed, WroteAll, PlacedAll, StoredAll, Brings, BringsOne, AreNamed, IsOne, Waits, AllWait};
 ghost use Rattle.cv_objects.specs.declared.store_fault.StoreFault.TheVariants as fault;
 
 use crate::names::{name_of, way_of};
@@ -108,7 +108,7 @@ fn place_absent<V: Vault>(vault: &mut V, alloc: Global, batch: &[Object]) -> Res
 pub fn store_all<V: Vault>(vault: &mut V, alloc: Global, batch: &[Object]) -> Result<(), StoreFault>
     requires named { AreNamed batch.now }
     requires one { IsOne batch.now }
-    ensures walks { WhereTold (V.disk vault.old) (λ d. Walks V.disk V.count V.left on_way (Brings d batch.now) (Stored d batch.now result) d vault.old vault.new) }
+    ensures walks { WhereTold (V.disk vault.old) (λ d. Walks V.disk V.count V.left on_way (Brings d batch.now) (StoredAll d batch.now result) d vault.old vault.new) }
     ensures cause { HasCause (V.faults vault.old) (V.faults vault.new) (IsErrOf result fault.Failed) }
 {
     vault.sync()?;

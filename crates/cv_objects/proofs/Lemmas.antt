@@ -1,0 +1,13 @@
+-- What this crate proves for those above it, which cite it from here.
+
+-- what its laws say
+pub use Rattle.cv_objects.proofs.Meaning.{keep_hashes, adds_batch}
+pub use Rattle.cv_objects.proofs.Clashing.{collision_clashes, damage_is_none, agreeing_clash, stored_clash, gains_some, has_all}
+-- the names of objects, and the digests of their ids
+pub use Rattle.cv_objects.proofs.Naming.{data_off_way, digest_back}
+pub use Rattle.cv_objects.proofs.Telling.{told_of, standing_is}
+pub use Rattle.cv_objects.proofs.Batching.{is_digest_of, named_none, named_more}
+-- where nothing came, and where objects of the batch may
+pub use Rattle.cv_objects.proofs.Batching.{kept, brings_nothing}
+-- faults that are handed on
+pub use Rattle.cv_objects.proofs.Looking.{handed_on, same_fault, outside}
