@@ -14,7 +14,7 @@ use Rattle.cv_swap.specs.Stands.{Stands, CanBegin, first_kept, Publishes, head_n
 use Rattle.cv_swap.specs.Publishing.{BringsFirst, an_object, the_epoch}
 use Rattle.cv_swap.proofs.Names.{head_not_data, epoch_not_head, same_object}
 
-not_first : (d : Disk) (batch : List Object) (f : File) → BringsFirst d batch head_name f → ⊥
+pub not_first : (d : Disk) (batch : List Object) (f : File) → BringsFirst d batch head_name f → ⊥
 not_first d batch f (an_object b) = head_not_data b.object.id b.one.name
 not_first d batch f (the_epoch c) = epoch_not_head (sym c.0)
 
@@ -29,6 +29,18 @@ first_between d d1 batch none g = by (g.each head_name refl)
     by : Change (BringsFirst d batch head_name) (d head_name) (d1 head_name) → (d1 head_name).now ≡ None
     by (Stays s l) = s ∙ none
     by (Comes b l) = absurd (not_first d batch _ b)
+
+-- a crash while the head comes leaves the other files as they are
+pub within_beside : (d : Disk) (file : File) (f : Files) → IsCalm d → Within on_way (ComesTo head_name file) d f → (n : Name) → on_way n ≡ false → head_name ≢ n → f n ≡ (d n).now
+within_beside d file f calm w n o apart = elim (w.each n o) [ inl m ↦ may_settled d n (f n) (calm n) m | inr b ↦ absurd (apart (sym b.0)) ]
+
+-- and they are so after it came
+pub gains_beside : (d d' : Disk) (file : File) → Gains on_way (ComesTo head_name file) d d' → (n : Name) → on_way n ≡ false → head_name ≢ n → (d' n).now ≡ (d n).now
+gains_beside d d' file g n o apart = by (g.each n o)
+  where
+    by : Change (ComesTo head_name file n) (d n) (d' n) → (d' n).now ≡ (d n).now
+    by (Stays s l) = s
+    by (Comes b l) = absurd (apart (sym b.0))
 
 begins : (name : List ℕ) (is_seal : List ℕ → List ℕ → Bool) (d : Disk) (first : Revision) (manifest : List ℕ) (f : Files) → CanBegin name is_seal d first manifest
     → f head_name ≡ Some manifest → ((id : ObjectId) → f (file_name id) ≡ files_now d (file_name id)) → f epoch_name ≡ Some (epoch_text 0) → Stands name is_seal f (first_kept d first)
@@ -50,7 +62,7 @@ first_leaves name is_seal d first manifest sure none can f w = elim (w.each head
 ]
   where
     other : (n : Name) → on_way n ≡ false → head_name ≢ n → f n ≡ (d n).now
-    other n o apart = elim (w.each n o) [ inl m ↦ may_settled d n (f n) (sure.calm n) m | inr b ↦ absurd (apart (sym b.0)) ]
+    other = within_beside d (Some manifest) f sure.calm w
 
 -- and after it came each image stands for it
 pub first_makes : (name : List ℕ) (is_seal : List ℕ → List ℕ → Bool) (d d' : Disk) (first : Revision) (manifest : List ℕ) → IsSure epoch_name (epoch_text 0) d → CanBegin name is_seal d first manifest
@@ -58,9 +70,5 @@ pub first_makes : (name : List ℕ) (is_seal : List ℕ → List ℕ → Bool) (
 first_makes name is_seal d d' first manifest built can g sure f i =
     begins name is_seal d first manifest f can (calm_image d' sure.calm f i head_name ∙ sure.there) (λ id. other (file_name id) refl (head_not_data id)) (other epoch_name refl (λ e. epoch_not_head (sym e)) ∙ built.there)
   where
-    by : (n : Name) → head_name ≢ n → Change (ComesTo head_name (Some manifest) n) (d n) (d' n) → (d' n).now ≡ (d n).now
-    by n apart (Stays s l) = s
-    by n apart (Comes b l) = absurd (apart (sym b.0))
-
     other : (n : Name) → on_way n ≡ false → head_name ≢ n → f n ≡ (d n).now
-    other n o apart = calm_image d' sure.calm f i n ∙ by n apart (g.each n o)
+    other n o apart = calm_image d' sure.calm f i n ∙ gains_beside d d' (Some manifest) g n o apart

@@ -6,6 +6,7 @@ pub mod Views
 pub mod Publish
 pub mod Swapped
 pub mod Begins
+pub mod Growing
 pub mod Prepared
 pub mod Prefixes
 pub mod Made
@@ -15,5 +16,8 @@ pub mod Reopened
 pub mod Refusing
 pub mod FirstSound
 pub mod Inits
+pub mod Texts
 pub mod OnShelf
 pub mod Recovered
+pub mod Failed
+pub mod Lemmas

@@ -1,14 +1,20 @@
 -- The names of the line's files, which are none of objects.
-use Rattle.std.proofs.Common.{◌≡◌, ◌≢◌, ◌<◌, ◌^◌, ℕ, Bool, true, false, List, [], ◌∷◌, nat_eq, codes, refl, ap}
+use Rattle.std.proofs.Common.{◌≡◌, ◌≢◌, ◌<◌, ◌^◌, ℕ, Bool, true, false, List, [], ◌∷◌, nat_eq, codes, length, ◌+◌, length-append, refl, ap, ◌∙◌, arith}
 use Rattle.std.specs.Prelude.{decimal, None, Some, if◌then◌else◌}
 use Rattle.std.specs.List.{starts_with}
 use Rattle.std.proofs.lemmas.List.{append_cancel_right}
 use Rattle.std.proofs.lemmas.Fmt.{decimal_injective}
-use Rattle.cv_base.specs.ObjectId.{file_name}
+use Rattle.hex.specs.Hex.{encode_lower, lower_digits}
+use Rattle.hex.proofs.HexLemmas.{length-encode_with}
+use Rattle.cv_base.specs.Digest.{IsDigest}
+use Rattle.cv_base.specs.ObjectId.{file_name, id_text, suffix_of}
 use Rattle.cv_base.specs.declared.id.ObjectId.{ObjectId}
+use Rattle.cv_base.specs.declared.object.Object.{Object}
 use Rattle.cv_vault.specs.Disk.{File, Files}
-use Rattle.cv_objects.specs.Names.{objects_of, is_digest}
-use Rattle.cv_swap.specs.Stands.{head_name, epoch_name, epoch_text}
+use Rattle.cv_objects.specs.Batches.{AreNamed, IsApart}
+use Rattle.cv_objects.specs.Names.{objects_of, is_digest, way_name}
+use Rattle.cv_objects.proofs.Lemmas.{is_digest_of}
+use Rattle.cv_swap.specs.Stands.{head_name, head_way, epoch_name, epoch_text}
 
 abbrev is_data : List ℕ → Bool
 is_data n = starts_with nat_eq n (codes "data/")
@@ -37,3 +43,19 @@ some_is e = cc
 -- the same files, the same objects
 pub same_object : (f g : Files) (id : ObjectId) → f (file_name id) ≡ g (file_name id) → objects_of f id ≡ objects_of g id
 same_object f g id e = ap (λ (x : File). if is_digest id.hash then x else None) e
+
+-- ---- the manifest on its way
+
+way_not_head : (id : ObjectId) → IsDigest id.hash → head_way ≢ way_name id
+way_not_head id is e =
+    let size = is.size in
+    let whole : 12 ≡ 4 + length (id_text id) = ap length e ∙ length-append (codes "txn/") (id_text id) in
+    let text : length (id_text id) ≡ length (encode_lower id.hash) + length (suffix_of id.kind) = length-append (encode_lower id.hash) (suffix_of id.kind) in
+    omega (arith, whole, text, length-encode_with lower_digits id.hash, size)
+
+-- no object comes by its name
+pub head_apart : (batch : List Object) → AreNamed batch → IsApart batch head_way
+head_apart batch named = record {
+  way = λ o h. way_not_head o.id (is_digest_of batch o named h);
+  name = λ o h. tested is_data head_way (file_name o.id) refl refl;
+}

@@ -8,11 +8,11 @@ use Rattle.std.specs.Prelude.{OnErr}
 use Rattle.std.proofs.lemmas.List.{take_at, length-take-le}
 use Rattle.cv_base.specs.declared.object.Object.{Object}
 use Rattle.cv_history.specs.declared.record.Record.{Record}
-use Rattle.cv_vault.proofs.Walking.{stand, gains_none}
+use Rattle.cv_vault.proofs.Laws.{stand, gains_none}
 use Rattle.cv_objects.specs.Batches.{AreNamed, Brings}
 use Rattle.cv_objects.specs.declared.store_fault.StoreFault.{StoreFault}
 use Rattle.cv_objects.specs.declared.store_fault.StoreFault.TheVariants.{NoMemory}
-use Rattle.cv_objects.proofs.Batching.{named_more}
+use Rattle.cv_objects.proofs.Lemmas.{named_more}
 use Rattle.cv_swap.specs.Kept.{object_of}
 use Rattle.cv_swap.specs.Publishing.{Prepared}
 use Rattle.cv_swap.specs.Line.{AreKept, IsDropped}

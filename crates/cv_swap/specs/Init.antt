@@ -1,18 +1,21 @@
 -- Making a repository: its first revision.
-use Rattle.std.specs.Prelude.{◌≡◌, ◌≢◌, ℕ, Bool, true, false, List, [], ◌∷◌, None, Some}
+use Rattle.std.specs.Prelude.{◌≡◌, ◌≢◌, ⊤, ℕ, Bool, true, false, List, [], ◌∷◌, None, Some}
+use Rattle.std.specs.List.{Contains}
 use Rattle.std.specs.declared.option.Option.{Option}
 use Rattle.std.specs.declared.result.Result.{Result}
 use Rattle.std.specs.declared.result.Result.TheVariants.{Ok, Err}
+use Rattle.cv_base.specs.ObjectId.{file_name}
+use Rattle.cv_base.specs.declared.object.Object.{Object}
 use Rattle.cv_vault.specs.declared.vault.VaultFault.{VaultFault}
-use Rattle.cv_vault.specs.Names.{on_way}
-use Rattle.cv_vault.specs.Disk.{Disk, Files, Image, IsCalm}
-use Rattle.cv_vault.specs.Moments.{LeavesOnly}
-use Rattle.cv_vault.specs.Walks.{Within, Nothing}
-use Rattle.cv_objects.specs.Names.{objects_of}
-use Rattle.cv_objects.specs.Batches.{AreHashed, ShownIn}
+use Rattle.cv_vault.specs.Names.{Name, on_way}
+use Rattle.cv_vault.specs.Disk.{Disk, File, Files, Image, IsCalm, files_now}
+use Rattle.cv_vault.specs.Moments.{LeavesOnly, OnlyReads}
+use Rattle.cv_vault.specs.Walks.{Walks, Gains, Within, Nothing}
+use Rattle.cv_objects.specs.Batches.{HaveHashes, ShownIn}
 use Rattle.cv_objects.specs.declared.store_fault.StoreFault.TheVariants as store_fault
 use Rattle.cv_swap.specs.First.{first_revision, first_batch}
-use Rattle.cv_swap.specs.Stands.{Stands, head_name}
+use Rattle.cv_swap.specs.Publishing.{BringsFirst}
+use Rattle.cv_swap.specs.Stands.{HasRevisions, Publishes, head_name, head_of, epoch_name, epoch_text}
 use Rattle.cv_swap.specs.declared.init_fault.InitFault.{InitFault}
 use Rattle.cv_swap.specs.declared.init_fault.InitFault.TheVariants.{Exists, Collision, Failed, Damaged, NoMemory}
 
@@ -24,14 +27,24 @@ HasHead (Err fault) d = Unit {0}
 
 -- the files stand for the first revision, made at this moment, and for no other
 abbrev pub StandsFirst : List ℕ → (List ℕ → List ℕ → Bool) → ℕ → Files → Type 0
-StandsFirst name is_seal now f = Stands name is_seal f (record { history = first_revision now ∷ []; shelf = objects_of f; epoch = 0 })
+StandsFirst name is_seal now f = HasRevisions name is_seal (first_revision now ∷ []) 0 f
 
--- what a crash leaves while a repository is made: where there was a manifest, what it might have left before; where there was none, none
--- or the whole of the first revision
+-- what the head of the first revision reaches is there: its objects, and the first epoch
+pub record HasFirst (now : ℕ) (f : Files) : Type 0 where
+  pub objects : (o : Object) → Contains (first_batch now) o → f (file_name o.id) ≡ Some o.bytes
+  pub epoch : f epoch_name ≡ Some (epoch_text 0)
+
+-- what making a repository brings: what comes before the head of the first revision, and that head
+pub data BringsRevision (name : List ℕ) (is_seal : List ℕ → List ℕ → Bool) (now : ℕ) (d : Disk) (n : Name) (f : File) : Type 0 where
+  before_it : (brings : BringsFirst d (first_batch now) n f) → BringsRevision name is_seal now d n f
+  the_head : (at : n ≡ head_name) (says : Publishes name is_seal f (head_of (first_revision now))) → BringsRevision name is_seal now d n f
+
+-- what a crash leaves while a repository is made: what might have been left before with some of what comes before the head, or the head
+-- with its objects and the first epoch; and then, where no object was damaged, the files stand for the first revision
 pub data WhileInit (name : List ℕ) (is_seal : List ℕ → List ℕ → Bool) (now : ℕ) (d : Disk) (f : Files) : Type 0 where
-  was_there : (there : (d head_name).now ≢ None) (before : Within on_way Nothing d f) → WhileInit name is_seal now d f
-  none_yet : (absent : (d head_name).now ≡ None) (none : f head_name ≡ None) → WhileInit name is_seal now d f
-  whole : (absent : (d head_name).now ≡ None) (stands : StandsFirst name is_seal now f) → WhileInit name is_seal now d f
+  not_yet : (within : Within on_way (BringsFirst d (first_batch now)) d f) → WhileInit name is_seal now d f
+  whole : (within : Within on_way (BringsRevision name is_seal now d) d f) (head : Publishes name is_seal (f head_name) (head_of (first_revision now))) (has : HasFirst now f)
+      (stands : HaveHashes (files_now d) → StandsFirst name is_seal now f) → WhileInit name is_seal now d f
 
 -- what the answer says of the files as they stood
 abbrev pub Answers : Disk → ℕ → Result (Unit {0}) InitFault → Type 0
@@ -42,19 +55,41 @@ Answers d now (Err Failed) = Unit {0}
 Answers d now (Err (Damaged id found)) = ((d head_name).now ≡ None) × ShownIn d (first_batch now) (store_fault.Damaged id found)
 Answers d now (Err NoMemory) = Unit {0}
 
--- what is left afterwards
-abbrev pub Makes : List ℕ → (List ℕ → List ℕ → Bool) → ℕ → Result (Unit {0}) InitFault → Disk → Type 0
-Makes name is_seal now (Ok u) d' = (f : Files) → Image d' f → StandsFirst name is_seal now f
-Makes name is_seal now (Err fault) d' = Unit {0}
+-- the head, the objects and the epoch of the first revision are there for sure, and nothing else came; where no object was damaged,
+-- each image stands for it
+pub record IsMade (name : List ℕ) (is_seal : List ℕ → List ℕ → Bool) (now : ℕ) (d d' : Disk) : Type 0 where
+  pub calm : IsCalm d'
+  pub head : Publishes name is_seal (d' head_name).now (head_of (first_revision now))
+  pub has : HasFirst now (files_now d')
+  pub gains : Gains on_way (BringsRevision name is_seal now d) d d'
+  pub whole : HaveHashes (files_now d) → (f : Files) → Image d' f → StandsFirst name is_seal now f
 
--- what making a repository does, whatever it answers, on a settled disk none of whose objects is damaged
+-- what is left afterwards: after a refusal nothing came, and after want of memory no head
+abbrev pub Makes : List ℕ → (List ℕ → List ℕ → Bool) → ℕ → Disk → Result (Unit {0}) InitFault → Disk → Type 0
+Makes name is_seal now d (Ok u) d' = IsMade name is_seal now d d'
+Makes name is_seal now d (Err Exists) d' = d' ≡ d
+Makes name is_seal now d (Err (Collision id)) d' = Gains on_way Nothing d d'
+Makes name is_seal now d (Err Failed) d' = Gains on_way (BringsRevision name is_seal now d) d d'
+Makes name is_seal now d (Err (Damaged id found)) d' = Gains on_way Nothing d d'
+Makes name is_seal now d (Err NoMemory) d' = Gains on_way (BringsFirst d (first_batch now)) d d'
+
+-- only this text comes to the manifest's name
+abbrev pub OnlyText : List ℕ → Name → File → Type 0
+OnlyText text n f = n ≡ head_name → f ≡ Some text
+
+-- whatever is answered, no manifest came but this text, and a crash leaves no other
+abbrev pub WritesHead : {V : Type 0} (disk : V → Option Disk) (count : V → ℕ) (left : V → ℕ → Files → Type 0) → List ℕ → Disk → V → V → Type 0
+WritesHead disk count left text d v v' = Walks disk count left on_way (OnlyText text) (λ end. ⊤) d v v'
+
+-- what making a repository does, whatever it answers: where there is a manifest it only reads
 pub record MakesFirst {V : Type 0} (disk : V → Option Disk) (count : V → ℕ) (left : V → ℕ → Files → Type 0) (name : List ℕ) (is_seal : List ℕ → List ℕ → Bool) (now : ℕ) (d : Disk)
     (r : Result (Unit {0}) InitFault) (v v' : V) : Type 0 where
   pub end : Disk
   pub told : disk v' ≡ Some end
   pub answers : Answers d now r
-  pub leaves : IsCalm d → AreHashed d → LeavesOnly count left (WhileInit name is_seal now d) v v'
-  pub makes : IsCalm d → AreHashed d → Makes name is_seal now r end
+  pub untouched : (d head_name).now ≢ None → OnlyReads disk count left v v'
+  pub makes : Makes name is_seal now d r end
+  pub leaves : LeavesOnly count left (WhileInit name is_seal now d) v v'
 
 -- the same of a call that hands the vault back
 abbrev pub InitsIn : {V : Type 0} (disk : V → Option Disk) (count : V → ℕ) (left : V → ℕ → Files → Type 0) → List ℕ → (List ℕ → List ℕ → Bool) → ℕ → Disk → V → Result V (InitFault × V) → Type 0

@@ -4,7 +4,6 @@ use Rattle.std.specs.List.{AllByRecursion, last_or}
 use Rattle.sha1.specs.Sha1.{sha1}
 use Rattle.cv_base.specs.ObjectId.{object_id}
 use Rattle.cv_base.specs.declared.id.Kind.TheVariants.{History}
-use Rattle.cv_base.specs.declared.id.ObjectId.{ObjectId}
 use Rattle.cv_base.specs.declared.object.Object.{Object}
 use Rattle.cv_ports.specs.Shelf.{Shelf, IsShelf}
 use Rattle.cv_tree.specs.Tree.{Nodes, at, put}

@@ -4,6 +4,7 @@ use Rattle.std.specs.declared.option.Option.{Option}
 use Rattle.std.specs.declared.result.Result.{Result}
 use Rattle.std.specs.declared.result.Result.TheVariants.{Ok, Err}
 use Rattle.cv_vault.specs.Disk.{Disk, Files}
+use Rattle.cv_vault.specs.Moments.{OnlyReads}
 use Rattle.cv_history.specs.declared.record.Record.{Record}
 use Rattle.cv_manifest.specs.declared.head.Head.{Head}
 use Rattle.cv_swap.specs.Opening.{Opens}
@@ -13,10 +14,11 @@ use Rattle.cv_swap.specs.declared.open_fault.OpenFault.TheVariants.{Failed}
 use Rattle.cv_swap.specs.declared.stage.Stage.{Stage}
 use Rattle.cv_swap.specs.declared.stage.Stage.TheVariants.{Calm, Ready}
 
--- the vault; the repository's name and signer; the records, of which so many are published; the head and the epoch; how far the next
+-- the vault, and how many objects were taken from its shelf; the repository's name and signer; the records, of which so many are published; the head and the epoch; how far the next
 -- revision is, with its head and manifest
 pub record LineView (V S : Type 0) : Type 0 where
   pub vault : V
+  pub taken : ℕ
   pub name : List ℕ
   pub signer : S
   pub all : List Record
@@ -40,6 +42,10 @@ published l = take l.made l.all
 abbrev pub swapped : {V S : Type 0} → LineView V S → V → LineView V S
 swapped l vault = record l { vault = vault; made = l.made + 1; head = l.next_head; stage = Calm }
 
+-- from one line to a later one nothing but reads of the vault went by
+abbrev pub LineReads : {V S : Type 0} (disk : V → Option Disk) (count : V → ℕ) (left : V → ℕ → Files → Type 0) → LineView V S → LineView V S → Type 0
+LineReads disk count left old new = OnlyReads disk count left old.vault new.vault × (new ≡ record old { vault = new.vault; taken = new.taken })
+
 -- a line that was opened: nothing is prepared
 pub record IsOpenedLine {V S : Type 0} (name : List ℕ) (signer : S) (l : LineView V S) : Type 0 where
   pub named : l.name ≡ name
@@ -60,13 +66,14 @@ abbrev pub IsFailed : {V S : Type 0} → Result (LineView V S) (OpenFault × V) 
 IsFailed (Ok l) = ⊥
 IsFailed (Err e) = e.0 ≡ Failed
 
--- neither whose repository it is, nor what is published of it, nor its epoch changed
+-- neither whose repository it is, nor what is published of it, nor its epoch changed, and no object was taken
 pub record AreKept {V S : Type 0} (old new : LineView V S) : Type 0 where
   pub name_ : new.name ≡ old.name
   pub signer_ : new.signer ≡ old.signer
   pub made_ : new.made ≡ old.made
   pub head_ : new.head ≡ old.head
   pub epoch_ : new.epoch ≡ old.epoch
+  pub taken_ : new.taken ≡ old.taken
 
 -- the record is behind the published ones, and its head is ready
 pub record IsReady {V S : Type 0} (old : LineView V S) (next : Record) (head : Head) (new : LineView V S) : Type 0 where

@@ -3,7 +3,7 @@ use Rattle.std.specs.Prelude.{◌≡◌, ◌≢◌, ◌⊎◌, ℕ, ◌+◌, ◌
 use Rattle.std.specs.declared.result.Result.{Result}
 use Rattle.std.specs.declared.result.Result.TheVariants.{Ok, Err}
 use Rattle.cv_vault.specs.Names.{Name, on_way}
-use Rattle.cv_vault.specs.Disk.{Disk, File, Files, files_now}
+use Rattle.cv_vault.specs.Disk.{Disk, File, Files, files_now, synced}
 use Rattle.cv_vault.specs.Moments.{LeavesOnly}
 use Rattle.cv_vault.specs.Walks.{Gains, Within, Nothing, ComesTo}
 use Rattle.cv_vault.specs.Replace.{IsSure}
@@ -146,9 +146,30 @@ pub record IsOpened (d : Disk) (found : Found) (d' : Disk) : Type 0 where
   pub sure : IsSure epoch_name (epoch_text (found.epoch + 1)) d'
   pub gains : Gains on_way (ComesTo epoch_name (Some (epoch_text (found.epoch + 1)))) d d'
 
+-- What an opening leaves. Where the files refuse it, all is settled as it stood, and the epoch isn't raised; after want of memory too, but
+-- for what is on its way; after a failure the epoch may have been raised or not, and nothing else came
 abbrev pub Opened : Disk → Result Found OpenFault → Disk → Type 0
 Opened d (Ok found) d' = IsOpened d found d'
-Opened d (Err fault) d' = Unit {0}
+Opened d (Err NoRepository) d' = d' ≡ synced d
+Opened d (Err (BadManifest fault)) d' = d' ≡ synced d
+Opened d (Err OtherName) d' = d' ≡ synced d
+Opened d (Err (BadHistory fault)) d' = d' ≡ synced d
+Opened d (Err BadEpoch) d' = d' ≡ synced d
+Opened d (Err EpochsSpent) d' = d' ≡ synced d
+Opened d (Err Failed) d' = Gains on_way (IsRaised d) d d'
+Opened d (Err NoMemory) d' = Gains on_way Nothing (synced d) d'
+
+-- what a crash may leave in an opening that answers so: where the files refuse it, what might have been left before
+abbrev pub OpeningLeaves : Disk → Result Found OpenFault → Files → Type 0
+OpeningLeaves d (Ok found) f = WhileOpening d f
+OpeningLeaves d (Err NoRepository) f = Within on_way Nothing d f
+OpeningLeaves d (Err (BadManifest fault)) f = Within on_way Nothing d f
+OpeningLeaves d (Err OtherName) f = Within on_way Nothing d f
+OpeningLeaves d (Err (BadHistory fault)) f = Within on_way Nothing d f
+OpeningLeaves d (Err BadEpoch) f = Within on_way Nothing d f
+OpeningLeaves d (Err EpochsSpent) f = Within on_way Nothing d f
+OpeningLeaves d (Err Failed) f = WhileOpening d f
+OpeningLeaves d (Err NoMemory) f = WhileOpening d f
 
 -- what opening does, whatever it answers: the answer is what the files say as they stood, and a crash leaves what it may
 pub record Opens {V : Type 0} (disk : V → Option Disk) (count : V → ℕ) (left : V → ℕ → Files → Type 0) (name : List ℕ) (is_seal : List ℕ → List ℕ → Bool) (d : Disk)
@@ -156,7 +177,7 @@ pub record Opens {V : Type 0} (disk : V → Option Disk) (count : V → ℕ) (le
   pub end : Disk
   pub told : disk v' ≡ Some end
   pub finds : Finds name is_seal (files_now d) r
-  pub leaves : LeavesOnly count left (WhileOpening d) v v'
+  pub leaves : LeavesOnly count left (OpeningLeaves d r) v v'
   pub opened : Opened d r end
 
 -- it is what is kept that is found

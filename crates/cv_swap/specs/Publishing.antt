@@ -60,12 +60,18 @@ pub record IsInit (d : Disk) (batch : List Object) (manifest : List ℕ) (d' : D
   pub comes : Gains on_way (ComesTo head_name (Some manifest)) built d'
   pub sure : IsSure head_name manifest d'
 
+-- what comes with a first revision: what comes before its head, or the head
+pub data BringsAll (d : Disk) (batch : List Object) (manifest : List ℕ) (n : Name) (f : File) : Type 0 where
+  comes_before : (brings : BringsFirst d batch n f) → BringsAll d batch manifest n f
+  comes_last : (comes : ComesTo head_name (Some manifest) n f) → BringsAll d batch manifest n f
+
+-- what making it leaves: after a refusal nothing came, and after want of memory no head
 abbrev pub Inited : Disk → List Object → List ℕ → {X : Type 0} → Result X StoreFault → Disk → Type 0
 Inited d batch manifest (Ok x) d' = IsInit d batch manifest d'
 Inited d batch manifest (Err (Collision id)) d' = IsRefused d batch (Collision id) d'
-Inited d batch manifest (Err Failed) d' = Unit {0}
+Inited d batch manifest (Err Failed) d' = Gains on_way (BringsAll d batch manifest) d d'
 Inited d batch manifest (Err (Damaged id found)) d' = IsRefused d batch (Damaged id found) d'
-Inited d batch manifest (Err NoMemory) d' = Unit {0}
+Inited d batch manifest (Err NoMemory) d' = Gains on_way (BringsFirst d batch) d d'
 
 -- what making a first revision does, whatever it answers
 pub record Inits {V : Type 0} (disk : V → Option Disk) (count : V → ℕ) (left : V → ℕ → Files → Type 0) (d : Disk) (batch : List Object) (manifest : List ℕ) {X : Type 0} (r : Result X StoreFault) (v v' : V) : Type 0 where

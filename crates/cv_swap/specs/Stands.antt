@@ -3,13 +3,15 @@ use Rattle.std.specs.Prelude.{◌≡◌, ℕ, Bool, List, [], ◌∷◌, ◌++�
 use Rattle.cv_base.specs.ObjectId.{object_id}
 use Rattle.cv_base.specs.declared.id.Kind.TheVariants.{Catalogue, History}
 use Rattle.cv_base.specs.declared.id.ObjectId.{ObjectId}
+use Rattle.cv_base.specs.declared.object.Object.{Object}
 use Rattle.cv_ports.specs.Shelf.{Shelf}
 use Rattle.cv_vault.specs.Names.{Name}
 use Rattle.cv_vault.specs.Disk.{Disk, Files, File}
 use Rattle.cv_history.specs.declared.record.Record.{Record}
-use Rattle.cv_manifest.specs.Manifest.{Says}
+use Rattle.cv_manifest.specs.Manifest.{Says, manifest_text}
 use Rattle.cv_manifest.specs.declared.head.Head.{Head}
 use Rattle.cv_manifest.specs.declared.manifest.Manifest.{Manifest}
+use Rattle.cv_objects.specs.Coming.{ShelfGains}
 use Rattle.cv_objects.specs.Names.{objects_of, standing_on}
 pub use Rattle.cv_swap.specs.Kept.{head_with, head_of}
 use Rattle.cv_swap.specs.Kept.{Kept, IsKept, AreSound, Revision, newest}
@@ -44,6 +46,10 @@ head_on shelf r = head_with r (size_of (shelf (object_id r.root Catalogue)))
 abbrev pub history_id : Head → ObjectId
 history_id head = object_id head.history History
 
+-- the bytes of a head's manifest: a client may take the head for the newest one for 240 seconds
+abbrev pub head_text : (List ℕ → List ℕ) → List ℕ → Head → List ℕ
+head_text seal_of name head = manifest_text seal_of (record { name = name; ttl = 240; head = head })
+
 -- the file at the head says a manifest of this name
 pub record Publishes (name : List ℕ) (is_seal : List ℕ → List ℕ → Bool) (file : File) (head : Head) : Type 0 where
   pub text : List ℕ
@@ -61,6 +67,16 @@ pub record Stands (name : List ℕ) (is_seal : List ℕ → List ℕ → Bool) (
   pub shelf : (id : ObjectId) → k.shelf id ≡ objects_of f id
   pub epoch : f epoch_name ≡ Some (epoch_text k.epoch)
   pub kept : IsKept k
+
+-- the files stand for these revisions, on the shelf of their own objects, opened so often
+abbrev pub HasRevisions : List ℕ → (List ℕ → List ℕ → Bool) → List Revision → ℕ → Files → Type 0
+HasRevisions name is_seal history epoch f = Stands name is_seal f (record { history = history; shelf = objects_of f; epoch = epoch })
+
+-- the second files are the first ones with some of these objects more, under whose names no file was
+pub record AddObjects (batch : List Object) (f g : Files) : Type 0 where
+  pub head_ : g head_name ≡ f head_name
+  pub epoch_ : g epoch_name ≡ f epoch_name
+  pub shelf_ : ShelfGains batch (objects_of f) (objects_of g)
 
 -- a revision that may come: its record and its manifest, on the shelf as it is
 pub record CanCome (name : List ℕ) (is_seal : List ℕ → List ℕ → Bool) (k : Kept) (new : Revision) (manifest : List ℕ) : Type 0 where

@@ -4,7 +4,7 @@ ghost use Rattle.cv_history.specs.Record.{IsRecord};
 ghost use Rattle.cv_cut.specs.Cut.{cut_of};
 ghost use Rattle.cv_objects.specs.Batches.{AreNamed};
 ghost use Rattle.cv_swap.specs.First.{first_record, first_tree, first_size, first_batch};
-ghost use Rattle.cv_swap.specs.Stands.{head_with, Publishes};
+ghost use Rattle.cv_swap.specs.Stands.{head_with, head_text, Publishes};
 ghost use Rattle.cv_cut.specs.Catalogues.{root_of};
 
 use crate::making::{Parts, make_parts};
@@ -76,6 +76,7 @@ pub fn first_parts<S: Signer>(
     ensures batch { IfOk result (λ parts. parts.batch ≡ first_batch now) }
     ensures named { IfOk result (λ parts. AreNamed parts.batch) }
     ensures head { IfOk result (λ parts. parts.head ≡ head_with (first_record (root_of (first_tree now)) now) (first_size now)) }
+    ensures text { IfOk result (λ parts. parts.manifest ≡ head_text (S.seal_of signer.now) name.now parts.head) }
     ensures says { IfOk result (λ parts. Publishes name.now (S.is_seal signer.now) (Some parts.manifest) parts.head) }
 {
     let Cut {

@@ -4,7 +4,9 @@ ghost use Rattle.cv_base.specs.Counts.{HasCause};
 ghost use Rattle.cv_base.specs.Told.{WhereTold};
 ghost use Rattle.cv_vault.specs.Moments.{OnlyReads};
 ghost use Rattle.cv_vault.specs.declared.vault.VaultFault.TheVariants as vault_fault;
-ghost use Rattle.cv_swap.specs.Init.{HasHead, MakesFirst};
+ghost use Rattle.cv_swap.specs.First.{first_revision};
+ghost use Rattle.cv_swap.specs.Init.{HasHead, MakesFirst, WritesHead};
+ghost use Rattle.cv_swap.specs.Stands.{head_of, head_text};
 ghost use Rattle.cv_swap.specs.declared.init_fault.InitFault.TheVariants as fault;
 
 use crate::first::first_parts;
@@ -36,6 +38,8 @@ pub fn init_in<V: Vault + Drop, S: Signer>(
 ) -> Result<(), InitFault>
     requires { now < 2 ^ 62 }
     ensures makes { WhereTold (V.disk objects.old.vault) (λ d. MakesFirst V.disk V.count V.left name.now (S.is_seal signer.now) now d result objects.old.vault objects.new.vault) }
+    ensures text { WhereTold (V.disk objects.old.vault) (λ d.
+        WritesHead V.disk V.count V.left (head_text (S.seal_of signer.now) name.now (head_of (first_revision now))) d objects.old.vault objects.new.vault) }
     ensures cause { HasCause (V.faults objects.old.vault) (V.faults objects.new.vault) (IsErrOf result fault.Failed) }
 {
     if has_head(&mut objects.vault)? {

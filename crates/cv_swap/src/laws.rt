@@ -1,19 +1,24 @@
 //! What files stand for while a repository is made, opened and published in.
-ghost use Rattle.std.specs.Prelude.{◌≡◌, ◌≢◌, ◌++◌, ◌∷◌, [], ◌⊎◌, ◌<◌, ◌+◌, ℕ, Bool, List, None, Some};
+ghost use Rattle.std.specs.Prelude.{◌≡◌, ◌≢◌, ◌++◌, ◌∷◌, [], ◌⊎◌, ◌<◌, ◌+◌, ◌^◌, ℕ, Bool, List, None, Some, Err};
 ghost use Rattle.cv_base.specs.declared.object.Object.{Object};
-ghost use Rattle.cv_ports.specs.Shelf.{Shelf};
+ghost use Rattle.cv_ports.specs.Shelf.{Shelf, IsShelf};
+ghost use Rattle.cv_cut.specs.Catalogues.{cat};
+ghost use Rattle.cv_cut.specs.Cut.{catalogue_object};
 ghost use Rattle.cv_vault.specs.Names.{on_way};
 ghost use Rattle.cv_vault.specs.Disk.{Disk, Files, Image, IsCalm, files_now};
 ghost use Rattle.cv_vault.specs.Walks.{Gains, Within, Nothing, ComesTo};
 ghost use Rattle.cv_vault.specs.Replace.{IsSure, IsOther};
 ghost use Rattle.cv_objects.specs.Names.{standing_on};
-ghost use Rattle.cv_objects.specs.Batches.{AreNamed, Brings};
-ghost use Rattle.cv_swap.specs.Kept.{AreSound, IsRevision, Kept, Revision, head_of, raised, with_new};
-ghost use Rattle.cv_swap.specs.Stands.{Stands, CanCome, CanBegin, first_kept, head_name, head_on, epoch_name, epoch_text};
-ghost use Rattle.cv_swap.specs.Opening.{AsRaised, IsFound, IsOf, IsOpened, MayRefuse, Refuses};
+ghost use Rattle.cv_objects.specs.Batches.{AreNamed, Brings, HaveHashes};
+ghost use Rattle.cv_swap.specs.Kept.{AreSound, IsRevision, Kept, Revision, head_of, raised, record_object, with_new};
+ghost use Rattle.cv_swap.specs.First.{first_revision, first_tree};
+ghost use Rattle.cv_swap.specs.Init.{StandsFirst, WhileInit};
+ghost use Rattle.cv_swap.specs.Stands.{Stands, HasRevisions, AddObjects, CanCome, CanBegin, first_kept, head_name, head_on, epoch_name, epoch_text};
+ghost use Rattle.cv_swap.specs.Opening.{AsRaised, IsFound, IsOf, IsOpened, MayRefuse, Opened, Refuses};
 ghost use Rattle.cv_swap.specs.Publishing.{BringsFirst};
 ghost use Rattle.cv_swap.specs.declared.found.Found.{Found};
 ghost use Rattle.cv_swap.specs.declared.open_fault.OpenFault.{OpenFault};
+ghost use Rattle.cv_swap.specs.declared.open_fault.OpenFault.TheVariants as fault;
 
 /// Files that stand for what is kept are opened with just that, and refused by the last epoch alone.
 pub fn opening_finds_what_is_kept()
@@ -28,10 +33,45 @@ pub fn opening_keeps_what_is_kept()
         → (f : Files) → Image d' f → Stands name is_seal f (raised k) }
 {}
 
-/// Where objects came, the files stand for what is kept on the longer shelf.
+/// After an opening that failed the files as they stand are what was kept, opened once more or not. After want of memory, and where
+/// the epoch is the last one, each image stands for what was kept.
+pub fn failed_openings_keep_what_is_kept()
+    ensures failed { (name : List ℕ) (is_seal : List ℕ → List ℕ → Bool) (d d' : Disk) (k : Kept) → Stands name is_seal (files_now d) k → Opened d (Err fault.Failed) d'
+        → Stands name is_seal (files_now d') k ⊎ Stands name is_seal (files_now d') (raised k) }
+    ensures memory { (name : List ℕ) (is_seal : List ℕ → List ℕ → Bool) (d d' : Disk) (k : Kept) → Stands name is_seal (files_now d) k → Opened d (Err fault.NoMemory) d' → (f : Files) → Image d' f → Stands name is_seal f k }
+    ensures spent { (name : List ℕ) (is_seal : List ℕ → List ℕ → Bool) (d d' : Disk) (k : Kept) → Stands name is_seal (files_now d) k → Opened d (Err fault.EpochsSpent) d' → (f : Files) → Image d' f → Stands name is_seal f k }
+{}
+
+/// A crash while a revision is prepared leaves what it might have left before, with some objects of the batch more, head and epoch as
+/// they were: so where each crash left these revisions, each leaves them.
 pub fn preparing_keeps_what_is_kept()
-    ensures { (name : List ℕ) (is_seal : List ℕ → List ℕ → Bool) (d d' : Disk) (batch : List Object) (k : Kept) → AreNamed batch → Stands name is_seal (files_now d) k → Gains on_way (Brings d batch) d d' → AreSound (standing_on d') k.history
+    ensures adds { (d : Disk) (batch : List Object) (f : Files) → AreNamed batch → Within on_way (Brings d batch) d f → (g : Files) × Image d g × AddObjects batch g f }
+    ensures leaves { (name : List ℕ) (is_seal : List ℕ → List ℕ → Bool) (d : Disk) (batch : List Object) (history : List Revision) (epoch : ℕ) → AreNamed batch → ((g : Files) → Image d g → HasRevisions name is_seal history epoch g)
+        → (f : Files) → Within on_way (Brings d batch) d f → HasRevisions name is_seal history epoch f }
+    ensures makes { (name : List ℕ) (is_seal : List ℕ → List ℕ → Bool) (d d' : Disk) (batch : List Object) (history : List Revision) (epoch : ℕ) → AreNamed batch → ((g : Files) → Image d g → HasRevisions name is_seal history epoch g)
+        → Gains on_way (Brings d batch) d d' → (f : Files) → Image d' f → HasRevisions name is_seal history epoch f }
+    ensures now { (name : List ℕ) (is_seal : List ℕ → List ℕ → Bool) (d d' : Disk) (batch : List Object) (k : Kept) → AreNamed batch → Stands name is_seal (files_now d) k → Gains on_way (Brings d batch) d d'
         → Stands name is_seal (files_now d') (record k { shelf = standing_on d' }) }
+    ensures settled { (name : List ℕ) (is_seal : List ℕ → List ℕ → Bool) (d : Disk) (k : Kept) → IsCalm d → Stands name is_seal (files_now d) k → (g : Files) → Image d g → HasRevisions name is_seal k.history k.epoch g }
+{}
+
+/// With objects more, the files stand for the same revisions.
+pub fn more_objects_keep_revisions()
+    ensures { (name : List ℕ) (is_seal : List ℕ → List ℕ → Bool) (batch : List Object) (history : List Revision) (epoch : ℕ) (g f : Files) → AreNamed batch → AddObjects batch g f
+        → HasRevisions name is_seal history epoch g → HasRevisions name is_seal history epoch f }
+{}
+
+/// From a settled disk without a manifest, and with no damaged object, a crash while a repository is made leaves no manifest, or the whole
+/// of the first revision.
+pub fn making_leaves_none_or_the_whole()
+    ensures { (name : List ℕ) (is_seal : List ℕ → List ℕ → Bool) (now : ℕ) (d : Disk) (f : Files) → IsCalm d → (d head_name).now ≡ None → HaveHashes (files_now d) → WhileInit name is_seal now d f
+        → (f head_name ≡ None) ⊎ StandsFirst name is_seal now f }
+{}
+
+/// The first revision is sound on each shelf with its catalogue and its record.
+pub fn first_revisions_are_sound()
+    ensures { (shelf : Shelf) (now : ℕ) → now < 2 ^ 62 → IsShelf shelf → shelf (catalogue_object (first_tree now) []).id ≡ Some (cat (first_tree now) [])
+        → shelf (record_object (first_revision now)).id ≡ Some (record_object (first_revision now)).bytes → AreSound shelf (first_revision now ∷ []) }
 {}
 
 /// What holds of a shelf and of revisions with one more holds of them.

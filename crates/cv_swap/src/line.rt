@@ -1,19 +1,24 @@
 //! The line of revisions.
+ghost use Rattle.std.proofs.Common.{refl, ap, ◌∙◌};
 ghost use Rattle.std.specs.Prelude.{◌≡◌, ◌≢◌, ◌<◌, ◌^◌, ◌++◌, ◌∷◌, [], ℕ, List, Some, Ok, Err, true, false, OnOk, OnErr, IfOk, IsErrOf};
+ghost use Rattle.std.specs.Option.{option_map};
 ghost use Rattle.cv_base.specs.Counts.{HasCause};
 ghost use Rattle.cv_base.specs.Told.{WhereTold};
 ghost use Rattle.cv_vault.specs.Names.{on_way};
 ghost use Rattle.cv_vault.specs.Walks.{Walks, Nothing, ComesTo};
 ghost use Rattle.cv_vault.specs.Replace.{IsSure, MovedIn, Found as FoundSo};
 ghost use Rattle.cv_vault.specs.declared.vault.VaultFault.TheVariants as vault_fault;
+ghost use Rattle.cv_vault.proofs.Laws.{quiet_none, quiet_then, quiet_same};
 ghost use Rattle.cv_history.specs.Record.{IsRecord};
+ghost use Rattle.cv_objects.specs.Names.{standing_on};
 ghost use Rattle.cv_objects.specs.Batches.{AreNamed, Brings, GivesFresh, Stored};
 ghost use Rattle.cv_objects.specs.declared.store_fault.StoreFault.TheVariants as fault;
 ghost use Rattle.cv_swap.specs.Kept.{object_of};
 ghost use Rattle.cv_swap.specs.Publishing.{Prepared};
-ghost use Rattle.cv_swap.specs.Stands.{head_name, head_way, head_with, Publishes};
-ghost use Rattle.cv_swap.specs.Init.{InitsIn, vault_in, IsVaults};
-ghost use Rattle.cv_swap.specs.Line.{published, swapped, LineOpens, IsOpenedLine, vault_of, IsFailed, IsReady, IsDropped};
+ghost use Rattle.cv_swap.specs.Stands.{head_name, head_way, head_with, head_of, head_text, Publishes};
+ghost use Rattle.cv_swap.specs.First.{first_revision};
+ghost use Rattle.cv_swap.specs.Init.{InitsIn, WritesHead, vault_in, IsVaults};
+ghost use Rattle.cv_swap.specs.Line.{LineView, published, swapped, LineReads, LineOpens, IsOpenedLine, vault_of, IsFailed, IsReady, IsDropped};
 ghost use Rattle.cv_swap.specs.declared.stage.Stage.TheVariants as stage;
 
 use crate::found::Found;
@@ -28,6 +33,7 @@ use cv_base::{Bytes, Name, Object, ObjectId};
 use cv_history::Record;
 use cv_manifest::Head;
 use cv_objects::{Objects, StoreFault};
+use cv_ports::{Shelf, ShelfFault};
 use cv_seal::Signer;
 use cv_vault::{Vault, VaultFault};
 use std::alloc::Global;
@@ -53,7 +59,7 @@ impl<V: Vault + Drop, S: Signer + Drop> Model for Line<V, S> {
 
     ghost Value = { LineView V S };
 
-    ghost view = { λ l. record { vault = l.objects.vault; name = l.name; signer = l.signer; all = l.records.items; made = l.made; head = l.head; epoch = l.epoch; stage = l.stage; next_head = l.next_head; manifest = l.manifest } };
+    ghost view = { λ l. record { vault = l.objects.vault; taken = l.objects.taken; name = l.name; signer = l.signer; all = l.records.items; made = l.made; head = l.head; epoch = l.epoch; stage = l.stage; next_head = l.next_head; manifest = l.manifest } };
 
     ghost invariant = { λ l. IsCounted l.made l.records.items l.stage };
 }
@@ -166,8 +172,10 @@ impl<V: Vault + Drop, S: Signer + Drop> Line<V, S> {
     /// Makes the first revision of a repository in a vault without one, and hands the vault back: its tree is a directory of
     /// mode 0755 with nothing in it, of the user and the group 0, made at the moment `now`, in Unix seconds.
     ///
-    /// A crash at any moment leaves no manifest, or the whole of the first revision. `Exists` comes exactly where there is
-    /// a manifest, and then nothing changes.
+    /// `Exists` comes exactly where there is a manifest, and then nothing changes. After `Collision` and `Damaged` nothing
+    /// came, and after `NoMemory` no manifest. After `Ok` its manifest, objects and epoch are there for sure. A crash at any
+    /// moment leaves what might have been left before, with some of its objects and its epoch, or all of these. In a settled
+    /// vault without a damaged object that is no manifest, or the whole of the first revision.
     pub fn init(
         vault: V,
         alloc: Global,
@@ -177,6 +185,8 @@ impl<V: Vault + Drop, S: Signer + Drop> Line<V, S> {
     ) -> Result<V, (InitFault, V)>
         requires { now < 2 ^ 62 }
         ensures inits { WhereTold (V.disk vault) (λ d. InitsIn V.disk V.count V.left name.now (S.is_seal signer.now) now d vault result) }
+        ensures text { WhereTold (V.disk vault) (λ d.
+            WritesHead V.disk V.count V.left (head_text (S.seal_of signer.now) name.now (head_of (first_revision now))) d vault (vault_in result)) }
         ensures cause { HasCause (V.faults vault) (V.faults (vault_in result)) (IsVaults result) }
     {
         let mut objects = Objects::new(vault);
@@ -189,7 +199,7 @@ impl<V: Vault + Drop, S: Signer + Drop> Line<V, S> {
     /// Opens the line that stands in a vault, and raises its epoch by one, for sure. An `Err` hands the vault back.
     ///
     /// A crash at any moment leaves what it might have left before, or the files as they stood, with their epoch or one
-    /// greater.
+    /// greater. Where the files refuse it, and after `NoMemory`, the epoch isn't raised; after `Failed` it may be.
     pub fn open(
         vault: V,
         alloc: Global,
@@ -243,6 +253,7 @@ impl<V: Vault + Drop, S: Signer + Drop> Line<V, S> {
             Walks V.disk V.count V.left on_way (Brings d (others.items ++ object_of next ∷ [])) (Prepared d (others.items ++ object_of next ∷ []) self.new.manifest result) d self.old.vault self.new.vault) }
         ensures head { IfOk result (λ head. head ≡ head_with next size) }
         ensures ready { IfOk result (λ head. IsReady self.old next head self.new) }
+        ensures text { IfOk result (λ head. self.new.manifest ≡ head_text (S.seal_of self.old.signer) self.old.name head) }
         ensures says { IfOk result (λ head. Publishes self.old.name (S.is_seal self.old.signer) (Some self.new.manifest) head) }
         ensures dropped { OnErr result (IsDropped self.old self.new) }
         ensures cause { HasCause (V.faults self.old.vault) (V.faults self.new.vault) (IsErrOf result fault.Failed) }
@@ -269,4 +280,28 @@ impl<V: Vault + Drop, S: Signer + Drop> Line<V, S> {
         self.stage = Stage::Ready;
         Ok(head)
     }
+}
+
+impl<V: Vault + Drop, S: Signer + Drop> Shelf for Line<V, S> {
+    ghost shelf = { λ l. option_map standing_on (V.disk l.vault) };
+
+    ghost faults = { λ l. V.faults l.vault };
+
+    ghost taken = { λ l. l.taken };
+
+    ghost reads = { λ a b. LineReads V.disk V.count V.left a b };
+
+    fn fetch(&mut self, alloc: Global, id: &ObjectId) -> Result<Option<Bytes>, ShelfFault> {
+        self.objects.fetch(alloc, id)
+    }
+
+    fn length(&mut self, alloc: Global, id: &ObjectId) -> Result<Option<u64>, ShelfFault> {
+        self.objects.length(alloc, id)
+    }
+
+    ghost reads_none = { λ a. (quiet_none a.vault, refl) };
+
+    ghost reads_then = { λ a b c ab bc. (quiet_then ab.0 bc.0, bc.1 ∙ ap (λ (l : LineView V S). record l { vault = c.vault; taken = c.taken }) ab.1) };
+
+    ghost reads_same = { λ a b ab. ap (option_map standing_on) (quiet_same ab.0) };
 }

@@ -3,7 +3,7 @@ ghost use Rattle.std.specs.Prelude.{◌≡◌, ◌++◌, ◌∷◌, [], ◌≤�
 ghost use Rattle.sha1.specs.Sha1.{sha1};
 ghost use Rattle.cv_history.specs.Record.{IsRecord, record_bytes};
 ghost use Rattle.cv_swap.specs.Kept.{object_of};
-ghost use Rattle.cv_swap.specs.Stands.{head_with, Publishes};
+ghost use Rattle.cv_swap.specs.Stands.{head_with, head_text, Publishes};
 
 use cv_base::{Bytes, Items, Kind, Name, NoMemory, Object, ObjectId};
 use cv_history::Record;
@@ -50,7 +50,8 @@ pub fn write_manifest<S: Signer>(
 ) -> Result<Bytes, NoMemory>
     requires revision { 1 ≤ head.revision }
     requires time { head.time < 2 ^ 62 }
-    ensures { IfOk result (λ bytes. Publishes name.now (S.is_seal signer.now) (Some bytes) head) }
+    ensures text { IfOk result (λ bytes. bytes ≡ head_text (S.seal_of signer.now) name.now head) }
+    ensures says { IfOk result (λ bytes. Publishes name.now (S.is_seal signer.now) (Some bytes) head) }
 {
     let manifest = Manifest {
         name: name.copy(alloc)?,
@@ -83,6 +84,7 @@ pub fn make_parts<S: Signer>(
     requires limits { IsRecord next.now }
     ensures batch { IfOk result (λ parts. parts.batch ≡ others.items ++ object_of next.now ∷ []) }
     ensures head { IfOk result (λ parts. parts.head ≡ head_with next.now size) }
+    ensures text { IfOk result (λ parts. parts.manifest ≡ head_text (S.seal_of signer.now) name.now parts.head) }
     ensures says { IfOk result (λ parts. Publishes name.now (S.is_seal signer.now) (Some parts.manifest) parts.head) }
 {
     let object = record_object(alloc, next)?;

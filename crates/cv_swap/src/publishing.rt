@@ -14,7 +14,7 @@ ghost use Rattle.cv_swap.specs.Publishing.{Prepared, BringsFirst, Built, Inits};
 use crate::opening::{HEAD_NAME, set_epoch};
 use cv_base::Object;
 use cv_objects::{Objects, StoreFault};
-use cv_vault::{Vault, VaultFault, is_sure, move_in, put_on_way, replace};
+use cv_vault::{Vault, VaultFault, is_sure, move_in, replace};
 use std::alloc::Global;
 
 /// The name by which a manifest comes.
@@ -31,10 +31,9 @@ pub fn prepare_on<V: Vault + Drop>(
     ensures walks { WhereTold (V.disk objects.old.vault) (λ d.
         Walks V.disk V.count V.left on_way (Brings d batch.now) (Prepared d batch.now manifest.now result) d objects.old.vault objects.new.vault) }
     ensures cause { HasCause (V.faults objects.old.vault) (V.faults objects.new.vault) (IsErrOf result fault.Failed) }
+    ensures taken { objects.new.taken ≡ objects.old.taken }
 {
-    objects.store(alloc, batch)?;
-    put_on_way(&mut objects.vault, HEAD_WAY, manifest)?;
-    Ok(())
+    objects.store_with(alloc, batch, HEAD_WAY, manifest)
 }
 
 /// Brings the manifest that is on its way to its name, for sure.

@@ -1,5 +1,5 @@
 use Rattle.cv_vault.proofs.Walking.{looser}
-use Rattle.cv_objects.proofs.Looking.{handed_on, same_fault}
+use Rattle.cv_objects.proofs.Lemmas.{handed_on, same_fault}
 use Rattle.cv_swap.specs.Publishing.{an_object}
 use Rattle.cv_swap.proofs.Publish.{built_not, then_epoch, then_no_epoch}
 use Rattle.cv_swap.proofs.publishing.build_first.Goals as goal

@@ -1,4 +1,4 @@
-use Rattle.cv_objects.proofs.Looking.{handed_on, same_fault}
+use Rattle.cv_objects.proofs.Lemmas.{handed_on, same_fault}
 use Rattle.cv_swap.proofs.Publish.{inits_not, inits_now, inits_or_not}
 use Rattle.cv_swap.proofs.publishing.init_on.Goals as goal
 

@@ -3,7 +3,7 @@ use Rattle.std.specs.declared.result.Result.TheVariants.{Err}
 use Rattle.cv_manifest.specs.declared.head.Head.{Head}
 use Rattle.cv_objects.specs.Batches.{AreNamed}
 use Rattle.cv_objects.specs.declared.store_fault.StoreFault.TheVariants.{NoMemory}
-use Rattle.cv_objects.proofs.Looking.{same_fault}
+use Rattle.cv_objects.proofs.Lemmas.{same_fault}
 use Rattle.cv_swap.proofs.Views.{vault_seen, prepare_stands, named_push, on_err, dropped_seen}
 use Rattle.cv_swap.proofs.line.Line.prepare.Goals as goal
 
@@ -19,4 +19,4 @@ prepare_on-requires g c = record { named = subst AreNamed (sym (c.as_slice.ensur
 pub returns-in_err-prepare_on-clause-dropped : goal.returns-in_err-prepare_on-clause-dropped
 returns-in_err-prepare_on-clause-dropped g c =
     let e : c.push.new.self.items ≡ take c.self.inside.made c.self.inside.records.items ++ c.args.next ∷ [] = search rules in
-    on_err _ (dropped_seen _ _ _ c.args.next c.self.view_is c.self.invariant.published_ e refl (record { name_ = refl; signer_ = refl; made_ = refl; head_ = refl; epoch_ = refl }))
+    on_err _ (dropped_seen _ _ _ c.args.next c.self.view_is c.self.invariant.published_ e refl (record { name_ = refl; signer_ = refl; made_ = refl; head_ = refl; epoch_ = refl; taken_ = c.in_err-prepare_on.ensures.taken }))
