@@ -24,7 +24,7 @@ use Rattle.cv_gate.specs.declared.reply.Reply.{Reply}
 use Rattle.cv_gate.specs.declared.reply.Reply.TheVariants as reply
 use Rattle.cv_gate.specs.declared.entry.Entry.{Entry}
 use Rattle.cv_gate.proofs.Effects.{IsPublished, IsWanted, AreSent, Effect, nothing, gains, stores, grants, cancels, publishes, wavers, of_act}
-use Rattle.cv_gate.proofs.Histories.{line_more}
+use Rattle.cv_swap.proofs.Lemmas.{line_more}
 use Rattle.cv_gate.proofs.Shelves.{some_of_all, keeps_all_sure}
 use Rattle.cv_gate.proofs.Growth.{as_before, none_left, as_it_was, made as made_too, by_settling, history_of, doubt_of}
 use Rattle.cv_gate.proofs.Keeping.{IsSettled}

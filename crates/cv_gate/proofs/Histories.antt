@@ -1,41 +1,12 @@
--- The line of revisions: on a shelf that grows, with a revision more, and how its revisions are numbered.
+-- The line of revisions: with a revision more, and how its revisions are numbered.
 use Rattle.std.proofs.Common.{◌≡◌, ◌≢◌, ◌≤◌, ◌<◌, ◌+◌, List, [], ◌∷◌, ◌++◌, length, refl, sym, ap, subst, ◌∙◌, inl, inr, arith}
 use Rattle.std.specs.declared.option.Option.{Option}
 use Rattle.std.specs.declared.option.Option.TheVariants.{None, Some}
 use Rattle.std.specs.List.{last_or, Contains}
-use Rattle.cv_ports.specs.Shelf.{Shelf, HasMore}
+use Rattle.cv_ports.specs.Shelf.{Shelf}
 use Rattle.cv_leases.proofs.Laws.{all_push}
 use Rattle.cv_cut.proofs.Members.{none_there, first_there, later_there, first_or_later}
-use Rattle.cv_cut.proofs.Grafts.{Means-more}
-use Rattle.cv_swap.specs.Kept.{Revision, newest, record_object, IsRevision, Follows, FollowEachOther, IsLine, TagsDiffer}
-
--- ---- on a shelf that grows
-
-revision_more : (s s' : Shelf) (r : Revision) → HasMore s s' → IsRevision s r → IsRevision s' r
-revision_more s s' r k h = record {
-  typed = h.typed;
-  limits = h.limits;
-  there = k (record_object r).id (record_object r).bytes h.there;
-  tree = Means-more s s' r.record_.root r.tree k h.tree;
-}
-
-pub follows_more : (s s' : Shelf) (before r : Revision) → HasMore s s' → Follows s before r → Follows s' before r
-follows_more s s' before r k h = record {
-  is = revision_more s s' r k h.is;
-  revision = h.revision;
-  previous = h.previous;
-  offered = h.offered;
-  means = Means-more s s' r.record_.offered h.offered k h.means;
-  replaces = h.replaces;
-}
-
-follow_more : (s s' : Shelf) (before : Revision) (history : List Revision) → HasMore s s' → FollowEachOther s before history → FollowEachOther s' before history
-follow_more s s' before [] k h = tt
-follow_more s s' before (r ∷ history) k h = (follows_more s s' before r k h.0, follow_more s s' r history k h.1)
-
-pub line_more : (s s' : Shelf) (history : List Revision) → HasMore s s' → IsLine s history → IsLine s' history
-line_more s s' [] k h = absurd h
-line_more s s' (r ∷ history) k h = (revision_more s s' r k h.0, h.1, follow_more s s' r history k h.2)
+use Rattle.cv_swap.specs.Kept.{Revision, newest, IsRevision, Follows, FollowEachOther, IsLine, TagsDiffer}
 
 -- ---- with a revision more
 

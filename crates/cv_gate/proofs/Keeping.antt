@@ -35,7 +35,8 @@ use Rattle.cv_gate.proofs.Leases.{Later, filtered, unchanged, by_ageing}
 use Rattle.cv_gate.proofs.Leases as leases
 use Rattle.cv_gate.proofs.Tokens.{IsSame}
 use Rattle.cv_gate.proofs.Tokens as tokens
-use Rattle.cv_gate.proofs.Histories.{line_more, line_push, newest_push, newest_is_head, tags_push, IsHead}
+use Rattle.cv_swap.proofs.Lemmas.{line_more}
+use Rattle.cv_gate.proofs.Histories.{line_push, newest_push, newest_is_head, tags_push, IsHead}
 use Rattle.cv_gate.proofs.Shelves.{some_of_all, keeps, keeps_sure, keeps_all_sure, loose_more, shelf_more}
 use Rattle.cv_gate.proofs.Making.{IsWritten, commit_follows, commit_tag}
 use Rattle.cv_gate.proofs.Passing.{none_clashes, passes_more}

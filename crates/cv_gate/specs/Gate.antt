@@ -1,11 +1,12 @@
 -- A gate, as it is seen, and the state for which it stands.
-use Rattle.std.specs.Prelude.{◌≡◌, ◌≤◌, ◌<◌, ◌+◌, ◌^◌, ℕ, Bool, true, false, List, [], ◌∷◌, ◌++◌, length, None}
-use Rattle.cv_tree.specs.Tree.{single}
+use Rattle.std.specs.Prelude.{◌≡◌, ◌≤◌, ◌<◌, ◌+◌, ◌^◌, ℕ, Bool, true, false, List, [], ◌∷◌, ◌++◌, length, None, Some}
+use Rattle.cv_base.specs.declared.attr.Attr.{Attr}
+use Rattle.cv_tree.specs.Tree.{Nodes, single}
 use Rattle.cv_tree.specs.declared.node.Node.TheVariants.{Dir}
 use Rattle.cv_history.specs.Record.{no_hash}
 use Rattle.cv_leases.specs.declared.lease.Lease.{Lease}
 use Rattle.cv_gate.specs.State.{State}
-use Rattle.cv_swap.specs.Kept.{Revision}
+use Rattle.cv_swap.specs.Kept.{Revision, newest}
 use Rattle.cv_gate.specs.Sound.{AreLeases}
 use Rattle.cv_gate.specs.Step.{Records, Step}
 use Rattle.cv_gate.specs.declared.op.Op.{Op}
@@ -25,6 +26,10 @@ pub record StateView : Type 0 where
 pub record GateView : Type 0 where
   pub state : StateView
   pub journal : List Entry
+
+-- a gate at a revision with a root, in an epoch, of which nothing was asked yet
+abbrev pub plain_gate : ℕ → List ℕ → ℕ → GateView
+plain_gate revision root epoch = record { state = record { revision = revision; root = root; epoch = epoch; leases = []; moment = 0; next = 1 }; journal = [] }
 
 -- the revision of a gate that stands over no repository: its tree is a directory with nothing in it
 abbrev pub lone_revision : ℕ → List ℕ → Revision
@@ -56,9 +61,21 @@ state_of s = record {
   next = s.next;
 }
 
+-- the tree is a directory with nothing in it
+abbrev pub IsBare : Nodes → Type 0
+IsBare t = (attr : Attr) × (t ≡ single (Dir attr))
+
+-- the newest revision has this number and this root, and its tree is a directory with nothing in it
+pub record IsNewest (revision : ℕ) (root : List ℕ) (history : List Revision) : Type 0 where
+  pub head : Revision
+  pub is_newest : newest history ≡ Some head
+  pub bare : IsBare head.tree
+  pub number : revision ≡ head.record_.revision
+  pub hash : root ≡ head.record_.root
+
 -- the gate stands for the state: it knows the newest revision's number and root, and all of the leases and of the time
 pub record StandsFor (g : GateView) (st : State) : Type 0 where
-  pub history : st.history ≡ lone_revision g.state.revision g.state.root ∷ []
+  pub newest_ : IsNewest g.state.revision g.state.root st.history
   pub doubt : st.doubt ≡ None
   pub leases : g.state.leases ≡ st.leases
   pub moment : g.state.moment ≡ st.moment

@@ -1,9 +1,8 @@
 //! What stands between a connection and the gate.
-ghost use Rattle.std.specs.Prelude.{◌≡◌, ◌≤◌, ◌<◌, ◌∷◌, ◌++◌, ◌^◌, ℕ, List, [], true, None, Some, Err, IsErrOf, MatchResult};
+ghost use Rattle.std.specs.Prelude.{◌≡◌, ◌≤◌, ◌<◌, ◌∷◌, ◌++◌, ◌^◌, ℕ, List, [], None, Some, Err, IsErrOf, MatchResult};
 ghost use Rattle.cv_base.specs.Counts.{HasCause};
 ghost use Rattle.cv_ports.specs.Shelf.{Suits};
 ghost use Rattle.cv_ports.specs.declared.shelf.ShelfFault.TheVariants.{Failed};
-ghost use Rattle.cv_gate.specs.Gate.{is_plain};
 ghost use Rattle.cv_gate.specs.Step.{IsOp};
 ghost use Rattle.cv_gate.specs.declared.reply.Reply.TheVariants.{StoreFailed};
 ghost use Rattle.cv_gate.specs.Desk.{DeskView, Call, Leads, asked, listed, fetched, told, IsHead};
@@ -42,7 +41,6 @@ pub trait Desk {
         requires moment { now < 2 ^ 62 }
         requires op { IsOp op }
         ensures does { does self.old (asked op now result ∷ []) self.new }
-        ensures plain { is_plain result ≡ true }
         ensures named { named self.new ≡ named self.old }
         ensures cause { HasCause (faults self.old) (faults self.new) (result ≡ StoreFailed) };
 

@@ -3,7 +3,7 @@ ghost use Rattle.std.specs.Prelude.{◌≡◌, ◌≤◌, ◌<◌, ◌++◌, ◌
 ghost use Rattle.cv_base.specs.Digest.{IsDigest};
 ghost use Rattle.cv_gate.specs.Lines.{lines_of};
 ghost use Rattle.cv_gate.specs.Step.{IsOp};
-ghost use Rattle.cv_gate.specs.Gate.{Steps, is_plain};
+ghost use Rattle.cv_gate.specs.Gate.{Steps, is_plain, plain_gate};
 ghost use Rattle.cv_gate.specs.declared.act.Act.TheVariants as acts;
 
 use crate::act::Act;
@@ -41,14 +41,14 @@ impl Model for Gate {
 }
 
 impl Gate {
-    /// A gate that stands over no repository: at this revision with this root, whose tree is a directory with nothing in
-    /// it. Its epoch is 1.
-    pub fn plain(alloc: Global, revision: u64, root: [u8; 20]) -> Result<Gate, NoMemory>
-        ensures { IfOk result (λ gate. gate ≡ record { state = record { revision = revision; root = root; epoch = 1; leases = []; moment = 0; next = 1 }; journal = [] }) }
+    /// A gate that asks nothing of a repository: at this revision with this root, whose tree is a directory with nothing in
+    /// it, in this epoch.
+    pub fn plain(alloc: Global, revision: u64, root: [u8; 20], epoch: u64) -> Result<Gate, NoMemory>
+        ensures { IfOk result (λ gate. gate ≡ plain_gate revision root epoch) }
     {
         Ok(Gate {
             alloc,
-            state: GateState::new(alloc, revision, root),
+            state: GateState::new(alloc, revision, root, epoch),
             journal: Vec::with_capacity(alloc, JOURNAL_LIMIT)?,
         })
     }

@@ -38,14 +38,14 @@ impl Model for GateState {
 }
 
 impl GateState {
-    /// Without leases, at this revision with this root, in the first epoch.
-    pub(crate) fn new(alloc: Global, revision: u64, root: [u8; 20]) -> GateState
-        ensures { result ≡ record { revision = revision; root = root; epoch = 1; leases = []; moment = 0; next = 1 } }
+    /// Without leases, at this revision with this root, in this epoch.
+    pub(crate) fn new(alloc: Global, revision: u64, root: [u8; 20], epoch: u64) -> GateState
+        ensures { result ≡ record { revision = revision; root = root; epoch = epoch; leases = []; moment = 0; next = 1 } }
     {
         GateState {
             revision,
             root,
-            epoch: 1,
+            epoch,
             leases: LeaseTable::new(alloc),
             moment: 0,
             next: 1,

@@ -3,7 +3,7 @@ ghost use Rattle.std.specs.Prelude.{◌≡◌, ◌≤◌, ◌<◌, ◌∷◌, �
 ghost use Rattle.cv_base.specs.Counts.{HasCause};
 ghost use Rattle.cv_ports.specs.Shelf.{Suits};
 ghost use Rattle.cv_ports.specs.declared.shelf.ShelfFault.TheVariants.{Failed};
-ghost use Rattle.cv_gate.specs.Gate.{is_plain, state_of, lone_revision};
+ghost use Rattle.cv_gate.specs.Gate.{is_plain};
 ghost use Rattle.cv_gate.specs.Step.{IsOp};
 ghost use Rattle.cv_gate.specs.declared.reply.Reply.TheVariants.{StoreFailed};
 ghost use Rattle.cv_gate.specs.Desk.{DeskView, Leads, asked, listed, fetched, told, IsHead};

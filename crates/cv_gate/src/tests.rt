@@ -83,7 +83,7 @@ fn has_live(gate: &Gate, seconds: u32, count: usize) -> Result<bool, Fail> {
 
 #[test]
 fn a_lease_excludes_what_it_overlaps_until_its_deadline(rt: HostRuntime) -> Result<(), Fail> {
-    let mut gate = Gate::plain(rt.alloc(), 1, [0; 20])?;
+    let mut gate = Gate::plain(rt.alloc(), 1, [0; 20], 1)?;
     for asking in &ASKED {
         assert!(rt; answers(rt.alloc(), &mut gate, asking)?);
     }
@@ -104,7 +104,7 @@ fn cancelled(alloc: Global, gate: &mut Gate, key: &str) -> Result<Reply, Fail>
 
 #[test]
 fn a_lease_is_ended_by_its_key_alone(rt: HostRuntime) -> Result<(), Fail> {
-    let mut gate = Gate::plain(rt.alloc(), 1, [0; 20])?;
+    let mut gate = Gate::plain(rt.alloc(), 1, [0; 20], 1)?;
     assert!(rt; answers(rt.alloc(), &mut gate, &ASKED[0])?);
     assert!(rt; matches!(cancelled(rt.alloc(), &mut gate, "k2")?, Reply::WrongKey));
     assert!(rt; matches!(cancelled(rt.alloc(), &mut gate, "k1")?, Reply::Cancelled));
@@ -114,7 +114,7 @@ fn a_lease_is_ended_by_its_key_alone(rt: HostRuntime) -> Result<(), Fail> {
 
 /// What the first asking of a lease on a path is answered.
 fn asked(alloc: Global, text: &str) -> Result<Reply, Fail> {
-    let mut gate = Gate::plain(alloc, 1, [0; 20])?;
+    let mut gate = Gate::plain(alloc, 1, [0; 20], 1)?;
     Ok(gate.step(0, START, lease(alloc, text)?))
 }
 
