@@ -1,0 +1,334 @@
+-- One connection over a gate meets what is asked of a desk.
+use Rattle.std.proofs.Common.{◌≡◌, ◌++◌, ◌∷◌, ◌-◌, Bool, true, ℕ, zero, suc, List, [], length, refl, ap, sym, subst, ◌∙◌, append_assoc, append-nil}
+use Rattle.std.specs.Prelude.{Vec, IfOk, MatchResult, IfSome, bytes_eq, max, drop, map, option_map}
+use Rattle.std.specs.List.{last_or}
+use Rattle.sha1.specs.Sha1.{sha1}
+use Rattle.std.specs.declared.result.Result.{Result}
+use Rattle.std.specs.declared.result.Result.TheVariants.{Ok, Err}
+use Rattle.std.specs.declared.option.Option.{Option}
+use Rattle.std.specs.declared.option.Option.TheVariants.{None, Some}
+use Rattle.cv_base.specs.Told.{WhereTold}
+use Rattle.cv_base.specs.declared.id.ObjectId.{ObjectId}
+use Rattle.cv_ports.specs.Shelf.{Shelf, IsShelf, Gives, Fetches}
+use Rattle.cv_ports.specs.declared.shelf.ShelfFault.{ShelfFault}
+use Rattle.cv_ports.specs.declared.shelf.ShelfFault.TheVariants.{Failed, Damaged, NoMemory}
+use Rattle.cv_seal.specs.Seals.{bytes_eq-itself}
+use Rattle.cv_vault.specs.Disk.{Disk, Files, ImageOf}
+use Rattle.cv_vault.specs.Moments.{LeavesOnly}
+use Rattle.cv_vault.specs.Names.{on_way}
+use Rattle.cv_vault.specs.Walks.{Nothing}
+use Rattle.cv_vault.proofs.Laws.{leaves_then, leaves_more, stand, quiet_walks}
+use Rattle.cv_manifest.specs.declared.head.Head.{Head}
+use Rattle.cv_swap.specs.Kept.{Revision, newest, head_of}
+use Rattle.cv_objects.specs.Names.{standing_on}
+use Rattle.cv_gate.specs.Lines.{lines_of}
+use Rattle.cv_gate.specs.declared.lease_line.LeaseLine.{LeaseLine}
+use Rattle.cv_gate.specs.State.{State, Settled, certain, unmade, published}
+use Rattle.cv_gate.specs.Step.{Run}
+use Rattle.cv_gate.specs.Laws.{GrowsBy}
+use Rattle.cv_gate.specs.Gate.{journal_limit}
+use Rattle.cv_gate.specs.Heads.{IsFront, heads_since, last_head}
+use Rattle.cv_gate.specs.Desk.{DeskView, Call, asked, listed, fetched, told, Learns, Does as DoesCall, Calls, Leads, Finds}
+use Rattle.cv_gate.specs.Desk.{made as takes_made}
+use Rattle.cv_gate.specs.Desk.{full as takes_full}
+use Rattle.cv_gate.specs.declared.op.Op.{Op}
+use Rattle.cv_gate.specs.declared.reply.Reply.{Reply}
+use Rattle.cv_gate.specs.declared.reply.Reply.TheVariants as reply
+use Rattle.cv_gate.specs.declared.entry.Entry.{Entry}
+use Rattle.cv_gate.proofs.Lemmas.{from_any, run_on, front_self, some_newest}
+use Rattle.cv_desk.specs.Holds.{Survives}
+use Rattle.cv_desk.specs.Gate.{StateView, GateView, StandsFor, IsSameRepository, Steps}
+use Rattle.cv_desk.specs.Gate.{full, made, Does}
+use Rattle.cv_desk.specs.Acting.{OnlyLooks}
+use Rattle.cv_desk.specs.OneDesk.{OneDeskView, Stands, IsLeft, behind, within, Goes, DoesCalls}
+use Rattle.cv_desk.proofs.Imaging.{calm_survives}
+use Rattle.cv_desk.proofs.Quietly.{looked_stands, looks_none}
+use Rattle.cv_desk.proofs.Holding.{shelf_stands}
+use Rattle.cv_desk.proofs.Places.{head_is}
+
+-- ---- histories that grow
+
+-- a state whose doubt is settled so that the history stays
+record Ended (st : State) : Type 0 where
+  end : State
+  settles : Settled st end
+  same : end.history ≡ st.history
+
+ended : (st : State) → Ended st
+ended st = elim st.doubt as (λ o. st.doubt ≡ o → Ended st) [
+  | None ↦ λ none. record { end = st; settles = certain none refl; same = refl }
+  | Some new ↦ λ some. record { end = record st { doubt = None }; settles = unmade new some refl; same = refl }
+] refl
+
+-- a run only adds to the history
+grown : (st : State) (entries : List Entry) (st' : State) → Run st entries st' → IsFront st.history st'.history
+grown st entries st' run = by g.settles
+  where
+    end : Ended st'
+    end = ended st'
+
+    g : GrowsBy st entries end.end
+    g = from_any st entries st' end.end run end.settles
+
+    is : st'.history ≡ g.start.history ++ g.news
+    is = sym end.same ∙ g.history
+
+    by : Settled st g.start → IsFront st.history st'.history
+    by (certain none e) = record { more = g.news; split = is ∙ ap (λ (x : State). x.history ++ g.news) e }
+    by (unmade new some e) = record { more = g.news; split = is ∙ ap (λ (x : State). x.history ++ g.news) e }
+    by (published new some e) = record { more = new ∷ g.news; split = is ∙ ap (λ (x : State). x.history ++ g.news) e ∙ append_assoc st.history (new ∷ []) g.news }
+
+-- a part at the end that isn't empty grows at its end
+part_grows : {A B : Type 0} (f : A → B) (k : ℕ) (xs ys : List A) (h : B) → last_or None (map f (drop k xs)) ≡ Some h → map f (drop k (xs ++ ys)) ≡ map f (drop k xs) ++ map f ys
+part_grows f zero xs ys h some = map_on f xs ys
+  where
+    map_on : {A B : Type 0} (f : A → B) (xs ys : List A) → map f (xs ++ ys) ≡ map f xs ++ map f ys
+    map_on f [] ys = refl
+    map_on f (x ∷ xs) ys = ap (λ zs. f x ∷ zs) (map_on f xs ys)
+part_grows f (suc k) [] ys h some = cc
+part_grows f (suc k) (x ∷ xs) ys h some = part_grows f k xs ys h some
+
+last_mapped : {A B : Type 0} (f : A → B) (o : Option A) (xs : List A) → last_or (option_map f o) (map f xs) ≡ option_map f (last_or o xs)
+last_mapped f o [] = refl
+last_mapped f o (x ∷ xs) = last_mapped f (Some x) xs
+
+-- and then its last is that of all
+last_grows : {A B : Type 0} (f : A → B) (k : ℕ) (o : Option A) (xs ys : List A) (h : B) → last_or None (map f (drop k xs)) ≡ Some h → last_or None (map f (drop k (xs ++ ys))) ≡ option_map f (last_or o (xs ++ ys))
+last_grows f zero o [] ys h some = cc
+last_grows f zero o (x ∷ xs) ys h some = last_mapped f (Some x) (xs ++ ys)
+last_grows f (suc k) o [] ys h some = cc
+last_grows f (suc k) o (x ∷ xs) ys h some = last_grows f k (Some x) xs ys h some
+
+-- ---- nothing new
+
+abbrev view_at : DeskView → List Entry → State → DeskView
+view_at v seen st = record v { seen = seen; state = st; heads = heads_since v.start st }
+
+same_view : (v : DeskView) (seen : List Entry) → seen ≡ v.seen → v.heads ≡ heads_since v.start v.state → v ≡ view_at v seen v.state
+same_view v seen is heads = rw (is, sym heads) refl
+
+module _ {V S : Type 0} (disk : V → Option Disk) (count : V → ℕ) (left : V → ℕ → Files → Type 0) (is_seal : S → List ℕ → List ℕ → Bool) where
+  learns_nothing : (d : OneDeskView V S) (v : DeskView) → Stands disk is_seal d v → Learns v v
+  learns_nothing d v s = record {
+    others = [];
+    between = record {
+      run = subst (λ (l : List Entry). Run v.start l v.state) (sym (append-nil v.seen)) s.run;
+      theirs = refl;
+      alone = λ a. (refl, refl);
+    };
+    knows = record { view = same_view v (v.seen ++ []) (append-nil v.seen) s.heads; heads = front_self v.heads };
+  }
+
+  -- a call that only reads
+  pub reads_does : (d : OneDeskView V S) (c : Call) (state : StateView V S) → ((f : Files) → left d.gate.state.line.vault (count d.gate.state.line.vault) f → ImageOf (disk d.gate.state.line.vault) f)
+      → OnlyLooks disk count left d.gate.state state → ((v : DeskView) → Stands disk is_seal d v → Learns v v → DoesCall c v v)
+      → DoesCalls disk count left is_seal d (c ∷ []) (record d { gate = record d.gate { state = state } })
+  reads_does d c state only looks does = record {
+    same = record { name_ = ap (λ (s : StateView V S). s.line.name) looks.others; signer_ = ap (λ (s : StateView V S). s.line.signer) looks.others; epoch_ = ap (λ (s : StateView V S). s.line.epoch) looks.others };
+    goes = λ v s. record {
+      next = v;
+      stands = record {
+        seat = s.seat;
+        alone = s.alone;
+        seen = s.seen;
+        state = looked_stands disk count left is_seal d.gate.state state v.state looks s.state;
+        run = s.run;
+        heads = s.heads;
+        last = s.last;
+      };
+      calls_ = (v, does v s (learns_nothing d v s), refl);
+      leaves = leaves_more (quiet_walks {away = on_way} only s.state.told looks.reads).leaves (λ f w. behind [] (c ∷ []) v refl refl
+          (calm_survives d.gate.state.line.name (is_seal d.gate.state.line.signer) s.state.end v.state f s.state.holds s.state.sound w));
+    };
+  }
+
+  -- ---- an op
+
+  -- the newest head is the last that a desk knows
+  heads_on : (d : OneDeskView V S) (v : DeskView) (s : Stands disk is_seal d v) (st : State) → IsFront v.state.history st.history → (r : Revision) → newest st.history ≡ Some r
+      → IsFront v.heads (heads_since v.start st) × (last_head (heads_since v.start st) ≡ Some (head_of r))
+  heads_on d v s st front r is =
+      let k : ℕ = length v.start.history - 1 in
+      let some : last_or None (map head_of (drop k v.state.history)) ≡ Some d.head = subst (λ (l : List Head). last_or None l ≡ Some d.head) s.heads s.last in
+      let split : (l : List Revision) → l ≡ v.state.history ++ front.more → map head_of (drop k l) ≡ map head_of (drop k v.state.history) ++ map head_of front.more =
+      λ l e. subst (λ (l : List Revision). map head_of (drop k l) ≡ map head_of (drop k v.state.history) ++ map head_of front.more) (sym e) (part_grows head_of k v.state.history front.more d.head some) in
+      let last : (l : List Revision) → l ≡ v.state.history ++ front.more → last_or None (map head_of (drop k l)) ≡ option_map head_of (last_or None l) =
+      λ l e. subst (λ (l : List Revision). last_or None (map head_of (drop k l)) ≡ option_map head_of (last_or None l)) (sym e) (last_grows head_of k None v.state.history front.more d.head some) in (
+        record { more = map head_of front.more; split = split st.history front.split ∙ ap (λ (l : List Head). l ++ map head_of front.more) (sym s.heads) },
+        last st.history front.split ∙ ap (option_map head_of) is,
+      )
+
+  module _ (d : OneDeskView V S) (after : GateView V S) (head : Head) (o : Op) (now : ℕ) (r : Reply)
+      (heads : (st : State) → StandsFor disk is_seal after.state st → head ≡ after.state.line.head) where
+    -- the head that the desk knows then is the newest
+    head_then : (st : State) → (stands : StandsFor disk is_seal after.state st) → (r : Revision) × (newest st.history ≡ Some r) × (head ≡ head_of r)
+    head_then st stands =
+        let new = some_newest st.shelf st.history stands.sound.line in
+        (new.0, new.1, heads st stands ∙ head_is disk is_seal after.state st stands new.0 new.1)
+
+    -- the journal was full
+    full_goes : ((f : Files) → left d.gate.state.line.vault (count d.gate.state.line.vault) f → ImageOf (disk d.gate.state.line.vault) f)
+        → length d.gate.journal ≡ journal_limit → r ≡ reply.JournalFull → after ≡ d.gate → (v : DeskView) → Stands disk is_seal d v
+        → Goes disk count left is_seal d (asked o now r ∷ []) (record d { gate = after; head = head }) v
+    full_goes only counted is same v s =
+        let stands : StandsFor disk is_seal after.state v.state = subst (λ (g : GateView V S). StandsFor disk is_seal g.state v.state) (sym same) s.state in
+        let then = head_then v.state stands in
+        let on = heads_on d v s v.state (front_self v.state.history) then.0 then.1 in record {
+          next = v;
+          stands = record {
+            seat = s.seat;
+            alone = s.alone;
+            seen = s.seen ∙ ap (λ (g : GateView V S). g.journal) (sym same);
+            state = stands;
+            run = s.run;
+            heads = s.heads;
+            last = ap last_head s.heads ∙ on.1 ∙ ap Some (sym then.2);
+          };
+          calls_ = (v, takes_full is (learns_nothing d v s) (ap length s.seen ∙ counted), refl);
+          leaves = subst (λ (g : GateView V S). LeavesOnly count left (IsLeft d.gate.state.line.name (is_seal d.gate.state.line.signer) v (asked o now r ∷ [])) d.gate.state.line.vault g.state.line.vault) (sym same)
+              (leaves_more (stand {disk = disk} {away = on_way} {B = Nothing} {E = λ x. Unit {0}} only s.state.told tt).leaves (λ f w. behind [] (asked o now r ∷ []) v refl refl
+              (calm_survives d.gate.state.line.name (is_seal d.gate.state.line.signer) s.state.end v.state f s.state.holds s.state.sound w)));
+        }
+
+    -- the op was taken
+    made_goes : (e : Entry) → e.seat ≡ 0 → e.now ≡ now → e.reply ≡ r → after.journal ≡ d.gate.journal ++ e ∷ [] → (v : DeskView) → Stands disk is_seal d v
+        → Does disk count left is_seal o e d.gate.state after.state v.state → Goes disk count left is_seal d (asked o now r ∷ []) (record d { gate = after; head = head }) v
+    made_goes e seat moment replied journal v s taken =
+        let st' : State = taken.next in
+        let then = head_then st' taken.stands in
+        let on = heads_on d v s st' (grown v.state (e ∷ []) st' (o, st', taken.step, refl)) then.0 then.1 in
+        let v' : DeskView = view_at v ((v.seen ++ []) ++ e ∷ []) st' in
+        let run : Run v.start (v.seen ++ []) v.state = subst (λ (l : List Entry). Run v.start l v.state) (sym (append-nil v.seen)) s.run in record {
+          next = v';
+          stands = record {
+            seat = s.seat;
+            alone = s.alone;
+            seen = ap (λ (l : List Entry). l ++ e ∷ []) (append-nil v.seen ∙ s.seen) ∙ sym journal;
+            state = taken.stands;
+            run = run_on (v.seen ++ []) (e ∷ []) v.start v.state st' run (o, st', taken.step, refl);
+            heads = refl;
+            last = on.1 ∙ ap Some (sym then.2);
+          };
+          calls_ = (
+            v',
+            takes_made [] v.state e (record { run = run; theirs = refl; alone = λ a. (refl, refl) }) (seat ∙ sym s.seat) moment replied taken.step (record { view = refl; heads = on.0 }),
+            refl,
+          );
+          leaves = leaves_more taken.leaves (λ f x. within [] [] v o now r refl refl
+              (subst (λ n. Survives d.gate.state.line.name (is_seal d.gate.state.line.signer) v.state (Some (record { op = o; now = n })) f) moment x));
+        }
+
+    pub ask_does : ((f : Files) → left d.gate.state.line.vault (count d.gate.state.line.vault) f → ImageOf (disk d.gate.state.line.vault) f)
+        → Steps disk count left is_seal o 0 now d.gate after r → DoesCalls disk count left is_seal d (asked o now r ∷ []) (record d { gate = after; head = head })
+    ask_does only (full counted is same) = record {
+      same = subst (λ (g : GateView V S). IsSameRepository d.gate.state.line g.state.line) (sym same) (record { name_ = refl; signer_ = refl; epoch_ = refl });
+      goes = full_goes only counted is same;
+    }
+    ask_does only (made room e seat moment replied records journal repository does) = record {
+      same = repository;
+      goes = λ v s. made_goes e seat moment replied journal v s (does v.state s.state);
+    }
+
+-- ---- an object
+
+-- what a fetch gives of a shelf is what stands there
+pub finds_of : (id : ObjectId) (shelf : Shelf) → IsShelf shelf → (r : Result (Option (List ℕ)) ShelfFault) → Fetches id r shelf → Finds id shelf r
+finds_of id shelf h (Ok found) given = elim (shelf id) as (λ o. shelf id ≡ o → Gives id o (Ok found) → found ≡ o) [
+  | None ↦ λ _ e. cc
+  | Some bytes ↦ λ there e. (
+      let same : bytes_eq (sha1 bytes) id.hash ≡ true = subst (λ x. bytes_eq (sha1 bytes) x ≡ true) (sym (h.hash id bytes there)) (bytes_eq-itself (sha1 bytes)) in
+      let f : Ok found ≡ Ok (Some bytes) = e ∙ rw same refl in
+      cc)
+] refl given
+finds_of id shelf h (Err Failed) given = tt
+finds_of id shelf h (Err (Damaged named found)) given = elim (shelf id) as (λ o. shelf id ≡ o → Gives id o (Err (Damaged named found)) → ⊥) [
+  | None ↦ λ _ e. absurd cc
+  | Some bytes ↦ λ there e. (
+      let same : bytes_eq (sha1 bytes) id.hash ≡ true = subst (λ x. bytes_eq (sha1 bytes) x ≡ true) (sym (h.hash id bytes there)) (bytes_eq-itself (sha1 bytes)) in
+      let f : Err (Damaged named found) ≡ Ok (Some bytes) = e ∙ rw same refl in
+      absurd cc)
+] refl given
+finds_of id shelf h (Err NoMemory) given = tt
+
+-- ---- what is told
+
+module _ {V S : Type 0} (disk : V → Option Disk) (count : V → ℕ) (left : V → ℕ → Files → Type 0) (is_seal : S → List ℕ → List ℕ → Bool) (d : OneDeskView V S)
+    (only : (f : Files) → left d.gate.state.line.vault (count d.gate.state.line.vault) f → ImageOf (disk d.gate.state.line.vault) f) where
+  -- the list of leases, or none where memory was wanted
+  pub lists_does : (now : ℕ) (lines : Option (List LeaseLine)) → IfSome lines (λ l. l ≡ lines_of (max d.gate.state.moment now) d.gate.state.leases) → DoesCalls disk count left is_seal d (listed now lines ∷ []) d
+  lists_does now lines is = reads_does disk count left is_seal d (listed now lines) d.gate.state only (looks_none disk count left d.gate.state) (λ v s learns. (learns, by v s lines is))
+    where
+      by : (v : DeskView) → Stands disk is_seal d v → (lines : Option (List LeaseLine)) → IfSome lines (λ l. l ≡ lines_of (max d.gate.state.moment now) d.gate.state.leases) → IfSome lines (λ l. l ≡ lines_of (max v.state.moment now) v.state.leases)
+      by v s None is = tt
+      by v s (Some l) is = is ∙ (λ i. lines_of (max (s.state.moment i) now) (s.state.leases i))
+
+  -- the newest head
+  pub tells_does : DoesCalls disk count left is_seal d (told d.head ∷ []) d
+  tells_does = reads_does disk count left is_seal d (told d.head) d.gate.state only (looks_none disk count left d.gate.state) (λ v s learns. record { view = refl; heads = front_self v.heads; last = s.last; alone = λ a. refl })
+
+  -- an object
+  pub fetches_does : (state : StateView V S) (id : ObjectId) (r : Result (Option (List ℕ)) ShelfFault) → OnlyLooks disk count left d.gate.state state → WhereTold (disk d.gate.state.line.vault) (λ e. Fetches id r (standing_on e))
+      → DoesCalls disk count left is_seal d (fetched id r ∷ []) (record d { gate = record d.gate { state = state } })
+  fetches_does state id r looks seen = reads_does disk count left is_seal d (fetched id r) state only looks (λ v s learns. (
+    learns,
+    finds_of id v.state.shelf s.state.sound.hashes r (subst (λ (x : Shelf). Fetches id r x) (sym (shelf_stands d.gate.state.line.name (is_seal d.gate.state.line.signer) s.state.end v.state s.state.holds s.state.sound.hashes)) (seen s.state.end s.state.told)),
+  ))
+
+  -- the same, whatever became of the call
+  pub lists_all : {Z X : Type 0} (now : ℕ) (r : Result (Vec LeaseLine Z) X) → IfOk r (λ lines. lines.items ≡ lines_of (max d.gate.state.moment now) d.gate.state.leases)
+      → MatchResult r (λ lines. DoesCalls disk count left is_seal d (listed now (Some lines.items) ∷ []) d) (λ _. DoesCalls disk count left is_seal d (listed now None ∷ []) d)
+  lists_all now (Ok lines) h = lists_does now (Some lines.items) h
+  lists_all now (Err x) h = lists_does now None tt
+
+  pub fetches_over : (gate : GateView V S) (id : ObjectId) (r : Result (Option (List ℕ)) ShelfFault) → OnlyLooks disk count left d.gate.state gate.state → gate.journal ≡ d.gate.journal
+      → WhereTold (disk d.gate.state.line.vault) (λ e. Fetches id r (standing_on e)) → DoesCalls disk count left is_seal d (fetched id r ∷ []) (record d { gate = gate })
+  fetches_over gate id r looks same seen =
+      subst (λ (j : List Entry). DoesCalls disk count left is_seal d (fetched id r ∷ []) (record d { gate = record { state = gate.state; journal = j } })) (sym same) (fetches_does gate.state id r looks seen)
+
+-- ---- calls, one after another
+
+calls_on : (calls more : List Call) (v mid v' : DeskView) → Calls v calls mid → Calls mid more v' → Calls v (calls ++ more) v'
+calls_on [] more v mid v' does and = subst (λ (x : DeskView). Calls x more v') does and
+calls_on (c ∷ calls) more v mid v' does and = (does.0, does.1, calls_on calls more does.0 mid v' does.2 and)
+
+module _ (name : List ℕ) (is_seal : List ℕ → List ℕ → Bool) (v : DeskView) (calls more : List Call) (f : Files) where
+  left_front : IsLeft name is_seal v calls f → IsLeft name is_seal v (calls ++ more) f
+  left_front (behind done rest mid e c s) = behind done (rest ++ more) mid (ap (λ (l : List Call). l ++ more) e ∙ append_assoc done rest more) c s
+  left_front (within done rest mid o now r e c s) = within done (rest ++ more) mid o now r (ap (λ (l : List Call). l ++ more) e ∙ append_assoc done (asked o now r ∷ rest) more) c s
+
+  left_later : (w : DeskView) → Calls v calls w → IsLeft name is_seal w more f → IsLeft name is_seal v (calls ++ more) f
+  left_later w first (behind done rest mid e c s) = behind (calls ++ done) rest mid (ap (λ (l : List Call). calls ++ l) e ∙ sym (append_assoc calls done rest)) (calls_on calls done v w mid first c) s
+  left_later w first (within done rest mid o now r e c s) =
+      within (calls ++ done) rest mid o now r (ap (λ (l : List Call). calls ++ l) e ∙ sym (append_assoc calls done (asked o now r ∷ rest))) (calls_on calls done v w mid first c) s
+
+module _ {V S : Type 0} (disk : V → Option Disk) (count : V → ℕ) (left : V → ℕ → Files → Type 0) (is_seal : S → List ℕ → List ℕ → Bool) where
+  pub calls_none : (a : OneDeskView V S) → ((f : Files) → left a.gate.state.line.vault (count a.gate.state.line.vault) f → ImageOf (disk a.gate.state.line.vault) f) → DoesCalls disk count left is_seal a [] a
+  calls_none a only = record {
+    same = record { name_ = refl; signer_ = refl; epoch_ = refl };
+    goes = λ v s. record {
+      next = v;
+      stands = s;
+      calls_ = refl;
+      leaves = leaves_more (stand {disk = disk} {away = on_way} {B = Nothing} {E = λ x. Unit {0}} only s.state.told tt).leaves (λ f w. behind [] [] v refl refl
+          (calm_survives a.gate.state.line.name (is_seal a.gate.state.line.signer) s.state.end v.state f s.state.holds s.state.sound w));
+    };
+  }
+
+  pub calls_more : (a b c : OneDeskView V S) (calls more : List Call) → DoesCalls disk count left is_seal a calls b → DoesCalls disk count left is_seal b more c → DoesCalls disk count left is_seal a (calls ++ more) c
+  calls_more a b c calls more x y = record {
+    same = record { name_ = y.same.name_ ∙ x.same.name_; signer_ = y.same.signer_ ∙ x.same.signer_; epoch_ = y.same.epoch_ ∙ x.same.epoch_ };
+    goes = λ v s.
+        let first = x.goes v s in
+        let second = y.goes first.next first.stands in record {
+          next = second.next;
+          stands = second.stands;
+          calls_ = calls_on calls more v first.next second.next first.calls_ second.calls_;
+          leaves = leaves_then first.leaves second.leaves (λ f. left_front a.gate.state.line.name (is_seal a.gate.state.line.signer) v calls more f)
+              (λ f z. left_later a.gate.state.line.name (is_seal a.gate.state.line.signer) v calls more f first.next first.calls_
+              (subst (λ n. IsLeft n (is_seal a.gate.state.line.signer) first.next more f) x.same.name_ (subst (λ g. IsLeft b.gate.state.line.name (is_seal g) first.next more f) x.same.signer_ z)));
+        };
+  }
+
+  -- calls lead from view to view
+  pub calls_lead : (a b : OneDeskView V S) (calls : List Call) → DoesCalls disk count left is_seal a calls b → Leads (Stands disk is_seal a) calls (Stands disk is_seal b)
+  calls_lead a b calls x = λ v s. let g = x.goes v s in (g.next, g.stands, g.calls_)

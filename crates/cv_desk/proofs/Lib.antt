@@ -1,0 +1,16 @@
+mod Names
+mod Imaging
+mod Holding
+mod Sending
+mod Storing
+mod Quietly
+mod Settling
+mod Opened
+mod Places
+mod Asking
+mod States
+mod Desks
+mod Taking
+mod Reading
+mod Sends
+mod Recovering

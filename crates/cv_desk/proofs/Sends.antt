@@ -1,0 +1,47 @@
+-- A batch that is sent, as the body does it.
+use Rattle.std.proofs.Common.{◌≡◌, ℕ, List, [], sym, subst}
+use Rattle.std.specs.Prelude.{Vec}
+use Rattle.std.specs.declared.option.Option.{Option}
+use Rattle.std.specs.declared.result.Result.{Result}
+use Rattle.std.specs.declared.result.Result.TheVariants.{Ok, Err}
+use Rattle.cv_base.specs.Told.{WhereTold}
+use Rattle.cv_base.specs.declared.id.ObjectId.{ObjectId}
+use Rattle.cv_base.specs.declared.object.Object.{Object}
+use Rattle.cv_vault.specs.Names.{on_way}
+use Rattle.cv_vault.specs.Disk.{Disk, Files}
+use Rattle.cv_vault.specs.Walks.{Walks, Nothing}
+use Rattle.cv_leases.specs.declared.lease.Lease.{Lease}
+use Rattle.cv_objects.specs.Batches.{Brings, GivesFresh, Stored}
+use Rattle.cv_objects.specs.declared.store_fault.StoreFault.{StoreFault}
+use Rattle.cv_swap.specs.Line.{LineView}
+use Rattle.cv_desk.specs.Gate.{StateView}
+use Rattle.cv_desk.specs.Sending.{IsSent, outcome_of}
+use Rattle.cv_desk.specs.Sent.{sent_by}
+use Rattle.cv_desk.specs.Acting.{Sends}
+use Rattle.cv_desk.specs.declared.outcome.Outcome.{Outcome}
+use Rattle.cv_desk.specs.declared.sent.Sent.{Sent}
+use Rattle.cv_desk.proofs.Sending.{unknown, known_then}
+
+module _ {V S : Type 0} (disk : V → Option Disk) (count : V → ℕ) (left : V → ℕ → Files → Type 0) (batch : List Object) (s : StateView V S) (line : LineView V S) (leases : List Lease) (moment next : ℕ)
+    (is : record { line = line; leases = leases; moment = moment; next = next } ≡ s) where
+  abbrev over : LineView V S → StateView V S
+  over l = record { line = l; leases = leases; moment = moment; next = next }
+
+  sends_any : (l : LineView V S) → l ≡ record line { vault = l.vault } → (o : Outcome) (fresh : List ObjectId)
+      → WhereTold (disk line.vault) (λ d. Walks disk count left on_way (Brings d batch) (IsSent d batch o fresh) d line.vault l.vault) → Sends disk count left batch s o fresh (over l)
+  sends_any l others o fresh w = subst (λ (x : StateView V S). Sends disk count left batch x o fresh (over l)) is (record { walks = w; others = λ i. over (others i) })
+
+  -- the ids weren't known
+  pub sends_unknown : (l : LineView V S) → l ≡ record line { vault = l.vault } → {Z : Type 0} (r : Result (Vec ObjectId Z) StoreFault) (fault : StoreFault) → r ≡ Err fault
+      → WhereTold (disk line.vault) (λ d. Walks disk count left on_way Nothing (GivesFresh d batch r) d line.vault l.vault) → (t : Sent) → t ≡ record { outcome = outcome_of fault; fresh = [] }
+      → Sends disk count left batch s t.outcome t.fresh (over l)
+  sends_unknown l others {Z} r fault e w t said = subst (λ (x : Sent). Sends disk count left batch s x.outcome x.fresh (over l)) (sym said) (sends_any l others (outcome_of fault) []
+      (λ d told. unknown d batch line.vault l.vault fault (subst (λ (x : Result (Vec ObjectId Z) StoreFault). Walks disk count left on_way Nothing (GivesFresh d batch x) d line.vault l.vault) e (w d told))))
+
+  -- they were
+  pub sends_known : (l m : LineView V S) → l ≡ record line { vault = l.vault } → m ≡ record l { vault = m.vault } → {Z : Type 0} (r : Result (Vec ObjectId Z) StoreFault) (ids : Vec ObjectId Z) → r ≡ Ok ids
+      → WhereTold (disk line.vault) (λ d. Walks disk count left on_way Nothing (GivesFresh d batch r) d line.vault l.vault) → (stored : Result (Unit {0}) StoreFault)
+      → WhereTold (disk l.vault) (λ d. Walks disk count left on_way (Brings d batch) (Stored d batch stored) d l.vault m.vault) → (t : Sent) → t ≡ sent_by ids.items stored → Sends disk count left batch s t.outcome t.fresh (over m)
+  sends_known l m others more {Z} r ids e w stored then t said = subst (λ (x : Sent). Sends disk count left batch s x.outcome x.fresh (over m)) (sym said)
+      (sends_any m (subst (λ (x : LineView V S). m ≡ record x { vault = m.vault }) others more) (sent_by ids.items stored).outcome (sent_by ids.items stored).fresh
+      (λ d told. known_then d batch line.vault l.vault ids m.vault stored (subst (λ (x : Result (Vec ObjectId Z) StoreFault). Walks disk count left on_way Nothing (GivesFresh d batch x) d line.vault l.vault) e (w d told)) then))

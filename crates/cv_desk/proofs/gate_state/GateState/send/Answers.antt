@@ -1,0 +1,11 @@
+use Rattle.std.proofs.Common.{rules}
+use Rattle.cv_desk.proofs.Sends.{sends_unknown, sends_known}
+use Rattle.cv_desk.proofs.gate_state.GateState.send.Goals as goal
+
+pub returns-in-Err-clause-sends : goal.returns-in-Err-clause-sends
+returns-in-Err-clause-sends g c = sends_unknown g.V.Vault.disk g.V.Vault.count g.V.Vault.left c.args.batch.now c.args.self.now c.self.inside.line c.self.inside.leases c.self.inside.moment c.self.inside.next c.self.view_is
+    c.fresh.new.self c.fresh.ensures.others c.fresh.result c.in-Err.fault c.in-Err.is c.fresh.ensures.walks c.none.result (search rules)
+
+pub returns-clause-sends : goal.returns-clause-sends
+returns-clause-sends g c = sends_known g.V.Vault.disk g.V.Vault.count g.V.Vault.left c.args.batch.now c.args.self.now c.self.inside.line c.self.inside.leases c.self.inside.moment c.self.inside.next c.self.view_is
+    c.fresh.new.self c.store-stored.new.self c.fresh.ensures.others c.store-stored.ensures.others c.fresh.result c.in-Ok.fresh c.in-Ok.is c.fresh.ensures.walks c.store-stored.result c.store-stored.ensures.walks c.by.result c.by.ensures

@@ -1,0 +1,17 @@
+use Rattle.std.proofs.Common.{rules}
+use Rattle.cv_desk.proofs.Settling.{settles_calm}
+use Rattle.cv_desk.proofs.Recovering.{recovers_not, recovers_unmade, recovers_made}
+use Rattle.cv_desk.proofs.gate_state.GateState.settle.Goals as goal
+
+pub returns-then-not-in_doubt-clause-settles : goal.returns-then-not-in_doubt-clause-settles
+returns-then-not-in_doubt-clause-settles g c = settles_calm g.V.Vault.disk g.V.Vault.count g.V.Vault.left g.S.Signer.is_seal c.args.self.now (g.met.V.Vault.only_now c.args.self.now.line.vault) (search rules)
+
+pub returns-in-Ok-true-clause-settles : goal.returns-in-Ok-true-clause-settles
+returns-in-Ok-true-clause-settles g c = recovers_made g.V.Vault.disk g.V.Vault.count g.V.Vault.left g.S.Signer.is_seal c.args.self.now c.self.inside.line c.self.inside.leases c.self.inside.moment c.self.inside.next c.self.view_is (search rules) c.recover.new.self c.recover.result c.recover.ensures.walks (search rules) (search rules)
+    c.end_newest.new.self c.end_newest.ensures
+
+pub returns-in-Ok-false-clause-settles : goal.returns-in-Ok-false-clause-settles
+returns-in-Ok-false-clause-settles g c = recovers_unmade g.V.Vault.disk g.V.Vault.count g.V.Vault.left g.S.Signer.is_seal c.args.self.now c.self.inside.line c.self.inside.leases c.self.inside.moment c.self.inside.next c.self.view_is (search rules) c.recover.new.self c.recover.result c.recover.ensures.walks (search rules) (search rules)
+
+pub returns-in-Err-clause-settles : goal.returns-in-Err-clause-settles
+returns-in-Err-clause-settles g c = recovers_not g.V.Vault.disk g.V.Vault.count g.V.Vault.left g.S.Signer.is_seal c.args.self.now c.self.inside.line c.self.inside.leases c.self.inside.moment c.self.inside.next c.self.view_is (search rules) c.recover.new.self c.recover.result c.recover.ensures.walks c.in-Err.fault c.in-Err.is (search rules)

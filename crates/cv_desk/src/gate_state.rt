@@ -1,0 +1,502 @@
+//! The state of the gate: all but its journal.
+ghost use Rattle.std.specs.Prelude.{◌≡◌, ◌≢◌, ◌≤◌, ◌<◌, ◌+◌, ◌^◌, [], max, None, Some, Err, IfOk, IsErrOf};
+ghost use Rattle.cv_base.specs.Counts.{HasCause};
+ghost use Rattle.cv_base.specs.Digest.{IsDigest};
+ghost use Rattle.cv_base.specs.Path.{IsPath};
+ghost use Rattle.cv_base.specs.Told.{WhereTold};
+ghost use Rattle.cv_ports.specs.Shelf.{Fetches, Suits};
+ghost use Rattle.cv_ports.specs.declared.shelf.ShelfFault.TheVariants as shelf_fault;
+ghost use Rattle.cv_vault.specs.declared.vault.VaultFault.TheVariants as vault_fault;
+ghost use Rattle.cv_objects.specs.Names.{standing_on};
+ghost use Rattle.cv_objects.specs.Batches.{AreNamed};
+ghost use Rattle.cv_gate.specs.declared.act.Act.TheVariants as acts;
+ghost use Rattle.cv_gate.specs.declared.op.Op.TheVariants as ops;
+ghost use Rattle.cv_leases.specs.Leases.{lease_of};
+ghost use Rattle.cv_gate.specs.Lines.{lines_of};
+ghost use Rattle.cv_gate.specs.Step.{IsOp, HasTypes};
+ghost use Rattle.cv_swap.specs.Line.{published};
+ghost use Rattle.cv_desk.specs.Gate.{StandsFor, IsSameRepository};
+ghost use Rattle.cv_desk.specs.Acting.{aged_view, Settles, Acts, refusal_of, refusal_on, FindsPlace, OnlyLooks, new_lease, Grants, AsksLease, AsksEnd, Sends, AsksStore, IsDone, IsDeclined, Takes, newest_token, ended, reply_of};
+ghost use Rattle.cv_desk.specs.declared.outcome.Outcome.TheVariants as outcomes;
+
+use crate::listing::list_leases;
+use crate::outcome::Outcome;
+use crate::sent::Sent;
+use crate::taken::Taken;
+use cv_base::{
+    Bytes, Items, Kind, NoMemory, Object, ObjectId, RepoPath, Text, Token, ends_in_marker,
+};
+use cv_gate::{Act, LeaseLine, Op};
+use cv_graft::directory_at;
+use cv_history::Record;
+use cv_leases::{LEASE_LIMIT, Lease, LeaseFault, LeaseTable};
+use cv_ports::{Shelf, ShelfFault};
+use cv_seal::Signer;
+use cv_swap::Line;
+use cv_vault::{Vault, VaultFault};
+use std::alloc::Global;
+use std::marker::Model;
+
+/// The seconds for which a lease is granted.
+const LEASE_TIME: u64 = 7200;
+
+/// The line of revisions, the leases, the latest moment at which something was asked, and the number of the next lease.
+#[derive(Drop)]
+pub(crate) struct GateState<V: Vault + Drop, S: Signer + Drop> {
+    pub(crate) line: Line<V, S>,
+    leases: LeaseTable,
+    moment: u64,
+    next: u64,
+}
+
+impl<V: Vault + Drop, S: Signer + Drop> Model for GateState<V, S> {
+    ghost use Rattle.cv_desk.specs.Gate.{StateView, IsState};
+
+    ghost Value = { StateView V S };
+
+    ghost view = { λ s. record { line = s.line; leases = s.leases; moment = s.moment; next = s.next } };
+
+    ghost invariant = { λ s. IsState (record { line = s.line; leases = s.leases; moment = s.moment; next = s.next }) };
+}
+
+impl<V: Vault + Drop, S: Signer + Drop> GateState<V, S> {
+    /// Without leases, over a line.
+    pub(crate) fn new(alloc: Global, line: Line<V, S>) -> GateState<V, S>
+        ensures { result ≡ record { line = line; leases = []; moment = 0; next = 1 } }
+    {
+        GateState {
+            line,
+            leases: LeaseTable::new(alloc),
+            moment: 0,
+            next: 1,
+        }
+    }
+
+    /// Ends the lease under which the newest revision was made, if it is live.
+    fn end_newest(&mut self)
+        ensures { self.new ≡ record self.old { leases = ended (newest_token (published self.old.line)) self.old.leases } }
+    {
+        if let Some(token) = newest_token(self.line.records()) {
+            self.leases.end(token);
+        }
+    }
+
+    /// Settles a commit in doubt, if there is one. After a fault it is in doubt still.
+    pub(crate) fn settle(&mut self) -> Result<(), VaultFault>
+        ensures settles { (st : _) → StandsFor V.disk S.is_seal self.old st → Settles V.disk V.count V.left S.is_seal self.old result self.new st }
+        ensures same { IsSameRepository self.old.line self.new.line }
+        ensures next { self.new.next ≡ self.old.next }
+        ensures cause { HasCause (V.faults self.old.line.vault) (V.faults self.new.line.vault) (IsErrOf result vault_fault.Failed) }
+    {
+        if !self.line.in_doubt() {
+            return Ok(());
+        }
+        match self.line.recover() {
+            Ok(true) => {
+                self.end_newest();
+                Ok(())
+            },
+            Ok(false) => Ok(()),
+            Err(fault) => Err(fault),
+        }
+    }
+
+    /// Comes to a moment: leases whose deadline has come are gone.
+    fn age(&mut self, now: u64)
+        requires { now < 2 ^ 62 }
+        ensures { self.new ≡ aged_view self.old now }
+    {
+        self.moment = self.moment.max(now);
+        self.leases.expire(self.moment);
+    }
+
+    /// Why a lease on the path isn't granted now, if it isn't.
+    fn refusal(&self, path: &RepoPath) -> Option<Outcome>
+        ensures { result ≡ refusal_of self.now.leases self.now.moment path.now }
+    {
+        if ends_in_marker(path) {
+            return Some(Outcome::BadPath);
+        }
+        if let Some(lease) = self.leases.overlapping(path) {
+            return Some(Outcome::PathBusy {
+                token: lease.token,
+                remaining: lease.deadline.saturating_sub(self.moment),
+            });
+        }
+        if self.leases.count() >= LEASE_LIMIT {
+            return Some(Outcome::TooManyLeases);
+        }
+        None
+    }
+
+    /// Whether the path has a place in the newest tree: it is the root, or its parent is a directory.
+    fn has_place(&mut self, alloc: Global, path: &RepoPath) -> Result<bool, Outcome>
+        ensures place { FindsPlace V.disk self.old path.now result }
+        ensures looks { OnlyLooks V.disk V.count V.left self.old self.new }
+        ensures cause { HasCause (V.faults self.old.line.vault) (V.faults self.new.line.vault) (result ≡ Err outcomes.StoreFailed) }
+    {
+        if path.names().is_empty() {
+            return Ok(true);
+        }
+        let Ok(path) = path.copy(alloc) else {
+            return Err(Outcome::NoMemory);
+        };
+        let parent = path.into_parent();
+        let hash = self.line.head().root;
+        let root = ObjectId {
+            hash,
+            kind: Kind::Catalogue,
+        };
+        match directory_at(alloc, &mut self.line, &root, &parent) {
+            Ok(there) => Ok(there),
+            Err(fault) => Err(Outcome::of_load(fault)),
+        }
+    }
+
+    /// A lease from now on.
+    fn new_lease(&self, alloc: Global, key: &Text, path: &RepoPath) -> Result<Lease, NoMemory>
+        ensures { IfOk result (λ lease. lease ≡ new_lease self.now key.now path.now) }
+    {
+        Ok(Lease {
+            token: Token {
+                epoch: self.line.epoch(),
+                number: self.next,
+            },
+            key: key.copy(alloc)?,
+            path: path.copy(alloc)?,
+            deadline: self.moment + LEASE_TIME,
+            from_revision: self.line.head().revision,
+        })
+    }
+
+    /// Grants a lease that nothing refuses.
+    fn grant(&mut self, alloc: Global, key: &Text, path: &RepoPath) -> Outcome
+        requires next { self.old.next < 18446744073709551615 }
+        requires free { refusal_of self.old.leases self.old.moment path.now ≡ None }
+        ensures { Grants key.now path.now self.old result self.new }
+    {
+        let Ok(lease) = self.new_lease(alloc, key, path) else {
+            return Outcome::NoMemory;
+        };
+        let token = lease.token;
+        match self.leases.grant(lease) {
+            Ok(()) => {
+                self.next += 1;
+                let head = self.line.head();
+                let root = head.root;
+                Outcome::Granted {
+                    token,
+                    revision: head.revision,
+                    root,
+                }
+            },
+            Err(LeaseFault::NoMemory) => Outcome::NoMemory,
+            Err(_) => unreachable!(),
+        }
+    }
+
+    /// Grants a lease on the path, or says why not.
+    fn ask_lease(&mut self, alloc: Global, key: &Text, path: &RepoPath) -> Outcome
+        requires next { self.old.next < 18446744073709551615 }
+        ensures asks { AsksLease V.disk V.count V.left key.now path.now self.old result self.new }
+        ensures cause { HasCause (V.faults self.old.line.vault) (V.faults self.new.line.vault) (result ≡ outcomes.StoreFailed) }
+    {
+        if let Some(outcome) = self.refusal(path) {
+            return outcome;
+        }
+        match self.has_place(alloc, path) {
+            Ok(true) => self.grant(alloc, key, path),
+            Ok(false) => Outcome::NoParent,
+            Err(outcome) => outcome,
+        }
+    }
+
+    /// Grants a lease on the path at a moment, or says why not. The path's parent must be a directory of the newest tree.
+    pub(crate) fn lease(&mut self, alloc: Global, now: u64, key: &Text, path: &RepoPath) -> Outcome
+        requires now { now < 2 ^ 62 }
+        requires next { self.old.next < 18446744073709551615 }
+        ensures acts { Acts V.disk V.count V.left S.is_seal (ops.Lease key.now path.now) now (acts.Lease path.now) (reply_of result) self.old self.new }
+        ensures same { IsSameRepository self.old.line self.new.line }
+        ensures next { self.new.next ≤ self.old.next + 1 }
+        ensures path { IsPath path.now }
+        ensures cause { HasCause (V.faults self.old.line.vault) (V.faults self.new.line.vault) (result ≡ outcomes.StoreFailed) }
+    {
+        let _names = path.names();
+        self.age(now);
+        self.ask_lease(alloc, key, path)
+    }
+
+    /// Why nothing is done on the lease with the token for the key, if it isn't.
+    fn refusal_on(&self, key: &Text, token: Token) -> Option<Outcome>
+        ensures answer { result ≡ refusal_on (lease_of token self.now.leases) key.now }
+        ensures failed { result ≢ Some outcomes.StoreFailed }
+    {
+        match self.leases.find(token) {
+            None => Some(Outcome::InvalidToken),
+            Some(lease) => if lease.key.as_str() == key.as_str() {
+                None
+            } else {
+                Some(Outcome::WrongKey)
+            },
+        }
+    }
+
+    /// Ends the lease with the token, if it is the key's.
+    fn ask_end(&mut self, key: &Text, token: Token) -> Outcome
+        ensures asks { AsksEnd key.now token self.old result self.new }
+        ensures failed { result ≢ outcomes.StoreFailed }
+    {
+        if let Some(outcome) = self.refusal_on(key, token) {
+            return outcome;
+        }
+        self.leases.end(token);
+        Outcome::Cancelled
+    }
+
+    /// Ends the lease with the token at a moment, if it is the key's. Nothing is done to the vault.
+    pub(crate) fn cancel(&mut self, now: u64, key: &Text, token: Token) -> Outcome
+        requires now { now < 2 ^ 62 }
+        requires next { self.old.next < 18446744073709551615 }
+        ensures acts { Acts V.disk V.count V.left S.is_seal (ops.Cancel key.now token) now (acts.Cancel token) (reply_of result) self.old self.new }
+        ensures failed { result ≢ outcomes.StoreFailed }
+        ensures same { self.new.line ≡ self.old.line }
+        ensures next { self.new.next ≡ self.old.next }
+    {
+        self.age(now);
+        self.ask_end(key, token)
+    }
+
+    /// Stores the objects that the repository lacks.
+    fn send(&mut self, alloc: Global, batch: &[Object]) -> Sent
+        requires named { AreNamed batch.now }
+        ensures sends { Sends V.disk V.count V.left batch.now self.old result.outcome result.fresh self.new }
+        ensures cause { HasCause (V.faults self.old.line.vault) (V.faults self.new.line.vault) (result.outcome ≡ outcomes.StoreFailed) }
+    {
+        let fresh = match self.line.fresh(alloc, batch) {
+            Ok(fresh) => fresh,
+            Err(fault) => return Sent::none(alloc, Outcome::of_store(fault)),
+        };
+        let stored = self.line.store(alloc, batch);
+        Sent::by(alloc, fresh, stored)
+    }
+
+    /// Stores the objects that the repository lacks, under the lease with the token, if it is the key's.
+    fn ask_store(&mut self, alloc: Global, key: &Text, token: Token, batch: &[Object]) -> Sent
+        requires named { AreNamed batch.now }
+        ensures asks { AsksStore V.disk V.count V.left key.now token batch.now self.old result.outcome result.fresh self.new }
+        ensures cause { HasCause (V.faults self.old.line.vault) (V.faults self.new.line.vault) (result.outcome ≡ outcomes.StoreFailed) }
+    {
+        if let Some(outcome) = self.refusal_on(key, token) {
+            return Sent::none(alloc, outcome);
+        }
+        self.send(alloc, batch)
+    }
+
+    /// Stores the objects that the repository lacks at a moment, under the lease with the token, if it is the key's. They
+    /// stand for sure before it answers `Stored`.
+    pub(crate) fn store(
+        &mut self,
+        alloc: Global,
+        now: u64,
+        key: &Text,
+        token: Token,
+        batch: &[Object],
+    ) -> Sent
+        requires now { now < 2 ^ 62 }
+        requires next { self.old.next < 18446744073709551615 }
+        requires named { AreNamed batch.now }
+        ensures acts { (digest : _) → Acts V.disk V.count V.left S.is_seal (ops.Store key.now token digest batch.now) now (acts.Store token digest result.fresh) (reply_of result.outcome) self.old self.new }
+        ensures same { IsSameRepository self.old.line self.new.line }
+        ensures next { self.new.next ≡ self.old.next }
+        ensures cause { HasCause (V.faults self.old.line.vault) (V.faults self.new.line.vault) (result.outcome ≡ outcomes.StoreFailed) }
+    {
+        self.age(now);
+        self.ask_store(alloc, key, token, batch)
+    }
+
+    /// Answers a commit. None is made yet: memory is said to be wanting.
+    pub(crate) fn commit(&mut self, now: u64) -> Outcome
+        requires now { now < 2 ^ 62 }
+        requires next { self.old.next < 18446744073709551615 }
+        ensures acts { (key : _) (token : _) (old_root : _) (new_root : _) (tag : _)
+            → Acts V.disk V.count V.left S.is_seal (ops.Commit key token old_root new_root tag) now (acts.Commit token old_root new_root tag) (reply_of result) self.old self.new }
+        ensures memory { result ≡ outcomes.NoMemory }
+        ensures same { self.new.line ≡ self.old.line }
+        ensures next { self.new.next ≡ self.old.next }
+    {
+        self.age(now);
+        Outcome::NoMemory
+    }
+
+    /// The leases that are live at a moment and not before the latest one, in the order of grant.
+    pub(crate) fn live(&self, alloc: Global, now: u64) -> Result<Vec<LeaseLine>, NoMemory>
+        ensures { IfOk result (λ lines. lines.items ≡ lines_of (max self.now.moment now) self.now.leases) }
+    {
+        list_leases(alloc, &self.leases, self.moment.max(now))
+    }
+
+    /// An object of the repository, if it is there. Nothing is noted.
+    pub(crate) fn object(
+        &mut self,
+        alloc: Global,
+        id: &ObjectId,
+    ) -> Result<Option<Bytes>, ShelfFault>
+        ensures told { WhereTold (V.disk self.old.line.vault) (λ d. Fetches id.now result (standing_on d)) }
+        ensures suits { Suits id.now result }
+        ensures looks { OnlyLooks V.disk V.count V.left self.old self.new }
+        ensures cause { HasCause (V.faults self.old.line.vault) (V.faults self.new.line.vault) (IsErrOf result shelf_fault.Failed) }
+    {
+        self.line.fetch(alloc, id)
+    }
+
+    /// Does an op at a moment.
+    fn do_op(&mut self, alloc: Global, now: u64, op: Op) -> Taken
+        requires now { now < 2 ^ 62 }
+        requires next { self.old.next < 18446744073709551615 }
+        requires op { IsOp op }
+        ensures done { IsDone V.disk V.count V.left S.is_seal op now result self.old self.new }
+        ensures cause { HasCause (V.faults self.old.line.vault) (V.faults self.new.line.vault) (result.outcome ≡ outcomes.StoreFailed) }
+    {
+        match op {
+            Op::Lease { key, path } => {
+                let outcome = self.lease(alloc, now, &key, &path);
+                Taken {
+                    key,
+                    act: Act::Lease(path),
+                    outcome,
+                }
+            },
+            Op::Store {
+                key,
+                token,
+                digest,
+                batch,
+            } => {
+                let sent = self.store(alloc, now, &key, token, batch.as_slice());
+                Taken {
+                    key,
+                    act: store_act(token, digest, sent.fresh),
+                    outcome: sent.outcome,
+                }
+            },
+            Op::Commit {
+                key,
+                token,
+                old_root,
+                new_root,
+                tag,
+            } => {
+                let outcome = self.commit(now);
+                Taken {
+                    key,
+                    act: commit_act(token, old_root, new_root, tag),
+                    outcome,
+                }
+            },
+            Op::Cancel { key, token } => {
+                let outcome = self.cancel(now, &key, token);
+                Taken {
+                    key,
+                    act: Act::Cancel(token),
+                    outcome,
+                }
+            },
+        }
+    }
+
+    /// Takes an op at a moment: a commit in doubt is settled, and then it is done; or it waits, and the fault is answered.
+    pub(crate) fn take(&mut self, alloc: Global, now: u64, op: Op) -> Taken
+        requires now { now < 2 ^ 62 }
+        requires next { self.old.next < 18446744073709551615 }
+        requires op { IsOp op }
+        ensures takes { Takes V.disk V.count V.left S.is_seal op now result self.old self.new }
+        ensures cause { HasCause (V.faults self.old.line.vault) (V.faults self.new.line.vault) (result.outcome ≡ outcomes.StoreFailed) }
+    {
+        match self.settle() {
+            Ok(()) => self.do_op(alloc, now, op),
+            Err(fault) => decline(alloc, op, Outcome::of_vault(fault)),
+        }
+    }
+}
+
+/// The token of the lease under which the last of the records was made.
+fn newest_token(records: &[Record]) -> Option<Token>
+    ensures { result ≡ newest_token records.now }
+{
+    match records.last() {
+        Some(record) => Some(record.token),
+        None => None,
+    }
+}
+
+/// An op that isn't done.
+fn decline(alloc: Global, op: Op, outcome: Outcome) -> Taken
+    ensures records { IsDeclined op result }
+    ensures types { HasTypes op }
+    ensures outcome { result.outcome ≡ outcome }
+{
+    match op {
+        Op::Lease { key, path } => {
+            let act = lease_act(path);
+            Taken { key, act, outcome }
+        },
+        Op::Store {
+            key,
+            token,
+            digest,
+            batch: _batch,
+        } => {
+            let act = store_act(token, digest, Items::new(Vec::new(alloc)));
+            Taken { key, act, outcome }
+        },
+        Op::Commit {
+            key,
+            token,
+            old_root,
+            new_root,
+            tag,
+        } => {
+            let act = commit_act(token, old_root, new_root, tag);
+            Taken { key, act, outcome }
+        },
+        Op::Cancel { key, token } => {
+            let act = Act::Cancel(token);
+            Taken { key, act, outcome }
+        },
+    }
+}
+
+/// The act of asking for a lease.
+fn lease_act(path: RepoPath) -> Act
+    ensures act { result ≡ acts.Lease path }
+    ensures path { IsPath path }
+{
+    let _names = path.names();
+    Act::Lease(path)
+}
+
+/// The act of sending objects, of which these are fresh.
+fn store_act(token: Token, digest: [u8; 20], fresh: Items<ObjectId>) -> Act
+    ensures act { result ≡ acts.Store token digest fresh }
+    ensures digest { IsDigest digest }
+{
+    Act::Store {
+        token,
+        digest,
+        fresh,
+    }
+}
+
+/// The act of a commit.
+fn commit_act(token: Token, old_root: [u8; 20], new_root: [u8; 20], tag: Text) -> Act
+    ensures act { result ≡ acts.Commit token old_root new_root tag }
+    ensures old_root { IsDigest old_root }
+    ensures new_root { IsDigest new_root }
+{
+    Act::Commit {
+        token,
+        old_root,
+        new_root,
+        tag,
+    }
+}

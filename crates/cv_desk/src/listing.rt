@@ -1,0 +1,48 @@
+//! The list of live leases.
+ghost use Rattle.std.specs.Prelude.{◌≡◌, ◌++◌, ◌∷◌, [], IfOk, OnOk};
+ghost use Rattle.cv_gate.specs.Lines.{lines_of};
+
+use cv_base::NoMemory;
+use cv_gate::LeaseLine;
+use cv_leases::{Lease, LeaseTable};
+use std::alloc::Global;
+
+/// The leases of a table that are live at a moment, in the order of grant.
+pub fn list_leases(
+    alloc: Global,
+    leases: &LeaseTable,
+    moment: u64,
+) -> Result<Vec<LeaseLine>, NoMemory>
+    ensures { IfOk result (λ lines. lines.items ≡ lines_of moment leases.now) }
+{
+    let mut lines = Vec::new(alloc);
+    for place in 0..leases.count() {
+        if let Some(lease) = leases.at(place) {
+            push_live(alloc, &mut lines, lease, moment)?;
+        }
+    }
+    Ok(lines)
+}
+
+/// Puts the line of a lease behind the others, if it is live at the moment.
+fn push_live(
+    alloc: Global,
+    lines: &mut Vec<LeaseLine>,
+    lease: &Lease,
+    moment: u64,
+) -> Result<(), NoMemory>
+    ensures { OnOk result (lines.new.items ≡ lines.old.items ++ lines_of moment (lease.now ∷ [])) }
+{
+    if lease.deadline <= moment {
+        return Ok(());
+    }
+    let line = LeaseLine {
+        key: lease.key.copy(alloc)?,
+        path: lease.path.copy(alloc)?,
+        remaining: lease.deadline.saturating_sub(moment),
+    };
+    match lines.push(line) {
+        Ok(()) => Ok(()),
+        Err(_) => Err(NoMemory),
+    }
+}
