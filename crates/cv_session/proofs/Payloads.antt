@@ -66,7 +66,7 @@ hashed most before count fed piece size is =
 
 -- ---- the bytes read
 
--- fewer bytes were there than were asked for, where the input ended
+-- fewer bytes were there than were asked for, where the input ended or the source failed
 shorter : {A B : Type 0} (P : List ℕ → A → Type 0) (Q : List ℕ → B → Type 0) (b b' held held' : List ℕ) (size size' : ℕ) (fault : HttpFault)
     → (length b < size → length b' < size') → BodyRead size P b held (Err fault) → BodyRead size' Q b' held' (Err fault)
 shorter P Q b b' held held' size size' http.Short less short = less short
@@ -75,7 +75,7 @@ shorter P Q b b' held held' size size' http.HeadTooLarge less short = tt
 shorter P Q b b' held held' size size' http.BodyTooLarge less short = tt
 shorter P Q b b' held held' size size' http.NoLength less short = tt
 shorter P Q b b' held held' size size' http.Coding less short = tt
-shorter P Q b b' held held' size size' http.ReadFault less short = tt
+shorter P Q b b' held held' size size' http.ReadFault less short = less short
 shorter P Q b b' held held' size size' http.NoMemory less short = tt
 
 pieceless : {A : Type 0} (P : List ℕ → A → Type 0) (b b' held held' : List ℕ) (size : ℕ) (fault : HttpFault)
@@ -86,7 +86,7 @@ pieceless P b b' held held' size http.HeadTooLarge less none = tt
 pieceless P b b' held held' size http.BodyTooLarge less none = tt
 pieceless P b b' held held' size http.NoLength less none = tt
 pieceless P b b' held held' size http.Coding less none = tt
-pieceless P b b' held held' size http.ReadFault less none = tt
+pieceless P b b' held held' size http.ReadFault less none = less none
 pieceless P b b' held held' size http.NoMemory less none = tt
 
 module _ {R : Type 0} (left : R → Option (List ℕ)) where

@@ -14,7 +14,7 @@ use Rattle.cv_keys.specs.declared.key.Key.{Key}
 use Rattle.cv_session.specs.Payloads.{ReadsBody, Says, is_payload, payload_turn}
 use Rattle.cv_session.specs.Turns.{Wants, IsGood}
 use Rattle.cv_session.specs.declared.turn.Turn.{Turn}
-use Rattle.cv_session.specs.Requests.{Request, IsRequest, IsBad, head_refused, body_refused, EndsInside, inside_head, inside_body, Reached, before_head, behind_head, WantsAny, Asks, body_size, body_limit, waits, line_text}
+use Rattle.cv_session.specs.Requests.{Request, IsRequest, IsBad, head_refused, body_refused, EndsInside, inside_head, inside_body, Reached, before_head, behind_head, awaits_head, awaits_body, WantsAny, Asks, body_size, body_limit, waits, line_text}
 use Rattle.cv_session.specs.Requests.WantsAny.{payload as payload_wants, other as other_wants}
 use Rattle.cv_session.specs.Exchanges.{IsWhy, Gets, whole, ended, fault, unsaid, GetsBehind, behind, large, breaks, unsaid_behind}
 use Rattle.cv_session.specs.declared.request.Asked.{Asked}
@@ -25,9 +25,9 @@ pub onto_nothing : (o : Option (List ℕ)) → o ≡ onto o []
 onto_nothing None = refl
 onto_nothing (Some t) = ap (λ l. Some l) (sym (append-nil t))
 
-inside_why : {b later : List ℕ} {head : RequestHead} → Begins b head later → (why : HttpFault) → IsBodyFault why → body_size head ≤ body_limit head → (why ≡ Short → length later < body_size head) → IsWhy b (waits head) why
-inside_why {later = later} {head = head} begins Short is limit short = inside_body head later begins limit (short refl)
-inside_why begins ReadFault is limit short = tt
+inside_why : {b later : List ℕ} {head : RequestHead} → Begins b head later → (why : HttpFault) → IsBodyFault why → body_size head ≤ body_limit head → (why ≢ NoMemory → length later < body_size head) → IsWhy b (waits head) why
+inside_why {later = later} {head = head} begins Short is limit short = inside_body head later begins limit (short (λ e. cc))
+inside_why {later = later} {head = head} begins ReadFault is limit short = awaits_body head later begins limit (short (λ e. cc))
 inside_why begins NoMemory is limit short = tt
 inside_why begins BadHead is limit short = absurd is
 inside_why begins HeadTooLarge is limit short = absurd is
@@ -50,7 +50,7 @@ module _ {repository : List ℕ} {keys : List Key} {b later : List ℕ} {head : 
 module _ {repository : List ℕ} {keys : List Key} {b held : List ℕ} {taken : Option (List ℕ)} where
   pub head_fault : (why : HttpFault) → IsHeadFault why → HeadRead b held (Err why) → Gets repository keys b held taken taken (Err (Fault why))
   head_fault Short is read = fault Short false before_head (inside_head read.0) (onto_nothing taken)
-  head_fault ReadFault is read = fault ReadFault false before_head tt (onto_nothing taken)
+  head_fault ReadFault is read = fault ReadFault false before_head (awaits_head read.0) (onto_nothing taken)
   head_fault NoMemory is read = fault NoMemory false before_head tt (onto_nothing taken)
   head_fault BadHead is read = fault BadHead false before_head (head_refused BadHead read.0, refl) (onto_nothing taken)
   head_fault HeadTooLarge is read = fault HeadTooLarge false before_head (head_refused HeadTooLarge read.0, refl) (onto_nothing taken)
@@ -66,19 +66,19 @@ same_fault P Q b held size HeadTooLarge read = tt
 same_fault P Q b held size BodyTooLarge read = tt
 same_fault P Q b held size NoLength read = tt
 same_fault P Q b held size Coding read = tt
-same_fault P Q b held size ReadFault read = tt
+same_fault P Q b held size ReadFault read = read
 same_fault P Q b held size NoMemory read = tt
 
--- a body that is short says so
-short_body : {A : Type 0} (P : List ℕ → A → Type 0) (b held : List ℕ) (size : ℕ) (why : HttpFault) → BodyRead size P b held (Err why) → why ≡ Short → length b < size
-short_body P b held size Short read is = read
-short_body P b held size BadHead read is = cc
-short_body P b held size HeadTooLarge read is = cc
-short_body P b held size BodyTooLarge read is = cc
-short_body P b held size NoLength read is = cc
-short_body P b held size Coding read is = cc
-short_body P b held size ReadFault read is = cc
-short_body P b held size NoMemory read is = cc
+-- where no memory was wanted, fewer bytes were there
+short_body : {A : Type 0} (P : List ℕ → A → Type 0) (b held : List ℕ) (size : ℕ) (why : HttpFault) → IsBodyFault why → BodyRead size P b held (Err why) → why ≢ NoMemory → length b < size
+short_body P b held size Short is read some = read
+short_body P b held size BadHead is read some = absurd is
+short_body P b held size HeadTooLarge is read some = absurd is
+short_body P b held size BodyTooLarge is read some = absurd is
+short_body P b held size NoLength is read some = absurd is
+short_body P b held size Coding is read some = absurd is
+short_body P b held size ReadFault is read some = read
+short_body P b held size NoMemory is read some = absurd (some refl)
 
 module _ {R : Type 0} (left : R → Option (List ℕ)) (repository : List ℕ) (keys : List Key) where
   -- the turn of a body
@@ -115,7 +115,7 @@ module _ {R : Type 0} (left : R → Option (List ℕ)) (repository : List ℕ) (
 
   pub behind_fault : (w w' : WireView R) (taken taken' : Option (List ℕ)) (head : RequestHead) (why : HttpFault) → body_size head ≤ body_limit head → IsBodyFault why → ReadsBody left w w' (body_size head) (Asks repository keys head) (Err why)
       → taken' ≡ onto taken (line_text (waits head)) → Reads left w w' (λ b. GetsBehind repository keys head b w'.held taken taken' (Err (Fault why)))
-  behind_fault w w' taken taken' head why limit is read took = reads_as left w w' _ _ read (λ b said. breaks why limit is (short_body (Asks repository keys head) b w'.held (body_size head) why said) took)
+  behind_fault w w' taken taken' head why limit is read took = reads_as left w w' _ _ read (λ b said. breaks why limit is (short_body (Asks repository keys head) b w'.held (body_size head) why is said) took)
 
   -- a head was read, and then what follows it
   pub read_whole : (w0 w w' : WireView R) (taken taken' : Option (List ℕ)) (head : RequestHead) (asked : Asked) → Reads left w0 w (λ b. HeadRead b w.held (Ok (Some head)))

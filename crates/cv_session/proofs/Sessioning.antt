@@ -265,7 +265,9 @@ module _ {K : Type 0} {does : K → List Call → K → Type 0} {repository : Li
           ends_ = cut line (subst (IsWhy later line) here is);
         })
         s.opened.open_ (said_line line taken2 (stays ∙ took)))
-    by_fault_end none why line taken1 taken2 _ reached is took (not_read same stays) = ends_here (unread later line taken2 s.opened reached (said_line line taken2 (stays ∙ took)))
+    by_fault_end none why line taken1 taken2 _ reached is took (not_read same stays) =
+        let here : why ≡ Unread_ = cc in
+        ends_here (unread later line taken2 s.opened (subst (IsWhy later line) here is) (said_line line taken2 (stays ∙ took)))
     by_fault_end none why line taken1 taken2 _ reached is took (no_memory other same stays) = ends_here (forgotten later line taken2 s.opened reached (said_line line taken2 (stays ∙ took)))
     by_fault_end none why line taken1 taken2 _ reached is took (not_said same stays) = cc
 
@@ -437,3 +439,11 @@ by_read_fault (cut_short same stays) is = cc
 by_read_fault (not_read same stays) is = same
 by_read_fault (no_memory other same stays) is = cc
 by_read_fault (not_said same stays) is = cc
+
+pub by_unsaid : {why : Unread} {taken taken' : Option (List ℕ)} {end : SessionEnd} → EndsBy why taken taken' end → why ≡ Unsaid → end ≡ WriteFault
+by_unsaid (refused other code same has said) is = let both : Unsaid ≡ Fault other = sym is ∙ same in cc
+by_unsaid (broken_off other code same has said) is = refl
+by_unsaid (cut_short same stays) is = let both : Unsaid ≡ Fault Short = sym is ∙ same in cc
+by_unsaid (not_read same stays) is = let both : Unsaid ≡ Fault Unread_ = sym is ∙ same in cc
+by_unsaid (no_memory other same stays) is = let both : Unsaid ≡ Fault other = sym is ∙ same in cc
+by_unsaid (not_said same stays) is = refl

@@ -1,5 +1,5 @@
 -- One request and its reply.
-use Rattle.std.specs.Prelude.{◌≡◌, ◌<◌, ◌≤◌, ◌++◌, length, ◌||◌, ◌==◌, ℕ, List, [], Bool, true, false, Option, is_some, Result, Ok, Err, if◌then◌else◌}
+use Rattle.std.specs.Prelude.{◌≡◌, ◌≢◌, ◌<◌, ◌≤◌, ◌++◌, length, ◌||◌, ◌==◌, ℕ, List, [], Bool, true, false, Option, is_some, Result, Ok, Err, if◌then◌else◌}
 use Rattle.std.specs.declared.option.Option.TheVariants.{Some, None}
 use Rattle.cv_ports.specs.Streams.{onto, Wrote}
 use Rattle.cv_http.specs.Replies.{continue_line}
@@ -13,7 +13,7 @@ use Rattle.cv_gate.specs.declared.reply.Reply.TheVariants.{JournalFull as full}
 use Rattle.cv_session.specs.declared.turn.Turn.{Turn}
 use Rattle.cv_gate.specs.Desk.{Call}
 use Rattle.cv_session.specs.Standing.{Standing}
-use Rattle.cv_session.specs.Requests.{Request, IsRequest, IsBad, EndsInside, Reached, WantsAny, Asks, body_limit, body_size, waits, line_text, code_of_fault}
+use Rattle.cv_session.specs.Requests.{Request, IsRequest, IsBad, EndsInside, Reached, Awaits, WantsAny, Asks, body_limit, body_size, waits, line_text, code_of_fault}
 use Rattle.cv_session.specs.Responses.{Does, reply_of}
 use Rattle.cv_session.specs.declared.response.Response.{Response}
 use Rattle.cv_session.specs.declared.response.Response.TheVariants.{Fixed, Reply}
@@ -28,7 +28,7 @@ use Rattle.cv_session.specs.declared.session_end.SessionEnd.TheVariants.{Closed,
 -- why no turn was read, the line being written or not
 abbrev pub IsWhy : List ℕ → Bool → HttpFault → Type 0
 IsWhy b line Short = EndsInside b line
-IsWhy b line Unread_ = Unit {0}
+IsWhy b line Unread_ = Awaits b line
 IsWhy b line Lacking = Unit {0}
 IsWhy b line fault = IsBad b fault × (line ≡ false)
 
@@ -45,7 +45,7 @@ pub data GetsBehind (repository : List ℕ) (keys : List Key) (head : RequestHea
   behind : (asked : Asked) (body : List ℕ) → body_size head ≤ body_limit head → b ≡ body ++ held → length body ≡ body_size head → Asks repository keys head body asked.turn → asked.last ≡ head.last
       → taken' ≡ onto taken (line_text (waits head)) → GetsBehind repository keys head b held taken taken' (Ok asked)
   large : body_limit head < body_size head → taken' ≡ taken → GetsBehind repository keys head b held taken taken' (Err (Fault BodyTooLarge))
-  breaks : (why : HttpFault) → body_size head ≤ body_limit head → IsBodyFault why → (why ≡ Short → length b < body_size head)
+  breaks : (why : HttpFault) → body_size head ≤ body_limit head → IsBodyFault why → (why ≢ Lacking → length b < body_size head)
       → taken' ≡ onto taken (line_text (waits head)) → GetsBehind repository keys head b held taken taken' (Err (Fault why))
   unsaid_behind : body_size head ≤ body_limit head → waits head ≡ true → Wrote taken taken' continue_line → GetsBehind repository keys head b held taken taken' (Err Unsaid)
 

@@ -1,7 +1,7 @@
 -- Requests on a connection (RFC 9112): a head, and a body as long as the head says.
 use Rattle.std.specs.Prelude.{◌≡◌, ◌<◌, ◌≤◌, ◌++◌, ◌&&◌, nat_lt, ℕ, List, [], length, unwrap_or, Bool, true, false, Option, bytes_eq, codes, if◌then◌else◌}
 use Rattle.std.specs.declared.option.Option.TheVariants.{Some, None}
-use Rattle.cv_http.specs.Heads.{Begins, Refused, IsCut}
+use Rattle.cv_http.specs.Heads.{Begins, Refused, IsAwaited, IsCut}
 use Rattle.cv_http.specs.Replies.{continue_line}
 use Rattle.cv_http.specs.declared.head.RequestHead.{RequestHead}
 use Rattle.cv_http.specs.declared.method.Method.{Method}
@@ -57,6 +57,11 @@ pub data EndsInside (b : List ℕ) : Bool → Type 0 where
 pub data Reached (b : List ℕ) : Bool → Type 0 where
   before_head : Reached b false
   behind_head : (head : RequestHead) (later : List ℕ) → Begins b head later → body_size head ≤ body_limit head → Reached b (waits head)
+
+-- more bytes are waited for: no request is whole in these, and the line was written where its client waits for it
+pub data Awaits (b : List ℕ) : Bool → Type 0 where
+  awaits_head : IsAwaited b → Awaits b false
+  awaits_body : (head : RequestHead) (later : List ℕ) → Begins b head later → body_size head ≤ body_limit head → length later < body_size head → Awaits b (waits head)
 
 -- the code of the reply to a fault, if it has one
 abbrev pub code_of_fault : HttpFault → Option Code

@@ -17,7 +17,6 @@ use Rattle.cv_answers.specs.AnswerText.{is_answer}
 use Rattle.cv_answers.specs.declared.answer.Answer.{Answer as MessageData}
 use Rattle.cv_answers.specs.declared.answer.Answer.TheVariants.{Refused}
 use Rattle.cv_answers.specs.declared.refusal.Refusal.{Refusal}
-use Rattle.cv_gate.specs.Gate.{is_plain}
 use Rattle.cv_gate.specs.declared.lease_line.LeaseLine.{LeaseLine}
 use Rattle.cv_gate.specs.declared.op.Op.{Op}
 use Rattle.cv_gate.specs.declared.reply.Reply.{Reply as ReplyData}
@@ -36,15 +35,19 @@ use Rattle.cv_session.specs.declared.response.Response.TheVariants.{Content, Fix
 abbrev pub message_reply : MessageData → Bool → List ℕ
 message_reply message last = reply Success Json last (compact_text (answer_data message))
 
--- the same of an answer that there may be
-abbrev pub said_reply : Option MessageData → Bool → List ℕ
-said_reply None last = []
-said_reply (Some message) last = message_reply message last
+-- the reply with a code alone
+abbrev pub code_reply : Code → Bool → List ℕ
+code_reply code last = reply code Text last (text_of code)
+
+-- the reply with an answer of the interface or a code
+abbrev pub said_reply : Result MessageData Code → Bool → List ℕ
+said_reply (Ok message) last = message_reply message last
+said_reply (Err code) last = code_reply code last
 
 -- the bytes of the reply with an answer
 abbrev pub reply_of : Response → Bool → List ℕ
 reply_of (Content bytes) last = reply Success Octets last bytes
-reply_of (Fixed code) last = reply code Text last (text_of code)
+reply_of (Fixed code) last = code_reply code last
 reply_of (Message message) last = message_reply message last
 reply_of (Reply replied) last = said_reply (answer_of replied) last
 
@@ -53,7 +56,7 @@ abbrev pub is_writable : Response → Bool
 is_writable (Content bytes) = true
 is_writable (Fixed code) = true
 is_writable (Message message) = is_answer message
-is_writable (Reply replied) = is_plain replied
+is_writable (Reply replied) = true
 
 -- ---- what comes of a turn
 
@@ -69,7 +72,7 @@ pub data Answers (repository : List ℕ) (seal : List ℕ → List ℕ) : Turn �
   failed : (id : ObjectId) (fault : ShelfFault) → fault ≢ no_memory → Answers repository seal (turn.Serve (Object id)) (fetched id (Err fault) ∷ []) (Some (Fixed ServerError))
   repositories : Answers repository seal turn.Repositories [] (Some (Message (repositories_answer repository)))
   leases : (now : ℕ) (lines : List LeaseLine) → Answers repository seal turn.Leases (listed now (Some lines) ∷ []) (Some (Message (leases_answer repository lines)))
-  step : (o : Op) (now : ℕ) (r : ReplyData) → is_plain r ≡ true → Answers repository seal (turn.Step o) (asked o now r ∷ []) (Some (Reply r))
+  step : (o : Op) (now : ℕ) (r : ReplyData) → Answers repository seal (turn.Step o) (asked o now r ∷ []) (Some (Reply r))
   denied : (refusal : Refusal) → Answers repository seal (turn.Deny refusal) [] (Some (Message (Refused refusal)))
   refused : (code : Code) → Answers repository seal (turn.Refuse code) [] (Some (Fixed code))
   -- memory was wanted

@@ -10,7 +10,7 @@ use Rattle.cv_keys.specs.declared.key.Key.{Key}
 use Rattle.cv_gate.specs.Desk.{Call}
 use Rattle.cv_session.specs.Asking.{Turned, refusing, IsNext, Opens, IsAsked}
 use Rattle.cv_session.specs.Exchanges.{is_full}
-use Rattle.cv_session.specs.Requests.{IsBad, Reached, line_text, code_of_fault}
+use Rattle.cv_session.specs.Requests.{IsBad, Reached, Awaits, line_text, code_of_fault}
 use Rattle.cv_session.specs.Responses.{Answers, reply_of}
 use Rattle.cv_session.specs.Standing.{Standing, Made}
 use Rattle.cv_session.specs.declared.response.Response.{Response}
@@ -65,8 +65,8 @@ module _ (repository : List ℕ) (keys : List Key) (seal : List ℕ → List ℕ
       -- by the last reply, that the journal is full
       full : (first : List Exchange) (e : Exchange) (rest : List ℕ) (taken' : Option (List ℕ)) → es ≡ first ++ e ∷ [] → Opened first rest
           → IsNext repository keys (length first + 1) rest e.asked held → is_full e.answer ≡ true → taken' ≡ onto taken (sayings es) → Ended held taken es [] taken' JournalFull
-      -- the source failed: all before was answered, and nothing then
-      unread : (rest : List ℕ) (line : Bool) (taken' : Option (List ℕ)) → Opened es rest → Reached rest line → taken' ≡ onto taken (sayings es ++ line_text line) → Ended held taken es [] taken' ReadFault
+      -- the source failed where more bytes were waited for: all that was whole was answered, and nothing then
+      unread : (rest : List ℕ) (line : Bool) (taken' : Option (List ℕ)) → Opened es rest → Awaits rest line → taken' ≡ onto taken (sayings es ++ line_text line) → Ended held taken es [] taken' ReadFault
       -- the sink failed in a reply: all before was answered, and no further turn was taken
       broken : (e : Exchange) (rest : List ℕ) (taken' : Option (List ℕ)) → Opened es rest → Comes (length es) rest e.asked → IsAnswered e
           → Wrote (onto taken (sayings es)) taken' (saying e) → Ended held taken es e.calls taken' WriteFault

@@ -1,36 +1,39 @@
 //! How the gate's replies and lists are answered.
-ghost use Rattle.std.specs.Prelude.{◌≡◌, Some, IfOk, true, false, map};
+ghost use Rattle.std.specs.Prelude.{◌≡◌, IfOk, true, false, map};
 ghost use Rattle.cv_answers.specs.AnswerText.{is_answer};
 ghost use Rattle.cv_answers.specs.Refusal.{names_member};
-ghost use Rattle.cv_gate.specs.Gate.{is_plain};
 ghost use Rattle.cv_session.specs.Answers.{answer_of, refused, item_of, leases_answer, repositories_answer};
 
 use cv_answers::{Answer, LeaseItem, Reason, Refusal};
 use cv_base::{Items, Name, NoMemory, Text};
 use cv_gate::{LeaseLine, Reply};
+use cv_http::Code;
 use std::alloc::Global;
 
-/// The answer to a reply that a gate over no disk gives. It takes no memory.
-pub fn answer_reply(reply: &Reply) -> Answer
-    requires { is_plain reply.now ≡ true }
-    ensures answer { answer_of reply.now ≡ Some result }
-    ensures writable { is_answer result ≡ true }
+/// The answer to a reply of the gate, or the code where the interface has no words for it. It takes no memory.
+pub(crate) fn answer_reply(reply: &Reply) -> Result<Answer, Code>
+    ensures answer { result ≡ answer_of reply.now }
+    ensures writable { IfOk result (λ answer. is_answer answer ≡ true) }
 {
     match reply {
         Reply::Granted {
             token,
             revision,
             root,
-        } => Answer::Granted {
+        } => Ok(Answer::Granted {
             token: *token,
             revision: *revision,
             root: *root,
-        },
-        Reply::Cancelled => Answer::Done,
-        Reply::PathBusy { token, remaining } => Answer::PathBusy {
+        }),
+        Reply::Committed { revision, root } => Ok(Answer::Committed {
+            revision: *revision,
+            root: *root,
+        }),
+        Reply::Stored | Reply::Cancelled => Ok(Answer::Done),
+        Reply::PathBusy { token, remaining } => Ok(Answer::PathBusy {
             token: *token,
             remaining: *remaining,
-        },
+        }),
         Reply::BadPath => refused(Reason::BadPath),
         Reply::TooManyLeases => refused(Reason::TooManyLeases),
         Reply::NoParent => refused(Reason::NoParent),
@@ -38,24 +41,33 @@ pub fn answer_reply(reply: &Reply) -> Answer
         Reply::WrongKey => refused(Reason::WrongKey),
         Reply::JournalFull => refused(Reason::JournalFull),
         Reply::NoMemory => refused(Reason::NoMemory),
-        _ => unreachable!(),
+        Reply::StoreFailed => refused(Reason::StoreFailed),
+        Reply::RevisionsFull => refused(Reason::RevisionsFull),
+        Reply::Collision(_)
+        | Reply::StaleBase { .. }
+        | Reply::MissingObject(_)
+        | Reply::BadCatalogue(_)
+        | Reply::PathCollision { .. }
+        | Reply::CatalogueFull(_)
+        | Reply::TagTaken { .. }
+        | Reply::Damaged { .. } => Err(Code::ServerError),
     }
 }
 
 /// A refusal that names no member.
-fn refused(reason: Reason) -> Answer
+fn refused(reason: Reason) -> Result<Answer, Code>
     requires { names_member reason ≡ false }
-    ensures answer { refused reason ≡ Some result }
-    ensures writable { is_answer result ≡ true }
+    ensures answer { result ≡ refused reason }
+    ensures writable { IfOk result (λ answer. is_answer answer ≡ true) }
 {
-    Answer::Refused(Refusal {
+    Ok(Answer::Refused(Refusal {
         reason,
         member: None,
-    })
+    }))
 }
 
 /// The answer that lists the live leases of the repository, in the order of grant.
-pub fn list_leases(
+pub(crate) fn list_leases(
     alloc: Global,
     repository: &Name,
     lines: &[LeaseLine],
@@ -97,7 +109,7 @@ fn lease_item(alloc: Global, repository: &str, line: &LeaseLine) -> Result<Lease
 }
 
 /// The answer that lists the one repository.
-pub fn list_repositories(alloc: Global, repository: &Name) -> Result<Answer, NoMemory>
+pub(crate) fn list_repositories(alloc: Global, repository: &Name) -> Result<Answer, NoMemory>
     ensures { IfOk result (λ answer. answer ≡ repositories_answer repository.now) }
 {
     let name = Text::from_str(alloc, repository.text())?;

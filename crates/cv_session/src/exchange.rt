@@ -1,5 +1,5 @@
 //! One turn and its reply.
-ghost use Rattle.std.specs.Prelude.{◌≡◌, ◌≤◌, Some, None, Err, OnOk, is_some, true};
+ghost use Rattle.std.specs.Prelude.{◌≡◌, ◌≢◌, ◌≤◌, Some, None, Err, OnOk, is_some, true};
 ghost use Rattle.cv_base.specs.Counts.{HasCause};
 ghost use Rattle.cv_ports.specs.Streams.{onto, Wrote};
 ghost use Rattle.cv_http.specs.declared.reply.SendFault.TheVariants.{WriteFault as write_fault, NoMemory as no_memory};
@@ -14,9 +14,9 @@ use crate::response::{Response, write_answer};
 use crate::session_end::SessionEnd;
 use crate::turn::Turn;
 use cv_base::NoMemory;
-use cv_gate::{Desk, Reply};
+use cv_gate::{Desk, Op, Reply};
 use cv_http::SendFault;
-use cv_ports::{Clock, Sink};
+use cv_ports::{Clock, Hold, Point, Sink};
 use cv_seal::Signer;
 use std::alloc::Global;
 
@@ -45,6 +45,7 @@ fn end_after(answer: &Response, last: bool) -> Option<SessionEnd>
 fn send<W: Sink>(alloc: Global, sink: &mut W, answer: &Response, last: bool) -> Option<SessionEnd>
     requires { is_writable answer.now ≡ true }
     ensures sends { Sends answer.now last (W.taken sink.old) (W.taken sink.new) result }
+    ensures flushed { result ≢ Some WriteFault → W.passed sink.old ≡ W.taken sink.old → W.passed sink.new ≡ W.taken sink.new }
     ensures cause { HasCause (W.faults sink.old) (W.faults sink.new) (result ≡ Some WriteFault) }
 {
     let end = end_after(answer, last);
@@ -55,12 +56,29 @@ fn send<W: Sink>(alloc: Global, sink: &mut W, answer: &Response, last: bool) -> 
     }
 }
 
+/// Holds a session before a payload that was read and checked is stored.
+fn hold_payload<H: Hold>(hold: &H, turn: &Turn) {
+    if let Turn::Step(Op::Store { .. }) = turn {
+        hold.at(Point::PayloadRead);
+    }
+}
+
+/// Holds a session behind the reply to a request for a lease, where that was written.
+fn hold_lease<H: Hold>(hold: &H, leases: bool, end: Option<SessionEnd>) {
+    match end {
+        Some(SessionEnd::WriteFault) | Some(SessionEnd::NoMemory) => {}
+        _ if leases => hold.at(Point::LeaseAnswered),
+        _ => {}
+    }
+}
+
 /// Answers the turn of a request that is to be the last or isn't. How the session ends with it, if it does.
-pub(crate) fn answer_turn<K: Desk, S: Signer, C: Clock, W: Sink>(
+pub(crate) fn answer_turn<K: Desk, S: Signer, C: Clock, H: Hold, W: Sink>(
     alloc: Global,
     desk: &mut K,
     signer: &S,
     clock: &mut C,
+    hold: &H,
     sink: &mut W,
     turn: Turn,
     last: bool,
@@ -70,10 +88,17 @@ pub(crate) fn answer_turn<K: Desk, S: Signer, C: Clock, W: Sink>(
         (standing desk.old (C.moments clock.old) (K.faults desk.old)) (standing desk.new (C.moments clock.new) (K.faults desk.new)) result }
     ensures named { K.named desk.new ≡ K.named desk.old }
     ensures later { K.faults desk.old ≤ K.faults desk.new }
+    ensures flushed { result ≢ Some WriteFault → W.passed sink.old ≡ W.taken sink.old → W.passed sink.new ≡ W.taken sink.new }
     ensures cause { HasCause (W.faults sink.old) (W.faults sink.new) (result ≡ Some WriteFault) }
 {
+    let leases = matches!(&turn, Turn::Step(Op::Lease { .. }));
+    hold_payload(hold, &turn);
     match find_answer(alloc, desk, signer, clock, turn) {
-        Ok(answer) => send(alloc, sink, &answer, last),
+        Ok(answer) => {
+            let end = send(alloc, sink, &answer, last);
+            hold_lease(hold, leases, end);
+            end
+        }
         Err(NoMemory) => Some(SessionEnd::NoMemory),
     }
 }

@@ -26,7 +26,7 @@ const LEASES: &str = "/api/v1/leases";
 const LEASE: &str = "/api/v1/leases/";
 
 /// What the request with this head and body asks of the repository and its gate.
-pub fn request_turn(
+pub(crate) fn request_turn(
     alloc: Global,
     repository: &Name,
     keys: &KeyTable,

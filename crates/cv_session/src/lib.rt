@@ -13,14 +13,12 @@ mod responding;
 mod response;
 mod serving;
 mod session_end;
+#[cfg(test)]
+mod session_tests;
 mod target;
 #[cfg(test)]
 mod tests;
 mod turn;
 
-pub use answering::{answer_reply, list_leases, list_repositories};
-pub use find_turn::request_turn;
 pub use serving::session;
 pub use session_end::SessionEnd;
-pub use target::{MANIFEST, Resource, read_target};
-pub use turn::Turn;

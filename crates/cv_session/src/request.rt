@@ -1,5 +1,5 @@
 //! Requests on a wire.
-ghost use Rattle.std.specs.Prelude.{◌≡◌, [], None, Ok, Err, IfOk, IfSome, OnOk, OnErr, IfErr, IsErr, true};
+ghost use Rattle.std.specs.Prelude.{◌≡◌, ◌≢◌, [], None, Ok, Err, IfOk, IfSome, OnOk, OnErr, IfErr, IsErr, true};
 ghost use Rattle.cv_base.specs.Counts.{HasCause};
 ghost use Rattle.cv_base.specs.Told.{WhereTold};
 ghost use Rattle.cv_ports.specs.Streams.{onto, Wrote};
@@ -85,6 +85,7 @@ fn say_line<W: Sink>(sink: &mut W, head: &RequestHead) -> Result<(), Failed>
     ensures whole { OnOk result (W.taken sink.new ≡ onto (W.taken sink.old) (line_text (waits head.now))) }
     ensures part { Wrote (W.taken sink.old) (W.taken sink.new) (line_text (waits head.now)) }
     ensures waiting { OnErr result (waits head.now ≡ true) }
+    ensures flushed { OnOk result (W.passed sink.old ≡ W.taken sink.old → W.passed sink.new ≡ W.taken sink.new) }
     ensures cause { HasCause (W.faults sink.old) (W.faults sink.new) (IsErr result) }
 {
     if head.expects && body_size(head) > 0 {
@@ -133,6 +134,7 @@ fn read_asked<R: Source + Drop, W: Sink>(
         GetsBehind repository.now keys.now head.now b wire.new.held (W.taken sink.old) (W.taken sink.new) result) }
     ensures cut { result ≡ Err (Fault Short) → WhereTold (R.left wire.new.source) (λ left. left ≡ []) }
     ensures reads { HasCause (R.faults wire.old.source) (R.faults wire.new.source) (result ≡ Err (Fault ReadFault)) }
+    ensures flushed { result ≢ Err Unsaid → W.passed sink.old ≡ W.taken sink.old → W.passed sink.new ≡ W.taken sink.new }
     ensures writes { HasCause (W.faults sink.old) (W.faults sink.new) (result ≡ Err Unsaid) }
 {
     if body_size(head) > body_limit(head) {
@@ -164,6 +166,7 @@ pub(crate) fn next_asked<R: Source + Drop, W: Sink>(
     ensures nothing_left { result ≡ Ok None → WhereTold (R.left wire.new.source) (λ left. left ≡ []) }
     ensures cut { result ≡ Err (Fault Short) → WhereTold (R.left wire.new.source) (λ left. left ≡ []) }
     ensures reads { HasCause (R.faults wire.old.source) (R.faults wire.new.source) (result ≡ Err (Fault ReadFault)) }
+    ensures flushed { result ≢ Err Unsaid → W.passed sink.old ≡ W.taken sink.old → W.passed sink.new ≡ W.taken sink.new }
     ensures writes { HasCause (W.faults sink.old) (W.faults sink.new) (result ≡ Err Unsaid) }
 {
     match wire.read_head(alloc) {

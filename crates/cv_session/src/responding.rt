@@ -1,7 +1,6 @@
 //! What is answered to a turn.
 ghost use Rattle.std.specs.Prelude.{◌≡◌, ◌≤◌, ℕ, List, Option, IfOk, Some, true};
 ghost use Rattle.std.specs.Result.{result_ok};
-ghost use Rattle.cv_gate.specs.Gate.{is_plain};
 ghost use Rattle.cv_gate.specs.Step.{IsOp};
 ghost use Rattle.cv_session.specs.Answers.{repositories_answer};
 ghost use Rattle.cv_session.specs.Turns.{IsGood};
@@ -95,7 +94,6 @@ fn take_step<K: Desk, C: Clock>(alloc: Global, desk: &mut K, clock: &mut C, op: 
     requires op { IsOp op }
     ensures does { (repository : List ℕ) (seal : List ℕ → List ℕ) →
         Does K.does repository seal (Step op) (Some (reply result)) (standing desk.old (C.moments clock.old) (K.faults desk.old)) (standing desk.new (C.moments clock.new) (K.faults desk.new)) }
-    ensures plain { is_plain result ≡ true }
     ensures named { K.named desk.new ≡ K.named desk.old }
     ensures later { K.faults desk.old ≤ K.faults desk.new }
 {

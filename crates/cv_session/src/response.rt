@@ -1,5 +1,5 @@
 //! Answers, and their replies.
-ghost use Rattle.std.specs.Prelude.{◌≡◌, Err, IfOk, OnOk, true};
+ghost use Rattle.std.specs.Prelude.{◌≡◌, ◌≢◌, Err, IfOk, OnOk, true};
 ghost use Rattle.cv_base.specs.Counts.{HasCause};
 ghost use Rattle.cv_ports.specs.Streams.{onto, Wrote};
 ghost use Rattle.cv_http.specs.Replies.{reply};
@@ -7,7 +7,7 @@ ghost use Rattle.cv_http.specs.declared.body_kind.BodyKind.TheVariants.{Json};
 ghost use Rattle.cv_http.specs.declared.code.Code.TheVariants.{Success};
 ghost use Rattle.cv_http.specs.declared.reply.SendFault.TheVariants.{WriteFault, NoMemory};
 ghost use Rattle.cv_answers.specs.AnswerText.{is_answer};
-ghost use Rattle.cv_session.specs.Responses.{is_writable, message_reply, reply_of};
+ghost use Rattle.cv_session.specs.Responses.{is_writable, message_reply, code_reply, reply_of};
 
 use crate::answering::answer_reply;
 use cv_answers::Answer as MessageData;
@@ -41,6 +41,7 @@ fn write_message<W: Sink>(
     ensures whole { OnOk result (W.taken sink.new ≡ onto (W.taken sink.old) (message_reply message.now last)) }
     ensures part { Wrote (W.taken sink.old) (W.taken sink.new) (message_reply message.now last) }
     ensures nothing { result ≡ Err NoMemory → W.taken sink.new ≡ W.taken sink.old }
+    ensures flushed { result ≢ Err WriteFault → W.passed sink.old ≡ W.taken sink.old → W.passed sink.new ≡ W.taken sink.new }
     ensures cause { HasCause (W.faults sink.old) (W.faults sink.new) (result ≡ Err WriteFault) }
 {
     match message.write(alloc) {
@@ -56,6 +57,24 @@ fn write_message<W: Sink>(
     }
 }
 
+/// Writes the reply with a code alone.
+fn write_code<W: Sink>(alloc: Global, sink: &mut W, code: Code, last: bool) -> Result<(), SendFault>
+    ensures whole { OnOk result (W.taken sink.new ≡ onto (W.taken sink.old) (code_reply code last)) }
+    ensures part { Wrote (W.taken sink.old) (W.taken sink.new) (code_reply code last) }
+    ensures nothing { result ≡ Err NoMemory → W.taken sink.new ≡ W.taken sink.old }
+    ensures flushed { result ≢ Err WriteFault → W.passed sink.old ≡ W.taken sink.old → W.passed sink.new ≡ W.taken sink.new }
+    ensures cause { HasCause (W.faults sink.old) (W.faults sink.new) (result ≡ Err WriteFault) }
+{
+    write_reply(
+        alloc,
+        sink,
+        code,
+        BodyKind::Text,
+        last,
+        code.text().as_bytes(),
+    )
+}
+
 /// Writes the reply with an answer.
 pub(crate) fn write_answer<W: Sink>(
     alloc: Global,
@@ -67,6 +86,7 @@ pub(crate) fn write_answer<W: Sink>(
     ensures whole { OnOk result (W.taken sink.new ≡ onto (W.taken sink.old) (reply_of answer.now last)) }
     ensures part { Wrote (W.taken sink.old) (W.taken sink.new) (reply_of answer.now last) }
     ensures nothing { result ≡ Err NoMemory → W.taken sink.new ≡ W.taken sink.old }
+    ensures flushed { result ≢ Err WriteFault → W.passed sink.old ≡ W.taken sink.old → W.passed sink.new ≡ W.taken sink.new }
     ensures cause { HasCause (W.faults sink.old) (W.faults sink.new) (result ≡ Err WriteFault) }
 {
     match answer {
@@ -78,15 +98,11 @@ pub(crate) fn write_answer<W: Sink>(
             last,
             bytes.as_slice(),
         ),
-        Response::Fixed(code) => write_reply(
-            alloc,
-            sink,
-            *code,
-            BodyKind::Text,
-            last,
-            code.text().as_bytes(),
-        ),
+        Response::Fixed(code) => write_code(alloc, sink, *code, last),
         Response::Message(message) => write_message(alloc, sink, message, last),
-        Response::Reply(reply) => write_message(alloc, sink, &answer_reply(reply), last),
+        Response::Reply(reply) => match answer_reply(reply) {
+            Ok(message) => write_message(alloc, sink, &message, last),
+            Err(code) => write_code(alloc, sink, code, last),
+        },
     }
 }

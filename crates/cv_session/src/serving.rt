@@ -17,13 +17,14 @@ use crate::session_end::SessionEnd;
 use cv_gate::Desk;
 use cv_http::{HttpFault, SendFault, Wire};
 use cv_keys::KeyTable;
-use cv_ports::{Clock, Sink, Source};
+use cv_ports::{Clock, Hold, Sink, Source};
 use cv_seal::Signer;
 use std::alloc::Global;
 
 /// Answers a fault of reading where it has a reply, and says how the session ends.
 fn refuse_fault<W: Sink>(alloc: Global, sink: &mut W, fault: HttpFault) -> SessionEnd
     ensures ends { EndsBy (Fault fault) (W.taken sink.old) (W.taken sink.new) result }
+    ensures flushed { result ≢ WriteFault → W.passed sink.old ≡ W.taken sink.old → W.passed sink.new ≡ W.taken sink.new }
     ensures cause { HasCause (W.faults sink.old) (W.faults sink.new) (result ≡ WriteFault) }
 {
     let Some(code) = fault_code(fault) else {
@@ -43,6 +44,7 @@ fn refuse_fault<W: Sink>(alloc: Global, sink: &mut W, fault: HttpFault) -> Sessi
 /// Answers that nothing was read, where that has a reply, and says how the session ends.
 fn refuse<W: Sink>(alloc: Global, sink: &mut W, why: Unread) -> SessionEnd
     ensures ends { EndsBy why (W.taken sink.old) (W.taken sink.new) result }
+    ensures flushed { result ≢ WriteFault → W.passed sink.old ≡ W.taken sink.old → W.passed sink.new ≡ W.taken sink.new }
     ensures later { W.faults sink.old ≤ W.faults sink.new }
     ensures cause { why ≢ Unsaid → HasCause (W.faults sink.old) (W.faults sink.new) (result ≡ WriteFault) }
 {
@@ -54,18 +56,25 @@ fn refuse<W: Sink>(alloc: Global, sink: &mut W, why: Unread) -> SessionEnd
 
 /// Answers the requests of a connection over a desk, one after another, until the input ends, a request asks for the end, is
 /// refused or is the last that a connection may have, the gate's journal is full, or a stream fails.
-pub fn session<K: Desk, S: Signer, C: Clock, R: Source + Drop, W: Sink>(
+///
+/// It is held where a payload was read and the desk isn't asked to store it yet, and where the reply to a request for a lease
+/// was written.
+pub fn session<K: Desk, S: Signer, C: Clock, H: Hold, R: Source + Drop, W: Sink>(
     alloc: Global,
     desk: &mut K,
     keys: &KeyTable,
     signer: &S,
     clock: &mut C,
+    hold: &H,
     wire: &mut Wire<R>,
     sink: &mut W,
 ) -> SessionEnd
     ensures session { Reads R.left wire.old wire.new (λ b.
         Session K.does (K.named desk.old) keys.now (S.seal_of signer.now) b wire.new.held (W.taken sink.old) (W.taken sink.new)
         (standing desk.old (C.moments clock.old) (K.faults desk.old)) (standing desk.new (C.moments clock.new) (K.faults desk.new)) result) }
+
+    // Where the sink didn't fail, all that was taken is passed on: also where the source failed, at whichever read.
+    ensures flushed { result ≢ WriteFault → W.passed sink.old ≡ W.taken sink.old → W.passed sink.new ≡ W.taken sink.new }
     ensures nothing_left { result ≡ Clean → WhereTold (R.left wire.new.source) (λ left. left ≡ []) }
     ensures cut { result ≡ Bad Short → WhereTold (R.left wire.new.source) (λ left. left ≡ []) }
     ensures reads { HasCause (R.faults wire.old.source) (R.faults wire.new.source) (result ≡ ReadFault) }
@@ -82,7 +91,7 @@ pub fn session<K: Desk, S: Signer, C: Clock, R: Source + Drop, W: Sink>(
         };
         count += 1;
         let last = ends_with(asked.last, count);
-        match answer_turn(alloc, desk, signer, clock, sink, asked.turn, last) {
+        match answer_turn(alloc, desk, signer, clock, hold, sink, asked.turn, last) {
             Some(end) => return end,
             None => {}
         }

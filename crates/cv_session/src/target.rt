@@ -5,11 +5,11 @@ ghost use Rattle.cv_session.specs.Targets.{target_of, Names, NamesNothing};
 use cv_base::ObjectId;
 
 /// The name of the manifest's file.
-pub const MANIFEST: &str = ".cvmfspublished";
+const MANIFEST: &str = ".cvmfspublished";
 
 /// What a repository serves under a target.
 #[derive(Clone, Copy, Debug, PartialEq, Eq)]
-pub enum Resource {
+pub(crate) enum Resource {
     /// The signed manifest.
     Manifest,
     /// An object, under the name of its file.
@@ -33,7 +33,7 @@ fn file_below<'a>(repository: &str, target: &'a [u8]) -> Option<&'a [u8]>
 }
 
 /// What a target names. None where this repository has no such resource.
-pub fn read_target(repository: &str, target: &[u8]) -> Option<Resource>
+pub(crate) fn read_target(repository: &str, target: &[u8]) -> Option<Resource>
     ensures { MatchOption result (NamesNothing repository.now target.now) (Names repository.now target.now) }
 {
     let file = file_below(repository, target)?;

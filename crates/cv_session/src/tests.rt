@@ -1,9 +1,11 @@
 //! What the contracts can't say: values from outside, and that calls find memory.
 ghost use Rattle.std.specs.Prelude.{◌≡◌, true};
 ghost use Rattle.cv_answers.specs.AnswerText.{is_answer};
-ghost use Rattle.cv_gate.specs.Gate.{is_plain};
 
-use crate::{Resource, Turn, answer_reply, list_leases, list_repositories, request_turn};
+use crate::answering::{answer_reply, list_leases, list_repositories};
+use crate::find_turn::request_turn;
+use crate::target::Resource;
+use crate::turn::Turn;
 use cv_answers::{Answer, Refusal};
 use cv_base::{Name, RepoPath, Text, Token};
 use cv_gate::{LeaseLine, Op, Reply};
@@ -312,10 +314,11 @@ fn repositories_text(alloc: Global) -> Result<String, Fail> {
 }
 
 /// How a reply of the gate is answered.
-fn reply_text(alloc: Global, reply: &Reply) -> Result<String, Fail>
-    requires { is_plain reply.now ≡ true }
-{
-    answer_text(alloc, &answer_reply(reply))
+fn reply_text(alloc: Global, reply: &Reply) -> Result<String, Fail> {
+    match answer_reply(reply) {
+        Ok(answer) => answer_text(alloc, &answer),
+        Err(code) => Ok(String::from_str(alloc, code.text())?),
+    }
 }
 
 #[test]

@@ -7,7 +7,7 @@ use cv_http::Code;
 
 /// What a request asks of a repository and its gate.
 #[derive(Debug, Drop)]
-pub enum Turn {
+pub(crate) enum Turn {
     /// A resource of the repository.
     Serve(Resource),
     /// The names of the repositories.

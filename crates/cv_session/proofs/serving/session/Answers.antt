@@ -1,8 +1,9 @@
 use Rattle.std.proofs.Common.{◌≡◌, ◌∙◌, ◌+◌, [], refl, ap, subst, Ok, Err, arith}
 use Rattle.cv_http.specs.declared.fault.HttpFault.TheVariants.{Short}
 use Rattle.cv_http.proofs.Lemmas.{reads_none, reads_then}
-use Rattle.cv_session.specs.declared.session_end.SessionEnd.TheVariants.{Clean, Bad, ReadFault}
-use Rattle.cv_session.proofs.Sessioning.{not_clean, by_short, by_read_fault, begin, so_more, clean_end, other_end, answered_one, goes_below, not_by_reading}
+use Rattle.cv_session.specs.declared.request.Unread.TheVariants.{Unsaid}
+use Rattle.cv_session.specs.declared.session_end.SessionEnd.TheVariants.{Clean, Bad, ReadFault, WriteFault}
+use Rattle.cv_session.proofs.Sessioning.{not_clean, by_short, by_read_fault, by_unsaid, begin, so_more, clean_end, other_end, answered_one, goes_below, not_by_reading}
 use Rattle.cv_session.proofs.serving.session.Goals as goal
 
 pub requests-init : goal.requests-init
@@ -10,6 +11,7 @@ requests-init g c = record {
   so_far = reads_none g.R.Source.left c.args.wire.now _ (begin g.K.Desk.does g.met.K.Desk.does_none (g.K.Desk.named c.args.desk.now) c.args.keys.now (g.S.Signer.seal_of c.args.signer.now) c.args.wire.now.held (g.W.Sink.taken c.args.sink.now) _);
   below = omega arith;
   named = refl;
+  flushed = λ was. was;
   reads = omega arith;
   writes = omega arith;
   counted = omega arith;
@@ -48,6 +50,7 @@ requests-preserved g c = record {
       answered_one g.met.K.Desk.does_none g.met.K.Desk.does_more (so_more more s) (c.name.ensures ∙ c.requests.invariant.named) c.requests.invariant.named gets c.ends_with-last.ensures c.in-None.ensures.handles);
   below = let not = goes_below c.in-Ok-Some.asked.last (c.requests.count + 1) c.ends_with-last.ensures c.in-None.ensures.handles in omega (arith, not);
   named = c.in-None.ensures.named ∙ c.requests.invariant.named;
+  flushed = λ was. c.in-None.ensures.flushed (λ e. cc) (c.in-Ok-Some.ensures.flushed (λ e. cc) (c.requests.invariant.flushed was));
   reads = let read = c.next_asked.ensures.reads.later in let was = c.requests.invariant.reads in omega (arith, read, was);
   writes = let line = c.next_asked.ensures.writes.later in let reply = c.in-None.ensures.cause.later in let was = c.requests.invariant.writes in omega (arith, line, reply, was);
   counted = let more = c.in-None.ensures.later in let was = c.requests.invariant.counted in omega (arith, more, was);
@@ -66,3 +69,12 @@ returns-in-Err-clause-reads g c = record {
       let rose = c.next_asked.ensures.reads.failed (c.in-Err.is ∙ ap (λ why. Err why) (by_read_fault c.refuse.ensures.ends is)) in
       let was = c.requests.invariant.reads in omega (arith, rose, was);
 }
+
+pub returns-in-Some-clause-flushed : goal.returns-in-Some-clause-flushed
+returns-in-Some-clause-flushed g c = λ written was.
+    c.in-Some.ensures.flushed (λ e. let same : c.in-Some.end ≡ WriteFault = cc in written same) (c.in-Ok-Some.ensures.flushed (λ e. cc) (c.requests.invariant.flushed was))
+
+pub returns-in-Err-clause-flushed : goal.returns-in-Err-clause-flushed
+returns-in-Err-clause-flushed g c = λ written was.
+    c.refuse.ensures.flushed written
+    (c.in-Err.ensures.flushed (λ e. let same : c.in-Err.why ≡ Unsaid = cc in written (by_unsaid c.refuse.ensures.ends same)) (c.requests.invariant.flushed was))

@@ -12,6 +12,7 @@ invariant-requests g l = record {
       (standing l.desk (g.C.Clock.moments l.clock) (g.K.Desk.faults l.desk)));
   below : l.count < 1000;
   named : g.K.Desk.named l.desk ≡ g.K.Desk.named l.fn.desk;
+  flushed : g.W.Sink.passed l.fn.sink ≡ g.W.Sink.taken l.fn.sink → g.W.Sink.passed l.sink ≡ g.W.Sink.taken l.sink;
   reads : g.R.Source.faults l.fn.wire.source ≤ g.R.Source.faults l.wire.source;
   writes : g.W.Sink.faults l.fn.sink ≤ g.W.Sink.faults l.sink;
   counted : g.K.Desk.faults l.fn.desk ≤ g.K.Desk.faults l.desk;
