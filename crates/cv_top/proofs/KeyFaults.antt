@@ -4,11 +4,11 @@ use Rattle.std.specs.Prelude.{◌⊎◌}
 use Rattle.cv_keys.specs.KeysText.{IsSaid}
 use Rattle.cv_keys.specs.declared.key_fault.KeyFault.{KeyFault}
 use Rattle.cv_keys.specs.declared.key_fault.KeyFault.TheVariants as fault
-use Rattle.cv_top.specs.Status.{status_of_keys}
+use Rattle.cv_top.specs.Status.{keys_status}
 use Rattle.cv_top.specs.declared.status.Status.TheVariants.{BadKeys, OutOfMemory}
 
 -- the text has the fault, or memory was wanted
-pub fault_or_memory : {P : Type 0} (f : KeyFault) → IsSaid f P → (P × (status_of_keys f ≡ BadKeys)) ⊎ (status_of_keys f ≡ OutOfMemory)
+pub fault_or_memory : {P : Type 0} (f : KeyFault) → IsSaid f P → (P × (keys_status f ≡ BadKeys)) ⊎ (keys_status f ≡ OutOfMemory)
 fault_or_memory fault.NotJson said = inl (said, refl)
 fault_or_memory (fault.Missing place) said = inl (said, refl)
 fault_or_memory (fault.WrongType place) said = inl (said, refl)

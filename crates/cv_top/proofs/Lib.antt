@@ -1,8 +1,5 @@
 mod Commands
 mod KeyFaults
-mod Ledgers
-mod OneAsking
-mod Opening
-mod SessionSteps
-mod Texts
-mod TurnsDone
+mod LineDesks
+mod Opened
+mod Saying

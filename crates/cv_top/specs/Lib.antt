@@ -1,8 +1,4 @@
-pub mod Answers
-pub mod Exchanges
-pub mod Requests
-pub mod Serving
-pub mod Sessions
-pub mod Standing
+pub mod LineDesk
+pub mod Runs
 pub mod Status
 pub mod Words

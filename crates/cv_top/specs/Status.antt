@@ -1,16 +1,24 @@
 -- How the program ends: its exit status, and the line on standard error.
-use Rattle.std.specs.Prelude.{ℕ, List, [], codes}
+use Rattle.std.specs.Prelude.{ℕ, List, [], ◌++◌, codes}
 use Rattle.cv_keys.specs.declared.key_fault.KeyFault.{KeyFault}
-use Rattle.cv_keys.specs.declared.key_fault.KeyFault.TheVariants.{NoMemory as no_memory}
-use Rattle.cv_top.specs.declared.session_end.SessionEnd.{SessionEnd}
-use Rattle.cv_top.specs.declared.session_end.SessionEnd.TheVariants.{Clean, Closed, Bad, ReadFault, WriteFault, JournalFull as journal_full, NoMemory}
+use Rattle.cv_keys.specs.declared.key_fault.KeyFault.TheVariants as key_fault
+use Rattle.cv_swap.specs.declared.init_fault.InitFault.{InitFault}
+use Rattle.cv_swap.specs.declared.init_fault.InitFault.TheVariants as init_fault
+use Rattle.cv_swap.specs.declared.open_fault.OpenFault.{OpenFault}
+use Rattle.cv_swap.specs.declared.open_fault.OpenFault.TheVariants as open_fault
+use Rattle.cv_session.specs.declared.session_end.SessionEnd.{SessionEnd}
+use Rattle.cv_session.specs.declared.session_end.SessionEnd.TheVariants as session_end
+use Rattle.cv_top.specs.declared.status.RepositoryFault.{RepositoryFault}
+use Rattle.cv_top.specs.declared.status.RepositoryFault.TheVariants as repository
 use Rattle.cv_top.specs.declared.status.Status.{Status}
-use Rattle.cv_top.specs.declared.status.Status.TheVariants.{Done, Usage, NoRepository, InputFailed, OutputFailed, StoreFailed, JournalFull, BadRequest, BadKeys, OutOfMemory}
+use Rattle.cv_top.specs.declared.status.Status.TheVariants.{Done, Usage, Repository, InputFailed, OutputFailed, StoreFailed, JournalFull, BadRequest, BadKeys, OutOfMemory}
+
+-- ---- exit statuses and lines
 
 abbrev pub code_of : Status → ℕ
 code_of Done = 0
 code_of Usage = 2
-code_of NoRepository = 3
+code_of (Repository fault) = 3
 code_of InputFailed = 5
 code_of OutputFailed = 6
 code_of StoreFailed = 7
@@ -19,29 +27,74 @@ code_of BadRequest = 14
 code_of BadKeys = 16
 code_of OutOfMemory = 70
 
+abbrev pub text_of : RepositoryFault → List ℕ
+text_of repository.Exists = codes "exists"
+text_of repository.Collision = codes "collision"
+text_of repository.Damaged = codes "damaged"
+text_of repository.Missing = codes "missing"
+text_of repository.BadManifest = codes "bad manifest"
+text_of repository.OtherName = codes "other name"
+text_of repository.BadHistory = codes "bad history"
+text_of repository.BadEpoch = codes "bad epoch"
+text_of repository.EpochsSpent = codes "epochs spent"
+
+-- what the line says, and of what
+abbrev pub what_of : Status → List ℕ
+what_of Done = []
+what_of Usage = codes "usage"
+what_of (Repository fault) = codes "repository: "
+what_of InputFailed = codes "input failed"
+what_of OutputFailed = codes "output failed"
+what_of StoreFailed = codes "store failed"
+what_of JournalFull = codes "journal full"
+what_of BadRequest = codes "bad request"
+what_of BadKeys = codes "bad keys"
+what_of OutOfMemory = codes "out of memory"
+
+abbrev pub detail_of : Status → List ℕ
+detail_of (Repository fault) = text_of fault
+detail_of other = []
+
+-- a line of the program: its name, what is said, and of what
+abbrev pub said : List ℕ → List ℕ → List ℕ
+said what detail = codes "cvkit: " ++ (what ++ (detail ++ codes "\n"))
+
 abbrev pub line_of : Status → List ℕ
 line_of Done = []
-line_of Usage = codes "cvkit: usage\n"
-line_of NoRepository = codes "cvkit: repository: missing\n"
-line_of InputFailed = codes "cvkit: input failed\n"
-line_of OutputFailed = codes "cvkit: output failed\n"
-line_of StoreFailed = codes "cvkit: store failed\n"
-line_of JournalFull = codes "cvkit: journal full\n"
-line_of BadRequest = codes "cvkit: bad request\n"
-line_of BadKeys = codes "cvkit: bad keys\n"
-line_of OutOfMemory = codes "cvkit: out of memory\n"
+line_of status = said (what_of status) (detail_of status)
 
--- how the program ends where its session ended so
-abbrev pub status_of : SessionEnd → Status
-status_of Clean = Done
-status_of Closed = Done
-status_of (Bad fault) = BadRequest
-status_of ReadFault = InputFailed
-status_of WriteFault = OutputFailed
-status_of journal_full = JournalFull
-status_of NoMemory = OutOfMemory
+-- ---- how the program ends by what a command came to
 
--- how it ends by a fault of the keys text
-abbrev pub status_of_keys : KeyFault → Status
-status_of_keys no_memory = OutOfMemory
-status_of_keys other = BadKeys
+-- by a fault of the keys text
+abbrev pub keys_status : KeyFault → Status
+keys_status key_fault.NoMemory = OutOfMemory
+keys_status other = BadKeys
+
+-- where no first revision was made
+abbrev pub init_status : InitFault → Status
+init_status init_fault.Exists = Repository repository.Exists
+init_status (init_fault.Collision id) = Repository repository.Collision
+init_status init_fault.Failed = StoreFailed
+init_status (init_fault.Damaged id found) = Repository repository.Damaged
+init_status init_fault.NoMemory = OutOfMemory
+
+-- where the repository wasn't opened
+abbrev pub open_status : OpenFault → Status
+open_status open_fault.NoRepository = Repository repository.Missing
+open_status (open_fault.BadManifest fault) = Repository repository.BadManifest
+open_status open_fault.OtherName = Repository repository.OtherName
+open_status (open_fault.BadHistory fault) = Repository repository.BadHistory
+open_status open_fault.BadEpoch = Repository repository.BadEpoch
+open_status open_fault.EpochsSpent = Repository repository.EpochsSpent
+open_status open_fault.Failed = StoreFailed
+open_status open_fault.NoMemory = OutOfMemory
+
+-- where the session over standard input and output ended so
+abbrev pub end_status : SessionEnd → Status
+end_status session_end.Clean = Done
+end_status session_end.Closed = Done
+end_status (session_end.Bad fault) = BadRequest
+end_status session_end.ReadFault = InputFailed
+end_status session_end.WriteFault = OutputFailed
+end_status session_end.JournalFull = JournalFull
+end_status session_end.NoMemory = OutOfMemory

@@ -1,28 +1,27 @@
-//! What the bytes of a connection ask for is one thing.
+//! What a desk over a repository that was opened stands for.
 //!
-//! The functions do nothing. Their contracts hold of all bytes.
-ghost use Rattle.std.specs.Prelude.{◌≡◌, ℕ, List, [], length};
-ghost use Rattle.cv_http.specs.declared.fault.HttpFault.{HttpFault};
-ghost use Rattle.cv_keys.specs.declared.key.Key.{Key};
-ghost use Rattle.cv_top.specs.Requests.{IsRequest, IsBad, EndsInside};
-ghost use Rattle.cv_top.specs.Sessions.{Exchange, Opens, turns};
-ghost use Rattle.cv_top.specs.declared.request.Request.{Request as RequestData};
+//! The functions do nothing. Their contracts hold of all files and desks.
+ghost use Rattle.std.specs.Prelude.{◌≡◌, ◌+◌, ℕ, Bool, List, Some, IfSome};
+ghost use Rattle.cv_vault.specs.Disk.{Disk, files_now};
+ghost use Rattle.cv_gate.specs.Gate.{IsBare};
+ghost use Rattle.cv_gate.specs.Kept.{reopened};
+ghost use Rattle.cv_swap.specs.Kept.{Kept, newest};
+ghost use Rattle.cv_swap.specs.Opening.{IsFound, IsOpened};
+ghost use Rattle.cv_swap.specs.Stands.{Stands as StandsKept};
+ghost use Rattle.cv_swap.specs.declared.found.Found.{Found};
+ghost use Rattle.cv_top.specs.LineDesk.{Stands as StandsAt, opened_desk, first_view};
 
-use cv_session::laws::one_turn;
+use cv_swap::laws::{opening_finds_what_is_kept, opening_keeps_what_is_kept};
+use cv_vault::Vault;
 
-/// Bytes begin with at most one request, which ends at one place. Then they are neither refused, nor do they end inside a
-/// request, nor are there none.
-pub fn one_request()
-    ensures one { (b later later' : List ℕ) (request request' : RequestData) → IsRequest b request later → IsRequest b request' later' → (request ≡ request') × (later ≡ later') }
-    ensures bad { (b later : List ℕ) (request : RequestData) (fault : HttpFault) → IsRequest b request later → ¬ (IsBad b fault) }
-    ensures cut { (b later : List ℕ) (request : RequestData) → IsRequest b request later → ¬ (EndsInside b) }
-    ensures some { (later : List ℕ) (request : RequestData) → ¬ (IsRequest [] request later) }
-{}
-
-/// So many requests that bytes begin with want one thing each, in one order, and end at one place.
-pub fn one_opening()
-    ensures { (repository : List ℕ) (keys : List Key) (b rest rest' : List ℕ) (es es' : List Exchange)
-        → Opens repository keys b es rest → Opens repository keys b es' rest' → length es ≡ length es' → (turns es ≡ turns es') × (rest ≡ rest') }
+/// A desk over a repository that was opened stands for the state that is opened on what its files stood for, where the
+/// newest tree is a directory with nothing in it.
+pub fn an_opened_desk_stands<V: Vault>()
+    ensures { (vault : V) (name : List ℕ) (is_seal : List ℕ → List ℕ → Bool) (d d' : Disk) (k : Kept) (found : Found)
+        → StandsKept name is_seal (files_now d) k → IfSome (newest k.history) (λ r. IsBare r.tree)
+        → IsFound name is_seal (files_now d) found → IsOpened d found d' → V.disk vault ≡ Some d'
+        → StandsAt V.disk (opened_desk vault name found.head (found.epoch + 1)) (first_view (reopened k)) }
 {
-    one_turn();
+    opening_finds_what_is_kept();
+    opening_keeps_what_is_kept();
 }

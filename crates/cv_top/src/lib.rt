@@ -1,29 +1,19 @@
 //! The program cvkit over any outside.
 #![tactic(auto)]
 
-mod answer;
-mod answering;
-mod exchange;
+mod init;
 pub mod laws;
+mod line_desk;
 mod parts;
 mod program;
-mod request;
-mod service;
-mod session;
-mod session_end;
+mod seal;
 mod status;
+mod stdio;
 #[cfg(test)]
 mod tests;
 mod words;
 
-pub use answer::{Answer, write_answer};
-pub use answering::find_answer;
-pub use exchange::{REQUEST_LIMIT, answer_request, ends_with};
+pub use line_desk::LineDesk;
 pub use parts::Parts;
 pub use program::run;
-pub use request::{BODY_LIMIT, Request, fault_code, next_request};
-pub use service::Service;
-pub use session::answer_requests;
-pub use session_end::SessionEnd;
-pub use status::Status;
-pub use words::{Command, WordsFault, read_words};
+pub use status::{RepositoryFault, Status};

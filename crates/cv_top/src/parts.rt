@@ -1,8 +1,8 @@
 //! The outside of the program.
 
-/// The outside of the program: what it reads and writes. The seal isn't read yet.
+/// The outside of the program: what it reads and writes.
 #[derive(Drop)]
-pub struct Parts<V, R, W, E, C> {
+pub struct Parts<V, R, W, E, C, H> {
     /// The files of the repository.
     pub vault: V,
     /// Where requests come from.
@@ -15,6 +15,8 @@ pub struct Parts<V, R, W, E, C> {
     pub clock: C,
     /// The text of the keys of those who may change the repository.
     pub keys: String,
-    /// The text of the seal.
+    /// The text of the seal, by which manifests are signed.
     pub seal: String,
+    /// Where sessions are held.
+    pub hold: H,
 }

@@ -1,9 +1,55 @@
 //! How the program ends.
-ghost use Rattle.std.specs.Prelude.{◌≡◌};
-ghost use Rattle.cv_top.specs.Status.{code_of, line_of, status_of, status_of_keys};
+ghost use Rattle.std.specs.Prelude.{◌≡◌, [], OnOk, IsErr};
+ghost use Rattle.cv_base.specs.Counts.{HasCause};
+ghost use Rattle.cv_ports.specs.Streams.{onto, Wrote};
+ghost use Rattle.cv_top.specs.Status.{code_of, text_of, what_of, detail_of, said, line_of, keys_status, init_status, open_status, end_status};
 
-use crate::session_end::SessionEnd;
 use cv_keys::KeyFault;
+use cv_ports::{Failed, Sink, write_all};
+use cv_session::SessionEnd;
+use cv_swap::{InitFault, OpenFault};
+
+/// What is wrong with the files of a repository.
+#[derive(Clone, Copy, Debug, PartialEq, Eq)]
+pub enum RepositoryFault {
+    /// There is one already.
+    Exists,
+    /// Other bytes stand under the id of an object of the first revision.
+    Collision,
+    /// The bytes under the id of an object of the first revision are damaged.
+    Damaged,
+    /// There is none.
+    Missing,
+    /// The manifest's file is none.
+    BadManifest,
+    /// The manifest is that of another repository.
+    OtherName,
+    /// The records of the revisions are no chain.
+    BadHistory,
+    /// The epoch's file is none.
+    BadEpoch,
+    /// The repository was opened as often as can be.
+    EpochsSpent,
+}
+
+impl RepositoryFault {
+    /// What the line on standard error says.
+    fn text(self) -> &'static str
+        ensures { result.now ≡ text_of self }
+    {
+        match self {
+            RepositoryFault::Exists => "exists",
+            RepositoryFault::Collision => "collision",
+            RepositoryFault::Damaged => "damaged",
+            RepositoryFault::Missing => "missing",
+            RepositoryFault::BadManifest => "bad manifest",
+            RepositoryFault::OtherName => "other name",
+            RepositoryFault::BadHistory => "bad history",
+            RepositoryFault::BadEpoch => "bad epoch",
+            RepositoryFault::EpochsSpent => "epochs spent",
+        }
+    }
+}
 
 /// How the program ends. Each status but `Done` has a line on standard error.
 #[derive(Clone, Copy, Debug, PartialEq, Eq)]
@@ -13,19 +59,19 @@ pub enum Status {
     Done,
     /// The words aren't in the grammar of the command line.
     Usage,
-    /// There is no repository: the vault has no manifest.
-    NoRepository,
+    /// The repository can't be made or opened as its files stand.
+    Repository(RepositoryFault),
     /// The input failed.
     InputFailed,
     /// The output failed.
     OutputFailed,
-    /// The vault failed when the repository was opened.
+    /// The vault failed when a repository was made or opened.
     StoreFailed,
     /// The journal of the gate was full, and a request was answered so.
     JournalFull,
     /// A request that no further one can follow: it was faulty, or was cut.
     BadRequest,
-    /// The keys text has a fault.
+    /// The keys text has a fault, or the seal is empty.
     BadKeys,
     /// There was no memory.
     OutOfMemory,
@@ -33,8 +79,8 @@ pub enum Status {
 
 impl Status {
     /// How the program ends where its session over standard input and output ended so.
-    pub fn of(end: SessionEnd) -> Status
-        ensures { result ≡ status_of end }
+    pub(crate) fn of_end(end: SessionEnd) -> Status
+        ensures { result ≡ end_status end }
     {
         match end {
             SessionEnd::Clean | SessionEnd::Closed => Status::Done,
@@ -47,12 +93,41 @@ impl Status {
     }
 
     /// How the program ends by a fault of the keys text.
-    pub fn of_keys(fault: KeyFault) -> Status
-        ensures { result ≡ status_of_keys fault }
+    pub(crate) fn of_keys(fault: KeyFault) -> Status
+        ensures { result ≡ keys_status fault }
     {
         match fault {
             KeyFault::NoMemory => Status::OutOfMemory,
             _ => Status::BadKeys,
+        }
+    }
+
+    /// How the program ends where no first revision was made.
+    pub(crate) fn of_init(fault: InitFault) -> Status
+        ensures { result ≡ init_status fault }
+    {
+        match fault {
+            InitFault::Exists => Status::Repository(RepositoryFault::Exists),
+            InitFault::Collision(_) => Status::Repository(RepositoryFault::Collision),
+            InitFault::Failed => Status::StoreFailed,
+            InitFault::Damaged { .. } => Status::Repository(RepositoryFault::Damaged),
+            InitFault::NoMemory => Status::OutOfMemory,
+        }
+    }
+
+    /// How the program ends where the repository wasn't opened.
+    pub(crate) fn of_open(fault: OpenFault) -> Status
+        ensures { result ≡ open_status fault }
+    {
+        match fault {
+            OpenFault::NoRepository => Status::Repository(RepositoryFault::Missing),
+            OpenFault::BadManifest(_) => Status::Repository(RepositoryFault::BadManifest),
+            OpenFault::OtherName => Status::Repository(RepositoryFault::OtherName),
+            OpenFault::BadHistory(_) => Status::Repository(RepositoryFault::BadHistory),
+            OpenFault::BadEpoch => Status::Repository(RepositoryFault::BadEpoch),
+            OpenFault::EpochsSpent => Status::Repository(RepositoryFault::EpochsSpent),
+            OpenFault::Failed => Status::StoreFailed,
+            OpenFault::NoMemory => Status::OutOfMemory,
         }
     }
 
@@ -63,7 +138,7 @@ impl Status {
         match self {
             Status::Done => 0,
             Status::Usage => 2,
-            Status::NoRepository => 3,
+            Status::Repository(_) => 3,
             Status::InputFailed => 5,
             Status::OutputFailed => 6,
             Status::StoreFailed => 7,
@@ -74,21 +149,56 @@ impl Status {
         }
     }
 
-    /// The line on standard error, with its newline. Empty where there is none.
-    pub fn line(self) -> &'static str
-        ensures { result.now ≡ line_of self }
+    /// What the line on standard error says.
+    fn what(self) -> &'static str
+        ensures { result.now ≡ what_of self }
     {
         match self {
             Status::Done => "",
-            Status::Usage => "cvkit: usage\n",
-            Status::NoRepository => "cvkit: repository: missing\n",
-            Status::InputFailed => "cvkit: input failed\n",
-            Status::OutputFailed => "cvkit: output failed\n",
-            Status::StoreFailed => "cvkit: store failed\n",
-            Status::JournalFull => "cvkit: journal full\n",
-            Status::BadRequest => "cvkit: bad request\n",
-            Status::BadKeys => "cvkit: bad keys\n",
-            Status::OutOfMemory => "cvkit: out of memory\n",
+            Status::Usage => "usage",
+            Status::Repository(_) => "repository: ",
+            Status::InputFailed => "input failed",
+            Status::OutputFailed => "output failed",
+            Status::StoreFailed => "store failed",
+            Status::JournalFull => "journal full",
+            Status::BadRequest => "bad request",
+            Status::BadKeys => "bad keys",
+            Status::OutOfMemory => "out of memory",
         }
     }
+
+    /// Of what it says that.
+    fn detail(self) -> &'static str
+        ensures { result.now ≡ detail_of self }
+    {
+        match self {
+            Status::Repository(fault) => fault.text(),
+            _ => "",
+        }
+    }
+
+    /// Writes the line of the status on standard error, which `Done` has none of. It takes no memory.
+    pub fn write_line<E: Sink>(self, errors: &mut E) -> Result<(), Failed>
+        ensures whole { OnOk result (E.taken errors.new ≡ onto (E.taken errors.old) (line_of self)) }
+        ensures part { Wrote (E.taken errors.old) (E.taken errors.new) (line_of self) }
+        ensures cause { HasCause (E.faults errors.old) (E.faults errors.new) (IsErr result) }
+    {
+        match self {
+            Status::Done => Ok(()),
+            status => write_said(errors, status.what(), status.detail()),
+        }
+    }
+}
+
+/// Writes a line of the program: its name, what is said, and of what.
+fn write_said<E: Sink>(errors: &mut E, what: &str, detail: &str) -> Result<(), Failed>
+    ensures whole { OnOk result (E.taken errors.new ≡ onto (E.taken errors.old) (said what.now detail.now)) }
+    ensures part { Wrote (E.taken errors.old) (E.taken errors.new) (said what.now detail.now) }
+    ensures cause { HasCause (E.faults errors.old) (E.faults errors.new) (IsErr result) }
+{
+    write_all(errors, b"cvkit: ".as_slice())?;
+    write_all(errors, what.as_bytes())?;
+    write_all(errors, detail.as_bytes())?;
+    write_all(errors, b"\n".as_slice())?;
+    Ok(())
 }

@@ -2,6 +2,7 @@
 #![tactic(auto)]
 
 use cv_base::NoMemory;
+use cv_ports::NoHold;
 use cv_real::{FolderVault, StreamSink, StreamSource, SystemClock, program_words, text_or_empty};
 use cv_top::{Parts, Status, run};
 use std::process::ExitCode;
@@ -23,6 +24,7 @@ fn run_here(rt: HostRuntime) -> Result<Status, NoMemory> {
         clock: SystemClock::new(rt),
         keys: text_or_empty(&rt, "cvkit.keys")?,
         seal: text_or_empty(&rt, "cvkit.seal")?,
+        hold: NoHold,
     };
     let (status, _parts) = run(rt.alloc(), &words, parts);
     Ok(status)
@@ -32,8 +34,7 @@ fn main(rt: HostRuntime) -> ExitCode {
     let status = match run_here(rt) {
         Ok(status) => status,
         Err(NoMemory) => {
-            let line = Status::OutOfMemory.line();
-            let _ = eprint!(rt; "{line}");
+            let _ = Status::OutOfMemory.write_line(&mut StreamSink::new(rt.stderr()));
             Status::OutOfMemory
         }
     };

@@ -1,0 +1,51 @@
+//! The seal of a repository.
+ghost use Rattle.std.specs.Prelude.{◌≡◌, ◌≢◌, [], IfOk, Err};
+ghost use Rattle.cv_top.specs.declared.seal.SealFault.TheVariants.{Empty};
+
+use cv_base::Name;
+use cv_seal::KeyedHash;
+use std::alloc::Global;
+
+/// Why there is no seal.
+#[derive(Clone, Copy, Debug, PartialEq, Eq)]
+pub enum SealFault {
+    /// The text is empty.
+    Empty,
+    /// There was no memory.
+    NoMemory,
+}
+
+/// The signer whose secret is the text of a seal.
+pub(crate) fn read_seal(alloc: Global, seal: &str) -> Result<KeyedHash, SealFault>
+    ensures signer { IfOk result (λ signer. (signer ≡ seal.now) × (seal.now ≢ [])) }
+    ensures empty { result ≡ Err Empty → seal.now ≡ [] }
+{
+    if seal.is_empty() {
+        return Err(SealFault::Empty);
+    }
+    match String::from_str(alloc, seal) {
+        Ok(secret) => Ok(KeyedHash::new(secret)),
+        Err(_) => Err(SealFault::NoMemory),
+    }
+}
+
+/// A repository's name, and what signs its manifests.
+#[derive(Drop)]
+pub(crate) struct Identity {
+    pub(crate) name: Name,
+    pub(crate) signer: KeyedHash,
+}
+
+impl Identity {
+    /// The identity of the repository of this name, with the text of its seal.
+    pub(crate) fn read(alloc: Global, name: &Name, seal: &str) -> Result<Identity, SealFault>
+        ensures identity { IfOk result (λ i. (i.name ≡ name.now) × (i.signer ≡ seal.now) × (seal.now ≢ [])) }
+        ensures empty { result ≡ Err Empty → seal.now ≡ [] }
+    {
+        let signer = read_seal(alloc, seal)?;
+        match name.copy(alloc) {
+            Ok(name) => Ok(Identity { name, signer }),
+            Err(_) => Err(SealFault::NoMemory),
+        }
+    }
+}
