@@ -13,6 +13,7 @@ import time
 
 sys.path.insert(0, os.path.join(os.path.dirname(os.path.abspath(__file__)), "..", "tools"))
 from cvkit_client import REPOSITORIES, REPOSITORY, Session, expect, lease, main, repository
+from cvkit_files import epoch_of, whole_head
 
 
 def session(program, folder, requests, answers):
@@ -36,10 +37,12 @@ def script(program, short):
         return min((session(program, folder, requests, answers) for _ in range(times)), key=sum)
 
     with repository(program) as folder:
+        granted = {"revision": 1, "root_hash": whole_head(folder).root, "status": "ok"}
         listing = best(folder, [REPOSITORIES] * count, {"repos": [REPOSITORY], "status": "ok"})
-        shallow = best(folder, [lease(f"/n{i}") for i in range(count)], {"revision": 1, "status": "ok"})
+        shallow = best(folder, [lease(f"/n{i}") for i in range(count)], granted)
         refusal = {"reason": "no_parent", "status": "error"}
         deep = best(folder, [lease(f"/n{i}/b/c/d/e/f/g/h") for i in range(count)], refusal)
+        expect(epoch_of(folder) == 3 * times, "the epoch after so many openings", epoch_of(folder))
     if short:
         print(f"{count} requests of each kind were answered")
         return

@@ -4,8 +4,9 @@
     bench/rows.py [--short] [FOLDER]
 
 The program reads a row file from standard input and measures the best of three decodings of it and of three digests. It gets
-catalogues of 5,000 and of 50,000 rows, files in directories of 99, by the writer of `tools/row_vectors.py`. The short form
-has one of 100 rows and prints no time. FOLDER is a copy of the repository in which to build.
+catalogues of 5,000 and of 50,000 rows, files in directories of 99, by the writer of `tools/row_vectors.py`; and two of 50,000
+rows and as many bytes, whose files stand two and 63 names deep. The short form has one of 100 rows of each form and prints
+no time. FOLDER is a copy of the repository in which to build.
 """
 import os
 import sys
@@ -72,9 +73,20 @@ def row_file(count):
     return row_vectors.file(rows)
 
 
-def measured(made, count):
+def deep_file(count, is_deep):
+    """Rows of 62 directories, one in another or beside each other, and of files in them."""
+    names = [f"d{i:02}" for i in range(62)]
+    directories = ["/" + "/".join(names[: i + 1]) if is_deep else f"/{names[i]}" for i in range(62)]
+    rows = [row_vectors.row("", "dir")] + [row_vectors.row(path, "dir") for path in directories]
+    for j in range(count - len(rows)):
+        above = directories[-1] if is_deep else directories[j % 62]
+        rows.append(row_vectors.row(f"{above}/f{j:05}", "file", b"%d\n" % j))
+    return row_vectors.file(rows)
+
+
+def measured(made, count, bytes):
     """The nanoseconds of decoding so many rows, and of their digest."""
-    output = made.output(row_file(count)).split()
+    output = made.output(bytes).split()
     if len(output) != 3 or int(output[0]) != count:
         sys.exit(f"rows.py: FAILED: {count} rows were read as {output}")
     return int(output[1]), int(output[2])
@@ -83,11 +95,13 @@ def measured(made, count):
 SHORT, FOLDER = words()
 COUNTS = (100,) if SHORT else (5_000, 50_000)
 with program("rows_bench", LIBRARIES, PROGRAM + READ_ALL, SHORT, FOLDER) as made:
-    times = {count: measured(made, count) for count in COUNTS}
+    times = {count: measured(made, count, row_file(count)) for count in COUNTS}
+    flat, deep = (measured(made, COUNTS[-1], deep_file(COUNTS[-1], is_deep))[0] for is_deep in (False, True))
 if SHORT:
-    print("a catalogue of 100 rows was decoded")
+    print("catalogues of 100 rows were decoded")
 else:
     for count, (decoding, digest) in times.items():
         ratio = decoding / digest
         print(f"{count} rows: decoded in {decoding / 1e6:.1f} ms, SHA-1 in {digest / 1e6:.2f} ms, ratio {ratio:.1f}")
     print(f"growth {times[50_000][0] / times[5_000][0]:.1f}-fold")
+    print(f"50000 rows 63 names deep: {deep / 1e6:.1f} ms, two deep: {flat / 1e6:.1f} ms, ratio {deep / flat:.1f}")

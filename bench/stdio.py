@@ -13,7 +13,8 @@ import sys
 import time
 
 sys.path.insert(0, os.path.join(os.path.dirname(os.path.abspath(__file__)), "..", "tools"))
-from cvkit_client import digest_of, expect, file_reply, get, main, object_name, object_path, repository, serve
+from cvkit_client import digest_of, expect, file_reply, get, main, manifest_path, object_name, object_path, repository, serve
+from cvkit_files import whole_head, whole_object
 
 
 def best(run, times=3):
@@ -28,10 +29,13 @@ def best(run, times=3):
 
 
 def compare(program, folder, contents, times):
-    """Sees that the objects come, each so many times."""
-    asked = b"".join(get(object_name(digest_of(content))) for content in contents)
-    written, _ = serve(program, folder, asked * times)
-    wanted = b"".join(map(file_reply, contents)) * times
+    """Sees that the manifest, the root catalogue and the objects come, each so many times."""
+    root = whole_head(folder).root + "C"
+    with open(manifest_path(folder), "rb") as file:
+        files = [file.read(), whole_object(folder, root), *contents]
+    names = [".cvmfspublished", object_name(root), *(object_name(digest_of(content)) for content in contents)]
+    written, _ = serve(program, folder, b"".join(map(get, names)) * times)
+    wanted = b"".join(map(file_reply, files)) * times
     expect(written == wanted, "the replies are others than the objects", len(written))
 
 

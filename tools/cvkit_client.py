@@ -1,4 +1,4 @@
-"""What the scripts share that speak with cvkit: a repository's folder, the program over pipes, requests and replies.
+"""What the scripts share that run cvkit: the folder where it runs, the program over pipes, requests and replies.
 
 It knows the program by docs/PROTOCOL.md alone, and makes signatures, digests and messages with Python's own hmac, hashlib
 and json. A reply that doesn't come within its time, or that isn't framed as it should be, raises `Wrong`; so does `expect`.
@@ -48,7 +48,7 @@ def main(script):
         sys.exit(f"{name}: {program} is no program: tools/show builds it")
     try:
         script(program, short)
-    except (Wrong, OSError) as wrong:
+    except (Wrong, OSError, subprocess.SubprocessError) as wrong:
         sys.exit(f"{name}: FAILED: {wrong}")
 
 
@@ -56,22 +56,35 @@ def main(script):
 
 
 @contextlib.contextmanager
-def repository(program, name=REPOSITORY, keys=None, objects=()):
-    """A folder with the files of a repository and these objects, which goes again in the end."""
+def workplace(keys=None):
+    """A folder in which the program runs: keys, a seal and an empty `srv`. It goes again in the end."""
     with tempfile.TemporaryDirectory(prefix="cvkit-") as folder:
         with open(os.path.join(folder, "cvkit.keys"), "w") as file:
             members = [{"id": key, "secret": secret} for key, secret in (keys or KEYS).items()]
             json.dump({"keys": members}, file)
         with open(os.path.join(folder, "cvkit.seal"), "w") as file:
             file.write(SEAL)
-        os.makedirs(os.path.join(folder, "srv", "data"))
-        made = subprocess.run([program, "init", name], cwd=folder, stdin=subprocess.DEVNULL, capture_output=True)
-        if made.returncode == 2:
-            # A program without the command `init`, which serves what stands in `srv`.
-            with open(manifest_path(folder), "w") as file:
-                file.write("a sample manifest\n")
-        else:
-            expect(made.returncode == 0, "init", made.stderr)
+        os.mkdir(os.path.join(folder, "srv"))
+        yield folder
+
+
+def ended(program, folder, words, given=b"", output=subprocess.PIPE):
+    """How the program ends on these words and this input: its status, what it wrote, and its line on standard error."""
+    ran = subprocess.run([program, *words], cwd=folder, input=given, stdout=output, stderr=subprocess.PIPE, timeout=PATIENCE)
+    return ran.returncode, ran.stdout, ran.stderr.decode()
+
+
+def init(program, folder, name=REPOSITORY):
+    """Makes the repository, which must not be there yet."""
+    found = ended(program, folder, ["init", name])
+    expect(found == (0, b"revision 1\n", ""), "init", found)
+
+
+@contextlib.contextmanager
+def repository(program, name=REPOSITORY, keys=None, objects=()):
+    """A workplace with a new repository, and with these objects of files."""
+    with workplace(keys) as folder:
+        init(program, folder, name)
         for content in objects:
             add_object(folder, content)
         yield folder
@@ -85,16 +98,17 @@ def digest_of(content):
     return hashlib.sha1(content).hexdigest()
 
 
-def object_name(digest):
-    return f"data/{digest[:2]}/{digest[2:]}"
+def object_name(id_):
+    """Where the object of an id stands: 40 digits, and `C` behind those of a catalogue or `H` behind those of a record."""
+    return f"data/{id_[:2]}/{id_[2:]}"
 
 
-def object_path(folder, digest):
-    return os.path.join(folder, "srv", object_name(digest))
+def object_path(folder, id_):
+    return os.path.join(folder, "srv", object_name(id_))
 
 
-def add_object(folder, content):
-    path = object_path(folder, digest_of(content))
+def add_object(folder, content, suffix=""):
+    path = object_path(folder, digest_of(content) + suffix)
     os.makedirs(os.path.dirname(path), exist_ok=True)
     with open(path, "wb") as file:
         file.write(content)
@@ -213,15 +227,23 @@ class Session:
         self.held += data
         return data
 
-    def reply(self, seconds=PATIENCE):
-        """The next reply, while the input stays open."""
-        until = time.monotonic() + seconds
+    def head(self, until):
+        """The lines of the next head, while the input stays open."""
         while b"\r\n\r\n" not in self.held:
             if not self.more(until):
                 self.child.wait()
                 raise Wrong(f"no reply, but status {self.child.returncode}: {self.child.stderr.read()!r}")
         head, _, self.held = self.held.partition(b"\r\n\r\n")
-        line, *rest = head.decode("latin-1").split("\r\n")
+        return head.decode("latin-1").split("\r\n")
+
+    def interim(self, seconds=PATIENCE):
+        """The lines of an interim reply, which has no body."""
+        return self.head(time.monotonic() + seconds)
+
+    def reply(self, seconds=PATIENCE):
+        """The next reply, while the input stays open."""
+        until = time.monotonic() + seconds
+        line, *rest = self.head(until)
         fields = dict(field.split(": ", 1) for field in rest)
         size = int(fields["Content-Length"])
         while len(self.held) < size:

@@ -24,9 +24,9 @@ def md5(data):
     return hashlib.md5(data).digest()
 
 
-def catalogue(mode):
+def catalogue(mode, time=TIME):
     """The catalogue of one directory, which is the root."""
-    row = md5(b"") + bytes(16) + struct.pack(">IIQIIQ", 1, mode, TIME, 0, 0, 0) + bytes(5)
+    row = md5(b"") + bytes(16) + struct.pack(">IIQIIQ", 1, mode, time, 0, 0, 0) + bytes(5)
     return b"CVR1" + struct.pack(">II", 1, 0) + row
 
 
@@ -90,16 +90,17 @@ trees = [catalogue(0o040755), catalogue(0o040700)]
 first = record(1, bytes(20), sha1(trees[0]), (0, 0), b"", b"")
 second = record(2, sha1(first), sha1(trees[1]), (1, 1), b"", b"k1")
 assert len(first) == 102 and len(manifest(1, trees[0], first)) == 222
-settle(
-    "crates/cv_swap/src/tests.rt",
-    [
-        files("FIRST", 1, trees[0], first),
-        files("SECOND", 2, trees[1], second),
-        constant("CATALOGUE", "&[u8]", literal(trees[1])),
-        constant("RECORD", "&[u8]", literal(second)),
-        constant("AHEAD", "&[u8]", literal(manifest(3, trees[1], second))),
-        constant("FIRST_RECORD", "&str", f'"{name(first, "H")}"'),
-        constant("SECOND_RECORD", "&str", f'"{name(second, "H")}"'),
-        constant("SECOND_CATALOGUE", "&str", f'"{name(trees[1], "C")}"'),
-    ],
-)
+if __name__ == "__main__":
+    settle(
+        "crates/cv_swap/src/tests.rt",
+        [
+            files("FIRST", 1, trees[0], first),
+            files("SECOND", 2, trees[1], second),
+            constant("CATALOGUE", "&[u8]", literal(trees[1])),
+            constant("RECORD", "&[u8]", literal(second)),
+            constant("AHEAD", "&[u8]", literal(manifest(3, trees[1], second))),
+            constant("FIRST_RECORD", "&str", f'"{name(first, "H")}"'),
+            constant("SECOND_RECORD", "&str", f'"{name(second, "H")}"'),
+            constant("SECOND_CATALOGUE", "&str", f'"{name(trees[1], "C")}"'),
+        ],
+    )

@@ -101,6 +101,7 @@ def items():
     for name, (what, data) in good.items():
         yield f'/// {what}\nconst {name}: &str =\n    "{data.hex()}";'
     deep = "/n" * 64
+    in_itself = (d[0], at(d[1], 16, d[0]))
     far = row("/x/f", "file", b"f\n")
     faults = [
         ("an empty text", "", "EMPTY", b"", "Short"),
@@ -134,6 +135,10 @@ def items():
         ("a nested root without a marker", "/d", "INNER", file([inner_root, f, g]), f"Marker({index([inner_root, f, g], '/d')})"),
         ("an entry of a plain directory", "", "OUTER", file([root, d], [entry("/d", inner)]), "NestedList(0)"),
         ("a transition without an entry", "", "OUTER", file(outer_rows), "NestedList(0)"),
+        ("an entry of another place", "", "OUTER", file(outer_rows, [entry("/e", inner)]), "NestedList(0)"),
+        ("an entry of the catalogue's own place", "/d", "INNER", file([inner_root, f, g, marker], [entry("/d", inner)]), "NestedList(0)"),
+        ("an entry of the place above", "/d", "INNER", file([inner_root, f, g, marker], [entry("", inner)]), "NestedList(0)"),
+        ("a directory in itself", "", "PLAIN", file([root, in_itself, f, g]), f"Orphan({index([root, f], '/d/f')})"),
     ]
     lines = [f"const FAULTS: [Change; {len(faults)}] = ["]
     for what, place, name, bad, fault in faults:

@@ -1,14 +1,23 @@
 #!/usr/bin/env python3
 """Sessions for the tests of cv_top: requests, and their replies by the tables of the interface, not by the program.
 
-A row is a session: the seconds of the clock after its first moment, the input and the output. The Authorization headers are
-made by Python's hmac and base64, the answers by json.
+The repository is the one that `init` makes at the first moment; its files are those of `line_vectors.py`. A row of SESSIONS is
+a session: the seconds of the clock after its first moment, the input and the output. The Authorization headers are made by
+Python's hmac and base64, the answers by json.
 """
 import json
 
 import cvkit_client
+import line_vectors
 from cvkit_client import LEASES, REPOSITORY, authorization, lease_message
-from vectors import settle, table, text
+from line_vectors import literal, name, sha1
+from vectors import constant, settle, table, text
+
+
+CATALOGUE = line_vectors.trees[0]
+RECORD = line_vectors.first
+MANIFEST = line_vectors.manifest(1, CATALOGUE, RECORD)
+HELLO = b"hello\n"
 
 
 def request(method, target, signed=None, body=None):
@@ -30,7 +39,7 @@ def reply(answer):
 
 
 def granted(token):
-    return reply({"revision": 1, "root_hash": "0" * 40, "session_token": token, "status": "ok"})
+    return reply({"revision": 1, "root_hash": sha1(CATALOGUE).hex(), "session_token": token, "status": "ok"})
 
 
 def refused(reason):
@@ -82,5 +91,86 @@ def row(seconds, exchanges):
     return f"({seconds}, {text(asked)}, {text(said)})"
 
 
+def octets(body, last=False):
+    close = b"Connection: close\r\n" if last else b""
+    return b"HTTP/1.1 200 OK\r\nContent-Type: application/octet-stream\r\nContent-Length: %d\r\n%s\r\n%s" % (len(body), close, body)
+
+
+def refusal(code, last=False):
+    body = code.split(" ", 1)[1].encode() + b"\n"
+    close = b"Connection: close\r\n" if last else b""
+    return b"HTTP/1.1 %s\r\nContent-Type: text/plain\r\nContent-Length: %d\r\n%s\r\n%s" % (code.encode(), len(body), close, body)
+
+
+def row_of_file(path, data):
+    return f'("{path}", {literal(data)})'
+
+
+# The manifest with another name, and under another seal.
+def sealed(lines, secret):
+    digits = sha1(lines).hex().encode()
+    return lines + b"--\n" + digits + b"\n" + line_vectors.hmac.new(secret, digits, "sha1").digest()
+
+
+LINES = MANIFEST[: MANIFEST.index(b"--\n")]
+OTHER_NAME = sealed(LINES.replace(b"Nsw.", b"Nxx."), b"seal")
+OTHER_SEAL = sealed(LINES, b"soul")
+HEAD, EPOCH = ".cvmfspublished", "gateway.epoch"
+RECORD_NAME = name(RECORD, "H")
+
+# A file, what it is instead or nothing, and what the line says then.
+REFUSED = [
+    (HEAD, None, "missing"),
+    (HEAD, b"M\n", "bad manifest"),
+    (HEAD, MANIFEST[:-1], "bad manifest"),
+    (HEAD, OTHER_SEAL, "bad manifest"),
+    (HEAD, OTHER_NAME, "other name"),
+    (RECORD_NAME, None, "bad history"),
+    (RECORD_NAME, RECORD[:-1], "bad history"),
+    (EPOCH, None, "bad epoch"),
+    (EPOCH, b"+1\n", "bad epoch"),
+    (EPOCH, b"18446744073709551615\n", "epochs spent"),
+]
+
+
+def refused_row(path, data, line):
+    return f'("{path}", {"None" if data is None else f"Some({literal(data)})"}, "cvkit: repository: {line}\\n")'
+
+
+# An object and the manifest are asked. A failing call of the vault (five files are written first, then eight calls open the
+# repository, then the object is read), of the input and of the output, or 0; the status, the line and the bytes written.
+GOOD, FAILED, WHOLE = len(octets(HELLO)), len(refusal("500 Internal Server Error")), len(octets(MANIFEST))
+FAULTS = [
+    (6, 0, 0, 7, "store failed", 0),
+    (7, 0, 0, 7, "store failed", 0),
+    (10, 0, 0, 7, "store failed", 0),
+    (13, 0, 0, 7, "store failed", 0),
+    (14, 0, 0, 0, None, FAILED + WHOLE),
+    (0, 1, 0, 5, "input failed", 0),
+    (0, 0, 1, 6, "output failed", 0),
+    (0, 0, 6, 6, "output failed", GOOD + WHOLE),
+    (0, 0, 0, 0, None, GOOD + WHOLE),
+]
+
+
+def fault_row(vault, source, sink, code, line, size):
+    said = f"cvkit: {line}\\n" if line else ""
+    return f'({vault}, {source}, {sink}, {code}, "{said}", {size})'
+
+
+FILES = [(name(CATALOGUE, "C"), CATALOGUE), (RECORD_NAME, RECORD), (EPOCH, b"0\n"), (HEAD, MANIFEST)]
 ROWS = [row(seconds, exchanges) for seconds, exchanges in SESSIONS]
-settle("crates/cv_top/src/tests.rt", [table("SESSIONS", "((u32, u32, u32), &str, &str)", ROWS, "static")])
+settle(
+    "crates/cv_top/src/tests.rt",
+    [
+        table("FILES", "(&str, &[u8])", [row_of_file(*file) for file in FILES], "static"),
+        constant("OBJECT", "&str", f'"{name(HELLO)}"'),
+        constant("CATALOGUE", "&str", f'"{name(CATALOGUE, "C")}"'),
+        constant("SERVED", "&[u8]", literal(octets(MANIFEST))),
+        constant("SERVED_LAST", "&[u8]", literal(octets(MANIFEST, True))),
+        constant("SECOND_LEASE", "&str", text(granted("2-1"))),
+        table("REFUSED", "(&str, Option<&[u8]>, &str)", [refused_row(*one) for one in REFUSED], "static"),
+        table("FAULTS", "(u64, u64, u64, u8, &str, usize)", [fault_row(*one) for one in FAULTS], "static"),
+        table("SESSIONS", "((u32, u32, u32), &str, &str)", ROWS, "static"),
+    ],
+)
