@@ -17,3 +17,8 @@ pub record Wrote (old new : Option (List ℕ)) (text : List ℕ) : Type 0 where
   pub unwritten : List ℕ
   pub split : text ≡ written ++ unwritten
   pub taken : new ≡ onto old written
+
+-- when a read of a source began: what the source had left, and what the sink beside it had passed on, where they are told
+pub record Look : Type 0 where
+  pub left : Option (List ℕ)
+  pub passed : Option (List ℕ)

@@ -1,12 +1,13 @@
 //! A source in memory.
-ghost use Rattle.std.specs.Prelude.{◌≡◌, ◌≤◌, ◌<◌, ℕ, List, Option, Some, [], length, take, drop, min, IsTrue, ◌↔◌, OnErr, IfOk, IsErr};
+ghost use Rattle.std.specs.Prelude.{◌≡◌, ◌≤◌, ◌<◌, ℕ, List, Option, Some, [], length, take, drop, min, IsTrue, ◌↔◌, ◌⊎◌, OnErr, IfOk, IsErr};
 ghost use Rattle.cv_base.specs.Counts.{HasCause};
 ghost use Rattle.cv_base.specs.Told.{WhereTold};
-ghost use Rattle.cv_ports.specs.Streams.{front};
+ghost use Rattle.cv_ports.specs.Streams.{Look, front};
 ghost use Rattle.cv_ports.specs.Calls.{fails, called};
 
 use crate::failed::Failed;
 use crate::failing_calls::FailingCalls;
+use crate::sink::Sink;
 use crate::source::Source;
 use std::marker::Model;
 
@@ -50,12 +51,15 @@ impl Source for MemorySource {
 
     ghost faults = { λ s. s.calls.faults };
 
-    fn read(&mut self, buf: &mut [u8]) -> Result<usize, Failed>
+    ghost looks = { λ s look. ⊥ };
+
+    fn read<W: Sink>(&mut self, buf: &mut [u8], beside: &W) -> Result<usize, Failed>
         ensures fits { IfOk result (λ count. count ≤ length buf.old) }
         ensures gives { IfOk result (λ count. Some self.old.left ≡ front (take count buf.new) (Some self.new.left)) }
         ensures end { IfOk result (λ count. count ≡ 0 → 0 < length buf.old → WhereTold (Some self.new.left) (λ more. more ≡ [])) }
         ensures unchanged { OnErr result (Some self.new.left ≡ Some self.old.left) }
         ensures cause { HasCause self.old.calls.faults self.new.calls.faults (IsErr result) }
+        ensures noted { (look : Look) → ⊥ → ⊥ ⊎ (look ≡ record { left = Some self.old.left; passed = W.passed beside.now }) }
         ensures most { IfOk result (λ count. count ≡ min (min (length self.old.left) (length buf.old)) self.old.piece) }
         ensures calls { self.new.calls ≡ called self.old.calls }
         ensures failing { IsErr result ↔ IsTrue (fails self.old.calls) }

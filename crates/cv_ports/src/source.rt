@@ -1,10 +1,11 @@
 //! Where bytes come from.
-ghost use Rattle.std.specs.Prelude.{◌≡◌, ◌≤◌, ◌<◌, ℕ, List, Option, [], length, take, OnErr, IfOk, IsErr};
+ghost use Rattle.std.specs.Prelude.{◌≡◌, ◌≤◌, ◌<◌, ◌⊎◌, ℕ, List, Option, [], length, take, OnErr, IfOk, IsErr};
 ghost use Rattle.cv_base.specs.Counts.{HasCause};
 ghost use Rattle.cv_base.specs.Told.{WhereTold};
-ghost use Rattle.cv_ports.specs.Streams.{front};
+ghost use Rattle.cv_ports.specs.Streams.{Look, front};
 
 use crate::failed::Failed;
+use crate::sink::Sink;
 
 /// Where bytes come from, as a file, a pipe or a connection.
 pub trait Source {
@@ -14,12 +15,18 @@ pub trait Source {
     /// How many of its calls failed, so far as 64 bits can count.
     ghost faults: { Self → ℕ };
 
+    /// When its reads began, each with what it had left then and what the sink beside it had passed on, where it tells.
+    ghost looks: { Self → Look → Type 0 };
+
     /// Puts the next bytes at the front of the buffer, and answers how many. 0 of a buffer that isn't empty is the
-    /// end of the input. A read that failed took nothing.
-    fn read(&mut self, buf: &mut [u8]) -> Result<usize, Failed>
+    /// end of the input. A read that failed took nothing. The sink beside it is the one to which what was read is
+    /// answered: it is only looked at.
+    fn read<W: Sink>(&mut self, buf: &mut [u8], beside: &W) -> Result<usize, Failed>
         ensures fits { IfOk result (λ count. count ≤ length buf.old) }
         ensures gives { IfOk result (λ count. left self.old ≡ front (take count buf.new) (left self.new)) }
         ensures end { IfOk result (λ count. count ≡ 0 → 0 < length buf.old → WhereTold (left self.new) (λ more. more ≡ [])) }
         ensures unchanged { OnErr result (left self.new ≡ left self.old) }
-        ensures cause { HasCause (faults self.old) (faults self.new) (IsErr result) };
+        ensures cause { HasCause (faults self.old) (faults self.new) (IsErr result) }
+        ensures noted { (look : Look) → looks self.new look
+            → looks self.old look ⊎ (look ≡ record { left = left self.old; passed = W.passed beside.now }) };
 }

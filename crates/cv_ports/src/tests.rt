@@ -19,13 +19,14 @@ fn source_gives_pieces_and_its_end(rt: HostRuntime) -> Result<(), Fail> {
     let bytes = Vec::from_slice(rt.alloc(), b"abcde")?;
     let failing = Vec::from_slice(rt.alloc(), &[2])?;
     let mut source = MemorySource::new(bytes, 3, failing);
+    let beside = MemorySink::new(rt.alloc(), 0, Vec::new(rt.alloc()))?;
     let mut buf = [0; 4];
-    assert_eq!(rt; source.read(&mut buf), Ok(3));
+    assert_eq!(rt; source.read(&mut buf, &beside), Ok(3));
     assert_eq!(rt; buf.as_slice(), b"abc\0".as_slice());
-    assert_eq!(rt; source.read(&mut buf), Err(Failed));
-    assert_eq!(rt; source.read(&mut buf), Ok(2));
+    assert_eq!(rt; source.read(&mut buf, &beside), Err(Failed));
+    assert_eq!(rt; source.read(&mut buf, &beside), Ok(2));
     assert_eq!(rt; buf.as_slice(), b"dec\0".as_slice());
-    assert_eq!(rt; source.read(&mut buf), Ok(0));
+    assert_eq!(rt; source.read(&mut buf, &beside), Ok(0));
     Ok(())
 }
 

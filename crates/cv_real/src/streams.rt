@@ -58,7 +58,9 @@ impl<T: Read> Source for StreamSource<T> {
 
     ghost faults = { λ s. s.faults.number };
 
-    fn read(&mut self, buf: &mut [u8]) -> Result<usize, Failed> {
+    ghost looks = { λ s look. ⊥ };
+
+    fn read<W: Sink>(&mut self, buf: &mut [u8], beside: &W) -> Result<usize, Failed> {
         if let Ok(count) = read_retrying(&mut self.inner, buf) {
             return Ok(count);
         }

@@ -1,7 +1,7 @@
 //! The vault over a real folder, and streams over a real pipe.
 
 use crate::{FolderVault, StreamSink, StreamSource};
-use cv_ports::{Sink, Source};
+use cv_ports::{MemorySink, Sink, Source};
 use cv_vault::{Vault, VaultFault};
 use std::alloc::Global;
 use std::fs::File;
@@ -189,18 +189,19 @@ fn streams_go_through_a_pipe(rt: HostRuntime) -> Result<(), Fail> {
     let (reads, writes) = io::pipe(&rt)?;
     let mut source = StreamSource::new(reads);
     let mut sink = StreamSink::new(writes);
+    let beside = MemorySink::new(rt.alloc(), 0, Vec::new(rt.alloc()))?;
     let mut buf = [0u8; 8];
     for (sent, room, got) in [("abc", 8usize, 3usize), ("abcdef", 4, 4), ("", 8, 2)] {
         assert_eq!(rt; sink.write(sent.as_bytes()).unwrap_or(9), sent.len());
         assert!(rt; sink.flush().is_ok());
         assert_eq!(rt;
-            source.read(&mut buf[..room]).unwrap_or(9),
+            source.read(&mut buf[..room], &beside).unwrap_or(9),
             got,
             "at {sent}"
         );
     }
     drop(sink);
-    assert_eq!(rt; source.read(&mut buf).unwrap_or(9), 0);
+    assert_eq!(rt; source.read(&mut buf, &beside).unwrap_or(9), 0);
     let (reads, writes) = io::pipe(&rt)?;
     drop(reads);
     let mut sink = StreamSink::new(writes);

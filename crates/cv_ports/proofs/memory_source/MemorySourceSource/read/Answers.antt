@@ -5,7 +5,7 @@ use Rattle.cv_ports.proofs.Pieces.{given, rest_of}
 use Rattle.cv_ports.proofs.memory_source.MemorySourceSource.read.Goals as goal
 
 pub returns-clause-gives : goal.returns-clause-gives
-returns-clause-gives c =
+returns-clause-gives g c =
     let bytes = c.self.inside.bytes.items in
     let size = ap length (rest_of bytes c.self.inside.given) ∙ length-drop c.self.inside.given bytes in
     let first = rw c.deref.ensures.value at c.min.ensures in
