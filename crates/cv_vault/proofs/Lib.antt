@@ -7,6 +7,7 @@ pub mod Changing
 pub mod Steps
 pub mod Settling
 pub mod Ordered
+pub mod Prefixes
 pub mod Listing
 pub mod Failing
 pub mod Remembering

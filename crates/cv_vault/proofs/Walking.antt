@@ -1,11 +1,11 @@
 -- Walks, one after another.
-use Rattle.std.proofs.Common.{◌≡◌, ◌⊎◌, ℕ, Bool, false, refl, sym, subst, ◌∙◌, inl, inr, arith}
+use Rattle.std.proofs.Common.{◌≡◌, ◌⊎◌, ℕ, Bool, true, false, refl, sym, subst, ◌∙◌, inl, inr, arith}
 use Rattle.std.specs.declared.option.Option.{Option}
 use Rattle.std.specs.declared.option.Option.TheVariants.{Some}
-use Rattle.cv_vault.specs.Names.{Name}
+use Rattle.cv_vault.specs.Names.{Name, on_way}
 use Rattle.cv_vault.specs.Disk.{Disk, Slot, File, Files, May, Image, ImageOf}
 use Rattle.cv_vault.specs.Moments.{Calls, LeavesOnly}
-use Rattle.cv_vault.specs.Walks.{Change, Stays, Comes, Gains, Within, Walks}
+use Rattle.cv_vault.specs.Walks.{Change, Stays, Comes, Gains, Within, Walks, LeavesOutMore}
 
 pub change_then : {B : File → Type 0} {a b c : Slot} → Change B a b → Change B b c → Change B a c
 change_then {B} (Stays s l) (Stays s' l') = Stays (s' ∙ s) (λ f m. l f (l' f m))
@@ -142,3 +142,14 @@ walks_wider h w = record {
   leaves = leaves_more w.leaves (λ f x. within_wider h f x);
   is = w.is;
 }
+
+-- a test that has the names on the way among it
+on_way_wider : (away : Name → Bool) → ((n : Name) → on_way n ≡ true → away n ≡ true) → (n : Name) → away n ≡ false → on_way n ≡ false
+on_way_wider away more n out = by (on_way n) refl
+  where
+    by : (b : Bool) → on_way n ≡ b → on_way n ≡ false
+    by true e = let k = more n e in cc
+    by false e = e
+
+pub leaves_out_more : {V : Type 0} (disk : V → Option Disk) (count : V → ℕ) (left : V → ℕ → Files → Type 0) (B : Name → File → Type 0) (E : Disk → Type 0) (d : Disk) → LeavesOutMore disk count left B E d
+leaves_out_more disk count left B E d = λ away more v v' w. walks_wider (on_way_wider away more) w

@@ -1,8 +1,8 @@
 -- Calls of a vault, one after another, by which certain files may come to certain names.
-use Rattle.std.specs.Prelude.{◌≡◌, ◌⊎◌, ℕ, Bool, false}
+use Rattle.std.specs.Prelude.{◌≡◌, ◌⊎◌, ℕ, Bool, true, false}
 use Rattle.std.specs.declared.option.Option.{Option}
 use Rattle.std.specs.declared.option.Option.TheVariants.{Some}
-use Rattle.cv_vault.specs.Names.{Name}
+use Rattle.cv_vault.specs.Names.{Name, on_way}
 use Rattle.cv_vault.specs.Disk.{Disk, Slot, File, Files, May}
 use Rattle.cv_vault.specs.Moments.{LeavesOnly}
 
@@ -37,3 +37,8 @@ Nothing n f = ⊥
 -- this file comes to this name
 abbrev pub ComesTo : Name → File → Name → File → Type 0
 ComesTo name file n f = (n ≡ name) × (f ≡ file)
+
+-- a walk that leaves the names on the way out of account is one that leaves out any choice of names that has these among it
+abbrev pub LeavesOutMore : {V : Type 0} (disk : V → Option Disk) (count : V → ℕ) (left : V → ℕ → Files → Type 0) (B : Name → File → Type 0) (E : Disk → Type 0) → Disk → Type 0
+LeavesOutMore {V} disk count left B E d = (away : Name → Bool) → ((n : Name) → on_way n ≡ true → away n ≡ true)
+    → (v v' : V) → Walks disk count left on_way B E d v v' → Walks disk count left away B E d v v'

@@ -13,8 +13,10 @@ mod table;
 #[cfg(test)]
 mod tests;
 mod vault;
+mod wider;
 
 pub use files::{is_sure, move_in, put_on_way, replace};
 pub use memory_vault::MemoryVault;
 pub use mortal::Mortal;
 pub use vault::{Vault, VaultFault};
+pub use wider::more_names_may_be_left_out;

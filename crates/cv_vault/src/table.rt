@@ -151,8 +151,12 @@ impl Table {
         ensures { IfOk result (λ names. IsListing (table_disk self.now) prefix.now names.items) }
     {
         let mut listed = Vec::new(alloc);
-        for (name, number) in &self.numbers {
-            if self.is_listed(name.as_str(), *number, prefix) {
+        let first = String::from_str(alloc, prefix)?;
+        for (name, number) in self.numbers.range(first..) {
+            if !name.as_str().starts_with(prefix) {
+                break;
+            }
+            if self.place_at(*number).now.is_some() {
                 listed.push(Text::new(String::from_str(alloc, name.as_str())?))?;
             }
         }
@@ -307,15 +311,6 @@ impl Table {
         ensures { result ≡ list_all (λ e. is_settled_place e.place) self.now.entries.items }
     {
         self.unsettled.is_empty()
-    }
-
-    // Whether a name has a file and begins so, by the number of its entry.
-    fn is_listed(&self, name: &str, number: usize, prefix: &str) -> bool
-        requires table { IsTable self.now }
-        requires number { IsEntryOf self.now name.now number }
-        ensures { result ≡ is_listed (table_disk self.now) prefix.now name.now }
-    {
-        self.place_at(number).now.is_some() && name.starts_with(prefix)
     }
 
     // The number of the entry of a name.
