@@ -50,11 +50,11 @@ not_refused b later head _ begins (judged parsed later' fault has is) =
 pub not_cut : (b later : List ℕ) (head : RequestHead) → Begins b head later → IsCut b → ⊥
 not_cut b later head begins cut = in_window begins.has cut.unfinished.not_yet
 
-pub one_refusal : (b : List ℕ) (fault fault' : HttpFault) → Refused b fault → Refused b fault' → (fault ≡ fault') ⊎ ((head_limit ≤ length b) × EndsInTarget (window b))
+pub one_refusal : (b : List ℕ) (fault fault' : HttpFault) → Refused b fault → Refused b fault' → (fault ≡ fault') ⊎ ((head_limit ≤ length b) × Never b × EndsInTarget (window b))
 one_refusal b _ _ (never h) (never h') = inl refl
-one_refusal b _ _ (never h) (large long open_) = inr (long, in_target h open_)
+one_refusal b _ _ (never h) (large long open_) = inr (long, h, in_target h open_)
 one_refusal b _ _ (never h) (judged parsed later fault has is) = absurd (not_never has h)
-one_refusal b _ _ (large long open_) (never h) = inr (long, in_target h open_)
+one_refusal b _ _ (large long open_) (never h) = inr (long, h, in_target h open_)
 one_refusal b _ _ (large long open_) (large long' open') = inl refl
 one_refusal b _ _ (large long open_) (judged parsed later fault has is) = absurd (in_window has open_.not_yet)
 one_refusal b _ _ (judged parsed later fault has is) (never h) = absurd (not_never has h)
@@ -63,8 +63,8 @@ one_refusal b _ _ (judged parsed later fault has is) (judged parsed' later' faul
     let same = same_head has has' in
     let e : Some fault ≡ Some fault' = sym is ∙ ap fault_of_head same.0 ∙ is' in inl (cc)
 
-pub refused_in_target : (b : List ℕ) (fault : HttpFault) → Refused b fault → IsCut b → (fault ≡ BadHead) × EndsInTarget (window b)
-refused_in_target b _ (never h) cut = (refl, in_target h cut.unfinished)
+pub refused_in_target : (b : List ℕ) (fault : HttpFault) → Refused b fault → IsCut b → (fault ≡ BadHead) × Never b × EndsInTarget (window b)
+refused_in_target b _ (never h) cut = (refl, h, in_target h cut.unfinished)
 refused_in_target b _ (large long open_) cut = absurd (let short = cut.short in omega (arith, long, short))
 refused_in_target b _ (judged parsed later fault has is) cut = absurd (in_window has cut.unfinished.not_yet)
 

@@ -2,7 +2,7 @@
 use Rattle.std.proofs.Common.{◌≡◌, List, ℕ, Bool, true, false, subst}
 use Rattle.std.specs.Prelude.{Some, None, if◌then◌else◌, nat_lt, length}
 use Rattle.cv_http.specs.Heads.{parts_of, is_host_wrong, is_length_wrong, field_limit, is_coded, is_length_lacking, Refused, never, large, judged}
-use Rattle.cv_http.specs.Faults.{IsRefusal, IsHeadFault}
+use Rattle.cv_http.specs.Faults.{IsRefusal}
 use Rattle.cv_http.specs.declared.fault.HttpFault.{HttpFault}
 use Rattle.cv_http.specs.declared.fault.HttpFault.TheVariants.{BadHead, HeadTooLarge, BodyTooLarge, NoLength, Coding, Short, ReadFault, NoMemory}
 
@@ -22,13 +22,3 @@ refusal b _ (large long h) = tt
 refusal b _ (judged parsed later fault has is) =
     let p = parts_of parsed in
     first_fault (is_host_wrong (parts_of parsed)) (is_length_wrong (parts_of parsed)) (nat_lt field_limit (length (parts_of parsed).fields)) (is_coded (parts_of parsed)) (is_length_lacking (parts_of parsed)) fault is
-
-pub refusal_is_head_fault : (fault : HttpFault) → IsRefusal fault → IsHeadFault fault
-refusal_is_head_fault BadHead is = tt
-refusal_is_head_fault HeadTooLarge is = tt
-refusal_is_head_fault BodyTooLarge is = is
-refusal_is_head_fault NoLength is = tt
-refusal_is_head_fault Coding is = tt
-refusal_is_head_fault Short is = tt
-refusal_is_head_fault ReadFault is = tt
-refusal_is_head_fault NoMemory is = tt

@@ -1,17 +1,17 @@
 -- What is judged of the bytes held holds of all that is left.
 use Rattle.std.proofs.Common.{◌≡◌, ◌<◌, ◌≤◌, ◌-◌, ◌++◌, ℕ, List, [], length, take, drop, refl, ap, sym, subst, ◌∙◌, append_assoc, append-nil, arith, inl, inr, length-append}
-use Rattle.std.specs.Prelude.{Option, Some, None, Result, Ok, Err, IsErrAnd}
+use Rattle.std.specs.Prelude.{Option, ◌⊎◌, Some, None, Result, Ok, Err, IsErrAnd}
 use Rattle.std.proofs.lemmas.List.{take-append-le, take-append-drop, take_all}
 use Rattle.std.proofs.lemmas.Bool.{cases_lt}
 use Rattle.std.proofs.Math.Seq.{take-append-add}
 use Rattle.std.proofs.Common.{◌+◌}
 use Rattle.httparse.specs.Grammar.{RequestHead as ParsedHead, HasNoRequest, MayBecomeRequest}
 use Rattle.httparse.proofs.GrammarLemmas.{ReadsRequest-append}
-use Rattle.cv_ports.specs.Streams.{front}
+use Rattle.cv_ports.specs.Streams.{Look, front}
 use Rattle.cv_ports.proofs.Streams.{front_twice}
 use Rattle.cv_http.specs.Heads.{window, HasHead, Begins, Never, Unfinished, Refused, never, large, judged}
 use Rattle.cv_http.specs.Heads.{IsAwaited}
-use Rattle.cv_http.specs.Wires.{WireView, Gets, Reads, HeadLost, HeadFound, HeadRead, BodyRead}
+use Rattle.cv_http.specs.Wires.{WireView, Gets, Reads, LookedAt, Looks, Beside, HeadLost, HeadFound, HeadRead, BodyRead}
 use Rattle.cv_http.specs.Faults.{IsHeadFault, IsPieceFault}
 use Rattle.cv_http.proofs.Refusals.{refusal}
 use Rattle.cv_http.specs.declared.head.RequestHead.{RequestHead}
@@ -168,13 +168,69 @@ pub found_none : (IsPart : List ℕ → Type 0) (b held : List ℕ) (found : Opt
 found_none IsPart b held None part lacks = part
 found_none IsPart b held (Some head) part lacks = absurd (lacks head refl)
 
--- the source failed, or memory was wanted
-pub read_nothing : {b held : List ℕ} (fault : HttpFault) → IsPieceFault fault → IsAwaited b → held ≡ b → HeadRead b held (Err fault)
-read_nothing BadHead is waits same = absurd is
-read_nothing HeadTooLarge is waits same = absurd is
-read_nothing BodyTooLarge is waits same = absurd is
-read_nothing NoLength is waits same = absurd is
-read_nothing Coding is waits same = absurd is
-read_nothing Short is waits same = absurd is
-read_nothing ReadFault is waits same = (waits, same)
-read_nothing NoMemory is waits same = same
+-- ---- when a source is read
+
+-- nothing before what is left
+front_none : (left : Option (List ℕ)) → left ≡ front [] left
+front_none None = refl
+front_none (Some l) = refl
+
+module _ {R : Type 0} (left : R → Option (List ℕ)) (looks : R → Look → Type 0) where
+  -- no read began
+  pub looks_none : (w w' : WireView R) (P : List ℕ → Option (List ℕ) → Type 0) → w'.source ≡ w.source → Looks left looks w w' P
+  looks_none w w' P same = λ look is. inl (subst (λ s. looks s look) same is)
+
+  -- none began then
+  pub looks_still : (w m w' : WireView R) (P : List ℕ → Option (List ℕ) → Type 0) → Looks left looks w m P → w'.source ≡ m.source → Looks left looks w w' P
+  looks_still w m w' P first same = λ look is. first look (subst (λ s. looks s look) same is)
+
+  -- one began with what is held
+  pub looks_one : (w w' : WireView R) (passed : Option (List ℕ))
+      → ((look : Look) → looks w'.source look → looks w.source look ⊎ (look ≡ record { left = left w.source; passed = passed }))
+      → Looks left looks w w' (Beside passed (λ b. b ≡ w.held))
+  looks_one w w' passed one = λ look is.
+      elim (one look is) [
+        | inl before ↦ inl before
+        | inr now ↦
+            inr
+            (subst (LookedAt (left w.source) w.held (Beside passed (λ b. b ≡ w.held))) (sym now)
+            (record { got = []; told = front_none (left w.source); are = (append-nil w.held, refl) }))
+      ]
+
+  -- the same in other words
+  pub looks_as : (w w' : WireView R) (P Q : List ℕ → Option (List ℕ) → Type 0) → Looks left looks w w' P → ((b : List ℕ) (passed : Option (List ℕ)) → P b passed → Q b passed) → Looks left looks w w' Q
+  looks_as w w' P Q first as_ = λ look is.
+      elim (first look is) [
+        | inl before ↦ inl before
+        | inr at ↦ inr (record { got = at.got; told = at.told; are = as_ (w.held ++ at.got) look.passed at.are })
+      ]
+
+  -- some began, and then others behind what was read
+  pub looks_then : (w0 w w' : WireView R) (P : List ℕ → Type 0) (Q S : List ℕ → Option (List ℕ) → Type 0) → Looks left looks w0 w S → Reads left w0 w P → Looks left looks w w' Q
+      → ((b more : List ℕ) (passed : Option (List ℕ)) → P b → Q (w.held ++ more) passed → S (b ++ more) passed) → Looks left looks w0 w' S
+  looks_then w0 w w' P Q S first reads then_ joins = λ look is.
+      elim (then_ look is) [
+        | inl before ↦ first look before
+        | inr at ↦
+            inr
+            (record {
+              got = reads.got ++ at.got;
+              told = reads.told ∙ ap (front reads.got) at.told ∙ front_twice look.left reads.got at.got;
+              are = subst (λ (b : List ℕ). S b look.passed) (append_assoc w0.held reads.got at.got) (joins (w0.held ++ reads.got) at.got look.passed reads.are at.are);
+            })
+      ]
+
+  -- one more began where a part of a head is held
+  pub head_looks : (w0 w w' : WireView R) (passed : Option (List ℕ)) → Looks left looks w0 w (Beside passed IsAwaited) → Gets (left w0.source) (left w.source) w0.held w.held → IsAwaited w.held
+      → Looks left looks w w' (Beside passed (λ b. b ≡ w.held)) → Looks left looks w0 w' (Beside passed IsAwaited)
+  head_looks w0 w w' passed first gets waits then_ =
+      looks_then w0 w w' (λ b. b ≡ w.held) (Beside passed (λ b. b ≡ w.held)) (Beside passed IsAwaited) first (reads_of left w0 w w.held (λ b. b ≡ w.held) gets refl) then_ (λ b more passed' is looked.
+      (subst IsAwaited (sym (ap (λ x. x ++ more) is ∙ looked.0)) waits, looked.1))
+
+  -- one more began behind a part of a body, where nothing is held
+  pub body_looks : (w0 w w' : WireView R) (passed : Option (List ℕ)) (body : List ℕ) (size : ℕ) → Looks left looks w0 w (Beside passed (λ b. length b < size)) → Reads left w0 w (λ b. b ≡ body ++ w.held)
+      → length body < size → Looks left looks w w' (Beside passed (λ b. b ≡ [])) → Looks left looks w0 w' (Beside passed (λ b. length b < size))
+  body_looks w0 w w' passed body size first reads below then_ =
+      looks_then w0 w w' (λ b. b ≡ body ++ w.held) (Beside passed (λ b. b ≡ [])) (Beside passed (λ b. length b < size)) first reads then_ (λ b more passed' is looked.
+      let all : length (b ++ more) ≡ length body = ap length (ap (λ x. x ++ more) is ∙ append_assoc body w.held more ∙ ap (λ x. body ++ x) looked.0 ∙ append-nil body) in
+      (omega (arith, all, below), looked.1))

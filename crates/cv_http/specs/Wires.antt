@@ -1,7 +1,7 @@
 -- What is still to be read, and what was read.
-use Rattle.std.specs.Prelude.{◌≡◌, ◌<◌, ◌++◌, ℕ, List, [], length, Option, Result, Ok, Err}
+use Rattle.std.specs.Prelude.{◌≡◌, ◌<◌, ◌++◌, ◌⊎◌, ℕ, List, [], length, Option, Result, Ok, Err}
 use Rattle.std.specs.declared.option.Option.TheVariants.{Some, None}
-use Rattle.cv_ports.specs.Streams.{front}
+use Rattle.cv_ports.specs.Streams.{Look, front}
 use Rattle.cv_http.specs.Heads.{Begins, Refused, IsAwaited, IsCut}
 use Rattle.cv_http.specs.declared.head.RequestHead.{RequestHead}
 use Rattle.cv_http.specs.declared.fault.HttpFault.{HttpFault}
@@ -27,6 +27,21 @@ pub record Reads {R : Type 0} (left : R → Option (List ℕ)) (wire wire' : Wir
   pub got : List ℕ
   pub told : left wire.source ≡ front got (left wire'.source)
   pub are : Are (wire.held ++ got)
+
+-- a read of the source began when so much had been got of it, and with what was held before and what the sink beside it had passed
+-- on, that is so
+pub record LookedAt (left : Option (List ℕ)) (held : List ℕ) (Are : List ℕ → Option (List ℕ) → Type 0) (look : Look) : Type 0 where
+  pub got : List ℕ
+  pub told : left ≡ front got look.left
+  pub are : Are (held ++ got) look.passed
+
+-- each read of the source that began meanwhile did so when the bytes read and what the sink had passed on were so
+abbrev pub Looks : {R : Type 0} → (R → Option (List ℕ)) → (R → Look → Type 0) → WireView R → WireView R → (List ℕ → Option (List ℕ) → Type 0) → Type 0
+Looks left looks wire wire' Are = (look : Look) → looks wire'.source look → looks wire.source look ⊎ LookedAt (left wire.source) wire.held Are look
+
+-- such bytes were read when this had been passed on
+abbrev pub Beside : Option (List ℕ) → (List ℕ → Type 0) → List ℕ → Option (List ℕ) → Type 0
+Beside passed Are b passed' = Are b × (passed' ≡ passed)
 
 -- the bytes are refused by this fault, or memory was wanted, and all are still held
 abbrev pub HeadLost : List ℕ → List ℕ → HttpFault → Type 0

@@ -3,7 +3,7 @@
 //! The functions do nothing. Their contracts hold of all bytes.
 ghost use Rattle.std.specs.Prelude.{◌≡◌, ◌≤◌, ◌⊎◌, ℕ, List, [], length};
 ghost use Rattle.httparse.specs.Grammar.{EndsInTarget};
-ghost use Rattle.cv_http.specs.Heads.{head_limit, window, Begins, Refused, IsCut};
+ghost use Rattle.cv_http.specs.Heads.{head_limit, window, Begins, Never, Refused, IsCut};
 ghost use Rattle.cv_http.specs.declared.head.RequestHead.{RequestHead};
 ghost use Rattle.cv_http.specs.declared.fault.HttpFault.{HttpFault};
 ghost use Rattle.cv_http.specs.declared.fault.HttpFault.TheVariants.{BadHead};
@@ -20,12 +20,13 @@ pub fn head_or_fault()
 {}
 
 /// Bytes are refused by at most one fault, and bytes that are refused aren't cut inside a head. One case is open: the
-/// first 16,384 bytes, or all, end inside a target. Where that target can't become UTF-8 any more, the bytes may be
-/// refused as no head, since nothing completes them, or be too long or cut, since a target is judged at its end.
+/// first 16,384 bytes, or all, end inside a target that can't become UTF-8 any more. They may be refused as no head,
+/// since nothing completes them, or be too long or cut, since a target is judged at its end.
 pub fn one_fault()
     ensures refused { (b : List ℕ) (fault fault' : HttpFault) → Refused b fault → Refused b fault'
-        → (fault ≡ fault') ⊎ ((head_limit ≤ length b) × EndsInTarget (window b)) }
-    ensures cut { (b : List ℕ) (fault : HttpFault) → Refused b fault → IsCut b → (fault ≡ BadHead) × EndsInTarget (window b) }
+        → (fault ≡ fault') ⊎ ((head_limit ≤ length b) × Never b × EndsInTarget (window b)) }
+    ensures cut { (b : List ℕ) (fault : HttpFault) → Refused b fault → IsCut b
+        → (fault ≡ BadHead) × Never b × EndsInTarget (window b) }
 {}
 
 /// Input without bytes has no head, and isn't refused.

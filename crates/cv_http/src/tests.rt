@@ -5,7 +5,7 @@ use crate::fault::HttpFault;
 use crate::method::Method;
 use crate::reply::{write_continue, write_reply};
 use crate::wire::Wire;
-use cv_base::Text;
+use cv_base::{NoMemory, Text};
 use cv_ports::{MemorySink, MemorySource};
 use std::alloc::{AllocError, Global};
 use std::test::Fail;
@@ -16,8 +16,17 @@ fn wire_of(alloc: Global, input: &[u8]) -> Result<Wire<MemorySource>, AllocError
     Ok(Wire::new(alloc, MemorySource::new(bytes, 7, Vec::new(alloc))))
 }
 
+/// A sink to which nothing is written.
+fn silent_sink(alloc: Global) -> Result<MemorySink, AllocError> {
+    match MemorySink::new(alloc, 0, Vec::new(alloc)) {
+        Ok(sink) => Ok(sink),
+        Err(NoMemory) => Err(AllocError),
+    }
+}
+
 fn fault_of(alloc: Global, input: &[u8]) -> Result<Option<HttpFault>, AllocError> {
-    Ok(wire_of(alloc, input)?.read_head(alloc).err())
+    let beside = silent_sink(alloc)?;
+    Ok(wire_of(alloc, input)?.read_head(alloc, &beside).err())
 }
 
 /// A head of so many bytes, the most of them in its target.
@@ -125,17 +134,24 @@ fn reads_requests_one_after_another(rt: HostRuntime) -> Result<(), Fail> {
     let alloc = rt.alloc();
     let input =
         b"\r\nPOST /api/v1/leases HTTP/1.1\r\nhost: x\r\nContent-Length: 003\r\n\r\nabcDELETE / HTTP/1.0\n\nab";
+    let beside = silent_sink(alloc)?;
     let mut wire = wire_of(alloc, input)?;
-    let head = wire.read_head(alloc)?.ok_or("no head")?;
+    let head = wire.read_head(alloc, &beside)?.ok_or("no head")?;
     assert_eq!(rt; head.method, Method::Post);
     assert_eq!(rt; head.target.as_str(), "/api/v1/leases");
     assert_eq!(rt; head.length, Some(3));
     assert_eq!(rt; (head.expects, head.last), (false, false));
-    assert_eq!(rt; wire.read_body(alloc, 3)?.as_slice(), b"abc".as_slice());
-    let head = wire.read_head(alloc)?.ok_or("no head")?;
+    assert_eq!(rt;
+        wire.read_body(alloc, 3, &beside)?.as_slice(),
+        b"abc".as_slice()
+    );
+    let head = wire.read_head(alloc, &beside)?.ok_or("no head")?;
     assert_eq!(rt; head.method, Method::Delete);
     assert_eq!(rt; (head.length, head.last), (None, true));
-    assert_eq!(rt; wire.read_body(alloc, 3).err(), Some(HttpFault::Short));
+    assert_eq!(rt;
+        wire.read_body(alloc, 3, &beside).err(),
+        Some(HttpFault::Short)
+    );
     Ok(())
 }
 
@@ -144,12 +160,13 @@ fn reads_the_fields_of_a_head(rt: HostRuntime) -> Result<(), Fail> {
     let alloc = rt.alloc();
     let input =
         b"GET /a HTTP/1.1\r\nHost: x\r\nExpect: 100-Continue\r\nConnection: keep-alive ,\tCLOSE\r\nAuthorization:  key s \r\nMessage-Size: 1\r\nmessage-size: 1\r\n\r\n";
+    let beside = silent_sink(alloc)?;
     let mut wire = wire_of(alloc, input)?;
-    let head = wire.read_head(alloc)?.ok_or("no head")?;
+    let head = wire.read_head(alloc, &beside)?.ok_or("no head")?;
     assert_eq!(rt; (head.expects, head.last), (true, true));
     assert_eq!(rt; text_in(&head.authorization).unwrap_or("none"), "key s");
     assert_eq!(rt; text_in(&head.message_size).unwrap_or("none"), "");
-    assert_eq!(rt; wire.read_head(alloc)?.is_none(), true);
+    assert_eq!(rt; wire.read_head(alloc, &beside)?.is_none(), true);
     Ok(())
 }
 

@@ -1,11 +1,11 @@
 //! Requests on a stream.
-ghost use Rattle.std.specs.Prelude.{◌≡◌, ◌≢◌, ◌≤◌, ◌<◌, ◌+◌, ◌++◌, ℕ, List, Some, None, Ok, Err, [], length, drop, true, false, min, OnOk, OnErr, IfOk, IfSome, IfErr};
+ghost use Rattle.std.specs.Prelude.{◌≡◌, ◌≢◌, ◌≤◌, ◌<◌, ◌+◌, ◌++◌, ◌⊎◌, ℕ, List, Some, None, Ok, Err, [], length, drop, true, false, min, OnOk, OnErr, IfOk, IfSome, IfErr};
 ghost use Rattle.cv_base.specs.Counts.{HasCause};
 ghost use Rattle.cv_base.specs.Told.{WhereTold};
-ghost use Rattle.cv_ports.specs.Streams.{front};
+ghost use Rattle.cv_ports.specs.Streams.{Look, front};
 ghost use Rattle.cv_http.specs.Heads.{IsAwaited, Unfinished};
 ghost use Rattle.cv_http.specs.HeadEnds.{NoneWithin, may_end};
-ghost use Rattle.cv_http.specs.Wires.{WireView, rest, Gets, Reads, HeadFound, HeadRead, BodyRead, PieceRead};
+ghost use Rattle.cv_http.specs.Wires.{WireView, rest, Gets, Reads, Looks, Beside, HeadFound, HeadRead, BodyRead, PieceRead};
 ghost use Rattle.cv_http.specs.Judgements.{Judges};
 ghost use Rattle.cv_http.specs.Faults.{IsHeadFault, IsBodyFault, IsPieceFault};
 ghost use Rattle.cv_http.specs.declared.fault.HttpFault.TheVariants.{Short, ReadFault, NoMemory as MemoryFault};
@@ -15,7 +15,7 @@ use crate::head::RequestHead;
 use crate::head_end::has_empty_line;
 use crate::judge::{HEAD_LIMIT, Judged, judge};
 use cv_base::{Bytes, NoMemory};
-use cv_ports::Source;
+use cv_ports::{Sink, Source};
 use httparse::spans::{EMPTY_HEADER_SPAN, HeaderSpan};
 use std::alloc::Global;
 use std::marker::Model;
@@ -48,12 +48,13 @@ impl<R: Source + Drop> Model for Wire<R> {
     ghost invariant = { λ w. w.used ≤ vec_len w.held };
 }
 
-/// Reads a piece to the end of what is held. `false` is the end of the source.
+/// Reads a piece to the end of what is held, beside a sink. `false` is the end of the source.
 #[tactic(auto, using(crate::proofs::Streams::reads_on, crate::proofs::Streams::gets_none))]
-fn read_piece<R: Source>(
+fn read_piece<R: Source, W: Sink>(
     source: &mut R,
     piece: &mut [u8],
     held: &mut Vec<u8>,
+    beside: &W,
 ) -> Result<bool, HttpFault>
     requires { 0 < length piece.old }
     ensures stream { front held.new.items (R.left source.new) ≡ front held.old.items (R.left source.old) }
@@ -63,11 +64,13 @@ fn read_piece<R: Source>(
     ensures end { result ≡ Ok false → (held.new.items ≡ held.old.items) × WhereTold (R.left source.new) (λ left. left ≡ []) }
     ensures faults { IfErr result IsPieceFault }
     ensures cause { HasCause (R.faults source.old) (R.faults source.new) (result ≡ Err ReadFault) }
+    ensures looks { (look : Look) → R.looks source.new look
+        → R.looks source.old look ⊎ (look ≡ record { left = R.left source.old; passed = W.passed beside.now }) }
 {
     if held.reserve(piece.len()).is_err() {
         return Err(HttpFault::NoMemory);
     }
-    let Ok(count) = source.read(piece) else {
+    let Ok(count) = source.read(piece, beside) else {
         return Err(HttpFault::ReadFault);
     };
     if held.extend_from_slice(&piece[..count]).is_err() {
@@ -122,9 +125,9 @@ impl<R: Source + Drop> Wire<R> {
         self.used += count;
     }
 
-    /// Reads more of the source. `false` is its end.
+    /// Reads more of the source, beside a sink. `false` is its end.
     #[tactic(auto, using(crate::proofs::Streams::gets_same))]
-    fn fill(&mut self) -> Result<bool, HttpFault>
+    fn fill<W: Sink>(&mut self, beside: &W) -> Result<bool, HttpFault>
         ensures stream { rest R.left self.new ≡ rest R.left self.old }
         ensures gets { Gets (R.left self.old.source) (R.left self.new.source) self.old.held self.new.held }
         ensures more { result ≡ Ok true → length self.old.held < length self.new.held }
@@ -132,13 +135,19 @@ impl<R: Source + Drop> Wire<R> {
         ensures end { result ≡ Ok false → (self.new.held ≡ self.old.held) × WhereTold (R.left self.new.source) (λ left. left ≡ []) }
         ensures faults { IfErr result IsPieceFault }
         ensures cause { HasCause (R.faults self.old.source) (R.faults self.new.source) (result ≡ Err ReadFault) }
+        ensures looks { Looks R.left R.looks self.old self.new (Beside (W.passed beside.now) (λ b. b ≡ self.old.held)) }
     {
         self.held.drain(..self.used);
         self.used = 0;
         if self.piece.resize(PIECE, 0).is_err() {
             return Err(HttpFault::NoMemory);
         }
-        read_piece(&mut self.source, self.piece.as_mut_slice(), &mut self.held)
+        read_piece(
+            &mut self.source,
+            self.piece.as_mut_slice(),
+            &mut self.held,
+            beside,
+        )
     }
 
     /// Judges what is held.
@@ -214,12 +223,17 @@ impl<R: Source + Drop> Wire<R> {
     /// head is answered before more is read: where the source fails, none is there. Bytes that begin no head are refused
     /// once an empty line ends in them, they fill the room for a head, or the input ends. A fault takes nothing of what is
     /// left.
-    pub fn read_head(&mut self, alloc: Global) -> Result<Option<RequestHead>, HttpFault>
+    pub fn read_head<W: Sink>(
+        &mut self,
+        alloc: Global,
+        beside: &W,
+    ) -> Result<Option<RequestHead>, HttpFault>
         ensures reads { Reads R.left self.old self.new (λ b. HeadRead b self.new.held result) }
         ensures nothing_left { result ≡ Ok None → WhereTold (rest R.left self.new) (λ b. b ≡ []) }
         ensures cut { result ≡ Err Short → WhereTold (R.left self.new.source) (λ left. left ≡ []) }
         ensures faults { IfErr result IsHeadFault }
         ensures cause { HasCause (R.faults self.old.source) (R.faults self.new.source) (result ≡ Err ReadFault) }
+        ensures looks { Looks R.left R.looks self.old self.new (Beside (W.passed beside.now) IsAwaited) }
     {
         let mut seen = 0;
         'pieces: loop {
@@ -227,14 +241,14 @@ impl<R: Source + Drop> Wire<R> {
                 return Ok(Some(head));
             }
             seen = self.bytes().len();
-            if !self.fill()? {
+            if !self.fill(beside)? {
                 return self.end_head(alloc);
             }
         }
     }
 
     /// Holds a byte at least, unless the source is at its end.
-    fn has_some(&mut self) -> Result<bool, HttpFault>
+    fn has_some<W: Sink>(&mut self, beside: &W) -> Result<bool, HttpFault>
         ensures stream { rest R.left self.new ≡ rest R.left self.old }
         ensures gets { Gets (R.left self.old.source) (R.left self.new.source) self.old.held self.new.held }
         ensures some { result ≡ Ok true → 0 < length self.new.held }
@@ -242,11 +256,12 @@ impl<R: Source + Drop> Wire<R> {
         ensures lost { OnErr result ((self.old.held ≡ []) × (self.new.held ≡ [])) }
         ensures faults { IfErr result IsPieceFault }
         ensures cause { HasCause (R.faults self.old.source) (R.faults self.new.source) (result ≡ Err ReadFault) }
+        ensures looks { Looks R.left R.looks self.old self.new (Beside (W.passed beside.now) (λ b. b ≡ [])) }
     {
         if !self.bytes().is_empty() {
             return Ok(true);
         }
-        self.fill()
+        self.fill(beside)
     }
 
     /// Moves what is held to a body, so many bytes at most.
@@ -264,7 +279,12 @@ impl<R: Source + Drop> Wire<R> {
     }
 
     /// Reads the next bytes, `left` and 65,536 of them at most, and one at least.
-    pub fn read_some(&mut self, alloc: Global, left: u64) -> Result<Bytes, HttpFault>
+    pub fn read_some<W: Sink>(
+        &mut self,
+        alloc: Global,
+        left: u64,
+        beside: &W,
+    ) -> Result<Bytes, HttpFault>
         requires { 0 < left }
         ensures reads { Reads R.left self.old self.new (λ b. PieceRead b self.new.held result) }
         ensures some { IfOk result (λ piece. 0 < length piece) }
@@ -272,8 +292,9 @@ impl<R: Source + Drop> Wire<R> {
         ensures cut { result ≡ Err Short → WhereTold (R.left self.new.source) (λ left. left ≡ []) }
         ensures faults { IfErr result IsBodyFault }
         ensures cause { HasCause (R.faults self.old.source) (R.faults self.new.source) (result ≡ Err ReadFault) }
+        ensures looks { Looks R.left R.looks self.old self.new (Beside (W.passed beside.now) (λ b. b ≡ [])) }
     {
-        if !self.has_some()? {
+        if !self.has_some(beside)? {
             return Err(HttpFault::Short);
         }
         let most = left.min(PIECE as u64) as usize;
@@ -286,7 +307,12 @@ impl<R: Source + Drop> Wire<R> {
 
     /// Reads the next `size` bytes. The memory that is taken grows with what has come, not with `size`. After a fault a
     /// part of the bytes may be lost.
-    pub fn read_body(&mut self, alloc: Global, size: u64) -> Result<Bytes, HttpFault>
+    pub fn read_body<W: Sink>(
+        &mut self,
+        alloc: Global,
+        size: u64,
+        beside: &W,
+    ) -> Result<Bytes, HttpFault>
         ensures reads { Reads R.left self.old self.new (λ b. BodyRead size (λ text body. body ≡ text) b self.new.held result) }
         ensures whole { IfOk result (λ body. length body ≡ size) }
         ensures body { IfOk result (λ body. front body (rest R.left self.new) ≡ rest R.left self.old) }
@@ -294,11 +320,12 @@ impl<R: Source + Drop> Wire<R> {
         ensures cut { result ≡ Err Short → WhereTold (R.left self.new.source) (λ left. left ≡ []) }
         ensures faults { IfErr result IsBodyFault }
         ensures cause { HasCause (R.faults self.old.source) (R.faults self.new.source) (result ≡ Err ReadFault) }
+        ensures looks { Looks R.left R.looks self.old self.new (Beside (W.passed beside.now) (λ b. length b < size)) }
     {
         let size = size as usize;
         let mut body = Vec::new(alloc);
         'parts: while body.len() < size {
-            if !self.has_some()? {
+            if !self.has_some(beside)? {
                 return Err(HttpFault::Short);
             }
             let most = size - body.len();

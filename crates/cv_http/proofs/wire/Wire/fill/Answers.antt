@@ -1,6 +1,6 @@
-use Rattle.std.proofs.Common.{rules, ◌≡◌, ◌∙◌, List, ℕ, drop, ap, sym, refl}
+use Rattle.std.proofs.Common.{rules, ◌≡◌, ◌∙◌, List, [], ℕ, drop, ap, sym, refl}
 use Rattle.cv_http.specs.Wires.{WireView, Gets}
-use Rattle.cv_http.proofs.Streams.{gets_same}
+use Rattle.cv_http.proofs.Streams.{gets_same, looks_one}
 use Rattle.cv_http.proofs.wire.Wire.fill.Goals as goal
 
 pub returns-then-is_err-clause-gets : goal.returns-then-is_err-clause-gets
@@ -8,3 +8,9 @@ returns-then-is_err-clause-gets g c =
     let same : c.drop-drain.new.self.0.items ≡ c.args.self.now.held = search (rules, c.drop-drain.ensures.items, c.self.view_is) in
     let source : c.args.self.now.source ≡ c.self.inside.source = search (rules, c.self.view_is) in
     rw (← source) (gets_same (g.R.Source.left c.args.self.now.source) c.args.self.now.held c.drop-drain.new.self.0.items same)
+
+pub returns-clause-looks : goal.returns-clause-looks
+returns-clause-looks g c =
+    let source : c.args.self.now.source ≡ c.self.inside.source = search (rules, c.self.view_is) in
+    looks_one g.R.Source.left g.R.Source.looks c.args.self.now (record { source = c.read_piece.new.source; held = [] }) (g.W.Sink.passed c.args.beside.now)
+    (rw source c.read_piece.ensures.looks)

@@ -1,7 +1,7 @@
 use Rattle.std.proofs.Common.{rules, ◌≡◌, ◌≤◌, ◌++◌, ◌∙◌, length, append-nil, ap, refl, arith, vec_len}
 use Rattle.cv_ports.specs.Streams.{front}
 use Rattle.cv_http.specs.Wires.{rest, Reads, BodyRead}
-use Rattle.cv_http.proofs.Streams.{body_on, reads_as, reads_lost, by_fault, body_unread}
+use Rattle.cv_http.proofs.Streams.{body_on, reads_as, reads_lost, by_fault, body_unread, looks_still, body_looks}
 use Rattle.cv_http.proofs.wire.Wire.read_body.Goals as goal
 
 pub returns-in_err-has_some-clause-reads : goal.returns-in_err-has_some-clause-reads
@@ -24,6 +24,10 @@ parts-preserved g c =
     record {
       stream = search rules;
       reads = body_on g.R.Source.left c.args.self.now c.parts.self c.has_some.new.self c.take_part.new.self c.parts.body.items c.take_part.new.body.items c.parts.invariant.reads c.has_some.ensures.gets c.take_part.ensures.source parts;
+      looks =
+          looks_still g.R.Source.left g.R.Source.looks c.args.self.now c.has_some.new.self c.take_part.new.self _
+          (body_looks g.R.Source.left g.R.Source.looks c.args.self.now c.parts.self c.has_some.new.self _ c.parts.body.items c.args.size c.parts.invariant.looks c.parts.invariant.reads (search rules) c.has_some.ensures.looks)
+          c.take_part.ensures.source;
       within = search rules;
       later = search rules;
     }

@@ -5,12 +5,13 @@ use Rattle.cv_http.specs.Wires.{Reads, HeadRead, Gets}
 use Rattle.cv_http.specs.Faults.{IsHeadFault}
 use Rattle.cv_http.specs.declared.fault.HttpFault.TheVariants.{Short, ReadFault}
 use Rattle.cv_http.proofs.HeadEnds.{none_yet, none_at_all, none_on}
-use Rattle.cv_http.proofs.Streams.{gets_none, gets_on, reads_of, read_lost, found_none, by_fault}
+use Rattle.cv_http.proofs.Streams.{gets_none, gets_on, reads_of, read_lost, found_none, by_fault, looks_none, looks_still, head_looks}
 use Rattle.cv_http.proofs.wire.Wire.read_head.Goals as goal
 
 pub pieces-init : goal.pieces-init
 pieces-init g c = record {
   gets = gets_none (g.R.Source.left c.args.self.now.source) c.args.self.now.held;
+  looks = looks_none g.R.Source.left g.R.Source.looks c.args.self.now c.args.self.now _ refl;
   within = omega arith;
   none = none_yet c.args.self.now.held;
   later = omega arith;
@@ -52,6 +53,9 @@ pieces-preserved g c =
     let grown = ap length c.fill.ensures.gets.more ∙ length-append c.seek_head.new.self.held c.fill.ensures.gets.got in
     record {
       gets = gets_on gets c.fill.ensures.gets;
+      looks =
+          head_looks g.R.Source.left g.R.Source.looks c.args.self.now c.seek_head.new.self c.fill.new.self _
+          (looks_still g.R.Source.left g.R.Source.looks c.args.self.now c.pieces.self c.seek_head.new.self _ c.pieces.invariant.looks c.seek_head.ensures.source) gets waits c.fill.ensures.looks;
       within = omega (arith, seen, grown);
       none = none_on (length c.bytes-seen.result.now) c.seek_head.new.self.held c.fill.new.self.held c.fill.ensures.gets.got c.fill.ensures.gets.more (omega (arith, seen)) (none_at_all (length c.bytes-seen.result.now) waits.none);
       later = omega (arith, was, read);
