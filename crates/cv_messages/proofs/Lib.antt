@@ -1,3 +1,6 @@
-pub mod Spellings
+pub mod Laws
+mod Spellings
 mod MemberReads
 mod PayloadAsks
+mod CommitAsks
+mod Written

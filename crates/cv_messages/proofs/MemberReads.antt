@@ -1,15 +1,13 @@
 -- What a member says that is a text.
 use Rattle.std.proofs.Common.{◌≡◌, ◌<◌, ◌^◌, ℕ, List, Option, Some, None, Ok, Err, refl}
 use Rattle.serde_json.specs.Data.{Data}
-use Rattle.hex.specs.Hex.{encode_lower}
-use Rattle.cv_base.specs.Digest.{IsDigest}
 use Rattle.cv_base.specs.Token.{token_text}
 use Rattle.cv_base.specs.declared.token.Token.{Token}
 use Rattle.cv_messages.specs.Spelling.{IsToken}
-use Rattle.cv_messages.specs.Member.{text_member, token_member, digest_member}
+use Rattle.cv_messages.specs.Member.{text_member, token_member}
 use Rattle.cv_messages.specs.declared.member.Member.{Member}
 use Rattle.cv_messages.specs.declared.message_fault.MessageFault.TheVariants.{BadValue}
-use Rattle.cv_messages.proofs.Spellings.{token_of-token_text, token_of-None, digest_of-encode_lower, digest_of-None}
+use Rattle.cv_messages.proofs.Spellings.{token_of-token_text, token_of-None}
 
 pub token_member-Ok : (name : Member) (value : Option Data) (text : List ℕ) (token : Token) → text_member name value ≡ Ok text → IsToken token → text ≡ token_text token
     → Ok token ≡ token_member name value
@@ -19,12 +17,3 @@ pub token_member-Err : (name : Member) (value : Option Data) (text : List ℕ) �
     → ((token : Token) → token.epoch < 2 ^ 64 → token.number < 2 ^ 64 → text ≡ token_text token → None ≡ Some token) → Err (BadValue name) ≡ token_member name value
 token_member-Err name value text is found =
     rw (is, token_of-None text (λ token whole spelt. let never = found token whole.epoch whole.number spelt in cc (never))) refl
-
-pub digest_member-Ok : (name : Member) (value : Option Data) (text hash : List ℕ) → text_member name value ≡ Ok text → IsDigest hash → text ≡ encode_lower hash
-    → Ok hash ≡ digest_member name value
-digest_member-Ok name value text hash is whole spelt = rw (is, spelt, digest_of-encode_lower hash whole) refl
-
-pub digest_member-Err : (name : Member) (value : Option Data) (text : List ℕ) → text_member name value ≡ Ok text
-    → ((hash : List ℕ) → IsDigest hash → text ≡ encode_lower hash → None ≡ Some hash) → Err (BadValue name) ≡ digest_member name value
-digest_member-Err name value text is found =
-    rw (is, digest_of-None text (λ hash whole spelt. let never = found hash whole spelt in cc (never))) refl

@@ -113,7 +113,7 @@ pub digest_of-encode_lower : (hash : List ℕ) → IsDigest hash → digest_of (
 digest_of-encode_lower hash is = rw (decode_sized-encode_lower hash 20 is.size is.bytes, same_bytes (encode_lower hash)) refl
 
 -- and a text says no digest but that
-digest_of-Some : (text hash : List ℕ) → digest_of text ≡ Some hash → IsDigest hash × (text ≡ encode_lower hash)
+pub digest_of-Some : (text hash : List ℕ) → digest_of text ≡ Some hash → IsDigest hash × (text ≡ encode_lower hash)
 digest_of-Some text hash h = by (decode_sized text 20) refl h
   where
     by : (r : Result (List ℕ) FromHexError) → decode_sized text 20 ≡ r

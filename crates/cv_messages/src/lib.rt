@@ -1,6 +1,7 @@
 //! The JSON messages that ask something of the gateway, and the members that messages and answers share.
 #![tactic(auto)]
 
+mod commit_ask;
 mod lease_ask;
 mod member;
 mod members;
@@ -10,6 +11,7 @@ mod spelled_members;
 #[cfg(test)]
 mod tests;
 
+pub use commit_ask::CommitAsk;
 pub use lease_ask::LeaseAsk;
 pub use member::Member;
 pub use members::{

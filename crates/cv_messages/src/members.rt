@@ -3,7 +3,7 @@ ghost use Rattle.std.specs.Prelude.{◌≡◌, Ok, Err, MatchResult};
 ghost use Rattle.serde_json.specs.Find.{get};
 ghost use Rattle.serde_json.specs.View.{view};
 ghost use Rattle.cv_messages.specs.Member.{text_member, number_member, size_member, token_member, digest_member};
-ghost use Rattle.cv_messages.specs.Spelling.{decimal_of};
+ghost use Rattle.cv_messages.specs.Spelling.{decimal_of, digest_of};
 
 use crate::member::Member;
 use crate::message_fault::MessageFault;
@@ -81,13 +81,20 @@ pub fn token_member(value: &Value, key: &str, name: Member) -> Result<Token, Mes
     }
 }
 
+/// The digest that bytes are the digits of.
+pub(crate) fn digest_in(digits: &[u8]) -> Option<[u8; 20]>
+    ensures { result ≡ digest_of digits.now }
+{
+    match read_digest(digits) {
+        Some(hash) => Some(hash),
+        None => None,
+    }
+}
+
 /// The digest of a member.
 pub fn digest_member(value: &Value, key: &str, name: Member) -> Result<[u8; 20], MessageFault>
     ensures { result ≡ digest_member name (get key.now (view value.now)) }
 {
     let text = text_member(value, key, name)?;
-    match read_digest(text.as_bytes()) {
-        Some(hash) => Ok(hash),
-        None => Err(MessageFault::BadValue(name)),
-    }
+    digest_in(text.as_bytes()).ok_or(MessageFault::BadValue(name))
 }

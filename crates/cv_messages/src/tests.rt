@@ -1,6 +1,6 @@
 //! What the contracts can't say: values from outside, and that calls find memory.
 
-use crate::{LeaseAsk, Member, MessageFault, PayloadAsk};
+use crate::{CommitAsk, LeaseAsk, Member, MessageFault, PayloadAsk};
 use std::alloc::Global;
 use std::test::Fail;
 
@@ -94,5 +94,76 @@ fn a_payload_message_is_read_and_written(rt: HostRuntime) -> Result<(), Fail> {
     let ask = PayloadAsk::read(rt.alloc(), PAYLOAD.as_bytes())?;
     let bytes = ask.write(rt.alloc())?;
     assert_eq!(rt; bytes.as_slice(), PAYLOAD.as_bytes());
+    Ok(())
+}
+
+/// Texts that are no message of a commit, and the first fault of each.
+static COMMIT_FAULTS: [(&str, MessageFault); 10] = [
+    (r#"[]"#, MessageFault::NotJson),
+    (
+        r#"{"new_root_hash":1}"#,
+        MessageFault::Missing(Member::OldRoot),
+    ),
+    (
+        r#"{"old_root_hash":null,"new_root_hash":1}"#,
+        MessageFault::WrongType(Member::OldRoot),
+    ),
+    (
+        r#"{"old_root_hash":"307aac20fe5391faacd0ea38f9589fb797a3685cH"}"#,
+        MessageFault::BadValue(Member::OldRoot),
+    ),
+    (
+        r#"{"old_root_hash":"07aac20fe5391faacd0ea38f9589fb797a3685cC"}"#,
+        MessageFault::BadValue(Member::OldRoot),
+    ),
+    (
+        r#"{"old_root_hash":"307aac20fe5391faacd0ea38f9589fb797a3685c","tag_name":1}"#,
+        MessageFault::Missing(Member::NewRoot),
+    ),
+    (
+        r#"{"old_root_hash":"307aac20fe5391faacd0ea38f9589fb797a3685c","new_root_hash":"c461d32667895d085fa62849e32f450269470f8fCC"}"#,
+        MessageFault::BadValue(Member::NewRoot),
+    ),
+    (
+        r#"{"old_root_hash":"307aac20fe5391faacd0ea38f9589fb797a3685c","new_root_hash":"c461d32667895d085fa62849e32f450269470f8f","tag_name":null}"#,
+        MessageFault::WrongType(Member::Tag),
+    ),
+    (
+        r#"{"old_root_hash":"307aac20fe5391faacd0ea38f9589fb797a3685c","new_root_hash":"c461d32667895d085fa62849e32f450269470f8f","tag_name":"\u001f"}"#,
+        MessageFault::BadValue(Member::Tag),
+    ),
+    (
+        r#"{"old_root_hash":"307aac20fe5391faacd0ea38f9589fb797a3685c","new_root_hash":"c461d32667895d085fa62849e32f450269470f8f","tag_name":"tttttttttttttttttttttttttttttttttttttttttttttttttttttttttttttttttttttttttttttttttttttttttttttttttttttttttttttttttttttttttttttttttttttttttttttttttttttttttttttttttttttttttttttttttttttttttttttttttttttttttttttttttttttttttttttttttttttttttttttttttttttttttttttttt"}"#,
+        MessageFault::BadValue(Member::Tag),
+    ),
+];
+
+#[test]
+fn a_commit_message_has_its_first_fault(rt: HostRuntime) {
+    for (text, fault) in &COMMIT_FAULTS {
+        let found = CommitAsk::read(rt.alloc(), text.as_bytes()).err();
+        assert_eq!(rt; found, Some(*fault), "{text}");
+    }
+}
+
+/// Messages of a commit by Python's `json`, and how each is written.
+static COMMITS: [(&str, &str); 2] = [
+    (
+        r#"{"new_root_hash":"c461d32667895d085fa62849e32f450269470f8f","old_root_hash":"307aac20fe5391faacd0ea38f9589fb797a3685c","tag_name":"v1 é"}"#,
+        r#"{"new_root_hash":"c461d32667895d085fa62849e32f450269470f8f","old_root_hash":"307aac20fe5391faacd0ea38f9589fb797a3685c","tag_name":"v1 é"}"#,
+    ),
+    (
+        r#"{"tag_description":"x","new_root_hash":"c461d32667895d085fa62849e32f450269470f8fC","old_root_hash":"307aac20fe5391faacd0ea38f9589fb797a3685cC"}"#,
+        r#"{"new_root_hash":"c461d32667895d085fa62849e32f450269470f8f","old_root_hash":"307aac20fe5391faacd0ea38f9589fb797a3685c","tag_name":""}"#,
+    ),
+];
+
+#[test]
+fn a_commit_message_is_read_and_written(rt: HostRuntime) -> Result<(), Fail> {
+    for (read, written) in &COMMITS {
+        let ask = CommitAsk::read(rt.alloc(), read.as_bytes())?;
+        let bytes = ask.write(rt.alloc())?;
+        assert_eq!(rt; bytes.as_slice(), written.as_bytes());
+    }
     Ok(())
 }

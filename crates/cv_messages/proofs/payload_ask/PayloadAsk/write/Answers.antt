@@ -1,13 +1,10 @@
-use Rattle.std.proofs.Common.{◌∙◌, ap, Result, Ok, Err}
-use Rattle.std.specs.Prelude.{IfOk, Some}
+use Rattle.std.proofs.Common.{◌∙◌, ap}
+use Rattle.std.specs.Prelude.{Some}
 use Rattle.serde_json.specs.Data.{Data}
 use Rattle.cv_messages.specs.PayloadAsk.{payload_ask_in}
 use Rattle.cv_messages.proofs.PayloadAsks.{payload_back}
+use Rattle.cv_messages.proofs.Written.{IfOk-map}
 use Rattle.cv_messages.proofs.payload_ask.PayloadAsk.write.Goals as goal
-
-IfOk-map : {A E : Type 0} (r : Result A E) {P Q : A → Type 0} → ((x : A) → P x → Q x) → IfOk r P → IfOk r Q
-IfOk-map (Ok x) f h = f x h
-IfOk-map (Err e) f h = tt
 
 pub returns-clause-reads_back : goal.returns-clause-reads_back
 returns-clause-reads_back c =
