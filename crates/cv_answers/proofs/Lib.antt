@@ -1,4 +1,5 @@
 mod AnswerData
+mod Found
+mod Ids
 mod Lists
 mod ReadBack
-mod ReadAnswers

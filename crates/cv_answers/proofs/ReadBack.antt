@@ -1,6 +1,5 @@
 -- What is written of an answer says that answer.
-use Rattle.std.proofs.Common.{◌≡◌, ℕ, Bool, true, false, not, List, [], ◌∷◌, map, Option, Some, None, Ok, refl, ap, ◌∙◌}
-use Rattle.std.proofs.lemmas.Bool.{and_parts}
+use Rattle.std.proofs.Common.{◌≡◌, ℕ, true, List, [], ◌∷◌, map, Some, Ok, refl, ap, ◌∙◌}
 use Rattle.serde_json.specs.Data.{Data, string}
 use Rattle.cv_json.proofs.Elements.{elements-items_of}
 use Rattle.cv_base.specs.Digest.{IsDigest}
@@ -9,16 +8,19 @@ use Rattle.cv_json.specs.ObjectText.{object_in}
 use Rattle.cv_messages.specs.Spelling.{IsToken}
 use Rattle.cv_answers.specs.Answer.{granted_data, committed_data, lease_item_data, leases_data, repos_data, path_busy_data, answer_data}
 use Rattle.cv_messages.specs.MemberName.{member_name, member_of, is_named}
-use Rattle.cv_answers.specs.Refusal.{reason_text, reason_of, names_member, is_refusal, refusal_data}
+use Rattle.cv_answers.specs.Refusal.{reason_text, is_refusal, IsWholeRefusal, refusal_data, refusal_by}
 use Rattle.cv_answers.specs.AnswerText.{is_answer, IsWhole, each_of, lease_item_in, repo_in, answer_in, answer_in_object, answer_of}
 use Rattle.cv_answers.specs.declared.answer.Answer.{Answer}
 use Rattle.cv_answers.specs.declared.answer.Answer.TheVariants.{Granted, Done, Committed, Leases, Repos, PathBusy, Refused}
 use Rattle.cv_answers.specs.declared.lease_item.LeaseItem.{LeaseItem}
 use Rattle.cv_messages.specs.declared.member.Member.{Member}
-use Rattle.cv_messages.specs.declared.member.Member.TheVariants.{Path, OldRoot, NewRoot, Tag, SessionToken, Digest, HeaderSize, Status, Reason as TheReason, Other}
+use Rattle.cv_messages.specs.declared.member.Member.TheVariants.{Path as ThePath, OldRoot, NewRoot, Tag, SessionToken, Digest, HeaderSize, Status, Reason as TheReason, Other}
 use Rattle.cv_answers.specs.declared.reason.Reason.{Reason}
 use Rattle.cv_answers.specs.declared.reason.Reason.TheVariants as reason
-use Rattle.cv_messages.proofs.Spellings.{token_of-token_text, digest_of-encode_lower}
+use Rattle.cv_answers.specs.declared.refusal.Refusal.{Refusal}
+use Rattle.cv_answers.specs.declared.refusal.Refusal.TheVariants.{Plain, MissingMember, WrongType, BadValue, Collision, StaleBase, MissingObject, BadCatalogue, PathCollision, CatalogueFull, TagTaken, Damaged}
+use Rattle.cv_answers.proofs.Ids.{id_of-id_text}
+use Rattle.cv_messages.proofs.Laws.{token_of-token_text, digest_of-encode_lower}
 
 granted_back : (token : Token) (revision : ℕ) (root : List ℕ) → IsToken token → IsDigest root
     → answer_in (granted_data token revision root) ≡ Ok (Granted token revision root)
@@ -44,32 +46,30 @@ each_name (name ∷ names) = rw (each_name names) refl
 repos_back : (names : List (List ℕ)) → answer_in (repos_data names) ≡ Ok (Repos names)
 repos_back names = rw (elements-items_of (map string names), each_name names) refl
 
-reason_back : (why : Reason) → reason_of (reason_text why) ≡ Some why
-reason_back reason.BadPath = refl
-reason_back reason.TooManyLeases = refl
-reason_back reason.NoParent = refl
-reason_back reason.InvalidToken = refl
-reason_back reason.WrongKey = refl
-reason_back reason.JournalFull = refl
-reason_back reason.NoMemory = refl
-reason_back reason.NoAuthorization = refl
-reason_back reason.BadAuthorization = refl
-reason_back reason.UnknownKey = refl
-reason_back reason.WrongMac = refl
-reason_back reason.NotJson = refl
-reason_back reason.MissingMember = refl
-reason_back reason.WrongType = refl
-reason_back reason.BadValue = refl
-reason_back reason.UnknownRepository = refl
-reason_back reason.BadMessageSize = refl
-reason_back reason.BadDigest = refl
-reason_back reason.BadPack = refl
-reason_back reason.BadHeaderSize = refl
-reason_back reason.StoreFailed = refl
-reason_back reason.RevisionsFull = refl
+-- a reason that says all by itself is read, whatever the object has besides
+plain_back : (why : Reason) (d : Data) → refusal_by (reason_text why) d ≡ Ok (Plain why)
+plain_back reason.BadPath d = refl
+plain_back reason.TooManyLeases d = refl
+plain_back reason.NoParent d = refl
+plain_back reason.InvalidToken d = refl
+plain_back reason.WrongKey d = refl
+plain_back reason.JournalFull d = refl
+plain_back reason.NoMemory d = refl
+plain_back reason.NoAuthorization d = refl
+plain_back reason.BadAuthorization d = refl
+plain_back reason.UnknownKey d = refl
+plain_back reason.WrongMac d = refl
+plain_back reason.NotJson d = refl
+plain_back reason.UnknownRepository d = refl
+plain_back reason.BadMessageSize d = refl
+plain_back reason.BadDigest d = refl
+plain_back reason.BadPack d = refl
+plain_back reason.BadHeaderSize d = refl
+plain_back reason.StoreFailed d = refl
+plain_back reason.RevisionsFull d = refl
 
 member_back : (name : Member) → is_named name ≡ true → member_of (member_name name) ≡ Some name
-member_back Path h = refl
+member_back ThePath h = refl
 member_back OldRoot h = refl
 member_back NewRoot h = refl
 member_back Tag h = refl
@@ -80,22 +80,19 @@ member_back Status h = refl
 member_back TheReason h = refl
 member_back Other h = cc
 
-asks_none : (b : Bool) → not b ≡ true → b ≡ false
-asks_none true h = cc
-asks_none false h = refl
-
--- a refusal that names no member, and one that names this one
-bare_back : (why : Reason) → names_member why ≡ false → answer_in (refusal_data (record { reason = why; member = None })) ≡ Ok (Refused (record { reason = why; member = None }))
-bare_back why h = rw (reason_back why, h) refl
-
-named_back : (why : Reason) (name : Member) → names_member why ≡ true → member_of (member_name name) ≡ Some name
-    → answer_in (refusal_data (record { reason = why; member = Some name })) ≡ Ok (Refused (record { reason = why; member = Some name }))
-named_back why name h is = rw (reason_back why, h, is) refl
-
-refusal_back : (why : Reason) (name : Option Member) → is_refusal (record { reason = why; member = name }) ≡ true
-    → answer_in (refusal_data (record { reason = why; member = name })) ≡ Ok (Refused (record { reason = why; member = name }))
-refusal_back why None h = bare_back why (asks_none (names_member why) h)
-refusal_back why (Some name) h = let parts = and_parts (names_member why) (is_named name) h in named_back why name parts.0 (member_back name parts.1)
+refusal_back : (refusal : Refusal) → is_refusal refusal ≡ true → IsWholeRefusal refusal → answer_in (refusal_data refusal) ≡ Ok (Refused refusal)
+refusal_back (Plain why) h is = rw (plain_back why (refusal_data (Plain why))) refl
+refusal_back (MissingMember name) h is = rw (member_back name h) refl
+refusal_back (WrongType name) h is = rw (member_back name h) refl
+refusal_back (BadValue name) h is = rw (member_back name h) refl
+refusal_back (Collision id) h is = rw (id_of-id_text id is) refl
+refusal_back (StaleBase revision) h is = refl
+refusal_back (MissingObject id) h is = rw (id_of-id_text id is) refl
+refusal_back (BadCatalogue id) h is = rw (id_of-id_text id is) refl
+refusal_back (PathCollision path second) h is = rw (is.0, is.1) refl
+refusal_back (CatalogueFull path) h is = rw is refl
+refusal_back (TagTaken revision) h is = refl
+refusal_back (Damaged id found) h is = rw (digest_of-encode_lower found is.1, id_of-id_text id is.0) refl
 
 answer_back : (answer : Answer) → is_answer answer ≡ true → IsWhole answer → answer_in (answer_data answer) ≡ Ok answer
 answer_back (Granted token revision root) h is = granted_back token revision root is.0 is.1
@@ -104,7 +101,7 @@ answer_back (Committed revision root) h is = committed_back revision root is
 answer_back (Leases items) h is = leases_back items
 answer_back (Repos names) h is = repos_back names
 answer_back (PathBusy token remaining) h is = path_busy_back token remaining is
-answer_back (Refused refusal) h is = refusal_back refusal.reason refusal.member h
+answer_back (Refused refusal) h is = refusal_back refusal h is
 
 -- a text that is an answer's object says that answer
 pub answer_of-object : (text : List ℕ) (d : Data) (answer : Answer) → object_in text ≡ Some d → d ≡ answer_data answer → is_answer answer ≡ true → IsWhole answer

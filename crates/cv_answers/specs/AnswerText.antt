@@ -1,6 +1,6 @@
 -- The answer that a text says, or its first fault. The status is judged first. The members of each kind are judged in
--- the order in which they are written, but the reason of a refusal before the member that it asks for, and the
--- elements of a list one after another.
+-- the order in which they are written, but the reason of a refusal before those that it asks for, and the elements of
+-- a list one after another.
 use Rattle.std.specs.Prelude.{◌∷◌, ℕ, Bool, true, List, [], codes, Option, Some, None, is_some, Result, Ok, Err, if◌then◌else◌}
 use Rattle.std.specs.Str.{bytes_eq}
 use Rattle.serde_json.specs.Data.{Data, Items}
@@ -10,7 +10,7 @@ use Rattle.cv_base.specs.Digest.{IsDigest}
 use Rattle.cv_messages.specs.Spelling.{IsToken}
 use Rattle.cv_json.specs.ObjectText.{object_in}
 use Rattle.cv_messages.specs.Member.{and_then, text_of, text_member, number_member, token_member, digest_member}
-use Rattle.cv_answers.specs.Refusal.{is_refusal, refusal_in}
+use Rattle.cv_answers.specs.Refusal.{is_refusal, IsWholeRefusal, refusal_in}
 use Rattle.cv_messages.specs.declared.member.Member.TheVariants.{Path, SessionToken, Status, Other}
 use Rattle.cv_messages.specs.declared.message_fault.MessageFault.{MessageFault}
 use Rattle.cv_messages.specs.declared.message_fault.MessageFault.TheVariants.{NotJson, Missing, WrongType, BadValue}
@@ -18,16 +18,17 @@ use Rattle.cv_answers.specs.declared.lease_item.LeaseItem.{LeaseItem}
 use Rattle.cv_answers.specs.declared.answer.Answer.{Answer}
 use Rattle.cv_answers.specs.declared.answer.Answer.TheVariants.{Granted, Done, Committed, Leases, Repos, PathBusy, Refused}
 
--- an answer that can be written: a refusal names a member exactly where its reason asks for one
+-- an answer that can be written: a member that its refusal names has a name of its own
 abbrev pub is_answer : Answer → Bool
 is_answer (Refused refusal) = is_refusal refusal
 is_answer _ = true
 
--- the numbers of a token have 64 bits, and a digest has twenty bytes, as their types have it
+-- the numbers of a token have 64 bits, a digest has twenty bytes, and a path is what its text says, as their types have it
 abbrev pub IsWhole : Answer → Type 0
 IsWhole (Granted token revision root) = IsToken token × IsDigest root
 IsWhole (Committed revision root) = IsDigest root
 IsWhole (PathBusy token remaining) = IsToken token
+IsWhole (Refused refusal) = IsWholeRefusal refusal
 IsWhole _ = Unit {0}
 
 abbrev pub granted_in : Data → Result Answer MessageFault

@@ -3,16 +3,13 @@ ghost use Rattle.std.specs.Prelude.{◌≡◌, map, codes, IfOk};
 ghost use Rattle.cv_base.specs.Digest.{IsDigest};
 ghost use Rattle.serde_json.specs.Data.{put, string, array, object, member, no_members};
 ghost use Rattle.serde_json.specs.View.{view, items_view, members_view};
-ghost use Rattle.cv_messages.specs.MemberName.{member_name};
-ghost use Rattle.cv_answers.specs.Refusal.{reason_members, refusal_data};
 ghost use Rattle.cv_answers.specs.Answer.{granted_data, done_data, committed_data, lease_item_data, leases_data, repos_data, path_busy_data, answer_data};
 ghost use Rattle.cv_messages.specs.Spelling.{IsToken};
 ghost use Rattle.cv_answers.specs.AnswerText.{IsWhole};
 
 use crate::answer::Answer;
 use crate::lease_item::LeaseItem;
-use crate::reason::Reason;
-use crate::refusal::Refusal;
+use crate::refusal_value::refusal_value;
 use cv_base::{NoMemory, Text, Token};
 use cv_json::{Members, with_number, with_text, with_value};
 use cv_messages::{with_digest, with_token};
@@ -22,7 +19,7 @@ use std::alloc::Global;
 /// An answer as JSON.
 pub(crate) fn answer_value(alloc: Global, answer: &Answer) -> Result<Value, NoMemory>
     ensures json { IfOk result (λ value. view value ≡ answer_data answer.now) }
-    ensures whole { IsWhole answer.now }
+    ensures whole { IfOk result (λ _. IsWhole answer.now) }
 {
     match answer {
         Answer::Granted {
@@ -35,7 +32,7 @@ pub(crate) fn answer_value(alloc: Global, answer: &Answer) -> Result<Value, NoMe
         Answer::Leases(list) => leases_value(alloc, list.as_slice()),
         Answer::Repos(names) => repos_value(alloc, names.as_slice()),
         Answer::PathBusy { token, remaining } => path_busy_value(alloc, *token, *remaining),
-        Answer::Refused(refusal) => refusal_value(alloc, *refusal),
+        Answer::Refused(refusal) => refusal_value(alloc, refusal),
     }
 }
 
@@ -147,26 +144,6 @@ fn path_busy_value(alloc: Global, token: Token, remaining: u64) -> Result<Value,
     let members = status_members(alloc, "path_busy")?;
     let members = with_token(alloc, members, "lease", token)?;
     let members = with_number(alloc, members, "time_remaining", remaining)?;
-    Ok(Value::Object(members))
-}
-
-/// The members of a refusal for this reason, but the member that it names.
-fn reason_members(alloc: Global, reason: Reason) -> Result<Members, NoMemory>
-    ensures { IfOk result (λ members. members_view members.entries ≡ reason_members reason) }
-{
-    let members = status_members(alloc, "error")?;
-    with_text(alloc, members, "reason", reason.as_str())
-}
-
-/// A refusal.
-fn refusal_value(alloc: Global, refusal: Refusal) -> Result<Value, NoMemory>
-    ensures { IfOk result (λ value. view value ≡ refusal_data refusal) }
-{
-    let members = reason_members(alloc, refusal.reason)?;
-    let members = match refusal.member {
-        Some(name) => with_text(alloc, members, "member", name.as_str())?,
-        None => members,
-    };
     Ok(Value::Object(members))
 }
 

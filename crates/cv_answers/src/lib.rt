@@ -5,8 +5,12 @@ mod answer;
 mod answer_value;
 mod lease_item;
 mod read_answer;
+mod read_refusal;
 mod reason;
 mod refusal;
+#[cfg(test)]
+mod refusal_tests;
+mod refusal_value;
 #[cfg(test)]
 mod tests;
 

@@ -1,15 +1,13 @@
 //! Reading answers.
-ghost use Rattle.std.specs.Prelude.{◌≡◌, Ok, Err, List, map, codes, is_some, IfOk, MatchResult};
+ghost use Rattle.std.specs.Prelude.{◌≡◌, true, Ok, Err, List, map, is_some, IfOk, MatchResult};
 ghost use Rattle.serde_json.specs.Find.{get};
 ghost use Rattle.serde_json.specs.View.{view};
 ghost use Rattle.cv_messages.specs.Member.{IsSaid};
-ghost use Rattle.cv_answers.specs.Refusal.{names_member, refused_member, refusal_in};
-ghost use Rattle.cv_answers.specs.AnswerText.{granted_in, committed_in, each_of, array_member, lease_item_in, leases_in, repo_in, repos_in, path_busy_in, ok_in, answer_in};
+ghost use Rattle.cv_answers.specs.AnswerText.{is_answer, granted_in, committed_in, each_of, array_member, lease_item_in, leases_in, repo_in, repos_in, path_busy_in, ok_in, answer_in};
 
 use crate::answer::Answer;
 use crate::lease_item::LeaseItem;
-use crate::reason::Reason;
-use crate::refusal::Refusal;
+use crate::read_refusal::read_refusal;
 use cv_base::{Items, NoMemory, Text};
 use cv_messages::{Member, MessageFault, digest_member, number_member, text_member, token_member};
 use serde_json::Value;
@@ -17,13 +15,14 @@ use std::alloc::Global;
 
 /// The answer that an object says.
 pub(crate) fn read_answer(alloc: Global, value: &Value) -> Result<Answer, MessageFault>
-    ensures { MatchResult result (λ answer. answer_in (view value.now) ≡ Ok answer)
+    ensures says { MatchResult result (λ answer. answer_in (view value.now) ≡ Ok answer)
         (λ fault. IsSaid fault (answer_in (view value.now) ≡ Err fault)) }
+    ensures writable { IfOk result (λ answer. is_answer answer ≡ true) }
 {
     match text_member(value, "status", Member::Status)? {
         "ok" => read_ok(alloc, value),
         "path_busy" => read_path_busy(value),
-        "error" => Ok(Answer::Refused(read_refusal(value)?)),
+        "error" => Ok(Answer::Refused(read_refusal(alloc, value)?)),
         _ => Err(MessageFault::BadValue(Member::Status)),
     }
 }
@@ -37,8 +36,9 @@ fn has_member(value: &Value, key: &str) -> bool
 
 /// The ok answer that an object says.
 fn read_ok(alloc: Global, value: &Value) -> Result<Answer, MessageFault>
-    ensures { MatchResult result (λ answer. ok_in (view value.now) ≡ Ok answer)
+    ensures says { MatchResult result (λ answer. ok_in (view value.now) ≡ Ok answer)
         (λ fault. IsSaid fault (ok_in (view value.now) ≡ Err fault)) }
+    ensures writable { IfOk result (λ answer. is_answer answer ≡ true) }
 {
     if has_member(value, "session_token") {
         read_granted(value)
@@ -55,7 +55,8 @@ fn read_ok(alloc: Global, value: &Value) -> Result<Answer, MessageFault>
 
 /// The lease that was granted.
 fn read_granted(value: &Value) -> Result<Answer, MessageFault>
-    ensures { result ≡ granted_in (view value.now) }
+    ensures says { result ≡ granted_in (view value.now) }
+    ensures writable { IfOk result (λ answer. is_answer answer ≡ true) }
 {
     let revision = number_member(value, "revision", Member::Other)?;
     let root = digest_member(value, "root_hash", Member::Other)?;
@@ -69,7 +70,8 @@ fn read_granted(value: &Value) -> Result<Answer, MessageFault>
 
 /// The revision that was made.
 fn read_committed(value: &Value) -> Result<Answer, MessageFault>
-    ensures { result ≡ committed_in (view value.now) }
+    ensures says { result ≡ committed_in (view value.now) }
+    ensures writable { IfOk result (λ answer. is_answer answer ≡ true) }
 {
     let revision = number_member(value, "final_revision", Member::Other)?;
     let root = digest_member(value, "root_hash", Member::Other)?;
@@ -78,8 +80,9 @@ fn read_committed(value: &Value) -> Result<Answer, MessageFault>
 
 /// The live leases.
 fn read_leases(alloc: Global, value: &Value) -> Result<Answer, MessageFault>
-    ensures { MatchResult result (λ answer. leases_in (view value.now) ≡ Ok answer)
+    ensures says { MatchResult result (λ answer. leases_in (view value.now) ≡ Ok answer)
         (λ fault. IsSaid fault (leases_in (view value.now) ≡ Err fault)) }
+    ensures writable { IfOk result (λ answer. is_answer answer ≡ true) }
 {
     let list = array_member(value, "data")?;
     let items = read_lease_items(alloc, list)?;
@@ -147,8 +150,9 @@ fn lease_item(alloc: Global, key: &str, path: &str, remaining: u64) -> Result<Le
 
 /// The names of the repositories.
 fn read_repos(alloc: Global, value: &Value) -> Result<Answer, MessageFault>
-    ensures { MatchResult result (λ answer. repos_in (view value.now) ≡ Ok answer)
+    ensures says { MatchResult result (λ answer. repos_in (view value.now) ≡ Ok answer)
         (λ fault. IsSaid fault (repos_in (view value.now) ≡ Err fault)) }
+    ensures writable { IfOk result (λ answer. is_answer answer ≡ true) }
 {
     let list = array_member(value, "repos")?;
     let names = read_names(alloc, list)?;
@@ -186,33 +190,10 @@ fn read_name(alloc: Global, value: &Value) -> Result<Text, MessageFault>
 
 /// The live lease that overlaps.
 fn read_path_busy(value: &Value) -> Result<Answer, MessageFault>
-    ensures { result ≡ path_busy_in (view value.now) }
+    ensures says { result ≡ path_busy_in (view value.now) }
+    ensures writable { IfOk result (λ answer. is_answer answer ≡ true) }
 {
     let token = token_member(value, "lease", Member::Other)?;
     let remaining = number_member(value, "time_remaining", Member::Other)?;
     Ok(Answer::PathBusy { token, remaining })
-}
-
-/// The refusal that an object says.
-fn read_refusal(value: &Value) -> Result<Refusal, MessageFault>
-    ensures { result ≡ refusal_in (view value.now) }
-{
-    let text = text_member(value, "reason", Member::Reason)?;
-    let reason = Reason::read(text).ok_or(MessageFault::BadValue(Member::Reason))?;
-    let member = refused_member(reason, value)?;
-    Ok(Refusal { reason, member })
-}
-
-/// The member that a refusal for this reason names.
-fn refused_member(reason: Reason, value: &Value) -> Result<Option<Member>, MessageFault>
-    ensures { result ≡ refused_member (names_member reason) (view value.now) }
-{
-    if !reason.names_member() {
-        return Ok(None);
-    }
-    let text = text_member(value, "member", Member::Other)?;
-    match Member::read(text) {
-        Some(name) => Ok(Some(name)),
-        None => Err(MessageFault::BadValue(Member::Other)),
-    }
 }

@@ -1,8 +1,8 @@
-//! Reasons of refusals.
+//! Reasons that are all that a refusal says.
 ghost use Rattle.std.specs.Prelude.{◌≡◌};
 
 /// All reasons.
-const REASONS: [Reason; 22] = [
+const REASONS: [Reason; 19] = [
     Reason::BadPath,
     Reason::TooManyLeases,
     Reason::NoParent,
@@ -15,9 +15,6 @@ const REASONS: [Reason; 22] = [
     Reason::UnknownKey,
     Reason::WrongMac,
     Reason::NotJson,
-    Reason::MissingMember,
-    Reason::WrongType,
-    Reason::BadValue,
     Reason::UnknownRepository,
     Reason::BadMessageSize,
     Reason::BadDigest,
@@ -27,7 +24,7 @@ const REASONS: [Reason; 22] = [
     Reason::RevisionsFull,
 ];
 
-/// Why a request is refused.
+/// Why a request is refused, where a refusal says no more.
 #[derive(Clone, Copy, Debug, PartialEq, Eq)]
 pub enum Reason {
     /// What follows the repository's name is no path, or a path that no lease is granted on.
@@ -54,12 +51,6 @@ pub enum Reason {
     WrongMac,
     /// The message is no JSON object.
     NotJson,
-    /// A member of the message is lacking.
-    MissingMember,
-    /// A member of the message has another type.
-    WrongType,
-    /// A member of the message is out of its limits.
-    BadValue,
     /// The path is not of this repository.
     UnknownRepository,
     /// Message-Size is lacking, is no decimal, or is too large.
@@ -77,7 +68,7 @@ pub enum Reason {
 }
 
 impl Reason {
-    ghost use Rattle.cv_answers.specs.Refusal.{reason_text, reason_of, names_member};
+    ghost use Rattle.cv_answers.specs.Refusal.{reason_text, reason_of};
 
     /// The reason whose text a text is.
     pub(crate) fn read(text: &str) -> Option<Reason>
@@ -87,16 +78,6 @@ impl Reason {
             .iter()
             .copied()
             .find(|reason| reason.as_str() == text)
-    }
-
-    /// Whether a refusal for this reason names a member.
-    pub(crate) fn names_member(self) -> bool
-        ensures { result ≡ names_member self }
-    {
-        matches!(
-            self,
-            Reason::MissingMember | Reason::WrongType | Reason::BadValue
-        )
     }
 
     /// The reason's text.
@@ -116,9 +97,6 @@ impl Reason {
             Reason::UnknownKey => "unknown_key",
             Reason::WrongMac => "wrong_mac",
             Reason::NotJson => "not_json",
-            Reason::MissingMember => "missing_member",
-            Reason::WrongType => "wrong_type",
-            Reason::BadValue => "bad_value",
             Reason::UnknownRepository => "unknown_repository",
             Reason::BadMessageSize => "bad_message_size",
             Reason::BadDigest => "bad_digest",

@@ -2,7 +2,7 @@
 ghost use Rattle.std.specs.Prelude.{◌≡◌, true, IfOk};
 ghost use Rattle.cv_answers.specs.AnswerText.{is_answer};
 
-use crate::{Answer, LeaseItem, Reason, Refusal};
+use crate::{Answer, LeaseItem, Refusal};
 use cv_base::{Items, Text, Token};
 use cv_messages::{Member, MessageFault};
 use std::alloc::Global;
@@ -205,10 +205,7 @@ fn a_grant_is_written(rt: HostRuntime) -> Result<(), Fail> {
 
 #[test]
 fn a_refusal_is_written(rt: HostRuntime) -> Result<(), Fail> {
-    let missing = Answer::Refused(Refusal {
-        reason: Reason::MissingMember,
-        member: Some(Member::Path),
-    });
+    let missing = Answer::Refused(Refusal::MissingMember(Member::Path));
     let text = r#"{"member":"path","reason":"missing_member","status":"error"}"#;
     assert!(rt; is_written(rt.alloc(), &missing, text)?);
     Ok(())
