@@ -1,29 +1,25 @@
 -- What a hash means on a shelf that grows, and for a tree of which a part was replaced.
-use Rattle.std.proofs.Common.{◌≡◌, ◌≢◌, ◌&&◌, ℕ, true, false, List, [], ◌∷◌, ◌++◌, length, refl, sym, ap, subst, ◌∙◌, append-nil, Some, None, is_some}
+use Rattle.std.proofs.Common.{◌≡◌, ◌≢◌, ◌&&◌, ℕ, true, false, List, [], ◌∷◌, ◌++◌, refl, sym, ap, subst, ◌∙◌, append-nil, Some, None, is_some}
 use Rattle.std.specs.Prelude.{IsSomeAnd, Contains}
 use Rattle.std.specs.declared.option.Option.{Option}
-use Rattle.std.specs.FinMap.{get, keys}
+use Rattle.std.specs.FinMap.{get}
 use Rattle.sha1.specs.Sha1.{sha1}
 use Rattle.cv_base.specs.Path.{Path, behind, covers, overlap}
-use Rattle.cv_base.specs.PathOrder.{path_exact}
 use Rattle.cv_base.specs.Marker.{marker}
 use Rattle.cv_base.specs.ObjectId.{object_id}
 use Rattle.cv_base.specs.declared.id.Kind.TheVariants.{Plain, Catalogue}
 use Rattle.cv_base.proofs.PathPrefixes.{behind-Some}
 use Rattle.cv_ports.specs.Shelf.{Shelf, HasMore}
-use Rattle.cv_tree.specs.Tree.{Nodes, IsTree, is_directory, at, put}
+use Rattle.cv_tree.specs.Tree.{Nodes, is_directory, at, put}
 use Rattle.cv_tree.specs.Changes.{has_place}
 use Rattle.cv_tree.specs.declared.node.Node.TheVariants.{File}
 use Rattle.cv_tree.proofs.Laws.{at_rest, get-at, get-put, at-put, at-put_apart, at-at, IsTree-put_at}
 use Rattle.cv_cut.specs.Cuts.{is_cut, is_marked, is_file, between}
 use Rattle.cv_cut.specs.Above.{above, cuts_above}
 use Rattle.cv_cut.specs.Catalogues.{catalogue, cat, root_of, Fits}
-use Rattle.cv_cut.specs.Means.{Means}
-use Rattle.cv_cut.proofs.Members.{first_there, later_there, passing, goes_to}
+use Rattle.cv_cut.specs.Means.{Means, HasContentOf}
+use Rattle.cv_cut.proofs.Members.{first_there, later_there, passing}
 use Rattle.cv_cut.proofs.Between.{between_has, behind_it}
-use Rattle.cv_cut.proofs.Entries.{has_entry}
-use Rattle.cv_cut.proofs.CanonicalRules.{cut_some}
-use Rattle.cv_cut.proofs.Regions.{some_node}
 
 -- ---- on a shelf that grows
 
@@ -110,18 +106,11 @@ Means-put s h g t n p ht hn place fits made =
         | is_above e f ↦ made c cut f e
       ];
       files = λ q attr file is.
-          elim (behind p q) as (λ o. at_rest o (get (at n p)) (get t q) ≡ Some (File attr file) → IsSomeAnd (s (object_id file.hash Plain)) (λ bytes. length bytes ≡ file.size)) [
+          elim (behind p q) as (λ o. at_rest o (get (at n p)) (get t q) ≡ Some (File attr file) → HasContentOf s file) [
             | None ↦ λ there. ht.files q attr file there
             | Some r ↦ λ there. hn.files (p ++ r) attr file (sym (get-at n p r) ∙ there)
           ] (sym (get-put t p (at n p) q) ∙ is);
     }
-
--- ---- the cuts of a tree are among its paths
-
-pub cut_among_keys : (t : Nodes) (c : Path) → IsTree t → is_cut t c ≡ true → Contains (keys t) c
-cut_among_keys t c whole cut =
-    let there = some_node (get t c) (cut_some t c whole cut) in
-    goes_to (λ e. e.0) _ (c, there.0) (has_entry path_exact t c there.0 there.1)
 
 -- ---- the cuts above a path
 

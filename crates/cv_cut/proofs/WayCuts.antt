@@ -1,21 +1,20 @@
 -- The cuts above a path, one below another.
-use Rattle.std.proofs.Common.{◌≡◌, ◌≢◌, Bool, true, false, cond, not, List, [], ◌∷◌, ◌++◌, map, reverse, filter, refl, sym, ap, subst, ◌∙◌, append-nil, append_assoc}
+use Rattle.std.proofs.Common.{◌≡◌, ◌≢◌, Bool, true, false, cond, not, List, [], ◌∷◌, ◌++◌, map, reverse, filter, refl, sym, ap, ◌∙◌, append-nil, append_assoc}
 use Rattle.std.specs.Prelude.{Contains}
 use Rattle.std.specs.List.{list_all}
 use Rattle.std.specs.FinMap.{same_map}
 use Rattle.std.proofs.lemmas.List.{map-append}
 use mathlib.Core.List.{reverse-cons}
-use Rattle.cv_base.specs.Marker.{marker, ends_in}
-use Rattle.cv_base.specs.Path.{Path, covers}
+use Rattle.cv_base.specs.Path.{Path}
 use Rattle.cv_base.specs.PathOrder.{path_total, path_exact}
 use Rattle.cv_base.proofs.Bools.{first_true, second_true}
-use Rattle.cv_tree.specs.Tree.{Nodes, at, put}
+use Rattle.cv_tree.specs.Tree.{Nodes, at}
 use Rattle.cv_tree.proofs.Laws.{get-at, at-at}
 use Rattle.cv_cut.specs.Cuts.{is_cut, is_marked, is_near, between}
 use Rattle.cv_cut.specs.Cut.{catalogue_object}
 use Rattle.cv_cut.proofs.Members.{first_there, later_there}
 use Rattle.cv_cut.specs.Above.{above, cuts_above, made_from}
-use Rattle.cv_cut.proofs.MarkLaws.{between-behind, marked-at, marked-out, longer_covers_not}
+use Rattle.cv_cut.proofs.MarkLaws.{between-behind, marked-at}
 use Rattle.cv_cut.proofs.Between.{between_is}
 use Rattle.cv_cut.specs.Region.{StandsOnWay}
 
@@ -101,16 +100,6 @@ pass_way u r e f way near = go f way.is way.more
         ∙ ap (λ (w : List Path). [] ∷ w) (filter_append (is_marked u) (between e) (e ∷ map (λ x. e ++ x) (between (a ∷ f))) ∙ (λ i. filter_none (is_marked u) (between e) near i ++ rest i))
         ∙ (λ i. [] ∷ sym (append-nil e) i ∷ map (λ x. e ++ x) (filter (is_marked (at u e)) (between (a ∷ f))))
         ∙ ap (λ (w : List Path). [] ∷ map (λ x. e ++ x) w) (sym (cuts_some (at u e) (a ∷ f) (λ h. cc)))
-
--- a replacement at the path leaves the cuts above it
-pub after_way : (u : Nodes) (r : Path) (s : Nodes) → ends_in marker r ≡ false → cuts_above (put u r s) r ≡ cuts_above u r
-after_way u [] s unmarked = refl
-after_way u (a ∷ r) s unmarked =
-    cuts_some (put u (a ∷ r) s) (a ∷ r) (λ h. cc)
-    ∙ ap (λ (w : List Path). [] ∷ w) (filter_same (is_marked (put u (a ∷ r) s)) (is_marked u) (between (a ∷ r)) (λ x has.
-    let b = between_is (a ∷ r) x has in
-    marked-out u (a ∷ r) s x unmarked (subst (λ (y : Path). covers y x ≡ false) (sym b.is) (longer_covers_not x b.rest b.more))))
-    ∙ sym (cuts_some u (a ∷ r) (λ h. cc))
 
 -- ---- the catalogues made, those nested in another before it
 

@@ -13,12 +13,15 @@ use Rattle.cv_tree.specs.declared.node.Node.TheVariants.{File}
 use Rattle.cv_cut.specs.Cuts.{is_cut}
 use Rattle.cv_cut.specs.Catalogues.{cat, root_of, Fits}
 
--- The hash means the tree t: t fits, its root is the hash, and the shelf has each catalogue of t, and for each file of t
--- bytes of its size under its plain id.
+-- the shelf has the content of a file under its plain id: bytes of the id's hash, and of the file's size
+abbrev pub HasContentOf : Shelf → FileRef → Type 0
+HasContentOf shelf file = IsSomeAnd (shelf (object_id file.hash Plain)) (λ bytes. (sha1 bytes ≡ file.hash) × (length bytes ≡ file.size))
+
+-- The hash means the tree t: t fits, its root is the hash, and the shelf has each catalogue of t, and the content of each file
+-- of t. All these bytes have the hashes of their ids, so on a shelf that has others no hash means the tree.
 pub record Means (shelf : Shelf) (hash : List ℕ) (t : Nodes) : Type 0 where
   pub tree : IsTree t
   pub fits : Fits t
   pub root : hash ≡ root_of t
   pub catalogues : (c : Path) → IsTrue (is_cut t c) → shelf (object_id (sha1 (cat t c)) Catalogue) ≡ Some (cat t c)
-  pub files : (q : Path) (attr : Attr) (file : FileRef) → get t q ≡ Some (File attr file)
-      → IsSomeAnd (shelf (object_id file.hash Plain)) (λ bytes. length bytes ≡ file.size)
+  pub files : (q : Path) (attr : Attr) (file : FileRef) → get t q ≡ Some (File attr file) → HasContentOf shelf file

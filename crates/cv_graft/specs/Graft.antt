@@ -1,10 +1,11 @@
 -- What a graft gives.
-use Rattle.std.specs.Prelude.{◌≡◌, ◌≢◌, ℕ, true, List, [], map, reverse, length, Some, Result, Ok, Err}
+use Rattle.std.specs.Prelude.{◌≡◌, ◌≢◌, ℕ, true, List, [], map, reverse, length, Contains, Some, Result, Ok, Err}
 use Rattle.sha1.specs.Sha1.{sha1}
 use Rattle.cv_base.specs.Path.{Path, covers}
 use Rattle.cv_base.specs.ObjectId.{object_id}
 use Rattle.cv_base.specs.declared.id.Kind.TheVariants.{Catalogue}
 use Rattle.cv_base.specs.declared.id.ObjectId.{ObjectId}
+use Rattle.cv_base.specs.declared.object.Object.{Object}
 use Rattle.cv_ports.specs.Shelf.{Shelf}
 use Rattle.cv_tree.specs.Tree.{Nodes, IsTree, at, put}
 use Rattle.cv_cut.specs.Cuts.{is_cut}
@@ -30,6 +31,10 @@ grafted_of t p = record {
   size = length (cat t []);
   added = map (catalogue_object t) (reverse (cuts_above t p));
 }
+
+-- each object has the hash of its own bytes
+pub record HasOwnIds (objects : List Object) : Type 0 where
+  pub each : (o : Object) → Contains objects o → o.id.hash ≡ sha1 o.bytes
 
 -- what is answered of the tree that a graft is to give: it fits, and this is its root, or why it doesn't fit
 abbrev pub Grafts : Nodes → Path → Result Grafted GraftFault → Type 0

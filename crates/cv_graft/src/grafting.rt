@@ -13,7 +13,7 @@ ghost use Rattle.cv_ports.specs.Calls.{RaisedAtMost};
 ghost use Rattle.cv_cut.specs.Above.{cuts_above, replaced};
 ghost use Rattle.cv_cut.specs.Opening.{MayFail};
 ghost use Rattle.cv_cut.specs.declared.load_fault.LoadFault.TheVariants as load_faults;
-ghost use Rattle.cv_graft.specs.Graft.{Grafts, HasWay};
+ghost use Rattle.cv_graft.specs.Graft.{Grafts, HasWay, HasOwnIds};
 ghost use Rattle.cv_graft.specs.Way.{Finds, TellsDamage};
 ghost use Rattle.cv_graft.specs.declared.graft_fault.GraftFault.TheVariants as faults;
 
@@ -54,6 +54,7 @@ pub(crate) fn holder<S: Shelf>(
 fn whole<S: Shelf>(alloc: Global, shelf: &mut S, offered: &ObjectId) -> Result<Grafted, GraftFault>
     requires { offered.now.kind ≡ id_kind.Catalogue }
     ensures told { WhereTold (S.shelf shelf.old) (λ standing. (t n : Nodes) → Means standing offered.now.hash n → Grafts (replaced t n []) [] result) }
+    ensures own { IfOk result (λ g. HasOwnIds g.added) }
     ensures damaged { WhereTold (S.shelf shelf.old) (λ standing. TellsDamage standing result) }
     ensures reads { S.reads shelf.old shelf.new }
     ensures unchanged { S.shelf shelf.new ≡ S.shelf shelf.old }
@@ -86,6 +87,7 @@ fn below_root<S: Shelf>(
     requires path { path.now ≢ [] }
     requires unmarked { ends_in marker path.now ≡ false }
     ensures told { WhereTold (S.shelf shelf.old) (λ standing. (t n : Nodes) → Means standing newest.now.hash t → Means standing offered.now.hash n → IsTrue (has_place t path.now) → Grafts (replaced t n path.now) path.now result) }
+    ensures own { IfOk result (λ g. HasOwnIds g.added) }
     ensures damaged { WhereTold (S.shelf shelf.old) (λ standing. TellsDamage standing result) }
     ensures reads { S.reads shelf.old shelf.new }
     ensures unchanged { S.shelf shelf.new ≡ S.shelf shelf.old }
@@ -124,6 +126,7 @@ pub fn graft<S: Shelf>(
     requires offered { offered.now.kind ≡ id_kind.Catalogue }
     requires unmarked { ends_in marker path.now ≡ false }
     ensures told { WhereTold (S.shelf shelf.old) (λ standing. (t n : Nodes) → Means standing newest.now.hash t → Means standing offered.now.hash n → IsTrue (has_place t path.now) → Grafts (replaced t n path.now) path.now result) }
+    ensures own { IfOk result (λ g. HasOwnIds g.added) }
     ensures damaged { WhereTold (S.shelf shelf.old) (λ standing. TellsDamage standing result) }
     ensures reads { S.reads shelf.old shelf.new }
     ensures unchanged { S.shelf shelf.new ≡ S.shelf shelf.old }

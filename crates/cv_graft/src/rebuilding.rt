@@ -14,7 +14,7 @@ ghost use Rattle.cv_rows.specs.Renewed.{renewed};
 ghost use Rattle.cv_tree.specs.Tree.{Nodes, IsTree, at};
 ghost use Rattle.cv_ports.specs.Calls.{raised_by};
 ghost use Rattle.cv_cut.specs.Above.{cuts_above, replaced, OnWay};
-ghost use Rattle.cv_graft.specs.Graft.{HasWay};
+ghost use Rattle.cv_graft.specs.Graft.{HasWay, HasOwnIds};
 ghost use Rattle.cv_graft.specs.Way.{IsAsked, IsOffered, Rebuilds, TellsDamage};
 ghost use Rattle.cv_cut.specs.Catalogues.{contents_of};
 ghost use Rattle.cv_graft.specs.declared.graft_fault.GraftFault.TheVariants as faults;
@@ -45,6 +45,7 @@ fn keep(alloc: Global, catalogue: &Catalogue, added: &mut Vec<Object>) -> Result
     ensures size { IfOk result (λ made. made.size ≡ length (catalogue_bytes catalogue.now)) }
     ensures added { OnOk result (added.new.items ≡ added.old.items ++ record { id = object_id (sha1 (catalogue_bytes catalogue.now)) id_kind.Catalogue; bytes = catalogue_bytes catalogue.now } ∷ []) }
     ensures digest { IfOk result (λ made. IsDigest made.hash) }
+    ensures own { OnOk result (HasOwnIds added.old.items → HasOwnIds added.new.items) }
 {
     let bytes = catalogue.encode(alloc)?;
     let id = ObjectId::of(Kind::Catalogue, &bytes);
@@ -79,6 +80,7 @@ fn rejoined(
     ensures unread { IsErrOf result faults.Failed → ⊥ }
     ensures undamaged { (standing : Shelf_) → TellsDamage standing result }
     ensures digest { IfOk result (λ made. IsDigest made.hash) }
+    ensures own { OnOk result (HasOwnIds added.old.items → HasOwnIds added.new.items) }
 {
     let joined = joined(alloc, cut, catalogue, other, path)?;
     Ok(keep(alloc, &joined, added)?)
@@ -107,6 +109,7 @@ pub(crate) fn rebuilt<S: Shelf>(
     ensures told { WhereTold (S.shelf shelf.old) (λ standing. (hash : List ℕ) (t n : Nodes) (r : List (List ℕ)) → HasWay standing hash t path.now → IsOffered n path.now other.now → IsTree (replaced t n path.now)
         → OnWay t path.now catalogue.at r → catalogue ≡ contents_of t catalogue.at → Rebuilds (replaced t n path.now) catalogue.at r added.old.items added.new.items result) }
     ensures digest { IfOk result (λ made. IsDigest made.hash) }
+    ensures own { OnOk result (HasOwnIds added.old.items → HasOwnIds added.new.items) }
     ensures damaged { WhereTold (S.shelf shelf.old) (λ standing. TellsDamage standing result) }
     ensures reads { S.reads shelf.old shelf.new }
     ensures unchanged { S.shelf shelf.new ≡ S.shelf shelf.old }

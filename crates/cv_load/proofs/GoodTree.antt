@@ -6,7 +6,7 @@ use Rattle.std.specs.FinMap.{get, insert, empty, get-empty}
 use Rattle.std.proofs.lemmas.List.Elements.{All-contains, All-from_recursion}
 use Rattle.cv_base.specs.Path.{Path, path_cmp, IsPath}
 use Rattle.cv_base.specs.Digest.{IsDigest}
-use Rattle.cv_ports.specs.Shelf.{Shelf}
+use Rattle.cv_ports.specs.Shelf.{Shelf, IsShelf}
 use Rattle.cv_tree.specs.Tree.{Nodes, IsTree, HasParents, is_directory}
 use Rattle.cv_tree.specs.Node.{IsNode}
 use Rattle.cv_tree.specs.declared.node.Node.{Node}
@@ -218,5 +218,5 @@ whole_of_good shelf top is =
     let f = fill_good top is Reaches.itself empty (λ q n e. absurd (let wrong : None ≡ Some n = sym (get-empty path_cmp q) ∙ e in cc)) in
     (f.0, record { tree = tree_there f.1.filled f.1.rows; filled = f.1.filled; rows = f.1.rows })
 
-pub a_tree_is_meant : (shelf : Shelf) (top : List ℕ) → IsGood shelf top root_place → (t : Nodes) × Means shelf top t
-a_tree_is_meant shelf top is = let w = whole_of_good shelf top is in (w.0, means w.1)
+pub a_tree_is_meant : (shelf : Shelf) (top : List ℕ) → IsShelf shelf → IsGood shelf top root_place → (t : Nodes) × Means shelf top t
+a_tree_is_meant shelf top hashes is = let w = whole_of_good shelf top is in (w.0, means w.1 hashes)

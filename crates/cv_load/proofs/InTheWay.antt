@@ -55,6 +55,10 @@ sized : (o : Option (List ℕ)) (size : ℕ) → IsSomeAnd o (λ bytes. length b
 sized None size h = absurd h
 sized (Some bytes) size h = (bytes, refl, h)
 
+size_alone : (o : Option (List ℕ)) (hash : List ℕ) (size : ℕ) → IsSomeAnd o (λ bytes. (sha1 bytes ≡ hash) × (length bytes ≡ size)) → IsSomeAnd o (λ bytes. length bytes ≡ size)
+size_alone None hash size h = absurd h
+size_alone (Some bytes) hash size h = h.1
+
 module _ {shelf : Shelf} {top : List ℕ} {t : Nodes} (is : Means shelf top t) where
   pub canon : (p : Path) → is_cut t p ≡ true → IsKept p (at t p) (λ d. cat t (p ++ d))
   canon p cut = kept t is.tree is.fits p cut
@@ -122,7 +126,8 @@ module _ {shelf : Shelf} {top : List ℕ} {t : Nodes} (is : Means shelf top t) w
       let k = canon place.path known.cut in
       let f = k.rows.each r (subst (λ (x : Contents). Contains x.rows r) same has) in
       let parts = file_parts (kind_of place.path (at t place.path) f.0 f.1) (place.path ++ f.0) f.1 content (ap (λ (x : Row). x.hash) (sym f.3) ∙ e) in
-      let there = is.files (place.path ++ f.0) parts.0 parts.1 (sym (get-at t place.path f.0) ∙ f.2.there ∙ ap Some parts.2) in
+      let there = size_alone (shelf (object_id parts.1.hash id_kind.Plain)) parts.1.hash parts.1.size
+      (is.files (place.path ++ f.0) parts.0 parts.1 (sym (get-at t place.path f.0) ∙ f.2.there ∙ ap Some parts.2)) in
       let size : r.size ≡ parts.1.size = ap (λ (x : Row). x.size) f.3 ∙ parts.4 in
       subst (λ (h : List ℕ). IsSomeAnd (shelf (object_id h id_kind.Plain)) (λ bytes. length bytes ≡ r.size)) (sym parts.3)
       (subst (λ (n : ℕ). IsSomeAnd (shelf (object_id parts.1.hash id_kind.Plain)) (λ bytes. length bytes ≡ n)) (sym size) there)

@@ -22,3 +22,4 @@ pub mod Checks
 pub mod NewFetching
 pub mod Listing
 pub mod Knowing
+pub mod Lemmas

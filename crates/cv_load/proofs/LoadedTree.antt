@@ -6,7 +6,7 @@ use Rattle.cv_base.specs.Path.{Path, path_cmp}
 use Rattle.cv_base.specs.PathOrder.{path_total, same_path_is}
 use Rattle.cv_base.specs.declared.id.ObjectId.{ObjectId}
 use Rattle.cv_base.specs.declared.id.Kind.TheVariants as id_kind
-use Rattle.cv_ports.specs.Shelf.{Shelf}
+use Rattle.cv_ports.specs.Shelf.{Shelf, IsShelf}
 use Rattle.cv_tree.specs.Tree.{Nodes, IsTree, single}
 use Rattle.cv_tree.specs.declared.node.Node.{Node}
 use Rattle.cv_tree.specs.declared.node.Node.TheVariants.{Dir}
@@ -67,5 +67,5 @@ loads_whole shelf id p c old new e stands is h tree =
     record { tree = tree; filled = f.filled; rows = f.rows }
 
 pub loads_all : (shelf : Shelf) (id : ObjectId) (p : Path) (c : Contents) (old new : Nodes) → p ≡ [] → HasCatalogue shelf id.hash (place_at p) c → IsRootOf c old
-    → FillsFrom shelf id c old new {X = Unit {0}} (Ok (tt {0})) → IsTree new → Means shelf id.hash new
-loads_all shelf id p c old new e stands is h tree = means (loads_whole shelf id p c old new e stands is h tree)
+    → FillsFrom shelf id c old new {X = Unit {0}} (Ok (tt {0})) → IsTree new → IsShelf shelf → Means shelf id.hash new
+loads_all shelf id p c old new e stands is h tree hashes = means (loads_whole shelf id p c old new e stands is h tree) hashes

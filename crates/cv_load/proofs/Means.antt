@@ -6,7 +6,7 @@ use Rattle.std.specs.FinMap.{get}
 use Rattle.sha1.specs.Sha1.{sha1}
 use Rattle.cv_base.specs.Marker.{marker}
 use Rattle.cv_base.specs.Path.{Path, key_of}
-use Rattle.cv_ports.specs.Shelf.{Shelf}
+use Rattle.cv_ports.specs.Shelf.{Shelf, IsShelf}
 use Rattle.cv_tree.specs.Tree.{Nodes, at, is_directory}
 use Rattle.cv_tree.specs.declared.node.Node.{Node}
 use Rattle.cv_tree.specs.declared.node.Node.TheVariants as node
@@ -39,11 +39,16 @@ use Rattle.cv_base.proofs.Bools.{first_true}
 use Rattle.cv_tree.specs.declared.node.FileRef.{FileRef}
 use Rattle.cv_cut.specs.Cuts.{region}
 use Rattle.cv_cut.specs.Catalogues.{SharesKey, IsFull as PassesLimit}
-use Rattle.cv_cut.specs.Means.{Means}
+use Rattle.cv_cut.specs.Means.{Means, HasContentOf}
 use Rattle.cv_load.proofs.Assembly.{file_row}
 use Rattle.cv_load.proofs.OwnRows.{own_keys, some_hash, row_content}
 use Rattle.cv_load.proofs.OwnCatalogues.{part_open, spelled}
 use Rattle.cv_cut.specs.Region.{row_at, KeysApart}
+
+hashed_too : (o : Option (List ℕ)) (hash : List ℕ) (size : ℕ) → ((bytes : List ℕ) → o ≡ Some bytes → sha1 bytes ≡ hash) → IsSomeAnd o (λ bytes. length bytes ≡ size)
+    → IsSomeAnd o (λ bytes. (sha1 bytes ≡ hash) × (length bytes ≡ size))
+hashed_too None hash size hashes h = absurd h
+hashed_too (Some bytes) hash size hashes h = (hashes bytes refl, h)
 
 some_directory : (o : Option Node) (b : Bool) → (is_directory o && b) ≡ true → (n : Node) × (o ≡ Some n) × (is_directory (Some n) ≡ true)
 some_directory None b h = absurd cc
@@ -155,8 +160,8 @@ module _ {shelf : Shelf} {top : List ℕ} {t : Nodes} (whole : IsWhole shelf top
             omega (arith, long, size, limit)
       ]
 
-  files : (q : Path) (attr : Attr) (file : FileRef) → get t q ≡ Some (node.File attr file) → IsSomeAnd (shelf (object_id file.hash id_kind.Plain)) (λ bytes. length bytes ≡ file.size)
-  files q attr file e =
+  files : IsShelf shelf → (q : Path) (attr : Attr) (file : FileRef) → get t q ≡ Some (node.File attr file) → HasContentOf shelf file
+  files hashes q attr file e =
       let o = standing_of whole q (node.File attr file) e in
       let s = o.0 in
       let kind = file_row s.row (ap (λ (x : Node). is_file (Some x)) (sym o.1)) in
@@ -165,14 +170,16 @@ module _ {shelf : Shelf} {top : List ℕ} {t : Nodes} (whole : IsWhole shelf top
       let same = same_contents shelf s.hash s.hash s.place s.place s.contents f.contents refl refl s.open_.has f.has in
       let has = subst (λ (c : Contents). Contains c.rows s.row) same (stands_contained s.stands) in
       let sized = f.files s.row has (hash_of s.row.hash) kind (content_hash s.row kind (row_content s.contents s.row (rules_of s.open_) (stands_contained s.stands))) in
-      subst (λ (h : List ℕ). IsSomeAnd (shelf (object_id h id_kind.Plain)) (λ bytes. length bytes ≡ file.size)) (sym parts.0)
-      (subst (λ (n : ℕ). IsSomeAnd (shelf (object_id (hash_of s.row.hash) id_kind.Plain)) (λ bytes. length bytes ≡ n)) (sym parts.1) sized)
+      let id = object_id file.hash id_kind.Plain in
+      hashed_too (shelf id) file.hash file.size (λ bytes there. sym (hashes.hash id bytes there))
+      (subst (λ (h : List ℕ). IsSomeAnd (shelf (object_id h id_kind.Plain)) (λ bytes. length bytes ≡ file.size)) (sym parts.0)
+      (subst (λ (n : ℕ). IsSomeAnd (shelf (object_id (hash_of s.row.hash) id_kind.Plain)) (λ bytes. length bytes ≡ n)) (sym parts.1) sized))
 
-  pub means : Means shelf top t
-  means = record {
+  pub means : IsShelf shelf → Means shelf top t
+  means hashes = record {
     tree = whole.tree;
     fits = record { apart = apart; limits = limits };
     root = hash_at top_opened;
     catalogues = λ p cut. bytes_at (cut_opened p cut);
-    files = files;
+    files = files hashes;
   }

@@ -3,7 +3,7 @@ ghost use Rattle.std.specs.Prelude.{◌≡◌, ℕ, List, IsTrue};
 ghost use Rattle.sha1.specs.Sha1.{sha1};
 ghost use Rattle.cv_base.specs.Path.{Path};
 ghost use Rattle.cv_base.specs.declared.id.ObjectId.{ObjectId};
-ghost use Rattle.cv_ports.specs.Shelf.{Shelf, HasMore};
+ghost use Rattle.cv_ports.specs.Shelf.{Shelf, IsShelf, HasMore};
 ghost use Rattle.cv_tree.specs.Tree.{Nodes};
 ghost use Rattle.cv_cut.specs.Means.{Means};
 ghost use Rattle.cv_cut.specs.Reached.{Lacking, Bad, root_place, Place, HasCatalogue, Reaches, LackingFrom, BadFrom};
@@ -30,9 +30,9 @@ pub fn nothing_is_in_the_way()
     ensures damaged { (shelf : Shelf) (hash : List ℕ) (t : Nodes) → Means shelf hash t → (id : ObjectId) (found : List ℕ) → IsDamaged shelf hash id found → ⊥ }
 {}
 
-/// A good root means a tree.
+/// A good root means a tree, on a shelf whose bytes have the hashes of their ids.
 pub fn a_good_root_means_a_tree()
-    ensures { (shelf : Shelf) (hash : List ℕ) → IsGood shelf hash root_place → (t : Nodes) × Means shelf hash t }
+    ensures { (shelf : Shelf) (hash : List ℕ) → IsShelf shelf → IsGood shelf hash root_place → (t : Nodes) × Means shelf hash t }
 {}
 
 /// A root that means a tree is good, and so is each cut of that tree at its path.

@@ -3,6 +3,8 @@ ghost use Rattle.std.specs.Prelude.{◌≡◌, IfOk};
 ghost use Rattle.cv_base.specs.declared.id.Kind.TheVariants as id_kind;
 ghost use Rattle.cv_tree.specs.Node.{IsNode};
 
+use crate::checking::whole;
+use crate::known_set::KnownSet;
 use crate::loading::load;
 use cv_base::{Attr, Bytes, Kind, Object, ObjectId, RepoPath};
 use cv_cut::{LoadFault, cut};
@@ -304,7 +306,7 @@ const INNER_ENTRY: &str = "15e722b24d77179e50b53e6f895e28a36c0c7be90000000000000
 
 /// Catalogues that can't stand at `/d`, by `tools/load_vectors.py`: the digits of the hash under which one stands, of its
 /// size and of its bytes.
-static WRONG: [(&str, &str, &str); 4] = [
+static WRONG: [(&str, &str, &str); 10] = [
     // it has no marker
     (
         "40d7ba19e448ac762a87b14d03c7f29ce69eac0a",
@@ -329,7 +331,49 @@ static WRONG: [(&str, &str, &str); 4] = [
         "0000000000000051",
         "435652310000000100000000d41d8cd98f00b204e9800998ecf8427e0000000000000000000000000000000000000001000041ed000000006553f100000000000000000000000000000000000000000000",
     ),
+    // its rows are out of order
+    (
+        "956fc0fc375cf7dc86bacd13d9a5b016d0f170d5",
+        "00000000000000b8",
+        "43565231000000020000000080d24ab2d14dc16dba54ba605a2f406e0c606f9929ab0de4b9d1961ce5dfdadf00000004000081a4000000006553f1000000000000000000000000000000000014da39a3ee5e6b4b0d3255bfef95601890afd80709000d2e63766d6673636174616c6f6700000c606f9929ab0de4b9d1961ce5dfdadfd41d8cd98f00b204e9800998ecf8427e00000021000041ed000000006553f10000000000000000000000000000000000000001640000",
+    ),
+    // a row has the key of another path
+    (
+        "5fb42b76a34b90832c7037ec5ae58bfaf4d937cb",
+        "0000000000000112",
+        "4356523100000003000000000c606f9929ab0de4b9d1961ce5dfdadfd41d8cd98f00b204e9800998ecf8427e00000021000041ed000000006553f1000000000000000000000000000000000000000164000080d24ab2d14dc16dba54ba605a2f406e0c606f9929ab0de4b9d1961ce5dfdadf00000004000081a4000000006553f1000000000000000000000000000000000014da39a3ee5e6b4b0d3255bfef95601890afd80709000d2e63766d6673636174616c6f670000fe6d224f2fe186dff9a69bd329190c210c606f9929ab0de4b9d1961ce5dfdadf00000004000081a4000000006553f1000000000000000000000000000000000014da39a3ee5e6b4b0d3255bfef95601890afd807090001660000",
+    ),
+    // a transition has no entry
+    (
+        "17fe0fc302c011fd7f8b4383a371e46bd90ba812",
+        "00000000000000fe",
+        "4356523100000003000000000c606f9929ab0de4b9d1961ce5dfdadfd41d8cd98f00b204e9800998ecf8427e00000021000041ed000000006553f1000000000000000000000000000000000000000164000080d24ab2d14dc16dba54ba605a2f406e0c606f9929ab0de4b9d1961ce5dfdadf00000004000081a4000000006553f1000000000000000000000000000000000014da39a3ee5e6b4b0d3255bfef95601890afd80709000d2e63766d6673636174616c6f670000f4c5ce1b21553fffda3b6386bf573d4c0c606f9929ab0de4b9d1961ce5dfdadf00000003000041ed000000006553f10000000000000000000000000000000000000001650000",
+    ),
+    // an entry has no transition
+    (
+        "ff2af63c26efc7ecba74593f265e0eee6e93f43a",
+        "00000000000000da",
+        "4356523100000002000000010c606f9929ab0de4b9d1961ce5dfdadfd41d8cd98f00b204e9800998ecf8427e00000021000041ed000000006553f1000000000000000000000000000000000000000164000080d24ab2d14dc16dba54ba605a2f406e0c606f9929ab0de4b9d1961ce5dfdadf00000004000081a4000000006553f1000000000000000000000000000000000014da39a3ee5e6b4b0d3255bfef95601890afd80709000d2e63766d6673636174616c6f67000000042f642f65da39a3ee5e6b4b0d3255bfef95601890afd807090000000000000000",
+    ),
+    // an entry is that of the place above
+    (
+        "22126b43614e2549be0f671a57afe0c972fb488b",
+        "00000000000000d6",
+        "4356523100000002000000010c606f9929ab0de4b9d1961ce5dfdadfd41d8cd98f00b204e9800998ecf8427e00000021000041ed000000006553f1000000000000000000000000000000000000000164000080d24ab2d14dc16dba54ba605a2f406e0c606f9929ab0de4b9d1961ce5dfdadf00000004000081a4000000006553f1000000000000000000000000000000000014da39a3ee5e6b4b0d3255bfef95601890afd80709000d2e63766d6673636174616c6f6700000000da39a3ee5e6b4b0d3255bfef95601890afd807090000000000000000",
+    ),
+    // it says 50,001 rows
+    (
+        "ce10a9979406f92c17a48d0c6fdacbee12220b6a",
+        "000000000000000c",
+        "435652310000c35100000000",
+    ),
 ];
+
+/// The digits of the hash of 16 MiB of zeros and one more, and of how many they are.
+const LARGE: (&str, &str) = (
+    "4ec99add603bb162675fa8b96d0b3856b3ec2593",
+    "0000000001000001",
+);
 
 /// One that names what stands under the hash `11`, forty digits of it, which it is itself.
 const NAMES_ITSELF: (&str, &str, &str) = (
@@ -347,12 +391,13 @@ fn root_above(alloc: Global, hash: &str, size: &str) -> Result<Bytes, Fail> {
     Ok(Bytes::new(decode(alloc, digits.as_str())?))
 }
 
-/// The fault of a root whose catalogue names one of this hash and size at `/d`, where these bytes stand under the hash.
+/// The fault of a root whose catalogue names one of this hash and size at `/d`, where these bytes stand under the hash. A load
+/// and a check both answer it, by three calls each: they fetch the root, measure what it names, and fetch that. One more fails.
 fn fault_above(
     alloc: Global,
     hash: &str,
     size: &str,
-    digits: &str,
+    bytes: Vec<u8>,
 ) -> Result<Option<LoadFault>, Fail> {
     let outer = root_above(alloc, hash, size)?;
     let root = ObjectId {
@@ -360,36 +405,47 @@ fn fault_above(
         kind: Kind::Catalogue,
     };
     let id = catalogue_id(hash)?;
-    let bytes = Bytes::new(decode(alloc, digits)?);
+    let bytes = Bytes::new(bytes);
     let mut objects = Vec::new(alloc);
     objects.push(Object { id, bytes })?;
     objects.push(Object {
         id: root,
         bytes: outer,
     })?;
-    let mut shelf = MemoryShelf::new(alloc, objects, Vec::new(alloc))?;
-    Ok(load(alloc, &mut shelf, &root).err())
+    let mut shelf = MemoryShelf::new(alloc, objects, vec![in alloc; 7u64]?)?;
+    let loaded = load(alloc, &mut shelf, &root).err();
+    if whole(alloc, &mut shelf, &root, &KnownSet::new(alloc)).err() != loaded {
+        return Err(Fail::new("a load and a check differ"));
+    }
+    Ok(loaded)
 }
 
-/// Whether a catalogue that can't stand at `/d` is the one that is bad.
-fn is_named_bad(alloc: Global, wrong: &(&str, &str, &str)) -> Result<bool, Fail> {
-    let (hash, size, digits) = wrong;
-    let fault = fault_above(alloc, hash, size, digits)?;
+/// Whether a catalogue of these bytes, which can't stand at `/d`, is the one that is bad.
+fn is_named_bad(alloc: Global, hash: &str, size: &str, bytes: Vec<u8>) -> Result<bool, Fail> {
+    let fault = fault_above(alloc, hash, size, bytes)?;
     Ok(fault == Some(LoadFault::Bad(catalogue_id(hash)?)))
 }
 
 #[test]
 fn a_wrong_catalogue_is_named(rt: HostRuntime) -> Result<(), Fail> {
-    for wrong in &WRONG {
-        assert!(rt; is_named_bad(rt.alloc(), wrong)?);
+    for (hash, size, digits) in &WRONG {
+        assert!(rt; is_named_bad(rt.alloc(), hash, size, decode(rt.alloc(), digits)?)?);
     }
+    Ok(())
+}
+
+#[test]
+fn a_catalogue_of_more_than_16_mib_is_named(rt: HostRuntime) -> Result<(), Fail> {
+    let (hash, size) = LARGE;
+    let zeros = vec![in rt.alloc(); 0u8; 16_777_217]?;
+    assert!(rt; is_named_bad(rt.alloc(), hash, size, zeros)?);
     Ok(())
 }
 
 /// The fault of the one that names itself.
 fn fault_of_itself(alloc: Global) -> Result<Option<LoadFault>, Fail> {
     let (hash, size, digits) = NAMES_ITSELF;
-    fault_above(alloc, hash, size, digits)
+    fault_above(alloc, hash, size, decode(alloc, digits)?)
 }
 
 #[test]

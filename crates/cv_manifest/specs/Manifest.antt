@@ -44,6 +44,11 @@ pub record IsManifest (m : Manifest) : Type 0 where
   pub name : IsTrue (is_name m.name)
   pub time : m.head.time < 2 ^ 62
 
+-- the head can be written
+pub record IsHead (head : Head) : Type 0 where
+  pub revision : 1 ≤ head.revision
+  pub time : head.time < 2 ^ 62
+
 -- the lines that are written: one for each field
 abbrev pub lines_of : Manifest → List (List ℕ)
 lines_of m = map (λ field. letter_of field ∷ value_of m field) all_fields

@@ -200,6 +200,3 @@ listed_more nested i path before here k d lt =
       | inl less ↦ before k d less
       | inr ge ↦ let is : k ≡ i = omega arith in subst (λ (j : ℕ). (get_or nested j d).path ≢ path) (sym is) (here d)
     ]
-
-pub none_listed : (nested : List Nested) (n : ℕ) (path : Path) → length nested ≤ n → ((k : ℕ) (d : Nested) → k < n → (get_or nested k d).path ≢ path) → (x : Nested) → Contains nested x → x.path ≢ path
-none_listed nested n path all none x has same = none has.0 x (omega (arith, has.1)) (ap (λ (y : Nested). y.path) has.2 ∙ same)

@@ -1,6 +1,6 @@
 -- Maps that are made of entries, the last first.
-use Rattle.std.proofs.Common.{◌≡◌, List, [], ◌∷◌, ◌++◌, refl, sym, ap, ◌∙◌, append_assoc, append-nil}
-use Rattle.std.specs.FinMap.{FinMap, empty, insert, from_entries}
+use Rattle.std.proofs.Common.{◌≡◌, List, [], ◌∷◌, ◌++◌, sym, ap, ◌∙◌, append_assoc}
+use Rattle.std.specs.FinMap.{FinMap, insert, from_entries}
 use Rattle.cv_base.specs.Path.{Path, path_cmp}
 
 -- the entries that aren't left are in the map
@@ -17,9 +17,6 @@ one_made {X} {left} {left'} {all} {made} {made'} k v h last set = record {
   split = h.split ∙ ap (λ (l : List (Path × X)). l ++ h.done) last ∙ append_assoc left' ((k, v) ∷ []) h.done;
   map = set ∙ ap (λ (m : FinMap path_cmp X). insert m k v) h.map;
 }
-
-pub none_made : {X : Type 0} (all : List (Path × X)) (made : FinMap path_cmp X) → made ≡ empty → IsMadeOf all all made
-none_made all made h = record { done = []; split = sym (append-nil all); map = h }
 
 pub all_made : {X : Type 0} {all : List (Path × X)} {made : FinMap path_cmp X} → IsMadeOf [] all made → made ≡ from_entries all
 all_made h = h.map ∙ ap from_entries (sym h.split)
