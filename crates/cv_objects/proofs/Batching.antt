@@ -1,5 +1,5 @@
 -- Batches, object by object.
-use Rattle.std.proofs.Common.{◌≡◌, ◌≢◌, ℕ, false, List, [], ◌∷◌, ◌++◌, take, length, ◌<◌, ◌+◌, get_or, sym, ap, subst, ◌∙◌, inl, inr, arith}
+use Rattle.std.proofs.Common.{◌≡◌, ◌≢◌, ℕ, false, List, [], ◌∷◌, ◌++◌, take, length, ◌<◌, ◌+◌, get_or, refl, sym, ap, subst, ◌∙◌, inl, inr, arith}
 use Rattle.std.specs.List.{Contains}
 use Rattle.sha1.specs.Sha1.{sha1}
 use Rattle.std.proofs.lemmas.List.Elements.{Contains-push_cases}
@@ -13,7 +13,7 @@ use Rattle.cv_vault.specs.Disk.{Disk, Slot, File, Settled, IsCalm, slot, synced}
 use Rattle.cv_vault.specs.Walks.{Nothing, Gains, Change, Stays, Comes}
 use Rattle.cv_vault.proofs.Names.{same_or_not}
 use Rattle.cv_objects.specs.Names.{way_name}
-use Rattle.cv_objects.specs.Batches.{IsReady, is_there, is_coming, Waits, stands, can, AreNamed, IsWritten, IsPlaced, BringsOne, Brings, IsOne, AreReady, AllWait, Has, KeepsOthers, Shows, ShownIn, by_one, by_two, by_itself}
+use Rattle.cv_objects.specs.Batches.{IsReady, is_there, is_coming, Waits, stands, can, AreNamed, IsWritten, IsPlaced, BringsOne, Brings, IsOne, AreReady, AllWait, Has, KeepsOthers, SparesOthers, Shows, ShownIn, by_one, by_two, by_itself}
 use Rattle.cv_objects.specs.declared.store_fault.StoreFault.{StoreFault}
 use Rattle.cv_objects.specs.declared.store_fault.StoreFault.TheVariants.{Collision, Failed, Damaged, NoMemory}
 use Rattle.cv_base.proofs.Laws.{one_file_name}
@@ -151,8 +151,11 @@ others_then a b = record { each = λ n apart. b.each n apart ∙ a.each n apart 
 pub wrote_others : {batch : List Object} {d d1 d2 : Disk} (o : Object) → Contains batch o → KeepsOthers d batch d1 → IsWritten d1 o d2 → KeepsOthers d batch d2
 wrote_others o h k w = others_then k (record { each = λ n apart. ap (λ (s : Slot). s.now) (w.others n (apart.way o h)) })
 
-pub placed_others : {batch : List Object} {d d1 d2 : Disk} (o : Object) → Contains batch o → KeepsOthers d batch d1 → IsPlaced d1 o d2 → KeepsOthers d batch d2
-placed_others o h k p = others_then k (record { each = λ n apart. ap (λ (s : Slot). s.now) (p.others n (apart.way o h) (apart.name o h)) })
+pub placed_others : {batch : List Object} {d d1 d2 : Disk} (o : Object) → Contains batch o → SparesOthers d batch d1 → IsPlaced d1 o d2 → SparesOthers d batch d2
+placed_others o h k p = record { each = λ n apart. p.others n (apart.way o h) (apart.name o h) ∙ k.each n apart }
+
+pub spares_all : {batch : List Object} {d : Disk} → SparesOthers d batch d
+spares_all = record { each = λ n apart. refl }
 
 -- ---- batches that are built
 

@@ -8,6 +8,8 @@ pub use Rattle.cv_objects.proofs.Naming.{data_off_way, digest_back}
 pub use Rattle.cv_objects.proofs.Telling.{told_of, standing_is}
 pub use Rattle.cv_objects.proofs.Batching.{is_digest_of, named_none, named_more}
 -- where nothing came, and where objects of the batch may
-pub use Rattle.cv_objects.proofs.Batching.{kept, brings_nothing}
+pub use Rattle.cv_objects.proofs.Batching.{kept, brings_nothing, brings_later}
+-- a batch that is there still is after a sync, and a fault of the vault refuses none
+pub use Rattle.cv_objects.proofs.Stores.{has_then, refusal_inside}
 -- faults that are handed on
 pub use Rattle.cv_objects.proofs.Looking.{handed_on, same_fault, outside}

@@ -2,7 +2,7 @@
 use Rattle.std.proofs.Common.{◌≡◌, ◌⊎◌, ℕ, zero, suc, List, take, length, ◌<◌, ◌+◌, get_or, [], ◌∷◌, ◌++◌, sym, ap, subst, ◌∙◌, refl, arith}
 use Rattle.std.specs.List.{Contains}
 use Rattle.std.proofs.lemmas.List.{take_more}
-use Rattle.std.proofs.lemmas.List.Elements.{Contains-push, Contains-push_cases, Contains-get_or, All-take, All-contains, All-contains_itself}
+use Rattle.std.proofs.lemmas.List.Elements.{Contains-push_cases, Contains-get_or, All-take, All-contains, All-contains_itself}
 
 pub earlier : {X : Type 0} (xs : List X) (i : ℕ) (x : X) → Contains (take i xs) x → Contains xs x
 earlier xs i x h = All-contains (Contains xs) (take i xs) x (All-take (Contains xs) i xs (All-contains_itself xs)) h
@@ -22,17 +22,6 @@ pub later_push : {X : Type 0} (xs : List X) (x y : X) → Contains xs y → Cont
 later_push [] x y c = absurd (let lt = c.1 in omega arith)
 later_push (z ∷ zs) x y (zero, lt, e) = (0, omega arith, e)
 later_push (z ∷ zs) x y (suc k, lt, e) = later_of z (zs ++ x ∷ []) y (later_push zs x y (k, omega arith, e))
-
--- one more is taken: those before, and the last
-pub take_longer : {X : Type 0} (xs : List X) (i : ℕ) (x a : X) → i < length xs → x ≡ get_or xs i x → Contains (take i xs) a → Contains (take (i + 1) xs) a
-take_longer {X} xs i x a lt is c =
-    let e : take (i + 1) xs ≡ take i xs ++ x ∷ [] = take_more xs i x lt ∙ ap (λ y. take i xs ++ y ∷ []) (sym is) in
-    subst (λ (ys : List X). Contains ys a) (sym e) (later_push (take i xs) x a c)
-
-pub take_last : {X : Type 0} (xs : List X) (i : ℕ) (x : X) → i < length xs → x ≡ get_or xs i x → Contains (take (i + 1) xs) x
-take_last {X} xs i x lt is =
-    let e : take (i + 1) xs ≡ take i xs ++ x ∷ [] = take_more xs i x lt ∙ ap (λ y. take i xs ++ y ∷ []) (sym is) in
-    subst (λ (ys : List X). Contains ys x) (sym e) (Contains-push (take i xs) x)
 
 pub among : {X : Type 0} (xs : List X) (i : ℕ) (x : X) → i < length xs → x ≡ get_or xs i x → Contains xs x
 among xs i x lt is = subst (Contains xs) (sym is) (Contains-get_or xs i x lt)

@@ -1,7 +1,7 @@
 -- What stands under an object's name.
 use Rattle.std.proofs.Common.{◌≡◌, ℕ, Bool, true, false, List, sym, ap, ◌∙◌}
 use Rattle.std.specs.declared.option.Option.{Option}
-use Rattle.std.specs.declared.option.Option.TheVariants.{None, Some}
+use Rattle.std.specs.declared.option.Option.TheVariants.{Some}
 use Rattle.std.specs.declared.result.Result.{Result}
 use Rattle.std.specs.declared.result.Result.TheVariants.{Ok, Err}
 use Rattle.std.specs.Prelude.{IsErrAnd}
@@ -46,9 +46,6 @@ module _ {V : Type 0} {disk : V → Option Disk} {count : V → ℕ} {left : V �
 
   pub looked_fails : (x : VaultFault) (r : Result Bool StoreFault) → r ≡ Err (fault_of x) → Calls disk count left (Reads n (Err x)) v v' → Walks disk count left on_way Nothing (Looked d o r) d v v'
   looked_fails x r is c = rw is (call only e c (λ d' h. (reads n (Err x) d d' h, (h, shows_outside d o (fault_of x) (outside x)))))
-
-pub looked_none : (d : Disk) (o : Object) (x : File) → x ≡ None → (d' : Disk) → d' ≡ d → x ≡ (d (file_name o.id)).now → Looked d o (Ok false) d'
-looked_none d o x is d' same there = (same, sym there ∙ is)
 
 pub looked_some : (d : Disk) (o : Object) (bytes : List ℕ) (x : File) (r : Result Bool StoreFault) → x ≡ Some bytes → Compares o bytes r → (d' : Disk) → d' ≡ d → x ≡ (d (file_name o.id)).now → Looked d o r d'
 looked_some d o bytes x (Ok true) is h d' same there = (same, sym there ∙ is ∙ ap Some h)

@@ -1,5 +1,5 @@
 -- Places that are noted.
-use Rattle.std.proofs.Common.{◌≡◌, ◌≢◌, ◌&&◌, ℕ, Bool, true, false, cond, None, Some, List, length, take, get_or, ◌<◌, ◌+◌, refl, sym, ap, subst, ◌∙◌, inl, inr, arith}
+use Rattle.std.proofs.Common.{◌≡◌, ◌&&◌, ℕ, Bool, true, false, cond, None, Some, List, length, take, get_or, ◌<◌, ◌+◌, refl, sym, ap, subst, ◌∙◌, inl, inr}
 use Rattle.std.specs.Prelude.{slice_get, OnOk, Result, Ok, Err}
 use Rattle.std.specs.List.{Contains}
 use Rattle.std.specs.Ordering.{nat_cmp}
@@ -8,14 +8,14 @@ use Rattle.std.specs.Str.{bytes_eq}
 use Rattle.std.specs.BTreeMap.{BTreeMap, get, Updates}
 use Rattle.std.proofs.lemmas.Map.Text.{is_eq-slice_cmp}
 use Rattle.std.proofs.lemmas.Slice.Eq.{bytes_eq-Decides}
-use Rattle.std.proofs.lemmas.Option.{slice_get_read, slice_get_within, get_or_from_slice_get}
+use Rattle.std.proofs.lemmas.Option.{slice_get_read}
 use Rattle.cv_base.specs.declared.id.Kind.{Kind}
 use Rattle.cv_base.specs.declared.id.Kind.TheVariants.{Plain, Catalogue, History}
 use Rattle.cv_base.specs.declared.id.ObjectId.{ObjectId}
 use Rattle.cv_base.specs.declared.object.Object.{Object}
 use Rattle.cv_ports.specs.Objects.{same_id, same_kind}
 use Rattle.cv_objects.specs.Places.{of_kind, place_of}
-use Rattle.cv_objects.specs.Batches.{IsOne, Clashes}
+use Rattle.cv_objects.specs.Batches.{IsOne}
 use Rattle.cv_objects.specs.declared.places.Places.{Places}
 use Rattle.cv_objects.proofs.Lists.{last_or_earlier}
 
@@ -121,12 +121,6 @@ pub record AreHere (batch : List Object) (n : ℕ) (places : Places) : Type 0 wh
   pub found : (id : ObjectId) (p : ℕ) → place_of places id ≡ Some p → (o : Object) × (slice_get batch p ≡ Some o) × (o.id ≡ id)
   pub all : (o : Object) → Contains (take n batch) o → IsHere batch places o
 
-pub none_here : (batch : List Object) (places : Places) → ((id : ObjectId) → place_of places id ≡ None) → AreHere batch 0 places
-none_here batch places none = record {
-  found = λ id p e. absurd (let k = none id in cc);
-  all = λ o h. absurd (let lt = h.1 in omega arith);
-}
-
 -- one more, whose id is noted already
 pub here_again : (batch : List Object) (n p : ℕ) (places : Places) (o : Object) → AreHere batch n places → n < length batch → o ≡ get_or batch n o → place_of places o.id ≡ Some p
     → ((other : Object) → slice_get batch p ≡ Some other → other.bytes ≡ o.bytes) → AreHere batch (n + 1) places
@@ -172,10 +166,3 @@ here_one batch places all = record { each = λ a b x y e. one a b (all a x) (all
         let place : x.place ≡ y.place = some_is (sym x.noted ∙ ap (place_of places) e ∙ y.noted) in
         let first : x.first ≡ y.first = some_is (sym x.there ∙ ap (slice_get batch) place ∙ y.there) in
         sym x.same ∙ ap (λ (o : Object). o.bytes) first ∙ y.same
-
--- another object with this id and other bytes
-pub here_clash : (batch : List Object) (n p : ℕ) (places : Places) (o : Object) → AreHere batch n places → Contains batch o → place_of places o.id ≡ Some p
-    → ((other : Object) → slice_get batch p ≡ Some other → other.bytes ≢ o.bytes) → Clashes batch o.id
-here_clash batch n p places o here among at apart_ =
-    let f = here.found o.id p at in
-    record { a = f.0; b = o; has_a = (p, slice_get_within batch p f.0 f.1, get_or_from_slice_get batch p f.0 f.0 f.1); has_b = among; is_a = f.2; is_b = refl; differ = apart_ f.0 f.1 }

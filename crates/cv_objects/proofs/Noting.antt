@@ -1,6 +1,6 @@
 -- Ids that are noted.
-use Rattle.std.proofs.Common.{◌≡◌, ◌||◌, ℕ, Bool, true, false, cond, List, [], ◌∷◌, ◌++◌, take, length, ◌<◌, ◌+◌, get_or, refl, sym, subst, ap, ◌∙◌, inl, inr, arith}
-use Rattle.std.specs.Prelude.{Vec, is_some, is_none}
+use Rattle.std.proofs.Common.{◌≡◌, ℕ, true, false, List, take, length, ◌<◌, ◌+◌, get_or, refl, sym, subst, ap, ◌∙◌, inl, inr}
+use Rattle.std.specs.Prelude.{Vec, is_none}
 use Rattle.std.specs.declared.option.Option.{Option}
 use Rattle.std.specs.declared.option.Option.TheVariants.{None, Some}
 use Rattle.std.specs.declared.result.Result.{Result}
@@ -12,10 +12,9 @@ use Rattle.cv_vault.specs.Names.{on_way}
 use Rattle.cv_vault.specs.Disk.{Disk, Files}
 use Rattle.cv_vault.specs.Walks.{Walks, Nothing}
 use Rattle.cv_vault.proofs.Walking.{looser}
-use Rattle.cv_ports.specs.Objects.{same_id}
 use Rattle.cv_objects.specs.Names.{standing_on}
 use Rattle.cv_objects.specs.Fresh.{lacking}
-use Rattle.cv_objects.specs.Places.{place_of, is_noted}
+use Rattle.cv_objects.specs.Places.{is_noted}
 use Rattle.cv_objects.specs.Batches.{Notes, again, anew, Noted, has_file, has_none, NotesOne, Looked, GivesFresh, Agrees, Shows, by_one, by_itself, IsOutside}
 use Rattle.cv_objects.specs.declared.places.Places.{Places}
 use Rattle.cv_objects.specs.declared.store_fault.StoreFault.{StoreFault}
@@ -25,24 +24,12 @@ use Rattle.cv_objects.proofs.Looking.{shows_outside}
 use Rattle.cv_objects.proofs.Once.{AreOnce, once_there, once_again, once_anew}
 use Rattle.cv_objects.proofs.Telling.{standing_is}
 
--- the id is noted now
-pub noted_now : (old : List ObjectId) (was : Places) (id : ObjectId) (new : List ObjectId) (are : Places) (p : ℕ) → is_noted was id ≡ false → new ≡ old ++ id ∷ []
-    → ((x : ObjectId) → place_of are x ≡ cond (same_id id x) (Some p) (place_of was x)) → Notes old was id new are
-noted_now old was id new are p other end put = anew other end (λ x. ap is_some (put x) ∙ by (same_id id x) (place_of was x))
-  where
-    by : (b : Bool) (o : Option ℕ) → is_some (cond b (Some p) o) ≡ (b || is_some o)
-    by true o = refl
-    by false o = refl
-
 -- an object more was looked at
 pub fresh_more : (d : Disk) (batch : List Object) (i : ℕ) (o : Object) (ids new : List ObjectId) (was are : Places) → i < length batch → o ≡ get_or batch i o
     → AreOnce (lacking (take i batch) (standing_on d)) ids (is_noted was) → Noted d o ids was new are → AreOnce (lacking (take (i + 1) batch) (standing_on d)) new (is_noted are)
 fresh_more d batch i o ids new was are lt is once (has_file there same kept) = rw (same, kept) (once_there (standing_on d) batch i o ids (is_noted was) lt is (ap is_none there) once)
 fresh_more d batch i o ids new was are lt is once (has_none absent (again noted same kept)) = rw (same, kept) (once_again (standing_on d) batch i o ids (is_noted was) lt is (ap is_none absent) noted once)
 fresh_more d batch i o ids new was are lt is once (has_none absent (anew other end more)) = rw end (once_anew (standing_on d) batch i o ids (is_noted was) (is_noted are) lt is (ap is_none absent) other more once)
-
-pub fresh_none : (d : Disk) (batch : List Object) (places : Places) → ((id : ObjectId) → place_of places id ≡ None) → AreOnce (lacking (take 0 batch) (standing_on d)) [] (is_noted places)
-fresh_none d batch places none = record { ids_ = refl; noted_ = λ x. ap is_some (none x) }
 
 some_is : {a b : List ℕ} → Some a ≡ Some b → a ≡ b
 some_is e = cc
@@ -60,9 +47,6 @@ agrees_more d batch i o ids new was are lt is agrees noted = record {
     own : Noted d o ids was new are → (bytes : List ℕ) → standing_on d o.id ≡ Some bytes → bytes ≡ o.bytes
     own (has_file there same kept) bytes e = some_is (sym e ∙ there)
     own (has_none absent notes) bytes e = absurd (let k : None ≡ Some bytes = sym absent ∙ e in cc)
-
-pub agrees_none : (d : Disk) (batch : List Object) → Agrees (take 0 batch) (standing_on d)
-agrees_none d batch = record { each = λ o h. absurd (let lt = h.1 in omega arith) }
 
 module _ {V : Type 0} {disk : V → Option Disk} {count : V → ℕ} {left : V → ℕ → Files → Type 0} {d : Disk} {v v1 : V} (o : Object) (ids : List ObjectId) (was : Places) where
   pub notes_not : {X : Type 0} (new : List ObjectId) (are : Places) (r : Result X StoreFault) (e : StoreFault) → r ≡ Err e → Walks disk count left on_way Nothing (Looked d o (Err e)) d v v1 → Walks disk count left on_way Nothing (NotesOne d o ids was new are r) d v v1

@@ -1,5 +1,6 @@
 -- A store, call by call.
-use Rattle.std.proofs.Common.{◌≡◌, ℕ, true, List, sym, ap, subst, ◌∙◌, inl, inr}
+use Rattle.std.proofs.Common.{◌≡◌, ℕ, List, sym, ap, subst, ◌∙◌, inl}
+use Rattle.std.specs.Prelude.{OnOk}
 use Rattle.std.specs.declared.option.Option.{Option}
 use Rattle.std.specs.declared.option.Option.TheVariants.{Some}
 use Rattle.std.specs.declared.result.Result.{Result}
@@ -7,20 +8,19 @@ use Rattle.std.specs.declared.result.Result.TheVariants.{Ok, Err}
 use Rattle.cv_base.specs.Told.{WhereTold}
 use Rattle.cv_base.specs.declared.object.Object.{Object}
 use Rattle.cv_vault.specs.declared.vault.VaultFault.{VaultFault}
-use Rattle.cv_vault.specs.declared.vault.VaultFault.TheVariants as vault
-use Rattle.cv_vault.specs.Names.{Name, on_way}
-use Rattle.cv_vault.specs.Disk.{Disk, Slot, File, Files, ImageOf, Syncs, Writes, Torn, slot, synced}
+use Rattle.cv_vault.specs.Names.{on_way}
+use Rattle.cv_vault.specs.Disk.{Disk, Slot, Files, ImageOf, Syncs, synced}
 use Rattle.cv_vault.specs.Moments.{Calls}
 use Rattle.cv_vault.specs.Walks.{Walks, Nothing, Gains}
-use Rattle.cv_vault.proofs.Laws.{call, bind, looser, gains_then, writes, here, ok, err, sync_ok, sync_err, calm_then}
+use Rattle.cv_vault.proofs.Laws.{bind, looser, ok, err, sync_ok, sync_err, calm_then}
 use Rattle.cv_objects.specs.Faults.{fault_of}
-use Rattle.cv_objects.specs.Batches.{AreReady, AllWait, Has, Brings, WroteAll, PlacedAll, Stored, StoredAll, StoredWith, AreStored, IsApart, KeepsOthers, IsOne, IsReady, is_there, is_coming, ShownIn, IsOutside}
+use Rattle.cv_objects.specs.Batches.{AreReady, AllWait, Has, Brings, WroteAll, PlacedAll, Brought, Stored, StoredAll, AreStored, KeepsOthers, SparesOthers, IsOne, IsReady, is_there, is_coming, ShownIn, by_itself, IsOutside, IsRefusal}
 use Rattle.cv_objects.specs.declared.store_fault.StoreFault.{StoreFault}
 use Rattle.cv_objects.specs.declared.store_fault.StoreFault.TheVariants.{Collision, Failed, Damaged, NoMemory}
 use Rattle.cv_objects.proofs.Looking.{outside}
 use Rattle.cv_objects.proofs.Batching.{all_wait, brings_nothing, brings_later, shown_first, others_then, others_synced}
 
-has_then : (batch : List Object) (d d' : Disk) → d' ≡ synced d → Has d batch → Has d' batch
+pub has_then : (batch : List Object) (d d' : Disk) → d' ≡ synced d → Has d batch → Has d' batch
 has_then batch d d' e h = subst (λ x. Has x batch) (sym e) (record { each = h.each })
 
 ready_then : (batch : List Object) (d d' : Disk) → d' ≡ synced d → AreReady d batch → AreReady d' batch
@@ -47,82 +47,104 @@ stored_refuses d batch d' r Failed one is h g = rw is one
 stored_refuses d batch d' r (Damaged id found) one is h g = rw is (record { shown = h; same = g })
 stored_refuses d batch d' r NoMemory one is h g = rw is (inl one)
 
+-- ---- the first half
+
+-- what was put after a sync
+put_later : {X : Type 0} (d d1 d2 : Disk) (batch : List Object) (r : Result X StoreFault) → Gains on_way Nothing d d1 → d1 ≡ synced d → WroteAll d1 batch r d2 → WroteAll d batch r d2
+put_later d d1 d2 batch (Ok x) g is w = (w.0, others_then (others_synced is) w.1)
+put_later d d1 d2 batch (Err e) g is w = shown_first e g w
+
+module _ {V : Type 0} {disk : V → Option Disk} {count : V → ℕ} {left : V → ℕ → Files → Type 0} (batch : List Object) {d : Disk} {v v1 : V} (only : (f : Files) → left v (count v) f → ImageOf (disk v) f) (told : disk v ≡ Some d) where
+  pub put_unsettled : {X : Type 0} (x : VaultFault) (r : Result X StoreFault) → r ≡ Err (fault_of x) → Calls disk count left (Syncs (err x)) v v1 → Walks disk count left on_way Nothing (WroteAll d batch r) d v v1
+  put_unsettled x r is c = rw is (looser (sync_err x only told c) (λ n f b. b) (λ d1 g s. by_itself (outside x)))
+
+  pub put_settled : {X : Type 0} {v2 : V} (r : Result X StoreFault) → Calls disk count left (Syncs ok) v v1 → WhereTold (disk v1) (λ d1. Walks disk count left on_way Nothing (WroteAll d1 batch r) d1 v1 v2)
+      → Walks disk count left on_way Nothing (WroteAll d batch r) d v v2
+  put_settled r c h = bind (sync_ok {B = Nothing} only told c) (λ n f b. b) (λ d1 told1 g is. looser (h d1 told1) (λ n f b. b) (λ d2 g2 w. put_later d d1 d2 batch r g is w))
+
+-- there was no memory to compare the ids of the batch
+pub put_wants : {X : Type 0} (d : Disk) (batch : List Object) (r : Result X StoreFault) → r ≡ Err NoMemory → WroteAll d batch r d
+put_wants d batch r is = rw is (by_itself tt)
+
+pub put_one : {X : Type 0} {P : Type 0} (r : Result X StoreFault) → P → OnOk r P
+put_one (Ok x) p = p
+put_one (Err e) p = tt
+
+-- ---- the second half
+
+brought_later : {X : Type 0} (d d1 d2 : Disk) (batch : List Object) (r : Result X StoreFault) → d1 ≡ synced d → PlacedAll d1 batch r d2 → Brought d batch r d2
+brought_later d d1 d2 batch (Ok x) is p = (p.0, subst (λ y. SparesOthers y batch d2) is p.1)
+brought_later d d1 d2 batch (Err e) is p = p
+
+module _ {V : Type 0} {disk : V → Option Disk} {count : V → ℕ} {left : V → ℕ → Files → Type 0} (batch : List Object) {d : Disk} {v v1 : V} (only : (f : Files) → left v (count v) f → ImageOf (disk v) f) (told : disk v ≡ Some d) where
+  pub bring_unsettled : {X : Type 0} (x : VaultFault) (r : Result X StoreFault) → r ≡ Err (fault_of x) → Calls disk count left (Syncs (err x)) v v1 → Walks disk count left on_way (Brings d batch) (Brought d batch r) d v v1
+  bring_unsettled x r is c = rw is (looser (sync_err x only told c) (λ n f b. b) (λ d1 g s. outside x))
+
+  pub bring_settled : {X : Type 0} {v2 : V} (r : Result X StoreFault) → AreReady d batch → Calls disk count left (Syncs ok) v v1
+      → WhereTold (disk v1) (λ d1. AllWait d1 batch → Walks disk count left on_way (Brings d1 batch) (PlacedAll d1 batch r) d1 v1 v2)
+      → Walks disk count left on_way (Brings d batch) (Brought d batch r) d v v2
+  bring_settled r ready c h = bind (sync_ok {B = Nothing} only told c) brings_nothing (λ d1 told1 g is. looser (h d1 told1 (can_all batch d d1 is ready)) (brings_later g) (λ d2 g2 p. brought_later d d1 d2 batch r is p))
+
+-- ---- both
+
+-- a fault of the vault refuses no batch
+pub refusal_inside : {X : Type 0} (r : Result X StoreFault) (e : StoreFault) → r ≡ Err e → IsOutside e → IsRefusal r → ⊥
+refusal_inside {X = X} r e is out refusal = by e out (subst (λ (x : Result X StoreFault). IsRefusal x) is refusal)
+  where
+    by : (e : StoreFault) → IsOutside e → IsRefusal {X = X} (Err e) → ⊥
+    by (Collision id) out h = out
+    by Failed out h = h
+    by (Damaged id found) out h = out
+    by NoMemory out h = h
+
+-- a batch that was brought after it was put
+others_brought : {batch : List Object} {d d' : Disk} → SparesOthers (synced d) batch d' → KeepsOthers d batch d'
+others_brought k = record { each = λ n apart. ap (λ (s : Slot). s.now) (k.each n apart) }
+
+-- a batch that is refused
+pub then_refused : {V : Type 0} {disk : V → Option Disk} {count : V → ℕ} {left : V → ℕ → Files → Type 0} (batch : List Object) {d : Disk} {v0 v : V} {X : Type 0} (r : Result X StoreFault) (e : StoreFault) → IsOne batch → r ≡ Err e
+    → Walks disk count left on_way Nothing (WroteAll d batch {X = Unit {0}} (Err e)) d v0 v → Walks disk count left on_way (Brings d batch) (StoredAll d batch r) d v0 v
+then_refused batch {d = d} r e one is w = looser w brings_nothing (λ d2 g k. stored_refuses d batch d2 r e one is k g)
+
 module _ {V : Type 0} {disk : V → Option Disk} {count : V → ℕ} {left : V → ℕ → Files → Type 0} (batch : List Object) {d : Disk} {v0 v v' : V} where
-  pub then_written : {u : Unit {0}} → Walks disk count left on_way Nothing (λ d1. d1 ≡ synced d) d v0 v → WhereTold (disk v) (λ d1. Walks disk count left on_way Nothing (WroteAll d1 batch {X = Unit {0}} (Ok u)) d1 v v')
-      → Walks disk count left on_way Nothing (λ d2. AreReady d2 batch × KeepsOthers d batch d2) d v0 v'
-  then_written w h = bind w (λ n f b. b) (λ d1 told g is. looser (h d1 told) (λ n f b. b) (λ d2 g2 r. (r.0, others_then (others_synced is) r.1)))
-
-  pub then_waiting : ((f : Files) → left v (count v) f → ImageOf (disk v) f) → Walks disk count left on_way Nothing (λ d2. AreReady d2 batch × KeepsOthers d batch d2) d v0 v → Calls disk count left (Syncs ok) v v'
-      → Walks disk count left on_way Nothing (λ d3. AllWait d3 batch × KeepsOthers d batch d3) d v0 v'
-  then_waiting only w c = bind w (λ n f b. b) (λ d2 told g ready. looser (sync_ok only told c) (λ n f b. b) (λ d3 g3 is. (can_all batch d2 d3 is ready.0, others_then ready.1 (others_synced is))))
-
-  pub then_placed : {u : Unit {0}} → Walks disk count left on_way Nothing (λ d3. AllWait d3 batch × KeepsOthers d batch d3) d v0 v → WhereTold (disk v) (λ d3. AllWait d3 batch → Walks disk count left on_way (Brings d3 batch) (PlacedAll d3 batch {X = Unit {0}} (Ok u)) d3 v v')
-      → Walks disk count left on_way (Brings d batch) (λ d4. Has d4 batch × KeepsOthers d batch d4) d v0 v'
-  then_placed w h = bind w brings_nothing (λ d3 told g wait. looser (h d3 told wait.0) (brings_later g) (λ d4 g4 r. (r.0, others_then wait.1 r.1)))
-
-  pub then_stored : ((f : Files) → left v (count v) f → ImageOf (disk v) f) → Walks disk count left on_way (Brings d batch) (λ d4. Has d4 batch × KeepsOthers d batch d4) d v0 v → Calls disk count left (Syncs ok) v v'
-      → Walks disk count left on_way (Brings d batch) (λ d5. AreStored batch d5 × KeepsOthers d batch d5) d v0 v'
-  then_stored only w c = bind w (λ n f b. b) (λ d4 told g has. looser (sync_ok only told c) (λ n f b. b) (λ d5 g5 is. (record { calm = calm_then d4 d5 is; has = has_then batch d4 d5 is has.0 }, others_then has.1 (others_synced is))))
-
-  -- a walk, and a sync that fails
-  pub then_fails : {X : Type 0} {B : Name → File → Type 0} {E : Disk → Type 0} (x : VaultFault) (r : Result X StoreFault) → IsOne batch → r ≡ Err (fault_of x) → ((n : Name) (f : File) → B n f → Brings d batch n f)
-      → ((f : Files) → left v (count v) f → ImageOf (disk v) f) → Walks disk count left on_way B E d v0 v → Calls disk count left (Syncs (err x)) v v'
+  pub then_unplaced : {X : Type 0} {u : Unit {0}} (r : Result X StoreFault) (e : StoreFault) → IsOne batch → r ≡ Err e → Walks disk count left on_way Nothing (WroteAll d batch {X = Unit {0}} (Ok u)) d v0 v
+      → WhereTold (disk v) (λ d1. AreReady d1 batch → Walks disk count left on_way (Brings d1 batch) (Brought d1 batch {X = Unit {0}} (Err e)) d1 v v')
       → Walks disk count left on_way (Brings d batch) (StoredAll d batch r) d v0 v'
-  then_fails x r one is more only w c = bind w more (λ d4 told g e. looser (sync_err x only told c) (λ n f b. b) (λ d5 g5 s. stored_outside d batch d5 r (fault_of x) one is (outside x)))
+  then_unplaced r e one is w h = bind w brings_nothing (λ d1 told g put. looser (h d1 told put.0) (brings_later g) (λ d2 g2 k. stored_outside d batch d2 r e one is k))
 
-  -- a write that is refused
-  pub then_refused : {X : Type 0} (r : Result X StoreFault) (e : StoreFault) → IsOne batch → r ≡ Err e → Walks disk count left on_way Nothing (λ d1. d1 ≡ synced d) d v0 v
-      → WhereTold (disk v) (λ d1. Walks disk count left on_way Nothing (WroteAll d1 batch {X = Unit {0}} (Err e)) d1 v v')
+  -- nor is one refused while it is brought
+  pub then_unrefused : {X : Type 0} {u : Unit {0}} (r : Result X StoreFault) (e : StoreFault) → r ≡ Err e → IsRefusal r → Walks disk count left on_way Nothing (WroteAll d batch {X = Unit {0}} (Ok u)) d v0 v
+      → WhereTold (disk v) (λ d1. AreReady d1 batch → Walks disk count left on_way (Brings d1 batch) (Brought d1 batch {X = Unit {0}} (Err e)) d1 v v') → ⊥
+  then_unrefused r e is refusal w h = refusal_inside r e is (h w.end w.told w.is.0).is refusal
+
+  pub then_brought : {u u' : Unit {0}} → Walks disk count left on_way Nothing (WroteAll d batch {X = Unit {0}} (Ok u)) d v0 v
+      → WhereTold (disk v) (λ d1. AreReady d1 batch → Walks disk count left on_way (Brings d1 batch) (Brought d1 batch {X = Unit {0}} (Ok u')) d1 v v')
+      → Walks disk count left on_way (Brings d batch) (λ d2. Has d2 batch × KeepsOthers d batch d2) d v0 v'
+  then_brought w h = bind w brings_nothing (λ d1 told g put. looser (h d1 told put.0) (brings_later g) (λ d2 g2 k. (k.0, others_then put.1 (others_brought k.1))))
+
+  pub then_stored : ((f : Files) → left v (count v) f → ImageOf (disk v) f) → Walks disk count left on_way (Brings d batch) (λ d2. Has d2 batch × KeepsOthers d batch d2) d v0 v → Calls disk count left (Syncs ok) v v'
+      → Walks disk count left on_way (Brings d batch) (λ d3. AreStored batch d3 × KeepsOthers d batch d3) d v0 v'
+  then_stored only w c = bind w (λ n f b. b) (λ d2 told g has. looser (sync_ok only told c) (λ n f b. b) (λ d3 g3 is. (record { calm = calm_then d2 d3 is; has = has_then batch d2 d3 is has.0 }, others_then has.1 (others_synced is))))
+
+  -- the last sync fails
+  pub then_fails : {X : Type 0} {E : Disk → Type 0} (x : VaultFault) (r : Result X StoreFault) → IsOne batch → r ≡ Err (fault_of x)
+      → ((f : Files) → left v (count v) f → ImageOf (disk v) f) → Walks disk count left on_way (Brings d batch) E d v0 v → Calls disk count left (Syncs (err x)) v v'
       → Walks disk count left on_way (Brings d batch) (StoredAll d batch r) d v0 v'
-  then_refused r e one is w h =
-      let u : Walks disk count left on_way Nothing (λ d2. ShownIn d batch e) d v0 v' = bind w (λ n f b. b) (λ d1 told g s. looser (h d1 told) (λ n f b. b) (λ d2 g2 k. shown_first e g k)) in
-      looser u brings_nothing (λ d2 g k. stored_refuses d batch d2 r e one is k g)
-
-  pub then_unplaced : {X : Type 0} (r : Result X StoreFault) (e : StoreFault) → IsOne batch → r ≡ Err e → Walks disk count left on_way Nothing (λ d3. AllWait d3 batch × KeepsOthers d batch d3) d v0 v
-      → WhereTold (disk v) (λ d3. AllWait d3 batch → Walks disk count left on_way (Brings d3 batch) (PlacedAll d3 batch {X = Unit {0}} (Err e)) d3 v v')
-      → Walks disk count left on_way (Brings d batch) (StoredAll d batch r) d v0 v'
-  then_unplaced r e one is w h = bind w brings_nothing (λ d3 told g wait. looser (h d3 told wait.0) (brings_later g) (λ d4 g4 k. stored_outside d batch d4 r e one is k))
-
-module _ {V : Type 0} {disk : V → Option Disk} {count : V → ℕ} {left : V → ℕ → Files → Type 0} (batch : List Object) {d : Disk} {v v' : V} where
-  -- the first sync fails
-  pub first_fails : {X : Type 0} (x : VaultFault) (r : Result X StoreFault) → IsOne batch → r ≡ Err (fault_of x) → ((f : Files) → left v (count v) f → ImageOf (disk v) f) → disk v ≡ Some d → Calls disk count left (Syncs (err x)) v v'
-      → Walks disk count left on_way (Brings d batch) (StoredAll d batch r) d v v'
-  first_fails x r one is only told c = looser (sync_err x only told c) (λ n f b. b) (λ d5 g5 s. stored_outside d batch d5 r (fault_of x) one is (outside x))
+  then_fails x r one is only w c = bind w (λ n f b. b) (λ d2 told g e. looser (sync_err x only told c) (λ n f b. b) (λ d3 g3 s. stored_outside d batch d3 r (fault_of x) one is (outside x)))
 
 -- what is said of a store alone
 pub stored_of : {X : Type 0} (d : Disk) (batch : List Object) (r : Result X StoreFault) (d' : Disk) → StoredAll d batch r d' → Stored d batch r d'
 stored_of d batch (Ok x) d' h = h.0
 stored_of d batch (Err e) d' h = h
 
--- ---- with a file on its way
+-- and of the other names
+pub stored_others : {V : Type 0} {disk : V → Option Disk} {count : V → ℕ} {left : V → ℕ → Files → Type 0} {X : Type 0} (batch : List Object) {d : Disk} {v v' : V} (r : Result X StoreFault)
+    → Walks disk count left on_way (Brings d batch) (StoredAll d batch r) d v v' → WhereTold (disk v') (λ d'. OnOk r (KeepsOthers d batch d'))
+stored_others {disk = disk} {X = X} batch {d = d} {v' = v'} r w d' told = by r (subst (λ y. StoredAll d batch r y) (some_disk (sym w.told ∙ told)) w.is)
+  where
+    some_disk : {a b : Disk} → Some a ≡ Some b → a ≡ b
+    some_disk e = cc
 
--- a store behind a walk by which nothing came
-stored_later : (X : Type 0) (d d1 d2 : Disk) (batch : List Object) (e : StoreFault) → Gains on_way Nothing d d1 → Stored d1 batch {X = X} (Err e) d2 → Stored d batch {X = X} (Err e) d2
-stored_later X d d1 d2 batch (Collision id) g s = record { shown = shown_first (Collision id) g s.shown; same = gains_then g s.same }
-stored_later X d d1 d2 batch Failed g s = s
-stored_later X d d1 d2 batch (Damaged id found) g s = record { shown = shown_first (Damaged id found) g s.shown; same = gains_then g s.same }
-stored_later X d d1 d2 batch NoMemory g s = elim s [ inl one ↦ inl one | inr h ↦ inr (gains_then g h) ]
-
-stored_with : {X : Type 0} (d d1 d2 : Disk) (batch : List Object) (way : Name) (bytes : List ℕ) (r : Result X StoreFault) → IsApart batch way → Gains on_way Nothing d d1 → (d1 way).now ≡ Some bytes → StoredAll d1 batch r d2
-    → StoredWith d batch way bytes r d2
-stored_with d d1 d2 batch way bytes (Ok x) apart g there s = (s.0, s.1.each way apart ∙ there)
-stored_with {X = X} d d1 d2 batch way bytes (Err e) apart g there s = stored_later X d d1 d2 batch e g s
-
-module _ {V : Type 0} {disk : V → Option Disk} {count : V → ℕ} {left : V → ℕ → Files → Type 0} (batch : List Object) (way : Name) (bytes : List ℕ) (on : on_way way ≡ true) {d : Disk} {v v1 : V}
-    (only : (f : Files) → left v (count v) f → ImageOf (disk v) f) (e : disk v ≡ Some d) where
-  -- the file isn't written
-  pub with_not : {X : Type 0} (x : VaultFault) (r : Result X StoreFault) → IsOne batch → r ≡ Err (fault_of x) → Calls disk count left (Writes way bytes (err x)) v v1
-      → Walks disk count left on_way (Brings d batch) (StoredWith d batch way bytes r) d v v1
-  with_not {X = X} x r one is c = rw is (call only e c (λ d1 h. (writes way bytes (err x) d d1 on h, unwritten x d1)))
-    where
-      unwritten : (x : VaultFault) (d1 : Disk) → StoredWith d batch way bytes {X = X} (Err (fault_of x)) d1
-      unwritten vault.Failed d1 = one
-      unwritten vault.NoMemory d1 = inl one
-
-  -- and then the batch is stored
-  pub with_batch : {X : Type 0} {v2 : V} (r : Result X StoreFault) → IsApart batch way → Calls disk count left (Writes way bytes ok) v v1
-      → WhereTold (disk v1) (λ d1. Walks disk count left on_way (Brings d1 batch) (StoredAll d1 batch r) d1 v1 v2) → Walks disk count left on_way (Brings d batch) (StoredWith d batch way bytes r) d v v2
-  with_batch r apart c h = bind written_now brings_nothing (λ d1 told g there. looser (h d1 told) (brings_later g) (λ d2 g2 s. stored_with d d1 d2 batch way bytes r apart g there s))
-    where
-      written_now : Walks disk count left on_way Nothing (λ d1. (d1 way).now ≡ Some bytes) d v v1
-      written_now = call only e c (λ d1 h. (writes way bytes ok d d1 on h, ap (λ (y : Disk). (y way).now) h ∙ ap (λ (s : Slot). s.now) (here d way (slot (Some bytes) Torn))))
+    by : (r : Result X StoreFault) → StoredAll d batch r d' → OnOk r (KeepsOthers d batch d')
+    by (Ok x) h = h.1
+    by (Err e) h = tt

@@ -1,5 +1,5 @@
 -- What storing a batch does.
-use Rattle.std.specs.Prelude.{◌≡◌, ◌≢◌, ◌⊎◌, ℕ, Bool, true, false, ◌||◌, List, [], ◌∷◌, ◌++◌, Vec}
+use Rattle.std.specs.Prelude.{◌≡◌, ◌≢◌, ◌⊎◌, ⊤, ℕ, Bool, true, false, ◌||◌, List, [], ◌∷◌, ◌++◌, Vec}
 use Rattle.std.specs.List.{Contains}
 use Rattle.std.specs.declared.option.Option.TheVariants.{None, Some}
 use Rattle.std.specs.declared.result.Result.{Result}
@@ -7,14 +7,15 @@ use Rattle.std.specs.declared.result.Result.TheVariants.{Ok, Err}
 use Rattle.sha1.specs.Sha1.{sha1}
 use Rattle.std.specs.declared.option.Option.{Option}
 use Rattle.cv_base.specs.Digest.{IsDigest}
+use Rattle.cv_base.specs.Told.{WhereTold}
 use Rattle.cv_base.specs.ObjectId.{file_name}
 use Rattle.cv_base.specs.declared.id.ObjectId.{ObjectId}
 use Rattle.cv_base.specs.declared.object.Object.{Object}
 use Rattle.cv_ports.specs.Objects.{same_id}
 use Rattle.cv_ports.specs.Shelf.{Shelf}
 use Rattle.cv_vault.specs.Names.{Name, on_way}
-use Rattle.cv_vault.specs.Disk.{Disk, File, Files, May, IsCalm, Settled, slot}
-use Rattle.cv_vault.specs.Walks.{Gains, Nothing}
+use Rattle.cv_vault.specs.Disk.{Disk, File, Files, May, IsCalm, Settled, slot, synced}
+use Rattle.cv_vault.specs.Walks.{Gains, Walks, Nothing}
 use Rattle.cv_objects.specs.Names.{way_name, standing_on}
 use Rattle.cv_objects.specs.Fresh.{fresh_of}
 use Rattle.cv_objects.specs.Places.{is_noted}
@@ -155,14 +156,35 @@ abbrev pub WroteAll : Disk → List Object → {X : Type 0} → Result X StoreFa
 WroteAll d batch (Ok x) d' = AreReady d' batch × KeepsOthers d batch d'
 WroteAll d batch (Err fault) d' = ShownIn d batch fault
 
+-- the names apart from the batch are as they were, marks included
+pub record SparesOthers (d : Disk) (batch : List Object) (d' : Disk) : Type 0 where
+  pub each : (n : Name) → IsApart batch n → d' n ≡ d n
+
 abbrev pub PlacedAll : Disk → List Object → {X : Type 0} → Result X StoreFault → Disk → Type 0
-PlacedAll d batch (Ok x) d' = Has d' batch × KeepsOthers d batch d'
+PlacedAll d batch (Ok x) d' = Has d' batch × SparesOthers d batch d'
 PlacedAll d batch (Err fault) d' = IsOutside fault
+
+-- what settling the disk and bringing the batch leaves
+abbrev pub Brought : Disk → List Object → {X : Type 0} → Result X StoreFault → Disk → Type 0
+Brought d batch (Ok x) d' = Has d' batch × SparesOthers (synced d) batch d'
+Brought d batch (Err fault) d' = IsOutside fault
 
 -- all is settled, and the batch is there
 pub record AreStored (batch : List Object) (d' : Disk) : Type 0 where
   pub calm : IsCalm d'
   pub has : Has d' batch
+
+-- the answer is a refusal of the batch
+abbrev pub IsRefusal : {X : Type 0} → Result X StoreFault → Type 0
+IsRefusal (Ok x) = ⊥
+IsRefusal (Err (Collision id)) = Unit {0}
+IsRefusal (Err Failed) = ⊥
+IsRefusal (Err (Damaged id found)) = Unit {0}
+IsRefusal (Err NoMemory) = ⊥
+
+-- nothing comes, and a crash at any moment leaves what it might have left before
+abbrev pub BringsNothing : {V : Type 0} (disk : V → Option Disk) (count : V → ℕ) (left : V → ℕ → Files → Type 0) → V → V → Type 0
+BringsNothing disk count left v v' = WhereTold (disk v) (λ d. Walks disk count left on_way Nothing (λ end. ⊤) d v v')
 
 -- a store is refused, and nothing came
 pub record IsRefused (d : Disk) (batch : List Object) (fault : StoreFault) (d' : Disk) : Type 0 where
@@ -181,11 +203,6 @@ Stored d batch (Err NoMemory) d' = IsOne batch ⊎ Gains on_way Nothing d d'
 abbrev pub StoredAll : Disk → List Object → {X : Type 0} → Result X StoreFault → Disk → Type 0
 StoredAll d batch (Ok x) d' = AreStored batch d' × KeepsOthers d batch d'
 StoredAll d batch {X} (Err fault) d' = Stored d batch {X = X} (Err fault) d'
-
--- the same with a file that is put on its way beside the batch
-abbrev pub StoredWith : Disk → List Object → Name → List ℕ → {X : Type 0} → Result X StoreFault → Disk → Type 0
-StoredWith d batch way bytes (Ok x) d' = AreStored batch d' × ((d' way).now ≡ Some bytes)
-StoredWith d batch way bytes {X} (Err fault) d' = Stored d batch {X = X} (Err fault) d'
 
 -- what stands on a shelf under an id of the batch is that object's bytes
 pub record Agrees (batch : List Object) (shelf : Shelf) : Type 0 where

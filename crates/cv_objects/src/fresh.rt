@@ -3,6 +3,7 @@ ghost use Rattle.std.specs.Prelude.{◌≡◌, OnOk, IfErr, IsErrOf};
 ghost use Rattle.cv_base.specs.Counts.{HasCause};
 ghost use Rattle.cv_base.specs.Told.{WhereTold};
 ghost use Rattle.cv_vault.specs.Names.{on_way};
+ghost use Rattle.cv_vault.specs.Moments.{OnlyReads};
 ghost use Rattle.cv_vault.specs.Walks.{Walks, Nothing};
 ghost use Rattle.cv_objects.specs.Batches.{GivesFresh, IsOne, Notes, NotesOne};
 ghost use Rattle.cv_objects.specs.declared.store_fault.StoreFault.TheVariants as fault;
@@ -39,6 +40,7 @@ fn note_fresh<V: Vault>(
 ) -> Result<(), StoreFault>
     ensures walks { WhereTold (V.disk vault.old) (λ d.
         Walks V.disk V.count V.left on_way Nothing (NotesOne d object.now ids.old.items noted.old ids.new.items noted.new result) d vault.old vault.new) }
+    ensures reads { OnlyReads V.disk V.count V.left vault.old vault.new }
     ensures cause { HasCause (V.faults vault.old) (V.faults vault.new) (IsErrOf result fault.Failed) }
 {
     if stands(vault, alloc, object)? {
@@ -55,6 +57,7 @@ pub fn fresh_ids<V: Vault>(
 ) -> Result<Vec<ObjectId>, StoreFault>
     requires one { IsOne batch.now }
     ensures walks { WhereTold (V.disk vault.old) (λ d. Walks V.disk V.count V.left on_way Nothing (GivesFresh d batch.now result) d vault.old vault.new) }
+    ensures reads { OnlyReads V.disk V.count V.left vault.old vault.new }
     ensures cause { HasCause (V.faults vault.old) (V.faults vault.new) (IsErrOf result fault.Failed) }
 {
     let mut ids = Vec::new(alloc);

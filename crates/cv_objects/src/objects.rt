@@ -1,6 +1,6 @@
 //! Objects over a vault.
 ghost use Rattle.std.proofs.Common.{ap};
-ghost use Rattle.std.specs.Prelude.{◌≡◌, ◌≢◌, ℕ, Option, true, IfErr, IsErrOf};
+ghost use Rattle.std.specs.Prelude.{◌≡◌, ◌≢◌, ℕ, Option, Err, IfErr, IsErrOf, OnOk};
 ghost use Rattle.std.specs.Option.{option_map};
 ghost use Rattle.cv_base.specs.Counts.{HasCause};
 ghost use Rattle.cv_base.specs.Told.{WhereTold};
@@ -12,14 +12,14 @@ ghost use Rattle.cv_vault.specs.Walks.{Walks, Nothing};
 ghost use Rattle.cv_vault.specs.declared.vault.VaultFault.TheVariants as vault_fault;
 ghost use Rattle.cv_vault.proofs.Quiet.{quiet_none, quiet_then, quiet_same};
 ghost use Rattle.cv_objects.specs.Names.{standing_on};
-ghost use Rattle.cv_objects.specs.Batches.{AreNamed, Brings, GivesFresh, IsApart, Stored, StoredWith};
+ghost use Rattle.cv_objects.specs.Batches.{AreNamed, AreReady, Brings, BringsNothing, Brought, GivesFresh, IsOne, IsRefusal, KeepsOthers, Stored, WroteAll};
 ghost use Rattle.cv_objects.specs.declared.store_fault.StoreFault.TheVariants as fault;
 
 use crate::batch::clash_in;
 use crate::fresh::fresh_ids;
 use crate::reading::{measure_object, read_object};
 use crate::store_fault::StoreFault;
-use crate::storing::store_all;
+use crate::storing::{bring_all, put_all, store_all};
 use cv_base::{Bytes, Object, ObjectId};
 use cv_ports::{Shelf, ShelfFault};
 use cv_vault::{Vault, VaultFault};
@@ -66,6 +66,7 @@ impl<V: Vault + Drop> Objects<V> {
     pub fn fresh(&mut self, alloc: Global, batch: &[Object]) -> Result<Vec<ObjectId>, StoreFault>
         ensures walks { WhereTold (V.disk self.old.vault) (λ d.
             Walks V.disk V.count V.left on_way Nothing (GivesFresh d batch.now result) d self.old.vault self.new.vault) }
+        ensures reads { OnlyReads V.disk V.count V.left self.old.vault self.new.vault }
         ensures cause { HasCause (V.faults self.old.vault) (V.faults self.new.vault) (IsErrOf result fault.Failed) }
         ensures taken { self.new.taken ≡ self.old.taken }
     {
@@ -78,11 +79,14 @@ impl<V: Vault + Drop> Objects<V> {
     /// Stores the objects of a batch that the shelf lacks: all of them, or, where it fails, some, whole.
     ///
     /// A crash at any moment leaves under each name what it might have left before, or the object of the batch that comes
-    /// to a name without a file. After `Collision` and `Damaged` nothing came.
+    /// to a name without a file. After `Collision` and `Damaged` nothing came. After `Ok` every other name, also one that is
+    /// on the way, has the file that it had.
     pub fn store(&mut self, alloc: Global, batch: &[Object]) -> Result<(), StoreFault>
         requires named { AreNamed batch.now }
         ensures walks { WhereTold (V.disk self.old.vault) (λ d.
             Walks V.disk V.count V.left on_way (Brings d batch.now) (Stored d batch.now result) d self.old.vault self.new.vault) }
+        ensures refused { IsRefusal result → BringsNothing V.disk V.count V.left self.old.vault self.new.vault }
+        ensures others { WhereTold (V.disk self.old.vault) (λ d. WhereTold (V.disk self.new.vault) (λ d'. OnOk result (KeepsOthers d batch.now d'))) }
         ensures cause { HasCause (V.faults self.old.vault) (V.faults self.new.vault) (IsErrOf result fault.Failed) }
         ensures taken { self.new.taken ≡ self.old.taken }
     {
@@ -92,30 +96,36 @@ impl<V: Vault + Drop> Objects<V> {
         store_all(&mut self.vault, alloc, batch)
     }
 
-    /// Stores the objects of a batch that the shelf lacks, as `store` does, and puts a file on its way: the syncs that the
-    /// objects need settle it too.
+    /// Puts the objects of a batch that the shelf lacks on their way, where the next sync settles them: the first half of a
+    /// store. It settles first. Nothing comes to any name of an object.
     ///
-    /// The file's name is one on the way that no object of the batch has there.
-    pub fn store_with(
-        &mut self,
-        alloc: Global,
-        batch: &[Object],
-        way: &str,
-        bytes: &[u8],
-    ) -> Result<(), StoreFault>
+    /// `Collision` and `Damaged` come where a store of the batch would be refused so.
+    pub fn put(&mut self, alloc: Global, batch: &[Object]) -> Result<(), StoreFault>
         requires named { AreNamed batch.now }
-        requires way { on_way way.now ≡ true }
-        requires apart { IsApart batch.now way.now }
         ensures walks { WhereTold (V.disk self.old.vault) (λ d.
-            Walks V.disk V.count V.left on_way (Brings d batch.now) (StoredWith d batch.now way.now bytes.now result) d self.old.vault self.new.vault) }
+            Walks V.disk V.count V.left on_way Nothing (WroteAll d batch.now result) d self.old.vault self.new.vault) }
+        ensures one { OnOk result (IsOne batch.now) }
+        ensures failed { result ≡ Err fault.Failed → IsOne batch.now }
         ensures cause { HasCause (V.faults self.old.vault) (V.faults self.new.vault) (IsErrOf result fault.Failed) }
         ensures taken { self.new.taken ≡ self.old.taken }
     {
         if let Some(id) = clash_in(alloc, batch)? {
             return Err(StoreFault::Collision(id));
         }
-        self.vault.write(way, bytes)?;
-        store_all(&mut self.vault, alloc, batch)
+        put_all(&mut self.vault, alloc, batch)
+    }
+
+    /// Settles what is on its way, and brings the objects of a batch to their names, where the next sync settles them: the
+    /// second half of a store, after `put`.
+    pub fn bring(&mut self, alloc: Global, batch: &[Object]) -> Result<(), StoreFault>
+        requires named { AreNamed batch.now }
+        requires one { IsOne batch.now }
+        ensures walks { WhereTold (V.disk self.old.vault) (λ d. AreReady d batch.now →
+            Walks V.disk V.count V.left on_way (Brings d batch.now) (Brought d batch.now result) d self.old.vault self.new.vault) }
+        ensures cause { HasCause (V.faults self.old.vault) (V.faults self.new.vault) (IsErrOf result fault.Failed) }
+        ensures taken { self.new.taken ≡ self.old.taken }
+    {
+        bring_all(&mut self.vault, alloc, batch)
     }
 }
 

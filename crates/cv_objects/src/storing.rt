@@ -5,8 +5,9 @@ ghost use Rattle.cv_base.specs.Counts.{HasCause};
 ghost use Rattle.cv_base.specs.Digest.{IsDigest};
 ghost use Rattle.cv_base.specs.Told.{WhereTold};
 ghost use Rattle.cv_vault.specs.Names.{on_way};
+ghost use Rattle.cv_vault.specs.Moments.{OnlyReads};
 ghost use Rattle.cv_vault.specs.Walks.{Walks, Nothing};
-ghost use Rattle.cv_objects.specs.Batches.{Compares, Looked, Wrote, Placed, WroteAll, PlacedAll, StoredAll, Brings, BringsOne, AreNamed, IsOne, Waits, AllWait};
+ghost use Rattle.cv_objects.specs.Batches.{Compares, Looked, Wrote, Placed, WroteAll, PlacedAll, Brought, StoredAll, Brings, BringsOne, BringsNothing, IsRefusal, AreNamed, AreReady, IsOne, Waits, AllWait};
 ghost use Rattle.cv_objects.specs.declared.store_fault.StoreFault.TheVariants as fault;
 
 use crate::names::{name_of, way_of};
@@ -36,6 +37,7 @@ fn compare(object: &Object, found: &Bytes) -> Result<bool, StoreFault>
 /// Whether an object stands under its name.
 pub fn stands<V: Vault>(vault: &mut V, alloc: Global, object: &Object) -> Result<bool, StoreFault>
     ensures walks { WhereTold (V.disk vault.old) (λ d. Walks V.disk V.count V.left on_way Nothing (Looked d object.now result) d vault.old vault.new) }
+    ensures reads { OnlyReads V.disk V.count V.left vault.old vault.new }
     ensures cause { HasCause (V.faults vault.old) (V.faults vault.new) (IsErrOf result fault.Failed) }
     ensures digest { IsDigest object.now.id.hash }
 {
@@ -104,16 +106,37 @@ fn place_absent<V: Vault>(vault: &mut V, alloc: Global, batch: &[Object]) -> Res
     Ok(())
 }
 
+/// Puts the objects of a batch that the vault lacks on their way, where the next sync settles them. It settles first.
+pub fn put_all<V: Vault>(vault: &mut V, alloc: Global, batch: &[Object]) -> Result<(), StoreFault>
+    requires named { AreNamed batch.now }
+    requires one { IsOne batch.now }
+    ensures walks { WhereTold (V.disk vault.old) (λ d. Walks V.disk V.count V.left on_way Nothing (WroteAll d batch.now result) d vault.old vault.new) }
+    ensures cause { HasCause (V.faults vault.old) (V.faults vault.new) (IsErrOf result fault.Failed) }
+{
+    vault.sync()?;
+    write_absent(vault, alloc, batch)
+}
+
+/// Settles what is on its way, and brings the objects of a batch to their names, where the next sync settles them.
+pub fn bring_all<V: Vault>(vault: &mut V, alloc: Global, batch: &[Object]) -> Result<(), StoreFault>
+    requires named { AreNamed batch.now }
+    requires one { IsOne batch.now }
+    ensures walks { WhereTold (V.disk vault.old) (λ d. AreReady d batch.now → Walks V.disk V.count V.left on_way (Brings d batch.now) (Brought d batch.now result) d vault.old vault.new) }
+    ensures cause { HasCause (V.faults vault.old) (V.faults vault.new) (IsErrOf result fault.Failed) }
+{
+    vault.sync()?;
+    place_absent(vault, alloc, batch)
+}
+
 /// Stores the objects of a batch that the vault lacks. It settles first.
 pub fn store_all<V: Vault>(vault: &mut V, alloc: Global, batch: &[Object]) -> Result<(), StoreFault>
     requires named { AreNamed batch.now }
     requires one { IsOne batch.now }
     ensures walks { WhereTold (V.disk vault.old) (λ d. Walks V.disk V.count V.left on_way (Brings d batch.now) (StoredAll d batch.now result) d vault.old vault.new) }
+    ensures refused { IsRefusal result → BringsNothing V.disk V.count V.left vault.old vault.new }
     ensures cause { HasCause (V.faults vault.old) (V.faults vault.new) (IsErrOf result fault.Failed) }
 {
-    vault.sync()?;
-    write_absent(vault, alloc, batch)?;
-    vault.sync()?;
-    place_absent(vault, alloc, batch)?;
+    put_all(vault, alloc, batch)?;
+    bring_all(vault, alloc, batch)?;
     Ok(vault.sync()?)
 }

@@ -1,7 +1,7 @@
 use Rattle.std.proofs.Common.{arith, subst, List, ap, ◌∙◌}
 use Rattle.std.proofs.lemmas.List.{take_all}
 use Rattle.cv_base.specs.declared.object.Object.{Object}
-use Rattle.cv_vault.proofs.Walking.{bind, looser}
+use Rattle.cv_vault.proofs.Laws.{bind, looser, quiet_then}
 use Rattle.cv_objects.specs.Batches.{Shows, Noted, Agrees}
 use Rattle.cv_objects.specs.Fresh.{fresh_of}
 use Rattle.cv_objects.specs.Names.{standing_on}
@@ -24,6 +24,7 @@ loop-object-preserved g c = record {
         agrees_more d c.args.batch.now c.loop-object.object-index c.object-item.result c.loop-object.ids.items c.note_fresh.new.ids.items c.loop-object.noted c.note_fresh.new.noted (omega arith) c.object-item.is r.2
             (subst (λ x. Noted x c.object-item.result c.loop-object.ids.items c.loop-object.noted c.note_fresh.new.ids.items c.note_fresh.new.noted) r.0 w.1),
       )));
+  reads = quiet_then c.loop-object.invariant.reads c.in_ok-note_fresh.ensures.reads;
   cause = omega arith;
 }
 

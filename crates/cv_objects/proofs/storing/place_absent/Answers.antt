@@ -1,11 +1,11 @@
-use Rattle.std.proofs.Common.{arith, subst, refl, List}
+use Rattle.std.proofs.Common.{arith, subst, List}
 use Rattle.std.proofs.lemmas.List.{take_all}
 use Rattle.cv_base.specs.declared.object.Object.{Object}
 use Rattle.cv_vault.proofs.Walking.{bind, looser, stand}
 use Rattle.cv_objects.specs.Batches.{Has}
 use Rattle.cv_objects.proofs.Lists.{among}
 use Rattle.cv_objects.proofs.Looking.{same_fault}
-use Rattle.cv_objects.proofs.Batching.{half_more, half_none, brings_on, placed_others, others_same}
+use Rattle.cv_objects.proofs.Batching.{half_more, half_none, brings_on, placed_others, spares_all}
 use Rattle.cv_objects.proofs.storing.place_absent.Goals as goal
 
 pub returns-in_err-place_one-clause-walks : goal.returns-in_err-place_one-clause-walks
@@ -28,4 +28,4 @@ pub returns-clause-walks : goal.returns-clause-walks
 returns-clause-walks g c = λ d e waits. looser (c.loop-object.invariant.walks d e waits) (λ n f b. b) (λ d1 gains r. (subst (λ (xs : List Object). Has d1 xs) (take_all c.loop-object.object-index c.args.batch.now (omega arith)) r.0.has, r.1))
 
 pub loop-object-init : goal.loop-object-init
-loop-object-init g c = record { walks = λ d e waits. stand (g.met.V.Vault.only_now c.args.vault.now) e (half_none c.args.batch.now d waits, others_same refl); cause = omega arith }
+loop-object-init g c = record { walks = λ d e waits. stand (g.met.V.Vault.only_now c.args.vault.now) e (half_none c.args.batch.now d waits, spares_all); cause = omega arith }

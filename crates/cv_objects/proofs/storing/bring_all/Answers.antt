@@ -1,0 +1,9 @@
+use Rattle.cv_objects.proofs.Looking.{handed_on}
+use Rattle.cv_objects.proofs.Stores.{bring_unsettled, bring_settled}
+use Rattle.cv_objects.proofs.storing.bring_all.Goals as goal
+
+pub returns-in_err-sync-clause-walks : goal.returns-in_err-sync-clause-walks
+returns-in_err-sync-clause-walks g c = λ d e ready. bring_unsettled c.args.batch.now (g.met.V.Vault.only_now c.args.vault.now) e c.in_err-sync.field-0.0 _ (handed_on _ _ c.from_residual.ensures.1) c.in_err-sync.ensures.call
+
+pub returns-clause-walks : goal.returns-clause-walks
+returns-clause-walks g c = λ d e ready. bring_settled c.args.batch.now (g.met.V.Vault.only_now c.args.vault.now) e c.place_absent.result ready c.in_ok-sync.ensures.call c.place_absent.ensures.walks
