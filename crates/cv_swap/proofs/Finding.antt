@@ -1,5 +1,6 @@
 -- What the files of a repository say.
-use Rattle.std.proofs.Common.{◌≡◌, ℕ, Bool, List, sym, ◌∙◌}
+use Rattle.std.proofs.Common.{◌≡◌, ℕ, Bool, List, sym, ◌∙◌, subst}
+use Rattle.std.specs.Prelude.{IfOk}
 use Rattle.std.specs.declared.option.Option.{Option}
 use Rattle.std.specs.declared.option.Option.TheVariants.{Some}
 use Rattle.std.specs.declared.result.Result.{Result}
@@ -8,6 +9,7 @@ use Rattle.cv_vault.specs.Names.{Name}
 use Rattle.cv_vault.specs.Disk.{Disk, File, Files, Reads, files_now}
 use Rattle.cv_vault.specs.Moments.{Calls}
 use Rattle.cv_manifest.specs.declared.head.Head.{Head}
+use Rattle.cv_manifest.specs.Manifest.{IsHead}
 use Rattle.cv_swap.specs.Stands.{head_name}
 use Rattle.cv_swap.specs.Opening.{FindsHead, IsRead}
 use Rattle.cv_swap.specs.declared.open_fault.OpenFault.{OpenFault}
@@ -28,6 +30,11 @@ finds_head name is_seal f bytes (Err BadEpoch) e h = absurd h
 finds_head name is_seal f bytes (Err EpochsSpent) e h = absurd h
 finds_head name is_seal f bytes (Err Failed) e h = absurd h
 finds_head name is_seal f bytes (Err NoMemory) e h = tt
+
+-- a head that was read can be written
+pub head_read : (name : List ℕ) (is_seal : List ℕ → List ℕ → Bool) (bytes : List ℕ) (r : Result Head OpenFault) → IsRead name is_seal bytes r → IfOk r IsHead
+head_read name is_seal bytes (Ok head) h = subst IsHead h.3 (record { revision = h.1.say.limits.revision; time = h.1.say.limits.time })
+head_read name is_seal bytes (Err fault) h = tt
 
 pub file_now : {V : Type 0} {disk : V → Option Disk} {count : V → ℕ} {left : V → ℕ → Files → Type 0} {v v' : V} (n : Name) (x y : File) (d : Disk) → disk v ≡ Some d → Calls disk count left (Reads n (Ok x)) v v' → x ≡ y → files_now d n ≡ y
 file_now n x y d e c is = read_now n x d e c ∙ is

@@ -18,7 +18,7 @@ use Rattle.cv_vault.specs.declared.vault.VaultFault.TheVariants as vault
 use Rattle.cv_vault.specs.Names.{Name, on_way}
 use Rattle.cv_vault.specs.Disk.{Disk, File, Files, ImageOf, IsCalm, May, files_now}
 use Rattle.cv_vault.specs.Moments.{OnlyReads, LeavesOnly}
-use Rattle.cv_vault.specs.Walks.{Change, Stays, Comes, Gains, Within, ComesTo}
+use Rattle.cv_vault.specs.Walks.{Change, Stays, Comes, Gains, Within, Nothing, ComesTo}
 use Rattle.cv_vault.proofs.Walking.{may_before}
 use Rattle.cv_vault.proofs.Laws.{leaves_more, leaves_then, gains_none, gains_then, gains_more, within_then, within_more, quiet_walks, quiet_same}
 use Rattle.cv_objects.specs.Names.{standing_on, objects_of, is_digest}
@@ -29,10 +29,11 @@ use Rattle.cv_objects.proofs.Lemmas.{digest_back, is_digest_of, standing_is}
 use Rattle.cv_swap.specs.Kept.{head_of, record_object}
 use Rattle.cv_swap.specs.Stands.{Stands, CanBegin, Publishes, first_kept, head_name, epoch_name}
 use Rattle.cv_swap.specs.First.{first_tree, first_revision, first_batch}
-use Rattle.cv_swap.specs.Publishing.{BringsFirst, an_object, the_epoch, BringsAll, comes_before, comes_last, AreBuilt, WhileFirst, before_head, with_head, Inited, Inits}
+use Rattle.cv_swap.specs.Publishing.{BringsFirst, an_object, the_epoch, BringsAll, comes_before, comes_last, AreBuilt, WhileFirst, FirstLeaves, before_head, with_head, Inited, Inits}
 use Rattle.cv_swap.specs.Faults.{init_fault_of, init_fault_in}
-use Rattle.cv_swap.specs.Init.{StandsFirst, HasFirst, BringsRevision, before_it, the_head, WhileInit, not_yet, whole, Answers, Makes, MakesFirst}
+use Rattle.cv_swap.specs.Init.{StandsFirst, HasFirst, BringsRevision, before_it, the_head, WhileInit, InitLeaves, not_yet, whole, Answers, Makes, MakesFirst}
 use Rattle.cv_swap.specs.declared.init_fault.InitFault.{InitFault}
+use Rattle.cv_swap.specs.declared.init_fault.InitFault.TheVariants as init_fault
 use Rattle.cv_swap.proofs.Names.{head_not_data, epoch_not_data, epoch_not_head, some_is}
 use Rattle.cv_swap.proofs.Named.{first_named}
 use Rattle.cv_swap.proofs.Begins.{within_beside, gains_beside, first_before, first_between, first_leaves, first_makes}
@@ -129,10 +130,31 @@ first_while name is_seal now manifest d f limit none says (with_head built are g
 ]
 
 -- from a settled disk without a manifest and with no damaged object there is none, or the whole
-pub while_settled : (name : List ℕ) (is_seal : List ℕ → List ℕ → Bool) (now : ℕ) (d : Disk) (f : Files) → IsCalm d → (d head_name).now ≡ None → HaveHashes (files_now d) → WhileInit name is_seal now d f
+while_settled : (name : List ℕ) (is_seal : List ℕ → List ℕ → Bool) (now : ℕ) (d : Disk) (f : Files) → IsCalm d → (d head_name).now ≡ None → HaveHashes (files_now d) → WhileInit name is_seal now d f
     → (f head_name ≡ None) ⊎ StandsFirst name is_seal now f
 while_settled name is_seal now d f calm none hashed (not_yet within) = inl (first_before d (first_batch now) f calm none within)
 while_settled name is_seal now d f calm none hashed (whole within head has stands) = inr (stands hashed)
+
+-- what is left with an answer is left while a repository is made
+leaves_while : (name : List ℕ) (is_seal : List ℕ → List ℕ → Bool) (now : ℕ) (d : Disk) (r : Result (Unit {0}) InitFault) (f : Files) → InitLeaves name is_seal now d r f → WhileInit name is_seal now d f
+leaves_while name is_seal now d (Ok u) f h = h
+leaves_while name is_seal now d (Err init_fault.Exists) f h = not_yet (within_more (λ n g b. absurd b) f h)
+leaves_while name is_seal now d (Err (init_fault.Collision id)) f h = not_yet (within_more (λ n g b. absurd b) f h)
+leaves_while name is_seal now d (Err init_fault.Failed) f h = h
+leaves_while name is_seal now d (Err (init_fault.Damaged id found)) f h = not_yet (within_more (λ n g b. absurd b) f h)
+leaves_while name is_seal now d (Err init_fault.NoMemory) f h = h
+
+pub leaves_settled : (name : List ℕ) (is_seal : List ℕ → List ℕ → Bool) (now : ℕ) (d : Disk) (r : Result (Unit {0}) InitFault) (f : Files) → IsCalm d → (d head_name).now ≡ None → HaveHashes (files_now d) → InitLeaves name is_seal now d r f
+    → (f head_name ≡ None) ⊎ StandsFirst name is_seal now f
+leaves_settled name is_seal now d r f calm none hashed h = while_settled name is_seal now d f calm none hashed (leaves_while name is_seal now d r f h)
+
+-- where nothing came, whatever refuses
+nothing_left : (name : List ℕ) (is_seal : List ℕ → List ℕ → Bool) (now : ℕ) (d : Disk) (e : InitFault) (f : Files) → Within on_way Nothing d f → InitLeaves name is_seal now d (Err e) f
+nothing_left name is_seal now d init_fault.Exists f w = w
+nothing_left name is_seal now d (init_fault.Collision id) f w = w
+nothing_left name is_seal now d init_fault.Failed f w = not_yet (within_more (λ n g b. absurd b) f w)
+nothing_left name is_seal now d (init_fault.Damaged id found) f w = w
+nothing_left name is_seal now d init_fault.NoMemory f w = not_yet (within_more (λ n g b. absurd b) f w)
 
 -- what a refusal of the store says
 answers_of : (d : Disk) (now : ℕ) (manifest : List ℕ) (d' : Disk) (e : StoreFault) → (d head_name).now ≡ None → Inited d (first_batch now) manifest {X = Unit {0}} (Err e) d' → Answers d now (Err (init_fault_of e))
@@ -158,6 +180,14 @@ pub vault_makes : (name : List ℕ) (is_seal : List ℕ → List ℕ → Bool) (
 vault_makes name is_seal now d vault.Failed = gains_none refl
 vault_makes name is_seal now d vault.NoMemory = gains_none refl
 
+-- what is left with a fault of the store
+refused_left : (name : List ℕ) (is_seal : List ℕ → List ℕ → Bool) (now : ℕ) (manifest : List ℕ) (d : Disk) (e : StoreFault) (f : Files) → now < 2 ^ 62 → (d head_name).now ≡ None → Publishes name is_seal (Some manifest) (head_of (first_revision now))
+    → FirstLeaves d (first_batch now) manifest {X = Unit {0}} (Err e) f → InitLeaves name is_seal now d (Err (init_fault_of e)) f
+refused_left name is_seal now manifest d (store.Collision id) f limit none says w = w
+refused_left name is_seal now manifest d store.Failed f limit none says w = first_while name is_seal now manifest d f limit none says w
+refused_left name is_seal now manifest d (store.Damaged id found) f limit none says w = w
+refused_left name is_seal now manifest d store.NoMemory f limit none says w = first_while name is_seal now manifest d f limit none says w
+
 module _ {V : Type 0} {disk : V → Option Disk} {count : V → ℕ} {left : V → ℕ → Files → Type 0} (name : List ℕ) (is_seal : List ℕ → List ℕ → Bool) (now : ℕ) {d : Disk} {v v1 : V}
     (only : (f : Files) → left v (count v) f → ImageOf (disk v) f) (told : disk v ≡ Some d) (reads : OnlyReads disk count left v v1) where
   -- nothing was done but reads
@@ -168,12 +198,12 @@ module _ {V : Type 0} {disk : V → Option Disk} {count : V → ℕ} {left : V �
     answers = answers;
     untouched = λ there. reads;
     makes = makes;
-    leaves = leaves_more (quiet_walks only told reads).leaves (λ f w. not_yet (within_more (λ n g b. absurd b) f w));
+    leaves = leaves_more (quiet_walks only told reads).leaves (λ f w. nothing_left name is_seal now d e f w);
   })
 
   module _ {v2 : V} (manifest : List ℕ) (limit : now < 2 ^ 62) (none : (d head_name).now ≡ None) (says : Publishes name is_seal (Some manifest) (head_of (first_revision now))) where
-    leaves : {r : Result (Unit {0}) StoreFault} → Inits disk count left d (first_batch now) manifest r v1 v2 → LeavesOnly count left (WhileInit name is_seal now d) v v2
-    leaves u = leaves_then (quiet_walks only told reads).leaves u.leaves (λ f w. not_yet (within_more (λ n g b. absurd b) f w)) (λ f w. first_while name is_seal now manifest d f limit none says w)
+    leaves : {P : Files → Type 0} → LeavesOnly count left P v1 v2 → (R : Files → Type 0) → ((f : Files) → Within on_way Nothing d f → R f) → ((f : Files) → P f → R f) → LeavesOnly count left R v v2
+    leaves l R before after = leaves_then (quiet_walks only told reads).leaves l before after
 
     pub inits_all : {t : Unit {0}} (batch : List Object) → batch ≡ first_batch now → WhereTold (disk v1) (λ d1. Inits disk count left d1 batch manifest {X = Unit {0}} (Ok t) v1 v2) → MakesFirst disk count left name is_seal now d (Ok tt) v v2
     inits_all {t} batch same h = let u : Inits disk count left d (first_batch now) manifest {X = Unit {0}} (Ok t) v1 v2 = subst (λ (b : List Object). Inits disk count left d b manifest {X = Unit {0}} (Ok t) v1 v2) same (h d (quiet_same reads ∙ told)) in record {
@@ -188,7 +218,7 @@ module _ {V : Type 0} {disk : V → Option Disk} {count : V → ℕ} {left : V �
         gains = gains_more (comes_with name is_seal now manifest d says) (gains_then (gains_more (λ n g b. comes_before b) u.is.gains) (gains_more (λ n g c. comes_last c) u.is.comes));
         whole = λ hashed f i. stands_first name is_seal u.is.built now f (first_makes name is_seal u.is.built u.end (first_revision now) manifest u.is.are.sure (first_can name is_seal d u.is.built now manifest limit hashed u.is.gains u.is.are says) u.is.comes u.is.sure f i);
       };
-      leaves = leaves u;
+      leaves = leaves u.leaves (WhileInit name is_seal now d) (λ f w. not_yet (within_more (λ n g b. absurd b) f w)) (λ f w. first_while name is_seal now manifest d f limit none says w);
     }
 
     pub inits_some : (batch : List Object) → batch ≡ first_batch now → (r : Result (Unit {0}) InitFault) (e : StoreFault) → r ≡ Err (init_fault_of e)
@@ -199,7 +229,7 @@ module _ {V : Type 0} {disk : V → Option Disk} {count : V → ℕ} {left : V �
       answers = answers_of d now manifest u.end e none u.is;
       untouched = λ there. absurd (there none);
       makes = makes_of name is_seal now manifest d u.end e says u.is;
-      leaves = leaves u;
+      leaves = leaves u.leaves (InitLeaves name is_seal now d (Err (init_fault_of e))) (nothing_left name is_seal now d (init_fault_of e)) (λ f w. refused_left name is_seal now manifest d e f limit none says w);
     })
 
 -- the same, of the vault that was handed in and of the one that is handed back

@@ -10,4 +10,4 @@ pub use Rattle.cv_swap.proofs.Prepared.{objects_added, added_stands}
 pub use Rattle.cv_swap.proofs.Opens.{leaves_while}
 pub use Rattle.cv_swap.proofs.Failed.{failed_stands, unraised_stands}
 -- what is left while a repository is made
-pub use Rattle.cv_swap.proofs.Inits.{while_settled}
+pub use Rattle.cv_swap.proofs.Inits.{leaves_settled}

@@ -4,6 +4,7 @@ pub mod Finding
 pub mod Opens
 pub mod Views
 pub mod Publish
+pub mod Building
 pub mod Swapped
 pub mod Begins
 pub mod Growing

@@ -14,7 +14,8 @@ use Rattle.cv_vault.specs.Disk.{File, Files}
 use Rattle.cv_objects.specs.Batches.{AreNamed, IsApart}
 use Rattle.cv_objects.specs.Names.{objects_of, is_digest, way_name}
 use Rattle.cv_objects.proofs.Lemmas.{is_digest_of}
-use Rattle.cv_swap.specs.Stands.{head_name, head_way, epoch_name, epoch_text}
+use Rattle.cv_vault.specs.Names.{on_way}
+use Rattle.cv_swap.specs.Stands.{head_name, head_way, epoch_name, epoch_way, epoch_text}
 
 abbrev is_data : List ℕ → Bool
 is_data n = starts_with nat_eq n (codes "data/")
@@ -44,18 +45,40 @@ some_is e = cc
 pub same_object : (f g : Files) (id : ObjectId) → f (file_name id) ≡ g (file_name id) → objects_of f id ≡ objects_of g id
 same_object f g id e = ap (λ (x : File). if is_digest id.hash then x else None) e
 
--- ---- the manifest on its way
+-- ---- names beside those of a batch
 
-way_not_head : (id : ObjectId) → IsDigest id.hash → head_way ≢ way_name id
-way_not_head id is e =
-    let size = is.size in
-    let whole : 12 ≡ 4 + length (id_text id) = ap length e ∙ length-append (codes "txn/") (id_text id) in
+abbrev is_manifest : List ℕ → Bool
+is_manifest n = starts_with nat_eq n (codes "txn/m")
+
+pub epoch_not_manifest : epoch_way ≢ head_way
+epoch_not_manifest = tested is_manifest epoch_way head_way refl refl
+
+pub manifest_not_epoch : epoch_name ≢ head_way
+manifest_not_epoch = tested on_way epoch_name head_way refl refl
+
+-- a short name on the way is no object's
+short_not_object : (way : List ℕ) (size : ℕ) (id : ObjectId) → length way ≡ size → size < 44 → IsDigest id.hash → way ≢ way_name id
+short_not_object way size id long short is e =
+    let bytes = is.size in
+    let whole : length way ≡ 4 + length (id_text id) = ap length e ∙ length-append (codes "txn/") (id_text id) in
     let text : length (id_text id) ≡ length (encode_lower id.hash) + length (suffix_of id.kind) = length-append (encode_lower id.hash) (suffix_of id.kind) in
-    omega (arith, whole, text, length-encode_with lower_digits id.hash, size)
+    omega (arith, long, whole, text, length-encode_with lower_digits id.hash, bytes)
 
--- no object comes by its name
+-- no object comes by these names, or to them
 pub head_apart : (batch : List Object) → AreNamed batch → IsApart batch head_way
 head_apart batch named = record {
-  way = λ o h. way_not_head o.id (is_digest_of batch o named h);
+  way = λ o h. short_not_object head_way 12 o.id refl (omega arith) (is_digest_of batch o named h);
   name = λ o h. tested is_data head_way (file_name o.id) refl refl;
+}
+
+pub epoch_way_apart : (batch : List Object) → AreNamed batch → IsApart batch epoch_way
+epoch_way_apart batch named = record {
+  way = λ o h. short_not_object epoch_way 9 o.id refl (omega arith) (is_digest_of batch o named h);
+  name = λ o h. tested is_data epoch_way (file_name o.id) refl refl;
+}
+
+pub epoch_apart : (batch : List Object) → IsApart batch epoch_name
+epoch_apart batch = record {
+  way = λ o h. tested on_way epoch_name (way_name o.id) refl refl;
+  name = λ o h. epoch_not_data o.id;
 }

@@ -1,5 +1,7 @@
 -- Revisions that come, call by call.
-use Rattle.std.proofs.Common.{◌≡◌, ℕ, List, sym, ◌∙◌}
+use Rattle.std.proofs.Common.{◌≡◌, ℕ, List, refl, sym, ap, subst, ◌∙◌, inl, inr}
+use Rattle.std.specs.Prelude.{⊤}
+use Rattle.std.specs.List.{Contains}
 use Rattle.std.specs.declared.option.Option.{Option}
 use Rattle.std.specs.declared.option.Option.TheVariants.{Some}
 use Rattle.std.specs.declared.result.Result.{Result}
@@ -9,59 +11,103 @@ use Rattle.cv_base.specs.ObjectId.{file_name}
 use Rattle.cv_base.specs.declared.object.Object.{Object}
 use Rattle.cv_vault.specs.declared.vault.VaultFault.{VaultFault}
 use Rattle.cv_vault.specs.declared.vault.VaultFault.TheVariants as vault
-use Rattle.cv_vault.specs.Names.{on_way}
-use Rattle.cv_vault.specs.Disk.{Disk, File, Files}
-use Rattle.cv_vault.specs.Walks.{Change, Stays, Comes, Gains, Walks, ComesTo}
-use Rattle.cv_vault.specs.Replace.{Replaced}
-use Rattle.cv_vault.proofs.Laws.{bind, looser, leaves_more, leaves_then, gains_then, gains_more}
+use Rattle.cv_vault.specs.Names.{Name, on_way}
+use Rattle.cv_vault.specs.Disk.{Disk, Slot, Files, ImageOf, Syncs, Writes, Torn, slot, synced, written}
+use Rattle.cv_vault.specs.Moments.{Calls, LeavesOnly}
+use Rattle.cv_vault.specs.Walks.{Gains, Within, Walks, Nothing, ComesTo}
+use Rattle.cv_vault.specs.Replace.{IsSure, MovedIn}
+use Rattle.cv_vault.proofs.Laws.{here, elsewhere, call, bind, looser, leaves_more, leaves_then, gains_then, gains_more, gains_none, writes, ok, err, sync_ok, sync_err, calm_then}
 use Rattle.cv_objects.specs.Faults.{fault_of}
-use Rattle.cv_objects.specs.Batches.{Has, Brings, Stored, StoredWith, AreStored, IsOutside}
+use Rattle.cv_objects.specs.Names.{way_name}
+use Rattle.cv_objects.specs.Batches.{AreNamed, AreReady, IsReady, is_there, is_coming, IsApart, Has, Brings, Brought, WroteAll, IsOne, ShownIn, IsOutside, IsRefusal}
 use Rattle.cv_objects.specs.declared.store_fault.StoreFault.{StoreFault}
 use Rattle.cv_objects.specs.declared.store_fault.StoreFault.TheVariants.{Collision, Failed, Damaged, NoMemory}
-use Rattle.cv_objects.proofs.Lemmas.{data_off_way, outside}
-use Rattle.cv_swap.specs.Stands.{head_name, head_way, epoch_name, epoch_text}
-use Rattle.cv_swap.specs.Publishing.{Prepared, BringsFirst, an_object, the_epoch, Built, AreBuilt, before_head, with_head, comes_before, comes_last, Inited, Inits}
-use Rattle.cv_swap.proofs.Names.{epoch_not_data}
+use Rattle.cv_objects.proofs.Lemmas.{outside, brings_nothing, brings_later, has_then}
+use Rattle.cv_swap.specs.Stands.{head_name, head_way}
+use Rattle.cv_swap.specs.Publishing.{Prepared, BringsFirst, Built, AreBuilt, before_head, with_head, comes_before, comes_last, WhileFirst, FirstLeaves, Inited, Inits}
+use Rattle.cv_swap.proofs.Names.{head_apart}
 
--- what is there stays, where one other file comes
-has_beside : (batch : List Object) (d d' : Disk) (file : File) → Gains on_way (ComesTo epoch_name file) d d' → Has d batch → Has d' batch
-has_beside batch d d' file g h = record { each = λ o c. by o (g.each (file_name o.id) (data_off_way o.id)) ∙ h.each o c }
+-- ---- a batch that stays where it is on its way, while other names change
+
+pub ready_beside : (batch : List Object) (d d' : Disk) → ((o : Object) → Contains batch o → (d' (file_name o.id) ≡ d (file_name o.id)) × (d' (way_name o.id) ≡ d (way_name o.id))) → AreReady d batch → AreReady d' batch
+ready_beside batch d d' same r = record { each = λ o h. by o (same o h) (r.each o h) }
   where
-    by : (o : Object) → Change (ComesTo epoch_name file (file_name o.id)) (d (file_name o.id)) (d' (file_name o.id)) → (d' (file_name o.id)).now ≡ (d (file_name o.id)).now
-    by o (Stays s l) = s
-    by o (Comes b l) = absurd (epoch_not_data o.id (sym b.0))
+    by : (o : Object) → (d' (file_name o.id) ≡ d (file_name o.id)) × (d' (way_name o.id) ≡ d (way_name o.id)) → IsReady d o → IsReady d' o
+    by o e (is_there t) = is_there (ap (λ (s : Slot). s.now) e.0 ∙ t)
+    by o e (is_coming s t) = is_coming (ap (λ (s : Slot). s.now) e.0 ∙ s) (ap (λ (s : Slot). s.now) e.1 ∙ t)
 
--- what a store with the manifest on its way leaves
-pub prepared_with : {X : Type 0} (d : Disk) (batch : List Object) (manifest : List ℕ) (r : Result X StoreFault) (d' : Disk) → StoredWith d batch head_way manifest r d' → Prepared d batch manifest r d'
-prepared_with d batch manifest (Ok x) d' h = record { sure = record { calm = h.0.calm; there = h.1 }; has = h.0.has }
-prepared_with d batch manifest (Err (Collision id)) d' h = h
-prepared_with d batch manifest (Err Failed) d' h = h
-prepared_with d batch manifest (Err (Damaged id found)) d' h = h
-prepared_with d batch manifest (Err NoMemory) d' h = h
+-- a file that is there is sure after a sync
+pub sure_then : (name : Name) (bytes : List ℕ) (d d' : Disk) → d' ≡ synced d → (d name).now ≡ Some bytes → IsSure name bytes d'
+sure_then name bytes d d' e there = record { calm = calm_then d d' e; there = ap (λ (y : Disk). (y name).now) e ∙ there }
 
-pub built_not : {X : Type 0} (d : Disk) (batch : List Object) (d' : Disk) (r : Result X StoreFault) (e : StoreFault) → r ≡ Err e → Stored d batch {X = Unit {0}} (Err e) d' → Built d batch r d'
-built_not d batch d' r (Collision id) is h = rw is h
-built_not d batch d' r Failed is h = rw is tt
-built_not d batch d' r (Damaged id found) is h = rw is h
-built_not d batch d' r NoMemory is h = rw is tt
+-- ---- a revision is prepared
 
-built_outside : {X : Type 0} (d : Disk) (batch : List Object) (d' : Disk) (r : Result X StoreFault) (e : StoreFault) → r ≡ Err e → IsOutside e → Built d batch r d'
-built_outside d batch d' r (Collision id) is h = absurd h
-built_outside d batch d' r Failed is h = rw is tt
-built_outside d batch d' r (Damaged id found) is h = absurd h
-built_outside d batch d' r NoMemory is h = rw is tt
+pub prepared_refused : {X : Type 0} (d : Disk) (batch : List Object) (manifest : List ℕ) (d' : Disk) (r : Result X StoreFault) (e : StoreFault) → r ≡ Err e → (e ≡ Failed → IsOne batch) → ShownIn d batch e → Gains on_way Nothing d d' → Prepared d batch manifest r d'
+prepared_refused d batch manifest d' r (Collision id) is one h g = rw is (record { shown = h; same = g })
+prepared_refused d batch manifest d' r Failed is one h g = rw is (one refl)
+prepared_refused d batch manifest d' r (Damaged id found) is one h g = rw is (record { shown = h; same = g })
+prepared_refused d batch manifest d' r NoMemory is one h g = rw is (inr g)
 
-module _ {V : Type 0} {disk : V → Option Disk} {count : V → ℕ} {left : V → ℕ → Files → Type 0} (batch : List Object) {d : Disk} {v v1 v2 : V} (w : Walks disk count left on_way (Brings d batch) (AreStored batch) d v v1) where
-  pub then_epoch : {u : Unit {0}} → WhereTold (disk v1) (λ d1. Walks disk count left on_way (ComesTo epoch_name (Some (epoch_text 0))) (Replaced d1 epoch_name (epoch_text 0) {X = Unit {0}} (Ok u)) d1 v1 v2)
-      → Walks disk count left on_way (BringsFirst d batch) (AreBuilt batch) d v v2
-  then_epoch h = bind w (λ n f b. an_object b) (λ d1 told g s. looser (h d1 told) (λ n f b. the_epoch b) (λ d2 g2 sure. record { sure = sure; has = has_beside batch d1 d2 (Some (epoch_text 0)) g2 s.has }))
+prepared_outside : {X : Type 0} (d : Disk) (batch : List Object) (manifest : List ℕ) (d' : Disk) (r : Result X StoreFault) (e : StoreFault) → r ≡ Err e → IsOne batch → IsOutside e → Prepared d batch manifest r d'
+prepared_outside d batch manifest d' r (Collision id) is one h = absurd h
+prepared_outside d batch manifest d' r Failed is one h = rw is one
+prepared_outside d batch manifest d' r (Damaged id found) is one h = absurd h
+prepared_outside d batch manifest d' r NoMemory is one h = rw is (inl one)
 
-  pub then_no_epoch : {Y : Type 0} (x : VaultFault) (r : Result Y StoreFault) → r ≡ Err (fault_of x) → WhereTold (disk v1) (λ d1. Walks disk count left on_way (ComesTo epoch_name (Some (epoch_text 0))) (Replaced d1 epoch_name (epoch_text 0) {X = Unit {0}} (Err x)) d1 v1 v2)
-      → Walks disk count left on_way (BringsFirst d batch) (Built d batch r) d v v2
-  then_no_epoch x r is h = bind w (λ n f b. an_object b) (λ d1 told g s. looser (h d1 told) (λ n f b. the_epoch b) (λ d2 g2 u. built_outside d batch d2 r (fault_of x) is (outside x)))
+-- the batch is on its way or there, and so is the manifest
+pub record AreUnderWay (batch : List Object) (manifest : List ℕ) (d : Disk) : Type 0 where
+  pub ready : AreReady d batch
+  pub head : (d head_way).now ≡ Some manifest
+
+-- the batch is there, and the manifest is on its way
+pub record AreThere (batch : List Object) (manifest : List ℕ) (d : Disk) : Type 0 where
+  pub has : Has d batch
+  pub head : (d head_way).now ≡ Some manifest
+
+module _ {V : Type 0} {disk : V → Option Disk} {count : V → ℕ} {left : V → ℕ → Files → Type 0} (batch : List Object) (manifest : List ℕ) (named : AreNamed batch) {d : Disk} {v0 v v' : V} where
+  pub then_manifest : {u : Unit {0}} → ((f : Files) → left v (count v) f → ImageOf (disk v) f) → Walks disk count left on_way Nothing (WroteAll d batch {X = Unit {0}} (Ok u)) d v0 v → Calls disk count left (Writes head_way manifest ok) v v'
+      → Walks disk count left on_way Nothing (AreUnderWay batch manifest) d v0 v'
+  then_manifest only w c = bind w (λ n f b. b) (λ d1 told g put. call only told c (λ d2 h. (
+    writes head_way manifest ok d1 d2 refl h,
+    subst (AreUnderWay batch manifest) (sym h) (record {
+      ready = ready_beside batch d1 (written d1 head_way (Some manifest)) (λ o k. (
+        elsewhere d1 head_way (slot (Some manifest) Torn) (file_name o.id) (λ e. apart.name o k (sym e)),
+        elsewhere d1 head_way (slot (Some manifest) Torn) (way_name o.id) (λ e. apart.way o k (sym e)),
+      )) put.0;
+      head = ap (λ (s : Slot). s.now) (here d1 head_way (slot (Some manifest) Torn));
+    }),
+  )))
+    where
+      apart : IsApart batch head_way
+      apart = head_apart batch named
+
+  pub then_batch : {u : Unit {0}} → Walks disk count left on_way Nothing (AreUnderWay batch manifest) d v0 v → WhereTold (disk v) (λ d1. AreReady d1 batch → Walks disk count left on_way (Brings d1 batch) (Brought d1 batch {X = Unit {0}} (Ok u)) d1 v v')
+      → Walks disk count left on_way (Brings d batch) (AreThere batch manifest) d v0 v'
+  then_batch w h = bind w brings_nothing (λ d1 told g under. looser (h d1 told under.ready) (brings_later g) (λ d2 g2 k. record { has = k.0; head = ap (λ (s : Slot). s.now) (k.1.each head_way (head_apart batch named)) ∙ under.head }))
+
+module _ {V : Type 0} {disk : V → Option Disk} {count : V → ℕ} {left : V → ℕ → Files → Type 0} (batch : List Object) (manifest : List ℕ) {d : Disk} {v0 v v' : V} where
+  pub then_prepared : {u : Unit {0}} → ((f : Files) → left v (count v) f → ImageOf (disk v) f) → Walks disk count left on_way (Brings d batch) (AreThere batch manifest) d v0 v → Calls disk count left (Syncs ok) v v'
+      → Walks disk count left on_way (Brings d batch) (Prepared d batch manifest {X = Unit {0}} (Ok u)) d v0 v'
+  then_prepared only w c = bind w (λ n f b. b) (λ d1 told g are. looser (sync_ok only told c) (λ n f b. b) (λ d2 g2 is. record { sure = sure_then head_way manifest d1 d2 is are.head; has = has_then batch d1 d2 is are.has }))
+
+  -- the manifest can't be put on its way
+  pub then_unwritten : {X : Type 0} {u : Unit {0}} (r : Result X StoreFault) (x : VaultFault) → r ≡ Err (fault_of x) → IsOne batch → ((f : Files) → left v (count v) f → ImageOf (disk v) f)
+      → Walks disk count left on_way Nothing (WroteAll d batch {X = Unit {0}} (Ok u)) d v0 v → Calls disk count left (Writes head_way manifest (err x)) v v' → Walks disk count left on_way (Brings d batch) (Prepared d batch manifest r) d v0 v'
+  then_unwritten r x is one only w c = bind w brings_nothing (λ d1 told g k. call only told c (λ d2 h. (writes head_way manifest (err x) d1 d2 refl h, prepared_outside d batch manifest d2 r (fault_of x) is one (outside x))))
+
+  -- the objects don't all come
+  pub then_unbrought : {X : Type 0} (r : Result X StoreFault) (e : StoreFault) → r ≡ Err e → IsOne batch → Walks disk count left on_way Nothing (AreUnderWay batch manifest) d v0 v
+      → WhereTold (disk v) (λ d1. AreReady d1 batch → Walks disk count left on_way (Brings d1 batch) (Brought d1 batch {X = Unit {0}} (Err e)) d1 v v')
+      → Walks disk count left on_way (Brings d batch) (Prepared d batch manifest r) d v0 v'
+  then_unbrought r e is one w h = bind w brings_nothing (λ d1 told g under. looser (h d1 told under.ready) (brings_later g) (λ d2 g2 out. prepared_outside d batch manifest d2 r e is one out))
+
+  -- the last sync fails
+  pub then_unsettled : {X : Type 0} (r : Result X StoreFault) (x : VaultFault) → r ≡ Err (fault_of x) → IsOne batch → ((f : Files) → left v (count v) f → ImageOf (disk v) f)
+      → Walks disk count left on_way (Brings d batch) (AreThere batch manifest) d v0 v → Calls disk count left (Syncs (err x)) v v' → Walks disk count left on_way (Brings d batch) (Prepared d batch manifest r) d v0 v'
+  then_unsettled r x is one only w c = bind w (λ n f b. b) (λ d1 told g are. looser (sync_err x only told c) (λ n f b. b) (λ d2 g2 s. prepared_outside d batch manifest d2 r (fault_of x) is one (outside x)))
 
 -- not all came that the head reaches
-inited_not : {X : Type 0} (d : Disk) (batch : List Object) (manifest : List ℕ) (d' : Disk) (r : Result X StoreFault) (e : StoreFault) → r ≡ Err e → Gains on_way (BringsFirst d batch) d d' → Built d batch {X = Unit {0}} (Err e) d' → Inited d batch manifest r d'
+inited_not : {X : Type 0} (d : Disk) (batch : List Object) (manifest : List ℕ) (d' : Disk) (r : Result X StoreFault) (e : StoreFault) → r ≡ Err e → Gains on_way (BringsFirst d batch) d d' → Built d batch manifest {X = Unit {0}} (Err e) d' → Inited d batch manifest r d'
 inited_not d batch manifest d' r (Collision id) is g h = rw is h
 inited_not d batch manifest d' r Failed is g h = rw is (gains_more (λ n f b. comes_before b) g)
 inited_not d batch manifest d' r (Damaged id found) is g h = rw is h
@@ -69,27 +115,41 @@ inited_not d batch manifest d' r NoMemory is g h = rw is g
 
 -- the head may have come, or there was no memory for it
 inited_late : {X : Type 0} (d built : Disk) (batch : List Object) (manifest : List ℕ) (d' : Disk) (r : Result X StoreFault) (x : VaultFault) → r ≡ Err (fault_of x) → Gains on_way (BringsFirst d batch) d built
-    → Gains on_way (ComesTo head_name (Some manifest)) built d' → Replaced built head_name manifest {X = Unit {0}} (Err x) d' → Inited d batch manifest r d'
+    → Gains on_way (ComesTo head_name (Some manifest)) built d' → MovedIn built head_name manifest {X = Unit {0}} (Err x) d' → Inited d batch manifest r d'
 inited_late d built batch manifest d' r vault.Failed is g h u = rw is (gains_then (gains_more (λ n f b. comes_before b) g) (gains_more (λ n f b. comes_last b) h))
-inited_late d built batch manifest d' r vault.NoMemory is g h u = rw is (gains_then g (gains_more (λ n f b. absurd b) u))
+inited_late d built batch manifest d' r vault.NoMemory is g h u = rw is (gains_then g (gains_none u))
+
+-- a crash leaves what it may while the head comes
+left_late : {V : Type 0} {count : V → ℕ} {left : V → ℕ → Files → Type 0} (d : Disk) (batch : List Object) (manifest : List ℕ) {v v' : V} (X : Type 0) (x : VaultFault) → LeavesOnly count left (WhileFirst d batch manifest) v v'
+    → LeavesOnly count left (FirstLeaves d batch manifest {X = X} (Err (fault_of x))) v v'
+left_late d batch manifest X vault.Failed l = l
+left_late d batch manifest X vault.NoMemory l = l
 
 module _ {V : Type 0} {disk : V → Option Disk} {count : V → ℕ} {left : V → ℕ → Files → Type 0} (batch : List Object) (manifest : List ℕ) {d : Disk} {v v1 : V} where
-  pub inits_not : {X : Type 0} (r : Result X StoreFault) (e : StoreFault) → r ≡ Err e → Walks disk count left on_way (BringsFirst d batch) (Built d batch {X = Unit {0}} (Err e)) d v v1 → Inits disk count left d batch manifest r v v1
-  inits_not r e is w = record { end = w.end; told = w.told; leaves = leaves_more w.leaves (λ f i. before_head i); is = inited_not d batch manifest w.end r e is w.gains w.is }
+  -- and before it does
+  left_before : (X : Type 0) (e : StoreFault) → LeavesOnly count left (Within on_way (BringsFirst d batch) d) v v1 → (IsRefusal {X = Unit {0}} (Err e) → Walks disk count left on_way Nothing (λ end. ⊤) d v v1) → LeavesOnly count left (FirstLeaves d batch manifest {X = X} (Err e)) v v1
+  left_before X (Collision id) l refused = (refused tt).leaves
+  left_before X Failed l refused = leaves_more l (λ f i. before_head i)
+  left_before X (Damaged id found) l refused = (refused tt).leaves
+  left_before X NoMemory l refused = leaves_more l (λ f i. before_head i)
 
-  module _ {v2 : V} (w : Walks disk count left on_way (BringsFirst d batch) (AreBuilt batch) d v v1) where
-    pub inits_now : {u : Unit {0}} → WhereTold (disk v1) (λ d1. Walks disk count left on_way (ComesTo head_name (Some manifest)) (Replaced d1 head_name manifest {X = Unit {0}} (Ok u)) d1 v1 v2) → Inits disk count left d batch manifest {X = Unit {0}} (Ok u) v v2
-    inits_now h = let u = h w.end w.told in record {
+  pub inits_not : {X : Type 0} (r : Result X StoreFault) (e : StoreFault) → r ≡ Err e → Walks disk count left on_way (BringsFirst d batch) (Built d batch manifest {X = Unit {0}} (Err e)) d v v1
+      → (IsRefusal {X = Unit {0}} (Err e) → Walks disk count left on_way Nothing (λ end. ⊤) d v v1) → Inits disk count left d batch manifest r v v1
+  inits_not {X = X} r e is w refused = rw is (record { end = w.end; told = w.told; leaves = left_before X e w.leaves refused; is = inited_not {X = X} d batch manifest w.end (Err e) e refl w.gains w.is })
+
+  module _ {v2 : V} (w : Walks disk count left on_way (BringsFirst d batch) (λ d1. AreBuilt batch d1 × IsSure head_way manifest d1) d v v1) where
+    pub inits_now : {u : Unit {0}} → WhereTold (disk v1) (λ d1. (text : List ℕ) → IsSure head_way text d1 → Walks disk count left on_way (ComesTo head_name (Some text)) (MovedIn d1 head_name text {X = Unit {0}} (Ok u)) d1 v1 v2) → Inits disk count left d batch manifest {X = Unit {0}} (Ok u) v v2
+    inits_now h = let u = h w.end w.told manifest w.is.1 in record {
       end = u.end;
       told = u.told;
-      leaves = leaves_then w.leaves u.leaves (λ f i. before_head i) (λ f i. with_head w.end w.is w.gains i);
-      is = record { built = w.end; are = w.is; gains = w.gains; comes = u.gains; sure = u.is };
+      leaves = leaves_then w.leaves u.leaves (λ f i. before_head i) (λ f i. with_head w.end w.is.0 w.gains i);
+      is = record { built = w.end; are = w.is.0; gains = w.gains; comes = u.gains; sure = u.is };
     }
 
-    pub inits_or_not : {X : Type 0} (x : VaultFault) (r : Result X StoreFault) → r ≡ Err (fault_of x) → WhereTold (disk v1) (λ d1. Walks disk count left on_way (ComesTo head_name (Some manifest)) (Replaced d1 head_name manifest {X = Unit {0}} (Err x)) d1 v1 v2) → Inits disk count left d batch manifest r v v2
-    inits_or_not x r is h = let u = h w.end w.told in record {
+    pub inits_or_not : {X : Type 0} (x : VaultFault) (r : Result X StoreFault) → r ≡ Err (fault_of x) → WhereTold (disk v1) (λ d1. (text : List ℕ) → IsSure head_way text d1 → Walks disk count left on_way (ComesTo head_name (Some text)) (MovedIn d1 head_name text {X = Unit {0}} (Err x)) d1 v1 v2) → Inits disk count left d batch manifest r v v2
+    inits_or_not {X = X} x r is h = let u = h w.end w.told manifest w.is.1 in rw is (record {
       end = u.end;
       told = u.told;
-      leaves = leaves_then w.leaves u.leaves (λ f i. before_head i) (λ f i. with_head w.end w.is w.gains i);
-      is = inited_late d w.end batch manifest u.end r x is w.gains u.gains u.is;
-    }
+      leaves = left_late d batch manifest X x (leaves_then w.leaves u.leaves (λ f i. before_head i) (λ f i. with_head w.end w.is.0 w.gains i));
+      is = inited_late {X = X} d w.end batch manifest u.end (Err (fault_of x)) x refl w.gains u.gains u.is;
+    })

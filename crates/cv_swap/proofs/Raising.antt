@@ -25,9 +25,6 @@ stands_with name is_seal f g k epoch s limit head data_same e = record {
   kept = record { sound = s.kept.sound; epoch = limit };
 }
 
-off_way_head : on_way head_name ≡ false
-off_way_head = refl
-
 -- what a crash leaves while the epoch is raised stands for what was kept, opened once more or not
 pub stands_while : (name : List ℕ) (is_seal : List ℕ → List ℕ → Bool) (d : Disk) (f : Files) (k : Kept) → Stands name is_seal (files_now d) k → AsRaised d f → Stands name is_seal f k ⊎ Stands name is_seal f (raised k)
 stands_while name is_seal d f k s a = by (a.each epoch_name refl)

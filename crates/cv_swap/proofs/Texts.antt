@@ -13,7 +13,7 @@ use Rattle.cv_vault.specs.Walks.{Gains, Within}
 use Rattle.cv_vault.proofs.Laws.{bind, looser, leaves_more, gains_then, gains_more, within_then, within_more, quiet_walks, quiet_same}
 use Rattle.cv_objects.specs.declared.store_fault.StoreFault.{StoreFault}
 use Rattle.cv_objects.specs.declared.store_fault.StoreFault.TheVariants.{Collision, Failed, Damaged, NoMemory}
-use Rattle.cv_swap.specs.Publishing.{BringsFirst, BringsAll, comes_before, comes_last, WhileFirst, before_head, with_head, Inited, Inits}
+use Rattle.cv_swap.specs.Publishing.{BringsFirst, BringsAll, comes_before, comes_last, WhileFirst, FirstLeaves, before_head, with_head, Inited, Inits}
 use Rattle.cv_swap.specs.Init.{OnlyText, WritesHead}
 use Rattle.cv_swap.proofs.Begins.{not_first}
 
@@ -36,6 +36,13 @@ leaves_text : (d : Disk) (batch : List Object) (text : List ℕ) (f : Files) →
 leaves_text d batch text f (before_head within) = within_more (before_text d batch text) f within
 leaves_text d batch text f (with_head built are gains within) = within_then (gains_more (before_text d batch text) gains) f (within_more (λ n g c e. c.1) f within)
 
+answer_text : (d : Disk) (batch : List Object) (text : List ℕ) (r : Result (Unit {0}) StoreFault) (f : Files) → FirstLeaves d batch text r f → Within on_way (OnlyText text) d f
+answer_text d batch text (Ok x) f w = leaves_text d batch text f w
+answer_text d batch text (Err (Collision id)) f w = within_more (λ n g b. absurd b) f w
+answer_text d batch text (Err Failed) f w = leaves_text d batch text f w
+answer_text d batch text (Err (Damaged id found)) f w = within_more (λ n g b. absurd b) f w
+answer_text d batch text (Err NoMemory) f w = leaves_text d batch text f w
+
 module _ {V : Type 0} {disk : V → Option Disk} {count : V → ℕ} {left : V → ℕ → Files → Type 0} {d : Disk} {v v1 : V}
     (only : (f : Files) → left v (count v) f → ImageOf (disk v) f) (told : disk v ≡ Some d) (reads : OnlyReads disk count left v v1) where
   -- nothing was done but reads
@@ -50,7 +57,7 @@ module _ {V : Type 0} {disk : V → Option Disk} {count : V → ℕ} {left : V �
         end = u.end;
         told = u.told;
         gains = gains_text d batch manifest r u.end u.is;
-        leaves = leaves_more u.leaves (λ f w. leaves_text d batch manifest f w);
+        leaves = leaves_more u.leaves (λ f w. answer_text d batch manifest r f w);
         is = tt;
       })))
 

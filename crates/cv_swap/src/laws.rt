@@ -1,5 +1,5 @@
 //! What files stand for while a repository is made, opened and published in.
-ghost use Rattle.std.specs.Prelude.{◌≡◌, ◌≢◌, ◌++◌, ◌∷◌, [], ◌⊎◌, ◌<◌, ◌+◌, ◌^◌, ℕ, Bool, List, None, Some, Err};
+ghost use Rattle.std.specs.Prelude.{◌≡◌, ◌≢◌, ◌++◌, ◌∷◌, [], ◌⊎◌, ◌<◌, ◌+◌, ◌^◌, ℕ, Bool, List, Result, None, Some, Err};
 ghost use Rattle.cv_base.specs.declared.object.Object.{Object};
 ghost use Rattle.cv_ports.specs.Shelf.{Shelf, IsShelf};
 ghost use Rattle.cv_cut.specs.Catalogues.{cat};
@@ -12,11 +12,12 @@ ghost use Rattle.cv_objects.specs.Names.{standing_on};
 ghost use Rattle.cv_objects.specs.Batches.{AreNamed, Brings, HaveHashes};
 ghost use Rattle.cv_swap.specs.Kept.{AreSound, IsRevision, Kept, Revision, head_of, raised, record_object, with_new};
 ghost use Rattle.cv_swap.specs.First.{first_revision, first_tree};
-ghost use Rattle.cv_swap.specs.Init.{StandsFirst, WhileInit};
+ghost use Rattle.cv_swap.specs.Init.{InitLeaves, StandsFirst};
 ghost use Rattle.cv_swap.specs.Stands.{Stands, HasRevisions, AddObjects, CanCome, CanBegin, first_kept, head_name, head_on, epoch_name, epoch_text};
 ghost use Rattle.cv_swap.specs.Opening.{AsRaised, IsFound, IsOf, IsOpened, MayRefuse, Opened, Refuses};
 ghost use Rattle.cv_swap.specs.Publishing.{BringsFirst};
 ghost use Rattle.cv_swap.specs.declared.found.Found.{Found};
+ghost use Rattle.cv_swap.specs.declared.init_fault.InitFault.{InitFault};
 ghost use Rattle.cv_swap.specs.declared.open_fault.OpenFault.{OpenFault};
 ghost use Rattle.cv_swap.specs.declared.open_fault.OpenFault.TheVariants as fault;
 
@@ -61,11 +62,11 @@ pub fn more_objects_keep_revisions()
         → HasRevisions name is_seal history epoch g → HasRevisions name is_seal history epoch f }
 {}
 
-/// From a settled disk without a manifest, and with no damaged object, a crash while a repository is made leaves no manifest, or the whole
-/// of the first revision.
+/// From a settled disk without a manifest, and with no damaged object, a crash while a repository is made, whatever that answers, leaves no
+/// manifest, or the whole of the first revision.
 pub fn making_leaves_none_or_the_whole()
-    ensures { (name : List ℕ) (is_seal : List ℕ → List ℕ → Bool) (now : ℕ) (d : Disk) (f : Files) → IsCalm d → (d head_name).now ≡ None → HaveHashes (files_now d) → WhileInit name is_seal now d f
-        → (f head_name ≡ None) ⊎ StandsFirst name is_seal now f }
+    ensures { (name : List ℕ) (is_seal : List ℕ → List ℕ → Bool) (now : ℕ) (d : Disk) (made : Result (Unit {0}) InitFault) (f : Files) → IsCalm d → (d head_name).now ≡ None → HaveHashes (files_now d)
+        → InitLeaves name is_seal now d made f → (f head_name ≡ None) ⊎ StandsFirst name is_seal now f }
 {}
 
 /// The first revision is sound on each shelf with its catalogue and its record.

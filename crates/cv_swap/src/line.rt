@@ -5,16 +5,18 @@ ghost use Rattle.std.specs.Option.{option_map};
 ghost use Rattle.cv_base.specs.Counts.{HasCause};
 ghost use Rattle.cv_base.specs.Told.{WhereTold};
 ghost use Rattle.cv_vault.specs.Names.{on_way};
+ghost use Rattle.cv_vault.specs.Moments.{OnlyReads};
 ghost use Rattle.cv_vault.specs.Walks.{Walks, Nothing, ComesTo};
 ghost use Rattle.cv_vault.specs.Replace.{IsSure, MovedIn, Found as FoundSo};
 ghost use Rattle.cv_vault.specs.declared.vault.VaultFault.TheVariants as vault_fault;
 ghost use Rattle.cv_vault.proofs.Laws.{quiet_none, quiet_then, quiet_same};
 ghost use Rattle.cv_history.specs.Record.{IsRecord};
+ghost use Rattle.cv_manifest.specs.Manifest.{IsHead};
 ghost use Rattle.cv_objects.specs.Names.{standing_on};
-ghost use Rattle.cv_objects.specs.Batches.{AreNamed, Brings, GivesFresh, Stored};
+ghost use Rattle.cv_objects.specs.Batches.{AreNamed, Brings, BringsNothing, GivesFresh, IsRefusal, Stored};
 ghost use Rattle.cv_objects.specs.declared.store_fault.StoreFault.TheVariants as fault;
 ghost use Rattle.cv_swap.specs.Kept.{object_of};
-ghost use Rattle.cv_swap.specs.Publishing.{Prepared};
+ghost use Rattle.cv_swap.specs.Publishing.{Prepared, KeepsWay};
 ghost use Rattle.cv_swap.specs.Stands.{head_name, head_way, head_with, head_of, head_text, Publishes};
 ghost use Rattle.cv_swap.specs.First.{first_revision};
 ghost use Rattle.cv_swap.specs.Init.{InitsIn, WritesHead, vault_in, IsVaults};
@@ -55,19 +57,20 @@ pub struct Line<V: Vault + Drop, S: Signer + Drop> {
 }
 
 impl<V: Vault + Drop, S: Signer + Drop> Model for Line<V, S> {
-    ghost use Rattle.cv_swap.specs.Line.{LineView, IsCounted};
+    ghost use Rattle.cv_swap.specs.Line.{LineView, IsConsistent};
 
     ghost Value = { LineView V S };
 
     ghost view = { λ l. record { vault = l.objects.vault; taken = l.objects.taken; name = l.name; signer = l.signer; all = l.records.items; made = l.made; head = l.head; epoch = l.epoch; stage = l.stage; next_head = l.next_head; manifest = l.manifest } };
 
-    ghost invariant = { λ l. IsCounted l.made l.records.items l.stage };
+    ghost invariant = { λ l. IsConsistent l.made l.records.items l.stage l.head l.next_head };
 }
 
 impl<V: Vault + Drop, S: Signer + Drop> Line<V, S> {
     /// The newest head.
     pub fn head(&self) -> Head
-        ensures { result ≡ self.now.head }
+        ensures newest { result ≡ self.now.head }
+        ensures writable { IsHead result }
     {
         self.head
     }
@@ -105,17 +108,21 @@ impl<V: Vault + Drop, S: Signer + Drop> Line<V, S> {
     pub fn fresh(&mut self, alloc: Global, batch: &[Object]) -> Result<Vec<ObjectId>, StoreFault>
         ensures walks { WhereTold (V.disk self.old.vault) (λ d.
             Walks V.disk V.count V.left on_way Nothing (GivesFresh d batch.now result) d self.old.vault self.new.vault) }
+        ensures reads { OnlyReads V.disk V.count V.left self.old.vault self.new.vault }
         ensures others { self.new ≡ record self.old { vault = self.new.vault } }
         ensures cause { HasCause (V.faults self.old.vault) (V.faults self.new.vault) (IsErrOf result fault.Failed) }
     {
         self.objects.fresh(alloc, batch)
     }
 
-    /// Stores the objects of a batch that the shelf lacks, as `Objects::store` does.
+    /// Stores the objects of a batch that the shelf lacks, as `Objects::store` does. After `Ok` a manifest that was on its way
+    /// for sure still is, so that what was prepared can be swapped in.
     pub fn store(&mut self, alloc: Global, batch: &[Object]) -> Result<(), StoreFault>
         requires named { AreNamed batch.now }
         ensures walks { WhereTold (V.disk self.old.vault) (λ d.
             Walks V.disk V.count V.left on_way (Brings d batch.now) (Stored d batch.now result) d self.old.vault self.new.vault) }
+        ensures refused { IsRefusal result → BringsNothing V.disk V.count V.left self.old.vault self.new.vault }
+        ensures way { KeepsWay V.disk result self.old.vault self.new.vault }
         ensures others { self.new ≡ record self.old { vault = self.new.vault } }
         ensures cause { HasCause (V.faults self.old.vault) (V.faults self.new.vault) (IsErrOf result fault.Failed) }
     {
@@ -173,7 +180,7 @@ impl<V: Vault + Drop, S: Signer + Drop> Line<V, S> {
     /// mode 0755 with nothing in it, of the user and the group 0, made at the moment `now`, in Unix seconds.
     ///
     /// `Exists` comes exactly where there is a manifest, and then nothing changes. After `Collision` and `Damaged` nothing
-    /// came, and after `NoMemory` no manifest. After `Ok` its manifest, objects and epoch are there for sure. A crash at any
+    /// came, then or at any moment, and after `NoMemory` no manifest. After `Ok` its manifest, objects and epoch are there for sure. A crash at any
     /// moment leaves what might have been left before, with some of its objects and its epoch, or all of these. In a settled
     /// vault without a damaged object that is no manifest, or the whole of the first revision.
     pub fn init(
@@ -251,8 +258,10 @@ impl<V: Vault + Drop, S: Signer + Drop> Line<V, S> {
         requires doubt { self.old.stage ≢ stage.Doubtful }
         ensures walks { WhereTold (V.disk self.old.vault) (λ d.
             Walks V.disk V.count V.left on_way (Brings d (others.items ++ object_of next ∷ [])) (Prepared d (others.items ++ object_of next ∷ []) self.new.manifest result) d self.old.vault self.new.vault) }
+        ensures refused { IsRefusal result → BringsNothing V.disk V.count V.left self.old.vault self.new.vault }
         ensures head { IfOk result (λ head. head ≡ head_with next size) }
         ensures ready { IfOk result (λ head. IsReady self.old next head self.new) }
+        ensures published { IfOk result (λ head. published self.new ≡ published self.old) }
         ensures text { IfOk result (λ head. self.new.manifest ≡ head_text (S.seal_of self.old.signer) self.old.name head) }
         ensures says { IfOk result (λ head. Publishes self.old.name (S.is_seal self.old.signer) (Some self.new.manifest) head) }
         ensures dropped { OnErr result (IsDropped self.old self.new) }

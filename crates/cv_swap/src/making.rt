@@ -2,6 +2,7 @@
 ghost use Rattle.std.specs.Prelude.{◌≡◌, ◌++◌, ◌∷◌, [], ◌≤◌, ◌<◌, ◌^◌, Some, IfOk};
 ghost use Rattle.sha1.specs.Sha1.{sha1};
 ghost use Rattle.cv_history.specs.Record.{IsRecord, record_bytes};
+ghost use Rattle.cv_manifest.specs.Manifest.{IsHead};
 ghost use Rattle.cv_swap.specs.Kept.{object_of};
 ghost use Rattle.cv_swap.specs.Stands.{head_with, head_text, Publishes};
 
@@ -84,6 +85,7 @@ pub fn make_parts<S: Signer>(
     requires limits { IsRecord next.now }
     ensures batch { IfOk result (λ parts. parts.batch ≡ others.items ++ object_of next.now ∷ []) }
     ensures head { IfOk result (λ parts. parts.head ≡ head_with next.now size) }
+    ensures writable { IfOk result (λ parts. IsHead parts.head) }
     ensures text { IfOk result (λ parts. parts.manifest ≡ head_text (S.seal_of signer.now) name.now parts.head) }
     ensures says { IfOk result (λ parts. Publishes name.now (S.is_seal signer.now) (Some parts.manifest) parts.head) }
 {

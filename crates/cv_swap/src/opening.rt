@@ -8,6 +8,7 @@ ghost use Rattle.cv_vault.specs.Moments.{OnlyReads};
 ghost use Rattle.cv_vault.specs.Walks.{Walks, ComesTo};
 ghost use Rattle.cv_vault.specs.Replace.{Replaced};
 ghost use Rattle.cv_vault.specs.declared.vault.VaultFault.TheVariants as vault_fault;
+ghost use Rattle.cv_manifest.specs.Manifest.{IsHead};
 ghost use Rattle.cv_swap.specs.Stands.{head_name, epoch_name, epoch_text};
 ghost use Rattle.cv_swap.specs.Opening.{FindsHead, FindsEpoch, FindsRecords, Finds, IsRead, Opens};
 ghost use Rattle.cv_swap.specs.declared.open_fault.OpenFault.TheVariants as fault;
@@ -59,6 +60,7 @@ fn read_head<V: Vault, S: Signer>(
     signer: &S,
 ) -> Result<Head, OpenFault>
     ensures told { WhereTold (V.disk vault.old) (λ d. FindsHead name.now (S.is_seal signer.now) (files_now d) result) }
+    ensures head { IfOk result IsHead }
     ensures reads { OnlyReads V.disk V.count V.left vault.old vault.new }
     ensures cause { HasCause (V.faults vault.old) (V.faults vault.new) (IsErrOf result fault.Failed) }
 {
@@ -136,6 +138,7 @@ pub fn read_line<V: Vault + Drop, S: Signer>(
     ensures reads { OnlyReads V.disk V.count V.left objects.old.vault objects.new.vault }
     ensures cause { HasCause (V.faults objects.old.vault) (V.faults objects.new.vault) (IsErrOf result fault.Failed) }
     ensures room { IfOk result (λ found. found.epoch < 18446744073709551615) }
+    ensures head { IfOk result (λ found. IsHead found.head) }
 {
     let head = read_head(&mut objects.vault, alloc, name, signer)?;
     let records = read_records(objects, alloc, head)?;
@@ -151,7 +154,7 @@ pub fn read_line<V: Vault + Drop, S: Signer>(
 }
 
 /// The text of the epoch's file.
-fn epoch_text_of(alloc: Global, epoch: u64) -> Result<String, NoMemory>
+pub fn epoch_text_of(alloc: Global, epoch: u64) -> Result<String, NoMemory>
     ensures { IfOk result (λ text. string_bytes text ≡ epoch_text epoch) }
 {
     Ok(format!(in alloc; "{epoch}\n")?)
@@ -177,6 +180,7 @@ pub fn open_on<V: Vault + Drop, S: Signer>(
     ensures opens { WhereTold (V.disk objects.old.vault) (λ d. Opens V.disk V.count V.left name.now (S.is_seal signer.now) d result objects.old.vault objects.new.vault) }
     ensures cause { HasCause (V.faults objects.old.vault) (V.faults objects.new.vault) (IsErrOf result fault.Failed) }
     ensures room { IfOk result (λ found. found.epoch < 18446744073709551615) }
+    ensures head { IfOk result (λ found. IsHead found.head) }
 {
     objects.settle()?;
     let found = read_line(objects, alloc, name, signer)?;

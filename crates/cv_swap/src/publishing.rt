@@ -4,17 +4,17 @@ ghost use Rattle.cv_base.specs.Counts.{HasCause};
 ghost use Rattle.cv_base.specs.Told.{WhereTold};
 ghost use Rattle.cv_vault.specs.Names.{on_way};
 ghost use Rattle.cv_vault.specs.Walks.{Walks, Nothing, ComesTo};
-ghost use Rattle.cv_vault.specs.Replace.{IsSure, MovedIn, Replaced, Found};
+ghost use Rattle.cv_vault.specs.Replace.{IsSure, MovedIn, Found};
 ghost use Rattle.cv_vault.specs.declared.vault.VaultFault.TheVariants as vault_fault;
-ghost use Rattle.cv_objects.specs.Batches.{AreNamed, Brings};
+ghost use Rattle.cv_objects.specs.Batches.{AreNamed, Brings, BringsNothing, IsRefusal};
 ghost use Rattle.cv_objects.specs.declared.store_fault.StoreFault.TheVariants as fault;
-ghost use Rattle.cv_swap.specs.Stands.{head_name, head_way};
-ghost use Rattle.cv_swap.specs.Publishing.{Prepared, BringsFirst, Built, Inits};
+ghost use Rattle.cv_swap.specs.Stands.{head_name, head_way, epoch_name, epoch_text};
+ghost use Rattle.cv_swap.specs.Publishing.{Prepared, BringsFirst, PutBeside, EpochWaits, EpochCame, Built, Inits};
 
-use crate::opening::{HEAD_NAME, set_epoch};
+use crate::opening::{EPOCH_NAME, EPOCH_WAY, HEAD_NAME, epoch_text_of};
 use cv_base::Object;
 use cv_objects::{Objects, StoreFault};
-use cv_vault::{Vault, VaultFault, is_sure, move_in, replace};
+use cv_vault::{Vault, VaultFault, is_sure, move_in};
 use std::alloc::Global;
 
 /// The name by which a manifest comes.
@@ -30,10 +30,14 @@ pub fn prepare_on<V: Vault + Drop>(
     requires named { AreNamed batch.now }
     ensures walks { WhereTold (V.disk objects.old.vault) (λ d.
         Walks V.disk V.count V.left on_way (Brings d batch.now) (Prepared d batch.now manifest.now result) d objects.old.vault objects.new.vault) }
+    ensures refused { IsRefusal result → BringsNothing V.disk V.count V.left objects.old.vault objects.new.vault }
     ensures cause { HasCause (V.faults objects.old.vault) (V.faults objects.new.vault) (IsErrOf result fault.Failed) }
     ensures taken { objects.new.taken ≡ objects.old.taken }
 {
-    objects.store_with(alloc, batch, HEAD_WAY, manifest)
+    objects.put(alloc, batch)?;
+    objects.vault.write(HEAD_WAY, manifest)?;
+    objects.bring(alloc, batch)?;
+    Ok(objects.settle()?)
 }
 
 /// Brings the manifest that is on its way to its name, for sure.
@@ -53,29 +57,48 @@ pub fn was_swapped<V: Vault>(vault: &mut V, manifest: &[u8]) -> Result<bool, Vau
     is_sure(vault, HEAD_NAME, manifest)
 }
 
-/// Brings all of a first revision but its head: its objects, and the first epoch.
+/// Puts the first epoch and a manifest on their way, where the next sync settles them.
+fn put_beside<V: Vault>(vault: &mut V, alloc: Global, manifest: &[u8]) -> Result<(), VaultFault>
+    ensures walks { WhereTold (V.disk vault.old) (λ d. Walks V.disk V.count V.left on_way Nothing (PutBeside d manifest.now result) d vault.old vault.new) }
+    ensures cause { HasCause (V.faults vault.old) (V.faults vault.new) (IsErrOf result vault_fault.Failed) }
+{
+    let text = epoch_text_of(alloc, 0)?;
+    vault.write(EPOCH_WAY, text.as_bytes())?;
+    vault.write(HEAD_WAY, manifest)
+}
+
+/// Brings the first epoch to its name, where the next sync settles it.
+fn bring_epoch<V: Vault>(vault: &mut V) -> Result<(), VaultFault>
+    ensures walks { WhereTold (V.disk vault.old) (λ d. EpochWaits d → Walks V.disk V.count V.left on_way (ComesTo epoch_name (Some (epoch_text 0))) (EpochCame d result) d vault.old vault.new) }
+    ensures cause { HasCause (V.faults vault.old) (V.faults vault.new) (IsErrOf result vault_fault.Failed) }
+{
+    if vault.rename(EPOCH_WAY, EPOCH_NAME)? {
+        Ok(())
+    } else {
+        // It can't be, where the vault tells.
+        Err(VaultFault::NoMemory)
+    }
+}
+
+/// Brings all of a first revision but its head, whose manifest is put on its way: its objects, and the first epoch. Each of
+/// three syncs settles what all four files need of it.
 pub fn build_first<V: Vault + Drop>(
     objects: &mut Objects<V>,
     alloc: Global,
     batch: &[Object],
+    manifest: &[u8],
 ) -> Result<(), StoreFault>
     requires named { AreNamed batch.now }
     ensures walks { WhereTold (V.disk objects.old.vault) (λ d.
-        Walks V.disk V.count V.left on_way (BringsFirst d batch.now) (Built d batch.now result) d objects.old.vault objects.new.vault) }
+        Walks V.disk V.count V.left on_way (BringsFirst d batch.now) (Built d batch.now manifest.now result) d objects.old.vault objects.new.vault) }
+    ensures refused { IsRefusal result → BringsNothing V.disk V.count V.left objects.old.vault objects.new.vault }
     ensures cause { HasCause (V.faults objects.old.vault) (V.faults objects.new.vault) (IsErrOf result fault.Failed) }
 {
-    objects.store(alloc, batch)?;
-    set_epoch(&mut objects.vault, alloc, 0)?;
-    Ok(())
-}
-
-/// Brings a head whole to its name.
-pub fn set_head<V: Vault>(vault: &mut V, manifest: &[u8]) -> Result<(), VaultFault>
-    ensures walks { WhereTold (V.disk vault.old) (λ d.
-        Walks V.disk V.count V.left on_way (ComesTo head_name (Some manifest.now)) (Replaced d head_name manifest.now result) d vault.old vault.new) }
-    ensures cause { HasCause (V.faults vault.old) (V.faults vault.new) (IsErrOf result vault_fault.Failed) }
-{
-    replace(vault, HEAD_WAY, HEAD_NAME, manifest)
+    objects.put(alloc, batch)?;
+    put_beside(&mut objects.vault, alloc, manifest)?;
+    objects.bring(alloc, batch)?;
+    bring_epoch(&mut objects.vault)?;
+    Ok(objects.settle()?)
 }
 
 /// Makes a first revision of its objects and its manifest.
@@ -89,7 +112,7 @@ pub fn init_on<V: Vault + Drop>(
     ensures inits { WhereTold (V.disk objects.old.vault) (λ d. Inits V.disk V.count V.left d batch.now manifest.now result objects.old.vault objects.new.vault) }
     ensures cause { HasCause (V.faults objects.old.vault) (V.faults objects.new.vault) (IsErrOf result fault.Failed) }
 {
-    build_first(objects, alloc, batch)?;
-    set_head(&mut objects.vault, manifest)?;
+    build_first(objects, alloc, batch, manifest)?;
+    swap_on(&mut objects.vault)?;
     Ok(())
 }

@@ -1,6 +1,6 @@
 use Rattle.cv_vault.specs.Disk.{files_now}
 use Rattle.cv_swap.specs.Stands.{head_name}
-use Rattle.cv_swap.proofs.Finding.{file_now, finds_head}
+use Rattle.cv_swap.proofs.Finding.{file_now, finds_head, head_read}
 use Rattle.cv_swap.proofs.opening.read_head.Goals as goal
 
 pub returns-in-Some-clause-told : goal.returns-in-Some-clause-told
@@ -8,3 +8,6 @@ returns-in-Some-clause-told g c = λ d e. finds_head c.args.name.now (g.S.Signer
 
 pub returns-in-None-clause-told : goal.returns-in-None-clause-told
 returns-in-None-clause-told g c = λ d e. file_now head_name _ _ d e c.in-Ok.ensures.call c.in-None.is
+
+pub returns-in-Some-clause-head : goal.returns-in-Some-clause-head
+returns-in-Some-clause-head g c = head_read c.args.name.now (g.S.Signer.is_seal c.args.signer.now) c.in-Some.bytes c.read_manifest.result c.read_manifest.ensures

@@ -1,10 +1,10 @@
 use Rattle.std.proofs.Common.{rules, ◌≡◌, [], ◌∷◌, ◌++◌, take, refl, sym, subst, ◌∙◌}
 use Rattle.std.specs.declared.result.Result.TheVariants.{Err}
 use Rattle.cv_manifest.specs.declared.head.Head.{Head}
-use Rattle.cv_objects.specs.Batches.{AreNamed}
+use Rattle.cv_objects.specs.Batches.{AreNamed, BringsNothing}
 use Rattle.cv_objects.specs.declared.store_fault.StoreFault.TheVariants.{NoMemory}
-use Rattle.cv_objects.proofs.Lemmas.{same_fault}
-use Rattle.cv_swap.proofs.Views.{vault_seen, prepare_stands, named_push, on_err, dropped_seen}
+use Rattle.cv_objects.proofs.Lemmas.{same_fault, refusal_inside}
+use Rattle.cv_swap.proofs.Views.{vault_seen, prepare_stands, named_push, on_err, dropped_seen, refusal_as}
 use Rattle.cv_swap.proofs.line.Line.prepare.Goals as goal
 
 pub returns-in_err-parts-clause-walks : goal.returns-in_err-parts-clause-walks
@@ -20,3 +20,11 @@ pub returns-in_err-prepare_on-clause-dropped : goal.returns-in_err-prepare_on-cl
 returns-in_err-prepare_on-clause-dropped g c =
     let e : c.push.new.self.items ≡ take c.self.inside.made c.self.inside.records.items ++ c.args.next ∷ [] = search rules in
     on_err _ (dropped_seen _ _ _ c.args.next c.self.view_is c.self.invariant.published_ e refl (record { name_ = refl; signer_ = refl; made_ = refl; head_ = refl; epoch_ = refl; taken_ = c.in_err-prepare_on.ensures.taken }))
+
+pub returns-in_err-parts-clause-refused : goal.returns-in_err-parts-clause-refused
+returns-in_err-parts-clause-refused g c = λ refusal. absurd (refusal_inside _ NoMemory (same_fault _ NoMemory c.from_residual.ensures.1) tt refusal)
+
+pub returns-in_err-prepare_on-clause-refused : goal.returns-in_err-prepare_on-clause-refused
+returns-in_err-prepare_on-clause-refused g c = λ refusal.
+    subst (λ v. BringsNothing g.V.Vault.disk g.V.Vault.count g.V.Vault.left v c.prepare_on.new.objects.vault) (vault_seen _ _ c.self.view_is)
+    (c.in_err-prepare_on.ensures.refused (refusal_as (Unit {0}) _ _ (same_fault _ _ c.from_residual-in_err-prepare_on.ensures.1) refusal))
