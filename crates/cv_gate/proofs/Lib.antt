@@ -7,16 +7,12 @@ mod Histories
 mod Keeping
 pub mod Lemmas
 mod Leases
-mod Lines
 mod Living
 mod Making
 mod Passing
 mod Readying
 mod Shelves
-mod States
-mod Steps
 mod Tokens
 pub mod Runs
 mod Alone
 mod Owns
-mod OneDesks

@@ -6,8 +6,8 @@ use Rattle.cv_base.specs.declared.id.ObjectId.{ObjectId}
 use Rattle.cv_ports.specs.Shelf.{Shelf}
 use Rattle.cv_ports.specs.declared.shelf.ShelfFault.{ShelfFault}
 use Rattle.cv_ports.specs.declared.shelf.ShelfFault.TheVariants.{Failed, Damaged, NoMemory}
+pub use Rattle.cv_manifest.specs.Manifest.{IsHead}
 use Rattle.cv_manifest.specs.declared.head.Head.{Head}
-use Rattle.cv_gate.specs.Gate.{journal_limit}
 use Rattle.cv_gate.specs.Lines.{lines_of}
 use Rattle.cv_gate.specs.State.{State}
 use Rattle.cv_gate.specs.Step.{Step, Run}
@@ -17,6 +17,10 @@ use Rattle.cv_gate.specs.declared.op.Op.{Op}
 use Rattle.cv_gate.specs.declared.reply.Reply.{Reply}
 use Rattle.cv_gate.specs.declared.reply.Reply.TheVariants.{JournalFull, StoreFailed}
 use Rattle.cv_gate.specs.Heads.{IsFront, heads_since, last_head}
+
+-- the most entries of a journal
+abbrev pub journal_limit : ℕ
+journal_limit = 262144
 
 -- How a desk may be seen: the state with which its gate was opened, the number of its seat, whether it asks the gate alone,
 -- the entries of the journal that it has seen, a state to which they run, and the heads that stood published, as far as it knows
@@ -126,8 +130,3 @@ Calls v (c ∷ calls) v' = (mid : DeskView) × Does c v mid × Calls mid calls v
 -- however the desk could be seen before the calls, it can be seen so after them that they lead there
 abbrev pub Leads : (DeskView → Type 0) → List Call → (DeskView → Type 0) → Type 0
 Leads Before calls After = (v : DeskView) → Before v → (v' : DeskView) × After v' × Calls v calls v'
-
--- the head can be written
-pub record IsHead (head : Head) : Type 0 where
-  pub revision : 1 ≤ head.revision
-  pub time : head.time < 2 ^ 62

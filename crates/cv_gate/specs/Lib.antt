@@ -10,11 +10,7 @@ pub mod Laws
 pub mod Kept
 pub mod Lives
 pub mod Lines
-pub mod Gate
-pub mod GateState
 pub mod Heads
 pub mod Desk
 pub mod Solo
 pub mod Own
-pub mod OneDesk
-pub mod Leading
