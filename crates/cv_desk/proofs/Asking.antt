@@ -101,15 +101,15 @@ own_lease leases key token h =
     ] refl h
 
 -- the key's own lease is live
-on_own : (st : State) (key : List ℕ) (token : Token) (r : Reply) (st' : State) (does : Lease → Type 0) → (own : IsOwn st.leases key token) → does own.lease → OnLease st key token r st' does
+pub on_own : (st : State) (key : List ℕ) (token : Token) (r : Reply) (st' : State) (does : Lease → Type 0) → (own : IsOwn st.leases key token) → does own.lease → OnLease st key token r st' does
 on_own st key token r st' does own done = inr ((λ not. (let l = own.live in cc)), (own.lease, own.live, inr ((λ not. (let w = own.own in cc)), done)))
 
 -- it isn't: nothing is done, and nothing is said to be stored
-record IsNotDone (st : State) (key : List ℕ) (token : Token) (r : Reply) : Type 1 where
-  step : (does : Lease → Type 0) → OnLease st key token r st does
-  unstored : r ≢ reply.Stored
+pub record IsNotDone (st : State) (key : List ℕ) (token : Token) (r : Reply) : Type 1 where
+  pub step : (does : Lease → Type 0) → OnLease st key token r st does
+  pub unstored : r ≢ reply.Stored
 
-refused_on : (st : State) (key : List ℕ) (token : Token) (out : Outcome) → refusal_on (lease_of token st.leases) key ≡ Some out → IsNotDone st key token (reply_of out)
+pub refused_on : (st : State) (key : List ℕ) (token : Token) (out : Outcome) → refusal_on (lease_of token st.leases) key ≡ Some out → IsNotDone st key token (reply_of out)
 refused_on st key token out h =
     elim (lease_of token st.leases) as (λ o. lease_of token st.leases ≡ o → refusal_on o key ≡ Some out → IsNotDone st key token (reply_of out)) [
       | None ↦ λ absent is. (let same : outcome.InvalidToken ≡ out = cc in subst (λ o. IsNotDone st key token (reply_of o)) same (record { step = λ does. inl (absent, refl, refl); unstored = λ e. cc }))
@@ -131,23 +131,23 @@ module _ {V S : Type 0} (disk : V → Option Disk) (count : V → ℕ) (left : V
   abbrev aged_before : StateView V S
   aged_before = aged_view before e.now
 
-  leases_aged : aged_before.leases ≡ a.leases
+  pub leases_aged : aged_before.leases ≡ a.leases
   leases_aged = λ i. unexpired (max (stands.moment i) e.now) (stands.leases i)
 
-  moment_aged : aged_before.moment ≡ a.moment
+  pub moment_aged : aged_before.moment ≡ a.moment
   moment_aged = ap (λ m. max m e.now) stands.moment
 
-  has_room : st.next < last_number
+  pub has_room : st.next < last_number
   has_room = subst (λ n. n < last_number) stands.next room
 
   -- nothing changed but the moment
   module _ (o : Op) (noted : IsNoted o e) (acts : ActsAs a o e a) where
-    looked : OnlyLooks disk count left aged_before after → Does disk count left is_seal o e before after st
+    pub looked : OnlyLooks disk count left aged_before after → Does disk count left is_seal o e before after st
     looked looks = quiet_does disk count left is_seal before after st stands none o e noted has_room a.leases st.next acts
         (ap (λ (s : StateView V S). s.line) looks.others) (ap (λ (s : StateView V S). s.leases) looks.others ∙ leases_aged) (ap (λ (s : StateView V S). s.moment) looks.others)
         (ap (λ (s : StateView V S). s.next) looks.others ∙ stands.next) _ (quiet_walks only stands.told looks.reads)
 
-    untouched : after ≡ aged_before → Does disk count left is_seal o e before after st
+    pub untouched : after ≡ aged_before → Does disk count left is_seal o e before after st
     untouched same = subst (λ (g : StateView V S). Does disk count left is_seal o e before g st) (sym same)
         (quiet_does disk count left is_seal before aged_before st stands none o e noted has_room a.leases st.next acts refl leases_aged refl stands.next _ (stand {E = λ d'. Unit {0}} only stands.told tt))
 
@@ -246,11 +246,6 @@ module _ {V S : Type 0} (disk : V → Option Disk) (count : V → ℕ) (left : V
         subst (λ (g : StateView V S). Does disk count left is_seal (op.Store key token digest batch) e before g st) (sym s.others)
         (store_does disk count left is_seal before st stands none key digest token batch out fresh e noted has_room named own.lease own.live own.own kept replied after.line.vault (s.walks stands.end stands.told))
 
-  -- a commit is asked, and memory was wanted
-  pub commit_does : (key old_root new_root tag : List ℕ) (token : Token) → IsNoted (op.Commit key token old_root new_root tag) e → e.reply ≡ reply.NoMemory → after ≡ aged_before
-      → Does disk count left is_seal (op.Commit key token old_root new_root tag) e before after st
-  commit_does key old_root new_root tag token noted replied same = untouched (op.Commit key token old_root new_root tag) noted (inl (replied, refl)) same
-
 -- ---- from whatever settled state
 
 module _ {V S : Type 0} (disk : V → Option Disk) (count : V → ℕ) (left : V → ℕ → Files → Type 0) (is_seal : S → List ℕ → List ℕ → Bool) (before aged_ after : StateView V S) (now : ℕ) (aged_is : aged_ ≡ aged_view before now)
@@ -270,6 +265,3 @@ module _ {V S : Type 0} (disk : V → Option Disk) (count : V → ℕ) (left : V
       → Acts disk count left is_seal (op.Store key token digest batch) now (act.Store token digest fresh) (reply_of out) before after
   store_acts key digest token batch out fresh named asks = λ st none stands e noted e_now e_act e_reply. sent_does disk count left is_seal before after only room st none stands e key digest token batch out fresh noted named e_act e_reply
       (subst (λ (s : StateView V S). AsksStore disk count left key token batch s out fresh after) (at_moment e e_now) asks)
-
-  pub commit_acts : (key old_root new_root tag : List ℕ) (token : Token) → after ≡ aged_ → Acts disk count left is_seal (op.Commit key token old_root new_root tag) now (act.Commit token old_root new_root tag) reply.NoMemory before after
-  commit_acts key old_root new_root tag token same = λ st none stands e noted e_now e_act e_reply. commit_does disk count left is_seal before after only room st none stands e key old_root new_root tag token noted e_reply (same ∙ at_moment e e_now)

@@ -1,5 +1,5 @@
 -- One connection over a gate meets what is asked of a desk.
-use Rattle.std.proofs.Common.{◌≡◌, ◌++◌, ◌∷◌, ◌-◌, Bool, true, ℕ, zero, suc, List, [], length, refl, ap, sym, subst, ◌∙◌, append_assoc, append-nil}
+use Rattle.std.proofs.Common.{◌≡◌, ◌++◌, ◌∷◌, ◌-◌, ◌+◌, Bool, true, ℕ, zero, suc, List, [], length, refl, ap, sym, subst, ◌∙◌, append_assoc, append-nil, arith}
 use Rattle.std.specs.Prelude.{Vec, IfOk, MatchResult, IfSome, bytes_eq, max, drop, map, option_map}
 use Rattle.std.specs.List.{last_or}
 use Rattle.sha1.specs.Sha1.{sha1}
@@ -17,7 +17,7 @@ use Rattle.cv_vault.specs.Disk.{Disk, Files, ImageOf}
 use Rattle.cv_vault.specs.Moments.{LeavesOnly}
 use Rattle.cv_vault.specs.Names.{on_way}
 use Rattle.cv_vault.specs.Walks.{Nothing}
-use Rattle.cv_vault.proofs.Laws.{leaves_then, leaves_more, stand, quiet_walks}
+use Rattle.cv_vault.proofs.Laws.{leaves_more, stand, quiet_walks}
 use Rattle.cv_manifest.specs.declared.head.Head.{Head}
 use Rattle.cv_swap.specs.Kept.{Revision, newest, head_of}
 use Rattle.cv_objects.specs.Names.{standing_on}
@@ -26,9 +26,9 @@ use Rattle.cv_gate.specs.declared.lease_line.LeaseLine.{LeaseLine}
 use Rattle.cv_gate.specs.State.{State, Settled, certain, unmade, published}
 use Rattle.cv_gate.specs.Step.{Run}
 use Rattle.cv_gate.specs.Laws.{GrowsBy}
-use Rattle.cv_gate.specs.Gate.{journal_limit}
+use Rattle.cv_gate.specs.Desk.{journal_limit}
 use Rattle.cv_gate.specs.Heads.{IsFront, heads_since, last_head}
-use Rattle.cv_gate.specs.Desk.{DeskView, Call, asked, listed, fetched, told, Learns, Does as DoesCall, Calls, Leads, Finds}
+use Rattle.cv_gate.specs.Desk.{DeskView, Call, asked, listed, fetched, told, Learns, Does as Comes, Finds, IsHead}
 use Rattle.cv_gate.specs.Desk.{made as takes_made}
 use Rattle.cv_gate.specs.Desk.{full as takes_full}
 use Rattle.cv_gate.specs.declared.op.Op.{Op}
@@ -40,8 +40,9 @@ use Rattle.cv_desk.specs.Holds.{Survives}
 use Rattle.cv_desk.specs.Gate.{StateView, GateView, StandsFor, IsSameRepository, Steps}
 use Rattle.cv_desk.specs.Gate.{full, made, Does}
 use Rattle.cv_desk.specs.Acting.{OnlyLooks}
-use Rattle.cv_desk.specs.OneDesk.{OneDeskView, Stands, IsLeft, behind, within, Goes, DoesCalls}
-use Rattle.cv_desk.proofs.Imaging.{calm_survives}
+use Rattle.cv_desk.specs.OneDesk.{OneDeskView, Stands, IsLeft, behind, within, Goes, DoesCall, DoesCalls, first_view}
+use Rattle.cv_desk.specs.Calls.{calls_one}
+use Rattle.cv_desk.proofs.Imaging.{calm_survives, image_survives}
 use Rattle.cv_desk.proofs.Quietly.{looked_stands, looks_none}
 use Rattle.cv_desk.proofs.Holding.{shelf_stands}
 use Rattle.cv_desk.proofs.Places.{head_is}
@@ -107,6 +108,11 @@ view_at v seen st = record v { seen = seen; state = st; heads = heads_since v.st
 same_view : (v : DeskView) (seen : List Entry) → seen ≡ v.seen → v.heads ≡ heads_since v.start v.state → v ≡ view_at v seen v.state
 same_view v seen is heads = rw (is, sym heads) refl
 
+-- each image of the disk of a gate that stands for a state is what a crash may leave of it
+gate_images : {V S : Type 0} (disk : V → Option Disk) (is_seal : S → List ℕ → List ℕ → Bool) (g : StateView V S) (st : State) → StandsFor disk is_seal g st → (f : Files) → ImageOf (disk g.line.vault) f
+    → Survives g.line.name (is_seal g.line.signer) st None f
+gate_images disk is_seal g st s f image = image_survives g.line.name (is_seal g.line.signer) s.end st f s.holds s.sound (subst (λ (o : Option Disk). ImageOf o f) s.told image)
+
 module _ {V S : Type 0} (disk : V → Option Disk) (count : V → ℕ) (left : V → ℕ → Files → Type 0) (is_seal : S → List ℕ → List ℕ → Bool) where
   learns_nothing : (d : OneDeskView V S) (v : DeskView) → Stands disk is_seal d v → Learns v v
   learns_nothing d v s = record {
@@ -121,10 +127,11 @@ module _ {V S : Type 0} (disk : V → Option Disk) (count : V → ℕ) (left : V
 
   -- a call that only reads
   pub reads_does : (d : OneDeskView V S) (c : Call) (state : StateView V S) → ((f : Files) → left d.gate.state.line.vault (count d.gate.state.line.vault) f → ImageOf (disk d.gate.state.line.vault) f)
-      → OnlyLooks disk count left d.gate.state state → ((v : DeskView) → Stands disk is_seal d v → Learns v v → DoesCall c v v)
-      → DoesCalls disk count left is_seal d (c ∷ []) (record d { gate = record d.gate { state = state } })
-  reads_does d c state only looks does = record {
+      → OnlyLooks disk count left d.gate.state state → ((v : DeskView) → Stands disk is_seal d v → Learns v v → Comes c v v)
+      → DoesCall disk count left is_seal d c (record d { gate = record d.gate { state = state } }) → DoesCalls disk count left is_seal d (c ∷ []) (record d { gate = record d.gate { state = state } })
+  reads_does d c state only looks does said = calls_one disk count left is_seal d (record d { gate = record d.gate { state = state } }) c (record {
     same = record { name_ = ap (λ (s : StateView V S). s.line.name) looks.others; signer_ = ap (λ (s : StateView V S). s.line.signer) looks.others; epoch_ = ap (λ (s : StateView V S). s.line.epoch) looks.others };
+    does = said;
     goes = λ v s. record {
       next = v;
       stands = record {
@@ -132,6 +139,7 @@ module _ {V S : Type 0} (disk : V → Option Disk) (count : V → ℕ) (left : V
         alone = s.alone;
         seen = s.seen;
         state = looked_stands disk count left is_seal d.gate.state state v.state looks s.state;
+        images = gate_images disk is_seal state v.state (looked_stands disk count left is_seal d.gate.state state v.state looks s.state);
         run = s.run;
         heads = s.heads;
         last = s.last;
@@ -140,7 +148,7 @@ module _ {V S : Type 0} (disk : V → Option Disk) (count : V → ℕ) (left : V
       leaves = leaves_more (quiet_walks {away = on_way} only s.state.told looks.reads).leaves (λ f w. behind [] (c ∷ []) v refl refl
           (calm_survives d.gate.state.line.name (is_seal d.gate.state.line.signer) s.state.end v.state f s.state.holds s.state.sound w));
     };
-  }
+  })
 
   -- ---- an op
 
@@ -158,13 +166,12 @@ module _ {V S : Type 0} (disk : V → Option Disk) (count : V → ℕ) (left : V
         last st.history front.split ∙ ap (option_map head_of) is,
       )
 
-  module _ (d : OneDeskView V S) (after : GateView V S) (head : Head) (o : Op) (now : ℕ) (r : Reply)
-      (heads : (st : State) → StandsFor disk is_seal after.state st → head ≡ after.state.line.head) where
+  module _ (d : OneDeskView V S) (after : GateView V S) (head : Head) (o : Op) (now : ℕ) (r : Reply) (knows : head ≡ after.state.line.head) where
     -- the head that the desk knows then is the newest
     head_then : (st : State) → (stands : StandsFor disk is_seal after.state st) → (r : Revision) × (newest st.history ≡ Some r) × (head ≡ head_of r)
     head_then st stands =
         let new = some_newest st.shelf st.history stands.sound.line in
-        (new.0, new.1, heads st stands ∙ head_is disk is_seal after.state st stands new.0 new.1)
+        (new.0, new.1, knows ∙ head_is disk is_seal after.state st stands new.0 new.1)
 
     -- the journal was full
     full_goes : ((f : Files) → left d.gate.state.line.vault (count d.gate.state.line.vault) f → ImageOf (disk d.gate.state.line.vault) f)
@@ -180,6 +187,7 @@ module _ {V S : Type 0} (disk : V → Option Disk) (count : V → ℕ) (left : V
             alone = s.alone;
             seen = s.seen ∙ ap (λ (g : GateView V S). g.journal) (sym same);
             state = stands;
+            images = gate_images disk is_seal after.state v.state stands;
             run = s.run;
             heads = s.heads;
             last = ap last_head s.heads ∙ on.1 ∙ ap Some (sym then.2);
@@ -205,6 +213,7 @@ module _ {V S : Type 0} (disk : V → Option Disk) (count : V → ℕ) (left : V
             alone = s.alone;
             seen = ap (λ (l : List Entry). l ++ e ∷ []) (append-nil v.seen ∙ s.seen) ∙ sym journal;
             state = taken.stands;
+            images = gate_images disk is_seal after.state st' taken.stands;
             run = run_on (v.seen ++ []) (e ∷ []) v.start v.state st' run (o, st', taken.step, refl);
             heads = refl;
             last = on.1 ∙ ap Some (sym then.2);
@@ -220,14 +229,16 @@ module _ {V S : Type 0} (disk : V → Option Disk) (count : V → ℕ) (left : V
 
     pub ask_does : ((f : Files) → left d.gate.state.line.vault (count d.gate.state.line.vault) f → ImageOf (disk d.gate.state.line.vault) f)
         → Steps disk count left is_seal o 0 now d.gate after r → DoesCalls disk count left is_seal d (asked o now r ∷ []) (record d { gate = after; head = head })
-    ask_does only (full counted is same) = record {
+    ask_does only (full counted is same) = calls_one disk count left is_seal d (record d { gate = after; head = head }) (asked o now r) (record {
       same = subst (λ (g : GateView V S). IsSameRepository d.gate.state.line g.state.line) (sym same) (record { name_ = refl; signer_ = refl; epoch_ = refl });
+      does = (full counted is same, record { name_ = refl; head_ = knows });
       goes = full_goes only counted is same;
-    }
-    ask_does only (made room e seat moment replied records journal repository does) = record {
+    })
+    ask_does only (made room more e seat moment replied records journal repository exact does) = calls_one disk count left is_seal d (record d { gate = after; head = head }) (asked o now r) (record {
       same = repository;
+      does = (made room more e seat moment replied records journal repository exact does, record { name_ = refl; head_ = knows });
       goes = λ v s. made_goes e seat moment replied journal v s (does v.state s.state);
-    }
+    })
 
 -- ---- an object
 
@@ -256,7 +267,7 @@ module _ {V S : Type 0} (disk : V → Option Disk) (count : V → ℕ) (left : V
     (only : (f : Files) → left d.gate.state.line.vault (count d.gate.state.line.vault) f → ImageOf (disk d.gate.state.line.vault) f) where
   -- the list of leases, or none where memory was wanted
   pub lists_does : (now : ℕ) (lines : Option (List LeaseLine)) → IfSome lines (λ l. l ≡ lines_of (max d.gate.state.moment now) d.gate.state.leases) → DoesCalls disk count left is_seal d (listed now lines ∷ []) d
-  lists_does now lines is = reads_does disk count left is_seal d (listed now lines) d.gate.state only (looks_none disk count left d.gate.state) (λ v s learns. (learns, by v s lines is))
+  lists_does now lines is = reads_does disk count left is_seal d (listed now lines) d.gate.state only (looks_none disk count left d.gate.state) (λ v s learns. (learns, by v s lines is)) (refl, is)
     where
       by : (v : DeskView) → Stands disk is_seal d v → (lines : Option (List LeaseLine)) → IfSome lines (λ l. l ≡ lines_of (max d.gate.state.moment now) d.gate.state.leases) → IfSome lines (λ l. l ≡ lines_of (max v.state.moment now) v.state.leases)
       by v s None is = tt
@@ -264,7 +275,7 @@ module _ {V S : Type 0} (disk : V → Option Disk) (count : V → ℕ) (left : V
 
   -- the newest head
   pub tells_does : DoesCalls disk count left is_seal d (told d.head ∷ []) d
-  tells_does = reads_does disk count left is_seal d (told d.head) d.gate.state only (looks_none disk count left d.gate.state) (λ v s learns. record { view = refl; heads = front_self v.heads; last = s.last; alone = λ a. refl })
+  tells_does = reads_does disk count left is_seal d (told d.head) d.gate.state only (looks_none disk count left d.gate.state) (λ v s learns. record { view = refl; heads = front_self v.heads; last = s.last; alone = λ a. refl }) (refl, refl)
 
   -- an object
   pub fetches_does : (state : StateView V S) (id : ObjectId) (r : Result (Option (List ℕ)) ShelfFault) → OnlyLooks disk count left d.gate.state state → WhereTold (disk d.gate.state.line.vault) (λ e. Fetches id r (standing_on e))
@@ -272,7 +283,7 @@ module _ {V S : Type 0} (disk : V → Option Disk) (count : V → ℕ) (left : V
   fetches_does state id r looks seen = reads_does disk count left is_seal d (fetched id r) state only looks (λ v s learns. (
     learns,
     finds_of id v.state.shelf s.state.sound.hashes r (subst (λ (x : Shelf). Fetches id r x) (sym (shelf_stands d.gate.state.line.name (is_seal d.gate.state.line.signer) s.state.end v.state s.state.holds s.state.sound.hashes)) (seen s.state.end s.state.told)),
-  ))
+  )) (refl, looks, seen)
 
   -- the same, whatever became of the call
   pub lists_all : {Z X : Type 0} (now : ℕ) (r : Result (Vec LeaseLine Z) X) → IfOk r (λ lines. lines.items ≡ lines_of (max d.gate.state.moment now) d.gate.state.leases)
@@ -285,50 +296,33 @@ module _ {V S : Type 0} (disk : V → Option Disk) (count : V → ℕ) (left : V
   fetches_over gate id r looks same seen =
       subst (λ (j : List Entry). DoesCalls disk count left is_seal d (fetched id r ∷ []) (record d { gate = record { state = gate.state; journal = j } })) (sym same) (fetches_does gate.state id r looks seen)
 
--- ---- calls, one after another
+-- ---- a desk of which nothing was asked yet
 
-calls_on : (calls more : List Call) (v mid v' : DeskView) → Calls v calls mid → Calls mid more v' → Calls v (calls ++ more) v'
-calls_on [] more v mid v' does and = subst (λ (x : DeskView). Calls x more v') does and
-calls_on (c ∷ calls) more v mid v' does and = (does.0, does.1, calls_on calls more does.0 mid v' does.2 and)
+last_alone : {T : Type 0} (k : ℕ) (xs : List T) (x : T) → length xs ≡ k + 1 → last_or None xs ≡ Some x → drop k xs ≡ x ∷ []
+last_alone k [] x len is = cc
+last_alone zero (a ∷ []) x len is = let same : a ≡ x = cc in ap (λ y. y ∷ []) same
+last_alone zero (a ∷ b ∷ xs) x len is = absurd (omega (arith, len))
+last_alone (suc k) (a ∷ []) x len is = absurd (omega (arith, len))
+last_alone (suc k) (a ∷ b ∷ xs) x len is = last_alone k (b ∷ xs) x (omega (arith, len)) is
 
-module _ (name : List ℕ) (is_seal : List ℕ → List ℕ → Bool) (v : DeskView) (calls more : List Call) (f : Files) where
-  left_front : IsLeft name is_seal v calls f → IsLeft name is_seal v (calls ++ more) f
-  left_front (behind done rest mid e c s) = behind done (rest ++ more) mid (ap (λ (l : List Call). l ++ more) e ∙ append_assoc done rest more) c s
-  left_front (within done rest mid o now r e c s) = within done (rest ++ more) mid o now r (ap (λ (l : List Call). l ++ more) e ∙ append_assoc done (asked o now r ∷ rest) more) c s
+-- a list that has a last is as long as the front and one more
+has_last : {T : Type 0} (xs : List T) (x : T) → last_or None xs ≡ Some x → length xs ≡ (length xs - 1) + 1
+has_last [] x is = cc
+has_last (a ∷ xs) x is = omega arith
 
-  left_later : (w : DeskView) → Calls v calls w → IsLeft name is_seal w more f → IsLeft name is_seal v (calls ++ more) f
-  left_later w first (behind done rest mid e c s) = behind (calls ++ done) rest mid (ap (λ (l : List Call). calls ++ l) e ∙ sym (append_assoc calls done rest)) (calls_on calls done v w mid first c) s
-  left_later w first (within done rest mid o now r e c s) =
-      within (calls ++ done) rest mid o now r (ap (λ (l : List Call). calls ++ l) e ∙ sym (append_assoc calls done (asked o now r ∷ rest))) (calls_on calls done v w mid first c) s
+first_heads : (st : State) (r : Revision) → newest st.history ≡ Some r → last_head (heads_since st st) ≡ Some (head_of r)
+first_heads st r is = ap (λ (l : List Revision). last_head (map head_of l)) (last_alone (length st.history - 1) st.history r (has_last st.history r is) is)
 
-module _ {V S : Type 0} (disk : V → Option Disk) (count : V → ℕ) (left : V → ℕ → Files → Type 0) (is_seal : S → List ℕ → List ℕ → Bool) where
-  pub calls_none : (a : OneDeskView V S) → ((f : Files) → left a.gate.state.line.vault (count a.gate.state.line.vault) f → ImageOf (disk a.gate.state.line.vault) f) → DoesCalls disk count left is_seal a [] a
-  calls_none a only = record {
-    same = record { name_ = refl; signer_ = refl; epoch_ = refl };
-    goes = λ v s. record {
-      next = v;
-      stands = s;
-      calls_ = refl;
-      leaves = leaves_more (stand {disk = disk} {away = on_way} {B = Nothing} {E = λ x. Unit {0}} only s.state.told tt).leaves (λ f w. behind [] [] v refl refl
-          (calm_survives a.gate.state.line.name (is_seal a.gate.state.line.signer) s.state.end v.state f s.state.holds s.state.sound w));
-    };
-  }
-
-  pub calls_more : (a b c : OneDeskView V S) (calls more : List Call) → DoesCalls disk count left is_seal a calls b → DoesCalls disk count left is_seal b more c → DoesCalls disk count left is_seal a (calls ++ more) c
-  calls_more a b c calls more x y = record {
-    same = record { name_ = y.same.name_ ∙ x.same.name_; signer_ = y.same.signer_ ∙ x.same.signer_; epoch_ = y.same.epoch_ ∙ x.same.epoch_ };
-    goes = λ v s.
-        let first = x.goes v s in
-        let second = y.goes first.next first.stands in record {
-          next = second.next;
-          stands = second.stands;
-          calls_ = calls_on calls more v first.next second.next first.calls_ second.calls_;
-          leaves = leaves_then first.leaves second.leaves (λ f. left_front a.gate.state.line.name (is_seal a.gate.state.line.signer) v calls more f)
-              (λ f z. left_later a.gate.state.line.name (is_seal a.gate.state.line.signer) v calls more f first.next first.calls_
-              (subst (λ n. IsLeft n (is_seal a.gate.state.line.signer) first.next more f) x.same.name_ (subst (λ g. IsLeft b.gate.state.line.name (is_seal g) first.next more f) x.same.signer_ z)));
-        };
-  }
-
-  -- calls lead from view to view
-  pub calls_lead : (a b : OneDeskView V S) (calls : List Call) → DoesCalls disk count left is_seal a calls b → Leads (Stands disk is_seal a) calls (Stands disk is_seal b)
-  calls_lead a b calls x = λ v s. let g = x.goes v s in (g.next, g.stands, g.calls_)
+pub new_stands : {V S : Type 0} (disk : V → Option Disk) (is_seal : S → List ℕ → List ℕ → Bool) (d : OneDeskView V S) (st : State) → d.gate.journal ≡ [] → d.head ≡ d.gate.state.line.head
+    → StandsFor disk is_seal d.gate.state st → Stands disk is_seal d (first_view st)
+new_stands disk is_seal d st none head stands =
+    let new = some_newest st.shelf st.history stands.sound.line in record {
+      seat = refl;
+      alone = refl;
+      seen = sym none;
+      state = stands;
+      images = gate_images disk is_seal d.gate.state st stands;
+      run = refl;
+      heads = refl;
+      last = first_heads st new.0 new.1 ∙ ap Some (sym (head ∙ head_is disk is_seal d.gate.state st stands new.0 new.1));
+    }

@@ -79,6 +79,19 @@ module _ (name : List ℕ) (is_seal : List ℕ → List ℕ → Bool) (objects :
   any_survives p brings = stands_for (Some p) (λ k e. subst (Crash st (Some p)) (sym e)
       (record { sound = sound; epoch = refl; settled = head.settled; settles = head.settles; history = inl refl; objects = objects; brings = brings (aged head.settled p.now); shelf = left }))
 
+  -- the op brings them in the state as it is, which has no doubt
+  pub bringing_survives : (p : Pending) → st.doubt ≡ None → BringsObjects (aged st p.now) p.op objects → Survives name is_seal st (Some p) f
+  bringing_survives p none brings = stands_for (Some p) (λ k e. subst (Crash st (Some p)) (sym e) (record {
+    sound = sound;
+    epoch = refl;
+    settled = head.settled;
+    settles = head.settles;
+    history = inl refl;
+    objects = objects;
+    brings = subst (λ (x : State). BringsObjects (aged x p.now) p.op objects) (sym (settled_same st head.settled none head.settles)) brings;
+    shelf = left;
+  }))
+
   -- the same with nothing in progress, where there are none
   pub none_survives : objects ≡ [] → Survives name is_seal st None f
   none_survives none = stands_for None (λ k e. subst (Crash st None) (sym e)

@@ -75,9 +75,14 @@ KeepsKept = (name : List ℕ) (is_seal : List ℕ → List ℕ → Bool) (d d' :
 
 -- a gate over a line that was opened
 pub gate_opened : {V S : Type 0} (disk : V → Option Disk) (count : V → ℕ) (left : V → ℕ → Files → Type 0) (is_seal : S → List ℕ → List ℕ → Bool) (name : List ℕ) (signer : S) (d : Disk) (v : V) (l : LineView V S) → FindsKept → KeepsKept
-    → LineOpens disk count left name (is_seal signer) d v (Ok l) → IsOpenedLine name signer l → (g : GateView V S) → g ≡ record { state = record { line = l; leases = []; moment = 0; next = 1 }; journal = [] } → OpensGate disk count left is_seal d v g
-gate_opened {V} {S} disk count left is_seal name signer d v l finds keeps o line g is = subst (OpensGate disk count left is_seal d v) (sym is) (record {
-  leaves = o.1.leaves;
+    → LineOpens disk count left name (is_seal signer) d v (Ok l) → IsOpenedLine name signer l → (g : GateView V S) → g ≡ record { state = record { line = l; leases = []; moment = 0; next = 1 }; journal = [] }
+    → OpensGate disk count left name is_seal signer d v g
+gate_opened {V} {S} disk count left is_seal name signer d v l finds keeps o line g is = subst (OpensGate disk count left name is_seal signer d v) (sym is) (record {
+  found = o.0;
+  opens = o.1;
+  records = o.2;
+  head = o.3;
+  epoch = o.4;
   stands = λ k kept.
       let found : IsFound l.name (is_seal l.signer) (files_now d) o.0 = subst (λ n. IsFound n (is_seal l.signer) (files_now d) o.0) (sym line.named) (subst (λ s. IsFound name (is_seal s) (files_now d) o.0) (sym line.signed) o.1.finds) in
       open_stands disk is_seal (record { line = l; leases = []; moment = 0; next = 1 }) d o.1.end k o.0 o.1.told kept found (finds l.name (is_seal l.signer) (files_now d) k o.0 kept found)

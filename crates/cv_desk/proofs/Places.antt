@@ -10,8 +10,6 @@ use Rattle.cv_cut.specs.Means.{Means}
 use Rattle.cv_objects.specs.Names.{standing_on}
 use Rattle.cv_swap.specs.Kept.{Revision, newest, head_of}
 use Rattle.cv_gate.specs.State.{State}
-use Rattle.cv_history.specs.Record.{IsRecord}
-use Rattle.cv_gate.specs.Desk.{IsHead}
 use Rattle.cv_gate.proofs.Lemmas.{newest_is_head, some_newest}
 use Rattle.cv_desk.specs.Gate.{StateView, StandsFor}
 use Rattle.cv_desk.proofs.Holding.{shelf_stands}
@@ -26,10 +24,3 @@ module _ {V S : Type 0} (disk : V → Option Disk) (is_seal : S → List ℕ →
       let there : Means st.shelf r.record_.root r.tree = (newest_is_head st.shelf st.history r stands.sound.line is).is.tree in
       subst (λ (h : Head). Means (standing_on stands.end) h.root r.tree) (sym head_is)
       (subst (λ (s : Shelf). Means s r.record_.root r.tree) (shelf_stands g.line.name (is_seal g.line.signer) stands.end st stands.holds stands.sound.hashes) there)
-
--- the head of a gate that stands for a state can be written
-pub head_can : {V S : Type 0} (disk : V → Option Disk) (is_seal : S → List ℕ → List ℕ → Bool) (g : StateView V S) (st : State) → StandsFor disk is_seal g st → IsHead g.line.head
-head_can disk is_seal g st stands =
-    let new = some_newest st.shelf st.history stands.sound.line in
-    let limits : IsRecord new.0.record_ = (newest_is_head st.shelf st.history new.0 stands.sound.line new.1).is.limits in
-    subst IsHead (sym (head_is disk is_seal g st stands new.0 new.1)) (record { revision = limits.from_one; time = limits.time })

@@ -32,7 +32,7 @@ use Rattle.cv_desk.specs.declared.outcome.Outcome.{Outcome}
 use Rattle.cv_desk.specs.declared.outcome.Outcome.TheVariants as outcome
 use Rattle.cv_desk.proofs.Holding.{holds_same, shelf_stands, failed_gains, failed_holds, done_gains, done_holds}
 
-gains_none : (batch : List Object) (st : State) → GainsSome batch st st
+pub gains_none : (batch : List Object) (st : State) → GainsSome batch st st
 gains_none batch st = record { shelf = record { each = λ id. inl refl }; loose = λ id lo. inl lo; others = refl }
 
 module _ (name : List ℕ) (is_seal : List ℕ → List ℕ → Bool) (d d' : Disk) (st : State) (batch : List Object) (h : Holds name is_seal d st) (hashes : IsShelf st.shelf) (named : AreNamed batch) where
@@ -40,15 +40,15 @@ module _ (name : List ℕ) (is_seal : List ℕ → List ℕ → Bool) (d d' : Di
   known = shelf_stands name is_seal d st h hashes
 
   -- a collision that is shown is a clash
-  clash_of : (id : ObjectId) → ShownIn d batch (fault.Collision id) → ClashesOn st.shelf batch id
+  pub clash_of : (id : ObjectId) → ShownIn d batch (fault.Collision id) → ClashesOn st.shelf batch id
   clash_of id s = subst (λ (x : Shelf). ClashesOn x batch id) (sym known) (collision_clashes d batch id named s)
 
   -- nothing is damaged
-  not_damaged : (id : ObjectId) (found : List ℕ) → ShownIn d batch (fault.Damaged id found) → ⊥
+  pub not_damaged : (id : ObjectId) (found : List ℕ) → ShownIn d batch (fault.Damaged id found) → ⊥
   not_damaged id found s = damage_is_none d batch id found named (subst IsShelf known hashes) s
 
   -- where all came none clashes
-  no_clash : Gains on_way (Brings d batch) d d' → AreStored batch d' → (id : ObjectId) → ClashesOn st.shelf batch id → ⊥
+  pub no_clash : Gains on_way (Brings d batch) d d' → AreStored batch d' → (id : ObjectId) → ClashesOn st.shelf batch id → ⊥
   no_clash g all id c = stored_clash d d' batch id named g all (subst (λ (x : Shelf). ClashesOn x batch id) known c)
 
   -- what the gate's step wants of a batch that was sent

@@ -74,7 +74,7 @@ module _ (name : List ℕ) (is_seal : List ℕ → List ℕ → Bool) (d d' : Di
 pub all_taken : (n : ℕ) (xs : List Record) → length xs ≡ n → take n xs ≡ xs
 all_taken n xs e = take_all n xs (omega (arith, e))
 
-map_push : (history : List Revision) (new : Revision) → records_of (history ++ new ∷ []) ≡ records_of history ++ new.record_ ∷ []
+pub map_push : (history : List Revision) (new : Revision) → records_of (history ++ new ∷ []) ≡ records_of history ++ new.record_ ∷ []
 map_push [] new = refl
 map_push (r ∷ history) new = ap (λ rs. r.record_ ∷ rs) (map_push history new)
 
@@ -161,7 +161,7 @@ module _ {V S : Type 0} (disk : V → Option Disk) (count : V → ℕ) (left : V
 
 -- ---- whatever the line answers
 
-counted_all : (made : ℕ) (all : List Record) (x : Record) → all ≡ take made all ++ x ∷ [] → length all ≡ made + 1
+pub counted_all : (made : ℕ) (all : List Record) (x : Record) → all ≡ take made all ++ x ∷ [] → length all ≡ made + 1
 counted_all made all x e =
     let sizes : length all ≡ length (take made all) + 1 = ap length e ∙ length-append (take made all) (x ∷ []) in
     let taken : length (take made all) ≡ min made (length all) = length-take made all in

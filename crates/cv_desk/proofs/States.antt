@@ -4,16 +4,35 @@ use Rattle.std.specs.declared.option.Option.TheVariants.{None}
 use Rattle.std.specs.List.{AllByRecursion}
 use Rattle.cv_base.specs.Path.{Path}
 use Rattle.cv_base.specs.declared.token.Token.{Token}
+use Rattle.cv_tree.specs.Tree.{single}
+use Rattle.cv_tree.specs.declared.node.Node.TheVariants.{Dir}
+use Rattle.cv_history.specs.Record.{no_hash}
 use Rattle.cv_leases.specs.Leases.{lease_of, without}
 use Rattle.cv_leases.specs.declared.lease.Lease.{Lease}
 use Rattle.cv_swap.specs.Kept.{Revision}
 use Rattle.cv_gate.specs.Passing.{lease_time}
 use Rattle.cv_gate.specs.Sound.{AreLeases}
-use Rattle.cv_gate.specs.Gate.{lone_revision}
 use Rattle.cv_gate.proofs.Lemmas.{by_ageing, filtered, granted_apart, is_new, ends_last}
 use Rattle.cv_desk.specs.Gate.{StateView, IsState, state_of}
 use Rattle.cv_desk.specs.Acting.{aged_view, refusal_of, with_lease, new_lease}
 use Rattle.cv_desk.proofs.Asking.{HasRoom, not_refused}
+
+-- a revision with this number and this root: a lease that is granted knows nothing else of the newest one
+abbrev numbered : ℕ → List ℕ → Revision
+numbered revision root = record {
+  record_ = record {
+    revision = revision;
+    previous = no_hash;
+    root = root;
+    offered = root;
+    token = record { epoch = 0; number = 0 };
+    path = [];
+    key = [];
+    time = 0;
+    tag = [];
+  };
+  tree = single (Dir (record { mode = 493; mtime = 0; uid = 0; gid = 0 }));
+}
 
 module _ {V S : Type 0} (s s' : StateView V S) (h : IsState s) where
   pub state_aged : (now : ℕ) → now < 2 ^ 62 → s' ≡ aged_view s now → IsState s'
@@ -38,7 +57,7 @@ module _ {V S : Type 0} (s s' : StateView V S) (h : IsState s) where
   pub state_granted : (key : List ℕ) (path : Path) → refusal_of s.leases s.moment path ≡ None → s' ≡ with_lease s key path → IsState s'
   state_granted key path none e =
       let room : HasRoom s.leases path = not_refused s.leases s.moment path none in
-      let head : Revision = lone_revision s.line.head.revision s.line.head.root in
+      let head : Revision = numbered s.line.head.revision s.line.head.root in
       subst IsState (sym e) (record {
         leases = granted_apart (state_of s) key path head h.leases room.unmarked room.clear room.few;
         moment = h.moment;

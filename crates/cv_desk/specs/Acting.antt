@@ -1,5 +1,5 @@
 -- What is done inside a step.
-use Rattle.std.specs.Prelude.{◌≡◌, ◌+◌, ◌-◌, ◌≤◌, ℕ, Bool, true, false, max, nat_le, bytes_eq, IsSome, List, [], ◌∷◌, ◌++◌, length, if◌then◌else◌}
+use Rattle.std.specs.Prelude.{◌≡◌, ◌≢◌, ◌+◌, ◌-◌, ◌≤◌, ℕ, Bool, true, false, max, nat_le, bytes_eq, IsSome, List, [], ◌∷◌, ◌++◌, length, if◌then◌else◌}
 use Rattle.std.specs.declared.option.Option.{Option}
 use Rattle.std.specs.declared.option.Option.TheVariants.{None, Some}
 use Rattle.std.specs.declared.result.Result.{Result}
@@ -23,6 +23,7 @@ use Rattle.cv_history.specs.declared.record.Record.{Record}
 use Rattle.cv_leases.specs.Leases.{lease_limit, busy, lease_of, without, unexpired}
 use Rattle.cv_leases.specs.declared.lease.Lease.{Lease}
 use Rattle.cv_objects.specs.Names.{standing_on}
+use Rattle.cv_swap.specs.declared.stage.Stage.TheVariants as stage
 use Rattle.cv_objects.specs.Batches.{Brings}
 use Rattle.cv_gate.specs.State.{State, Settled}
 use Rattle.cv_gate.specs.Kept.{Pending}
@@ -34,7 +35,7 @@ use Rattle.cv_gate.specs.declared.entry.Entry.{Entry}
 use Rattle.cv_gate.specs.declared.reply.Reply.{Reply}
 use Rattle.cv_gate.specs.declared.reply.Reply.TheVariants as reply
 use Rattle.cv_desk.specs.Holds.{Survives}
-use Rattle.cv_desk.specs.Gate.{StateView, StandsFor, IsSameRepository, Does}
+use Rattle.cv_desk.specs.Gate.{StateView, StandsFor, IsSameRepository, Does, IsExact}
 use Rattle.cv_desk.specs.Sending.{IsSent}
 use Rattle.cv_desk.specs.declared.outcome.Outcome.{Outcome}
 use Rattle.cv_desk.specs.declared.taken.Taken.{Taken}
@@ -43,6 +44,7 @@ use Rattle.cv_desk.specs.declared.outcome.Outcome.TheVariants as outcome
 abbrev pub reply_of : Outcome → Reply
 reply_of (outcome.Granted token revision root) = reply.Granted token revision root
 reply_of outcome.Stored = reply.Stored
+reply_of (outcome.Committed revision root) = reply.Committed revision root
 reply_of outcome.Cancelled = reply.Cancelled
 reply_of outcome.BadPath = reply.BadPath
 reply_of (outcome.PathBusy token remaining) = reply.PathBusy token remaining
@@ -51,6 +53,11 @@ reply_of outcome.NoParent = reply.NoParent
 reply_of outcome.InvalidToken = reply.InvalidToken
 reply_of outcome.WrongKey = reply.WrongKey
 reply_of (outcome.Collision id) = reply.Collision id
+reply_of outcome.RevisionsFull = reply.RevisionsFull
+reply_of (outcome.StaleBase revision) = reply.StaleBase revision
+reply_of (outcome.TagTaken revision) = reply.TagTaken revision
+reply_of (outcome.MissingObject id) = reply.MissingObject id
+reply_of (outcome.BadCatalogue id) = reply.BadCatalogue id
 reply_of outcome.StoreFailed = reply.StoreFailed
 reply_of (outcome.Damaged id found) = reply.Damaged id found
 reply_of outcome.NoMemory = reply.NoMemory
@@ -172,7 +179,8 @@ Keeps o t = (e : Entry) → e.key ≡ t.key → e.act ≡ t.act → Records e o
 pub record IsDone {V S : Type 0} (disk : V → Option Disk) (count : V → ℕ) (left : V → ℕ → Files → Type 0) (is_seal : S → List ℕ → List ℕ → Bool) (o : Op) (now : ℕ) (t : Taken) (before after : StateView V S) : Type 0 where
   pub types : HasTypes o
   pub keeps : Keeps o t
-  pub acts : Acts disk count left is_seal o now t.act (reply_of t.outcome) before after
+  pub acts : Acts disk count left is_seal o now t.act t.answer before after
+  pub exact : IsExact disk o now t.answer before after
   pub same : IsSameRepository before.line after.line
   pub next : after.next ≤ before.next + 1
 
@@ -186,6 +194,7 @@ pub record IsDeclined (o : Op) (t : Taken) : Type 0 where
 pub record Takes {V S : Type 0} (disk : V → Option Disk) (count : V → ℕ) (left : V → ℕ → Files → Type 0) (is_seal : S → List ℕ → List ℕ → Bool) (o : Op) (now : ℕ) (t : Taken) (before after : StateView V S) : Type 0 where
   pub types : HasTypes o
   pub keeps : Keeps o t
-  pub does : (st : State) → StandsFor disk is_seal before st → (e : Entry) → IsNoted o e → e.now ≡ now → e.act ≡ t.act → e.reply ≡ reply_of t.outcome → Does disk count left is_seal o e before after st
+  pub does : (st : State) → StandsFor disk is_seal before st → (e : Entry) → IsNoted o e → e.now ≡ now → e.act ≡ t.act → e.reply ≡ t.answer → Does disk count left is_seal o e before after st
+  pub exact : before.line.stage ≢ stage.Doubtful → IsExact disk o now t.answer before after
   pub same : IsSameRepository before.line after.line
   pub next : after.next ≤ before.next + 1

@@ -4,22 +4,27 @@ use Rattle.std.specs.declared.option.Option.{Option}
 use Rattle.std.specs.declared.option.Option.TheVariants.{None, Some}
 use Rattle.std.specs.declared.result.Result.{Result}
 use Rattle.std.specs.declared.result.Result.TheVariants.{Ok, Err}
+use Rattle.cv_base.specs.Told.{WhereTold}
 use Rattle.cv_vault.specs.Disk.{Disk, File, Files, May, files_now}
 use Rattle.cv_vault.specs.Moments.{LeavesOnly}
+use Rattle.cv_cut.specs.Opening.{HasOtherDigest}
 use Rattle.cv_leases.specs.declared.lease.Lease.{Lease}
+use Rattle.cv_objects.specs.Names.{standing_on}
 use Rattle.cv_swap.specs.Kept.{Kept, Revision, newest, records_of, head_of}
 use Rattle.cv_swap.specs.Line.{LineView, published}
-use Rattle.cv_swap.specs.Opening.{Opens, WhileOpening}
+use Rattle.cv_swap.specs.Opening.{Opens}
 use Rattle.cv_swap.specs.Stands.{Stands, head_name}
+use Rattle.cv_swap.specs.declared.found.Found.{Found}
 use Rattle.cv_swap.specs.declared.open_fault.OpenFault.{OpenFault}
 use Rattle.cv_swap.specs.declared.open_fault.OpenFault.TheVariants as open_fault
 use Rattle.cv_swap.specs.declared.stage.Stage.TheVariants as stage
-use Rattle.cv_gate.specs.State.{State}
+use Rattle.cv_gate.specs.State.{State, aged}
 use Rattle.cv_gate.specs.Sound.{Sound, AreLeases}
-use Rattle.cv_gate.specs.Step.{Step, Records}
+use Rattle.cv_gate.specs.Step.{Step, Records, CancelStep}
 use Rattle.cv_gate.specs.Kept.{reopened}
-use Rattle.cv_gate.specs.Gate.{journal_limit}
+use Rattle.cv_gate.specs.Desk.{journal_limit}
 use Rattle.cv_gate.specs.declared.op.Op.{Op}
+use Rattle.cv_gate.specs.declared.op.Op.TheVariants as op
 use Rattle.cv_gate.specs.declared.reply.Reply.{Reply}
 use Rattle.cv_gate.specs.declared.reply.Reply.TheVariants as reply
 use Rattle.cv_gate.specs.declared.entry.Entry.{Entry}
@@ -97,14 +102,19 @@ pub record IsNew {V S : Type 0} (name : List ℕ) (signer : S) (g : GateView V S
   pub next : g.state.next ≡ 1
   pub journal : g.journal ≡ []
 
--- a crash leaves what one in opening may, and where the files stood for what is kept, the gate stands for it, opened once more
-pub record IsOpened {V S : Type 0} (disk : V → Option Disk) (count : V → ℕ) (left : V → ℕ → Files → Type 0) (is_seal : S → List ℕ → List ℕ → Bool) (d : Disk) (v : V) (g : GateView V S) : Type 0 where
-  pub leaves : LeavesOnly count left (WhileOpening d) v g.state.line.vault
+-- the files were opened with what was found: the gate has its records and its head, in the epoch behind it; and where the files stood for
+-- what is kept, the gate stands for it, opened once more
+pub record IsOpened {V S : Type 0} (disk : V → Option Disk) (count : V → ℕ) (left : V → ℕ → Files → Type 0) (name : List ℕ) (is_seal : S → List ℕ → List ℕ → Bool) (signer : S) (d : Disk) (v : V) (g : GateView V S) : Type 0 where
+  pub found : Found
+  pub opens : Opens disk count left name (is_seal signer) d (Ok found) v g.state.line.vault
+  pub records : g.state.line.all ≡ found.records
+  pub head : g.state.line.head ≡ found.head
+  pub epoch : g.state.line.epoch ≡ found.epoch + 1
   pub stands : (k : Kept) → Stands g.state.line.name (is_seal g.state.line.signer) (files_now d) k → StandsFor disk is_seal g.state (reopened k)
 
 -- a gate is opened, or the vault is handed back with why it isn't: as it was, where there was no memory for the journal
 abbrev pub GateOpens : {V S : Type 0} (disk : V → Option Disk) (count : V → ℕ) (left : V → ℕ → Files → Type 0) → List ℕ → (S → List ℕ → List ℕ → Bool) → S → Disk → V → Result (GateView V S) (OpenFault × V) → Type 0
-GateOpens disk count left name is_seal signer d v (Ok g) = IsOpened disk count left is_seal d v g
+GateOpens disk count left name is_seal signer d v (Ok g) = IsOpened disk count left name is_seal signer d v g
 GateOpens disk count left name is_seal signer d v (Err e) = Opens disk count left name (is_seal signer) d (Err e.0) v e.1 ⊎ ((e.0 ≡ open_fault.NoMemory) × (e.1 ≡ v))
 
 abbrev pub vault_of : {V S : Type 0} → Result (GateView V S) (OpenFault × V) → V
@@ -116,6 +126,23 @@ IsFailed (Ok g) = ⊥
 IsFailed (Err e) = e.0 ≡ open_fault.Failed
 
 -- ---- a step
+
+-- an end of a lease that is asked is the gate's step on the leases alone
+abbrev pub EndsSo : {V S : Type 0} → Op → ℕ → Reply → StateView V S → StateView V S → Type 0
+EndsSo (op.Lease key path) now r s s' = Unit {0}
+EndsSo (op.Store key token digest batch) now r s s' = Unit {0}
+EndsSo (op.Commit key token old_root new_root tag) now r s s' = Unit {0}
+EndsSo (op.Cancel key token) now r s s' = CancelStep (aged (state_of s) now) key token r (state_of s')
+
+-- bytes that are said to have another digest stand under the id that is named, where a disk is told
+abbrev pub ShowsDamage : {V : Type 0} → (V → Option Disk) → V → Reply → Type 0
+ShowsDamage disk v (reply.Damaged id found) = WhereTold (disk v) (λ d. HasOtherDigest (standing_on d) id found)
+ShowsDamage disk v other = Unit {0}
+
+-- what holds of a reply whatever the vault tells, where no commit was in doubt
+pub record IsExact {V S : Type 0} (disk : V → Option Disk) (o : Op) (now : ℕ) (r : Reply) (before after : StateView V S) : Type 0 where
+  pub ends : EndsSo o now r before after
+  pub damage : ShowsDamage disk before.line.vault r
 
 -- What a step does for a state for which the gate stood: the entry is a step to a state for which it then stands, and a crash at any
 -- moment of the call leaves what a crash within the op may leave.
@@ -129,7 +156,8 @@ pub record Does {V S : Type 0} (disk : V → Option Disk) (count : V → ℕ) (l
 -- journal is full nothing is done.
 pub data Steps {V S : Type 0} (disk : V → Option Disk) (count : V → ℕ) (left : V → ℕ → Files → Type 0) (is_seal : S → List ℕ → List ℕ → Bool) (o : Op) (seat now : ℕ) (before after : GateView V S) (r : Reply) : Type 0 where
   full : length before.journal ≡ journal_limit → r ≡ reply.JournalFull → after ≡ before → Steps disk count left is_seal o seat now before after r
-  made : length before.journal < journal_limit → (e : Entry) → e.seat ≡ seat → e.now ≡ now → e.reply ≡ r → Records e o
+  made : length before.journal < journal_limit → r ≢ reply.JournalFull → (e : Entry) → e.seat ≡ seat → e.now ≡ now → e.reply ≡ r → Records e o
       → after.journal ≡ before.journal ++ e ∷ [] → IsSameRepository before.state.line after.state.line
+      → (before.state.line.stage ≢ stage.Doubtful → IsExact disk o now r before.state after.state)
       → ((st : State) → StandsFor disk is_seal before.state st → Does disk count left is_seal o e before.state after.state st)
       → Steps disk count left is_seal o seat now before after r

@@ -4,3 +4,6 @@ pub mod Sending
 pub mod Sent
 pub mod Acting
 pub mod OneDesk
+pub mod Calls
+pub mod Answers
+pub mod Committing

@@ -5,6 +5,7 @@ ghost use Rattle.cv_base.specs.Told.{WhereTold};
 ghost use Rattle.cv_ports.specs.Shelf.{Fetches, Suits};
 ghost use Rattle.cv_ports.specs.declared.shelf.ShelfFault.TheVariants as shelf_fault;
 ghost use Rattle.cv_objects.specs.Names.{standing_on};
+ghost use Rattle.cv_manifest.specs.Manifest.{IsHead};
 ghost use Rattle.cv_gate.specs.Lines.{lines_of};
 ghost use Rattle.cv_gate.specs.Step.{IsOp};
 ghost use Rattle.cv_gate.specs.declared.reply.Reply.TheVariants as reply;
@@ -37,7 +38,7 @@ pub struct Gate<V: Vault + Drop, S: Signer + Drop> {
 
 impl<V: Vault + Drop, S: Signer + Drop> Model for Gate<V, S> {
     ghost use Rattle.std.specs.Prelude.{◌≤◌, vec_capacity};
-    ghost use Rattle.cv_gate.specs.Gate.{journal_limit};
+    ghost use Rattle.cv_gate.specs.Desk.{journal_limit};
     ghost use Rattle.cv_desk.specs.Gate.{GateView, IsGate};
 
     ghost Value = { GateView V S };
@@ -78,8 +79,7 @@ impl<V: Vault + Drop, S: Signer + Drop> Gate<V, S> {
         }
     }
 
-    /// Does what is asked from a seat at a moment, below 2 to the 62nd, and notes it in the journal with its answer. A
-    /// commit is answered `NoMemory`: none is made yet.
+    /// Does what is asked from a seat at a moment, below 2 to the 62nd, and notes it in the journal with its answer.
     ///
     /// A crash at any moment leaves what a crash within the op may leave of the state. After `StoreFailed` some of the
     /// objects that were sent may be there. Over a vault that stands for a state `Damaged` doesn't come.
@@ -93,21 +93,22 @@ impl<V: Vault + Drop, S: Signer + Drop> Gate<V, S> {
             return Reply::JournalFull;
         }
         let taken = self.state.take(self.alloc, now, op);
-        let outcome = taken.outcome;
+        let (noted, told) = taken.answer.into_parts();
         let entry = Entry {
             seat,
             now,
             key: taken.key,
             act: taken.act,
-            reply: outcome.reply(),
+            reply: noted,
         };
         note(&mut self.journal, entry);
-        outcome.reply()
+        told
     }
 
     /// The newest head.
     pub fn head(&self) -> Head
-        ensures { result ≡ self.now.state.line.head }
+        ensures newest { result ≡ self.now.state.line.head }
+        ensures writable { IsHead result }
     {
         self.state.line.head()
     }

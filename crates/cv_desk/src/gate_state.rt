@@ -1,7 +1,6 @@
 //! The state of the gate: all but its journal.
-ghost use Rattle.std.specs.Prelude.{◌≡◌, ◌≢◌, ◌≤◌, ◌<◌, ◌+◌, ◌^◌, [], max, None, Some, Err, IfOk, IsErrOf};
+ghost use Rattle.std.specs.Prelude.{◌≡◌, ◌≢◌, ◌≤◌, ◌<◌, ◌+◌, ◌^◌, [], max, None, Some, Err, Ok, IfOk, IfErr, IsErrOf, OnOk};
 ghost use Rattle.cv_base.specs.Counts.{HasCause};
-ghost use Rattle.cv_base.specs.Digest.{IsDigest};
 ghost use Rattle.cv_base.specs.Path.{IsPath};
 ghost use Rattle.cv_base.specs.Told.{WhereTold};
 ghost use Rattle.cv_ports.specs.Shelf.{Fetches, Suits};
@@ -13,19 +12,21 @@ ghost use Rattle.cv_gate.specs.declared.act.Act.TheVariants as acts;
 ghost use Rattle.cv_gate.specs.declared.op.Op.TheVariants as ops;
 ghost use Rattle.cv_leases.specs.Leases.{lease_of};
 ghost use Rattle.cv_gate.specs.Lines.{lines_of};
-ghost use Rattle.cv_gate.specs.Step.{IsOp, HasTypes};
+ghost use Rattle.cv_gate.specs.Step.{IsOp};
 ghost use Rattle.cv_swap.specs.Line.{published};
-ghost use Rattle.cv_desk.specs.Gate.{StandsFor, IsSameRepository};
-ghost use Rattle.cv_desk.specs.Acting.{aged_view, Settles, Acts, refusal_of, refusal_on, FindsPlace, OnlyLooks, new_lease, Grants, AsksLease, AsksEnd, Sends, AsksStore, IsDone, IsDeclined, Takes, newest_token, ended, reply_of};
+ghost use Rattle.cv_swap.specs.declared.stage.Stage.TheVariants as stage;
+ghost use Rattle.cv_desk.specs.Gate.{StandsFor, IsSameRepository, ShowsDamage, IsExact};
+ghost use Rattle.cv_desk.specs.Acting.{aged_view, Settles, Acts, refusal_of, refusal_on, FindsPlace, OnlyLooks, new_lease, Grants, AsksLease, AsksEnd, Sends, AsksStore, IsDone, Takes, newest_token, ended, reply_of};
+ghost use Rattle.cv_gate.specs.declared.reply.Reply.TheVariants as replies;
+ghost use Rattle.cv_swap.specs.declared.stage.Stage.TheVariants as stage;
 ghost use Rattle.cv_desk.specs.declared.outcome.Outcome.TheVariants as outcomes;
 
+use crate::answer::Answer;
 use crate::listing::list_leases;
 use crate::outcome::Outcome;
 use crate::sent::Sent;
-use crate::taken::Taken;
-use cv_base::{
-    Bytes, Items, Kind, NoMemory, Object, ObjectId, RepoPath, Text, Token, ends_in_marker,
-};
+use crate::taken::{Taken, commit_act, decline, store_act};
+use cv_base::{Bytes, Kind, NoMemory, Object, ObjectId, RepoPath, Text, Token, ends_in_marker};
 use cv_gate::{Act, LeaseLine, Op};
 use cv_graft::directory_at;
 use cv_history::Record;
@@ -44,8 +45,8 @@ const LEASE_TIME: u64 = 7200;
 #[derive(Drop)]
 pub(crate) struct GateState<V: Vault + Drop, S: Signer + Drop> {
     pub(crate) line: Line<V, S>,
-    leases: LeaseTable,
-    moment: u64,
+    pub(crate) leases: LeaseTable,
+    pub(crate) moment: u64,
     next: u64,
 }
 
@@ -84,8 +85,10 @@ impl<V: Vault + Drop, S: Signer + Drop> GateState<V, S> {
     /// Settles a commit in doubt, if there is one. After a fault it is in doubt still.
     pub(crate) fn settle(&mut self) -> Result<(), VaultFault>
         ensures settles { (st : _) → StandsFor V.disk S.is_seal self.old st → Settles V.disk V.count V.left S.is_seal self.old result self.new st }
+        ensures calm { self.old.line.stage ≢ stage.Doubtful → (result ≡ Ok tt) × (self.new ≡ self.old) }
         ensures same { IsSameRepository self.old.line self.new.line }
         ensures next { self.new.next ≡ self.old.next }
+        ensures certain { OnOk result (self.new.line.stage ≢ stage.Doubtful) }
         ensures cause { HasCause (V.faults self.old.line.vault) (V.faults self.new.line.vault) (IsErrOf result vault_fault.Failed) }
     {
         if !self.line.in_doubt() {
@@ -102,7 +105,7 @@ impl<V: Vault + Drop, S: Signer + Drop> GateState<V, S> {
     }
 
     /// Comes to a moment: leases whose deadline has come are gone.
-    fn age(&mut self, now: u64)
+    pub(crate) fn age(&mut self, now: u64)
         requires { now < 2 ^ 62 }
         ensures { self.new ≡ aged_view self.old now }
     {
@@ -132,6 +135,7 @@ impl<V: Vault + Drop, S: Signer + Drop> GateState<V, S> {
     /// Whether the path has a place in the newest tree: it is the root, or its parent is a directory.
     fn has_place(&mut self, alloc: Global, path: &RepoPath) -> Result<bool, Outcome>
         ensures place { FindsPlace V.disk self.old path.now result }
+        ensures damage { IfErr result (λ o. ShowsDamage V.disk self.old.line.vault (reply_of o)) }
         ensures looks { OnlyLooks V.disk V.count V.left self.old self.new }
         ensures cause { HasCause (V.faults self.old.line.vault) (V.faults self.new.line.vault) (result ≡ Err outcomes.StoreFailed) }
     {
@@ -199,6 +203,7 @@ impl<V: Vault + Drop, S: Signer + Drop> GateState<V, S> {
     fn ask_lease(&mut self, alloc: Global, key: &Text, path: &RepoPath) -> Outcome
         requires next { self.old.next < 18446744073709551615 }
         ensures asks { AsksLease V.disk V.count V.left key.now path.now self.old result self.new }
+        ensures damage { ShowsDamage V.disk self.old.line.vault (reply_of result) }
         ensures cause { HasCause (V.faults self.old.line.vault) (V.faults self.new.line.vault) (result ≡ outcomes.StoreFailed) }
     {
         if let Some(outcome) = self.refusal(path) {
@@ -216,6 +221,7 @@ impl<V: Vault + Drop, S: Signer + Drop> GateState<V, S> {
         requires now { now < 2 ^ 62 }
         requires next { self.old.next < 18446744073709551615 }
         ensures acts { Acts V.disk V.count V.left S.is_seal (ops.Lease key.now path.now) now (acts.Lease path.now) (reply_of result) self.old self.new }
+        ensures exact { IsExact V.disk (ops.Lease key.now path.now) now (reply_of result) self.old self.new }
         ensures same { IsSameRepository self.old.line self.new.line }
         ensures next { self.new.next ≤ self.old.next + 1 }
         ensures path { IsPath path.now }
@@ -227,7 +233,7 @@ impl<V: Vault + Drop, S: Signer + Drop> GateState<V, S> {
     }
 
     /// Why nothing is done on the lease with the token for the key, if it isn't.
-    fn refusal_on(&self, key: &Text, token: Token) -> Option<Outcome>
+    pub(crate) fn refusal_on(&self, key: &Text, token: Token) -> Option<Outcome>
         ensures answer { result ≡ refusal_on (lease_of token self.now.leases) key.now }
         ensures failed { result ≢ Some outcomes.StoreFailed }
     {
@@ -258,6 +264,7 @@ impl<V: Vault + Drop, S: Signer + Drop> GateState<V, S> {
         requires now { now < 2 ^ 62 }
         requires next { self.old.next < 18446744073709551615 }
         ensures acts { Acts V.disk V.count V.left S.is_seal (ops.Cancel key.now token) now (acts.Cancel token) (reply_of result) self.old self.new }
+        ensures exact { IsExact V.disk (ops.Cancel key.now token) now (reply_of result) self.old self.new }
         ensures failed { result ≢ outcomes.StoreFailed }
         ensures same { self.new.line ≡ self.old.line }
         ensures next { self.new.next ≡ self.old.next }
@@ -306,26 +313,13 @@ impl<V: Vault + Drop, S: Signer + Drop> GateState<V, S> {
         requires next { self.old.next < 18446744073709551615 }
         requires named { AreNamed batch.now }
         ensures acts { (digest : _) → Acts V.disk V.count V.left S.is_seal (ops.Store key.now token digest batch.now) now (acts.Store token digest result.fresh) (reply_of result.outcome) self.old self.new }
+        ensures exact { (digest : _) → IsExact V.disk (ops.Store key.now token digest batch.now) now (reply_of result.outcome) self.old self.new }
         ensures same { IsSameRepository self.old.line self.new.line }
         ensures next { self.new.next ≡ self.old.next }
         ensures cause { HasCause (V.faults self.old.line.vault) (V.faults self.new.line.vault) (result.outcome ≡ outcomes.StoreFailed) }
     {
         self.age(now);
         self.ask_store(alloc, key, token, batch)
-    }
-
-    /// Answers a commit. None is made yet: memory is said to be wanting.
-    pub(crate) fn commit(&mut self, now: u64) -> Outcome
-        requires now { now < 2 ^ 62 }
-        requires next { self.old.next < 18446744073709551615 }
-        ensures acts { (key : _) (token : _) (old_root : _) (new_root : _) (tag : _)
-            → Acts V.disk V.count V.left S.is_seal (ops.Commit key token old_root new_root tag) now (acts.Commit token old_root new_root tag) (reply_of result) self.old self.new }
-        ensures memory { result ≡ outcomes.NoMemory }
-        ensures same { self.new.line ≡ self.old.line }
-        ensures next { self.new.next ≡ self.old.next }
-    {
-        self.age(now);
-        Outcome::NoMemory
     }
 
     /// The leases that are live at a moment and not before the latest one, in the order of grant.
@@ -354,8 +348,9 @@ impl<V: Vault + Drop, S: Signer + Drop> GateState<V, S> {
         requires now { now < 2 ^ 62 }
         requires next { self.old.next < 18446744073709551615 }
         requires op { IsOp op }
+        requires calm { self.old.line.stage ≢ stage.Doubtful }
         ensures done { IsDone V.disk V.count V.left S.is_seal op now result self.old self.new }
-        ensures cause { HasCause (V.faults self.old.line.vault) (V.faults self.new.line.vault) (result.outcome ≡ outcomes.StoreFailed) }
+        ensures cause { HasCause (V.faults self.old.line.vault) (V.faults self.new.line.vault) (result.answer ≡ replies.StoreFailed) }
     {
         match op {
             Op::Lease { key, path } => {
@@ -363,7 +358,7 @@ impl<V: Vault + Drop, S: Signer + Drop> GateState<V, S> {
                 Taken {
                     key,
                     act: Act::Lease(path),
-                    outcome,
+                    answer: Answer::of(outcome),
                 }
             },
             Op::Store {
@@ -376,7 +371,7 @@ impl<V: Vault + Drop, S: Signer + Drop> GateState<V, S> {
                 Taken {
                     key,
                     act: store_act(token, digest, sent.fresh),
-                    outcome: sent.outcome,
+                    answer: Answer::of(sent.outcome),
                 }
             },
             Op::Commit {
@@ -386,11 +381,11 @@ impl<V: Vault + Drop, S: Signer + Drop> GateState<V, S> {
                 new_root,
                 tag,
             } => {
-                let outcome = self.commit(now);
+                let answer = self.commit(alloc, now, &key, token, &old_root, new_root, &tag);
                 Taken {
                     key,
                     act: commit_act(token, old_root, new_root, tag),
-                    outcome,
+                    answer,
                 }
             },
             Op::Cancel { key, token } => {
@@ -398,7 +393,7 @@ impl<V: Vault + Drop, S: Signer + Drop> GateState<V, S> {
                 Taken {
                     key,
                     act: Act::Cancel(token),
-                    outcome,
+                    answer: Answer::of(outcome),
                 }
             },
         }
@@ -410,11 +405,11 @@ impl<V: Vault + Drop, S: Signer + Drop> GateState<V, S> {
         requires next { self.old.next < 18446744073709551615 }
         requires op { IsOp op }
         ensures takes { Takes V.disk V.count V.left S.is_seal op now result self.old self.new }
-        ensures cause { HasCause (V.faults self.old.line.vault) (V.faults self.new.line.vault) (result.outcome ≡ outcomes.StoreFailed) }
+        ensures cause { HasCause (V.faults self.old.line.vault) (V.faults self.new.line.vault) (result.answer ≡ replies.StoreFailed) }
     {
         match self.settle() {
             Ok(()) => self.do_op(alloc, now, op),
-            Err(fault) => decline(alloc, op, Outcome::of_vault(fault)),
+            Err(fault) => decline(alloc, op, Answer::of(Outcome::of_vault(fault))),
         }
     }
 }
@@ -426,77 +421,5 @@ fn newest_token(records: &[Record]) -> Option<Token>
     match records.last() {
         Some(record) => Some(record.token),
         None => None,
-    }
-}
-
-/// An op that isn't done.
-fn decline(alloc: Global, op: Op, outcome: Outcome) -> Taken
-    ensures records { IsDeclined op result }
-    ensures types { HasTypes op }
-    ensures outcome { result.outcome ≡ outcome }
-{
-    match op {
-        Op::Lease { key, path } => {
-            let act = lease_act(path);
-            Taken { key, act, outcome }
-        },
-        Op::Store {
-            key,
-            token,
-            digest,
-            batch: _batch,
-        } => {
-            let act = store_act(token, digest, Items::new(Vec::new(alloc)));
-            Taken { key, act, outcome }
-        },
-        Op::Commit {
-            key,
-            token,
-            old_root,
-            new_root,
-            tag,
-        } => {
-            let act = commit_act(token, old_root, new_root, tag);
-            Taken { key, act, outcome }
-        },
-        Op::Cancel { key, token } => {
-            let act = Act::Cancel(token);
-            Taken { key, act, outcome }
-        },
-    }
-}
-
-/// The act of asking for a lease.
-fn lease_act(path: RepoPath) -> Act
-    ensures act { result ≡ acts.Lease path }
-    ensures path { IsPath path }
-{
-    let _names = path.names();
-    Act::Lease(path)
-}
-
-/// The act of sending objects, of which these are fresh.
-fn store_act(token: Token, digest: [u8; 20], fresh: Items<ObjectId>) -> Act
-    ensures act { result ≡ acts.Store token digest fresh }
-    ensures digest { IsDigest digest }
-{
-    Act::Store {
-        token,
-        digest,
-        fresh,
-    }
-}
-
-/// The act of a commit.
-fn commit_act(token: Token, old_root: [u8; 20], new_root: [u8; 20], tag: Text) -> Act
-    ensures act { result ≡ acts.Commit token old_root new_root tag }
-    ensures old_root { IsDigest old_root }
-    ensures new_root { IsDigest new_root }
-{
-    Act::Commit {
-        token,
-        old_root,
-        new_root,
-        tag,
     }
 }

@@ -1,14 +1,21 @@
 //! The gate over a repository's line on disk, and the desk for one connection over it.
 #![tactic(auto)]
 
+mod answer;
+mod committing;
 mod gate;
 mod gate_state;
 pub mod laws;
 mod listing;
 mod one_desk;
 mod outcome;
+mod publishing;
 mod sent;
 mod taken;
+#[cfg(test)]
+mod test_gates;
+#[cfg(test)]
+mod tests;
 
 pub use gate::Gate;
 pub use one_desk::OneDesk;

@@ -1,16 +1,18 @@
 //! One connection over a gate.
-ghost use Rattle.std.specs.Prelude.{◌≡◌, ◌≤◌, ◌<◌, ◌∷◌, ◌^◌, [], true, None, Some, Ok, IsErrOf, MatchResult, OnOk};
+ghost use Rattle.std.specs.Prelude.{◌≡◌, ◌≤◌, ◌<◌, ◌∷◌, ◌^◌, [], None, Some, Ok, IfOk, IsErrOf, MatchResult};
 ghost use Rattle.cv_base.specs.Counts.{HasCause};
 ghost use Rattle.cv_ports.specs.Shelf.{Suits};
 ghost use Rattle.cv_ports.specs.declared.shelf.ShelfFault.TheVariants.{Failed};
+ghost use Rattle.cv_gate.specs.State.{State};
 ghost use Rattle.cv_gate.specs.Step.{IsOp};
-ghost use Rattle.cv_gate.specs.Desk.{asked, listed, fetched, told, IsHead};
+ghost use Rattle.cv_gate.specs.Desk.{asked, listed, fetched, told};
 ghost use Rattle.cv_gate.specs.declared.reply.Reply.TheVariants.{StoreFailed};
-ghost use Rattle.cv_desk.specs.OneDesk.{DoesCalls};
+ghost use Rattle.cv_desk.specs.Gate.{StandsFor};
+ghost use Rattle.cv_desk.specs.OneDesk.{Stands, DoesCalls, first_view};
 
 use crate::gate::Gate;
 use cv_base::{Bytes, Name, NoMemory, ObjectId};
-use cv_gate::{LeaseLine, Op, Reply};
+use cv_gate::{Desk, LeaseLine, Op, Reply};
 use cv_manifest::Head;
 use cv_ports::ShelfFault;
 use cv_seal::Signer;
@@ -40,78 +42,15 @@ impl<V: Vault + Drop, S: Signer + Drop> Model for OneDesk<V, S> {
     ghost invariant = { λ d. IsHead d.head };
 }
 
-/// Whether a head can be written.
-fn is_head(head: Head) -> bool
-    ensures yes { result ≡ true → IsHead head }
-    ensures no { IsHead head → result ≡ true }
-{
-    head.revision >= 1 && head.time < 1 << 62
-}
-
 impl<V: Vault + Drop, S: Signer + Drop> OneDesk<V, S> {
-    /// Over a gate, or the gate back where its head can't be written. A gate that stands for a state has a head that can.
-    pub fn new(gate: Gate<V, S>, name: Name) -> Result<OneDesk<V, S>, Gate<V, S>>
-        ensures ok { OnOk result (IsHead gate.state.line.head) }
-        ensures desk { MatchResult result (λ desk. desk ≡ record { gate = gate; name = name; head = gate.state.line.head }) (λ same. same ≡ gate) }
-        ensures err { IsHead gate.state.line.head → (desk : _) × (result ≡ Ok desk) }
+    /// Over a gate. Where that stands for a state and nothing was asked of it yet, the desk may be seen at the beginning of
+    /// the state.
+    pub fn new(gate: Gate<V, S>, name: Name) -> OneDesk<V, S>
+        ensures desk { result ≡ record { gate = gate; name = name; head = gate.state.line.head } }
+        ensures stands { (st : State) → gate.journal ≡ [] → StandsFor V.disk S.is_seal gate.state st → Stands V.disk S.is_seal result (first_view st) }
     {
         let head = gate.head();
-        if is_head(head) {
-            Ok(OneDesk { gate, name, head })
-        } else {
-            Err(gate)
-        }
-    }
-
-    /// The name of the repository.
-    pub fn name(&self) -> &Name
-        ensures { result.now ≡ self.now.name }
-    {
-        &self.name
-    }
-
-    /// Has the gate do what is asked at a moment, below 2 to the 62nd.
-    pub fn ask(&mut self, now: u64, op: Op) -> Reply
-        requires moment { now < 2 ^ 62 }
-        requires op { IsOp op }
-        ensures does { DoesCalls V.disk V.count V.left S.is_seal self.old (asked op now result ∷ []) self.new }
-        ensures named { self.new.name ≡ self.old.name }
-        ensures cause { HasCause (V.faults self.old.gate.state.line.vault) (V.faults self.new.gate.state.line.vault) (result ≡ StoreFailed) }
-    {
-        let reply = self.gate.step(SEAT, now, op);
-        let head = self.gate.head();
-        if is_head(head) {
-            self.head = head;
-        }
-        reply
-    }
-
-    /// The leases that are live at a moment, below 2 to the 62nd, in the order of grant.
-    pub fn live(&mut self, now: u64) -> Result<Vec<LeaseLine>, NoMemory>
-        requires moment { now < 2 ^ 62 }
-        ensures does { MatchResult result (λ lines. DoesCalls V.disk V.count V.left S.is_seal self.old (listed now (Some lines.items) ∷ []) self.new) (λ _. DoesCalls V.disk V.count V.left S.is_seal self.old (listed now None ∷ []) self.new) }
-        ensures named { self.new ≡ self.old }
-    {
-        self.gate.live(now)
-    }
-
-    /// An object of the repository, if it is there.
-    pub fn object(&mut self, id: &ObjectId) -> Result<Option<Bytes>, ShelfFault>
-        ensures does { DoesCalls V.disk V.count V.left S.is_seal self.old (fetched id.now result ∷ []) self.new }
-        ensures suits { Suits id.now result }
-        ensures named { self.new.name ≡ self.old.name }
-        ensures cause { HasCause (V.faults self.old.gate.state.line.vault) (V.faults self.new.gate.state.line.vault) (IsErrOf result Failed) }
-    {
-        self.gate.object(id)
-    }
-
-    /// The newest head.
-    pub fn newest(&mut self) -> Head
-        ensures does { DoesCalls V.disk V.count V.left S.is_seal self.old (told result ∷ []) self.new }
-        ensures head { IsHead result }
-        ensures named { self.new ≡ self.old }
-    {
-        self.head
+        OneDesk { gate, name, head }
     }
 
     /// The gate.
@@ -120,4 +59,45 @@ impl<V: Vault + Drop, S: Signer + Drop> OneDesk<V, S> {
     {
         self.gate
     }
+}
+
+impl<V: Vault + Drop, S: Signer + Drop> Desk for OneDesk<V, S> {
+    ghost use Rattle.cv_desk.specs.Calls.{calls_lead, calls_none, calls_more};
+
+    ghost stands = { Stands V.disk S.is_seal };
+
+    ghost does = { DoesCalls V.disk V.count V.left S.is_seal };
+
+    ghost named = { λ d. d.name };
+
+    ghost faults = { λ d. V.faults d.gate.state.line.vault };
+
+    fn name(&self) -> &Name {
+        &self.name
+    }
+
+    fn ask(&mut self, _alloc: Global, now: u64, op: Op) -> Reply {
+        let reply = self.gate.step(SEAT, now, op);
+        let head = self.gate.head();
+        self.head = head;
+        reply
+    }
+
+    fn live(&mut self, _alloc: Global, now: u64) -> Result<Vec<LeaseLine>, NoMemory> {
+        self.gate.live(now)
+    }
+
+    fn object(&mut self, _alloc: Global, id: &ObjectId) -> Result<Option<Bytes>, ShelfFault> {
+        self.gate.object(id)
+    }
+
+    fn newest(&mut self) -> Head {
+        self.head
+    }
+
+    ghost does_lead = { λ a b calls does. calls_lead V.disk V.count V.left S.is_seal a b calls does };
+
+    ghost does_none = { λ a. calls_none V.disk V.count V.left S.is_seal a (V.only_now a.gate.state.line.vault) };
+
+    ghost does_more = { λ a b c calls more does and. calls_more V.disk V.count V.left S.is_seal a b c calls more does and };
 }

@@ -9,7 +9,7 @@ use cv_gate::Reply;
 use cv_objects::StoreFault;
 use cv_vault::VaultFault;
 
-/// What comes of an op. It is answered and noted in the journal, as the reply of the same name.
+/// What comes of an op, but for refusals that name paths. It is answered and noted in the journal, as the reply of the same name.
 #[derive(Clone, Copy, Debug, PartialEq, Eq)]
 pub(crate) enum Outcome {
     Granted {
@@ -18,6 +18,10 @@ pub(crate) enum Outcome {
         root: [u8; 20],
     },
     Stored,
+    Committed {
+        revision: u64,
+        root: [u8; 20],
+    },
     Cancelled,
     BadPath,
     PathBusy {
@@ -29,6 +33,15 @@ pub(crate) enum Outcome {
     InvalidToken,
     WrongKey,
     Collision(ObjectId),
+    RevisionsFull,
+    StaleBase {
+        revision: u64,
+    },
+    TagTaken {
+        revision: u64,
+    },
+    MissingObject(ObjectId),
+    BadCatalogue(ObjectId),
     StoreFailed,
     Damaged {
         id: ObjectId,
@@ -53,6 +66,7 @@ impl Outcome {
                 root,
             },
             Outcome::Stored => Reply::Stored,
+            Outcome::Committed { revision, root } => Reply::Committed { revision, root },
             Outcome::Cancelled => Reply::Cancelled,
             Outcome::BadPath => Reply::BadPath,
             Outcome::PathBusy { token, remaining } => Reply::PathBusy { token, remaining },
@@ -61,6 +75,11 @@ impl Outcome {
             Outcome::InvalidToken => Reply::InvalidToken,
             Outcome::WrongKey => Reply::WrongKey,
             Outcome::Collision(id) => Reply::Collision(id),
+            Outcome::RevisionsFull => Reply::RevisionsFull,
+            Outcome::StaleBase { revision } => Reply::StaleBase { revision },
+            Outcome::TagTaken { revision } => Reply::TagTaken { revision },
+            Outcome::MissingObject(id) => Reply::MissingObject(id),
+            Outcome::BadCatalogue(id) => Reply::BadCatalogue(id),
             Outcome::StoreFailed => Reply::StoreFailed,
             Outcome::Damaged { id, found } => Reply::Damaged { id, found },
             Outcome::NoMemory => Reply::NoMemory,

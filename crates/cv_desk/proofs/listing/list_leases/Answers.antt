@@ -1,5 +1,5 @@
 use Rattle.std.proofs.Common.{rules}
-use Rattle.cv_gate.proofs.Lemmas.{line_next, not_within}
+use Rattle.cv_desk.proofs.Lines.{line_next, not_within}
 use Rattle.cv_desk.proofs.listing.list_leases.Goals.{in-Some+in_ok-push_live, in_default}
 use Rattle.cv_desk.proofs.listing.list_leases.Goals as goal
 

@@ -2,7 +2,7 @@ use Rattle.std.proofs.Common.{rules, ◌≡◌, ◌∷◌, [], subst}
 use Rattle.cv_gate.specs.Desk.{told}
 use Rattle.cv_desk.specs.OneDesk.{DoesCalls}
 use Rattle.cv_desk.proofs.Desks.{tells_does}
-use Rattle.cv_desk.proofs.one_desk.OneDesk.newest.Goals as goal
+use Rattle.cv_desk.proofs.one_desk.OneDeskDesk.newest.Goals as goal
 
 pub returns-clause-does : goal.returns-clause-does
 returns-clause-does g c =

@@ -2,7 +2,7 @@ use Rattle.std.proofs.Common.{◌∷◌, [], subst}
 use Rattle.cv_gate.specs.Desk.{fetched}
 use Rattle.cv_desk.specs.OneDesk.{OneDeskView, DoesCalls}
 use Rattle.cv_desk.proofs.Desks.{fetches_over}
-use Rattle.cv_desk.proofs.one_desk.OneDesk.object.Goals as goal
+use Rattle.cv_desk.proofs.one_desk.OneDeskDesk.object.Goals as goal
 
 pub returns-clause-does : goal.returns-clause-does
 returns-clause-does g c =

@@ -4,7 +4,7 @@ use Rattle.std.specs.declared.option.Option.TheVariants.{None, Some}
 use Rattle.cv_gate.specs.Desk.{listed}
 use Rattle.cv_desk.specs.OneDesk.{OneDeskView, DoesCalls}
 use Rattle.cv_desk.proofs.Desks.{lists_all}
-use Rattle.cv_desk.proofs.one_desk.OneDesk.live.Goals as goal
+use Rattle.cv_desk.proofs.one_desk.OneDeskDesk.live.Goals as goal
 
 pub returns-clause-does : goal.returns-clause-does
 returns-clause-does g c =

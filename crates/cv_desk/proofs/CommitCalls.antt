@@ -1,0 +1,201 @@
+-- What the calls of a commit say.
+use Rattle.std.proofs.Common.{◌≡◌, true, false, Bool, ℕ, List, [], ◌∷◌, ◌++◌, refl, sym, ap, subst, ◌∙◌, inl, inr}
+use Rattle.std.specs.Prelude.{MatchResult, IfOk, OnOk, OnErr, IsTrue}
+use Rattle.std.specs.Option.{option_map}
+use Rattle.std.specs.declared.option.Option.{Option}
+use Rattle.std.specs.declared.option.Option.TheVariants.{None, Some}
+use Rattle.std.specs.declared.result.Result.{Result}
+use Rattle.std.specs.declared.result.Result.TheVariants.{Ok, Err}
+use Rattle.cv_base.specs.Path.{Path}
+use Rattle.cv_base.specs.Marker.{marker, ends_in}
+use Rattle.cv_base.specs.Told.{WhereTold}
+use Rattle.cv_base.specs.declared.object.Object.{Object}
+use Rattle.cv_base.specs.declared.token.Token.{Token}
+use Rattle.cv_ports.specs.Shelf.{Shelf}
+use Rattle.cv_vault.specs.Names.{on_way}
+use Rattle.cv_vault.specs.Disk.{Disk, Files}
+use Rattle.cv_vault.specs.Replace.{IsSure, MovedIn}
+use Rattle.cv_vault.specs.Walks.{Walks, ComesTo}
+use Rattle.cv_vault.specs.declared.vault.VaultFault.{VaultFault}
+use Rattle.cv_vault.specs.declared.vault.VaultFault.TheVariants as vault
+use Rattle.cv_vault.proofs.Laws.{quiet_same}
+use Rattle.cv_tree.specs.Tree.{Nodes}
+use Rattle.cv_tree.specs.Changes.{has_place}
+use Rattle.cv_cut.specs.Above.{replaced}
+use Rattle.cv_cut.specs.Good.{IsGood}
+use Rattle.cv_cut.specs.Means.{Means}
+use Rattle.cv_cut.specs.Reached.{root_place}
+use Rattle.cv_graft.specs.Graft.{Grafts, HasOwnIds}
+use Rattle.cv_graft.specs.Way.{TellsDamage}
+use Rattle.cv_graft.specs.declared.grafted.Grafted.{Grafted}
+use Rattle.cv_graft.specs.declared.graft_fault.GraftFault.{GraftFault}
+use Rattle.cv_graft.specs.declared.graft_fault.GraftFault.TheVariants as fault
+use Rattle.cv_history.specs.declared.record.Record.{Record}
+use Rattle.cv_manifest.specs.declared.head.Head.{Head}
+use Rattle.cv_leases.specs.Leases.{IsTable, lease_of, without}
+use Rattle.cv_leases.specs.declared.lease.Lease.{Lease}
+use Rattle.cv_objects.specs.Names.{standing_on}
+use Rattle.cv_objects.specs.Batches.{Brings}
+use Rattle.cv_objects.specs.declared.store_fault.StoreFault.{StoreFault}
+use Rattle.cv_objects.proofs.Lemmas.{named_more}
+use Rattle.cv_swap.specs.Kept.{object_of, head_with}
+use Rattle.cv_swap.specs.Line.{LineView, LineReads, published, swapped, IsReady, IsDropped}
+use Rattle.cv_swap.specs.Publishing.{Prepared}
+use Rattle.cv_swap.specs.Stands.{head_name, head_way, Publishes}
+use Rattle.cv_swap.specs.declared.stage.Stage.TheVariants as stage
+use Rattle.cv_gate.specs.declared.reply.Reply.{Reply}
+use Rattle.cv_gate.specs.declared.reply.Reply.TheVariants as reply
+use Rattle.cv_desk.specs.Answers.{Tells}
+use Rattle.cv_desk.specs.Gate.{StateView, IsState, IsSameRepository}
+use Rattle.cv_desk.specs.Sending.{outcome_of, outcome_in}
+use Rattle.cv_desk.specs.Acting.{reply_of}
+use Rattle.cv_desk.specs.Committing.{IsUnfit, outside, damaged, unfit, two, one, shares, fills, IsFit, next_record, objects_with, Readies, unmade, unprepared, prepared, Finishes, swaps, wavers, stays, opposition, CommitsUnder, opposed, stopped, ready as goes}
+use Rattle.cv_desk.specs.declared.outcome.Outcome.{Outcome}
+use Rattle.cv_desk.proofs.States.{state_ended, state_same}
+use Rattle.cv_desk.proofs.CommitSteps.{found_has}
+
+-- what holds of what was answered
+pub at_ok : {X E : Type 0} (P : X → Type 0) (Q : E → Type 0) (r : Result X E) (x : X) → r ≡ Ok x → MatchResult r P Q → P x
+at_ok P Q r x e m = subst (λ r. MatchResult r P Q) e m
+
+pub if_ok : {X E : Type 0} (P : X → Type 0) (r : Result X E) (x : X) → r ≡ Ok x → IfOk r P → P x
+if_ok P r x e m = subst (λ r. IfOk r P) e m
+
+pub on_ok : {X E P : Type 0} (r : Result X E) (x : X) → r ≡ Ok x → OnOk r P → P
+on_ok {P = P} r x e m = subst (λ r. OnOk r P) e m
+
+pub on_err : {X E P : Type 0} (r : Result X E) (f : E) → r ≡ Err f → OnErr r P → P
+on_err {P = P} r f e m = subst (λ r. OnErr r P) e m
+
+-- ---- a graft
+
+-- from what a graft says of the shelf that the line tells
+pub grafts_there : {V S : Type 0} (disk : V → Option Disk) (count : V → ℕ) (left : V → ℕ → Files → Type 0) (line judged : LineView V S) → LineReads disk count left line judged → (root : List ℕ) → root ≡ judged.head.root
+    → (offered : List ℕ) (path : Path) (r x : Result Grafted GraftFault) → r ≡ x
+    → WhereTold (option_map standing_on (disk judged.vault)) (λ standing. (t n : Nodes) → Means standing root t → Means standing offered n → IsTrue (has_place t path) → Grafts (replaced t n path) path r)
+    → (d : Disk) → disk line.vault ≡ Some d → (t n : Nodes) → Means (standing_on d) line.head.root t → Means (standing_on d) offered n → has_place t path ≡ true → Grafts (replaced t n path) path x
+grafts_there disk count left line judged reads root is offered path r x e told d there t n mt mn place =
+    let same : line.head.root ≡ root = sym (is ∙ ap (λ (l : LineView _ _). l.head.root) reads.1) in
+    subst (Grafts (replaced t n path) path) e (told (standing_on d) (ap (option_map standing_on) (quiet_same reads.0 ∙ there)) t n (subst (λ h. Means (standing_on d) h t) same mt) mn place)
+
+pub graft_unfit : (shelf : Shelf) (newest offered : List ℕ) (path : Path) (f : GraftFault) (r : Reply) → Tells f r → IsGood shelf offered root_place
+    → ((t n : Nodes) → Means shelf newest t → Means shelf offered n → has_place t path ≡ true → Grafts (replaced t n path) path (Err f)) → TellsDamage shelf {X = Grafted} (Err f) → IsUnfit shelf newest offered path r
+graft_unfit shelf newest offered path (fault.PathCollision a b) r (inl e) is grafts shown = unfit is (two a b e) (λ t n mt mn place. shares a b (grafts t n mt mn place) e)
+graft_unfit shelf newest offered path (fault.PathCollision a b) r (inr e) is grafts shown = outside (inr e)
+graft_unfit shelf newest offered path (fault.CatalogueFull c) r (inl e) is grafts shown = unfit is (one c e) (λ t n mt mn place. (let g = grafts t n mt mn place in fills c g.0 g.1 e))
+graft_unfit shelf newest offered path (fault.CatalogueFull c) r (inr e) is grafts shown = outside (inr e)
+graft_unfit shelf newest offered path fault.Failed r e is grafts shown = outside (inl e)
+graft_unfit shelf newest offered path (fault.Damaged id found) r e is grafts shown = damaged id found shown e
+graft_unfit shelf newest offered path fault.NoMemory r e is grafts shown = outside (inr e)
+
+-- ---- a revision is prepared
+
+module _ {V S : Type 0} (disk : V → Option Disk) (count : V → ℕ) (left : V → ℕ → Files → Type 0) (is_seal : S → List ℕ → List ℕ → Bool) (lease : Lease) (key : List ℕ) (moment : ℕ) (offered tag : List ℕ) (l read l' : LineView V S)
+    (g : Grafted) (head : Head) (next : Record) (others : List Object) (reads : LineReads disk count left l read) (same_head : head ≡ l.head) (is : next ≡ next_record head lease key moment g offered tag) (added : others ≡ g.added)
+    (fit : WhereTold (disk l.vault) (λ d. IsFit (standing_on d) l.head.root offered lease.path g)) where
+  record_is : next ≡ next_record l.head lease key moment g offered tag
+  record_is = is ∙ ap (λ (h : Head). next_record h lease key moment g offered tag) same_head
+
+  batch_is : others ++ object_of next ∷ [] ≡ objects_with g (next_record l.head lease key moment g offered tag)
+  batch_is = λ i. added i ++ object_of (record_is i) ∷ []
+
+  abbrev With : List Object → Result Head StoreFault → Type 0
+  With batch r = WhereTold (disk read.vault) (λ d. Walks disk count left on_way (Brings d batch) (Prepared d batch l'.manifest r) d read.vault l'.vault)
+
+  pub readied : (r : Result Head StoreFault) (h : Head) → r ≡ Ok h → IfOk r (λ x. x ≡ head_with next g.size) → IfOk r (λ x. IsReady read next x l') → IfOk r (λ x. published l' ≡ published read)
+      → IfOk r (λ x. Publishes read.name (is_seal read.signer) (Some l'.manifest) x) → With (others ++ object_of next ∷ []) r → Readies disk count left is_seal lease key moment offered tag l l' (Ok h)
+  readied r h e heads ready kept says walks =
+      let to : next ≡ next_record l.head lease key moment g offered tag = record_is in
+      let size : h ≡ head_with (next_record l.head lease key moment g offered tag) g.size = if_ok (λ x. x ≡ head_with next g.size) r h e heads ∙ ap (λ (x : Record). head_with x g.size) to in
+      let said : Publishes l.name (is_seal l.signer) (Some l'.manifest) h =
+      subst (λ (x : LineView V S). Publishes x.name (is_seal x.signer) (Some l'.manifest) h) reads.1 (if_ok (λ x. Publishes read.name (is_seal read.signer) (Some l'.manifest) x) r h e says) in
+      subst (λ x. Readies disk count left is_seal lease key moment offered tag l l' (Ok x)) (sym size) (prepared read g reads fit
+      (if_ok (λ x. published l' ≡ published read) r h e kept ∙ ap (λ (x : LineView V S). published x) reads.1)
+      (subst (λ x. IsReady read (next_record l.head lease key moment g offered tag) x l') size (subst (λ (x : Record). IsReady read x h l') to (if_ok (λ x. IsReady read next x l') r h e ready)))
+      (subst (λ x. Publishes l.name (is_seal l.signer) (Some l'.manifest) x) size said)
+      (subst (λ b. With b (Ok (head_with (next_record l.head lease key moment g offered tag) g.size))) batch_is (subst (With (others ++ object_of next ∷ [])) (e ∙ ap Ok size) walks)))
+
+  pub refused : (r : Result Head StoreFault) (f : StoreFault) → r ≡ Err f → IsDropped read l' → HasOwnIds g.added → With (others ++ object_of next ∷ []) r → (a : Reply) → a ≡ reply_of (outcome_of f)
+      → Readies disk count left is_seal lease key moment offered tag l l' (Err a)
+  refused r f e dropped own walks a told = subst (λ x. Readies disk count left is_seal lease key moment offered tag l l' (Err x)) (sym told)
+      (unprepared read g f reads fit dropped (named_more g.added (object_of (next_record l.head lease key moment g offered tag)) (record { each = own.each }) refl)
+      (subst (λ b. With b (Err f)) batch_is (subst (With (others ++ object_of next ∷ [])) e walks)))
+
+-- the line is of the same repository, whatever was answered
+pub readies_same : {V S : Type 0} (disk : V → Option Disk) (count : V → ℕ) (left : V → ℕ → Files → Type 0) (is_seal : S → List ℕ → List ℕ → Bool) (lease : Lease) (key : List ℕ) (moment : ℕ) (offered tag : List ℕ) (l l' : LineView V S)
+    (r : Result Head Reply) → Readies disk count left is_seal lease key moment offered tag l l' r → IsSameRepository l l'
+readies_same disk count left is_seal lease key moment offered tag l l' _ (unmade r reads why) = record {
+  name_ = ap (λ (x : LineView _ _). x.name) reads.1;
+  signer_ = ap (λ (x : LineView _ _). x.signer) reads.1;
+  epoch_ = ap (λ (x : LineView _ _). x.epoch) reads.1;
+}
+readies_same disk count left is_seal lease key moment offered tag l l' _ (unprepared read g f reads fit dropped named w) = record {
+  name_ = dropped.others.name_ ∙ ap (λ (x : LineView _ _). x.name) reads.1;
+  signer_ = dropped.others.signer_ ∙ ap (λ (x : LineView _ _). x.signer) reads.1;
+  epoch_ = dropped.others.epoch_ ∙ ap (λ (x : LineView _ _). x.epoch) reads.1;
+}
+readies_same disk count left is_seal lease key moment offered tag l l' _ (prepared read g reads fit records ready says w) = record {
+  name_ = ready.others.name_ ∙ ap (λ (x : LineView _ _). x.name) reads.1;
+  signer_ = ready.others.signer_ ∙ ap (λ (x : LineView _ _). x.signer) reads.1;
+  epoch_ = ready.others.epoch_ ∙ ap (λ (x : LineView _ _). x.epoch) reads.1;
+}
+
+-- the line is ready where it was prepared
+pub readies_stage : {V S : Type 0} (disk : V → Option Disk) (count : V → ℕ) (left : V → ℕ → Files → Type 0) (is_seal : S → List ℕ → List ℕ → Bool) (lease : Lease) (key : List ℕ) (moment : ℕ) (offered tag : List ℕ) (l l' : LineView V S)
+    (h : Head) → Readies disk count left is_seal lease key moment offered tag l l' (Ok h) → (w : LineView V S) × (r : Record) × IsReady w r h l'
+readies_stage disk count left is_seal lease key moment offered tag l l' _ (prepared read g reads fit records ready says w) = (read, _, ready)
+
+-- ---- a lease of the table
+
+pub found_unmarked : (leases : List Lease) (token : Token) (lease : Lease) → IsTable leases → lease_of token leases ≡ Some lease → ends_in marker lease.path ≡ false
+found_unmarked leases token lease table found = found_has (λ l. ends_in marker l.path ≡ false) token leases lease found table.paths
+
+-- what holds of a state holds of it over another line of the same epoch, with a lease less
+pub state_ended_over : {V S : Type 0} (s s' : StateView V S) → IsState s → (token : Token) → s'.leases ≡ without token s.leases → s'.moment ≡ s.moment → s'.next ≡ s.next → s'.line.epoch ≡ s.line.epoch → IsState s'
+state_ended_over s s' h token leases moment next epoch = state_same (record s { leases = without token s.leases }) s' (state_ended s (record s { leases = without token s.leases }) h token refl) leases moment next epoch
+
+-- ---- a state as the body has it
+
+module _ {V S : Type 0} (disk : V → Option Disk) (count : V → ℕ) (left : V → ℕ → Files → Type 0) (is_seal : S → List ℕ → List ℕ → Bool) (s : StateView V S) (line : LineView V S) (leases : List Lease) (moment next : ℕ)
+    (is : record { line = line; leases = leases; moment = moment; next = next } ≡ s) where
+  abbrev over : LineView V S → List Lease → StateView V S
+  over l ls = record { line = l; leases = ls; moment = moment; next = next }
+
+  -- the head is swapped in, or isn't
+  module _ (token : Token) (head : Head) (l : LineView V S) where
+    abbrev Moves : Result (Unit {0}) VaultFault → Type 0
+    Moves r = WhereTold (disk line.vault) (λ d. (manifest : List ℕ) → IsSure head_way manifest d → Walks disk count left on_way (ComesTo head_name (Some manifest)) (MovedIn d head_name manifest r) d line.vault l.vault)
+
+    pub ends_well : (r : Result (Unit {0}) VaultFault) (x : Unit {0}) → r ≡ Ok x → OnOk r (l ≡ swapped line l.vault) → (ls : List Lease) → ls ≡ without token leases → Moves r
+        → Finishes disk count left is_seal token head s (reply.Committed head.revision head.root) (over l ls)
+    ends_well r x e ok ls ended moves = subst (λ (y : StateView V S). Finishes disk count left is_seal token head y (reply.Committed head.revision head.root) (over l ls)) is
+        (swaps (subst Moves e moves) refl (λ i. over (on_ok r x e ok i) (ended i)))
+
+    pub ends_badly : (r : Result (Unit {0}) VaultFault) (f : VaultFault) → r ≡ Err f → (r ≡ Err vault.Failed → l ≡ record line { vault = l.vault; stage = stage.Doubtful }) → (r ≡ Err vault.NoMemory → l ≡ record line { vault = l.vault }) → Moves r
+        → (o : Outcome) → o ≡ outcome_in f → Finishes disk count left is_seal token head s (reply_of o) (over l leases)
+    ends_badly r vault.Failed e failed lacking moves o told = subst (λ (y : StateView V S). Finishes disk count left is_seal token head y (reply_of o) (over l leases)) is
+        (wavers (subst Moves e moves) (ap reply_of told) (λ i. over (failed e i) leases))
+    ends_badly r vault.NoMemory e failed lacking moves o told = subst (λ (y : StateView V S). Finishes disk count left is_seal token head y (reply_of o) (over l leases)) is
+        (stays (subst Moves e moves) (ap reply_of told) (λ i. over (lacking e i) leases))
+
+  -- a commit under the lease that the token finds
+  module _ (token : Token) (mine : Lease) (found : lease_of token leases ≡ Some mine) (key old_root offered tag : List ℕ) where
+    the_lease : (lease : Lease) → lease_of token s.leases ≡ Some lease → mine ≡ lease
+    the_lease lease there = let both : Some mine ≡ Some lease = sym found ∙ ap (λ (x : StateView V S). lease_of token x.leases) is ∙ there in cc
+
+    abbrev Under : Reply → StateView V S → Type 0
+    Under r s' = (lease : Lease) → lease_of token s.leases ≡ Some lease → CommitsUnder disk count left is_seal lease key old_root offered tag s r s'
+
+    under : (r : Reply) (s' : StateView V S) → CommitsUnder disk count left is_seal mine key old_root offered tag (over line leases) r s' → Under r s'
+    under r s' does = λ lease there. subst (λ x. CommitsUnder disk count left is_seal x key old_root offered tag s r s') (the_lease lease there)
+        (subst (λ (y : StateView V S). CommitsUnder disk count left is_seal mine key old_root offered tag y r s') is does)
+
+    pub opposes : (o : Outcome) (r : Reply) → r ≡ reply_of o → opposition line mine.from_revision old_root tag ≡ Some o → Under r s
+    opposes o r told why = subst (λ (y : StateView V S). Under r y) is (under r (over line leases) (opposed o why told refl))
+
+    pub stops : (l : LineView V S) (r : Reply) → opposition line mine.from_revision old_root tag ≡ None → Readies disk count left is_seal mine key moment offered tag line l (Err r) → Under r (over l leases)
+    stops l r none readies = under r (over l leases) (stopped l none readies refl)
+
+    pub goes_on : (l : LineView V S) (h : Head) (r : Reply) (s' : StateView V S) → opposition line mine.from_revision old_root tag ≡ None → Readies disk count left is_seal mine key moment offered tag line l (Ok h)
+        → Finishes disk count left is_seal mine.token h (over l leases) r s' → Under r s'
+    goes_on l h r s' none readies finishes = under r s' (goes l h none readies finishes)

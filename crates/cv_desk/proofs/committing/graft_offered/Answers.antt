@@ -1,0 +1,31 @@
+use Rattle.std.proofs.Common.{ap, subst, ◌∙◌, Ok, Err}
+use Rattle.std.specs.Option.{option_map}
+use Rattle.cv_vault.proofs.Laws.{quiet_same}
+use Rattle.cv_graft.specs.Way.{TellsDamage}
+use Rattle.cv_graft.specs.declared.grafted.Grafted.{Grafted}
+use Rattle.cv_manifest.specs.declared.head.Head.{Head}
+use Rattle.cv_objects.specs.Names.{standing_on}
+use Rattle.cv_desk.specs.Acting.{reply_of}
+use Rattle.cv_desk.specs.Committing.{Offers, meaningless}
+use Rattle.cv_desk.proofs.CommitCalls.{grafts_there, graft_unfit}
+use Rattle.cv_desk.proofs.committing.graft_offered.Goals as goal
+
+pub returns-in-Err-clause-grafts : goal.returns-in-Err-clause-grafts
+returns-in-Err-clause-grafts g c = λ d told.
+    let o = subst (Offers (standing_on d) c.args.offered.now.hash) c.in-Err.is (c.judge.ensures.offers d told) in
+    meaningless o.0 o.1 (c.of.ensures ∙ ap reply_of o.2)
+
+pub returns-in-Ok-clause-grafts : goal.returns-in-Ok-clause-grafts
+returns-in-Ok-clause-grafts g c = λ d told. record {
+  good = subst (Offers (standing_on d) c.args.offered.now.hash) c.in_default.is (c.judge.ensures.offers d told);
+  grafts = grafts_there g.V.Vault.disk g.V.Vault.count g.V.Vault.left c.args.line.now c.judge.new.line c.judge.ensures.reads c.head.result.root (ap (λ (h : Head). h.root) c.head.ensures.newest)
+      c.args.offered.now.hash c.args.path.now c.graft.result (Ok c.in-Ok.grafted) c.in-Ok.is c.graft.ensures.told d told;
+}
+
+pub returns-in-Err-graft-clause-grafts : goal.returns-in-Err-graft-clause-grafts
+returns-in-Err-graft-clause-grafts g c = λ d told.
+    graft_unfit (standing_on d) c.args.line.now.head.root c.args.offered.now.hash c.args.path.now c.in-Err-graft.fault c.of_graft.result c.of_graft.ensures
+    (subst (Offers (standing_on d) c.args.offered.now.hash) c.in_default.is (c.judge.ensures.offers d told))
+    (grafts_there g.V.Vault.disk g.V.Vault.count g.V.Vault.left c.args.line.now c.judge.new.line c.judge.ensures.reads c.head.result.root (ap (λ (h : Head). h.root) c.head.ensures.newest)
+    c.args.offered.now.hash c.args.path.now c.graft.result (Err c.in-Err-graft.fault) c.in-Err-graft.is c.graft.ensures.told d told)
+    (subst (TellsDamage (standing_on d) {X = Grafted}) c.in-Err-graft.is (c.graft.ensures.damaged (standing_on d) (ap (option_map standing_on) (quiet_same c.judge.ensures.reads.0 ∙ told))))

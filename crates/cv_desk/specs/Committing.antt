@@ -1,0 +1,181 @@
+-- What a commit does inside a step.
+use Rattle.std.specs.Prelude.{◌≡◌, ◌+◌, ℕ, Bool, true, ◌&&◌, nat_le, bytes_eq, List, [], ◌∷◌, ◌++◌, if◌then◌else◌}
+use Rattle.std.specs.List.{find, list_any}
+use Rattle.std.specs.declared.option.Option.{Option}
+use Rattle.std.specs.declared.option.Option.TheVariants.{None, Some}
+use Rattle.std.specs.declared.result.Result.{Result}
+use Rattle.std.specs.declared.result.Result.TheVariants.{Ok, Err}
+use Rattle.cv_base.specs.Path.{Path}
+use Rattle.cv_base.specs.Told.{WhereTold}
+use Rattle.cv_base.specs.declared.id.ObjectId.{ObjectId}
+use Rattle.cv_base.specs.declared.object.Object.{Object}
+use Rattle.cv_base.specs.declared.token.Token.{Token}
+use Rattle.cv_ports.specs.Shelf.{Shelf}
+use Rattle.cv_vault.specs.Names.{on_way}
+use Rattle.cv_vault.specs.Disk.{Disk, Files}
+use Rattle.cv_vault.specs.Replace.{IsSure, MovedIn}
+use Rattle.cv_vault.specs.Walks.{Walks, ComesTo}
+use Rattle.cv_vault.specs.declared.vault.VaultFault.{VaultFault}
+use Rattle.cv_vault.specs.declared.vault.VaultFault.TheVariants as vault
+use Rattle.cv_tree.specs.Tree.{Nodes}
+use Rattle.cv_tree.specs.Changes.{has_place}
+use Rattle.cv_cut.specs.Above.{replaced}
+use Rattle.cv_cut.specs.Catalogues.{SharesKey, IsFull}
+use Rattle.cv_cut.specs.Good.{IsGood}
+use Rattle.cv_cut.specs.Means.{Means}
+use Rattle.cv_cut.specs.Opening.{HasOtherDigest, MayFail}
+use Rattle.cv_cut.specs.Reached.{root_place}
+use Rattle.cv_cut.specs.declared.load_fault.LoadFault.{LoadFault}
+use Rattle.cv_cut.specs.declared.load_fault.LoadFault.TheVariants as load
+use Rattle.cv_graft.specs.Graft.{Grafts}
+use Rattle.cv_graft.specs.declared.grafted.Grafted.{Grafted}
+use Rattle.cv_history.specs.declared.record.Record.{Record}
+use Rattle.cv_manifest.specs.declared.head.Head.{Head}
+use Rattle.cv_leases.specs.Leases.{lease_of, without}
+use Rattle.cv_leases.specs.declared.lease.Lease.{Lease}
+use Rattle.cv_objects.specs.Names.{standing_on}
+use Rattle.cv_objects.specs.Batches.{AreNamed, Brings}
+use Rattle.cv_objects.specs.declared.store_fault.StoreFault.{StoreFault}
+use Rattle.cv_swap.specs.Kept.{revision_limit, object_of, head_with}
+use Rattle.cv_swap.specs.Line.{LineView, published, swapped, LineReads, IsReady, IsDropped}
+use Rattle.cv_swap.specs.Publishing.{Prepared}
+use Rattle.cv_swap.specs.Stands.{head_name, head_way, Publishes}
+use Rattle.cv_swap.specs.declared.stage.Stage.TheVariants as stage
+use Rattle.cv_gate.specs.Step.{IsFault}
+use Rattle.cv_gate.specs.declared.reply.Reply.{Reply}
+use Rattle.cv_gate.specs.declared.reply.Reply.TheVariants as reply
+use Rattle.cv_desk.specs.Gate.{StateView}
+use Rattle.cv_desk.specs.Sending.{outcome_of}
+use Rattle.cv_desk.specs.Acting.{reply_of, refusal_on}
+use Rattle.cv_desk.specs.declared.outcome.Outcome.{Outcome}
+use Rattle.cv_desk.specs.declared.outcome.Outcome.TheVariants as outcome
+
+-- ---- what the published revisions say
+
+-- the root is that of a revision from this one on
+abbrev pub has_base : List Record → ℕ → List ℕ → Bool
+has_base records from root = list_any (λ r. nat_le from r.revision && bytes_eq r.root root) records
+
+-- the record that has the tag, unless that is empty
+abbrev pub holder_of : List ℕ → List Record → Option Record
+holder_of [] records = None
+holder_of (b ∷ tag) records = find (λ r. bytes_eq r.tag (b ∷ tag)) records
+
+abbrev pub taken_by : Option Record → Option Outcome
+taken_by None = None
+taken_by (Some r) = Some (outcome.TagTaken r.revision)
+
+-- why they refuse a commit under a lease that was granted at a revision, if they do: the newest of them, and all of them
+abbrev pub opposition_by : ℕ → List Record → ℕ → List ℕ → List ℕ → Option Outcome
+opposition_by newest records from old_root tag =
+    if nat_le revision_limit newest then Some outcome.RevisionsFull else
+    if has_base records from old_root then taken_by (holder_of tag records) else Some (outcome.StaleBase from)
+
+abbrev pub opposition : {V S : Type 0} → LineView V S → ℕ → List ℕ → List ℕ → Option Outcome
+opposition l from old_root tag = opposition_by l.head.revision (published l) from old_root tag
+
+-- ---- the offered tree
+
+-- how a fault of the offered tree is answered
+abbrev pub outcome_at : LoadFault → Outcome
+outcome_at (load.Missing id) = outcome.MissingObject id
+outcome_at (load.Bad id) = outcome.BadCatalogue id
+outcome_at load.Failed = outcome.StoreFailed
+outcome_at (load.Damaged id found) = outcome.Damaged id found
+outcome_at load.NoMemory = outcome.NoMemory
+
+-- the offered root is good, or why it isn't
+abbrev pub Offers : Shelf → List ℕ → Result (Unit {0}) Outcome → Type 0
+Offers shelf offered (Ok done) = IsGood shelf offered root_place
+Offers shelf offered (Err o) = (fault : LoadFault) × MayFail shelf offered fault × (o ≡ outcome_at fault)
+
+-- the new tree doesn't fit, and the reply says why
+pub data WhyUnfit (t : Nodes) (r : Reply) : Type 0 where
+  shares : (a b : Path) → SharesKey t a b → r ≡ reply.PathCollision a b → WhyUnfit t r
+  fills : (c : Path) → IsFull t c → ((a b : Path) → SharesKey t a b → ⊥) → r ≡ reply.CatalogueFull c → WhyUnfit t r
+
+-- the reply refuses the new tree by paths of it
+pub data NamesPaths (r : Reply) : Type 0 where
+  two : (a b : Path) → r ≡ reply.PathCollision a b → NamesPaths r
+  one : (c : Path) → r ≡ reply.CatalogueFull c → NamesPaths r
+
+-- why no tree is made of the newest root and the offered one: the disk failed or memory was wanted, the offered root means none, a
+-- catalogue has other bytes than its hash says, or the new tree doesn't fit
+pub data IsUnfit (shelf : Shelf) (newest offered : List ℕ) (path : Path) (r : Reply) : Type 0 where
+  outside : IsFault r → IsUnfit shelf newest offered path r
+  meaningless : (fault : LoadFault) → MayFail shelf offered fault → r ≡ reply_of (outcome_at fault) → IsUnfit shelf newest offered path r
+  damaged : (id : ObjectId) (found : List ℕ) → HasOtherDigest shelf id found → r ≡ reply.Damaged id found → IsUnfit shelf newest offered path r
+  unfit : IsGood shelf offered root_place → NamesPaths r → ((t n : Nodes) → Means shelf newest t → Means shelf offered n → has_place t path ≡ true → WhyUnfit (replaced t n path) r) → IsUnfit shelf newest offered path r
+
+-- the offered root is good, and the new tree has this root and these catalogues
+pub record IsFit (shelf : Shelf) (newest offered : List ℕ) (path : Path) (g : Grafted) : Type 0 where
+  pub good : IsGood shelf offered root_place
+  pub grafts : (t n : Nodes) → Means shelf newest t → Means shelf offered n → has_place t path ≡ true → Grafts (replaced t n path) path (Ok g)
+
+-- one or the other
+abbrev pub GraftsOffered : Shelf → List ℕ → List ℕ → Path → Result Grafted Reply → Type 0
+GraftsOffered shelf newest offered path (Ok g) = IsFit shelf newest offered path g
+GraftsOffered shelf newest offered path (Err r) = IsUnfit shelf newest offered path r
+
+-- ---- the new revision
+
+-- its record: under this lease and this key, at this moment
+abbrev pub next_record : Head → Lease → List ℕ → ℕ → Grafted → List ℕ → List ℕ → Record
+next_record head lease key moment g offered tag = record {
+  revision = head.revision + 1;
+  previous = head.history;
+  root = g.root.hash;
+  offered = offered;
+  token = lease.token;
+  path = lease.path;
+  key = key;
+  time = moment;
+  tag = tag;
+}
+
+-- its objects, in the order in which they are brought
+abbrev pub objects_with : Grafted → Record → List Object
+objects_with g next = g.added ++ object_of next ∷ []
+
+module _ {V S : Type 0} (disk : V → Option Disk) (count : V → ℕ) (left : V → ℕ → Files → Type 0) (is_seal : S → List ℕ → List ℕ → Bool) where
+  -- all of a revision but its head is brought to the vault, by what is known of the offered tree; or why it isn't
+  pub data Readies (lease : Lease) (key : List ℕ) (moment : ℕ) (offered tag : List ℕ) (l l' : LineView V S) : Result Head Reply → Type 0 where
+    unmade : (r : Reply) → LineReads disk count left l l' → WhereTold (disk l.vault) (λ d. IsUnfit (standing_on d) l.head.root offered lease.path r) → Readies lease key moment offered tag l l' (Err r)
+    unprepared : (looked : LineView V S) (g : Grafted) (fault : StoreFault) → LineReads disk count left l looked → WhereTold (disk l.vault) (λ d. IsFit (standing_on d) l.head.root offered lease.path g) → IsDropped looked l'
+        → AreNamed (objects_with g (next_record l.head lease key moment g offered tag))
+        → WhereTold (disk looked.vault) (λ d. Walks disk count left on_way (Brings d (objects_with g (next_record l.head lease key moment g offered tag)))
+        (Prepared d (objects_with g (next_record l.head lease key moment g offered tag)) l'.manifest {X = Head} (Err fault)) d looked.vault l'.vault)
+        → Readies lease key moment offered tag l l' (Err (reply_of (outcome_of fault)))
+    prepared : (looked : LineView V S) (g : Grafted) → LineReads disk count left l looked → WhereTold (disk l.vault) (λ d. IsFit (standing_on d) l.head.root offered lease.path g)
+        → published l' ≡ published l → IsReady looked (next_record l.head lease key moment g offered tag) (head_with (next_record l.head lease key moment g offered tag) g.size) l'
+        → Publishes l.name (is_seal l.signer) (Some l'.manifest) (head_with (next_record l.head lease key moment g offered tag) g.size)
+        → WhereTold (disk looked.vault) (λ d. Walks disk count left on_way (Brings d (objects_with g (next_record l.head lease key moment g offered tag)))
+        (Prepared d (objects_with g (next_record l.head lease key moment g offered tag)) l'.manifest {X = Head} (Ok (head_with (next_record l.head lease key moment g offered tag) g.size))) d looked.vault l'.vault)
+        → Readies lease key moment offered tag l l' (Ok (head_with (next_record l.head lease key moment g offered tag) g.size))
+
+  -- the head of the line comes to its name, whose manifest is on its way
+  abbrev pub Swaps : LineView V S → V → Result (Unit {0}) VaultFault → Type 0
+  Swaps l v r = WhereTold (disk l.vault) (λ d. (manifest : List ℕ) → IsSure head_way manifest d → Walks disk count left on_way (ComesTo head_name (Some manifest)) (MovedIn d head_name manifest r) d l.vault v)
+
+  -- how a commit that is ready ends: its head came and its lease ended, or it is in doubt, or memory was wanted
+  pub data Finishes (token : Token) (head : Head) (s : StateView V S) (r : Reply) (s' : StateView V S) : Type 0 where
+    swaps : Swaps s.line s'.line.vault (Ok tt) → r ≡ reply.Committed head.revision head.root
+        → s' ≡ record s { line = swapped s.line s'.line.vault; leases = without token s.leases } → Finishes token head s r s'
+    wavers : Swaps s.line s'.line.vault (Err vault.Failed) → r ≡ reply.StoreFailed
+        → s' ≡ record s { line = record s.line { vault = s'.line.vault; stage = stage.Doubtful } } → Finishes token head s r s'
+    stays : Swaps s.line s'.line.vault (Err vault.NoMemory) → r ≡ reply.NoMemory
+        → s' ≡ record s { line = record s.line { vault = s'.line.vault } } → Finishes token head s r s'
+
+  -- what comes of a commit under a lease
+  pub data CommitsUnder (lease : Lease) (key old_root offered tag : List ℕ) (s : StateView V S) (r : Reply) (s' : StateView V S) : Type 0 where
+    opposed : (o : Outcome) → opposition s.line lease.from_revision old_root tag ≡ Some o → r ≡ reply_of o → s' ≡ s → CommitsUnder lease key old_root offered tag s r s'
+    stopped : (l : LineView V S) → opposition s.line lease.from_revision old_root tag ≡ None → Readies lease key s.moment offered tag s.line l (Err r)
+        → s' ≡ record s { line = l } → CommitsUnder lease key old_root offered tag s r s'
+    ready : (l : LineView V S) (head : Head) → opposition s.line lease.from_revision old_root tag ≡ None → Readies lease key s.moment offered tag s.line l (Ok head)
+        → Finishes lease.token head (record s { line = l }) r s' → CommitsUnder lease key old_root offered tag s r s'
+
+  -- what comes of asking for a commit
+  pub data AsksCommit (key : List ℕ) (token : Token) (old_root offered tag : List ℕ) (s : StateView V S) (r : Reply) (s' : StateView V S) : Type 0 where
+    not_own : (o : Outcome) → refusal_on (lease_of token s.leases) key ≡ Some o → r ≡ reply_of o → s' ≡ s → AsksCommit key token old_root offered tag s r s'
+    own : (lease : Lease) → refusal_on (lease_of token s.leases) key ≡ None → lease_of token s.leases ≡ Some lease → CommitsUnder lease key old_root offered tag s r s'
+        → AsksCommit key token old_root offered tag s r s'

@@ -1,0 +1,223 @@
+//! Commits.
+ghost use Rattle.std.specs.Prelude.{◌≡◌, ◌≢◌, ◌<◌, ◌^◌, true, false, IfOk, Err, bytes_eq, option_copied};
+ghost use Rattle.std.specs.List.{find};
+ghost use Rattle.cv_base.specs.Counts.{HasCause};
+ghost use Rattle.cv_base.specs.Told.{WhereTold};
+ghost use Rattle.cv_base.specs.declared.id.Kind.TheVariants as kinds;
+ghost use Rattle.cv_base.specs.Marker.{marker, ends_in};
+ghost use Rattle.cv_history.specs.Record.{IsRecord};
+ghost use Rattle.cv_swap.specs.declared.stage.Stage.TheVariants as stage;
+ghost use Rattle.cv_objects.specs.Names.{standing_on};
+ghost use Rattle.cv_graft.specs.Graft.{HasOwnIds};
+ghost use Rattle.cv_gate.specs.Step.{is_key_id, is_tag};
+ghost use Rattle.cv_gate.specs.declared.reply.Reply.TheVariants as replies;
+ghost use Rattle.cv_swap.specs.Line.{published, LineReads};
+ghost use Rattle.cv_desk.specs.Acting.{reply_of};
+ghost use Rattle.cv_desk.specs.Committing.{has_base, holder_of, taken_by, opposition, outcome_at, Offers, GraftsOffered, next_record, Readies};
+ghost use Rattle.cv_desk.specs.declared.outcome.Outcome.TheVariants as outcomes;
+
+use crate::answer::Answer;
+use crate::outcome::Outcome;
+use cv_base::{Kind, NoMemory, ObjectId, RepoPath, Target, Text};
+use cv_cut::LoadFault;
+use cv_graft::{Grafted, graft};
+use cv_history::Record;
+use cv_leases::Lease;
+use cv_load::{KnownSet, whole};
+use cv_manifest::Head;
+use cv_seal::Signer;
+use cv_swap::Line;
+use cv_vault::Vault;
+use std::alloc::Global;
+
+/// The most revisions of a repository.
+const REVISION_LIMIT: u64 = 262_144;
+
+/// Whether a root is that of a revision from this one on.
+fn has_base(records: &[Record], from: u64, root: &[u8; 20]) -> bool
+    ensures { result ≡ has_base records.now from root.now }
+{
+    records
+        .iter()
+        .any(|record| from <= record.revision && record.root == *root)
+}
+
+/// The record that has the tag.
+fn find_tag<'a>(records: &'a [Record], tag: &str) -> Option<&'a Record>
+    ensures { option_copied result ≡ find (λ r. bytes_eq r.tag tag.now) records.now }
+{
+    records.iter().find(|record| record.tag.text() == tag)
+}
+
+/// That a revision has the tag, if one has it, and it isn't empty.
+fn taken_by(records: &[Record], tag: &Text) -> Option<Outcome>
+    ensures { result ≡ taken_by (holder_of tag.now records.now) }
+{
+    if tag.as_str().is_empty() {
+        return None;
+    }
+    match find_tag(records, tag.as_str()) {
+        Some(record) => Some(Outcome::TagTaken {
+            revision: record.revision,
+        }),
+        None => None,
+    }
+}
+
+/// Why the published revisions refuse a commit under a lease that was granted at a revision, if they do.
+pub(crate) fn opposition<V: Vault + Drop, S: Signer + Drop>(
+    line: &Line<V, S>,
+    from: u64,
+    old_root: &[u8; 20],
+    tag: &Text,
+) -> Option<Outcome>
+    ensures { result ≡ opposition line.now from old_root.now tag.now }
+{
+    if line.head().revision >= REVISION_LIMIT {
+        return Some(Outcome::RevisionsFull);
+    }
+    if !has_base(line.records(), from, old_root) {
+        return Some(Outcome::StaleBase { revision: from });
+    }
+    taken_by(line.records(), tag)
+}
+
+/// Judges the offered root: all that it reaches is there, and each catalogue is one.
+fn judge<V: Vault + Drop, S: Signer + Drop>(
+    alloc: Global,
+    line: &mut Line<V, S>,
+    offered: &ObjectId,
+) -> Result<(), Outcome>
+    requires { offered.now.kind ≡ kinds.Catalogue }
+    ensures offers { WhereTold (V.disk line.old.vault) (λ d. Offers (standing_on d) offered.now.hash result) }
+    ensures reads { LineReads V.disk V.count V.left line.old line.new }
+    ensures cause { HasCause (V.faults line.old.vault) (V.faults line.new.vault) (result ≡ Err outcomes.StoreFailed) }
+{
+    let known = KnownSet::new(alloc);
+    match whole(alloc, line, offered, &known) {
+        Ok(_pairs) => Ok(()),
+        Err(fault) => Err(outcome_at(fault)),
+    }
+}
+
+/// How a fault of the offered tree is answered.
+fn outcome_at(fault: LoadFault) -> Outcome
+    ensures { result ≡ outcome_at fault }
+{
+    match fault {
+        LoadFault::Missing(id) => Outcome::MissingObject(id),
+        LoadFault::Bad(id) => Outcome::BadCatalogue(id),
+        LoadFault::Failed => Outcome::StoreFailed,
+        LoadFault::Damaged { id, found } => Outcome::Damaged { id, found },
+        LoadFault::NoMemory => Outcome::NoMemory,
+    }
+}
+
+/// The newest tree with the offered subtree at a path, or why there is none.
+fn graft_offered<V: Vault + Drop, S: Signer + Drop>(
+    alloc: Global,
+    line: &mut Line<V, S>,
+    offered: &ObjectId,
+    path: &RepoPath,
+) -> Result<Grafted, Answer>
+    requires kind { offered.now.kind ≡ kinds.Catalogue }
+    requires unmarked { ends_in marker path.now ≡ false }
+    ensures grafts { WhereTold (V.disk line.old.vault) (λ d. GraftsOffered (standing_on d) line.old.head.root offered.now.hash path.now result) }
+    ensures own { IfOk result (λ g. HasOwnIds g.added) }
+    ensures reads { LineReads V.disk V.count V.left line.old line.new }
+    ensures cause { HasCause (V.faults line.old.vault) (V.faults line.new.vault) (result ≡ Err replies.StoreFailed) }
+{
+    if let Err(outcome) = judge(alloc, line, offered) {
+        return Err(Answer::of(outcome));
+    }
+    let hash = line.head().root;
+    let newest = ObjectId {
+        hash,
+        kind: Kind::Catalogue,
+    };
+    match graft(alloc, line, &newest, offered, path) {
+        Ok(grafted) => Ok(grafted),
+        Err(fault) => Err(Answer::of_graft(alloc, fault)),
+    }
+}
+
+/// The text of a key or a tag, as a record has it.
+fn target_of(alloc: Global, text: &Text) -> Result<Target, NoMemory>
+    ensures { IfOk result (λ target. target ≡ text.now) }
+{
+    match Target::read(alloc, text.as_str())? {
+        Some(target) => Ok(target),
+        None => Err(NoMemory),
+    }
+}
+
+/// The record of the next revision.
+fn next_record(
+    alloc: Global,
+    head: &Head,
+    lease: &Lease,
+    key: &Text,
+    moment: u64,
+    grafted: &Grafted,
+    offered: [u8; 20],
+    tag: &Text,
+) -> Result<Record, NoMemory>
+    requires { head.now.revision < 262144 }
+    ensures { IfOk result (λ r. r ≡ next_record head.now lease.now key.now moment grafted.now offered tag.now) }
+{
+    let previous = head.history;
+    let root = grafted.root.hash;
+    Ok(Record {
+        revision: head.revision + 1,
+        previous,
+        root,
+        offered,
+        token: lease.token,
+        path: lease.path.copy(alloc)?,
+        key: target_of(alloc, key)?,
+        time: moment,
+        tag: target_of(alloc, tag)?,
+    })
+}
+
+/// Brings all of a commit's revision into the vault but its head, or says why not.
+pub(crate) fn ready<V: Vault + Drop, S: Signer + Drop>(
+    alloc: Global,
+    line: &mut Line<V, S>,
+    lease: &Lease,
+    key: &Text,
+    moment: u64,
+    offered: [u8; 20],
+    tag: &Text,
+) -> Result<Head, Answer>
+    requires room { line.old.head.revision < 262144 }
+    requires calm { line.old.stage ≢ stage.Doubtful }
+    requires unmarked { ends_in marker lease.now.path ≡ false }
+    requires key { is_key_id key.now ≡ true }
+    requires tag { is_tag tag.now ≡ true }
+    requires moment { moment < 2 ^ 62 }
+    ensures readies { Readies V.disk V.count V.left S.is_seal lease.now key.now moment offered tag.now line.old line.new result }
+    ensures cause { HasCause (V.faults line.old.vault) (V.faults line.new.vault) (result ≡ Err replies.StoreFailed) }
+{
+    let id = ObjectId {
+        hash: offered,
+        kind: Kind::Catalogue,
+    };
+    let grafted = match graft_offered(alloc, line, &id, &lease.path) {
+        Ok(grafted) => grafted,
+        Err(answer) => return Err(answer),
+    };
+    let head = line.head();
+    let Ok(next) = next_record(alloc, &head, lease, key, moment, &grafted, offered, tag) else {
+        return Err(Answer::of(Outcome::NoMemory));
+    };
+    let Grafted {
+        root: _,
+        size,
+        added,
+    } = grafted;
+    match line.prepare(alloc, next, size, added.into_vec()) {
+        Ok(head) => Ok(head),
+        Err(fault) => Err(Answer::of(Outcome::of_store(fault))),
+    }
+}

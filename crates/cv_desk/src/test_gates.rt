@@ -1,0 +1,67 @@
+//! A gate over a vault in memory, as the tests ask it.
+ghost use Rattle.std.specs.Prelude.{◌<◌, ◌^◌, IfOk};
+ghost use Rattle.cv_gate.specs.Step.{IsOp};
+
+use crate::Gate;
+use cv_base::{Name, RepoPath, Text, Token};
+use cv_gate::{Op, Reply};
+use cv_seal::KeyedHash;
+use cv_swap::Line;
+use cv_vault::MemoryVault;
+use std::alloc::Global;
+use std::test::Fail;
+
+/// A gate over a vault in memory.
+pub(crate) type TestGate = Gate<MemoryVault, KeyedHash>;
+
+/// The moment at which each row begins.
+pub(crate) const START: u64 = 1_700_000_000;
+
+/// The first lease of the first opening.
+pub(crate) const FIRST_LEASE: Token = Token {
+    epoch: 1,
+    number: 1,
+};
+
+fn name(alloc: Global) -> Result<Name, Fail> {
+    match Name::read(alloc, "sw.example.org")? {
+        Some(name) => Ok(name),
+        None => Err(Fail::new("no name")),
+    }
+}
+
+fn open(alloc: Global, vault: MemoryVault) -> Result<TestGate, Fail> {
+    let signer = KeyedHash::new(String::from_str(alloc, "seal")?);
+    match Gate::open(vault, alloc, name(alloc)?, signer) {
+        Ok(gate) => Ok(gate),
+        Err(_) => Err(Fail::new("not opened")),
+    }
+}
+
+/// The gate of a repository that is made and opened in an empty vault.
+pub(crate) fn made(alloc: Global) -> Result<TestGate, Fail> {
+    let signer = KeyedHash::new(String::from_str(alloc, "seal")?);
+    let vault = MemoryVault::new(alloc, Vec::new(alloc))?;
+    match Line::init(vault, alloc, &name(alloc)?, &signer, START) {
+        Ok(vault) => open(alloc, vault),
+        Err(_) => Err(Fail::new("not made")),
+    }
+}
+
+/// What a gate says to an op.
+pub(crate) fn ask(gate: &mut TestGate, seat: u32, now: u64, op: Op) -> Reply
+    requires moment { now < 2 ^ 62 }
+    requires op { IsOp op }
+{
+    gate.step(seat, now, op)
+}
+
+/// The op of asking a lease of `k1` on the path of this text.
+pub(crate) fn lease(alloc: Global, text: &str) -> Result<Op, Fail>
+    ensures { IfOk result (λ o. IsOp o) }
+{
+    Ok(Op::Lease {
+        key: Text::from_str(alloc, "k1")?,
+        path: RepoPath::read(alloc, text)?,
+    })
+}
