@@ -6,7 +6,7 @@ use Rattle.cv_base.specs.declared.token.Token.{Token}
 use Rattle.cv_base.specs.declared.memory.NoMemory.{NoMemory}
 use Rattle.cv_gate.specs.declared.op.Op.{Op}
 use Rattle.cv_messages.specs.Spelling.{IsToken, token_of}
-use Rattle.cv_messages.proofs.Spellings.{token_of-token_text, token_of-None}
+use Rattle.cv_messages.proofs.Laws.{token_of-token_text, token_of-None}
 use Rattle.cv_session.specs.Denials.{Asks, Denies}
 use Rattle.cv_session.specs.Turns.{IsGood, token_by}
 use Rattle.cv_session.specs.declared.denial.Denial.{Denial}

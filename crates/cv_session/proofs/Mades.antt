@@ -1,12 +1,11 @@
 -- Calls of a desk, one after another.
-use Rattle.std.proofs.Common.{◌≡◌, ◌++◌, ◌∷◌, ℕ, List, [], refl, ap, sym, subst, ◌∙◌, append-nil, arith}
+use Rattle.std.proofs.Common.{◌++◌, ◌∷◌, ℕ, List, [], refl, sym, subst, arith}
 use Rattle.std.specs.Prelude.{Option}
 use Rattle.std.proofs.lemmas.List.Sums.{sum_by-append}
 use Rattle.std.proofs.lemmas.Grind.{flat_map-append}
-use Rattle.cv_base.specs.Counts.{Rose}
 use Rattle.cv_ports.specs.Moments.{advanced}
-use Rattle.cv_gate.specs.Desk.{Call, moments_in, moments_of, faults_in, faults_of}
-use Rattle.cv_session.specs.Standing.{Standing, Gives, IsReadOn, Made}
+use Rattle.cv_gate.specs.Desk.{Call, moments_in, moments_of, faults_in}
+use Rattle.cv_session.specs.Standing.{Standing, Gives, Made}
 
 pub gives_on : (moments more : List ℕ) (clock mid last : Option (ℕ → ℕ)) → Gives clock moments mid → Gives mid more last → Gives clock (moments ++ more) last
 gives_on [] more clock mid last gives then = subst (λ (x : Option (ℕ → ℕ)). Gives x more last) gives then

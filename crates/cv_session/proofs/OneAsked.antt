@@ -1,19 +1,16 @@
 -- What bytes ask is one thing.
 use Rattle.std.proofs.Common.{◌≡◌, ◌+◌, ◌++◌, ◌∷◌, ℕ, List, [], length, refl, ap, sym, subst, ◌∙◌, arith, length-append, true, false, inl, inr}
 use Rattle.std.specs.Prelude.{Bool, ◌⊎◌}
-use Rattle.std.specs.declared.option.Option.TheVariants.{Some, None}
+use Rattle.std.specs.declared.option.Option.TheVariants.{Some}
 use Rattle.cv_base.proofs.Parts.{same_parts}
-use Rattle.cv_http.specs.Heads.{Begins}
 use Rattle.cv_http.specs.declared.head.RequestHead.{RequestHead}
 use Rattle.cv_http.specs.declared.fault.HttpFault.{HttpFault}
-use Rattle.cv_http.specs.declared.fault.HttpFault.TheVariants.{BadHead}
 use Rattle.cv_http.specs.declared.code.Code.{Code}
 use Rattle.cv_http.proofs.Lemmas.{one_head, not_refused, not_cut, empty_begun, empty_refused, one_refusal, refused_in_target}
 use Rattle.cv_keys.specs.declared.key.Key.{Key}
 use Rattle.cv_session.specs.Asking.{Turned, refusing, IsNext, Opens, EndsWith, clean, closed, refused, cut, IsAsked}
 use Rattle.cv_session.specs.OneAsked.{IsOpen, IsOpenBehind, IsOne}
 use Rattle.cv_session.specs.Exchanges.{ends}
-use Rattle.cv_session.specs.Payloads.{is_payload}
 use Rattle.cv_session.specs.Requests.{Request, body_size, body_limit, waits, IsRequest, IsBad, head_refused, body_refused, EndsInside, inside_head, inside_body, WantsAny, payload, other, code_of_fault}
 use Rattle.cv_session.specs.declared.session_end.SessionEnd.{SessionEnd}
 use Rattle.cv_session.specs.declared.session_end.SessionEnd.TheVariants.{Bad}
@@ -86,13 +83,13 @@ module _ (repository : List ℕ) (keys : List Key) where
 
   one_bad : (b : List ℕ) (fault fault' : HttpFault) → IsBad b fault → IsBad b fault' → (fault ≡ fault') ⊎ IsOpen b
   one_bad b _ _ (head_refused fault refused_) (head_refused fault' refused') =
-      elim (one_refusal b fault fault' refused_ refused') [ inl same ↦ inl same | inr open_ ↦ inr (record { ends_ = open_.1 }) ]
+      elim (one_refusal b fault fault' refused_ refused') [ inl same ↦ inl same | inr open_ ↦ inr (record { never = open_.1; ends_ = open_.2 }) ]
   one_bad b _ _ (head_refused fault refused_) (body_refused head later begins large) = absurd (not_refused b later head fault begins refused_)
   one_bad b _ _ (body_refused head later begins large) (head_refused fault refused_) = absurd (not_refused b later head fault begins refused_)
   one_bad b _ _ (body_refused head later begins large) (body_refused head' later' begins' large') = inl refl
 
   bad_inside : (b : List ℕ) (fault : HttpFault) (line : Bool) → IsBad b fault → EndsInside b line → IsOpen b
-  bad_inside b _ _ (head_refused fault refused_) (inside_head cut_) = record { ends_ = (refused_in_target b fault refused_ cut_).1 }
+  bad_inside b _ _ (head_refused fault refused_) (inside_head cut_) = let open_ = refused_in_target b fault refused_ cut_ in record { never = open_.1; ends_ = open_.2 }
   bad_inside b _ _ (head_refused fault refused_) (inside_body head later begins limit short) = absurd (not_refused b later head fault begins refused_)
   bad_inside b _ _ (body_refused head later begins large) (inside_head cut_) = absurd (not_cut b later head begins cut_)
   bad_inside b _ _ (body_refused head later begins large) (inside_body head' later' begins' limit short) =

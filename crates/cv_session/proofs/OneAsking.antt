@@ -15,7 +15,7 @@ use Rattle.cv_http.specs.declared.method.Method.{Method}
 use Rattle.cv_http.specs.declared.method.Method.TheVariants.{Get, Post, Delete, Other}
 use Rattle.cv_keys.specs.declared.key.Key.{Key}
 use Rattle.cv_session.specs.Targets.{manifest_name, lease_target, leases_target, repositories_target, Names, manifest, object}
-use Rattle.cv_session.specs.Turns.{Wants, end_turn, unknown_method, resource, repositories, leases, nothing_there, lease, no_post, end, no_delete}
+use Rattle.cv_session.specs.Turns.{Wants, commit_turn, end_turn, unknown_method, resource, repositories, leases, nothing_there, lease, commit, no_post, end, no_delete}
 use Rattle.cv_session.specs.declared.target.Resource.{Resource}
 use Rattle.cv_session.specs.declared.target.Resource.TheVariants.{Object}
 use Rattle.cv_session.specs.declared.turn.Turn.{Turn}
@@ -82,6 +82,13 @@ not_leases repository target r names e =
 not_both : (target : List ℕ) → target ≡ repositories_target → target ≡ leases_target → ⊥
 not_both target e e' = let first : 114 ≡ 108 = ap (λ l. slice_index_or l 8 0) (sym e ∙ e') in omega (arith, first)
 
+-- behind the target of the leases stands a slash, and then the text of a token
+not_of_lease : (target text : List ℕ) → target ≡ leases_target → target ≡ lease_target text → ⊥
+not_of_lease target text e e' = let first : 0 ≡ 47 = ap (λ l. slice_index_or l 14 0) (sym e ∙ e') in omega (arith, first)
+
+one_text : (target text text' : List ℕ) → target ≡ lease_target text → target ≡ lease_target text' → text ≡ text'
+one_text target text text' e e' = append_cancel_left (lease_target (codes "")) text text' (sym e ∙ e')
+
 module _ (repository : List ℕ) (keys : List Key) (head : RequestHead) (body : List ℕ) where
   abbrev method_of : (turn : Turn) → Wants repository keys head body turn → Method
   method_of _ (unknown_method m) = Other
@@ -90,7 +97,8 @@ module _ (repository : List ℕ) (keys : List Key) (head : RequestHead) (body : 
   method_of _ (leases m e) = Get
   method_of _ (nothing_there m none) = Get
   method_of _ (lease m e) = Post
-  method_of _ (no_post m other) = Post
+  method_of _ (commit text m e) = Post
+  method_of _ (no_post m other none) = Post
   method_of _ (end text m e) = Delete
   method_of _ (no_delete m none) = Delete
 
@@ -101,7 +109,8 @@ module _ (repository : List ℕ) (keys : List Key) (head : RequestHead) (body : 
   method_is _ (leases m e) = m
   method_is _ (nothing_there m none) = m
   method_is _ (lease m e) = m
-  method_is _ (no_post m other) = m
+  method_is _ (commit text m e) = m
+  method_is _ (no_post m other none) = m
   method_is _ (end text m e) = m
   method_is _ (no_delete m none) = m
 
@@ -129,12 +138,18 @@ module _ (repository : List ℕ) (keys : List Key) (head : RequestHead) (body : 
   one_turn _ _ (nothing_there m none) (nothing_there m' none') = refl
   one_turn _ turn' (nothing_there m none) w' = let other = method_is turn' w' in cc
   one_turn _ _ (lease m e) (lease m' e') = refl
-  one_turn _ _ (lease m e) (no_post m' other') = absurd (other' e)
+  one_turn _ _ (lease m e) (commit text' m' e') = absurd (not_of_lease head.target text' e e')
+  one_turn _ _ (lease m e) (no_post m' other' none') = absurd (other' e)
   one_turn _ turn' (lease m e) w' = let other = method_is turn' w' in cc
-  one_turn _ _ (no_post m other) (lease m' e') = absurd (other e')
-  one_turn _ _ (no_post m other) (no_post m' other') = refl
-  one_turn _ turn' (no_post m other) w' = let other = method_is turn' w' in cc
-  one_turn _ _ (end text m e) (end text' m' e') = ap (end_turn keys head.authorization) (append_cancel_left (lease_target (codes "")) text text' (sym e ∙ e'))
+  one_turn _ _ (commit text m e) (lease m' e') = absurd (not_of_lease head.target text e' e)
+  one_turn _ _ (commit text m e) (commit text' m' e') = ap (λ t. commit_turn keys head.authorization t body) (one_text head.target text text' e e')
+  one_turn _ _ (commit text m e) (no_post m' other' none') = absurd (none' text e)
+  one_turn _ turn' (commit text m e) w' = let other = method_is turn' w' in cc
+  one_turn _ _ (no_post m other none) (lease m' e') = absurd (other e')
+  one_turn _ _ (no_post m other none) (commit text' m' e') = absurd (none text' e')
+  one_turn _ _ (no_post m other none) (no_post m' other' none') = refl
+  one_turn _ turn' (no_post m other none) w' = let other = method_is turn' w' in cc
+  one_turn _ _ (end text m e) (end text' m' e') = ap (end_turn keys head.authorization) (one_text head.target text text' e e')
   one_turn _ _ (end text m e) (no_delete m' none') = absurd (none' text e)
   one_turn _ turn' (end text m e) w' = let other = method_is turn' w' in cc
   one_turn _ _ (no_delete m none) (end text' m' e') = absurd (none text' e')

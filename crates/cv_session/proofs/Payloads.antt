@@ -1,6 +1,6 @@
 -- Reading a payload.
-use Rattle.std.proofs.Common.{◌≡◌, ◌≤◌, ◌<◌, ◌+◌, ◌-◌, ◌++◌, ◌∷◌, ℕ, zero, suc, List, [], length, take, drop, refl, ap, sym, subst, ◌∙◌, arith, true, false, Ok, Err, append-nil, append_assoc, length-append}
-use Rattle.std.specs.Prelude.{Option, Bool, Result, IfOk, bytes_eq, min, ◌==◌, IsErrAnd, MatchResult}
+use Rattle.std.proofs.Common.{◌≡◌, ◌≤◌, ◌<◌, ◌+◌, ◌-◌, ◌++◌, ◌∷◌, ℕ, zero, suc, List, [], length, take, drop, refl, ap, sym, subst, ◌∙◌, arith, true, Ok, Err, append_assoc, length-append}
+use Rattle.std.specs.Prelude.{Option, Result, IfOk, bytes_eq, min, IsErrAnd, MatchResult}
 use Rattle.std.specs.declared.option.Option.TheVariants.{Some, None}
 use Rattle.std.specs.List.{AllByRecursion}
 use Rattle.std.proofs.lemmas.Slice.Eq.{bytes_eq-Decides}
@@ -10,11 +10,11 @@ use Rattle.std.proofs.Math.Seq.{take-append_seam, drop-append_seam}
 use Rattle.sha1.specs.Sha1.{sha1, Holds}
 use Rattle.sha1.specs.declared.Sha1.{Sha1}
 use Rattle.cv_base.specs.declared.object.Object.{Object}
-use Rattle.cv_http.specs.Faults.{IsBodyFault}
-use Rattle.cv_http.specs.Wires.{WireView, Reads, BodyRead, PieceRead}
+use Rattle.cv_ports.specs.Streams.{Look}
+use Rattle.cv_http.specs.Wires.{WireView, Reads, Looks, Beside, BodyRead, PieceRead}
 use Rattle.cv_http.specs.declared.fault.HttpFault.{HttpFault}
 use Rattle.cv_http.specs.declared.fault.HttpFault.TheVariants as http
-use Rattle.cv_http.proofs.Lemmas.{reads_then, reads_none}
+use Rattle.cv_http.proofs.Lemmas.{reads_then, reads_none, looks_as, looks_then, body_looks}
 use Rattle.cv_keys.specs.declared.key.Key.{Key}
 use Rattle.cv_answers.specs.declared.reason.Reason.TheVariants as reason
 use Rattle.cv_answers.specs.declared.refusal.Refusal.{Refusal}
@@ -29,7 +29,7 @@ use Rattle.cv_pack.specs.declared.pack_fault.PackFault.{PackFault}
 use Rattle.cv_pack.specs.declared.pack_fault.PackFault.TheVariants.{BadHeader, TooLarge, TooMany, HashDiffers, Short, Trailing, Duplicate, NoMemory}
 use Rattle.cv_pack.specs.declared.pack_reader.PackReader.{PackReader}
 use Rattle.cv_session.specs.Denials.{Denies}
-use Rattle.cv_session.specs.Payloads.{Came, ReadsBody, Says, fitting, message_size, payload_by_ask, payload_on, payload_from, payload_turn, refused_pack}
+use Rattle.cv_session.specs.Payloads.{Came, ReadsBody, LooksWithin, Says, fitting, message_size, payload_by_ask, payload_on, payload_from, payload_turn, refused_pack}
 use Rattle.cv_session.specs.Turns.{signed, denied, IsGood}
 use Rattle.cv_session.specs.declared.denial.Denial.{Denial}
 use Rattle.cv_session.specs.declared.denial.Denial.TheVariants.{Refused}
@@ -124,6 +124,27 @@ module _ {R : Type 0} (left : R → Option (List ℕ)) where
     told = came.told;
     are = (came.are.body, came.are.split, came.are.size ∙ is, makes came.are.body came.are.so);
   }
+
+-- ---- when the source is read
+
+module _ {R : Type 0} (left : R → Option (List ℕ)) (looks : R → Look → Type 0) where
+  -- one more read began where fewer bytes had come
+  pub came_looks : (w0 w w' : WireView R) (passed : Option (List ℕ)) (count size : ℕ) (So : List ℕ → Type 0) → LooksWithin left looks w0 w passed size → Reads left w0 w (λ b. Came count So b w.held) → count < size
+      → Looks left looks w w' (Beside passed (λ b. b ≡ [])) → LooksWithin left looks w0 w' passed size
+  came_looks w0 w w' passed count size So first came below then_ =
+      let so_many = came.are.size in
+      body_looks left looks w0 w w' passed came.are.body size first (record { got = came.got; told = came.told; are = came.are.split }) (omega (arith, so_many, below)) then_
+
+  -- the reads of a message, and those of what follows it
+  pub message_looks : (w0 w w' : WireView R) (passed : Option (List ℕ)) (size n : ℕ) (message : List ℕ) → n ≤ size → Looks left looks w0 w (Beside passed (λ b. length b < n))
+      → Reads left w0 w (λ b. BodyRead n (λ body made. made ≡ body) b w.held (Ok message)) → LooksWithin left looks w w' passed (size - n) → LooksWithin left looks w0 w' passed size
+  message_looks w0 w w' passed size n message within first reads then_ =
+      looks_then left looks w0 w w' (λ b. BodyRead n (λ body made. made ≡ body) b w.held (Ok message)) (Beside passed (λ b. length b < size - n)) (Beside passed (λ b. length b < size))
+      (looks_as left looks w0 w (Beside passed (λ b. length b < n)) (Beside passed (λ b. length b < size)) first (λ b passed' was. let below = was.0 in (omega (arith, below, within), was.1))) reads then_ (λ b more passed' was now.
+      let all : length (b ++ more) ≡ length was.0 + length (w.held ++ more) = ap length (ap (λ x. x ++ more) was.1 ∙ append_assoc was.0 w.held more) ∙ length-append was.0 (w.held ++ more) in
+      let count = was.2 in
+      let below = now.0 in
+      (omega (arith, all, count, below, within), now.1))
 
 -- what a pack that came was fed to
 abbrev pub Fed_ : PackReader → Sha1 → ℕ → List ℕ → Type 0

@@ -1,25 +1,25 @@
 -- Reading a request.
-use Rattle.std.proofs.Common.{◌≡◌, ◌≢◌, ◌<◌, ◌≤◌, ◌++◌, ◌∷◌, ℕ, List, [], length, refl, ap, sym, subst, ◌∙◌, append-nil, append_assoc, length-append, arith, true, false, Ok, Err}
-use Rattle.std.specs.Prelude.{Option, Bool, Result, ◌&&◌, bytes_eq, IfOk}
+use Rattle.std.proofs.Common.{◌≡◌, ◌≢◌, ◌<◌, ◌≤◌, ◌++◌, ℕ, List, [], length, refl, ap, sym, subst, ◌∙◌, append-nil, true, false, Ok, Err}
+use Rattle.std.specs.Prelude.{Option, Result}
 use Rattle.std.specs.declared.option.Option.TheVariants.{Some, None}
-use Rattle.cv_ports.specs.Streams.{onto, Wrote}
+use Rattle.cv_ports.specs.Streams.{Look, onto}
 use Rattle.cv_http.specs.Faults.{IsBodyFault, IsHeadFault}
-use Rattle.cv_http.specs.Heads.{Begins, Refused, IsCut}
-use Rattle.cv_http.specs.Wires.{WireView, Reads, HeadRead, BodyRead}
+use Rattle.cv_http.specs.Heads.{Begins, IsAwaited}
+use Rattle.cv_http.specs.Wires.{WireView, Reads, Looks, Beside, HeadRead, BodyRead}
 use Rattle.cv_http.specs.declared.head.RequestHead.{RequestHead}
 use Rattle.cv_http.specs.declared.fault.HttpFault.{HttpFault}
 use Rattle.cv_http.specs.declared.fault.HttpFault.TheVariants.{BadHead, HeadTooLarge, BodyTooLarge, NoLength, Coding, Short, ReadFault, NoMemory}
-use Rattle.cv_http.proofs.Lemmas.{begins_on, reads_as, reads_then}
+use Rattle.cv_http.proofs.Lemmas.{begins_on, reads_as, reads_then, looks_as, looks_then}
 use Rattle.cv_keys.specs.declared.key.Key.{Key}
-use Rattle.cv_session.specs.Payloads.{ReadsBody, Says, is_payload, payload_turn}
+use Rattle.cv_session.specs.Payloads.{ReadsBody, LooksWithin, Says, is_payload, payload_turn}
 use Rattle.cv_session.specs.Turns.{Wants, IsGood}
 use Rattle.cv_session.specs.declared.turn.Turn.{Turn}
-use Rattle.cv_session.specs.Requests.{Request, IsRequest, IsBad, head_refused, body_refused, EndsInside, inside_head, inside_body, Reached, before_head, behind_head, awaits_head, awaits_body, WantsAny, Asks, body_size, body_limit, waits, line_text}
+use Rattle.cv_session.specs.Requests.{head_refused, body_refused, inside_head, inside_body, Reached, before_head, behind_head, awaits_head, awaits_body, WantsAny, Asks, body_size, body_limit, waits, line_text}
 use Rattle.cv_session.specs.Requests.WantsAny.{payload as payload_wants, other as other_wants}
-use Rattle.cv_session.specs.Exchanges.{IsWhy, Gets, whole, ended, fault, unsaid, GetsBehind, behind, large, breaks, unsaid_behind}
+use Rattle.cv_session.specs.Exchanges.{IsWhy, IsAsking, IsAskingBehind, Gets, whole, ended, fault, unsaid, GetsBehind, behind, large, breaks, unsaid_behind}
 use Rattle.cv_session.specs.declared.request.Asked.{Asked}
 use Rattle.cv_session.specs.declared.request.Unread.{Unread}
-use Rattle.cv_session.specs.declared.request.Unread.TheVariants.{Fault, Unsaid}
+use Rattle.cv_session.specs.declared.request.Unread.TheVariants.{Fault}
 
 pub onto_nothing : (o : Option (List ℕ)) → o ≡ onto o []
 onto_nothing None = refl
@@ -131,3 +131,27 @@ module _ {R : Type 0} (left : R → Option (List ℕ)) (repository : List ℕ) (
 
   pub read_end : (w w' : WireView R) (taken : Option (List ℕ)) → Reads left w w' (λ b. HeadRead b w'.held (Ok None)) → Reads left w w' (λ b. Gets repository keys b w'.held taken taken (Ok None))
   read_end w w' taken read = reads_as left w w' _ _ read (λ b said. ended said.0 said.1 refl)
+
+-- ---- when the source is read
+
+module _ {R : Type 0} (left : R → Option (List ℕ)) (looks : R → Look → Type 0) where
+  -- for a head
+  pub asks_head : (w w' : WireView R) (taken passed : Option (List ℕ)) → passed ≡ taken → Looks left looks w w' (Beside passed IsAwaited) → Looks left looks w w' (IsAsking taken)
+  asks_head w w' taken passed was first =
+      looks_as left looks w w' (Beside passed IsAwaited) (IsAsking taken) first (λ b passed' is. record { line = false; awaits = awaits_head is.0; said = is.1 ∙ was ∙ onto_nothing taken })
+
+  -- for a body, where the line was said
+  pub asks_body : (w w' : WireView R) (head : RequestHead) (taken passed : Option (List ℕ)) → body_size head ≤ body_limit head → passed ≡ onto taken (line_text (waits head))
+      → LooksWithin left looks w w' passed (body_size head) → Looks left looks w w' (IsAskingBehind head taken)
+  asks_body w w' head taken passed limit said first =
+      looks_as left looks w w' (Beside passed (λ b. length b < body_size head)) (IsAskingBehind head taken) first (λ b passed' is. record { limit = limit; short = is.0; said = is.1 ∙ said })
+
+  -- for a head, and then for what follows it
+  pub asks_behind : (w0 w w' : WireView R) (taken : Option (List ℕ)) (head : RequestHead) → Looks left looks w0 w (IsAsking taken) → Reads left w0 w (λ b. HeadRead b w.held (Ok (Some head)))
+      → Looks left looks w w' (IsAskingBehind head taken) → Looks left looks w0 w' (IsAsking taken)
+  asks_behind w0 w w' taken head first reads then_ =
+      looks_then left looks w0 w w' (λ b. HeadRead b w.held (Ok (Some head))) (IsAskingBehind head taken) (IsAsking taken) first reads then_ (λ b more passed' begins is. record {
+        line = waits head;
+        awaits = awaits_body head (w.held ++ more) (begins_on more begins) is.limit is.short;
+        said = is.said;
+      })

@@ -1,30 +1,30 @@
 -- A session, exchange after exchange.
 use Rattle.std.proofs.Common.{◌≡◌, ◌+◌, ◌++◌, ◌∷◌, ℕ, suc, List, [], length, refl, ap, sym, subst, ◌∙◌, append-nil, append_assoc, arith, true, false, inl, inr, Ok, Err}
-use Rattle.std.specs.Prelude.{Option, Bool, ◌≢◌, ◌⊎◌, ◌||◌, is_some, Result, map, if◌then◌else◌}
+use Rattle.std.specs.Prelude.{Option, Bool, ◌≢◌, ◌⊎◌, ◌||◌, is_some, if◌then◌else◌}
 use Rattle.std.specs.declared.option.Option.TheVariants.{Some, None}
 use Rattle.std.specs.List.{AllByRecursion}
 use Rattle.std.proofs.lemmas.Bool.Decides.{nat_tests}
 use Rattle.std.proofs.lemmas.List.{length-append, map-append}
 use Rattle.std.proofs.lemmas.Grind.{flat_map-append}
-use Rattle.cv_ports.specs.Streams.{onto, Wrote}
+use Rattle.cv_ports.specs.Streams.{Look, onto, Wrote}
 use Rattle.cv_ports.proofs.Streams.{onto_twice, wrote_back}
 use Rattle.cv_http.specs.Heads.{Begins}
 use Rattle.cv_http.specs.Replies.{continue_line}
-use Rattle.cv_http.specs.Wires.{WireView, Reads}
+use Rattle.cv_http.specs.Wires.{WireView, Reads, Looks}
 use Rattle.cv_http.specs.declared.fault.HttpFault.{HttpFault}
 use Rattle.cv_http.specs.declared.fault.HttpFault.TheVariants.{BadHead, HeadTooLarge, BodyTooLarge, NoLength, Coding, Short, ReadFault as Unread_, NoMemory as Lacking}
 use Rattle.cv_http.specs.declared.code.Code.{Code}
-use Rattle.cv_http.proofs.Lemmas.{begins_on, reads_none, reads_then}
+use Rattle.cv_http.proofs.Lemmas.{begins_on, looks_none, looks_as, looks_then}
 use Rattle.cv_keys.specs.declared.key.Key.{Key}
 use Rattle.cv_gate.specs.Desk.{Call}
-use Rattle.cv_session.specs.Asking.{Turned, refusing, IsNext, Opens, EndsWith, clean, closed, cut, IsAsked}
+use Rattle.cv_session.specs.Asking.{Turned, refusing, IsNext, Opens, clean, closed, cut}
 use Rattle.cv_session.specs.Asking.EndsWith.{refused as asked_refused}
-use Rattle.cv_session.specs.Exchanges.{IsWhy, Gets, fault, request_limit, ends, is_full, end_after, Sends, whole, front, nothing, Handles, answered, unanswered, EndsBy, refused, broken_off, cut_short, not_read, no_memory, not_said}
+use Rattle.cv_session.specs.Exchanges.{IsWhy, IsAsking, Gets, fault, request_limit, ends, is_full, end_after, whole, front, nothing, Handles, answered, unanswered, EndsBy, refused, broken_off, cut_short, not_read, no_memory, not_said}
 use Rattle.cv_session.specs.Exchanges.Gets.{whole as read_whole, ended as read_end, unsaid as line_unsaid}
-use Rattle.cv_session.specs.Requests.{Request, IsRequest, IsBad, EndsInside, Reached, before_head, WantsAny, waits, line_text, code_of_fault}
-use Rattle.cv_session.specs.Responses.{Does, Answers, unsaid, reply_of}
+use Rattle.cv_session.specs.Requests.{Request, IsRequest, IsBad, Reached, waits, line_text, code_of_fault}
+use Rattle.cv_session.specs.Responses.{Does, unsaid, reply_of}
 use Rattle.cv_session.specs.Responses.{refused as refusal}
-use Rattle.cv_session.specs.Sessions.{Exchange, turns, calls_of, is_last, saying, sayings, IsAnswered, Comes, Opened, Ended, by_bytes, full, unread, broken, broken_line, forgotten, silent, Session}
+use Rattle.cv_session.specs.Sessions.{Exchange, turns, calls_of, is_last, saying, sayings, IsAnswered, Opened, Ended, by_bytes, full, unread, broken, broken_line, forgotten, silent, IsUpToDate, ReadsUpToDate, Session}
 use Rattle.cv_session.specs.Sessions.Comes.{request as next_request, fault as next_fault}
 use Rattle.cv_session.specs.Standing.{Standing, Made}
 use Rattle.cv_session.specs.declared.response.Response.{Response}
@@ -80,6 +80,9 @@ module _ (repository : List ℕ) (keys : List Key) where
       let number : n + length (u ∷ ts) + 1 ≡ n + 1 + length ts + 1 = omega arith in
       (o.0, o.1, o.2, opens_push (n + 1) o.0 ts rest t later o.3 (subst (λ k. IsNext repository keys k rest t later) number next) goes)
 
+opened_more : {repository : List ℕ} {keys : List Key} {seal : List ℕ → List ℕ} {b : List ℕ} {es : List Exchange} {rest : List ℕ} (more : List ℕ) → Opened repository keys seal b es rest → Opened repository keys seal (b ++ more) es (rest ++ more)
+opened_more {repository} {keys} {b = b} {es} {rest} more o = record { opens = opens_more repository keys 0 b (turns es) rest more o.opens; open_ = o.open_ }
+
 -- a fault and its answer
 refusing_one : Code → Exchange
 refusing_one code = record { asked = refusing code; calls = []; answer = Fixed code }
@@ -114,7 +117,12 @@ not_ended answer last n h = grind (arith, nat_tests)
 
 -- ---- the session so far
 
-pub record SoFar {K : Type 0} (does : K → List Call → K → Type 0) (repository : List ℕ) (keys : List Key) (seal : List ℕ → List ℕ) (b held : List ℕ) (taken : Option (List ℕ)) (before : Standing K) (count : ℕ)
+-- what fits the exchanges fits one more
+abbrev pub Grows : (List Exchange → Type 0) → Type 0
+Grows Fit = (es : List Exchange) (e : Exchange) → Fit es → Fit (es ++ e ∷ [])
+
+pub record SoFar {K : Type 0} (does : K → List Call → K → Type 0) (repository : List ℕ) (keys : List Key) (seal : List ℕ → List ℕ) (Fit : List Exchange → Type 0) (b held : List ℕ) (taken : Option (List ℕ))
+    (before : Standing K) (count : ℕ)
     (taken' : Option (List ℕ)) (after : Standing K) : Type 0 where
   pub exchanges : List Exchange
   pub answered_ : AllByRecursion (IsAnswered repository keys seal) exchanges
@@ -122,21 +130,25 @@ pub record SoFar {K : Type 0} (does : K → List Call → K → Type 0) (reposit
   pub number : length exchanges ≡ count
   pub said : taken' ≡ onto taken (sayings exchanges)
   pub made : Made does before (calls_of exchanges) after
+  pub reads : Fit exchanges
 
 -- how the session comes out, or how it goes on
-abbrev pub ComesOut : {K : Type 0} (does : K → List Call → K → Type 0) (repository : List ℕ) (keys : List Key) (seal : List ℕ → List ℕ) (b held : List ℕ) (taken : Option (List ℕ)) (before : Standing K) (count : ℕ)
+abbrev pub ComesOut : {K : Type 0} (does : K → List Call → K → Type 0) (repository : List ℕ) (keys : List Key) (seal : List ℕ → List ℕ) (Fit : List Exchange → Type 0) (b held : List ℕ) (taken : Option (List ℕ))
+    (before : Standing K) (count : ℕ)
     (taken' : Option (List ℕ)) (after : Standing K) → Option SessionEnd → Type 0
-ComesOut does repository keys seal b held taken before count taken' after None = SoFar does repository keys seal b held taken before count taken' after
-ComesOut does repository keys seal b held taken before count taken' after (Some end) = Session does repository keys seal b held taken taken' before after end
+ComesOut does repository keys seal Fit b held taken before count taken' after None = SoFar does repository keys seal Fit b held taken before count taken' after
+ComesOut does repository keys seal Fit b held taken before count taken' after (Some end) = Session does repository keys seal Fit b held taken taken' before after end
 
-pub begin : {K : Type 0} (does : K → List Call → K → Type 0) → HasNone does → (repository : List ℕ) (keys : List Key) (seal : List ℕ → List ℕ) (b : List ℕ) (o : Option (List ℕ)) (s : Standing K) → SoFar does repository keys seal b b o s 0 o s
-begin does none repository keys seal b o s = record {
+pub begin : {K : Type 0} (does : K → List Call → K → Type 0) → HasNone does → (repository : List ℕ) (keys : List Key) (seal : List ℕ → List ℕ) (Fit : List Exchange → Type 0) → Fit [] → (b : List ℕ) (o : Option (List ℕ)) (s : Standing K)
+    → SoFar does repository keys seal Fit b b o s 0 o s
+begin does none repository keys seal Fit fits b o s = record {
   exchanges = [];
   answered_ = tt;
   opened = record { opens = refl; open_ = tt };
   number = refl;
   said = onto_nothing o;
   made = made_none does none s;
+  reads = fits;
 }
 
 -- a fault that has a reply is one by which bytes are refused, and no line was written
@@ -150,20 +162,21 @@ has_reply b line Short code has why = cc
 has_reply b line Unread_ code has why = cc
 has_reply b line Lacking code has why = cc
 
-module _ {K : Type 0} {does : K → List Call → K → Type 0} {repository : List ℕ} {keys : List Key} {seal : List ℕ → List ℕ} {taken : Option (List ℕ)} {before : Standing K} where
+module _ {K : Type 0} {does : K → List Call → K → Type 0} {repository : List ℕ} {keys : List Key} {seal : List ℕ → List ℕ} {Fit : List Exchange → Type 0} {taken : Option (List ℕ)} {before : Standing K} where
   -- the same over more bytes
-  pub so_more : {b held : List ℕ} {count : ℕ} {taken' : Option (List ℕ)} {after : Standing K} (more : List ℕ) → SoFar does repository keys seal b held taken before count taken' after
-      → SoFar does repository keys seal (b ++ more) (held ++ more) taken before count taken' after
+  pub so_more : {b held : List ℕ} {count : ℕ} {taken' : Option (List ℕ)} {after : Standing K} (more : List ℕ) → SoFar does repository keys seal Fit b held taken before count taken' after
+      → SoFar does repository keys seal Fit (b ++ more) (held ++ more) taken before count taken' after
   so_more {b} {held} more s = record {
     exchanges = s.exchanges;
     answered_ = s.answered_;
-    opened = record { opens = opens_more repository keys 0 b (turns s.exchanges) held more s.opened.opens; open_ = s.opened.open_ };
+    opened = opened_more more s.opened;
     number = s.number;
     said = s.said;
     made = s.made;
+    reads = s.reads;
   }
 
-  module _ (follows : HasMore does) {b later : List ℕ} {count : ℕ} {taken' : Option (List ℕ)} {after : Standing K} (s : SoFar does repository keys seal b later taken before count taken' after) where
+  module _ (follows : HasMore does) (grows : Grows Fit) {b later : List ℕ} {count : ℕ} {taken' : Option (List ℕ)} {after : Standing K} (s : SoFar does repository keys seal Fit b later taken before count taken' after) where
     -- what was said, with the line of a request or without it
     said_line : (line : Bool) (taken'' : Option (List ℕ)) → taken'' ≡ onto taken' (line_text line) → taken'' ≡ onto taken (sayings s.exchanges ++ line_text line)
     said_line line taken'' took = took ∙ ap (λ o. onto o (line_text line)) s.said ∙ onto_twice taken (sayings s.exchanges) (line_text line)
@@ -185,28 +198,29 @@ module _ {K : Type 0} {does : K → List Call → K → Type 0} {repository : Li
     made_last {after'} e made = subst (λ (calls : List Call). Made does before calls after') (sym (append-nil (calls_of (s.exchanges ++ e ∷ [])))) (made_one e made)
 
     -- the session ends with these exchanges
-    ends_here : {held : List ℕ} {taken'' : Option (List ℕ)} {end : SessionEnd} → Ended repository keys seal b held taken s.exchanges [] taken'' end → Session does repository keys seal b held taken taken'' before after end
-    ends_here ended_ = record { exchanges = s.exchanges; answered = s.answered_; others = []; ended = ended_; made = made_same }
+    ends_here : {held : List ℕ} {taken'' : Option (List ℕ)} {end : SessionEnd} → Ended repository keys seal b held taken s.exchanges [] taken'' end → Session does repository keys seal Fit b held taken taken'' before after end
+    ends_here ended_ = record { exchanges = s.exchanges; answered = s.answered_; others = []; ended = ended_; made = made_same; reads = s.reads }
 
     ends_beside : {held : List ℕ} {taken'' : Option (List ℕ)} {after' : Standing K} {end : SessionEnd} (calls : List Call) → Made does after calls after' → Ended repository keys seal b held taken s.exchanges calls taken'' end
-        → Session does repository keys seal b held taken taken'' before after' end
-    ends_beside calls made ended_ = record { exchanges = s.exchanges; answered = s.answered_; others = calls; ended = ended_; made = made_more calls made }
+        → Session does repository keys seal Fit b held taken taken'' before after' end
+    ends_beside calls made ended_ = record { exchanges = s.exchanges; answered = s.answered_; others = calls; ended = ended_; made = made_more calls made; reads = s.reads }
 
     -- the session ends with one exchange more
     ends_with_one : {held : List ℕ} {taken'' : Option (List ℕ)} {after' : Standing K} {end : SessionEnd} (e : Exchange) → IsAnswered repository keys seal e → Made does after e.calls after'
-        → Ended repository keys seal b held taken (s.exchanges ++ e ∷ []) [] taken'' end → Session does repository keys seal b held taken taken'' before after' end
+        → Ended repository keys seal b held taken (s.exchanges ++ e ∷ []) [] taken'' end → Session does repository keys seal Fit b held taken taken'' before after' end
     ends_with_one e is made ended_ = record {
       exchanges = s.exchanges ++ e ∷ [];
       answered = all_push (IsAnswered repository keys seal) s.exchanges e s.answered_ is;
       others = [];
       ended = ended_;
       made = made_last e made;
+      reads = grows s.exchanges e s.reads;
     }
 
     said_last : (e : Exchange) (taken'' : Option (List ℕ)) → taken'' ≡ onto taken' (saying e) → taken'' ≡ onto taken (sayings (s.exchanges ++ e ∷ []) ++ line_text false)
     said_last e taken'' took = said_one e taken'' took ∙ ap (onto taken) (sym (append-nil (sayings (s.exchanges ++ e ∷ []))))
 
-    pub ends_clean : {held : List ℕ} {taken'' : Option (List ℕ)} → later ≡ [] → taken'' ≡ taken' → Session does repository keys seal b held taken taken'' before after Clean
+    pub ends_clean : {held : List ℕ} {taken'' : Option (List ℕ)} → later ≡ [] → taken'' ≡ taken' → Session does repository keys seal Fit b held taken taken'' before after Clean
     ends_clean {taken'' = taken''} none same =
         ends_here
         (by_bytes false Clean taken''
@@ -215,7 +229,7 @@ module _ {K : Type 0} {does : K → List Call → K → Type 0} {repository : Li
 
     -- a fault is answered
     module _ (none : HasNone does) (why : HttpFault) (code : Code) (is_bad : IsBad later why) (has_code : code_of_fault why ≡ Some code) where
-      ends_bad : {held : List ℕ} (taken'' : Option (List ℕ)) → taken'' ≡ onto taken' (reply_of (Fixed code) true) → Session does repository keys seal b held taken taken'' before after (Bad why)
+      ends_bad : {held : List ℕ} (taken'' : Option (List ℕ)) → taken'' ≡ onto taken' (reply_of (Fixed code) true) → Session does repository keys seal Fit b held taken taken'' before after (Bad why)
       unfolding refusing_one
       ends_bad taken'' took =
           ends_with_one (refusing_one code) (refusal code) (made_none does none after)
@@ -230,7 +244,7 @@ module _ {K : Type 0} {does : K → List Call → K → Type 0} {repository : Li
           })
           (all_push IsGoing s.exchanges (refusing_one code) s.opened.open_ refl) (said_last (refusing_one code) taken'' took))
 
-      breaks_refusing : {held : List ℕ} (taken'' : Option (List ℕ)) → Wrote taken' taken'' (reply_of (Fixed code) true) → Session does repository keys seal b held taken taken'' before after WriteFault
+      breaks_refusing : {held : List ℕ} (taken'' : Option (List ℕ)) → Wrote taken' taken'' (reply_of (Fixed code) true) → Session does repository keys seal Fit b held taken taken'' before after WriteFault
       unfolding refusing_one
       breaks_refusing taken'' took =
           ends_beside [] (made_none does none after)
@@ -243,7 +257,7 @@ module _ {K : Type 0} {does : K → List Call → K → Type 0} {repository : Li
 
     -- the session ends where no turn was read
     by_fault_end : (none : HasNone does) {held : List ℕ} (why : HttpFault) (line : Bool) (taken1 taken2 : Option (List ℕ)) (end : SessionEnd) → Reached later line → IsWhy later line why → taken1 ≡ onto taken' (line_text line)
-        → EndsBy (Fault why) taken1 taken2 end → Session does repository keys seal b held taken taken2 before after end
+        → EndsBy (Fault why) taken1 taken2 end → Session does repository keys seal Fit b held taken taken2 before after end
     by_fault_end none why line taken1 taken2 _ reached is took (refused other code same has said) =
         let here : why ≡ other = cc in
         let refuses = has_reply later line other code has (subst (IsWhy later line) here is) in
@@ -272,7 +286,7 @@ module _ {K : Type 0} {does : K → List Call → K → Type 0} {repository : Li
     by_fault_end none why line taken1 taken2 _ reached is took (not_said same stays) = cc
 
     by_line_end : {held : List ℕ} (taken1 taken2 : Option (List ℕ)) (end : SessionEnd) → Reached later true → Wrote taken' taken1 continue_line
-        → EndsBy Unsaid taken1 taken2 end → Session does repository keys seal b held taken taken2 before after end
+        → EndsBy Unsaid taken1 taken2 end → Session does repository keys seal Fit b held taken taken2 before after end
     by_line_end taken1 taken2 _ reached took (refused other code same has said) = cc
     by_line_end taken1 taken2 _ reached took (broken_off other code same has said) = cc
     by_line_end taken1 taken2 _ reached took (cut_short same stays) = cc
@@ -284,13 +298,13 @@ module _ {K : Type 0} {does : K → List Call → K → Type 0} {repository : Li
         (subst (λ (o : Option (List ℕ)). Wrote o taken2 continue_line) s.said (subst (λ (o : Option (List ℕ)). Wrote taken' o continue_line) (sym stays) took)))
 
     pub ends_by : (none : HasNone does) {held : List ℕ} {taken1 taken2 : Option (List ℕ)} {why : Unread} {end : SessionEnd} → Gets repository keys later held taken' taken1 (Err why)
-        → EndsBy why taken1 taken2 end → Session does repository keys seal b held taken taken2 before after end
+        → EndsBy why taken1 taken2 end → Session does repository keys seal Fit b held taken taken2 before after end
     ends_by none {taken1 = taken1} {taken2 = taken2} {end = end} (fault why line reached is took) by = by_fault_end none why line taken1 taken2 end reached is took by
     ends_by none {taken1 = taken1} {taken2 = taken2} {end = end} (line_unsaid reached took) by = by_line_end taken1 taken2 end reached took by
 
     -- one request more
     module _ {held : List ℕ} (t : Turned) (next : IsNext repository keys (length s.exchanges + 1) later t held) {taken1 : Option (List ℕ)} (took_line : taken1 ≡ onto taken' (line_text t.waited)) {after' : Standing K} where
-      nothing_said : {taken2 : Option (List ℕ)} → Does does repository seal t.what None after after' → taken2 ≡ taken1 → Session does repository keys seal b held taken taken2 before after' NoMemory
+      nothing_said : {taken2 : Option (List ℕ)} → Does does repository seal t.what None after after' → taken2 ≡ taken1 → Session does repository keys seal Fit b held taken taken2 before after' NoMemory
       nothing_said {taken2} d same = ends_beside d.calls d.made (silent t d.calls later taken2 s.opened next d.answers (said_line t.waited taken2 (same ∙ took_line)))
 
       module _ (answer : Response) (d : Does does repository seal t.what (Some answer) after after') where
@@ -304,7 +318,7 @@ module _ {K : Type 0} {does : K → List Call → K → Type 0} {repository : Li
 
         -- the reply was said
         pub whole_comes : (end : Option SessionEnd) (taken2 : Option (List ℕ)) → end ≡ end_after answer t.last
-            → taken2 ≡ onto taken1 (reply_of answer (is_some end)) → ComesOut does repository keys seal b held taken before (count + 1) taken2 after' end
+            → taken2 ≡ onto taken1 (reply_of answer (is_some end)) → ComesOut does repository keys seal Fit b held taken before (count + 1) taken2 after' end
         unfolding one
         whole_comes None taken2 end_is took =
             let goes = goes_of (is_full answer) t.last end_is in
@@ -324,16 +338,17 @@ module _ {K : Type 0} {does : K → List Call → K → Type 0} {repository : Li
               number = length-append s.exchanges (one ∷ []) ∙ ap (λ n. n + 1) s.number;
               said = said_one one taken2 said;
               made = made_one one d.made;
+              reads = grows s.exchanges one s.reads;
             }
         whole_comes (Some end) taken2 end_is took =
             let closes : is_some (end_after answer t.last) ≡ is_last one = sym (last_of (is_full answer) t.last) in
             let said = takes_both taken2 (took ∙ ap (λ l. onto taken1 (reply_of answer l)) (ap is_some end_is ∙ closes)) in
             elim (end_of (is_full answer) t.last end end_is) [
               | inl is ↦
-                  subst (λ (x : SessionEnd). Session does repository keys seal b held taken taken2 before after' x) (sym is.1)
+                  subst (λ (x : SessionEnd). Session does repository keys seal Fit b held taken taken2 before after' x) (sym is.1)
                   (ends_with_one one d.answers d.made (full s.exchanges one later taken2 refl s.opened next is.0 (said_one one taken2 said)))
               | inr is ↦
-                  subst (λ (x : SessionEnd). Session does repository keys seal b held taken taken2 before after' x) (sym is.2)
+                  subst (λ (x : SessionEnd). Session does repository keys seal Fit b held taken taken2 before after' x) (sym is.2)
                   (ends_with_one one d.answers d.made
                   (by_bytes false Closed taken2
                   (record {
@@ -348,7 +363,7 @@ module _ {K : Type 0} {does : K → List Call → K → Type 0} {repository : Li
             ]
 
         -- a front of the reply was said
-        front_comes : (taken2 : Option (List ℕ)) → Wrote taken1 taken2 (reply_of answer (is_some (end_after answer t.last))) → Session does repository keys seal b held taken taken2 before after' WriteFault
+        front_comes : (taken2 : Option (List ℕ)) → Wrote taken1 taken2 (reply_of answer (is_some (end_after answer t.last))) → Session does repository keys seal Fit b held taken taken2 before after' WriteFault
         unfolding one
         front_comes taken2 took =
             let closes : is_some (end_after answer t.last) ≡ is_last one = sym (last_of (is_full answer) t.last) in
@@ -359,34 +374,85 @@ module _ {K : Type 0} {does : K → List Call → K → Type 0} {repository : Li
 
       -- what comes of the request
       pub comes : {end : Option SessionEnd} {taken2 : Option (List ℕ)} → Handles does repository seal t.what t.last taken1 taken2 after after' end
-          → ComesOut does repository keys seal b held taken before (count + 1) taken2 after' end
+          → ComesOut does repository keys seal Fit b held taken before (count + 1) taken2 after' end
       comes {taken2 = taken2} (answered answer _ d (whole end end_is took)) = whole_comes answer d end taken2 end_is took
       comes {taken2 = taken2} (answered answer _ d (front took)) = front_comes answer d taken2 took
       comes (answered answer _ d (nothing same)) = nothing_said (record { calls = d.calls; answers = unsaid answer d.answers; made = d.made }) same
       comes (unanswered d same) = nothing_said d same
 
+-- ---- when the source is read
+
+module _ {R : Type 0} (left : R → Option (List ℕ)) (looks : R → Look → Type 0) {repository : List ℕ} {keys : List Key} {seal : List ℕ → List ℕ} (w0 : WireView R) {taken passed : Option (List ℕ)} where
+  pub up_to_date_grows : (w : WireView R) → Grows (ReadsUpToDate repository keys seal left looks w0 w taken passed)
+  up_to_date_grows w es e reads = λ was.
+      looks_as left looks w0 w (IsUpToDate repository keys seal taken es) (IsUpToDate repository keys seal taken (es ++ e ∷ [])) (reads was) (λ b passed' is. record {
+        first = is.first;
+        later = is.later ++ e ∷ [];
+        split = ap (λ l. l ++ e ∷ []) is.split ∙ append_assoc is.first is.later (e ∷ []);
+        rest = is.rest;
+        line = is.line;
+        opened = is.opened;
+        awaits = is.awaits;
+        said = is.said;
+      })
+
+  pub up_to_date_none : ReadsUpToDate repository keys seal left looks w0 w0 taken passed []
+  up_to_date_none = λ was. looks_none left looks w0 w0 (IsUpToDate repository keys seal taken []) refl
+
+  -- what was read for the next request was read where all before it was said
+  pub up_to_date_on : {K : Type 0} {does : K → List Call → K → Type 0} {before after : Standing K} {count : ℕ} {taken' passed' : Option (List ℕ)} (w w' : WireView R)
+      → Reads left w0 w (λ b. SoFar does repository keys seal (ReadsUpToDate repository keys seal left looks w0 w taken passed) b w.held taken before count taken' after)
+      → (passed ≡ taken → passed' ≡ taken') → (passed' ≡ taken' → Looks left looks w w' (IsAsking taken'))
+      → Reads left w0 w (λ b. SoFar does repository keys seal (ReadsUpToDate repository keys seal left looks w0 w' taken passed) b w.held taken before count taken' after)
+  up_to_date_on {taken' = taken'} w w' so flushed asks =
+      let s = so.are in
+      record {
+        got = so.got;
+        told = so.told;
+        are = record {
+          exchanges = s.exchanges;
+          answered_ = s.answered_;
+          opened = s.opened;
+          number = s.number;
+          said = s.said;
+          made = s.made;
+          reads = λ was.
+              looks_then left looks w0 w w' (λ b. Opened repository keys seal b s.exchanges w.held) (IsAsking taken') (IsUpToDate repository keys seal taken s.exchanges) (s.reads was)
+              (record { got = so.got; told = so.told; are = s.opened }) (asks (flushed was)) (λ b more passed'' opened asking. record {
+                first = s.exchanges;
+                later = [];
+                split = sym (append-nil s.exchanges);
+                rest = w.held ++ more;
+                line = asking.line;
+                opened = opened_more more opened;
+                awaits = asking.awaits;
+                said = asking.said ∙ ap (λ o. onto o (line_text asking.line)) s.said ∙ onto_twice taken (sayings s.exchanges) (line_text asking.line);
+              });
+        };
+      }
+
 -- ---- the steps of the loop, whose names are that of the desk
 
-module _ {K : Type 0} {does : K → List Call → K → Type 0} {repository name : List ℕ} {keys : List Key} {seal : List ℕ → List ℕ} {b later held : List ℕ} {taken : Option (List ℕ)} {before : Standing K} {count : ℕ}
-    {taken' : Option (List ℕ)} {after : Standing K} (none : HasNone does) (follows : HasMore does) (s : SoFar does repository keys seal b later taken before count taken' after) (named : name ≡ repository) where
-  pub clean_end : {taken1 : Option (List ℕ)} → Gets name keys later held taken' taken1 (Ok None) → Session does repository keys seal b held taken taken1 before after Clean
-  clean_end (read_end is still same) = ends_clean follows s is same
+module _ {K : Type 0} {does : K → List Call → K → Type 0} {repository name : List ℕ} {keys : List Key} {seal : List ℕ → List ℕ} {Fit : List Exchange → Type 0} {b later held : List ℕ} {taken : Option (List ℕ)} {before : Standing K} {count : ℕ}
+    {taken' : Option (List ℕ)} {after : Standing K} (none : HasNone does) (follows : HasMore does) (grows : Grows Fit) (s : SoFar does repository keys seal Fit b later taken before count taken' after) (named : name ≡ repository) where
+  pub clean_end : {taken1 : Option (List ℕ)} → Gets name keys later held taken' taken1 (Ok None) → Session does repository keys seal Fit b held taken taken1 before after Clean
+  clean_end (read_end is still same) = ends_clean follows grows s is same
 
   pub other_end : {taken1 taken2 : Option (List ℕ)} {why : Unread} {end : SessionEnd} → Gets name keys later held taken' taken1 (Err why)
-      → EndsBy why taken1 taken2 end → Session does repository keys seal b held taken taken2 before after end
-  other_end {taken1} {taken2} {why} gets by = ends_by follows s none (subst (λ (n : List ℕ). Gets n keys later held taken' taken1 (Err why)) named gets) by
+      → EndsBy why taken1 taken2 end → Session does repository keys seal Fit b held taken taken2 before after end
+  other_end {taken1} {taken2} {why} gets by = ends_by follows grows s none (subst (λ (n : List ℕ). Gets n keys later held taken' taken1 (Err why)) named gets) by
 
   pub answered_one : {desk_name : List ℕ} {taken1 taken2 : Option (List ℕ)} {asked : Asked} {last : Bool} {after' : Standing K} {end : Option SessionEnd} → desk_name ≡ repository
       → Gets name keys later held taken' taken1 (Ok (Some asked)) → last ≡ ends asked.last (count + 1) → Handles does desk_name seal asked.turn last taken1 taken2 after after' end
-      → ComesOut does repository keys seal b held taken before (count + 1) taken2 after' end
+      → ComesOut does repository keys seal Fit b held taken before (count + 1) taken2 after' end
   answered_one {taken1 = taken1} {taken2 = taken2} {asked = asked} {last = last} {after' = after'} {end = end} desk gets last_is handles =
       one_of (subst (λ (n : List ℕ). Gets n keys later held taken' taken1 (Ok (Some asked))) named gets)
       (subst (λ (n : List ℕ). Handles does n seal asked.turn last taken1 taken2 after after' end) desk handles)
     where
       one_of : Gets repository keys later held taken' taken1 (Ok (Some asked)) → Handles does repository seal asked.turn last taken1 taken2 after after' end
-          → ComesOut does repository keys seal b held taken before (count + 1) taken2 after' end
+          → ComesOut does repository keys seal Fit b held taken before (count + 1) taken2 after' end
       one_of (read_whole request _ is wants asks took) done =
-          comes follows s (record { what = asked.turn; waited = waits request.head; last = last })
+          comes follows grows s (record { what = asked.turn; waited = waits request.head; last = last })
           (record { request = request; is = is; wants = wants; waited = refl; last = last_is ∙ ap (λ l. ends l (count + 1)) asks ∙ ap (λ n. ends request.head.last (n + 1)) (sym s.number) })
           took done
 

@@ -22,7 +22,7 @@ use Rattle.cv_session.specs.declared.target.Resource.TheVariants.{Object}
 use Rattle.cv_session.specs.declared.turn.Turn.TheVariants.{Serve, Repositories}
 use Rattle.cv_session.specs.Responses.{Answers, Does, object, absent, failed, unfetched, repositories, unsaid}
 use Rattle.cv_session.specs.declared.response.Response.TheVariants.{Content, Fixed, Message}
-use Rattle.cv_session.specs.Standing.{Standing, standing, Gives, Made}
+use Rattle.cv_session.specs.Standing.{Standing, standing, Gives}
 use Rattle.cv_session.specs.declared.response.Response.{Response}
 use Rattle.cv_session.proofs.Mades.{HasNone, made_none}
 

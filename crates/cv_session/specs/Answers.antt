@@ -1,47 +1,40 @@
 -- How the gate's replies and lists are answered.
-use Rattle.std.specs.Prelude.{ℕ, ◌++◌, List, [], ◌∷◌, map, None, Result, Ok, Err}
+use Rattle.std.specs.Prelude.{ℕ, ◌++◌, List, [], ◌∷◌, map}
 use Rattle.cv_base.specs.Path.{text_of}
 use Rattle.cv_answers.specs.declared.answer.Answer.{Answer}
 use Rattle.cv_answers.specs.declared.answer.Answer.TheVariants.{Granted, Done, Committed, Leases, Repos, PathBusy, Refused}
 use Rattle.cv_answers.specs.declared.lease_item.LeaseItem.{LeaseItem}
 use Rattle.cv_answers.specs.declared.reason.Reason.{Reason}
 use Rattle.cv_answers.specs.declared.reason.Reason.TheVariants as reason
-use Rattle.cv_http.specs.declared.code.Code.{Code}
-use Rattle.cv_http.specs.declared.code.Code.TheVariants.{ServerError}
+use Rattle.cv_answers.specs.declared.refusal.Refusal.TheVariants.{Plain, Collision, StaleBase, MissingObject, BadCatalogue, PathCollision, CatalogueFull, TagTaken, Damaged}
 use Rattle.cv_gate.specs.declared.lease_line.LeaseLine.{LeaseLine}
 use Rattle.cv_gate.specs.declared.reply.Reply.{Reply}
 use Rattle.cv_gate.specs.declared.reply.Reply.TheVariants as reply
 
-abbrev pub refused : Reason → Result Answer Code
-refused why = Ok (Refused (record { reason = why; member = None }))
+abbrev pub refused : Reason → Answer
+refused why = Refused (Plain why)
 
--- the code of a reply for which the interface has no words: that of a fault of the server
-abbrev pub unworded : Result Answer Code
-unworded = Err ServerError
-
--- how a reply of the gate is answered: by an answer of the interface, or by a code. A refusal of the interface names no object,
--- no revision and no path so far, so that the replies which do have no words; all of them but Collision and Damaged answer
--- commits, for which no request asks.
-abbrev pub answer_of : Reply → Result Answer Code
-answer_of (reply.Granted token revision root) = Ok (Granted token revision root)
-answer_of reply.Stored = Ok Done
-answer_of (reply.Committed revision root) = Ok (Committed revision root)
-answer_of reply.Cancelled = Ok Done
+-- how a reply of the gate is answered
+abbrev pub answer_of : Reply → Answer
+answer_of (reply.Granted token revision root) = Granted token revision root
+answer_of reply.Stored = Done
+answer_of (reply.Committed revision root) = Committed revision root
+answer_of reply.Cancelled = Done
 answer_of reply.BadPath = refused reason.BadPath
-answer_of (reply.PathBusy token remaining) = Ok (PathBusy token remaining)
+answer_of (reply.PathBusy token remaining) = PathBusy token remaining
 answer_of reply.TooManyLeases = refused reason.TooManyLeases
 answer_of reply.NoParent = refused reason.NoParent
 answer_of reply.InvalidToken = refused reason.InvalidToken
 answer_of reply.WrongKey = refused reason.WrongKey
-answer_of (reply.Collision id) = unworded
-answer_of (reply.StaleBase revision) = unworded
-answer_of (reply.MissingObject id) = unworded
-answer_of (reply.BadCatalogue id) = unworded
-answer_of (reply.PathCollision first second) = unworded
-answer_of (reply.CatalogueFull path) = unworded
-answer_of (reply.TagTaken revision) = unworded
+answer_of (reply.Collision id) = Refused (Collision id)
+answer_of (reply.StaleBase revision) = Refused (StaleBase revision)
+answer_of (reply.MissingObject id) = Refused (MissingObject id)
+answer_of (reply.BadCatalogue id) = Refused (BadCatalogue id)
+answer_of (reply.PathCollision first second) = Refused (PathCollision first second)
+answer_of (reply.CatalogueFull path) = Refused (CatalogueFull path)
+answer_of (reply.TagTaken revision) = Refused (TagTaken revision)
 answer_of reply.StoreFailed = refused reason.StoreFailed
-answer_of (reply.Damaged id found) = unworded
+answer_of (reply.Damaged id found) = Refused (Damaged id found)
 answer_of reply.JournalFull = refused reason.JournalFull
 answer_of reply.NoMemory = refused reason.NoMemory
 answer_of reply.RevisionsFull = refused reason.RevisionsFull

@@ -40,7 +40,19 @@ pub data Gets (repository : List ℕ) (keys : List Key) (b held : List ℕ) (tak
   fault : (why : HttpFault) (line : Bool) → Reached b line → IsWhy b line why → taken' ≡ onto taken (line_text line) → Gets repository keys b held taken taken' (Err (Fault why))
   unsaid : Reached b true → Wrote taken taken' continue_line → Gets repository keys b held taken taken' (Err Unsaid)
 
+-- no request is whole in the bytes b, and what a sink took was passed on, with the line that asks for a body where one is waited for
+pub record IsAsking (taken : Option (List ℕ)) (b : List ℕ) (passed : Option (List ℕ)) : Type 0 where
+  pub line : Bool
+  pub awaits : Awaits b line
+  pub said : passed ≡ onto taken (line_text line)
+
 -- the same behind a head
+pub record IsAskingBehind (head : RequestHead) (taken : Option (List ℕ)) (b : List ℕ) (passed : Option (List ℕ)) : Type 0 where
+  pub limit : body_size head ≤ body_limit head
+  pub short : length b < body_size head
+  pub said : passed ≡ onto taken (line_text (waits head))
+
+-- the bytes b were read for what follows a head, and these are still held; what the sink takes meanwhile is the line
 pub data GetsBehind (repository : List ℕ) (keys : List Key) (head : RequestHead) (b held : List ℕ) (taken taken' : Option (List ℕ)) : Result Asked Unread → Type 0 where
   behind : (asked : Asked) (body : List ℕ) → body_size head ≤ body_limit head → b ≡ body ++ held → length body ≡ body_size head → Asks repository keys head body asked.turn → asked.last ≡ head.last
       → taken' ≡ onto taken (line_text (waits head)) → GetsBehind repository keys head b held taken taken' (Ok asked)

@@ -1,13 +1,15 @@
 -- What bytes ask is one thing, but for one case.
 use Rattle.std.specs.Prelude.{◌≡◌, ℕ, List, Bool}
 use Rattle.httparse.specs.Grammar.{EndsInTarget}
-use Rattle.cv_http.specs.Heads.{window}
+use Rattle.cv_http.specs.Heads.{Never, window}
 use Rattle.cv_keys.specs.declared.key.Key.{Key}
 use Rattle.cv_session.specs.Asking.{Turned, Opens}
 use Rattle.cv_session.specs.declared.session_end.SessionEnd.{SessionEnd}
 
--- the bytes, or the first 16,384 of them, end inside a target: they may be no head, or else be cut or too long
+-- the bytes, or the first 16,384 of them, end inside a target, and nothing can follow them that makes them begin with a head, since
+-- the target can't become UTF-8: they may be no head, or else be cut or too long
 pub record IsOpen (b : List ℕ) : Type 0 where
+  pub never : Never b
   pub ends_ : EndsInTarget (window b)
 
 -- the same of what is left behind the first requests

@@ -1,9 +1,10 @@
 -- What a payload asks: its message size is judged first, then the authorization, the message, the digest of the pack's header,
 -- the pack, and the header's length.
-use Rattle.std.specs.Prelude.{◌≡◌, ◌==◌, ◌++◌, ℕ, Bool, true, false, List, Option, Some, None, Result, Ok, Err, bytes_eq, codes, take, drop, length, nat_le, ◌&&◌, if◌then◌else◌}
+use Rattle.std.specs.Prelude.{◌≡◌, ◌==◌, ◌++◌, ◌<◌, ℕ, Bool, true, false, List, Option, Some, None, Result, Ok, Err, bytes_eq, codes, take, drop, length, nat_le, ◌&&◌, if◌then◌else◌}
 use Rattle.sha1.specs.Sha1.{sha1}
 use Rattle.cv_base.specs.declared.object.Object.{Object}
-use Rattle.cv_http.specs.Wires.{WireView, Reads, BodyRead}
+use Rattle.cv_ports.specs.Streams.{Look}
+use Rattle.cv_http.specs.Wires.{WireView, Reads, Looks, Beside, BodyRead}
 use Rattle.cv_http.specs.declared.fault.HttpFault.{HttpFault}
 use Rattle.cv_http.specs.declared.fault.HttpFault.TheVariants as http
 use Rattle.cv_http.specs.declared.head.RequestHead.{RequestHead}
@@ -88,6 +89,10 @@ Says says body turn = (turn ≡ says body) × IsGood turn
 -- a body of so many bytes was read, of which this was made, or not for a fault
 abbrev pub ReadsBody : {R A : Type 0} → (R → Option (List ℕ)) → WireView R → WireView R → ℕ → (List ℕ → A → Type 0) → Result A HttpFault → Type 0
 ReadsBody left wire wire' size Made result = Reads left wire wire' (λ b. BodyRead size Made b wire'.held result)
+
+-- each read of the source began where this was passed on and fewer bytes were there
+abbrev pub LooksWithin : {R : Type 0} → (R → Option (List ℕ)) → (R → Look → Type 0) → WireView R → WireView R → Option (List ℕ) → ℕ → Type 0
+LooksWithin left looks wire wire' passed size = Looks left looks wire wire' (Beside passed (λ b. length b < size))
 
 -- so many bytes came, which are so, and then what is held
 pub record Came (count : ℕ) (So : List ℕ → Type 0) (b held : List ℕ) : Type 0 where

@@ -1,11 +1,9 @@
 -- Requests on a connection (RFC 9112): a head, and a body as long as the head says.
-use Rattle.std.specs.Prelude.{◌≡◌, ◌<◌, ◌≤◌, ◌++◌, ◌&&◌, nat_lt, ℕ, List, [], length, unwrap_or, Bool, true, false, Option, bytes_eq, codes, if◌then◌else◌}
+use Rattle.std.specs.Prelude.{◌≡◌, ◌<◌, ◌≤◌, ◌++◌, ◌&&◌, nat_lt, ℕ, List, [], length, unwrap_or, Bool, true, false, Option, if◌then◌else◌}
 use Rattle.std.specs.declared.option.Option.TheVariants.{Some, None}
 use Rattle.cv_http.specs.Heads.{Begins, Refused, IsAwaited, IsCut}
 use Rattle.cv_http.specs.Replies.{continue_line}
 use Rattle.cv_http.specs.declared.head.RequestHead.{RequestHead}
-use Rattle.cv_http.specs.declared.method.Method.{Method}
-use Rattle.cv_http.specs.declared.method.Method.TheVariants.{Get, Post, Delete, Other}
 use Rattle.cv_http.specs.declared.fault.HttpFault.{HttpFault}
 use Rattle.cv_http.specs.declared.fault.HttpFault.TheVariants.{BadHead, HeadTooLarge, BodyTooLarge, NoLength, Coding, Short, ReadFault, NoMemory}
 use Rattle.cv_http.specs.declared.code.Code.{Code}

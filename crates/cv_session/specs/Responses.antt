@@ -1,5 +1,5 @@
 -- What is answered to a turn, by what the desk answered.
-use Rattle.std.specs.Prelude.{◌≡◌, ◌≢◌, ◌∷◌, ℕ, List, [], Option, Result, Ok, Err, Bool, true, false}
+use Rattle.std.specs.Prelude.{◌≡◌, ◌≢◌, ◌∷◌, ℕ, List, [], Option, Ok, Err, Bool, true}
 use Rattle.std.specs.declared.option.Option.TheVariants.{Some, None}
 use Rattle.sha1.specs.Sha1.{sha1}
 use Rattle.serde_json.specs.Written.{compact_text}
@@ -39,17 +39,12 @@ message_reply message last = reply Success Json last (compact_text (answer_data 
 abbrev pub code_reply : Code → Bool → List ℕ
 code_reply code last = reply code Text last (text_of code)
 
--- the reply with an answer of the interface or a code
-abbrev pub said_reply : Result MessageData Code → Bool → List ℕ
-said_reply (Ok message) last = message_reply message last
-said_reply (Err code) last = code_reply code last
-
 -- the bytes of the reply with an answer
 abbrev pub reply_of : Response → Bool → List ℕ
 reply_of (Content bytes) last = reply Success Octets last bytes
 reply_of (Fixed code) last = code_reply code last
 reply_of (Message message) last = message_reply message last
-reply_of (Reply replied) last = said_reply (answer_of replied) last
+reply_of (Reply replied) last = message_reply (answer_of replied) last
 
 -- an answer that can be written
 abbrev pub is_writable : Response → Bool

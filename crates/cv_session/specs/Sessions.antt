@@ -2,8 +2,9 @@
 use Rattle.std.specs.Prelude.{◌≡◌, ◌+◌, ◌++◌, ◌∷◌, ◌||◌, ℕ, List, [], length, map, Bool, true, false, Option}
 use Rattle.std.specs.declared.option.Option.TheVariants.{Some, None}
 use Rattle.std.specs.List.{flat_map, AllByRecursion}
-use Rattle.cv_ports.specs.Streams.{onto, Wrote}
+use Rattle.cv_ports.specs.Streams.{Look, onto, Wrote}
 use Rattle.cv_http.specs.Replies.{continue_line}
+use Rattle.cv_http.specs.Wires.{WireView, Looks}
 use Rattle.cv_http.specs.declared.fault.HttpFault.{HttpFault}
 use Rattle.cv_http.specs.declared.code.Code.{Code}
 use Rattle.cv_keys.specs.declared.key.Key.{Key}
@@ -78,11 +79,28 @@ module _ (repository : List ℕ) (keys : List Key) (seal : List ℕ → List ℕ
       silent : (t : Turned) (calls : List Call) (rest : List ℕ) (taken' : Option (List ℕ)) → Opened es rest → IsNext repository keys (length es + 1) rest t held → Answers repository seal t.what calls None
           → taken' ≡ onto taken (sayings es ++ line_text t.waited) → Ended held taken es calls taken' NoMemory
 
--- A session over the bytes b that were read, of which these are still held: what they ask was said, with the answers of the desk.
-pub record Session {K : Type 0} (does : K → List Call → K → Type 0) (repository : List ℕ) (keys : List Key) (seal : List ℕ → List ℕ) (b held : List ℕ) (taken taken' : Option (List ℕ)) (before after : Standing K)
-    (end : SessionEnd) : Type 0 where
+  -- the bytes b are whole requests of the first exchanges and no whole one more, and all that was said for them was passed on
+  pub record IsUpToDate (taken : Option (List ℕ)) (es : List Exchange) (b : List ℕ) (passed : Option (List ℕ)) : Type 0 where
+    pub first : List Exchange
+    pub later : List Exchange
+    pub split : es ≡ first ++ later
+    pub rest : List ℕ
+    pub line : Bool
+    pub opened : Opened b first rest
+    pub awaits : Awaits rest line
+    pub said : passed ≡ onto taken (sayings first ++ line_text line)
+
+  -- each read of the source began so, if all that the sink had taken was passed on at first
+  abbrev pub ReadsUpToDate : {R : Type 0} → (R → Option (List ℕ)) → (R → Look → Type 0) → WireView R → WireView R → Option (List ℕ) → Option (List ℕ) → List Exchange → Type 0
+  ReadsUpToDate left looks wire wire' taken passed es = passed ≡ taken → Looks left looks wire wire' (IsUpToDate taken es)
+
+-- A session over the bytes b that were read, of which these are still held: what they ask was said, with the answers of the desk,
+-- and the reads of the source fit the exchanges.
+pub record Session {K : Type 0} (does : K → List Call → K → Type 0) (repository : List ℕ) (keys : List Key) (seal : List ℕ → List ℕ) (Fit : List Exchange → Type 0) (b held : List ℕ) (taken taken' : Option (List ℕ))
+    (before after : Standing K) (end : SessionEnd) : Type 0 where
   pub exchanges : List Exchange
   pub answered : AllByRecursion (IsAnswered repository keys seal) exchanges
   pub others : List Call
   pub ended : Ended repository keys seal b held taken exchanges others taken' end
   pub made : Made does before (calls_of exchanges ++ others) after
+  pub reads : Fit exchanges

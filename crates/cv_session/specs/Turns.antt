@@ -1,5 +1,5 @@
--- What a request asks: for a lease and for its end the authorization is judged first, then the message, the repository and
--- the path.
+-- What a request asks: for a lease, a commit and a lease's end the authorization is judged first, then the message, the
+-- repository and the path.
 use Rattle.std.specs.Prelude.{◌≡◌, ◌≢◌, ◌==◌, ℕ, true, List, Option, Some, None, Result, Ok, Err, bytes_eq, codes, drop, length, slice_get, if◌then◌else◌}
 use Rattle.std.specs.List.{before_first}
 use Rattle.cv_base.specs.Path.{Path}
@@ -11,15 +11,17 @@ use Rattle.cv_keys.specs.declared.key.Key.{Key}
 use Rattle.cv_keys.specs.declared.key_no.KeyNo.{KeyNo}
 use Rattle.cv_keys.specs.declared.auth_fault.AuthFault.{AuthFault}
 use Rattle.cv_keys.specs.declared.auth_fault.AuthFault.TheVariants as auth
+use Rattle.cv_messages.specs.CommitAsk.{commit_ask_of}
 use Rattle.cv_messages.specs.LeaseAsk.{lease_ask_of}
 use Rattle.cv_messages.specs.Spelling.{token_of}
+use Rattle.cv_messages.specs.declared.commit_ask.CommitAsk.{CommitAsk}
 use Rattle.cv_messages.specs.declared.lease_ask.LeaseAsk.{LeaseAsk}
-use Rattle.cv_messages.specs.declared.member.Member.{Member}
 use Rattle.cv_messages.specs.declared.message_fault.MessageFault.{MessageFault}
 use Rattle.cv_messages.specs.declared.message_fault.MessageFault.TheVariants as message
 use Rattle.cv_answers.specs.Refusal.{is_refusal}
 use Rattle.cv_answers.specs.declared.reason.Reason.{Reason}
 use Rattle.cv_answers.specs.declared.reason.Reason.TheVariants as reason
+use Rattle.cv_answers.specs.declared.refusal.Refusal.TheVariants.{Plain, MissingMember, WrongType, BadValue}
 use Rattle.cv_gate.specs.Step.{IsOp}
 use Rattle.cv_gate.specs.declared.op.Op.TheVariants as op
 use Rattle.cv_http.specs.declared.head.RequestHead.{RequestHead}
@@ -32,13 +34,9 @@ use Rattle.cv_session.specs.declared.turn.Turn.TheVariants.{Serve, Repositories,
 
 -- ---- refusals without a step
 
--- a refusal for a reason that names no member
+-- a refusal that says its reason alone
 abbrev pub denied : Reason → Turn
-denied why = Deny (record { reason = why; member = None })
-
--- a refusal for a reason and the member at fault
-abbrev pub denied_member : Reason → Member → Turn
-denied_member why member = Deny (record { reason = why; member = Some member })
+denied why = Deny (Plain why)
 
 -- the refusal of a request whose Authorization header has this fault
 abbrev pub denied_header : AuthFault → Turn
@@ -51,9 +49,9 @@ denied_header auth.NoMemory = denied reason.NoMemory
 -- the refusal of a message that has this fault
 abbrev pub denied_message : MessageFault → Turn
 denied_message message.NotJson = denied reason.NotJson
-denied_message (message.Missing member) = denied_member reason.MissingMember member
-denied_message (message.WrongType member) = denied_member reason.WrongType member
-denied_message (message.BadValue member) = denied_member reason.BadValue member
+denied_message (message.Missing member) = Deny (MissingMember member)
+denied_message (message.WrongType member) = Deny (WrongType member)
+denied_message (message.BadValue member) = Deny (BadValue member)
 denied_message message.NoMemory = denied reason.NoMemory
 
 -- ---- under a key
@@ -93,12 +91,20 @@ lease_by_ask repository (Err fault) key = denied_message fault
 abbrev pub lease_turn : List ℕ → List Key → Option (List ℕ) → List ℕ → Turn
 lease_turn repository keys header body = signed keys header body (lease_by_ask repository (lease_ask_of body))
 
--- ---- its end
+-- ---- of a lease
 
 -- the token of a text; a text that is no token's is taken for 0-0, which no lease has
 abbrev pub token_by : Option Token → Token
 token_by None = record { epoch = 0; number = 0 }
 token_by (Some token) = token
+
+abbrev pub commit_by_ask : Token → Result CommitAsk MessageFault → List ℕ → Turn
+commit_by_ask token (Ok ask) key = Step (op.Commit key token ask.old_root ask.new_root ask.tag)
+commit_by_ask token (Err fault) key = denied_message fault
+
+-- what a request for a commit asks, by its Authorization header, the text of the token and its body
+abbrev pub commit_turn : List Key → Option (List ℕ) → List ℕ → List ℕ → Turn
+commit_turn keys header text body = signed keys header text (commit_by_ask (token_by (token_of text)) (commit_ask_of body))
 
 -- what a request for the end of a lease asks, by its Authorization header and the text of the token
 abbrev pub end_turn : List Key → Option (List ℕ) → List ℕ → Turn
@@ -118,7 +124,8 @@ pub data Wants (repository : List ℕ) (keys : List Key) (head : RequestHead) (b
   leases : head.method ≡ Get → head.target ≡ leases_target → Wants repository keys head body Leases
   nothing_there : head.method ≡ Get → IsUnknown repository head.target → Wants repository keys head body (Refuse NotFound)
   lease : head.method ≡ Post → head.target ≡ leases_target → Wants repository keys head body (lease_turn repository keys head.authorization body)
-  no_post : head.method ≡ Post → head.target ≢ leases_target → Wants repository keys head body (Refuse NotFound)
+  commit : (text : List ℕ) → head.method ≡ Post → head.target ≡ lease_target text → Wants repository keys head body (commit_turn keys head.authorization text body)
+  no_post : head.method ≡ Post → head.target ≢ leases_target → ((text : List ℕ) → head.target ≢ lease_target text) → Wants repository keys head body (Refuse NotFound)
   end : (text : List ℕ) → head.method ≡ Delete → head.target ≡ lease_target text → Wants repository keys head body (end_turn keys head.authorization text)
   no_delete : head.method ≡ Delete → ((text : List ℕ) → head.target ≢ lease_target text) → Wants repository keys head body (Refuse NotFound)
 

@@ -1,69 +1,59 @@
 //! How the gate's replies and lists are answered.
-ghost use Rattle.std.specs.Prelude.{◌≡◌, IfOk, true, false, map};
+ghost use Rattle.std.specs.Prelude.{◌≡◌, IfOk, true, map};
 ghost use Rattle.cv_answers.specs.AnswerText.{is_answer};
-ghost use Rattle.cv_answers.specs.Refusal.{names_member};
 ghost use Rattle.cv_session.specs.Answers.{answer_of, refused, item_of, leases_answer, repositories_answer};
 
 use cv_answers::{Answer, LeaseItem, Reason, Refusal};
 use cv_base::{Items, Name, NoMemory, Text};
 use cv_gate::{LeaseLine, Reply};
-use cv_http::Code;
 use std::alloc::Global;
 
-/// The answer to a reply of the gate, or the code where the interface has no words for it. It takes no memory.
-pub(crate) fn answer_reply(reply: &Reply) -> Result<Answer, Code>
-    ensures answer { result ≡ answer_of reply.now }
-    ensures writable { IfOk result (λ answer. is_answer answer ≡ true) }
+/// The answer to a reply of the gate. It takes no memory.
+pub(crate) fn answer_reply(reply: Reply) -> Answer
+    ensures answer { result ≡ answer_of reply }
+    ensures writable { is_answer result ≡ true }
 {
     match reply {
         Reply::Granted {
             token,
             revision,
             root,
-        } => Ok(Answer::Granted {
-            token: *token,
-            revision: *revision,
-            root: *root,
-        }),
-        Reply::Committed { revision, root } => Ok(Answer::Committed {
-            revision: *revision,
-            root: *root,
-        }),
-        Reply::Stored | Reply::Cancelled => Ok(Answer::Done),
-        Reply::PathBusy { token, remaining } => Ok(Answer::PathBusy {
-            token: *token,
-            remaining: *remaining,
-        }),
+        } => Answer::Granted {
+            token,
+            revision,
+            root,
+        },
+        Reply::Stored | Reply::Cancelled => Answer::Done,
+        Reply::Committed { revision, root } => Answer::Committed { revision, root },
         Reply::BadPath => refused(Reason::BadPath),
+        Reply::PathBusy { token, remaining } => Answer::PathBusy { token, remaining },
         Reply::TooManyLeases => refused(Reason::TooManyLeases),
         Reply::NoParent => refused(Reason::NoParent),
         Reply::InvalidToken => refused(Reason::InvalidToken),
         Reply::WrongKey => refused(Reason::WrongKey),
+        Reply::Collision(object) => Answer::Refused(Refusal::Collision(object)),
+        Reply::StaleBase { revision } => Answer::Refused(Refusal::StaleBase { revision }),
+        Reply::MissingObject(object) => Answer::Refused(Refusal::MissingObject(object)),
+        Reply::BadCatalogue(object) => Answer::Refused(Refusal::BadCatalogue(object)),
+        Reply::PathCollision { first, second } => Answer::Refused(Refusal::PathCollision {
+            path: first,
+            second,
+        }),
+        Reply::CatalogueFull(path) => Answer::Refused(Refusal::CatalogueFull(path)),
+        Reply::TagTaken { revision } => Answer::Refused(Refusal::TagTaken { revision }),
+        Reply::StoreFailed => refused(Reason::StoreFailed),
+        Reply::Damaged { id, found } => Answer::Refused(Refusal::Damaged { object: id, found }),
         Reply::JournalFull => refused(Reason::JournalFull),
         Reply::NoMemory => refused(Reason::NoMemory),
-        Reply::StoreFailed => refused(Reason::StoreFailed),
         Reply::RevisionsFull => refused(Reason::RevisionsFull),
-        Reply::Collision(_)
-        | Reply::StaleBase { .. }
-        | Reply::MissingObject(_)
-        | Reply::BadCatalogue(_)
-        | Reply::PathCollision { .. }
-        | Reply::CatalogueFull(_)
-        | Reply::TagTaken { .. }
-        | Reply::Damaged { .. } => Err(Code::ServerError),
     }
 }
 
-/// A refusal that names no member.
-fn refused(reason: Reason) -> Result<Answer, Code>
-    requires { names_member reason ≡ false }
-    ensures answer { result ≡ refused reason }
-    ensures writable { IfOk result (λ answer. is_answer answer ≡ true) }
+/// A refusal that says its reason alone.
+fn refused(reason: Reason) -> Answer
+    ensures { result ≡ refused reason }
 {
-    Ok(Answer::Refused(Refusal {
-        reason,
-        member: None,
-    }))
+    Answer::Refused(Refusal::Plain(reason))
 }
 
 /// The answer that lists the live leases of the repository, in the order of grant.

@@ -6,7 +6,7 @@ ghost use Rattle.cv_gate.specs.Step.{is_key_id};
 ghost use Rattle.cv_gate.specs.declared.op.Op.TheVariants as op;
 ghost use Rattle.cv_messages.specs.Spelling.{token_of};
 ghost use Rattle.cv_session.specs.Denials.{Asks, Denies};
-ghost use Rattle.cv_session.specs.Turns.{signed, lease_on, lease_turn, end_turn, token_by};
+ghost use Rattle.cv_session.specs.Turns.{signed, lease_on, lease_turn, commit_turn, end_turn, token_by};
 ghost use Rattle.cv_session.specs.declared.turn.Turn.{Turn};
 ghost use Rattle.cv_session.specs.declared.turn.Turn.TheVariants.{Step};
 
@@ -15,7 +15,7 @@ use cv_answers::Reason;
 use cv_base::{Name, PathFault, RepoPath, Text, Token};
 use cv_gate::Op;
 use cv_keys::KeyTable;
-use cv_messages::LeaseAsk;
+use cv_messages::{CommitAsk, LeaseAsk};
 use std::alloc::Global;
 
 /// The token that no lease has.
@@ -38,6 +38,29 @@ pub(crate) fn asked_lease(
     let ask = LeaseAsk::read(alloc, body)?;
     let path = read_leased(alloc, repository, ask.path.as_str())?;
     Ok(Op::Lease { key, path })
+}
+
+/// The commit that is asked for by an Authorization header, the text of a lease's token and a body.
+pub(crate) fn asked_commit(
+    alloc: Global,
+    keys: &KeyTable,
+    header: Option<&str>,
+    text: &str,
+    body: &[u8],
+) -> Result<Op, Denial>
+    ensures { Asks (commit_turn keys.now (option_map (λ value. value.now) header.entry) text.now body.now) result }
+{
+    let key = read_signer(alloc, keys, header, text.as_bytes())?;
+    let ask = CommitAsk::read(alloc, body)?;
+    let old_root = ask.old_root;
+    let new_root = ask.new_root;
+    Ok(Op::Commit {
+        key,
+        token: read_token(text),
+        old_root,
+        new_root,
+        tag: ask.tag,
+    })
 }
 
 /// The end of a lease that is asked for by an Authorization header and the text of the lease's token.

@@ -1,18 +1,19 @@
 //! Why a request asks no step of the gate.
-ghost use Rattle.std.specs.Prelude.{◌≡◌, None};
+ghost use Rattle.std.specs.Prelude.{◌≡◌};
 ghost use Rattle.cv_keys.specs.declared.auth_fault.AuthFault.TheVariants as auth;
 ghost use Rattle.cv_messages.specs.declared.message_fault.MessageFault.TheVariants as message;
 ghost use Rattle.cv_session.specs.Denials.{turn_of};
 ghost use Rattle.cv_session.specs.Turns.{denied_header, denied_message};
 ghost use Rattle.cv_session.specs.declared.denial.Denial.TheVariants as denials;
+ghost use Rattle.cv_answers.specs.declared.refusal.Refusal.TheVariants.{Plain};
 
 use cv_answers::{Reason, Refusal};
 use cv_base::NoMemory;
 use cv_keys::AuthFault;
-use cv_messages::{Member, MessageFault};
+use cv_messages::MessageFault;
 
 /// Why a request for a step asks none.
-#[derive(Clone, Copy, Debug, PartialEq, Eq)]
+#[derive(Debug, Drop)]
 pub(crate) enum Denial {
     /// The interface refuses it.
     Refused(Refusal),
@@ -21,24 +22,11 @@ pub(crate) enum Denial {
 }
 
 impl Denial {
-    /// A refusal that names no member.
+    /// A refusal that says its reason alone.
     pub(crate) fn new(reason: Reason) -> Denial
-        ensures { result ≡ denials.Refused (record { reason = reason; member = None }) }
+        ensures { result ≡ denials.Refused (Plain reason) }
     {
-        Denial::Refused(Refusal {
-            reason,
-            member: None,
-        })
-    }
-
-    /// A refusal that names the member at fault.
-    fn at_member(reason: Reason, member: Member) -> Denial
-        ensures { result ≡ denials.Refused (record { reason = reason; member = Some member }) }
-    {
-        Denial::Refused(Refusal {
-            reason,
-            member: Some(member),
-        })
+        Denial::Refused(Refusal::Plain(reason))
     }
 }
 
@@ -70,9 +58,9 @@ impl From<MessageFault> for Denial {
     fn from(fault: MessageFault) -> Denial {
         match fault {
             MessageFault::NotJson => Denial::new(Reason::NotJson),
-            MessageFault::Missing(member) => Denial::at_member(Reason::MissingMember, member),
-            MessageFault::WrongType(member) => Denial::at_member(Reason::WrongType, member),
-            MessageFault::BadValue(member) => Denial::at_member(Reason::BadValue, member),
+            MessageFault::Missing(member) => Denial::Refused(Refusal::MissingMember(member)),
+            MessageFault::WrongType(member) => Denial::Refused(Refusal::WrongType(member)),
+            MessageFault::BadValue(member) => Denial::Refused(Refusal::BadValue(member)),
             MessageFault::NoMemory => Denial::NoMemory,
         }
     }

@@ -42,13 +42,13 @@ fn end_after(answer: &Response, last: bool) -> Option<SessionEnd>
 }
 
 /// Writes the reply with an answer to a request that is to be the last or isn't. How the session ends then, if it does.
-fn send<W: Sink>(alloc: Global, sink: &mut W, answer: &Response, last: bool) -> Option<SessionEnd>
-    requires { is_writable answer.now ≡ true }
-    ensures sends { Sends answer.now last (W.taken sink.old) (W.taken sink.new) result }
+fn send<W: Sink>(alloc: Global, sink: &mut W, answer: Response, last: bool) -> Option<SessionEnd>
+    requires { is_writable answer ≡ true }
+    ensures sends { Sends answer last (W.taken sink.old) (W.taken sink.new) result }
     ensures flushed { result ≢ Some WriteFault → W.passed sink.old ≡ W.taken sink.old → W.passed sink.new ≡ W.taken sink.new }
     ensures cause { HasCause (W.faults sink.old) (W.faults sink.new) (result ≡ Some WriteFault) }
 {
-    let end = end_after(answer, last);
+    let end = end_after(&answer, last);
     match write_answer(alloc, sink, answer, end.is_some()) {
         Ok(()) => end,
         Err(SendFault::WriteFault) => Some(SessionEnd::WriteFault),
@@ -95,7 +95,7 @@ pub(crate) fn answer_turn<K: Desk, S: Signer, C: Clock, H: Hold, W: Sink>(
     hold_payload(hold, &turn);
     match find_answer(alloc, desk, signer, clock, turn) {
         Ok(answer) => {
-            let end = send(alloc, sink, &answer, last);
+            let end = send(alloc, sink, answer, last);
             hold_lease(hold, leases, end);
             end
         }

@@ -6,7 +6,7 @@ ghost use Rattle.cv_session.specs.Denials.{Asks};
 ghost use Rattle.cv_session.specs.Turns.{Wants, IsGood};
 ghost use Rattle.cv_session.specs.declared.turn.Turn.{Turn};
 
-use crate::asked_op::{asked_end, asked_lease};
+use crate::asked_op::{asked_commit, asked_end, asked_lease};
 use crate::denial::Denial;
 use crate::target::read_target;
 use crate::turn::Turn;
@@ -77,10 +77,13 @@ fn post_turn(
     ensures wants { IfOk result (λ turn. Wants repository.now keys.now head.now body.now turn) }
     ensures good { IfOk result IsGood }
 {
-    if head.target.as_str() == LEASES {
-        step_turn(asked_lease(alloc, repository, keys, authorization(head), body))
-    } else {
-        Ok(Turn::Refuse(Code::NotFound))
+    let target = head.target.as_str();
+    if target == LEASES {
+        return step_turn(asked_lease(alloc, repository, keys, authorization(head), body));
+    }
+    match target.strip_prefix(LEASE) {
+        Some(token) => step_turn(asked_commit(alloc, keys, authorization(head), token, body)),
+        None => Ok(Turn::Refuse(Code::NotFound)),
     }
 }
 

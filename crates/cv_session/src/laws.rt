@@ -17,7 +17,7 @@ pub fn one_turn()
 {}
 
 /// So many bytes ask for one list of turns, with one line or none behind them, and end the session in one way. One case is
-/// open: what is left behind some of the turns, or its first 16,384 bytes, ends inside a target.
+/// open: what is left behind some of the turns, or its first 16,384 bytes, ends inside a target, and no head can come of it.
 pub fn one_asking()
     ensures { (repository : List ℕ) (keys : List Key) (b : List ℕ) (ts ts' : List Turned) (line line' : Bool) (end end' : SessionEnd)
         → IsAsked repository keys b ts line end → IsAsked repository keys b ts' line' end'

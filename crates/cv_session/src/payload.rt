@@ -10,7 +10,7 @@ ghost use Rattle.cv_messages.specs.PayloadAsk.{payload_ask_of};
 ghost use Rattle.cv_pack.specs.Pack.{IsPack};
 ghost use Rattle.cv_pack.specs.PackReader.{Fed, pack_of};
 ghost use Rattle.cv_session.specs.Denials.{Denies};
-ghost use Rattle.cv_session.specs.Payloads.{ReadsBody, Says, message_size, payload_by_ask, payload_on, payload_turn, store_on, refused_pack};
+ghost use Rattle.cv_session.specs.Payloads.{ReadsBody, LooksWithin, Says, message_size, payload_by_ask, payload_on, payload_turn, store_on, refused_pack};
 ghost use Rattle.cv_session.specs.declared.turn.Turn.{Turn as TurnData};
 ghost use Rattle.cv_session.specs.Turns.{signed, denied, IsGood};
 
@@ -25,7 +25,7 @@ use cv_http::{HttpFault, RequestHead, Wire};
 use cv_keys::KeyTable;
 use cv_messages::{PayloadAsk, decimal_in};
 use cv_pack::{Pack, PackFault, PackReader};
-use cv_ports::Source;
+use cv_ports::{Sink, Source};
 use sha1::Sha1;
 use std::alloc::Global;
 
@@ -52,14 +52,11 @@ fn message_size(text: Option<&str>, size: u64) -> Option<u64>
     }
 }
 
-/// The turn of a refusal that names no member.
+/// The turn of a refusal that says its reason alone.
 fn deny(reason: Reason) -> Turn
     ensures { result ≡ denied reason }
 {
-    Turn::Deny(Refusal {
-        reason,
-        member: None,
-    })
+    Turn::Deny(Refusal::Plain(reason))
 }
 
 /// What a message announces, by its Authorization header.
@@ -80,19 +77,21 @@ fn read_announced(
 }
 
 /// Passes over so many bytes.
-fn pass_over<R: Source + Drop>(
+fn pass_over<R: Source + Drop, W: Sink>(
     alloc: Global,
     wire: &mut Wire<R>,
     size: u64,
+    beside: &W,
 ) -> Result<(), HttpFault>
     ensures reads { ReadsBody R.left wire.old wire.new size (λ body made. Unit {0}) result }
     ensures cut { result ≡ Err Short → WhereTold (R.left wire.new.source) (λ left. left ≡ []) }
     ensures faults { IfErr result IsBodyFault }
     ensures cause { HasCause (R.faults wire.old.source) (R.faults wire.new.source) (result ≡ Err ReadFault) }
+    ensures looks { LooksWithin R.left R.looks wire.old wire.new (W.passed beside.now) size }
 {
     let mut count = 0;
     'pieces: while count < size {
-        let piece = wire.read_some(alloc, size - count)?;
+        let piece = wire.read_some(alloc, size - count, beside)?;
         count += piece.as_slice().len() as u64;
     }
     Ok(())
@@ -168,23 +167,25 @@ fn finish_pack(
 }
 
 /// Reads a pack of so many bytes, and what it asks.
-fn read_pack<R: Source + Drop>(
+fn read_pack<R: Source + Drop, W: Sink>(
     alloc: Global,
     wire: &mut Wire<R>,
     announced: Announced,
     size: u64,
+    beside: &W,
 ) -> Result<Turn, HttpFault>
     requires { is_key_id announced.key ≡ true }
     ensures reads { ReadsBody R.left wire.old wire.new size (Says (payload_on announced.key announced.ask)) result }
     ensures cut { result ≡ Err Short → WhereTold (R.left wire.new.source) (λ left. left ≡ []) }
     ensures faults { IfErr result IsBodyFault }
     ensures cause { HasCause (R.faults wire.old.source) (R.faults wire.new.source) (result ≡ Err ReadFault) }
+    ensures looks { LooksWithin R.left R.looks wire.old wire.new (W.passed beside.now) size }
 {
     let mut reader = PackReader::new(alloc);
     let mut hasher = Sha1::new();
     let mut count = 0;
     'pieces: while count < size {
-        let piece = wire.read_some(alloc, size - count)?;
+        let piece = wire.read_some(alloc, size - count, beside)?;
         hash_front(
             &mut hasher,
             announced.ask.header_size,
@@ -198,21 +199,23 @@ fn read_pack<R: Source + Drop>(
 }
 
 /// Passes over what follows a message that was denied, so many bytes.
-fn pass_denied<R: Source + Drop>(
+fn pass_denied<R: Source + Drop, W: Sink>(
     alloc: Global,
     wire: &mut Wire<R>,
     denial: Denial,
     size: u64,
+    beside: &W,
 ) -> Result<Turn, HttpFault>
     ensures reads { (says : List ℕ → TurnData) → ((pack : List ℕ) → Denies (says pack) denial)
         → ReadsBody R.left wire.old wire.new size (Says says) result }
     ensures cut { result ≡ Err Short → WhereTold (R.left wire.new.source) (λ left. left ≡ []) }
     ensures faults { IfErr result IsBodyFault }
     ensures cause { HasCause (R.faults wire.old.source) (R.faults wire.new.source) (result ≡ Err ReadFault) }
+    ensures looks { LooksWithin R.left R.looks wire.old wire.new (W.passed beside.now) size }
 {
     match denial {
         Denial::Refused(refusal) => {
-            pass_over(alloc, wire, size)?;
+            pass_over(alloc, wire, size, beside)?;
             Ok(Turn::Deny(refusal))
         }
         Denial::NoMemory => Err(HttpFault::NoMemory),
@@ -220,11 +223,12 @@ fn pass_denied<R: Source + Drop>(
 }
 
 /// Reads what follows a message, so many bytes, and what the payload asks.
-fn read_rest<R: Source + Drop>(
+fn read_rest<R: Source + Drop, W: Sink>(
     alloc: Global,
     wire: &mut Wire<R>,
     announced: Result<Announced, Denial>,
     size: u64,
+    beside: &W,
 ) -> Result<Turn, HttpFault>
     requires { IfOk announced (λ a. is_key_id a.key ≡ true) }
     ensures reads { (says : List ℕ → TurnData) → ((pack : List ℕ) → MatchResult announced (λ a. says pack ≡ payload_on a.key a.ask pack) (Denies (says pack)))
@@ -232,10 +236,11 @@ fn read_rest<R: Source + Drop>(
     ensures cut { result ≡ Err Short → WhereTold (R.left wire.new.source) (λ left. left ≡ []) }
     ensures faults { IfErr result IsBodyFault }
     ensures cause { HasCause (R.faults wire.old.source) (R.faults wire.new.source) (result ≡ Err ReadFault) }
+    ensures looks { LooksWithin R.left R.looks wire.old wire.new (W.passed beside.now) size }
 {
     match announced {
-        Ok(announced) => read_pack(alloc, wire, announced, size),
-        Err(denial) => pass_denied(alloc, wire, denial, size),
+        Ok(announced) => read_pack(alloc, wire, announced, size, beside),
+        Err(denial) => pass_denied(alloc, wire, denial, size, beside),
     }
 }
 
@@ -247,24 +252,26 @@ fn message_header(head: &RequestHead) -> Option<&str>
 }
 
 /// Reads the body of a payload, so many bytes, and what it asks.
-pub(crate) fn read_payload<R: Source + Drop>(
+pub(crate) fn read_payload<R: Source + Drop, W: Sink>(
     alloc: Global,
     keys: &KeyTable,
     wire: &mut Wire<R>,
     head: &RequestHead,
     size: u64,
+    beside: &W,
 ) -> Result<Turn, HttpFault>
     ensures reads { let says = payload_turn keys.now head.now.authorization head.now.message_size in
         ReadsBody R.left wire.old wire.new size (Says says) result }
     ensures cut { result ≡ Err Short → WhereTold (R.left wire.new.source) (λ left. left ≡ []) }
     ensures faults { IfErr result IsBodyFault }
     ensures cause { HasCause (R.faults wire.old.source) (R.faults wire.new.source) (result ≡ Err ReadFault) }
+    ensures looks { LooksWithin R.left R.looks wire.old wire.new (W.passed beside.now) size }
 {
     let Some(count) = message_size(message_header(head), size) else {
-        pass_over(alloc, wire, size)?;
+        pass_over(alloc, wire, size, beside)?;
         return Ok(deny(Reason::BadMessageSize));
     };
-    let message = wire.read_body(alloc, count)?;
+    let message = wire.read_body(alloc, count, beside)?;
     let announced = read_announced(alloc, keys, authorization(head), message.as_slice());
-    read_rest(alloc, wire, announced, size - count)
+    read_rest(alloc, wire, announced, size - count, beside)
 }

@@ -3,13 +3,13 @@ ghost use Rattle.std.specs.Prelude.{◌≡◌, ◌≢◌, [], None, Ok, Err, IfO
 ghost use Rattle.cv_base.specs.Counts.{HasCause};
 ghost use Rattle.cv_base.specs.Told.{WhereTold};
 ghost use Rattle.cv_ports.specs.Streams.{onto, Wrote};
-ghost use Rattle.cv_http.specs.Wires.{Reads};
+ghost use Rattle.cv_http.specs.Wires.{Reads, Looks};
 ghost use Rattle.cv_http.specs.Faults.{IsBodyFault};
 ghost use Rattle.cv_http.specs.declared.fault.HttpFault.TheVariants.{Short, ReadFault};
 ghost use Rattle.cv_session.specs.Turns.{IsGood};
-ghost use Rattle.cv_session.specs.Payloads.{ReadsBody, is_payload};
+ghost use Rattle.cv_session.specs.Payloads.{ReadsBody, LooksWithin, is_payload};
 ghost use Rattle.cv_session.specs.Requests.{body_limit, body_size, waits, line_text, Asks, code_of_fault};
-ghost use Rattle.cv_session.specs.Exchanges.{Gets, GetsBehind};
+ghost use Rattle.cv_session.specs.Exchanges.{Gets, GetsBehind, IsAsking, IsAskingBehind};
 ghost use Rattle.cv_session.specs.declared.request.Unread.TheVariants.{Fault, Unsaid};
 
 use crate::find_turn::request_turn;
@@ -96,23 +96,25 @@ fn say_line<W: Sink>(sink: &mut W, head: &RequestHead) -> Result<(), Failed>
 }
 
 /// Reads the body behind a head, and what it asks.
-fn read_turn<R: Source + Drop>(
+fn read_turn<R: Source + Drop, W: Sink>(
     alloc: Global,
     repository: &Name,
     keys: &KeyTable,
     wire: &mut Wire<R>,
     head: &RequestHead,
+    beside: &W,
 ) -> Result<Turn, HttpFault>
     ensures reads { ReadsBody R.left wire.old wire.new (body_size head.now) (Asks repository.now keys.now head.now) result }
     ensures cut { result ≡ Err Short → WhereTold (R.left wire.new.source) (λ left. left ≡ []) }
     ensures faults { IfErr result IsBodyFault }
     ensures cause { HasCause (R.faults wire.old.source) (R.faults wire.new.source) (result ≡ Err ReadFault) }
+    ensures looks { LooksWithin R.left R.looks wire.old wire.new (W.passed beside.now) (body_size head.now) }
 {
     let size = body_size(head);
     if is_payload(head) {
-        return read_payload(alloc, keys, wire, head, size);
+        return read_payload(alloc, keys, wire, head, size, beside);
     }
-    match wire.read_body(alloc, size) {
+    match wire.read_body(alloc, size, beside) {
         Ok(body) => match request_turn(alloc, repository, keys, head, body.as_slice()) {
             Ok(turn) => Ok(turn),
             Err(NoMemory) => Err(HttpFault::NoMemory),
@@ -136,12 +138,13 @@ fn read_asked<R: Source + Drop, W: Sink>(
     ensures reads { HasCause (R.faults wire.old.source) (R.faults wire.new.source) (result ≡ Err (Fault ReadFault)) }
     ensures flushed { result ≢ Err Unsaid → W.passed sink.old ≡ W.taken sink.old → W.passed sink.new ≡ W.taken sink.new }
     ensures writes { HasCause (W.faults sink.old) (W.faults sink.new) (result ≡ Err Unsaid) }
+    ensures looks { W.passed sink.old ≡ W.taken sink.old → Looks R.left R.looks wire.old wire.new (IsAskingBehind head.now (W.taken sink.old)) }
 {
     if body_size(head) > body_limit(head) {
         return Err(Unread::Fault(HttpFault::BodyTooLarge));
     }
     match say_line(sink, head) {
-        Ok(()) => match read_turn(alloc, repository, keys, wire, head) {
+        Ok(()) => match read_turn(alloc, repository, keys, wire, head, &*sink) {
             Ok(turn) => Ok(Asked {
                 turn,
                 last: head.last,
@@ -168,8 +171,9 @@ pub(crate) fn next_asked<R: Source + Drop, W: Sink>(
     ensures reads { HasCause (R.faults wire.old.source) (R.faults wire.new.source) (result ≡ Err (Fault ReadFault)) }
     ensures flushed { result ≢ Err Unsaid → W.passed sink.old ≡ W.taken sink.old → W.passed sink.new ≡ W.taken sink.new }
     ensures writes { HasCause (W.faults sink.old) (W.faults sink.new) (result ≡ Err Unsaid) }
+    ensures looks { W.passed sink.old ≡ W.taken sink.old → Looks R.left R.looks wire.old wire.new (IsAsking (W.taken sink.old)) }
 {
-    match wire.read_head(alloc) {
+    match wire.read_head(alloc, &*sink) {
         Ok(Some(head)) => match read_asked(alloc, repository, keys, wire, sink, &head) {
             Ok(asked) => Ok(Some(asked)),
             Err(unread) => Err(unread),

@@ -79,12 +79,12 @@ fn write_code<W: Sink>(alloc: Global, sink: &mut W, code: Code, last: bool) -> R
 pub(crate) fn write_answer<W: Sink>(
     alloc: Global,
     sink: &mut W,
-    answer: &Response,
+    answer: Response,
     last: bool,
 ) -> Result<(), SendFault>
-    requires { is_writable answer.now ≡ true }
-    ensures whole { OnOk result (W.taken sink.new ≡ onto (W.taken sink.old) (reply_of answer.now last)) }
-    ensures part { Wrote (W.taken sink.old) (W.taken sink.new) (reply_of answer.now last) }
+    requires { is_writable answer ≡ true }
+    ensures whole { OnOk result (W.taken sink.new ≡ onto (W.taken sink.old) (reply_of answer last)) }
+    ensures part { Wrote (W.taken sink.old) (W.taken sink.new) (reply_of answer last) }
     ensures nothing { result ≡ Err NoMemory → W.taken sink.new ≡ W.taken sink.old }
     ensures flushed { result ≢ Err WriteFault → W.passed sink.old ≡ W.taken sink.old → W.passed sink.new ≡ W.taken sink.new }
     ensures cause { HasCause (W.faults sink.old) (W.faults sink.new) (result ≡ Err WriteFault) }
@@ -98,11 +98,8 @@ pub(crate) fn write_answer<W: Sink>(
             last,
             bytes.as_slice(),
         ),
-        Response::Fixed(code) => write_code(alloc, sink, *code, last),
-        Response::Message(message) => write_message(alloc, sink, message, last),
-        Response::Reply(reply) => match answer_reply(reply) {
-            Ok(message) => write_message(alloc, sink, &message, last),
-            Err(code) => write_code(alloc, sink, code, last),
-        },
+        Response::Fixed(code) => write_code(alloc, sink, code, last),
+        Response::Message(message) => write_message(alloc, sink, &message, last),
+        Response::Reply(reply) => write_message(alloc, sink, &answer_reply(reply), last),
     }
 }

@@ -5,7 +5,7 @@ ghost use Rattle.cv_base.specs.Told.{WhereTold};
 ghost use Rattle.cv_http.specs.Wires.{Reads};
 ghost use Rattle.cv_http.specs.declared.fault.HttpFault.TheVariants.{Short};
 ghost use Rattle.cv_session.specs.Exchanges.{EndsBy};
-ghost use Rattle.cv_session.specs.Sessions.{Session};
+ghost use Rattle.cv_session.specs.Sessions.{Session, ReadsUpToDate};
 ghost use Rattle.cv_session.specs.Standing.{standing};
 ghost use Rattle.cv_session.specs.declared.request.Unread.TheVariants.{Fault, Unsaid};
 ghost use Rattle.cv_session.specs.declared.session_end.SessionEnd.TheVariants.{Clean, Bad, ReadFault, WriteFault};
@@ -34,7 +34,7 @@ fn refuse_fault<W: Sink>(alloc: Global, sink: &mut W, fault: HttpFault) -> Sessi
             _ => SessionEnd::NoMemory,
         };
     };
-    match write_answer(alloc, sink, &Response::Fixed(code), true) {
+    match write_answer(alloc, sink, Response::Fixed(code), true) {
         Ok(()) => SessionEnd::Bad(fault),
         Err(SendFault::WriteFault) => SessionEnd::WriteFault,
         Err(SendFault::NoMemory) => SessionEnd::NoMemory,
@@ -70,7 +70,9 @@ pub fn session<K: Desk, S: Signer, C: Clock, H: Hold, R: Source + Drop, W: Sink>
     sink: &mut W,
 ) -> SessionEnd
     ensures session { Reads R.left wire.old wire.new (λ b.
-        Session K.does (K.named desk.old) keys.now (S.seal_of signer.now) b wire.new.held (W.taken sink.old) (W.taken sink.new)
+        Session K.does (K.named desk.old) keys.now (S.seal_of signer.now)
+        (ReadsUpToDate (K.named desk.old) keys.now (S.seal_of signer.now) R.left R.looks wire.old wire.new (W.taken sink.old) (W.passed sink.old))
+        b wire.new.held (W.taken sink.old) (W.taken sink.new)
         (standing desk.old (C.moments clock.old) (K.faults desk.old)) (standing desk.new (C.moments clock.new) (K.faults desk.new)) result) }
 
     // Where the sink didn't fail, all that was taken is passed on: also where the source failed, at whichever read.

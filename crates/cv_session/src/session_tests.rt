@@ -162,7 +162,7 @@ fn what_is_whole_is_answered_before_more_is_read(rt: HostRuntime) -> Result<(), 
 }
 
 /// The input, the output and the end of sessions, by `tools/payload_vectors.py`.
-static SESSIONS: [(&str, &str, SessionEnd); 31] = [
+static SESSIONS: [(&str, &str, SessionEnd); 41] = [
     (
         "POST /api/v1/payloads HTTP/1.1\r\nHost: x\r\nMessage-Size: 100\r\nAuthorization: k1 Y2RmNDcxMzE5ZTRlMzhlZjNjOTdhYzkxZTdiMGQ0Yjk5OWYzNDQ0Ng==\r\nContent-Length: 112\r\n\r\n{\"header_size\":12,\"payload_digest\":\"b08a09c720c29d01eac55d89ccc12bad7186d45f\",\"session_token\":\"1-1\"}V2\nS0\nN0\n--\n",
         "HTTP/1.1 200 OK\r\nContent-Type: application/json\r\nContent-Length: 15\r\n\r\n{\"status\":\"ok\"}",
@@ -309,5 +309,55 @@ static SESSIONS: [(&str, &str, SessionEnd); 31] = [
         "GET /none HTTP/1.1\r\nHost: x\r\nConnection: close\r\n\r\n",
         "HTTP/1.1 404 Not Found\r\nContent-Type: text/plain\r\nContent-Length: 10\r\nConnection: close\r\n\r\nNot Found\n",
         SessionEnd::Closed,
+    ),
+    (
+        "POST /api/v1/payloads HTTP/1.1\r\nHost: x\r\nMessage-Size: 100\r\nAuthorization: k1 MzA4YmY4OGNhNDM1N2E1NzRmMWQ4MTI2YWJhOTMxOGQyM2E0YzFlZg==\r\nContent-Length: 112\r\n\r\n{\"header_size\":12,\"payload_digest\":\"fc2ec7312d85986e4ee299b4a0f00b26c2052d46\",\"session_token\":\"1-1\"}V3\nS0\nN0\n--\nPOST /api/v1/payloads HTTP/1.1\r\nHost: x\r\nMessage-Size: 100\r\nAuthorization: k1 Y2RmNDcxMzE5ZTRlMzhlZjNjOTdhYzkxZTdiMGQ0Yjk5OWYzNDQ0Ng==\r\nContent-Length: 112\r\n\r\n{\"header_size\":12,\"payload_digest\":\"b08a09c720c29d01eac55d89ccc12bad7186d45f\",\"session_token\":\"1-1\"}V2\nS0\nN0\n--\n",
+        "HTTP/1.1 200 OK\r\nContent-Type: application/json\r\nContent-Length: 38\r\n\r\n{\"reason\":\"bad_pack\",\"status\":\"error\"}HTTP/1.1 200 OK\r\nContent-Type: application/json\r\nContent-Length: 15\r\n\r\n{\"status\":\"ok\"}",
+        SessionEnd::Clean,
+    ),
+    (
+        "POST /api/v1/payloads HTTP/1.1\r\nHost: x\r\nMessage-Size: 100\r\nAuthorization: k1 Y2MwYWFmYWViZTEyYzE0MGI1ZjViZDBkMDEyNmRhYTJiYjUwMWEzOQ==\r\nContent-Length: 119\r\n\r\n{\"header_size\":19,\"payload_digest\":\"5e021c6e37645d8dafee223c76a27f81d7a74300\",\"session_token\":\"1-1\"}V2\nS33554433\nN0\n--\nPOST /api/v1/payloads HTTP/1.1\r\nHost: x\r\nMessage-Size: 100\r\nAuthorization: k1 Y2RmNDcxMzE5ZTRlMzhlZjNjOTdhYzkxZTdiMGQ0Yjk5OWYzNDQ0Ng==\r\nContent-Length: 112\r\n\r\n{\"header_size\":12,\"payload_digest\":\"b08a09c720c29d01eac55d89ccc12bad7186d45f\",\"session_token\":\"1-1\"}V2\nS0\nN0\n--\n",
+        "HTTP/1.1 200 OK\r\nContent-Type: application/json\r\nContent-Length: 38\r\n\r\n{\"reason\":\"bad_pack\",\"status\":\"error\"}HTTP/1.1 200 OK\r\nContent-Type: application/json\r\nContent-Length: 15\r\n\r\n{\"status\":\"ok\"}",
+        SessionEnd::Clean,
+    ),
+    (
+        "POST /api/v1/payloads HTTP/1.1\r\nHost: x\r\nMessage-Size: 100\r\nAuthorization: k1 YzJhODU3ZjljODE2NmYyZGU0NmFjMmY0NDNiYzhjNmRjOWM3YjA4OQ==\r\nContent-Length: 116\r\n\r\n{\"header_size\":16,\"payload_digest\":\"c6873d300b3a335c60597bbb31e8bc166e64a2aa\",\"session_token\":\"1-1\"}V2\nS0\nN10001\n--\nPOST /api/v1/payloads HTTP/1.1\r\nHost: x\r\nMessage-Size: 100\r\nAuthorization: k1 Y2RmNDcxMzE5ZTRlMzhlZjNjOTdhYzkxZTdiMGQ0Yjk5OWYzNDQ0Ng==\r\nContent-Length: 112\r\n\r\n{\"header_size\":12,\"payload_digest\":\"b08a09c720c29d01eac55d89ccc12bad7186d45f\",\"session_token\":\"1-1\"}V2\nS0\nN0\n--\n",
+        "HTTP/1.1 200 OK\r\nContent-Type: application/json\r\nContent-Length: 38\r\n\r\n{\"reason\":\"bad_pack\",\"status\":\"error\"}HTTP/1.1 200 OK\r\nContent-Type: application/json\r\nContent-Length: 15\r\n\r\n{\"status\":\"ok\"}",
+        SessionEnd::Clean,
+    ),
+    (
+        "POST /api/v1/payloads HTTP/1.1\r\nHost: x\r\nMessage-Size: 100\r\nAuthorization: k1 MDI2ZmZkMGJkODI5MDhjMTM5Y2U5ODA5MTY5MTVlNjMzZDM1YjI5ZA==\r\nContent-Length: 163\r\n\r\n{\"header_size\":57,\"payload_digest\":\"fd8335814dcb27f553e8413a9f7932cb824d889b\",\"session_token\":\"1-1\"}V2\nS5\nN1\n--\nC f572d396fae9206628714fb2ce00f72e94f2258f 6\nhello\nPOST /api/v1/payloads HTTP/1.1\r\nHost: x\r\nMessage-Size: 100\r\nAuthorization: k1 Y2RmNDcxMzE5ZTRlMzhlZjNjOTdhYzkxZTdiMGQ0Yjk5OWYzNDQ0Ng==\r\nContent-Length: 112\r\n\r\n{\"header_size\":12,\"payload_digest\":\"b08a09c720c29d01eac55d89ccc12bad7186d45f\",\"session_token\":\"1-1\"}V2\nS0\nN0\n--\n",
+        "HTTP/1.1 200 OK\r\nContent-Type: application/json\r\nContent-Length: 38\r\n\r\n{\"reason\":\"bad_pack\",\"status\":\"error\"}HTTP/1.1 200 OK\r\nContent-Type: application/json\r\nContent-Length: 15\r\n\r\n{\"status\":\"ok\"}",
+        SessionEnd::Clean,
+    ),
+    (
+        "POST /api/v1/payloads HTTP/1.1\r\nHost: x\r\nMessage-Size: 101\r\nAuthorization: k1 ZDIxNTU2MGIyYjY0MzI4YzA2Mzc2YTg2ZDcyOTE4MmQzMTkwODNhNg==\r\nContent-Length: 216\r\n\r\n{\"header_size\":103,\"payload_digest\":\"5511d15ce2a74bc39e93396b3d94e6bdcbdb01e5\",\"session_token\":\"1-1\"}V2\nS12\nN2\n--\nC f572d396fae9206628714fb2ce00f72e94f2258f 6\nC f572d396fae9206628714fb2ce00f72e94f2258f 6\nhello\nhello\nPOST /api/v1/payloads HTTP/1.1\r\nHost: x\r\nMessage-Size: 100\r\nAuthorization: k1 Y2RmNDcxMzE5ZTRlMzhlZjNjOTdhYzkxZTdiMGQ0Yjk5OWYzNDQ0Ng==\r\nContent-Length: 112\r\n\r\n{\"header_size\":12,\"payload_digest\":\"b08a09c720c29d01eac55d89ccc12bad7186d45f\",\"session_token\":\"1-1\"}V2\nS0\nN0\n--\n",
+        "HTTP/1.1 200 OK\r\nContent-Type: application/json\r\nContent-Length: 38\r\n\r\n{\"reason\":\"bad_pack\",\"status\":\"error\"}HTTP/1.1 200 OK\r\nContent-Type: application/json\r\nContent-Length: 15\r\n\r\n{\"status\":\"ok\"}",
+        SessionEnd::Clean,
+    ),
+    (
+        "POST /api/v1/payloads HTTP/1.1\r\nHost: x\r\nMessage-Size: 0\r\nAuthorization: k1 NzFmNDg3MzQxNWZkZmU5YTQ0YjU0YWIxNTAzZDE1MDZiMDVmMTI5NA==\r\nContent-Length: 12\r\n\r\nV2\nS0\nN0\n--\nPOST /api/v1/payloads HTTP/1.1\r\nHost: x\r\nMessage-Size: 100\r\nAuthorization: k1 Y2RmNDcxMzE5ZTRlMzhlZjNjOTdhYzkxZTdiMGQ0Yjk5OWYzNDQ0Ng==\r\nContent-Length: 112\r\n\r\n{\"header_size\":12,\"payload_digest\":\"b08a09c720c29d01eac55d89ccc12bad7186d45f\",\"session_token\":\"1-1\"}V2\nS0\nN0\n--\n",
+        "HTTP/1.1 200 OK\r\nContent-Type: application/json\r\nContent-Length: 38\r\n\r\n{\"reason\":\"not_json\",\"status\":\"error\"}HTTP/1.1 200 OK\r\nContent-Type: application/json\r\nContent-Length: 15\r\n\r\n{\"status\":\"ok\"}",
+        SessionEnd::Clean,
+    ),
+    (
+        "POST /api/v1/payloads HTTP/1.1\r\nHost: x\r\nMessage-Size: 100\r\nAuthorization: k1 Y2RmNDcxMzE5ZTRlMzhlZjNjOTdhYzkxZTdiMGQ0Yjk5OWYzNDQ0Ng==\r\nContent-Length: 112\r\n\r\n{\"header_size\":12,\"payload_digest\":\"b08a09c720c29d01eac55d89ccc12bad7186d45f\",\"session_token\":\"1-1\"}",
+        "",
+        SessionEnd::Bad(HttpFault::Short),
+    ),
+    (
+        "POST /api/v1/payloads HTTP/1.1\r\nHost: x\r\nMessage-Size: 100\r\nAuthorization: k1 MmI1ZjQ1M2RkZWIyNmQ4MmNhNDA5OWJhNmU1YWU5OWQ5MTY3MjRhZA==\r\nContent-Length: 163\r\n\r\n{\"header_size\":57,\"payload_digest\":\"e1e3e78f139c1ed8df33e97dadf7ec11bc483ee1\",\"session_token\":\"1-1\"}V2\nS6\nN1\n--\nC f572d396fae9206628714fb2ce00f72e94f2258f 6\n",
+        "",
+        SessionEnd::Bad(HttpFault::Short),
+    ),
+    (
+        "POST /api/v1/payloads HTTP/1.1\r\nHost: x\r\na: b\r\na: b\r\na: b\r\na: b\r\na: b\r\na: b\r\na: b\r\na: b\r\na: b\r\na: b\r\na: b\r\na: b\r\na: b\r\na: b\r\na: b\r\na: b\r\na: b\r\na: b\r\na: b\r\na: b\r\na: b\r\na: b\r\na: b\r\na: b\r\na: b\r\na: b\r\na: b\r\na: b\r\na: b\r\na: b\r\na: b\r\na: b\r\na: b\r\na: b\r\na: b\r\na: b\r\na: b\r\na: b\r\na: b\r\na: b\r\na: b\r\na: b\r\na: b\r\na: b\r\na: b\r\na: b\r\na: b\r\na: b\r\na: b\r\na: b\r\na: b\r\na: b\r\na: b\r\na: b\r\na: b\r\na: b\r\na: b\r\na: b\r\na: b\r\na: b\r\na: b\r\na: b\r\na: b\r\na: b\r\n\r\n",
+        "HTTP/1.1 431 Request Header Fields Too Large\r\nContent-Type: text/plain\r\nContent-Length: 32\r\nConnection: close\r\n\r\nRequest Header Fields Too Large\n",
+        SessionEnd::Bad(HttpFault::HeadTooLarge),
+    ),
+    (
+        "POST /api/v1/leases/1-1 HTTP/1.1\r\nHost: x\r\nAuthorization: k1 NGI4MjQzZjE5NWRkOGE1OGQzYTE4MjBhMTFiZjcxZjE1YjQ4MjExYg==\r\nContent-Length: 133\r\n\r\n{\"new_root_hash\":\"c2a6b03f190dfb2b4aa91f8af8d477a9bc3401dc\",\"old_root_hash\":\"c00dbbc9dadfbe1e232e93a729dd4752fade0abf\",\"tag_name\":\"\"}",
+        "HTTP/1.1 200 OK\r\nContent-Type: application/json\r\nContent-Length: 44\r\n\r\n{\"reason\":\"revisions_full\",\"status\":\"error\"}",
+        SessionEnd::Clean,
     ),
 ];

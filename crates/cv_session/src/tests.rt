@@ -7,7 +7,7 @@ use crate::find_turn::request_turn;
 use crate::target::Resource;
 use crate::turn::Turn;
 use cv_answers::{Answer, Refusal};
-use cv_base::{Name, RepoPath, Text, Token};
+use cv_base::{Name, RepoPath, Text, Token, digest_text};
 use cv_gate::{LeaseLine, Op, Reply};
 use cv_http::{Method, RequestHead};
 use cv_keys::KeyTable;
@@ -18,7 +18,7 @@ use std::test::Fail;
 const KEYS: &[u8] = br#"{"keys":[{"id":"k1","secret":"s1"},{"id":"k2","secret":"s2"}]}"#;
 
 /// Method, target, Authorization header and body of requests, and what each asks, by `tools/lease_vectors.py`.
-static REQUESTS: [(Method, &str, Option<&str>, &str, &str); 25] = [
+static REQUESTS: [(Method, &str, Option<&str>, &str, &str); 34] = [
     (
         Method::Post,
         "/api/v1/leases",
@@ -113,8 +113,71 @@ static REQUESTS: [(Method, &str, Option<&str>, &str, &str); 25] = [
     (
         Method::Post,
         "/api/v1/leases/1-1",
+        Some("k1 YThmN2VhNGM0ZDYxOTAyYmFkMjgyZGQ2Njk4M2U0OTBlNWJkNjkxNQ=="),
+        "{",
+        "wrong_mac",
+    ),
+    (
+        Method::Post,
+        "/api/v1/leases/1-1",
         Some("k1 NGI4MjQzZjE5NWRkOGE1OGQzYTE4MjBhMTFiZjcxZjE1YjQ4MjExYg=="),
-        "{}",
+        "{",
+        "not_json",
+    ),
+    (
+        Method::Post,
+        "/api/v1/leases/1-1",
+        Some("k1 NGI4MjQzZjE5NWRkOGE1OGQzYTE4MjBhMTFiZjcxZjE1YjQ4MjExYg=="),
+        r#"{"new_root_hash":1}"#,
+        "missing_member old_root_hash",
+    ),
+    (
+        Method::Post,
+        "/api/v1/leases/1-1",
+        Some("k1 NGI4MjQzZjE5NWRkOGE1OGQzYTE4MjBhMTFiZjcxZjE1YjQ4MjExYg=="),
+        r#"{"old_root_hash":"307aac20fe5391faacd0ea38f9589fb797a3685cCC","new_root_hash":1}"#,
+        "bad_value old_root_hash",
+    ),
+    (
+        Method::Post,
+        "/api/v1/leases/1-1",
+        Some("k1 NGI4MjQzZjE5NWRkOGE1OGQzYTE4MjBhMTFiZjcxZjE1YjQ4MjExYg=="),
+        r#"{"old_root_hash":"307aac20fe5391faacd0ea38f9589fb797a3685c","new_root_hash":1,"tag_name":1}"#,
+        "wrong_type new_root_hash",
+    ),
+    (
+        Method::Post,
+        "/api/v1/leases/1-1",
+        Some("k1 NGI4MjQzZjE5NWRkOGE1OGQzYTE4MjBhMTFiZjcxZjE1YjQ4MjExYg=="),
+        r#"{"old_root_hash":"307aac20fe5391faacd0ea38f9589fb797a3685c","new_root_hash":"c461d32667895d085fa62849e32f450269470f8f","tag_name":"v\n1"}"#,
+        "bad_value tag_name",
+    ),
+    (
+        Method::Post,
+        "/api/v1/leases/1-1",
+        Some("k1 NGI4MjQzZjE5NWRkOGE1OGQzYTE4MjBhMTFiZjcxZjE1YjQ4MjExYg=="),
+        r#"{"old_root_hash":"307aac20fe5391faacd0ea38f9589fb797a3685c","new_root_hash":"c461d32667895d085fa62849e32f450269470f8f","tag_name":""}"#,
+        "commit k1 of 1-1 from 307aac20fe5391faacd0ea38f9589fb797a3685c to c461d32667895d085fa62849e32f450269470f8f as ''",
+    ),
+    (
+        Method::Post,
+        "/api/v1/leases/1-1",
+        Some("k1 NGI4MjQzZjE5NWRkOGE1OGQzYTE4MjBhMTFiZjcxZjE1YjQ4MjExYg=="),
+        r#"{"old_root_hash":"307aac20fe5391faacd0ea38f9589fb797a3685cC","new_root_hash":"c461d32667895d085fa62849e32f450269470f8f"}"#,
+        "commit k1 of 1-1 from 307aac20fe5391faacd0ea38f9589fb797a3685c to c461d32667895d085fa62849e32f450269470f8f as ''",
+    ),
+    (
+        Method::Post,
+        "/api/v1/leases/1-01",
+        Some("k2 ZGFlYTM5NzM3ODJjMDQ1MDg0NzUzOTE2NTAxYmJiYTgwYzk2YmRhZg=="),
+        r#"{"old_root_hash":"307aac20fe5391faacd0ea38f9589fb797a3685c","new_root_hash":"c461d32667895d085fa62849e32f450269470f8fC","tag_name":"v1"}"#,
+        "commit k2 of 0-0 from 307aac20fe5391faacd0ea38f9589fb797a3685c to c461d32667895d085fa62849e32f450269470f8f as 'v1'",
+    ),
+    (
+        Method::Post,
+        "/api/v1/repos",
+        Some("k1 NzFmNDg3MzQxNWZkZmU5YTQ0YjU0YWIxNTAzZDE1MDZiMDVmMTI5NA=="),
+        "",
         "404 Not Found",
     ),
     (
@@ -219,6 +282,20 @@ fn step_words(alloc: Global, op: &Op) -> Result<String, Fail> {
             let path = path.text(alloc)?;
             Ok(format!(in alloc; "lease {key} on '{path}'")?)
         }
+        Op::Commit {
+            key,
+            token,
+            old_root,
+            new_root,
+            tag,
+        } => {
+            let key = key.as_str();
+            let token = token.text(alloc)?;
+            let old = digest_text(alloc, old_root)?;
+            let new = digest_text(alloc, new_root)?;
+            let tag = tag.as_str();
+            Ok(format!(in alloc; "commit {key} of {token} from {old} to {new} as '{tag}'")?)
+        }
         Op::Cancel { key, token } => {
             let key = key.as_str();
             let token = token.text(alloc)?;
@@ -230,13 +307,21 @@ fn step_words(alloc: Global, op: &Op) -> Result<String, Fail> {
 
 /// A refusal in words.
 fn refusal_words(alloc: Global, refusal: &Refusal) -> Result<String, Fail> {
-    let reason = refusal.reason.as_str();
-    match refusal.member {
-        Some(member) => {
+    match refusal {
+        Refusal::Plain(reason) => Ok(String::from_str(alloc, reason.as_str())?),
+        Refusal::MissingMember(member) => {
             let member = member.as_str();
-            Ok(format!(in alloc; "{reason} {member}")?)
+            Ok(format!(in alloc; "missing_member {member}")?)
         }
-        None => Ok(String::from_str(alloc, reason)?),
+        Refusal::WrongType(member) => {
+            let member = member.as_str();
+            Ok(format!(in alloc; "wrong_type {member}")?)
+        }
+        Refusal::BadValue(member) => {
+            let member = member.as_str();
+            Ok(format!(in alloc; "bad_value {member}")?)
+        }
+        _ => Ok(String::from_str(alloc, "another refusal")?),
     }
 }
 
@@ -314,11 +399,16 @@ fn repositories_text(alloc: Global) -> Result<String, Fail> {
 }
 
 /// How a reply of the gate is answered.
-fn reply_text(alloc: Global, reply: &Reply) -> Result<String, Fail> {
-    match answer_reply(reply) {
-        Ok(answer) => answer_text(alloc, &answer),
-        Err(code) => Ok(String::from_str(alloc, code.text())?),
-    }
+fn reply_text(alloc: Global, reply: Reply) -> Result<String, Fail> {
+    answer_text(alloc, &answer_reply(reply))
+}
+
+/// What the gate replies where two paths have one key.
+fn path_collision(alloc: Global) -> Result<Reply, Fail> {
+    Ok(Reply::PathCollision {
+        first: RepoPath::read(alloc, "/b")?,
+        second: RepoPath::read(alloc, "/a")?,
+    })
 }
 
 #[test]
@@ -346,7 +436,7 @@ fn replies_are_answered(rt: HostRuntime) -> Result<(), Fail> {
         root: [0xab; 20],
     };
     assert_eq!(rt;
-        reply_text(rt.alloc(), &granted)?.as_str(),
+        reply_text(rt.alloc(), granted)?.as_str(),
         r#"{"revision":3,"root_hash":"abababababababababababababababababababab","session_token":"1-2","status":"ok"}"#
     );
     let busy = Reply::PathBusy {
@@ -354,16 +444,20 @@ fn replies_are_answered(rt: HostRuntime) -> Result<(), Fail> {
         remaining: 1,
     };
     assert_eq!(rt;
-        reply_text(rt.alloc(), &busy)?.as_str(),
+        reply_text(rt.alloc(), busy)?.as_str(),
         r#"{"lease":"1-2","status":"path_busy","time_remaining":1}"#
     );
     assert_eq!(rt;
-        reply_text(rt.alloc(), &Reply::Cancelled)?.as_str(),
+        reply_text(rt.alloc(), Reply::Cancelled)?.as_str(),
         r#"{"status":"ok"}"#
     );
     assert_eq!(rt;
-        reply_text(rt.alloc(), &Reply::NoParent)?.as_str(),
+        reply_text(rt.alloc(), Reply::NoParent)?.as_str(),
         r#"{"reason":"no_parent","status":"error"}"#
+    );
+    assert_eq!(rt;
+        reply_text(rt.alloc(), path_collision(rt.alloc())?)?.as_str(),
+        r#"{"path":"/b","reason":"path_collision","second":"/a","status":"error"}"#
     );
     Ok(())
 }

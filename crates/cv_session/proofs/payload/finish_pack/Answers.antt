@@ -1,4 +1,4 @@
-use Rattle.std.proofs.Common.{sym, rules}
+use Rattle.std.proofs.Common.{rules}
 use Rattle.cv_session.proofs.Payloads.{refuses}
 use Rattle.cv_session.proofs.payload.finish_pack.Goals as goal
 

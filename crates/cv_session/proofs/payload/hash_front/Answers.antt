@@ -1,4 +1,4 @@
-use Rattle.std.proofs.Common.{◌≡◌, ◌++◌, ◌∙◌, List, ℕ, take, subst, rules}
+use Rattle.std.proofs.Common.{List, ℕ, take, subst, rules}
 use Rattle.sha1.specs.Sha1.{Holds}
 use Rattle.cv_session.proofs.Payloads.{hashed}
 use Rattle.cv_session.proofs.payload.hash_front.Goals as goal

@@ -1,4 +1,4 @@
-use Rattle.cv_session.proofs.Payloads.{turn_denied, not_passed, no_memory}
+use Rattle.cv_session.proofs.Payloads.{turn_denied}
 use Rattle.cv_session.proofs.payload.pass_denied.Goals as goal
 
 pub returns-in_ok-pass_over-in-Refused-clause-reads : goal.returns-in_ok-pass_over-in-Refused-clause-reads

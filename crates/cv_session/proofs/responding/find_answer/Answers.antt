@@ -1,6 +1,4 @@
-use Rattle.std.proofs.Common.{◌≡◌, ◌∙◌, subst, sym}
-use Rattle.std.specs.Prelude.{IfOk}
-use Rattle.cv_session.specs.Answers.{repositories_answer}
+use Rattle.std.proofs.Common.{sym}
 use Rattle.cv_session.specs.Responses.{denied, refused}
 use Rattle.cv_session.proofs.TurnsDone.{at_rest, by_repositories}
 use Rattle.cv_session.proofs.responding.find_answer.Goals as goal

@@ -18,5 +18,5 @@ returns-in-Ok-clause-ends g c = refused c.args.fault c.in-Some.code refl (sym c.
 pub returns-in-Err-WriteFault-clause-ends : goal.returns-in-Err-WriteFault-clause-ends
 returns-in-Err-WriteFault-clause-ends g c = broken_off c.args.fault c.in-Some.code refl (sym c.fault_code.ensures ∙ c.in-Some.is) c.write_answer.ensures.part
 
-pub returns-clause-ends : goal.returns-clause-ends
-returns-clause-ends g c = no_memory c.args.fault refl (c.write_answer.ensures.nothing (c.in-Err-NoMemory.is ∙ ap (λ fault. Err fault) c.in-Err-NoMemory.field-0-is))
+pub returns-in-Err-NoMemory-clause-ends : goal.returns-in-Err-NoMemory-clause-ends
+returns-in-Err-NoMemory-clause-ends g c = no_memory c.args.fault refl (c.write_answer.ensures.nothing (c.in-Err-NoMemory.is ∙ ap (λ fault. Err fault) c.in-Err-NoMemory.field-0-is))
