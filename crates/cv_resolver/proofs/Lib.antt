@@ -1,0 +1,14 @@
+mod Examples
+mod Steps
+mod Spots
+mod Entering
+mod Passing
+mod Following
+mod Ways
+mod Keeping
+mod Names
+mod Arriving
+mod Going
+mod Taking
+mod Resolving
+mod Blames

@@ -1,0 +1,38 @@
+use Rattle.std.proofs.Common.{sym, ap, subst, ◌∙◌}
+use Rattle.std.specs.Prelude.{IfOk}
+use Rattle.std.specs.declared.result.Result.{Result}
+use Rattle.cv_resolver.specs.Look.{Finding, Stat, found_at, names_at, stat_at, content_at}
+use Rattle.cv_resolver.specs.Stage.{IsFoundBy}
+use Rattle.cv_resolver.specs.declared.stat_line.StatLine.{StatLine}
+use Rattle.cv_resolver.specs.declared.question.Question.{Question}
+use Rattle.cv_resolver.specs.declared.found.ClientFault.{ClientFault}
+use Rattle.cv_resolver.proofs.Arriving.{has_content, some_row, ok}
+use Rattle.cv_resolver.proofs.Entering.{tells}
+use Rattle.cv_resolver.proofs.arrival.arrive.Goals as goal
+
+pub returns-in_default-clause-found : goal.returns-in_default-clause-found
+returns-in_default-clause-found c = λ t tree fits is own. absurd (some_row t c.args.spot.now c.args.catalogue.now tree fits is own (let e = c.in_default.ensures in e.row))
+
+pub stat_line-requires : goal.stat_line-requires
+stat_line-requires c = let e = c.in-Some.ensures in has_content c.args.catalogue.now c.in-Some.row.now c.args.spot.now.at e.rules e.row
+
+pub content-requires : goal.content-requires
+content-requires c = let e = c.in-Some.ensures in has_content c.args.catalogue.now c.in-Some.row.now c.args.spot.now.at e.rules e.row
+
+pub returns-in-List-clause-found : goal.returns-in-List-clause-found
+returns-in-List-clause-found c = λ t tree fits is own.
+    let e = c.in-Some.ensures in
+    let told = tells t c.args.spot.now c.args.catalogue.now c.in-Some.row.now c.args.spot.now.at tree fits is own e.row in
+    subst (λ (f : Result Finding ClientFault). IfOk c.names.result (IsFoundBy f)) (sym (ap (λ (q : Question). found_at t q c.args.spot.now.at) c.in-List.is ∙ ap (names_at t c.args.spot.now.at) told)) (c.names.ensures.found t tree fits is own)
+
+pub returns-in_ok-line-in-Stat-clause-found : goal.returns-in_ok-line-in-Stat-clause-found
+returns-in_ok-line-in-Stat-clause-found c = λ t tree fits is own.
+    let e = c.in-Some.ensures in
+    let told = tells t c.args.spot.now c.args.catalogue.now c.in-Some.row.now c.args.spot.now.at tree fits is own e.row in
+    ap (λ (q : Question). found_at t q c.args.spot.now.at) c.in-Stat.is ∙ ap stat_at told ∙ ap (λ (l : StatLine). ok (Stat l)) (sym c.in_ok-line-in-Stat.ensures)
+
+pub returns-in-Read-clause-found : goal.returns-in-Read-clause-found
+returns-in-Read-clause-found c = λ t tree fits is own.
+    let e = c.in-Some.ensures in
+    let told = tells t c.args.spot.now c.args.catalogue.now c.in-Some.row.now c.args.spot.now.at tree fits is own e.row in
+    subst (λ (f : Result Finding ClientFault). IsFoundBy f c.content.result) (sym (ap (λ (q : Question). found_at t q c.args.spot.now.at) c.in-Read.is ∙ ap content_at told)) c.content.ensures.found

@@ -1,0 +1,36 @@
+use Rattle.std.proofs.Common.{◌≡◌, Option, List, [], refl, sym, ap, subst, ◌∙◌}
+use Rattle.std.specs.declared.option.Option.TheVariants.{Some}
+use Rattle.cv_base.specs.Path.{Path}
+use Rattle.cv_resolver.specs.Walk.{Name}
+use Rattle.cv_resolver.specs.Spot.{IsSpot}
+use Rattle.cv_resolver.specs.Target.{start_of}
+use Rattle.cv_resolver.specs.declared.spot.Spot.{Spot}
+use Rattle.cv_resolver.proofs.Following.{stops, leads_on}
+use Rattle.cv_resolver.proofs.follow.follow_link.Goals as goal
+
+abbrev start : Path → List Name → Option (Path × List Name)
+start p names = Some (p, names)
+
+pub returns-then-stops-clause-step : goal.returns-then-stops-clause-step
+returns-then-stops-clause-step c = λ t tree is l.
+    stops c.args.repository.now t c.args.stays c.args.walk c.args.path c.args.target.now (record { spot = c.moved.result; names = c.args.walk.names; links = c.args.walk.links }) (sym c.stops.ensures ∙ c.if-stops.true) l c.moved.ensures refl refl
+
+pub returns-in_ok-walk-in-Root-clause-step : goal.returns-in_ok-walk-in-Root-clause-step
+returns-in_ok-walk-in-Root-clause-step c = λ t tree is l.
+    let e = c.in_ok-walk-in-Root.ensures in
+    let next = c.in_ok-walk-in-Root.walk in
+    let top : next.spot.at ≡ [] = ap (λ (x : Spot). x.at) e.spot ∙ c.at_root.ensures.at in
+    leads_on c.args.repository.now t c.args.stays c.args.walk c.args.path c.args.target.now (sym c.stops.ensures ∙ c.if-stops.false) c.if-walk-eq0.false next c.in-Root.names.items
+    (subst (IsSpot t) (sym e.spot) (c.at_root.ensures.stands t tree is))
+    (c.in_ok-lead_of_target.ensures.lead c.args.walk.spot.at ∙ ap (start_of c.args.walk.spot.at) c.in-Root.is ∙ ap (λ (p : Path). start p c.in-Root.names.items) (sym top))
+    e.names e.links
+
+pub returns-in_ok-walk-in-Here-clause-step : goal.returns-in_ok-walk-in-Here-clause-step
+returns-in_ok-walk-in-Here-clause-step c = λ t tree is l.
+    let e = c.in_ok-walk-in-Here.ensures in
+    let next = c.in_ok-walk-in-Here.walk in
+    let here : next.spot.at ≡ c.args.walk.spot.at = ap (λ (x : Spot). x.at) e.spot in
+    leads_on c.args.repository.now t c.args.stays c.args.walk c.args.path c.args.target.now (sym c.stops.ensures ∙ c.if-stops.false) c.if-walk-eq0.false next c.in-Here.names.items
+    (subst (IsSpot t) (sym e.spot) is)
+    (c.in_ok-lead_of_target.ensures.lead c.args.walk.spot.at ∙ ap (start_of c.args.walk.spot.at) c.in-Here.is ∙ ap (λ (p : Path). start p c.in-Here.names.items) (sym here))
+    e.names e.links

@@ -1,0 +1,9 @@
+use Rattle.cv_resolver.proofs.Entering.{nearest_of}
+use Rattle.cv_resolver.proofs.Spots.{kept_is}
+use Rattle.cv_resolver.proofs.progress.go_by_cache.Goals as goal
+
+pub returns-in-Ok-clause-stage : goal.returns-in-Ok-clause-stage
+returns-in-Ok-clause-stage c = λ t tree fits own on.
+    let e = c.in-Ok.ensures in
+    let k = c.get-catalogue.ensures in
+    e.stage t tree fits (kept_is t c.args.walk.spot.level c.args.cache.now c.get-catalogue.result.now (nearest_of t c.args.walk.spot on.0).1 own k.kept k.place k.there) on

@@ -1,0 +1,8 @@
+use Rattle.std.proofs.Common.{◌∷◌, ◌++◌, [], true, sym, subst}
+use Rattle.cv_base.specs.Path.{Path}
+use Rattle.cv_resolver.specs.Spot.{StandsIn}
+use Rattle.cv_resolver.proofs.spot.above.Goals as goal
+
+pub returns-clause-stands : goal.returns-clause-stands
+returns-clause-stands c = λ t tree is.
+    subst (λ (p : Path). StandsIn t p true (c.levels_above-outer.result.0.items ++ c.levels_above-outer.result.1 ∷ [])) (sym c.into_parent.ensures) (c.levels_above-outer.ensures t c.args.spot.is_directory tree is)

@@ -1,0 +1,45 @@
+-- What stands at a name in the directory of a spot.
+use Rattle.std.specs.Prelude.{◌≡◌, true, [], ◌∷◌, ◌++◌, Option, Some, None, Contains}
+use Rattle.std.specs.FinMap.{get}
+use Rattle.cv_base.specs.Path.{Path}
+use Rattle.cv_base.specs.declared.attr.Attr.{Attr}
+use Rattle.cv_tree.specs.Tree.{Nodes}
+use Rattle.cv_tree.specs.declared.node.Node.{Node}
+use Rattle.cv_tree.specs.declared.node.Node.TheVariants as node
+use Rattle.cv_rows.specs.Catalogue.{Contents}
+use Rattle.cv_rows.specs.declared.row.Row.{Row}
+use Rattle.cv_rows.specs.declared.nested.Nested.{Nested}
+use Rattle.cv_resolver.specs.Walk.{Name}
+use Rattle.cv_resolver.specs.Spot.{IsSpot, levels_of}
+use Rattle.cv_resolver.specs.declared.spot.Spot.{Spot}
+use Rattle.cv_resolver.specs.declared.enter.Entered.{Entered}
+use Rattle.cv_resolver.specs.declared.enter.Entered.TheVariants.{Nothing, Stands, Link}
+
+-- the spot is in the cut of a Transition row, of whose catalogue the nested entry tells
+pub record IsInCut (c : Contents) (row : Row) (s : Spot) (path : Path) (into : Spot) : Type 0 where
+  pub entry : Nested
+  pub listed : Contains c.nested entry
+  pub path_is : entry.path ≡ path
+  pub at : into.at ≡ path
+  pub directory : into.is_directory ≡ true
+  pub levels : levels_of into ≡ levels_of s ++ record { path = path; hash = entry.hash; row = Some row } ∷ []
+
+-- a directory or a file
+abbrev pub IsOpen : Option Node → Type 0
+IsOpen None = ⊥
+IsOpen (Some (node.Dir attr)) = Unit {0}
+IsOpen (Some (node.File attr file)) = Unit {0}
+IsOpen (Some (node.Link attr target)) = ⊥
+
+-- the spot is at the path, where a directory or a file stands
+pub record IsThere (t : Nodes) (path : Path) (next : Spot) : Type 0 where
+  pub spot : IsSpot t next
+  pub at : next.at ≡ path
+  pub is_open : IsOpen (get t path)
+
+-- what stands at a name
+abbrev pub IsEntered : Nodes → Spot → Name → Entered → Type 0
+IsEntered t s name Nothing = get t (s.at ++ name ∷ []) ≡ None
+IsEntered t s name (Stands next) = IsThere t (s.at ++ name ∷ []) next
+IsEntered t s name (Link same path target) =
+    (same ≡ s) × (path ≡ s.at ++ name ∷ []) × ((attr : Attr) × (get t path ≡ Some (node.Link attr target)))

@@ -1,0 +1,44 @@
+-- The catalogues that a client keeps.
+use Rattle.std.specs.Prelude.{◌≡◌, ℕ, true, List, map, Some, Contains, bytes_eq}
+use Rattle.std.specs.Map.{lookup}
+use Rattle.sha1.specs.Sha1.{sha1}
+use Rattle.lru.specs.LruCache.{LruCache, lru_cache, promoted}
+use Rattle.cv_base.specs.Path.{Path}
+use Rattle.cv_tree.specs.Tree.{Nodes}
+use Rattle.cv_rows.specs.Catalogue.{Contents, IsCatalogue, catalogue_bytes}
+use Rattle.cv_cut.specs.Cuts.{is_cut}
+use Rattle.cv_cut.specs.Catalogues.{cat}
+use Rattle.cv_resolver.specs.declared.spot.Level.{Level}
+
+-- the pairs of a digest and its catalogue, the last used first, and how many there may be
+abbrev pub Kept : Type 0
+Kept = LruCache (List ℕ) Contents
+
+-- a catalogue, under the digest of its bytes
+pub record IsKept (hash : List ℕ) (c : Contents) : Type 0 where
+  pub is : IsCatalogue c
+  pub digest : hash ≡ sha1 (catalogue_bytes c)
+
+pub record AreKept (entries : List (List ℕ × Contents)) : Type 0 where
+  pub each : (hash : List ℕ) (c : Contents) → Contains entries (hash, c) → IsKept hash c
+
+-- the catalogue of a level is there: one of its digest, at its path
+pub record Holds (k : Kept) (l : Level) : Type 0 where
+  pub found : Contents
+  pub there : lookup (bytes_eq l.hash) k.entries ≡ Some found
+  pub place : found.at ≡ l.path
+
+-- Catalogues were used, one after another: each comes first then. Nothing else changes.
+pub data Uses (before : Kept) : Kept → Type 0 where
+  none : Uses before before
+  one : (after : Kept) (hash : List ℕ) → Uses before after → Uses before (lru_cache (promoted (bytes_eq hash) after.entries) after.cap)
+
+-- ---- in a tree
+
+-- no other bytes among these have the SHA-1 of a catalogue of the tree
+pub record AreOwn (t : Nodes) (strings : List (List ℕ)) : Type 0 where
+  pub own : (bytes : List ℕ) (c : Path) → Contains strings bytes → is_cut t c ≡ true → sha1 bytes ≡ sha1 (cat t c) → bytes ≡ cat t c
+
+-- the bytes of the catalogues that are kept
+abbrev pub kept_bytes : Kept → List (List ℕ)
+kept_bytes k = map (λ e. catalogue_bytes e.1) k.entries

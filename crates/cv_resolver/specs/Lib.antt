@@ -1,0 +1,16 @@
+pub mod Walk
+pub mod Asking
+pub mod Entry
+pub mod Look
+pub mod Spot
+pub mod Enter
+pub mod Pass
+pub mod Step
+pub mod Target
+pub mod Start
+pub mod Listing
+pub mod Stage
+pub mod Kept
+pub mod Progress
+pub mod Giving
+pub mod Resolver

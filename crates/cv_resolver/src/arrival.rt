@@ -1,0 +1,72 @@
+//! The end of a walk.
+ghost use Rattle.std.specs.Prelude.{◌≡◌, ℕ, Some, IfOk};
+ghost use Rattle.cv_tree.specs.Tree.{Nodes, IsTree};
+ghost use Rattle.cv_rows.specs.Catalogue.{IsCatalogue};
+ghost use Rattle.cv_rows.specs.Row.{HasContent};
+ghost use Rattle.cv_cut.specs.Catalogues.{Fits};
+ghost use Rattle.cv_cut.specs.Told.{node_of};
+ghost use Rattle.cv_resolver.specs.Spot.{IsSpot, IsOwn};
+ghost use Rattle.cv_resolver.specs.Look.{content_at, names_at, found_at};
+ghost use Rattle.cv_resolver.specs.Stage.{IsFoundBy, IsNearer};
+
+use crate::found::{ClientFault, Found};
+use crate::listing::listing;
+use crate::question::Question;
+use crate::spot::Spot;
+use crate::stage::Stage;
+use crate::stat_line::{entry_kind, stat_line};
+use cv_base::{Items, NoMemory};
+use cv_rows::{Catalogue, Row, RowKind};
+use std::alloc::Global;
+
+/// What a read finds in a row.
+fn content(row: &Row) -> Stage
+    requires { HasContent row.now.kind row.now.size row.now.hash row.now.target }
+    ensures found { IsFoundBy (content_at (Some (node_of row.now))) result }
+    ensures over { (n : ℕ) → IsNearer n result }
+{
+    match row.hash {
+        Some(hash) => Stage::Reads(hash),
+        None => Stage::Ends(Err(ClientFault::NotFile)),
+    }
+}
+
+/// What a list finds at a spot, in whose catalogue this row stands there.
+fn names(alloc: Global, spot: &Spot, row: &Row, catalogue: &Catalogue) -> Result<Stage, NoMemory>
+    requires { IsCatalogue catalogue.now }
+    ensures found { (t : Nodes) → IsTree t → Fits t → IsSpot t spot.now → IsOwn t spot.now catalogue.now
+        → IfOk result (IsFoundBy (names_at t spot.now.at (Some (node_of row.now)))) }
+    ensures over { (n : ℕ) → IfOk result (IsNearer n) }
+{
+    match entry_kind(row.kind) {
+        RowKind::Directory => {
+            let names = listing(alloc, catalogue, &spot.at)?;
+            Ok(Stage::Ends(Ok(Found::Names(Items::new(names)))))
+        }
+        _ => Ok(Stage::Ends(Err(ClientFault::NotDirectory))),
+    }
+}
+
+/// What a question finds where its walk ends, by the catalogue of the nearest cut.
+pub fn arrive(
+    alloc: Global,
+    question: &Question,
+    spot: &Spot,
+    catalogue: &Catalogue,
+) -> Result<Stage, NoMemory>
+    ensures found { (t : Nodes) → IsTree t → Fits t → IsSpot t spot.now → IsOwn t spot.now catalogue.now
+        → IfOk result (IsFoundBy (found_at t question.now spot.now.at)) }
+    ensures over { (n : ℕ) → IfOk result (IsNearer n) }
+{
+    let Some(row) = catalogue.row_at(&spot.at) else {
+        return Ok(Stage::Ends(Err(ClientFault::NotFound)));
+    };
+    match question {
+        Question::List(_) => names(alloc, spot, row, catalogue),
+        Question::Stat(_) => {
+            let line = stat_line(alloc, row)?;
+            Ok(Stage::Ends(Ok(Found::Stat(line))))
+        }
+        Question::Read(_) => Ok(content(row)),
+    }
+}

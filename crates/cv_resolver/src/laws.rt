@@ -1,0 +1,75 @@
+//! What follows from the definitions of a client's answer.
+ghost use Rattle.std.specs.Prelude.{◌≡◌, ◌&&◌, ◌⊎◌, ◌↔◌, ℕ, Bool, true, false, suc, List, [], ◌∷◌, ◌++◌, codes, Option, Some, None};
+ghost use Rattle.std.specs.FinMap.{get};
+ghost use Rattle.cv_base.specs.Path.{Path, parent};
+ghost use Rattle.cv_base.specs.PathText.{parts_of};
+ghost use Rattle.cv_base.specs.declared.attr.Attr.{Attr as TheAttr};
+ghost use Rattle.cv_tree.specs.Tree.{Nodes, is_directory};
+ghost use Rattle.cv_tree.specs.declared.node.Node.TheVariants as node;
+ghost use Rattle.cv_base.specs.declared.id.ObjectId.{ObjectId as TheId};
+ghost use Rattle.cv_resolver.specs.Kept.{Kept};
+ghost use Rattle.cv_resolver.specs.Stage.{wanted_by};
+ghost use Rattle.cv_resolver.specs.Giving.{EndsBy, IsOther, IsUndecoded, Takes};
+ghost use Rattle.cv_resolver.specs.declared.stage.Stage.{Stage as TheStage};
+ghost use Rattle.cv_resolver.specs.declared.found.ClientFault.TheVariants as fault;
+ghost use Rattle.cv_resolver.specs.Walk.{Name, NotFound, NotDirectory, TooManyLinks, ends, arrives, from, is_idle, is_up, is_last, lead_of, walk};
+
+/// A walk goes on name by name: over empty names and `.`, up at `..`, into an entry that is there.
+pub fn walks_go_by_names()
+    ensures done { (repository : List ℕ) (t : Nodes) (stays : Bool) (links : ℕ) (p : Path)
+        → walk repository t stays links [] p ≡ arrives p }
+    ensures idle { (repository : List ℕ) (t : Nodes) (stays : Bool) (links : ℕ) (name : Name) (names : List Name) (p : Path)
+        → is_idle name ≡ true → walk repository t stays links (name ∷ names) p ≡ walk repository t stays links names p }
+    ensures file { (repository : List ℕ) (t : Nodes) (stays : Bool) (links : ℕ) (name : Name) (names : List Name) (p : Path)
+        → is_idle name ≡ false → is_directory (get t p) ≡ false
+        → walk repository t stays links (name ∷ names) p ≡ ends p NotDirectory }
+    ensures up { (repository : List ℕ) (t : Nodes) (stays : Bool) (links : ℕ) (name : Name) (names : List Name) (p : Path)
+        → is_idle name ≡ false → is_directory (get t p) ≡ true → is_up name ≡ true
+        → walk repository t stays links (name ∷ names) p ≡ from p (walk repository t stays links names (parent p)) }
+    ensures nothing { (repository : List ℕ) (t : Nodes) (stays : Bool) (links : ℕ) (name : Name) (names : List Name) (p : Path)
+        → is_idle name ≡ false → is_directory (get t p) ≡ true → is_up name ≡ false → get t (p ++ name ∷ []) ≡ None
+        → walk repository t stays links (name ∷ names) p ≡ ends p NotFound }
+{}
+
+/// A walk that meets a link stays there, where it is the last name and isn't to be followed; else it goes on where the
+/// target leads, with one link less, and ends where no link is left.
+pub fn walks_follow_links()
+    ensures stays { (repository : List ℕ) (t : Nodes) (stays : Bool) (links : ℕ) (name : Name) (names : List Name) (p : Path)
+        (attr : TheAttr) (target : List ℕ) → is_idle name ≡ false → is_directory (get t p) ≡ true → is_up name ≡ false
+        → get t (p ++ name ∷ []) ≡ Some (node.Link attr target) → (is_last names && stays) ≡ true
+        → walk repository t stays links (name ∷ names) p ≡ from p (arrives (p ++ name ∷ [])) }
+    ensures leads { (repository : List ℕ) (t : Nodes) (stays : Bool) (links : ℕ) (name : Name) (names : List Name) (p : Path)
+        (attr : TheAttr) (target : List ℕ) (start : Path) (more : List Name)
+        → is_idle name ≡ false → is_directory (get t p) ≡ true → is_up name ≡ false
+        → get t (p ++ name ∷ []) ≡ Some (node.Link attr target) → (is_last names && stays) ≡ false
+        → lead_of repository p (parts_of target) ≡ Some (start, more)
+        → walk repository t stays (suc links) (name ∷ names) p ≡ from p (walk repository t stays links (more ++ names) start) }
+    ensures too_many { (repository : List ℕ) (t : Nodes) (stays : Bool) (name : Name) (names : List Name) (p : Path)
+        (attr : TheAttr) (target : List ℕ) → is_idle name ≡ false → is_directory (get t p) ≡ true → is_up name ≡ false
+        → get t (p ++ name ∷ []) ≡ Some (node.Link attr target) → (is_last names && stays) ≡ false
+        → walk repository t stays 0 (name ∷ names) p ≡ from p (ends p TooManyLinks) }
+{}
+
+/// NotServed comes just where nothing was given, BadObject just where bytes of another digest were, and BadCatalogue just
+/// where bytes of the right digest don't decode at their place; there memory may be wanting instead.
+pub fn faults_tell_what_was_given()
+    ensures not_served { (k after : Kept) (was s : TheStage) (given : Option (List ℕ)) (id : TheId) → wanted_by was ≡ Some id
+        → Takes k was given after s → EndsBy s (fault.NotServed id) ↔ (given ≡ None) }
+    ensures bad_object { (k after : Kept) (was s : TheStage) (given : Option (List ℕ)) (id : TheId) → wanted_by was ≡ Some id
+        → (found : List ℕ) → Takes k was given after s → EndsBy s (fault.BadObject id found) ↔ IsOther given id found }
+    ensures bad_catalogue { (k after : Kept) (was s : TheStage) (given : Option (List ℕ)) (id : TheId) → wanted_by was ≡ Some id
+        → Takes k was given after s → EndsBy s (fault.BadCatalogue id) → IsUndecoded was given }
+    ensures undecoded { (k after : Kept) (was s : TheStage) (given : Option (List ℕ)) (id : TheId) → wanted_by was ≡ Some id
+        → Takes k was given after s → IsUndecoded was given → EndsBy s (fault.BadCatalogue id) ⊎ EndsBy s fault.NoMemory }
+{}
+
+/// Where targets of links lead, in a repository of the name r.
+pub fn targets_lead_there()
+    ensures relative { (p : Path) → lead_of (codes "r") p (parts_of (codes "../d/./f"))
+        ≡ Some (p, codes ".." ∷ codes "d" ∷ codes "." ∷ codes "f" ∷ []) }
+    ensures own { (p : Path) → lead_of (codes "r") p (parts_of (codes "/cvmfs/r")) ≡ Some ([], []) }
+    ensures below { (p : Path) → lead_of (codes "r") p (parts_of (codes "/cvmfs/r/d/")) ≡ Some ([], codes "d" ∷ [] ∷ []) }
+    ensures other { (p : Path) → lead_of (codes "r") p (parts_of (codes "/cvmfs/rr/d")) ≡ None }
+    ensures doubled { (p : Path) → lead_of (codes "r") p (parts_of (codes "//cvmfs/r")) ≡ None }
+    ensures top { (p : Path) → lead_of (codes "r") p (parts_of (codes "/")) ≡ None }
+{}

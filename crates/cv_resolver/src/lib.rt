@@ -1,0 +1,34 @@
+//! A client's answers at one root, from single catalogues.
+#![tactic(auto)]
+
+mod arrival;
+mod cache;
+mod enter;
+mod follow;
+mod found;
+mod giving;
+pub mod laws;
+mod listing;
+mod pass;
+mod progress;
+mod question;
+mod resolver;
+mod spot;
+mod stage;
+mod start;
+mod stat_line;
+mod step;
+mod target;
+mod walk;
+
+pub use cache::Catalogues;
+pub use found::{ClientFault, Found, RenewFault};
+pub use question::Question;
+pub use resolver::{Asked, Resolver};
+pub use spot::{Level, Spot};
+pub use stage::Stage;
+pub use stat_line::StatLine;
+pub use walk::Walk;
+
+#[cfg(test)]
+mod tests;
