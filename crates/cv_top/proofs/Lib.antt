@@ -1,5 +1,7 @@
 mod Commands
+mod Completing
+mod Headlines
 mod KeyFaults
-mod LineDesks
-mod Opened
 mod Saying
+mod Serving
+mod Unserved

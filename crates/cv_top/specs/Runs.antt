@@ -1,26 +1,32 @@
 -- What the program does with its outside, by its words, its keys and its seal.
-use Rattle.std.specs.Prelude.{◌≡◌, ◌≢◌, ◌+◌, ℕ, Bool, List, [], ◌∷◌, Option, codes, bytes_eq}
+use Rattle.std.specs.Prelude.{◌≡◌, ◌≢◌, ◌≤◌, ℕ, List, [], ◌∷◌, ◌++◌, Option, codes}
 use Rattle.std.specs.declared.result.Result.{Result}
 use Rattle.std.specs.declared.result.Result.TheVariants.{Ok, Err}
 use Rattle.cv_base.specs.Told.{WhereTold}
-use Rattle.cv_ports.specs.Streams.{front, onto, Wrote}
-use Rattle.cv_vault.specs.Disk.{Disk, Files}
+use Rattle.cv_ports.specs.Streams.{Look, front, onto, Wrote}
+use Rattle.cv_vault.specs.Disk.{Disk, Files, files_now}
 use Rattle.cv_seal.specs.Hmac.{hmac_sha1}
 use Rattle.cv_http.specs.declared.fault.HttpFault.TheVariants.{Short}
 use Rattle.cv_keys.specs.KeysText.{keys_of}
 use Rattle.cv_keys.specs.declared.key.Key.{Key}
 use Rattle.cv_keys.specs.declared.key_fault.KeyFault.{KeyFault}
-use Rattle.cv_manifest.specs.declared.head.Head.{Head}
 use Rattle.cv_swap.specs.Init.{MakesFirst}
-use Rattle.cv_swap.specs.Opening.{Opens}
-use Rattle.cv_swap.specs.declared.found.Found.{Found}
+use Rattle.cv_swap.specs.Kept.{Kept, IsKept}
+use Rattle.cv_swap.specs.Stands.{Stands as StandsKept}
 use Rattle.cv_swap.specs.declared.init_fault.InitFault.{InitFault}
 use Rattle.cv_swap.specs.declared.open_fault.OpenFault.{OpenFault}
-use Rattle.cv_session.specs.Sessions.{Session}
+use Rattle.cv_gate.specs.Desk.{DeskView, Call}
+use Rattle.cv_gate.specs.Kept.{reopened}
+use Rattle.cv_gate.specs.Lives.{Life, Lives}
+use Rattle.cv_gate.specs.Solo.{Makes as MakesAlone}
+use Rattle.cv_desk.specs.Gate.{GateView, GateOpens, IsNew}
+use Rattle.cv_desk.specs.OneDesk.{OneDeskView, Stands, DoesEach, DoesCalls, first_view}
+use Rattle.cv_session.specs.Sessions.{Session, ReadsUpToDate, calls_of}
 use Rattle.cv_session.specs.Standing.{Gives, standing}
 use Rattle.cv_session.specs.declared.session_end.SessionEnd.{SessionEnd}
 use Rattle.cv_session.specs.declared.session_end.SessionEnd.TheVariants.{Clean, Bad}
-use Rattle.cv_top.specs.LineDesk.{LineDeskView, Does, opened_desk}
+use Rattle.cv_top.specs.Headline.{Lasts, KeepsLine}
+use Rattle.cv_top.specs.Seal.{is_seal_by}
 use Rattle.cv_top.specs.Status.{init_status, open_status, end_status}
 use Rattle.cv_top.specs.Words.{Asks, IsCommand}
 use Rattle.cv_top.specs.declared.status.Status.{Status}
@@ -28,7 +34,7 @@ use Rattle.cv_top.specs.declared.status.Status.TheVariants.{Done, Usage, OutputF
 use Rattle.cv_top.specs.declared.words.Command.{Command}
 use Rattle.cv_top.specs.declared.words.Command.TheVariants.{Init, Stdio}
 
--- ---- keys and seal
+-- ---- keys
 
 -- the keys text has a fault
 pub record HasFault (text : List ℕ) : Type 0 where
@@ -39,10 +45,6 @@ pub record HasFault (text : List ℕ) : Type 0 where
 abbrev pub HasKeys : Command → List ℕ → Type 0
 HasKeys (Init name) text = Unit {0}
 HasKeys (Stdio name) text = (keys : List Key) × (keys_of text ≡ Ok keys)
-
--- a seal is good where it is the HMAC-SHA1 (RFC 2104) of the text under the secret
-abbrev pub is_seal_by : List ℕ → List ℕ → List ℕ → Bool
-is_seal_by secret text seal = bytes_eq seal (hmac_sha1 secret text)
 
 -- ---- the outside
 
@@ -55,6 +57,10 @@ pub record Outside (V R W C : Type 0) : Type 0 where
 
 abbrev pub outside : {V R W C : Type 0} → V → R → W → C → Outside V R W C
 outside vault input output clock = record { vault = vault; input = input; output = output; clock = clock }
+
+-- a desk over a gate, which knows its newest head
+abbrev pub desk_over : {V S : Type 0} → GateView V S → List ℕ → OneDeskView V S
+desk_over gate name = record { gate = gate; name = name; head = gate.state.line.head }
 
 -- what `init` prints
 abbrev pub first_line : List ℕ
@@ -81,39 +87,59 @@ module _ {V : Type 0} (disk : V → Option Disk) (count : V → ℕ) (left : V �
 
   -- ---- stdio
 
-  -- the repository was opened with this head, in this epoch
-  pub record OpensAt (name seal : List ℕ) (head : Head) (epoch : ℕ) (v v' : V) (d : Disk) : Type 0 where
-    pub found : Found
-    pub opens : Opens disk count left name (is_seal_by seal) d (Ok found) v v'
-    pub head_ : head ≡ found.head
-    pub epoch_ : epoch ≡ found.epoch + 1
+  -- whether a gate was opened, or why not
+  abbrev pub OpensSo : List ℕ → List ℕ → V → Result (GateView V (List ℕ)) (OpenFault × V) → Type 0
+  OpensSo name seal v r = WhereTold (disk v) (λ d. GateOpens disk count left name is_seal_by seal d v r)
 
-  -- a vault's faults; what an input has left, what an output took, and the moments that a clock will give
-  module _ {R W C : Type 0} (faults : V → ℕ) (rest : R → Option (List ℕ)) (taken : W → Option (List ℕ)) (moments : C → Option (ℕ → ℕ)) where
+  -- behind the first calls of a desk it stood so, and what is kept has their answers from then on
+  pub record Behind (name seal : List ℕ) (d : Disk) (k : Kept) (least more : List Call) (v : V) (start desk : OneDeskView V (List ℕ)) : Type 0 where
+    pub mid : OneDeskView V (List ℕ)
+    pub front : DoesEach disk count left is_seal_by start least mid
+    pub back : DoesEach disk count left is_seal_by mid more desk
+    pub lasts : (first : Kept) (lives : List Life) → IsKept first → Lives first lives k
+        → Lasts name seal first lives k count left d least more v mid.gate.state.line.vault desk.gate.state.line.vault
+
+  -- What was kept was opened and served by these calls, from a vault, over a desk: the journal's entries run from the reopened state, each
+  -- call is answered by the state behind the entries before it, and the gate stands for the last of these states. Whatever was kept first,
+  -- what is kept stays on the line that leads from there, and what was answered lasts.
+  pub record ServesKept (name seal : List ℕ) (d : Disk) (k : Kept) (calls : List Call) (v : V) (start desk : OneDeskView V (List ℕ)) : Type 0 where
+    pub last : DeskView
+    pub stands : Stands disk is_seal_by desk last
+    pub makes : MakesAlone (first_view (reopened k)) calls last
+    pub line : (first : Kept) (lives : List Life) → IsKept first → Lives first lives k → KeepsLine name seal first lives k calls disk count left d v desk.gate.state.line.vault
+    pub behind : (least more : List Call) → calls ≡ least ++ more → Behind name seal d k least more v start desk
+
+  -- a vault's faults; what an input has left, and when its reads began; what an output took and passed on; and the moments that a
+  -- clock will give
+  module _ {R W C : Type 0} (faults : V → ℕ) (rest : R → Option (List ℕ)) (looks : R → Look → Type 0) (taken passed : W → Option (List ℕ)) (moments : C → Option (ℕ → ℕ)) where
     -- from a desk to a desk, the session over the bytes that were read of the input
-    pub record Talks (name : List ℕ) (keys : List Key) (seal : List ℕ) (desk desk' : LineDeskView V) (input input' : R) (output output' : W) (clock clock' : C) (end : SessionEnd) : Type 0 where
+    pub record Talks (name : List ℕ) (keys : List Key) (seal : List ℕ) (desk desk' : OneDeskView V (List ℕ)) (input input' : R) (output output' : W) (clock clock' : C) (end : SessionEnd) : Type 0 where
       pub read : List ℕ
       pub told : rest input ≡ front read (rest input')
       pub held : List ℕ
-      pub session : Session (Does disk count left) name keys (hmac_sha1 seal) read held (taken output) (taken output')
-          (standing desk (moments clock) (faults desk.vault)) (standing desk' (moments clock') (faults desk'.vault)) end
+      pub session : Session (DoesCalls disk count left is_seal_by) name keys (hmac_sha1 seal)
+          (ReadsUpToDate name keys (hmac_sha1 seal) rest looks (record { source = input; held = [] }) (record { source = input'; held = held }) (taken output) (passed output))
+          read held (taken output) (taken output')
+          (standing desk (moments clock) (faults desk.gate.state.line.vault)) (standing desk' (moments clock') (faults desk'.gate.state.line.vault)) end
       -- nothing is left where it ended by the end of the input
       pub whole : end ≡ Clean → WhereTold (rest input') (λ l. l ≡ [])
       pub cut : end ≡ Bad Short → WhereTold (rest input') (λ l. l ≡ [])
 
+    -- the calls that were made in a session
+    abbrev pub calls_in : {name : List ℕ} {keys : List Key} {seal : List ℕ} {desk desk' : OneDeskView V (List ℕ)} {input input' : R} {output output' : W} {clock clock' : C} {end : SessionEnd}
+        → Talks name keys seal desk desk' input input' output output' clock clock' end → List Call
+    calls_in talks = calls_of talks.session.exchanges ++ talks.session.others
+
     pub data Serves (name : List ℕ) (keys : List Key) (seal : List ℕ) (before after : Outside V R W C) : Status → Type 0 where
-      -- the repository was opened, and a session over it ended; the vault is as opening left it
-      ended : (vault : V) (head : Head) (epoch : ℕ) (desk' : LineDeskView V) (end : SessionEnd)
-          → WhereTold (disk before.vault) (OpensAt name seal head epoch before.vault vault)
-          → Talks name keys seal (opened_desk vault name head epoch) desk' before.input after.input before.output after.output before.clock after.clock end
-          → after.vault ≡ desk'.vault
-          → WhereTold (disk before.vault) (OpensAt name seal head epoch before.vault after.vault)
+      -- the repository was opened, and a session over its gate ended; where the files stood for what is kept, that was served
+      ended : (gate : GateView V (List ℕ)) (desk' : OneDeskView V (List ℕ)) (end : SessionEnd) → OpensSo name seal before.vault (Ok gate) → IsNew name seal gate
+          → faults before.vault ≤ faults gate.state.line.vault
+          → (talks : Talks name keys seal (desk_over gate name) desk' before.input after.input before.output after.output before.clock after.clock end)
+          → WhereTold (disk before.vault) (λ d. (k : Kept) → StandsKept name (is_seal_by seal) (files_now d) k → ServesKept name seal d k (calls_in talks) before.vault (desk_over gate name) desk')
+          → after.vault ≡ desk'.gate.state.line.vault
           → Serves name keys seal before after (end_status end)
-      -- it was opened, and then memory was wanted: the rest isn't touched
-      unserved : (head : Head) (epoch : ℕ) → WhereTold (disk before.vault) (OpensAt name seal head epoch before.vault after.vault)
-          → after ≡ outside after.vault before.input before.output before.clock → Serves name keys seal before after OutOfMemory
       -- it wasn't opened: the rest isn't touched
-      unopened : (fault : OpenFault) → WhereTold (disk before.vault) (λ d. Opens disk count left name (is_seal_by seal) d (Err fault) before.vault after.vault)
+      unopened : (fault : OpenFault) → OpensSo name seal before.vault (Err (fault, after.vault))
           → after ≡ outside after.vault before.input before.output before.clock → Serves name keys seal before after (open_status fault)
 
     -- ---- the program
@@ -130,3 +156,22 @@ module _ {V : Type 0} (disk : V → Option Disk) (count : V → ℕ) (left : V �
           → Runs words keys seal before after status
       stdio : (name : List ℕ) (table : List Key) (status : Status) → Asks words (Stdio name) → keys_of keys ≡ Ok table → seal ≢ []
           → Serves name table seal before after status → Runs words keys seal before after status
+
+    -- ---- the headline
+
+    -- the calls that were made for what was read of the input, whose answers are those on the output; or none, and neither was touched
+    pub data IsMade (name keys seal : List ℕ) (before after : Outside V R W C) : List Call → Type 0 where
+      none : after.input ≡ before.input → after.output ≡ before.output → IsMade name keys seal before after []
+      talked : (table : List Key) (desk desk' : OneDeskView V (List ℕ)) (end : SessionEnd) → keys_of keys ≡ Ok table → after.vault ≡ desk'.gate.state.line.vault
+          → (talks : Talks name table seal desk desk' before.input after.input before.output after.output before.clock after.clock end) → IsMade name keys seal before after (calls_in talks)
+
+    -- the headline holds of them, whatever was kept first, and whatever lives led from there to what is kept
+    pub record HasLine (name keys seal : List ℕ) (d : Disk) (k : Kept) (before after : Outside V R W C) : Type 0 where
+      pub calls : List Call
+      pub made : IsMade name keys seal before after calls
+      pub keeps : (first : Kept) (lives : List Life) → IsKept first → Lives first lives k → KeepsLine name seal first lives k calls disk count left d before.vault after.vault
+
+    -- where the words ask to serve a repository, and its files stand for what is kept
+    abbrev pub Keeps : List (List ℕ) → List ℕ → List ℕ → Outside V R W C → Outside V R W C → Type 0
+    Keeps words keys seal before after = (name : List ℕ) → Asks words (Stdio name)
+        → WhereTold (disk before.vault) (λ d. (k : Kept) → StandsKept name (is_seal_by seal) (files_now d) k → HasLine name keys seal d k before after)

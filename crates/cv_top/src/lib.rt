@@ -1,19 +1,22 @@
 //! The program cvkit over any outside.
 #![tactic(auto)]
 
+#[cfg(test)]
+mod commit_tests;
 mod init;
-pub mod laws;
-mod line_desk;
 mod parts;
 mod program;
 mod seal;
 mod status;
 mod stdio;
 #[cfg(test)]
+mod store_tests;
+#[cfg(test)]
+mod test_runs;
+#[cfg(test)]
 mod tests;
 mod words;
 
-pub use line_desk::LineDesk;
 pub use parts::Parts;
 pub use program::run;
 pub use status::{RepositoryFault, Status};

@@ -3,7 +3,8 @@ ghost use Rattle.std.specs.Prelude.{◌≡◌, ◌≢◌, ◌⊎◌, ℕ, List, 
 ghost use Rattle.cv_base.specs.Counts.{HasCause, Rose};
 ghost use Rattle.cv_ports.specs.Streams.{onto, Wrote};
 ghost use Rattle.cv_keys.specs.KeysText.{keys_of};
-ghost use Rattle.cv_top.specs.Runs.{Runs, outside};
+ghost use Rattle.cv_top.specs.Complete.{IsSteady, Completes};
+ghost use Rattle.cv_top.specs.Runs.{Keeps, Runs, outside};
 ghost use Rattle.cv_top.specs.Status.{line_of};
 ghost use Rattle.cv_top.specs.Words.{Asks};
 ghost use Rattle.cv_top.specs.declared.status.Status.TheVariants.{InputFailed, OutputFailed, StoreFailed};
@@ -18,6 +19,7 @@ use crate::words::{Command, WordsFault, read_words};
 use cv_base::Name;
 use cv_keys::KeyTable;
 use cv_ports::{Clock, Failed, Hold, Sink, Source};
+use cv_swap::laws::{opening_finds_what_is_kept, opening_keeps_what_is_kept};
 use cv_vault::Vault;
 use std::alloc::Global;
 
@@ -31,7 +33,7 @@ fn do_init<V: Vault + Drop, R: Source + Drop, W: Sink, C: Clock>(
     output: &mut W,
     clock: &mut C,
 ) -> (Status, V, R)
-    ensures runs { (words : List (List ℕ)) (keys : List ℕ) → Asks words (Init name.now) → Runs V.disk V.count V.left V.faults R.left W.taken C.moments words keys seal.now
+    ensures runs { (words : List (List ℕ)) (keys : List ℕ) → Asks words (Init name.now) → Runs V.disk V.count V.left V.faults R.left R.looks W.taken W.passed C.moments words keys seal.now
         (outside vault input output.old clock.old) (outside result.1 result.2 output.new clock.new) result.0 }
     ensures flushed { result.0 ≢ OutputFailed → W.passed output.old ≡ W.taken output.old → W.passed output.new ≡ W.taken output.new }
     ensures reads { HasCause (R.faults input) (R.faults result.2) (result.0 ≡ InputFailed) }
@@ -60,7 +62,7 @@ fn do_stdio<V: Vault + Drop, R: Source + Drop, W: Sink, C: Clock, H: Hold>(
     clock: &mut C,
     hold: &H,
 ) -> (Status, V, R)
-    ensures runs { (words : List (List ℕ)) (keys : List ℕ) → Asks words (Stdio name.now) → keys_of keys ≡ Ok table.now → Runs V.disk V.count V.left V.faults R.left W.taken C.moments words keys seal.now
+    ensures runs { (words : List (List ℕ)) (keys : List ℕ) → Asks words (Stdio name.now) → keys_of keys ≡ Ok table.now → Runs V.disk V.count V.left V.faults R.left R.looks W.taken W.passed C.moments words keys seal.now
         (outside vault input output.old clock.old) (outside result.1 result.2 output.new clock.new) result.0 }
     ensures flushed { result.0 ≢ OutputFailed → W.passed output.old ≡ W.taken output.old → W.passed output.new ≡ W.taken output.new }
     ensures reads { HasCause (R.faults input) (R.faults result.2) (result.0 ≡ InputFailed) }
@@ -92,7 +94,7 @@ fn do_command<V: Vault + Drop, R: Source + Drop, W: Sink, C: Clock, H: Hold>(
     clock: &mut C,
     hold: &H,
 ) -> (Status, V, R)
-    ensures runs { Runs V.disk V.count V.left V.faults R.left W.taken C.moments (map string_bytes words.now) keys.now seal.now
+    ensures runs { Runs V.disk V.count V.left V.faults R.left R.looks W.taken W.passed C.moments (map string_bytes words.now) keys.now seal.now
         (outside vault input output.old clock.old) (outside result.1 result.2 output.new clock.new) result.0 }
     ensures flushed { result.0 ≢ OutputFailed → W.passed output.old ≡ W.taken output.old → W.passed output.new ≡ W.taken output.new }
     ensures reads { HasCause (R.faults input) (R.faults result.2) (result.0 ≡ InputFailed) }
@@ -128,14 +130,18 @@ fn say<E: Sink>(errors: &mut E, status: Status)
 ///
 /// `init <repository>` makes the first revision of a repository in the vault, and prints `revision 1`. `stdio <repository>`
 /// opens it, reads requests (RFC 9112) from the input and answers them on the output: it serves the manifest and the
-/// objects, and leases on the repository's paths.
+/// objects, grants and ends leases on the repository's paths, stores payloads, and makes commits.
 pub fn run<V: Vault + Drop, R: Source + Drop, W: Sink, E: Sink, C: Clock, H: Hold>(
     alloc: Global,
     words: &[String],
     parts: Parts<V, R, W, E, C, H>,
 ) -> (Status, Parts<V, R, W, E, C, H>)
-    ensures runs { Runs V.disk V.count V.left V.faults R.left W.taken C.moments (map string_bytes words.now) (string_bytes parts.keys) (string_bytes parts.seal)
+    ensures runs { Runs V.disk V.count V.left V.faults R.left R.looks W.taken W.passed C.moments (map string_bytes words.now) (string_bytes parts.keys) (string_bytes parts.seal)
         (outside parts.vault parts.input parts.output parts.clock) (outside result.1.vault result.1.input result.1.output result.1.clock) result.0 }
+
+    // The headline: what is kept stays on one line of revisions, whatever is asked, and whenever the program is cut.
+    ensures headline { Keeps V.disk V.count V.left V.faults R.left R.looks W.taken W.passed C.moments (map string_bytes words.now) (string_bytes parts.keys) (string_bytes parts.seal)
+        (outside parts.vault parts.input parts.output parts.clock) (outside result.1.vault result.1.input result.1.output result.1.clock) }
     ensures texts { (result.1.keys ≡ parts.keys) × (result.1.seal ≡ parts.seal) × (result.1.hold ≡ parts.hold) }
 
     // Where the output didn't fail, all that it took is passed on.
@@ -146,10 +152,16 @@ pub fn run<V: Vault + Drop, R: Source + Drop, W: Sink, E: Sink, C: Clock, H: Hol
     ensures writes { HasCause (W.faults parts.output) (W.faults result.1.output) (result.0 ≡ OutputFailed) }
     ensures stores { HasCause (V.faults parts.vault) (V.faults result.1.vault) (result.0 ≡ StoreFailed) }
 
+    // Where no count rose, the program does its work, or wants memory.
+    ensures completes { IsSteady (R.faults parts.input) (R.faults result.1.input) → IsSteady (W.faults parts.output) (W.faults result.1.output) → IsSteady (V.faults parts.vault) (V.faults result.1.vault)
+        → Completes (map string_bytes words.now) (string_bytes parts.keys) (string_bytes parts.seal) (V.disk parts.vault) result.0 }
+
     // The line of the status is written whole, unless the sink failed. That changes no status.
     ensures line { (E.taken result.1.errors ≡ onto (E.taken parts.errors) (line_of result.0)) ⊎ Rose 1 (E.faults parts.errors) (E.faults result.1.errors) }
     ensures errors { Wrote (E.taken parts.errors) (E.taken result.1.errors) (line_of result.0) }
 {
+    opening_keeps_what_is_kept();
+    opening_finds_what_is_kept();
     let Parts {
         vault,
         input,

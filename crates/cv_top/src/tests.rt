@@ -1,39 +1,11 @@
 //! The program on worked inputs. The expected bytes are those of the protocol's tables, and not the program's own: those of
 //! the repository and of its sessions are by `tools/session_vectors.py`.
-ghost use Rattle.std.specs.Prelude.{◌≡◌, ◌+◌, ◌∷◌, [], IfOk};
 
-use crate::{Parts, Status, run};
+use crate::test_runs::{Around, Ended, INIT, KEYS, STDIO, put, run_on, vault_with};
 use cv_base::NoMemory;
-use cv_ports::{MemoryClock, MemorySink, MemorySource, NoHold};
-use cv_vault::{MemoryVault, Vault};
+use cv_vault::MemoryVault;
 use std::alloc::Global;
 use std::test::Fail;
-
-/// The keys text of two keys.
-const KEYS: &str = r#"{"keys":[{"id":"k1","secret":"s1"},{"id":"k2","secret":"s2"}]}"#;
-
-/// The seal.
-const SEAL: &str = "seal";
-
-/// The first moment of the tests.
-const START: u64 = 1_700_000_000;
-
-/// The files of the repository `sw.example.org` that was made at that moment.
-static FILES: [(&str, &[u8]); 4] = [
-    (
-        "data/30/7aac20fe5391faacd0ea38f9589fb797a3685cC",
-        b"CVR1\x00\x00\x00\x01\x00\x00\x00\x00\xd4\x1d\x8c\xd9\x8f\x00\xb2\x04\xe9\x80\x09\x98\xec\xf8B~\x00\x00\x00\x00\x00\x00\x00\x00\x00\x00\x00\x00\x00\x00\x00\x00\x00\x00\x00\x01\x00\x00A\xed\x00\x00\x00\x00eS\xf1\x00\x00\x00\x00\x00\x00\x00\x00\x00\x00\x00\x00\x00\x00\x00\x00\x00\x00\x00\x00\x00\x00",
-    ),
-    (
-        "data/aa/6425aab18cc717b24c90d0a3e5aacbbdc01916H",
-        b"CVH1\x00\x00\x00\x00\x00\x00\x00\x01\x00\x00\x00\x00\x00\x00\x00\x00\x00\x00\x00\x00\x00\x00\x00\x00\x00\x00\x00\x000z\xac \xfeS\x91\xfa\xac\xd0\xea8\xf9X\x9f\xb7\x97\xa3h\x5c0z\xac \xfeS\x91\xfa\xac\xd0\xea8\xf9X\x9f\xb7\x97\xa3h\x5c\x00\x00\x00\x00\x00\x00\x00\x00\x00\x00\x00\x00\x00\x00\x00\x00\x00\x00\x00\x00\x00\x00\x00\x00eS\xf1\x00\x00\x00",
-    ),
-    ("gateway.epoch", b"0\n"),
-    (
-        ".cvmfspublished",
-        b"C307aac20fe5391faacd0ea38f9589fb797a3685c\nB81\nRd41d8cd98f00b204e9800998ecf8427e\nD240\nS1\nNsw.example.org\nHaa6425aab18cc717b24c90d0a3e5aacbbdc01916\nT1700000000\n--\n3d103c065861638cbe1a3f5580ea0d71ef0cbfd2\n\x1c\x9d&s>8\xf0\xac4a\xfb\xc0W\xe3\xd7G\xea\x0fhi",
-    ),
-];
 
 /// The name of the object `hello` and a newline.
 const OBJECT: &str = "data/f5/72d396fae9206628714fb2ce00f72e94f2258f";
@@ -52,127 +24,10 @@ const SERVED_LAST: &[u8] =
 const SECOND_LEASE: &str =
     "HTTP/1.1 200 OK\r\nContent-Type: application/json\r\nContent-Length: 105\r\n\r\n{\"revision\":1,\"root_hash\":\"307aac20fe5391faacd0ea38f9589fb797a3685c\",\"session_token\":\"2-1\",\"status\":\"ok\"}";
 
-/// How the program ended, what it wrote, and its line on the status.
-#[derive(Drop)]
-struct Ended {
-    status: Status,
-    output: Vec<u8>,
-    errors: Vec<u8>,
-}
-
-impl Ended {
-    /// Whether the status has this code, and this is the output.
-    fn wrote(&self, code: u8, output: &[u8]) -> bool {
-        self.status.code() == code && self.output.as_slice() == output
-    }
-
-    /// Whether the status has this code, and this is its line.
-    fn said(&self, code: u8, line: &str) -> bool {
-        self.status.code() == code && self.errors.as_slice() == line.as_bytes()
-    }
-}
-
-/// Writes a file.
-fn put(vault: &mut MemoryVault, name: &str, bytes: &[u8]) -> Result<(), NoMemory> {
-    match vault.write(name, bytes) {
-        Ok(()) => Ok(()),
-        Err(_) => Err(NoMemory),
-    }
-}
-
-/// A vault with the files of the repository but one, and with these. Its calls are numbered from the first of the writes.
-fn vault_with(
-    alloc: Global,
-    lacking: &str,
-    files: &[(&str, &[u8])],
-    failing: Vec<u64>,
-) -> Result<MemoryVault, NoMemory> {
-    let mut vault = MemoryVault::new(alloc, failing)?;
-    for (name, bytes) in &FILES {
-        if *name != lacking {
-            put(&mut vault, name, bytes)?;
-        }
-    }
-    for (name, bytes) in files {
-        put(&mut vault, name, bytes)?;
-    }
-    Ok(vault)
-}
-
-/// Three moments, so many seconds after the first of the tests.
-fn moments_at(alloc: Global, seconds: (u32, u32, u32)) -> Result<Vec<u64>, NoMemory>
-    ensures { IfOk result (λ moments. moments.items ≡ (1700000000 + seconds.0) ∷ (1700000000 + seconds.1) ∷ (1700000000 + seconds.2) ∷ []) }
-{
-    let mut moments = Vec::new(alloc);
-    moments.push(START + u64::from(seconds.0))?;
-    moments.push(START + u64::from(seconds.1))?;
-    moments.push(START + u64::from(seconds.2))?;
-    Ok(moments)
-}
-
-/// What a run has besides its vault and its input.
-#[derive(Drop)]
-struct Around {
-    keys: &'static str,
-    seal: &'static str,
-    seconds: (u32, u32, u32),
-    input: Vec<u64>,
-    output: Vec<u64>,
-}
-
-impl Around {
-    /// Two keys, a seal, one moment, and nothing fails.
-    fn usual(alloc: Global) -> Around {
-        Around {
-            keys: KEYS,
-            seal: SEAL,
-            seconds: (0, 0, 0),
-            input: Vec::new(alloc),
-            output: Vec::new(alloc),
-        }
-    }
-}
-
-/// The words of a run that makes the one repository, and of one that serves it.
-const INIT: [&str; 2] = ["init", "sw.example.org"];
-
-const STDIO: [&str; 2] = ["stdio", "sw.example.org"];
-
-/// Runs the program on these words, this vault and this input, and hands the vault back.
-fn run_on(
-    alloc: Global,
-    words: &[&str],
-    vault: MemoryVault,
-    input: &str,
-    around: Around,
-) -> Result<(Ended, MemoryVault), NoMemory> {
-    let mut owned = Vec::new(alloc);
-    for word in words {
-        owned.push(String::from_str(alloc, word)?)?;
-    }
-    let parts = Parts {
-        vault,
-        input: MemorySource::new(Vec::from_slice(alloc, input.as_bytes())?, 100, around.input),
-        output: MemorySink::new(alloc, 200_000, around.output)?,
-        errors: MemorySink::new(alloc, 100, Vec::new(alloc))?,
-        clock: MemoryClock::new(moments_at(alloc, around.seconds)?),
-        keys: String::from_str(alloc, around.keys)?,
-        seal: String::from_str(alloc, around.seal)?,
-        hold: NoHold,
-    };
-    let (status, parts) = run(alloc, &owned, parts);
-    let ended = Ended {
-        status,
-        output: parts.output.into_vec(),
-        errors: parts.errors.into_vec(),
-    };
-    Ok((ended, parts.vault))
-}
-
 /// Serves the repository, with these files beside its own, on this input.
 fn served(alloc: Global, files: &[(&str, &[u8])], input: &str) -> Result<Ended, NoMemory> {
     let vault = vault_with(alloc, "", files, Vec::new(alloc))?;
-    let (ended, _) = run_on(alloc, &STDIO, vault, input, Around::usual(alloc))?;
+    let (ended, _) = run_on(alloc, &STDIO, vault, input.as_bytes(), Around::usual(alloc))?;
     Ok(ended)
 }
 
@@ -186,13 +41,25 @@ const ASK_LEASE: &str =
 fn makes_a_repository_and_serves_it_again_and_again(rt: HostRuntime) -> Result<(), Fail> {
     let alloc = rt.alloc();
     let empty = MemoryVault::new(alloc, Vec::new(alloc))?;
-    let (made, vault) = run_on(alloc, &INIT, empty, "", Around::usual(alloc))?;
+    let (made, vault) = run_on(alloc, &INIT, empty, b"".as_slice(), Around::usual(alloc))?;
     assert!(rt; made.wrote(0, b"revision 1\n".as_slice()));
-    let (first, vault) = run_on(alloc, &STDIO, vault, ASK_MANIFEST, Around::usual(alloc))?;
+    let (first, vault) = run_on(
+        alloc,
+        &STDIO,
+        vault,
+        ASK_MANIFEST.as_bytes(),
+        Around::usual(alloc),
+    )?;
     assert!(rt; first.wrote(0, SERVED));
-    let (second, vault) = run_on(alloc, &STDIO, vault, ASK_LEASE, Around::usual(alloc))?;
+    let (second, vault) = run_on(
+        alloc,
+        &STDIO,
+        vault,
+        ASK_LEASE.as_bytes(),
+        Around::usual(alloc),
+    )?;
     assert!(rt; second.wrote(0, SECOND_LEASE.as_bytes()));
-    let (again, _) = run_on(alloc, &INIT, vault, "", Around::usual(alloc))?;
+    let (again, _) = run_on(alloc, &INIT, vault, b"".as_slice(), Around::usual(alloc))?;
     assert!(rt; again.said(3, "cvkit: repository: exists\n"));
     Ok(())
 }
@@ -352,7 +219,13 @@ fn opened_with(alloc: Global, name: &str, other: Option<&[u8]>) -> Result<Ended,
     if let Some(bytes) = other {
         put(&mut vault, name, bytes)?;
     }
-    let (ended, _) = run_on(alloc, &STDIO, vault, ASK_MANIFEST, Around::usual(alloc))?;
+    let (ended, _) = run_on(
+        alloc,
+        &STDIO,
+        vault,
+        ASK_MANIFEST.as_bytes(),
+        Around::usual(alloc),
+    )?;
     Ok(ended)
 }
 
@@ -371,7 +244,7 @@ fn makes_no_repository_over_a_damaged_object(rt: HostRuntime) -> Result<(), Fail
     let alloc = rt.alloc();
     let mut vault = MemoryVault::new(alloc, Vec::new(alloc))?;
     put(&mut vault, CATALOGUE, b"x".as_slice())?;
-    let (ended, _) = run_on(alloc, &INIT, vault, "", Around::usual(alloc))?;
+    let (ended, _) = run_on(alloc, &INIT, vault, b"".as_slice(), Around::usual(alloc))?;
     assert!(rt; ended.said(3, "cvkit: repository: damaged\n"));
     Ok(())
 }
@@ -405,7 +278,7 @@ fn ended_by(alloc: Global, vault: u64, source: u64, sink: u64) -> Result<Ended, 
         &[(OBJECT, b"hello\n".as_slice())],
         vec![in alloc; vault]?,
     )?;
-    let (ended, _) = run_on(alloc, &STDIO, vault, TWO, around)?;
+    let (ended, _) = run_on(alloc, &STDIO, vault, TWO.as_bytes(), around)?;
     Ok(ended)
 }
 
@@ -437,7 +310,7 @@ fn ended_at_second_read(alloc: Global, input: &str) -> Result<Ended, NoMemory> {
     let mut around = Around::usual(alloc);
     around.input.push(2)?;
     let vault = vault_with(alloc, "", &[], Vec::new(alloc))?;
-    let (ended, _) = run_on(alloc, &STDIO, vault, input, around)?;
+    let (ended, _) = run_on(alloc, &STDIO, vault, input.as_bytes(), around)?;
     Ok(ended)
 }
 
@@ -462,7 +335,7 @@ fn ended_with(
     around.keys = keys;
     around.seal = seal;
     let vault = MemoryVault::new(alloc, Vec::new(alloc))?;
-    let (ended, _) = run_on(alloc, words, vault, ASK_MANIFEST, around)?;
+    let (ended, _) = run_on(alloc, words, vault, ASK_MANIFEST.as_bytes(), around)?;
     Ok(ended)
 }
 
@@ -551,7 +424,7 @@ fn leased(alloc: Global, seconds: (u32, u32, u32), input: &str) -> Result<Ended,
     let mut around = Around::usual(alloc);
     around.seconds = seconds;
     let vault = vault_with(alloc, "", &[], Vec::new(alloc))?;
-    let (ended, _) = run_on(alloc, &STDIO, vault, input, around)?;
+    let (ended, _) = run_on(alloc, &STDIO, vault, input.as_bytes(), around)?;
     Ok(ended)
 }
 
