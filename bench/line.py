@@ -9,21 +9,20 @@ opening may take 3 times as long. By `strace -c -f` a first `init` may make 12 f
 prints no time. Both see that the newest revision is served, in the next epoch, and that a record less is noticed.
 """
 import os
-import re
-import shutil
 import subprocess
 import sys
-import tempfile
 import time
 
 sys.path.insert(0, os.path.join(os.path.dirname(os.path.abspath(__file__)), "..", "tools"))
 from cvkit_client import (
     REPOSITORY,
+    STRACE,
     Session,
     add_object,
     digest_of,
     ended,
     expect,
+    fsyncs,
     get,
     init,
     lease,
@@ -37,8 +36,8 @@ from cvkit_files import epoch_of
 from line_vectors import catalogue, manifest, record, sha1
 
 STDIO = ["stdio", REPOSITORY]
-# The fsyncs of `init` on an empty folder: 4 of files and 15 of folders. The aim is 12.
-FSYNCS, RATIO = 19, 3
+# The fsyncs of `init` on an empty folder: 4 of files and 11 of folders. The aim is 12.
+FSYNCS, RATIO = 15, 3
 BAD_HISTORY = (3, b"", "cvkit: repository: bad history\n")
 
 
@@ -112,19 +111,9 @@ def measure(program, folder, ids):
     return opened <= RATIO * hashed
 
 
-def fsyncs(program, folder, words):
-    """How many fsyncs a run makes, by strace."""
-    with tempfile.NamedTemporaryFile("r") as log:
-        tracer = ["strace", "-c", "-f", "-o", log.name, "-e", "trace=fsync,fdatasync"]
-        ran = subprocess.run([*tracer, program, *words], cwd=folder, stdin=subprocess.DEVNULL, stdout=subprocess.DEVNULL)
-        expect(ran.returncode == 0, f"{words[0]} under strace", ran.returncode)
-        rows = [line.split() for line in log.read().splitlines()]
-    return sum(int(row[3]) for row in rows if row and re.fullmatch("f(data)?sync", row[-1]))
-
-
 def count_fsyncs(program):
     """Whether `init` keeps its bound."""
-    if shutil.which("strace") is None:
+    if STRACE is None:
         print("skipped: the fsyncs of init: there is no strace on this machine")
         return True
     with workplace() as folder:

@@ -34,10 +34,11 @@ const PIECES: usize = 4096;
 
 /// How many objects the pack has that comes from the source.
 fn count_objects<S: Source + Drop>(alloc: Global, source: &mut S) -> Option<usize> {
+    let beside = cv_ports::MemorySink::new(alloc, 0, Vec::new(alloc)).ok()?;
     let mut buffer = vec![in alloc; 0u8; PIECE].ok()?;
     let mut reader = PackReader::new(alloc);
     for _ in 0..PIECES {
-        let count = source.read(buffer.as_mut_slice()).ok()?;
+        let count = source.read(buffer.as_mut_slice(), &beside).ok()?;
         if count == 0 {
             break;
         }

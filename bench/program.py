@@ -17,10 +17,11 @@ const PIECE: usize = 65_536;
 
 /// All bytes of a source, of at most 256 MiB.
 fn read_all<S: Source + Drop>(alloc: Global, source: &mut S) -> Option<Vec<u8>> {
+    let beside = cv_ports::MemorySink::new(alloc, 0, Vec::new(alloc)).ok()?;
     let mut buffer = vec![in alloc; 0u8; PIECE].ok()?;
     let mut bytes = Vec::new(alloc);
     for _ in 0..4096u64 {
-        let count = source.read(buffer.as_mut_slice()).ok()?;
+        let count = source.read(buffer.as_mut_slice(), &beside).ok()?;
         if count == 0 {
             break;
         }

@@ -1,12 +1,16 @@
 #!/usr/bin/env python3
-"""The fsyncs of files and of folders that calls of the vault over a folder cost, by strace.
+"""What calls of a vault cost: over a folder the fsyncs of files and of folders, by strace, and in memory the time of many names.
 
     bench/vault.py [--short] [FOLDER]
 
 The program of `tools/vault_calls.py` stores batches of objects, replaces a manifest and makes the first sync over many files,
 each over a folder of its own and all in one run. By `strace -f -y` each of its fsyncs shows what it is of. The counts are
 compared with those below. The full form has batches of 1,000 objects and a sync over 50,000 files too, and prints the time of
-that one; the short form has batches of 1 and 10, and a sync over 10 files. FOLDER is a copy of the repository in which to build.
+that one; the short form has batches of 1 and 10, and a sync over 10 files.
+
+The program also writes 500,000 names into a vault in memory and syncs, lists ten of them by a prefix, and changes one and
+syncs. The seconds of each are printed, and all together may take a minute. The short form has 1,000 names and prints no time.
+FOLDER is a copy of the repository in which to build.
 """
 import os
 import re
@@ -66,8 +70,8 @@ def rows(short):
     return found + [("a first sync over 50,000 files in 256 folders", files(50_000), "", "sync", (0, 260))]
 
 
-def traced(made, runs, top):
-    """The fsyncs of files and of folders of each run, a way to make a folder with calls over it."""
+def traced(made, runs, names, top):
+    """The fsyncs of files and of folders of each run, a way to make a folder with calls over it; and the seconds of the names."""
     arguments = []
     for number, (prepare, calls) in enumerate(runs):
         folder = os.path.join(top, str(number))
@@ -76,8 +80,9 @@ def traced(made, runs, top):
         root = os.path.join(folder, "srv")
         arguments += [f"at={root}" if arguments else root] + calls.split()
     log = os.path.join(top, "strace.log")
-    told = made.output(arguments=arguments, tracer=["strace", "-f", "-y", "-o", log, "-e", "trace=fsync,fdatasync"]).decode()
-    if set(told.split()) - {"ok", "yes"}:
+    arguments.append(f"memory={names}")
+    told = made.output(arguments=arguments, tracer=["strace", "-f", "-y", "-o", log, "-e", "trace=fsync,fdatasync"]).decode().split()
+    if set(told[:-3]) - {"ok", "yes"} or [word.isdigit() for word in told[-3:]] != [True] * 3:
         sys.exit(f"a call failed: {told}")
     counts = [[0, 0] for _ in runs]
     with open(log, errors="replace") as file:
@@ -85,16 +90,16 @@ def traced(made, runs, top):
             if path.startswith(top + os.sep):
                 number = int(path[len(top) + 1 :].split(os.sep)[0])
                 counts[number][not path.endswith(".cvkit-next")] += 1
-    return counts
+    return counts, [int(word) / 1e9 for word in told[-3:]]
 
 
-def measured(made, all_rows, top):
-    """The fsyncs of the calls of each row that are counted."""
+def measured(made, all_rows, names, top):
+    """The fsyncs of the calls of each row that are counted, and the seconds of so many names in memory."""
     runs = []
     for _, prepare, before, calls, _ in all_rows:
         runs += [(prepare, f"{before} {calls}"), (prepare, before)]
-    counts = traced(made, runs, top)
-    return [(both[0] - first[0], both[1] - first[1]) for both, first in zip(counts[::2], counts[1::2])]
+    counts, seconds = traced(made, runs, names, top)
+    return [(both[0] - first[0], both[1] - first[1]) for both, first in zip(counts[::2], counts[1::2])], seconds
 
 
 def timed(made, top):
@@ -116,13 +121,17 @@ def main():
     # The time is that of the disk on which this is run.
     place = None if short else os.getcwd()
     with program("vault_calls", LIBRARIES, PROGRAM, short, folder) as made, tempfile.TemporaryDirectory(dir=place) as top:
-        counts = measured(made, all_rows, top)
+        counts, seconds = measured(made, all_rows, 1_000 if short else 500_000, top)
         print("| What | fsyncs of files | of folders |\n|---|---|---|")
         for (what, _, _, _, wanted), found in zip(all_rows, counts):
             so = found == wanted
             wrong += not so
             print(f"| {what} | {found[0]:,} | {found[1]:,} |" + ("" if so else f" not {wanted[0]:,} and {wanted[1]:,}"))
         if not short:
+            writes, lists, change = seconds
+            wrong += sum(seconds) > 60
+            print(f"500,000 names written into a vault in memory, and a sync: {writes:.2f} s; ten of them listed by a prefix:")
+            print(f"{lists * 1e6:.0f} us; one changed, and a sync: {change * 1e6:.0f} us")
             print(f"a start and a first sync over 50,000 files: {timed(made, top):.2f} s")
     sys.exit(wrong != 0)
 

@@ -3,6 +3,7 @@
 
 A tree is a text of paths, one after another: `/d/` is a directory, `/l=t` a link to `t`, anything else a file whose content is the text of its path.
 """
+import collections
 import hashlib
 import struct
 
@@ -66,7 +67,7 @@ def owner(nodes, path):
     return path
 
 
-def row(nodes, cut, path):
+def row(nodes, cut, path, time):
     kind, content = nodes[path]
     if kind == "file":
         flags = 4
@@ -81,23 +82,27 @@ def row(nodes, cut, path):
     name = path.rsplit("/", 1)[-1].encode()
     key = hashlib.md5(path.encode()).digest()
     parent = hashlib.md5(above(path).encode()).digest() if path else bytes(16)
-    fields = struct.pack(">IIQIIQ", flags, TYPES[kind] | MODES[kind], TIME, 0, 0, len(content))
+    fields = struct.pack(">IIQIIQ", flags, TYPES[kind] | MODES[kind], time, 0, 0, len(content))
     texts = b"".join(struct.pack(">H", len(text)) + text for text in (name, target))
     return key + parent + fields + bytes([len(digest)]) + digest + texts
 
 
-def catalogues(nodes):
-    """The catalogue of each cut, by its path."""
-    made = {}
-    for cut in sorted((p for p in nodes if is_cut(nodes, p)), key=lambda p: -p.count("/")):
-        region = [p for p in nodes if p == cut or p != "" and owner(nodes, p) == cut]
-        rows = sorted(row(nodes, cut, p) for p in region)
-        nested = sorted(p.encode() for p in region if p != cut and is_cut(nodes, p))
-        data = b"CVR1" + struct.pack(">II", len(rows), len(nested)) + b"".join(rows)
+def catalogues(nodes, root_time=TIME):
+    """The catalogue of each cut, by its path. The root has this time."""
+    regions, made = collections.defaultdict(list), {}
+    for path in nodes:
+        if path:
+            regions[owner(nodes, path)].append(path)
+        if is_cut(nodes, path):
+            regions[path].append(path)
+    for cut in sorted(regions, key=lambda path: -path.count("/")):
+        rows = sorted(row(nodes, cut, path, TIME if path else root_time) for path in regions[cut])
+        nested = sorted(path.encode() for path in regions[cut] if path != cut and is_cut(nodes, path))
+        parts = [b"CVR1", struct.pack(">II", len(rows), len(nested)), *rows]
         for path in nested:
             inner = made[path.decode()]
-            data += struct.pack(">H", len(path)) + path + hashlib.sha1(inner).digest() + struct.pack(">Q", len(inner))
-        made[cut] = data
+            parts.append(struct.pack(">H", len(path)) + path + hashlib.sha1(inner).digest() + struct.pack(">Q", len(inner)))
+        made[cut] = b"".join(parts)
     return made
 
 

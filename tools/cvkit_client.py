@@ -9,7 +9,9 @@ import hashlib
 import hmac
 import json
 import os
+import re
 import select
+import shutil
 import subprocess
 import sys
 import tempfile
@@ -19,8 +21,10 @@ TOP = os.path.dirname(os.path.dirname(os.path.abspath(__file__)))
 BUILT = os.path.join(TOP, "crates", "cvkit", "out", "cvkit")
 REPOSITORY = "sw.example.org"
 LEASES = "/api/v1/leases"
+PAYLOADS = "/api/v1/payloads"
 KEYS = {"k1": "s1", "k2": "s2"}
 SEAL = "seal"
+STRACE = shutil.which("strace")
 ZEROS = "0" * 40
 # The seconds in which a reply has to come.
 PATIENCE = 20
@@ -72,6 +76,16 @@ def ended(program, folder, words, given=b"", output=subprocess.PIPE):
     """How the program ends on these words and this input: its status, what it wrote, and its line on standard error."""
     ran = subprocess.run([program, *words], cwd=folder, input=given, stdout=output, stderr=subprocess.PIPE, timeout=PATIENCE)
     return ran.returncode, ran.stdout, ran.stderr.decode()
+
+
+def fsyncs(program, folder, words, given=b""):
+    """How many fsyncs the program makes on these words and this input, by strace."""
+    with tempfile.NamedTemporaryFile("r") as log:
+        tracer = [STRACE, "-c", "-f", "-o", log.name, "-e", "trace=fsync,fdatasync"]
+        ran = subprocess.run([*tracer, program, *words], cwd=folder, input=given, stdout=subprocess.DEVNULL)
+        expect(ran.returncode == 0, f"{words[0]} under strace", ran.returncode)
+        rows = [line.split() for line in log.read().splitlines()]
+    return sum(int(row[3]) for row in rows if row and re.fullmatch("f(data)?sync", row[-1]))
 
 
 def init(program, folder, name=REPOSITORY):
@@ -159,6 +173,46 @@ def end(token, key="k1"):
     return request("DELETE", f"{LEASES}/{token}", signed=authorization(key, token.encode()))
 
 
+def plain(content):
+    """A plain object: the text of its id, and its bytes."""
+    return digest_of(content), content
+
+
+def pack_header(*objects):
+    """The header of a pack of these objects."""
+    lines = "".join(f"C {id_} {len(content)}\n" for id_, content in objects)
+    return f"V2\nS{sum(len(content) for _, content in objects)}\nN{len(objects)}\n--\n{lines}".encode()
+
+
+def pack(*objects):
+    return pack_header(*objects) + b"".join(content for _, content in objects)
+
+
+def payload_message(digest, size, token):
+    """The message of a payload, by the digest and the size of its pack's header."""
+    members = {"header_size": size, "payload_digest": digest, "session_token": token}
+    return json.dumps(members, separators=(",", ":")).encode()
+
+
+def payload(token, objects, key="k1", packed=None):
+    """A request that sends these objects under a lease, in their pack or in these bytes."""
+    header = pack_header(*objects)
+    said = payload_message(digest_of(header), len(header), token)
+    body = said + (pack(*objects) if packed is None else packed)
+    return request("POST", PAYLOADS, body, authorization(key, said), [f"Message-Size: {len(said)}"])
+
+
+def commit_message(old, new, tag=""):
+    """The message that offers a new root, which was made from an old one."""
+    members = {"new_root_hash": new, "old_root_hash": old, "tag_name": tag}
+    return json.dumps(members, separators=(",", ":")).encode()
+
+
+def commit(token, old, new, key="k1", tag=""):
+    """A request that publishes what a new root has at the path of a lease."""
+    return request("POST", f"{LEASES}/{token}", commit_message(old, new, tag), authorization(key, token.encode()))
+
+
 LIST = request("GET", LEASES)
 REPOSITORIES = request("GET", "/api/v1/repos")
 
@@ -183,6 +237,12 @@ class Reply:
         expect(self.line == "HTTP/1.1 200 OK", "the status line", self.line)
         expect(self.fields.get("Content-Type") == "application/octet-stream", "the type of a file", self.fields)
         return self.body
+
+
+def expect_refusal(reply, reason, **members):
+    """The reply must be this refusal, with these further members."""
+    answer = reply.json()
+    expect(answer == {"reason": reason, "status": "error", **members}, f"a refusal, {reason}", answer)
 
 
 def file_reply(content):

@@ -10,10 +10,14 @@ import os
 import re
 import struct
 
-from cvkit_client import REPOSITORY, SEAL, digest_of, expect, manifest_path, object_path
+from cvkit_client import REPOSITORY, SEAL, ZEROS, digest_of, expect, manifest_path, object_path
+
 
 Head = collections.namedtuple("Head", "root size revision record time")
 Record = collections.namedtuple("Record", "revision previous root offered epoch number path key time tag")
+Row = collections.namedtuple("Row", "key parent flags mode time user group size hash name target")
+# The fields of a row before its hash, which has a length.
+ROW = struct.Struct(">16s16sIIQIIQ")
 ROOT_KEY = hashlib.md5(b"").hexdigest()
 DECIMAL = "(0|[1-9][0-9]*)"
 MANIFEST = re.compile(
@@ -64,24 +68,69 @@ def read_record(data):
     return record
 
 
+def read_catalogue(data):
+    """The rows of a catalogue, and its nested entries: path, id and size."""
+    expect(data[:4] == b"CVR1", "no catalogue", data[:80])
+    count, nested_count = struct.unpack_from(">II", data, 4)
+    at = 12
+
+    def sized(form):
+        nonlocal at
+        (size,) = struct.unpack_from(form, data, at)
+        at += struct.calcsize(form) + size
+        return data[at - size : at]
+
+    rows, nested = [], []
+    for _ in range(count):
+        fields = ROW.unpack_from(data, at)
+        at += ROW.size
+        hash_, name, target = sized(">B"), sized(">H"), sized(">H")
+        rows.append(Row(*fields, hash_.hex(), name.decode(), target.decode()))
+    for _ in range(nested_count):
+        path = sized(">H").decode()
+        nested.append((path, data[at : at + 20].hex() + "C", int.from_bytes(data[at + 20 : at + 28], "big")))
+        at += 28
+    expect(at == len(data), "bytes behind a catalogue, or a cut one", (at, len(data)))
+    return rows, nested
+
+
 def named_in(catalogue):
     """The ids that a catalogue names, with the size of each: files first, then nested catalogues."""
-    expect(catalogue[:4] == b"CVR1", "no catalogue", catalogue[:80])
-    rows, nested = struct.unpack_from(">II", catalogue, 4)
-    at = 12
-    for _ in range(rows):
-        (size,) = struct.unpack_from(">Q", catalogue, at + 56)
-        of_hash = catalogue[at + 64]
-        if of_hash:
-            yield catalogue[at + 65 : at + 65 + of_hash].hex(), size
-        at += 65 + of_hash
-        for _text in ("name", "target"):
-            at += 2 + int.from_bytes(catalogue[at : at + 2], "big")
-    for _ in range(nested):
-        at += 2 + int.from_bytes(catalogue[at : at + 2], "big")
-        yield catalogue[at : at + 20].hex() + "C", int.from_bytes(catalogue[at + 20 : at + 28], "big")
-        at += 28
-    expect(at == len(catalogue), "bytes behind a catalogue, or a cut one", (at, len(catalogue)))
+    rows, nested = read_catalogue(catalogue)
+    return [(row.hash, row.size) for row in rows if row.hash] + [(id_, size) for _, id_, size in nested]
+
+
+def key_of(path):
+    """The key of a path's text."""
+    return hashlib.md5(path.encode()).digest()
+
+
+def rows_below(top, rows):
+    """The rows of the catalogue of a cut, by their paths. They are in order, and each has the keys of its path and its parent's."""
+    expect([row.key for row in rows] == sorted({row.key for row in rows}), "the order of the rows", top)
+    below, found = collections.defaultdict(list), {}
+    for row in rows:
+        below[row.parent].append(row)
+    left = [(top, row) for row in rows if row.key == key_of(top)]
+    expect([row.parent for _, row in left] == [key_of(top.rpartition("/")[0]) if top else bytes(16)], "the root row", top)
+    while left:
+        path, row = left.pop()
+        expect(row.key == key_of(path), "the key of a path", path)
+        found[path] = row
+        left += [(f"{path}/{inner.name}", inner) for inner in below[row.key]]
+    expect(len(found) == len(rows), "a row that isn't reached", (top, len(rows)))
+    return found
+
+
+def read_tree(fetch, root):
+    """The rows of the tree that a root means, by path. Its catalogues are what `fetch` gives for their ids and sizes."""
+    found, left = {}, [("", root + "C", None)]
+    while left:
+        top, id_, size = left.pop()
+        rows, nested = read_catalogue(fetch(id_, size))
+        found.update(rows_below(top, rows))
+        left += nested
+    return found
 
 
 def whole_object(folder, id_):
@@ -106,6 +155,17 @@ def check_tree(folder, root, seen):
             left += named_in(data)
 
 
+def records_of(folder, head):
+    """The records of a head from the newest back to the first, each with its hash."""
+    hash_ = head.record
+    for revision in range(head.revision, 0, -1):
+        record = read_record(whole_object(folder, hash_ + "H"))
+        expect(record.revision == revision, "the revision of a record", record)
+        yield hash_, record
+        hash_ = record.previous
+    expect(hash_ == ZEROS, "a record before the first one", hash_)
+
+
 def whole_head(folder, name=REPOSITORY):
     """The head of the repository, where all that it reaches is there and whole; None where there is no manifest."""
     manifest = read_file(manifest_path(folder))
@@ -113,14 +173,11 @@ def whole_head(folder, name=REPOSITORY):
         return None
     head = read_manifest(manifest, name)
     expect(len(whole_object(folder, head.root + "C")) == head.size, "the size of the root catalogue", head)
-    seen, id_ = set(), head.record
-    for revision in range(head.revision, 0, -1):
-        record = read_record(whole_object(folder, id_ + "H"))
-        expect(record.revision == revision, "the revision of a record", record)
-        expect(revision < head.revision or (record.root, record.time) == (head.root, head.time), "the newest record", record)
+    seen = set()
+    for _, record in records_of(folder, head):
+        is_newest = record.revision == head.revision
+        expect(not is_newest or (record.root, record.time) == (head.root, head.time), "the newest record", record)
         check_tree(folder, record.root, seen)
-        id_ = record.previous
-    expect(id_ == "0" * 40, "a record before the first one", id_)
     return head
 
 

@@ -9,10 +9,12 @@ import json
 import re
 
 import cvkit_client
-from cvkit_client import KEYS, LEASES, REPOSITORY, mac
+import line_vectors
+from cvkit_client import KEYS, LEASES, REPOSITORY, digest_of, mac
 from vectors import raw_text, settle, table
 
 HASH = "f572d396fae9206628714fb2ce00f72e94f2258f"
+OLD, NEW = (digest_of(tree) for tree in line_vectors.trees)
 
 
 def header(key, message, secret=None):
@@ -34,15 +36,21 @@ def signer(authorization, message):
     return key, None
 
 
+def members(body):
+    """The members of an object, or None."""
+    try:
+        ask = json.loads(body)
+    except ValueError:
+        return None
+    return ask if isinstance(ask, dict) else None
+
+
 def lease(authorization, body):
     key, refusal = signer(authorization, body)
     if refusal:
         return refusal
-    try:
-        ask = json.loads(body)
-    except ValueError:
-        return "not_json"
-    if not isinstance(ask, dict):
+    ask = members(body)
+    if ask is None:
         return "not_json"
     if "path" not in ask:
         return "missing_member path"
@@ -56,12 +64,35 @@ def lease(authorization, body):
     return "lease %s on '%s'" % (key, ("/" + rest).rstrip("/"))
 
 
-def end(authorization, token):
-    key, refusal = signer(authorization, token)
+def token_of(text):
+    number = r"(0|[1-9][0-9]*)"
+    return text if re.fullmatch(number + "-" + number, text) else "0-0"
+
+
+def commit(authorization, text, body):
+    key, refusal = signer(authorization, text)
     if refusal:
         return refusal
-    number = r"(0|[1-9][0-9]*)"
-    return "end %s of %s" % (key, token if re.fullmatch(number + "-" + number, token) else "0-0")
+    ask = members(body)
+    if ask is None:
+        return "not_json"
+    ask.setdefault("tag_name", "")
+    for name, form in [("old_root_hash", "[0-9a-f]{40}C?"), ("new_root_hash", "[0-9a-f]{40}C?"), ("tag_name", "[^\0-\x1f]{0,255}")]:
+        if name not in ask:
+            return "missing_member " + name
+        if not isinstance(ask[name], str):
+            return "wrong_type " + name
+        if not re.fullmatch(form, ask[name]):
+            return "bad_value " + name
+    roots = ask["old_root_hash"][:40], ask["new_root_hash"][:40]
+    return "commit %s of %s from %s to %s as '%s'" % (key, token_of(text), *roots, ask["tag_name"])
+
+
+def end(authorization, text):
+    key, refusal = signer(authorization, text)
+    if refusal:
+        return refusal
+    return "end %s of %s" % (key, token_of(text))
 
 
 def turn(method, target, authorization, body):
@@ -69,6 +100,8 @@ def turn(method, target, authorization, body):
         return "501 Not Implemented"
     if method == "Post" and target == LEASES:
         return lease(authorization, body)
+    if method == "Post" and target.startswith(LEASES + "/"):
+        return commit(authorization, target[len(LEASES) + 1 :], body)
     if method == "Delete" and target.startswith(LEASES + "/"):
         return end(authorization, target[len(LEASES) + 1 :])
     if method == "Get":
@@ -80,8 +113,12 @@ def turn(method, target, authorization, body):
     return "404 Not Found"
 
 
+def text_of(**asked):
+    return json.dumps(asked, separators=(",", ":"))
+
+
 def ask(path):
-    return json.dumps({"path": path}, separators=(",", ":"))
+    return text_of(path=path)
 
 
 GOOD = ask("sw.example.org/a")
@@ -93,7 +130,20 @@ for body in ["{", "{}", '{"path":1}']:
 for path in ["other.org/a//", "sw.example.orgs", "sw.example.org/a//", "sw.example.org"]:
     ROWS.append(("Post", LEASES, header("k1", ask(path)), ask(path)))
 ROWS.append(("Post", LEASES, header("k2", ask("sw.example.org/a/b/")), ask("sw.example.org/a/b/")))
-ROWS.append(("Post", LEASES + "/1-1", header("k1", "1-1"), "{}"))
+COMMIT = text_of(old_root_hash=OLD, new_root_hash=NEW, tag_name="")
+ROWS.append(("Post", LEASES + "/1-1", header("k1", COMMIT), "{"))
+for body in [
+    "{",
+    text_of(new_root_hash=1),
+    text_of(old_root_hash=OLD + "CC", new_root_hash=1),
+    text_of(old_root_hash=OLD, new_root_hash=1, tag_name=1),
+    text_of(old_root_hash=OLD, new_root_hash=NEW, tag_name="v\n1"),
+    COMMIT,
+    text_of(old_root_hash=OLD + "C", new_root_hash=NEW),
+]:
+    ROWS.append(("Post", LEASES + "/1-1", header("k1", "1-1"), body))
+ROWS.append(("Post", LEASES + "/1-01", header("k2", "1-01"), text_of(old_root_hash=OLD, new_root_hash=NEW + "C", tag_name="v1")))
+ROWS.append(("Post", "/api/v1/repos", header("k1", ""), ""))
 for token in ["12-34", "01-1", "", "1-1/"]:
     ROWS.append(("Delete", LEASES + "/" + token, header("k2", token), ""))
 ROWS.append(("Delete", LEASES + "/01-1", header("k2", "0-0"), ""))

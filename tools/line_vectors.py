@@ -98,6 +98,11 @@ if __name__ == "__main__":
             files("SECOND", 2, trees[1], second),
             constant("CATALOGUE", "&[u8]", literal(trees[1])),
             constant("RECORD", "&[u8]", literal(second)),
+        ],
+    )
+    settle(
+        "crates/cv_swap/src/opening_tests.rt",
+        [
             constant("AHEAD", "&[u8]", literal(manifest(3, trees[1], second))),
             constant("FIRST_RECORD", "&str", f'"{name(first, "H")}"'),
             constant("SECOND_RECORD", "&str", f'"{name(second, "H")}"'),

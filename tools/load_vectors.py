@@ -5,7 +5,7 @@ import hashlib
 import struct
 
 import cut_vectors
-from row_vectors import entry, file, row
+from row_vectors import entry, file, key, row
 from vectors import array, constant, settle, text
 
 ROOT = row("", "dir")
@@ -31,6 +31,12 @@ def wrong():
     yield "its root row has another mode", file([row("/d", "nested", mode=0o700), MARKER])
     yield "it is the catalogue of another place", file([row("/e", "nested"), row("/e/.cvmfscatalog", "file")])
     yield "it is a catalogue of the root", file([ROOT])
+    yield "its rows are out of order", file([MARKER, NESTED], sort=False)
+    yield "a row has the key of another path", file([NESTED, MARKER, row("/d/f", "file", key_=key("/d/g"))])
+    yield "a transition has no entry", file([NESTED, MARKER, row("/d/e", "transition")])
+    yield "an entry has no transition", file([NESTED, MARKER], [entry("/d/e", b"")])
+    yield "an entry is that of the place above", file([NESTED, MARKER], [entry("", b"")])
+    yield "it says 50,001 rows", b"CVR1" + struct.pack(">II", 50001, 0)
 
 
 def triple(digest, size, data):
@@ -53,6 +59,8 @@ def items():
 
     rows = [f"// {what}\n    " + triple(sha1(bad), len(bad), bad) for what, bad in wrong()]
     yield constant("WRONG", f"[(&str, &str, &str); {len(rows)}]", array(rows), "static")
+    zeros = bytes((1 << 24) + 1)
+    yield constant("LARGE", "(&str, &str)", f'("{sha1(zeros)}", "{len(zeros):016x}")')
     # The catalogue of `/d` has a nested one, `/d/e`, of the digest under which it stands itself.
     digest = b"\x11" * 20
     own = [NESTED, MARKER, row("/d/e", "transition")]

@@ -8,10 +8,9 @@ import hashlib
 import json
 
 import cvkit_client
-from cvkit_client import LEASES, REPOSITORY, authorization, digest_of, lease_message
+from cvkit_client import LEASES, PAYLOADS, REPOSITORY, authorization, digest_of, lease_message
 from vectors import settle, table, text
 
-PAYLOADS = "/api/v1/payloads"
 HELLO = b"hello\n"
 CLEAN, CLOSED = "SessionEnd::Clean", "SessionEnd::Closed"
 
@@ -21,17 +20,15 @@ def bad(fault):
 
 
 def header(*contents):
-    lines = "".join(f"C {digest_of(content)} {len(content)}\n" for content in contents)
-    return f"V2\nS{sum(map(len, contents))}\nN{len(contents)}\n--\n{lines}".encode()
+    return cvkit_client.pack_header(*map(cvkit_client.plain, contents))
 
 
 def pack(*contents):
-    return header(*contents) + b"".join(contents)
+    return cvkit_client.pack(*map(cvkit_client.plain, contents))
 
 
 def message(digest, size, token="1-1"):
-    members = {"header_size": size, "payload_digest": digest, "session_token": token}
-    return json.dumps(members, separators=(",", ":")).encode()
+    return cvkit_client.payload_message(digest, size, token)
 
 
 def announced(head, size=None):
@@ -55,6 +52,12 @@ def head(method, target, *fields):
 def lease(path):
     body = lease_message(path, REPOSITORY)
     return cvkit_client.request("POST", LEASES, body, authorization("k1", body)).decode()
+
+
+def commit(token):
+    members = {"new_root_hash": digest_of(b"new"), "old_root_hash": digest_of(b"old"), "tag_name": ""}
+    body = json.dumps(members, separators=(",", ":")).encode()
+    return cvkit_client.request("POST", f"{LEASES}/{token}", body, authorization("k1", token.encode())).decode()
 
 
 def written(status, kind, body, last=False):
@@ -151,6 +154,26 @@ SESSIONS += [
     ([(lease("/a"), granted("1-1")), (payload(*EMPTY), DONE), (lease("/b"), granted("1-5"))], CLEAN),
     ([(head("GET", "/none", HOST, "Connection: close"), fault("404 Not Found"))], CLOSED),
 ]
+# Each other fault of a pack, whose header is as announced: its first line, its size, its number, their sum, a name twice.
+SESSIONS += [
+    ([(payload(made + body, announced(made)), refused("bad_pack")), (payload(*EMPTY), DONE)], CLEAN)
+    for made, body in (
+        (b"V3\nS0\nN0\n--\n", b""),
+        (b"V2\nS33554433\nN0\n--\n", b""),
+        (b"V2\nS0\nN10001\n--\n", b""),
+        (header(HELLO).replace(b"S6", b"S5"), HELLO),
+        (header(HELLO, HELLO), HELLO + HELLO),
+    )
+]
+# An empty message; cut between the message and the pack, and behind the pack's header; too many fields of a head.
+SESSIONS += [
+    ([(payload(pack(), b""), refused("not_json")), (payload(*EMPTY), DONE)], CLEAN),
+    ([(payload(*EMPTY, keep=-12), "")], bad("Short")),
+    ([(payload(*FULL, keep=-6), "")], bad("Short")),
+    ([(head("POST", PAYLOADS, HOST, *["a: b"] * 64), fault("431 Request Header Fields Too Large"))], bad("HeadTooLarge")),
+]
+# A commit, which the desk of the tests refuses.
+SESSIONS.append(([(commit("1-1"), refused("revisions_full"))], CLEAN))
 
 
 def row(exchanges, end):

@@ -6,10 +6,13 @@ a session: the seconds of the clock after its first moment, the input and the ou
 Python's hmac and base64, the answers by json.
 """
 import json
+import struct
 
 import cvkit_client
 import line_vectors
-from cvkit_client import LEASES, REPOSITORY, authorization, lease_message
+import row_vectors
+from cut_vectors import catalogues
+from cvkit_client import LEASES, REPOSITORY, authorization, commit, get, lease_message, pack, payload, plain
 from line_vectors import literal, name, sha1
 from vectors import constant, settle, table, text
 
@@ -18,6 +21,28 @@ CATALOGUE = line_vectors.trees[0]
 RECORD = line_vectors.first
 MANIFEST = line_vectors.manifest(1, CATALOGUE, RECORD)
 HELLO = b"hello\n"
+# A catalogue that has the file `/a` with these bytes, and another one that has the directory `/a`.
+WITH_FILE, WITH_DIRECTORY = (
+    row_vectors.file([row_vectors.row("", "dir"), row_vectors.row("/a", kind, content)])
+    for kind, content in (("file", HELLO), ("dir", b""))
+)
+OTHER_RECORD = line_vectors.record(1, bytes(20), sha1(WITH_DIRECTORY), (0, 0), b"", b"")
+
+
+def second_record(root):
+    """The record of a second revision that `k1` published under the lease 1-1 on `/a`, and whose root is the offered one."""
+    return (
+        b"CVH1"
+        + struct.pack(">Q", 2)
+        + sha1(RECORD)
+        + root
+        + root
+        + struct.pack(">QQ", 1, 1)
+        + line_vectors.sized(b"/a")
+        + line_vectors.sized(b"k1")
+        + struct.pack(">Q", line_vectors.TIME)
+        + line_vectors.sized(b"")
+    )
 
 
 def request(method, target, signed=None, body=None):
@@ -38,8 +63,8 @@ def reply(answer):
     return "HTTP/1.1 200 OK\r\nContent-Type: application/json\r\nContent-Length: %d\r\n\r\n%s" % (len(body), body)
 
 
-def granted(token):
-    return reply({"revision": 1, "root_hash": sha1(CATALOGUE).hex(), "session_token": token, "status": "ok"})
+def granted(token, root=CATALOGUE):
+    return reply({"revision": 1, "root_hash": sha1(root).hex(), "session_token": token, "status": "ok"})
 
 
 def refused(reason):
@@ -158,12 +183,80 @@ def fault_row(vault, source, sink, code, line, size):
     return f'({vault}, {source}, {sink}, {code}, "{said}", {size})'
 
 
+# Sessions over the repository whose tree has the directory `/a`.
+BELOW = [
+    (ask("/a/b"), granted("1-1", WITH_DIRECTORY)),
+    (ask("/a"), busy("1-1", 7200)),
+    (ask("/a/c"), granted("1-2", WITH_DIRECTORY)),
+    (ask("/a"), busy("1-2", 7200)),
+]
+BELOW_FILES = [
+    (name(WITH_DIRECTORY, "C"), WITH_DIRECTORY),
+    (name(OTHER_RECORD, "H"), OTHER_RECORD),
+    (EPOCH, b"0\n"),
+    (HEAD, line_vectors.manifest(1, WITH_DIRECTORY, OTHER_RECORD)),
+]
+
+# Sessions with payloads, each under a lease of its own: two objects twice, and then one of them is read; faults of their pack.
+OBJECTS = [plain(HELLO), (sha1(WITH_FILE).hex() + "C", WITH_FILE)]
+PACK = pack(*OBJECTS)
+assert len(WITH_FILE) == 171 and len(PACK) == 284
+READ = (cvkit_client.get(name(HELLO)), octets(HELLO))
+LEASED = (ask("/a").encode(), granted("1-1").encode())
+STORED = (payload("1-1", OBJECTS), DONE.encode())
+FAULTY = [PACK[:-1], PACK + b"x", PACK.replace(HELLO, b"hellO\n")]
+PAYLOADS = [
+    [LEASED, STORED, STORED, READ],
+    [LEASED] + [(payload("1-1", OBJECTS, packed=packed), refused("bad_pack").encode()) for packed in FAULTY],
+    [(payload("1-1", OBJECTS), refused("invalid_token").encode()), LEASED, (payload("1-1", OBJECTS, key="k2"), refused("wrong_key").encode())],
+]
+
+# A payload twice, and what may be said where one call of the vault fails. In the next opening an object is there, and is sent again.
+ASKED = [LEASED, STORED, STORED]
+FAILED_REPLY = refused("store_failed").encode()
+SAID = [[LEASED[1], *replies] for replies in ([DONE.encode()] * 2, [FAILED_REPLY, DONE.encode()], [DONE.encode(), FAILED_REPLY])]
+AGAIN = [READ, (ask("/a").encode(), granted("2-1").encode()), (payload("2-1", OBJECTS), DONE.encode())]
+
+# A session that leases, sends and commits, and reads what the new revision names: the manifest, the record and the catalogue.
+OLD, NEW = (sha1(tree).hex() for tree in (CATALOGUE, WITH_FILE))
+assert WITH_FILE == catalogues({"": ("dir", b""), "/a": ("file", HELLO)})[""]
+SECOND_RECORD = second_record(sha1(WITH_FILE))
+SECOND_MANIFEST = line_vectors.manifest(2, WITH_FILE, SECOND_RECORD)
+COMMITTED = (commit("1-1", OLD, NEW), reply({"final_revision": 2, "root_hash": NEW, "status": "ok"}).encode())
+READS = [(get(path), octets(data)) for path, data in ((HEAD, SECOND_MANIFEST), (name(SECOND_RECORD, "H"), SECOND_RECORD), (name(WITH_FILE, "C"), WITH_FILE))]
+ENDED = (COMMITTED[0], refused("invalid_token").encode())
+PUBLISHED = [LEASED, STORED, COMMITTED, *READS, ENDED]
+# What the next opening has then.
+REOPENED = [READS[0], (ask("/a").encode(), reply({"revision": 2, "root_hash": NEW, "session_token": "2-1", "status": "ok"}).encode())]
+# What it has where there was no commit.
+UNCHANGED = [octets(MANIFEST), granted("2-1").encode()]
+
+# A commit of what is there already, twice, and what may be said where one call of the vault fails: the first commit is made; it
+# fails, and the second one is made; it fails, and stands at the second.
+COMMITTED_TWICE = [LEASED[0], COMMITTED[0], COMMITTED[0], READS[0][0]]
+COMMITS_SAID = [
+    [LEASED[1], first, second, READS[0][1]]
+    for first, second in ((COMMITTED[1], ENDED[1]), (FAILED_REPLY, COMMITTED[1]), (FAILED_REPLY, ENDED[1]))
+]
+# One commit, and what may be said of it.
+CUT = [LEASED[0], COMMITTED[0]]
+CUT_SAID = [[LEASED[1], COMMITTED[1]], [LEASED[1], FAILED_REPLY]]
+
+
+def joined(parts):
+    return literal(b"".join(parts))
+
+
+def row_of_bytes(exchanges):
+    return "(" + ", ".join(joined(part) for part in zip(*exchanges)) + ")"
+
+
 FILES = [(name(CATALOGUE, "C"), CATALOGUE), (RECORD_NAME, RECORD), (EPOCH, b"0\n"), (HEAD, MANIFEST)]
 ROWS = [row(seconds, exchanges) for seconds, exchanges in SESSIONS]
+settle("crates/cv_top/src/test_runs.rt", [table("FILES", "(&str, &[u8])", [row_of_file(*file) for file in FILES], "static")])
 settle(
     "crates/cv_top/src/tests.rt",
     [
-        table("FILES", "(&str, &[u8])", [row_of_file(*file) for file in FILES], "static"),
         constant("OBJECT", "&str", f'"{name(HELLO)}"'),
         constant("CATALOGUE", "&str", f'"{name(CATALOGUE, "C")}"'),
         constant("SERVED", "&[u8]", literal(octets(MANIFEST))),
@@ -172,5 +265,29 @@ settle(
         table("REFUSED", "(&str, Option<&[u8]>, &str)", [refused_row(*one) for one in REFUSED], "static"),
         table("FAULTS", "(u64, u64, u64, u8, &str, usize)", [fault_row(*one) for one in FAULTS], "static"),
         table("SESSIONS", "((u32, u32, u32), &str, &str)", ROWS, "static"),
+    ],
+)
+settle(
+    "crates/cv_top/src/store_tests.rt",
+    [
+        table("BELOW_FILES", "(&str, &[u8])", [row_of_file(*file) for file in BELOW_FILES], "static"),
+        constant("BELOW", "(&str, &str)", "(" + ", ".join(text("".join(part)) for part in zip(*BELOW)) + ")"),
+        table("PAYLOADS", "(&[u8], &[u8])", [row_of_bytes(exchanges) for exchanges in PAYLOADS], "static"),
+        constant("STORED_TWICE", "&[u8]", joined(asked for asked, _ in ASKED)),
+        table("SAID", "&[u8]", [joined(said) for said in SAID], "static"),
+        constant("STORED_AGAIN", "(&[u8], &[u8])", row_of_bytes(AGAIN)),
+    ],
+)
+settle(
+    "crates/cv_top/src/commit_tests.rt",
+    [
+        table("OFFERED", "(&str, &[u8])", [row_of_file(name(HELLO), HELLO), row_of_file(name(WITH_FILE, "C"), WITH_FILE)], "static"),
+        constant("PUBLISHED", "(&[u8], &[u8])", row_of_bytes(PUBLISHED)),
+        constant("REOPENED", "(&[u8], &[u8])", row_of_bytes(REOPENED)),
+        constant("UNCHANGED", "&[u8]", joined(UNCHANGED)),
+        constant("COMMITTED_TWICE", "&[u8]", joined(COMMITTED_TWICE)),
+        table("COMMITS_SAID", "&[u8]", [joined(said) for said in COMMITS_SAID], "static"),
+        constant("CUT", "&[u8]", joined(CUT)),
+        table("CUT_SAID", "&[u8]", [joined(said) for said in CUT_SAID], "static"),
     ],
 )

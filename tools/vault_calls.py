@@ -10,6 +10,8 @@ program, has it proved and built by `rt run`, and gives its path. Where VAULT_CA
     wait                     reads a byte of standard input
     at=ROOT                  goes on over ROOT
     also=ROOT                opens a second vault, over ROOT, and reads `file` there
+    memory=COUNT             writes COUNT names into a vault in memory and syncs, lists ten, changes one and syncs, and prints the
+                             nanoseconds of the three
 """
 import os
 import shutil
@@ -24,10 +26,11 @@ PROGRAM = """\
 #![tactic(auto)]
 
 use cv_real::{FolderVault, program_words};
-use cv_vault::{Vault, VaultFault};
+use cv_vault::{MemoryVault, Vault, VaultFault};
 use std::io;
 use std::io::Read;
 use std::process::ExitCode;
+use std::time::Instant;
 
 type Vaulted = FolderVault<HostRuntime>;
 
@@ -98,6 +101,52 @@ fn move_all(rt: &HostRuntime, vault: &mut Vaulted, count: u32) -> io::Result<boo
     Ok(vault.sync().is_ok())
 }
 
+/// Writes so many names into a vault in memory, ten in each folder, and syncs.
+fn write_names(rt: &HostRuntime, vault: &mut MemoryVault, count: u32) -> Option<()> {
+    for number in 0..count {
+        let folder = number / 10;
+        let name = format!(in rt.alloc(); "data/{folder:05}/{number:06}").ok()?;
+        vault.write(name.as_str(), b"content").ok()?;
+    }
+    vault.sync().ok()
+}
+
+/// Whether ten names are in a folder.
+fn lists_ten(vault: &mut MemoryVault) -> Option<()> {
+    (vault.list("data/00050/").ok()?.len() == 10).then_some(())
+}
+
+/// Gives one name another content, and syncs.
+fn change_one(vault: &mut MemoryVault) -> Option<()> {
+    vault.write("data/00050/000500", b"another").ok()?;
+    vault.sync().ok()
+}
+
+/// The nanoseconds from one moment to another.
+fn nanoseconds(from: Instant, to: Instant) -> u128 {
+    to.duration_since(from).as_nanos()
+}
+
+/// The nanoseconds of writing so many names, of listing ten, and of changing one.
+fn times(rt: &HostRuntime, count: u32) -> Option<(u128, u128, u128)> {
+    let mut vault = MemoryVault::new(rt.alloc(), Vec::new(rt.alloc())).ok()?;
+    let begin = Instant::now(rt).ok()?;
+    write_names(rt, &mut vault, count)?;
+    let written = Instant::now(rt).ok()?;
+    lists_ten(&mut vault)?;
+    let listed = Instant::now(rt).ok()?;
+    change_one(&mut vault)?;
+    let changed = Instant::now(rt).ok()?;
+    Some((nanoseconds(begin, written), nanoseconds(written, listed), nanoseconds(listed, changed)))
+}
+
+fn print_times(rt: &HostRuntime, count: &str) -> io::Result<()> {
+    match times(rt, count.parse::<u32>().unwrap_or(0)) {
+        Some((writes, lists, change)) => println!(rt; "{writes} {lists} {change}"),
+        None => println!(rt; "failed"),
+    }
+}
+
 fn print_names(rt: &HostRuntime, vault: &mut Vaulted, prefix: &str) -> io::Result<()> {
     match vault.list(prefix) {
         Ok(names) => {
@@ -148,6 +197,9 @@ fn answer_of(rt: &HostRuntime, vault: &mut Vaulted, call: &str, name: &str, othe
 fn make_call(rt: &HostRuntime, vault: &mut Vaulted, call: &str, name: &str, other: &str) -> io::Result<()> {
     if call == "list" {
         return print_names(rt, vault, name);
+    }
+    if call == "memory" {
+        return print_times(rt, name);
     }
     let word = word_of(answer_of(rt, vault, call, name, other)?);
     println!(rt; "{word}")

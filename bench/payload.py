@@ -1,0 +1,63 @@
+#!/usr/bin/env python3
+"""Payloads through `cvkit stdio`: how fast they are stored beside sha1sum, and how much memory that takes.
+
+    bench/payload.py [--short] [PROGRAM]
+
+A payload of 32 MiB comes in 100 objects and in 10,000, the most that the interface takes, and the best of three runs stands. The
+short form sends a few kilobytes and prints no time.
+"""
+import os
+import resource
+import subprocess
+import sys
+import time
+
+sys.path.insert(0, os.path.join(os.path.dirname(os.path.abspath(__file__)), "..", "tools"))
+from cvkit_client import Session, expect, lease, main, payload, plain, repository
+
+MIB = 1 << 20
+# The seconds in which a payload has to be stored.
+PATIENCE = 600
+
+
+def store(program, asked):
+    """The seconds in which the payload is stored in a new repository."""
+    with repository(program) as folder, Session(program, folder) as session:
+        session.exchange(lease("/a"))
+        begin = time.perf_counter()
+        session.send(asked)
+        answer = session.reply(PATIENCE).json()
+        took = time.perf_counter() - begin
+        expect(answer == {"status": "ok"}, "the answer to a payload", answer)
+        session.close()
+    return took
+
+
+def sha1sum(data):
+    begin = time.perf_counter()
+    subprocess.run(["sha1sum"], input=data, stdout=subprocess.DEVNULL, check=True)
+    return time.perf_counter() - begin
+
+
+def measure(program, count, size, times):
+    """The seconds of a payload of so many objects of this size, no two alike, and those of sha1sum over their bytes."""
+    objects = [index.to_bytes(8, "big") + bytes(size - 8) for index in range(count)]
+    asked = payload("1-1", [plain(content) for content in objects])
+    beside = min(sha1sum(b"".join(objects)) for _ in range(times))
+    return min(store(program, asked) for _ in range(times)), beside
+
+
+def script(program, short):
+    whole, counts, times = (10_240, (10, 20), 1) if short else (32 * MIB, (100, 10_000), 3)
+    for count in counts:
+        took, beside = measure(program, count, whole // count, times)
+        if short:
+            print(f"{count} objects were stored")
+        else:
+            print(f"32 MiB in {count} objects: {took:.3f} s, {whole / MIB / took:.1f} MiB/s, {beside / took:.2f} of sha1sum")
+    if not short:
+        peak = resource.getrusage(resource.RUSAGE_CHILDREN).ru_maxrss / 1024
+        print(f"peak memory of a child: {peak:.0f} MiB")
+
+
+main(script)
