@@ -26,3 +26,12 @@ given xs buf at n fits =
     sym (take-append-drop n (drop at xs))
     ∙ ap (λ p. p ++ drop n (drop at xs)) (sym (take_at (take n (drop at xs)) (drop n buf) n (length-take-le n (drop at xs) size)))
     ∙ ap (λ p. take n (take n (drop at xs) ++ drop n buf) ++ p) (drop-drop n at xs))
+
+-- what was given, and what is at the front of the buffer behind it
+pub given_more : (xs buf : List ℕ) (at n : ℕ) → n ≤ length xs - at
+    → take (at + n) xs ≡ take at xs ++ take n (take n (take (length xs - at) (drop at xs)) ++ drop n buf)
+given_more xs buf at n fits =
+    let size : n ≤ length (drop at xs) = rw length-drop fits in
+    rw rest_of (
+    take-add at n xs
+    ∙ ap (λ p. take at xs ++ p) (sym (take_at (take n (drop at xs)) (drop n buf) n (length-take-le n (drop at xs) size))))

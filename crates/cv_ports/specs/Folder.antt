@@ -21,3 +21,7 @@ read_front content = take 16777217 content
 -- the names of a listing ascend by their bytes, so that none stands twice
 abbrev pub Ascend : List FolderItem → Type 0
 Ascend items = IsStrictlySortedBy name_cmp (names_of items)
+
+-- so do those of each directory of a folder
+abbrev pub IsOrdered : FolderView → Type 0
+IsOrdered holds = (path : Path) → Ascend (holds.items path)

@@ -6,3 +6,7 @@ pub mod Shelf
 pub mod Objects
 pub mod MemoryShelf
 pub mod Folder
+pub mod MemoryFolder
+pub mod Dial
+pub mod CameBack
+pub mod MemoryDial

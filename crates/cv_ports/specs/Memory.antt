@@ -2,9 +2,10 @@
 use Rattle.std.specs.Prelude.{ℕ, ◌<◌, ◌≤◌, List, length}
 use Rattle.cv_ports.specs.Calls.{Calls}
 
--- what a source has left, the most that it gives a call, and its calls
+-- what a source has left, what it gave, the most that it gives a call, and its calls
 pub record SourceView : Type 0 where
   pub left : List ℕ
+  pub given : List ℕ
   pub piece : ℕ
   pub calls : Calls
 

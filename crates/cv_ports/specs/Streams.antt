@@ -1,4 +1,4 @@
--- What a source has left and what a sink took, where they tell it.
+-- What a source has left and gave, and what a sink took, where they tell it.
 use Rattle.std.specs.Prelude.{◌≡◌, ◌++◌, ℕ, List, Option, Some, None}
 
 -- a piece, and then what is left, where it is told
@@ -6,7 +6,7 @@ abbrev pub front : List ℕ → Option (List ℕ) → Option (List ℕ)
 front piece None = None
 front piece (Some rest) = Some (piece ++ rest)
 
--- what was taken, and then a piece, where it is told
+-- what was given or taken, and then a piece, where it is told
 abbrev pub onto : Option (List ℕ) → List ℕ → Option (List ℕ)
 onto None piece = None
 onto (Some before) piece = Some (before ++ piece)

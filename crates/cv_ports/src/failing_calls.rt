@@ -55,4 +55,11 @@ impl FailingCalls {
     {
         self.faults = self.faults.saturating_add(1);
     }
+
+    /// How many calls failed.
+    pub fn faults(&self) -> u64
+        ensures { result ≡ self.now.faults }
+    {
+        self.faults
+    }
 }

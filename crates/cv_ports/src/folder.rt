@@ -2,10 +2,10 @@
 ghost use Rattle.std.specs.Prelude.{◌≡◌, ℕ, Option, IfOk, OnErr, IsErrOf, length, ◌≤◌};
 ghost use Rattle.cv_base.specs.Counts.{HasCause};
 ghost use Rattle.cv_base.specs.Told.{WhereTold};
-ghost use Rattle.cv_ports.specs.Folder.{FolderView, Ascend, read_front};
+ghost use Rattle.cv_ports.specs.Folder.{FolderView, Ascend, IsOrdered, read_front};
 ghost use Rattle.cv_ports.specs.declared.folder.FolderFault.TheVariants as fault;
 
-use cv_base::{Bytes, Items, RepoPath, Text};
+use cv_base::{Bytes, Items, NoMemory, RepoPath, Text};
 use std::alloc::Global;
 
 /// What stands under a name.
@@ -21,6 +21,20 @@ pub enum FoundKind {
     Special,
 }
 
+impl FoundKind {
+    /// An equal kind.
+    pub fn copy(&self, alloc: Global) -> Result<FoundKind, NoMemory>
+        ensures { IfOk result (λ made. made ≡ self.now) }
+    {
+        match self {
+            FoundKind::Dir => Ok(FoundKind::Dir),
+            FoundKind::File => Ok(FoundKind::File),
+            FoundKind::Link(target) => Ok(FoundKind::Link(target.copy(alloc)?)),
+            FoundKind::Special => Ok(FoundKind::Special),
+        }
+    }
+}
+
 /// One item of a directory.
 #[derive(Debug, Drop)]
 pub struct FolderItem {
@@ -34,6 +48,20 @@ pub struct FolderItem {
     pub mtime: u64,
 }
 
+impl FolderItem {
+    /// An equal item.
+    pub fn copy(&self, alloc: Global) -> Result<FolderItem, NoMemory>
+        ensures { IfOk result (λ made. made ≡ self.now) }
+    {
+        Ok(FolderItem {
+            name: self.name.copy(alloc)?,
+            kind: self.kind.copy(alloc)?,
+            mode: self.mode,
+            mtime: self.mtime,
+        })
+    }
+}
+
 /// Why a folder gave no answer.
 #[derive(Clone, Copy, Debug, PartialEq, Eq)]
 pub enum FolderFault {
@@ -41,6 +69,14 @@ pub enum FolderFault {
     Failed,
     /// There was no memory.
     NoMemory,
+}
+
+impl From<NoMemory> for FolderFault {
+    ghost from_gives = { λ _ e. e ≡ fault.NoMemory };
+
+    fn from(_fault: NoMemory) -> FolderFault {
+        FolderFault::NoMemory
+    }
 }
 
 /// A folder. It tells what it holds or it doesn't. Only `root` changes what stands there.
@@ -60,6 +96,7 @@ pub trait Folder {
     fn list(&mut self, alloc: Global, path: &RepoPath) -> Result<Items<FolderItem>, FolderFault>
         ensures told { WhereTold (folder self.old) (λ holds. IfOk result (λ items. items ≡ holds.items path.now)) }
         ensures ascend { IfOk result (λ items. Ascend items) }
+        ensures ordered { WhereTold (folder self.old) IsOrdered }
         ensures unchanged { folder self.new ≡ folder self.old }
         ensures cause { HasCause (faults self.old) (faults self.new) (IsErrOf result fault.Failed) };
 

@@ -60,6 +60,13 @@ impl MemorySink {
         &self.taken[..self.passed]
     }
 
+    /// How many of its calls failed.
+    pub fn faults(&self) -> u64
+        ensures { result ≡ self.now.calls.faults }
+    {
+        self.calls.faults()
+    }
+
     /// What it took, without taking memory.
     pub fn into_vec(self) -> Vec<u8>
         ensures { result.items ≡ self.taken }

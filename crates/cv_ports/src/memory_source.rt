@@ -2,7 +2,7 @@
 ghost use Rattle.std.specs.Prelude.{◌≡◌, ◌≤◌, ◌<◌, ℕ, List, Option, Some, [], length, take, drop, min, IsTrue, ◌↔◌, ◌⊎◌, OnErr, IfOk, IsErr};
 ghost use Rattle.cv_base.specs.Counts.{HasCause};
 ghost use Rattle.cv_base.specs.Told.{WhereTold};
-ghost use Rattle.cv_ports.specs.Streams.{Look, front};
+ghost use Rattle.cv_ports.specs.Streams.{Look, front, onto};
 ghost use Rattle.cv_ports.specs.Calls.{fails, called};
 
 use crate::failed::Failed;
@@ -21,12 +21,12 @@ pub struct MemorySource {
 }
 
 impl Model for MemorySource {
-    ghost use Rattle.std.specs.Prelude.{◌≤◌, ◌<◌, vec_len, drop};
+    ghost use Rattle.std.specs.Prelude.{◌≤◌, ◌<◌, vec_len, take, drop};
     ghost use Rattle.cv_ports.specs.Memory.{SourceView};
 
     ghost Value = { SourceView };
 
-    ghost view = { λ s. record { left = drop s.given s.bytes.items; piece = s.piece; calls = s.calls } };
+    ghost view = { λ s. record { left = drop s.given s.bytes.items; given = take s.given s.bytes.items; piece = s.piece; calls = s.calls } };
 
     ghost invariant = { λ s. (s.given ≤ vec_len s.bytes) × (0 < s.piece) };
 }
@@ -35,7 +35,7 @@ impl MemorySource {
     /// Gives these bytes, at most `piece` a call. The calls of the numbers in `failing` fail and give nothing.
     pub fn new(bytes: Vec<u8>, piece: usize, failing: Vec<u64>) -> MemorySource
         requires { 0 < piece }
-        ensures { result ≡ record { left = bytes.items; piece = piece; calls = record { failing = failing.items; count = 0; faults = 0 } } }
+        ensures { result ≡ record { left = bytes.items; given = []; piece = piece; calls = record { failing = failing.items; count = 0; faults = 0 } } }
     {
         MemorySource {
             bytes,
@@ -44,10 +44,33 @@ impl MemorySource {
             calls: FailingCalls::new(failing),
         }
     }
+
+    /// What it gave.
+    pub fn given(&self) -> &[u8]
+        ensures { result.now ≡ self.now.given }
+    {
+        &self.bytes[..self.given]
+    }
+
+    /// What it has left.
+    pub fn left(&self) -> &[u8]
+        ensures { result.now ≡ self.now.left }
+    {
+        &self.bytes[self.given..]
+    }
+
+    /// How many of its calls failed.
+    pub fn faults(&self) -> u64
+        ensures { result ≡ self.now.calls.faults }
+    {
+        self.calls.faults()
+    }
 }
 
 impl Source for MemorySource {
     ghost left = { λ s. Some s.left };
+
+    ghost given = { λ s. Some s.given };
 
     ghost faults = { λ s. s.calls.faults };
 
@@ -56,8 +79,10 @@ impl Source for MemorySource {
     fn read<W: Sink>(&mut self, buf: &mut [u8], beside: &W) -> Result<usize, Failed>
         ensures fits { IfOk result (λ count. count ≤ length buf.old) }
         ensures gives { IfOk result (λ count. Some self.old.left ≡ front (take count buf.new) (Some self.new.left)) }
+        ensures given { IfOk result (λ count. Some self.new.given ≡ onto (Some self.old.given) (take count buf.new)) }
         ensures end { IfOk result (λ count. count ≡ 0 → 0 < length buf.old → WhereTold (Some self.new.left) (λ more. more ≡ [])) }
         ensures unchanged { OnErr result (Some self.new.left ≡ Some self.old.left) }
+        ensures ungiven { OnErr result (Some self.new.given ≡ Some self.old.given) }
         ensures cause { HasCause self.old.calls.faults self.new.calls.faults (IsErr result) }
         ensures noted { (look : Look) → ⊥ → ⊥ ⊎ (look ≡ record { left = Some self.old.left; passed = W.passed beside.now }) }
         ensures most { IfOk result (λ count. count ≡ min (min (length self.old.left) (length buf.old)) self.old.piece) }

@@ -2,7 +2,7 @@
 ghost use Rattle.std.specs.Prelude.{◌≡◌, ◌≤◌, ◌<◌, ◌⊎◌, ℕ, List, Option, [], length, take, OnErr, IfOk, IsErr};
 ghost use Rattle.cv_base.specs.Counts.{HasCause};
 ghost use Rattle.cv_base.specs.Told.{WhereTold};
-ghost use Rattle.cv_ports.specs.Streams.{Look, front};
+ghost use Rattle.cv_ports.specs.Streams.{Look, front, onto};
 
 use crate::failed::Failed;
 use crate::sink::Sink;
@@ -11,6 +11,9 @@ use crate::sink::Sink;
 pub trait Source {
     /// The bytes that it will give from here on, where it tells.
     ghost left: { Self → Option (List ℕ) };
+
+    /// The bytes that it gave so far, where it tells.
+    ghost given: { Self → Option (List ℕ) };
 
     /// How many of its calls failed, so far as 64 bits can count.
     ghost faults: { Self → ℕ };
@@ -24,8 +27,10 @@ pub trait Source {
     fn read<W: Sink>(&mut self, buf: &mut [u8], beside: &W) -> Result<usize, Failed>
         ensures fits { IfOk result (λ count. count ≤ length buf.old) }
         ensures gives { IfOk result (λ count. left self.old ≡ front (take count buf.new) (left self.new)) }
+        ensures given { IfOk result (λ count. given self.new ≡ onto (given self.old) (take count buf.new)) }
         ensures end { IfOk result (λ count. count ≡ 0 → 0 < length buf.old → WhereTold (left self.new) (λ more. more ≡ [])) }
         ensures unchanged { OnErr result (left self.new ≡ left self.old) }
+        ensures ungiven { OnErr result (given self.new ≡ given self.old) }
         ensures cause { HasCause (faults self.old) (faults self.new) (IsErr result) }
         ensures noted { (look : Look) → looks self.new look
             → looks self.old look ⊎ (look ≡ record { left = left self.old; passed = W.passed beside.now }) };

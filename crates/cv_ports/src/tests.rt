@@ -1,16 +1,22 @@
 //! Each form in memory once, with a call that fails.
 use crate::clock::Clock;
+use crate::dial::Dial;
 use crate::failed::Failed;
+use crate::folder::{Folder, FolderFault, FolderItem, FoundKind};
 use crate::hold::{Hold, Point};
+use crate::link::Link;
 use crate::memory_clock::MemoryClock;
+use crate::memory_dial::MemoryDial;
+use crate::memory_folder::MemoryFolder;
 use crate::memory_hold::{MemoryHold, Pause};
+use crate::memory_link::MemoryLink;
 use crate::memory_shelf::MemoryShelf;
 use crate::memory_sink::MemorySink;
 use crate::memory_source::MemorySource;
 use crate::shelf::{Shelf, ShelfFault};
 use crate::sink::{Sink, write_all};
 use crate::source::Source;
-use cv_base::{Bytes, Kind, Object, ObjectId};
+use cv_base::{Bytes, Items, Kind, Object, ObjectId, RepoPath, Text};
 use std::alloc::Global;
 use std::test::Fail;
 
@@ -119,5 +125,114 @@ fn shelf_gives_the_first_of_an_id(rt: HostRuntime) -> Result<(), Fail> {
         found: EMPTY,
     };
     assert_eq!(rt; shelf.fetch(alloc, &damaged).err(), Some(fault));
+    Ok(())
+}
+
+fn file(alloc: Global, name: &str) -> Result<FolderItem, Fail> {
+    Ok(FolderItem {
+        name: Text::from_str(alloc, name)?,
+        kind: FoundKind::File,
+        mode: 0o644,
+        mtime: 5,
+    })
+}
+
+/// A folder of two files, of which the second has content. Its third call fails.
+fn folder(alloc: Global, first: &str, second: &str) -> Result<Option<MemoryFolder>, Fail> {
+    let mut items = Vec::new(alloc);
+    items.push(file(alloc, first)?)?;
+    items.push(file(alloc, second)?)?;
+    let mut directories = Vec::new(alloc);
+    directories.push((RepoPath::root(alloc), Items::new(items)))?;
+    let mut files = Vec::new(alloc);
+    files.push((
+        RepoPath::read(alloc, "/b")?,
+        Bytes::from_slice(alloc, b"text")?,
+    ))?;
+    Ok(MemoryFolder::new(directories, files, Vec::from_slice(alloc, &[3])?))
+}
+
+#[test]
+fn folder_gives_what_it_holds(rt: HostRuntime) -> Result<(), Fail> {
+    let alloc = rt.alloc();
+    let root = RepoPath::root(alloc);
+    let mut held = folder(alloc, "a", "b")?.ok_or("order")?;
+    assert_eq!(rt; held.root(alloc, "any"), Ok(()));
+    let names = held.list(alloc, &root)?;
+    assert_eq!(rt; names.as_slice().len(), 2);
+    let refused = held.list(alloc, &root);
+    assert!(rt; matches!(refused, Err(FolderFault::Failed)));
+    let content = held.read(alloc, &RepoPath::read(alloc, "/b")?)?;
+    assert_eq!(rt; content.as_slice(), b"text".as_slice());
+    Ok(())
+}
+
+#[test]
+fn folder_takes_items_in_order_alone(rt: HostRuntime) -> Result<(), Fail> {
+    assert!(rt; folder(rt.alloc(), "b", "a")?.is_none());
+    assert!(rt; folder(rt.alloc(), "a", "a")?.is_none());
+    Ok(())
+}
+
+// A link that gives these bytes in pieces of at most three, and has room for four.
+fn link_giving(alloc: Global, input: &[u8], failing: &[u64]) -> Result<MemoryLink, Fail> {
+    let bytes = Vec::from_slice(alloc, input)?;
+    let reads = MemorySource::new(bytes, 3, Vec::from_slice(alloc, failing)?);
+    let writes = MemorySink::new(alloc, 4, Vec::new(alloc))?;
+    Ok(MemoryLink::new(alloc, reads, writes)?)
+}
+
+// Dials, says a text, reads a piece, and hands the link back. It answers whether there was a link.
+fn asks<D: Dial>(dial: &mut D, port: u16, text: &[u8]) -> bool {
+    let Ok(link) = dial.dial("gate.example", port) else {
+        return false;
+    };
+    let mut link = link;
+    let mut piece = [0; 8];
+    let _ = write_all(&mut link.writes, text);
+    let _ = link.reads.read(&mut piece, &link.writes);
+    dial.back(link);
+    true
+}
+
+// What a link gave, what it has left, what it took, and for which host and port.
+fn story(alloc: Global, link: Option<&Link<MemorySource, MemorySink>>) -> Result<Vec<u8>, Fail> {
+    let mut told = Vec::new(alloc);
+    if let Some(link) = link {
+        put_part(&mut told, link.reads.given())?;
+        put_part(&mut told, link.reads.left())?;
+        put_part(&mut told, link.writes.as_slice())?;
+        put_part(&mut told, link.host())?;
+        put_part(&mut told, &link.port().to_be_bytes())?;
+    }
+    Ok(told)
+}
+
+fn put_part(told: &mut Vec<u8>, part: &[u8]) -> Result<(), Fail> {
+    told.extend_from_slice(part)?;
+    told.push(b'|')?;
+    Ok(())
+}
+
+#[test]
+fn dial_keeps_what_comes_back(rt: HostRuntime) -> Result<(), Fail> {
+    let alloc = rt.alloc();
+    let mut links = Vec::new(alloc);
+    links.push(link_giving(alloc, b"hello", &[])?)?;
+    links.push(link_giving(alloc, b"x", &[1])?)?;
+    let mut dial = MemoryDial::new(alloc, links, Vec::from_slice(alloc, &[2])?)?;
+    let asked = [
+        asks(&mut dial, 80, b"ask"),
+        asks(&mut dial, 81, b"again"),
+        asks(&mut dial, 82, b"again"),
+        asks(&mut dial, 83, b""),
+    ];
+    assert_eq!(rt; asked, [true, false, true, false]);
+    assert_eq!(rt; dial.faults(), 3);
+    let came = dial.into_links(alloc)?;
+    let first = b"hel|lo|ask|gate.example|\0\x50|".as_slice();
+    let second = b"|x|agai|gate.example|\0\x52|".as_slice();
+    assert_eq!(rt; story(alloc, came.first())?.as_slice(), first);
+    assert_eq!(rt; story(alloc, came.get(1))?.as_slice(), second);
     Ok(())
 }

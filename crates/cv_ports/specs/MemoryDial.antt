@@ -1,0 +1,25 @@
+-- What a dial in memory holds.
+use Rattle.std.specs.Prelude.{◌≡◌, ◌∷◌, List, Option, Some, map}
+use Rattle.cv_ports.specs.Calls.{Calls}
+use Rattle.cv_ports.specs.Dial.{Came, came_of}
+use Rattle.cv_ports.specs.Memory.{SourceView, SinkView}
+use Rattle.cv_ports.specs.declared.link.Link.{Link}
+use Rattle.cv_ports.specs.declared.memory_link.MemoryLink.{MemoryLink}
+
+-- the links that it will give, in their order, those that came back, in theirs, and its calls
+pub record DialView : Type 0 where
+  pub waiting : List MemoryLink
+  pub came : List (Link SourceView SinkView)
+  pub calls : Calls
+
+-- a link in memory as it comes back
+abbrev pub came_in_memory : Link SourceView SinkView → Came
+came_in_memory = came_of (λ reads. Some reads.given) (λ reads. Some reads.left) (λ writes. Some writes.taken)
+
+-- the links that came back, as a dial tells of them
+abbrev pub told_of : DialView → Option (List Came)
+told_of dial = Some (map came_in_memory dial.came)
+
+-- these halves are those of the first link that was to be given
+abbrev pub GivesFirst : SourceView → SinkView → List MemoryLink → List MemoryLink → Type 0
+GivesFirst reads writes before after = (link : MemoryLink) × (before ≡ link ∷ after) × (reads ≡ link.reads) × (writes ≡ link.writes)

@@ -1,0 +1,35 @@
+-- What a folder in memory holds.
+use Rattle.std.specs.Prelude.{ℕ, Bool, true, ◌&&◌, List, [], ◌∷◌, unwrap_or}
+use Rattle.std.specs.Ordering.{is_lt}
+use Rattle.std.specs.List.{AllByRecursion, list_all}
+use Rattle.std.specs.FinMap.{find}
+use Rattle.cv_base.specs.Path.{Path, name_cmp, path_cmp}
+use Rattle.cv_ports.specs.declared.folder.FolderItem.{FolderItem}
+use Rattle.cv_ports.specs.Calls.{Calls}
+use Rattle.cv_ports.specs.Folder.{FolderView, Ascend}
+
+-- the items of each directory and the content of each file, by their paths from the folder on; and its calls
+pub record MemoryFolderView : Type 0 where
+  pub directories : List (Path × List FolderItem)
+  pub files : List (Path × List ℕ)
+  pub calls : Calls
+
+-- the items of each directory ascend
+abbrev pub AllAscend : List (Path × List FolderItem) → Type 0
+AllAscend directories = AllByRecursion (λ directory. Ascend directory.1) directories
+
+-- the same, as a test: each name is below the next
+abbrev pub ascends : List FolderItem → Bool
+ascends [] = true
+ascends (last ∷ []) = true
+ascends (item ∷ next ∷ items) = is_lt (name_cmp item.name next.name) && ascends (next ∷ items)
+
+abbrev pub all_ascend : List (Path × List FolderItem) → Bool
+all_ascend directories = list_all (λ directory. ascends directory.1) directories
+
+-- the folder that these lists say: of several at one path the first counts, and what isn't among them is empty
+abbrev pub holding : MemoryFolderView → FolderView
+holding m = record {
+  items = λ path. unwrap_or (find path_cmp path m.directories) [];
+  content = λ path. unwrap_or (find path_cmp path m.files) [];
+}
