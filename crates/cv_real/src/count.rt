@@ -1,6 +1,7 @@
 //! A count of faults.
 ghost use Rattle.std.specs.Prelude.{◌≡◌, ⊤};
 ghost use Rattle.cv_base.specs.Counts.{HasCause};
+ghost use Rattle.cv_ports.specs.Calls.{raised};
 
 /// How many calls failed. The count stays at its last value.
 #[derive(Debug, Drop)]
@@ -18,7 +19,8 @@ impl FaultCount {
 
     /// One more call failed.
     pub fn raise(&mut self)
-        ensures { HasCause self.old.number self.new.number ⊤ }
+        ensures cause { HasCause self.old.number self.new.number ⊤ }
+        ensures raised { self.new.number ≡ raised self.old.number }
     {
         self.number = self.number.saturating_add(1);
     }

@@ -3,6 +3,7 @@
 
 mod clock;
 mod count;
+mod dial;
 mod folder_vault;
 mod names;
 mod paths;
@@ -10,9 +11,14 @@ mod streams;
 mod texts;
 
 pub use clock::SystemClock;
+pub use dial::TcpDial;
 pub use folder_vault::FolderVault;
 pub use streams::{StreamSink, StreamSource};
 pub use texts::{program_words, text_or_empty};
 
+#[cfg(test)]
+mod dial_tests;
+#[cfg(test)]
+mod small_tests;
 #[cfg(test)]
 mod tests;

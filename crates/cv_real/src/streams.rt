@@ -1,5 +1,5 @@
 //! Any reader of std as a source, and any writer as a sink.
-ghost use Rattle.std.specs.Prelude.{◌≤◌, ◌<◌, None, IfOk, length};
+ghost use Rattle.std.specs.Prelude.{◌≡◌, ◌≤◌, ◌<◌, None, IfOk, length};
 ghost use Rattle.std.specs.Io.{ReadsAtMost};
 
 use crate::count::FaultCount;
@@ -45,16 +45,27 @@ pub struct StreamSource<T: Read> {
 
 impl<T: Read> StreamSource<T> {
     /// A source over this reader. No call failed yet.
-    pub fn new(inner: T) -> StreamSource<T> {
+    pub fn new(inner: T) -> StreamSource<T>
+        ensures { result.faults.number ≡ 0 }
+    {
         StreamSource {
             inner,
             faults: FaultCount::new(),
         }
     }
+
+    /// How many of its reads failed.
+    pub fn faults(&self) -> u64
+        ensures { result ≡ self.now.faults.number }
+    {
+        self.faults.number
+    }
 }
 
 impl<T: Read> Source for StreamSource<T> {
     ghost left = { λ s. None };
+
+    ghost given = { λ s. None };
 
     ghost faults = { λ s. s.faults.number };
 
@@ -78,11 +89,25 @@ pub struct StreamSink<T: Write> {
 
 impl<T: Write> StreamSink<T> {
     /// A sink over this writer. No call failed yet.
-    pub fn new(inner: T) -> StreamSink<T> {
+    pub fn new(inner: T) -> StreamSink<T>
+        ensures { result.faults.number ≡ 0 }
+    {
         StreamSink {
             inner,
             faults: FaultCount::new(),
         }
+    }
+
+    /// How many of its writes and flushes failed.
+    pub fn faults(&self) -> u64
+        ensures { result ≡ self.now.faults.number }
+    {
+        self.faults.number
+    }
+
+    /// The writer.
+    pub(crate) fn inner(&self) -> &T {
+        &self.inner
     }
 }
 

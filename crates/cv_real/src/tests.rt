@@ -7,6 +7,7 @@ use std::alloc::Global;
 use std::fs::File;
 use std::io::Write;
 use std::os::unix::fs::symlink;
+use std::os::unix::net::UnixListener;
 use std::rt::Files;
 use std::test::Fail;
 use std::{fs, io};
@@ -58,6 +59,7 @@ fn make_all(rt: &HostRuntime) -> io::Result<()> {
     symlink(rt, "../outside/victim", "kinds/srv/link")?;
     symlink(rt, "../outside", "kinds/srv/linked")?;
     symlink(rt, "nowhere", "kinds/srv/dangling")?;
+    let _ = UnixListener::bind(rt, "kinds/srv/socket")?;
     fs::hard_link(rt, "kinds/outside/victim", "kinds/srv/hard")
 }
 
@@ -84,7 +86,7 @@ fn told(alloc: Global, vault: &mut Vaulted, name: &str) -> Result<String, Fail> 
 }
 
 // Read, length, list, rename, remove, write, and whether the write stands.
-const ROWS: [(&str, &str); 16] = [
+const ROWS: [(&str, &str); 17] = [
     ("file", "yes yes yes yes no yes yes"),
     ("folder/inside", "yes yes yes yes no yes yes"),
     ("hard", "yes yes yes yes no yes yes"),
@@ -94,6 +96,7 @@ const ROWS: [(&str, &str); 16] = [
     ("dangling", "no no no no no yes yes"),
     ("folder", "no no no no no failed no"),
     ("linked", "no no no no no yes yes"),
+    ("socket", "no no no no no yes yes"),
     ("file/below", "no no no no no failed no"),
     ("..", "failed failed no failed failed failed failed"),
     (
