@@ -5,5 +5,7 @@ pub mod Windows
 pub mod Streams
 pub mod Refusals
 pub mod OneReading
+pub mod OneReply
+pub mod Replying
 pub mod Lemmas
 mod HeadEnds

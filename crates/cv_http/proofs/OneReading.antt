@@ -2,7 +2,7 @@
 use Rattle.std.proofs.Common.{◌≡◌, ◌≤◌, ◌-◌, ◌++◌, ℕ, List, [], length, take, refl, ap, sym, subst, ◌∙◌, append-nil, length-append, ◌∷◌, arith, inl, inr}
 use Rattle.std.specs.Prelude.{◌⊎◌, Some, None}
 use Rattle.std.proofs.lemmas.List.{take_all}
-use Rattle.httparse.specs.Grammar.{RequestHead as ParsedHead, IsRequestHead, IsField, is_token_byte, is_uri_byte, lf, HasNoRequest, EndsInTarget, print_request}
+use Rattle.httparse.specs.Grammar.{RequestHead as ParsedHead, IsRequestHead, IsField, is_token_byte, is_uri_byte, lf, EndsInTarget, print_request}
 use Rattle.httparse.proofs.GrammarLemmas.{request_unique, print_request-append}
 use Rattle.httparse.proofs.OpenLemmas.{letter_is_token}
 use Rattle.std.proofs.lemmas.List.Elements.{All-cons, All-nil}
@@ -10,63 +10,73 @@ use Rattle.std.proofs.lemmas.Str.{IsUtf8-from_ascii}
 use Rattle.std.proofs.lemmas.Str.Ascii.{IsAscii-cons, IsAscii-nil}
 use Rattle.std.specs.Prelude.{IsTrue}
 use Rattle.cv_http.proofs.Streams.{seen_more}
-use Rattle.cv_http.specs.Heads.{window, head_limit, HasHead, fault_of_head, head_of, Begins, Never, Unfinished, Refused, never, large, judged, IsCut}
+use Rattle.cv_http.specs.Forms.{Form, ReadsAs, HasNone, HasHeadAs, BeginsAs, NeverAs, head_limit, window, never, large, judged}
+use Rattle.cv_http.specs.Heads.{request_form, fault_of_head, Begins, Never, Unfinished, Refused, IsCut}
 use Rattle.cv_http.specs.declared.head.RequestHead.{RequestHead}
 use Rattle.cv_http.specs.declared.fault.HttpFault.{HttpFault}
 use Rattle.cv_http.specs.declared.fault.HttpFault.TheVariants.{BadHead}
 
-same_head : {b later later' : List ℕ} {parsed parsed' : ParsedHead} → HasHead b parsed later → HasHead b parsed' later'
-    → (parsed ≡ parsed') × (later ≡ later')
-same_head {b} {later} {later'} {parsed} {parsed'} has has' = request_unique b parsed parsed' later later' has.reads has'.reads
+-- bytes are one head of the form at most
+abbrev pub IsUnique : {P H : Type 0} → Form P H → Type 0
+IsUnique {P} form = (b : List ℕ) (h k : P) (r q : List ℕ) → ReadsAs form b h r → ReadsAs form b k q → (h ≡ k) × (r ≡ q)
 
--- the window has the head
-in_window : {b later : List ℕ} {parsed : ParsedHead} → HasHead b parsed later → HasNoRequest (window b) → ⊥
-in_window {b} {later} {parsed} has none =
-    let text = print_request parsed in
-    let seen : window b ≡ print_request parsed ++ take (16384 - length (print_request parsed)) later =
-    ap window has.reads.1 ∙ seen_more 16384 (print_request parsed) later
-    ∙ ap (λ x. x ++ take (16384 - length (print_request parsed)) later) (take_all 16384 (print_request parsed) has.limit) in
-    none parsed (take (16384 - length (print_request parsed)) later) (has.reads.0, seen)
+module _ {P H : Type 0} (form : Form P H) where
+  -- the window has the head
+  in_window : {b later : List ℕ} {parsed : P} → HasHeadAs form b parsed later → HasNone form (window b) → ⊥
+  in_window {b} {later} {parsed} has none =
+      let text = form.print parsed in
+      let seen : window b ≡ form.print parsed ++ take (16384 - length (form.print parsed)) later =
+      ap window has.reads.1 ∙ seen_more 16384 (form.print parsed) later
+      ∙ ap (λ x. x ++ take (16384 - length (form.print parsed)) later) (take_all 16384 (form.print parsed) has.limit) in
+      none parsed (take (16384 - length (form.print parsed)) later) (has.reads.0, seen)
 
-not_never : {b later : List ℕ} {parsed : ParsedHead} → HasHead b parsed later → Never b → ⊥
-not_never {b} has h = in_window has (subst HasNoRequest (append-nil (window b)) (h.never []))
+  not_never : {b later : List ℕ} {parsed : P} → HasHeadAs form b parsed later → NeverAs form b → ⊥
+  not_never {b} has h = in_window has (subst (HasNone form) (append-nil (window b)) (h.never []))
+
+  module _ (unique : IsUnique form) where
+    same_head : {b later later' : List ℕ} {parsed parsed' : P} → HasHeadAs form b parsed later → HasHeadAs form b parsed' later'
+        → (parsed ≡ parsed') × (later ≡ later')
+    same_head {b} {later} {later'} {parsed} {parsed'} has has' = unique b parsed parsed' later later' has.reads has'.reads
+
+    pub begins_once : (b later later' : List ℕ) (head head' : H) → BeginsAs form b head later → BeginsAs form b head' later' → (head ≡ head') × (later ≡ later')
+    begins_once b later later' head head' begins begins' =
+        let same = same_head begins.has begins'.has in
+        (begins.says ∙ ap form.says same.0 ∙ sym begins'.says, same.1)
+
+pub one_head : (b later later' : List ℕ) (head head' : RequestHead) → Begins b head later → Begins b head' later' → (head ≡ head') × (later ≡ later')
+one_head = begins_once request_form request_unique
 
 -- no bytes complete what may become a head, but for one that ends inside its target
 in_target : {b : List ℕ} → Never b → Unfinished b → EndsInTarget (window b)
 in_target h open_ = elim open_.may [ inl more ↦ absurd (h.never more.0 more.1 [] more.2) | inr ends ↦ ends ]
 
-pub one_head : (b later later' : List ℕ) (head head' : RequestHead) → Begins b head later → Begins b head' later' → (head ≡ head') × (later ≡ later')
-one_head b later later' head head' begins begins' =
-    let same = same_head begins.has begins'.has in
-    (begins.says ∙ ap head_of same.0 ∙ sym begins'.says, same.1)
-
 pub not_refused : (b later : List ℕ) (head : RequestHead) (fault : HttpFault) → Begins b head later → Refused b fault → ⊥
-not_refused b later head _ begins (never h) = not_never begins.has h
-not_refused b later head _ begins (large long h) = in_window begins.has h.not_yet
+not_refused b later head _ begins (never h) = not_never request_form begins.has h
+not_refused b later head _ begins (large long h) = in_window request_form begins.has h.not_yet
 not_refused b later head _ begins (judged parsed later' fault has is) =
-    let same = same_head begins.has has in
+    let same = same_head request_form request_unique begins.has has in
     let e : None ≡ Some fault = sym begins.faultless ∙ ap fault_of_head same.0 ∙ is in cc
 
 pub not_cut : (b later : List ℕ) (head : RequestHead) → Begins b head later → IsCut b → ⊥
-not_cut b later head begins cut = in_window begins.has cut.unfinished.not_yet
+not_cut b later head begins cut = in_window request_form begins.has cut.unfinished.not_yet
 
 pub one_refusal : (b : List ℕ) (fault fault' : HttpFault) → Refused b fault → Refused b fault' → (fault ≡ fault') ⊎ ((head_limit ≤ length b) × Never b × EndsInTarget (window b))
 one_refusal b _ _ (never h) (never h') = inl refl
 one_refusal b _ _ (never h) (large long open_) = inr (long, h, in_target h open_)
-one_refusal b _ _ (never h) (judged parsed later fault has is) = absurd (not_never has h)
+one_refusal b _ _ (never h) (judged parsed later fault has is) = absurd (not_never request_form has h)
 one_refusal b _ _ (large long open_) (never h) = inr (long, h, in_target h open_)
 one_refusal b _ _ (large long open_) (large long' open') = inl refl
-one_refusal b _ _ (large long open_) (judged parsed later fault has is) = absurd (in_window has open_.not_yet)
-one_refusal b _ _ (judged parsed later fault has is) (never h) = absurd (not_never has h)
-one_refusal b _ _ (judged parsed later fault has is) (large long open_) = absurd (in_window has open_.not_yet)
+one_refusal b _ _ (large long open_) (judged parsed later fault has is) = absurd (in_window request_form has open_.not_yet)
+one_refusal b _ _ (judged parsed later fault has is) (never h) = absurd (not_never request_form has h)
+one_refusal b _ _ (judged parsed later fault has is) (large long open_) = absurd (in_window request_form has open_.not_yet)
 one_refusal b _ _ (judged parsed later fault has is) (judged parsed' later' fault' has' is') =
-    let same = same_head has has' in
+    let same = same_head request_form request_unique has has' in
     let e : Some fault ≡ Some fault' = sym is ∙ ap fault_of_head same.0 ∙ is' in inl (cc)
 
 pub refused_in_target : (b : List ℕ) (fault : HttpFault) → Refused b fault → IsCut b → (fault ≡ BadHead) × Never b × EndsInTarget (window b)
 refused_in_target b _ (never h) cut = (refl, h, in_target h cut.unfinished)
 refused_in_target b _ (large long open_) cut = absurd (let short = cut.short in omega (arith, long, short))
-refused_in_target b _ (judged parsed later fault has is) cut = absurd (in_window has cut.unfinished.not_yet)
+refused_in_target b _ (judged parsed later fault has is) cut = absurd (in_window request_form has cut.unfinished.not_yet)
 
 -- the least of heads, "A B HTTP/1.0" and an empty line
 least : ParsedHead
@@ -82,7 +92,7 @@ least_is_head = record {
   fields = All-nil IsField;
 }
 
-no_head : {parsed : ParsedHead} {later : List ℕ} → HasHead [] parsed later → ⊥
+no_head : {parsed : ParsedHead} {later : List ℕ} → HasHeadAs request_form [] parsed later → ⊥
 no_head {parsed} {later} has =
     let all = ap length (has.reads.1 ∙ print_request-append parsed later) in
     let name = has.reads.0.method.0 in

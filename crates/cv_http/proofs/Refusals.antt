@@ -1,24 +1,29 @@
--- By which faults a head is refused.
+-- By which faults bytes are refused.
 use Rattle.std.proofs.Common.{◌≡◌, List, ℕ, Bool, true, false, subst}
-use Rattle.std.specs.Prelude.{Some, None, if◌then◌else◌, nat_lt, length}
-use Rattle.cv_http.specs.Heads.{parts_of, is_host_wrong, is_length_wrong, field_limit, is_coded, is_length_lacking, Refused, never, large, judged}
+use Rattle.std.specs.Prelude.{Option, Some, None, IfSome, if◌then◌else◌, nat_lt, length}
+use Rattle.cv_http.specs.FieldFaults.{is_length_wrong, field_limit, is_coded}
+use Rattle.cv_http.specs.Forms.{Form, RefusedAs, never, large, judged}
+use Rattle.cv_http.specs.ReplyHeads.{fields_of, reply_form}
 use Rattle.cv_http.specs.Faults.{IsRefusal}
 use Rattle.cv_http.specs.declared.fault.HttpFault.{HttpFault}
-use Rattle.cv_http.specs.declared.fault.HttpFault.TheVariants.{BadHead, HeadTooLarge, BodyTooLarge, NoLength, Coding, Short, ReadFault, NoMemory}
+use Rattle.cv_http.specs.declared.fault.HttpFault.TheVariants.{BadHead, HeadTooLarge, NoLength, Coding}
 
-first_fault : (host length many coded lacking : Bool) (fault : HttpFault)
-    → (if host then Some BadHead else if length then Some BadHead else if many then Some HeadTooLarge else if coded then Some Coding else if lacking then Some NoLength else None) ≡ Some fault
-    → IsRefusal fault
-first_fault true length many coded lacking fault is = let e : BadHead ≡ fault = cc in subst IsRefusal e tt
-first_fault false true many coded lacking fault is = let e : BadHead ≡ fault = cc in subst IsRefusal e tt
-first_fault false false true coded lacking fault is = let e : HeadTooLarge ≡ fault = cc in subst IsRefusal e tt
-first_fault false false false true lacking fault is = let e : Coding ≡ fault = cc in subst IsRefusal e tt
-first_fault false false false false true fault is = let e : NoLength ≡ fault = cc in subst IsRefusal e tt
-first_fault false false false false false fault is = cc
+-- where a head has no other faults, bytes are refused by no others
+pub refusal : {P H : Type 0} (form : Form P H) → ((head : P) → IfSome (form.fault head) IsRefusal) → (b : List ℕ) (fault : HttpFault) → RefusedAs form b fault → IsRefusal fault
+refusal form only b _ (never h) = tt
+refusal form only b _ (large long h) = tt
+refusal form only b _ (judged parsed later fault has is) = let found : IfSome (Some fault) IsRefusal = subst (λ (o : Option HttpFault). IfSome o IsRefusal) is (only parsed) in found
 
-pub refusal : (b : List ℕ) (fault : HttpFault) → Refused b fault → IsRefusal fault
-refusal b _ (never h) = tt
-refusal b _ (large long h) = tt
-refusal b _ (judged parsed later fault has is) =
-    let p = parts_of parsed in
-    first_fault (is_host_wrong (parts_of parsed)) (is_length_wrong (parts_of parsed)) (nat_lt field_limit (length (parts_of parsed).fields)) (is_coded (parts_of parsed)) (is_length_lacking (parts_of parsed)) fault is
+no_length_of_fields : (length many coded : Bool) → (if length then Some BadHead else if many then Some HeadTooLarge else if coded then Some Coding else None) ≡ Some NoLength → ⊥
+no_length_of_fields true many coded is = cc
+no_length_of_fields false true coded is = cc
+no_length_of_fields false false true is = cc
+no_length_of_fields false false false is = cc
+
+-- a reply's head is never refused for want of a length
+pub reply_needs_none : (b : List ℕ) (fault : HttpFault) → RefusedAs reply_form b fault → fault ≡ NoLength → ⊥
+reply_needs_none b _ (never h) = λ same. cc
+reply_needs_none b _ (large long h) = λ same. cc
+reply_needs_none b _ (judged parsed later fault has is) = λ same.
+    no_length_of_fields (is_length_wrong (fields_of parsed)) (nat_lt field_limit (length (fields_of parsed))) (is_coded (fields_of parsed))
+    (subst (λ (f : HttpFault). reply_form.fault parsed ≡ Some f) same is)

@@ -1,20 +1,16 @@
 -- What is judged of the bytes held holds of all that is left.
 use Rattle.std.proofs.Common.{◌≡◌, ◌<◌, ◌≤◌, ◌-◌, ◌++◌, ℕ, List, [], length, take, drop, refl, ap, sym, subst, ◌∙◌, append_assoc, append-nil, arith, inl, inr, length-append}
-use Rattle.std.specs.Prelude.{Option, ◌⊎◌, Some, None, Result, Ok, Err, IsErrAnd}
+use Rattle.std.specs.Prelude.{Option, ◌⊎◌, Some, None, Result, Ok, Err, IfSome, IsErrAnd}
 use Rattle.std.proofs.lemmas.List.{take-append-le, take-append-drop, take_all}
 use Rattle.std.proofs.lemmas.Bool.{cases_lt}
 use Rattle.std.proofs.Math.Seq.{take-append-add}
 use Rattle.std.proofs.Common.{◌+◌}
-use Rattle.httparse.specs.Grammar.{RequestHead as ParsedHead, HasNoRequest, MayBecomeRequest}
-use Rattle.httparse.proofs.GrammarLemmas.{ReadsRequest-append}
-use Rattle.cv_ports.specs.Streams.{Look, front}
-use Rattle.cv_ports.proofs.Streams.{front_twice}
-use Rattle.cv_http.specs.Heads.{window, HasHead, Begins, Never, Unfinished, Refused, never, large, judged}
-use Rattle.cv_http.specs.Heads.{IsAwaited}
-use Rattle.cv_http.specs.Wires.{WireView, Gets, Reads, LookedAt, Looks, Beside, HeadLost, HeadFound, HeadRead, BodyRead}
-use Rattle.cv_http.specs.Faults.{IsHeadFault, IsPieceFault}
+use Rattle.cv_ports.specs.Streams.{Look, front, onto}
+use Rattle.cv_ports.proofs.Streams.{front_twice, onto_twice}
+use Rattle.cv_http.specs.Forms.{Form, HasNone, window, HasHeadAs, BeginsAs, NeverAs, UnfinishedAs, RefusedAs, AwaitedAs, never, large, judged}
+use Rattle.cv_http.specs.Wires.{WireView, Gets, Reads, Draws, LookedAt, Looks, Beside, HeadLost, HeadFound, HeadReadAs, BodyRead}
+use Rattle.cv_http.specs.Faults.{IsRefusal, IsHeadFault, IsPieceFault}
 use Rattle.cv_http.proofs.Refusals.{refusal}
-use Rattle.cv_http.specs.declared.head.RequestHead.{RequestHead}
 use Rattle.cv_http.specs.declared.fault.HttpFault.{HttpFault}
 use Rattle.cv_http.specs.declared.fault.HttpFault.TheVariants.{BadHead, HeadTooLarge, BodyTooLarge, NoLength, Coding, Short, ReadFault, NoMemory}
 
@@ -33,45 +29,91 @@ parts_on body body' held left all n is was =
 
 -- ---- what was got
 
--- nothing was got
-pub gets_none : (left : Option (List ℕ)) (held : List ℕ) → Gets left left held held
-gets_none None held = record { got = []; told = refl; more = sym (append-nil held) }
-gets_none (Some l) held = record { got = []; told = refl; more = sym (append-nil held) }
+-- nothing before what is left, and nothing behind what was given
+front_none : (left : Option (List ℕ)) → left ≡ front [] left
+front_none None = refl
+front_none (Some l) = refl
 
--- nothing was got, and the same is held
-pub gets_same : (left : Option (List ℕ)) (held held' : List ℕ) → held' ≡ held → Gets left left held held'
-gets_same left held held' same = subst (Gets left left held) (sym same) (gets_none left held)
+onto_none : (given : Option (List ℕ)) → given ≡ onto given []
+onto_none None = refl
+onto_none (Some l) = ap (λ x. Some x) (sym (append-nil l))
 
--- what was got, and then more
-pub gets_on : {a b c : Option (List ℕ)} {h h' h'' : List ℕ} → Gets a b h h' → Gets b c h' h'' → Gets a c h h''
-gets_on {a} {b} {c} {h} {h'} {h''} first then_ = record {
-  got = first.got ++ then_.got;
-  told = first.told ∙ ap (front first.got) then_.told ∙ front_twice c first.got then_.got;
-  more = then_.more ∙ ap (λ x. x ++ then_.got) first.more ∙ append_assoc h first.got then_.got;
-}
+module _ {R : Type 0} (left given : R → Option (List ℕ)) where
+  -- nothing was got
+  pub gets_same : (w w' : WireView R) → left w'.source ≡ left w.source → given w'.source ≡ given w.source → w'.held ≡ w.held → Gets left given w w'
+  gets_same w w' same still held = record {
+    got = [];
+    told = sym same ∙ front_none (left w'.source);
+    gave = still ∙ onto_none (given w.source);
+    more = held ∙ sym (append-nil w.held);
+  }
+
+  -- so it is with a source and what is held that are the same
+  pub gets_moved : (w m w' : WireView R) → Gets left given w m → w'.source ≡ m.source → w'.held ≡ m.held → Gets left given w w'
+  gets_moved w m w' gets source held = record {
+    got = gets.got;
+    told = gets.told ∙ ap (λ s. front gets.got (left s)) (sym source);
+    gave = ap given source ∙ gets.gave;
+    more = held ∙ gets.more;
+  }
+
+  -- what was got, and then more
+  pub gets_on : (w m w' : WireView R) → Gets left given w m → Gets left given m w' → Gets left given w w'
+  gets_on w m w' first then_ = record {
+    got = first.got ++ then_.got;
+    told = first.told ∙ ap (front first.got) then_.told ∙ front_twice (left w'.source) first.got then_.got;
+    gave = then_.gave ∙ ap (λ o. onto o then_.got) first.gave ∙ onto_twice (given w.source) first.got then_.got;
+    more = then_.more ∙ ap (λ x. x ++ then_.got) first.more ∙ append_assoc w.held first.got then_.got;
+  }
+
+  -- what was got is so, with what was held before
+  pub draws_of : (w m w' : WireView R) (Are : List ℕ → Type 0) → Gets left given w m → w'.source ≡ m.source → Are m.held → Draws left given w w' Are
+  draws_of w m w' Are gets source are = record {
+    got = gets.got;
+    told = gets.told ∙ ap (λ s. front gets.got (left s)) (sym source);
+    gave = ap given source ∙ gets.gave;
+    are = subst Are gets.more are;
+  }
+
+  -- what was read, and then more of it was got
+  pub draws_then : (w0 w w' : WireView R) (P Q S : List ℕ → Type 0) → Draws left given w0 w P → Draws left given w w' Q
+      → ((b more : List ℕ) → P b → Q (w.held ++ more) → S (b ++ more)) → Draws left given w0 w' S
+  draws_then w0 w w' P Q S r q joins = record {
+    got = r.got ++ q.got;
+    told = r.told ∙ ap (front r.got) q.told ∙ front_twice (left w'.source) r.got q.got;
+    gave = q.gave ∙ ap (λ o. onto o q.got) r.gave ∙ onto_twice (given w0.source) r.got q.got;
+    are = subst S (append_assoc w0.held r.got q.got) (joins (w0.held ++ r.got) q.got r.are q.are);
+  }
+
+  -- what was read, in other words
+  pub draws_as : (w w' : WireView R) (P Q : List ℕ → Type 0) → Draws left given w w' P → ((b : List ℕ) → P b → Q b) → Draws left given w w' Q
+  draws_as w w' P Q r as_ = record { got = r.got; told = r.told; gave = r.gave; are = as_ (w.held ++ r.got) r.are }
+
+  -- nothing was read
+  pub draws_none : (w : WireView R) (P : List ℕ → Type 0) → P w.held → Draws left given w w P
+  draws_none w P are = draws_of w w w P (gets_same w w refl refl refl) refl are
+
+  -- the same without what the source tells that it gave
+  pub draws_reads : (w w' : WireView R) (P : List ℕ → Type 0) → Draws left given w w' P → Reads left w w' P
+  draws_reads w w' P r = record { got = r.got; told = r.told; are = r.are }
+
+  -- a part more of a body
+  pub body_on : (w0 w m w' : WireView R) (body body' : List ℕ) → Draws left given w0 w (λ b. b ≡ body ++ w.held) → Gets left given w m
+      → w'.source ≡ m.source → body' ++ w'.held ≡ body ++ m.held → Draws left given w0 w' (λ b. b ≡ body' ++ w'.held)
+  body_on w0 w m w' body body' r g source parts =
+      draws_then w0 w w' (λ b. b ≡ body ++ w.held) (λ b. b ≡ m.held) (λ b. b ≡ body' ++ w'.held) r (draws_of w m w' (λ b. b ≡ m.held) g source refl) (λ b more was now.
+      ap (λ x. x ++ more) was ∙ append_assoc body w.held more ∙ ap (λ x. body ++ x) now ∙ sym parts)
+
+  -- more was got, and a part of it is lost
+  pub draws_lost : (w0 w m w' : WireView R) (P : List ℕ → Type 0) → Draws left given w0 w P → Gets left given w m → w'.source ≡ m.source
+      → Draws left given w0 w' (λ b. Unit {0})
+  draws_lost w0 w m w' P r g source = draws_then w0 w w' P (λ b. b ≡ m.held) (λ b. Unit {0}) r (draws_of w m w' (λ b. b ≡ m.held) g source refl) (λ b more was now. tt)
 
 -- a part more of a body
 pub parted : (body body' held held' : List ℕ) (n : ℕ) → body' ≡ body ++ take n held → held' ≡ drop n held → body' ++ held' ≡ body ++ held
 parted body body' held held' n is then_ = rw (is, then_) (append_assoc body (take n held) (drop n held) ∙ ap (λ x. body ++ x) (take-append-drop n held))
 
 module _ {R : Type 0} (left : R → Option (List ℕ)) where
-  -- what was got is so, with what was held before
-  pub reads_of : (w w' : WireView R) (held : List ℕ) (Are : List ℕ → Type 0) → Gets (left w.source) (left w'.source) w.held held → Are held → Reads left w w' Are
-  reads_of w w' held Are gets are = record { got = gets.got; told = gets.told; are = subst Are gets.more are }
-
-  -- no part of a body yet
-  pub body_none : (w : WireView R) → Reads left w w (λ b. b ≡ [] ++ w.held)
-  body_none w = reads_of w w w.held (λ b. b ≡ w.held) (gets_none (left w.source) w.held) refl
-
-  -- a part more
-  pub body_on : (w0 w m w' : WireView R) (body body' : List ℕ) → Reads left w0 w (λ b. b ≡ body ++ w.held) → Gets (left w.source) (left m.source) w.held m.held
-      → w'.source ≡ m.source → body' ++ w'.held ≡ body ++ m.held → Reads left w0 w' (λ b. b ≡ body' ++ w'.held)
-  body_on w0 w m w' body body' r g source parts = record {
-    got = r.got ++ g.got;
-    told = r.told ∙ ap (front r.got) g.told ∙ front_twice (left m.source) r.got g.got ∙ ap (λ s. front (r.got ++ g.got) (left s)) (sym source);
-    are = sym (append_assoc w0.held r.got g.got) ∙ ap (λ x. x ++ g.got) r.are ∙ append_assoc body w.held g.got ∙ ap (λ x. body ++ x) (sym g.more) ∙ sym parts;
-  }
-
   -- what was read, and then more of it was got
   pub reads_then : (w0 w w' : WireView R) (P Q S : List ℕ → Type 0) → Reads left w0 w P → Reads left w w' Q
       → ((b more : List ℕ) → P b → Q (w.held ++ more) → S (b ++ more)) → Reads left w0 w' S
@@ -87,16 +129,7 @@ module _ {R : Type 0} (left : R → Option (List ℕ)) where
 
   -- nothing was read
   pub reads_none : (w : WireView R) (P : List ℕ → Type 0) → P w.held → Reads left w w P
-  reads_none w P are = reads_of w w w.held P (gets_none (left w.source) w.held) are
-
-  -- more was got, and a part of it is lost
-  pub reads_lost : (w0 w m w' : WireView R) (P : List ℕ → Type 0) → Reads left w0 w P → Gets (left w.source) (left m.source) w.held m.held → w'.source ≡ m.source
-      → Reads left w0 w' (λ b. Unit {0})
-  reads_lost w0 w m w' P r g source = record {
-    got = r.got ++ g.got;
-    told = r.told ∙ ap (front r.got) g.told ∙ front_twice (left m.source) r.got g.got ∙ ap (λ s. front (r.got ++ g.got) (left s)) (sym source);
-    are = tt;
-  }
+  reads_none w P are = record { got = []; told = front_none (left w.source); are = subst P (sym (append-nil w.held)) are }
 
 -- a fault that is handed on
 pub by_fault : {A : Type 0} (r : Result A HttpFault) (fault : HttpFault) (P : Result A HttpFault → Type 0) → IsErrAnd r (λ d. d ≡ fault) → P (Err fault) → P r
@@ -116,11 +149,15 @@ body_unread P b held size NoMemory is short = tt
 
 -- ---- what was judged
 
-has_head_on : {held later : List ℕ} {parsed : ParsedHead} (l : List ℕ) → HasHead held parsed later → HasHead (held ++ l) parsed (later ++ l)
-has_head_on {held} {later} {parsed} l has = record { reads = ReadsRequest-append held parsed later l has.reads; limit = has.limit }
+module _ {P H : Type 0} {form : Form P H} where
+  has_head_on : {held later : List ℕ} {parsed : P} (l : List ℕ) → HasHeadAs form held parsed later → HasHeadAs form (held ++ l) parsed (later ++ l)
+  has_head_on {held} {later} {parsed} l has = record {
+    reads = (has.reads.0, ap (λ b. b ++ l) has.reads.1 ∙ append_assoc (form.print parsed) later l);
+    limit = has.limit;
+  }
 
-pub begins_on : {held later : List ℕ} {head : RequestHead} (l : List ℕ) → Begins held head later → Begins (held ++ l) head (later ++ l)
-begins_on l begins = record { parsed = begins.parsed; has = has_head_on l begins.has; faultless = begins.faultless; says = begins.says }
+  pub begins_on : {held later : List ℕ} {head : H} (l : List ℕ) → BeginsAs form held head later → BeginsAs form (held ++ l) head (later ++ l)
+  begins_on l begins = record { parsed = begins.parsed; has = has_head_on l begins.has; faultless = begins.faultless; says = begins.says }
 
 -- the first bytes of more are more of the first bytes
 pub seen_more : (n : ℕ) (held l : List ℕ) → take n (held ++ l) ≡ take n held ++ take (n - length held) l
@@ -133,47 +170,45 @@ seen_more n held l = elim (cases_lt (length held) n) [
       take-append-le n held l above ∙ sym (rw none (append-nil (take n held)))
 ]
 
-never_on : {held : List ℕ} (l : List ℕ) → Never held → Never (held ++ l)
-never_on {held} l h = record {
-  never = λ more. subst HasNoRequest (sym (append_assoc (take 16384 held) (take (16384 - length held) l) more) ∙ ap (λ x. x ++ more) (sym (seen_more 16384 held l))) (h.never (take (16384 - length held) l ++ more));
-}
+module _ {P H : Type 0} {form : Form P H} where
+  never_on : {held : List ℕ} (l : List ℕ) → NeverAs form held → NeverAs form (held ++ l)
+  never_on {held} l h = record {
+    never = λ more. subst (HasNone form) (sym (append_assoc (take 16384 held) (take (16384 - length held) l) more) ∙ ap (λ x. x ++ more) (sym (seen_more 16384 held l))) (h.never (take (16384 - length held) l ++ more));
+  }
 
-unfinished_on : {held : List ℕ} (l : List ℕ) → 16384 ≤ length held → Unfinished held → Unfinished (held ++ l)
-unfinished_on {held} l long h =
-    let same : window (held ++ l) ≡ window held = take-append-le 16384 held l long in
-    record { not_yet = subst HasNoRequest (sym same) h.not_yet; may = subst MayBecomeRequest (sym same) h.may }
+  unfinished_on : {held : List ℕ} (l : List ℕ) → 16384 ≤ length held → UnfinishedAs form held → UnfinishedAs form (held ++ l)
+  unfinished_on {held} l long h =
+      let same : window (held ++ l) ≡ window held = take-append-le 16384 held l long in
+      record { not_yet = subst (HasNone form) (sym same) h.not_yet; may = subst form.MayBecome (sym same) h.may }
 
-pub refused_on : {held : List ℕ} {fault : HttpFault} (l : List ℕ) → Refused held fault → Refused (held ++ l) fault
-refused_on l (never h) = never (never_on l h)
-refused_on {held} l (large long h) = large (rw length-append (omega (arith, long))) (unfinished_on l long h)
-refused_on l (judged parsed later fault has is) = judged parsed (later ++ l) fault (has_head_on l has) is
+  pub refused_on : {held : List ℕ} {fault : HttpFault} (l : List ℕ) → RefusedAs form held fault → RefusedAs form (held ++ l) fault
+  refused_on l (never h) = never (never_on l h)
+  refused_on {held} l (large long h) = large (rw length-append (omega (arith, long))) (unfinished_on l long h)
+  refused_on l (judged parsed later fault has is) = judged parsed (later ++ l) fault (has_head_on l has) is
 
 -- a fault is another than this
-abbrev pub IsOther : HttpFault → HttpFault → Type 0
-IsOther other fault = (r : Result (Option RequestHead) HttpFault) → r ≡ Err fault → r ≡ Err other → ⊥
+abbrev pub IsOther : Type 0 → HttpFault → HttpFault → Type 0
+IsOther H other fault = (r : Result (Option H) HttpFault) → r ≡ Err fault → r ≡ Err other → ⊥
 
--- the bytes read are refused, or weren't judged: neither did the source fail nor the input end
-pub read_lost : (b held : List ℕ) (fault : HttpFault) → HeadLost b held fault → HeadRead b held (Err fault) × IsHeadFault fault × IsOther ReadFault fault × IsOther Short fault
-read_lost b held BadHead lost = (lost, tt, λ r is same. cc, λ r is same. cc)
-read_lost b held HeadTooLarge lost = (lost, tt, λ r is same. cc, λ r is same. cc)
-read_lost b held BodyTooLarge lost = absurd (refusal b BodyTooLarge lost.0)
-read_lost b held NoLength lost = (lost, tt, λ r is same. cc, λ r is same. cc)
-read_lost b held Coding lost = (lost, tt, λ r is same. cc, λ r is same. cc)
-read_lost b held Short lost = absurd (refusal b Short lost.0)
-read_lost b held ReadFault lost = absurd (refusal b ReadFault lost.0)
-read_lost b held NoMemory lost = (lost, tt, λ r is same. cc, λ r is same. cc)
+module _ {P H : Type 0} (form : Form P H) where
+  -- the bytes read are refused, or weren't judged: neither did the source fail nor the input end
+  pub read_lost : ((head : P) → IfSome (form.fault head) IsRefusal) → (b held : List ℕ) (fault : HttpFault) → HeadLost form b held fault
+      → HeadReadAs form b held (Err fault) × IsHeadFault fault × IsOther H ReadFault fault × IsOther H Short fault
+  read_lost only b held BadHead lost = (lost, tt, λ r is same. cc, λ r is same. cc)
+  read_lost only b held HeadTooLarge lost = (lost, tt, λ r is same. cc, λ r is same. cc)
+  read_lost only b held BodyTooLarge lost = absurd (refusal form only b BodyTooLarge lost.0)
+  read_lost only b held NoLength lost = (lost, tt, λ r is same. cc, λ r is same. cc)
+  read_lost only b held Coding lost = (lost, tt, λ r is same. cc, λ r is same. cc)
+  read_lost only b held Short lost = absurd (refusal form only b Short lost.0)
+  read_lost only b held ReadFault lost = absurd (refusal form only b ReadFault lost.0)
+  read_lost only b held NoMemory lost = (lost, tt, λ r is same. cc, λ r is same. cc)
 
--- where no head was found, a part of one is held
-pub found_none : (IsPart : List ℕ → Type 0) (b held : List ℕ) (found : Option RequestHead) → HeadFound IsPart b held (Ok found) → ((head : RequestHead) → found ≡ Some head → ⊥) → IsPart b × (held ≡ b)
-found_none IsPart b held None part lacks = part
-found_none IsPart b held (Some head) part lacks = absurd (lacks head refl)
+  -- where no head was found, a part of one is held
+  pub found_none : (IsPart : List ℕ → Type 0) (b held : List ℕ) (found : Option H) → HeadFound form IsPart b held (Ok found) → ((head : H) → found ≡ Some head → ⊥) → IsPart b × (held ≡ b)
+  found_none IsPart b held None part lacks = part
+  found_none IsPart b held (Some head) part lacks = absurd (lacks head refl)
 
 -- ---- when a source is read
-
--- nothing before what is left
-front_none : (left : Option (List ℕ)) → left ≡ front [] left
-front_none None = refl
-front_none (Some l) = refl
 
 module _ {R : Type 0} (left : R → Option (List ℕ)) (looks : R → Look → Type 0) where
   -- no read began
@@ -221,11 +256,11 @@ module _ {R : Type 0} (left : R → Option (List ℕ)) (looks : R → Look → T
       ]
 
   -- one more began where a part of a head is held
-  pub head_looks : (w0 w w' : WireView R) (passed : Option (List ℕ)) → Looks left looks w0 w (Beside passed IsAwaited) → Gets (left w0.source) (left w.source) w0.held w.held → IsAwaited w.held
-      → Looks left looks w w' (Beside passed (λ b. b ≡ w.held)) → Looks left looks w0 w' (Beside passed IsAwaited)
-  head_looks w0 w w' passed first gets waits then_ =
-      looks_then w0 w w' (λ b. b ≡ w.held) (Beside passed (λ b. b ≡ w.held)) (Beside passed IsAwaited) first (reads_of left w0 w w.held (λ b. b ≡ w.held) gets refl) then_ (λ b more passed' is looked.
-      (subst IsAwaited (sym (ap (λ x. x ++ more) is ∙ looked.0)) waits, looked.1))
+  pub head_looks : {P H : Type 0} (form : Form P H) (w0 w w' : WireView R) (passed : Option (List ℕ)) → Looks left looks w0 w (Beside passed (AwaitedAs form)) → Reads left w0 w (λ b. b ≡ w.held) → AwaitedAs form w.held
+      → Looks left looks w w' (Beside passed (λ b. b ≡ w.held)) → Looks left looks w0 w' (Beside passed (AwaitedAs form))
+  head_looks form w0 w w' passed first reads waits then_ =
+      looks_then w0 w w' (λ b. b ≡ w.held) (Beside passed (λ b. b ≡ w.held)) (Beside passed (AwaitedAs form)) first reads then_ (λ b more passed' is looked.
+      (subst (AwaitedAs form) (sym (ap (λ x. x ++ more) is ∙ looked.0)) waits, looked.1))
 
   -- one more began behind a part of a body, where nothing is held
   pub body_looks : (w0 w w' : WireView R) (passed : Option (List ℕ)) (body : List ℕ) (size : ℕ) → Looks left looks w0 w (Beside passed (λ b. length b < size)) → Reads left w0 w (λ b. b ≡ body ++ w.held)

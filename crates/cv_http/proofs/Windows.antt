@@ -2,12 +2,11 @@
 use Rattle.std.proofs.Common.{◌≡◌, ◌≤◌, ◌++◌, ℕ, List, length, take, drop, min, ap, sym, subst, ◌∙◌, arith, inl, inr}
 use Rattle.std.proofs.lemmas.List.{take-append-drop, drop-append-le, take_all, length-take}
 use Rattle.std.proofs.lemmas.Bool.{cases_lt}
-use Rattle.httparse.specs.Grammar.{RequestHead as ParsedHead, ReadsRequest, print_request}
-use Rattle.httparse.proofs.GrammarLemmas.{ReadsRequest-append}
-use Rattle.cv_http.specs.Heads.{window, HasHead, parts_of, judged}
+use Rattle.cv_http.specs.Forms.{Form, ReadsAs, HasNone, BeginsAs, RefusedAs, head_limit, window, judged}
 use Rattle.cv_http.specs.Judgements.{JudgesWhole, Judges}
 use Rattle.cv_http.specs.declared.judge.Judged.{Judged}
 use Rattle.cv_http.specs.declared.judge.Judged.TheVariants.{Whole, More, Refused as RefusedBy}
+use Rattle.cv_http.proofs.Streams.{begins_on, refused_on}
 
 -- what the code looks at
 pub seen_is : (held : List ℕ) (count : ℕ) → count ≡ min (length held) 16384 → take count held ≡ window held
@@ -16,26 +15,42 @@ seen_is held count is = elim (cases_lt (length held) 16384) [
   | inr above ↦ ap (λ k. take k held) (let e : count ≡ 16384 = omega (arith, is, above) in e)
 ]
 
--- a head in the window is a head
-pub has_head : (held bytes : List ℕ) (parsed : ParsedHead) (size : ℕ) → bytes ≡ window held → ReadsRequest bytes parsed (drop size bytes)
-    → size ≡ length (print_request parsed) → size ≤ length bytes → (size ≤ length held) × HasHead held parsed (drop size held)
-has_head held bytes parsed size seen reads is within =
-    let split : bytes ++ drop 16384 held ≡ held = ap (λ b. b ++ drop 16384 held) seen ∙ take-append-drop 16384 held in
-    let later : drop size held ≡ drop size bytes ++ drop 16384 held =
-    ap (drop size) (sym split) ∙ drop-append-le size bytes (drop 16384 held) within in
-    let bound : length bytes ≡ min 16384 (length held) = ap length seen ∙ length-take 16384 held in (
-      omega (arith, bound, within),
-      record {
-        reads = rw later (subst (λ (b : List ℕ). ReadsRequest b parsed (drop size bytes ++ drop 16384 held)) split (ReadsRequest-append bytes parsed (drop size bytes) (drop 16384 held) reads));
-        limit = omega (arith, bound, within, is);
-      },
-    )
+-- bytes within the limit are seen whole
+pub all_seen : (bytes : List ℕ) → length bytes ≤ head_limit → bytes ≡ window bytes
+all_seen bytes within = sym (take_all 16384 bytes (omega (arith, within)))
 
-pub judged_whole : (held : List ℕ) (parsed : ParsedHead) (size : ℕ) (judgement : Judged) → size ≤ length held → HasHead held parsed (drop size held)
-    → JudgesWhole (parts_of parsed) size judgement → Judges held judgement
-judged_whole held parsed size (Whole head count) within has is = (
-  omega (arith, is.2, within),
-  record { parsed = parsed; has = subst (λ (n : ℕ). HasHead held parsed (drop n held)) (sym is.2) has; faultless = is.0; says = is.1 },
-)
-judged_whole held parsed size More within has is = absurd is
-judged_whole held parsed size (RefusedBy fault) within has is = judged parsed (drop size held) fault has is
+module _ {P H : Type 0} (form : Form P H) where
+  -- a whole head is judged by its fault, or else by what it says
+  pub judged_whole : (bytes : List ℕ) (parsed : P) (size : ℕ) (judgement : Judged H) → length bytes ≤ head_limit → size ≤ length bytes
+      → ReadsAs form bytes parsed (drop size bytes) → size ≡ length (form.print parsed)
+      → JudgesWhole (form.fault parsed) (form.says parsed) size judgement → Judges form bytes judgement
+  judged_whole bytes parsed size (Whole head count) limit within reads long is = (
+    omega (arith, is.2, within),
+    record {
+      parsed = parsed;
+      has = record { reads = subst (λ (n : ℕ). ReadsAs form bytes parsed (drop n bytes)) (sym is.2) reads; limit = omega (arith, limit, within, long) };
+      faultless = is.0;
+      says = is.1;
+    },
+  )
+  judged_whole bytes parsed size More limit within reads long is = absurd is
+  judged_whole bytes parsed size (RefusedBy fault) limit within reads long is =
+      judged parsed (drop size bytes) fault (record { reads = reads; limit = omega (arith, limit, within, long) }) is
+
+  -- what the first bytes are judged to be, all are
+  pub judged_all : (held bytes : List ℕ) (judgement : Judged H) → bytes ≡ window held → Judges form bytes judgement → Judges form held judgement
+  judged_all held bytes (Whole head size) seen is =
+      let split : bytes ++ drop 16384 held ≡ held = ap (λ b. b ++ drop 16384 held) seen ∙ take-append-drop 16384 held in
+      let later : drop size bytes ++ drop 16384 held ≡ drop size held =
+      sym (drop-append-le size bytes (drop 16384 held) is.0) ∙ ap (drop size) split in
+      let bound : length bytes ≡ min 16384 (length held) = ap length seen ∙ length-take 16384 held in (
+        omega (arith, bound, is.0),
+        subst (λ (b : List ℕ). BeginsAs form b head (drop size held)) split
+            (subst (BeginsAs form (bytes ++ drop 16384 held) head) later (begins_on (drop 16384 held) is.1)),
+      )
+  judged_all held bytes More seen is =
+      let bound : length bytes ≡ min 16384 (length held) = ap length seen ∙ length-take 16384 held in
+      let same : window bytes ≡ window held = sym (all_seen bytes (omega (arith, bound))) ∙ seen in
+      record { not_yet = subst (HasNone form) same is.not_yet; may = subst form.MayBecome same is.may }
+  judged_all held bytes (RefusedBy fault) seen is =
+      subst (λ (b : List ℕ). RefusedAs form b fault) (ap (λ b. b ++ drop 16384 held) seen ∙ take-append-drop 16384 held) (refused_on (drop 16384 held) is)

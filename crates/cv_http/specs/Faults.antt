@@ -45,3 +45,14 @@ IsRefusal Coding = Unit {0}
 IsRefusal Short = ⊥
 IsRefusal ReadFault = ⊥
 IsRefusal NoMemory = ⊥
+
+-- a fault that reading a reply may answer
+abbrev pub IsReplyFault : HttpFault → Type 0
+IsReplyFault BadHead = Unit {0}
+IsReplyFault HeadTooLarge = Unit {0}
+IsReplyFault BodyTooLarge = Unit {0}
+IsReplyFault NoLength = ⊥
+IsReplyFault Coding = Unit {0}
+IsReplyFault Short = Unit {0}
+IsReplyFault ReadFault = Unit {0}
+IsReplyFault NoMemory = Unit {0}

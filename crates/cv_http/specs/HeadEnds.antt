@@ -1,7 +1,6 @@
 -- Where a head may end: an empty line ends it.
 use Rattle.std.specs.Prelude.{ℕ, ◌<◌, ◌-◌, ◌==◌, ◌||◌, nat_le, List, [], ◌∷◌, length, drop, Bool, false, if◌then◌else◌}
-use Rattle.httparse.specs.Grammar.{RequestHead as ParsedHead, ReadsRequest, print_request}
-use Rattle.cv_http.specs.Heads.{head_limit}
+use Rattle.cv_http.specs.Forms.{Form, ReadsAs, head_limit}
 use Rattle.cv_http.specs.declared.head_end.Line.{Line}
 use Rattle.cv_http.specs.declared.head_end.Line.TheVariants.{Empty, Returned, Text}
 
@@ -31,5 +30,5 @@ abbrev pub may_end : ℕ → List ℕ → Bool
 may_end seen held = nat_le head_limit (length held) || has_empty_line Text (drop (seen - 2) held)
 
 -- each head with which the bytes begin has more bytes than these
-abbrev pub NoneWithin : ℕ → List ℕ → Type 0
-NoneWithin seen held = (h : ParsedHead) (later : List ℕ) → ReadsRequest held h later → seen < length (print_request h)
+abbrev pub NoneWithin : {P H : Type 0} → Form P H → ℕ → List ℕ → Type 0
+NoneWithin {P} form seen held = (head : P) (later : List ℕ) → ReadsAs form held head later → seen < length (form.print head)

@@ -1,7 +1,13 @@
 pub mod Faults
 pub mod Fields
+pub mod FieldFaults
+pub mod Forms
 pub mod Heads
+pub mod HeadLaws
 pub mod HeadEnds
 pub mod Judgements
 pub mod Replies
+pub mod ReplyHeads
+pub mod ReplyTexts
+pub mod Requests
 pub mod Wires

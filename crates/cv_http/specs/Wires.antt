@@ -1,8 +1,10 @@
 -- What is still to be read, and what was read.
 use Rattle.std.specs.Prelude.{◌≡◌, ◌<◌, ◌++◌, ◌⊎◌, ℕ, List, [], length, Option, Result, Ok, Err}
 use Rattle.std.specs.declared.option.Option.TheVariants.{Some, None}
-use Rattle.cv_ports.specs.Streams.{Look, front}
-use Rattle.cv_http.specs.Heads.{Begins, Refused, IsAwaited, IsCut}
+use Rattle.cv_base.specs.Told.{WhereTold}
+use Rattle.cv_ports.specs.Streams.{Look, front, onto}
+use Rattle.cv_http.specs.Forms.{Form, BeginsAs, RefusedAs, AwaitedAs, CutAs}
+use Rattle.cv_http.specs.Heads.{request_form}
 use Rattle.cv_http.specs.declared.head.RequestHead.{RequestHead}
 use Rattle.cv_http.specs.declared.fault.HttpFault.{HttpFault}
 use Rattle.cv_http.specs.declared.fault.HttpFault.TheVariants.{BadHead, HeadTooLarge, BodyTooLarge, NoLength, Coding, Short, ReadFault, NoMemory}
@@ -16,16 +18,28 @@ pub record WireView (R : Type 0) : Type 0 where
 abbrev pub rest : {R : Type 0} → (R → Option (List ℕ)) → WireView R → Option (List ℕ)
 rest left wire = front wire.held (left wire.source)
 
--- so much was got of a source, and is held behind what was held
-pub record Gets (left left' : Option (List ℕ)) (held held' : List ℕ) : Type 0 where
+-- the source has nothing left, where it tells
+abbrev pub HasEnded : Option (List ℕ) → Type 0
+HasEnded left = WhereTold left (λ l. l ≡ [])
+
+-- so much was got of the source, which tells that it gave it, and is held behind what was held
+pub record Gets {R : Type 0} (left given : R → Option (List ℕ)) (wire wire' : WireView R) : Type 0 where
   pub got : List ℕ
-  pub told : left ≡ front got left'
-  pub more : held' ≡ held ++ got
+  pub told : left wire.source ≡ front got (left wire'.source)
+  pub gave : given wire'.source ≡ onto (given wire.source) got
+  pub more : wire'.held ≡ wire.held ++ got
 
 -- the bytes that were read meanwhile, those held before and then those got of the source, are so
 pub record Reads {R : Type 0} (left : R → Option (List ℕ)) (wire wire' : WireView R) (Are : List ℕ → Type 0) : Type 0 where
   pub got : List ℕ
   pub told : left wire.source ≡ front got (left wire'.source)
+  pub are : Are (wire.held ++ got)
+
+-- the bytes that were read meanwhile are so, and the source tells that it gave those that weren't held before
+pub record Draws {R : Type 0} (left given : R → Option (List ℕ)) (wire wire' : WireView R) (Are : List ℕ → Type 0) : Type 0 where
+  pub got : List ℕ
+  pub told : left wire.source ≡ front got (left wire'.source)
+  pub gave : given wire'.source ≡ onto (given wire.source) got
   pub are : Are (wire.held ++ got)
 
 -- a read of the source began when so much had been got of it, and with what was held before and what the sink beside it had passed
@@ -44,28 +58,32 @@ abbrev pub Beside : Option (List ℕ) → (List ℕ → Type 0) → List ℕ →
 Beside passed Are b passed' = Are b × (passed' ≡ passed)
 
 -- the bytes are refused by this fault, or memory was wanted, and all are still held
-abbrev pub HeadLost : List ℕ → List ℕ → HttpFault → Type 0
-HeadLost b held NoMemory = held ≡ b
-HeadLost b held fault = Refused b fault × (held ≡ b)
+abbrev pub HeadLost : {P H : Type 0} → Form P H → List ℕ → List ℕ → HttpFault → Type 0
+HeadLost form b held NoMemory = held ≡ b
+HeadLost form b held fault = RefusedAs form b fault × (held ≡ b)
 
 -- what the bytes held are where a head is taken of them: a head, and then what is still held; or a part of one
-abbrev pub HeadFound : (List ℕ → Type 0) → List ℕ → List ℕ → Result (Option RequestHead) HttpFault → Type 0
-HeadFound IsPart b held (Ok (Some head)) = Begins b head held
-HeadFound IsPart b held (Ok None) = IsPart b × (held ≡ b)
-HeadFound IsPart b held (Err fault) = HeadLost b held fault
+abbrev pub HeadFound : {P H : Type 0} → Form P H → (List ℕ → Type 0) → List ℕ → List ℕ → Result (Option H) HttpFault → Type 0
+HeadFound form IsPart b held (Ok (Some head)) = BeginsAs form b head held
+HeadFound form IsPart b held (Ok None) = IsPart b × (held ≡ b)
+HeadFound form IsPart b held (Err fault) = HeadLost form b held fault
 
--- what the bytes read are where a head was asked for, and which of them are still held
+-- what the bytes read are where a head of a form was asked for, and which of them are still held
+abbrev pub HeadReadAs : {P H : Type 0} → Form P H → List ℕ → List ℕ → Result (Option H) HttpFault → Type 0
+HeadReadAs form b held (Ok (Some head)) = BeginsAs form b head held
+HeadReadAs form b held (Ok None) = (b ≡ []) × (held ≡ b)
+HeadReadAs form b held (Err Short) = CutAs form b × (held ≡ b)
+HeadReadAs form b held (Err ReadFault) = AwaitedAs form b × (held ≡ b)
+HeadReadAs form b held (Err NoMemory) = held ≡ b
+HeadReadAs form b held (Err BadHead) = RefusedAs form b BadHead × (held ≡ b)
+HeadReadAs form b held (Err HeadTooLarge) = RefusedAs form b HeadTooLarge × (held ≡ b)
+HeadReadAs form b held (Err BodyTooLarge) = RefusedAs form b BodyTooLarge × (held ≡ b)
+HeadReadAs form b held (Err NoLength) = RefusedAs form b NoLength × (held ≡ b)
+HeadReadAs form b held (Err Coding) = RefusedAs form b Coding × (held ≡ b)
+
+-- the same where a request's head was asked for
 abbrev pub HeadRead : List ℕ → List ℕ → Result (Option RequestHead) HttpFault → Type 0
-HeadRead b held (Ok (Some head)) = Begins b head held
-HeadRead b held (Ok None) = (b ≡ []) × (held ≡ b)
-HeadRead b held (Err Short) = IsCut b × (held ≡ b)
-HeadRead b held (Err ReadFault) = IsAwaited b × (held ≡ b)
-HeadRead b held (Err NoMemory) = held ≡ b
-HeadRead b held (Err BadHead) = Refused b BadHead × (held ≡ b)
-HeadRead b held (Err HeadTooLarge) = Refused b HeadTooLarge × (held ≡ b)
-HeadRead b held (Err BodyTooLarge) = Refused b BodyTooLarge × (held ≡ b)
-HeadRead b held (Err NoLength) = Refused b NoLength × (held ≡ b)
-HeadRead b held (Err Coding) = Refused b Coding × (held ≡ b)
+HeadRead = HeadReadAs request_form
 
 -- what the bytes read are where so many bytes were asked for: a body of which this was made, and then what is still held;
 -- or fewer, where the input ended or the source failed

@@ -1,10 +1,12 @@
-//! What bytes are is one thing: at most one head, and either a head or a refusal or a part of a head.
+//! What bytes are is one thing: at most one head, and either a head or a refusal or a part of a head; and at most one reply.
 //!
 //! The functions do nothing. Their contracts hold of all bytes.
-ghost use Rattle.std.specs.Prelude.{◌≡◌, ◌≤◌, ◌⊎◌, ℕ, List, [], length};
+ghost use Rattle.std.specs.Prelude.{◌≡◌, ◌≤◌, ◌⊎◌, ⊤, ℕ, List, [], length};
 ghost use Rattle.httparse.specs.Grammar.{EndsInTarget};
 ghost use Rattle.cv_http.specs.Heads.{head_limit, window, Begins, Never, Refused, IsCut};
+ghost use Rattle.cv_http.specs.ReplyTexts.{IsReply};
 ghost use Rattle.cv_http.specs.declared.head.RequestHead.{RequestHead};
+ghost use Rattle.cv_http.specs.declared.http_reply.HttpReply.{HttpReply};
 ghost use Rattle.cv_http.specs.declared.fault.HttpFault.{HttpFault};
 ghost use Rattle.cv_http.specs.declared.fault.HttpFault.TheVariants.{BadHead};
 
@@ -33,4 +35,9 @@ pub fn one_fault()
 pub fn empty_input()
     ensures begun { (later : List ℕ) (head : RequestHead) → ¬ (Begins [] head later) }
     ensures refused { (fault : HttpFault) → ¬ (Refused [] fault) }
+{}
+
+/// Bytes are at most one reply, which ends at one place. A reply whose length isn't stated is all of them.
+pub fn one_reply()
+    ensures { (b later later' : List ℕ) (reply reply' : HttpReply) → IsReply ⊤ b reply later → IsReply ⊤ b reply' later' → (reply ≡ reply') × (later ≡ later') }
 {}

@@ -10,7 +10,7 @@ use crate::code::Code;
 use cv_ports::{Failed, Sink, write_all};
 use std::alloc::{AllocError, Global};
 
-/// Why a reply wasn't written whole.
+/// Why a reply or a request wasn't written whole.
 #[derive(Clone, Copy, Debug, PartialEq, Eq)]
 pub enum SendFault {
     /// The sink failed in a write or in the flush. What it took stays taken.
@@ -51,7 +51,7 @@ fn head_text(
 
 /// Writes a head and then a body, in a write of each, and flushes the sink.
 #[tactic(auto, using(cv_ports::proofs::Streams::wrote_front, cv_ports::proofs::Streams::wrote_back))]
-fn send_parts<W: Sink>(sink: &mut W, head: &[u8], body: &[u8]) -> Result<(), Failed>
+pub(crate) fn send_parts<W: Sink>(sink: &mut W, head: &[u8], body: &[u8]) -> Result<(), Failed>
     ensures whole { OnOk result (W.taken sink.new ≡ onto (W.taken sink.old) (head.now ++ body.now)) }
     ensures part { Wrote (W.taken sink.old) (W.taken sink.new) (head.now ++ body.now) }
     ensures flushed { OnOk result (W.passed sink.new ≡ W.taken sink.new) }

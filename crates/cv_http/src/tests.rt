@@ -3,9 +3,11 @@ use crate::body_kind::BodyKind;
 use crate::code::Code;
 use crate::fault::HttpFault;
 use crate::method::Method;
+use crate::outgoing::{Outgoing, write_request};
 use crate::reply::{write_continue, write_reply};
+use crate::verb::Verb;
 use crate::wire::Wire;
-use cv_base::{NoMemory, Text};
+use cv_base::{Bytes, NoMemory, Text};
 use cv_ports::{MemorySink, MemorySource};
 use std::alloc::{AllocError, Global};
 use std::test::Fail;
@@ -194,6 +196,158 @@ fn writes_replies(rt: HostRuntime) -> Result<(), Fail> {
     )?;
     let wanted =
         b"HTTP/1.1 100 Continue\r\n\r\nHTTP/1.1 200 OK\r\nContent-Type: application/octet-stream\r\nContent-Length: 2\r\n\r\nM\nHTTP/1.1 400 Bad Request\r\nContent-Type: text/plain\r\nContent-Length: 12\r\nConnection: close\r\n\r\nBad Request\n";
+    assert_eq!(rt; sink.as_slice(), wanted.as_slice());
+    Ok(())
+}
+
+/// What reading a reply of these bytes is to answer.
+#[derive(Clone, Copy)]
+enum Wanted {
+    Reply(u16, &'static str),
+    Fault(HttpFault),
+}
+
+/// The answer for these bytes, that may be cut anywhere, is this one.
+fn is_answered(alloc: Global, input: &[u8], wanted: &Wanted) -> Result<bool, AllocError> {
+    let beside = silent_sink(alloc)?;
+    let found = wire_of(alloc, input)?.read_reply(alloc, &beside);
+    Ok(match (found, wanted) {
+        (Ok(reply), Wanted::Reply(code, body)) => {
+            reply.code == *code && reply.body.as_slice() == body.as_bytes()
+        }
+        (Err(fault), Wanted::Fault(wanted)) => fault == *wanted,
+        _ => false,
+    })
+}
+
+/// So many interim replies, and then this text.
+fn behind_interim(alloc: Global, count: usize, text: &str) -> Result<Vec<u8>, AllocError> {
+    let mut input = Vec::new(alloc);
+    for _ in 0..count {
+        input.extend_from_slice(b"HTTP/1.1 100 Continue\r\n\r\n")?;
+    }
+    input.extend_from_slice(text.as_bytes())?;
+    Ok(input)
+}
+
+/// How many of the rows aren't answered so, behind so many interim replies.
+fn failing_rows(
+    alloc: Global,
+    rows: &[(usize, &'static str, Wanted)],
+) -> Result<usize, AllocError> {
+    let mut failing = 0usize;
+    for (interim, text, wanted) in rows {
+        let input = behind_interim(alloc, *interim, text)?;
+        if !is_answered(alloc, input.as_slice(), wanted)? {
+            failing = failing.saturating_add(1);
+        }
+    }
+    Ok(failing)
+}
+
+#[test]
+fn reads_replies(rt: HostRuntime) -> Result<(), Fail> {
+    let sized = "HTTP/1.1 200 OK\r\nContent-Length: 3\r\n\r\nabcd";
+    let rows = [
+        (0, sized, Wanted::Reply(200, "abc")),
+        (0, "HTTP/1.0 200\n\nabcd", Wanted::Reply(200, "abcd")),
+        (
+            0,
+            "HTTP/1.1 404 Not Found\r\nContent-Length: 0\r\n\r\n",
+            Wanted::Reply(404, ""),
+        ),
+        (16, sized, Wanted::Reply(200, "abc")),
+        (17, sized, Wanted::Fault(HttpFault::BadHead)),
+        (
+            0,
+            "HTTP/1.1 200 OK\r\nContent-Length: 3\r\nContent-Length: 3\r\n\r\nabc",
+            Wanted::Fault(HttpFault::BadHead),
+        ),
+        (
+            0,
+            "HTTP/1.1 200 OK\r\nContent-Length: 3a\r\n\r\nabc",
+            Wanted::Fault(HttpFault::BadHead),
+        ),
+        (
+            0,
+            "HTTP/1.1 200 OK\r\nTransfer-Encoding: chunked\r\n\r\n0\r\n\r\n",
+            Wanted::Fault(HttpFault::Coding),
+        ),
+        (
+            0,
+            "HTTP/1.1 200 OK\r\nContent-Length: 3\r\n",
+            Wanted::Fault(HttpFault::Short),
+        ),
+        (
+            1,
+            "HTTP/1.1 200 OK\r\nContent-Length: 3\r\n\r\nab",
+            Wanted::Fault(HttpFault::Short),
+        ),
+        (0, "", Wanted::Fault(HttpFault::Short)),
+        (1, "", Wanted::Fault(HttpFault::Short)),
+        (
+            0,
+            "GET / HTTP/1.1\r\n\r\n",
+            Wanted::Fault(HttpFault::BadHead),
+        ),
+        (
+            0,
+            "HTTP/1.1 200 OK\r\nContent-Length: 33554433\r\n\r\n",
+            Wanted::Fault(HttpFault::BodyTooLarge),
+        ),
+        (
+            0,
+            "HTTP/1.1 200 OK\r\nContent-Length: 33554432\r\n\r\n",
+            Wanted::Fault(HttpFault::Short),
+        ),
+    ];
+    assert_eq!(rt; failing_rows(rt.alloc(), rows.as_slice())?, 0);
+    Ok(())
+}
+
+/// A reply of so many fields and no length.
+fn wide_reply(alloc: Global, fields: usize) -> Result<Vec<u8>, AllocError> {
+    let mut reply = Vec::from_slice(alloc, b"HTTP/1.1 200 OK\r\n")?;
+    for _ in 0..fields {
+        reply.extend_from_slice(b"A: b\r\n")?;
+    }
+    reply.extend_from_slice(b"\r\n")?;
+    Ok(reply)
+}
+
+#[test]
+fn refuses_wide_replies(rt: HostRuntime) -> Result<(), Fail> {
+    let alloc = rt.alloc();
+    let large = Wanted::Fault(HttpFault::HeadTooLarge);
+    assert!(rt; is_answered(alloc, &wide_reply(alloc, 64)?, &Wanted::Reply(200, ""))?);
+    assert!(rt; is_answered(alloc, &wide_reply(alloc, 65)?, &large)?);
+    Ok(())
+}
+
+#[test]
+fn writes_requests(rt: HostRuntime) -> Result<(), Fail> {
+    let alloc = rt.alloc();
+    let mut sink = MemorySink::new(alloc, 400, Vec::new(alloc))?;
+    let get = Outgoing {
+        method: Verb::Get,
+        host: Text::from_str(alloc, "localhost:8000")?,
+        target: Text::from_str(alloc, "/cvmfs/a/.cvmfspublished")?,
+        authorization: None,
+        message_size: None,
+        body: Bytes::from_slice(alloc, b"")?,
+    };
+    write_request(alloc, &mut sink, &get)?;
+    let post = Outgoing {
+        method: Verb::Post,
+        host: Text::from_str(alloc, "x")?,
+        target: Text::from_str(alloc, "/api/v1/payloads")?,
+        authorization: Some(Text::from_str(alloc, "k1 s")?),
+        message_size: Some(2),
+        body: Bytes::from_slice(alloc, b"{}V2\n")?,
+    };
+    write_request(alloc, &mut sink, &post)?;
+    let wanted =
+        b"GET /cvmfs/a/.cvmfspublished HTTP/1.1\r\nHost: localhost:8000\r\nConnection: close\r\nContent-Length: 0\r\n\r\nPOST /api/v1/payloads HTTP/1.1\r\nHost: x\r\nConnection: close\r\nAuthorization: k1 s\r\nMessage-Size: 2\r\nContent-Length: 5\r\n\r\n{}V2\n";
     assert_eq!(rt; sink.as_slice(), wanted.as_slice());
     Ok(())
 }

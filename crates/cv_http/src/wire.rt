@@ -1,19 +1,23 @@
-//! Requests on a stream.
+//! Requests and replies on a stream.
 ghost use Rattle.std.specs.Prelude.{◌≡◌, ◌≢◌, ◌≤◌, ◌<◌, ◌+◌, ◌++◌, ◌⊎◌, ℕ, List, Some, None, Ok, Err, [], length, drop, true, false, min, OnOk, OnErr, IfOk, IfSome, IfErr};
 ghost use Rattle.cv_base.specs.Counts.{HasCause};
 ghost use Rattle.cv_base.specs.Told.{WhereTold};
 ghost use Rattle.cv_ports.specs.Streams.{Look, front};
-ghost use Rattle.cv_http.specs.Heads.{IsAwaited, Unfinished};
+ghost use Rattle.cv_http.specs.Forms.{UnfinishedAs, AwaitedAs};
+ghost use Rattle.cv_http.specs.Heads.{IsAwaited};
 ghost use Rattle.cv_http.specs.HeadEnds.{NoneWithin, may_end};
-ghost use Rattle.cv_http.specs.Wires.{WireView, rest, Gets, Reads, Looks, Beside, HeadFound, HeadRead, BodyRead, PieceRead};
+ghost use Rattle.cv_http.specs.Wires.{WireView, rest, Gets, Reads, Draws, Looks, Beside, HeadFound, HasEnded, HeadReadAs, HeadRead, BodyRead, PieceRead};
+ghost use Rattle.cv_http.specs.ReplyTexts.{IsOpen, IsAwaitedReply, FinalRead, ReplyBodyRead, ReplyRead};
 ghost use Rattle.cv_http.specs.Judgements.{Judges};
-ghost use Rattle.cv_http.specs.Faults.{IsHeadFault, IsBodyFault, IsPieceFault};
+ghost use Rattle.cv_http.specs.Faults.{IsHeadFault, IsBodyFault, IsPieceFault, IsReplyFault};
 ghost use Rattle.cv_http.specs.declared.fault.HttpFault.TheVariants.{Short, ReadFault, NoMemory as MemoryFault};
 
 use crate::fault::HttpFault;
 use crate::head::RequestHead;
 use crate::head_end::has_empty_line;
-use crate::judge::{HEAD_LIMIT, Judged, judge};
+use crate::http_reply::HttpReply;
+use crate::judge::{HEAD_LIMIT, Head, Judged, judge};
+use crate::reply_head::ReplyHead;
 use cv_base::{Bytes, NoMemory};
 use cv_ports::{Sink, Source};
 use httparse::spans::{EMPTY_HEADER_SPAN, HeaderSpan};
@@ -26,7 +30,16 @@ const PIECE: usize = 65_536;
 /// The most header fields that 16,384 bytes can hold: each takes three bytes at least.
 const ROOM: usize = 5_462;
 
-/// A source of requests, with the bytes that it gave and that weren't used yet. It holds at most 16,384 bytes and a
+/// The code of an interim head, 100 Continue (RFC 9110, section 15.2.1).
+const INTERIM_CODE: u16 = 100;
+
+/// The most interim heads of a reply.
+const INTERIM_LIMIT: usize = 16;
+
+/// The most bytes of a reply's body.
+const BODY_LIMIT: usize = 33_554_432;
+
+/// A source of requests or replies, with the bytes that it gave and that weren't used yet. It holds at most 16,384 bytes and a
 /// piece of 65,536, and from the first head on room for the fields of a head.
 #[derive(Drop)]
 pub struct Wire<R: Source + Drop> {
@@ -49,7 +62,7 @@ impl<R: Source + Drop> Model for Wire<R> {
 }
 
 /// Reads a piece to the end of what is held, beside a sink. `false` is the end of the source.
-#[tactic(auto, using(crate::proofs::Streams::reads_on, crate::proofs::Streams::gets_none))]
+#[tactic(auto, using(crate::proofs::Streams::reads_on))]
 fn read_piece<R: Source, W: Sink>(
     source: &mut R,
     piece: &mut [u8],
@@ -58,7 +71,8 @@ fn read_piece<R: Source, W: Sink>(
 ) -> Result<bool, HttpFault>
     requires { 0 < length piece.old }
     ensures stream { front held.new.items (R.left source.new) ≡ front held.old.items (R.left source.old) }
-    ensures gets { Gets (R.left source.old) (R.left source.new) held.old.items held.new.items }
+    ensures gets { Gets R.left R.given (record { source = source.old; held = held.old.items })
+        (record { source = source.new; held = held.new.items }) }
     ensures more { result ≡ Ok true → length held.old.items < length held.new.items }
     ensures lost { OnErr result (held.new.items ≡ held.old.items) }
     ensures end { result ≡ Ok false → (held.new.items ≡ held.old.items) × WhereTold (R.left source.new) (λ left. left ≡ []) }
@@ -126,10 +140,9 @@ impl<R: Source + Drop> Wire<R> {
     }
 
     /// Reads more of the source, beside a sink. `false` is its end.
-    #[tactic(auto, using(crate::proofs::Streams::gets_same))]
     fn fill<W: Sink>(&mut self, beside: &W) -> Result<bool, HttpFault>
         ensures stream { rest R.left self.new ≡ rest R.left self.old }
-        ensures gets { Gets (R.left self.old.source) (R.left self.new.source) self.old.held self.new.held }
+        ensures gets { Gets R.left R.given self.old self.new }
         ensures more { result ≡ Ok true → length self.old.held < length self.new.held }
         ensures lost { OnErr result (self.new.held ≡ self.old.held) }
         ensures end { result ≡ Ok false → (self.new.held ≡ self.old.held) × WhereTold (R.left self.new.source) (λ left. left ≡ []) }
@@ -151,9 +164,9 @@ impl<R: Source + Drop> Wire<R> {
     }
 
     /// Judges what is held.
-    fn judge_held(&mut self, alloc: Global) -> Result<Judged, NoMemory>
+    fn judge_held<H: Head>(&mut self, alloc: Global) -> Result<Judged<H>, NoMemory>
         ensures same { self.new ≡ self.old }
-        ensures judged { IfOk result (Judges self.old.held) }
+        ensures judged { IfOk result (Judges H.form self.old.held) }
     {
         make_room(alloc, &mut self.room)?;
         let (_, held) = self.held.as_slice().split_at(self.used);
@@ -161,8 +174,8 @@ impl<R: Source + Drop> Wire<R> {
     }
 
     /// Takes the head with which what is held begins. `None` where it is a part of one.
-    fn take_head(&mut self, alloc: Global) -> Result<Option<RequestHead>, HttpFault>
-        ensures found { HeadFound Unfinished self.old.held self.new.held result }
+    fn take_head<H: Head>(&mut self, alloc: Global) -> Result<Option<H>, HttpFault>
+        ensures found { HeadFound H.form (UnfinishedAs H.form) self.old.held self.new.held result }
         ensures source { self.new.source ≡ self.old.source }
     {
         let Ok(judged) = self.judge_held(alloc) else {
@@ -189,16 +202,16 @@ impl<R: Source + Drop> Wire<R> {
 
     /// Takes the head with which what is held begins, where none begins with the first bytes, `seen` of them, alone. `None`
     /// where more is to come.
-    fn seek_head(&mut self, alloc: Global, seen: usize) -> Result<Option<RequestHead>, HttpFault>
+    fn seek_head<H: Head>(&mut self, alloc: Global, seen: usize) -> Result<Option<H>, HttpFault>
         requires within { seen ≤ length self.old.held }
-        requires none { NoneWithin seen self.old.held }
-        ensures found { HeadFound IsAwaited self.old.held self.new.held result }
+        requires none { NoneWithin H.form seen self.old.held }
+        ensures found { HeadFound H.form (AwaitedAs H.form) self.old.held self.new.held result }
         ensures source { self.new.source ≡ self.old.source }
     {
         if !self.may_end(seen) {
             return Ok(None);
         }
-        match self.take_head(alloc)? {
+        match self.take_head::<H>(alloc)? {
             Some(head) => Ok(Some(head)),
             None if self.bytes().len() >= HEAD_LIMIT => Err(HttpFault::HeadTooLarge),
             None => Ok(None),
@@ -206,16 +219,41 @@ impl<R: Source + Drop> Wire<R> {
     }
 
     /// Takes the head with which the input ends. `None` where it ended before one.
-    fn end_head(&mut self, alloc: Global) -> Result<Option<RequestHead>, HttpFault>
+    fn end_head<H: Head>(&mut self, alloc: Global) -> Result<Option<H>, HttpFault>
         requires { length self.old.held < 16384 }
-        ensures read { HeadRead self.old.held self.new.held result }
+        ensures read { HeadReadAs H.form self.old.held self.new.held result }
         ensures source { self.new.source ≡ self.old.source }
         ensures faults { result ≢ Err ReadFault }
     {
-        match self.take_head(alloc)? {
+        match self.take_head::<H>(alloc)? {
             Some(head) => Ok(Some(head)),
             None if self.bytes().is_empty() => Ok(None),
             None => Err(HttpFault::Short),
+        }
+    }
+
+    /// Reads the next head of a form. `None` is the end of the input where a head might begin.
+    fn next_head<H: Head, W: Sink>(
+        &mut self,
+        alloc: Global,
+        beside: &W,
+    ) -> Result<Option<H>, HttpFault>
+        ensures reads { Draws R.left R.given self.old self.new (λ b. HeadReadAs H.form b self.new.held result) }
+        ensures nothing_left { result ≡ Ok None → WhereTold (rest R.left self.new) (λ b. b ≡ []) }
+        ensures cut { result ≡ Err Short → WhereTold (R.left self.new.source) (λ left. left ≡ []) }
+        ensures faults { IfErr result IsHeadFault }
+        ensures cause { HasCause (R.faults self.old.source) (R.faults self.new.source) (result ≡ Err ReadFault) }
+        ensures looks { Looks R.left R.looks self.old self.new (Beside (W.passed beside.now) (AwaitedAs H.form)) }
+    {
+        let mut seen = 0;
+        'pieces: loop {
+            if let Some(head) = self.seek_head::<H>(alloc, seen)? {
+                return Ok(Some(head));
+            }
+            seen = self.bytes().len();
+            if !self.fill(beside)? {
+                return self.end_head(alloc);
+            }
         }
     }
 
@@ -235,22 +273,13 @@ impl<R: Source + Drop> Wire<R> {
         ensures cause { HasCause (R.faults self.old.source) (R.faults self.new.source) (result ≡ Err ReadFault) }
         ensures looks { Looks R.left R.looks self.old self.new (Beside (W.passed beside.now) IsAwaited) }
     {
-        let mut seen = 0;
-        'pieces: loop {
-            if let Some(head) = self.seek_head(alloc, seen)? {
-                return Ok(Some(head));
-            }
-            seen = self.bytes().len();
-            if !self.fill(beside)? {
-                return self.end_head(alloc);
-            }
-        }
+        self.next_head(alloc, beside)
     }
 
     /// Holds a byte at least, unless the source is at its end.
     fn has_some<W: Sink>(&mut self, beside: &W) -> Result<bool, HttpFault>
         ensures stream { rest R.left self.new ≡ rest R.left self.old }
-        ensures gets { Gets (R.left self.old.source) (R.left self.new.source) self.old.held self.new.held }
+        ensures gets { Gets R.left R.given self.old self.new }
         ensures some { result ≡ Ok true → 0 < length self.new.held }
         ensures end { result ≡ Ok false → (self.new.held ≡ []) × WhereTold (R.left self.new.source) (λ left. left ≡ []) }
         ensures lost { OnErr result ((self.old.held ≡ []) × (self.new.held ≡ [])) }
@@ -314,6 +343,8 @@ impl<R: Source + Drop> Wire<R> {
         beside: &W,
     ) -> Result<Bytes, HttpFault>
         ensures reads { Reads R.left self.old self.new (λ b. BodyRead size (λ text body. body ≡ text) b self.new.held result) }
+        ensures draws { Draws R.left R.given self.old self.new
+            (λ b. BodyRead size (λ text body. body ≡ text) b self.new.held result) }
         ensures whole { IfOk result (λ body. length body ≡ size) }
         ensures body { IfOk result (λ body. front body (rest R.left self.new) ≡ rest R.left self.old) }
         ensures short { result ≡ Err Short → WhereTold (rest R.left self.old) (λ b. length b < size) }
@@ -334,5 +365,84 @@ impl<R: Source + Drop> Wire<R> {
             }
         }
         Ok(Bytes::new(body))
+    }
+
+    /// Reads the bytes up to the end of the source, the limit of a reply's body at most.
+    fn read_rest<W: Sink>(&mut self, alloc: Global, beside: &W) -> Result<Bytes, HttpFault>
+        ensures reads { Draws R.left R.given self.old self.new
+            (λ b. ReplyBodyRead (HasEnded (R.left self.new.source)) None b self.new.held result) }
+        ensures cause { HasCause (R.faults self.old.source) (R.faults self.new.source) (result ≡ Err ReadFault) }
+        ensures looks { Looks R.left R.looks self.old self.new (Beside (W.passed beside.now) (IsOpen None)) }
+    {
+        let mut body = Vec::new(alloc);
+        'parts: while self.has_some(beside)? {
+            let most = BODY_LIMIT - body.len();
+            if self.bytes().len() > most {
+                return Err(HttpFault::BodyTooLarge);
+            }
+            if self.take_part(&mut body, most).is_err() {
+                return Err(HttpFault::NoMemory);
+            }
+        }
+        Ok(Bytes::new(body))
+    }
+
+    /// Reads the body of a reply, of a stated length or else up to the end of the source.
+    fn reply_body<W: Sink>(
+        &mut self,
+        alloc: Global,
+        length: Option<u64>,
+        beside: &W,
+    ) -> Result<Bytes, HttpFault>
+        ensures reads { Draws R.left R.given self.old self.new
+            (λ b. ReplyBodyRead (HasEnded (R.left self.new.source)) length b self.new.held result) }
+        ensures cut { result ≡ Err Short → HasEnded (R.left self.new.source) }
+        ensures cause { HasCause (R.faults self.old.source) (R.faults self.new.source) (result ≡ Err ReadFault) }
+        ensures looks { Looks R.left R.looks self.old self.new (Beside (W.passed beside.now) (IsOpen length)) }
+    {
+        match length {
+            Some(size) if size > BODY_LIMIT as u64 => Err(HttpFault::BodyTooLarge),
+            Some(size) => self.read_body(alloc, size, beside),
+            None => self.read_rest(alloc, beside),
+        }
+    }
+
+    /// Reads the head of a reply, behind its interim heads.
+    fn final_head<W: Sink>(&mut self, alloc: Global, beside: &W) -> Result<ReplyHead, HttpFault>
+        ensures reads { Draws R.left R.given self.old self.new (λ b. FinalRead b self.new.held result) }
+        ensures cut { result ≡ Err Short → HasEnded (R.left self.new.source) }
+        ensures cause { HasCause (R.faults self.old.source) (R.faults self.new.source) (result ≡ Err ReadFault) }
+        ensures looks { Looks R.left R.looks self.old self.new (Beside (W.passed beside.now) IsAwaitedReply) }
+    {
+        let mut passed = 0;
+        'interim: while passed <= INTERIM_LIMIT {
+            let Some(head) = self.next_head::<ReplyHead, W>(alloc, beside)? else {
+                return Err(HttpFault::Short);
+            };
+            if head.code != INTERIM_CODE {
+                return Ok(head);
+            }
+            passed += 1;
+        }
+        Err(HttpFault::BadHead)
+    }
+
+    /// Reads a reply (RFC 9112, sections 4 and 6): up to 16 interim heads of code 100, which are passed over, a head of
+    /// another code, and a body of at most 33,554,432 bytes, as long as its Content-Length says, or else up to the end of
+    /// the source. Input that ends before a head is cut. After a fault a part of the bytes may be lost.
+    pub fn read_reply<W: Sink>(&mut self, alloc: Global, beside: &W) -> Result<HttpReply, HttpFault>
+        ensures reads { Draws R.left R.given self.old self.new
+            (λ b. ReplyRead (HasEnded (R.left self.new.source)) b self.new.held result) }
+        ensures cut { result ≡ Err Short → HasEnded (R.left self.new.source) }
+        ensures faults { IfErr result IsReplyFault }
+        ensures cause { HasCause (R.faults self.old.source) (R.faults self.new.source) (result ≡ Err ReadFault) }
+        ensures looks { Looks R.left R.looks self.old self.new (Beside (W.passed beside.now) IsAwaitedReply) }
+    {
+        let head = self.final_head(alloc, beside)?;
+        let body = self.reply_body(alloc, head.length, beside)?;
+        Ok(HttpReply {
+            code: head.code,
+            body,
+        })
     }
 }

@@ -1,13 +1,13 @@
-use Rattle.std.proofs.Common.{rules, ◌≡◌, ◌∙◌, List, [], ℕ, drop, ap, sym, refl}
-use Rattle.cv_http.specs.Wires.{WireView, Gets}
+use Rattle.std.proofs.Common.{rules, ◌≡◌, [], ap}
 use Rattle.cv_http.proofs.Streams.{gets_same, looks_one}
 use Rattle.cv_http.proofs.wire.Wire.fill.Goals as goal
 
 pub returns-then-is_err-clause-gets : goal.returns-then-is_err-clause-gets
 returns-then-is_err-clause-gets g c =
     let same : c.drop-drain.new.self.0.items ≡ c.args.self.now.held = search (rules, c.drop-drain.ensures.items, c.self.view_is) in
-    let source : c.args.self.now.source ≡ c.self.inside.source = search (rules, c.self.view_is) in
-    rw (← source) (gets_same (g.R.Source.left c.args.self.now.source) c.args.self.now.held c.drop-drain.new.self.0.items same)
+    let source : c.self.inside.source ≡ c.args.self.now.source = search (rules, c.self.view_is) in
+    gets_same g.R.Source.left g.R.Source.given c.args.self.now (record { source = c.self.inside.source; held = c.drop-drain.new.self.0.items })
+    (ap g.R.Source.left source) (ap g.R.Source.given source) same
 
 pub returns-clause-looks : goal.returns-clause-looks
 returns-clause-looks g c =

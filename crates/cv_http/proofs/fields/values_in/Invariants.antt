@@ -1,7 +1,7 @@
 use Rattle.std.proofs.Common.{◌≡◌, map, take}
 use Rattle.httparse.specs.Spans.{header_bytes}
 use Rattle.cv_http.specs.Fields.{values_of}
-use Rattle.cv_http.proofs.head_parts.values_in.Given as goal
+use Rattle.cv_http.proofs.fields.values_in.Given as goal
 
 abbrev pub invariant-loop-header : goal.invariant-loop-header
 invariant-loop-header l =

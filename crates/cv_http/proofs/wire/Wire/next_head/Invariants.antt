@@ -1,15 +1,15 @@
 use Rattle.std.proofs.Common.{◌≤◌, length, ◌-◌}
 use Rattle.cv_http.specs.Wires.{Gets, Looks, Beside}
-use Rattle.cv_http.specs.Heads.{IsAwaited}
+use Rattle.cv_http.specs.Forms.{AwaitedAs}
 use Rattle.cv_http.specs.HeadEnds.{NoneWithin}
-use Rattle.cv_http.proofs.wire.Wire.read_head.Given as goal
+use Rattle.cv_http.proofs.wire.Wire.next_head.Given as goal
 
 abbrev pub invariant-pieces : goal.invariant-pieces
 invariant-pieces g l = record {
-  gets : Gets (g.R.Source.left l.fn.self.source) (g.R.Source.left l.self.source) l.fn.self.held l.self.held;
-  looks : Looks g.R.Source.left g.R.Source.looks l.fn.self l.self (Beside (g.W.Sink.passed l.beside) IsAwaited);
+  gets : Gets g.R.Source.left g.R.Source.given l.fn.self l.self;
+  looks : Looks g.R.Source.left g.R.Source.looks l.fn.self l.self (Beside (g.W.Sink.passed l.beside) (AwaitedAs g.H.Head.form));
   within : l.seen ≤ length l.self.held;
-  none : NoneWithin l.seen l.self.held;
+  none : NoneWithin g.H.Head.form l.seen l.self.held;
   later : g.R.Source.faults l.fn.self.source ≤ g.R.Source.faults l.self.source;
 }
 

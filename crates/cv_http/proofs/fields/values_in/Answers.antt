@@ -2,8 +2,8 @@ use Rattle.std.proofs.Common.{rules, sym, ap, ◌∙◌}
 use Rattle.std.specs.Prelude.{option_map}
 use Rattle.std.proofs.lemmas.List.{map-append}
 use Rattle.cv_http.proofs.OneMore.{value_found, value_missed}
-use Rattle.cv_http.proofs.head_parts.values_in.Goals.{in-Some+in_ok-push, in_default}
-use Rattle.cv_http.proofs.head_parts.values_in.Goals as goal
+use Rattle.cv_http.proofs.fields.values_in.Goals.{in-Some+in_ok-push, in_default}
+use Rattle.cv_http.proofs.fields.values_in.Goals as goal
 
 pub loop-header-preserved : goal.loop-header-preserved
 loop-header-preserved c =

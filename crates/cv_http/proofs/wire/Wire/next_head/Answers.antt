@@ -1,0 +1,62 @@
+use Rattle.std.proofs.Common.{◌≡◌, ◌≤◌, ◌∙◌, sym, subst, ap, refl, length, length-append, arith, Err}
+use Rattle.std.specs.Prelude.{IfErr}
+use Rattle.cv_http.specs.Forms.{AwaitedAs}
+use Rattle.cv_http.specs.Wires.{Draws, HeadReadAs}
+use Rattle.cv_http.specs.Faults.{IsHeadFault}
+use Rattle.cv_http.specs.declared.fault.HttpFault.TheVariants.{Short, ReadFault}
+use Rattle.cv_http.proofs.HeadEnds.{none_yet, none_at_all, none_on}
+use Rattle.cv_http.proofs.Streams.{gets_same, gets_moved, gets_on, draws_of, draws_reads, read_lost, found_none, by_fault, looks_none, looks_still, head_looks}
+use Rattle.cv_http.proofs.wire.Wire.next_head.Goals as goal
+
+pub pieces-init : goal.pieces-init
+pieces-init g c = record {
+  gets = gets_same g.R.Source.left g.R.Source.given c.args.self.now c.args.self.now refl refl refl;
+  looks = looks_none g.R.Source.left g.R.Source.looks c.args.self.now c.args.self.now _ refl;
+  within = omega arith;
+  none = none_yet g.H.Head.form g.met.H.Head.ends c.args.self.now.held;
+  later = omega arith;
+}
+
+pub returns-in_err-head-clause-reads : goal.returns-in_err-head-clause-reads
+returns-in_err-head-clause-reads g c =
+    by_fault c.from_residual.result _ (λ r. Draws g.R.Source.left g.R.Source.given c.args.self.now c.seek_head.new.self (λ b. HeadReadAs g.H.Head.form b c.seek_head.new.self.held r)) c.from_residual.ensures.1
+    (draws_of g.R.Source.left g.R.Source.given c.args.self.now c.pieces.self c.seek_head.new.self _ c.pieces.invariant.gets c.seek_head.ensures.source
+    (read_lost g.H.Head.form g.met.H.Head.refusal c.pieces.self.held c.seek_head.new.self.held _ c.in_err-head.ensures.found).0)
+
+pub returns-in_err-head-clause-cut : goal.returns-in_err-head-clause-cut
+returns-in_err-head-clause-cut g c = λ is.
+    absurd (by_fault c.from_residual.result _ (λ r. r ≡ Err Short → ⊥) c.from_residual.ensures.1
+    ((read_lost g.H.Head.form g.met.H.Head.refusal c.pieces.self.held c.seek_head.new.self.held _ c.in_err-head.ensures.found).3 _ refl) is)
+
+pub returns-in_err-head-clause-faults : goal.returns-in_err-head-clause-faults
+returns-in_err-head-clause-faults g c =
+    by_fault c.from_residual.result _ (λ r. IfErr r IsHeadFault) c.from_residual.ensures.1
+    (read_lost g.H.Head.form g.met.H.Head.refusal c.pieces.self.held c.seek_head.new.self.held _ c.in_err-head.ensures.found).1
+
+pub returns-in_err-head-clause-cause : goal.returns-in_err-head-clause-cause
+returns-in_err-head-clause-cause g c = record {
+  later = subst (λ s. g.R.Source.faults c.args.self.now.source ≤ g.R.Source.faults s) (sym c.seek_head.ensures.source) c.pieces.invariant.later;
+  failed = λ is.
+      absurd (by_fault c.from_residual.result _ (λ r. r ≡ Err ReadFault → ⊥) c.from_residual.ensures.1
+      ((read_lost g.H.Head.form g.met.H.Head.refusal c.pieces.self.held c.seek_head.new.self.held _ c.in_err-head.ensures.found).2 _ refl) is);
+}
+
+pub pieces-preserved : goal.pieces-preserved
+pieces-preserved g c =
+    let found = found_none g.H.Head.form (AwaitedAs g.H.Head.form) c.pieces.self.held c.seek_head.new.self.held c.in_ok-head.field-0 c.in_ok-head.ensures.found c.in_default.not-Some in
+    let waits : AwaitedAs g.H.Head.form c.seek_head.new.self.held = subst (AwaitedAs g.H.Head.form) (sym found.1) found.0 in
+    let gets = gets_moved g.R.Source.left g.R.Source.given c.args.self.now c.pieces.self c.seek_head.new.self c.pieces.invariant.gets c.seek_head.ensures.source found.1 in
+    let was = subst (λ s. g.R.Source.faults c.args.self.now.source ≤ g.R.Source.faults s) (sym c.seek_head.ensures.source) c.pieces.invariant.later in
+    let read = c.fill.ensures.cause.later in
+    let seen = ap length c.bytes-seen.ensures in
+    let grown = ap length c.fill.ensures.gets.more ∙ length-append c.seek_head.new.self.held c.fill.ensures.gets.got in
+    record {
+      gets = gets_on g.R.Source.left g.R.Source.given c.args.self.now c.seek_head.new.self c.fill.new.self gets c.fill.ensures.gets;
+      looks =
+          head_looks g.R.Source.left g.R.Source.looks g.H.Head.form c.args.self.now c.seek_head.new.self c.fill.new.self _
+          (looks_still g.R.Source.left g.R.Source.looks c.args.self.now c.pieces.self c.seek_head.new.self _ c.pieces.invariant.looks c.seek_head.ensures.source)
+          (draws_reads g.R.Source.left g.R.Source.given c.args.self.now c.seek_head.new.self _ (draws_of g.R.Source.left g.R.Source.given c.args.self.now c.seek_head.new.self c.seek_head.new.self (λ b. b ≡ c.seek_head.new.self.held) gets refl refl)) waits c.fill.ensures.looks;
+      within = omega (arith, seen, grown);
+      none = none_on g.H.Head.form g.met.H.Head.ends (length c.bytes-seen.result.now) c.seek_head.new.self.held c.fill.new.self.held c.fill.ensures.gets.got c.fill.ensures.gets.more (omega (arith, seen)) (none_at_all g.H.Head.form g.met.H.Head.ends (length c.bytes-seen.result.now) waits.none);
+      later = omega (arith, was, read);
+    }
