@@ -1,10 +1,13 @@
 -- Catalogues that are opened at their places.
-use Rattle.std.proofs.Common.{◌≡◌, ◌≢◌, ◌↔◌, ℕ, ◌<◌, ◌≤◌, Bool, List, [], ◌∷◌, length, Ok, Err, Result, None, Some, IsTrue, refl, sym, ap, subst, ◌∙◌, arith, length-append, inl, inr}
-use Rattle.std.specs.Prelude.{Contains, IsSomeAnd, IsErrAnd}
+use Rattle.std.proofs.Common.{◌≡◌, ◌≢◌, ◌↔◌, ℕ, ◌<◌, ◌≤◌, Bool, true, false, List, [], ◌∷◌, length, Ok, Err, Result, None, Some, IsTrue, refl, sym, ap, subst, ◌∙◌, arith, length-append, inl, inr}
+use Rattle.std.specs.Prelude.{Contains, IfSome, IsSomeAnd, IsErrAnd}
+use Rattle.std.specs.Cmp.{tied_itself}
+use Rattle.std.specs.Ordering.{is_eq}
 use Rattle.std.specs.declared.option.Option.{Option}
 use Rattle.std.proofs.lemmas.List.Elements.{All-contains}
 use Rattle.sha1.specs.Sha1.{sha1}
-use Rattle.cv_base.specs.Path.{Path, key_of}
+use Rattle.cv_base.specs.Path.{Path, key_of, same_path}
+use Rattle.cv_base.specs.PathOrder.{path_total, same_path_is}
 use Rattle.cv_base.specs.ObjectId.{object_id}
 use Rattle.cv_base.specs.declared.id.ObjectId.{ObjectId}
 use Rattle.cv_base.specs.declared.id.Kind.TheVariants as id_kind
@@ -16,7 +19,7 @@ use Rattle.cv_rows.specs.declared.nested.Nested.{Nested}
 use Rattle.cv_rows.specs.declared.row_kind.RowKind.TheVariants.{Transition}
 use Rattle.cv_rows.proofs.Lemmas.{stands_contained, same_by_key, fits_there}
 use Rattle.cv_cut.specs.Open.{FitsRow}
-use Rattle.cv_cut.specs.Reached.{ReachedFrom, Reaches, Place, Decodes, HasCatalogue, Misstates, BadFrom}
+use Rattle.cv_cut.specs.Reached.{ReachedFrom, Reaches, Place, Decodes, FitsPlace, HasCatalogue, Misstates, BadFrom}
 use Rattle.cv_cut.specs.Good.{HasSize}
 use Rattle.cv_cut.specs.Opening.{MayFailFrom, IsUnread, Decoded, Fetched, Sizes, Opens, OpensNested, IsTransitionOf, HasOtherDigest, IsUndecodable, IsBadNested, of_size, undecodable, below_id}
 use Rattle.cv_cut.specs.declared.load_fault.LoadFault.{LoadFault}
@@ -238,3 +241,24 @@ module _ (shelf : Shelf) (from : List ℕ) (start : Place) where
     nested_unopened fault.Failed h = tt
     nested_unopened (fault.Damaged x found) h = damaged (below_id n) x found refl nested_reached_id h.0 h.1
     nested_unopened fault.NoMemory h = tt
+
+-- ---- a catalogue at its place
+
+-- of another path
+pub elsewhere : (c : Contents) (at given : Path) (row : Option Row) → at ≡ c.at → same_path at given ≡ false → FitsPlace (record { path = given; row = row }) c → ⊥
+elsewhere c at given row here other fits =
+    let e : true ≡ false = sym (ap is_eq (tied_itself path_total at)) ∙ ap (same_path at) (here ∙ fits.at) ∙ other in
+    cc
+
+-- of its own
+pub of_path : (c : Contents) (at given : Path) → at ≡ c.at → same_path at given ≡ true → c.at ≡ given
+of_path c at given here same = sym here ∙ same_path_is at given same
+
+pub by_row : (c : Contents) (at : Path) (t : Row) (row : Option Row) (b : Bool) → c.at ≡ at → row ≡ Some t → IsTrue b ↔ FitsRow c t → IsTrue b ↔ FitsPlace (record { path = at; row = row }) c
+by_row c at t row b place is test = (
+  λ yes. record { at = place; row = subst (λ (r : Option Row). IfSome r (FitsRow c)) (sym is) (test.0 yes) },
+  λ fits. test.1 (subst (λ (r : Option Row). IfSome r (FitsRow c)) is fits.row),
+)
+
+pub by_none : (c : Contents) (at : Path) (row : Option Row) → c.at ≡ at → row ≡ None → IsTrue true ↔ FitsPlace (record { path = at; row = row }) c
+by_none c at row place is = (λ yes. record { at = place; row = subst (λ (r : Option Row). IfSome r (FitsRow c)) (sym is) tt }, λ fits. refl)

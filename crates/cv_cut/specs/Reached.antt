@@ -21,6 +21,11 @@ pub record Place : Type 0 where
 abbrev pub root_place : Place
 root_place = record { path = []; row = None }
 
+-- a catalogue stands there: it is of its path, and its root row has the fields of the Transition row but for its kind
+pub record FitsPlace (place : Place) (c : Contents) : Type 0 where
+  pub at : c.at ≡ place.path
+  pub row : IfSome place.row (FitsRow c)
+
 -- the bytes decode at a place: they are those of a catalogue of its path, whose root row has the fields of the Transition
 -- row but for its kind
 pub record Decodes (place : Place) (bytes : List ℕ) (c : Contents) : Type 0 where

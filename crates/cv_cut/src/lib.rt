@@ -22,5 +22,5 @@ pub use cut_fault::CutFault;
 pub use cutting::cut;
 pub use load_fault::LoadFault;
 pub use objects::check_size;
-pub use open::opened;
+pub use open::{fits_place, opened};
 pub use tree_cut::Cut;

@@ -2,8 +2,8 @@
 ghost use Rattle.std.specs.Prelude.{◌≡◌, ◌↔◌, IfOk, IsTrue, MatchOption};
 ghost use Rattle.std.specs.Option.{option_copied};
 ghost use Rattle.cv_rows.specs.Catalogue.{Contents, IsCatalogue};
-ghost use Rattle.cv_cut.specs.Reached.{Decodes};
-ghost use Rattle.cv_cut.specs.Open.{FitsRow, IsFitting};
+ghost use Rattle.cv_cut.specs.Reached.{Decodes, FitsPlace};
+ghost use Rattle.cv_cut.specs.Open.{FitsRow};
 
 use cv_base::{NoMemory, RepoPath};
 use cv_rows::{Catalogue, Row, RowFault};
@@ -34,15 +34,18 @@ fn fits_row(catalogue: &Catalogue, at: &RepoPath, transition: &Row) -> bool
     }
 }
 
-/// The catalogue, if it fits the Transition row that names it.
-fn fitting(catalogue: Catalogue, at: &RepoPath, row: Option<&Row>) -> Option<Catalogue>
-    requires rules { IsCatalogue catalogue }
-    requires place { catalogue.at ≡ at.now }
-    ensures { IsFitting catalogue (option_copied row.entry) result }
+/// Whether a catalogue stands at a place: at a path, and with the fields of the Transition row that names it, if one does.
+/// It takes no memory.
+pub fn fits_place(catalogue: &Catalogue, at: &RepoPath, row: Option<&Row>) -> bool
+    requires { IsCatalogue catalogue.now }
+    ensures { IsTrue result ↔ FitsPlace (record { path = at.now; row = option_copied row.entry }) catalogue.now }
 {
+    if catalogue.at() != at {
+        return false;
+    }
     match row {
-        Some(transition) if !fits_row(&catalogue, at, transition) => None,
-        _ => Some(catalogue),
+        Some(transition) => fits_row(catalogue, at, transition),
+        None => true,
     }
 }
 
@@ -59,7 +62,8 @@ pub fn opened(
         (Decodes (record { path = at.now; row = option_copied row.entry }) bytes.now)) }
 {
     match Catalogue::decode(alloc, bytes, at) {
-        Ok(catalogue) => Ok(fitting(catalogue, at, row)),
+        Ok(catalogue) if fits_place(&catalogue, at, row) => Ok(Some(catalogue)),
+        Ok(_) => Ok(None),
         Err(RowFault::NoMemory) => Err(NoMemory),
         Err(_) => Ok(None),
     }

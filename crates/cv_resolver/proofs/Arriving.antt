@@ -1,5 +1,6 @@
 -- What a question finds where its walk ends.
 use Rattle.std.proofs.Common.{◌≡◌, List, ℕ, refl, sym, ap, subst, ◌∙◌}
+use Rattle.std.specs.Prelude.{Contains}
 use Rattle.std.specs.declared.option.Option.TheVariants.{None, Some}
 use Rattle.std.specs.declared.result.Result.{Result}
 use Rattle.std.specs.declared.result.Result.TheVariants.{Ok}
@@ -21,6 +22,7 @@ use Rattle.cv_cut.specs.Region.{IsNear, row_at}
 use Rattle.cv_cut.specs.Told.{hash_of, node_as, node_of}
 use Rattle.cv_cut.proofs.Lemmas.{region_apart, rows_are, stands, stands_at_cut}
 use Rattle.cv_resolver.specs.Entry.{entry_kind}
+use Rattle.cv_resolver.specs.Naming.{NamesFile}
 use Rattle.cv_resolver.specs.Spot.{IsSpot, IsOwn}
 use Rattle.cv_resolver.specs.Look.{Finding, Names, Content, content_at, names_at, names_in}
 use Rattle.cv_resolver.specs.Listing.{AreNames}
@@ -35,15 +37,22 @@ pub has_content : (c : Contents) (r : Row) (q : Path) → IsCatalogue c → Stan
 has_content c r q is st = (All-contains IsRow c.rows r (All-from_recursion IsRow c.rows is.region.spelled) (stands_contained st)).content
 
 -- a row that has a hash is a file's
-pub file_found : (r : Row) (hash : List ℕ) → HasContent r.kind r.size r.hash r.target → r.hash ≡ Some hash → (f : FileRef) × (content_at (Some (node_of r)) ≡ Ok (Content f)) × (f.hash ≡ hash)
-file_found r hash has is = by r.kind has
+is_file : (r : Row) (hash : List ℕ) → HasContent r.kind r.size r.hash r.target → r.hash ≡ Some hash → r.kind ≡ kind.File
+is_file r hash has is = by r.kind has
   where
-    by : (k : RowKind) → HasContent k r.size r.hash r.target → (f : FileRef) × (content_at (Some (node_as k r)) ≡ Ok (Content f)) × (f.hash ≡ hash)
-    by kind.File h = (record { hash = hash_of r.hash; size = r.size }, refl, ap hash_of is)
+    by : (k : RowKind) → HasContent k r.size r.hash r.target → k ≡ kind.File
+    by kind.File h = refl
     by kind.Directory h = absurd (let e : Some hash ≡ None = sym is ∙ h.1 in cc)
     by kind.Transition h = absurd (let e : Some hash ≡ None = sym is ∙ h.1 in cc)
     by kind.NestedRoot h = absurd (let e : Some hash ≡ None = sym is ∙ h.1 in cc)
     by kind.Link h = absurd (let e : Some hash ≡ None = sym is ∙ h.1 in cc)
+
+pub file_found : (r : Row) (hash : List ℕ) → HasContent r.kind r.size r.hash r.target → r.hash ≡ Some hash → (f : FileRef) × (content_at (Some (node_of r)) ≡ Ok (Content f)) × (f.hash ≡ hash)
+file_found r hash has is =
+    (record { hash = hash_of r.hash; size = r.size }, ap (λ (k : RowKind). content_at (Some (node_as k r))) (is_file r hash has is), ap hash_of is)
+
+pub file_wanted : (r : Row) (hash : List ℕ) (c : Contents) → HasContent r.kind r.size r.hash r.target → r.hash ≡ Some hash → Contains c.rows r → NamesFile c hash
+file_wanted r hash c has is there = record { row = r; there = there; kind = is_file r hash has is; digest = is }
 
 -- ---- in a tree
 

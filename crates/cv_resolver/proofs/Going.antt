@@ -6,6 +6,7 @@ use Rattle.std.specs.declared.result.Result.TheVariants.{Ok, Err}
 use Rattle.cv_base.specs.Path.{Path}
 use Rattle.std.specs.declared.option.Option.TheVariants.{None}
 use Rattle.cv_tree.specs.Tree.{Nodes, IsTree}
+use Rattle.cv_rows.specs.Catalogue.{Contents}
 use Rattle.cv_cut.specs.Catalogues.{root_of, Fits}
 use Rattle.cv_resolver.specs.Walk.{Name, Trail, is_last, walk}
 use Rattle.cv_resolver.specs.Asking.{is_stat, path_of_question}
@@ -13,7 +14,9 @@ use Rattle.cv_resolver.specs.Spot.{StandsIn, levels_of}
 use Rattle.cv_resolver.specs.Start.{IsStart}
 use Rattle.cv_resolver.specs.declared.spot.Level.{Level}
 use Rattle.cv_resolver.specs.Pass.{Continues}
-use Rattle.cv_resolver.specs.Step.{trail_from, IsStep}
+use Rattle.cv_resolver.specs.Step.{trail_from, IsStep, steps_left, HasFewer, stepped_levels}
+use Rattle.cv_resolver.specs.Naming.{AreKnown}
+use Rattle.cv_resolver.specs.Progress.{ArrivesAt, StepsTo}
 use Rattle.cv_resolver.specs.Look.{Finding, found_at, finding_of, look, trail}
 use Rattle.cv_resolver.specs.Stage.{IsFoundBy, IsStage}
 use Rattle.cv_resolver.specs.declared.question.Question.{Question}
@@ -36,6 +39,17 @@ none_left (n ∷ ns) h = cc
 pub some_left : (names : List Name) → is_last names ≡ false → names ≢ []
 some_left [] h = absurd cc
 some_left (n ∷ ns) h = λ e. cc
+
+-- ---- steps by a catalogue
+
+pub arrived_step : {E : Type 0} (c : Contents) (w : Walk) (r : Result Stage E) → IfOk r (ArrivesAt c) → IfOk r (StepsTo c w)
+arrived_step c w (Err e) h = tt
+arrived_step c w (Ok (Walks next)) h = absurd h
+arrived_step c w (Ok (Reads hash)) h = h
+arrived_step c w (Ok (Ends answer)) h = h
+
+pub stepped_on : (c : Contents) (w next : Walk) (s : Step) → s ≡ On next → HasFewer (steps_left w) s → AreKnown c (levels_of w.spot) (stepped_levels s) → StepsTo c w (Walks next)
+stepped_on c w next s is few known = (subst (HasFewer (steps_left w)) is few, subst (λ (x : Step). AreKnown c (levels_of w.spot) (stepped_levels x)) is known)
 
 -- ---- in a tree
 
@@ -60,6 +74,9 @@ module _ (repository : List ℕ) (t : Nodes) (q : Question) where
   stepped b w next s same is step on =
       let here = subst (λ (x : Bool). IsStep repository t x (trail_from repository t x w) (On next)) same (subst (λ (x : Step). IsStep repository t b (trail_from repository t b w) x) is step) in
       (here.0, through _ _ _ on.1 here.1)
+
+pub begins_at : (root : List ℕ) (path asked : Path) (w : Walk) → path ≡ asked → IsStart root path w → IsStart root asked w
+begins_at root path asked w same is = subst (λ (p : Path). IsStart root p w) same is
 
 -- a walk that begins is that of the question
 pub started : (repository : List ℕ) (t : Nodes) (q : Question) (root : List ℕ) (path : Path) (w : Walk) → IsTree t → Fits t → root ≡ root_of t → path ≡ path_of_question q → IsStart root path w → IsStage repository t q (Walks w)

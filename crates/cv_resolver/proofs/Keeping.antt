@@ -1,23 +1,22 @@
 -- The catalogues that a client keeps.
 use Rattle.std.proofs.Common.{◌≡◌, ℕ, ◌↔◌, Bool, IsTrue, List, [], ◌∷◌, sym, ap, subst, ◌∙◌, inl, inr, OnOk, OnErr, bytes_eq}
 use Rattle.std.specs.Prelude.{Contains}
+use Rattle.std.specs.declared.option.Option.{Option}
 use Rattle.std.specs.declared.option.Option.TheVariants.{Some}
 use Rattle.std.specs.declared.result.Result.{Result}
 use Rattle.std.specs.declared.result.Result.TheVariants.{Ok, Err}
-use Rattle.std.specs.Cmp.{tied_itself}
 use Rattle.std.specs.Map.{lookup}
-use Rattle.std.specs.Ordering.{is_eq}
 use Rattle.std.proofs.lemmas.List.Elements.{Contains-push}
 use Rattle.std.proofs.lemmas.Slice.Eq.{bytes_eq-Decides}
-use Rattle.lru.specs.LruCache.{lru_cache, promoted, put_entries}
+use Rattle.lru.specs.LruCache.{promoted, put_entries}
 use Rattle.lru.proofs.CallerLemmas.{Contains-lookup, Contains-promoted, Contains-put_entries}
-use Rattle.cv_base.specs.Path.{Path, same_path}
-use Rattle.cv_base.specs.PathOrder.{path_total, same_path_is}
 use Rattle.cv_tree.specs.Tree.{Nodes}
 use Rattle.cv_rows.specs.Catalogue.{Contents, catalogue_bytes}
+use Rattle.cv_rows.specs.declared.row.Row.{Row}
+use Rattle.cv_cut.specs.Reached.{FitsPlace}
 use Rattle.cv_cut.proofs.Lemmas.{comes_from, goes_to}
-use Rattle.cv_resolver.specs.Kept.{Kept, IsKept, AreKept, Holds, Uses, none, one, AreOwn, kept_bytes}
-use Rattle.cv_resolver.specs.Giving.{with_catalogue}
+use Rattle.cv_resolver.specs.Spot.{place_of}
+use Rattle.cv_resolver.specs.Kept.{Kept, IsKept, AreKept, Holds, used, with_catalogue, AreOwn, kept_bytes}
 use Rattle.cv_resolver.specs.declared.spot.Level.{Level}
 
 -- what is found under a digest is there under it
@@ -27,17 +26,25 @@ found_in es hash c found =
     let key : hash ≡ f.0 = (bytes_eq-Decides hash f.0).0 f.2 in
     subst (λ (h : List ℕ). Contains es (h, c)) (sym key) f.1
 
-pub holds_here : (k view : Kept) (l : Level) (c : Contents) (at : Path) (b : Bool) → view ≡ k → Some c ≡ lookup (bytes_eq l.hash) view.entries → at ≡ c.at → b ≡ same_path at l.path → IsTrue b ↔ Holds k l
-holds_here k view l c at b same found place test = (
+pub there_found : (k view : Kept) (l : Level) (c : Contents) → view ≡ k → Some c ≡ lookup (bytes_eq l.hash) view.entries → lookup (bytes_eq l.hash) k.entries ≡ Some c
+there_found k view l c same found = subst (λ (x : Kept). lookup (bytes_eq l.hash) x.entries ≡ Some c) same (sym found)
+
+pub place_found : (k view : Kept) (l : Level) (c : Contents) → view ≡ k → Some c ≡ lookup (bytes_eq l.hash) view.entries → Holds k l → FitsPlace (place_of l) c
+place_found k view l c same found h =
+    let both : Some c ≡ Some h.found = sym (there_found k view l c same found) ∙ h.there in
+    let one : c ≡ h.found = cc in
+    subst (FitsPlace (place_of l)) (sym one) h.place
+
+pub holds_here : (k view : Kept) (l : Level) (c : Contents) (row : Option Row) (b : Bool) → view ≡ k → Some c ≡ lookup (bytes_eq l.hash) view.entries → row ≡ l.row
+    → IsTrue b ↔ FitsPlace (record { path = l.path; row = row }) c → IsTrue b ↔ Holds k l
+holds_here k view l c row b same found rows test = (
   λ yes. record {
     found = c;
-    there = subst (λ (x : Kept). lookup (bytes_eq l.hash) x.entries ≡ Some c) same (sym found);
-    place = sym place ∙ same_path_is at l.path (sym test ∙ yes);
+    there = there_found k view l c same found;
+    place = subst (λ (x : Option Row). FitsPlace (record { path = l.path; row = x }) c) rows (test.0 yes);
   },
   λ h.
-      let both : Some c ≡ Some h.found = found ∙ subst (λ (x : Kept). lookup (bytes_eq l.hash) x.entries ≡ Some h.found) (sym same) h.there in
-      let one : c ≡ h.found = cc in
-      test ∙ ap (λ (p : Path). same_path p l.path) (place ∙ ap (λ (x : Contents). x.at) one ∙ h.place) ∙ ap is_eq (tied_itself path_total l.path),
+      test.1 (subst (λ (x : Option Row). FitsPlace (record { path = l.path; row = x }) c) (sym rows) (place_found k view l c same found h)),
 )
 
 -- ---- each is kept under its digest
@@ -59,27 +66,17 @@ pub kept_put : {X E : Type 0} (k after : Kept) (r : Result X E) (hash : List ℕ
 kept_put k after (Ok x) hash c kept new put failed = subst (λ (x : Kept). AreKept x.entries) (sym put) (kept_one k hash c kept new)
 kept_put k after (Err e) hash c kept new put failed = subst (λ (x : Kept). AreKept x.entries) (sym failed) kept
 
--- ---- uses
-
--- one more
-pub used_more : {a : Kept} (b after : Kept) (hash : List ℕ) → Uses a b → after ≡ lru_cache (promoted (bytes_eq hash) b.entries) b.cap → Uses a after
-used_more {a} b after hash u is = subst (Uses a) (sym is) (one b hash u)
-
 -- ---- in a tree
-
-among : {a b : Kept} → Uses a b → (e : List ℕ × Contents) → Contains b.entries e → Contains a.entries e
-among none e has = has
-among (one after hash u) e has = among u e (Contains-promoted (bytes_eq hash) after.entries e has)
 
 abbrev bytes_in : List ℕ × Contents → List ℕ
 bytes_in e = catalogue_bytes e.1
 
--- catalogues that were used share no digest where they didn't before
-pub own_used : (t : Nodes) {a b : Kept} → Uses a b → AreOwn t (kept_bytes a) → AreOwn t (kept_bytes b)
-own_used t {a} {b} u own = record {
+-- a catalogue that was used shares no digest where it didn't before
+pub own_used : (t : Nodes) (k : Kept) (hash : List ℕ) → AreOwn t (kept_bytes k) → AreOwn t (kept_bytes (used k hash))
+own_used t k hash own = record {
   own = λ bytes c has cut same.
-      let e = comes_from bytes_in b.entries bytes has in
-      let there : Contains (kept_bytes a) bytes = subst (Contains (kept_bytes a)) e.2 (goes_to bytes_in a.entries e.0 (among u e.0 e.1)) in
+      let e = comes_from bytes_in (promoted (bytes_eq hash) k.entries) bytes has in
+      let there : Contains (kept_bytes k) bytes = subst (Contains (kept_bytes k)) e.2 (goes_to bytes_in k.entries e.0 (Contains-promoted (bytes_eq hash) k.entries e.0 e.1)) in
       own.own bytes c there cut same;
 }
 

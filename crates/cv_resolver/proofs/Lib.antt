@@ -1,11 +1,13 @@
 mod Examples
 mod Steps
 mod Spots
+mod Naming
 mod Entering
 mod Passing
 mod Following
 mod Ways
 mod Keeping
+mod Progressing
 mod Names
 mod Arriving
 mod Going

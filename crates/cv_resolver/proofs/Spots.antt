@@ -1,5 +1,5 @@
 -- The places at which a walk stands, and the cuts that cover them.
-use Rattle.std.proofs.Common.{◌≡◌, ◌≢◌, ℕ, ◌+◌, Bool, true, false, List, [], ◌∷◌, ◌++◌, length, map, take, refl, sym, ap, subst, ◌∙◌, length-append, arith, ◌⊎◌, inl, inr, IsSome, is_some}
+use Rattle.std.proofs.Common.{◌≡◌, ◌≢◌, ℕ, ◌+◌, Bool, true, false, List, [], ◌∷◌, ◌++◌, length, map, take, refl, sym, ap, subst, ◌∙◌, length-append, arith, ◌⊎◌, inl, inr, IsSome, is_some, bytes_eq}
 use Rattle.std.specs.Prelude.{Contains, IfOk, IsSomeAnd, MatchOption}
 use Rattle.std.specs.declared.result.Result.{Result}
 use Rattle.std.specs.declared.result.Result.TheVariants.{Ok, Err}
@@ -25,13 +25,15 @@ use Rattle.cv_rows.specs.declared.row_kind.RowKind.TheVariants as kind
 use Rattle.cv_cut.specs.Cuts.{is_cut}
 use Rattle.cv_cut.specs.Catalogues.{cat, contents_of, root_of, Fits}
 use Rattle.cv_cut.specs.Over.{cuts_over, IsNearest}
-use Rattle.cv_cut.specs.Reached.{Decodes}
+use Rattle.std.specs.Map.{lookup}
+use Rattle.cv_cut.specs.Reached.{Decodes, FitsPlace}
 use Rattle.cv_cut.specs.Told.{node_of}
 use Rattle.cv_cut.proofs.Lemmas.{entry_tells, goes_to as member_of_map, last_some, more_over, nearest, nested_decodes, one_decoding, region_apart, root_decodes, row_tells, row_tells_cut, same_ends, same_over, some_last}
 use Rattle.cv_resolver.specs.Kept.{Kept, IsKept, AreOwn, kept_bytes}
 use Rattle.cv_resolver.specs.Spot.{IsLevel, StandsIn, IsSpot, levels_of, place_of}
 use Rattle.cv_resolver.specs.declared.spot.Level.{Level}
 use Rattle.cv_resolver.specs.declared.spot.Spot.{Spot}
+use Rattle.cv_resolver.proofs.Keeping.{found_in}
 
 abbrev level : Path → List ℕ → Option Row → Level
 level p hash row = record { path = p; hash = hash; row = row }
@@ -247,9 +249,9 @@ own_catalogue t l bytes row (Ok None) rows h same known apart = absurd (given_de
 own_catalogue t l bytes row (Ok (Some c)) rows h same known apart = given_is t l bytes c known same (λ e. apart.own bytes l.path (Contains-push [] bytes) known.cut e) (subst (λ (x : Option Row). Decodes (record { path = l.path; row = x }) bytes c) rows h)
 
 -- and a catalogue that is kept is that of the cut, unless other bytes share its digest
-pub kept_is : (t : Nodes) (l : Level) (k : Kept) (c : Contents) → IsLevel t l → AreOwn t (kept_bytes k) → IsKept l.hash c → c.at ≡ l.path → Contains k.entries (l.hash, c) → c ≡ contents_of t l.path
+pub kept_is : (t : Nodes) (l : Level) (k : Kept) (c : Contents) → IsLevel t l → AreOwn t (kept_bytes k) → IsKept l.hash c → FitsPlace (place_of l) c → lookup (bytes_eq l.hash) k.entries ≡ Some c → c ≡ contents_of t l.path
 kept_is t l k c known own kept place has =
-    let among : Contains (kept_bytes k) (catalogue_bytes c) = member_of_map (λ (e : List ℕ × Contents). catalogue_bytes e.1) k.entries (l.hash, c) has in
-    one_decoding (record { path = l.path; row = None }) (cat t l.path) c (contents_of t l.path)
-    (record { at = place; is = kept.is; spelled = sym (own.own (catalogue_bytes c) l.path among known.cut (sym kept.digest ∙ known.hash)); row = tt })
-    (record { at = known.decodes.at; is = known.decodes.is; spelled = known.decodes.spelled; row = tt })
+    let among : Contains (kept_bytes k) (catalogue_bytes c) = member_of_map (λ (e : List ℕ × Contents). catalogue_bytes e.1) k.entries (l.hash, c) (found_in k.entries l.hash c (sym has)) in
+    one_decoding (place_of l) (cat t l.path) c (contents_of t l.path)
+    (record { at = place.at; is = kept.is; spelled = sym (own.own (catalogue_bytes c) l.path among known.cut (sym kept.digest ∙ known.hash)); row = place.row })
+    known.decodes

@@ -13,16 +13,19 @@ use Rattle.cv_rows.specs.Catalogue.{Contents}
 use Rattle.cv_cut.specs.Reached.{Decodes}
 use Rattle.cv_cut.proofs.Lemmas.{not_false}
 use Rattle.cv_resolver.specs.Spot.{place_of}
-use Rattle.cv_resolver.specs.Kept.{Kept, Uses, AreOwn, kept_bytes}
-use Rattle.cv_resolver.specs.Giving.{TakesCatalogue, opened, bad, no_memory, Takes, nothing, other, content, catalogue, with_catalogue}
-use Rattle.cv_resolver.specs.Stage.{IsBlameless, wanted_by}
+use Rattle.cv_resolver.specs.Kept.{Kept, AreOwn, kept_bytes, with_catalogue}
+use Rattle.cv_resolver.specs.Progress.{Leads}
+use Rattle.cv_resolver.specs.Giving.{TakesCatalogue, opened, bad, no_memory, Takes, nothing, other, content, catalogue}
+use Rattle.cv_resolver.specs.Stage.{wanted_by}
 use Rattle.cv_resolver.specs.declared.spot.Level.{Level}
+use Rattle.cv_resolver.specs.declared.question.Question.{Question}
 use Rattle.cv_resolver.specs.declared.walk.Walk.{Walk}
 use Rattle.cv_resolver.specs.declared.found.Found.TheVariants.{Bytes}
 use Rattle.cv_resolver.specs.declared.found.ClientFault.TheVariants.{BadObject}
 use Rattle.cv_resolver.specs.declared.stage.Stage.{Stage}
 use Rattle.cv_resolver.specs.declared.stage.Stage.TheVariants.{Walks, Reads, Ends}
-use Rattle.cv_resolver.proofs.Keeping.{own_put, own_used}
+use Rattle.cv_resolver.proofs.Keeping.{own_put}
+use Rattle.cv_resolver.proofs.Progressing.{own_going}
 
 -- what was opened decodes
 pub decoded : (l : Level) (bytes : List ℕ) (found : Option Contents) (c : Contents) → found ≡ Some c → MatchOption found ((d : Contents) → Decodes (place_of l) bytes d → ⊥) (Decodes (place_of l) bytes) → Decodes (place_of l) bytes c
@@ -32,8 +35,8 @@ pub not_none : (P : Contents → Type 0) (o : Option Contents) → o ≡ None �
 not_none P o is h = subst (λ (x : Option Contents). IsSomeAnd x P) is h
 
 -- a catalogue that was opened is kept
-pub takes_opened : (k put after : Kept) (l : Level) (bytes : List ℕ) (c : Contents) (s : Stage) → Decodes (place_of l) bytes c → put ≡ with_catalogue k l.hash c → Uses put after → IsBlameless s → TakesCatalogue k l bytes after s
-takes_opened k put after l bytes c s decodes is used blameless = opened c decodes (subst (λ (x : Kept). Uses x after) is used) blameless
+pub takes_opened : (repository : List ℕ) (q : Question) (k put after : Kept) (w : Walk) (bytes : List ℕ) (c : Contents) (s : Stage) → Decodes (place_of w.spot.level) bytes c → put ≡ with_catalogue k w.spot.level.hash c → Leads repository q put w after s → TakesCatalogue repository q k w bytes after s
+takes_opened repository q k put after w bytes c s decodes is goes = opened c decodes (subst (λ (x : Kept). Leads repository q x w after s) is goes)
 
 abbrev ended : ObjectId → List ℕ → Stage
 ended id found = Ends (Err (BadObject id found))
@@ -56,30 +59,30 @@ differ a b r is differs same =
 pub agree : (a b : List ℕ) (r : Bool) → r ≡ not (bytes_eq a b) → r ≡ false → a ≡ b
 agree a b r is same = (bytes_eq-Decides a b).0 (not_false (bytes_eq a b) (sym is ∙ same))
 
-pub takes_other : (k : Kept) (was : Stage) (given : Option (List ℕ)) (id : ObjectId) (bytes found : List ℕ) (r : Bool) → wanted_by was ≡ Some id → given ≡ Some bytes → found ≡ sha1 bytes → r ≡ not (bytes_eq found id.hash) → r ≡ true
-    → Takes k was given k (Ends (Err (BadObject id found)))
-takes_other k was given id bytes found r wants is digest test differs =
+pub takes_other : (repository : List ℕ) (q : Question) (k : Kept) (was : Stage) (given : Option (List ℕ)) (id : ObjectId) (bytes found : List ℕ) (r : Bool) → wanted_by was ≡ Some id → given ≡ Some bytes → found ≡ sha1 bytes → r ≡ not (bytes_eq found id.hash) → r ≡ true
+    → Takes repository q k was given k (Ends (Err (BadObject id found)))
+takes_other repository q k was given id bytes found r wants is digest test differs =
     other id bytes wants is (λ same. differ found id.hash r test differs (digest ∙ same)) refl (ap (λ (d : List ℕ). ended id d) digest)
 
-pub takes_walk : (k after : Kept) (was s : Stage) (given : Option (List ℕ)) (id : ObjectId) (bytes view found : List ℕ) (w : Walk) → wanted_by was ≡ Some id → given ≡ Some bytes → found ≡ sha1 bytes → found ≡ id.hash → was ≡ Walks w → view ≡ bytes
-    → TakesCatalogue k w.spot.level view after s → Takes k was given after s
-takes_walk k after was s given id bytes view found w wants is digest same walks bytes_are takes =
-    catalogue w bytes walks is (sym digest ∙ same ∙ sym (walk_hash w was id walks wants)) (subst (λ (b : List ℕ). TakesCatalogue k w.spot.level b after s) bytes_are takes)
+pub takes_walk : (repository : List ℕ) (q : Question) (k after : Kept) (was s : Stage) (given : Option (List ℕ)) (id : ObjectId) (bytes view found : List ℕ) (w : Walk) → wanted_by was ≡ Some id → given ≡ Some bytes → found ≡ sha1 bytes → found ≡ id.hash → was ≡ Walks w → view ≡ bytes
+    → TakesCatalogue repository q k w view after s → Takes repository q k was given after s
+takes_walk repository q k after was s given id bytes view found w wants is digest same walks bytes_are takes =
+    catalogue w bytes walks is (sym digest ∙ same ∙ sym (walk_hash w was id walks wants)) (subst (λ (b : List ℕ). TakesCatalogue repository q k w b after s) bytes_are takes)
 
-pub takes_file : (k : Kept) (was : Stage) (given : Option (List ℕ)) (id : ObjectId) (bytes found hash : List ℕ) → wanted_by was ≡ Some id → given ≡ Some bytes → found ≡ sha1 bytes → found ≡ id.hash → was ≡ Reads hash
-    → Takes k was given k (Ends (Ok (Bytes bytes)))
-takes_file k was given id bytes found hash wants is digest same reads = content hash bytes reads is (sym digest ∙ same ∙ sym (file_hash hash was id reads wants)) refl refl
+pub takes_file : (repository : List ℕ) (q : Question) (k : Kept) (was : Stage) (given : Option (List ℕ)) (id : ObjectId) (bytes found hash : List ℕ) → wanted_by was ≡ Some id → given ≡ Some bytes → found ≡ sha1 bytes → found ≡ id.hash → was ≡ Reads hash
+    → Takes repository q k was given k (Ends (Ok (Bytes bytes)))
+takes_file repository q k was given id bytes found hash wants is digest same reads = content hash bytes reads is (sym digest ∙ same ∙ sym (file_hash hash was id reads wants)) refl refl
 
 -- ---- in a tree, what is kept afterwards shares no digest
 
-own_catalogue : (t : Nodes) (k after : Kept) (l : Level) (bytes : List ℕ) (s : Stage) → TakesCatalogue k l bytes after s → AreOwn t (kept_bytes k) → AreOwn t (bytes ∷ []) → AreOwn t (kept_bytes after)
-own_catalogue t k after l bytes s (opened c decodes used blameless) own new = own_used t used (own_put t k l.hash bytes c decodes.spelled own new)
-own_catalogue t k after l bytes s (bad none same is) own new = subst (λ (x : Kept). AreOwn t (kept_bytes x)) (sym same) own
-own_catalogue t k after l bytes s (no_memory same is) own new = subst (λ (x : Kept). AreOwn t (kept_bytes x)) (sym same) own
+own_catalogue : (t : Nodes) (repository : List ℕ) (q : Question) (k after : Kept) (w : Walk) (bytes : List ℕ) (s : Stage) → TakesCatalogue repository q k w bytes after s → AreOwn t (kept_bytes k) → AreOwn t (bytes ∷ []) → AreOwn t (kept_bytes after)
+own_catalogue t repository q k after w bytes s (opened c decodes goes) own new = own_going t goes (own_put t k w.spot.level.hash bytes c decodes.spelled own new)
+own_catalogue t repository q k after w bytes s (bad none same is) own new = subst (λ (x : Kept). AreOwn t (kept_bytes x)) (sym same) own
+own_catalogue t repository q k after w bytes s (no_memory same is) own new = subst (λ (x : Kept). AreOwn t (kept_bytes x)) (sym same) own
 
-pub own_after : (t : Nodes) (k after : Kept) (was s : Stage) (given : Option (List ℕ)) → Takes k was given after s → AreOwn t (kept_bytes k) → AreOwn t (option_to_list given) → AreOwn t (kept_bytes after)
-own_after t k after was s given (nothing id wants is same ends) own new = subst (λ (x : Kept). AreOwn t (kept_bytes x)) (sym same) own
-own_after t k after was s given (other id bytes wants is differs same ends) own new = subst (λ (x : Kept). AreOwn t (kept_bytes x)) (sym same) own
-own_after t k after was s given (content hash bytes reads is digest same ends) own new = subst (λ (x : Kept). AreOwn t (kept_bytes x)) (sym same) own
-own_after t k after was s given (catalogue w bytes walks is digest takes) own new =
-    own_catalogue t k after w.spot.level bytes s takes own (subst (λ (x : Option (List ℕ)). AreOwn t (option_to_list x)) is new)
+pub own_after : (t : Nodes) (repository : List ℕ) (q : Question) (k after : Kept) (was s : Stage) (given : Option (List ℕ)) → Takes repository q k was given after s → AreOwn t (kept_bytes k) → AreOwn t (option_to_list given) → AreOwn t (kept_bytes after)
+own_after t repository q k after was s given (nothing id wants is same ends) own new = subst (λ (x : Kept). AreOwn t (kept_bytes x)) (sym same) own
+own_after t repository q k after was s given (other id bytes wants is differs same ends) own new = subst (λ (x : Kept). AreOwn t (kept_bytes x)) (sym same) own
+own_after t repository q k after was s given (content hash bytes reads is digest same ends) own new = subst (λ (x : Kept). AreOwn t (kept_bytes x)) (sym same) own
+own_after t repository q k after was s given (catalogue w bytes walks is digest takes) own new =
+    own_catalogue t repository q k after w bytes s takes own (subst (λ (x : Option (List ℕ)). AreOwn t (option_to_list x)) is new)

@@ -22,13 +22,12 @@ use Rattle.cv_resolver.specs.Pass.{Continues, behind_link}
 use Rattle.cv_resolver.specs.Step.{trail_from}
 use Rattle.cv_resolver.specs.Look.{trail, look, IsAnswer, OnWay, catalogue, file as file_way}
 use Rattle.cv_resolver.specs.Stage.{IsStage, wanted_by}
-use Rattle.cv_resolver.specs.Resolver.{IsOn, IsAskedOn, answer_by, answer_in, question_of, wanted_in}
+use Rattle.cv_resolver.specs.Resolver.{Client, IsOn, IsAskedOn, answer_by, answer_in, question_of, wanted_in}
 use Rattle.cv_resolver.specs.declared.found.Found.{Found}
 use Rattle.cv_resolver.specs.declared.found.ClientFault.{ClientFault}
 use Rattle.cv_resolver.specs.declared.stage.Stage.{Stage}
 use Rattle.cv_resolver.specs.declared.stage.Stage.TheVariants.{Walks, Reads, Ends}
 use Rattle.cv_resolver.specs.declared.resolver.Asked.{Asked}
-use Rattle.cv_resolver.specs.declared.resolver.Resolver.{Resolver}
 use Rattle.cv_resolver.specs.declared.question.Question.{Question}
 use Rattle.cv_resolver.specs.declared.walk.Walk.{Walk}
 use Rattle.cv_resolver.proofs.Steps as go
@@ -84,7 +83,7 @@ way_of repository t q (Reads hash) on = subst (λ (h : List ℕ). OnWay reposito
 way_of repository t q (Ends answer) on = tt
 
 -- so is what a resolver wants
-pub wanted_way : (r : Resolver) (t : Nodes) (q : Question) (id : Option ObjectId) → id ≡ wanted_in r.asked → IsOn t r → question_of r ≡ Some q → IfSome id (OnWay r.name t q)
+pub wanted_way : (r : Client) (t : Nodes) (q : Question) (id : Option ObjectId) → id ≡ wanted_in r.asked → IsOn t r → question_of r ≡ Some q → IfSome id (OnWay r.name t q)
 wanted_way r t q id is on asks = subst (λ (o : Option ObjectId). IfSome o (OnWay r.name t q)) (sym is) (by r.asked on.asked asks)
   where
     by : (a : Option Asked) → IsAskedOn r.name t a → option_map (λ x. x.question) a ≡ Some q → IfSome (wanted_in a) (OnWay r.name t q)
@@ -94,7 +93,7 @@ wanted_way r t q id is on asks = subst (λ (o : Option ObjectId). IfSome o (OnWa
         subst (λ (x : Question). IfSome (wanted_by a.stage) (OnWay r.name t x)) one (way_of r.name t a.question a.stage there)
 
 -- and its answer is that in the tree
-pub answer_there : (r : Resolver) (t : Nodes) (q : Question) (answer : Option (Result Found ClientFault)) → answer ≡ answer_in r.asked → IsOn t r → question_of r ≡ Some q → IfSome answer (IsAnswer (look r.name t q))
+pub answer_there : (r : Client) (t : Nodes) (q : Question) (answer : Option (Result Found ClientFault)) → answer ≡ answer_in r.asked → IsOn t r → question_of r ≡ Some q → IfSome answer (IsAnswer (look r.name t q))
 answer_there r t q answer is on asks = subst (λ (o : Option (Result Found ClientFault)). IfSome o (IsAnswer (look r.name t q))) (sym is) (by r.asked on.asked asks)
   where
     in_stage : (a : Question) (s : Stage) → IsStage r.name t a s → IfSome (answer_by s) (IsAnswer (look r.name t a))

@@ -1,5 +1,5 @@
 -- What stands at a name in the directory of a spot.
-use Rattle.std.specs.Prelude.{◌≡◌, true, [], ◌∷◌, ◌++◌, Option, Some, None, Contains}
+use Rattle.std.specs.Prelude.{◌≡◌, true, List, [], ◌∷◌, ◌++◌, Option, Some, None, Contains}
 use Rattle.std.specs.FinMap.{get}
 use Rattle.cv_base.specs.Path.{Path}
 use Rattle.cv_base.specs.declared.attr.Attr.{Attr}
@@ -11,6 +11,7 @@ use Rattle.cv_rows.specs.declared.row.Row.{Row}
 use Rattle.cv_rows.specs.declared.nested.Nested.{Nested}
 use Rattle.cv_resolver.specs.Walk.{Name}
 use Rattle.cv_resolver.specs.Spot.{IsSpot, levels_of}
+use Rattle.cv_resolver.specs.declared.spot.Level.{Level}
 use Rattle.cv_resolver.specs.declared.spot.Spot.{Spot}
 use Rattle.cv_resolver.specs.declared.enter.Entered.{Entered}
 use Rattle.cv_resolver.specs.declared.enter.Entered.TheVariants.{Nothing, Stands, Link}
@@ -43,3 +44,9 @@ IsEntered t s name Nothing = get t (s.at ++ name ∷ []) ≡ None
 IsEntered t s name (Stands next) = IsThere t (s.at ++ name ∷ []) next
 IsEntered t s name (Link same path target) =
     (same ≡ s) × (path ≡ s.at ++ name ∷ []) × ((attr : Attr) × (get t path ≡ Some (node.Link attr target)))
+
+-- the cuts below which the walk stands then
+abbrev pub entered_levels : Entered → List Level
+entered_levels Nothing = []
+entered_levels (Stands next) = levels_of next
+entered_levels (Link same path target) = levels_of same

@@ -2,12 +2,14 @@
 use Rattle.std.specs.Prelude.{◌≡◌, ℕ, true, List, map, Some, Contains, bytes_eq}
 use Rattle.std.specs.Map.{lookup}
 use Rattle.sha1.specs.Sha1.{sha1}
-use Rattle.lru.specs.LruCache.{LruCache, lru_cache, promoted}
+use Rattle.lru.specs.LruCache.{LruCache, lru_cache, promoted, put_entries}
 use Rattle.cv_base.specs.Path.{Path}
 use Rattle.cv_tree.specs.Tree.{Nodes}
 use Rattle.cv_rows.specs.Catalogue.{Contents, IsCatalogue, catalogue_bytes}
 use Rattle.cv_cut.specs.Cuts.{is_cut}
 use Rattle.cv_cut.specs.Catalogues.{cat}
+use Rattle.cv_cut.specs.Reached.{FitsPlace}
+use Rattle.cv_resolver.specs.Spot.{place_of}
 use Rattle.cv_resolver.specs.declared.spot.Level.{Level}
 
 -- the pairs of a digest and its catalogue, the last used first, and how many there may be
@@ -22,16 +24,19 @@ pub record IsKept (hash : List ℕ) (c : Contents) : Type 0 where
 pub record AreKept (entries : List (List ℕ × Contents)) : Type 0 where
   pub each : (hash : List ℕ) (c : Contents) → Contains entries (hash, c) → IsKept hash c
 
--- the catalogue of a level is there: one of its digest, at its path
+-- the catalogue of a level is there: one of its digest, which stands at its place
 pub record Holds (k : Kept) (l : Level) : Type 0 where
   pub found : Contents
   pub there : lookup (bytes_eq l.hash) k.entries ≡ Some found
-  pub place : found.at ≡ l.path
+  pub place : FitsPlace (place_of l) found
 
--- Catalogues were used, one after another: each comes first then. Nothing else changes.
-pub data Uses (before : Kept) : Kept → Type 0 where
-  none : Uses before before
-  one : (after : Kept) (hash : List ℕ) → Uses before after → Uses before (lru_cache (promoted (bytes_eq hash) after.entries) after.cap)
+-- the catalogue of this digest was used: it comes first
+abbrev pub used : Kept → List ℕ → Kept
+used k hash = lru_cache (promoted (bytes_eq hash) k.entries) k.cap
+
+-- a catalogue was put in: it comes first
+abbrev pub with_catalogue : Kept → List ℕ → Contents → Kept
+with_catalogue k hash c = lru_cache (put_entries bytes_eq k hash c) k.cap
 
 -- ---- in a tree
 

@@ -11,6 +11,7 @@ pub mod Start
 pub mod Listing
 pub mod Stage
 pub mod Kept
+pub mod Naming
 pub mod Progress
 pub mod Giving
 pub mod Resolver

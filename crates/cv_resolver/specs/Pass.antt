@@ -1,11 +1,12 @@
 -- What a name leads to from a spot.
-use Rattle.std.specs.Prelude.{◌≡◌, ◌&&◌, ℕ, zero, suc, Bool, false, List, ◌∷◌, if◌then◌else◌, Contains}
+use Rattle.std.specs.Prelude.{◌≡◌, ◌&&◌, ℕ, zero, suc, Bool, false, List, [], ◌∷◌, if◌then◌else◌, Contains}
 use Rattle.cv_base.specs.Path.{Path}
 use Rattle.cv_base.specs.PathText.{parts_of}
 use Rattle.cv_tree.specs.Tree.{Nodes}
 use Rattle.cv_resolver.specs.Walk.{Name, End, Trail, ends, arrives, from, is_last, lead_of, trail_along, walk}
 use Rattle.cv_resolver.specs.Walk as end
 use Rattle.cv_resolver.specs.Spot.{StandsIn, IsSpot, levels_of}
+use Rattle.cv_resolver.specs.declared.spot.Level.{Level}
 use Rattle.cv_resolver.specs.declared.spot.Spot.{Spot}
 use Rattle.cv_resolver.specs.declared.pass.Halt.{Halt}
 use Rattle.cv_resolver.specs.declared.pass.Halt.TheVariants.{NotFound, NotDirectory, TooManyLinks}
@@ -56,3 +57,9 @@ module _ (t : Nodes) (s : Spot) (name : Name) where
   IsPassed (At next) = GoesOn next
   IsPassed (Over halt) = EndsSo halt
   IsPassed (Link same path target) = MeetsLink same path target
+
+-- the cuts below which the walk stands then
+abbrev pub passed_levels : Passed → List Level
+passed_levels (At next) = levels_of next
+passed_levels (Over halt) = []
+passed_levels (Link same path target) = levels_of same

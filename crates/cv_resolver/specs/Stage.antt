@@ -1,5 +1,5 @@
 -- How far a question has come.
-use Rattle.std.specs.Prelude.{◌≡◌, ◌<◌, ℕ, List, Option, Some, None, Result, Ok, Err}
+use Rattle.std.specs.Prelude.{◌≡◌, ℕ, List, Option, Some, None, Result, Ok, Err}
 use Rattle.cv_base.specs.ObjectId.{object_id}
 use Rattle.cv_base.specs.declared.id.ObjectId.{ObjectId}
 use Rattle.cv_base.specs.declared.id.Kind.TheVariants.{Plain, Catalogue}
@@ -8,7 +8,7 @@ use Rattle.cv_tree.specs.declared.node.FileRef.{FileRef}
 use Rattle.cv_resolver.specs.Asking.{is_stat}
 use Rattle.cv_resolver.specs.Spot.{IsSpot}
 use Rattle.cv_resolver.specs.Pass.{Continues}
-use Rattle.cv_resolver.specs.Step.{trail_from, steps_left}
+use Rattle.cv_resolver.specs.Step.{trail_from}
 use Rattle.cv_resolver.specs.Look.{Finding, Content, trail, look, IsAnswer}
 use Rattle.cv_resolver.specs.declared.question.Question.{Question}
 use Rattle.cv_resolver.specs.declared.found.ClientFault.{ClientFault}
@@ -51,9 +51,3 @@ IsBlameless (Walks w) = Unit {0}
 IsBlameless (Reads hash) = Unit {0}
 IsBlameless (Ends (Ok found)) = Unit {0}
 IsBlameless (Ends (Err fault)) = IsOfPeer fault → ⊥
-
--- and walks on by fewer steps, or not at all
-abbrev pub IsNearer : ℕ → Stage → Type 0
-IsNearer n (Walks w) = steps_left w < n
-IsNearer n (Reads hash) = Unit {0}
-IsNearer n (Ends answer) = IsBlameless (Ends answer)

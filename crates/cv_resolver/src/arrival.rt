@@ -1,13 +1,14 @@
 //! The end of a walk.
-ghost use Rattle.std.specs.Prelude.{◌≡◌, ℕ, Some, IfOk};
+ghost use Rattle.std.specs.Prelude.{◌≡◌, Some, IfOk, Contains};
 ghost use Rattle.cv_tree.specs.Tree.{Nodes, IsTree};
-ghost use Rattle.cv_rows.specs.Catalogue.{IsCatalogue};
+ghost use Rattle.cv_rows.specs.Catalogue.{Contents, IsCatalogue};
 ghost use Rattle.cv_rows.specs.Row.{HasContent};
 ghost use Rattle.cv_cut.specs.Catalogues.{Fits};
 ghost use Rattle.cv_cut.specs.Told.{node_of};
 ghost use Rattle.cv_resolver.specs.Spot.{IsSpot, IsOwn};
 ghost use Rattle.cv_resolver.specs.Look.{content_at, names_at, found_at};
-ghost use Rattle.cv_resolver.specs.Stage.{IsFoundBy, IsNearer};
+ghost use Rattle.cv_resolver.specs.Stage.{IsFoundBy};
+ghost use Rattle.cv_resolver.specs.Progress.{ArrivesAt};
 
 use crate::found::{ClientFault, Found};
 use crate::listing::listing;
@@ -23,7 +24,7 @@ use std::alloc::Global;
 fn content(row: &Row) -> Stage
     requires { HasContent row.now.kind row.now.size row.now.hash row.now.target }
     ensures found { IsFoundBy (content_at (Some (node_of row.now))) result }
-    ensures over { (n : ℕ) → IsNearer n result }
+    ensures arrives { (c : Contents) → Contains c.rows row.now → ArrivesAt c result }
 {
     match row.hash {
         Some(hash) => Stage::Reads(hash),
@@ -36,7 +37,7 @@ fn names(alloc: Global, spot: &Spot, row: &Row, catalogue: &Catalogue) -> Result
     requires { IsCatalogue catalogue.now }
     ensures found { (t : Nodes) → IsTree t → Fits t → IsSpot t spot.now → IsOwn t spot.now catalogue.now
         → IfOk result (IsFoundBy (names_at t spot.now.at (Some (node_of row.now)))) }
-    ensures over { (n : ℕ) → IfOk result (IsNearer n) }
+    ensures arrives { IfOk result (ArrivesAt catalogue.now) }
 {
     match entry_kind(row.kind) {
         RowKind::Directory => {
@@ -56,7 +57,7 @@ pub fn arrive(
 ) -> Result<Stage, NoMemory>
     ensures found { (t : Nodes) → IsTree t → Fits t → IsSpot t spot.now → IsOwn t spot.now catalogue.now
         → IfOk result (IsFoundBy (found_at t question.now spot.now.at)) }
-    ensures over { (n : ℕ) → IfOk result (IsNearer n) }
+    ensures arrives { IfOk result (ArrivesAt catalogue.now) }
 {
     let Some(row) = catalogue.row_at(&spot.at) else {
         return Ok(Stage::Ends(Err(ClientFault::NotFound)));

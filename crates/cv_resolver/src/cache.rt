@@ -1,10 +1,11 @@
 //! The catalogues that a client keeps.
 ghost use Rattle.std.specs.Prelude.{◌≡◌, ◌≤◌, ◌↔◌, [], IsTrue, IfOk, OnOk, OnErr};
-ghost use Rattle.std.specs.Prelude.{bytes_eq, Contains};
-ghost use Rattle.lru.specs.LruCache.{lru_cache, promoted, put_entries};
+ghost use Rattle.std.specs.Prelude.{bytes_eq, Some};
+ghost use Rattle.lru.specs.LruCache.{lru_cache};
 
 use crate::spot::Level;
 use cv_base::NoMemory;
+use cv_cut::fits_place;
 use cv_rows::Catalogue;
 use lru::LruCache;
 use std::alloc::Global;
@@ -31,7 +32,10 @@ impl Model for Catalogues {
 }
 
 impl Catalogues {
-    ghost use Rattle.cv_resolver.specs.Kept.{IsKept, Holds};
+    ghost use Rattle.std.specs.Map.{lookup};
+    ghost use Rattle.cv_cut.specs.Reached.{FitsPlace};
+    ghost use Rattle.cv_resolver.specs.Spot.{place_of};
+    ghost use Rattle.cv_resolver.specs.Kept.{IsKept, Holds, used, with_catalogue};
 
     /// Without a catalogue, and with room for so many.
     pub fn new(alloc: Global, capacity: usize) -> Result<Catalogues, NoMemory>
@@ -51,12 +55,12 @@ impl Catalogues {
         *self.cache.allocator()
     }
 
-    /// Whether the catalogue of a level is there: one of its digest, at its path.
+    /// Whether the catalogue of a level is there: one of its digest, which stands at its place.
     pub fn holds(&self, level: &Level) -> bool
         ensures { IsTrue result ↔ Holds self.now level.now }
     {
         match self.cache.peek(&level.hash) {
-            Some(catalogue) => *catalogue.at() == level.path,
+            Some(catalogue) => fits_place(catalogue, &level.path, level.row.as_ref()),
             None => false,
         }
     }
@@ -65,8 +69,8 @@ impl Catalogues {
     pub fn get(&self, level: &Level) -> &Catalogue
         requires { Holds self.now level.now }
         ensures kept { IsKept level.now.hash result.now }
-        ensures place { result.now.at ≡ level.now.path }
-        ensures there { Contains self.now.entries (level.now.hash, result.now) }
+        ensures place { FitsPlace (place_of level.now) result.now }
+        ensures there { lookup (bytes_eq level.now.hash) self.now.entries ≡ Some result.now }
     {
         match self.cache.peek(&level.hash) {
             Some(catalogue) => catalogue,
@@ -76,7 +80,7 @@ impl Catalogues {
 
     /// Puts the catalogue with this digest first.
     pub fn touch(&mut self, hash: [u8; 20])
-        ensures { self.new ≡ lru_cache (promoted (bytes_eq hash) self.old.entries) self.old.cap }
+        ensures { self.new ≡ used self.old hash }
     {
         let _was_there = self.cache.promote(&hash);
     }
@@ -84,7 +88,7 @@ impl Catalogues {
     /// Puts a catalogue with its digest first. Where all room is taken, the last goes.
     pub fn put(&mut self, hash: [u8; 20], catalogue: Catalogue) -> Result<(), NoMemory>
         requires { IsKept hash catalogue }
-        ensures put { OnOk result (self.new ≡ lru_cache (put_entries bytes_eq self.old hash catalogue) self.old.cap) }
+        ensures put { OnOk result (self.new ≡ with_catalogue self.old hash catalogue) }
         ensures unchanged { OnErr result (self.new ≡ self.old) }
     {
         match self.cache.put(hash, catalogue) {

@@ -4,8 +4,9 @@ ghost use Rattle.cv_tree.specs.Tree.{Nodes, IsTree};
 ghost use Rattle.cv_rows.specs.Places.{StandsAt};
 ghost use Rattle.cv_rows.specs.declared.row_kind.RowKind.TheVariants as kind;
 ghost use Rattle.cv_cut.specs.Catalogues.{Fits};
-ghost use Rattle.cv_resolver.specs.Spot.{IsSpot, IsOwn};
-ghost use Rattle.cv_resolver.specs.Enter.{IsInCut, IsEntered};
+ghost use Rattle.cv_resolver.specs.Spot.{IsSpot, IsOwn, levels_of};
+ghost use Rattle.cv_resolver.specs.Naming.{AreKnown};
+ghost use Rattle.cv_resolver.specs.Enter.{IsInCut, IsEntered, entered_levels};
 
 use crate::spot::{Level, Spot, moved};
 use cv_base::{NoMemory, RepoPath, Target};
@@ -61,8 +62,9 @@ pub fn enter(
     catalogue: &Catalogue,
 ) -> Result<Entered, NoMemory>
     requires { spot.is_directory ≡ true }
-    ensures { (t : Nodes) → IsTree t → Fits t → IsSpot t spot → IsOwn t spot catalogue.now
+    ensures entered { (t : Nodes) → IsTree t → Fits t → IsSpot t spot → IsOwn t spot catalogue.now
         → IfOk result (IsEntered t spot name.now) }
+    ensures levels { IfOk result (λ e. AreKnown catalogue.now (levels_of spot) (entered_levels e)) }
 {
     let Some(path) = below(alloc, &spot.at, name)? else {
         return Ok(Entered::Nothing);

@@ -3,7 +3,8 @@ ghost use Rattle.std.specs.Prelude.{◌≡◌, ◌≢◌, ◌&&◌, ◌++◌, �
 ghost use Rattle.cv_tree.specs.Tree.{Nodes, IsTree};
 ghost use Rattle.cv_resolver.specs.Walk.{is_last};
 ghost use Rattle.cv_resolver.specs.Spot.{StandsIn, IsSpot, levels_of};
-ghost use Rattle.cv_resolver.specs.Step.{IsStep, HasAtMost, steps_left, link_trail};
+ghost use Rattle.cv_resolver.specs.Naming.{AreAmong};
+ghost use Rattle.cv_resolver.specs.Step.{IsStep, HasAtMost, steps_left, link_trail, stepped_levels};
 
 use crate::pass::Halt;
 use crate::spot::{Spot, at_root, moved};
@@ -60,6 +61,7 @@ pub fn follow_link(
     ensures step { (t : Nodes) → IsTree t → IsSpot t walk.spot → StandsIn t path false (levels_of walk.spot)
         → IfOk result (IsStep repository.now t stays (link_trail repository.now t stays walk path target.now)) }
     ensures steps { IfOk result (HasAtMost (steps_left walk)) }
+    ensures levels { IfOk result (λ s. AreAmong (levels_of walk.spot) (stepped_levels s)) }
 {
     if stops(stays, &walk.names) {
         return Ok(Step::On(Walk {

@@ -8,7 +8,6 @@ ghost use Rattle.cv_cut.specs.Reached.{Decodes};
 ghost use Rattle.cv_resolver.specs.Spot.{IsLevel, place_of};
 ghost use Rattle.cv_resolver.specs.Kept.{AreOwn, kept_bytes};
 ghost use Rattle.cv_resolver.specs.Stage.{wanted_by, IsStage};
-ghost use Rattle.cv_resolver.specs.Progress.{IsUncached};
 ghost use Rattle.cv_resolver.specs.Giving.{TakesCatalogue, Takes};
 ghost use Rattle.cv_resolver.specs.declared.stage.Stage.TheVariants as stage;
 
@@ -50,8 +49,7 @@ fn take_catalogue(
     requires { sha1 bytes.now ≡ walk.spot.level.hash }
     ensures stage { (t : Nodes) → IsTree t → Fits t → AreOwn t (kept_bytes cache.old) → AreOwn t (bytes.now ∷ [])
         → IsStage repository.now t question.now (stage.Walks walk) → IsStage repository.now t question.now result }
-    ensures taken { TakesCatalogue cache.old walk.spot.level bytes.now cache.new result }
-    ensures uncached { IsUncached cache.new result }
+    ensures taken { TakesCatalogue repository.now question.now cache.old walk bytes.now cache.new result }
 {
     match open_level(alloc, &walk.spot.level, bytes) {
         Ok(Some(catalogue)) => match cache.put(walk.spot.level.hash, catalogue) {
@@ -89,8 +87,7 @@ pub fn take(
     requires { wanted_by was ≡ Some id }
     ensures stage { (t : Nodes) → IsTree t → Fits t → AreOwn t (kept_bytes cache.old) → AreOwn t (option_to_list given)
         → IsStage repository.now t question.now was → IsStage repository.now t question.now result }
-    ensures takes { Takes cache.old was given cache.new result }
-    ensures uncached { IsUncached cache.new result }
+    ensures takes { Takes repository.now question.now cache.old was given cache.new result }
 {
     let Some(bytes) = given else {
         return Stage::Ends(Err(ClientFault::NotServed(id)));

@@ -1,15 +1,20 @@
 //! What follows from the definitions of a client's answer.
-ghost use Rattle.std.specs.Prelude.{◌≡◌, ◌&&◌, ◌⊎◌, ◌↔◌, ℕ, Bool, true, false, suc, List, [], ◌∷◌, ◌++◌, codes, Option, Some, None};
+ghost use Rattle.std.specs.Prelude.{◌≡◌, ◌≤◌, ◌<◌, ◌+◌, ◌&&◌, ◌⊎◌, ◌↔◌, ℕ, Bool, true, false, suc, List, [], ◌∷◌, ◌++◌, length, codes, Option, Some, None};
 ghost use Rattle.std.specs.FinMap.{get};
 ghost use Rattle.cv_base.specs.Path.{Path, parent};
 ghost use Rattle.cv_base.specs.PathText.{parts_of};
 ghost use Rattle.cv_base.specs.declared.attr.Attr.{Attr as TheAttr};
 ghost use Rattle.cv_tree.specs.Tree.{Nodes, is_directory};
 ghost use Rattle.cv_tree.specs.declared.node.Node.TheVariants as node;
+ghost use Rattle.cv_tree.specs.declared.node.FileRef.{FileRef as TheFile};
 ghost use Rattle.cv_base.specs.declared.id.ObjectId.{ObjectId as TheId};
 ghost use Rattle.cv_resolver.specs.Kept.{Kept};
-ghost use Rattle.cv_resolver.specs.Stage.{wanted_by};
-ghost use Rattle.cv_resolver.specs.Giving.{EndsBy, IsOther, IsUndecoded, Takes};
+ghost use Rattle.cv_resolver.specs.Stage.{wanted_by, IsBlameless};
+ghost use Rattle.cv_resolver.specs.Progress.{Begins, IsUncached, wants_left};
+ghost use Rattle.cv_resolver.specs.Giving.{Blames, EndsBy, IsOther, IsUndecoded, Takes};
+ghost use Rattle.cv_resolver.specs.declared.found.ClientFault.{ClientFault as TheFault};
+ghost use Rattle.cv_resolver.specs.Asking.{path_of_question};
+ghost use Rattle.cv_resolver.specs.declared.question.Question.{Question as TheQuestion};
 ghost use Rattle.cv_resolver.specs.declared.stage.Stage.{Stage as TheStage};
 ghost use Rattle.cv_resolver.specs.declared.found.ClientFault.TheVariants as fault;
 ghost use Rattle.cv_resolver.specs.Walk.{Name, NotFound, NotDirectory, TooManyLinks, ends, arrives, from, is_idle, is_up, is_last, lead_of, walk};
@@ -29,6 +34,14 @@ pub fn walks_go_by_names()
     ensures nothing { (repository : List ℕ) (t : Nodes) (stays : Bool) (links : ℕ) (name : Name) (names : List Name) (p : Path)
         → is_idle name ≡ false → is_directory (get t p) ≡ true → is_up name ≡ false → get t (p ++ name ∷ []) ≡ None
         → walk repository t stays links (name ∷ names) p ≡ ends p NotFound }
+    ensures directory { (repository : List ℕ) (t : Nodes) (stays : Bool) (links : ℕ) (name : Name) (names : List Name) (p : Path)
+        (attr : TheAttr) → is_idle name ≡ false → is_directory (get t p) ≡ true → is_up name ≡ false
+        → get t (p ++ name ∷ []) ≡ Some (node.Dir attr)
+        → walk repository t stays links (name ∷ names) p ≡ from p (walk repository t stays links names (p ++ name ∷ [])) }
+    ensures content { (repository : List ℕ) (t : Nodes) (stays : Bool) (links : ℕ) (name : Name) (names : List Name) (p : Path)
+        (attr : TheAttr) (file : TheFile) → is_idle name ≡ false → is_directory (get t p) ≡ true → is_up name ≡ false
+        → get t (p ++ name ∷ []) ≡ Some (node.File attr file)
+        → walk repository t stays links (name ∷ names) p ≡ from p (walk repository t stays links names (p ++ name ∷ [])) }
 {}
 
 /// A walk that meets a link stays there, where it is the last name and isn't to be followed; else it goes on where the
@@ -44,6 +57,11 @@ pub fn walks_follow_links()
         → get t (p ++ name ∷ []) ≡ Some (node.Link attr target) → (is_last names && stays) ≡ false
         → lead_of repository p (parts_of target) ≡ Some (start, more)
         → walk repository t stays (suc links) (name ∷ names) p ≡ from p (walk repository t stays links (more ++ names) start) }
+    ensures nowhere { (repository : List ℕ) (t : Nodes) (stays : Bool) (links : ℕ) (name : Name) (names : List Name) (p : Path)
+        (attr : TheAttr) (target : List ℕ) → is_idle name ≡ false → is_directory (get t p) ≡ true → is_up name ≡ false
+        → get t (p ++ name ∷ []) ≡ Some (node.Link attr target) → (is_last names && stays) ≡ false
+        → lead_of repository p (parts_of target) ≡ None
+        → walk repository t stays (suc links) (name ∷ names) p ≡ from p (ends p NotFound) }
     ensures too_many { (repository : List ℕ) (t : Nodes) (stays : Bool) (name : Name) (names : List Name) (p : Path)
         (attr : TheAttr) (target : List ℕ) → is_idle name ≡ false → is_directory (get t p) ≡ true → is_up name ≡ false
         → get t (p ++ name ∷ []) ≡ Some (node.Link attr target) → (is_last names && stays) ≡ false
@@ -51,16 +69,36 @@ pub fn walks_follow_links()
 {}
 
 /// NotServed comes just where nothing was given, BadObject just where bytes of another digest were, and BadCatalogue just
-/// where bytes of the right digest don't decode at their place; there memory may be wanting instead.
+/// where bytes of the right digest don't decode at their place; there memory may be wanting instead. Each names the object
+/// that was wanted, and none comes when a question is asked.
 pub fn faults_tell_what_was_given()
-    ensures not_served { (k after : Kept) (was s : TheStage) (given : Option (List ℕ)) (id : TheId) → wanted_by was ≡ Some id
-        → Takes k was given after s → EndsBy s (fault.NotServed id) ↔ (given ≡ None) }
-    ensures bad_object { (k after : Kept) (was s : TheStage) (given : Option (List ℕ)) (id : TheId) → wanted_by was ≡ Some id
-        → (found : List ℕ) → Takes k was given after s → EndsBy s (fault.BadObject id found) ↔ IsOther given id found }
-    ensures bad_catalogue { (k after : Kept) (was s : TheStage) (given : Option (List ℕ)) (id : TheId) → wanted_by was ≡ Some id
-        → Takes k was given after s → EndsBy s (fault.BadCatalogue id) → IsUndecoded was given }
-    ensures undecoded { (k after : Kept) (was s : TheStage) (given : Option (List ℕ)) (id : TheId) → wanted_by was ≡ Some id
-        → Takes k was given after s → IsUndecoded was given → EndsBy s (fault.BadCatalogue id) ⊎ EndsBy s fault.NoMemory }
+    ensures asked { (r root : List ℕ) (q : TheQuestion) (k after : Kept) (s : TheStage) → Begins r root q k after s → IsBlameless s }
+    ensures named { (r : List ℕ) (q : TheQuestion) (k after : Kept) (was s : TheStage) (given : Option (List ℕ)) (f : TheFault) (id : TheId)
+        → Takes r q k was given after s → EndsBy s f → Blames f id → wanted_by was ≡ Some id }
+    ensures not_served { (r : List ℕ) (q : TheQuestion) (k after : Kept) (was s : TheStage) (given : Option (List ℕ)) (id : TheId)
+        → wanted_by was ≡ Some id → Takes r q k was given after s → EndsBy s (fault.NotServed id) ↔ (given ≡ None) }
+    ensures bad_object { (r : List ℕ) (q : TheQuestion) (k after : Kept) (was s : TheStage) (given : Option (List ℕ)) (id : TheId)
+        → wanted_by was ≡ Some id → (found : List ℕ) → Takes r q k was given after s → EndsBy s (fault.BadObject id found) ↔ IsOther given id found }
+    ensures bad_catalogue { (r : List ℕ) (q : TheQuestion) (k after : Kept) (was s : TheStage) (given : Option (List ℕ)) (id : TheId)
+        → wanted_by was ≡ Some id → Takes r q k was given after s → EndsBy s (fault.BadCatalogue id) → IsUndecoded was given }
+    ensures undecoded { (r : List ℕ) (q : TheQuestion) (k after : Kept) (was s : TheStage) (given : Option (List ℕ)) (id : TheId)
+        → wanted_by was ≡ Some id → Takes r q k was given after s → IsUndecoded was given → EndsBy s (fault.BadCatalogue id) ⊎ EndsBy s fault.NoMemory }
+{}
+
+/// A question comes to its answer: when it is asked, at most so many objects are wanted for it, a catalogue for each step that
+/// its walk may make and for the place at which it arrives, and the content of a file; and each that is given leaves fewer.
+pub fn questions_come_to_answers()
+    ensures first { (r root : List ℕ) (q : TheQuestion) (k after : Kept) (s : TheStage) → Begins r root q k after s
+        → wants_left s ≤ 131106 + length (path_of_question q) }
+    ensures fewer { (r : List ℕ) (q : TheQuestion) (k after : Kept) (was s : TheStage) (given : Option (List ℕ)) → Takes r q k was given after s
+        → wants_left s < wants_left was }
+{}
+
+/// No catalogue is wanted that is kept for its place.
+pub fn what_is_kept_is_not_wanted()
+    ensures asked { (r root : List ℕ) (q : TheQuestion) (k after : Kept) (s : TheStage) → Begins r root q k after s → IsUncached after s }
+    ensures given { (r : List ℕ) (q : TheQuestion) (k after : Kept) (was s : TheStage) (given : Option (List ℕ)) → Takes r q k was given after s
+        → IsUncached after s }
 {}
 
 /// Where targets of links lead, in a repository of the name r.

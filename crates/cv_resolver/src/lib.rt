@@ -21,14 +21,10 @@ mod step;
 mod target;
 mod walk;
 
-pub use cache::Catalogues;
 pub use found::{ClientFault, Found, RenewFault};
 pub use question::Question;
-pub use resolver::{Asked, Resolver};
-pub use spot::{Level, Spot};
-pub use stage::Stage;
+pub use resolver::Resolver;
 pub use stat_line::StatLine;
-pub use walk::Walk;
 
 #[cfg(test)]
 mod tests;

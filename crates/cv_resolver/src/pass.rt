@@ -3,8 +3,9 @@ ghost use Rattle.std.specs.Prelude.{◌≡◌, IfOk};
 ghost use Rattle.cv_tree.specs.Tree.{Nodes, IsTree};
 ghost use Rattle.cv_cut.specs.Catalogues.{Fits};
 ghost use Rattle.cv_resolver.specs.Walk.{is_idle, is_up};
-ghost use Rattle.cv_resolver.specs.Spot.{IsSpot, IsOwn};
-ghost use Rattle.cv_resolver.specs.Pass.{IsPassed};
+ghost use Rattle.cv_resolver.specs.Spot.{IsSpot, IsOwn, levels_of};
+ghost use Rattle.cv_resolver.specs.Naming.{AreKnown};
+ghost use Rattle.cv_resolver.specs.Pass.{IsPassed, passed_levels};
 
 use crate::enter::{Entered, enter};
 use crate::spot::{Spot, above};
@@ -55,8 +56,9 @@ pub fn pass(
     name: &str,
     catalogue: &Catalogue,
 ) -> Result<Passed, NoMemory>
-    ensures { (t : Nodes) → IsTree t → Fits t → IsSpot t spot → IsOwn t spot catalogue.now
+    ensures passed { (t : Nodes) → IsTree t → Fits t → IsSpot t spot → IsOwn t spot catalogue.now
         → IfOk result (IsPassed t spot name.now) }
+    ensures levels { IfOk result (λ p. AreKnown catalogue.now (levels_of spot) (passed_levels p)) }
 {
     if is_idle(name) {
         return Ok(Passed::At(spot));

@@ -1,12 +1,11 @@
 //! How the walk of a question goes on.
-ghost use Rattle.std.specs.Prelude.{◌≡◌, ℕ, List, IfOk};
+ghost use Rattle.std.specs.Prelude.{◌≡◌, IfOk};
 ghost use Rattle.cv_tree.specs.Tree.{Nodes, IsTree};
 ghost use Rattle.cv_cut.specs.Catalogues.{Fits};
 ghost use Rattle.cv_resolver.specs.Spot.{IsOwn};
-ghost use Rattle.cv_resolver.specs.Step.{steps_left};
-ghost use Rattle.cv_resolver.specs.Kept.{AreOwn, Holds, Uses, kept_bytes};
-ghost use Rattle.cv_resolver.specs.Stage.{IsStage, IsNearer, IsBlameless};
-ghost use Rattle.cv_resolver.specs.Progress.{IsUncached, refusal_of};
+ghost use Rattle.cv_resolver.specs.Kept.{AreOwn, Holds, kept_bytes};
+ghost use Rattle.cv_resolver.specs.Stage.{IsStage};
+ghost use Rattle.cv_resolver.specs.Progress.{Leads, StepsByKept, StepsTo, refusal_of};
 ghost use Rattle.cv_resolver.specs.declared.stage.Stage.TheVariants as stage;
 
 use crate::arrival::arrive;
@@ -42,7 +41,7 @@ fn go(
 ) -> Result<Stage, NoMemory>
     ensures stage { (t : Nodes) → IsTree t → Fits t → IsOwn t walk.spot catalogue.now
         → IsStage repository.now t question.now (stage.Walks walk) → IfOk result (IsStage repository.now t question.now) }
-    ensures steps { IfOk result (IsNearer (steps_left walk)) }
+    ensures steps { IfOk result (StepsTo catalogue.now walk) }
 {
     if is_last(&walk.names) {
         return arrive(alloc, question, &walk.spot, catalogue);
@@ -64,7 +63,7 @@ fn go_by_cache(
     requires { Holds cache.now walk.spot.level }
     ensures stage { (t : Nodes) → IsTree t → Fits t → AreOwn t (kept_bytes cache.now)
         → IsStage repository.now t question.now (stage.Walks walk) → IsStage repository.now t question.now result }
-    ensures steps { IsNearer (steps_left walk) result }
+    ensures steps { StepsByKept repository.now question.now cache.now walk result }
 {
     let catalogue = cache.get(&walk.spot.level);
     match go(alloc, repository, question, walk, catalogue) {
@@ -83,9 +82,7 @@ pub fn walk_on(
 ) -> Stage
     ensures stage { (t : Nodes) → IsTree t → Fits t → AreOwn t (kept_bytes cache.old)
         → IsStage repository.now t question.now (stage.Walks walk) → IsStage repository.now t question.now result }
-    ensures used { Uses cache.old cache.new }
-    ensures uncached { IsUncached cache.new result }
-    ensures fault { IsBlameless result }
+    ensures goes { Leads repository.now question.now cache.old walk cache.new result }
 {
     let mut walk = walk;
     while cache.holds(&walk.spot.level) {

@@ -4,10 +4,10 @@ ghost use Rattle.lru.specs.LruCache.{lru_cache};
 ghost use Rattle.cv_base.specs.declared.id.ObjectId.{ObjectId as TheId};
 ghost use Rattle.cv_tree.specs.Tree.{Nodes, IsTree};
 ghost use Rattle.cv_cut.specs.Catalogues.{Fits, root_of};
-ghost use Rattle.cv_resolver.specs.Kept.{AreOwn, kept_bytes, Uses};
+ghost use Rattle.cv_resolver.specs.Kept.{AreOwn, kept_bytes};
 ghost use Rattle.cv_resolver.specs.Look.{OnWay, IsAnswer, look};
-ghost use Rattle.cv_resolver.specs.Stage.{IsStage, IsBlameless};
-ghost use Rattle.cv_resolver.specs.Progress.{IsUncached};
+ghost use Rattle.cv_resolver.specs.Stage.{IsStage};
+ghost use Rattle.cv_resolver.specs.Progress.{Begins};
 ghost use Rattle.cv_resolver.specs.Resolver.{IsOn, Asks, Gives, question_of, wanted_in, answer_in, left_in, renewal, pinned_at};
 ghost use Rattle.cv_resolver.specs.declared.question.Question.{Question as TheQuestion};
 ghost use Rattle.cv_resolver.specs.declared.resolver.Asked.{Asked as TheAsked};
@@ -22,6 +22,7 @@ use crate::start::start;
 use cv_base::{Name, NoMemory, ObjectId};
 use cv_manifest::Manifest;
 use std::alloc::Global;
+use std::marker::Model;
 
 /// A question, and how far it has come.
 #[derive(Debug, Drop)]
@@ -32,19 +33,24 @@ pub struct Asked {
     pub stage: Stage,
 }
 
-/// A client at one root. It is asked a question, wants objects until it can answer, and is given them one by one.
+/// A client at one root: it is asked a question, wants objects until it can answer, and is given them one by one. It keeps as
+/// many catalogues as it has room for, and of these the last used. What it answers holds of the root that it is pinned at,
+/// whoever serves the objects.
 #[derive(Drop)]
 pub struct Resolver {
-    /// The repository's name.
-    pub name: Name,
-    /// The revision that it is pinned at.
-    pub revision: u64,
-    /// The digest of that revision's root catalogue.
-    pub root: [u8; 20],
-    /// The catalogues that it keeps.
-    pub cache: Catalogues,
-    /// The question that it was asked last. None where none was, or its answer was given.
-    pub asked: Option<Asked>,
+    name: Name,
+    revision: u64,
+    root: [u8; 20],
+    cache: Catalogues,
+    asked: Option<Asked>,
+}
+
+impl Model for Resolver {
+    ghost use Rattle.cv_resolver.specs.Resolver.{Client};
+
+    ghost Value = { Client };
+
+    ghost view = { λ r. record { name = r.name; revision = r.revision; root = r.root; cache = r.cache; asked = r.asked } };
 }
 
 /// How far a question comes by the catalogues that are kept alone.
@@ -57,9 +63,7 @@ fn first_stage(
 ) -> Stage
     ensures stage { (t : Nodes) → IsTree t → Fits t → AreOwn t (kept_bytes cache.old) → root ≡ root_of t
         → IsStage repository.now t question.now result }
-    ensures used { Uses cache.old cache.new }
-    ensures uncached { IsUncached cache.new result }
-    ensures fault { IsBlameless result }
+    ensures begins { Begins repository.now root question.now cache.old cache.new result }
 {
     match start(alloc, root, question.path()) {
         Ok(walk) => walk_on(alloc, cache, repository, question, walk),
@@ -182,6 +186,8 @@ impl Resolver {
     pub fn answer(&mut self) -> Option<Result<Found, ClientFault>>
         ensures told { result ≡ answer_in self.old.asked }
         ensures once { self.new ≡ record self.old { asked = left_in self.old.asked } }
+
+        ensures on { (t : Nodes) → IsOn t self.old → IsOn t self.new }
 
         // In a tree at whose root it is pinned, it is the answer there.
         ensures look { (t : Nodes) (q : TheQuestion) → IsOn t self.old → question_of self.old ≡ Some q

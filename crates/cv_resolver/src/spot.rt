@@ -1,5 +1,6 @@
 //! Where a walk stands.
 ghost use Rattle.std.specs.Prelude.{◌≡◌, ◌∷◌, ◌++◌, [], take, true, Bool, List};
+ghost use Rattle.cv_resolver.specs.Naming.{AreAmong};
 ghost use Rattle.cv_base.specs.Path.{Path, parent};
 ghost use Rattle.cv_tree.specs.Tree.{Nodes, IsTree};
 ghost use Rattle.cv_resolver.specs.Spot.{StandsIn, IsSpot, levels_of};
@@ -59,6 +60,7 @@ fn first_level(outer: Vec<Level>, level: Level) -> Level
 /// The root of the repository.
 pub fn at_root(alloc: Global, spot: Spot) -> Spot
     ensures at { result.at ≡ [] }
+    ensures levels { AreAmong (levels_of spot) (levels_of result) }
     ensures stands { (t : Nodes) → IsTree t → IsSpot t spot → IsSpot t result }
 {
     Spot {
@@ -71,7 +73,8 @@ pub fn at_root(alloc: Global, spot: Spot) -> Spot
 
 /// The cuts that cover the parent of a path: all that cover the path but for one at the path itself.
 fn levels_above(at: &RepoPath, outer: Vec<Level>, level: Level) -> (Vec<Level>, Level)
-    ensures { (t : Nodes) (d : Bool) → IsTree t → StandsIn t at.now d (outer.items ++ level ∷ [])
+    ensures levels { AreAmong (outer.items ++ level ∷ []) (result.0.items ++ result.1 ∷ []) }
+    ensures stands { (t : Nodes) (d : Bool) → IsTree t → StandsIn t at.now d (outer.items ++ level ∷ [])
         → StandsIn t (parent at.now) true (result.0.items ++ result.1 ∷ []) }
 {
     let mut outer = outer;
@@ -87,6 +90,7 @@ fn levels_above(at: &RepoPath, outer: Vec<Level>, level: Level) -> (Vec<Level>, 
 /// The directory in which a spot stands. That of the root is the root. It takes no memory.
 pub fn above(spot: Spot) -> Spot
     ensures at { result.at ≡ parent spot.at }
+    ensures levels { AreAmong (levels_of spot) (levels_of result) }
     ensures stands { (t : Nodes) → IsTree t → IsSpot t spot → IsSpot t result }
 {
     let at = spot.at;

@@ -2,8 +2,9 @@
 ghost use Rattle.std.specs.Prelude.{◌≡◌, ◌≢◌, [], ℕ, Bool, List, IfOk};
 ghost use Rattle.cv_tree.specs.Tree.{Nodes, IsTree};
 ghost use Rattle.cv_cut.specs.Catalogues.{Fits};
-ghost use Rattle.cv_resolver.specs.Spot.{IsSpot, IsOwn};
-ghost use Rattle.cv_resolver.specs.Step.{IsStep, HasFewer, steps_left, trail_from};
+ghost use Rattle.cv_resolver.specs.Spot.{IsSpot, IsOwn, levels_of};
+ghost use Rattle.cv_resolver.specs.Naming.{AreKnown};
+ghost use Rattle.cv_resolver.specs.Step.{IsStep, HasFewer, steps_left, trail_from, stepped_levels};
 
 use crate::follow::follow_link;
 use crate::pass::{Halt, Passed, pass};
@@ -33,6 +34,7 @@ pub fn step_on(
     ensures step { (t : Nodes) → IsTree t → Fits t → IsSpot t walk.spot → IsOwn t walk.spot catalogue.now
         → IfOk result (IsStep repository.now t stays (trail_from repository.now t stays walk)) }
     ensures steps { IfOk result (HasFewer (steps_left walk)) }
+    ensures levels { IfOk result (λ s. AreKnown catalogue.now (levels_of walk.spot) (stepped_levels s)) }
 {
     let mut names = walk.names;
     let Some(name) = names.pop_front() else {

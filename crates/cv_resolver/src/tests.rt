@@ -309,14 +309,56 @@ fn answer_given(
     Ok(resolver.answer())
 }
 
+/// The id of the root's catalogue of an empty tree.
+const EMPTY: ObjectId = ObjectId {
+    hash: *b"\x30\x7a\xac\x20\xfe\x53\x91\xfa\xac\xd0\xea\x38\xf9\x58\x9f\xb7\x97\xa3\x68\x5c",
+    kind: Kind::Catalogue,
+};
+
+/// The SHA-1 of that catalogue with the lowest bit of its first byte changed, and of no bytes.
+const CHANGED: [u8; 20] =
+    *b"\x6d\x39\x01\x9c\xb2\x12\xb7\xdf\x6d\xbe\x27\x2c\xd1\xcf\x8f\x76\x1f\x4d\xd5\xe6";
+
+const NOTHING: [u8; 20] =
+    *b"\xda\x39\xa3\xee\x5e\x6b\x4b\x0d\x32\x55\xbf\xef\x95\x60\x18\x90\xaf\xd8\x07\x09";
+
+/// The id of a catalogue whose bytes are `hello` and a newline, which are none.
+const HELLO: ObjectId = ObjectId {
+    hash: *b"\xf5\x72\xd3\x96\xfa\xe9\x20\x66\x28\x71\x4f\xb2\xce\x00\xf7\x2e\x94\xf2\x25\x8f",
+    kind: Kind::Catalogue,
+};
+
+/// The empty tree's catalogue with one bit changed.
+fn changed_catalogue(alloc: Global) -> Result<Vec<u8>, Fail> {
+    let Some(mut bytes) = bytes_of(alloc, &peer_of(alloc, "")?, EMPTY)? else {
+        return Err(Fail::new("another root"));
+    };
+    if let Some(first) = bytes.first_mut() {
+        *first ^= 1;
+    }
+    Ok(bytes)
+}
+
+/// Whether these bytes are refused, given for the empty tree's catalogue, as bytes of this digest.
+fn is_refused(alloc: Global, bytes: Vec<u8>, digest: [u8; 20]) -> Result<bool, Fail> {
+    let refused = ClientFault::BadObject {
+        id: EMPTY,
+        found: digest,
+    };
+    let answer = answer_given(alloc, EMPTY, Some(bytes))?;
+    Ok(matches!(answer, Some(Err(fault)) if fault == refused))
+}
+
 #[test]
 fn other_bytes_are_no_answer(rt: HostRuntime) -> Result<(), Fail> {
     let alloc = rt.alloc();
-    let root = peer_of(alloc, "/a")?.root;
-    let nothing = answer_given(alloc, root, None)?;
-    assert!(rt; matches!(nothing, Some(Err(ClientFault::NotServed(id))) if id == root));
-    let other = answer_given(alloc, root, Some(Vec::new(alloc)))?;
-    assert!(rt; matches!(other, Some(Err(ClientFault::BadObject { id, .. })) if id == root));
+    let nothing = answer_given(alloc, EMPTY, None)?;
+    assert!(rt; matches!(nothing, Some(Err(ClientFault::NotServed(id))) if id == EMPTY));
+    assert!(rt; is_refused(alloc, Vec::new(alloc), NOTHING)?);
+    assert!(rt; is_refused(alloc, changed_catalogue(alloc)?, CHANGED)?);
+    let hello = Vec::from_slice(alloc, b"hello\n")?;
+    let no_catalogue = answer_given(alloc, HELLO, Some(hello))?;
+    assert!(rt; matches!(no_catalogue, Some(Err(ClientFault::BadCatalogue(id))) if id == HELLO));
     Ok(())
 }
 

@@ -7,6 +7,7 @@ use Rattle.cv_resolver.specs.declared.stat_line.StatLine.{StatLine}
 use Rattle.cv_resolver.specs.declared.question.Question.{Question}
 use Rattle.cv_resolver.specs.declared.found.ClientFault.{ClientFault}
 use Rattle.cv_resolver.proofs.Arriving.{has_content, some_row, ok}
+use Rattle.cv_rows.proofs.Lemmas.{stands_contained}
 use Rattle.cv_resolver.proofs.Entering.{tells}
 use Rattle.cv_resolver.proofs.arrival.arrive.Goals as goal
 
@@ -36,3 +37,6 @@ returns-in-Read-clause-found c = λ t tree fits is own.
     let e = c.in-Some.ensures in
     let told = tells t c.args.spot.now c.args.catalogue.now c.in-Some.row.now c.args.spot.now.at tree fits is own e.row in
     subst (λ (f : Result Finding ClientFault). IsFoundBy f c.content.result) (sym (ap (λ (q : Question). found_at t q c.args.spot.now.at) c.in-Read.is ∙ ap content_at told)) c.content.ensures.found
+
+pub returns-in-Read-clause-arrives : goal.returns-in-Read-clause-arrives
+returns-in-Read-clause-arrives c = let e = c.in-Some.ensures in c.content.ensures.arrives c.args.catalogue.now (stands_contained e.row)

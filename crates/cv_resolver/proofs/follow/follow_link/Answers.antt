@@ -2,7 +2,8 @@ use Rattle.std.proofs.Common.{◌≡◌, Option, List, [], refl, sym, ap, subst,
 use Rattle.std.specs.declared.option.Option.TheVariants.{Some}
 use Rattle.cv_base.specs.Path.{Path}
 use Rattle.cv_resolver.specs.Walk.{Name}
-use Rattle.cv_resolver.specs.Spot.{IsSpot}
+use Rattle.cv_resolver.specs.Spot.{IsSpot, levels_of}
+use Rattle.cv_resolver.specs.Naming.{AreAmong}
 use Rattle.cv_resolver.specs.Target.{start_of}
 use Rattle.cv_resolver.specs.declared.spot.Spot.{Spot}
 use Rattle.cv_resolver.proofs.Following.{stops, leads_on}
@@ -34,3 +35,16 @@ returns-in_ok-walk-in-Here-clause-step c = λ t tree is l.
     (subst (IsSpot t) (sym e.spot) is)
     (c.in_ok-lead_of_target.ensures.lead c.args.walk.spot.at ∙ ap (start_of c.args.walk.spot.at) c.in-Here.is ∙ ap (λ (p : Path). start p c.in-Here.names.items) (sym here))
     e.names e.links
+
+pub returns-then-stops-clause-levels : goal.returns-then-stops-clause-levels
+returns-then-stops-clause-levels c = subst (λ (s : Spot). AreAmong (levels_of c.args.walk.spot) (levels_of s)) (sym c.moved.ensures) (λ l has. has)
+
+pub returns-in_ok-walk-in-Root-clause-levels : goal.returns-in_ok-walk-in-Root-clause-levels
+returns-in_ok-walk-in-Root-clause-levels c =
+    let e = c.in_ok-walk-in-Root.ensures in
+    subst (λ (s : Spot). AreAmong (levels_of c.args.walk.spot) (levels_of s)) (sym e.spot) c.at_root.ensures.levels
+
+pub returns-in_ok-walk-in-Here-clause-levels : goal.returns-in_ok-walk-in-Here-clause-levels
+returns-in_ok-walk-in-Here-clause-levels c =
+    let e = c.in_ok-walk-in-Here.ensures in
+    subst (λ (s : Spot). AreAmong (levels_of c.args.walk.spot) (levels_of s)) (sym e.spot) (λ l has. has)

@@ -19,7 +19,7 @@ returns-in-Ok-clause-taken c =
     let e = c.in-Ok-Some.ensures in
     let d = decoded c.args.walk.spot.level c.args.bytes.now c.in-Ok-Some.field-0 c.in-Ok-Some.catalogue c.in-Ok-Some.field-0-is e.decodes in
     let p = c.in-Ok.ensures in
-    takes_opened c.args.cache.now c.put.new.self c.walk_on.new.cache c.args.walk.spot.level c.args.bytes.now c.in-Ok-Some.catalogue c.walk_on.result d p.put c.walk_on.ensures.used c.walk_on.ensures.fault
+    takes_opened c.args.repository.now c.args.question.now c.args.cache.now c.put.new.self c.walk_on.new.cache c.args.walk c.args.bytes.now c.in-Ok-Some.catalogue c.walk_on.result d p.put c.walk_on.ensures.goes
 
 pub returns-in-Ok-None-clause-stage : goal.returns-in-Ok-None-clause-stage
 returns-in-Ok-None-clause-stage c = λ t tree fits own new on.

@@ -1,5 +1,5 @@
 use Rattle.std.proofs.Common.{sym, ◌∙◌}
-use Rattle.cv_resolver.proofs.Going.{none_left, some_left, arrived, stepped}
+use Rattle.cv_resolver.proofs.Going.{none_left, some_left, arrived, arrived_step, stepped, stepped_on}
 use Rattle.cv_resolver.proofs.progress.go.Goals as goal
 
 pub returns-then-is_last-clause-stage : goal.returns-then-is_last-clause-stage
@@ -7,7 +7,7 @@ returns-then-is_last-clause-stage c = λ t tree fits own on.
     arrived c.args.repository.now t c.args.question.now c.arrive.result c.args.walk (none_left c.args.walk.names.items (sym c.is_last.ensures ∙ c.if-is_last.true)) on (c.arrive.ensures.found t tree fits on.0 own)
 
 pub returns-then-is_last-clause-steps : goal.returns-then-is_last-clause-steps
-returns-then-is_last-clause-steps c = c.arrive.ensures.over _
+returns-then-is_last-clause-steps c = arrived_step c.args.catalogue.now c.args.walk c.arrive.result c.arrive.ensures.arrives
 
 pub step_on-requires : goal.step_on-requires
 step_on-requires c = some_left c.args.walk.names.items (sym c.is_last.ensures ∙ c.if-is_last.false)
@@ -15,3 +15,8 @@ step_on-requires c = some_left c.args.walk.names.items (sym c.is_last.ensures �
 pub returns-in-On-clause-stage : goal.returns-in-On-clause-stage
 returns-in-On-clause-stage c = λ t tree fits own on.
     stepped c.args.repository.now t c.args.question.now c.is_stat.result c.args.walk c.in-On.walk c.in_ok-walk.field-0 c.is_stat.ensures c.in-On.is (let e = c.in_ok-walk.ensures in e.step t tree fits on.0 own) on
+
+pub returns-in-On-clause-steps : goal.returns-in-On-clause-steps
+returns-in-On-clause-steps c =
+    let e = c.in_ok-walk.ensures in
+    stepped_on c.args.catalogue.now c.args.walk c.in-On.walk c.in_ok-walk.field-0 c.in-On.is e.steps e.levels

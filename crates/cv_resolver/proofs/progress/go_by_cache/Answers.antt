@@ -7,3 +7,14 @@ returns-in-Ok-clause-stage c = λ t tree fits own on.
     let e = c.in-Ok.ensures in
     let k = c.get-catalogue.ensures in
     e.stage t tree fits (kept_is t c.args.walk.spot.level c.args.cache.now c.get-catalogue.result.now (nearest_of t c.args.walk.spot on.0).1 own k.kept k.place k.there) on
+
+pub returns-in-Ok-clause-steps : goal.returns-in-Ok-clause-steps
+returns-in-Ok-clause-steps c =
+    let e = c.in-Ok.ensures in
+    let k = c.get-catalogue.ensures in
+    record { holds = record { found = c.get-catalogue.result.now; there = k.there; place = k.place }; steps = e.steps; on = e.stage }
+
+pub returns-in-Err-clause-steps : goal.returns-in-Err-clause-steps
+returns-in-Err-clause-steps c =
+    let k = c.get-catalogue.ensures in
+    record { holds = record { found = c.get-catalogue.result.now; there = k.there; place = k.place }; steps = λ peer. peer; on = λ t tree fits own on. tt }

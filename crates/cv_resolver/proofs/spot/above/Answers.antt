@@ -5,4 +5,4 @@ use Rattle.cv_resolver.proofs.spot.above.Goals as goal
 
 pub returns-clause-stands : goal.returns-clause-stands
 returns-clause-stands c = λ t tree is.
-    subst (λ (p : Path). StandsIn t p true (c.levels_above-outer.result.0.items ++ c.levels_above-outer.result.1 ∷ [])) (sym c.into_parent.ensures) (c.levels_above-outer.ensures t c.args.spot.is_directory tree is)
+    subst (λ (p : Path). StandsIn t p true (c.levels_above-outer.result.0.items ++ c.levels_above-outer.result.1 ∷ [])) (sym c.into_parent.ensures) (c.levels_above-outer.ensures.stands t c.args.spot.is_directory tree is)

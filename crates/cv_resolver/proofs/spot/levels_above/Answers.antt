@@ -1,12 +1,19 @@
 use Rattle.std.proofs.Common.{sym, ◌∙◌}
 use Rattle.cv_base.specs.Path.{same_path}
 use Rattle.cv_cut.proofs.Lemmas.{not_false, not_true}
+use Rattle.cv_resolver.proofs.Naming.{above_among}
 use Rattle.cv_resolver.proofs.Spots.{above_here, above_cut}
 use Rattle.cv_resolver.proofs.spot.levels_above.Goals as goal
 
-pub returns-then-ne : goal.returns-then-ne
-returns-then-ne c = λ t d tree s. above_here t d c.args.outer.items c.args.level tree c.args.at.now s (not_true (same_path c.args.level.path c.args.at.now) (sym c.ne.ensures ∙ c.if-ne.true))
+pub returns-then-ne-clause-stands : goal.returns-then-ne-clause-stands
+returns-then-ne-clause-stands c = λ t d tree s. above_here t d c.args.outer.items c.args.level tree c.args.at.now s (not_true (same_path c.args.level.path c.args.at.now) (sym c.ne.ensures ∙ c.if-ne.true))
 
-pub returns-in-Some : goal.returns-in-Some
-returns-in-Some c = λ t d tree s.
+pub returns-in-Some-clause-stands : goal.returns-in-Some-clause-stands
+returns-in-Some-clause-stands c = λ t d tree s.
     above_cut t d c.args.outer.items c.args.level tree c.args.at.now c.pop.new.self.items c.in-Some.above c.in-Some.ensures.items s (not_false (same_path c.args.level.path c.args.at.now) (sym c.ne.ensures ∙ c.if-ne.false))
+
+pub returns-then-ne-clause-levels : goal.returns-then-ne-clause-levels
+returns-then-ne-clause-levels c = λ l has. has
+
+pub returns-in-Some-clause-levels : goal.returns-in-Some-clause-levels
+returns-in-Some-clause-levels c = above_among c.pop.new.self.items c.in-Some.above c.args.level c.args.outer.items c.in-Some.ensures.items
