@@ -33,9 +33,6 @@ none_base None h = record {
 }
 none_base (Some t) h = cc
 
-pub some_base : (t : Nodes) → IsPart t → IsBase t
-some_base t h = record { parents = h.parents; paths = h.paths; nodes = h.nodes }
-
 -- ---- the entries of the overlay, as they are put together
 pub assembled : (b c : Nodes) (now : ℕ) (e0 e1 e2 e3 cs bs : List (Path × Node)) (root : Path) (node : Node) → e0 ≡ [] → root ≡ [] → node ≡ root_of (get b []) now
     → cs ≡ entries c → bs ≡ entries b → e1 ≡ e0 ++ (root, node) ∷ [] → e2 ≡ e1 ++ named_entries cs → e3 ≡ e2 ++ kept_entries c bs → e3 ≡ over_entries b c now

@@ -1,5 +1,5 @@
 -- The children of a directory by their names.
-use Rattle.std.proofs.Common.{◌≡◌, Bool, true, false, List, ℕ, [], ◌∷◌, ◌++◌, ◌&&◌, is_some, refl, sym, ap, ◌∙◌, length, ◌≤◌, ◌<◌, ◌+◌, ◌||◌, suc, drop, get_or, add-one, drop-cons, arith}
+use Rattle.std.proofs.Common.{◌≡◌, Bool, true, false, List, ℕ, [], ◌∷◌, ◌++◌, ◌&&◌, is_some, refl, sym, ap, ◌∙◌, length, ◌≤◌, ◌<◌, ◌+◌, suc, drop, get_or, add-one, drop-cons, arith}
 use Rattle.std.specs.Prelude.{Result, Ok, Err, nat_lt}
 use Rattle.std.specs.List.{list_all}
 use Rattle.std.specs.declared.option.Option.TheVariants.{None, Some}
@@ -48,9 +48,6 @@ other_named c p name h = rw (last_of p name, h) refl
 pub refused_child : (t : Nodes) (p : Path) (name : List ℕ) (fault : PathFault) → IsTree t → Err fault ≡ joined p name → None ≡ get t (p ++ name ∷ [])
 refused_child t p name fault h e = sym (none_joined t p name fault h (sym e))
 
-or_false : (b : Bool) → (false || b) ≡ b
-or_false b = refl
-
 -- one name more on the way
 pub next_hidden : (c : Nodes) (above longer path : Path) (i : ℕ) (name : List ℕ) → Ok longer ≡ joined above name → hides c above name ≡ false → i < length path → name ≡ get_or path i name
     → hidden_from c above (drop i path) ≡ hidden c path → hidden_from c longer (drop (i + 1) path) ≡ hidden c path
@@ -58,11 +55,3 @@ next_hidden c above longer path i name join shown more is h =
     let split : drop i path ≡ name ∷ drop (i + 1) path = rw add-one (drop-cons path i name more ∙ ap (λ w. w ∷ drop (suc i) path) (sym is)) in
     let all : hidden_from c above (name ∷ drop (i + 1) path) ≡ hidden c path = ap (hidden_from c above) (sym split) ∙ h in
     rw (joined-Ok above name longer join) (rw shown at all)
-
--- a name on the way hides the rest
-pub here_hidden : (c : Nodes) (above path : Path) (i : ℕ) (name : List ℕ) → hides c above name ≡ true → i < length path → name ≡ get_or path i name
-    → hidden_from c above (drop i path) ≡ hidden c path → true ≡ hidden c path
-here_hidden c above path i name hid more is h =
-    let split : drop i path ≡ name ∷ drop (i + 1) path = rw add-one (drop-cons path i name more ∙ ap (λ w. w ∷ drop (suc i) path) (sym is)) in
-    let all : hidden_from c above (name ∷ drop (i + 1) path) ≡ hidden c path = ap (hidden_from c above) (sym split) ∙ h in
-    rw hid at all

@@ -3,3 +3,13 @@ pub mod Children
 pub mod Bases
 pub mod Leasts
 pub mod Trails
+pub mod Limits
+pub mod Events
+pub mod Kept
+pub mod WalkOrder
+pub mod WalkItems
+pub mod Runs
+pub mod Objects
+pub mod Visits
+pub mod Walks
+pub mod WalkTexts

@@ -80,10 +80,6 @@ not_leaf c p n [] h = leaf_hides c p n ((or_both _ _ h).0)
 not_leaf c p n (m ∷ q) h = subst (λ (w : Path). is_leaf (named c w) ≡ false) (append_assoc p (n ∷ []) (m ∷ q)) (not_leaf c (p ++ n ∷ []) m q ((or_both _ _ h).1))
 
 -- ---- the overlay is a part
-over_append : (b c : Nodes) (now : ℕ) (q : Path) (a : List ℕ) → over_at b c now (q ++ a ∷ []) ≡ or_else (named c (q ++ a ∷ [])) (cond (hidden c (q ++ a ∷ [])) None (get b (q ++ a ∷ [])))
-over_append b c now [] a = refl
-over_append b c now (n ∷ q) a = refl
-
 root_is_directory : (o : Option Node) (now : ℕ) → is_directory (Some (root_of o now)) ≡ true
 root_is_directory None now = refl
 root_is_directory (Some (Dir attr)) now = refl
@@ -119,9 +115,6 @@ stays (Some (Link attr target)) here leaf h = cc
 named_first : (o here : Option Node) → is_directory o ≡ true → is_directory (or_else o here) ≡ true
 named_first None here h = cc
 named_first (Some node) here h = h
-
-named_there : (c : Nodes) (q : Path) → IsSome (named c q) → IsSome (get c q)
-named_there c q h = elim (is_whiteout (last_name_of q)) as (λ w. IsSome (cond w None (get c q)) → IsSome (get c q)) [ true ↦ λ e. cc | false ↦ λ e. e ] h
 
 -- what stands at a path is named or kept
 pub data From (b c : Nodes) (q : Path) (node : Node) : Type 0 where

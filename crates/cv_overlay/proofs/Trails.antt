@@ -9,9 +9,6 @@ use Rattle.cv_tree.specs.Tree.{Nodes}
 use Rattle.cv_overlay.specs.Overlay.{hidden, hides}
 use Rattle.cv_overlay.proofs.Over.{hidden-append, hidden-split}
 
-or_true : (b : Bool) → (true || b) ≡ true
-or_true b = refl
-
 first_false : (a b : Bool) → (a || b) ≡ false → a ≡ false
 first_false true b h = cc
 first_false false b h = refl

@@ -1,6 +1,9 @@
+pub mod Fault
 pub mod Whiteout
 pub mod Overlay
 pub mod Changes
 pub mod Answers
 pub mod Least
 pub mod Walk
+pub mod Events
+pub mod Found

@@ -1,133 +1,153 @@
--- The walk of a folder of changes: what is visited, the first fault, and what the changes of the folder are.
-use Rattle.std.specs.Prelude.{◌≡◌, ◌≢◌, ℕ, ◌+◌, ◌%◌, Bool, true, false, not, ◌||◌, ◌&&◌, nat_le, nat_lt, List, [], ◌∷◌, ◌++◌, length, Option, Some, None, is_some, zero, suc, Result, Ok, Err, slice_get, if◌then◌else◌}
+-- The walk of a folder of changes: its visits in order, the first fault, and what the changes of the folder are.
+use Rattle.std.specs.Prelude.{◌≡◌, ℕ, ◌+◌, ◌%◌, Bool, true, false, ◌||◌, ◌&&◌, nat_le, nat_lt, List, [], ◌∷◌, ◌++◌, length, Option, Some, None, Result, Ok, Err, is_ok, slice_get, if◌then◌else◌}
 use Rattle.std.specs.declared.cmp.Ordering.{Ordering}
-use Rattle.std.specs.declared.cmp.Ordering.TheVariants.{Greater}
-use Rattle.std.specs.Ordering.{ordering_then}
-use Rattle.std.specs.List.{list_all}
+use Rattle.std.specs.Option.{option_or}
+use Rattle.std.specs.List.Sorted.{IsStrictlySortedBy}
 use Rattle.std.specs.FinMap.{get}
 use Rattle.sha1.specs.Sha1.{sha1}
-use Rattle.cv_base.specs.Path.{Path, parent, text_of, name_cmp, path_cmp, same_name, is_path_name}
+use Rattle.cv_base.specs.Path.{Path, last_name_of, path_cmp, same_name, same_path}
+use Rattle.cv_base.specs.PathText.{joined}
 use Rattle.cv_base.specs.Target.{is_target}
 use Rattle.cv_base.specs.declared.attr.Attr.{Attr}
 use Rattle.cv_base.specs.declared.object.Object.{Object}
 use Rattle.cv_ports.specs.declared.folder.FolderItem.{FolderItem}
 use Rattle.cv_ports.specs.declared.folder.FoundKind.{FoundKind}
 use Rattle.cv_ports.specs.declared.folder.FoundKind.TheVariants as kind
-use Rattle.cv_ports.specs.Folder.{FolderView, read_front}
+use Rattle.cv_ports.specs.Folder.{FolderView}
 use Rattle.cv_tree.specs.declared.node.Node.{Node}
 use Rattle.cv_tree.specs.declared.node.Node.TheVariants.{Dir, File, Link}
+use Rattle.cv_overlay.specs.Whiteout.{is_whiteout}
 use Rattle.cv_overlay.specs.Changes.{ChangesView}
 use Rattle.cv_overlay.specs.declared.read_fault.ReadFault.{ReadFault}
 use Rattle.cv_overlay.specs.declared.read_fault.ReadFault.TheVariants as faults
 
--- the order of the walk: by the bytes of the paths' texts (and by names where an odd name has a slash)
+-- an item of the folder, with the path of the directory in which it stands
+pub record Visit : Type 0 where
+  pub above : Path
+  pub item : FolderItem
+
+abbrev pub path_of : Visit → Path
+path_of v = v.above ++ v.item.name ∷ []
+
+abbrev pub paths_of : List Visit → List Path
+paths_of [] = []
+paths_of (v ∷ vs) = path_of v ∷ paths_of vs
+
+-- the names of a path, each but the last with the slash that stands behind it in the path's text
+abbrev pub with_slashes : Path → Path
+with_slashes [] = []
+with_slashes (a ∷ []) = a ∷ []
+with_slashes (a ∷ b ∷ p) = (a ++ 47 ∷ []) ∷ with_slashes (b ∷ p)
+
+-- the order of the walk: of names without a slash it is that of the bytes of the paths' texts
 abbrev pub walk_cmp : Path → Path → Ordering
-walk_cmp p q = ordering_then (name_cmp (text_of p) (text_of q)) (path_cmp p q)
+walk_cmp p q = path_cmp (with_slashes p) (with_slashes q)
 
--- names and limits of a path
-abbrev pub fits : Path → Bool
-fits path = list_all is_path_name path && nat_le (length path) 64 && nat_le (length (text_of path)) 4095
-
-abbrev pub has_target : FoundKind → Bool
-has_target (kind.Link target) = nat_le 1 (length target) && is_target target
-has_target other = true
+-- a path takes one more name, and keeps the limits of a path
+abbrev pub takes : Path → List ℕ → Bool
+takes p name = is_ok (joined p name)
 
 abbrev pub is_dir : FoundKind → Bool
 is_dir kind.Dir = true
 is_dir other = false
 
--- what the walk visits below a directory: each item, and what stands below a directory whose path keeps its limits behind the published path
-abbrev pub visits_of : (Path → List (Path × FolderItem)) → Path → Path → List FolderItem → List (Path × FolderItem)
-visits_of deeper at p [] = []
-visits_of deeper at p (item ∷ items) =
-    let q : Path = p ++ item.name ∷ [] in
-    ((q, item) ∷ (if is_dir item.kind && fits (at ++ q) then deeper q else [])) ++ visits_of deeper at p items
+abbrev pub is_file : FoundKind → Bool
+is_file kind.File = true
+is_file other = false
 
-abbrev pub visits : ℕ → FolderView → Path → Path → List (Path × FolderItem)
-visits zero f at p = []
-visits (suc depth) f at p = visits_of (visits depth f at) at p (f.items p)
-
--- a path has at most 64 names, so that nothing stands deeper
-abbrev pub visited : FolderView → Path → List (Path × FolderItem)
-visited f at = visits 65 f at []
-
--- the bytes of a file, so far as they are read; whiteouts are files too
-abbrev pub size_of : FoundKind → List ℕ → ℕ
-size_of kind.File content = length (read_front content)
-size_of other content = 0
-
-abbrev pub is_greater : Ordering → Bool
-is_greater Greater = true
-is_greater other = false
-
-abbrev pub is_after : Path → Path → Bool
-is_after p q = is_greater (walk_cmp p q)
-
--- a file above 16 MiB, or one with which all files up to it pass 1 GiB
-abbrev pub kind_fault : Path → FoundKind → ℕ → ℕ → Option ReadFault
-kind_fault q kind.Special size sum = Some (faults.Special q)
-kind_fault q kind.File size sum = if nat_lt 16777216 size || nat_lt 1073741824 sum then Some (faults.TooLarge q) else None
-kind_fault q other size sum = None
-
--- the bytes of all files up to a path
-abbrev pub sum_to : FolderView → Path → List (Path × FolderItem) → ℕ
-sum_to f q [] = 0
-sum_to f q (e ∷ es) = (if is_after e.0 q then 0 else size_of (e.1).kind (f.content e.0)) + sum_to f q es
-
--- the fault of one visit: of several the first of these
-abbrev pub fault_of : FolderView → Path → Path × FolderItem → Option ReadFault
-fault_of f at e =
-    if not (fits (at ++ e.0) && has_target (e.1).kind) then Some (faults.BadName (parent e.0))
-    else kind_fault e.0 (e.1).kind (length (read_front (f.content e.0))) (sum_to f e.0 (visited f at))
-
--- the first fault of the walk, by its order
-pub record IsFirstFault (f : FolderView) (at : Path) (fault : ReadFault) : Type 0 where
-  pub place : ℕ
-  pub visit : Path × FolderItem
-  pub there : slice_get (visited f at) place ≡ Some visit
-  pub fails : fault_of f at visit ≡ Some fault
-  pub first : (i : ℕ) (e : Path × FolderItem) → slice_get (visited f at) i ≡ Some e → is_some (fault_of f at e) ≡ true → walk_cmp visit.0 e.0 ≢ Greater
-
-abbrev pub HasNoFault : FolderView → Path → Type 0
-HasNoFault f at = (i : ℕ) (e : Path × FolderItem) → slice_get (visited f at) i ≡ Some e → fault_of f at e ≡ None
-
--- the node of an item: its permission bits and time, no owner
-abbrev pub attr_of : FolderItem → Attr
-attr_of item = record { mode = item.mode % 4096; mtime = item.mtime; uid = 0; gid = 0 }
-
-abbrev pub node_of : FolderItem → FoundKind → List ℕ → Option Node
-node_of item kind.Dir content = Some (Dir (attr_of item))
-node_of item kind.File content = Some (File (attr_of item) (record { hash = sha1 content; size = length content }))
-node_of item (kind.Link target) content = Some (Link (attr_of item) target)
-node_of item kind.Special content = None
-
--- the item of a name in a listing, and the item at a path behind a directory
+-- the item of a name in a listing
 abbrev pub item_named : List ℕ → List FolderItem → Option FolderItem
 item_named name [] = None
 item_named name (item ∷ items) = if same_name item.name name then Some item else item_named name items
 
-abbrev pub goes_on : Option FolderItem → Option FolderItem → Option FolderItem
-goes_on None found = None
-goes_on (Some item) found = if is_dir item.kind then found else None
+abbrev pub is_way : Option FolderItem → Bool
+is_way None = false
+is_way (Some item) = is_dir item.kind
 
-abbrev pub item_from : FolderView → Path → Path → Option FolderItem
-item_from f p [] = None
-item_from f p (name ∷ []) = item_named name (f.items p)
-item_from f p (name ∷ next ∷ names) = goes_on (item_named name (f.items p)) (item_from f (p ++ name ∷ []) (next ∷ names))
+-- the item that a path finds behind the directory p, name by name, through directories whose paths, put behind the
+-- published one, keep the limits of a path
+abbrev pub item_from : FolderView → Path → Path → Path → Option FolderItem
+item_from f at p [] = None
+item_from f at p (name ∷ []) = item_named name (f.items p)
+item_from f at p (name ∷ next ∷ names) =
+    if is_way (item_named name (f.items p)) && takes (at ++ p) name then item_from f at (p ++ name ∷ []) (next ∷ names) else None
+
+-- the item of a path among visits
+abbrev pub found_at : Path → List Visit → Option FolderItem
+found_at q [] = None
+found_at q (v ∷ vs) = if same_path (path_of v) q then Some v.item else found_at q vs
+
+-- the walk of a folder: each item that a path finds, in the order of the paths
+pub record IsWalk (f : FolderView) (at : Path) (visits : List Visit) : Type 0 where
+  pub ascend : IsStrictlySortedBy walk_cmp (paths_of visits)
+  pub items : (q : Path) → found_at q visits ≡ item_from f at [] q
+
+-- 1 to 4,095 bytes of UTF-8 without NUL, where it is a link
+abbrev pub has_target : FoundKind → Bool
+has_target (kind.Link target) = nat_le 1 (length target) && is_target target
+has_target other = true
+
+-- the bytes of a file; a whiteout is one too
+abbrev pub size_of : FolderView → Visit → ℕ
+size_of f v = if is_file v.item.kind then length (f.content (path_of v)) else 0
+
+-- a file has more than 16 MiB, or all files up to it more than 1 GiB
+abbrev pub is_large : ℕ → ℕ → Bool
+is_large size sum = nat_lt 16777216 size || nat_lt 1073741824 sum
+
+abbrev pub kind_fault : Path → FoundKind → ℕ → ℕ → Option ReadFault
+kind_fault q kind.Special size sum = Some (faults.Special q)
+kind_fault q kind.File size sum = if is_large size sum then Some (faults.TooLarge q) else None
+kind_fault q other size sum = None
+
+-- the fault of a visit, if it has one: of several the first of these. The sum is that of the bytes of all files up to it.
+abbrev pub fault_of : FolderView → Path → ℕ → Visit → Option ReadFault
+fault_of f at sum v =
+    if takes (at ++ v.above) v.item.name && has_target v.item.kind then kind_fault (path_of v) v.item.kind (size_of f v) sum
+    else Some (faults.BadName v.above)
+
+-- the first fault of these visits, behind files of so many bytes
+abbrev pub first_fault : FolderView → Path → ℕ → List Visit → Option ReadFault
+first_fault f at before [] = None
+first_fault f at before (v ∷ vs) = option_or (fault_of f at (before + size_of f v) v) (first_fault f at (before + size_of f v) vs)
+
+-- the node of an item: its permission bits and time, and no owner
+abbrev pub attr_of : FolderItem → Attr
+attr_of item = record { mode = item.mode % 4096; mtime = item.mtime; uid = 0; gid = 0 }
+
+abbrev pub node_of : Attr → FoundKind → List ℕ → Option Node
+node_of attr kind.Dir content = Some (Dir attr)
+node_of attr kind.File content = Some (File attr (record { hash = sha1 content; size = length content }))
+node_of attr (kind.Link target) content = Some (Link attr target)
+node_of attr kind.Special content = None
 
 abbrev pub node_at : Option FolderItem → List ℕ → Option Node
 node_at None content = None
-node_at (Some item) content = node_of item item.kind content
+node_at (Some item) content = node_of (attr_of item) item.kind content
 
--- the changes of a folder: each item at its path below a root, and of each content some file has it
-pub record AreChanges (f : FolderView) (c : ChangesView) : Type 0 where
-  pub root : get c.nodes [] ≡ Some (Dir (record { mode = 493; mtime = 0; uid = 0; gid = 0 }))
-  pub nodes : (name : List ℕ) (names : Path) → get c.nodes (name ∷ names) ≡ node_at (item_from f [] (name ∷ names)) (f.content (name ∷ names))
-  pub contents : (i : ℕ) (o : Object) → slice_get c.objects i ≡ Some o → (q : Path) × (is_some (item_from f [] q) ≡ true) × (o.bytes ≡ f.content q)
+-- bytes that are the content of a file of the folder which is no whiteout
+pub record IsContent (f : FolderView) (at : Path) (bytes : List ℕ) : Type 0 where
+  pub path : Path
+  pub item : FolderItem
+  pub there : item_from f at [] path ≡ Some item
+  pub file : is_file item.kind ≡ true
+  pub named : is_whiteout (last_name_of path) ≡ false
+  pub is : bytes ≡ f.content path
 
--- what reading answers of a folder that tells
+-- the attributes of the root that stands for the folder itself
+abbrev pub root_attr : Attr
+root_attr = record { mode = 493; mtime = 0; uid = 0; gid = 0 }
+
+-- the changes of a folder: at each path the node of the item that it finds, below a root; and of the contents, which have
+-- the hashes of the files that are no whiteouts, each is that of such a file
+pub record AreChanges (f : FolderView) (at : Path) (c : ChangesView) : Type 0 where
+  pub root : get c.nodes [] ≡ Some (Dir root_attr)
+  pub nodes : (name : List ℕ) (names : Path) → get c.nodes (name ∷ names) ≡ node_at (item_from f at [] (name ∷ names)) (f.content (name ∷ names))
+  pub contents : (i : ℕ) (o : Object) → slice_get c.objects i ≡ Some o → IsContent f at o.bytes
+
+-- what reading answers of a folder that tells: its changes where its walk has no fault, else the first
 abbrev pub Reads : Path → Result ChangesView ReadFault → FolderView → Type 0
-Reads at (Ok c) f = HasNoFault f at × AreChanges f c
+Reads at (Ok c) f = (visits : List Visit) × IsWalk f at visits × (first_fault f at 0 visits ≡ None) × AreChanges f at c
 Reads at (Err faults.Failed) f = Unit {0}
 Reads at (Err faults.NoMemory) f = Unit {0}
-Reads at (Err fault) f = IsFirstFault f at fault
+Reads at (Err fault) f = (visits : List Visit) × IsWalk f at visits × (first_fault f at 0 visits ≡ Some fault)

@@ -2,16 +2,22 @@
 #![tactic(auto)]
 
 mod changes;
+mod contents;
+mod event;
+mod found;
 mod hidden;
 mod overlay_fault;
 mod overlaying;
 mod read_fault;
+mod reading;
+mod visiting;
 mod whiteout;
 
 pub use changes::Changes;
 pub use overlay_fault::OverlayFault;
 pub use overlaying::overlay;
 pub use read_fault::ReadFault;
+pub use reading::read_folder;
 
 #[cfg(test)]
 mod tests;

@@ -1,6 +1,11 @@
 //! Faults of a folder of changes.
 
-use cv_base::RepoPath;
+ghost use Rattle.std.specs.Prelude.{◌≡◌};
+ghost use Rattle.cv_overlay.specs.Fault.{of_folder};
+ghost use Rattle.cv_overlay.specs.declared.read_fault.ReadFault.TheVariants as faults;
+
+use cv_base::{NoMemory, RepoPath};
+use cv_ports::FolderFault;
 
 /// Why a folder's changes weren't read: the first fault of its walk. Paths count from the folder.
 #[derive(Debug, Drop)]
@@ -16,4 +21,23 @@ pub enum ReadFault {
     Failed,
     /// There was no memory.
     NoMemory,
+}
+
+impl From<NoMemory> for ReadFault {
+    ghost from_gives = { λ _ e. e ≡ faults.NoMemory };
+
+    fn from(_fault: NoMemory) -> ReadFault {
+        ReadFault::NoMemory
+    }
+}
+
+impl From<FolderFault> for ReadFault {
+    ghost from_gives = { λ fault e. e ≡ of_folder fault };
+
+    fn from(fault: FolderFault) -> ReadFault {
+        match fault {
+            FolderFault::Failed => ReadFault::Failed,
+            FolderFault::NoMemory => ReadFault::NoMemory,
+        }
+    }
 }

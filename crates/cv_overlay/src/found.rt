@@ -1,0 +1,158 @@
+//! What is found of a folder.
+ghost use Rattle.std.specs.Prelude.{◌≡◌, ◌≤◌, ◌+◌, [], false, length, IfOk, None};
+ghost use Rattle.std.specs.FinMap as map;
+ghost use Rattle.cv_tree.specs.Node.{IsAttr, IsNode};
+ghost use Rattle.cv_tree.specs.Tree.{single};
+ghost use Rattle.cv_tree.specs.declared.node.Node.TheVariants.{Dir};
+ghost use Rattle.cv_overlay.specs.Walk.{root_attr};
+ghost use Rattle.cv_overlay.specs.Found.{is_file_node, with_node, with_file, kept_content};
+
+use crate::changes::Changes;
+use crate::contents::Contents;
+use crate::whiteout::is_whiteout;
+use cv_base::{Attr, Bytes, Kind, NoMemory, ObjectId, RepoPath};
+use cv_tree::{FileRef, Node, Tree};
+use std::alloc::Global;
+use std::marker::Model;
+
+/// What was found of a folder so far: the nodes of its items, the contents of its files, and the bytes of all files.
+#[derive(Drop)]
+pub(crate) struct Found {
+    tree: Tree,
+    contents: Contents,
+    sum: u64,
+}
+
+impl Model for Found {
+    ghost use Rattle.std.specs.Prelude.{◌≤◌};
+    ghost use Rattle.cv_overlay.specs.Changes.{AreContents};
+    ghost use Rattle.cv_overlay.specs.Found.{FoundView};
+    ghost use Rattle.std.specs.FinMap as map;
+    ghost use Rattle.std.specs.Prelude.{List, ℕ, refl};
+    ghost use Rattle.std.specs.Coded.{code_by, coded×, coded_ℕ, coded_list};
+    ghost use Rattle.cv_base.specs.declared.object.Object.{Object};
+    ghost use Rattle.cv_base.specs.contracts.object.Object as object;
+    ghost use Rattle.cv_tree.specs.Tree.{Nodes};
+    ghost use Rattle.cv_tree.specs.contracts.node.Node as node;
+
+    ghost Value = { FoundView };
+
+    ghost coded = { code_by (Nodes × (List Object × ℕ)) (coded× (map.code (coded_list (coded_list coded_ℕ)) node.the_row.coded) (coded× (coded_list object.the_row.coded) coded_ℕ)) (λ v. (v.nodes, (v.objects, v.sum))) (λ p. record { nodes = p.0; objects = p.1.0; sum = p.1.1 }) (λ _. refl) };
+
+    ghost view = { λ f. record { nodes = f.tree; objects = f.contents; sum = f.sum } };
+
+    ghost invariant = { λ f. AreContents f.tree f.contents × (f.sum ≤ 1073741824) };
+}
+
+/// A tree with one node more at a path that is not there yet. A place that is taken, or has no directory above it, is told
+/// as want of memory: a walk comes to none.
+fn inserted(tree: Tree, path: &RepoPath, node: Node) -> Result<Tree, NoMemory>
+    requires { IsNode node }
+    ensures made { IfOk result (λ made. made ≡ map.insert tree path.now node) }
+    ensures free { IfOk result (λ _. map.get tree path.now ≡ None) }
+{
+    let mut tree = tree;
+    match tree.insert(path, node) {
+        Ok(()) => Ok(tree),
+        Err(_) => Err(NoMemory),
+    }
+}
+
+impl Found {
+    /// The folder itself, and nothing in it.
+    #[tactic(auto, using(crate::proofs::Objects::nothing_added))]
+    pub(crate) fn new(alloc: Global) -> Result<Found, NoMemory>
+        ensures { IfOk result (λ made. made ≡ record { nodes = single (Dir root_attr); objects = []; sum = 0 }) }
+    {
+        let root = Attr {
+            mode: 0o755,
+            mtime: 0,
+            uid: 0,
+            gid: 0,
+        };
+        Ok(Found {
+            tree: Tree::new(alloc, root)?,
+            contents: Contents::new(alloc),
+            sum: 0,
+        })
+    }
+
+    /// How many bytes all files have, those of whiteouts too.
+    pub(crate) fn sum(&self) -> u64
+        ensures value { result ≡ self.now.sum }
+        ensures limit { result ≤ 1073741824 }
+    {
+        self.sum
+    }
+
+    /// One directory or link more.
+    pub(crate) fn with_node(self, path: &RepoPath, node: Node) -> Result<Found, NoMemory>
+        requires limits { IsNode node }
+        requires other { is_file_node node ≡ false }
+        ensures { IfOk result (λ made. made ≡ with_node self path.now node) }
+    {
+        let Found {
+            tree,
+            contents,
+            sum,
+        } = self;
+        let tree = inserted(tree, path, node)?;
+        Ok(Found {
+            tree,
+            contents,
+            sum,
+        })
+    }
+
+    /// One file more. The content of a whiteout is not kept.
+    #[tactic(auto, using(crate::proofs::Objects::file_added))]
+    pub(crate) fn with_file(
+        self,
+        path: &RepoPath,
+        attr: Attr,
+        bytes: Bytes,
+    ) -> Result<Found, NoMemory>
+        requires attr { IsAttr attr }
+        requires size { length bytes ≤ 16777216 }
+        requires sum { self.sum + length bytes ≤ 1073741824 }
+        ensures { IfOk result (λ made. made ≡ with_file self path.now attr bytes) }
+    {
+        let Found {
+            tree,
+            contents,
+            sum,
+        } = self;
+        let hash = ObjectId::of(Kind::Plain, bytes.as_slice()).hash;
+        let size = bytes.as_slice().len() as u64;
+        let content = FileRef { hash, size };
+        let tree = inserted(tree, path, Node::File(attr, content))?;
+        let contents = with_content(contents, path, bytes)?;
+        Ok(Found {
+            tree,
+            contents,
+            sum: sum + size,
+        })
+    }
+
+    /// The changes that this is.
+    pub(crate) fn into_changes(self) -> Changes
+        ensures nodes { result.nodes ≡ self.nodes }
+        ensures objects { result.objects ≡ self.objects }
+    {
+        let Found { tree, contents, .. } = self;
+        Changes {
+            tree,
+            objects: contents.into_objects(),
+        }
+    }
+}
+
+/// The contents with that of one file more, unless it is a whiteout.
+fn with_content(contents: Contents, path: &RepoPath, bytes: Bytes) -> Result<Contents, NoMemory>
+    ensures { IfOk result (λ made. made ≡ kept_content contents path.now bytes) }
+{
+    if is_whiteout(path.last_name()) {
+        return Ok(contents);
+    }
+    contents.with(bytes)
+}
