@@ -73,14 +73,20 @@ end_exact {V} {S} disk key token now before aged_ after out at asks = by (subst 
 
     by : AsksEnd key token s out after → IsExact disk (op.Cancel key token) now (reply_of out) before after
     by (not_ended is same) = record {
-      ends = subst (λ (x : StateView V S). CancelStep (state_of s) key token (reply_of out) (state_of x)) (sym same)
-          ((refused_on (state_of s) key token out is).step (λ lease. Cancels (state_of s) token (reply_of out) (state_of s)));
+      ends = (
+        subst (λ (x : StateView V S). CancelStep (state_of s) key token (reply_of out) (state_of x)) (sym same)
+            ((refused_on (state_of s) key token out is).step (λ lease. Cancels (state_of s) token (reply_of out) (state_of s))),
+        ap (λ (x : StateView V S). x.line) same,
+      );
       damage = by_plain disk before.line.vault out (plain_end (lease_of token s.leases) key out is);
     }
     by (ends free is same) =
         let left_ : StateView V S = record s { leases = without token s.leases } in record {
-          ends = subst (λ (x : StateView V S). CancelStep (state_of s) key token (reply_of out) (state_of x)) (sym same)
-              (on_own (state_of s) key token (reply_of out) (state_of left_) (λ lease. Cancels (state_of s) token (reply_of out) (state_of left_)) (own_lease s.leases key token free) (takes (ap reply_of is) refl));
+          ends = (
+            subst (λ (x : StateView V S). CancelStep (state_of s) key token (reply_of out) (state_of x)) (sym same)
+                (on_own (state_of s) key token (reply_of out) (state_of left_) (λ lease. Cancels (state_of s) token (reply_of out) (state_of left_)) (own_lease s.leases key token free) (takes (ap reply_of is) refl)),
+            ap (λ (x : StateView V S). x.line) same,
+          );
           damage = subst (λ o. ShowsDamage disk before.line.vault (reply_of o)) (sym is) tt;
         }
 

@@ -17,7 +17,7 @@ use Rattle.cv_swap.specs.declared.stage.Stage.TheVariants as stage
 use Rattle.cv_gate.specs.Kept.{reopened}
 use Rattle.cv_gate.proofs.Lemmas.{opened}
 use Rattle.cv_desk.specs.Holds.{IsHeadOf, Holds}
-use Rattle.cv_desk.specs.Gate.{StateView, GateView, StandsFor}
+use Rattle.cv_desk.specs.Gate.{StateView, GateView, StandsFor, IsNew}
 use Rattle.cv_desk.specs.Gate.{IsOpened as OpensGate}
 use Rattle.cv_desk.proofs.Names.{settled_at, at_digest}
 use Rattle.cv_desk.proofs.Imaging.{settled_itself}
@@ -87,4 +87,15 @@ gate_opened {V} {S} disk count left is_seal name signer d v l finds keeps o line
       let found : IsFound l.name (is_seal l.signer) (files_now d) o.0 = subst (λ n. IsFound n (is_seal l.signer) (files_now d) o.0) (sym line.named) (subst (λ s. IsFound name (is_seal s) (files_now d) o.0) (sym line.signed) o.1.finds) in
       open_stands disk is_seal (record { line = l; leases = []; moment = 0; next = 1 }) d o.1.end k o.0 o.1.told kept found (finds l.name (is_seal l.signer) (files_now d) k o.0 kept found)
       (keeps l.name (is_seal l.signer) d o.1.end k o.0 kept found o.1.opened) o.1.opened.sure.calm o.2 line.made o.3 o.4 line.stage refl refl refl;
+})
+
+pub gate_new : {V S : Type 0} (name : List ℕ) (signer : S) (l : LineView V S) → IsOpenedLine name signer l → (g : GateView V S) → g ≡ record { state = record { line = l; leases = []; moment = 0; next = 1 }; journal = [] } → IsNew name signer g
+gate_new name signer l line g is = subst (IsNew name signer) (sym is) (record {
+  named = line.named;
+  signed = line.signed;
+  leases = refl;
+  moment = refl;
+  next = refl;
+  journal = refl;
+  calm = λ e. (let c = line.stage in let k = sym c ∙ e in cc);
 })

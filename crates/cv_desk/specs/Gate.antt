@@ -93,7 +93,7 @@ pub record IsSameRepository {V S : Type 0} (before after : LineView V S) : Type 
   pub signer_ : after.signer ≡ before.signer
   pub epoch_ : after.epoch ≡ before.epoch
 
--- it begins without leases, and with an empty journal
+-- it begins without leases, with an empty journal, and without a commit in doubt
 pub record IsNew {V S : Type 0} (name : List ℕ) (signer : S) (g : GateView V S) : Type 0 where
   pub named : g.state.line.name ≡ name
   pub signed : g.state.line.signer ≡ signer
@@ -101,6 +101,7 @@ pub record IsNew {V S : Type 0} (name : List ℕ) (signer : S) (g : GateView V S
   pub moment : g.state.moment ≡ 0
   pub next : g.state.next ≡ 1
   pub journal : g.journal ≡ []
+  pub calm : g.state.line.stage ≢ stage.Doubtful
 
 -- the files were opened with what was found: the gate has its records and its head, in the epoch behind it; and where the files stood for
 -- what is kept, the gate stands for it, opened once more
@@ -127,12 +128,12 @@ IsFailed (Err e) = e.0 ≡ open_fault.Failed
 
 -- ---- a step
 
--- an end of a lease that is asked is the gate's step on the leases alone
+-- an end of a lease that is asked is the gate's step on the leases alone, and nothing is done to the line
 abbrev pub EndsSo : {V S : Type 0} → Op → ℕ → Reply → StateView V S → StateView V S → Type 0
 EndsSo (op.Lease key path) now r s s' = Unit {0}
 EndsSo (op.Store key token digest batch) now r s s' = Unit {0}
 EndsSo (op.Commit key token old_root new_root tag) now r s s' = Unit {0}
-EndsSo (op.Cancel key token) now r s s' = CancelStep (aged (state_of s) now) key token r (state_of s')
+EndsSo (op.Cancel key token) now r s s' = CancelStep (aged (state_of s) now) key token r (state_of s') × (s'.line ≡ s.line)
 
 -- bytes that are said to have another digest stand under the id that is named, where a disk is told
 abbrev pub ShowsDamage : {V : Type 0} → (V → Option Disk) → V → Reply → Type 0

@@ -145,6 +145,16 @@ impl<V: Vault + Drop, S: Signer + Drop> Gate<V, S> {
     {
         self.state.line.into_vault()
     }
+
+    /// The vault and the journal, given back. It takes no memory.
+    pub fn into_parts(self) -> (V, Vec<Entry>)
+        ensures vault { result.0 ≡ self.state.line.vault }
+        ensures journal { result.1.items ≡ self.journal }
+    {
+        let journal = self.journal;
+        let state = self.state;
+        (state.line.into_vault(), journal)
+    }
 }
 
 /// Puts an entry into a place that was taken before.

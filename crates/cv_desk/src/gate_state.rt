@@ -18,7 +18,6 @@ ghost use Rattle.cv_swap.specs.declared.stage.Stage.TheVariants as stage;
 ghost use Rattle.cv_desk.specs.Gate.{StandsFor, IsSameRepository, ShowsDamage, IsExact};
 ghost use Rattle.cv_desk.specs.Acting.{aged_view, Settles, Acts, refusal_of, refusal_on, FindsPlace, OnlyLooks, new_lease, Grants, AsksLease, AsksEnd, Sends, AsksStore, IsDone, Takes, newest_token, ended, reply_of};
 ghost use Rattle.cv_gate.specs.declared.reply.Reply.TheVariants as replies;
-ghost use Rattle.cv_swap.specs.declared.stage.Stage.TheVariants as stage;
 ghost use Rattle.cv_desk.specs.declared.outcome.Outcome.TheVariants as outcomes;
 
 use crate::answer::Answer;

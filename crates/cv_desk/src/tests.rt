@@ -29,9 +29,11 @@ fn has_live(gate: &mut TestGate, seconds: u32, count: usize) -> Result<bool, Fai
     Ok(gate.live(START + u64::from(seconds))?.len() == count)
 }
 
-/// Whether a gate's journal has so many entries.
-fn has_entries(gate: &mut TestGate, count: usize) -> bool {
-    gate.journal().len() == count
+/// Whether a gate's journal has so many entries, also when it is given back.
+fn has_entries(gate: TestGate, count: usize) -> bool {
+    let now = gate.journal().len();
+    let (_vault, journal) = gate.into_parts();
+    now == count && journal.len() == count
 }
 
 #[test]
@@ -40,7 +42,7 @@ fn a_lease_is_live_until_its_deadline(rt: HostRuntime) -> Result<(), Fail> {
     assert!(rt; matches!(leased(rt.alloc(), &mut gate)?, Reply::Granted { .. }));
     assert!(rt; has_live(&mut gate, 7199, 1)?);
     assert!(rt; has_live(&mut gate, 7200, 0)?);
-    assert!(rt; has_entries(&mut gate, 1));
+    assert!(rt; has_entries(gate, 1));
     Ok(())
 }
 
