@@ -11,8 +11,10 @@ import struct
 import cvkit_client
 import line_vectors
 import row_vectors
-from cut_vectors import catalogues
-from cvkit_client import LEASES, REPOSITORY, authorization, commit, get, lease_message, pack, payload, plain
+from cut_vectors import catalogues, read
+from cvkit_client import LEASES, REPOSITORY, authorization, commit, digest_of, get, lease_message, pack, payload, plain
+from cvkit_release import offer
+from graft_vectors import replaced
 from line_vectors import literal, name, sha1
 from vectors import constant, settle, table, text
 
@@ -215,6 +217,9 @@ PAYLOADS = [
 ASKED = [LEASED, STORED, STORED]
 FAILED_REPLY = refused("store_failed").encode()
 SAID = [[LEASED[1], *replies] for replies in ([DONE.encode()] * 2, [FAILED_REPLY, DONE.encode()], [DONE.encode(), FAILED_REPLY])]
+# The same with one payload, and what the next opening has where nothing of it is there.
+ONCE_SAID = [[LEASED[1], reply] for reply in (DONE.encode(), FAILED_REPLY)]
+LACKING = [refusal("404 Not Found")]
 AGAIN = [READ, (ask("/a").encode(), granted("2-1").encode()), (payload("2-1", OBJECTS), DONE.encode())]
 
 # A session that leases, sends and commits, and reads what the new revision names: the manifest, the record and the catalogue.
@@ -227,9 +232,10 @@ READS = [(get(path), octets(data)) for path, data in ((HEAD, SECOND_MANIFEST), (
 ENDED = (COMMITTED[0], refused("invalid_token").encode())
 PUBLISHED = [LEASED, STORED, COMMITTED, *READS, ENDED]
 # What the next opening has then.
-REOPENED = [READS[0], (ask("/a").encode(), reply({"revision": 2, "root_hash": NEW, "session_token": "2-1", "status": "ok"}).encode())]
+AFTER = {"revision": 2, "root_hash": NEW, "status": "ok"}
+REOPENED = [READS[0], (end("1-1", "k1").encode(), ENDED[1]), (ask("/a").encode(), reply({**AFTER, "session_token": "2-1"}).encode())]
 # What it has where there was no commit.
-UNCHANGED = [octets(MANIFEST), granted("2-1").encode()]
+UNCHANGED = [octets(MANIFEST), ENDED[1], granted("2-1").encode()]
 
 # A commit of what is there already, twice, and what may be said where one call of the vault fails: the first commit is made; it
 # fails, and the second one is made; it fails, and stands at the second.
@@ -241,6 +247,166 @@ COMMITS_SAID = [
 # One commit, and what may be said of it.
 CUT = [LEASED[0], COMMITTED[0]]
 CUT_SAID = [[LEASED[1], COMMITTED[1]], [LEASED[1], FAILED_REPLY]]
+# A lease behind that commit, which settles it where it failed: as made, or as not made.
+SETTLED = [*CUT, ask("/q").encode()]
+SETTLED_SAID = [[*CUT_SAID[1], said.encode()] for said in (granted("1-2"), reply({**AFTER, "session_token": "1-2"}))]
+
+
+# ---- stories of publishers
+
+EMPTY = read("")
+assert catalogues(EMPTY)[""] == CATALOGUE
+
+
+def offered(nodes):
+    """The root of a tree, and its objects by their ids."""
+    root, objects = offer(nodes, line_vectors.TIME)
+    return root, dict(objects)
+
+
+class Story:
+    """A session over the new repository. Its trees are those of the revisions, its paths those of the leases."""
+
+    def __init__(self, name):
+        self.name, self.exchanges, self.trees, self.paths, self.objects = name, [], [EMPTY], [], set()
+
+    def say(self, asked, answer):
+        self.exchanges.append((asked, reply(answer).encode()))
+
+    def refuse(self, asked, reason, **members):
+        self.say(asked, {"reason": reason, "status": "error", **members})
+
+    def lease(self, *paths):
+        """Leases on these paths, which are granted."""
+        for path in paths:
+            self.paths.append(path)
+            token, root = f"1-{len(self.paths)}", offered(self.trees[-1])[0]
+            self.say(ask(path).encode(), {"revision": len(self.trees), "root_hash": root, "session_token": token, "status": "ok"})
+
+    def send(self, number, objects):
+        """A payload under the lease of this number."""
+        self.objects |= set(objects)
+        self.say(payload(f"1-{number}", list(objects.items())), {"status": "ok"})
+
+    def publish(self, number, old, nodes, tag=""):
+        """A commit under the lease of this number, which offers a tree made from an old root."""
+        self.trees.append(replaced(self.trees[-1], self.paths[number - 1] or "/", nodes))
+        root, objects = offered(self.trees[-1])
+        self.objects |= set(objects)
+        asked = commit(f"1-{number}", offered(old)[0], offered(nodes)[0], tag=tag)
+        self.say(asked, {"final_revision": len(self.trees), "root_hash": root, "status": "ok"})
+
+    def bring(self, number, old, nodes):
+        """The objects of a tree, and its commit."""
+        self.send(number, offered(nodes)[1])
+        self.publish(number, old, nodes)
+
+    def read(self, data, suffix=""):
+        self.exchanges.append((get(name(data, suffix)), octets(data)))
+
+    def read_catalogues(self, count):
+        """All catalogues of the newest tree, which are so many."""
+        made = catalogues(self.trees[-1])
+        assert len(made) == count
+        for data in made.values():
+            self.read(data, "C")
+
+    def row(self):
+        """Its name, the input, the output, and the count of objects: each revision has a record."""
+        asked, said = (joined(part) for part in zip(*self.exchanges))
+        return f'("{self.name}", {asked}, {said}, {len(self.objects | set(offered(EMPTY)[1])) + len(self.trees)})'
+
+
+def stories():
+    nowhere, away = "0" * 39 + "1", digest_of(HELLO)
+    one = Story("a root that was never sent")
+    one.lease("/a")
+    one.refuse(commit("1-1", OLD, nowhere), "missing_object", object=nowhere + "C")
+    yield one
+
+    one, wrong = Story("a file of another size"), row_vectors.file([row_vectors.row("", "dir"), row_vectors.row("/a", "file", HELLO, size=7)])
+    one.lease("/a")
+    one.send(1, dict([plain(HELLO), (digest_of(wrong) + "C", wrong)]))
+    one.refuse(commit("1-1", OLD, digest_of(wrong)), "bad_catalogue", object=digest_of(wrong) + "C")
+    yield one
+
+    x, y, both = read("/x"), read("/y"), read("/x /y")
+    for what, paths in ("two publishers", ("/x", "/y")), ("the two the other way round", ("/y", "/x")):
+        one = Story(what)
+        one.lease("/x", "/y")
+        for path in paths:
+            one.bring(1 if path == "/x" else 2, EMPTY, x if path == "/x" else y)
+        assert one.trees[-1] == both
+        one.read_catalogues(1)
+        yield one
+
+    one = Story("a root of before the lease")
+    one.lease("/x")
+    one.bring(1, EMPTY, x)
+    one.lease("/y")
+    one.send(2, offered(y)[1])
+    one.refuse(commit("1-2", OLD, offered(y)[0]), "stale_base", revision=2)
+    one.publish(2, x, y)
+    yield one
+
+    one = Story("a file is taken out")
+    one.lease("/x")
+    one.bring(1, EMPTY, x)
+    one.lease("/y")
+    one.bring(2, x, y)
+    one.lease("/x")
+    one.publish(3, both, EMPTY)
+    assert one.trees[-1] == y
+    one.read_catalogues(1)
+    yield one
+
+    one, plain_, marked = Story("a marker comes and goes"), read("/d/ /d/f /d/g"), read("/d/ /d/f /d/g /d/.cvmfscatalog")
+    one.lease("/d")
+    one.bring(1, EMPTY, plain_)
+    one.lease("/d")
+    one.bring(2, plain_, marked)
+    # Two rows and an entry above, and four rows below.
+    assert [struct.unpack(">II", data[4:12]) for data in catalogues(marked).values()] == [(4, 0), (2, 1)]
+    one.read_catalogues(2)
+    one.lease("/d")
+    one.publish(3, marked, plain_)
+    assert one.trees[-1] == one.trees[1]
+    yield one
+
+    one, whole = Story("a whole tree"), read("/a/ /a/.cvmfscatalog /a/f /b/ /b/l=../a/f /c")
+    one.lease("/x")
+    one.bring(1, EMPTY, x)
+    one.lease("")
+    one.bring(2, x, whole)
+    assert one.trees[-1] == whole
+    one.read_catalogues(2)
+    yield one
+
+    one = Story("what is there already")
+    for number in 1, 2:
+        one.lease("/x")
+        one.publish(number, EMPTY, EMPTY)
+    yield one
+
+    one, with_file = Story("a file that comes late"), {"": EMPTY[""], "/a": ("file", HELLO)}
+    one.lease("/a")
+    one.send(1, {NEW + "C": WITH_FILE})
+    one.refuse(commit("1-1", OLD, NEW), "missing_object", object=away)
+    one.exchanges.append((request("GET", LEASES).encode(), listed(("k1", "/a", 7200)).encode()))
+    one.send(1, dict([plain(HELLO)]))
+    one.publish(1, EMPTY, with_file)
+    yield one
+
+    one = Story("another key")
+    one.lease("/a")
+    one.refuse(commit("1-1", OLD, OLD, "k2"), "wrong_key")
+    yield one
+
+    one = Story("a tag again")
+    one.lease("/a", "/b")
+    one.publish(1, EMPTY, EMPTY, "v1")
+    one.refuse(commit("1-2", OLD, OLD, tag="v1"), "tag_taken", revision=2)
+    yield one
 
 
 def joined(parts):
@@ -276,6 +442,9 @@ settle(
         constant("STORED_TWICE", "&[u8]", joined(asked for asked, _ in ASKED)),
         table("SAID", "&[u8]", [joined(said) for said in SAID], "static"),
         constant("STORED_AGAIN", "(&[u8], &[u8])", row_of_bytes(AGAIN)),
+        constant("STORED_ONCE", "&[u8]", joined([LEASED[0], STORED[0]])),
+        table("ONCE_SAID", "&[u8]", [joined(said) for said in ONCE_SAID], "static"),
+        constant("LACKING", "&[u8]", joined([*LACKING, *(said for _, said in AGAIN[1:])])),
     ],
 )
 settle(
@@ -289,5 +458,11 @@ settle(
         table("COMMITS_SAID", "&[u8]", [joined(said) for said in COMMITS_SAID], "static"),
         constant("CUT", "&[u8]", joined(CUT)),
         table("CUT_SAID", "&[u8]", [joined(said) for said in CUT_SAID], "static"),
+        constant("SETTLED", "&[u8]", joined(SETTLED)),
+        table("SETTLED_SAID", "&[u8]", [joined(said) for said in SETTLED_SAID], "static"),
     ],
+)
+settle(
+    "crates/cv_top/src/story_tests.rt",
+    [table("STORIES", "(&str, &[u8], &[u8], usize)", [one.row() for one in stories()], "static")],
 )

@@ -12,6 +12,8 @@ mod stdio;
 #[cfg(test)]
 mod store_tests;
 #[cfg(test)]
+mod story_tests;
+#[cfg(test)]
 mod test_runs;
 #[cfg(test)]
 mod tests;
