@@ -1,18 +1,25 @@
 #!/usr/bin/env python3
-"""Payloads of 100 objects of 10 KiB through `cvkit stdio`, beside the same bytes written, synced and renamed by Python.
+"""What the gate takes through `cvkit stdio`: payloads, beside the same bytes written by Python, and leases, by the history.
 
     bench/gate.py [--short] [PROGRAM]
 
-The files are written in the same order: each under `txn/`, a sync of each file and of the folder, then each to its name, and a
-sync of the folders. The best of five runs stands. The short form stores five objects once and prints no time.
+Payloads are of 100 objects of 10 KiB. Python writes the same bytes in the same order: each under `txn/`, a sync of each file and of
+the folder, then each to its name, and a sync of the folders. The best of five runs stands. Leases are granted, 999 over one
+connection once it is open, in a repository of one revision and in one of 10,000: the middle one of five runs each may take 1.5
+times as long. The short form stores five objects and grants 20 leases, at 1 and 40 revisions, once each, and prints no time.
 """
 import os
+import statistics
 import sys
 import tempfile
 import time
 
 sys.path.insert(0, os.path.join(os.path.dirname(os.path.abspath(__file__)), "..", "tools"))
-from cvkit_client import Session, expect, lease, main, object_name, payload, plain, repository
+from cvkit_client import REPOSITORIES, Session, expect, lease, main, object_name, payload, plain, repository, workplace
+from line import add_line
+
+# How much longer a lease may take beside a long history.
+RATIO = 1.5
 
 
 def contents(turn, count):
@@ -59,7 +66,7 @@ def by_cvkit(session, objects):
     return took
 
 
-def script(program, short):
+def measure_payloads(program, short):
     count, times = (5, 1) if short else (100, 5)
     with repository(program) as folder, Session(program, folder) as session:
         session.exchange(lease("/a"))
@@ -71,6 +78,41 @@ def script(program, short):
         print(f"{count} objects were stored")
         return
     print(f"{count} objects of 10 KiB: {stored:.3f} s, by Python {written:.3f} s, ratio {stored / written:.2f} of 1.3")
+
+
+def lease_seconds(program, folder, revision, count):
+    """The seconds of one of so many leases, which are granted at this revision over a connection that is open."""
+    asked = [lease(f"/n{number}") for number in range(count)]
+    with Session(program, folder) as session:
+        session.exchange(REPOSITORIES)
+        begin = time.perf_counter()
+        replies = [session.exchange(one) for one in asked]
+        took = time.perf_counter() - begin
+        session.close()
+    found = {(answer["status"], answer.get("revision")) for answer in (reply.json() for reply in replies)}
+    expect(found == {("ok", revision)}, "the answers to leases", found)
+    return took / count
+
+
+def measure_leases(program, short):
+    """A lease beside a short history and beside a long one, one run of each after the other."""
+    revisions, count, times = ((1, 40), 20, 1) if short else ((1, 10_000), 999, 5)
+    with workplace() as first, workplace() as second:
+        folders = list(zip((first, second), revisions))
+        for folder, revision in folders:
+            add_line(folder, revision)
+        runs = [[lease_seconds(program, *one, count) for one in folders] for _ in range(times)]
+    if short:
+        print(f"{count} leases were granted at each of the revisions {revisions}")
+        return
+    young, old = (statistics.median(seconds) for seconds in zip(*runs))
+    print(f"a lease at revision 1: {young * 1e6:.0f} us; at revision 10,000 {old * 1e6:.0f} us; ratio {old / young:.2f} of {RATIO}")
+    expect(old <= RATIO * young, "a lease takes longer beside a long history than it may")
+
+
+def script(program, short):
+    measure_payloads(program, short)
+    measure_leases(program, short)
 
 
 main(script)

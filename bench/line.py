@@ -135,4 +135,5 @@ def script(program, short):
     expect(in_time, "opening takes longer than it may")
 
 
-main(script)
+if __name__ == "__main__":
+    main(script)

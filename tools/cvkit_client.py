@@ -78,14 +78,20 @@ def ended(program, folder, words, given=b"", output=subprocess.PIPE):
     return ran.returncode, ran.stdout, ran.stderr.decode()
 
 
-def fsyncs(program, folder, words, given=b""):
-    """How many fsyncs the program makes on these words and this input, by strace."""
+def sync_calls(words, folder, given=b"", env=None):
+    """How often these words make each call of the system that syncs, on this input, by strace."""
     with tempfile.NamedTemporaryFile("r") as log:
-        tracer = [STRACE, "-c", "-f", "-o", log.name, "-e", "trace=fsync,fdatasync"]
-        ran = subprocess.run([*tracer, program, *words], cwd=folder, input=given, stdout=subprocess.DEVNULL)
+        tracer = [STRACE, "-c", "-f", "-o", log.name, "-e", "trace=fsync,fdatasync,syncfs,sync"]
+        ran = subprocess.run([*tracer, *words], cwd=folder, input=given, stdout=subprocess.DEVNULL, stderr=subprocess.DEVNULL, env=env)
         expect(ran.returncode == 0, f"{words[0]} under strace", ran.returncode)
         rows = [line.split() for line in log.read().splitlines()]
-    return sum(int(row[3]) for row in rows if row and re.fullmatch("f(data)?sync", row[-1]))
+    return {row[-1]: int(row[3]) for row in rows if row and re.fullmatch("f(data)?sync|sync(fs)?", row[-1])}
+
+
+def fsyncs(program, folder, words, given=b""):
+    """How many fsyncs the program makes on these words and this input, by strace."""
+    calls = sync_calls([program, *words], folder, given)
+    return calls.get("fsync", 0) + calls.get("fdatasync", 0)
 
 
 def init(program, folder, name=REPOSITORY):

@@ -1,0 +1,195 @@
+#!/usr/bin/env python3
+"""A folder of files published through `cvkit stdio`, beside `ostree commit` and `restic backup` of the same folder.
+
+    bench/publish.py [--short] [PROGRAM]
+
+The folder has 1,000 files of 10 KiB of random bytes. Each tool puts it into a repository of its own that is new and empty, on the
+disk of the system's folder for temporary files, with the syncs that it makes by itself: how many, by strace. Its time is that of
+its process, from its start until it has ended; making the repository doesn't count. For cvkit a client in Python reads and hashes
+the files and makes the catalogue, and leases, sends and commits in one connection: the time has that too, and what of it passes
+in the client. One tool runs after the other, five times, and the middle time of each stands. A tool that isn't there is skipped.
+The short form has five files, and prints no time. Each repository must have the files then.
+"""
+import collections
+import os
+import shutil
+import statistics
+import subprocess
+import sys
+import tempfile
+import time
+
+sys.path.insert(0, os.path.join(os.path.dirname(os.path.abspath(__file__)), "..", "tools"))
+from cvkit_client import (
+    REPOSITORY,
+    STRACE,
+    Session,
+    commit,
+    digest_of,
+    expect,
+    lease,
+    main,
+    object_path,
+    payload,
+    repository,
+    sync_calls,
+)
+from cvkit_files import read_file, whole_head
+from cvkit_release import DIRECTORY, file, offer, tree
+
+# The seconds in which an answer has to come.
+PATIENCE = 300
+SIZE = 10_240
+# What restic asks for, and where it keeps what speeds it up: in the folder of the run.
+PASSWORD = "publish"
+
+# A publication: the seconds of all of it, and those that passed in the client.
+Taken = collections.namedtuple("Taken", "seconds client")
+
+
+def make_files(folder, count):
+    """So many files in a folder."""
+    os.mkdir(folder)
+    for number in range(count):
+        with open(os.path.join(folder, f"{number:06}"), "wb") as made:
+            made.write(os.urandom(SIZE))
+
+
+def contents_of(folder):
+    return {name: read_file(os.path.join(folder, name)) for name in sorted(os.listdir(folder))}
+
+
+def requests_of(folder, head):
+    """The requests that publish a folder at `/files` of a new repository, and the root that they offer."""
+    nodes = {f"/files/{name}": file(content) for name, content in contents_of(folder).items()}
+    root, objects = offer(tree({"/files": DIRECTORY}, nodes), head.time)
+    return [lease("/files"), payload("1-1", objects), commit("1-1", head.root, root)], root
+
+
+def look(found, folder):
+    """What a tool has must be the folder."""
+    wanted = contents_of(folder)
+    expect(found == wanted, "the files of a repository", (len(found), len(wanted)))
+
+
+class Cvkit:
+    """`cvkit stdio`, over a repository that `cvkit init` makes."""
+
+    name = "cvkit"
+
+    def __init__(self, program):
+        self.program = program
+
+    def lacks(self):
+        return False
+
+    def publish(self, folder):
+        with repository(self.program) as place:
+            head, begin = whole_head(place), time.perf_counter()
+            with Session(self.program, place) as session:
+                asked, root = requests_of(folder, head)
+                client, answers = time.perf_counter() - begin, []
+                for one in asked:
+                    session.send(one)
+                    answers.append(session.reply(PATIENCE).json())
+                session.close()
+            seconds = time.perf_counter() - begin
+            expect(answers[-1] == {"final_revision": 2, "root_hash": root, "status": "ok"}, "the answer to a commit", answers[-1])
+            expect(whole_head(place).root == root, "the newest root", root)
+            names = {name: object_path(place, digest_of(content)) for name, content in contents_of(folder).items()}
+            look({name: read_file(path) for name, path in names.items()}, folder)
+        return Taken(seconds, client)
+
+    def syncs(self, folder):
+        with repository(self.program) as place:
+            asked, _ = requests_of(folder, whole_head(place))
+            return sync_calls([self.program, "stdio", REPOSITORY], place, b"".join(asked))
+
+
+class Tool:
+    """A tool that puts a folder into a repository by one command."""
+
+    def __init__(self, name, made, published, given_back):
+        self.name, self.made, self.published, self.given_back = name, made, published, given_back
+
+    def lacks(self):
+        return shutil.which(self.name) is None
+
+    def words(self, words, place, folder):
+        where = {"repository": os.path.join(place, "repository"), "folder": folder, "out": os.path.join(place, "out")}
+        return [self.name] + [word.format(**where) for word in words]
+
+    def run(self, words, place, folder):
+        how = {"cwd": place, "env": around(place), "stdin": subprocess.DEVNULL, "capture_output": True}
+        ran = subprocess.run(self.words(words, place, folder), **how)
+        expect(ran.returncode == 0, f"{self.name} {words[0]}", (ran.returncode, ran.stderr))
+
+    def publish(self, folder):
+        with tempfile.TemporaryDirectory(prefix="cvkit-") as place:
+            self.run(self.made, place, folder)
+            begin = time.perf_counter()
+            self.run(self.published, place, folder)
+            seconds = time.perf_counter() - begin
+            self.run(self.given_back, place, folder)
+            out = os.path.join(place, "out")
+            below = out + folder
+            look(contents_of(below if os.path.isdir(below) else out), folder)
+        return Taken(seconds, 0)
+
+    def syncs(self, folder):
+        with tempfile.TemporaryDirectory(prefix="cvkit-") as place:
+            self.run(self.made, place, folder)
+            return sync_calls(self.words(self.published, place, folder), place, env=around(place))
+
+
+def around(place):
+    """The environment of a tool's run."""
+    return {**os.environ, "RESTIC_PASSWORD": PASSWORD, "RESTIC_CACHE_DIR": os.path.join(place, "cache"), "HOME": place}
+
+
+OSTREE = Tool(
+    "ostree",
+    ["init", "--repo={repository}"],
+    ["commit", "--repo={repository}", "--branch=files", "{folder}"],
+    ["checkout", "--repo={repository}", "--user-mode", "files", "{out}"],
+)
+RESTIC = Tool(
+    "restic",
+    ["init", "--repo={repository}"],
+    ["backup", "--repo={repository}", "{folder}"],
+    ["restore", "--repo={repository}", "--target={out}", "latest"],
+)
+
+
+def tell(tool, runs, folder):
+    """A line on the runs of a tool."""
+    seconds, client = (statistics.median(one) for one in zip(*runs))
+    syncs = "not counted: there is no strace"
+    if STRACE:
+        syncs = ", ".join(f"{count:,} {call}" for call, count in sorted(tool.syncs(folder).items())) or "none"
+    inside = f", of which {client:.2f} s in its client" if client else ""
+    print(f"{tool.name}: {seconds:.2f} s{inside}; from {min(runs).seconds:.2f} to {max(runs).seconds:.2f} s; syncs: {syncs}")
+    return seconds
+
+
+def script(program, short):
+    count, times = (5, 1) if short else (1_000, 5)
+    tools = [Cvkit(program), OSTREE, RESTIC]
+    for tool in tools:
+        if tool.lacks():
+            print(f"skipped: {tool.name}: it isn't on this machine")
+    tools = [tool for tool in tools if not tool.lacks()]
+    with tempfile.TemporaryDirectory(prefix="cvkit-") as top:
+        folder = os.path.join(top, "files")
+        make_files(folder, count)
+        runs = list(zip(*([tool.publish(folder) for tool in tools] for _ in range(times))))
+        if short:
+            print(f"{count} files were published by {', '.join(tool.name for tool in tools)}")
+            return
+        print(f"{count:,} files of 10 KiB, the middle one of {times} runs:")
+        own, *others = [tell(tool, one, folder) for tool, one in zip(tools, runs)]
+        for tool, seconds in zip(tools[1:], others):
+            print(f"cvkit to {tool.name}: {own / seconds:.2f}")
+
+
+main(script)
