@@ -2,8 +2,6 @@
 ghost use Rattle.std.specs.Prelude.{◌<◌};
 ghost use Rattle.cv_tree.specs.Node.{IsNode, IsAttr};
 
-mod folder_rows;
-mod folders;
 mod rows;
 
 use crate::overlay_fault::OverlayFault;
