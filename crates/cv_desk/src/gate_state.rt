@@ -20,6 +20,7 @@ ghost use Rattle.cv_desk.specs.Acting.{aged_view, Settles, Acts, refusal_of, ref
 ghost use Rattle.cv_gate.specs.declared.reply.Reply.TheVariants as replies;
 ghost use Rattle.cv_desk.specs.declared.outcome.Outcome.TheVariants as outcomes;
 
+use crate::ageing::drop_due;
 use crate::answer::Answer;
 use crate::listing::list_leases;
 use crate::outcome::Outcome;
@@ -35,7 +36,8 @@ use cv_seal::Signer;
 use cv_swap::Line;
 use cv_vault::{Vault, VaultFault};
 use std::alloc::Global;
-use std::marker::Model;
+use std::marker::{Brand, Model};
+use std::sync::ledger::Blank;
 
 /// The seconds for which a lease is granted.
 const LEASE_TIME: u64 = 7200;
@@ -109,7 +111,7 @@ impl<V: Vault + Drop, S: Signer + Drop> GateState<V, S> {
         ensures { self.new ≡ aged_view self.old now }
     {
         self.moment = self.moment.max(now);
-        self.leases.expire(self.moment);
+        drop_due::<Brand>(&mut self.leases, self.moment, Blank::new(1));
     }
 
     /// Why a lease on the path isn't granted now, if it isn't.

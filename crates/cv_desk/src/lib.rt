@@ -1,6 +1,7 @@
 //! The gate over a repository's line on disk, and the desk for one connection over it.
 #![tactic(auto)]
 
+mod ageing;
 mod answer;
 mod committing;
 mod gate;

@@ -1,6 +1,7 @@
 -- What holds of a table when leases leave it or come to it.
-use Rattle.std.proofs.Common.{◌≡◌, ◌≤◌, ◌<◌, ◌+◌, ◌&&◌, nat_eq, Bool, true, false, cond, List, [], ◌∷◌, ◌++◌, length, arith, refl, sym, subst, Some, None}
+use Rattle.std.proofs.Common.{ℕ, T, ◌≡◌, ◌≤◌, ◌<◌, ◌+◌, ◌&&◌, nat_eq, Bool, true, false, cond, List, [], ◌∷◌, ◌++◌, length, arith, refl, sym, subst, Some, None}
 use Rattle.std.proofs.lemmas.Bool.{eqb-true}
+use Rattle.std.proofs.Math.Dec.{eqb_refl}
 use Rattle.std.specs.List.{filter, last_or, AllByRecursion}
 use Rattle.std.proofs.lemmas.List.Elements.{All-from_recursion}
 use Rattle.std.proofs.lemmas.List.Kept.{AllPairs-filter}
@@ -18,6 +19,12 @@ same_token_is a b h =
       | true ↦ λ e n. let epoch : a.epoch ≡ b.epoch = eqb-true _ _ e in let number : a.number ≡ b.number = eqb-true _ _ n in (λ i. record { epoch = epoch i; number = number i })
       | false ↦ λ e n. cc
     ] refl h
+
+eqb_itself : (n : ℕ) → nat_eq n n ≡ true
+eqb_itself n = elim (nat_eq n n) as (λ b. T b → b ≡ true) [ true ↦ λ t. refl | false ↦ λ t. absurd t ] (eqb_refl n)
+
+pub same_token_itself : (a : Token) → same_token a a ≡ true
+same_token_itself a = rw (eqb_itself a.epoch, eqb_itself a.number) refl
 
 pub all_filter : {X : Type 0} (P : X → Type 0) (test : X → Bool) (xs : List X) → AllByRecursion P xs → AllByRecursion P (filter test xs)
 all_filter P test [] h = tt
@@ -55,7 +62,7 @@ last_or_some x [] h = cc
 last_or_some x (y ∷ ys) h = last_or_some y ys h
 
 -- where no lease overlaps, none does
-none_overlaps : (leases : List Lease) (path : Path) → busy leases path ≡ None → AllByRecursion (λ lease. overlap lease.path path ≡ false) leases
+pub none_overlaps : (leases : List Lease) (path : Path) → busy leases path ≡ None → AllByRecursion (λ lease. overlap lease.path path ≡ false) leases
 none_overlaps [] path h = tt
 none_overlaps (lease ∷ leases) path h =
     elim (overlap lease.path path) as (λ b. overlap lease.path path ≡ b → last_or None (cond b (lease ∷ filter (λ other. overlap other.path path) leases) (filter (λ other. overlap other.path path) leases)) ≡ None → (overlap lease.path path ≡ false) × AllByRecursion (λ other. overlap other.path path ≡ false) leases) [

@@ -1,1 +1,4 @@
 pub mod Leases
+pub mod Queue
+pub mod Names
+pub mod Linked

@@ -1,33 +1,37 @@
 //! The table of leases.
-ghost use Rattle.std.specs.Prelude.{◌≡◌, ◌≤◌, ◌++◌, ◌∷◌, [], length, None, is_ok, is_some, slice_get, option_copied, if◌then◌else◌};
+ghost use Rattle.std.specs.Prelude.{◌≡◌, ◌≤◌, ◌+◌, ◌-◌, ◌*◌, ◌++◌, ◌∷◌, [], length, None, is_ok, is_some, slice_get, option_copied, if◌then◌else◌};
 ghost use Rattle.std.specs.List.{AllByRecursion};
 ghost use Rattle.cv_leases.specs.Leases.{lease_of, without, unexpired, busy, refusal, IsAnswer};
 
 use crate::lease::Lease;
 use crate::lease_fault::LeaseFault;
-use cv_base::{RepoPath, Token, ends_in_marker};
+use crate::linked::Linked;
+use cv_base::{NoMemory, RepoPath, Steps, Token, ends_in_marker};
 use std::alloc::Global;
-use std::marker::Model;
+use std::marker::{Brand, Model};
+use std::sync::ledger::{Blank, Ledger};
 
 /// The most leases at one time.
 pub const LEASE_LIMIT: usize = 4096;
 
 /// The leases that are live, of which no two overlap. Clauses see them in the order in which they were granted.
-#[derive(Debug, Drop)]
+#[derive(Drop)]
 pub struct LeaseTable {
-    leases: Vec<Lease>,
+    linked: Linked,
 }
 
 impl Model for LeaseTable {
     ghost use Rattle.std.specs.Prelude.{List};
     ghost use Rattle.cv_leases.specs.declared.lease.Lease.{Lease};
     ghost use Rattle.cv_leases.specs.Leases.{IsTable};
+    ghost use Rattle.cv_leases.specs.Linked.{IsLinked};
+    ghost use Rattle.cv_leases.specs.Queue.{leases_in};
 
     ghost Value = { List Lease };
 
-    ghost view = { λ table. table.leases.items };
+    ghost view = { λ table. leases_in table.linked.queue };
 
-    ghost invariant = { λ table. IsTable table.leases.items };
+    ghost invariant = { λ table. IsLinked table.linked × IsTable (leases_in table.linked.queue) };
 }
 
 impl LeaseTable {
@@ -36,7 +40,7 @@ impl LeaseTable {
         ensures { result ≡ [] }
     {
         LeaseTable {
-            leases: Vec::new(alloc),
+            linked: Linked::new(alloc),
         }
     }
 
@@ -57,12 +61,12 @@ impl LeaseTable {
         if let Some(other) = self.overlapping(&lease.path) {
             return Err(LeaseFault::PathBusy(other.token));
         }
-        if self.leases.len() >= LEASE_LIMIT {
+        if self.count() >= LEASE_LIMIT {
             return Err(LeaseFault::TooManyLeases);
         }
-        match self.leases.push(lease) {
+        match self.linked.grant::<Brand>(lease, Blank::new(1)) {
             Ok(()) => Ok(()),
-            Err(_) => Err(LeaseFault::NoMemory),
+            Err(NoMemory) => Err(LeaseFault::NoMemory),
         }
     }
 
@@ -70,14 +74,14 @@ impl LeaseTable {
     pub fn overlapping(&self, path: &RepoPath) -> Option<&Lease>
         ensures { option_copied result ≡ busy self.now path.now }
     {
-        last_overlapping(&self.leases, path)
+        self.linked.overlapping::<Brand>(path, Blank::new(1))
     }
 
     /// The lease with this token.
     pub fn find(&self, token: Token) -> Option<&Lease>
         ensures { option_copied result ≡ lease_of token self.now }
     {
-        self.leases.iter().find(|lease| lease.token == token)
+        self.linked.queue.find::<Brand>(token, Blank::new(1))
     }
 
     /// Takes out the lease with this token, and tells whether there was one.
@@ -86,57 +90,29 @@ impl LeaseTable {
         ensures there { result ≡ is_some (lease_of token self.old) }
         ensures leases { self.new ≡ without token self.old }
     {
-        let is_there = self.find(token).is_some();
-        drop_token(&mut self.leases, token);
-        is_there
+        self.linked.end::<Brand>(token, Blank::new(1))
     }
 
-    /// Takes out the leases whose deadline is at this moment or before it.
+    /// Takes out the leases whose deadline is at this moment or before it. Each costs at most 66 steps.
     #[tactic(auto, using(crate::proofs::Tables::table_filter))]
-    pub fn expire(&mut self, moment: u64)
-        ensures { self.new ≡ unexpired moment self.old }
+    pub fn expire<L: Ledger>(&mut self, moment: u64, steps: &mut Steps<L>)
+        ensures leases { self.new ≡ unexpired moment self.old }
+        ensures steps { steps.new ≤ steps.old + 66 * (length self.old - length self.new) + 1 }
     {
-        drop_expired(&mut self.leases, moment);
+        while self.linked.drop_due(moment, steps) {}
     }
 
     /// How many leases there are.
     pub fn count(&self) -> usize
         ensures { result ≡ length self.now }
     {
-        self.leases.len()
+        self.linked.queue.count
     }
 
     /// The lease at a place in the order of grant, from 0 on.
     pub fn at(&self, place: usize) -> Option<&Lease>
         ensures { option_copied result ≡ slice_get self.now place }
     {
-        self.leases.get(place)
+        self.linked.queue.at::<Brand>(place, Blank::new(1))
     }
-}
-
-/// Of the leases that overlap the path, the one granted last.
-fn last_overlapping<'a>(leases: &'a [Lease], path: &RepoPath) -> Option<&'a Lease>
-    ensures { option_copied result ≡ busy leases.now path.now }
-{
-    let mut last = None;
-    for lease in leases {
-        if lease.path.overlaps(path) {
-            last = Some(lease);
-        }
-    }
-    last
-}
-
-/// Takes out the lease with this token.
-fn drop_token(leases: &mut Vec<Lease>, token: Token)
-    ensures { leases.new.items ≡ without token leases.old.items }
-{
-    leases.retain(|lease| lease.token != token);
-}
-
-/// Takes out the leases whose deadline isn't after this moment.
-fn drop_expired(leases: &mut Vec<Lease>, moment: u64)
-    ensures { leases.new.items ≡ unexpired moment leases.old.items }
-{
-    leases.retain(|lease| moment < lease.deadline);
 }

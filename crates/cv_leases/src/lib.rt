@@ -4,6 +4,9 @@
 mod lease;
 mod lease_fault;
 mod lease_table;
+mod linked;
+mod names;
+mod queue;
 #[cfg(test)]
 mod tests;
 

@@ -1,10 +1,13 @@
 //! What the contracts can't say: that calls find memory, with the worked rows of leases.
 
-ghost use Rattle.std.specs.Prelude.{◌≡◌, IfOk};
+ghost use Rattle.std.specs.Prelude.{◌≡◌, ◌<◌, IfOk};
+ghost use Rattle.cv_leases.specs.Leases.{unexpired};
 
 use crate::{Lease, LeaseFault, LeaseTable};
-use cv_base::{RepoPath, Text, Token};
+use cv_base::{RepoPath, Steps, Text, Token};
 use std::alloc::Global;
+use std::marker::Brand;
+use std::sync::ledger::{Blank, Ledger};
 use std::test::Fail;
 
 /// The token of this number in epoch 1.
@@ -26,6 +29,15 @@ fn lease(alloc: Global, number: u64, text: &str, deadline: u64) -> Result<Lease,
         deadline,
         from_revision: 1,
     })
+}
+
+/// Takes out the leases whose deadline has come.
+fn expire<L: Ledger>(table: &mut LeaseTable, moment: u64, blank: Blank)
+    requires { (blank.name ≡ L.name) × (blank.parts ≡ L.parts) × (0 < blank.parts) }
+    ensures { table.new ≡ unexpired moment table.old }
+{
+    let mut steps: Steps<L> = Steps::new(blank);
+    table.expire(moment, &mut steps);
 }
 
 #[test]
@@ -61,9 +73,31 @@ fn leases_are_found_and_end(rt: HostRuntime) -> Result<(), Fail> {
     assert_eq!(rt; table.at(2).map(|lease| lease.token), Some(token(3)));
     assert!(rt; table.at(3).is_none() && table.find(token(4)).is_none());
     assert!(rt; table.end(token(2)) && !table.end(token(2)));
-    table.expire(9);
     assert_eq!(rt; table.count(), 2);
-    table.expire(10);
+    Ok(())
+}
+
+#[test]
+fn those_that_are_due_make_room_above_them(rt: HostRuntime) -> Result<(), Fail> {
+    let mut table = LeaseTable::new(rt.alloc());
+    table.grant(lease(rt.alloc(), 1, "/a/b", 10)?)?;
+    table.grant(lease(rt.alloc(), 2, "/a/c", 20)?)?;
+    table.grant(lease(rt.alloc(), 3, "/d", 30)?)?;
+    expire::<Brand>(&mut table, 20, Blank::new(1));
     assert_eq!(rt; table.at(0).map(|lease| lease.token), Some(token(3)));
+    assert_eq!(rt; table.count(), 1);
+    assert_eq!(rt; table.grant(lease(rt.alloc(), 4, "/a", 40)?), Ok(()));
+    Ok(())
+}
+
+#[test]
+fn one_that_ended_makes_room(rt: HostRuntime) -> Result<(), Fail> {
+    let mut table = LeaseTable::new(rt.alloc());
+    table.grant(lease(rt.alloc(), 1, "/a/b", 10)?)?;
+    assert!(rt; table.end(token(1)));
+    table.grant(lease(rt.alloc(), 2, "/a", 20)?)?;
+    table.grant(lease(rt.alloc(), 3, "/e", 20)?)?;
+    let third = table.grant(lease(rt.alloc(), 4, "/a/b", 30)?);
+    assert_eq!(rt; third, Err(LeaseFault::PathBusy(token(2))));
     Ok(())
 }

@@ -1,10 +1,10 @@
 -- Lists of chains in an arena: a list is found by its first id, and stays where nothing of it is changed.
-use Rattle.std.proofs.Common.{◌≡◌, ◌≢◌, ◌⊎◌, ◌≤◌, ◌<◌, ℕ, zero, suc, List, [], ◌∷◌, ◌++◌, length, map, Bool, true, false, Option, Some, None, IsSome, IfSome, option_map, refl, sym, ap, subst, ◌||◌, ◌∙◌, inl, inr, arith, Contains}
+use Rattle.std.proofs.Common.{◌≡◌, ◌≢◌, ◌⊎◌, ◌≤◌, ◌<◌, ℕ, zero, suc, ◌+◌, List, [], ◌∷◌, ◌++◌, length, map, Bool, true, false, Option, Some, None, IsSome, IfSome, option_map, refl, sym, ap, subst, ◌||◌, ◌∙◌, inl, inr, arith, Contains}
 use Rattle.std.specs.List.{IsDistinct, AllByRecursion, list_any}
 use Rattle.std.proofs.lemmas.Bool.{eqb-true, ne_eqb, cases_eq}
 use lib.Dec.{eqb}
 use Rattle.std.proofs.lemmas.Option.{same_Some}
-use Rattle.std.proofs.lemmas.List.{get_or_past, append_assoc, get_or-set_same, get_or-set_other, length-map}
+use Rattle.std.proofs.lemmas.List.{get_or_past, append_assoc, get_or-set_same, get_or-set_other, length-map, length-append}
 use Rattle.std.proofs.lemmas.Map.Keys.{IsDistinct-cons}
 use Rattle.std.proofs.lemmas.Map.Steps.{length-le_from_distinct_below}
 use Rattle.std.proofs.lemmas.List.Elements.{Contains-append_left, Contains-append_right}
@@ -18,8 +18,8 @@ use Rattle.cv_links.specs.declared.arena.Arena.{Arena}
 use Rattle.cv_links.specs.declared.chain.Chain.{Chain}
 use Rattle.cv_links.specs.declared.node.Node.{Node}
 use Rattle.cv_links.specs.Links.{link_in}
-use Rattle.cv_links.specs.Arena.{link_at, IsLive, IsFree}
-use Rattle.cv_links.specs.Chains.{IsNext, AreDisjoint, head_or, last_or, Runs, AreApart, IsList, follow, after_of, list_of, IsChain, SameList, SameLists}
+use Rattle.cv_links.specs.Arena.{link_at, IsLive, IsFree, Puts, SameLinks}
+use Rattle.cv_links.specs.Chains.{IsNext, AreDisjoint, head_or, last_or, Runs, AreApart, IsList, follow, after_of, list_of, rest_of, IsChain, SameList, SameLists}
 use Rattle.cv_links.specs.Lends.{with_value, revalued}
 use Rattle.cv_links.specs.RawSteps.{end_of, Joins, Parts, Touches}
 use Rattle.cv_links.proofs.Segments.{here, later, cons_cases, none_within, runs_held, runs_live, runs_kept, runs_cut, apart_cat, apart_left, apart_right, apart_between, last_or-append, last_within, head_within}
@@ -44,6 +44,14 @@ or_true false b e = inr e
 -- ids apart are places apart
 pub ids_apart : (i j : Id) → i ≢ j → i.place ≢ j.place
 ids_apart i j d e = d (ap (λ place. record { place = place }) e)
+
+-- two ids are one or not
+pub id_cases : (i j : Id) → (i ≡ j) ⊎ (i ≢ j)
+id_cases i j =
+    elim (cases_eq i.place j.place) [
+      | inl same ↦ inl (ap (λ place. record { place = place }) same)
+      | inr differs ↦ inr (λ e. differs (ap (λ (id : Id). id.place) e))
+    ]
 
 abbrev places : List Id → List ℕ
 places ids = map (λ id. id.place) ids
@@ -190,6 +198,41 @@ module _ {T : Type 0} where
       let l : IsList a chain (front ++ i ∷ back) = subst (IsList a chain) e is in
       (runs_cut (link_at a chain.lane) front (i ∷ back) None None l.runs).1.0
 
+  -- from an id of a list on come the id, and those from the next one on
+  pub rest_next : (a : Arena T) (chain : Chain) (id : Id) (next : Option Id) → IsChain a chain → Contains (list_of a chain) id → IsNext (list_of a chain) id next
+      → rest_of a chain (Some id) ≡ id ∷ rest_of a chain next
+  rest_next a chain id next is within follows =
+      let f = link_at a chain.lane in
+      let n = length a.nodes.slots in
+      let parts = split (list_of a chain) id within in
+      let runs = subst (λ ids. Runs f None ids None) parts.2 is.runs in
+      let cut = runs_cut f parts.0 (id ∷ parts.1) None None runs in
+      let short : length (list_of a chain) ≤ n = length_within a chain (list_of a chain) is in
+      let long : length (list_of a chain) ≡ length parts.0 + length (id ∷ parts.1) = ap length parts.2 ∙ length-append parts.0 (id ∷ parts.1) in
+      let whole : follow f n (Some id) ≡ id ∷ parts.1 = follow_runs f (id ∷ parts.1) (last_or parts.0 None) n (omega arith) cut.1 in
+      let later : follow f n (head_or parts.1 None) ≡ parts.1 = follow_runs f parts.1 (Some id) n (omega arith) cut.1.1 in
+      whole ∙ ap (λ ids. id ∷ ids) (sym (ap (follow f n) (follows parts.0 parts.1 parts.2) ∙ later))
+
+  pub rest_first : (a : Arena T) (chain : Chain) (id : Id) → IsChain a chain → Contains (list_of a chain) id → (more : List Id) × (rest_of a chain (Some id) ≡ id ∷ more)
+  rest_first a chain id is within =
+      let parts = split (list_of a chain) id within in (
+        rest_of a chain (head_or parts.1 None),
+        rest_next a chain id (head_or parts.1 None) is within (λ front back e.
+            ap after_of (sym (stands a chain parts.0 parts.1 id is parts.2) ∙ stands a chain front back id is e)),
+      )
+
+  -- where nothing comes, no ids come
+  pub rest_none : (a : Arena T) (chain : Chain) → rest_of a chain None ≡ []
+  rest_none a chain = none (length a.nodes.slots)
+    where
+      none : (n : ℕ) → follow (link_at a chain.lane) n None ≡ []
+      none zero = refl
+      none (suc n) = refl
+
+  -- an id of a list is not free
+  pub held_in : (a : Arena T) (chain : Chain) (i : Id) → IsChain a chain → Contains (list_of a chain) i → IsFree a chain.lane i → ⊥
+  held_in a chain i is c free = runs_held (link_at a chain.lane) (list_of a chain) None None i is.runs c free
+
   -- what may stand at one side is live, if all of it is in the list
   pub live_if : (a : Arena T) (chain : Chain) → IsChain a chain → (o : Option Id) → ((i : Id) → o ≡ Some i → Contains (list_of a chain) i) → IfSome o (λ i. IsLive a i)
   live_if a chain is None k = tt
@@ -266,3 +309,28 @@ module _ {T : Type 0} where
 
   pub lists_with_value : (a : Arena T) (id : Id) (node : Node T) (value : T) → get a.nodes id.place ≡ Some node → SameLists a (with_value a id value)
   lists_with_value a id node value found = kept_all a (with_value a id value) (links_with_value a id node value found)
+
+module _ {T : Type 0} where
+  -- the node of a live id
+  node_of : (a : Arena T) (id : Id) → IsLive a id → (node : Node T) × (get a.nodes id.place ≡ Some node)
+  node_of a id live = stored (get a.nodes id.place) refl live
+    where
+      stored : (o : Option (Node T)) → get a.nodes id.place ≡ o → IsSome (option_map (λ node. node.value) o) → (node : Node T) × (get a.nodes id.place ≡ Some node)
+      stored None e live = absurd cc
+      stored (Some node) e live = (node, e)
+
+  -- another value of a live id is there, and leaves all others
+  pub puts_with_value : (a : Arena T) (id : Id) (value : T) → IsLive a id → Puts a (with_value a id value) id (Some value)
+  puts_with_value a id value live =
+      let stored = node_of a id live in
+      let found : get a.nodes id.place ≡ Some stored.0 = stored.1 in
+      let within : id.place < length a.nodes.slots = grind (arith, get_or_past) in
+      record {
+        here = ap (option_map (λ n. n.value)) (get_or-set_same a.nodes.slots id.place (revalued (get a.nodes id.place) value) None within) ∙ rw found refl;
+        others = λ other d. ap (option_map (λ n. n.value)) (get_or-set_other a.nodes.slots id.place other.place (revalued (get a.nodes id.place) value) None (ids_apart other id d));
+      }
+
+  pub links_of_value : (a : Arena T) (id : Id) (value : T) → IsLive a id → SameLinks a (with_value a id value)
+  links_of_value a id value live =
+      let stored = node_of a id live in
+      links_with_value a id stored.0 value stored.1

@@ -57,6 +57,10 @@ module _ {T : Type 0} where
   abbrev pub list_of : Arena T → Chain → List Id
   list_of arena chain = follow (link_at arena chain.lane) (length arena.nodes.slots) chain.first
 
+  -- the ids of a chain from this one on
+  abbrev pub rest_of : Arena T → Chain → Option Id → List Id
+  rest_of arena chain from = follow (link_at arena chain.lane) (length arena.nodes.slots) from
+
   -- the chain is of this arena
   abbrev pub IsChain : Arena T → Chain → Type 0
   IsChain arena chain = IsList arena chain (list_of arena chain)

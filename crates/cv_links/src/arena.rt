@@ -5,7 +5,7 @@ ghost use Rattle.cv_links.specs.Arena.{value_at, IsLive, link_at, IsFree, spare,
 ghost use Rattle.cv_links.specs.declared.links.Link.TheVariants.{Held};
 ghost use Rattle.std.specs.Borrow.{sem};
 ghost use Rattle.cv_links.specs.Lends.{lends_value, with_value};
-ghost use Rattle.cv_links.specs.Chains.{IsChain, list_of, head_or, SameElsewhere, SameLists, IsNext, IsPutAfter, IsTakenOut};
+ghost use Rattle.cv_links.specs.Chains.{IsChain, list_of, rest_of, head_or, SameElsewhere, SameLists, IsNext, IsPutAfter, IsTakenOut};
 ghost use Rattle.cv_links.specs.RawSteps.{Relinks, Mends, Touches, Joins, Parts, end_of as spec_end_of};
 
 use crate::chain::Chain;
@@ -192,6 +192,7 @@ impl<T> Arena<T> {
     pub fn first(&self, chain: &Chain) -> Option<Id>
         requires { IsChain self.now chain.now }
         ensures first { result ≡ head_or (list_of self.now chain.now) None }
+        ensures rest { rest_of self.now chain.now result ≡ list_of self.now chain.now }
         ensures within { IfSome result (λ id. Contains (list_of self.now chain.now) id) }
     {
         chain.first
@@ -202,6 +203,7 @@ impl<T> Arena<T> {
         requires whole { IsChain self.now chain.now }
         requires stands { Contains (list_of self.now chain.now) id }
         ensures next { IsNext (list_of self.now chain.now) id result }
+        ensures rest { rest_of self.now chain.now (Some id) ≡ id ∷ rest_of self.now chain.now result }
         ensures within { IfSome result (λ id. Contains (list_of self.now chain.now) id) }
         ensures steps { steps.new ≡ steps.old + 1 }
     {

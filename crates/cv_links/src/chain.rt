@@ -5,8 +5,9 @@ ghost use Rattle.cv_links.specs.Chains.{IsEmpty};
 use crate::id::Id;
 use crate::lane::Lane;
 
-/// The ends of a list in one lane. The list itself is in the arena, and each call wants the arena that the chain is of.
-#[derive(Drop)]
+/// The ends of a list in one lane. The list itself is in the arena, and each call wants the arena that the chain is of:
+/// a copy that was made before the list changed is of it no more.
+#[derive(Clone, Copy)]
 pub struct Chain {
     pub(crate) lane: Lane,
     pub(crate) first: Option<Id>,

@@ -1,0 +1,51 @@
+use Rattle.std.proofs.Common.{◌∙◌, Some, false, is_some, ap, refl}
+use Rattle.cv_base.specs.PathOrder.{same_name_itself}
+use Rattle.cv_links.specs.Lends.{with_value}
+use Rattle.cv_leases.proofs.Places.{places_attached, leases_attached, names_attached, found_new}
+use Rattle.cv_leases.proofs.Rooted.{same_names}
+use Rattle.cv_leases.proofs.Trees.{attached, attaching}
+use Rattle.cv_leases.proofs.names.Names.attach.Goals as goal
+
+pub returns-in_default-clause-whole : goal.returns-in_default-clause-whole
+returns-in_default-clause-whole g c = (same_names c.args.self.now c.add.new.self c.requires.whole c.in_default.ensures.unchanged c.in_default.ensures.stays c.add.ensures.lists).0
+
+pub returns-in_default-clause-leases : goal.returns-in_default-clause-leases
+returns-in_default-clause-leases g c = (same_names c.args.self.now c.add.new.self c.requires.whole c.in_default.ensures.unchanged c.in_default.ensures.stays c.add.ensures.lists).1
+
+pub returns-in_default-clause-places : goal.returns-in_default-clause-places
+returns-in_default-clause-places g c = (same_names c.args.self.now c.add.new.self c.requires.whole c.in_default.ensures.unchanged c.in_default.ensures.stays c.add.ensures.lists).2
+
+pub returns-clause-whole : goal.returns-clause-whole
+returns-clause-whole g c = names_attached c.args.self.now (record c.args.self.now { places = with_value c.link_last.new.self c.args.above (record c.get_mut.result.now { below = c.link_last.new.chain }) }) c.args.above c.in-Ok.id (record { name = c.args.name; above = Some c.args.above; below = c.new.result; leased = false }) c.requires.whole refl
+    (attached c.args.self.now.places c.add.new.self c.link_last.new.self (with_value c.link_last.new.self c.args.above (record c.get_mut.result.now { below = c.link_last.new.chain })) c.args.above c.in-Ok.id c.get.result.now (record { name = c.args.name; above = Some c.args.above; below = c.new.result; leased = false }) c.link_last.new.chain c.requires.whole.tree (attaching c.args.self.now.places c.add.new.self c.link_last.new.self c.args.above c.in-Ok.id c.get.result.now c.get_mut.result.now (record { name = c.args.name; above = Some c.args.above; below = c.new.result; leased = false }) c.link_last.new.chain
+    c.get.ensures c.in-Ok.ensures.fresh c.in-Ok.ensures.values c.in-Ok.ensures.free c.in-Ok.ensures.links c.add.ensures.lists c.link_last.ensures.whole c.link_last.ensures.list c.link_last.ensures.lane
+    c.link_last.ensures.elsewhere c.link_last.ensures.others c.link_last.ensures.contents c.get_mut.ensures.value c.get_mut.ensures.lists refl refl c.new.ensures.empty c.new.ensures.lane))
+
+pub returns-clause-places : goal.returns-clause-places
+returns-clause-places g c = places_attached c.args.self.now (record c.args.self.now { places = with_value c.link_last.new.self c.args.above (record c.get_mut.result.now { below = c.link_last.new.chain }) }) c.args.above c.in-Ok.id (record { name = c.args.name; above = Some c.args.above; below = c.new.result; leased = false }) c.requires.whole refl
+    (attached c.args.self.now.places c.add.new.self c.link_last.new.self (with_value c.link_last.new.self c.args.above (record c.get_mut.result.now { below = c.link_last.new.chain })) c.args.above c.in-Ok.id c.get.result.now (record { name = c.args.name; above = Some c.args.above; below = c.new.result; leased = false }) c.link_last.new.chain c.requires.whole.tree (attaching c.args.self.now.places c.add.new.self c.link_last.new.self c.args.above c.in-Ok.id c.get.result.now c.get_mut.result.now (record { name = c.args.name; above = Some c.args.above; below = c.new.result; leased = false }) c.link_last.new.chain
+    c.get.ensures c.in-Ok.ensures.fresh c.in-Ok.ensures.values c.in-Ok.ensures.free c.in-Ok.ensures.links c.add.ensures.lists c.link_last.ensures.whole c.link_last.ensures.list c.link_last.ensures.lane
+    c.link_last.ensures.elsewhere c.link_last.ensures.others c.link_last.ensures.contents c.get_mut.ensures.value c.get_mut.ensures.lists refl refl c.new.ensures.empty c.new.ensures.lane))
+
+pub returns-clause-leases : goal.returns-clause-leases
+returns-clause-leases g c = leases_attached c.args.self.now (record c.args.self.now { places = with_value c.link_last.new.self c.args.above (record c.get_mut.result.now { below = c.link_last.new.chain }) }) c.args.above c.in-Ok.id (record { name = c.args.name; above = Some c.args.above; below = c.new.result; leased = false }) c.requires.whole refl refl
+    (attached c.args.self.now.places c.add.new.self c.link_last.new.self (with_value c.link_last.new.self c.args.above (record c.get_mut.result.now { below = c.link_last.new.chain })) c.args.above c.in-Ok.id c.get.result.now (record { name = c.args.name; above = Some c.args.above; below = c.new.result; leased = false }) c.link_last.new.chain c.requires.whole.tree (attaching c.args.self.now.places c.add.new.self c.link_last.new.self c.args.above c.in-Ok.id c.get.result.now c.get_mut.result.now (record { name = c.args.name; above = Some c.args.above; below = c.new.result; leased = false }) c.link_last.new.chain
+    c.get.ensures c.in-Ok.ensures.fresh c.in-Ok.ensures.values c.in-Ok.ensures.free c.in-Ok.ensures.links c.add.ensures.lists c.link_last.ensures.whole c.link_last.ensures.list c.link_last.ensures.lane
+    c.link_last.ensures.elsewhere c.link_last.ensures.others c.link_last.ensures.contents c.get_mut.ensures.value c.get_mut.ensures.lists refl refl c.new.ensures.empty c.new.ensures.lane))
+
+pub returns-clause-named : goal.returns-clause-named
+returns-clause-named g c = found_new c.args.self.now.places (with_value c.link_last.new.self c.args.above (record c.get_mut.result.now { below = c.link_last.new.chain })) c.args.above c.in-Ok.id (record { name = c.args.name; above = Some c.args.above; below = c.new.result; leased = false }) c.requires.whole.tree
+    (attached c.args.self.now.places c.add.new.self c.link_last.new.self (with_value c.link_last.new.self c.args.above (record c.get_mut.result.now { below = c.link_last.new.chain })) c.args.above c.in-Ok.id c.get.result.now (record { name = c.args.name; above = Some c.args.above; below = c.new.result; leased = false }) c.link_last.new.chain c.requires.whole.tree (attaching c.args.self.now.places c.add.new.self c.link_last.new.self c.args.above c.in-Ok.id c.get.result.now c.get_mut.result.now (record { name = c.args.name; above = Some c.args.above; below = c.new.result; leased = false }) c.link_last.new.chain
+    c.get.ensures c.in-Ok.ensures.fresh c.in-Ok.ensures.values c.in-Ok.ensures.free c.in-Ok.ensures.links c.add.ensures.lists c.link_last.ensures.whole c.link_last.ensures.list c.link_last.ensures.lane
+    c.link_last.ensures.elsewhere c.link_last.ensures.others c.link_last.ensures.contents c.get_mut.ensures.value c.get_mut.ensures.lists refl refl c.new.ensures.empty c.new.ensures.lane))
+    c.args.name c.requires.none (same_name_itself c.args.name)
+
+pub returns-in_default-clause-stays : goal.returns-in_default-clause-stays
+returns-in_default-clause-stays g c = ap is_some (c.in_default.ensures.unchanged c.args.above) ∙ c.requires.live
+
+pub returns-clause-stays : goal.returns-clause-stays
+returns-clause-stays g c =
+    let h = (attached c.args.self.now.places c.add.new.self c.link_last.new.self (with_value c.link_last.new.self c.args.above (record c.get_mut.result.now { below = c.link_last.new.chain })) c.args.above c.in-Ok.id c.get.result.now (record { name = c.args.name; above = Some c.args.above; below = c.new.result; leased = false }) c.link_last.new.chain c.requires.whole.tree (attaching c.args.self.now.places c.add.new.self c.link_last.new.self c.args.above c.in-Ok.id c.get.result.now c.get_mut.result.now (record { name = c.args.name; above = Some c.args.above; below = c.new.result; leased = false }) c.link_last.new.chain
+    c.get.ensures c.in-Ok.ensures.fresh c.in-Ok.ensures.values c.in-Ok.ensures.free c.in-Ok.ensures.links c.add.ensures.lists c.link_last.ensures.whole c.link_last.ensures.list c.link_last.ensures.lane
+    c.link_last.ensures.elsewhere c.link_last.ensures.others c.link_last.ensures.contents c.get_mut.ensures.value c.get_mut.ensures.lists refl refl c.new.ensures.empty c.new.ensures.lane)) in
+    h.lives c.args.above h.differ ∙ c.requires.live

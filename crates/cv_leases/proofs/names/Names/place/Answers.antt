@@ -1,0 +1,22 @@
+use Rattle.std.proofs.Common.{◌≡◌, ◌∙◌, Some, take, ap, subst}
+use Rattle.cv_links.specs.Arena.{value_at}
+use Rattle.cv_leases.specs.Names.{named, below_of, place_of}
+use Rattle.cv_leases.proofs.Places.{leased_on, one_more, next_name}
+use Rattle.cv_leases.proofs.names.Names.place.Goals as goal
+
+pub prune-requires-clause-live : goal.prune-requires-clause-live
+prune-requires-clause-live g c = c.child_or_new.ensures.stays
+
+pub loop-name-preserved : goal.loop-name-preserved
+loop-name-preserved g c =
+    let new = c.child_or_new.new.self in
+    let so_far = take c.loop-name.name-index c.args.path.now in
+    record {
+      whole = c.child_or_new.ensures.whole;
+      leases = leased_on c.args.self.now c.loop-name.self new c.loop-name.invariant.leases c.child_or_new.ensures.leases;
+      live = c.in-Ok.ensures.live;
+      so_far =
+          ap (place_of new) (next_name c.names-name-items.result.now c.args.path.now c.loop-name.name-index c.name-item.result c.loop-name-test.true c.name-item.is c.names-name-items.ensures.names)
+          ∙ one_more new so_far c.name-item.result c.loop-name.at c.in-Ok.id (c.child_or_new.ensures.places so_far c.loop-name.at c.loop-name.invariant.so_far)
+          (subst (λ name. named (value_at new.places) name (below_of new.places c.loop-name.at) ≡ Some c.in-Ok.id) c.as_str.ensures c.in-Ok.ensures.named);
+    }

@@ -1,0 +1,15 @@
+use Rattle.std.proofs.Common.{◌≡◌, ◌∙◌, IfSome, Contains, option_map, rules, sym, ap, subst}
+use Rattle.cv_links.specs.Arena.{value_at}
+use Rattle.cv_links.specs.Chains.{rest_of}
+use Rattle.cv_leases.specs.Leases.{lease_of}
+use Rattle.cv_leases.specs.Queue.{ids_of, leases_by, leases_in}
+use Rattle.cv_leases.proofs.Queues.{seek_found}
+use Rattle.cv_leases.proofs.queue.Queue.seek.Goals as goal
+
+pub returns-then-eq-clause-lease : goal.returns-then-eq-clause-lease
+returns-then-eq-clause-lease g c =
+    let q = c.args.self.now in
+    let within : Contains (ids_of q) c.in-Some.id = subst (λ o. IfSome o (λ id. Contains (ids_of q) id)) c.in-Some.is c.loop-at.invariant.within in
+    ap (option_map (λ entry. entry.lease)) c.get.ensures
+    ∙ sym (seek_found q c.in-Some.id c.args.token c.get.result.now c.requires within c.get.ensures (search rules))
+    ∙ subst (λ o. lease_of c.args.token (leases_by (value_at q.entries) (rest_of q.entries q.order o)) ≡ lease_of c.args.token (leases_in q)) c.in-Some.is c.loop-at.invariant.rest

@@ -1,0 +1,104 @@
+-- The tree of the names on the way to leases: where a path leads to, and what stands on its way.
+use Rattle.std.specs.Prelude.{◌≡◌, ◌≢◌, ◌||◌, ℕ, Bool, true, false, cond, List, [], ◌∷◌, Option, None, Some, is_some, IfSome, Contains}
+use Rattle.cv_base.specs.Path.{Path, same_name}
+use Rattle.cv_links.specs.declared.id.Id.{Id}
+use Rattle.cv_links.specs.declared.lane.Lane.TheVariants.{Tree, Time}
+use Rattle.cv_links.specs.declared.arena.Arena.{Arena}
+use Rattle.cv_links.specs.Arena.{value_at, IsLive, IsFree}
+use Rattle.cv_links.specs.Chains.{IsChain, list_of}
+use Rattle.cv_leases.specs.declared.names.Place.{Place}
+use Rattle.cv_leases.specs.declared.names.Names.{Names}
+
+-- the place has this name
+abbrev pub has_name : List ℕ → Option Place → Bool
+has_name name None = false
+has_name name (Some place) = same_name place.name name
+
+-- a lease ends at the place
+abbrev pub is_leased : Option Place → Bool
+is_leased None = false
+is_leased (Some place) = place.leased
+
+-- the place above a place
+abbrev pub above_of : Option Place → Option Id
+above_of None = None
+above_of (Some place) = place.above
+
+-- the first of these places that has the name
+abbrev pub named : (Id → Option Place) → List ℕ → List Id → Option Id
+named at name [] = None
+named at name (id ∷ ids) = cond (has_name name (at id)) (Some id) (named at name ids)
+
+-- the place of the name below a place
+abbrev pub step : (Id → Option Place) → (Id → List Id) → List ℕ → Option Id → Option Id
+step at below name None = None
+step at below name (Some id) = named at name (below id)
+
+-- the place that a path leads to from a place
+abbrev pub reach : (Id → Option Place) → (Id → List Id) → Path → Option Id → Option Id
+reach at below [] from = from
+reach at below (name ∷ path) from = reach at below path (step at below name from)
+
+-- a lease ends at this place, if it is one
+abbrev pub leased_at : (Id → Option Place) → Option Id → Bool
+leased_at at None = false
+leased_at at (Some id) = is_leased (at id)
+
+-- a place on the way of the path is leased, or the path leads to a place
+abbrev pub meets : (Id → Option Place) → (Id → List Id) → Path → Option Id → Bool
+meets at below [] from = is_some from
+meets at below (name ∷ path) from = leased_at at from || meets at below path (step at below name from)
+
+-- the list of the places below one
+abbrev pub list_below : Arena Place → Option Place → List Id
+list_below places None = []
+list_below places (Some place) = list_of places place.below
+
+abbrev pub below_of : Arena Place → Id → List Id
+below_of places id = list_below places (value_at places id)
+
+-- where a path leads to from the root
+abbrev pub place_of : Names → Path → Option Id
+place_of names path = reach (value_at names.places) (below_of names.places) path names.root
+
+-- the chain of those below each place is of the tree, they name it as the place above them, and it has those that name it
+pub record IsTree (places : Arena Place) : Type 0 where
+  pub chains : (id : Id) (place : Place) → value_at places id ≡ Some place → IsChain places place.below × (place.below.lane ≡ Tree)
+  pub below : (id kid : Id) → Contains (below_of places id) kid → above_of (value_at places kid) ≡ Some id
+  pub above : (id up : Id) → above_of (value_at places id) ≡ Some up → Contains (below_of places up) id
+  pub alone : (id : Id) → IsLive places id → IsFree places Time id
+
+-- what holds of the names at any time
+pub record IsNames (names : Names) : Type 0 where
+  pub tree : IsTree names.places
+  pub root : IfSome names.root (λ id. IsLive names.places id × (above_of (value_at names.places id) ≡ None))
+
+-- a lease on this path ends at this place
+pub record IsLeasedAt (names : Names) (path : Path) (id : Id) : Type 0 where
+  pub place : place_of names path ≡ Some id
+  pub leased : is_leased (value_at names.places id) ≡ true
+
+-- each path that led to a place leads there
+abbrev pub SamePlaces : Names → Names → Type 0
+SamePlaces old new = (path : Path) (id : Id) → place_of old path ≡ Some id → place_of new path ≡ Some id
+
+-- leases end where they ended, and nowhere else
+pub record SameLeased (old new : Names) : Type 0 where
+  pub kept : (path : Path) (id : Id) → IsLeasedAt old path id → IsLeasedAt new path id
+  pub none : (id : Id) → is_leased (value_at new.places id) ≡ true → is_leased (value_at old.places id) ≡ true
+
+-- no lease ends at the place, and none is below it
+pub record IsBare (places : Arena Place) (id : Id) : Type 0 where
+  pub unleased : is_leased (value_at places id) ≡ false
+  pub leaf : below_of places id ≡ []
+
+-- a lease begins at the place
+pub record Begins (old new : Names) (id : Id) : Type 0 where
+  pub kept : (path : Path) (other : Id) → IsLeasedAt old path other → IsLeasedAt new path other
+  pub here : (path : Path) → place_of old path ≡ Some id → IsLeasedAt new path id
+  pub none : (other : Id) → other ≢ id → is_leased (value_at new.places other) ≡ true → is_leased (value_at old.places other) ≡ true
+
+-- the lease at the place ends
+pub record Ends (old new : Names) (id : Id) : Type 0 where
+  pub kept : (path : Path) (other : Id) → other ≢ id → IsLeasedAt old path other → IsLeasedAt new path other
+  pub none : (other : Id) → is_leased (value_at new.places other) ≡ true → (other ≢ id) × (is_leased (value_at old.places other) ≡ true)
