@@ -35,6 +35,15 @@ TREES = [
     "/x/ /x/y/ /x/y/z/ /x/y/z/.cvmfscatalog /x/y/.cvmfscatalog /x/.cvmfscatalog /.cvmfscatalog",
     "/a/ /a/a/ /a/a/a/ /a/a/a/a/ /a/a/a/a/.cvmfscatalog /a/a/.cvmfscatalog",
 ]
+# Trees, and paths at which their parts are cut.
+PARTS = [
+    ("/a/ /a/b/ /a/b/f /c", "/a/b"),
+    ("/a/ /a/b/ /a/b/.cvmfscatalog /a/b/c/ /a/b/c/.cvmfscatalog /a/b/c/f", "/a/b"),
+    ("/a/ /a/.cvmfscatalog /a/b/ /a/b/.cvmfscatalog /a/b/c /a/d", "/a"),
+    ("/a/ /a/.cvmfscatalog /a/b/ /a/b/c/ /a/b/c/.cvmfscatalog /a/b/c/d /a/b/e", "/a/b"),
+    ("/a/ /a/f", "/a/f"),
+    ("/a/ /a/f", "/a/g"),
+]
 
 
 def read(text):
@@ -116,5 +125,23 @@ def item():
     return table("TREES", "(&str, &str, u64, usize, usize)", rows)
 
 
+def covers(path, other):
+    return other == path or other.startswith(path + "/")
+
+
+def part(nodes, path):
+    """What the catalogue above a part gets, and the part's own catalogues, those nested in another before it."""
+    cuts = [cut for cut in sorted(nodes, reverse=True) if covers(path, cut) and is_cut(nodes, cut)]
+    region = [one for one in nodes if covers(path, one) and not any(cut != one and covers(cut, one) for cut in cuts)]
+    made = catalogues(nodes)
+    last = hashlib.sha1(made[cuts[-1]]).hexdigest() + "C" if cuts else ""
+    return len(region), sum(is_cut(nodes, one) for one in region), len(cuts), last
+
+
+def part_item():
+    rows = [f'("{text}", "{path}", {", ".join(map(str, part(read(text), path)[:3]))}, "{part(read(text), path)[3]}")' for text, path in PARTS]
+    return table("PARTS", "(&str, &str, usize, usize, usize, &str)", rows)
+
+
 if __name__ == "__main__":
-    settle("crates/cv_cut/src/tests.rt", [item()])
+    settle("crates/cv_cut/src/tests.rt", [item(), part_item()])

@@ -1,5 +1,5 @@
 -- Paths of a region that share a key, by their places in it.
-use Rattle.std.proofs.Common.{◌≡◌, ℕ, ◌<◌, ◌≤◌, ◌+◌, true, Some, List, ◌++◌, map, reverse, length, get_or, sym, ap, subst, ◌∙◌, arith, is_some, Result, Ok, Err}
+use Rattle.std.proofs.Common.{◌≡◌, ℕ, ◌<◌, ◌≤◌, ◌+◌, true, Some, List, [], ◌∷◌, ◌++◌, filter, map, reverse, refl, inl, inr, length, get_or, sym, ap, subst, ◌∙◌, arith, is_some, Result, Ok, Err}
 use Rattle.std.specs.Prelude.{Contains, slice_get, take, IfErr, IsErrAnd}
 use Rattle.std.specs.List.{All}
 use Rattle.std.specs.BTreeMap.{BTreeMap}
@@ -8,18 +8,19 @@ use Rattle.std.proofs.lemmas.List.{length-map, take_all}
 use Rattle.std.proofs.lemmas.List.Elements.{All-more, All-contains}
 use Rattle.std.proofs.lemmas.List.Sorted.{IsPermutation-reverse, IsPermutation-sym, Contains-permutation}
 use Rattle.std.proofs.lemmas.Option.{slice_get-get_or, slice_get_within}
-use Rattle.cv_base.specs.Path.{Path, key_of}
+use Rattle.cv_base.specs.Path.{Path, covers, key_of}
 use Rattle.cv_base.specs.PathOrder.{path_exact}
 use Rattle.cv_tree.specs.Tree.{Nodes, IsTree, at}
 use Rattle.cv_tree.specs.declared.node.Node.{Node}
 use Rattle.cv_rows.specs.Made.{AreApart}
 use Rattle.cv_cut.specs.Cuts.{cuts_of, is_cut, region}
 use Rattle.cv_cut.specs.Catalogues.{IsInRegion, SharesKey}
-use Rattle.cv_cut.specs.Cut.{AreSame, ShareKey, IsCollision, IsCutFault, IsShared, keys_at, region_at}
+use Rattle.cv_cut.specs.Cut.{AreSame, ShareKey, IsCollision, IsCutFault, IsFirstFault, keys_at, region_at}
+use Rattle.cv_cut.specs.Piece.{AreCutsWithin, IsFaultAmong, IsSharedAmong, cuts_within}
 use Rattle.cv_cut.specs.Region.{KeysApart}
 use Rattle.cv_cut.specs.declared.cut_fault.CutFault.{CutFault}
 use Rattle.cv_cut.specs.declared.cut_fault.CutFault.TheVariants.{PathCollision, CatalogueFull, NoMemory}
-use Rattle.cv_cut.proofs.Members.{comes_from, goes_to, passes, passing}
+use Rattle.cv_cut.proofs.Members.{comes_from, first_or_later, first_there, goes_to, none_there, passes, passing}
 use Rattle.cv_cut.proofs.Entries.{has_entry}
 use Rattle.cv_cut.proofs.Seen.{HasSeen, all_seen}
 use Rattle.cv_cut.proofs.Twice.{image_at, image_there, stands_there, StandOnce, once_image}
@@ -63,16 +64,35 @@ all_keys region n seen has all = all_seen (keys_at region) n seen has (omega (ar
 -- ---- in a tree
 
 -- the cuts that a list in reverse has
-pub among_cuts : (t : Nodes) (cuts : List Path) (c : Path) → cuts ≡ reverse (cuts_of t) → Contains cuts c → is_cut t c ≡ true
-among_cuts t cuts c is has =
-    let there = Contains-permutation (reverse (cuts_of t)) (cuts_of t) c (IsPermutation-sym (cuts_of t) (reverse (cuts_of t)) (IsPermutation-reverse (cuts_of t))) (subst (λ xs. Contains xs c) is has) in
-    (passes (is_cut t) (keys t) c there).1
+pub among_within : (t : Nodes) (p : Path) (cuts : List Path) (c : Path) → cuts ≡ reverse (cuts_within t p) → Contains cuts c → (is_cut t c ≡ true) × (covers p c ≡ true)
+among_within t p cuts c is has =
+    let there = Contains-permutation (reverse (cuts_within t p)) (cuts_within t p) c (IsPermutation-sym (cuts_within t p) (reverse (cuts_within t p)) (IsPermutation-reverse (cuts_within t p))) (subst (λ xs. Contains xs c) is has) in
+    let inside = passes (λ x. covers p x) (cuts_of t) c there in
+    ((passes (is_cut t) (keys t) c inside.0).1, inside.1)
+
+pub cut_of_tree : (t : Nodes) (c : Path) → IsTree t → is_cut t c ≡ true → Contains (cuts_of t) c
+cut_of_tree t c tree cut =
+    let n = some_node (get t c) (cut_some t c tree cut) in
+    passing (is_cut t) (keys t) c (goes_to (λ e. e.0) (entries t) (c, n.0) (has_entry path_exact t c n.0 n.1)) cut
+
+pub within_among : (t : Nodes) (p : Path) (cuts : List Path) (c : Path) → IsTree t → cuts ≡ reverse (cuts_within t p) → is_cut t c ≡ true → covers p c ≡ true → Contains cuts c
+within_among t p cuts c tree is cut covered =
+    subst (λ xs. Contains xs c) (sym is) (Contains-permutation (cuts_within t p) (reverse (cuts_within t p)) c (IsPermutation-reverse (cuts_within t p)) (passing (λ x. covers p x) (cuts_of t) c (cut_of_tree t c tree cut) covered))
+
+-- the root covers all
+pub within_root : (t : Nodes) → cuts_within t [] ≡ cuts_of t
+within_root t = all_kept (cuts_of t)
+  where
+    all_kept : (ps : List Path) → filter (λ c. covers [] c) ps ≡ ps
+    all_kept [] = refl
+    all_kept (c ∷ ps) = ap (λ (w : List Path). c ∷ w) (all_kept ps)
+
+pub all_cuts : (t : Nodes) (cuts : List Path) → cuts ≡ reverse (cuts_of t) → AreCutsWithin t cuts
+all_cuts t cuts is = record { path = []; is = is ∙ ap reverse (sym (within_root t)) }
 
 pub cut_among : (t : Nodes) (cuts : List Path) (c : Path) → IsTree t → cuts ≡ reverse (cuts_of t) → is_cut t c ≡ true → Contains cuts c
 cut_among t cuts c tree is cut =
-    let n = some_node (get t c) (cut_some t c tree cut) in
-    let there = passing (is_cut t) (keys t) c (goes_to (λ e. e.0) (entries t) (c, n.0) (has_entry path_exact t c n.0 n.1)) cut in
-    subst (λ xs. Contains xs c) (sym is) (Contains-permutation (cuts_of t) (reverse (cuts_of t)) c (IsPermutation-reverse (cuts_of t)) there)
+    subst (λ xs. Contains xs c) (sym is) (Contains-permutation (cuts_of t) (reverse (cuts_of t)) c (IsPermutation-reverse (cuts_of t)) (cut_of_tree t c tree cut))
 
 -- the region's paths by their places
 place_of : (t : Nodes) (c p : Path) (i : ℕ) → slice_get (map (λ e. e.0) (region_at t c)) i ≡ Some p → IsInRegion t c p
@@ -103,15 +123,18 @@ pub all_apart : (t : Nodes) (cuts : List Path) (n : ℕ) → length cuts ≤ n �
 all_apart t cuts n all h = subst (λ (cs : List Path). All (λ c. KeysApart c (at t c)) cs) (take_all n cuts all) h
 
 -- two places of one key are two paths that share it
-pub sharing : (t : Nodes) (c : Path) (fault : CutFault) → is_cut t c ≡ true → IsCollision (region_at t c) fault → IsShared t fault
-sharing t c (PathCollision p q) cut same = record {
-  cut = c;
-  is_cut_ = cut;
-  first = place_of t c p same.first same.one;
-  second = place_of t c q same.second same.other;
-  differ = λ is. (region_paths_once t c).each same.first same.second p same.order same.one (same.other ∙ ap Some (sym is));
-  keys = same.keys;
-}
+pub sharing : (t : Nodes) (c : Path) (fault : CutFault) → is_cut t c ≡ true → IsCollision (region_at t c) fault → IsSharedAmong t (c ∷ []) fault
+sharing t c (PathCollision p q) cut same = (
+  record {
+    cut = c;
+    is_cut_ = cut;
+    first = place_of t c p same.first same.one;
+    second = place_of t c q same.second same.other;
+    differ = λ is. (region_paths_once t c).each same.first same.second p same.order same.one (same.other ∙ ap Some (sym is));
+    keys = same.keys;
+  },
+  first_there c [],
+)
 sharing t c (CatalogueFull d) cut same = absurd same
 sharing t c NoMemory cut same = tt
 
@@ -137,18 +160,46 @@ one_apart t cuts i c before lt c-is apart =
     All-more (λ c. KeysApart c (at t c)) cuts i c lt before (subst (λ (x : Path). KeysApart x (at t x)) c-is apart)
 
 -- the fault of the region of a cut
-pub sharing_of : (t : Nodes) (c : Path) (region : List (Path × Node)) (fault : CutFault) → is_cut t c ≡ true → region ≡ region_at t c → IsCollision region fault → IsCutFault t fault
+pub sharing_of : (t : Nodes) (c : Path) (region : List (Path × Node)) (fault : CutFault) → is_cut t c ≡ true → region ≡ region_at t c → IsCollision region fault → IsFaultAmong t (c ∷ []) fault
 sharing_of t c region fault cut is h = weaker fault (sharing t c fault cut (subst (λ es. IsCollision es fault) is h))
   where
-    weaker : (fault : CutFault) → IsShared t fault → IsCutFault t fault
+    weaker : (fault : CutFault) → IsSharedAmong t (c ∷ []) fault → IsFaultAmong t (c ∷ []) fault
     weaker (PathCollision p q) h = h
     weaker (CatalogueFull d) h = absurd h
     weaker NoMemory h = tt
 
+-- what is among one cut is among all
+among_all : (cuts : List Path) (c x : Path) → Contains cuts c → Contains (c ∷ []) x → Contains cuts x
+among_all cuts c x there has = elim (first_or_later c [] x has) [
+  | inl same ↦ subst (Contains cuts) same there
+  | inr none ↦ absurd (none_there x none)
+]
+
+pub wider_fault : (t : Nodes) (cuts : List Path) (i : ℕ) (c : Path) (fault : CutFault) → i < length cuts → c ≡ get_or cuts i c → IsFaultAmong t (c ∷ []) fault → IsFaultAmong t cuts fault
+wider_fault t cuts i c (PathCollision p q) lt c-is h = (h.0, among_all cuts c h.0.cut (i, lt, sym c-is) h.1)
+wider_fault t cuts i c (CatalogueFull d) lt c-is h = (h.0, among_all cuts c d (i, lt, sym c-is) h.1)
+wider_fault t cuts i c NoMemory lt c-is h = tt
+
+wider_shared : (t : Nodes) (cuts : List Path) (c : Path) (fault : CutFault) → Contains cuts c → IsSharedAmong t (c ∷ []) fault → IsSharedAmong t cuts fault
+wider_shared t cuts c (PathCollision p q) there h = (h.0, among_all cuts c h.0.cut there h.1)
+wider_shared t cuts c (CatalogueFull d) there h = absurd h
+wider_shared t cuts c NoMemory there h = tt
+
 -- the fault of the region of a cut that was read
-pub sharing_there : (t : Nodes) (cuts : List Path) (i : ℕ) (c : Path) (region : List (Path × Node)) (fault : CutFault) → cuts ≡ reverse (cuts_of t) → i < length cuts → c ≡ get_or cuts i c → region ≡ region_at t c → IsCollision region fault → IsShared t fault
-sharing_there t cuts i c region fault is lt c-is region-is h =
-    sharing t c fault (among_cuts t cuts c is (i, lt, sym c-is)) (subst (λ es. IsCollision es fault) region-is h)
+pub sharing_there : (t : Nodes) (p : Path) (cuts : List Path) (i : ℕ) (c : Path) (region : List (Path × Node)) (fault : CutFault) → cuts ≡ reverse (cuts_within t p) → i < length cuts → c ≡ get_or cuts i c → region ≡ region_at t c → IsCollision region fault → IsSharedAmong t cuts fault
+sharing_there t p cuts i c region fault is lt c-is region-is h =
+    wider_shared t cuts c fault (i, lt, sym c-is) (sharing t c fault (among_within t p cuts c is (i, lt, sym c-is)).0 (subst (λ es. IsCollision es fault) region-is h))
+
+-- faults of all cuts of a tree
+pub cut_fault : (t : Nodes) (cuts : List Path) (fault : CutFault) → IsFaultAmong t cuts fault → IsCutFault t fault
+cut_fault t cuts (PathCollision p q) h = h.0
+cut_fault t cuts (CatalogueFull d) h = h.0
+cut_fault t cuts NoMemory h = tt
+
+pub shared_first : (t : Nodes) (cuts : List Path) (fault : CutFault) → IsSharedAmong t cuts fault → IsFirstFault t fault
+shared_first t cuts (PathCollision p q) h = h.0
+shared_first t cuts (CatalogueFull d) h = absurd h
+shared_first t cuts NoMemory h = tt
 
 -- a fault that is handed on
 pub handed_on : {X : Type 0} (P : CutFault → Type 0) (r : Result X CutFault) (fault : CutFault) → IsErrAnd r (λ f. f ≡ fault) → P fault → IfErr r P

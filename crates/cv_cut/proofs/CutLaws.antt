@@ -24,7 +24,8 @@ use Rattle.cv_cut.specs.Cut.{HasMade, keys_at, row_in, nested_in, is_other, cuts
 use Rattle.cv_cut.proofs.RegionRules.{stands_at_cut}
 use Rattle.cv_cut.proofs.RegionLists.{row_list, nested_list, keys_apart, keys_at_are, rows_tell_keys, texts_apart, are_parts}
 use Rattle.cv_cut.proofs.CanonicalRules.{cat_in_order, order_length}
-use Rattle.cv_cut.proofs.Collisions.{among_cuts, cut_among, one_apart}
+use Rattle.cv_cut.proofs.Collisions.{among_within, cut_among, one_apart}
+use Rattle.cv_cut.specs.Piece.{cuts_within}
 use Rattle.cv_cut.proofs.Members.{passes}
 use Rattle.cv_cut.proofs.KindLaws.{rows_are}
 use Rattle.cv_cut.proofs.CutOrder.{taken_before}
@@ -110,16 +111,16 @@ pub record AreMade (t : Nodes) (cuts : List Path) (i : ℕ) (objects : List Obje
   pub made_ : HasMade t (take i cuts) made
 
 -- the cut that was read
-pub cut_there : (t : Nodes) (cuts : List Path) (i : ℕ) (c : Path) → cuts ≡ reverse (cuts_of t) → i < length cuts → c ≡ get_or cuts i c → is_cut t c ≡ true
-cut_there t cuts i c is lt c-is = among_cuts t cuts c is (i, lt, sym c-is)
+pub cut_there : (t : Nodes) (p : Path) (cuts : List Path) (i : ℕ) (c : Path) → cuts ≡ reverse (cuts_within t p) → i < length cuts → c ≡ get_or cuts i c → is_cut t c ≡ true
+cut_there t p cuts i c is lt c-is = (among_within t p cuts c is (i, lt, sym c-is)).0
 
 -- with it, all that its catalogue needs are made
-pub below_made : (t : Nodes) (cuts : List Path) (i : ℕ) (c : Path) (made : BTreeMap Path Nested) → cuts ≡ reverse (cuts_of t) → i < length cuts → c ≡ get_or cuts i c → HasMade t (take i cuts) made → HasMade t (cuts_below t c) made
-below_made t cuts i c made is lt c-is has = record {
+pub below_made : (t : Nodes) (p : Path) (cuts : List Path) (i : ℕ) (c : Path) (made : BTreeMap Path Nested) → cuts ≡ reverse (cuts_within t p) → i < length cuts → c ≡ get_or cuts i c → HasMade t (take i cuts) made → HasMade t (cuts_below t c) made
+below_made t p cuts i c made is lt c-is has = record {
   all = λ k d within.
       let x = get_or (cuts_below t c) k d in
       let other = passes (is_other t c) (cuts_of t) x (Contains-get_or (cuts_below t c) k d within) in
-      All-contains (λ d. IsSome (tree.get path_cmp made d)) (take i cuts) x has.all (taken_before t cuts i c x is lt c-is other.1);
+      All-contains (λ d. IsSome (tree.get path_cmp made d)) (take i cuts) x has.all (taken_before t p cuts i c x is (among_within t p cuts c is (i, lt, sym c-is)).1 lt c-is other.1);
   each = has.each;
   sizes = has.sizes;
 }
@@ -127,10 +128,10 @@ below_made t cuts i c made is lt c-is has = record {
 within : (n : ℕ) → (16777216 < n → ⊥) → n ≤ 16777216
 within n none = elim (cases_lt 16777216 n) [ inl lt ↦ absurd (none lt) | inr le ↦ le ]
 
-pub next_made : (t : Nodes) (cuts : List Path) (i : ℕ) (c : Path) (bytes : List ℕ) (objects more : List Object) (old new : BTreeMap Path Nested) → AreMade t cuts i objects old → cuts ≡ reverse (cuts_of t) → i < length cuts → c ≡ get_or cuts i c
+pub next_made : (t : Nodes) (p : Path) (cuts : List Path) (i : ℕ) (c : Path) (bytes : List ℕ) (objects more : List Object) (old new : BTreeMap Path Nested) → AreMade t cuts i objects old → cuts ≡ reverse (cuts_within t p) → i < length cuts → c ≡ get_or cuts i c
     → bytes ≡ cat t c → KeysApart c (at t c) → (IsFull t c → ⊥) → Updates path_cmp old new c (Some (entry_of c bytes)) → more ≡ objects ++ record { id = object_id (sha1 bytes) Catalogue; bytes = bytes } ∷ [] → AreMade t cuts (i + 1) more new
-next_made t cuts i c bytes objects more old new are is lt c-is bytes-is apart fits u more-is =
-    let cut = cut_there t cuts i c is lt c-is in
+next_made t p cuts i c bytes objects more old new are is lt c-is bytes-is apart fits u more-is =
+    let cut = cut_there t p cuts i c is lt c-is in
     let small = within (length (cat t c)) (λ long. fits (record { is_cut_ = cut; passes = inr long })) in
     record {
       objects_are =

@@ -16,6 +16,9 @@ use Rattle.cv_base.specs.PathOrder.{path_total, path_exact}
 use Rattle.cv_tree.specs.Tree.{Nodes}
 use Rattle.cv_cut.specs.Cuts.{cuts_of, is_cut}
 use Rattle.cv_cut.specs.Cut.{is_other}
+use Rattle.cv_cut.specs.Piece.{cuts_within}
+use Rattle.cv_rows.proofs.Lemmas.{covers_below}
+use Rattle.cv_cut.proofs.Members.{passing}
 use Rattle.cv_cut.proofs.RegionPaths.{keys_rise}
 use Rattle.cv_cut.proofs.Between.{stands_below, below_covered, other_cut}
 use Rattle.cv_cut.proofs.Sides.{covers_before, rises_at}
@@ -55,16 +58,21 @@ stands_earlier ps rises i j a b li lj a-is b-is less =
       ])
     ]
 
+pub within_rise : (t : Nodes) (p : Path) → IsStrictlySortedBy path_cmp (cuts_within t p)
+within_rise t p = IsStrictlySortedBy-filter path_cmp (λ c. covers p c) (cuts_of t) (cuts_rise t)
+
 -- the cuts that the cut at i covers are among those before it
-pub taken_before : (t : Nodes) (cuts : List Path) (i : ℕ) (c d : Path) → cuts ≡ reverse (cuts_of t) → i < length cuts → c ≡ get_or cuts i c → is_other t c d ≡ true → Contains (take i cuts) d
-taken_before t cuts i c d is lt c-is other =
+pub taken_before : (t : Nodes) (p : Path) (cuts : List Path) (i : ℕ) (c d : Path) → cuts ≡ reverse (cuts_within t p) → covers p c ≡ true → i < length cuts → c ≡ get_or cuts i c → is_other t c d ≡ true → Contains (take i cuts) d
+taken_before t p cuts i c d is inside lt c-is other =
     let o = stands_below t c d other in
     let differs : d ≢ c = λ same. o.some (nothing_behind c o.rest (sym same ∙ o.is)) in
-    let has : Contains cuts d = subst (λ (ps : List Path). Contains ps d) (sym is) (Contains-permutation (cuts_of t) (reverse (cuts_of t)) d (IsPermutation-reverse (cuts_of t)) (other_cut t c d other)) in
-    let long : length cuts ≡ length (cuts_of t) = ap length is ∙ length-reverse (cuts_of t) in
+    let covered : covers p d ≡ true = ap (covers p) o.is ∙ covers_below p c o.rest inside in
+    let there = passing (λ x. covers p x) (cuts_of t) d (other_cut t c d other) covered in
+    let has : Contains cuts d = subst (λ (ps : List Path). Contains ps d) (sym is) (Contains-permutation (cuts_within t p) (reverse (cuts_within t p)) d (IsPermutation-reverse (cuts_within t p)) there) in
+    let long : length cuts ≡ length (cuts_within t p) = ap length is ∙ length-reverse (cuts_within t p) in
     let within = has.1 in
     let before : has.0 < i =
-    stands_earlier (cuts_of t) (cuts_rise t) i has.0 c d (omega (arith, lt, long)) (omega (arith, within, long)) (ap (λ (ps : List Path). get_or ps i c) (sym is) ∙ sym c-is) (ap (λ (ps : List Path). get_or ps has.0 d) (sym is) ∙ has.2) (below_after c d (below_covered t c d other) differs) in
+    stands_earlier (cuts_within t p) (within_rise t p) i has.0 c d (omega (arith, lt, long)) (omega (arith, within, long)) (ap (λ (ps : List Path). get_or ps i c) (sym is) ∙ sym c-is) (ap (λ (ps : List Path). get_or ps has.0 d) (sym is) ∙ has.2) (below_after c d (below_covered t c d other) differs) in
     (has.0, omega (arith, before, length-take-le i cuts (omega (arith, lt))), get_or-take i cuts has.0 d before ∙ has.2)
   where
     nothing_behind : (c r : Path) → c ≡ c ++ r → r ≡ []

@@ -36,7 +36,7 @@ cut_marked t [] (a ∷ x) some cut = sym (marked-at t [] (a ∷ x)) ∙ cut
 cut_marked t (b ∷ c) (a ∷ x) some cut = sym (marked-at t (b ∷ c) (a ∷ x)) ∙ cut
 
 -- one cut holds a path
-one_holder : (t : Nodes) (p c r d v : Path) → Holds t p c r → Holds t p d v → c ≡ d
+pub one_holder : (t : Nodes) (p c r d v : Path) → Holds t p c r → Holds t p d v → c ≡ d
 one_holder t p c r d v h g =
     elim (nested_ways c d r v (sym h.is ∙ g.is)) [
       | is_same is ↦ is
@@ -71,7 +71,7 @@ pub was_sound : (P : Type 0) (t : Nodes) (c : Path) → Fits t → is_cut t c �
 was_sound P t c fits cut = record { keys = region_apart t c cut fits.apart; fits = λ _ full. fits.limits c full }
 
 -- where the same stands at a cut, it is sound there as well
-moved_sound : (P : Type 0) (t u : Nodes) (c : Path) → at t c ≡ at u c → is_cut u c ≡ true → IsSound P t c → IsSound P u c
+pub moved_sound : (P : Type 0) (t u : Nodes) (c : Path) → at t c ≡ at u c → is_cut u c ≡ true → IsSound P t c → IsSound P u c
 moved_sound P t u c same cut s = record {
   keys = subst (KeysApart c) same s.keys;
   fits = λ p full. s.fits p (record {

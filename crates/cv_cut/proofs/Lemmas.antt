@@ -3,7 +3,8 @@
 pub use Rattle.cv_cut.proofs.Behind.{is_behind}
 pub use Rattle.cv_cut.proofs.Bools.{not_false, not_true, so}
 pub use Rattle.cv_cut.proofs.Canonical.{cat_is}
-pub use Rattle.cv_cut.proofs.CanonicalRules.{canonical, cut_some, order_count, other_cut, region_apart}
+pub use Rattle.cv_cut.proofs.CanonicalRules.{canonical, canonical_at, cut_some, fits_at_cut, order_count, other_cut, region_apart}
+pub use Rattle.cv_cut.proofs.Collisions.{among_within, within_among, within_root}
 pub use Rattle.cv_cut.proofs.Ends.{last_name-append, last_some, near_below, parent_key-append, some_last}
 pub use Rattle.cv_cut.proofs.Fitting.{apart_after, fits_after, passes_of, put-root}
 pub use Rattle.cv_cut.proofs.Grafts.{Means-more, Means-put, cut_covers}
@@ -16,6 +17,11 @@ pub use Rattle.cv_cut.proofs.MeansAfter.{means_after}
 pub use Rattle.cv_cut.proofs.Members.{comes_from, first_or_later, first_there, goes_to, later_there, none_there, passes, passing}
 pub use Rattle.cv_cut.proofs.Opening.{IsThere, Unsized, left_by, misstating_bad, nested_long, nested_there, nested_unopened, opens_there, root_by_key, root_found, stands_long, transition_long, transition_of, unopened}
 pub use Rattle.cv_cut.proofs.Over.{more_over, nearest, same_ends, same_over}
+pub use Rattle.cv_cut.proofs.PieceLaws.{put_whole}
+pub use Rattle.cv_cut.proofs.PieceRows.{entries_spelled, entry_there, keys_are, rows_spelled, texts_apart_within}
+pub use Rattle.cv_cut.proofs.PlacedCuts.{come_apart, full_below, part_objects, shares_over}
+pub use Rattle.cv_cut.proofs.PlacedLaws.{alone_holds, fits_over, holder_of, keys_over}
+pub use Rattle.cv_cut.proofs.Placing.{Placing, holders as placed_holders, at_cut as placed_at_cut, covers_p as placed_covers_p, stays_at as placed_stays_at, keys_after as placed_keys_after, cat_after as placed_cat_after, full_after as placed_full_after, not_full_after as placed_not_full_after, inside_each as placed_inside_each, cut_after as placed_cut_after}
 pub use Rattle.cv_cut.proofs.RegionLists.{keys_apart, keys_once, nested_list, nested_of-by_text, row_list, rows_of-by_key, texts_apart}
 pub use Rattle.cv_cut.proofs.RegionRules.{stands_at_cut}
 pub use Rattle.cv_cut.proofs.Regions.{IsRowThere, above, root_node, stands, stands_only}
@@ -24,6 +30,6 @@ pub use Rattle.cv_cut.proofs.RowFacts.{marked_transition, root_row, row_key, row
 pub use Rattle.cv_cut.proofs.Sameness.{same_list}
 pub use Rattle.cv_cut.proofs.Single.{Fits-single, cut_single}
 pub use Rattle.cv_cut.proofs.Sorted.{order_rises}
-pub use Rattle.cv_cut.proofs.Told.{entries_are, entry_tells, nested_decodes, no_row_tells, one_decoding, root_decodes, row_tells, row_tells_cut, rows_are}
+pub use Rattle.cv_cut.proofs.Told.{entries_are, entry_tells, nested_decodes, nested_decodes_at, no_row_tells, one_decoding, root_decodes, root_decodes_at, row_tells, row_tells_cut, rows_are}
 pub use Rattle.cv_cut.proofs.Upper.{above_contents, above_cut}
 pub use Rattle.cv_cut.proofs.WayCuts.{at-root, cuts_some, holder_way, made_all, made_deeper, made_here, pass_way}

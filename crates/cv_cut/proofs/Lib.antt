@@ -21,8 +21,9 @@ pub mod KindLaws
 mod CutOrder
 mod MadeEntries
 mod Seen
-mod Collisions
+pub mod Collisions
 mod CutLaws
+pub mod PieceLaws
 pub mod Grafts
 pub mod Single
 pub mod Over
@@ -41,4 +42,8 @@ pub mod Upper
 pub mod Fitting
 pub mod WayCuts
 pub mod MeansAfter
+pub mod Placing
+pub mod PlacedLaws
+pub mod PlacedCuts
+pub mod PieceRows
 pub mod Lemmas

@@ -104,7 +104,7 @@ inner_once u =
     let sorted : T (is_sorted path_cmp (filter (λ e. is_inner u e.0) (region u))) = is_sorted-where_key path_cmp (is_inner u) (region u) (is_sorted-where_key path_cmp (is_near u) (entries u) (entries_sorted u)) in
     subst StandOnce (sym (filter_keys (is_inner u) (region u))) (keys_once (filter (λ e. is_inner u e.0) (region u)) (so _ sorted))
 
-apart : (xs : List (List ℕ)) → StandOnce xs → AreApart xs
+pub apart : (xs : List (List ℕ)) → StandOnce xs → AreApart xs
 apart xs once = λ x t. once.each t.first t.second x t.order t.one t.other
 
 -- the keys of the rows are apart where those of the region are

@@ -81,7 +81,7 @@ file_kind Link h = absurd cc
 pub path_there : (c : Path) (u : Nodes) → StandsAtCut c u → (q : Path) (n : Node) → IsNear u q n → IsPath (c ++ q)
 path_there c u cut q n has = cut.paths q (node_there u q n has)
 
-keeps : (c : Path) (u : Nodes) (rows : List Row) → StandsAtCut c u → AreRowsOf c u rows → (r : Row) → Contains rows r → IsRow r
+pub keeps : (c : Path) (u : Nodes) (rows : List Row) → StandsAtCut c u → AreRowsOf c u rows → (r : Row) → Contains rows r → IsRow r
 keeps c u rows cut are r has =
     let e = are.each r has in
     let directory : e.0 ≡ [] → is_directory (Some e.1) ≡ true = λ none. ap is_directory (sym e.2.there ∙ ap (get u) none) ∙ cut.directory in

@@ -114,9 +114,3 @@ abbrev pub IsCollision : List (Path × Node) → CutFault → Type 0
 IsCollision region (PathCollision first second) = ShareKey region first second
 IsCollision region (CatalogueFull c) = ⊥
 IsCollision region NoMemory = Unit {0}
-
--- the same of all regions of a tree
-abbrev pub IsShared : Nodes → CutFault → Type 0
-IsShared t (PathCollision first second) = SharesKey t first second
-IsShared t (CatalogueFull c) = ⊥
-IsShared t NoMemory = Unit {0}

@@ -1,15 +1,15 @@
 //! Paths of one region that share a key.
-ghost use Rattle.std.specs.Prelude.{◌≡◌, Some, reverse, IfOk, OnOk, IfErr, MatchOption};
+ghost use Rattle.std.specs.Prelude.{◌≡◌, Some, IfOk, OnOk, IfErr, MatchOption};
+ghost use Rattle.std.specs.List.{All};
 ghost use Rattle.std.specs.BTreeMap.{Updates};
 ghost use Rattle.std.specs.Cmp.Lexicographic.{slice_cmp};
 ghost use Rattle.std.specs.FinMap as map;
 ghost use Rattle.std.specs.Ordering.{nat_cmp};
-ghost use Rattle.cv_base.specs.Path.{Path};
 ghost use Rattle.cv_rows.specs.Made.{AreApart};
-ghost use Rattle.cv_tree.specs.Tree.{IsTree};
-ghost use Rattle.cv_cut.specs.Cuts.{cuts_of};
-ghost use Rattle.cv_cut.specs.Catalogues.{SharesKey};
-ghost use Rattle.cv_cut.specs.Cut.{AreSame, IsCollision, IsShared, keys_at};
+ghost use Rattle.cv_tree.specs.Tree.{at};
+ghost use Rattle.cv_cut.specs.Cut.{AreSame, IsCollision, keys_at};
+ghost use Rattle.cv_cut.specs.Piece.{AreCutsWithin, IsSharedAmong};
+ghost use Rattle.cv_cut.specs.Region.{KeysApart};
 
 use crate::cut_fault::CutFault;
 use crate::region::region;
@@ -60,18 +60,18 @@ pub(crate) fn check_region(alloc: Global, region: &[(RepoPath, Node)]) -> Result
     })
 }
 
-/// Looks in the region of each cut for two paths that have one key, where these are the entries and the cuts of a tree.
+/// Looks in the region of each of these cuts for two paths that have one key, where they are the cuts of a tree with these
+/// entries at a path and below.
 pub(crate) fn check_keys(
     alloc: Global,
     tree: &Tree,
     entries: &[(RepoPath, Node)],
     cuts: &[RepoPath],
 ) -> Result<(), CutFault>
-    requires tree { IsTree tree.now }
     requires entries { entries.now ≡ map.entries tree.now }
-    requires cuts { cuts.now ≡ reverse (cuts_of tree.now) }
-    ensures ok { OnOk result ((p q : Path) → SharesKey tree.now p q → ⊥) }
-    ensures err { IfErr result (IsShared tree.now) }
+    requires cuts { AreCutsWithin tree.now cuts.now }
+    ensures ok { OnOk result (All (λ c. KeysApart c (at tree.now c)) cuts.now) }
+    ensures err { IfErr result (IsSharedAmong tree.now cuts.now) }
 {
     for cut in cuts {
         let region = region(alloc, tree, entries, cut)?;

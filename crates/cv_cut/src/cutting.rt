@@ -8,6 +8,7 @@ ghost use Rattle.cv_tree.specs.Tree.{IsTree};
 ghost use Rattle.cv_cut.specs.Cuts.{is_cut, cuts_of};
 ghost use Rattle.cv_cut.specs.Catalogues.{Fits, SharesKey, IsFull, cat, entry_of};
 ghost use Rattle.cv_cut.specs.Cut.{HasMade, IsCutFault, IsFirstFault, cuts_below, catalogue_object, cut_of, region_at};
+ghost use Rattle.cv_cut.specs.Piece.{AreCutsWithin, IsFaultAmong};
 ghost use Rattle.cv_cut.specs.Region.{KeysApart};
 ghost use Rattle.cv_tree.specs.Tree.{at};
 ghost use Rattle.sha1.specs.Sha1.{sha1};
@@ -43,7 +44,7 @@ fn catalogue(
     ensures bytes { IfOk result (λ bytes. bytes.items ≡ cat tree.now cut.now) }
     ensures apart { OnOk result (KeysApart cut.now (at tree.now cut.now)) }
     ensures fits { OnOk result (IsFull tree.now cut.now → ⊥) }
-    ensures fault { IfErr result (IsCutFault tree.now) }
+    ensures fault { IfErr result (IsFaultAmong tree.now (cut.now ∷ [])) }
 {
     let rows = rows(alloc, tree, cut, region)?;
     let nested = nested(alloc, tree, cut, region, made)?;
@@ -83,8 +84,8 @@ fn keep(
     }
 }
 
-/// Makes the catalogue of each cut.
-fn catalogues(
+/// Makes the catalogue of each of these cuts, which are those of a tree at a path and below.
+pub(crate) fn catalogues(
     alloc: Global,
     tree: &Tree,
     entries: &[(RepoPath, Node)],
@@ -93,13 +94,13 @@ fn catalogues(
 ) -> Result<Vec<Object>, CutFault>
     requires tree { IsTree tree.now }
     requires entries { entries.now ≡ finmap.entries tree.now }
-    requires cuts { cuts.now ≡ reverse (cuts_of tree.now) }
+    requires cuts { AreCutsWithin tree.now cuts.now }
     requires made { HasMade tree.now [] made.old }
     ensures objects { IfOk result (λ objects. objects.items ≡ map (catalogue_object tree.now) cuts.now) }
     ensures apart { OnOk result (All (λ c. KeysApart c (at tree.now c)) cuts.now) }
     ensures fits { OnOk result (All (λ c. IsFull tree.now c → ⊥) cuts.now) }
     ensures made { OnOk result (HasMade tree.now cuts.now made.new) }
-    ensures fault { IfErr result (IsCutFault tree.now) }
+    ensures fault { IfErr result (IsFaultAmong tree.now cuts.now) }
 {
     let mut objects = Vec::new(alloc);
     for cut in cuts {

@@ -11,6 +11,7 @@ mod marks;
 mod nested;
 mod objects;
 mod open;
+mod pieces;
 mod region;
 mod rows;
 #[cfg(test)]
@@ -23,4 +24,5 @@ pub use cutting::cut;
 pub use load_fault::LoadFault;
 pub use objects::check_size;
 pub use open::{fits_place, opened};
+pub use pieces::{Piece, PieceCut, alone, cut_piece, piece_at, whole};
 pub use tree_cut::Cut;

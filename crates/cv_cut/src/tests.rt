@@ -3,7 +3,7 @@ ghost use Rattle.std.specs.Prelude.{IfOk};
 ghost use Rattle.cv_tree.specs.Node.{IsNode};
 
 use super::*;
-use cv_base::{Attr, Kind, Object, ObjectId, RepoPath, Target};
+use cv_base::{Attr, Kind, Object, ObjectId, RepoPath, Target, ends_in_marker};
 use cv_tree::{FileRef, Node, Tree};
 use std::alloc::Global;
 use std::process::Abort;
@@ -281,6 +281,69 @@ fn full_cut(alloc: Global, tree: &Tree) -> Result<Option<String>, Fail> {
         Err(fault) => Err(fault.into()),
         Ok(_) => Ok(None),
     }
+}
+
+/// Trees, and paths at which they are to be cut: how many rows and nested entries the catalogue above gets, how many catalogues
+/// the part has, and the id of the one nested in no other of them.
+const PARTS: [(&str, &str, usize, usize, usize, &str); 6] = [
+    ("/a/ /a/b/ /a/b/f /c", "/a/b", 2, 0, 0, ""),
+    (
+        "/a/ /a/b/ /a/b/.cvmfscatalog /a/b/c/ /a/b/c/.cvmfscatalog /a/b/c/f",
+        "/a/b",
+        1,
+        1,
+        2,
+        "e5fa7738817640bc664c47571e846da61b65bad8C",
+    ),
+    (
+        "/a/ /a/.cvmfscatalog /a/b/ /a/b/.cvmfscatalog /a/b/c /a/d",
+        "/a",
+        1,
+        1,
+        2,
+        "86356efc3c74481073a8fa3e8d25d74756de966dC",
+    ),
+    (
+        "/a/ /a/.cvmfscatalog /a/b/ /a/b/c/ /a/b/c/.cvmfscatalog /a/b/c/d /a/b/e",
+        "/a/b",
+        3,
+        1,
+        1,
+        "c06dbdb45a7e0ce4e87911f6ca48efcd54373e13C",
+    ),
+    ("/a/ /a/f", "/a/f", 1, 0, 0, ""),
+    ("/a/ /a/f", "/a/g", 0, 0, 0, ""),
+];
+
+/// What is cut of the part that a tree has at a path.
+#[tactic(auto, using(crate::proofs::PieceLaws::fits_subtree, crate::proofs::PieceLaws::ready_of))]
+fn part_cut(alloc: Global, text: &str, at: &str) -> Result<PieceCut, Fail> {
+    let tree = tree_of(alloc, text)?;
+    let path = RepoPath::read(alloc, at)?;
+    if path.names().is_empty() || ends_in_marker(&path) {
+        return Err(Fail::new("no path of a part"));
+    }
+    let _tree = tree.get(&path);
+    let part = tree.subtree(alloc, &path)?;
+    let alone = alone(alloc, &path, part.as_ref())?;
+    let piece = piece_at(alloc, alone, &path)?;
+    Ok(cut_piece(alloc, &piece)?)
+}
+
+#[test]
+fn parts_are_cut_so(rt: HostRuntime) -> Result<(), Fail> {
+    for (text, at, rows, nested, catalogues, last) in &PARTS {
+        let made = part_cut(rt.alloc(), text, at)?;
+        assert!(rt; made.rows.as_slice().len() == *rows);
+        assert!(rt; made.nested.as_slice().len() == *nested);
+        assert!(rt; made.catalogues.as_slice().len() == *catalogues);
+        let id = match made.catalogues.as_slice().last() {
+            Some(object) => Some(object.id),
+            None => None,
+        };
+        assert!(rt; id == ObjectId::read(last));
+    }
+    Ok(())
 }
 
 #[test]

@@ -21,6 +21,7 @@ pub mod Standing
 pub mod RuleLaws
 mod OneFault
 pub mod Regions
+mod Checked
 pub mod Covers
 mod Left
 mod Covering

@@ -59,7 +59,7 @@ pub named_none : (at : Path) (rows : List Row) (nested : List Nested) (i : ℕ) 
 named_none at rows nested i named = no_first _ nested i (λ k d lt bad. bad (named k d lt))
 
 -- a catalogue has none of the faults
-no_fault : (c : Contents) (fault : RowFault) → IsCatalogue c → IsRuleFault c.at c.rows c.nested fault → ⊥
+pub no_fault : (c : Contents) (fault : RowFault) → IsCatalogue c → IsRuleFault c.at c.rows c.nested fault → ⊥
 no_fault c (Order i) is f = order_none c.rows c.nested i (is.ordered, is.nested_ordered) c.at f
 no_fault c (Orphan i) is f =
     orphan_none c.at c.rows i (record { root = is.region.root; each = λ k d lt. let p = is.region.placed k d lt in (p.0, p.1) }) f.1

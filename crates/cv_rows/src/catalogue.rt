@@ -1,5 +1,5 @@
 //! Catalogues.
-ghost use Rattle.std.specs.Prelude.{◌≡◌, ◌≢◌, ◌++◌, true, false, IfOk, IfErr, Err, MatchOption, Contains, filter, map};
+ghost use Rattle.std.specs.Prelude.{◌≡◌, ◌≢◌, ◌++◌, true, false, IfOk, IfErr, IfSome, OnOk, Err, MatchOption, Contains, filter, map};
 ghost use Rattle.cv_base.specs.Marker.{marker, ends_in};
 ghost use Rattle.cv_base.specs.Digest.{IsDigest};
 ghost use Rattle.cv_base.specs.Path.{covers};
@@ -43,7 +43,10 @@ impl Model for Catalogue {
 impl Catalogue {
     ghost use Rattle.cv_rows.specs.Catalogue.{Contents, IsCatalogue, IsUnlessMemory, catalogue_bytes, is_below};
     ghost use Rattle.cv_rows.specs.Faults.{IsFirstFault};
-    ghost use Rattle.cv_rows.specs.Made.{AreParts, AreApart, IsTwice, PassesLimit, keys_of, in_order};
+    ghost use Rattle.cv_rows.specs.Made.{AreParts, AreApart, IsTwice, PassesLimit, keys_of, texts_of, in_order};
+    ghost use Rattle.cv_rows.specs.Row.{IsRow};
+    ghost use Rattle.cv_rows.specs.Nested.{IsNested};
+    ghost use Rattle.std.specs.List.{AllByRecursion};
     ghost use Rattle.cv_rows.specs.Listing.{IsListing};
     ghost use Rattle.cv_rows.specs.Places.{IsRoot, StandsAt, StandEach};
     ghost use Rattle.cv_rows.specs.Renewed.{renewed};
@@ -143,6 +146,39 @@ impl Catalogue {
                 };
                 Err((catalogue, fault))
             }
+        }
+    }
+
+    /// The catalogue with more rows and nested entries, in any order, of which it isn't known that all together keep the rules
+    /// of a catalogue: they are checked, and where they don't there is none. No clause says that there is one where they do. The faults are those of `of`.
+    pub fn with_checked(
+        self,
+        alloc: Global,
+        rows: Vec<Row>,
+        nested: Vec<Nested>,
+    ) -> Result<Option<Catalogue>, WithFault>
+        requires spelled { AllByRecursion IsRow rows.items }
+        requires nested_spelled { AllByRecursion IsNested nested.items }
+        requires texts { AreApart (texts_of (self.nested ++ nested.items)) }
+        ensures rules { IfOk result (λ found. IfSome found IsCatalogue) }
+        ensures made { IfOk result (λ found. IfSome found (λ c. c ≡ in_order self.at (self.rows ++ rows.items) (self.nested ++ nested.items))) }
+        ensures apart { OnOk result (AreApart (keys_of (self.rows ++ rows.items))) }
+        ensures fits { OnOk result (PassesLimit (self.rows ++ rows.items) (self.nested ++ nested.items) → ⊥) }
+        ensures collision { (key : ThePathKey) → result ≡ Err (fault.Collision key) → IsTwice (keys_of (self.rows ++ rows.items)) key.0 }
+        ensures full { result ≡ Err fault.Full → AreApart (keys_of (self.rows ++ rows.items)) × PassesLimit (self.rows ++ rows.items) (self.nested ++ nested.items) }
+    {
+        let Catalogue {
+            at,
+            rows: mut all_rows,
+            nested: mut all_nested,
+        } = self;
+        extend(alloc, &mut all_rows, &mut all_nested, rows, nested)?;
+        let rows = rows_by_key(all_rows);
+        let nested = nested_by_text(all_nested);
+        match rules::check(alloc, &at, &rows, &nested) {
+            Ok(()) => Ok(Some(Catalogue { at, rows, nested })),
+            Err(RowFault::NoMemory) => Err(WithFault::NoMemory),
+            Err(_) => Ok(None),
         }
     }
 

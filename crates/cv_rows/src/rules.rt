@@ -122,7 +122,7 @@ fn check_places(
 }
 
 /// Checks that rows and nested entries keep all rules of the catalogue at a place.
-fn check(alloc: Global, at: &RepoPath, rows: &[Row], nested: &[Nested]) -> Result<(), RowFault>
+pub fn check(alloc: Global, at: &RepoPath, rows: &[Row], nested: &[Nested]) -> Result<(), RowFault>
     requires rows { length rows.now ≤ 50000 }
     requires nested { length nested.now ≤ 16777216 }
     ensures { Checks (KeepsRules at.now rows.now nested.now) (IsRuleFault at.now rows.now nested.now) result }

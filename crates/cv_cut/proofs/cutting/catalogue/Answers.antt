@@ -1,8 +1,9 @@
-use Rattle.std.proofs.Common.{ap, Err}
+use Rattle.std.proofs.Common.{ap, Err, [], ◌∷◌}
 use Rattle.cv_cut.proofs.Collisions.{handed_on, sharing_of}
 use Rattle.cv_cut.proofs.KindLaws.{all_covered}
 use Rattle.cv_cut.proofs.CutLaws.{made_from, parts_of, made_apart, not_apart, bytes_of, full_cut, not_full_cut}
-use Rattle.cv_cut.specs.Cut.{IsCutFault}
+use Rattle.cv_cut.specs.Piece.{IsFaultAmong}
+use Rattle.cv_cut.proofs.Members.{first_there}
 use Rattle.cv_cut.proofs.cutting.catalogue.Goals as goal
 
 pub rows-requires : goal.rows-requires
@@ -40,9 +41,9 @@ pub returns-in_ok-copy-in-Err-Full-clause-fault : goal.returns-in_ok-copy-in-Err
 returns-in_ok-copy-in-Err-Full-clause-fault c =
     let made = made_from c.args.tree.now c.args.cut.now c.args.region.now _ _ c.requires.region c.in_ok-rows.ensures c.in_ok-nested.ensures.entries c.in_ok-nested.ensures.sizes in
     let full = c.in-Err-Full.ensures.full (ap Err c.in-Err-Full.field-0-is) in
-    rw c.in_ok-copy-in-Err-Full.ensures (full_cut _ _ _ _ c.requires.tree c.requires.cut (made_apart _ _ _ _ made full.0) made full.1)
+    rw c.in_ok-copy-in-Err-Full.ensures (full_cut _ _ _ _ c.requires.tree c.requires.cut (made_apart _ _ _ _ made full.0) made full.1, first_there c.args.cut.now [])
 
 pub returns-in_err-check_region-in-Err-Collision-clause-fault : goal.returns-in_err-check_region-in-Err-Collision-clause-fault
 returns-in_err-check_region-in-Err-Collision-clause-fault c =
     let f = sharing_of c.args.tree.now c.args.cut.now c.args.region.now c.in_err-check_region-in-Err-Collision.field-0.0 c.requires.cut c.requires.region c.in_err-check_region-in-Err-Collision.ensures.err in
-    handed_on (IsCutFault c.args.tree.now) _ _ c.from_residual-in_err-check_region-in-Err-Collision.ensures.1 f
+    handed_on (IsFaultAmong c.args.tree.now (c.args.cut.now ∷ [])) _ _ c.from_residual-in_err-check_region-in-Err-Collision.ensures.1 f

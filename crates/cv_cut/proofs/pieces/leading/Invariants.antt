@@ -1,0 +1,5 @@
+use Rattle.cv_cut.specs.Piece.{HasNoFiles}
+use Rattle.cv_cut.proofs.pieces.leading.Given as goal
+
+abbrev pub invariant-loop-name : goal.invariant-loop-name
+invariant-loop-name l = HasNoFiles l.tree
