@@ -41,14 +41,20 @@ def is_made(nodes, path, at):
     return at != "/" and is_cut(nodes, path) and at.startswith(path + "/")
 
 
+def is_brought(nodes, path, at):
+    """Whether a path is a cut at the place or below."""
+    return is_cut(nodes, path) and is_below(path, at)
+
+
 def items():
     rows = []
     for newest, at, offered in GRAFTS:
         nodes = replaced(read(newest), at, read(offered))
         root = hashlib.sha1(catalogues(nodes)[""]).hexdigest()
         made = sum(is_made(nodes, path, at) for path in nodes)
-        rows.append(f'("{newest}", "{at}", "{offered}", "{root}C", {made})')
-    yield table("GRAFTS", "(&str, &str, &str, &str, usize)", rows)
+        brought = sum(is_brought(nodes, path, at) for path in nodes)
+        rows.append(f'("{newest}", "{at}", "{offered}", "{root}C", {made}, {brought})')
+    yield table("GRAFTS", "(&str, &str, &str, &str, usize, usize)", rows)
     there = read(PLACES)
     kinds = [there.get(path.rstrip("/"), ("none",))[0] for path in PATHS]
     yield table("DIRECTORIES", "(&str, bool)", [f'("{path}", {str(kind == "dir").lower()})' for path, kind in zip(PATHS, kinds)])

@@ -21,6 +21,7 @@ use Rattle.cv_cut.specs.Cuts.{is_cut, is_file, is_marked, is_near}
 use Rattle.cv_cut.specs.Catalogues.{entry_of, cat}
 use Rattle.cv_cut.specs.Above.{cuts_above, OnWay, Holds}
 use Rattle.cv_graft.specs.Graft.{HasWay}
+use Rattle.cv_graft.specs.Placed.{HasCuts}
 use Rattle.cv_graft.specs.Way.{IsNext, HasNone, Finds, FailsFrom, TellsDamage}
 use Rattle.cv_cut.specs.Catalogues.{contents_of}
 use Rattle.cv_graft.specs.Faults.{of_load}
@@ -30,10 +31,14 @@ use Rattle.cv_cut.specs.declared.load_fault.LoadFault.{LoadFault}
 use Rattle.cv_cut.specs.declared.load_fault.LoadFault.TheVariants as fault
 use Rattle.cv_rows.specs.Places.{StandsAt}
 use Rattle.cv_rows.specs.declared.row.Row.{Row}
-use Rattle.cv_cut.specs.Region.{IsOther, Passes}
+use Rattle.cv_cut.specs.Region.{FitsAtCut, IsOther, Passes}
 use Rattle.cv_tree.proofs.Laws.{at-at}
-use Rattle.cv_cut.proofs.Lemmas.{cat_is, canonical, cut_some, stands_at_cut, IsThere, opens_there, nested_there, unopened, nested_unopened, root_decodes, nested_decodes, covers_append, same_rest, marked-at, covers-shift, rest_behind, entries_are, passes_of, pass_way, holder_way, cuts_some}
+use Rattle.cv_cut.proofs.Lemmas.{cat_is, canonical_at, fits_at_cut, cut_some, stands_at_cut, IsThere, opens_there, nested_there, unopened, nested_unopened, root_decodes_at, nested_decodes_at, covers_append, same_rest, marked-at, covers-shift, rest_behind, entries_are, passes_of, pass_way, holder_way, cuts_some}
 use Rattle.cv_rows.proofs.Lemmas.{has_file, one_file}
+
+-- a tree that fits does so at the cuts on the way
+pub cuts_way : {shelf : Shelf} {hash : List ℕ} {t : Nodes} {p : Path} → HasWay shelf hash t p → HasCuts shelf hash t p
+cuts_way {t = t} way = record { tree = way.tree; root = way.root; fits = λ c cut covered apart. fits_at_cut t c cut way.fits; catalogues = way.catalogues }
 
 -- ---- counts
 
@@ -43,7 +48,7 @@ raised_more (suc k) n = ap raised (raised_more k n)
 
 -- ---- places
 
-some_of : (t : Nodes) (p c r : Path) → OnWay t p c r → p ≢ c
+pub some_of : (t : Nodes) (p c r : Path) → OnWay t p c r → p ≢ c
 some_of t p c r w same = w.some (same_rest c r [] (sym w.is ∙ same ∙ sym (append-nil c)))
 
 pub way_covers : (t : Nodes) (p c r : Path) → OnWay t p c r → covers c p ≡ true
@@ -129,12 +134,12 @@ same_some : (a b : List ℕ) (o : Option (List ℕ)) → o ≡ Some a → o ≡ 
 same_some a b o h k = cc
 
 -- a catalogue on the way that was opened is the canonical one
-pub opened_is : (shelf : Shelf) (hash : List ℕ) (t : Nodes) (p c r : Path) (named : List ℕ) (place : Place) (k : Contents) → HasWay shelf hash t p → OnWay t p c r → named ≡ sha1 (cat t c) → place.path ≡ c
+pub opened_is : (shelf : Shelf) (hash : List ℕ) (t : Nodes) (p c r : Path) (named : List ℕ) (place : Place) (k : Contents) → HasCuts shelf hash t p → OnWay t p c r → named ≡ sha1 (cat t c) → place.path ≡ c
     → HasCatalogue shelf named place k → k ≡ contents_of t c
 opened_is shelf hash t p c r named place k way w same at_ has =
     let there = ap (λ (x : List ℕ). shelf (object_id x Catalogue)) same ∙ way.catalogues c w.cut (way_covers t p c r w) (some_of t p c r w) in
     let bytes : catalogue_bytes k ≡ catalogue_bytes (contents_of t c) = sym has.decodes.spelled ∙ same_some _ _ _ has.there there ∙ cat_bytes t c way.tree w.cut in
-    let parts = one_file _ _ _ _ (has_file k has.decodes.is) (has_file (contents_of t c) (canonical t c way.tree w.cut way.fits)) bytes in
+    let parts = one_file _ _ _ _ (has_file k has.decodes.is) (has_file (contents_of t c) (canonical_at t c way.tree w.cut (way.fits c w.cut (way_covers t p c r w) (some_of t p c r w)))) bytes in
     let at_c : k.at ≡ c = has.decodes.at ∙ at_ in
     λ i. record { at = at_c i; rows = parts.0 i; nested = parts.1 i }
 
@@ -159,11 +164,11 @@ pub top_unopened : (shelf : Shelf) (root : ObjectId) (top : Path) (f : LoadFault
 top_unopened shelf root top f kind none h = unopened shelf root.hash root_place root root_place f kind itself (subst (λ (q : Path). Opens shelf root (record { path = q; row = None }) (Err f)) none h)
 
 -- where the shelf has the catalogues on the way, the root's is opened
-pub top_unread : (shelf : Shelf) (root : ObjectId) (t : Nodes) (p top : Path) (f : LoadFault) → HasWay shelf root.hash t p → p ≢ [] → root.kind ≡ Catalogue → top ≡ [] → Opens shelf root (record { path = top; row = None }) (Err f) → IsUnread f
+pub top_unread : (shelf : Shelf) (root : ObjectId) (t : Nodes) (p top : Path) (f : LoadFault) → HasCuts shelf root.hash t p → p ≢ [] → root.kind ≡ Catalogue → top ≡ [] → Opens shelf root (record { path = top; row = None }) (Err f) → IsUnread f
 top_unread shelf root t p top f way some kind none h =
     let id : root ≡ object_id (sha1 (cat t [])) Catalogue = λ i. record { hash = way.root i; kind = kind i } in
     let there = ap shelf id ∙ way.catalogues [] refl refl some in
-    opens_there shelf root root_place (cat t []) (contents_of t []) f there (sym way.root) (root_decodes t way.tree way.fits)
+    opens_there shelf root root_place (cat t []) (contents_of t []) f there (sym way.root) (root_decodes_at t way.tree (way.fits [] refl refl some))
     (subst (λ (q : Path). Opens shelf root (record { path = q; row = None }) (Err f)) none h)
 
 -- what a fault tells of damage
@@ -206,7 +211,7 @@ some_count u r some = omega (arith, ap (λ (l : List Path). length l) (cuts_some
 
 -- ---- one step down
 
-module _ (shelf : Shelf) (hash : List ℕ) (t : Nodes) (p r : Path) (c : Contents) (entry : Nested) (way : HasWay shelf hash t p) (w : OnWay t p c.at r) (is : c ≡ contents_of t c.at) (next : IsNext c p entry) where
+module _ (shelf : Shelf) (hash : List ℕ) (t : Nodes) (p r : Path) (c : Contents) (entry : Nested) (way : HasCuts shelf hash t p) (w : OnWay t p c.at r) (is : c ≡ contents_of t c.at) (next : IsNext c p entry) where
   next_here : NextCut t p c.at r entry
   next_here = next_passes t p c.at r entry way.tree w (subst (λ (x : Contents). IsNext x p entry) is next)
 
@@ -229,7 +234,8 @@ module _ (shelf : Shelf) (hash : List ℕ) (t : Nodes) (p r : Path) (c : Content
         size = sym (ap (λ (m : Nested). m.size) own);
         decodes = λ row tr. (
           contents_of t entry.path,
-          nested_decodes t way.tree way.fits c.at w.cut row entry.path (subst (λ (x : Contents). StandsAt x.at x.rows row entry.path) is tr.stands) tr.kind,
+          nested_decodes_at t way.tree c.at w.cut (way.fits c.at w.cut (way_covers t p c.at r w) (some_of t p c.at r w)).apart row entry.path (subst (λ (x : Contents). StandsAt x.at x.rows row entry.path) is tr.stands) tr.kind
+              (subst (FitsAtCut t) (sym entry_path) (way.fits (c.at ++ next_here.e) on_next.cut (way_covers t p (c.at ++ next_here.e) next_here.f on_next) (some_of t p (c.at ++ next_here.e) next_here.f on_next))),
         );
       }
 

@@ -18,6 +18,7 @@ use Rattle.cv_cut.specs.Means.{Means}
 use Rattle.cv_cut.specs.Catalogues.{cat, root_of, Fits}
 use Rattle.cv_cut.specs.Above.{cuts_above, OnWay}
 use Rattle.cv_graft.specs.Graft.{HasWay, Grafts}
+use Rattle.cv_graft.specs.Placed.{HasCuts}
 use Rattle.cv_ports.specs.Calls.{raised_by, RaisedAtMost}
 use Rattle.cv_ports.proofs.Laws.{raised_both}
 use Rattle.cv_cut.specs.Reached.{HasCatalogue}
@@ -124,7 +125,7 @@ pub record IsTop (t : Nodes) (p : Path) (k : Contents) : Type 0 where
   pub on : OnWay t p k.at p
   pub is : k ≡ contents_of t k.at
 
-pub top_is : (shelf : Shelf) (root : ObjectId) (t : Nodes) (p top : Path) (k : Contents) → HasWay shelf root.hash t p → p ≢ [] → HasCatalogue shelf root.hash (record { path = top; row = None }) k → top ≡ [] → IsTop t p k
+pub top_is : (shelf : Shelf) (root : ObjectId) (t : Nodes) (p top : Path) (k : Contents) → HasCuts shelf root.hash t p → p ≢ [] → HasCatalogue shelf root.hash (record { path = top; row = None }) k → top ≡ [] → IsTop t p k
 top_is shelf root t p top k way some has none =
     let place : k.at ≡ [] = has.decodes.at ∙ none in
     let w = root_way t p some in

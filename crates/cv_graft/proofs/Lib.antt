@@ -5,3 +5,7 @@ pub mod Rebuilds
 pub mod Grafts
 pub mod RowsAt
 pub mod Crossing
+pub mod PlacedParts
+pub mod PlacedMade
+pub mod PlacedAbove
+pub mod PlacedWhole

@@ -17,7 +17,7 @@ use Rattle.cv_cut.specs.Cuts.{is_marked, is_near}
 use Rattle.cv_cut.specs.Catalogues.{rows_of, cat, Fits, SharesKey, IsFull}
 use Rattle.cv_cut.specs.Cut.{catalogue_object}
 use Rattle.cv_cut.specs.Above.{made_from, Holds}
-use Rattle.cv_graft.specs.Graft.{HasWay}
+use Rattle.cv_graft.specs.Placed.{HasCuts}
 use Rattle.cv_graft.specs.Joins.{Parts, IsJoined, CollidesAt, IsFullAt, Joins}
 use Rattle.cv_cut.specs.Opening.{IsUnread}
 use Rattle.cv_cut.specs.declared.load_fault.LoadFault.{LoadFault}
@@ -182,7 +182,7 @@ above_of t n p c r e f tree fits after unmarked w = record { tree = tree; after 
 
 module _ (t n : Nodes) (p c r e f : Path) (a : IsPassed t p (at n p) c r e f) where
   -- the cuts on the way afterwards
-  passes_after : made_from (put t p (at n p)) c r ≡ made_from (put t p (at n p)) (c ++ e) f ++ catalogue_object (put t p (at n p)) c ∷ []
+  pub passes_after : made_from (put t p (at n p)) c r ≡ made_from (put t p (at n p)) (c ++ e) f ++ catalogue_object (put t p (at n p)) c ∷ []
   passes_after =
       let w = a.passes.way in
       let same = upper.at_cut t p (at n p) c r e f a in
@@ -193,7 +193,7 @@ module _ (t n : Nodes) (p c r e f : Path) (a : IsPassed t p (at n p) c r e f) wh
       made_deeper (put t p (at n p)) c r e f (pass_way (at (put t p (at n p)) c) r e f way near)
 
   -- with its nested entry renewed it is the catalogue afterwards
-  renewed_is : (k : Contents) (q : Path) (made : Made) → q ≡ c ++ e → made.hash ≡ sha1 (cat (put t p (at n p)) (c ++ e)) → made.size ≡ length (cat (put t p (at n p)) (c ++ e))
+  pub renewed_is : (k : Contents) (q : Path) (made : Made) → q ≡ c ++ e → made.hash ≡ sha1 (cat (put t p (at n p)) (c ++ e)) → made.size ≡ length (cat (put t p (at n p)) (c ++ e))
       → k ≡ record (contents_of t c) { nested = map (rows.renewed q made.hash made.size) (contents_of t c).nested } → k ≡ contents_of (put t p (at n p)) c
   renewed_is k q made path hash size is =
       is ∙ (λ i. record (contents_of t c) { nested = map (rows.renewed (path i) (hash i) (size i)) (contents_of t c).nested }) ∙ sym (above_contents t p (at n p) c r e f a)
@@ -233,8 +233,8 @@ unread_fault t' c r before after load.NoMemory h = tt
 pub joins_moved : (c c' o o' : Contents) (p : Path) (x : Result Contents GraftFault) → c ≡ c' → o ≡ o' → Joins c o p x → Joins c' o' p x
 joins_moved c c' o o' p x is other h = subst (λ (y : Contents). Joins c' y p x) other (subst (λ (y : Contents). Joins y o p x) is h)
 
-pub asked_of : (shelf : Shelf) (hash : List ℕ) (t n : Nodes) (p c r : Path) (k : Contents) → HasWay shelf hash t p → (o : IsOffered n p k) → IsTree (put t p (at n p)) → ends_in marker p ≡ false → Holds t p c r → IsAsked t n p c r o.cut o.rest
-asked_of shelf hash t n p c r k way o after unmarked holds = record { tree = way.tree; fits = way.fits; other = o.tree; fits_ = o.fits; after = after; unmarked = unmarked; holds = holds; held = o.holds }
+pub asked_of : (shelf : Shelf) (hash : List ℕ) (t n : Nodes) (p c r : Path) (k : Contents) → HasCuts shelf hash t p → Fits t → (o : IsOffered n p k) → IsTree (put t p (at n p)) → ends_in marker p ≡ false → Holds t p c r → IsAsked t n p c r o.cut o.rest
+asked_of shelf hash t n p c r k way fits o after unmarked holds = record { tree = way.tree; fits = fits; other = o.tree; fits_ = o.fits; after = after; unmarked = unmarked; holds = holds; held = o.holds }
 
 -- one more kept above what was made below
 pub above_made : (t n : Nodes) (p c r e f d : Path) (own k : Contents) (q : Path) (before between after : List Object) (made kept : Made) → IsPassed t p (at n p) c r e f → d ≡ c ++ e → q ≡ c ++ e → own ≡ contents_of t c

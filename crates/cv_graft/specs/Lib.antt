@@ -2,4 +2,5 @@ pub mod Places
 pub mod Faults
 pub mod Graft
 pub mod Joins
+pub mod Placed
 pub mod Way

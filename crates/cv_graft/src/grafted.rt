@@ -9,6 +9,7 @@ pub struct Grafted {
     pub root: ObjectId,
     /// How many bytes that catalogue has.
     pub size: u64,
-    /// The catalogues of the cuts properly above the path, those nested in another before it.
+    /// The catalogues that were made, those nested in another before it: where a part is set, those of its own cuts, and then
+    /// those of the cuts properly above the path.
     pub added: Items<Object>,
 }

@@ -13,7 +13,8 @@ ghost use Rattle.cv_ports.specs.Calls.{RaisedAtMost};
 ghost use Rattle.cv_cut.specs.Above.{cuts_above, replaced};
 ghost use Rattle.cv_cut.specs.Opening.{MayFail};
 ghost use Rattle.cv_cut.specs.declared.load_fault.LoadFault.TheVariants as load_faults;
-ghost use Rattle.cv_graft.specs.Graft.{Grafts, HasWay, HasOwnIds};
+ghost use Rattle.cv_graft.specs.Graft.{Grafts, HasOwnIds};
+ghost use Rattle.cv_graft.specs.Placed.{HasCuts};
 ghost use Rattle.cv_graft.specs.Way.{Finds, TellsDamage};
 ghost use Rattle.cv_graft.specs.declared.graft_fault.GraftFault.TheVariants as faults;
 
@@ -36,14 +37,14 @@ pub(crate) fn holder<S: Shelf>(
 ) -> Result<Catalogue, LoadFault>
     requires kind { root.now.kind ≡ id_kind.Catalogue }
     requires path { path.now ≢ [] }
-    ensures told { WhereTold (S.shelf shelf.old) (λ standing. (n : Nodes) → HasWay standing root.now.hash n path.now → Finds n path.now result) }
+    ensures told { WhereTold (S.shelf shelf.old) (λ standing. (n : Nodes) → HasCuts standing root.now.hash n path.now → Finds n path.now result) }
     ensures rules { IfOk result IsCatalogue }
     ensures covered { IfOk result (λ c. (covers c.at path.now ≡ true) × (path.now ≢ c.at)) }
     ensures fault { WhereTold (S.shelf shelf.old) (λ standing. IfErr result (MayFail standing root.now.hash)) }
     ensures reads { S.reads shelf.old shelf.new }
     ensures unchanged { S.shelf shelf.new ≡ S.shelf shelf.old }
     ensures cause { HasCause (S.faults shelf.old) (S.faults shelf.new) (IsErrOf result load_faults.Failed) }
-    ensures taken { WhereTold (S.shelf shelf.old) (λ standing. (n : Nodes) → HasWay standing root.now.hash n path.now → RaisedAtMost (length (cuts_above n path.now)) (S.taken shelf.old) (S.taken shelf.new)) }
+    ensures taken { WhereTold (S.shelf shelf.old) (λ standing. (n : Nodes) → HasCuts standing root.now.hash n path.now → RaisedAtMost (length (cuts_above n path.now)) (S.taken shelf.old) (S.taken shelf.new)) }
 {
     let top = RepoPath::root(alloc);
     let catalogue = catalogue_at(alloc, shelf, root, &top, None)?;

@@ -80,7 +80,11 @@ fn check_keys(
 }
 
 /// The catalogue without what a path covers.
-fn without(alloc: Global, catalogue: Catalogue, path: &RepoPath) -> Result<Catalogue, NoMemory>
+pub(crate) fn without(
+    alloc: Global,
+    catalogue: Catalogue,
+    path: &RepoPath,
+) -> Result<Catalogue, NoMemory>
     requires below { covers catalogue.at path.now ≡ true }
     requires apart { path.now ≢ catalogue.at }
     requires unmarked { ends_in marker path.now ≡ false }

@@ -8,7 +8,9 @@ mod grafting;
 mod joining;
 pub mod laws;
 mod made;
+mod placing;
 mod rebuilding;
+mod setting;
 #[cfg(test)]
 mod tests;
 mod way;
@@ -17,3 +19,4 @@ pub use directories::directory_at;
 pub use graft_fault::GraftFault;
 pub use grafted::Grafted;
 pub use grafting::graft;
+pub use setting::place;

@@ -14,9 +14,10 @@ ghost use Rattle.cv_rows.specs.Renewed.{renewed};
 ghost use Rattle.cv_tree.specs.Tree.{Nodes, IsTree, at};
 ghost use Rattle.cv_ports.specs.Calls.{raised_by};
 ghost use Rattle.cv_cut.specs.Above.{cuts_above, replaced, OnWay};
-ghost use Rattle.cv_graft.specs.Graft.{HasWay, HasOwnIds};
+ghost use Rattle.cv_graft.specs.Graft.{HasOwnIds};
+ghost use Rattle.cv_graft.specs.Placed.{HasCuts};
 ghost use Rattle.cv_graft.specs.Way.{IsAsked, IsOffered, Rebuilds, TellsDamage};
-ghost use Rattle.cv_cut.specs.Catalogues.{contents_of};
+ghost use Rattle.cv_cut.specs.Catalogues.{Fits, contents_of};
 ghost use Rattle.cv_graft.specs.declared.graft_fault.GraftFault.TheVariants as faults;
 
 use crate::graft_fault::GraftFault;
@@ -30,7 +31,7 @@ use cv_rows::Catalogue;
 use std::alloc::Global;
 
 /// The catalogue with another hash and size in the nested entry of a path.
-fn with_entry(mut catalogue: Catalogue, path: &RepoPath, made: &Made) -> Catalogue
+pub(crate) fn with_entry(mut catalogue: Catalogue, path: &RepoPath, made: &Made) -> Catalogue
     requires { IsDigest made.now.hash }
     ensures { result ≡ record catalogue { nested = map (renewed path.now made.now.hash made.now.size) catalogue.nested } }
 {
@@ -40,7 +41,11 @@ fn with_entry(mut catalogue: Catalogue, path: &RepoPath, made: &Made) -> Catalog
 }
 
 /// Keeps a catalogue as an object.
-fn keep(alloc: Global, catalogue: &Catalogue, added: &mut Vec<Object>) -> Result<Made, NoMemory>
+pub(crate) fn keep(
+    alloc: Global,
+    catalogue: &Catalogue,
+    added: &mut Vec<Object>,
+) -> Result<Made, NoMemory>
     ensures hash { IfOk result (λ made. made.hash ≡ sha1 (catalogue_bytes catalogue.now)) }
     ensures size { IfOk result (λ made. made.size ≡ length (catalogue_bytes catalogue.now)) }
     ensures added { OnOk result (added.new.items ≡ added.old.items ++ record { id = object_id (sha1 (catalogue_bytes catalogue.now)) id_kind.Catalogue; bytes = catalogue_bytes catalogue.now } ∷ []) }
@@ -106,7 +111,7 @@ pub(crate) fn rebuilt<S: Shelf>(
     requires other_below { covers other.now.at path.now ≡ true }
     requires other_apart { path.now ≢ other.now.at }
     requires unmarked { ends_in marker path.now ≡ false }
-    ensures told { WhereTold (S.shelf shelf.old) (λ standing. (hash : List ℕ) (t n : Nodes) (r : List (List ℕ)) → HasWay standing hash t path.now → IsOffered n path.now other.now → IsTree (replaced t n path.now)
+    ensures told { WhereTold (S.shelf shelf.old) (λ standing. (hash : List ℕ) (t n : Nodes) (r : List (List ℕ)) → HasCuts standing hash t path.now → Fits t → IsOffered n path.now other.now → IsTree (replaced t n path.now)
         → OnWay t path.now catalogue.at r → catalogue ≡ contents_of t catalogue.at → Rebuilds (replaced t n path.now) catalogue.at r added.old.items added.new.items result) }
     ensures digest { IfOk result (λ made. IsDigest made.hash) }
     ensures own { OnOk result (HasOwnIds added.old.items → HasOwnIds added.new.items) }
@@ -114,7 +119,7 @@ pub(crate) fn rebuilt<S: Shelf>(
     ensures reads { S.reads shelf.old shelf.new }
     ensures unchanged { S.shelf shelf.new ≡ S.shelf shelf.old }
     ensures cause { HasCause (S.faults shelf.old) (S.faults shelf.new) (IsErrOf result faults.Failed) }
-    ensures taken { WhereTold (S.shelf shelf.old) (λ standing. (hash : List ℕ) (t : Nodes) (r : List (List ℕ)) → HasWay standing hash t path.now → OnWay t path.now catalogue.at r → catalogue ≡ contents_of t catalogue.at
+    ensures taken { WhereTold (S.shelf shelf.old) (λ standing. (hash : List ℕ) (t : Nodes) (r : List (List ℕ)) → HasCuts standing hash t path.now → OnWay t path.now catalogue.at r → catalogue ≡ contents_of t catalogue.at
         → (k : ℕ) × (k + 1 ≤ length (cuts_above (at t catalogue.at) r)) × (S.taken shelf.new ≡ raised_by k (S.taken shelf.old))) }
 {
     let Some(entry) = entry_above(alloc, &catalogue, path)? else {

@@ -12,17 +12,18 @@ use std::alloc::Global;
 use std::test::*;
 
 /// A newest tree, the path at which it takes the offered tree's subtree, and the offered tree; the id of the new root's
-/// catalogue, and how many catalogues are made.
+/// catalogue, how many catalogues are made, and how many more where the subtree is set there as a part.
 ///
 /// Trees are texts of their paths, in which `/d/` is a directory and anything else a file whose content is the text of its
 /// path.
-const GRAFTS: [(&str, &str, &str, &str, usize); 9] = [
+const GRAFTS: [(&str, &str, &str, &str, usize, usize); 9] = [
     (
         "/a/ /a/f /b",
         "/a",
         "/a/ /a/g",
         "85bb0ba1c7deeb447be9719081fbaa19b1ac662dC",
         1,
+        0,
     ),
     (
         "/a/ /a/f /b",
@@ -30,12 +31,14 @@ const GRAFTS: [(&str, &str, &str, &str, usize); 9] = [
         "/c",
         "c219e2f686baafbcd32a9323f48aabc8d1eddda7C",
         1,
+        0,
     ),
     (
         "/a/ /a/f /b",
         "/a",
         "/a/ /a/.cvmfscatalog /a/g",
         "15a3a7aee8823993c915c28912030ac30fb7ee41C",
+        1,
         1,
     ),
     (
@@ -44,6 +47,7 @@ const GRAFTS: [(&str, &str, &str, &str, usize); 9] = [
         "/a/ /a/g",
         "85bb0ba1c7deeb447be9719081fbaa19b1ac662dC",
         1,
+        0,
     ),
     (
         "/a/ /a/.cvmfscatalog /a/b/ /a/b/x",
@@ -51,6 +55,7 @@ const GRAFTS: [(&str, &str, &str, &str, usize); 9] = [
         "/a/ /a/b/ /a/b/y",
         "848254e4491e18710e07da861be2008006dcb603C",
         2,
+        0,
     ),
     (
         "/a/ /a/.cvmfscatalog /a/b/ /a/b/.cvmfscatalog /a/b/c/ /a/z",
@@ -58,12 +63,14 @@ const GRAFTS: [(&str, &str, &str, &str, usize); 9] = [
         "/a/ /a/b/ /a/b/c/ /a/b/c/d/ /a/b/c/d/.cvmfscatalog",
         "7f174e52808f4719b500146ae6165a4ef83fa086C",
         3,
+        1,
     ),
     (
         "/a/ /a/b/ /a/b/x",
         "/a/b",
         "/a/ /a/.cvmfscatalog /a/b/ /a/b/.cvmfscatalog /a/b/y",
         "da2263931854af3eb05f6c1e7e9db6eb40a6c36dC",
+        1,
         1,
     ),
     (
@@ -72,6 +79,7 @@ const GRAFTS: [(&str, &str, &str, &str, usize); 9] = [
         "/b/ /b/.cvmfscatalog",
         "25b1ec6b68cb1ad49d9a3778019ec5a7d4227fa4C",
         0,
+        2,
     ),
     (
         "/a/ /a/f /b",
@@ -79,6 +87,7 @@ const GRAFTS: [(&str, &str, &str, &str, usize); 9] = [
         "/a",
         "25044deb63180e6c29735f5fbddfb9a67ddf5aadC",
         1,
+        0,
     ),
 ];
 
@@ -174,10 +183,40 @@ fn grafted(alloc: Global, newest: &str, at: &str, offered: &str) -> Result<Graft
 
 #[test]
 fn a_graft_is_the_cut_of_the_tree(rt: HostRuntime) -> Result<(), Fail> {
-    for (newest, at, offered, root, made) in &GRAFTS {
+    for (newest, at, offered, root, made, _) in &GRAFTS {
         let grafted = grafted(rt.alloc(), newest, at, offered)?;
         assert!(rt; Some(grafted.root) == ObjectId::read(root));
         assert!(rt; grafted.added.as_slice().len() == *made);
+    }
+    Ok(())
+}
+
+/// What setting the offered tree's part gives.
+#[tactic(auto, using(crate::proofs::PlacedWhole::fits_subtree, crate::proofs::PlacedWhole::root_subtree))]
+fn placed(alloc: Global, base: &str, at: &str, offered: &str) -> Result<Grafted, Fail> {
+    let mut objects = Vec::new(alloc);
+    let base = add_catalogues(alloc, &mut objects, base)?;
+    let mut shelf = MemoryShelf::new(alloc, objects, Vec::new(alloc))?;
+    let path = RepoPath::read(alloc, at)?;
+    if ends_in_marker(&path) {
+        return Err(Fail::new("a marker"));
+    }
+    let tree = tree_of(alloc, offered)?;
+    let _root = tree.get(&path);
+    let part = tree.subtree(alloc, &path)?;
+    match place(alloc, &mut shelf, &base, &path, part.as_ref()) {
+        Ok(placed) => Ok(placed),
+        Err(_) => Err(Fail::new("no place")),
+    }
+}
+
+#[test]
+fn a_placed_part_is_the_cut_of_the_tree(rt: HostRuntime) -> Result<(), Fail> {
+    for (base, at, offered, root, above, brought) in &GRAFTS {
+        let placed = placed(rt.alloc(), base, at, offered)?;
+        assert!(rt; Some(placed.root) == ObjectId::read(root));
+        let made = placed.added.as_slice().len();
+        assert!(rt; made == above.saturating_add(*brought));
     }
     Ok(())
 }

@@ -10,7 +10,7 @@ ghost use Rattle.cv_tree.specs.Tree.{Nodes, at};
 ghost use Rattle.cv_cut.specs.Above.{cuts_above, OnWay};
 ghost use Rattle.cv_cut.specs.Catalogues.{contents_of};
 ghost use Rattle.cv_cut.specs.declared.load_fault.LoadFault.TheVariants as faults;
-ghost use Rattle.cv_graft.specs.Graft.{HasWay};
+ghost use Rattle.cv_graft.specs.Placed.{HasCuts};
 ghost use Rattle.cv_graft.specs.Way.{IsNext, HasNone, Finds, FailsFrom};
 
 use cv_base::{Kind, NoMemory, ObjectId, RepoPath};
@@ -57,14 +57,14 @@ pub(crate) fn holder_from<S: Shelf>(
     requires rules { IsCatalogue catalogue }
     requires covered { covers catalogue.at path.now ≡ true }
     requires apart { path.now ≢ catalogue.at }
-    ensures told { WhereTold (S.shelf shelf.old) (λ standing. (hash : List ℕ) (n : Nodes) (r : List (List ℕ)) → HasWay standing hash n path.now → OnWay n path.now catalogue.at r → catalogue ≡ contents_of n catalogue.at → Finds n path.now result) }
+    ensures told { WhereTold (S.shelf shelf.old) (λ standing. (hash : List ℕ) (n : Nodes) (r : List (List ℕ)) → HasCuts standing hash n path.now → OnWay n path.now catalogue.at r → catalogue ≡ contents_of n catalogue.at → Finds n path.now result) }
     ensures rules { IfOk result IsCatalogue }
     ensures covered { IfOk result (λ c. (covers c.at path.now ≡ true) × (path.now ≢ c.at)) }
     ensures fault { WhereTold (S.shelf shelf.old) (λ standing. FailsFrom standing id.now catalogue result) }
     ensures reads { S.reads shelf.old shelf.new }
     ensures unchanged { S.shelf shelf.new ≡ S.shelf shelf.old }
     ensures cause { HasCause (S.faults shelf.old) (S.faults shelf.new) (IsErrOf result faults.Failed) }
-    ensures taken { WhereTold (S.shelf shelf.old) (λ standing. (hash : List ℕ) (n : Nodes) (r : List (List ℕ)) → HasWay standing hash n path.now → OnWay n path.now catalogue.at r → catalogue ≡ contents_of n catalogue.at
+    ensures taken { WhereTold (S.shelf shelf.old) (λ standing. (hash : List ℕ) (n : Nodes) (r : List (List ℕ)) → HasCuts standing hash n path.now → OnWay n path.now catalogue.at r → catalogue ≡ contents_of n catalogue.at
         → (k : ℕ) × (k + 1 ≤ length (cuts_above (at n catalogue.at) r)) × (S.taken shelf.new ≡ raised_by k (S.taken shelf.old))) }
 {
     let Some(entry) = entry_above(alloc, &catalogue, path)? else {

@@ -2,7 +2,7 @@ use Rattle.std.proofs.Common.{suc, Result, List, [], Ok, Err, ap, subst, ◌∙�
 use Rattle.cv_base.specs.declared.id.Kind.TheVariants.{Catalogue}
 use Rattle.cv_base.specs.declared.object.Object.{Object}
 use Rattle.cv_graft.specs.Graft.{Grafts}
-use Rattle.cv_graft.proofs.Finding.{some_count, raised_more, top_unread, top_unopened, tells_cause}
+use Rattle.cv_graft.proofs.Finding.{cuts_way, some_count, raised_more, top_unread, top_unopened, tells_cause}
 use Rattle.cv_graft.proofs.Grafts.{way_of, tree_after, offered_of, top_is, top_count, two_walks, rebuilt_at, made_graft, fault_graft, unread_graft}
 use Rattle.cv_graft.specs.Way.{IsMade, TellsDamage}
 use Rattle.cv_graft.specs.declared.grafted.Grafted.{Grafted}
@@ -15,36 +15,36 @@ use Rattle.cv_cut.proofs.Lemmas.{left_by}
 pub returns-in_err-other-clause-taken : goal.returns-in_err-other-clause-taken
 returns-in_err-other-clause-taken g c = λ standing told t n mt mn.
     let p = c.args.path.now in
-    let one = c.holder.ensures.taken standing told n (way_of standing c.args.offered.now.hash n p mn) in
+    let one = c.holder.ensures.taken standing told n (cuts_way (way_of standing c.args.offered.now.hash n p mn)) in
     let le = one.1 in
     (one.0, omega (arith, le), one.2)
 
 pub returns-in_err-catalogue-clause-taken : goal.returns-in_err-catalogue-clause-taken
 returns-in_err-catalogue-clause-taken g c = λ standing told t n mt mn.
     let p = c.args.path.now in
-    let one = c.holder.ensures.taken standing told n (way_of standing c.args.offered.now.hash n p mn) in
+    let one = c.holder.ensures.taken standing told n (cuts_way (way_of standing c.args.offered.now.hash n p mn)) in
     two_walks _ _ _ (g.S.Shelf.taken c.holder.new.shelf) _ one.0 1 one.1 one.2 (some_count t p c.requires.path) c.in_err-catalogue.ensures.taken
 
 pub returns-in_err-made-clause-told : goal.returns-in_err-made-clause-told
 returns-in_err-made-clause-told g c = λ standing told t n mt mn place.
     let p = c.args.path.now in
     let there = c.holder.ensures.unchanged ∙ told in
-    let way = way_of standing c.args.newest.now.hash t p mt in
+    let way = cuts_way (way_of standing c.args.newest.now.hash t p mt) in
     let top = top_is standing c.args.newest.now t p c.root-top.result c.in_ok-catalogue.catalogue way c.requires.path (c.in_ok-catalogue.ensures.told standing there) c.root-top.ensures in
-    let offered = offered_of n p c.in_ok-other.other mn.tree mn.fits (c.in_ok-other.ensures.told standing told n (way_of standing c.args.offered.now.hash n p mn)) in
+    let offered = offered_of n p c.in_ok-other.other mn.tree mn.fits (c.in_ok-other.ensures.told standing told n (cuts_way (way_of standing c.args.offered.now.hash n p mn))) in
     let after = tree_after t n p mt.tree mn.tree place in
     left_by (Grafts (replaced t n p) p) _ _ c.from_residual-in_err-made.ensures.1
     (fault_graft (replaced t n p) p c.new-added.result.items c.rebuilt.new.added.items c.in_err-made.field-0.0
     (rebuilt_at (replaced t n p) p c.in_ok-catalogue.catalogue t c.new-added.result.items c.rebuilt.new.added.items (Err c.in_err-made.field-0.0) top
-    (c.in_err-made.ensures.told standing (c.catalogue_at.ensures.unchanged ∙ there) c.args.newest.now.hash t n p way offered after top.on top.is)))
+    (c.in_err-made.ensures.told standing (c.catalogue_at.ensures.unchanged ∙ there) c.args.newest.now.hash t n p way mt.fits offered after top.on top.is)))
 
 pub returns-in_err-made-clause-taken : goal.returns-in_err-made-clause-taken
 returns-in_err-made-clause-taken g c = λ standing told t n mt mn.
     let p = c.args.path.now in
     let there = c.holder.ensures.unchanged ∙ told in
-    let way = way_of standing c.args.newest.now.hash t p mt in
+    let way = cuts_way (way_of standing c.args.newest.now.hash t p mt) in
     let top = top_is standing c.args.newest.now t p c.root-top.result c.in_ok-catalogue.catalogue way c.requires.path (c.in_ok-catalogue.ensures.told standing there) c.root-top.ensures in
-    let one = c.holder.ensures.taken standing told n (way_of standing c.args.offered.now.hash n p mn) in
+    let one = c.holder.ensures.taken standing told n (cuts_way (way_of standing c.args.offered.now.hash n p mn)) in
     let deep = c.rebuilt.ensures.taken standing (c.catalogue_at.ensures.unchanged ∙ there) c.args.newest.now.hash t p way top.on top.is in
     let le = deep.1 in
     let count = top_count t p c.in_ok-catalogue.catalogue top in
@@ -54,12 +54,12 @@ pub returns-clause-told : goal.returns-clause-told
 returns-clause-told g c = λ standing told t n mt mn place.
     let p = c.args.path.now in
     let there = c.holder.ensures.unchanged ∙ told in
-    let way = way_of standing c.args.newest.now.hash t p mt in
+    let way = cuts_way (way_of standing c.args.newest.now.hash t p mt) in
     let top = top_is standing c.args.newest.now t p c.root-top.result c.in_ok-catalogue.catalogue way c.requires.path (c.in_ok-catalogue.ensures.told standing there) c.root-top.ensures in
-    let offered = offered_of n p c.in_ok-other.other mn.tree mn.fits (c.in_ok-other.ensures.told standing told n (way_of standing c.args.offered.now.hash n p mn)) in
+    let offered = offered_of n p c.in_ok-other.other mn.tree mn.fits (c.in_ok-other.ensures.told standing told n (cuts_way (way_of standing c.args.offered.now.hash n p mn))) in
     let after = tree_after t n p mt.tree mn.tree place in
     let made = rebuilt_at (replaced t n p) p c.in_ok-catalogue.catalogue t c.new-added.result.items c.rebuilt.new.added.items (Ok c.in_ok-made.made) top
-    (c.in_ok-made.ensures.told standing (c.catalogue_at.ensures.unchanged ∙ there) c.args.newest.now.hash t n p way offered after top.on top.is) in
+    (c.in_ok-made.ensures.told standing (c.catalogue_at.ensures.unchanged ∙ there) c.args.newest.now.hash t n p way mt.fits offered after top.on top.is) in
     made_graft (replaced t n p) p c.rebuilt.new.added.items c.in_ok-made.made _ (subst (λ (l : List Object). IsMade (replaced t n p) [] p l c.rebuilt.new.added.items c.in_ok-made.made) c.new-added.ensures.items made)
     (ap (λ (l : List Object). record { root = record { hash = c.in_ok-made.made.hash; kind = Catalogue }; size = c.in_ok-made.made.size; added = l }) c.new.ensures)
 
@@ -67,9 +67,9 @@ pub returns-clause-taken : goal.returns-clause-taken
 returns-clause-taken g c = λ standing told t n mt mn.
     let p = c.args.path.now in
     let there = c.holder.ensures.unchanged ∙ told in
-    let way = way_of standing c.args.newest.now.hash t p mt in
+    let way = cuts_way (way_of standing c.args.newest.now.hash t p mt) in
     let top = top_is standing c.args.newest.now t p c.root-top.result c.in_ok-catalogue.catalogue way c.requires.path (c.in_ok-catalogue.ensures.told standing there) c.root-top.ensures in
-    let one = c.holder.ensures.taken standing told n (way_of standing c.args.offered.now.hash n p mn) in
+    let one = c.holder.ensures.taken standing told n (cuts_way (way_of standing c.args.offered.now.hash n p mn)) in
     let deep = c.rebuilt.ensures.taken standing (c.catalogue_at.ensures.unchanged ∙ there) c.args.newest.now.hash t p way top.on top.is in
     let le = deep.1 in
     let count = top_count t p c.in_ok-catalogue.catalogue top in
@@ -88,7 +88,7 @@ pub returns-in_err-other-clause-told : goal.returns-in_err-other-clause-told
 returns-in_err-other-clause-told g c = λ standing told t n mt mn place.
     let p = c.args.path.now in
     left_by (Grafts (replaced t n p) p) _ _ c.from_residual.ensures.1
-    (unread_graft (replaced t n p) p _ (c.in_err-other.ensures.told standing told n (way_of standing c.args.offered.now.hash n p mn)))
+    (unread_graft (replaced t n p) p _ (c.in_err-other.ensures.told standing told n (cuts_way (way_of standing c.args.offered.now.hash n p mn))))
 
 pub returns-in_err-other-clause-damaged : goal.returns-in_err-other-clause-damaged
 returns-in_err-other-clause-damaged g c = λ standing told.
@@ -99,7 +99,7 @@ pub returns-in_err-catalogue-clause-told : goal.returns-in_err-catalogue-clause-
 returns-in_err-catalogue-clause-told g c = λ standing told t n mt mn place.
     let p = c.args.path.now in
     left_by (Grafts (replaced t n p) p) _ _ c.from_residual-in_err-catalogue.ensures.1
-    (unread_graft (replaced t n p) p _ (top_unread standing c.args.newest.now t p c.root-top.result _ (way_of standing c.args.newest.now.hash t p mt) c.requires.path c.requires.newest c.root-top.ensures
+    (unread_graft (replaced t n p) p _ (top_unread standing c.args.newest.now t p c.root-top.result _ (cuts_way (way_of standing c.args.newest.now.hash t p mt)) c.requires.path c.requires.newest c.root-top.ensures
     (c.in_err-catalogue.ensures.told standing (c.holder.ensures.unchanged ∙ told))))
 
 pub returns-in_err-catalogue-clause-damaged : goal.returns-in_err-catalogue-clause-damaged

@@ -11,11 +11,11 @@ use Rattle.cv_cut.specs.Above.{replaced}
 use Rattle.cv_cut.proofs.Lemmas.{left_by}
 
 pub returns-in_default-clause-told : goal.returns-in_default-clause-told
-returns-in_default-clause-told g m c = λ standing told hash t n r way offered after w is.
+returns-in_default-clause-told g m c = λ standing told hash t n r way fits offered after w is.
     let p = c.args.path.now in
     let none : HasNone c.args.catalogue p = rw c.in_default.is at c.in_ok-entry.ensures.found in
     let holds = none_holds t p c.args.catalogue.at r way.tree w (subst (λ (x : Contents). HasNone x p) is none) in
-    c.rejoined.ensures.made t n r offered.cut offered.rest (asked_of standing hash t n p c.args.catalogue.at r c.args.other.now way offered after c.requires.unmarked holds) is offered.is
+    c.rejoined.ensures.made t n r offered.cut offered.rest (asked_of standing hash t n p c.args.catalogue.at r c.args.other.now way fits offered after c.requires.unmarked holds) is offered.is
 
 pub returns-in_default-clause-cause : goal.returns-in_default-clause-cause
 returns-in_default-clause-cause g m c = record { later = omega arith; failed = λ is. absurd (c.rejoined.ensures.unread is) }
@@ -24,7 +24,7 @@ pub returns-in_default-clause-damaged : goal.returns-in_default-clause-damaged
 returns-in_default-clause-damaged g m c = λ standing told. c.rejoined.ensures.undamaged standing
 
 pub returns-in_err-below-clause-told : goal.returns-in_err-below-clause-told
-returns-in_err-below-clause-told g m c = λ standing told hash t n r way offered after w is.
+returns-in_err-below-clause-told g m c = λ standing told hash t n r way fits offered after w is.
     let p = c.args.path.now in
     let items = c.args.added.now.items in
     let next : IsNext c.args.catalogue p c.in-Some.entry = rw c.in-Some.is at c.in_ok-entry.ensures.found in
@@ -37,13 +37,13 @@ returns-in_err-below-clause-taken g m c = λ standing told hash t r way w is.
     at_most_below _ _ _ (more_than_one standing hash t c.args.path.now r c.args.catalogue c.in-Some.entry way w is next) c.in_err-below.ensures.taken
 
 pub returns-in_err-made-clause-told : goal.returns-in_err-made-clause-told
-returns-in_err-made-clause-told g m c = λ standing told hash t n r way offered after w is.
+returns-in_err-made-clause-told g m c = λ standing told hash t n r way fits offered after w is.
     let p = c.args.path.now in
     let next : IsNext c.args.catalogue p c.in-Some.entry = rw c.in-Some.is at c.in_ok-entry.ensures.found in
     let s = step_down standing hash t p r c.args.catalogue c.in-Some.entry way w is next c.in_ok-below.below (c.in_ok-below.ensures.told standing told) in
     left_by (Rebuilds (replaced t n p) c.args.catalogue.at r c.args.added.now.items c.rebuilt.new.added.items) _ _ c.from_residual-in_err-made.ensures.1
     (upper_fault (replaced t n p) c.in_ok-below.below.at s.f c.args.catalogue.at r c.args.added.now.items c.rebuilt.new.added.items c.args.added.now.items c.rebuilt.new.added.items _
-    (c.in_err-made.ensures.told standing (c.nested_catalogue.ensures.unchanged ∙ told) hash t n s.f way offered after s.on s.is_))
+    (c.in_err-made.ensures.told standing (c.nested_catalogue.ensures.unchanged ∙ told) hash t n s.f way fits offered after s.on s.is_))
 
 pub returns-in_err-made-clause-taken : goal.returns-in_err-made-clause-taken
 returns-in_err-made-clause-taken g m c = λ standing told hash t r way w is.
@@ -73,13 +73,13 @@ returns-clause-taken g m c = λ standing told hash t r way w is.
     (suc deep.0, omega (arith, count, le), deep.2 ∙ ap (raised_by deep.0) c.in_ok-below.ensures.taken ∙ raised_more deep.0 (g.S.Shelf.taken c.args.shelf.now))
 
 pub returns-clause-told : goal.returns-clause-told
-returns-clause-told g m c = λ standing told hash t n r way offered after w is.
+returns-clause-told g m c = λ standing told hash t n r way fits offered after w is.
     let p = c.args.path.now in
     let next : IsNext c.args.catalogue p c.in-Some.entry = rw c.in-Some.is at c.in_ok-entry.ensures.found in
     let s = step_down standing hash t p r c.args.catalogue c.in-Some.entry way w is next c.in_ok-below.below (c.in_ok-below.ensures.told standing told) in
-    let deep = c.in_ok-made.ensures.told standing (c.nested_catalogue.ensures.unchanged ∙ told) hash t n s.f way offered after s.on s.is_ in
+    let deep = c.in_ok-made.ensures.told standing (c.nested_catalogue.ensures.unchanged ∙ told) hash t n s.f way fits offered after s.on s.is_ in
     above_made t n p c.args.catalogue.at r s.e s.f c.in_ok-below.below.at c.args.catalogue c.with_entry-catalogue.result c.in-Some.entry.path c.args.added.now.items c.rebuilt.new.added.items c.keep.new.added.items c.in_ok-made.made c.in_ok-keep.field-0
-    (above_of t n p c.args.catalogue.at r s.e s.f way.tree way.fits after c.requires.unmarked s.passes) s.place s.path is deep c.with_entry-catalogue.ensures c.in_ok-keep.ensures.hash c.in_ok-keep.ensures.size c.in_ok-keep.ensures.added
+    (above_of t n p c.args.catalogue.at r s.e s.f way.tree fits after c.requires.unmarked s.passes) s.place s.path is deep c.with_entry-catalogue.ensures c.in_ok-keep.ensures.hash c.in_ok-keep.ensures.size c.in_ok-keep.ensures.added
 
 pub returns-in_err-made-clause-reads : goal.returns-in_err-made-clause-reads
 returns-in_err-made-clause-reads g t c = g.met.S.Shelf.reads_then _ _ _ c.nested_catalogue.ensures.reads c.rebuilt.ensures.reads

@@ -1,0 +1,105 @@
+use Rattle.std.proofs.Common.{suc, Result, ap, subst, ◌∙◌, arith}
+use Rattle.cv_rows.specs.Catalogue.{Contents}
+use Rattle.cv_graft.specs.Placed.{Sets}
+use Rattle.cv_graft.specs.Way.{HasNone, IsNext, TellsDamage}
+use Rattle.cv_graft.specs.declared.made.Made.{Made}
+use Rattle.cv_graft.specs.declared.graft_fault.GraftFault.{GraftFault}
+use Rattle.cv_graft.proofs.Finding.{raised_more, none_holds, step_unread, step_down, step_count, more_than_one, at_most_below, tells_nested}
+use Rattle.cv_graft.proofs.PlacedAbove.{asked_part, passed_part, set_above, set_fault, unread_set}
+use Rattle.cv_graft.proofs.placing.+rebuilt_with.Goals as goal
+use Rattle.cv_ports.specs.Calls.{raised_by}
+use Rattle.cv_cut.proofs.Lemmas.{left_by}
+
+pub returns-in_default-clause-told : goal.returns-in_default-clause-told
+returns-in_default-clause-told g m c = λ standing told hash t r way after w is.
+    let p = c.args.path.now in
+    let n = c.args.piece.now.tree in
+    let none : HasNone c.args.catalogue p = rw c.in_default.is at c.in_ok-entry.ensures.found in
+    let holds = none_holds t p c.args.catalogue.at r way.tree w (subst (λ (x : Contents). HasNone x p) is none) in
+    c.rejoined_part.ensures.made t r (asked_part standing hash t n p c.args.catalogue.at r way after holds) is
+
+pub returns-in_default-clause-cause : goal.returns-in_default-clause-cause
+returns-in_default-clause-cause g m c = record { later = omega arith; failed = λ is. absurd (c.rejoined_part.ensures.unread is) }
+
+pub returns-in_default-clause-damaged : goal.returns-in_default-clause-damaged
+returns-in_default-clause-damaged g m c = λ standing told. c.rejoined_part.ensures.undamaged standing
+
+pub returns-in_err-below-clause-told : goal.returns-in_err-below-clause-told
+returns-in_err-below-clause-told g m c = λ standing told hash t r way after w is.
+    let p = c.args.path.now in
+    let n = c.args.piece.now.tree in
+    let items = c.args.added.now.items in
+    let next : IsNext c.args.catalogue p c.in-Some.entry = rw c.in-Some.is at c.in_ok-entry.ensures.found in
+    left_by (Sets t n p c.args.catalogue.at r items items) _ _ c.from_residual-in_err-below.ensures.1
+    (unread_set t n p c.args.catalogue.at r items items _ (step_unread standing hash t p r c.args.catalogue c.in-Some.entry way w is next c.args.id.now _ (c.in_err-below.ensures.told standing told)))
+
+pub returns-in_err-below-clause-taken : goal.returns-in_err-below-clause-taken
+returns-in_err-below-clause-taken g m c = λ standing told hash t r way w is.
+    let next : IsNext c.args.catalogue c.args.path.now c.in-Some.entry = rw c.in-Some.is at c.in_ok-entry.ensures.found in
+    at_most_below _ _ _ (more_than_one standing hash t c.args.path.now r c.args.catalogue c.in-Some.entry way w is next) c.in_err-below.ensures.taken
+
+pub returns-in_err-made-clause-told : goal.returns-in_err-made-clause-told
+returns-in_err-made-clause-told g m c = λ standing told hash t r way after w is.
+    let p = c.args.path.now in
+    let n = c.args.piece.now.tree in
+    let next : IsNext c.args.catalogue p c.in-Some.entry = rw c.in-Some.is at c.in_ok-entry.ensures.found in
+    let s = step_down standing hash t p r c.args.catalogue c.in-Some.entry way w is next c.in_ok-below.below (c.in_ok-below.ensures.told standing told) in
+    left_by (Sets t n p c.args.catalogue.at r c.args.added.now.items c.rebuilt_with.new.added.items) _ _ c.from_residual-in_err-made.ensures.1
+    (set_fault t n p c.in_ok-below.below.at s.f c.args.catalogue.at r c.args.added.now.items c.rebuilt_with.new.added.items c.args.added.now.items c.rebuilt_with.new.added.items _
+    (c.in_err-made.ensures.told standing (c.nested_catalogue.ensures.unchanged ∙ told) hash t s.f way after s.on s.is_))
+
+pub returns-in_err-made-clause-taken : goal.returns-in_err-made-clause-taken
+returns-in_err-made-clause-taken g m c = λ standing told hash t r way w is.
+    let next : IsNext c.args.catalogue c.args.path.now c.in-Some.entry = rw c.in-Some.is at c.in_ok-entry.ensures.found in
+    let s = step_down standing hash t c.args.path.now r c.args.catalogue c.in-Some.entry way w is next c.in_ok-below.below (c.in_ok-below.ensures.told standing told) in
+    let count = step_count standing hash t c.args.path.now r c.args.catalogue c.in-Some.entry way w is next c.in_ok-below.below s in
+    let deep = c.rebuilt_with.ensures.taken standing (c.nested_catalogue.ensures.unchanged ∙ told) hash t s.f way s.on s.is_ in
+    let le = deep.1 in
+    (suc deep.0, omega (arith, count, le), deep.2 ∙ ap (raised_by deep.0) c.in_ok-below.ensures.taken ∙ raised_more deep.0 (g.S.Shelf.taken c.args.shelf.now))
+
+pub returns-in_err-keep-clause-taken : goal.returns-in_err-keep-clause-taken
+returns-in_err-keep-clause-taken g m c = λ standing told hash t r way w is.
+    let next : IsNext c.args.catalogue c.args.path.now c.in-Some.entry = rw c.in-Some.is at c.in_ok-entry.ensures.found in
+    let s = step_down standing hash t c.args.path.now r c.args.catalogue c.in-Some.entry way w is next c.in_ok-below.below (c.in_ok-below.ensures.told standing told) in
+    let count = step_count standing hash t c.args.path.now r c.args.catalogue c.in-Some.entry way w is next c.in_ok-below.below s in
+    let deep = c.rebuilt_with.ensures.taken standing (c.nested_catalogue.ensures.unchanged ∙ told) hash t s.f way s.on s.is_ in
+    let le = deep.1 in
+    (suc deep.0, omega (arith, count, le), deep.2 ∙ ap (raised_by deep.0) c.in_ok-below.ensures.taken ∙ raised_more deep.0 (g.S.Shelf.taken c.args.shelf.now))
+
+pub returns-clause-taken : goal.returns-clause-taken
+returns-clause-taken g m c = λ standing told hash t r way w is.
+    let next : IsNext c.args.catalogue c.args.path.now c.in-Some.entry = rw c.in-Some.is at c.in_ok-entry.ensures.found in
+    let s = step_down standing hash t c.args.path.now r c.args.catalogue c.in-Some.entry way w is next c.in_ok-below.below (c.in_ok-below.ensures.told standing told) in
+    let count = step_count standing hash t c.args.path.now r c.args.catalogue c.in-Some.entry way w is next c.in_ok-below.below s in
+    let deep = c.rebuilt_with.ensures.taken standing (c.nested_catalogue.ensures.unchanged ∙ told) hash t s.f way s.on s.is_ in
+    let le = deep.1 in
+    (suc deep.0, omega (arith, count, le), deep.2 ∙ ap (raised_by deep.0) c.in_ok-below.ensures.taken ∙ raised_more deep.0 (g.S.Shelf.taken c.args.shelf.now))
+
+pub returns-clause-told : goal.returns-clause-told
+returns-clause-told g m c = λ standing told hash t r way after w is.
+    let p = c.args.path.now in
+    let n = c.args.piece.now.tree in
+    let next : IsNext c.args.catalogue p c.in-Some.entry = rw c.in-Some.is at c.in_ok-entry.ensures.found in
+    let s = step_down standing hash t p r c.args.catalogue c.in-Some.entry way w is next c.in_ok-below.below (c.in_ok-below.ensures.told standing told) in
+    let deep = c.in_ok-made.ensures.told standing (c.nested_catalogue.ensures.unchanged ∙ told) hash t s.f way after s.on s.is_ in
+    set_above t n p c.args.catalogue.at r s.e s.f c.in_ok-below.below.at c.args.catalogue c.with_entry-catalogue.result c.in-Some.entry.path c.args.added.now.items c.rebuilt_with.new.added.items c.keep.new.added.items c.in_ok-made.made c.in_ok-keep.field-0
+    (passed_part standing hash t n p c.args.catalogue.at r s.e s.f way after c.requires.unmarked w s.passes) s.place s.path is deep c.with_entry-catalogue.ensures c.in_ok-keep.ensures.hash c.in_ok-keep.ensures.size c.in_ok-keep.ensures.added
+
+pub returns-in_err-made-clause-reads : goal.returns-in_err-made-clause-reads
+returns-in_err-made-clause-reads g t c = g.met.S.Shelf.reads_then _ _ _ c.nested_catalogue.ensures.reads c.rebuilt_with.ensures.reads
+
+pub returns-in_err-keep-clause-reads : goal.returns-in_err-keep-clause-reads
+returns-in_err-keep-clause-reads g t c = g.met.S.Shelf.reads_then _ _ _ c.nested_catalogue.ensures.reads c.rebuilt_with.ensures.reads
+
+pub returns-clause-reads : goal.returns-clause-reads
+returns-clause-reads g t c = g.met.S.Shelf.reads_then _ _ _ c.nested_catalogue.ensures.reads c.rebuilt_with.ensures.reads
+
+pub returns-in_err-below-clause-damaged : goal.returns-in_err-below-clause-damaged
+returns-in_err-below-clause-damaged g m c = λ standing told.
+    left_by (λ (x : Result Made GraftFault). TellsDamage standing x) _ _ c.from_residual-in_err-below.ensures.1
+    (tells_nested Made standing c.args.id.now c.args.catalogue c.in-Some.entry _ (c.in_err-below.ensures.told standing told))
+
+pub nested_catalogue-requires-clause-entry : goal.nested_catalogue-requires-clause-entry
+nested_catalogue-requires-clause-entry g m c =
+    let next : IsNext c.args.catalogue c.args.path.now c.in-Some.entry = rw c.in-Some.is at c.in_ok-entry.ensures.found in
+    next.has

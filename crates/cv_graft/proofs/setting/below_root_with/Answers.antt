@@ -1,0 +1,115 @@
+use Rattle.std.proofs.Common.{suc, Result, List, [], ap, subst, ◌∙◌, arith}
+use Rattle.std.specs.Prelude.{IsErrOf}
+use Rattle.std.specs.Option.{option_copied}
+use Rattle.cv_base.specs.declared.id.Kind.TheVariants.{Catalogue}
+use Rattle.cv_base.specs.declared.object.Object.{Object}
+use Rattle.cv_base.specs.Path.{Path}
+use Rattle.cv_tree.specs.Tree.{put}
+use Rattle.cv_tree.specs.Changes.{nodes_of}
+use Rattle.cv_ports.specs.Calls.{raised_by}
+use Rattle.cv_cut.proofs.Lemmas.{left_by}
+use Rattle.cv_graft.specs.Placed.{Places, IsSet}
+use Rattle.cv_graft.specs.Way.{TellsDamage}
+use Rattle.cv_graft.specs.declared.grafted.Grafted.{Grafted}
+use Rattle.cv_graft.specs.declared.graft_fault.GraftFault.{GraftFault}
+use Rattle.cv_graft.specs.declared.graft_fault.GraftFault.TheVariants as fault
+use Rattle.cv_graft.proofs.Finding.{some_count, raised_more, top_unread, top_unopened, tells_cause}
+use Rattle.cv_graft.proofs.Grafts.{tree_after, top_is, top_count}
+use Rattle.cv_graft.proofs.PlacedAbove.{early_fault, unread_place, cut_tells, cut_not_failed, own_piece, own_only, set_root, set_fault, fault_root}
+use Rattle.cv_graft.proofs.setting.below_root_with.Goals as goal
+
+pub rebuilt_with-requires-clause-piece : goal.rebuilt_with-requires-clause-piece
+rebuilt_with-requires-clause-piece g c = own_piece c.in_ok-piece.piece c.in_ok-tree.tree c.args.path.now c.in_ok-piece.ensures.piece
+
+pub rebuilt_with-requires-clause-only : goal.rebuilt_with-requires-clause-only
+rebuilt_with-requires-clause-only g c = (own_only c.in_ok-piece.piece c.in_ok-tree.tree c.args.path.now _ c.in_ok-piece.ensures.piece c.in_ok-tree.ensures).only
+
+pub returns-in_err-piece-clause-told : goal.returns-in_err-piece-clause-told
+returns-in_err-piece-clause-told g c = λ standing told t way place.
+    let p = c.args.path.now in
+    let s = nodes_of (option_copied c.args.part) in
+    let whole = c.piece_at.ensures.whole in
+    left_by (Places (put t p s) p) _ _ c.from_residual-in_err-piece.ensures.1
+    (early_fault standing c.args.base.now.hash t c.in_ok-tree.tree p s way c.requires.path c.in_ok-tree.ensures whole (tree_after t c.in_ok-tree.tree p way.tree whole place) c.requires.unmarked _ c.in_err-piece.ensures.fault)
+
+pub returns-in_err-piece-clause-damaged : goal.returns-in_err-piece-clause-damaged
+returns-in_err-piece-clause-damaged g c = λ standing told.
+    left_by (λ (x : Result Grafted GraftFault). TellsDamage standing x) _ _ c.from_residual-in_err-piece.ensures.1 (cut_tells Grafted standing _)
+
+pub returns-in_err-piece-clause-cause : goal.returns-in_err-piece-clause-cause
+returns-in_err-piece-clause-cause g c = record {
+  later = omega arith;
+  failed = λ is. absurd (left_by (λ (x : Result Grafted GraftFault). IsErrOf x fault.Failed → ⊥) _ _ c.from_residual-in_err-piece.ensures.1 (cut_not_failed Grafted _) is);
+}
+
+pub returns-in_err-catalogue-clause-told : goal.returns-in_err-catalogue-clause-told
+returns-in_err-catalogue-clause-told g c = λ standing told t way place.
+    let p = c.args.path.now in
+    let s = nodes_of (option_copied c.args.part) in
+    left_by (Places (put t p s) p) _ _ c.from_residual-in_err-catalogue.ensures.1
+    (unread_place (put t p s) p _ (top_unread standing c.args.base.now t p c.root-top.result _ way c.requires.path c.requires.base c.root-top.ensures (c.in_err-catalogue.ensures.told standing told)))
+
+pub returns-in_err-catalogue-clause-damaged : goal.returns-in_err-catalogue-clause-damaged
+returns-in_err-catalogue-clause-damaged g c = λ standing told.
+    left_by (λ (x : Result Grafted GraftFault). TellsDamage standing x) _ _ c.from_residual-in_err-catalogue.ensures.1
+    (tells_cause Grafted standing c.args.base.now.hash _ (top_unopened standing c.args.base.now c.root-top.result _ c.requires.base c.root-top.ensures (c.in_err-catalogue.ensures.told standing told)))
+
+pub returns-in_err-catalogue-clause-taken : goal.returns-in_err-catalogue-clause-taken
+returns-in_err-catalogue-clause-taken g c = λ standing told t way. (1, some_count t c.args.path.now c.requires.path, c.in_err-catalogue.ensures.taken)
+
+pub returns-in_err-made-clause-told : goal.returns-in_err-made-clause-told
+returns-in_err-made-clause-told g c = λ standing told t way place.
+    let p = c.args.path.now in
+    let s = nodes_of (option_copied c.args.part) in
+    let x = c.in_ok-piece.piece in
+    let m = x.tree in
+    let ready = own_piece x c.in_ok-tree.tree p c.in_ok-piece.ensures.piece in
+    let only = own_only x c.in_ok-tree.tree p s c.in_ok-piece.ensures.piece c.in_ok-tree.ensures in
+    let after = tree_after t m p way.tree ready.whole place in
+    let k = c.in_ok-catalogue.catalogue in
+    let top = top_is standing c.args.base.now t p c.root-top.result k way c.requires.path (c.in_ok-catalogue.ensures.told standing told) c.root-top.ensures in
+    left_by (Places (put t p s) p) _ _ c.from_residual-in_err-made.ensures.1
+    (fault_root standing c.args.base.now.hash t m p s way only ready.whole after c.requires.unmarked ready.apart c.rebuilt_with.new.added.items _
+    (set_fault t m p k.at p [] p c.new-added.result.items c.rebuilt_with.new.added.items [] c.rebuilt_with.new.added.items _
+    (c.in_err-made.ensures.told standing (c.catalogue_at.ensures.unchanged ∙ told) c.args.base.now.hash t p way after top.on top.is)))
+
+pub returns-in_err-made-clause-taken : goal.returns-in_err-made-clause-taken
+returns-in_err-made-clause-taken g c = λ standing told t way.
+    let p = c.args.path.now in
+    let top = top_is standing c.args.base.now t p c.root-top.result c.in_ok-catalogue.catalogue way c.requires.path (c.in_ok-catalogue.ensures.told standing told) c.root-top.ensures in
+    let deep = c.rebuilt_with.ensures.taken standing (c.catalogue_at.ensures.unchanged ∙ told) c.args.base.now.hash t p way top.on top.is in
+    let le = deep.1 in
+    let count = top_count t p c.in_ok-catalogue.catalogue top in
+    (suc deep.0, omega (arith, le, count), deep.2 ∙ ap (raised_by deep.0) c.catalogue_at.ensures.taken ∙ raised_more deep.0 (g.S.Shelf.taken c.args.shelf.now))
+
+pub returns-clause-told : goal.returns-clause-told
+returns-clause-told g c = λ standing told t way place.
+    let p = c.args.path.now in
+    let s = nodes_of (option_copied c.args.part) in
+    let x = c.in_ok-piece.piece in
+    let m = x.tree in
+    let ready = own_piece x c.in_ok-tree.tree p c.in_ok-piece.ensures.piece in
+    let only = own_only x c.in_ok-tree.tree p s c.in_ok-piece.ensures.piece c.in_ok-tree.ensures in
+    let after = tree_after t m p way.tree ready.whole place in
+    let k = c.in_ok-catalogue.catalogue in
+    let top = top_is standing c.args.base.now t p c.root-top.result k way c.requires.path (c.in_ok-catalogue.ensures.told standing told) c.root-top.ensures in
+    let made = c.in_ok-made.ensures.told standing (c.catalogue_at.ensures.unchanged ∙ told) c.args.base.now.hash t p way after top.on top.is in
+    let at_top = subst (λ (q : Path). IsSet t m p q p c.new-added.result.items c.rebuilt_with.new.added.items c.in_ok-made.made) top.place made in
+    let first = subst (λ (l : List Object). IsSet t m p [] p l c.rebuilt_with.new.added.items c.in_ok-made.made) c.new-added.ensures.items at_top in
+    set_root standing c.args.base.now.hash t m p s way only ready.whole after c.requires.unmarked ready.apart c.rebuilt_with.new.added.items c.in_ok-made.made _ first
+    (ap (λ (l : List Object). record { root = record { hash = c.in_ok-made.made.hash; kind = Catalogue }; size = c.in_ok-made.made.size; added = l }) c.new.ensures)
+
+pub returns-clause-taken : goal.returns-clause-taken
+returns-clause-taken g c = λ standing told t way.
+    let p = c.args.path.now in
+    let top = top_is standing c.args.base.now t p c.root-top.result c.in_ok-catalogue.catalogue way c.requires.path (c.in_ok-catalogue.ensures.told standing told) c.root-top.ensures in
+    let deep = c.rebuilt_with.ensures.taken standing (c.catalogue_at.ensures.unchanged ∙ told) c.args.base.now.hash t p way top.on top.is in
+    let le = deep.1 in
+    let count = top_count t p c.in_ok-catalogue.catalogue top in
+    (suc deep.0, omega (arith, le, count), deep.2 ∙ ap (raised_by deep.0) c.catalogue_at.ensures.taken ∙ raised_more deep.0 (g.S.Shelf.taken c.args.shelf.now))
+
+pub returns-in_err-made-clause-reads : goal.returns-in_err-made-clause-reads
+returns-in_err-made-clause-reads g c = g.met.S.Shelf.reads_then _ _ _ c.catalogue_at.ensures.reads c.rebuilt_with.ensures.reads
+
+pub returns-clause-reads : goal.returns-clause-reads
+returns-clause-reads g c = g.met.S.Shelf.reads_then _ _ _ c.catalogue_at.ensures.reads c.rebuilt_with.ensures.reads

@@ -1,0 +1,128 @@
+//! Setting a part at a path of a published tree.
+ghost use Rattle.std.specs.Prelude.{◌≡◌, ◌≢◌, [], false, length, IfOk, IsTrue, IsErrOf};
+ghost use Rattle.std.specs.FinMap as map;
+ghost use Rattle.std.specs.Option.{option_copied};
+ghost use Rattle.cv_base.specs.Counts.{HasCause};
+ghost use Rattle.cv_base.specs.Marker.{marker, ends_in};
+ghost use Rattle.cv_base.specs.Told.{WhereTold};
+ghost use Rattle.cv_base.specs.declared.id.Kind.TheVariants as id_kind;
+ghost use Rattle.cv_ports.specs.Calls.{RaisedAtMost};
+ghost use Rattle.cv_tree.specs.Changes.{FitsUnder, IsTreeAtRoot, has_place, nodes_of};
+ghost use Rattle.cv_tree.specs.Tree.{Nodes, is_directory, put};
+ghost use Rattle.cv_ports.specs.Shelf.{Shelf as Shelf_};
+ghost use Rattle.cv_cut.specs.Above.{cuts_above};
+ghost use Rattle.cv_graft.specs.Graft.{HasOwnIds};
+ghost use Rattle.cv_graft.specs.Placed.{HasCuts, Places};
+ghost use Rattle.cv_graft.specs.Way.{TellsDamage};
+ghost use Rattle.cv_graft.specs.declared.graft_fault.GraftFault.TheVariants as faults;
+
+use crate::graft_fault::GraftFault;
+use crate::grafted::Grafted;
+use crate::placing::rebuilt_with;
+use cv_base::{Items, Kind, ObjectId, RepoPath};
+use cv_cut::{alone, catalogue_at, cut, piece_at, whole};
+use cv_ports::Shelf;
+use cv_tree::Part;
+use std::alloc::Global;
+
+/// A part, as a whole tree.
+fn whole_part(alloc: Global, part: &Part) -> Result<Grafted, GraftFault>
+    requires { IsTrue (is_directory (map.get part.now [])) }
+    ensures placed { (t : Nodes) → Places (put t [] part.now) [] result }
+    ensures own { IfOk result (λ g. HasOwnIds g.added) }
+    ensures unread { IsErrOf result faults.Failed → ⊥ }
+    ensures undamaged { (standing : Shelf_) → TellsDamage standing result }
+{
+    let tree = whole(alloc, part)?;
+    match cut(alloc, &tree) {
+        Ok(made) => Ok(Grafted {
+            root: made.root,
+            size: made.size,
+            added: made.catalogues,
+        }),
+        Err(fault) => Err(GraftFault::from(fault)),
+    }
+}
+
+/// The part that there is at the root.
+fn at_root(alloc: Global, path: &RepoPath, part: Option<&Part>) -> Result<Grafted, GraftFault>
+    requires path { path.now ≡ [] }
+    requires root { IsTreeAtRoot path.now (nodes_of (option_copied part)) }
+    ensures placed { (t : Nodes) → Places (put t path.now (nodes_of (option_copied part.entry))) path.now result }
+    ensures own { IfOk result (λ g. HasOwnIds g.added) }
+    ensures unread { IsErrOf result faults.Failed → ⊥ }
+    ensures undamaged { (standing : Shelf_) → TellsDamage standing result }
+{
+    let Some(whole) = part else {
+        unreachable!("at the root there is a part");
+    };
+    whole_part(alloc, whole)
+}
+
+/// A part, or nothing, in the place of what a tree has at a path below the root.
+fn below_root_with<S: Shelf>(
+    alloc: Global,
+    shelf: &mut S,
+    base: &ObjectId,
+    path: &RepoPath,
+    part: Option<&Part>,
+) -> Result<Grafted, GraftFault>
+    requires base { base.now.kind ≡ id_kind.Catalogue }
+    requires path { path.now ≢ [] }
+    requires unmarked { ends_in marker path.now ≡ false }
+    requires limits { FitsUnder path.now (nodes_of (option_copied part)) }
+    ensures told { WhereTold (S.shelf shelf.old) (λ standing. (t : Nodes) → HasCuts standing base.now.hash t path.now → IsTrue (has_place t path.now) → Places (put t path.now (nodes_of (option_copied part.entry))) path.now result) }
+    ensures own { IfOk result (λ g. HasOwnIds g.added) }
+    ensures damaged { WhereTold (S.shelf shelf.old) (λ standing. TellsDamage standing result) }
+    ensures reads { S.reads shelf.old shelf.new }
+    ensures unchanged { S.shelf shelf.new ≡ S.shelf shelf.old }
+    ensures cause { HasCause (S.faults shelf.old) (S.faults shelf.new) (IsErrOf result faults.Failed) }
+    ensures taken { WhereTold (S.shelf shelf.old) (λ standing. (t : Nodes) → HasCuts standing base.now.hash t path.now → RaisedAtMost (length (cuts_above t path.now)) (S.taken shelf.old) (S.taken shelf.new)) }
+{
+    let tree = alone(alloc, path, part)?;
+    let piece = piece_at(alloc, tree, path)?;
+    let top = RepoPath::root(alloc);
+    let catalogue = catalogue_at(alloc, shelf, base, &top, None)?;
+    let mut added = Vec::new(alloc);
+    let made = rebuilt_with(
+        alloc, shelf, base, &top, catalogue, &piece, path, &mut added,
+    )?;
+    let hash = made.hash;
+    let kind = Kind::Catalogue;
+    Ok(Grafted {
+        root: ObjectId { hash, kind },
+        size: made.size,
+        added: Items::new(added),
+    })
+}
+
+/// A tree with a part set at a path, or with what it has there taken out, by the catalogues on the way alone. Made are the
+/// catalogues of the cuts properly above the path, and the part's own. Below the root only the former are read, as the tree
+/// has them; at the root nothing is.
+///
+/// A catalogue on the way that isn't there or doesn't decode is answered as want of memory, and so is a part whose path's parent
+/// is no directory. Where there is no part, such a path changes nothing.
+pub fn place<S: Shelf>(
+    alloc: Global,
+    shelf: &mut S,
+    base: &ObjectId,
+    path: &RepoPath,
+    part: Option<&Part>,
+) -> Result<Grafted, GraftFault>
+    requires base { base.now.kind ≡ id_kind.Catalogue }
+    requires unmarked { ends_in marker path.now ≡ false }
+    requires root { IsTreeAtRoot path.now (nodes_of (option_copied part)) }
+    requires limits { FitsUnder path.now (nodes_of (option_copied part)) }
+    ensures told { WhereTold (S.shelf shelf.old) (λ standing. (t : Nodes) → HasCuts standing base.now.hash t path.now → IsTrue (has_place t path.now) → Places (put t path.now (nodes_of (option_copied part.entry))) path.now result) }
+    ensures own { IfOk result (λ g. HasOwnIds g.added) }
+    ensures damaged { WhereTold (S.shelf shelf.old) (λ standing. TellsDamage standing result) }
+    ensures reads { S.reads shelf.old shelf.new }
+    ensures unchanged { S.shelf shelf.new ≡ S.shelf shelf.old }
+    ensures cause { HasCause (S.faults shelf.old) (S.faults shelf.new) (IsErrOf result faults.Failed) }
+    ensures taken { WhereTold (S.shelf shelf.old) (λ standing. (t : Nodes) → HasCuts standing base.now.hash t path.now → RaisedAtMost (length (cuts_above t path.now)) (S.taken shelf.old) (S.taken shelf.new)) }
+{
+    if path.names().is_empty() {
+        return at_root(alloc, path, part);
+    }
+    below_root_with(alloc, shelf, base, path, part)
+}
