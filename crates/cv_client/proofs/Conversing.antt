@@ -1,0 +1,85 @@
+-- What a link tells once a request was written and its reply was read.
+use Rattle.std.proofs.Common.{◌≡◌, ◌≤◌, ◌⊎◌, ◌++◌, ℕ, zero, suc, List, [], refl, sym, ap, subst, ◌∙◌, inl, inr, append-nil, arith}
+use Rattle.std.specs.Prelude.{Bool, true, false, nat_lt, ◌||◌, if◌then◌else◌, Option, Some, None}
+use Rattle.std.specs.declared.result.Result.{Result}
+use Rattle.std.specs.declared.result.Result.TheVariants.{Ok, Err}
+use Rattle.std.proofs.lemmas.Option.{none-some}
+use Rattle.std.proofs.lemmas.Bool.{lt-ltb, false≢true}
+use Rattle.cv_base.specs.Counts.{Rose}
+use Rattle.cv_base.specs.Told.{WhereTold}
+use Rattle.cv_ports.specs.Streams.{onto, Wrote}
+use Rattle.cv_ports.specs.Calls.{raised}
+use Rattle.cv_ports.specs.Dial.{Came, after_back}
+use Rattle.cv_http.specs.Requests.{request_text}
+use Rattle.cv_http.specs.ReplyTexts.{ReplyRead, ReplyLost}
+use Rattle.cv_http.specs.Wires.{HasEnded}
+use Rattle.cv_http.specs.declared.outgoing.Outgoing.{Outgoing}
+use Rattle.cv_http.specs.declared.http_reply.HttpReply.{HttpReply}
+use Rattle.cv_http.specs.declared.fault.HttpFault.{HttpFault}
+use Rattle.cv_http.specs.declared.fault.HttpFault.TheVariants.{BadHead, HeadTooLarge, BodyTooLarge, NoLength, Coding, Short, ReadFault, NoMemory}
+use Rattle.cv_http.specs.declared.reply.SendFault.{SendFault}
+use Rattle.cv_http.specs.declared.reply.SendFault.TheVariants as send_fault
+use Rattle.cv_client.specs.Exchange.{Converses, TookFront, GaveReply, GaveNone, replied, bad, failed, no_memory}
+use Rattle.cv_client.specs.Faults.{of_send, of_read}
+
+-- what comes onto nothing is all that is told then
+pub all_of : (old : Option (List ℕ)) (new : Option (List ℕ)) (text : List ℕ) → WhereTold old (λ b. b ≡ []) → new ≡ onto old text → WhereTold new (λ b. b ≡ text)
+all_of None new text fresh is = λ b told. absurd (none-some b (sym is ∙ told))
+all_of (Some old) new text fresh is = λ b told. (let e : Some b ≡ Some (old ++ text) = sym told ∙ is in let same : b ≡ old ++ text = cc in same ∙ ap (λ (o : List ℕ). o ++ text) (fresh old refl))
+
+-- of a text that was to be written onto nothing a front is told
+pub front_of : (old new : Option (List ℕ)) (request : Outgoing) → WhereTold old (λ b. b ≡ []) → Wrote old new (request_text request) → WhereTold new (TookFront request)
+front_of old new request fresh wrote = λ b told. record {
+  more = wrote.unwritten;
+  split = wrote.split ∙ ap (λ (w : List ℕ). w ++ wrote.unwritten) (sym (all_of old new wrote.written fresh wrote.taken b told));
+}
+
+-- the bytes that were read are told
+pub told_of : (P : List ℕ → Type 0) (old new : Option (List ℕ)) (got : List ℕ) → WhereTold old (λ b. b ≡ []) → new ≡ onto old got → P got → WhereTold new P
+told_of P old new got fresh gave are = λ b told. subst P (sym (all_of old new got fresh gave b told)) are
+
+-- what the link took and gave where the request wasn't written
+pub unsent : (request : Outgoing) (c : Came) (fault : SendFault) → WhereTold c.taken (TookFront request) → Converses request c (Err (of_send fault))
+unsent request c send_fault.WriteFault took = failed took
+unsent request c send_fault.NoMemory took = no_memory took
+
+-- a request of which all was taken
+whole_front : (request : Outgoing) (c : Came) → WhereTold c.taken (λ b. b ≡ request_text request) → WhereTold c.taken (TookFront request)
+whole_front request c took = λ b told. record { more = []; split = sym (took b told) ∙ sym (append-nil b) }
+
+-- and where no reply was read
+pub unread : (request : Outgoing) (c : Came) (fault : HttpFault) → WhereTold c.taken (λ b. b ≡ request_text request) → WhereTold c.given (λ b. ReplyLost b fault)
+    → (fault ≡ Short → HasEnded c.left) → Converses request c (Err (of_read fault))
+unread request c BadHead took lost ended = bad took (λ b told. inl (BadHead, lost b told))
+unread request c HeadTooLarge took lost ended = bad took (λ b told. inl (HeadTooLarge, lost b told))
+unread request c BodyTooLarge took lost ended = bad took (λ b told. inl (BodyTooLarge, lost b told))
+unread request c NoLength took lost ended = bad took (λ b told. absurd (lost b told))
+unread request c Coding took lost ended = bad took (λ b told. inl (Coding, lost b told))
+unread request c Short took lost ended = bad took (λ b told. inr (lost b told, ended refl))
+unread request c ReadFault took lost ended = failed (whole_front request c took)
+unread request c NoMemory took lost ended = no_memory (whole_front request c took)
+
+-- a count that may have been raised when a link came back
+module _ (before mid : ℕ) (later : before ≤ mid) where
+  same_or_raised : (b : Bool) → Rose 0 before (if b then raised mid else mid)
+  same_or_raised true = omega (arith, later)
+  same_or_raised false = omega (arith, later)
+
+  raised_by_one : (a b : Bool) → (a ≡ true) ⊎ (b ≡ true) → Rose 1 before (if a || b then raised mid else mid)
+  raised_by_one true b some = omega (arith, later)
+  raised_by_one false true some = omega (arith, later)
+  raised_by_one false false (inl is) = absurd (false≢true is)
+  raised_by_one false false (inr is) = absurd (false≢true is)
+
+  some_fault : {reads writes : ℕ} → Rose 1 0 reads ⊎ Rose 1 0 writes → (nat_lt 0 reads ≡ true) ⊎ (nat_lt 0 writes ≡ true)
+  some_fault {reads} (inl rose) = inl (lt-ltb 0 reads (omega (arith, rose)))
+  some_fault {reads} {writes} (inr rose) = inr (lt-ltb 0 writes (omega (arith, rose)))
+
+-- it didn't fall
+pub back_later : (before mid after reads writes : ℕ) → before ≤ mid → after ≡ after_back reads writes mid → Rose 0 before after
+back_later before mid after reads writes later counted = subst (λ (x : ℕ). Rose 0 before x) (sym counted) (same_or_raised before mid later (nat_lt 0 reads || nat_lt 0 writes))
+
+-- and rose where one of the link's halves counted a fault
+pub back_rose : (before mid after reads writes : ℕ) → before ≤ mid → Rose 1 0 reads ⊎ Rose 1 0 writes → after ≡ after_back reads writes mid → Rose 1 before after
+back_rose before mid after reads writes later some counted =
+    subst (λ (x : ℕ). Rose 1 before x) (sym counted) (raised_by_one before mid later (nat_lt 0 reads) (nat_lt 0 writes) (some_fault before mid later some))

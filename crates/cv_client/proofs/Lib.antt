@@ -1,0 +1,5 @@
+mod Coming
+mod Conversing
+mod Cuts
+mod Clients
+mod Urls

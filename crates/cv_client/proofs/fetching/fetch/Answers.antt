@@ -1,0 +1,18 @@
+use Rattle.std.proofs.Common.{◌≡◌, refl, subst}
+use Rattle.std.specs.declared.result.Result.TheVariants.{Ok, Err}
+use Rattle.cv_http.specs.declared.outgoing.Outgoing.{Outgoing}
+use Rattle.cv_client.specs.Exchange.{Exchanges}
+use Rattle.cv_client.specs.Fetch.{said, lost, unasked}
+use Rattle.cv_client.proofs.fetching.fetch.Goals as goal
+
+pub returns-in_default-clause-fetches : goal.returns-in_default-clause-fetches
+returns-in_default-clause-fetches g c = unasked refl
+
+pub returns-in-Ok-exchange-clause-fetches : goal.returns-in-Ok-exchange-clause-fetches
+returns-in-Ok-exchange-clause-fetches g c =
+    let exchanged = subst (λ (r : Outgoing). Exchanges c.args.url.now r (g.N.Dial.came c.args.dial.now) (g.N.Dial.came c.exchange.new.dial) (Ok c.in-Ok-exchange.reply)) c.in-Ok.ensures c.in-Ok-exchange.ensures.exchanges in
+    said c.in-Ok-exchange.reply c.file_in.result exchanged c.file_in.ensures
+
+pub returns-clause-fetches : goal.returns-clause-fetches
+returns-clause-fetches g c =
+    lost c.in-Err.fault (subst (λ (r : Outgoing). Exchanges c.args.url.now r (g.N.Dial.came c.args.dial.now) (g.N.Dial.came c.exchange.new.dial) (Err c.in-Err.fault)) c.in-Ok.ensures c.in-Err.ensures.exchanges)

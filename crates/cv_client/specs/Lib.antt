@@ -1,0 +1,9 @@
+pub mod Answer
+pub mod Exchange
+pub mod Faults
+pub mod Fetch
+pub mod Giving
+pub mod Pin
+pub mod Requests
+pub mod Texts
+pub mod Url

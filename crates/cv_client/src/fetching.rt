@@ -1,0 +1,78 @@
+//! Files of a served repository.
+ghost use Rattle.std.specs.Prelude.{◌≡◌, IfOk, string_bytes};
+ghost use Rattle.cv_base.specs.Counts.{Rose};
+ghost use Rattle.cv_client.specs.Fetch.{Fetches, SaysFile};
+ghost use Rattle.cv_client.specs.Requests.{file_request, target_of};
+ghost use Rattle.cv_client.specs.declared.exchanging.ExchangeFault.TheVariants.{LinkFailed};
+
+use crate::exchanging::{ExchangeFault, exchange};
+use crate::url::Url;
+use cv_base::{Bytes, NoMemory, Text};
+use cv_http::{HttpReply, Outgoing, Verb};
+use cv_ports::Dial;
+use std::alloc::Global;
+
+/// The code of a reply that has what was asked for (RFC 9110, section 15.3.1).
+const OK: u16 = 200;
+
+/// The code of a reply that there is none (RFC 9110, section 15.5.5).
+const NOT_FOUND: u16 = 404;
+
+/// The target of a file of a repository.
+fn target(alloc: Global, repository: &str, file: &str) -> Result<String, NoMemory>
+    ensures { IfOk result (λ text. string_bytes text ≡ target_of repository.now file.now) }
+{
+    let mut text = String::from_str(alloc, "/cvmfs/")?;
+    text.push_str(repository)?;
+    text.push_str("/")?;
+    text.push_str(file)?;
+    Ok(text)
+}
+
+/// The request for a file of a repository.
+fn request(alloc: Global, url: &Url, file: &str) -> Result<Outgoing, NoMemory>
+    ensures { IfOk result (λ request. request ≡ file_request url.now file.now) }
+{
+    Ok(Outgoing {
+        method: Verb::Get,
+        host: url.authority.copy(alloc)?,
+        target: Text::new(target(alloc, url.repository.text(), file)?),
+        authorization: None,
+        message_size: None,
+        body: Bytes::new(Vec::new(alloc)),
+    })
+}
+
+/// What a reply says of a file: its content, or that there is none.
+fn file_in(reply: HttpReply) -> Result<Option<Bytes>, ExchangeFault>
+    ensures { SaysFile reply result }
+{
+    if reply.code == OK {
+        Ok(Some(reply.body))
+    } else if reply.code == NOT_FOUND {
+        Ok(None)
+    } else {
+        Err(ExchangeFault::BadReply)
+    }
+}
+
+/// Fetches a file of a repository in one exchange. `None` is the reply of code 404; any code but that and 200 is a bad
+/// reply.
+pub fn fetch<N: Dial>(
+    alloc: Global,
+    dial: &mut N,
+    url: &Url,
+    file: &str,
+) -> Result<Option<Bytes>, ExchangeFault>
+    ensures fetches { Fetches url.now file.now (N.came dial.old) (N.came dial.new) result }
+    ensures later { Rose 0 (N.faults dial.old) (N.faults dial.new) }
+    ensures cause { result ≡ Err LinkFailed → Rose 1 (N.faults dial.old) (N.faults dial.new) }
+{
+    let Ok(request) = request(alloc, url, file) else {
+        return Err(ExchangeFault::NoMemory);
+    };
+    match exchange(alloc, dial, url, &request) {
+        Ok(reply) => file_in(reply),
+        Err(fault) => Err(fault),
+    }
+}

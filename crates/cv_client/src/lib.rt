@@ -1,0 +1,23 @@
+//! A client of a served repository: exchanges with its server, and answers to questions at one pinned root.
+#![tactic(auto)]
+
+mod answering;
+mod ask_fault;
+mod exchanging;
+mod fetching;
+pub mod laws;
+mod pinning;
+mod printing;
+#[cfg(test)]
+mod story_tests;
+#[cfg(test)]
+mod text_tests;
+mod url;
+
+pub use answering::answer;
+pub use ask_fault::AskFault;
+pub use exchanging::{ExchangeFault, exchange};
+pub use fetching::fetch;
+pub use pinning::{fetch_manifest, pin};
+pub use printing::found_text;
+pub use url::Url;
