@@ -1,0 +1,5 @@
+mod Cuts
+mod Streams
+mod Reading
+mod Turning
+mod Running

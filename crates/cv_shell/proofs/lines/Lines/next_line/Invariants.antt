@@ -1,0 +1,14 @@
+use Rattle.std.proofs.Common.{◌≤◌, length, ◌-◌}
+use Rattle.cv_http.specs.Wires.{Gets, Looks, Beside}
+use Rattle.cv_shell.specs.Lines.{IsLine}
+use Rattle.cv_shell.proofs.lines.Lines.next_line.Given as goal
+
+abbrev pub invariant-pieces : goal.invariant-pieces
+invariant-pieces g l = record {
+  gets : Gets g.R.Source.left g.R.Source.given l.fn.self l.self;
+  looks : Looks g.R.Source.left g.R.Source.looks l.fn.self l.self (Beside (g.W.Sink.passed l.beside) IsLine);
+  later : g.R.Source.faults l.fn.self.source ≤ g.R.Source.faults l.self.source;
+}
+
+abbrev pub decreases-pieces : goal.decreases-pieces
+decreases-pieces g l = 8193 - length l.self.held

@@ -1,0 +1,6 @@
+pub mod Ends
+pub mod Line
+pub mod Lines
+pub mod Shells
+pub mod Texts
+pub mod Turns

@@ -1,0 +1,17 @@
+//! The shell: lines of questions about a served repository, answered at one pinned revision.
+#![tactic(auto)]
+
+mod line;
+mod lines;
+mod printing;
+mod serving;
+mod shell_end;
+#[cfg(test)]
+mod tests;
+mod turn;
+
+pub use line::{Line, read_line};
+pub use lines::{LINE_LIMIT, LineFault, Lines};
+pub use printing::fault_text;
+pub use serving::shell;
+pub use shell_end::ShellEnd;

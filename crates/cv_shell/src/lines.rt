@@ -1,0 +1,195 @@
+//! Lines of a source.
+ghost use Rattle.std.specs.Prelude.{◌≡◌, ◌≤◌, ◌<◌, ◌==◌, ◌⊎◌, [], length, drop, true, false, position, Ok, Err, OnErr, IfErr};
+ghost use Rattle.cv_base.specs.Counts.{HasCause};
+ghost use Rattle.cv_ports.specs.Streams.{Look};
+ghost use Rattle.cv_http.specs.Wires.{Gets, Draws, Looks, Beside, HasEnded};
+ghost use Rattle.cv_shell.specs.Lines.{IsLine, LineFound, LineRead, IsPieceFault};
+ghost use Rattle.cv_shell.specs.declared.lines.LineFault.TheVariants.{ReadFault};
+
+use cv_base::Bytes;
+use cv_ports::{Sink, Source};
+use std::alloc::Global;
+use std::marker::Model;
+
+/// The most bytes of a line, for which its newline doesn't count.
+pub const LINE_LIMIT: usize = 8_192;
+
+/// The most bytes of a read.
+const PIECE: usize = 4_096;
+
+/// Why no line was read.
+#[derive(Clone, Copy, Debug, PartialEq, Eq)]
+pub enum LineFault {
+    /// The next line has more than 8,192 bytes.
+    TooLong,
+    /// The source failed.
+    ReadFault,
+    /// There was no memory.
+    NoMemory,
+}
+
+/// A source of lines, with the bytes that it gave and that no line was made of yet.
+#[derive(Drop)]
+pub struct Lines<R: Source + Drop> {
+    source: R,
+    held: Vec<u8>,
+    used: usize,
+}
+
+impl<R: Source + Drop> Model for Lines<R> {
+    ghost use Rattle.std.specs.Prelude.{◌≤◌, drop, vec_len};
+    ghost use Rattle.cv_http.specs.Wires.{WireView};
+
+    ghost Value = { WireView R };
+
+    ghost view = { λ l. record { source = l.source; held = drop l.used l.held.items } };
+
+    ghost invariant = { λ l. l.used ≤ vec_len l.held };
+}
+
+/// The offset of the first newline.
+fn newline_at(bytes: &[u8]) -> Option<usize>
+    ensures { result ≡ position (λ b. b == 10) bytes.now }
+{
+    bytes.iter().position(|byte| *byte == b'\n')
+}
+
+/// Reads a piece to the end of what is held, beside a sink. `false` is the end of the source.
+fn read_piece<R: Source, W: Sink>(
+    source: &mut R,
+    held: &mut Vec<u8>,
+    beside: &W,
+) -> Result<bool, LineFault>
+    ensures gets { Gets R.left R.given (record { source = source.old; held = held.old.items })
+        (record { source = source.new; held = held.new.items }) }
+    ensures more { result ≡ Ok true → length held.old.items < length held.new.items }
+    ensures lost { OnErr result (held.new.items ≡ held.old.items) }
+    ensures end { result ≡ Ok false → (held.new.items ≡ held.old.items) × HasEnded (R.left source.new) }
+    ensures faults { IfErr result IsPieceFault }
+    ensures cause { HasCause (R.faults source.old) (R.faults source.new) (result ≡ Err ReadFault) }
+    ensures looks { (look : Look) → R.looks source.new look
+        → R.looks source.old look ⊎ (look ≡ record { left = R.left source.old; passed = W.passed beside.now }) }
+{
+    let mut piece = [0; PIECE];
+    if held.reserve(PIECE).is_err() {
+        return Err(LineFault::NoMemory);
+    }
+    let Ok(count) = source.read(&mut piece, beside) else {
+        return Err(LineFault::ReadFault);
+    };
+    if held.extend_from_slice(&piece[..count]).is_err() {
+        unreachable!();
+    }
+    Ok(count > 0)
+}
+
+impl<R: Source + Drop> Lines<R> {
+    /// Nothing of the source was read yet.
+    pub fn new(alloc: Global, source: R) -> Lines<R>
+        ensures { result ≡ record { source = source; held = [] } }
+    {
+        Lines {
+            source,
+            held: Vec::new(alloc),
+            used: 0,
+        }
+    }
+
+    /// The source. What was held is lost.
+    pub fn into_source(self) -> R
+        ensures { result ≡ self.source }
+    {
+        self.source
+    }
+
+    /// What is held.
+    fn bytes(&self) -> &[u8]
+        ensures { result.now ≡ self.now.held }
+    {
+        &self.held[self.used..]
+    }
+
+    /// Uses bytes up.
+    fn skip(&mut self, count: usize)
+        requires { count ≤ length self.old.held }
+        ensures { self.new ≡ record self.old { held = drop count self.old.held } }
+    {
+        self.used += count;
+    }
+
+    /// Reads more of the source, beside a sink. `false` is its end.
+    fn fill<W: Sink>(&mut self, beside: &W) -> Result<bool, LineFault>
+        ensures gets { Gets R.left R.given self.old self.new }
+        ensures more { result ≡ Ok true → length self.old.held < length self.new.held }
+        ensures lost { OnErr result (self.new.held ≡ self.old.held) }
+        ensures end { result ≡ Ok false → (self.new.held ≡ self.old.held) × HasEnded (R.left self.new.source) }
+        ensures faults { IfErr result IsPieceFault }
+        ensures cause { HasCause (R.faults self.old.source) (R.faults self.new.source) (result ≡ Err ReadFault) }
+        ensures looks { Looks R.left R.looks self.old self.new (Beside (W.passed beside.now) (λ b. b ≡ self.old.held)) }
+    {
+        self.held.drain(..self.used);
+        self.used = 0;
+        read_piece(&mut self.source, &mut self.held, beside)
+    }
+
+    /// Takes the line with which what is held begins, with its newline. `None` where a part of one is held.
+    fn take_line(&mut self, alloc: Global) -> Result<Option<Bytes>, LineFault>
+        ensures found { LineFound self.old.held self.new.held result }
+        ensures source { self.new.source ≡ self.old.source }
+    {
+        let bytes = self.bytes();
+        let room = bytes.len().min(LINE_LIMIT + 1);
+        match newline_at(&bytes[..room]) {
+            Some(size) => {
+                let Ok(line) = Bytes::from_slice(alloc, &bytes[..size]) else {
+                    return Err(LineFault::NoMemory);
+                };
+                self.skip(size + 1);
+                Ok(Some(line))
+            }
+            None if room > LINE_LIMIT => Err(LineFault::TooLong),
+            None => Ok(None),
+        }
+    }
+
+    /// Takes what is held as the last line, where the source has ended. `None` where nothing is held.
+    fn last_line(&mut self, alloc: Global) -> Result<Option<Bytes>, LineFault>
+        requires part { IsLine self.old.held }
+        requires end { HasEnded (R.left self.old.source) }
+        ensures read { LineRead (R.left self.new.source) self.old.held self.new.held result }
+        ensures source { self.new.source ≡ self.old.source }
+        ensures faults { result ≡ Err ReadFault → ⊥ }
+    {
+        let bytes = self.bytes();
+        let size = bytes.len();
+        if size == 0 {
+            return Ok(None);
+        }
+        let Ok(line) = Bytes::from_slice(alloc, bytes) else {
+            return Err(LineFault::NoMemory);
+        };
+        self.skip(size);
+        Ok(Some(line))
+    }
+
+    /// Reads the next line, without its newline; the last may lack one. `None` is the end of the input. A whole line is
+    /// answered before more is read. A fault takes nothing of what is left.
+    pub fn next_line<W: Sink>(
+        &mut self,
+        alloc: Global,
+        beside: &W,
+    ) -> Result<Option<Bytes>, LineFault>
+        ensures reads { Draws R.left R.given self.old self.new (λ b. LineRead (R.left self.new.source) b self.new.held result) }
+        ensures cause { HasCause (R.faults self.old.source) (R.faults self.new.source) (result ≡ Err ReadFault) }
+        ensures looks { Looks R.left R.looks self.old self.new (Beside (W.passed beside.now) IsLine) }
+    {
+        'pieces: loop {
+            if let Some(line) = self.take_line(alloc)? {
+                return Ok(Some(line));
+            }
+            if !self.fill(beside)? {
+                return self.last_line(alloc);
+            }
+        }
+    }
+}
