@@ -10,6 +10,8 @@ program, has it proved and built by `rt run`, and gives its path. Where VAULT_CA
     wait                     reads a byte of standard input
     at=ROOT                  goes on over ROOT
     also=ROOT                opens a second vault, over ROOT, and reads `file` there
+    items=FOLDER>PATH        lists a directory of a folder of changes: each name with `/`, `=`, `>` or `!` for what it is
+    content=FOLDER>PATH      reads a file of a folder of changes, and prints how many bytes it gives
     memory=COUNT             writes COUNT names into a vault in memory and syncs, lists ten, changes one and syncs, and prints the
                              nanoseconds of the three
 """
@@ -25,7 +27,9 @@ PROGRAM = """\
 //! Makes calls of the vault over a folder, by words.
 #![tactic(auto)]
 
-use cv_real::{FolderVault, program_words};
+use cv_base::{Bytes, Items, RepoPath};
+use cv_ports::{Folder, FolderItem, FoundKind};
+use cv_real::{FolderVault, SystemFolder, program_words};
 use cv_vault::{MemoryVault, Vault, VaultFault};
 use std::io;
 use std::io::Read;
@@ -164,6 +168,52 @@ fn print_names(rt: &HostRuntime, vault: &mut Vaulted, prefix: &str) -> io::Resul
     }
 }
 
+/// The items of a directory of a folder of changes.
+fn items_at(rt: &HostRuntime, root: &str, path: &str) -> Option<Items<FolderItem>> {
+    let mut folder = SystemFolder::new(*rt);
+    folder.root(rt.alloc(), root).ok()?;
+    folder.list(rt.alloc(), &RepoPath::read(rt.alloc(), path).ok()?).ok()
+}
+
+/// The content of a file of a folder of changes.
+fn content_at(rt: &HostRuntime, root: &str, path: &str) -> Option<Bytes> {
+    let mut folder = SystemFolder::new(*rt);
+    folder.root(rt.alloc(), root).ok()?;
+    folder.read(rt.alloc(), &RepoPath::read(rt.alloc(), path).ok()?).ok()
+}
+
+fn mark_of(kind: &FoundKind) -> &'static str {
+    match kind {
+        FoundKind::Dir => "/",
+        FoundKind::File => "=",
+        FoundKind::Link(_) => ">",
+        FoundKind::Special => "!",
+    }
+}
+
+fn print_items(rt: &HostRuntime, root: &str, path: &str) -> io::Result<()> {
+    let Some(items) = items_at(rt, root, path) else {
+        return println!(rt; "failed");
+    };
+    print!(rt; "items")?;
+    for item in items.as_slice() {
+        let name = item.name.as_str();
+        let mark = mark_of(&item.kind);
+        print!(rt; " {name}{mark}")?;
+    }
+    println!(rt; "")
+}
+
+fn print_content(rt: &HostRuntime, root: &str, path: &str) -> io::Result<()> {
+    match content_at(rt, root, path) {
+        Some(bytes) => {
+            let length = bytes.as_slice().len();
+            println!(rt; "{length}")
+        }
+        None => println!(rt; "failed"),
+    }
+}
+
 fn answer_of(rt: &HostRuntime, vault: &mut Vaulted, call: &str, name: &str, other: &str) -> io::Result<Answer> {
     match call {
         "read" => Ok(there_answer(vault.read(name).map(|file| file.is_some()))),
@@ -197,6 +247,12 @@ fn answer_of(rt: &HostRuntime, vault: &mut Vaulted, call: &str, name: &str, othe
 fn make_call(rt: &HostRuntime, vault: &mut Vaulted, call: &str, name: &str, other: &str) -> io::Result<()> {
     if call == "list" {
         return print_names(rt, vault, name);
+    }
+    if call == "items" {
+        return print_items(rt, name, other);
+    }
+    if call == "content" {
+        return print_content(rt, name, other);
     }
     if call == "memory" {
         return print_times(rt, name);
@@ -239,11 +295,9 @@ def build(folder):
         return os.path.abspath(os.environ["VAULT_CALLS"])
     os.makedirs(os.path.join(folder, "crates"))
     for name in LIBRARIES.split():
-        shutil.copytree(
-            os.path.join(here, "crates", name),
-            os.path.join(folder, "crates", name),
-            ignore=shutil.ignore_patterns("out", "must-fail"),
-        )
+        for part in ("src", "specs", "proofs"):
+            if os.path.isdir(os.path.join(here, "crates", name, part)):
+                shutil.copytree(os.path.join(here, "crates", name, part), os.path.join(folder, "crates", name, part))
     crate = os.path.join(folder, "crates", "vault_calls")
     os.makedirs(os.path.join(crate, "src"))
     with open(os.path.join(crate, "src", "main.rt"), "w") as file:

@@ -5,19 +5,24 @@ mod clock;
 mod count;
 mod dial;
 mod folder_vault;
+mod listing;
 mod names;
 mod paths;
 mod streams;
+mod system_folder;
 mod texts;
 
 pub use clock::SystemClock;
 pub use dial::TcpDial;
 pub use folder_vault::FolderVault;
 pub use streams::{StreamSink, StreamSource};
+pub use system_folder::SystemFolder;
 pub use texts::{program_words, text_or_empty};
 
 #[cfg(test)]
 mod dial_tests;
+#[cfg(test)]
+mod folder_tests;
 #[cfg(test)]
 mod small_tests;
 #[cfg(test)]

@@ -1,5 +1,6 @@
 //! What stands in a folder, without going through a link, and what of it is to be synced. A folder's path ends in a slash:
 //! the system then opens nothing but a folder there.
+ghost use Rattle.std.specs.Prelude.{◌≤◌, length, IfOk};
 
 use crate::names::{NEXT, OWN, folder_of};
 use std::alloc::{AllocError, Global};
@@ -40,7 +41,7 @@ pub fn is_same(one: &Metadata, other: &Metadata) -> bool {
 }
 
 /// Whether each folder of the path that stands past the first `from` bytes is a folder, and no link to one.
-fn has_folders(rt: &impl Files, path: &str, from: usize) -> io::Result<bool> {
+pub fn has_folders(rt: &impl Files, path: &str, from: usize) -> io::Result<bool> {
     for end in from..path.len() {
         if let Some((folder, rest)) = path.split_at_checked(end) {
             if rest.starts_with('/') && !seen(rt, folder)?.is_some_and(|found| found.is_dir()) {
@@ -99,21 +100,47 @@ pub fn make_folders(
     Ok(note(notes, folder_of(path))?)
 }
 
-/// The bytes of a file that was found. What has come into its place since then is not read.
+/// Opens a file that was found. What has come into its place since then is not read.
+fn open_found<R: Files>(rt: &R, path: &str, found: &Metadata) -> io::Result<R::File> {
+    let file = fs::open(rt, path)?;
+    let opened = file.metadata()?;
+    if !opened.is_file() || !is_same(found, &opened) {
+        return Err(io::Error::from(ErrorKind::InvalidData));
+    }
+    Ok(file)
+}
+
+/// The bytes of a file that was found.
 pub fn read_found<R: Files>(
     rt: &R,
     alloc: Global,
     path: &str,
     found: &Metadata,
 ) -> io::Result<Vec<u8>> {
-    let mut file = fs::open(rt, path)?;
-    let opened = file.metadata()?;
-    if !opened.is_file() || !is_same(found, &opened) {
-        return Err(io::Error::from(ErrorKind::InvalidData));
-    }
-    let room = usize::try_from(opened.len()).unwrap_or(0).saturating_add(1);
+    let mut file = open_found(rt, path, found)?;
+    let room = usize::try_from(file.metadata()?.len())
+        .unwrap_or(0)
+        .saturating_add(1);
     let mut bytes = Vec::with_capacity(alloc, room)?;
     file.read_to_end(&mut bytes)?;
+    Ok(bytes)
+}
+
+/// The first bytes of a file that was found, so many at most. However long it is, it takes no more memory than for these.
+pub fn read_front<R: Files>(
+    rt: &R,
+    alloc: Global,
+    path: &str,
+    found: &Metadata,
+    limit: usize,
+) -> io::Result<Vec<u8>>
+    ensures { IfOk result (λ bytes. length bytes.items ≤ limit) }
+{
+    let file = open_found(rt, path, found)?;
+    let room = usize::try_from(found.len()).unwrap_or(limit).min(limit);
+    let mut bytes = Vec::with_capacity(alloc, room.saturating_add(1))?;
+    file.take(limit as u64).read_to_end(&mut bytes)?;
+    bytes.truncate(limit);
     Ok(bytes)
 }
 

@@ -1,0 +1,142 @@
+//! A folder of changes over a real folder.
+ghost use Rattle.std.specs.Prelude.{◌≡◌, ◌≤◌, length, IfOk, None};
+ghost use Rattle.cv_base.specs.Counts.{HasCause};
+ghost use Rattle.cv_ports.specs.Folder.{Ascend};
+ghost use Rattle.cv_ports.specs.declared.folder.FolderFault.TheVariants.{Failed};
+
+use crate::count::FaultCount;
+use crate::listing::items_of;
+use crate::paths::{find_file, has_folders, is_memory, read_front};
+use cv_base::{Bytes, Items, PathName, RepoPath};
+use cv_ports::{Folder, FolderFault, FolderItem};
+use std::alloc::Global;
+use std::io;
+use std::io::ErrorKind;
+use std::rt::Files;
+
+/// The most bytes that are read of a file: one more than a file may have.
+const READ_LIMIT: usize = 16_777_217;
+
+/// A real folder, which may be given by a link. Below it no link is followed, and nothing but folders and regular files is
+/// opened. It tells nothing of content.
+///
+/// A call fails where the path isn't, through folders alone, that of a folder to list or of a regular file to read; where the
+/// folder or file can't be read; and where no folder was named. A listing fails where a name or the text of a link isn't
+/// UTF-8. Of a mode it gives the twelve permission bits, and of a time the whole seconds, or 0 before 1970.
+///
+/// Nobody else may change the folder meanwhile. A file that took another's place is not read, but a pipe that takes one's
+/// place in the moment in which it is opened blocks the call.
+#[derive(Drop)]
+pub struct SystemFolder<R: Files + AllocGlobal + Clone + Drop> {
+    rt: R,
+    /// The folder's path with a slash at its end, once it was named.
+    root: Option<String>,
+    faults: FaultCount,
+}
+
+/// The path of a root, with a slash at its end. No folder has the empty name.
+fn root_path(alloc: Global, name: &str) -> io::Result<String> {
+    if name.is_empty() {
+        return Err(io::Error::from(ErrorKind::InvalidInput));
+    }
+    let mut path = String::from_str(alloc, name)?;
+    path.push('/')?;
+    Ok(path)
+}
+
+/// The path of the folder behind these names, with a slash at its end.
+fn folder_path(alloc: Global, root: &str, names: &[PathName]) -> io::Result<String> {
+    let mut path = String::from_str(alloc, root)?;
+    for name in names {
+        path.push_str(name.as_str())?;
+        path.push('/')?;
+    }
+    Ok(path)
+}
+
+impl<R: Files + AllocGlobal + Clone + Drop> SystemFolder<R> {
+    /// A folder that isn't named yet: until then no path leads to anything.
+    pub fn new(rt: R) -> SystemFolder<R> {
+        SystemFolder {
+            rt,
+            root: None,
+            faults: FaultCount::new(),
+        }
+    }
+
+    /// The path of the folder, with a slash at its end.
+    fn root_now(&self) -> io::Result<&str> {
+        match &self.root {
+            Some(root) => Ok(root.as_str()),
+            None => Err(io::Error::from(ErrorKind::InvalidInput)),
+        }
+    }
+
+    fn list_now(&self, alloc: Global, path: &RepoPath) -> io::Result<Items<FolderItem>>
+        ensures { IfOk result (λ items. Ascend items) }
+    {
+        let root = self.root_now()?;
+        let folder = folder_path(alloc, root, path.names())?;
+        if !has_folders(&self.rt, folder.as_str(), root.len())? {
+            return Err(io::Error::from(ErrorKind::NotADirectory));
+        }
+        items_of(&self.rt, alloc, folder.as_str())
+    }
+
+    fn read_now(&self, alloc: Global, path: &RepoPath) -> io::Result<Vec<u8>>
+        ensures { IfOk result (λ bytes. length bytes.items ≤ 16777217) }
+    {
+        let Some((last, above)) = path.names().split_last() else {
+            return Err(io::Error::from(ErrorKind::IsADirectory));
+        };
+        let root = self.root_now()?;
+        let mut file = folder_path(alloc, root, above)?;
+        file.push_str(last.as_str())?;
+        match find_file(&self.rt, file.as_str(), root.len())? {
+            Some(found) => read_front(&self.rt, alloc, file.as_str(), &found, READ_LIMIT),
+            None => Err(io::Error::from(ErrorKind::NotFound)),
+        }
+    }
+
+    /// Want of memory, or one more fault.
+    fn fault_of(&mut self, error: &io::Error) -> FolderFault
+        ensures { HasCause self.old.faults.number self.new.faults.number (result ≡ Failed) }
+    {
+        if is_memory(error) {
+            return FolderFault::NoMemory;
+        }
+        self.faults.raise();
+        FolderFault::Failed
+    }
+}
+
+impl<R: Files + AllocGlobal + Clone + Drop> Folder for SystemFolder<R> {
+    ghost folder = { λ f. None };
+
+    ghost faults = { λ f. f.faults.number };
+
+    /// Takes the name alone: what stands there is looked at by the later calls. The empty name fails.
+    fn root(&mut self, alloc: Global, name: &str) -> Result<(), FolderFault> {
+        match root_path(alloc, name) {
+            Ok(path) => {
+                self.root = Some(path);
+                Ok(())
+            }
+            Err(error) => Err(self.fault_of(&error)),
+        }
+    }
+
+    fn list(&mut self, alloc: Global, path: &RepoPath) -> Result<Items<FolderItem>, FolderFault> {
+        match self.list_now(alloc, path) {
+            Ok(items) => Ok(items),
+            Err(error) => Err(self.fault_of(&error)),
+        }
+    }
+
+    fn read(&mut self, alloc: Global, path: &RepoPath) -> Result<Bytes, FolderFault> {
+        match self.read_now(alloc, path) {
+            Ok(bytes) => Ok(Bytes::new(bytes)),
+            Err(error) => Err(self.fault_of(&error)),
+        }
+    }
+}
