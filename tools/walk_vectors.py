@@ -4,6 +4,7 @@
 A row is a tree and questions with their answers. In a tree `/d/` is a directory, `/l=t` a link to `t`, and anything else a
 file whose content is the text of its path. A question is L (list), S (stat) or R (read) and a path.
 """
+import os
 import random
 
 from vectors import settle, table
@@ -14,6 +15,7 @@ MARKER = ".cvmfscatalog"
 NAMES = ["a", "b", "c"]
 TARGETS = ["a", "b/c", "..", "../a", "./b", "a/", "../../c", "/cvmfs/r", "/cvmfs/r/a", "/cvmfs/r/b/../c", "/cvmfs/rr/a", "//cvmfs/r", "/a", "c//b", "l"]
 LINKS = 32
+COUNT = int(os.environ.get("TABLE_ROWS", "40"))
 
 
 def generated():
@@ -128,7 +130,7 @@ def main():
         row(chain(), [("R", ("l31",)), ("R", ("l32",)), ("S", ("l33",)), ("L", ("l31",))]),
     ]
     rows = []
-    while len(rows) < 40:
+    while len(rows) < COUNT:
         entries = generated()
         line = row(entries, [question(entries) for _ in range(8)])
         if line not in rows:

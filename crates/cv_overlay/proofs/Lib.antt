@@ -13,3 +13,4 @@ pub mod Objects
 pub mod Visits
 pub mod Walks
 pub mod WalkTexts
+pub mod Cases

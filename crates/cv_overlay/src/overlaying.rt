@@ -2,9 +2,10 @@
 ghost use Rattle.std.specs.Prelude.{◌≡◌, ◌++◌, ◌∷◌, [], IfOk, OnOk, OnErr};
 ghost use Rattle.std.specs.Option.{option_copied};
 ghost use Rattle.std.specs.FinMap as map;
+ghost use Rattle.cv_base.specs.Path.{Path};
 ghost use Rattle.cv_tree.specs.Changes.{nodes_of};
 ghost use Rattle.cv_tree.specs.Tree.{IsTree};
-ghost use Rattle.cv_overlay.specs.Overlay.{IsBase, root_of, named_entries, kept_entries, over_entries, over};
+ghost use Rattle.cv_overlay.specs.Overlay.{IsBase, root_of, named_entries, kept_entries, over_entries, over_at, over};
 ghost use Rattle.cv_overlay.specs.Answers.{HasNoBad, Overlays};
 
 use crate::changes::Changes;
@@ -126,13 +127,17 @@ pub(crate) fn overlay_tree(
 /// # Errors
 ///
 /// `BadWhiteout` exactly where the folder has a bad whiteout, with the least of them by the bytes of the paths; `NoMemory`.
+#[tactic(auto, using(crate::proofs::Cases::overlaid_at))]
 pub fn overlay(
     alloc: Global,
     base: Option<&Part>,
     changes: &Changes,
     now: u64,
 ) -> Result<Part, OverlayFault>
-    ensures { Overlays (nodes_of (option_copied base.entry)) changes.now.nodes now result }
+    ensures answer { Overlays (nodes_of (option_copied base.entry)) changes.now.nodes now result }
+
+    // Path by path: the root; what the folder names there; what the base has there and the changes don't hide.
+    ensures at { IfOk result (λ part. (q : Path) → map.get part q ≡ over_at (nodes_of (option_copied base.entry)) changes.now.nodes now q) }
 {
     overlay_tree(alloc, base, &changes.tree, now)
 }

@@ -1,103 +1,67 @@
-//! What the contracts can't say: that calls find memory, with overlays by hand and by a script.
-ghost use Rattle.std.specs.Prelude.{◌<◌};
-ghost use Rattle.cv_tree.specs.Node.{IsNode, IsAttr};
+//! What the contracts can't say: that calls find memory. Folders in memory are read and laid over bases, and what comes of
+//! them is compared with what a script says.
 
+mod folders;
+mod parts;
 mod rows;
 
 use crate::overlay_fault::OverlayFault;
-use crate::overlaying::overlay_tree;
-use cv_base::{Attr, RepoPath};
-use cv_tree::{FileRef, Node, Part, Tree};
+use crate::overlaying::overlay;
+use crate::read_fault::ReadFault;
+use crate::reading::read_folder;
+use cv_base::RepoPath;
+use cv_ports::MemoryFolder;
+use cv_tree::Part;
 use std::alloc::Global;
 use std::process::Abort;
 use std::test::Fail;
 
-/// The attributes of the folder's entries; those of the base have other bits.
-const NEW: u32 = 0o700;
+/// The published path: a text, or how many names it has.
+fn published(alloc: Global, word: &str) -> Result<RepoPath, Fail> {
+    if word.starts_with('/') {
+        return Ok(RepoPath::read(alloc, word)?);
+    }
+    let count: u8 = word.parse()?;
+    let mut path = RepoPath::root(alloc);
+    for _ in 0..count {
+        path = path.with_name(alloc, "n")?;
+    }
+    Ok(path)
+}
 
-/// The attributes of an entry.
-fn attr(mode: u32) -> Attr
-    requires { mode < 4096 }
-    ensures { IsAttr result }
-{
-    Attr {
-        mode,
-        mtime: 1_700_000_000,
-        uid: 0,
-        gid: 0,
+/// The text of a fault with its path.
+fn named(alloc: Global, word: &str, path: &RepoPath) -> Result<String, Fail> {
+    let mut text = String::from_str(alloc, word)?;
+    text.push(' ')?;
+    text.push_str(path.text(alloc)?.as_str())?;
+    Ok(text)
+}
+
+/// The text of a fault of reading.
+fn fault_text(alloc: Global, fault: ReadFault) -> Result<String, Fail> {
+    match fault {
+        ReadFault::Special(path) => named(alloc, "special", &path),
+        ReadFault::BadName(path) => named(alloc, "bad name", &path),
+        ReadFault::TooLarge(path) => named(alloc, "too large", &path),
+        ReadFault::Failed => Ok(String::from_str(alloc, "failed")?),
+        ReadFault::NoMemory => Ok(String::from_str(alloc, "no memory")?),
     }
 }
 
-/// A directory or a file.
-fn node(mode: u32, is_directory: bool) -> Node
-    requires { mode < 4096 }
-    ensures { IsNode result }
-{
-    if is_directory {
-        return Node::Dir(attr(mode));
-    }
-    let content = FileRef {
-        hash: [7; 20],
-        size: 1,
+/// The text of what a folder makes of a base.
+fn made(
+    alloc: Global,
+    at: &RepoPath,
+    base: Option<&Part>,
+    folder: &mut MemoryFolder,
+) -> Result<String, Fail> {
+    let changes = match read_folder(alloc, folder, at) {
+        Ok(changes) => changes,
+        Err(fault) => return fault_text(alloc, fault),
     };
-    Node::File(attr(mode), content)
-}
-
-/// A tree of these texts, in which one that ends in a slash is a directory.
-fn tree_of(alloc: Global, mode: u32, texts: &str) -> Result<Tree, Fail>
-    requires { mode < 4096 }
-{
-    let mut tree = Tree::new(alloc, attr(mode))?;
-    for text in texts.split(' ') {
-        if !text.is_empty() {
-            let path = RepoPath::read(alloc, text)?;
-            tree.insert(&path, node(mode, text.ends_with('/')))?;
-        }
-    }
-    Ok(tree)
-}
-
-/// The bits of a node's mode.
-fn mode_of(node: &Node) -> u32 {
-    match node {
-        Node::Dir(attr) => attr.mode,
-        Node::File(attr, _) => attr.mode,
-        Node::Link(attr, _) => attr.mode,
-    }
-}
-
-/// The texts of a part's paths below its root.
-fn texts_of(alloc: Global, part: &Part) -> Result<String, Fail> {
-    let mut texts = String::new(alloc);
-    for (path, node) in part.entries(alloc)? {
-        if path.names().is_empty() {
-            continue;
-        }
-        if !texts.is_empty() {
-            texts.push(' ')?;
-        }
-        if mode_of(&node) == NEW {
-            texts.push('+')?;
-        }
-        texts.push_str(path.text(alloc)?.as_str())?;
-        if matches!(node, Node::Dir(_)) {
-            texts.push('/')?;
-        }
-    }
-    Ok(texts)
-}
-
-/// The texts of the part that changes make of a base, or the bad whiteout.
-fn made(alloc: Global, base: &str, folder: &str) -> Result<String, Fail> {
-    let base = tree_of(alloc, 0o755, base)?.subtree(alloc, &RepoPath::root(alloc))?;
-    let changes = tree_of(alloc, NEW, folder)?;
-    match overlay_tree(alloc, base.as_ref(), &changes, 5) {
-        Ok(part) => texts_of(alloc, &part),
-        Err(OverlayFault::BadWhiteout(path)) => {
-            let mut text = String::from_str(alloc, "bad ")?;
-            text.push_str(path.text(alloc)?.as_str())?;
-            Ok(text)
-        }
+    match overlay(alloc, base, &changes, 5) {
+        Ok(part) => parts::text_of(alloc, &part, changes.objects()),
+        Err(OverlayFault::BadWhiteout(path)) => named(alloc, "bad whiteout", &path),
         Err(OverlayFault::NoMemory) => Ok(String::from_str(alloc, "no memory")?),
     }
 }
@@ -105,10 +69,17 @@ fn made(alloc: Global, base: &str, folder: &str) -> Result<String, Fail> {
 /// Compares what each row makes with what it says.
 fn compare(rt: &impl Abort, alloc: Global, rows: &[&str]) -> Result<(), Fail> {
     for row in rows {
-        let mut parts = row.split('|');
-        if let (Some(base), Some(folder), Some(part)) = (parts.next(), parts.next(), parts.next()) {
-            let found = made(alloc, base, folder)?;
-            assert_eq!(rt; found.as_str(), part, "{base} under {folder}");
+        let mut words = row.split('|');
+        if let (Some(at), Some(base), Some(lines), Some(answer)) = (
+            words.next(),
+            words.next(),
+            words.next(),
+            words.next(),
+        ) {
+            let base = parts::base(alloc, base)?;
+            let mut folder = folders::folder(alloc, lines, Vec::new(alloc))?;
+            let found = made(alloc, &published(alloc, at)?, base.as_ref(), &mut folder)?;
+            assert_eq!(rt; found.as_str(), answer, "{row}");
         }
     }
     Ok(())
@@ -122,4 +93,25 @@ fn overlays_are_as_the_rules_say(rt: HostRuntime) -> Result<(), Fail> {
 #[test]
 fn overlays_are_as_those_of_the_script(rt: HostRuntime) -> Result<(), Fail> {
     compare(&rt, rt.alloc(), &rows::GENERATED)
+}
+
+/// A folder, the number of its call that fails, and what comes of it: a fault of an item to which the walk comes earlier stands.
+const FAILING: [(&str, u64, &str); 5] = [
+    (":a=x", 1, "failed"),
+    (":a=x", 2, "failed"),
+    (":a=x", 3, "+/a=1#11f6 # 11f6"),
+    (":a! :b=x", 2, "special /a"),
+    (":a/ :a-b! /a:b=x", 2, "special /a-b"),
+];
+
+#[test]
+fn a_folder_that_fails_is_told_where_the_walk_comes_to_it(rt: HostRuntime) -> Result<(), Fail> {
+    let alloc = rt.alloc();
+    for (lines, call, answer) in FAILING {
+        let failing = Vec::from_slice(alloc, &[call])?;
+        let mut folder = folders::folder(alloc, lines, failing)?;
+        let found = made(alloc, &RepoPath::root(alloc), None, &mut folder)?;
+        assert_eq!(rt; found.as_str(), answer, "{lines} with call {call} failing");
+    }
+    Ok(())
 }
