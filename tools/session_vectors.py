@@ -419,50 +419,51 @@ def row_of_bytes(exchanges):
 
 FILES = [(name(CATALOGUE, "C"), CATALOGUE), (RECORD_NAME, RECORD), (EPOCH, b"0\n"), (HEAD, MANIFEST)]
 ROWS = [row(seconds, exchanges) for seconds, exchanges in SESSIONS]
-settle("crates/cv_top/src/test_runs.rt", [table("FILES", "(&str, &[u8])", [row_of_file(*file) for file in FILES], "static")])
-settle(
-    "crates/cv_top/src/tests.rt",
-    [
-        constant("OBJECT", "&str", f'"{name(HELLO)}"'),
-        constant("CATALOGUE", "&str", f'"{name(CATALOGUE, "C")}"'),
-        constant("SERVED", "&[u8]", literal(octets(MANIFEST))),
-        constant("SERVED_LAST", "&[u8]", literal(octets(MANIFEST, True))),
-        constant("SECOND_LEASE", "&str", text(granted("2-1"))),
-        table("REFUSED", "(&str, Option<&[u8]>, &str)", [refused_row(*one) for one in REFUSED], "static"),
-        table("FAULTS", "(u64, u64, u64, u8, &str, usize)", [fault_row(*one) for one in FAULTS], "static"),
-        table("SESSIONS", "((u32, u32, u32), &str, &str)", ROWS, "static"),
-    ],
-)
-settle(
-    "crates/cv_top/src/store_tests.rt",
-    [
-        table("BELOW_FILES", "(&str, &[u8])", [row_of_file(*file) for file in BELOW_FILES], "static"),
-        constant("BELOW", "(&str, &str)", "(" + ", ".join(text("".join(part)) for part in zip(*BELOW)) + ")"),
-        table("PAYLOADS", "(&[u8], &[u8])", [row_of_bytes(exchanges) for exchanges in PAYLOADS], "static"),
-        constant("STORED_TWICE", "&[u8]", joined(asked for asked, _ in ASKED)),
-        table("SAID", "&[u8]", [joined(said) for said in SAID], "static"),
-        constant("STORED_AGAIN", "(&[u8], &[u8])", row_of_bytes(AGAIN)),
-        constant("STORED_ONCE", "&[u8]", joined([LEASED[0], STORED[0]])),
-        table("ONCE_SAID", "&[u8]", [joined(said) for said in ONCE_SAID], "static"),
-        constant("LACKING", "&[u8]", joined([*LACKING, *(said for _, said in AGAIN[1:])])),
-    ],
-)
-settle(
-    "crates/cv_top/src/commit_tests.rt",
-    [
-        table("OFFERED", "(&str, &[u8])", [row_of_file(name(HELLO), HELLO), row_of_file(name(WITH_FILE, "C"), WITH_FILE)], "static"),
-        constant("PUBLISHED", "(&[u8], &[u8])", row_of_bytes(PUBLISHED)),
-        constant("REOPENED", "(&[u8], &[u8])", row_of_bytes(REOPENED)),
-        constant("UNCHANGED", "&[u8]", joined(UNCHANGED)),
-        constant("COMMITTED_TWICE", "&[u8]", joined(COMMITTED_TWICE)),
-        table("COMMITS_SAID", "&[u8]", [joined(said) for said in COMMITS_SAID], "static"),
-        constant("CUT", "&[u8]", joined(CUT)),
-        table("CUT_SAID", "&[u8]", [joined(said) for said in CUT_SAID], "static"),
-        constant("SETTLED", "&[u8]", joined(SETTLED)),
-        table("SETTLED_SAID", "&[u8]", [joined(said) for said in SETTLED_SAID], "static"),
-    ],
-)
-settle(
-    "crates/cv_top/src/story_tests.rt",
-    [table("STORIES", "(&str, &[u8], &[u8], usize)", [one.row() for one in stories()], "static")],
-)
+if __name__ == "__main__":
+    settle("crates/cv_top/src/test_runs.rt", [table("FILES", "(&str, &[u8])", [row_of_file(*file) for file in FILES], "static")])
+    settle(
+        "crates/cv_top/src/tests.rt",
+        [
+            constant("OBJECT", "&str", f'"{name(HELLO)}"'),
+            constant("CATALOGUE", "&str", f'"{name(CATALOGUE, "C")}"'),
+            constant("SERVED", "&[u8]", literal(octets(MANIFEST))),
+            constant("SERVED_LAST", "&[u8]", literal(octets(MANIFEST, True))),
+            constant("SECOND_LEASE", "&str", text(granted("2-1"))),
+            table("REFUSED", "(&str, Option<&[u8]>, &str)", [refused_row(*one) for one in REFUSED], "static"),
+            table("FAULTS", "(u64, u64, u64, u8, &str, usize)", [fault_row(*one) for one in FAULTS], "static"),
+            table("SESSIONS", "((u32, u32, u32), &str, &str)", ROWS, "static"),
+        ],
+    )
+    settle(
+        "crates/cv_top/src/store_tests.rt",
+        [
+            table("BELOW_FILES", "(&str, &[u8])", [row_of_file(*file) for file in BELOW_FILES], "static"),
+            constant("BELOW", "(&str, &str)", "(" + ", ".join(text("".join(part)) for part in zip(*BELOW)) + ")"),
+            table("PAYLOADS", "(&[u8], &[u8])", [row_of_bytes(exchanges) for exchanges in PAYLOADS], "static"),
+            constant("STORED_TWICE", "&[u8]", joined(asked for asked, _ in ASKED)),
+            table("SAID", "&[u8]", [joined(said) for said in SAID], "static"),
+            constant("STORED_AGAIN", "(&[u8], &[u8])", row_of_bytes(AGAIN)),
+            constant("STORED_ONCE", "&[u8]", joined([LEASED[0], STORED[0]])),
+            table("ONCE_SAID", "&[u8]", [joined(said) for said in ONCE_SAID], "static"),
+            constant("LACKING", "&[u8]", joined([*LACKING, *(said for _, said in AGAIN[1:])])),
+        ],
+    )
+    settle(
+        "crates/cv_top/src/commit_tests.rt",
+        [
+            table("OFFERED", "(&str, &[u8])", [row_of_file(name(HELLO), HELLO), row_of_file(name(WITH_FILE, "C"), WITH_FILE)], "static"),
+            constant("PUBLISHED", "(&[u8], &[u8])", row_of_bytes(PUBLISHED)),
+            constant("REOPENED", "(&[u8], &[u8])", row_of_bytes(REOPENED)),
+            constant("UNCHANGED", "&[u8]", joined(UNCHANGED)),
+            constant("COMMITTED_TWICE", "&[u8]", joined(COMMITTED_TWICE)),
+            table("COMMITS_SAID", "&[u8]", [joined(said) for said in COMMITS_SAID], "static"),
+            constant("CUT", "&[u8]", joined(CUT)),
+            table("CUT_SAID", "&[u8]", [joined(said) for said in CUT_SAID], "static"),
+            constant("SETTLED", "&[u8]", joined(SETTLED)),
+            table("SETTLED_SAID", "&[u8]", [joined(said) for said in SETTLED_SAID], "static"),
+        ],
+    )
+    settle(
+        "crates/cv_top/src/story_tests.rt",
+        [table("STORIES", "(&str, &[u8], &[u8], usize)", [one.row() for one in stories()], "static")],
+    )

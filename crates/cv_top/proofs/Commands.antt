@@ -1,21 +1,10 @@
 -- Words that ask for a command.
-use Rattle.std.proofs.Common.{◌≡◌, ◌≤◌, ◌<◌, ℕ, List, [], ◌∷◌, length, map, refl, ap, sym, ◌∙◌, arith}
-use Rattle.std.specs.Prelude.{slice_index_or, codes}
-use Rattle.cv_top.specs.Words.{Asks, init, stdio}
-use Rattle.cv_top.specs.declared.words.Command.TheVariants.{Init, Stdio}
-
-two_items : {X : Type 0} (xs : List X) (a b : X) → 2 ≤ length xs → length xs < 3 → a ≡ slice_index_or xs 0 a → b ≡ slice_index_or xs 1 b → xs ≡ a ∷ b ∷ []
-two_items [] a b least most first second = absurd (omega arith)
-two_items (x ∷ []) a b least most first second = absurd (omega arith)
-two_items (x ∷ y ∷ []) a b least most first second = rw (first, second) refl
-two_items (x ∷ y ∷ z ∷ xs) a b least most first second = absurd (omega arith)
-
--- two words, of which the first is this one and the second this name
-pub two_texts : {X : Type 0} (text : X → List ℕ) (words : List X) (a b : X) (first second word name : List ℕ)
-    → 2 ≤ length words → length words < 3 → a ≡ slice_index_or words 0 a → b ≡ slice_index_or words 1 b
-    → first ≡ text a → second ≡ text b → first ≡ word → name ≡ second → map text words ≡ word ∷ name ∷ []
-two_texts text words a b first second word name least most a_is b_is first_is second_is word_is name_is =
-    ap (map text) (two_items words a b least most a_is b_is) ∙ (λ i. (sym first_is ∙ word_is) i ∷ (sym second_is ∙ sym name_is) i ∷ [])
+use Rattle.std.proofs.Common.{◌≡◌, ℕ, List, [], ◌∷◌, sym, ◌∙◌}
+use Rattle.std.specs.Prelude.{codes}
+use Rattle.cv_resolver.specs.declared.question.Question.{Question}
+use Rattle.cv_client.specs.declared.url.Url.{Url}
+use Rattle.cv_top.specs.Words.{Asks, init, stdio, ls, stat, cat}
+use Rattle.cv_top.specs.declared.words.Command.TheVariants.{Init, Stdio, Look}
 
 -- words ask for one command
 pub not_both : (words : List (List ℕ)) (name other : List ℕ) → Asks words (Init name) → Asks words (Stdio other) → ⊥
@@ -23,3 +12,25 @@ not_both words name other (init n is t) (stdio m also u) = (let e : codes "init"
 
 pub one_name : (words : List (List ℕ)) (name other : List ℕ) → Asks words (Stdio name) → Asks words (Stdio other) → name ≡ other
 one_name words name other (stdio n is t) (stdio m also u) = (let e : codes "stdio" ∷ name ∷ [] ≡ codes "stdio" ∷ other ∷ [] = sym is ∙ also in cc)
+
+-- two words aren't three
+two_or_three : (words : List (List ℕ)) (a b x y z : List ℕ) → words ≡ a ∷ b ∷ [] → words ≡ x ∷ y ∷ z ∷ [] → ⊥
+two_or_three words a b x y z two three = (let e : a ∷ b ∷ [] ≡ x ∷ y ∷ z ∷ [] = sym two ∙ three in absurd cc)
+
+-- a question has three words
+record HasThree (words : List (List ℕ)) : Type 0 where
+  verb : List ℕ
+  url : List ℕ
+  path : List ℕ
+  are : words ≡ verb ∷ url ∷ path ∷ []
+
+has_three : (words : List (List ℕ)) (u : Url) (q : Question) → Asks words (Look u q) → HasThree words
+has_three words u q (ls url path v p are place) = record { verb = codes "ls"; url = url; path = path; are = are }
+has_three words u q (stat url path v p are place) = record { verb = codes "stat"; url = url; path = path; are = are }
+has_three words u q (cat url path v p are place) = record { verb = codes "cat"; url = url; path = path; are = are }
+
+pub no_init : (words : List (List ℕ)) (name : List ℕ) (u : Url) (q : Question) → Asks words (Look u q) → Asks words (Init name) → ⊥
+no_init words name u q looks (init n is t) = (let h = has_three words u q looks in two_or_three words (codes "init") name h.verb h.url h.path is h.are)
+
+pub no_stdio : (words : List (List ℕ)) (name : List ℕ) (u : Url) (q : Question) → Asks words (Look u q) → Asks words (Stdio name) → ⊥
+no_stdio words name u q looks (stdio n is t) = (let h = has_three words u q looks in two_or_three words (codes "stdio") name h.verb h.url h.path is h.are)

@@ -1,16 +1,15 @@
 -- How the program may end where no count of its outside rose.
-use Rattle.std.proofs.Common.{◌≡◌, ◌≢◌, true, ℕ, List, [], refl, sym, ap, subst, ◌∙◌, inl, inr}
+use Rattle.std.proofs.Common.{◌≡◌, ◌≢◌, true, ℕ, List, [], refl, sym, subst, ◌∙◌, inl, inr}
 use Rattle.std.specs.declared.option.Option.{Option}
 use Rattle.std.specs.declared.option.Option.TheVariants.{Some}
 use Rattle.std.specs.declared.result.Result.TheVariants.{Ok, Err}
-use Rattle.cv_keys.specs.KeysText.{keys_of}
 use Rattle.cv_keys.specs.declared.key.Key.{Key}
 use Rattle.cv_ports.specs.Streams.{Look}
 use Rattle.cv_vault.specs.Disk.{Disk, Files, files_now}
 use Rattle.cv_swap.specs.Init.{Answers}
 use Rattle.cv_swap.specs.Kept.{Kept}
 use Rattle.cv_swap.specs.Stands.{Stands as StandsKept}
-use Rattle.cv_swap.specs.Opening.{Refuses, MayRefuse}
+use Rattle.cv_swap.specs.Opening.{MayRefuse}
 use Rattle.cv_swap.specs.declared.init_fault.InitFault.{InitFault}
 use Rattle.cv_swap.specs.declared.init_fault.InitFault.TheVariants as init_fault
 use Rattle.cv_swap.specs.declared.open_fault.OpenFault.{OpenFault}
@@ -19,14 +18,15 @@ use Rattle.cv_session.specs.declared.session_end.SessionEnd.{SessionEnd}
 use Rattle.cv_session.specs.declared.session_end.SessionEnd.TheVariants as session_end
 use Rattle.cv_desk.specs.Gate.{GateOpens}
 use Rattle.cv_top.specs.Complete.{Completes, IsVacant, ends_served, ends_made}
-use Rattle.cv_top.specs.Runs.{Outside, Runs, Serves, Inits, HasFault, HasKeys, usage, bad_keys, no_seal, unbegun, init, stdio, ended, unopened, made, unsaid, refused}
+use Rattle.cv_client.specs.Exchange.{Links}
+use Rattle.cv_top.specs.Runs.{Outside, Runs, Serves, Inits, HasKeys, usage, bad_keys, no_seal, unbegun, init, stdio, look, ended, unopened, made, unsaid, refused}
 use Rattle.cv_top.specs.Seal.{is_seal_by}
 use Rattle.cv_top.specs.Status.{init_status, open_status, end_status}
 use Rattle.cv_top.specs.Words.{Asks}
 use Rattle.cv_top.specs.declared.status.Status.{Status}
 use Rattle.cv_top.specs.declared.status.Status.TheVariants.{InputFailed, OutputFailed, StoreFailed}
 use Rattle.cv_top.specs.declared.words.Command.TheVariants.{Init, Stdio}
-use Rattle.cv_top.proofs.Commands.{not_both, one_name}
+use Rattle.cv_top.proofs.Commands.{not_both, one_name, no_init, no_stdio}
 use Rattle.cv_top.proofs.Unserved.{RefusesFew}
 
 -- no failure of the outside is the status
@@ -67,35 +67,37 @@ module _ {V : Type 0} (disk : V → Option Disk) (count : V → ℕ) (left : V �
   why_refused name seal d k v v' x kept (inl opens) = refuses name (is_seal_by seal) (files_now d) k x kept opens.finds
   why_refused name seal d k v v' x kept (inr both) = subst MayRefuse (sym both.0) tt
 
-  module _ {R W C : Type 0} (faults : V → ℕ) (rest : R → Option (List ℕ)) (looks : R → Look → Type 0) (taken passed : W → Option (List ℕ)) (moments : C → Option (ℕ → ℕ)) (words : List (List ℕ)) (keys seal : List ℕ) (a b : Outside V R W C) where
+  module _ {R W C N : Type 0} (faults : V → ℕ) (rest : R → Option (List ℕ)) (looks : R → Look → Type 0) (taken passed : W → Option (List ℕ)) (moments : C → Option (ℕ → ℕ)) (words : List (List ℕ)) (keys seal : List ℕ) (a b : Outside V R W C N) where
     served_ends : (name : List ℕ) (table : List Key) (status : Status) (d : Disk) (k : Kept) → disk a.vault ≡ Some d → StandsKept name (is_seal_by seal) (files_now d) k
-        → Serves disk count left faults rest looks taken passed moments name table seal a b status → Unfailed status → ends_served status ≡ true
+        → Serves disk count left faults rest looks taken passed moments name table seal a.vault b.vault a.input b.input a.output b.output a.clock b.clock status → Unfailed status → ends_served status ≡ true
     served_ends name table status d k told kept (ended gate desk' end opens new later talks served same) fine = by_session end fine
-    served_ends name table status d k told kept (unopened x opens same) fine = by_opening x (why_refused name seal d k a.vault b.vault x kept (opens d told)) fine
+    served_ends name table status d k told kept (unopened x opens input output clock) fine = by_opening x (why_refused name seal d k a.vault b.vault x kept (opens d told)) fine
 
     made_ends : (name : List ℕ) (status : Status) (d : Disk) → disk a.vault ≡ Some d → IsVacant d → Inits disk count left taken moments name seal a.vault b.vault a.output b.output a.clock b.clock status → Unfailed status → ends_made status ≡ true
     made_ends name status d told vacant (made makes said) fine = refl
     made_ends name status d told vacant (unsaid makes wrote) fine = absurd (fine.writes refl)
     made_ends name status d told vacant (refused x makes same) fine = by_making d vacant makes.now x (makes.makes d told).answers fine
 
-    serves : (status : Status) → Unfailed status → Runs disk count left faults rest looks taken passed moments words keys seal a b status → (name : List ℕ) → Asks words (Stdio name) → HasKeys (Stdio name) keys → seal ≢ []
+    serves : (came : N → Links) (status : Status) → Unfailed status → Runs disk count left faults rest looks taken passed moments came words keys seal a b status → (name : List ℕ) → Asks words (Stdio name) → HasKeys (Stdio name) keys → seal ≢ []
         → (d : Disk) (k : Kept) → disk a.vault ≡ Some d → StandsKept name (is_seal_by seal) (files_now d) k → ends_served status ≡ true
-    serves status fine (usage never same) name asks has some d k told kept = absurd (never (record { command = Stdio name; asks = asks }))
-    serves status fine (bad_keys other asked fault same) name asks has some d k told kept = (let e : Ok has.0 ≡ Err fault.fault = sym has.1 ∙ fault.is in absurd cc)
-    serves status fine (no_seal command asked good empty same) name asks has some d k told kept = absurd (some empty)
-    serves status fine (unbegun same) name asks has some d k told kept = refl
-    serves status fine (init other how asked good inits same) name asks has some d k told kept = absurd (not_both words other name asked asks)
-    serves status fine (stdio other table how asked are good served) name asks has some d k told kept =
+    serves came status fine (usage never same) name asks has some d k told kept = absurd (never (record { command = Stdio name; asks = asks }))
+    serves came status fine (bad_keys other asked fault same) name asks has some d k told kept = (let e : Ok has.0 ≡ Err fault.fault = sym has.1 ∙ fault.is in absurd cc)
+    serves came status fine (no_seal command asked good empty same) name asks has some d k told kept = absurd (some empty)
+    serves came status fine (unbegun same) name asks has some d k told kept = refl
+    serves came status fine (init other how asked good inits same near) name asks has some d k told kept = absurd (not_both words other name asked asks)
+    serves came status fine (look u q how asked good looked same) name asks has some d k told kept = absurd (no_stdio words name u q asked asks)
+    serves came status fine (stdio other table how asked are good served near) name asks has some d k told kept =
         let is : other ≡ name = one_name words other name asked asks in
         served_ends other table how d k told (subst (λ n. StandsKept n (is_seal_by seal) (files_now d) k) (sym is) kept) served fine
 
-    makes : (status : Status) → Unfailed status → Runs disk count left faults rest looks taken passed moments words keys seal a b status → (name : List ℕ) → Asks words (Init name) → seal ≢ [] → (d : Disk) → disk a.vault ≡ Some d → IsVacant d → ends_made status ≡ true
-    makes status fine (usage never same) name asks some d told vacant = absurd (never (record { command = Init name; asks = asks }))
-    makes status fine (bad_keys other asked fault same) name asks some d told vacant = absurd (not_both words name other asks asked)
-    makes status fine (no_seal command asked good empty same) name asks some d told vacant = absurd (some empty)
-    makes status fine (unbegun same) name asks some d told vacant = refl
-    makes status fine (init other how asked good inits same) name asks some d told vacant = made_ends other how d told vacant inits fine
-    makes status fine (stdio other table how asked are good served) name asks some d told vacant = absurd (not_both words name other asks asked)
+    makes : (came : N → Links) (status : Status) → Unfailed status → Runs disk count left faults rest looks taken passed moments came words keys seal a b status → (name : List ℕ) → Asks words (Init name) → seal ≢ [] → (d : Disk) → disk a.vault ≡ Some d → IsVacant d → ends_made status ≡ true
+    makes came status fine (usage never same) name asks some d told vacant = absurd (never (record { command = Init name; asks = asks }))
+    makes came status fine (bad_keys other asked fault same) name asks some d told vacant = absurd (not_both words name other asks asked)
+    makes came status fine (no_seal command asked good empty same) name asks some d told vacant = absurd (some empty)
+    makes came status fine (unbegun same) name asks some d told vacant = refl
+    makes came status fine (init other how asked good inits same near) name asks some d told vacant = made_ends other how d told vacant inits fine
+    makes came status fine (look u q how asked good looked same) name asks some d told vacant = absurd (no_init words name u q asked asks)
+    makes came status fine (stdio other table how asked are good served near) name asks some d told vacant = absurd (not_both words name other asks asked)
 
-    pub completes : (status : Status) → Unfailed status → Runs disk count left faults rest looks taken passed moments words keys seal a b status → Completes words keys seal (disk a.vault) status
-    completes status fine ran = record { serves = serves status fine ran; makes = makes status fine ran }
+    pub completes : (came : N → Links) (status : Status) → Unfailed status → Runs disk count left faults rest looks taken passed moments came words keys seal a b status → Completes words keys seal (disk a.vault) status
+    completes came status fine ran = record { serves = serves came status fine ran; makes = makes came status fine ran }

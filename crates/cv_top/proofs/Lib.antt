@@ -3,5 +3,7 @@ mod Completing
 mod Headlines
 mod KeyFaults
 mod Saying
+mod Sealing
 mod Serving
+mod Telling
 mod Unserved

@@ -1,11 +1,11 @@
--- A line of the program, said in four pieces.
+-- A line of the program, said in four pieces, and the text of an id, said in two.
 use Rattle.std.proofs.Common.{◌≡◌, ◌≢◌, ◌++◌, ℕ, List, ◌∙◌, refl, ap, subst}
 use Rattle.std.specs.Prelude.{Option}
 use Rattle.cv_ports.specs.Streams.{onto, Wrote}
 use Rattle.cv_ports.proofs.Streams.{onto_twice, wrote_front, wrote_back}
 use Rattle.cv_top.specs.Status.{line_of, said, what_of, detail_of}
 use Rattle.cv_top.specs.declared.status.Status.{Status}
-use Rattle.cv_top.specs.declared.status.Status.TheVariants.{Done, Usage, Repository, InputFailed, OutputFailed, StoreFailed, JournalFull, BadRequest, BadKeys, OutOfMemory}
+use Rattle.cv_top.specs.declared.status.Status.TheVariants.{Done, Usage, Repository, InputFailed, OutputFailed, StoreFailed, LinkFailed, JournalFull, NoAnswer, Served, BadReply, BadRequest, BadKeys, OutOfMemory}
 
 pub line_is : (status : Status) → status ≢ Done → line_of status ≡ said (what_of status) (detail_of status)
 line_is Done other = absurd (other refl)
@@ -14,13 +14,21 @@ line_is (Repository fault) other = refl
 line_is InputFailed other = refl
 line_is OutputFailed other = refl
 line_is StoreFailed other = refl
+line_is LinkFailed other = refl
 line_is JournalFull other = refl
+line_is (NoAnswer fault) other = refl
+line_is (Served fault) other = refl
+line_is BadReply other = refl
 line_is BadRequest other = refl
 line_is BadKeys other = refl
 line_is OutOfMemory other = refl
 
 onto_then : (o : Option (List ℕ)) {o1 o2 : Option (List ℕ)} (a b : List ℕ) → o1 ≡ onto o a → o2 ≡ onto o1 b → o2 ≡ onto o (a ++ b)
 onto_then o a b first second = second ∙ ap (λ x. onto x b) first ∙ onto_twice o a b
+
+-- of two pieces the first and a front of the second
+pub wrote_then : (o : Option (List ℕ)) {o1 o2 : Option (List ℕ)} {b' : List ℕ} (a b : List ℕ) → b' ≡ b → o1 ≡ onto o a → Wrote o1 o2 b' → Wrote o o2 (a ++ b)
+wrote_then o {o1} {o2} a b is first w = wrote_back o a first (subst (Wrote o1 o2) is w)
 
 -- what the sink took before, and the pieces
 module _ (o : Option (List ℕ)) (a b c d : List ℕ) where

@@ -1,5 +1,5 @@
 -- A run that doesn't serve leaves what is kept as it was, opened once more at most; and what a run keeps.
-use Rattle.std.proofs.Common.{◌≡◌, ◌⊎◌, ◌++◌, ℕ, List, [], ◌∷◌, refl, sym, ap, subst, ◌∙◌, inl, inr, arith}
+use Rattle.std.proofs.Common.{◌≡◌, ◌⊎◌, ◌++◌, ℕ, List, [], ◌∷◌, refl, sym, ap, subst, inl, inr, arith}
 use Rattle.std.specs.declared.option.Option.{Option}
 use Rattle.std.specs.declared.option.Option.TheVariants.{Some}
 use Rattle.std.specs.declared.result.Result.TheVariants.{Ok, Err}
@@ -25,12 +25,12 @@ use Rattle.cv_gate.specs.declared.entry.Entry.{Entry}
 use Rattle.cv_gate.proofs.Lemmas.{opened}
 use Rattle.cv_desk.specs.Gate.{GateOpens}
 use Rattle.cv_top.specs.Headline.{OnLine, Remains, KeepsLine, opening}
-use Rattle.cv_top.specs.Runs.{Outside, Runs, Serves, HasLine, Keeps, usage, bad_keys, no_seal, unbegun, init, stdio, ended, unopened, none, talked, calls_in, desk_over}
+use Rattle.cv_client.specs.Exchange.{Links}
+use Rattle.cv_top.specs.Runs.{Outside, Runs, Serves, HasLine, Keeps, usage, bad_keys, no_seal, unbegun, init, stdio, look, ended, unopened, none, talked, calls_in, desk_over}
 use Rattle.cv_top.specs.Seal.{is_seal_by}
-use Rattle.cv_top.specs.Words.{Asks}
 use Rattle.cv_top.specs.declared.status.Status.{Status}
-use Rattle.cv_top.specs.declared.words.Command.TheVariants.{Init, Stdio}
-use Rattle.cv_top.proofs.Commands.{not_both, one_name}
+use Rattle.cv_top.specs.declared.words.Command.TheVariants.{Stdio}
+use Rattle.cv_top.proofs.Commands.{not_both, one_name, no_stdio}
 use Rattle.cv_top.proofs.Headlines.{KeepsRaised, now_image, on_line, raised_on_line, same_remains, opening_remains}
 
 -- the law of files that stand for what is kept
@@ -93,36 +93,37 @@ module _ {V : Type 0} (disk : V → Option Disk) (count : V → ℕ) (left : V �
 
   -- ---- words that ask to serve
 
-  module _ {R W C : Type 0} (faults : V → ℕ) (rest : R → Option (List ℕ)) (looks : R → Look → Type 0) (taken passed : W → Option (List ℕ)) (moments : C → Option (ℕ → ℕ)) (words : List (List ℕ)) (keys seal : List ℕ) (a b : Outside V R W C) where
+  module _ {R W C N : Type 0} (faults : V → ℕ) (rest : R → Option (List ℕ)) (looks : R → Look → Type 0) (taken passed : W → Option (List ℕ)) (moments : C → Option (ℕ → ℕ)) (words : List (List ℕ)) (keys seal : List ℕ) (a b : Outside V R W C N) where
     abbrev Has : List ℕ → Disk → Kept → Type 0
     Has name d k = HasLine disk count left faults rest looks taken passed moments name keys seal d k a b
 
     has_none : (name : List ℕ) (d : Disk) (k : Kept) → disk a.vault ≡ Some d → StandsKept name (is_seal_by seal) (files_now d) k → b ≡ a → Has name d k
     has_none name d k told kept same = record {
       calls = [];
-      made = none (ap (λ (o : Outside V R W C). o.input) same) (ap (λ (o : Outside V R W C). o.output) same);
-      keeps = λ first lives begun lived. subst (λ (u : V). KeepsLine name seal first lives k [] disk count left d a.vault u) (sym (ap (λ (o : Outside V R W C). o.vault) same)) (untouched name seal d k kept first lives begun lived a.vault told);
+      made = none (ap (λ (o : Outside V R W C N). o.input) same) (ap (λ (o : Outside V R W C N). o.output) same);
+      keeps = λ first lives begun lived. subst (λ (u : V). KeepsLine name seal first lives k [] disk count left d a.vault u) (sym (ap (λ (o : Outside V R W C N). o.vault) same)) (untouched name seal d k kept first lives begun lived a.vault told);
     }
 
     serves_so : (name : List ℕ) (table : List Key) (status : Status) (d : Disk) (k : Kept) → keys_of keys ≡ Ok table → disk a.vault ≡ Some d → StandsKept name (is_seal_by seal) (files_now d) k
-        → Serves disk count left faults rest looks taken passed moments name table seal a b status → Has name d k
+        → Serves disk count left faults rest looks taken passed moments name table seal a.vault b.vault a.input b.input a.output b.output a.clock b.clock status → Has name d k
     serves_so name table status d k are told kept (ended gate desk' end opens new later talks served same) = record {
       calls = calls_in disk count left faults rest looks taken passed moments talks;
       made = talked table (desk_over gate name) desk' end are same talks;
       keeps = λ first lives begun lived. subst (λ (u : V). KeepsLine name seal first lives k (calls_in disk count left faults rest looks taken passed moments talks) disk count left d a.vault u) (sym same) ((served d told k kept).line first lives begun lived);
     }
-    serves_so name table status d k are told kept (unopened x opens same) = record {
+    serves_so name table status d k are told kept (unopened x opens input output clock) = record {
       calls = [];
-      made = none (ap (λ (o : Outside V R W C). o.input) same) (ap (λ (o : Outside V R W C). o.output) same);
+      made = none input output;
       keeps = λ first lives begun lived. refused name seal d k kept first lives begun lived x a.vault b.vault told (opens d told);
     }
 
-    pub keeps : (status : Status) → Runs disk count left faults rest looks taken passed moments words keys seal a b status → Keeps disk count left faults rest looks taken passed moments words keys seal a b
-    keeps status (usage never same) name asks d told k kept = absurd (never (record { command = Stdio name; asks = asks }))
-    keeps status (bad_keys other asked has same) name asks d told k kept = has_none name d k told kept same
-    keeps status (no_seal command asked has empty same) name asks d told k kept = has_none name d k told kept same
-    keeps status (unbegun same) name asks d told k kept = has_none name d k told kept same
-    keeps status (init other how asked some inits same) name asks d told k kept = absurd (not_both words other name asked asks)
-    keeps status (stdio other table how asked are some serves) name asks d told k kept =
+    pub keeps : (came : N → Links) (status : Status) → Runs disk count left faults rest looks taken passed moments came words keys seal a b status → Keeps disk count left faults rest looks taken passed moments words keys seal a b
+    keeps came status (usage never same) name asks d told k kept = absurd (never (record { command = Stdio name; asks = asks }))
+    keeps came status (bad_keys other asked has same) name asks d told k kept = has_none name d k told kept same
+    keeps came status (no_seal command asked has empty same) name asks d told k kept = has_none name d k told kept same
+    keeps came status (unbegun same) name asks d told k kept = has_none name d k told kept same
+    keeps came status (init other how asked some inits same near) name asks d told k kept = absurd (not_both words other name asked asks)
+    keeps came status (look u q how asked some looked same) name asks d told k kept = absurd (no_stdio words name u q asked asks)
+    keeps came status (stdio other table how asked are some serves near) name asks d told k kept =
         let is : other ≡ name = one_name words other name asked asks in
         subst (λ n. Has n d k) is (serves_so other table how d k are told (subst (λ n. StandsKept n (is_seal_by seal) (files_now d) k) (sym is) kept) serves)

@@ -1,6 +1,9 @@
 pub mod Complete
 pub mod Headline
+pub mod Looks
 pub mod Runs
 pub mod Seal
+pub mod Sealed
 pub mod Status
+pub mod Tells
 pub mod Words

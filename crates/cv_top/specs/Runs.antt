@@ -21,18 +21,22 @@ use Rattle.cv_gate.specs.Lives.{Life, Lives}
 use Rattle.cv_gate.specs.Solo.{Makes as MakesAlone}
 use Rattle.cv_desk.specs.Gate.{GateView, GateOpens, IsNew}
 use Rattle.cv_desk.specs.OneDesk.{OneDeskView, Stands, DoesEach, DoesCalls, first_view}
+use Rattle.cv_resolver.specs.declared.question.Question.{Question}
+use Rattle.cv_client.specs.Exchange.{Links}
+use Rattle.cv_client.specs.declared.url.Url.{Url}
 use Rattle.cv_session.specs.Sessions.{Session, ReadsUpToDate, calls_of}
 use Rattle.cv_session.specs.Standing.{Gives, standing}
 use Rattle.cv_session.specs.declared.session_end.SessionEnd.{SessionEnd}
 use Rattle.cv_session.specs.declared.session_end.SessionEnd.TheVariants.{Clean, Bad}
 use Rattle.cv_top.specs.Headline.{Lasts, KeepsLine}
+use Rattle.cv_top.specs.Looks.{Looks}
 use Rattle.cv_top.specs.Seal.{is_seal_by}
 use Rattle.cv_top.specs.Status.{init_status, open_status, end_status}
 use Rattle.cv_top.specs.Words.{Asks, IsCommand}
 use Rattle.cv_top.specs.declared.status.Status.{Status}
 use Rattle.cv_top.specs.declared.status.Status.TheVariants.{Done, Usage, OutputFailed, BadKeys, OutOfMemory}
 use Rattle.cv_top.specs.declared.words.Command.{Command}
-use Rattle.cv_top.specs.declared.words.Command.TheVariants.{Init, Stdio}
+use Rattle.cv_top.specs.declared.words.Command.TheVariants.{Init, Stdio, Look as Looking}
 
 -- ---- keys
 
@@ -45,18 +49,20 @@ pub record HasFault (text : List ℕ) : Type 0 where
 abbrev pub HasKeys : Command → List ℕ → Type 0
 HasKeys (Init name) text = Unit {0}
 HasKeys (Stdio name) text = (keys : List Key) × (keys_of text ≡ Ok keys)
+HasKeys (Looking url question) text = Unit {0}
 
 -- ---- the outside
 
--- the repository's files, where requests come from, where replies go, and the time
-pub record Outside (V R W C : Type 0) : Type 0 where
+-- the repository's files, where requests come from, where replies go, the time, and where links to servers come from
+pub record Outside (V R W C N : Type 0) : Type 0 where
   pub vault : V
   pub input : R
   pub output : W
   pub clock : C
+  pub dial : N
 
-abbrev pub outside : {V R W C : Type 0} → V → R → W → C → Outside V R W C
-outside vault input output clock = record { vault = vault; input = input; output = output; clock = clock }
+abbrev pub outside : {V R W C N : Type 0} → V → R → W → C → N → Outside V R W C N
+outside vault input output clock dial = record { vault = vault; input = input; output = output; clock = clock; dial = dial }
 
 -- a desk over a gate, which knows its newest head
 abbrev pub desk_over : {V S : Type 0} → GateView V S → List ℕ → OneDeskView V S
@@ -130,48 +136,55 @@ module _ {V : Type 0} (disk : V → Option Disk) (count : V → ℕ) (left : V �
         → Talks name keys seal desk desk' input input' output output' clock clock' end → List Call
     calls_in talks = calls_of talks.session.exchanges ++ talks.session.others
 
-    pub data Serves (name : List ℕ) (keys : List Key) (seal : List ℕ) (before after : Outside V R W C) : Status → Type 0 where
+    pub data Serves (name : List ℕ) (keys : List Key) (seal : List ℕ) (v v' : V) (input input' : R) (output output' : W) (clock clock' : C) : Status → Type 0 where
       -- the repository was opened, and a session over its gate ended; where the files stood for what is kept, that was served
-      ended : (gate : GateView V (List ℕ)) (desk' : OneDeskView V (List ℕ)) (end : SessionEnd) → OpensSo name seal before.vault (Ok gate) → IsNew name seal gate
-          → faults before.vault ≤ faults gate.state.line.vault
-          → (talks : Talks name keys seal (desk_over gate name) desk' before.input after.input before.output after.output before.clock after.clock end)
-          → WhereTold (disk before.vault) (λ d. (k : Kept) → StandsKept name (is_seal_by seal) (files_now d) k → ServesKept name seal d k (calls_in talks) before.vault (desk_over gate name) desk')
-          → after.vault ≡ desk'.gate.state.line.vault
-          → Serves name keys seal before after (end_status end)
+      ended : (gate : GateView V (List ℕ)) (desk' : OneDeskView V (List ℕ)) (end : SessionEnd) → OpensSo name seal v (Ok gate) → IsNew name seal gate
+          → faults v ≤ faults gate.state.line.vault
+          → (talks : Talks name keys seal (desk_over gate name) desk' input input' output output' clock clock' end)
+          → WhereTold (disk v) (λ d. (k : Kept) → StandsKept name (is_seal_by seal) (files_now d) k → ServesKept name seal d k (calls_in talks) v (desk_over gate name) desk')
+          → v' ≡ desk'.gate.state.line.vault
+          → Serves name keys seal v v' input input' output output' clock clock' (end_status end)
       -- it wasn't opened: the rest isn't touched
-      unopened : (fault : OpenFault) → OpensSo name seal before.vault (Err (fault, after.vault))
-          → after ≡ outside after.vault before.input before.output before.clock → Serves name keys seal before after (open_status fault)
+      unopened : (fault : OpenFault) → OpensSo name seal v (Err (fault, v')) → input' ≡ input → output' ≡ output → clock' ≡ clock
+          → Serves name keys seal v v' input input' output output' clock clock' (open_status fault)
 
     -- ---- the program
 
-    -- The words are judged first, then the keys, then the seal. Where they are refused nothing is touched.
-    pub data Runs (words : List (List ℕ)) (keys seal : List ℕ) (before after : Outside V R W C) : Status → Type 0 where
-      usage : (IsCommand words → ⊥) → after ≡ before → Runs words keys seal before after Usage
-      bad_keys : (name : List ℕ) → Asks words (Stdio name) → HasFault keys → after ≡ before → Runs words keys seal before after BadKeys
-      no_seal : (command : Command) → Asks words command → HasKeys command keys → seal ≡ [] → after ≡ before → Runs words keys seal before after BadKeys
-      -- memory was wanted before anything was touched
-      unbegun : after ≡ before → Runs words keys seal before after OutOfMemory
-      init : (name : List ℕ) (status : Status) → Asks words (Init name) → seal ≢ []
-          → Inits taken moments name seal before.vault after.vault before.output after.output before.clock after.clock status → after.input ≡ before.input
-          → Runs words keys seal before after status
-      stdio : (name : List ℕ) (table : List Key) (status : Status) → Asks words (Stdio name) → keys_of keys ≡ Ok table → seal ≢ []
-          → Serves name table seal before after status → Runs words keys seal before after status
+    -- and the links that came back to a dial
+    module _ {N : Type 0} (came : N → Links) where
+      -- The words are judged first, then the keys, then the seal. Where they are refused nothing is touched.
+      pub data Runs (words : List (List ℕ)) (keys seal : List ℕ) (before after : Outside V R W C N) : Status → Type 0 where
+        usage : (IsCommand words → ⊥) → after ≡ before → Runs words keys seal before after Usage
+        bad_keys : (name : List ℕ) → Asks words (Stdio name) → HasFault keys → after ≡ before → Runs words keys seal before after BadKeys
+        no_seal : (command : Command) → Asks words command → HasKeys command keys → seal ≡ [] → after ≡ before → Runs words keys seal before after BadKeys
+        -- memory was wanted before anything was touched
+        unbegun : after ≡ before → Runs words keys seal before after OutOfMemory
+        init : (name : List ℕ) (status : Status) → Asks words (Init name) → seal ≢ []
+            → Inits taken moments name seal before.vault after.vault before.output after.output before.clock after.clock status
+            → after.input ≡ before.input → after.dial ≡ before.dial → Runs words keys seal before after status
+        stdio : (name : List ℕ) (table : List Key) (status : Status) → Asks words (Stdio name) → keys_of keys ≡ Ok table → seal ≢ []
+            → Serves name table seal before.vault after.vault before.input after.input before.output after.output before.clock after.clock status
+            → after.dial ≡ before.dial → Runs words keys seal before after status
+        look : (u : Url) (q : Question) (status : Status) → Asks words (Looking u q) → seal ≢ []
+            → Looks taken came seal u q before.output after.output before.dial after.dial status
+            → after ≡ outside before.vault before.input after.output before.clock after.dial → Runs words keys seal before after status
 
     -- ---- the headline
 
-    -- the calls that were made for what was read of the input, whose answers are those on the output; or none, and neither was touched
-    pub data IsMade (name keys seal : List ℕ) (before after : Outside V R W C) : List Call → Type 0 where
-      none : after.input ≡ before.input → after.output ≡ before.output → IsMade name keys seal before after []
-      talked : (table : List Key) (desk desk' : OneDeskView V (List ℕ)) (end : SessionEnd) → keys_of keys ≡ Ok table → after.vault ≡ desk'.gate.state.line.vault
-          → (talks : Talks name table seal desk desk' before.input after.input before.output after.output before.clock after.clock end) → IsMade name keys seal before after (calls_in talks)
+    module _ {N : Type 0} where
+      -- the calls that were made for what was read of the input, whose answers are those on the output; or none, and neither was touched
+      pub data IsMade (name keys seal : List ℕ) (before after : Outside V R W C N) : List Call → Type 0 where
+        none : after.input ≡ before.input → after.output ≡ before.output → IsMade name keys seal before after []
+        talked : (table : List Key) (desk desk' : OneDeskView V (List ℕ)) (end : SessionEnd) → keys_of keys ≡ Ok table → after.vault ≡ desk'.gate.state.line.vault
+            → (talks : Talks name table seal desk desk' before.input after.input before.output after.output before.clock after.clock end) → IsMade name keys seal before after (calls_in talks)
 
-    -- the headline holds of them, whatever was kept first, and whatever lives led from there to what is kept
-    pub record HasLine (name keys seal : List ℕ) (d : Disk) (k : Kept) (before after : Outside V R W C) : Type 0 where
-      pub calls : List Call
-      pub made : IsMade name keys seal before after calls
-      pub keeps : (first : Kept) (lives : List Life) → IsKept first → Lives first lives k → KeepsLine name seal first lives k calls disk count left d before.vault after.vault
+      -- the headline holds of them, whatever was kept first, and whatever lives led from there to what is kept
+      pub record HasLine (name keys seal : List ℕ) (d : Disk) (k : Kept) (before after : Outside V R W C N) : Type 0 where
+        pub calls : List Call
+        pub made : IsMade name keys seal before after calls
+        pub keeps : (first : Kept) (lives : List Life) → IsKept first → Lives first lives k → KeepsLine name seal first lives k calls disk count left d before.vault after.vault
 
-    -- where the words ask to serve a repository, and its files stand for what is kept
-    abbrev pub Keeps : List (List ℕ) → List ℕ → List ℕ → Outside V R W C → Outside V R W C → Type 0
-    Keeps words keys seal before after = (name : List ℕ) → Asks words (Stdio name)
-        → WhereTold (disk before.vault) (λ d. (k : Kept) → StandsKept name (is_seal_by seal) (files_now d) k → HasLine name keys seal d k before after)
+      -- where the words ask to serve a repository, and its files stand for what is kept
+      abbrev pub Keeps : List (List ℕ) → List ℕ → List ℕ → Outside V R W C N → Outside V R W C N → Type 0
+      Keeps words keys seal before after = (name : List ℕ) → Asks words (Stdio name)
+          → WhereTold (disk before.vault) (λ d. (k : Kept) → StandsKept name (is_seal_by seal) (files_now d) k → HasLine name keys seal d k before after)

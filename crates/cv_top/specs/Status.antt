@@ -1,5 +1,6 @@
 -- How the program ends: its exit status, and the line on standard error.
 use Rattle.std.specs.Prelude.{ℕ, List, [], ◌++◌, codes}
+use Rattle.cv_base.specs.ObjectId.{id_text}
 use Rattle.cv_keys.specs.declared.key_fault.KeyFault.{KeyFault}
 use Rattle.cv_keys.specs.declared.key_fault.KeyFault.TheVariants as key_fault
 use Rattle.cv_swap.specs.declared.init_fault.InitFault.{InitFault}
@@ -8,10 +9,18 @@ use Rattle.cv_swap.specs.declared.open_fault.OpenFault.{OpenFault}
 use Rattle.cv_swap.specs.declared.open_fault.OpenFault.TheVariants as open_fault
 use Rattle.cv_session.specs.declared.session_end.SessionEnd.{SessionEnd}
 use Rattle.cv_session.specs.declared.session_end.SessionEnd.TheVariants as session_end
+use Rattle.cv_resolver.specs.declared.found.ClientFault.{ClientFault}
+use Rattle.cv_resolver.specs.declared.found.ClientFault.TheVariants as client_fault
+use Rattle.cv_client.specs.declared.ask_fault.AskFault.{AskFault}
+use Rattle.cv_client.specs.declared.ask_fault.AskFault.TheVariants as ask_fault
+use Rattle.cv_top.specs.declared.client_fault.LookFault.{LookFault}
+use Rattle.cv_top.specs.declared.client_fault.LookFault.TheVariants as look
+use Rattle.cv_top.specs.declared.client_fault.ServedFault.{ServedFault}
+use Rattle.cv_top.specs.declared.client_fault.ServedFault.TheVariants as served
 use Rattle.cv_top.specs.declared.status.RepositoryFault.{RepositoryFault}
 use Rattle.cv_top.specs.declared.status.RepositoryFault.TheVariants as repository
 use Rattle.cv_top.specs.declared.status.Status.{Status}
-use Rattle.cv_top.specs.declared.status.Status.TheVariants.{Done, Usage, Repository, InputFailed, OutputFailed, StoreFailed, JournalFull, BadRequest, BadKeys, OutOfMemory}
+use Rattle.cv_top.specs.declared.status.Status.TheVariants.{Done, Usage, Repository, InputFailed, OutputFailed, StoreFailed, LinkFailed, JournalFull, NoAnswer, Served, BadReply, BadRequest, BadKeys, OutOfMemory}
 
 -- ---- exit statuses and lines
 
@@ -22,7 +31,11 @@ code_of (Repository fault) = 3
 code_of InputFailed = 5
 code_of OutputFailed = 6
 code_of StoreFailed = 7
+code_of LinkFailed = 8
 code_of JournalFull = 9
+code_of (NoAnswer fault) = 10
+code_of (Served fault) = 11
+code_of BadReply = 12
 code_of BadRequest = 14
 code_of BadKeys = 16
 code_of OutOfMemory = 70
@@ -38,6 +51,25 @@ text_of repository.BadHistory = codes "bad history"
 text_of repository.BadEpoch = codes "bad epoch"
 text_of repository.EpochsSpent = codes "epochs spent"
 
+abbrev pub look_text_of : LookFault → List ℕ
+look_text_of look.NotFound = codes "not found"
+look_text_of look.NotDirectory = codes "not a directory"
+look_text_of look.NotFile = codes "not a file"
+look_text_of look.TooManyLinks = codes "too many links"
+
+abbrev pub served_text_of : ServedFault → List ℕ
+served_text_of served.BadManifest = codes "bad manifest"
+served_text_of (served.BadObject id) = codes "bad object "
+served_text_of (served.BadCatalogue id) = codes "bad catalogue "
+served_text_of (served.NotServed id) = codes "not served "
+
+-- the text of the object's id
+abbrev pub object_text_of : ServedFault → List ℕ
+object_text_of served.BadManifest = []
+object_text_of (served.BadObject id) = id_text id
+object_text_of (served.BadCatalogue id) = id_text id
+object_text_of (served.NotServed id) = id_text id
+
 -- what the line says, and of what
 abbrev pub what_of : Status → List ℕ
 what_of Done = []
@@ -46,13 +78,18 @@ what_of (Repository fault) = codes "repository: "
 what_of InputFailed = codes "input failed"
 what_of OutputFailed = codes "output failed"
 what_of StoreFailed = codes "store failed"
+what_of LinkFailed = codes "link failed"
 what_of JournalFull = codes "journal full"
+what_of (NoAnswer fault) = look_text_of fault
+what_of (Served fault) = served_text_of fault
+what_of BadReply = codes "bad reply"
 what_of BadRequest = codes "bad request"
 what_of BadKeys = codes "bad keys"
 what_of OutOfMemory = codes "out of memory"
 
 abbrev pub detail_of : Status → List ℕ
 detail_of (Repository fault) = text_of fault
+detail_of (Served fault) = object_text_of fault
 detail_of other = []
 
 -- a line of the program: its name, what is said, and of what
@@ -98,3 +135,22 @@ end_status session_end.ReadFault = InputFailed
 end_status session_end.WriteFault = OutputFailed
 end_status session_end.JournalFull = JournalFull
 end_status session_end.NoMemory = OutOfMemory
+
+-- where a client refused what it was given, or found nothing
+abbrev pub refused_status : ClientFault → Status
+refused_status client_fault.NotFound = NoAnswer look.NotFound
+refused_status client_fault.NotDirectory = NoAnswer look.NotDirectory
+refused_status client_fault.NotFile = NoAnswer look.NotFile
+refused_status client_fault.TooManyLinks = NoAnswer look.TooManyLinks
+refused_status (client_fault.BadObject id found) = Served (served.BadObject id)
+refused_status (client_fault.BadCatalogue id) = Served (served.BadCatalogue id)
+refused_status (client_fault.NotServed id) = Served (served.NotServed id)
+refused_status client_fault.NoMemory = OutOfMemory
+
+-- where a question to a server has no answer
+abbrev pub ask_status : AskFault → Status
+ask_status ask_fault.LinkFailed = LinkFailed
+ask_status ask_fault.BadReply = BadReply
+ask_status ask_fault.BadManifest = Served served.BadManifest
+ask_status (ask_fault.Refused fault) = refused_status fault
+ask_status ask_fault.NoMemory = OutOfMemory

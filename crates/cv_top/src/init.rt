@@ -3,11 +3,12 @@ ghost use Rattle.std.specs.Prelude.{◌≡◌, ◌≢◌, IsErr, OnOk};
 ghost use Rattle.cv_base.specs.Counts.{HasCause};
 ghost use Rattle.cv_ports.specs.Streams.{onto, Wrote};
 ghost use Rattle.cv_top.specs.Runs.{Inits, first_line};
-ghost use Rattle.cv_top.specs.declared.status.Status.TheVariants.{InputFailed, OutputFailed, StoreFailed};
+ghost use Rattle.cv_top.specs.declared.status.Status.TheVariants.{InputFailed, OutputFailed, StoreFailed, LinkFailed};
 
+use crate::print::print;
 use crate::status::Status;
 use cv_base::Name;
-use cv_ports::{Clock, Failed, Sink, write_all};
+use cv_ports::{Clock, Failed, Sink};
 use cv_seal::KeyedHash;
 use cv_swap::Line;
 use cv_vault::Vault;
@@ -20,8 +21,7 @@ fn write_first<W: Sink>(output: &mut W) -> Result<(), Failed>
     ensures passed { OnOk result (W.passed output.new ≡ W.taken output.new) }
     ensures cause { HasCause (W.faults output.old) (W.faults output.new) (IsErr result) }
 {
-    write_all(output, b"revision 1\n".as_slice())?;
-    output.flush()
+    print(output, b"revision 1\n".as_slice())
 }
 
 /// Makes the first revision of a repository in the vault at the clock's moment, and says so on the output.
@@ -38,6 +38,7 @@ pub(crate) fn init<V: Vault + Drop, W: Sink, C: Clock>(
     ensures reads { result.0 ≢ InputFailed }
     ensures writes { HasCause (W.faults output.old) (W.faults output.new) (result.0 ≡ OutputFailed) }
     ensures stores { HasCause (V.faults vault) (V.faults result.1) (result.0 ≡ StoreFailed) }
+    ensures links { result.0 ≢ LinkFailed }
 {
     match Line::init(vault, alloc, name, signer, clock.now()) {
         Ok(vault) => match write_first(output) {

@@ -1,10 +1,15 @@
 //! The program cvkit over any outside.
 #![tactic(auto)]
 
+mod client_fault;
 #[cfg(test)]
 mod commit_tests;
 mod init;
+mod look;
+#[cfg(test)]
+mod look_tests;
 mod parts;
+mod print;
 mod program;
 mod seal;
 mod status;
@@ -19,6 +24,7 @@ mod test_runs;
 mod tests;
 mod words;
 
+pub use client_fault::{LookFault, ServedFault};
 pub use parts::Parts;
 pub use program::run;
 pub use status::{RepositoryFault, Status};

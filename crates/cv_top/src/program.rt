@@ -1,52 +1,52 @@
 //! The program's own call.
-ghost use Rattle.std.specs.Prelude.{◌≡◌, ◌≢◌, ◌⊎◌, ℕ, List, Ok, map, string_bytes};
+ghost use Rattle.std.specs.Prelude.{◌≡◌, ◌≢◌, ◌⊎◌, true, map, string_bytes};
 ghost use Rattle.cv_base.specs.Counts.{HasCause, Rose};
 ghost use Rattle.cv_ports.specs.Streams.{onto, Wrote};
-ghost use Rattle.cv_keys.specs.KeysText.{keys_of};
 ghost use Rattle.cv_top.specs.Complete.{IsSteady, Completes};
-ghost use Rattle.cv_top.specs.Runs.{Keeps, Runs, outside};
+ghost use Rattle.cv_top.specs.Looks.{Looks};
+ghost use Rattle.cv_top.specs.Runs.{Inits, Serves, Keeps, Runs, outside};
+ghost use Rattle.cv_top.specs.Sealed.{Sealed};
 ghost use Rattle.cv_top.specs.Status.{line_of};
-ghost use Rattle.cv_top.specs.Words.{Asks};
-ghost use Rattle.cv_top.specs.declared.status.Status.TheVariants.{InputFailed, OutputFailed, StoreFailed};
-ghost use Rattle.cv_top.specs.declared.words.Command.TheVariants.{Init, Stdio};
+ghost use Rattle.cv_top.specs.Tells.{IsQuestion, Tells, tells_of_tree};
+ghost use Rattle.cv_top.specs.declared.status.Status.TheVariants.{InputFailed, OutputFailed, StoreFailed, LinkFailed};
 
 use crate::init::init;
+use crate::look::look;
 use crate::parts::Parts;
 use crate::seal::{Identity, SealFault, read_seal};
 use crate::status::Status;
 use crate::stdio::serve;
 use crate::words::{Command, WordsFault, read_words};
 use cv_base::Name;
+use cv_client::Url;
 use cv_keys::KeyTable;
-use cv_ports::{Clock, Failed, Hold, Sink, Source};
+use cv_ports::{Clock, Dial, Failed, Hold, Sink, Source};
+use cv_resolver::Question;
 use cv_swap::laws::{opening_finds_what_is_kept, opening_keeps_what_is_kept};
 use cv_vault::Vault;
 use std::alloc::Global;
 
 /// Judges the seal, and then makes the repository.
-fn do_init<V: Vault + Drop, R: Source + Drop, W: Sink, C: Clock>(
+fn do_init<V: Vault + Drop, W: Sink, C: Clock>(
     alloc: Global,
     name: &Name,
     seal: &str,
     vault: V,
-    input: R,
     output: &mut W,
     clock: &mut C,
-) -> (Status, V, R)
-    ensures runs { (words : List (List ℕ)) (keys : List ℕ) → Asks words (Init name.now) → Runs V.disk V.count V.left V.faults R.left R.looks W.taken W.passed C.moments words keys seal.now
-        (outside vault input output.old clock.old) (outside result.1 result.2 output.new clock.new) result.0 }
+) -> (Status, V)
+    ensures does { Sealed seal.now ((result.1 ≡ vault) × (output.new ≡ output.old) × (clock.new ≡ clock.old))
+        (Inits V.disk V.count V.left W.taken C.moments name.now seal.now vault result.1 output.old output.new clock.old clock.new) result.0 }
     ensures flushed { result.0 ≢ OutputFailed → W.passed output.old ≡ W.taken output.old → W.passed output.new ≡ W.taken output.new }
-    ensures reads { HasCause (R.faults input) (R.faults result.2) (result.0 ≡ InputFailed) }
+    ensures reads { result.0 ≢ InputFailed }
     ensures writes { HasCause (W.faults output.old) (W.faults output.new) (result.0 ≡ OutputFailed) }
     ensures stores { HasCause (V.faults vault) (V.faults result.1) (result.0 ≡ StoreFailed) }
+    ensures links { result.0 ≢ LinkFailed }
 {
     match read_seal(alloc, seal) {
-        Ok(signer) => {
-            let (status, vault) = init(alloc, name, &signer, vault, output, clock);
-            (status, vault, input)
-        }
-        Err(SealFault::Empty) => (Status::BadKeys, vault, input),
-        Err(SealFault::NoMemory) => (Status::OutOfMemory, vault, input),
+        Ok(signer) => init(alloc, name, &signer, vault, output, clock),
+        Err(SealFault::Empty) => (Status::BadKeys, vault),
+        Err(SealFault::NoMemory) => (Status::OutOfMemory, vault),
     }
 }
 
@@ -62,12 +62,14 @@ fn do_stdio<V: Vault + Drop, R: Source + Drop, W: Sink, C: Clock, H: Hold>(
     clock: &mut C,
     hold: &H,
 ) -> (Status, V, R)
-    ensures runs { (words : List (List ℕ)) (keys : List ℕ) → Asks words (Stdio name.now) → keys_of keys ≡ Ok table.now → Runs V.disk V.count V.left V.faults R.left R.looks W.taken W.passed C.moments words keys seal.now
-        (outside vault input output.old clock.old) (outside result.1 result.2 output.new clock.new) result.0 }
+    ensures does { Sealed seal.now ((result.1 ≡ vault) × (result.2 ≡ input) × (output.new ≡ output.old) × (clock.new ≡ clock.old))
+        (Serves V.disk V.count V.left V.faults R.left R.looks W.taken W.passed C.moments name.now table.now seal.now
+        vault result.1 input result.2 output.old output.new clock.old clock.new) result.0 }
     ensures flushed { result.0 ≢ OutputFailed → W.passed output.old ≡ W.taken output.old → W.passed output.new ≡ W.taken output.new }
     ensures reads { HasCause (R.faults input) (R.faults result.2) (result.0 ≡ InputFailed) }
     ensures writes { HasCause (W.faults output.old) (W.faults output.new) (result.0 ≡ OutputFailed) }
     ensures stores { HasCause (V.faults vault) (V.faults result.1) (result.0 ≡ StoreFailed) }
+    ensures links { result.0 ≢ LinkFailed }
 {
     let repository = match Identity::read(alloc, name, seal) {
         Ok(repository) => repository,
@@ -82,8 +84,32 @@ fn do_stdio<V: Vault + Drop, R: Source + Drop, W: Sink, C: Clock, H: Hold>(
     )
 }
 
+/// Judges the seal, and then asks a server and prints the answer.
+fn do_look<W: Sink, N: Dial>(
+    alloc: Global,
+    url: &Url,
+    question: Question,
+    seal: &str,
+    output: &mut W,
+    dial: &mut N,
+) -> Status
+    ensures does { Sealed seal.now ((output.new ≡ output.old) × (dial.new ≡ dial.old))
+        (Looks W.taken N.came seal.now url.now question output.old output.new dial.old dial.new) result }
+    ensures flushed { result ≢ OutputFailed → W.passed output.old ≡ W.taken output.old → W.passed output.new ≡ W.taken output.new }
+    ensures reads { result ≢ InputFailed }
+    ensures writes { HasCause (W.faults output.old) (W.faults output.new) (result ≡ OutputFailed) }
+    ensures stores { result ≢ StoreFailed }
+    ensures links { result ≡ LinkFailed → Rose 1 (N.faults dial.old) (N.faults dial.new) }
+{
+    match read_seal(alloc, seal) {
+        Ok(signer) => look(alloc, url, &signer, question, output, dial),
+        Err(SealFault::Empty) => Status::BadKeys,
+        Err(SealFault::NoMemory) => Status::OutOfMemory,
+    }
+}
+
 /// Does what the words ask for.
-fn do_command<V: Vault + Drop, R: Source + Drop, W: Sink, C: Clock, H: Hold>(
+fn do_command<V: Vault + Drop, R: Source + Drop, W: Sink, C: Clock, N: Dial, H: Hold>(
     alloc: Global,
     words: &[String],
     keys: &str,
@@ -92,23 +118,32 @@ fn do_command<V: Vault + Drop, R: Source + Drop, W: Sink, C: Clock, H: Hold>(
     input: R,
     output: &mut W,
     clock: &mut C,
+    dial: &mut N,
     hold: &H,
 ) -> (Status, V, R)
-    ensures runs { Runs V.disk V.count V.left V.faults R.left R.looks W.taken W.passed C.moments (map string_bytes words.now) keys.now seal.now
-        (outside vault input output.old clock.old) (outside result.1 result.2 output.new clock.new) result.0 }
+    ensures runs { Runs V.disk V.count V.left V.faults R.left R.looks W.taken W.passed C.moments N.came (map string_bytes words.now) keys.now seal.now
+        (outside vault input output.old clock.old dial.old) (outside result.1 result.2 output.new clock.new dial.new) result.0 }
     ensures flushed { result.0 ≢ OutputFailed → W.passed output.old ≡ W.taken output.old → W.passed output.new ≡ W.taken output.new }
     ensures reads { HasCause (R.faults input) (R.faults result.2) (result.0 ≡ InputFailed) }
     ensures writes { HasCause (W.faults output.old) (W.faults output.new) (result.0 ≡ OutputFailed) }
     ensures stores { HasCause (V.faults vault) (V.faults result.1) (result.0 ≡ StoreFailed) }
+    ensures links { result.0 ≡ LinkFailed → Rose 1 (N.faults dial.old) (N.faults dial.new) }
 {
     match read_words(alloc, words) {
-        Ok(Command::Init(name)) => do_init(alloc, &name, seal, vault, input, output, clock),
+        Ok(Command::Init(name)) => {
+            let (status, vault) = do_init(alloc, &name, seal, vault, output, clock);
+            (status, vault, input)
+        }
         Ok(Command::Stdio(name)) => match KeyTable::read(alloc, keys.as_bytes()) {
             Ok(table) => do_stdio(
                 alloc, &name, &table, seal, vault, input, output, clock, hold,
             ),
             Err(fault) => (Status::of_keys(fault), vault, input),
         },
+        Ok(Command::Look(url, question)) => {
+            let status = do_look(alloc, &url, question, seal, output, dial);
+            (status, vault, input)
+        }
         Err(WordsFault::Usage) => (Status::Usage, vault, input),
         Err(WordsFault::NoMemory) => (Status::OutOfMemory, vault, input),
     }
@@ -130,18 +165,20 @@ fn say<E: Sink>(errors: &mut E, status: Status)
 ///
 /// `init <repository>` makes the first revision of a repository in the vault, and prints `revision 1`. `stdio <repository>`
 /// opens it, reads requests (RFC 9112) from the input and answers them on the output: it serves the manifest and the
-/// objects, grants and ends leases on the repository's paths, stores payloads, and makes commits.
-pub fn run<V: Vault + Drop, R: Source + Drop, W: Sink, E: Sink, C: Clock, H: Hold>(
+/// objects, grants and ends leases on the repository's paths, stores payloads, and makes commits. `ls`, `stat` and `cat`,
+/// each with the URL under which a repository is served and a path, print the names of a directory, a line on an entry, or
+/// the content of a file, as they are in the tree of the manifest that is served.
+pub fn run<V: Vault + Drop, R: Source + Drop, W: Sink, E: Sink, C: Clock, N: Dial, H: Hold>(
     alloc: Global,
     words: &[String],
-    parts: Parts<V, R, W, E, C, H>,
-) -> (Status, Parts<V, R, W, E, C, H>)
-    ensures runs { Runs V.disk V.count V.left V.faults R.left R.looks W.taken W.passed C.moments (map string_bytes words.now) (string_bytes parts.keys) (string_bytes parts.seal)
-        (outside parts.vault parts.input parts.output parts.clock) (outside result.1.vault result.1.input result.1.output result.1.clock) result.0 }
+    parts: Parts<V, R, W, E, C, N, H>,
+) -> (Status, Parts<V, R, W, E, C, N, H>)
+    ensures runs { Runs V.disk V.count V.left V.faults R.left R.looks W.taken W.passed C.moments N.came (map string_bytes words.now) (string_bytes parts.keys) (string_bytes parts.seal)
+        (outside parts.vault parts.input parts.output parts.clock parts.dial) (outside result.1.vault result.1.input result.1.output result.1.clock result.1.dial) result.0 }
 
     // The headline: what is kept stays on one line of revisions, whatever is asked, and whenever the program is cut.
     ensures headline { Keeps V.disk V.count V.left V.faults R.left R.looks W.taken W.passed C.moments (map string_bytes words.now) (string_bytes parts.keys) (string_bytes parts.seal)
-        (outside parts.vault parts.input parts.output parts.clock) (outside result.1.vault result.1.input result.1.output result.1.clock) }
+        (outside parts.vault parts.input parts.output parts.clock parts.dial) (outside result.1.vault result.1.input result.1.output result.1.clock result.1.dial) }
     ensures texts { (result.1.keys ≡ parts.keys) × (result.1.seal ≡ parts.seal) × (result.1.hold ≡ parts.hold) }
 
     // Where the output didn't fail, all that it took is passed on.
@@ -151,10 +188,15 @@ pub fn run<V: Vault + Drop, R: Source + Drop, W: Sink, E: Sink, C: Clock, H: Hol
     ensures reads { HasCause (R.faults parts.input) (R.faults result.1.input) (result.0 ≡ InputFailed) }
     ensures writes { HasCause (W.faults parts.output) (W.faults result.1.output) (result.0 ≡ OutputFailed) }
     ensures stores { HasCause (V.faults parts.vault) (V.faults result.1.vault) (result.0 ≡ StoreFailed) }
+    ensures links { result.0 ≡ LinkFailed → Rose 1 (N.faults parts.dial) (N.faults result.1.dial) }
 
-    // Where no count rose, the program does its work, or wants memory.
+    // Where no count rose, `init` and `stdio` do their work, or want memory.
     ensures completes { IsSteady (R.faults parts.input) (R.faults result.1.input) → IsSteady (W.faults parts.output) (W.faults result.1.output) → IsSteady (V.faults parts.vault) (V.faults result.1.vault)
         → Completes (map string_bytes words.now) (string_bytes parts.keys) (string_bytes parts.seal) (V.disk parts.vault) result.0 }
+
+    // Whatever its links give: what a client's command tells is so in the tree of the head that is served.
+    ensures tells { IsQuestion (map string_bytes words.now) → tells_of_tree result.0 ≡ true
+        → Tells W.taken (map string_bytes words.now) (string_bytes parts.seal) (N.came parts.dial) (N.came result.1.dial) parts.output result.1.output result.0 }
 
     // The line of the status is written whole, unless the sink failed. That changes no status.
     ensures line { (E.taken result.1.errors ≡ onto (E.taken parts.errors) (line_of result.0)) ⊎ Rose 1 (E.faults parts.errors) (E.faults result.1.errors) }
@@ -170,6 +212,7 @@ pub fn run<V: Vault + Drop, R: Source + Drop, W: Sink, E: Sink, C: Clock, H: Hol
         mut clock,
         keys,
         seal,
+        mut dial,
         hold,
     } = parts;
     let (status, vault, input) = do_command(
@@ -181,6 +224,7 @@ pub fn run<V: Vault + Drop, R: Source + Drop, W: Sink, E: Sink, C: Clock, H: Hol
         input,
         &mut output,
         &mut clock,
+        &mut dial,
         &hold,
     );
     say(&mut errors, status);
@@ -192,6 +236,7 @@ pub fn run<V: Vault + Drop, R: Source + Drop, W: Sink, E: Sink, C: Clock, H: Hol
         clock,
         keys,
         seal,
+        dial,
         hold,
     };
     (status, parts)

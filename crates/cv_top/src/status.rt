@@ -2,10 +2,13 @@
 ghost use Rattle.std.specs.Prelude.{◌≡◌, [], OnOk, IsErr};
 ghost use Rattle.cv_base.specs.Counts.{HasCause};
 ghost use Rattle.cv_ports.specs.Streams.{onto, Wrote};
-ghost use Rattle.cv_top.specs.Status.{code_of, text_of, what_of, detail_of, said, line_of, keys_status, init_status, open_status, end_status};
+ghost use Rattle.cv_top.specs.Status.{code_of, text_of, what_of, detail_of, said, line_of, keys_status, init_status, open_status, end_status, ask_status, refused_status};
 
+use crate::client_fault::{LookFault, ServedFault};
+use cv_client::AskFault;
 use cv_keys::KeyFault;
 use cv_ports::{Failed, Sink, write_all};
+use cv_resolver::ClientFault;
 use cv_session::SessionEnd;
 use cv_swap::{InitFault, OpenFault};
 
@@ -67,8 +70,16 @@ pub enum Status {
     OutputFailed,
     /// The vault failed when a repository was made or opened.
     StoreFailed,
+    /// No link to a server could be opened, or one failed.
+    LinkFailed,
     /// The journal of the gate was full, and a request was answered so.
     JournalFull,
+    /// There is no answer to a question in the tree that is served.
+    NoAnswer(LookFault),
+    /// What a server serves is no repository under the seal, or lacks an object.
+    Served(ServedFault),
+    /// A server wrote no reply that answers the request.
+    BadReply,
     /// A request that no further one can follow: it was faulty, or was cut.
     BadRequest,
     /// The keys text has a fault, or the seal is empty.
@@ -131,6 +142,35 @@ impl Status {
         }
     }
 
+    /// How the program ends where a client refuses what it was given, or finds nothing.
+    fn of_client(fault: ClientFault) -> Status
+        ensures { result ≡ refused_status fault }
+    {
+        match fault {
+            ClientFault::NotFound => Status::NoAnswer(LookFault::NotFound),
+            ClientFault::NotDirectory => Status::NoAnswer(LookFault::NotDirectory),
+            ClientFault::NotFile => Status::NoAnswer(LookFault::NotFile),
+            ClientFault::TooManyLinks => Status::NoAnswer(LookFault::TooManyLinks),
+            ClientFault::BadObject { id, .. } => Status::Served(ServedFault::BadObject(id)),
+            ClientFault::BadCatalogue(id) => Status::Served(ServedFault::BadCatalogue(id)),
+            ClientFault::NotServed(id) => Status::Served(ServedFault::NotServed(id)),
+            ClientFault::NoMemory => Status::OutOfMemory,
+        }
+    }
+
+    /// How the program ends where a question to a server has no answer.
+    pub(crate) fn of_ask(fault: AskFault) -> Status
+        ensures { result ≡ ask_status fault }
+    {
+        match fault {
+            AskFault::LinkFailed => Status::LinkFailed,
+            AskFault::BadReply => Status::BadReply,
+            AskFault::BadManifest => Status::Served(ServedFault::BadManifest),
+            AskFault::Refused(fault) => Status::of_client(fault),
+            AskFault::NoMemory => Status::OutOfMemory,
+        }
+    }
+
     /// The exit status of the program.
     pub fn code(self) -> u8
         ensures { result ≡ code_of self }
@@ -142,7 +182,11 @@ impl Status {
             Status::InputFailed => 5,
             Status::OutputFailed => 6,
             Status::StoreFailed => 7,
+            Status::LinkFailed => 8,
             Status::JournalFull => 9,
+            Status::NoAnswer(_) => 10,
+            Status::Served(_) => 11,
+            Status::BadReply => 12,
             Status::BadRequest => 14,
             Status::BadKeys => 16,
             Status::OutOfMemory => 70,
@@ -160,21 +204,41 @@ impl Status {
             Status::InputFailed => "input failed",
             Status::OutputFailed => "output failed",
             Status::StoreFailed => "store failed",
+            Status::LinkFailed => "link failed",
             Status::JournalFull => "journal full",
+            Status::NoAnswer(fault) => fault.text(),
+            Status::Served(fault) => fault.text(),
+            Status::BadReply => "bad reply",
             Status::BadRequest => "bad request",
             Status::BadKeys => "bad keys",
             Status::OutOfMemory => "out of memory",
         }
     }
 
-    /// Of what it says that.
-    fn detail(self) -> &'static str
-        ensures { result.now ≡ detail_of self }
+    /// Writes of what the line says that.
+    fn write_detail<E: Sink>(self, errors: &mut E) -> Result<(), Failed>
+        ensures whole { OnOk result (E.taken errors.new ≡ onto (E.taken errors.old) (detail_of self)) }
+        ensures part { Wrote (E.taken errors.old) (E.taken errors.new) (detail_of self) }
+        ensures cause { HasCause (E.faults errors.old) (E.faults errors.new) (IsErr result) }
     {
         match self {
-            Status::Repository(fault) => fault.text(),
-            _ => "",
+            Status::Repository(fault) => write_all(errors, fault.text().as_bytes()),
+            Status::Served(fault) => fault.write_object(errors),
+            _ => write_all(errors, b"".as_slice()),
         }
+    }
+
+    /// Writes a line of the program: its name, what is said, and of what.
+    fn write_said<E: Sink>(self, errors: &mut E) -> Result<(), Failed>
+        ensures whole { OnOk result (E.taken errors.new ≡ onto (E.taken errors.old) (said (what_of self) (detail_of self))) }
+        ensures part { Wrote (E.taken errors.old) (E.taken errors.new) (said (what_of self) (detail_of self)) }
+        ensures cause { HasCause (E.faults errors.old) (E.faults errors.new) (IsErr result) }
+    {
+        write_all(errors, b"cvkit: ".as_slice())?;
+        write_all(errors, self.what().as_bytes())?;
+        self.write_detail(errors)?;
+        write_all(errors, b"\n".as_slice())?;
+        Ok(())
     }
 
     /// Writes the line of the status on standard error, which `Done` has none of. It takes no memory.
@@ -185,20 +249,7 @@ impl Status {
     {
         match self {
             Status::Done => Ok(()),
-            status => write_said(errors, status.what(), status.detail()),
+            status => status.write_said(errors),
         }
     }
-}
-
-/// Writes a line of the program: its name, what is said, and of what.
-fn write_said<E: Sink>(errors: &mut E, what: &str, detail: &str) -> Result<(), Failed>
-    ensures whole { OnOk result (E.taken errors.new ≡ onto (E.taken errors.old) (said what.now detail.now)) }
-    ensures part { Wrote (E.taken errors.old) (E.taken errors.new) (said what.now detail.now) }
-    ensures cause { HasCause (E.faults errors.old) (E.faults errors.new) (IsErr result) }
-{
-    write_all(errors, b"cvkit: ".as_slice())?;
-    write_all(errors, what.as_bytes())?;
-    write_all(errors, detail.as_bytes())?;
-    write_all(errors, b"\n".as_slice())?;
-    Ok(())
 }

@@ -2,8 +2,8 @@
 ghost use Rattle.std.specs.Prelude.{◌≡◌, ◌≢◌, ◌≤◌};
 ghost use Rattle.cv_base.specs.Counts.{HasCause};
 ghost use Rattle.cv_session.specs.declared.session_end.SessionEnd.TheVariants.{ReadFault, WriteFault};
-ghost use Rattle.cv_top.specs.Runs.{Serves, Talks, outside};
-ghost use Rattle.cv_top.specs.declared.status.Status.TheVariants.{InputFailed, OutputFailed, StoreFailed};
+ghost use Rattle.cv_top.specs.Runs.{Serves, Talks};
+ghost use Rattle.cv_top.specs.declared.status.Status.TheVariants.{InputFailed, OutputFailed, StoreFailed, LinkFailed};
 
 use crate::seal::Identity;
 use crate::status::Status;
@@ -58,11 +58,12 @@ pub(crate) fn serve<V: Vault + Drop, R: Source + Drop, W: Sink, C: Clock, H: Hol
     requires named { served.name ≡ repository.name }
     requires signed { served.signer ≡ repository.signer }
     ensures serves { Serves V.disk V.count V.left V.faults R.left R.looks W.taken W.passed C.moments repository.name keys.now repository.signer
-        (outside vault input output.old clock.old) (outside result.1 result.2 output.new clock.new) result.0 }
+        vault result.1 input result.2 output.old output.new clock.old clock.new result.0 }
     ensures flushed { result.0 ≢ OutputFailed → W.passed output.old ≡ W.taken output.old → W.passed output.new ≡ W.taken output.new }
     ensures reads { HasCause (R.faults input) (R.faults result.2) (result.0 ≡ InputFailed) }
     ensures writes { HasCause (W.faults output.old) (W.faults output.new) (result.0 ≡ OutputFailed) }
     ensures stores { HasCause (V.faults vault) (V.faults result.1) (result.0 ≡ StoreFailed) }
+    ensures links { result.0 ≢ LinkFailed }
 {
     alone_is_in_order();
     leases_stay_apart();

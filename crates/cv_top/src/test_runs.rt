@@ -3,7 +3,7 @@ ghost use Rattle.std.specs.Prelude.{◌≡◌, ◌+◌, ◌∷◌, [], IfOk};
 
 use crate::{Parts, Status, run};
 use cv_base::NoMemory;
-use cv_ports::{MemoryClock, MemorySink, MemorySource, NoHold};
+use cv_ports::{MemoryClock, MemoryDial, MemoryLink, MemorySink, MemorySource, NoHold};
 use cv_vault::{MemoryVault, Mortal, Vault};
 use std::alloc::Global;
 
@@ -33,12 +33,13 @@ pub(crate) static FILES: [(&str, &[u8]); 4] = [
     ),
 ];
 
-/// How the program ended, what it wrote, and its line on the status.
+/// How the program ended, what it wrote, its line on the status, and all that links to servers took.
 #[derive(Drop)]
 pub(crate) struct Ended {
     pub(crate) status: Status,
     pub(crate) output: Vec<u8>,
     pub(crate) errors: Vec<u8>,
+    pub(crate) requests: Vec<u8>,
 }
 
 impl Ended {
@@ -99,10 +100,11 @@ pub(crate) struct Around {
     pub(crate) seconds: (u32, u32, u32),
     pub(crate) input: Vec<u64>,
     pub(crate) output: Vec<u64>,
+    pub(crate) links: Vec<MemoryLink>,
 }
 
 impl Around {
-    /// Two keys, a seal, one moment, and nothing fails.
+    /// Two keys, a seal, one moment, no link, and nothing fails.
     pub(crate) fn usual(alloc: Global) -> Around {
         Around {
             keys: KEYS,
@@ -110,8 +112,19 @@ impl Around {
             seconds: (0, 0, 0),
             input: Vec::new(alloc),
             output: Vec::new(alloc),
+            links: Vec::new(alloc),
         }
     }
+}
+
+/// All that the links took that came back to a dial.
+fn requests_of(alloc: Global, dial: MemoryDial) -> Result<Vec<u8>, NoMemory> {
+    let links = dial.into_links(alloc)?;
+    let mut requests = Vec::new(alloc);
+    for link in &links {
+        requests.extend_from_slice(link.writes.as_slice())?;
+    }
+    Ok(requests)
 }
 
 /// The words of a run that makes the one repository, and of one that serves it.
@@ -139,6 +152,7 @@ pub(crate) fn run_on(
         clock: MemoryClock::new(moments_at(alloc, around.seconds)?),
         keys: String::from_str(alloc, around.keys)?,
         seal: String::from_str(alloc, around.seal)?,
+        dial: MemoryDial::new(alloc, around.links, Vec::new(alloc))?,
         hold: NoHold,
     };
     let (status, parts) = run(alloc, &owned, parts);
@@ -146,6 +160,7 @@ pub(crate) fn run_on(
         status,
         output: parts.output.into_vec(),
         errors: parts.errors.into_vec(),
+        requests: requests_of(alloc, parts.dial)?,
     };
     Ok((ended, parts.vault))
 }

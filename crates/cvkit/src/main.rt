@@ -3,7 +3,9 @@
 
 use cv_base::NoMemory;
 use cv_ports::NoHold;
-use cv_real::{FolderVault, StreamSink, StreamSource, SystemClock, program_words, text_or_empty};
+use cv_real::{
+    FolderVault, StreamSink, StreamSource, SystemClock, TcpDial, program_words, text_or_empty,
+};
 use cv_top::{Parts, Status, run};
 use std::process::ExitCode;
 
@@ -24,6 +26,7 @@ fn run_here(rt: HostRuntime) -> Result<Status, NoMemory> {
         clock: SystemClock::new(rt),
         keys: text_or_empty(&rt, "cvkit.keys")?,
         seal: text_or_empty(&rt, "cvkit.seal")?,
+        dial: TcpDial::new(rt),
         hold: NoHold,
     };
     let (status, _parts) = run(rt.alloc(), &words, parts);

@@ -5,7 +5,7 @@ use Rattle.cv_top.proofs.Serving.{serves_kept}
 use Rattle.cv_top.proofs.stdio.serve.Goals as goal
 
 pub returns-in-Err-clause-serves : goal.returns-in-Err-clause-serves
-returns-in-Err-clause-serves g c = rw c.of_open.ensures (unopened c.in-Err.fault c.in-Err.ensures.opens refl)
+returns-in-Err-clause-serves g c = rw c.of_open.ensures (unopened c.in-Err.fault c.in-Err.ensures.opens refl refl refl)
 
 pub returns-clause-serves : goal.returns-clause-serves
 returns-clause-serves g c =

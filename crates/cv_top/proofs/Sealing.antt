@@ -1,0 +1,40 @@
+-- A run whose command judged the seal.
+use Rattle.std.proofs.Common.{◌≡◌, ℕ, List, refl}
+use Rattle.std.specs.declared.option.Option.{Option}
+use Rattle.std.specs.declared.result.Result.TheVariants.{Ok}
+use Rattle.cv_keys.specs.KeysText.{keys_of}
+use Rattle.cv_keys.specs.declared.key.Key.{Key}
+use Rattle.cv_ports.specs.Streams.{Look}
+use Rattle.cv_vault.specs.Disk.{Disk, Files}
+use Rattle.cv_resolver.specs.declared.question.Question.{Question}
+use Rattle.cv_client.specs.Exchange.{Links}
+use Rattle.cv_client.specs.declared.url.Url.{Url}
+use Rattle.cv_top.specs.Looks.{Looks}
+use Rattle.cv_top.specs.Runs.{Runs, Inits, Serves, outside, no_seal, unbegun as begun_not, init, stdio, look}
+use Rattle.cv_top.specs.Sealed.{Sealed, empty, unbegun, begun}
+use Rattle.cv_top.specs.Words.{Asks}
+use Rattle.cv_top.specs.declared.status.Status.{Status}
+use Rattle.cv_top.specs.declared.words.Command.TheVariants.{Init, Stdio, Look as Looking}
+
+module _ {V : Type 0} (disk : V → Option Disk) (count : V → ℕ) (left : V → ℕ → Files → Type 0)
+    {R W C N : Type 0} (faults : V → ℕ) (rest : R → Option (List ℕ)) (looks : R → Look → Type 0) (taken passed : W → Option (List ℕ)) (moments : C → Option (ℕ → ℕ)) (came : N → Links)
+    (words : List (List ℕ)) (keys seal : List ℕ) (v : V) (i : R) (o o' : W) (c : C) (n : N) where
+  module _ (v' : V) (c' : C) (name : List ℕ) where
+    pub runs_init : (status : Status) → Asks words (Init name) → Sealed seal ((v' ≡ v) × (o' ≡ o) × (c' ≡ c)) (Inits disk count left taken moments name seal v v' o o' c c') status
+        → Runs disk count left faults rest looks taken passed moments came words keys seal (outside v i o c n) (outside v' i o' c' n) status
+    runs_init status asks (empty none same) = no_seal (Init name) asks tt none (λ k. outside (same.0 k) i (same.1 k) (same.2 k) n)
+    runs_init status asks (unbegun same) = begun_not (λ k. outside (same.0 k) i (same.1 k) (same.2 k) n)
+    runs_init status asks (begun s some inits) = init name s asks some inits refl refl
+
+    pub runs_stdio : (i' : R) (status : Status) → Asks words (Stdio name) → (table : List Key) → keys_of keys ≡ Ok table
+        → Sealed seal ((v' ≡ v) × (i' ≡ i) × (o' ≡ o) × (c' ≡ c)) (Serves disk count left faults rest looks taken passed moments name table seal v v' i i' o o' c c') status
+        → Runs disk count left faults rest looks taken passed moments came words keys seal (outside v i o c n) (outside v' i' o' c' n) status
+    runs_stdio i' status asks table are (empty none same) = no_seal (Stdio name) asks (table, are) none (λ k. outside (same.0 k) (same.1 k) (same.2 k) (same.3 k) n)
+    runs_stdio i' status asks table are (unbegun same) = begun_not (λ k. outside (same.0 k) (same.1 k) (same.2 k) (same.3 k) n)
+    runs_stdio i' status asks table are (begun s some serves) = stdio name table s asks are some serves refl
+
+  pub runs_look : (n' : N) (status : Status) (u : Url) (q : Question) → Asks words (Looking u q) → Sealed seal ((o' ≡ o) × (n' ≡ n)) (Looks taken came seal u q o o' n n') status
+      → Runs disk count left faults rest looks taken passed moments came words keys seal (outside v i o c n) (outside v i o' c n') status
+  runs_look n' status u q asks (empty none same) = no_seal (Looking u q) asks tt none (λ k. outside v i (same.0 k) c (same.1 k))
+  runs_look n' status u q asks (unbegun same) = begun_not (λ k. outside v i (same.0 k) c (same.1 k))
+  runs_look n' status u q asks (begun s some looked) = look u q s asks some looked refl

@@ -1,0 +1,71 @@
+//! The commands of a client.
+ghost use Rattle.std.specs.Prelude.{◌≡◌, ◌≢◌, Err};
+ghost use Rattle.cv_base.specs.Counts.{HasCause, Rose};
+ghost use Rattle.cv_client.specs.declared.ask_fault.AskFault.TheVariants as ask_fault;
+ghost use Rattle.cv_top.specs.Looks.{Told, Prints, Looks};
+ghost use Rattle.cv_top.specs.declared.status.Status.TheVariants.{InputFailed, OutputFailed, StoreFailed, LinkFailed};
+
+use crate::print::print;
+use crate::status::Status;
+use cv_client::{AskFault, Url, answer, found_text, pin};
+use cv_ports::{Dial, Failed, Sink};
+use cv_resolver::{Found, Question};
+use cv_seal::KeyedHash;
+use std::alloc::Global;
+
+/// Asks a question at the head that is served under a URL.
+fn ask<N: Dial>(
+    alloc: Global,
+    url: &Url,
+    signer: &KeyedHash,
+    question: Question,
+    dial: &mut N,
+) -> Result<Found, AskFault>
+    ensures told { Told signer.now url.now question (N.came dial.old) (N.came dial.new) result }
+    ensures cause { result ≡ Err ask_fault.LinkFailed → Rose 1 (N.faults dial.old) (N.faults dial.new) }
+{
+    match pin(alloc, dial, url, signer) {
+        Ok(mut resolver) => answer(alloc, dial, url, &mut resolver, question),
+        Err(fault) => Err(fault),
+    }
+}
+
+/// Prints an answer.
+fn print_answer<W: Sink>(alloc: Global, found: Found, output: &mut W) -> Status
+    ensures prints { Prints W.taken found output.old output.new result }
+    ensures flushed { result ≢ OutputFailed → W.passed output.old ≡ W.taken output.old → W.passed output.new ≡ W.taken output.new }
+    ensures reads { result ≢ InputFailed }
+    ensures writes { HasCause (W.faults output.old) (W.faults output.new) (result ≡ OutputFailed) }
+    ensures stores { result ≢ StoreFailed }
+    ensures links { result ≢ LinkFailed }
+{
+    let Ok(text) = found_text(alloc, found) else {
+        return Status::OutOfMemory;
+    };
+    match print(output, text.as_slice()) {
+        Ok(()) => Status::Done,
+        Err(Failed) => Status::OutputFailed,
+    }
+}
+
+/// Asks a question at the head that is served under a URL, and prints the answer.
+pub(crate) fn look<W: Sink, N: Dial>(
+    alloc: Global,
+    url: &Url,
+    signer: &KeyedHash,
+    question: Question,
+    output: &mut W,
+    dial: &mut N,
+) -> Status
+    ensures looks { Looks W.taken N.came signer.now url.now question output.old output.new dial.old dial.new result }
+    ensures flushed { result ≢ OutputFailed → W.passed output.old ≡ W.taken output.old → W.passed output.new ≡ W.taken output.new }
+    ensures reads { result ≢ InputFailed }
+    ensures writes { HasCause (W.faults output.old) (W.faults output.new) (result ≡ OutputFailed) }
+    ensures stores { result ≢ StoreFailed }
+    ensures links { result ≡ LinkFailed → Rose 1 (N.faults dial.old) (N.faults dial.new) }
+{
+    match ask(alloc, url, signer, question, dial) {
+        Ok(found) => print_answer(alloc, found, output),
+        Err(fault) => Status::of_ask(fault),
+    }
+}

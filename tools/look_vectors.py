@@ -1,0 +1,74 @@
+#!/usr/bin/env python3
+"""Questions of a client for the tests of cv_top: what servers reply, what the links to them must take, and what is printed.
+
+The tree is that of the second revision of `session_vectors.py`: the file `/a` alone. A row of LOOKS is a command: its first word and
+its path, the replies of its links in their order, all the requests that these must take, the output, the status and the line.
+"""
+import line_vectors
+from cut_vectors import catalogues
+from line_vectors import literal, name, sha1
+from session_vectors import HEAD, HELLO, RECORD, REPOSITORY, SECOND_MANIFEST, WITH_FILE, octets, refusal
+from vectors import constant, settle, table
+
+ROOT = name(WITH_FILE, "C")
+FILE = name(HELLO)
+# The manifest with another last byte, one whose root is no catalogue, and a catalogue with another bit.
+RESEALED = SECOND_MANIFEST[:-1] + bytes([SECOND_MANIFEST[-1] ^ 1])
+ROOT_OF_FILE = line_vectors.manifest(2, HELLO, RECORD)
+CHANGED = WITH_FILE[:-1] + bytes([WITH_FILE[-1] ^ 1])
+
+
+def asked(path):
+    return f"GET /cvmfs/{REPOSITORY}/{path} HTTP/1.1\r\nHost: h\r\nConnection: close\r\nContent-Length: 0\r\n\r\n".encode()
+
+
+def digits(data):
+    return sha1(data).hex()
+
+
+# The replies that have a name in the tests, and the requests.
+REPLIES = {"MANIFEST": octets(SECOND_MANIFEST), "TREE": octets(WITH_FILE), "CONTENT": octets(HELLO), "ABSENT": refusal("404 Not Found")}
+FIRST, BOTH, ALL = [HEAD], [HEAD, ROOT], [HEAD, ROOT, FILE]
+REQUESTS = {"FIRST": FIRST, "BOTH": BOTH, "ALL": ALL}
+
+
+def requests(paths):
+    return literal(b"".join(map(asked, paths)))
+
+
+def look(verb, path, replies, paths, output=b"", code=0, line=""):
+    """The replies are those of links for the first paths: one that isn't there can't be dialled."""
+    said = f"cvkit: {line}\\n" if line else ""
+    given = "&[" + ", ".join(reply if reply in REPLIES else literal(reply) for reply in replies) + "]"
+    took = next((word for word, named in REQUESTS.items() if named == paths), None) or requests(paths)
+    return f'("{verb}", "{path}", {given}, {took}, {literal(output)}, {code}, "{said}")'
+
+
+LOOKS = [
+    look("ls", "/", ["MANIFEST", "TREE"], BOTH, b"a\n"),
+    look("stat", "/a", ["MANIFEST", "TREE"], BOTH, b"file 0644 0 0 6 %d\n" % line_vectors.TIME),
+    look("cat", "/a/", ["MANIFEST", "TREE", "CONTENT"], ALL, HELLO),
+    look("ls", "/a", ["MANIFEST", "TREE"], BOTH, code=10, line="not a directory"),
+    look("cat", "/b", ["MANIFEST", "TREE"], BOTH, code=10, line="not found"),
+    look("cat", "/", ["MANIFEST", "TREE"], BOTH, code=10, line="not a file"),
+    look("ls", "/", [octets(RESEALED)], FIRST, code=11, line="bad manifest"),
+    look("ls", "/", ["MANIFEST", octets(CHANGED)], BOTH, code=11, line=f"bad object {digits(WITH_FILE)}C"),
+    look("cat", "/a", ["MANIFEST", "TREE", octets(b"hellO\n")], ALL, code=11, line=f"bad object {digits(HELLO)}"),
+    look("ls", "/", [octets(ROOT_OF_FILE), "CONTENT"], [HEAD, name(HELLO, "C")], code=11, line=f"bad catalogue {digits(HELLO)}C"),
+    look("cat", "/a", ["MANIFEST", "TREE", "ABSENT"], ALL, code=11, line=f"not served {digits(HELLO)}"),
+    look("ls", "/", [b"hello\n"], FIRST, code=12, line="bad reply"),
+    look("ls", "/", ["ABSENT"], FIRST, code=12, line="bad reply"),
+    look("ls", "/", ["MANIFEST"], FIRST, code=8, line="link failed"),
+]
+
+if __name__ == "__main__":
+    assert WITH_FILE == catalogues({"": ("dir", b""), "/a": ("file", HELLO)})[""]
+    settle(
+        "crates/cv_top/src/look_tests.rt",
+        [
+            constant("URL", "&str", f'"http://h/cvmfs/{REPOSITORY}"'),
+            *(constant(word, "&[u8]", literal(reply)) for word, reply in REPLIES.items()),
+            *(constant(word, "&[u8]", requests(paths)) for word, paths in REQUESTS.items()),
+            table("LOOKS", "(&str, &str, &[&[u8]], &[u8], &[u8], u8, &str)", LOOKS, "static"),
+        ],
+    )
