@@ -44,10 +44,18 @@ def words():
     return "--short" in sys.argv[1:], given[0] if given else None
 
 
+# What a crate's folder is made of. What stands there besides was made of it, or left by its tests.
+PARTS = ("src", "specs", "proofs", "data", "stdin", "stdout", "args", "status")
+
+
 def copy_crates(folder):
     """The crates without what was made of them."""
-    ignored = shutil.ignore_patterns("out", "must-fail")
-    shutil.copytree(os.path.join(TOP, "crates"), os.path.join(folder, "crates"), ignore=ignored)
+    top = os.path.join(TOP, "crates")
+
+    def ignored(where, names):
+        return [name for name in names if os.path.dirname(where) == top and name not in PARTS]
+
+    shutil.copytree(top, os.path.join(folder, "crates"), ignore=ignored)
     for name in ("crates.txt", "HANDLES"):
         shutil.copy(os.path.join(TOP, name), folder)
 
