@@ -1,24 +1,25 @@
 -- What a dial in memory holds.
-use Rattle.std.specs.Prelude.{◌≡◌, ◌∷◌, List, Option, Some, map}
+use Rattle.std.specs.Prelude.{◌≡◌, ◌∷◌, List, Option, Some}
 use Rattle.cv_ports.specs.Calls.{Calls}
-use Rattle.cv_ports.specs.Dial.{Came, came_of}
+use Rattle.cv_ports.specs.Dial.{Came, Event, Story, came_of}
 use Rattle.cv_ports.specs.Memory.{SourceView, SinkView}
 use Rattle.cv_ports.specs.declared.link.Link.{Link}
 use Rattle.cv_ports.specs.declared.memory_link.MemoryLink.{MemoryLink}
 
--- the links that it will give, in their order, those that came back, in theirs, and its calls
+-- the links that it will give, in their order, those that came back, in theirs, what it tells of both, and its calls
 pub record DialView : Type 0 where
   pub waiting : List MemoryLink
   pub came : List (Link SourceView SinkView)
+  pub events : List Event
   pub calls : Calls
 
 -- a link in memory as it comes back
 abbrev pub came_in_memory : Link SourceView SinkView → Came
-came_in_memory = came_of (λ reads. Some reads.given) (λ reads. Some reads.left) (λ writes. Some writes.taken)
+came_in_memory = came_of (λ reads. Some reads.given) (λ reads. Some reads.left) (λ writes. Some writes.taken) (λ writes. Some writes.passed)
 
--- the links that came back, as a dial tells of them
-abbrev pub told_of : DialView → Option (List Came)
-told_of dial = Some (map came_in_memory dial.came)
+-- what a dial tells
+abbrev pub told_of : DialView → Option Story
+told_of dial = Some (record { dials = dial.calls.count; events = dial.events })
 
 -- these halves are those of the first link that was to be given
 abbrev pub GivesFirst : SourceView → SinkView → List MemoryLink → List MemoryLink → Type 0

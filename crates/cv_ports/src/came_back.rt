@@ -1,20 +1,22 @@
-//! The links that came back to a dial in memory.
+//! What a dial in memory keeps of its links.
 ghost use Rattle.std.specs.Prelude.{◌≡◌, ◌++◌, OnOk};
 ghost use Rattle.cv_ports.specs.CameBack.{links_of};
 
+use crate::host_name::HostName;
 use crate::link::Link;
 use crate::memory_sink::MemorySink;
 use crate::memory_source::MemorySource;
 use cv_base::NoMemory;
 
-/// The links that came back, the last one on the outside.
+/// The links that were opened, each by its host and port, and those that came back, the last on the outside.
 #[derive(Drop)]
 pub enum CameBack {
     Nothing,
-    Last(Link<MemorySource, MemorySink>, Box<CameBack>),
+    Opened(HostName, u16, Box<CameBack>),
+    Back(Link<MemorySource, MemorySink>, Box<CameBack>),
 }
 
-/// Puts the links behind others, in the order in which they came back.
+/// Puts the links that came back behind others, in their order.
 pub fn put_links(
     came: CameBack,
     links: &mut Vec<Link<MemorySource, MemorySink>>,
@@ -23,7 +25,8 @@ pub fn put_links(
 {
     match came {
         CameBack::Nothing => Ok(()),
-        CameBack::Last(link, before) => {
+        CameBack::Opened(_, _, before) => put_links(Box::into_inner(before), links),
+        CameBack::Back(link, before) => {
             put_links(Box::into_inner(before), links)?;
             links.push(link)?;
             Ok(())

@@ -40,6 +40,16 @@ impl HostName {
         })
     }
 
+    /// The same name.
+    pub(crate) fn copy(&self) -> HostName
+        ensures { result ≡ self.now }
+    {
+        HostName {
+            bytes: self.bytes,
+            len: self.len,
+        }
+    }
+
     /// Its bytes.
     pub fn as_bytes(&self) -> &[u8]
         ensures { result.now ≡ self.now }

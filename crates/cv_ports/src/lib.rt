@@ -20,6 +20,7 @@ mod memory_link;
 mod memory_shelf;
 mod memory_sink;
 mod memory_source;
+mod place;
 mod shelf;
 mod sink;
 mod source;

@@ -1,9 +1,10 @@
 //! A dial in memory.
-ghost use Rattle.std.specs.Prelude.{◌≡◌, ◌<◌, ◌++◌, ◌∷◌, [], ◌⊎◌, ◌↔◌, Some, IfOk, OnErr, IsErr, IsTrue, IsSome, length, is_err, if◌then◌else◌};
+ghost use Rattle.std.specs.Prelude.{◌≡◌, ◌<◌, ◌≤◌, ◌++◌, ◌∷◌, [], ◌⊎◌, ◌↔◌, Some, IfOk, OnErr, IsErr, IsTrue, IsSome, length, is_err, if◌then◌else◌, option_map};
 ghost use Rattle.cv_base.specs.Counts.{HasCause};
 ghost use Rattle.cv_base.specs.Told.{WhereTold};
 ghost use Rattle.cv_ports.specs.Calls.{fails, raised};
-ghost use Rattle.cv_ports.specs.Dial.{and_last, after_back};
+ghost use Rattle.cv_ports.specs.Dial.{and_failed, and_opened, and_back, after_back};
+ghost use Rattle.cv_ports.specs.Streams.{Look};
 ghost use Rattle.cv_ports.specs.MemoryDial.{came_in_memory, told_of, GivesFirst};
 
 use crate::came_back::{CameBack, put_links};
@@ -21,7 +22,7 @@ use std::alloc::Global;
 use std::marker::Model;
 use std::mem;
 
-/// Gives stated links in their order, and keeps those that come back. The dials of stated numbers fail, from 1 on, and so do
+/// Gives stated links in their order, and keeps which were opened and those that come back. The dials of stated numbers fail, from 1 on, and so do
 /// a dial for which no link is left and one of a host of more than 253 bytes.
 #[derive(Drop)]
 pub struct MemoryDial {
@@ -32,12 +33,12 @@ pub struct MemoryDial {
 
 impl Model for MemoryDial {
     ghost use Rattle.std.specs.Prelude.{reverse};
-    ghost use Rattle.cv_ports.specs.CameBack.{links_of};
+    ghost use Rattle.cv_ports.specs.CameBack.{links_of, events_of};
     ghost use Rattle.cv_ports.specs.MemoryDial.{DialView};
 
     ghost Value = { DialView };
 
-    ghost view = { λ d. record { waiting = reverse d.waiting.items; came = links_of d.came.value; calls = d.calls } };
+    ghost view = { λ d. record { waiting = reverse d.waiting.items; came = links_of d.came.value; events = events_of d.came.value; calls = d.calls } };
 }
 
 impl MemoryDial {
@@ -47,7 +48,7 @@ impl MemoryDial {
         links: Vec<MemoryLink>,
         failing: Vec<u64>,
     ) -> Result<MemoryDial, NoMemory>
-        ensures { IfOk result (λ dial. dial ≡ record { waiting = links.items; came = []; calls = record { failing = failing.items; count = 0; faults = 0 } }) }
+        ensures { IfOk result (λ dial. dial ≡ record { waiting = links.items; came = []; events = []; calls = record { failing = failing.items; count = 0; faults = 0 } }) }
     {
         let mut waiting = links;
         waiting.reverse();
@@ -82,6 +83,8 @@ impl Dial for MemoryDial {
 
     ghost came = { told_of };
 
+    ghost looks = { λ d look. ⊥ };
+
     ghost faults = { λ d. d.calls.faults };
 
     fn dial(&mut self, host: &str, port: u16) -> Result<Link<LinkSource, MemorySink>, Failed>
@@ -89,13 +92,16 @@ impl Dial for MemoryDial {
         ensures port { IfOk result (λ link. link.port ≡ port) }
         ensures given { IfOk result (λ link. WhereTold (Some link.reads.given) (λ bytes. bytes ≡ [])) }
         ensures taken { IfOk result (λ link. WhereTold (Some link.writes.taken) (λ bytes. bytes ≡ [])) }
-        ensures passed { IfOk result (λ link. WhereTold (Some link.writes.passed) (λ bytes. bytes ≡ [])) }
+        ensures passed { IfOk result (λ link. Some link.writes.passed ≡ Some link.writes.taken) }
+        ensures unread { IfOk result (λ link. (look : Look) → ⊥ → ⊥) }
         ensures reads { IfOk result (λ link. link.reads.calls.faults ≡ 0) }
         ensures writes { IfOk result (λ link. link.writes.calls.faults ≡ 0) }
         ensures left_told { IfOk result (λ link. IsSome (told_of self.old) → IsSome (Some link.reads.left)) }
         ensures given_told { IfOk result (λ link. IsSome (told_of self.old) → IsSome (Some link.reads.given)) }
         ensures taken_told { IfOk result (λ link. IsSome (told_of self.old) → IsSome (Some link.writes.taken)) }
-        ensures same { told_of self.new ≡ told_of self.old }
+        ensures opened { IfOk result (λ link. told_of self.new ≡ option_map (and_opened host.now port) (told_of self.old)) }
+        ensures failed { OnErr result (told_of self.new ≡ option_map and_failed (told_of self.old)) }
+        ensures unlooked { (look : Look) → ⊥ → ⊥ }
         ensures cause { HasCause self.old.calls.faults self.new.calls.faults (IsErr result) }
         ensures gives { IfOk result (λ link. GivesFirst link.reads link.writes self.old.waiting self.new.waiting) }
         ensures waiting { OnErr result (self.new.waiting ≡ self.old.waiting) }
@@ -114,11 +120,15 @@ impl Dial for MemoryDial {
             self.calls.add_fault();
             return Err(Failed);
         };
+        let before = mem::replace(&mut self.came, link.place.into_box());
+        *self.came = CameBack::Opened(name.copy(), port, before);
         Ok(Link::new(link.reads, link.writes, name, port))
     }
 
     fn back(&mut self, link: Link<LinkSource, MemorySink>)
-        ensures came { told_of self.new ≡ and_last (told_of self.old) (came_in_memory link) }
+        ensures came { told_of self.new ≡ option_map (and_back (came_in_memory link)) (told_of self.old) }
+        ensures noted { (look : Look) → ⊥ → ⊥ ⊎ ⊥ }
+        ensures later { self.old.calls.faults ≤ self.new.calls.faults }
         ensures counted { self.new.calls.faults ≡ after_back link.reads.calls.faults link.writes.calls.faults self.old.calls.faults }
         ensures kept { self.new.came ≡ self.old.came ++ link ∷ [] }
         ensures waiting { self.new.waiting ≡ self.old.waiting }
@@ -130,6 +140,6 @@ impl Dial for MemoryDial {
         }
         let (link, place) = link.into_memory();
         let before = mem::replace(&mut self.came, place);
-        *self.came = CameBack::Last(link, before);
+        *self.came = CameBack::Back(link, before);
     }
 }

@@ -5,6 +5,7 @@ use crate::came_back::CameBack;
 use crate::link_source::LinkSource;
 use crate::memory_sink::MemorySink;
 use crate::memory_source::MemorySource;
+use crate::place::Place;
 use cv_base::NoMemory;
 use std::alloc::Global;
 
@@ -13,6 +14,7 @@ use std::alloc::Global;
 pub struct MemoryLink {
     pub(crate) reads: LinkSource,
     pub(crate) writes: MemorySink,
+    pub(crate) place: Place,
     ghost given: { reads.given ≡ [] },
     ghost reads_sound: { reads.calls.faults ≡ 0 },
     ghost taken: { writes.taken ≡ [] },
@@ -21,7 +23,7 @@ pub struct MemoryLink {
 }
 
 impl MemoryLink {
-    /// A link of these halves, with the place in which it is kept when it comes back.
+    /// A link of these halves, with the places in which a dial keeps that it was opened, and keeps it when it comes back.
     pub fn new(
         alloc: Global,
         reads: MemorySource,
@@ -38,6 +40,7 @@ impl MemoryLink {
         Ok(MemoryLink {
             reads: LinkSource::new(reads, Box::new(alloc, CameBack::Nothing)?),
             writes,
+            place: Place::new(alloc)?,
         })
     }
 }

@@ -1,5 +1,5 @@
 //! Links over TCP.
-ghost use Rattle.std.specs.Prelude.{◌≡◌, None, IfOk};
+ghost use Rattle.std.specs.Prelude.{◌≡◌, ◌≤◌, None, IfOk};
 ghost use Rattle.cv_ports.specs.Dial.{after_back};
 
 use crate::count::FaultCount;
@@ -86,6 +86,8 @@ impl<R: Net<Listener = TcpListener, Stream = TcpStream> + Drop> Dial for TcpDial
 
     ghost came = { λ d. None };
 
+    ghost looks = { λ d look. ⊥ };
+
     ghost faults = { λ d. d.faults.number };
 
     fn dial(
@@ -105,6 +107,7 @@ impl<R: Net<Listener = TcpListener, Stream = TcpStream> + Drop> Dial for TcpDial
     }
 
     fn back(&mut self, link: Link<StreamSource<TcpStream>, StreamSink<TcpStream>>)
+        ensures later { self.old.faults.number ≤ self.new.faults.number }
         ensures counted { self.new.faults.number ≡ after_back link.reads.faults.number link.writes.faults.number self.old.faults.number }
     {
         if link.reads.faults() > 0 || link.writes.faults() > 0 {
