@@ -1,31 +1,49 @@
 -- What a link tells once a request was written and its reply was read.
-use Rattle.std.proofs.Common.{◌≡◌, ◌≤◌, ◌⊎◌, ◌++◌, ℕ, zero, suc, List, [], refl, sym, ap, subst, ◌∙◌, inl, inr, append-nil, arith}
-use Rattle.std.specs.Prelude.{Bool, true, false, nat_lt, ◌||◌, if◌then◌else◌, Option, Some, None}
-use Rattle.std.specs.declared.result.Result.{Result}
-use Rattle.std.specs.declared.result.Result.TheVariants.{Ok, Err}
+use Rattle.std.proofs.Common.{◌≡◌, ◌≤◌, ◌⊎◌, ◌++◌, ℕ, List, [], refl, sym, ap, subst, ◌∙◌, inl, inr, append-nil, arith}
+use Rattle.std.specs.Prelude.{Bool, true, false, nat_lt, ◌||◌, if◌then◌else◌, Option, Some, None, IsSome}
+use Rattle.std.specs.declared.result.Result.TheVariants.{Err}
 use Rattle.std.proofs.lemmas.Option.{none-some}
 use Rattle.std.proofs.lemmas.Bool.{lt-ltb, false≢true}
 use Rattle.cv_base.specs.Counts.{Rose}
 use Rattle.cv_base.specs.Told.{WhereTold}
-use Rattle.cv_ports.specs.Streams.{onto, Wrote}
+use Rattle.cv_ports.specs.Streams.{Look, onto, Wrote}
 use Rattle.cv_ports.specs.Calls.{raised}
 use Rattle.cv_ports.specs.Dial.{Came, after_back}
 use Rattle.cv_http.specs.Requests.{request_text}
-use Rattle.cv_http.specs.ReplyTexts.{ReplyRead, ReplyLost}
-use Rattle.cv_http.specs.Wires.{HasEnded}
+use Rattle.cv_http.specs.ReplyTexts.{ReplyLost}
+use Rattle.cv_http.specs.Wires.{WireView, Looks, Beside, HasEnded}
 use Rattle.cv_http.specs.declared.outgoing.Outgoing.{Outgoing}
-use Rattle.cv_http.specs.declared.http_reply.HttpReply.{HttpReply}
 use Rattle.cv_http.specs.declared.fault.HttpFault.{HttpFault}
 use Rattle.cv_http.specs.declared.fault.HttpFault.TheVariants.{BadHead, HeadTooLarge, BodyTooLarge, NoLength, Coding, Short, ReadFault, NoMemory}
 use Rattle.cv_http.specs.declared.reply.SendFault.{SendFault}
 use Rattle.cv_http.specs.declared.reply.SendFault.TheVariants as send_fault
-use Rattle.cv_client.specs.Exchange.{Converses, TookFront, GaveReply, GaveNone, replied, bad, failed, no_memory}
+use Rattle.cv_client.specs.Exchange.{Converses, TookFront, TookAll, bad, failed, no_memory}
 use Rattle.cv_client.specs.Faults.{of_send, of_read}
 
 -- what comes onto nothing is all that is told then
 pub all_of : (old : Option (List ℕ)) (new : Option (List ℕ)) (text : List ℕ) → WhereTold old (λ b. b ≡ []) → new ≡ onto old text → WhereTold new (λ b. b ≡ text)
 all_of None new text fresh is = λ b told. absurd (none-some b (sym is ∙ told))
 all_of (Some old) new text fresh is = λ b told. (let e : Some b ≡ Some (old ++ text) = sym told ∙ is in let same : b ≡ old ++ text = cc in same ∙ ap (λ (o : List ℕ). o ++ text) (fresh old refl))
+
+-- what was told before is told then
+onto_told : (old : Option (List ℕ)) (text : List ℕ) → IsSome old → IsSome (onto old text)
+onto_told None text is = is
+onto_told (Some bytes) text is = refl
+
+pub wrote_told : {old new : Option (List ℕ)} {text : List ℕ} → Wrote old new text → IsSome old → IsSome new
+wrote_told {old} {new} wrote is = subst IsSome (sym wrote.taken) (onto_told old wrote.written is)
+
+-- what is passed on of it is all
+pub all_passed : (old taken passed : Option (List ℕ)) (text : List ℕ) → WhereTold old (λ b. b ≡ []) → taken ≡ onto old text → passed ≡ taken → WhereTold passed (λ b. b ≡ text)
+all_passed old taken passed text fresh is flushed = λ b told. all_of old taken text fresh is b (sym flushed ∙ told)
+
+-- and was when each read began
+pub all_looked : {R : Type 0} (left : R → Option (List ℕ)) (looks : R → Look → Type 0) (w w' : WireView R) (now : R) (passed : Option (List ℕ)) (Are P : List ℕ → Type 0) → now ≡ w'.source
+    → ((look : Look) → looks w.source look → ⊥) → Looks left looks w w' (Beside passed Are) → WhereTold passed P → (look : Look) → looks now look → WhereTold look.passed P
+all_looked left looks w w' now passed Are P same unread seen where_told look is = elim (seen look (subst (λ s. looks s look) same is)) [
+  | inl old ↦ absurd (unread look old)
+  | inr at ↦ λ b told. where_told b (sym at.are.1 ∙ told)
+]
 
 -- of a text that was to be written onto nothing a front is told
 pub front_of : (old new : Option (List ℕ)) (request : Outgoing) → WhereTold old (λ b. b ≡ []) → Wrote old new (request_text request) → WhereTold new (TookFront request)
@@ -44,11 +62,11 @@ unsent request c send_fault.WriteFault took = failed took
 unsent request c send_fault.NoMemory took = no_memory took
 
 -- a request of which all was taken
-whole_front : (request : Outgoing) (c : Came) → WhereTold c.taken (λ b. b ≡ request_text request) → WhereTold c.taken (TookFront request)
-whole_front request c took = λ b told. record { more = []; split = sym (took b told) ∙ sym (append-nil b) }
+whole_front : (request : Outgoing) (c : Came) → TookAll request c → WhereTold c.taken (TookFront request)
+whole_front request c took = λ b told. record { more = []; split = sym (took.taken b told) ∙ sym (append-nil b) }
 
 -- and where no reply was read
-pub unread : (request : Outgoing) (c : Came) (fault : HttpFault) → WhereTold c.taken (λ b. b ≡ request_text request) → WhereTold c.given (λ b. ReplyLost b fault)
+pub unread : (request : Outgoing) (c : Came) (fault : HttpFault) → TookAll request c → WhereTold c.given (λ b. ReplyLost b fault)
     → (fault ≡ Short → HasEnded c.left) → Converses request c (Err (of_read fault))
 unread request c BadHead took lost ended = bad took (λ b told. inl (BadHead, lost b told))
 unread request c HeadTooLarge took lost ended = bad took (λ b told. inl (HeadTooLarge, lost b told))

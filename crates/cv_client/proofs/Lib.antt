@@ -1,5 +1,8 @@
 mod Coming
 mod Conversing
+mod Telling
+mod Serving
+mod Supplying
 mod Cuts
 mod Clients
 mod Urls

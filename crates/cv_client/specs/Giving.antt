@@ -1,5 +1,5 @@
 -- A client is given what it wants until it wants nothing.
-use Rattle.std.specs.Prelude.{◌≡◌, ℕ, Option, Some, None, Result, Ok, Err}
+use Rattle.std.specs.Prelude.{◌≡◌, Some, None, Result, Ok, Err}
 use Rattle.cv_base.specs.ObjectId.{file_name}
 use Rattle.cv_base.specs.declared.id.ObjectId.{ObjectId}
 use Rattle.cv_resolver.specs.Resolver.{Client, wanted_in}

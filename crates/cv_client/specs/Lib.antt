@@ -5,5 +5,6 @@ pub mod Fetch
 pub mod Giving
 pub mod Pin
 pub mod Requests
+pub mod Served
 pub mod Texts
 pub mod Url

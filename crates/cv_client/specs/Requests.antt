@@ -1,7 +1,5 @@
 -- What a client asks of a repository's server: the manifest, and objects under the names of their files.
 use Rattle.std.specs.Prelude.{ℕ, List, [], ◌++◌, codes, None}
-use Rattle.cv_base.specs.ObjectId.{file_name}
-use Rattle.cv_base.specs.declared.id.ObjectId.{ObjectId}
 use Rattle.cv_http.specs.declared.outgoing.Outgoing.{Outgoing}
 use Rattle.cv_http.specs.declared.verb.Verb.TheVariants.{Get}
 use Rattle.cv_client.specs.declared.url.Url.{Url}

@@ -1,10 +1,15 @@
 //! Answers of a served repository.
-ghost use Rattle.std.specs.Prelude.{◌≡◌, option_map};
-ghost use Rattle.cv_base.specs.Counts.{Rose};
+ghost use Rattle.std.specs.Prelude.{◌≡◌, ℕ, List, Some, option_map};
+ghost use Rattle.cv_base.specs.Counts.{HasCause, Rose};
 ghost use Rattle.cv_client.specs.Answer.{Answers};
 ghost use Rattle.cv_base.specs.ObjectId.{file_name};
 ghost use Rattle.cv_client.specs.Fetch.{Fetches};
 ghost use Rattle.cv_client.specs.Giving.{GivesAll};
+ghost use Rattle.cv_client.specs.Served.{Files, ServedBy, HasWay, IsFetched, IsSupplied, IsUnblamed, IsWhole};
+ghost use Rattle.cv_tree.specs.Tree.{Nodes};
+ghost use Rattle.cv_resolver.specs.Look.{look};
+ghost use Rattle.cv_resolver.specs.Resolver.{IsOn, question_of};
+ghost use Rattle.cv_resolver.specs.declared.question.Question.{Question as TheQuestion};
 ghost use Rattle.cv_client.specs.declared.ask_fault.AskFault.TheVariants.{LinkFailed};
 ghost use Rattle.cv_client.specs.declared.exchanging.ExchangeFault.TheVariants.{LinkFailed as LinkLost};
 
@@ -14,7 +19,7 @@ use crate::fetching::fetch;
 use crate::url::Url;
 use cv_base::{Bytes, ObjectId};
 use cv_ports::Dial;
-use cv_resolver::laws::questions_come_to_answers;
+use cv_resolver::laws::{faults_tell_what_was_given, questions_come_to_answers};
 use cv_resolver::{Found, Question, Resolver};
 use std::alloc::Global;
 
@@ -26,8 +31,9 @@ fn fetch_object<N: Dial>(
     id: ObjectId,
 ) -> Result<Option<Bytes>, ExchangeFault>
     ensures fetches { Fetches url.now (file_name id) (N.came dial.old) (N.came dial.new) result }
-    ensures later { Rose 0 (N.faults dial.old) (N.faults dial.new) }
-    ensures cause { result ≡ Err LinkLost → Rose 1 (N.faults dial.old) (N.faults dial.new) }
+    ensures completes { (files : Files) (content : List ℕ) → files (file_name id) ≡ Some content
+        → ServedBy url.now files (N.came dial.old) (N.came dial.new) → IsFetched content result }
+    ensures cause { HasCause (N.faults dial.old) (N.faults dial.new) (result ≡ Err LinkLost) }
 {
     match id.file_name(alloc) {
         Ok(file) => fetch(alloc, dial, url, file.as_str()),
@@ -53,10 +59,13 @@ fn give_all<N: Dial>(
     resolver: &mut Resolver,
 ) -> Result<(), ExchangeFault>
     ensures gives { GivesAll url.now (N.came dial.old) (N.came dial.new) resolver.old resolver.new result }
-    ensures later { Rose 0 (N.faults dial.old) (N.faults dial.new) }
-    ensures cause { result ≡ Err LinkLost → Rose 1 (N.faults dial.old) (N.faults dial.new) }
+    ensures completes { (files : Files) → ServedBy url.now files (N.came dial.old) (N.came dial.new) → (t : Nodes) (q : TheQuestion)
+        → IsOn t resolver.old → IsUnblamed resolver.old.asked → question_of resolver.old ≡ Some q → HasWay files resolver.old.name t q
+        → IsSupplied t resolver.new result }
+    ensures cause { HasCause (N.faults dial.old) (N.faults dial.new) (result ≡ Err LinkLost) }
 {
     questions_come_to_answers();
+    faults_tell_what_was_given();
     'wants: while let Some(id) = resolver.want() {
         let object = fetch_object(alloc, dial, url, id)?;
         resolver.give(into_vec(object));
@@ -73,9 +82,15 @@ pub fn answer<N: Dial>(
     question: Question,
 ) -> Result<Found, AskFault>
     ensures answers { Answers url.now question (N.came dial.old) (N.came dial.new) resolver.old resolver.new result }
-    ensures later { Rose 0 (N.faults dial.old) (N.faults dial.new) }
-    ensures cause { result ≡ Err LinkFailed → Rose 1 (N.faults dial.old) (N.faults dial.new) }
+    ensures cause { HasCause (N.faults dial.old) (N.faults dial.new) (result ≡ Err LinkFailed) }
+
+    // Where no fault was counted, and each link that came back sent what the server has, which is all that the question wants in
+    // a tree: the answer is that of the tree.
+    ensures completes { (Rose 1 (N.faults dial.old) (N.faults dial.new) → ⊥) → (files : Files)
+        → ServedBy url.now files (N.came dial.old) (N.came dial.new) → (t : Nodes) → IsOn t resolver.old
+        → HasWay files resolver.old.name t question → IsWhole (look resolver.old.name t question) result }
 {
+    faults_tell_what_was_given();
     resolver.ask(question);
     if let Err(fault) = give_all(alloc, dial, url, resolver) {
         return Err(AskFault::of_exchange(fault));

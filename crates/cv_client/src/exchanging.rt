@@ -1,8 +1,10 @@
 //! One exchange with a server.
-ghost use Rattle.std.specs.Prelude.{◌≡◌, ◌≤◌, ◌⊎◌, []};
-ghost use Rattle.cv_base.specs.Counts.{Rose};
+ghost use Rattle.std.specs.Prelude.{◌≡◌, ◌≤◌, ◌⊎◌, [], IsSome};
+ghost use Rattle.cv_base.specs.Counts.{HasCause, Rose};
 ghost use Rattle.cv_base.specs.Told.{WhereTold};
 ghost use Rattle.cv_ports.specs.Dial.{came_of};
+ghost use Rattle.cv_ports.specs.Streams.{Look};
+ghost use Rattle.cv_http.specs.Requests.{request_text};
 ghost use Rattle.cv_client.specs.Exchange.{Converses, Exchanges};
 ghost use Rattle.cv_client.specs.Faults.{of_send, of_read};
 ghost use Rattle.cv_client.specs.declared.exchanging.ExchangeFault.TheVariants.{LinkFailed};
@@ -59,9 +61,13 @@ fn converse<R: Source + Drop, W: Sink + Drop>(
 ) -> (Link<R, W>, Result<HttpReply, ExchangeFault>)
     requires given { WhereTold (R.given link.reads) (λ bytes. bytes ≡ []) }
     requires taken { WhereTold (W.taken link.writes) (λ bytes. bytes ≡ []) }
+    requires passed { W.passed link.writes ≡ W.taken link.writes }
+    requires unread { (look : Look) → R.looks link.reads look → ⊥ }
     ensures host { result.0.host ≡ link.host }
     ensures port { result.0.port ≡ link.port }
-    ensures converses { Converses request.now (came_of R.given R.left W.taken result.0) result.1 }
+    ensures told { IsSome (W.taken link.writes) → IsSome (W.taken result.0.writes) }
+    ensures converses { Converses request.now (came_of R.given R.left W.taken W.passed result.0) result.1 }
+    ensures looks { (look : Look) → R.looks result.0.reads look → WhereTold look.passed (λ bytes. bytes ≡ request_text request.now) }
     ensures reads { R.faults link.reads ≤ R.faults result.0.reads }
     ensures writes { W.faults link.writes ≤ W.faults result.0.writes }
     ensures cause { result.1 ≡ Err LinkFailed
@@ -80,6 +86,7 @@ fn converse<R: Source + Drop, W: Sink + Drop>(
 }
 
 /// Sends one request on a link of its own (RFC 9112), and reads its reply. The link goes back to the dial, whatever comes.
+/// The whole request was passed on when a read of the link begins.
 pub fn exchange<N: Dial>(
     alloc: Global,
     dial: &mut N,
@@ -87,8 +94,9 @@ pub fn exchange<N: Dial>(
     request: &Outgoing,
 ) -> Result<HttpReply, ExchangeFault>
     ensures exchanges { Exchanges url.now request.now (N.came dial.old) (N.came dial.new) result }
-    ensures later { Rose 0 (N.faults dial.old) (N.faults dial.new) }
-    ensures cause { result ≡ Err LinkFailed → Rose 1 (N.faults dial.old) (N.faults dial.new) }
+    ensures looks { (look : Look) → N.looks dial.new look
+        → N.looks dial.old look ⊎ WhereTold look.passed (λ bytes. bytes ≡ request_text request.now) }
+    ensures cause { HasCause (N.faults dial.old) (N.faults dial.new) (result ≡ Err LinkFailed) }
 {
     let Ok(link) = dial.dial(url.host.as_str(), url.port) else {
         return Err(ExchangeFault::LinkFailed);

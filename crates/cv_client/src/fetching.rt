@@ -1,13 +1,15 @@
 //! Files of a served repository.
-ghost use Rattle.std.specs.Prelude.{◌≡◌, IfOk, string_bytes};
-ghost use Rattle.cv_base.specs.Counts.{Rose};
+ghost use Rattle.std.specs.Prelude.{◌≡◌, ℕ, List, Some, IfOk, string_bytes};
+ghost use Rattle.cv_base.specs.Counts.{HasCause};
 ghost use Rattle.cv_client.specs.Fetch.{Fetches, SaysFile};
 ghost use Rattle.cv_client.specs.Requests.{file_request, target_of};
+ghost use Rattle.cv_client.specs.Served.{Files, ServedBy, IsFetched};
 ghost use Rattle.cv_client.specs.declared.exchanging.ExchangeFault.TheVariants.{LinkFailed};
 
 use crate::exchanging::{ExchangeFault, exchange};
 use crate::url::Url;
 use cv_base::{Bytes, NoMemory, Text};
+use cv_http::laws::{more_behind_a_reply, one_reply, reply_or_fault};
 use cv_http::{HttpReply, Outgoing, Verb};
 use cv_ports::Dial;
 use std::alloc::Global;
@@ -65,9 +67,15 @@ pub fn fetch<N: Dial>(
     file: &str,
 ) -> Result<Option<Bytes>, ExchangeFault>
     ensures fetches { Fetches url.now file.now (N.came dial.old) (N.came dial.new) result }
-    ensures later { Rose 0 (N.faults dial.old) (N.faults dial.new) }
-    ensures cause { result ≡ Err LinkFailed → Rose 1 (N.faults dial.old) (N.faults dial.new) }
+    ensures cause { HasCause (N.faults dial.old) (N.faults dial.new) (result ≡ Err LinkFailed) }
+
+    // Where the server has the file, and each link that came back sent it, that is what is fetched.
+    ensures completes { (files : Files) (content : List ℕ) → files file.now ≡ Some content
+        → ServedBy url.now files (N.came dial.old) (N.came dial.new) → IsFetched content result }
 {
+    one_reply();
+    reply_or_fault();
+    more_behind_a_reply();
     let Ok(request) = request(alloc, url, file) else {
         return Err(ExchangeFault::NoMemory);
     };

@@ -1,13 +1,18 @@
 //! The manifest of a served repository.
-ghost use Rattle.std.specs.Prelude.{◌≡◌};
-ghost use Rattle.cv_base.specs.Counts.{Rose};
+ghost use Rattle.std.specs.Prelude.{◌≡◌, ℕ, List, Some};
+ghost use Rattle.cv_base.specs.Counts.{HasCause, Rose};
+ghost use Rattle.cv_manifest.specs.Manifest.{Says};
+ghost use Rattle.cv_manifest.specs.declared.manifest.Manifest.{Manifest as TheManifest};
 ghost use Rattle.cv_client.specs.Pin.{FetchesManifest, Pins};
+ghost use Rattle.cv_client.specs.Requests.{manifest_name};
+ghost use Rattle.cv_client.specs.Served.{Files, ServedBy, IsManifestOr, IsPinned};
 ghost use Rattle.cv_client.specs.declared.ask_fault.AskFault.TheVariants.{LinkFailed};
 
 use crate::ask_fault::AskFault;
 use crate::fetching::fetch;
 use crate::url::Url;
 use cv_manifest::Manifest;
+use cv_manifest::laws::{a_manifest_shows_no_fault, a_text_says_one_manifest};
 use cv_ports::Dial;
 use cv_resolver::Resolver;
 use cv_seal::Signer;
@@ -27,9 +32,16 @@ pub fn fetch_manifest<N: Dial, S: Signer>(
     signer: &S,
 ) -> Result<Manifest, AskFault>
     ensures fetches { FetchesManifest (S.is_seal signer.now) url.now (N.came dial.old) (N.came dial.new) result }
-    ensures later { Rose 0 (N.faults dial.old) (N.faults dial.new) }
-    ensures cause { result ≡ Err LinkFailed → Rose 1 (N.faults dial.old) (N.faults dial.new) }
+    ensures cause { HasCause (N.faults dial.old) (N.faults dial.new) (result ≡ Err LinkFailed) }
+
+    // Where no fault was counted, and each link that came back sent what the server has, which is a manifest under its seal: that is
+    // what is fetched.
+    ensures completes { (Rose 1 (N.faults dial.old) (N.faults dial.new) → ⊥) → (files : Files)
+        → ServedBy url.now files (N.came dial.old) (N.came dial.new) → (text : List ℕ) (m : TheManifest) → files manifest_name ≡ Some text
+        → Says (S.is_seal signer.now) text m → IsManifestOr m result }
 {
+    a_text_says_one_manifest();
+    a_manifest_shows_no_fault();
     match fetch(alloc, dial, url, MANIFEST) {
         Ok(Some(text)) => match Manifest::read(alloc, text.as_slice(), signer) {
             Ok(manifest) => Ok(manifest),
@@ -48,8 +60,13 @@ pub fn pin<N: Dial, S: Signer>(
     signer: &S,
 ) -> Result<Resolver, AskFault>
     ensures pins { Pins (S.is_seal signer.now) url.now (N.came dial.old) (N.came dial.new) result }
-    ensures later { Rose 0 (N.faults dial.old) (N.faults dial.new) }
-    ensures cause { result ≡ Err LinkFailed → Rose 1 (N.faults dial.old) (N.faults dial.new) }
+    ensures cause { HasCause (N.faults dial.old) (N.faults dial.new) (result ≡ Err LinkFailed) }
+
+    // Where no fault was counted, and each link that came back sent what the server has, which is a manifest under its seal: that is
+    // where the client is pinned.
+    ensures completes { (Rose 1 (N.faults dial.old) (N.faults dial.new) → ⊥) → (files : Files)
+        → ServedBy url.now files (N.came dial.old) (N.came dial.new) → (text : List ℕ) (m : TheManifest) → files manifest_name ≡ Some text
+        → Says (S.is_seal signer.now) text m → IsPinned m result }
 {
     match fetch_manifest(alloc, dial, url, signer) {
         Ok(manifest) => match Resolver::new(alloc, manifest, CATALOGUES) {

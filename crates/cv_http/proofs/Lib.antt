@@ -7,5 +7,6 @@ pub mod Refusals
 pub mod OneReading
 pub mod OneReply
 pub mod Replying
+pub mod Behind
 pub mod Lemmas
 mod HeadEnds

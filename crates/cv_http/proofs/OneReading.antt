@@ -10,7 +10,7 @@ use Rattle.std.proofs.lemmas.Str.{IsUtf8-from_ascii}
 use Rattle.std.proofs.lemmas.Str.Ascii.{IsAscii-cons, IsAscii-nil}
 use Rattle.std.specs.Prelude.{IsTrue}
 use Rattle.cv_http.proofs.Streams.{seen_more}
-use Rattle.cv_http.specs.Forms.{Form, ReadsAs, HasNone, HasHeadAs, BeginsAs, NeverAs, head_limit, window, never, large, judged}
+use Rattle.cv_http.specs.Forms.{Form, ReadsAs, HasNone, HasHeadAs, BeginsAs, NeverAs, RefusedAs, CutAs, head_limit, window, never, large, judged}
 use Rattle.cv_http.specs.Heads.{request_form, fault_of_head, Begins, Never, Unfinished, Refused, IsCut}
 use Rattle.cv_http.specs.declared.head.RequestHead.{RequestHead}
 use Rattle.cv_http.specs.declared.fault.HttpFault.{HttpFault}
@@ -33,6 +33,10 @@ module _ {P H : Type 0} (form : Form P H) where
   not_never : {b later : List ℕ} {parsed : P} → HasHeadAs form b parsed later → NeverAs form b → ⊥
   not_never {b} has h = in_window has (subst (HasNone form) (append-nil (window b)) (h.never []))
 
+  -- bytes that begin with a head aren't cut inside one
+  pub begun_uncut : {b later : List ℕ} {head : H} → BeginsAs form b head later → CutAs form b → ⊥
+  begun_uncut begins cut = in_window begins.has cut.unfinished.not_yet
+
   module _ (unique : IsUnique form) where
     same_head : {b later later' : List ℕ} {parsed parsed' : P} → HasHeadAs form b parsed later → HasHeadAs form b parsed' later'
         → (parsed ≡ parsed') × (later ≡ later')
@@ -43,6 +47,14 @@ module _ {P H : Type 0} (form : Form P H) where
         let same = same_head begins.has begins'.has in
         (begins.says ∙ ap form.says same.0 ∙ sym begins'.says, same.1)
 
+    -- nor refused
+    pub begun_unrefused : {b later : List ℕ} {head : H} {fault : HttpFault} → BeginsAs form b head later → RefusedAs form b fault → ⊥
+    begun_unrefused begins (never h) = not_never begins.has h
+    begun_unrefused begins (large long h) = in_window begins.has h.not_yet
+    begun_unrefused begins (judged parsed later fault has is) =
+        let same = same_head begins.has has in
+        let e : None ≡ Some fault = sym begins.faultless ∙ ap form.fault same.0 ∙ is in cc
+
 pub one_head : (b later later' : List ℕ) (head head' : RequestHead) → Begins b head later → Begins b head' later' → (head ≡ head') × (later ≡ later')
 one_head = begins_once request_form request_unique
 
@@ -51,14 +63,10 @@ in_target : {b : List ℕ} → Never b → Unfinished b → EndsInTarget (window
 in_target h open_ = elim open_.may [ inl more ↦ absurd (h.never more.0 more.1 [] more.2) | inr ends ↦ ends ]
 
 pub not_refused : (b later : List ℕ) (head : RequestHead) (fault : HttpFault) → Begins b head later → Refused b fault → ⊥
-not_refused b later head _ begins (never h) = not_never request_form begins.has h
-not_refused b later head _ begins (large long h) = in_window request_form begins.has h.not_yet
-not_refused b later head _ begins (judged parsed later' fault has is) =
-    let same = same_head request_form request_unique begins.has has in
-    let e : None ≡ Some fault = sym begins.faultless ∙ ap fault_of_head same.0 ∙ is in cc
+not_refused b later head fault = begun_unrefused request_form request_unique
 
 pub not_cut : (b later : List ℕ) (head : RequestHead) → Begins b head later → IsCut b → ⊥
-not_cut b later head begins cut = in_window request_form begins.has cut.unfinished.not_yet
+not_cut b later head = begun_uncut request_form
 
 pub one_refusal : (b : List ℕ) (fault fault' : HttpFault) → Refused b fault → Refused b fault' → (fault ≡ fault') ⊎ ((head_limit ≤ length b) × Never b × EndsInTarget (window b))
 one_refusal b _ _ (never h) (never h') = inl refl

@@ -14,7 +14,7 @@ use Rattle.cv_http.proofs.Streams.{begins_on, draws_reads, looks_then}
 
 -- ---- heads
 
-passes_on : {n : ℕ} {b at : List ℕ} (l : List ℕ) → Passes n b at → Passes n (b ++ l) (at ++ l)
+pub passes_on : {n : ℕ} {b at : List ℕ} (l : List ℕ) → Passes n b at → Passes n (b ++ l) (at ++ l)
 passes_on l (no_more b) = no_more (b ++ l)
 passes_on l (one_more n b later at head begins code more) = one_more n (b ++ l) (later ++ l) (at ++ l) head (begins_on l begins) code (passes_on l more)
 
@@ -23,10 +23,10 @@ passes_then : {n : ℕ} {b at : List ℕ} (later : List ℕ) (head : ReplyHead) 
 passes_then later head (no_more b) begins code = one_more 0 b later later head begins code (no_more later)
 passes_then later head (one_more n b next at first is was more) begins code = one_more (n + 1) b next later first is was (passes_then later head more begins code)
 
-reaches_on : {n : ℕ} {b at : List ℕ} (l : List ℕ) → n ≤ interim_limit → Passes n b at → Reaches (b ++ l) (at ++ l)
+pub reaches_on : {n : ℕ} {b at : List ℕ} (l : List ℕ) → n ≤ interim_limit → Passes n b at → Reaches (b ++ l) (at ++ l)
 reaches_on {n} l within passes = record { count = n; limit = within; passes = passes_on l passes }
 
-final_on : {b later : List ℕ} {head : ReplyHead} (l : List ℕ) → HasFinal b head later → HasFinal (b ++ l) head (later ++ l)
+pub final_on : {b later : List ℕ} {head : ReplyHead} (l : List ℕ) → HasFinal b head later → HasFinal (b ++ l) head (later ++ l)
 final_on l f = record { at = f.at ++ l; reaches = reaches_on l f.reaches.limit f.reaches.passes; begins = begins_on l f.begins; final = f.final }
 
 module _ {n : ℕ} {b held : List ℕ} (more held' : List ℕ) (passes : Passes n b held) where

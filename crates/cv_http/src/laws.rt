@@ -1,10 +1,10 @@
-//! What bytes are is one thing: at most one head, and either a head or a refusal or a part of a head; and at most one reply.
+//! What bytes are is one thing: at most one head, and either a head or a refusal or a part of a head; and so with replies.
 //!
 //! The functions do nothing. Their contracts hold of all bytes.
-ghost use Rattle.std.specs.Prelude.{◌≡◌, ◌≤◌, ◌⊎◌, ⊤, ℕ, List, [], length};
+ghost use Rattle.std.specs.Prelude.{◌≡◌, ◌≤◌, ◌++◌, ◌⊎◌, ⊤, ℕ, List, [], length};
 ghost use Rattle.httparse.specs.Grammar.{EndsInTarget};
 ghost use Rattle.cv_http.specs.Heads.{head_limit, window, Begins, Never, Refused, IsCut};
-ghost use Rattle.cv_http.specs.ReplyTexts.{IsReply};
+ghost use Rattle.cv_http.specs.ReplyTexts.{IsReply, IsRefusedReply, IsCutReply};
 ghost use Rattle.cv_http.specs.declared.head.RequestHead.{RequestHead};
 ghost use Rattle.cv_http.specs.declared.http_reply.HttpReply.{HttpReply};
 ghost use Rattle.cv_http.specs.declared.fault.HttpFault.{HttpFault};
@@ -35,6 +35,19 @@ pub fn one_fault()
 pub fn empty_input()
     ensures begun { (later : List ℕ) (head : RequestHead) → ¬ (Begins [] head later) }
     ensures refused { (fault : HttpFault) → ¬ (Refused [] fault) }
+{}
+
+/// Bytes that are a reply are neither refused nor cut inside one.
+pub fn reply_or_fault()
+    ensures refused { (b later : List ℕ) (reply : HttpReply) (fault : HttpFault) → IsReply ⊤ b reply later → ¬ (IsRefusedReply b fault) }
+    ensures cut { (b later : List ℕ) (reply : HttpReply) → IsReply ⊤ b reply later → ¬ (IsCutReply b) }
+{}
+
+/// A reply with more bytes behind it is one still, and so is what is refused. Behind a reply whose length isn't stated there
+/// are none.
+pub fn more_behind_a_reply()
+    ensures reply { (b more later : List ℕ) (reply : HttpReply) → IsReply (more ≡ []) b reply later → IsReply ⊤ (b ++ more) reply (later ++ more) }
+    ensures refused { (b more : List ℕ) (fault : HttpFault) → IsRefusedReply b fault → IsRefusedReply (b ++ more) fault }
 {}
 
 /// Bytes are at most one reply, which ends at one place. A reply whose length isn't stated is all of them.

@@ -1,4 +1,4 @@
-use Rattle.std.proofs.Common.{sym, subst}
+use Rattle.std.proofs.Common.{sym, ap, subst, ◌∙◌}
 use Rattle.std.specs.declared.result.Result.TheVariants.{Ok}
 use Rattle.cv_resolver.specs.Resolver.{Client}
 use Rattle.cv_client.specs.Pin.{Pins, client_at, pinned, unpinned, no_room}
@@ -16,3 +16,8 @@ returns-in-Err-new-clause-pins g c = no_room c.in-Ok.manifest c.in-Ok.ensures.fe
 
 pub returns-in-Err-clause-pins : goal.returns-in-Err-clause-pins
 returns-in-Err-clause-pins g c = unpinned c.in-Err.fault c.in-Err.ensures.fetches
+
+pub returns-in-Ok-new-clause-completes : goal.returns-in-Ok-new-clause-completes
+returns-in-Ok-new-clause-completes g c = λ steady files s text m has says.
+    let e = c.in-Ok-new.ensures in
+    same_client c.in-Ok-new.resolver (client_at c.in-Ok.manifest) e.name e.revision e.root e.empty e.idle ∙ ap client_at (c.in-Ok.ensures.completes steady files s text m has says)
