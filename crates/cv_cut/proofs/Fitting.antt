@@ -64,7 +64,7 @@ sound_apart_ P t sound p q s =
     (ap key_of (sym s.first.1) ∙ s.keys ∙ ap key_of s.second.1) in
     s.differ (s.first.1 ∙ ap (λ (x : Path). s.cut ++ x) same ∙ sym s.second.1)
 
-sound_fits : (t : Nodes) → ((c : Path) → is_cut t c ≡ true → IsSound (Unit {0}) t c) → Fits t
+pub sound_fits : (t : Nodes) → ((c : Path) → is_cut t c ≡ true → IsSound (Unit {0}) t c) → Fits t
 sound_fits t sound = record { apart = sound_apart_ (Unit {0}) t sound; limits = λ c full. (sound c full.is_cut_).fits tt full }
 
 pub was_sound : (P : Type 0) (t : Nodes) (c : Path) → Fits t → is_cut t c ≡ true → IsSound P t c

@@ -85,7 +85,7 @@ side p c =
     ] refl
 
 -- a shelf that has the catalogue has it of a tree at whose cut the same stands
-there_too : (s : Shelf) (t n : Nodes) (c : Path) → at n c ≡ at t c → ((x : Path) → is_cut t x ≡ true → s (object_id (sha1 (cat t x)) Catalogue) ≡ Some (cat t x)) → is_cut n c ≡ true
+pub there_too : (s : Shelf) (t n : Nodes) (c : Path) → at n c ≡ at t c → ((x : Path) → is_cut t x ≡ true → s (object_id (sha1 (cat t x)) Catalogue) ≡ Some (cat t x)) → is_cut n c ≡ true
     → s (object_id (sha1 (cat n c)) Catalogue) ≡ Some (cat n c)
 there_too s t n c same all cut = subst (λ (bytes : List ℕ). s (object_id (sha1 bytes) Catalogue) ≡ Some bytes) (sym (cat_same n t c same)) (all c (sym (cut_same n t c same) ∙ cut))
 

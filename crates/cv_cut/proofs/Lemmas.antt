@@ -4,7 +4,7 @@ pub use Rattle.cv_cut.proofs.Behind.{is_behind}
 pub use Rattle.cv_cut.proofs.Bools.{not_false, not_true, so}
 pub use Rattle.cv_cut.proofs.Canonical.{cat_is}
 pub use Rattle.cv_cut.proofs.CanonicalRules.{canonical, canonical_at, cut_some, fits_at_cut, order_count, other_cut, region_apart}
-pub use Rattle.cv_cut.proofs.Collisions.{among_within, within_among, within_root}
+pub use Rattle.cv_cut.proofs.Collisions.{among_within, cut_of_tree, within_among, within_root}
 pub use Rattle.cv_cut.proofs.Ends.{last_name-append, last_some, near_below, parent_key-append, some_last}
 pub use Rattle.cv_cut.proofs.Fitting.{apart_after, fits_after, passes_of, put-root}
 pub use Rattle.cv_cut.proofs.Grafts.{Means-more, Means-put, cut_covers}
@@ -13,7 +13,7 @@ pub use Rattle.cv_cut.proofs.Joined.{covers-shift, is_near-in, is_near-out, path
 pub use Rattle.cv_cut.proofs.KindLaws.{rest_is}
 pub use Rattle.cv_cut.proofs.Lists.{apart_append, kept_apart, sorted_apart}
 pub use Rattle.cv_cut.proofs.MarkLaws.{covers_append, longer_covers_not, marked-at, marked-out, near-here, near-out, same_rest}
-pub use Rattle.cv_cut.proofs.MeansAfter.{means_after}
+pub use Rattle.cv_cut.proofs.MeansAfter.{means_after, part_means}
 pub use Rattle.cv_cut.proofs.Members.{comes_from, first_or_later, first_there, goes_to, later_there, none_there, passes, passing}
 pub use Rattle.cv_cut.proofs.Opening.{IsThere, Unsized, left_by, misstating_bad, nested_long, nested_there, nested_unopened, opens_there, root_by_key, root_found, stands_long, transition_long, transition_of, unopened}
 pub use Rattle.cv_cut.proofs.Over.{more_over, nearest, same_ends, same_over}

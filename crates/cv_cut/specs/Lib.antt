@@ -8,6 +8,7 @@ pub mod Over
 pub mod Told
 pub mod Open
 pub mod Means
+pub mod Own
 pub mod Piece
 pub mod Reached
 pub mod Good

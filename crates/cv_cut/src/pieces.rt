@@ -5,7 +5,7 @@ ghost use Rattle.std.specs.Option.{option_copied};
 ghost use Rattle.cv_base.specs.Marker.{marker, ends_in};
 ghost use Rattle.cv_base.specs.Path.{covers};
 ghost use Rattle.std.specs.FinMap as finmap;
-ghost use Rattle.cv_tree.specs.Tree.{IsTree, is_directory};
+ghost use Rattle.cv_tree.specs.Tree.{IsTree, Nodes, is_directory};
 ghost use Rattle.cv_tree.specs.Changes.{FitsUnder, nodes_of};
 ghost use Rattle.cv_cut.specs.Catalogues.{IsFull};
 ghost use Rattle.cv_cut.specs.Cut.{catalogue_object, is_other, nested_in, row_in};
@@ -160,11 +160,12 @@ fn entries_within(
     Ok(found)
 }
 
-/// The part that stands at a path of a tree, where no two paths of one region of it share a key. It is ready to be cut where no
-/// other cut but the root's stands above the path.
+/// The part that stands at a path of a tree, where no two paths of one region of it share a key. It is ready to be cut where the
+/// tree has nothing else but directories above the path, as one of `alone` has.
 pub fn piece_at(alloc: Global, tree: Tree, path: &RepoPath) -> Result<Piece, CutFault>
     ensures whole { IsTree tree }
     ensures piece { IfOk result (λ made. IsPiece made tree path.now) }
+    ensures ready { IfOk result (λ made. (part : Nodes) → HasOnly tree path.now part → IsReady made) }
     ensures fault { IfErr result (IsSharedWithin tree path.now) }
 {
     let entries = tree.entries(alloc)?;

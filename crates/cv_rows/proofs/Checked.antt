@@ -1,6 +1,6 @@
 -- Rows and nested entries in any order, put in order and checked.
-use Rattle.std.proofs.Common.{◌≡◌, ℕ, ◌<◌, ◌≤◌, List, ◌++◌, length, subst, sym, inl, inr, arith}
-use Rattle.std.specs.List.{AllByRecursion, All}
+use Rattle.std.proofs.Common.{◌≢◌, ◌≤◌, List, ◌++◌, length, refl, inl, inr, arith}
+use Rattle.std.specs.List.{AllByRecursion}
 use Rattle.std.specs.List.Sorted.{IsPermutation, IsStrictlySortedBy}
 use Rattle.std.proofs.lemmas.Bool.{cases_lt}
 use Rattle.std.proofs.lemmas.List.Elements.{All-from_recursion, recursion_from_All, All-append, All-contains, Contains-get_or}
@@ -10,11 +10,12 @@ use Rattle.cv_rows.specs.Row.{IsRow}
 use Rattle.cv_rows.specs.Nested.{IsNested}
 use Rattle.cv_rows.specs.Places.{root}
 use Rattle.cv_rows.specs.Catalogue.{IsCatalogue, IsRegion, file_of, row_cmp, nested_cmp}
-use Rattle.cv_rows.specs.Faults.{IsRuleFault, KeepsRules}
-use Rattle.cv_rows.specs.Made.{AreApart, AreParts, PassesLimit, keys_of}
+use Rattle.cv_rows.specs.Faults.{IsRuleFault, IsSaid, KeepsRules}
+use Rattle.cv_rows.specs.Made.{PassesLimit}
 use Rattle.cv_rows.specs.declared.row.Row.{Row}
 use Rattle.cv_rows.specs.declared.nested.Nested.{Nested}
 use Rattle.cv_rows.specs.declared.row_fault.RowFault.{RowFault}
+use Rattle.cv_rows.specs.declared.row_fault.RowFault.TheVariants.{BadField, BadKey, BadMagic, Marker, NestedList, NoMemory, Order, Orphan, Short, TooLarge, TrailingBytes}
 use Rattle.cv_rows.proofs.NestedLaws.{fits_there}
 use Rattle.cv_rows.proofs.RuleLaws.{contents, no_fault}
 use Rattle.cv_rows.proofs.Regions.{catalogue_made, region_moved}
@@ -65,8 +66,22 @@ checked_is at rows rows' nested nested' spelled nested_spelled fits moved nested
     let was = region_moved at rows' rows nested' nested (λ r has. Contains-permutation rows' rows r back has) (λ r has. Contains-permutation rows rows' r moved has) (λ n has. Contains-permutation nested' nested n nested_back has) (λ n has. Contains-permutation nested nested' n nested_moved has) kept in
     catalogue_made at rows rows' nested nested' was fits moved nested_moved keeps.ordered.0 keeps.ordered.1
 
--- parts of a catalogue break none
-pub parts_kept : (at : Path) (rows rows' : List Row) (nested nested' : List Nested) (fault : RowFault) → AreApart (keys_of rows) → (PassesLimit rows nested → ⊥) → IsPermutation rows rows' → IsPermutation nested nested'
-    → IsStrictlySortedBy row_cmp rows' → IsStrictlySortedBy nested_cmp nested' → IsRuleFault at rows' nested' fault → AreParts at rows nested → ⊥
-parts_kept at rows rows' nested nested' fault apart fits moved nested_moved ordered nested_ordered broken parts =
-    no_fault (contents at rows' nested') fault (catalogue_made at rows rows' nested nested' (parts.region apart) fits moved nested_moved ordered nested_ordered) broken
+-- those of a region break no rule, once they are in order
+pub region_unbroken : (at : Path) (rows rows' : List Row) (nested nested' : List Nested) (fault : RowFault) → (PassesLimit rows nested → ⊥) → IsPermutation rows rows' → IsPermutation nested nested'
+    → IsStrictlySortedBy row_cmp rows' → IsStrictlySortedBy nested_cmp nested' → IsRuleFault at rows' nested' fault → IsRegion at rows nested → ⊥
+region_unbroken at rows rows' nested nested' fault fits moved nested_moved ordered nested_ordered broken region =
+    no_fault (contents at rows' nested') fault (catalogue_made at rows rows' nested nested' region fits moved nested_moved ordered nested_ordered) broken
+
+-- what is said of a fault but want of memory is so
+pub is_so : (fault : RowFault) (said : Type 0) → fault ≢ NoMemory → IsSaid fault said → said
+is_so NoMemory said other so = absurd (other refl)
+is_so Short said other so = so
+is_so BadMagic said other so = so
+is_so (BadField i) said other so = so
+is_so (Order i) said other so = so
+is_so (BadKey i) said other so = so
+is_so (Orphan i) said other so = so
+is_so (Marker i) said other so = so
+is_so (NestedList i) said other so = so
+is_so TrailingBytes said other so = so
+is_so TooLarge said other so = so

@@ -1,8 +1,9 @@
 //! Catalogues.
-ghost use Rattle.std.specs.Prelude.{◌≡◌, ◌≢◌, ◌++◌, true, false, IfOk, IfErr, IfSome, OnOk, Err, MatchOption, Contains, filter, map};
+ghost use Rattle.std.specs.Prelude.{◌≡◌, ◌≢◌, ◌++◌, true, false, IfOk, IfErr, IfSome, OnOk, Err, None, MatchOption, Contains, filter, map};
 ghost use Rattle.cv_base.specs.Marker.{marker, ends_in};
 ghost use Rattle.cv_base.specs.Digest.{IsDigest};
 ghost use Rattle.cv_base.specs.Path.{covers};
+ghost use Rattle.cv_rows.specs.declared.row_fault.RowFault.TheVariants as row_fault;
 
 use crate::children::{children_of, rows_below};
 use crate::covered::{copy_nested, copy_rows, covered_keys, drop_nested, drop_rows};
@@ -30,6 +31,16 @@ pub struct Catalogue {
     nested: Vec<Nested>,
 }
 
+/// Tells want of memory from a rule that is broken.
+fn unless_memory(fault: RowFault) -> Result<(), NoMemory>
+    ensures { OnOk result (fault ≢ row_fault.NoMemory) }
+{
+    match fault {
+        RowFault::NoMemory => Err(NoMemory),
+        _ => Ok(()),
+    }
+}
+
 impl Model for Catalogue {
     ghost use Rattle.cv_rows.specs.Catalogue.{Contents, IsCatalogue};
 
@@ -41,7 +52,7 @@ impl Model for Catalogue {
 }
 
 impl Catalogue {
-    ghost use Rattle.cv_rows.specs.Catalogue.{Contents, IsCatalogue, IsUnlessMemory, catalogue_bytes, is_below};
+    ghost use Rattle.cv_rows.specs.Catalogue.{Contents, IsCatalogue, IsRegion, IsUnlessMemory, catalogue_bytes, is_below};
     ghost use Rattle.cv_rows.specs.Faults.{IsFirstFault};
     ghost use Rattle.cv_rows.specs.Made.{AreParts, AreApart, IsTwice, PassesLimit, keys_of, texts_of, in_order};
     ghost use Rattle.cv_rows.specs.Row.{IsRow};
@@ -150,7 +161,7 @@ impl Catalogue {
     }
 
     /// The catalogue with more rows and nested entries, in any order, of which it isn't known that all together keep the rules
-    /// of a catalogue: they are checked, and where they don't there is none. No clause says that there is one where they do. The faults are those of `of`.
+    /// of a catalogue: they are checked, and there is none just where they don't. The faults are those of `of`.
     pub fn with_checked(
         self,
         alloc: Global,
@@ -161,6 +172,7 @@ impl Catalogue {
         requires nested_spelled { AllByRecursion IsNested nested.items }
         requires texts { AreApart (texts_of (self.nested ++ nested.items)) }
         ensures rules { IfOk result (λ found. IfSome found IsCatalogue) }
+        ensures none { IfOk result (λ found. found ≡ None → IsRegion self.at (self.rows ++ rows.items) (self.nested ++ nested.items) → ⊥) }
         ensures made { IfOk result (λ found. IfSome found (λ c. c ≡ in_order self.at (self.rows ++ rows.items) (self.nested ++ nested.items))) }
         ensures apart { OnOk result (AreApart (keys_of (self.rows ++ rows.items))) }
         ensures fits { OnOk result (PassesLimit (self.rows ++ rows.items) (self.nested ++ nested.items) → ⊥) }
@@ -177,8 +189,10 @@ impl Catalogue {
         let nested = nested_by_text(all_nested);
         match rules::check(alloc, &at, &rows, &nested) {
             Ok(()) => Ok(Some(Catalogue { at, rows, nested })),
-            Err(RowFault::NoMemory) => Err(WithFault::NoMemory),
-            Err(_) => Ok(None),
+            Err(fault) => match unless_memory(fault) {
+                Ok(()) => Ok(None),
+                Err(NoMemory) => Err(WithFault::NoMemory),
+            },
         }
     }
 

@@ -1,9 +1,9 @@
 //! Whether rows fit the paths at which they stand, by the texts of these paths: they are written one over another, and no path
 //! is made.
-ghost use Rattle.std.specs.Prelude.{◌≡◌, ℕ, ◌+◌, ◌<◌, ◌≤◌, ◌↔◌, List, length, IsTrue, IfOk, MatchOption};
+ghost use Rattle.std.specs.Prelude.{◌≡◌, ℕ, ◌+◌, ◌<◌, ◌≤◌, ◌↔◌, List, length, map, IsTrue, IfOk, MatchOption};
 ghost use Rattle.std.specs.List.{All};
 ghost use Rattle.md5.specs.Md5.{md5};
-ghost use Rattle.cv_base.specs.Path.{IsPath, last_name_of, text_of};
+ghost use Rattle.cv_base.specs.Path.{IsPath, is_path_name, last_name_of, text_of};
 ghost use Rattle.cv_rows.specs.Places.{IsRoot, StandsAt};
 ghost use Rattle.cv_rows.specs.Parents.{AddsName, IsPlacing, IsTextOf};
 ghost use Rattle.cv_rows.specs.Faults.{IsFirst, IsMisplaced, IsPlaced, AllFit};
@@ -14,12 +14,24 @@ use cv_base::{NAMES_LIMIT, NoMemory, PATH_LIMIT, RepoPath, is_path_name};
 use md5::{Digest, Md5};
 use std::alloc::Global;
 
-/// Adds a name to a path's text, unless it is no name in a path, or the text would be too long.
-fn spell_name(text: &mut Vec<u8>, name: &str) -> Result<bool, NoMemory>
-    requires { length text.old.items ≤ 4095 }
+/// Whether the name of each row is a name in a path.
+fn judged_names(alloc: Global, rows: &[Row]) -> Result<Vec<bool>, NoMemory>
+    ensures { IfOk result (λ named. named.items ≡ map (λ r. is_path_name r.name) rows.now) }
+{
+    let mut named = Vec::with_capacity(alloc, rows.len())?;
+    for row in rows {
+        named.push(is_path_name(row.name.text()))?;
+    }
+    Ok(named)
+}
+
+/// Adds a name to a path's text, unless it is no name in a path, as was judged before, or the text would be too long.
+fn spell_name(text: &mut Vec<u8>, name: &str, is_name: bool) -> Result<bool, NoMemory>
+    requires limit { length text.old.items ≤ 4095 }
+    requires named { is_name ≡ is_path_name name.now }
     ensures { IfOk result (AddsName text.old.items name.now text.new.items) }
 {
-    if !is_path_name(name) || name.len() >= PATH_LIMIT - text.len() {
+    if !is_name || name.len() >= PATH_LIMIT - text.len() {
         return Ok(false);
     }
     text.push(b'/')?;
@@ -34,6 +46,7 @@ fn spell(
     at: &RepoPath,
     start: &str,
     rows: &[Row],
+    named: &[bool],
     root: usize,
     parents: &[usize],
     row: usize,
@@ -45,6 +58,7 @@ fn spell(
     requires placing { IsPlacing at.now rows.now root parents.now }
     requires stand { All (λ r. (q : List (List ℕ)) × StandsAt at.now rows.now r q) rows.now }
     requires row { row < length rows.now }
+    requires named { named.now ≡ map (λ r. is_path_name r.name) rows.now }
     ensures { IfOk result (IsTextOf at.now rows.now row left text.new.items) }
 {
     if row == root {
@@ -55,10 +69,21 @@ fn spell(
     if left == 0 {
         return Ok(false);
     }
-    if !spell(text, at, start, rows, root, parents, parents[row], left - 1)? {
+    let above = spell(
+        text,
+        at,
+        start,
+        rows,
+        named,
+        root,
+        parents,
+        parents[row],
+        left - 1,
+    )?;
+    if !above {
         return Ok(false);
     }
-    spell_name(text, rows[row].name.text())
+    spell_name(text, rows[row].name.text(), named[row])
 }
 
 /// Whether a row fits the path at which it stands, of which this is the text.
@@ -75,6 +100,7 @@ fn is_placed(
     at: &RepoPath,
     start: &str,
     rows: &[Row],
+    named: &[bool],
     root: usize,
     parents: &[usize],
     row: usize,
@@ -86,9 +112,10 @@ fn is_placed(
     requires placing { IsPlacing at.now rows.now root parents.now }
     requires stand { All (λ r. (q : List (List ℕ)) × StandsAt at.now rows.now r q) rows.now }
     requires row { row < length rows.now }
+    requires named { named.now ≡ map (λ r. is_path_name r.name) rows.now }
     ensures { IfOk result (IsPlaced at.now rows.now row) }
 {
-    let is_path = spell(text, at, start, rows, root, parents, row, left)?;
+    let is_path = spell(text, at, start, rows, named, root, parents, row, left)?;
     Ok(is_path && fits(at, &rows[row], text))
 }
 
@@ -106,9 +133,13 @@ pub fn first_misplaced(
 {
     let left = NAMES_LIMIT - at.names().len();
     let start = at.text(alloc)?;
+    let named = judged_names(alloc, rows)?;
     let mut text = Vec::new(alloc);
     for row in 0..rows.len() {
-        if !is_placed(&mut text, at, &start, rows, root, parents, row, left)? {
+        let fits = is_placed(
+            &mut text, at, &start, rows, &named, root, parents, row, left,
+        )?;
+        if !fits {
             return Ok(Some(row));
         }
     }

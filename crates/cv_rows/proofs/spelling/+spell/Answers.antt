@@ -13,7 +13,7 @@ returns-then-row-root t c =
 
 pub returns-then-left-eq0 : goal.returns-then-left-eq0
 returns-then-left-eq0 t c =
-    none_left c.args.at.now c.args.rows.now c.args.root c.args.parents.now c.args.row c.args.left c.requires.1.1.1.1.1.0 c.requires.1.1.1.1.1.1.1 c.if-row-root.false c.if-left-eq0.true
+    none_left c.args.at.now c.args.rows.now c.args.root c.args.parents.now c.args.row c.args.left c.requires.1.1.1.1.1.0 c.requires.1.1.1.1.1.1.1.0 c.if-row-root.false c.if-left-eq0.true
 
 pub spell-requires : goal.spell-requires
 spell-requires t c = (
@@ -28,7 +28,10 @@ spell-requires t c = (
           c.requires.1.1.1.1.1.0,
           (
             c.requires.1.1.1.1.1.1.0,
-            parent_inside c.args.at.now c.args.rows.now c.args.root c.args.parents.now c.requires.1.1.1.1.1.0 c.requires.1.1.1.1.1.1.0 c.args.row c.requires.1.1.1.1.1.1.1 c.if-row-root.false,
+            (
+              parent_inside c.args.at.now c.args.rows.now c.args.root c.args.parents.now c.requires.1.1.1.1.1.0 c.requires.1.1.1.1.1.1.0 c.args.row c.requires.1.1.1.1.1.1.1.0 c.if-row-root.false,
+              c.requires.1.1.1.1.1.1.1.1,
+            ),
           ),
         ),
       ),
@@ -36,12 +39,12 @@ spell-requires t c = (
   ),
 )
 
-pub returns-then-not-branch : goal.returns-then-not-branch
-returns-then-not-branch t c =
-    above_none c.args.at.now c.args.rows.now c.args.root c.args.parents.now c.args.row c.args.left c.requires.1.1.1.1.1.0 c.requires.1.1.1.1.1.1.1 c.if-row-root.false (omega arith)
-    (not_spelled c.args.at.now c.args.rows.now _ _ _ _ c.in_ok-spell.ensures c.if-not-branch.true)
+pub returns-then-not-above : goal.returns-then-not-above
+returns-then-not-above t c =
+    above_none c.args.at.now c.args.rows.now c.args.root c.args.parents.now c.args.row c.args.left c.requires.1.1.1.1.1.0 c.requires.1.1.1.1.1.1.1.0 c.if-row-root.false (omega arith)
+    (not_spelled c.args.at.now c.args.rows.now _ _ _ _ c.in_ok-above.ensures c.if-not-above.true)
 
 pub returns : goal.returns
 returns t c =
-    if_spelled c.args.at.now c.args.rows.now c.args.root c.args.parents.now c.args.row c.args.left _ c.requires.1.1.1.1.1.0 c.requires.1.1.1.1.1.1.0 c.requires.1.1.1.1.1.1.1 c.if-row-root.false c.index-rows-row.is (omega arith) c.requires.1.1.1.1.0 _ _
-    (is_spelled c.args.at.now c.args.rows.now _ _ _ _ c.in_ok-spell.ensures c.if-not-branch.false) c.spell_name.result (subst (λ (n : List ℕ). IfOk c.spell_name.result (AddsName c.spell.new.text.items n c.spell_name.new.text.items)) (c.text.ensures.text ∙ ap (λ (r : Row). r.name) (sym c.index-rows-row.is)) c.spell_name.ensures)
+    if_spelled c.args.at.now c.args.rows.now c.args.root c.args.parents.now c.args.row c.args.left _ c.requires.1.1.1.1.1.0 c.requires.1.1.1.1.1.1.0 c.requires.1.1.1.1.1.1.1.0 c.if-row-root.false c.index-rows-row.is (omega arith) c.requires.1.1.1.1.0 _ _
+    (is_spelled c.args.at.now c.args.rows.now _ _ _ _ c.in_ok-above.ensures c.if-not-above.false) c.spell_name.result (subst (λ (n : List ℕ). IfOk c.spell_name.result (AddsName c.spell.new.text.items n c.spell_name.new.text.items)) (c.text.ensures.text ∙ ap (λ (r : Row). r.name) (sym c.index-rows-row.is)) c.spell_name.ensures)

@@ -5,12 +5,12 @@ use Rattle.cv_rows.proofs.Spelled.{is_in_place, is_misplaced}
 use Rattle.cv_rows.proofs.Walks.{first_misplaced_is, one_more_row}
 use Rattle.cv_rows.proofs.spelling.first_misplaced.Goals as goal
 
-pub returns-then-not-branch : goal.returns-then-not-branch
-returns-then-not-branch c =
+pub returns-then-not-fits : goal.returns-then-not-fits
+returns-then-not-fits c =
     first_misplaced_is c.args.at.now c.args.rows.now c.loop-row.row c.requires.placing.ordered c.loop-row.invariant c.loop-row-test.true
-    (is_misplaced c.args.at.now c.args.rows.now c.loop-row.row _ c.in_ok-is_placed.ensures c.if-not-branch.true)
+    (is_misplaced c.args.at.now c.args.rows.now c.loop-row.row _ c.in_ok-fits.ensures c.if-not-fits.true)
 
 pub loop-row-preserved : goal.loop-row-preserved
 loop-row-preserved c =
     one_more_row (λ r. (q : Path) × StandsAt c.args.at.now c.args.rows.now r q × FitsAt c.args.at.now r q) c.args.rows.now c.loop-row.row c.loop-row.invariant
-    (is_in_place c.args.at.now c.args.rows.now c.loop-row.row _ c.in_ok-is_placed.ensures c.if-not-branch.false)
+    (is_in_place c.args.at.now c.args.rows.now c.loop-row.row _ c.in_ok-fits.ensures c.if-not-fits.false)

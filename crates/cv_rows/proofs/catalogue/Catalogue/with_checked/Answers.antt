@@ -1,17 +1,15 @@
 use Rattle.std.specs.Prelude.{IsErrAnd}
 use Rattle.std.proofs.Common.{List, ◌++◌, Result, Ok, Err, sym, ap, subst, ◌∙◌, ◌≡◌, arith, length}
-use Rattle.std.specs.List.{AllByRecursion}
 use Rattle.cv_rows.specs.Row.{IsRow}
 use Rattle.cv_rows.specs.Nested.{IsNested}
-use Rattle.cv_rows.specs.Catalogue.{Contents, IsCatalogue}
+use Rattle.cv_rows.specs.Catalogue.{Contents, IsRegion}
 use Rattle.cv_rows.specs.Made.{AreApart, Judges, PassesLimit, keys_of, texts_of}
 use Rattle.cv_rows.specs.declared.row.Row.{Row}
 use Rattle.cv_rows.specs.declared.nested.Nested.{Nested}
 use Rattle.cv_rows.specs.declared.with_fault.WithFault.{WithFault}
 use Rattle.cv_rows.specs.declared.with_fault.WithFault.TheVariants as fault
-use Rattle.cv_rows.proofs.Regions.{full_is, judges_as}
-use Rattle.cv_rows.proofs.RuleLaws.{contents}
-use Rattle.cv_rows.proofs.Checked.{spelled_both, few, few_entries, checked_is}
+use Rattle.cv_rows.proofs.Regions.{full_is}
+use Rattle.cv_rows.proofs.Checked.{spelled_both, few, few_entries, checked_is, is_so, region_unbroken}
 use Rattle.cv_rows.proofs.catalogue.Catalogue.with_checked.Goals as goal
 
 pub extend-requires-clause-spelled : goal.extend-requires-clause-spelled
@@ -67,12 +65,14 @@ returns-in-Ok-clause-rules c =
 pub returns-in-Ok-clause-apart : goal.returns-in-Ok-clause-apart
 returns-in-Ok-clause-apart c = subst (λ (x : Contents). AreApart (keys_of (x.rows ++ c.args.rows.items))) c.self.view_is c.in_ok-extend.ensures.judges.0
 
-pub returns : goal.returns
-returns c = record {
-  rules = tt;
-  made = tt;
-  apart = subst (λ (x : Contents). AreApart (keys_of (x.rows ++ c.args.rows.items))) c.self.view_is c.in_ok-extend.ensures.judges.0;
-  fits = subst (λ (x : Contents). PassesLimit (x.rows ++ c.args.rows.items) (x.nested ++ c.args.nested.items) → ⊥) c.self.view_is c.in_ok-extend.ensures.judges.1;
-  collision = λ key is. cc;
-  full = λ is. cc;
-}
+pub returns-in-Ok-unless_memory-clause-none : goal.returns-in-Ok-unless_memory-clause-none
+returns-in-Ok-unless_memory-clause-none c = λ is region.
+    let e = c.in_ok-extend.ensures in
+    let was : IsRegion c.self.inside.at (c.self.inside.rows.items ++ c.args.rows.items) (c.self.inside.nested.items ++ c.args.nested.items) =
+    subst (λ (x : Contents). IsRegion x.at (x.rows ++ c.args.rows.items) (x.nested ++ c.args.nested.items)) (sym c.self.view_is) region in
+    region_unbroken c.self.inside.at c.extend.new.rows.items c.rows_by_key-rows.result.items c.extend.new.nested.items c.nested_by_text-nested.result.items c.in-Err.fault
+    (rw (e.rows, e.nested) e.judges.1) c.rows_by_key-rows.ensures.permutation c.nested_by_text-nested.ensures.permutation c.rows_by_key-rows.ensures.sorted c.nested_by_text-nested.ensures.sorted
+    (rw (sym c.deref.ensures.value, sym c.deref-2.ensures.value) (is_so c.in-Err.fault _ c.in-Ok-unless_memory.ensures c.in-Err.ensures)) (rw (e.rows, e.nested) was)
+
+pub returns-in-Ok-unless_memory-clause-apart : goal.returns-in-Ok-unless_memory-clause-apart
+returns-in-Ok-unless_memory-clause-apart c = subst (λ (x : Contents). AreApart (keys_of (x.rows ++ c.args.rows.items))) c.self.view_is c.in_ok-extend.ensures.judges.0
