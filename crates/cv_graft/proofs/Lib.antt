@@ -9,3 +9,5 @@ pub mod PlacedParts
 pub mod PlacedMade
 pub mod PlacedAbove
 pub mod PlacedWhole
+pub mod PlacedMeans
+pub mod Holders

@@ -4,3 +4,4 @@ pub mod Graft
 pub mod Joins
 pub mod Placed
 pub mod Way
+pub mod Directories

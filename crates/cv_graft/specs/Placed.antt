@@ -1,13 +1,17 @@
 -- What comes of a part that is set at a path by the catalogues on the way.
 use Rattle.std.specs.Prelude.{◌≡◌, ◌≢◌, ℕ, true, List, [], ◌++◌, filter, map, reverse, length, Contains, Some, Result, Ok, Err}
+use Rattle.std.specs.FinMap.{get}
 use Rattle.sha1.specs.Sha1.{sha1}
 use Rattle.cv_base.specs.Path.{Path, covers, overlap, key_of}
 use Rattle.cv_base.specs.ObjectId.{object_id}
+use Rattle.cv_base.specs.declared.attr.Attr.{Attr}
 use Rattle.cv_base.specs.declared.id.Kind.TheVariants.{Catalogue}
 use Rattle.cv_base.specs.declared.object.Object.{Object}
 use Rattle.cv_ports.specs.Shelf.{Shelf}
 use Rattle.cv_tree.specs.Tree.{Nodes, IsTree, at}
+use Rattle.cv_tree.specs.declared.node.FileRef.{FileRef}
 use Rattle.cv_tree.specs.declared.node.Node.{Node}
+use Rattle.cv_tree.specs.declared.node.Node.TheVariants.{File}
 use Rattle.cv_rows.specs.Catalogue.{Contents, IsCatalogue}
 use Rattle.cv_rows.specs.Made.{PassesLimit, in_order}
 use Rattle.cv_rows.specs.Places.{StandsAt}
@@ -18,11 +22,15 @@ use Rattle.cv_cut.specs.Above.{cuts_above, made_from, replaced, Holds}
 use Rattle.cv_cut.specs.Cuts.{is_cut}
 use Rattle.cv_cut.specs.Catalogues.{cat, root_of, IsFull}
 use Rattle.cv_cut.specs.Cut.{catalogue_object, is_other, nested_in, row_in}
+use Rattle.cv_cut.specs.Means.{HasContentOf}
+use Rattle.cv_cut.specs.Opening.{IsNestedCatalogue}
 use Rattle.cv_cut.specs.Piece.{cuts_within, region_within}
+use Rattle.cv_cut.specs.Reached.{HasCatalogue, root_place}
 use Rattle.cv_cut.specs.Region.{FitsAtCut, KeysApart}
 use Rattle.cv_cut.specs.Replaced.{FitsOver, SharesOver, IsFullOver}
 use Rattle.cv_cut.specs.declared.cut_fault.CutFault.{CutFault}
 use Rattle.cv_cut.specs.declared.cut_fault.CutFault.TheVariants as cut
+use Rattle.cv_graft.specs.Way.{HasNone, IsNext}
 use Rattle.cv_graft.specs.declared.grafted.Grafted.{Grafted}
 use Rattle.cv_graft.specs.declared.made.Made.{Made}
 use Rattle.cv_graft.specs.declared.graft_fault.GraftFault.{GraftFault}
@@ -52,6 +60,14 @@ Places t p (Err (fault.CatalogueFull c)) = IsFullOver t p c
 Places t p (Err fault.Failed) = Unit {0}
 Places t p (Err (fault.Damaged id found)) = ⊥
 Places t p (Err fault.NoMemory) = Unit {0}
+
+-- the shelf has each of these objects
+pub record HasObjects (shelf : Shelf) (objects : List Object) : Type 0 where
+  pub each : (o : Object) → Contains objects o → shelf o.id ≡ Some o.bytes
+
+-- and the content of each file of a part
+pub record HasContentsOf (shelf : Shelf) (s : Nodes) : Type 0 where
+  pub each : (q : Path) (attr : Attr) (file : FileRef) → get s q ≡ Some (File attr file) → HasContentOf shelf file
 
 -- why a part isn't cut, as it is answered
 abbrev pub of_cut : CutFault → GraftFault
@@ -130,6 +146,17 @@ JoinsPart c p m (Err (fault.Damaged id found)) = ⊥
 JoinsPart c p m (Err fault.NoMemory) = Unit {0}
 
 -- ---- the catalogues above
+
+-- each catalogue that leads from this one to the last above the path is there, and decodes at its place
+pub data LeadsTo (shelf : Shelf) (p : Path) : Contents → Type 0 where
+  holds : {c : Contents} → HasNone c p → LeadsTo shelf p c
+  passes : {c below : Contents} {n : Nested} → IsNext c p n → IsNestedCatalogue shelf c n below → LeadsTo shelf p below → LeadsTo shelf p c
+
+-- the first of them is that of the root
+pub record HasLead (shelf : Shelf) (hash : List ℕ) (p : Path) : Type 0 where
+  pub top : Contents
+  pub there : HasCatalogue shelf hash root_place top
+  pub leads : LeadsTo shelf p top
 
 -- what is asked of both trees, where the cut at c directly holds the path in the one
 pub record IsAskedPart (t m : Nodes) (p c r : Path) : Type 0 where

@@ -1,5 +1,5 @@
 //! Directories of a tree, by the catalogue that directly holds a path.
-ghost use Rattle.std.specs.Prelude.{◌≡◌, true, List, ℕ, length, IfErr, IsErrOf, MatchOption};
+ghost use Rattle.std.specs.Prelude.{◌≡◌, true, List, ℕ, length, IfOk, IfErr, IsErrOf, MatchOption};
 ghost use Rattle.std.specs.Option.{option_copied};
 ghost use Rattle.std.specs.FinMap as map;
 ghost use Rattle.cv_rows.specs.Catalogue.{IsCatalogue};
@@ -13,6 +13,7 @@ ghost use Rattle.cv_base.specs.declared.id.Kind.TheVariants as id_kind;
 ghost use Rattle.cv_ports.specs.Calls.{RaisedAtMost};
 ghost use Rattle.cv_cut.specs.Above.{cuts_above, Holds};
 ghost use Rattle.cv_cut.specs.Opening.{MayFail};
+ghost use Rattle.cv_graft.specs.Directories.{HasDirectory, IsFound};
 ghost use Rattle.cv_graft.specs.Graft.{HasWay};
 ghost use Rattle.cv_graft.specs.Places.{stands_for_directory};
 ghost use Rattle.cv_graft.specs.Way.{Tells};
@@ -38,7 +39,8 @@ fn is_directory_kind(kind: RowKind) -> bool
 
 /// Whether a path is a directory of a tree, by the catalogue that directly holds the path.
 pub(crate) fn directory_in(catalogue: &Catalogue, path: &RepoPath) -> bool
-    ensures { (t : Nodes) (c r : List (List ℕ)) → IsTree t → Fits t → Holds t path.now c r → catalogue.now ≡ contents_of t c → result ≡ is_directory (map.get t path.now) }
+    ensures row { HasDirectory catalogue.now path.now result }
+    ensures tree { (t : Nodes) (c r : List (List ℕ)) → IsTree t → Fits t → Holds t path.now c r → catalogue.now ≡ contents_of t c → result ≡ is_directory (map.get t path.now) }
 {
     match catalogue.row_at(path) {
         Some(row) => is_directory_kind(row.kind),
@@ -46,7 +48,8 @@ pub(crate) fn directory_in(catalogue: &Catalogue, path: &RepoPath) -> bool
     }
 }
 
-/// Whether a path is a directory of the tree of a root. Only catalogues of cuts properly above the path are read.
+/// Whether a path is a directory of the tree of a root. Only catalogues of cuts properly above the path are read, and what is
+/// answered is so by one that is reached from the root's, also where the root means no tree.
 ///
 /// Where the root means a tree, every fault but the shelf's own and want of memory is out of the question.
 pub fn directory_at<S: Shelf>(
@@ -57,6 +60,7 @@ pub fn directory_at<S: Shelf>(
 ) -> Result<bool, LoadFault>
     requires { root.now.kind ≡ id_kind.Catalogue }
     ensures told { WhereTold (S.shelf shelf.old) (λ standing. (t : Nodes) → HasWay standing root.now.hash t path.now → Tells t path.now result) }
+    ensures found { WhereTold (S.shelf shelf.old) (λ standing. IfOk result (IsFound standing root.now.hash path.now)) }
     ensures fault { WhereTold (S.shelf shelf.old) (λ standing. IfErr result (MayFail standing root.now.hash)) }
     ensures reads { S.reads shelf.old shelf.new }
     ensures unchanged { S.shelf shelf.new ≡ S.shelf shelf.old }

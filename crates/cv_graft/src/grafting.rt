@@ -13,6 +13,8 @@ ghost use Rattle.cv_ports.specs.Calls.{RaisedAtMost};
 ghost use Rattle.cv_cut.specs.Above.{cuts_above, replaced};
 ghost use Rattle.cv_cut.specs.Opening.{MayFail};
 ghost use Rattle.cv_cut.specs.declared.load_fault.LoadFault.TheVariants as load_faults;
+ghost use Rattle.cv_cut.specs.Reached.{root_place};
+ghost use Rattle.cv_graft.specs.Directories.{IsHolder};
 ghost use Rattle.cv_graft.specs.Graft.{Grafts, HasOwnIds};
 ghost use Rattle.cv_graft.specs.Placed.{HasCuts};
 ghost use Rattle.cv_graft.specs.Way.{Finds, TellsDamage};
@@ -38,6 +40,7 @@ pub(crate) fn holder<S: Shelf>(
     requires kind { root.now.kind ≡ id_kind.Catalogue }
     requires path { path.now ≢ [] }
     ensures told { WhereTold (S.shelf shelf.old) (λ standing. (n : Nodes) → HasCuts standing root.now.hash n path.now → Finds n path.now result) }
+    ensures holder { WhereTold (S.shelf shelf.old) (λ standing. IfOk result (IsHolder standing root.now.hash root_place path.now)) }
     ensures rules { IfOk result IsCatalogue }
     ensures covered { IfOk result (λ c. (covers c.at path.now ≡ true) × (path.now ≢ c.at)) }
     ensures fault { WhereTold (S.shelf shelf.old) (λ standing. IfErr result (MayFail standing root.now.hash)) }

@@ -6,11 +6,13 @@ ghost use Rattle.cv_base.specs.Path.{Path};
 ghost use Rattle.cv_base.specs.declared.id.Kind.TheVariants.{Catalogue};
 ghost use Rattle.cv_base.specs.declared.id.ObjectId.{ObjectId};
 ghost use Rattle.cv_ports.specs.Shelf.{Shelf, HasMore};
-ghost use Rattle.cv_tree.specs.Tree.{Nodes, IsTree};
+ghost use Rattle.cv_tree.specs.Tree.{Nodes, IsTree, put};
 ghost use Rattle.cv_tree.specs.Changes.{has_place};
 ghost use Rattle.cv_cut.specs.Catalogues.{Fits, cat, root_of};
 ghost use Rattle.cv_cut.specs.Means.{Means};
 ghost use Rattle.cv_cut.specs.Above.{cuts_above, replaced};
+ghost use Rattle.cv_cut.specs.Replaced.{FitsOver};
+ghost use Rattle.cv_graft.specs.Placed.{HasContentsOf, HasObjects, placed_of};
 
 /// A replaced subtree leaves a tree, where the path's parent is a directory.
 pub fn a_graft_is_a_tree()
@@ -23,4 +25,11 @@ pub fn a_graft_means_its_tree()
     ensures { (shelf more : Shelf) (hash other : List ℕ) (t n : Nodes) (p : Path) → Means shelf hash t → Means shelf other n → has_place t p ≡ true → Fits (replaced t n p) → HasMore shelf more
         → ((c : Path) → Contains (cuts_above (replaced t n p) p) c → more (object_id (sha1 (cat (replaced t n p) c)) Catalogue) ≡ Some (cat (replaced t n p) c))
         → Means more (root_of (replaced t n p)) (replaced t n p) }
+{}
+
+/// A part is set: on a shelf that has at least what the first has, the catalogues that were added and the contents of the part's
+/// files, the new root means the new tree.
+pub fn a_placed_part_means_its_tree()
+    ensures { (shelf more : Shelf) (hash : List ℕ) (t s : Nodes) (p : Path) → Means shelf hash t → IsTree (put t p s) → FitsOver (put t p s) p → HasMore shelf more
+        → HasObjects more (placed_of (put t p s) p).added → HasContentsOf more s → Means more (root_of (put t p s)) (put t p s) }
 {}

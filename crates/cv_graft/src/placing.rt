@@ -19,7 +19,7 @@ ghost use Rattle.cv_cut.specs.Cut.{catalogue_object};
 ghost use Rattle.cv_cut.specs.Cuts.{is_cut};
 ghost use Rattle.cv_cut.specs.Piece.{IsPiece};
 ghost use Rattle.cv_graft.specs.Graft.{HasOwnIds};
-ghost use Rattle.cv_graft.specs.Placed.{ArePathsCrossed, HasCuts, IsAskedPart, IsMeeting, JoinsLists, JoinsPart, Sets};
+ghost use Rattle.cv_graft.specs.Placed.{ArePathsCrossed, HasCuts, IsAskedPart, IsMeeting, JoinsLists, JoinsPart, LeadsTo, Sets};
 ghost use Rattle.cv_graft.specs.Way.{TellsDamage};
 ghost use Rattle.cv_graft.specs.declared.graft_fault.GraftFault.TheVariants as faults;
 
@@ -36,7 +36,7 @@ use cv_tree::Node;
 use std::alloc::Global;
 
 /// Looks for a key that a row of the catalogue has and one of some paths.
-fn check_paths(
+pub(crate) fn check_paths(
     alloc: Global,
     catalogue: &Catalogue,
     coming: &[(RepoPath, Node)],
@@ -160,6 +160,7 @@ pub(crate) fn rebuilt_with<S: Shelf>(
     requires only { (d : List (List ℕ)) → is_cut piece.now.tree d ≡ true → d ≢ [] → covers path.now d ≡ true }
     ensures told { WhereTold (S.shelf shelf.old) (λ standing. (hash : List ℕ) (t : Nodes) (r : List (List ℕ)) → HasCuts standing hash t path.now → IsTree (replaced t piece.now.tree path.now)
         → OnWay t path.now catalogue.at r → catalogue ≡ contents_of t catalogue.at → Sets t piece.now.tree path.now catalogue.at r added.old.items added.new.items result) }
+    ensures lead { WhereTold (S.shelf shelf.old) (λ standing. OnOk result (LeadsTo standing path.now catalogue)) }
     ensures digest { IfOk result (λ made. IsDigest made.hash) }
     ensures own { OnOk result (HasOwnIds added.old.items → HasOwnIds added.new.items) }
     ensures damaged { WhereTold (S.shelf shelf.old) (λ standing. TellsDamage standing result) }

@@ -1,5 +1,5 @@
 //! Setting a part at a path of a published tree.
-ghost use Rattle.std.specs.Prelude.{◌≡◌, ◌≢◌, [], false, length, IfOk, IsTrue, IsErrOf};
+ghost use Rattle.std.specs.Prelude.{◌≡◌, ◌≢◌, [], false, length, IfOk, IsTrue, IsErrOf, OnOk};
 ghost use Rattle.std.specs.FinMap as map;
 ghost use Rattle.std.specs.Option.{option_copied};
 ghost use Rattle.cv_base.specs.Counts.{HasCause};
@@ -12,7 +12,7 @@ ghost use Rattle.cv_tree.specs.Tree.{Nodes, is_directory, put};
 ghost use Rattle.cv_ports.specs.Shelf.{Shelf as Shelf_};
 ghost use Rattle.cv_cut.specs.Above.{cuts_above};
 ghost use Rattle.cv_graft.specs.Graft.{HasOwnIds};
-ghost use Rattle.cv_graft.specs.Placed.{HasCuts, Places};
+ghost use Rattle.cv_graft.specs.Placed.{HasCuts, HasLead, Places};
 ghost use Rattle.cv_graft.specs.Way.{TellsDamage};
 ghost use Rattle.cv_graft.specs.declared.graft_fault.GraftFault.TheVariants as faults;
 
@@ -28,7 +28,7 @@ use std::alloc::Global;
 /// A part, as a whole tree.
 fn whole_part(alloc: Global, part: &Part) -> Result<Grafted, GraftFault>
     requires { IsTrue (is_directory (map.get part.now [])) }
-    ensures placed { (t : Nodes) → Places (put t [] part.now) [] result }
+    ensures placed { Places part.now [] result }
     ensures own { IfOk result (λ g. HasOwnIds g.added) }
     ensures unread { IsErrOf result faults.Failed → ⊥ }
     ensures undamaged { (standing : Shelf_) → TellsDamage standing result }
@@ -48,7 +48,7 @@ fn whole_part(alloc: Global, part: &Part) -> Result<Grafted, GraftFault>
 fn at_root(alloc: Global, path: &RepoPath, part: Option<&Part>) -> Result<Grafted, GraftFault>
     requires path { path.now ≡ [] }
     requires root { IsTreeAtRoot path.now (nodes_of (option_copied part)) }
-    ensures placed { (t : Nodes) → Places (put t path.now (nodes_of (option_copied part.entry))) path.now result }
+    ensures placed { Places (nodes_of (option_copied part.entry)) [] result }
     ensures own { IfOk result (λ g. HasOwnIds g.added) }
     ensures unread { IsErrOf result faults.Failed → ⊥ }
     ensures undamaged { (standing : Shelf_) → TellsDamage standing result }
@@ -72,6 +72,7 @@ fn below_root_with<S: Shelf>(
     requires unmarked { ends_in marker path.now ≡ false }
     requires limits { FitsUnder path.now (nodes_of (option_copied part)) }
     ensures told { WhereTold (S.shelf shelf.old) (λ standing. (t : Nodes) → HasCuts standing base.now.hash t path.now → IsTrue (has_place t path.now) → Places (put t path.now (nodes_of (option_copied part.entry))) path.now result) }
+    ensures lead { WhereTold (S.shelf shelf.old) (λ standing. OnOk result (HasLead standing base.now.hash path.now)) }
     ensures own { IfOk result (λ g. HasOwnIds g.added) }
     ensures damaged { WhereTold (S.shelf shelf.old) (λ standing. TellsDamage standing result) }
     ensures reads { S.reads shelf.old shelf.new }
@@ -98,10 +99,11 @@ fn below_root_with<S: Shelf>(
 
 /// A tree with a part set at a path, or with what it has there taken out, by the catalogues on the way alone. Made are the
 /// catalogues of the cuts properly above the path, and the part's own. Below the root only the former are read, as the tree
-/// has them; at the root nothing is.
+/// has them; at the root nothing is, and the part is the tree.
 ///
 /// A catalogue on the way that isn't there or doesn't decode is answered as want of memory, and so is a part whose path's parent
-/// is no directory. Where there is no part, such a path changes nothing.
+/// is no directory: below the root an answer says that each catalogue on the way was there. Where there is no part, such a path
+/// changes nothing.
 pub fn place<S: Shelf>(
     alloc: Global,
     shelf: &mut S,
@@ -114,6 +116,8 @@ pub fn place<S: Shelf>(
     requires root { IsTreeAtRoot path.now (nodes_of (option_copied part)) }
     requires limits { FitsUnder path.now (nodes_of (option_copied part)) }
     ensures told { WhereTold (S.shelf shelf.old) (λ standing. (t : Nodes) → HasCuts standing base.now.hash t path.now → IsTrue (has_place t path.now) → Places (put t path.now (nodes_of (option_copied part.entry))) path.now result) }
+    ensures whole { path.now ≡ [] → Places (nodes_of (option_copied part.entry)) [] result }
+    ensures lead { WhereTold (S.shelf shelf.old) (λ standing. OnOk result (path.now ≢ [] → HasLead standing base.now.hash path.now)) }
     ensures own { IfOk result (λ g. HasOwnIds g.added) }
     ensures damaged { WhereTold (S.shelf shelf.old) (λ standing. TellsDamage standing result) }
     ensures reads { S.reads shelf.old shelf.new }

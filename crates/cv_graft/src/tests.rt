@@ -4,9 +4,11 @@ ghost use Rattle.cv_base.specs.declared.id.Kind.TheVariants as id_kind;
 ghost use Rattle.cv_tree.specs.Node.{IsNode};
 
 use super::*;
+use crate::placing::check_paths;
 use cv_base::{Attr, Kind, Object, ObjectId, RepoPath, ends_in_marker};
 use cv_cut::cut;
 use cv_ports::MemoryShelf;
+use cv_rows::Catalogue;
 use cv_tree::{FileRef, Node, Tree};
 use std::alloc::Global;
 use std::test::*;
@@ -152,17 +154,24 @@ fn tree_of(alloc: Global, text: &str) -> Result<Tree, Fail> {
     Ok(tree)
 }
 
-/// Adds the catalogues of the tree that a text says, and gives the root's id.
-fn add_catalogues(alloc: Global, objects: &mut Vec<Object>, text: &str) -> Result<ObjectId, Fail>
+/// Adds the catalogues of a tree, and gives the root's id.
+fn add_cut(alloc: Global, objects: &mut Vec<Object>, tree: &Tree) -> Result<ObjectId, Fail>
     ensures { IfOk result (λ id. id.kind ≡ id_kind.Catalogue) }
 {
-    let made = cut(alloc, &tree_of(alloc, text)?)?;
+    let made = cut(alloc, tree)?;
     let hash = made.root.hash;
     for object in made.catalogues.into_vec() {
         objects.push(object)?;
     }
     let kind = Kind::Catalogue;
     Ok(ObjectId { hash, kind })
+}
+
+/// The same of the tree that a text says.
+fn add_catalogues(alloc: Global, objects: &mut Vec<Object>, text: &str) -> Result<ObjectId, Fail>
+    ensures { IfOk result (λ id. id.kind ≡ id_kind.Catalogue) }
+{
+    add_cut(alloc, objects, &tree_of(alloc, text)?)
 }
 
 /// What a graft gives.
@@ -191,11 +200,17 @@ fn a_graft_is_the_cut_of_the_tree(rt: HostRuntime) -> Result<(), Fail> {
     Ok(())
 }
 
-/// What setting the offered tree's part gives.
+/// What setting the offered tree's part gives, over a shelf of these objects.
 #[tactic(auto, using(crate::proofs::PlacedWhole::fits_subtree, crate::proofs::PlacedWhole::root_subtree))]
-fn placed(alloc: Global, base: &str, at: &str, offered: &str) -> Result<Grafted, Fail> {
-    let mut objects = Vec::new(alloc);
-    let base = add_catalogues(alloc, &mut objects, base)?;
+fn set(
+    alloc: Global,
+    objects: Vec<Object>,
+    base: &ObjectId,
+    at: &str,
+    offered: &str,
+) -> Result<Result<Grafted, GraftFault>, Fail>
+    requires { base.now.kind ≡ id_kind.Catalogue }
+{
     let mut shelf = MemoryShelf::new(alloc, objects, Vec::new(alloc))?;
     let path = RepoPath::read(alloc, at)?;
     if ends_in_marker(&path) {
@@ -204,7 +219,14 @@ fn placed(alloc: Global, base: &str, at: &str, offered: &str) -> Result<Grafted,
     let tree = tree_of(alloc, offered)?;
     let _root = tree.get(&path);
     let part = tree.subtree(alloc, &path)?;
-    match place(alloc, &mut shelf, &base, &path, part.as_ref()) {
+    Ok(place(alloc, &mut shelf, base, &path, part.as_ref()))
+}
+
+/// What setting the offered tree's part gives in a tree.
+fn placed(alloc: Global, base: &str, at: &str, offered: &str) -> Result<Grafted, Fail> {
+    let mut objects = Vec::new(alloc);
+    let base = add_catalogues(alloc, &mut objects, base)?;
+    match set(alloc, objects, &base, at, offered)? {
         Ok(placed) => Ok(placed),
         Err(_) => Err(Fail::new("no place")),
     }
@@ -218,6 +240,66 @@ fn a_placed_part_is_the_cut_of_the_tree(rt: HostRuntime) -> Result<(), Fail> {
         let made = placed.added.as_slice().len();
         assert!(rt; made == above.saturating_add(*brought));
     }
+    Ok(())
+}
+
+/// A tree of so many files beside each other.
+fn files(alloc: Global, count: usize) -> Result<Tree, Fail> {
+    let mut tree = Tree::new(alloc, DIRECTORY)?;
+    for i in 0..count {
+        let path = format!(in alloc; "/f{i}")?;
+        tree.insert(&RepoPath::read(alloc, path.as_str())?, file("f")?)?;
+    }
+    Ok(tree)
+}
+
+/// Whether the root's catalogue has no room for one more file beside so many.
+fn is_full(alloc: Global, count: usize) -> Result<bool, Fail> {
+    let mut objects = Vec::new(alloc);
+    let base = add_cut(alloc, &mut objects, &files(alloc, count)?)?;
+    match set(alloc, objects, &base, "/x", "/x")? {
+        Ok(_) => Ok(false),
+        Err(GraftFault::CatalogueFull(cut)) => Ok(cut.names().is_empty()),
+        Err(_) => Err(Fail::new("another fault")),
+    }
+}
+
+#[test]
+fn a_catalogue_takes_no_more_than_50000_rows(rt: HostRuntime) -> Result<(), Fail> {
+    assert!(rt; !is_full(rt.alloc(), 49_998)?);
+    assert!(rt; is_full(rt.alloc(), 49_999)?);
+    Ok(())
+}
+
+/// Whether a path that comes meets a row of a tree's catalogue, the last of those that are made. No two paths of one MD5 are
+/// known, so the row is that of the same path.
+fn meets(alloc: Global, tree: &str, path: &str) -> Result<bool, Fail> {
+    let mut objects = Vec::new(alloc);
+    add_catalogues(alloc, &mut objects, tree)?;
+    let Some(top) = objects.last() else {
+        return Err(Fail::new("no catalogue"));
+    };
+    let Ok(catalogue) = Catalogue::decode(alloc, top.bytes.as_slice(), &RepoPath::root(alloc))
+    else {
+        return Err(Fail::new("another format"));
+    };
+    let mut coming = Vec::new(alloc);
+    coming.push((RepoPath::read(alloc, path)?, file(path)?))?;
+    match check_paths(alloc, &catalogue, &coming) {
+        Ok(()) => Ok(false),
+        Err(GraftFault::PathCollision { first, second }) => {
+            Ok(first == second && first == RepoPath::read(alloc, path)?)
+        }
+        Err(_) => Err(Fail::new("another fault")),
+    }
+}
+
+#[test]
+fn shared_keys_are_named(rt: HostRuntime) -> Result<(), Fail> {
+    assert!(rt; meets(rt.alloc(), PLACES, "/c")?);
+    assert!(rt; meets(rt.alloc(), PLACES, "/a")?);
+    assert!(rt; !meets(rt.alloc(), PLACES, "/a/b")?);
+    assert!(rt; !meets(rt.alloc(), PLACES, "/d")?);
     Ok(())
 }
 

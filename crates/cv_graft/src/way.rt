@@ -11,6 +11,7 @@ ghost use Rattle.cv_cut.specs.Above.{cuts_above, OnWay};
 ghost use Rattle.cv_cut.specs.Catalogues.{contents_of};
 ghost use Rattle.cv_cut.specs.declared.load_fault.LoadFault.TheVariants as faults;
 ghost use Rattle.cv_graft.specs.Placed.{HasCuts};
+ghost use Rattle.cv_graft.specs.Directories.{HoldsFrom};
 ghost use Rattle.cv_graft.specs.Way.{IsNext, HasNone, Finds, FailsFrom};
 
 use cv_base::{Kind, NoMemory, ObjectId, RepoPath};
@@ -60,6 +61,7 @@ pub(crate) fn holder_from<S: Shelf>(
     ensures told { WhereTold (S.shelf shelf.old) (λ standing. (hash : List ℕ) (n : Nodes) (r : List (List ℕ)) → HasCuts standing hash n path.now → OnWay n path.now catalogue.at r → catalogue ≡ contents_of n catalogue.at → Finds n path.now result) }
     ensures rules { IfOk result IsCatalogue }
     ensures covered { IfOk result (λ c. (covers c.at path.now ≡ true) × (path.now ≢ c.at)) }
+    ensures holder { WhereTold (S.shelf shelf.old) (λ standing. HoldsFrom standing id.now catalogue path.now result) }
     ensures fault { WhereTold (S.shelf shelf.old) (λ standing. FailsFrom standing id.now catalogue result) }
     ensures reads { S.reads shelf.old shelf.new }
     ensures unchanged { S.shelf shelf.new ≡ S.shelf shelf.old }

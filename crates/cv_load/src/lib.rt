@@ -15,3 +15,4 @@ mod tests_whole;
 pub use checking::whole;
 pub use known_set::KnownSet;
 pub use loading::load;
+pub use placing::node_of;

@@ -19,7 +19,7 @@ use std::alloc::Global;
 const MAX_NAMES: usize = 64;
 
 /// The node for which a row stands.
-fn node_of(alloc: Global, row: &Row) -> Result<Node, NoMemory>
+pub fn node_of(alloc: Global, row: &Row) -> Result<Node, NoMemory>
     requires { IsRow row.now }
     ensures node { IfOk result (λ node. node ≡ node_of row.now) }
     ensures limits { IfOk result IsNode }

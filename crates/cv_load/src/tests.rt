@@ -22,9 +22,9 @@ const OUTER: &str =
 const INNER: &str =
     "43565231000000040000000008227ee67df92d3f9e3516ba38228da60c606f9929ab0de4b9d1961ce5dfdadf00000004000081a4000000006553f1000000000000000000000000000000000214a9fcd54b25e7e863d72cd47c08af46e61b74b56100016600000c606f9929ab0de4b9d1961ce5dfdadfd41d8cd98f00b204e9800998ecf8427e00000021000041ed000000006553f1000000000000000000000000000000000000000164000080d24ab2d14dc16dba54ba605a2f406e0c606f9929ab0de4b9d1961ce5dfdadf00000004000081a4000000006553f1000000000000000000000000000000000014da39a3ee5e6b4b0d3255bfef95601890afd80709000d2e63766d6673636174616c6f670000fe6d224f2fe186dff9a69bd329190c210c606f9929ab0de4b9d1961ce5dfdadf00000004000081a4000000006553f1000000000000000000000000000000000214a5938ace3f424be1a26904781cdb06d55b614e6b0001670000";
 
-const OUTER_ID: &str = "ed86bc027f62370252daf1586037a02ac7cd165aC";
+pub(crate) const OUTER_ID: &str = "ed86bc027f62370252daf1586037a02ac7cd165aC";
 
-const INNER_ID: &str = "15e722b24d77179e50b53e6f895e28a36c0c7be9C";
+pub(crate) const INNER_ID: &str = "15e722b24d77179e50b53e6f895e28a36c0c7be9C";
 
 const F_ID: &str = "a9fcd54b25e7e863d72cd47c08af46e61b74b561";
 
@@ -49,7 +49,7 @@ fn id_of(text: &str) -> Result<ObjectId, Fail> {
 }
 
 /// The id of the catalogue of the hash in this text.
-fn catalogue_id(text: &str) -> Result<ObjectId, Fail>
+pub(crate) fn catalogue_id(text: &str) -> Result<ObjectId, Fail>
     ensures { IfOk result (λ id. id.kind ≡ id_kind.Catalogue) }
 {
     Ok(ObjectId {
@@ -59,7 +59,7 @@ fn catalogue_id(text: &str) -> Result<ObjectId, Fail>
 }
 
 /// The shelf of all objects, but that the bytes under one id are others or none.
-fn shelf_with(
+pub(crate) fn shelf_with(
     alloc: Global,
     changed: &str,
     other: Option<&str>,

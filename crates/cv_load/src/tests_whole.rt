@@ -7,7 +7,7 @@ ghost use Rattle.cv_tree.specs.Node.{IsNode};
 use crate::checking::whole;
 use crate::known_set::KnownSet;
 use crate::loading::load;
-use crate::tests::{DIRECTORY, file};
+use crate::tests::{DIRECTORY, INNER_ID, OUTER_ID, catalogue_id, file, shelf_with};
 use cv_base::{Attr, Bytes, Kind, Object, ObjectId, RepoPath, Target};
 use cv_cut::{LoadFault, cut};
 use cv_ports::MemoryShelf;
@@ -269,5 +269,36 @@ fn a_known_catalogue_that_does_not_fit_is_bad(rt: HostRuntime) -> Result<(), Fai
     let objects = catalogues(rt.alloc(), MODE)?;
     let known = known_of(rt.alloc(), &objects, 1, "/a")?;
     assert!(rt; both_answer(rt.alloc(), MODE, &known, '1')?);
+    Ok(())
+}
+
+/// How many pairs a check of a root gives that has one nested catalogue, where a pair of one of the two is known and this call of
+/// the shelf fails.
+fn pairs_beside(
+    alloc: Global,
+    known: &str,
+    path: &str,
+    failing: u64,
+) -> Result<Option<usize>, Fail> {
+    let mut pairs = KnownSet::new(alloc);
+    let path = RepoPath::read(alloc, path)?;
+    pairs.add(alloc, catalogue_id(known)?.hash, &path)?;
+    let mut shelf = shelf_with(alloc, "", None, vec![in alloc; failing]?)?;
+    match whole(alloc, &mut shelf, &catalogue_id(OUTER_ID)?, &pairs) {
+        Ok(pairs) => Ok(Some(pairs.len())),
+        Err(LoadFault::Failed) => Ok(None),
+        Err(_) => Err(Fail::new("another fault")),
+    }
+}
+
+/// Beside a known catalogue the root is fetched, and the known one measured and fetched to compare its root row: its files are
+/// not measured. Of a known root nothing is asked.
+#[test]
+fn beside_a_known_catalogue_there_are_three_calls(rt: HostRuntime) -> Result<(), Fail> {
+    for failing in 1..=3u64 {
+        assert!(rt; pairs_beside(rt.alloc(), INNER_ID, "/d", failing)? == None);
+    }
+    assert!(rt; pairs_beside(rt.alloc(), INNER_ID, "/d", 4)? == Some(1));
+    assert!(rt; pairs_beside(rt.alloc(), OUTER_ID, "/", 1)? == Some(0));
     Ok(())
 }

@@ -1,10 +1,13 @@
 use Rattle.std.proofs.Common.{suc, Result, ap, ◌∙◌, arith}
 use Rattle.cv_graft.proofs.Finding.{some_count, raised_more, top_unread, top_unopened, fails_top}
-use Rattle.std.specs.Prelude.{IfErr}
+use Rattle.std.specs.Prelude.{IfOk, IfErr}
 use Rattle.cv_rows.specs.Catalogue.{Contents}
 use Rattle.cv_cut.specs.Opening.{MayFail}
 use Rattle.cv_cut.specs.declared.load_fault.LoadFault.{LoadFault}
+use Rattle.cv_cut.specs.Reached.{root_place}
+use Rattle.cv_graft.specs.Directories.{IsHolder}
 use Rattle.cv_graft.specs.Way.{Finds}
+use Rattle.cv_graft.proofs.Holders.{holds_top}
 use Rattle.cv_graft.proofs.Grafts.{top_is, top_count}
 use Rattle.cv_graft.proofs.grafting.holder.Goals as goal
 use Rattle.cv_ports.specs.Calls.{raised_by}
@@ -43,3 +46,11 @@ pub returns-clause-fault : goal.returns-clause-fault
 returns-clause-fault g c = λ standing told.
     fails_top standing c.args.root.now c.root-top.result c.in_ok-catalogue.catalogue c.holder_from.result c.root-top.ensures (c.in_ok-catalogue.ensures.told standing told)
     (c.holder_from.ensures.fault standing (c.catalogue_at.ensures.unchanged ∙ told))
+
+pub returns-in_err-catalogue-clause-holder : goal.returns-in_err-catalogue-clause-holder
+returns-in_err-catalogue-clause-holder g c = λ standing told. left_by (λ (x : Result Contents LoadFault). IfOk x (IsHolder standing c.args.root.now.hash root_place c.args.path.now)) _ _ c.from_residual.ensures.1 tt
+
+pub returns-clause-holder : goal.returns-clause-holder
+returns-clause-holder g c = λ standing told.
+    holds_top standing c.args.root.now c.root-top.result c.in_ok-catalogue.catalogue c.args.path.now c.holder_from.result c.root-top.ensures (c.in_ok-catalogue.ensures.told standing told)
+    (c.holder_from.ensures.holder standing (c.catalogue_at.ensures.unchanged ∙ told))

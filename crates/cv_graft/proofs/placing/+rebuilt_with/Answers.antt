@@ -1,11 +1,11 @@
 use Rattle.std.proofs.Common.{suc, Result, ap, subst, ◌∙◌, arith}
 use Rattle.cv_rows.specs.Catalogue.{Contents}
-use Rattle.cv_graft.specs.Placed.{Sets}
+use Rattle.cv_graft.specs.Placed.{LeadsTo, Sets, holds, passes}
 use Rattle.cv_graft.specs.Way.{HasNone, IsNext, TellsDamage}
 use Rattle.cv_graft.specs.declared.made.Made.{Made}
 use Rattle.cv_graft.specs.declared.graft_fault.GraftFault.{GraftFault}
 use Rattle.cv_graft.proofs.Finding.{raised_more, none_holds, step_unread, step_down, step_count, more_than_one, at_most_below, tells_nested}
-use Rattle.cv_graft.proofs.PlacedAbove.{asked_part, passed_part, set_above, set_fault, unread_set}
+use Rattle.cv_graft.proofs.PlacedAbove.{asked_part, if_ok, passed_part, set_above, set_fault, unread_set}
 use Rattle.cv_graft.proofs.placing.+rebuilt_with.Goals as goal
 use Rattle.cv_ports.specs.Calls.{raised_by}
 use Rattle.cv_cut.proofs.Lemmas.{left_by}
@@ -103,3 +103,13 @@ pub nested_catalogue-requires-clause-entry : goal.nested_catalogue-requires-clau
 nested_catalogue-requires-clause-entry g m c =
     let next : IsNext c.args.catalogue c.args.path.now c.in-Some.entry = rw c.in-Some.is at c.in_ok-entry.ensures.found in
     next.has
+
+pub returns-in_default-clause-lead : goal.returns-in_default-clause-lead
+returns-in_default-clause-lead g m c = λ standing told.
+    let none : HasNone c.args.catalogue c.args.path.now = rw c.in_default.is at c.in_ok-entry.ensures.found in
+    if_ok _ (LeadsTo standing c.args.path.now c.args.catalogue) (holds none)
+
+pub returns-clause-lead : goal.returns-clause-lead
+returns-clause-lead g m c = λ standing told.
+    let next : IsNext c.args.catalogue c.args.path.now c.in-Some.entry = rw c.in-Some.is at c.in_ok-entry.ensures.found in
+    passes next (c.in_ok-below.ensures.told standing told) (c.in_ok-made.ensures.lead standing (c.nested_catalogue.ensures.unchanged ∙ told))

@@ -10,4 +10,4 @@ pub whole_part-requires : goal.whole_part-requires
 whole_part-requires c = rw c.in-Some.is at (c.requires.root c.requires.path)
 
 pub returns-clause-placed : goal.returns-clause-placed
-returns-clause-placed c = λ t. rw (c.requires.path, c.in-Some.is) (c.whole_part.ensures.placed t)
+returns-clause-placed c = rw c.in-Some.is c.whole_part.ensures.placed

@@ -1,4 +1,4 @@
-use Rattle.std.proofs.Common.{suc, Result, List, [], ap, subst, ◌∙◌, arith}
+use Rattle.std.proofs.Common.{suc, Result, None, List, [], ap, subst, ◌∙◌, arith}
 use Rattle.std.specs.Prelude.{IsErrOf}
 use Rattle.std.specs.Option.{option_copied}
 use Rattle.cv_base.specs.declared.id.Kind.TheVariants.{Catalogue}
@@ -7,6 +7,7 @@ use Rattle.cv_base.specs.Path.{Path}
 use Rattle.cv_tree.specs.Tree.{put}
 use Rattle.cv_tree.specs.Changes.{nodes_of}
 use Rattle.cv_ports.specs.Calls.{raised_by}
+use Rattle.cv_cut.specs.Reached.{HasCatalogue}
 use Rattle.cv_cut.proofs.Lemmas.{left_by}
 use Rattle.cv_graft.specs.Placed.{Places, IsSet}
 use Rattle.cv_graft.specs.Way.{TellsDamage}
@@ -113,3 +114,12 @@ returns-in_err-made-clause-reads g c = g.met.S.Shelf.reads_then _ _ _ c.catalogu
 
 pub returns-clause-reads : goal.returns-clause-reads
 returns-clause-reads g c = g.met.S.Shelf.reads_then _ _ _ c.catalogue_at.ensures.reads c.rebuilt_with.ensures.reads
+
+pub returns-clause-lead : goal.returns-clause-lead
+returns-clause-lead g c = λ standing told.
+    let k = c.in_ok-catalogue.catalogue in
+    record {
+      top = k;
+      there = subst (λ (q : Path). HasCatalogue standing c.args.base.now.hash (record { path = q; row = None }) k) c.root-top.ensures (c.in_ok-catalogue.ensures.told standing told);
+      leads = c.in_ok-made.ensures.lead standing (c.catalogue_at.ensures.unchanged ∙ told);
+    }

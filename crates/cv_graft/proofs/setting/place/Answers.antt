@@ -1,6 +1,11 @@
-use Rattle.std.proofs.Common.{length, refl, sym, ◌∙◌, arith}
+use Rattle.std.proofs.Common.{◌≡◌, ◌≢◌, [], length, refl, sym, ◌∙◌, arith}
 use Rattle.std.proofs.lemmas.Bool.Decides.{Decides-eqb}
 use Rattle.std.proofs.lemmas.List.{nil_from_length}
+use Rattle.std.specs.Option.{option_copied}
+use Rattle.cv_tree.specs.Changes.{nodes_of}
+use Rattle.cv_graft.specs.Placed.{HasLead}
+use Rattle.cv_graft.proofs.PlacedAbove.{if_ok, ok_more}
+use Rattle.cv_graft.proofs.PlacedWhole.{placed_root}
 use Rattle.cv_graft.proofs.setting.place.Goals as goal
 
 pub at_root-requires-clause-path : goal.at_root-requires-clause-path
@@ -9,7 +14,10 @@ at_root-requires-clause-path g c =
     sym c.names.ensures.names ∙ nil_from_length c.names.result.now size
 
 pub returns-then-is_empty-clause-told : goal.returns-then-is_empty-clause-told
-returns-then-is_empty-clause-told g c = λ standing told t way place. c.at_root.ensures.placed t
+returns-then-is_empty-clause-told g c = λ standing told t way place.
+    let size = (Decides-eqb (length c.names.result.now) 0).0 (sym c.is_empty.ensures ∙ c.if-is_empty.true) in
+    let root : c.args.path.now ≡ [] = sym c.names.ensures.names ∙ nil_from_length c.names.result.now size in
+    placed_root t (nodes_of (option_copied c.args.part)) c.args.path.now _ root c.at_root.ensures.placed
 
 pub returns-then-is_empty-clause-damaged : goal.returns-then-is_empty-clause-damaged
 returns-then-is_empty-clause-damaged g c = λ standing told. c.at_root.ensures.undamaged standing
@@ -19,3 +27,12 @@ returns-then-is_empty-clause-cause g c = record { later = omega arith; failed = 
 
 pub returns-then-is_empty-clause-taken : goal.returns-then-is_empty-clause-taken
 returns-then-is_empty-clause-taken g c = λ standing told t way. (0, omega arith, refl)
+
+pub returns-then-is_empty-clause-lead : goal.returns-then-is_empty-clause-lead
+returns-then-is_empty-clause-lead g c = λ standing told.
+    let size = (Decides-eqb (length c.names.result.now) 0).0 (sym c.is_empty.ensures ∙ c.if-is_empty.true) in
+    let root : c.args.path.now ≡ [] = sym c.names.ensures.names ∙ nil_from_length c.names.result.now size in
+    if_ok _ (c.args.path.now ≢ [] → HasLead standing c.args.base.now.hash c.args.path.now) (λ some. absurd (some root))
+
+pub returns-clause-lead : goal.returns-clause-lead
+returns-clause-lead g c = λ standing told. ok_more _ (HasLead standing c.args.base.now.hash c.args.path.now) _ (λ lead some. lead) (c.below_root_with.ensures.lead standing told)

@@ -1,6 +1,8 @@
 use Rattle.std.proofs.Common.{suc, Result, ap, subst, ◌∙◌, arith}
 use Rattle.cv_rows.specs.Catalogue.{Contents}
+use Rattle.cv_graft.specs.Directories.{HoldsFrom}
 use Rattle.cv_graft.specs.Way.{HasNone, IsNext, Finds, FailsFrom}
+use Rattle.cv_graft.proofs.Holders.{holds_itself, holds_below}
 use Rattle.cv_cut.specs.declared.load_fault.LoadFault.{LoadFault}
 use Rattle.cv_graft.proofs.Finding.{raised_more, none_holds, step_unread, step_down, step_count, more_than_one, at_most_below, fails_next, fails_below}
 use Rattle.cv_graft.proofs.way.+holder_from.Goals as goal
@@ -57,3 +59,17 @@ pub nested_catalogue-requires-clause-entry : goal.nested_catalogue-requires-clau
 nested_catalogue-requires-clause-entry g t c =
     let next : IsNext c.args.catalogue c.args.path.now c.in-Some.entry = rw c.in-Some.is at c.in_ok-entry.ensures.found in
     next.has
+
+pub returns-in_default-clause-holder : goal.returns-in_default-clause-holder
+returns-in_default-clause-holder g t c = λ standing told.
+    let none : HasNone c.args.catalogue c.args.path.now = rw c.in_default.is at c.in_ok-entry.ensures.found in
+    holds_itself standing c.args.id.now c.args.catalogue c.args.path.now none
+
+pub returns-in_err-below-clause-holder : goal.returns-in_err-below-clause-holder
+returns-in_err-below-clause-holder g t c = λ standing told. left_by (HoldsFrom standing c.args.id.now c.args.catalogue c.args.path.now) _ _ c.from_residual-in_err-below.ensures.1 tt
+
+pub returns-clause-holder : goal.returns-clause-holder
+returns-clause-holder g t c = λ standing told.
+    let next : IsNext c.args.catalogue c.args.path.now c.in-Some.entry = rw c.in-Some.is at c.in_ok-entry.ensures.found in
+    holds_below standing c.args.id.now c.args.catalogue c.in_ok-below.below c.in-Some.entry c.args.path.now c.holder_from.result next.has (c.in_ok-below.ensures.told standing told)
+    (c.holder_from.ensures.holder standing (c.nested_catalogue.ensures.unchanged ∙ told))

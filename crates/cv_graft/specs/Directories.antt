@@ -1,0 +1,34 @@
+-- Which directories there are by what stands on a shelf, whether or not the root means a tree.
+use Rattle.std.specs.Prelude.{◌≡◌, ◌⊎◌, ℕ, Bool, true, false, List, [], Result, Ok, Err}
+use Rattle.cv_base.specs.Path.{Path}
+use Rattle.cv_base.specs.declared.id.ObjectId.{ObjectId}
+use Rattle.cv_ports.specs.Shelf.{Shelf}
+use Rattle.cv_rows.specs.Catalogue.{Contents}
+use Rattle.cv_rows.specs.Places.{StandsAt}
+use Rattle.cv_rows.specs.declared.row.Row.{Row}
+use Rattle.cv_cut.specs.Reached.{Place, Reaches, HasCatalogue, root_place}
+use Rattle.cv_cut.specs.declared.load_fault.LoadFault.{LoadFault}
+use Rattle.cv_graft.specs.Places.{stands_for_directory}
+use Rattle.cv_graft.specs.Way.{HasNone}
+
+-- the catalogue stands on the shelf, is reached from the one under a hash, and has no nested entry properly above the path
+pub record IsHolder (shelf : Shelf) (from : List ℕ) (start : Place) (p : Path) (c : Contents) : Type 0 where
+  pub hash : List ℕ
+  pub place : Place
+  pub reached : Reaches shelf from start hash place
+  pub has : HasCatalogue shelf hash place c
+  pub none : HasNone c p
+
+-- where a catalogue is answered, it is such a one from the one under an id on, wherever that is reached
+abbrev pub HoldsFrom : Shelf → ObjectId → Contents → Path → Result Contents LoadFault → Type 0
+HoldsFrom shelf id c p (Ok k) = (from : List ℕ) (start place : Place) → Reaches shelf from start id.hash place → HasCatalogue shelf id.hash place c → IsHolder shelf from start p k
+HoldsFrom shelf id c p (Err f) = Unit {0}
+
+-- the row at the path says whether it is a directory in the catalogue; where none stands there, it isn't
+pub data HasDirectory (c : Contents) (p : Path) : Bool → Type 0 where
+  stands : (r : Row) → StandsAt c.at c.rows r p → HasDirectory c p (stands_for_directory r.kind)
+  absent : ((r : Row) → StandsAt c.at c.rows r p → ⊥) → HasDirectory c p false
+
+-- the root is a directory; another path is one by the catalogue that holds it, reached from the root's
+abbrev pub IsFound : Shelf → List ℕ → Path → Bool → Type 0
+IsFound shelf root p found = ((p ≡ []) × (found ≡ true)) ⊎ ((c : Contents) × IsHolder shelf root root_place p c × HasDirectory c p found)
