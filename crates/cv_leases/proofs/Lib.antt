@@ -4,7 +4,9 @@ mod Queues
 mod Ending
 mod Reaching
 mod Trees
+mod Climbing
 mod Pruned
+mod Needed
 mod Places
 mod Rooted
 mod Tied

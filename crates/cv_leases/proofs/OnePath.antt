@@ -1,12 +1,12 @@
 -- One path alone leads to a place.
-use Rattle.std.proofs.Common.{◌≡◌, ◌⊎◌, ◌≤◌, ◌+◌, ◌||◌, ℕ, zero, suc, true, false, cond, List, [], ◌∷◌, ◌++◌, length, Option, None, Some, IfSome, is_some, Contains, refl, sym, ap, subst, ◌∙◌, inl, inr, arith}
+use Rattle.std.proofs.Common.{◌≡◌, ◌⊎◌, ◌≤◌, ◌+◌, ◌||◌, ℕ, zero, suc, true, false, cond, List, [], ◌∷◌, ◌++◌, length, Option, None, Some, is_some, Contains, refl, sym, ap, subst, ◌∙◌, inl, inr, arith}
 use Rattle.std.proofs.lemmas.Option.{same_Some}
 use Rattle.std.proofs.lemmas.List.{length-append}
 use Rattle.std.specs.List.{AllByRecursion}
 use Rattle.cv_base.specs.Path.{Path, behind, overlap}
 use Rattle.cv_base.specs.PathOrder.{same_name_is, same_name_itself}
 use Rattle.cv_links.specs.declared.id.Id.{Id}
-use Rattle.cv_links.specs.Arena.{value_at, IsLive}
+use Rattle.cv_links.specs.Arena.{value_at}
 use Rattle.cv_links.proofs.Laws.{here, later, cons_cases, none_within}
 use Rattle.cv_leases.specs.declared.lease.Lease.{Lease}
 use Rattle.cv_leases.specs.declared.queue.Entry.{Entry}
@@ -18,6 +18,7 @@ use Rattle.cv_leases.specs.Queue.{before_rest, leases_by, leases_in, ids_of}
 use Rattle.cv_leases.specs.Names.{has_name, is_leased, above_of, named, step, place_of, below_of, IsNames, SameLeased}
 use Rattle.cv_leases.specs.Linked.{AreTied}
 use Rattle.cv_leases.proofs.Reaching.{none_some, reach_more}
+use Rattle.cv_leases.proofs.Needed.{root_top}
 use Rattle.cv_leases.proofs.Tables.{none_overlaps}
 
 -- the place that is found by a name is among the others, and has it
@@ -48,8 +49,8 @@ unsnoc (x ∷ xs) =
 
 module _ (names : Names) (whole : IsNames names) where
   -- nothing is above the root
-  root_top : (id up : Id) → names.root ≡ Some id → above_of (value_at names.places id) ≡ Some up → ⊥
-  root_top id up e above = let top = (subst (λ o. IfSome o (λ i. IsLive names.places i × (above_of (value_at names.places i) ≡ None))) e whole.root).1 in none_some up (sym top ∙ above)
+  none_above : (id up : Id) → names.root ≡ Some id → above_of (value_at names.places id) ≡ Some up → ⊥
+  none_above id up e above = none_some up (sym (root_top names id whole e) ∙ above)
 
   -- what the last name of a path leads to
   last_step : (path front : Path) (last : List ℕ) (id : Id) → path ≡ front ++ last ∷ [] → place_of names path ≡ Some id
@@ -63,10 +64,10 @@ module _ (names : Names) (whole : IsNames names) where
   by_length n p q id short here_p here_q (inl none) (inl too) = none ∙ sym too
   by_length n p q id short here_p here_q (inl none) (inr some) =
       let one = last_step q some.0 some.1 id some.2 here_q in
-      absurd (root_top id one.0 (sym (ap (place_of names) none) ∙ here_p) (whole.tree.below one.0 id one.2))
+      absurd (none_above id one.0 (sym (ap (place_of names) none) ∙ here_p) (whole.tree.below one.0 id one.2))
   by_length n p q id short here_p here_q (inr some) (inl none) =
       let one = last_step p some.0 some.1 id some.2 here_p in
-      absurd (root_top id one.0 (sym (ap (place_of names) none) ∙ here_q) (whole.tree.below one.0 id one.2))
+      absurd (none_above id one.0 (sym (ap (place_of names) none) ∙ here_q) (whole.tree.below one.0 id one.2))
   by_length zero p q id short here_p here_q (inr some) (inr too) =
       let long : length p ≡ length some.0 + 1 = ap length some.2 ∙ length-append some.0 (some.1 ∷ []) in absurd (omega (arith, long, short))
   by_length (suc n) p q id short here_p here_q (inr some) (inr too) =

@@ -10,11 +10,12 @@ use Rattle.cv_links.specs.Chains.{AreApart}
 use Rattle.cv_links.proofs.Laws.{split, id_cases}
 use Rattle.cv_leases.specs.declared.names.Place.{Place}
 use Rattle.cv_leases.specs.declared.names.Names.{Names}
-use Rattle.cv_leases.specs.Names.{has_name, is_leased, above_of, named, reach, place_of, list_below, below_of, IsTree, IsNames, SamePlaces, SameLeased, Ends, step}
+use Rattle.cv_leases.specs.Names.{has_name, is_leased, above_of, named, reach, place_of, list_below, below_of, IsTree, IsNames, IsWithin, SamePlaces, SameLeased, Ends, step}
 use Rattle.cv_leases.proofs.Queues.{absent}
 use Rattle.cv_leases.proofs.Reaching.{none_some, reach_more, named_kept, named_more, named_new, named_less, reach_kept, reach_less}
 use Rattle.cv_leases.proofs.Trees.{IsAttached, known_below}
 use Rattle.cv_leases.proofs.Pruned.{IsDetached}
+use Rattle.cv_leases.proofs.Needed.{rooted_attached, rooted_detached}
 
 -- ---- a place that came
 
@@ -56,8 +57,12 @@ leases_attached old new up id place whole root unleased h = record {
   ];
 }
 
-pub names_attached : (old new : Names) (up id : Id) (place : Place) → IsNames old → new.root ≡ old.root → IsAttached old.places new.places up id place → IsNames new
-names_attached old new up id place whole root h = record { tree = h.tree; root = subst (λ o. IfSome o (λ i. IsLive new.places i × (above_of (value_at new.places i) ≡ None))) (sym root) (each old.root whole.root) }
+pub names_attached : (old new : Names) (up id : Id) (place : Place) → IsNames old → new.root ≡ old.root → IsAttached old.places new.places up id place → place.above ≡ Some up → IsWithin old 63 up → IsNames new
+names_attached old new up id place whole root h above near = record {
+  tree = h.tree;
+  root = subst (λ o. IfSome o (λ i. IsLive new.places i × (above_of (value_at new.places i) ≡ None))) (sym root) (each old.root whole.root);
+  rooted = rooted_attached old new up id place whole root h above near;
+}
   where
     each : (o : Option Id) → IfSome o (λ i. IsLive old.places i × (above_of (value_at old.places i) ≡ None)) → IfSome o (λ i. IsLive new.places i × (above_of (value_at new.places i) ≡ None))
     each None r = tt
@@ -100,7 +105,11 @@ leases_detached old new up id whole root unleased h = record {
 }
 
 pub names_detached : (old new : Names) (up id : Id) → IsNames old → new.root ≡ old.root → IsDetached old.places new.places up id → IsNames new
-names_detached old new up id whole root h = record { tree = h.tree; root = subst (λ o. IfSome o (λ i. IsLive new.places i × (above_of (value_at new.places i) ≡ None))) (sym root) (each old.root whole.root) }
+names_detached old new up id whole root h = record {
+  tree = h.tree;
+  root = subst (λ o. IfSome o (λ i. IsLive new.places i × (above_of (value_at new.places i) ≡ None))) (sym root) (each old.root whole.root);
+  rooted = rooted_detached old new up id whole root h;
+}
   where
     each : (o : Option Id) → IfSome o (λ i. IsLive old.places i × (above_of (value_at old.places i) ≡ None)) → IfSome o (λ i. IsLive new.places i × (above_of (value_at new.places i) ≡ None))
     each None r = tt

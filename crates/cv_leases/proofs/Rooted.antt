@@ -1,5 +1,5 @@
 -- The tree of places as a root comes, and as a lease begins or ends at a place.
-use Rattle.std.proofs.Common.{◌≡◌, ◌≢◌, ℕ, Bool, true, false, cond, List, [], ◌∷◌, Option, None, Some, IfSome, is_some, Contains, refl, sym, ap, subst, ◌∙◌, inl, inr}
+use Rattle.std.proofs.Common.{◌≡◌, ◌≢◌, ℕ, Bool, true, false, cond, List, [], ◌∷◌, Option, None, Some, IfSome, is_some, Contains, refl, sym, ap, subst, ◌∙◌, inl, inr, arith}
 use Rattle.std.proofs.lemmas.Option.{same_Some}
 use Rattle.cv_base.specs.Path.{Path, same_name}
 use Rattle.cv_links.specs.declared.id.Id.{Id}
@@ -13,9 +13,10 @@ use Rattle.cv_links.specs.Chains.{IsChain, list_of, rest_of, SameLists, IsEmpty}
 use Rattle.cv_links.proofs.Laws.{none_within, id_cases, empty_list, rest_first, puts_with_value, links_of_value}
 use Rattle.cv_leases.specs.declared.names.Place.{Place}
 use Rattle.cv_leases.specs.declared.names.Names.{Names}
-use Rattle.cv_leases.specs.Names.{has_name, is_leased, above_of, named, reach, list_below, below_of, IsTree, IsNames, SamePlaces, SameLeased, Begins, Ends}
+use Rattle.cv_leases.specs.Names.{has_name, is_leased, above_of, named, reach, list_below, below_of, IsTree, IsNames, IsWithin, SamePlaces, SameLeased, Begins, Ends}
 use Rattle.cv_leases.proofs.Reaching.{none_some, reach_none, named_kept, reach_kept}
 use Rattle.cv_leases.proofs.Trees.{known_below}
+use Rattle.cv_leases.proofs.Climbing.{within_kept, root_within, within_more}
 
 -- a place without one above it
 pub record Roots (a d : Arena Place) (id : Id) (new : Place) : Type 0 where
@@ -145,6 +146,8 @@ pub whole_labelled : (old new : Names) (id : Id) (place : Place) (leased : Bool)
 whole_labelled old new id place leased whole root h = record {
   tree = labelled old.places new.places id place leased whole.tree h;
   root = subst (λ o. IfSome o (λ i. IsLive new.places i × (above_of (value_at new.places i) ≡ None))) (sym root) (each old.root whole.root);
+  rooted = λ i live. within_kept old new 64 i root (λ j up e. aboves_labelled old.places new.places id place leased whole.tree h j ∙ e)
+      (whole.rooted i (sym (lives_labelled old.places new.places id place leased whole.tree h i) ∙ live));
 }
   where
     each : (o : Option Id) → IfSome o (λ i. IsLive old.places i × (above_of (value_at old.places i) ≡ None)) → IfSome o (λ i. IsLive new.places i × (above_of (value_at new.places i) ≡ None))
@@ -179,10 +182,14 @@ ends old new id place whole root h = record {
       (away, ap is_leased (sym (h.puts.others other away)) ∙ leased);
 }
 
--- names to which a root came
-pub whole_rooted : (old new : Names) (id : Id) (place : Place) → IsNames old → new.root ≡ Some id → Roots old.places new.places id place → IsNames new
-whole_rooted old new id place whole root h = record {
+-- names to which a root came, where none was
+pub whole_rooted : (old new : Names) (id : Id) (place : Place) → IsNames old → old.root ≡ None → new.root ≡ Some id → Roots old.places new.places id place → IsNames new
+whole_rooted old new id place whole none root h = record {
   tree = rooted old.places new.places id place whole.tree h;
+  rooted = λ i live. elim (id_cases i id) [
+    | inl same ↦ subst (λ j. IsWithin new 64 j) (sym same) (within_more new 0 64 id (omega arith) (root_within new id root))
+    | inr away ↦ (let was = whole.rooted i (ap is_some (sym (h.puts.others i away)) ∙ live) in absurd (none_some was.root (sym none ∙ was.is)))
+  ];
   root = subst (λ o. IfSome o (λ i. IsLive new.places i × (above_of (value_at new.places i) ≡ None))) (sym root) (ap is_some h.puts.here, ap above_of h.puts.here ∙ h.above);
 }
 
@@ -207,6 +214,7 @@ same_names old after whole values links lists = (
       alone = λ i live. links Time i ∙ whole.tree.alone i (ap is_some (sym (values i)) ∙ live);
     };
     root = each old.root whole.root;
+    rooted = λ i live. within_kept old (record old { places = after }) 64 i refl (λ j up e. ap above_of (values j) ∙ e) (whole.rooted i (ap is_some (sym (values i)) ∙ live));
   },
   record {
     kept = λ path x at. record { place = leads path x at.place; leased = ap is_leased (values x) ∙ at.leased };

@@ -19,7 +19,7 @@ pub below_is : (a : Arena Place) (id : Id) (place : Place) → value_at a id ≡
 below_is a id place e = ap (list_below a) e
 
 -- what names a place above it is live
-above_live : (o : Option Place) (up : Id) → above_of o ≡ Some up → o ≡ None → ⊥
+pub above_live : (o : Option Place) (up : Id) → above_of o ≡ Some up → o ≡ None → ⊥
 above_live None up e n = cc
 above_live (Some place) up e n = cc
 

@@ -8,7 +8,7 @@ use Rattle.cv_leases.specs.declared.queue.Queue.{Queue}
 use Rattle.cv_leases.specs.declared.names.Names.{Names}
 use Rattle.cv_leases.specs.declared.linked.Linked.{Linked}
 use Rattle.cv_leases.specs.Queue.{IsQueue, ids_of}
-use Rattle.cv_leases.specs.Names.{IsNames, IsLeasedAt, is_leased}
+use Rattle.cv_leases.specs.Names.{IsNames, IsLeasedAt, IsPruned, IsPrunedBut, is_leased}
 
 -- this entry stands in the queue
 pub record Holds (queue : Queue) (at : Id) (held : Entry) : Type 0 where
@@ -33,6 +33,14 @@ pub record IsLinked (linked : Linked) : Type 0 where
   pub queue : IsQueue linked.queue
   pub names : IsNames linked.names
   pub tied : AreTied linked.queue linked.names
+  pub pruned : IsPruned linked.names
+
+-- and what holds while a place is made ready for a lease
+pub record IsReady (linked : Linked) (place : Id) : Type 0 where
+  pub queue : IsQueue linked.queue
+  pub names : IsNames linked.names
+  pub tied : AreTied linked.queue linked.names
+  pub pruned : IsPrunedBut linked.names place
 
 -- the second queue lacks this entry, and the others are as before
 pub record TakesOut (old new : Queue) (id : Id) : Type 0 where

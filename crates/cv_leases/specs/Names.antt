@@ -1,5 +1,5 @@
 -- The tree of the names on the way to leases: where a path leads to, and what stands on its way.
-use Rattle.std.specs.Prelude.{◌≡◌, ◌≢◌, ◌||◌, ℕ, Bool, true, false, cond, List, [], ◌∷◌, Option, None, Some, is_some, IfSome, Contains}
+use Rattle.std.specs.Prelude.{◌≡◌, ◌≢◌, ◌≤◌, ◌||◌, ◌⊎◌, ℕ, Bool, true, false, cond, List, [], ◌∷◌, length, Option, None, Some, is_some, IfSome, Contains}
 use Rattle.cv_base.specs.Path.{Path, same_name}
 use Rattle.cv_links.specs.declared.id.Id.{Id}
 use Rattle.cv_links.specs.declared.lane.Lane.TheVariants.{Tree, Time}
@@ -68,10 +68,48 @@ pub record IsTree (places : Arena Place) : Type 0 where
   pub above : (id up : Id) → above_of (value_at places id) ≡ Some up → Contains (below_of places up) id
   pub alone : (id : Id) → IsLive places id → IsFree places Time id
 
+-- from a place up, by the place above each, these places come, and the last of all is the top
+abbrev pub Climbs : Arena Place → List Id → Id → Id → Type 0
+Climbs places [] top from = from ≡ top
+Climbs places (up ∷ way) top from = (above_of (value_at places from) ≡ Some up) × Climbs places way top up
+
+-- the first place is the second, or stands above it
+pub record IsOver (places : Arena Place) (top from : Id) : Type 0 where
+  pub way : List Id
+  pub climbs : Climbs places way top from
+
+-- the root stands above the place, by at most so many names
+pub record IsWithin (names : Names) (depth : ℕ) (id : Id) : Type 0 where
+  pub root : Id
+  pub is : names.root ≡ Some root
+  pub way : List Id
+  pub climbs : Climbs names.places way root id
+  pub short : length way ≤ depth
+
 -- what holds of the names at any time
 pub record IsNames (names : Names) : Type 0 where
   pub tree : IsTree names.places
   pub root : IfSome names.root (λ id. IsLive names.places id × (above_of (value_at names.places id) ≡ None))
+  pub rooted : (id : Id) → IsLive names.places id → IsWithin names 64 id
+
+-- a lease ends at the place or below it
+pub record IsNeeded (places : Arena Place) (id : Id) : Type 0 where
+  pub end : Id
+  pub over : IsOver places id end
+  pub leased : is_leased (value_at places end) ≡ true
+
+-- a lease ends at each place or below it, but for the root
+abbrev pub IsPruned : Names → Type 0
+IsPruned names = (id : Id) → IsLive names.places id → (names.root ≡ Some id) ⊎ IsNeeded names.places id
+
+-- and but for this place and those above it
+abbrev pub IsPrunedBut : Names → Id → Type 0
+IsPrunedBut names from = (id : Id) → IsLive names.places id → (names.root ≡ Some id) ⊎ IsNeeded names.places id ⊎ IsOver names.places id from
+
+-- no place is left bare, but for this one and those above it, if there is one
+abbrev pub IsPrunedTo : Names → Option Id → Type 0
+IsPrunedTo names None = IsPruned names
+IsPrunedTo names (Some from) = IsPrunedBut names from
 
 -- a lease on this path ends at this place
 pub record IsLeasedAt (names : Names) (path : Path) (id : Id) : Type 0 where

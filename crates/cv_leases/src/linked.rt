@@ -1,7 +1,7 @@
 //! Leases in the order of grant, and the tree of the names on the way to them.
 ghost use Rattle.std.specs.Prelude.{◌≡◌, ◌<◌, ◌≤◌, ◌+◌, ◌*◌, ◌++◌, ◌∷◌, [], length, Some, None, false, is_ok, is_some, if◌then◌else◌, Contains, List, option_copied};
 ghost use Rattle.cv_leases.specs.Leases.{lease_of, busy, without, unexpired, TokensDiffer, DeadlinesRise};
-ghost use Rattle.cv_leases.specs.Linked.{IsLinked};
+ghost use Rattle.cv_leases.specs.Linked.{IsLinked, IsReady};
 ghost use Rattle.cv_leases.specs.Names.{place_of, is_leased};
 ghost use Rattle.cv_leases.specs.Queue.{IsParted, IsDropped, ids_of, leases_in, lease_at};
 ghost use Rattle.cv_links.specs.Arena.{value_at, IsLive};
@@ -69,7 +69,7 @@ impl Linked {
 
     /// Puts an entry behind all others, at whose place no lease ends.
     fn store<L: Ledger>(&mut self, entry: Entry, steps: &mut Steps<L>) -> Result<(), NoMemory>
-        requires whole { IsLinked self.old }
+        requires whole { IsReady self.old entry.place }
         requires place { place_of self.old.names entry.lease.path ≡ Some entry.place }
         requires live { IsLive self.old.names.places entry.place }
         requires free { is_leased (value_at self.old.names.places entry.place) ≡ false }

@@ -1,6 +1,6 @@
 //! The names on the way to leases, linked by index.
-ghost use Rattle.std.specs.Prelude.{◌≡◌, ◌≤◌, ◌+◌, [], Some, None, true, false, IfOk, IfSome, length};
-ghost use Rattle.cv_leases.specs.Names.{IsNames, IsBare, SameLeased, SamePlaces, Begins, Ends, below_of, above_of, is_leased, named, place_of, meets};
+ghost use Rattle.std.specs.Prelude.{◌≡◌, ◌≤◌, ◌+◌, [], Some, None, true, false, ℕ, IfOk, IfSome, OnErr, length};
+ghost use Rattle.cv_leases.specs.Names.{IsNames, IsBare, IsWithin, IsPruned, IsPrunedBut, IsPrunedTo, SameLeased, SamePlaces, Begins, Ends, below_of, above_of, is_leased, named, place_of, meets};
 ghost use Rattle.cv_base.specs.Path.{same_name};
 ghost use Rattle.cv_links.specs.Arena.{value_at, IsLive};
 
@@ -40,6 +40,7 @@ impl Names {
     pub(crate) fn new(alloc: Global) -> Names
         ensures whole { IsNames result }
         ensures empty { (id : _) → value_at result.places id ≡ None }
+        ensures pruned { IsPruned result }
     {
         Names {
             alloc,
@@ -55,6 +56,7 @@ impl Names {
         requires live { IsLive self.now.places above }
         ensures named { result ≡ named (value_at self.now.places) name.now (below_of self.now.places above) }
         ensures live { IfSome result (λ id. IsLive self.now.places id) }
+        ensures above { IfSome result (λ id. above_of (value_at self.now.places id) ≡ Some above) }
     {
         let below = self.places.get(above).below;
         let mut at = self.places.first(&below);
@@ -92,11 +94,14 @@ impl Names {
         path: &RepoPath,
         steps: &mut Steps<L>,
     ) -> Result<Id, NoMemory>
-        requires { IsNames self.old }
+        requires whole { IsNames self.old }
+        requires pruned { IsPruned self.old }
         ensures whole { IsNames self.new }
         ensures leases { SameLeased self.old self.new }
         ensures place { IfOk result (λ id. place_of self.new path.now ≡ Some id) }
         ensures live { IfOk result (λ id. IsLive self.new.places id) }
+        ensures pruned { IfOk result (λ id. IsPrunedBut self.new id) }
+        ensures unchanged { OnErr result (IsPruned self.new) }
     {
         let mut at = self.top()?;
         for name in path.names() {
@@ -114,11 +119,13 @@ impl Names {
     /// The root's place, which is made where there is none.
     #[tactic(auto, using(crate::proofs::Places::leased_same, crate::proofs::Places::root_live))]
     fn top(&mut self) -> Result<Id, NoMemory>
-        requires { IsNames self.old }
+        requires whole { IsNames self.old }
+        requires pruned { IsPruned self.old }
         ensures whole { IsNames self.new }
         ensures leases { SameLeased self.old self.new }
         ensures root { IfOk result (λ id. self.new.root ≡ Some id) }
         ensures live { IfOk result (λ id. IsLive self.new.places id) }
+        ensures pruned { IsPruned self.new }
     {
         match self.root {
             Some(id) => Ok(id),
@@ -134,6 +141,7 @@ impl Names {
         ensures leases { SameLeased self.old self.new }
         ensures root { IfOk result (λ id. self.new.root ≡ Some id) }
         ensures live { IfOk result (λ id. IsLive self.new.places id) }
+        ensures pruned { IsPruned self.new }
     {
         let name = Text::from_str(self.alloc, "")?;
         let place = Place {
@@ -159,12 +167,17 @@ impl Names {
     ) -> Result<Id, NoMemory>
         requires whole { IsNames self.old }
         requires live { IsLive self.old.places above }
+        requires near { IsWithin self.old 63 above }
+        requires pruned { IsPrunedBut self.old above }
         ensures whole { IsNames self.new }
         ensures places { SamePlaces self.old self.new }
         ensures leases { SameLeased self.old self.new }
         ensures named { IfOk result (λ id. named (value_at self.new.places) name.now (below_of self.new.places above) ≡ Some id) }
         ensures live { IfOk result (λ id. IsLive self.new.places id) }
         ensures stays { IsLive self.new.places above }
+        ensures below { IfOk result (λ id. (depth : ℕ) → IsWithin self.old depth above → IsWithin self.new (depth + 1) id) }
+        ensures pruned { IfOk result (λ id. IsPrunedBut self.new id) }
+        ensures unchanged { OnErr result (IsPrunedBut self.new above) }
     {
         if let Some(id) = self.child(above, name, steps) {
             return Ok(id);
@@ -183,12 +196,17 @@ impl Names {
         requires whole { IsNames self.old }
         requires live { IsLive self.old.places above }
         requires none { named (value_at self.old.places) name (below_of self.old.places above) ≡ None }
+        requires near { IsWithin self.old 63 above }
+        requires pruned { IsPrunedBut self.old above }
         ensures whole { IsNames self.new }
         ensures places { SamePlaces self.old self.new }
         ensures leases { SameLeased self.old self.new }
         ensures named { IfOk result (λ id. named (value_at self.new.places) name (below_of self.new.places above) ≡ Some id) }
         ensures live { IfOk result (λ id. IsLive self.new.places id) }
         ensures stays { IsLive self.new.places above }
+        ensures below { IfOk result (λ id. (depth : ℕ) → IsWithin self.old depth above → IsWithin self.new (depth + 1) id) }
+        ensures pruned { IfOk result (λ id. IsPrunedBut self.new id) }
+        ensures unchanged { OnErr result (IsPrunedBut self.new above) }
     {
         let mut below = self.places.get(above).below;
         let place = Place {
@@ -209,8 +227,10 @@ impl Names {
     pub(crate) fn lease(&mut self, id: Id)
         requires whole { IsNames self.old }
         requires live { IsLive self.old.places id }
+        requires pruned { IsPrunedBut self.old id }
         ensures whole { IsNames self.new }
         ensures leases { Begins self.old self.new id }
+        ensures pruned { IsPruned self.new }
     {
         self.places.get_mut(id).leased = true;
     }
@@ -219,9 +239,11 @@ impl Names {
     fn unlease(&mut self, id: Id)
         requires whole { IsNames self.old }
         requires live { IsLive self.old.places id }
+        requires pruned { IsPruned self.old }
         ensures whole { IsNames self.new }
         ensures live { IsLive self.new.places id }
         ensures leases { Ends self.old self.new id }
+        ensures pruned { IsPrunedBut self.new id }
     {
         self.places.get_mut(id).leased = false;
     }
@@ -231,8 +253,10 @@ impl Names {
     pub(crate) fn end<L: Ledger>(&mut self, id: Id, steps: &mut Steps<L>)
         requires whole { IsNames self.old }
         requires live { IsLive self.old.places id }
+        requires pruned { IsPruned self.old }
         ensures whole { IsNames self.new }
         ensures leases { Ends self.old self.new id }
+        ensures pruned { IsPruned self.new }
         ensures steps { steps.new ≤ steps.old + 64 }
     {
         self.unlease(id);
@@ -244,8 +268,10 @@ impl Names {
     pub(crate) fn prune<L: Ledger>(&mut self, from: Id, steps: &mut Steps<L>)
         requires whole { IsNames self.old }
         requires live { IsLive self.old.places from }
+        requires pruned { IsPrunedBut self.old from }
         ensures whole { IsNames self.new }
         ensures leases { SameLeased self.old self.new }
+        ensures pruned { IsPruned self.new }
         ensures steps { steps.new ≤ steps.old + 64 }
     {
         let mut at = Some(from);
@@ -263,9 +289,12 @@ impl Names {
     fn drop_bare<L: Ledger>(&mut self, id: Id, steps: &mut Steps<L>) -> Option<Id>
         requires whole { IsNames self.old }
         requires live { IsLive self.old.places id }
+        requires pruned { IsPrunedBut self.old id }
         ensures whole { IsNames self.new }
         ensures leases { SameLeased self.old self.new }
         ensures live { IfSome result (λ above. IsLive self.new.places above) }
+        ensures pruned { IsPrunedTo self.new result }
+        ensures nearer { IfSome result (λ above. (depth : ℕ) → IsWithin self.old (depth + 1) id → IsWithin self.new depth above) }
         ensures steps { steps.new ≤ steps.old + 1 }
     {
         let place = self.places.get(id);
@@ -282,9 +311,12 @@ impl Names {
         requires whole { IsNames self.old }
         requires above { above_of (value_at self.old.places id) ≡ Some above }
         requires bare { IsBare self.old.places id }
+        requires pruned { IsPrunedBut self.old id }
         ensures whole { IsNames self.new }
         ensures leases { SameLeased self.old self.new }
         ensures live { IsLive self.new.places above }
+        ensures pruned { IsPrunedBut self.new above }
+        ensures nearer { (depth : ℕ) → IsWithin self.old (depth + 1) id → IsWithin self.new depth above }
         ensures steps { steps.new ≡ steps.old + 1 }
     {
         let mut below = self.places.get(above).below;

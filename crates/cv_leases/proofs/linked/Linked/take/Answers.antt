@@ -13,6 +13,7 @@ pub returns-clause-whole : goal.returns-clause-whole
 returns-clause-whole g c = record {
   queue = c.take-lease.ensures.whole;
   names = c.end.ensures.whole;
+  pruned = c.end.ensures.pruned;
   tied =
       tied_out c.args.self.now.queue c.take-lease.new.self c.args.self.now.names c.end.new.self c.args.id c.take-lease.result c.requires.whole.tied
       (record { within = c.requires.stands; entry = c.take-lease.ensures.value }) c.take-lease.ensures.entries c.end.ensures.leases;

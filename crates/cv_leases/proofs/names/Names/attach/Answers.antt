@@ -4,6 +4,7 @@ use Rattle.cv_links.specs.Lends.{with_value}
 use Rattle.cv_leases.proofs.Places.{places_attached, leases_attached, names_attached, found_new}
 use Rattle.cv_leases.proofs.Rooted.{same_names}
 use Rattle.cv_leases.proofs.Trees.{attached, attaching}
+use Rattle.cv_leases.proofs.Needed.{same_stays, but_stays, within_attached, pruned_attached}
 use Rattle.cv_leases.proofs.names.Names.attach.Goals as goal
 
 pub returns-in_default-clause-whole : goal.returns-in_default-clause-whole
@@ -20,6 +21,7 @@ returns-clause-whole g c = names_attached c.args.self.now (record c.args.self.no
     (attached c.args.self.now.places c.add.new.self c.link_last.new.self (with_value c.link_last.new.self c.args.above (record c.get_mut.result.now { below = c.link_last.new.chain })) c.args.above c.in-Ok.id c.get.result.now (record { name = c.args.name; above = Some c.args.above; below = c.new.result; leased = false }) c.link_last.new.chain c.requires.whole.tree (attaching c.args.self.now.places c.add.new.self c.link_last.new.self c.args.above c.in-Ok.id c.get.result.now c.get_mut.result.now (record { name = c.args.name; above = Some c.args.above; below = c.new.result; leased = false }) c.link_last.new.chain
     c.get.ensures c.in-Ok.ensures.fresh c.in-Ok.ensures.values c.in-Ok.ensures.free c.in-Ok.ensures.links c.add.ensures.lists c.link_last.ensures.whole c.link_last.ensures.list c.link_last.ensures.lane
     c.link_last.ensures.elsewhere c.link_last.ensures.others c.link_last.ensures.contents c.get_mut.ensures.value c.get_mut.ensures.lists refl refl c.new.ensures.empty c.new.ensures.lane))
+    refl c.requires.near
 
 pub returns-clause-places : goal.returns-clause-places
 returns-clause-places g c = places_attached c.args.self.now (record c.args.self.now { places = with_value c.link_last.new.self c.args.above (record c.get_mut.result.now { below = c.link_last.new.chain }) }) c.args.above c.in-Ok.id (record { name = c.args.name; above = Some c.args.above; below = c.new.result; leased = false }) c.requires.whole refl
@@ -49,3 +51,21 @@ returns-clause-stays g c =
     c.get.ensures c.in-Ok.ensures.fresh c.in-Ok.ensures.values c.in-Ok.ensures.free c.in-Ok.ensures.links c.add.ensures.lists c.link_last.ensures.whole c.link_last.ensures.list c.link_last.ensures.lane
     c.link_last.ensures.elsewhere c.link_last.ensures.others c.link_last.ensures.contents c.get_mut.ensures.value c.get_mut.ensures.lists refl refl c.new.ensures.empty c.new.ensures.lane)) in
     h.lives c.args.above h.differ ∙ c.requires.live
+
+pub returns-in_default-clause-unchanged : goal.returns-in_default-clause-unchanged
+returns-in_default-clause-unchanged g c =
+    but_stays c.args.self.now (record c.args.self.now { places = c.add.new.self }) (same_stays c.args.self.now c.add.new.self c.in_default.ensures.unchanged) c.args.above c.requires.pruned
+
+pub returns-clause-below : goal.returns-clause-below
+returns-clause-below g c = within_attached c.args.self.now (record c.args.self.now { places = with_value c.link_last.new.self c.args.above (record c.get_mut.result.now { below = c.link_last.new.chain }) }) c.args.above c.in-Ok.id (record { name = c.args.name; above = Some c.args.above; below = c.new.result; leased = false }) c.requires.whole refl
+    (attached c.args.self.now.places c.add.new.self c.link_last.new.self (with_value c.link_last.new.self c.args.above (record c.get_mut.result.now { below = c.link_last.new.chain })) c.args.above c.in-Ok.id c.get.result.now (record { name = c.args.name; above = Some c.args.above; below = c.new.result; leased = false }) c.link_last.new.chain c.requires.whole.tree (attaching c.args.self.now.places c.add.new.self c.link_last.new.self c.args.above c.in-Ok.id c.get.result.now c.get_mut.result.now (record { name = c.args.name; above = Some c.args.above; below = c.new.result; leased = false }) c.link_last.new.chain
+    c.get.ensures c.in-Ok.ensures.fresh c.in-Ok.ensures.values c.in-Ok.ensures.free c.in-Ok.ensures.links c.add.ensures.lists c.link_last.ensures.whole c.link_last.ensures.list c.link_last.ensures.lane
+    c.link_last.ensures.elsewhere c.link_last.ensures.others c.link_last.ensures.contents c.get_mut.ensures.value c.get_mut.ensures.lists refl refl c.new.ensures.empty c.new.ensures.lane))
+    refl
+
+pub returns-clause-pruned : goal.returns-clause-pruned
+returns-clause-pruned g c = pruned_attached c.args.self.now (record c.args.self.now { places = with_value c.link_last.new.self c.args.above (record c.get_mut.result.now { below = c.link_last.new.chain }) }) c.args.above c.in-Ok.id (record { name = c.args.name; above = Some c.args.above; below = c.new.result; leased = false }) c.requires.whole refl
+    (attached c.args.self.now.places c.add.new.self c.link_last.new.self (with_value c.link_last.new.self c.args.above (record c.get_mut.result.now { below = c.link_last.new.chain })) c.args.above c.in-Ok.id c.get.result.now (record { name = c.args.name; above = Some c.args.above; below = c.new.result; leased = false }) c.link_last.new.chain c.requires.whole.tree (attaching c.args.self.now.places c.add.new.self c.link_last.new.self c.args.above c.in-Ok.id c.get.result.now c.get_mut.result.now (record { name = c.args.name; above = Some c.args.above; below = c.new.result; leased = false }) c.link_last.new.chain
+    c.get.ensures c.in-Ok.ensures.fresh c.in-Ok.ensures.values c.in-Ok.ensures.free c.in-Ok.ensures.links c.add.ensures.lists c.link_last.ensures.whole c.link_last.ensures.list c.link_last.ensures.lane
+    c.link_last.ensures.elsewhere c.link_last.ensures.others c.link_last.ensures.contents c.get_mut.ensures.value c.get_mut.ensures.lists refl refl c.new.ensures.empty c.new.ensures.lane))
+    refl c.requires.pruned

@@ -29,3 +29,10 @@ loop-at-preserved g c =
           child_next a chain c.in-Some.id c.next-at.result c.get-in-Some.result.now c.args.name.now c.get-in-Some.ensures (search rules) c.next-at.ensures.rest
           ∙ subst (λ o. named (value_at a) c.args.name.now (rest_of a chain o) ≡ named (value_at a) c.args.name.now (list_of a chain)) c.in-Some.is c.loop-at.invariant.rest;
     }
+
+pub returns-then-is_named-clause-above : goal.returns-then-is_named-clause-above
+returns-then-is_named-clause-above g c =
+    let a = c.args.self.now.places in
+    let chain = c.get.result.now.below in
+    let within : Contains (list_of a chain) c.in-Some.id = subst (λ o. IfSome o (λ id. Contains (list_of a chain) id)) c.in-Some.is c.loop-at.invariant.within in
+    c.requires.whole.tree.below c.args.above c.in-Some.id (subst (λ l. Contains l c.in-Some.id) (sym (below_is a c.args.above c.get.result.now c.get.ensures)) within)

@@ -1,5 +1,6 @@
 use Rattle.std.proofs.Common.{true, refl}
 use Rattle.cv_links.specs.Lends.{with_value}
+use Rattle.cv_leases.proofs.Needed.{pruned_begins}
 use Rattle.cv_leases.proofs.Rooted.{relabel, whole_labelled, begins}
 use Rattle.cv_leases.proofs.names.Names.lease.Goals as goal
 
@@ -12,3 +13,10 @@ pub returns-clause-leases : goal.returns-clause-leases
 returns-clause-leases c =
     begins c.args.self.now (record c.args.self.now { places = with_value c.args.self.now.places c.args.id (record c.get_mut.result.now { leased = true }) }) c.args.id c.get_mut.result.now c.requires.whole refl
     (relabel c.args.self.now.places c.args.id c.get_mut.result.now true c.get_mut.ensures.value c.get_mut.ensures.lists)
+
+pub returns-clause-pruned : goal.returns-clause-pruned
+returns-clause-pruned c =
+    pruned_begins c.args.self.now (record c.args.self.now { places = with_value c.args.self.now.places c.args.id (record c.get_mut.result.now { leased = true }) }) c.args.id c.get_mut.result.now c.requires.whole
+    (whole_labelled c.args.self.now (record c.args.self.now { places = with_value c.args.self.now.places c.args.id (record c.get_mut.result.now { leased = true }) }) c.args.id c.get_mut.result.now true c.requires.whole refl
+    (relabel c.args.self.now.places c.args.id c.get_mut.result.now true c.get_mut.ensures.value c.get_mut.ensures.lists))
+    refl (relabel c.args.self.now.places c.args.id c.get_mut.result.now true c.get_mut.ensures.value c.get_mut.ensures.lists) c.requires.pruned

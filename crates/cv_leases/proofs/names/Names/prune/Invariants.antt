@@ -1,6 +1,6 @@
 use Rattle.std.proofs.Common.{◌≤◌, ◌+◌, IfSome}
 use Rattle.cv_links.specs.Arena.{IsLive}
-use Rattle.cv_leases.specs.Names.{IsNames, SameLeased}
+use Rattle.cv_leases.specs.Names.{IsNames, IsPrunedTo, IsWithin, SameLeased}
 use Rattle.cv_leases.proofs.names.Names.prune.Given as goal
 
 abbrev pub invariant-loop-left : goal.invariant-loop-left
@@ -8,6 +8,8 @@ invariant-loop-left g l = record {
   whole : IsNames l.self;
   leases : SameLeased l.fn.self l.self;
   live : IfSome l.at (λ id. IsLive l.self.places id);
+  pruned : IsPrunedTo l.self l.at;
+  near : IfSome l.at (λ id. IsWithin l.self l.left id);
   steps : l.steps + l.left ≤ l.fn.steps + 64;
 }
 
