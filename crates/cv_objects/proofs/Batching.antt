@@ -9,11 +9,11 @@ use Rattle.cv_base.specs.ObjectId.{file_name}
 use Rattle.cv_base.specs.declared.object.Object.{Object}
 use Rattle.cv_base.proofs.Digests.{digest_sha1}
 use Rattle.cv_vault.specs.Names.{Name, on_way}
-use Rattle.cv_vault.specs.Disk.{Disk, Slot, File, Settled, IsCalm, slot, synced}
+use Rattle.cv_vault.specs.Disk.{Disk, Slot, File, Settled, IsCalm, slot}
 use Rattle.cv_vault.specs.Walks.{Nothing, Gains, Change, Stays, Comes}
 use Rattle.cv_vault.proofs.Names.{same_or_not}
 use Rattle.cv_objects.specs.Names.{way_name}
-use Rattle.cv_objects.specs.Batches.{IsReady, is_there, is_coming, Waits, stands, can, AreNamed, IsWritten, IsPlaced, BringsOne, Brings, IsOne, AreReady, AllWait, Has, KeepsOthers, SparesOthers, Shows, ShownIn, by_one, by_two, by_itself}
+use Rattle.cv_objects.specs.Batches.{IsReady, is_there, is_coming, Waits, stands, can, AreNamed, IsWritten, IsPlaced, BringsOne, Brings, IsOne, AreReady, AllWait, Has, SparesOthers, Shows, ShownIn, by_one, by_two, by_itself}
 use Rattle.cv_objects.specs.declared.store_fault.StoreFault.{StoreFault}
 use Rattle.cv_objects.specs.declared.store_fault.StoreFault.TheVariants.{Collision, Failed, Damaged, NoMemory}
 use Rattle.cv_base.proofs.Laws.{one_file_name}
@@ -138,18 +138,6 @@ pub wrote_then : {d d1 : Disk} (batch : List Object) (o : Object) (e : StoreFaul
 wrote_then batch o e h g w = shown_first e g (by_one (record { object = o; among = h; shows = w }))
 
 -- ---- the names apart from a batch
-
-pub others_same : {batch : List Object} {d d' : Disk} → d' ≡ d → KeepsOthers d batch d'
-others_same e = record { each = λ n apart. ap (λ (x : Disk). (x n).now) e }
-
-pub others_synced : {batch : List Object} {d d' : Disk} → d' ≡ synced d → KeepsOthers d batch d'
-others_synced e = record { each = λ n apart. ap (λ (x : Disk). (x n).now) e }
-
-pub others_then : {batch : List Object} {d d1 d2 : Disk} → KeepsOthers d batch d1 → KeepsOthers d1 batch d2 → KeepsOthers d batch d2
-others_then a b = record { each = λ n apart. b.each n apart ∙ a.each n apart }
-
-pub wrote_others : {batch : List Object} {d d1 d2 : Disk} (o : Object) → Contains batch o → KeepsOthers d batch d1 → IsWritten d1 o d2 → KeepsOthers d batch d2
-wrote_others o h k w = others_then k (record { each = λ n apart. ap (λ (s : Slot). s.now) (w.others n (apart.way o h)) })
 
 pub placed_others : {batch : List Object} {d d1 d2 : Disk} (o : Object) → Contains batch o → SparesOthers d batch d1 → IsPlaced d1 o d2 → SparesOthers d batch d2
 placed_others o h k p = record { each = λ n apart. p.others n (apart.way o h) (apart.name o h) ∙ k.each n apart }

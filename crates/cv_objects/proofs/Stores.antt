@@ -1,5 +1,5 @@
 -- A store, call by call.
-use Rattle.std.proofs.Common.{◌≡◌, ℕ, List, sym, ap, subst, ◌∙◌, inl}
+use Rattle.std.proofs.Common.{◌≡◌, ℕ, List, sym, subst, inl}
 use Rattle.std.specs.Prelude.{OnOk}
 use Rattle.std.specs.declared.option.Option.{Option}
 use Rattle.std.specs.declared.option.Option.TheVariants.{Some}
@@ -9,16 +9,16 @@ use Rattle.cv_base.specs.Told.{WhereTold}
 use Rattle.cv_base.specs.declared.object.Object.{Object}
 use Rattle.cv_vault.specs.declared.vault.VaultFault.{VaultFault}
 use Rattle.cv_vault.specs.Names.{on_way}
-use Rattle.cv_vault.specs.Disk.{Disk, Slot, Files, ImageOf, Syncs, synced}
+use Rattle.cv_vault.specs.Disk.{Disk, Files, ImageOf, Syncs, synced}
 use Rattle.cv_vault.specs.Moments.{Calls}
 use Rattle.cv_vault.specs.Walks.{Walks, Nothing, Gains}
 use Rattle.cv_vault.proofs.Laws.{bind, looser, ok, err, sync_ok, sync_err, calm_then}
 use Rattle.cv_objects.specs.Faults.{fault_of}
-use Rattle.cv_objects.specs.Batches.{AreReady, AllWait, Has, Brings, WroteAll, PlacedAll, Brought, Stored, StoredAll, AreStored, KeepsOthers, SparesOthers, IsOne, IsReady, is_there, is_coming, ShownIn, by_itself, IsOutside, IsRefusal}
+use Rattle.cv_objects.specs.Batches.{AreReady, AllWait, Has, Brings, WroteAll, PlacedAll, Brought, Stored, AreStored, SparesOthers, IsOne, IsReady, is_there, is_coming, ShownIn, by_itself, IsOutside, IsRefusal}
 use Rattle.cv_objects.specs.declared.store_fault.StoreFault.{StoreFault}
 use Rattle.cv_objects.specs.declared.store_fault.StoreFault.TheVariants.{Collision, Failed, Damaged, NoMemory}
 use Rattle.cv_objects.proofs.Looking.{outside}
-use Rattle.cv_objects.proofs.Batching.{all_wait, brings_nothing, brings_later, shown_first, others_then, others_synced}
+use Rattle.cv_objects.proofs.Batching.{all_wait, brings_nothing, brings_later, shown_first}
 
 pub has_then : (batch : List Object) (d d' : Disk) → d' ≡ synced d → Has d batch → Has d' batch
 has_then batch d d' e h = subst (λ x. Has x batch) (sym e) (record { each = h.each })
@@ -34,14 +34,14 @@ can_all : (batch : List Object) (d d' : Disk) → d' ≡ synced d → AreReady d
 can_all batch d d' e h = all_wait batch d' (calm_then d d' e) (ready_then batch d d' e h)
 
 -- a fault of the vault, whatever came
-pub stored_outside : {X : Type 0} (d : Disk) (batch : List Object) (d' : Disk) (r : Result X StoreFault) (e : StoreFault) → IsOne batch → r ≡ Err e → IsOutside e → StoredAll d batch r d'
+pub stored_outside : {X : Type 0} (d : Disk) (batch : List Object) (d' : Disk) (r : Result X StoreFault) (e : StoreFault) → IsOne batch → r ≡ Err e → IsOutside e → Stored d batch r d'
 stored_outside d batch d' r (Collision id) one is h = absurd h
 stored_outside d batch d' r Failed one is h = rw is one
 stored_outside d batch d' r (Damaged id found) one is h = absurd h
 stored_outside d batch d' r NoMemory one is h = rw is (inl one)
 
 -- a refusal, where nothing came
-pub stored_refuses : {X : Type 0} (d : Disk) (batch : List Object) (d' : Disk) (r : Result X StoreFault) (e : StoreFault) → IsOne batch → r ≡ Err e → ShownIn d batch e → Gains on_way Nothing d d' → StoredAll d batch r d'
+pub stored_refuses : {X : Type 0} (d : Disk) (batch : List Object) (d' : Disk) (r : Result X StoreFault) (e : StoreFault) → IsOne batch → r ≡ Err e → ShownIn d batch e → Gains on_way Nothing d d' → Stored d batch r d'
 stored_refuses d batch d' r (Collision id) one is h g = rw is (record { shown = h; same = g })
 stored_refuses d batch d' r Failed one is h g = rw is one
 stored_refuses d batch d' r (Damaged id found) one is h g = rw is (record { shown = h; same = g })
@@ -51,7 +51,7 @@ stored_refuses d batch d' r NoMemory one is h g = rw is (inl one)
 
 -- what was put after a sync
 put_later : {X : Type 0} (d d1 d2 : Disk) (batch : List Object) (r : Result X StoreFault) → Gains on_way Nothing d d1 → d1 ≡ synced d → WroteAll d1 batch r d2 → WroteAll d batch r d2
-put_later d d1 d2 batch (Ok x) g is w = (w.0, others_then (others_synced is) w.1)
+put_later d d1 d2 batch (Ok x) g is w = w
 put_later d d1 d2 batch (Err e) g is w = shown_first e g w
 
 module _ {V : Type 0} {disk : V → Option Disk} {count : V → ℕ} {left : V → ℕ → Files → Type 0} (batch : List Object) {d : Disk} {v v1 : V} (only : (f : Files) → left v (count v) f → ImageOf (disk v) f) (told : disk v ≡ Some d) where
@@ -97,54 +97,33 @@ refusal_inside {X = X} r e is out refusal = by e out (subst (λ (x : Result X St
     by (Damaged id found) out h = out
     by NoMemory out h = h
 
--- a batch that was brought after it was put
-others_brought : {batch : List Object} {d d' : Disk} → SparesOthers (synced d) batch d' → KeepsOthers d batch d'
-others_brought k = record { each = λ n apart. ap (λ (s : Slot). s.now) (k.each n apart) }
-
 -- a batch that is refused
 pub then_refused : {V : Type 0} {disk : V → Option Disk} {count : V → ℕ} {left : V → ℕ → Files → Type 0} (batch : List Object) {d : Disk} {v0 v : V} {X : Type 0} (r : Result X StoreFault) (e : StoreFault) → IsOne batch → r ≡ Err e
-    → Walks disk count left on_way Nothing (WroteAll d batch {X = Unit {0}} (Err e)) d v0 v → Walks disk count left on_way (Brings d batch) (StoredAll d batch r) d v0 v
+    → Walks disk count left on_way Nothing (WroteAll d batch {X = Unit {0}} (Err e)) d v0 v → Walks disk count left on_way (Brings d batch) (Stored d batch r) d v0 v
 then_refused batch {d = d} r e one is w = looser w brings_nothing (λ d2 g k. stored_refuses d batch d2 r e one is k g)
 
 module _ {V : Type 0} {disk : V → Option Disk} {count : V → ℕ} {left : V → ℕ → Files → Type 0} (batch : List Object) {d : Disk} {v0 v v' : V} where
   pub then_unplaced : {X : Type 0} {u : Unit {0}} (r : Result X StoreFault) (e : StoreFault) → IsOne batch → r ≡ Err e → Walks disk count left on_way Nothing (WroteAll d batch {X = Unit {0}} (Ok u)) d v0 v
       → WhereTold (disk v) (λ d1. AreReady d1 batch → Walks disk count left on_way (Brings d1 batch) (Brought d1 batch {X = Unit {0}} (Err e)) d1 v v')
-      → Walks disk count left on_way (Brings d batch) (StoredAll d batch r) d v0 v'
-  then_unplaced r e one is w h = bind w brings_nothing (λ d1 told g put. looser (h d1 told put.0) (brings_later g) (λ d2 g2 k. stored_outside d batch d2 r e one is k))
+      → Walks disk count left on_way (Brings d batch) (Stored d batch r) d v0 v'
+  then_unplaced r e one is w h = bind w brings_nothing (λ d1 told g put. looser (h d1 told put) (brings_later g) (λ d2 g2 k. stored_outside d batch d2 r e one is k))
 
   -- nor is one refused while it is brought
   pub then_unrefused : {X : Type 0} {u : Unit {0}} (r : Result X StoreFault) (e : StoreFault) → r ≡ Err e → IsRefusal r → Walks disk count left on_way Nothing (WroteAll d batch {X = Unit {0}} (Ok u)) d v0 v
       → WhereTold (disk v) (λ d1. AreReady d1 batch → Walks disk count left on_way (Brings d1 batch) (Brought d1 batch {X = Unit {0}} (Err e)) d1 v v') → ⊥
-  then_unrefused r e is refusal w h = refusal_inside r e is (h w.end w.told w.is.0).is refusal
+  then_unrefused r e is refusal w h = refusal_inside r e is (h w.end w.told w.is).is refusal
 
   pub then_brought : {u u' : Unit {0}} → Walks disk count left on_way Nothing (WroteAll d batch {X = Unit {0}} (Ok u)) d v0 v
       → WhereTold (disk v) (λ d1. AreReady d1 batch → Walks disk count left on_way (Brings d1 batch) (Brought d1 batch {X = Unit {0}} (Ok u')) d1 v v')
-      → Walks disk count left on_way (Brings d batch) (λ d2. Has d2 batch × KeepsOthers d batch d2) d v0 v'
-  then_brought w h = bind w brings_nothing (λ d1 told g put. looser (h d1 told put.0) (brings_later g) (λ d2 g2 k. (k.0, others_then put.1 (others_brought k.1))))
+      → Walks disk count left on_way (Brings d batch) (λ d2. Has d2 batch) d v0 v'
+  then_brought w h = bind w brings_nothing (λ d1 told g put. looser (h d1 told put) (brings_later g) (λ d2 g2 k. k.0))
 
-  pub then_stored : ((f : Files) → left v (count v) f → ImageOf (disk v) f) → Walks disk count left on_way (Brings d batch) (λ d2. Has d2 batch × KeepsOthers d batch d2) d v0 v → Calls disk count left (Syncs ok) v v'
-      → Walks disk count left on_way (Brings d batch) (λ d3. AreStored batch d3 × KeepsOthers d batch d3) d v0 v'
-  then_stored only w c = bind w (λ n f b. b) (λ d2 told g has. looser (sync_ok only told c) (λ n f b. b) (λ d3 g3 is. (record { calm = calm_then d2 d3 is; has = has_then batch d2 d3 is has.0 }, others_then has.1 (others_synced is))))
+  pub then_stored : ((f : Files) → left v (count v) f → ImageOf (disk v) f) → Walks disk count left on_way (Brings d batch) (λ d2. Has d2 batch) d v0 v → Calls disk count left (Syncs ok) v v'
+      → Walks disk count left on_way (Brings d batch) (AreStored batch) d v0 v'
+  then_stored only w c = bind w (λ n f b. b) (λ d2 told g has. looser (sync_ok only told c) (λ n f b. b) (λ d3 g3 is. record { calm = calm_then d2 d3 is; has = has_then batch d2 d3 is has }))
 
   -- the last sync fails
   pub then_fails : {X : Type 0} {E : Disk → Type 0} (x : VaultFault) (r : Result X StoreFault) → IsOne batch → r ≡ Err (fault_of x)
       → ((f : Files) → left v (count v) f → ImageOf (disk v) f) → Walks disk count left on_way (Brings d batch) E d v0 v → Calls disk count left (Syncs (err x)) v v'
-      → Walks disk count left on_way (Brings d batch) (StoredAll d batch r) d v0 v'
+      → Walks disk count left on_way (Brings d batch) (Stored d batch r) d v0 v'
   then_fails x r one is only w c = bind w (λ n f b. b) (λ d2 told g e. looser (sync_err x only told c) (λ n f b. b) (λ d3 g3 s. stored_outside d batch d3 r (fault_of x) one is (outside x)))
-
--- what is said of a store alone
-pub stored_of : {X : Type 0} (d : Disk) (batch : List Object) (r : Result X StoreFault) (d' : Disk) → StoredAll d batch r d' → Stored d batch r d'
-stored_of d batch (Ok x) d' h = h.0
-stored_of d batch (Err e) d' h = h
-
--- and of the other names
-pub stored_others : {V : Type 0} {disk : V → Option Disk} {count : V → ℕ} {left : V → ℕ → Files → Type 0} {X : Type 0} (batch : List Object) {d : Disk} {v v' : V} (r : Result X StoreFault)
-    → Walks disk count left on_way (Brings d batch) (StoredAll d batch r) d v v' → WhereTold (disk v') (λ d'. OnOk r (KeepsOthers d batch d'))
-stored_others {disk = disk} {X = X} batch {d = d} {v' = v'} r w d' told = by r (subst (λ y. StoredAll d batch r y) (some_disk (sym w.told ∙ told)) w.is)
-  where
-    some_disk : {a b : Disk} → Some a ≡ Some b → a ≡ b
-    some_disk e = cc
-
-    by : (r : Result X StoreFault) → StoredAll d batch r d' → OnOk r (KeepsOthers d batch d')
-    by (Ok x) h = h.1
-    by (Err e) h = tt

@@ -148,12 +148,22 @@ pub record IsApart (batch : List Object) (n : Name) : Type 0 where
   pub way : (o : Object) → Contains batch o → n ≢ way_name o.id
   pub name : (o : Object) → Contains batch o → n ≢ file_name o.id
 
--- under the names apart from the batch stands what stood there
-pub record KeepsOthers (d : Disk) (batch : List Object) (d' : Disk) : Type 0 where
-  pub each : (n : Name) → IsApart batch n → (d' n).now ≡ (d n).now
+-- no name by which the object comes, or to which
+pub record IsApartFrom (o : Object) (n : Name) : Type 0 where
+  pub way : n ≢ way_name o.id
+  pub name : n ≢ file_name o.id
+
+-- under the names that P tells stands what stood there, as unsure as it was or settled
+pub record Spares (P : Name → Type 0) (d d' : Disk) : Type 0 where
+  pub each : (n : Name) → P n → (d' n ≡ d n) ⊎ (d' n ≡ slot (d n).now Settled)
+
+-- so it is where the vault tells its disk, which it then goes on to tell; one that tells none goes on to tell none
+pub record SparesIn {V : Type 0} (disk : V → Option Disk) (P : Name → Type 0) (v v' : V) : Type 0 where
+  pub silent : disk v ≡ None → disk v' ≡ None
+  pub tells : (d : Disk) → disk v ≡ Some d → (d' : Disk) × (disk v' ≡ Some d') × Spares P d d'
 
 abbrev pub WroteAll : Disk → List Object → {X : Type 0} → Result X StoreFault → Disk → Type 0
-WroteAll d batch (Ok x) d' = AreReady d' batch × KeepsOthers d batch d'
+WroteAll d batch (Ok x) d' = AreReady d' batch
 WroteAll d batch (Err fault) d' = ShownIn d batch fault
 
 -- the names apart from the batch are as they were, marks included
@@ -198,11 +208,6 @@ Stored d batch (Err (Collision id)) d' = IsRefused d batch (Collision id) d'
 Stored d batch (Err Failed) d' = IsOne batch
 Stored d batch (Err (Damaged id found)) d' = IsRefused d batch (Damaged id found) d'
 Stored d batch (Err NoMemory) d' = IsOne batch ⊎ Gains on_way Nothing d d'
-
--- the same, and what it leaves under the other names where it succeeds
-abbrev pub StoredAll : Disk → List Object → {X : Type 0} → Result X StoreFault → Disk → Type 0
-StoredAll d batch (Ok x) d' = AreStored batch d' × KeepsOthers d batch d'
-StoredAll d batch {X} (Err fault) d' = Stored d batch {X = X} (Err fault) d'
 
 -- what stands on a shelf under an id of the batch is that object's bytes
 pub record Agrees (batch : List Object) (shelf : Shelf) : Type 0 where

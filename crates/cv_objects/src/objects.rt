@@ -1,10 +1,9 @@
 //! Objects over a vault.
 ghost use Rattle.std.proofs.Common.{ap};
-ghost use Rattle.std.specs.Prelude.{◌≡◌, ◌≢◌, ℕ, Option, Err, IfErr, IsErrOf, OnOk};
+ghost use Rattle.std.specs.Prelude.{◌≡◌, ◌≢◌, Option, Err, IsErrOf, OnOk};
 ghost use Rattle.std.specs.Option.{option_map};
 ghost use Rattle.cv_base.specs.Counts.{HasCause};
 ghost use Rattle.cv_base.specs.Told.{WhereTold};
-ghost use Rattle.cv_ports.specs.Calls.{raised};
 ghost use Rattle.cv_vault.specs.Names.{on_way};
 ghost use Rattle.cv_vault.specs.Disk.{Syncs};
 ghost use Rattle.cv_vault.specs.Moments.{Calls, OnlyReads};
@@ -12,7 +11,7 @@ ghost use Rattle.cv_vault.specs.Walks.{Walks, Nothing};
 ghost use Rattle.cv_vault.specs.declared.vault.VaultFault.TheVariants as vault_fault;
 ghost use Rattle.cv_vault.proofs.Quiet.{quiet_none, quiet_then, quiet_same};
 ghost use Rattle.cv_objects.specs.Names.{standing_on};
-ghost use Rattle.cv_objects.specs.Batches.{AreNamed, AreReady, Brings, BringsNothing, Brought, GivesFresh, IsOne, IsRefusal, KeepsOthers, Stored, WroteAll};
+ghost use Rattle.cv_objects.specs.Batches.{AreNamed, AreReady, Brings, BringsNothing, Brought, GivesFresh, IsApart, IsOne, IsRefusal, SparesIn, Stored, WroteAll};
 ghost use Rattle.cv_objects.specs.declared.store_fault.StoreFault.TheVariants as fault;
 
 use crate::batch::clash_in;
@@ -79,14 +78,14 @@ impl<V: Vault + Drop> Objects<V> {
     /// Stores the objects of a batch that the shelf lacks: all of them, or, where it fails, some, whole.
     ///
     /// A crash at any moment leaves under each name what it might have left before, or the object of the batch that comes
-    /// to a name without a file. After `Collision` and `Damaged` nothing came. After `Ok` every other name, also one that is
-    /// on the way, has the file that it had.
+    /// to a name without a file. After `Collision` and `Damaged` nothing came. Whatever it answers, every other name, also one
+    /// that is on the way, has the file that it had, and is settled where it was.
     pub fn store(&mut self, alloc: Global, batch: &[Object]) -> Result<(), StoreFault>
         requires named { AreNamed batch.now }
         ensures walks { WhereTold (V.disk self.old.vault) (λ d.
             Walks V.disk V.count V.left on_way (Brings d batch.now) (Stored d batch.now result) d self.old.vault self.new.vault) }
         ensures refused { IsRefusal result → BringsNothing V.disk V.count V.left self.old.vault self.new.vault }
-        ensures others { WhereTold (V.disk self.old.vault) (λ d. WhereTold (V.disk self.new.vault) (λ d'. OnOk result (KeepsOthers d batch.now d'))) }
+        ensures others { SparesIn V.disk (IsApart batch.now) self.old.vault self.new.vault }
         ensures cause { HasCause (V.faults self.old.vault) (V.faults self.new.vault) (IsErrOf result fault.Failed) }
         ensures taken { self.new.taken ≡ self.old.taken }
     {
@@ -106,6 +105,7 @@ impl<V: Vault + Drop> Objects<V> {
             Walks V.disk V.count V.left on_way Nothing (WroteAll d batch.now result) d self.old.vault self.new.vault) }
         ensures one { OnOk result (IsOne batch.now) }
         ensures failed { result ≡ Err fault.Failed → IsOne batch.now }
+        ensures others { SparesIn V.disk (IsApart batch.now) self.old.vault self.new.vault }
         ensures cause { HasCause (V.faults self.old.vault) (V.faults self.new.vault) (IsErrOf result fault.Failed) }
         ensures taken { self.new.taken ≡ self.old.taken }
     {
@@ -122,6 +122,7 @@ impl<V: Vault + Drop> Objects<V> {
         requires one { IsOne batch.now }
         ensures walks { WhereTold (V.disk self.old.vault) (λ d. AreReady d batch.now →
             Walks V.disk V.count V.left on_way (Brings d batch.now) (Brought d batch.now result) d self.old.vault self.new.vault) }
+        ensures others { SparesIn V.disk (IsApart batch.now) self.old.vault self.new.vault }
         ensures cause { HasCause (V.faults self.old.vault) (V.faults self.new.vault) (IsErrOf result fault.Failed) }
         ensures taken { self.new.taken ≡ self.old.taken }
     {

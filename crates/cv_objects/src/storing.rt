@@ -7,7 +7,7 @@ ghost use Rattle.cv_base.specs.Told.{WhereTold};
 ghost use Rattle.cv_vault.specs.Names.{on_way};
 ghost use Rattle.cv_vault.specs.Moments.{OnlyReads};
 ghost use Rattle.cv_vault.specs.Walks.{Walks, Nothing};
-ghost use Rattle.cv_objects.specs.Batches.{Compares, Looked, Wrote, Placed, WroteAll, PlacedAll, Brought, StoredAll, Brings, BringsOne, BringsNothing, IsRefusal, AreNamed, AreReady, IsOne, Waits, AllWait};
+ghost use Rattle.cv_objects.specs.Batches.{Compares, IsApart, IsApartFrom, SparesIn, Looked, Wrote, Placed, WroteAll, PlacedAll, Brought, Stored, Brings, BringsOne, BringsNothing, IsRefusal, AreNamed, AreReady, IsOne, Waits, AllWait};
 ghost use Rattle.cv_objects.specs.declared.store_fault.StoreFault.TheVariants as fault;
 
 use crate::names::{name_of, way_of};
@@ -51,6 +51,7 @@ pub fn stands<V: Vault>(vault: &mut V, alloc: Global, object: &Object) -> Result
 /// Puts an absent object on its way.
 fn write_one<V: Vault>(vault: &mut V, alloc: Global, object: &Object) -> Result<(), StoreFault>
     ensures walks { WhereTold (V.disk vault.old) (λ d. Walks V.disk V.count V.left on_way Nothing (Wrote d object.now result) d vault.old vault.new) }
+    ensures others { SparesIn V.disk (IsApartFrom object.now) vault.old vault.new }
     ensures cause { HasCause (V.faults vault.old) (V.faults vault.new) (IsErrOf result fault.Failed) }
 {
     if stands(vault, alloc, object)? {
@@ -65,6 +66,7 @@ fn write_one<V: Vault>(vault: &mut V, alloc: Global, object: &Object) -> Result<
 fn place_one<V: Vault>(vault: &mut V, alloc: Global, object: &Object) -> Result<(), StoreFault>
     requires named { object.now.id.hash ≡ sha1 object.now.bytes }
     ensures walks { WhereTold (V.disk vault.old) (λ d. Waits d object.now → Walks V.disk V.count V.left on_way (BringsOne d object.now) (Placed d object.now result) d vault.old vault.new) }
+    ensures others { SparesIn V.disk (IsApartFrom object.now) vault.old vault.new }
     ensures cause { HasCause (V.faults vault.old) (V.faults vault.new) (IsErrOf result fault.Failed) }
 {
     if stands(vault, alloc, object)? {
@@ -85,6 +87,7 @@ fn write_absent<V: Vault>(vault: &mut V, alloc: Global, batch: &[Object]) -> Res
     requires named { AreNamed batch.now }
     requires one { IsOne batch.now }
     ensures walks { WhereTold (V.disk vault.old) (λ d. Walks V.disk V.count V.left on_way Nothing (WroteAll d batch.now result) d vault.old vault.new) }
+    ensures others { SparesIn V.disk (IsApart batch.now) vault.old vault.new }
     ensures cause { HasCause (V.faults vault.old) (V.faults vault.new) (IsErrOf result fault.Failed) }
 {
     for object in batch {
@@ -98,6 +101,7 @@ fn place_absent<V: Vault>(vault: &mut V, alloc: Global, batch: &[Object]) -> Res
     requires named { AreNamed batch.now }
     requires one { IsOne batch.now }
     ensures walks { WhereTold (V.disk vault.old) (λ d. AllWait d batch.now → Walks V.disk V.count V.left on_way (Brings d batch.now) (PlacedAll d batch.now result) d vault.old vault.new) }
+    ensures others { SparesIn V.disk (IsApart batch.now) vault.old vault.new }
     ensures cause { HasCause (V.faults vault.old) (V.faults vault.new) (IsErrOf result fault.Failed) }
 {
     for object in batch {
@@ -111,6 +115,7 @@ pub fn put_all<V: Vault>(vault: &mut V, alloc: Global, batch: &[Object]) -> Resu
     requires named { AreNamed batch.now }
     requires one { IsOne batch.now }
     ensures walks { WhereTold (V.disk vault.old) (λ d. Walks V.disk V.count V.left on_way Nothing (WroteAll d batch.now result) d vault.old vault.new) }
+    ensures others { SparesIn V.disk (IsApart batch.now) vault.old vault.new }
     ensures cause { HasCause (V.faults vault.old) (V.faults vault.new) (IsErrOf result fault.Failed) }
 {
     vault.sync()?;
@@ -122,6 +127,7 @@ pub fn bring_all<V: Vault>(vault: &mut V, alloc: Global, batch: &[Object]) -> Re
     requires named { AreNamed batch.now }
     requires one { IsOne batch.now }
     ensures walks { WhereTold (V.disk vault.old) (λ d. AreReady d batch.now → Walks V.disk V.count V.left on_way (Brings d batch.now) (Brought d batch.now result) d vault.old vault.new) }
+    ensures others { SparesIn V.disk (IsApart batch.now) vault.old vault.new }
     ensures cause { HasCause (V.faults vault.old) (V.faults vault.new) (IsErrOf result fault.Failed) }
 {
     vault.sync()?;
@@ -132,8 +138,9 @@ pub fn bring_all<V: Vault>(vault: &mut V, alloc: Global, batch: &[Object]) -> Re
 pub fn store_all<V: Vault>(vault: &mut V, alloc: Global, batch: &[Object]) -> Result<(), StoreFault>
     requires named { AreNamed batch.now }
     requires one { IsOne batch.now }
-    ensures walks { WhereTold (V.disk vault.old) (λ d. Walks V.disk V.count V.left on_way (Brings d batch.now) (StoredAll d batch.now result) d vault.old vault.new) }
+    ensures walks { WhereTold (V.disk vault.old) (λ d. Walks V.disk V.count V.left on_way (Brings d batch.now) (Stored d batch.now result) d vault.old vault.new) }
     ensures refused { IsRefusal result → BringsNothing V.disk V.count V.left vault.old vault.new }
+    ensures others { SparesIn V.disk (IsApart batch.now) vault.old vault.new }
     ensures cause { HasCause (V.faults vault.old) (V.faults vault.new) (IsErrOf result fault.Failed) }
 {
     put_all(vault, alloc, batch)?;

@@ -1,5 +1,5 @@
 -- A first revision but its head, call by call.
-use Rattle.std.proofs.Common.{◌≡◌, ℕ, Bool, true, List, refl, sym, ap, subst, ◌∙◌}
+use Rattle.std.proofs.Common.{◌≡◌, ℕ, List, refl, sym, ap, subst, ◌∙◌}
 use Rattle.std.specs.Prelude.{IsErrAnd}
 use Rattle.std.specs.declared.option.Option.{Option}
 use Rattle.std.specs.declared.option.Option.TheVariants.{Some}
@@ -10,11 +10,11 @@ use Rattle.cv_base.specs.ObjectId.{file_name}
 use Rattle.cv_base.specs.declared.object.Object.{Object}
 use Rattle.cv_vault.specs.declared.vault.VaultFault.{VaultFault}
 use Rattle.cv_vault.specs.Names.{Name, on_way}
-use Rattle.cv_vault.specs.Disk.{Disk, Slot, File, Files, ImageOf, Syncs, Writes, Renames, Settled, Torn, slot, written, renamed}
+use Rattle.cv_vault.specs.Disk.{Disk, Slot, File, Files, ImageOf, Syncs, Writes, Settled, Torn, slot, written}
 use Rattle.cv_vault.specs.Moments.{Calls}
 use Rattle.cv_vault.specs.Walks.{Change, Stays, Comes, Gains, Walks, Nothing, ComesTo}
 use Rattle.cv_vault.specs.Replace.{IsSure}
-use Rattle.cv_vault.proofs.Laws.{here, elsewhere, renamed_to, renamed_elsewhere, call, bind, looser, writes, renames, ok, err, sync_ok, sync_err}
+use Rattle.cv_vault.proofs.Laws.{here, elsewhere, call, bind, looser, writes, ok, err, sync_ok, sync_err}
 use Rattle.cv_objects.specs.Faults.{fault_of}
 use Rattle.cv_objects.specs.Names.{way_name}
 use Rattle.cv_objects.specs.Batches.{AreNamed, AreReady, IsApart, Has, Brings, Brought, WroteAll, ShownIn, IsOutside}
@@ -22,7 +22,7 @@ use Rattle.cv_objects.specs.declared.store_fault.StoreFault.{StoreFault}
 use Rattle.cv_objects.specs.declared.store_fault.StoreFault.TheVariants.{Collision, Failed, Damaged, NoMemory}
 use Rattle.cv_objects.proofs.Lemmas.{data_off_way, outside, brings_later, has_then}
 use Rattle.cv_swap.specs.Stands.{head_way, epoch_name, epoch_way, epoch_text}
-use Rattle.cv_swap.specs.Publishing.{BringsFirst, an_object, the_epoch, AreBeside, PutBeside, EpochWaits, EpochIsThere, EpochCame, Built, AreBuilt}
+use Rattle.cv_swap.specs.Publishing.{BringsFirst, an_object, the_epoch, AreBeside, PutBeside, IsWaiting, Came, Built, AreBuilt}
 use Rattle.cv_swap.proofs.Names.{head_apart, epoch_way_apart, epoch_apart, epoch_not_data, epoch_not_manifest, manifest_not_epoch}
 use Rattle.cv_swap.proofs.Publish.{ready_beside, sure_then}
 
@@ -61,24 +61,6 @@ module _ {V : Type 0} {disk : V → Option Disk} {count : V → ℕ} {left : V �
       → Walks disk count left on_way Nothing (PutBeside d manifest r) d v v2
   beside r only1 c c2 = bind (epoch_put c) (λ n f b. b) (λ d1 told1 g e. call only1 told1 c2 (λ d2 h. (writes head_way manifest r d1 d2 refl h, put_now d d1 d2 manifest r e h)))
 
--- ---- the epoch is brought
-
-came : (d d' : Disk) → EpochWaits d → d' ≡ renamed d epoch_way epoch_name → EpochIsThere d d'
-came d d' waits e = subst (EpochIsThere d) (sym e) (record {
-  there = ap (λ (s : Slot). s.now) (renamed_to d epoch_way epoch_name) ∙ ap (λ (s : Slot). s.now) waits.way;
-  others = λ n a b. renamed_elsewhere d epoch_way epoch_name n a b;
-})
-
-epoch_gains : (d : Disk) (r : Result Bool VaultFault) (d' : Disk) → EpochWaits d → Renames epoch_way epoch_name r d d' → Gains on_way (ComesTo epoch_name first_text) d d'
-epoch_gains d r d' waits x = renames epoch_way epoch_name d refl refl (ap (λ (s : Slot). s.mark) waits.way) waits.name (refl, ap (λ (s : Slot). s.now) waits.way) r d' x
-
-module _ {V : Type 0} {disk : V → Option Disk} {count : V → ℕ} {left : V → ℕ → Files → Type 0} {d : Disk} {v v1 : V} (only : (f : Files) → left v (count v) f → ImageOf (disk v) f) (told : disk v ≡ Some d) (waits : EpochWaits d) where
-  pub epoch_comes : {u : Unit {0}} → Calls disk count left (Renames epoch_way epoch_name (Ok true)) v v1 → Walks disk count left on_way (ComesTo epoch_name first_text) (EpochCame d {X = Unit {0}} (Ok u)) d v v1
-  epoch_comes c = call only told c (λ d' x. (epoch_gains d (Ok true) d' waits x, came d d' waits x.1))
-
-  pub epoch_not : {X : Type 0} (s : Result Bool VaultFault) (r : Result X VaultFault) (x : VaultFault) → r ≡ Err x → Calls disk count left (Renames epoch_way epoch_name s) v v1 → Walks disk count left on_way (ComesTo epoch_name first_text) (EpochCame d r) d v v1
-  epoch_not s r x fails c = rw fails (call only told c (λ d' y. (epoch_gains d s d' waits y, tt)))
-
 -- ---- all of it
 
 pub built_refused : {X : Type 0} (d : Disk) (batch : List Object) (manifest : List ℕ) (d' : Disk) (r : Result X StoreFault) (e : StoreFault) → r ≡ Err e → ShownIn d batch e → Gains on_way Nothing d d' → Built d batch manifest r d'
@@ -102,7 +84,7 @@ pub record AreUnderWay (batch : List Object) (manifest : List ℕ) (d : Disk) : 
 -- the objects are there, and the others settled on their way
 pub record AreWaiting (batch : List Object) (manifest : List ℕ) (d : Disk) : Type 0 where
   pub has : Has d batch
-  pub epoch : EpochWaits d
+  pub epoch : IsWaiting epoch_way epoch_name (epoch_text 0) d
   pub head : (d head_way).now ≡ Some manifest
 
 -- all but the head is there
@@ -126,7 +108,7 @@ module _ {V : Type 0} {disk : V → Option Disk} {count : V → ℕ} {left : V �
     ready = ready_beside batch d1 d2 (λ o k. (
       p.others (file_name o.id) (λ e. epoch_apart_.name o k (sym e)) (λ e. head_apart_.name o k (sym e)),
       p.others (way_name o.id) (λ e. epoch_apart_.way o k (sym e)) (λ e. head_apart_.way o k (sym e)),
-    )) put.0;
+    )) put;
     epoch = p.epoch;
     head = p.head;
   }))
@@ -142,17 +124,17 @@ module _ {V : Type 0} {disk : V → Option Disk} {count : V → ℕ} {left : V �
   then_objects w h = bind w (λ n f b. absurd b) (λ d1 told g under. looser (h d1 told under.ready) (λ n f b. an_object (brings_later g n f b)) (λ d2 g2 k. record {
     has = k.0;
     epoch = record {
-      way = k.1.each epoch_way (epoch_way_apart batch named) ∙ ap (λ (x : File). slot x Settled) under.epoch;
-      name = ap (λ (s : Slot). s.mark) (k.1.each epoch_name (epoch_apart batch));
+      on_its_way = k.1.each epoch_way (epoch_way_apart batch named) ∙ ap (λ (x : File). slot x Settled) under.epoch;
+      at_name = ap (λ (s : Slot). s.mark) (k.1.each epoch_name (epoch_apart batch));
     };
     head = ap (λ (s : Slot). s.now) (k.1.each head_way (head_apart batch named)) ∙ under.head;
   }))
 
 module _ {V : Type 0} {disk : V → Option Disk} {count : V → ℕ} {left : V → ℕ → Files → Type 0} (batch : List Object) (manifest : List ℕ) {d : Disk} {v0 v v' : V} where
   pub then_epoch : {u : Unit {0}} → Walks disk count left on_way (BringsFirst d batch) (AreWaiting batch manifest) d v0 v
-      → WhereTold (disk v) (λ d1. EpochWaits d1 → Walks disk count left on_way (ComesTo epoch_name first_text) (EpochCame d1 {X = Unit {0}} (Ok u)) d1 v v')
+      → WhereTold (disk v) (λ d1. (bytes : List ℕ) → IsWaiting epoch_way epoch_name bytes d1 → Walks disk count left on_way (ComesTo epoch_name (Some bytes)) (Came d1 epoch_way epoch_name bytes {X = Unit {0}} (Ok u)) d1 v v')
       → Walks disk count left on_way (BringsFirst d batch) (AreThere batch manifest) d v0 v'
-  then_epoch w h = bind w (λ n f b. b) (λ d1 told g are. looser (h d1 told are.epoch) (λ n f b. the_epoch b) (λ d2 g2 k. record {
+  then_epoch w h = bind w (λ n f b. b) (λ d1 told g are. looser (h d1 told (epoch_text 0) are.epoch) (λ n f b. the_epoch b) (λ d2 g2 k. record {
     has = has_beside batch d1 d2 g2 are.has;
     epoch = k.there;
     head = ap (λ (s : Slot). s.now) (k.others head_way (λ e. epoch_not_manifest (sym e)) (λ e. manifest_not_epoch (sym e))) ∙ are.head;
@@ -166,8 +148,8 @@ module _ {V : Type 0} {disk : V → Option Disk} {count : V → ℕ} {left : V �
   )))
 
   -- a walk, and a call that fails
-  pub then_unbuilt : {X : Type 0} {A B : Name → File → Type 0} {E F : Disk → Type 0} (r : Result X StoreFault) (e : StoreFault) → r ≡ Err e → IsOutside e → ((n : Name) (f : File) → A n f → BringsFirst d batch n f)
-      → Walks disk count left on_way A E d v0 v → ((d1 : Disk) → disk v ≡ Some d1 → E d1 → Walks disk count left on_way B F d1 v v') → ((d1 : Disk) → Gains on_way A d d1 → (n : Name) (f : File) → B n f → BringsFirst d batch n f)
+  pub then_unbuilt : {X : Type 0} {A B : Name → File → Type 0} {E : Disk → Type 0} {F : Disk → Disk → Type 0} (r : Result X StoreFault) (e : StoreFault) → r ≡ Err e → IsOutside e → ((n : Name) (f : File) → A n f → BringsFirst d batch n f)
+      → Walks disk count left on_way A E d v0 v → ((d1 : Disk) → disk v ≡ Some d1 → E d1 → Walks disk count left on_way B (F d1) d1 v v') → ((d1 : Disk) → Gains on_way A d d1 → (n : Name) (f : File) → B n f → BringsFirst d batch n f)
       → Walks disk count left on_way (BringsFirst d batch) (Built d batch manifest r) d v0 v'
   then_unbuilt r e is out more w next later = bind w more (λ d1 told g k. looser (next d1 told k) (later d1 g) (λ d2 g2 u. built_outside d batch manifest d2 r e is out))
 

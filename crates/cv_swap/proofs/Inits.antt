@@ -142,7 +142,7 @@ leaves_while name is_seal now d (Err init_fault.Exists) f h = not_yet (within_mo
 leaves_while name is_seal now d (Err (init_fault.Collision id)) f h = not_yet (within_more (λ n g b. absurd b) f h)
 leaves_while name is_seal now d (Err init_fault.Failed) f h = h
 leaves_while name is_seal now d (Err (init_fault.Damaged id found)) f h = not_yet (within_more (λ n g b. absurd b) f h)
-leaves_while name is_seal now d (Err init_fault.NoMemory) f h = h
+leaves_while name is_seal now d (Err init_fault.NoMemory) f h = not_yet h
 
 pub leaves_settled : (name : List ℕ) (is_seal : List ℕ → List ℕ → Bool) (now : ℕ) (d : Disk) (r : Result (Unit {0}) InitFault) (f : Files) → IsCalm d → (d head_name).now ≡ None → HaveHashes (files_now d) → InitLeaves name is_seal now d r f
     → (f head_name ≡ None) ⊎ StandsFirst name is_seal now f
@@ -154,7 +154,7 @@ nothing_left name is_seal now d init_fault.Exists f w = w
 nothing_left name is_seal now d (init_fault.Collision id) f w = w
 nothing_left name is_seal now d init_fault.Failed f w = not_yet (within_more (λ n g b. absurd b) f w)
 nothing_left name is_seal now d (init_fault.Damaged id found) f w = w
-nothing_left name is_seal now d init_fault.NoMemory f w = not_yet (within_more (λ n g b. absurd b) f w)
+nothing_left name is_seal now d init_fault.NoMemory f w = within_more (λ n g b. absurd b) f w
 
 -- what a refusal of the store says
 answers_of : (d : Disk) (now : ℕ) (manifest : List ℕ) (d' : Disk) (e : StoreFault) → (d head_name).now ≡ None → Inited d (first_batch now) manifest {X = Unit {0}} (Err e) d' → Answers d now (Err (init_fault_of e))
@@ -186,7 +186,7 @@ refused_left : (name : List ℕ) (is_seal : List ℕ → List ℕ → Bool) (now
 refused_left name is_seal now manifest d (store.Collision id) f limit none says w = w
 refused_left name is_seal now manifest d store.Failed f limit none says w = first_while name is_seal now manifest d f limit none says w
 refused_left name is_seal now manifest d (store.Damaged id found) f limit none says w = w
-refused_left name is_seal now manifest d store.NoMemory f limit none says w = first_while name is_seal now manifest d f limit none says w
+refused_left name is_seal now manifest d store.NoMemory f limit none says w = w
 
 module _ {V : Type 0} {disk : V → Option Disk} {count : V → ℕ} {left : V → ℕ → Files → Type 0} (name : List ℕ) (is_seal : List ℕ → List ℕ → Bool) (now : ℕ) {d : Disk} {v v1 : V}
     (only : (f : Files) → left v (count v) f → ImageOf (disk v) f) (told : disk v ≡ Some d) (reads : OnlyReads disk count left v v1) where

@@ -4,6 +4,7 @@ pub mod Finding
 pub mod Opens
 pub mod Views
 pub mod Publish
+pub mod Bringing
 pub mod Building
 pub mod Swapped
 pub mod Begins
@@ -20,5 +21,6 @@ pub mod Inits
 pub mod Texts
 pub mod OnShelf
 pub mod Recovered
+pub mod Unsettled
 pub mod Failed
 pub mod Lemmas

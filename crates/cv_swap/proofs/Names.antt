@@ -82,3 +82,9 @@ epoch_apart batch = record {
   way = λ o h. tested on_way epoch_name (way_name o.id) refl refl;
   name = λ o h. epoch_not_data o.id;
 }
+
+pub head_place_apart : (batch : List Object) → IsApart batch head_name
+head_place_apart batch = record {
+  way = λ o h. tested on_way head_name (way_name o.id) refl refl;
+  name = λ o h. head_not_data o.id;
+}

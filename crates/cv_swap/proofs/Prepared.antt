@@ -22,7 +22,7 @@ use Rattle.cv_swap.proofs.Growing.{sound_more}
 use Rattle.cv_swap.proofs.Names.{head_not_data, epoch_not_data, same_object, some_is}
 
 -- a crash may leave what is there now
-may_now : (m : Mark) (x : File) → LeftAt x m x
+pub may_now : (m : Mark) (x : File) → LeftAt x m x
 may_now Settled x = refl
 may_now Torn x = tt
 may_now (Moved before) x = inr refl

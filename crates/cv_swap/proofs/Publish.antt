@@ -12,11 +12,11 @@ use Rattle.cv_base.specs.declared.object.Object.{Object}
 use Rattle.cv_vault.specs.declared.vault.VaultFault.{VaultFault}
 use Rattle.cv_vault.specs.declared.vault.VaultFault.TheVariants as vault
 use Rattle.cv_vault.specs.Names.{Name, on_way}
-use Rattle.cv_vault.specs.Disk.{Disk, Slot, Files, ImageOf, Syncs, Writes, Torn, slot, synced, written}
-use Rattle.cv_vault.specs.Moments.{Calls, LeavesOnly}
+use Rattle.cv_vault.specs.Disk.{Disk, Slot, File, Files, ImageOf, Mark, Syncs, Writes, Settled, Torn, slot, synced, written}
+use Rattle.cv_vault.specs.Moments.{Calls, LeavesOnly, OnlyReads}
 use Rattle.cv_vault.specs.Walks.{Gains, Within, Walks, Nothing, ComesTo}
 use Rattle.cv_vault.specs.Replace.{IsSure, MovedIn}
-use Rattle.cv_vault.proofs.Laws.{here, elsewhere, call, bind, looser, leaves_more, leaves_then, gains_then, gains_more, gains_none, writes, ok, err, sync_ok, sync_err, calm_then}
+use Rattle.cv_vault.proofs.Laws.{here, elsewhere, call, bind, looser, leaves_more, leaves_then, gains_then, gains_more, gains_none, within_then, within_more, quiet_walks, writes, ok, err, sync_ok, sync_err, calm_then}
 use Rattle.cv_objects.specs.Faults.{fault_of}
 use Rattle.cv_objects.specs.Names.{way_name}
 use Rattle.cv_objects.specs.Batches.{AreNamed, AreReady, IsReady, is_there, is_coming, IsApart, Has, Brings, Brought, WroteAll, IsOne, ShownIn, IsOutside, IsRefusal}
@@ -24,7 +24,7 @@ use Rattle.cv_objects.specs.declared.store_fault.StoreFault.{StoreFault}
 use Rattle.cv_objects.specs.declared.store_fault.StoreFault.TheVariants.{Collision, Failed, Damaged, NoMemory}
 use Rattle.cv_objects.proofs.Lemmas.{outside, brings_nothing, brings_later, has_then}
 use Rattle.cv_swap.specs.Stands.{head_name, head_way}
-use Rattle.cv_swap.specs.Publishing.{Prepared, BringsFirst, Built, AreBuilt, before_head, with_head, comes_before, comes_last, WhileFirst, FirstLeaves, Inited, Inits}
+use Rattle.cv_swap.specs.Publishing.{Prepared, IsWaiting, BringsFirst, Built, AreBuilt, before_head, with_head, comes_before, comes_last, WhileFirst, FirstLeaves, Inited, Inits}
 use Rattle.cv_swap.proofs.Names.{head_apart}
 
 -- ---- a batch that stays where it is on its way, while other names change
@@ -39,6 +39,13 @@ ready_beside batch d d' same r = record { each = λ o h. by o (same o h) (r.each
 -- a file that is there is sure after a sync
 pub sure_then : (name : Name) (bytes : List ℕ) (d d' : Disk) → d' ≡ synced d → (d name).now ≡ Some bytes → IsSure name bytes d'
 sure_then name bytes d d' e there = record { calm = calm_then d d' e; there = ap (λ (y : Disk). (y name).now) e ∙ there }
+
+-- a file that is on its way for sure waits
+pub sure_waits : (way name : Name) (bytes : List ℕ) (d : Disk) → IsSure way bytes d → IsWaiting way name bytes d
+sure_waits way name bytes d sure = record {
+  on_its_way = ap (λ (m : Mark). slot (d way).now m) (sure.calm way) ∙ ap (λ (x : File). slot x Settled) sure.there;
+  at_name = sure.calm name;
+}
 
 -- ---- a revision is prepared
 
@@ -73,7 +80,7 @@ module _ {V : Type 0} {disk : V → Option Disk} {count : V → ℕ} {left : V �
       ready = ready_beside batch d1 (written d1 head_way (Some manifest)) (λ o k. (
         elsewhere d1 head_way (slot (Some manifest) Torn) (file_name o.id) (λ e. apart.name o k (sym e)),
         elsewhere d1 head_way (slot (Some manifest) Torn) (way_name o.id) (λ e. apart.way o k (sym e)),
-      )) put.0;
+      )) put;
       head = ap (λ (s : Slot). s.now) (here d1 head_way (slot (Some manifest) Torn));
     }),
   )))
@@ -119,11 +126,11 @@ inited_late : {X : Type 0} (d built : Disk) (batch : List Object) (manifest : Li
 inited_late d built batch manifest d' r vault.Failed is g h u = rw is (gains_then (gains_more (λ n f b. comes_before b) g) (gains_more (λ n f b. comes_last b) h))
 inited_late d built batch manifest d' r vault.NoMemory is g h u = rw is (gains_then g (gains_none u))
 
--- a crash leaves what it may while the head comes
+-- a crash leaves what it may while the head comes, and none of it where there was no memory for it
 left_late : {V : Type 0} {count : V → ℕ} {left : V → ℕ → Files → Type 0} (d : Disk) (batch : List Object) (manifest : List ℕ) {v v' : V} (X : Type 0) (x : VaultFault) → LeavesOnly count left (WhileFirst d batch manifest) v v'
-    → LeavesOnly count left (FirstLeaves d batch manifest {X = X} (Err (fault_of x))) v v'
-left_late d batch manifest X vault.Failed l = l
-left_late d batch manifest X vault.NoMemory l = l
+    → (x ≡ vault.NoMemory → LeavesOnly count left (Within on_way (BringsFirst d batch) d) v v') → LeavesOnly count left (FirstLeaves d batch manifest {X = X} (Err (fault_of x))) v v'
+left_late d batch manifest X vault.Failed l none = l
+left_late d batch manifest X vault.NoMemory l none = none refl
 
 module _ {V : Type 0} {disk : V → Option Disk} {count : V → ℕ} {left : V → ℕ → Files → Type 0} (batch : List Object) (manifest : List ℕ) {d : Disk} {v v1 : V} where
   -- and before it does
@@ -131,25 +138,27 @@ module _ {V : Type 0} {disk : V → Option Disk} {count : V → ℕ} {left : V �
   left_before X (Collision id) l refused = (refused tt).leaves
   left_before X Failed l refused = leaves_more l (λ f i. before_head i)
   left_before X (Damaged id found) l refused = (refused tt).leaves
-  left_before X NoMemory l refused = leaves_more l (λ f i. before_head i)
+  left_before X NoMemory l refused = l
 
   pub inits_not : {X : Type 0} (r : Result X StoreFault) (e : StoreFault) → r ≡ Err e → Walks disk count left on_way (BringsFirst d batch) (Built d batch manifest {X = Unit {0}} (Err e)) d v v1
       → (IsRefusal {X = Unit {0}} (Err e) → Walks disk count left on_way Nothing (λ end. ⊤) d v v1) → Inits disk count left d batch manifest r v v1
   inits_not {X = X} r e is w refused = rw is (record { end = w.end; told = w.told; leaves = left_before X e w.leaves refused; is = inited_not {X = X} d batch manifest w.end (Err e) e refl w.gains w.is })
 
   module _ {v2 : V} (w : Walks disk count left on_way (BringsFirst d batch) (λ d1. AreBuilt batch d1 × IsSure head_way manifest d1) d v v1) where
-    pub inits_now : {u : Unit {0}} → WhereTold (disk v1) (λ d1. (text : List ℕ) → IsSure head_way text d1 → Walks disk count left on_way (ComesTo head_name (Some text)) (MovedIn d1 head_name text {X = Unit {0}} (Ok u)) d1 v1 v2) → Inits disk count left d batch manifest {X = Unit {0}} (Ok u) v v2
-    inits_now h = let u = h w.end w.told manifest w.is.1 in record {
+    pub inits_now : {u : Unit {0}} → WhereTold (disk v1) (λ d1. (text : List ℕ) → IsWaiting head_way head_name text d1 → Walks disk count left on_way (ComesTo head_name (Some text)) (MovedIn d1 head_name text {X = Unit {0}} (Ok u)) d1 v1 v2) → Inits disk count left d batch manifest {X = Unit {0}} (Ok u) v v2
+    inits_now h = let u = h w.end w.told manifest (sure_waits head_way head_name manifest w.end w.is.1) in record {
       end = u.end;
       told = u.told;
       leaves = leaves_then w.leaves u.leaves (λ f i. before_head i) (λ f i. with_head w.end w.is.0 w.gains i);
       is = record { built = w.end; are = w.is.0; gains = w.gains; comes = u.gains; sure = u.is };
     }
 
-    pub inits_or_not : {X : Type 0} (x : VaultFault) (r : Result X StoreFault) → r ≡ Err (fault_of x) → WhereTold (disk v1) (λ d1. (text : List ℕ) → IsSure head_way text d1 → Walks disk count left on_way (ComesTo head_name (Some text)) (MovedIn d1 head_name text {X = Unit {0}} (Err x)) d1 v1 v2) → Inits disk count left d batch manifest r v v2
-    inits_or_not {X = X} x r is h = let u = h w.end w.told manifest w.is.1 in rw is (record {
+    pub inits_or_not : {X : Type 0} (x : VaultFault) (r : Result X StoreFault) → r ≡ Err (fault_of x) → ((f : Files) → left v1 (count v1) f → ImageOf (disk v1) f) → (x ≡ vault.NoMemory → OnlyReads disk count left v1 v2)
+        → WhereTold (disk v1) (λ d1. (text : List ℕ) → IsWaiting head_way head_name text d1 → Walks disk count left on_way (ComesTo head_name (Some text)) (MovedIn d1 head_name text {X = Unit {0}} (Err x)) d1 v1 v2) → Inits disk count left d batch manifest r v v2
+    inits_or_not {X = X} x r is only quiet h = let u = h w.end w.told manifest (sure_waits head_way head_name manifest w.end w.is.1) in rw is (record {
       end = u.end;
       told = u.told;
-      leaves = left_late d batch manifest X x (leaves_then w.leaves u.leaves (λ f i. before_head i) (λ f i. with_head w.end w.is.0 w.gains i));
+      leaves = left_late d batch manifest X x (leaves_then w.leaves u.leaves (λ f i. before_head i) (λ f i. with_head w.end w.is.0 w.gains i))
+          (λ wanted. leaves_then w.leaves (quiet_walks only w.told (quiet wanted)).leaves (λ f i. i) (λ f i. within_then w.gains f (within_more (λ n f b. absurd b) f i)));
       is = inited_late {X = X} d w.end batch manifest u.end (Err (fault_of x)) x refl w.gains u.gains u.is;
     })

@@ -30,7 +30,7 @@ stands_on name is_seal f g k s head data_same epoch = record {
   kept = s.kept;
 }
 
-stands_new : (name : List ℕ) (is_seal : List ℕ → List ℕ → Bool) (f g : Files) (k : Kept) (new : Revision) (manifest : List ℕ) → Stands name is_seal f k → CanCome name is_seal k new manifest
+pub stands_new : (name : List ℕ) (is_seal : List ℕ → List ℕ → Bool) (f g : Files) (k : Kept) (new : Revision) (manifest : List ℕ) → Stands name is_seal f k → CanCome name is_seal k new manifest
     → g head_name ≡ Some manifest → ((id : ObjectId) → g (file_name id) ≡ f (file_name id)) → g epoch_name ≡ f epoch_name → Stands name is_seal g (with_new k new)
 stands_new name is_seal f g k new manifest s can head data_same epoch = record {
   newest_ = new;

@@ -41,7 +41,7 @@ answer_text d batch text (Ok x) f w = leaves_text d batch text f w
 answer_text d batch text (Err (Collision id)) f w = within_more (λ n g b. absurd b) f w
 answer_text d batch text (Err Failed) f w = leaves_text d batch text f w
 answer_text d batch text (Err (Damaged id found)) f w = within_more (λ n g b. absurd b) f w
-answer_text d batch text (Err NoMemory) f w = leaves_text d batch text f w
+answer_text d batch text (Err NoMemory) f w = within_more (before_text d batch text) f w
 
 module _ {V : Type 0} {disk : V → Option Disk} {count : V → ℕ} {left : V → ℕ → Files → Type 0} {d : Disk} {v v1 : V}
     (only : (f : Files) → left v (count v) f → ImageOf (disk v) f) (told : disk v ≡ Some d) (reads : OnlyReads disk count left v v1) where

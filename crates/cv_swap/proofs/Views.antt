@@ -1,37 +1,39 @@
 -- What is said of the vault inside a line, said of the line as it is seen.
-use Rattle.std.proofs.Common.{◌≡◌, ◌≤◌, ℕ, List, [], ◌∷◌, ◌++◌, take, length, refl, ap, sym, subst, ◌∙◌, inr}
+use Rattle.std.proofs.Common.{◌≡◌, ◌≤◌, ℕ, List, [], ◌∷◌, ◌++◌, take, length, refl, ap, subst, inr}
 use Rattle.std.specs.declared.option.Option.{Option}
 use Rattle.std.specs.declared.option.Option.TheVariants.{Some}
 use Rattle.std.specs.declared.result.Result.{Result}
 use Rattle.std.specs.declared.result.Result.TheVariants.{Ok, Err}
-use Rattle.std.specs.Prelude.{OnOk, OnErr}
+use Rattle.std.specs.Prelude.{OnErr}
 use Rattle.std.proofs.lemmas.List.{take_at, length-take-le}
 use Rattle.cv_base.specs.declared.object.Object.{Object}
 use Rattle.cv_history.specs.declared.record.Record.{Record}
 use Rattle.cv_vault.proofs.Laws.{stand, gains_none}
-use Rattle.cv_objects.specs.Batches.{AreNamed, Brings, IsRefusal, KeepsOthers, Stored}
+use Rattle.cv_objects.specs.Batches.{AreNamed, Brings, IsRefusal}
 use Rattle.cv_objects.specs.declared.store_fault.StoreFault.{StoreFault}
 use Rattle.cv_objects.specs.declared.store_fault.StoreFault.TheVariants.{Collision, Failed, Damaged, NoMemory}
 use Rattle.cv_objects.proofs.Lemmas.{named_more}
 use Rattle.cv_swap.specs.Kept.{object_of}
-use Rattle.cv_swap.specs.Publishing.{Prepared, KeepsWay}
+use Rattle.cv_swap.specs.Publishing.{Prepared, IsWaiting}
 use Rattle.cv_swap.specs.Line.{AreKept, IsDropped, published}
-use Rattle.cv_swap.specs.declared.stage.Stage.TheVariants.{Calm}
+use Rattle.cv_swap.specs.declared.stage.Stage.TheVariants.{Calm, Ready}
 use Rattle.cv_base.specs.Told.{WhereTold}
 use Rattle.cv_vault.specs.declared.vault.VaultFault.{VaultFault}
 use Rattle.cv_vault.specs.Names.{on_way}
 use Rattle.cv_vault.specs.Disk.{Disk, Files, ImageOf}
 use Rattle.cv_vault.specs.Walks.{Walks, ComesTo}
-use Rattle.cv_vault.specs.Replace.{IsSure, MovedIn}
+use Rattle.cv_vault.specs.Replace.{MovedIn}
 use Rattle.cv_swap.specs.Stands.{head_name, head_way}
 use Rattle.cv_swap.specs.Line.{LineView}
-use Rattle.cv_swap.proofs.Names.{head_apart}
 
-pub at_vault : {V S : Type 0} {disk : V → Option Disk} {count : V → ℕ} {left : V → ℕ → Files → Type 0} {v' : V} (r : Result (Unit {0}) VaultFault) (inside seen : LineView V S) → inside ≡ seen
-    → WhereTold (disk inside.vault) (λ d. (manifest : List ℕ) → IsSure head_way manifest d → Walks disk count left on_way (ComesTo head_name (Some manifest)) (MovedIn d head_name manifest r) d inside.vault v')
-    → WhereTold (disk seen.vault) (λ d. (manifest : List ℕ) → IsSure head_way manifest d → Walks disk count left on_way (ComesTo head_name (Some manifest)) (MovedIn d head_name manifest r) d seen.vault v')
-at_vault {disk = disk} {count = count} {left = left} {v' = v'} r inside seen e h =
-    subst (λ l. WhereTold (disk l.vault) (λ d. (manifest : List ℕ) → IsSure head_way manifest d → Walks disk count left on_way (ComesTo head_name (Some manifest)) (MovedIn d head_name manifest r) d l.vault v')) e h
+-- a manifest that waits where the line is ready comes to its name
+pub swap_walks : {V S : Type 0} {disk : V → Option Disk} {count : V → ℕ} {left : V → ℕ → Files → Type 0} {v' : V} (r : Result (Unit {0}) VaultFault) (inside seen : LineView V S) → inside ≡ seen → seen.stage ≡ Ready
+    → (inside.stage ≡ Ready → WhereTold (disk inside.vault) (IsWaiting head_way head_name inside.manifest))
+    → WhereTold (disk inside.vault) (λ d. (manifest : List ℕ) → IsWaiting head_way head_name manifest d → Walks disk count left on_way (ComesTo head_name (Some manifest)) (MovedIn d head_name manifest r) d inside.vault v')
+    → WhereTold (disk seen.vault) (λ d. Walks disk count left on_way (ComesTo head_name (Some seen.manifest)) (MovedIn d head_name seen.manifest r) d seen.vault v')
+swap_walks {disk = disk} {count = count} {left = left} {v' = v'} r inside seen e ready waits walks =
+    subst (λ l. l.stage ≡ Ready → WhereTold (disk l.vault) (λ d. Walks disk count left on_way (ComesTo head_name (Some l.manifest)) (MovedIn d head_name l.manifest r) d l.vault v')) e
+    (λ is d told. walks d told inside.manifest (waits is d told)) ready
 
 pub vault_seen : {V S : Type 0} (inside seen : LineView V S) → inside ≡ seen → inside.vault ≡ seen.vault
 vault_seen inside seen e = ap (λ l. l.vault) e
@@ -62,18 +64,6 @@ dropped_seen {V} {S} inside seen new next same counted all stage kept = subst (�
   stage = stage;
   others = kept;
 })
-
--- a manifest on its way is no file of the batch's
-pub way_kept : {V : Type 0} {disk : V → Option Disk} {count : V → ℕ} {left : V → ℕ → Files → Type 0} {X : Type 0} (batch : List Object) (r : Result X StoreFault) {v v' : V} → AreNamed batch
-    → WhereTold (disk v) (λ d. Walks disk count left on_way (Brings d batch) (Stored d batch r) d v v') → WhereTold (disk v) (λ d. WhereTold (disk v') (λ d'. OnOk r (KeepsOthers d batch d'))) → KeepsWay disk r v v'
-way_kept {disk = disk} {X = X} batch r {v' = v'} named walks others d told d' ends = by r (subst (λ y. Stored d batch r y) (some_disk (sym (walks d told).told ∙ ends)) (walks d told).is) (others d told d' ends)
-  where
-    some_disk : {a b : Disk} → Some a ≡ Some b → a ≡ b
-    some_disk e = cc
-
-    by : (r : Result X StoreFault) → Stored d batch r d' → OnOk r (KeepsOthers d batch d') → OnOk r ((manifest : List ℕ) → IsSure head_way manifest d → IsSure head_way manifest d')
-    by (Ok x) s k = λ manifest sure. record { calm = s.calm; there = k.each head_way (head_apart batch named) ∙ sure.there }
-    by (Err e) s k = tt
 
 -- a refusal that is handed on is one
 pub refusal_as : {X : Type 0} (Y : Type 0) (r : Result X StoreFault) (e : StoreFault) → r ≡ Err e → IsRefusal r → IsRefusal {X = Y} (Err e)

@@ -46,14 +46,15 @@ pub data WhileInit (name : List ℕ) (is_seal : List ℕ → List ℕ → Bool) 
   whole : (within : Within on_way (BringsRevision name is_seal now d) d f) (head : Publishes name is_seal (f head_name) (head_of (first_revision now))) (has : HasFirst now f)
       (stands : HaveHashes (files_now d) → StandsFirst name is_seal now f) → WhileInit name is_seal now d f
 
--- what a crash may leave in a making that answers so: where it is refused, what might have been left before
+-- what a crash may leave in a making that answers so: where it is refused, what might have been left before, and where memory was wanted,
+-- no head
 abbrev pub InitLeaves : List ℕ → (List ℕ → List ℕ → Bool) → ℕ → Disk → Result (Unit {0}) InitFault → Files → Type 0
 InitLeaves name is_seal now d (Ok u) f = WhileInit name is_seal now d f
 InitLeaves name is_seal now d (Err Exists) f = Within on_way Nothing d f
 InitLeaves name is_seal now d (Err (Collision id)) f = Within on_way Nothing d f
 InitLeaves name is_seal now d (Err Failed) f = WhileInit name is_seal now d f
 InitLeaves name is_seal now d (Err (Damaged id found)) f = Within on_way Nothing d f
-InitLeaves name is_seal now d (Err NoMemory) f = WhileInit name is_seal now d f
+InitLeaves name is_seal now d (Err NoMemory) f = Within on_way (BringsFirst d (first_batch now)) d f
 
 -- what the answer says of the files as they stood
 abbrev pub Answers : Disk → ℕ → Result (Unit {0}) InitFault → Type 0

@@ -3,11 +3,14 @@ use Rattle.std.specs.Prelude.{◌≡◌, ◌≢◌, ℕ, ◌+◌, ◌<◌, ◌�
 use Rattle.std.specs.declared.option.Option.{Option}
 use Rattle.std.specs.declared.result.Result.{Result}
 use Rattle.std.specs.declared.result.Result.TheVariants.{Ok, Err}
+use Rattle.cv_base.specs.Told.{WhereTold}
 use Rattle.cv_vault.specs.Disk.{Disk, Files}
 use Rattle.cv_vault.specs.Moments.{OnlyReads}
 use Rattle.cv_history.specs.declared.record.Record.{Record}
 use Rattle.cv_manifest.specs.Manifest.{IsHead}
 use Rattle.cv_manifest.specs.declared.head.Head.{Head}
+use Rattle.cv_swap.specs.Stands.{head_name, head_way}
+use Rattle.cv_swap.specs.Publishing.{IsWaiting}
 use Rattle.cv_swap.specs.Opening.{Opens}
 use Rattle.cv_swap.specs.declared.found.Found.{Found}
 use Rattle.cv_swap.specs.declared.open_fault.OpenFault.{OpenFault}
@@ -30,12 +33,14 @@ pub record LineView (V S : Type 0) : Type 0 where
   pub next_head : Head
   pub manifest : List ℕ
 
--- so many records are published, and one more is there where the next revision is under way; the head and the next one can be written
-pub record IsConsistent (made : ℕ) (all : List Record) (stage : Stage) (head next_head : Head) : Type 0 where
+-- so many records are published, and one more is there where the next revision is under way; the head and the next one can be written;
+-- and where the next one is ready its manifest waits on its way
+pub record IsConsistent {V : Type 0} (disk : V → Option Disk) (vault : V) (made : ℕ) (all : List Record) (stage : Stage) (head next_head : Head) (manifest : List ℕ) : Type 0 where
   pub published_ : made ≤ length all
   pub next : stage ≢ Calm → made < length all
   pub head_ : IsHead head
   pub next_head_ : IsHead next_head
+  pub waits : stage ≡ Ready → WhereTold (disk vault) (IsWaiting head_way head_name manifest)
 
 -- the published records
 abbrev pub published : {V S : Type 0} → LineView V S → List Record

@@ -1,11 +1,11 @@
 -- What preparing a revision, and swapping it in, leaves on the disk.
-use Rattle.std.specs.Prelude.{◌≡◌, ◌≢◌, ◌⊎◌, ℕ, List, Some, OnOk}
+use Rattle.std.specs.Prelude.{◌≡◌, ◌≢◌, ◌⊎◌, ℕ, List, Some}
 use Rattle.std.specs.declared.option.Option.{Option}
 use Rattle.std.specs.declared.result.Result.{Result}
 use Rattle.std.specs.declared.result.Result.TheVariants.{Ok, Err}
 use Rattle.cv_base.specs.declared.object.Object.{Object}
-use Rattle.cv_base.specs.Told.{WhereTold}
 use Rattle.cv_vault.specs.declared.vault.VaultFault.{VaultFault}
+use Rattle.cv_vault.specs.declared.vault.VaultFault.TheVariants as vault
 use Rattle.cv_vault.specs.Names.{Name, on_way}
 use Rattle.cv_vault.specs.Disk.{Disk, File, Files, Settled, slot}
 use Rattle.cv_vault.specs.Moments.{LeavesOnly}
@@ -30,10 +30,6 @@ Prepared d batch manifest (Err Failed) d' = IsOne batch
 Prepared d batch manifest (Err (Damaged id found)) d' = IsRefused d batch (Damaged id found) d'
 Prepared d batch manifest (Err NoMemory) d' = IsOne batch ⊎ Gains on_way Nothing d d'
 
--- a store keeps a manifest that is on its way for sure
-abbrev pub KeepsWay : {V : Type 0} (disk : V → Option Disk) {X : Type 0} → Result X StoreFault → V → V → Type 0
-KeepsWay disk r v v' = WhereTold (disk v) (λ d. WhereTold (disk v') (λ d'. OnOk r ((manifest : List ℕ) → IsSure head_way manifest d → IsSure head_way manifest d')))
-
 -- what comes before the head of a first revision: its objects, and the first epoch
 pub data BringsFirst (d : Disk) (batch : List Object) (n : Name) (f : File) : Type 0 where
   an_object : (brings : Brings d batch n f) → BringsFirst d batch n f
@@ -49,19 +45,21 @@ abbrev pub PutBeside : Disk → List ℕ → {X : Type 0} → Result X VaultFaul
 PutBeside d manifest (Ok x) d' = AreBeside d manifest d'
 PutBeside d manifest (Err fault) d' = Unit {0}
 
--- the first epoch is settled on its way, and what stands under its name is too
-pub record EpochWaits (d : Disk) : Type 0 where
-  pub way : d epoch_way ≡ slot (Some (epoch_text 0)) Settled
-  pub name : (d epoch_name).mark ≡ Settled
+-- a file is settled on its way to a name, and what stands there is settled too
+pub record IsWaiting (way name : Name) (bytes : List ℕ) (d : Disk) : Type 0 where
+  pub on_its_way : d way ≡ slot (Some bytes) Settled
+  pub at_name : (d name).mark ≡ Settled
 
--- it came to its name, and every other name is as it was
-pub record EpochIsThere (d d' : Disk) : Type 0 where
-  pub there : (d' epoch_name).now ≡ Some (epoch_text 0)
-  pub others : (n : Name) → n ≢ epoch_way → n ≢ epoch_name → d' n ≡ d n
+-- it came to the name, and every other name is as it was
+pub record IsBrought (way name : Name) (bytes : List ℕ) (d d' : Disk) : Type 0 where
+  pub there : (d' name).now ≡ Some bytes
+  pub others : (n : Name) → n ≢ way → n ≢ name → d' n ≡ d n
 
-abbrev pub EpochCame : Disk → {X : Type 0} → Result X VaultFault → Disk → Type 0
-EpochCame d (Ok x) d' = EpochIsThere d d'
-EpochCame d (Err fault) d' = Unit {0}
+-- after want of memory nothing changed
+abbrev pub Came : Disk → Name → Name → List ℕ → {X : Type 0} → Result X VaultFault → Disk → Type 0
+Came d way name bytes (Ok x) d' = IsBrought way name bytes d d'
+Came d way name bytes (Err vault.Failed) d' = Unit {0}
+Came d way name bytes (Err vault.NoMemory) d' = d' ≡ d
 
 -- all of a first revision but its head stands for sure
 pub record AreBuilt (batch : List Object) (d' : Disk) : Type 0 where
@@ -103,13 +101,13 @@ Inited d batch manifest (Err Failed) d' = Gains on_way (BringsAll d batch manife
 Inited d batch manifest (Err (Damaged id found)) d' = IsRefused d batch (Damaged id found) d'
 Inited d batch manifest (Err NoMemory) d' = Gains on_way (BringsFirst d batch) d d'
 
--- what a crash may leave in a making that answers so: after a refusal what might have been left before
+-- what a crash may leave in a making that answers so: after a refusal what might have been left before, and after want of memory no head
 abbrev pub FirstLeaves : Disk → List Object → List ℕ → {X : Type 0} → Result X StoreFault → Files → Type 0
 FirstLeaves d batch manifest (Ok x) f = WhileFirst d batch manifest f
 FirstLeaves d batch manifest (Err (Collision id)) f = Within on_way Nothing d f
 FirstLeaves d batch manifest (Err Failed) f = WhileFirst d batch manifest f
 FirstLeaves d batch manifest (Err (Damaged id found)) f = Within on_way Nothing d f
-FirstLeaves d batch manifest (Err NoMemory) f = WhileFirst d batch manifest f
+FirstLeaves d batch manifest (Err NoMemory) f = Within on_way (BringsFirst d batch) d f
 
 -- what making a first revision does, whatever it answers
 pub record Inits {V : Type 0} (disk : V → Option Disk) (count : V → ℕ) (left : V → ℕ → Files → Type 0) (d : Disk) (batch : List Object) (manifest : List ℕ) {X : Type 0} (r : Result X StoreFault) (v v' : V) : Type 0 where

@@ -8,7 +8,7 @@ ghost use Rattle.cv_vault.specs.Names.{on_way};
 ghost use Rattle.cv_vault.specs.Disk.{Disk, Files, Image, IsCalm, files_now};
 ghost use Rattle.cv_vault.specs.Walks.{Gains, Within, Nothing, ComesTo};
 ghost use Rattle.cv_vault.specs.Replace.{IsSure, IsOther};
-ghost use Rattle.cv_objects.specs.Names.{standing_on};
+ghost use Rattle.cv_objects.specs.Names.{objects_of, standing_on};
 ghost use Rattle.cv_objects.specs.Batches.{AreNamed, Brings, HaveHashes};
 ghost use Rattle.cv_swap.specs.Kept.{AreSound, IsRevision, Kept, Revision, head_of, raised, record_object, with_new};
 ghost use Rattle.cv_swap.specs.First.{first_revision, first_tree};
@@ -86,6 +86,17 @@ pub fn swaps_keep_revisions()
         → (f : Files) → Within on_way (ComesTo head_name (Some manifest)) d f → Stands name is_seal f k ⊎ Stands name is_seal f (with_new k new) }
     ensures makes { (name : List ℕ) (is_seal : List ℕ → List ℕ → Bool) (d d' : Disk) (k : Kept) (new : Revision) (manifest : List ℕ) → IsCalm d → Stands name is_seal (files_now d) k → CanCome name is_seal k new manifest
         → Gains on_way (ComesTo head_name (Some manifest)) d d' → IsSure head_name manifest d' → (f : Files) → Image d' f → Stands name is_seal f (with_new k new) }
+{}
+
+/// The same of a disk that may not be settled: where each crash left these revisions, and the new one may come on the shelf of each, a
+/// crash while its head is swapped in leaves them, or them and the new one; and then each image has the new one.
+pub fn swaps_keep_what_each_crash_left()
+    ensures leaves { (name : List ℕ) (is_seal : List ℕ → List ℕ → Bool) (d : Disk) (history : List Revision) (epoch : ℕ) (new : Revision) (manifest : List ℕ) → ((g : Files) → Image d g → HasRevisions name is_seal history epoch g)
+        → ((g : Files) → Image d g → CanCome name is_seal (record { history = history; shelf = objects_of g; epoch = epoch }) new manifest)
+        → (f : Files) → Within on_way (ComesTo head_name (Some manifest)) d f → HasRevisions name is_seal history epoch f ⊎ HasRevisions name is_seal (history ++ new ∷ []) epoch f }
+    ensures makes { (name : List ℕ) (is_seal : List ℕ → List ℕ → Bool) (d d' : Disk) (history : List Revision) (epoch : ℕ) (new : Revision) (manifest : List ℕ) → ((g : Files) → Image d g → HasRevisions name is_seal history epoch g)
+        → ((g : Files) → Image d g → CanCome name is_seal (record { history = history; shelf = objects_of g; epoch = epoch }) new manifest)
+        → Gains on_way (ComesTo head_name (Some manifest)) d d' → IsSure head_name manifest d' → (f : Files) → Image d' f → HasRevisions name is_seal (history ++ new ∷ []) epoch f }
 {}
 
 /// A crash while a first revision is made leaves no manifest, or the whole of it; and then each image stands for it.

@@ -1,23 +1,23 @@
 //! The line of revisions.
 ghost use Rattle.std.proofs.Common.{refl, ap, ◌∙◌};
-ghost use Rattle.std.specs.Prelude.{◌≡◌, ◌≢◌, ◌<◌, ◌^◌, ◌++◌, ◌∷◌, [], ℕ, List, Some, Ok, Err, true, false, OnOk, OnErr, IfOk, IsErrOf};
+ghost use Rattle.std.specs.Prelude.{◌≡◌, ◌≢◌, ◌<◌, ◌^◌, ◌++◌, ◌∷◌, [], Some, Ok, Err, true, false, OnOk, OnErr, IfOk, IsErrOf};
 ghost use Rattle.std.specs.Option.{option_map};
 ghost use Rattle.cv_base.specs.Counts.{HasCause};
 ghost use Rattle.cv_base.specs.Told.{WhereTold};
 ghost use Rattle.cv_vault.specs.Names.{on_way};
 ghost use Rattle.cv_vault.specs.Moments.{OnlyReads};
 ghost use Rattle.cv_vault.specs.Walks.{Walks, Nothing, ComesTo};
-ghost use Rattle.cv_vault.specs.Replace.{IsSure, MovedIn, Found as FoundSo};
+ghost use Rattle.cv_vault.specs.Replace.{MovedIn, Found as FoundSo};
 ghost use Rattle.cv_vault.specs.declared.vault.VaultFault.TheVariants as vault_fault;
 ghost use Rattle.cv_vault.proofs.Laws.{quiet_none, quiet_then, quiet_same};
 ghost use Rattle.cv_history.specs.Record.{IsRecord};
 ghost use Rattle.cv_manifest.specs.Manifest.{IsHead};
 ghost use Rattle.cv_objects.specs.Names.{standing_on};
-ghost use Rattle.cv_objects.specs.Batches.{AreNamed, Brings, BringsNothing, GivesFresh, IsRefusal, Stored};
+ghost use Rattle.cv_objects.specs.Batches.{AreNamed, Brings, BringsNothing, GivesFresh, IsApart, IsRefusal, SparesIn, Stored};
 ghost use Rattle.cv_objects.specs.declared.store_fault.StoreFault.TheVariants as fault;
 ghost use Rattle.cv_swap.specs.Kept.{object_of};
-ghost use Rattle.cv_swap.specs.Publishing.{Prepared, KeepsWay};
-ghost use Rattle.cv_swap.specs.Stands.{head_name, head_way, head_with, head_of, head_text, Publishes};
+ghost use Rattle.cv_swap.specs.Publishing.{Prepared};
+ghost use Rattle.cv_swap.specs.Stands.{head_name, head_with, head_of, head_text, Publishes};
 ghost use Rattle.cv_swap.specs.First.{first_revision};
 ghost use Rattle.cv_swap.specs.Init.{InitsIn, WritesHead, vault_in, IsVaults};
 ghost use Rattle.cv_swap.specs.Line.{LineView, published, swapped, LineReads, LineOpens, IsOpenedLine, vault_of, IsFailed, IsReady, IsDropped};
@@ -63,7 +63,7 @@ impl<V: Vault + Drop, S: Signer + Drop> Model for Line<V, S> {
 
     ghost view = { λ l. record { vault = l.objects.vault; taken = l.objects.taken; name = l.name; signer = l.signer; all = l.records.items; made = l.made; head = l.head; epoch = l.epoch; stage = l.stage; next_head = l.next_head; manifest = l.manifest } };
 
-    ghost invariant = { λ l. IsConsistent l.made l.records.items l.stage l.head l.next_head };
+    ghost invariant = { λ l. IsConsistent V.disk l.objects.vault l.made l.records.items l.stage l.head l.next_head l.manifest };
 }
 
 impl<V: Vault + Drop, S: Signer + Drop> Line<V, S> {
@@ -115,14 +115,14 @@ impl<V: Vault + Drop, S: Signer + Drop> Line<V, S> {
         self.objects.fresh(alloc, batch)
     }
 
-    /// Stores the objects of a batch that the shelf lacks, as `Objects::store` does. After `Ok` a manifest that was on its way
-    /// for sure still is, so that what was prepared can be swapped in.
+    /// Stores the objects of a batch that the shelf lacks, as `Objects::store` does. Whatever it answers, what was prepared can
+    /// be swapped in after it.
     pub fn store(&mut self, alloc: Global, batch: &[Object]) -> Result<(), StoreFault>
         requires named { AreNamed batch.now }
         ensures walks { WhereTold (V.disk self.old.vault) (λ d.
             Walks V.disk V.count V.left on_way (Brings d batch.now) (Stored d batch.now result) d self.old.vault self.new.vault) }
         ensures refused { IsRefusal result → BringsNothing V.disk V.count V.left self.old.vault self.new.vault }
-        ensures way { KeepsWay V.disk result self.old.vault self.new.vault }
+        ensures names { SparesIn V.disk (IsApart batch.now) self.old.vault self.new.vault }
         ensures others { self.new ≡ record self.old { vault = self.new.vault } }
         ensures cause { HasCause (V.faults self.old.vault) (V.faults self.new.vault) (IsErrOf result fault.Failed) }
     {
@@ -132,11 +132,12 @@ impl<V: Vault + Drop, S: Signer + Drop> Line<V, S> {
     /// Publishes the next revision, whose manifest is on its way.
     ///
     /// A crash at any moment leaves the head that it might have left before, or the next revision's. After `Failed` the
-    /// line is in doubt. After `NoMemory` nothing has changed.
+    /// line is in doubt. After `NoMemory` nothing has changed, and a crash leaves what it might have left before.
     pub fn swap(&mut self) -> Result<(), VaultFault>
         requires ready { self.old.stage ≡ stage.Ready }
-        ensures walks { WhereTold (V.disk self.old.vault) (λ d. (manifest : List ℕ) → IsSure head_way manifest d
-            → Walks V.disk V.count V.left on_way (ComesTo head_name (Some manifest)) (MovedIn d head_name manifest result) d self.old.vault self.new.vault) }
+        ensures walks { WhereTold (V.disk self.old.vault) (λ d.
+            Walks V.disk V.count V.left on_way (ComesTo head_name (Some self.old.manifest)) (MovedIn d head_name self.old.manifest result) d self.old.vault self.new.vault) }
+        ensures memory { result ≡ Err vault_fault.NoMemory → OnlyReads V.disk V.count V.left self.old.vault self.new.vault }
         ensures ok { OnOk result (self.new ≡ swapped self.old self.new.vault) }
         ensures failed { result ≡ Err vault_fault.Failed → self.new ≡ record self.old { vault = self.new.vault; stage = stage.Doubtful } }
         ensures no_memory { result ≡ Err vault_fault.NoMemory → self.new ≡ record self.old { vault = self.new.vault } }

@@ -1,20 +1,21 @@
 //! Revisions that come to the vault: first what they reach, then their head.
-ghost use Rattle.std.specs.Prelude.{◌≡◌, ℕ, List, Some, IsErrOf};
+ghost use Rattle.std.specs.Prelude.{◌≡◌, ℕ, List, None, Some, Err, true, false, OnOk, IsErrOf};
 ghost use Rattle.cv_base.specs.Counts.{HasCause};
 ghost use Rattle.cv_base.specs.Told.{WhereTold};
 ghost use Rattle.cv_vault.specs.Names.{on_way};
+ghost use Rattle.cv_vault.specs.Moments.{OnlyReads};
 ghost use Rattle.cv_vault.specs.Walks.{Walks, Nothing, ComesTo};
-ghost use Rattle.cv_vault.specs.Replace.{IsSure, MovedIn, Found};
+ghost use Rattle.cv_vault.specs.Replace.{MovedIn, Found};
 ghost use Rattle.cv_vault.specs.declared.vault.VaultFault.TheVariants as vault_fault;
 ghost use Rattle.cv_objects.specs.Batches.{AreNamed, Brings, BringsNothing, IsRefusal};
 ghost use Rattle.cv_objects.specs.declared.store_fault.StoreFault.TheVariants as fault;
-ghost use Rattle.cv_swap.specs.Stands.{head_name, head_way, epoch_name, epoch_text};
-ghost use Rattle.cv_swap.specs.Publishing.{Prepared, BringsFirst, PutBeside, EpochWaits, EpochCame, Built, Inits};
+ghost use Rattle.cv_swap.specs.Stands.{head_name, head_way};
+ghost use Rattle.cv_swap.specs.Publishing.{Prepared, BringsFirst, PutBeside, IsWaiting, Came, Built, Inits};
 
 use crate::opening::{EPOCH_NAME, EPOCH_WAY, HEAD_NAME, epoch_text_of};
 use cv_base::Object;
 use cv_objects::{Objects, StoreFault};
-use cv_vault::{Vault, VaultFault, is_sure, move_in};
+use cv_vault::{Vault, VaultFault, is_sure};
 use std::alloc::Global;
 
 /// The name by which a manifest comes.
@@ -31,6 +32,7 @@ pub fn prepare_on<V: Vault + Drop>(
     ensures walks { WhereTold (V.disk objects.old.vault) (λ d.
         Walks V.disk V.count V.left on_way (Brings d batch.now) (Prepared d batch.now manifest.now result) d objects.old.vault objects.new.vault) }
     ensures refused { IsRefusal result → BringsNothing V.disk V.count V.left objects.old.vault objects.new.vault }
+    ensures silent { OnOk result (V.disk objects.old.vault ≡ None → V.disk objects.new.vault ≡ None) }
     ensures cause { HasCause (V.faults objects.old.vault) (V.faults objects.new.vault) (IsErrOf result fault.Failed) }
     ensures taken { objects.new.taken ≡ objects.old.taken }
 {
@@ -40,13 +42,33 @@ pub fn prepare_on<V: Vault + Drop>(
     Ok(objects.settle()?)
 }
 
-/// Brings the manifest that is on its way to its name, for sure.
-pub fn swap_on<V: Vault>(vault: &mut V) -> Result<(), VaultFault>
-    ensures walks { WhereTold (V.disk vault.old) (λ d. (manifest : List ℕ) → IsSure head_way manifest d
-        → Walks V.disk V.count V.left on_way (ComesTo head_name (Some manifest)) (MovedIn d head_name manifest result) d vault.old vault.new) }
+/// Brings a file that waits on its way to its name, where the next sync settles it.
+fn bring_file<V: Vault>(vault: &mut V, way: &str, name: &str) -> Result<(), VaultFault>
+    requires way { on_way way.now ≡ true }
+    requires name { on_way name.now ≡ false }
+    ensures walks { WhereTold (V.disk vault.old) (λ d. (bytes : List ℕ) → IsWaiting way.now name.now bytes d
+        → Walks V.disk V.count V.left on_way (ComesTo name.now (Some bytes)) (Came d way.now name.now bytes result) d vault.old vault.new) }
+    ensures memory { result ≡ Err vault_fault.NoMemory → OnlyReads V.disk V.count V.left vault.old vault.new }
     ensures cause { HasCause (V.faults vault.old) (V.faults vault.new) (IsErrOf result vault_fault.Failed) }
 {
-    move_in(vault, HEAD_WAY, HEAD_NAME)
+    if vault.rename(way, name)? {
+        Ok(())
+    } else {
+        // It can't be, where the vault tells.
+        Err(VaultFault::NoMemory)
+    }
+}
+
+/// Brings the manifest that waits on its way to its name, for sure.
+pub fn swap_on<V: Vault>(vault: &mut V) -> Result<(), VaultFault>
+    ensures walks { WhereTold (V.disk vault.old) (λ d. (manifest : List ℕ) → IsWaiting head_way head_name manifest d
+        → Walks V.disk V.count V.left on_way (ComesTo head_name (Some manifest)) (MovedIn d head_name manifest result) d vault.old vault.new) }
+    ensures memory { result ≡ Err vault_fault.NoMemory → OnlyReads V.disk V.count V.left vault.old vault.new }
+    ensures cause { HasCause (V.faults vault.old) (V.faults vault.new) (IsErrOf result vault_fault.Failed) }
+{
+    bring_file(vault, HEAD_WAY, HEAD_NAME)?;
+    vault.sync()?;
+    Ok(())
 }
 
 /// Whether the manifest came to its name. It settles first.
@@ -67,19 +89,6 @@ fn put_beside<V: Vault>(vault: &mut V, alloc: Global, manifest: &[u8]) -> Result
     vault.write(HEAD_WAY, manifest)
 }
 
-/// Brings the first epoch to its name, where the next sync settles it.
-fn bring_epoch<V: Vault>(vault: &mut V) -> Result<(), VaultFault>
-    ensures walks { WhereTold (V.disk vault.old) (λ d. EpochWaits d → Walks V.disk V.count V.left on_way (ComesTo epoch_name (Some (epoch_text 0))) (EpochCame d result) d vault.old vault.new) }
-    ensures cause { HasCause (V.faults vault.old) (V.faults vault.new) (IsErrOf result vault_fault.Failed) }
-{
-    if vault.rename(EPOCH_WAY, EPOCH_NAME)? {
-        Ok(())
-    } else {
-        // It can't be, where the vault tells.
-        Err(VaultFault::NoMemory)
-    }
-}
-
 /// Brings all of a first revision but its head, whose manifest is put on its way: its objects, and the first epoch. Each of
 /// three syncs settles what all four files need of it.
 pub fn build_first<V: Vault + Drop>(
@@ -97,7 +106,7 @@ pub fn build_first<V: Vault + Drop>(
     objects.put(alloc, batch)?;
     put_beside(&mut objects.vault, alloc, manifest)?;
     objects.bring(alloc, batch)?;
-    bring_epoch(&mut objects.vault)?;
+    bring_file(&mut objects.vault, EPOCH_WAY, EPOCH_NAME)?;
     Ok(objects.settle()?)
 }
 

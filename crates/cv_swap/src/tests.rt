@@ -1,5 +1,5 @@
 //! A repository over a vault in memory, against the files of `tools/line_vectors.py`.
-ghost use Rattle.std.specs.Prelude.{◌≡◌, ◌≢◌, [], IfOk, OnOk};
+ghost use Rattle.std.specs.Prelude.{◌≡◌, IfOk};
 ghost use Rattle.cv_history.specs.Record.{IsRecord};
 ghost use Rattle.cv_objects.specs.Batches.{AreNamed};
 ghost use Rattle.cv_swap.specs.declared.stage.Stage.TheVariants as stage;
@@ -210,19 +210,14 @@ fn survives(alloc: Global, call: u64, made: bool, pick: u64) -> Result<(u64, boo
     Ok((came, whole && may(came, revision, epoch)))
 }
 
-/// The calls that write or rename, of the seventeen that make the repository, the eight that open it and the fourteen that
-/// publish a revision, and the last sync of each.
-static CHANGES: [u64; 19] = [
-    4, 6, 7, 8, 11, 13, 14, 16, 17, 22, 24, 25, 28, 30, 31, 34, 36, 38, 39,
-];
-
+/// Seventeen calls make the repository, eight open it and fourteen publish a revision.
 #[test]
-fn a_crash_at_any_change_leaves_a_whole_revision(rt: HostRuntime) -> Result<(), Fail> {
+fn a_crash_at_any_call_leaves_a_whole_revision(rt: HostRuntime) -> Result<(), Fail> {
     let alloc = rt.alloc();
-    for call in &CHANGES {
+    for call in 1..40u64 {
         for pick in 0..16u64 {
-            assert!(rt; survives(alloc, *call, false, pick)?.1);
-            assert!(rt; survives(alloc, *call, true, pick)?.1);
+            assert!(rt; survives(alloc, call, false, pick)?.1);
+            assert!(rt; survives(alloc, call, true, pick)?.1);
         }
     }
     assert!(rt; survives(alloc, 39, false, 0)? == (3, true));

@@ -6,6 +6,7 @@ use Rattle.cv_objects.specs.Batches.{Has}
 use Rattle.cv_objects.proofs.Lists.{among}
 use Rattle.cv_objects.proofs.Looking.{same_fault}
 use Rattle.cv_objects.proofs.Batching.{half_more, half_none, brings_on, placed_others, spares_all}
+use Rattle.cv_objects.proofs.Sparing.{apart_from, spares_none, spares_then, spares_more}
 use Rattle.cv_objects.proofs.storing.place_absent.Goals as goal
 
 pub returns-in_err-place_one-clause-walks : goal.returns-in_err-place_one-clause-walks
@@ -21,6 +22,7 @@ loop-object-preserved g c = record {
         half_more c.args.batch.now c.loop-object.object-index c.object-item.result d1 d2 c.requires.named c.requires.one (omega arith) c.object-item.is r.0 w,
         placed_others c.object-item.result h r.1 w,
       )));
+  others = spares_then c.loop-object.invariant.others (spares_more (apart_from c.object-item.result (among c.args.batch.now c.loop-object.object-index c.object-item.result (omega arith) c.object-item.is)) c.in_ok-place_one.ensures.others);
   cause = omega arith;
 }
 
@@ -28,4 +30,8 @@ pub returns-clause-walks : goal.returns-clause-walks
 returns-clause-walks g c = λ d e waits. looser (c.loop-object.invariant.walks d e waits) (λ n f b. b) (λ d1 gains r. (subst (λ (xs : List Object). Has d1 xs) (take_all c.loop-object.object-index c.args.batch.now (omega arith)) r.0.has, r.1))
 
 pub loop-object-init : goal.loop-object-init
-loop-object-init g c = record { walks = λ d e waits. stand (g.met.V.Vault.only_now c.args.vault.now) e (half_none c.args.batch.now d waits, spares_all); cause = omega arith }
+loop-object-init g c = record { walks = λ d e waits. stand (g.met.V.Vault.only_now c.args.vault.now) e (half_none c.args.batch.now d waits, spares_all); others = spares_none; cause = omega arith }
+
+pub returns-in_err-place_one-clause-others : goal.returns-in_err-place_one-clause-others
+returns-in_err-place_one-clause-others g c = spares_then c.loop-object.invariant.others
+    (spares_more (apart_from c.object-item.result (among c.args.batch.now c.loop-object.object-index c.object-item.result (omega arith) c.object-item.is)) c.in_err-place_one.ensures.others)

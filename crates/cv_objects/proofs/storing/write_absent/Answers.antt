@@ -1,11 +1,12 @@
-use Rattle.std.proofs.Common.{arith, subst, refl, List}
+use Rattle.std.proofs.Common.{arith, subst, List}
 use Rattle.std.proofs.lemmas.List.{take_all}
 use Rattle.cv_base.specs.declared.object.Object.{Object}
 use Rattle.cv_vault.proofs.Walking.{bind, looser, stand}
 use Rattle.cv_objects.specs.Batches.{AreReady}
 use Rattle.cv_objects.proofs.Lists.{among}
 use Rattle.cv_objects.proofs.Looking.{same_fault}
-use Rattle.cv_objects.proofs.Batching.{ready_more, ready_none, wrote_then, wrote_others, others_same}
+use Rattle.cv_objects.proofs.Batching.{ready_more, ready_none, wrote_then}
+use Rattle.cv_objects.proofs.Sparing.{apart_from, spares_none, spares_then, spares_more}
 use Rattle.cv_objects.proofs.storing.write_absent.Goals as goal
 
 pub returns-in_err-write_one-clause-walks : goal.returns-in_err-write_one-clause-walks
@@ -16,15 +17,18 @@ returns-in_err-write_one-clause-walks g c = λ d e. rw (same_fault _ _ c.from_re
 pub loop-object-preserved : goal.loop-object-preserved
 loop-object-preserved g c = record {
   walks = λ d e. bind (c.loop-object.invariant.walks d e) (λ n f b. b) (λ d1 told gains r.
-      looser (c.in_ok-write_one.ensures.walks d1 told) (λ n f b. b) (λ d2 g2 w. (
-        ready_more c.args.batch.now c.loop-object.object-index c.object-item.result d1 d2 c.requires.named c.requires.one (omega arith) c.object-item.is r.0 w,
-        wrote_others c.object-item.result (among c.args.batch.now c.loop-object.object-index c.object-item.result (omega arith) c.object-item.is) r.1 w,
-      )));
+      looser (c.in_ok-write_one.ensures.walks d1 told) (λ n f b. b) (λ d2 g2 w.
+      ready_more c.args.batch.now c.loop-object.object-index c.object-item.result d1 d2 c.requires.named c.requires.one (omega arith) c.object-item.is r w));
+  others = spares_then c.loop-object.invariant.others (spares_more (apart_from c.object-item.result (among c.args.batch.now c.loop-object.object-index c.object-item.result (omega arith) c.object-item.is)) c.in_ok-write_one.ensures.others);
   cause = omega arith;
 }
 
 pub returns-clause-walks : goal.returns-clause-walks
-returns-clause-walks g c = λ d e. looser (c.loop-object.invariant.walks d e) (λ n f b. b) (λ d1 gains r. (subst (λ (xs : List Object). AreReady d1 xs) (take_all c.loop-object.object-index c.args.batch.now (omega arith)) r.0, r.1))
+returns-clause-walks g c = λ d e. looser (c.loop-object.invariant.walks d e) (λ n f b. b) (λ d1 gains r. subst (λ (xs : List Object). AreReady d1 xs) (take_all c.loop-object.object-index c.args.batch.now (omega arith)) r)
 
 pub loop-object-init : goal.loop-object-init
-loop-object-init g c = record { walks = λ d e. stand (g.met.V.Vault.only_now c.args.vault.now) e (ready_none c.args.batch.now d, others_same refl); cause = omega arith }
+loop-object-init g c = record { walks = λ d e. stand (g.met.V.Vault.only_now c.args.vault.now) e (ready_none c.args.batch.now d); others = spares_none; cause = omega arith }
+
+pub returns-in_err-write_one-clause-others : goal.returns-in_err-write_one-clause-others
+returns-in_err-write_one-clause-others g c = spares_then c.loop-object.invariant.others
+    (spares_more (apart_from c.object-item.result (among c.args.batch.now c.loop-object.object-index c.object-item.result (omega arith) c.object-item.is)) c.in_err-write_one.ensures.others)

@@ -1,5 +1,6 @@
 use Rattle.cv_vault.proofs.Laws.{looser}
 use Rattle.cv_objects.proofs.Lemmas.{handed_on, outside, same_fault, refusal_inside}
+use Rattle.cv_swap.specs.Stands.{epoch_text}
 use Rattle.cv_swap.specs.Publishing.{the_epoch}
 use Rattle.cv_swap.proofs.Building.{built_refused, then_beside, then_objects, then_epoch, then_built, then_unbuilt, then_unbrought, then_unsettled}
 use Rattle.cv_swap.proofs.publishing.build_first.Goals as goal
@@ -16,26 +17,26 @@ returns-in_err-bring-clause-walks g c = λ d e.
     let w = then_beside c.args.batch.now c.args.manifest.now c.requires.named (c.in_ok-put.ensures.walks d e) c.in_ok-put_beside.ensures.walks in
     then_unbrought c.args.batch.now c.args.manifest.now _ _ (same_fault _ _ c.from_residual-in_err-bring.ensures.1) w c.in_err-bring.ensures.walks
 
-pub returns-in_err-bring_epoch-clause-walks : goal.returns-in_err-bring_epoch-clause-walks
-returns-in_err-bring_epoch-clause-walks g c = λ d e.
+pub returns-in_err-bring_file-clause-walks : goal.returns-in_err-bring_file-clause-walks
+returns-in_err-bring_file-clause-walks g c = λ d e.
     let w1 = then_beside c.args.batch.now c.args.manifest.now c.requires.named (c.in_ok-put.ensures.walks d e) c.in_ok-put_beside.ensures.walks in
     let w2 = then_objects c.args.batch.now c.args.manifest.now c.requires.named w1 c.in_ok-bring.ensures.walks in
-    then_unbuilt c.args.batch.now c.args.manifest.now _ _ (handed_on _ _ c.from_residual-in_err-bring_epoch.ensures.1) (outside c.in_err-bring_epoch.field-0.0) (λ n f b. b)
-    w2 (λ d1 told are. c.in_err-bring_epoch.ensures.walks d1 told are.epoch) (λ d1 gains n f b. the_epoch b)
+    then_unbuilt c.args.batch.now c.args.manifest.now _ _ (handed_on _ _ c.from_residual-in_err-bring_file.ensures.1) (outside c.in_err-bring_file.field-0.0) (λ n f b. b)
+    w2 (λ d1 told are. c.in_err-bring_file.ensures.walks d1 told (epoch_text 0) are.epoch) (λ d1 gains n f b. the_epoch b)
 
 pub returns-in_err-settle-clause-walks : goal.returns-in_err-settle-clause-walks
 returns-in_err-settle-clause-walks g c = λ d e.
     let w1 = then_beside c.args.batch.now c.args.manifest.now c.requires.named (c.in_ok-put.ensures.walks d e) c.in_ok-put_beside.ensures.walks in
     let w2 = then_objects c.args.batch.now c.args.manifest.now c.requires.named w1 c.in_ok-bring.ensures.walks in
-    let w3 = then_epoch c.args.batch.now c.args.manifest.now w2 c.in_ok-bring_epoch.ensures.walks in
-    then_unsettled c.args.batch.now c.args.manifest.now _ c.in_err-settle.field-0.0 (handed_on _ _ c.from_residual-in_err-settle.ensures.1) (g.met.V.Vault.only_now c.bring_epoch.new.vault) w3 c.in_err-settle.ensures.call
+    let w3 = then_epoch c.args.batch.now c.args.manifest.now w2 c.in_ok-bring_file.ensures.walks in
+    then_unsettled c.args.batch.now c.args.manifest.now _ c.in_err-settle.field-0.0 (handed_on _ _ c.from_residual-in_err-settle.ensures.1) (g.met.V.Vault.only_now c.bring_file.new.vault) w3 c.in_err-settle.ensures.call
 
 pub returns-clause-walks : goal.returns-clause-walks
 returns-clause-walks g c = λ d e.
     let w1 = then_beside c.args.batch.now c.args.manifest.now c.requires.named (c.in_ok-put.ensures.walks d e) c.in_ok-put_beside.ensures.walks in
     let w2 = then_objects c.args.batch.now c.args.manifest.now c.requires.named w1 c.in_ok-bring.ensures.walks in
-    let w3 = then_epoch c.args.batch.now c.args.manifest.now w2 c.in_ok-bring_epoch.ensures.walks in
-    then_built c.args.batch.now c.args.manifest.now (g.met.V.Vault.only_now c.bring_epoch.new.vault) w3 c.in_ok-settle.ensures.call
+    let w3 = then_epoch c.args.batch.now c.args.manifest.now w2 c.in_ok-bring_file.ensures.walks in
+    then_built c.args.batch.now c.args.manifest.now (g.met.V.Vault.only_now c.bring_file.new.vault) w3 c.in_ok-settle.ensures.call
 
 pub returns-in_err-put-clause-refused : goal.returns-in_err-put-clause-refused
 returns-in_err-put-clause-refused g c = λ refusal d e. looser (c.in_err-put.ensures.walks d e) (λ n f b. b) (λ d1 gains shown. tt)
@@ -43,8 +44,8 @@ returns-in_err-put-clause-refused g c = λ refusal d e. looser (c.in_err-put.ens
 pub returns-in_err-put_beside-clause-refused : goal.returns-in_err-put_beside-clause-refused
 returns-in_err-put_beside-clause-refused g c = λ refusal. absurd (refusal_inside _ _ (handed_on _ _ c.from_residual-in_err-put_beside.ensures.1) (outside c.in_err-put_beside.field-0.0) refusal)
 
-pub returns-in_err-bring_epoch-clause-refused : goal.returns-in_err-bring_epoch-clause-refused
-returns-in_err-bring_epoch-clause-refused g c = λ refusal. absurd (refusal_inside _ _ (handed_on _ _ c.from_residual-in_err-bring_epoch.ensures.1) (outside c.in_err-bring_epoch.field-0.0) refusal)
+pub returns-in_err-bring_file-clause-refused : goal.returns-in_err-bring_file-clause-refused
+returns-in_err-bring_file-clause-refused g c = λ refusal. absurd (refusal_inside _ _ (handed_on _ _ c.from_residual-in_err-bring_file.ensures.1) (outside c.in_err-bring_file.field-0.0) refusal)
 
 pub returns-in_err-settle-clause-refused : goal.returns-in_err-settle-clause-refused
 returns-in_err-settle-clause-refused g c = λ refusal. absurd (refusal_inside _ _ (handed_on _ _ c.from_residual-in_err-settle.ensures.1) (outside c.in_err-settle.field-0.0) refusal)

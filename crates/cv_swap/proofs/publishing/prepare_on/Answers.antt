@@ -44,3 +44,6 @@ returns-in_err-bring-clause-refused g c = λ refusal d e.
 
 pub returns-clause-refused : goal.returns-clause-refused
 returns-clause-refused g c = λ refusal. absurd refusal
+
+pub returns-clause-silent : goal.returns-clause-silent
+returns-clause-silent g c = λ e. c.in_ok-settle.ensures.call.silent (c.in_ok-bring.ensures.others.silent (c.in_ok-write.ensures.call.silent (c.in_ok-put.ensures.others.silent e)))

@@ -1,19 +1,13 @@
 use Rattle.std.proofs.Common.{refl}
-use Rattle.cv_vault.proofs.Laws.{stand, looser, gains_none}
+use Rattle.cv_vault.proofs.Laws.{stand, gains_none}
 use Rattle.cv_objects.specs.Batches.{by_two}
 use Rattle.cv_objects.specs.declared.store_fault.StoreFault.TheVariants.{NoMemory}
 use Rattle.cv_objects.proofs.Looking.{same_fault}
-use Rattle.cv_objects.proofs.Stores.{refusal_inside, stored_of, stored_others}
+use Rattle.cv_objects.proofs.Stores.{refusal_inside}
 use Rattle.cv_objects.proofs.objects.Objects.store.Goals as goal
 
 pub returns-in-Some-clause-walks : goal.returns-in-Some-clause-walks
 returns-in-Some-clause-walks g c = λ d e. stand (g.met.V.Vault.only_now c.args.self.now.vault) e (record { shown = by_two (rw c.in-Some.is at c.in_ok-id.ensures); same = gains_none refl })
-
-pub returns-clause-walks : goal.returns-clause-walks
-returns-clause-walks g c = λ d e. looser (c.store_all.ensures.walks d e) (λ n f b. b) (λ d' gains s. stored_of d c.args.batch.now c.store_all.result d' s)
-
-pub returns-clause-others : goal.returns-clause-others
-returns-clause-others g c = λ d e. stored_others c.args.batch.now c.store_all.result (c.store_all.ensures.walks d e)
 
 pub returns-in_err-id-clause-refused : goal.returns-in_err-id-clause-refused
 returns-in_err-id-clause-refused g c = λ refusal. absurd (refusal_inside _ NoMemory (same_fault _ NoMemory c.from_residual.ensures.1) tt refusal)

@@ -1,9 +1,14 @@
-use Rattle.std.proofs.Common.{rules, ◌≡◌, [], ◌∷◌, ◌++◌, take, refl, sym, subst, ◌∙◌}
+use Rattle.std.proofs.Common.{rules, ◌≡◌, ℕ, ◌+◌, List, [], ◌∷◌, ◌++◌, take, length, length-append, refl, sym, ap, subst, ◌∙◌, arith}
+use Rattle.std.proofs.lemmas.List.{length-take-le}
 use Rattle.std.specs.declared.result.Result.TheVariants.{Err}
 use Rattle.cv_manifest.specs.declared.head.Head.{Head}
 use Rattle.cv_objects.specs.Batches.{AreNamed, BringsNothing}
 use Rattle.cv_objects.specs.declared.store_fault.StoreFault.TheVariants.{NoMemory}
 use Rattle.cv_objects.proofs.Lemmas.{same_fault, refusal_inside}
+use Rattle.cv_base.specs.Told.{WhereTold}
+use Rattle.cv_swap.specs.Stands.{head_name, head_way}
+use Rattle.cv_swap.specs.Publishing.{IsWaiting}
+use Rattle.cv_swap.proofs.Bringing.{prepared_waits}
 use Rattle.cv_swap.proofs.Views.{vault_seen, prepare_stands, named_push, on_err, dropped_seen, refusal_as}
 use Rattle.cv_swap.proofs.line.Line.prepare.Goals as goal
 
@@ -28,3 +33,17 @@ pub returns-in_err-prepare_on-clause-refused : goal.returns-in_err-prepare_on-cl
 returns-in_err-prepare_on-clause-refused g c = λ refusal.
     subst (λ v. BringsNothing g.V.Vault.disk g.V.Vault.count g.V.Vault.left v c.prepare_on.new.objects.vault) (vault_seen _ _ c.self.view_is)
     (c.in_err-prepare_on.ensures.refused (refusal_as (Unit {0}) _ _ (same_fault _ _ c.from_residual-in_err-prepare_on.ensures.1) refusal))
+
+pub invariant_of-self-2 : goal.invariant_of-self-2
+invariant_of-self-2 g c =
+    let e : c.push.new.self.items ≡ take c.self.inside.made c.self.inside.records.items ++ c.args.next ∷ [] = search rules in
+    let n : length c.push.new.self.items ≡ length (take c.self.inside.made c.self.inside.records.items) + 1 = ap length e ∙ length-append (take c.self.inside.made c.self.inside.records.items) (c.args.next ∷ []) in
+    let m : length (take c.self.inside.made c.self.inside.records.items) ≡ c.self.inside.made = length-take-le c.self.inside.made c.self.inside.records.items c.self.invariant.published_ in
+    record {
+      published_ = omega (arith, n, m);
+      next = λ under_way. omega (arith, n, m);
+      head_ = c.self.invariant.head_;
+      next_head_ = c.in_ok-parts.ensures.writable;
+      waits = λ ready. subst (λ (bytes : List ℕ). WhereTold (g.V.Vault.disk c.prepare_on.new.objects.vault) (IsWaiting head_way head_name bytes)) c.as_slice-2.ensures
+          (prepared_waits c.as_slice.result.now c.as_slice-2.result.now c.in_ok-prepare_on.ensures.silent c.in_ok-prepare_on.ensures.walks);
+    }

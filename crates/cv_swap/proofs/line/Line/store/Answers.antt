@@ -1,7 +1,11 @@
-use Rattle.std.proofs.Common.{subst}
-use Rattle.cv_swap.specs.Publishing.{KeepsWay}
-use Rattle.cv_swap.proofs.Views.{vault_seen, way_kept}
+use Rattle.cv_swap.proofs.Bringing.{stored_waits}
 use Rattle.cv_swap.proofs.line.Line.store.Goals as goal
 
-pub returns-clause-way : goal.returns-clause-way
-returns-clause-way g c = subst (λ v. KeepsWay g.V.Vault.disk c.store.result v c.store.new.self.vault) (vault_seen _ _ c.self.view_is) (way_kept c.args.batch.now c.store.result c.requires.named c.store.ensures.walks c.store.ensures.others)
+pub invariant_of-self : goal.invariant_of-self
+invariant_of-self g c = record {
+  published_ = c.self.invariant.published_;
+  next = c.self.invariant.next;
+  head_ = c.self.invariant.head_;
+  next_head_ = c.self.invariant.next_head_;
+  waits = λ ready. stored_waits c.args.batch.now c.self.inside.manifest c.requires.named c.store.ensures.others (c.self.invariant.waits ready);
+}

@@ -1,0 +1,23 @@
+use Rattle.cv_vault.specs.Names.{on_way}
+use Rattle.cv_vault.proofs.Laws.{apart}
+use Rattle.cv_swap.proofs.Building.{handed_on}
+use Rattle.cv_swap.proofs.Bringing.{brings, brings_not, brings_none, quiet_unmade, quiet_absent, one_fault}
+use Rattle.cv_swap.proofs.publishing.bring_file.Goals as goal
+
+pub rename-requires : goal.rename-requires
+rename-requires g c = apart on_way _ _ c.requires.way c.requires.name
+
+pub returns-in_err-rename-clause-walks : goal.returns-in_err-rename-clause-walks
+returns-in_err-rename-clause-walks g c = λ d e bytes waits. brings_not _ _ bytes c.requires.way c.requires.name (g.met.V.Vault.only_now c.args.vault.now) e waits _ c.in_err-rename.field-0.0 (handed_on _ _ c.from_residual.ensures.1) c.in_err-rename.ensures.call
+
+pub returns-then-branch-clause-walks : goal.returns-then-branch-clause-walks
+returns-then-branch-clause-walks g c = λ d e bytes waits. brings _ _ bytes c.requires.way c.requires.name (g.met.V.Vault.only_now c.args.vault.now) e waits (rw c.if-branch.true at c.in_ok-rename.ensures.call)
+
+pub returns-else-branch-clause-walks : goal.returns-else-branch-clause-walks
+returns-else-branch-clause-walks g c = λ d e bytes waits. brings_none _ _ bytes c.requires.way c.requires.name (g.met.V.Vault.only_now c.args.vault.now) e waits (rw c.if-branch.false at c.in_ok-rename.ensures.call)
+
+pub returns-in_err-rename-clause-memory : goal.returns-in_err-rename-clause-memory
+returns-in_err-rename-clause-memory g c = λ e. quiet_unmade c.args.way.now c.args.name.now c.in_err-rename.field-0.0 (one_fault _ (handed_on _ _ c.from_residual.ensures.1) e) c.in_err-rename.ensures.call
+
+pub returns-else-branch-clause-memory : goal.returns-else-branch-clause-memory
+returns-else-branch-clause-memory g c = λ e. quiet_absent c.args.way.now c.args.name.now (rw c.if-branch.false at c.in_ok-rename.ensures.call)
