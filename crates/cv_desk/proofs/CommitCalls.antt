@@ -1,6 +1,6 @@
 -- What the calls of a commit say.
 use Rattle.std.proofs.Common.{◌≡◌, true, false, Bool, ℕ, List, [], ◌∷◌, ◌++◌, refl, sym, ap, subst, ◌∙◌, inl, inr}
-use Rattle.std.specs.Prelude.{MatchResult, IfOk, OnOk, OnErr, IsTrue}
+use Rattle.std.specs.Prelude.{MatchResult, IfOk, IfErr, OnOk, OnErr, IsTrue}
 use Rattle.std.specs.Option.{option_map}
 use Rattle.std.specs.declared.option.Option.{Option}
 use Rattle.std.specs.declared.option.Option.TheVariants.{None, Some}
@@ -14,7 +14,7 @@ use Rattle.cv_base.specs.declared.token.Token.{Token}
 use Rattle.cv_ports.specs.Shelf.{Shelf}
 use Rattle.cv_vault.specs.Names.{on_way}
 use Rattle.cv_vault.specs.Disk.{Disk, Files}
-use Rattle.cv_vault.specs.Replace.{IsSure, MovedIn}
+use Rattle.cv_vault.specs.Replace.{MovedIn}
 use Rattle.cv_vault.specs.Walks.{Walks, ComesTo}
 use Rattle.cv_vault.specs.declared.vault.VaultFault.{VaultFault}
 use Rattle.cv_vault.specs.declared.vault.VaultFault.TheVariants as vault
@@ -41,7 +41,7 @@ use Rattle.cv_objects.proofs.Lemmas.{named_more}
 use Rattle.cv_swap.specs.Kept.{object_of, head_with}
 use Rattle.cv_swap.specs.Line.{LineView, LineReads, published, swapped, IsReady, IsDropped}
 use Rattle.cv_swap.specs.Publishing.{Prepared}
-use Rattle.cv_swap.specs.Stands.{head_name, head_way, Publishes}
+use Rattle.cv_swap.specs.Stands.{head_name, Publishes}
 use Rattle.cv_swap.specs.declared.stage.Stage.TheVariants as stage
 use Rattle.cv_gate.specs.declared.reply.Reply.{Reply}
 use Rattle.cv_gate.specs.declared.reply.Reply.TheVariants as reply
@@ -60,6 +60,9 @@ at_ok P Q r x e m = subst (λ r. MatchResult r P Q) e m
 
 pub if_ok : {X E : Type 0} (P : X → Type 0) (r : Result X E) (x : X) → r ≡ Ok x → IfOk r P → P x
 if_ok P r x e m = subst (λ r. IfOk r P) e m
+
+pub if_err : {X E : Type 0} (P : E → Type 0) (r : Result X E) (f : E) → r ≡ Err f → IfErr r P → P f
+if_err P r f e m = subst (λ r. IfErr r P) e m
 
 pub on_ok : {X E P : Type 0} (r : Result X E) (x : X) → r ≡ Ok x → OnOk r P → P
 on_ok {P = P} r x e m = subst (λ r. OnOk r P) e m
@@ -124,7 +127,7 @@ module _ {V S : Type 0} (disk : V → Option Disk) (count : V → ℕ) (left : V
 -- the line is of the same repository, whatever was answered
 pub readies_same : {V S : Type 0} (disk : V → Option Disk) (count : V → ℕ) (left : V → ℕ → Files → Type 0) (is_seal : S → List ℕ → List ℕ → Bool) (lease : Lease) (key : List ℕ) (moment : ℕ) (offered tag : List ℕ) (l l' : LineView V S)
     (r : Result Head Reply) → Readies disk count left is_seal lease key moment offered tag l l' r → IsSameRepository l l'
-readies_same disk count left is_seal lease key moment offered tag l l' _ (unmade r reads why) = record {
+readies_same disk count left is_seal lease key moment offered tag l l' _ (unmade r kind reads why) = record {
   name_ = ap (λ (x : LineView _ _). x.name) reads.1;
   signer_ = ap (λ (x : LineView _ _). x.signer) reads.1;
   epoch_ = ap (λ (x : LineView _ _). x.epoch) reads.1;
@@ -164,7 +167,7 @@ module _ {V S : Type 0} (disk : V → Option Disk) (count : V → ℕ) (left : V
   -- the head is swapped in, or isn't
   module _ (token : Token) (head : Head) (l : LineView V S) where
     abbrev Moves : Result (Unit {0}) VaultFault → Type 0
-    Moves r = WhereTold (disk line.vault) (λ d. (manifest : List ℕ) → IsSure head_way manifest d → Walks disk count left on_way (ComesTo head_name (Some manifest)) (MovedIn d head_name manifest r) d line.vault l.vault)
+    Moves r = WhereTold (disk line.vault) (λ d. Walks disk count left on_way (ComesTo head_name (Some line.manifest)) (MovedIn d head_name line.manifest r) d line.vault l.vault)
 
     pub ends_well : (r : Result (Unit {0}) VaultFault) (x : Unit {0}) → r ≡ Ok x → OnOk r (l ≡ swapped line l.vault) → (ls : List Lease) → ls ≡ without token leases → Moves r
         → Finishes disk count left is_seal token head s (reply.Committed head.revision head.root) (over l ls)

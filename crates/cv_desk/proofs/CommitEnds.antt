@@ -158,7 +158,6 @@ module _ {V S : Type 0} (disk : V → Option Disk) (count : V → ℕ) (left : V
       all = readied.all ∙ (λ i. (published_read ∙ sym same_records) i ++ next_is i ∷ []);
       next_head = readied.next_head ∙ head_is;
       says = says_new;
-      sure = w.is.sure;
     }
 
     -- with the repository's name and signer as they were
@@ -171,7 +170,7 @@ module _ {V S : Type 0} (disk : V → Option Disk) (count : V → ℕ) (left : V
 
     pub finished_does : (token : Token) → token ≡ new.record_.token → (r : Reply) (s' : StateView V S) → Finishes disk count left is_seal token next_head mid r s' → e.reply ≡ r → Does disk count left is_seal o e before s' st
     finished_does token of r s' (swaps moves is same_view) replied =
-        let m = moves w.end w.told l.manifest w.is.sure in
+        let m = moves w.end w.told in
         let told : e.reply ≡ reply.Committed new.record_.revision new.record_.root = replied ∙ is ∙ (λ i. reply.Committed (head_is i).revision (head_is i).root) in
         record {
           next = with_revision stored new;
@@ -181,7 +180,7 @@ module _ {V S : Type 0} (disk : V → Option Disk) (count : V → ℕ) (left : V
           leaves = leaves s' _ m;
         }
     finished_does token of r s' (wavers moves is same_view) replied =
-        let m = moves w.end w.told l.manifest w.is.sure in
+        let m = moves w.end w.told in
         let told : e.reply ≡ reply.StoreFailed = replied ∙ is in
         record {
           next = record stored { doubt = Some new };
@@ -191,7 +190,7 @@ module _ {V S : Type 0} (disk : V → Option Disk) (count : V → ℕ) (left : V
           leaves = leaves s' _ m;
         }
     finished_does token of r s' (stays moves is same_view) replied =
-        let m = moves w.end w.told l.manifest w.is.sure in
+        let m = moves w.end w.told in
         record {
           next = stored;
           step = step_of disk count left is_seal st o mid new stored w.end e is_prepared records s'.line.vault _ m stored (ends_fault (inr (replied ∙ is)) refl);

@@ -205,7 +205,7 @@ module _ {V S : Type 0} (disk : V → Option Disk) (count : V → ℕ) (left : V
 
       stopped_all : (l : LineView V S) (r : Reply) → Readies disk count left is_seal lease key aged_before.moment offered tag before.line l (Err r) → after ≡ record aged_before { line = l } → e.reply ≡ r
           → Does disk count left is_seal o e before after st
-      stopped_all l _ (unmade r reads unfit) same replied = looked disk count left is_seal before after only room st none stands e o noted (inr (subst (λ x. CommitStep a key token old_root offered tag x a) (sym replied) (on_lease r a (unfit_in r (unfit d stands.told)))))
+      stopped_all l _ (unmade r kind reads unfit) same replied = looked disk count left is_seal before after only room st none stands e o noted (inr (subst (λ x. CommitStep a key token old_root offered tag x a) (sym replied) (on_lease r a (unfit_in r (unfit d stands.told)))))
           (record {
             reads = subst (λ (x : StateView V S). OnlyReads disk count left before.line.vault x.line.vault) (sym same) reads.0;
             others = same ∙ ap (λ (x : LineView V S). record aged_before { line = x }) (reads.1 ∙ (λ i. record before.line { vault = (sym same i).line.vault; taken = (sym same i).line.taken }));

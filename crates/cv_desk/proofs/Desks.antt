@@ -1,5 +1,5 @@
 -- One connection over a gate meets what is asked of a desk.
-use Rattle.std.proofs.Common.{◌≡◌, ◌++◌, ◌∷◌, ◌-◌, ◌+◌, Bool, true, ℕ, zero, suc, List, [], length, refl, ap, sym, subst, ◌∙◌, append_assoc, append-nil, arith}
+use Rattle.std.proofs.Common.{◌≡◌, ◌++◌, ◌∷◌, ◌-◌, ◌+◌, ◌<◌, length-append, Bool, true, ℕ, zero, suc, List, [], length, refl, ap, sym, subst, ◌∙◌, append_assoc, append-nil, arith}
 use Rattle.std.specs.Prelude.{Vec, IfOk, MatchResult, IfSome, bytes_eq, max, drop, map, option_map}
 use Rattle.std.specs.List.{last_or}
 use Rattle.sha1.specs.Sha1.{sha1}
@@ -40,7 +40,7 @@ use Rattle.cv_desk.specs.Holds.{Survives}
 use Rattle.cv_desk.specs.Gate.{StateView, GateView, StandsFor, IsSameRepository, Steps}
 use Rattle.cv_desk.specs.Gate.{full, made, Does}
 use Rattle.cv_desk.specs.Acting.{OnlyLooks}
-use Rattle.cv_desk.specs.OneDesk.{OneDeskView, Stands, IsLeft, behind, within, Goes, DoesCall, DoesCalls, first_view}
+use Rattle.cv_desk.specs.OneDesk.{OneDeskView, Stands, IsLeft, behind, within, Goes, DoesCall, DoesCalls, view_since}
 use Rattle.cv_desk.specs.Calls.{calls_one}
 use Rattle.cv_desk.proofs.Imaging.{calm_survives, image_survives}
 use Rattle.cv_desk.proofs.Quietly.{looked_stands, looks_none}
@@ -234,9 +234,9 @@ module _ {V S : Type 0} (disk : V → Option Disk) (count : V → ℕ) (left : V
       does = (full counted is same, record { name_ = refl; head_ = knows });
       goes = full_goes only counted is same;
     })
-    ask_does only (made room more e seat moment replied records journal repository exact does) = calls_one disk count left is_seal d (record d { gate = after; head = head }) (asked o now r) (record {
+    ask_does only (made room more e seat moment replied records journal repository exact doubt damage does) = calls_one disk count left is_seal d (record d { gate = after; head = head }) (asked o now r) (record {
       same = repository;
-      does = (made room more e seat moment replied records journal repository exact does, record { name_ = refl; head_ = knows });
+      does = (made room more e seat moment replied records journal repository exact doubt damage does, record { name_ = refl; head_ = knows });
       goes = λ v s. made_goes e seat moment replied journal v s (does v.state s.state);
     })
 
@@ -296,33 +296,36 @@ module _ {V S : Type 0} (disk : V → Option Disk) (count : V → ℕ) (left : V
   fetches_over gate id r looks same seen =
       subst (λ (j : List Entry). DoesCalls disk count left is_seal d (fetched id r ∷ []) (record d { gate = record { state = gate.state; journal = j } })) (sym same) (fetches_does gate.state id r looks seen)
 
--- ---- a desk of which nothing was asked yet
+-- ---- a desk over a gate
 
-last_alone : {T : Type 0} (k : ℕ) (xs : List T) (x : T) → length xs ≡ k + 1 → last_or None xs ≡ Some x → drop k xs ≡ x ∷ []
-last_alone k [] x len is = cc
-last_alone zero (a ∷ []) x len is = let same : a ≡ x = cc in ap (λ y. y ∷ []) same
-last_alone zero (a ∷ b ∷ xs) x len is = absurd (omega (arith, len))
-last_alone (suc k) (a ∷ []) x len is = absurd (omega (arith, len))
-last_alone (suc k) (a ∷ b ∷ xs) x len is = last_alone k (b ∷ xs) x (omega (arith, len)) is
+-- the last of a part at the end that isn't empty is the last of all
+last_of_part : {A B : Type 0} (f : A → B) (k : ℕ) (xs : List A) (o : Option A) (x : A) → k < length xs → last_or o xs ≡ Some x → last_or None (map f (drop k xs)) ≡ Some (f x)
+last_of_part f k [] o x below is = absurd (omega (arith, below))
+last_of_part f zero (a ∷ xs) o x below is = last_mapped f (Some a) xs ∙ ap (option_map f) is
+last_of_part f (suc k) (a ∷ xs) o x below is = last_of_part f k xs (Some a) x (omega (arith, below)) is
 
--- a list that has a last is as long as the front and one more
-has_last : {T : Type 0} (xs : List T) (x : T) → last_or None xs ≡ Some x → length xs ≡ (length xs - 1) + 1
-has_last [] x is = cc
-has_last (a ∷ xs) x is = omega arith
+some_long : {T : Type 0} (xs : List T) (x : T) → last_or None xs ≡ Some x → 0 < length xs
+some_long [] x is = cc
+some_long (a ∷ xs) x is = omega arith
 
-first_heads : (st : State) (r : Revision) → newest st.history ≡ Some r → last_head (heads_since st st) ≡ Some (head_of r)
-first_heads st r is = ap (λ (l : List Revision). last_head (map head_of l)) (last_alone (length st.history - 1) st.history r (has_last st.history r is) is)
+-- the newest head is the last since the opening
+heads_last : (start : State) (entries : List Entry) (st : State) (r : Revision) → Run start entries st → newest st.history ≡ Some r → last_head (heads_since start st) ≡ Some (head_of r)
+heads_last start entries st r run is =
+    let front = grown start entries st run in
+    let size : length st.history ≡ length start.history + length front.more = ap length front.split ∙ length-append start.history front.more in
+    let long = some_long st.history r is in
+    last_of_part head_of (length start.history - 1) st.history None r (omega (arith, size, long)) is
 
-pub new_stands : {V S : Type 0} (disk : V → Option Disk) (is_seal : S → List ℕ → List ℕ → Bool) (d : OneDeskView V S) (st : State) → d.gate.journal ≡ [] → d.head ≡ d.gate.state.line.head
-    → StandsFor disk is_seal d.gate.state st → Stands disk is_seal d (first_view st)
-new_stands disk is_seal d st none head stands =
+pub new_stands : {V S : Type 0} (disk : V → Option Disk) (is_seal : S → List ℕ → List ℕ → Bool) (d : OneDeskView V S) (start st : State) → d.head ≡ d.gate.state.line.head → Run start d.gate.journal st
+    → StandsFor disk is_seal d.gate.state st → Stands disk is_seal d (view_since start d.gate.journal st)
+new_stands disk is_seal d start st head run stands =
     let new = some_newest st.shelf st.history stands.sound.line in record {
       seat = refl;
       alone = refl;
-      seen = sym none;
+      seen = refl;
       state = stands;
       images = gate_images disk is_seal d.gate.state st stands;
-      run = refl;
+      run = run;
       heads = refl;
-      last = first_heads st new.0 new.1 ∙ ap Some (sym (head ∙ head_is disk is_seal d.gate.state st stands new.0 new.1));
+      last = heads_last start d.gate.journal st new.0 run new.1 ∙ ap Some (sym (head ∙ head_is disk is_seal d.gate.state st stands new.0 new.1));
     }

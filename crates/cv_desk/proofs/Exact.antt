@@ -1,27 +1,41 @@
 -- What holds of a reply whatever the vault tells.
-use Rattle.std.proofs.Common.{◌≡◌, true, false, cond, ℕ, List, refl, sym, ap, subst, ◌∙◌}
+use Rattle.std.proofs.Common.{◌≡◌, ◌≢◌, true, false, cond, ℕ, List, refl, sym, ap, subst, ◌∙◌}
 use Rattle.std.specs.Prelude.{bytes_eq}
 use Rattle.std.specs.declared.option.Option.{Option}
 use Rattle.std.specs.declared.option.Option.TheVariants.{None, Some}
+use Rattle.cv_base.specs.Path.{Path}
+use Rattle.cv_base.specs.Told.{WhereTold}
+use Rattle.cv_base.specs.ObjectId.{file_name}
 use Rattle.cv_base.specs.declared.id.ObjectId.{ObjectId}
 use Rattle.cv_base.specs.declared.object.Object.{Object}
 use Rattle.cv_base.specs.declared.token.Token.{Token}
-use Rattle.cv_vault.specs.Disk.{Disk, Files, files_now}
+use Rattle.cv_vault.specs.Names.{on_way}
+use Rattle.cv_vault.specs.Disk.{Disk, File, Files, files_now}
+use Rattle.cv_vault.specs.Walks.{Walks, Gains, Stays, Comes, Nothing}
 use Rattle.cv_cut.specs.Opening.{HasOtherDigest}
+use Rattle.cv_cut.specs.declared.load_fault.LoadFault.{LoadFault}
+use Rattle.cv_cut.specs.declared.load_fault.LoadFault.TheVariants as load
 use Rattle.cv_leases.specs.Leases.{lease_of, without}
 use Rattle.cv_leases.specs.declared.lease.Lease.{Lease}
-use Rattle.cv_objects.specs.Names.{standing_on}
+use Rattle.cv_objects.specs.Names.{is_digest, standing_on}
 use Rattle.cv_objects.specs.Batches.{AreNamed, ShownIn, IsOutside, by_one, by_itself}
 use Rattle.cv_objects.specs.declared.store_fault.StoreFault.{StoreFault}
 use Rattle.cv_objects.specs.declared.store_fault.StoreFault.TheVariants as fault
 use Rattle.cv_objects.proofs.Lemmas.{is_digest_of}
+use Rattle.cv_swap.specs.Line.{LineView}
+use Rattle.cv_swap.specs.declared.stage.Stage.TheVariants as stage
+use Rattle.cv_gate.specs.State.{aged}
 use Rattle.cv_gate.specs.Step.{CancelStep, Cancels, takes}
 use Rattle.cv_gate.specs.declared.op.Op.TheVariants as op
 use Rattle.cv_gate.specs.declared.reply.Reply.{Reply}
 use Rattle.cv_gate.specs.declared.reply.Reply.TheVariants as reply
 use Rattle.cv_desk.specs.Gate.{StateView, state_of, ShowsDamage, IsExact}
-use Rattle.cv_desk.specs.Sending.{outcome_of, IsSent, refused, late, whole}
-use Rattle.cv_desk.specs.Acting.{aged_view, reply_of, refusal_on, AsksEnd, not_ended, ends, AsksStore, not_sent, sends}
+use Rattle.cv_desk.specs.Views.{aged_view, next_token}
+use Rattle.cv_desk.specs.Refusals.{reply_of, refusal_of, refusal_on, is_unread, is_sending}
+use Rattle.cv_desk.specs.Ends.{IsLookedAt, IsPlacedOn, LeaseEnds, lease_refused, lease_unread, lease_placeless, lease_granted, store_refused, sent}
+use Rattle.cv_desk.specs.Sending.{outcome_of, outcome_from, IsSent, refused, late, whole}
+use Rattle.cv_desk.specs.Acting.{OnlyLooks, Grants, granted, unremembered, AsksLease, unread, placeless, placed, AsksEnd, not_ended, ends, AsksStore, not_sent, sends, IsAnswered}
+use Rattle.cv_desk.specs.Acting.{refused as refused_lease}
 use Rattle.cv_desk.specs.declared.outcome.Outcome.{Outcome}
 use Rattle.cv_desk.specs.declared.outcome.Outcome.TheVariants as outcome
 use Rattle.cv_desk.proofs.Names.{at_digest}
@@ -64,29 +78,28 @@ module _ {V : Type 0} (disk : V → Option Disk) (v : V) where
 
 -- ---- the end of a lease
 
-pub end_exact : {V S : Type 0} (disk : V → Option Disk) (key : List ℕ) (token : Token) (now : ℕ) (before aged_ after : StateView V S) (out : Outcome) → aged_ ≡ aged_view before now
-    → AsksEnd key token aged_ out after → IsExact disk (op.Cancel key token) now (reply_of out) before after
-end_exact {V} {S} disk key token now before aged_ after out at asks = by (subst (λ (s : StateView V S). AsksEnd key token s out after) at asks)
+pub end_answered : {V S : Type 0} (disk : V → Option Disk) (key : List ℕ) (token : Token) (now : ℕ) (before aged_ after : StateView V S) (out : Outcome) → aged_ ≡ aged_view before now
+    → AsksEnd key token aged_ out after → IsAnswered disk (op.Cancel key token) now (reply_of out) before after
+end_answered {V} {S} disk key token now before aged_ after out at asks = by (subst (λ (s : StateView V S). AsksEnd key token s out after) at asks)
   where
     s : StateView V S
     s = aged_view before now
 
-    by : AsksEnd key token s out after → IsExact disk (op.Cancel key token) now (reply_of out) before after
+    line_is : after.line ≡ before.line → CancelStep (aged (state_of before) now) key token (reply_of out) (state_of after) → before.line.stage ≢ stage.Doubtful → IsExact disk (op.Cancel key token) now (reply_of out) before after
+    line_is same step calm = record { ends = (step, same); doubt = λ is_now. absurd (calm (sym (ap (λ (l : LineView V S). l.stage) same) ∙ is_now)) }
+
+    by : AsksEnd key token s out after → IsAnswered disk (op.Cancel key token) now (reply_of out) before after
     by (not_ended is same) = record {
-      ends = (
-        subst (λ (x : StateView V S). CancelStep (state_of s) key token (reply_of out) (state_of x)) (sym same)
-            ((refused_on (state_of s) key token out is).step (λ lease. Cancels (state_of s) token (reply_of out) (state_of s))),
-        ap (λ (x : StateView V S). x.line) same,
-      );
+      exact = line_is (ap (λ (x : StateView V S). x.line) same)
+          (subst (λ (x : StateView V S). CancelStep (state_of s) key token (reply_of out) (state_of x)) (sym same)
+          ((refused_on (state_of s) key token out is).step (λ lease. Cancels (state_of s) token (reply_of out) (state_of s))));
       damage = by_plain disk before.line.vault out (plain_end (lease_of token s.leases) key out is);
     }
     by (ends free is same) =
         let left_ : StateView V S = record s { leases = without token s.leases } in record {
-          ends = (
-            subst (λ (x : StateView V S). CancelStep (state_of s) key token (reply_of out) (state_of x)) (sym same)
-                (on_own (state_of s) key token (reply_of out) (state_of left_) (λ lease. Cancels (state_of s) token (reply_of out) (state_of left_)) (own_lease s.leases key token free) (takes (ap reply_of is) refl)),
-            ap (λ (x : StateView V S). x.line) same,
-          );
+          exact = line_is (ap (λ (x : StateView V S). x.line) same)
+              (subst (λ (x : StateView V S). CancelStep (state_of s) key token (reply_of out) (state_of x)) (sym same)
+              (on_own (state_of s) key token (reply_of out) (state_of left_) (λ lease. Cancels (state_of s) token (reply_of out) (state_of left_)) (own_lease s.leases key token free) (takes (ap reply_of is) refl)));
           damage = subst (λ o. ShowsDamage disk before.line.vault (reply_of o)) (sym is) tt;
         }
 
@@ -127,36 +140,100 @@ sent_shows d d' batch fresh out named (refused x is none shown same) disk v told
 sent_shows d d' batch fresh out named (late x is ids outside one) disk v told = subst (λ o. ShowsDamage disk v (reply_of o)) (sym is) (outside_shows x outside disk v)
 sent_shows d d' batch fresh out named (whole is ids one stored) disk v told = subst (λ o. ShowsDamage disk v (reply_of o)) (sym is) tt
 
+-- a reply that names damaged bytes shows them, and no other has any to show
+pub shows_if : {V : Type 0} (disk : V → Option Disk) (v : V) (r : Reply) → ((id : ObjectId) (found : List ℕ) → r ≡ reply.Damaged id found → ShowsDamage disk v (reply.Damaged id found)) → ShowsDamage disk v r
+shows_if disk v (reply.Damaged id found) shows = shows id found refl
+shows_if disk v (reply.Granted token revision root) shows = tt
+shows_if disk v reply.Stored shows = tt
+shows_if disk v (reply.Committed revision root) shows = tt
+shows_if disk v reply.Cancelled shows = tt
+shows_if disk v reply.BadPath shows = tt
+shows_if disk v (reply.PathBusy token remaining) shows = tt
+shows_if disk v reply.TooManyLeases shows = tt
+shows_if disk v reply.NoParent shows = tt
+shows_if disk v reply.InvalidToken shows = tt
+shows_if disk v reply.WrongKey shows = tt
+shows_if disk v (reply.Collision id) shows = tt
+shows_if disk v (reply.StaleBase revision) shows = tt
+shows_if disk v (reply.MissingObject id) shows = tt
+shows_if disk v (reply.BadCatalogue id) shows = tt
+shows_if disk v (reply.PathCollision first second) shows = tt
+shows_if disk v (reply.CatalogueFull path) shows = tt
+shows_if disk v (reply.TagTaken revision) shows = tt
+shows_if disk v reply.StoreFailed shows = tt
+shows_if disk v reply.JournalFull shows = tt
+shows_if disk v reply.NoMemory shows = tt
+shows_if disk v reply.RevisionsFull shows = tt
+
 -- a reply whose damage is shown wherever a disk is told shows it
 pub wherever_told : {V : Type 0} (disk : V → Option Disk) (v : V) (r : Reply) → ((d : Disk) → disk v ≡ Some d → ShowsDamage disk v r) → ShowsDamage disk v r
-wherever_told disk v (reply.Damaged id found) shows = λ d told. shows d told d told
-wherever_told disk v (reply.Granted token revision root) shows = tt
-wherever_told disk v reply.Stored shows = tt
-wherever_told disk v (reply.Committed revision root) shows = tt
-wherever_told disk v reply.Cancelled shows = tt
-wherever_told disk v reply.BadPath shows = tt
-wherever_told disk v (reply.PathBusy token remaining) shows = tt
-wherever_told disk v reply.TooManyLeases shows = tt
-wherever_told disk v reply.NoParent shows = tt
-wherever_told disk v reply.InvalidToken shows = tt
-wherever_told disk v reply.WrongKey shows = tt
-wherever_told disk v (reply.Collision id) shows = tt
-wherever_told disk v (reply.StaleBase revision) shows = tt
-wherever_told disk v (reply.MissingObject id) shows = tt
-wherever_told disk v (reply.BadCatalogue id) shows = tt
-wherever_told disk v (reply.PathCollision first second) shows = tt
-wherever_told disk v (reply.CatalogueFull path) shows = tt
-wherever_told disk v (reply.TagTaken revision) shows = tt
-wherever_told disk v reply.StoreFailed shows = tt
-wherever_told disk v reply.JournalFull shows = tt
-wherever_told disk v reply.NoMemory shows = tt
-wherever_told disk v reply.RevisionsFull shows = tt
+wherever_told disk v r shows = shows_if disk v r (λ id found is. λ d told. subst (ShowsDamage disk v) is (shows d told) d told)
 
-pub store_exact : {V S : Type 0} (disk : V → Option Disk) (count : V → ℕ) (left : V → ℕ → Files → Type 0) (key digest : List ℕ) (token : Token) (batch : List Object) (now : ℕ) (before aged_ after : StateView V S) (out : Outcome) (fresh : List ObjectId)
-    → aged_ ≡ aged_view before now → AreNamed batch → AsksStore disk count left key token batch aged_ out fresh after → IsExact disk (op.Store key token digest batch) now (reply_of out) before after
-store_exact {V} {S} disk count left key digest token batch now before aged_ after out fresh at named asks = record { ends = tt; damage = by (subst (λ (s : StateView V S). AsksStore disk count left key token batch s out fresh after) at asks) }
+-- where nothing came since, the damaged bytes stood there before
+pub damage_before : {V : Type 0} (disk : V → Option Disk) (count : V → ℕ) (left : V → ℕ → Files → Type 0) (v v' : V) (r : Reply) → WhereTold (disk v) (λ d. Walks disk count left on_way Nothing (λ d'. Unit {0}) d v v')
+    → ShowsDamage disk v' r → ShowsDamage disk v r
+damage_before disk count left v v' r walks shows = shows_if disk v r (λ id found is. λ d told.
+    let w = walks d told in
+    let has = subst (ShowsDamage disk v') is shows w.end w.told in
+    record { bytes = has.bytes; there = sym (same_there d w.end w.gains id) ∙ has.there; digest = has.digest; other = has.other })
   where
-    by : AsksStore disk count left key token batch (aged_view before now) out fresh after → ShowsDamage disk before.line.vault (reply_of out)
-    by (not_sent is none same) = by_plain disk before.line.vault out (plain_end (lease_of token (aged_view before now).leases) key out is)
-    by (sends free s) = wherever_told disk before.line.vault (reply_of out) (λ d told.
-        let w = s.walks d told in sent_shows d w.end batch fresh out named w.is disk before.line.vault told)
+    same_there : (d d' : Disk) → Gains on_way Nothing d d' → (id : ObjectId) → standing_on d' id ≡ standing_on d id
+    same_there d d' g id = elim (g.each (file_name id) refl) [ Stays same less ↦ ap (λ (f : File). cond (is_digest id.hash) f None) same | Comes came less ↦ absurd came ]
+
+pub store_answered : {V S : Type 0} (disk : V → Option Disk) (count : V → ℕ) (left : V → ℕ → Files → Type 0) (key digest : List ℕ) (token : Token) (batch : List Object) (now : ℕ) (before aged_ after : StateView V S) (out : Outcome) (fresh : List ObjectId)
+    → aged_ ≡ aged_view before now → AreNamed batch → (refusal_on (lease_of token aged_.leases) key ≡ None → is_sending (reply_of out) ≡ true) → AsksStore disk count left key token batch aged_ out fresh after
+    → IsAnswered disk (op.Store key token digest batch) now (reply_of out) before after
+store_answered {V} {S} disk count left key digest token batch now before aged_ after out fresh at named kind asks =
+    by (subst (λ (s : StateView V S). refusal_on (lease_of token s.leases) key ≡ None → is_sending (reply_of out) ≡ true) at kind) (subst (λ (s : StateView V S). AsksStore disk count left key token batch s out fresh after) at asks)
+  where
+    s : StateView V S
+    s = aged_view before now
+
+    by : (refusal_on (lease_of token s.leases) key ≡ None → is_sending (reply_of out) ≡ true) → AsksStore disk count left key token batch s out fresh after → IsAnswered disk (op.Store key token digest batch) now (reply_of out) before after
+    by kind (not_sent is none same) = record {
+      exact = λ calm. record { ends = store_refused out is refl same; doubt = λ is_now. absurd (calm (sym (ap (λ (x : StateView V S). x.line.stage) same) ∙ is_now)) };
+      damage = by_plain disk before.line.vault out (plain_end (lease_of token s.leases) key out is);
+    }
+    by kind (sends free done) = record {
+      exact = λ calm. record { ends = sent free (kind free) done.others; doubt = λ is_now. absurd (calm (sym (ap (λ (x : StateView V S). x.line.stage) done.others) ∙ is_now)) };
+      damage = wherever_told disk before.line.vault (reply_of out) (λ d told.
+          let w = done.walks d told in sent_shows d w.end batch fresh out named w.is disk before.line.vault told);
+    }
+
+-- ---- a lease is asked
+
+pub unread_from : (x : LoadFault) → is_unread (reply_of (outcome_from x)) ≡ true
+unread_from (load.Missing id) = refl
+unread_from (load.Bad id) = refl
+unread_from load.Failed = refl
+unread_from (load.Damaged id found) = refl
+unread_from load.NoMemory = refl
+
+pub lease_answered : {V S : Type 0} (disk : V → Option Disk) (count : V → ℕ) (left : V → ℕ → Files → Type 0) (key : List ℕ) (path : Path) (now : ℕ) (before aged_ after : StateView V S) (out : Outcome)
+    → aged_ ≡ aged_view before now → AsksLease disk count left key path aged_ out after → ShowsDamage disk aged_.line.vault (reply_of out) → IsAnswered disk (op.Lease key path) now (reply_of out) before after
+lease_answered {V} {S} disk count left key path now before aged_ after out at asks shows = record {
+  exact = by (subst (λ (s : StateView V S). AsksLease disk count left key path s out after) at asks);
+  damage = subst (λ (s : StateView V S). ShowsDamage disk s.line.vault (reply_of out)) at shows;
+}
+  where
+    s : StateView V S
+    s = aged_view before now
+
+    -- the line is in no doubt that it wasn't in before
+    as_before : LeaseEnds disk key path s (reply_of out) after → after.line.stage ≡ before.line.stage → before.line.stage ≢ stage.Doubtful → IsExact disk (op.Lease key path) now (reply_of out) before after
+    as_before come same calm = record { ends = come; doubt = λ is_now. absurd (calm (sym same ∙ is_now)) }
+
+    granting : (looked : StateView V S) → refusal_of s.leases s.moment path ≡ None → IsPlacedOn (disk s.line.vault) s.line.head.root path true → OnlyLooks disk count left s looked → Grants key path looked out after → before.line.stage ≢ stage.Doubtful
+        → IsExact disk (op.Lease key path) now (reply_of out) before after
+    granting looked free sees looks (granted is same) = as_before
+        (lease_granted looked free sees looks.others (ap reply_of is ∙ ap (λ (x : StateView V S). reply.Granted (next_token x) x.line.head.revision x.line.head.root) looks.others) same)
+        (ap (λ (x : StateView V S). x.line.stage) same ∙ ap (λ (x : StateView V S). x.line.stage) looks.others)
+    granting looked free sees looks (unremembered is same) = as_before
+        (lease_unread free (ap (λ (o : Outcome). is_unread (reply_of o)) is) (subst (λ (x : StateView V S). IsLookedAt s x) (sym same) looks.others))
+        (ap (λ (x : StateView V S). x.line.stage) same ∙ ap (λ (x : StateView V S). x.line.stage) looks.others)
+
+    by : AsksLease disk count left key path s out after → before.line.stage ≢ stage.Doubtful → IsExact disk (op.Lease key path) now (reply_of out) before after
+    by (refused_lease is same) = as_before (lease_refused out is refl same) (ap (λ (x : StateView V S). x.line.stage) same)
+    by (unread free kind looks found) = as_before (lease_unread free kind looks.others) (ap (λ (x : StateView V S). x.line.stage) looks.others)
+    by (placeless free looks found sees is) = as_before (lease_placeless free (ap reply_of is) sees looks.others) (ap (λ (x : StateView V S). x.line.stage) looks.others)
+    by (placed looked free looks found sees grants) = granting looked free sees looks grants

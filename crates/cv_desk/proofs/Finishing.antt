@@ -13,7 +13,7 @@ use Rattle.cv_leases.specs.Leases.{without}
 use Rattle.cv_history.specs.declared.record.Record.{Record}
 use Rattle.cv_swap.specs.Kept.{Revision, newest, head_of}
 use Rattle.cv_swap.specs.Line.{published, swapped}
-use Rattle.cv_swap.specs.Stands.{head_name, head_way}
+use Rattle.cv_swap.specs.Stands.{head_name}
 use Rattle.cv_swap.specs.declared.stage.Stage.TheVariants as stage
 use Rattle.cv_gate.specs.State.{State, aged, with_revision}
 use Rattle.cv_gate.specs.Commits.{made}
@@ -36,7 +36,7 @@ use Rattle.cv_desk.proofs.Settling.{all_taken, counted_all, map_push}
 use Rattle.cv_desk.proofs.Swapping.{doubt_held, made_held, swap_survives}
 
 -- in a settled state the op is a commit that passes, and the gate stands for the state with its objects stored; its record and its head
--- are behind the published ones, and its manifest is on its way for sure
+-- are behind the published ones
 pub record IsPrepared {V S : Type 0} (disk : V → Option Disk) (is_seal : S → List ℕ → List ℕ → Bool) (st : State) (o : Op) (now : ℕ) (g : StateView V S) (new : Revision) (stored : State) (d : Disk) : Type 0 where
   pub sound : Sound st
   pub none : st.doubt ≡ None
@@ -49,7 +49,6 @@ pub record IsPrepared {V S : Type 0} (disk : V → Option Disk) (is_seal : S →
   pub all : g.line.all ≡ published g.line ++ new.record_ ∷ []
   pub next_head : g.line.next_head ≡ head_of new
   pub says : IsHeadOf g.line.name (is_seal g.line.signer) new (Some g.line.manifest)
-  pub sure : IsSure head_way g.line.manifest d
 
 pub records_again : (o : Op) (e : Entry) (r : Reply) → Records e o → Records (record e { reply = r }) o
 records_again (op.Lease key path) e r h = h

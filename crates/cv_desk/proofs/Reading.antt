@@ -1,5 +1,6 @@
 -- What a gate reads through its line.
-use Rattle.std.proofs.Common.{◌≡◌, ◌≢◌, Bool, ℕ, List, [], ◌∷◌, refl, sym, ap, subst, ◌∙◌}
+use Rattle.std.specs.Prelude.{IfOk}
+use Rattle.std.proofs.Common.{◌≡◌, ◌≢◌, Bool, true, ℕ, List, length, [], ◌∷◌, refl, sym, ap, subst, ◌∙◌}
 use Rattle.std.specs.Option.{option_map}
 use Rattle.std.specs.declared.option.Option.{Option}
 use Rattle.std.specs.declared.result.Result.{Result}
@@ -13,11 +14,14 @@ use Rattle.cv_tree.specs.Tree.{Nodes, is_directory}
 use Rattle.cv_tree.specs.Changes.{has_place}
 use Rattle.cv_cut.specs.Means.{Means}
 use Rattle.cv_cut.specs.declared.load_fault.LoadFault.{LoadFault}
+use Rattle.cv_graft.specs.Directories.{IsFound}
 use Rattle.cv_graft.specs.Graft.{HasWay}
 use Rattle.cv_graft.specs.Way.{Tells}
 use Rattle.cv_objects.specs.Names.{standing_on}
 use Rattle.cv_desk.specs.Gate.{StateView}
+use Rattle.cv_desk.specs.Ends.{IsPlaced, IsPlacedOn}
 use Rattle.cv_desk.specs.Acting.{FindsPlace}
+use Rattle.cv_desk.specs.declared.outcome.Outcome.{Outcome}
 
 way_of : (shelf : Shelf) (hash : List ℕ) (t : Nodes) (p : Path) → Means shelf hash t → HasWay shelf hash t p
 way_of shelf hash t p m = record { tree = m.tree; fits = m.fits; root = m.root; catalogues = λ c cut covered apart. m.catalogues c cut }
@@ -33,3 +37,24 @@ module _ {V S : Type 0} (disk : V → Option Disk) (s : StateView V S) (p above 
   pub place_found : (there : Bool) → Answers (Ok there) → FindsPlace disk s p (Ok there)
   place_found there told = λ d e t m.
       below_root t p some ∙ sym (told (standing_on d) (ap (option_map standing_on) e) t (way_of (standing_on d) hash t above (subst (λ h. Means (standing_on d) h t) (sym root) m)) ∙ ap (λ q. is_directory (get t q)) is)
+
+-- ---- by the catalogues alone
+
+pub placed_root : (shelf : Shelf) (root : List ℕ) (p : Path) → length p ≡ 0 → IsPlaced shelf root p true
+placed_root shelf root [] none = refl
+placed_root shelf root (name ∷ names) none = cc
+
+at_parent : (shelf : Shelf) (root : List ℕ) (p : Path) (there : Bool) → p ≢ [] → IsFound shelf root (parent p) there → IsPlaced shelf root p there
+at_parent shelf root [] there some found = absurd (some refl)
+at_parent shelf root (name ∷ names) there some found = found
+
+pub placed_below : {V S : Type 0} (disk : V → Option Disk) (s : StateView V S) (v : V) (p above : Path) (hash : List ℕ) → p ≢ [] → above ≡ parent p → hash ≡ s.line.head.root → v ≡ s.line.vault
+    → (r : Result Bool LoadFault) (there : Bool) → r ≡ Ok there → WhereTold (option_map standing_on (disk v)) (λ standing. IfOk r (IsFound standing hash above)) → IsPlacedOn (disk s.line.vault) s.line.head.root p there
+placed_below disk s v p above hash some is root vaults r there answered told = λ d e.
+    let seen : IfOk r (IsFound (standing_on d) hash above) = told (standing_on d) (ap (option_map standing_on) (ap disk vaults ∙ e)) in
+    let found : IsFound (standing_on d) hash above there = subst (λ x. IfOk x (IsFound (standing_on d) hash above)) answered seen in
+    at_parent (standing_on d) s.line.head.root p there some (subst (λ (q : Path). IsFound (standing_on d) s.line.head.root q there) is (subst (λ h. IsFound (standing_on d) h above there) root found))
+
+pub sees : {V S : Type 0} (disk : V → Option Disk) (s : StateView V S) (p : Path) (r : Result Bool Outcome) (there : Bool) → r ≡ Ok there
+    → WhereTold (disk s.line.vault) (λ d. IfOk r (IsPlaced (standing_on d) s.line.head.root p)) → IsPlacedOn (disk s.line.vault) s.line.head.root p there
+sees disk s p r there is told = λ d e. subst (λ x. IfOk x (IsPlaced (standing_on d) s.line.head.root p)) is (told d e)

@@ -28,6 +28,11 @@ module _ {V S : Type 0} (disk : V → Option Disk) (count : V → ℕ) (left : V
   answered : (x : Result Bool VaultFault) → r ≡ x → WhereTold (disk line.vault) (λ d. Walks disk count left on_way Nothing (Found head_name line.manifest x) d line.vault l.vault)
   answered x e = λ d told. subst (λ (x : Result Bool VaultFault). Walks disk count left on_way Nothing (Found head_name line.manifest x) d line.vault l.vault) e (walks d told)
 
+  -- nothing came to the disk
+  pub recovers_over : (v : V) → v ≡ l.vault → WhereTold (disk s.line.vault) (λ d. Walks disk count left on_way Nothing (λ d'. Unit {0}) d s.line.vault v)
+  recovers_over v same = subst (λ (x : StateView V S). WhereTold (disk x.line.vault) (λ d. Walks disk count left on_way Nothing (λ d'. Unit {0}) d x.line.vault v)) is
+      (λ d told. subst (λ x. Walks disk count left on_way Nothing (λ d'. Unit {0}) d line.vault x) (sym same) (let w = walks d told in record { end = w.end; told = w.told; gains = w.gains; leaves = w.leaves; is = tt }))
+
   pub recovers_not : (fault : VaultFault) → r ≡ Err fault → l ≡ record line { vault = l.vault } → (st : State) → StandsFor disk is_seal s st → Settles disk count left is_seal s (Err fault) (over l) st
   recovers_not fault e others = subst (λ (s : StateView V S). (st : State) → StandsFor disk is_seal s st → Settles disk count left is_seal s (Err fault) (over l) st) is
       (λ st stands. subst (λ (x : LineView V S). Settles disk count left is_seal (over line) (Err fault) (over x) st) (sym others)

@@ -1,5 +1,5 @@
 -- A batch that is sent, as the body does it.
-use Rattle.std.proofs.Common.{◌≡◌, ℕ, List, [], sym, subst}
+use Rattle.std.proofs.Common.{◌≡◌, true, ℕ, List, [], refl, sym, subst}
 use Rattle.std.specs.Prelude.{Vec}
 use Rattle.std.specs.declared.option.Option.{Option}
 use Rattle.std.specs.declared.result.Result.{Result}
@@ -13,14 +13,27 @@ use Rattle.cv_vault.specs.Walks.{Walks, Nothing}
 use Rattle.cv_leases.specs.declared.lease.Lease.{Lease}
 use Rattle.cv_objects.specs.Batches.{Brings, GivesFresh, Stored}
 use Rattle.cv_objects.specs.declared.store_fault.StoreFault.{StoreFault}
+use Rattle.cv_objects.specs.declared.store_fault.StoreFault.TheVariants as fault
 use Rattle.cv_swap.specs.Line.{LineView}
 use Rattle.cv_desk.specs.Gate.{StateView}
+use Rattle.cv_desk.specs.Refusals.{reply_of, is_sending}
 use Rattle.cv_desk.specs.Sending.{IsSent, outcome_of}
 use Rattle.cv_desk.specs.Sent.{sent_by}
 use Rattle.cv_desk.specs.Acting.{Sends}
 use Rattle.cv_desk.specs.declared.outcome.Outcome.{Outcome}
 use Rattle.cv_desk.specs.declared.sent.Sent.{Sent}
 use Rattle.cv_desk.proofs.Sending.{unknown, known_then}
+
+-- objects that are sent are answered so
+pub sending_of : (x : StoreFault) → is_sending (reply_of (outcome_of x)) ≡ true
+sending_of (fault.Collision id) = refl
+sending_of fault.Failed = refl
+sending_of (fault.Damaged id found) = refl
+sending_of fault.NoMemory = refl
+
+pub sending_by : (fresh : List ObjectId) (stored : Result (Unit {0}) StoreFault) → is_sending (reply_of (sent_by fresh stored).outcome) ≡ true
+sending_by fresh (Ok done) = refl
+sending_by fresh (Err x) = sending_of x
 
 module _ {V S : Type 0} (disk : V → Option Disk) (count : V → ℕ) (left : V → ℕ → Files → Type 0) (batch : List Object) (s : StateView V S) (line : LineView V S) (leases : List Lease) (moment next : ℕ)
     (is : record { line = line; leases = leases; moment = moment; next = next } ≡ s) where

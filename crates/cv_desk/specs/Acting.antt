@@ -35,42 +35,21 @@ use Rattle.cv_gate.specs.declared.entry.Entry.{Entry}
 use Rattle.cv_gate.specs.declared.reply.Reply.{Reply}
 use Rattle.cv_gate.specs.declared.reply.Reply.TheVariants as reply
 use Rattle.cv_desk.specs.Holds.{Survives}
-use Rattle.cv_desk.specs.Gate.{StateView, StandsFor, IsSameRepository, Does, IsExact}
+use Rattle.cv_desk.specs.Gate.{StateView, StandsFor, IsSameRepository, Does, IsExact, ShowsDamage}
+pub use Rattle.cv_desk.specs.Views.{aged_view, next_token, new_lease, with_lease}
+pub use Rattle.cv_desk.specs.Refusals.{reply_of, refusal_beside, refusal_of, refusal_on}
+use Rattle.cv_desk.specs.Refusals.{is_unread}
+use Rattle.cv_desk.specs.Ends.{IsPlacedOn}
 use Rattle.cv_desk.specs.Sending.{IsSent}
 use Rattle.cv_desk.specs.declared.outcome.Outcome.{Outcome}
 use Rattle.cv_desk.specs.declared.taken.Taken.{Taken}
 use Rattle.cv_desk.specs.declared.outcome.Outcome.TheVariants as outcome
-
-abbrev pub reply_of : Outcome → Reply
-reply_of (outcome.Granted token revision root) = reply.Granted token revision root
-reply_of outcome.Stored = reply.Stored
-reply_of (outcome.Committed revision root) = reply.Committed revision root
-reply_of outcome.Cancelled = reply.Cancelled
-reply_of outcome.BadPath = reply.BadPath
-reply_of (outcome.PathBusy token remaining) = reply.PathBusy token remaining
-reply_of outcome.TooManyLeases = reply.TooManyLeases
-reply_of outcome.NoParent = reply.NoParent
-reply_of outcome.InvalidToken = reply.InvalidToken
-reply_of outcome.WrongKey = reply.WrongKey
-reply_of (outcome.Collision id) = reply.Collision id
-reply_of outcome.RevisionsFull = reply.RevisionsFull
-reply_of (outcome.StaleBase revision) = reply.StaleBase revision
-reply_of (outcome.TagTaken revision) = reply.TagTaken revision
-reply_of (outcome.MissingObject id) = reply.MissingObject id
-reply_of (outcome.BadCatalogue id) = reply.BadCatalogue id
-reply_of outcome.StoreFailed = reply.StoreFailed
-reply_of (outcome.Damaged id found) = reply.Damaged id found
-reply_of outcome.NoMemory = reply.NoMemory
 
 -- ---- what becomes of the state
 
 -- the same over another vault
 abbrev pub at_vault : {V S : Type 0} → StateView V S → V → StateView V S
 at_vault s v = record s { line = record s.line { vault = v } }
-
--- it has come to a moment
-abbrev pub aged_view : {V S : Type 0} → StateView V S → ℕ → StateView V S
-aged_view s now = record s { leases = unexpired (max s.moment now) s.leases; moment = max s.moment now }
 
 -- nothing was done but reads of the vault
 pub record OnlyLooks {V S : Type 0} (disk : V → Option Disk) (count : V → ℕ) (left : V → ℕ → Files → Type 0) (s s' : StateView V S) : Type 0 where
@@ -109,14 +88,6 @@ Acts disk count left is_seal o now a r before after =
 
 -- ---- a lease is asked
 
--- why a lease on the path isn't granted beside these at a moment, if it isn't
-abbrev pub refusal_beside : Option Lease → List Lease → ℕ → Option Outcome
-refusal_beside (Some lease) leases moment = Some (outcome.PathBusy lease.token (lease.deadline - moment))
-refusal_beside None leases moment = if nat_le lease_limit (length leases) then Some outcome.TooManyLeases else None
-
-abbrev pub refusal_of : List Lease → ℕ → Path → Option Outcome
-refusal_of leases moment path = if ends_in marker path then Some outcome.BadPath else refusal_beside (busy leases path) leases moment
-
 -- whether the path has a place in the tree, or the disk failed, or memory was wanted
 abbrev pub PlaceIs : Nodes → Path → Result Bool Outcome → Type 0
 PlaceIs t p (Ok there) = has_place t p ≡ there
@@ -126,15 +97,6 @@ PlaceIs t p (Err o) = IsFault (reply_of o)
 abbrev pub FindsPlace : {V S : Type 0} (disk : V → Option Disk) → StateView V S → Path → Result Bool Outcome → Type 0
 FindsPlace disk s p r = WhereTold (disk s.line.vault) (λ d. (t : Nodes) → Means (standing_on d) s.line.head.root t → PlaceIs t p r)
 
-abbrev pub next_token : {V S : Type 0} → StateView V S → Token
-next_token s = record { epoch = s.line.epoch; number = s.next }
-
-abbrev pub new_lease : {V S : Type 0} → StateView V S → List ℕ → Path → Lease
-new_lease s key path = record { token = next_token s; key = key; path = path; deadline = s.moment + lease_time; from_revision = s.line.head.revision }
-
-abbrev pub with_lease : {V S : Type 0} → StateView V S → List ℕ → Path → StateView V S
-with_lease s key path = record s { leases = s.leases ++ new_lease s key path ∷ []; next = s.next + 1 }
-
 -- a lease that nothing refuses is granted, or memory was wanted
 pub data Grants {V S : Type 0} (key : List ℕ) (path : Path) (s : StateView V S) (o : Outcome) (s' : StateView V S) : Type 0 where
   granted : o ≡ outcome.Granted (next_token s) s.line.head.revision s.line.head.root → s' ≡ with_lease s key path → Grants key path s o s'
@@ -143,16 +105,11 @@ pub data Grants {V S : Type 0} (key : List ℕ) (path : Path) (s : StateView V S
 -- what comes of asking for a lease
 pub data AsksLease {V S : Type 0} (disk : V → Option Disk) (count : V → ℕ) (left : V → ℕ → Files → Type 0) (key : List ℕ) (path : Path) (s : StateView V S) (o : Outcome) (s' : StateView V S) : Type 0 where
   refused : refusal_of s.leases s.moment path ≡ Some o → s' ≡ s → AsksLease disk count left key path s o s'
-  unread : refusal_of s.leases s.moment path ≡ None → OnlyLooks disk count left s s' → FindsPlace disk s path (Err o) → AsksLease disk count left key path s o s'
-  placeless : refusal_of s.leases s.moment path ≡ None → OnlyLooks disk count left s s' → FindsPlace disk s path (Ok false) → o ≡ outcome.NoParent → AsksLease disk count left key path s o s'
-  placed : (looked : StateView V S) → refusal_of s.leases s.moment path ≡ None → OnlyLooks disk count left s looked → FindsPlace disk s path (Ok true) → Grants key path looked o s' → AsksLease disk count left key path s o s'
+  unread : refusal_of s.leases s.moment path ≡ None → is_unread (reply_of o) ≡ true → OnlyLooks disk count left s s' → FindsPlace disk s path (Err o) → AsksLease disk count left key path s o s'
+  placeless : refusal_of s.leases s.moment path ≡ None → OnlyLooks disk count left s s' → FindsPlace disk s path (Ok false) → IsPlacedOn (disk s.line.vault) s.line.head.root path false → o ≡ outcome.NoParent → AsksLease disk count left key path s o s'
+  placed : (looked : StateView V S) → refusal_of s.leases s.moment path ≡ None → OnlyLooks disk count left s looked → FindsPlace disk s path (Ok true) → IsPlacedOn (disk s.line.vault) s.line.head.root path true → Grants key path looked o s' → AsksLease disk count left key path s o s'
 
 -- ---- something is asked of a lease
-
--- why nothing is done on a lease for a key, if it isn't
-abbrev pub refusal_on : Option Lease → List ℕ → Option Outcome
-refusal_on None key = Some outcome.InvalidToken
-refusal_on (Some lease) key = if bytes_eq lease.key key then None else Some outcome.WrongKey
 
 -- what comes of asking that a lease end
 pub data AsksEnd {V S : Type 0} (key : List ℕ) (token : Token) (s : StateView V S) (o : Outcome) (s' : StateView V S) : Type 0 where
@@ -175,12 +132,17 @@ pub data AsksStore {V S : Type 0} (disk : V → Option Disk) (count : V → ℕ)
 abbrev pub Keeps : Op → Taken → Type 0
 Keeps o t = (e : Entry) → e.key ≡ t.key → e.act ≡ t.act → Records e o
 
+-- what holds of an op that was done, whatever the vault tells
+pub record IsAnswered {V S : Type 0} (disk : V → Option Disk) (o : Op) (now : ℕ) (r : Reply) (before after : StateView V S) : Type 0 where
+  pub exact : before.line.stage ≢ stage.Doubtful → IsExact disk o now r before after
+  pub damage : ShowsDamage disk before.line.vault r
+
 -- the op was done, from whatever settled state
 pub record IsDone {V S : Type 0} (disk : V → Option Disk) (count : V → ℕ) (left : V → ℕ → Files → Type 0) (is_seal : S → List ℕ → List ℕ → Bool) (o : Op) (now : ℕ) (t : Taken) (before after : StateView V S) : Type 0 where
   pub types : HasTypes o
   pub keeps : Keeps o t
   pub acts : Acts disk count left is_seal o now t.act t.answer before after
-  pub exact : IsExact disk o now t.answer before after
+  pub answered : IsAnswered disk o now t.answer before after
   pub same : IsSameRepository before.line after.line
   pub next : after.next ≤ before.next + 1
 
@@ -196,5 +158,7 @@ pub record Takes {V S : Type 0} (disk : V → Option Disk) (count : V → ℕ) (
   pub keeps : Keeps o t
   pub does : (st : State) → StandsFor disk is_seal before st → (e : Entry) → IsNoted o e → e.now ≡ now → e.act ≡ t.act → e.reply ≡ t.answer → Does disk count left is_seal o e before after st
   pub exact : before.line.stage ≢ stage.Doubtful → IsExact disk o now t.answer before after
+  pub doubt : after.line.stage ≡ stage.Doubtful → IsFault t.answer
+  pub damage : ShowsDamage disk before.line.vault t.answer
   pub same : IsSameRepository before.line after.line
   pub next : after.next ≤ before.next + 1

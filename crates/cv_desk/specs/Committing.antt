@@ -13,7 +13,7 @@ use Rattle.cv_base.specs.declared.token.Token.{Token}
 use Rattle.cv_ports.specs.Shelf.{Shelf}
 use Rattle.cv_vault.specs.Names.{on_way}
 use Rattle.cv_vault.specs.Disk.{Disk, Files}
-use Rattle.cv_vault.specs.Replace.{IsSure, MovedIn}
+use Rattle.cv_vault.specs.Replace.{MovedIn}
 use Rattle.cv_vault.specs.Walks.{Walks, ComesTo}
 use Rattle.cv_vault.specs.declared.vault.VaultFault.{VaultFault}
 use Rattle.cv_vault.specs.declared.vault.VaultFault.TheVariants as vault
@@ -39,40 +39,18 @@ use Rattle.cv_objects.specs.declared.store_fault.StoreFault.{StoreFault}
 use Rattle.cv_swap.specs.Kept.{revision_limit, object_of, head_with}
 use Rattle.cv_swap.specs.Line.{LineView, published, swapped, LineReads, IsReady, IsDropped}
 use Rattle.cv_swap.specs.Publishing.{Prepared}
-use Rattle.cv_swap.specs.Stands.{head_name, head_way, Publishes}
+use Rattle.cv_swap.specs.Stands.{head_name, Publishes}
 use Rattle.cv_swap.specs.declared.stage.Stage.TheVariants as stage
 use Rattle.cv_gate.specs.Step.{IsFault}
 use Rattle.cv_gate.specs.declared.reply.Reply.{Reply}
 use Rattle.cv_gate.specs.declared.reply.Reply.TheVariants as reply
 use Rattle.cv_desk.specs.Gate.{StateView}
 use Rattle.cv_desk.specs.Sending.{outcome_of}
-use Rattle.cv_desk.specs.Acting.{reply_of, refusal_on}
+pub use Rattle.cv_desk.specs.Ends.{next_record}
+pub use Rattle.cv_desk.specs.Refusals.{has_base, holder_of, taken_by, opposition_by, opposition}
+use Rattle.cv_desk.specs.Refusals.{reply_of, refusal_on, is_unmade}
 use Rattle.cv_desk.specs.declared.outcome.Outcome.{Outcome}
 use Rattle.cv_desk.specs.declared.outcome.Outcome.TheVariants as outcome
-
--- ---- what the published revisions say
-
--- the root is that of a revision from this one on
-abbrev pub has_base : List Record → ℕ → List ℕ → Bool
-has_base records from root = list_any (λ r. nat_le from r.revision && bytes_eq r.root root) records
-
--- the record that has the tag, unless that is empty
-abbrev pub holder_of : List ℕ → List Record → Option Record
-holder_of [] records = None
-holder_of (b ∷ tag) records = find (λ r. bytes_eq r.tag (b ∷ tag)) records
-
-abbrev pub taken_by : Option Record → Option Outcome
-taken_by None = None
-taken_by (Some r) = Some (outcome.TagTaken r.revision)
-
--- why they refuse a commit under a lease that was granted at a revision, if they do: the newest of them, and all of them
-abbrev pub opposition_by : ℕ → List Record → ℕ → List ℕ → List ℕ → Option Outcome
-opposition_by newest records from old_root tag =
-    if nat_le revision_limit newest then Some outcome.RevisionsFull else
-    if has_base records from old_root then taken_by (holder_of tag records) else Some (outcome.StaleBase from)
-
-abbrev pub opposition : {V S : Type 0} → LineView V S → ℕ → List ℕ → List ℕ → Option Outcome
-opposition l from old_root tag = opposition_by l.head.revision (published l) from old_root tag
 
 -- ---- the offered tree
 
@@ -119,20 +97,6 @@ GraftsOffered shelf newest offered path (Err r) = IsUnfit shelf newest offered p
 
 -- ---- the new revision
 
--- its record: under this lease and this key, at this moment
-abbrev pub next_record : Head → Lease → List ℕ → ℕ → Grafted → List ℕ → List ℕ → Record
-next_record head lease key moment g offered tag = record {
-  revision = head.revision + 1;
-  previous = head.history;
-  root = g.root.hash;
-  offered = offered;
-  token = lease.token;
-  path = lease.path;
-  key = key;
-  time = moment;
-  tag = tag;
-}
-
 -- its objects, in the order in which they are brought
 abbrev pub objects_with : Grafted → Record → List Object
 objects_with g next = g.added ++ object_of next ∷ []
@@ -140,7 +104,7 @@ objects_with g next = g.added ++ object_of next ∷ []
 module _ {V S : Type 0} (disk : V → Option Disk) (count : V → ℕ) (left : V → ℕ → Files → Type 0) (is_seal : S → List ℕ → List ℕ → Bool) where
   -- all of a revision but its head is brought to the vault, by what is known of the offered tree; or why it isn't
   pub data Readies (lease : Lease) (key : List ℕ) (moment : ℕ) (offered tag : List ℕ) (l l' : LineView V S) : Result Head Reply → Type 0 where
-    unmade : (r : Reply) → LineReads disk count left l l' → WhereTold (disk l.vault) (λ d. IsUnfit (standing_on d) l.head.root offered lease.path r) → Readies lease key moment offered tag l l' (Err r)
+    unmade : (r : Reply) → is_unmade r ≡ true → LineReads disk count left l l' → WhereTold (disk l.vault) (λ d. IsUnfit (standing_on d) l.head.root offered lease.path r) → Readies lease key moment offered tag l l' (Err r)
     unprepared : (looked : LineView V S) (g : Grafted) (fault : StoreFault) → LineReads disk count left l looked → WhereTold (disk l.vault) (λ d. IsFit (standing_on d) l.head.root offered lease.path g) → IsDropped looked l'
         → AreNamed (objects_with g (next_record l.head lease key moment g offered tag))
         → WhereTold (disk looked.vault) (λ d. Walks disk count left on_way (Brings d (objects_with g (next_record l.head lease key moment g offered tag)))
@@ -153,9 +117,9 @@ module _ {V S : Type 0} (disk : V → Option Disk) (count : V → ℕ) (left : V
         (Prepared d (objects_with g (next_record l.head lease key moment g offered tag)) l'.manifest {X = Head} (Ok (head_with (next_record l.head lease key moment g offered tag) g.size))) d looked.vault l'.vault)
         → Readies lease key moment offered tag l l' (Ok (head_with (next_record l.head lease key moment g offered tag) g.size))
 
-  -- the head of the line comes to its name, whose manifest is on its way
+  -- the head of the line that is ready comes to its name
   abbrev pub Swaps : LineView V S → V → Result (Unit {0}) VaultFault → Type 0
-  Swaps l v r = WhereTold (disk l.vault) (λ d. (manifest : List ℕ) → IsSure head_way manifest d → Walks disk count left on_way (ComesTo head_name (Some manifest)) (MovedIn d head_name manifest r) d l.vault v)
+  Swaps l v r = WhereTold (disk l.vault) (λ d. Walks disk count left on_way (ComesTo head_name (Some l.manifest)) (MovedIn d head_name l.manifest r) d l.vault v)
 
   -- how a commit that is ready ends: its head came and its lease ended, or it is in doubt, or memory was wanted
   pub data Finishes (token : Token) (head : Head) (s : StateView V S) (r : Reply) (s' : StateView V S) : Type 0 where

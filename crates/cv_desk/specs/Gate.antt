@@ -1,4 +1,4 @@
--- A gate over a disk, as contracts see it, and the states for which it stands.
+-- The states for which a gate stands, its opening, and its steps.
 use Rattle.std.specs.Prelude.{◌≡◌, ◌≢◌, ◌⊎◌, ℕ, ◌+◌, ◌<◌, ◌≤◌, ◌^◌, Bool, false, List, [], ◌∷◌, ◌++◌, length, IfSome}
 use Rattle.std.specs.declared.option.Option.{Option}
 use Rattle.std.specs.declared.option.Option.TheVariants.{None, Some}
@@ -8,7 +8,6 @@ use Rattle.cv_base.specs.Told.{WhereTold}
 use Rattle.cv_vault.specs.Disk.{Disk, File, Files, May, files_now}
 use Rattle.cv_vault.specs.Moments.{LeavesOnly}
 use Rattle.cv_cut.specs.Opening.{HasOtherDigest}
-use Rattle.cv_leases.specs.declared.lease.Lease.{Lease}
 use Rattle.cv_objects.specs.Names.{standing_on}
 use Rattle.cv_swap.specs.Kept.{Kept, Revision, newest, records_of, head_of}
 use Rattle.cv_swap.specs.Line.{LineView, published}
@@ -20,7 +19,7 @@ use Rattle.cv_swap.specs.declared.open_fault.OpenFault.TheVariants as open_fault
 use Rattle.cv_swap.specs.declared.stage.Stage.TheVariants as stage
 use Rattle.cv_gate.specs.State.{State, aged}
 use Rattle.cv_gate.specs.Sound.{Sound, AreLeases}
-use Rattle.cv_gate.specs.Step.{Step, Records, CancelStep}
+use Rattle.cv_gate.specs.Step.{Step, Records, CancelStep, IsFault}
 use Rattle.cv_gate.specs.Kept.{reopened}
 use Rattle.cv_gate.specs.Desk.{journal_limit}
 use Rattle.cv_gate.specs.declared.op.Op.{Op}
@@ -29,17 +28,9 @@ use Rattle.cv_gate.specs.declared.reply.Reply.{Reply}
 use Rattle.cv_gate.specs.declared.reply.Reply.TheVariants as reply
 use Rattle.cv_gate.specs.declared.entry.Entry.{Entry}
 use Rattle.cv_desk.specs.Holds.{IsHeadOf, Holds, Survives}
-
--- all but the journal
-pub record StateView (V S : Type 0) : Type 0 where
-  pub line : LineView V S
-  pub leases : List Lease
-  pub moment : ℕ
-  pub next : ℕ
-
-pub record GateView (V S : Type 0) : Type 0 where
-  pub state : StateView V S
-  pub journal : List Entry
+pub use Rattle.cv_desk.specs.Views.{StateView, GateView}
+use Rattle.cv_desk.specs.Views.{aged_view}
+use Rattle.cv_desk.specs.Ends.{LeaseEnds, StoreEnds, CommitEnds}
 
 -- ---- the state for which it stands
 
@@ -128,22 +119,34 @@ IsFailed (Err e) = e.0 ≡ open_fault.Failed
 
 -- ---- a step
 
--- an end of a lease that is asked is the gate's step on the leases alone, and nothing is done to the line
-abbrev pub EndsSo : {V S : Type 0} → Op → ℕ → Reply → StateView V S → StateView V S → Type 0
-EndsSo (op.Lease key path) now r s s' = Unit {0}
-EndsSo (op.Store key token digest batch) now r s s' = Unit {0}
-EndsSo (op.Commit key token old_root new_root tag) now r s s' = Unit {0}
-EndsSo (op.Cancel key token) now r s s' = CancelStep (aged (state_of s) now) key token r (state_of s') × (s'.line ≡ s.line)
+-- What comes of an op whatever the vault tells: what the leases, the moment and the published revisions refuse is refused so, and only
+-- that. An end of a lease is the gate's step on the leases alone, and nothing is done to the line.
+abbrev pub EndsSo : {V S : Type 0} → (V → Option Disk) → Op → ℕ → Reply → StateView V S → StateView V S → Type 0
+EndsSo disk (op.Lease key path) now r s s' = LeaseEnds disk key path (aged_view s now) r s'
+EndsSo disk (op.Store key token digest batch) now r s s' = StoreEnds key token (aged_view s now) r s'
+EndsSo disk (op.Commit key token old_root new_root tag) now r s s' = CommitEnds key token old_root new_root tag (aged_view s now) r s'
+EndsSo disk (op.Cancel key token) now r s s' = CancelStep (aged (state_of s) now) key token r (state_of s') × (s'.line ≡ s.line)
 
 -- bytes that are said to have another digest stand under the id that is named, where a disk is told
 abbrev pub ShowsDamage : {V : Type 0} → (V → Option Disk) → V → Reply → Type 0
 ShowsDamage disk v (reply.Damaged id found) = WhereTold (disk v) (λ d. HasOtherDigest (standing_on d) id found)
 ShowsDamage disk v other = Unit {0}
 
+abbrev pub IsCommit : Op → Type 0
+IsCommit (op.Lease key path) = ⊥
+IsCommit (op.Store key token digest batch) = ⊥
+IsCommit (op.Commit key token old_root new_root tag) = Unit {0}
+IsCommit (op.Cancel key token) = ⊥
+
+-- a commit is in doubt now, and the store failed in it
+pub record Wavers (o : Op) (r : Reply) : Type 0 where
+  pub commit : IsCommit o
+  pub failed : r ≡ reply.StoreFailed
+
 -- what holds of a reply whatever the vault tells, where no commit was in doubt
 pub record IsExact {V S : Type 0} (disk : V → Option Disk) (o : Op) (now : ℕ) (r : Reply) (before after : StateView V S) : Type 0 where
-  pub ends : EndsSo o now r before after
-  pub damage : ShowsDamage disk before.line.vault r
+  pub ends : EndsSo disk o now r before after
+  pub doubt : after.line.stage ≡ stage.Doubtful → Wavers o r
 
 -- What a step does for a state for which the gate stood: the entry is a step to a state for which it then stands, and a crash at any
 -- moment of the call leaves what a crash within the op may leave.
@@ -153,12 +156,14 @@ pub record Does {V S : Type 0} (disk : V → Option Disk) (count : V → ℕ) (l
   pub stands : StandsFor disk is_seal after next
   pub leaves : LeavesOnly count left (Survives before.line.name (is_seal before.line.signer) st (Some (record { op = o; now = e.now }))) before.line.vault after.line.vault
 
--- The journal grows by one entry, which records the op, the seat and the moment with this reply, whatever the vault tells. Where the
--- journal is full nothing is done.
+-- The journal grows by one entry, which records the op, the seat and the moment with this reply, whatever the vault tells; and after
+-- a reply that is no fault no commit is in doubt. Where the journal is full nothing is done.
 pub data Steps {V S : Type 0} (disk : V → Option Disk) (count : V → ℕ) (left : V → ℕ → Files → Type 0) (is_seal : S → List ℕ → List ℕ → Bool) (o : Op) (seat now : ℕ) (before after : GateView V S) (r : Reply) : Type 0 where
   full : length before.journal ≡ journal_limit → r ≡ reply.JournalFull → after ≡ before → Steps disk count left is_seal o seat now before after r
   made : length before.journal < journal_limit → r ≢ reply.JournalFull → (e : Entry) → e.seat ≡ seat → e.now ≡ now → e.reply ≡ r → Records e o
       → after.journal ≡ before.journal ++ e ∷ [] → IsSameRepository before.state.line after.state.line
       → (before.state.line.stage ≢ stage.Doubtful → IsExact disk o now r before.state after.state)
+      → (after.state.line.stage ≡ stage.Doubtful → IsFault r)
+      → ShowsDamage disk before.state.line.vault r
       → ((st : State) → StandsFor disk is_seal before.state st → Does disk count left is_seal o e before.state after.state st)
       → Steps disk count left is_seal o seat now before after r

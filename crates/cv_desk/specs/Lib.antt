@@ -1,3 +1,6 @@
+pub mod Views
+pub mod Refusals
+pub mod Ends
 pub mod Holds
 pub mod Gate
 pub mod Sending

@@ -13,6 +13,7 @@ use Rattle.cv_gate.specs.State.{State}
 use Rattle.cv_gate.specs.Step.{Run}
 use Rattle.cv_gate.specs.Heads.{heads_since, last_head}
 use Rattle.cv_gate.specs.Desk.{DeskView, Call, Calls, asked, listed, fetched, told}
+use Rattle.cv_gate.specs.declared.entry.Entry.{Entry}
 use Rattle.cv_gate.specs.declared.op.Op.{Op}
 use Rattle.cv_gate.specs.declared.reply.Reply.{Reply}
 use Rattle.cv_desk.specs.Holds.{Survives}
@@ -24,9 +25,13 @@ pub record OneDeskView (V S : Type 0) : Type 0 where
   pub name : List ℕ
   pub head : Head
 
--- how a desk may be seen of which nothing was asked yet
+-- how a desk may be seen over a gate that was opened in a state, whose journal is these entries, and that stands for another
+abbrev pub view_since : State → List Entry → State → DeskView
+view_since start entries st = record { start = start; seat = 0; alone = true; seen = entries; state = st; heads = heads_since start st }
+
+-- how one may be seen of which nothing was asked yet
 abbrev pub first_view : State → DeskView
-first_view st = record { start = st; seat = 0; alone = true; seen = []; state = st; heads = heads_since st st }
+first_view st = view_since st [] st
 
 -- It is seat 0, alone, and has seen the gate's journal, from a state from which that runs to one for which the gate stands. Each image of
 -- its disk is what a crash may leave of that state.

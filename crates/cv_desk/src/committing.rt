@@ -1,5 +1,5 @@
 //! Commits.
-ghost use Rattle.std.specs.Prelude.{◌≡◌, ◌≢◌, ◌<◌, ◌^◌, true, false, IfOk, Err, bytes_eq, option_copied};
+ghost use Rattle.std.specs.Prelude.{◌≡◌, ◌≢◌, ◌<◌, ◌^◌, true, false, IfOk, IfErr, Err, bytes_eq, option_copied};
 ghost use Rattle.std.specs.List.{find};
 ghost use Rattle.cv_base.specs.Counts.{HasCause};
 ghost use Rattle.cv_base.specs.Told.{WhereTold};
@@ -12,7 +12,7 @@ ghost use Rattle.cv_graft.specs.Graft.{HasOwnIds};
 ghost use Rattle.cv_gate.specs.Step.{is_key_id, is_tag};
 ghost use Rattle.cv_gate.specs.declared.reply.Reply.TheVariants as replies;
 ghost use Rattle.cv_swap.specs.Line.{published, LineReads};
-ghost use Rattle.cv_desk.specs.Acting.{reply_of};
+ghost use Rattle.cv_desk.specs.Refusals.{reply_of, is_unmade};
 ghost use Rattle.cv_desk.specs.Committing.{has_base, holder_of, taken_by, opposition, outcome_at, Offers, GraftsOffered, next_record, Readies};
 ghost use Rattle.cv_desk.specs.declared.outcome.Outcome.TheVariants as outcomes;
 
@@ -90,6 +90,7 @@ fn judge<V: Vault + Drop, S: Signer + Drop>(
 ) -> Result<(), Outcome>
     requires { offered.now.kind ≡ kinds.Catalogue }
     ensures offers { WhereTold (V.disk line.old.vault) (λ d. Offers (standing_on d) offered.now.hash result) }
+    ensures kind { IfErr result (λ o. is_unmade (reply_of o) ≡ true) }
     ensures reads { LineReads V.disk V.count V.left line.old line.new }
     ensures cause { HasCause (V.faults line.old.vault) (V.faults line.new.vault) (result ≡ Err outcomes.StoreFailed) }
 {
@@ -123,6 +124,7 @@ fn graft_offered<V: Vault + Drop, S: Signer + Drop>(
     requires kind { offered.now.kind ≡ kinds.Catalogue }
     requires unmarked { ends_in marker path.now ≡ false }
     ensures grafts { WhereTold (V.disk line.old.vault) (λ d. GraftsOffered (standing_on d) line.old.head.root offered.now.hash path.now result) }
+    ensures kind { IfErr result (λ r. is_unmade r ≡ true) }
     ensures own { IfOk result (λ g. HasOwnIds g.added) }
     ensures reads { LineReads V.disk V.count V.left line.old line.new }
     ensures cause { HasCause (V.faults line.old.vault) (V.faults line.new.vault) (result ≡ Err replies.StoreFailed) }

@@ -1,5 +1,5 @@
 //! The state of the gate: all but its journal.
-ghost use Rattle.std.specs.Prelude.{◌≡◌, ◌≢◌, ◌≤◌, ◌<◌, ◌+◌, ◌^◌, [], max, None, Some, Err, Ok, IfOk, IfErr, IsErrOf, OnOk};
+ghost use Rattle.std.specs.Prelude.{◌≡◌, ◌≢◌, ◌≤◌, ◌<◌, ◌+◌, ◌^◌, [], true, max, None, Some, Err, Ok, IfOk, IfErr, IsErrOf, OnOk};
 ghost use Rattle.cv_base.specs.Counts.{HasCause};
 ghost use Rattle.cv_base.specs.Path.{IsPath};
 ghost use Rattle.cv_base.specs.Told.{WhereTold};
@@ -15,8 +15,12 @@ ghost use Rattle.cv_gate.specs.Lines.{lines_of};
 ghost use Rattle.cv_gate.specs.Step.{IsOp};
 ghost use Rattle.cv_swap.specs.Line.{published};
 ghost use Rattle.cv_swap.specs.declared.stage.Stage.TheVariants as stage;
-ghost use Rattle.cv_desk.specs.Gate.{StandsFor, IsSameRepository, ShowsDamage, IsExact};
-ghost use Rattle.cv_desk.specs.Acting.{aged_view, Settles, Acts, refusal_of, refusal_on, FindsPlace, OnlyLooks, new_lease, Grants, AsksLease, AsksEnd, Sends, AsksStore, IsDone, Takes, newest_token, ended, reply_of};
+ghost use Rattle.cv_desk.specs.Gate.{StandsFor, IsSameRepository, ShowsDamage};
+ghost use Rattle.cv_desk.specs.Refusals.{is_unread, is_sending};
+ghost use Rattle.cv_desk.specs.Ends.{IsPlaced};
+ghost use Rattle.cv_vault.specs.Names.{on_way};
+ghost use Rattle.cv_vault.specs.Walks.{Walks, Nothing};
+ghost use Rattle.cv_desk.specs.Acting.{aged_view, Settles, Acts, refusal_of, refusal_on, FindsPlace, OnlyLooks, new_lease, Grants, AsksLease, AsksEnd, Sends, AsksStore, IsAnswered, IsDone, Takes, newest_token, ended, reply_of};
 ghost use Rattle.cv_gate.specs.declared.reply.Reply.TheVariants as replies;
 ghost use Rattle.cv_desk.specs.declared.outcome.Outcome.TheVariants as outcomes;
 
@@ -89,6 +93,7 @@ impl<V: Vault + Drop, S: Signer + Drop> GateState<V, S> {
         ensures calm { self.old.line.stage ≢ stage.Doubtful → (result ≡ Ok tt) × (self.new ≡ self.old) }
         ensures same { IsSameRepository self.old.line self.new.line }
         ensures next { self.new.next ≡ self.old.next }
+        ensures keeps { WhereTold (V.disk self.old.line.vault) (λ d. Walks V.disk V.count V.left on_way Nothing (λ _. Unit {0}) d self.old.line.vault self.new.line.vault) }
         ensures certain { OnOk result (self.new.line.stage ≢ stage.Doubtful) }
         ensures cause { HasCause (V.faults self.old.line.vault) (V.faults self.new.line.vault) (IsErrOf result vault_fault.Failed) }
     {
@@ -136,6 +141,8 @@ impl<V: Vault + Drop, S: Signer + Drop> GateState<V, S> {
     /// Whether the path has a place in the newest tree: it is the root, or its parent is a directory.
     fn has_place(&mut self, alloc: Global, path: &RepoPath) -> Result<bool, Outcome>
         ensures place { FindsPlace V.disk self.old path.now result }
+        ensures sees { WhereTold (V.disk self.old.line.vault) (λ d. IfOk result (IsPlaced (standing_on d) self.old.line.head.root path.now)) }
+        ensures unread { IfErr result (λ o. is_unread (reply_of o) ≡ true) }
         ensures damage { IfErr result (λ o. ShowsDamage V.disk self.old.line.vault (reply_of o)) }
         ensures looks { OnlyLooks V.disk V.count V.left self.old self.new }
         ensures cause { HasCause (V.faults self.old.line.vault) (V.faults self.new.line.vault) (result ≡ Err outcomes.StoreFailed) }
@@ -222,7 +229,7 @@ impl<V: Vault + Drop, S: Signer + Drop> GateState<V, S> {
         requires now { now < 2 ^ 62 }
         requires next { self.old.next < 18446744073709551615 }
         ensures acts { Acts V.disk V.count V.left S.is_seal (ops.Lease key.now path.now) now (acts.Lease path.now) (reply_of result) self.old self.new }
-        ensures exact { IsExact V.disk (ops.Lease key.now path.now) now (reply_of result) self.old self.new }
+        ensures answered { IsAnswered V.disk (ops.Lease key.now path.now) now (reply_of result) self.old self.new }
         ensures same { IsSameRepository self.old.line self.new.line }
         ensures next { self.new.next ≤ self.old.next + 1 }
         ensures path { IsPath path.now }
@@ -265,7 +272,7 @@ impl<V: Vault + Drop, S: Signer + Drop> GateState<V, S> {
         requires now { now < 2 ^ 62 }
         requires next { self.old.next < 18446744073709551615 }
         ensures acts { Acts V.disk V.count V.left S.is_seal (ops.Cancel key.now token) now (acts.Cancel token) (reply_of result) self.old self.new }
-        ensures exact { IsExact V.disk (ops.Cancel key.now token) now (reply_of result) self.old self.new }
+        ensures answered { IsAnswered V.disk (ops.Cancel key.now token) now (reply_of result) self.old self.new }
         ensures failed { result ≢ outcomes.StoreFailed }
         ensures same { self.new.line ≡ self.old.line }
         ensures next { self.new.next ≡ self.old.next }
@@ -278,6 +285,7 @@ impl<V: Vault + Drop, S: Signer + Drop> GateState<V, S> {
     fn send(&mut self, alloc: Global, batch: &[Object]) -> Sent
         requires named { AreNamed batch.now }
         ensures sends { Sends V.disk V.count V.left batch.now self.old result.outcome result.fresh self.new }
+        ensures kind { is_sending (reply_of result.outcome) ≡ true }
         ensures cause { HasCause (V.faults self.old.line.vault) (V.faults self.new.line.vault) (result.outcome ≡ outcomes.StoreFailed) }
     {
         let fresh = match self.line.fresh(alloc, batch) {
@@ -292,6 +300,7 @@ impl<V: Vault + Drop, S: Signer + Drop> GateState<V, S> {
     fn ask_store(&mut self, alloc: Global, key: &Text, token: Token, batch: &[Object]) -> Sent
         requires named { AreNamed batch.now }
         ensures asks { AsksStore V.disk V.count V.left key.now token batch.now self.old result.outcome result.fresh self.new }
+        ensures kind { refusal_on (lease_of token self.old.leases) key.now ≡ None → is_sending (reply_of result.outcome) ≡ true }
         ensures cause { HasCause (V.faults self.old.line.vault) (V.faults self.new.line.vault) (result.outcome ≡ outcomes.StoreFailed) }
     {
         if let Some(outcome) = self.refusal_on(key, token) {
@@ -314,7 +323,7 @@ impl<V: Vault + Drop, S: Signer + Drop> GateState<V, S> {
         requires next { self.old.next < 18446744073709551615 }
         requires named { AreNamed batch.now }
         ensures acts { (digest : _) → Acts V.disk V.count V.left S.is_seal (ops.Store key.now token digest batch.now) now (acts.Store token digest result.fresh) (reply_of result.outcome) self.old self.new }
-        ensures exact { (digest : _) → IsExact V.disk (ops.Store key.now token digest batch.now) now (reply_of result.outcome) self.old self.new }
+        ensures answered { (digest : _) → IsAnswered V.disk (ops.Store key.now token digest batch.now) now (reply_of result.outcome) self.old self.new }
         ensures same { IsSameRepository self.old.line self.new.line }
         ensures next { self.new.next ≡ self.old.next }
         ensures cause { HasCause (V.faults self.old.line.vault) (V.faults self.new.line.vault) (result.outcome ≡ outcomes.StoreFailed) }

@@ -4,11 +4,11 @@ ghost use Rattle.cv_base.specs.Counts.{HasCause};
 ghost use Rattle.cv_ports.specs.Shelf.{Suits};
 ghost use Rattle.cv_ports.specs.declared.shelf.ShelfFault.TheVariants.{Failed};
 ghost use Rattle.cv_gate.specs.State.{State};
-ghost use Rattle.cv_gate.specs.Step.{IsOp};
+ghost use Rattle.cv_gate.specs.Step.{IsOp, Run};
 ghost use Rattle.cv_gate.specs.Desk.{asked, listed, fetched, told};
 ghost use Rattle.cv_gate.specs.declared.reply.Reply.TheVariants.{StoreFailed};
 ghost use Rattle.cv_desk.specs.Gate.{StandsFor};
-ghost use Rattle.cv_desk.specs.OneDesk.{Stands, DoesCalls, first_view};
+ghost use Rattle.cv_desk.specs.OneDesk.{Stands, DoesCalls, view_since, first_view};
 
 use crate::gate::Gate;
 use cv_base::{Bytes, Name, NoMemory, ObjectId};
@@ -43,10 +43,11 @@ impl<V: Vault + Drop, S: Signer + Drop> Model for OneDesk<V, S> {
 }
 
 impl<V: Vault + Drop, S: Signer + Drop> OneDesk<V, S> {
-    /// Over a gate. Where that stands for a state and nothing was asked of it yet, the desk may be seen at the beginning of
-    /// the state.
+    /// Over a gate. Where that stands for a state to which its journal runs from the state with which it was opened, the desk
+    /// may be seen as having seen the journal; where nothing was asked of the gate yet, at the beginning of the state.
     pub fn new(gate: Gate<V, S>, name: Name) -> OneDesk<V, S>
         ensures desk { result ≡ record { gate = gate; name = name; head = gate.state.line.head } }
+        ensures since { (start st : State) → Run start gate.journal st → StandsFor V.disk S.is_seal gate.state st → Stands V.disk S.is_seal result (view_since start gate.journal st) }
         ensures stands { (st : State) → gate.journal ≡ [] → StandsFor V.disk S.is_seal gate.state st → Stands V.disk S.is_seal result (first_view st) }
     {
         let head = gate.head();

@@ -7,8 +7,8 @@ ghost use Rattle.cv_gate.specs.declared.op.Op.TheVariants as ops;
 ghost use Rattle.cv_gate.specs.declared.reply.Reply.TheVariants as replies;
 ghost use Rattle.cv_leases.specs.Leases.{lease_of};
 ghost use Rattle.cv_swap.specs.declared.stage.Stage.TheVariants as stage;
-ghost use Rattle.cv_desk.specs.Gate.{IsSameRepository, IsExact};
-ghost use Rattle.cv_desk.specs.Acting.{Acts, reply_of};
+ghost use Rattle.cv_desk.specs.Gate.{IsSameRepository};
+ghost use Rattle.cv_desk.specs.Acting.{Acts, IsAnswered, reply_of};
 ghost use Rattle.cv_desk.specs.Committing.{Finishes, CommitsUnder, AsksCommit};
 ghost use Rattle.cv_desk.specs.declared.outcome.Outcome.TheVariants as outcomes;
 
@@ -121,7 +121,7 @@ impl<V: Vault + Drop, S: Signer + Drop> GateState<V, S> {
         requires key { is_key_id key.now ≡ true }
         requires tag { is_tag tag.now ≡ true }
         ensures acts { Acts V.disk V.count V.left S.is_seal (ops.Commit key.now token old_root.now offered tag.now) now (acts.Commit token old_root.now offered tag.now) result self.old self.new }
-        ensures exact { IsExact V.disk (ops.Commit key.now token old_root.now offered tag.now) now result self.old self.new }
+        ensures answered { IsAnswered V.disk (ops.Commit key.now token old_root.now offered tag.now) now result self.old self.new }
         ensures same { IsSameRepository self.old.line self.new.line }
         ensures next { self.new.next ≡ self.old.next }
         ensures cause { HasCause (V.faults self.old.line.vault) (V.faults self.new.line.vault) (result ≡ replies.StoreFailed) }

@@ -7,7 +7,7 @@ use cv_base::{Name, RepoPath, Text, Token};
 use cv_gate::{Op, Reply};
 use cv_seal::KeyedHash;
 use cv_swap::Line;
-use cv_vault::MemoryVault;
+use cv_vault::{MemoryVault, Vault};
 use std::alloc::Global;
 use std::test::Fail;
 
@@ -45,6 +45,23 @@ pub(crate) fn made(alloc: Global) -> Result<TestGate, Fail> {
     match Line::init(vault, alloc, &name(alloc)?, &signer, START) {
         Ok(vault) => open(alloc, vault),
         Err(_) => Err(Fail::new("not made")),
+    }
+}
+
+/// The name of the first revision's root catalogue.
+const ROOT_NAME: &str = "data/30/7aac20fe5391faacd0ea38f9589fb797a3685cC";
+
+/// The gate of a repository that is made in an empty vault, and opened where its root catalogue has these bytes, or is gone.
+pub(crate) fn over_root(alloc: Global, bytes: Option<&[u8]>) -> Result<TestGate, Fail> {
+    let mut vault = made(alloc)?.into_vault();
+    let changed = match bytes {
+        Some(bytes) => vault.write(ROOT_NAME, bytes).is_ok(),
+        None => matches!(vault.remove(ROOT_NAME), Ok(true)),
+    };
+    if changed {
+        open(alloc, vault)
+    } else {
+        Err(Fail::new("not changed"))
     }
 }
 

@@ -2,7 +2,7 @@
 ghost use Rattle.std.specs.Prelude.{◌≡◌, true, IfOk};
 ghost use Rattle.cv_gate.specs.Step.{IsOp, is_key_id};
 
-use crate::test_gates::{FIRST_LEASE, START, TestGate, ask, lease, made};
+use crate::test_gates::{FIRST_LEASE, START, TestGate, ask, lease, made, over_root};
 use cv_base::Text;
 use cv_gate::{Op, Reply};
 use std::alloc::Global;
@@ -43,6 +43,25 @@ fn a_lease_is_live_until_its_deadline(rt: HostRuntime) -> Result<(), Fail> {
     assert!(rt; has_live(&mut gate, 7199, 1)?);
     assert!(rt; has_live(&mut gate, 7200, 0)?);
     assert!(rt; has_entries(gate, 1));
+    Ok(())
+}
+
+/// The SHA-1 of `other`, by sha1sum.
+const OTHER: [u8; 20] = [
+    208, 148, 30, 104, 218, 143, 56, 21, 31, 248, 106, 97, 252, 89, 247, 197, 207, 159, 202, 162,
+];
+
+/// What a gate says to asking for a lease below a directory, where its root catalogue has these bytes, or is gone.
+fn leased_over(alloc: Global, bytes: Option<&[u8]>) -> Result<Reply, Fail> {
+    let mut gate = over_root(alloc, bytes)?;
+    Ok(ask(&mut gate, 0, START, lease(alloc, "/n/m")?))
+}
+
+#[test]
+fn a_lease_needs_a_root_that_is_read(rt: HostRuntime) -> Result<(), Fail> {
+    let damaged = leased_over(rt.alloc(), Some(b"other"))?;
+    assert!(rt; matches!(damaged, Reply::Damaged { found, .. } if found == OTHER));
+    assert!(rt; matches!(leased_over(rt.alloc(), None)?, Reply::NoMemory));
     Ok(())
 }
 

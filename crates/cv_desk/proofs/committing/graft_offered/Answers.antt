@@ -1,4 +1,4 @@
-use Rattle.std.proofs.Common.{ap, subst, ◌∙◌, Ok, Err}
+use Rattle.std.proofs.Common.{◌≡◌, true, ap, subst, ◌∙◌, Ok, Err}
 use Rattle.std.specs.Option.{option_map}
 use Rattle.cv_vault.proofs.Laws.{quiet_same}
 use Rattle.cv_graft.specs.Way.{TellsDamage}
@@ -7,7 +7,9 @@ use Rattle.cv_manifest.specs.declared.head.Head.{Head}
 use Rattle.cv_objects.specs.Names.{standing_on}
 use Rattle.cv_desk.specs.Acting.{reply_of}
 use Rattle.cv_desk.specs.Committing.{Offers, meaningless}
-use Rattle.cv_desk.proofs.CommitCalls.{grafts_there, graft_unfit}
+use Rattle.cv_desk.specs.Refusals.{is_unmade}
+use Rattle.cv_desk.proofs.CommitCalls.{grafts_there, graft_unfit, if_err}
+use Rattle.cv_desk.proofs.CommitExact.{unmade_told}
 use Rattle.cv_desk.proofs.committing.graft_offered.Goals as goal
 
 pub returns-in-Err-clause-grafts : goal.returns-in-Err-clause-grafts
@@ -29,3 +31,9 @@ returns-in-Err-graft-clause-grafts g c = λ d told.
     (grafts_there g.V.Vault.disk g.V.Vault.count g.V.Vault.left c.args.line.now c.judge.new.line c.judge.ensures.reads c.head.result.root (ap (λ (h : Head). h.root) c.head.ensures.newest)
     c.args.offered.now.hash c.args.path.now c.graft.result (Err c.in-Err-graft.fault) c.in-Err-graft.is c.graft.ensures.told d told)
     (subst (TellsDamage (standing_on d) {X = Grafted}) c.in-Err-graft.is (c.graft.ensures.damaged (standing_on d) (ap (option_map standing_on) (quiet_same c.judge.ensures.reads.0 ∙ told))))
+
+pub returns-in-Err-clause-kind : goal.returns-in-Err-clause-kind
+returns-in-Err-clause-kind g c = ap is_unmade c.of.ensures ∙ if_err (λ o. is_unmade (reply_of o) ≡ true) c.judge.result c.in-Err.outcome c.in-Err.is c.judge.ensures.kind
+
+pub returns-in-Err-graft-clause-kind : goal.returns-in-Err-graft-clause-kind
+returns-in-Err-graft-clause-kind g c = unmade_told c.in-Err-graft.fault c.of_graft.result c.of_graft.ensures

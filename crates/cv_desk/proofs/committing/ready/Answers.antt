@@ -1,17 +1,17 @@
-use Rattle.std.proofs.Common.{ap, subst, ◌∙◌, inr, rules}
+use Rattle.std.proofs.Common.{◌≡◌, true, ap, subst, ◌∙◌, inr, rules}
 use Rattle.cv_objects.specs.Names.{standing_on}
 use Rattle.cv_swap.specs.Line.{LineView}
-use Rattle.cv_desk.specs.Acting.{reply_of}
+use Rattle.cv_desk.specs.Refusals.{reply_of, is_unmade}
 use Rattle.cv_desk.specs.Committing.{GraftsOffered, unmade, outside}
-use Rattle.cv_desk.proofs.CommitCalls.{if_ok, on_err, readied, refused}
+use Rattle.cv_desk.proofs.CommitCalls.{if_ok, if_err, on_err, readied, refused}
 use Rattle.cv_desk.proofs.committing.ready.Goals as goal
 
 pub returns-in-Err-clause-readies : goal.returns-in-Err-clause-readies
-returns-in-Err-clause-readies g c = unmade c.in-Err.answer c.graft_offered.ensures.reads
+returns-in-Err-clause-readies g c = unmade c.in-Err.answer (if_err (λ r. is_unmade r ≡ true) c.graft_offered.result c.in-Err.answer c.in-Err.is c.graft_offered.ensures.kind) c.graft_offered.ensures.reads
     (λ d told. subst (GraftsOffered (standing_on d) c.args.line.now.head.root c.args.offered c.args.lease.now.path) c.in-Err.is (c.graft_offered.ensures.grafts d told))
 
 pub returns-in_default-clause-readies : goal.returns-in_default-clause-readies
-returns-in_default-clause-readies g c = unmade c.of.result c.graft_offered.ensures.reads (λ d told. outside (inr c.of.ensures))
+returns-in_default-clause-readies g c = unmade c.of.result (ap is_unmade c.of.ensures) c.graft_offered.ensures.reads (λ d told. outside (inr c.of.ensures))
 
 pub returns-in-Ok-prepare-clause-readies : goal.returns-in-Ok-prepare-clause-readies
 returns-in-Ok-prepare-clause-readies g c = readied g.V.Vault.disk g.V.Vault.count g.V.Vault.left g.S.Signer.is_seal c.args.lease.now c.args.key.now c.args.moment c.args.offered c.args.tag.now c.args.line.now c.graft_offered.new.line c.prepare.new.self

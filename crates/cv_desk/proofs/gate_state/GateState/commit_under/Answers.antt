@@ -19,6 +19,10 @@ pub invariant_of-self : goal.invariant_of-self
 invariant_of-self g c = state_same (record { line = c.self.inside.line; leases = c.self.inside.leases; moment = c.self.inside.moment; next = c.self.inside.next }) _ c.self.invariant refl refl refl
     (readies_same g.V.Vault.disk g.V.Vault.count g.V.Vault.left g.S.Signer.is_seal c.in-Some.lease.now c.args.key.now c.self.inside.moment c.args.offered c.args.tag.now c.self.inside.line c.ready.new.line c.ready.result c.ready.ensures.readies).epoch_
 
+pub invariant_of-self-in-Err : goal.invariant_of-self-in-Err
+invariant_of-self-in-Err g c = state_same (record { line = c.self.inside.line; leases = c.self.inside.leases; moment = c.self.inside.moment; next = c.self.inside.next }) _ c.self.invariant refl refl refl
+    (readies_same g.V.Vault.disk g.V.Vault.count g.V.Vault.left g.S.Signer.is_seal c.in-Some.lease.now c.args.key.now c.self.inside.moment c.args.offered c.args.tag.now c.self.inside.line c.ready.new.line c.ready.result c.ready.ensures.readies).epoch_
+
 pub returns-in-Ok-clause-under : goal.returns-in-Ok-clause-under
 returns-in-Ok-clause-under g c = goes_on g.V.Vault.disk g.V.Vault.count g.V.Vault.left g.S.Signer.is_seal c.args.self.now c.self.inside.line c.self.inside.leases c.self.inside.moment c.self.inside.next c.self.view_is c.args.token c.in-Some.lease.now
     (sym c.find.ensures ∙ ap option_copied c.in-Some.is) c.args.key.now c.args.old_root.now c.args.offered c.args.tag.now

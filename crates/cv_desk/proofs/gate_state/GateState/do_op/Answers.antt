@@ -17,4 +17,4 @@ returns-in-Store-clause-done g c =
     let next : c.store-sent.new.self.next ≤ c.args.self.now.next + 1 = (let n = c.store-sent.ensures.next in omega (arith, n)) in
     subst (λ o. IsDone g.V.Vault.disk g.V.Vault.count g.V.Vault.left g.S.Signer.is_seal o c.args.now (record { key = c.in-Store.key; act = c.store_act.result; answer = c.of-in-Store.result }) c.args.self.now c.store-sent.new.self) (sym is)
     (store_done g.V.Vault.disk g.V.Vault.count g.V.Vault.left g.S.Signer.is_seal c.in-Store.key c.in-Store.digest c.in-Store.token c.as_slice.result.now c.store-sent.result.fresh c.store-sent.result.outcome c.of-in-Store.result c.args.now c.store_act.result c.args.self.now c.store-sent.new.self
-    c.store_act.ensures.digest c.store_act.ensures.act c.of-in-Store.ensures (c.store-sent.ensures.acts c.in-Store.digest) (c.store-sent.ensures.exact c.in-Store.digest) c.store-sent.ensures.same next)
+    c.store_act.ensures.digest c.store_act.ensures.act c.of-in-Store.ensures (c.store-sent.ensures.acts c.in-Store.digest) (c.store-sent.ensures.answered c.in-Store.digest) c.store-sent.ensures.same next)

@@ -1,4 +1,4 @@
-use Rattle.std.proofs.Common.{rules, ◌≡◌, ◌≢◌, [], subst, Ok}
+use Rattle.std.proofs.Common.{rules, length, ◌≡◌, ◌≢◌, [], ap, subst, ◌∙◌, Ok}
 use Rattle.std.specs.Option.{option_map}
 use Rattle.cv_base.specs.Path.{parent}
 use Rattle.cv_base.specs.Told.{WhereTold}
@@ -6,7 +6,9 @@ use Rattle.cv_tree.specs.Tree.{Nodes}
 use Rattle.cv_graft.specs.Graft.{HasWay}
 use Rattle.cv_graft.specs.Way.{Tells}
 use Rattle.cv_objects.specs.Names.{standing_on}
-use Rattle.cv_desk.proofs.Reading.{place_found}
+use Rattle.cv_desk.specs.Refusals.{reply_of, is_unread}
+use Rattle.cv_desk.proofs.Exact.{unread_from}
+use Rattle.cv_desk.proofs.Reading.{place_found, placed_root, placed_below}
 use Rattle.cv_desk.proofs.gate_state.GateState.has_place.Goals as goal
 
 pub returns-in-Ok-directory_at-clause-place : goal.returns-in-Ok-directory_at-clause-place
@@ -18,3 +20,19 @@ returns-in-Ok-directory_at-clause-place g c =
     place_found g.V.Vault.disk c.args.self.now c.args.path.now c.into_parent-parent.result c.head.result.root some above root c.in-Ok-directory_at.there
     (subst (λ v. WhereTold (option_map standing_on (g.V.Vault.disk v)) (λ standing. (t : Nodes) → HasWay standing c.head.result.root t c.into_parent-parent.result → Tells t c.into_parent-parent.result (Ok c.in-Ok-directory_at.there))) vaults
     (subst (λ r. WhereTold (option_map standing_on (g.V.Vault.disk c.self.inside.line.vault)) (λ standing. (t : Nodes) → HasWay standing c.head.result.root t c.into_parent-parent.result → Tells t c.into_parent-parent.result r)) c.in-Ok-directory_at.is c.directory_at.ensures.told))
+
+pub returns-clause-unread : goal.returns-clause-unread
+returns-clause-unread g c = ap (λ o. is_unread (reply_of o)) c.of_load.ensures ∙ unread_from c.in-Err.fault
+
+pub returns-then-is_empty-clause-sees : goal.returns-then-is_empty-clause-sees
+returns-then-is_empty-clause-sees g c =
+    let none : length c.args.path.now ≡ 0 = search rules in
+    λ d told. placed_root (standing_on d) c.args.self.now.line.head.root c.args.path.now none
+
+pub returns-in-Ok-directory_at-clause-sees : goal.returns-in-Ok-directory_at-clause-sees
+returns-in-Ok-directory_at-clause-sees g c =
+    let some : c.args.path.now ≢ [] = search rules in
+    let above : c.into_parent-parent.result ≡ parent c.args.path.now = search rules in
+    let root : c.head.result.root ≡ c.args.self.now.line.head.root = search rules in
+    let vaults : c.self.inside.line.vault ≡ c.args.self.now.line.vault = search rules in
+    placed_below g.V.Vault.disk c.args.self.now c.self.inside.line.vault c.args.path.now c.into_parent-parent.result c.head.result.root some above root vaults c.directory_at.result c.in-Ok-directory_at.there c.in-Ok-directory_at.is c.directory_at.ensures.found

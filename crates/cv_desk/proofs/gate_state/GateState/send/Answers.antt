@@ -1,5 +1,7 @@
-use Rattle.std.proofs.Common.{rules}
-use Rattle.cv_desk.proofs.Sends.{sends_unknown, sends_known}
+use Rattle.std.proofs.Common.{rules, ap, ◌∙◌}
+use Rattle.cv_desk.specs.Refusals.{reply_of, is_sending}
+use Rattle.cv_desk.specs.declared.sent.Sent.{Sent}
+use Rattle.cv_desk.proofs.Sends.{sends_unknown, sends_known, sending_of, sending_by}
 use Rattle.cv_desk.proofs.gate_state.GateState.send.Goals as goal
 
 pub returns-in-Err-clause-sends : goal.returns-in-Err-clause-sends
@@ -9,3 +11,9 @@ returns-in-Err-clause-sends g c = sends_unknown g.V.Vault.disk g.V.Vault.count g
 pub returns-clause-sends : goal.returns-clause-sends
 returns-clause-sends g c = sends_known g.V.Vault.disk g.V.Vault.count g.V.Vault.left c.args.batch.now c.args.self.now c.self.inside.line c.self.inside.leases c.self.inside.moment c.self.inside.next c.self.view_is
     c.fresh.new.self c.store-stored.new.self c.fresh.ensures.others c.store-stored.ensures.others c.fresh.result c.in-Ok.fresh c.in-Ok.is c.fresh.ensures.walks c.store-stored.result c.store-stored.ensures.walks c.by.result c.by.ensures
+
+pub returns-in-Err-clause-kind : goal.returns-in-Err-clause-kind
+returns-in-Err-clause-kind g c = ap (λ (s : Sent). is_sending (reply_of s.outcome)) c.none.ensures ∙ ap (λ o. is_sending (reply_of o)) c.of_store.ensures ∙ sending_of c.in-Err.fault
+
+pub returns-clause-kind : goal.returns-clause-kind
+returns-clause-kind g c = ap (λ (s : Sent). is_sending (reply_of s.outcome)) c.by.ensures ∙ sending_by c.in-Ok.fresh.items c.store-stored.result

@@ -1,6 +1,8 @@
-use Rattle.std.proofs.Common.{rules}
+use Rattle.std.proofs.Common.{rules, refl, ap}
+use Rattle.cv_vault.proofs.Laws.{stand}
+use Rattle.cv_desk.specs.Gate.{StateView}
 use Rattle.cv_desk.proofs.Settling.{settles_calm}
-use Rattle.cv_desk.proofs.Recovering.{recovers_not, recovers_unmade, recovers_made}
+use Rattle.cv_desk.proofs.Recovering.{recovers_over, recovers_not, recovers_unmade, recovers_made}
 use Rattle.cv_desk.proofs.gate_state.GateState.settle.Goals as goal
 
 pub returns-then-not-in_doubt-clause-settles : goal.returns-then-not-in_doubt-clause-settles
@@ -15,3 +17,15 @@ returns-in-Ok-false-clause-settles g c = recovers_unmade g.V.Vault.disk g.V.Vaul
 
 pub returns-in-Err-clause-settles : goal.returns-in-Err-clause-settles
 returns-in-Err-clause-settles g c = recovers_not g.V.Vault.disk g.V.Vault.count g.V.Vault.left g.S.Signer.is_seal c.args.self.now c.self.inside.line c.self.inside.leases c.self.inside.moment c.self.inside.next c.self.view_is (search rules) c.recover.new.self c.recover.result c.recover.ensures.walks c.in-Err.fault c.in-Err.is (search rules)
+
+pub returns-then-not-in_doubt-clause-keeps : goal.returns-then-not-in_doubt-clause-keeps
+returns-then-not-in_doubt-clause-keeps g c = λ d told. stand {E = λ d'. Unit {0}} (g.met.V.Vault.only_now c.args.self.now.line.vault) told tt
+
+pub returns-in-Ok-true-clause-keeps : goal.returns-in-Ok-true-clause-keeps
+returns-in-Ok-true-clause-keeps g c = recovers_over g.V.Vault.disk g.V.Vault.count g.V.Vault.left g.S.Signer.is_seal c.args.self.now c.self.inside.line c.self.inside.leases c.self.inside.moment c.self.inside.next c.self.view_is (search rules) c.recover.new.self c.recover.result c.recover.ensures.walks c.end_newest.new.self.line.vault (ap (λ (s : StateView _ _). s.line.vault) c.end_newest.ensures)
+
+pub returns-in-Ok-false-clause-keeps : goal.returns-in-Ok-false-clause-keeps
+returns-in-Ok-false-clause-keeps g c = recovers_over g.V.Vault.disk g.V.Vault.count g.V.Vault.left g.S.Signer.is_seal c.args.self.now c.self.inside.line c.self.inside.leases c.self.inside.moment c.self.inside.next c.self.view_is (search rules) c.recover.new.self c.recover.result c.recover.ensures.walks _ refl
+
+pub returns-in-Err-clause-keeps : goal.returns-in-Err-clause-keeps
+returns-in-Err-clause-keeps g c = recovers_over g.V.Vault.disk g.V.Vault.count g.V.Vault.left g.S.Signer.is_seal c.args.self.now c.self.inside.line c.self.inside.leases c.self.inside.moment c.self.inside.next c.self.view_is (search rules) c.recover.new.self c.recover.result c.recover.ensures.walks _ refl

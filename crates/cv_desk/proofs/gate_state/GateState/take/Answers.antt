@@ -1,5 +1,6 @@
 use Rattle.std.proofs.Common.{rules, ◌≡◌, ◌∙◌, sym, subst, Ok}
 use Rattle.cv_desk.specs.Acting.{Settles}
+use Rattle.cv_desk.proofs.CommitCalls.{on_ok}
 use Rattle.cv_desk.proofs.Taking.{takes_done, takes_waiting}
 use Rattle.cv_desk.proofs.gate_state.GateState.take.Goals as goal
 
@@ -7,7 +8,7 @@ pub returns-in-Ok-clause-takes : goal.returns-in-Ok-clause-takes
 returns-in-Ok-clause-takes g c =
     let is : c.settle.result ≡ Ok tt = search rules in
     takes_done g.V.Vault.disk g.V.Vault.count g.V.Vault.left g.S.Signer.is_seal c.args.op c.args.now c.do_op.result c.args.self.now c.settle.new.self c.do_op.new.self c.settle.ensures.same c.settle.ensures.next c.requires.next
-    (λ no_doubt. (c.settle.ensures.calm no_doubt).1)
+    (on_ok c.settle.result tt is c.settle.ensures.certain) c.settle.ensures.keeps (λ no_doubt. (c.settle.ensures.calm no_doubt).1)
     (λ st stands. subst (λ r. Settles g.V.Vault.disk g.V.Vault.count g.V.Vault.left g.S.Signer.is_seal c.args.self.now r c.settle.new.self st) is (c.settle.ensures.settles st stands)) c.do_op.ensures.done
 
 pub returns-in-Err-clause-takes : goal.returns-in-Err-clause-takes

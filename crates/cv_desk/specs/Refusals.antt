@@ -1,0 +1,106 @@
+-- Why an op is refused by the leases, the moment and the published revisions alone.
+use Rattle.std.specs.Prelude.{◌-◌, ◌&&◌, ℕ, Bool, true, false, nat_le, bytes_eq, List, [], ◌∷◌, length, if◌then◌else◌}
+use Rattle.std.specs.List.{find, list_any}
+use Rattle.std.specs.declared.option.Option.{Option}
+use Rattle.std.specs.declared.option.Option.TheVariants.{None, Some}
+use Rattle.cv_base.specs.Path.{Path}
+use Rattle.cv_base.specs.Marker.{marker, ends_in}
+use Rattle.cv_history.specs.declared.record.Record.{Record}
+use Rattle.cv_leases.specs.Leases.{lease_limit, busy}
+use Rattle.cv_leases.specs.declared.lease.Lease.{Lease}
+use Rattle.cv_swap.specs.Kept.{revision_limit}
+use Rattle.cv_swap.specs.Line.{LineView, published}
+use Rattle.cv_gate.specs.declared.reply.Reply.{Reply}
+use Rattle.cv_gate.specs.declared.reply.Reply.TheVariants as reply
+use Rattle.cv_desk.specs.declared.outcome.Outcome.{Outcome}
+use Rattle.cv_desk.specs.declared.outcome.Outcome.TheVariants as outcome
+
+abbrev pub reply_of : Outcome → Reply
+reply_of (outcome.Granted token revision root) = reply.Granted token revision root
+reply_of outcome.Stored = reply.Stored
+reply_of (outcome.Committed revision root) = reply.Committed revision root
+reply_of outcome.Cancelled = reply.Cancelled
+reply_of outcome.BadPath = reply.BadPath
+reply_of (outcome.PathBusy token remaining) = reply.PathBusy token remaining
+reply_of outcome.TooManyLeases = reply.TooManyLeases
+reply_of outcome.NoParent = reply.NoParent
+reply_of outcome.InvalidToken = reply.InvalidToken
+reply_of outcome.WrongKey = reply.WrongKey
+reply_of (outcome.Collision id) = reply.Collision id
+reply_of outcome.RevisionsFull = reply.RevisionsFull
+reply_of (outcome.StaleBase revision) = reply.StaleBase revision
+reply_of (outcome.TagTaken revision) = reply.TagTaken revision
+reply_of (outcome.MissingObject id) = reply.MissingObject id
+reply_of (outcome.BadCatalogue id) = reply.BadCatalogue id
+reply_of outcome.StoreFailed = reply.StoreFailed
+reply_of (outcome.Damaged id found) = reply.Damaged id found
+reply_of outcome.NoMemory = reply.NoMemory
+
+-- ---- a lease
+
+-- why a lease on the path isn't granted beside these at a moment, if it isn't
+abbrev pub refusal_beside : Option Lease → List Lease → ℕ → Option Outcome
+refusal_beside (Some lease) leases moment = Some (outcome.PathBusy lease.token (lease.deadline - moment))
+refusal_beside None leases moment = if nat_le lease_limit (length leases) then Some outcome.TooManyLeases else None
+
+abbrev pub refusal_of : List Lease → ℕ → Path → Option Outcome
+refusal_of leases moment path = if ends_in marker path then Some outcome.BadPath else refusal_beside (busy leases path) leases moment
+
+-- why nothing is done on a lease for a key, if it isn't
+abbrev pub refusal_on : Option Lease → List ℕ → Option Outcome
+refusal_on None key = Some outcome.InvalidToken
+refusal_on (Some lease) key = if bytes_eq lease.key key then None else Some outcome.WrongKey
+
+-- ---- what the published revisions say
+
+-- the root is that of a revision from this one on
+abbrev pub has_base : List Record → ℕ → List ℕ → Bool
+has_base records from root = list_any (λ r. nat_le from r.revision && bytes_eq r.root root) records
+
+-- the record that has the tag, unless that is empty
+abbrev pub holder_of : List ℕ → List Record → Option Record
+holder_of [] records = None
+holder_of (b ∷ tag) records = find (λ r. bytes_eq r.tag (b ∷ tag)) records
+
+abbrev pub taken_by : Option Record → Option Outcome
+taken_by None = None
+taken_by (Some r) = Some (outcome.TagTaken r.revision)
+
+-- why they refuse a commit under a lease that was granted at a revision, if they do: the newest of them, and all of them
+abbrev pub opposition_by : ℕ → List Record → ℕ → List ℕ → List ℕ → Option Outcome
+opposition_by newest records from old_root tag =
+    if nat_le revision_limit newest then Some outcome.RevisionsFull else
+    if has_base records from old_root then taken_by (holder_of tag records) else Some (outcome.StaleBase from)
+
+abbrev pub opposition : {V S : Type 0} → LineView V S → ℕ → List ℕ → List ℕ → Option Outcome
+opposition l from old_root tag = opposition_by l.head.revision (published l) from old_root tag
+
+-- ---- replies of ops that nothing refuses so
+
+-- the store failed, bytes are damaged, or memory was wanted
+abbrev pub is_unread : Reply → Bool
+is_unread reply.StoreFailed = true
+is_unread (reply.Damaged id found) = true
+is_unread reply.NoMemory = true
+is_unread other = false
+
+-- objects that are sent are stored, or clash, or aren't read or written
+abbrev pub is_sending : Reply → Bool
+is_sending reply.Stored = true
+is_sending (reply.Collision id) = true
+is_sending reply.StoreFailed = true
+is_sending (reply.Damaged id found) = true
+is_sending reply.NoMemory = true
+is_sending other = false
+
+-- the tree of a commit isn't there, doesn't fit or clashes, or isn't read or written
+abbrev pub is_unmade : Reply → Bool
+is_unmade (reply.MissingObject id) = true
+is_unmade (reply.BadCatalogue id) = true
+is_unmade (reply.PathCollision first second) = true
+is_unmade (reply.CatalogueFull path) = true
+is_unmade (reply.Collision id) = true
+is_unmade reply.StoreFailed = true
+is_unmade (reply.Damaged id found) = true
+is_unmade reply.NoMemory = true
+is_unmade other = false
