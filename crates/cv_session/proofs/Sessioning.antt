@@ -24,7 +24,7 @@ use Rattle.cv_session.specs.Exchanges.Gets.{whole as read_whole, ended as read_e
 use Rattle.cv_session.specs.Requests.{Request, IsRequest, IsBad, Reached, waits, line_text, code_of_fault}
 use Rattle.cv_session.specs.Responses.{Does, unsaid, reply_of}
 use Rattle.cv_session.specs.Responses.{refused as refusal}
-use Rattle.cv_session.specs.Sessions.{Exchange, turns, calls_of, is_last, saying, sayings, IsAnswered, Opened, Ended, by_bytes, full, unread, broken, broken_line, forgotten, silent, IsUpToDate, ReadsUpToDate, Session}
+use Rattle.cv_session.specs.Sessions.{Exchange, turns, calls_of, is_last, saying, sayings, IsAnswered, Opened, IsLast, Ended, by_bytes, full, unread, broken, broken_line, forgotten, silent, IsUpToDate, ReadsUpToDate, Session}
 use Rattle.cv_session.specs.Sessions.Comes.{request as next_request, fault as next_fault}
 use Rattle.cv_session.specs.Standing.{Standing, Made}
 use Rattle.cv_session.specs.declared.response.Response.{Response}
@@ -220,12 +220,12 @@ module _ {K : Type 0} {does : K → List Call → K → Type 0} {repository : Li
     said_last : (e : Exchange) (taken'' : Option (List ℕ)) → taken'' ≡ onto taken' (saying e) → taken'' ≡ onto taken (sayings (s.exchanges ++ e ∷ []) ++ line_text false)
     said_last e taken'' took = said_one e taken'' took ∙ ap (onto taken) (sym (append-nil (sayings (s.exchanges ++ e ∷ []))))
 
-    pub ends_clean : {held : List ℕ} {taken'' : Option (List ℕ)} → later ≡ [] → taken'' ≡ taken' → Session does repository keys seal Fit b held taken taken'' before after Clean
-    ends_clean {taken'' = taken''} none same =
+    pub ends_clean : {held : List ℕ} {taken'' : Option (List ℕ)} → later ≡ [] → held ≡ later → taken'' ≡ taken' → Session does repository keys seal Fit b held taken taken'' before after Clean
+    ends_clean {taken'' = taken''} none still same =
         ends_here
         (by_bytes false Clean taken''
         (record { first = turns s.exchanges; rest = later; final = []; split = sym (append-nil (turns s.exchanges)); opens = s.opened.opens; ends_ = clean none })
-        s.opened.open_ (said_line false taken'' (same ∙ onto_nothing taken')))
+        (still ∙ none) s.opened.open_ (said_line false taken'' (same ∙ onto_nothing taken')))
 
     -- a fault is answered
     module _ (none : HasNone does) (why : HttpFault) (code : Code) (is_bad : IsBad later why) (has_code : code_of_fault why ≡ Some code) where
@@ -242,6 +242,7 @@ module _ {K : Type 0} {does : K → List Call → K → Type 0} {repository : Li
             opens = s.opened.opens;
             ends_ = asked_refused why code is_bad has_code;
           })
+          tt
           (all_push IsGoing s.exchanges (refusing_one code) s.opened.open_ refl) (said_last (refusing_one code) taken'' took))
 
       breaks_refusing : {held : List ℕ} (taken'' : Option (List ℕ)) → Wrote taken' taken'' (reply_of (Fixed code) true) → Session does repository keys seal Fit b held taken taken'' before after WriteFault
@@ -278,7 +279,7 @@ module _ {K : Type 0} {does : K → List Call → K → Type 0} {repository : Li
           opens = s.opened.opens;
           ends_ = cut line (subst (IsWhy later line) here is);
         })
-        s.opened.open_ (said_line line taken2 (stays ∙ took)))
+        tt s.opened.open_ (said_line line taken2 (stays ∙ took)))
     by_fault_end none why line taken1 taken2 _ reached is took (not_read same stays) =
         let here : why ≡ Unread_ = cc in
         ends_here (unread later line taken2 s.opened (subst (IsWhy later line) here is) (said_line line taken2 (stays ∙ took)))
@@ -302,6 +303,17 @@ module _ {K : Type 0} {does : K → List Call → K → Type 0} {repository : Li
     ends_by none {taken1 = taken1} {taken2 = taken2} {end = end} (fault why line reached is took) by = by_fault_end none why line taken1 taken2 end reached is took by
     ends_by none {taken1 = taken1} {taken2 = taken2} {end = end} (line_unsaid reached took) by = by_line_end taken1 taken2 end reached took by
 
+    -- the exchange of the request that comes next is the last
+    last_one : {held : List ℕ} (t : Turned) → IsNext repository keys (length s.exchanges + 1) later t held → (e : Exchange) → e.asked ≡ t → IsLast repository keys seal b (s.exchanges ++ e ∷ []) held
+    last_one {held} t next e same = record {
+      first = s.exchanges;
+      last_ = e;
+      split = refl;
+      rest = later;
+      opened = s.opened;
+      next = subst (λ (x : Turned). IsNext repository keys (length s.exchanges + 1) later x held) (sym same) next;
+    }
+
     -- one request more
     module _ {held : List ℕ} (t : Turned) (next : IsNext repository keys (length s.exchanges + 1) later t held) {taken1 : Option (List ℕ)} (took_line : taken1 ≡ onto taken' (line_text t.waited)) {after' : Standing K} where
       nothing_said : {taken2 : Option (List ℕ)} → Does does repository seal t.what None after after' → taken2 ≡ taken1 → Session does repository keys seal Fit b held taken taken2 before after' NoMemory
@@ -319,7 +331,7 @@ module _ {K : Type 0} {does : K → List Call → K → Type 0} {repository : Li
         -- the reply was said
         pub whole_comes : (end : Option SessionEnd) (taken2 : Option (List ℕ)) → end ≡ end_after answer t.last
             → taken2 ≡ onto taken1 (reply_of answer (is_some end)) → ComesOut does repository keys seal Fit b held taken before (count + 1) taken2 after' end
-        unfolding one
+        unfolding one last_one
         whole_comes None taken2 end_is took =
             let goes = goes_of (is_full answer) t.last end_is in
             let count = turns_count s.exchanges in
@@ -346,7 +358,7 @@ module _ {K : Type 0} {does : K → List Call → K → Type 0} {repository : Li
             elim (end_of (is_full answer) t.last end end_is) [
               | inl is ↦
                   subst (λ (x : SessionEnd). Session does repository keys seal Fit b held taken taken2 before after' x) (sym is.1)
-                  (ends_with_one one d.answers d.made (full s.exchanges one later taken2 refl s.opened next is.0 (said_one one taken2 said)))
+                  (ends_with_one one d.answers d.made (full (last_one t next one refl) taken2 is.0 (said_one one taken2 said)))
               | inr is ↦
                   subst (λ (x : SessionEnd). Session does repository keys seal Fit b held taken taken2 before after' x) (sym is.2)
                   (ends_with_one one d.answers d.made
@@ -359,6 +371,7 @@ module _ {K : Type 0} {does : K → List Call → K → Type 0} {repository : Li
                     opens = s.opened.opens;
                     ends_ = closed t held (subst (λ k. IsNext repository keys k later t held) (ap (λ n. n + 1) (sym (turns_count s.exchanges))) next) is.1;
                   })
+                  (last_one t next one refl)
                   (all_push IsGoing s.exchanges one s.opened.open_ is.0) (said_last one taken2 said)))
             ]
 
@@ -369,7 +382,7 @@ module _ {K : Type 0} {does : K → List Call → K → Type 0} {repository : Li
             let closes : is_some (end_after answer t.last) ≡ is_last one = sym (last_of (is_full answer) t.last) in
             let took_reply = subst (λ (l : Bool). Wrote taken1 taken2 (reply_of answer l)) closes took in
             ends_beside d.calls d.made
-            (broken one later taken2 s.opened (next_request held next) d.answers
+            (broken one later taken2 s.opened (next_request next) d.answers
             (subst (λ (o : Option (List ℕ)). Wrote o taken2 (saying one)) s.said (wrote_back taken' (line_text t.waited) took_line took_reply)))
 
       -- what comes of the request
@@ -436,7 +449,7 @@ module _ {R : Type 0} (left : R → Option (List ℕ)) (looks : R → Look → T
 module _ {K : Type 0} {does : K → List Call → K → Type 0} {repository name : List ℕ} {keys : List Key} {seal : List ℕ → List ℕ} {Fit : List Exchange → Type 0} {b later held : List ℕ} {taken : Option (List ℕ)} {before : Standing K} {count : ℕ}
     {taken' : Option (List ℕ)} {after : Standing K} (none : HasNone does) (follows : HasMore does) (grows : Grows Fit) (s : SoFar does repository keys seal Fit b later taken before count taken' after) (named : name ≡ repository) where
   pub clean_end : {taken1 : Option (List ℕ)} → Gets name keys later held taken' taken1 (Ok None) → Session does repository keys seal Fit b held taken taken1 before after Clean
-  clean_end (read_end is still same) = ends_clean follows grows s is same
+  clean_end (read_end is still same) = ends_clean follows grows s is still same
 
   pub other_end : {taken1 taken2 : Option (List ℕ)} {why : Unread} {end : SessionEnd} → Gets name keys later held taken' taken1 (Err why)
       → EndsBy why taken1 taken2 end → Session does repository keys seal Fit b held taken taken2 before after end

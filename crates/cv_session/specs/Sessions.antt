@@ -16,7 +16,7 @@ use Rattle.cv_session.specs.Responses.{Answers, reply_of}
 use Rattle.cv_session.specs.Standing.{Standing, Made}
 use Rattle.cv_session.specs.declared.response.Response.{Response}
 use Rattle.cv_session.specs.declared.session_end.SessionEnd.{SessionEnd}
-use Rattle.cv_session.specs.declared.session_end.SessionEnd.TheVariants.{ReadFault, WriteFault, JournalFull, NoMemory}
+use Rattle.cv_session.specs.declared.session_end.SessionEnd.TheVariants.{Clean, Closed, ReadFault, WriteFault, JournalFull, NoMemory}
 
 -- what was asked, what the desk was asked for it and answered, and the answer
 pub record Exchange : Type 0 where
@@ -46,10 +46,10 @@ module _ (repository : List ℕ) (keys : List Key) (seal : List ℕ → List ℕ
   abbrev pub IsAnswered : Exchange → Type 0
   IsAnswered e = Answers repository seal e.asked.what e.calls (Some e.answer)
 
-  -- behind so many requests this turn comes next
-  pub data Comes (count : ℕ) (rest : List ℕ) (t : Turned) : Type 0 where
-    request : (later : List ℕ) → IsNext repository keys (count + 1) rest t later → Comes count rest t
-    fault : (why : HttpFault) (code : Code) → IsBad rest why → code_of_fault why ≡ Some code → t ≡ refusing code → Comes count rest t
+  -- behind so many requests this turn comes next, and behind a request these bytes
+  pub data Comes (count : ℕ) (rest : List ℕ) (t : Turned) (later : List ℕ) : Type 0 where
+    request : IsNext repository keys (count + 1) rest t later → Comes count rest t later
+    fault : (why : HttpFault) (code : Code) → IsBad rest why → code_of_fault why ≡ Some code → t ≡ refusing code → Comes count rest t later
 
   module _ (b : List ℕ) where
     -- b begins by asking for these exchanges, none of which ended the session, and then this is left
@@ -57,19 +57,33 @@ module _ (repository : List ℕ) (keys : List Key) (seal : List ℕ → List ℕ
       pub opens : Opens repository keys 0 b (turns es) rest
       pub open_ : AllByRecursion (λ e. is_full e.answer ≡ false) es
 
+    -- b begins by asking for the first of these exchanges, and then for the last, and then come these bytes
+    pub record IsLast (es : List Exchange) (later : List ℕ) : Type 0 where
+      pub first : List Exchange
+      pub last_ : Exchange
+      pub split : es ≡ first ++ last_ ∷ []
+      pub rest : List ℕ
+      pub opened : Opened first rest
+      pub next : IsNext repository keys (length first + 1) rest last_.asked later
+
+    -- what is still held where the session ended by the bytes: nothing at the end of the input, and what follows the last request
+    abbrev pub Holds : List Exchange → List ℕ → SessionEnd → Type 0
+    Holds es held Clean = held ≡ []
+    Holds es held Closed = IsLast es held
+    Holds es held other = Unit {0}
+
     -- how a session ended over the bytes read, of which these are still held: what was said whole in these exchanges, what the desk
     -- was asked besides, and what the sink took
     pub data Ended (held : List ℕ) (taken : Option (List ℕ)) (es : List Exchange) : List Call → Option (List ℕ) → SessionEnd → Type 0 where
       -- by the bytes
-      by_bytes : (line : Bool) (end : SessionEnd) (taken' : Option (List ℕ)) → IsAsked repository keys b (turns es) line end → AllByRecursion (λ e. is_full e.answer ≡ false) es
+      by_bytes : (line : Bool) (end : SessionEnd) (taken' : Option (List ℕ)) → IsAsked repository keys b (turns es) line end → Holds es held end → AllByRecursion (λ e. is_full e.answer ≡ false) es
           → taken' ≡ onto taken (sayings es ++ line_text line) → Ended held taken es [] taken' end
       -- by the last reply, that the journal is full
-      full : (first : List Exchange) (e : Exchange) (rest : List ℕ) (taken' : Option (List ℕ)) → es ≡ first ++ e ∷ [] → Opened first rest
-          → IsNext repository keys (length first + 1) rest e.asked held → is_full e.answer ≡ true → taken' ≡ onto taken (sayings es) → Ended held taken es [] taken' JournalFull
+      full : (last : IsLast es held) (taken' : Option (List ℕ)) → is_full last.last_.answer ≡ true → taken' ≡ onto taken (sayings es) → Ended held taken es [] taken' JournalFull
       -- the source failed where more bytes were waited for: all that was whole was answered, and nothing then
       unread : (rest : List ℕ) (line : Bool) (taken' : Option (List ℕ)) → Opened es rest → Awaits rest line → taken' ≡ onto taken (sayings es ++ line_text line) → Ended held taken es [] taken' ReadFault
       -- the sink failed in a reply: all before was answered, and no further turn was taken
-      broken : (e : Exchange) (rest : List ℕ) (taken' : Option (List ℕ)) → Opened es rest → Comes (length es) rest e.asked → IsAnswered e
+      broken : (e : Exchange) (rest : List ℕ) (taken' : Option (List ℕ)) → Opened es rest → Comes (length es) rest e.asked held → IsAnswered e
           → Wrote (onto taken (sayings es)) taken' (saying e) → Ended held taken es e.calls taken' WriteFault
       -- the sink failed in the line that asks for a body
       broken_line : (rest : List ℕ) (taken' : Option (List ℕ)) → Opened es rest → Reached rest true → Wrote (onto taken (sayings es)) taken' continue_line → Ended held taken es [] taken' WriteFault
