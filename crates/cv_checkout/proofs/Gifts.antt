@@ -1,0 +1,139 @@
+-- What a gift answers, by its steps.
+use Rattle.std.proofs.Common.{◌≡◌, ◌↔◌, ◌⊎◌, inl, inr, ℕ, List, [], ◌∷◌, ◌++◌, refl, sym, ap, subst, ◌∙◌}
+use Rattle.std.specs.Prelude.{Contains, IsErrOf, OnOk, option_to_list}
+use Rattle.std.specs.List.{AllZip}
+use Rattle.std.specs.declared.option.Option.{Option}
+use Rattle.std.specs.declared.option.Option.TheVariants.{None, Some}
+use Rattle.std.specs.declared.result.Result.{Result}
+use Rattle.std.specs.declared.result.Result.TheVariants.{Ok, Err}
+use Rattle.sha1.specs.Sha1.{sha1}
+use Rattle.cv_base.specs.declared.id.ObjectId.{ObjectId}
+use Rattle.cv_tree.specs.Tree.{Nodes}
+use Rattle.cv_rows.specs.Catalogue.{Contents}
+use Rattle.cv_cut.specs.Catalogues.{contents_of}
+use Rattle.cv_cut.specs.Own.{AreOwn}
+use Rattle.cv_cut.proofs.Lemmas.{first_there}
+use Rattle.cv_checkout.specs.Wanting.{IsNamed, Suits, id_of, next_of, toward}
+use Rattle.cv_checkout.specs.Progress.{Progress, ComesTo}
+use Rattle.cv_checkout.specs.Giving.{Gives, IsOther, IsUnsuited}
+use Rattle.cv_checkout.specs.Opening.{IsServed, Opens}
+use Rattle.cv_checkout.specs.InTree.{IsOn}
+use Rattle.cv_checkout.specs.declared.wanted.Wanted.{Wanted}
+use Rattle.cv_checkout.specs.declared.fault.CheckoutFault.{CheckoutFault}
+use Rattle.cv_checkout.specs.declared.fault.CheckoutFault.TheVariants as fault
+use Rattle.cv_checkout.proofs.Coming.{comes_on, own_bytes, suited}
+
+-- ---- in a tree
+
+pub gives_on : (t : Nodes) (s new : Progress) (given : Option (List ℕ)) (r : Result (Unit {0}) CheckoutFault) → Gives s given new r → IsOn t s → AreOwn t (option_to_list given) → OnOk r (IsOn t new)
+gives_on t s new given (Ok done) g on own = comes_on t s new g.0 on (subst (λ (x : Option (List ℕ)). AreOwn t (option_to_list x)) g.1 own) g.2
+gives_on t s new given (Err f) g on own = tt
+
+pub gives_good : (t : Nodes) (s new : Progress) (given : Option (List ℕ)) (id : ObjectId) (r : Result (Unit {0}) CheckoutFault) → Gives s given new r → IsOn t s → AreOwn t (option_to_list given) → IsErrOf r (fault.BadCatalogue id) → ⊥
+gives_good t s new given id r g on own bad =
+    let u = (subst (Gives s given new) bad g).1 in
+    let wanted = on.wants u.first (subst (λ (ws : List Wanted). Contains ws u.first) (sym u.is) (first_there u.first u.rest)) in
+    let same = own_bytes t s.path u.first u.bytes wanted (subst (λ (x : Option (List ℕ)). AreOwn t (option_to_list x)) u.gives own) u.digest in
+    u.none (contents_of t u.first.path) (suited t s.path u.first u.bytes wanted same)
+
+-- ---- the steps
+
+module _ (s new : Progress) (given : Option (List ℕ)) (first : Wanted) (rest : List Wanted) (is : s.wanted ≡ first ∷ rest) where
+  next_is : next_of s.wanted ≡ Some (id_of first)
+  next_is = ap next_of is
+
+  pub gives_unserved : (id : ObjectId) (f : CheckoutFault) → id ≡ id_of first → IsServed id given (Err f) → Gives s given new (Err f)
+  gives_unserved id (fault.NotServed x) same h = (next_is ∙ ap Some (sym same ∙ sym h.0), h.1)
+  gives_unserved id (fault.BadObject x found) same h = (next_is ∙ ap Some (sym same ∙ sym h.0), record { bytes = h.1.bytes; is = h.1.is; digest = h.1.digest; differs = λ e. h.1.differs (e ∙ ap (λ (y : ObjectId). y.hash) h.0) })
+  gives_unserved id (fault.BadCatalogue x) same h = absurd h
+  gives_unserved id fault.NoMemory same h = absurd h
+
+  module _ (bytes : List ℕ) (gives : given ≡ Some bytes) (digest : sha1 bytes ≡ first.hash) where
+    pub gives_no_memory : Gives s given new (Err fault.NoMemory)
+    gives_no_memory = (id_of first, next_is, record { bytes = bytes; is = gives; digest = digest })
+
+    pub gives_unopened : (f : CheckoutFault) → Opens first bytes (Err f) → Gives s given new (Err f)
+    gives_unopened (fault.NotServed x) h = absurd h
+    gives_unopened (fault.BadObject x found) h = absurd h
+    gives_unopened (fault.BadCatalogue x) h = (next_is ∙ ap Some (sym h.0), record { first = first; rest = rest; is = is; bytes = bytes; gives = gives; digest = digest; none = h.1 })
+    gives_unopened fault.NoMemory h = gives_no_memory
+
+    pub gives_all : (c : Contents) (named : List Wanted) (tree : Option Nodes) → Suits first bytes c → AllZip (IsNamed c) (toward s.path c) named → ComesTo s.path c s.tree tree
+        → new ≡ record { path = s.path; wanted = named ++ rest; objects = s.objects ++ record { id = id_of first; bytes = bytes } ∷ []; tree = tree } → Gives s given new (Ok (tt {0}))
+    gives_all c named tree suits names comes new-is = (
+      bytes,
+      gives,
+      record {
+        first = first;
+        rest = rest;
+        is = is;
+        digest = digest;
+        contents = c;
+        suits = suits;
+        named = named;
+        names = names;
+        wanted_is = ap (λ (x : Progress). x.wanted) new-is;
+        path_is = ap (λ (x : Progress). x.path) new-is;
+        objects_are = ap (λ (x : Progress). x.objects) new-is;
+        comes = subst (λ (x : Option Nodes). ComesTo s.path c s.tree x) (sym (ap (λ (x : Progress). x.tree) new-is)) comes;
+      },
+    )
+
+-- ---- what each fault tells
+
+not_both : (given : Option (List ℕ)) (bytes : List ℕ) → given ≡ Some bytes → given ≡ None → ⊥
+not_both given bytes some none = let wrong : Some bytes ≡ None = sym some ∙ none in cc
+
+one_gift : (given : Option (List ℕ)) (a b : List ℕ) → given ≡ Some a → given ≡ Some b → a ≡ b
+one_gift given a b is was = let same : Some a ≡ Some b = sym is ∙ was in cc
+
+one_id : (o : Option ObjectId) (a b : ObjectId) → o ≡ Some a → o ≡ Some b → a ≡ b
+one_id o a b is was = let same : Some a ≡ Some b = sym is ∙ was in cc
+
+-- bytes of the digest aren't bytes of another
+not_other : (given : Option (List ℕ)) (id : ObjectId) (found bytes : List ℕ) → given ≡ Some bytes → sha1 bytes ≡ id.hash → IsOther id given found → ⊥
+not_other given id found bytes gives digest o = o.differs (o.digest ∙ ap sha1 (one_gift given o.bytes bytes o.is gives) ∙ digest)
+
+one_first : (ws : List Wanted) (a b : Wanted) (as_ bs : List Wanted) → ws ≡ a ∷ as_ → ws ≡ b ∷ bs → a ≡ b
+one_first ws a b as_ bs is was = let same : a ∷ as_ ≡ b ∷ bs = sym is ∙ was in cc
+
+module _ (s new : Progress) (given : Option (List ℕ)) (id : ObjectId) (next : next_of s.wanted ≡ Some id) where
+  hash_of_next : (first : Wanted) (rest : List Wanted) → s.wanted ≡ first ∷ rest → first.hash ≡ id.hash
+  hash_of_next first rest is = ap (λ (x : ObjectId). x.hash) (one_id (next_of s.wanted) (id_of first) id (ap next_of is) next)
+
+  none_served : (r : Result (Unit {0}) CheckoutFault) → Gives s given new r → given ≡ None → r ≡ Err (fault.NotServed id)
+  none_served (Ok done) g none = absurd (not_both given g.0 g.1 none)
+  none_served (Err (fault.NotServed x)) g none = ap (λ (y : ObjectId). Err (fault.NotServed y)) (one_id (next_of s.wanted) x id g.0 next)
+  none_served (Err (fault.BadObject x found)) g none = absurd (not_both given g.1.bytes g.1.is none)
+  none_served (Err (fault.BadCatalogue x)) g none = absurd (not_both given g.1.bytes g.1.gives none)
+  none_served (Err fault.NoMemory) g none = absurd (not_both given g.2.bytes g.2.is none)
+
+  other_found : (found : List ℕ) (r : Result (Unit {0}) CheckoutFault) → Gives s given new r → IsOther id given found → r ≡ Err (fault.BadObject id found)
+  other_found found (Ok done) g o = absurd (not_other given id found g.0 g.1 (g.2.digest ∙ hash_of_next g.2.first g.2.rest g.2.is) o)
+  other_found found (Err (fault.NotServed x)) g o = absurd (not_both given o.bytes o.is g.1)
+  other_found found (Err (fault.BadObject x f)) g o =
+      let same : f ≡ found = g.1.digest ∙ ap sha1 (one_gift given g.1.bytes o.bytes g.1.is o.is) ∙ sym o.digest in
+      λ i. Err (fault.BadObject (one_id (next_of s.wanted) x id g.0 next i) (same i))
+  other_found found (Err (fault.BadCatalogue x)) g o = absurd (not_other given id found g.1.bytes g.1.gives (g.1.digest ∙ hash_of_next g.1.first g.1.rest g.1.is) o)
+  other_found found (Err fault.NoMemory) g o =
+      absurd (not_other given id found g.2.bytes g.2.is (g.2.digest ∙ ap (λ (x : ObjectId). x.hash) (one_id (next_of s.wanted) g.0 id g.1 next)) o)
+
+  pub served_not : (r : Result (Unit {0}) CheckoutFault) → Gives s given new r → IsErrOf r (fault.NotServed id) ↔ (given ≡ None)
+  served_not r g = (λ h. (subst (Gives s given new) h g).1, none_served r g)
+
+  pub object_bad : (found : List ℕ) (r : Result (Unit {0}) CheckoutFault) → Gives s given new r → IsErrOf r (fault.BadObject id found) ↔ IsOther id given found
+  object_bad found r g = (λ h. (subst (Gives s given new) h g).1, other_found found r g)
+
+  -- where bytes suit no catalogue, that or want of memory is answered
+  pub unsuited_told : (r : Result (Unit {0}) CheckoutFault) → Gives s given new r → IsUnsuited s given → IsErrOf r (fault.BadCatalogue id) ⊎ IsErrOf r fault.NoMemory
+  unsuited_told (Ok done) g u = absurd (u.none g.2.contents (subst (λ (w : Wanted). Suits w u.bytes g.2.contents) (one_first s.wanted g.2.first u.first g.2.rest u.rest g.2.is u.is)
+      (subst (λ (b : List ℕ). Suits g.2.first b g.2.contents) (one_gift given g.0 u.bytes g.1 u.gives) g.2.suits)))
+  unsuited_told (Err (fault.NotServed x)) g u = absurd (not_both given u.bytes u.gives g.1)
+  unsuited_told (Err (fault.BadObject x found)) g u =
+      let same = one_id (next_of s.wanted) x id g.0 next in
+      absurd (not_other given id found u.bytes u.gives (u.digest ∙ hash_of_next u.first u.rest u.is) (subst (λ (y : ObjectId). IsOther y given found) same g.1))
+  unsuited_told (Err (fault.BadCatalogue x)) g u = inl (ap (λ (y : ObjectId). Err (fault.BadCatalogue y)) (one_id (next_of s.wanted) x id g.0 next))
+  unsuited_told (Err fault.NoMemory) g u = inr refl
+
+pub catalogue_bad : (s new : Progress) (given : Option (List ℕ)) (id : ObjectId) (r : Result (Unit {0}) CheckoutFault) → Gives s given new r → IsErrOf r (fault.BadCatalogue id) → IsUnsuited s given
+catalogue_bad s new given id r g h = (subst (Gives s given new) h g).1

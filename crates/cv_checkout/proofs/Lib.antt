@@ -1,0 +1,7 @@
+pub mod Zips
+pub mod Covering
+pub mod Coming
+pub mod Counting
+pub mod Ending
+pub mod Steps
+pub mod Gifts
