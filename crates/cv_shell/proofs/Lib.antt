@@ -3,3 +3,5 @@ mod Streams
 mod Reading
 mod Turning
 mod Running
+mod Telling
+pub mod Laws

@@ -1,9 +1,9 @@
 //! The shell over an input and an output.
 ghost use Rattle.std.specs.Prelude.{◌≡◌, ◌≢◌, Some, None, OnOk, IsErr};
-ghost use Rattle.cv_base.specs.Counts.{Rose, HasCause};
+ghost use Rattle.cv_base.specs.Counts.{HasCause};
 ghost use Rattle.cv_ports.specs.Streams.{onto, Wrote};
 ghost use Rattle.cv_http.specs.Wires.{Draws};
-ghost use Rattle.cv_shell.specs.Shells.{unheld, Answered, Shells};
+ghost use Rattle.cv_shell.specs.Shells.{unheld, Answered, ReadsUpToDate, Shells};
 ghost use Rattle.cv_shell.specs.declared.shell_end.ShellEnd.TheVariants.{LinkFailed, InputFailed, OutputFailed};
 
 use crate::lines::Lines;
@@ -40,8 +40,7 @@ fn serve_line<N: Dial, S: Signer, W: Sink>(
         (W.taken output.old) (W.taken output.new) result }
     ensures flushed { result ≢ Some OutputFailed → W.passed output.old ≡ W.taken output.old → W.passed output.new ≡ W.taken output.new }
     ensures writes { HasCause (W.faults output.old) (W.faults output.new) (result ≡ Some OutputFailed) }
-    ensures later { Rose 0 (N.faults dial.old) (N.faults dial.new) }
-    ensures link { result ≡ Some LinkFailed → Rose 1 (N.faults dial.old) (N.faults dial.new) }
+    ensures links { HasCause (N.faults dial.old) (N.faults dial.new) (result ≡ Some LinkFailed) }
 {
     let text = match answer_line(alloc, dial, url, signer, resolver, line) {
         Ok(text) => text,
@@ -64,13 +63,13 @@ fn serve_lines<N: Dial, S: Signer, R: Source + Drop, W: Sink>(
     output: &mut W,
 ) -> ShellEnd
     ensures shells { Draws R.left R.given lines.old lines.new (λ b.
-        Shells (S.is_seal signer.now) url.now (R.left lines.new.source) b (N.came dial.old) (N.came dial.new) resolver.old resolver.new
-        (W.taken output.old) (W.taken output.new) result) }
+        Shells (S.is_seal signer.now) url.now
+        (ReadsUpToDate (S.is_seal signer.now) url.now R.left R.looks lines.old lines.new (N.came dial.old) resolver.old (W.taken output.old) (W.passed output.old))
+        (R.left lines.new.source) b (N.came dial.old) (N.came dial.new) resolver.old resolver.new (W.taken output.old) (W.taken output.new) result) }
     ensures flushed { result ≢ OutputFailed → W.passed output.old ≡ W.taken output.old → W.passed output.new ≡ W.taken output.new }
     ensures reads { HasCause (R.faults lines.old.source) (R.faults lines.new.source) (result ≡ InputFailed) }
     ensures writes { HasCause (W.faults output.old) (W.faults output.new) (result ≡ OutputFailed) }
-    ensures later { Rose 0 (N.faults dial.old) (N.faults dial.new) }
-    ensures link { result ≡ LinkFailed → Rose 1 (N.faults dial.old) (N.faults dial.new) }
+    ensures links { HasCause (N.faults dial.old) (N.faults dial.new) (result ≡ LinkFailed) }
 {
     'turns: for _ in 0..u64::MAX {
         let line = match lines.next_line(alloc, output) {
@@ -100,16 +99,17 @@ pub fn shell<N: Dial, S: Signer, R: Source + Drop, W: Sink>(
     input: R,
     output: &mut W,
 ) -> (ShellEnd, R)
+    // Each line is answered, and its text passed on, before more of the input is read.
     ensures shells { Draws R.left R.given (unheld input) (unheld result.1) (λ b.
-        Shells (S.is_seal signer.now) url.now (R.left result.1) b (N.came dial.old) (N.came dial.new) resolver.old resolver.new
-        (W.taken output.old) (W.taken output.new) result.0) }
+        Shells (S.is_seal signer.now) url.now
+        (ReadsUpToDate (S.is_seal signer.now) url.now R.left R.looks (unheld input) (unheld result.1) (N.came dial.old) resolver.old (W.taken output.old) (W.passed output.old))
+        (R.left result.1) b (N.came dial.old) (N.came dial.new) resolver.old resolver.new (W.taken output.old) (W.taken output.new) result.0) }
 
     // Where the output didn't fail, all that it took is passed on.
     ensures flushed { result.0 ≢ OutputFailed → W.passed output.old ≡ W.taken output.old → W.passed output.new ≡ W.taken output.new }
     ensures reads { HasCause (R.faults input) (R.faults result.1) (result.0 ≡ InputFailed) }
     ensures writes { HasCause (W.faults output.old) (W.faults output.new) (result.0 ≡ OutputFailed) }
-    ensures later { Rose 0 (N.faults dial.old) (N.faults dial.new) }
-    ensures link { result.0 ≡ LinkFailed → Rose 1 (N.faults dial.old) (N.faults dial.new) }
+    ensures links { HasCause (N.faults dial.old) (N.faults dial.new) (result.0 ≡ LinkFailed) }
 {
     let mut lines = Lines::new(alloc, input);
     let end = serve_lines(alloc, dial, url, signer, resolver, &mut lines, output);

@@ -1,36 +1,78 @@
 -- Words that ask for a command.
-use Rattle.std.proofs.Common.{◌≡◌, ℕ, List, [], ◌∷◌, sym, ◌∙◌}
-use Rattle.std.specs.Prelude.{codes}
+use Rattle.std.proofs.Common.{◌≡◌, ℕ, true, false, List, [], ◌∷◌, refl, sym, ◌∙◌, ap, bytes_eq}
+use Rattle.std.proofs.lemmas.Slice.Eq.{bytes_eq-Decides}
+use Rattle.std.specs.Prelude.{codes, Some}
 use Rattle.cv_resolver.specs.declared.question.Question.{Question}
+use Rattle.cv_resolver.specs.declared.question.Question.TheVariants as question
 use Rattle.cv_client.specs.declared.url.Url.{Url}
-use Rattle.cv_top.specs.Words.{Asks, init, stdio, ls, stat, cat}
-use Rattle.cv_top.specs.declared.words.Command.TheVariants.{Init, Stdio, Look}
+use Rattle.cv_top.specs.Words.{values_of, Means, Asks, init, stdio, ls, stat, cat, shell}
+use Rattle.cv_top.specs.declared.words.Command.{Command}
+use Rattle.cv_top.specs.declared.words.Command.TheVariants.{Init, Stdio, Look, Shell}
 
--- words ask for one command
-pub not_both : (words : List (List ℕ)) (name other : List ℕ) → Asks words (Init name) → Asks words (Stdio other) → ⊥
-not_both words name other (init n is t) (stdio m also u) = (let e : codes "init" ∷ name ∷ [] ≡ codes "stdio" ∷ other ∷ [] = sym is ∙ also in absurd cc)
+-- the word of a command
+abbrev word_of : Command → List ℕ
+word_of (Init name) = codes "init"
+word_of (Stdio name) = codes "stdio"
+word_of (Look u (question.List p)) = codes "ls"
+word_of (Look u (question.Stat p)) = codes "stat"
+word_of (Look u (question.Read p)) = codes "cat"
+word_of (Shell u) = codes "shell"
 
-pub one_name : (words : List (List ℕ)) (name other : List ℕ) → Asks words (Stdio name) → Asks words (Stdio other) → name ≡ other
-one_name words name other (stdio n is t) (stdio m also u) = (let e : codes "stdio" ∷ name ∷ [] ≡ codes "stdio" ∷ other ∷ [] = sym is ∙ also in cc)
+means_word : {verb : List ℕ} {values : List (List ℕ)} (c : Command) → Means verb values c → verb ≡ word_of c
+means_word c (init name is are good) = is
+means_word c (stdio name is are good) = is
+means_word c (ls url path u p is are place) = is
+means_word c (stat url path u p is are place) = is
+means_word c (cat url path u p is are place) = is
+means_word c (shell url u is are good) = is
 
--- two words aren't three
-two_or_three : (words : List (List ℕ)) (a b x y z : List ℕ) → words ≡ a ∷ b ∷ [] → words ≡ x ∷ y ∷ z ∷ [] → ⊥
-two_or_three words a b x y z two three = (let e : a ∷ b ∷ [] ≡ x ∷ y ∷ z ∷ [] = sym two ∙ three in absurd cc)
+named : (name : List ℕ) {verb : List ℕ} {values : List (List ℕ)} → Means verb values (Stdio name) → values ≡ name ∷ []
+named name (stdio n is are good) = are
 
--- a question has three words
-record HasThree (words : List (List ℕ)) : Type 0 where
-  verb : List ℕ
-  url : List ℕ
-  path : List ℕ
-  are : words ≡ verb ∷ url ∷ path ∷ []
+-- two words that aren't the same
+apart : (a b : List ℕ) → bytes_eq a b ≡ false → a ≡ b → ⊥
+apart a b differ same = (let e : true ≡ false = sym ((bytes_eq-Decides a b).1 same) ∙ differ in absurd cc)
 
-has_three : (words : List (List ℕ)) (u : Url) (q : Question) → Asks words (Look u q) → HasThree words
-has_three words u q (ls url path v p are place) = record { verb = codes "ls"; url = url; path = path; are = are }
-has_three words u q (stat url path v p are place) = record { verb = codes "stat"; url = url; path = path; are = are }
-has_three words u q (cat url path v p are place) = record { verb = codes "cat"; url = url; path = path; are = are }
+module _ {words : List (List ℕ)} where
+  one_word : (c d : Command) → Asks words c → Asks words d → word_of c ≡ word_of d
+  one_word c d a b =
+      let both : a.verb ∷ a.rest ≡ b.verb ∷ b.rest = sym a.split ∙ b.split in
+      let verbs : a.verb ≡ b.verb = cc in
+      sym (means_word c a.means) ∙ verbs ∙ means_word d b.means
 
-pub no_init : (words : List (List ℕ)) (name : List ℕ) (u : Url) (q : Question) → Asks words (Look u q) → Asks words (Init name) → ⊥
-no_init words name u q looks (init n is t) = (let h = has_three words u q looks in two_or_three words (codes "init") name h.verb h.url h.path is h.are)
+  one_list : (c d : Command) (a : Asks words c) (b : Asks words d) → a.values ≡ b.values
+  one_list c d a b =
+      let both : a.verb ∷ a.rest ≡ b.verb ∷ b.rest = sym a.split ∙ b.split in
+      let rests : a.rest ≡ b.rest = cc in
+      let values : Some a.values ≡ Some b.values = sym a.are ∙ ap values_of rests ∙ b.are in
+      cc
 
-pub no_stdio : (words : List (List ℕ)) (name : List ℕ) (u : Url) (q : Question) → Asks words (Look u q) → Asks words (Stdio name) → ⊥
-no_stdio words name u q looks (stdio n is t) = (let h = has_three words u q looks in two_or_three words (codes "stdio") name h.verb h.url h.path is h.are)
+  -- words ask for one command
+  pub not_both : (name other : List ℕ) → Asks words (Init name) → Asks words (Stdio other) → ⊥
+  not_both name other a b = apart (codes "init") (codes "stdio") refl (one_word (Init name) (Stdio other) a b)
+
+  pub one_name : (name other : List ℕ) → Asks words (Stdio name) → Asks words (Stdio other) → name ≡ other
+  one_name name other a b =
+      let e : name ∷ [] ≡ other ∷ [] = sym (named name a.means) ∙ one_list (Stdio name) (Stdio other) a b ∙ named other b.means in
+      cc
+
+  pub no_init : (u : Url) (q : Question) (name : List ℕ) → Asks words (Look u q) → Asks words (Init name) → ⊥
+  no_init u (question.List p) name a b = apart (codes "ls") (codes "init") refl (one_word (Look u (question.List p)) (Init name) a b)
+  no_init u (question.Stat p) name a b = apart (codes "stat") (codes "init") refl (one_word (Look u (question.Stat p)) (Init name) a b)
+  no_init u (question.Read p) name a b = apart (codes "cat") (codes "init") refl (one_word (Look u (question.Read p)) (Init name) a b)
+
+  pub no_stdio : (u : Url) (q : Question) (name : List ℕ) → Asks words (Look u q) → Asks words (Stdio name) → ⊥
+  no_stdio u (question.List p) name a b = apart (codes "ls") (codes "stdio") refl (one_word (Look u (question.List p)) (Stdio name) a b)
+  no_stdio u (question.Stat p) name a b = apart (codes "stat") (codes "stdio") refl (one_word (Look u (question.Stat p)) (Stdio name) a b)
+  no_stdio u (question.Read p) name a b = apart (codes "cat") (codes "stdio") refl (one_word (Look u (question.Read p)) (Stdio name) a b)
+
+  pub no_shell : (u v : Url) (q : Question) → Asks words (Look u q) → Asks words (Shell v) → ⊥
+  no_shell u v (question.List p) a b = apart (codes "ls") (codes "shell") refl (one_word (Look u (question.List p)) (Shell v) a b)
+  no_shell u v (question.Stat p) a b = apart (codes "stat") (codes "shell") refl (one_word (Look u (question.Stat p)) (Shell v) a b)
+  no_shell u v (question.Read p) a b = apart (codes "cat") (codes "shell") refl (one_word (Look u (question.Read p)) (Shell v) a b)
+
+  pub no_shell_init : (u : Url) (name : List ℕ) → Asks words (Shell u) → Asks words (Init name) → ⊥
+  no_shell_init u name a b = apart (codes "shell") (codes "init") refl (one_word (Shell u) (Init name) a b)
+
+  pub no_shell_stdio : (u : Url) (name : List ℕ) → Asks words (Shell u) → Asks words (Stdio name) → ⊥
+  no_shell_stdio u name a b = apart (codes "shell") (codes "stdio") refl (one_word (Shell u) (Stdio name) a b)

@@ -19,14 +19,14 @@ use Rattle.cv_session.specs.declared.session_end.SessionEnd.TheVariants as sessi
 use Rattle.cv_desk.specs.Gate.{GateOpens}
 use Rattle.cv_top.specs.Complete.{Completes, IsVacant, ends_served, ends_made}
 use Rattle.cv_client.specs.Exchange.{Links}
-use Rattle.cv_top.specs.Runs.{Outside, Runs, Serves, Inits, HasKeys, usage, bad_keys, no_seal, unbegun, init, stdio, look, ended, unopened, made, unsaid, refused}
+use Rattle.cv_top.specs.Runs.{Outside, Runs, Serves, Inits, HasKeys, usage, bad_keys, no_seal, unbegun, init, stdio, look, shell, ended, unopened, made, unsaid, refused}
 use Rattle.cv_top.specs.Seal.{is_seal_by}
 use Rattle.cv_top.specs.Status.{init_status, open_status, end_status}
 use Rattle.cv_top.specs.Words.{Asks}
 use Rattle.cv_top.specs.declared.status.Status.{Status}
 use Rattle.cv_top.specs.declared.status.Status.TheVariants.{InputFailed, OutputFailed, StoreFailed}
 use Rattle.cv_top.specs.declared.words.Command.TheVariants.{Init, Stdio}
-use Rattle.cv_top.proofs.Commands.{not_both, one_name, no_init, no_stdio}
+use Rattle.cv_top.proofs.Commands.{not_both, one_name, no_init, no_stdio, no_shell_init, no_shell_stdio}
 use Rattle.cv_top.proofs.Unserved.{RefusesFew}
 
 -- no failure of the outside is the status
@@ -84,20 +84,22 @@ module _ {V : Type 0} (disk : V → Option Disk) (count : V → ℕ) (left : V �
     serves came status fine (bad_keys other asked fault same) name asks has some d k told kept = (let e : Ok has.0 ≡ Err fault.fault = sym has.1 ∙ fault.is in absurd cc)
     serves came status fine (no_seal command asked good empty same) name asks has some d k told kept = absurd (some empty)
     serves came status fine (unbegun same) name asks has some d k told kept = refl
-    serves came status fine (init other how asked good inits same near) name asks has some d k told kept = absurd (not_both words other name asked asks)
-    serves came status fine (look u q how asked good looked same) name asks has some d k told kept = absurd (no_stdio words name u q asked asks)
+    serves came status fine (init other how asked good inits same near) name asks has some d k told kept = absurd (not_both other name asked asks)
+    serves came status fine (look u q how asked good looked same) name asks has some d k told kept = absurd (no_stdio u q name asked asks)
+    serves came status fine (shell u how asked good answers same) name asks has some d k told kept = absurd (no_shell_stdio u name asked asks)
     serves came status fine (stdio other table how asked are good served near) name asks has some d k told kept =
-        let is : other ≡ name = one_name words other name asked asks in
+        let is : other ≡ name = one_name other name asked asks in
         served_ends other table how d k told (subst (λ n. StandsKept n (is_seal_by seal) (files_now d) k) (sym is) kept) served fine
 
     makes : (came : N → Links) (status : Status) → Unfailed status → Runs disk count left faults rest looks taken passed moments came words keys seal a b status → (name : List ℕ) → Asks words (Init name) → seal ≢ [] → (d : Disk) → disk a.vault ≡ Some d → IsVacant d → ends_made status ≡ true
     makes came status fine (usage never same) name asks some d told vacant = absurd (never (record { command = Init name; asks = asks }))
-    makes came status fine (bad_keys other asked fault same) name asks some d told vacant = absurd (not_both words name other asks asked)
+    makes came status fine (bad_keys other asked fault same) name asks some d told vacant = absurd (not_both name other asks asked)
     makes came status fine (no_seal command asked good empty same) name asks some d told vacant = absurd (some empty)
     makes came status fine (unbegun same) name asks some d told vacant = refl
     makes came status fine (init other how asked good inits same near) name asks some d told vacant = made_ends other how d told vacant inits fine
-    makes came status fine (look u q how asked good looked same) name asks some d told vacant = absurd (no_init words name u q asked asks)
-    makes came status fine (stdio other table how asked are good served near) name asks some d told vacant = absurd (not_both words name other asks asked)
+    makes came status fine (look u q how asked good looked same) name asks some d told vacant = absurd (no_init u q name asked asks)
+    makes came status fine (shell u how asked good answers same) name asks some d told vacant = absurd (no_shell_init u name asked asks)
+    makes came status fine (stdio other table how asked are good served near) name asks some d told vacant = absurd (not_both name other asks asked)
 
     pub completes : (came : N → Links) (status : Status) → Unfailed status → Runs disk count left faults rest looks taken passed moments came words keys seal a b status → Completes words keys seal (disk a.vault) status
     completes came status fine ran = record { serves = serves came status fine ran; makes = makes came status fine ran }

@@ -2,8 +2,11 @@ mod Commands
 mod Completing
 mod Headlines
 mod KeyFaults
+mod LineTelling
+mod Pinning
 mod Saying
 mod Sealing
 mod Serving
 mod Telling
 mod Unserved
+mod Values

@@ -9,12 +9,13 @@ use Rattle.cv_vault.specs.Disk.{Disk, Files}
 use Rattle.cv_resolver.specs.declared.question.Question.{Question}
 use Rattle.cv_client.specs.Exchange.{Links}
 use Rattle.cv_client.specs.declared.url.Url.{Url}
+use Rattle.cv_top.specs.Lines.{AnswersLines}
 use Rattle.cv_top.specs.Looks.{Looks}
-use Rattle.cv_top.specs.Runs.{Runs, Inits, Serves, outside, no_seal, unbegun as begun_not, init, stdio, look}
+use Rattle.cv_top.specs.Runs.{Runs, Inits, Serves, outside, no_seal, unbegun as begun_not, init, stdio, look, shell}
 use Rattle.cv_top.specs.Sealed.{Sealed, empty, unbegun, begun}
 use Rattle.cv_top.specs.Words.{Asks}
 use Rattle.cv_top.specs.declared.status.Status.{Status}
-use Rattle.cv_top.specs.declared.words.Command.TheVariants.{Init, Stdio, Look as Looking}
+use Rattle.cv_top.specs.declared.words.Command.TheVariants.{Init, Stdio, Look as Looking, Shell as Shelling}
 
 module _ {V : Type 0} (disk : V → Option Disk) (count : V → ℕ) (left : V → ℕ → Files → Type 0)
     {R W C N : Type 0} (faults : V → ℕ) (rest : R → Option (List ℕ)) (looks : R → Look → Type 0) (taken passed : W → Option (List ℕ)) (moments : C → Option (ℕ → ℕ)) (came : N → Links)
@@ -38,3 +39,10 @@ module _ {V : Type 0} (disk : V → Option Disk) (count : V → ℕ) (left : V �
   runs_look n' status u q asks (empty none same) = no_seal (Looking u q) asks tt none (λ k. outside v i (same.0 k) c (same.1 k))
   runs_look n' status u q asks (unbegun same) = begun_not (λ k. outside v i (same.0 k) c (same.1 k))
   runs_look n' status u q asks (begun s some looked) = look u q s asks some looked refl
+
+  pub runs_shell : (i' : R) (n' : N) (status : Status) (u : Url) → Asks words (Shelling u)
+      → Sealed seal ((i' ≡ i) × (o' ≡ o) × (n' ≡ n)) (AnswersLines rest looks taken passed seal u (came n) (came n') i i' o o') status
+      → Runs disk count left faults rest looks taken passed moments came words keys seal (outside v i o c n) (outside v i' o' c n') status
+  runs_shell i' n' status u asks (empty none same) = no_seal (Shelling u) asks tt none (λ k. outside v (same.0 k) (same.1 k) c (same.2 k))
+  runs_shell i' n' status u asks (unbegun same) = begun_not (λ k. outside v (same.0 k) (same.1 k) c (same.2 k))
+  runs_shell i' n' status u asks (begun s some answers) = shell u s asks some answers refl

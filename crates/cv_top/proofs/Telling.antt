@@ -8,41 +8,35 @@ use Rattle.cv_ports.specs.Streams.{Look}
 use Rattle.cv_vault.specs.Disk.{Disk, Files}
 use Rattle.cv_tree.specs.Tree.{Nodes}
 use Rattle.cv_manifest.specs.declared.manifest.Manifest.{Manifest}
-use Rattle.cv_manifest.specs.declared.manifest_fault.ManifestFault.{ManifestFault}
-use Rattle.cv_manifest.specs.declared.manifest_fault.ManifestFault.TheVariants as manifest_fault
 use Rattle.cv_resolver.specs.Look.{Finding, IsFound, IsRefused, IsAnswer, look as found_in}
 use Rattle.cv_resolver.specs.Resolver.{Client, IsOn, Asks as IsAsked, answer_in}
 use Rattle.cv_resolver.specs.declared.question.Question.{Question}
 use Rattle.cv_resolver.specs.declared.found.Found.{Found}
 use Rattle.cv_resolver.specs.declared.found.ClientFault.{ClientFault}
 use Rattle.cv_resolver.specs.declared.found.ClientFault.TheVariants as client_fault
-use Rattle.cv_client.specs.Answer.{Given, Comes, Answers, answered as answers, cut, told_by}
+use Rattle.cv_client.specs.Answer.{Given, Comes, Answers, answered as answers, bytes_in, cut, told_by}
 use Rattle.cv_client.specs.Exchange.{Links}
-use Rattle.cv_client.specs.Faults.{lost_by, bad_by}
-use Rattle.cv_client.specs.Pin.{FetchesManifest, Pins, good, bad, absent, lost, pinned as pins, unpinned as never_pinned, no_room, client_at}
+use Rattle.cv_client.specs.Pin.{FetchesManifest, Pins, pinned as pins, client_at}
 use Rattle.cv_client.specs.declared.ask_fault.AskFault.{AskFault}
 use Rattle.cv_client.specs.declared.ask_fault.AskFault.TheVariants as ask_fault
-use Rattle.cv_client.specs.declared.exchanging.ExchangeFault.{ExchangeFault}
 use Rattle.cv_client.specs.declared.exchanging.ExchangeFault.TheVariants as exchange_fault
 use Rattle.cv_client.specs.declared.url.Url.{Url}
+use Rattle.cv_shell.specs.Tells.{IsServed}
 use Rattle.cv_top.specs.Looks.{Told, pinned, unpinned, Prints, printed, unprinted, unwritten, Looks, answered, unanswered}
-use Rattle.cv_top.specs.Runs.{Outside, Runs, usage, bad_keys, no_seal, unbegun, init, stdio, look}
+use Rattle.cv_top.specs.Runs.{Outside, Runs, usage, bad_keys, no_seal, unbegun, init, stdio, look, shell}
 use Rattle.cv_top.specs.Seal.{is_seal_by}
 use Rattle.cv_top.specs.Status.{ask_status}
-use Rattle.cv_top.specs.Tells.{IsQuestion, IsServed, Tells, tells_of_tree, cause_of}
+use Rattle.cv_top.specs.Tells.{IsQuestion, Tells, tells_of_tree, cause_of}
 use Rattle.cv_top.specs.Words.{Asks}
 use Rattle.cv_top.specs.declared.client_fault.LookFault.{LookFault}
 use Rattle.cv_top.specs.declared.client_fault.LookFault.TheVariants as look_fault
 use Rattle.cv_top.specs.declared.status.Status.{Status}
 use Rattle.cv_top.specs.declared.status.Status.TheVariants.{NoAnswer}
 use Rattle.cv_top.specs.declared.words.Command.TheVariants.{Look as Looking}
-use Rattle.cv_top.proofs.Commands.{no_init, no_stdio}
+use Rattle.cv_top.proofs.Commands.{no_init, no_stdio, no_shell}
+use Rattle.cv_top.proofs.Pinning.{is_refused, never_refused}
 
 -- the answers that tell of the tree
-abbrev is_refused : AskFault → Bool
-is_refused (ask_fault.Refused fault) = true
-is_refused other = false
-
 abbrev tells : Result Found AskFault → Bool
 tells (Ok found) = true
 tells (Err fault) = is_refused fault
@@ -77,9 +71,9 @@ module _ (seal : List ℕ) (u : Url) (q : Question) (before after : Links) where
     comes : Comes u mid start given after end
     answer : Result Found ClientFault
     told : answer_in end.asked ≡ Some answer
-    says : (t : Nodes) → IsServed t manifest given → Says (found_in manifest.name t q) r
+    says : (t : Nodes) → IsServed t manifest (bytes_in given) → Says (found_in manifest.name t q) r
 
-  on_tree : (t : Nodes) (m : Manifest) (given : Given) → IsServed t m given → IsOn t (client_at m)
+  on_tree : (t : Nodes) (m : Manifest) (given : Given) → IsServed t m (bytes_in given) → IsOn t (client_at m)
   on_tree t m given is = record {
     tree = is.tree;
     fits = is.fits;
@@ -107,42 +101,13 @@ module _ (seal : List ℕ) (u : Url) (q : Question) (before after : Links) where
   ground_of mid m client' r fetched (cut start given at id exchange_fault.BadReply asks comes wants ends stays) spoken = absurd cc
   ground_of mid m client' r fetched (cut start given at id exchange_fault.NoMemory asks comes wants ends stays) spoken = absurd cc
 
-  silent : (fault : AskFault) → is_refused fault ≡ false → (other : AskFault) → fault ≡ other → is_refused other ≡ false
-  silent fault none other is = sym (ap is_refused is) ∙ none
-
-  lost_silent : (fault : ExchangeFault) → is_refused (lost_by fault) ≡ false
-  lost_silent exchange_fault.LinkFailed = refl
-  lost_silent exchange_fault.BadReply = refl
-  lost_silent exchange_fault.NoMemory = refl
-
-  bad_silent : (fault : ManifestFault) → is_refused (bad_by fault) ≡ false
-  bad_silent manifest_fault.NoEnd = refl
-  bad_silent (manifest_fault.BadLine place) = refl
-  bad_silent (manifest_fault.Missing letter) = refl
-  bad_silent (manifest_fault.Repeated letter) = refl
-  bad_silent (manifest_fault.HashDiffers stated computed) = refl
-  bad_silent manifest_fault.BadSeal = refl
-  bad_silent manifest_fault.NoMemory = refl
-
-  -- the manifest alone refuses no question
-  unfetched : {before' after' : Links} (r : Result Manifest AskFault) → FetchesManifest (is_seal_by seal) u before' after' r → (fault : AskFault) → r ≡ Err fault → is_refused fault ≡ false
-  unfetched r (good text m fetches says) fault is = absurd cc
-  unfetched r (bad text why fetches shows) fault is = silent (bad_by why) (bad_silent why) fault cc
-  unfetched r (absent fetches) fault is = silent ask_fault.BadReply refl fault cc
-  unfetched r (lost why fetches) fault is = silent (lost_by why) (lost_silent why) fault cc
-
-  unpinned_silent : {before' after' : Links} (r : Result Client AskFault) → Pins (is_seal_by seal) u before' after' r → (fault : AskFault) → r ≡ Err fault → is_refused fault ≡ false
-  unpinned_silent r (pins m fetched) fault is = absurd cc
-  unpinned_silent r (never_pinned why fetched) fault is = silent why (unfetched (Err why) fetched why refl) fault cc
-  unpinned_silent r (no_room m fetched) fault is = silent ask_fault.NoMemory refl fault cc
-
   ground_pinned : (mid : Links) (client client' : Client) (r : Result Found AskFault) → Pins (is_seal_by seal) u before mid (Ok client) → Answers u q mid after client client' r
       → tells r ≡ true → Ground r
   ground_pinned mid client client' r (pins m fetched) said spoken = ground_of mid m client' r fetched said spoken
 
   ground : (r : Result Found AskFault) → Told seal u q before after r → tells r ≡ true → Ground r
   ground r (pinned mid client client' answer p said) spoken = ground_pinned mid client client' r p said spoken
-  ground r (unpinned fault p) spoken = (let none : is_refused fault ≡ false = unpinned_silent (Err fault) p fault refl in absurd cc)
+  ground r (unpinned fault p) spoken = (let none : is_refused fault ≡ false = never_refused fault p in absurd cc)
 
   -- ---- what is printed, and how the program ends
 
@@ -214,6 +179,7 @@ module _ {V : Type 0} (disk : V → Option Disk) (count : V → ℕ) (left : V �
   tells_truly status (bad_keys name asks has same) asked speaks = absurd cc
   tells_truly status (no_seal command asks has empty same) asked speaks = absurd cc
   tells_truly status (unbegun same) asked speaks = absurd cc
-  tells_truly status (init name how asks some inits same near) asked speaks = absurd (no_init words name asked.url asked.question asked.asks asks)
-  tells_truly status (stdio name table how asks are some serves near) asked speaks = absurd (no_stdio words name asked.url asked.question asked.asks asks)
+  tells_truly status (init name how asks some inits same near) asked speaks = absurd (no_init asked.url asked.question name asked.asks asks)
+  tells_truly status (stdio name table how asks are some serves near) asked speaks = absurd (no_stdio asked.url asked.question name asked.asks asks)
   tells_truly status (look u q how asks some looked same) asked speaks = looks_tell u q status asks looked speaks
+  tells_truly status (shell u how asks some said same) asked speaks = absurd (no_shell asked.url u asked.question asked.asks asks)

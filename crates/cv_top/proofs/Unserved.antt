@@ -26,11 +26,11 @@ use Rattle.cv_gate.proofs.Lemmas.{opened}
 use Rattle.cv_desk.specs.Gate.{GateOpens}
 use Rattle.cv_top.specs.Headline.{OnLine, Remains, KeepsLine, opening}
 use Rattle.cv_client.specs.Exchange.{Links}
-use Rattle.cv_top.specs.Runs.{Outside, Runs, Serves, HasLine, Keeps, usage, bad_keys, no_seal, unbegun, init, stdio, look, ended, unopened, none, talked, calls_in, desk_over}
+use Rattle.cv_top.specs.Runs.{Outside, Runs, Serves, HasLine, Keeps, usage, bad_keys, no_seal, unbegun, init, stdio, look, shell, ended, unopened, none, talked, calls_in, desk_over}
 use Rattle.cv_top.specs.Seal.{is_seal_by}
 use Rattle.cv_top.specs.declared.status.Status.{Status}
 use Rattle.cv_top.specs.declared.words.Command.TheVariants.{Stdio}
-use Rattle.cv_top.proofs.Commands.{not_both, one_name, no_stdio}
+use Rattle.cv_top.proofs.Commands.{not_both, one_name, no_stdio, no_shell_stdio}
 use Rattle.cv_top.proofs.Headlines.{KeepsRaised, now_image, on_line, raised_on_line, same_remains, opening_remains}
 
 -- the law of files that stand for what is kept
@@ -122,8 +122,9 @@ module _ {V : Type 0} (disk : V → Option Disk) (count : V → ℕ) (left : V �
     keeps came status (bad_keys other asked has same) name asks d told k kept = has_none name d k told kept same
     keeps came status (no_seal command asked has empty same) name asks d told k kept = has_none name d k told kept same
     keeps came status (unbegun same) name asks d told k kept = has_none name d k told kept same
-    keeps came status (init other how asked some inits same near) name asks d told k kept = absurd (not_both words other name asked asks)
-    keeps came status (look u q how asked some looked same) name asks d told k kept = absurd (no_stdio words name u q asked asks)
+    keeps came status (init other how asked some inits same near) name asks d told k kept = absurd (not_both other name asked asks)
+    keeps came status (look u q how asked some looked same) name asks d told k kept = absurd (no_stdio u q name asked asks)
+    keeps came status (shell u how asked some answers same) name asks d told k kept = absurd (no_shell_stdio u name asked asks)
     keeps came status (stdio other table how asked are some serves near) name asks d told k kept =
-        let is : other ≡ name = one_name words other name asked asks in
+        let is : other ≡ name = one_name other name asked asks in
         subst (λ n. Has n d k) is (serves_so other table how d k are told (subst (λ n. StandsKept n (is_seal_by seal) (files_now d) k) (sym is) kept) serves)

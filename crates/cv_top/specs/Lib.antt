@@ -1,5 +1,6 @@
 pub mod Complete
 pub mod Headline
+pub mod Lines
 pub mod Looks
 pub mod Runs
 pub mod Seal

@@ -29,6 +29,7 @@ use Rattle.cv_session.specs.Standing.{Gives, standing}
 use Rattle.cv_session.specs.declared.session_end.SessionEnd.{SessionEnd}
 use Rattle.cv_session.specs.declared.session_end.SessionEnd.TheVariants.{Clean, Bad}
 use Rattle.cv_top.specs.Headline.{Lasts, KeepsLine}
+use Rattle.cv_top.specs.Lines.{AnswersLines}
 use Rattle.cv_top.specs.Looks.{Looks}
 use Rattle.cv_top.specs.Seal.{is_seal_by}
 use Rattle.cv_top.specs.Status.{init_status, open_status, end_status}
@@ -36,7 +37,7 @@ use Rattle.cv_top.specs.Words.{Asks, IsCommand}
 use Rattle.cv_top.specs.declared.status.Status.{Status}
 use Rattle.cv_top.specs.declared.status.Status.TheVariants.{Done, Usage, OutputFailed, BadKeys, OutOfMemory}
 use Rattle.cv_top.specs.declared.words.Command.{Command}
-use Rattle.cv_top.specs.declared.words.Command.TheVariants.{Init, Stdio, Look as Looking}
+use Rattle.cv_top.specs.declared.words.Command.TheVariants.{Init, Stdio, Look as Looking, Shell as Shelling}
 
 -- ---- keys
 
@@ -50,6 +51,7 @@ abbrev pub HasKeys : Command → List ℕ → Type 0
 HasKeys (Init name) text = Unit {0}
 HasKeys (Stdio name) text = (keys : List Key) × (keys_of text ≡ Ok keys)
 HasKeys (Looking url question) text = Unit {0}
+HasKeys (Shelling url) text = Unit {0}
 
 -- ---- the outside
 
@@ -168,6 +170,9 @@ module _ {V : Type 0} (disk : V → Option Disk) (count : V → ℕ) (left : V �
         look : (u : Url) (q : Question) (status : Status) → Asks words (Looking u q) → seal ≢ []
             → Looks taken came seal u q before.output after.output before.dial after.dial status
             → after ≡ outside before.vault before.input after.output before.clock after.dial → Runs words keys seal before after status
+        shell : (u : Url) (status : Status) → Asks words (Shelling u) → seal ≢ []
+            → AnswersLines rest looks taken passed seal u (came before.dial) (came after.dial) before.input after.input before.output after.output status
+            → after ≡ outside before.vault after.input after.output before.clock after.dial → Runs words keys seal before after status
 
     -- ---- the headline
 

@@ -13,6 +13,8 @@ use Rattle.cv_resolver.specs.declared.found.ClientFault.{ClientFault}
 use Rattle.cv_resolver.specs.declared.found.ClientFault.TheVariants as client_fault
 use Rattle.cv_client.specs.declared.ask_fault.AskFault.{AskFault}
 use Rattle.cv_client.specs.declared.ask_fault.AskFault.TheVariants as ask_fault
+use Rattle.cv_shell.specs.declared.shell_end.ShellEnd.{ShellEnd}
+use Rattle.cv_shell.specs.declared.shell_end.ShellEnd.TheVariants as shell_end
 use Rattle.cv_top.specs.declared.client_fault.LookFault.{LookFault}
 use Rattle.cv_top.specs.declared.client_fault.LookFault.TheVariants as look
 use Rattle.cv_top.specs.declared.client_fault.ServedFault.{ServedFault}
@@ -154,3 +156,13 @@ ask_status ask_fault.BadReply = BadReply
 ask_status ask_fault.BadManifest = Served served.BadManifest
 ask_status (ask_fault.Refused fault) = refused_status fault
 ask_status ask_fault.NoMemory = OutOfMemory
+
+-- where a shell ended so
+abbrev pub shell_status : ShellEnd → Status
+shell_status shell_end.Ended = Done
+shell_status shell_end.LinkFailed = LinkFailed
+shell_status shell_end.BadReply = BadReply
+shell_status shell_end.TooLong = BadRequest
+shell_status shell_end.InputFailed = InputFailed
+shell_status shell_end.OutputFailed = OutputFailed
+shell_status shell_end.NoMemory = OutOfMemory

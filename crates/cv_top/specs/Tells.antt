@@ -3,10 +3,8 @@ use Rattle.std.specs.Prelude.{◌≡◌, ℕ, Bool, true, false, List, Option, S
 use Rattle.std.specs.declared.result.Result.{Result}
 use Rattle.std.specs.declared.result.Result.TheVariants.{Ok, Err}
 use Rattle.cv_ports.specs.Streams.{onto}
-use Rattle.cv_tree.specs.Tree.{Nodes, IsTree}
-use Rattle.cv_cut.specs.Catalogues.{root_of, Fits}
+use Rattle.cv_tree.specs.Tree.{Nodes}
 use Rattle.cv_manifest.specs.declared.manifest.Manifest.{Manifest}
-use Rattle.cv_resolver.specs.Kept.{AreOwn}
 use Rattle.cv_resolver.specs.Look.{IsFound, look as found_in}
 use Rattle.cv_resolver.specs.Resolver.{Client, Asks as IsAsked, answer_in}
 use Rattle.cv_resolver.specs.declared.question.Question.{Question}
@@ -18,6 +16,7 @@ use Rattle.cv_client.specs.Exchange.{Links}
 use Rattle.cv_client.specs.Pin.{FetchesManifest, client_at}
 use Rattle.cv_client.specs.Texts.{found_text}
 use Rattle.cv_client.specs.declared.url.Url.{Url}
+use Rattle.cv_shell.specs.Tells.{IsServed}
 use Rattle.cv_top.specs.Seal.{is_seal_by}
 use Rattle.cv_top.specs.Words.{Asks}
 use Rattle.cv_top.specs.declared.client_fault.LookFault.{LookFault}
@@ -31,13 +30,6 @@ pub record IsQuestion (words : List (List ℕ)) : Type 0 where
   pub url : Url
   pub question : Question
   pub asks : Asks words (Look url question)
-
--- a tree with the root of a manifest; none of the bytes that were given has the SHA-1 of a catalogue of it and isn't that catalogue
-pub record IsServed (t : Nodes) (m : Manifest) (given : Given) : Type 0 where
-  pub tree : IsTree t
-  pub fits : Fits t
-  pub root : m.head.root ≡ root_of t
-  pub own : AreOwn t (bytes_in given)
 
 -- the statuses that tell of the tree
 abbrev pub tells_of_tree : Status → Bool
@@ -76,4 +68,4 @@ module _ {W : Type 0} (taken : W → Option (List ℕ)) where
     pub comes : Comes url mid start given after end
     pub answer : Result Found ClientFault
     pub told : answer_in end.asked ≡ Some answer
-    pub so : (t : Nodes) → IsServed t manifest given → IsSo manifest.name t question output output' status
+    pub so : (t : Nodes) → IsServed t manifest (bytes_in given) → IsSo manifest.name t question output output' status

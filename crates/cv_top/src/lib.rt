@@ -12,6 +12,9 @@ mod parts;
 mod print;
 mod program;
 mod seal;
+mod shell;
+#[cfg(test)]
+mod shell_tests;
 mod status;
 mod stdio;
 #[cfg(test)]

@@ -1,9 +1,8 @@
 //! Questions to servers in memory. What these reply, what they must be asked and what is printed are by
 //! `tools/look_vectors.py`, and not the program's own.
 
-use crate::test_runs::{Around, Ended, run_on};
+use crate::test_runs::{Around, Ended, link_with, run_on};
 use cv_base::NoMemory;
-use cv_ports::{MemoryLink, MemorySink, MemorySource};
 use cv_vault::MemoryVault;
 use std::alloc::Global;
 use std::test::Fail;
@@ -161,13 +160,6 @@ static LOOKS: [(&str, &str, &[&[u8]], &[u8], &[u8], u8, &str); 14] = [
         "cvkit: link failed\n",
     ),
 ];
-
-/// A link whose peer gives these bytes.
-fn link_with(alloc: Global, reply: &[u8]) -> Result<MemoryLink, NoMemory> {
-    let reads = MemorySource::new(Vec::from_slice(alloc, reply)?, 100, Vec::new(alloc));
-    let writes = MemorySink::new(alloc, 1_000, Vec::new(alloc))?;
-    MemoryLink::new(alloc, reads, writes)
-}
 
 /// How a command ends whose links give these replies, under this seal.
 fn looked(

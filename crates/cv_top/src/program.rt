@@ -3,6 +3,7 @@ ghost use Rattle.std.specs.Prelude.{◌≡◌, ◌≢◌, ◌⊎◌, true, map, 
 ghost use Rattle.cv_base.specs.Counts.{HasCause, Rose};
 ghost use Rattle.cv_ports.specs.Streams.{onto, Wrote};
 ghost use Rattle.cv_top.specs.Complete.{IsSteady, Completes};
+ghost use Rattle.cv_top.specs.Lines.{IsShell, AnswersLines, TellsLines};
 ghost use Rattle.cv_top.specs.Looks.{Looks};
 ghost use Rattle.cv_top.specs.Runs.{Inits, Serves, Keeps, Runs, outside};
 ghost use Rattle.cv_top.specs.Sealed.{Sealed};
@@ -14,6 +15,7 @@ use crate::init::init;
 use crate::look::look;
 use crate::parts::Parts;
 use crate::seal::{Identity, SealFault, read_seal};
+use crate::shell::answer_lines;
 use crate::status::Status;
 use crate::stdio::serve;
 use crate::words::{Command, WordsFault, read_words};
@@ -108,6 +110,31 @@ fn do_look<W: Sink, N: Dial>(
     }
 }
 
+/// Judges the seal, and then answers the lines of the input.
+fn do_shell<R: Source + Drop, W: Sink, N: Dial>(
+    alloc: Global,
+    url: &Url,
+    seal: &str,
+    input: R,
+    output: &mut W,
+    dial: &mut N,
+) -> (Status, R)
+    ensures does { Sealed seal.now ((result.1 ≡ input) × (output.new ≡ output.old) × (dial.new ≡ dial.old))
+        (AnswersLines R.left R.looks W.taken W.passed seal.now url.now (N.came dial.old) (N.came dial.new)
+        input result.1 output.old output.new) result.0 }
+    ensures flushed { result.0 ≢ OutputFailed → W.passed output.old ≡ W.taken output.old → W.passed output.new ≡ W.taken output.new }
+    ensures reads { HasCause (R.faults input) (R.faults result.1) (result.0 ≡ InputFailed) }
+    ensures writes { HasCause (W.faults output.old) (W.faults output.new) (result.0 ≡ OutputFailed) }
+    ensures stores { result.0 ≢ StoreFailed }
+    ensures links { result.0 ≡ LinkFailed → Rose 1 (N.faults dial.old) (N.faults dial.new) }
+{
+    match read_seal(alloc, seal) {
+        Ok(signer) => answer_lines(alloc, url, &signer, input, output, dial),
+        Err(SealFault::Empty) => (Status::BadKeys, input),
+        Err(SealFault::NoMemory) => (Status::OutOfMemory, input),
+    }
+}
+
 /// Does what the words ask for.
 fn do_command<V: Vault + Drop, R: Source + Drop, W: Sink, C: Clock, N: Dial, H: Hold>(
     alloc: Global,
@@ -144,6 +171,10 @@ fn do_command<V: Vault + Drop, R: Source + Drop, W: Sink, C: Clock, N: Dial, H: 
             let status = do_look(alloc, &url, question, seal, output, dial);
             (status, vault, input)
         }
+        Ok(Command::Shell(url)) => {
+            let (status, input) = do_shell(alloc, &url, seal, input, output, dial);
+            (status, vault, input)
+        }
         Err(WordsFault::Usage) => (Status::Usage, vault, input),
         Err(WordsFault::NoMemory) => (Status::OutOfMemory, vault, input),
     }
@@ -167,7 +198,9 @@ fn say<E: Sink>(errors: &mut E, status: Status)
 /// opens it, reads requests (RFC 9112) from the input and answers them on the output: it serves the manifest and the
 /// objects, grants and ends leases on the repository's paths, stores payloads, and makes commits. `ls`, `stat` and `cat`,
 /// each with the URL under which a repository is served and a path, print the names of a directory, a line on an entry, or
-/// the content of a file, as they are in the tree of the manifest that is served.
+/// the content of a file, as they are in the tree of the manifest that is served. `shell`, with a URL, answers the lines of
+/// the input, each of which is such a command with a path alone, or `renew`: all in the tree of the manifest that was served
+/// first, or of the one that the last `renew` took. A line is answered, and the output flushed, before more is read.
 pub fn run<V: Vault + Drop, R: Source + Drop, W: Sink, E: Sink, C: Clock, N: Dial, H: Hold>(
     alloc: Global,
     words: &[String],
@@ -197,6 +230,11 @@ pub fn run<V: Vault + Drop, R: Source + Drop, W: Sink, E: Sink, C: Clock, N: Dia
     // Whatever its links give: what a client's command tells is so in the tree of the head that is served.
     ensures tells { IsQuestion (map string_bytes words.now) → tells_of_tree result.0 ≡ true
         → Tells W.taken (map string_bytes words.now) (string_bytes parts.seal) (N.came parts.dial) (N.came result.1.dial) parts.output result.1.output result.0 }
+
+    // The same of a shell, line by line, in the tree of the head at which its client is pinned.
+    ensures shell { IsShell (map string_bytes words.now)
+        → TellsLines R.left W.taken (map string_bytes words.now) (string_bytes parts.seal) (N.came parts.dial) (N.came result.1.dial)
+        parts.input result.1.input parts.output result.1.output result.0 }
 
     // The line of the status is written whole, unless the sink failed. That changes no status.
     ensures line { (E.taken result.1.errors ≡ onto (E.taken parts.errors) (line_of result.0)) ⊎ Rose 1 (E.faults parts.errors) (E.faults result.1.errors) }

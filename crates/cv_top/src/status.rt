@@ -2,7 +2,7 @@
 ghost use Rattle.std.specs.Prelude.{◌≡◌, [], OnOk, IsErr};
 ghost use Rattle.cv_base.specs.Counts.{HasCause};
 ghost use Rattle.cv_ports.specs.Streams.{onto, Wrote};
-ghost use Rattle.cv_top.specs.Status.{code_of, text_of, what_of, detail_of, said, line_of, keys_status, init_status, open_status, end_status, ask_status, refused_status};
+ghost use Rattle.cv_top.specs.Status.{code_of, text_of, what_of, detail_of, said, line_of, keys_status, init_status, open_status, end_status, ask_status, refused_status, shell_status};
 
 use crate::client_fault::{LookFault, ServedFault};
 use cv_client::AskFault;
@@ -10,6 +10,7 @@ use cv_keys::KeyFault;
 use cv_ports::{Failed, Sink, write_all};
 use cv_resolver::ClientFault;
 use cv_session::SessionEnd;
+use cv_shell::ShellEnd;
 use cv_swap::{InitFault, OpenFault};
 
 /// What is wrong with the files of a repository.
@@ -58,7 +59,7 @@ impl RepositoryFault {
 #[derive(Clone, Copy, Debug, PartialEq, Eq)]
 pub enum Status {
     /// What was asked is done. A session over standard input ended where the input ends, or by a
-    /// request that asked for the end or was the last that a session takes.
+    /// request that asked for the end or was the last that a session takes; a shell ended with its input.
     Done,
     /// The words aren't in the grammar of the command line.
     Usage,
@@ -80,7 +81,7 @@ pub enum Status {
     Served(ServedFault),
     /// A server wrote no reply that answers the request.
     BadReply,
-    /// A request that no further one can follow: it was faulty, or was cut.
+    /// A request that no further one can follow: it was faulty, or was cut; or a line of more than 8,192 bytes.
     BadRequest,
     /// The keys text has a fault, or the seal is empty.
     BadKeys,
@@ -168,6 +169,21 @@ impl Status {
             AskFault::BadManifest => Status::Served(ServedFault::BadManifest),
             AskFault::Refused(fault) => Status::of_client(fault),
             AskFault::NoMemory => Status::OutOfMemory,
+        }
+    }
+
+    /// How the program ends where a shell ended so.
+    pub(crate) fn of_shell(end: ShellEnd) -> Status
+        ensures { result ≡ shell_status end }
+    {
+        match end {
+            ShellEnd::Ended => Status::Done,
+            ShellEnd::LinkFailed => Status::LinkFailed,
+            ShellEnd::BadReply => Status::BadReply,
+            ShellEnd::TooLong => Status::BadRequest,
+            ShellEnd::InputFailed => Status::InputFailed,
+            ShellEnd::OutputFailed => Status::OutputFailed,
+            ShellEnd::NoMemory => Status::OutOfMemory,
         }
     }
 

@@ -117,6 +117,13 @@ impl Around {
     }
 }
 
+/// A link whose peer gives these bytes.
+pub(crate) fn link_with(alloc: Global, reply: &[u8]) -> Result<MemoryLink, NoMemory> {
+    let reads = MemorySource::new(Vec::from_slice(alloc, reply)?, 100, Vec::new(alloc));
+    let writes = MemorySink::new(alloc, 1_000, Vec::new(alloc))?;
+    MemoryLink::new(alloc, reads, writes)
+}
+
 /// All that the links took that came back to a dial.
 fn requests_of(alloc: Global, dial: MemoryDial) -> Result<Vec<u8>, NoMemory> {
     let links = dial.into_links(alloc)?;

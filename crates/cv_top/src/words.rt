@@ -1,11 +1,12 @@
 //! The words of the command line.
-ghost use Rattle.std.specs.Prelude.{◌≡◌, ◌∷◌, [], map, string_bytes, IfOk, Err, IsTrue, ℕ, List};
+ghost use Rattle.std.specs.Prelude.{◌≡◌, ◌∷◌, [], map, string_bytes, IfOk, Err, IsTrue, ℕ, List, Some, None};
 ghost use Rattle.cv_base.specs.Name.{is_name};
 ghost use Rattle.cv_base.specs.Path.{Path, IsPath};
 ghost use Rattle.cv_base.specs.PathText.{Spells};
 ghost use Rattle.cv_client.specs.Url.{IsUrl};
 ghost use Rattle.cv_client.specs.declared.url.Url.{Url};
-ghost use Rattle.cv_top.specs.Words.{Asks, IsCommand, IsPlace};
+ghost use Rattle.cv_top.specs.Words.{is_option, values_of, IsPlace, Means, Asks, IsCommand};
+ghost use Rattle.cv_top.specs.declared.words.Command.{Command};
 ghost use Rattle.cv_top.specs.declared.words.WordsFault.TheVariants.{Usage};
 
 use cv_base::{Name, PathFault, RepoPath};
@@ -22,6 +23,8 @@ pub enum Command {
     Stdio(Name),
     /// Print the answer to this question, of the repository that is served under this URL.
     Look(Url, Question),
+    /// Answer the lines on standard input, of the repository that is served under this URL.
+    Shell(Url),
 }
 
 /// Why there is no command.
@@ -31,6 +34,39 @@ pub enum WordsFault {
     Usage,
     /// There was no memory.
     NoMemory,
+}
+
+/// Whether a word has the form of an option.
+fn is_option(word: &str) -> bool
+    ensures { result ≡ is_option word.now }
+{
+    match word.as_bytes() {
+        [first, _, ..] => *first == b'-',
+        _ => false,
+    }
+}
+
+/// The values among the words behind that of a command: the command line has no option yet, and behind the first `--` each
+/// word is a value.
+fn read_values(alloc: Global, words: &[String]) -> Result<Vec<&str>, WordsFault>
+    ensures values { IfOk result (λ values. values_of (map string_bytes words.now) ≡ Some (map (λ value. value.now) values.items)) }
+    ensures usage { result ≡ Err Usage → values_of (map string_bytes words.now) ≡ None }
+{
+    let mut values = Vec::new(alloc);
+    let mut all = false;
+    for word in words {
+        if !all && word.as_str() == "--" {
+            all = true;
+            continue;
+        }
+        if !all && is_option(word.as_str()) {
+            return Err(WordsFault::Usage);
+        }
+        if values.push(word.as_str()).is_err() {
+            return Err(WordsFault::NoMemory);
+        }
+    }
+    Ok(values)
 }
 
 /// Reads the name of a repository.
@@ -69,14 +105,15 @@ fn read_path(alloc: Global, word: &str) -> Result<RepoPath, WordsFault>
     }
 }
 
-/// Reads `init` or `stdio`, and the name of a repository.
-fn read_repository(alloc: Global, verb: &str, name: &str) -> Result<Command, WordsFault>
-    ensures command { IfOk result (Asks (verb.now ∷ name.now ∷ [])) }
-    ensures usage { result ≡ Err Usage → IsCommand (verb.now ∷ name.now ∷ []) → ⊥ }
+/// Reads a command of one value: `init` or `stdio`, and the name of a repository; or `shell`, and a URL.
+fn read_one(alloc: Global, verb: &str, value: &str) -> Result<Command, WordsFault>
+    ensures command { IfOk result (Means verb.now (value.now ∷ [])) }
+    ensures usage { result ≡ Err Usage → (command : Command) → Means verb.now (value.now ∷ []) command → ⊥ }
 {
     match verb {
-        "init" => Ok(Command::Init(read_name(alloc, name)?)),
-        "stdio" => Ok(Command::Stdio(read_name(alloc, name)?)),
+        "init" => Ok(Command::Init(read_name(alloc, value)?)),
+        "stdio" => Ok(Command::Stdio(read_name(alloc, value)?)),
+        "shell" => Ok(Command::Shell(read_url(alloc, value)?)),
         _ => Err(WordsFault::Usage),
     }
 }
@@ -100,8 +137,8 @@ fn read_place(alloc: Global, url: &str, path: &str) -> Result<Place, WordsFault>
 
 /// Reads `ls`, `stat` or `cat`, a URL and a path.
 fn read_look(alloc: Global, verb: &str, url: &str, path: &str) -> Result<Command, WordsFault>
-    ensures command { IfOk result (Asks (verb.now ∷ url.now ∷ path.now ∷ [])) }
-    ensures usage { result ≡ Err Usage → IsCommand (verb.now ∷ url.now ∷ path.now ∷ []) → ⊥ }
+    ensures command { IfOk result (Means verb.now (url.now ∷ path.now ∷ [])) }
+    ensures usage { result ≡ Err Usage → (command : Command) → Means verb.now (url.now ∷ path.now ∷ []) command → ⊥ }
 {
     match verb {
         "ls" => {
@@ -120,15 +157,30 @@ fn read_look(alloc: Global, verb: &str, url: &str, path: &str) -> Result<Command
     }
 }
 
-/// Reads the words after the program's name: `init` or `stdio`, and the name of a repository; or `ls`, `stat` or `cat`, a URL
-/// and a path.
+/// Reads a command by its word and its values.
+fn read_command(alloc: Global, verb: &str, values: &[&str]) -> Result<Command, WordsFault>
+    ensures command { IfOk result (Means verb.now (map (λ value. value.now) values.now)) }
+    ensures usage { result ≡ Err Usage → (command : Command) → Means verb.now (map (λ value. value.now) values.now) command → ⊥ }
+{
+    match values {
+        [value] => read_one(alloc, verb, value),
+        [url, path] => read_look(alloc, verb, url, path),
+        _ => Err(WordsFault::Usage),
+    }
+}
+
+/// Reads the words after the program's name: `init` or `stdio`, and the name of a repository; `ls`, `stat` or `cat`, a URL
+/// and a path; or `shell`, and a URL. There is no option, so that a word which begins with `-` and goes on is refused. Behind
+/// the first word `--` each is a value.
 pub fn read_words(alloc: Global, words: &[String]) -> Result<Command, WordsFault>
     ensures command { IfOk result (λ command. Asks (map string_bytes words.now) command) }
     ensures usage { result ≡ Err Usage → IsCommand (map string_bytes words.now) → ⊥ }
 {
     match words {
-        [verb, name] => read_repository(alloc, verb.as_str(), name.as_str()),
-        [verb, url, path] => read_look(alloc, verb.as_str(), url.as_str(), path.as_str()),
-        _ => Err(WordsFault::Usage),
+        [verb, rest @ ..] => {
+            let values = read_values(alloc, rest)?;
+            read_command(alloc, verb.as_str(), &values)
+        }
+        [] => Err(WordsFault::Usage),
     }
 }

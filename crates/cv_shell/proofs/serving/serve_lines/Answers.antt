@@ -1,12 +1,13 @@
-use Rattle.std.proofs.Common.{◌≡◌, refl, rules, arith}
+use Rattle.std.proofs.Common.{◌≡◌, refl, rules, arith, inl}
 use Rattle.cv_shell.proofs.Streams.{gets_none, draws_of, draws_then, draws_as}
-use Rattle.cv_shell.proofs.Running.{at_first, one_more, one_last, none_more, not_read, tired}
+use Rattle.cv_shell.proofs.Running.{at_first, one_more, one_last, none_more, not_read, tired, up_to_date_grows, up_to_date_on}
 use Rattle.cv_shell.proofs.serving.serve_lines.Goals as goal
 
 pub turns-init : goal.turns-init
 turns-init g c = record {
   so_far = draws_of g.R.Source.left g.R.Source.given c.args.lines.now c.args.lines.now c.args.lines.now _ (gets_none g.R.Source.left g.R.Source.given c.args.lines.now c.args.lines.now refl refl) refl
-      (at_first (g.S.Signer.is_seal c.args.signer.now) c.args.url.now (g.N.Dial.came c.args.dial.now) c.args.resolver.now (g.W.Sink.taken c.args.output.now) (g.R.Source.left c.args.lines.now.source) c.args.lines.now.held);
+      (at_first (g.S.Signer.is_seal c.args.signer.now) c.args.url.now _ (g.N.Dial.came c.args.dial.now) c.args.resolver.now (g.W.Sink.taken c.args.output.now) (g.R.Source.left c.args.lines.now.source) c.args.lines.now.held
+      (λ was look is. inl is));
   flushed = λ was. was;
   reads = omega arith;
   writes = omega arith;
@@ -15,19 +16,28 @@ turns-init g c = record {
 
 pub returns-in-Ok-None-clause-shells : goal.returns-in-Ok-None-clause-shells
 returns-in-Ok-None-clause-shells g c =
-    draws_then g.R.Source.left g.R.Source.given c.args.lines.now c.turns.lines c.next_line.new.self _ _ _ c.turns.invariant.so_far (rw c.in-Ok-None.field-0-is at c.in-Ok-None.ensures.reads)
+    let so_far =
+    up_to_date_on (g.S.Signer.is_seal c.args.signer.now) c.args.url.now g.R.Source.left g.R.Source.given g.R.Source.looks c.args.lines.now (g.N.Dial.came c.args.dial.now) c.args.resolver.now (g.W.Sink.taken c.args.output.now) (g.W.Sink.passed c.args.output.now)
+    c.turns.lines c.next_line.new.self c.turns.invariant.so_far c.turns.invariant.flushed c.next_line.ensures.looks in
+    draws_then g.R.Source.left g.R.Source.given c.args.lines.now c.turns.lines c.next_line.new.self _ _ _ so_far (rw c.in-Ok-None.field-0-is at c.in-Ok-None.ensures.reads)
     (λ b more told so read. none_more more told so c.next_line.new.self.held read)
 
 pub returns-in-Err-clause-shells : goal.returns-in-Err-clause-shells
 returns-in-Err-clause-shells g c =
+    let so_far =
+    up_to_date_on (g.S.Signer.is_seal c.args.signer.now) c.args.url.now g.R.Source.left g.R.Source.given g.R.Source.looks c.args.lines.now (g.N.Dial.came c.args.dial.now) c.args.resolver.now (g.W.Sink.taken c.args.output.now) (g.W.Sink.passed c.args.output.now)
+    c.turns.lines c.next_line.new.self c.turns.invariant.so_far c.turns.invariant.flushed c.next_line.ensures.looks in
     rw c.of_fault.ensures
-    (draws_then g.R.Source.left g.R.Source.given c.args.lines.now c.turns.lines c.next_line.new.self _ _ _ c.turns.invariant.so_far c.in-Err.ensures.reads
+    (draws_then g.R.Source.left g.R.Source.given c.args.lines.now c.turns.lines c.next_line.new.self _ _ _ so_far c.in-Err.ensures.reads
     (λ b more told so read. not_read more told so c.next_line.new.self.held c.in-Err.fault read))
 
 pub returns-in-Some-clause-shells : goal.returns-in-Some-clause-shells
 returns-in-Some-clause-shells g c =
     let same : c.as_slice.result.now ≡ c.in-Ok-Some.line = search rules in
-    draws_then g.R.Source.left g.R.Source.given c.args.lines.now c.turns.lines c.next_line.new.self _ _ _ c.turns.invariant.so_far (rw c.in-Ok-Some.field-0-is at c.in-Ok-Some.ensures.reads)
+    let so_far =
+    up_to_date_on (g.S.Signer.is_seal c.args.signer.now) c.args.url.now g.R.Source.left g.R.Source.given g.R.Source.looks c.args.lines.now (g.N.Dial.came c.args.dial.now) c.args.resolver.now (g.W.Sink.taken c.args.output.now) (g.W.Sink.passed c.args.output.now)
+    c.turns.lines c.next_line.new.self c.turns.invariant.so_far c.turns.invariant.flushed c.next_line.ensures.looks in
+    draws_then g.R.Source.left g.R.Source.given c.args.lines.now c.turns.lines c.next_line.new.self _ _ _ so_far (rw c.in-Ok-Some.field-0-is at c.in-Ok-Some.ensures.reads)
     (λ b more told so next. one_last more told so next (rw same at c.in-Some.ensures.answered))
 
 pub turns-preserved : goal.turns-preserved
@@ -35,13 +45,18 @@ turns-preserved g c =
     let same : c.as_slice.result.now ≡ c.in-Ok-Some.line = search rules in
     let read = c.next_line.ensures.cause.later in
     let wrote = c.serve_line.ensures.writes.later in
-    let dialled = c.serve_line.ensures.later in
+    let dialled = c.serve_line.ensures.links.later in
     let reads = c.turns.invariant.reads in
     let writes = c.turns.invariant.writes in
     let later = c.turns.invariant.later in
+    let so_far =
+    up_to_date_on (g.S.Signer.is_seal c.args.signer.now) c.args.url.now g.R.Source.left g.R.Source.given g.R.Source.looks c.args.lines.now (g.N.Dial.came c.args.dial.now) c.args.resolver.now (g.W.Sink.taken c.args.output.now) (g.W.Sink.passed c.args.output.now)
+    c.turns.lines c.next_line.new.self c.turns.invariant.so_far c.turns.invariant.flushed c.next_line.ensures.looks in
     record {
-      so_far = draws_then g.R.Source.left g.R.Source.given c.args.lines.now c.turns.lines c.next_line.new.self _ _ _ c.turns.invariant.so_far (rw c.in-Ok-Some.field-0-is at c.in-Ok-Some.ensures.reads)
-          (λ b more told so next. one_more more told so c.serve_line.result c.in_default.not-Some next (rw same at c.serve_line.ensures.answered));
+      so_far = draws_then g.R.Source.left g.R.Source.given c.args.lines.now c.turns.lines c.next_line.new.self _ _ _ so_far (rw c.in-Ok-Some.field-0-is at c.in-Ok-Some.ensures.reads)
+          (λ b more told so next. one_more more told so c.serve_line.result c.in_default.not-Some
+          (up_to_date_grows (g.S.Signer.is_seal c.args.signer.now) c.args.url.now g.R.Source.left g.R.Source.given g.R.Source.looks c.args.lines.now (g.N.Dial.came c.args.dial.now) c.args.resolver.now (g.W.Sink.taken c.args.output.now) (g.W.Sink.passed c.args.output.now) c.next_line.new.self so.turns)
+          next (rw same at c.serve_line.ensures.answered));
       flushed = λ was. c.serve_line.ensures.flushed (λ is. absurd (c.in_default.not-Some _ is)) (c.turns.invariant.flushed was);
       reads = omega (arith, read, reads);
       writes = omega (arith, wrote, writes);

@@ -1,16 +1,18 @@
 use Rattle.std.proofs.Common.{◌≡◌, ◌≤◌}
-use Rattle.cv_base.specs.Counts.{Rose}
 use Rattle.cv_http.specs.Wires.{Draws}
+use Rattle.cv_shell.specs.Shells.{ReadsUpToDate}
 use Rattle.cv_shell.proofs.Running.{SoFar}
 use Rattle.cv_shell.proofs.serving.serve_lines.Given as goal
 
 abbrev pub invariant-turns : goal.invariant-turns
 invariant-turns g l = record {
   so_far : Draws g.R.Source.left g.R.Source.given l.fn.lines l.lines (λ b.
-      SoFar (g.S.Signer.is_seal l.fn.signer) l.fn.url (g.N.Dial.came l.fn.dial) l.fn.resolver (g.W.Sink.taken l.fn.output)
+      SoFar (g.S.Signer.is_seal l.fn.signer) l.fn.url
+      (ReadsUpToDate (g.S.Signer.is_seal l.fn.signer) l.fn.url g.R.Source.left g.R.Source.looks l.fn.lines l.lines (g.N.Dial.came l.fn.dial) l.fn.resolver (g.W.Sink.taken l.fn.output) (g.W.Sink.passed l.fn.output))
+      (g.N.Dial.came l.fn.dial) l.fn.resolver (g.W.Sink.taken l.fn.output)
       (g.R.Source.left l.lines.source) b l.lines.held (g.N.Dial.came l.dial) l.resolver (g.W.Sink.taken l.output));
   flushed : g.W.Sink.passed l.fn.output ≡ g.W.Sink.taken l.fn.output → g.W.Sink.passed l.output ≡ g.W.Sink.taken l.output;
   reads : g.R.Source.faults l.fn.lines.source ≤ g.R.Source.faults l.lines.source;
   writes : g.W.Sink.faults l.fn.output ≤ g.W.Sink.faults l.output;
-  later : Rose 0 (g.N.Dial.faults l.fn.dial) (g.N.Dial.faults l.dial);
+  later : g.N.Dial.faults l.fn.dial ≤ g.N.Dial.faults l.dial;
 }

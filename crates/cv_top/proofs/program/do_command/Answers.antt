@@ -4,7 +4,7 @@ use Rattle.cv_keys.specs.KeysText.{keys_of}
 use Rattle.cv_top.specs.Runs.{usage, bad_keys, unbegun}
 use Rattle.cv_top.specs.Words.{Asks}
 use Rattle.cv_top.proofs.KeyFaults.{fault_or_memory}
-use Rattle.cv_top.proofs.Sealing.{runs_init, runs_stdio, runs_look}
+use Rattle.cv_top.proofs.Sealing.{runs_init, runs_stdio, runs_look, runs_shell}
 use Rattle.cv_top.proofs.program.do_command.Goals as goal
 
 pub returns-in-Ok-Init-clause-runs : goal.returns-in-Ok-Init-clause-runs
@@ -24,6 +24,12 @@ returns-in-Ok-Look-clause-runs g c =
     runs_look g.V.Vault.disk g.V.Vault.count g.V.Vault.left g.V.Vault.faults g.R.Source.left g.R.Source.looks g.W.Sink.taken g.W.Sink.passed g.C.Clock.moments g.N.Dial.came
     (map string_bytes c.args.words.now) c.args.keys.now c.args.seal.now _ _ _ _ _ _ _ _ _ _ (subst (Asks (map string_bytes c.args.words.now)) c.in-Ok-Look.field-0-is c.in-Ok-Look.ensures.command)
     c.do_look-status.ensures.does
+
+pub returns-in-Ok-Shell-clause-runs : goal.returns-in-Ok-Shell-clause-runs
+returns-in-Ok-Shell-clause-runs g c =
+    runs_shell g.V.Vault.disk g.V.Vault.count g.V.Vault.left g.V.Vault.faults g.R.Source.left g.R.Source.looks g.W.Sink.taken g.W.Sink.passed g.C.Clock.moments g.N.Dial.came
+    (map string_bytes c.args.words.now) c.args.keys.now c.args.seal.now _ _ _ _ _ _ _ _ _ _ (subst (Asks (map string_bytes c.args.words.now)) c.in-Ok-Shell.field-0-is c.in-Ok-Shell.ensures.command)
+    c.do_shell-status.ensures.does
 
 pub returns-in-Err-Usage-clause-runs : goal.returns-in-Err-Usage-clause-runs
 returns-in-Err-Usage-clause-runs g c = usage (c.read_words.ensures.usage (c.in-Err-Usage.is ∙ ap (λ fault. Err fault) c.in-Err-Usage.field-0-is)) refl

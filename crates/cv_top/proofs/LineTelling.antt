@@ -1,0 +1,95 @@
+-- What the shell's command tells, line by line, of the tree at whose root its client is pinned.
+use Rattle.std.proofs.Common.{◌≡◌, Bool, true, false, ℕ, List, refl, ap}
+use Rattle.std.specs.declared.option.Option.{Option}
+use Rattle.std.specs.declared.result.Result.TheVariants.{Ok, Err}
+use Rattle.cv_ports.specs.Streams.{Look}
+use Rattle.cv_vault.specs.Disk.{Disk, Files}
+use Rattle.cv_manifest.specs.declared.manifest.Manifest.{Manifest}
+use Rattle.cv_resolver.specs.Resolver.{Client}
+use Rattle.cv_client.specs.Exchange.{Links}
+use Rattle.cv_client.specs.Pin.{Pins, pinned, client_at}
+use Rattle.cv_client.specs.declared.ask_fault.AskFault.{AskFault}
+use Rattle.cv_client.specs.declared.ask_fault.AskFault.TheVariants as ask_fault
+use Rattle.cv_client.specs.declared.url.Url.{Url}
+use Rattle.cv_shell.specs.Shells.{Turn, Ends, ended, too_long, unread, by_line, no_memory}
+use Rattle.cv_shell.specs.declared.shell_end.ShellEnd.{ShellEnd}
+use Rattle.cv_shell.proofs.Laws.{ToldSo, lines_tell}
+use Rattle.cv_top.specs.Lines.{IsShell, Answering, AnswersLines, answered, unpinned, LinesTold, TellsLines, lines, silent, is_silent}
+use Rattle.cv_top.specs.Runs.{Outside, Runs, usage, bad_keys, no_seal, unbegun, init, stdio, look, shell}
+use Rattle.cv_top.specs.Seal.{is_seal_by}
+use Rattle.cv_top.specs.Status.{ask_status, shell_status}
+use Rattle.cv_top.specs.Words.{Asks}
+use Rattle.cv_top.specs.declared.status.Status.{Status}
+use Rattle.cv_top.specs.declared.words.Command.TheVariants.{Shell}
+use Rattle.cv_top.proofs.Commands.{no_shell, no_shell_init, no_shell_stdio}
+use Rattle.cv_top.proofs.Pinning.{is_refused, never_refused}
+
+-- the turns of a shell were told so
+record TurnsTold (is_seal : List ℕ → List ℕ → Bool) (u : Url) (first : Manifest) (l : Links) (turns : List Turn) : Type 0 where
+  before : Links
+  client : Client
+  so : ToldSo is_seal u first l turns before client
+
+turns_told : {is_seal : List ℕ → List ℕ → Bool} {u : Url} {first : Manifest} {left : Option (List ℕ)} {b : List ℕ} {l l' : Links} {r' : Client} {taken taken' : Option (List ℕ)} {turns : List Turn} {end : ShellEnd}
+    → Ends is_seal u left b l l' (client_at first) r' taken taken' turns end → TurnsTold is_seal u first l turns
+turns_told {is_seal} {u} {first} {l = l} (ended runs none took) = record { before = _; client = _; so = lines_tell is_seal u first l runs }
+turns_told {is_seal} {u} {first} {l = l} (too_long rest runs long took) = record { before = _; client = _; so = lines_tell is_seal u first l runs }
+turns_told {is_seal} {u} {first} {l = l} (unread rest runs part took) = record { before = _; client = _; so = lines_tell is_seal u first l runs }
+turns_told {is_seal} {u} {first} {l = l} (by_line rest line later before c end runs next answers) = record { before = _; client = _; so = lines_tell is_seal u first l runs }
+turns_told {is_seal} {u} {first} {l = l} (no_memory rest runs took) = record { before = _; client = _; so = lines_tell is_seal u first l runs }
+
+-- where no client is pinned, no question is refused
+silent_fault : (fault : AskFault) → is_refused fault ≡ false → is_silent (ask_status fault) ≡ true
+silent_fault ask_fault.LinkFailed none = refl
+silent_fault ask_fault.BadReply none = refl
+silent_fault ask_fault.BadManifest none = refl
+silent_fault ask_fault.NoMemory none = refl
+silent_fault (ask_fault.Refused fault) none = absurd cc
+
+module _ {V : Type 0} (disk : V → Option Disk) (count : V → ℕ) (left : V → ℕ → Files → Type 0)
+    {R W C N : Type 0} (faults : V → ℕ) (rest : R → Option (List ℕ)) (looks : R → Look → Type 0) (taken passed : W → Option (List ℕ)) (moments : C → Option (ℕ → ℕ)) (came : N → Links)
+    (words : List (List ℕ)) (keys seal : List ℕ) (a b : Outside V R W C N) where
+  abbrev Tells : Status → Type 0
+  Tells = TellsLines rest taken words seal (came a.dial) (came b.dial) a.input b.input a.output b.output
+
+  pinned_tell : (u : Url) (mid : Links) (client client' : Client) (end : ShellEnd) → Asks words (Shell u) → Pins (is_seal_by seal) u (came a.dial) mid (Ok client)
+      → Answering rest looks taken passed seal u client client' mid (came b.dial) a.input b.input a.output b.output end → Tells (shell_status end)
+  pinned_tell u mid client client' end asks (pinned first fetched) answering =
+      let shells = answering.are in
+      let told = turns_told shells.ends in
+      lines (record {
+        url = u;
+        asks = asks;
+        first = first;
+        mid = mid;
+        fetched = fetched;
+        read = answering.got;
+        got = answering.told;
+        turns = shells.turns;
+        client = client';
+        end = end;
+        ends = shells.ends;
+        is = refl;
+        links = told.before;
+        last = told.so.manifest;
+        known = told.so.known;
+        pinned = told.client;
+        tells = told.so.tells;
+      })
+
+  answers_tell : (u : Url) (status : Status) → Asks words (Shell u) → AnswersLines rest looks taken passed seal u (came a.dial) (came b.dial) a.input b.input a.output b.output status → Tells status
+  answers_tell u status asks (answered mid client client' end pins answering) = pinned_tell u mid client client' end asks pins answering
+  answers_tell u status asks (unpinned fault pins input output) = silent (silent_fault fault (never_refused fault pins)) input output
+
+  untouched : {status : Status} → is_silent status ≡ true → b ≡ a → Tells status
+  untouched is same = silent is (ap (λ (o : Outside V R W C N). o.input) same) (ap (λ (o : Outside V R W C N). o.output) same)
+
+  pub lines_tell_truly : (status : Status) → Runs disk count left faults rest looks taken passed moments came words keys seal a b status → IsShell words → Tells status
+  lines_tell_truly status (usage never same) asked = absurd (never (record { command = Shell asked.url; asks = asked.asks }))
+  lines_tell_truly status (bad_keys name asks has same) asked = untouched refl same
+  lines_tell_truly status (no_seal command asks has empty same) asked = untouched refl same
+  lines_tell_truly status (unbegun same) asked = untouched refl same
+  lines_tell_truly status (init name how asks some inits same near) asked = absurd (no_shell_init asked.url name asked.asks asks)
+  lines_tell_truly status (stdio name table how asks are some serves near) asked = absurd (no_shell_stdio asked.url name asked.asks asks)
+  lines_tell_truly status (look u q how asks some looked same) asked = absurd (no_shell u asked.url q asks asked.asks)
+  lines_tell_truly status (shell u how asks some answers same) asked = answers_tell u status asks answers
