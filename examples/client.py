@@ -7,17 +7,15 @@ The server is Python's own http.server over the files of the repository, on a fr
 cvkit. What the program prints is compared with the tree that was published. Then a file is damaged, one is taken away, the
 manifest is sealed by another secret, and the server stops: each has its status and its line.
 """
-import contextlib
-import http.server
 import os
 import sys
-import threading
 
 sys.path.insert(0, os.path.join(os.path.dirname(os.path.abspath(__file__)), "..", "tools"))
 from cut_vectors import MODES, TIME
-from cvkit_client import REPOSITORY, Session, commit, digest_of, ended, expect, lease, mac, main, manifest_path, object_name, object_path, payload, repository
+from cvkit_client import REPOSITORY, digest_of, ended, expect, mac, main, manifest_path, object_name, object_path, repository
 from cvkit_files import whole_head
-from cvkit_release import DIRECTORY, MARKER, file, offer, tree
+from cvkit_release import DIRECTORY, MARKER, file, tree
+from cvkit_server import publish, web_server
 
 # A release with a catalogue of its own at `/app`, and a link that leads into it.
 RELEASE = tree(
@@ -32,32 +30,6 @@ RELEASE = tree(
         "/round": ("link", b"round"),
     }
 )
-
-
-# ---- the server
-
-
-@contextlib.contextmanager
-def web_server(folder):
-    """Serves the files of the repository in a folder. It gives its port, and the list of the paths that it was asked for."""
-    front, asked = f"/cvmfs/{REPOSITORY}/", []
-
-    class Files(http.server.SimpleHTTPRequestHandler):
-        protocol_version = "HTTP/1.1"
-
-        def translate_path(self, path):
-            asked.append(path)
-            return os.path.join(folder, "srv", path[len(front) :] if path.startswith(front) else "nothing")
-
-        def log_message(self, *_):
-            pass
-
-    with http.server.ThreadingHTTPServer(("127.0.0.1", 0), Files) as server:
-        threading.Thread(target=server.serve_forever, daemon=True).start()
-        try:
-            yield server.server_address[1], asked
-        finally:
-            server.shutdown()
 
 
 # ---- what has to be printed
@@ -98,19 +70,6 @@ class Client:
 
 
 # ---- what is done
-
-
-def publish(program, folder):
-    """Publishes the release on the whole repository. It gives the time of the root's own directory."""
-    head = whole_head(folder)
-    root, objects = offer(RELEASE, head.time)
-    with Session(program, folder) as session:
-        for asked in lease(""), payload("1-1", objects), commit("1-1", head.root, root):
-            answer = session.exchange(asked).json()
-            expect(answer["status"] == "ok", "an answer of the gateway", answer)
-        session.close()
-    expect(whole_head(folder).root == root, "the head", whole_head(folder))
-    return head.time
 
 
 def read_back(client, root_time):
@@ -187,7 +146,7 @@ def look_at_faults(client, folder):
 
 def script(program, _short):
     with repository(program) as folder:
-        root_time = publish(program, folder)
+        root_time = publish(program, folder, RELEASE)
         with web_server(folder) as (port, asked):
             client = Client(program, folder, port)
             read_back(client, root_time)
