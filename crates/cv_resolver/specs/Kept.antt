@@ -1,16 +1,14 @@
 -- The catalogues that a client keeps.
-use Rattle.std.specs.Prelude.{◌≡◌, ℕ, true, List, map, Some, Contains, bytes_eq}
+use Rattle.std.specs.Prelude.{◌≡◌, ℕ, List, map, Some, Contains, bytes_eq}
 use Rattle.std.specs.Map.{lookup}
 use Rattle.sha1.specs.Sha1.{sha1}
 use Rattle.lru.specs.LruCache.{LruCache, lru_cache, promoted, put_entries}
-use Rattle.cv_base.specs.Path.{Path}
-use Rattle.cv_tree.specs.Tree.{Nodes}
 use Rattle.cv_rows.specs.Catalogue.{Contents, IsCatalogue, catalogue_bytes}
-use Rattle.cv_cut.specs.Cuts.{is_cut}
-use Rattle.cv_cut.specs.Catalogues.{cat}
 use Rattle.cv_cut.specs.Reached.{FitsPlace}
 use Rattle.cv_resolver.specs.Spot.{place_of}
 use Rattle.cv_resolver.specs.declared.spot.Level.{Level}
+-- no other bytes have the SHA-1 of a catalogue of the tree
+pub use Rattle.cv_cut.specs.Own.{AreOwn}
 
 -- the pairs of a digest and its catalogue, the last used first, and how many there may be
 abbrev pub Kept : Type 0
@@ -39,10 +37,6 @@ abbrev pub with_catalogue : Kept → List ℕ → Contents → Kept
 with_catalogue k hash c = lru_cache (put_entries bytes_eq k hash c) k.cap
 
 -- ---- in a tree
-
--- no other bytes among these have the SHA-1 of a catalogue of the tree
-pub record AreOwn (t : Nodes) (strings : List (List ℕ)) : Type 0 where
-  pub own : (bytes : List ℕ) (c : Path) → Contains strings bytes → is_cut t c ≡ true → sha1 bytes ≡ sha1 (cat t c) → bytes ≡ cat t c
 
 -- the bytes of the catalogues that are kept
 abbrev pub kept_bytes : Kept → List (List ℕ)
