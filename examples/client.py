@@ -1,13 +1,17 @@
 #!/usr/bin/env python3
-"""Publishes a release over `cvkit stdio`, serves its files by a plain web server, and reads them with `cvkit ls`, `stat` and `cat`.
+"""Publishes a release over `cvkit stdio`, serves its files by a plain web server, and reads them with `cvkit ls`, `stat`, `cat`
+and `shell`.
 
     examples/client.py [PROGRAM]
 
 The server is Python's own http.server over the files of the repository, on a free port of the loopback: it knows nothing of
-cvkit. What the program prints is compared with the tree that was published. Then a file is damaged, one is taken away, the
+cvkit. What the program prints is compared with the tree that was published. A shell's lines are sent in two pieces over a pipe
+that stays open: each is answered once it is whole, before the next is sent. Then a file is damaged, one is taken away, the
 manifest is sealed by another secret, and the server stops: each has its status and its line.
 """
 import os
+import select
+import subprocess
 import sys
 
 sys.path.insert(0, os.path.join(os.path.dirname(os.path.abspath(__file__)), "..", "tools"))
@@ -30,6 +34,10 @@ RELEASE = tree(
         "/round": ("link", b"round"),
     }
 )
+
+
+# The seconds in which a line of the shell has to be answered, and in which nothing may come.
+SOON, WHILE = 10, 0.05
 
 
 # ---- what has to be printed
@@ -107,6 +115,50 @@ def check_requests(client, asked, folder):
     print(f"asked for {', '.join(files)}")
 
 
+def answered_lines():
+    """Lines of a shell, and what is printed of each."""
+    names, (_, content) = names_below("/app"), RELEASE["/app/README"]
+    return [
+        (b"ls /app", f"names {len(names)}\n".encode() + listed("/app")),
+        (b"stat /readme", line_of("/readme", None)),
+        (b"cat /readme", f"bytes {len(content)}\n".encode() + content + b"\n"),
+        (b"cat /app/none", b"refused: not found\n"),
+        (b"renew", b"revision 2\n"),
+        (b"renewed", b"refused: bad line\n"),
+        (b"stat /app/table", line_of("/app/table", None)),
+    ]
+
+
+def read_soon(output, length):
+    """As many bytes as the shell prints meanwhile, up to these."""
+    found = b""
+    while len(found) < length and select.select([output], [], [], SOON)[0]:
+        more = os.read(output.fileno(), length - len(found))
+        if not more:
+            break
+        found += more
+    return found
+
+
+def ask_shell(client):
+    """Line by line over a pipe: nothing before a line is whole, and its answer before the next one is sent."""
+    words = [client.program, "shell", client.url]
+    pipes = {"stdin": subprocess.PIPE, "stdout": subprocess.PIPE, "stderr": subprocess.PIPE}
+    with subprocess.Popen(words, cwd=client.folder, bufsize=0, **pipes) as shell:
+        for line, answer in answered_lines():
+            shell.stdin.write(line[:3])
+            expect(not select.select([shell.stdout], [], [], WHILE)[0], "nothing before the line is whole", line)
+            shell.stdin.write(line[3:] + b"\n")
+            found = read_soon(shell.stdout, len(answer))
+            expect(found == answer, "the answer to a line", (line, found[:80]))
+        shell.stdin.write(b"ls /app/bin")
+        shell.stdin.close()
+        rest, line = shell.stdout.read(), shell.stderr.read()
+        expect((rest, line) == (b"names 1\nhello\n", b""), "the last line", (rest, line))
+        expect(shell.wait(SOON) == 0, "the shell's status", shell.returncode)
+    print(f"a shell answered {len(answered_lines()) + 1} lines, each before the next")
+
+
 def put(path, content):
     with open(path, "wb") as out:
         out.write(content)
@@ -151,6 +203,7 @@ def script(program, _short):
             client = Client(program, folder, port)
             read_back(client, root_time)
             check_requests(client, asked, folder)
+            ask_shell(client)
             print("and what is refused:")
             look_astray(client)
             look_at_faults(client, folder)
