@@ -1,6 +1,6 @@
 -- The header that a key gives a message is checked as that key's.
-use Rattle.std.proofs.Common.{◌≡◌, ℕ, zero, suc, ◌+◌, ◌<◌, ◌==◌, nat_lt, Bool, true, false, List, [], ◌∷◌, ◌++◌, length, take, drop, get_or, Some, Result, Ok, Err, refl, sym, ap, subst, ◌∙◌, arith, rules, length-append, lit<, option_map, Global, String, string_bytes}
-use Rattle.std.specs.Prelude.{slice_get, slice_index, IsAscii, IfOk}
+use Rattle.std.proofs.Common.{◌≡◌, ℕ, zero, suc, ◌+◌, ◌<◌, ◌==◌, nat_lt, Bool, true, false, List, [], ◌∷◌, ◌++◌, length, take, drop, get_or, Option, Some, None, Result, Ok, Err, refl, sym, ap, subst, ◌∙◌, arith, rules, length-append, lit<, option_map, Global, String, string_bytes}
+use Rattle.std.specs.Prelude.{slice_get, slice_index, IsAscii, IfOk, IsSomeAnd}
 use Rattle.std.specs.List.{list_all, position_or_len, before_first, after_first}
 use Rattle.std.specs.Str.{bytes_eq}
 use Rattle.std.proofs.lemmas.Bool.{eqb-true, leb-true, lt-ltb, ltb-true}
@@ -16,10 +16,11 @@ use Rattle.cv_base.specs.Digest.{IsDigest}
 use Rattle.cv_seal.specs.Hmac.{hmac_sha1}
 use Rattle.cv_base.proofs.Digests.{digest_sha1}
 use Rattle.cv_base.proofs.Bools.{first_true, second_true}
-use Rattle.cv_keys.specs.Key.{is_visible, is_key_id, IsTable}
-use Rattle.cv_keys.specs.Header.{mac_of, header_of, decoded, checked_parts, checked}
+use Rattle.cv_keys.specs.Key.{is_visible, is_key_id, key_of, place_of, IsTable}
+use Rattle.cv_keys.specs.Header.{mac_of, header_of, is_mac, decoded, checked_mac, checked_parts, checked}
+use Rattle.cv_keys.specs.declared.auth_fault.AuthFault.TheVariants.{UnknownKey, WrongMac}
 use Rattle.cv_keys.specs.declared.key.Key.{Key}
-use Rattle.cv_keys.proofs.Tables.{place_of-distinct}
+use Rattle.cv_keys.proofs.Tables.{place_of-distinct, key_at, no_key}
 
 -- a visible byte is no space
 no_space : (b : ℕ) → is_visible b ≡ true → (b == 32) ≡ false
@@ -79,20 +80,41 @@ all_at test (y ∷ xs) (suc i) x h is = all_at test xs i x (second_true _ _ h) i
 
 -- the header of a key of the table is checked as that key's
 pub checked-header_of : (keys : List Key) (place : ℕ) (key : Key) (message : List ℕ) → IsTable keys → slice_get keys place ≡ Some key
-    → checked keys (Some (header_of key message)) message ≡ Ok (record { 0 = place })
+    → checked keys (Some (header_of key message)) message ≡ Ok key
 checked-header_of keys place key message table is =
     let good : is_key_id key.id ≡ true = all_at (λ (k : Key). is_key_id k.id) keys place key table.ids is in
     let visible : list_all is_visible key.id ≡ true = second_true _ _ good in
-    let found = place_of-distinct keys place key table.distinct is in
+    let found : key_of keys key.id ≡ Some key = key_at keys key.id place (place_of-distinct keys place key table.distinct is) ∙ is in
     let right : bytes_eq (mac_of key message) (mac_of key message) ≡ true = (bytes_eq-Decides (mac_of key message) (mac_of key message)).1 refl in
     checked-split keys key.id (encode_of standard (mac_of key message)) message visible
-    ∙ rw (decoded-mac key message, found, is, right) refl
+    ∙ rw (decoded-mac key message, found, right) refl
 
 -- a header that is cut at its first space is checked by these parts
 pub checked-cut : (keys : List Key) (header id code message : List ℕ) → position_or_len (λ b. b == 32) header < length header
     → id ≡ before_first (λ b. b == 32) header → code ≡ after_first (λ b. b == 32) header
     → checked keys (Some header) message ≡ checked_parts keys id (decoded code) message
 checked-cut keys header id code message some before after = rw (before, after, lt-ltb _ _ some) refl
+
+-- the parts of a header, of which the mac was decoded, under an id that no key has
+pub parts-unknown : (keys : List Key) (id mac message : List ℕ) (decoded_ : Option (List ℕ)) → decoded_ ≡ Some mac → place_of keys id ≡ None
+    → checked_parts keys id decoded_ message ≡ Err UnknownKey
+parts-unknown keys id mac message decoded_ is none = rw (is, no_key keys id none) refl
+
+-- and under the id of the key at a place, whose mac it is or isn't
+parts-known : (keys : List Key) (id mac message : List ℕ) (decoded_ : Option (List ℕ)) (place : ℕ) (key : Key) → decoded_ ≡ Some mac → place_of keys id ≡ Some place
+    → slice_get keys place ≡ Some key → checked_parts keys id decoded_ message ≡ checked_mac (Some key) mac message
+parts-known keys id mac message decoded_ place key is at found = rw (is, key_at keys id place at, found) refl
+
+pub parts-right : (keys : List Key) (id mac message : List ℕ) (decoded_ : Option (List ℕ)) (place : ℕ) (key : Key) → decoded_ ≡ Some mac → place_of keys id ≡ Some place
+    → slice_get keys place ≡ Some key → is_mac key mac message ≡ true → IsSomeAnd (slice_get keys place) (λ found. checked_parts keys id decoded_ message ≡ Ok found)
+parts-right keys id mac message decoded_ place key is at found right =
+    let checks = parts-known keys id mac message decoded_ place key is at found in
+    rw found (checks ∙ rw right refl)
+
+pub parts-wrong : (keys : List Key) (id mac message : List ℕ) (decoded_ : Option (List ℕ)) (place : ℕ) (key : Key) → decoded_ ≡ Some mac → place_of keys id ≡ Some place
+    → slice_get keys place ≡ Some key → is_mac key mac message ≡ false → checked_parts keys id decoded_ message ≡ Err WrongMac
+parts-wrong keys id mac message decoded_ place key is at found wrong =
+    parts-known keys id mac message decoded_ place key is at found ∙ rw wrong refl
 
 -- what holds of the value of an answer
 IfOk-map : {A E : Type 0} (r : Result A E) (P Q : A → Type 0) → ((x : A) → P x → Q x) → IfOk r P → IfOk r Q
@@ -106,10 +128,10 @@ header-told keys place key message r is h =
     IfOk-map r _ (λ text. option_map (λ found. header_of found message) (slice_get keys place) ≡ Some (string_bytes text)) (λ text spelt. rw is (ap Some (sym spelt))) h
 
 pub header-accepted : {E : Type 0} (keys : List Key) (place : ℕ) (key : Key) (message : List ℕ) (r : Result (String Global) E) → IsTable keys → slice_get keys place ≡ Some key
-    → IfOk r (λ text. string_bytes text ≡ header_of key message) → IfOk r (λ text. checked keys (Some (string_bytes text)) message ≡ Ok (record { 0 = place }))
+    → IfOk r (λ text. string_bytes text ≡ header_of key message) → IfOk r (λ text. IsSomeAnd (slice_get keys place) (λ found. checked keys (Some (string_bytes text)) message ≡ Ok found))
 header-accepted keys place key message r table is h =
-    IfOk-map r _ (λ text. checked keys (Some (string_bytes text)) message ≡ Ok (record { 0 = place }))
-    (λ text spelt. ap (λ w. checked keys (Some w) message) spelt ∙ checked-header_of keys place key message table is) h
+    IfOk-map r _ (λ text. IsSomeAnd (slice_get keys place) (λ found. checked keys (Some (string_bytes text)) message ≡ Ok found))
+    (λ text spelt. rw is (ap (λ w. checked keys (Some w) message) spelt ∙ checked-header_of keys place key message table is)) h
 
 -- an element that was indexed stands at its place
 pub slice_get-index : {X : Type 0} (xs : List X) (i : ℕ) (x : X) → i < length xs → x ≡ get_or xs i x → slice_get xs i ≡ Some x

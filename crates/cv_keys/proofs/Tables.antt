@@ -1,16 +1,17 @@
 -- What is read of a keys text is a table, in which each key is found by its id.
 use Rattle.std.proofs.Common.{◌≡◌, ◌≢◌, ℕ, zero, suc, ◌+◌, ◌==◌, nat_lt, Bool, true, false, not, cond, ◌||◌, List, [], ◌∷◌, ◌++◌, length, Option, Some, None, Result, Ok, Err, is_some, codes, refl, sym, ap, subst, ◌∙◌, arith, length-append, Vec, Global}
 use Rattle.std.specs.Prelude.{slice_get, IfOk, MatchResult}
-use Rattle.std.specs.List.{list_all, position_from}
+use Rattle.std.specs.List.{list_all, position_from, position_or_len}
 use Rattle.std.specs.Str.{bytes_eq}
 use Rattle.std.proofs.lemmas.Bool.{eq-eqb, ltb-false}
-use Rattle.std.proofs.lemmas.List.Folds.{list_any-append, list_all-append}
+use Rattle.std.proofs.lemmas.List.Folds.{list_any-append, list_all-append, find_at}
+use Rattle.std.proofs.lemmas.Option.{slice_get_past}
 use Rattle.std.proofs.lemmas.Slice.Eq.{bytes_eq-Decides}
 use Rattle.std.proofs.lemmas.Iterator.Adapters.{position_from-zero}
 use Rattle.cv_base.proofs.Bools.{first_true, second_true}
 use Rattle.serde_json.specs.Data.{Data}
 use Rattle.serde_json.specs.Find.{get, as_str, as_object}
-use Rattle.cv_keys.specs.Key.{is_key_id, is_secret, has_id, is_distinct, place_of, IsTable}
+use Rattle.cv_keys.specs.Key.{is_key_id, is_secret, has_id, is_distinct, key_of, place_of, IsTable}
 use Rattle.cv_keys.specs.KeysText.{and_then, tested_text, member_text, key_in, new_key, keys_behind, array_keys}
 use Rattle.cv_keys.specs.declared.key.Key.{Key}
 use Rattle.cv_keys.specs.declared.key_fault.KeyFault.{KeyFault}
@@ -67,6 +68,25 @@ place_from (first ∷ keys) n (suc i) key apart is =
 
 pub place_of-distinct : (keys : List Key) (i : ℕ) (key : Key) → is_distinct keys ≡ true → slice_get keys i ≡ Some key → place_of keys key.id ≡ Some i
 place_of-distinct keys i key apart is = position_from-zero _ keys ∙ place_from keys 0 i key apart is ∙ ap Some (omega arith)
+
+-- the key of an id stands at its place, or there is none
+pub key_at : (keys : List Key) (id : List ℕ) (place : ℕ) → place_of keys id ≡ Some place → key_of keys id ≡ slice_get keys place
+key_at keys id place is = find_at (λ (k : Key). bytes_eq k.id id) keys ∙ by (position_or_len (λ (k : Key). bytes_eq k.id id) keys) is
+  where
+    by : (n : ℕ) → cond (nat_lt n (length keys)) (Some n) None ≡ Some place → slice_get keys n ≡ slice_get keys place
+    by n h = elim (nat_lt n (length keys)) as (λ t. cond t (Some n) None ≡ Some place → slice_get keys n ≡ slice_get keys place) [
+      | true ↦ λ e. let same : n ≡ place = cc in ap (slice_get keys) same
+      | false ↦ λ e. cc
+    ] h
+
+pub no_key : (keys : List Key) (id : List ℕ) → place_of keys id ≡ None → key_of keys id ≡ None
+no_key keys id none = find_at (λ (k : Key). bytes_eq k.id id) keys ∙ by (position_or_len (λ (k : Key). bytes_eq k.id id) keys) none
+  where
+    by : (n : ℕ) → cond (nat_lt n (length keys)) (Some n) None ≡ None → slice_get keys n ≡ None
+    by n h = elim (nat_lt n (length keys)) as (λ t. nat_lt n (length keys) ≡ t → cond t (Some n) None ≡ None → slice_get keys n ≡ None) [
+      | true ↦ λ below e. cc
+      | false ↦ λ past e. let most = ltb-false n (length keys) past in slice_get_past keys n (omega (arith, most))
+    ] refl h
 
 -- a text that was taken passes its test
 tested_text-Ok : (place : ℕ) (test : List ℕ → Bool) (o : Option (List ℕ)) (text : List ℕ) → tested_text place test o ≡ Ok text → test text ≡ true

@@ -1,5 +1,5 @@
 -- The Authorization header: a key's id, a space, and what the key makes of the message.
-use Rattle.std.specs.Prelude.{◌≡◌, ℕ, ◌==◌, Bool, false, nat_lt, List, ◌∷◌, ◌++◌, length, slice_get, Option, Some, None, Result, Ok, Err, if◌then◌else◌}
+use Rattle.std.specs.Prelude.{◌≡◌, ℕ, ◌==◌, Bool, nat_lt, List, ◌∷◌, ◌++◌, length, slice_get, Option, Some, None, IsSomeAnd, Result, Ok, Err, if◌then◌else◌}
 use Rattle.std.specs.List.{position_or_len, before_first, after_first}
 use Rattle.std.specs.Str.{bytes_eq}
 use Rattle.hex.specs.Hex.{encode_lower}
@@ -7,7 +7,7 @@ use Rattle.base64.specs.Engines.{standard}
 use Rattle.base64.specs.GeneralPurpose.{encode_of, decode_of}
 use Rattle.base64.specs.declared.decode.DecodeError.{DecodeError}
 use Rattle.cv_seal.specs.Hmac.{hmac_sha1}
-use Rattle.cv_keys.specs.Key.{place_of}
+use Rattle.cv_keys.specs.Key.{key_of}
 use Rattle.cv_keys.specs.declared.key.Key.{Key}
 use Rattle.cv_keys.specs.declared.key_no.KeyNo.{KeyNo}
 use Rattle.cv_keys.specs.declared.auth_fault.AuthFault.{AuthFault}
@@ -21,10 +21,11 @@ mac_of key message = encode_lower (hmac_sha1 key.secret message)
 abbrev pub header_of : Key → List ℕ → List ℕ
 header_of key message = key.id ++ 32 ∷ encode_of standard (mac_of key message)
 
--- the answer is this one, or the call wanted memory
-abbrev pub IsUnlessMemory : Result KeyNo AuthFault → Result KeyNo AuthFault → Type 0
-IsUnlessMemory (Err NoMemory) answer = Unit {0}
-IsUnlessMemory result answer = result ≡ answer
+-- the answer is this one, of a key its place in the table, or the call wanted memory
+abbrev pub IsUnlessMemory : List Key → Result KeyNo AuthFault → Result Key AuthFault → Type 0
+IsUnlessMemory keys (Ok place) answer = IsSomeAnd (slice_get keys place.0) (λ key. answer ≡ Ok key)
+IsUnlessMemory keys (Err NoMemory) answer = Unit {0}
+IsUnlessMemory keys (Err fault) answer = answer ≡ Err fault
 
 -- 40 bytes, where it is so many
 abbrev pub of_forty : Result (List ℕ) DecodeError → Option (List ℕ)
@@ -36,22 +37,20 @@ abbrev pub decoded : List ℕ → Option (List ℕ)
 decoded text = of_forty (decode_of standard text)
 
 -- the mac is that of the key
-abbrev pub is_mac : Option Key → List ℕ → List ℕ → Bool
-is_mac None mac message = false
-is_mac (Some key) mac message = bytes_eq mac (mac_of key message)
+abbrev pub is_mac : Key → List ℕ → List ℕ → Bool
+is_mac key mac message = bytes_eq mac (mac_of key message)
 
--- the answer by the place of the key that is named, and the mac
-abbrev pub checked_mac : List Key → Option ℕ → List ℕ → List ℕ → Result KeyNo AuthFault
-checked_mac keys None mac message = Err UnknownKey
-checked_mac keys (Some place) mac message =
-    if is_mac (slice_get keys place) mac message then Ok (record { 0 = place }) else Err WrongMac
+-- the answer by the key that is named, and the mac
+abbrev pub checked_mac : Option Key → List ℕ → List ℕ → Result Key AuthFault
+checked_mac None mac message = Err UnknownKey
+checked_mac (Some key) mac message = if is_mac key mac message then Ok key else Err WrongMac
 
-abbrev pub checked_parts : List Key → List ℕ → Option (List ℕ) → List ℕ → Result KeyNo AuthFault
+abbrev pub checked_parts : List Key → List ℕ → Option (List ℕ) → List ℕ → Result Key AuthFault
 checked_parts keys id None message = Err BadHeader
-checked_parts keys id (Some mac) message = checked_mac keys (place_of keys id) mac message
+checked_parts keys id (Some mac) message = checked_mac (key_of keys id) mac message
 
 -- the key that signed the message by this header, or the first fault
-abbrev pub checked : List Key → Option (List ℕ) → List ℕ → Result KeyNo AuthFault
+abbrev pub checked : List Key → Option (List ℕ) → List ℕ → Result Key AuthFault
 checked keys None message = Err NoHeader
 checked keys (Some header) message =
     if nat_lt (position_or_len (λ b. b == 32) header) (length header)

@@ -1,6 +1,6 @@
 -- Keys, and the table of a gateway's keys.
 use Rattle.std.specs.Prelude.{ℕ, ◌≡◌, ◌≤◌, Bool, true, not, ◌&&◌, nat_le, List, [], ◌∷◌, length, Option, position}
-use Rattle.std.specs.List.{list_all, list_any}
+use Rattle.std.specs.List.{list_all, list_any, find}
 use Rattle.std.specs.Str.{bytes_eq}
 use Rattle.cv_keys.specs.declared.key.Key.{Key}
 
@@ -25,7 +25,11 @@ abbrev pub is_distinct : List Key → Bool
 is_distinct [] = true
 is_distinct (key ∷ keys) = not (has_id keys key.id) && is_distinct keys
 
--- the place of the key of this id
+-- the key of this id
+abbrev pub key_of : List Key → List ℕ → Option Key
+key_of keys id = find (λ key. bytes_eq key.id id) keys
+
+-- its place
 abbrev pub place_of : List Key → List ℕ → Option ℕ
 place_of keys id = position (λ key. bytes_eq key.id id) keys
 

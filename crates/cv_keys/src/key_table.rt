@@ -1,5 +1,5 @@
 //! The table of a gateway's keys.
-ghost use Rattle.std.specs.Prelude.{◌≡◌, ◌<◌, ℕ, List, true, Ok, Err, Some, None, length, slice_get, option_map, IfOk, MatchResult, string_bytes};
+ghost use Rattle.std.specs.Prelude.{◌≡◌, ◌<◌, ℕ, List, true, Ok, Err, Some, None, length, slice_get, option_map, IfOk, IsSomeAnd, MatchResult, string_bytes};
 ghost use Rattle.cv_keys.specs.Key.{is_key_id, place_of};
 ghost use Rattle.cv_keys.specs.KeysText.{IsSaid, keys_of};
 ghost use Rattle.cv_keys.specs.Header.{header_of, is_mac, decoded, checked, checked_parts, IsUnlessMemory};
@@ -19,7 +19,7 @@ use std::marker::Model;
 
 /// The keys of a gateway: 1 to 256, in the order of the keys text, each with an id of its own.
 /// Clauses see them as a list.
-#[derive(Debug, Drop)]
+#[derive(Drop)]
 pub struct KeyTable {
     keys: Vec<Key>,
 }
@@ -51,22 +51,22 @@ impl KeyTable {
         Ok(KeyTable { keys })
     }
 
-    /// The key's id.
-    pub fn id(&self, key: KeyNo) -> &str
+    /// The key of this number.
+    pub fn key(&self, key: KeyNo) -> &Key
         requires { key.0 < length self.now }
-        ensures id { option_map (λ found. found.id) (slice_get self.now key.0) ≡ Some result.now }
+        ensures key { slice_get self.now key.0 ≡ Some result.now }
 
-        // It is the id of a key.
-        ensures grammar { is_key_id result.now ≡ true }
+        // Its id is one of a key.
+        ensures grammar { is_key_id result.now.id ≡ true }
     {
-        self.keys[key.0 as usize].id.as_str()
+        &self.keys[key.0 as usize]
     }
 
     /// The header that the key gives a message.
     pub fn header(&self, alloc: Global, key: KeyNo, message: &[u8]) -> Result<String, NoMemory>
         requires { key.0 < length self.now }
         ensures header { IfOk result (λ text. option_map (λ found. header_of found message.now) (slice_get self.now key.0) ≡ Some (string_bytes text)) }
-        ensures accepted { IfOk result (λ text. checked self.now (Some (string_bytes text)) message.now ≡ Ok key) }
+        ensures accepted { IfOk result (λ text. IsSomeAnd (slice_get self.now key.0) (λ found. checked self.now (Some (string_bytes text)) message.now ≡ Ok found)) }
     {
         header_of(alloc, &self.keys[key.0 as usize], message)
     }
@@ -78,7 +78,7 @@ impl KeyTable {
         header: Option<&str>,
         message: &[u8],
     ) -> Result<KeyNo, AuthFault>
-        ensures answer { IsUnlessMemory result (checked self.now (option_map (λ text. text.now) header.entry) message.now) }
+        ensures answer { IsUnlessMemory self.now result (checked self.now (option_map (λ text. text.now) header.entry) message.now) }
         ensures known { IfOk result (λ key. key.0 < length self.now) }
     {
         let Some(header) = header else {
@@ -98,7 +98,7 @@ impl KeyTable {
         code: &str,
         message: &[u8],
     ) -> Result<KeyNo, AuthFault>
-        ensures answer { IsUnlessMemory result (checked_parts self.now id.now (decoded code.now) message.now) }
+        ensures answer { IsUnlessMemory self.now result (checked_parts self.now id.now (decoded code.now) message.now) }
         ensures known { IfOk result (λ key. key.0 < length self.now) }
     {
         let mac = match decode_mac(alloc, code.as_bytes()) {
@@ -109,7 +109,7 @@ impl KeyTable {
         let Some(place) = place_of(&self.keys, id) else {
             return Err(AuthFault::UnknownKey);
         };
-        if is_mac(&self.keys, place, mac.as_slice(), message) {
+        if is_mac(&self.keys[place], mac.as_slice(), message) {
             Ok(KeyNo(place as u32))
         } else {
             Err(AuthFault::WrongMac)
@@ -152,11 +152,10 @@ fn place_of(keys: &[Key], id: &str) -> Option<usize>
     keys.iter().position(|key| key.id.as_str() == id)
 }
 
-/// Whether the mac is that of the key at this place for the message.
-fn is_mac(keys: &[Key], place: usize, mac: &[u8], message: &[u8]) -> bool
-    requires { place < length keys.now }
-    ensures { result ≡ is_mac (slice_get keys.now place) mac.now message.now }
+/// Whether the mac is that of the key for the message.
+fn is_mac(key: &Key, mac: &[u8], message: &[u8]) -> bool
+    ensures { result ≡ is_mac key.now mac.now message.now }
 {
-    let own = digest_digits(&hmac_sha1(keys[place].secret.as_str().as_bytes(), message));
+    let own = digest_digits(&hmac_sha1(key.secret.as_str().as_bytes(), message));
     same_bytes(mac, &own)
 }

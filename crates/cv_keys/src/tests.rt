@@ -213,7 +213,7 @@ fn fault_at(alloc: Global, limit: &Limit) -> Result<Option<KeyFault>, Fail> {
 fn is_header(alloc: Global, table: &KeyTable, message: &str, header: &str) -> Result<bool, Fail> {
     let key = table.check(alloc, Some(header), message.as_bytes())?;
     let written = table.header(alloc, key, message.as_bytes())?;
-    Ok(header.starts_with(table.id(key)) && written.as_str() == header)
+    Ok(header.starts_with(table.key(key).id.as_str()) && written.as_str() == header)
 }
 
 #[test]
