@@ -9,7 +9,7 @@ import json
 
 import cvkit_client
 from cvkit_client import LEASES, PAYLOADS, REPOSITORY, authorization, digest_of, lease_message
-from vectors import settle, table, text
+from vectors import constant, settle, table, text
 
 HELLO = b"hello\n"
 CLEAN, CLOSED = "SessionEnd::Clean", "SessionEnd::Closed"
@@ -176,10 +176,24 @@ SESSIONS += [
 SESSIONS.append(([(commit("1-1"), refused("revisions_full"))], CLEAN))
 
 
+# The leases, and the ends of two, asked at a seat where no lease is live.
+AT_SEAT = [
+    (cvkit_client.LIST.decode(), answer(data=[], status="ok")),
+    (cvkit_client.end("1-1").decode(), refused("invalid_token")),
+    (cvkit_client.end("1-2").decode(), refused("invalid_token")),
+]
+
+
+def joined(exchanges):
+    """What is asked, and what is said."""
+    return [text("".join(part)) for part in zip(*exchanges)]
+
+
 def row(exchanges, end):
-    asked, said = ("".join(part) for part in zip(*exchanges))
-    return f"({text(asked)}, {text(said)}, {end})"
+    return f"({', '.join(joined(exchanges))}, {end})"
 
 
 ROWS = [row(exchanges, end) for exchanges, end in SESSIONS]
 settle("crates/cv_session/src/session_tests.rt", [table("SESSIONS", "(&str, &str, SessionEnd)", ROWS, "static")])
+BOTH = zip(("ASKED", "SAID"), joined(AT_SEAT))
+settle("crates/cv_session/src/seat_tests.rt", [constant(name, "&str", value) for name, value in BOTH])

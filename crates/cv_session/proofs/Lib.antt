@@ -8,3 +8,4 @@ mod TurnsDone
 mod Readings
 mod Sessioning
 mod OneAsked
+mod Seating

@@ -7,7 +7,7 @@ use Rattle.std.proofs.lemmas.Bool.Decides.{nat_tests}
 use Rattle.std.proofs.lemmas.List.{length-append, map-append}
 use Rattle.std.proofs.lemmas.Grind.{flat_map-append}
 use Rattle.cv_ports.specs.Streams.{Look, onto, Wrote}
-use Rattle.cv_ports.proofs.Streams.{onto_twice, wrote_back}
+use Rattle.cv_ports.proofs.Streams.{onto_twice}
 use Rattle.cv_http.specs.Heads.{Begins}
 use Rattle.cv_http.specs.Replies.{continue_line}
 use Rattle.cv_http.specs.Wires.{WireView, Reads, Looks}
@@ -250,7 +250,7 @@ module _ {K : Type 0} {does : K → List Call → K → Type 0} {repository : Li
       breaks_refusing taken'' took =
           ends_beside [] (made_none does none after)
           (broken (refusing_one code) later taken'' s.opened (next_fault why code is_bad has_code refl) (refusal code)
-          (subst (λ (o : Option (List ℕ)). Wrote o taken'' (reply_of (Fixed code) true)) s.said took))
+          (subst (λ (o : Option (List ℕ)). Wrote o taken'' (reply_of (Fixed code) true)) (said_line false taken' (onto_nothing taken')) took))
 
     -- without the line nothing was taken
     no_line : {line : Bool} {taken1 : Option (List ℕ)} → line ≡ false → taken1 ≡ onto taken' (line_text line) → taken1 ≡ taken'
@@ -383,7 +383,7 @@ module _ {K : Type 0} {does : K → List Call → K → Type 0} {repository : Li
             let took_reply = subst (λ (l : Bool). Wrote taken1 taken2 (reply_of answer l)) closes took in
             ends_beside d.calls d.made
             (broken one later taken2 s.opened (next_request next) d.answers
-            (subst (λ (o : Option (List ℕ)). Wrote o taken2 (saying one)) s.said (wrote_back taken' (line_text t.waited) took_line took_reply)))
+            (subst (λ (o : Option (List ℕ)). Wrote o taken2 (reply_of answer (is_last one))) (said_line t.waited taken1 took_line) took_reply))
 
       -- what comes of the request
       pub comes : {end : Option SessionEnd} {taken2 : Option (List ℕ)} → Handles does repository seal t.what t.last taken1 taken2 after after' end

@@ -10,3 +10,4 @@ pub mod Exchanges
 pub mod Asking
 pub mod OneAsked
 pub mod Sessions
+pub mod Seats

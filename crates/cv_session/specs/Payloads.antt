@@ -63,13 +63,13 @@ abbrev pub pack_turn : List ℕ → PayloadAsk → Result (List Object) PackFaul
 pack_turn key ask (Err fault) = denied reason.BadPack
 pack_turn key ask (Ok objects) = store_on key ask objects
 
--- a pack that a message announces: its header has the digest that the message says, the pack no fault, and the header the length
+-- a pack that a message announces, under the id of the key that signed it: its header has the digest that the message says, the pack no fault, and the header the length
 abbrev pub payload_on : List ℕ → PayloadAsk → List ℕ → Turn
 payload_on key ask pack =
     if bytes_eq (sha1 (take ask.header_size pack)) ask.digest then pack_turn key ask (reading pack) else denied reason.BadDigest
 
-abbrev pub payload_by_ask : Result PayloadAsk MessageFault → List ℕ → List ℕ → Turn
-payload_by_ask (Ok ask) pack key = payload_on key ask pack
+abbrev pub payload_by_ask : Result PayloadAsk MessageFault → List ℕ → Key → Turn
+payload_by_ask (Ok ask) pack key = payload_on key.id ask pack
 payload_by_ask (Err fault) pack key = denied_message fault
 
 abbrev pub payload_from : List Key → Option (List ℕ) → Option ℕ → List ℕ → Turn

@@ -19,11 +19,6 @@ abbrev pub Gives : Option (ℕ → ℕ) → List ℕ → Option (ℕ → ℕ) �
 Gives clock [] later = later ≡ clock
 Gives clock (now ∷ moments) later = WhereTold clock (λ moment. now ≡ moment 0) × Gives (advanced clock) moments later
 
--- some moments of the clock were read
-pub record IsReadOn (clock later : Option (ℕ → ℕ)) : Type 0 where
-  pub moments : List ℕ
-  pub gives : Gives clock moments later
-
 -- these calls of the desk were made: they lead from how it stood to how it stands, at the clock's moments, and each failure of the
 -- store that they answered is one that was counted
 pub record Made {K : Type 0} (does : K → List Call → K → Type 0) (before : Standing K) (calls : List Call) (after : Standing K) : Type 0 where

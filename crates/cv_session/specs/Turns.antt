@@ -1,6 +1,6 @@
 -- What a request asks: for a lease, a commit and a lease's end the authorization is judged first, then the message, the
 -- repository and the path.
-use Rattle.std.specs.Prelude.{◌≡◌, ◌≢◌, ◌==◌, ℕ, true, List, Option, Some, None, Result, Ok, Err, bytes_eq, codes, drop, length, slice_get, if◌then◌else◌}
+use Rattle.std.specs.Prelude.{◌≡◌, ◌≢◌, ◌==◌, ℕ, true, List, Option, Some, None, Result, Ok, Err, bytes_eq, codes, drop, length, if◌then◌else◌}
 use Rattle.std.specs.List.{before_first}
 use Rattle.cv_base.specs.Path.{Path}
 use Rattle.cv_base.specs.PathText.{path_of}
@@ -8,7 +8,6 @@ use Rattle.cv_base.specs.declared.path_fault.PathFault.{PathFault}
 use Rattle.cv_base.specs.declared.token.Token.{Token}
 use Rattle.cv_keys.specs.Header.{checked}
 use Rattle.cv_keys.specs.declared.key.Key.{Key}
-use Rattle.cv_keys.specs.declared.key_no.KeyNo.{KeyNo}
 use Rattle.cv_keys.specs.declared.auth_fault.AuthFault.{AuthFault}
 use Rattle.cv_keys.specs.declared.auth_fault.AuthFault.TheVariants as auth
 use Rattle.cv_messages.specs.CommitAsk.{commit_ask_of}
@@ -56,34 +55,29 @@ denied_message message.NoMemory = denied reason.NoMemory
 
 -- ---- under a key
 
--- the id of a key by its number
-abbrev pub id_of : Option Key → List ℕ
-id_of None = codes ""
-id_of (Some key) = key.id
+abbrev pub signed_by : Result Key AuthFault → (Key → Turn) → Turn
+signed_by (Ok key) asks = asks key
+signed_by (Err fault) asks = denied_header fault
 
-abbrev pub signed_by : List Key → Result KeyNo AuthFault → (List ℕ → Turn) → Turn
-signed_by keys (Ok number) asks = asks (id_of (slice_get keys number.0))
-signed_by keys (Err fault) asks = denied_header fault
-
--- what is asked under the id of the key that signed the message by this header, or why none did
-abbrev pub signed : List Key → Option (List ℕ) → List ℕ → (List ℕ → Turn) → Turn
-signed keys header message asks = signed_by keys (checked keys header message) asks
+-- what is asked under the key that signed the message by this header, or why none did
+abbrev pub signed : List Key → Option (List ℕ) → List ℕ → (Key → Turn) → Turn
+signed keys header message asks = signed_by (checked keys header message) asks
 
 -- ---- a lease
 
 -- a lease on the path that a text says
-abbrev pub lease_by_path : List ℕ → Result Path PathFault → Turn
-lease_by_path key (Ok path) = Step (op.Lease key path)
+abbrev pub lease_by_path : Key → Result Path PathFault → Turn
+lease_by_path key (Ok path) = Step (op.Lease key.id path)
 lease_by_path key (Err fault) = denied reason.BadPath
 
 -- a lease on what a text says: the repository's name, and behind it nothing or the text of a path
-abbrev pub lease_on : List ℕ → List ℕ → List ℕ → Turn
+abbrev pub lease_on : List ℕ → List ℕ → Key → Turn
 lease_on repository text key =
     if bytes_eq (before_first (λ b. b == 47) text) repository
     then lease_by_path key (path_of (drop (length repository) text))
     else denied reason.UnknownRepository
 
-abbrev pub lease_by_ask : List ℕ → Result LeaseAsk MessageFault → List ℕ → Turn
+abbrev pub lease_by_ask : List ℕ → Result LeaseAsk MessageFault → Key → Turn
 lease_by_ask repository (Ok ask) key = lease_on repository ask.path key
 lease_by_ask repository (Err fault) key = denied_message fault
 
@@ -98,8 +92,8 @@ abbrev pub token_by : Option Token → Token
 token_by None = record { epoch = 0; number = 0 }
 token_by (Some token) = token
 
-abbrev pub commit_by_ask : Token → Result CommitAsk MessageFault → List ℕ → Turn
-commit_by_ask token (Ok ask) key = Step (op.Commit key token ask.old_root ask.new_root ask.tag)
+abbrev pub commit_by_ask : Token → Result CommitAsk MessageFault → Key → Turn
+commit_by_ask token (Ok ask) key = Step (op.Commit key.id token ask.old_root ask.new_root ask.tag)
 commit_by_ask token (Err fault) key = denied_message fault
 
 -- what a request for a commit asks, by its Authorization header, the text of the token and its body
@@ -108,7 +102,7 @@ commit_turn keys header text body = signed keys header text (commit_by_ask (toke
 
 -- what a request for the end of a lease asks, by its Authorization header and the text of the token
 abbrev pub end_turn : List Key → Option (List ℕ) → List ℕ → Turn
-end_turn keys header text = signed keys header text (λ key. Step (op.Cancel key (token_by (token_of text))))
+end_turn keys header text = signed keys header text (λ key. Step (op.Cancel key.id (token_by (token_of text))))
 
 -- ---- any request
 

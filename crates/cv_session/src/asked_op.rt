@@ -7,14 +7,15 @@ ghost use Rattle.cv_gate.specs.declared.op.Op.TheVariants as op;
 ghost use Rattle.cv_messages.specs.Spelling.{token_of};
 ghost use Rattle.cv_session.specs.Denials.{Asks, Denies};
 ghost use Rattle.cv_session.specs.Turns.{signed, lease_on, lease_turn, commit_turn, end_turn, token_by};
+ghost use Rattle.cv_keys.specs.declared.key.Key.{Key as KeyData};
 ghost use Rattle.cv_session.specs.declared.turn.Turn.{Turn};
 ghost use Rattle.cv_session.specs.declared.turn.Turn.TheVariants.{Step};
 
 use crate::denial::Denial;
 use cv_answers::Reason;
-use cv_base::{Name, PathFault, RepoPath, Text, Token};
+use cv_base::{Name, PathFault, RepoPath, Token};
 use cv_gate::Op;
-use cv_keys::KeyTable;
+use cv_keys::{Key, KeyTable};
 use cv_messages::{CommitAsk, LeaseAsk};
 use std::alloc::Global;
 
@@ -37,7 +38,10 @@ pub(crate) fn asked_lease(
     let key = read_signer(alloc, keys, header, body)?;
     let ask = LeaseAsk::read(alloc, body)?;
     let path = read_leased(alloc, repository, ask.path.as_str())?;
-    Ok(Op::Lease { key, path })
+    Ok(Op::Lease {
+        key: key.id.copy(alloc)?,
+        path,
+    })
 }
 
 /// The commit that is asked for by an Authorization header, the text of a lease's token and a body.
@@ -55,7 +59,7 @@ pub(crate) fn asked_commit(
     let old_root = ask.old_root;
     let new_root = ask.new_root;
     Ok(Op::Commit {
-        key,
+        key: key.id.copy(alloc)?,
         token: read_token(text),
         old_root,
         new_root,
@@ -73,31 +77,33 @@ pub(crate) fn asked_end(
     ensures { Asks (end_turn keys.now (option_map (λ text. text.now) header.entry) token.now) result }
 {
     let key = read_signer(alloc, keys, header, token.as_bytes())?;
-    let token = read_token(token);
-    Ok(Op::Cancel { key, token })
+    Ok(Op::Cancel {
+        key: key.id.copy(alloc)?,
+        token: read_token(token),
+    })
 }
 
-/// The id of the key that signed the message by this header.
-pub(crate) fn read_signer(
+/// The key that signed the message by this header.
+pub(crate) fn read_signer<'a>(
     alloc: Global,
-    keys: &KeyTable,
+    keys: &'a KeyTable,
     header: Option<&str>,
     message: &[u8],
-) -> Result<Text, Denial>
-    ensures signed { (asks : List ℕ → Turn) →
+) -> Result<&'a Key, Denial>
+    ensures signed { (asks : KeyData → Turn) →
         let turn = signed keys.now (option_map (λ text. text.now) header.entry) message.now asks in
-        MatchResult result (λ key. turn ≡ asks key) (Denies turn) }
-    ensures key { IfOk result (λ key. is_key_id key ≡ true) }
+        MatchResult result (λ key. turn ≡ asks key.now) (Denies turn) }
+    ensures key { IfOk result (λ key. is_key_id key.now.id ≡ true) }
 {
     let key = keys.check(alloc, header, message)?;
-    Ok(Text::from_str(alloc, keys.id(key))?)
+    Ok(keys.key(key))
 }
 
 /// The path of a lease on what a text says: the repository's name, and behind it nothing or the text of a path.
 fn read_leased(alloc: Global, repository: &Name, text: &str) -> Result<RepoPath, Denial>
-    ensures turn { (key : List ℕ) →
+    ensures turn { (key : KeyData) →
         let turn = lease_on repository.now text.now key in
-        MatchResult result (λ path. turn ≡ Step (op.Lease key path)) (Denies turn) }
+        MatchResult result (λ path. turn ≡ Step (op.Lease key.id path)) (Denies turn) }
     ensures path { IfOk result (λ path. IsPath path) }
 {
     let Some(path) = strip_name(repository, text) else {

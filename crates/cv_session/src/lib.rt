@@ -11,6 +11,8 @@ mod payload;
 mod request;
 mod responding;
 mod response;
+#[cfg(test)]
+mod seat_tests;
 mod serving;
 mod session_end;
 #[cfg(test)]

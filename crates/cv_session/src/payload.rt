@@ -73,7 +73,10 @@ fn read_announced(
 {
     let key = read_signer(alloc, keys, header, message)?;
     let ask = PayloadAsk::read(alloc, message)?;
-    Ok(Announced { key, ask })
+    Ok(Announced {
+        key: key.id.copy(alloc)?,
+        ask,
+    })
 }
 
 /// Passes over so many bytes.
