@@ -1,5 +1,5 @@
 //! The table of leases.
-ghost use Rattle.std.specs.Prelude.{◌≡◌, ◌≤◌, ◌+◌, ◌-◌, ◌*◌, ◌++◌, ◌∷◌, [], length, None, is_ok, is_some, slice_get, option_copied, if◌then◌else◌};
+ghost use Rattle.std.specs.Prelude.{◌≡◌, ◌≤◌, ◌+◌, ◌-◌, ◌*◌, ◌++◌, ◌∷◌, [], length, None, is_ok, is_some, slice_get, option_copied, if◌then◌else◌, IfOk, map};
 ghost use Rattle.std.specs.List.{AllByRecursion};
 ghost use Rattle.cv_leases.specs.Leases.{lease_of, without, unexpired, busy, refusal, IsAnswer};
 
@@ -114,5 +114,12 @@ impl LeaseTable {
         ensures { option_copied result ≡ slice_get self.now place }
     {
         self.linked.queue.at::<Brand>(place, Blank::new(1))
+    }
+
+    /// All leases, in the order in which they were granted.
+    pub fn leases(&self, alloc: Global) -> Result<Vec<&Lease>, NoMemory>
+        ensures { IfOk result (λ all. map (λ lease. lease.now) all.items ≡ self.now) }
+    {
+        self.linked.leases::<Brand>(alloc, Blank::new(1))
     }
 }

@@ -1,5 +1,5 @@
 //! Leases in the order of grant, and the tree of the names on the way to them.
-ghost use Rattle.std.specs.Prelude.{◌≡◌, ◌<◌, ◌≤◌, ◌+◌, ◌*◌, ◌++◌, ◌∷◌, [], length, Some, None, false, is_ok, is_some, if◌then◌else◌, Contains, List, option_copied};
+ghost use Rattle.std.specs.Prelude.{◌≡◌, ◌<◌, ◌≤◌, ◌+◌, ◌*◌, ◌++◌, ◌∷◌, [], length, Some, None, false, is_ok, is_some, if◌then◌else◌, Contains, List, option_copied, IfOk, map};
 ghost use Rattle.cv_leases.specs.Leases.{lease_of, busy, without, unexpired, TokensDiffer, DeadlinesRise};
 ghost use Rattle.cv_leases.specs.Linked.{IsLinked, IsReady};
 ghost use Rattle.cv_leases.specs.Names.{place_of, is_leased};
@@ -50,6 +50,20 @@ impl Linked {
             Some(id) => Some(self.queue.get(id)),
             None => None,
         }
+    }
+
+    /// All leases, in the order of grant.
+    pub(crate) fn leases<L: Ledger>(
+        &self,
+        alloc: Global,
+        blank: Blank,
+    ) -> Result<Vec<&Lease>, NoMemory>
+        requires whole { IsLinked self.now }
+        requires blank { (blank.name ≡ L.name) × (blank.parts ≡ L.parts) × (0 < blank.parts) }
+        ensures { IfOk result (λ all. map (λ lease. lease.now) all.items ≡ leases_in self.now.queue) }
+    {
+        let mut steps: Steps<L> = Steps::new(blank);
+        self.queue.leases(alloc, &mut steps)
     }
 
     /// Puts a lease behind all others.

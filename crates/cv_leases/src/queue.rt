@@ -1,5 +1,5 @@
 //! Leases in the order of grant, linked by index.
-ghost use Rattle.std.specs.Prelude.{◌≡◌, ◌<◌, ◌+◌, ◌++◌, ◌∷◌, [], length, IfSome, Some, None, is_ok, if◌then◌else◌, Contains, slice_get, option_copied, List};
+ghost use Rattle.std.specs.Prelude.{◌≡◌, ◌<◌, ◌+◌, ◌++◌, ◌∷◌, [], length, IfSome, Some, None, is_ok, if◌then◌else◌, Contains, slice_get, option_copied, List, IfOk, map, ◌≤◌};
 ghost use Rattle.cv_links.specs.Arena.{value_at};
 ghost use Rattle.cv_leases.specs.Leases.{lease_of, busy};
 ghost use Rattle.cv_leases.specs.Linked.{TakesOut, Stores};
@@ -106,6 +106,26 @@ impl Queue {
             left -= 1;
         }
         at
+    }
+
+    /// All leases, in the order of grant. Each is one step.
+    #[tactic(auto, using(cv_links::proofs::Laws::live_in, cv_links::proofs::Laws::rest_none))]
+    pub(crate) fn leases<L: Ledger>(
+        &self,
+        alloc: Global,
+        steps: &mut Steps<L>,
+    ) -> Result<Vec<&Lease>, NoMemory>
+        requires whole { IsQueue self.now }
+        ensures leases { IfOk result (λ all. map (λ lease. lease.now) all.items ≡ leases_in self.now) }
+        ensures steps { steps.new ≤ steps.old + length (leases_in self.now) }
+    {
+        let mut leases = Vec::with_capacity(alloc, self.count)?;
+        let mut at = self.entries.first(&self.order);
+        while let Some(id) = at {
+            leases.push(self.get(id))?;
+            at = self.entries.next(&self.order, id, steps);
+        }
+        Ok(leases)
     }
 
     /// The lease at a place.

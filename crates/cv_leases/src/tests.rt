@@ -73,7 +73,9 @@ fn leases_are_found_and_end(rt: HostRuntime) -> Result<(), Fail> {
     assert_eq!(rt; table.at(2).map(|lease| lease.token), Some(token(3)));
     assert!(rt; table.at(3).is_none() && table.find(token(4)).is_none());
     assert!(rt; table.end(token(2)) && !table.end(token(2)));
-    assert_eq!(rt; table.count(), 2);
+    let left = table.leases(rt.alloc())?;
+    assert_eq!(rt; left.len(), 2);
+    assert_eq!(rt; left.last().map(|lease| lease.token), Some(token(3)));
     Ok(())
 }
 
