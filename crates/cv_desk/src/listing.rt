@@ -15,11 +15,10 @@ pub fn list_leases(
 ) -> Result<Vec<LeaseLine>, NoMemory>
     ensures { IfOk result (λ lines. lines.items ≡ lines_of moment leases.now) }
 {
+    let all = leases.leases(alloc)?;
     let mut lines = Vec::new(alloc);
-    for place in 0..leases.count() {
-        if let Some(lease) = leases.at(place) {
-            push_live(alloc, &mut lines, lease, moment)?;
-        }
+    for lease in &all {
+        push_live(alloc, &mut lines, lease, moment)?;
     }
     Ok(lines)
 }

@@ -1,6 +1,6 @@
-use Rattle.std.proofs.Common.{◌≡◌, ◌++◌, drop}
+use Rattle.std.proofs.Common.{◌≡◌, map, take}
 use Rattle.cv_gate.specs.Lines.{lines_of}
 use Rattle.cv_desk.proofs.listing.list_leases.Given as goal
 
-abbrev pub invariant-loop-place : goal.invariant-loop-place
-invariant-loop-place l = l.lines.items ++ lines_of l.fn.moment (drop l.place l.fn.leases) ≡ lines_of l.fn.moment l.fn.leases
+abbrev pub invariant-loop-lease : goal.invariant-loop-lease
+invariant-loop-lease l = l.lines.items ≡ lines_of l.fn.moment (map (λ lease. lease.now) (take l.lease-index l.lease-items))
