@@ -11,8 +11,8 @@ use Rattle.cv_vault.specs.declared.vault.VaultFault.TheVariants.{Failed, NoMemor
 use Rattle.cv_vault.specs.Names.{Name, on_way}
 use Rattle.cv_vault.specs.Disk.{Disk, Slot, Files, ImageOf, Syncs, Renames, Settled, slot, renamed}
 use Rattle.cv_vault.specs.Moments.{Calls, OnlyReads}
-use Rattle.cv_vault.specs.Walks.{Gains, Walks, ComesTo}
-use Rattle.cv_vault.specs.Replace.{MovedIn}
+use Rattle.cv_vault.specs.Walks.{Gains, Walks, Nothing, ComesTo}
+use Rattle.cv_vault.specs.Replace.{PutOnWay, MovedIn, Replaced}
 use Rattle.cv_vault.proofs.Laws.{renamed_to, renamed_elsewhere, call, bind, looser, renames, ok, err, sync_ok, sync_err, quiet_call, quiet_same}
 use Rattle.cv_objects.specs.Batches.{AreNamed, Brings, IsApart, Spares, SparesIn}
 use Rattle.cv_swap.specs.Stands.{head_name, head_way}
@@ -121,3 +121,16 @@ module _ {V : Type 0} {disk : V → Option Disk} {count : V → ℕ} {left : V �
 
     pub moves_unsure : (r : Result (Unit {0}) VaultFault) (x : VaultFault) → r ≡ Err x → x ≢ NoMemory → Calls disk count left (Syncs (err x)) v1 v2 → Walks disk count left on_way (ComesTo name (Some bytes)) (MovedIn d name bytes r) d v v2
     moves_unsure r x fails not c = rw fails (bind w (λ n f b. b) (λ d1 told g came. looser (sync_err x only told c) (λ n f b. b) (λ d2 g2 s. moved_unsure d d2 name bytes x not)))
+
+-- ---- a file comes whole to its name, by way of another
+
+-- it wasn't put on its way
+pub unput : {d d' : Disk} (way name : Name) (put bytes : List ℕ) (x : VaultFault) → Gains on_way Nothing d d' → PutOnWay d way put {X = Unit {0}} (Err x) d' → Replaced d name bytes {X = Unit {0}} (Err x) d'
+unput way name put bytes Failed gains is = tt
+unput way name put bytes NoMemory gains is = gains
+
+-- it was, and then came to its name or didn't
+pub put_then : {d d1 : Disk} (d2 : Disk) (name : Name) (bytes : List ℕ) (r : Result (Unit {0}) VaultFault) → Gains on_way Nothing d d1 → MovedIn d1 name bytes r d2 → Replaced d name bytes r d2
+put_then d2 name bytes (Ok u) gains moved = moved
+put_then d2 name bytes (Err Failed) gains moved = tt
+put_then {d} d2 name bytes (Err NoMemory) gains moved = subst (Gains on_way Nothing d) (sym moved) gains

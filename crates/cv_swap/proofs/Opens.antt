@@ -13,7 +13,7 @@ use Rattle.cv_vault.specs.Disk.{Disk, File, Files, ImageOf, Syncs, files_now, sy
 use Rattle.cv_vault.specs.Moments.{Calls, OnlyReads}
 use Rattle.cv_vault.specs.Walks.{Gains, Within, Walks, Nothing, ComesTo}
 use Rattle.cv_vault.specs.Replace.{Replaced}
-use Rattle.cv_vault.proofs.Laws.{bind, looser, leaves_then, leaves_more, gains_none, gains_then, gains_more, quiet_walks, ok, err, sync_ok, sync_err}
+use Rattle.cv_vault.proofs.Laws.{bind, looser, leaves_then, leaves_more, gains_none, gains_then, gains_more, within_then, quiet_walks, ok, err, sync_ok, sync_err}
 use Rattle.cv_swap.specs.Faults.{open_fault_of}
 use Rattle.cv_swap.specs.Stands.{epoch_name, epoch_text}
 use Rattle.cv_swap.specs.Opening.{Finds, IsFound, IsRaised, Refuses, Opens, Opened, OpeningLeaves, WhileOpening, before, after}
@@ -44,7 +44,7 @@ leaves_before d (BadHistory fault) f w = w
 leaves_before d BadEpoch f w = w
 leaves_before d EpochsSpent f w = w
 leaves_before d Failed f w = before w
-leaves_before d NoMemory f w = before w
+leaves_before d NoMemory f w = w
 
 opened_before : (d : Disk) (e : OpenFault) (d' : Disk) → Gains on_way Nothing d d' → d' ≡ synced d → Opened d (Err e) d'
 opened_before d NoRepository d' g same = same
@@ -66,12 +66,7 @@ leaves_while d (Err (BadHistory fault)) f w = before w
 leaves_while d (Err BadEpoch) f w = before w
 leaves_while d (Err EpochsSpent) f w = before w
 leaves_while d (Err Failed) f w = w
-leaves_while d (Err NoMemory) f w = w
-
--- where the epoch may have been raised
-leaves_raised : (d : Disk) (x : VaultFault) (f : Files) → WhileOpening d f → OpeningLeaves d (Err (open_fault_of x)) f
-leaves_raised d vault.Failed f w = w
-leaves_raised d vault.NoMemory f w = w
+leaves_while d (Err NoMemory) f w = before w
 
 raises : {d : Disk} (epoch : ℕ) → (d epoch_name).now ≡ Some (epoch_text epoch) → epoch < 18446744073709551615 → (n : Name) (f : File) → ComesTo epoch_name (Some (epoch_text (epoch + 1))) n f → IsRaised d n f
 raises epoch there room n f c = record { name = c.0; epoch = epoch; room = room; before = there; after = c.1 }
@@ -87,7 +82,7 @@ module _ {V : Type 0} {disk : V → Option Disk} {count : V → ℕ} {left : V �
       → Opens disk count left name is_seal d r v v1
   opens_not x r never is only e c =
       let w : Walks disk count left on_way Nothing (λ d'. d' ≡ d) d v v1 = sync_err x only e c in
-      rw is (record { end = w.end; told = w.told; finds = refuses_vault name is_seal (files_now d) x; leaves = leaves_more w.leaves (λ f i. leaves_raised d x f (before i)); opened = unsettled x never w.end w.gains })
+      rw is (record { end = w.end; told = w.told; finds = refuses_vault name is_seal (files_now d) x; leaves = leaves_more w.leaves (λ f i. leaves_before d (open_fault_of x) f i); opened = unsettled x never w.end w.gains })
     where
       unsettled : (x : VaultFault) → err x ≢ err vault.NoMemory → (d' : Disk) → Gains on_way Nothing d d' → Opened d (Err (open_fault_of x)) d'
       unsettled vault.Failed never d' g = gains_more (λ n f b. absurd b) g
@@ -124,16 +119,26 @@ module _ {V : Type 0} {disk : V → Option Disk} {count : V → ℕ} {left : V �
               opened = record { sure = u.is; gains = gains_then (gains_more (λ n f b. absurd b) read.gains) u.gains };
             }
 
-        -- it may have come or not
+        -- it may have come or not; where memory was wanted it didn't, and no crash leaves it
         pub opens_or_not : (x : VaultFault) (r : Result Found OpenFault) → r ≡ Err (open_fault_of x)
             → WhereTold (disk v2) (λ d2. Walks disk count left on_way (ComesTo epoch_name (Some (epoch_text (found.epoch + 1)))) (Replaced d2 epoch_name (epoch_text (found.epoch + 1)) {X = Unit {0}} (Err x)) d2 v2 v3)
-            → Opens disk count left name is_seal d r v v3
-        opens_or_not x r is raise =
+            → WhereTold (disk v2) (λ d2. err x ≡ err vault.NoMemory → Walks disk count left on_way Nothing (λ d'. Unit {0}) d2 v2 v3) → Opens disk count left name is_seal d r v v3
+        opens_or_not vault.Failed r is raise quiet =
             let u = raise read.end read.told in
             rw is (record {
               end = u.end;
               told = u.told;
-              finds = refuses_vault name is_seal (files_now d) x;
-              leaves = leaves_then read.leaves u.leaves (λ f i. leaves_raised d x f (before i)) (λ f i. leaves_raised d x f (after (as_raised d read.end found.epoch f read.is is_found.epoch is_found.room i)));
-              opened = opened_raised d read.end found.epoch x u.end is_found.epoch is_found.room read.gains read.is u.gains u.is;
+              finds = tt;
+              leaves = leaves_then read.leaves u.leaves (λ f i. before i) (λ f i. after (as_raised d read.end found.epoch f read.is is_found.epoch is_found.room i));
+              opened = opened_raised d read.end found.epoch vault.Failed u.end is_found.epoch is_found.room read.gains read.is u.gains u.is;
+            })
+        opens_or_not vault.NoMemory r is raise quiet =
+            let u = raise read.end read.told in
+            let q = quiet read.end read.told refl in
+            rw is (record {
+              end = u.end;
+              told = u.told;
+              finds = tt;
+              leaves = leaves_then read.leaves q.leaves (λ f i. i) (λ f i. within_then read.gains f i);
+              opened = opened_raised d read.end found.epoch vault.NoMemory u.end is_found.epoch is_found.room read.gains read.is u.gains u.is;
             })

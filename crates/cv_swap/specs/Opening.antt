@@ -159,7 +159,7 @@ Opened d (Err EpochsSpent) d' = d' ≡ synced d
 Opened d (Err Failed) d' = Gains on_way (IsRaised d) d d'
 Opened d (Err NoMemory) d' = Gains on_way Nothing (synced d) d'
 
--- what a crash may leave in an opening that answers so: where the files refuse it, what might have been left before
+-- what a crash may leave in an opening that answers so: where the files refuse it, and after want of memory, what might have been left before
 abbrev pub OpeningLeaves : Disk → Result Found OpenFault → Files → Type 0
 OpeningLeaves d (Ok found) f = WhileOpening d f
 OpeningLeaves d (Err NoRepository) f = Within on_way Nothing d f
@@ -169,7 +169,7 @@ OpeningLeaves d (Err (BadHistory fault)) f = Within on_way Nothing d f
 OpeningLeaves d (Err BadEpoch) f = Within on_way Nothing d f
 OpeningLeaves d (Err EpochsSpent) f = Within on_way Nothing d f
 OpeningLeaves d (Err Failed) f = WhileOpening d f
-OpeningLeaves d (Err NoMemory) f = WhileOpening d f
+OpeningLeaves d (Err NoMemory) f = Within on_way Nothing d f
 
 -- what opening does, whatever it answers: the answer is what the files say as they stood, and a crash leaves what it may
 pub record Opens {V : Type 0} (disk : V → Option Disk) (count : V → ℕ) (left : V → ℕ → Files → Type 0) (name : List ℕ) (is_seal : List ℕ → List ℕ → Bool) (d : Disk)

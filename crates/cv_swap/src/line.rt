@@ -207,7 +207,8 @@ impl<V: Vault + Drop, S: Signer + Drop> Line<V, S> {
     /// Opens the line that stands in a vault, and raises its epoch by one, for sure. An `Err` hands the vault back.
     ///
     /// A crash at any moment leaves what it might have left before, or the files as they stood, with their epoch or one
-    /// greater. Where the files refuse it, and after `NoMemory`, the epoch isn't raised; after `Failed` it may be.
+    /// greater. Where the files refuse it, and after `NoMemory`, the epoch isn't raised, and no crash leaves it raised; after
+    /// `Failed` it may be.
     pub fn open(
         vault: V,
         alloc: Global,

@@ -1,11 +1,11 @@
 //! What stands in the vault of a repository is read, and its epoch is raised.
-ghost use Rattle.std.specs.Prelude.{◌≡◌, ◌≢◌, ◌+◌, ◌<◌, ◌^◌, ℕ, List, Some, IfOk, IfSome, IsErrOf, string_bytes};
+ghost use Rattle.std.specs.Prelude.{◌≡◌, ◌≢◌, ◌+◌, ◌<◌, ◌^◌, ℕ, List, Some, Err, IfOk, IfSome, IsErrOf, string_bytes};
 ghost use Rattle.cv_base.specs.Counts.{HasCause};
 ghost use Rattle.cv_base.specs.Told.{WhereTold};
 ghost use Rattle.cv_vault.specs.Disk.{files_now};
 ghost use Rattle.cv_vault.specs.Names.{on_way};
 ghost use Rattle.cv_vault.specs.Moments.{OnlyReads};
-ghost use Rattle.cv_vault.specs.Walks.{Walks, ComesTo};
+ghost use Rattle.cv_vault.specs.Walks.{Walks, Nothing, ComesTo};
 ghost use Rattle.cv_vault.specs.Replace.{Replaced};
 ghost use Rattle.cv_vault.specs.declared.vault.VaultFault.TheVariants as vault_fault;
 ghost use Rattle.cv_manifest.specs.Manifest.{IsHead};
@@ -15,12 +15,13 @@ ghost use Rattle.cv_swap.specs.declared.open_fault.OpenFault.TheVariants as faul
 
 use crate::found::Found;
 use crate::open_fault::OpenFault;
+use crate::publishing::bring_for_sure;
 use cv_base::{Bytes, Items, Kind, Name, NoMemory, ObjectId, read_decimal};
 use cv_history::{ChainFault, Record, chain};
 use cv_manifest::{Head, Manifest, ManifestFault};
 use cv_objects::Objects;
 use cv_seal::Signer;
-use cv_vault::{Vault, VaultFault, replace};
+use cv_vault::{Vault, VaultFault, put_on_way};
 use std::alloc::Global;
 
 /// The name of the manifest's file.
@@ -160,14 +161,16 @@ pub fn epoch_text_of(alloc: Global, epoch: u64) -> Result<String, NoMemory>
     Ok(format!(in alloc; "{epoch}\n")?)
 }
 
-/// Sets the epoch, for sure.
+/// Sets the epoch, for sure. After `NoMemory` it isn't set, and no crash leaves it.
 pub fn set_epoch<V: Vault>(vault: &mut V, alloc: Global, epoch: u64) -> Result<(), VaultFault>
     ensures walks { WhereTold (V.disk vault.old) (λ d.
         Walks V.disk V.count V.left on_way (ComesTo epoch_name (Some (epoch_text epoch))) (Replaced d epoch_name (epoch_text epoch) result) d vault.old vault.new) }
+    ensures memory { WhereTold (V.disk vault.old) (λ d. result ≡ Err vault_fault.NoMemory → Walks V.disk V.count V.left on_way Nothing (λ d'. Unit {0}) d vault.old vault.new) }
     ensures cause { HasCause (V.faults vault.old) (V.faults vault.new) (IsErrOf result vault_fault.Failed) }
 {
     let text = epoch_text_of(alloc, epoch)?;
-    replace(vault, EPOCH_WAY, EPOCH_NAME, text.as_bytes())
+    put_on_way(vault, EPOCH_WAY, text.as_bytes())?;
+    bring_for_sure(vault, EPOCH_WAY, EPOCH_NAME)
 }
 
 /// Reads what stands in the vault of a repository, for sure, and raises its epoch by one, for sure.

@@ -59,6 +59,20 @@ fn bring_file<V: Vault>(vault: &mut V, way: &str, name: &str) -> Result<(), Vaul
     }
 }
 
+/// Brings a file that waits on its way to its name, for sure. After `NoMemory` it didn't come, and no crash leaves it.
+pub fn bring_for_sure<V: Vault>(vault: &mut V, way: &str, name: &str) -> Result<(), VaultFault>
+    requires way { on_way way.now ≡ true }
+    requires name { on_way name.now ≡ false }
+    ensures walks { WhereTold (V.disk vault.old) (λ d. (bytes : List ℕ) → IsWaiting way.now name.now bytes d
+        → Walks V.disk V.count V.left on_way (ComesTo name.now (Some bytes)) (MovedIn d name.now bytes result) d vault.old vault.new) }
+    ensures memory { result ≡ Err vault_fault.NoMemory → OnlyReads V.disk V.count V.left vault.old vault.new }
+    ensures cause { HasCause (V.faults vault.old) (V.faults vault.new) (IsErrOf result vault_fault.Failed) }
+{
+    bring_file(vault, way, name)?;
+    vault.sync()?;
+    Ok(())
+}
+
 /// Brings the manifest that waits on its way to its name, for sure.
 pub fn swap_on<V: Vault>(vault: &mut V) -> Result<(), VaultFault>
     ensures walks { WhereTold (V.disk vault.old) (λ d. (manifest : List ℕ) → IsWaiting head_way head_name manifest d
@@ -66,9 +80,7 @@ pub fn swap_on<V: Vault>(vault: &mut V) -> Result<(), VaultFault>
     ensures memory { result ≡ Err vault_fault.NoMemory → OnlyReads V.disk V.count V.left vault.old vault.new }
     ensures cause { HasCause (V.faults vault.old) (V.faults vault.new) (IsErrOf result vault_fault.Failed) }
 {
-    bring_file(vault, HEAD_WAY, HEAD_NAME)?;
-    vault.sync()?;
-    Ok(())
+    bring_for_sure(vault, HEAD_WAY, HEAD_NAME)
 }
 
 /// Whether the manifest came to its name. It settles first.

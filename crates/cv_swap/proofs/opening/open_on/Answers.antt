@@ -8,7 +8,7 @@ pub returns-in_err-found-clause-opens : goal.returns-in_err-found-clause-opens
 returns-in_err-found-clause-opens g c = λ d e. opens_none c.args.name.now (g.S.Signer.is_seal c.args.signer.now) (g.met.V.Vault.only_now c.args.objects.now.vault) (g.met.V.Vault.only_now c.settle.new.self.vault) e c.in_ok-settle.ensures.call c.in_err-found.ensures.reads _ c.in_err-found.field-0.0 (same_fault _ _ c.from_residual-in_err-found.ensures.1) c.in_err-found.ensures.told
 
 pub returns-in_err-set_epoch-clause-opens : goal.returns-in_err-set_epoch-clause-opens
-returns-in_err-set_epoch-clause-opens g c = λ d e. opens_or_not c.args.name.now (g.S.Signer.is_seal c.args.signer.now) (g.met.V.Vault.only_now c.args.objects.now.vault) (g.met.V.Vault.only_now c.settle.new.self.vault) e c.in_ok-settle.ensures.call c.in_ok-found.ensures.reads c.in_ok-found.found c.in_ok-found.ensures.told c.in_err-set_epoch.field-0.0 _ (vault_fault _ _ c.from_residual-in_err-set_epoch.ensures.1) c.in_err-set_epoch.ensures.walks
+returns-in_err-set_epoch-clause-opens g c = λ d e. opens_or_not c.args.name.now (g.S.Signer.is_seal c.args.signer.now) (g.met.V.Vault.only_now c.args.objects.now.vault) (g.met.V.Vault.only_now c.settle.new.self.vault) e c.in_ok-settle.ensures.call c.in_ok-found.ensures.reads c.in_ok-found.found c.in_ok-found.ensures.told c.in_err-set_epoch.field-0.0 _ (vault_fault _ _ c.from_residual-in_err-set_epoch.ensures.1) c.in_err-set_epoch.ensures.walks c.in_err-set_epoch.ensures.memory
 
 pub returns-clause-opens : goal.returns-clause-opens
 returns-clause-opens g c = λ d e. opens_now c.args.name.now (g.S.Signer.is_seal c.args.signer.now) (g.met.V.Vault.only_now c.args.objects.now.vault) (g.met.V.Vault.only_now c.settle.new.self.vault) e c.in_ok-settle.ensures.call c.in_ok-found.ensures.reads c.in_ok-found.found c.in_ok-found.ensures.told c.in_ok-set_epoch.ensures.walks

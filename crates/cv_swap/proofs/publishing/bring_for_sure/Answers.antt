@@ -1,0 +1,21 @@
+use Rattle.std.proofs.Common.{sym, ap, ◌∙◌}
+use Rattle.std.specs.declared.result.Result.TheVariants.{Err}
+use Rattle.cv_swap.proofs.Building.{handed_on}
+use Rattle.cv_swap.proofs.Bringing.{moves, moves_not, moves_unsure}
+use Rattle.cv_swap.proofs.publishing.bring_for_sure.Goals as goal
+
+pub returns-in_err-bring_file-clause-walks : goal.returns-in_err-bring_file-clause-walks
+returns-in_err-bring_file-clause-walks g c = λ d e bytes waits. moves_not c.args.way.now c.args.name.now bytes _ c.in_err-bring_file.field-0.0 (handed_on _ _ c.from_residual.ensures.1) (c.in_err-bring_file.ensures.walks d e bytes waits)
+
+pub returns-in_err-sync-clause-walks : goal.returns-in_err-sync-clause-walks
+returns-in_err-sync-clause-walks g c = λ d e bytes waits. moves_unsure c.args.way.now c.args.name.now bytes (g.met.V.Vault.only_now c.bring_file.new.vault) (c.in_ok-bring_file.ensures.walks d e bytes waits)
+    _ c.in_err-sync.field-0.0 (handed_on _ _ c.from_residual-in_err-sync.ensures.1) (λ s. c.in_err-sync.ensures.memory (ap Err s)) c.in_err-sync.ensures.call
+
+pub returns-clause-walks : goal.returns-clause-walks
+returns-clause-walks g c = λ d e bytes waits. moves c.args.way.now c.args.name.now bytes (g.met.V.Vault.only_now c.bring_file.new.vault) (c.in_ok-bring_file.ensures.walks d e bytes waits) c.in_ok-sync.ensures.call
+
+pub returns-in_err-bring_file-clause-memory : goal.returns-in_err-bring_file-clause-memory
+returns-in_err-bring_file-clause-memory g c = λ e. c.in_err-bring_file.ensures.memory (sym (handed_on _ _ c.from_residual.ensures.1) ∙ e)
+
+pub returns-in_err-sync-clause-memory : goal.returns-in_err-sync-clause-memory
+returns-in_err-sync-clause-memory g c = λ e. absurd (c.in_err-sync.ensures.memory (sym (handed_on _ _ c.from_residual-in_err-sync.ensures.1) ∙ e))
