@@ -1,3 +1,4 @@
+mod Heads
 mod Coming
 mod Conversing
 mod Telling

@@ -1,13 +1,20 @@
 -- What a dial tells goes on, exchange by exchange.
-use Rattle.std.proofs.Common.{◌≡◌, ◌++◌, ℕ, List, [], ◌∷◌, append_assoc, append-nil, refl, sym, ap, ◌∙◌}
+use Rattle.std.proofs.Common.{◌≡◌, ◌++◌, ℕ, Bool, List, [], ◌∷◌, append_assoc, append-nil, refl, sym, ap, ◌∙◌}
 use Rattle.std.specs.Prelude.{Option, Some, None, Result, option_map}
 use Rattle.std.proofs.lemmas.List.Elements.{Contains-append_left, Contains-append_right}
 use Rattle.cv_ports.specs.Dial.{Came, Event, Opened, Back, Story, and_opened, and_back}
 use Rattle.cv_http.specs.declared.outgoing.Outgoing.{Outgoing}
 use Rattle.cv_http.specs.declared.http_reply.HttpReply.{HttpReply}
+use Rattle.cv_manifest.specs.declared.manifest.Manifest.{Manifest}
+use Rattle.cv_resolver.specs.Resolver.{Client}
+use Rattle.cv_resolver.specs.declared.found.Found.{Found}
+use Rattle.cv_resolver.specs.declared.question.Question.{Question}
+use Rattle.cv_client.specs.Answer.{Given, Comes, stays, goes, Answers, answered, cut}
 use Rattle.cv_client.specs.Exchange.{Links, linked_by, unlinked, Exchanges, linked, undialled}
 use Rattle.cv_client.specs.Fetch.{Fetches, said, lost, unasked}
+use Rattle.cv_client.specs.Pin.{FetchesManifest, good, bad, absent, lost as manifest_lost, Pins, pinned, unpinned, no_room}
 use Rattle.cv_client.specs.Served.{Files, ServedBy}
+use Rattle.cv_client.specs.declared.ask_fault.AskFault.{AskFault}
 use Rattle.cv_client.specs.declared.url.Url.{Url}
 use Rattle.cv_client.specs.declared.exchanging.ExchangeFault.{ExchangeFault}
 
@@ -68,6 +75,25 @@ pub fetch_extends : {u : Url} {file : List ℕ} {before after : Links} {r : Resu
 fetch_extends (said reply r exchanged says) = exchange_extends exchanged
 fetch_extends (lost fault exchanged) = exchange_extends exchanged
 fetch_extends (unasked same) = λ start was. record { end = start; is = same ∙ was; events = []; more = sym (append-nil start.events) }
+
+manifest_extends : {is_seal : List ℕ → List ℕ → Bool} {u : Url} {before after : Links} {r : Result Manifest AskFault} → FetchesManifest is_seal u before after r → Extends before after
+manifest_extends (good text m fetches says) = fetch_extends fetches
+manifest_extends (bad text fault fetches shows) = fetch_extends fetches
+manifest_extends (absent fetches) = fetch_extends fetches
+manifest_extends (manifest_lost fault fetches) = fetch_extends fetches
+
+pub pin_extends : {is_seal : List ℕ → List ℕ → Bool} {u : Url} {before after : Links} {r : Result Client AskFault} → Pins is_seal u before after r → Extends before after
+pin_extends (pinned m fetches) = manifest_extends fetches
+pin_extends (unpinned fault fetches) = manifest_extends fetches
+pin_extends (no_room m fetches) = manifest_extends fetches
+
+comes_extends : {u : Url} {before after : Links} {r r' : Client} {given : Given} → Comes u before r given after r' → Extends before after
+comes_extends stays = extends_none
+comes_extends (goes a id x asked wants fetches gives more) = extends_then (fetch_extends fetches) (comes_extends more)
+
+pub answer_extends : {u : Url} {q : Question} {before after : Links} {r r' : Client} {answer : Result Found AskFault} → Answers u q before after r r' answer → Extends before after
+answer_extends (answered start end given answer asks comes told same on looks) = comes_extends comes
+answer_extends (cut start given mid id fault asks comes wants fetches on) = extends_then (comes_extends comes) (fetch_extends fetches)
 
 -- each link sent what the server has: also of those that came back first, and of those that came back behind them
 module _ {u : Url} {files : Files} {before mid after : Links} (first : Extends before mid) (next : Extends mid after) (s : ServedBy u files before after) where

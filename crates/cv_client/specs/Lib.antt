@@ -7,4 +7,5 @@ pub mod Pin
 pub mod Requests
 pub mod Served
 pub mod Texts
+pub mod Told
 pub mod Url

@@ -1,14 +1,16 @@
 -- A server that has the files of a published tree, and what a client finds there.
-use Rattle.std.specs.Prelude.{◌≡◌, ◌++◌, ⊤, ℕ, List, [], ◌∷◌, Option, Some, Contains, Result, Ok, Err}
+use Rattle.std.specs.Prelude.{◌≡◌, ◌++◌, ⊤, ℕ, Bool, List, [], ◌∷◌, Option, Some, Contains, Result, Ok, Err}
 use Rattle.std.specs.declared.option.Option.TheVariants.{None}
 use Rattle.sha1.specs.Sha1.{sha1}
 use Rattle.cv_base.specs.ObjectId.{file_name}
 use Rattle.cv_base.specs.declared.id.ObjectId.{ObjectId}
 use Rattle.cv_ports.specs.Dial.{Came, Event, Story, Back}
-use Rattle.cv_tree.specs.Tree.{Nodes}
+use Rattle.cv_tree.specs.Tree.{Nodes, IsTree}
+use Rattle.cv_cut.specs.Catalogues.{root_of, Fits}
 use Rattle.cv_http.specs.Requests.{request_text}
 use Rattle.cv_http.specs.ReplyTexts.{IsReply}
 use Rattle.cv_http.specs.declared.http_reply.HttpReply.{HttpReply}
+use Rattle.cv_manifest.specs.Manifest.{Says}
 use Rattle.cv_manifest.specs.declared.manifest.Manifest.{Manifest}
 use Rattle.cv_resolver.specs.Kept.{AreOwn}
 use Rattle.cv_resolver.specs.Look.{Finding, OnWay, IsFound}
@@ -19,7 +21,7 @@ use Rattle.cv_resolver.specs.declared.resolver.Asked.{Asked}
 use Rattle.cv_resolver.specs.declared.found.Found.{Found}
 use Rattle.cv_resolver.specs.declared.found.ClientFault.{ClientFault}
 use Rattle.cv_client.specs.Exchange.{Links}
-use Rattle.cv_client.specs.Requests.{file_request}
+use Rattle.cv_client.specs.Requests.{file_request, manifest_name}
 use Rattle.cv_client.specs.Pin.{client_at}
 use Rattle.cv_client.specs.declared.url.Url.{Url}
 use Rattle.cv_client.specs.declared.exchanging.ExchangeFault.{ExchangeFault}
@@ -69,6 +71,16 @@ pub record HasObject (files : Files) (t : Nodes) (id : ObjectId) : Type 0 where
 -- each object on the way of a question in a tree
 abbrev pub HasWay : Files → (repository : List ℕ) → Nodes → Question → Type 0
 HasWay files repository t q = (id : ObjectId) → OnWay repository t q id → HasObject files t id
+
+-- a manifest under its seal, of a tree whose root it names, and what a question wants in that
+pub record HasAnswer (is_seal : List ℕ → List ℕ → Bool) (files : Files) (t : Nodes) (m : Manifest) (q : Question) : Type 0 where
+  pub text : List ℕ
+  pub there : files manifest_name ≡ Some text
+  pub says : Says is_seal text m
+  pub tree : IsTree t
+  pub fits : Fits t
+  pub root : m.head.root ≡ root_of t
+  pub way : HasWay files m.name t q
 
 -- ---- what a client finds there
 

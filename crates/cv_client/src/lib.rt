@@ -3,6 +3,7 @@
 
 mod answering;
 mod ask_fault;
+mod asking;
 mod exchanging;
 mod fetching;
 pub mod laws;
@@ -16,6 +17,7 @@ mod url;
 
 pub use answering::answer;
 pub use ask_fault::AskFault;
+pub use asking::ask;
 pub use exchanging::{ExchangeFault, exchange};
 pub use fetching::fetch;
 pub use pinning::{fetch_manifest, pin};

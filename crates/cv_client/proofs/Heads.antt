@@ -1,0 +1,32 @@
+-- A question at the head that is served.
+use Rattle.std.proofs.Common.{◌≡◌, arith}
+use Rattle.std.specs.declared.result.Result.{Result}
+use Rattle.std.specs.declared.result.Result.TheVariants.{Err}
+use Rattle.cv_tree.specs.Tree.{Nodes, IsTree}
+use Rattle.cv_cut.specs.Catalogues.{root_of, Fits}
+use Rattle.cv_manifest.specs.declared.manifest.Manifest.{Manifest}
+use Rattle.cv_resolver.specs.Look.{Finding}
+use Rattle.cv_resolver.specs.Resolver.{IsOn}
+use Rattle.cv_resolver.specs.declared.found.ClientFault.{ClientFault}
+use Rattle.cv_client.specs.Pin.{client_at}
+use Rattle.cv_client.specs.Served.{IsPinned, IsWhole}
+use Rattle.cv_client.specs.declared.ask_fault.AskFault.{AskFault}
+use Rattle.cv_client.specs.declared.ask_fault.AskFault.TheVariants.{LinkFailed, BadReply, BadManifest, Refused, NoMemory}
+
+-- a client that knows nothing yet is pinned at the root of a tree
+pub on_head : {t : Nodes} (m : Manifest) → IsTree t → Fits t → m.head.root ≡ root_of t → IsOn t (client_at m)
+on_head m tree fits root = record {
+  tree = tree;
+  fits = fits;
+  root = root;
+  own = record { own = λ bytes c there. (let low = there.1 in absurd (omega (arith, low))) };
+  asked = tt;
+}
+
+-- where none was pinned, memory was wanted
+pub unpinned_whole : (m : Manifest) (fault : AskFault) (finding : Result Finding ClientFault) → IsPinned m (Err fault) → IsWhole finding (Err fault)
+unpinned_whole m LinkFailed finding is = absurd is
+unpinned_whole m BadReply finding is = absurd is
+unpinned_whole m BadManifest finding is = absurd is
+unpinned_whole m (Refused why) finding is = absurd is
+unpinned_whole m NoMemory finding is = tt
