@@ -4,4 +4,4 @@ mod Reading
 mod Turning
 mod Running
 mod Telling
-pub mod Laws
+pub mod Lemmas

@@ -41,7 +41,7 @@ use Rattle.cv_client.specs.declared.ask_fault.AskFault.TheVariants as ask_fault
 use Rattle.cv_client.specs.declared.url.Url.{Url}
 use Rattle.cv_shell.specs.Line.{Says}
 use Rattle.cv_shell.specs.Shells.{Turn, Runs, begins, goes as goes_on}
-use Rattle.cv_shell.specs.Tells.{IsServed, IsPinned, IsSo, found, refused, IsWhy, IsBlamed, TellsLine, told, blamed, renewed, kept, unread, bad_line, TellsEach, none, one_more}
+use Rattle.cv_shell.specs.Tells.{IsServed, IsPinned, IsSo, found, refused, IsWhy, IsBlamed, TellsLine, told, blamed, renewed, kept, unread, bad_line, TellsEach, none, one_more, ToldSo}
 use Rattle.cv_shell.specs.Texts.{answer_text, revision_line, fault_text, renewal_text, refusal}
 use Rattle.cv_shell.specs.Turns.{Said, said, said_of_fault, said_of_renewal, after_renewal, Prints, Renews, offered, unfetched, Turns, asks, renews, bad_line as other_form, unread as unread_line}
 use Rattle.cv_shell.specs.declared.line.Line.TheVariants.{Ask, Renew}
@@ -391,29 +391,24 @@ module _ (is_seal : List ℕ → List ℕ → Bool) (u : Url) (turn : Turn) (l l
 -- ---- lines
 
 module _ (is_seal : List ℕ → List ℕ → Bool) (u : Url) (first : Manifest) (l : Links) where
-  -- what was told so far
-  pub record ToldSo (turns : List Turn) (before : Links) (c : Client) : Type 0 where
-    pub manifest : Manifest
-    pub known : List (List ℕ)
-    pub tells : TellsEach is_seal u first l (client_at first) turns before manifest known c
-    pub pinned : IsPinned c manifest
-    pub knows : (s : List ℕ) → Contains (kept_bytes c.cache) s → Contains known s
+  -- what was told so far, by a client that knows nothing else
+  record KnownSo (turns : List Turn) (before : Links) (c : Client) : Type 0 where
+    so : ToldSo is_seal u first l turns before c
+    knows : (s : List ℕ) → Contains (kept_bytes c.cache) s → Contains so.known s
 
-  pub lines_tell : {left : Option (List ℕ)} {b rest : List ℕ} {turns : List Turn} {before : Links} {c : Client} → Runs is_seal u left b l (client_at first) turns rest before c → ToldSo turns before c
-  lines_tell begins = record {
-    manifest = first;
-    known = [];
-    tells = none;
-    pinned = record { name = refl; revision = refl; root = refl; idle = refl };
+  known_so : {left : Option (List ℕ)} {b rest : List ℕ} {turns : List Turn} {before : Links} {c : Client} → Runs is_seal u left b l (client_at first) turns rest before c → KnownSo turns before c
+  known_so begins = record {
+    so = record { manifest = first; known = []; tells = none; pinned = record { name = refl; revision = refl; root = refl; idle = refl } };
     knows = λ s has. (let low = has.1 in absurd (omega (arith, low)));
   }
-  lines_tell (goes_on {before = before} {after = after} {c' = c'} turn runs next turns) =
-      let so = lines_tell runs in
-      let one = tells_line is_seal u turn before after so.manifest so.known _ so.pinned so.knows c' turns in
+  known_so (goes_on {before = before} {after = after} {c' = c'} turn runs next turns) =
+      let was = known_so runs in
+      let so = was.so in
+      let one = tells_line is_seal u turn before after so.manifest so.known _ so.pinned was.knows c' turns in
       record {
-        manifest = one.then_;
-        known = so.known ++ one.given;
-        tells = one_more turn so.tells so.pinned one.tells;
-        pinned = one.pinned;
+        so = record { manifest = one.then_; known = so.known ++ one.given; tells = one_more turn so.tells so.pinned one.tells; pinned = one.pinned };
         knows = one.knows;
       }
+
+  pub lines_tell : {left : Option (List ℕ)} {b rest : List ℕ} {turns : List Turn} {before : Links} {c : Client} → Runs is_seal u left b l (client_at first) turns rest before c → ToldSo is_seal u first l turns before c
+  lines_tell runs = (known_so runs).so

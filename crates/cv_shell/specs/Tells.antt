@@ -20,11 +20,11 @@ use Rattle.cv_resolver.specs.declared.found.RenewFault.{RenewFault}
 use Rattle.cv_client.specs.Answer.{Given, Comes, bytes_in}
 use Rattle.cv_client.specs.Exchange.{Links}
 use Rattle.cv_client.specs.Fetch.{Fetches}
-use Rattle.cv_client.specs.Pin.{FetchesManifest}
+use Rattle.cv_client.specs.Pin.{FetchesManifest, client_at}
 use Rattle.cv_client.specs.declared.url.Url.{Url}
 use Rattle.cv_client.specs.declared.ask_fault.AskFault.TheVariants.{BadManifest}
 use Rattle.cv_shell.specs.Line.{Says}
-use Rattle.cv_shell.specs.Shells.{Turn}
+use Rattle.cv_shell.specs.Shells.{Turn, Runs}
 use Rattle.cv_shell.specs.Texts.{answer_text, revision_line, fault_text, renewal_text, refusal}
 use Rattle.cv_shell.specs.declared.line.Line.{Line}
 use Rattle.cv_shell.specs.declared.line.Line.TheVariants.{Ask, Renew}
@@ -101,3 +101,16 @@ module _ (is_seal : List ℕ → List ℕ → Bool) (u : Url) where
     none : TellsEach first l r [] l first [] r
     one_more : {turns : List Turn} {before after : Links} {m m' : Manifest} {known given : List (List ℕ)} {c c' : Client} (turn : Turn) → TellsEach first l r turns before m known c → IsPinned c m
         → TellsLine turn before after m known c c' m' given → TellsEach first l r (turns ++ turn ∷ []) after m' (known ++ given) c'
+
+-- What the lines told that a client answered which was pinned at first at a manifest, until these links had come back and it was this
+-- client: each text is so in the tree of the manifest at which the client was pinned then.
+pub record ToldSo (is_seal : List ℕ → List ℕ → Bool) (u : Url) (first : Manifest) (l : Links) (turns : List Turn) (before : Links) (c : Client) : Type 0 where
+  pub manifest : Manifest
+  pub known : List (List ℕ)
+  pub tells : TellsEach is_seal u first l (client_at first) turns before manifest known c
+  pub pinned : IsPinned c manifest
+
+-- each line of a shell that was answered tells so, by the links and the client of its own run
+abbrev pub LinesTell : Type 0
+LinesTell = (is_seal : List ℕ → List ℕ → Bool) (u : Url) (first : Manifest) (l : Links) (left : Option (List ℕ)) (b rest : List ℕ) (turns : List Turn) (before : Links) (c : Client)
+    → Runs is_seal u left b l (client_at first) turns rest before c → ToldSo is_seal u first l turns before c

@@ -1,6 +1,7 @@
 //! The shell: lines of questions about a served repository, answered at one pinned revision.
 #![tactic(auto)]
 
+pub mod laws;
 mod line;
 mod lines;
 mod printing;
