@@ -44,11 +44,11 @@ lives_then first [] k life kept is lived = (kept, subst (λ x. Lived x life kept
 lives_then first (l ∷ lives) k life kept is lived = (is.0, is.1, lives_then is.0 lives k life kept is.2 lived)
 
 module _ (name seal : List ℕ) (first : Kept) (lives : List Life) (k : Kept) (calls : List Call) (begun : IsKept first) (lived : Lives first lives k) where
-  pub on_line : (least : List Call) (f : Files) (life : Life) (kept : Kept) → IsLife k least calls life → Lived k life kept → StandsKept name (is_seal_by seal) f kept → OnLine name seal first lives k calls least f
+  pub on_line : (least : List Call) (f : Files) (life : Life) (kept : Kept) → IsLife k least calls life kept → Lived k life kept → StandsKept name (is_seal_by seal) f kept → OnLine name seal first lives k calls least f
   on_line least f life kept is then stands = record {
     life = life;
-    is_life = is;
     kept = kept;
+    is_life = is;
     stands = stands;
     lived = lives_then first lives k life kept lived then;
     line = prolongs first (lives ++ life ∷ []) kept begun (lives_then first lives k life kept lived then);
@@ -56,9 +56,12 @@ module _ (name seal : List ℕ) (first : Kept) (lives : List Life) (k : Kept) (c
 
   -- ---- while the repository is opened
 
+  cut_at_kept : (f : Files) (kept : Kept) → Lived k cut kept → StandsKept name (is_seal_by seal) f kept → OnLine name seal first lives k calls [] f
+  cut_at_kept f kept then stands = on_line [] f cut kept (opening refl then) then stands
+
   pub raised_on_line : (f : Files) → StandsKept name (is_seal_by seal) f k ⊎ StandsKept name (is_seal_by seal) f (raised k) → OnLine name seal first lives k calls [] f
-  raised_on_line f (inl s) = on_line [] f cut k (opening refl) (inl refl) s
-  raised_on_line f (inr s) = on_line [] f cut (raised k) (opening refl) (inr ((let e = s.kept.epoch in omega (arith, e)), refl)) s
+  raised_on_line f (inl s) = cut_at_kept f k (inl refl) s
+  raised_on_line f (inr s) = cut_at_kept f (raised k) (inr ((let e = s.kept.epoch in omega (arith, e)), refl)) s
 
   pub same_remains : (d : Disk) (f : Files) → Within on_way Nothing d f → Remains name seal first lives k calls d f
   same_remains d f w =
@@ -81,9 +84,9 @@ module _ (name seal : List ℕ) (first : Kept) (lives : List Life) (k : Kept) (c
     pub left_on_line : (f : Files) → IsLeft name (is_seal_by seal) v more f → OnLine name seal first lives k calls least f
     left_on_line f (behind done rest mid e does survives) =
         let m = made done mid does in
-        on_line least f (ran m.entries None) survives.kept (between done rest m.entries mid.state (cut_at done rest e) m.answers)
+        on_line least f (ran m.entries None) survives.kept (between done rest m.entries mid.state (cut_at done rest e) m.answers survives.crash)
         (record { room = room; end = mid.state; run = m.run; crash = survives.crash }) survives.stands
     left_on_line f (inside done rest mid o now r e does survives) =
         let m = made done mid does in
-        on_line least f (ran m.entries (Some (record { op = o; now = now }))) survives.kept (within done rest o now r m.entries mid.state (cut_at done (asked o now r ∷ rest) e) m.answers)
+        on_line least f (ran m.entries (Some (record { op = o; now = now }))) survives.kept (within done rest o now r m.entries mid.state (cut_at done (asked o now r ∷ rest) e) m.answers survives.crash)
         (record { room = room; end = mid.state; run = m.run; crash = survives.crash }) survives.stands

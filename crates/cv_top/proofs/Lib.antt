@@ -1,3 +1,4 @@
+mod Answering
 mod Commands
 mod Completing
 mod Headlines

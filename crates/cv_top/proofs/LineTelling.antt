@@ -11,9 +11,8 @@ use Rattle.cv_client.specs.Pin.{Pins, pinned, client_at}
 use Rattle.cv_client.specs.declared.ask_fault.AskFault.{AskFault}
 use Rattle.cv_client.specs.declared.ask_fault.AskFault.TheVariants as ask_fault
 use Rattle.cv_client.specs.declared.url.Url.{Url}
-use Rattle.cv_shell.specs.Shells.{Turn, Ends, ended, too_long, unread, by_line, no_memory}
 use Rattle.cv_shell.specs.declared.shell_end.ShellEnd.{ShellEnd}
-use Rattle.cv_shell.proofs.Laws.{ToldSo, lines_tell}
+use Rattle.cv_shell.proofs.Lemmas.{lines_tell}
 use Rattle.cv_top.specs.Lines.{IsShell, Answering, AnswersLines, answered, unpinned, LinesTold, TellsLines, lines, silent, is_silent}
 use Rattle.cv_top.specs.Runs.{Outside, Runs, usage, bad_keys, no_seal, unbegun, init, stdio, look, shell}
 use Rattle.cv_top.specs.Seal.{is_seal_by}
@@ -23,20 +22,6 @@ use Rattle.cv_top.specs.declared.status.Status.{Status}
 use Rattle.cv_top.specs.declared.words.Command.TheVariants.{Shell}
 use Rattle.cv_top.proofs.Commands.{no_shell, no_shell_init, no_shell_stdio}
 use Rattle.cv_top.proofs.Pinning.{is_refused, never_refused}
-
--- the turns of a shell were told so
-record TurnsTold (is_seal : List ℕ → List ℕ → Bool) (u : Url) (first : Manifest) (l : Links) (turns : List Turn) : Type 0 where
-  before : Links
-  client : Client
-  so : ToldSo is_seal u first l turns before client
-
-turns_told : {is_seal : List ℕ → List ℕ → Bool} {u : Url} {first : Manifest} {left : Option (List ℕ)} {b : List ℕ} {l l' : Links} {r' : Client} {taken taken' : Option (List ℕ)} {turns : List Turn} {end : ShellEnd}
-    → Ends is_seal u left b l l' (client_at first) r' taken taken' turns end → TurnsTold is_seal u first l turns
-turns_told {is_seal} {u} {first} {l = l} (ended runs none took) = record { before = _; client = _; so = lines_tell is_seal u first l runs }
-turns_told {is_seal} {u} {first} {l = l} (too_long rest runs long took) = record { before = _; client = _; so = lines_tell is_seal u first l runs }
-turns_told {is_seal} {u} {first} {l = l} (unread rest runs part took) = record { before = _; client = _; so = lines_tell is_seal u first l runs }
-turns_told {is_seal} {u} {first} {l = l} (by_line rest line later before c end runs next answers) = record { before = _; client = _; so = lines_tell is_seal u first l runs }
-turns_told {is_seal} {u} {first} {l = l} (no_memory rest runs took) = record { before = _; client = _; so = lines_tell is_seal u first l runs }
 
 -- where no client is pinned, no question is refused
 silent_fault : (fault : AskFault) → is_refused fault ≡ false → is_silent (ask_status fault) ≡ true
@@ -56,7 +41,6 @@ module _ {V : Type 0} (disk : V → Option Disk) (count : V → ℕ) (left : V �
       → Answering rest looks taken passed seal u client client' mid (came b.dial) a.input b.input a.output b.output end → Tells (shell_status end)
   pinned_tell u mid client client' end asks (pinned first fetched) answering =
       let shells = answering.are in
-      let told = turns_told shells.ends in
       lines (record {
         url = u;
         asks = asks;
@@ -70,11 +54,7 @@ module _ {V : Type 0} (disk : V → Option Disk) (count : V → ℕ) (left : V �
         end = end;
         ends = shells.ends;
         is = refl;
-        links = told.before;
-        last = told.so.manifest;
-        known = told.so.known;
-        pinned = told.client;
-        tells = told.so.tells;
+        tells = λ later links last runs. lines_tell (is_seal_by seal) u first mid runs;
       })
 
   answers_tell : (u : Url) (status : Status) → Asks words (Shell u) → AnswersLines rest looks taken passed seal u (came a.dial) (came b.dial) a.input b.input a.output b.output status → Tells status

@@ -9,7 +9,7 @@ use Rattle.cv_client.specs.Pin.{Pins, pinned, unpinned, no_room}
 use Rattle.cv_client.specs.declared.ask_fault.AskFault.{AskFault}
 use Rattle.cv_client.specs.declared.ask_fault.AskFault.TheVariants.{LinkFailed, BadReply, BadManifest, Refused, NoMemory}
 use Rattle.cv_client.specs.declared.url.Url.{Url}
-use Rattle.cv_shell.proofs.Laws.{not_refused}
+use Rattle.cv_shell.proofs.Lemmas.{not_refused}
 
 -- the answers that tell of the tree
 abbrev pub is_refused : AskFault → Bool

@@ -22,7 +22,8 @@ use Rattle.cv_client.specs.declared.ask_fault.AskFault.TheVariants as ask_fault
 use Rattle.cv_client.specs.declared.exchanging.ExchangeFault.TheVariants as exchange_fault
 use Rattle.cv_client.specs.declared.url.Url.{Url}
 use Rattle.cv_shell.specs.Tells.{IsServed}
-use Rattle.cv_top.specs.Looks.{Told, pinned, unpinned, Prints, printed, unprinted, unwritten, Looks, answered, unanswered}
+use Rattle.cv_client.specs.Told.{Told, pinned, unpinned}
+use Rattle.cv_top.specs.Looks.{Prints, printed, unprinted, unwritten, Looks, answered, unanswered}
 use Rattle.cv_top.specs.Runs.{Outside, Runs, usage, bad_keys, no_seal, unbegun, init, stdio, look, shell}
 use Rattle.cv_top.specs.Seal.{is_seal_by}
 use Rattle.cv_top.specs.Status.{ask_status}
@@ -105,7 +106,7 @@ module _ (seal : List ℕ) (u : Url) (q : Question) (before after : Links) where
       → tells r ≡ true → Ground r
   ground_pinned mid client client' r (pins m fetched) said spoken = ground_of mid m client' r fetched said spoken
 
-  ground : (r : Result Found AskFault) → Told seal u q before after r → tells r ≡ true → Ground r
+  ground : (r : Result Found AskFault) → Told (is_seal_by seal) u q before after r → tells r ≡ true → Ground r
   ground r (pinned mid client client' answer p said) spoken = ground_pinned mid client client' r p said spoken
   ground r (unpinned fault p) spoken = (let none : is_refused fault ≡ false = never_refused fault p in absurd cc)
 
@@ -151,7 +152,7 @@ module _ (seal : List ℕ) (u : Url) (q : Question) (before after : Links) where
       so = λ t is. so (found_in g.manifest.name t q) (g.says t is);
     }
 
-    tells_fault : (fault : AskFault) → Told seal u q before after (Err fault) → tells_of_tree (ask_status fault) ≡ true → Tells taken words seal before after output output' (ask_status fault)
+    tells_fault : (fault : AskFault) → Told (is_seal_by seal) u q before after (Err fault) → tells_of_tree (ask_status fault) ≡ true → Tells taken words seal before after output output' (ask_status fault)
     tells_fault ask_fault.LinkFailed told speaks = absurd cc
     tells_fault ask_fault.BadReply told speaks = absurd cc
     tells_fault ask_fault.BadManifest told speaks = absurd cc

@@ -18,7 +18,7 @@ use Rattle.cv_swap.proofs.Lemmas.{leaves_while, failed_stands, unraised_stands}
 use Rattle.cv_gate.specs.State.{State}
 use Rattle.cv_gate.specs.Sound.{AreLeases}
 use Rattle.cv_gate.specs.Kept.{reopened}
-use Rattle.cv_gate.specs.Lives.{Life, cut, Lives}
+use Rattle.cv_gate.specs.Lives.{Life, Lives}
 use Rattle.cv_gate.specs.Desk.{Call}
 use Rattle.cv_gate.specs.Solo.{AnswersAll}
 use Rattle.cv_gate.specs.declared.entry.Entry.{Entry}
@@ -31,7 +31,7 @@ use Rattle.cv_top.specs.Seal.{is_seal_by}
 use Rattle.cv_top.specs.declared.status.Status.{Status}
 use Rattle.cv_top.specs.declared.words.Command.TheVariants.{Stdio}
 use Rattle.cv_top.proofs.Commands.{not_both, one_name, no_stdio, no_shell_stdio}
-use Rattle.cv_top.proofs.Headlines.{KeepsRaised, now_image, on_line, raised_on_line, same_remains, opening_remains}
+use Rattle.cv_top.proofs.Headlines.{KeepsRaised, now_image, raised_on_line, same_remains, opening_remains}
 
 -- the law of files that stand for what is kept
 abbrev pub RefusesFew : Type 0
@@ -82,7 +82,7 @@ module _ {V : Type 0} (disk : V → Option Disk) (count : V → ℕ) (left : V �
             each = λ f l. same_remains name seal first lives k [] begun lived d f (record { each = λ n off. inl (subst (λ (o : Option Disk). ImageOf o f) told (only_now v f l) n) });
             before = λ m f le l. inl l;
           })
-          d told (on_line name seal first lives k [] begun lived [] (files_now d) cut k (opening refl) (inl refl) kept)
+          d told (raised_on_line name seal first lives k [] begun lived (files_now d) (inl kept))
 
       refused : (x : OpenFault) (v v' : V) → disk v ≡ Some d → GateOpens disk count left name is_seal_by seal d v (Err (x, v')) → KeepsLine name seal first lives k [] disk count left d v v'
       refused x v v' told (inl opens) = unserved v v'

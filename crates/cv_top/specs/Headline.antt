@@ -8,8 +8,8 @@ use Rattle.cv_swap.specs.Kept.{Kept}
 use Rattle.cv_swap.specs.Stands.{Stands, AddObjects}
 use Rattle.cv_gate.specs.State.{State}
 use Rattle.cv_gate.specs.Sound.{AreLeases}
-use Rattle.cv_gate.specs.Kept.{reopened}
-use Rattle.cv_gate.specs.Lives.{Life, ran, cut, Lives, Prolongs}
+use Rattle.cv_gate.specs.Kept.{reopened, Crash}
+use Rattle.cv_gate.specs.Lives.{Life, ran, cut, Lived, Lives, Prolongs}
 use Rattle.cv_gate.specs.Desk.{Call, asked}
 use Rattle.cv_gate.specs.Solo.{AnswersAll}
 use Rattle.cv_gate.specs.declared.entry.Entry.{Entry}
@@ -17,22 +17,24 @@ use Rattle.cv_gate.specs.declared.op.Op.{Op}
 use Rattle.cv_gate.specs.declared.reply.Reply.{Reply}
 use Rattle.cv_top.specs.Seal.{is_seal_by}
 
--- The life of the program over what was kept in which at least the first of its calls were answered, each by the state behind the entries
--- before it, and maybe one more was begun; or it was cut while it opened the repository.
-pub data IsLife (k : Kept) (least calls : List Call) : Life → Type 0 where
-  opening : least ≡ [] → IsLife k least calls cut
-  between : (later more : List Call) (entries : List Entry) (end : State) → calls ≡ (least ++ later) ++ more → AnswersAll (reopened k) (least ++ later) entries end
-      → IsLife k least calls (ran entries None)
-  within : (later more : List Call) (o : Op) (now : ℕ) (r : Reply) (entries : List Entry) (end : State) → calls ≡ (least ++ later) ++ asked o now r ∷ more
-      → AnswersAll (reopened k) (least ++ later) entries end → IsLife k least calls (ran entries (Some (record { op = o; now = now })))
+-- The life of the program over what was kept, and what a crash left of it: at least the first of its calls were answered, each by the state
+-- behind the entries before it, and maybe one more was begun, and the crash left what one may leave of the state behind these; or it was cut
+-- while it opened the repository.
+pub data IsLife (k : Kept) (least calls : List Call) : Life → Kept → Type 0 where
+  opening : {kept : Kept} → least ≡ [] → Lived k cut kept → IsLife k least calls cut kept
+  between : (later more : List Call) (entries : List Entry) (end : State) {kept : Kept} → calls ≡ (least ++ later) ++ more → AnswersAll (reopened k) (least ++ later) entries end
+      → Crash end None kept → IsLife k least calls (ran entries None) kept
+  within : (later more : List Call) (o : Op) (now : ℕ) (r : Reply) (entries : List Entry) (end : State) {kept : Kept} → calls ≡ (least ++ later) ++ asked o now r ∷ more
+      → AnswersAll (reopened k) (least ++ later) entries end → Crash end (Some (record { op = o; now = now })) kept
+      → IsLife k least calls (ran entries (Some (record { op = o; now = now }))) kept
 
 -- the repository's name and its seal; what was kept first, the lives since then, and what they came to; and the calls of one life more
 module _ (name seal : List ℕ) (first : Kept) (lives : List Life) (k : Kept) (calls : List Call) where
   -- the files stand for what was kept first, with the revisions that the lives made, the last of which answered at least these calls
   pub record OnLine (least : List Call) (f : Files) : Type 0 where
     pub life : Life
-    pub is_life : IsLife k least calls life
     pub kept : Kept
+    pub is_life : IsLife k least calls life kept
     pub stands : Stands name (is_seal_by seal) f kept
     pub lived : Lives first (lives ++ life ∷ []) kept
     pub line : Prolongs first (lives ++ life ∷ []) kept

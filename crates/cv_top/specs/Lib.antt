@@ -7,4 +7,5 @@ pub mod Seal
 pub mod Sealed
 pub mod Status
 pub mod Tells
+pub mod Wholes
 pub mod Words

@@ -9,8 +9,8 @@ use Rattle.cv_client.specs.Exchange.{Links}
 use Rattle.cv_client.specs.Pin.{FetchesManifest, Pins, client_at}
 use Rattle.cv_client.specs.declared.ask_fault.AskFault.{AskFault}
 use Rattle.cv_client.specs.declared.url.Url.{Url}
-use Rattle.cv_shell.specs.Shells.{unheld, Turn, Ends, ReadsUpToDate, Shells}
-use Rattle.cv_shell.specs.Tells.{TellsEach}
+use Rattle.cv_shell.specs.Shells.{unheld, Turn, Runs, Ends, ReadsUpToDate, Shells}
+use Rattle.cv_shell.specs.Tells.{ToldSo}
 use Rattle.cv_shell.specs.declared.shell_end.ShellEnd.{ShellEnd}
 use Rattle.cv_top.specs.Seal.{is_seal_by}
 use Rattle.cv_top.specs.Status.{ask_status, shell_status}
@@ -52,7 +52,8 @@ module _ {R W : Type 0} (rest : R → Option (List ℕ)) (looks : R → Look →
 -- what an input has left, and what an output took
 module _ {R W : Type 0} (rest : R → Option (List ℕ)) (taken : W → Option (List ℕ)) where
   -- The manifest came in the first exchange, and has its seal. A client that was pinned there answered the lines of these turns, until the
-  -- shell ended so; each text is so in the tree with the root of the manifest at which the client was pinned then.
+  -- shell ended so; and by the links and the client to which they came, each text is so in the tree with the root of the manifest at which
+  -- the client was pinned then.
   pub record LinesTold (words : List (List ℕ)) (seal : List ℕ) (before after : Links) (input input' : R) (output output' : W) (status : Status) : Type 0 where
     pub url : Url
     pub asks : Asks words (Shell url)
@@ -66,11 +67,8 @@ module _ {R W : Type 0} (rest : R → Option (List ℕ)) (taken : W → Option (
     pub end : ShellEnd
     pub ends : Ends (is_seal_by seal) url (rest input') read mid after (client_at first) client (taken output) (taken output') turns end
     pub is : status ≡ shell_status end
-    pub links : Links
-    pub last : Manifest
-    pub known : List (List ℕ)
-    pub pinned : Client
-    pub tells : TellsEach (is_seal_by seal) url first mid (client_at first) turns links last known pinned
+    pub tells : (later : List ℕ) (links : Links) (pinned : Client) → Runs (is_seal_by seal) url (rest input') read mid (client_at first) turns later links pinned
+        → ToldSo (is_seal_by seal) url first mid turns links pinned
 
   -- so it is, or no line was read and nothing was printed
   pub data TellsLines (words : List (List ℕ)) (seal : List ℕ) (before after : Links) (input input' : R) (output output' : W) (status : Status) : Type 0 where

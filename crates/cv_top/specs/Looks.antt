@@ -1,27 +1,18 @@
 -- What a client's command does: it asks one question at the head that is served, and prints the answer.
 use Rattle.std.specs.Prelude.{◌≡◌, ℕ, List, Option}
-use Rattle.std.specs.declared.result.Result.{Result}
 use Rattle.std.specs.declared.result.Result.TheVariants.{Ok, Err}
 use Rattle.cv_ports.specs.Streams.{onto, Wrote}
-use Rattle.cv_resolver.specs.Resolver.{Client}
 use Rattle.cv_resolver.specs.declared.question.Question.{Question}
 use Rattle.cv_resolver.specs.declared.found.Found.{Found}
-use Rattle.cv_client.specs.Answer.{Answers}
 use Rattle.cv_client.specs.Exchange.{Links}
-use Rattle.cv_client.specs.Pin.{Pins}
 use Rattle.cv_client.specs.Texts.{found_text}
+use Rattle.cv_client.specs.Told.{Told}
 use Rattle.cv_client.specs.declared.ask_fault.AskFault.{AskFault}
 use Rattle.cv_client.specs.declared.url.Url.{Url}
 use Rattle.cv_top.specs.Seal.{is_seal_by}
 use Rattle.cv_top.specs.Status.{ask_status}
 use Rattle.cv_top.specs.declared.status.Status.{Status}
 use Rattle.cv_top.specs.declared.status.Status.TheVariants.{Done, OutputFailed, OutOfMemory}
-
--- A client was pinned at the manifest of the first reply, under the seal, and told its answer there; or it wasn't pinned.
-pub data Told (seal : List ℕ) (u : Url) (q : Question) (before after : Links) : Result Found AskFault → Type 0 where
-  pinned : (mid : Links) (client client' : Client) (answer : Result Found AskFault) → Pins (is_seal_by seal) u before mid (Ok client)
-      → Answers u q mid after client client' answer → Told seal u q before after answer
-  unpinned : (fault : AskFault) → Pins (is_seal_by seal) u before after (Err fault) → Told seal u q before after (Err fault)
 
 -- what an output took
 module _ {W : Type 0} (taken : W → Option (List ℕ)) where
@@ -34,7 +25,7 @@ module _ {W : Type 0} (taken : W → Option (List ℕ)) where
   -- and the links that came back to a dial
   module _ {N : Type 0} (came : N → Links) where
     pub data Looks (seal : List ℕ) (u : Url) (q : Question) (output output' : W) (dial dial' : N) : Status → Type 0 where
-      answered : (found : Found) (status : Status) → Told seal u q (came dial) (came dial') (Ok found) → Prints found output output' status
+      answered : (found : Found) (status : Status) → Told (is_seal_by seal) u q (came dial) (came dial') (Ok found) → Prints found output output' status
           → Looks seal u q output output' dial dial' status
-      unanswered : (fault : AskFault) → Told seal u q (came dial) (came dial') (Err fault) → output' ≡ output
+      unanswered : (fault : AskFault) → Told (is_seal_by seal) u q (came dial) (came dial') (Err fault) → output' ≡ output
           → Looks seal u q output output' dial dial' (ask_status fault)

@@ -10,9 +10,10 @@ use Rattle.cv_http.specs.declared.fault.HttpFault.TheVariants.{Short}
 use Rattle.cv_keys.specs.KeysText.{keys_of}
 use Rattle.cv_keys.specs.declared.key.Key.{Key}
 use Rattle.cv_keys.specs.declared.key_fault.KeyFault.{KeyFault}
-use Rattle.cv_swap.specs.Init.{MakesFirst}
+use Rattle.cv_swap.specs.First.{first_revision}
+use Rattle.cv_swap.specs.Init.{MakesFirst, WritesHead}
 use Rattle.cv_swap.specs.Kept.{Kept, IsKept}
-use Rattle.cv_swap.specs.Stands.{Stands as StandsKept}
+use Rattle.cv_swap.specs.Stands.{Stands as StandsKept, head_of, head_text}
 use Rattle.cv_swap.specs.declared.init_fault.InitFault.{InitFault}
 use Rattle.cv_swap.specs.declared.open_fault.OpenFault.{OpenFault}
 use Rattle.cv_gate.specs.Desk.{DeskView, Call}
@@ -80,11 +81,13 @@ module _ {V : Type 0} (disk : V → Option Disk) (count : V → ℕ) (left : V �
 
   -- what an output took, and the moments that a clock will give
   module _ {W C : Type 0} (taken : W → Option (List ℕ)) (moments : C → Option (ℕ → ℕ)) where
-    -- the first revision of a repository was made at the clock's moment, or wasn't by this fault
+    -- the first revision of a repository was made at the clock's moment, or wasn't by this fault; at its manifest's name comes its one
+    -- spelling and no other text, then and at any crash
     pub record Makes (name seal : List ℕ) (v v' : V) (clock clock' : C) (r : Result (Unit {0}) InitFault) : Type 0 where
       pub now : ℕ
       pub moment : Gives (moments clock) (now ∷ []) (moments clock')
       pub makes : WhereTold (disk v) (λ d. MakesFirst disk count left name (is_seal_by seal) now d r v v')
+      pub text : WhereTold (disk v) (λ d. WritesHead disk count left (head_text (hmac_sha1 seal) name (head_of (first_revision now))) d v v')
 
     pub data Inits (name seal : List ℕ) (v v' : V) (output output' : W) (clock clock' : C) : Status → Type 0 where
       -- it was made, and that was said

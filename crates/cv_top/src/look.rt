@@ -1,34 +1,18 @@
 //! The commands of a client.
-ghost use Rattle.std.specs.Prelude.{◌≡◌, ◌≢◌, Err};
-ghost use Rattle.cv_base.specs.Counts.{HasCause, Rose};
-ghost use Rattle.cv_client.specs.declared.ask_fault.AskFault.TheVariants as ask_fault;
-ghost use Rattle.cv_top.specs.Looks.{Told, Prints, Looks};
+ghost use Rattle.std.specs.Prelude.{◌≡◌, ◌≢◌};
+ghost use Rattle.cv_base.specs.Counts.{HasCause};
+ghost use Rattle.cv_top.specs.Complete.{IsSteady};
+ghost use Rattle.cv_top.specs.Looks.{Prints, Looks};
+ghost use Rattle.cv_top.specs.Wholes.{Answered};
 ghost use Rattle.cv_top.specs.declared.status.Status.TheVariants.{InputFailed, OutputFailed, StoreFailed, LinkFailed};
 
 use crate::print::print;
 use crate::status::Status;
-use cv_client::{AskFault, Url, answer, found_text, pin};
+use cv_client::{Url, ask, found_text};
 use cv_ports::{Dial, Failed, Sink};
 use cv_resolver::{Found, Question};
 use cv_seal::KeyedHash;
 use std::alloc::Global;
-
-/// Asks a question at the head that is served under a URL.
-fn ask<N: Dial>(
-    alloc: Global,
-    url: &Url,
-    signer: &KeyedHash,
-    question: Question,
-    dial: &mut N,
-) -> Result<Found, AskFault>
-    ensures told { Told signer.now url.now question (N.came dial.old) (N.came dial.new) result }
-    ensures cause { result ≡ Err ask_fault.LinkFailed → Rose 1 (N.faults dial.old) (N.faults dial.new) }
-{
-    match pin(alloc, dial, url, signer) {
-        Ok(mut resolver) => answer(alloc, dial, url, &mut resolver, question),
-        Err(fault) => Err(fault),
-    }
-}
 
 /// Prints an answer.
 fn print_answer<W: Sink>(alloc: Global, found: Found, output: &mut W) -> Status
@@ -62,9 +46,11 @@ pub(crate) fn look<W: Sink, N: Dial>(
     ensures reads { result ≢ InputFailed }
     ensures writes { HasCause (W.faults output.old) (W.faults output.new) (result ≡ OutputFailed) }
     ensures stores { result ≢ StoreFailed }
-    ensures links { result ≡ LinkFailed → Rose 1 (N.faults dial.old) (N.faults dial.new) }
+    ensures links { HasCause (N.faults dial.old) (N.faults dial.new) (result ≡ LinkFailed) }
+    ensures answered { IsSteady (W.faults output.old) (W.faults output.new) → IsSteady (N.faults dial.old) (N.faults dial.new)
+        → Answered W.taken signer.now url.now question (N.came dial.old) (N.came dial.new) output.old output.new result }
 {
-    match ask(alloc, url, signer, question, dial) {
+    match ask(alloc, dial, url, signer, question) {
         Ok(found) => print_answer(alloc, found, output),
         Err(fault) => Status::of_ask(fault),
     }

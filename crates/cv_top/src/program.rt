@@ -1,5 +1,5 @@
 //! The program's own call.
-ghost use Rattle.std.specs.Prelude.{◌≡◌, ◌≢◌, ◌⊎◌, true, map, string_bytes};
+ghost use Rattle.std.specs.Prelude.{◌≡◌, ◌≢◌, ◌⊎◌, [], true, map, string_bytes};
 ghost use Rattle.cv_base.specs.Counts.{HasCause, Rose};
 ghost use Rattle.cv_ports.specs.Streams.{onto, Wrote};
 ghost use Rattle.cv_top.specs.Complete.{IsSteady, Completes};
@@ -9,6 +9,7 @@ ghost use Rattle.cv_top.specs.Runs.{Inits, Serves, Keeps, Runs, outside};
 ghost use Rattle.cv_top.specs.Sealed.{Sealed};
 ghost use Rattle.cv_top.specs.Status.{line_of};
 ghost use Rattle.cv_top.specs.Tells.{IsQuestion, Tells, tells_of_tree};
+ghost use Rattle.cv_top.specs.Wholes.{Answered, Answers};
 ghost use Rattle.cv_top.specs.declared.status.Status.TheVariants.{InputFailed, OutputFailed, StoreFailed, LinkFailed};
 
 use crate::init::init;
@@ -101,7 +102,9 @@ fn do_look<W: Sink, N: Dial>(
     ensures reads { result ≢ InputFailed }
     ensures writes { HasCause (W.faults output.old) (W.faults output.new) (result ≡ OutputFailed) }
     ensures stores { result ≢ StoreFailed }
-    ensures links { result ≡ LinkFailed → Rose 1 (N.faults dial.old) (N.faults dial.new) }
+    ensures links { HasCause (N.faults dial.old) (N.faults dial.new) (result ≡ LinkFailed) }
+    ensures answered { IsSteady (W.faults output.old) (W.faults output.new) → IsSteady (N.faults dial.old) (N.faults dial.new) → seal.now ≢ []
+        → Answered W.taken seal.now url.now question (N.came dial.old) (N.came dial.new) output.old output.new result }
 {
     match read_seal(alloc, seal) {
         Ok(signer) => look(alloc, url, &signer, question, output, dial),
@@ -126,7 +129,7 @@ fn do_shell<R: Source + Drop, W: Sink, N: Dial>(
     ensures reads { HasCause (R.faults input) (R.faults result.1) (result.0 ≡ InputFailed) }
     ensures writes { HasCause (W.faults output.old) (W.faults output.new) (result.0 ≡ OutputFailed) }
     ensures stores { result.0 ≢ StoreFailed }
-    ensures links { result.0 ≡ LinkFailed → Rose 1 (N.faults dial.old) (N.faults dial.new) }
+    ensures links { HasCause (N.faults dial.old) (N.faults dial.new) (result.0 ≡ LinkFailed) }
 {
     match read_seal(alloc, seal) {
         Ok(signer) => answer_lines(alloc, url, &signer, input, output, dial),
@@ -154,7 +157,10 @@ fn do_command<V: Vault + Drop, R: Source + Drop, W: Sink, C: Clock, N: Dial, H: 
     ensures reads { HasCause (R.faults input) (R.faults result.2) (result.0 ≡ InputFailed) }
     ensures writes { HasCause (W.faults output.old) (W.faults output.new) (result.0 ≡ OutputFailed) }
     ensures stores { HasCause (V.faults vault) (V.faults result.1) (result.0 ≡ StoreFailed) }
-    ensures links { result.0 ≡ LinkFailed → Rose 1 (N.faults dial.old) (N.faults dial.new) }
+    ensures links { HasCause (N.faults dial.old) (N.faults dial.new) (result.0 ≡ LinkFailed) }
+    ensures answered { IsSteady (W.faults output.old) (W.faults output.new) → IsSteady (N.faults dial.old) (N.faults dial.new)
+        → IsQuestion (map string_bytes words.now) → seal.now ≢ []
+        → Answers W.taken (map string_bytes words.now) seal.now (N.came dial.old) (N.came dial.new) output.old output.new result.0 }
 {
     match read_words(alloc, words) {
         Ok(Command::Init(name)) => {
@@ -221,11 +227,16 @@ pub fn run<V: Vault + Drop, R: Source + Drop, W: Sink, E: Sink, C: Clock, N: Dia
     ensures reads { HasCause (R.faults parts.input) (R.faults result.1.input) (result.0 ≡ InputFailed) }
     ensures writes { HasCause (W.faults parts.output) (W.faults result.1.output) (result.0 ≡ OutputFailed) }
     ensures stores { HasCause (V.faults parts.vault) (V.faults result.1.vault) (result.0 ≡ StoreFailed) }
-    ensures links { result.0 ≡ LinkFailed → Rose 1 (N.faults parts.dial) (N.faults result.1.dial) }
+    ensures links { HasCause (N.faults parts.dial) (N.faults result.1.dial) (result.0 ≡ LinkFailed) }
 
     // Where no count rose, `init` and `stdio` do their work, or want memory.
     ensures completes { IsSteady (R.faults parts.input) (R.faults result.1.input) → IsSteady (W.faults parts.output) (W.faults result.1.output) → IsSteady (V.faults parts.vault) (V.faults result.1.vault)
         → Completes (map string_bytes words.now) (string_bytes parts.keys) (string_bytes parts.seal) (V.disk parts.vault) result.0 }
+
+    // And a client's command tells the answer, where each link that came back sent what the server has, and it has the answer.
+    ensures answered { IsSteady (W.faults parts.output) (W.faults result.1.output) → IsSteady (N.faults parts.dial) (N.faults result.1.dial)
+        → IsQuestion (map string_bytes words.now) → string_bytes parts.seal ≢ []
+        → Answers W.taken (map string_bytes words.now) (string_bytes parts.seal) (N.came parts.dial) (N.came result.1.dial) parts.output result.1.output result.0 }
 
     // Whatever its links give: what a client's command tells is so in the tree of the head that is served.
     ensures tells { IsQuestion (map string_bytes words.now) → tells_of_tree result.0 ≡ true

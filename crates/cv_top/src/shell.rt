@@ -1,6 +1,6 @@
 //! The shell's command.
 ghost use Rattle.std.specs.Prelude.{◌≡◌, ◌≢◌};
-ghost use Rattle.cv_base.specs.Counts.{HasCause, Rose};
+ghost use Rattle.cv_base.specs.Counts.{HasCause};
 ghost use Rattle.cv_top.specs.Lines.{AnswersLines};
 ghost use Rattle.cv_top.specs.declared.status.Status.TheVariants.{InputFailed, OutputFailed, StoreFailed, LinkFailed};
 
@@ -26,7 +26,7 @@ pub(crate) fn answer_lines<R: Source + Drop, W: Sink, N: Dial>(
     ensures reads { HasCause (R.faults input) (R.faults result.1) (result.0 ≡ InputFailed) }
     ensures writes { HasCause (W.faults output.old) (W.faults output.new) (result.0 ≡ OutputFailed) }
     ensures stores { result.0 ≢ StoreFailed }
-    ensures links { result.0 ≡ LinkFailed → Rose 1 (N.faults dial.old) (N.faults dial.new) }
+    ensures links { HasCause (N.faults dial.old) (N.faults dial.new) (result.0 ≡ LinkFailed) }
 {
     match pin(alloc, dial, url, signer) {
         Ok(mut resolver) => {

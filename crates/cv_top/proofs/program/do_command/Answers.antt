@@ -3,6 +3,7 @@ use Rattle.std.specs.Prelude.{string_bytes}
 use Rattle.cv_keys.specs.KeysText.{keys_of}
 use Rattle.cv_top.specs.Runs.{usage, bad_keys, unbegun}
 use Rattle.cv_top.specs.Words.{Asks}
+use Rattle.cv_top.proofs.Commands.{no_init, no_stdio, no_shell}
 use Rattle.cv_top.proofs.KeyFaults.{fault_or_memory}
 use Rattle.cv_top.proofs.Sealing.{runs_init, runs_stdio, runs_look, runs_shell}
 use Rattle.cv_top.proofs.program.do_command.Goals as goal
@@ -44,3 +45,39 @@ returns-in-Ok-Stdio-clause-runs g c =
 
 pub returns-clause-runs : goal.returns-clause-runs
 returns-clause-runs g c = unbegun refl
+
+pub returns-in-Ok-Init-clause-answered : goal.returns-in-Ok-Init-clause-answered
+returns-in-Ok-Init-clause-answered g c = λ writes links asked some.
+    absurd (no_init asked.url asked.question c.in-Ok-Init.name asked.asks (subst (Asks (map string_bytes c.args.words.now)) c.in-Ok-Init.field-0-is c.in-Ok-Init.ensures.command))
+
+pub returns-in-Ok-clause-answered : goal.returns-in-Ok-clause-answered
+returns-in-Ok-clause-answered g c = λ writes links asked some.
+    absurd (no_stdio asked.url asked.question c.in-Ok-Stdio.name asked.asks (subst (Asks (map string_bytes c.args.words.now)) c.in-Ok-Stdio.field-0-is c.in-Ok-Stdio.ensures.command))
+
+pub returns-in-Ok-Stdio-clause-answered : goal.returns-in-Ok-Stdio-clause-answered
+returns-in-Ok-Stdio-clause-answered g c = λ writes links asked some.
+    absurd (no_stdio asked.url asked.question c.in-Ok-Stdio.name asked.asks (subst (Asks (map string_bytes c.args.words.now)) c.in-Ok-Stdio.field-0-is c.in-Ok-Stdio.ensures.command))
+
+pub returns-in-Ok-Look-clause-answered : goal.returns-in-Ok-Look-clause-answered
+returns-in-Ok-Look-clause-answered g c = λ writes links asked some. record {
+  url = _;
+  question = _;
+  asks = subst (Asks (map string_bytes c.args.words.now)) c.in-Ok-Look.field-0-is c.in-Ok-Look.ensures.command;
+  answered = c.do_look-status.ensures.answered writes links some;
+}
+
+pub returns-in-Ok-Shell-clause-answered : goal.returns-in-Ok-Shell-clause-answered
+returns-in-Ok-Shell-clause-answered g c = λ writes links asked some.
+    absurd (no_shell asked.url _ asked.question asked.asks (subst (Asks (map string_bytes c.args.words.now)) c.in-Ok-Shell.field-0-is c.in-Ok-Shell.ensures.command))
+
+pub returns-in-Err-Usage-clause-answered : goal.returns-in-Err-Usage-clause-answered
+returns-in-Err-Usage-clause-answered g c = λ writes links asked some.
+    absurd (c.read_words.ensures.usage (c.in-Err-Usage.is ∙ ap (λ fault. Err fault) c.in-Err-Usage.field-0-is) (record { command = _; asks = asked.asks }))
+
+pub returns-clause-answered : goal.returns-clause-answered
+returns-clause-answered g c = λ writes links asked some. record {
+  url = asked.url;
+  question = asked.question;
+  asks = asked.asks;
+  answered = λ files s t m has. record { so = tt; whole = refl };
+}

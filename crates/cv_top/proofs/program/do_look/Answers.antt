@@ -10,3 +10,13 @@ returns-in-Err-Empty-clause-does g c = empty (c.read_seal.ensures.empty (c.in-Er
 
 pub returns-clause-does : goal.returns-clause-does
 returns-clause-does g c = unbegun (refl, refl)
+
+pub returns-in-Ok-clause-answered : goal.returns-in-Ok-clause-answered
+returns-in-Ok-clause-answered g c = λ writes links some. (rw c.in-Ok.ensures.signer.0 at c.look.ensures.answered) writes links
+
+pub returns-in-Err-Empty-clause-answered : goal.returns-in-Err-Empty-clause-answered
+returns-in-Err-Empty-clause-answered g c = λ writes links some.
+    absurd (some (c.read_seal.ensures.empty (c.in-Err-Empty.is ∙ ap (λ fault. Err fault) c.in-Err-Empty.field-0-is)))
+
+pub returns-clause-answered : goal.returns-clause-answered
+returns-clause-answered g c = λ writes links some files s t m has. record { so = tt; whole = refl }

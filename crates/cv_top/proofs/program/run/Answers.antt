@@ -1,9 +1,10 @@
-use Rattle.std.proofs.Common.{map, subst}
+use Rattle.std.proofs.Common.{◌≢◌, ℕ, List, [], map, sym, subst}
 use Rattle.std.specs.Prelude.{string_bytes}
 use Rattle.cv_top.specs.Complete.{Completes}
 use Rattle.cv_top.specs.Lines.{TellsLines}
 use Rattle.cv_top.specs.Runs.{Keeps, outside}
 use Rattle.cv_top.specs.Tells.{Tells}
+use Rattle.cv_top.specs.Wholes.{Answers}
 use Rattle.cv_top.proofs.Completing.{completes}
 use Rattle.cv_top.proofs.LineTelling.{lines_tell_truly}
 use Rattle.cv_top.proofs.Telling.{tells_truly}
@@ -45,3 +46,10 @@ returns-clause-shell g c asked =
     subst (λ seal. TellsLines g.R.Source.left g.W.Sink.taken (map string_bytes c.args.words.now) seal (g.N.Dial.came before.dial) (g.N.Dial.came after.dial) before.input after.input before.output after.output c.do_command-status.result.0) c.as_str-2.ensures.value
     (lines_tell_truly g.V.Vault.disk g.V.Vault.count g.V.Vault.left g.V.Vault.faults g.R.Source.left g.R.Source.looks g.W.Sink.taken g.W.Sink.passed g.C.Clock.moments g.N.Dial.came
     (map string_bytes c.args.words.now) c.as_str.result.now c.as_str-2.result.now before after c.do_command-status.result.0 c.do_command-status.ensures.runs asked)
+
+pub returns-clause-answered : goal.returns-clause-answered
+returns-clause-answered g c writes links asked some =
+    let before = outside c.args.parts.vault c.args.parts.input c.args.parts.output c.args.parts.clock c.args.parts.dial in
+    let after = outside c.do_command-status.result.1 c.do_command-status.result.2 c.do_command-status.new.output c.do_command-status.new.clock c.do_command-status.new.dial in
+    subst (λ seal. Answers g.W.Sink.taken (map string_bytes c.args.words.now) seal (g.N.Dial.came before.dial) (g.N.Dial.came after.dial) before.output after.output c.do_command-status.result.0) c.as_str-2.ensures.value
+    (c.do_command-status.ensures.answered writes links asked (subst (λ (seal : List ℕ). seal ≢ []) (sym c.as_str-2.ensures.value) some))
