@@ -1,6 +1,6 @@
 -- The beginning and the end of a checkout, and what its steps answer.
 use Rattle.std.proofs.Common.{◌≡◌, ℕ, Bool, true, false, ◌==◌, length, cond, List, [], ◌∷◌, ◌++◌, map, is_some, append-nil, refl, sym, ap, subst, ◌∙◌, inl, inr}
-use Rattle.std.specs.Prelude.{Contains}
+use Rattle.std.specs.Prelude.{Contains, IfOk, Result, Ok, Err}
 use Rattle.std.specs.declared.option.Option.{Option}
 use Rattle.std.specs.declared.option.Option.TheVariants.{None, Some}
 use Rattle.std.specs.FinMap.{get, get-empty, same_map}
@@ -18,7 +18,7 @@ use Rattle.cv_ports.specs.Objects.{same_id, same_kind, shelf_of}
 use Rattle.cv_ports.specs.MemoryShelf.{standing}
 use Rattle.cv_ports.specs.Shelf.{Shelf}
 use Rattle.cv_tree.specs.Tree.{Nodes, IsTree, at, is_directory}
-use Rattle.cv_tree.specs.Changes.{has_place, nodes_of, subtree_of}
+use Rattle.cv_tree.specs.Changes.{FitsUnder, has_place, nodes_of, subtree_of}
 use Rattle.cv_tree.specs.declared.node.Node.{Node}
 use Rattle.cv_tree.proofs.Laws.{get-at}
 use Rattle.cv_cut.specs.Cuts.{is_cut}
@@ -84,6 +84,23 @@ no_place o p names b none same test h = subst (λ (x : Option Nodes). false ≡ 
     by : (q : Path) → false ≡ (length q == 0) → false ≡ has_place (nodes_of None) q
     by [] wrong = cc
     by (a ∷ q) e = rw (get-empty path_cmp (parent (a ∷ q))) refl
+
+-- ---- what a tree has at a path keeps the limits of a path there
+
+pub empty_fits : (p : Path) → FitsUnder p (nodes_of None)
+empty_fits p q some = absurd (let wrong : false ≡ true = ap is_some (sym (get-empty path_cmp q)) ∙ some in cc)
+
+part_fits : (t : Nodes) (p : Path) → IsTree t → FitsUnder p (nodes_of (subtree_of t p))
+part_fits t p tree =
+    elim (is_some (get t p)) as (λ b. FitsUnder p (nodes_of (cond b (Some (at t p)) None))) [
+      | true ↦ λ q some. tree.part.paths (p ++ q) (rw (get-at t p q) at some)
+      | false ↦ empty_fits p
+    ]
+
+pub found_fits : {E : Type 0} (t : Nodes) (p : Path) (r : Result (Option Nodes) E) → IsTree t → IfOk r (λ found. found ≡ subtree_of t p)
+    → IfOk r (λ found. FitsUnder p (nodes_of found))
+found_fits t p (Ok found) tree is = subst (λ (o : Option Nodes). FitsUnder p (nodes_of o)) (sym is) (part_fits t p tree)
+found_fits t p (Err lack) tree is = tt
 
 -- ---- the end
 

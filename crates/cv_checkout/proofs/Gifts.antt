@@ -1,7 +1,6 @@
 -- What a gift answers, by its steps.
-use Rattle.std.proofs.Common.{◌≡◌, ◌↔◌, ◌⊎◌, inl, inr, ℕ, List, [], ◌∷◌, ◌++◌, refl, sym, ap, subst, ◌∙◌}
+use Rattle.std.proofs.Common.{◌≡◌, ◌↔◌, ◌⊎◌, inl, inr, ℕ, List, ◌∷◌, refl, sym, ap, subst, ◌∙◌}
 use Rattle.std.specs.Prelude.{Contains, IsErrOf, OnOk, option_to_list}
-use Rattle.std.specs.List.{AllZip}
 use Rattle.std.specs.declared.option.Option.{Option}
 use Rattle.std.specs.declared.option.Option.TheVariants.{None, Some}
 use Rattle.std.specs.declared.result.Result.{Result}
@@ -9,14 +8,12 @@ use Rattle.std.specs.declared.result.Result.TheVariants.{Ok, Err}
 use Rattle.sha1.specs.Sha1.{sha1}
 use Rattle.cv_base.specs.declared.id.ObjectId.{ObjectId}
 use Rattle.cv_tree.specs.Tree.{Nodes}
-use Rattle.cv_rows.specs.Catalogue.{Contents}
 use Rattle.cv_cut.specs.Catalogues.{contents_of}
 use Rattle.cv_cut.specs.Own.{AreOwn}
 use Rattle.cv_cut.proofs.Lemmas.{first_there}
-use Rattle.cv_checkout.specs.Wanting.{IsNamed, Suits, id_of, next_of, toward}
-use Rattle.cv_checkout.specs.Progress.{Progress, ComesTo}
+use Rattle.cv_checkout.specs.Wanting.{Suits, id_of, next_of}
+use Rattle.cv_checkout.specs.Progress.{Progress}
 use Rattle.cv_checkout.specs.Giving.{Gives, IsOther, IsUnsuited}
-use Rattle.cv_checkout.specs.Opening.{IsServed, Opens}
 use Rattle.cv_checkout.specs.InTree.{IsOn}
 use Rattle.cv_checkout.specs.declared.wanted.Wanted.{Wanted}
 use Rattle.cv_checkout.specs.declared.fault.CheckoutFault.{CheckoutFault}
@@ -35,49 +32,6 @@ gives_good t s new given id r g on own bad =
     let wanted = on.wants u.first (subst (λ (ws : List Wanted). Contains ws u.first) (sym u.is) (first_there u.first u.rest)) in
     let same = own_bytes t s.path u.first u.bytes wanted (subst (λ (x : Option (List ℕ)). AreOwn t (option_to_list x)) u.gives own) u.digest in
     u.none (contents_of t u.first.path) (suited t s.path u.first u.bytes wanted same)
-
--- ---- the steps
-
-module _ (s new : Progress) (given : Option (List ℕ)) (first : Wanted) (rest : List Wanted) (is : s.wanted ≡ first ∷ rest) where
-  next_is : next_of s.wanted ≡ Some (id_of first)
-  next_is = ap next_of is
-
-  pub gives_unserved : (id : ObjectId) (f : CheckoutFault) → id ≡ id_of first → IsServed id given (Err f) → Gives s given new (Err f)
-  gives_unserved id (fault.NotServed x) same h = (next_is ∙ ap Some (sym same ∙ sym h.0), h.1)
-  gives_unserved id (fault.BadObject x found) same h = (next_is ∙ ap Some (sym same ∙ sym h.0), record { bytes = h.1.bytes; is = h.1.is; digest = h.1.digest; differs = λ e. h.1.differs (e ∙ ap (λ (y : ObjectId). y.hash) h.0) })
-  gives_unserved id (fault.BadCatalogue x) same h = absurd h
-  gives_unserved id fault.NoMemory same h = absurd h
-
-  module _ (bytes : List ℕ) (gives : given ≡ Some bytes) (digest : sha1 bytes ≡ first.hash) where
-    pub gives_no_memory : Gives s given new (Err fault.NoMemory)
-    gives_no_memory = (id_of first, next_is, record { bytes = bytes; is = gives; digest = digest })
-
-    pub gives_unopened : (f : CheckoutFault) → Opens first bytes (Err f) → Gives s given new (Err f)
-    gives_unopened (fault.NotServed x) h = absurd h
-    gives_unopened (fault.BadObject x found) h = absurd h
-    gives_unopened (fault.BadCatalogue x) h = (next_is ∙ ap Some (sym h.0), record { first = first; rest = rest; is = is; bytes = bytes; gives = gives; digest = digest; none = h.1 })
-    gives_unopened fault.NoMemory h = gives_no_memory
-
-    pub gives_all : (c : Contents) (named : List Wanted) (tree : Option Nodes) → Suits first bytes c → AllZip (IsNamed c) (toward s.path c) named → ComesTo s.path c s.tree tree
-        → new ≡ record { path = s.path; wanted = named ++ rest; objects = s.objects ++ record { id = id_of first; bytes = bytes } ∷ []; tree = tree } → Gives s given new (Ok (tt {0}))
-    gives_all c named tree suits names comes new-is = (
-      bytes,
-      gives,
-      record {
-        first = first;
-        rest = rest;
-        is = is;
-        digest = digest;
-        contents = c;
-        suits = suits;
-        named = named;
-        names = names;
-        wanted_is = ap (λ (x : Progress). x.wanted) new-is;
-        path_is = ap (λ (x : Progress). x.path) new-is;
-        objects_are = ap (λ (x : Progress). x.objects) new-is;
-        comes = subst (λ (x : Option Nodes). ComesTo s.path c s.tree x) (sym (ap (λ (x : Progress). x.tree) new-is)) comes;
-      },
-    )
 
 -- ---- what each fault tells
 

@@ -50,10 +50,11 @@ pub record IsUnsuited (s : Progress) (given : Option (List ℕ)) : Type 0 where
   pub none : (c : Contents) → Suits first bytes c → ⊥
 
 -- What a gift answers: NotServed where nothing was given, BadObject where bytes of another digest were, BadCatalogue where bytes
--- of the digest suit no catalogue there, and else Ok. Memory may be wanting only where bytes of the digest were given.
+-- of the digest suit no catalogue there, and else Ok. Such a refusal changes nothing. Memory may be wanting only where bytes of the
+-- digest were given, and then nothing is said of the checkout.
 abbrev pub Gives : Progress → Option (List ℕ) → Progress → Result (Unit {0}) CheckoutFault → Type 0
 Gives s given new (Ok done) = (bytes : List ℕ) × (given ≡ Some bytes) × Takes s bytes new
-Gives s given new (Err (NotServed id)) = (next_of s.wanted ≡ Some id) × (given ≡ None)
-Gives s given new (Err (BadObject id found)) = (next_of s.wanted ≡ Some id) × IsOther id given found
-Gives s given new (Err (BadCatalogue id)) = (next_of s.wanted ≡ Some id) × IsUnsuited s given
+Gives s given new (Err (NotServed id)) = (next_of s.wanted ≡ Some id) × (given ≡ None) × (new ≡ s)
+Gives s given new (Err (BadObject id found)) = (next_of s.wanted ≡ Some id) × IsOther id given found × (new ≡ s)
+Gives s given new (Err (BadCatalogue id)) = (next_of s.wanted ≡ Some id) × IsUnsuited s given × (new ≡ s)
 Gives s given new (Err NoMemory) = (id : ObjectId) × (next_of s.wanted ≡ Some id) × HasDigest id given

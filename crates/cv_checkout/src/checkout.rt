@@ -5,12 +5,13 @@ ghost use Rattle.cv_base.specs.declared.id.Kind.TheVariants as id_kind;
 ghost use Rattle.cv_ports.specs.MemoryShelf.{standing};
 ghost use Rattle.cv_ports.specs.Objects.{shelf_of};
 ghost use Rattle.cv_tree.specs.Tree.{Nodes, IsTree};
-ghost use Rattle.cv_tree.specs.Changes.{has_place, nodes_of, subtree_of};
+ghost use Rattle.cv_tree.specs.Changes.{FitsUnder, has_place, nodes_of, subtree_of};
 ghost use Rattle.cv_cut.specs.Catalogues.{Fits, root_of};
 ghost use Rattle.cv_cut.specs.Own.{AreOwn};
 ghost use Rattle.cv_checkout.specs.Wanting.{next_of};
 ghost use Rattle.cv_checkout.specs.Progress.{begun};
 ghost use Rattle.cv_checkout.specs.Giving.{Gives};
+ghost use Rattle.cv_checkout.specs.Opening.{Judges};
 ghost use Rattle.cv_checkout.specs.InTree.{IsOn, IsIdToward, IsBase};
 ghost use Rattle.cv_checkout.specs.declared.fault.CheckoutFault.TheVariants as faults;
 
@@ -22,6 +23,7 @@ use crate::opening::{open, served};
 use crate::wanted::{Wanted, id_of, root_wanted};
 use cv_base::{Bytes, NoMemory, Object, ObjectId, RepoPath};
 use cv_ports::MemoryShelf;
+use cv_rows::Catalogue;
 use cv_tree::{Node, Part, Tree, parent};
 use std::alloc::Global;
 use std::collections::VecDeque;
@@ -90,8 +92,8 @@ impl Checkout {
         }
     }
 
-    /// Gives what came for the catalogue that is wanted next: its bytes, or that there are none. After a fault nothing is said
-    /// of the checkout.
+    /// Gives what came for the catalogue that is wanted next: its bytes, or that there are none. A refusal changes nothing; after
+    /// want of memory nothing is said of the checkout.
     ///
     /// # Errors
     ///
@@ -108,17 +110,33 @@ impl Checkout {
         self.take_next(alloc, bytes)
     }
 
+    /// What is given for the catalogue that is wanted next, where it is that catalogue.
+    fn judged(
+        &self,
+        alloc: Global,
+        given: Option<Bytes>,
+    ) -> Result<(Bytes, Catalogue), CheckoutFault>
+        requires { IsSome (next_of self.now.wanted) }
+        ensures { Judges self.now given result }
+    {
+        let Some(next) = self.wanted.front() else {
+            unreachable!("a catalogue is wanted");
+        };
+        let bytes = served(id_of(next), given)?;
+        let catalogue = open(alloc, next, bytes.as_slice())?;
+        Ok((bytes, catalogue))
+    }
+
     /// The same, as the one relation that says it all.
     fn take_next(&mut self, alloc: Global, given: Option<Bytes>) -> Result<(), CheckoutFault>
         requires { IsSome (next_of self.old.wanted) }
         ensures { Gives self.old given self.new result }
     {
+        let (bytes, catalogue) = self.judged(alloc, given)?;
         let Some(next) = self.wanted.pop_front() else {
             unreachable!("a catalogue is wanted");
         };
         let id = id_of(&next);
-        let bytes = served(id, given)?;
-        let catalogue = open(alloc, &next, bytes.as_slice())?;
         let tree = grown(alloc, self.tree.take(), &catalogue, &self.path)?;
         self.tree = Some(tree);
         put_first(
@@ -138,6 +156,7 @@ impl Checkout {
         ensures calls { IfOk result (λ base. base.catalogues.calls ≡ record { failing = []; count = 0; faults = 0 }) }
         ensures part { IfOk result (λ base. base.part ≡ subtree_of (nodes_of self.tree) self.path) }
         ensures place { IfOk result (λ base. base.has_place ≡ has_place (nodes_of self.tree) self.path) }
+        ensures limits { IfOk result (λ base. FitsUnder self.path (nodes_of base.part)) }
 
         // In a tree of that root it is what the tree has there.
         ensures tree { (t : Nodes) → IsOn t self → IfOk result (IsBase t self.path) }
@@ -155,10 +174,14 @@ impl Checkout {
 
 /// What a tree has at a path.
 fn part_at(alloc: Global, tree: Option<&Tree>, path: &RepoPath) -> Result<Option<Part>, NoMemory>
-    ensures { IfOk result (λ found. found ≡ subtree_of (nodes_of (option_copied tree.entry)) path.now) }
+    ensures part { IfOk result (λ found. found ≡ subtree_of (nodes_of (option_copied tree.entry)) path.now) }
+    ensures limits { IfOk result (λ found. FitsUnder path.now (nodes_of found)) }
 {
     match tree {
-        Some(tree) => tree.subtree(alloc, path),
+        Some(tree) => {
+            let _ = tree.get(path);
+            tree.subtree(alloc, path)
+        }
         None => Ok(None),
     }
 }

@@ -1,6 +1,7 @@
 //! Catalogues that a catalogue names.
 ghost use Rattle.std.specs.Prelude.{◌≡◌, ◌++◌, Contains, IfOk, OnOk};
 ghost use Rattle.std.specs.List.{AllZip};
+ghost use Rattle.cv_base.specs.Path.{overlap};
 ghost use Rattle.cv_rows.specs.Catalogue.{IsCatalogue};
 ghost use Rattle.cv_checkout.specs.Wanting.{IsNamed, toward};
 
@@ -27,6 +28,13 @@ fn named(alloc: Global, catalogue: &Catalogue, nested: &Nested) -> Result<Wanted
     })
 }
 
+/// Whether a nested entry is on the way to a path, or at or below it.
+fn is_toward(path: &RepoPath, nested: &Nested) -> bool
+    ensures { result ≡ overlap path.now nested.now.path }
+{
+    path.overlaps(&nested.path)
+}
+
 /// Those that its nested entries on the way to a path name, and those at and below it, in the order of the entries.
 pub fn named_toward(
     alloc: Global,
@@ -38,7 +46,7 @@ pub fn named_toward(
 {
     let mut all = Vec::new(alloc);
     for nested in catalogue.nested() {
-        if path.overlaps(&nested.path) {
+        if is_toward(path, nested) {
             all.push(named(alloc, catalogue, nested)?)?;
         }
     }
