@@ -4,11 +4,8 @@ use Rattle.std.specs.declared.option.Option.{Option}
 use Rattle.cv_vault.specs.Disk.{Disk, Files, ImageOf}
 use Rattle.cv_vault.proofs.Laws.{leaves_then}
 use Rattle.cv_gate.specs.Desk.{DeskView, Call, Calls, Leads, asked}
+use Rattle.cv_gate.proofs.Lemmas.{calls_on}
 use Rattle.cv_desk.specs.OneDesk.{OneDeskView, Stands, IsLeft, behind, within, DoesOne, DoesEach, DoesCalls}
-
-pub calls_on : (calls more : List Call) (v mid v' : DeskView) → Calls v calls mid → Calls mid more v' → Calls v (calls ++ more) v'
-calls_on [] more v mid v' does and = subst (λ (x : DeskView). Calls x more v') does and
-calls_on (c ∷ calls) more v mid v' does and = (does.0, does.1, calls_on calls more does.0 mid v' does.2 and)
 
 module _ (name : List ℕ) (is_seal : List ℕ → List ℕ → Bool) (v : DeskView) (calls more : List Call) (f : Files) where
   left_front : IsLeft name is_seal v calls f → IsLeft name is_seal v (calls ++ more) f

@@ -23,5 +23,5 @@ pub use Rattle.cv_gate.proofs.Keeping.{sound_aged}
 pub use Rattle.cv_gate.proofs.Crashes.{left_same, left_gain}
 -- leases that stay apart
 pub use Rattle.cv_gate.proofs.Leases.{by_ageing, filtered, granted_apart, is_new, ends_last}
--- runs one after another
-pub use Rattle.cv_gate.proofs.Runs.{run_on, front_self}
+-- runs, and calls of a desk, one after another
+pub use Rattle.cv_gate.proofs.Runs.{run_on, front_self, calls_on}

@@ -1,10 +1,11 @@
--- Runs one after another, fronts of lists, and the last of a list.
+-- Runs, and calls of a desk, one after another; fronts of lists, and the last of a list.
 use Rattle.std.proofs.Common.{◌≡◌, ◌++◌, ◌∷◌, ℕ, zero, suc, List, [], refl, ap, sym, subst, ◌∙◌, append_assoc, append-nil}
 use Rattle.std.specs.Prelude.{Option, drop, map, option_map}
 use Rattle.std.specs.List.{last_or}
 use Rattle.std.specs.declared.option.Option.TheVariants.{None, Some}
 use Rattle.cv_gate.specs.State.{State}
 use Rattle.cv_gate.specs.Step.{Run}
+use Rattle.cv_gate.specs.Desk.{DeskView, Call, Calls}
 use Rattle.cv_gate.specs.declared.entry.Entry.{Entry}
 use Rattle.cv_gate.specs.Heads.{IsFront}
 
@@ -39,3 +40,8 @@ map_drop f (suc k) (x ∷ xs) = map_drop f k xs
 -- the last of a part at the end is the last of all
 pub last_of_part : {A B : Type 0} (f : A → B) (k : ℕ) (xs : List A) (h : B) → last_or None (map f (drop k xs)) ≡ Some h → option_map f (last_or None xs) ≡ Some h
 last_of_part f k xs h is = sym (last_map f None xs) ∙ last_drop k None (map f xs) h (sym (ap (λ l. last_or None l) (map_drop f k xs)) ∙ is)
+
+-- calls of a desk follow calls
+pub calls_on : (calls more : List Call) (v mid v' : DeskView) → Calls v calls mid → Calls mid more v' → Calls v (calls ++ more) v'
+calls_on [] more v mid v' does and = subst (λ (x : DeskView). Calls x more v') does and
+calls_on (c ∷ calls) more v mid v' does and = (does.0, does.1, calls_on calls more does.0 mid v' does.2 and)

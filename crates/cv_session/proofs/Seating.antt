@@ -94,9 +94,6 @@ still head v seen = record {
 pub lists : (head : Head) (now : ℕ) (lines : List LeaseLine) → lines ≡ [] → SeatDoes head (listed now (Some lines) ∷ []) head
 lists head now lines none v seen = (learned v, still head v seen, (learned v, (learns head v seen, rw seen.free none), refl))
 
-pub lists_none : (head : Head) (now : ℕ) → SeatDoes head (listed now None ∷ []) head
-lists_none head now v seen = (learned v, still head v seen, (learned v, (learns head v seen, tt), refl))
-
 pub fetches : (head : Head) (id : ObjectId) → SeatDoes head (fetched id (Err NoMemory) ∷ []) head
 fetches head id v seen = (learned v, still head v seen, (learned v, (learns head v seen, tt), refl))
 

@@ -63,7 +63,8 @@ abbrev pub pack_turn : List ℕ → PayloadAsk → Result (List Object) PackFaul
 pack_turn key ask (Err fault) = denied reason.BadPack
 pack_turn key ask (Ok objects) = store_on key ask objects
 
--- a pack that a message announces, under the id of the key that signed it: its header has the digest that the message says, the pack no fault, and the header the length
+-- a pack that a message announces, under the id of the key that signed it: its header has the digest that the message says, the pack no
+-- fault, and the header the length
 abbrev pub payload_on : List ℕ → PayloadAsk → List ℕ → Turn
 payload_on key ask pack =
     if bytes_eq (sha1 (take ask.header_size pack)) ask.digest then pack_turn key ask (reading pack) else denied reason.BadDigest

@@ -1,12 +1,13 @@
 -- A seat of a gate that other seats ask too, for the tests: before each of its entries stands one of another seat. No lease is live,
 -- so that whatever is asked of one is refused, and a lease itself wants memory.
 use Rattle.std.specs.Prelude.{◌≡◌, ◌<◌, false}
-use Rattle.std.proofs.Common.{◌++◌, ◌∷◌, ℕ, List, [], refl, subst}
+use Rattle.std.proofs.Common.{◌++◌, ◌∷◌, ℕ, List, [], refl}
 use Rattle.std.specs.declared.option.Option.TheVariants.{None, Some}
 use Rattle.cv_manifest.specs.declared.head.Head.{Head}
-use Rattle.cv_gate.specs.Desk.{DeskView, Call, Calls, Leads}
+use Rattle.cv_gate.specs.Desk.{DeskView, Call, Leads}
 use Rattle.cv_gate.specs.Heads.{heads_since, last_head}
 use Rattle.cv_gate.specs.Step.{Run, last_number}
+use Rattle.cv_gate.proofs.Lemmas.{calls_on}
 use Rattle.cv_gate.specs.declared.act.Act.{Act}
 use Rattle.cv_gate.specs.declared.act.Act.TheVariants as act
 use Rattle.cv_gate.specs.declared.entry.Entry.{Entry}
@@ -49,10 +50,6 @@ entry_of seat o now = record { seat = seat; now = now; key = key_in o; act = act
 abbrev pub other_op : Op
 other_op = op.Cancel (107 ∷ []) (record { epoch = 0; number = 0 })
 
--- what stands in the journal of an op of the seat: the other seat's entry, and its own
-abbrev pub entries_of : Op → ℕ → List Entry
-entries_of o now = entry_of other_seat other_op now ∷ entry_of own_seat o now ∷ []
-
 -- how the seat may be seen, by the newest head: it isn't alone, and its gate has no lease and nothing in doubt
 pub record IsSeat (head : Head) (v : DeskView) : Type 0 where
   pub seat : v.seat ≡ own_seat
@@ -67,10 +64,6 @@ pub record IsSeat (head : Head) (v : DeskView) : Type 0 where
 -- calls lead from each way in which it may be seen to one
 abbrev pub SeatDoes : Head → List Call → Head → Type 0
 SeatDoes head calls head' = Leads (IsSeat head) calls (IsSeat head')
-
-calls_on : (calls more : List Call) (v mid v' : DeskView) → Calls v calls mid → Calls mid more v' → Calls v (calls ++ more) v'
-calls_on [] more v mid v' does and = subst (λ (x : DeskView). Calls x more v') does and
-calls_on (c ∷ calls) more v mid v' does and = (does.0, does.1, calls_on calls more does.0 mid v' does.2 and)
 
 pub seat_none : (head : Head) → SeatDoes head [] head
 seat_none head v seen = (v, seen, refl)

@@ -16,8 +16,7 @@ use Rattle.cv_gate.specs.Kept.{reopened}
 use Rattle.cv_gate.specs.Lives.{Life, ran, cut, Lives, Lived}
 use Rattle.cv_gate.specs.Desk.{DeskView, Call, Calls, asked}
 use Rattle.cv_gate.specs.Solo.{IsAlone, Makes}
-use Rattle.cv_gate.proofs.Lemmas.{prolongs}
-use Rattle.cv_desk.specs.Calls.{calls_on}
+use Rattle.cv_gate.proofs.Lemmas.{calls_on, prolongs}
 use Rattle.cv_desk.specs.OneDesk.{IsLeft, behind, within as inside, first_view}
 use Rattle.cv_top.specs.Headline.{IsLife, opening, between, within, OnLine, Remains, before as remained, prolonged}
 use Rattle.cv_top.specs.Seal.{is_seal_by}

@@ -24,7 +24,7 @@ use Rattle.cv_gate.specs.Solo.{AnswersAll}
 use Rattle.cv_gate.specs.declared.entry.Entry.{Entry}
 use Rattle.cv_gate.proofs.Lemmas.{opened}
 use Rattle.cv_desk.specs.Gate.{GateOpens}
-use Rattle.cv_top.specs.Headline.{OnLine, Remains, KeepsLine, opening}
+use Rattle.cv_top.specs.Headline.{OnLine, Remains, KeepsLine}
 use Rattle.cv_client.specs.Exchange.{Links}
 use Rattle.cv_top.specs.Runs.{Outside, Runs, Serves, HasLine, Keeps, usage, bad_keys, no_seal, unbegun, init, stdio, look, shell, ended, unopened, none, talked, calls_in, desk_over}
 use Rattle.cv_top.specs.Seal.{is_seal_by}
