@@ -1,5 +1,5 @@
 //! A vault over a folder.
-ghost use Rattle.std.specs.Prelude.{◌≡◌, ◌≤◌, None, ⊤};
+ghost use Rattle.std.specs.Prelude.{◌≡◌, ◌≤◌, None, IfOk, ⊤};
 ghost use Rattle.cv_base.specs.Counts.{HasCause};
 ghost use Rattle.cv_vault.specs.declared.vault.VaultFault.TheVariants.{Failed};
 
@@ -23,6 +23,8 @@ const PATH_ROOM: usize = 4_096;
 /// What a vault has of its folder.
 #[derive(Drop)]
 enum Hold {
+    /// Nothing was asked of the vault yet, and nothing was opened.
+    Unasked,
     /// The folder is open and locked: no other vault holds it, in this process or another.
     Held(File),
     /// No folder is there. The first write makes it.
@@ -117,26 +119,34 @@ fn note_all<R: Files + AllocGlobal + Clone + Drop>(
 }
 
 impl<R: Files<File = File> + AllocGlobal + Clone + Drop> FolderVault<R> {
-    /// The vault over the folder at this path, which need not be there yet. It takes the memory of the first sync. Where
-    /// another vault holds the folder, or it can't be gone through, each call of the vault fails.
-    pub fn new(rt: R, root: &str) -> Result<FolderVault<R>, AllocError> {
+    /// The vault over the folder at this path, which need not be there yet. It opens nothing: the first call holds the folder,
+    /// and takes the memory of the first sync. Where another vault holds the folder then, or it can't be gone through, each
+    /// call fails.
+    pub fn new(rt: R, root: &str) -> Result<FolderVault<R>, AllocError>
+        ensures { IfOk result (λ vault. vault.faults.number ≡ 0) }
+    {
         let alloc = rt.alloc();
-        let mut vault = FolderVault {
+        Ok(FolderVault {
             root: String::from_str(alloc, root)?,
             path: String::with_capacity(alloc, PATH_ROOM)?,
             next: String::with_capacity(alloc, PATH_ROOM)?,
             folders: Vec::new(alloc),
-            hold: Hold::Refused,
+            hold: Hold::Unasked,
             broken: false,
             faults: FaultCount::new(),
             rt,
-        };
-        match vault.hold_now() {
-            Ok(()) => {}
-            Err(error) if is_memory(&error) => return Err(AllocError),
-            Err(_) => vault.hold = Hold::Refused,
+        })
+    }
+
+    /// Holds the folder for the first call. Where memory is wanted a later call tries again.
+    fn hold_first(&mut self) -> io::Result<()>
+        ensures { self.new.faults ≡ self.old.faults }
+    {
+        let held = self.hold_now();
+        if held.as_ref().is_err_and(|error| !is_memory(error)) {
+            self.hold = Hold::Refused;
         }
-        Ok(vault)
+        held
     }
 
     /// Holds the folder, if it is there.
@@ -147,6 +157,7 @@ impl<R: Files<File = File> + AllocGlobal + Clone + Drop> FolderVault<R> {
             return Err(refused());
         }
         self.set_root()?;
+        self.folders.clear();
         match lock_folder(&self.rt, self.path.as_str()) {
             Ok(open) => {
                 note_all(&self.rt, self.root.as_str(), &mut self.folders)?;
@@ -222,16 +233,22 @@ impl<R: Files<File = File> + AllocGlobal + Clone + Drop> FolderVault<R> {
     fn begin(&mut self, name: &str) -> io::Result<bool>
         ensures { self.new.faults ≡ self.old.faults }
     {
+        let held = self.is_held()?;
         self.set_path(name)?;
-        self.is_held()
+        Ok(held)
     }
 
     /// Whether the vault has a folder.
-    fn is_held(&self) -> io::Result<bool> {
+    fn is_held(&mut self) -> io::Result<bool>
+        ensures { self.new.faults ≡ self.old.faults }
+    {
+        if matches!(self.hold, Hold::Unasked) {
+            self.hold_first()?;
+        }
         match &self.hold {
             Hold::Held(_) => Ok(true),
             Hold::Absent => Ok(false),
-            Hold::Refused => Err(refused()),
+            Hold::Unasked | Hold::Refused => Err(refused()),
         }
     }
 

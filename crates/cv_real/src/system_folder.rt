@@ -56,7 +56,9 @@ fn folder_path(alloc: Global, root: &str, names: &[PathName]) -> io::Result<Stri
 
 impl<R: Files + AllocGlobal + Clone + Drop> SystemFolder<R> {
     /// A folder that isn't named yet: until then no path leads to anything.
-    pub fn new(rt: R) -> SystemFolder<R> {
+    pub fn new(rt: R) -> SystemFolder<R>
+        ensures { result.faults.number ≡ 0 }
+    {
         SystemFolder {
             rt,
             root: None,
