@@ -1,5 +1,5 @@
 -- The calls of a desk that asks alone.
-use Rattle.std.proofs.Common.{◌≡◌, ◌++◌, ◌∷◌, ℕ, List, [], refl, ap, sym, subst, ◌∙◌, append_assoc, append-nil, true}
+use Rattle.std.proofs.Common.{◌≡◌, ◌++◌, ◌∷◌, ℕ, List, [], length, length-append, refl, ap, sym, subst, ◌∙◌, append_assoc, append-nil, true}
 use Rattle.std.specs.Prelude.{IfSome, max}
 use Rattle.cv_gate.specs.State.{State}
 use Rattle.cv_gate.specs.Step.{Step, Run}
@@ -9,7 +9,7 @@ use Rattle.cv_gate.specs.declared.reply.Reply.{Reply}
 use Rattle.cv_gate.specs.declared.reply.Reply.TheVariants.{JournalFull}
 use Rattle.cv_gate.specs.Lines.{lines_of}
 use Rattle.cv_gate.specs.Heads.{head_of, heads_since, last_head}
-use Rattle.cv_gate.specs.Desk.{DeskView, Call, asked, listed, fetched, told, Between, Knows, Learns, Takes, made, full, Finds, Tells, Does, Calls}
+use Rattle.cv_gate.specs.Desk.{DeskView, Call, asked, listed, fetched, told, Between, Knows, Learns, Takes, made, full, Finds, Tells, Does, Calls, journal_limit}
 use Rattle.cv_gate.specs.Solo.{IsAlone, Answers, AnswersAll, Makes, steps, lists, fetches, tells}
 use Rattle.cv_gate.specs.Solo.{full as answers_full}
 use Rattle.cv_gate.proofs.Runs.{run_on, last_of_part}
@@ -17,7 +17,7 @@ use Rattle.cv_gate.proofs.Runs.{run_on, last_of_part}
 -- what one call made
 record MakesOne (v : DeskView) (c : Call) (v' : DeskView) : Type 0 where
   entries : List Entry
-  answers : Answers v.state c entries v'.state
+  answers : Answers (length v.seen) v.state c entries v'.state
   journal : v'.seen ≡ v.seen ++ entries
   run : Run v.state entries v'.state
   after : IsAlone v'
@@ -48,30 +48,32 @@ learns_same v v' l a =
       after = knows_alone v v' (v.seen ++ l.others) l.knows a.alone l.between.run;
     }
 
-quiet : (v v' : DeskView) (c : Call) → Answers v.state c [] v.state → Same v v' → MakesOne v c v'
+quiet : (v v' : DeskView) (c : Call) → Answers (length v.seen) v.state c [] v.state → Same v v' → MakesOne v c v'
 quiet v v' c answers s = record {
   entries = [];
-  answers = subst (λ (st : State). Answers v.state c [] st) (sym s.state) answers;
+  answers = subst (λ (st : State). Answers (length v.seen) v.state c [] st) (sym s.state) answers;
   journal = s.seen;
   run = s.state;
   after = s.after;
 }
 
 one_call : (v : DeskView) (c : Call) (v' : DeskView) → Does c v v' → IsAlone v → MakesOne v c v'
-one_call v (asked o now r) v' (made others before e between seat moment is step knows) a =
+one_call v (asked o now r) v' (made others before e between room seat moment is step knows) a =
     let none = between.alone a.alone in
     let stepped : Step v.state o e v'.state = subst (λ (st : State). Step st o e v'.state) none.1 step in
     record {
       entries = e ∷ [];
       answers =
-          subst (λ (n : ℕ). Answers v.state (asked o n r) (e ∷ []) v'.state) moment
-          (subst (λ (x : Reply). Answers v.state (asked o e.now x) (e ∷ []) v'.state) is (steps o e v'.state stepped));
+          subst (λ (n : ℕ). Answers (length v.seen) v.state (asked o n r) (e ∷ []) v'.state) moment
+          (subst (λ (x : Reply). Answers (length v.seen) v.state (asked o e.now x) (e ∷ []) v'.state) is (steps o e v'.state (room a.alone) stepped));
       journal = ap (λ (x : DeskView). x.seen) knows.view ∙ ap (λ (l : List Entry). l ++ e ∷ []) (ap (λ (l : List Entry). v.seen ++ l) none.0 ∙ append-nil v.seen);
       run = (o, v'.state, stepped, refl);
       after = knows_alone v v' _ knows a.alone (run_on (v.seen ++ others) (e ∷ []) v.start before v'.state between.run (o, v'.state, step, refl));
     }
 one_call v (asked o now r) v' (full is learns count) a =
-    quiet v v' (asked o now r) (subst (λ (x : Reply). Answers v.state (asked o now x) [] v.state) (sym is) (answers_full o now)) (learns_same v v' learns a)
+    let same = learns_same v v' learns a in
+    let counted : length v.seen ≡ journal_limit = ap length (sym (same.seen ∙ append-nil v.seen)) ∙ count in
+    quiet v v' (asked o now r) (subst (λ (x : Reply). Answers (length v.seen) v.state (asked o now x) [] v.state) (sym is) (answers_full o now counted)) same
 one_call v (listed now lines) v' does a =
     let same = learns_same v v' does.0 a in
     quiet v v' (listed now lines) (lists now lines (subst (λ (st : State). IfSome lines (λ l. l ≡ lines_of (max st.moment now) st.leases)) same.state does.1)) same
@@ -79,7 +81,8 @@ one_call v (fetched id r) v' does a =
     let same = learns_same v v' does.0 a in
     quiet v v' (fetched id r) (fetches id r (subst (λ (st : State). Finds id st.shelf r) same.state does.1)) same
 one_call v (told head) v' does a =
-    let heads : v'.heads ≡ heads_since v.start v.state = does.alone a.alone ∙ a.heads in
+    let heads : v'.heads ≡ heads_since v.start v.state =
+    ap (λ (x : DeskView). x.heads) does.view ∙ ap (heads_since v.start) (does.alone a.alone) in
     let start : v'.start ≡ v.start = ap (λ (x : DeskView). x.start) does.view in
     let seen : v'.seen ≡ v.seen = ap (λ (x : DeskView). x.seen) does.view in
     let state : v'.state ≡ v.state = ap (λ (x : DeskView). x.state) does.view in
@@ -107,7 +110,14 @@ all_calls v v' (c ∷ calls) does a =
     let more = all_calls does.0 v' calls does.2 one.after in
     record {
       entries = one.entries ++ more.entries;
-      answers = (one.entries, more.entries, does.0.state, refl, one.answers, more.answers);
+      answers = (
+        one.entries,
+        more.entries,
+        does.0.state,
+        refl,
+        one.answers,
+        subst (λ n. AnswersAll n does.0.state calls more.entries v'.state) (ap length one.journal ∙ length-append v.seen one.entries) more.answers,
+      );
       journal = more.journal ∙ ap (λ (l : List Entry). l ++ more.entries) one.journal ∙ append_assoc v.seen one.entries more.entries;
       run = run_on one.entries more.entries v.state does.0.state v'.state one.run more.run;
       after = more.after;

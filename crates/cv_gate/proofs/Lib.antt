@@ -13,6 +13,6 @@ mod Passing
 mod Readying
 mod Shelves
 mod Tokens
-pub mod Runs
+mod Runs
 mod Alone
 mod Owns

@@ -50,7 +50,7 @@ learns_one v v' c are l = record {
 }
 
 one_call : (v : DeskView) (c : Call) (v' : DeskView) → Does c v v' → AddsOne v c v'
-one_call v (asked o now r) v' (made others before e between seat moment is step knows) = record {
+one_call v (asked o now r) v' (made others before e between room seat moment is step knows) = record {
   entries = e ∷ [];
   are = λ calls more rest.
       subst (λ (n : ℕ). AreOf (asked o n r ∷ calls) (e ∷ more)) moment

@@ -96,9 +96,11 @@ pub record Learns (v v' : DeskView) : Type 0 where
   pub between : Between v others v'.state
   pub knows : Knows v (v.seen ++ others) v'
 
--- an op was asked at a moment: the entry with the reply is a step behind all others; or the journal is full
+-- an op was asked at a moment: the entry with the reply is a step behind all others, and where the desk is alone the journal had room for
+-- it; or the journal is full
 pub data Takes (o : Op) (now : ℕ) (r : Reply) (v v' : DeskView) : Type 0 where
-  made : (others : List Entry) (before : State) (e : Entry) → Between v others before → e.seat ≡ v.seat → e.now ≡ now → e.reply ≡ r
+  made : (others : List Entry) (before : State) (e : Entry) → Between v others before → (v.alone ≡ true → length v.seen < journal_limit)
+      → e.seat ≡ v.seat → e.now ≡ now → e.reply ≡ r
       → Step before o e v'.state → Knows v ((v.seen ++ others) ++ e ∷ []) v' → Takes o now r v v'
   full : r ≡ JournalFull → Learns v v' → length v'.seen ≡ journal_limit → Takes o now r v v'
 
@@ -109,12 +111,16 @@ Finds id shelf (Err Failed) = Unit {0}
 Finds id shelf (Err (Damaged named digest)) = ⊥
 Finds id shelf (Err NoMemory) = Unit {0}
 
--- the head is the last of those of which the desk knows then; where it is alone it knows of no more than before
+-- the heads are those that stood published in a state to which entries lead from the start, and the one that is told is the newest of
+-- them; where the desk is alone the state is the one that it knows
 pub record Tells (head : Head) (v v' : DeskView) : Type 0 where
-  pub view : v' ≡ record v { heads = v'.heads }
+  pub entries : List Entry
+  pub state : State
+  pub run : Run v.start entries state
+  pub view : v' ≡ record v { heads = heads_since v.start state }
   pub heads : IsFront v.heads v'.heads
   pub last : last_head v'.heads ≡ Some head
-  pub alone : v.alone ≡ true → v'.heads ≡ v.heads
+  pub alone : v.alone ≡ true → state ≡ v.state
 
 abbrev pub Does : Call → DeskView → DeskView → Type 0
 Does (asked o now r) v v' = Takes o now r v v'

@@ -42,7 +42,7 @@ pub record AreLeases (st : State) : Type 0 where
 abbrev pub AreAlikeFrom : ℕ → Path → List Revision → Type 0
 AreAlikeFrom from p history = (r s : Revision) → Contains history r → Contains history s → from ≤ r.record_.revision → from ≤ s.record_.revision → at r.tree p ≡ at s.tree p
 
--- the lease stands on a directory of the newest tree, and what it covers is as it was when it was granted
+-- the lease's path is the root or stands in a directory of the newest tree, and what it covers is as it was when it was granted
 pub record IsUndisturbed (history : List Revision) (lease : Lease) : Type 0 where
   pub place : IfSome (newest history) (λ head. has_place head.tree lease.path ≡ true)
   pub from_revision : (r : Revision) × Contains history r × (r.record_.revision ≡ lease.from_revision)
@@ -50,7 +50,7 @@ pub record IsUndisturbed (history : List Revision) (lease : Lease) : Type 0 wher
 
 -- ---- a commit
 
--- a commit is in doubt: it was asked and passes, its objects are on the shelf, and nothing is loose
+-- a commit is in doubt: with some old root it may be asked, and passes, its objects are on the shelf, and nothing is loose
 pub record IsDoubt (st : State) (new : Revision) : Type 0 where
   pub old_root : List ℕ
   pub op : IsValid (op.Commit new.record_.key new.record_.token old_root new.record_.offered new.record_.tag)

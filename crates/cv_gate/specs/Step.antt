@@ -166,7 +166,7 @@ IsOp (op.Store key token digest batch) = (is_key_id key ≡ true) × AllByRecurs
 IsOp (op.Commit key token old_root new_root tag) = (is_key_id key ≡ true) × (is_tag tag ≡ true)
 IsOp (op.Cancel key token) = is_key_id key ≡ true
 
--- what the types of its fields say of every op: a path is one, and a digest has twenty bytes
+-- what a step needs of the types of an op's fields: a path is one, and a digest has twenty bytes
 abbrev pub HasTypes : Op → Type 0
 HasTypes (op.Lease key path) = IsPath path
 HasTypes (op.Store key token digest batch) = IsDigest digest

@@ -13,7 +13,7 @@ pub enum Act {
         token: Token,
         /// In a pack with a header of this SHA-1.
         digest: [u8; 20],
-        /// The ids of those that the repository lacked. None where an earlier refusal came.
+        /// The ids of those that the repository lacked. None where a refusal or a fault came before they were known.
         fresh: Items<ObjectId>,
     },
     /// A commit was asked.

@@ -64,9 +64,9 @@ pub fn tokens_are_numbered()
     ensures { (st : State) (entries : List EntryData) (st' : State) → Run st entries st' → Numbers st entries st' }
 {}
 
-/// Where no refusal's condition holds, however a commit in doubt is settled, the op is done as it would be in one of the
+/// Where no refusal's condition holds, however a commit in doubt is settled, the op is answered as it would be in one of the
 /// settled states, or a fault came. That a root means no two trees on a shelf is a law of loading trees.
-pub fn what_nothing_opposes_is_done()
+pub fn what_nothing_opposes_is_answered()
     ensures { (st : State) (o : OpData) (e : EntryData) (st' : State)
         → ((shelf : ObjectShelf) (root : List ℕ) (t u : Nodes) → Means shelf root t → Means shelf root u → t ≡ u)
         → ((settled : State) → Settled st settled → (r : ReplyData) × Unopposed (aged settled e.now) o r) → Step st o e st'

@@ -42,7 +42,7 @@ pub enum Reply {
     InvalidToken,
     /// The lease is another key's.
     WrongKey,
-    /// Other bytes stand under this id.
+    /// Other bytes stand under this id, or another object that was sent has it.
     Collision(ObjectId),
     /// The root on which the offered tree was made is that of no revision since the lease was granted.
     StaleBase {
@@ -51,7 +51,7 @@ pub enum Reply {
     },
     /// The offered tree reaches this object, which isn't there.
     MissingObject(ObjectId),
-    /// The offered tree reaches this catalogue, which isn't one.
+    /// The offered tree reaches this catalogue, which isn't one, or not one for its place.
     BadCatalogue(ObjectId),
     /// Two paths would have one key in a catalogue.
     PathCollision {
