@@ -67,6 +67,13 @@ impl<V: Vault + Drop, S: Signer + Drop> Model for Line<V, S> {
 }
 
 impl<V: Vault + Drop, S: Signer + Drop> Line<V, S> {
+    /// The repository's name.
+    pub fn name(&self) -> &Name
+        ensures { result.now ≡ self.now.name }
+    {
+        &self.name
+    }
+
     /// The newest head.
     pub fn head(&self) -> Head
         ensures newest { result ≡ self.now.head }
