@@ -1,5 +1,5 @@
 -- What the calls of a commit say.
-use Rattle.std.proofs.Common.{◌≡◌, true, false, Bool, ℕ, List, [], ◌∷◌, ◌++◌, refl, sym, ap, subst, ◌∙◌, inl, inr}
+use Rattle.std.proofs.Common.{◌≡◌, true, false, Bool, ℕ, List, [], ◌∷◌, ◌++◌, refl, sym, ap, subst, ◌∙◌, inl, inr, ◌+◌, length, arith}
 use Rattle.std.specs.Prelude.{MatchResult, IfOk, IfErr, OnOk, OnErr, IsTrue}
 use Rattle.std.specs.Option.{option_map}
 use Rattle.std.specs.declared.option.Option.{Option}
@@ -11,6 +11,7 @@ use Rattle.cv_base.specs.Marker.{marker, ends_in}
 use Rattle.cv_base.specs.Told.{WhereTold}
 use Rattle.cv_base.specs.declared.object.Object.{Object}
 use Rattle.cv_base.specs.declared.token.Token.{Token}
+use Rattle.cv_ports.specs.Calls.{RaisedAtMost}
 use Rattle.cv_ports.specs.Shelf.{Shelf}
 use Rattle.cv_vault.specs.Names.{on_way}
 use Rattle.cv_vault.specs.Disk.{Disk, Files}
@@ -21,7 +22,7 @@ use Rattle.cv_vault.specs.declared.vault.VaultFault.TheVariants as vault
 use Rattle.cv_vault.proofs.Laws.{quiet_same}
 use Rattle.cv_tree.specs.Tree.{Nodes}
 use Rattle.cv_tree.specs.Changes.{has_place}
-use Rattle.cv_cut.specs.Above.{replaced}
+use Rattle.cv_cut.specs.Above.{replaced, cuts_above}
 use Rattle.cv_cut.specs.Good.{IsGood}
 use Rattle.cv_cut.specs.Means.{Means}
 use Rattle.cv_cut.specs.Reached.{root_place}
@@ -49,7 +50,7 @@ use Rattle.cv_desk.specs.Answers.{Tells}
 use Rattle.cv_desk.specs.Gate.{StateView, IsState, IsSameRepository}
 use Rattle.cv_desk.specs.Sending.{outcome_of, outcome_in}
 use Rattle.cv_desk.specs.Acting.{reply_of}
-use Rattle.cv_desk.specs.Committing.{IsUnfit, outside, damaged, unfit, two, one, shares, fills, IsFit, next_record, objects_with, Readies, unmade, unprepared, prepared, Finishes, swaps, wavers, stays, opposition, CommitsUnder, opposed, stopped, ready as goes}
+use Rattle.cv_desk.specs.Committing.{FetchesAll, FetchesOffered, IsUnfit, outside, damaged, unfit, two, one, shares, fills, IsFit, next_record, objects_with, Readies, unmade, unprepared, prepared, Finishes, swaps, wavers, stays, opposition, CommitsUnder, opposed, readies}
 use Rattle.cv_desk.specs.declared.outcome.Outcome.{Outcome}
 use Rattle.cv_desk.proofs.States.{state_ended, state_same}
 use Rattle.cv_desk.proofs.CommitSteps.{found_has}
@@ -81,6 +82,23 @@ grafts_there disk count left line judged reads root is offered path r x e told d
     let same : line.head.root ≡ root = sym (is ∙ ap (λ (l : LineView _ _). l.head.root) reads.1) in
     subst (Grafts (replaced t n path) path) e (told (standing_on d) (ap (option_map standing_on) (quiet_same reads.0 ∙ there)) t n (subst (λ h. Means (standing_on d) h t) same mt) mn place)
 
+-- and of how much was fetched for it
+pub grafts_fetched : {V S : Type 0} (disk : V → Option Disk) (count : V → ℕ) (left : V → ℕ → Files → Type 0) (line judged : LineView V S) → LineReads disk count left line judged → (root : List ℕ) → root ≡ judged.head.root
+    → (offered : List ℕ) (path : Path) (after : ℕ) → WhereTold (disk line.vault) (λ d. FetchesAll (standing_on d) offered line.taken judged.taken)
+    → WhereTold (option_map standing_on (disk judged.vault)) (λ standing. (t n : Nodes) → Means standing root t → Means standing offered n → RaisedAtMost (length (cuts_above n path) + length (cuts_above t path)) judged.taken after)
+    → WhereTold (disk line.vault) (λ d. FetchesOffered (standing_on d) line.head.root offered path line.taken after)
+grafts_fetched disk count left line judged reads root is offered path after judges told = λ d there.
+    let same : line.head.root ≡ root = sym (is ∙ ap (λ (l : LineView _ _). l.head.root) reads.1) in (
+      judged.taken,
+      judges d there,
+      λ t n mt mn. told (standing_on d) (ap (option_map standing_on) (quiet_same reads.0 ∙ there)) t n (subst (λ h. Means (standing_on d) h t) same mt) mn,
+    )
+
+-- where nothing is grafted nothing more is fetched
+pub judged_alone : {V S : Type 0} (disk : V → Option Disk) (line judged : LineView V S) (offered : List ℕ) (path : Path) → WhereTold (disk line.vault) (λ d. FetchesAll (standing_on d) offered line.taken judged.taken)
+    → WhereTold (disk line.vault) (λ d. FetchesOffered (standing_on d) line.head.root offered path line.taken judged.taken)
+judged_alone disk line judged offered path judges = λ d there. (judged.taken, judges d there, λ t n mt mn. (0, omega arith, refl))
+
 pub graft_unfit : (shelf : Shelf) (newest offered : List ℕ) (path : Path) (f : GraftFault) (r : Reply) → Tells f r → IsGood shelf offered root_place
     → ((t n : Nodes) → Means shelf newest t → Means shelf offered n → has_place t path ≡ true → Grafts (replaced t n path) path (Err f)) → TellsDamage shelf {X = Grafted} (Err f) → IsUnfit shelf newest offered path r
 graft_unfit shelf newest offered path (fault.PathCollision a b) r (inl e) is grafts shown = unfit is (two a b e) (λ t n mt mn place. shares a b (grafts t n mt mn place) e)
@@ -95,7 +113,7 @@ graft_unfit shelf newest offered path fault.NoMemory r e is grafts shown = outsi
 
 module _ {V S : Type 0} (disk : V → Option Disk) (count : V → ℕ) (left : V → ℕ → Files → Type 0) (is_seal : S → List ℕ → List ℕ → Bool) (lease : Lease) (key : List ℕ) (moment : ℕ) (offered tag : List ℕ) (l read l' : LineView V S)
     (g : Grafted) (head : Head) (next : Record) (others : List Object) (reads : LineReads disk count left l read) (same_head : head ≡ l.head) (is : next ≡ next_record head lease key moment g offered tag) (added : others ≡ g.added)
-    (fit : WhereTold (disk l.vault) (λ d. IsFit (standing_on d) l.head.root offered lease.path g)) where
+    (fetches : WhereTold (disk l.vault) (λ d. FetchesOffered (standing_on d) l.head.root offered lease.path l.taken read.taken)) (fit : WhereTold (disk l.vault) (λ d. IsFit (standing_on d) l.head.root offered lease.path g)) where
   record_is : next ≡ next_record l.head lease key moment g offered tag
   record_is = is ∙ ap (λ (h : Head). next_record h lease key moment g offered tag) same_head
 
@@ -112,7 +130,7 @@ module _ {V S : Type 0} (disk : V → Option Disk) (count : V → ℕ) (left : V
       let size : h ≡ head_with (next_record l.head lease key moment g offered tag) g.size = if_ok (λ x. x ≡ head_with next g.size) r h e heads ∙ ap (λ (x : Record). head_with x g.size) to in
       let said : Publishes l.name (is_seal l.signer) (Some l'.manifest) h =
       subst (λ (x : LineView V S). Publishes x.name (is_seal x.signer) (Some l'.manifest) h) reads.1 (if_ok (λ x. Publishes read.name (is_seal read.signer) (Some l'.manifest) x) r h e says) in
-      subst (λ x. Readies disk count left is_seal lease key moment offered tag l l' (Ok x)) (sym size) (prepared read g reads fit
+      subst (λ x. Readies disk count left is_seal lease key moment offered tag l l' (Ok x)) (sym size) (prepared read g reads fetches fit
       (if_ok (λ x. published l' ≡ published read) r h e kept ∙ ap (λ (x : LineView V S). published x) reads.1)
       (subst (λ x. IsReady read (next_record l.head lease key moment g offered tag) x l') size (subst (λ (x : Record). IsReady read x h l') to (if_ok (λ x. IsReady read next x l') r h e ready)))
       (subst (λ x. Publishes l.name (is_seal l.signer) (Some l'.manifest) x) size said)
@@ -121,32 +139,27 @@ module _ {V S : Type 0} (disk : V → Option Disk) (count : V → ℕ) (left : V
   pub refused : (r : Result Head StoreFault) (f : StoreFault) → r ≡ Err f → IsDropped read l' → HasOwnIds g.added → With (others ++ object_of next ∷ []) r → (a : Reply) → a ≡ reply_of (outcome_of f)
       → Readies disk count left is_seal lease key moment offered tag l l' (Err a)
   refused r f e dropped own walks a told = subst (λ x. Readies disk count left is_seal lease key moment offered tag l l' (Err x)) (sym told)
-      (unprepared read g f reads fit dropped (named_more g.added (object_of (next_record l.head lease key moment g offered tag)) (record { each = own.each }) refl)
+      (unprepared read g f reads fetches fit dropped (named_more g.added (object_of (next_record l.head lease key moment g offered tag)) (record { each = own.each }) refl)
       (subst (λ b. With b (Err f)) batch_is (subst (With (others ++ object_of next ∷ [])) e walks)))
 
 -- the line is of the same repository, whatever was answered
 pub readies_same : {V S : Type 0} (disk : V → Option Disk) (count : V → ℕ) (left : V → ℕ → Files → Type 0) (is_seal : S → List ℕ → List ℕ → Bool) (lease : Lease) (key : List ℕ) (moment : ℕ) (offered tag : List ℕ) (l l' : LineView V S)
     (r : Result Head Reply) → Readies disk count left is_seal lease key moment offered tag l l' r → IsSameRepository l l'
-readies_same disk count left is_seal lease key moment offered tag l l' _ (unmade r kind reads why) = record {
+readies_same disk count left is_seal lease key moment offered tag l l' _ (unmade r kind reads fetches why) = record {
   name_ = ap (λ (x : LineView _ _). x.name) reads.1;
   signer_ = ap (λ (x : LineView _ _). x.signer) reads.1;
   epoch_ = ap (λ (x : LineView _ _). x.epoch) reads.1;
 }
-readies_same disk count left is_seal lease key moment offered tag l l' _ (unprepared read g f reads fit dropped named w) = record {
+readies_same disk count left is_seal lease key moment offered tag l l' _ (unprepared read g f reads fetches fit dropped named w) = record {
   name_ = dropped.others.name_ ∙ ap (λ (x : LineView _ _). x.name) reads.1;
   signer_ = dropped.others.signer_ ∙ ap (λ (x : LineView _ _). x.signer) reads.1;
   epoch_ = dropped.others.epoch_ ∙ ap (λ (x : LineView _ _). x.epoch) reads.1;
 }
-readies_same disk count left is_seal lease key moment offered tag l l' _ (prepared read g reads fit records ready says w) = record {
+readies_same disk count left is_seal lease key moment offered tag l l' _ (prepared read g reads fetches fit records ready says w) = record {
   name_ = ready.others.name_ ∙ ap (λ (x : LineView _ _). x.name) reads.1;
   signer_ = ready.others.signer_ ∙ ap (λ (x : LineView _ _). x.signer) reads.1;
   epoch_ = ready.others.epoch_ ∙ ap (λ (x : LineView _ _). x.epoch) reads.1;
 }
-
--- the line is ready where it was prepared
-pub readies_stage : {V S : Type 0} (disk : V → Option Disk) (count : V → ℕ) (left : V → ℕ → Files → Type 0) (is_seal : S → List ℕ → List ℕ → Bool) (lease : Lease) (key : List ℕ) (moment : ℕ) (offered tag : List ℕ) (l l' : LineView V S)
-    (h : Head) → Readies disk count left is_seal lease key moment offered tag l l' (Ok h) → (w : LineView V S) × (r : Record) × IsReady w r h l'
-readies_stage disk count left is_seal lease key moment offered tag l l' _ (prepared read g reads fit records ready says w) = (read, _, ready)
 
 -- ---- a lease of the table
 
@@ -165,20 +178,22 @@ module _ {V S : Type 0} (disk : V → Option Disk) (count : V → ℕ) (left : V
   over l ls = record { line = l; leases = ls; moment = moment; next = next }
 
   -- the head is swapped in, or isn't
-  module _ (token : Token) (head : Head) (l : LineView V S) where
+  module _ (token : Token) (l : LineView V S) where
     abbrev Moves : Result (Unit {0}) VaultFault → Type 0
     Moves r = WhereTold (disk line.vault) (λ d. Walks disk count left on_way (ComesTo head_name (Some line.manifest)) (MovedIn d head_name line.manifest r) d line.vault l.vault)
 
-    pub ends_well : (r : Result (Unit {0}) VaultFault) (x : Unit {0}) → r ≡ Ok x → OnOk r (l ≡ swapped line l.vault) → (ls : List Lease) → ls ≡ without token leases → Moves r
-        → Finishes disk count left is_seal token head s (reply.Committed head.revision head.root) (over l ls)
-    ends_well r x e ok ls ended moves = subst (λ (y : StateView V S). Finishes disk count left is_seal token head y (reply.Committed head.revision head.root) (over l ls)) is
-        (swaps (subst Moves e moves) refl (λ i. over (on_ok r x e ok i) (ended i)))
+    pub ends_well : (r : Result (Unit {0}) VaultFault) (x : Unit {0}) → r ≡ Ok x → OnOk r (l ≡ swapped line l.vault) → (ls : List Lease) → ls ≡ without token leases → Moves r → (head : Head) → head ≡ l.head
+        → Finishes disk count left token s (reply.Committed head.revision head.root) (over l ls)
+    ends_well r x e ok ls ended moves head newest =
+        let is_next : head ≡ line.next_head = newest ∙ ap (λ (y : LineView V S). y.head) (on_ok r x e ok) in
+        subst (λ (y : StateView V S). Finishes disk count left token y (reply.Committed head.revision head.root) (over l ls)) is
+        (swaps (subst Moves e moves) (λ i. reply.Committed (is_next i).revision (is_next i).root) (λ i. over (on_ok r x e ok i) (ended i)))
 
     pub ends_badly : (r : Result (Unit {0}) VaultFault) (f : VaultFault) → r ≡ Err f → (r ≡ Err vault.Failed → l ≡ record line { vault = l.vault; stage = stage.Doubtful }) → (r ≡ Err vault.NoMemory → l ≡ record line { vault = l.vault }) → Moves r
-        → (o : Outcome) → o ≡ outcome_in f → Finishes disk count left is_seal token head s (reply_of o) (over l leases)
-    ends_badly r vault.Failed e failed lacking moves o told = subst (λ (y : StateView V S). Finishes disk count left is_seal token head y (reply_of o) (over l leases)) is
+        → (o : Outcome) → o ≡ outcome_in f → Finishes disk count left token s (reply_of o) (over l leases)
+    ends_badly r vault.Failed e failed lacking moves o told = subst (λ (y : StateView V S). Finishes disk count left token y (reply_of o) (over l leases)) is
         (wavers (subst Moves e moves) (ap reply_of told) (λ i. over (failed e i) leases))
-    ends_badly r vault.NoMemory e failed lacking moves o told = subst (λ (y : StateView V S). Finishes disk count left is_seal token head y (reply_of o) (over l leases)) is
+    ends_badly r vault.NoMemory e failed lacking moves o told = subst (λ (y : StateView V S). Finishes disk count left token y (reply_of o) (over l leases)) is
         (stays (subst Moves e moves) (ap reply_of told) (λ i. over (lacking e i) leases))
 
   -- a commit under the lease that the token finds
@@ -186,19 +201,15 @@ module _ {V S : Type 0} (disk : V → Option Disk) (count : V → ℕ) (left : V
     the_lease : (lease : Lease) → lease_of token s.leases ≡ Some lease → mine ≡ lease
     the_lease lease there = let both : Some mine ≡ Some lease = sym found ∙ ap (λ (x : StateView V S). lease_of token x.leases) is ∙ there in cc
 
-    abbrev Under : Reply → StateView V S → Type 0
+    abbrev Under : Result Head Reply → StateView V S → Type 0
     Under r s' = (lease : Lease) → lease_of token s.leases ≡ Some lease → CommitsUnder disk count left is_seal lease key old_root offered tag s r s'
 
-    under : (r : Reply) (s' : StateView V S) → CommitsUnder disk count left is_seal mine key old_root offered tag (over line leases) r s' → Under r s'
+    under : (r : Result Head Reply) (s' : StateView V S) → CommitsUnder disk count left is_seal mine key old_root offered tag (over line leases) r s' → Under r s'
     under r s' does = λ lease there. subst (λ x. CommitsUnder disk count left is_seal x key old_root offered tag s r s') (the_lease lease there)
         (subst (λ (y : StateView V S). CommitsUnder disk count left is_seal mine key old_root offered tag y r s') is does)
 
-    pub opposes : (o : Outcome) (r : Reply) → r ≡ reply_of o → opposition line mine.from_revision old_root tag ≡ Some o → Under r s
-    opposes o r told why = subst (λ (y : StateView V S). Under r y) is (under r (over line leases) (opposed o why told refl))
+    pub opposes : (o : Outcome) (r : Reply) → r ≡ reply_of o → opposition line mine.from_revision old_root tag ≡ Some o → Under (Err r) s
+    opposes o r told why = subst (λ (y : StateView V S). Under (Err r) y) is (under (Err r) (over line leases) (opposed o why (ap Err told) refl))
 
-    pub stops : (l : LineView V S) (r : Reply) → opposition line mine.from_revision old_root tag ≡ None → Readies disk count left is_seal mine key moment offered tag line l (Err r) → Under r (over l leases)
-    stops l r none readies = under r (over l leases) (stopped l none readies refl)
-
-    pub goes_on : (l : LineView V S) (h : Head) (r : Reply) (s' : StateView V S) → opposition line mine.from_revision old_root tag ≡ None → Readies disk count left is_seal mine key moment offered tag line l (Ok h)
-        → Finishes disk count left is_seal mine.token h (over l leases) r s' → Under r s'
-    goes_on l h r s' none readies finishes = under r s' (goes l h none readies finishes)
+    pub made_ready : (l : LineView V S) (r : Result Head Reply) → opposition line mine.from_revision old_root tag ≡ None → Readies disk count left is_seal mine key moment offered tag line l r → Under r (over l leases)
+    made_ready l r none got = under r (over l leases) (readies l none got refl)

@@ -1,4 +1,4 @@
--- The ends of a commit whose checks passed: its objects weren't brought, or its head came or didn't.
+-- A commit whose checks passed: its objects weren't brought, or it is ready.
 use Rattle.std.proofs.Common.{◌≡◌, ◌≢◌, ◌<◌, ◌^◌, max, Bool, ℕ, List, [], ◌∷◌, ◌++◌, refl, sym, ap, subst, ◌∙◌, inr}
 use Rattle.std.specs.Prelude.{IfSome}
 use Rattle.std.specs.declared.option.Option.{Option}
@@ -10,38 +10,37 @@ use Rattle.cv_ports.specs.Shelf.{Shelf}
 use Rattle.cv_vault.specs.Names.{on_way}
 use Rattle.cv_vault.specs.Disk.{Disk, Files, ImageOf}
 use Rattle.cv_vault.specs.Moments.{LeavesOnly}
-use Rattle.cv_vault.specs.Walks.{Walks, ComesTo}
+use Rattle.cv_vault.specs.Walks.{Walks}
 use Rattle.cv_vault.proofs.Laws.{leaves_then, leaves_more, quiet_walks}
 use Rattle.cv_history.specs.declared.record.Record.{Record}
 use Rattle.cv_manifest.specs.declared.head.Head.{Head}
-use Rattle.cv_leases.specs.Leases.{unexpired, without}
+use Rattle.cv_leases.specs.Leases.{unexpired}
 use Rattle.cv_objects.specs.Batches.{Brings}
 use Rattle.cv_objects.specs.declared.store_fault.StoreFault.{StoreFault}
 use Rattle.cv_swap.specs.Kept.{Revision, newest, head_of}
-use Rattle.cv_swap.specs.Line.{LineView, LineReads, published, swapped, AreKept, IsReady as IsReadyLine, IsDropped}
+use Rattle.cv_swap.specs.Line.{LineView, LineReads, published, AreKept, IsReady as IsReadyLine, IsDropped}
 use Rattle.cv_swap.specs.Publishing.{Prepared, ArePrepared}
-use Rattle.cv_swap.specs.Stands.{Publishes, head_name}
+use Rattle.cv_swap.specs.Stands.{Publishes}
 use Rattle.cv_swap.specs.declared.stage.Stage.TheVariants as stage
-use Rattle.cv_gate.specs.State.{State, aged, with_revision}
+use Rattle.cv_gate.specs.State.{State, aged}
 use Rattle.cv_gate.specs.Commits.{made}
 use Rattle.cv_gate.specs.Kept.{Pending, BringsObjects}
 use Rattle.cv_gate.specs.Objects.{GainsAll}
 use Rattle.cv_gate.specs.Passing.{MakesNew}
-use Rattle.cv_gate.specs.Ready.{IsReady, swaps as ends_swapped, wavers as ends_doubtful, stays as ends_fault}
+use Rattle.cv_gate.specs.Ready.{IsReady, stays as ends_fault}
 use Rattle.cv_gate.specs.Sound.{Sound}
 use Rattle.cv_gate.specs.Step.{Step, Records, IsValid, last_number}
 use Rattle.cv_gate.specs.declared.op.Op.{Op}
 use Rattle.cv_gate.specs.declared.entry.Entry.{Entry}
-use Rattle.cv_gate.specs.declared.reply.Reply.{Reply}
 use Rattle.cv_gate.specs.declared.reply.Reply.TheVariants as reply
 use Rattle.cv_gate.proofs.Lemmas.{by_step, ready_ends, hashed_made}
 use Rattle.cv_desk.specs.Holds.{IsHeadOf, Holds, Survives, after_store}
 use Rattle.cv_desk.specs.Gate.{StateView, StandsFor, KnowsDoubt, Does}
 use Rattle.cv_desk.specs.Sending.{outcome_of}
 use Rattle.cv_desk.specs.Acting.{aged_view, reply_of}
-use Rattle.cv_desk.specs.Committing.{Finishes, swaps, wavers, stays}
+use Rattle.cv_desk.specs.Begin.{IsReadyIn, GetsReady}
 use Rattle.cv_desk.proofs.Bringing.{Comes, Ends, unprepared_ends, all_gained, all_held}
-use Rattle.cv_desk.proofs.Finishing.{IsPrepared, records_again, step_of, swapped_stands, doubted_stands, stayed_stands, finishing_leaves}
+use Rattle.cv_desk.proofs.Finishing.{records_again}
 use Rattle.cv_desk.proofs.Holding.{holds_with}
 use Rattle.cv_desk.proofs.Imaging.{quiet_survives, bringing_survives, settled_itself}
 
@@ -143,58 +142,18 @@ module _ {V S : Type 0} (disk : V → Option Disk) (count : V → ℕ) (left : V
     says_new = subst (λ n. IsHeadOf n (is_seal l.signer) new (Some l.manifest)) (sym (name_is readied.others)) (subst (λ x. IsHeadOf name (is_seal x) new (Some l.manifest)) (sym (signer_is readied.others))
         (subst (λ (h : Head). Publishes name seal (Some l.manifest) h) head_is says))
 
-    is_prepared : IsPrepared disk is_seal st o e.now mid new stored w.end
-    unfolding stands_as
-    is_prepared = record {
+    -- the commit is ready
+    pub readied_in : (token : Token) → token ≡ new.record_.token → IsReadyIn disk is_seal mid token o e.now st new stored
+    readied_in token of = record {
       sound = stands.sound;
-      none = none;
+      ready = ready;
+      lease = of;
       stands = stands_as readied.others same_records (λ k. (let ready = readied.stage in cc)) w.end w.told stored.shelf stored.loose stored_sound
           (all_held name seal d w.end a new holds_a stands.sound.hashes w.gains l.manifest w.is);
-      end = refl;
-      ready = ready;
-      gains = gains;
-      brings = brings;
-      would = record { op = valid; limit = limit; new = new; makes = makes; is = refl };
       all = readied.all ∙ (λ i. (published_read ∙ sym same_records) i ++ next_is i ∷ []);
       next_head = readied.next_head ∙ head_is;
       says = says_new;
     }
 
-    -- with the repository's name and signer as they were
-    survives_as : (f : Files) → Survives l.name (is_seal l.signer) st (Some pending) f → Survives name seal st (Some pending) f
-    survives_as f x = subst (λ n. Survives n seal st (Some pending) f) (name_is readied.others) (subst (λ y. Survives l.name (is_seal y) st (Some pending) f) (signer_is readied.others) x)
-
-    module _ (s' : StateView V S) (P : Disk → Type 0) (moves : Walks disk count left on_way (ComesTo head_name (Some l.manifest)) P w.end l.vault s'.line.vault) where
-      leaves : LeavesOnly count left (Survives name seal st (Some pending)) before.line.vault s'.line.vault
-      leaves = leaves_then (bringing _ w) (finishing_leaves disk count left is_seal st o mid new stored w.end e is_prepared records s'.line.vault P moves) (λ f x. x) survives_as
-
-    pub finished_does : (token : Token) → token ≡ new.record_.token → (r : Reply) (s' : StateView V S) → Finishes disk count left is_seal token next_head mid r s' → e.reply ≡ r → Does disk count left is_seal o e before s' st
-    finished_does token of r s' (swaps moves is same_view) replied =
-        let m = moves w.end w.told in
-        let told : e.reply ≡ reply.Committed new.record_.revision new.record_.root = replied ∙ is ∙ (λ i. reply.Committed (head_is i).revision (head_is i).root) in
-        record {
-          next = with_revision stored new;
-          step = step_of disk count left is_seal st o mid new stored w.end e is_prepared records s'.line.vault _ m (with_revision stored new) (ends_swapped told refl);
-          stands = subst (λ (x : StateView V S). StandsFor disk is_seal x (with_revision stored new)) (sym (same_view ∙ (λ i. record mid { line = swapped l s'.line.vault; leases = without (of i) mid.leases })))
-              (swapped_stands disk count left is_seal st o mid new stored w.end e is_prepared records s'.line.vault _ m told m.is);
-          leaves = leaves s' _ m;
-        }
-    finished_does token of r s' (wavers moves is same_view) replied =
-        let m = moves w.end w.told in
-        let told : e.reply ≡ reply.StoreFailed = replied ∙ is in
-        record {
-          next = record stored { doubt = Some new };
-          step = step_of disk count left is_seal st o mid new stored w.end e is_prepared records s'.line.vault _ m (record stored { doubt = Some new }) (ends_doubtful told refl);
-          stands = subst (λ (x : StateView V S). StandsFor disk is_seal x (record stored { doubt = Some new })) (sym same_view)
-              (doubted_stands disk count left is_seal st o mid new stored w.end e is_prepared records s'.line.vault _ m told);
-          leaves = leaves s' _ m;
-        }
-    finished_does token of r s' (stays moves is same_view) replied =
-        let m = moves w.end w.told in
-        record {
-          next = stored;
-          step = step_of disk count left is_seal st o mid new stored w.end e is_prepared records s'.line.vault _ m stored (ends_fault (inr (replied ∙ is)) refl);
-          stands = subst (λ (x : StateView V S). StandsFor disk is_seal x stored) (sym same_view)
-              (stayed_stands disk count left is_seal st o mid new stored w.end e is_prepared records s'.line.vault _ m m.is);
-          leaves = leaves s' _ m;
-        }
+    pub gets_ready : (token : Token) → token ≡ new.record_.token → GetsReady disk count left is_seal o e.now token before mid st
+    gets_ready token of = record { new = new; stored = stored; ready = readied_in token of; leaves = bringing _ w }

@@ -1,5 +1,5 @@
--- A commit that is asked is the gate's step.
-use Rattle.std.proofs.Common.{◌≡◌, ◌<◌, Bool, true, false, cond, ℕ, List, [], ◌∷◌, refl, sym, ap, subst, ◌∙◌, inr}
+-- A commit that is asked is the gate's step, or gets ready.
+use Rattle.std.proofs.Common.{◌≡◌, ◌<◌, ◌^◌, Bool, true, false, cond, ℕ, List, [], ◌∷◌, refl, sym, ap, subst, ◌∙◌, inr}
 use Rattle.std.specs.Prelude.{bytes_eq, IfSome}
 use Rattle.std.specs.List.{AllByRecursion}
 use Rattle.std.proofs.lemmas.Slice.Eq.{bytes_eq-Decides}
@@ -21,6 +21,7 @@ use Rattle.cv_history.specs.declared.record.Record.{Record}
 use Rattle.cv_manifest.specs.declared.head.Head.{Head}
 use Rattle.cv_leases.specs.Leases.{lease_of, same_token}
 use Rattle.cv_leases.specs.declared.lease.Lease.{Lease}
+use Rattle.cv_leases.proofs.Laws.{lease_of_token}
 use Rattle.cv_objects.specs.Names.{standing_on}
 use Rattle.cv_objects.specs.Batches.{Brings}
 use Rattle.cv_objects.specs.declared.store_fault.StoreFault.{StoreFault}
@@ -33,21 +34,24 @@ use Rattle.cv_gate.specs.Commits.{made}
 use Rattle.cv_gate.specs.Kept.{Pending, BringsObjects, makes as makes_objects}
 use Rattle.cv_gate.specs.Objects.{GainsSome}
 use Rattle.cv_gate.specs.Sound.{IsUndisturbed}
-use Rattle.cv_gate.specs.Step.{Step, IsNoted, Commits, CommitStep, Publishes as PublishesAs, collides, fails as fails_so, last_number}
+use Rattle.cv_gate.specs.Step.{Step, IsNoted, IsValid, Commits, CommitStep, Publishes as PublishesAs, collides, fails as fails_so, last_number}
 use Rattle.cv_gate.specs.declared.op.Op.{Op}
 use Rattle.cv_gate.specs.declared.op.Op.TheVariants as op
 use Rattle.cv_gate.specs.declared.act.Act.TheVariants as act
 use Rattle.cv_gate.specs.declared.entry.Entry.{Entry}
 use Rattle.cv_gate.specs.declared.reply.Reply.{Reply}
+use Rattle.cv_gate.specs.declared.reply.Reply.TheVariants as reply
 use Rattle.cv_gate.proofs.Lemmas.{some_newest, newest_is_head, sound_aged}
 use Rattle.cv_desk.specs.Gate.{StateView, StandsFor, Does}
 use Rattle.cv_desk.specs.Sending.{outcome_of}
 use Rattle.cv_desk.specs.Acting.{aged_view, reply_of, Acts, refusal_on}
-use Rattle.cv_desk.specs.Committing.{opposition, opposition_by, IsUnfit, IsFit, next_record, objects_with, Readies, unmade, unprepared, prepared, Finishes, CommitsUnder, opposed, stopped as stopped_so, ready, AsksCommit, not_own, own}
+use Rattle.cv_desk.specs.Committing.{opposition, opposition_by, IsUnfit, IsFit, next_record, objects_with, Readies, unmade, unprepared, prepared, CommitsUnder, opposed, readies, AsksCommit, not_own, own}
+use Rattle.cv_desk.specs.Begin.{GetsReady}
 use Rattle.cv_desk.specs.declared.outcome.Outcome.{Outcome}
+use Rattle.cv_desk.proofs.Answering.{err_is, ok_no_err}
 use Rattle.cv_desk.proofs.Asking.{leases_aged, moment_aged, has_room, looked, untouched, refused_on, IsNotDone, IsOwn, own_lease}
 use Rattle.cv_desk.proofs.Bringing.{AreSame, are_same, brings_same, prepared_same, Comes, fails, clashes, none_clashes_of}
-use Rattle.cv_desk.proofs.CommitEnds.{holds_a, stopped_does, finished_does}
+use Rattle.cv_desk.proofs.CommitEnds.{holds_a, stopped_does, gets_ready}
 use Rattle.cv_desk.proofs.Holding.{shelf_stands}
 use Rattle.cv_desk.proofs.Imaging.{settled_itself}
 use Rattle.cv_desk.proofs.Offering.{unfit_step, meant, new, grafts, record_is, head_is_of, fit_step, passes}
@@ -189,62 +193,82 @@ module _ {V S : Type 0} (disk : V → Option Disk) (count : V → ℕ) (left : V
         head_is_new : head_with next g.size ≡ head_of new_
         head_is_new = head_is_of a head lease key token old_root offered tag newest_.1 stands.sound.hashes means place free g fit next next_is
 
-        finished : published l ≡ published before.line → IsReadyLine read next (head_with next g.size) l → Publishes name seal (Some l.manifest) (head_with next g.size)
-            → Walks disk count left on_way (Brings d (objects_with g next)) (Prepared d (objects_with g next) l.manifest (Ok (head_with next g.size))) d read.vault l.vault
-            → (r : Reply) (s' : StateView V S) → Finishes disk count left is_seal lease.token (head_with next g.size) mid r s' → e.reply ≡ r → Does disk count left is_seal o e before s' st
-        finished same_records readied says w = by (brought (Ok (head_with next g.size)) w)
+        gets : published l ≡ published before.line → IsReadyLine read next (head_with next g.size) l → Publishes name seal (Some l.manifest) (head_with next g.size)
+            → Walks disk count left on_way (Brings d (objects_with g next)) (Prepared d (objects_with g next) l.manifest (Ok (head_with next g.size))) d read.vault l.vault → GetsReady disk count left is_seal o e.now token before mid st
+        gets same_records readied says w = by (brought (Ok (head_with next g.size)) w)
           where
-            by : Walks disk count left on_way (Brings d (made new_)) (ArePrepared (made new_) l.manifest) d read.vault l.vault → (r : Reply) (s' : StateView V S)
-                → Finishes disk count left is_seal lease.token (head_with next g.size) mid r s' → e.reply ≡ r → Does disk count left is_seal o e before s' st
-            by w2 = finished_does disk count left is_seal before only st none stands o e noted.op noted.now noted.records room_ new_ brings_ read l reads next (head_with next g.size) next_is head_is_new readied same_records says w2
+            by : Walks disk count left on_way (Brings d (made new_)) (ArePrepared (made new_) l.manifest) d read.vault l.vault → GetsReady disk count left is_seal o e.now token before mid st
+            by w2 = gets_ready disk count left is_seal before only st none stands o e noted.op noted.now noted.records room_ new_ brings_ read l reads next (head_with next g.size) next_is head_is_new readied same_records says w2
                 (passes a head lease key token old_root offered tag newest_.1 stands.sound.hashes means place free g fit live owned
                 (λ id c. none_clashes_of name seal d w2.end a new_ (holds_a disk count left is_seal before only st none stands o e noted.op noted.now noted.records room_ new_ brings_ read l reads) stands.sound.hashes w2.gains l.manifest w2.is id c))
-                lease.token refl
+                token (sym (lease_of_token token a.leases lease live))
 
       -- ---- whatever comes of bringing it
 
       stopped_all : (l : LineView V S) (r : Reply) → Readies disk count left is_seal lease key aged_before.moment offered tag before.line l (Err r) → after ≡ record aged_before { line = l } → e.reply ≡ r
           → Does disk count left is_seal o e before after st
-      stopped_all l _ (unmade r kind reads unfit) same replied = looked disk count left is_seal before after only room st none stands e o noted (inr (subst (λ x. CommitStep a key token old_root offered tag x a) (sym replied) (on_lease r a (unfit_in r (unfit d stands.told)))))
+      stopped_all l _ (unmade r kind reads fetches unfit) same replied = looked disk count left is_seal before after only room st none stands e o noted (inr (subst (λ x. CommitStep a key token old_root offered tag x a) (sym replied) (on_lease r a (unfit_in r (unfit d stands.told)))))
           (record {
             reads = subst (λ (x : StateView V S). OnlyReads disk count left before.line.vault x.line.vault) (sym same) reads.0;
             others = same ∙ ap (λ (x : LineView V S). record aged_before { line = x }) (reads.1 ∙ (λ i. record before.line { vault = (sym same i).line.vault; taken = (sym same i).line.taken }));
           })
-      stopped_all l _ (unprepared read g fault reads fit dropped named w) same replied = subst (λ (x : StateView V S). Does disk count left is_seal o e before x st) (sym same)
+      stopped_all l _ (unprepared read g fault reads fetches fit dropped named w) same replied = subst (λ (x : StateView V S). Does disk count left is_seal o e before x st) (sym same)
           (stopped g (fit_in g (fit d stands.told)) read l reads fault dropped replied (w d (quiet_same reads.0 ∙ stands.told)))
 
-      ready_all : (l : LineView V S) (h : Head) (r : Reply) → Readies disk count left is_seal lease key aged_before.moment offered tag before.line l (Ok h)
-          → Finishes disk count left is_seal lease.token h (record aged_before { line = l }) r after → e.reply ≡ r → Does disk count left is_seal o e before after st
-      ready_all l _ r (prepared read g reads fit same_records readied says w) finishes replied =
-          finished g (fit_in g (fit d stands.told)) read l reads same_records readied says (w d (quiet_same reads.0 ∙ stands.told)) r after finishes replied
+      ready_all : (l : LineView V S) (h : Head) → Readies disk count left is_seal lease key aged_before.moment offered tag before.line l (Ok h) → GetsReady disk count left is_seal o e.now token before (record aged_before { line = l }) st
+      ready_all l _ (prepared read g reads fetches fit same_records readied says w) = gets g (fit_in g (fit d stands.told)) read l reads same_records readied says (w d (quiet_same reads.0 ∙ stands.told))
 
-    under_does : (r : Reply) → CommitsUnder disk count left is_seal lease key old_root offered tag aged_before r after → e.reply ≡ r → Does disk count left is_seal o e before after st
-    under_does r (opposed why is told_ same) replied = untouched disk count left is_seal before after only room st none stands e o noted
-        (inr (subst (λ x. CommitStep a key token old_root offered tag x a) (sym (replied ∙ told_)) (on_lease (reply_of why) a
+    under_does : (r : Reply) → CommitsUnder disk count left is_seal lease key old_root offered tag aged_before (Err r) after → e.reply ≡ r → Does disk count left is_seal o e before after st
+    under_does r (opposed why is told_ same) replied =
+        let told : r ≡ reply_of why = err_is _ refl told_ in
+        untouched disk count left is_seal before after only room st none stands e o noted
+        (inr (subst (λ x. CommitStep a key token old_root offered tag x a) (sym (replied ∙ told)) (on_lease (reply_of why) a
         (opposed_step a head newest_.1 lease key token old_root offered tag why (opposition_is lease.from_revision (Some why) is))))) same
-    under_does r (stopped_so l is readies same) replied = stopped_all (unopposed st.history head lease.from_revision old_root tag (opposition_is lease.from_revision None is)) l r readies same replied
-    under_does r (ready l h is readies finishes) replied = ready_all (unopposed st.history head lease.from_revision old_root tag (opposition_is lease.from_revision None is)) l h r readies finishes replied
+    under_does r (readies l is got same) replied = stopped_all (unopposed st.history head lease.from_revision old_root tag (opposition_is lease.from_revision None is)) l r got same replied
+
+    under_gets : (h : Head) → CommitsUnder disk count left is_seal lease key old_root offered tag aged_before (Ok h) after → GetsReady disk count left is_seal o e.now token before after st
+    under_gets h (opposed why is told _) = absurd (ok_no_err _ refl told)
+    under_gets h (readies l is got same) = subst (λ (x : StateView V S). GetsReady disk count left is_seal o e.now token before x st) (sym same)
+        (ready_all (unopposed st.history head lease.from_revision old_root tag (opposition_is lease.from_revision None is)) l h got)
 
   -- ---- whoever asks
 
   refused_aged : (r : Option Outcome) → refusal_on (lease_of token aged_before.leases) key ≡ r → refusal_on (lease_of token a.leases) key ≡ r
   refused_aged r is = ap (λ (l : List Lease). refusal_on (lease_of token l) key) (sym leases_are) ∙ is
 
-  pub commit_does : (r : Reply) → AsksCommit disk count left is_seal key token old_root offered tag aged_before r after → e.reply ≡ r → Does disk count left is_seal o e before after st
-  commit_does r (not_own why is told_ same) replied =
-      let not : IsNotDone a key token (reply_of why) = refused_on a key token why (refused_aged (Some why) is) in
-      untouched disk count left is_seal before after only room st none stands e o noted
-      (inr (subst (λ x. CommitStep a key token old_root offered tag x a) (sym (replied ∙ told_)) (not.step (λ lease. Commits a key token old_root offered tag (reply_of why) a lease)))) same
-  commit_does r (own lease is live under) replied =
+  own_is : (lease : Lease) → refusal_on (lease_of token aged_before.leases) key ≡ None → lease_of token aged_before.leases ≡ Some lease → (lease_of token a.leases ≡ Some lease) × (bytes_eq lease.key key ≡ true)
+  own_is lease is live =
       let live_ : lease_of token a.leases ≡ Some lease = ap (lease_of token) (sym leases_are) ∙ live in
       let mine : IsOwn a.leases key token = own_lease a.leases key token (refused_aged None is) in
       let same_lease : mine.lease ≡ lease = (let x = mine.live in let y = live_ in cc) in
-      under_does lease live_ (subst (λ (l : Lease). bytes_eq l.key key ≡ true) same_lease mine.own) r under replied
+      (live_, subst (λ (l : Lease). bytes_eq l.key key ≡ true) same_lease mine.own)
+
+  pub commit_does : (r : Reply) → AsksCommit disk count left is_seal key token old_root offered tag aged_before (Err r) after → e.reply ≡ r → Does disk count left is_seal o e before after st
+  commit_does r (not_own why is told_ same) replied =
+      let told : r ≡ reply_of why = err_is _ refl told_ in
+      let not : IsNotDone a key token (reply_of why) = refused_on a key token why (refused_aged (Some why) is) in
+      untouched disk count left is_seal before after only room st none stands e o noted
+      (inr (subst (λ x. CommitStep a key token old_root offered tag x a) (sym (replied ∙ told)) (not.step (λ lease. Commits a key token old_root offered tag (reply_of why) a lease)))) same
+  commit_does r (own lease is live under) replied = let mine = own_is lease is live in under_does lease mine.0 mine.1 r under replied
+
+  pub commit_gets : (h : Head) → AsksCommit disk count left is_seal key token old_root offered tag aged_before (Ok h) after → GetsReady disk count left is_seal o e.now token before after st
+  commit_gets h (not_own why is told _) = absurd (ok_no_err _ refl told)
+  commit_gets h (own lease is live under) = let mine = own_is lease is live in under_gets lease mine.0 mine.1 h under
 
 -- from whatever settled state
-pub commit_acts : {V S : Type 0} (disk : V → Option Disk) (count : V → ℕ) (left : V → ℕ → Files → Type 0) (is_seal : S → List ℕ → List ℕ → Bool) (before aged_ after : StateView V S) (now : ℕ) → aged_ ≡ aged_view before now
-    → ((f : Files) → left before.line.vault (count before.line.vault) f → ImageOf (disk before.line.vault) f) → before.next < last_number → (key : List ℕ) (token : Token) (old_root offered tag : List ℕ) (r : Reply)
-    → AsksCommit disk count left is_seal key token old_root offered tag aged_ r after → Acts disk count left is_seal (op.Commit key token old_root offered tag) now (act.Commit token old_root offered tag) r before after
-commit_acts disk count left is_seal before aged_ after now aged_is only room key token old_root offered tag r asks = λ st none stands e noted e_now e_act e_reply.
-    commit_does disk count left is_seal before after only room st none stands e key token old_root offered tag noted r
-    (subst (λ (s : StateView _ _). AsksCommit disk count left is_seal key token old_root offered tag s r after) (aged_is ∙ ap (aged_view before) (sym e_now)) asks) e_reply
+module _ {V S : Type 0} (disk : V → Option Disk) (count : V → ℕ) (left : V → ℕ → Files → Type 0) (is_seal : S → List ℕ → List ℕ → Bool) (before aged_ after : StateView V S) (now : ℕ) (aged_is : aged_ ≡ aged_view before now)
+    (only : (f : Files) → left before.line.vault (count before.line.vault) f → ImageOf (disk before.line.vault) f) (room : before.next < last_number) (key : List ℕ) (token : Token) (old_root offered tag : List ℕ) where
+  pub commit_acts : (r : Reply) → AsksCommit disk count left is_seal key token old_root offered tag aged_ (Err r) after → Acts disk count left is_seal (op.Commit key token old_root offered tag) now (act.Commit token old_root offered tag) r before after
+  commit_acts r asks = λ st none stands e noted e_now e_act e_reply.
+      commit_does disk count left is_seal before after only room st none stands e key token old_root offered tag noted r
+      (subst (λ (s : StateView V S). AsksCommit disk count left is_seal key token old_root offered tag s (Err r) after) (aged_is ∙ ap (aged_view before) (sym e_now)) asks) e_reply
+
+  -- the entry as it would be
+  abbrev asked_entry : Entry
+  asked_entry = record { seat = 0; now = now; key = key; act = act.Commit token old_root offered tag; reply = reply.NoMemory }
+
+  pub commit_readied : (h : Head) → AsksCommit disk count left is_seal key token old_root offered tag aged_ (Ok h) after → IsValid (op.Commit key token old_root offered tag) → now < 2 ^ 62 → (st : State) → st.doubt ≡ None
+      → StandsFor disk is_seal before st → GetsReady disk count left is_seal (op.Commit key token old_root offered tag) now token before after st
+  commit_readied h asks valid moment st none stands =
+      commit_gets disk count left is_seal before after only room st none stands asked_entry key token old_root offered tag (record { op = valid; now = moment; records = (refl, refl) }) h
+      (subst (λ (s : StateView V S). AsksCommit disk count left is_seal key token old_root offered tag s (Ok h) after) aged_is asks)

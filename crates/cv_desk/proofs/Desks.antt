@@ -28,7 +28,7 @@ use Rattle.cv_gate.specs.Step.{Run}
 use Rattle.cv_gate.specs.Laws.{GrowsBy}
 use Rattle.cv_gate.specs.Desk.{journal_limit}
 use Rattle.cv_gate.specs.Heads.{IsFront, heads_since, last_head}
-use Rattle.cv_gate.specs.Desk.{DeskView, Call, asked, listed, fetched, told, Learns, Does as Comes, Finds, IsHead}
+use Rattle.cv_gate.specs.Desk.{DeskView, Call, asked, listed, fetched, told, Between, Learns, Does as Comes, Finds}
 use Rattle.cv_gate.specs.Desk.{made as takes_made}
 use Rattle.cv_gate.specs.Desk.{full as takes_full}
 use Rattle.cv_gate.specs.declared.op.Op.{Op}
@@ -105,6 +105,13 @@ last_grows f (suc k) o (x ∷ xs) ys h some = last_grows f k (Some x) xs ys h so
 abbrev view_at : DeskView → List Entry → State → DeskView
 view_at v seen st = record v { seen = seen; state = st; heads = heads_since v.start st }
 
+none_between : (v : DeskView) → Run v.start v.seen v.state → Between v [] v.state
+none_between v run = record {
+  run = subst (λ (l : List Entry). Run v.start l v.state) (sym (append-nil v.seen)) run;
+  theirs = refl;
+  alone = λ a. (refl, refl);
+}
+
 same_view : (v : DeskView) (seen : List Entry) → seen ≡ v.seen → v.heads ≡ heads_since v.start v.state → v ≡ view_at v seen v.state
 same_view v seen is heads = rw (is, sym heads) refl
 
@@ -117,11 +124,7 @@ module _ {V S : Type 0} (disk : V → Option Disk) (count : V → ℕ) (left : V
   learns_nothing : (d : OneDeskView V S) (v : DeskView) → Stands disk is_seal d v → Learns v v
   learns_nothing d v s = record {
     others = [];
-    between = record {
-      run = subst (λ (l : List Entry). Run v.start l v.state) (sym (append-nil v.seen)) s.run;
-      theirs = refl;
-      alone = λ a. (refl, refl);
-    };
+    between = none_between v s.run;
     knows = record { view = same_view v (v.seen ++ []) (append-nil v.seen) s.heads; heads = front_self v.heads };
   }
 
@@ -199,9 +202,9 @@ module _ {V S : Type 0} (disk : V → Option Disk) (count : V → ℕ) (left : V
         }
 
     -- the op was taken
-    made_goes : (e : Entry) → e.seat ≡ 0 → e.now ≡ now → e.reply ≡ r → after.journal ≡ d.gate.journal ++ e ∷ [] → (v : DeskView) → Stands disk is_seal d v
+    made_goes : length d.gate.journal < journal_limit → (e : Entry) → e.seat ≡ 0 → e.now ≡ now → e.reply ≡ r → after.journal ≡ d.gate.journal ++ e ∷ [] → (v : DeskView) → Stands disk is_seal d v
         → Does disk count left is_seal o e d.gate.state after.state v.state → Goes disk count left is_seal d (asked o now r ∷ []) (record d { gate = after; head = head }) v
-    made_goes e seat moment replied journal v s taken =
+    made_goes room e seat moment replied journal v s taken =
         let st' : State = taken.next in
         let then = head_then st' taken.stands in
         let on = heads_on d v s st' (grown v.state (e ∷ []) st' (o, st', taken.step, refl)) then.0 then.1 in
@@ -220,7 +223,7 @@ module _ {V S : Type 0} (disk : V → Option Disk) (count : V → ℕ) (left : V
           };
           calls_ = (
             v',
-            takes_made [] v.state e (record { run = run; theirs = refl; alone = λ a. (refl, refl) }) (seat ∙ sym s.seat) moment replied taken.step (record { view = refl; heads = on.0 }),
+            takes_made [] v.state e (none_between v s.run) (λ a. subst (λ (l : List Entry). length l < journal_limit) (sym s.seen) room) (seat ∙ sym s.seat) moment replied taken.step (record { view = refl; heads = on.0 }),
             refl,
           );
           leaves = leaves_more taken.leaves (λ f x. within [] [] v o now r refl refl
@@ -231,14 +234,20 @@ module _ {V S : Type 0} (disk : V → Option Disk) (count : V → ℕ) (left : V
         → Steps disk count left is_seal o 0 now d.gate after r → DoesCalls disk count left is_seal d (asked o now r ∷ []) (record d { gate = after; head = head })
     ask_does only (full counted is same) = calls_one disk count left is_seal d (record d { gate = after; head = head }) (asked o now r) (record {
       same = subst (λ (g : GateView V S). IsSameRepository d.gate.state.line g.state.line) (sym same) (record { name_ = refl; signer_ = refl; epoch_ = refl });
-      does = (full counted is same, record { name_ = refl; head_ = knows });
+      does = (full counted is same, knows);
       goes = full_goes only counted is same;
     })
     ask_does only (made room more e seat moment replied records journal repository exact doubt damage does) = calls_one disk count left is_seal d (record d { gate = after; head = head }) (asked o now r) (record {
       same = repository;
-      does = (made room more e seat moment replied records journal repository exact doubt damage does, record { name_ = refl; head_ = knows });
-      goes = λ v s. made_goes e seat moment replied journal v s (does v.state s.state);
+      does = (made room more e seat moment replied records journal repository exact doubt damage does, knows);
+      goes = λ v s. made_goes room e seat moment replied journal v s (does v.state s.state);
     })
+
+-- the repository keeps its name in a step
+pub steps_name : {V S : Type 0} (disk : V → Option Disk) (count : V → ℕ) (left : V → ℕ → Files → Type 0) (is_seal : S → List ℕ → List ℕ → Bool) (o : Op) (seat now : ℕ) (before after : GateView V S) (r : Reply)
+    → Steps disk count left is_seal o seat now before after r → after.state.line.name ≡ before.state.line.name
+steps_name disk count left is_seal o seat now before after r (full counted is same) = ap (λ (g : GateView _ _). g.state.line.name) same
+steps_name disk count left is_seal o seat now before after r (made room more e seat_ moment replied records journal repository exact doubt damage does) = repository.name_
 
 -- ---- an object
 
@@ -275,7 +284,15 @@ module _ {V S : Type 0} (disk : V → Option Disk) (count : V → ℕ) (left : V
 
   -- the newest head
   pub tells_does : DoesCalls disk count left is_seal d (told d.head ∷ []) d
-  tells_does = reads_does disk count left is_seal d (told d.head) d.gate.state only (looks_none disk count left d.gate.state) (λ v s learns. record { view = refl; heads = front_self v.heads; last = s.last; alone = λ a. refl }) (refl, refl)
+  tells_does = reads_does disk count left is_seal d (told d.head) d.gate.state only (looks_none disk count left d.gate.state) (λ v s learns. record {
+    entries = v.seen;
+    state = v.state;
+    run = s.run;
+    view = ap (λ (l : List Head). record v { heads = l }) s.heads;
+    heads = front_self v.heads;
+    last = s.last;
+    alone = λ a. refl;
+  }) (refl, refl)
 
   -- an object
   pub fetches_does : (state : StateView V S) (id : ObjectId) (r : Result (Option (List ℕ)) ShelfFault) → OnlyLooks disk count left d.gate.state state → WhereTold (disk d.gate.state.line.vault) (λ e. Fetches id r (standing_on e))
@@ -291,10 +308,10 @@ module _ {V S : Type 0} (disk : V → Option Disk) (count : V → ℕ) (left : V
   lists_all now (Ok lines) h = lists_does now (Some lines.items) h
   lists_all now (Err x) h = lists_does now None tt
 
-  pub fetches_over : (gate : GateView V S) (id : ObjectId) (r : Result (Option (List ℕ)) ShelfFault) → OnlyLooks disk count left d.gate.state gate.state → gate.journal ≡ d.gate.journal
+  pub fetches_over : (gate : GateView V S) (id : ObjectId) (r : Result (Option (List ℕ)) ShelfFault) → OnlyLooks disk count left d.gate.state gate.state → gate.journal ≡ d.gate.journal → gate.ready ≡ d.gate.ready
       → WhereTold (disk d.gate.state.line.vault) (λ e. Fetches id r (standing_on e)) → DoesCalls disk count left is_seal d (fetched id r ∷ []) (record d { gate = gate })
-  fetches_over gate id r looks same seen =
-      subst (λ (j : List Entry). DoesCalls disk count left is_seal d (fetched id r ∷ []) (record d { gate = record { state = gate.state; journal = j } })) (sym same) (fetches_does gate.state id r looks seen)
+  fetches_over gate id r looks same idle seen =
+      subst (λ (g : GateView V S). DoesCalls disk count left is_seal d (fetched id r ∷ []) (record d { gate = g })) (λ i. record { state = gate.state; journal = sym same i; ready = sym idle i }) (fetches_does gate.state id r looks seen)
 
 -- ---- a desk over a gate
 

@@ -1,5 +1,5 @@
 -- What holds of a reply whatever the vault tells.
-use Rattle.std.proofs.Common.{◌≡◌, ◌≢◌, true, false, cond, ℕ, List, refl, sym, ap, subst, ◌∙◌}
+use Rattle.std.proofs.Common.{◌≡◌, ◌≢◌, Bool, true, false, cond, ℕ, List, refl, sym, ap, subst, ◌∙◌}
 use Rattle.std.specs.Prelude.{bytes_eq}
 use Rattle.std.specs.declared.option.Option.{Option}
 use Rattle.std.specs.declared.option.Option.TheVariants.{None, Some}
@@ -26,13 +26,14 @@ use Rattle.cv_swap.specs.Line.{LineView}
 use Rattle.cv_swap.specs.declared.stage.Stage.TheVariants as stage
 use Rattle.cv_gate.specs.State.{aged}
 use Rattle.cv_gate.specs.Step.{CancelStep, Cancels, takes}
+use Rattle.cv_gate.specs.declared.act.Act.TheVariants as act
 use Rattle.cv_gate.specs.declared.op.Op.TheVariants as op
 use Rattle.cv_gate.specs.declared.reply.Reply.{Reply}
 use Rattle.cv_gate.specs.declared.reply.Reply.TheVariants as reply
 use Rattle.cv_desk.specs.Gate.{StateView, state_of, ShowsDamage, IsExact}
 use Rattle.cv_desk.specs.Views.{aged_view, next_token}
 use Rattle.cv_desk.specs.Refusals.{reply_of, refusal_of, refusal_on, is_unread, is_sending}
-use Rattle.cv_desk.specs.Ends.{IsLookedAt, IsPlacedOn, LeaseEnds, lease_refused, lease_unread, lease_placeless, lease_granted, store_refused, sent}
+use Rattle.cv_desk.specs.Ends.{IsPlacedOn, FetchesWay, LeaseEnds, lease_refused, lease_unread, lease_placeless, lease_granted, store_refused, sent}
 use Rattle.cv_desk.specs.Sending.{outcome_of, outcome_from, IsSent, refused, late, whole}
 use Rattle.cv_desk.specs.Acting.{OnlyLooks, Grants, granted, unremembered, AsksLease, unread, placeless, placed, AsksEnd, not_ended, ends, AsksStore, not_sent, sends, IsAnswered}
 use Rattle.cv_desk.specs.Acting.{refused as refused_lease}
@@ -78,17 +79,17 @@ module _ {V : Type 0} (disk : V → Option Disk) (v : V) where
 
 -- ---- the end of a lease
 
-pub end_answered : {V S : Type 0} (disk : V → Option Disk) (key : List ℕ) (token : Token) (now : ℕ) (before aged_ after : StateView V S) (out : Outcome) → aged_ ≡ aged_view before now
-    → AsksEnd key token aged_ out after → IsAnswered disk (op.Cancel key token) now (reply_of out) before after
-end_answered {V} {S} disk key token now before aged_ after out at asks = by (subst (λ (s : StateView V S). AsksEnd key token s out after) at asks)
+pub end_answered : {V S : Type 0} (disk : V → Option Disk) (count : V → ℕ) (left : V → ℕ → Files → Type 0) (is_seal : S → List ℕ → List ℕ → Bool) (key : List ℕ) (token : Token) (now : ℕ) (before aged_ after : StateView V S) (out : Outcome) → aged_ ≡ aged_view before now
+    → AsksEnd key token aged_ out after → IsAnswered disk count left is_seal (op.Cancel key token) now (act.Cancel token) (reply_of out) before after
+end_answered {V} {S} disk count left is_seal key token now before aged_ after out at asks = by (subst (λ (s : StateView V S). AsksEnd key token s out after) at asks)
   where
     s : StateView V S
     s = aged_view before now
 
-    line_is : after.line ≡ before.line → CancelStep (aged (state_of before) now) key token (reply_of out) (state_of after) → before.line.stage ≢ stage.Doubtful → IsExact disk (op.Cancel key token) now (reply_of out) before after
+    line_is : after.line ≡ before.line → CancelStep (aged (state_of before) now) key token (reply_of out) (state_of after) → before.line.stage ≢ stage.Doubtful → IsExact disk count left is_seal (op.Cancel key token) now (act.Cancel token) (reply_of out) before after
     line_is same step calm = record { ends = (step, same); doubt = λ is_now. absurd (calm (sym (ap (λ (l : LineView V S). l.stage) same) ∙ is_now)) }
 
-    by : AsksEnd key token s out after → IsAnswered disk (op.Cancel key token) now (reply_of out) before after
+    by : AsksEnd key token s out after → IsAnswered disk count left is_seal (op.Cancel key token) now (act.Cancel token) (reply_of out) before after
     by (not_ended is same) = record {
       exact = line_is (ap (λ (x : StateView V S). x.line) same)
           (subst (λ (x : StateView V S). CancelStep (state_of s) key token (reply_of out) (state_of x)) (sym same)
@@ -180,22 +181,23 @@ damage_before disk count left v v' r walks shows = shows_if disk v r (λ id foun
     same_there : (d d' : Disk) → Gains on_way Nothing d d' → (id : ObjectId) → standing_on d' id ≡ standing_on d id
     same_there d d' g id = elim (g.each (file_name id) refl) [ Stays same less ↦ ap (λ (f : File). cond (is_digest id.hash) f None) same | Comes came less ↦ absurd came ]
 
-pub store_answered : {V S : Type 0} (disk : V → Option Disk) (count : V → ℕ) (left : V → ℕ → Files → Type 0) (key digest : List ℕ) (token : Token) (batch : List Object) (now : ℕ) (before aged_ after : StateView V S) (out : Outcome) (fresh : List ObjectId)
+pub store_answered : {V S : Type 0} (disk : V → Option Disk) (count : V → ℕ) (left : V → ℕ → Files → Type 0) (is_seal : S → List ℕ → List ℕ → Bool) (key digest : List ℕ) (token : Token) (batch : List Object) (now : ℕ) (before aged_ after : StateView V S) (out : Outcome) (fresh : List ObjectId)
     → aged_ ≡ aged_view before now → AreNamed batch → (refusal_on (lease_of token aged_.leases) key ≡ None → is_sending (reply_of out) ≡ true) → AsksStore disk count left key token batch aged_ out fresh after
-    → IsAnswered disk (op.Store key token digest batch) now (reply_of out) before after
-store_answered {V} {S} disk count left key digest token batch now before aged_ after out fresh at named kind asks =
+    → IsAnswered disk count left is_seal (op.Store key token digest batch) now (act.Store token digest fresh) (reply_of out) before after
+store_answered {V} {S} disk count left is_seal key digest token batch now before aged_ after out fresh at named kind asks =
     by (subst (λ (s : StateView V S). refusal_on (lease_of token s.leases) key ≡ None → is_sending (reply_of out) ≡ true) at kind) (subst (λ (s : StateView V S). AsksStore disk count left key token batch s out fresh after) at asks)
   where
     s : StateView V S
     s = aged_view before now
 
-    by : (refusal_on (lease_of token s.leases) key ≡ None → is_sending (reply_of out) ≡ true) → AsksStore disk count left key token batch s out fresh after → IsAnswered disk (op.Store key token digest batch) now (reply_of out) before after
+    by : (refusal_on (lease_of token s.leases) key ≡ None → is_sending (reply_of out) ≡ true) → AsksStore disk count left key token batch s out fresh after
+        → IsAnswered disk count left is_seal (op.Store key token digest batch) now (act.Store token digest fresh) (reply_of out) before after
     by kind (not_sent is none same) = record {
-      exact = λ calm. record { ends = store_refused out is refl same; doubt = λ is_now. absurd (calm (sym (ap (λ (x : StateView V S). x.line.stage) same) ∙ is_now)) };
+      exact = λ calm. record { ends = store_refused out is refl (ap (act.Store token digest) none) same; doubt = λ is_now. absurd (calm (sym (ap (λ (x : StateView V S). x.line.stage) same) ∙ is_now)) };
       damage = by_plain disk before.line.vault out (plain_end (lease_of token s.leases) key out is);
     }
     by kind (sends free done) = record {
-      exact = λ calm. record { ends = sent free (kind free) done.others; doubt = λ is_now. absurd (calm (sym (ap (λ (x : StateView V S). x.line.stage) done.others) ∙ is_now)) };
+      exact = λ calm. record { ends = sent out fresh free refl (kind free) refl done; doubt = λ is_now. absurd (calm (sym (ap (λ (x : StateView V S). x.line.stage) done.others) ∙ is_now)) };
       damage = wherever_told disk before.line.vault (reply_of out) (λ d told.
           let w = done.walks d told in sent_shows d w.end batch fresh out named w.is disk before.line.vault told);
     }
@@ -209,9 +211,9 @@ unread_from load.Failed = refl
 unread_from (load.Damaged id found) = refl
 unread_from load.NoMemory = refl
 
-pub lease_answered : {V S : Type 0} (disk : V → Option Disk) (count : V → ℕ) (left : V → ℕ → Files → Type 0) (key : List ℕ) (path : Path) (now : ℕ) (before aged_ after : StateView V S) (out : Outcome)
-    → aged_ ≡ aged_view before now → AsksLease disk count left key path aged_ out after → ShowsDamage disk aged_.line.vault (reply_of out) → IsAnswered disk (op.Lease key path) now (reply_of out) before after
-lease_answered {V} {S} disk count left key path now before aged_ after out at asks shows = record {
+pub lease_answered : {V S : Type 0} (disk : V → Option Disk) (count : V → ℕ) (left : V → ℕ → Files → Type 0) (is_seal : S → List ℕ → List ℕ → Bool) (key : List ℕ) (path : Path) (now : ℕ) (before aged_ after : StateView V S) (out : Outcome)
+    → aged_ ≡ aged_view before now → AsksLease disk count left key path aged_ out after → ShowsDamage disk aged_.line.vault (reply_of out) → IsAnswered disk count left is_seal (op.Lease key path) now (act.Lease path) (reply_of out) before after
+lease_answered {V} {S} disk count left is_seal key path now before aged_ after out at asks shows = record {
   exact = by (subst (λ (s : StateView V S). AsksLease disk count left key path s out after) at asks);
   damage = subst (λ (s : StateView V S). ShowsDamage disk s.line.vault (reply_of out)) at shows;
 }
@@ -220,20 +222,20 @@ lease_answered {V} {S} disk count left key path now before aged_ after out at as
     s = aged_view before now
 
     -- the line is in no doubt that it wasn't in before
-    as_before : LeaseEnds disk key path s (reply_of out) after → after.line.stage ≡ before.line.stage → before.line.stage ≢ stage.Doubtful → IsExact disk (op.Lease key path) now (reply_of out) before after
+    as_before : LeaseEnds disk count left key path s (reply_of out) after → after.line.stage ≡ before.line.stage → before.line.stage ≢ stage.Doubtful → IsExact disk count left is_seal (op.Lease key path) now (act.Lease path) (reply_of out) before after
     as_before come same calm = record { ends = come; doubt = λ is_now. absurd (calm (sym same ∙ is_now)) }
 
-    granting : (looked : StateView V S) → refusal_of s.leases s.moment path ≡ None → IsPlacedOn (disk s.line.vault) s.line.head.root path true → OnlyLooks disk count left s looked → Grants key path looked out after → before.line.stage ≢ stage.Doubtful
-        → IsExact disk (op.Lease key path) now (reply_of out) before after
-    granting looked free sees looks (granted is same) = as_before
-        (lease_granted looked free sees looks.others (ap reply_of is ∙ ap (λ (x : StateView V S). reply.Granted (next_token x) x.line.head.revision x.line.head.root) looks.others) same)
+    granting : (looked : StateView V S) → refusal_of s.leases s.moment path ≡ None → IsPlacedOn (disk s.line.vault) s.line.head.root path true → OnlyLooks disk count left s looked → FetchesWay disk path s looked → Grants key path looked out after → before.line.stage ≢ stage.Doubtful
+        → IsExact disk count left is_seal (op.Lease key path) now (act.Lease path) (reply_of out) before after
+    granting looked free sees looks fetches (granted is same) = as_before
+        (lease_granted looked free sees looks fetches (ap reply_of is ∙ ap (λ (x : StateView V S). reply.Granted (next_token x) x.line.head.revision x.line.head.root) looks.others) same)
         (ap (λ (x : StateView V S). x.line.stage) same ∙ ap (λ (x : StateView V S). x.line.stage) looks.others)
-    granting looked free sees looks (unremembered is same) = as_before
-        (lease_unread free (ap (λ (o : Outcome). is_unread (reply_of o)) is) (subst (λ (x : StateView V S). IsLookedAt s x) (sym same) looks.others))
+    granting looked free sees looks fetches (unremembered is same) = as_before
+        (lease_unread free (ap (λ (o : Outcome). is_unread (reply_of o)) is) (subst (λ (x : StateView V S). OnlyLooks disk count left s x) (sym same) looks) (subst (λ (x : StateView V S). FetchesWay disk path s x) (sym same) fetches))
         (ap (λ (x : StateView V S). x.line.stage) same ∙ ap (λ (x : StateView V S). x.line.stage) looks.others)
 
-    by : AsksLease disk count left key path s out after → before.line.stage ≢ stage.Doubtful → IsExact disk (op.Lease key path) now (reply_of out) before after
+    by : AsksLease disk count left key path s out after → before.line.stage ≢ stage.Doubtful → IsExact disk count left is_seal (op.Lease key path) now (act.Lease path) (reply_of out) before after
     by (refused_lease is same) = as_before (lease_refused out is refl same) (ap (λ (x : StateView V S). x.line.stage) same)
-    by (unread free kind looks found) = as_before (lease_unread free kind looks.others) (ap (λ (x : StateView V S). x.line.stage) looks.others)
-    by (placeless free looks found sees is) = as_before (lease_placeless free (ap reply_of is) sees looks.others) (ap (λ (x : StateView V S). x.line.stage) looks.others)
-    by (placed looked free looks found sees grants) = granting looked free sees looks grants
+    by (unread free kind looks fetches found) = as_before (lease_unread free kind looks fetches) (ap (λ (x : StateView V S). x.line.stage) looks.others)
+    by (placeless free looks fetches found sees is) = as_before (lease_placeless free (ap reply_of is) sees looks fetches) (ap (λ (x : StateView V S). x.line.stage) looks.others)
+    by (placed looked free looks fetches found sees grants) = granting looked free sees looks fetches grants

@@ -23,6 +23,7 @@ mod Bringing
 mod Swapping
 mod Finishing
 mod CommitEnds
+mod Readied
 mod CommitSteps
 mod CommitCalls
 mod CommitExact

@@ -3,7 +3,7 @@ use Rattle.std.proofs.Common.{◌≡◌, ◌+◌, Bool, ℕ, List, [], length, r
 use Rattle.std.specs.Prelude.{IfSome}
 use Rattle.std.specs.declared.result.Result.TheVariants.{Ok}
 use Rattle.std.specs.declared.option.Option.{Option}
-use Rattle.std.specs.declared.option.Option.TheVariants.{Some}
+use Rattle.std.specs.declared.option.Option.TheVariants.{None, Some}
 use Rattle.cv_base.specs.ObjectId.{file_name}
 use Rattle.cv_base.specs.Digest.{IsDigest}
 use Rattle.cv_base.specs.declared.id.ObjectId.{ObjectId}
@@ -75,7 +75,7 @@ KeepsKept = (name : List ℕ) (is_seal : List ℕ → List ℕ → Bool) (d d' :
 
 -- a gate over a line that was opened
 pub gate_opened : {V S : Type 0} (disk : V → Option Disk) (count : V → ℕ) (left : V → ℕ → Files → Type 0) (is_seal : S → List ℕ → List ℕ → Bool) (name : List ℕ) (signer : S) (d : Disk) (v : V) (l : LineView V S) → FindsKept → KeepsKept
-    → LineOpens disk count left name (is_seal signer) d v (Ok l) → IsOpenedLine name signer l → (g : GateView V S) → g ≡ record { state = record { line = l; leases = []; moment = 0; next = 1 }; journal = [] }
+    → LineOpens disk count left name (is_seal signer) d v (Ok l) → IsOpenedLine name signer l → (g : GateView V S) → g ≡ record { state = record { line = l; leases = []; moment = 0; next = 1 }; journal = []; ready = None }
     → OpensGate disk count left name is_seal signer d v g
 gate_opened {V} {S} disk count left is_seal name signer d v l finds keeps o line g is = subst (OpensGate disk count left name is_seal signer d v) (sym is) (record {
   found = o.0;
@@ -89,7 +89,7 @@ gate_opened {V} {S} disk count left is_seal name signer d v l finds keeps o line
       (keeps l.name (is_seal l.signer) d o.1.end k o.0 kept found o.1.opened) o.1.opened.sure.calm o.2 line.made o.3 o.4 line.stage refl refl refl;
 })
 
-pub gate_new : {V S : Type 0} (name : List ℕ) (signer : S) (l : LineView V S) → IsOpenedLine name signer l → (g : GateView V S) → g ≡ record { state = record { line = l; leases = []; moment = 0; next = 1 }; journal = [] } → IsNew name signer g
+pub gate_new : {V S : Type 0} (name : List ℕ) (signer : S) (l : LineView V S) → IsOpenedLine name signer l → (g : GateView V S) → g ≡ record { state = record { line = l; leases = []; moment = 0; next = 1 }; journal = []; ready = None } → IsNew name signer g
 gate_new name signer l line g is = subst (IsNew name signer) (sym is) (record {
   named = line.named;
   signed = line.signed;
@@ -97,5 +97,6 @@ gate_new name signer l line g is = subst (IsNew name signer) (sym is) (record {
   moment = refl;
   next = refl;
   journal = refl;
+  idle = refl;
   calm = λ e. (let c = line.stage in let k = sym c ∙ e in cc);
 })

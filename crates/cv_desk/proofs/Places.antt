@@ -10,7 +10,7 @@ use Rattle.cv_cut.specs.Means.{Means}
 use Rattle.cv_objects.specs.Names.{standing_on}
 use Rattle.cv_swap.specs.Kept.{Revision, newest, head_of}
 use Rattle.cv_gate.specs.State.{State}
-use Rattle.cv_gate.proofs.Lemmas.{newest_is_head, some_newest}
+use Rattle.cv_gate.proofs.Lemmas.{newest_is_head}
 use Rattle.cv_desk.specs.Gate.{StateView, StandsFor}
 use Rattle.cv_desk.proofs.Holding.{shelf_stands}
 

@@ -1,6 +1,6 @@
 -- What a gate reads through its line.
 use Rattle.std.specs.Prelude.{IfOk}
-use Rattle.std.proofs.Common.{◌≡◌, ◌≢◌, Bool, true, ℕ, List, length, [], ◌∷◌, refl, sym, ap, subst, ◌∙◌}
+use Rattle.std.proofs.Common.{◌≡◌, ◌≢◌, Bool, true, ℕ, List, length, [], ◌∷◌, refl, sym, ap, subst, ◌∙◌, arith}
 use Rattle.std.specs.Option.{option_map}
 use Rattle.std.specs.declared.option.Option.{Option}
 use Rattle.std.specs.declared.result.Result.{Result}
@@ -8,10 +8,12 @@ use Rattle.std.specs.declared.result.Result.TheVariants.{Ok}
 use Rattle.std.specs.FinMap.{get}
 use Rattle.cv_base.specs.Path.{Path, parent}
 use Rattle.cv_base.specs.Told.{WhereTold}
+use Rattle.cv_ports.specs.Calls.{RaisedAtMost}
 use Rattle.cv_ports.specs.Shelf.{Shelf}
 use Rattle.cv_vault.specs.Disk.{Disk}
 use Rattle.cv_tree.specs.Tree.{Nodes, is_directory}
 use Rattle.cv_tree.specs.Changes.{has_place}
+use Rattle.cv_cut.specs.Above.{cuts_above}
 use Rattle.cv_cut.specs.Means.{Means}
 use Rattle.cv_cut.specs.declared.load_fault.LoadFault.{LoadFault}
 use Rattle.cv_graft.specs.Directories.{IsFound}
@@ -19,7 +21,7 @@ use Rattle.cv_graft.specs.Graft.{HasWay}
 use Rattle.cv_graft.specs.Way.{Tells}
 use Rattle.cv_objects.specs.Names.{standing_on}
 use Rattle.cv_desk.specs.Gate.{StateView}
-use Rattle.cv_desk.specs.Ends.{IsPlaced, IsPlacedOn}
+use Rattle.cv_desk.specs.Ends.{IsPlaced, IsPlacedOn, FetchesWay}
 use Rattle.cv_desk.specs.Acting.{FindsPlace}
 use Rattle.cv_desk.specs.declared.outcome.Outcome.{Outcome}
 
@@ -37,6 +39,19 @@ module _ {V S : Type 0} (disk : V → Option Disk) (s : StateView V S) (p above 
   pub place_found : (there : Bool) → Answers (Ok there) → FindsPlace disk s p (Ok there)
   place_found there told = λ d e t m.
       below_root t p some ∙ sym (told (standing_on d) (ap (option_map standing_on) e) t (way_of (standing_on d) hash t above (subst (λ h. Means (standing_on d) h t) (sym root) m)) ∙ ap (λ q. is_directory (get t q)) is)
+
+  -- what was fetched on the way
+  pub fetched_way : (v : V) (before after : ℕ) → v ≡ s.line.vault → before ≡ s.line.taken
+      → WhereTold (option_map standing_on (disk v)) (λ standing. (t : Nodes) → HasWay standing hash t above → RaisedAtMost (length (cuts_above t above)) before after)
+      → WhereTold (disk s.line.vault) (λ d. (t : Nodes) → HasWay (standing_on d) s.line.head.root t (parent p) → RaisedAtMost (length (cuts_above t (parent p))) s.line.taken after)
+  fetched_way v before after vaults from told = λ d e t way.
+      let there : HasWay (standing_on d) hash t above = subst (λ (q : Path). HasWay (standing_on d) hash t q) (sym is) (subst (λ h. HasWay (standing_on d) h t (parent p)) (sym root) way) in
+      subst (λ (q : Path). RaisedAtMost (length (cuts_above t q)) s.line.taken after) is (subst (λ n. RaisedAtMost (length (cuts_above t above)) n after) from
+      (told (standing_on d) (ap (option_map standing_on) (ap disk vaults ∙ e)) t there))
+
+-- nothing was fetched
+pub fetched_none : {V S : Type 0} (disk : V → Option Disk) (s s' : StateView V S) (p : Path) → s'.line.taken ≡ s.line.taken → FetchesWay disk p s s'
+fetched_none disk s s' p same = λ d told t way. (0, omega arith, same)
 
 -- ---- by the catalogues alone
 

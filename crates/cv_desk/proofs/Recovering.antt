@@ -16,7 +16,8 @@ use Rattle.cv_swap.specs.Stands.{head_name}
 use Rattle.cv_swap.specs.declared.stage.Stage.TheVariants as stage
 use Rattle.cv_gate.specs.State.{State}
 use Rattle.cv_desk.specs.Gate.{StateView, StandsFor}
-use Rattle.cv_desk.specs.Acting.{Settles, ended, newest_token, token_in}
+use Rattle.cv_desk.specs.Acting.{Settles}
+use Rattle.cv_desk.specs.Resuming.{ended, newest_token, token_in, Resumes, came, lost, Awaits}
 use Rattle.cv_desk.proofs.Settling.{settles_failed, settles_unmade, settles_made}
 
 module _ {V S : Type 0} (disk : V → Option Disk) (count : V → ℕ) (left : V → ℕ → Files → Type 0) (is_seal : S → List ℕ → List ℕ → Bool) (s : StateView V S) (line : LineView V S) (leases : List Lease) (moment next : ℕ)
@@ -32,6 +33,16 @@ module _ {V S : Type 0} (disk : V → Option Disk) (count : V → ℕ) (left : V
   pub recovers_over : (v : V) → v ≡ l.vault → WhereTold (disk s.line.vault) (λ d. Walks disk count left on_way Nothing (λ d'. Unit {0}) d s.line.vault v)
   recovers_over v same = subst (λ (x : StateView V S). WhereTold (disk x.line.vault) (λ d. Walks disk count left on_way Nothing (λ d'. Unit {0}) d x.line.vault v)) is
       (λ d told. subst (λ x. Walks disk count left on_way Nothing (λ d'. Unit {0}) d line.vault x) (sym same) (let w = walks d told in record { end = w.end; told = w.told; gains = w.gains; leaves = w.leaves; is = tt }))
+
+  pub awaits_over : (fault : VaultFault) → r ≡ Err fault → l ≡ record line { vault = l.vault } → Awaits disk count left fault s (over l)
+  awaits_over fault e others = subst (λ (s : StateView V S). Awaits disk count left fault s (over l)) is (record { doubtful = doubtful; looks = answered (Err fault) e; others = ap over others })
+
+  pub resumes_lost : r ≡ Ok false → l ≡ record line { vault = l.vault; stage = stage.Calm } → Resumes disk count left s (over l)
+  resumes_lost e others = subst (λ (s : StateView V S). Resumes disk count left s (over l)) is (lost doubtful (answered (Ok false) e) (ap over others))
+
+  pub resumes_came : r ≡ Ok true → l ≡ swapped line l.vault → (after : StateView V S) → after ≡ record (over l) { leases = ended (newest_token (published l)) leases } → Resumes disk count left s after
+  resumes_came e others after ends = subst (λ (x : StateView V S). Resumes disk count left s x) (sym ends) (subst (λ (s : StateView V S). Resumes disk count left s (record (over l) { leases = ended (newest_token (published l)) leases })) is
+      (came doubtful (answered (Ok true) e) (ap (λ (x : LineView V S). record (over x) { leases = ended (newest_token (published l)) leases }) others)))
 
   pub recovers_not : (fault : VaultFault) → r ≡ Err fault → l ≡ record line { vault = l.vault } → (st : State) → StandsFor disk is_seal s st → Settles disk count left is_seal s (Err fault) (over l) st
   recovers_not fault e others = subst (λ (s : StateView V S). (st : State) → StandsFor disk is_seal s st → Settles disk count left is_seal s (Err fault) (over l) st) is

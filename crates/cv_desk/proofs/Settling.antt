@@ -19,7 +19,7 @@ use Rattle.cv_vault.proofs.Laws.{leaves_then, leaves_more, stand}
 use Rattle.cv_leases.specs.Leases.{without}
 use Rattle.cv_history.specs.declared.record.Record.{Record}
 use Rattle.cv_swap.specs.Kept.{Revision, newest, records_of, head_of}
-use Rattle.cv_swap.specs.Line.{swapped, published}
+use Rattle.cv_swap.specs.Line.{LineView, swapped, published}
 use Rattle.cv_swap.specs.Stands.{Stands, head_name}
 use Rattle.cv_swap.specs.declared.stage.Stage.TheVariants as stage
 use Rattle.cv_gate.specs.State.{State, aged, Settled, certain, unmade, published as published_too, with_revision}
@@ -236,30 +236,33 @@ step_before st settled o e st' settles none same s = record { noted = s.noted; n
       | inr g ↦ record { settled = settled; settles = settles; acts = subst (λ (x : State). Acts (aged x e.now) o e st') (settled_same settled g.settled none g.settles) g.acts }
     ]
 
-next_same : (st settled : State) → Settled st settled → settled.next ≡ st.next
+pub next_same : (st settled : State) → Settled st settled → settled.next ≡ st.next
 next_same st settled (certain calm e) = ap (λ (x : State). x.next) e
 next_same st settled (unmade new is e) = ap (λ (x : State). x.next) e
 next_same st settled (published_too new is e) = ap (λ (x : State). x.next) e
 
-none_left : (st settled : State) → Settled st settled → settled.doubt ≡ None
+pub none_left : (st settled : State) → Settled st settled → settled.doubt ≡ None
 none_left st settled (certain calm e) = ap (λ (x : State). x.doubt) e ∙ calm
 none_left st settled (unmade new is e) = ap (λ (x : State). x.doubt) e
 none_left st settled (published_too new is e) = ap (λ (x : State). x.doubt) e
+
+-- what is left of a repository is left of it as it was before
+pub survives_same : {V S : Type 0} (is_seal : S → List ℕ → List ℕ → Bool) (before mid : LineView V S) (st : State) (p : Option Pending) (f : Files) → IsSameRepository before mid
+    → Survives mid.name (is_seal mid.signer) st p f → Survives before.name (is_seal before.signer) st p f
+survives_same is_seal before mid st p f same x = record {
+  kept = x.kept;
+  stands = subst (λ n. Stands n (is_seal before.signer) f x.kept) same.name_ (subst (λ s. Stands mid.name (is_seal s) f x.kept) same.signer_ x.stands);
+  crash = x.crash;
+}
+
+-- and what is left of a state that was settled, of the state before
+pub survives_before : (repository : List ℕ) (is_seal : List ℕ → List ℕ → Bool) (st settled : State) (p : Option Pending) (f : Files) → Settled st settled → Survives repository is_seal settled p f → Survives repository is_seal st p f
+survives_before repository is_seal st settled p f settles x = record { kept = x.kept; stands = x.stands; crash = crash_before st settled p x.kept settles x.crash }
 
 module _ {V S : Type 0} (disk : V → Option Disk) (count : V → ℕ) (left : V → ℕ → Files → Type 0) (is_seal : S → List ℕ → List ℕ → Bool) (o : Op) (e : Entry) (before mid after : StateView V S) (st : State)
     (same : IsSameRepository before.line mid.line) where
   abbrev pending : Pending
   pending = record { op = o; now = e.now }
-
-  abbrev of : StateView V S → State → Files → Type 0
-  of g x = Survives g.line.name (is_seal g.line.signer) x (Some pending)
-
-  survives_before : (settled : State) → Settled st settled → (f : Files) → of mid settled f → of before st f
-  survives_before settled settles f x = record {
-    kept = x.kept;
-    stands = subst (λ n. Stands n (is_seal before.line.signer) f x.kept) same.name_ (subst (λ s. Stands mid.line.name (is_seal s) f x.kept) same.signer_ x.stands);
-    crash = crash_before st settled (Some pending) x.kept settles x.crash;
-  }
 
   -- what is done after a doubt was settled is the step of the state that was in doubt
   pub does_later : (settled : State) → Settled st settled → ComesTo disk count left is_seal before mid st settled
@@ -270,7 +273,8 @@ module _ {V S : Type 0} (disk : V → Option Disk) (count : V → ℕ) (left : V
         next = d.next;
         step = step_before st settled o e d.next settles none (next_same st settled settles) d.step;
         stands = d.stands;
-        leaves = leaves_then (first.leaves pending) d.leaves (λ f x. x) (survives_before settled settles);
+        leaves = leaves_then (first.leaves pending) d.leaves (λ f x. x)
+            (λ f x. survives_before before.line.name (is_seal before.line.signer) st settled (Some pending) f settles (survives_same is_seal before.line mid.line settled (Some pending) f same x));
       }
 
 -- the doubt couldn't be settled, and the op waits

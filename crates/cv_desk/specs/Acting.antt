@@ -1,73 +1,53 @@
 -- What is done inside a step.
-use Rattle.std.specs.Prelude.{◌≡◌, ◌≢◌, ◌+◌, ◌-◌, ◌≤◌, ℕ, Bool, true, false, max, nat_le, bytes_eq, IsSome, List, [], ◌∷◌, ◌++◌, length, if◌then◌else◌}
+use Rattle.std.specs.Prelude.{◌≡◌, ◌≢◌, ◌+◌, ◌<◌, ◌^◌, ◌≤◌, ℕ, Bool, true, false, IsSome, List, []}
 use Rattle.std.specs.declared.option.Option.{Option}
 use Rattle.std.specs.declared.option.Option.TheVariants.{None, Some}
 use Rattle.std.specs.declared.result.Result.{Result}
 use Rattle.std.specs.declared.result.Result.TheVariants.{Ok, Err}
 use Rattle.cv_base.specs.Path.{Path}
-use Rattle.cv_base.specs.Marker.{marker, ends_in}
 use Rattle.cv_base.specs.Told.{WhereTold}
 use Rattle.cv_base.specs.declared.id.ObjectId.{ObjectId}
 use Rattle.cv_base.specs.declared.object.Object.{Object}
 use Rattle.cv_base.specs.declared.token.Token.{Token}
-use Rattle.cv_vault.specs.Names.{on_way}
 use Rattle.cv_vault.specs.Disk.{Disk, Files}
-use Rattle.cv_vault.specs.Moments.{LeavesOnly, OnlyReads}
-use Rattle.cv_vault.specs.Walks.{Walks}
+use Rattle.cv_vault.specs.Moments.{LeavesOnly}
 use Rattle.cv_vault.specs.declared.vault.VaultFault.{VaultFault}
 use Rattle.cv_tree.specs.Tree.{Nodes}
 use Rattle.cv_tree.specs.Changes.{has_place}
 use Rattle.cv_cut.specs.Means.{Means}
-use Rattle.std.specs.List.{slice_get}
-use Rattle.cv_history.specs.declared.record.Record.{Record}
-use Rattle.cv_leases.specs.Leases.{lease_limit, busy, lease_of, without, unexpired}
-use Rattle.cv_leases.specs.declared.lease.Lease.{Lease}
+use Rattle.cv_manifest.specs.declared.head.Head.{Head}
+use Rattle.cv_leases.specs.Leases.{lease_of, without}
 use Rattle.cv_objects.specs.Names.{standing_on}
 use Rattle.cv_swap.specs.declared.stage.Stage.TheVariants as stage
-use Rattle.cv_objects.specs.Batches.{Brings}
 use Rattle.cv_gate.specs.State.{State, Settled}
 use Rattle.cv_gate.specs.Kept.{Pending}
-use Rattle.cv_gate.specs.Passing.{lease_time}
-use Rattle.cv_gate.specs.Step.{IsFault, HasTypes, HasNoFresh, Records, IsNoted}
+use Rattle.cv_gate.specs.Laws.{is_committed}
+use Rattle.cv_gate.specs.Step.{IsFault, IsOp, HasTypes, HasNoFresh, Records, IsNoted}
 use Rattle.cv_gate.specs.declared.op.Op.{Op}
+use Rattle.cv_gate.specs.declared.op.Op.TheVariants as op
 use Rattle.cv_gate.specs.declared.act.Act.{Act}
+use Rattle.cv_gate.specs.declared.act.Act.TheVariants as act
 use Rattle.cv_gate.specs.declared.entry.Entry.{Entry}
 use Rattle.cv_gate.specs.declared.reply.Reply.{Reply}
 use Rattle.cv_gate.specs.declared.reply.Reply.TheVariants as reply
 use Rattle.cv_desk.specs.Holds.{Survives}
-use Rattle.cv_desk.specs.Gate.{StateView, StandsFor, IsSameRepository, Does, IsExact, ShowsDamage}
-pub use Rattle.cv_desk.specs.Views.{aged_view, next_token, new_lease, with_lease}
+use Rattle.cv_desk.specs.Gate.{StateView, StandsFor, IsSameRepository, IsCommit, Does, IsExact, Proceeds, ShowsDamage}
+use Rattle.cv_desk.specs.Begin.{GetsReady, WaitsSo}
+pub use Rattle.cv_desk.specs.Views.{at_vault, aged_view, next_token, new_lease, with_lease}
+pub use Rattle.cv_desk.specs.Resuming.{token_in, newest_token, ended}
+use Rattle.cv_desk.specs.Resuming.{Resumes}
 pub use Rattle.cv_desk.specs.Refusals.{reply_of, refusal_beside, refusal_of, refusal_on}
 use Rattle.cv_desk.specs.Refusals.{is_unread}
-use Rattle.cv_desk.specs.Ends.{IsPlacedOn}
-use Rattle.cv_desk.specs.Sending.{IsSent}
+pub use Rattle.cv_desk.specs.Ends.{OnlyLooks, Sends}
+use Rattle.cv_desk.specs.Ends.{IsPlacedOn, FetchesWay}
 use Rattle.cv_desk.specs.declared.outcome.Outcome.{Outcome}
 use Rattle.cv_desk.specs.declared.taken.Taken.{Taken}
+use Rattle.cv_desk.specs.declared.taken.Readied.{Readied}
+use Rattle.cv_desk.specs.declared.taken.Course.{Course}
+use Rattle.cv_desk.specs.declared.taken.Course.TheVariants as course
 use Rattle.cv_desk.specs.declared.outcome.Outcome.TheVariants as outcome
 
 -- ---- what becomes of the state
-
--- the same over another vault
-abbrev pub at_vault : {V S : Type 0} → StateView V S → V → StateView V S
-at_vault s v = record s { line = record s.line { vault = v } }
-
--- nothing was done but reads of the vault
-pub record OnlyLooks {V S : Type 0} (disk : V → Option Disk) (count : V → ℕ) (left : V → ℕ → Files → Type 0) (s s' : StateView V S) : Type 0 where
-  pub reads : OnlyReads disk count left s.line.vault s'.line.vault
-  pub others : s' ≡ record s { line = record s.line { vault = s'.line.vault; taken = s'.line.taken } }
-
--- the token of the lease under which the last of the records was made
-abbrev pub token_in : Option Record → Option Token
-token_in None = None
-token_in (Some r) = Some r.token
-
-abbrev pub newest_token : List Record → Option Token
-newest_token records = token_in (slice_get records (length records - 1))
-
--- the lease with the token has ended
-abbrev pub ended : Option Token → List Lease → List Lease
-ended None leases = leases
-ended (Some token) leases = without token leases
 
 -- From a state for which the gate stood it came to stand for another, and a crash meanwhile leaves what one in the first with any op in
 -- progress may leave.
@@ -105,9 +85,9 @@ pub data Grants {V S : Type 0} (key : List ℕ) (path : Path) (s : StateView V S
 -- what comes of asking for a lease
 pub data AsksLease {V S : Type 0} (disk : V → Option Disk) (count : V → ℕ) (left : V → ℕ → Files → Type 0) (key : List ℕ) (path : Path) (s : StateView V S) (o : Outcome) (s' : StateView V S) : Type 0 where
   refused : refusal_of s.leases s.moment path ≡ Some o → s' ≡ s → AsksLease disk count left key path s o s'
-  unread : refusal_of s.leases s.moment path ≡ None → is_unread (reply_of o) ≡ true → OnlyLooks disk count left s s' → FindsPlace disk s path (Err o) → AsksLease disk count left key path s o s'
-  placeless : refusal_of s.leases s.moment path ≡ None → OnlyLooks disk count left s s' → FindsPlace disk s path (Ok false) → IsPlacedOn (disk s.line.vault) s.line.head.root path false → o ≡ outcome.NoParent → AsksLease disk count left key path s o s'
-  placed : (looked : StateView V S) → refusal_of s.leases s.moment path ≡ None → OnlyLooks disk count left s looked → FindsPlace disk s path (Ok true) → IsPlacedOn (disk s.line.vault) s.line.head.root path true → Grants key path looked o s' → AsksLease disk count left key path s o s'
+  unread : refusal_of s.leases s.moment path ≡ None → is_unread (reply_of o) ≡ true → OnlyLooks disk count left s s' → FetchesWay disk path s s' → FindsPlace disk s path (Err o) → AsksLease disk count left key path s o s'
+  placeless : refusal_of s.leases s.moment path ≡ None → OnlyLooks disk count left s s' → FetchesWay disk path s s' → FindsPlace disk s path (Ok false) → IsPlacedOn (disk s.line.vault) s.line.head.root path false → o ≡ outcome.NoParent → AsksLease disk count left key path s o s'
+  placed : (looked : StateView V S) → refusal_of s.leases s.moment path ≡ None → OnlyLooks disk count left s looked → FetchesWay disk path s looked → FindsPlace disk s path (Ok true) → IsPlacedOn (disk s.line.vault) s.line.head.root path true → Grants key path looked o s' → AsksLease disk count left key path s o s'
 
 -- ---- something is asked of a lease
 
@@ -115,11 +95,6 @@ pub data AsksLease {V S : Type 0} (disk : V → Option Disk) (count : V → ℕ)
 pub data AsksEnd {V S : Type 0} (key : List ℕ) (token : Token) (s : StateView V S) (o : Outcome) (s' : StateView V S) : Type 0 where
   not_ended : refusal_on (lease_of token s.leases) key ≡ Some o → s' ≡ s → AsksEnd key token s o s'
   ends : refusal_on (lease_of token s.leases) key ≡ None → o ≡ outcome.Cancelled → s' ≡ record s { leases = without token s.leases } → AsksEnd key token s o s'
-
--- a batch was sent to the vault, and these ids were found fresh
-pub record Sends {V S : Type 0} (disk : V → Option Disk) (count : V → ℕ) (left : V → ℕ → Files → Type 0) (batch : List Object) (s : StateView V S) (o : Outcome) (fresh : List ObjectId) (s' : StateView V S) : Type 0 where
-  pub walks : WhereTold (disk s.line.vault) (λ d. Walks disk count left on_way (Brings d batch) (IsSent d batch o fresh) d s.line.vault s'.line.vault)
-  pub others : s' ≡ at_vault s s'.line.vault
 
 -- what comes of sending a batch under a lease
 pub data AsksStore {V S : Type 0} (disk : V → Option Disk) (count : V → ℕ) (left : V → ℕ → Files → Type 0) (key : List ℕ) (token : Token) (batch : List Object) (s : StateView V S) (o : Outcome) (fresh : List ObjectId) (s' : StateView V S) : Type 0 where
@@ -133,8 +108,8 @@ abbrev pub Keeps : Op → Taken → Type 0
 Keeps o t = (e : Entry) → e.key ≡ t.key → e.act ≡ t.act → Records e o
 
 -- what holds of an op that was done, whatever the vault tells
-pub record IsAnswered {V S : Type 0} (disk : V → Option Disk) (o : Op) (now : ℕ) (r : Reply) (before after : StateView V S) : Type 0 where
-  pub exact : before.line.stage ≢ stage.Doubtful → IsExact disk o now r before after
+pub record IsAnswered {V S : Type 0} (disk : V → Option Disk) (count : V → ℕ) (left : V → ℕ → Files → Type 0) (is_seal : S → List ℕ → List ℕ → Bool) (o : Op) (now : ℕ) (a : Act) (r : Reply) (before after : StateView V S) : Type 0 where
+  pub exact : before.line.stage ≢ stage.Doubtful → IsExact disk count left is_seal o now a r before after
   pub damage : ShowsDamage disk before.line.vault r
 
 -- the op was done, from whatever settled state
@@ -142,9 +117,40 @@ pub record IsDone {V S : Type 0} (disk : V → Option Disk) (count : V → ℕ) 
   pub types : HasTypes o
   pub keeps : Keeps o t
   pub acts : Acts disk count left is_seal o now t.act t.answer before after
-  pub answered : IsAnswered disk o now t.answer before after
+  pub answered : IsAnswered disk count left is_seal o now t.act t.answer before after
   pub same : IsSameRepository before.line after.line
   pub next : after.next ≤ before.next + 1
+  pub unpublished : IsCommit o → is_committed t.answer ≡ false
+  pub calm : before.line.stage ≢ stage.Doubtful → after.line.stage ≢ stage.Doubtful
+
+-- it is a commit that got ready, from whatever settled state
+pub record IsReadied {V S : Type 0} (disk : V → Option Disk) (count : V → ℕ) (left : V → ℕ → Files → Type 0) (is_seal : S → List ℕ → List ℕ → Bool) (o : Op) (now : ℕ) (w : Readied) (before after : StateView V S) : Type 0 where
+  pub types : HasTypes o
+  pub keeps : (e : Entry) → e.key ≡ w.key → e.act ≡ w.act → Records e o
+  pub commit : IsCommit o
+  pub gets : IsOp o → now < 2 ^ 62 → (st : State) → st.doubt ≡ None → StandsFor disk is_seal before st → GetsReady disk count left is_seal o now w.token before after st
+  pub waits : WaitsSo disk count left is_seal o now w.token before after
+  pub head : w.head ≡ after.line.next_head
+  pub stage : after.line.stage ≡ stage.Ready
+  pub same : IsSameRepository before.line after.line
+  pub next : after.next ≡ before.next
+
+-- one or the other
+abbrev pub Courses : {V S : Type 0} (disk : V → Option Disk) (count : V → ℕ) (left : V → ℕ → Files → Type 0) → (S → List ℕ → List ℕ → Bool) → Op → ℕ → Course → StateView V S → StateView V S → Type 0
+Courses disk count left is_seal o now (course.Done t) before after = IsDone disk count left is_seal o now t before after
+Courses disk count left is_seal o now (course.Ready w) before after = IsReadied disk count left is_seal o now w before after
+
+-- what comes of a commit at a moment: it is answered, or made ready
+abbrev pub ComesToCommit : {V S : Type 0} (disk : V → Option Disk) (count : V → ℕ) (left : V → ℕ → Files → Type 0) → (S → List ℕ → List ℕ → Bool) → List ℕ → Token → List ℕ → List ℕ → List ℕ → ℕ → StateView V S → Result Head Reply → StateView V S → Type 0
+ComesToCommit disk count left is_seal key token old_root offered tag now before (Ok head) after =
+    IsReadied disk count left is_seal (op.Commit key token old_root offered tag) now (record { key = key; act = act.Commit token old_root offered tag; token = token; head = head }) before after
+ComesToCommit disk count left is_seal key token old_root offered tag now before (Err r) after =
+    IsDone disk count left is_seal (op.Commit key token old_root offered tag) now (record { key = key; act = act.Commit token old_root offered tag; answer = r }) before after
+
+-- the store failed
+abbrev pub HasFailed : Course → Type 0
+HasFailed (course.Done t) = t.answer ≡ reply.StoreFailed
+HasFailed (course.Ready w) = ⊥
 
 -- it wasn't, and no id is noted
 pub record IsDeclined (o : Op) (t : Taken) : Type 0 where
@@ -157,8 +163,29 @@ pub record Takes {V S : Type 0} (disk : V → Option Disk) (count : V → ℕ) (
   pub types : HasTypes o
   pub keeps : Keeps o t
   pub does : (st : State) → StandsFor disk is_seal before st → (e : Entry) → IsNoted o e → e.now ≡ now → e.act ≡ t.act → e.reply ≡ t.answer → Does disk count left is_seal o e before after st
-  pub exact : before.line.stage ≢ stage.Doubtful → IsExact disk o now t.answer before after
+  pub proceeds : Proceeds disk count left is_seal o now t.act t.answer before after
   pub doubt : after.line.stage ≡ stage.Doubtful → IsFault t.answer
   pub damage : ShowsDamage disk before.line.vault t.answer
   pub same : IsSameRepository before.line after.line
   pub next : after.next ≤ before.next + 1
+  pub unpublished : IsCommit o → is_committed t.answer ≡ false
+  pub calm : before.line.stage ≢ stage.Doubtful → after.line.stage ≢ stage.Doubtful
+
+-- A commit in doubt was settled, and then a commit got ready.
+pub record TakesReady {V S : Type 0} (disk : V → Option Disk) (count : V → ℕ) (left : V → ℕ → Files → Type 0) (is_seal : S → List ℕ → List ℕ → Bool) (o : Op) (now : ℕ) (w : Readied) (before after : StateView V S) : Type 0 where
+  pub types : HasTypes o
+  pub keeps : (e : Entry) → e.key ≡ w.key → e.act ≡ w.act → Records e o
+  pub commit : IsCommit o
+  pub gets : IsOp o → now < 2 ^ 62 → (st : State) → StandsFor disk is_seal before st → GetsReady disk count left is_seal o now w.token before after st
+  pub from : StateView V S
+  pub resumes : Resumes disk count left before from
+  pub waits : WaitsSo disk count left is_seal o now w.token from after
+  pub head : w.head ≡ after.line.next_head
+  pub stage : after.line.stage ≡ stage.Ready
+  pub same : IsSameRepository before.line after.line
+  pub next : after.next ≡ before.next
+
+-- an op that is taken is over so, or is a commit that is ready
+abbrev pub TakesCourse : {V S : Type 0} (disk : V → Option Disk) (count : V → ℕ) (left : V → ℕ → Files → Type 0) → (S → List ℕ → List ℕ → Bool) → Op → ℕ → Course → StateView V S → StateView V S → Type 0
+TakesCourse disk count left is_seal o now (course.Done t) before after = Takes disk count left is_seal o now t before after
+TakesCourse disk count left is_seal o now (course.Ready w) before after = TakesReady disk count left is_seal o now w before after

@@ -1,6 +1,5 @@
 -- What a commit does inside a step.
-use Rattle.std.specs.Prelude.{◌≡◌, ◌+◌, ℕ, Bool, true, ◌&&◌, nat_le, bytes_eq, List, [], ◌∷◌, ◌++◌, if◌then◌else◌}
-use Rattle.std.specs.List.{find, list_any}
+use Rattle.std.specs.Prelude.{◌≡◌, ◌+◌, ℕ, Bool, true, false, List, [], ◌∷◌, ◌++◌, length}
 use Rattle.std.specs.declared.option.Option.{Option}
 use Rattle.std.specs.declared.option.Option.TheVariants.{None, Some}
 use Rattle.std.specs.declared.result.Result.{Result}
@@ -10,6 +9,7 @@ use Rattle.cv_base.specs.Told.{WhereTold}
 use Rattle.cv_base.specs.declared.id.ObjectId.{ObjectId}
 use Rattle.cv_base.specs.declared.object.Object.{Object}
 use Rattle.cv_base.specs.declared.token.Token.{Token}
+use Rattle.cv_ports.specs.Calls.{RaisedAtMost}
 use Rattle.cv_ports.specs.Shelf.{Shelf}
 use Rattle.cv_vault.specs.Names.{on_way}
 use Rattle.cv_vault.specs.Disk.{Disk, Files}
@@ -19,7 +19,7 @@ use Rattle.cv_vault.specs.declared.vault.VaultFault.{VaultFault}
 use Rattle.cv_vault.specs.declared.vault.VaultFault.TheVariants as vault
 use Rattle.cv_tree.specs.Tree.{Nodes}
 use Rattle.cv_tree.specs.Changes.{has_place}
-use Rattle.cv_cut.specs.Above.{replaced}
+use Rattle.cv_cut.specs.Above.{replaced, cuts_above}
 use Rattle.cv_cut.specs.Catalogues.{SharesKey, IsFull}
 use Rattle.cv_cut.specs.Good.{IsGood}
 use Rattle.cv_cut.specs.Means.{Means}
@@ -27,6 +27,9 @@ use Rattle.cv_cut.specs.Opening.{HasOtherDigest, MayFail}
 use Rattle.cv_cut.specs.Reached.{root_place}
 use Rattle.cv_cut.specs.declared.load_fault.LoadFault.{LoadFault}
 use Rattle.cv_cut.specs.declared.load_fault.LoadFault.TheVariants as load
+use Rattle.cv_load.specs.Known.{is_known}
+use Rattle.cv_load.specs.NewFetches.{FetchesNew}
+use Rattle.cv_load.specs.declared.known_set.KnownSet.{KnownSet}
 use Rattle.cv_graft.specs.Graft.{Grafts}
 use Rattle.cv_graft.specs.declared.grafted.Grafted.{Grafted}
 use Rattle.cv_history.specs.declared.record.Record.{Record}
@@ -36,7 +39,7 @@ use Rattle.cv_leases.specs.declared.lease.Lease.{Lease}
 use Rattle.cv_objects.specs.Names.{standing_on}
 use Rattle.cv_objects.specs.Batches.{AreNamed, Brings}
 use Rattle.cv_objects.specs.declared.store_fault.StoreFault.{StoreFault}
-use Rattle.cv_swap.specs.Kept.{revision_limit, object_of, head_with}
+use Rattle.cv_swap.specs.Kept.{object_of, head_with}
 use Rattle.cv_swap.specs.Line.{LineView, published, swapped, LineReads, IsReady, IsDropped}
 use Rattle.cv_swap.specs.Publishing.{Prepared}
 use Rattle.cv_swap.specs.Stands.{head_name, Publishes}
@@ -44,9 +47,10 @@ use Rattle.cv_swap.specs.declared.stage.Stage.TheVariants as stage
 use Rattle.cv_gate.specs.Step.{IsFault}
 use Rattle.cv_gate.specs.declared.reply.Reply.{Reply}
 use Rattle.cv_gate.specs.declared.reply.Reply.TheVariants as reply
-use Rattle.cv_desk.specs.Gate.{StateView}
+use Rattle.cv_desk.specs.Views.{StateView}
 use Rattle.cv_desk.specs.Sending.{outcome_of}
 pub use Rattle.cv_desk.specs.Ends.{next_record}
+use Rattle.cv_desk.specs.Ends.{IsUnpublished, IsPublished}
 pub use Rattle.cv_desk.specs.Refusals.{has_base, holder_of, taken_by, opposition_by, opposition}
 use Rattle.cv_desk.specs.Refusals.{reply_of, refusal_on, is_unmade}
 use Rattle.cv_desk.specs.declared.outcome.Outcome.{Outcome}
@@ -95,51 +99,85 @@ abbrev pub GraftsOffered : Shelf → List ℕ → List ℕ → Path → Result G
 GraftsOffered shelf newest offered path (Ok g) = IsFit shelf newest offered path g
 GraftsOffered shelf newest offered path (Err r) = IsUnfit shelf newest offered path r
 
+-- what was fetched to judge the offered root: each catalogue that is reached from it, at each place once
+abbrev pub FetchesAll : Shelf → List ℕ → ℕ → ℕ → Type 0
+FetchesAll shelf offered before after = (known : KnownSet) × ((hash : List ℕ) (path : Path) → is_known known hash path ≡ false) × FetchesNew shelf known offered before after
+
+-- and then to graft it: where both roots mean trees, no more than the catalogues properly above the path in the one and in the other
+abbrev pub FetchesOffered : Shelf → List ℕ → List ℕ → Path → ℕ → ℕ → Type 0
+FetchesOffered shelf newest offered path before after = (judged : ℕ) × FetchesAll shelf offered before judged
+    × ((t n : Nodes) → Means shelf newest t → Means shelf offered n → RaisedAtMost (length (cuts_above n path) + length (cuts_above t path)) judged after)
+
 -- ---- the new revision
 
 -- its objects, in the order in which they are brought
 abbrev pub objects_with : Grafted → Record → List Object
 objects_with g next = g.added ++ object_of next ∷ []
 
+-- ---- it ends
+
+module _ {V S : Type 0} (disk : V → Option Disk) (count : V → ℕ) (left : V → ℕ → Files → Type 0) where
+  -- the head of the line that is ready comes to its name
+  abbrev pub Swaps : LineView V S → V → Result (Unit {0}) VaultFault → Type 0
+  Swaps l v r = WhereTold (disk l.vault) (λ d. Walks disk count left on_way (ComesTo head_name (Some l.manifest)) (MovedIn d head_name l.manifest r) d l.vault v)
+
+  -- how a commit that is ready ends: its head came and its lease ended, or it is in doubt, or memory was wanted
+  pub data Finishes (token : Token) (s : StateView V S) (r : Reply) (s' : StateView V S) : Type 0 where
+    swaps : Swaps s.line s'.line.vault (Ok tt) → r ≡ reply.Committed s.line.next_head.revision s.line.next_head.root
+        → s' ≡ record s { line = swapped s.line s'.line.vault; leases = without token s.leases } → Finishes token s r s'
+    wavers : Swaps s.line s'.line.vault (Err vault.Failed) → r ≡ reply.StoreFailed
+        → s' ≡ record s { line = record s.line { vault = s'.line.vault; stage = stage.Doubtful } } → Finishes token s r s'
+    stays : Swaps s.line s'.line.vault (Err vault.NoMemory) → r ≡ reply.NoMemory
+        → s' ≡ record s { line = record s.line { vault = s'.line.vault } } → Finishes token s r s'
+
+-- ---- it is made ready
+
 module _ {V S : Type 0} (disk : V → Option Disk) (count : V → ℕ) (left : V → ℕ → Files → Type 0) (is_seal : S → List ℕ → List ℕ → Bool) where
   -- all of a revision but its head is brought to the vault, by what is known of the offered tree; or why it isn't
   pub data Readies (lease : Lease) (key : List ℕ) (moment : ℕ) (offered tag : List ℕ) (l l' : LineView V S) : Result Head Reply → Type 0 where
-    unmade : (r : Reply) → is_unmade r ≡ true → LineReads disk count left l l' → WhereTold (disk l.vault) (λ d. IsUnfit (standing_on d) l.head.root offered lease.path r) → Readies lease key moment offered tag l l' (Err r)
-    unprepared : (looked : LineView V S) (g : Grafted) (fault : StoreFault) → LineReads disk count left l looked → WhereTold (disk l.vault) (λ d. IsFit (standing_on d) l.head.root offered lease.path g) → IsDropped looked l'
+    unmade : (r : Reply) → is_unmade r ≡ true → LineReads disk count left l l' → WhereTold (disk l.vault) (λ d. FetchesOffered (standing_on d) l.head.root offered lease.path l.taken l'.taken)
+        → WhereTold (disk l.vault) (λ d. IsUnfit (standing_on d) l.head.root offered lease.path r) → Readies lease key moment offered tag l l' (Err r)
+    unprepared : (looked : LineView V S) (g : Grafted) (fault : StoreFault) → LineReads disk count left l looked → WhereTold (disk l.vault) (λ d. FetchesOffered (standing_on d) l.head.root offered lease.path l.taken looked.taken)
+        → WhereTold (disk l.vault) (λ d. IsFit (standing_on d) l.head.root offered lease.path g) → IsDropped looked l'
         → AreNamed (objects_with g (next_record l.head lease key moment g offered tag))
         → WhereTold (disk looked.vault) (λ d. Walks disk count left on_way (Brings d (objects_with g (next_record l.head lease key moment g offered tag)))
         (Prepared d (objects_with g (next_record l.head lease key moment g offered tag)) l'.manifest {X = Head} (Err fault)) d looked.vault l'.vault)
         → Readies lease key moment offered tag l l' (Err (reply_of (outcome_of fault)))
-    prepared : (looked : LineView V S) (g : Grafted) → LineReads disk count left l looked → WhereTold (disk l.vault) (λ d. IsFit (standing_on d) l.head.root offered lease.path g)
+    prepared : (looked : LineView V S) (g : Grafted) → LineReads disk count left l looked → WhereTold (disk l.vault) (λ d. FetchesOffered (standing_on d) l.head.root offered lease.path l.taken looked.taken)
+        → WhereTold (disk l.vault) (λ d. IsFit (standing_on d) l.head.root offered lease.path g)
         → published l' ≡ published l → IsReady looked (next_record l.head lease key moment g offered tag) (head_with (next_record l.head lease key moment g offered tag) g.size) l'
         → Publishes l.name (is_seal l.signer) (Some l'.manifest) (head_with (next_record l.head lease key moment g offered tag) g.size)
         → WhereTold (disk looked.vault) (λ d. Walks disk count left on_way (Brings d (objects_with g (next_record l.head lease key moment g offered tag)))
         (Prepared d (objects_with g (next_record l.head lease key moment g offered tag)) l'.manifest {X = Head} (Ok (head_with (next_record l.head lease key moment g offered tag) g.size))) d looked.vault l'.vault)
         → Readies lease key moment offered tag l l' (Ok (head_with (next_record l.head lease key moment g offered tag) g.size))
 
-  -- the head of the line that is ready comes to its name
-  abbrev pub Swaps : LineView V S → V → Result (Unit {0}) VaultFault → Type 0
-  Swaps l v r = WhereTold (disk l.vault) (λ d. Walks disk count left on_way (ComesTo head_name (Some l.manifest)) (MovedIn d head_name l.manifest r) d l.vault v)
-
-  -- how a commit that is ready ends: its head came and its lease ended, or it is in doubt, or memory was wanted
-  pub data Finishes (token : Token) (head : Head) (s : StateView V S) (r : Reply) (s' : StateView V S) : Type 0 where
-    swaps : Swaps s.line s'.line.vault (Ok tt) → r ≡ reply.Committed head.revision head.root
-        → s' ≡ record s { line = swapped s.line s'.line.vault; leases = without token s.leases } → Finishes token head s r s'
-    wavers : Swaps s.line s'.line.vault (Err vault.Failed) → r ≡ reply.StoreFailed
-        → s' ≡ record s { line = record s.line { vault = s'.line.vault; stage = stage.Doubtful } } → Finishes token head s r s'
-    stays : Swaps s.line s'.line.vault (Err vault.NoMemory) → r ≡ reply.NoMemory
-        → s' ≡ record s { line = record s.line { vault = s'.line.vault } } → Finishes token head s r s'
-
-  -- what comes of a commit under a lease
-  pub data CommitsUnder (lease : Lease) (key old_root offered tag : List ℕ) (s : StateView V S) (r : Reply) (s' : StateView V S) : Type 0 where
-    opposed : (o : Outcome) → opposition s.line lease.from_revision old_root tag ≡ Some o → r ≡ reply_of o → s' ≡ s → CommitsUnder lease key old_root offered tag s r s'
-    stopped : (l : LineView V S) → opposition s.line lease.from_revision old_root tag ≡ None → Readies lease key s.moment offered tag s.line l (Err r)
+  -- what comes of a commit under a lease: it is opposed, or made ready or not
+  pub data CommitsUnder (lease : Lease) (key old_root offered tag : List ℕ) (s : StateView V S) (r : Result Head Reply) (s' : StateView V S) : Type 0 where
+    opposed : (o : Outcome) → opposition s.line lease.from_revision old_root tag ≡ Some o → r ≡ Err (reply_of o) → s' ≡ s → CommitsUnder lease key old_root offered tag s r s'
+    readies : (l : LineView V S) → opposition s.line lease.from_revision old_root tag ≡ None → Readies lease key s.moment offered tag s.line l r
         → s' ≡ record s { line = l } → CommitsUnder lease key old_root offered tag s r s'
-    ready : (l : LineView V S) (head : Head) → opposition s.line lease.from_revision old_root tag ≡ None → Readies lease key s.moment offered tag s.line l (Ok head)
-        → Finishes lease.token head (record s { line = l }) r s' → CommitsUnder lease key old_root offered tag s r s'
 
   -- what comes of asking for a commit
-  pub data AsksCommit (key : List ℕ) (token : Token) (old_root offered tag : List ℕ) (s : StateView V S) (r : Reply) (s' : StateView V S) : Type 0 where
-    not_own : (o : Outcome) → refusal_on (lease_of token s.leases) key ≡ Some o → r ≡ reply_of o → s' ≡ s → AsksCommit key token old_root offered tag s r s'
+  pub data AsksCommit (key : List ℕ) (token : Token) (old_root offered tag : List ℕ) (s : StateView V S) (r : Result Head Reply) (s' : StateView V S) : Type 0 where
+    not_own : (o : Outcome) → refusal_on (lease_of token s.leases) key ≡ Some o → r ≡ Err (reply_of o) → s' ≡ s → AsksCommit key token old_root offered tag s r s'
     own : (lease : Lease) → refusal_on (lease_of token s.leases) key ≡ None → lease_of token s.leases ≡ Some lease → CommitsUnder lease key old_root offered tag s r s'
         → AsksCommit key token old_root offered tag s r s'
+
+  -- how a commit ends that isn't published: it isn't made ready, or its head doesn't come
+  abbrev pub Fails : Token → StateView V S → Result Head Reply → Reply → StateView V S → Type 0
+  Fails token s (Ok head) r s' = Finishes disk count left token s r s'
+  Fails token s (Err x) r s' = (r ≡ x) × (s' ≡ s)
+
+  -- A commit is asked. Where its lease isn't live or not the key's, or the published revisions oppose it, nothing changes, not even the
+  -- vault; else it is made ready or isn't, by what stands on the disk, and its revision is published or isn't.
+  pub data CommitEnds (key : List ℕ) (token : Token) (old_root offered tag : List ℕ) (s : StateView V S) (r : Reply) (s' : StateView V S) : Type 0 where
+    commit_refused : (o : Outcome) → refusal_on (lease_of token s.leases) key ≡ Some o → r ≡ reply_of o → s' ≡ s → CommitEnds key token old_root offered tag s r s'
+    commit_opposed : (lease : Lease) (o : Outcome) → refusal_on (lease_of token s.leases) key ≡ None → lease_of token s.leases ≡ Some lease
+        → opposition s.line lease.from_revision old_root tag ≡ Some o → r ≡ reply_of o → s' ≡ s → CommitEnds key token old_root offered tag s r s'
+    unpublished : (lease : Lease) (l : LineView V S) (x : Result Head Reply) → refusal_on (lease_of token s.leases) key ≡ None → lease_of token s.leases ≡ Some lease
+        → opposition s.line lease.from_revision old_root tag ≡ None → Readies lease key s.moment offered tag s.line l x → Fails token (record s { line = l }) x r s'
+        → is_unmade r ≡ true → IsUnpublished s s' → CommitEnds key token old_root offered tag s r s'
+    commit_published : (lease : Lease) (g : Grafted) (l : LineView V S) → refusal_on (lease_of token s.leases) key ≡ None → lease_of token s.leases ≡ Some lease
+        → opposition s.line lease.from_revision old_root tag ≡ None → WhereTold (disk s.line.vault) (λ d. IsFit (standing_on d) s.line.head.root offered lease.path g)
+        → Readies lease key s.moment offered tag s.line l (Ok (head_with (next_record s.line.head lease key s.moment g offered tag) g.size)) → Swaps disk count left l s'.line.vault (Ok tt)
+        → r ≡ reply.Committed (s.line.head.revision + 1) g.root.hash → IsPublished (next_record s.line.head lease key s.moment g offered tag) g.size s s' → CommitEnds key token old_root offered tag s r s'

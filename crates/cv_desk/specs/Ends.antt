@@ -1,32 +1,46 @@
 -- What comes of an op by the leases, the moment and the published revisions alone, whatever the vault tells.
-use Rattle.std.specs.Prelude.{◌≡◌, ℕ, ◌+◌, ◌++◌, ◌∷◌, Bool, true, false, List, []}
+use Rattle.std.specs.Prelude.{◌≡◌, ℕ, ◌+◌, ◌++◌, ◌∷◌, Bool, true, false, List, [], length}
 use Rattle.std.specs.declared.option.Option.{Option}
 use Rattle.std.specs.declared.option.Option.TheVariants.{None, Some}
 use Rattle.cv_base.specs.Path.{Path, parent}
 use Rattle.cv_base.specs.Told.{WhereTold}
+use Rattle.cv_base.specs.declared.id.ObjectId.{ObjectId}
+use Rattle.cv_base.specs.declared.object.Object.{Object}
 use Rattle.cv_base.specs.declared.token.Token.{Token}
+use Rattle.cv_ports.specs.Calls.{RaisedAtMost}
 use Rattle.cv_ports.specs.Shelf.{Shelf}
-use Rattle.cv_vault.specs.Disk.{Disk}
+use Rattle.cv_vault.specs.Names.{on_way}
+use Rattle.cv_vault.specs.Disk.{Disk, Files}
+use Rattle.cv_vault.specs.Moments.{OnlyReads}
+use Rattle.cv_vault.specs.Walks.{Walks}
 use Rattle.cv_history.specs.declared.record.Record.{Record}
 use Rattle.cv_manifest.specs.declared.head.Head.{Head}
 use Rattle.cv_leases.specs.Leases.{lease_of, without}
 use Rattle.cv_leases.specs.declared.lease.Lease.{Lease}
 use Rattle.cv_objects.specs.Names.{standing_on}
+use Rattle.cv_objects.specs.Batches.{Brings}
+use Rattle.cv_tree.specs.Tree.{Nodes}
+use Rattle.cv_cut.specs.Above.{cuts_above}
 use Rattle.cv_graft.specs.Directories.{IsFound}
+use Rattle.cv_graft.specs.Graft.{HasWay}
 use Rattle.cv_graft.specs.declared.grafted.Grafted.{Grafted}
 use Rattle.cv_swap.specs.Kept.{head_with}
 use Rattle.cv_swap.specs.Line.{published}
+use Rattle.cv_gate.specs.declared.act.Act.{Act}
+use Rattle.cv_gate.specs.declared.act.Act.TheVariants as act
 use Rattle.cv_gate.specs.declared.reply.Reply.{Reply}
 use Rattle.cv_gate.specs.declared.reply.Reply.TheVariants as reply
-use Rattle.cv_desk.specs.Views.{StateView, next_token, with_lease}
-use Rattle.cv_desk.specs.Refusals.{reply_of, refusal_of, refusal_on, opposition, is_unread, is_sending, is_unmade}
+use Rattle.cv_desk.specs.Views.{StateView, at_vault, next_token, with_lease}
+use Rattle.cv_desk.specs.Refusals.{reply_of, refusal_of, refusal_on, is_unread, is_sending}
+use Rattle.cv_desk.specs.Sending.{IsSent}
 use Rattle.cv_desk.specs.declared.outcome.Outcome.{Outcome}
 
 -- The gate has come to the moment of the op in each of these, so that leases whose deadline has come are gone.
 
--- nothing changed but the vault and how much was taken of it
-abbrev pub IsLookedAt : {V S : Type 0} → StateView V S → StateView V S → Type 0
-IsLookedAt s s' = s' ≡ record s { line = record s.line { vault = s'.line.vault; taken = s'.line.taken } }
+-- nothing was done but reads of the vault
+pub record OnlyLooks {V S : Type 0} (disk : V → Option Disk) (count : V → ℕ) (left : V → ℕ → Files → Type 0) (s s' : StateView V S) : Type 0 where
+  pub reads : OnlyReads disk count left s.line.vault s'.line.vault
+  pub others : s' ≡ record s { line = record s.line { vault = s'.line.vault; taken = s'.line.taken } }
 
 -- by the catalogues that stand on a shelf, the path has a place under a root, or hasn't: it is the root, or its parent is a directory
 abbrev pub IsPlaced : Shelf → List ℕ → Path → Bool → Type 0
@@ -37,19 +51,31 @@ IsPlaced shelf root (name ∷ names) there = IsFound shelf root (parent (name �
 abbrev pub IsPlacedOn : Option Disk → List ℕ → Path → Bool → Type 0
 IsPlacedOn told root path there = WhereTold told (λ d. IsPlaced (standing_on d) root path there)
 
--- A lease is asked. Where the path or the leases refuse it nothing changes, not even the vault; else the newest tree is looked at, and
--- it isn't read, or the path has no place in it, or the lease is granted under the next number.
-pub data LeaseEnds {V S : Type 0} (disk : V → Option Disk) (key : List ℕ) (path : Path) (s : StateView V S) (r : Reply) (s' : StateView V S) : Type 0 where
-  lease_refused : (o : Outcome) → refusal_of s.leases s.moment path ≡ Some o → r ≡ reply_of o → s' ≡ s → LeaseEnds disk key path s r s'
-  lease_unread : refusal_of s.leases s.moment path ≡ None → is_unread r ≡ true → IsLookedAt s s' → LeaseEnds disk key path s r s'
-  lease_placeless : refusal_of s.leases s.moment path ≡ None → r ≡ reply.NoParent → IsPlacedOn (disk s.line.vault) s.line.head.root path false → IsLookedAt s s' → LeaseEnds disk key path s r s'
-  lease_granted : (looked : StateView V S) → refusal_of s.leases s.moment path ≡ None → IsPlacedOn (disk s.line.vault) s.line.head.root path true → IsLookedAt s looked
-      → r ≡ reply.Granted (next_token s) s.line.head.revision s.line.head.root → s' ≡ with_lease looked key path → LeaseEnds disk key path s r s'
+-- where the newest root means a tree on the way, no more was fetched than the catalogues properly above the path's parent
+abbrev pub FetchesWay : {V S : Type 0} → (V → Option Disk) → Path → StateView V S → StateView V S → Type 0
+FetchesWay disk path s s' = WhereTold (disk s.line.vault) (λ d. (t : Nodes) → HasWay (standing_on d) s.line.head.root t (parent path)
+    → RaisedAtMost (length (cuts_above t (parent path))) s.line.taken s'.line.taken)
 
--- Objects are sent under a lease. Where that isn't live or not the key's nothing changes, not even the vault; else they are sent to it.
-pub data StoreEnds {V S : Type 0} (key : List ℕ) (token : Token) (s : StateView V S) (r : Reply) (s' : StateView V S) : Type 0 where
-  store_refused : (o : Outcome) → refusal_on (lease_of token s.leases) key ≡ Some o → r ≡ reply_of o → s' ≡ s → StoreEnds key token s r s'
-  sent : refusal_on (lease_of token s.leases) key ≡ None → is_sending r ≡ true → s' ≡ record s { line = record s.line { vault = s'.line.vault } } → StoreEnds key token s r s'
+-- A lease is asked. Where the path or the leases refuse it nothing changes, not even the vault; else the newest tree is looked at, by reads
+-- alone, and it isn't read, or the path has no place in it, or the lease is granted under the next number.
+pub data LeaseEnds {V S : Type 0} (disk : V → Option Disk) (count : V → ℕ) (left : V → ℕ → Files → Type 0) (key : List ℕ) (path : Path) (s : StateView V S) (r : Reply) (s' : StateView V S) : Type 0 where
+  lease_refused : (o : Outcome) → refusal_of s.leases s.moment path ≡ Some o → r ≡ reply_of o → s' ≡ s → LeaseEnds disk count left key path s r s'
+  lease_unread : refusal_of s.leases s.moment path ≡ None → is_unread r ≡ true → OnlyLooks disk count left s s' → FetchesWay disk path s s' → LeaseEnds disk count left key path s r s'
+  lease_placeless : refusal_of s.leases s.moment path ≡ None → r ≡ reply.NoParent → IsPlacedOn (disk s.line.vault) s.line.head.root path false → OnlyLooks disk count left s s' → FetchesWay disk path s s' → LeaseEnds disk count left key path s r s'
+  lease_granted : (looked : StateView V S) → refusal_of s.leases s.moment path ≡ None → IsPlacedOn (disk s.line.vault) s.line.head.root path true → OnlyLooks disk count left s looked → FetchesWay disk path s looked
+      → r ≡ reply.Granted (next_token s) s.line.head.revision s.line.head.root → s' ≡ with_lease looked key path → LeaseEnds disk count left key path s r s'
+
+-- a batch was sent to the vault, and these ids were found fresh
+pub record Sends {V S : Type 0} (disk : V → Option Disk) (count : V → ℕ) (left : V → ℕ → Files → Type 0) (batch : List Object) (s : StateView V S) (o : Outcome) (fresh : List ObjectId) (s' : StateView V S) : Type 0 where
+  pub walks : WhereTold (disk s.line.vault) (λ d. Walks disk count left on_way (Brings d batch) (IsSent d batch o fresh) d s.line.vault s'.line.vault)
+  pub others : s' ≡ at_vault s s'.line.vault
+
+-- Objects are sent under a lease. Where that isn't live or not the key's nothing changes, not even the vault, and no id is noted; else they are
+-- sent to it, and noted are the ids that were found fresh.
+pub data StoreEnds {V S : Type 0} (disk : V → Option Disk) (count : V → ℕ) (left : V → ℕ → Files → Type 0) (key : List ℕ) (token : Token) (digest : List ℕ) (batch : List Object) (a : Act) (s : StateView V S) (r : Reply) (s' : StateView V S) : Type 0 where
+  store_refused : (o : Outcome) → refusal_on (lease_of token s.leases) key ≡ Some o → r ≡ reply_of o → a ≡ act.Store token digest [] → s' ≡ s → StoreEnds disk count left key token digest batch a s r s'
+  sent : (o : Outcome) (fresh : List ObjectId) → refusal_on (lease_of token s.leases) key ≡ None → r ≡ reply_of o → is_sending r ≡ true → a ≡ act.Store token digest fresh → Sends disk count left batch s o fresh s'
+      → StoreEnds disk count left key token digest batch a s r s'
 
 -- ---- commits
 
@@ -82,15 +108,3 @@ pub record IsPublished {V S : Type 0} (new : Record) (size : ℕ) (s s' : StateV
   pub leases : s'.leases ≡ without new.token s.leases
   pub moment : s'.moment ≡ s.moment
   pub next : s'.next ≡ s.next
-
--- A commit is asked. Where its lease isn't live or not the key's, or the published revisions oppose it, nothing changes, not even the
--- vault; else its revision is published, or isn't.
-pub data CommitEnds {V S : Type 0} (key : List ℕ) (token : Token) (old_root offered tag : List ℕ) (s : StateView V S) (r : Reply) (s' : StateView V S) : Type 0 where
-  commit_refused : (o : Outcome) → refusal_on (lease_of token s.leases) key ≡ Some o → r ≡ reply_of o → s' ≡ s → CommitEnds key token old_root offered tag s r s'
-  commit_opposed : (lease : Lease) (o : Outcome) → refusal_on (lease_of token s.leases) key ≡ None → lease_of token s.leases ≡ Some lease
-      → opposition s.line lease.from_revision old_root tag ≡ Some o → r ≡ reply_of o → s' ≡ s → CommitEnds key token old_root offered tag s r s'
-  unpublished : (lease : Lease) → refusal_on (lease_of token s.leases) key ≡ None → lease_of token s.leases ≡ Some lease
-      → opposition s.line lease.from_revision old_root tag ≡ None → is_unmade r ≡ true → IsUnpublished s s' → CommitEnds key token old_root offered tag s r s'
-  commit_published : (lease : Lease) (g : Grafted) → refusal_on (lease_of token s.leases) key ≡ None → lease_of token s.leases ≡ Some lease
-      → opposition s.line lease.from_revision old_root tag ≡ None → r ≡ reply.Committed (s.line.head.revision + 1) g.root.hash
-      → IsPublished (next_record s.line.head lease key s.moment g offered tag) g.size s s' → CommitEnds key token old_root offered tag s r s'

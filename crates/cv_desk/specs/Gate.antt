@@ -1,5 +1,5 @@
 -- The states for which a gate stands, its opening, and its steps.
-use Rattle.std.specs.Prelude.{◌≡◌, ◌≢◌, ◌⊎◌, ℕ, ◌+◌, ◌<◌, ◌≤◌, ◌^◌, Bool, false, List, [], ◌∷◌, ◌++◌, length, IfSome}
+use Rattle.std.specs.Prelude.{◌≡◌, ◌≢◌, ◌⊎◌, ℕ, ◌+◌, ◌<◌, ◌≤◌, ◌^◌, Bool, false, List, [], ◌∷◌, ◌++◌, length, IfSome, IsSome}
 use Rattle.std.specs.declared.option.Option.{Option}
 use Rattle.std.specs.declared.option.Option.TheVariants.{None, Some}
 use Rattle.std.specs.declared.result.Result.{Result}
@@ -7,6 +7,7 @@ use Rattle.std.specs.declared.result.Result.TheVariants.{Ok, Err}
 use Rattle.cv_base.specs.Told.{WhereTold}
 use Rattle.cv_vault.specs.Disk.{Disk, File, Files, May, files_now}
 use Rattle.cv_vault.specs.Moments.{LeavesOnly}
+use Rattle.cv_vault.specs.declared.vault.VaultFault.{VaultFault}
 use Rattle.cv_cut.specs.Opening.{HasOtherDigest}
 use Rattle.cv_objects.specs.Names.{standing_on}
 use Rattle.cv_swap.specs.Kept.{Kept, Revision, newest, records_of, head_of}
@@ -19,18 +20,23 @@ use Rattle.cv_swap.specs.declared.open_fault.OpenFault.TheVariants as open_fault
 use Rattle.cv_swap.specs.declared.stage.Stage.TheVariants as stage
 use Rattle.cv_gate.specs.State.{State, aged}
 use Rattle.cv_gate.specs.Sound.{Sound, AreLeases}
-use Rattle.cv_gate.specs.Step.{Step, Records, CancelStep, IsFault}
+use Rattle.cv_gate.specs.Step.{Step, Records, CancelStep, IsFault, HasNoFresh}
 use Rattle.cv_gate.specs.Kept.{reopened}
 use Rattle.cv_gate.specs.Desk.{journal_limit}
 use Rattle.cv_gate.specs.declared.op.Op.{Op}
 use Rattle.cv_gate.specs.declared.op.Op.TheVariants as op
+use Rattle.cv_gate.specs.declared.act.Act.{Act}
 use Rattle.cv_gate.specs.declared.reply.Reply.{Reply}
 use Rattle.cv_gate.specs.declared.reply.Reply.TheVariants as reply
 use Rattle.cv_gate.specs.declared.entry.Entry.{Entry}
 use Rattle.cv_desk.specs.Holds.{IsHeadOf, Holds, Survives}
 pub use Rattle.cv_desk.specs.Views.{StateView, GateView}
 use Rattle.cv_desk.specs.Views.{aged_view}
-use Rattle.cv_desk.specs.Ends.{LeaseEnds, StoreEnds, CommitEnds}
+use Rattle.cv_desk.specs.Ends.{LeaseEnds, StoreEnds}
+use Rattle.cv_desk.specs.Committing.{CommitEnds}
+use Rattle.cv_desk.specs.Resuming.{Resumes, Awaits}
+use Rattle.cv_desk.specs.Refusals.{reply_of}
+use Rattle.cv_desk.specs.Sending.{outcome_in}
 
 -- ---- the state for which it stands
 
@@ -72,9 +78,12 @@ pub record IsState {V S : Type 0} (g : StateView V S) : Type 0 where
   pub leases : AreLeases (state_of g)
   pub moment : g.moment < 2 ^ 62
 
+-- where a commit is ready its record and its manifest wait, and the journal has a place for it
 pub record IsGate {V S : Type 0} (g : GateView V S) : Type 0 where
   pub next : g.state.next ≤ length g.journal + 1
   pub count : length g.journal ≤ journal_limit
+  pub waits : IsSome g.ready → g.state.line.stage ≡ stage.Ready
+  pub room : IsSome g.ready → length g.journal < journal_limit
 
 -- ---- opening
 
@@ -84,7 +93,7 @@ pub record IsSameRepository {V S : Type 0} (before after : LineView V S) : Type 
   pub signer_ : after.signer ≡ before.signer
   pub epoch_ : after.epoch ≡ before.epoch
 
--- it begins without leases, with an empty journal, and without a commit in doubt
+-- it begins without leases, with an empty journal, and without a commit that is in doubt or ready
 pub record IsNew {V S : Type 0} (name : List ℕ) (signer : S) (g : GateView V S) : Type 0 where
   pub named : g.state.line.name ≡ name
   pub signed : g.state.line.signer ≡ signer
@@ -93,6 +102,7 @@ pub record IsNew {V S : Type 0} (name : List ℕ) (signer : S) (g : GateView V S
   pub next : g.state.next ≡ 1
   pub journal : g.journal ≡ []
   pub calm : g.state.line.stage ≢ stage.Doubtful
+  pub idle : g.ready ≡ None
 
 -- the files were opened with what was found: the gate has its records and its head, in the epoch behind it; and where the files stood for
 -- what is kept, the gate stands for it, opened once more
@@ -121,11 +131,11 @@ IsFailed (Err e) = e.0 ≡ open_fault.Failed
 
 -- What comes of an op whatever the vault tells: what the leases, the moment and the published revisions refuse is refused so, and only
 -- that. An end of a lease is the gate's step on the leases alone, and nothing is done to the line.
-abbrev pub EndsSo : {V S : Type 0} → (V → Option Disk) → Op → ℕ → Reply → StateView V S → StateView V S → Type 0
-EndsSo disk (op.Lease key path) now r s s' = LeaseEnds disk key path (aged_view s now) r s'
-EndsSo disk (op.Store key token digest batch) now r s s' = StoreEnds key token (aged_view s now) r s'
-EndsSo disk (op.Commit key token old_root new_root tag) now r s s' = CommitEnds key token old_root new_root tag (aged_view s now) r s'
-EndsSo disk (op.Cancel key token) now r s s' = CancelStep (aged (state_of s) now) key token r (state_of s') × (s'.line ≡ s.line)
+abbrev pub EndsSo : {V S : Type 0} (disk : V → Option Disk) (count : V → ℕ) (left : V → ℕ → Files → Type 0) → (S → List ℕ → List ℕ → Bool) → Op → ℕ → Act → Reply → StateView V S → StateView V S → Type 0
+EndsSo disk count left is_seal (op.Lease key path) now a r s s' = LeaseEnds disk count left key path (aged_view s now) r s'
+EndsSo disk count left is_seal (op.Store key token digest batch) now a r s s' = StoreEnds disk count left key token digest batch a (aged_view s now) r s'
+EndsSo disk count left is_seal (op.Commit key token old_root new_root tag) now a r s s' = CommitEnds disk count left is_seal key token old_root new_root tag (aged_view s now) r s'
+EndsSo disk count left is_seal (op.Cancel key token) now a r s s' = CancelStep (aged (state_of s) now) key token r (state_of s') × (s'.line ≡ s.line)
 
 -- bytes that are said to have another digest stand under the id that is named, where a disk is told
 abbrev pub ShowsDamage : {V : Type 0} → (V → Option Disk) → V → Reply → Type 0
@@ -143,10 +153,16 @@ pub record Wavers (o : Op) (r : Reply) : Type 0 where
   pub commit : IsCommit o
   pub failed : r ≡ reply.StoreFailed
 
--- what holds of a reply whatever the vault tells, where no commit was in doubt
-pub record IsExact {V S : Type 0} (disk : V → Option Disk) (o : Op) (now : ℕ) (r : Reply) (before after : StateView V S) : Type 0 where
-  pub ends : EndsSo disk o now r before after
+-- what holds of a reply, and of what is noted, whatever the vault tells, where no commit was in doubt
+pub record IsExact {V S : Type 0} (disk : V → Option Disk) (count : V → ℕ) (left : V → ℕ → Files → Type 0) (is_seal : S → List ℕ → List ℕ → Bool) (o : Op) (now : ℕ) (a : Act) (r : Reply) (before after : StateView V S) : Type 0 where
+  pub ends : EndsSo disk count left is_seal o now a r before after
   pub doubt : after.line.stage ≡ stage.Doubtful → Wavers o r
+
+-- What comes of an op whatever the vault tells: a commit is in doubt, the op waits, and the fault is answered; or the op goes on, from where
+-- the doubt was settled if there was one.
+pub data Proceeds {V S : Type 0} (disk : V → Option Disk) (count : V → ℕ) (left : V → ℕ → Files → Type 0) (is_seal : S → List ℕ → List ℕ → Bool) (o : Op) (now : ℕ) (a : Act) (r : Reply) (before after : StateView V S) : Type 0 where
+  waits : (fault : VaultFault) → Awaits disk count left fault before after → r ≡ reply_of (outcome_in fault) → HasNoFresh a → Proceeds disk count left is_seal o now a r before after
+  goes : (from : StateView V S) → Resumes disk count left before from → IsExact disk count left is_seal o now a r from after → Proceeds disk count left is_seal o now a r before after
 
 -- What a step does for a state for which the gate stood: the entry is a step to a state for which it then stands, and a crash at any
 -- moment of the call leaves what a crash within the op may leave.
@@ -162,7 +178,7 @@ pub data Steps {V S : Type 0} (disk : V → Option Disk) (count : V → ℕ) (le
   full : length before.journal ≡ journal_limit → r ≡ reply.JournalFull → after ≡ before → Steps disk count left is_seal o seat now before after r
   made : length before.journal < journal_limit → r ≢ reply.JournalFull → (e : Entry) → e.seat ≡ seat → e.now ≡ now → e.reply ≡ r → Records e o
       → after.journal ≡ before.journal ++ e ∷ [] → IsSameRepository before.state.line after.state.line
-      → (before.state.line.stage ≢ stage.Doubtful → IsExact disk o now r before.state after.state)
+      → Proceeds disk count left is_seal o now e.act r before.state after.state
       → (after.state.line.stage ≡ stage.Doubtful → IsFault r)
       → ShowsDamage disk before.state.line.vault r
       → ((st : State) → StandsFor disk is_seal before.state st → Does disk count left is_seal o e before.state after.state st)

@@ -2,11 +2,13 @@ pub mod Views
 pub mod Refusals
 pub mod Ends
 pub mod Holds
+pub mod Resuming
 pub mod Gate
 pub mod Sending
 pub mod Sent
+pub mod Committing
+pub mod Begin
 pub mod Acting
 pub mod OneDesk
 pub mod Calls
 pub mod Answers
-pub mod Committing

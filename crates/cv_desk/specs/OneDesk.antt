@@ -20,9 +20,9 @@ use Rattle.cv_desk.specs.Holds.{Survives}
 use Rattle.cv_desk.specs.Gate.{GateView, StandsFor, IsSameRepository, Steps}
 use Rattle.cv_desk.specs.Acting.{OnlyLooks}
 
+-- the gate, whose repository it is for, and the newest head that is known
 pub record OneDeskView (V S : Type 0) : Type 0 where
   pub gate : GateView V S
-  pub name : List ℕ
   pub head : Head
 
 -- how a desk may be seen over a gate that was opened in a state, whose journal is these entries, and that stands for another
@@ -58,15 +58,10 @@ pub record Goes {V S : Type 0} (disk : V → Option Disk) (count : V → ℕ) (l
   pub calls_ : Calls v calls next
   pub leaves : LeavesOnly count left (IsLeft a.gate.state.line.name (is_seal a.gate.state.line.signer) v calls) a.gate.state.line.vault b.gate.state.line.vault
 
--- the desk is the same over its gate after a step, and knows the gate's newest head
-pub record KnowsHead {V S : Type 0} (a b : OneDeskView V S) : Type 0 where
-  pub name_ : b.name ≡ a.name
-  pub head_ : b.head ≡ b.gate.state.line.head
-
--- What a call does, whatever the vault tells: an op is a step of the gate at seat 0; the leases are those that are live; an object is what
+-- What a call does, whatever the vault tells: an op is a step of the gate at seat 0, whose newest head is known then; the leases are those that are live; an object is what
 -- stands on the disk, where one is told; the newest head is the one that the desk knows.
 abbrev pub DoesCall : {V S : Type 0} (disk : V → Option Disk) (count : V → ℕ) (left : V → ℕ → Files → Type 0) → (S → List ℕ → List ℕ → Bool) → OneDeskView V S → Call → OneDeskView V S → Type 0
-DoesCall disk count left is_seal a (asked o now r) b = Steps disk count left is_seal o 0 now a.gate b.gate r × KnowsHead a b
+DoesCall disk count left is_seal a (asked o now r) b = Steps disk count left is_seal o 0 now a.gate b.gate r × (b.head ≡ b.gate.state.line.head)
 DoesCall disk count left is_seal a (listed now lines) b = (b ≡ a) × IfSome lines (λ l. l ≡ lines_of (max a.gate.state.moment now) a.gate.state.leases)
 DoesCall disk count left is_seal a (fetched id r) b =
     (b ≡ record a { gate = record a.gate { state = b.gate.state } }) × OnlyLooks disk count left a.gate.state b.gate.state

@@ -1,5 +1,6 @@
 -- A gate over a disk, as contracts see it.
 use Rattle.std.specs.Prelude.{ℕ, ◌+◌, max, List, [], ◌∷◌, ◌++◌}
+use Rattle.std.specs.declared.option.Option.{Option}
 use Rattle.cv_base.specs.Path.{Path}
 use Rattle.cv_base.specs.declared.token.Token.{Token}
 use Rattle.cv_leases.specs.Leases.{unexpired}
@@ -7,6 +8,7 @@ use Rattle.cv_leases.specs.declared.lease.Lease.{Lease}
 use Rattle.cv_swap.specs.Line.{LineView}
 use Rattle.cv_gate.specs.Passing.{lease_time}
 use Rattle.cv_gate.specs.declared.entry.Entry.{Entry}
+use Rattle.cv_desk.specs.declared.waiting.Waiting.{Waiting}
 
 -- all but the journal
 pub record StateView (V S : Type 0) : Type 0 where
@@ -15,9 +17,15 @@ pub record StateView (V S : Type 0) : Type 0 where
   pub moment : ℕ
   pub next : ℕ
 
+-- the state, the journal, and the commit that is ready, if one is
 pub record GateView (V S : Type 0) : Type 0 where
   pub state : StateView V S
   pub journal : List Entry
+  pub ready : Option Waiting
+
+-- the same over another vault
+abbrev pub at_vault : {V S : Type 0} → StateView V S → V → StateView V S
+at_vault s v = record s { line = record s.line { vault = v } }
 
 -- it has come to a moment
 abbrev pub aged_view : {V S : Type 0} → StateView V S → ℕ → StateView V S

@@ -13,7 +13,7 @@ ghost use Rattle.cv_gate.specs.Step.{is_key_id, is_tag};
 ghost use Rattle.cv_gate.specs.declared.reply.Reply.TheVariants as replies;
 ghost use Rattle.cv_swap.specs.Line.{published, LineReads};
 ghost use Rattle.cv_desk.specs.Refusals.{reply_of, is_unmade};
-ghost use Rattle.cv_desk.specs.Committing.{has_base, holder_of, taken_by, opposition, outcome_at, Offers, GraftsOffered, next_record, Readies};
+ghost use Rattle.cv_desk.specs.Committing.{has_base, holder_of, taken_by, opposition, outcome_at, Offers, GraftsOffered, FetchesAll, FetchesOffered, next_record, Readies};
 ghost use Rattle.cv_desk.specs.declared.outcome.Outcome.TheVariants as outcomes;
 
 use crate::answer::Answer;
@@ -92,6 +92,7 @@ fn judge<V: Vault + Drop, S: Signer + Drop>(
     ensures offers { WhereTold (V.disk line.old.vault) (λ d. Offers (standing_on d) offered.now.hash result) }
     ensures kind { IfErr result (λ o. is_unmade (reply_of o) ≡ true) }
     ensures reads { LineReads V.disk V.count V.left line.old line.new }
+    ensures fetches { WhereTold (V.disk line.old.vault) (λ d. FetchesAll (standing_on d) offered.now.hash line.old.taken line.new.taken) }
     ensures cause { HasCause (V.faults line.old.vault) (V.faults line.new.vault) (result ≡ Err outcomes.StoreFailed) }
 {
     let known = KnownSet::new(alloc);
@@ -127,6 +128,8 @@ fn graft_offered<V: Vault + Drop, S: Signer + Drop>(
     ensures kind { IfErr result (λ r. is_unmade r ≡ true) }
     ensures own { IfOk result (λ g. HasOwnIds g.added) }
     ensures reads { LineReads V.disk V.count V.left line.old line.new }
+    ensures fetches { WhereTold (V.disk line.old.vault) (λ d.
+        FetchesOffered (standing_on d) line.old.head.root offered.now.hash path.now line.old.taken line.new.taken) }
     ensures cause { HasCause (V.faults line.old.vault) (V.faults line.new.vault) (result ≡ Err replies.StoreFailed) }
 {
     if let Err(outcome) = judge(alloc, line, offered) {

@@ -1,5 +1,5 @@
 //! The gate.
-ghost use Rattle.std.specs.Prelude.{◌≡◌, ◌≤◌, ◌<◌, ◌++◌, ◌∷◌, ◌^◌, [], max, IfOk, IsErrOf, vec_len, vec_capacity};
+ghost use Rattle.std.specs.Prelude.{◌≡◌, ◌≤◌, ◌<◌, ◌++◌, ◌∷◌, ◌^◌, [], max, None, Some, IfOk, IsErrOf, IsSome, ◌≢◌, vec_len, vec_capacity};
 ghost use Rattle.cv_base.specs.Counts.{HasCause};
 ghost use Rattle.cv_base.specs.Told.{WhereTold};
 ghost use Rattle.cv_ports.specs.Shelf.{Fetches, Suits};
@@ -10,9 +10,15 @@ ghost use Rattle.cv_gate.specs.Lines.{lines_of};
 ghost use Rattle.cv_gate.specs.Step.{IsOp};
 ghost use Rattle.cv_gate.specs.declared.reply.Reply.TheVariants as reply;
 ghost use Rattle.cv_desk.specs.Acting.{OnlyLooks};
+ghost use Rattle.cv_desk.specs.Begin.{Begins, EndsWaiting};
+ghost use Rattle.cv_desk.specs.declared.begun.Begun.TheVariants as begun;
 ghost use Rattle.cv_desk.specs.Gate.{Steps, GateOpens, IsNew, vault_of, IsFailed};
 
+use crate::answer::Answer;
+use crate::begun::Begun;
 use crate::gate_state::GateState;
+use crate::taken::{Course, Readied, Taken};
+use crate::waiting::Waiting;
 use cv_base::{Bytes, Name, NoMemory, ObjectId};
 use cv_gate::{Entry, LeaseLine, Op, Reply};
 use cv_manifest::Head;
@@ -27,13 +33,15 @@ use std::marker::Model;
 /// The most entries of a journal.
 pub const JOURNAL_LIMIT: usize = 262_144;
 
-/// The gate of a repository: it grants and ends leases and stores objects, one step after another, and keeps a journal of
-/// all that was asked of it.
+/// The gate of a repository: it grants and ends leases, stores objects and commits trees, one step after another, and keeps
+/// a journal of all that was asked of it. A step may be made in two calls: `begin` makes a commit ready, and `finish` ends it.
+/// Between them the gate is ready.
 #[derive(Drop)]
 pub struct Gate<V: Vault + Drop, S: Signer + Drop> {
     alloc: Global,
     state: GateState<V, S>,
     journal: Vec<Entry>,
+    ready: Option<Waiting>,
 }
 
 impl<V: Vault + Drop, S: Signer + Drop> Model for Gate<V, S> {
@@ -43,9 +51,9 @@ impl<V: Vault + Drop, S: Signer + Drop> Model for Gate<V, S> {
 
     ghost Value = { GateView V S };
 
-    ghost view = { λ g. record { state = g.state; journal = g.journal.items } };
+    ghost view = { λ g. record { state = g.state; journal = g.journal.items; ready = g.ready } };
 
-    ghost invariant = { λ g. IsGate (record { state = g.state; journal = g.journal.items }) × (journal_limit ≤ vec_capacity g.journal) };
+    ghost invariant = { λ g. IsGate (record { state = g.state; journal = g.journal.items; ready = g.ready }) × (journal_limit ≤ vec_capacity g.journal) };
 }
 
 impl<V: Vault + Drop, S: Signer + Drop> Gate<V, S> {
@@ -75,8 +83,74 @@ impl<V: Vault + Drop, S: Signer + Drop> Gate<V, S> {
                 alloc,
                 state: GateState::new(alloc, line),
                 journal,
+                ready: None,
             }),
         }
+    }
+
+    /// Begins what is asked from a seat at a moment, below 2 to the 62nd. A commit that nothing refuses is made ready: its
+    /// objects and its record stand for sure then, and its manifest is on its way; it is noted when it is ended. Anything
+    /// else is done, and noted in the journal with its answer, or isn't where the journal is full.
+    ///
+    /// A crash at any moment leaves what a crash within the op may leave of the state.
+    pub fn begin(&mut self, seat: u32, now: u64, op: Op) -> Begun
+        requires moment { now < 2 ^ 62 }
+        requires op { IsOp op }
+        requires idle { self.old.ready ≡ None }
+        ensures begins { Begins V.disk V.count V.left S.is_seal op seat now self.old self.new result }
+        ensures cause { HasCause (V.faults self.old.state.line.vault) (V.faults self.new.state.line.vault) (result ≡ begun.Done reply.StoreFailed) }
+    {
+        if self.journal.len() >= JOURNAL_LIMIT {
+            return Begun::Done(Reply::JournalFull);
+        }
+        match self.state.take(self.alloc, now, op) {
+            Course::Done(taken) => Begun::Done(note_taken(&mut self.journal, seat, now, taken)),
+            Course::Ready(readied) => {
+                let Readied {
+                    key,
+                    act,
+                    token,
+                    head,
+                } = readied;
+                self.ready = Some(Waiting {
+                    seat,
+                    now,
+                    key,
+                    act,
+                    token,
+                });
+                Begun::Ready(head)
+            },
+        }
+    }
+
+    /// Ends the commit that is ready, and notes it: publishes its head and ends its lease, or gives it up and answers
+    /// `NoMemory`. After `StoreFailed` it is in doubt, and after `NoMemory` nothing of it is published.
+    ///
+    /// A crash at any moment leaves what a crash within the commit may leave of the state in which it was begun. To give it up
+    /// takes no memory, and does nothing to the vault.
+    pub fn finish(&mut self, go: bool) -> Reply
+        requires ready { IsSome self.old.ready }
+        ensures ends { (w : _) → self.old.ready ≡ Some w → EndsWaiting V.disk V.count V.left S.is_seal go w self.old self.new result }
+        ensures cause { HasCause (V.faults self.old.state.line.vault) (V.faults self.new.state.line.vault) (result ≡ reply.StoreFailed) }
+    {
+        let Some(waiting) = self.ready.take() else {
+            unreachable!()
+        };
+        let Waiting {
+            seat,
+            now,
+            key,
+            act,
+            token,
+        } = waiting;
+        let outcome = self.state.end_ready(token, go);
+        let taken = Taken {
+            key,
+            act,
+            answer: Answer::of(outcome),
+        };
+        note_taken(&mut self.journal, seat, now, taken)
     }
 
     /// Does what is asked from a seat at a moment, below 2 to the 62nd, and notes it in the journal with its answer.
@@ -86,23 +160,22 @@ impl<V: Vault + Drop, S: Signer + Drop> Gate<V, S> {
     pub fn step(&mut self, seat: u32, now: u64, op: Op) -> Reply
         requires moment { now < 2 ^ 62 }
         requires op { IsOp op }
+        requires idle { self.old.ready ≡ None }
         ensures steps { Steps V.disk V.count V.left S.is_seal op seat now self.old self.new result }
+        ensures idle { self.new.ready ≡ None }
         ensures cause { HasCause (V.faults self.old.state.line.vault) (V.faults self.new.state.line.vault) (result ≡ reply.StoreFailed) }
     {
-        if self.journal.len() >= JOURNAL_LIMIT {
-            return Reply::JournalFull;
+        match self.begin(seat, now, op) {
+            Begun::Done(reply) => reply,
+            Begun::Ready(_) => self.finish(true),
         }
-        let taken = self.state.take(self.alloc, now, op);
-        let (noted, told) = taken.answer.into_parts();
-        let entry = Entry {
-            seat,
-            now,
-            key: taken.key,
-            act: taken.act,
-            reply: noted,
-        };
-        note(&mut self.journal, entry);
-        told
+    }
+
+    /// The repository's name.
+    pub fn name(&self) -> &Name
+        ensures { result.now ≡ self.now.state.line.name }
+    {
+        self.state.line.name()
     }
 
     /// The newest head.
@@ -127,6 +200,7 @@ impl<V: Vault + Drop, S: Signer + Drop> Gate<V, S> {
         ensures suits { Suits id.now result }
         ensures looks { OnlyLooks V.disk V.count V.left self.old.state self.new.state }
         ensures journal { self.new.journal ≡ self.old.journal }
+        ensures ready { self.new.ready ≡ self.old.ready }
         ensures cause { HasCause (V.faults self.old.state.line.vault) (V.faults self.new.state.line.vault) (IsErrOf result shelf_fault.Failed) }
     {
         self.state.object(self.alloc, id)
@@ -155,6 +229,27 @@ impl<V: Vault + Drop, S: Signer + Drop> Gate<V, S> {
         let state = self.state;
         (state.line.into_vault(), journal)
     }
+}
+
+/// Notes an op that is over in a place that was taken before, and gives its answer.
+fn note_taken(journal: &mut Vec<Entry>, seat: u32, now: u64, taken: Taken) -> Reply
+    requires { vec_len journal.old < vec_capacity journal.old }
+    ensures items { journal.new.items ≡ journal.old.items
+        ++ record { seat = seat; now = now; key = taken.key; act = taken.act; reply = taken.answer } ∷ [] }
+    ensures room { vec_capacity journal.old ≤ vec_capacity journal.new }
+    ensures told { result ≡ taken.answer }
+    ensures never { result ≢ reply.JournalFull }
+{
+    let (noted, told) = taken.answer.into_parts();
+    let entry = Entry {
+        seat,
+        now,
+        key: taken.key,
+        act: taken.act,
+        reply: noted,
+    };
+    note(journal, entry);
+    told
 }
 
 /// Puts an entry into a place that was taken before.

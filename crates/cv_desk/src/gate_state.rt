@@ -12,16 +12,16 @@ ghost use Rattle.cv_gate.specs.declared.act.Act.TheVariants as acts;
 ghost use Rattle.cv_gate.specs.declared.op.Op.TheVariants as ops;
 ghost use Rattle.cv_leases.specs.Leases.{lease_of};
 ghost use Rattle.cv_gate.specs.Lines.{lines_of};
-ghost use Rattle.cv_gate.specs.Step.{IsOp};
+ghost use Rattle.cv_gate.specs.Step.{IsOp, is_key_id, is_tag};
 ghost use Rattle.cv_swap.specs.Line.{published};
 ghost use Rattle.cv_swap.specs.declared.stage.Stage.TheVariants as stage;
 ghost use Rattle.cv_desk.specs.Gate.{StandsFor, IsSameRepository, ShowsDamage};
 ghost use Rattle.cv_desk.specs.Refusals.{is_unread, is_sending};
-ghost use Rattle.cv_desk.specs.Ends.{IsPlaced};
+ghost use Rattle.cv_desk.specs.Resuming.{Resumes, Awaits};
+ghost use Rattle.cv_desk.specs.Ends.{IsPlaced, FetchesWay};
 ghost use Rattle.cv_vault.specs.Names.{on_way};
 ghost use Rattle.cv_vault.specs.Walks.{Walks, Nothing};
-ghost use Rattle.cv_desk.specs.Acting.{aged_view, Settles, Acts, refusal_of, refusal_on, FindsPlace, OnlyLooks, new_lease, Grants, AsksLease, AsksEnd, Sends, AsksStore, IsAnswered, IsDone, Takes, newest_token, ended, reply_of};
-ghost use Rattle.cv_gate.specs.declared.reply.Reply.TheVariants as replies;
+ghost use Rattle.cv_desk.specs.Acting.{aged_view, Settles, Acts, refusal_of, refusal_on, FindsPlace, OnlyLooks, new_lease, Grants, AsksLease, AsksEnd, Sends, AsksStore, IsAnswered, Courses, HasFailed, TakesCourse, newest_token, ended, reply_of};
 ghost use Rattle.cv_desk.specs.declared.outcome.Outcome.TheVariants as outcomes;
 
 use crate::ageing::drop_due;
@@ -29,7 +29,7 @@ use crate::answer::Answer;
 use crate::listing::list_leases;
 use crate::outcome::Outcome;
 use crate::sent::Sent;
-use crate::taken::{Taken, commit_act, decline, store_act};
+use crate::taken::{Course, Readied, Taken, commit_act, decline, store_act};
 use cv_base::{Bytes, Kind, NoMemory, Object, ObjectId, RepoPath, Text, Token, ends_in_marker};
 use cv_gate::{Act, LeaseLine, Op};
 use cv_graft::directory_at;
@@ -95,6 +95,8 @@ impl<V: Vault + Drop, S: Signer + Drop> GateState<V, S> {
         ensures next { self.new.next ≡ self.old.next }
         ensures keeps { WhereTold (V.disk self.old.line.vault) (λ d. Walks V.disk V.count V.left on_way Nothing (λ _. Unit {0}) d self.old.line.vault self.new.line.vault) }
         ensures certain { OnOk result (self.new.line.stage ≢ stage.Doubtful) }
+        ensures resumes { OnOk result (Resumes V.disk V.count V.left self.old self.new) }
+        ensures awaits { (fault : _) → result ≡ Err fault → Awaits V.disk V.count V.left fault self.old self.new }
         ensures cause { HasCause (V.faults self.old.line.vault) (V.faults self.new.line.vault) (IsErrOf result vault_fault.Failed) }
     {
         if !self.line.in_doubt() {
@@ -145,6 +147,7 @@ impl<V: Vault + Drop, S: Signer + Drop> GateState<V, S> {
         ensures unread { IfErr result (λ o. is_unread (reply_of o) ≡ true) }
         ensures damage { IfErr result (λ o. ShowsDamage V.disk self.old.line.vault (reply_of o)) }
         ensures looks { OnlyLooks V.disk V.count V.left self.old self.new }
+        ensures fetches { FetchesWay V.disk path.now self.old self.new }
         ensures cause { HasCause (V.faults self.old.line.vault) (V.faults self.new.line.vault) (result ≡ Err outcomes.StoreFailed) }
     {
         if path.names().is_empty() {
@@ -229,7 +232,7 @@ impl<V: Vault + Drop, S: Signer + Drop> GateState<V, S> {
         requires now { now < 2 ^ 62 }
         requires next { self.old.next < 18446744073709551615 }
         ensures acts { Acts V.disk V.count V.left S.is_seal (ops.Lease key.now path.now) now (acts.Lease path.now) (reply_of result) self.old self.new }
-        ensures answered { IsAnswered V.disk (ops.Lease key.now path.now) now (reply_of result) self.old self.new }
+        ensures answered { IsAnswered V.disk V.count V.left S.is_seal (ops.Lease key.now path.now) now (acts.Lease path.now) (reply_of result) self.old self.new }
         ensures same { IsSameRepository self.old.line self.new.line }
         ensures next { self.new.next ≤ self.old.next + 1 }
         ensures path { IsPath path.now }
@@ -272,7 +275,7 @@ impl<V: Vault + Drop, S: Signer + Drop> GateState<V, S> {
         requires now { now < 2 ^ 62 }
         requires next { self.old.next < 18446744073709551615 }
         ensures acts { Acts V.disk V.count V.left S.is_seal (ops.Cancel key.now token) now (acts.Cancel token) (reply_of result) self.old self.new }
-        ensures answered { IsAnswered V.disk (ops.Cancel key.now token) now (reply_of result) self.old self.new }
+        ensures answered { IsAnswered V.disk V.count V.left S.is_seal (ops.Cancel key.now token) now (acts.Cancel token) (reply_of result) self.old self.new }
         ensures failed { result ≢ outcomes.StoreFailed }
         ensures same { self.new.line ≡ self.old.line }
         ensures next { self.new.next ≡ self.old.next }
@@ -323,7 +326,7 @@ impl<V: Vault + Drop, S: Signer + Drop> GateState<V, S> {
         requires next { self.old.next < 18446744073709551615 }
         requires named { AreNamed batch.now }
         ensures acts { (digest : _) → Acts V.disk V.count V.left S.is_seal (ops.Store key.now token digest batch.now) now (acts.Store token digest result.fresh) (reply_of result.outcome) self.old self.new }
-        ensures answered { (digest : _) → IsAnswered V.disk (ops.Store key.now token digest batch.now) now (reply_of result.outcome) self.old self.new }
+        ensures answered { (digest : _) → IsAnswered V.disk V.count V.left S.is_seal (ops.Store key.now token digest batch.now) now (acts.Store token digest result.fresh) (reply_of result.outcome) self.old self.new }
         ensures same { IsSameRepository self.old.line self.new.line }
         ensures next { self.new.next ≡ self.old.next }
         ensures cause { HasCause (V.faults self.old.line.vault) (V.faults self.new.line.vault) (result.outcome ≡ outcomes.StoreFailed) }
@@ -353,23 +356,55 @@ impl<V: Vault + Drop, S: Signer + Drop> GateState<V, S> {
         self.line.fetch(alloc, id)
     }
 
-    /// Does an op at a moment.
-    fn do_op(&mut self, alloc: Global, now: u64, op: Op) -> Taken
+    /// Begins a commit at a moment.
+    fn begin_op(
+        &mut self,
+        alloc: Global,
+        now: u64,
+        key: Text,
+        token: Token,
+        old_root: [u8; 20],
+        new_root: [u8; 20],
+        tag: Text,
+    ) -> Course
+        requires now { now < 2 ^ 62 }
+        requires next { self.old.next < 18446744073709551615 }
+        requires calm { self.old.line.stage ≢ stage.Doubtful }
+        requires key { is_key_id key ≡ true }
+        requires tag { is_tag tag ≡ true }
+        ensures course { Courses V.disk V.count V.left S.is_seal (ops.Commit key token old_root new_root tag) now result self.old self.new }
+        ensures cause { HasCause (V.faults self.old.line.vault) (V.faults self.new.line.vault) (HasFailed result) }
+    {
+        let begun = self.begin_commit(alloc, now, &key, token, &old_root, new_root, &tag);
+        let act = commit_act(token, old_root, new_root, tag);
+        match begun {
+            Ok(head) => Course::Ready(Readied {
+                key,
+                act,
+                token,
+                head,
+            }),
+            Err(answer) => Course::Done(Taken { key, act, answer }),
+        }
+    }
+
+    /// Does an op at a moment, or makes it ready where it is a commit that nothing refuses.
+    fn do_op(&mut self, alloc: Global, now: u64, op: Op) -> Course
         requires now { now < 2 ^ 62 }
         requires next { self.old.next < 18446744073709551615 }
         requires op { IsOp op }
         requires calm { self.old.line.stage ≢ stage.Doubtful }
-        ensures done { IsDone V.disk V.count V.left S.is_seal op now result self.old self.new }
-        ensures cause { HasCause (V.faults self.old.line.vault) (V.faults self.new.line.vault) (result.answer ≡ replies.StoreFailed) }
+        ensures course { Courses V.disk V.count V.left S.is_seal op now result self.old self.new }
+        ensures cause { HasCause (V.faults self.old.line.vault) (V.faults self.new.line.vault) (HasFailed result) }
     {
         match op {
             Op::Lease { key, path } => {
                 let outcome = self.lease(alloc, now, &key, &path);
-                Taken {
+                Course::Done(Taken {
                     key,
                     act: Act::Lease(path),
                     answer: Answer::of(outcome),
-                }
+                })
             },
             Op::Store {
                 key,
@@ -378,11 +413,11 @@ impl<V: Vault + Drop, S: Signer + Drop> GateState<V, S> {
                 batch,
             } => {
                 let sent = self.store(alloc, now, &key, token, batch.as_slice());
-                Taken {
+                Course::Done(Taken {
                     key,
                     act: store_act(token, digest, sent.fresh),
                     answer: Answer::of(sent.outcome),
-                }
+                })
             },
             Op::Commit {
                 key,
@@ -390,36 +425,30 @@ impl<V: Vault + Drop, S: Signer + Drop> GateState<V, S> {
                 old_root,
                 new_root,
                 tag,
-            } => {
-                let answer = self.commit(alloc, now, &key, token, &old_root, new_root, &tag);
-                Taken {
-                    key,
-                    act: commit_act(token, old_root, new_root, tag),
-                    answer,
-                }
-            },
+            } => self.begin_op(alloc, now, key, token, old_root, new_root, tag),
             Op::Cancel { key, token } => {
                 let outcome = self.cancel(now, &key, token);
-                Taken {
+                Course::Done(Taken {
                     key,
                     act: Act::Cancel(token),
                     answer: Answer::of(outcome),
-                }
+                })
             },
         }
     }
 
-    /// Takes an op at a moment: a commit in doubt is settled, and then it is done; or it waits, and the fault is answered.
-    pub(crate) fn take(&mut self, alloc: Global, now: u64, op: Op) -> Taken
+    /// Takes an op at a moment: a commit in doubt is settled, and then it is done, or made ready; or it waits, and the fault is
+    /// answered.
+    pub(crate) fn take(&mut self, alloc: Global, now: u64, op: Op) -> Course
         requires now { now < 2 ^ 62 }
         requires next { self.old.next < 18446744073709551615 }
         requires op { IsOp op }
-        ensures takes { Takes V.disk V.count V.left S.is_seal op now result self.old self.new }
-        ensures cause { HasCause (V.faults self.old.line.vault) (V.faults self.new.line.vault) (result.answer ≡ replies.StoreFailed) }
+        ensures takes { TakesCourse V.disk V.count V.left S.is_seal op now result self.old self.new }
+        ensures cause { HasCause (V.faults self.old.line.vault) (V.faults self.new.line.vault) (HasFailed result) }
     {
         match self.settle() {
             Ok(()) => self.do_op(alloc, now, op),
-            Err(fault) => decline(alloc, op, Answer::of(Outcome::of_vault(fault))),
+            Err(fault) => Course::Done(decline(alloc, op, Answer::of(Outcome::of_vault(fault)))),
         }
     }
 }

@@ -3,6 +3,7 @@
 
 mod ageing;
 mod answer;
+mod begun;
 mod committing;
 mod gate;
 mod gate_state;
@@ -17,6 +18,8 @@ mod taken;
 mod test_gates;
 #[cfg(test)]
 mod tests;
+mod waiting;
 
+pub use begun::Begun;
 pub use gate::Gate;
 pub use one_desk::OneDesk;

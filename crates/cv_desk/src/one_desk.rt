@@ -27,36 +27,39 @@ const SEAT: u32 = 0;
 #[derive(Drop)]
 pub struct OneDesk<V: Vault + Drop, S: Signer + Drop> {
     gate: Gate<V, S>,
-    name: Name,
     head: Head,
 }
 
 impl<V: Vault + Drop, S: Signer + Drop> Model for OneDesk<V, S> {
+    ghost use Rattle.std.specs.Prelude.{◌≡◌, None};
     ghost use Rattle.cv_gate.specs.Desk.{IsHead};
     ghost use Rattle.cv_desk.specs.OneDesk.{OneDeskView};
 
     ghost Value = { OneDeskView V S };
 
-    ghost view = { λ d. record { gate = d.gate; name = d.name; head = d.head } };
+    ghost view = { λ d. record { gate = d.gate; head = d.head } };
 
-    ghost invariant = { λ d. IsHead d.head };
+    ghost invariant = { λ d. IsHead d.head × (d.gate.ready ≡ None) };
 }
 
 impl<V: Vault + Drop, S: Signer + Drop> OneDesk<V, S> {
-    /// Over a gate. Where that stands for a state to which its journal runs from the state with which it was opened, the desk
-    /// may be seen as having seen the journal; where nothing was asked of the gate yet, at the beginning of the state.
-    pub fn new(gate: Gate<V, S>, name: Name) -> OneDesk<V, S>
-        ensures desk { result ≡ record { gate = gate; name = name; head = gate.state.line.head } }
+    /// Over a gate that isn't ready, for its repository. Where the gate stands for a state to which its journal runs from the state
+    /// with which it was opened, the desk may be seen as having seen the journal; where nothing was asked of the gate yet, at the
+    /// beginning of the state.
+    pub fn new(gate: Gate<V, S>) -> OneDesk<V, S>
+        requires idle { gate.ready ≡ None }
+        ensures desk { result ≡ record { gate = gate; head = gate.state.line.head } }
         ensures since { (start st : State) → Run start gate.journal st → StandsFor V.disk S.is_seal gate.state st → Stands V.disk S.is_seal result (view_since start gate.journal st) }
         ensures stands { (st : State) → gate.journal ≡ [] → StandsFor V.disk S.is_seal gate.state st → Stands V.disk S.is_seal result (first_view st) }
     {
         let head = gate.head();
-        OneDesk { gate, name, head }
+        OneDesk { gate, head }
     }
 
-    /// The gate.
+    /// The gate, which isn't ready.
     pub fn into_gate(self) -> Gate<V, S>
-        ensures { result ≡ self.gate }
+        ensures gate { result ≡ self.gate }
+        ensures idle { result.ready ≡ None }
     {
         self.gate
     }
@@ -69,12 +72,12 @@ impl<V: Vault + Drop, S: Signer + Drop> Desk for OneDesk<V, S> {
 
     ghost does = { DoesCalls V.disk V.count V.left S.is_seal };
 
-    ghost named = { λ d. d.name };
+    ghost named = { λ d. d.gate.state.line.name };
 
     ghost faults = { λ d. V.faults d.gate.state.line.vault };
 
     fn name(&self) -> &Name {
-        &self.name
+        self.gate.name()
     }
 
     fn ask(&mut self, _alloc: Global, now: u64, op: Op) -> Reply {

@@ -9,14 +9,33 @@ ghost use Rattle.cv_desk.specs.Acting.{IsDeclined};
 use crate::answer::Answer;
 use cv_base::{Items, ObjectId, RepoPath, Text, Token};
 use cv_gate::{Act, Op};
+use cv_manifest::Head;
 use std::alloc::Global;
 
-/// What an op comes to: what the journal keeps of it, and what is answered.
+/// What an op that is over comes to: what the journal keeps of it, and what is answered.
 #[derive(Drop)]
 pub(crate) struct Taken {
     pub(crate) key: Text,
     pub(crate) act: Act,
     pub(crate) answer: Answer,
+}
+
+/// A commit that is ready: what the journal keeps of it, the token of its lease, and the head that is to be published.
+#[derive(Drop)]
+pub(crate) struct Readied {
+    pub(crate) key: Text,
+    pub(crate) act: Act,
+    pub(crate) token: Token,
+    pub(crate) head: Head,
+}
+
+/// How far an op came.
+#[derive(Drop)]
+pub(crate) enum Course {
+    /// It was done, or it isn't done.
+    Done(Taken),
+    /// It is a commit that is ready.
+    Ready(Readied),
 }
 
 /// An op that isn't done.

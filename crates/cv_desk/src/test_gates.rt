@@ -1,5 +1,5 @@
 //! A gate over a vault in memory, as the tests ask it.
-ghost use Rattle.std.specs.Prelude.{◌<◌, ◌^◌, IfOk};
+ghost use Rattle.std.specs.Prelude.{◌≡◌, ◌<◌, ◌^◌, None, IfOk};
 ghost use Rattle.cv_gate.specs.Step.{IsOp};
 
 use crate::Gate;
@@ -30,7 +30,9 @@ fn name(alloc: Global) -> Result<Name, Fail> {
     }
 }
 
-fn open(alloc: Global, vault: MemoryVault) -> Result<TestGate, Fail> {
+fn open(alloc: Global, vault: MemoryVault) -> Result<TestGate, Fail>
+    ensures { IfOk result (λ gate. gate.ready ≡ None) }
+{
     let signer = KeyedHash::new(String::from_str(alloc, "seal")?);
     match Gate::open(vault, alloc, name(alloc)?, signer) {
         Ok(gate) => Ok(gate),
@@ -39,7 +41,9 @@ fn open(alloc: Global, vault: MemoryVault) -> Result<TestGate, Fail> {
 }
 
 /// The gate of a repository that is made and opened in an empty vault.
-pub(crate) fn made(alloc: Global) -> Result<TestGate, Fail> {
+pub(crate) fn made(alloc: Global) -> Result<TestGate, Fail>
+    ensures { IfOk result (λ gate. gate.ready ≡ None) }
+{
     let signer = KeyedHash::new(String::from_str(alloc, "seal")?);
     let vault = MemoryVault::new(alloc, Vec::new(alloc))?;
     match Line::init(vault, alloc, &name(alloc)?, &signer, START) {
@@ -52,7 +56,9 @@ pub(crate) fn made(alloc: Global) -> Result<TestGate, Fail> {
 const ROOT_NAME: &str = "data/30/7aac20fe5391faacd0ea38f9589fb797a3685cC";
 
 /// The gate of a repository that is made in an empty vault, and opened where its root catalogue has these bytes, or is gone.
-pub(crate) fn over_root(alloc: Global, bytes: Option<&[u8]>) -> Result<TestGate, Fail> {
+pub(crate) fn over_root(alloc: Global, bytes: Option<&[u8]>) -> Result<TestGate, Fail>
+    ensures { IfOk result (λ gate. gate.ready ≡ None) }
+{
     let mut vault = made(alloc)?.into_vault();
     let changed = match bytes {
         Some(bytes) => vault.write(ROOT_NAME, bytes).is_ok(),
@@ -69,6 +75,8 @@ pub(crate) fn over_root(alloc: Global, bytes: Option<&[u8]>) -> Result<TestGate,
 pub(crate) fn ask(gate: &mut TestGate, seat: u32, now: u64, op: Op) -> Reply
     requires moment { now < 2 ^ 62 }
     requires op { IsOp op }
+    requires idle { gate.old.ready ≡ None }
+    ensures { gate.new.ready ≡ None }
 {
     gate.step(seat, now, op)
 }

@@ -1,7 +1,8 @@
-//! What the contracts can't say: that calls find memory, with leases over a vault in memory.
-ghost use Rattle.std.specs.Prelude.{◌≡◌, true, IfOk};
+//! What the contracts can't say: that calls find memory, over a vault in memory.
+ghost use Rattle.std.specs.Prelude.{◌≡◌, true, None, IfOk};
 ghost use Rattle.cv_gate.specs.Step.{IsOp, is_key_id};
 
+use crate::Begun;
 use crate::test_gates::{FIRST_LEASE, START, TestGate, ask, lease, made, over_root};
 use cv_base::Text;
 use cv_gate::{Op, Reply};
@@ -20,12 +21,15 @@ fn cancel(alloc: Global, key: &str) -> Result<Op, Fail>
 }
 
 /// What a gate says to asking for the first lease, at the start.
-fn leased(alloc: Global, gate: &mut TestGate) -> Result<Reply, Fail> {
+fn leased(alloc: Global, gate: &mut TestGate) -> Result<Reply, Fail>
+    requires { gate.old.ready ≡ None }
+    ensures { gate.new.ready ≡ None }
+{
     Ok(ask(gate, 0, START, lease(alloc, "/a")?))
 }
 
 /// Whether a gate lists so many leases, so many seconds after the start.
-fn has_live(gate: &mut TestGate, seconds: u32, count: usize) -> Result<bool, Fail> {
+fn has_live(gate: &TestGate, seconds: u32, count: usize) -> Result<bool, Fail> {
     Ok(gate.live(START + u64::from(seconds))?.len() == count)
 }
 
@@ -40,8 +44,8 @@ fn has_entries(gate: TestGate, count: usize) -> bool {
 fn a_lease_is_live_until_its_deadline(rt: HostRuntime) -> Result<(), Fail> {
     let mut gate = made(rt.alloc())?;
     assert!(rt; matches!(leased(rt.alloc(), &mut gate)?, Reply::Granted { .. }));
-    assert!(rt; has_live(&mut gate, 7199, 1)?);
-    assert!(rt; has_live(&mut gate, 7200, 0)?);
+    assert!(rt; has_live(&gate, 7199, 1)?);
+    assert!(rt; has_live(&gate, 7200, 0)?);
     assert!(rt; has_entries(gate, 1));
     Ok(())
 }
@@ -67,7 +71,9 @@ fn a_lease_needs_a_root_that_is_read(rt: HostRuntime) -> Result<(), Fail> {
 
 /// What the first second's cancel of the first lease under a key is answered.
 fn cancelled(alloc: Global, gate: &mut TestGate, key: &str) -> Result<Reply, Fail>
-    requires { is_key_id key.now ≡ true }
+    requires key { is_key_id key.now ≡ true }
+    requires idle { gate.old.ready ≡ None }
+    ensures { gate.new.ready ≡ None }
 {
     Ok(ask(gate, 0, START, cancel(alloc, key)?))
 }
@@ -79,5 +85,51 @@ fn a_lease_is_ended_by_its_key_alone(rt: HostRuntime) -> Result<(), Fail> {
     assert!(rt; matches!(cancelled(rt.alloc(), &mut gate, "k2")?, Reply::WrongKey));
     assert!(rt; matches!(cancelled(rt.alloc(), &mut gate, "k1")?, Reply::Cancelled));
     assert!(rt; matches!(cancelled(rt.alloc(), &mut gate, "k1")?, Reply::InvalidToken));
+    Ok(())
+}
+
+/// The root of the first revision, by its name under `data/`.
+const ROOT: [u8; 20] = [
+    48, 122, 172, 32, 254, 83, 145, 250, 172, 208, 234, 56, 249, 88, 159, 183, 151, 163, 104, 92,
+];
+
+/// The op of committing the tree of the first revision under the first lease.
+fn commit(alloc: Global) -> Result<Op, Fail>
+    ensures { IfOk result (λ o. IsOp o) }
+{
+    Ok(Op::Commit {
+        key: Text::from_str(alloc, "k1")?,
+        token: FIRST_LEASE,
+        old_root: ROOT,
+        new_root: ROOT,
+        tag: Text::from_str(alloc, "")?,
+    })
+}
+
+/// Begins that commit and ends it: the revision that is ready, the published one meanwhile, and the reply.
+fn commits(alloc: Global, gate: &mut TestGate, go: bool) -> Result<(u64, u64, Reply), Fail>
+    requires { gate.old.ready ≡ None }
+    ensures { IfOk result (λ r. gate.new.ready ≡ None) }
+{
+    match gate.begin(0, START, commit(alloc)?) {
+        Begun::Ready(head) => {
+            let published = gate.head().revision;
+            Ok((head.revision, published, gate.finish(go)))
+        },
+        Begun::Done(_) => Err(Fail::new("not ready")),
+    }
+}
+
+#[test]
+fn a_commit_is_begun_and_given_up_or_ended(rt: HostRuntime) -> Result<(), Fail> {
+    let mut gate = made(rt.alloc())?;
+    assert!(rt; matches!(leased(rt.alloc(), &mut gate)?, Reply::Granted { .. }));
+    let given_up = commits(rt.alloc(), &mut gate, false)?;
+    assert!(rt; matches!(given_up, (2, 1, Reply::NoMemory)));
+    let ended = commits(rt.alloc(), &mut gate, true)?;
+    assert!(rt; matches!(ended, (2, 1, Reply::Committed { revision: 2, root }) if root == ROOT));
+    assert!(rt; gate.head().revision == 2);
+    assert!(rt; matches!(cancelled(rt.alloc(), &mut gate, "k1")?, Reply::InvalidToken));
+    assert!(rt; has_entries(gate, 4));
     Ok(())
 }

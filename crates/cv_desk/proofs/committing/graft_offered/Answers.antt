@@ -8,7 +8,7 @@ use Rattle.cv_objects.specs.Names.{standing_on}
 use Rattle.cv_desk.specs.Acting.{reply_of}
 use Rattle.cv_desk.specs.Committing.{Offers, meaningless}
 use Rattle.cv_desk.specs.Refusals.{is_unmade}
-use Rattle.cv_desk.proofs.CommitCalls.{grafts_there, graft_unfit, if_err}
+use Rattle.cv_desk.proofs.CommitCalls.{grafts_there, grafts_fetched, judged_alone, graft_unfit, if_err}
 use Rattle.cv_desk.proofs.CommitExact.{unmade_told}
 use Rattle.cv_desk.proofs.committing.graft_offered.Goals as goal
 
@@ -37,3 +37,14 @@ returns-in-Err-clause-kind g c = ap is_unmade c.of.ensures ∙ if_err (λ o. is_
 
 pub returns-in-Err-graft-clause-kind : goal.returns-in-Err-graft-clause-kind
 returns-in-Err-graft-clause-kind g c = unmade_told c.in-Err-graft.fault c.of_graft.result c.of_graft.ensures
+
+pub returns-in-Err-clause-fetches : goal.returns-in-Err-clause-fetches
+returns-in-Err-clause-fetches g c = judged_alone g.V.Vault.disk c.args.line.now c.judge.new.line c.args.offered.now.hash c.args.path.now c.judge.ensures.fetches
+
+pub returns-in-Ok-clause-fetches : goal.returns-in-Ok-clause-fetches
+returns-in-Ok-clause-fetches g c = grafts_fetched g.V.Vault.disk g.V.Vault.count g.V.Vault.left c.args.line.now c.judge.new.line c.judge.ensures.reads c.head.result.root (ap (λ (h : Head). h.root) c.head.ensures.newest)
+    c.args.offered.now.hash c.args.path.now c.graft.new.shelf.taken c.judge.ensures.fetches c.graft.ensures.taken
+
+pub returns-in-Err-graft-clause-fetches : goal.returns-in-Err-graft-clause-fetches
+returns-in-Err-graft-clause-fetches g c = grafts_fetched g.V.Vault.disk g.V.Vault.count g.V.Vault.left c.args.line.now c.judge.new.line c.judge.ensures.reads c.head.result.root (ap (λ (h : Head). h.root) c.head.ensures.newest)
+    c.args.offered.now.hash c.args.path.now c.graft.new.shelf.taken c.judge.ensures.fetches c.graft.ensures.taken

@@ -12,3 +12,9 @@ returns-in-Ok-clause-offers g c = λ d told.
 
 pub returns-clause-kind : goal.returns-clause-kind
 returns-clause-kind g c = ap (λ o. is_unmade (reply_of o)) c.outcome_at.ensures ∙ unmade_at c.in-Err.fault
+
+pub returns-in-Ok-clause-fetches : goal.returns-in-Ok-clause-fetches
+returns-in-Ok-clause-fetches g c = λ d told. (c.new-known.result, c.new-known.ensures, c.whole.ensures.fetches (standing_on d) (ap (option_map standing_on) told))
+
+pub returns-clause-fetches : goal.returns-clause-fetches
+returns-clause-fetches g c = λ d told. (c.new-known.result, c.new-known.ensures, c.whole.ensures.fetches (standing_on d) (ap (option_map standing_on) told))

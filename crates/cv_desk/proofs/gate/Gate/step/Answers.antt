@@ -1,12 +1,20 @@
-use Rattle.std.proofs.Common.{rules, refl, subst}
-use Rattle.cv_desk.specs.Gate.{GateView, Steps}
-use Rattle.cv_desk.proofs.Taking.{steps_taken}
+use Rattle.std.proofs.Common.{subst}
+use Rattle.cv_desk.specs.Begin.{Begins}
+use Rattle.cv_desk.proofs.Taking.{done_steps, ready_steps}
 use Rattle.cv_desk.proofs.gate.Gate.step.Goals as goal
 
-pub returns-clause-steps : goal.returns-clause-steps
-returns-clause-steps g c =
-    let inside : GateView g.row.V.Denot g.row.S.Denot = record { state = c.self.inside.state; journal = c.self.inside.journal.items } in
-    let after : GateView g.row.V.Denot g.row.S.Denot = record { state = c.take-taken.new.self; journal = c.note.new.journal.items } in
-    subst (λ (b : GateView g.row.V.Denot g.row.S.Denot). Steps g.V.Vault.disk g.V.Vault.count g.V.Vault.left g.S.Signer.is_seal c.args.op c.args.seat c.args.now b after c.into_parts-noted.result.1) c.self.view_is
-    (steps_taken g.V.Vault.disk g.V.Vault.count g.V.Vault.left g.S.Signer.is_seal c.args.op c.args.seat c.args.now c.take-taken.result inside after c.into_parts-noted.result.1 c.requires.op c.requires.moment (search rules) c.take-taken.ensures.takes
-    c.take-taken.result.key c.take-taken.result.act c.into_parts-noted.result.0 refl refl c.into_parts-noted.ensures.noted c.into_parts-noted.ensures.never (search rules) (search rules))
+pub returns-in-Done-clause-steps : goal.returns-in-Done-clause-steps
+returns-in-Done-clause-steps g c = (done_steps g.V.Vault.disk g.V.Vault.count g.V.Vault.left g.S.Signer.is_seal c.args.op c.args.seat c.args.now c.args.self.now c.begin.new.self c.in-Done.reply
+    (subst (Begins g.V.Vault.disk g.V.Vault.count g.V.Vault.left g.S.Signer.is_seal c.args.op c.args.seat c.args.now c.args.self.now c.begin.new.self) c.in-Done.is c.begin.ensures.begins)).0
+
+pub returns-in-Done-clause-idle : goal.returns-in-Done-clause-idle
+returns-in-Done-clause-idle g c = (done_steps g.V.Vault.disk g.V.Vault.count g.V.Vault.left g.S.Signer.is_seal c.args.op c.args.seat c.args.now c.args.self.now c.begin.new.self c.in-Done.reply
+    (subst (Begins g.V.Vault.disk g.V.Vault.count g.V.Vault.left g.S.Signer.is_seal c.args.op c.args.seat c.args.now c.args.self.now c.begin.new.self) c.in-Done.is c.begin.ensures.begins)).1
+
+pub returns-in-Ready-clause-steps : goal.returns-in-Ready-clause-steps
+returns-in-Ready-clause-steps g c = (ready_steps g.V.Vault.disk g.V.Vault.count g.V.Vault.left g.S.Signer.is_seal c.args.op c.args.seat c.args.now c.args.self.now c.begin.new.self c.finish.new.self c.finish.result c.in-Ready.field-0
+    (subst (Begins g.V.Vault.disk g.V.Vault.count g.V.Vault.left g.S.Signer.is_seal c.args.op c.args.seat c.args.now c.args.self.now c.begin.new.self) c.in-Ready.is c.begin.ensures.begins) c.finish.ensures.ends).0
+
+pub returns-in-Ready-clause-idle : goal.returns-in-Ready-clause-idle
+returns-in-Ready-clause-idle g c = (ready_steps g.V.Vault.disk g.V.Vault.count g.V.Vault.left g.S.Signer.is_seal c.args.op c.args.seat c.args.now c.args.self.now c.begin.new.self c.finish.new.self c.finish.result c.in-Ready.field-0
+    (subst (Begins g.V.Vault.disk g.V.Vault.count g.V.Vault.left g.S.Signer.is_seal c.args.op c.args.seat c.args.now c.args.self.now c.begin.new.self) c.in-Ready.is c.begin.ensures.begins) c.finish.ensures.ends).1

@@ -7,4 +7,4 @@ returns-clause-acts g c = cancel_acts g.V.Vault.disk g.V.Vault.count g.V.Vault.l
     c.args.key.now c.args.token c.ask_end.result c.ask_end.ensures.asks
 
 pub returns-clause-answered : goal.returns-clause-answered
-returns-clause-answered g c = end_answered g.V.Vault.disk c.args.key.now c.args.token c.args.now c.args.self.now c.age.new.self c.ask_end.new.self c.ask_end.result c.age.ensures c.ask_end.ensures.asks
+returns-clause-answered g c = end_answered g.V.Vault.disk g.V.Vault.count g.V.Vault.left g.S.Signer.is_seal c.args.key.now c.args.token c.args.now c.args.self.now c.age.new.self c.ask_end.new.self c.ask_end.result c.age.ensures c.ask_end.ensures.asks

@@ -1,10 +1,8 @@
 use Rattle.std.proofs.Common.{ap, sym, subst, refl, ◌∙◌}
 use Rattle.std.specs.Prelude.{option_copied}
 use Rattle.cv_desk.specs.Gate.{StateView, IsSameRepository}
-use Rattle.cv_desk.specs.Committing.{Readies, Finishes}
 use Rattle.cv_desk.proofs.States.{state_same}
-use Rattle.cv_desk.proofs.Taking.{same_then}
-use Rattle.cv_desk.proofs.CommitCalls.{found_unmarked, readies_same, opposes, stops, goes_on}
+use Rattle.cv_desk.proofs.CommitCalls.{found_unmarked, readies_same, opposes, made_ready}
 use Rattle.cv_desk.proofs.gate_state.GateState.commit_under.Goals as goal
 
 pub returns-in-Some-opposition-clause-under : goal.returns-in-Some-opposition-clause-under
@@ -19,29 +17,10 @@ pub invariant_of-self : goal.invariant_of-self
 invariant_of-self g c = state_same (record { line = c.self.inside.line; leases = c.self.inside.leases; moment = c.self.inside.moment; next = c.self.inside.next }) _ c.self.invariant refl refl refl
     (readies_same g.V.Vault.disk g.V.Vault.count g.V.Vault.left g.S.Signer.is_seal c.in-Some.lease.now c.args.key.now c.self.inside.moment c.args.offered c.args.tag.now c.self.inside.line c.ready.new.line c.ready.result c.ready.ensures.readies).epoch_
 
-pub invariant_of-self-in-Err : goal.invariant_of-self-in-Err
-invariant_of-self-in-Err g c = state_same (record { line = c.self.inside.line; leases = c.self.inside.leases; moment = c.self.inside.moment; next = c.self.inside.next }) _ c.self.invariant refl refl refl
-    (readies_same g.V.Vault.disk g.V.Vault.count g.V.Vault.left g.S.Signer.is_seal c.in-Some.lease.now c.args.key.now c.self.inside.moment c.args.offered c.args.tag.now c.self.inside.line c.ready.new.line c.ready.result c.ready.ensures.readies).epoch_
+pub returns-clause-under : goal.returns-clause-under
+returns-clause-under g c = made_ready g.V.Vault.disk g.V.Vault.count g.V.Vault.left g.S.Signer.is_seal c.args.self.now c.self.inside.line c.self.inside.leases c.self.inside.moment c.self.inside.next c.self.view_is c.args.token c.in-Some.lease.now
+    (sym c.find.ensures ∙ ap option_copied c.in-Some.is) c.args.key.now c.args.old_root.now c.args.offered c.args.tag.now c.ready.new.line c.ready.result (sym c.opposition.ensures ∙ c.in_default-opposition.is) c.ready.ensures.readies
 
-pub returns-in-Ok-clause-under : goal.returns-in-Ok-clause-under
-returns-in-Ok-clause-under g c = goes_on g.V.Vault.disk g.V.Vault.count g.V.Vault.left g.S.Signer.is_seal c.args.self.now c.self.inside.line c.self.inside.leases c.self.inside.moment c.self.inside.next c.self.view_is c.args.token c.in-Some.lease.now
-    (sym c.find.ensures ∙ ap option_copied c.in-Some.is) c.args.key.now c.args.old_root.now c.args.offered c.args.tag.now
-    c.ready.new.line c.in-Ok.head c.of-in-Ok.result c.finish.new.self (sym c.opposition.ensures ∙ c.in_default-opposition.is)
-    (subst (Readies g.V.Vault.disk g.V.Vault.count g.V.Vault.left g.S.Signer.is_seal c.in-Some.lease.now c.args.key.now c.self.inside.moment c.args.offered c.args.tag.now c.self.inside.line c.ready.new.line) c.in-Ok.is c.ready.ensures.readies)
-    (subst (λ r. Finishes g.V.Vault.disk g.V.Vault.count g.V.Vault.left g.S.Signer.is_seal c.in-Some.lease.now.token c.in-Ok.head (record { line = c.ready.new.line; leases = c.self.inside.leases; moment = c.self.inside.moment; next = c.self.inside.next }) r c.finish.new.self)
-    (sym c.of-in-Ok.ensures) c.finish.ensures.finishes)
-
-pub returns-in-Ok-clause-same : goal.returns-in-Ok-clause-same
-returns-in-Ok-clause-same g c = subst (λ (s : StateView _ _). IsSameRepository s.line c.finish.new.self.line) c.self.view_is
-    (same_then c.self.inside.line c.ready.new.line c.finish.new.self.line
-    (readies_same g.V.Vault.disk g.V.Vault.count g.V.Vault.left g.S.Signer.is_seal c.in-Some.lease.now c.args.key.now c.self.inside.moment c.args.offered c.args.tag.now c.self.inside.line c.ready.new.line c.ready.result c.ready.ensures.readies) c.finish.ensures.same)
-
-pub returns-in-Err-clause-under : goal.returns-in-Err-clause-under
-returns-in-Err-clause-under g c = stops g.V.Vault.disk g.V.Vault.count g.V.Vault.left g.S.Signer.is_seal c.args.self.now c.self.inside.line c.self.inside.leases c.self.inside.moment c.self.inside.next c.self.view_is c.args.token c.in-Some.lease.now
-    (sym c.find.ensures ∙ ap option_copied c.in-Some.is) c.args.key.now c.args.old_root.now c.args.offered c.args.tag.now
-    c.ready.new.line c.in-Err.answer (sym c.opposition.ensures ∙ c.in_default-opposition.is)
-    (subst (Readies g.V.Vault.disk g.V.Vault.count g.V.Vault.left g.S.Signer.is_seal c.in-Some.lease.now c.args.key.now c.self.inside.moment c.args.offered c.args.tag.now c.self.inside.line c.ready.new.line) c.in-Err.is c.ready.ensures.readies)
-
-pub returns-in-Err-clause-same : goal.returns-in-Err-clause-same
-returns-in-Err-clause-same g c = subst (λ (s : StateView _ _). IsSameRepository s.line c.ready.new.line) c.self.view_is
+pub returns-clause-same : goal.returns-clause-same
+returns-clause-same g c = subst (λ (s : StateView _ _). IsSameRepository s.line c.ready.new.line) c.self.view_is
     (readies_same g.V.Vault.disk g.V.Vault.count g.V.Vault.left g.S.Signer.is_seal c.in-Some.lease.now c.args.key.now c.self.inside.moment c.args.offered c.args.tag.now c.self.inside.line c.ready.new.line c.ready.result c.ready.ensures.readies)

@@ -1,4 +1,4 @@
-use Rattle.std.proofs.Common.{rules, length, ◌≡◌, ◌≢◌, [], ap, subst, ◌∙◌, Ok}
+use Rattle.std.proofs.Common.{rules, refl, length, ◌≡◌, ◌≢◌, [], ap, subst, ◌∙◌, Ok}
 use Rattle.std.specs.Option.{option_map}
 use Rattle.cv_base.specs.Path.{parent}
 use Rattle.cv_base.specs.Told.{WhereTold}
@@ -8,7 +8,7 @@ use Rattle.cv_graft.specs.Way.{Tells}
 use Rattle.cv_objects.specs.Names.{standing_on}
 use Rattle.cv_desk.specs.Refusals.{reply_of, is_unread}
 use Rattle.cv_desk.proofs.Exact.{unread_from}
-use Rattle.cv_desk.proofs.Reading.{place_found, placed_root, placed_below}
+use Rattle.cv_desk.proofs.Reading.{place_found, placed_root, placed_below, fetched_none, fetched_way}
 use Rattle.cv_desk.proofs.gate_state.GateState.has_place.Goals as goal
 
 pub returns-in-Ok-directory_at-clause-place : goal.returns-in-Ok-directory_at-clause-place
@@ -36,3 +36,22 @@ returns-in-Ok-directory_at-clause-sees g c =
     let root : c.head.result.root ≡ c.args.self.now.line.head.root = search rules in
     let vaults : c.self.inside.line.vault ≡ c.args.self.now.line.vault = search rules in
     placed_below g.V.Vault.disk c.args.self.now c.self.inside.line.vault c.args.path.now c.into_parent-parent.result c.head.result.root some above root vaults c.directory_at.result c.in-Ok-directory_at.there c.in-Ok-directory_at.is c.directory_at.ensures.found
+
+pub returns-then-is_empty-clause-fetches : goal.returns-then-is_empty-clause-fetches
+returns-then-is_empty-clause-fetches g c = fetched_none g.V.Vault.disk c.args.self.now c.args.self.now c.args.path.now refl
+
+pub returns-in-Ok-directory_at-clause-fetches : goal.returns-in-Ok-directory_at-clause-fetches
+returns-in-Ok-directory_at-clause-fetches g c =
+    let some : c.args.path.now ≢ [] = search rules in
+    let above : c.into_parent-parent.result ≡ parent c.args.path.now = search rules in
+    let root : c.head.result.root ≡ c.args.self.now.line.head.root = search rules in
+    let vaults : c.self.inside.line.vault ≡ c.args.self.now.line.vault = search rules in
+    fetched_way g.V.Vault.disk c.args.self.now c.args.path.now c.into_parent-parent.result c.head.result.root some above root c.self.inside.line.vault c.self.inside.line.taken c.directory_at.new.shelf.taken vaults (search rules) c.directory_at.ensures.taken
+
+pub returns-clause-fetches : goal.returns-clause-fetches
+returns-clause-fetches g c =
+    let some : c.args.path.now ≢ [] = search rules in
+    let above : c.into_parent-parent.result ≡ parent c.args.path.now = search rules in
+    let root : c.head.result.root ≡ c.args.self.now.line.head.root = search rules in
+    let vaults : c.self.inside.line.vault ≡ c.args.self.now.line.vault = search rules in
+    fetched_way g.V.Vault.disk c.args.self.now c.args.path.now c.into_parent-parent.result c.head.result.root some above root c.self.inside.line.vault c.self.inside.line.taken c.directory_at.new.shelf.taken vaults (search rules) c.directory_at.ensures.taken

@@ -7,5 +7,5 @@ returns-clause-acts g c = lease_acts g.V.Vault.disk g.V.Vault.count g.V.Vault.le
     c.args.key.now c.args.path.now c.ask_lease.result c.ask_lease.ensures.asks
 
 pub returns-clause-answered : goal.returns-clause-answered
-returns-clause-answered g c = lease_answered g.V.Vault.disk g.V.Vault.count g.V.Vault.left c.args.key.now c.args.path.now c.args.now c.args.self.now c.age.new.self c.ask_lease.new.self c.ask_lease.result
+returns-clause-answered g c = lease_answered g.V.Vault.disk g.V.Vault.count g.V.Vault.left g.S.Signer.is_seal c.args.key.now c.args.path.now c.args.now c.args.self.now c.age.new.self c.ask_lease.new.self c.ask_lease.result
     c.age.ensures c.ask_lease.ensures.asks c.ask_lease.ensures.damage

@@ -1,8 +1,9 @@
 use Rattle.std.proofs.Common.{rules, refl, ap}
 use Rattle.cv_vault.proofs.Laws.{stand}
 use Rattle.cv_desk.specs.Gate.{StateView}
+use Rattle.cv_desk.specs.Resuming.{certain}
 use Rattle.cv_desk.proofs.Settling.{settles_calm}
-use Rattle.cv_desk.proofs.Recovering.{recovers_over, recovers_not, recovers_unmade, recovers_made}
+use Rattle.cv_desk.proofs.Recovering.{recovers_over, recovers_not, recovers_unmade, recovers_made, awaits_over, resumes_lost, resumes_came}
 use Rattle.cv_desk.proofs.gate_state.GateState.settle.Goals as goal
 
 pub returns-then-not-in_doubt-clause-settles : goal.returns-then-not-in_doubt-clause-settles
@@ -29,3 +30,15 @@ returns-in-Ok-false-clause-keeps g c = recovers_over g.V.Vault.disk g.V.Vault.co
 
 pub returns-in-Err-clause-keeps : goal.returns-in-Err-clause-keeps
 returns-in-Err-clause-keeps g c = recovers_over g.V.Vault.disk g.V.Vault.count g.V.Vault.left g.S.Signer.is_seal c.args.self.now c.self.inside.line c.self.inside.leases c.self.inside.moment c.self.inside.next c.self.view_is (search rules) c.recover.new.self c.recover.result c.recover.ensures.walks _ refl
+
+pub returns-then-not-in_doubt-clause-resumes : goal.returns-then-not-in_doubt-clause-resumes
+returns-then-not-in_doubt-clause-resumes g c = certain (search rules) refl
+
+pub returns-in-Ok-true-clause-resumes : goal.returns-in-Ok-true-clause-resumes
+returns-in-Ok-true-clause-resumes g c = resumes_came g.V.Vault.disk g.V.Vault.count g.V.Vault.left g.S.Signer.is_seal c.args.self.now c.self.inside.line c.self.inside.leases c.self.inside.moment c.self.inside.next c.self.view_is (search rules) c.recover.new.self c.recover.result c.recover.ensures.walks (search rules) (search rules) c.end_newest.new.self c.end_newest.ensures
+
+pub returns-in-Ok-false-clause-resumes : goal.returns-in-Ok-false-clause-resumes
+returns-in-Ok-false-clause-resumes g c = resumes_lost g.V.Vault.disk g.V.Vault.count g.V.Vault.left g.S.Signer.is_seal c.args.self.now c.self.inside.line c.self.inside.leases c.self.inside.moment c.self.inside.next c.self.view_is (search rules) c.recover.new.self c.recover.result c.recover.ensures.walks (search rules) (search rules)
+
+pub returns-in-Err-clause-awaits : goal.returns-in-Err-clause-awaits
+returns-in-Err-clause-awaits g c = λ fault is. awaits_over g.V.Vault.disk g.V.Vault.count g.V.Vault.left g.S.Signer.is_seal c.args.self.now c.self.inside.line c.self.inside.leases c.self.inside.moment c.self.inside.next c.self.view_is (search rules) c.recover.new.self c.recover.result c.recover.ensures.walks fault (search rules) (search rules)
