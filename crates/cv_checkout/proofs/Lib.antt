@@ -5,3 +5,4 @@ pub mod Counting
 pub mod Ending
 pub mod Steps
 pub mod Gifts
+pub mod Lemmas

@@ -51,6 +51,15 @@ impl KeyTable {
         Ok(KeyTable { keys })
     }
 
+    /// The number of the first key: each table has one.
+    pub fn first(&self) -> KeyNo
+        ensures number { result.0 ≡ 0 }
+        ensures within { result.0 < length self.now }
+    {
+        let _ = &self.keys;
+        KeyNo(0)
+    }
+
     /// The key of this number.
     pub fn key(&self, key: KeyNo) -> &Key
         requires { key.0 < length self.now }

@@ -1,5 +1,5 @@
 -- The contents of changes, with one node more.
-use Rattle.std.proofs.Common.{◌≡◌, ℕ, suc, zero, true, false, cond, ◌||◌, ◌⊎◌, inl, inr, List, [], ◌∷◌, ◌++◌, length, refl, sym, ap, subst, ◌∙◌}
+use Rattle.std.proofs.Common.{◌≡◌, ◌≤◌, ℕ, suc, zero, true, false, cond, ◌||◌, ◌⊎◌, inl, inr, List, [], ◌∷◌, ◌++◌, length, refl, sym, ap, subst, ◌∙◌}
 use Rattle.std.specs.Prelude.{Some, None, bytes_eq, slice_get}
 use Rattle.std.specs.Ordering.{eq_by_cmp}
 use Rattle.std.specs.Cmp.{tied_itself}
@@ -110,6 +110,7 @@ has_to (o ∷ os) h e = elim (bytes_eq o.id.hash h) as (λ b. bytes_eq o.id.hash
 plain_added : (c : Nodes) (os : List Object) (q : Path) (node : Node) → AreContents c os → get c q ≡ None → ((h : List ℕ) → IsNew q node h → ⊥) → AreContents (insert c q node) os
 plain_added c os q node h free other = record {
   own = h.own;
+  sizes = h.sizes;
   once = h.once;
   only = λ i o e. still_file c q node o.id.hash free (h.only i o e);
   all = λ hash f. elim (split_file c q node hash f) [ inl old ↦ h.all hash old | inr new ↦ absurd (other hash new) ];
@@ -131,13 +132,14 @@ new_hash attr a file f h e k = let same : file ≡ f = cc in ap (λ (x : FileRef
 
 -- a file of this content, whose content is there or comes
 content_added : (c : Nodes) (os : List Object) (q : Path) (attr : Attr) (file : FileRef) (content : List ℕ) → AreContents c os → get c q ≡ None → is_whiteout (last_name_of q) ≡ false → file.hash ≡ sha1 content
-    → AreContents (insert c q (File attr file)) (with_content os content)
-content_added c os q attr file content h free plain is =
+    → length content ≤ 16777216 → AreContents (insert c q (File attr file)) (with_content os content)
+content_added c os q attr file content h free plain is small =
     let new : Nodes = insert c q (File attr file) in
     let mine : IsFileOf new (sha1 content) = record { path = q; attr = attr; file = file; is = is_named new q _ plain (get-insert path_total c q (File attr file) q ∙ rw (itself q) refl); hash = is } in
     elim (has_hash os (sha1 content)) as (λ b. has_hash os (sha1 content) ≡ b → AreContents new (cond b os (os ++ record { id = object_id (sha1 content) Plain; bytes = content } ∷ []))) [
       | true ↦ λ there. record {
         own = h.own;
+        sizes = h.sizes;
         once = h.once;
         only = λ i o e. still_file c q _ o.id.hash free (h.only i o e);
         all = λ hash f. elim (split_file c q _ hash f) [
@@ -150,6 +152,7 @@ content_added c os q attr file content h free plain is =
           let o : Object = record { id = object_id (sha1 content) Plain; bytes = content } in
           record {
             own = λ i x e. elim (push_get os o x i e) [ inl old ↦ h.own i x old | inr n ↦ subst (λ (y : Object). y.id ≡ object_id (sha1 y.bytes) Plain) n.1 refl ];
+            sizes = λ i x e. elim (push_get os o x i e) [ inl old ↦ h.sizes i x old | inr n ↦ subst (λ (y : Object). length y.bytes ≤ 16777216) n.1 small ];
             once = λ i j x y ei ej same. elim (push_get os o x i ei) [
               | inl oldi ↦ elim (push_get os o y j ej) [
                 | inl oldj ↦ h.once i j x y oldi oldj same
@@ -175,17 +178,18 @@ content_added c os q attr file content h free plain is =
     twice os hash i x lacks e is = let wrong : true ≡ false = sym (has_from os i x hash e is) ∙ lacks in cc
 
 pub file_added : (c new : Nodes) (os kept : List Object) (q : Path) (attr : Attr) (file : FileRef) (content : List ℕ) → AreContents c os → new ≡ insert c q (File attr file) → get c q ≡ None
-    → file.hash ≡ sha1 content → kept ≡ kept_content os q content → AreContents new kept
-file_added c new os kept q attr file content h is free hash keeps =
+    → file.hash ≡ sha1 content → kept ≡ kept_content os q content → length content ≤ 16777216 → AreContents new kept
+file_added c new os kept q attr file content h is free hash keeps small =
     rw (is, keeps) (elim (is_whiteout (last_name_of q)) as (λ b. is_whiteout (last_name_of q) ≡ b → AreContents (insert c q (File attr file)) (cond b os (with_content os content))) [
       | true ↦ λ w. plain_added c os q _ h free (λ k n. let wrong : true ≡ false = sym w ∙ n.plain in cc)
-      | false ↦ λ w. content_added c os q attr file content h free w hash
+      | false ↦ λ w. content_added c os q attr file content h free w hash small
     ] refl)
 
 -- the folder itself has no content
 pub nothing_added : (attr : Attr) (new : Nodes) → new ≡ single (Dir attr) → AreContents new []
 nothing_added attr new is = rw is (record {
   own = λ i o e. cc;
+  sizes = λ i o e. cc;
   once = λ i j o p ei ej same. cc;
   only = λ i o e. cc;
   all = λ hash f. absurd (no_file hash f);

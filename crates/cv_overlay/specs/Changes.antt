@@ -1,5 +1,5 @@
 -- Changes: the entries of a folder, and the contents of its files.
-use Rattle.std.specs.Prelude.{◌≡◌, ℕ, List, Some, slice_get}
+use Rattle.std.specs.Prelude.{◌≡◌, ◌≤◌, ℕ, List, Some, length, slice_get}
 use Rattle.sha1.specs.Sha1.{sha1}
 use Rattle.cv_base.specs.Path.{Path}
 use Rattle.cv_base.specs.declared.attr.Attr.{Attr}
@@ -24,9 +24,10 @@ pub record IsFileOf (c : Nodes) (digest : List ℕ) : Type 0 where
   pub is : named c path ≡ Some (File attr file)
   pub hash : file.hash ≡ digest
 
--- the contents of the files that aren't whiteouts, each id once
+-- the contents of the files that aren't whiteouts, each id once, and none of more than 16 MiB
 pub record AreContents (c : Nodes) (objects : List Object) : Type 0 where
   pub own : (i : ℕ) (o : Object) → slice_get objects i ≡ Some o → o.id ≡ object_id (sha1 o.bytes) Plain
+  pub sizes : (i : ℕ) (o : Object) → slice_get objects i ≡ Some o → length o.bytes ≤ 16777216
   pub once : (i j : ℕ) (o p : Object) → slice_get objects i ≡ Some o → slice_get objects j ≡ Some p → o.id ≡ p.id → i ≡ j
   pub only : (i : ℕ) (o : Object) → slice_get objects i ≡ Some o → IsFileOf c o.id.hash
   pub all : (hash : List ℕ) → IsFileOf c hash → (i : ℕ) × (o : Object) × (slice_get objects i ≡ Some o) × (o.id ≡ object_id hash Plain)

@@ -1,5 +1,6 @@
 //! Changes.
 ghost use Rattle.std.specs.Prelude.{◌≡◌};
+ghost use Rattle.cv_overlay.specs.Changes.{AreContents};
 
 use cv_base::{Items, Object};
 use cv_tree::Tree;
@@ -33,9 +34,10 @@ impl Model for Changes {
 }
 
 impl Changes {
-    /// The contents of the files that the folder names, each id once.
+    /// The contents of the files that the folder names, each id once, and none of more than 16 MiB.
     pub fn objects(&self) -> &[Object]
-        ensures { result.now ≡ self.now.objects }
+        ensures value { result.now ≡ self.now.objects }
+        ensures contents { AreContents self.now.nodes self.now.objects }
     {
         self.objects.as_slice()
     }
