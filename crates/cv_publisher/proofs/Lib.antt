@@ -1,0 +1,11 @@
+mod Assembled
+mod Fronts
+mod Held
+mod Missing
+mod Objects
+mod Orders
+mod Payloads
+mod Publishing
+mod Replying
+mod Served
+mod Talking

@@ -1,0 +1,9 @@
+pub mod Assembling
+pub mod Faults
+pub mod Holding
+pub mod Packing
+pub mod Replies
+pub mod Requests
+pub mod Taking
+pub mod Talks
+pub mod Wanting

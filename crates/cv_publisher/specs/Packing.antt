@@ -1,0 +1,54 @@
+-- What is sent in packs, and in which order.
+use Rattle.std.specs.Prelude.{◌≡◌, ◌≢◌, ◌≤◌, ◌<◌, ℕ, false, List, [], ◌∷◌, ◌++◌, length, map, All, AllPairs, Contains, slice_get, option_to_list, Option, Some, IsSome}
+use Rattle.std.specs.List.Sorted.{IsStrictlySortedBy}
+use Rattle.sha1.specs.Sha1.{sha1}
+use Rattle.cv_base.specs.Path.{name_cmp}
+use Rattle.cv_base.specs.ObjectId.{id_text}
+use Rattle.cv_base.specs.declared.id.Kind.TheVariants.{Catalogue, History}
+use Rattle.cv_base.specs.declared.object.Object.{Object}
+use Rattle.cv_pack.specs.Pack.{contents_size, has_room, ids}
+
+-- the texts of the ids of objects
+abbrev pub id_texts : List Object → List (List ℕ)
+id_texts os = map (λ o. id_text o.id) os
+
+-- the objects at these places of a list; a place that isn't there has none
+abbrev pub objects_at : List Object → List ℕ → List Object
+objects_at all [] = []
+objects_at all (place ∷ places) = option_to_list (slice_get all place) ++ objects_at all places
+
+-- objects in ascending order of the texts of their ids: each is one of all, and of each id that one of all has there is one
+pub record AreInOrder (all os : List Object) : Type 0 where
+  pub ascend : IsStrictlySortedBy name_cmp (id_texts os)
+  pub only : (o : Object) → Contains os o → Contains all o
+  pub each : (o : Object) → Contains all o → Contains (id_texts os) (id_text o.id)
+
+-- an object that a pack may have: its id is that of its bytes, it is no record of the history, and it has at most 16 MiB
+pub record IsOwn (o : Object) : Type 0 where
+  pub hash : o.id.hash ≡ sha1 o.bytes
+  pub kind : o.id.kind ≢ History
+  pub size : length o.bytes ≤ 16777216
+
+-- a catalogue, of no more bytes than it may have
+pub record IsCatalogueObject (o : Object) : Type 0 where
+  pub kind : o.id.kind ≡ Catalogue
+  pub size : length o.bytes ≤ 16777216
+
+-- these places are there, and have objects of different ids that packs may have
+pub record AreSendable (all : List Object) (places : List ℕ) : Type 0 where
+  pub there : All (λ place. place < length all) places
+  pub own : All IsOwn (objects_at all places)
+  pub apart : AllPairs (λ a b. a ≢ b) (ids (objects_at all places))
+
+-- the front of these objects that one pack takes: it keeps the limits of a pack, and no longer front does
+pub record IsFront (os pack rest : List Object) : Type 0 where
+  pub split : os ≡ pack ++ rest
+  pub count : length pack ≤ 10000
+  pub sizes : All (λ o. length o.bytes ≤ 16777216) pack
+  pub total : contents_size pack ≤ 33554432
+  pub longest : (next : Object) (more : List Object) → rest ≡ next ∷ more → has_room pack next.bytes ≡ false
+
+-- a search by text finds a place of the text, where it is one of the first of these
+pub record FindsFirst (texts : List (List ℕ)) (count : ℕ) (find : List ℕ → Option ℕ) : Type 0 where
+  pub found : (text : List ℕ) (place : ℕ) → find text ≡ Some place → slice_get texts place ≡ Some text
+  pub known : (text : List ℕ) (place : ℕ) → place < count → slice_get texts place ≡ Some text → IsSome (find text)

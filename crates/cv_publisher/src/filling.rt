@@ -1,0 +1,89 @@
+//! Packs that are filled.
+ghost use Rattle.std.specs.Prelude.{◌≡◌, ◌≢◌, ◌≤◌, ◌<◌, ◌+◌, ◌++◌, [], Some, IfOk, length, slice_get, take, drop};
+ghost use Rattle.cv_pack.specs.Pack.{contents_size};
+ghost use Rattle.cv_publisher.specs.Packing.{AreSendable, IsFront, objects_at};
+
+use cv_base::{NoMemory, Object};
+use cv_pack::PackWriter;
+use std::alloc::Global;
+
+/// The most objects of a pack.
+const COUNT_LIMIT: usize = 10_000;
+
+/// The most bytes of one content.
+pub(crate) const SIZE_LIMIT: usize = 16_777_216;
+
+/// The most bytes of all contents of a pack.
+const TOTAL_LIMIT: usize = 33_554_432;
+
+/// The front of objects that one pack takes.
+#[derive(Drop)]
+pub(crate) struct Front {
+    /// How many they are.
+    pub count: usize,
+    /// How many bytes they have.
+    pub size: usize,
+}
+
+/// The object at a place: contents come first, and catalogues behind them.
+pub(crate) fn object_at<'a>(
+    contents: &'a [Object],
+    catalogues: &'a [Object],
+    place: usize,
+) -> &'a Object
+    requires { place < length contents.now + length catalogues.now }
+    ensures { slice_get (contents.now ++ catalogues.now) place ≡ Some result.now }
+{
+    if place < contents.len() {
+        &contents[place]
+    } else {
+        &catalogues[place - contents.len()]
+    }
+}
+
+/// The longest front of the objects at these places that one pack takes.
+pub(crate) fn front_of(contents: &[Object], catalogues: &[Object], left: &[usize]) -> Front
+    requires { AreSendable (contents.now ++ catalogues.now) left.now }
+    ensures front { IsFront (objects_at (contents.now ++ catalogues.now) left.now)
+        (objects_at (contents.now ++ catalogues.now) (take result.count left.now))
+        (objects_at (contents.now ++ catalogues.now) (drop result.count left.now)) }
+    ensures within { result.count ≤ length left.now }
+    ensures some { left.now ≢ [] → 0 < result.count }
+    ensures size { result.size ≡ contents_size (objects_at (contents.now ++ catalogues.now) (take result.count left.now)) }
+{
+    let mut size = 0;
+    for (count, place) in left.iter().enumerate() {
+        let length = object_at(contents, catalogues, *place)
+            .bytes
+            .as_slice()
+            .len();
+        if count >= COUNT_LIMIT || length > SIZE_LIMIT || size + length > TOTAL_LIMIT {
+            return Front { count, size };
+        }
+        size += length;
+    }
+    Front {
+        count: left.len(),
+        size,
+    }
+}
+
+/// A pack of the objects at these places.
+pub(crate) fn filled(
+    alloc: Global,
+    contents: &[Object],
+    catalogues: &[Object],
+    places: &[usize],
+) -> Result<PackWriter, NoMemory>
+    requires { AreSendable (contents.now ++ catalogues.now) places.now }
+    ensures { IfOk result (λ writer. writer ≡ objects_at (contents.now ++ catalogues.now) places.now) }
+{
+    let mut writer = PackWriter::new(alloc);
+    for place in places {
+        let object = object_at(contents, catalogues, *place);
+        if writer.add(&object.id, object.bytes.as_slice()).is_err() {
+            return Err(NoMemory);
+        }
+    }
+    Ok(writer)
+}

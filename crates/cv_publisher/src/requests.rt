@@ -1,0 +1,240 @@
+//! The requests of a publisher.
+ghost use Rattle.std.specs.Prelude.{◌≡◌, ◌≢◌, ◌≤◌, ◌++◌, [], IfOk, codes, length, string_bytes};
+ghost use Rattle.cv_base.specs.Token.{token_text};
+ghost use Rattle.cv_pack.specs.Pack.{contents_size, header_bytes, pack_bytes};
+ghost use Rattle.cv_publisher.specs.Packing.{AreSendable, objects_at};
+ghost use Rattle.cv_publisher.specs.Requests.{SendsFront, cancel_request, commit_message, commit_request, file_request, file_target, lease_message, lease_request, lease_target, manifest_request, object_request, payload_message, payload_request, signature};
+
+use crate::filling::{filled, front_of};
+use crate::plan::Plan;
+use cv_base::{Bytes, Name, NoMemory, Object, ObjectId, RepoPath, Text, Token};
+use cv_http::{Outgoing, Verb};
+use cv_keys::KeyTable;
+use cv_messages::{CommitAsk, LeaseAsk, PayloadAsk};
+use sha1::Sha1;
+use std::alloc::Global;
+
+/// The header by which the first key signs a message.
+fn signature(alloc: Global, keys: &KeyTable, message: &[u8]) -> Result<Option<Text>, NoMemory>
+    ensures { IfOk result (λ header. header ≡ signature keys.now message.now) }
+{
+    let header = keys.header(alloc, keys.first(), message)?;
+    Ok(Some(Text::new(header)))
+}
+
+/// The message that asks for a lease.
+fn lease_message(alloc: Global, name: &Name, path: &RepoPath) -> Result<Vec<u8>, NoMemory>
+    ensures { IfOk result (λ message. message.items ≡ lease_message name.now path.now) }
+{
+    let mut text = String::from_str(alloc, name.text())?;
+    text.push_str(path.text(alloc)?.as_str())?;
+    let ask = LeaseAsk {
+        path: Text::new(text),
+    };
+    ask.write(alloc)
+}
+
+/// The request for a lease on the path.
+pub(crate) fn lease_request(
+    alloc: Global,
+    keys: &KeyTable,
+    plan: &Plan,
+) -> Result<Outgoing, NoMemory>
+    ensures { IfOk result (λ request. request ≡ lease_request keys.now plan.now) }
+{
+    let message = lease_message(alloc, &plan.name, &plan.path)?;
+    Ok(Outgoing {
+        method: Verb::Post,
+        host: plan.host.copy(alloc)?,
+        target: Text::from_str(alloc, "/api/v1/leases")?,
+        authorization: signature(alloc, keys, &message)?,
+        message_size: None,
+        body: Bytes::new(message),
+    })
+}
+
+/// The target of a file of a repository.
+fn file_target(alloc: Global, name: &Name, file: &str) -> Result<String, NoMemory>
+    ensures { IfOk result (λ text. string_bytes text ≡ file_target name.now file.now) }
+{
+    let mut text = String::from_str(alloc, "/cvmfs/")?;
+    text.push_str(name.text())?;
+    text.push_str("/")?;
+    text.push_str(file)?;
+    Ok(text)
+}
+
+/// The request for a file of the repository.
+fn file_request(alloc: Global, plan: &Plan, file: &str) -> Result<Outgoing, NoMemory>
+    ensures { IfOk result (λ request. request ≡ file_request plan.now file.now) }
+{
+    Ok(Outgoing {
+        method: Verb::Get,
+        host: plan.host.copy(alloc)?,
+        target: Text::new(file_target(alloc, &plan.name, file)?),
+        authorization: None,
+        message_size: None,
+        body: Bytes::new(Vec::new(alloc)),
+    })
+}
+
+/// The request for the manifest.
+pub(crate) fn manifest_request(alloc: Global, plan: &Plan) -> Result<Outgoing, NoMemory>
+    ensures { IfOk result (λ request. request ≡ manifest_request plan.now) }
+{
+    file_request(alloc, plan, ".cvmfspublished")
+}
+
+/// The request for an object.
+pub(crate) fn object_request(
+    alloc: Global,
+    plan: &Plan,
+    id: &ObjectId,
+) -> Result<Outgoing, NoMemory>
+    ensures { IfOk result (λ request. request ≡ object_request plan.now id.now) }
+{
+    let file = id.file_name(alloc)?;
+    file_request(alloc, plan, file.as_str())
+}
+
+/// The message of a payload, by its pack and the bytes of the contents in it.
+fn payload_message(
+    alloc: Global,
+    token: Token,
+    pack: &[u8],
+    size: usize,
+) -> Result<Vec<u8>, NoMemory>
+    requires { size ≤ length pack.now }
+    ensures { (os : _) → pack.now ≡ pack_bytes os → size ≡ contents_size os → IfOk result (λ message. message.items ≡ payload_message token os) }
+{
+    let (header, _) = pack.split_at(pack.len() - size);
+    let ask = PayloadAsk {
+        token: Text::new(token.text(alloc)?),
+        digest: Sha1::digest(header),
+        header_size: header.len() as u64,
+    };
+    ask.write(alloc)
+}
+
+/// The request that sends a pack, in which the contents have so many bytes.
+fn pack_request(
+    alloc: Global,
+    keys: &KeyTable,
+    plan: &Plan,
+    token: Token,
+    pack: &[u8],
+    size: usize,
+) -> Result<Outgoing, NoMemory>
+    requires { size ≤ length pack.now }
+    ensures { (os : _) → pack.now ≡ pack_bytes os → size ≡ contents_size os → IfOk result (λ request. request ≡ payload_request keys.now plan.now token os) }
+{
+    let mut body = payload_message(alloc, token, pack, size)?;
+    let authorization = signature(alloc, keys, &body)?;
+    let message_size = body.len() as u64;
+    body.extend_from_slice(pack)?;
+    Ok(Outgoing {
+        method: Verb::Post,
+        host: plan.host.copy(alloc)?,
+        target: Text::from_str(alloc, "/api/v1/payloads")?,
+        authorization,
+        message_size: Some(message_size),
+        body: Bytes::new(body),
+    })
+}
+
+/// The request that sends the first of the objects that are left, as many as one pack takes.
+pub(crate) fn payload_request(
+    alloc: Global,
+    keys: &KeyTable,
+    plan: &Plan,
+    token: Token,
+    catalogues: &[Object],
+    left: &[usize],
+) -> Result<Outgoing, NoMemory>
+    requires sendable { AreSendable (plan.now.changes.objects ++ catalogues.now) left.now }
+    requires some { left.now ≢ [] }
+    ensures { IfOk result (SendsFront keys.now plan.now token (objects_at (plan.now.changes.objects ++ catalogues.now) left.now)) }
+{
+    let contents = plan.changes.objects();
+    let front = front_of(contents, catalogues, left);
+    let (places, _) = left.split_at(front.count);
+    let pack = filled(alloc, contents, catalogues, places)?.finish()?;
+    pack_request(alloc, keys, plan, token, pack.as_slice(), front.size)
+}
+
+/// The target of a lease.
+fn lease_target(alloc: Global, token: &str) -> Result<String, NoMemory>
+    ensures { IfOk result (λ text. string_bytes text ≡ codes "/api/v1/leases/" ++ token.now) }
+{
+    let mut text = String::from_str(alloc, "/api/v1/leases/")?;
+    text.push_str(token)?;
+    Ok(text)
+}
+
+/// A request to the lease of a token, whose text is signed.
+fn token_request(
+    alloc: Global,
+    keys: &KeyTable,
+    plan: &Plan,
+    method: Verb,
+    token: Token,
+    body: Vec<u8>,
+) -> Result<Outgoing, NoMemory>
+    ensures { IfOk result (λ request. request ≡ record {
+      method = method;
+      host = plan.now.host;
+      target = lease_target token;
+      authorization = signature keys.now (token_text token);
+      message_size = None;
+      body = body.items;
+    }) }
+{
+    let text = token.text(alloc)?;
+    Ok(Outgoing {
+        method,
+        host: plan.host.copy(alloc)?,
+        target: Text::new(lease_target(alloc, text.as_str())?),
+        authorization: signature(alloc, keys, text.as_bytes())?,
+        message_size: None,
+        body: Bytes::new(body),
+    })
+}
+
+/// The message of a commit of this root, made on that one, without a tag.
+fn commit_message(alloc: Global, base: [u8; 20], root: [u8; 20]) -> Result<Vec<u8>, NoMemory>
+    ensures { IfOk result (λ message. message.items ≡ commit_message base root) }
+{
+    let ask = CommitAsk {
+        old_root: base,
+        new_root: root,
+        tag: Text::new(String::new(alloc)),
+    };
+    ask.write(alloc)
+}
+
+/// The request for the commit of this root, made on that one.
+pub(crate) fn commit_request(
+    alloc: Global,
+    keys: &KeyTable,
+    plan: &Plan,
+    token: Token,
+    base: [u8; 20],
+    root: [u8; 20],
+) -> Result<Outgoing, NoMemory>
+    ensures { IfOk result (λ request. request ≡ commit_request keys.now plan.now token base root) }
+{
+    let message = commit_message(alloc, base, root)?;
+    token_request(alloc, keys, plan, Verb::Post, token, message)
+}
+
+/// The request for the end of the lease.
+pub(crate) fn cancel_request(
+    alloc: Global,
+    keys: &KeyTable,
+    plan: &Plan,
+    token: Token,
+) -> Result<Outgoing, NoMemory>
+    ensures { IfOk result (λ request. request ≡ cancel_request keys.now plan.now token) }
+{
+    token_request(alloc, keys, plan, Verb::Delete, token, Vec::new(alloc))
+}
