@@ -62,7 +62,7 @@ asks head o now r is_op types below is v seen =
       record { seat = seen.seat; shared = seen.shared; run = run; free = rw seen.free refl; certain = seen.certain; room = seen.room; heads = refl; last = known head v seen },
       (
         v',
-        made others mid own (record { run = behind; theirs = rw seen.seat refl; alone = λ is. absurd (not_alone head v seen is) }) (sym seen.seat) refl (sym is) second
+        made others mid own (record { run = behind; theirs = rw seen.seat refl; alone = λ is. absurd (not_alone head v seen is) }) (λ is. absurd (not_alone head v seen is)) (sym seen.seat) refl (sym is) second
             (record { view = refl; heads = subst (λ (heads : List Head). IsFront v.heads heads) seen.heads (front_self v.heads) }),
         refl,
       ),
@@ -98,4 +98,20 @@ pub fetches : (head : Head) (id : ObjectId) → SeatDoes head (fetched id (Err N
 fetches head id v seen = (learned v, still head v seen, (learned v, (learns head v seen, tt), refl))
 
 pub tells : (head : Head) → SeatDoes head (told head ∷ []) head
-tells head v seen = (v, seen, (v, record { view = refl; heads = front_self v.heads; last = seen.last; alone = λ is. refl }, refl))
+tells head v seen = (
+  v,
+  seen,
+  (
+    v,
+    record {
+      entries = v.seen;
+      state = v.state;
+      run = seen.run;
+      view = ap (λ (l : List Head). record v { heads = l }) seen.heads;
+      heads = front_self v.heads;
+      last = seen.last;
+      alone = λ is. refl;
+    },
+    refl,
+  ),
+)

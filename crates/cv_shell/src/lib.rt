@@ -13,6 +13,6 @@ mod turn;
 
 pub use line::{Line, read_line};
 pub use lines::{LINE_LIMIT, LineFault, Lines};
-pub use printing::fault_text;
+pub use printing::{count_line, fault_text};
 pub use serving::shell;
 pub use shell_end::ShellEnd;

@@ -9,7 +9,7 @@ use cv_resolver::{ClientFault, Found, RenewFault};
 use std::alloc::Global;
 
 /// A word and a number, as a line.
-pub(crate) fn count_line(alloc: Global, word: &str, count: u64) -> Result<Vec<u8>, NoMemory>
+pub fn count_line(alloc: Global, word: &str, count: u64) -> Result<Vec<u8>, NoMemory>
     ensures { IfOk result (λ line. line.items ≡ count_line word.now count) }
 {
     let mut out = Vec::from_slice(alloc, word.as_bytes())?;

@@ -15,6 +15,7 @@ use Rattle.cv_resolver.specs.declared.found.Found.{Found}
 use Rattle.cv_resolver.specs.declared.found.ClientFault.{ClientFault}
 use Rattle.cv_resolver.specs.declared.found.ClientFault.TheVariants as client_fault
 use Rattle.cv_client.specs.Served.{IsWhole}
+use Rattle.cv_client.specs.Texts.{found_text}
 use Rattle.cv_client.specs.declared.ask_fault.AskFault.{AskFault}
 use Rattle.cv_client.specs.declared.ask_fault.AskFault.TheVariants as ask_fault
 use Rattle.cv_top.specs.Looks.{Prints, printed, unprinted, unwritten}
@@ -67,7 +68,7 @@ look_of_tree repository t q = finding_of_tree t q (trail repository t q).end
 
 module _ {W : Type 0} (taken : W → Option (List ℕ)) (repository : List ℕ) (t : Nodes) (q : Question) (output output' : W) where
   -- an answer was printed, or memory was wanted
-  pub print_ends : (found : Found) (status : Status) → status ≢ OutputFailed → IsFound (found_in repository t q) found → Prints taken found output output' status → Ends taken repository t q output output' status
+  pub print_ends : (found : Found) (status : Status) → status ≢ OutputFailed → IsFound (found_in repository t q) found → Prints taken (found_text found) output output' status → Ends taken repository t q output output' status
   print_ends found status fine is (printed whole) = record { so = (found, is, whole); whole = refl }
   print_ends found status fine is (unprinted part) = absurd (fine refl)
   print_ends found status fine is (unwritten same) = record { so = tt; whole = refl }

@@ -4,6 +4,7 @@ use Rattle.std.specs.declared.option.Option.{Option}
 use Rattle.std.specs.declared.option.Option.TheVariants.{Some}
 use Rattle.std.specs.declared.result.Result.TheVariants.{Ok, Err}
 use Rattle.cv_keys.specs.declared.key.Key.{Key}
+use Rattle.cv_ports.specs.Folder.{FolderView}
 use Rattle.cv_ports.specs.Streams.{Look}
 use Rattle.cv_vault.specs.Disk.{Disk, Files, files_now}
 use Rattle.cv_swap.specs.Init.{Answers}
@@ -19,14 +20,14 @@ use Rattle.cv_session.specs.declared.session_end.SessionEnd.TheVariants as sessi
 use Rattle.cv_desk.specs.Gate.{GateOpens}
 use Rattle.cv_top.specs.Complete.{Completes, IsVacant, ends_served, ends_made}
 use Rattle.cv_client.specs.Exchange.{Links}
-use Rattle.cv_top.specs.Runs.{Outside, Runs, Serves, Inits, HasKeys, usage, bad_keys, no_seal, unbegun, init, stdio, look, shell, ended, unopened, made, unsaid, refused}
+use Rattle.cv_top.specs.Runs.{Outside, Runs, Serves, Inits, HasKeys, usage, bad_keys, unsigned, no_seal, unbegun, init, stdio, look, shell, publish, ended, unopened, made, unsaid, refused}
 use Rattle.cv_top.specs.Seal.{is_seal_by}
 use Rattle.cv_top.specs.Status.{init_status, open_status, end_status}
 use Rattle.cv_top.specs.Words.{Asks}
 use Rattle.cv_top.specs.declared.status.Status.{Status}
 use Rattle.cv_top.specs.declared.status.Status.TheVariants.{InputFailed, OutputFailed, StoreFailed}
 use Rattle.cv_top.specs.declared.words.Command.TheVariants.{Init, Stdio}
-use Rattle.cv_top.proofs.Commands.{not_both, one_name, no_init, no_stdio, no_shell_init, no_shell_stdio}
+use Rattle.cv_top.proofs.Commands.{not_both, one_name, no_init, no_stdio, no_shell_init, no_shell_stdio, no_publish_init, no_publish_stdio}
 use Rattle.cv_top.proofs.Unserved.{RefusesFew}
 
 -- no failure of the outside is the status
@@ -67,7 +68,7 @@ module _ {V : Type 0} (disk : V → Option Disk) (count : V → ℕ) (left : V �
   why_refused name seal d k v v' x kept (inl opens) = refuses name (is_seal_by seal) (files_now d) k x kept opens.finds
   why_refused name seal d k v v' x kept (inr both) = subst MayRefuse (sym both.0) tt
 
-  module _ {R W C N : Type 0} (faults : V → ℕ) (rest : R → Option (List ℕ)) (looks : R → Look → Type 0) (taken passed : W → Option (List ℕ)) (moments : C → Option (ℕ → ℕ)) (words : List (List ℕ)) (keys seal : List ℕ) (a b : Outside V R W C N) where
+  module _ {R W C F N : Type 0} (faults : V → ℕ) (rest : R → Option (List ℕ)) (looks : R → Look → Type 0) (taken passed : W → Option (List ℕ)) (moments : C → Option (ℕ → ℕ)) (words : List (List ℕ)) (keys seal : List ℕ) (a b : Outside V R W C F N) where
     served_ends : (name : List ℕ) (table : List Key) (status : Status) (d : Disk) (k : Kept) → disk a.vault ≡ Some d → StandsKept name (is_seal_by seal) (files_now d) k
         → Serves disk count left faults rest looks taken passed moments name table seal a.vault b.vault a.input b.input a.output b.output a.clock b.clock status → Unfailed status → ends_served status ≡ true
     served_ends name table status d k told kept (ended gate desk' end opens new later talks served same) fine = by_session end fine
@@ -78,28 +79,32 @@ module _ {V : Type 0} (disk : V → Option Disk) (count : V → ℕ) (left : V �
     made_ends name status d told vacant (unsaid makes wrote) fine = absurd (fine.writes refl)
     made_ends name status d told vacant (refused x makes same) fine = by_making d vacant makes.now x (makes.makes d told).answers fine
 
-    serves : (came : N → Links) (status : Status) → Unfailed status → Runs disk count left faults rest looks taken passed moments came words keys seal a b status → (name : List ℕ) → Asks words (Stdio name) → HasKeys (Stdio name) keys → seal ≢ []
+    serves : (folder : F → Option FolderView) (came : N → Links) (status : Status) → Unfailed status → Runs disk count left faults rest looks taken passed moments folder came words keys seal a b status → (name : List ℕ) → Asks words (Stdio name) → HasKeys (Stdio name) keys → seal ≢ []
         → (d : Disk) (k : Kept) → disk a.vault ≡ Some d → StandsKept name (is_seal_by seal) (files_now d) k → ends_served status ≡ true
-    serves came status fine (usage never same) name asks has some d k told kept = absurd (never (record { command = Stdio name; asks = asks }))
-    serves came status fine (bad_keys other asked fault same) name asks has some d k told kept = (let e : Ok has.0 ≡ Err fault.fault = sym has.1 ∙ fault.is in absurd cc)
-    serves came status fine (no_seal command asked good empty same) name asks has some d k told kept = absurd (some empty)
-    serves came status fine (unbegun same) name asks has some d k told kept = refl
-    serves came status fine (init other how asked good inits same near) name asks has some d k told kept = absurd (not_both other name asked asks)
-    serves came status fine (look u q how asked good looked same) name asks has some d k told kept = absurd (no_stdio u q name asked asks)
-    serves came status fine (shell u how asked good answers same) name asks has some d k told kept = absurd (no_shell_stdio u name asked asks)
-    serves came status fine (stdio other table how asked are good served near) name asks has some d k told kept =
+    serves folder came status fine (usage never same) name asks has some d k told kept = absurd (never (record { command = Stdio name; asks = asks }))
+    serves folder came status fine (bad_keys other asked fault same) name asks has some d k told kept = (let e : Ok has.0 ≡ Err fault.fault = sym has.1 ∙ fault.is in absurd cc)
+    serves folder came status fine (unsigned u path root asked fault same) name asks has some d k told kept = absurd (no_publish_stdio u path root name asked asks)
+    serves folder came status fine (no_seal command asked good empty same) name asks has some d k told kept = absurd (some empty)
+    serves folder came status fine (unbegun same) name asks has some d k told kept = refl
+    serves folder came status fine (init other how asked good inits same still near) name asks has some d k told kept = absurd (not_both other name asked asks)
+    serves folder came status fine (look u q how asked good looked same) name asks has some d k told kept = absurd (no_stdio u q name asked asks)
+    serves folder came status fine (shell u how asked good answers same) name asks has some d k told kept = absurd (no_shell_stdio u name asked asks)
+    serves folder came status fine (publish u path root table how asked are good publishes same near) name asks has some d k told kept = absurd (no_publish_stdio u path root name asked asks)
+    serves folder came status fine (stdio other table how asked are good served still near) name asks has some d k told kept =
         let is : other ≡ name = one_name other name asked asks in
         served_ends other table how d k told (subst (λ n. StandsKept n (is_seal_by seal) (files_now d) k) (sym is) kept) served fine
 
-    makes : (came : N → Links) (status : Status) → Unfailed status → Runs disk count left faults rest looks taken passed moments came words keys seal a b status → (name : List ℕ) → Asks words (Init name) → seal ≢ [] → (d : Disk) → disk a.vault ≡ Some d → IsVacant d → ends_made status ≡ true
-    makes came status fine (usage never same) name asks some d told vacant = absurd (never (record { command = Init name; asks = asks }))
-    makes came status fine (bad_keys other asked fault same) name asks some d told vacant = absurd (not_both name other asks asked)
-    makes came status fine (no_seal command asked good empty same) name asks some d told vacant = absurd (some empty)
-    makes came status fine (unbegun same) name asks some d told vacant = refl
-    makes came status fine (init other how asked good inits same near) name asks some d told vacant = made_ends other how d told vacant inits fine
-    makes came status fine (look u q how asked good looked same) name asks some d told vacant = absurd (no_init u q name asked asks)
-    makes came status fine (shell u how asked good answers same) name asks some d told vacant = absurd (no_shell_init u name asked asks)
-    makes came status fine (stdio other table how asked are good served near) name asks some d told vacant = absurd (not_both name other asks asked)
+    makes : (folder : F → Option FolderView) (came : N → Links) (status : Status) → Unfailed status → Runs disk count left faults rest looks taken passed moments folder came words keys seal a b status → (name : List ℕ) → Asks words (Init name) → seal ≢ [] → (d : Disk) → disk a.vault ≡ Some d → IsVacant d → ends_made status ≡ true
+    makes folder came status fine (usage never same) name asks some d told vacant = absurd (never (record { command = Init name; asks = asks }))
+    makes folder came status fine (bad_keys other asked fault same) name asks some d told vacant = absurd (not_both name other asks asked)
+    makes folder came status fine (unsigned u path root asked fault same) name asks some d told vacant = absurd (no_publish_init u path root name asked asks)
+    makes folder came status fine (no_seal command asked good empty same) name asks some d told vacant = absurd (some empty)
+    makes folder came status fine (unbegun same) name asks some d told vacant = refl
+    makes folder came status fine (init other how asked good inits same still near) name asks some d told vacant = made_ends other how d told vacant inits fine
+    makes folder came status fine (look u q how asked good looked same) name asks some d told vacant = absurd (no_init u q name asked asks)
+    makes folder came status fine (shell u how asked good answers same) name asks some d told vacant = absurd (no_shell_init u name asked asks)
+    makes folder came status fine (publish u path root table how asked are good publishes same near) name asks some d told vacant = absurd (no_publish_init u path root name asked asks)
+    makes folder came status fine (stdio other table how asked are good served still near) name asks some d told vacant = absurd (not_both name other asks asked)
 
-    pub completes : (came : N → Links) (status : Status) → Unfailed status → Runs disk count left faults rest looks taken passed moments came words keys seal a b status → Completes words keys seal (disk a.vault) status
-    completes came status fine ran = record { serves = serves came status fine ran; makes = makes came status fine ran }
+    pub completes : (folder : F → Option FolderView) (came : N → Links) (status : Status) → Unfailed status → Runs disk count left faults rest looks taken passed moments folder came words keys seal a b status → Completes words keys seal (disk a.vault) status
+    completes folder came status fine ran = record { serves = serves folder came status fine ran; makes = makes folder came status fine ran }

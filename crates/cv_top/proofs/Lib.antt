@@ -1,10 +1,12 @@
 mod Answering
 mod Commands
 mod Completing
+mod Folders
 mod Headlines
 mod KeyFaults
 mod LineTelling
 mod Pinning
+mod Publishing
 mod Saying
 mod Sealing
 mod Serving

@@ -1,7 +1,7 @@
 -- Where no client is pinned, no question is refused.
 use Rattle.std.proofs.Common.{◌≡◌, Bool, true, false, List, ℕ, refl, ap}
 use Rattle.std.specs.declared.result.Result.{Result}
-use Rattle.std.specs.declared.result.Result.TheVariants.{Ok, Err}
+use Rattle.std.specs.declared.result.Result.TheVariants.{Err}
 use Rattle.cv_resolver.specs.Resolver.{Client}
 use Rattle.cv_resolver.specs.declared.found.ClientFault.{ClientFault}
 use Rattle.cv_client.specs.Exchange.{Links}

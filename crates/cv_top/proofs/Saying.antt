@@ -5,12 +5,13 @@ use Rattle.cv_ports.specs.Streams.{onto, Wrote}
 use Rattle.cv_ports.proofs.Streams.{onto_twice, wrote_front, wrote_back}
 use Rattle.cv_top.specs.Status.{line_of, said, what_of, detail_of}
 use Rattle.cv_top.specs.declared.status.Status.{Status}
-use Rattle.cv_top.specs.declared.status.Status.TheVariants.{Done, Usage, Repository, InputFailed, OutputFailed, StoreFailed, LinkFailed, JournalFull, NoAnswer, Served, BadReply, BadRequest, BadKeys, OutOfMemory}
+use Rattle.cv_top.specs.declared.status.Status.TheVariants.{Done, Usage, Repository, Refused, InputFailed, OutputFailed, StoreFailed, LinkFailed, JournalFull, NoAnswer, Served, BadReply, Changes, BadRequest, FolderFailed, BadKeys, OutOfMemory}
 
 pub line_is : (status : Status) → status ≢ Done → line_of status ≡ said (what_of status) (detail_of status)
 line_is Done other = absurd (other refl)
 line_is Usage other = refl
 line_is (Repository fault) other = refl
+line_is (Refused cause) other = refl
 line_is InputFailed other = refl
 line_is OutputFailed other = refl
 line_is StoreFailed other = refl
@@ -19,7 +20,9 @@ line_is JournalFull other = refl
 line_is (NoAnswer fault) other = refl
 line_is (Served fault) other = refl
 line_is BadReply other = refl
+line_is (Changes fault path) other = refl
 line_is BadRequest other = refl
+line_is FolderFailed other = refl
 line_is BadKeys other = refl
 line_is OutOfMemory other = refl
 

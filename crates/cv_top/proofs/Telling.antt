@@ -1,9 +1,10 @@
 -- What a client's command tells of the tree that is served.
-use Rattle.std.proofs.Common.{◌≡◌, Bool, true, false, ℕ, List, refl, ap, sym, ◌∙◌, arith}
+use Rattle.std.proofs.Common.{◌≡◌, Bool, true, false, ℕ, List, refl, arith}
 use Rattle.std.specs.declared.option.Option.{Option}
 use Rattle.std.specs.Prelude.{Some}
 use Rattle.std.specs.declared.result.Result.{Result}
 use Rattle.std.specs.declared.result.Result.TheVariants.{Ok, Err}
+use Rattle.cv_ports.specs.Folder.{FolderView}
 use Rattle.cv_ports.specs.Streams.{Look}
 use Rattle.cv_vault.specs.Disk.{Disk, Files}
 use Rattle.cv_tree.specs.Tree.{Nodes}
@@ -22,9 +23,10 @@ use Rattle.cv_client.specs.declared.ask_fault.AskFault.TheVariants as ask_fault
 use Rattle.cv_client.specs.declared.exchanging.ExchangeFault.TheVariants as exchange_fault
 use Rattle.cv_client.specs.declared.url.Url.{Url}
 use Rattle.cv_shell.specs.Tells.{IsServed}
+use Rattle.cv_client.specs.Texts.{found_text}
 use Rattle.cv_client.specs.Told.{Told, pinned, unpinned}
 use Rattle.cv_top.specs.Looks.{Prints, printed, unprinted, unwritten, Looks, answered, unanswered}
-use Rattle.cv_top.specs.Runs.{Outside, Runs, usage, bad_keys, no_seal, unbegun, init, stdio, look, shell}
+use Rattle.cv_top.specs.Runs.{Outside, Runs, usage, bad_keys, unsigned, no_seal, unbegun, init, stdio, look, shell, publish}
 use Rattle.cv_top.specs.Seal.{is_seal_by}
 use Rattle.cv_top.specs.Status.{ask_status}
 use Rattle.cv_top.specs.Tells.{IsQuestion, Tells, tells_of_tree, cause_of}
@@ -34,7 +36,7 @@ use Rattle.cv_top.specs.declared.client_fault.LookFault.TheVariants as look_faul
 use Rattle.cv_top.specs.declared.status.Status.{Status}
 use Rattle.cv_top.specs.declared.status.Status.TheVariants.{NoAnswer}
 use Rattle.cv_top.specs.declared.words.Command.TheVariants.{Look as Looking}
-use Rattle.cv_top.proofs.Commands.{no_init, no_stdio, no_shell}
+use Rattle.cv_top.proofs.Commands.{no_init, no_stdio, no_shell, no_publish}
 use Rattle.cv_top.proofs.Pinning.{is_refused, never_refused}
 
 -- the answers that tell of the tree
@@ -113,7 +115,7 @@ module _ (seal : List ℕ) (u : Url) (q : Question) (before after : Links) where
   -- ---- what is printed, and how the program ends
 
   module _ {W : Type 0} (taken : W → Option (List ℕ)) (words : List (List ℕ)) (asks : Asks words (Looking u q)) (output output' : W) where
-    tells_found : (found : Found) (status : Status) → Ground (Ok found) → Prints taken found output output' status → tells_of_tree status ≡ true → Tells taken words seal before after output output' status
+    tells_found : (found : Found) (status : Status) → Ground (Ok found) → Prints taken (found_text found) output output' status → tells_of_tree status ≡ true → Tells taken words seal before after output output' status
     tells_found found status g (printed whole) speaks = record {
       url = u;
       question = q;
@@ -167,20 +169,22 @@ module _ (seal : List ℕ) (u : Url) (q : Question) (before after : Links) where
     tells_fault (ask_fault.Refused client_fault.NoMemory) told speaks = absurd cc
 
 module _ {V : Type 0} (disk : V → Option Disk) (count : V → ℕ) (left : V → ℕ → Files → Type 0)
-    {R W C N : Type 0} (faults : V → ℕ) (rest : R → Option (List ℕ)) (looks : R → Look → Type 0) (taken passed : W → Option (List ℕ)) (moments : C → Option (ℕ → ℕ)) (came : N → Links)
-    (words : List (List ℕ)) (keys seal : List ℕ) (a b : Outside V R W C N) where
+    {R W C F N : Type 0} (faults : V → ℕ) (rest : R → Option (List ℕ)) (looks : R → Look → Type 0) (taken passed : W → Option (List ℕ)) (moments : C → Option (ℕ → ℕ)) (folder : F → Option FolderView) (came : N → Links)
+    (words : List (List ℕ)) (keys seal : List ℕ) (a b : Outside V R W C F N) where
   looks_tell : (u : Url) (q : Question) (status : Status) → Asks words (Looking u q) → Looks taken came seal u q a.output b.output a.dial b.dial status → tells_of_tree status ≡ true
       → Tells taken words seal (came a.dial) (came b.dial) a.output b.output status
   looks_tell u q status asks (answered found how told prints) speaks = tells_found seal u q (came a.dial) (came b.dial) taken words asks a.output b.output found status (ground seal u q (came a.dial) (came b.dial) (Ok found) told refl) prints speaks
   looks_tell u q status asks (unanswered fault told same) speaks = tells_fault seal u q (came a.dial) (came b.dial) taken words asks a.output b.output fault told speaks
 
-  pub tells_truly : (status : Status) → Runs disk count left faults rest looks taken passed moments came words keys seal a b status → IsQuestion words → tells_of_tree status ≡ true
+  pub tells_truly : (status : Status) → Runs disk count left faults rest looks taken passed moments folder came words keys seal a b status → IsQuestion words → tells_of_tree status ≡ true
       → Tells taken words seal (came a.dial) (came b.dial) a.output b.output status
   tells_truly status (usage never same) asked speaks = absurd cc
   tells_truly status (bad_keys name asks has same) asked speaks = absurd cc
+  tells_truly status (unsigned v path root asks has same) asked speaks = absurd cc
   tells_truly status (no_seal command asks has empty same) asked speaks = absurd cc
   tells_truly status (unbegun same) asked speaks = absurd cc
-  tells_truly status (init name how asks some inits same near) asked speaks = absurd (no_init asked.url asked.question name asked.asks asks)
-  tells_truly status (stdio name table how asks are some serves near) asked speaks = absurd (no_stdio asked.url asked.question name asked.asks asks)
+  tells_truly status (init name how asks some inits same still near) asked speaks = absurd (no_init asked.url asked.question name asked.asks asks)
+  tells_truly status (stdio name table how asks are some serves still near) asked speaks = absurd (no_stdio asked.url asked.question name asked.asks asks)
   tells_truly status (look u q how asks some looked same) asked speaks = looks_tell u q status asks looked speaks
   tells_truly status (shell u how asks some said same) asked speaks = absurd (no_shell asked.url u asked.question asked.asks asks)
+  tells_truly status (publish v path root table how asks are some publishes same near) asked speaks = absurd (no_publish asked.url v asked.question path root asked.asks asks)

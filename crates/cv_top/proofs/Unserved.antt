@@ -5,6 +5,7 @@ use Rattle.std.specs.declared.option.Option.TheVariants.{Some}
 use Rattle.std.specs.declared.result.Result.TheVariants.{Ok, Err}
 use Rattle.cv_keys.specs.KeysText.{keys_of}
 use Rattle.cv_keys.specs.declared.key.Key.{Key}
+use Rattle.cv_ports.specs.Folder.{FolderView}
 use Rattle.cv_ports.specs.Streams.{Look}
 use Rattle.cv_vault.specs.Disk.{Disk, Files, ImageOf, files_now}
 use Rattle.cv_vault.specs.Moments.{LeavesOnly}
@@ -26,11 +27,11 @@ use Rattle.cv_gate.proofs.Lemmas.{opened}
 use Rattle.cv_desk.specs.Gate.{GateOpens}
 use Rattle.cv_top.specs.Headline.{OnLine, Remains, KeepsLine}
 use Rattle.cv_client.specs.Exchange.{Links}
-use Rattle.cv_top.specs.Runs.{Outside, Runs, Serves, HasLine, Keeps, usage, bad_keys, no_seal, unbegun, init, stdio, look, shell, ended, unopened, none, talked, calls_in, desk_over}
+use Rattle.cv_top.specs.Runs.{Outside, Runs, Serves, HasLine, Keeps, usage, bad_keys, unsigned, no_seal, unbegun, init, stdio, look, shell, publish, ended, unopened, none, talked, calls_in, desk_over}
 use Rattle.cv_top.specs.Seal.{is_seal_by}
 use Rattle.cv_top.specs.declared.status.Status.{Status}
 use Rattle.cv_top.specs.declared.words.Command.TheVariants.{Stdio}
-use Rattle.cv_top.proofs.Commands.{not_both, one_name, no_stdio, no_shell_stdio}
+use Rattle.cv_top.proofs.Commands.{not_both, one_name, no_stdio, no_shell_stdio, no_publish_stdio}
 use Rattle.cv_top.proofs.Headlines.{KeepsRaised, now_image, raised_on_line, same_remains, opening_remains}
 
 -- the law of files that stand for what is kept
@@ -49,7 +50,7 @@ module _ {V : Type 0} (disk : V → Option Disk) (count : V → ℕ) (left : V �
     nothing_answered [] more c e = absurd cc
     nothing_answered (x ∷ done) more c e = absurd cc
 
-    none_live : (done more : List Call) → [] ≡ done ++ more → (entries : List Entry) × (st : State) × AnswersAll (reopened k) done entries st × AreLeases st
+    none_live : (done more : List Call) → [] ≡ done ++ more → (entries : List Entry) × (st : State) × AnswersAll 0 (reopened k) done entries st × AreLeases st
     none_live [] more e = ([], reopened k, (refl, refl), no_leases)
     none_live (c ∷ done) more e = absurd cc
 
@@ -93,22 +94,22 @@ module _ {V : Type 0} (disk : V → Option Disk) (count : V → ℕ) (left : V �
 
   -- ---- words that ask to serve
 
-  module _ {R W C N : Type 0} (faults : V → ℕ) (rest : R → Option (List ℕ)) (looks : R → Look → Type 0) (taken passed : W → Option (List ℕ)) (moments : C → Option (ℕ → ℕ)) (words : List (List ℕ)) (keys seal : List ℕ) (a b : Outside V R W C N) where
+  module _ {R W C F N : Type 0} (faults : V → ℕ) (rest : R → Option (List ℕ)) (looks : R → Look → Type 0) (taken passed : W → Option (List ℕ)) (moments : C → Option (ℕ → ℕ)) (words : List (List ℕ)) (keys seal : List ℕ) (a b : Outside V R W C F N) where
     abbrev Has : List ℕ → Disk → Kept → Type 0
     Has name d k = HasLine disk count left faults rest looks taken passed moments name keys seal d k a b
 
     has_none : (name : List ℕ) (d : Disk) (k : Kept) → disk a.vault ≡ Some d → StandsKept name (is_seal_by seal) (files_now d) k → b ≡ a → Has name d k
     has_none name d k told kept same = record {
       calls = [];
-      made = none (ap (λ (o : Outside V R W C N). o.input) same) (ap (λ (o : Outside V R W C N). o.output) same);
-      keeps = λ first lives begun lived. subst (λ (u : V). KeepsLine name seal first lives k [] disk count left d a.vault u) (sym (ap (λ (o : Outside V R W C N). o.vault) same)) (untouched name seal d k kept first lives begun lived a.vault told);
+      made = none (ap (λ (o : Outside V R W C F N). o.input) same) (ap (λ (o : Outside V R W C F N). o.output) same);
+      keeps = λ first lives begun lived. subst (λ (u : V). KeepsLine name seal first lives k [] disk count left d a.vault u) (sym (ap (λ (o : Outside V R W C F N). o.vault) same)) (untouched name seal d k kept first lives begun lived a.vault told);
     }
 
     serves_so : (name : List ℕ) (table : List Key) (status : Status) (d : Disk) (k : Kept) → keys_of keys ≡ Ok table → disk a.vault ≡ Some d → StandsKept name (is_seal_by seal) (files_now d) k
         → Serves disk count left faults rest looks taken passed moments name table seal a.vault b.vault a.input b.input a.output b.output a.clock b.clock status → Has name d k
     serves_so name table status d k are told kept (ended gate desk' end opens new later talks served same) = record {
       calls = calls_in disk count left faults rest looks taken passed moments talks;
-      made = talked table (desk_over gate name) desk' end are same talks;
+      made = talked table (desk_over gate) desk' end are same talks;
       keeps = λ first lives begun lived. subst (λ (u : V). KeepsLine name seal first lives k (calls_in disk count left faults rest looks taken passed moments talks) disk count left d a.vault u) (sym same) ((served d told k kept).line first lives begun lived);
     }
     serves_so name table status d k are told kept (unopened x opens input output clock) = record {
@@ -117,14 +118,16 @@ module _ {V : Type 0} (disk : V → Option Disk) (count : V → ℕ) (left : V �
       keeps = λ first lives begun lived. refused name seal d k kept first lives begun lived x a.vault b.vault told (opens d told);
     }
 
-    pub keeps : (came : N → Links) (status : Status) → Runs disk count left faults rest looks taken passed moments came words keys seal a b status → Keeps disk count left faults rest looks taken passed moments words keys seal a b
-    keeps came status (usage never same) name asks d told k kept = absurd (never (record { command = Stdio name; asks = asks }))
-    keeps came status (bad_keys other asked has same) name asks d told k kept = has_none name d k told kept same
-    keeps came status (no_seal command asked has empty same) name asks d told k kept = has_none name d k told kept same
-    keeps came status (unbegun same) name asks d told k kept = has_none name d k told kept same
-    keeps came status (init other how asked some inits same near) name asks d told k kept = absurd (not_both other name asked asks)
-    keeps came status (look u q how asked some looked same) name asks d told k kept = absurd (no_stdio u q name asked asks)
-    keeps came status (shell u how asked some answers same) name asks d told k kept = absurd (no_shell_stdio u name asked asks)
-    keeps came status (stdio other table how asked are some serves near) name asks d told k kept =
+    pub keeps : (folder : F → Option FolderView) (came : N → Links) (status : Status) → Runs disk count left faults rest looks taken passed moments folder came words keys seal a b status → Keeps disk count left faults rest looks taken passed moments words keys seal a b
+    keeps folder came status (usage never same) name asks d told k kept = absurd (never (record { command = Stdio name; asks = asks }))
+    keeps folder came status (bad_keys other asked has same) name asks d told k kept = has_none name d k told kept same
+    keeps folder came status (unsigned u path root asked has same) name asks d told k kept = has_none name d k told kept same
+    keeps folder came status (no_seal command asked has empty same) name asks d told k kept = has_none name d k told kept same
+    keeps folder came status (unbegun same) name asks d told k kept = has_none name d k told kept same
+    keeps folder came status (init other how asked some inits same near far) name asks d told k kept = absurd (not_both other name asked asks)
+    keeps folder came status (look u q how asked some looked same) name asks d told k kept = absurd (no_stdio u q name asked asks)
+    keeps folder came status (shell u how asked some answers same) name asks d told k kept = absurd (no_shell_stdio u name asked asks)
+    keeps folder came status (publish u path root table how asked are some publishes vault input) name asks d told k kept = absurd (no_publish_stdio u path root name asked asks)
+    keeps folder came status (stdio other table how asked are some serves near far) name asks d told k kept =
         let is : other ≡ name = one_name other name asked asks in
         subst (λ n. Has n d k) is (serves_so other table how d k are told (subst (λ n. StandsKept n (is_seal_by seal) (files_now d) k) (sym is) kept) serves)

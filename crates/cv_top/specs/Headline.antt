@@ -22,10 +22,10 @@ use Rattle.cv_top.specs.Seal.{is_seal_by}
 -- while it opened the repository.
 pub data IsLife (k : Kept) (least calls : List Call) : Life → Kept → Type 0 where
   opening : {kept : Kept} → least ≡ [] → Lived k cut kept → IsLife k least calls cut kept
-  between : (later more : List Call) (entries : List Entry) (end : State) {kept : Kept} → calls ≡ (least ++ later) ++ more → AnswersAll (reopened k) (least ++ later) entries end
+  between : (later more : List Call) (entries : List Entry) (end : State) {kept : Kept} → calls ≡ (least ++ later) ++ more → AnswersAll 0 (reopened k) (least ++ later) entries end
       → Crash end None kept → IsLife k least calls (ran entries None) kept
   within : (later more : List Call) (o : Op) (now : ℕ) (r : Reply) (entries : List Entry) (end : State) {kept : Kept} → calls ≡ (least ++ later) ++ asked o now r ∷ more
-      → AnswersAll (reopened k) (least ++ later) entries end → Crash end (Some (record { op = o; now = now })) kept
+      → AnswersAll 0 (reopened k) (least ++ later) entries end → Crash end (Some (record { op = o; now = now })) kept
       → IsLife k least calls (ran entries (Some (record { op = o; now = now }))) kept
 
 -- the repository's name and its seal; what was kept first, the lives since then, and what they came to; and the calls of one life more
@@ -57,4 +57,4 @@ pub record KeepsLine {V : Type 0} (name seal : List ℕ) (first : Kept) (lives :
   pub end : Disk
   pub told : disk v' ≡ Some end
   pub in_the_end : OnLine name seal first lives k calls calls (files_now end)
-  pub apart : (done more : List Call) → calls ≡ done ++ more → (entries : List Entry) × (st : State) × AnswersAll (reopened k) done entries st × AreLeases st
+  pub apart : (done more : List Call) → calls ≡ done ++ more → (entries : List Entry) × (st : State) × AnswersAll 0 (reopened k) done entries st × AreLeases st

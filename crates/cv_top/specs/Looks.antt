@@ -16,16 +16,16 @@ use Rattle.cv_top.specs.declared.status.Status.TheVariants.{Done, OutputFailed, 
 
 -- what an output took
 module _ {W : Type 0} (taken : W → Option (List ℕ)) where
-  -- the text of an answer was printed; or not for sure; or there was no memory for it
-  pub data Prints (found : Found) (output output' : W) : Status → Type 0 where
-    printed : taken output' ≡ onto (taken output) (found_text found) → Prints found output output' Done
-    unprinted : Wrote (taken output) (taken output') (found_text found) → Prints found output output' OutputFailed
-    unwritten : output' ≡ output → Prints found output output' OutOfMemory
+  -- a text was printed; or not for sure; or there was no memory for it
+  pub data Prints (text : List ℕ) (output output' : W) : Status → Type 0 where
+    printed : taken output' ≡ onto (taken output) text → Prints text output output' Done
+    unprinted : Wrote (taken output) (taken output') text → Prints text output output' OutputFailed
+    unwritten : output' ≡ output → Prints text output output' OutOfMemory
 
   -- and the links that came back to a dial
   module _ {N : Type 0} (came : N → Links) where
     pub data Looks (seal : List ℕ) (u : Url) (q : Question) (output output' : W) (dial dial' : N) : Status → Type 0 where
-      answered : (found : Found) (status : Status) → Told (is_seal_by seal) u q (came dial) (came dial') (Ok found) → Prints found output output' status
+      answered : (found : Found) (status : Status) → Told (is_seal_by seal) u q (came dial) (came dial') (Ok found) → Prints (found_text found) output output' status
           → Looks seal u q output output' dial dial' status
       unanswered : (fault : AskFault) → Told (is_seal_by seal) u q (came dial) (came dial') (Err fault) → output' ≡ output
           → Looks seal u q output output' dial dial' (ask_status fault)

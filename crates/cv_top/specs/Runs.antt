@@ -3,13 +3,14 @@ use Rattle.std.specs.Prelude.{◌≡◌, ◌≢◌, ◌≤◌, ℕ, List, [], �
 use Rattle.std.specs.declared.result.Result.{Result}
 use Rattle.std.specs.declared.result.Result.TheVariants.{Ok, Err}
 use Rattle.cv_base.specs.Told.{WhereTold}
+use Rattle.cv_base.specs.Path.{Path}
+use Rattle.cv_ports.specs.Folder.{FolderView}
 use Rattle.cv_ports.specs.Streams.{Look, front, onto, Wrote}
 use Rattle.cv_vault.specs.Disk.{Disk, Files, files_now}
 use Rattle.cv_seal.specs.Hmac.{hmac_sha1}
 use Rattle.cv_http.specs.declared.fault.HttpFault.TheVariants.{Short}
 use Rattle.cv_keys.specs.KeysText.{keys_of}
 use Rattle.cv_keys.specs.declared.key.Key.{Key}
-use Rattle.cv_keys.specs.declared.key_fault.KeyFault.{KeyFault}
 use Rattle.cv_swap.specs.First.{first_revision}
 use Rattle.cv_swap.specs.Init.{MakesFirst, WritesHead}
 use Rattle.cv_swap.specs.Kept.{Kept, IsKept}
@@ -32,20 +33,17 @@ use Rattle.cv_session.specs.declared.session_end.SessionEnd.TheVariants.{Clean, 
 use Rattle.cv_top.specs.Headline.{Lasts, KeepsLine}
 use Rattle.cv_top.specs.Lines.{AnswersLines}
 use Rattle.cv_top.specs.Looks.{Looks}
+use Rattle.cv_top.specs.Publishes.{Publishes}
 use Rattle.cv_top.specs.Seal.{is_seal_by}
+use Rattle.cv_top.specs.Sealed.{HasFault}
 use Rattle.cv_top.specs.Status.{init_status, open_status, end_status}
 use Rattle.cv_top.specs.Words.{Asks, IsCommand}
 use Rattle.cv_top.specs.declared.status.Status.{Status}
 use Rattle.cv_top.specs.declared.status.Status.TheVariants.{Done, Usage, OutputFailed, BadKeys, OutOfMemory}
 use Rattle.cv_top.specs.declared.words.Command.{Command}
-use Rattle.cv_top.specs.declared.words.Command.TheVariants.{Init, Stdio, Look as Looking, Shell as Shelling}
+use Rattle.cv_top.specs.declared.words.Command.TheVariants.{Init, Stdio, Look as Looking, Shell as Shelling, Publish as Publishing}
 
 -- ---- keys
-
--- the keys text has a fault
-pub record HasFault (text : List ℕ) : Type 0 where
-  pub fault : KeyFault
-  pub is : keys_of text ≡ Err fault
 
 -- the keys that a command uses are those of this text, without a fault
 abbrev pub HasKeys : Command → List ℕ → Type 0
@@ -53,23 +51,25 @@ HasKeys (Init name) text = Unit {0}
 HasKeys (Stdio name) text = (keys : List Key) × (keys_of text ≡ Ok keys)
 HasKeys (Looking url question) text = Unit {0}
 HasKeys (Shelling url) text = Unit {0}
+HasKeys (Publishing url path root) text = (keys : List Key) × (keys_of text ≡ Ok keys)
 
 -- ---- the outside
 
--- the repository's files, where requests come from, where replies go, the time, and where links to servers come from
-pub record Outside (V R W C N : Type 0) : Type 0 where
+-- the repository's files, where requests come from, where replies go, the time, where changes are, and where links to servers come from
+pub record Outside (V R W C F N : Type 0) : Type 0 where
   pub vault : V
   pub input : R
   pub output : W
   pub clock : C
+  pub folder : F
   pub dial : N
 
-abbrev pub outside : {V R W C N : Type 0} → V → R → W → C → N → Outside V R W C N
-outside vault input output clock dial = record { vault = vault; input = input; output = output; clock = clock; dial = dial }
+abbrev pub outside : {V R W C F N : Type 0} → V → R → W → C → F → N → Outside V R W C F N
+outside vault input output clock folder dial = record { vault = vault; input = input; output = output; clock = clock; folder = folder; dial = dial }
 
 -- a desk over a gate, which knows its newest head
-abbrev pub desk_over : {V S : Type 0} → GateView V S → List ℕ → OneDeskView V S
-desk_over gate name = record { gate = gate; name = name; head = gate.state.line.head }
+abbrev pub desk_over : {V S : Type 0} → GateView V S → OneDeskView V S
+desk_over gate = record { gate = gate; head = gate.state.line.head }
 
 -- what `init` prints
 abbrev pub first_line : List ℕ
@@ -145,8 +145,8 @@ module _ {V : Type 0} (disk : V → Option Disk) (count : V → ℕ) (left : V �
       -- the repository was opened, and a session over its gate ended; where the files stood for what is kept, that was served
       ended : (gate : GateView V (List ℕ)) (desk' : OneDeskView V (List ℕ)) (end : SessionEnd) → OpensSo name seal v (Ok gate) → IsNew name seal gate
           → faults v ≤ faults gate.state.line.vault
-          → (talks : Talks name keys seal (desk_over gate name) desk' input input' output output' clock clock' end)
-          → WhereTold (disk v) (λ d. (k : Kept) → StandsKept name (is_seal_by seal) (files_now d) k → ServesKept name seal d k (calls_in talks) v (desk_over gate name) desk')
+          → (talks : Talks name keys seal (desk_over gate) desk' input input' output output' clock clock' end)
+          → WhereTold (disk v) (λ d. (k : Kept) → StandsKept name (is_seal_by seal) (files_now d) k → ServesKept name seal d k (calls_in talks) v (desk_over gate) desk')
           → v' ≡ desk'.gate.state.line.vault
           → Serves name keys seal v v' input input' output output' clock clock' (end_status end)
       -- it wasn't opened: the rest isn't touched
@@ -155,44 +155,48 @@ module _ {V : Type 0} (disk : V → Option Disk) (count : V → ℕ) (left : V �
 
     -- ---- the program
 
-    -- and the links that came back to a dial
-    module _ {N : Type 0} (came : N → Links) where
+    -- what a folder tells, and the links that came back to a dial
+    module _ {F N : Type 0} (folder : F → Option FolderView) (came : N → Links) where
       -- The words are judged first, then the keys, then the seal. Where they are refused nothing is touched.
-      pub data Runs (words : List (List ℕ)) (keys seal : List ℕ) (before after : Outside V R W C N) : Status → Type 0 where
+      pub data Runs (words : List (List ℕ)) (keys seal : List ℕ) (before after : Outside V R W C F N) : Status → Type 0 where
         usage : (IsCommand words → ⊥) → after ≡ before → Runs words keys seal before after Usage
         bad_keys : (name : List ℕ) → Asks words (Stdio name) → HasFault keys → after ≡ before → Runs words keys seal before after BadKeys
+        unsigned : (u : Url) (path : Path) (root : List ℕ) → Asks words (Publishing u path root) → HasFault keys → after ≡ before → Runs words keys seal before after BadKeys
         no_seal : (command : Command) → Asks words command → HasKeys command keys → seal ≡ [] → after ≡ before → Runs words keys seal before after BadKeys
         -- memory was wanted before anything was touched
         unbegun : after ≡ before → Runs words keys seal before after OutOfMemory
         init : (name : List ℕ) (status : Status) → Asks words (Init name) → seal ≢ []
             → Inits taken moments name seal before.vault after.vault before.output after.output before.clock after.clock status
-            → after.input ≡ before.input → after.dial ≡ before.dial → Runs words keys seal before after status
+            → after.input ≡ before.input → after.folder ≡ before.folder → after.dial ≡ before.dial → Runs words keys seal before after status
         stdio : (name : List ℕ) (table : List Key) (status : Status) → Asks words (Stdio name) → keys_of keys ≡ Ok table → seal ≢ []
             → Serves name table seal before.vault after.vault before.input after.input before.output after.output before.clock after.clock status
-            → after.dial ≡ before.dial → Runs words keys seal before after status
+            → after.folder ≡ before.folder → after.dial ≡ before.dial → Runs words keys seal before after status
         look : (u : Url) (q : Question) (status : Status) → Asks words (Looking u q) → seal ≢ []
             → Looks taken came seal u q before.output after.output before.dial after.dial status
-            → after ≡ outside before.vault before.input after.output before.clock after.dial → Runs words keys seal before after status
+            → after ≡ outside before.vault before.input after.output before.clock before.folder after.dial → Runs words keys seal before after status
         shell : (u : Url) (status : Status) → Asks words (Shelling u) → seal ≢ []
             → AnswersLines rest looks taken passed seal u (came before.dial) (came after.dial) before.input after.input before.output after.output status
-            → after ≡ outside before.vault after.input after.output before.clock after.dial → Runs words keys seal before after status
+            → after ≡ outside before.vault after.input after.output before.clock before.folder after.dial → Runs words keys seal before after status
+        publish : (u : Url) (path : Path) (root : List ℕ) (table : List Key) (status : Status) → Asks words (Publishing u path root) → keys_of keys ≡ Ok table → seal ≢ []
+            → Publishes taken moments folder came table seal u path before.output after.output before.clock after.clock before.folder after.folder before.dial after.dial status
+            → after.vault ≡ before.vault → after.input ≡ before.input → Runs words keys seal before after status
 
     -- ---- the headline
 
-    module _ {N : Type 0} where
+    module _ {F N : Type 0} where
       -- the calls that were made for what was read of the input, whose answers are those on the output; or none, and neither was touched
-      pub data IsMade (name keys seal : List ℕ) (before after : Outside V R W C N) : List Call → Type 0 where
+      pub data IsMade (name keys seal : List ℕ) (before after : Outside V R W C F N) : List Call → Type 0 where
         none : after.input ≡ before.input → after.output ≡ before.output → IsMade name keys seal before after []
         talked : (table : List Key) (desk desk' : OneDeskView V (List ℕ)) (end : SessionEnd) → keys_of keys ≡ Ok table → after.vault ≡ desk'.gate.state.line.vault
             → (talks : Talks name table seal desk desk' before.input after.input before.output after.output before.clock after.clock end) → IsMade name keys seal before after (calls_in talks)
 
       -- the headline holds of them, whatever was kept first, and whatever lives led from there to what is kept
-      pub record HasLine (name keys seal : List ℕ) (d : Disk) (k : Kept) (before after : Outside V R W C N) : Type 0 where
+      pub record HasLine (name keys seal : List ℕ) (d : Disk) (k : Kept) (before after : Outside V R W C F N) : Type 0 where
         pub calls : List Call
         pub made : IsMade name keys seal before after calls
         pub keeps : (first : Kept) (lives : List Life) → IsKept first → Lives first lives k → KeepsLine name seal first lives k calls disk count left d before.vault after.vault
 
       -- where the words ask to serve a repository, and its files stand for what is kept
-      abbrev pub Keeps : List (List ℕ) → List ℕ → List ℕ → Outside V R W C N → Outside V R W C N → Type 0
+      abbrev pub Keeps : List (List ℕ) → List ℕ → List ℕ → Outside V R W C F N → Outside V R W C F N → Type 0
       Keeps words keys seal before after = (name : List ℕ) → Asks words (Stdio name)
           → WhereTold (disk before.vault) (λ d. (k : Kept) → StandsKept name (is_seal_by seal) (files_now d) k → HasLine name keys seal d k before after)

@@ -1,6 +1,9 @@
 -- How the program ends: its exit status, and the line on standard error.
 use Rattle.std.specs.Prelude.{ℕ, List, [], ◌++◌, codes}
 use Rattle.cv_base.specs.ObjectId.{id_text}
+use Rattle.cv_answers.specs.Refusal.{reason_text}
+use Rattle.cv_answers.specs.declared.refusal.Refusal.{Refusal}
+use Rattle.cv_answers.specs.declared.refusal.Refusal.TheVariants as refusal
 use Rattle.cv_keys.specs.declared.key_fault.KeyFault.{KeyFault}
 use Rattle.cv_keys.specs.declared.key_fault.KeyFault.TheVariants as key_fault
 use Rattle.cv_swap.specs.declared.init_fault.InitFault.{InitFault}
@@ -19,10 +22,14 @@ use Rattle.cv_top.specs.declared.client_fault.LookFault.{LookFault}
 use Rattle.cv_top.specs.declared.client_fault.LookFault.TheVariants as look
 use Rattle.cv_top.specs.declared.client_fault.ServedFault.{ServedFault}
 use Rattle.cv_top.specs.declared.client_fault.ServedFault.TheVariants as served
+use Rattle.cv_top.specs.declared.publish_fault.ChangesFault.{ChangesFault}
+use Rattle.cv_top.specs.declared.publish_fault.ChangesFault.TheVariants as changes
+use Rattle.cv_top.specs.declared.publish_fault.RefusedFor.{RefusedFor}
+use Rattle.cv_top.specs.declared.publish_fault.RefusedFor.TheVariants as refused
 use Rattle.cv_top.specs.declared.status.RepositoryFault.{RepositoryFault}
 use Rattle.cv_top.specs.declared.status.RepositoryFault.TheVariants as repository
 use Rattle.cv_top.specs.declared.status.Status.{Status}
-use Rattle.cv_top.specs.declared.status.Status.TheVariants.{Done, Usage, Repository, InputFailed, OutputFailed, StoreFailed, LinkFailed, JournalFull, NoAnswer, Served, BadReply, BadRequest, BadKeys, OutOfMemory}
+use Rattle.cv_top.specs.declared.status.Status.TheVariants.{Done, Usage, Repository, Refused, InputFailed, OutputFailed, StoreFailed, LinkFailed, JournalFull, NoAnswer, Served, BadReply, Changes, BadRequest, FolderFailed, BadKeys, OutOfMemory}
 
 -- ---- exit statuses and lines
 
@@ -30,6 +37,7 @@ abbrev pub code_of : Status → ℕ
 code_of Done = 0
 code_of Usage = 2
 code_of (Repository fault) = 3
+code_of (Refused cause) = 4
 code_of InputFailed = 5
 code_of OutputFailed = 6
 code_of StoreFailed = 7
@@ -38,7 +46,9 @@ code_of JournalFull = 9
 code_of (NoAnswer fault) = 10
 code_of (Served fault) = 11
 code_of BadReply = 12
+code_of (Changes fault path) = 13
 code_of BadRequest = 14
+code_of FolderFailed = 15
 code_of BadKeys = 16
 code_of OutOfMemory = 70
 
@@ -65,6 +75,33 @@ served_text_of (served.BadObject id) = codes "bad object "
 served_text_of (served.BadCatalogue id) = codes "bad catalogue "
 served_text_of (served.NotServed id) = codes "not served "
 
+abbrev pub changes_text_of : ChangesFault → List ℕ
+changes_text_of changes.Special = codes "changes: special "
+changes_text_of changes.BadName = codes "changes: bad name "
+changes_text_of changes.TooLarge = codes "changes: too large "
+changes_text_of changes.BadWhiteout = codes "changes: bad whiteout "
+changes_text_of changes.PathCollision = codes "changes: path collision "
+changes_text_of changes.CatalogueFull = codes "changes: catalogue full "
+
+-- the reason of a refusal, as the gateway's answers have it
+abbrev pub refusal_text_of : Refusal → List ℕ
+refusal_text_of (refusal.Plain why) = reason_text why
+refusal_text_of (refusal.MissingMember name) = codes "missing_member"
+refusal_text_of (refusal.WrongType name) = codes "wrong_type"
+refusal_text_of (refusal.BadValue name) = codes "bad_value"
+refusal_text_of (refusal.Collision id) = codes "collision"
+refusal_text_of (refusal.StaleBase revision) = codes "stale_base"
+refusal_text_of (refusal.MissingObject id) = codes "missing_object"
+refusal_text_of (refusal.BadCatalogue id) = codes "bad_catalogue"
+refusal_text_of (refusal.PathCollision path second) = codes "path_collision"
+refusal_text_of (refusal.CatalogueFull path) = codes "catalogue_full"
+refusal_text_of (refusal.TagTaken revision) = codes "tag_taken"
+refusal_text_of (refusal.Damaged id found) = codes "damaged"
+
+abbrev pub refused_text_of : RefusedFor → List ℕ
+refused_text_of refused.PathBusy = codes "path_busy"
+refused_text_of (refused.Said why) = refusal_text_of why
+
 -- the text of the object's id
 abbrev pub object_text_of : ServedFault → List ℕ
 object_text_of served.BadManifest = []
@@ -77,6 +114,7 @@ abbrev pub what_of : Status → List ℕ
 what_of Done = []
 what_of Usage = codes "usage"
 what_of (Repository fault) = codes "repository: "
+what_of (Refused cause) = codes "refused: "
 what_of InputFailed = codes "input failed"
 what_of OutputFailed = codes "output failed"
 what_of StoreFailed = codes "store failed"
@@ -85,12 +123,16 @@ what_of JournalFull = codes "journal full"
 what_of (NoAnswer fault) = look_text_of fault
 what_of (Served fault) = served_text_of fault
 what_of BadReply = codes "bad reply"
+what_of (Changes fault path) = changes_text_of fault
 what_of BadRequest = codes "bad request"
+what_of FolderFailed = codes "folder failed"
 what_of BadKeys = codes "bad keys"
 what_of OutOfMemory = codes "out of memory"
 
 abbrev pub detail_of : Status → List ℕ
 detail_of (Repository fault) = text_of fault
+detail_of (Refused cause) = refused_text_of cause
+detail_of (Changes fault path) = path
 detail_of (Served fault) = object_text_of fault
 detail_of other = []
 

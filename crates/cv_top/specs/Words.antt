@@ -1,6 +1,7 @@
 -- The grammar of the command line.
-use Rattle.std.specs.Prelude.{◌≡◌, ◌==◌, ℕ, Bool, true, false, List, [], ◌∷◌, codes, IsTrue, Option, Some, None, bytes_eq, if◌then◌else◌}
+use Rattle.std.specs.Prelude.{◌≡◌, ◌==◌, ℕ, Bool, false, List, [], ◌∷◌, codes, IsTrue, Option, Some, None, bytes_eq, if◌then◌else◌}
 use Rattle.std.specs.Option.{option_map}
+use Rattle.cv_base.specs.Marker.{marker, ends_in}
 use Rattle.cv_base.specs.Name.{is_name}
 use Rattle.cv_base.specs.Path.{Path, IsPath}
 use Rattle.cv_base.specs.PathText.{Spells}
@@ -8,7 +9,7 @@ use Rattle.cv_resolver.specs.declared.question.Question.TheVariants as question
 use Rattle.cv_client.specs.Url.{IsUrl}
 use Rattle.cv_client.specs.declared.url.Url.{Url}
 use Rattle.cv_top.specs.declared.words.Command.{Command}
-use Rattle.cv_top.specs.declared.words.Command.TheVariants.{Init, Stdio, Look, Shell}
+use Rattle.cv_top.specs.declared.words.Command.TheVariants.{Init, Stdio, Look, Shell, Publish}
 
 -- ---- words and values
 
@@ -46,6 +47,9 @@ pub data Means (verb : List ℕ) (values : List (List ℕ)) : Command → Type 0
   stat : (url path : List ℕ) (u : Url) (p : Path) → verb ≡ codes "stat" → values ≡ url ∷ path ∷ [] → IsPlace url path u p → Means verb values (Look u (question.Stat p))
   cat : (url path : List ℕ) (u : Url) (p : Path) → verb ≡ codes "cat" → values ≡ url ∷ path ∷ [] → IsPlace url path u p → Means verb values (Look u (question.Read p))
   shell : (url : List ℕ) (u : Url) → verb ≡ codes "shell" → values ≡ url ∷ [] → IsUrl url u → Means verb values (Shell u)
+  -- the path's last name isn't that of a catalogue's marker
+  publish : (url path folder : List ℕ) (u : Url) (p : Path) → verb ≡ codes "publish" → values ≡ url ∷ path ∷ folder ∷ [] → IsPlace url path u p → ends_in marker p ≡ false
+      → Means verb values (Publish u p folder)
 
 -- the words after the program's name ask for this command
 pub record Asks (words : List (List ℕ)) (command : Command) : Type 0 where

@@ -11,6 +11,10 @@ mod look_tests;
 mod parts;
 mod print;
 mod program;
+mod publish;
+mod publish_fault;
+#[cfg(test)]
+mod publish_tests;
 mod seal;
 mod shell;
 #[cfg(test)]
@@ -30,4 +34,5 @@ mod words;
 pub use client_fault::{LookFault, ServedFault};
 pub use parts::Parts;
 pub use program::run;
+pub use publish_fault::{ChangesFault, RefusedFor};
 pub use status::{RepositoryFault, Status};

@@ -1,6 +1,7 @@
 //! The commands of a client.
 ghost use Rattle.std.specs.Prelude.{◌≡◌, ◌≢◌};
 ghost use Rattle.cv_base.specs.Counts.{HasCause};
+ghost use Rattle.cv_client.specs.Texts.{found_text};
 ghost use Rattle.cv_top.specs.Complete.{IsSteady};
 ghost use Rattle.cv_top.specs.Looks.{Prints, Looks};
 ghost use Rattle.cv_top.specs.Wholes.{Answered};
@@ -16,7 +17,7 @@ use std::alloc::Global;
 
 /// Prints an answer.
 fn print_answer<W: Sink>(alloc: Global, found: Found, output: &mut W) -> Status
-    ensures prints { Prints W.taken found output.old output.new result }
+    ensures prints { Prints W.taken (found_text found) output.old output.new result }
     ensures flushed { result ≢ OutputFailed → W.passed output.old ≡ W.taken output.old → W.passed output.new ≡ W.taken output.new }
     ensures reads { result ≢ InputFailed }
     ensures writes { HasCause (W.faults output.old) (W.faults output.new) (result ≡ OutputFailed) }

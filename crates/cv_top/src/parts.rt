@@ -2,7 +2,7 @@
 
 /// The outside of the program: what it reads and writes.
 #[derive(Drop)]
-pub struct Parts<V, R, W, E, C, N, H> {
+pub struct Parts<V, R, W, E, C, F, N, H> {
     /// The files of the repository.
     pub vault: V,
     /// Where requests come from.
@@ -17,6 +17,8 @@ pub struct Parts<V, R, W, E, C, N, H> {
     pub keys: String,
     /// The text of the seal, by which manifests are signed.
     pub seal: String,
+    /// Where the changes are that are published.
+    pub folder: F,
     /// Where links to servers come from.
     pub dial: N,
     /// Where sessions are held.

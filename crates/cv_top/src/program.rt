@@ -1,29 +1,32 @@
 //! The program's own call.
-ghost use Rattle.std.specs.Prelude.{◌≡◌, ◌≢◌, ◌⊎◌, [], true, map, string_bytes};
+ghost use Rattle.std.specs.Prelude.{◌≡◌, ◌≢◌, ◌⊎◌, [], true, false, map, string_bytes};
 ghost use Rattle.cv_base.specs.Counts.{HasCause, Rose};
+ghost use Rattle.cv_base.specs.Marker.{marker, ends_in};
 ghost use Rattle.cv_ports.specs.Streams.{onto, Wrote};
 ghost use Rattle.cv_top.specs.Complete.{IsSteady, Completes};
 ghost use Rattle.cv_top.specs.Lines.{IsShell, AnswersLines, TellsLines};
 ghost use Rattle.cv_top.specs.Looks.{Looks};
+ghost use Rattle.cv_top.specs.Publishes.{Publishes};
 ghost use Rattle.cv_top.specs.Runs.{Inits, Serves, Keeps, Runs, outside};
-ghost use Rattle.cv_top.specs.Sealed.{Sealed};
+ghost use Rattle.cv_top.specs.Sealed.{Keyed, Sealed};
 ghost use Rattle.cv_top.specs.Status.{line_of};
 ghost use Rattle.cv_top.specs.Tells.{IsQuestion, Tells, tells_of_tree};
 ghost use Rattle.cv_top.specs.Wholes.{Answered, Answers};
-ghost use Rattle.cv_top.specs.declared.status.Status.TheVariants.{InputFailed, OutputFailed, StoreFailed, LinkFailed};
+ghost use Rattle.cv_top.specs.declared.status.Status.TheVariants.{InputFailed, OutputFailed, StoreFailed, LinkFailed, FolderFailed};
 
 use crate::init::init;
 use crate::look::look;
 use crate::parts::Parts;
+use crate::publish::publish_sealed;
 use crate::seal::{Identity, SealFault, read_seal};
 use crate::shell::answer_lines;
 use crate::status::Status;
 use crate::stdio::serve;
 use crate::words::{Command, WordsFault, read_words};
-use cv_base::Name;
+use cv_base::{Name, RepoPath, Text};
 use cv_client::Url;
 use cv_keys::KeyTable;
-use cv_ports::{Clock, Dial, Failed, Hold, Sink, Source};
+use cv_ports::{Clock, Dial, Failed, Folder, Hold, Sink, Source};
 use cv_resolver::Question;
 use cv_swap::laws::{opening_finds_what_is_kept, opening_keeps_what_is_kept};
 use cv_vault::Vault;
@@ -79,11 +82,11 @@ fn do_stdio<V: Vault + Drop, R: Source + Drop, W: Sink, C: Clock, H: Hold>(
         Err(SealFault::Empty) => return (Status::BadKeys, vault, input),
         Err(SealFault::NoMemory) => return (Status::OutOfMemory, vault, input),
     };
-    let Ok(served) = Identity::read(alloc, name, seal) else {
+    let Ok(signer) = read_seal(alloc, seal) else {
         return (Status::OutOfMemory, vault, input);
     };
     serve(
-        alloc, repository, served, table, vault, input, output, clock, hold,
+        alloc, repository, signer, table, vault, input, output, clock, hold,
     )
 }
 
@@ -138,8 +141,40 @@ fn do_shell<R: Source + Drop, W: Sink, N: Dial>(
     }
 }
 
+/// Judges the keys, and then publishes a folder of changes.
+fn do_publish<W: Sink, C: Clock, F: Folder, N: Dial>(
+    alloc: Global,
+    url: &Url,
+    path: RepoPath,
+    root: &Text,
+    keys: &str,
+    seal: &str,
+    output: &mut W,
+    clock: &mut C,
+    folder: &mut F,
+    dial: &mut N,
+) -> Status
+    requires { ends_in marker path ≡ false }
+    ensures does { Keyed keys.now seal.now ((output.new ≡ output.old) × (clock.new ≡ clock.old) × (folder.new ≡ folder.old) × (dial.new ≡ dial.old))
+        (λ table. Publishes W.taken C.moments F.folder N.came table seal.now url.now path
+        output.old output.new clock.old clock.new folder.old folder.new dial.old dial.new) result }
+    ensures flushed { result ≢ OutputFailed → W.passed output.old ≡ W.taken output.old → W.passed output.new ≡ W.taken output.new }
+    ensures reads { result ≢ InputFailed }
+    ensures writes { HasCause (W.faults output.old) (W.faults output.new) (result ≡ OutputFailed) }
+    ensures stores { result ≢ StoreFailed }
+    ensures links { HasCause (N.faults dial.old) (N.faults dial.new) (result ≡ LinkFailed) }
+    ensures folders { HasCause (F.faults folder.old) (F.faults folder.new) (result ≡ FolderFailed) }
+{
+    match KeyTable::read(alloc, keys.as_bytes()) {
+        Ok(table) => publish_sealed(
+            alloc, url, path, root, &table, seal, output, clock, folder, dial,
+        ),
+        Err(fault) => Status::of_keys(fault),
+    }
+}
+
 /// Does what the words ask for.
-fn do_command<V: Vault + Drop, R: Source + Drop, W: Sink, C: Clock, N: Dial, H: Hold>(
+fn do_command<V: Vault + Drop, R: Source + Drop, W: Sink, C: Clock, F: Folder, N: Dial, H: Hold>(
     alloc: Global,
     words: &[String],
     keys: &str,
@@ -148,16 +183,18 @@ fn do_command<V: Vault + Drop, R: Source + Drop, W: Sink, C: Clock, N: Dial, H: 
     input: R,
     output: &mut W,
     clock: &mut C,
+    folder: &mut F,
     dial: &mut N,
     hold: &H,
 ) -> (Status, V, R)
-    ensures runs { Runs V.disk V.count V.left V.faults R.left R.looks W.taken W.passed C.moments N.came (map string_bytes words.now) keys.now seal.now
-        (outside vault input output.old clock.old dial.old) (outside result.1 result.2 output.new clock.new dial.new) result.0 }
+    ensures runs { Runs V.disk V.count V.left V.faults R.left R.looks W.taken W.passed C.moments F.folder N.came (map string_bytes words.now) keys.now seal.now
+        (outside vault input output.old clock.old folder.old dial.old) (outside result.1 result.2 output.new clock.new folder.new dial.new) result.0 }
     ensures flushed { result.0 ≢ OutputFailed → W.passed output.old ≡ W.taken output.old → W.passed output.new ≡ W.taken output.new }
     ensures reads { HasCause (R.faults input) (R.faults result.2) (result.0 ≡ InputFailed) }
     ensures writes { HasCause (W.faults output.old) (W.faults output.new) (result.0 ≡ OutputFailed) }
     ensures stores { HasCause (V.faults vault) (V.faults result.1) (result.0 ≡ StoreFailed) }
     ensures links { HasCause (N.faults dial.old) (N.faults dial.new) (result.0 ≡ LinkFailed) }
+    ensures folders { HasCause (F.faults folder.old) (F.faults folder.new) (result.0 ≡ FolderFailed) }
     ensures answered { IsSteady (W.faults output.old) (W.faults output.new) → IsSteady (N.faults dial.old) (N.faults dial.new)
         → IsQuestion (map string_bytes words.now) → seal.now ≢ []
         → Answers W.taken (map string_bytes words.now) seal.now (N.came dial.old) (N.came dial.new) output.old output.new result.0 }
@@ -181,15 +218,21 @@ fn do_command<V: Vault + Drop, R: Source + Drop, W: Sink, C: Clock, N: Dial, H: 
             let (status, input) = do_shell(alloc, &url, seal, input, output, dial);
             (status, vault, input)
         }
+        Ok(Command::Publish(url, path, root)) => {
+            let status = do_publish(
+                alloc, &url, path, &root, keys, seal, output, clock, folder, dial,
+            );
+            (status, vault, input)
+        }
         Err(WordsFault::Usage) => (Status::Usage, vault, input),
         Err(WordsFault::NoMemory) => (Status::OutOfMemory, vault, input),
     }
 }
 
 /// Writes the line of a status. A line that can't be written whole is a fault of the sink.
-fn say<E: Sink>(errors: &mut E, status: Status)
-    ensures whole { (E.taken errors.new ≡ onto (E.taken errors.old) (line_of status)) ⊎ Rose 1 (E.faults errors.old) (E.faults errors.new) }
-    ensures part { Wrote (E.taken errors.old) (E.taken errors.new) (line_of status) }
+fn say<E: Sink>(errors: &mut E, status: &Status)
+    ensures whole { (E.taken errors.new ≡ onto (E.taken errors.old) (line_of status.now)) ⊎ Rose 1 (E.faults errors.old) (E.faults errors.new) }
+    ensures part { Wrote (E.taken errors.old) (E.taken errors.new) (line_of status.now) }
 {
     match status.write_line(errors) {
         Ok(()) => {}
@@ -207,17 +250,28 @@ fn say<E: Sink>(errors: &mut E, status: Status)
 /// the content of a file, as they are in the tree of the manifest that is served. `shell`, with a URL, answers the lines of
 /// the input, each of which is such a command with a path alone, or `renew`: all in the tree of the manifest that was served
 /// first, or of the one that the last `renew` took. A line is answered, and the output flushed, before more is read.
-pub fn run<V: Vault + Drop, R: Source + Drop, W: Sink, E: Sink, C: Clock, N: Dial, H: Hold>(
+/// `publish`, with a URL, a path and the name of a folder, publishes the folder's changes at the path through the gateway that
+/// serves the repository, signed by the first key, and prints the revision that they became.
+pub fn run<
+    V: Vault + Drop,
+    R: Source + Drop,
+    W: Sink,
+    E: Sink,
+    C: Clock,
+    F: Folder,
+    N: Dial,
+    H: Hold,
+>(
     alloc: Global,
     words: &[String],
-    parts: Parts<V, R, W, E, C, N, H>,
-) -> (Status, Parts<V, R, W, E, C, N, H>)
-    ensures runs { Runs V.disk V.count V.left V.faults R.left R.looks W.taken W.passed C.moments N.came (map string_bytes words.now) (string_bytes parts.keys) (string_bytes parts.seal)
-        (outside parts.vault parts.input parts.output parts.clock parts.dial) (outside result.1.vault result.1.input result.1.output result.1.clock result.1.dial) result.0 }
+    parts: Parts<V, R, W, E, C, F, N, H>,
+) -> (Status, Parts<V, R, W, E, C, F, N, H>)
+    ensures runs { Runs V.disk V.count V.left V.faults R.left R.looks W.taken W.passed C.moments F.folder N.came (map string_bytes words.now) (string_bytes parts.keys) (string_bytes parts.seal)
+        (outside parts.vault parts.input parts.output parts.clock parts.folder parts.dial) (outside result.1.vault result.1.input result.1.output result.1.clock result.1.folder result.1.dial) result.0 }
 
     // The headline: what is kept stays on one line of revisions, whatever is asked, and whenever the program is cut.
     ensures headline { Keeps V.disk V.count V.left V.faults R.left R.looks W.taken W.passed C.moments (map string_bytes words.now) (string_bytes parts.keys) (string_bytes parts.seal)
-        (outside parts.vault parts.input parts.output parts.clock parts.dial) (outside result.1.vault result.1.input result.1.output result.1.clock result.1.dial) }
+        (outside parts.vault parts.input parts.output parts.clock parts.folder parts.dial) (outside result.1.vault result.1.input result.1.output result.1.clock result.1.folder result.1.dial) }
     ensures texts { (result.1.keys ≡ parts.keys) × (result.1.seal ≡ parts.seal) × (result.1.hold ≡ parts.hold) }
 
     // Where the output didn't fail, all that it took is passed on.
@@ -228,6 +282,7 @@ pub fn run<V: Vault + Drop, R: Source + Drop, W: Sink, E: Sink, C: Clock, N: Dia
     ensures writes { HasCause (W.faults parts.output) (W.faults result.1.output) (result.0 ≡ OutputFailed) }
     ensures stores { HasCause (V.faults parts.vault) (V.faults result.1.vault) (result.0 ≡ StoreFailed) }
     ensures links { HasCause (N.faults parts.dial) (N.faults result.1.dial) (result.0 ≡ LinkFailed) }
+    ensures folders { HasCause (F.faults parts.folder) (F.faults result.1.folder) (result.0 ≡ FolderFailed) }
 
     // Where no count rose, `init` and `stdio` do their work, or want memory.
     ensures completes { IsSteady (R.faults parts.input) (R.faults result.1.input) → IsSteady (W.faults parts.output) (W.faults result.1.output) → IsSteady (V.faults parts.vault) (V.faults result.1.vault)
@@ -261,6 +316,7 @@ pub fn run<V: Vault + Drop, R: Source + Drop, W: Sink, E: Sink, C: Clock, N: Dia
         mut clock,
         keys,
         seal,
+        mut folder,
         mut dial,
         hold,
     } = parts;
@@ -273,10 +329,11 @@ pub fn run<V: Vault + Drop, R: Source + Drop, W: Sink, E: Sink, C: Clock, N: Dia
         input,
         &mut output,
         &mut clock,
+        &mut folder,
         &mut dial,
         &hold,
     );
-    say(&mut errors, status);
+    say(&mut errors, &status);
     let parts = Parts {
         vault,
         input,
@@ -285,6 +342,7 @@ pub fn run<V: Vault + Drop, R: Source + Drop, W: Sink, E: Sink, C: Clock, N: Dia
         clock,
         keys,
         seal,
+        folder,
         dial,
         hold,
     };

@@ -2,16 +2,25 @@
 ghost use Rattle.std.specs.Prelude.{◌≡◌, [], OnOk, IsErr};
 ghost use Rattle.cv_base.specs.Counts.{HasCause};
 ghost use Rattle.cv_ports.specs.Streams.{onto, Wrote};
+ghost use Rattle.cv_base.specs.Path.{text_of as path_text_of};
+ghost use Rattle.cv_top.specs.Publishes.{IsOrMemory, exchange_status, read_status, refusal_status, publish_status};
+ghost use Rattle.cv_top.specs.declared.status.Status.TheVariants.{Changes};
 ghost use Rattle.cv_top.specs.Status.{code_of, text_of, what_of, detail_of, said, line_of, keys_status, init_status, open_status, end_status, ask_status, refused_status, shell_status};
 
 use crate::client_fault::{LookFault, ServedFault};
-use cv_client::AskFault;
+use crate::publish_fault::{ChangesFault, RefusedFor};
+use cv_answers::{Answer, Reason, Refusal};
+use cv_base::{RepoPath, Text};
+use cv_client::{AskFault, ExchangeFault};
 use cv_keys::KeyFault;
+use cv_overlay::ReadFault;
 use cv_ports::{Failed, Sink, write_all};
+use cv_publisher::PublishFault;
 use cv_resolver::ClientFault;
 use cv_session::SessionEnd;
 use cv_shell::ShellEnd;
 use cv_swap::{InitFault, OpenFault};
+use std::alloc::Global;
 
 /// What is wrong with the files of a repository.
 #[derive(Clone, Copy, Debug, PartialEq, Eq)]
@@ -56,7 +65,7 @@ impl RepositoryFault {
 }
 
 /// How the program ends. Each status but `Done` has a line on standard error.
-#[derive(Clone, Copy, Debug, PartialEq, Eq)]
+#[derive(Debug, Drop)]
 pub enum Status {
     /// What was asked is done. A session over standard input ended where the input ends, or by a
     /// request that asked for the end or was the last that a session takes; a shell ended with its input.
@@ -65,6 +74,8 @@ pub enum Status {
     Usage,
     /// The repository can't be made or opened as its files stand.
     Repository(RepositoryFault),
+    /// The gateway refused what a publisher asked.
+    Refused(RefusedFor),
     /// The input failed.
     InputFailed,
     /// The output failed.
@@ -81,8 +92,12 @@ pub enum Status {
     Served(ServedFault),
     /// A server wrote no reply that answers the request.
     BadReply,
+    /// The changes of a folder can't be published, by what is at the path of this text.
+    Changes(ChangesFault, Text),
     /// A request that no further one can follow: it was faulty, or was cut; or a line of more than 8,192 bytes.
     BadRequest,
+    /// The folder of changes failed.
+    FolderFailed,
     /// The keys text has a fault, or the seal is empty.
     BadKeys,
     /// There was no memory.
@@ -187,14 +202,91 @@ impl Status {
         }
     }
 
+    /// How the program ends where an exchange of a publisher had no reply.
+    pub(crate) fn of_exchange(fault: ExchangeFault) -> Status
+        ensures { result ≡ exchange_status fault }
+    {
+        match fault {
+            ExchangeFault::LinkFailed => Status::LinkFailed,
+            ExchangeFault::BadReply => Status::BadReply,
+            ExchangeFault::NoMemory => Status::OutOfMemory,
+        }
+    }
+
+    /// How the program ends by a fault of the changes, whose path is told by its text.
+    fn of_changes(alloc: Global, fault: ChangesFault, path: &RepoPath) -> Status
+        ensures { IsOrMemory (Changes fault (path_text_of path.now)) result }
+    {
+        match path.text(alloc) {
+            Ok(text) => Status::Changes(fault, Text::new(text)),
+            Err(_) => Status::OutOfMemory,
+        }
+    }
+
+    /// How the program ends where the changes of a folder weren't read.
+    pub(crate) fn of_read(alloc: Global, fault: ReadFault) -> Status
+        ensures { IsOrMemory (read_status fault) result }
+    {
+        match fault {
+            ReadFault::Special(path) => Status::of_changes(alloc, ChangesFault::Special, &path),
+            ReadFault::BadName(path) => Status::of_changes(alloc, ChangesFault::BadName, &path),
+            ReadFault::TooLarge(path) => Status::of_changes(alloc, ChangesFault::TooLarge, &path),
+            ReadFault::Failed => Status::FolderFailed,
+            ReadFault::NoMemory => Status::OutOfMemory,
+        }
+    }
+
+    /// How the program ends by the gateway's answer, which refuses what a publisher asked.
+    fn of_refusal(answer: Answer) -> Status
+        ensures { result ≡ refusal_status answer }
+    {
+        match answer {
+            Answer::PathBusy { .. } => Status::Refused(RefusedFor::PathBusy),
+            Answer::Refused(refusal) => Status::Refused(RefusedFor::Said(refusal)),
+            Answer::Granted { .. }
+            | Answer::Done
+            | Answer::Committed { .. }
+            | Answer::Leases(_)
+            | Answer::Repos(_) => Status::BadReply,
+        }
+    }
+
+    /// How the program ends where a publisher published nothing.
+    pub(crate) fn of_publish(alloc: Global, fault: PublishFault) -> Status
+        ensures { IsOrMemory (publish_status fault) result }
+    {
+        match fault {
+            PublishFault::Refused(answer) => Status::of_refusal(answer),
+            PublishFault::BadReply => Status::BadReply,
+            PublishFault::BadManifest(_) => Status::Served(ServedFault::BadManifest),
+            PublishFault::BadObject { id, .. } => Status::Served(ServedFault::BadObject(id)),
+            PublishFault::NotServed(id) => Status::Served(ServedFault::NotServed(id)),
+            PublishFault::BadCatalogue(id) => Status::Served(ServedFault::BadCatalogue(id)),
+            PublishFault::BadWhiteout(path) => {
+                Status::of_changes(alloc, ChangesFault::BadWhiteout, &path)
+            }
+            PublishFault::PathCollision { first, .. } => {
+                Status::of_changes(alloc, ChangesFault::PathCollision, &first)
+            }
+            PublishFault::CatalogueFull(path) => {
+                Status::of_changes(alloc, ChangesFault::CatalogueFull, &path)
+            }
+            PublishFault::NoParent => {
+                Status::Refused(RefusedFor::Said(Refusal::Plain(Reason::NoParent)))
+            }
+            PublishFault::NoMemory => Status::OutOfMemory,
+        }
+    }
+
     /// The exit status of the program.
-    pub fn code(self) -> u8
-        ensures { result ≡ code_of self }
+    pub fn code(&self) -> u8
+        ensures { result ≡ code_of self.now }
     {
         match self {
             Status::Done => 0,
             Status::Usage => 2,
             Status::Repository(_) => 3,
+            Status::Refused(_) => 4,
             Status::InputFailed => 5,
             Status::OutputFailed => 6,
             Status::StoreFailed => 7,
@@ -203,20 +295,23 @@ impl Status {
             Status::NoAnswer(_) => 10,
             Status::Served(_) => 11,
             Status::BadReply => 12,
+            Status::Changes(_, _) => 13,
             Status::BadRequest => 14,
+            Status::FolderFailed => 15,
             Status::BadKeys => 16,
             Status::OutOfMemory => 70,
         }
     }
 
     /// What the line on standard error says.
-    fn what(self) -> &'static str
-        ensures { result.now ≡ what_of self }
+    fn what(&self) -> &'static str
+        ensures { result.now ≡ what_of self.now }
     {
         match self {
             Status::Done => "",
             Status::Usage => "usage",
             Status::Repository(_) => "repository: ",
+            Status::Refused(_) => "refused: ",
             Status::InputFailed => "input failed",
             Status::OutputFailed => "output failed",
             Status::StoreFailed => "store failed",
@@ -225,29 +320,33 @@ impl Status {
             Status::NoAnswer(fault) => fault.text(),
             Status::Served(fault) => fault.text(),
             Status::BadReply => "bad reply",
+            Status::Changes(fault, _) => fault.text(),
             Status::BadRequest => "bad request",
+            Status::FolderFailed => "folder failed",
             Status::BadKeys => "bad keys",
             Status::OutOfMemory => "out of memory",
         }
     }
 
     /// Writes of what the line says that.
-    fn write_detail<E: Sink>(self, errors: &mut E) -> Result<(), Failed>
-        ensures whole { OnOk result (E.taken errors.new ≡ onto (E.taken errors.old) (detail_of self)) }
-        ensures part { Wrote (E.taken errors.old) (E.taken errors.new) (detail_of self) }
+    fn write_detail<E: Sink>(&self, errors: &mut E) -> Result<(), Failed>
+        ensures whole { OnOk result (E.taken errors.new ≡ onto (E.taken errors.old) (detail_of self.now)) }
+        ensures part { Wrote (E.taken errors.old) (E.taken errors.new) (detail_of self.now) }
         ensures cause { HasCause (E.faults errors.old) (E.faults errors.new) (IsErr result) }
     {
         match self {
             Status::Repository(fault) => write_all(errors, fault.text().as_bytes()),
+            Status::Refused(cause) => write_all(errors, cause.text().as_bytes()),
             Status::Served(fault) => fault.write_object(errors),
+            Status::Changes(_, path) => write_all(errors, path.as_str().as_bytes()),
             _ => write_all(errors, b"".as_slice()),
         }
     }
 
     /// Writes a line of the program: its name, what is said, and of what.
-    fn write_said<E: Sink>(self, errors: &mut E) -> Result<(), Failed>
-        ensures whole { OnOk result (E.taken errors.new ≡ onto (E.taken errors.old) (said (what_of self) (detail_of self))) }
-        ensures part { Wrote (E.taken errors.old) (E.taken errors.new) (said (what_of self) (detail_of self)) }
+    fn write_said<E: Sink>(&self, errors: &mut E) -> Result<(), Failed>
+        ensures whole { OnOk result (E.taken errors.new ≡ onto (E.taken errors.old) (said (what_of self.now) (detail_of self.now))) }
+        ensures part { Wrote (E.taken errors.old) (E.taken errors.new) (said (what_of self.now) (detail_of self.now)) }
         ensures cause { HasCause (E.faults errors.old) (E.faults errors.new) (IsErr result) }
     {
         write_all(errors, b"cvkit: ".as_slice())?;
@@ -258,9 +357,9 @@ impl Status {
     }
 
     /// Writes the line of the status on standard error, which `Done` has none of. It takes no memory.
-    pub fn write_line<E: Sink>(self, errors: &mut E) -> Result<(), Failed>
-        ensures whole { OnOk result (E.taken errors.new ≡ onto (E.taken errors.old) (line_of self)) }
-        ensures part { Wrote (E.taken errors.old) (E.taken errors.new) (line_of self) }
+    pub fn write_line<E: Sink>(&self, errors: &mut E) -> Result<(), Failed>
+        ensures whole { OnOk result (E.taken errors.new ≡ onto (E.taken errors.old) (line_of self.now)) }
+        ensures part { Wrote (E.taken errors.old) (E.taken errors.new) (line_of self.now) }
         ensures cause { HasCause (E.faults errors.old) (E.faults errors.new) (IsErr result) }
     {
         match self {

@@ -30,7 +30,7 @@ fn talk<V: Vault + Drop, R: Source + Drop, W: Sink, C: Clock, H: Hold>(
     clock: &mut C,
     hold: &H,
 ) -> (SessionEnd, R)
-    ensures talks { Talks V.disk V.count V.left V.faults R.left R.looks W.taken W.passed C.moments desk.old.name keys.now signer.now desk.old desk.new
+    ensures talks { Talks V.disk V.count V.left V.faults R.left R.looks W.taken W.passed C.moments desk.old.gate.state.line.name keys.now signer.now desk.old desk.new
         input result.1 output.old output.new clock.old clock.new result.0 }
     ensures flushed { result.0 ≢ WriteFault → W.passed output.old ≡ W.taken output.old → W.passed output.new ≡ W.taken output.new }
     ensures reads { HasCause (R.faults input) (R.faults result.1) (result.0 ≡ ReadFault) }
@@ -42,12 +42,12 @@ fn talk<V: Vault + Drop, R: Source + Drop, W: Sink, C: Clock, H: Hold>(
     (end, wire.into_source())
 }
 
-/// Opens the gate of the repository, and answers the requests of the input on the output. The identity is given twice: for
-/// the gate, and for what is served.
+/// Opens the gate of the repository, and answers the requests of the input on the output. The signer is given twice: for the
+/// gate, and for what is served.
 pub(crate) fn serve<V: Vault + Drop, R: Source + Drop, W: Sink, C: Clock, H: Hold>(
     alloc: Global,
     repository: Identity,
-    served: Identity,
+    signer: KeyedHash,
     keys: &KeyTable,
     vault: V,
     input: R,
@@ -55,8 +55,7 @@ pub(crate) fn serve<V: Vault + Drop, R: Source + Drop, W: Sink, C: Clock, H: Hol
     clock: &mut C,
     hold: &H,
 ) -> (Status, V, R)
-    requires named { served.name ≡ repository.name }
-    requires signed { served.signer ≡ repository.signer }
+    requires signed { signer ≡ repository.signer }
     ensures serves { Serves V.disk V.count V.left V.faults R.left R.looks W.taken W.passed C.moments repository.name keys.now repository.signer
         vault result.1 input result.2 output.old output.new clock.old clock.new result.0 }
     ensures flushed { result.0 ≢ OutputFailed → W.passed output.old ≡ W.taken output.old → W.passed output.new ≡ W.taken output.new }
@@ -72,8 +71,7 @@ pub(crate) fn serve<V: Vault + Drop, R: Source + Drop, W: Sink, C: Clock, H: Hol
         Ok(gate) => gate,
         Err((fault, vault)) => return (Status::of_open(fault), vault, input),
     };
-    let Identity { name, signer } = served;
-    let mut desk = OneDesk::new(gate, name);
+    let mut desk = OneDesk::new(gate);
     let (end, input) = talk(alloc, &mut desk, keys, &signer, input, output, clock, hold);
     (Status::of_end(end), desk.into_gate().into_vault(), input)
 }

@@ -3,7 +3,9 @@ ghost use Rattle.std.specs.Prelude.{◌≡◌, ◌+◌, ◌∷◌, [], IfOk};
 
 use crate::{Parts, Status, run};
 use cv_base::NoMemory;
-use cv_ports::{MemoryClock, MemoryDial, MemoryLink, MemorySink, MemorySource, NoHold};
+use cv_ports::{
+    MemoryClock, MemoryDial, MemoryFolder, MemoryLink, MemorySink, MemorySource, NoHold,
+};
 use cv_vault::{MemoryVault, Mortal, Vault};
 use std::alloc::Global;
 
@@ -101,10 +103,11 @@ pub(crate) struct Around {
     pub(crate) input: Vec<u64>,
     pub(crate) output: Vec<u64>,
     pub(crate) links: Vec<MemoryLink>,
+    pub(crate) folder: Option<MemoryFolder>,
 }
 
 impl Around {
-    /// Two keys, a seal, one moment, no link, and nothing fails.
+    /// Two keys, a seal, one moment, no link, an empty folder, and nothing fails.
     pub(crate) fn usual(alloc: Global) -> Around {
         Around {
             keys: KEYS,
@@ -113,6 +116,7 @@ impl Around {
             input: Vec::new(alloc),
             output: Vec::new(alloc),
             links: Vec::new(alloc),
+            folder: None,
         }
     }
 }
@@ -120,7 +124,7 @@ impl Around {
 /// A link whose peer gives these bytes.
 pub(crate) fn link_with(alloc: Global, reply: &[u8]) -> Result<MemoryLink, NoMemory> {
     let reads = MemorySource::new(Vec::from_slice(alloc, reply)?, 100, Vec::new(alloc));
-    let writes = MemorySink::new(alloc, 1_000, Vec::new(alloc))?;
+    let writes = MemorySink::new(alloc, 20_000, Vec::new(alloc))?;
     MemoryLink::new(alloc, reads, writes)
 }
 
@@ -138,6 +142,16 @@ fn requests_of(alloc: Global, dial: MemoryDial) -> Result<Vec<u8>, NoMemory> {
 pub(crate) const INIT: [&str; 2] = ["init", "sw.example.org"];
 
 pub(crate) const STDIO: [&str; 2] = ["stdio", "sw.example.org"];
+
+/// The folder, or an empty one.
+fn folder_or_empty(alloc: Global, folder: Option<MemoryFolder>) -> Result<MemoryFolder, NoMemory> {
+    match folder {
+        Some(folder) => Ok(folder),
+        None => MemoryFolder::new(Vec::new(alloc), Vec::new(alloc), Vec::new(alloc)).ok_or(
+            NoMemory,
+        ),
+    }
+}
 
 /// Runs the program on these words, this vault and this input, and hands the vault back.
 pub(crate) fn run_on(
@@ -159,6 +173,7 @@ pub(crate) fn run_on(
         clock: MemoryClock::new(moments_at(alloc, around.seconds)?),
         keys: String::from_str(alloc, around.keys)?,
         seal: String::from_str(alloc, around.seal)?,
+        folder: folder_or_empty(alloc, around.folder)?,
         dial: MemoryDial::new(alloc, around.links, Vec::new(alloc))?,
         hold: NoHold,
     };

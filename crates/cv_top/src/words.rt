@@ -9,7 +9,7 @@ ghost use Rattle.cv_top.specs.Words.{is_option, values_of, IsPlace, Means, Asks,
 ghost use Rattle.cv_top.specs.declared.words.Command.{Command};
 ghost use Rattle.cv_top.specs.declared.words.WordsFault.TheVariants.{Usage};
 
-use cv_base::{Name, PathFault, RepoPath};
+use cv_base::{Name, PathFault, RepoPath, Text, ends_in_marker};
 use cv_client::Url;
 use cv_resolver::Question;
 use std::alloc::Global;
@@ -25,6 +25,8 @@ pub enum Command {
     Look(Url, Question),
     /// Answer the lines on standard input, of the repository that is served under this URL.
     Shell(Url),
+    /// Publish at this path the changes in the folder of this name, in the repository that is served under this URL.
+    Publish(Url, RepoPath, Text),
 }
 
 /// Why there is no command.
@@ -96,6 +98,7 @@ fn read_url(alloc: Global, word: &str) -> Result<Url, WordsFault>
 /// Reads a path of a repository.
 fn read_path(alloc: Global, word: &str) -> Result<RepoPath, WordsFault>
     ensures path { IfOk result (λ path. IsPath path × Spells word.now path) }
+    ensures only { IfOk result (λ path. (p : Path) → IsPath p → Spells word.now p → path ≡ p) }
     ensures usage { result ≡ Err Usage → (path : Path) → IsPath path → Spells word.now path → ⊥ }
 {
     match RepoPath::read(alloc, word) {
@@ -127,6 +130,7 @@ struct Place {
 /// Reads a URL and a path.
 fn read_place(alloc: Global, url: &str, path: &str) -> Result<Place, WordsFault>
     ensures place { IfOk result (λ place. IsPlace url.now path.now place.url place.path) }
+    ensures only { IfOk result (λ place. (u : Url) (p : Path) → IsPlace url.now path.now u p → place.path ≡ p) }
     ensures usage { result ≡ Err Usage → (u : Url) (p : Path) → IsPlace url.now path.now u p → ⊥ }
 {
     Ok(Place {
@@ -157,6 +161,32 @@ fn read_look(alloc: Global, verb: &str, url: &str, path: &str) -> Result<Command
     }
 }
 
+/// Reads `publish`, a URL, a path and the name of a folder. A path whose last name is that of a catalogue's marker is refused.
+fn read_publish(
+    alloc: Global,
+    verb: &str,
+    url: &str,
+    path: &str,
+    folder: &str,
+) -> Result<Command, WordsFault>
+    ensures command { IfOk result (Means verb.now (url.now ∷ path.now ∷ folder.now ∷ [])) }
+    ensures usage { result ≡ Err Usage → (command : Command) → Means verb.now (url.now ∷ path.now ∷ folder.now ∷ []) command → ⊥ }
+{
+    match verb {
+        "publish" => {
+            let Place { url, path } = read_place(alloc, url, path)?;
+            if ends_in_marker(&path) {
+                return Err(WordsFault::Usage);
+            }
+            match Text::from_str(alloc, folder) {
+                Ok(folder) => Ok(Command::Publish(url, path, folder)),
+                Err(_) => Err(WordsFault::NoMemory),
+            }
+        }
+        _ => Err(WordsFault::Usage),
+    }
+}
+
 /// Reads a command by its word and its values.
 fn read_command(alloc: Global, verb: &str, values: &[&str]) -> Result<Command, WordsFault>
     ensures command { IfOk result (Means verb.now (map (λ value. value.now) values.now)) }
@@ -165,13 +195,14 @@ fn read_command(alloc: Global, verb: &str, values: &[&str]) -> Result<Command, W
     match values {
         [value] => read_one(alloc, verb, value),
         [url, path] => read_look(alloc, verb, url, path),
+        [url, path, folder] => read_publish(alloc, verb, url, path, folder),
         _ => Err(WordsFault::Usage),
     }
 }
 
 /// Reads the words after the program's name: `init` or `stdio`, and the name of a repository; `ls`, `stat` or `cat`, a URL
-/// and a path; or `shell`, and a URL. There is no option, so that a word which begins with `-` and goes on is refused. Behind
-/// the first word `--` each is a value.
+/// and a path; `shell`, and a URL; or `publish`, a URL, a path and the name of a folder. There is no option, so that a word
+/// which begins with `-` and goes on is refused. Behind the first word `--` each is a value.
 pub fn read_words(alloc: Global, words: &[String]) -> Result<Command, WordsFault>
     ensures command { IfOk result (λ command. Asks (map string_bytes words.now) command) }
     ensures usage { result ≡ Err Usage → IsCommand (map string_bytes words.now) → ⊥ }

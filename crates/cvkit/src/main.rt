@@ -4,7 +4,8 @@
 use cv_base::NoMemory;
 use cv_ports::NoHold;
 use cv_real::{
-    FolderVault, StreamSink, StreamSource, SystemClock, TcpDial, program_words, text_or_empty,
+    FolderVault, StreamSink, StreamSource, SystemClock, SystemFolder, TcpDial, program_words,
+    text_or_empty,
 };
 use cv_top::{Parts, Status, run};
 use std::process::ExitCode;
@@ -26,6 +27,7 @@ fn run_here(rt: HostRuntime) -> Result<Status, NoMemory> {
         clock: SystemClock::new(rt),
         keys: text_or_empty(&rt, "cvkit.keys")?,
         seal: text_or_empty(&rt, "cvkit.seal")?,
+        folder: SystemFolder::new(rt),
         dial: TcpDial::new(rt),
         hold: NoHold,
     };

@@ -1,4 +1,4 @@
-use Rattle.std.proofs.Common.{◌≡◌, refl}
+use Rattle.std.proofs.Common.{refl}
 use Rattle.cv_top.specs.Lines.{answered, unpinned}
 use Rattle.cv_top.proofs.shell.answer_lines.Goals as goal
 

@@ -1,0 +1,10 @@
+use Rattle.std.proofs.Common.{◌≤◌}
+use Rattle.cv_top.specs.Publishes.{Goes}
+use Rattle.cv_top.specs.Seal.{is_seal_by}
+use Rattle.cv_top.proofs.publish.exchange_all.Given as goal
+
+abbrev pub invariant-exchanges : goal.invariant-exchanges
+invariant-exchanges g l = record {
+  went : Goes (is_seal_by l.signer) l.keys l.url (g.N.Dial.came l.initial.dial) l.initial.publisher (g.N.Dial.came l.dial) l.publisher;
+  later : g.N.Dial.faults l.initial.dial ≤ g.N.Dial.faults l.dial;
+}

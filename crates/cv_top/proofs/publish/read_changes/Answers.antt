@@ -1,0 +1,11 @@
+use Rattle.std.proofs.Common.{◌∙◌, sym}
+use Rattle.cv_cut.proofs.Lemmas.{left_by}
+use Rattle.cv_top.specs.Publishes.{ReadsRoot, rooted, unrooted}
+use Rattle.cv_top.proofs.publish.read_changes.Goals as goal
+
+pub returns-in_err-root-clause-reads : goal.returns-in_err-root-clause-reads
+returns-in_err-root-clause-reads g c =
+    left_by (ReadsRoot g.F.Folder.folder c.args.path.now c.args.folder.now c.root.new.self) _ _ c.from_residual.ensures.1 (unrooted c.in_err-root.field-0.0 c.in_err-root.ensures.unchanged)
+
+pub returns-clause-reads : goal.returns-clause-reads
+returns-clause-reads g c = rooted _ (λ x is. c.read_folder.ensures.told x (sym c.read_folder.ensures.unchanged ∙ is))
