@@ -1,5 +1,5 @@
 #!/usr/bin/env python3
-"""A folder of files published through `cvkit stdio`, beside `ostree commit` and `restic backup` of the same folder.
+"""A folder of files published through `cvkit stdio` and by `cvkit publish`, beside `ostree commit` and `restic backup` of it.
 
     bench/publish.py [--short] [PROGRAM]
 
@@ -8,6 +8,11 @@ disk of the system's folder for temporary files, with the syncs that it makes by
 its process, from its start until it has ended; making the repository doesn't count. For cvkit a client in Python reads and hashes
 the files and makes the catalogue, and leases, sends and commits in one connection: the time has that too, and what of it passes
 in the client. One tool runs after the other, five times, and the middle time of each stands. A tool that isn't there is skipped.
+
+Then the folder has 10,000 such files, and `cvkit publish` takes the client's place: its time is that of its process, whose gateway
+is one `cvkit stdio` behind a small listener in Python (`tools/cvkit_gateway.py`), and it has the most memory that its process had.
+Ten files are changed, and published again: by cvkit as a folder of these ten, by the others as the whole folder.
+
 The short form has five files, and prints no time. Each repository must have the files then.
 """
 import collections
@@ -35,6 +40,7 @@ from cvkit_client import (
     sync_calls,
 )
 from cvkit_files import read_file, whole_head
+from cvkit_gateway import gateway
 from cvkit_release import DIRECTORY, file, offer, tree
 
 # The seconds in which an answer has to come.
@@ -43,8 +49,11 @@ SIZE = 10_240
 # What restic asks for, and where it keeps what speeds it up: in the folder of the run.
 PASSWORD = "publish"
 
-# A publication: the seconds of all of it, and those that passed in the client.
-Taken = collections.namedtuple("Taken", "seconds client")
+# How many files are changed for a second publication.
+CHANGED = 10
+# A publication: the seconds of all of it, and those that passed in the client; and of one after a change: the seconds, and the most
+# memory of the two, in MiB.
+Taken = collections.namedtuple("Taken", "seconds client again peak", defaults=(0, 0))
 
 
 def make_files(folder, count):
@@ -53,6 +62,27 @@ def make_files(folder, count):
     for number in range(count):
         with open(os.path.join(folder, f"{number:06}"), "wb") as made:
             made.write(os.urandom(SIZE))
+
+
+def change(folder):
+    """Gives the first files of a folder other contents, and their names."""
+    names = sorted(os.listdir(folder))[:CHANGED]
+    for name in names:
+        with open(os.path.join(folder, name), "wb") as changed:
+            changed.write(os.urandom(SIZE))
+    return names
+
+
+def run_measured(words, place, env=None):
+    """Runs these words, which must end with status 0: their output, the seconds, and the most memory, in MiB."""
+    begin = time.perf_counter()
+    child = subprocess.Popen(words, cwd=place, env=env, stdin=subprocess.DEVNULL, stdout=subprocess.PIPE, stderr=subprocess.DEVNULL)
+    output = child.stdout.read()
+    _, status, usage = os.wait4(child.pid, 0)
+    child.stdout.close()
+    child.returncode = os.waitstatus_to_exitcode(status)
+    expect(child.returncode == 0, f"{words[0]} {words[1]}", child.returncode)
+    return output, time.perf_counter() - begin, usage.ru_maxrss / 1024
 
 
 def contents_of(folder):
@@ -106,6 +136,40 @@ class Cvkit:
             return sync_calls([self.program, "stdio", REPOSITORY], place, b"".join(asked))
 
 
+class Publisher:
+    """`cvkit publish`, over a gateway of a repository that `cvkit init` makes."""
+
+    name = "cvkit publish"
+
+    def __init__(self, program):
+        self.program = program
+
+    def lacks(self):
+        return False
+
+    def run(self, place, port, folder, revision):
+        words = [self.program, "publish", f"http://127.0.0.1:{port}/cvmfs/{REPOSITORY}", "/files", folder]
+        output, seconds, peak = run_measured(words, place)
+        expect(output == b"revision %d\n" % revision, "what a publication printed", output)
+        return seconds, peak
+
+    def publish(self, folder):
+        with repository(self.program) as place, gateway(self.program, place) as (port, _):
+            seconds, peak = self.run(place, port, folder, 2)
+            changes = os.path.join(place, "changes")
+            os.mkdir(changes)
+            for name in change(folder):
+                shutil.copy2(os.path.join(folder, name), changes)
+            again, second_peak = self.run(place, port, changes, 3)
+            names = {name: object_path(place, digest_of(content)) for name, content in contents_of(folder).items()}
+            look({name: read_file(path) for name, path in names.items()}, folder)
+        return Taken(seconds, 0, again, max(peak, second_peak))
+
+    def syncs(self, _folder):
+        """They are the gateway's, as those of `cvkit stdio`."""
+        return None
+
+
 class Tool:
     """A tool that puts a folder into a repository by one command."""
 
@@ -120,21 +184,20 @@ class Tool:
         return [self.name] + [word.format(**where) for word in words]
 
     def run(self, words, place, folder):
-        how = {"cwd": place, "env": around(place), "stdin": subprocess.DEVNULL, "capture_output": True}
-        ran = subprocess.run(self.words(words, place, folder), **how)
-        expect(ran.returncode == 0, f"{self.name} {words[0]}", (ran.returncode, ran.stderr))
+        _, seconds, peak = run_measured(self.words(words, place, folder), place, around(place))
+        return seconds, peak
 
     def publish(self, folder):
         with tempfile.TemporaryDirectory(prefix="cvkit-") as place:
             self.run(self.made, place, folder)
-            begin = time.perf_counter()
-            self.run(self.published, place, folder)
-            seconds = time.perf_counter() - begin
+            seconds, peak = self.run(self.published, place, folder)
+            change(folder)
+            again, second_peak = self.run(self.published, place, folder)
             self.run(self.given_back, place, folder)
             out = os.path.join(place, "out")
             below = out + folder
             look(contents_of(below if os.path.isdir(below) else out), folder)
-        return Taken(seconds, 0)
+        return Taken(seconds, 0, again, max(peak, second_peak))
 
     def syncs(self, folder):
         with tempfile.TemporaryDirectory(prefix="cvkit-") as place:
@@ -163,18 +226,21 @@ RESTIC = Tool(
 
 def tell(tool, runs, folder):
     """A line on the runs of a tool."""
-    seconds, client = (statistics.median(one) for one in zip(*runs))
-    syncs = "not counted: there is no strace"
-    if STRACE:
-        syncs = ", ".join(f"{count:,} {call}" for call, count in sorted(tool.syncs(folder).items())) or "none"
-    inside = f", of which {client:.2f} s in its client" if client else ""
-    print(f"{tool.name}: {seconds:.2f} s{inside}; from {min(runs).seconds:.2f} to {max(runs).seconds:.2f} s; syncs: {syncs}")
-    return seconds
+    seconds, client, again, peak = (statistics.median(one) for one in zip(*runs))
+    parts = [f"{seconds:.2f} s" + (f", of which {client:.2f} s in its client" if client else "")]
+    parts.append(f"from {min(runs).seconds:.2f} to {max(runs).seconds:.2f} s")
+    if again:
+        parts.append(f"{CHANGED} changed files {again:.2f} s")
+        parts.append(f"{peak:.0f} MiB at most")
+    syncs = tool.syncs(folder) if STRACE else None
+    if syncs is not None:
+        parts.append("syncs: " + (", ".join(f"{count:,} {call}" for call, count in sorted(syncs.items())) or "none"))
+    print(f"{tool.name}: {'; '.join(parts)}")
+    return seconds, again
 
 
-def script(program, short):
-    count, times = (5, 1) if short else (1_000, 5)
-    tools = [Cvkit(program), OSTREE, RESTIC]
+def measure(tools, count, times, short):
+    """Has each tool publish so many files so often, one tool after the other."""
     for tool in tools:
         if tool.lacks():
             print(f"skipped: {tool.name}: it isn't on this machine")
@@ -188,8 +254,15 @@ def script(program, short):
             return
         print(f"{count:,} files of 10 KiB, the middle one of {times} runs:")
         own, *others = [tell(tool, one, folder) for tool, one in zip(tools, runs)]
-        for tool, seconds in zip(tools[1:], others):
-            print(f"cvkit to {tool.name}: {own / seconds:.2f}")
+        for tool, (seconds, again) in zip(tools[1:], others):
+            changed = f", {CHANGED} changed files {own[1] / again:.2f}" if own[1] else ""
+            print(f"{tools[0].name} to {tool.name}: {own[0] / seconds:.2f}{changed}")
+
+
+def script(program, short):
+    times = 1 if short else 5
+    measure([Cvkit(program), OSTREE, RESTIC], 5 if short else 1_000, times, short)
+    measure([Publisher(program), OSTREE, RESTIC], 5 if short else 10_000, times, short)
 
 
 main(script)

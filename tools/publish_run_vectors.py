@@ -1,0 +1,158 @@
+#!/usr/bin/env python3
+"""Publications for the tests of cv_top: folders, what the gateway replies, what the links to it must take, and what is printed.
+
+Digests are made by hashlib, signatures by hmac, catalogues by `cut_vectors.py` and manifests by `line_vectors.py`. A row of
+PUBLISHED is a run of `publish`: its path, the folder's entries, the replies of its links in their order, all the requests that
+these must take, the output, the status and the line.
+"""
+import json
+
+from cut_vectors import catalogues
+from cvkit_client import LEASES, PAYLOADS, REPOSITORY, authorization, commit_message, digest_of, lease_message, pack, pack_header, payload_message
+from line_vectors import first, literal, manifest
+from vectors import constant, settle, table, text
+
+TIME = 1700000000
+HELLO = b"hello\n"
+DIRECTORY = ("dir", b"")
+# A tree with two files in a directory, and one with nothing.
+BASE = {"": DIRECTORY, "/r": DIRECTORY, "/r/d": DIRECTORY, "/r/d/x": ("file", b"x\n"), "/r/d/y": ("file", b"y\n")}
+EMPTY = {"": DIRECTORY}
+# What is left of the first where a folder takes one file out and brings another.
+NEXT = {**{path: node for path, node in BASE.items() if path != "/r/d/x"}, "/r/d/z": ("file", HELLO)}
+# A catalogue of its own, and a link, which take the place of what stood there.
+OPAQUE = {
+    "": DIRECTORY, "/r": DIRECTORY, "/r/.cvmfscatalog": ("file", b""), "/r/d": DIRECTORY, "/r/d/f": ("file", HELLO), "/r/l": ("link", b"d/f"),
+}
+
+
+# ---- replies
+
+
+def reply(body, kind="application/json", status="200 OK"):
+    return f"HTTP/1.1 {status}\r\nContent-Type: {kind}\r\nContent-Length: {len(body)}\r\nConnection: close\r\n\r\n".encode() + body
+
+
+def said(**members):
+    return reply(json.dumps(members, separators=(",", ":"), sort_keys=True).encode())
+
+
+def octets(body):
+    return reply(body, "application/octet-stream")
+
+
+def root_of(nodes):
+    return digest_of(catalogues(nodes, TIME)[""])
+
+
+def granted(nodes):
+    return said(revision=1, root_hash=root_of(nodes), session_token="1-1", status="ok")
+
+
+def served(nodes):
+    return octets(manifest(2, catalogues(nodes, TIME)[""], first))
+
+
+def committed(nodes):
+    return said(final_revision=3, root_hash=root_of(nodes), status="ok")
+
+
+DONE = said(status="ok")
+ABSENT = reply(b"Not Found\n", "text/plain", "404 Not Found")
+BUSY = said(lease="1-2", status="path_busy", time_remaining=9)
+STALE = said(reason="stale_base", revision=3, status="error")
+GONE = said(reason="invalid_token", status="error")
+
+
+# ---- requests
+
+
+def asked(method, target, body=b"", signed=None, size=None):
+    lines = [f"{method} {target} HTTP/1.1", "Host: h", "Connection: close"]
+    if signed is not None:
+        lines.append("Authorization: " + authorization("k1", signed))
+    if size is not None:
+        lines.append(f"Message-Size: {size}")
+    return "\r\n".join([*lines, f"Content-Length: {len(body)}"]).encode() + b"\r\n\r\n" + body
+
+
+def lease(path):
+    return asked("POST", LEASES, lease_message(path), lease_message(path))
+
+
+def get(file):
+    return asked("GET", f"/cvmfs/{REPOSITORY}/{file}")
+
+
+def catalogue(nodes):
+    digits = root_of(nodes)
+    return get(f"data/{digits[:2]}/{digits[2:]}C")
+
+
+def payload(*objects):
+    objects = sorted(objects)
+    header = pack_header(*objects)
+    message = payload_message(digest_of(header), len(header), "1-1")
+    return asked("POST", PAYLOADS, message + pack(*objects), message, len(message))
+
+
+def made(nodes, *contents):
+    """The objects of a publication: its catalogues, and these contents."""
+    return [(digest_of(data) + "C", data) for data in catalogues(nodes, TIME).values()] + [(digest_of(data), data) for data in contents]
+
+
+def commit(old, new):
+    return asked("POST", f"{LEASES}/1-1", commit_message(root_of(old), root_of(new)), b"1-1")
+
+
+CANCEL = asked("DELETE", f"{LEASES}/1-1", b"", b"1-1")
+HEAD = get(".cvmfspublished")
+
+
+# ---- rows
+
+
+def row(path, entries, exchanges, output=b"", code=0, line=""):
+    """An exchange is a request and its reply; a reply that is None is that of a link that can't be dialled."""
+    folder = "&[" + ", ".join(f"({text(above)}, {text(name)}, {literal(content)})" for above, name, content in entries) + "]"
+    replies = "&[" + ", ".join(literal(given) for _, given in exchanges if given is not None) + "]"
+    took = literal(b"".join(asking for asking, given in exchanges if given is not None))
+    end = f"cvkit: {line}\\n" if line else ""
+    return f'("{path}", {folder}, {replies}, {took}, {literal(output)}, {code}, "{end}")'
+
+
+def begun(path, nodes):
+    return [(lease(path), granted(nodes)), (HEAD, served(nodes)), (catalogue(nodes), octets(catalogues(nodes, TIME)[""]))]
+
+
+ENTRIES = [("", "d/", b""), ("d", ".wh.x", b""), ("d", "z", HELLO)]
+STORY = begun("/r", BASE) + [(payload(*made(NEXT, HELLO)), DONE), (commit(BASE, NEXT), committed(NEXT))]
+CAUGHT = begun("/r", BASE)
+FILE = [("", "f", HELLO)]
+PUBLISHED = [
+    # One file is taken out, and one is brought.
+    row("/r", ENTRIES, STORY, b"revision 3\n"),
+    # An opaque directory, a catalogue of its own, and a link.
+    row(
+        "/r",
+        [("", ".cvmfscatalog", b""), ("", "d/", b""), ("d", ".wh..wh..opq", b""), ("d", "f", HELLO), ("", "l@d/f", b"")],
+        begun("/r", BASE) + [(payload(*made(OPAQUE, b"", HELLO)), DONE), (commit(BASE, OPAQUE), committed(OPAQUE))],
+        b"revision 3\n",
+    ),
+    row("/r", [("", ".wh.", b"")], CAUGHT + [(CANCEL, DONE)], code=13, line="changes: bad whiteout /.wh."),
+    row("/r/d", FILE, begun("/r/d", EMPTY) + [(CANCEL, DONE)], code=4, line="refused: no_parent"),
+    row("/r", FILE, [(lease("/r"), BUSY)], code=4, line="refused: path_busy"),
+    row("/r", ENTRIES, STORY[:4] + [(STORY[4][0], STALE), (CANCEL, GONE)], code=4, line="refused: stale_base"),
+    row("/r", FILE, [(lease("/r"), granted(BASE)), (HEAD, ABSENT), (CANCEL, DONE)], code=12, line="bad reply"),
+    row("/r", FILE, CAUGHT[:2] + [(CAUGHT[2][0], ABSENT), (CANCEL, DONE)], code=11, line=f"not served {root_of(BASE)}C"),
+    row("/r", FILE, CAUGHT[:2] + [(CAUGHT[2][0], b"hello\n")], code=12, line="bad reply"),
+    row("/r", FILE, CAUGHT[:2] + [(CAUGHT[2][0], None)], code=8, line="link failed"),
+    row("/r", [("", "p|", b"")], [], code=13, line="changes: special /p"),
+    row("/r", [("", "", b"")], [], code=15, line="folder failed"),
+]
+
+if __name__ == "__main__":
+    settle(
+        "crates/cv_top/src/publish_tests.rt",
+        [table("PUBLISHED", "Row", PUBLISHED, "static")],
+    )
