@@ -54,7 +54,7 @@ impl ExchangeFault {
 }
 
 /// Sends a request on a link, and reads its reply there.
-fn converse<R: Source + Drop, W: Sink + Drop>(
+fn converse<R: Source<Beside = W> + Drop, W: Sink + Drop>(
     alloc: Global,
     mut link: Link<R, W>,
     request: &Outgoing,

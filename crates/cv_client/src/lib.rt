@@ -9,10 +9,6 @@ mod fetching;
 pub mod laws;
 mod pinning;
 mod printing;
-#[cfg(test)]
-mod story_tests;
-#[cfg(test)]
-mod text_tests;
 mod url;
 
 pub use answering::answer;

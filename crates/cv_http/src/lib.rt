@@ -19,8 +19,6 @@ mod method;
 mod outgoing;
 mod reply;
 mod reply_head;
-#[cfg(test)]
-mod tests;
 mod values;
 mod verb;
 mod wire;

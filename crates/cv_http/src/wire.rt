@@ -19,7 +19,7 @@ use crate::http_reply::HttpReply;
 use crate::judge::{HEAD_LIMIT, Head, Judged, judge};
 use crate::reply_head::ReplyHead;
 use cv_base::{Bytes, NoMemory};
-use cv_ports::{Sink, Source};
+use cv_ports::Source;
 use httparse::spans::{EMPTY_HEADER_SPAN, HeaderSpan};
 use std::alloc::Global;
 use std::marker::Model;
@@ -63,11 +63,11 @@ impl<R: Source + Drop> Model for Wire<R> {
 
 /// Reads a piece to the end of what is held, beside a sink. `false` is the end of the source.
 #[tactic(auto, using(crate::proofs::Streams::reads_on))]
-fn read_piece<R: Source, W: Sink>(
+fn read_piece<R: Source>(
     source: &mut R,
     piece: &mut [u8],
     held: &mut Vec<u8>,
-    beside: &W,
+    beside: &R::Beside,
 ) -> Result<bool, HttpFault>
     requires { 0 < length piece.old }
     ensures stream { front held.new.items (R.left source.new) ≡ front held.old.items (R.left source.old) }
@@ -79,7 +79,7 @@ fn read_piece<R: Source, W: Sink>(
     ensures faults { IfErr result IsPieceFault }
     ensures cause { HasCause (R.faults source.old) (R.faults source.new) (result ≡ Err ReadFault) }
     ensures looks { (look : Look) → R.looks source.new look
-        → R.looks source.old look ⊎ (look ≡ record { left = R.left source.old; passed = W.passed beside.now }) }
+        → R.looks source.old look ⊎ (look ≡ record { left = R.left source.old; passed = R.Beside.passed beside.now }) }
 {
     if held.reserve(piece.len()).is_err() {
         return Err(HttpFault::NoMemory);
@@ -140,7 +140,7 @@ impl<R: Source + Drop> Wire<R> {
     }
 
     /// Reads more of the source, beside a sink. `false` is its end.
-    fn fill<W: Sink>(&mut self, beside: &W) -> Result<bool, HttpFault>
+    fn fill(&mut self, beside: &R::Beside) -> Result<bool, HttpFault>
         ensures stream { rest R.left self.new ≡ rest R.left self.old }
         ensures gets { Gets R.left R.given self.old self.new }
         ensures more { result ≡ Ok true → length self.old.held < length self.new.held }
@@ -148,7 +148,7 @@ impl<R: Source + Drop> Wire<R> {
         ensures end { result ≡ Ok false → (self.new.held ≡ self.old.held) × WhereTold (R.left self.new.source) (λ left. left ≡ []) }
         ensures faults { IfErr result IsPieceFault }
         ensures cause { HasCause (R.faults self.old.source) (R.faults self.new.source) (result ≡ Err ReadFault) }
-        ensures looks { Looks R.left R.looks self.old self.new (Beside (W.passed beside.now) (λ b. b ≡ self.old.held)) }
+        ensures looks { Looks R.left R.looks self.old self.new (Beside (R.Beside.passed beside.now) (λ b. b ≡ self.old.held)) }
     {
         self.held.drain(..self.used);
         self.used = 0;
@@ -233,17 +233,17 @@ impl<R: Source + Drop> Wire<R> {
     }
 
     /// Reads the next head of a form. `None` is the end of the input where a head might begin.
-    fn next_head<H: Head, W: Sink>(
+    fn next_head<H: Head>(
         &mut self,
         alloc: Global,
-        beside: &W,
+        beside: &R::Beside,
     ) -> Result<Option<H>, HttpFault>
         ensures reads { Draws R.left R.given self.old self.new (λ b. HeadReadAs H.form b self.new.held result) }
         ensures nothing_left { result ≡ Ok None → WhereTold (rest R.left self.new) (λ b. b ≡ []) }
         ensures cut { result ≡ Err Short → WhereTold (R.left self.new.source) (λ left. left ≡ []) }
         ensures faults { IfErr result IsHeadFault }
         ensures cause { HasCause (R.faults self.old.source) (R.faults self.new.source) (result ≡ Err ReadFault) }
-        ensures looks { Looks R.left R.looks self.old self.new (Beside (W.passed beside.now) (AwaitedAs H.form)) }
+        ensures looks { Looks R.left R.looks self.old self.new (Beside (R.Beside.passed beside.now) (AwaitedAs H.form)) }
     {
         let mut seen = 0;
         'pieces: loop {
@@ -261,23 +261,23 @@ impl<R: Source + Drop> Wire<R> {
     /// head is answered before more is read: where the source fails, none is there. Bytes that begin no head are refused
     /// once an empty line ends in them, they fill the room for a head, or the input ends. A fault takes nothing of what is
     /// left.
-    pub fn read_head<W: Sink>(
+    pub fn read_head(
         &mut self,
         alloc: Global,
-        beside: &W,
+        beside: &R::Beside,
     ) -> Result<Option<RequestHead>, HttpFault>
         ensures reads { Reads R.left self.old self.new (λ b. HeadRead b self.new.held result) }
         ensures nothing_left { result ≡ Ok None → WhereTold (rest R.left self.new) (λ b. b ≡ []) }
         ensures cut { result ≡ Err Short → WhereTold (R.left self.new.source) (λ left. left ≡ []) }
         ensures faults { IfErr result IsHeadFault }
         ensures cause { HasCause (R.faults self.old.source) (R.faults self.new.source) (result ≡ Err ReadFault) }
-        ensures looks { Looks R.left R.looks self.old self.new (Beside (W.passed beside.now) IsAwaited) }
+        ensures looks { Looks R.left R.looks self.old self.new (Beside (R.Beside.passed beside.now) IsAwaited) }
     {
         self.next_head(alloc, beside)
     }
 
     /// Holds a byte at least, unless the source is at its end.
-    fn has_some<W: Sink>(&mut self, beside: &W) -> Result<bool, HttpFault>
+    fn has_some(&mut self, beside: &R::Beside) -> Result<bool, HttpFault>
         ensures stream { rest R.left self.new ≡ rest R.left self.old }
         ensures gets { Gets R.left R.given self.old self.new }
         ensures some { result ≡ Ok true → 0 < length self.new.held }
@@ -285,7 +285,7 @@ impl<R: Source + Drop> Wire<R> {
         ensures lost { OnErr result ((self.old.held ≡ []) × (self.new.held ≡ [])) }
         ensures faults { IfErr result IsPieceFault }
         ensures cause { HasCause (R.faults self.old.source) (R.faults self.new.source) (result ≡ Err ReadFault) }
-        ensures looks { Looks R.left R.looks self.old self.new (Beside (W.passed beside.now) (λ b. b ≡ [])) }
+        ensures looks { Looks R.left R.looks self.old self.new (Beside (R.Beside.passed beside.now) (λ b. b ≡ [])) }
     {
         if !self.bytes().is_empty() {
             return Ok(true);
@@ -308,11 +308,11 @@ impl<R: Source + Drop> Wire<R> {
     }
 
     /// Reads the next bytes, `left` and 65,536 of them at most, and one at least.
-    pub fn read_some<W: Sink>(
+    pub fn read_some(
         &mut self,
         alloc: Global,
         left: u64,
-        beside: &W,
+        beside: &R::Beside,
     ) -> Result<Bytes, HttpFault>
         requires { 0 < left }
         ensures reads { Reads R.left self.old self.new (λ b. PieceRead b self.new.held result) }
@@ -321,7 +321,7 @@ impl<R: Source + Drop> Wire<R> {
         ensures cut { result ≡ Err Short → WhereTold (R.left self.new.source) (λ left. left ≡ []) }
         ensures faults { IfErr result IsBodyFault }
         ensures cause { HasCause (R.faults self.old.source) (R.faults self.new.source) (result ≡ Err ReadFault) }
-        ensures looks { Looks R.left R.looks self.old self.new (Beside (W.passed beside.now) (λ b. b ≡ [])) }
+        ensures looks { Looks R.left R.looks self.old self.new (Beside (R.Beside.passed beside.now) (λ b. b ≡ [])) }
     {
         if !self.has_some(beside)? {
             return Err(HttpFault::Short);
@@ -336,11 +336,11 @@ impl<R: Source + Drop> Wire<R> {
 
     /// Reads the next `size` bytes. The memory that is taken grows with what has come, not with `size`. After a fault a
     /// part of the bytes may be lost.
-    pub fn read_body<W: Sink>(
+    pub fn read_body(
         &mut self,
         alloc: Global,
         size: u64,
-        beside: &W,
+        beside: &R::Beside,
     ) -> Result<Bytes, HttpFault>
         ensures reads { Reads R.left self.old self.new (λ b. BodyRead size (λ text body. body ≡ text) b self.new.held result) }
         ensures draws { Draws R.left R.given self.old self.new
@@ -351,7 +351,7 @@ impl<R: Source + Drop> Wire<R> {
         ensures cut { result ≡ Err Short → WhereTold (R.left self.new.source) (λ left. left ≡ []) }
         ensures faults { IfErr result IsBodyFault }
         ensures cause { HasCause (R.faults self.old.source) (R.faults self.new.source) (result ≡ Err ReadFault) }
-        ensures looks { Looks R.left R.looks self.old self.new (Beside (W.passed beside.now) (λ b. length b < size)) }
+        ensures looks { Looks R.left R.looks self.old self.new (Beside (R.Beside.passed beside.now) (λ b. length b < size)) }
     {
         let size = size as usize;
         let mut body = Vec::new(alloc);
@@ -368,11 +368,11 @@ impl<R: Source + Drop> Wire<R> {
     }
 
     /// Reads the bytes up to the end of the source, the limit of a reply's body at most.
-    fn read_rest<W: Sink>(&mut self, alloc: Global, beside: &W) -> Result<Bytes, HttpFault>
+    fn read_rest(&mut self, alloc: Global, beside: &R::Beside) -> Result<Bytes, HttpFault>
         ensures reads { Draws R.left R.given self.old self.new
             (λ b. ReplyBodyRead (HasEnded (R.left self.new.source)) None b self.new.held result) }
         ensures cause { HasCause (R.faults self.old.source) (R.faults self.new.source) (result ≡ Err ReadFault) }
-        ensures looks { Looks R.left R.looks self.old self.new (Beside (W.passed beside.now) (IsOpen None)) }
+        ensures looks { Looks R.left R.looks self.old self.new (Beside (R.Beside.passed beside.now) (IsOpen None)) }
     {
         let mut body = Vec::new(alloc);
         'parts: while self.has_some(beside)? {
@@ -388,17 +388,17 @@ impl<R: Source + Drop> Wire<R> {
     }
 
     /// Reads the body of a reply, of a stated length or else up to the end of the source.
-    fn reply_body<W: Sink>(
+    fn reply_body(
         &mut self,
         alloc: Global,
         length: Option<u64>,
-        beside: &W,
+        beside: &R::Beside,
     ) -> Result<Bytes, HttpFault>
         ensures reads { Draws R.left R.given self.old self.new
             (λ b. ReplyBodyRead (HasEnded (R.left self.new.source)) length b self.new.held result) }
         ensures cut { result ≡ Err Short → HasEnded (R.left self.new.source) }
         ensures cause { HasCause (R.faults self.old.source) (R.faults self.new.source) (result ≡ Err ReadFault) }
-        ensures looks { Looks R.left R.looks self.old self.new (Beside (W.passed beside.now) (IsOpen length)) }
+        ensures looks { Looks R.left R.looks self.old self.new (Beside (R.Beside.passed beside.now) (IsOpen length)) }
     {
         match length {
             Some(size) if size > BODY_LIMIT as u64 => Err(HttpFault::BodyTooLarge),
@@ -408,15 +408,15 @@ impl<R: Source + Drop> Wire<R> {
     }
 
     /// Reads the head of a reply, behind its interim heads.
-    fn final_head<W: Sink>(&mut self, alloc: Global, beside: &W) -> Result<ReplyHead, HttpFault>
+    fn final_head(&mut self, alloc: Global, beside: &R::Beside) -> Result<ReplyHead, HttpFault>
         ensures reads { Draws R.left R.given self.old self.new (λ b. FinalRead b self.new.held result) }
         ensures cut { result ≡ Err Short → HasEnded (R.left self.new.source) }
         ensures cause { HasCause (R.faults self.old.source) (R.faults self.new.source) (result ≡ Err ReadFault) }
-        ensures looks { Looks R.left R.looks self.old self.new (Beside (W.passed beside.now) IsAwaitedReply) }
+        ensures looks { Looks R.left R.looks self.old self.new (Beside (R.Beside.passed beside.now) IsAwaitedReply) }
     {
         let mut passed = 0;
         'interim: while passed <= INTERIM_LIMIT {
-            let Some(head) = self.next_head::<ReplyHead, W>(alloc, beside)? else {
+            let Some(head) = self.next_head::<ReplyHead>(alloc, beside)? else {
                 return Err(HttpFault::Short);
             };
             if head.code != INTERIM_CODE {
@@ -430,13 +430,13 @@ impl<R: Source + Drop> Wire<R> {
     /// Reads a reply (RFC 9112, sections 4 and 6): up to 16 interim heads of code 100, which are passed over, a head of
     /// another code, and a body of at most 33,554,432 bytes, as long as its Content-Length says, or else up to the end of
     /// the source. Input that ends before a head is cut. After a fault a part of the bytes may be lost.
-    pub fn read_reply<W: Sink>(&mut self, alloc: Global, beside: &W) -> Result<HttpReply, HttpFault>
+    pub fn read_reply(&mut self, alloc: Global, beside: &R::Beside) -> Result<HttpReply, HttpFault>
         ensures reads { Draws R.left R.given self.old self.new
             (λ b. ReplyRead (HasEnded (R.left self.new.source)) b self.new.held result) }
         ensures cut { result ≡ Err Short → HasEnded (R.left self.new.source) }
         ensures faults { IfErr result IsReplyFault }
         ensures cause { HasCause (R.faults self.old.source) (R.faults self.new.source) (result ≡ Err ReadFault) }
-        ensures looks { Looks R.left R.looks self.old self.new (Beside (W.passed beside.now) IsAwaitedReply) }
+        ensures looks { Looks R.left R.looks self.old self.new (Beside (R.Beside.passed beside.now) IsAwaitedReply) }
     {
         let head = self.final_head(alloc, beside)?;
         let body = self.reply_body(alloc, head.length, beside)?;

@@ -1,5 +1,5 @@
 -- What a folder in memory holds.
-use Rattle.std.specs.Prelude.{ℕ, Bool, true, ◌&&◌, List, [], ◌∷◌, unwrap_or}
+use Rattle.std.specs.Prelude.{ℕ, Option, Bool, true, ◌&&◌, List, [], ◌∷◌, unwrap_or}
 use Rattle.std.specs.Ordering.{is_lt}
 use Rattle.std.specs.List.{AllByRecursion, list_all}
 use Rattle.std.specs.FinMap.{find}
@@ -8,10 +8,12 @@ use Rattle.cv_ports.specs.declared.folder.FolderItem.{FolderItem}
 use Rattle.cv_ports.specs.Calls.{Calls}
 use Rattle.cv_ports.specs.Folder.{FolderView, Ascend}
 
--- the items of each directory and the content of each file, by their paths from the folder on; and its calls
+-- the items of each directory and the content of each file, by their paths from the folder on; the name by which it was opened; and its
+-- calls
 pub record MemoryFolderView : Type 0 where
   pub directories : List (Path × List FolderItem)
   pub files : List (Path × List ℕ)
+  pub named : Option (List ℕ)
   pub calls : Calls
 
 -- the items of each directory ascend

@@ -12,8 +12,8 @@ use crate::source::Source;
 
 /// Where links to other hosts come from. Each link is handed back when it was used.
 pub trait Dial {
-    /// What a link's peer sends.
-    type Reads: Source + Drop;
+    /// What a link's peer sends. What the peer is sent stands beside it.
+    type Reads: Source<Beside = Self::Writes> + Drop;
 
     /// What a link's peer is sent.
     type Writes: Sink + Drop;

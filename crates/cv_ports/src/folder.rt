@@ -1,5 +1,5 @@
 //! Where a folder of changes stands.
-ghost use Rattle.std.specs.Prelude.{◌≡◌, ℕ, Option, IfOk, OnErr, IsErrOf, length, ◌≤◌};
+ghost use Rattle.std.specs.Prelude.{◌≡◌, ℕ, List, Option, Some, IfOk, OnOk, OnErr, IsErrOf, is_some, length, ◌≤◌};
 ghost use Rattle.cv_base.specs.Counts.{HasCause};
 ghost use Rattle.cv_base.specs.Told.{WhereTold};
 ghost use Rattle.cv_ports.specs.Folder.{FolderView, Ascend, IsOrdered, read_front};
@@ -79,17 +79,24 @@ impl From<NoMemory> for FolderFault {
     }
 }
 
-/// A folder. It tells what it holds or it doesn't. Only `root` changes what stands there.
+/// A folder. It tells what it holds or it doesn't. Only `root` changes what stands there, and by which name it was opened.
 pub trait Folder {
     /// What it holds, where it tells.
     ghost folder: { Self → Option FolderView };
 
+    /// The name of the folder at which paths begin, as it was given, once one was given.
+    ghost named: { Self → Option (List ℕ) };
+
     /// How many of its calls failed, so far as 64 bits can count.
     ghost faults: { Self → ℕ };
 
-    /// Names the folder at which the paths of the later calls begin.
+    /// Names the folder at which the paths of the later calls begin. What it holds may be another then, and is told where it
+    /// was told before. A call that failed changes neither.
     fn root(&mut self, alloc: Global, name: &str) -> Result<(), FolderFault>
+        ensures named { OnOk result (named self.new ≡ Some name.now) }
+        ensures tells { is_some (folder self.new) ≡ is_some (folder self.old) }
         ensures unchanged { OnErr result (folder self.new ≡ folder self.old) }
+        ensures unnamed { OnErr result (named self.new ≡ named self.old) }
         ensures cause { HasCause (faults self.old) (faults self.new) (IsErrOf result fault.Failed) };
 
     /// The items of the directory at a path, in the order of the bytes of their names.
@@ -98,6 +105,7 @@ pub trait Folder {
         ensures ascend { IfOk result (λ items. Ascend items) }
         ensures ordered { WhereTold (folder self.old) IsOrdered }
         ensures unchanged { folder self.new ≡ folder self.old }
+        ensures stays { named self.new ≡ named self.old }
         ensures cause { HasCause (faults self.old) (faults self.new) (IsErrOf result fault.Failed) };
 
     /// The content of the file at a path, of which it gives at most the first 16,777,217 bytes.
@@ -105,5 +113,6 @@ pub trait Folder {
         ensures told { WhereTold (folder self.old) (λ holds. IfOk result (λ bytes. bytes ≡ read_front (holds.content path.now))) }
         ensures limit { IfOk result (λ bytes. length bytes ≤ 16777217) }
         ensures unchanged { folder self.new ≡ folder self.old }
+        ensures stays { named self.new ≡ named self.old }
         ensures cause { HasCause (faults self.old) (faults self.new) (IsErrOf result fault.Failed) };
 }

@@ -24,8 +24,6 @@ mod place;
 mod shelf;
 mod sink;
 mod source;
-#[cfg(test)]
-mod tests;
 
 pub use clock::Clock;
 pub use dial::Dial;

@@ -7,8 +7,8 @@ ghost use Rattle.cv_ports.specs.Calls.{fails, called};
 
 use crate::came_back::CameBack;
 use crate::failed::Failed;
+use crate::memory_sink::MemorySink;
 use crate::memory_source::MemorySource;
-use crate::sink::Sink;
 use crate::source::Source;
 use std::marker::Model;
 
@@ -51,6 +51,8 @@ impl LinkSource {
 }
 
 impl Source for LinkSource {
+    type Beside = MemorySink;
+
     ghost left = { λ s. Some s.left };
 
     ghost given = { λ s. Some s.given };
@@ -59,7 +61,7 @@ impl Source for LinkSource {
 
     ghost looks = { λ s look. ⊥ };
 
-    fn read<W: Sink>(&mut self, buf: &mut [u8], beside: &W) -> Result<usize, Failed>
+    fn read(&mut self, buf: &mut [u8], beside: &MemorySink) -> Result<usize, Failed>
         ensures fits { IfOk result (λ count. count ≤ length buf.old) }
         ensures gives { IfOk result (λ count. Some self.old.left ≡ front (take count buf.new) (Some self.new.left)) }
         ensures given { IfOk result (λ count. Some self.new.given ≡ onto (Some self.old.given) (take count buf.new)) }
@@ -67,7 +69,7 @@ impl Source for LinkSource {
         ensures unchanged { OnErr result (Some self.new.left ≡ Some self.old.left) }
         ensures ungiven { OnErr result (Some self.new.given ≡ Some self.old.given) }
         ensures cause { HasCause self.old.calls.faults self.new.calls.faults (IsErr result) }
-        ensures noted { (look : Look) → ⊥ → ⊥ ⊎ (look ≡ record { left = Some self.old.left; passed = W.passed beside.now }) }
+        ensures noted { (look : Look) → ⊥ → ⊥ ⊎ (look ≡ record { left = Some self.old.left; passed = Some beside.now.passed }) }
         ensures most { IfOk result (λ count. count ≡ min (min (length self.old.left) (length buf.old)) self.old.piece) }
         ensures calls { self.new.calls ≡ called self.old.calls }
         ensures failing { IsErr result ↔ IsTrue (fails self.old.calls) }

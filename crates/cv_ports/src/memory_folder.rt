@@ -1,5 +1,5 @@
 //! A folder in memory.
-ghost use Rattle.std.specs.Prelude.{◌≡◌, ◌≤◌, ◌↔◌, [], length, unwrap_or, Some, IfOk, IfSome, IsSome, IsErrOf, IsTrue, OnErr, option_copied};
+ghost use Rattle.std.specs.Prelude.{◌≡◌, ◌≤◌, ◌↔◌, [], length, unwrap_or, None, Some, IfOk, IfSome, IsSome, IsErrOf, IsTrue, OnOk, OnErr, is_some, option_copied};
 ghost use Rattle.std.specs.FinMap.{find};
 ghost use Rattle.cv_base.specs.Counts.{HasCause};
 ghost use Rattle.cv_base.specs.Path.{path_cmp};
@@ -11,7 +11,7 @@ ghost use Rattle.cv_ports.specs.declared.folder.FolderFault.TheVariants as fault
 
 use crate::failing_calls::FailingCalls;
 use crate::folder::{Folder, FolderFault, FolderItem};
-use cv_base::{Bytes, Items, NoMemory, RepoPath};
+use cv_base::{Bytes, Items, NoMemory, RepoPath, Text};
 use std::alloc::Global;
 use std::marker::Model;
 
@@ -23,6 +23,7 @@ const READ_LIMIT: usize = 16_777_217;
 pub struct MemoryFolder {
     directories: Vec<(RepoPath, Items<FolderItem>)>,
     files: Vec<(RepoPath, Bytes)>,
+    named: Option<Text>,
     calls: FailingCalls,
 }
 
@@ -31,7 +32,7 @@ impl Model for MemoryFolder {
 
     ghost Value = { MemoryFolderView };
 
-    ghost view = { λ m. record { directories = m.directories.items; files = m.files.items; calls = m.calls } };
+    ghost view = { λ m. record { directories = m.directories.items; files = m.files.items; named = m.named; calls = m.calls } };
 
     ghost invariant = { λ m. AllAscend m.directories.items };
 }
@@ -45,7 +46,7 @@ impl MemoryFolder {
         files: Vec<(RepoPath, Bytes)>,
         failing: Vec<u64>,
     ) -> Option<MemoryFolder>
-        ensures holds { IfSome result (λ made. made ≡ record { directories = directories.items; files = files.items; calls = record { failing = failing.items; count = 0; faults = 0 } }) }
+        ensures holds { IfSome result (λ made. made ≡ record { directories = directories.items; files = files.items; named = None; calls = record { failing = failing.items; count = 0; faults = 0 } }) }
         ensures some { AllAscend directories.items ↔ IsSome result }
     {
         if !all_ascend(&directories) {
@@ -54,6 +55,7 @@ impl MemoryFolder {
         Some(MemoryFolder {
             directories,
             files,
+            named: None,
             calls: FailingCalls::new(failing),
         })
     }
@@ -145,18 +147,24 @@ fn content(alloc: Global, files: &[(RepoPath, Bytes)], path: &RepoPath) -> Resul
 impl Folder for MemoryFolder {
     ghost folder = { λ m. Some (holding m) };
 
+    ghost named = { λ m. m.named };
+
     ghost faults = { λ m. m.calls.faults };
 
     /// Any name is taken: the paths begin where they began.
-    fn root(&mut self, _alloc: Global, _name: &str) -> Result<(), FolderFault>
+    fn root(&mut self, alloc: Global, name: &str) -> Result<(), FolderFault>
+        ensures named { OnOk result (self.new.named ≡ Some name.now) }
+        ensures tells { is_some (Some (holding self.new)) ≡ is_some (Some (holding self.old)) }
         ensures unchanged { OnErr result (Some (holding self.new) ≡ Some (holding self.old)) }
+        ensures unnamed { OnErr result (self.new.named ≡ self.old.named) }
         ensures cause { HasCause self.old.calls.faults self.new.calls.faults (IsErrOf result fault.Failed) }
         ensures failing { IsErrOf result fault.Failed ↔ IsTrue (fails self.old.calls) }
-        ensures after { self.new ≡ record self.old { calls = called self.old.calls } }
+        ensures after { self.new ≡ record self.old { named = self.new.named; calls = called self.old.calls } }
     {
         if self.calls.next_fails() {
             return Err(FolderFault::Failed);
         }
+        self.named = Some(Text::from_str(alloc, name)?);
         Ok(())
     }
 
@@ -166,6 +174,7 @@ impl Folder for MemoryFolder {
         ensures ascend { IfOk result (λ items. Ascend items) }
         ensures ordered { WhereTold (Some (holding self.old)) IsOrdered }
         ensures unchanged { Some (holding self.new) ≡ Some (holding self.old) }
+        ensures stays { self.new.named ≡ self.old.named }
         ensures cause { HasCause self.old.calls.faults self.new.calls.faults (IsErrOf result fault.Failed) }
         ensures failing { IsErrOf result fault.Failed ↔ IsTrue (fails self.old.calls) }
         ensures after { self.new ≡ record self.old { calls = called self.old.calls } }
@@ -181,6 +190,7 @@ impl Folder for MemoryFolder {
         ensures told { WhereTold (Some (holding self.old)) (λ holds. IfOk result (λ bytes. bytes ≡ read_front (holds.content path.now))) }
         ensures limit { IfOk result (λ bytes. length bytes ≤ 16777217) }
         ensures unchanged { Some (holding self.new) ≡ Some (holding self.old) }
+        ensures stays { self.new.named ≡ self.old.named }
         ensures cause { HasCause self.old.calls.faults self.new.calls.faults (IsErrOf result fault.Failed) }
         ensures failing { IsErrOf result fault.Failed ↔ IsTrue (fails self.old.calls) }
         ensures after { self.new ≡ record self.old { calls = called self.old.calls } }

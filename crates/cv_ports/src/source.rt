@@ -9,6 +9,9 @@ use crate::sink::Sink;
 
 /// Where bytes come from, as a file, a pipe or a connection.
 pub trait Source {
+    /// The sink beside it: the one to which what was read is answered.
+    type Beside: Sink;
+
     /// The bytes that it will give from here on, where it tells.
     ghost left: { Self → Option (List ℕ) };
 
@@ -22,9 +25,8 @@ pub trait Source {
     ghost looks: { Self → Look → Type 0 };
 
     /// Puts the next bytes at the front of the buffer, and answers how many. 0 of a buffer that isn't empty is the
-    /// end of the input. A read that failed took nothing. The sink beside it is the one to which what was read is
-    /// answered: it is only looked at.
-    fn read<W: Sink>(&mut self, buf: &mut [u8], beside: &W) -> Result<usize, Failed>
+    /// end of the input. A read that failed took nothing. The sink beside it is only looked at.
+    fn read(&mut self, buf: &mut [u8], beside: &Self::Beside) -> Result<usize, Failed>
         ensures fits { IfOk result (λ count. count ≤ length buf.old) }
         ensures gives { IfOk result (λ count. left self.old ≡ front (take count buf.new) (left self.new)) }
         ensures given { IfOk result (λ count. given self.new ≡ onto (given self.old) (take count buf.new)) }
@@ -33,5 +35,5 @@ pub trait Source {
         ensures ungiven { OnErr result (given self.new ≡ given self.old) }
         ensures cause { HasCause (faults self.old) (faults self.new) (IsErr result) }
         ensures noted { (look : Look) → looks self.new look
-            → looks self.old look ⊎ (look ≡ record { left = left self.old; passed = W.passed beside.now }) };
+            → looks self.old look ⊎ (look ≡ record { left = left self.old; passed = Self.Beside.passed beside.now }) };
 }

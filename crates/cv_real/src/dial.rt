@@ -16,6 +16,12 @@ const ANSWER_LIMIT: u64 = 30;
 /// How long a peer may send nothing, or take nothing, before the call fails, in seconds.
 const STALL_LIMIT: u64 = 60;
 
+/// What a peer sends. What it is sent stands beside it.
+type TcpReads = StreamSource<TcpStream, TcpWrites>;
+
+/// What a peer is sent.
+type TcpWrites = StreamSink<TcpStream>;
+
 /// Opens links over TCP (RFC 9293). It tells nothing of what they carry.
 ///
 /// The system looks up a host's name, and each address that it gives is tried in turn, for 30 seconds. A read or a write
@@ -47,7 +53,7 @@ fn open<R: Net<Listener = TcpListener, Stream = TcpStream>>(
     rt: &R,
     host: &str,
     port: u16,
-) -> io::Result<(StreamSource<TcpStream>, StreamSink<TcpStream>)>
+) -> io::Result<(TcpReads, TcpWrites)>
     ensures reads { IfOk result (λ both. both.0.faults.number ≡ 0) }
     ensures writes { IfOk result (λ both. both.1.faults.number ≡ 0) }
 {
@@ -80,9 +86,9 @@ impl<R: Net<Listener = TcpListener, Stream = TcpStream> + Drop> TcpDial<R> {
 }
 
 impl<R: Net<Listener = TcpListener, Stream = TcpStream> + Drop> Dial for TcpDial<R> {
-    type Reads = StreamSource<TcpStream>;
+    type Reads = TcpReads;
 
-    type Writes = StreamSink<TcpStream>;
+    type Writes = TcpWrites;
 
     ghost came = { λ d. None };
 
@@ -90,11 +96,7 @@ impl<R: Net<Listener = TcpListener, Stream = TcpStream> + Drop> Dial for TcpDial
 
     ghost faults = { λ d. d.faults.number };
 
-    fn dial(
-        &mut self,
-        host: &str,
-        port: u16,
-    ) -> Result<Link<StreamSource<TcpStream>, StreamSink<TcpStream>>, Failed> {
+    fn dial(&mut self, host: &str, port: u16) -> Result<Link<TcpReads, TcpWrites>, Failed> {
         let Some(name) = HostName::new(host) else {
             self.faults.raise();
             return Err(Failed);
@@ -106,7 +108,7 @@ impl<R: Net<Listener = TcpListener, Stream = TcpStream> + Drop> Dial for TcpDial
         Ok(Link::new(reads, writes, name, port))
     }
 
-    fn back(&mut self, link: Link<StreamSource<TcpStream>, StreamSink<TcpStream>>)
+    fn back(&mut self, link: Link<TcpReads, TcpWrites>)
         ensures later { self.old.faults.number ≤ self.new.faults.number }
         ensures counted { self.new.faults.number ≡ after_back link.reads.faults.number link.writes.faults.number self.old.faults.number }
     {

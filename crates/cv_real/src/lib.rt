@@ -18,12 +18,3 @@ pub use folder_vault::FolderVault;
 pub use streams::{StreamSink, StreamSource};
 pub use system_folder::SystemFolder;
 pub use texts::{program_words, text_or_empty};
-
-#[cfg(test)]
-mod dial_tests;
-#[cfg(test)]
-mod folder_tests;
-#[cfg(test)]
-mod small_tests;
-#[cfg(test)]
-mod tests;

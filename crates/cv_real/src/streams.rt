@@ -6,6 +6,7 @@ use crate::count::FaultCount;
 use cv_ports::{Failed, Sink, Source};
 use std::io;
 use std::io::{ErrorKind, Read, Write};
+use std::marker::PhantomData;
 
 /// Reads, and begins again where a signal interrupted the call.
 fn read_retrying<T: Read>(inner: &mut T, buf: &mut [u8]) -> io::Result<usize>
@@ -36,21 +37,24 @@ fn write_retrying<T: Write>(inner: &mut T, bytes: &[u8]) -> io::Result<usize>
     Err(io::Error::from(ErrorKind::TimedOut))
 }
 
-/// A source over what std reads: standard input, a file or a connection. It tells nothing of its content.
+/// A source over what std reads: standard input, a file or a connection. Beside it stands a sink of the type `W`. It tells
+/// nothing of its content.
 #[derive(Drop)]
-pub struct StreamSource<T: Read> {
+pub struct StreamSource<T: Read, W: Sink> {
     inner: T,
     faults: FaultCount,
+    beside: PhantomData<W>,
 }
 
-impl<T: Read> StreamSource<T> {
+impl<T: Read, W: Sink> StreamSource<T, W> {
     /// A source over this reader. No call failed yet.
-    pub fn new(inner: T) -> StreamSource<T>
+    pub fn new(inner: T) -> StreamSource<T, W>
         ensures { result.faults.number ≡ 0 }
     {
         StreamSource {
             inner,
             faults: FaultCount::new(),
+            beside: PhantomData,
         }
     }
 
@@ -62,7 +66,9 @@ impl<T: Read> StreamSource<T> {
     }
 }
 
-impl<T: Read> Source for StreamSource<T> {
+impl<T: Read, W: Sink> Source for StreamSource<T, W> {
+    type Beside = W;
+
     ghost left = { λ s. None };
 
     ghost given = { λ s. None };
@@ -71,7 +77,7 @@ impl<T: Read> Source for StreamSource<T> {
 
     ghost looks = { λ s look. ⊥ };
 
-    fn read<W: Sink>(&mut self, buf: &mut [u8], beside: &W) -> Result<usize, Failed> {
+    fn read(&mut self, buf: &mut [u8], _beside: &W) -> Result<usize, Failed> {
         if let Ok(count) = read_retrying(&mut self.inner, buf) {
             return Ok(count);
         }

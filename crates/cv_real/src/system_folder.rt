@@ -7,7 +7,7 @@ ghost use Rattle.cv_ports.specs.declared.folder.FolderFault.TheVariants.{Failed}
 use crate::count::FaultCount;
 use crate::listing::items_of;
 use crate::paths::{find_file, has_folders, is_memory, read_front};
-use cv_base::{Bytes, Items, PathName, RepoPath};
+use cv_base::{Bytes, Items, PathName, RepoPath, Text};
 use cv_ports::{Folder, FolderFault, FolderItem};
 use std::alloc::Global;
 use std::io;
@@ -18,7 +18,7 @@ use std::rt::Files;
 const READ_LIMIT: usize = 16_777_217;
 
 /// A real folder, which may be given by a link. Below it no link is followed, and nothing but folders and regular files is
-/// opened. It tells nothing of content.
+/// opened. It tells the name, and nothing of content.
 ///
 /// A call fails where the path isn't, through folders alone, that of a folder to list or of a regular file to read; where the
 /// folder or file can't be read; and where no folder was named. A listing fails where a name or the text of a link isn't
@@ -29,16 +29,13 @@ const READ_LIMIT: usize = 16_777_217;
 #[derive(Drop)]
 pub struct SystemFolder<R: Files + AllocGlobal + Clone + Drop> {
     rt: R,
-    /// The folder's path with a slash at its end, once it was named.
-    root: Option<String>,
+    /// The folder's path as it was given, once one was.
+    name: Option<Text>,
     faults: FaultCount,
 }
 
-/// The path of a root, with a slash at its end. No folder has the empty name.
+/// The path of the folder of this name, with a slash at its end.
 fn root_path(alloc: Global, name: &str) -> io::Result<String> {
-    if name.is_empty() {
-        return Err(io::Error::from(ErrorKind::InvalidInput));
-    }
     let mut path = String::from_str(alloc, name)?;
     path.push('/')?;
     Ok(path)
@@ -57,19 +54,20 @@ fn folder_path(alloc: Global, root: &str, names: &[PathName]) -> io::Result<Stri
 impl<R: Files + AllocGlobal + Clone + Drop> SystemFolder<R> {
     /// A folder that isn't named yet: until then no path leads to anything.
     pub fn new(rt: R) -> SystemFolder<R>
-        ensures { result.faults.number ≡ 0 }
+        ensures faults { result.faults.number ≡ 0 }
+        ensures name { result.name ≡ None }
     {
         SystemFolder {
             rt,
-            root: None,
+            name: None,
             faults: FaultCount::new(),
         }
     }
 
     /// The path of the folder, with a slash at its end.
-    fn root_now(&self) -> io::Result<&str> {
-        match &self.root {
-            Some(root) => Ok(root.as_str()),
+    fn root_now(&self, alloc: Global) -> io::Result<String> {
+        match &self.name {
+            Some(name) => root_path(alloc, name.as_str()),
             None => Err(io::Error::from(ErrorKind::InvalidInput)),
         }
     }
@@ -77,8 +75,8 @@ impl<R: Files + AllocGlobal + Clone + Drop> SystemFolder<R> {
     fn list_now(&self, alloc: Global, path: &RepoPath) -> io::Result<Items<FolderItem>>
         ensures { IfOk result (λ items. Ascend items) }
     {
-        let root = self.root_now()?;
-        let folder = folder_path(alloc, root, path.names())?;
+        let root = self.root_now(alloc)?;
+        let folder = folder_path(alloc, root.as_str(), path.names())?;
         if !has_folders(&self.rt, folder.as_str(), root.len())? {
             return Err(io::Error::from(ErrorKind::NotADirectory));
         }
@@ -91,8 +89,8 @@ impl<R: Files + AllocGlobal + Clone + Drop> SystemFolder<R> {
         let Some((last, above)) = path.names().split_last() else {
             return Err(io::Error::from(ErrorKind::IsADirectory));
         };
-        let root = self.root_now()?;
-        let mut file = folder_path(alloc, root, above)?;
+        let root = self.root_now(alloc)?;
+        let mut file = folder_path(alloc, root.as_str(), above)?;
         file.push_str(last.as_str())?;
         match find_file(&self.rt, file.as_str(), root.len())? {
             Some(found) => read_front(&self.rt, alloc, file.as_str(), &found, READ_LIMIT),
@@ -102,7 +100,8 @@ impl<R: Files + AllocGlobal + Clone + Drop> SystemFolder<R> {
 
     /// Want of memory, or one more fault.
     fn fault_of(&mut self, error: &io::Error) -> FolderFault
-        ensures { HasCause self.old.faults.number self.new.faults.number (result ≡ Failed) }
+        ensures cause { HasCause self.old.faults.number self.new.faults.number (result ≡ Failed) }
+        ensures name { self.new.name ≡ self.old.name }
     {
         if is_memory(error) {
             return FolderFault::NoMemory;
@@ -115,17 +114,18 @@ impl<R: Files + AllocGlobal + Clone + Drop> SystemFolder<R> {
 impl<R: Files + AllocGlobal + Clone + Drop> Folder for SystemFolder<R> {
     ghost folder = { λ f. None };
 
+    ghost named = { λ f. f.name };
+
     ghost faults = { λ f. f.faults.number };
 
     /// Takes the name alone: what stands there is looked at by the later calls. The empty name fails.
     fn root(&mut self, alloc: Global, name: &str) -> Result<(), FolderFault> {
-        match root_path(alloc, name) {
-            Ok(path) => {
-                self.root = Some(path);
-                Ok(())
-            }
-            Err(error) => Err(self.fault_of(&error)),
+        if name.is_empty() {
+            self.faults.raise();
+            return Err(FolderFault::Failed);
         }
+        self.name = Some(Text::from_str(alloc, name)?);
+        Ok(())
     }
 
     fn list(&mut self, alloc: Global, path: &RepoPath) -> Result<Items<FolderItem>, FolderFault> {

@@ -80,7 +80,7 @@ fn read_announced(
 }
 
 /// Passes over so many bytes.
-fn pass_over<R: Source + Drop, W: Sink>(
+fn pass_over<R: Source<Beside = W> + Drop, W: Sink>(
     alloc: Global,
     wire: &mut Wire<R>,
     size: u64,
@@ -170,7 +170,7 @@ fn finish_pack(
 }
 
 /// Reads a pack of so many bytes, and what it asks.
-fn read_pack<R: Source + Drop, W: Sink>(
+fn read_pack<R: Source<Beside = W> + Drop, W: Sink>(
     alloc: Global,
     wire: &mut Wire<R>,
     announced: Announced,
@@ -202,7 +202,7 @@ fn read_pack<R: Source + Drop, W: Sink>(
 }
 
 /// Passes over what follows a message that was denied, so many bytes.
-fn pass_denied<R: Source + Drop, W: Sink>(
+fn pass_denied<R: Source<Beside = W> + Drop, W: Sink>(
     alloc: Global,
     wire: &mut Wire<R>,
     denial: Denial,
@@ -226,7 +226,7 @@ fn pass_denied<R: Source + Drop, W: Sink>(
 }
 
 /// Reads what follows a message, so many bytes, and what the payload asks.
-fn read_rest<R: Source + Drop, W: Sink>(
+fn read_rest<R: Source<Beside = W> + Drop, W: Sink>(
     alloc: Global,
     wire: &mut Wire<R>,
     announced: Result<Announced, Denial>,
@@ -255,7 +255,7 @@ fn message_header(head: &RequestHead) -> Option<&str>
 }
 
 /// Reads the body of a payload, so many bytes, and what it asks.
-pub(crate) fn read_payload<R: Source + Drop, W: Sink>(
+pub(crate) fn read_payload<R: Source<Beside = W> + Drop, W: Sink>(
     alloc: Global,
     keys: &KeyTable,
     wire: &mut Wire<R>,

@@ -96,7 +96,7 @@ fn say_line<W: Sink>(sink: &mut W, head: &RequestHead) -> Result<(), Failed>
 }
 
 /// Reads the body behind a head, and what it asks.
-fn read_turn<R: Source + Drop, W: Sink>(
+fn read_turn<R: Source<Beside = W> + Drop, W: Sink>(
     alloc: Global,
     repository: &Name,
     keys: &KeyTable,
@@ -124,7 +124,7 @@ fn read_turn<R: Source + Drop, W: Sink>(
 }
 
 /// Reads what the request with this head asks.
-fn read_asked<R: Source + Drop, W: Sink>(
+fn read_asked<R: Source<Beside = W> + Drop, W: Sink>(
     alloc: Global,
     repository: &Name,
     keys: &KeyTable,
@@ -156,7 +156,7 @@ fn read_asked<R: Source + Drop, W: Sink>(
 }
 
 /// Reads what the next request asks. None is the end of the input where a request might begin.
-pub(crate) fn next_asked<R: Source + Drop, W: Sink>(
+pub(crate) fn next_asked<R: Source<Beside = W> + Drop, W: Sink>(
     alloc: Global,
     repository: &Name,
     keys: &KeyTable,

@@ -59,7 +59,7 @@ fn refuse<W: Sink>(alloc: Global, sink: &mut W, why: Unread) -> SessionEnd
 ///
 /// It is held where a payload was read and the desk isn't asked to store it yet, and where the reply to a request for a lease
 /// was written.
-pub fn session<K: Desk, S: Signer, C: Clock, H: Hold, R: Source + Drop, W: Sink>(
+pub fn session<K: Desk, S: Signer, C: Clock, H: Hold, R: Source<Beside = W> + Drop, W: Sink>(
     alloc: Global,
     desk: &mut K,
     keys: &KeyTable,

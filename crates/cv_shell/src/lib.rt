@@ -7,8 +7,6 @@ mod lines;
 mod printing;
 mod serving;
 mod shell_end;
-#[cfg(test)]
-mod tests;
 mod turn;
 
 pub use line::{Line, read_line};

@@ -7,7 +7,7 @@ ghost use Rattle.cv_shell.specs.Lines.{IsLine, LineFound, LineRead, IsPieceFault
 ghost use Rattle.cv_shell.specs.declared.lines.LineFault.TheVariants.{ReadFault};
 
 use cv_base::Bytes;
-use cv_ports::{Sink, Source};
+use cv_ports::Source;
 use std::alloc::Global;
 use std::marker::Model;
 
@@ -55,10 +55,10 @@ fn newline_at(bytes: &[u8]) -> Option<usize>
 }
 
 /// Reads a piece to the end of what is held, beside a sink. `false` is the end of the source.
-fn read_piece<R: Source, W: Sink>(
+fn read_piece<R: Source>(
     source: &mut R,
     held: &mut Vec<u8>,
-    beside: &W,
+    beside: &R::Beside,
 ) -> Result<bool, LineFault>
     ensures gets { Gets R.left R.given (record { source = source.old; held = held.old.items })
         (record { source = source.new; held = held.new.items }) }
@@ -68,7 +68,7 @@ fn read_piece<R: Source, W: Sink>(
     ensures faults { IfErr result IsPieceFault }
     ensures cause { HasCause (R.faults source.old) (R.faults source.new) (result ≡ Err ReadFault) }
     ensures looks { (look : Look) → R.looks source.new look
-        → R.looks source.old look ⊎ (look ≡ record { left = R.left source.old; passed = W.passed beside.now }) }
+        → R.looks source.old look ⊎ (look ≡ record { left = R.left source.old; passed = R.Beside.passed beside.now }) }
 {
     let mut piece = [0; PIECE];
     if held.reserve(PIECE).is_err() {
@@ -118,14 +118,14 @@ impl<R: Source + Drop> Lines<R> {
     }
 
     /// Reads more of the source, beside a sink. `false` is its end.
-    fn fill<W: Sink>(&mut self, beside: &W) -> Result<bool, LineFault>
+    fn fill(&mut self, beside: &R::Beside) -> Result<bool, LineFault>
         ensures gets { Gets R.left R.given self.old self.new }
         ensures more { result ≡ Ok true → length self.old.held < length self.new.held }
         ensures lost { OnErr result (self.new.held ≡ self.old.held) }
         ensures end { result ≡ Ok false → (self.new.held ≡ self.old.held) × HasEnded (R.left self.new.source) }
         ensures faults { IfErr result IsPieceFault }
         ensures cause { HasCause (R.faults self.old.source) (R.faults self.new.source) (result ≡ Err ReadFault) }
-        ensures looks { Looks R.left R.looks self.old self.new (Beside (W.passed beside.now) (λ b. b ≡ self.old.held)) }
+        ensures looks { Looks R.left R.looks self.old self.new (Beside (R.Beside.passed beside.now) (λ b. b ≡ self.old.held)) }
     {
         self.held.drain(..self.used);
         self.used = 0;
@@ -174,14 +174,14 @@ impl<R: Source + Drop> Lines<R> {
 
     /// Reads the next line, without its newline; the last may lack one. `None` is the end of the input. A whole line is
     /// answered before more is read. A fault takes nothing of what is left.
-    pub fn next_line<W: Sink>(
+    pub fn next_line(
         &mut self,
         alloc: Global,
-        beside: &W,
+        beside: &R::Beside,
     ) -> Result<Option<Bytes>, LineFault>
         ensures reads { Draws R.left R.given self.old self.new (λ b. LineRead (R.left self.new.source) b self.new.held result) }
         ensures cause { HasCause (R.faults self.old.source) (R.faults self.new.source) (result ≡ Err ReadFault) }
-        ensures looks { Looks R.left R.looks self.old self.new (Beside (W.passed beside.now) IsLine) }
+        ensures looks { Looks R.left R.looks self.old self.new (Beside (R.Beside.passed beside.now) IsLine) }
     {
         'pieces: loop {
             if let Some(line) = self.take_line(alloc)? {

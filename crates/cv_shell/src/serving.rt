@@ -53,7 +53,7 @@ fn serve_line<N: Dial, S: Signer, W: Sink>(
 }
 
 /// Answers lines, one after another.
-fn serve_lines<N: Dial, S: Signer, R: Source + Drop, W: Sink>(
+fn serve_lines<N: Dial, S: Signer, R: Source<Beside = W> + Drop, W: Sink>(
     alloc: Global,
     dial: &mut N,
     url: &Url,
@@ -90,7 +90,7 @@ fn serve_lines<N: Dial, S: Signer, R: Source + Drop, W: Sink>(
 /// What is refused prints `refused: ` and its cause. After each text the output is flushed.
 ///
 /// The input comes back. What was read of it beyond the last line that was answered is lost.
-pub fn shell<N: Dial, S: Signer, R: Source + Drop, W: Sink>(
+pub fn shell<N: Dial, S: Signer, R: Source<Beside = W> + Drop, W: Sink>(
     alloc: Global,
     dial: &mut N,
     url: &Url,

@@ -12,5 +12,5 @@ returns-then-is_err-clause-gets g c =
 pub returns-clause-looks : goal.returns-clause-looks
 returns-clause-looks g c =
     let source : c.args.self.now.source ≡ c.self.inside.source = search (rules, c.self.view_is) in
-    looks_one g.R.Source.left g.R.Source.looks c.args.self.now (record { source = c.read_piece.new.source; held = [] }) (g.W.Sink.passed c.args.beside.now)
+    looks_one g.R.Source.left g.R.Source.looks c.args.self.now (record { source = c.read_piece.new.source; held = [] }) (g.R.Beside.Sink.passed c.args.beside.now)
     (rw source c.read_piece.ensures.looks)

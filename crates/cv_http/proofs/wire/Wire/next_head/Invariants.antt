@@ -7,7 +7,7 @@ use Rattle.cv_http.proofs.wire.Wire.next_head.Given as goal
 abbrev pub invariant-pieces : goal.invariant-pieces
 invariant-pieces g l = record {
   gets : Gets g.R.Source.left g.R.Source.given l.fn.self l.self;
-  looks : Looks g.R.Source.left g.R.Source.looks l.fn.self l.self (Beside (g.W.Sink.passed l.beside) (AwaitedAs g.H.Head.form));
+  looks : Looks g.R.Source.left g.R.Source.looks l.fn.self l.self (Beside (g.R.Beside.Sink.passed l.beside) (AwaitedAs g.H.Head.form));
   within : l.seen ≤ length l.self.held;
   none : NoneWithin g.H.Head.form l.seen l.self.held;
   later : g.R.Source.faults l.fn.self.source ≤ g.R.Source.faults l.self.source;

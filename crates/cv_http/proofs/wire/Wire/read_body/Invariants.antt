@@ -7,7 +7,7 @@ abbrev pub invariant-parts : goal.invariant-parts
 invariant-parts g l = record {
   stream : front l.body.items (rest g.R.Source.left l.self) ≡ rest g.R.Source.left l.fn.self;
   draws : Draws g.R.Source.left g.R.Source.given l.fn.self l.self (λ b. b ≡ l.body.items ++ l.self.held);
-  looks : Looks g.R.Source.left g.R.Source.looks l.fn.self l.self (Beside (g.W.Sink.passed l.beside) (λ b. length b < l.size));
+  looks : Looks g.R.Source.left g.R.Source.looks l.fn.self l.self (Beside (g.R.Beside.Sink.passed l.beside) (λ b. length b < l.size));
   within : vec_len l.body ≤ l.size;
   later : g.R.Source.faults l.fn.self.source ≤ g.R.Source.faults l.self.source;
 }

@@ -5,7 +5,7 @@ use Rattle.cv_http.proofs.wire.Wire.read_rest.Given as goal
 abbrev pub invariant-parts : goal.invariant-parts
 invariant-parts g l = record {
   draws : Draws g.R.Source.left g.R.Source.given l.fn.self l.self (λ b. b ≡ l.body.items ++ l.self.held);
-  looks : Looks g.R.Source.left g.R.Source.looks l.fn.self l.self (Beside (g.W.Sink.passed l.beside) (λ b. length b < 33554433));
+  looks : Looks g.R.Source.left g.R.Source.looks l.fn.self l.self (Beside (g.R.Beside.Sink.passed l.beside) (λ b. length b < 33554433));
   within : vec_len l.body ≤ 33554432;
   later : g.R.Source.faults l.fn.self.source ≤ g.R.Source.faults l.self.source;
 }

@@ -5,7 +5,7 @@ use Rattle.cv_ports.proofs.Pieces.{given, given_more, rest_of}
 use Rattle.cv_ports.proofs.memory_source.MemorySourceSource.read.Goals as goal
 
 pub returns-clause-gives : goal.returns-clause-gives
-returns-clause-gives g c =
+returns-clause-gives c =
     let bytes = c.self.inside.bytes.items in
     let size = ap length (rest_of bytes c.self.inside.given) ∙ length-drop c.self.inside.given bytes in
     let first = rw c.deref.ensures.value at c.min.ensures in
@@ -14,7 +14,7 @@ returns-clause-gives g c =
     (ap (λ (s : SourceView). Some s.left) (sym c.self.view_is) ∙ ap (λ l. Some l) (given c.self.inside.bytes.items c.args.buf.now c.self.inside.given c.min-count.result fits))
 
 pub returns-clause-given : goal.returns-clause-given
-returns-clause-given g c =
+returns-clause-given c =
     let bytes = c.self.inside.bytes.items in
     let size = ap length (rest_of bytes c.self.inside.given) ∙ length-drop c.self.inside.given bytes in
     let first = rw c.deref.ensures.value at c.min.ensures in

@@ -6,7 +6,7 @@ use Rattle.cv_shell.proofs.lines.Lines.next_line.Given as goal
 abbrev pub invariant-pieces : goal.invariant-pieces
 invariant-pieces g l = record {
   gets : Gets g.R.Source.left g.R.Source.given l.fn.self l.self;
-  looks : Looks g.R.Source.left g.R.Source.looks l.fn.self l.self (Beside (g.W.Sink.passed l.beside) IsLine);
+  looks : Looks g.R.Source.left g.R.Source.looks l.fn.self l.self (Beside (g.R.Beside.Sink.passed l.beside) IsLine);
   later : g.R.Source.faults l.fn.self.source ≤ g.R.Source.faults l.self.source;
 }
 
