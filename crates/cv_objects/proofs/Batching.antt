@@ -13,7 +13,7 @@ use Rattle.cv_vault.specs.Disk.{Disk, Slot, File, Settled, IsCalm, slot}
 use Rattle.cv_vault.specs.Walks.{Nothing, Gains, Change, Stays, Comes}
 use Rattle.cv_vault.proofs.Names.{same_or_not}
 use Rattle.cv_objects.specs.Names.{way_name}
-use Rattle.cv_objects.specs.Batches.{IsReady, is_there, is_coming, Waits, stands, can, AreNamed, IsWritten, IsPlaced, BringsOne, Brings, IsOne, AreReady, AllWait, Has, SparesOthers, Shows, ShownIn, by_one, by_two, by_itself}
+use Rattle.cv_objects.specs.Batches.{IsReady, is_there, is_coming, Waits, stands, can, AreNamed, IsWritten, IsPlaced, IsApart, IsApartFrom, BringsOne, Brings, IsOne, AreReady, AllWait, Has, SparesOthers, Shows, ShownIn, by_one, by_two, by_itself}
 use Rattle.cv_objects.specs.declared.store_fault.StoreFault.{StoreFault}
 use Rattle.cv_objects.specs.declared.store_fault.StoreFault.TheVariants.{Collision, Failed, Damaged, NoMemory}
 use Rattle.cv_base.proofs.Laws.{one_file_name}
@@ -141,6 +141,10 @@ wrote_then batch o e h g w = shown_first e g (by_one (record { object = o; among
 
 pub placed_others : {batch : List Object} {d d1 d2 : Disk} (o : Object) → Contains batch o → SparesOthers d batch d1 → IsPlaced d1 o d2 → SparesOthers d batch d2
 placed_others o h k p = record { each = λ n apart. p.others n (apart.way o h) (apart.name o h) ∙ k.each n apart }
+
+-- the names apart from a batch are so from each object of it
+pub apart_from : {batch : List Object} (o : Object) → Contains batch o → (n : Name) → IsApart batch n → IsApartFrom o n
+apart_from o h n apart = record { way = apart.way o h; name = apart.name o h }
 
 pub spares_all : {batch : List Object} {d : Disk} → SparesOthers d batch d
 spares_all = record { each = λ n apart. refl }

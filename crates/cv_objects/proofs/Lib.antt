@@ -6,7 +6,6 @@ pub mod Writing
 pub mod Placing
 pub mod Batching
 pub mod Stores
-pub mod Sparing
 pub mod Telling
 pub mod Once
 pub mod Noting

@@ -1,5 +1,5 @@
 -- What storing a batch does.
-use Rattle.std.specs.Prelude.{◌≡◌, ◌≢◌, ◌⊎◌, ⊤, ℕ, Bool, true, false, ◌||◌, List, [], ◌∷◌, ◌++◌, Vec}
+use Rattle.std.specs.Prelude.{◌≡◌, ◌≢◌, ◌⊎◌, ℕ, Bool, true, false, ◌||◌, List, [], ◌∷◌, ◌++◌, Vec}
 use Rattle.std.specs.List.{Contains}
 use Rattle.std.specs.declared.option.Option.TheVariants.{None, Some}
 use Rattle.std.specs.declared.result.Result.{Result}
@@ -7,7 +7,6 @@ use Rattle.std.specs.declared.result.Result.TheVariants.{Ok, Err}
 use Rattle.sha1.specs.Sha1.{sha1}
 use Rattle.std.specs.declared.option.Option.{Option}
 use Rattle.cv_base.specs.Digest.{IsDigest}
-use Rattle.cv_base.specs.Told.{WhereTold}
 use Rattle.cv_base.specs.ObjectId.{file_name}
 use Rattle.cv_base.specs.declared.id.ObjectId.{ObjectId}
 use Rattle.cv_base.specs.declared.object.Object.{Object}
@@ -15,7 +14,7 @@ use Rattle.cv_ports.specs.Objects.{same_id}
 use Rattle.cv_ports.specs.Shelf.{Shelf}
 use Rattle.cv_vault.specs.Names.{Name, on_way}
 use Rattle.cv_vault.specs.Disk.{Disk, File, Files, May, IsCalm, Settled, slot, synced}
-use Rattle.cv_vault.specs.Walks.{Gains, Walks, Nothing}
+use Rattle.cv_vault.specs.Walks.{Gains, Nothing}
 use Rattle.cv_objects.specs.Names.{way_name, standing_on}
 use Rattle.cv_objects.specs.Fresh.{fresh_of}
 use Rattle.cv_objects.specs.Places.{is_noted}
@@ -153,15 +152,6 @@ pub record IsApartFrom (o : Object) (n : Name) : Type 0 where
   pub way : n ≢ way_name o.id
   pub name : n ≢ file_name o.id
 
--- under the names that P tells stands what stood there, as unsure as it was or settled
-pub record Spares (P : Name → Type 0) (d d' : Disk) : Type 0 where
-  pub each : (n : Name) → P n → (d' n ≡ d n) ⊎ (d' n ≡ slot (d n).now Settled)
-
--- so it is where the vault tells its disk, which it then goes on to tell; one that tells none goes on to tell none
-pub record SparesIn {V : Type 0} (disk : V → Option Disk) (P : Name → Type 0) (v v' : V) : Type 0 where
-  pub silent : disk v ≡ None → disk v' ≡ None
-  pub tells : (d : Disk) → disk v ≡ Some d → (d' : Disk) × (disk v' ≡ Some d') × Spares P d d'
-
 abbrev pub WroteAll : Disk → List Object → {X : Type 0} → Result X StoreFault → Disk → Type 0
 WroteAll d batch (Ok x) d' = AreReady d' batch
 WroteAll d batch (Err fault) d' = ShownIn d batch fault
@@ -191,10 +181,6 @@ IsRefusal (Err (Collision id)) = Unit {0}
 IsRefusal (Err Failed) = ⊥
 IsRefusal (Err (Damaged id found)) = Unit {0}
 IsRefusal (Err NoMemory) = ⊥
-
--- nothing comes, and a crash at any moment leaves what it might have left before
-abbrev pub BringsNothing : {V : Type 0} (disk : V → Option Disk) (count : V → ℕ) (left : V → ℕ → Files → Type 0) → V → V → Type 0
-BringsNothing disk count left v v' = WhereTold (disk v) (λ d. Walks disk count left on_way Nothing (λ end. ⊤) d v v')
 
 -- a store is refused, and nothing came
 pub record IsRefused (d : Disk) (batch : List Object) (fault : StoreFault) (d' : Disk) : Type 0 where

@@ -10,8 +10,6 @@ mod places;
 mod reading;
 mod store_fault;
 mod storing;
-#[cfg(test)]
-mod tests;
 
 pub use objects::Objects;
 pub use store_fault::StoreFault;

@@ -7,11 +7,11 @@ ghost use Rattle.cv_base.specs.Told.{WhereTold};
 ghost use Rattle.cv_vault.specs.Names.{on_way};
 ghost use Rattle.cv_vault.specs.Disk.{Syncs};
 ghost use Rattle.cv_vault.specs.Moments.{Calls, OnlyReads};
-ghost use Rattle.cv_vault.specs.Walks.{Walks, Nothing};
+ghost use Rattle.cv_vault.specs.Walks.{Walks, Nothing, BringsNothing, SparesIn};
 ghost use Rattle.cv_vault.specs.declared.vault.VaultFault.TheVariants as vault_fault;
 ghost use Rattle.cv_vault.proofs.Quiet.{quiet_none, quiet_then, quiet_same};
 ghost use Rattle.cv_objects.specs.Names.{standing_on};
-ghost use Rattle.cv_objects.specs.Batches.{AreNamed, AreReady, Brings, BringsNothing, Brought, GivesFresh, IsApart, IsOne, IsRefusal, SparesIn, Stored, WroteAll};
+ghost use Rattle.cv_objects.specs.Batches.{AreNamed, AreReady, Brings, Brought, GivesFresh, IsApart, IsOne, IsRefusal, Stored, WroteAll};
 ghost use Rattle.cv_objects.specs.declared.store_fault.StoreFault.TheVariants as fault;
 
 use crate::batch::clash_in;

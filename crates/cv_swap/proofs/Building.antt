@@ -13,8 +13,8 @@ use Rattle.cv_vault.specs.Names.{Name, on_way}
 use Rattle.cv_vault.specs.Disk.{Disk, Slot, File, Files, ImageOf, Syncs, Writes, Settled, Torn, slot, written}
 use Rattle.cv_vault.specs.Moments.{Calls}
 use Rattle.cv_vault.specs.Walks.{Change, Stays, Comes, Gains, Walks, Nothing, ComesTo}
-use Rattle.cv_vault.specs.Replace.{IsSure}
-use Rattle.cv_vault.proofs.Laws.{here, elsewhere, call, bind, looser, writes, ok, err, sync_ok, sync_err}
+use Rattle.cv_vault.specs.Replace.{IsSure, IsWaiting, Came}
+use Rattle.cv_vault.proofs.Laws.{here, elsewhere, call, bind, looser, writes, ok, err, sync_ok, sync_err, sure_then}
 use Rattle.cv_objects.specs.Faults.{fault_of}
 use Rattle.cv_objects.specs.Names.{way_name}
 use Rattle.cv_objects.specs.Batches.{AreNamed, AreReady, IsApart, Has, Brings, Brought, WroteAll, ShownIn, IsOutside}
@@ -22,9 +22,9 @@ use Rattle.cv_objects.specs.declared.store_fault.StoreFault.{StoreFault}
 use Rattle.cv_objects.specs.declared.store_fault.StoreFault.TheVariants.{Collision, Failed, Damaged, NoMemory}
 use Rattle.cv_objects.proofs.Lemmas.{data_off_way, outside, brings_later, has_then}
 use Rattle.cv_swap.specs.Stands.{head_way, epoch_name, epoch_way, epoch_text}
-use Rattle.cv_swap.specs.Publishing.{BringsFirst, an_object, the_epoch, AreBeside, PutBeside, IsWaiting, Came, Built, AreBuilt}
+use Rattle.cv_swap.specs.Publishing.{BringsFirst, an_object, the_epoch, AreBeside, PutBeside, Built, AreBuilt}
 use Rattle.cv_swap.proofs.Names.{head_apart, epoch_way_apart, epoch_apart, epoch_not_data, epoch_not_manifest, manifest_not_epoch}
-use Rattle.cv_swap.proofs.Publish.{ready_beside, sure_then}
+use Rattle.cv_swap.proofs.Publish.{ready_beside}
 
 -- a fault, as it is handed on
 pub handed_on : {T : Type 0} (r : Result T VaultFault) (e : VaultFault) → IsErrAnd r (λ x. x ≡ e) → r ≡ Err e

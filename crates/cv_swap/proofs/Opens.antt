@@ -11,7 +11,7 @@ use Rattle.cv_vault.specs.declared.vault.VaultFault.TheVariants as vault
 use Rattle.cv_vault.specs.Names.{Name, on_way}
 use Rattle.cv_vault.specs.Disk.{Disk, File, Files, ImageOf, Syncs, files_now, synced}
 use Rattle.cv_vault.specs.Moments.{Calls, OnlyReads}
-use Rattle.cv_vault.specs.Walks.{Gains, Within, Walks, Nothing, ComesTo}
+use Rattle.cv_vault.specs.Walks.{Gains, Within, Walks, Nothing, ComesTo, BringsNothing}
 use Rattle.cv_vault.specs.Replace.{Replaced}
 use Rattle.cv_vault.proofs.Laws.{bind, looser, leaves_then, leaves_more, gains_none, gains_then, gains_more, within_then, quiet_walks, ok, err, sync_ok, sync_err}
 use Rattle.cv_swap.specs.Faults.{open_fault_of}
@@ -122,7 +122,7 @@ module _ {V : Type 0} {disk : V → Option Disk} {count : V → ℕ} {left : V �
         -- it may have come or not; where memory was wanted it didn't, and no crash leaves it
         pub opens_or_not : (x : VaultFault) (r : Result Found OpenFault) → r ≡ Err (open_fault_of x)
             → WhereTold (disk v2) (λ d2. Walks disk count left on_way (ComesTo epoch_name (Some (epoch_text (found.epoch + 1)))) (Replaced d2 epoch_name (epoch_text (found.epoch + 1)) {X = Unit {0}} (Err x)) d2 v2 v3)
-            → WhereTold (disk v2) (λ d2. err x ≡ err vault.NoMemory → Walks disk count left on_way Nothing (λ d'. Unit {0}) d2 v2 v3) → Opens disk count left name is_seal d r v v3
+            → (err x ≡ err vault.NoMemory → BringsNothing disk count left v2 v3) → Opens disk count left name is_seal d r v v3
         opens_or_not vault.Failed r is raise quiet =
             let u = raise read.end read.told in
             rw is (record {
@@ -134,7 +134,7 @@ module _ {V : Type 0} {disk : V → Option Disk} {count : V → ℕ} {left : V �
             })
         opens_or_not vault.NoMemory r is raise quiet =
             let u = raise read.end read.told in
-            let q = quiet read.end read.told refl in
+            let q = quiet refl read.end read.told in
             rw is (record {
               end = u.end;
               told = u.told;

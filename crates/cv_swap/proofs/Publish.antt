@@ -11,12 +11,12 @@ use Rattle.cv_base.specs.ObjectId.{file_name}
 use Rattle.cv_base.specs.declared.object.Object.{Object}
 use Rattle.cv_vault.specs.declared.vault.VaultFault.{VaultFault}
 use Rattle.cv_vault.specs.declared.vault.VaultFault.TheVariants as vault
-use Rattle.cv_vault.specs.Names.{Name, on_way}
-use Rattle.cv_vault.specs.Disk.{Disk, Slot, File, Files, ImageOf, Mark, Syncs, Writes, Settled, Torn, slot, synced, written}
+use Rattle.cv_vault.specs.Names.{on_way}
+use Rattle.cv_vault.specs.Disk.{Disk, Slot, Files, ImageOf, Syncs, Writes, Torn, slot, written}
 use Rattle.cv_vault.specs.Moments.{Calls, LeavesOnly, OnlyReads}
 use Rattle.cv_vault.specs.Walks.{Gains, Within, Walks, Nothing, ComesTo}
-use Rattle.cv_vault.specs.Replace.{IsSure, MovedIn}
-use Rattle.cv_vault.proofs.Laws.{here, elsewhere, call, bind, looser, leaves_more, leaves_then, gains_then, gains_more, gains_none, within_then, within_more, quiet_walks, writes, ok, err, sync_ok, sync_err, calm_then}
+use Rattle.cv_vault.specs.Replace.{IsSure, MovedIn, IsWaiting}
+use Rattle.cv_vault.proofs.Laws.{here, elsewhere, call, bind, looser, leaves_more, leaves_then, gains_then, gains_more, gains_none, within_then, within_more, quiet_walks, writes, ok, err, sync_ok, sync_err, sure_then, sure_waits}
 use Rattle.cv_objects.specs.Faults.{fault_of}
 use Rattle.cv_objects.specs.Names.{way_name}
 use Rattle.cv_objects.specs.Batches.{AreNamed, AreReady, IsReady, is_there, is_coming, IsApart, Has, Brings, Brought, WroteAll, IsOne, ShownIn, IsOutside, IsRefusal}
@@ -24,7 +24,7 @@ use Rattle.cv_objects.specs.declared.store_fault.StoreFault.{StoreFault}
 use Rattle.cv_objects.specs.declared.store_fault.StoreFault.TheVariants.{Collision, Failed, Damaged, NoMemory}
 use Rattle.cv_objects.proofs.Lemmas.{outside, brings_nothing, brings_later, has_then}
 use Rattle.cv_swap.specs.Stands.{head_name, head_way}
-use Rattle.cv_swap.specs.Publishing.{Prepared, IsWaiting, BringsFirst, Built, AreBuilt, before_head, with_head, comes_before, comes_last, WhileFirst, FirstLeaves, Inited, Inits}
+use Rattle.cv_swap.specs.Publishing.{Prepared, BringsFirst, Built, AreBuilt, before_head, with_head, comes_before, comes_last, WhileFirst, FirstLeaves, Inited, Inits}
 use Rattle.cv_swap.proofs.Names.{head_apart}
 
 -- ---- a batch that stays where it is on its way, while other names change
@@ -35,17 +35,6 @@ ready_beside batch d d' same r = record { each = λ o h. by o (same o h) (r.each
     by : (o : Object) → (d' (file_name o.id) ≡ d (file_name o.id)) × (d' (way_name o.id) ≡ d (way_name o.id)) → IsReady d o → IsReady d' o
     by o e (is_there t) = is_there (ap (λ (s : Slot). s.now) e.0 ∙ t)
     by o e (is_coming s t) = is_coming (ap (λ (s : Slot). s.now) e.0 ∙ s) (ap (λ (s : Slot). s.now) e.1 ∙ t)
-
--- a file that is there is sure after a sync
-pub sure_then : (name : Name) (bytes : List ℕ) (d d' : Disk) → d' ≡ synced d → (d name).now ≡ Some bytes → IsSure name bytes d'
-sure_then name bytes d d' e there = record { calm = calm_then d d' e; there = ap (λ (y : Disk). (y name).now) e ∙ there }
-
--- a file that is on its way for sure waits
-pub sure_waits : (way name : Name) (bytes : List ℕ) (d : Disk) → IsSure way bytes d → IsWaiting way name bytes d
-sure_waits way name bytes d sure = record {
-  on_its_way = ap (λ (m : Mark). slot (d way).now m) (sure.calm way) ∙ ap (λ (x : File). slot x Settled) sure.there;
-  at_name = sure.calm name;
-}
 
 -- ---- a revision is prepared
 

@@ -14,7 +14,7 @@ use Rattle.cv_objects.specs.declared.store_fault.StoreFault.{StoreFault}
 use Rattle.cv_objects.specs.declared.store_fault.StoreFault.TheVariants.{Collision, Failed, Damaged, NoMemory}
 use Rattle.cv_objects.proofs.Lemmas.{named_more}
 use Rattle.cv_swap.specs.Kept.{object_of}
-use Rattle.cv_swap.specs.Publishing.{Prepared, IsWaiting}
+use Rattle.cv_swap.specs.Publishing.{Prepared}
 use Rattle.cv_swap.specs.Line.{AreKept, IsDropped, published}
 use Rattle.cv_swap.specs.declared.stage.Stage.TheVariants.{Calm, Ready}
 use Rattle.cv_base.specs.Told.{WhereTold}
@@ -22,7 +22,7 @@ use Rattle.cv_vault.specs.declared.vault.VaultFault.{VaultFault}
 use Rattle.cv_vault.specs.Names.{on_way}
 use Rattle.cv_vault.specs.Disk.{Disk, Files, ImageOf}
 use Rattle.cv_vault.specs.Walks.{Walks, ComesTo}
-use Rattle.cv_vault.specs.Replace.{MovedIn}
+use Rattle.cv_vault.specs.Replace.{MovedIn, IsWaiting}
 use Rattle.cv_swap.specs.Stands.{head_name, head_way}
 use Rattle.cv_swap.specs.Line.{LineView}
 

@@ -10,7 +10,7 @@ use Rattle.cv_history.specs.declared.record.Record.{Record}
 use Rattle.cv_manifest.specs.Manifest.{IsHead}
 use Rattle.cv_manifest.specs.declared.head.Head.{Head}
 use Rattle.cv_swap.specs.Stands.{head_name, head_way}
-use Rattle.cv_swap.specs.Publishing.{IsWaiting}
+use Rattle.cv_vault.specs.Replace.{IsWaiting}
 use Rattle.cv_swap.specs.Opening.{Opens}
 use Rattle.cv_swap.specs.declared.found.Found.{Found}
 use Rattle.cv_swap.specs.declared.open_fault.OpenFault.{OpenFault}

@@ -5,9 +5,8 @@ use Rattle.std.specs.declared.result.Result.{Result}
 use Rattle.std.specs.declared.result.Result.TheVariants.{Ok, Err}
 use Rattle.cv_base.specs.declared.object.Object.{Object}
 use Rattle.cv_vault.specs.declared.vault.VaultFault.{VaultFault}
-use Rattle.cv_vault.specs.declared.vault.VaultFault.TheVariants as vault
 use Rattle.cv_vault.specs.Names.{Name, on_way}
-use Rattle.cv_vault.specs.Disk.{Disk, File, Files, Settled, slot}
+use Rattle.cv_vault.specs.Disk.{Disk, File, Files}
 use Rattle.cv_vault.specs.Moments.{LeavesOnly}
 use Rattle.cv_vault.specs.Walks.{Gains, Within, Nothing, ComesTo}
 use Rattle.cv_vault.specs.Replace.{IsSure}
@@ -44,22 +43,6 @@ pub record AreBeside (d : Disk) (manifest : List ℕ) (d' : Disk) : Type 0 where
 abbrev pub PutBeside : Disk → List ℕ → {X : Type 0} → Result X VaultFault → Disk → Type 0
 PutBeside d manifest (Ok x) d' = AreBeside d manifest d'
 PutBeside d manifest (Err fault) d' = Unit {0}
-
--- a file is settled on its way to a name, and what stands there is settled too
-pub record IsWaiting (way name : Name) (bytes : List ℕ) (d : Disk) : Type 0 where
-  pub on_its_way : d way ≡ slot (Some bytes) Settled
-  pub at_name : (d name).mark ≡ Settled
-
--- it came to the name, and every other name is as it was
-pub record IsBrought (way name : Name) (bytes : List ℕ) (d d' : Disk) : Type 0 where
-  pub there : (d' name).now ≡ Some bytes
-  pub others : (n : Name) → n ≢ way → n ≢ name → d' n ≡ d n
-
--- after want of memory nothing changed
-abbrev pub Came : Disk → Name → Name → List ℕ → {X : Type 0} → Result X VaultFault → Disk → Type 0
-Came d way name bytes (Ok x) d' = IsBrought way name bytes d d'
-Came d way name bytes (Err vault.Failed) d' = Unit {0}
-Came d way name bytes (Err vault.NoMemory) d' = d' ≡ d
 
 -- all of a first revision but its head stands for sure
 pub record AreBuilt (batch : List Object) (d' : Disk) : Type 0 where

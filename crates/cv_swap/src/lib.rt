@@ -10,12 +10,8 @@ mod line;
 mod making;
 mod open_fault;
 mod opening;
-#[cfg(test)]
-mod opening_tests;
 mod publishing;
 mod stage;
-#[cfg(test)]
-mod tests;
 
 pub use first::first_parts;
 pub use found::Found;

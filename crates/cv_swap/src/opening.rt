@@ -5,7 +5,7 @@ ghost use Rattle.cv_base.specs.Told.{WhereTold};
 ghost use Rattle.cv_vault.specs.Disk.{files_now};
 ghost use Rattle.cv_vault.specs.Names.{on_way};
 ghost use Rattle.cv_vault.specs.Moments.{OnlyReads};
-ghost use Rattle.cv_vault.specs.Walks.{Walks, Nothing, ComesTo};
+ghost use Rattle.cv_vault.specs.Walks.{Walks, ComesTo, BringsNothing};
 ghost use Rattle.cv_vault.specs.Replace.{Replaced};
 ghost use Rattle.cv_vault.specs.declared.vault.VaultFault.TheVariants as vault_fault;
 ghost use Rattle.cv_manifest.specs.Manifest.{IsHead};
@@ -15,13 +15,12 @@ ghost use Rattle.cv_swap.specs.declared.open_fault.OpenFault.TheVariants as faul
 
 use crate::found::Found;
 use crate::open_fault::OpenFault;
-use crate::publishing::bring_for_sure;
 use cv_base::{Bytes, Items, Kind, Name, NoMemory, ObjectId, read_decimal};
 use cv_history::{ChainFault, Record, chain};
 use cv_manifest::{Head, Manifest, ManifestFault};
 use cv_objects::Objects;
 use cv_seal::Signer;
-use cv_vault::{Vault, VaultFault, put_on_way};
+use cv_vault::{Vault, VaultFault, replace};
 use std::alloc::Global;
 
 /// The name of the manifest's file.
@@ -165,12 +164,11 @@ pub fn epoch_text_of(alloc: Global, epoch: u64) -> Result<String, NoMemory>
 pub fn set_epoch<V: Vault>(vault: &mut V, alloc: Global, epoch: u64) -> Result<(), VaultFault>
     ensures walks { WhereTold (V.disk vault.old) (λ d.
         Walks V.disk V.count V.left on_way (ComesTo epoch_name (Some (epoch_text epoch))) (Replaced d epoch_name (epoch_text epoch) result) d vault.old vault.new) }
-    ensures memory { WhereTold (V.disk vault.old) (λ d. result ≡ Err vault_fault.NoMemory → Walks V.disk V.count V.left on_way Nothing (λ d'. Unit {0}) d vault.old vault.new) }
+    ensures memory { result ≡ Err vault_fault.NoMemory → BringsNothing V.disk V.count V.left vault.old vault.new }
     ensures cause { HasCause (V.faults vault.old) (V.faults vault.new) (IsErrOf result vault_fault.Failed) }
 {
     let text = epoch_text_of(alloc, epoch)?;
-    put_on_way(vault, EPOCH_WAY, text.as_bytes())?;
-    bring_for_sure(vault, EPOCH_WAY, EPOCH_NAME)
+    replace(vault, EPOCH_WAY, EPOCH_NAME, text.as_bytes())
 }
 
 /// Reads what stands in the vault of a repository, for sure, and raises its epoch by one, for sure.

@@ -1,21 +1,21 @@
 //! Revisions that come to the vault: first what they reach, then their head.
-ghost use Rattle.std.specs.Prelude.{◌≡◌, ℕ, List, None, Some, Err, true, false, OnOk, IsErrOf};
+ghost use Rattle.std.specs.Prelude.{◌≡◌, ℕ, List, None, Some, Err, OnOk, IsErrOf};
 ghost use Rattle.cv_base.specs.Counts.{HasCause};
 ghost use Rattle.cv_base.specs.Told.{WhereTold};
 ghost use Rattle.cv_vault.specs.Names.{on_way};
 ghost use Rattle.cv_vault.specs.Moments.{OnlyReads};
-ghost use Rattle.cv_vault.specs.Walks.{Walks, Nothing, ComesTo};
-ghost use Rattle.cv_vault.specs.Replace.{MovedIn, Found};
+ghost use Rattle.cv_vault.specs.Walks.{Walks, Nothing, ComesTo, BringsNothing};
+ghost use Rattle.cv_vault.specs.Replace.{MovedIn, Found, IsWaiting};
 ghost use Rattle.cv_vault.specs.declared.vault.VaultFault.TheVariants as vault_fault;
-ghost use Rattle.cv_objects.specs.Batches.{AreNamed, Brings, BringsNothing, IsRefusal};
+ghost use Rattle.cv_objects.specs.Batches.{AreNamed, Brings, IsRefusal};
 ghost use Rattle.cv_objects.specs.declared.store_fault.StoreFault.TheVariants as fault;
 ghost use Rattle.cv_swap.specs.Stands.{head_name, head_way};
-ghost use Rattle.cv_swap.specs.Publishing.{Prepared, BringsFirst, PutBeside, IsWaiting, Came, Built, Inits};
+ghost use Rattle.cv_swap.specs.Publishing.{Prepared, BringsFirst, PutBeside, Built, Inits};
 
 use crate::opening::{EPOCH_NAME, EPOCH_WAY, HEAD_NAME, epoch_text_of};
 use cv_base::Object;
 use cv_objects::{Objects, StoreFault};
-use cv_vault::{Vault, VaultFault, is_sure};
+use cv_vault::{Vault, VaultFault, bring_file, is_sure, move_in};
 use std::alloc::Global;
 
 /// The name by which a manifest comes.
@@ -42,37 +42,6 @@ pub fn prepare_on<V: Vault + Drop>(
     Ok(objects.settle()?)
 }
 
-/// Brings a file that waits on its way to its name, where the next sync settles it.
-fn bring_file<V: Vault>(vault: &mut V, way: &str, name: &str) -> Result<(), VaultFault>
-    requires way { on_way way.now ≡ true }
-    requires name { on_way name.now ≡ false }
-    ensures walks { WhereTold (V.disk vault.old) (λ d. (bytes : List ℕ) → IsWaiting way.now name.now bytes d
-        → Walks V.disk V.count V.left on_way (ComesTo name.now (Some bytes)) (Came d way.now name.now bytes result) d vault.old vault.new) }
-    ensures memory { result ≡ Err vault_fault.NoMemory → OnlyReads V.disk V.count V.left vault.old vault.new }
-    ensures cause { HasCause (V.faults vault.old) (V.faults vault.new) (IsErrOf result vault_fault.Failed) }
-{
-    if vault.rename(way, name)? {
-        Ok(())
-    } else {
-        // It can't be, where the vault tells.
-        Err(VaultFault::NoMemory)
-    }
-}
-
-/// Brings a file that waits on its way to its name, for sure. After `NoMemory` it didn't come, and no crash leaves it.
-pub fn bring_for_sure<V: Vault>(vault: &mut V, way: &str, name: &str) -> Result<(), VaultFault>
-    requires way { on_way way.now ≡ true }
-    requires name { on_way name.now ≡ false }
-    ensures walks { WhereTold (V.disk vault.old) (λ d. (bytes : List ℕ) → IsWaiting way.now name.now bytes d
-        → Walks V.disk V.count V.left on_way (ComesTo name.now (Some bytes)) (MovedIn d name.now bytes result) d vault.old vault.new) }
-    ensures memory { result ≡ Err vault_fault.NoMemory → OnlyReads V.disk V.count V.left vault.old vault.new }
-    ensures cause { HasCause (V.faults vault.old) (V.faults vault.new) (IsErrOf result vault_fault.Failed) }
-{
-    bring_file(vault, way, name)?;
-    vault.sync()?;
-    Ok(())
-}
-
 /// Brings the manifest that waits on its way to its name, for sure.
 pub fn swap_on<V: Vault>(vault: &mut V) -> Result<(), VaultFault>
     ensures walks { WhereTold (V.disk vault.old) (λ d. (manifest : List ℕ) → IsWaiting head_way head_name manifest d
@@ -80,7 +49,7 @@ pub fn swap_on<V: Vault>(vault: &mut V) -> Result<(), VaultFault>
     ensures memory { result ≡ Err vault_fault.NoMemory → OnlyReads V.disk V.count V.left vault.old vault.new }
     ensures cause { HasCause (V.faults vault.old) (V.faults vault.new) (IsErrOf result vault_fault.Failed) }
 {
-    bring_for_sure(vault, HEAD_WAY, HEAD_NAME)
+    move_in(vault, HEAD_WAY, HEAD_NAME)
 }
 
 /// Whether the manifest came to its name. It settles first.

@@ -16,5 +16,6 @@ pub mod Walking
 pub mod Calling
 pub mod Quiet
 pub mod Replacing
+pub mod Sparing
 pub mod Crashing
 pub mod Laws

@@ -1,6 +1,6 @@
 -- Files that come to their names, call by call.
 use Rattle.std.proofs.Common.{◌≡◌, ◌≢◌, ℕ, Bool, true, false, List, refl, sym, ap, subst, ◌∙◌}
-use Rattle.std.specs.Prelude.{IsErrAnd}
+use Rattle.std.specs.Prelude.{IsErrAnd, IsSome}
 use Rattle.std.specs.Str.{bytes_eq}
 use Rattle.std.specs.declared.option.Option.{Option}
 use Rattle.std.specs.declared.option.Option.TheVariants.{None, Some}
@@ -8,15 +8,16 @@ use Rattle.std.specs.declared.result.Result.{Result}
 use Rattle.std.specs.declared.result.Result.TheVariants.{Ok, Err}
 use Rattle.std.proofs.lemmas.Slice.Eq.{bytes_eq-Decides}
 use Rattle.cv_vault.specs.Names.{Name, on_way}
-use Rattle.cv_vault.specs.Disk.{Disk, Slot, File, Files, ImageOf, IsCalm, Torn, Reads, Writes, Renames, Syncs, slot, written, synced}
-use Rattle.cv_vault.specs.Moments.{Calls}
+use Rattle.cv_vault.specs.Disk.{Disk, Slot, File, Files, ImageOf, IsCalm, Mark, Settled, Torn, Reads, Writes, Renames, Syncs, slot, written, synced, renamed}
+use Rattle.cv_vault.specs.Moments.{Calls, OnlyReads}
 use Rattle.cv_vault.specs.Walks.{Gains, Walks, Nothing, ComesTo}
-use Rattle.cv_vault.specs.Replace.{IsSure, PutOnWay, MovedIn, Replaced, Found}
+use Rattle.cv_vault.specs.Replace.{IsSure, IsWaiting, IsBrought, PutOnWay, Came, MovedIn, Replaced, Found}
 use Rattle.cv_vault.specs.declared.vault.VaultFault.{VaultFault}
 use Rattle.cv_vault.specs.declared.vault.VaultFault.TheVariants.{Failed, NoMemory}
 use Rattle.cv_vault.proofs.Names.{here}
 use Rattle.cv_vault.proofs.Walking.{call, bind, looser}
-use Rattle.cv_vault.proofs.Calling.{writes, syncs, renames, renamed_to, reads}
+use Rattle.cv_vault.proofs.Calling.{apart, writes, syncs, renames, renamed_to, renamed_from, renamed_elsewhere, reads}
+use Rattle.cv_vault.proofs.Quiet.{quiet_call}
 
 abbrev pub Outcome : Type 0
 Outcome = Result (Unit {0}) VaultFault
@@ -55,21 +56,6 @@ put_unwritten : (d : Disk) (way : Name) (bytes : List ℕ) (x : VaultFault) (d' 
 put_unwritten d way bytes Failed d' h = tt
 put_unwritten d way bytes NoMemory d' h = h
 
-move_fails : (d : Disk) (name : Name) (bytes : List ℕ) (x : VaultFault) (d' : Disk) → x ≢ NoMemory → MovedIn d name bytes (err x) d'
-move_fails d name bytes Failed d' n = tt
-move_fails d name bytes NoMemory d' n = absurd (n refl)
-
-move_unmade : (d : Disk) (way name : Name) (bytes : List ℕ) (x : VaultFault) (d' : Disk) → Renames way name (Err x) d d' → MovedIn d name bytes (err x) d'
-move_unmade d way name bytes Failed d' h = tt
-move_unmade d way name bytes NoMemory d' h = h
-
--- what a rename brings, whatever it answers
-pub comes : (d : Disk) (way name : Name) (bytes : List ℕ) (r : Result Bool VaultFault) (d' : Disk) → on_way way ≡ true → on_way name ≡ false → IsSure way bytes d → Renames way name r d d' → Gains on_way (ComesTo name (Some bytes)) d d'
-comes d way name bytes r d' a b can x = renames way name d a b (can.calm way) (can.calm name) (refl, can.there) r d' x
-
-arrived : (d d' : Disk) (way name : Name) (bytes : List ℕ) → IsSure way bytes d → Renames way name (Ok true) d d' → (d' name).now ≡ Some bytes
-arrived d d' way name bytes can x = ap (λ (y : Disk). (y name).now) x.1 ∙ ap (λ (s : Slot). s.now) (renamed_to d way name) ∙ can.there
-
 module _ {V : Type 0} {disk : V → Option Disk} {count : V → ℕ} {left : V → ℕ → Files → Type 0} {d : Disk} {v v1 : V} (way : Name) (bytes : List ℕ) (w : on_way way ≡ true) (only : (f : Files) → left v (count v) f → ImageOf (disk v) f) (e : disk v ≡ Some d) where
   pub put_not : (x : VaultFault) (r : Outcome) → r ≡ err x → Calls disk count left (Writes way bytes (err x)) v v1 → Walks disk count left on_way Nothing (PutOnWay d way bytes r) d v v1
   put_not x r is c = rw is (call only e c (λ d' h. (writes way bytes (err x) d d' w h, put_unwritten d way bytes x d' h)))
@@ -85,24 +71,79 @@ module _ {V : Type 0} {disk : V → Option Disk} {count : V → ℕ} {left : V �
     pub put_unsure : (x : VaultFault) (r : Outcome) → r ≡ err x → x ≢ NoMemory → Calls disk count left (Syncs (err x)) v1 v2 → Walks disk count left on_way Nothing (PutOnWay d way bytes r) d v v2
     put_unsure x r is never c2 = rw is (bind (write_ok c) (λ n f b. b) (λ d1 told g is1. looser (sync_err x only1 told c2) (λ n f b. b) (λ d2 g2 s. put_fails d way bytes x d2 never)))
 
-module _ {V : Type 0} {disk : V → Option Disk} {count : V → ℕ} {left : V → ℕ → Files → Type 0} {d : Disk} {v v1 : V} (way name : Name) (bytes : List ℕ) (w : on_way way ≡ true) (n : on_way name ≡ false) (can : IsSure way bytes d)
-    (only : (f : Files) → left v (count v) f → ImageOf (disk v) f) (e : disk v ≡ Some d) where
-  pub move_not : (x : VaultFault) (r : Outcome) → r ≡ err x → Calls disk count left (Renames way name (Err x)) v v1 → Walks disk count left on_way (ComesTo name (Some bytes)) (MovedIn d name bytes r) d v v1
-  move_not x r is c = rw is (call only e c (λ d' h. (comes d way name bytes (Err x) d' w n can h, move_unmade d way name bytes x d' h)))
+-- ---- a file waits, and comes to its name
+
+-- a file that is on its way for sure waits
+pub sure_waits : (way name : Name) (bytes : List ℕ) (d : Disk) → IsSure way bytes d → IsWaiting way name bytes d
+sure_waits way name bytes d sure = record {
+  on_its_way = ap (λ (m : Mark). slot (d way).now m) (sure.calm way) ∙ ap (λ (x : File). slot x Settled) sure.there;
+  at_name = sure.calm name;
+}
+
+came : (d d' : Disk) (way name : Name) (bytes : List ℕ) → way ≢ name → IsWaiting way name bytes d → d' ≡ renamed d way name → IsBrought way name bytes d d'
+came d d' way name bytes ne waits e = subst (IsBrought way name bytes d) (sym e) (record {
+  there = ap (λ (s : Slot). s.now) (renamed_to d way name) ∙ ap (λ (s : Slot). s.now) waits.on_its_way;
+  gone = ap (λ (s : Slot). s.now) (renamed_from d way name ne);
+  others = λ n a b. renamed_elsewhere d way name n a b;
+})
+
+came_not : (d d' : Disk) (way name : Name) (bytes : List ℕ) (x : VaultFault) → Renames way name (Err x) d d' → Came d way name bytes {X = Unit {0}} (Err x) d'
+came_not d d' way name bytes Failed h = tt
+came_not d d' way name bytes NoMemory h = h
+
+moved_not : (d d' : Disk) (way name : Name) (bytes : List ℕ) (x : VaultFault) → Came d way name bytes {X = Unit {0}} (Err x) d' → MovedIn d name bytes {X = Unit {0}} (Err x) d'
+moved_not d d' way name bytes Failed h = tt
+moved_not d d' way name bytes NoMemory h = h
+
+moved_unsure : (d d' : Disk) (name : Name) (bytes : List ℕ) (x : VaultFault) → x ≢ NoMemory → MovedIn d name bytes {X = Unit {0}} (Err x) d'
+moved_unsure d d' name bytes Failed not = tt
+moved_unsure d d' name bytes NoMemory not = absurd (not refl)
+
+gains : (way name : Name) (bytes : List ℕ) (d : Disk) → on_way way ≡ true → on_way name ≡ false → IsWaiting way name bytes d → (r : Result Bool VaultFault) (d' : Disk) → Renames way name r d d' → Gains on_way (ComesTo name (Some bytes)) d d'
+gains way name bytes d w n waits r d' x = renames way name d w n (ap (λ (s : Slot). s.mark) waits.on_its_way) waits.at_name (refl, ap (λ (s : Slot). s.now) waits.on_its_way) r d' x
+
+module _ {V : Type 0} {disk : V → Option Disk} {count : V → ℕ} {left : V → ℕ → Files → Type 0} {d : Disk} {v v1 : V} (way name : Name) (bytes : List ℕ) (w : on_way way ≡ true) (n : on_way name ≡ false)
+    (only : (f : Files) → left v (count v) f → ImageOf (disk v) f) (told : disk v ≡ Some d) (waits : IsWaiting way name bytes d) where
+  pub brings : {u : Unit {0}} → Calls disk count left (Renames way name (Ok true)) v v1 → Walks disk count left on_way (ComesTo name (Some bytes)) (Came d way name bytes {X = Unit {0}} (Ok u)) d v v1
+  brings c = call only told c (λ d' x. (gains way name bytes d w n waits (Ok true) d' x, came d d' way name bytes (apart on_way way name w n) waits x.1))
+
+  pub brings_not : (r : Result (Unit {0}) VaultFault) (x : VaultFault) → r ≡ Err x → Calls disk count left (Renames way name (Err x)) v v1 → Walks disk count left on_way (ComesTo name (Some bytes)) (Came d way name bytes r) d v v1
+  brings_not r x fails c = rw fails (call only told c (λ d' y. (gains way name bytes d w n waits (Err x) d' y, came_not d d' way name bytes x y)))
 
   -- a rename that found no file changed nothing
-  pub move_absent : Calls disk count left (Renames way name (Ok false)) v v1 → Walks disk count left on_way (ComesTo name (Some bytes)) (MovedIn d name bytes (err NoMemory)) d v v1
-  move_absent c = call only e c (λ d' h. (comes d way name bytes (Ok false) d' w n can h, h.1))
+  pub brings_none : Calls disk count left (Renames way name (Ok false)) v v1 → Walks disk count left on_way (ComesTo name (Some bytes)) (Came d way name bytes {X = Unit {0}} (Err NoMemory)) d v v1
+  brings_none c = call only told c (λ d' y. (gains way name bytes d w n waits (Ok false) d' y, y.1))
 
-  rename_ok : Calls disk count left (Renames way name (Ok true)) v v1 → Walks disk count left on_way (ComesTo name (Some bytes)) (λ d1. (d1 name).now ≡ Some bytes) d v v1
-  rename_ok c = call only e c (λ d1 h. (comes d way name bytes (Ok true) d1 w n can h, arrived d d1 way name bytes can h))
+pub one_fault : (r : Result (Unit {0}) VaultFault) {x y : VaultFault} → r ≡ Err x → r ≡ Err y → x ≡ y
+one_fault r a b = cc
 
-  module _ {v2 : V} (only1 : (f : Files) → left v1 (count v1) f → ImageOf (disk v1) f) (c : Calls disk count left (Renames way name (Ok true)) v v1) where
-    pub move : Calls disk count left (Syncs ok) v1 v2 → Walks disk count left on_way (ComesTo name (Some bytes)) (MovedIn d name bytes ok) d v v2
-    move c2 = bind (rename_ok c) (λ n f b. b) (λ d1 told g there. looser (sync_ok only1 told c2) (λ n f b. b) (λ d2 g2 s. sure_then name bytes d1 d2 s there))
+-- a rename for which there was no memory, or no file, only read
+module _ {V : Type 0} {disk : V → Option Disk} {count : V → ℕ} {left : V → ℕ → Files → Type 0} {v v1 : V} (way name : Name) where
+  pub quiet_unmade : (x : VaultFault) → x ≡ NoMemory → Calls disk count left (Renames way name (Err x)) v v1 → OnlyReads disk count left v v1
+  quiet_unmade x is c = quiet_call (λ d d' h. h) (subst (λ (x : VaultFault). Calls disk count left (Renames way name (Err x)) v v1) is c)
 
-    pub move_unsure : (x : VaultFault) (r : Outcome) → r ≡ err x → x ≢ NoMemory → Calls disk count left (Syncs (err x)) v1 v2 → Walks disk count left on_way (ComesTo name (Some bytes)) (MovedIn d name bytes r) d v v2
-    move_unsure x r is never c2 = rw is (bind (rename_ok c) (λ n f b. b) (λ d1 told g there. looser (sync_err x only1 told c2) (λ n f b. b) (λ d2 g2 s. move_fails d name bytes x d2 never)))
+  pub quiet_absent : Calls disk count left (Renames way name (Ok false)) v v1 → OnlyReads disk count left v v1
+  quiet_absent c = quiet_call (λ d d' h. h.1) c
+
+-- a rename that found a file
+pub found_there : {V : Type 0} {disk : V → Option Disk} {count : V → ℕ} {left : V → ℕ → Files → Type 0} {v v1 : V} (way name : Name) → Calls disk count left (Renames way name (Ok true)) v v1 → (d : Disk) → disk v ≡ Some d → IsSome (d way).now
+found_there way name c d e = (c.tells d e).2.0
+
+-- ---- and is settled there
+
+module _ {V : Type 0} {disk : V → Option Disk} {count : V → ℕ} {left : V → ℕ → Files → Type 0} {d : Disk} {v v1 : V} (way name : Name) (bytes : List ℕ) where
+  pub moves_not : (r : Result (Unit {0}) VaultFault) (x : VaultFault) → r ≡ Err x → Walks disk count left on_way (ComesTo name (Some bytes)) (Came d way name bytes {X = Unit {0}} (Err x)) d v v1
+      → Walks disk count left on_way (ComesTo name (Some bytes)) (MovedIn d name bytes r) d v v1
+  moves_not r x fails w = rw fails (looser w (λ n f b. b) (λ d' g h. moved_not d d' way name bytes x h))
+
+  module _ {v2 : V} {u : Unit {0}} (only : (f : Files) → left v1 (count v1) f → ImageOf (disk v1) f) (w : Walks disk count left on_way (ComesTo name (Some bytes)) (Came d way name bytes {X = Unit {0}} (Ok u)) d v v1) where
+    pub moves : {t : Unit {0}} → Calls disk count left (Syncs ok) v1 v2 → Walks disk count left on_way (ComesTo name (Some bytes)) (MovedIn d name bytes {X = Unit {0}} (Ok t)) d v v2
+    moves c = bind w (λ n f b. b) (λ d1 told g came. looser (sync_ok only told c) (λ n f b. b) (λ d2 g2 s. sure_then name bytes d1 d2 s came.there))
+
+    pub moves_unsure : (r : Result (Unit {0}) VaultFault) (x : VaultFault) → r ≡ Err x → x ≢ NoMemory → Calls disk count left (Syncs (err x)) v1 v2 → Walks disk count left on_way (ComesTo name (Some bytes)) (MovedIn d name bytes r) d v v2
+    moves_unsure r x fails not c = rw fails (bind w (λ n f b. b) (λ d1 told g came. looser (sync_err x only told c) (λ n f b. b) (λ d2 g2 s. moved_unsure d d2 name bytes x not)))
+
+-- ---- both
 
 -- after a file was put on its way, and wasn't
 pub unreplaced : {d d' : Disk} (way name : Name) (bytes : List ℕ) (x : VaultFault) → Gains on_way Nothing d d' → PutOnWay d way bytes (err x) d' → Replaced d name bytes (err x) d'

@@ -1,18 +1,21 @@
 //! Single files that come whole to their names.
-ghost use Rattle.std.specs.Prelude.{◌≡◌, ℕ, List, Some, true, false, IsErrOf};
+ghost use Rattle.std.specs.Prelude.{◌≡◌, ◌≢◌, ⊤, ℕ, List, Some, Err, true, false, IsErrOf, IsSome, OnOk};
 ghost use Rattle.cv_base.specs.Counts.{HasCause};
 ghost use Rattle.cv_base.specs.Told.{WhereTold};
 ghost use Rattle.cv_vault.specs.Names.{on_way};
-ghost use Rattle.cv_vault.specs.Walks.{Walks, Nothing, ComesTo};
-ghost use Rattle.cv_vault.specs.Replace.{IsSure, PutOnWay, MovedIn, Replaced, Found};
+ghost use Rattle.cv_vault.specs.Moments.{OnlyReads};
+ghost use Rattle.cv_vault.specs.Walks.{Walks, Nothing, ComesTo, BringsNothing, SparesIn, IsNeither};
+ghost use Rattle.cv_vault.specs.Replace.{IsWaiting, PutOnWay, Came, MovedIn, Replaced, Found};
 ghost use Rattle.cv_vault.specs.declared.vault.VaultFault.TheVariants as fault;
 
 use crate::vault::{Vault, VaultFault};
 
-/// Writes a file on its way, and settles it.
+/// Writes a file on its way, and settles it. Every other name, also one that is on the way, has the file that it had, and
+/// is settled where it was.
 pub fn put_on_way<V: Vault>(vault: &mut V, way: &str, bytes: &[u8]) -> Result<(), VaultFault>
     requires way { on_way way.now ≡ true }
     ensures walks { WhereTold (V.disk vault.old) (λ d. Walks V.disk V.count V.left on_way Nothing (PutOnWay d way.now bytes.now result) d vault.old vault.new) }
+    ensures others { SparesIn V.disk (λ n. n ≢ way.now) vault.old vault.new }
     ensures cause { HasCause (V.faults vault.old) (V.faults vault.new) (IsErrOf result fault.Failed) }
 {
     vault.write(way, bytes)?;
@@ -20,18 +23,38 @@ pub fn put_on_way<V: Vault>(vault: &mut V, way: &str, bytes: &[u8]) -> Result<()
     Ok(())
 }
 
-/// Brings a file that stands on its way to its name, and settles both. After `Failed` it may be there or not.
+/// Brings a file that waits on its way to its name, where the next sync settles it. Where none stands there it isn't `Ok`.
+pub fn bring_file<V: Vault>(vault: &mut V, way: &str, name: &str) -> Result<(), VaultFault>
+    requires way { on_way way.now ≡ true }
+    requires name { on_way name.now ≡ false }
+    ensures walks { WhereTold (V.disk vault.old) (λ d. (bytes : List ℕ) → IsWaiting way.now name.now bytes d
+        → Walks V.disk V.count V.left on_way (ComesTo name.now (Some bytes)) (Came d way.now name.now bytes result) d vault.old vault.new) }
+    ensures there { WhereTold (V.disk vault.old) (λ d. OnOk result (IsSome (d way.now).now)) }
+    ensures memory { result ≡ Err fault.NoMemory → OnlyReads V.disk V.count V.left vault.old vault.new }
+    ensures others { SparesIn V.disk (IsNeither way.now name.now) vault.old vault.new }
+    ensures cause { HasCause (V.faults vault.old) (V.faults vault.new) (IsErrOf result fault.Failed) }
+{
+    if vault.rename(way, name)? {
+        Ok(())
+    } else {
+        // It can't be, where the vault tells.
+        Err(VaultFault::NoMemory)
+    }
+}
+
+/// Brings a file that waits on its way to its name, for sure. After `Failed` it may be there or not. After `NoMemory` it
+/// isn't, and no crash leaves it. Where none stands on the way it isn't `Ok`.
 pub fn move_in<V: Vault>(vault: &mut V, way: &str, name: &str) -> Result<(), VaultFault>
     requires way { on_way way.now ≡ true }
     requires name { on_way name.now ≡ false }
-    ensures walks { WhereTold (V.disk vault.old) (λ d. (bytes : List ℕ) → IsSure way.now bytes d
+    ensures walks { WhereTold (V.disk vault.old) (λ d. (bytes : List ℕ) → IsWaiting way.now name.now bytes d
         → Walks V.disk V.count V.left on_way (ComesTo name.now (Some bytes)) (MovedIn d name.now bytes result) d vault.old vault.new) }
+    ensures there { WhereTold (V.disk vault.old) (λ d. OnOk result (IsSome (d way.now).now)) }
+    ensures memory { result ≡ Err fault.NoMemory → OnlyReads V.disk V.count V.left vault.old vault.new }
+    ensures others { SparesIn V.disk (IsNeither way.now name.now) vault.old vault.new }
     ensures cause { HasCause (V.faults vault.old) (V.faults vault.new) (IsErrOf result fault.Failed) }
 {
-    if !vault.rename(way, name)? {
-        // It can't be, where the vault tells.
-        return Err(VaultFault::NoMemory);
-    }
+    bring_file(vault, way, name)?;
     vault.sync()?;
     Ok(())
 }
@@ -41,7 +64,7 @@ pub fn move_in<V: Vault>(vault: &mut V, way: &str, name: &str) -> Result<(), Vau
 ///
 /// A crash at any moment leaves under the name the file that it might have left before, or the new one, and under every
 /// other name that isn't on the way what it might have left. After `Failed` the new file may have come to its name.
-/// After `NoMemory` it hasn't.
+/// After `NoMemory` it hasn't, and no crash leaves it.
 pub fn replace<V: Vault>(
     vault: &mut V,
     way: &str,
@@ -52,16 +75,18 @@ pub fn replace<V: Vault>(
     requires name { on_way name.now ≡ false }
     ensures walks { WhereTold (V.disk vault.old) (λ d.
         Walks V.disk V.count V.left on_way (ComesTo name.now (Some bytes.now)) (Replaced d name.now bytes.now result) d vault.old vault.new) }
+    ensures memory { result ≡ Err fault.NoMemory → BringsNothing V.disk V.count V.left vault.old vault.new }
+    ensures others { SparesIn V.disk (IsNeither way.now name.now) vault.old vault.new }
     ensures cause { HasCause (V.faults vault.old) (V.faults vault.new) (IsErrOf result fault.Failed) }
 {
     put_on_way(vault, way, bytes)?;
-    move_in(vault, way, name)?;
-    Ok(())
+    move_in(vault, way, name)
 }
 
 /// Whether a file stands under a name for sure. It settles first.
 pub fn is_sure<V: Vault>(vault: &mut V, name: &str, bytes: &[u8]) -> Result<bool, VaultFault>
     ensures walks { WhereTold (V.disk vault.old) (λ d. Walks V.disk V.count V.left on_way Nothing (Found name.now bytes.now result) d vault.old vault.new) }
+    ensures others { SparesIn V.disk (λ n. ⊤) vault.old vault.new }
     ensures cause { HasCause (V.faults vault.old) (V.faults vault.new) (IsErrOf result fault.Failed) }
 {
     vault.sync()?;

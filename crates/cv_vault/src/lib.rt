@@ -1,8 +1,6 @@
 //! A vault keeps whole files under names, and its contract says what a crash at any moment may leave of them.
 #![tactic(auto)]
 
-#[cfg(test)]
-mod crash_tests;
 mod fate;
 mod files;
 mod memory_vault;
@@ -10,12 +8,10 @@ mod mortal;
 mod place;
 mod schedule;
 mod table;
-#[cfg(test)]
-mod tests;
 mod vault;
 mod wider;
 
-pub use files::{is_sure, move_in, put_on_way, replace};
+pub use files::{bring_file, is_sure, move_in, put_on_way, replace};
 pub use memory_vault::MemoryVault;
 pub use mortal::Mortal;
 pub use vault::{Vault, VaultFault};

@@ -2,7 +2,7 @@ use Rattle.std.proofs.Common.{◌∙◌, true}
 use Rattle.std.specs.declared.result.Result.TheVariants.{Ok, Err}
 use Rattle.cv_objects.proofs.Looking.{handed_on, same_fault, outside}
 use Rattle.cv_objects.proofs.Placing.{placed_now, placed_not, placed_shows}
-use Rattle.cv_objects.proofs.Sparing.{spares_then, spares_read, spares_rename}
+use Rattle.cv_vault.proofs.Laws.{spares_then, spares_read, spares_rename}
 use Rattle.cv_objects.proofs.storing.place_one.Goals as goal
 
 pub returns-in_err-stands-clause-walks : goal.returns-in_err-stands-clause-walks

@@ -1,8 +1,8 @@
 use Rattle.std.proofs.Common.{take, ◌≤◌}
 use Rattle.cv_base.specs.Told.{WhereTold}
 use Rattle.cv_vault.specs.Names.{on_way}
-use Rattle.cv_vault.specs.Walks.{Walks, Nothing}
-use Rattle.cv_objects.specs.Batches.{IsApart, SparesIn, AreReady}
+use Rattle.cv_vault.specs.Walks.{Walks, Nothing, SparesIn}
+use Rattle.cv_objects.specs.Batches.{IsApart, AreReady}
 use Rattle.cv_objects.proofs.storing.write_absent.Given as goal
 
 abbrev pub invariant-loop-object : goal.invariant-loop-object

@@ -1,8 +1,7 @@
 use Rattle.std.proofs.Common.{◌∙◌}
 use Rattle.cv_objects.proofs.Looking.{handed_on}
 use Rattle.cv_objects.proofs.Writing.{wrote_new, wrote_fails}
-use Rattle.cv_vault.proofs.Laws.{ok, err}
-use Rattle.cv_objects.proofs.Sparing.{spares_then, spares_read, spares_write}
+use Rattle.cv_vault.proofs.Laws.{ok, err, spares_then, spares_read, spares_write}
 use Rattle.cv_objects.proofs.storing.write_one.Goals as goal
 
 pub returns-in_err-write-clause-walks : goal.returns-in_err-write-clause-walks

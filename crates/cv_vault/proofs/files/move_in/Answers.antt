@@ -1,13 +1,27 @@
-use Rattle.std.proofs.Common.{ap}
+use Rattle.std.proofs.Common.{sym, ap, ◌∙◌}
 use Rattle.std.specs.declared.result.Result.TheVariants.{Err}
-use Rattle.cv_vault.proofs.Replacing.{move, move_not, move_unsure, handed_on}
+use Rattle.cv_vault.proofs.Replacing.{moves, moves_not, moves_unsure, ok, err, handed_on}
+use Rattle.cv_vault.proofs.Sparing.{spares_then, spares_sync}
 use Rattle.cv_vault.proofs.files.move_in.Goals as goal
 
-pub returns-in_err-rename-clause-walks : goal.returns-in_err-rename-clause-walks
-returns-in_err-rename-clause-walks g c = λ d e bytes can. move_not c.args.way.now c.args.name.now bytes c.requires.way c.requires.name can (g.met.V.Vault.only_now c.args.vault.now) e c.in_err-rename.field-0.0 _ (handed_on _ _ c.from_residual.ensures.1) c.in_err-rename.ensures.call
+pub returns-in_err-bring_file-clause-walks : goal.returns-in_err-bring_file-clause-walks
+returns-in_err-bring_file-clause-walks g c = λ d e bytes waits. moves_not c.args.way.now c.args.name.now bytes _ c.in_err-bring_file.field-0.0 (handed_on _ _ c.from_residual.ensures.1) (c.in_err-bring_file.ensures.walks d e bytes waits)
 
 pub returns-in_err-sync-clause-walks : goal.returns-in_err-sync-clause-walks
-returns-in_err-sync-clause-walks g c = λ d e bytes can. move_unsure c.args.way.now c.args.name.now bytes c.requires.way c.requires.name can (g.met.V.Vault.only_now c.args.vault.now) e (g.met.V.Vault.only_now c.rename.new.self) (rw c.if-not-branch.false at c.in_ok-rename.ensures.call) c.in_err-sync.field-0.0 _ (handed_on _ _ c.from_residual-in_err-sync.ensures.1) (λ s. c.in_err-sync.ensures.memory (ap Err s)) c.in_err-sync.ensures.call
+returns-in_err-sync-clause-walks g c = λ d e bytes waits. moves_unsure c.args.way.now c.args.name.now bytes (g.met.V.Vault.only_now c.bring_file.new.vault) (c.in_ok-bring_file.ensures.walks d e bytes waits)
+    _ c.in_err-sync.field-0.0 (handed_on _ _ c.from_residual-in_err-sync.ensures.1) (λ s. c.in_err-sync.ensures.memory (ap Err s)) c.in_err-sync.ensures.call
 
 pub returns-clause-walks : goal.returns-clause-walks
-returns-clause-walks g c = λ d e bytes can. move c.args.way.now c.args.name.now bytes c.requires.way c.requires.name can (g.met.V.Vault.only_now c.args.vault.now) e (g.met.V.Vault.only_now c.rename.new.self) (rw c.if-not-branch.false at c.in_ok-rename.ensures.call) c.in_ok-sync.ensures.call
+returns-clause-walks g c = λ d e bytes waits. moves c.args.way.now c.args.name.now bytes (g.met.V.Vault.only_now c.bring_file.new.vault) (c.in_ok-bring_file.ensures.walks d e bytes waits) c.in_ok-sync.ensures.call
+
+pub returns-in_err-bring_file-clause-memory : goal.returns-in_err-bring_file-clause-memory
+returns-in_err-bring_file-clause-memory g c = λ e. c.in_err-bring_file.ensures.memory (sym (handed_on _ _ c.from_residual.ensures.1) ∙ e)
+
+pub returns-in_err-sync-clause-memory : goal.returns-in_err-sync-clause-memory
+returns-in_err-sync-clause-memory g c = λ e. absurd (c.in_err-sync.ensures.memory (sym (handed_on _ _ c.from_residual-in_err-sync.ensures.1) ∙ e))
+
+pub returns-in_err-sync-clause-others : goal.returns-in_err-sync-clause-others
+returns-in_err-sync-clause-others g c = spares_then c.in_ok-bring_file.ensures.others (spares_sync (err c.in_err-sync.field-0.0) c.in_err-sync.ensures.call)
+
+pub returns-clause-others : goal.returns-clause-others
+returns-clause-others g c = spares_then c.in_ok-bring_file.ensures.others (spares_sync ok c.in_ok-sync.ensures.call)

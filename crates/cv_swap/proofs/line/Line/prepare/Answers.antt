@@ -2,12 +2,13 @@ use Rattle.std.proofs.Common.{rules, ◌≡◌, ℕ, ◌+◌, List, [], ◌∷�
 use Rattle.std.proofs.lemmas.List.{length-take-le}
 use Rattle.std.specs.declared.result.Result.TheVariants.{Err}
 use Rattle.cv_manifest.specs.declared.head.Head.{Head}
-use Rattle.cv_objects.specs.Batches.{AreNamed, BringsNothing}
+use Rattle.cv_vault.specs.Walks.{BringsNothing}
+use Rattle.cv_objects.specs.Batches.{AreNamed}
 use Rattle.cv_objects.specs.declared.store_fault.StoreFault.TheVariants.{NoMemory}
 use Rattle.cv_objects.proofs.Lemmas.{same_fault, refusal_inside}
 use Rattle.cv_base.specs.Told.{WhereTold}
 use Rattle.cv_swap.specs.Stands.{head_name, head_way}
-use Rattle.cv_swap.specs.Publishing.{IsWaiting}
+use Rattle.cv_vault.specs.Replace.{IsWaiting}
 use Rattle.cv_swap.proofs.Bringing.{prepared_waits}
 use Rattle.cv_swap.proofs.Views.{vault_seen, prepare_stands, named_push, on_err, dropped_seen, refusal_as}
 use Rattle.cv_swap.proofs.line.Line.prepare.Goals as goal

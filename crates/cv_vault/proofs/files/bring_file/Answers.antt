@@ -1,8 +1,10 @@
+use Rattle.std.proofs.Common.{true, false}
 use Rattle.cv_vault.specs.Names.{on_way}
-use Rattle.cv_vault.proofs.Laws.{apart}
-use Rattle.cv_swap.proofs.Building.{handed_on}
-use Rattle.cv_swap.proofs.Bringing.{brings, brings_not, brings_none, quiet_unmade, quiet_absent, one_fault}
-use Rattle.cv_swap.proofs.publishing.bring_file.Goals as goal
+use Rattle.std.specs.declared.result.Result.TheVariants.{Ok, Err}
+use Rattle.cv_vault.proofs.Calling.{apart}
+use Rattle.cv_vault.proofs.Replacing.{brings, brings_not, brings_none, found_there, handed_on, one_fault, quiet_unmade, quiet_absent}
+use Rattle.cv_vault.proofs.Sparing.{spares_rename}
+use Rattle.cv_vault.proofs.files.bring_file.Goals as goal
 
 pub rename-requires : goal.rename-requires
 rename-requires g c = apart on_way _ _ c.requires.way c.requires.name
@@ -21,3 +23,15 @@ returns-in_err-rename-clause-memory g c = λ e. quiet_unmade c.args.way.now c.ar
 
 pub returns-else-branch-clause-memory : goal.returns-else-branch-clause-memory
 returns-else-branch-clause-memory g c = λ e. quiet_absent c.args.way.now c.args.name.now (rw c.if-branch.false at c.in_ok-rename.ensures.call)
+
+pub returns-in_err-rename-clause-others : goal.returns-in_err-rename-clause-others
+returns-in_err-rename-clause-others g c = spares_rename _ _ (Err c.in_err-rename.field-0.0) (λ n p. p.0) (λ n p. p.1) c.in_err-rename.ensures.call
+
+pub returns-then-branch-clause-others : goal.returns-then-branch-clause-others
+returns-then-branch-clause-others g c = spares_rename _ _ (Ok true) (λ n p. p.0) (λ n p. p.1) (rw c.if-branch.true at c.in_ok-rename.ensures.call)
+
+pub returns-else-branch-clause-others : goal.returns-else-branch-clause-others
+returns-else-branch-clause-others g c = spares_rename _ _ (Ok false) (λ n p. p.0) (λ n p. p.1) (rw c.if-branch.false at c.in_ok-rename.ensures.call)
+
+pub returns-then-branch-clause-there : goal.returns-then-branch-clause-there
+returns-then-branch-clause-there g c = found_there c.args.way.now c.args.name.now (rw c.if-branch.true at c.in_ok-rename.ensures.call)

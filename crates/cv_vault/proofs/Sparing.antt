@@ -1,18 +1,17 @@
 -- Names that are spared, call by call.
-use Rattle.std.proofs.Common.{◌≡◌, ◌≢◌, ◌⊎◌, ℕ, Bool, true, false, List, refl, ap, ◌∙◌, inl, inr}
+use Rattle.std.proofs.Common.{◌≡◌, ◌≢◌, ◌⊎◌, ℕ, Bool, true, false, refl, ap, ◌∙◌, inl, inr}
 use Rattle.std.specs.declared.option.Option.{Option}
 use Rattle.std.specs.declared.option.Option.TheVariants.{Some}
 use Rattle.std.specs.declared.result.Result.{Result}
 use Rattle.std.specs.declared.result.Result.TheVariants.{Ok, Err}
-use Rattle.std.specs.List.{Contains}
-use Rattle.cv_base.specs.declared.object.Object.{Object}
 use Rattle.cv_vault.specs.declared.vault.VaultFault.{VaultFault}
 use Rattle.cv_vault.specs.declared.vault.VaultFault.TheVariants.{Failed, NoMemory}
 use Rattle.cv_vault.specs.Names.{Name}
 use Rattle.cv_vault.specs.Disk.{Disk, Slot, Files, Settled, Torn, Absent, Made, Unmade, Writes, Renames, Syncs, slot, with_slot, moved, both_settled}
 use Rattle.cv_vault.specs.Moments.{Calls, OnlyReads}
-use Rattle.cv_vault.proofs.Laws.{elsewhere, renamed_elsewhere}
-use Rattle.cv_objects.specs.Batches.{IsApart, IsApartFrom, SparesIn}
+use Rattle.cv_vault.specs.Walks.{SparesIn}
+use Rattle.cv_vault.proofs.Names.{elsewhere}
+use Rattle.cv_vault.proofs.Calling.{renamed_elsewhere}
 
 module _ {V : Type 0} {disk : V → Option Disk} {P : Name → Type 0} where
   pub spares_none : {v : V} → SparesIn disk P v v
@@ -35,10 +34,6 @@ module _ {V : Type 0} {disk : V → Option Disk} {P : Name → Type 0} where
 
   pub spares_more : {Q : Name → Type 0} {a b : V} → ((n : Name) → P n → Q n) → SparesIn disk Q a b → SparesIn disk P a b
   spares_more more x = record { silent = x.silent; tells = λ d e. let t = x.tells d e in (t.0, t.1, record { each = λ n p. t.2.each n (more n p) }) }
-
--- the names apart from a batch are so from each object of it
-pub apart_from : {batch : List Object} (o : Object) → Contains batch o → (n : Name) → IsApart batch n → IsApartFrom o n
-apart_from o h n apart = record { way = apart.way o h; name = apart.name o h }
 
 module _ {V : Type 0} {disk : V → Option Disk} {count : V → ℕ} {left : V → ℕ → Files → Type 0} {P : Name → Type 0} {a b : V} where
   pub spares_read : OnlyReads disk count left a b → SparesIn disk P a b
