@@ -17,7 +17,7 @@ pub use Rattle.cv_cut.proofs.MeansAfter.{means_after, part_means}
 pub use Rattle.cv_cut.proofs.Members.{comes_from, first_or_later, first_there, goes_to, later_there, none_there, passes, passing}
 pub use Rattle.cv_cut.proofs.Opening.{IsThere, Unsized, left_by, misstating_bad, nested_long, nested_there, nested_unopened, opens_there, root_by_key, root_found, stands_long, transition_long, transition_of, unopened}
 pub use Rattle.cv_cut.proofs.Over.{more_over, nearest, same_ends, same_over}
-pub use Rattle.cv_cut.proofs.PieceLaws.{put_whole}
+pub use Rattle.cv_cut.proofs.PieceLaws.{fits_subtree, put_whole, ready_of}
 pub use Rattle.cv_cut.proofs.PieceRows.{entries_spelled, entry_there, keys_are, rows_spelled, texts_apart_within}
 pub use Rattle.cv_cut.proofs.PlacedCuts.{come_apart, full_below, part_objects, shares_over}
 pub use Rattle.cv_cut.proofs.PlacedLaws.{alone_holds, fits_over, holder_of, keys_over}

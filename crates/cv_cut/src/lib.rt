@@ -14,8 +14,6 @@ mod open;
 mod pieces;
 mod region;
 mod rows;
-#[cfg(test)]
-mod tests;
 mod tree_cut;
 
 pub use catalogues::{catalogue_at, nested_catalogue};

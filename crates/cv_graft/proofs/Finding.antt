@@ -15,7 +15,7 @@ use Rattle.cv_ports.specs.Calls.{raised, raised_by, RaisedAtMost}
 use Rattle.cv_ports.specs.Shelf.{Shelf}
 use Rattle.cv_tree.specs.Tree.{Nodes, at, is_directory, IsTree}
 use Rattle.cv_tree.specs.declared.node.Node.{Node}
-use Rattle.cv_rows.specs.Catalogue.{Contents, IsCatalogue, catalogue_bytes}
+use Rattle.cv_rows.specs.Catalogue.{Contents, catalogue_bytes}
 use Rattle.cv_rows.specs.declared.nested.Nested.{Nested}
 use Rattle.cv_cut.specs.Cuts.{is_cut, is_file, is_marked, is_near}
 use Rattle.cv_cut.specs.Catalogues.{entry_of, cat}
@@ -30,7 +30,6 @@ use Rattle.cv_cut.specs.Opening.{Opens, OpensNested, IsNestedCatalogue, HasOther
 use Rattle.cv_cut.specs.declared.load_fault.LoadFault.{LoadFault}
 use Rattle.cv_cut.specs.declared.load_fault.LoadFault.TheVariants as fault
 use Rattle.cv_rows.specs.Places.{StandsAt}
-use Rattle.cv_rows.specs.declared.row.Row.{Row}
 use Rattle.cv_cut.specs.Region.{FitsAtCut, IsOther, Passes}
 use Rattle.cv_tree.proofs.Laws.{at-at}
 use Rattle.cv_cut.proofs.Lemmas.{cat_is, canonical_at, fits_at_cut, cut_some, stands_at_cut, IsThere, opens_there, nested_there, unopened, nested_unopened, root_decodes_at, nested_decodes_at, covers_append, same_rest, marked-at, covers-shift, rest_behind, entries_are, passes_of, pass_way, holder_way, cuts_some}

@@ -3,7 +3,6 @@ use Rattle.std.proofs.Common.{◌≡◌, ◌≢◌, ℕ, zero, suc, ◌+◌, ◌
 use Rattle.std.specs.declared.option.Option.{Option}
 use Rattle.std.specs.Option.{option_map}
 use Rattle.std.specs.FinMap.{empty, get, same_map, get-empty}
-use Rattle.sha1.specs.Sha1.{sha1}
 use Rattle.cv_base.specs.Path.{Path, IsPath, path_cmp}
 use Rattle.cv_base.specs.PathOrder.{path_total, path_exact}
 use Rattle.cv_base.specs.ObjectId.{object_id}
@@ -29,7 +28,7 @@ use Rattle.cv_graft.specs.Faults.{of_load}
 use Rattle.cv_graft.specs.Way.{IsMade, IsOffered, Finds, Rebuilds}
 use Rattle.cv_cut.specs.Catalogues.{contents_of}
 use Rattle.cv_graft.proofs.Finding.{opened_is}
-use Rattle.cv_rows.specs.Catalogue.{Contents, IsCatalogue}
+use Rattle.cv_rows.specs.Catalogue.{Contents}
 use Rattle.cv_graft.specs.declared.grafted.Grafted.{Grafted}
 use Rattle.cv_graft.specs.declared.made.Made.{Made}
 use Rattle.cv_graft.specs.declared.graft_fault.GraftFault.{GraftFault}

@@ -1,9 +1,9 @@
 -- The catalogue that holds a path, by what stands on a shelf.
-use Rattle.std.proofs.Common.{◌≡◌, [], subst}
+use Rattle.std.proofs.Common.{◌≡◌, ◌≢◌, true, [], subst}
 use Rattle.std.specs.Prelude.{Contains, IfOk, None, Some}
 use Rattle.std.specs.declared.result.Result.{Result}
 use Rattle.std.specs.declared.result.Result.TheVariants.{Ok, Err}
-use Rattle.cv_base.specs.Path.{Path}
+use Rattle.cv_base.specs.Path.{Path, covers}
 use Rattle.cv_base.specs.declared.id.ObjectId.{ObjectId}
 use Rattle.cv_ports.specs.Shelf.{Shelf}
 use Rattle.cv_rows.specs.Catalogue.{Contents}
@@ -14,9 +14,9 @@ use Rattle.cv_cut.specs.declared.load_fault.LoadFault.{LoadFault}
 use Rattle.cv_graft.specs.Directories.{IsHolder, HoldsFrom}
 use Rattle.cv_graft.specs.Way.{HasNone}
 
--- the catalogue itself, where it has no nested entry properly above the path
-pub holds_itself : (shelf : Shelf) (id : ObjectId) (c : Contents) (p : Path) → HasNone c p → HoldsFrom shelf id c p (Ok c)
-holds_itself shelf id c p none = λ from start place reached has. record { hash = id.hash; place = place; reached = reached; has = has; none = none }
+-- the catalogue itself, where it stands properly above the path and has no nested entry that does
+pub holds_itself : (shelf : Shelf) (id : ObjectId) (c : Contents) (p : Path) → covers c.at p ≡ true → p ≢ c.at → HasNone c p → HoldsFrom shelf id c p (Ok c)
+holds_itself shelf id c p above apart none = λ from start place reached has. record { hash = id.hash; place = place; reached = reached; has = has; above = above; apart = apart; none = none }
 
 -- the one that is found from a nested catalogue on
 pub holds_below : (shelf : Shelf) (id : ObjectId) (c below : Contents) (n : Nested) (p : Path) (result : Result Contents LoadFault) → Contains c.nested n → IsNestedCatalogue shelf c n below

@@ -1,17 +1,14 @@
 -- What the root of a tree means in which a part was set, where the catalogues that were made stand on the shelf.
-use Rattle.std.proofs.Common.{◌≡◌, true, false, List, ◌++◌, map, reverse, Some, refl, subst}
+use Rattle.std.proofs.Common.{◌≡◌, true, false, List, ◌++◌, map, reverse, refl}
 use Rattle.std.specs.Prelude.{ℕ, Contains}
 use Rattle.std.proofs.lemmas.List.Elements.{Contains-append_left, Contains-append_right}
 use Rattle.std.proofs.lemmas.List.Sorted.{Contains-permutation, IsPermutation-reverse}
-use Rattle.sha1.specs.Sha1.{sha1}
-use Rattle.cv_base.specs.ObjectId.{object_id}
 use Rattle.cv_base.specs.Path.{Path, covers, overlap}
-use Rattle.cv_base.specs.declared.id.Kind.TheVariants.{Catalogue}
 use Rattle.cv_base.specs.declared.object.Object.{Object}
 use Rattle.cv_ports.specs.Shelf.{Shelf, HasMore}
 use Rattle.cv_tree.specs.Tree.{Nodes, IsTree, put}
 use Rattle.cv_cut.specs.Above.{cuts_above}
-use Rattle.cv_cut.specs.Catalogues.{cat, root_of}
+use Rattle.cv_cut.specs.Catalogues.{root_of}
 use Rattle.cv_cut.specs.Cut.{catalogue_object}
 use Rattle.cv_cut.specs.Cuts.{is_cut, cuts_of}
 use Rattle.cv_cut.specs.Means.{Means}

@@ -1,13 +1,11 @@
 -- A part that is set at the root: the whole tree.
-use Rattle.std.proofs.Common.{◌≡◌, Bool, true, cond, IsSome, is_some, List, [], ◌++◌, map, reverse, None, Some, Result, Ok, Err, false, refl, sym, ap, subst, ◌∙◌, append-nil}
+use Rattle.std.proofs.Common.{◌≡◌, true, List, [], ◌++◌, map, reverse, None, Result, Ok, Err, false, refl, sym, ap, subst, ◌∙◌, append-nil}
 use Rattle.std.specs.declared.option.Option.{Option}
-use Rattle.std.specs.FinMap.{get, empty, get-empty}
-use Rattle.cv_base.specs.Path.{Path, IsPath, path_cmp}
+use Rattle.std.specs.FinMap.{get, get-empty}
+use Rattle.cv_base.specs.Path.{Path, path_cmp}
 use Rattle.cv_base.specs.declared.object.Object.{Object}
-use Rattle.cv_tree.specs.Tree.{Nodes, IsTree, is_directory, at, put}
-use Rattle.cv_tree.specs.Changes.{FitsUnder, IsTreeAtRoot, nodes_of, subtree_of}
-use Rattle.cv_tree.specs.declared.node.Node.{Node}
-use Rattle.cv_tree.proofs.Laws.{get-at}
+use Rattle.cv_tree.specs.Tree.{Nodes, is_directory, at, put}
+use Rattle.cv_tree.specs.Changes.{IsTreeAtRoot, nodes_of}
 use Rattle.cv_cut.specs.Catalogues.{Fits, SharesKey, IsFull}
 use Rattle.cv_cut.specs.Cut.{catalogue_object, cut_of}
 use Rattle.cv_cut.specs.Cuts.{cuts_of}
@@ -47,21 +45,3 @@ root_part p o root none is =
     let h : is_directory (get (nodes_of o) []) ≡ true = root none in
     let there : is_directory (get (nodes_of o) []) ≡ false = ap (λ (x : Option Nodes). is_directory (get (nodes_of x) [])) is ∙ ap is_directory (get-empty path_cmp []) in
     let wrong : true ≡ false = sym h ∙ there in cc
-
--- ---- parts of trees, for tests
-
-none_some : (o : Option Node) → o ≡ None → IsSome o → ⊥
-none_some None is h = cc
-none_some (Some x) is h = cc
-
-pub fits_subtree : (t : Nodes) (p : Path) → IsTree t → FitsUnder p (nodes_of (subtree_of t p))
-fits_subtree t p tree q =
-    elim (is_some (get t p)) as (λ b. IsSome (get (nodes_of (cond b (Some (at t p)) None)) q) → IsPath (p ++ q)) [
-      | true ↦ λ h. tree.part.paths (p ++ q) (subst IsSome (get-at t p q) h)
-      | false ↦ λ h. absurd (none_some (get empty q) (get-empty path_cmp q) h)
-    ]
-
-pub root_subtree : (t : Nodes) (p : Path) → IsTree t → IsTreeAtRoot p (nodes_of (subtree_of t p))
-root_subtree t p tree none =
-    let there : is_some (get t p) ≡ true = ap (λ (x : Path). is_some (get t x)) none ∙ tree.part.root in
-    ap (λ (b : Bool). is_directory (get (nodes_of (cond b (Some (at t p)) None)) [])) there ∙ ap is_directory (get-at t p []) ∙ ap (λ (x : Path). is_directory (get t (x ++ []))) none ∙ tree.root

@@ -23,7 +23,7 @@ use Rattle.cv_cut.specs.Opening.{IsUnread}
 use Rattle.cv_cut.specs.declared.load_fault.LoadFault.{LoadFault}
 use Rattle.cv_cut.specs.declared.load_fault.LoadFault.TheVariants as load
 use Rattle.cv_graft.specs.Faults.{of_load}
-use Rattle.cv_graft.specs.Way.{IsAsked, IsOffered, IsMade, Rebuilds, Finds}
+use Rattle.cv_graft.specs.Way.{IsAsked, IsOffered, IsMade, Rebuilds}
 use Rattle.cv_cut.specs.Catalogues.{contents_of}
 use Rattle.cv_graft.specs.declared.made.Made.{Made}
 use Rattle.cv_graft.specs.declared.graft_fault.GraftFault.{GraftFault}

@@ -1,14 +1,12 @@
 -- The row at a path, and the node for which it stands.
-use Rattle.std.proofs.Common.{◌≡◌, ◌≢◌, Bool, true, false, cond, not, List, [], ◌∷◌, ◌++◌, Some, None, refl, sym, ap, subst, ◌∙◌}
-use Rattle.std.specs.Prelude.{Contains}
+use Rattle.std.proofs.Common.{◌≡◌, ◌≢◌, true, false, cond, [], ◌∷◌, ◌++◌, Some, None, refl, sym, ap, subst, ◌∙◌}
 use Rattle.std.specs.declared.option.Option.{Option}
 use Rattle.std.specs.FinMap.{get}
-use Rattle.cv_base.specs.Path.{Path, key_of, same_path}
-use Rattle.cv_base.specs.PathOrder.{same_path_is}
+use Rattle.cv_base.specs.Path.{Path}
 use Rattle.cv_tree.specs.Tree.{Nodes, IsTree, at, is_directory}
 use Rattle.cv_tree.specs.declared.node.Node.{Node}
 use Rattle.cv_tree.specs.declared.node.Node.TheVariants as node
-use Rattle.cv_rows.specs.Catalogue.{Contents, IsCatalogue}
+use Rattle.cv_rows.specs.Catalogue.{Contents}
 use Rattle.cv_rows.specs.Places.{StandsAt}
 use Rattle.cv_rows.specs.declared.row.Row.{Row}
 use Rattle.cv_rows.specs.declared.row_kind.RowKind.TheVariants.{Directory, Transition}
@@ -19,8 +17,7 @@ use Rattle.cv_cut.specs.Catalogues.{contents_of}
 use Rattle.cv_cut.specs.Above.{Holds}
 use Rattle.cv_cut.specs.Region.{row_at, IsNear}
 use Rattle.cv_tree.proofs.Laws.{get-at}
-use Rattle.cv_cut.proofs.Lemmas.{region_apart, row_kind, stands, stands_only, stands_at_cut, same_rest, rows_are, differs}
-use Rattle.cv_rows.proofs.Lemmas.{stands_contained, same_by_key, one_place, fits_there}
+use Rattle.cv_cut.proofs.Lemmas.{region_apart, row_kind, stands, stands_only, stands_at_cut, same_rest, rows_are}
 
 -- ---- nodes
 

@@ -1,6 +1,6 @@
 -- Which directories there are by what stands on a shelf, whether or not the root means a tree.
-use Rattle.std.specs.Prelude.{◌≡◌, ◌⊎◌, ℕ, Bool, true, false, List, [], Result, Ok, Err}
-use Rattle.cv_base.specs.Path.{Path}
+use Rattle.std.specs.Prelude.{◌≡◌, ◌≢◌, ◌⊎◌, ℕ, Bool, true, false, List, [], Result, Ok, Err}
+use Rattle.cv_base.specs.Path.{Path, covers}
 use Rattle.cv_base.specs.declared.id.ObjectId.{ObjectId}
 use Rattle.cv_ports.specs.Shelf.{Shelf}
 use Rattle.cv_rows.specs.Catalogue.{Contents}
@@ -11,12 +11,15 @@ use Rattle.cv_cut.specs.declared.load_fault.LoadFault.{LoadFault}
 use Rattle.cv_graft.specs.Places.{stands_for_directory}
 use Rattle.cv_graft.specs.Way.{HasNone}
 
--- the catalogue stands on the shelf, is reached from the one under a hash, and has no nested entry properly above the path
+-- The catalogue stands on the shelf, and is reached from the one under a hash. Its place is properly above the path, and that of none
+-- of its nested entries is.
 pub record IsHolder (shelf : Shelf) (from : List ℕ) (start : Place) (p : Path) (c : Contents) : Type 0 where
   pub hash : List ℕ
   pub place : Place
   pub reached : Reaches shelf from start hash place
   pub has : HasCatalogue shelf hash place c
+  pub above : covers c.at p ≡ true
+  pub apart : p ≢ c.at
   pub none : HasNone c p
 
 -- where a catalogue is answered, it is such a one from the one under an id on, wherever that is reached

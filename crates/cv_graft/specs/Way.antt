@@ -1,19 +1,17 @@
 -- The catalogues on the way to a path.
-use Rattle.std.specs.Prelude.{◌≡◌, ◌≢◌, ◌≤◌, ℕ, zero, suc, Bool, true, false, List, [], ◌++◌, length, Some, Contains, Result, Ok, Err}
+use Rattle.std.specs.Prelude.{◌≡◌, ◌≢◌, ℕ, Bool, true, false, List, ◌++◌, length, Contains, Result, Ok, Err}
 use Rattle.sha1.specs.Sha1.{sha1}
 use Rattle.cv_base.specs.Path.{Path, covers}
 use Rattle.cv_base.specs.Marker.{marker, ends_in}
 use Rattle.cv_base.specs.declared.id.ObjectId.{ObjectId}
 use Rattle.cv_base.specs.declared.object.Object.{Object}
-use Rattle.cv_ports.specs.Calls.{raised}
 use Rattle.cv_ports.specs.Shelf.{Shelf}
 use Rattle.std.specs.FinMap.{get}
-use Rattle.cv_tree.specs.Tree.{Nodes, IsTree, is_directory, at}
-use Rattle.cv_rows.specs.Catalogue.{Contents, catalogue_bytes}
+use Rattle.cv_tree.specs.Tree.{Nodes, IsTree, is_directory}
+use Rattle.cv_rows.specs.Catalogue.{Contents}
 use Rattle.cv_rows.specs.declared.nested.Nested.{Nested}
-use Rattle.cv_cut.specs.Cuts.{is_cut, is_near}
-use Rattle.cv_cut.specs.Catalogues.{rows_of, nested_of, cat, Fits, SharesKey, IsFull, contents_of}
-use Rattle.cv_cut.specs.Above.{made_from, replaced, Holds, OnWay}
+use Rattle.cv_cut.specs.Catalogues.{cat, Fits, SharesKey, IsFull, contents_of}
+use Rattle.cv_cut.specs.Above.{made_from, replaced, Holds}
 use Rattle.cv_cut.specs.Reached.{Place, Reaches, HasCatalogue}
 use Rattle.cv_cut.specs.Opening.{HasOtherDigest, MayFailFrom, IsUnread}
 use Rattle.cv_cut.specs.declared.load_fault.LoadFault.{LoadFault}

@@ -11,8 +11,6 @@ mod made;
 mod placing;
 mod rebuilding;
 mod setting;
-#[cfg(test)]
-mod tests;
 mod way;
 
 pub use directories::directory_at;

@@ -63,7 +63,7 @@ nested_catalogue-requires-clause-entry g t c =
 pub returns-in_default-clause-holder : goal.returns-in_default-clause-holder
 returns-in_default-clause-holder g t c = λ standing told.
     let none : HasNone c.args.catalogue c.args.path.now = rw c.in_default.is at c.in_ok-entry.ensures.found in
-    holds_itself standing c.args.id.now c.args.catalogue c.args.path.now none
+    holds_itself standing c.args.id.now c.args.catalogue c.args.path.now c.requires.covered c.requires.apart none
 
 pub returns-in_err-below-clause-holder : goal.returns-in_err-below-clause-holder
 returns-in_err-below-clause-holder g t c = λ standing told. left_by (HoldsFrom standing c.args.id.now c.args.catalogue c.args.path.now) _ _ c.from_residual-in_err-below.ensures.1 tt
