@@ -8,8 +8,6 @@ mod growing;
 pub mod laws;
 mod naming;
 mod opening;
-#[cfg(test)]
-mod tests;
 mod wanted;
 
 pub use base::Base;

@@ -19,13 +19,13 @@ use std::alloc::Global;
 /// The most bytes of a header.
 const HEADER_LIMIT: u64 = 1_048_576;
 
-/// The most bytes of all contents.
+/// The most bytes of all contents of a pack.
 pub const TOTAL_LIMIT: u32 = 33_554_432;
 
-/// The most bytes of one content.
+/// The most bytes of one content of a pack.
 pub const SIZE_LIMIT: u32 = 16_777_216;
 
-/// The most objects.
+/// The most objects of a pack.
 pub const COUNT_LIMIT: u32 = 10_000;
 
 /// The offset of the line of the total.

@@ -14,10 +14,8 @@ mod pack_reader;
 mod pack_writer;
 
 pub use add_fault::AddFault;
+pub use header_reader::{COUNT_LIMIT, SIZE_LIMIT, TOTAL_LIMIT};
 pub use pack::Pack;
 pub use pack_fault::PackFault;
 pub use pack_reader::PackReader;
 pub use pack_writer::PackWriter;
-
-#[cfg(test)]
-mod tests;

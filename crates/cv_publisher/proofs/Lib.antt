@@ -9,3 +9,4 @@ mod Publishing
 mod Replying
 mod Served
 mod Talking
+mod Unmade

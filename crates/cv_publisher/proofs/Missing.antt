@@ -1,6 +1,6 @@
 -- Which of the catalogues that were made are sent.
-use Rattle.std.proofs.Common.{◌≡◌, ◌⊎◌, Bool, true, false, List, [], ◌∷◌, Some, is_some, map, refl, ap, subst, inl, inr}
-use Rattle.std.specs.Prelude.{Contains, if◌then◌else◌, not}
+use Rattle.std.proofs.Common.{◌≡◌, ◌∙◌, ◌⊎◌, Bool, true, false, List, [], ◌∷◌, Some, is_some, map, refl, sym, ap, subst, inl, inr}
+use Rattle.std.specs.Prelude.{Contains, ◌&&◌, if◌then◌else◌, not}
 use Rattle.std.proofs.lemmas.Bool.{and_parts}
 use Rattle.std.proofs.lemmas.Slice.Eq.{bytes_eq-Decides}
 use Rattle.std.specs.Str.{bytes_eq}
@@ -9,7 +9,7 @@ use Rattle.cv_base.specs.declared.id.Kind.TheVariants.{Plain, Catalogue, History
 use Rattle.cv_base.specs.declared.id.ObjectId.{ObjectId}
 use Rattle.cv_base.specs.declared.object.Object.{Object}
 use Rattle.cv_ports.specs.Objects.{same_id, same_kind, shelf_of}
-use Rattle.cv_cut.proofs.Lemmas.{first_there, later_there, passes, passing}
+use Rattle.cv_cut.proofs.Lemmas.{first_or_later, first_there, later_there, none_there, passes, passing}
 use Rattle.cv_publisher.specs.Assembling.{unfetched}
 
 abbrev pub ids_of : List Object → List ObjectId
@@ -28,6 +28,14 @@ same_ids a b is =
     let kind : a.kind ≡ b.kind = same_kinds a.kind b.kind both.1 in
     λ i. record { hash = hash i; kind = kind i }
 
+own_kind : (k : Kind) → same_kind k k ≡ true
+own_kind Plain = refl
+own_kind Catalogue = refl
+own_kind History = refl
+
+own_id : (id : ObjectId) → same_id id id ≡ true
+own_id id = ap (λ (b : Bool). b && same_kind id.kind id.kind) ((bytes_eq-Decides id.hash id.hash).1 refl) ∙ own_kind id.kind
+
 -- what stands under an id is one of the objects
 on_shelf : (os : List Object) (id : ObjectId) → is_some (shelf_of os id) ≡ true → Contains (ids_of os) id
 on_shelf [] id is = absurd cc
@@ -45,6 +53,25 @@ each_sent os made o has = by (is_some (shelf_of os o.id)) refl
     by : (b : Bool) → is_some (shelf_of os o.id) ≡ b → Contains (unfetched (shelf_of os) made) o ⊎ Contains (ids_of os) o.id
     by true h = inr (on_shelf os o.id h)
     by false h = inl (passing (λ (x : Object). not (is_some (shelf_of os x.id))) made o has (ap not h))
+
+-- what an object has an id of stands on the shelf
+stands : (os : List Object) (id : ObjectId) → Contains (ids_of os) id → is_some (shelf_of os id) ≡ true
+stands [] id has = absurd (none_there id has)
+stands (o ∷ os) id has = by (same_id o.id id) refl (λ later. stands os id later)
+  where
+    by : (b : Bool) → same_id o.id id ≡ b → (Contains (ids_of os) id → is_some (shelf_of os id) ≡ true) → is_some (if b then Some o.bytes else shelf_of os id) ≡ true
+    by true h later = refl
+    by false h later = elim (first_or_later o.id (ids_of os) id has) [
+      | inl is ↦ let own : same_id o.id id ≡ true = subst (λ (x : ObjectId). same_id x id ≡ true) (sym is) (own_id id) in absurd cc
+      | inr more ↦ later more
+    ]
+
+-- what is sent wasn't fetched
+pub never_fetched : (os made : List Object) (o : Object) → Contains (unfetched (shelf_of os) made) o → Contains (ids_of os) o.id → ⊥
+never_fetched os made o has known =
+    let lacks : not (is_some (shelf_of os o.id)) ≡ true = (passes (λ (x : Object). not (is_some (shelf_of os x.id))) made o has).1 in
+    let there : is_some (shelf_of os o.id) ≡ true = stands os o.id known in
+    absurd cc
 
 pub only_made : (os made : List Object) (o : Object) → Contains (unfetched (shelf_of os) made) o → Contains made o
 only_made os made o has = (passes (λ (x : Object). not (is_some (shelf_of os x.id))) made o has).0

@@ -1,12 +1,11 @@
 -- How a talk ends from its beginning.
-use Rattle.std.proofs.Common.{◌≡◌, ◌≢◌, ◌⊎◌, ℕ, Bool, List, [], ◌∷◌, ◌++◌, map, Option, Some, None, refl, sym, ap, ◌∙◌, subst, inl, inr, append_assoc}
-use Rattle.std.specs.Prelude.{true, Result, Ok, Err}
+use Rattle.std.proofs.Common.{◌≡◌, ◌⊎◌, ℕ, List, [], ◌∷◌, ◌++◌, map, Option, Some, None, refl, sym, ap, ◌∙◌, subst, inl, inr, append_assoc}
+use Rattle.std.specs.Prelude.{Contains, Result, Ok, Err}
 use Rattle.std.specs.List.{AllByRecursion}
 use Rattle.std.proofs.lemmas.List.{map-append}
 use Rattle.cv_base.specs.declared.id.ObjectId.{ObjectId}
 use Rattle.cv_base.specs.declared.object.Object.{Object}
 use Rattle.cv_base.specs.declared.token.Token.{Token}
-use Rattle.cv_ports.specs.Shelf.{Shelf}
 use Rattle.cv_tree.specs.Tree.{Nodes}
 use Rattle.cv_keys.specs.declared.key.Key.{Key}
 use Rattle.cv_answers.specs.declared.answer.Answer.TheVariants as answer
@@ -16,22 +15,21 @@ use Rattle.cv_manifest.specs.declared.manifest_fault.ManifestFault.TheVariants a
 use Rattle.cv_checkout.specs.Giving.{Gives, Takes}
 use Rattle.cv_checkout.specs.InTree.{IsIdToward}
 use Rattle.cv_checkout.specs.Progress.{Progress, begun}
-use Rattle.cv_checkout.specs.Wanting.{id_of, next_of}
+use Rattle.cv_checkout.specs.Wanting.{id_of, next_of, root_wanted}
 use Rattle.cv_checkout.specs.declared.fault.CheckoutFault.{CheckoutFault}
 use Rattle.cv_checkout.specs.declared.fault.CheckoutFault.TheVariants as checkout
 use Rattle.cv_ports.specs.Objects.{shelf_of}
 use Rattle.cv_tree.specs.Changes.{has_place, nodes_of, subtree_of}
 use Rattle.cv_overlay.specs.Answers.{HasNoBad}
-use Rattle.cv_overlay.specs.Overlay.{over}
 use Rattle.cv_publisher.specs.Holding.{PublisherView}
-use Rattle.cv_publisher.specs.Assembling.{Assembles, is_bad, is_orphan, is_laid, unlaid, Sets, is_set, collides, is_full, unset}
 use Rattle.cv_publisher.specs.Faults.{of_checkout, of_manifest}
+use Rattle.cv_publisher.specs.Fetching.{IsGiven}
 use Rattle.cv_publisher.specs.Packing.{AreInOrder, objects_at}
 use Rattle.cv_publisher.specs.Replies.{answer_in, fault_in, served_in}
 use Rattle.cv_publisher.specs.Requests.{object_request}
 use Rattle.cv_publisher.specs.Taking.{AfterLease, lease_said, lease_lost, AfterManifest, manifest_read, manifest_bad, manifest_unsaid, manifest_lost, AfterCheckout, assembled, unassembled, AfterCatalogue, catalogue_more, catalogue_last, catalogue_refused, catalogue_unsaid, behind_checkout, offer_of}
 use Rattle.cv_publisher.specs.Talks as talks
-use Rattle.cv_publisher.specs.Talks.{Exchanged, Talks, Fails, lease, manifest, catalogue, payload, commit, Terms, errands, IsDone, Faults, IsUnmade, Sends, bodies, joined, AreFronts, AreToward, Completes, Explains, IsReady, IsServedOf, Offers, Published, Unleased, Cancelled}
+use Rattle.cv_publisher.specs.Talks.{Exchanged, Talks, Fails, lease, manifest, catalogue, payload, commit, Terms, errands, IsDone, Faults, Fetches, IsUnmade, Sends, bodies, joined, AreFronts, AreToward, Completes, Explains, IsReady, MaySend, IsServedOf, Offers, Published, Unleased, Cancelled}
 use Rattle.cv_publisher.specs.Wanting.{AsksCatalogue, Wants}
 use Rattle.cv_publisher.specs.declared.assembling.Delivery.{Delivery}
 use Rattle.cv_publisher.specs.declared.fault.PublishFault.{PublishFault}
@@ -40,53 +38,28 @@ use Rattle.cv_publisher.specs.declared.plan.Plan.{Plan}
 use Rattle.cv_publisher.specs.declared.stage.Stage.{Stage}
 use Rattle.cv_publisher.specs.declared.stage.Stage.TheVariants.{Leasing, Reading, Fetching, Cancelling, Ended}
 use Rattle.cv_publisher.specs.declared.want.Want.TheVariants.{Exchange}
-use Rattle.cv_publisher.proofs.Missing.{ids_of}
-use Rattle.cv_publisher.proofs.Replying.{Seal, IsCatalogue, SaysNothing, says_nothing, taken, refused, IsGranted, is_granted, isnt_granted, lease_cases}
-use Rattle.cv_publisher.proofs.Served.{Assembled, Comes, asks_toward, begins, comes_more, completed, explained, none_bad, offered, served_later}
+use Rattle.cv_publisher.proofs.Missing.{ids_of, never_fetched}
+use Rattle.cv_publisher.proofs.Replying.{Seal, IsCatalogue, SaysNothing, given_digest, says_nothing, taken, refused, IsGranted, is_granted, isnt_granted, lease_cases}
+use Rattle.cv_publisher.proofs.Served.{Assembled, Comes, asks_toward, begins, comes_more, completed, explained, none_bad, none_wanted, offered, served_later}
+use Rattle.cv_publisher.proofs.Unmade.{IsOrdered, made_in_order, unmade_by}
 use Rattle.cv_publisher.proofs.Talking.{runs_of, End, Runs, IsOver, at_end, at_cancel, plain_err, Ends, whole, broken, before, breaks, rests, Sent, at_offer}
-
--- ---- what was assembled
-
--- why nothing was made
-unset_by : (plan : Plan) (from : List ℕ) (fetched : Shelf) (part : Nodes) (r : Result Delivery PublishFault) (f : PublishFault)
-    → HasNoBad plan.changes.nodes → Sets plan from fetched part r → r ≡ Err f → (f ≡ fault.NoMemory) ⊎ IsUnmade plan f
-unset_by plan from fetched part r f good (is_set g d told delivers is) err = absurd cc
-unset_by plan from fetched part r f good (collides a b told is) err = inr (talks.collides a b good cc)
-unset_by plan from fetched part r f good (is_full c told is) err = inr (talks.is_full c good cc)
-unset_by plan from fetched part r f good (unset is) err = inl cc
-
-unmade_by : (plan : Plan) (from : List ℕ) (fetched : Shelf) (b : Nodes) (place : Bool) (r : Result Delivery PublishFault) (f : PublishFault)
-    → Assembles plan from fetched b place r → r ≡ Err f → (f ≡ fault.NoMemory) ⊎ IsUnmade plan f
-unmade_by plan from fetched b place r f (is_bad q least is) err = inr (talks.bad_whiteout q least cc)
-unmade_by plan from fetched b place r f (is_orphan good none is) err = inr (talks.no_parent good cc)
-unmade_by plan from fetched b place r f (is_laid good there sets) err = unset_by plan from fetched (over b plan.changes.nodes plan.moment) r f good sets err
-unmade_by plan from fetched b place r f (unlaid is) err = inl cc
-
--- and what was made is in order
-abbrev IsOrdered : Plan → Delivery → Type 0
-IsOrdered plan d = AreInOrder (plan.changes.objects ++ d.catalogues) (objects_at (plan.changes.objects ++ d.catalogues) d.places)
-
-set_in_order : (plan : Plan) (from : List ℕ) (fetched : Shelf) (part : Nodes) (r : Result Delivery PublishFault) (d : Delivery)
-    → Sets plan from fetched part r → r ≡ Ok d → IsOrdered plan d
-set_in_order plan from fetched part r d (is_set g d' told delivers is) ok = let same : d' ≡ d = cc in subst (IsOrdered plan) same delivers.order
-set_in_order plan from fetched part r d (collides a b told is) ok = absurd cc
-set_in_order plan from fetched part r d (is_full c told is) ok = absurd cc
-set_in_order plan from fetched part r d (unset is) ok = absurd cc
-
-made_in_order : (plan : Plan) (from : List ℕ) (fetched : Shelf) (b : Nodes) (place : Bool) (r : Result Delivery PublishFault) (d : Delivery)
-    → Assembles plan from fetched b place r → r ≡ Ok d → IsOrdered plan d
-made_in_order plan from fetched b place r d (is_bad q least is) ok = absurd cc
-made_in_order plan from fetched b place r d (is_orphan good none is) ok = absurd cc
-made_in_order plan from fetched b place r d (is_laid good there sets) ok = set_in_order plan from fetched (over b plan.changes.nodes plan.moment) r d sets ok
-made_in_order plan from fetched b place r d (unlaid is) ok = absurd cc
 
 -- ---- catalogues
 
--- the commit may be asked, by how far the checkout has come
-record Readies (plan : Plan) (from : List ℕ) (s : Progress) (terms : Terms) (ids : List ObjectId) (packs : List (List Object)) (es : List Exchanged) : Type 0 where
-  sent : Sends plan packs []
+-- packs may be sent, by how far the checkout has come
+record Readies (plan : Plan) (from : List ℕ) (s : Progress) (terms : Terms) (ids : List ObjectId) (packs : List (List Object)) (es : List Exchanged) (rest : List Object) : Type 0 where
+  good : HasNoBad plan.changes.nodes
+  sends : Sends plan (ids_of s.objects ++ ids) packs rest
   offers : (t : Nodes) → Comes t from s (bodies es) → Offers plan t terms.root
-  completes : (t : Nodes) → Comes t from s (bodies es) → Completes plan t (ids_of s.objects ++ ids) sent.catalogues
+  completes : (t : Nodes) → Comes t from s (bodies es) → Completes plan t (ids_of s.objects ++ ids) sends.catalogues
+
+-- none is sent, or they may be
+abbrev NoneOr : List (List Object) → (List Object → Type 0) → Type 0
+NoneOr packs May = (packs ≡ []) ⊎ ((rest : List Object) × May rest)
+
+none_or : (packs : List (List Object)) (May Might : List Object → Type 0) → ((rest : List Object) → May rest → Might rest) → NoneOr packs May → NoneOr packs Might
+none_or packs May Might f (inl none) = inl none
+none_or packs May Might f (inr some) = inr (some.0, f some.0 some.1)
 
 -- how it ends from the manifest on
 record Fetched (is_seal : Seal) (keys : List Key) (plan : Plan) (token : Token) (from : List ℕ) (s : Progress) (es : List Exchanged) (end : End) : Type 0 where
@@ -95,18 +68,18 @@ record Fetched (is_seal : Seal) (keys : List Key) (plan : Plan) (token : Token) 
   base_is : terms.base ≡ from
   ids : List ObjectId
   packs : List (List Object)
-  sent : (packs ≡ []) ⊎ ((rest : List Object) × Sends plan packs rest)
+  sent : NoneOr packs (Readies plan from s terms ids packs es)
   toward : (t : Nodes) → Comes t from s (bodies es) → AllByRecursion (IsIdToward t plan.path) ids
-  placed : packs ≢ [] → (t : Nodes) → Comes t from s (bodies es) → has_place t plan.path ≡ true
   explains : (f : PublishFault) → end ≡ Err f → (t : Nodes) → Comes t from s (bodies es) → Explains plan t f
-  ends : Ends is_seal keys plan (Readies plan from s terms ids packs es) terms (map catalogue ids ++ (map payload packs ++ commit ∷ [])) es end
+  ends : Ends is_seal keys plan (Readies plan from s terms ids packs es []) s.wanted terms (map catalogue ids ++ (map payload packs ++ commit ∷ [])) es end
 
 abbrev terms_at : Token → List ℕ → Terms
 terms_at token from = record { token = token; base = from; root = []; revision = 0 }
 
 fetch_breaks : (is_seal : Seal) (keys : List Key) (plan : Plan) (token : Token) (from : List ℕ) (s : Progress) (id : ObjectId) (f : PublishFault) (e : Exchanged) (es : List Exchanged) (end : End)
-    → e.request ≡ object_request plan id → next_of s.wanted ≡ Some id → s.path ≡ plan.path → Faults is_seal plan e.reply f (catalogue id) → ((t : Nodes) → Comes t from s (bodies (e ∷ es)) → Explains plan t f)
-    → Runs is_seal keys plan (Cancelling token f) es end → Fetched is_seal keys plan token from s (e ∷ es) end
+    → e.request ≡ object_request plan id → next_of s.wanted ≡ Some id → s.path ≡ plan.path → Faults is_seal plan s.wanted e.reply f (catalogue id)
+    → ((t : Nodes) → Comes t from s (bodies (e ∷ es)) → Explains plan t f) → Runs is_seal keys plan (Cancelling token f) es end
+    → Fetched is_seal keys plan token from s (e ∷ es) end
 fetch_breaks is_seal keys plan token from s id f e es end asks next path told explains r = record {
   terms = terms_at token from;
   token_is = refl;
@@ -115,14 +88,13 @@ fetch_breaks is_seal keys plan token from s id f e es end asks next path told ex
   packs = [];
   sent = inl refl;
   toward = λ t c. (asks_toward plan t from s (bodies (e ∷ es)) id c next path, tt);
-  placed = λ some t c. absurd (some refl);
-  explains = λ g err t c. (
-      let is : end ≡ Err f = (at_cancel is_seal keys plan token f es end r).told in
-      let same : f ≡ g = cc in
-      subst (Explains plan t) same (explains t c));
-  ends = breaks is_seal keys plan (Readies plan from s (terms_at token from) (id ∷ []) [] (e ∷ es)) (terms_at token from) (catalogue id) (commit ∷ []) f e es end
-      (record { asks = asks; told = told }) (λ is. absurd cc) r;
+  explains = λ g err t c. subst (Explains plan t) (same g err) (explains t c);
+  ends = breaks is_seal keys plan (Readies plan from s (terms_at token from) (id ∷ []) [] (e ∷ es) []) s.wanted (terms_at token from) (catalogue id) (commit ∷ []) f e es end
+      (record { turn = next; asks = asks; told = told }) (λ is. absurd cc) r;
 }
+  where
+    same : (g : PublishFault) → end ≡ Err g → f ≡ g
+    same g err = let is : end ≡ Err f = (at_cancel is_seal keys plan token f es end r).told in cc
 
 -- a reply was taken for the catalogue that is wanted next
 record Took (plan : Plan) (s s' : Progress) (id : ObjectId) (e : Exchanged) : Type 0 where
@@ -135,11 +107,14 @@ record Took (plan : Plan) (s s' : Progress) (id : ObjectId) (e : Exchanged) : Ty
 took_on : (plan : Plan) (t : Nodes) (from : List ℕ) (s s' : Progress) (id : ObjectId) (e : Exchanged) (es : List Exchanged) → Took plan s s' id e → Comes t from s (bodies (e ∷ es)) → Comes t from s' (bodies es)
 took_on plan t from s s' id e es took c = comes_more t from s s' e.reply took.given (bodies es) took.says took.gives c
 
+took_one : (plan : Plan) (s s' : Progress) (id : ObjectId) (e : Exchanged) → Took plan s s' id e → IsCatalogue plan.path s s' id e.reply
+took_one plan s s' id e took = taken plan.path e.reply took.given s s' id took.says took.gives took.wanted took.path
+
 is_done : (is_seal : Seal) (keys : List Key) (plan : Plan) (terms : Terms) (s s' : Progress) (id : ObjectId) (e : Exchanged) → e.request ≡ object_request plan id → Took plan s s' id e
     → IsDone is_seal keys plan terms (catalogue id) e
 is_done is_seal keys plan terms s s' id e asks took =
-    let served : IsCatalogue e.reply id = taken e.reply took.given s s' id took.says took.gives took.wanted in
-    record { asks = asks; served = (served.code, served.digest) }
+    let one : IsCatalogue plan.path s s' id e.reply = took_one plan s s' id e took in
+    record { asks = asks; served = (one.code, given_digest plan.path s.wanted id e.reply.body s'.wanted one.is) }
 
 -- its id comes behind those of what was given before
 took_ids : (plan : Plan) (s s' : Progress) (id : ObjectId) (e : Exchanged) → Took plan s s' id e → ids_of s'.objects ≡ ids_of s.objects ++ id ∷ []
@@ -150,6 +125,24 @@ took_ids plan s s' id e took =
     ap ids_of takes.objects_are ∙ map-append (λ (o : Object). o.id) s.objects (record { id = id_of takes.first; bytes = took.gives.0 } ∷ [])
     ∙ ap (λ (x : ObjectId). ids_of s.objects ++ x ∷ []) one
 
+-- what may be sent, by how far it had come before
+readies_before : (plan : Plan) (from : List ℕ) (s s' : Progress) (terms : Terms) (id : ObjectId) (ids : List ObjectId) (packs : List (List Object)) (e : Exchanged) (es : List Exchanged) (rest : List Object)
+    → Took plan s s' id e → Readies plan from s' terms ids packs es rest → Readies plan from s terms (id ∷ ids) packs (e ∷ es) rest
+readies_before plan from s s' terms id ids packs e es rest took ready = record {
+  good = ready.good;
+  sends = record {
+    catalogues = ready.sends.catalogues;
+    unfetched = λ o has known. ready.sends.unfetched o has (subst (λ (l : List ObjectId). Contains l o.id) (sym same) known);
+    order = ready.sends.order;
+    fronts = ready.sends.fronts;
+  };
+  offers = λ t c. ready.offers t (took_on plan t from s s' id e es took c);
+  completes = λ t c. subst (λ (l : List ObjectId). Completes plan t l ready.sends.catalogues) same (ready.completes t (took_on plan t from s s' id e es took c));
+}
+  where
+    same : ids_of s'.objects ++ ids ≡ ids_of s.objects ++ id ∷ ids
+    same = ap (λ (l : List ObjectId). l ++ ids) (took_ids plan s s' id e took) ∙ append_assoc (ids_of s.objects) (id ∷ []) ids
+
 -- another is wanted
 fetch_more : (is_seal : Seal) (keys : List Key) (plan : Plan) (token : Token) (from : List ℕ) (s s' : Progress) (id : ObjectId) (e : Exchanged) (es : List Exchanged) (end : End)
     → e.request ≡ object_request plan id → Took plan s s' id e → Fetched is_seal keys plan token from s' es end → Fetched is_seal keys plan token from s (e ∷ es) end
@@ -159,81 +152,82 @@ fetch_more is_seal keys plan token from s s' id e es end asks took f = record {
   base_is = f.base_is;
   ids = id ∷ f.ids;
   packs = f.packs;
-  sent = f.sent;
+  sent = none_or f.packs (Readies plan from s' f.terms f.ids f.packs es) (Readies plan from s f.terms (id ∷ f.ids) f.packs (e ∷ es))
+      (λ rest. readies_before plan from s s' f.terms id f.ids f.packs e es rest took) f.sent;
   toward = λ t c. (asks_toward plan t from s (bodies (e ∷ es)) id c took.wanted took.path, f.toward t (took_on plan t from s s' id e es took c));
-  placed = λ some t c. f.placed some t (took_on plan t from s s' id e es took c);
   explains = λ g err t c. f.explains g err t (took_on plan t from s s' id e es took c);
-  ends = before is_seal keys plan (Readies plan from s f.terms (id ∷ f.ids) f.packs (e ∷ es)) f.terms (catalogue id) (map catalogue f.ids ++ (map payload f.packs ++ commit ∷ [])) e es end
-      (is_done is_seal keys plan f.terms s s' id e asks took)
-      (rests is_seal keys plan (Readies plan from s' f.terms f.ids f.packs es) (Readies plan from s f.terms (id ∷ f.ids) f.packs (e ∷ es)) f.terms
-      (map catalogue f.ids ++ (map payload f.packs ++ commit ∷ [])) es end
-      (λ ready. record {
-        sent = ready.sent;
-        offers = λ t c. ready.offers t (took_on plan t from s s' id e es took c);
-        completes = λ t c. subst (λ (l : List ObjectId). Completes plan t l ready.sent.catalogues)
-            (ap (λ (l : List ObjectId). l ++ f.ids) (took_ids plan s s' id e took) ∙ append_assoc (ids_of s.objects) (id ∷ []) f.ids)
-            (ready.completes t (took_on plan t from s s' id e es took c));
-      }) f.ends);
+  ends = before is_seal keys plan (Readies plan from s f.terms (id ∷ f.ids) f.packs (e ∷ es) []) s.wanted s'.wanted f.terms (catalogue id) (map catalogue f.ids ++ (map payload f.packs ++ commit ∷ [])) e es end
+      (λ more later left fetched. (s'.wanted, (took_one plan s s' id e took).is, fetched)) (is_done is_seal keys plan f.terms s s' id e asks took)
+      (rests is_seal keys plan (Readies plan from s' f.terms f.ids f.packs es []) (Readies plan from s f.terms (id ∷ f.ids) f.packs (e ∷ es) []) s'.wanted f.terms
+      (map catalogue f.ids ++ (map payload f.packs ++ commit ∷ [])) es end (readies_before plan from s s' f.terms id f.ids f.packs e es [] took) f.ends);
 }
 
 -- all makes an offer
 fetch_ends : (is_seal : Seal) (keys : List Key) (plan : Plan) (token : Token) (from : List ℕ) (s s' : Progress) (d : Delivery) (id : ObjectId) (e : Exchanged) (es : List Exchanged) (end : End)
-    → e.request ≡ object_request plan id → Took plan s s' id e → IsOrdered plan d → ((t : Nodes) → Comes t from s' (bodies es) → Offers plan t d.root)
+    → e.request ≡ object_request plan id → Took plan s s' id e → IsGiven plan.path s.wanted id e.reply.body [] → HasNoBad plan.changes.nodes → IsOrdered plan (shelf_of s'.objects) d
+    → ((t : Nodes) → Comes t from s' (bodies es) → Offers plan t d.root)
     → ((t : Nodes) → Comes t from s' (bodies es) → Completes plan t (ids_of s'.objects) d.catalogues)
     → Sent is_seal keys plan (offer_of token from d.root) (objects_at (plan.changes.objects ++ d.catalogues) d.places) es end
     → Fetched is_seal keys plan token from s (e ∷ es) end
-fetch_ends is_seal keys plan token from s s' d id e es end asks took order offers completes x =
-    let sends : Sends plan x.packs x.rest =
-    record { catalogues = d.catalogues; order = subst (AreInOrder (plan.changes.objects ++ d.catalogues)) (sym x.all) order; fronts = x.fronts } in
-    record {
-      terms = x.terms;
-      token_is = x.token_is;
-      base_is = x.base_is;
-      ids = id ∷ [];
-      packs = x.packs;
-      sent = inr (x.rest, sends);
-      toward = λ t c. (asks_toward plan t from s (bodies (e ∷ es)) id c took.wanted took.path, tt);
-      placed = λ some t c. (offers t (took_on plan t from s s' id e es took c)).place;
-      explains = λ g err t c. x.plain g err t;
-      ends = before is_seal keys plan (Readies plan from s x.terms (id ∷ []) x.packs (e ∷ es)) x.terms (catalogue id) (map payload x.packs ++ commit ∷ []) e es end
-          (is_done is_seal keys plan x.terms s s' id e asks took)
-          (rests is_seal keys plan (x.rest ≡ []) (Readies plan from s x.terms (id ∷ []) x.packs (e ∷ es)) x.terms (map payload x.packs ++ commit ∷ []) es end
-          (λ none. record {
-            sent = record {
-              catalogues = d.catalogues;
-              order = subst (λ (l : List Object). AreInOrder (plan.changes.objects ++ d.catalogues) (joined x.packs l)) none sends.order;
-              fronts = subst (λ (l : List Object). AreFronts x.packs l) none sends.fronts;
-            };
-            offers = λ t c. subst (λ (root : List ℕ). Offers plan t root) (sym x.root_is) (offers t (took_on plan t from s s' id e es took c));
-            completes = λ t c. subst (λ (l : List ObjectId). Completes plan t l d.catalogues) (took_ids plan s s' id e took)
-                (completes t (took_on plan t from s s' id e es took c));
-          }) x.ends);
+fetch_ends is_seal keys plan token from s s' d id e es end asks took given good ordered offers completes x = record {
+  terms = x.terms;
+  token_is = x.token_is;
+  base_is = x.base_is;
+  ids = id ∷ [];
+  packs = x.packs;
+  sent = inr (x.rest, ready);
+  toward = λ t c. (asks_toward plan t from s (bodies (e ∷ es)) id c took.wanted took.path, tt);
+  explains = λ g err t c. x.plain g err t;
+  ends = before is_seal keys plan (Readies plan from s x.terms (id ∷ []) x.packs (e ∷ es) []) s.wanted [] x.terms (catalogue id) (map payload x.packs ++ commit ∷ []) e es end
+      (λ more later left fetched. ([], given, fetched)) (is_done is_seal keys plan x.terms s s' id e asks took)
+      (rests is_seal keys plan (x.rest ≡ []) (Readies plan from s x.terms (id ∷ []) x.packs (e ∷ es) []) [] x.terms (map payload x.packs ++ commit ∷ []) es end
+      (λ none. subst (Readies plan from s x.terms (id ∷ []) x.packs (e ∷ es)) none ready) x.ends);
+}
+  where
+    ready : Readies plan from s x.terms (id ∷ []) x.packs (e ∷ es) x.rest
+    ready = record {
+      good = good;
+      sends = record {
+        catalogues = d.catalogues;
+        unfetched = λ o has known. never_fetched s'.objects ordered.made o (subst (λ (l : List Object). Contains l o) ordered.new has)
+            (subst (λ (l : List ObjectId). Contains l o.id) (sym (took_ids plan s s' id e took)) known);
+        order = subst (AreInOrder (plan.changes.objects ++ d.catalogues)) (sym x.all) ordered.order;
+        fronts = x.fronts;
+      };
+      offers = λ t c. subst (λ (root : List ℕ). Offers plan t root) (sym x.root_is) (offers t (took_on plan t from s s' id e es took c));
+      completes = λ t c. subst (λ (l : List ObjectId). Completes plan t l d.catalogues) (took_ids plan s s' id e took)
+          (completes t (took_on plan t from s s' id e es took c));
     }
 
 checkout_after : (is_seal : Seal) (keys : List Key) (plan : Plan) (token : Token) (from : List ℕ) (s s' : Progress) (id : ObjectId) (e : Exchanged) (es : List Exchanged) (end : End) (next : Stage)
     → e.request ≡ object_request plan id → Took plan s s' id e → next_of s'.wanted ≡ None → s'.path ≡ plan.path → AfterCheckout plan token from s' next
     → Runs is_seal keys plan next es end → Fetched is_seal keys plan token from s (e ∷ es) end
 checkout_after is_seal keys plan token from s s' id e es end next asks took none path (unassembled is) r =
-    fetch_breaks is_seal keys plan token from s id fault.NoMemory e es end asks took.wanted took.path (talks.no_memory refl) (λ t c. tt) (subst (λ (x : Stage). Runs is_seal keys plan x es end) is r)
+    fetch_breaks is_seal keys plan token from s id fault.NoMemory e es end asks took.wanted took.path (talks.no_memory refl)
+    (λ t c. tt) (subst (λ (x : Stage). Runs is_seal keys plan x es end) is r)
 checkout_after is_seal keys plan token from s s' id e es end next asks took none path (assembled r_ assembles is) r =
     by r_ assembles (subst (λ (x : Stage). Runs is_seal keys plan x es end) is r)
   where
-    served : IsCatalogue e.reply id
-    served = taken e.reply took.given s s' id took.says took.gives took.wanted
+    one : IsCatalogue plan.path s s' id e.reply
+    one = took_one plan s s' id e took
 
-    told : (f : PublishFault) → (f ≡ fault.NoMemory) ⊎ IsUnmade plan f → Faults is_seal plan e.reply f (catalogue id)
+    last : IsGiven plan.path s.wanted id e.reply.body []
+    last = subst (IsGiven plan.path s.wanted id e.reply.body) (none_wanted s'.wanted none) one.is
+
+    told : (f : PublishFault) → (f ≡ fault.NoMemory) ⊎ IsUnmade plan f → Faults is_seal plan s.wanted e.reply f (catalogue id)
     told f (inl lost) = talks.no_memory lost
-    told f (inr why) = talks.unmade served.code served.digest why
+    told f (inr why) = talks.unmade one.code last why
 
     by : (x : Result Delivery PublishFault) → Assembled plan from s' x → Runs is_seal keys plan (behind_checkout token from x) es end → Fetched is_seal keys plan token from s (e ∷ es) end
     by (Ok d) a go =
-        fetch_ends is_seal keys plan token from s s' d id e es end asks took
-        (made_in_order plan from (shelf_of s'.objects) (nodes_of (subtree_of (nodes_of s'.tree) s'.path)) (has_place (nodes_of s'.tree) s'.path) (Ok d) d a refl)
+        let made = made_in_order plan from (shelf_of s'.objects) (nodes_of (subtree_of (nodes_of s'.tree) s'.path)) (has_place (nodes_of s'.tree) s'.path) (Ok d) d a refl in
+        fetch_ends is_seal keys plan token from s s' d id e es end asks took last made.0 made.1
         (λ t c. offered plan t from s' (bodies es) d c none path a) (λ t c. completed plan t from s' (bodies es) d c none path a)
         (at_offer is_seal keys plan (offer_of token from d.root) d.catalogues es end d.places go)
     by (Err f) a go =
-        fetch_breaks is_seal keys plan token from s id f e es end asks took.wanted took.path
-        (told f (unmade_by plan from (shelf_of s'.objects) (nodes_of (subtree_of (nodes_of s'.tree) s'.path)) (has_place (nodes_of s'.tree) s'.path) (Err f) f a refl))
+        let why : (f ≡ fault.NoMemory) ⊎ IsUnmade plan f =
+        unmade_by plan from (shelf_of s'.objects) (nodes_of (subtree_of (nodes_of s'.tree) s'.path)) (has_place (nodes_of s'.tree) s'.path) (Err f) f a refl in
+        fetch_breaks is_seal keys plan token from s id f e es end asks took.wanted took.path (told f why)
         (λ t c. explained plan t from s' (bodies es) f (took_on plan t from s s' id e es took c) none path a) go
 
 -- what a refusal says of the tree
@@ -287,14 +281,13 @@ record Leased (is_seal : Seal) (keys : List Key) (plan : Plan) (token : Token) (
   token_is : terms.token ≡ token
   ids : List ObjectId
   packs : List (List Object)
-  sent : (packs ≡ []) ⊎ ((rest : List Object) × Sends plan packs rest)
+  sent : NoneOr packs (λ rest. MaySend plan terms ids packs rest es)
   toward : AreToward plan terms ids es
-  placed : packs ≢ [] → (t : Nodes) → IsServedOf t terms.base es → has_place t plan.path ≡ true
   explains : (f : PublishFault) → end ≡ Err f → (t : Nodes) → IsServedOf t terms.base es → Explains plan t f
-  ends : Ends is_seal keys plan (IsReady plan terms ids packs es) terms (errands ids packs) es end
+  ends : Ends is_seal keys plan (IsReady plan terms ids packs es) (root_wanted terms.base ∷ []) terms (errands ids packs) es end
 
 manifest_breaks : (is_seal : Seal) (keys : List Key) (plan : Plan) (token : Token) (f : PublishFault) (e : Exchanged) (es : List Exchanged) (end : End)
-    → Wants keys plan (Reading token) (Exchange e.request) → Faults is_seal plan e.reply f manifest → ((t : Nodes) → Explains plan t f) → Runs is_seal keys plan (Cancelling token f) es end
+    → Wants keys plan (Reading token) (Exchange e.request) → Faults is_seal plan (root_wanted [] ∷ []) e.reply f manifest → ((t : Nodes) → Explains plan t f) → Runs is_seal keys plan (Cancelling token f) es end
     → Leased is_seal keys plan token (e ∷ es) end
 manifest_breaks is_seal keys plan token f e es end asks told plain r = record {
   terms = terms_at token [];
@@ -303,10 +296,12 @@ manifest_breaks is_seal keys plan token f e es end asks told plain r = record {
   packs = [];
   sent = inl refl;
   toward = λ t served. tt;
-  placed = λ some t served. absurd (some refl);
-  explains = λ g err t served. plain_err plan f end (at_cancel is_seal keys plan token f es end r).told plain g err t;
-  ends = breaks is_seal keys plan (IsReady plan (terms_at token []) [] [] (e ∷ es)) (terms_at token []) manifest (commit ∷ []) f e es end (record { asks = cc; told = told }) (λ is. absurd cc) r;
+  explains = λ g err t served. is_plain g err t;
+  ends = breaks is_seal keys plan (IsReady plan (terms_at token []) [] [] (e ∷ es)) (root_wanted [] ∷ []) (terms_at token []) manifest (commit ∷ []) f e es end (record { turn = tt; asks = cc; told = told }) (λ is. absurd cc) r;
 }
+  where
+    is_plain : (g : PublishFault) → end ≡ Err g → (t : Nodes) → Explains plan t g
+    is_plain = plain_err plan f end (at_cancel is_seal keys plan token f es end r).told plain
 
 -- what a manifest's fault says of a tree: nothing
 manifest_plain : (plan : Plan) (g : ManifestFault) (t : Nodes) → Explains plan t (of_manifest g)
@@ -322,20 +317,27 @@ manifest_after is_seal keys plan token e es end read next asks (manifest_read m 
     at_catalogue is_seal keys plan token m.head.root es end start refl (subst (λ (x : Stage). Runs is_seal keys plan x es end) is r) in
     let comes : (t : Nodes) → IsServedOf t f.terms.base (e ∷ es) → Comes t m.head.root start (bodies es) =
     λ t served. begins t f.terms.base m.head.root plan.path es f.base_is (served_later t f.terms.base e es served) in
+    let opens : (rest : List Object) → Readies plan m.head.root start f.terms f.ids f.packs es rest → MaySend plan f.terms f.ids f.packs rest (e ∷ es) =
+    λ rest ready. record {
+      good = ready.good;
+      sends = ready.sends;
+      offers = λ t served. ready.offers t (comes t served);
+      completes = λ t served. ready.completes t (comes t served);
+    } in
     record {
       terms = f.terms;
       token_is = f.token_is;
       ids = f.ids;
       packs = f.packs;
-      sent = f.sent;
+      sent = none_or f.packs (Readies plan m.head.root start f.terms f.ids f.packs es) (λ rest. MaySend plan f.terms f.ids f.packs rest (e ∷ es)) opens f.sent;
       toward = λ t served. f.toward t (comes t served);
-      placed = λ some t served. f.placed some t (comes t served);
       explains = λ g err t served. f.explains g err t (comes t served);
-      ends = before is_seal keys plan (IsReady plan f.terms f.ids f.packs (e ∷ es)) f.terms manifest (map catalogue f.ids ++ (map payload f.packs ++ commit ∷ [])) e es end
+      ends = before is_seal keys plan (IsReady plan f.terms f.ids f.packs (e ∷ es)) (root_wanted f.terms.base ∷ []) start.wanted f.terms manifest
+          (map catalogue f.ids ++ (map payload f.packs ++ commit ∷ [])) e es end
+          (λ more later left fetched. subst (λ (from : List ℕ). Fetches plan.path (root_wanted from ∷ []) more later left) (sym f.base_is) fetched)
           (record { asks = cc; served = (m, code, says, f.base_is) })
-          (rests is_seal keys plan (Readies plan m.head.root start f.terms f.ids f.packs es) (IsReady plan f.terms f.ids f.packs (e ∷ es)) f.terms
-          (map catalogue f.ids ++ (map payload f.packs ++ commit ∷ [])) es end
-          (λ ready. record { sent = ready.sent; offers = λ t served. ready.offers t (comes t served); completes = λ t served. ready.completes t (comes t served) }) f.ends);
+          (rests is_seal keys plan (Readies plan m.head.root start f.terms f.ids f.packs es []) (IsReady plan f.terms f.ids f.packs (e ∷ es)) start.wanted f.terms
+          (map catalogue f.ids ++ (map payload f.packs ++ commit ∷ [])) es end (opens []) f.ends);
     }
 manifest_after is_seal keys plan token e es end read next asks (manifest_bad g code shows reads is) r =
     manifest_breaks is_seal keys plan token (of_manifest g) e es end asks (talks.bad_manifest g code shows refl) (manifest_plain plan g) (subst (λ (x : Stage). Runs is_seal keys plan x es end) is r)
@@ -360,20 +362,21 @@ Story is_seal keys plan es (Err f) = Unleased is_seal keys plan es f ⊎ Cancell
 toward_later : (plan : Plan) (terms : Terms) (ids : List ObjectId) (e : Exchanged) (es : List Exchanged) → AreToward plan terms ids es → AreToward plan terms ids (e ∷ es)
 toward_later plan terms ids e es toward = λ t served. toward t (served_later t terms.base e es served)
 
-ready_later : (plan : Plan) (terms : Terms) (ids : List ObjectId) (packs : List (List Object)) (e : Exchanged) (es : List Exchanged)
-    → IsReady plan terms ids packs es → IsReady plan terms ids packs (e ∷ es)
-ready_later plan terms ids packs e es ready = record {
-  sent = ready.sent;
+sends_later : (plan : Plan) (terms : Terms) (ids : List ObjectId) (packs : List (List Object)) (e : Exchanged) (es : List Exchanged) (rest : List Object)
+    → MaySend plan terms ids packs rest es → MaySend plan terms ids packs rest (e ∷ es)
+sends_later plan terms ids packs e es rest ready = record {
+  good = ready.good;
+  sends = ready.sends;
   offers = λ t served. ready.offers t (served_later t terms.base e es served);
   completes = λ t served. ready.completes t (served_later t terms.base e es served);
 }
 
 story : (is_seal : Seal) (keys : List Key) (plan : Plan) (token : Token) (e : Exchanged) (es : List Exchanged) (end : End) (l : Leased is_seal keys plan token es end)
-    → IsDone is_seal keys plan l.terms lease e → Ends is_seal keys plan (IsReady plan l.terms l.ids l.packs es) l.terms (errands l.ids l.packs) es end
+    → IsDone is_seal keys plan l.terms lease e → Ends is_seal keys plan (IsReady plan l.terms l.ids l.packs es) (root_wanted l.terms.base ∷ []) l.terms (errands l.ids l.packs) es end
     → Story is_seal keys plan (e ∷ es) end
-story is_seal keys plan token e es (Ok revision) l first (whole ready done told) =
-    record { terms = l.terms; ids = l.ids; packs = l.packs; done = (first, done); revision_is = cc; toward = toward_later plan l.terms l.ids e es l.toward; ready = ready_later plan l.terms l.ids l.packs e es ready }
-story is_seal keys plan token e es (Err f) l first (whole ready done told) = absurd cc
+story is_seal keys plan token e es (Ok revision) l first (whole ready done fetches told) =
+    record { terms = l.terms; ids = l.ids; packs = l.packs; done = (first, done); fetches = fetches; revision_is = cc; toward = toward_later plan l.terms l.ids e es l.toward; ready = sends_later plan l.terms l.ids l.packs e es [] ready }
+story is_seal keys plan token e es (Err f) l first (whole ready done fetches told) = absurd cc
 story is_seal keys plan token e es (Ok revision) l first (broken g b told) = absurd cc
 story is_seal keys plan token e es (Err f) l first (broken g b told) = inr (record {
   terms = l.terms;
@@ -388,22 +391,23 @@ story is_seal keys plan token e es (Err f) l first (broken g b told) = inr (reco
   cancel = b.cancel;
   are = ap (λ (x : List Exchanged). e ∷ x) b.are;
   done_are = (first, b.done_are);
-  fails = (let same : g ≡ f = cc in subst (λ (x : PublishFault). Fails is_seal keys plan l.terms b.failed x b.last) same b.fails);
+  left = b.left;
+  fetches = b.fetches;
+  fails = (let same : g ≡ f = cc in subst (λ (x : PublishFault). Fails is_seal keys plan l.terms b.left b.failed x b.last) same b.fails);
   cancels = b.cancels;
   toward = toward_later plan l.terms l.ids e es l.toward;
-  sent = l.sent;
-  placed = λ some t served. l.placed some t (served_later t l.terms.base e es served);
-  ready = λ is. ready_later plan l.terms l.ids l.packs e es (b.whole is);
+  sent = none_or l.packs (λ rest. MaySend plan l.terms l.ids l.packs rest es) (λ rest. MaySend plan l.terms l.ids l.packs rest (e ∷ es)) (sends_later plan l.terms l.ids l.packs e es) l.sent;
+  ready = λ is. sends_later plan l.terms l.ids l.packs e es [] (b.whole is);
   explains = λ t served. l.explains f refl t (served_later t l.terms.base e es served);
 })
 
 unleased : (is_seal : Seal) (keys : List Key) (plan : Plan) (f : PublishFault) (e : Exchanged) (es : List Exchanged) (end : End)
-    → Wants keys plan Leasing (Exchange e.request) → Faults is_seal plan e.reply f lease → IsOver es (Err f) end → Story is_seal keys plan (e ∷ es) end
+    → Wants keys plan Leasing (Exchange e.request) → Faults is_seal plan [] e.reply f lease → IsOver es (Err f) end → Story is_seal keys plan (e ∷ es) end
 unleased is_seal keys plan f e es (Ok revision) asks told over = let same = over.same in absurd cc
 unleased is_seal keys plan f e es (Err g) asks told over =
     let same = over.same in
     let is : f ≡ g = cc in
-    inl (record { only = e; are = ap (λ (x : List Exchanged). e ∷ x) over.none; asks = cc; told = subst (λ (x : PublishFault). Faults is_seal plan e.reply x lease) is told })
+    inl (record { only = e; are = ap (λ (x : List Exchanged). e ∷ x) over.none; asks = cc; told = subst (λ (x : PublishFault). Faults is_seal plan [] e.reply x lease) is told })
 
 lease_after : (is_seal : Seal) (keys : List Key) (plan : Plan) (e : Exchanged) (es : List Exchanged) (end : End) (next : Stage)
     → Wants keys plan Leasing (Exchange e.request) → AfterLease e.reply next → Runs is_seal keys plan next es end → Story is_seal keys plan (e ∷ es) end

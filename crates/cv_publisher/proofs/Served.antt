@@ -145,7 +145,7 @@ unmade_told plan t from fetched b place r f tells (unlaid is) err = let same : f
 abbrev pub Assembled : Plan → List ℕ → Progress → Result Delivery PublishFault → Type 0
 Assembled plan from s r = Assembles plan from (shelf_of s.objects) (nodes_of (subtree_of (nodes_of s.tree) s.path)) (has_place (nodes_of s.tree) s.path) r
 
-none_wanted : (ws : List Wanted) → next_of ws ≡ None → ws ≡ []
+pub none_wanted : (ws : List Wanted) → next_of ws ≡ None → ws ≡ []
 none_wanted [] is = refl
 none_wanted (w ∷ ws) is = absurd cc
 

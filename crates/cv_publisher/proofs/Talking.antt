@@ -9,13 +9,14 @@ use Rattle.cv_keys.specs.declared.key.Key.{Key}
 use Rattle.cv_answers.specs.declared.answer.Answer.{Answer}
 use Rattle.cv_answers.specs.declared.answer.Answer.TheVariants as answer
 use Rattle.cv_manifest.specs.declared.manifest.Manifest.{Manifest}
+use Rattle.cv_checkout.specs.declared.wanted.Wanted.{Wanted}
 use Rattle.cv_publisher.specs.Holding.{PublisherView}
 use Rattle.cv_publisher.specs.Packing.{IsFront, objects_at}
 use Rattle.cv_publisher.specs.Replies.{answer_in, fault_in}
 use Rattle.cv_publisher.specs.Requests.{SendsFront, cancel_request, payload_request}
 use Rattle.cv_publisher.specs.Taking.{AfterPayload, payload_said, payload_lost, behind_payload, AfterCommit, commit_said, commit_lost, sending, Steps, Takes}
 use Rattle.cv_publisher.specs.Talks as talks
-use Rattle.cv_publisher.specs.Talks.{Exchanged, Talks, Errand, payload, commit, Terms, IsDone, Faults, Fails, joined, AreFronts, Explains}
+use Rattle.cv_publisher.specs.Talks.{Exchanged, Talks, Errand, payload, commit, Terms, IsDone, Faults, Fails, Fetches, joined, AreFronts, Explains}
 use Rattle.cv_publisher.specs.Wanting.{AsksPayload, Wants}
 use Rattle.cv_publisher.specs.declared.fault.PublishFault.{PublishFault}
 use Rattle.cv_publisher.specs.declared.fault.PublishFault.TheVariants as fault
@@ -73,7 +74,7 @@ at_cancel is_seal keys plan token f (e ∷ es) end r =
     record { last = e; are = ap (λ (l : List Exchanged). e ∷ l) over.none; asks = cc; told = over.same }
 
 -- errands were done in their order, one had the fault, and the lease was cancelled; before the commit all was as it must be
-pub record Broken (is_seal : Seal) (keys : List Key) (plan : Plan) (W : Type 0) (terms : Terms) (all : List Errand) (es : List Exchanged) (f : PublishFault) : Type 0 where
+pub record Broken (is_seal : Seal) (keys : List Key) (plan : Plan) (W : Type 0) (wanted : List Wanted) (terms : Terms) (all : List Errand) (es : List Exchanged) (f : PublishFault) : Type 0 where
   pub done : List Errand
   pub failed : Errand
   pub todo : List Errand
@@ -83,20 +84,30 @@ pub record Broken (is_seal : Seal) (keys : List Key) (plan : Plan) (W : Type 0) 
   pub cancel : Exchanged
   pub are : es ≡ before ++ last ∷ cancel ∷ []
   pub done_are : AllZip (IsDone is_seal keys plan terms) done before
-  pub fails : Fails is_seal keys plan terms failed f last
+  pub left : List Wanted
+  pub fetches : Fetches plan.path wanted done before left
+  pub fails : Fails is_seal keys plan terms left failed f last
   pub cancels : cancel.request ≡ cancel_request keys plan terms.token
   pub whole : failed ≡ commit → W
 
 -- errands were all done, or so
-pub data Ends (is_seal : Seal) (keys : List Key) (plan : Plan) (W : Type 0) (terms : Terms) (all : List Errand) (es : List Exchanged) (end : End) : Type 0 where
-  whole : W → AllZip (IsDone is_seal keys plan terms) all es → end ≡ Ok terms.revision → Ends is_seal keys plan W terms all es end
-  broken : (f : PublishFault) → Broken is_seal keys plan W terms all es f → end ≡ Err f → Ends is_seal keys plan W terms all es end
+pub data Ends (is_seal : Seal) (keys : List Key) (plan : Plan) (W : Type 0) (wanted : List Wanted) (terms : Terms) (all : List Errand) (es : List Exchanged) (end : End) : Type 0 where
+  whole : W → AllZip (IsDone is_seal keys plan terms) all es → Fetches plan.path wanted all es [] → end ≡ Ok terms.revision
+      → Ends is_seal keys plan W wanted terms all es end
+  broken : (f : PublishFault) → Broken is_seal keys plan W wanted terms all es f → end ≡ Err f → Ends is_seal keys plan W wanted terms all es end
+
+-- what was fetched behind an errand was so behind it and the errand
+abbrev pub IsBehind : Plan → List Wanted → List Wanted → Errand → Exchanged → Type 0
+IsBehind plan wanted next errand e =
+    (more : List Errand) (es : List Exchanged) (left : List Wanted) → Fetches plan.path next more es left → Fetches plan.path wanted (errand ∷ more) (e ∷ es) left
 
 -- one more was done before
-pub before : (is_seal : Seal) (keys : List Key) (plan : Plan) (W : Type 0) (terms : Terms) (errand : Errand) (all : List Errand) (e : Exchanged) (es : List Exchanged) (end : End)
-    → IsDone is_seal keys plan terms errand e → Ends is_seal keys plan W terms all es end → Ends is_seal keys plan W terms (errand ∷ all) (e ∷ es) end
-before is_seal keys plan W terms errand all e es end first (whole w done told) = whole w (first, done) told
-before is_seal keys plan W terms errand all e es end first (broken f b told) = broken f (record {
+pub before : (is_seal : Seal) (keys : List Key) (plan : Plan) (W : Type 0) (wanted next : List Wanted) (terms : Terms) (errand : Errand) (all : List Errand) (e : Exchanged) (es : List Exchanged) (end : End)
+    → IsBehind plan wanted next errand e → IsDone is_seal keys plan terms errand e → Ends is_seal keys plan W next terms all es end
+    → Ends is_seal keys plan W wanted terms (errand ∷ all) (e ∷ es) end
+before is_seal keys plan W wanted next terms errand all e es end behind first (whole w done fetches told) =
+    whole w (first, done) (behind all es [] fetches) told
+before is_seal keys plan W wanted next terms errand all e es end behind first (broken f b told) = broken f (record {
   done = errand ∷ b.done;
   failed = b.failed;
   todo = b.todo;
@@ -106,16 +117,18 @@ before is_seal keys plan W terms errand all e es end first (broken f b told) = b
   cancel = b.cancel;
   are = ap (λ (l : List Exchanged). e ∷ l) b.are;
   done_are = (first, b.done_are);
+  left = b.left;
+  fetches = behind b.done b.before b.left b.fetches;
   fails = b.fails;
   cancels = b.cancels;
   whole = b.whole;
 }) told
 
 -- the first one had the fault
-pub breaks : (is_seal : Seal) (keys : List Key) (plan : Plan) (W : Type 0) (terms : Terms) (errand : Errand) (todo : List Errand) (f : PublishFault) (e : Exchanged) (es : List Exchanged) (end : End)
-    → Fails is_seal keys plan terms errand f e → (errand ≡ commit → W) → Runs is_seal keys plan (Cancelling terms.token f) es end
-    → Ends is_seal keys plan W terms (errand ∷ todo) (e ∷ es) end
-breaks is_seal keys plan W terms errand todo f e es end fails w r =
+pub breaks : (is_seal : Seal) (keys : List Key) (plan : Plan) (W : Type 0) (wanted : List Wanted) (terms : Terms) (errand : Errand) (todo : List Errand) (f : PublishFault) (e : Exchanged) (es : List Exchanged) (end : End)
+    → Fails is_seal keys plan terms wanted errand f e → (errand ≡ commit → W) → Runs is_seal keys plan (Cancelling terms.token f) es end
+    → Ends is_seal keys plan W wanted terms (errand ∷ todo) (e ∷ es) end
+breaks is_seal keys plan W wanted terms errand todo f e es end fails w r =
     let c : Cancels keys plan terms.token f es end = at_cancel is_seal keys plan terms.token f es end r in
     broken f (record {
       done = [];
@@ -127,16 +140,18 @@ breaks is_seal keys plan W terms errand todo f e es end fails w r =
       cancel = c.last;
       are = ap (λ (l : List Exchanged). e ∷ l) c.are;
       done_are = tt;
+      left = wanted;
+      fetches = refl;
       fails = fails;
       cancels = c.asks;
       whole = w;
     }) c.told
 
 -- what must be before the commit, said otherwise
-pub rests : (is_seal : Seal) (keys : List Key) (plan : Plan) (V W : Type 0) (terms : Terms) (all : List Errand) (es : List Exchanged) (end : End)
-    → (V → W) → Ends is_seal keys plan V terms all es end → Ends is_seal keys plan W terms all es end
-rests is_seal keys plan V W terms all es end f (whole v done told) = whole (f v) done told
-rests is_seal keys plan V W terms all es end f (broken g b told) = broken g (record {
+pub rests : (is_seal : Seal) (keys : List Key) (plan : Plan) (V W : Type 0) (wanted : List Wanted) (terms : Terms) (all : List Errand) (es : List Exchanged) (end : End)
+    → (V → W) → Ends is_seal keys plan V wanted terms all es end → Ends is_seal keys plan W wanted terms all es end
+rests is_seal keys plan V W wanted terms all es end f (whole v done fetches told) = whole (f v) done fetches told
+rests is_seal keys plan V W wanted terms all es end f (broken g b told) = broken g (record {
   done = b.done;
   failed = b.failed;
   todo = b.todo;
@@ -146,6 +161,8 @@ rests is_seal keys plan V W terms all es end f (broken g b told) = broken g (rec
   cancel = b.cancel;
   are = b.are;
   done_are = b.done_are;
+  left = b.left;
+  fetches = b.fetches;
   fails = b.fails;
   cancels = b.cancels;
   whole = λ is. f (b.whole is);
@@ -178,7 +195,7 @@ pub record Sent (is_seal : Seal) (keys : List Key) (plan : Plan) (offer : Offer)
   pub rest : List Object
   pub all : joined packs rest ≡ left
   pub fronts : AreFronts packs rest
-  pub ends : Ends is_seal keys plan (rest ≡ []) terms (map payload packs ++ commit ∷ []) es end
+  pub ends : Ends is_seal keys plan (rest ≡ []) [] terms (map payload packs ++ commit ∷ []) es end
   pub plain : IsPlain plan end
 
 abbrev terms_of : Offer → ℕ → Terms
@@ -191,7 +208,7 @@ abbrev Nothing : Type 0
 Nothing = none ≡ []
 
 commit_sent : (is_seal : Seal) (keys : List Key) (plan : Plan) (offer : Offer) (es : List Exchanged) (end : End) (revision : ℕ)
-    → IsPlain plan end → Ends is_seal keys plan Nothing (terms_of offer revision) (commit ∷ []) es end → Sent is_seal keys plan offer [] es end
+    → IsPlain plan end → Ends is_seal keys plan Nothing [] (terms_of offer revision) (commit ∷ []) es end → Sent is_seal keys plan offer [] es end
 commit_sent is_seal keys plan offer es end revision plain ends = record {
   terms = terms_of offer revision;
   token_is = refl;
@@ -206,11 +223,11 @@ commit_sent is_seal keys plan offer es end revision plain ends = record {
 }
 
 commit_breaks : (is_seal : Seal) (keys : List Key) (plan : Plan) (offer : Offer) (f : PublishFault) (e : Exchanged) (es : List Exchanged) (end : End)
-    → Wants keys plan (Committing offer) (Exchange e.request) → Faults is_seal plan e.reply f commit → ((t : Nodes) → Explains plan t f)
+    → Wants keys plan (Committing offer) (Exchange e.request) → Faults is_seal plan [] e.reply f commit → ((t : Nodes) → Explains plan t f)
     → Runs is_seal keys plan (Cancelling offer.token f) es end → Sent is_seal keys plan offer [] (e ∷ es) end
 commit_breaks is_seal keys plan offer f e es end asks told plain r =
     commit_sent is_seal keys plan offer (e ∷ es) end 0 (plain_err plan f end (at_cancel is_seal keys plan offer.token f es end r).told plain)
-    (breaks is_seal keys plan Nothing (terms_of offer 0) commit [] f e es end (record { asks = cc; told = told }) (λ _. refl) r)
+    (breaks is_seal keys plan Nothing [] (terms_of offer 0) commit [] f e es end (record { turn = refl; asks = cc; told = told }) (λ _. refl) r)
 
 commit_after : (is_seal : Seal) (keys : List Key) (plan : Plan) (offer : Offer) (e : Exchanged) (es : List Exchanged) (end : End) (next : Stage)
     → Wants keys plan (Committing offer) (Exchange e.request) → AfterCommit e.reply offer next → Runs is_seal keys plan next es end
@@ -224,7 +241,7 @@ commit_after is_seal keys plan offer e es end next asks (commit_said is) r = by 
         let over : IsOver es (Ok revision) end = at_end is_seal keys plan (Ok revision) es end (subst (λ (s : Stage). Runs is_seal keys plan s es end) (is ∙ goes) r) in
         let first : IsDone is_seal keys plan (terms_of offer revision) commit e = record { asks = cc; served = (root, said) } in
         commit_sent is_seal keys plan offer (e ∷ es) end revision (plain_ok plan revision end over.same)
-        (whole refl (first, subst (AllZip (IsDone is_seal keys plan (terms_of offer revision)) []) (sym over.none) tt) over.same)
+        (whole refl (first, subst (AllZip (IsDone is_seal keys plan (terms_of offer revision)) []) (sym over.none) tt) refl over.same)
     by (isnt_committed said goes) =
         commit_breaks is_seal keys plan offer (fault_in (answer_in e.reply)) e es end asks (talks.not_committed said refl) (fault_plain plan (answer_in e.reply))
         (subst (λ (s : Stage). Runs is_seal keys plan s es end) (is ∙ goes) r)
@@ -238,7 +255,7 @@ at_commit is_seal keys plan offer (e ∷ es) end r = commit_after is_seal keys p
 
 -- a pack was sent, and its reply had the fault
 payload_breaks : (is_seal : Seal) (keys : List Key) (plan : Plan) (offer : Offer) (os pack rest : List Object) (f : PublishFault) (e : Exchanged) (es : List Exchanged) (end : End)
-    → IsFront os pack rest → pack ≢ [] → e.request ≡ payload_request keys plan offer.token pack → Faults is_seal plan e.reply f (payload pack)
+    → IsFront os pack rest → pack ≢ [] → e.request ≡ payload_request keys plan offer.token pack → Faults is_seal plan [] e.reply f (payload pack)
     → ((t : Nodes) → Explains plan t f) → Runs is_seal keys plan (Cancelling offer.token f) es end → Sent is_seal keys plan offer os (e ∷ es) end
 payload_breaks is_seal keys plan offer os pack rest f e es end front some asks told plain r = record {
   terms = terms_of offer 0;
@@ -249,7 +266,7 @@ payload_breaks is_seal keys plan offer os pack rest f e es end front some asks t
   rest = rest;
   all = sym front.split;
   fronts = (some, subst (λ (l : List Object). IsFront l pack rest) front.split front, tt);
-  ends = breaks is_seal keys plan (rest ≡ []) (terms_of offer 0) (payload pack) (commit ∷ []) f e es end (record { asks = asks; told = told }) (λ is. absurd cc) r;
+  ends = breaks is_seal keys plan (rest ≡ []) [] (terms_of offer 0) (payload pack) (commit ∷ []) f e es end (record { turn = refl; asks = asks; told = told }) (λ is. absurd cc) r;
   plain = plain_err plan f end (at_cancel is_seal keys plan offer.token f es end r).told plain;
 }
 
@@ -272,7 +289,7 @@ payload_more is_seal keys plan offer os pack rest e es end front some asks said 
         subst (λ (l : List Object). IsFront (joined (pack ∷ s.packs) s.rest) pack l) (sym s.all) (subst (λ (l : List Object). IsFront l pack rest) (sym all) front),
         s.fronts,
       );
-      ends = before is_seal keys plan (s.rest ≡ []) s.terms (payload pack) (map payload s.packs ++ commit ∷ []) e es end
+      ends = before is_seal keys plan (s.rest ≡ []) [] [] s.terms (payload pack) (map payload s.packs ++ commit ∷ []) e es end (λ more later left fetched. fetched)
           (record { asks = asks ∙ ap (λ (t : Token). payload_request keys plan t pack) (sym s.token_is); served = said }) s.ends;
       plain = s.plain;
     }

@@ -1,5 +1,6 @@
 pub mod Assembling
 pub mod Faults
+pub mod Fetching
 pub mod Holding
 pub mod Packing
 pub mod Replies

@@ -7,6 +7,7 @@ use Rattle.cv_base.specs.ObjectId.{id_text}
 use Rattle.cv_base.specs.declared.id.Kind.TheVariants.{Catalogue, History}
 use Rattle.cv_base.specs.declared.object.Object.{Object}
 use Rattle.cv_pack.specs.Pack.{contents_size, has_room, ids}
+use Rattle.cv_pack.specs.declared.header_reader.TheConstants.{COUNT_LIMIT, SIZE_LIMIT, TOTAL_LIMIT}
 
 -- the texts of the ids of objects
 abbrev pub id_texts : List Object → List (List ℕ)
@@ -23,16 +24,16 @@ pub record AreInOrder (all os : List Object) : Type 0 where
   pub only : (o : Object) → Contains os o → Contains all o
   pub each : (o : Object) → Contains all o → Contains (id_texts os) (id_text o.id)
 
--- an object that a pack may have: its id is that of its bytes, it is no record of the history, and it has at most 16 MiB
+-- an object that a pack may have: its id is that of its bytes, it is no record of the history, and it has no more bytes than one may
 pub record IsOwn (o : Object) : Type 0 where
   pub hash : o.id.hash ≡ sha1 o.bytes
   pub kind : o.id.kind ≢ History
-  pub size : length o.bytes ≤ 16777216
+  pub size : length o.bytes ≤ SIZE_LIMIT
 
--- a catalogue, of no more bytes than it may have
+-- a catalogue that a pack may have
 pub record IsCatalogueObject (o : Object) : Type 0 where
   pub kind : o.id.kind ≡ Catalogue
-  pub size : length o.bytes ≤ 16777216
+  pub size : length o.bytes ≤ SIZE_LIMIT
 
 -- these places are there, and have objects of different ids that packs may have
 pub record AreSendable (all : List Object) (places : List ℕ) : Type 0 where
@@ -43,9 +44,9 @@ pub record AreSendable (all : List Object) (places : List ℕ) : Type 0 where
 -- the front of these objects that one pack takes: it keeps the limits of a pack, and no longer front does
 pub record IsFront (os pack rest : List Object) : Type 0 where
   pub split : os ≡ pack ++ rest
-  pub count : length pack ≤ 10000
-  pub sizes : All (λ o. length o.bytes ≤ 16777216) pack
-  pub total : contents_size pack ≤ 33554432
+  pub count : length pack ≤ COUNT_LIMIT
+  pub sizes : All (λ o. length o.bytes ≤ SIZE_LIMIT) pack
+  pub total : contents_size pack ≤ TOTAL_LIMIT
   pub longest : (next : Object) (more : List Object) → rest ≡ next ∷ more → has_room pack next.bytes ≡ false
 
 -- a search by text finds a place of the text, where it is one of the first of these

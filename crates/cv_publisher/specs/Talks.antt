@@ -21,10 +21,13 @@ use Rattle.cv_cut.specs.Own.{AreOwn}
 use Rattle.cv_cut.specs.Replaced.{FitsOver, IsFullOver, SharesOver}
 use Rattle.cv_graft.specs.Placed.{placed_of}
 use Rattle.cv_checkout.specs.InTree.{IsIdToward}
+use Rattle.cv_checkout.specs.Wanting.{next_of, root_wanted}
+use Rattle.cv_checkout.specs.declared.wanted.Wanted.{Wanted}
 use Rattle.cv_overlay.specs.Answers.{HasNoBad}
 use Rattle.cv_overlay.specs.Overlay.{over}
 use Rattle.cv_overlay.specs.Whiteout.{IsLeastBad}
 use Rattle.cv_publisher.specs.Faults.{of_manifest}
+use Rattle.cv_publisher.specs.Fetching.{IsBadThere, IsGiven}
 use Rattle.cv_publisher.specs.Holding.{PublisherView}
 use Rattle.cv_publisher.specs.Packing.{AreInOrder, IsFront}
 use Rattle.cv_publisher.specs.Replies.{answer_in, fault_in}
@@ -99,6 +102,25 @@ pub record IsDone (is_seal : List ℕ → List ℕ → Bool) (keys : List Key) (
   pub asks : e.request ≡ request_for keys plan terms errand
   pub served : IsServed is_seal terms errand e.reply
 
+-- ---- the order of the catalogues
+
+-- The exchanges for errands gave catalogues one after another, where these were wanted at first: each gave the first that was wanted
+-- then, and those that it names were wanted before the others. At last these are left.
+abbrev pub Fetches : Path → List Wanted → List Errand → List Exchanged → List Wanted → Type 0
+Fetches p wanted [] es left = left ≡ wanted
+Fetches p wanted (errand ∷ more) [] left = ⊥
+Fetches p wanted (catalogue id ∷ more) (e ∷ es) left =
+    (next : List Wanted) × IsGiven p wanted id e.reply.body next × Fetches p next more es left
+Fetches p wanted (errand ∷ more) (e ∷ es) left = Fetches p wanted more es left
+
+-- it is an errand's turn while these catalogues are wanted: a catalogue's where it is the first of them, a pack's and the commit's
+-- where there are none
+abbrev pub IsNext : List Wanted → Errand → Type 0
+IsNext wanted (catalogue id) = next_of wanted ≡ Some id
+IsNext wanted (payload pack) = wanted ≡ []
+IsNext wanted commit = wanted ≡ []
+IsNext wanted other = ⊤
+
 -- ---- faults
 
 -- nothing can be made of the changes and what is there: the first whiteout that is bad; or else the path's parent is no directory, or
@@ -109,28 +131,31 @@ pub data IsUnmade (plan : Plan) (f : PublishFault) : Type 0 where
   collides : (a b : Path) → HasNoBad plan.changes.nodes → f ≡ fault.PathCollision a b → IsUnmade plan f
   is_full : (c : Path) → HasNoBad plan.changes.nodes → f ≡ fault.CatalogueFull c → IsUnmade plan f
 
--- what the reply to an errand tells, where it isn't the one that was asked for, or where it is the last catalogue and nothing can be
--- made; or memory was wanted
-pub data Faults (is_seal : List ℕ → List ℕ → Bool) (plan : Plan) (reply : HttpReply) (f : PublishFault) : Errand → Type 0 where
+-- what the reply to an errand tells while these catalogues are wanted, where it isn't the one that was asked for, or where it gives the
+-- last of them, and nothing can be made; or memory was wanted
+pub data Faults (is_seal : List ℕ → List ℕ → Bool) (plan : Plan) (wanted : List Wanted) (reply : HttpReply) (f : PublishFault) : Errand → Type 0 where
   not_granted : ((token : Token) (revision : ℕ) (root : List ℕ) → answer_in reply ≢ Some (answer.Granted token revision root))
-      → f ≡ fault_in (answer_in reply) → Faults is_seal plan reply f lease
-  no_manifest : reply.code ≢ 200 → f ≡ fault.BadReply → Faults is_seal plan reply f manifest
-  bad_manifest : (g : ManifestFault) → reply.code ≡ 200 → Shows is_seal reply.body g → f ≡ of_manifest g → Faults is_seal plan reply f manifest
-  no_catalogue : {id : ObjectId} → reply.code ≢ 200 → reply.code ≢ 404 → f ≡ fault.BadReply → Faults is_seal plan reply f (catalogue id)
-  not_served : {id : ObjectId} → reply.code ≡ 404 → f ≡ fault.NotServed id → Faults is_seal plan reply f (catalogue id)
+      → f ≡ fault_in (answer_in reply) → Faults is_seal plan wanted reply f lease
+  no_manifest : reply.code ≢ 200 → f ≡ fault.BadReply → Faults is_seal plan wanted reply f manifest
+  bad_manifest : (g : ManifestFault) → reply.code ≡ 200 → Shows is_seal reply.body g → f ≡ of_manifest g → Faults is_seal plan wanted reply f manifest
+  no_catalogue : {id : ObjectId} → reply.code ≢ 200 → reply.code ≢ 404 → f ≡ fault.BadReply → Faults is_seal plan wanted reply f (catalogue id)
+  not_served : {id : ObjectId} → reply.code ≡ 404 → f ≡ fault.NotServed id → Faults is_seal plan wanted reply f (catalogue id)
   other_bytes : {id : ObjectId} → reply.code ≡ 200 → sha1 reply.body ≢ id.hash → f ≡ fault.BadObject id (sha1 reply.body)
-      → Faults is_seal plan reply f (catalogue id)
-  bad_catalogue : {id : ObjectId} → reply.code ≡ 200 → sha1 reply.body ≡ id.hash → f ≡ fault.BadCatalogue id → Faults is_seal plan reply f (catalogue id)
-  unmade : {id : ObjectId} → reply.code ≡ 200 → sha1 reply.body ≡ id.hash → IsUnmade plan f → Faults is_seal plan reply f (catalogue id)
-  not_stored : {pack : List Object} → answer_in reply ≢ Some answer.Done → f ≡ fault_in (answer_in reply) → Faults is_seal plan reply f (payload pack)
+      → Faults is_seal plan wanted reply f (catalogue id)
+  bad_catalogue : {id : ObjectId} → reply.code ≡ 200 → IsBadThere wanted id reply.body → f ≡ fault.BadCatalogue id
+      → Faults is_seal plan wanted reply f (catalogue id)
+  unmade : {id : ObjectId} → reply.code ≡ 200 → IsGiven plan.path wanted id reply.body [] → IsUnmade plan f
+      → Faults is_seal plan wanted reply f (catalogue id)
+  not_stored : {pack : List Object} → answer_in reply ≢ Some answer.Done → f ≡ fault_in (answer_in reply) → Faults is_seal plan wanted reply f (payload pack)
   not_committed : ((revision : ℕ) (root : List ℕ) → answer_in reply ≢ Some (answer.Committed revision root))
-      → f ≡ fault_in (answer_in reply) → Faults is_seal plan reply f commit
-  no_memory : {errand : Errand} → f ≡ fault.NoMemory → Faults is_seal plan reply f errand
+      → f ≡ fault_in (answer_in reply) → Faults is_seal plan wanted reply f commit
+  no_memory : {errand : Errand} → f ≡ fault.NoMemory → Faults is_seal plan wanted reply f errand
 
--- an exchange for an errand had this fault
-pub record Fails (is_seal : List ℕ → List ℕ → Bool) (keys : List Key) (plan : Plan) (terms : Terms) (errand : Errand) (f : PublishFault) (e : Exchanged) : Type 0 where
+-- an exchange for an errand in its turn, while these catalogues were wanted, had this fault
+pub record Fails (is_seal : List ℕ → List ℕ → Bool) (keys : List Key) (plan : Plan) (terms : Terms) (wanted : List Wanted) (errand : Errand) (f : PublishFault) (e : Exchanged) : Type 0 where
+  pub turn : IsNext wanted errand
   pub asks : e.request ≡ request_for keys plan terms errand
-  pub told : Faults is_seal plan e.reply f errand
+  pub told : Faults is_seal plan wanted e.reply f errand
 
 -- ---- what is sent
 
@@ -144,10 +169,11 @@ abbrev pub AreFronts : List (List Object) → List Object → Type 0
 AreFronts [] rest = ⊤
 AreFronts (pack ∷ packs) rest = (pack ≢ []) × IsFront (joined (pack ∷ packs) rest) pack (joined packs rest) × AreFronts packs rest
 
--- packs are sent, and the rest isn't: all are the contents of the changes and some catalogues, each id once, in ascending order of the
--- texts of their ids
-pub record Sends (plan : Plan) (packs : List (List Object)) (rest : List Object) : Type 0 where
+-- packs are sent, and the rest isn't: all are the contents of the changes and some catalogues, none of which was fetched, each id once,
+-- in ascending order of the texts of their ids
+pub record Sends (plan : Plan) (fetched : List ObjectId) (packs : List (List Object)) (rest : List Object) : Type 0 where
   pub catalogues : List Object
+  pub unfetched : (o : Object) → Contains catalogues o → Contains fetched o.id → ⊥
   pub order : AreInOrder (plan.changes.objects ++ catalogues) (joined packs rest)
   pub fronts : AreFronts packs rest
 
@@ -192,20 +218,28 @@ pub record Completes (plan : Plan) (t : Nodes) (ids : List ObjectId) (catalogues
   pub only : (o : Object) → Contains catalogues o → Contains (placed_of (changed plan t) plan.path).added o
   pub each : (o : Object) → Contains (placed_of (changed plan t) plan.path).added o → Contains catalogues o ⊎ Contains ids o.id
 
--- the commit may be asked: all that is to be sent was, which completes the changed tree, and the root is that of this tree
-pub record IsReady (plan : Plan) (terms : Terms) (ids : List ObjectId) (packs : List (List Object)) (es : List Exchanged) : Type 0 where
-  pub sent : Sends plan packs []
+-- packs may be sent: no whiteout of the changes is bad, what is sent and the rest complete the changed tree, and the root is that of
+-- this tree
+pub record MaySend (plan : Plan) (terms : Terms) (ids : List ObjectId) (packs : List (List Object)) (rest : List Object) (es : List Exchanged) : Type 0 where
+  pub good : HasNoBad plan.changes.nodes
+  pub sends : Sends plan ids packs rest
   pub offers : (t : Nodes) → IsServedOf t terms.base es → Offers plan t terms.root
-  pub completes : (t : Nodes) → IsServedOf t terms.base es → Completes plan t ids sent.catalogues
+  pub completes : (t : Nodes) → IsServedOf t terms.base es → Completes plan t ids sends.catalogues
+
+-- the commit may be asked: all that is to be sent was
+abbrev pub IsReady : Plan → Terms → List ObjectId → List (List Object) → List Exchanged → Type 0
+IsReady plan terms ids packs es = MaySend plan terms ids packs [] es
 
 -- ---- how it ends
 
--- A revision was published: a lease was granted, and each errand was done under it in its order.
+-- A revision was published: a lease was granted, and each errand was done under it in its order; catalogues were fetched from the
+-- root's on until none was left.
 pub record Published (is_seal : List ℕ → List ℕ → Bool) (keys : List Key) (plan : Plan) (es : List Exchanged) (revision : ℕ) : Type 0 where
   pub terms : Terms
   pub ids : List ObjectId
   pub packs : List (List Object)
   pub done : AllZip (IsDone is_seal keys plan terms) (lease ∷ errands ids packs) es
+  pub fetches : Fetches plan.path (root_wanted terms.base ∷ []) (lease ∷ errands ids packs) es []
   pub revision_is : terms.revision ≡ revision
   pub toward : AreToward plan terms ids es
   pub ready : IsReady plan terms ids packs es
@@ -215,10 +249,11 @@ pub record Unleased (is_seal : List ℕ → List ℕ → Bool) (keys : List Key)
   pub only : Exchanged
   pub are : es ≡ only ∷ []
   pub asks : only.request ≡ lease_request keys plan
-  pub told : Faults is_seal plan only.reply f lease
+  pub told : Faults is_seal plan [] only.reply f lease
 
 -- A lease was granted, errands under it were done in their order, the next one had the fault, and then the lease was cancelled,
--- whatever the reply. Packs were sent only where the path has a place, and the commit was asked only where it may be.
+-- whatever the reply. Catalogues were fetched from the root's on, and these were left. Packs were sent only where they may be, and the
+-- commit was asked only where it may be.
 pub record Cancelled (is_seal : List ℕ → List ℕ → Bool) (keys : List Key) (plan : Plan) (es : List Exchanged) (f : PublishFault) : Type 0 where
   pub terms : Terms
   pub ids : List ObjectId
@@ -232,10 +267,11 @@ pub record Cancelled (is_seal : List ℕ → List ℕ → Bool) (keys : List Key
   pub cancel : Exchanged
   pub are : es ≡ before ++ last ∷ cancel ∷ []
   pub done_are : AllZip (IsDone is_seal keys plan terms) (lease ∷ done) before
-  pub fails : Fails is_seal keys plan terms failed f last
+  pub left : List Wanted
+  pub fetches : Fetches plan.path (root_wanted terms.base ∷ []) (lease ∷ done) before left
+  pub fails : Fails is_seal keys plan terms left failed f last
   pub cancels : cancel.request ≡ cancel_request keys plan terms.token
   pub toward : AreToward plan terms ids es
-  pub sent : (packs ≡ []) ⊎ ((rest : List Object) × Sends plan packs rest)
-  pub placed : packs ≢ [] → (t : Nodes) → IsServedOf t terms.base es → has_place t plan.path ≡ true
+  pub sent : (packs ≡ []) ⊎ ((rest : List Object) × MaySend plan terms ids packs rest es)
   pub ready : failed ≡ commit → IsReady plan terms ids packs es
   pub explains : (t : Nodes) → IsServedOf t terms.base es → Explains plan t f

@@ -9,12 +9,12 @@ ghost use Rattle.cv_publisher.specs.Assembling.{Assembles, Delivers, Sets, unfet
 ghost use Rattle.cv_publisher.specs.Packing.{IsCatalogueObject};
 
 use crate::fault::PublishFault;
-use crate::filling::SIZE_LIMIT;
 use crate::ordering::in_order;
 use crate::plan::Plan;
 use cv_base::{Items, Kind, NoMemory, Object, ObjectId};
 use cv_graft::{GraftFault, Grafted, place};
 use cv_overlay::overlay;
+use cv_pack::SIZE_LIMIT;
 use cv_ports::{MemoryShelf, Shelf};
 use cv_tree::Part;
 use std::alloc::Global;
@@ -30,12 +30,14 @@ pub struct Delivery {
     pub places: Items<usize>,
 }
 
-/// Whether objects are catalogues, none of them of more than 16 MiB.
+/// Whether objects are catalogues, each of which a pack may have.
 fn are_catalogues(objects: &[Object]) -> bool
     ensures { IsTrue result → All IsCatalogueObject objects.now }
 {
     for object in objects {
-        if object.id.kind != Kind::Catalogue || object.bytes.as_slice().len() > SIZE_LIMIT {
+        if object.id.kind != Kind::Catalogue
+            || object.bytes.as_slice().len() > SIZE_LIMIT as usize
+        {
             return false;
         }
     }
@@ -55,9 +57,10 @@ fn unfetched(
         let Ok(there) = fetched.length(alloc, &object.id) else {
             return Err(NoMemory);
         };
-        if there.is_none() {
-            new.push(object)?;
+        if there.is_some() {
+            continue;
         }
+        new.push(object)?;
     }
     Ok(new)
 }

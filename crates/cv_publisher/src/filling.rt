@@ -4,17 +4,8 @@ ghost use Rattle.cv_pack.specs.Pack.{contents_size};
 ghost use Rattle.cv_publisher.specs.Packing.{AreSendable, IsFront, objects_at};
 
 use cv_base::{NoMemory, Object};
-use cv_pack::PackWriter;
+use cv_pack::{COUNT_LIMIT, PackWriter, SIZE_LIMIT, TOTAL_LIMIT};
 use std::alloc::Global;
-
-/// The most objects of a pack.
-const COUNT_LIMIT: usize = 10_000;
-
-/// The most bytes of one content.
-pub(crate) const SIZE_LIMIT: usize = 16_777_216;
-
-/// The most bytes of all contents of a pack.
-const TOTAL_LIMIT: usize = 33_554_432;
 
 /// The front of objects that one pack takes.
 #[derive(Drop)]
@@ -57,7 +48,10 @@ pub(crate) fn front_of(contents: &[Object], catalogues: &[Object], left: &[usize
             .bytes
             .as_slice()
             .len();
-        if count >= COUNT_LIMIT || length > SIZE_LIMIT || size + length > TOTAL_LIMIT {
+        if count >= COUNT_LIMIT as usize
+            || length > SIZE_LIMIT as usize
+            || size + length > TOTAL_LIMIT as usize
+        {
             return Front { count, size };
         }
         size += length;

@@ -14,8 +14,6 @@ mod replies;
 mod requests;
 mod stage;
 mod stepping;
-#[cfg(test)]
-mod tests;
 mod want;
 mod wanting;
 

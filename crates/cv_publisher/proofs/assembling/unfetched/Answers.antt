@@ -21,22 +21,6 @@ module _ (fetched : Shelf) (o : Object) (new rest all : List Object) (before : (
   passed : is_some (fetched o.id) ≡ true → (new ++ unfetched fetched rest) ≡ all
   passed has = ap (λ (b : Bool). new ++ cond (not b) (o ∷ unfetched fetched rest) (unfetched fetched rest)) (sym has) ∙ before
 
-pub loop-object-preserved-in-Continue-1 : goal.loop-object-preserved-in-Continue-1
-loop-object-preserved-in-Continue-1 c =
-    let o = c.in-Some.object in
-    let rest = into_iter_items c.next.new.self in
-    let shelf = standing c.args.fetched.now in
-    let steps : into_iter_items c.loop-object.object-iterator ≡ o ∷ rest = c.in-Some.ensures.steps.0 in
-    let before : (c.loop-object.new.items ++ unfetched shelf (o ∷ rest)) ≡ unfetched shelf c.args.made =
-    ap (λ (x : List Object). c.loop-object.new.items ++ unfetched shelf x) (sym steps) ∙ c.loop-object.invariant.items in
-    let there : is_some (shelf o.id) ≡ is_some c.in-Ok.there =
-    ap (λ (s : Shelf). is_some (s o.id)) (sym c.loop-object.invariant.same)
-    ∙ measured (standing c.loop-object.fetched o.id) c.in-Ok.there (c.in-Ok.ensures.told (standing c.loop-object.fetched) refl) in
-    record {
-      items = taken shelf o c.loop-object.new.items rest (unfetched shelf c.args.made) before c.push.new.self.items (there ∙ c.is_none.ensures ∙ ap not c.if-is_none.true) c.in_ok-push.ensures.items;
-      same = c.in-Ok.ensures.reads ∙ c.loop-object.invariant.same;
-    }
-
 pub loop-object-preserved : goal.loop-object-preserved
 loop-object-preserved c =
     let o = c.in-Some.object in
@@ -49,6 +33,22 @@ loop-object-preserved c =
     ap (λ (s : Shelf). is_some (s o.id)) (sym c.loop-object.invariant.same)
     ∙ measured (standing c.loop-object.fetched o.id) c.in-Ok.there (c.in-Ok.ensures.told (standing c.loop-object.fetched) refl) in
     record {
-      items = passed shelf o c.loop-object.new.items rest (unfetched shelf c.args.made) before (there ∙ c.is_none.ensures ∙ ap not c.if-is_none.false);
+      items = taken shelf o c.loop-object.new.items rest (unfetched shelf c.args.made) before c.push.new.self.items (there ∙ sym c.is_some.ensures ∙ c.if-is_some.false) c.in_ok-push.ensures.items;
+      same = c.in-Ok.ensures.reads ∙ c.loop-object.invariant.same;
+    }
+
+pub loop-object-preserved-then-is_some : goal.loop-object-preserved-then-is_some
+loop-object-preserved-then-is_some c =
+    let o = c.in-Some.object in
+    let rest = into_iter_items c.next.new.self in
+    let shelf = standing c.args.fetched.now in
+    let steps : into_iter_items c.loop-object.object-iterator ≡ o ∷ rest = c.in-Some.ensures.steps.0 in
+    let before : (c.loop-object.new.items ++ unfetched shelf (o ∷ rest)) ≡ unfetched shelf c.args.made =
+    ap (λ (x : List Object). c.loop-object.new.items ++ unfetched shelf x) (sym steps) ∙ c.loop-object.invariant.items in
+    let there : is_some (shelf o.id) ≡ is_some c.in-Ok.there =
+    ap (λ (s : Shelf). is_some (s o.id)) (sym c.loop-object.invariant.same)
+    ∙ measured (standing c.loop-object.fetched o.id) c.in-Ok.there (c.in-Ok.ensures.told (standing c.loop-object.fetched) refl) in
+    record {
+      items = passed shelf o c.loop-object.new.items rest (unfetched shelf c.args.made) before (there ∙ sym c.is_some.ensures ∙ c.if-is_some.true);
       same = c.in-Ok.ensures.reads ∙ c.loop-object.invariant.same;
     }

@@ -4,10 +4,10 @@ use Rattle.std.specs.Prelude.{false}
 use Rattle.cv_publisher.specs.Packing.{objects_at}
 use Rattle.cv_publisher.proofs.Objects.{count_at, count_full, front_some, front_stops, front_whole, size_at, size_full, small_at, total_full}
 use Rattle.cv_publisher.proofs.filling.front_of.Goals as goal
-use Rattle.cv_publisher.proofs.filling.front_of.Goals.{then-count-ge-COUNT_LIMIT-via-then-count-ge-COUNT_LIMIT, then-count-ge-COUNT_LIMIT-via-else-count-ge-COUNT_LIMIT+then-length-gt-SIZE_LIMIT, then-count-ge-COUNT_LIMIT-via-else-count-ge-COUNT_LIMIT+else-length-gt-SIZE_LIMIT+then-size-length-gt-TOTAL_LIMIT}
+use Rattle.cv_publisher.proofs.filling.front_of.Goals.{then-count-via-then-count, then-count-via-else-count+then-length, then-count-via-else-count+else-length+then-size-length}
 
-pub returns-then-count-ge-COUNT_LIMIT-clause-front : goal.returns-then-count-ge-COUNT_LIMIT-clause-front
-returns-then-count-ge-COUNT_LIMIT-clause-front c =
+pub returns-then-count-clause-front : goal.returns-then-count-clause-front
+returns-then-count-clause-front c =
     let all = c.args.contents.now ++ c.args.catalogues.now in
     let i = c.loop-count.count in
     let o = c.object_at.result.now in
@@ -15,22 +15,22 @@ returns-then-count-ge-COUNT_LIMIT-clause-front c =
     let count : length pack ≡ i = count_at all c.args.left.now i c.requires c.loop-count.auto.count-end in
     let same = ap length c.as_slice-length.ensures in
     let full : has_room pack o.bytes ≡ false =
-    elim c.then-count-ge-COUNT_LIMIT.branch [
-      | then-count-ge-COUNT_LIMIT-via-then-count-ge-COUNT_LIMIT w ↦ count_full pack o.bytes (omega arith)
-      | then-count-ge-COUNT_LIMIT-via-else-count-ge-COUNT_LIMIT+then-length-gt-SIZE_LIMIT w ↦ size_full pack o.bytes (omega arith)
-      | then-count-ge-COUNT_LIMIT-via-else-count-ge-COUNT_LIMIT+else-length-gt-SIZE_LIMIT+then-size-length-gt-TOTAL_LIMIT w ↦ total_full pack o.bytes (omega arith)
+    elim c.then-count.branch [
+      | then-count-via-then-count w ↦ count_full pack o.bytes (omega arith)
+      | then-count-via-else-count+then-length w ↦ size_full pack o.bytes (omega arith)
+      | then-count-via-else-count+else-length+then-size-length w ↦ total_full pack o.bytes (omega arith)
     ] in
     front_stops all c.args.left.now i o c.loop-count-test.true c.object_at.ensures (omega arith) c.loop-count.invariant.small
     (subst (λ n. n ≤ 33554432) c.loop-count.invariant.size c.loop-count.invariant.total) full
 
-pub returns-then-count-ge-COUNT_LIMIT-clause-some : goal.returns-then-count-ge-COUNT_LIMIT-clause-some
-returns-then-count-ge-COUNT_LIMIT-clause-some c = λ some.
+pub returns-then-count-clause-some : goal.returns-then-count-clause-some
+returns-then-count-clause-some c = λ some.
     front_some (c.args.contents.now ++ c.args.catalogues.now) c.args.left.now c.loop-count.count c.loop-count.size (length c.as_slice-length.result.now) c.object_at.result.now
     c.requires c.loop-count-test.true c.object_at.ensures (ap length c.as_slice-length.ensures) c.loop-count.invariant.size
-    (elim c.then-count-ge-COUNT_LIMIT.branch [
-      | then-count-ge-COUNT_LIMIT-via-then-count-ge-COUNT_LIMIT w ↦ inl (omega arith)
-      | then-count-ge-COUNT_LIMIT-via-else-count-ge-COUNT_LIMIT+then-length-gt-SIZE_LIMIT w ↦ inr (inl (omega arith))
-      | then-count-ge-COUNT_LIMIT-via-else-count-ge-COUNT_LIMIT+else-length-gt-SIZE_LIMIT+then-size-length-gt-TOTAL_LIMIT w ↦ inr (inr (omega arith))
+    (elim c.then-count.branch [
+      | then-count-via-then-count w ↦ inl (omega arith)
+      | then-count-via-else-count+then-length w ↦ inr (inl (omega arith))
+      | then-count-via-else-count+else-length+then-size-length w ↦ inr (inr (omega arith))
     ])
 
 pub loop-count-preserved : goal.loop-count-preserved
@@ -39,8 +39,8 @@ loop-count-preserved c =
     record {
       few = omega arith;
       size = size_at all c.args.left.now c.loop-count.count c.loop-count.size c.object_at.result.now c.as_slice-length.result.now c.loop-count-test.true c.object_at.ensures c.as_slice-length.ensures c.loop-count.invariant.size;
-      total = c.if-size-length-gt-TOTAL_LIMIT.false;
-      small = small_at all c.args.left.now c.loop-count.count c.object_at.result.now c.as_slice-length.result.now c.loop-count-test.true c.object_at.ensures c.as_slice-length.ensures c.if-length-gt-SIZE_LIMIT.false c.loop-count.invariant.small;
+      total = c.if-size-length.false;
+      small = small_at all c.args.left.now c.loop-count.count c.object_at.result.now c.as_slice-length.result.now c.loop-count-test.true c.object_at.ensures c.as_slice-length.ensures c.if-length.false c.loop-count.invariant.small;
     }
 
 pub returns-clause-front : goal.returns-clause-front
