@@ -138,8 +138,8 @@ pub record IsContent (f : FolderView) (at : Path) (bytes : List ℕ) : Type 0 wh
 abbrev pub root_attr : Attr
 root_attr = record { mode = 493; mtime = 0; uid = 0; gid = 0 }
 
--- the changes of a folder: at each path the node of the item that it finds, below a root; and of the contents, which have
--- the hashes of the files that are no whiteouts, each is that of such a file
+-- the changes of a folder: at each path the node of the item that it finds, below a root; and each of the contents is that of a file
+-- that is no whiteout
 pub record AreChanges (f : FolderView) (at : Path) (c : ChangesView) : Type 0 where
   pub root : get c.nodes [] ≡ Some (Dir root_attr)
   pub nodes : (name : List ℕ) (names : Path) → get c.nodes (name ∷ names) ≡ node_at (item_from f at [] (name ∷ names)) (f.content (name ∷ names))

@@ -4,6 +4,7 @@ ghost use Rattle.std.specs.FinMap as map;
 ghost use Rattle.cv_tree.specs.Node.{IsAttr, IsNode};
 ghost use Rattle.cv_tree.specs.Tree.{single};
 ghost use Rattle.cv_tree.specs.declared.node.Node.TheVariants.{Dir};
+ghost use Rattle.cv_overlay.specs.Changes.{AreContents};
 ghost use Rattle.cv_overlay.specs.Walk.{root_attr};
 ghost use Rattle.cv_overlay.specs.Found.{is_file_node, with_node, with_file, kept_content};
 
@@ -138,6 +139,7 @@ impl Found {
     pub(crate) fn into_changes(self) -> Changes
         ensures nodes { result.nodes ≡ self.nodes }
         ensures objects { result.objects ≡ self.objects }
+        ensures contents { AreContents result.nodes result.objects }
     {
         let Found { tree, contents, .. } = self;
         Changes {

@@ -18,6 +18,3 @@ pub use overlay_fault::OverlayFault;
 pub use overlaying::overlay;
 pub use read_fault::ReadFault;
 pub use reading::read_folder;
-
-#[cfg(test)]
-mod tests;

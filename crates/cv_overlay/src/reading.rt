@@ -5,6 +5,7 @@ ghost use Rattle.cv_base.specs.Path.{Path, IsPath, text_of, name_cmp};
 ghost use Rattle.cv_base.specs.Told.{WhereTold};
 ghost use Rattle.cv_ports.specs.Folder.{IsOrdered};
 ghost use Rattle.cv_tree.specs.Changes.{FitsUnder};
+ghost use Rattle.cv_overlay.specs.Changes.{AreContents};
 ghost use Rattle.cv_overlay.specs.Events.{visits_deep};
 ghost use Rattle.cv_overlay.specs.Found.{run, Ends};
 ghost use Rattle.cv_overlay.specs.Walk.{Reads, walk_cmp};
@@ -32,6 +33,7 @@ fn walk<F: Folder>(
     ensures told { WhereTold (F.folder folder.old) (λ holds. (at : Path) → published.now ≡ at ++ above.now → Ends result (run holds at (visits_deep (left + 1) holds at above.now) found)) }
     ensures ordered { WhereTold (F.folder folder.old) IsOrdered }
     ensures unchanged { F.folder folder.new ≡ F.folder folder.old }
+    ensures stays { F.named folder.new ≡ F.named folder.old }
     ensures cause { HasCause (F.faults folder.old) (F.faults folder.new) (IsErrOf result faults.Failed) }
     ensures fits { (at : Path) → published.now ≡ at ++ above.now → FitsUnder at found.nodes → IfOk result (λ new. FitsUnder at new.nodes) }
 {
@@ -75,6 +77,7 @@ pub fn read_folder<F: Folder>(
 ) -> Result<Changes, ReadFault>
     ensures told { WhereTold (F.folder folder.old) (Reads at.now result) }
     ensures unchanged { F.folder folder.new ≡ F.folder folder.old }
+    ensures stays { F.named folder.new ≡ F.named folder.old }
     ensures cause { HasCause (F.faults folder.old) (F.faults folder.new) (IsErrOf result faults.Failed) }
 
     // The walk goes by the bytes of the paths' texts.
@@ -82,6 +85,9 @@ pub fn read_folder<F: Folder>(
 
     // Each path of the changes, those of whiteouts too, keeps the limits of a path behind the published one.
     ensures limits { IfOk result (λ changes. FitsUnder at.now changes.nodes) }
+
+    // The contents of all files that aren't whiteouts, each once.
+    ensures contents { IfOk result (λ changes. AreContents changes.nodes changes.objects) }
 {
     let start = Found::new(alloc)?;
     let left = NAMES_LIMIT - at.names().len();

@@ -1,18 +1,20 @@
 -- A publisher's exchanges over a dial.
-use Rattle.std.proofs.Common.{◌≡◌, Bool, ℕ, List, [], ◌∷◌, subst}
+use Rattle.std.proofs.Common.{◌≡◌, Bool, ℕ, List, [], ◌∷◌, refl, subst}
 use Rattle.std.specs.Prelude.{Option, Some, None}
 use Rattle.std.specs.declared.result.Result.{Result}
 use Rattle.std.specs.declared.result.Result.TheVariants.{Ok, Err}
 use Rattle.cv_base.specs.Path.{Path}
 use Rattle.cv_ports.specs.Folder.{FolderView}
 use Rattle.cv_keys.specs.declared.key.Key.{Key}
-use Rattle.cv_overlay.specs.Changes.{ChangesView}
+use Rattle.cv_tree.specs.Changes.{FitsUnder}
+use Rattle.cv_overlay.specs.Changes.{AreContents, ChangesView}
 use Rattle.cv_publisher.specs.Holding.{PublisherView}
 use Rattle.cv_client.specs.Exchange.{Links}
 use Rattle.cv_client.specs.declared.exchanging.ExchangeFault.{ExchangeFault}
+use Rattle.cv_client.specs.declared.exchanging.ExchangeFault.TheVariants as exchange_fault
 use Rattle.cv_client.specs.declared.url.Url.{Url}
 use Rattle.cv_session.specs.Standing.{Gives}
-use Rattle.cv_top.specs.Publishes.{End, Steps, Goes, goes, Exchanged, done, cut_off, ReadsRoot, Sends, start_of}
+use Rattle.cv_top.specs.Publishes.{End, Steps, unwanted, Goes, goes, Exchanged, done, cut_off, ReadsRoot, Sends, start_of}
 use Rattle.cv_top.specs.Seal.{is_seal_by}
 
 module _ {is_seal : List ℕ → List ℕ → Bool} {keys : List Key} {u : Url} {before mid after : Links} {start p next : PublisherView} (so_far : Goes is_seal keys u before start mid p) where
@@ -26,14 +28,21 @@ module _ {is_seal : List ℕ → List ℕ → Bool} {keys : List Key} {u : Url} 
   pub breaks : (fault : ExchangeFault) → Steps is_seal keys u mid after p next (Err fault) → Exchanged is_seal keys u before after start (Err fault)
   breaks fault step = cut_off p next mid fault so_far step
 
+-- memory was wanted
+pub no_memory : {is_seal : List ℕ → List ℕ → Bool} {keys : List Key} {u : Url} {before after : Links} {start : PublisherView} (p : PublisherView)
+    → Goes is_seal keys u before start after p → Exchanged is_seal keys u before after start (Err exchange_fault.NoMemory)
+no_memory p so_far = cut_off p p _ exchange_fault.NoMemory so_far (unwanted refl)
+
 -- what came of a publisher of the changes that were read
-module _ {W C F N : Type 0} (taken : W → Option (List ℕ)) (moments : C → Option (ℕ → ℕ)) (folder : F → Option FolderView) (came : N → Links) where
-  pub sends_by : (keys : List Key) (seal : List ℕ) (u : Url) (path : Path) (clock clock' : C) (f f' : F) (dial dial' : N) (changes : ChangesView) (now : ℕ) (start : PublisherView) (r : Result End ExchangeFault)
-      → ReadsRoot folder path f f' (Ok changes) → Gives (moments clock) (now ∷ []) (moments clock') → start ≡ start_of u path changes now
-      → Exchanged (is_seal_by seal) keys u (came dial) (came dial') start r → Sends taken moments folder came keys seal u path clock clock' f f' dial dial' r
-  sends_by keys seal u path clock clock' f f' dial dial' changes now start r reads moment is exchanged = record {
+module _ {W C F N : Type 0} (taken : W → Option (List ℕ)) (moments : C → Option (ℕ → ℕ)) (folder : F → Option FolderView) (named : F → Option (List ℕ)) (came : N → Links) where
+  pub sends_by : (keys : List Key) (seal : List ℕ) (u : Url) (path : Path) (root : List ℕ) (clock clock' : C) (f f' : F) (dial dial' : N) (changes : ChangesView) (now : ℕ) (start : PublisherView) (r : Result End ExchangeFault)
+      → ReadsRoot folder named path root f f' (Ok changes) → AreContents changes.nodes changes.objects → FitsUnder path changes.nodes → Gives (moments clock) (now ∷ []) (moments clock') → start ≡ start_of u path changes now
+      → Exchanged (is_seal_by seal) keys u (came dial) (came dial') start r → Sends taken moments folder named came keys seal u path root clock clock' f f' dial dial' r
+  sends_by keys seal u path root clock clock' f f' dial dial' changes now start r reads contents limits moment is exchanged = record {
     changes = changes;
     reads = reads;
+    contents = contents;
+    limits = limits;
     now = now;
     moment = moment;
     exchanged = subst (λ (p : PublisherView). Exchanged (is_seal_by seal) keys u (came dial) (came dial') p r) is exchanged;

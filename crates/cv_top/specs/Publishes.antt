@@ -1,5 +1,5 @@
 -- What the command `publish` does: it reads a folder of changes, and sends what a publisher of them wants, exchange by exchange.
-use Rattle.std.specs.Prelude.{◌≡◌, ◌⊎◌, ℕ, Bool, List, [], ◌∷◌, Option, Some, None, Result, Ok, Err}
+use Rattle.std.specs.Prelude.{◌≡◌, ◌⊎◌, ℕ, Bool, List, [], ◌∷◌, Option, Some, None, Result, Ok, Err, is_some}
 use Rattle.cv_base.specs.Path.{Path, text_of}
 use Rattle.cv_base.specs.Told.{WhereTold}
 use Rattle.cv_ports.specs.Folder.{FolderView}
@@ -11,7 +11,8 @@ use Rattle.cv_answers.specs.declared.answer.Answer.{Answer}
 use Rattle.cv_answers.specs.declared.answer.Answer.TheVariants as answer
 use Rattle.cv_answers.specs.declared.reason.Reason.TheVariants as reason
 use Rattle.cv_answers.specs.declared.refusal.Refusal.TheVariants.{Plain}
-use Rattle.cv_overlay.specs.Changes.{ChangesView}
+use Rattle.cv_tree.specs.Changes.{FitsUnder}
+use Rattle.cv_overlay.specs.Changes.{AreContents, ChangesView}
 use Rattle.cv_overlay.specs.Fault.{of_folder}
 use Rattle.cv_overlay.specs.Walk.{Reads}
 use Rattle.cv_overlay.specs.declared.read_fault.ReadFault.{ReadFault}
@@ -39,11 +40,12 @@ use Rattle.cv_top.specs.declared.status.Status.TheVariants.{Refused, LinkFailed,
 
 -- ---- the folder
 
--- The folder was opened at its root, and its changes were read, or show their first fault, where it tells; or it wasn't opened.
-module _ {F : Type 0} (folder : F → Option FolderView) where
-  pub data ReadsRoot (path : Path) (f f' : F) : Result ChangesView ReadFault → Type 0 where
-    rooted : (r : Result ChangesView ReadFault) → WhereTold (folder f') (Reads path r) → ReadsRoot path f f' r
-    unrooted : (fault : FolderFault) → folder f' ≡ folder f → ReadsRoot path f f' (Err (of_folder fault))
+-- The folder was opened by this name, and its changes were read, or show their first fault, where it told what it holds; or it
+-- wasn't opened.
+module _ {F : Type 0} (folder : F → Option FolderView) (named : F → Option (List ℕ)) where
+  pub data ReadsRoot (path : Path) (root : List ℕ) (f f' : F) : Result ChangesView ReadFault → Type 0 where
+    rooted : (r : Result ChangesView ReadFault) → named f' ≡ Some root → is_some (folder f') ≡ is_some (folder f) → WhereTold (folder f') (Reads path r) → ReadsRoot path root f f' r
+    unrooted : (fault : FolderFault) → named f' ≡ named f → folder f' ≡ folder f → ReadsRoot path root f f' (Err (of_folder fault))
 
 -- ---- the exchanges
 
@@ -79,7 +81,6 @@ module _ (is_seal : List ℕ → List ℕ → Bool) (keys : List Key) (u : Url) 
   pub data Exchanged (before after : Links) (start : PublisherView) : Result End ExchangeFault → Type 0 where
     done : (p next : PublisherView) (mid : Links) (end : End) → Goes before start mid p → Steps mid after p next (Ok (Some end)) → Exchanged before after start (Ok end)
     cut_off : (p next : PublisherView) (mid : Links) (fault : ExchangeFault) → Goes before start mid p → Steps mid after p next (Err fault) → Exchanged before after start (Err fault)
-    no_memory : (p : PublisherView) → Goes before start after p → Exchanged before after start (Err exchange_fault.NoMemory)
 
 -- ---- how the program ends by them
 
@@ -123,29 +124,28 @@ publish_status publish_fault.NoMemory = OutOfMemory
 
 -- ---- the command
 
--- what an output took, the moments that a clock will give, what a folder tells, and the links that came back to a dial
-module _ {W C F N : Type 0} (taken : W → Option (List ℕ)) (moments : C → Option (ℕ → ℕ)) (folder : F → Option FolderView) (came : N → Links) where
-  -- the changes were read, and at the clock's moment a publisher of them came to this
-  pub record Sends (keys : List Key) (seal : List ℕ) (u : Url) (path : Path) (clock clock' : C) (f f' : F) (dial dial' : N) (r : Result End ExchangeFault) : Type 0 where
+-- what an output took, the moments that a clock will give, what a folder tells and its name, and the links that came back to a dial
+module _ {W C F N : Type 0} (taken : W → Option (List ℕ)) (moments : C → Option (ℕ → ℕ)) (folder : F → Option FolderView) (named : F → Option (List ℕ)) (came : N → Links) where
+  -- the changes were read, with the contents of all their files, and at the clock's moment a publisher of them came to this
+  pub record Sends (keys : List Key) (seal : List ℕ) (u : Url) (path : Path) (root : List ℕ) (clock clock' : C) (f f' : F) (dial dial' : N) (r : Result End ExchangeFault) : Type 0 where
     pub changes : ChangesView
-    pub reads : ReadsRoot folder path f f' (Ok changes)
+    pub reads : ReadsRoot folder named path root f f' (Ok changes)
+    pub contents : AreContents changes.nodes changes.objects
+    pub limits : FitsUnder path changes.nodes
     pub now : ℕ
     pub moment : Gives (moments clock) (now ∷ []) (moments clock')
     pub exchanged : Exchanged (is_seal_by seal) keys u (came dial) (came dial') (start_of u path changes now) r
 
-  pub data Publishes (keys : List Key) (seal : List ℕ) (u : Url) (path : Path) (output output' : W) (clock clock' : C) (f f' : F) (dial dial' : N) : Status → Type 0 where
+  pub data Publishes (keys : List Key) (seal : List ℕ) (u : Url) (path : Path) (root : List ℕ) (output output' : W) (clock clock' : C) (f f' : F) (dial dial' : N) : Status → Type 0 where
     -- a revision was published, and printed
-    published : (revision : ℕ) (status : Status) → Sends keys seal u path clock clock' f f' dial dial' (Ok (Ok revision))
-        → Prints taken (revision_line revision) output output' status → Publishes keys seal u path output output' clock clock' f f' dial dial' status
+    published : (revision : ℕ) (status : Status) → Sends keys seal u path root clock clock' f f' dial dial' (Ok (Ok revision))
+        → Prints taken (revision_line revision) output output' status → Publishes keys seal u path root output output' clock clock' f f' dial dial' status
     -- none was, by this end of the publisher
-    unpublished : (fault : PublishFault) (status : Status) → Sends keys seal u path clock clock' f f' dial dial' (Ok (Err fault))
-        → IsOrMemory (publish_status fault) status → output' ≡ output → Publishes keys seal u path output output' clock clock' f f' dial dial' status
-    -- an exchange had no reply
-    cut : (fault : ExchangeFault) → Sends keys seal u path clock clock' f f' dial dial' (Err fault) → output' ≡ output
-        → Publishes keys seal u path output output' clock clock' f f' dial dial' (exchange_status fault)
-    -- there was no memory for a publisher
-    unmade : (changes : ChangesView) → ReadsRoot folder path f f' (Ok changes) → (now : ℕ) → Gives (moments clock) (now ∷ []) (moments clock') → output' ≡ output → dial' ≡ dial
-        → Publishes keys seal u path output output' clock clock' f f' dial dial' OutOfMemory
+    unpublished : (fault : PublishFault) (status : Status) → Sends keys seal u path root clock clock' f f' dial dial' (Ok (Err fault))
+        → IsOrMemory (publish_status fault) status → output' ≡ output → Publishes keys seal u path root output output' clock clock' f f' dial dial' status
+    -- an exchange had no reply, or there was no memory for a publisher
+    cut : (fault : ExchangeFault) → Sends keys seal u path root clock clock' f f' dial dial' (Err fault) → output' ≡ output
+        → Publishes keys seal u path root output output' clock clock' f f' dial dial' (exchange_status fault)
     -- the changes weren't read, and nothing else was touched
-    unread : (fault : ReadFault) (status : Status) → ReadsRoot folder path f f' (Err fault) → IsOrMemory (read_status fault) status → output' ≡ output → clock' ≡ clock → dial' ≡ dial
-        → Publishes keys seal u path output output' clock clock' f f' dial dial' status
+    unread : (fault : ReadFault) (status : Status) → ReadsRoot folder named path root f f' (Err fault) → IsOrMemory (read_status fault) status → output' ≡ output → clock' ≡ clock → dial' ≡ dial
+        → Publishes keys seal u path root output output' clock clock' f f' dial dial' status

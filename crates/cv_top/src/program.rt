@@ -57,7 +57,7 @@ fn do_init<V: Vault + Drop, W: Sink, C: Clock>(
 }
 
 /// Judges the seal, and then serves the repository under these keys.
-fn do_stdio<V: Vault + Drop, R: Source + Drop, W: Sink, C: Clock, H: Hold>(
+fn do_stdio<V: Vault + Drop, R: Source<Beside = W> + Drop, W: Sink, C: Clock, H: Hold>(
     alloc: Global,
     name: &Name,
     table: &KeyTable,
@@ -117,7 +117,7 @@ fn do_look<W: Sink, N: Dial>(
 }
 
 /// Judges the seal, and then answers the lines of the input.
-fn do_shell<R: Source + Drop, W: Sink, N: Dial>(
+fn do_shell<R: Source<Beside = W> + Drop, W: Sink, N: Dial>(
     alloc: Global,
     url: &Url,
     seal: &str,
@@ -156,7 +156,7 @@ fn do_publish<W: Sink, C: Clock, F: Folder, N: Dial>(
 ) -> Status
     requires { ends_in marker path ≡ false }
     ensures does { Keyed keys.now seal.now ((output.new ≡ output.old) × (clock.new ≡ clock.old) × (folder.new ≡ folder.old) × (dial.new ≡ dial.old))
-        (λ table. Publishes W.taken C.moments F.folder N.came table seal.now url.now path
+        (λ table. Publishes W.taken C.moments F.folder F.named N.came table seal.now url.now path root.now
         output.old output.new clock.old clock.new folder.old folder.new dial.old dial.new) result }
     ensures flushed { result ≢ OutputFailed → W.passed output.old ≡ W.taken output.old → W.passed output.new ≡ W.taken output.new }
     ensures reads { result ≢ InputFailed }
@@ -174,7 +174,15 @@ fn do_publish<W: Sink, C: Clock, F: Folder, N: Dial>(
 }
 
 /// Does what the words ask for.
-fn do_command<V: Vault + Drop, R: Source + Drop, W: Sink, C: Clock, F: Folder, N: Dial, H: Hold>(
+fn do_command<
+    V: Vault + Drop,
+    R: Source<Beside = W> + Drop,
+    W: Sink,
+    C: Clock,
+    F: Folder,
+    N: Dial,
+    H: Hold,
+>(
     alloc: Global,
     words: &[String],
     keys: &str,
@@ -187,7 +195,7 @@ fn do_command<V: Vault + Drop, R: Source + Drop, W: Sink, C: Clock, F: Folder, N
     dial: &mut N,
     hold: &H,
 ) -> (Status, V, R)
-    ensures runs { Runs V.disk V.count V.left V.faults R.left R.looks W.taken W.passed C.moments F.folder N.came (map string_bytes words.now) keys.now seal.now
+    ensures runs { Runs V.disk V.count V.left V.faults R.left R.looks W.taken W.passed C.moments F.folder F.named N.came (map string_bytes words.now) keys.now seal.now
         (outside vault input output.old clock.old folder.old dial.old) (outside result.1 result.2 output.new clock.new folder.new dial.new) result.0 }
     ensures flushed { result.0 ≢ OutputFailed → W.passed output.old ≡ W.taken output.old → W.passed output.new ≡ W.taken output.new }
     ensures reads { HasCause (R.faults input) (R.faults result.2) (result.0 ≡ InputFailed) }
@@ -254,7 +262,7 @@ fn say<E: Sink>(errors: &mut E, status: &Status)
 /// serves the repository, signed by the first key, and prints the revision that they became.
 pub fn run<
     V: Vault + Drop,
-    R: Source + Drop,
+    R: Source<Beside = W> + Drop,
     W: Sink,
     E: Sink,
     C: Clock,
@@ -266,7 +274,7 @@ pub fn run<
     words: &[String],
     parts: Parts<V, R, W, E, C, F, N, H>,
 ) -> (Status, Parts<V, R, W, E, C, F, N, H>)
-    ensures runs { Runs V.disk V.count V.left V.faults R.left R.looks W.taken W.passed C.moments F.folder N.came (map string_bytes words.now) (string_bytes parts.keys) (string_bytes parts.seal)
+    ensures runs { Runs V.disk V.count V.left V.faults R.left R.looks W.taken W.passed C.moments F.folder F.named N.came (map string_bytes words.now) (string_bytes parts.keys) (string_bytes parts.seal)
         (outside parts.vault parts.input parts.output parts.clock parts.folder parts.dial) (outside result.1.vault result.1.input result.1.output result.1.clock result.1.folder result.1.dial) result.0 }
 
     // The headline: what is kept stays on one line of revisions, whatever is asked, and whenever the program is cut.

@@ -3,6 +3,7 @@ ghost use Rattle.std.specs.Prelude.{◌≡◌, ◌≢◌, false, IfOk, IsErrOf, 
 ghost use Rattle.cv_base.specs.Counts.{HasCause};
 ghost use Rattle.cv_base.specs.Marker.{marker, ends_in};
 ghost use Rattle.cv_tree.specs.Changes.{FitsUnder};
+ghost use Rattle.cv_overlay.specs.Changes.{AreContents};
 ghost use Rattle.cv_overlay.specs.declared.read_fault.ReadFault.TheVariants as read_fault;
 ghost use Rattle.cv_client.specs.declared.exchanging.ExchangeFault.TheVariants as exchange_fault;
 ghost use Rattle.cv_shell.specs.Texts.{revision_line};
@@ -32,9 +33,10 @@ fn read_changes<F: Folder>(
     root: &str,
     path: &RepoPath,
 ) -> Result<Changes, ReadFault>
-    ensures reads { ReadsRoot F.folder path.now folder.old folder.new result }
+    ensures reads { ReadsRoot F.folder F.named path.now root.now folder.old folder.new result }
     ensures cause { HasCause (F.faults folder.old) (F.faults folder.new) (IsErrOf result read_fault.Failed) }
     ensures limits { IfOk result (λ changes. FitsUnder path.now changes.nodes) }
+    ensures contents { IfOk result (λ changes. AreContents changes.nodes changes.objects) }
 {
     folder.root(alloc, root)?;
     read_folder(alloc, folder, path)
@@ -140,7 +142,7 @@ fn publish<W: Sink, C: Clock, F: Folder, N: Dial>(
     dial: &mut N,
 ) -> Status
     requires { ends_in marker path ≡ false }
-    ensures publishes { Publishes W.taken C.moments F.folder N.came keys.now signer.now url.now path
+    ensures publishes { Publishes W.taken C.moments F.folder F.named N.came keys.now signer.now url.now path root.now
         output.old output.new clock.old clock.new folder.old folder.new dial.old dial.new result }
     ensures flushed { result ≢ OutputFailed → W.passed output.old ≡ W.taken output.old → W.passed output.new ≡ W.taken output.new }
     ensures reads { result ≢ InputFailed }
@@ -179,7 +181,7 @@ pub(crate) fn publish_sealed<W: Sink, C: Clock, F: Folder, N: Dial>(
 ) -> Status
     requires { ends_in marker path ≡ false }
     ensures does { Sealed seal.now ((output.new ≡ output.old) × (clock.new ≡ clock.old) × (folder.new ≡ folder.old) × (dial.new ≡ dial.old))
-        (Publishes W.taken C.moments F.folder N.came table.now seal.now url.now path
+        (Publishes W.taken C.moments F.folder F.named N.came table.now seal.now url.now path root.now
         output.old output.new clock.old clock.new folder.old folder.new dial.old dial.new) result }
     ensures flushed { result ≢ OutputFailed → W.passed output.old ≡ W.taken output.old → W.passed output.new ≡ W.taken output.new }
     ensures reads { result ≢ InputFailed }

@@ -12,7 +12,7 @@ use cv_shell::shell;
 use std::alloc::Global;
 
 /// Answers the lines of the input, at first at the head that is served under a URL.
-pub(crate) fn answer_lines<R: Source + Drop, W: Sink, N: Dial>(
+pub(crate) fn answer_lines<R: Source<Beside = W> + Drop, W: Sink, N: Dial>(
     alloc: Global,
     url: &Url,
     signer: &KeyedHash,

@@ -20,7 +20,7 @@ use cv_vault::Vault;
 use std::alloc::Global;
 
 /// Answers the requests of the input on the output.
-fn talk<V: Vault + Drop, R: Source + Drop, W: Sink, C: Clock, H: Hold>(
+fn talk<V: Vault + Drop, R: Source<Beside = W> + Drop, W: Sink, C: Clock, H: Hold>(
     alloc: Global,
     desk: &mut OneDesk<V, KeyedHash>,
     keys: &KeyTable,
@@ -44,7 +44,7 @@ fn talk<V: Vault + Drop, R: Source + Drop, W: Sink, C: Clock, H: Hold>(
 
 /// Opens the gate of the repository, and answers the requests of the input on the output. The signer is given twice: for the
 /// gate, and for what is served.
-pub(crate) fn serve<V: Vault + Drop, R: Source + Drop, W: Sink, C: Clock, H: Hold>(
+pub(crate) fn serve<V: Vault + Drop, R: Source<Beside = W> + Drop, W: Sink, C: Clock, H: Hold>(
     alloc: Global,
     repository: Identity,
     signer: KeyedHash,

@@ -18,6 +18,7 @@ events-init g t c = record {
       (c.in_ok-events.ensures ∙ ap (λ (l : List FolderItem). placed_all l []) c.into_vec.ensures);
   ordered = c.in_ok-items.ensures.ordered;
   unchanged = c.in_ok-items.ensures.unchanged;
+  stays = c.in_ok-items.ensures.stays;
   later = c.in_ok-items.ensures.cause.later;
   fits = λ at place fits. subst (λ (v : FoundView). FitsUnder at v.nodes) (sym c.found.view_is) fits;
 }
@@ -30,6 +31,7 @@ events-preserved-in-Item g t c = record {
       (c.in_ok-found-in-Item.ensures.told holds (c.events.invariant.unchanged ∙ told) at place) (c.events.invariant.told holds told at place);
   ordered = c.events.invariant.ordered;
   unchanged = c.in_ok-found-in-Item.ensures.unchanged ∙ c.events.invariant.unchanged;
+  stays = c.in_ok-found-in-Item.ensures.stays ∙ c.events.invariant.stays;
   later = omega (arith, c.events.invariant.later, c.in_ok-found-in-Item.ensures.cause.later);
   fits = λ at place fits.
       fits_more c.args.published.now at c.args.above.now c.in-Item.item.name c.events.found c.in_ok-found-in-Item.found place c.in_ok-found-in-Item.ensures.taken.1 c.in_ok-found-in-Item.ensures.taken.0
@@ -50,6 +52,7 @@ events-preserved g t c =
           (c.events.invariant.told holds told at place);
       ordered = c.events.invariant.ordered;
       unchanged = c.in_ok-found-in-Below.ensures.unchanged ∙ c.events.invariant.unchanged;
+      stays = c.in_ok-found-in-Below.ensures.stays ∙ c.events.invariant.stays;
       later = omega (arith, c.events.invariant.later, c.in_ok-found-in-Below.ensures.cause.later);
       fits = λ at place fits. c.in_ok-found-in-Below.ensures.fits at (place_below c.args.published.now at c.args.above.now _ _ c.in-Below.name place next deeper) (c.events.invariant.fits at place fits);
     }

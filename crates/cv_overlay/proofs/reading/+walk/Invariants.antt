@@ -20,6 +20,7 @@ invariant-events g l = record {
       → run holds at (visits_of (visits_deep l.left holds at) at l.above l.events.items) l.found ≡ run holds at (visits_deep (l.left + 1) holds at l.above) l.fn.found);
   ordered : WhereTold (g.F.Folder.folder l.fn.folder) IsOrdered;
   unchanged : g.F.Folder.folder l.folder ≡ g.F.Folder.folder l.fn.folder;
+  stays : g.F.Folder.named l.folder ≡ g.F.Folder.named l.fn.folder;
   later : g.F.Folder.faults l.fn.folder ≤ g.F.Folder.faults l.folder;
   fits : (at : Path) → l.published ≡ at ++ l.above → FitsUnder at l.fn.found.nodes → FitsUnder at l.found.nodes;
 }

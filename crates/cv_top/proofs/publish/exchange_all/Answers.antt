@@ -3,8 +3,8 @@ use Rattle.std.specs.Prelude.{Err}
 use Rattle.cv_base.specs.Counts.{Rose}
 use Rattle.cv_client.specs.declared.exchanging.ExchangeFault.{ExchangeFault}
 use Rattle.cv_client.specs.declared.exchanging.ExchangeFault.TheVariants.{LinkFailed}
-use Rattle.cv_top.specs.Publishes.{begins, no_memory}
-use Rattle.cv_top.proofs.Publishing.{goes_on, ends, breaks}
+use Rattle.cv_top.specs.Publishes.{begins}
+use Rattle.cv_top.proofs.Publishing.{goes_on, ends, breaks, no_memory}
 use Rattle.cv_top.proofs.publish.exchange_all.Goals as goal
 
 pub exchanges-init : goal.exchanges-init

@@ -3,7 +3,7 @@ use Rattle.cv_top.specs.Sealed.{empty, unbegun, begun}
 use Rattle.cv_top.proofs.publish.publish_sealed.Goals as goal
 
 pub returns-in-Ok-clause-does : goal.returns-in-Ok-clause-does
-returns-in-Ok-clause-does g c = begun c.publish.result c.in-Ok.ensures.signer.1 (rw c.in-Ok.ensures.signer.0 at c.publish.ensures.publishes)
+returns-in-Ok-clause-does g c = begun c.publish.result c.in-Ok.ensures.signer.1 (rw (c.in-Ok.ensures.signer.0, c.as_str.ensures) at c.publish.ensures.publishes)
 
 pub returns-in-Err-Empty-clause-does : goal.returns-in-Err-Empty-clause-does
 returns-in-Err-Empty-clause-does g c = empty (c.read_seal.ensures.empty (c.in-Err-Empty.is ∙ ap (λ fault. Err fault) c.in-Err-Empty.field-0-is)) (refl, refl, refl, refl)
