@@ -1,28 +1,27 @@
 #!/usr/bin/env python3
 """What calls of a vault cost: over a folder the fsyncs of files and of folders, by strace, and in memory the time of many names.
 
-    bench/vault.py [--short] [FOLDER]
+    bench/vault.py [--short]
 
-The program of `tools/vault_calls.py` stores batches of objects, replaces a manifest and makes the first sync over many files,
+The program of crates/cv_calls stores batches of objects, replaces a manifest and makes the first sync over many files,
 each over a folder of its own and all in one run. By `strace -f -y` each of its fsyncs shows what it is of. The counts are
 compared with those below. The full form has batches of 1,000 objects and a sync over 50,000 files too, and prints the time of
 that one; the short form has batches of 1 and 10, and a sync over 10 files.
 
 The program also writes 500,000 names into a vault in memory and syncs, lists ten of them by a prefix, and changes one and
 syncs. The seconds of each are printed, and all together may take a minute. The short form has 1,000 names and prints no time.
-FOLDER is a copy of the repository in which to build.
 """
 import os
 import re
 import shutil
+import subprocess
 import sys
 import tempfile
 import time
 
 sys.dont_write_bytecode = True
 sys.path.insert(0, os.path.join(os.path.dirname(os.path.dirname(os.path.abspath(__file__))), "tools"))
-from program import program, words
-from vault_calls import LIBRARIES, PROGRAM
+from vault_calls import path
 
 MANIFEST = "write=txn/manifest>{} sync rename=txn/manifest>.cvmfspublished sync"
 FSYNC = re.compile(r"\bf(?:data)?sync\(\d+<([^>]*)>")
@@ -70,7 +69,12 @@ def rows(short):
     return found + [("a first sync over 50,000 files in 256 folders", files(50_000), "", "sync", (0, 260))]
 
 
-def traced(made, runs, names, top):
+def answers(words, tracer=()):
+    """What the program of calls prints on these words, run by a tracer if one is given."""
+    return subprocess.run([*tracer, path(), *words], stdin=subprocess.DEVNULL, stdout=subprocess.PIPE, check=True, text=True).stdout
+
+
+def traced(runs, names, top):
     """The fsyncs of files and of folders of each run, a way to make a folder with calls over it; and the seconds of the names."""
     arguments = []
     for number, (prepare, calls) in enumerate(runs):
@@ -81,7 +85,7 @@ def traced(made, runs, names, top):
         arguments += [f"at={root}" if arguments else root] + calls.split()
     log = os.path.join(top, "strace.log")
     arguments.append(f"memory={names}")
-    told = made.output(arguments=arguments, tracer=["strace", "-f", "-y", "-o", log, "-e", "trace=fsync,fdatasync"]).decode().split()
+    told = answers(arguments, ["strace", "-f", "-y", "-o", log, "-e", "trace=fsync,fdatasync"]).split()
     if set(told[:-3]) - {"ok", "yes"} or [word.isdigit() for word in told[-3:]] != [True] * 3:
         sys.exit(f"a call failed: {told}")
     counts = [[0, 0] for _ in runs]
@@ -93,35 +97,37 @@ def traced(made, runs, names, top):
     return counts, [int(word) / 1e9 for word in told[-3:]]
 
 
-def measured(made, all_rows, names, top):
+def measured(all_rows, names, top):
     """The fsyncs of the calls of each row that are counted, and the seconds of so many names in memory."""
     runs = []
     for _, prepare, before, calls, _ in all_rows:
         runs += [(prepare, f"{before} {calls}"), (prepare, before)]
-    counts, seconds = traced(made, runs, names, top)
+    counts, seconds = traced(runs, names, top)
     return [(both[0] - first[0], both[1] - first[1]) for both, first in zip(counts[::2], counts[1::2])], seconds
 
 
-def timed(made, top):
+def timed(top):
     """The seconds of a start and a first sync over 50,000 files."""
     folder = os.path.join(top, "timed")
     os.mkdir(folder)
     files(50_000)(folder)
     begin = time.perf_counter()
-    made.output(arguments=[os.path.join(folder, "srv"), "sync"])
+    answers([os.path.join(folder, "srv"), "sync"])
     return time.perf_counter() - begin
 
 
 def main():
-    short, folder = words()
+    if sys.argv[1:] not in ([], ["--short"]):
+        sys.exit("usage: vault.py [--short]")
+    short = "--short" in sys.argv[1:]
     if shutil.which("strace") is None:
         print("skipped: the fsyncs of the vault: there is no strace on this machine")
         return
     all_rows, wrong = rows(short), 0
     # The time is that of the disk on which this is run.
     place = None if short else os.getcwd()
-    with program("vault_calls", LIBRARIES, PROGRAM, short, folder) as made, tempfile.TemporaryDirectory(dir=place) as top:
-        counts, seconds = measured(made, all_rows, 1_000 if short else 500_000, top)
+    with tempfile.TemporaryDirectory(dir=place) as top:
+        counts, seconds = measured(all_rows, 1_000 if short else 500_000, top)
         print("| What | fsyncs of files | of folders |\n|---|---|---|")
         for (what, _, _, _, wanted), found in zip(all_rows, counts):
             so = found == wanted
@@ -132,7 +138,7 @@ def main():
             wrong += sum(seconds) > 60
             print(f"500,000 names written into a vault in memory, and a sync: {writes:.2f} s; ten of them listed by a prefix:")
             print(f"{lists * 1e6:.0f} us; one changed, and a sync: {change * 1e6:.0f} us")
-            print(f"a start and a first sync over 50,000 files: {timed(made, top):.2f} s")
+            print(f"a start and a first sync over 50,000 files: {timed(top):.2f} s")
     sys.exit(wrong != 0)
 
 

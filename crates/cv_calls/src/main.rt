@@ -1,0 +1,296 @@
+//! Calls of the vault and of a folder of changes, by words. Scripts try them by it on odd folders, and count what they cost.
+//!
+//! The first word is the root of a vault. Each word behind it is a call, and prints one line with its answer.
+//!
+//! ```text
+//! read=NAME  length=NAME  list=PREFIX  write=NAME>TEXT  rename=FROM>TO  remove=NAME  sync
+//! store=COUNT>SIZE      writes COUNT objects of SIZE bytes under txn/, syncs, renames each to its name below data/, syncs
+//! wait                  reads a byte of standard input
+//! at=ROOT               goes on over ROOT
+//! also=ROOT             opens a second vault, over ROOT, and reads `file` there
+//! items=FOLDER>PATH     lists a directory of a folder of changes: each name with `/`, `=`, `>` or `!` for what it is
+//! content=FOLDER>PATH   reads a file of a folder of changes, and prints how many bytes it gives
+//! memory=COUNT          writes COUNT names into a vault in memory and syncs, lists ten, changes one and syncs, and prints
+//!                       the nanoseconds of the three
+//! ```
+#![tactic(auto)]
+
+use cv_base::{Bytes, Items, RepoPath};
+use cv_ports::{Folder, FolderItem, FoundKind};
+use cv_real::{FolderVault, SystemFolder, program_words};
+use cv_vault::{MemoryVault, Vault, VaultFault};
+use std::io;
+use std::io::Read;
+use std::process::ExitCode;
+use std::time::Instant;
+
+type Vaulted = FolderVault<HostRuntime>;
+
+/// What a call answers.
+#[derive(Clone, Copy)]
+enum Answer {
+    Done,
+    Yes,
+    No,
+    Failed,
+    NoMemory,
+    NoCall,
+}
+
+fn fault_answer(fault: VaultFault) -> Answer {
+    match fault {
+        VaultFault::Failed => Answer::Failed,
+        VaultFault::NoMemory => Answer::NoMemory,
+    }
+}
+
+fn done_answer(answer: Result<(), VaultFault>) -> Answer {
+    match answer {
+        Ok(()) => Answer::Done,
+        Err(fault) => fault_answer(fault),
+    }
+}
+
+fn there_answer(answer: Result<bool, VaultFault>) -> Answer {
+    match answer {
+        Ok(true) => Answer::Yes,
+        Ok(false) => Answer::No,
+        Err(fault) => fault_answer(fault),
+    }
+}
+
+fn word_of(answer: Answer) -> &'static str {
+    match answer {
+        Answer::Done => "ok",
+        Answer::Yes => "yes",
+        Answer::No => "no",
+        Answer::Failed => "failed",
+        Answer::NoMemory => "no memory",
+        Answer::NoCall => "no such call",
+    }
+}
+
+fn write_all(rt: &HostRuntime, vault: &mut Vaulted, count: u32, size: usize) -> io::Result<bool> {
+    let bytes = vec![in rt.alloc(); 120u8; size]?;
+    for number in 0..count {
+        let way = format!(in rt.alloc(); "txn/{number:038x}")?;
+        if vault.write(way.as_str(), bytes.as_slice()).is_err() {
+            return Ok(false);
+        }
+    }
+    Ok(vault.sync().is_ok())
+}
+
+fn move_all(rt: &HostRuntime, vault: &mut Vaulted, count: u32) -> io::Result<bool> {
+    for number in 0..count {
+        let way = format!(in rt.alloc(); "txn/{number:038x}")?;
+        let bucket = number % 256;
+        let name = format!(in rt.alloc(); "data/{bucket:02x}/{number:038x}")?;
+        if way.as_str() == name.as_str() || vault.rename(way.as_str(), name.as_str()).is_err() {
+            return Ok(false);
+        }
+    }
+    Ok(vault.sync().is_ok())
+}
+
+/// Writes so many names into a vault in memory, ten in each folder, and syncs.
+fn write_names(rt: &HostRuntime, vault: &mut MemoryVault, count: u32) -> Option<()> {
+    for number in 0..count {
+        let folder = number / 10;
+        let name = format!(in rt.alloc(); "data/{folder:05}/{number:06}").ok()?;
+        vault.write(name.as_str(), b"content").ok()?;
+    }
+    vault.sync().ok()
+}
+
+/// Whether ten names are in a folder.
+fn lists_ten(vault: &mut MemoryVault) -> Option<()> {
+    (vault.list("data/00050/").ok()?.len() == 10).then_some(())
+}
+
+/// Gives one name another content, and syncs.
+fn change_one(vault: &mut MemoryVault) -> Option<()> {
+    vault.write("data/00050/000500", b"another").ok()?;
+    vault.sync().ok()
+}
+
+/// The nanoseconds from one moment to another.
+fn nanoseconds(from: Instant, to: Instant) -> u128 {
+    to.duration_since(from).as_nanos()
+}
+
+/// The nanoseconds of writing so many names, of listing ten, and of changing one.
+fn times(rt: &HostRuntime, count: u32) -> Option<(u128, u128, u128)> {
+    let mut vault = MemoryVault::new(rt.alloc(), Vec::new(rt.alloc())).ok()?;
+    let begin = Instant::now(rt).ok()?;
+    write_names(rt, &mut vault, count)?;
+    let written = Instant::now(rt).ok()?;
+    lists_ten(&mut vault)?;
+    let listed = Instant::now(rt).ok()?;
+    change_one(&mut vault)?;
+    let changed = Instant::now(rt).ok()?;
+    Some((
+        nanoseconds(begin, written),
+        nanoseconds(written, listed),
+        nanoseconds(listed, changed),
+    ))
+}
+
+fn print_times(rt: &HostRuntime, count: &str) -> io::Result<()> {
+    match times(rt, count.parse::<u32>().unwrap_or(0)) {
+        Some((writes, lists, change)) => println!(rt; "{writes} {lists} {change}"),
+        None => println!(rt; "failed"),
+    }
+}
+
+fn print_names(rt: &HostRuntime, vault: &mut Vaulted, prefix: &str) -> io::Result<()> {
+    match vault.list(prefix) {
+        Ok(names) => {
+            print!(rt; "names")?;
+            for name in names.iter().take(20) {
+                let name = name.as_str();
+                print!(rt; " {name}")?;
+            }
+            println!(rt; "")
+        }
+        Err(fault) => {
+            let word = word_of(fault_answer(fault));
+            println!(rt; "{word}")
+        }
+    }
+}
+
+/// The items of a directory of a folder of changes.
+fn items_at(rt: &HostRuntime, root: &str, path: &str) -> Option<Items<FolderItem>> {
+    let mut folder = SystemFolder::new(*rt);
+    folder.root(rt.alloc(), root).ok()?;
+    folder
+        .list(rt.alloc(), &RepoPath::read(rt.alloc(), path).ok()?)
+        .ok()
+}
+
+/// The content of a file of a folder of changes.
+fn content_at(rt: &HostRuntime, root: &str, path: &str) -> Option<Bytes> {
+    let mut folder = SystemFolder::new(*rt);
+    folder.root(rt.alloc(), root).ok()?;
+    folder
+        .read(rt.alloc(), &RepoPath::read(rt.alloc(), path).ok()?)
+        .ok()
+}
+
+fn mark_of(kind: &FoundKind) -> &'static str {
+    match kind {
+        FoundKind::Dir => "/",
+        FoundKind::File => "=",
+        FoundKind::Link(_) => ">",
+        FoundKind::Special => "!",
+    }
+}
+
+fn print_items(rt: &HostRuntime, root: &str, path: &str) -> io::Result<()> {
+    let Some(items) = items_at(rt, root, path) else {
+        return println!(rt; "failed");
+    };
+    print!(rt; "items")?;
+    for item in items.as_slice() {
+        let name = item.name.as_str();
+        let mark = mark_of(&item.kind);
+        print!(rt; " {name}{mark}")?;
+    }
+    println!(rt; "")
+}
+
+fn print_content(rt: &HostRuntime, root: &str, path: &str) -> io::Result<()> {
+    match content_at(rt, root, path) {
+        Some(bytes) => {
+            let length = bytes.as_slice().len();
+            println!(rt; "{length}")
+        }
+        None => println!(rt; "failed"),
+    }
+}
+
+fn answer_of(
+    rt: &HostRuntime,
+    vault: &mut Vaulted,
+    call: &str,
+    name: &str,
+    other: &str,
+) -> io::Result<Answer> {
+    match call {
+        "read" => Ok(there_answer(vault.read(name).map(|file| file.is_some()))),
+        "length" => Ok(there_answer(vault.length(name).map(|length| length.is_some()))),
+        "write" => Ok(done_answer(vault.write(name, other.as_bytes()))),
+        "rename" if name != other => Ok(there_answer(vault.rename(name, other))),
+        "remove" => Ok(there_answer(vault.remove(name))),
+        "sync" => Ok(done_answer(vault.sync())),
+        "store" => {
+            let count = name.parse::<u32>().unwrap_or(0);
+            let size = other.parse::<usize>().unwrap_or(1_000);
+            if write_all(rt, vault, count, size)? && move_all(rt, vault, count)? {
+                Ok(Answer::Done)
+            } else {
+                Ok(Answer::Failed)
+            }
+        }
+        "wait" => {
+            let mut byte = [0u8; 1];
+            let _ = rt.stdin().read(&mut byte);
+            Ok(Answer::Done)
+        }
+        "also" => {
+            let mut second = FolderVault::new(*rt, name)?;
+            Ok(there_answer(second.read("file").map(|file| file.is_some())))
+        }
+        _ => Ok(Answer::NoCall),
+    }
+}
+
+fn make_call(
+    rt: &HostRuntime,
+    vault: &mut Vaulted,
+    call: &str,
+    name: &str,
+    other: &str,
+) -> io::Result<()> {
+    if call == "list" {
+        return print_names(rt, vault, name);
+    }
+    if call == "items" {
+        return print_items(rt, name, other);
+    }
+    if call == "content" {
+        return print_content(rt, name, other);
+    }
+    if call == "memory" {
+        return print_times(rt, name);
+    }
+    let word = word_of(answer_of(rt, vault, call, name, other)?);
+    println!(rt; "{word}")
+}
+
+fn make_calls(rt: &HostRuntime, words: &Vec<String>) -> io::Result<()> {
+    let root = words.first().map_or("srv", |word| word.as_str());
+    let mut vault = FolderVault::new(*rt, root)?;
+    for word in words.iter().skip(1) {
+        let word = word.as_str();
+        let (call, names) = word.split_once('=').unwrap_or((word, ""));
+        let (name, other) = names.split_once('>').unwrap_or((names, ""));
+        if call == "at" {
+            vault = FolderVault::new(*rt, name)?;
+        } else {
+            make_call(rt, &mut vault, call, name, other)?;
+        }
+    }
+    Ok(())
+}
+
+fn main(rt: HostRuntime) -> ExitCode {
+    match program_words(&rt) {
+        Ok(Some(words)) => match make_calls(&rt, &words) {
+            Ok(()) => ExitCode::from(0),
+            Err(_) => ExitCode::from(1),
+        },
+        _ => ExitCode::from(2),
+    }
+}
