@@ -144,4 +144,4 @@ def part_item():
 
 
 if __name__ == "__main__":
-    settle("crates/cv_cut/src/tests.rt", [item(), part_item()])
+    settle("crates/cv_cut_tests/src/tests.rt", [item(), part_item()])

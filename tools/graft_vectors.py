@@ -62,4 +62,4 @@ def items():
 
 
 if __name__ == "__main__":
-    settle("crates/cv_graft/src/tests.rt", list(items()))
+    settle("crates/cv_graft_tests/src/tests.rt", list(items()))

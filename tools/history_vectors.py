@@ -140,7 +140,7 @@ for whole in (first, second):
     assert wrong(whole + bytes(1)) == len(whole)
 
 settle(
-    "crates/cv_history/src/tests.rt",
+    "crates/cv_history_tests/src/tests.rt",
     [
         function("first", first),
         function("second", second),

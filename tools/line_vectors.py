@@ -92,7 +92,7 @@ second = record(2, sha1(first), sha1(trees[1]), (1, 1), b"", b"k1")
 assert len(first) == 102 and len(manifest(1, trees[0], first)) == 222
 if __name__ == "__main__":
     settle(
-        "crates/cv_swap/src/tests.rt",
+        "crates/cv_swap_tests/src/tests.rt",
         [
             files("FIRST", 1, trees[0], first),
             files("SECOND", 2, trees[1], second),
@@ -101,7 +101,7 @@ if __name__ == "__main__":
         ],
     )
     settle(
-        "crates/cv_swap/src/opening_tests.rt",
+        "crates/cv_swap_tests/src/opening_tests.rt",
         [
             constant("AHEAD", "&[u8]", literal(manifest(3, trees[1], second))),
             constant("FIRST_RECORD", "&str", f'"{name(first, "H")}"'),

@@ -70,4 +70,4 @@ def items():
     yield f"damaged({text(digest.hex() + 'C')}, {text(sha1(itself))})"
 
 
-settle("crates/cv_load/src/tests.rt", list(items()))
+settle("crates/cv_load_tests/src/tests.rt", list(items()))

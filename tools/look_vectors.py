@@ -64,7 +64,7 @@ LOOKS = [
 if __name__ == "__main__":
     assert WITH_FILE == catalogues({"": ("dir", b""), "/a": ("file", HELLO)})[""]
     settle(
-        "crates/cv_top/src/look_tests.rt",
+        "crates/cv_top_tests/src/look_tests.rt",
         [
             constant("URL", "&str", f'"http://h/cvmfs/{REPOSITORY}"'),
             *(constant(word, "&[u8]", literal(reply)) for word, reply in REPLIES.items()),

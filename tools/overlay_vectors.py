@@ -212,7 +212,7 @@ def main():
         if line not in rows:
             rows.append(line)
     settle(
-        "crates/cv_overlay/src/tests/rows.rt",
+        "crates/cv_overlay_tests/src/tests/rows.rt",
         [table("RULES", "&str", rules, "static"), table("GENERATED", "&str", rows, "static")],
     )
 

@@ -156,7 +156,7 @@ for data in [b"V2\nS0\nN0\n--", b"V2\nS1\nN1\n--\nC " + A + b" 1\n", b""]:
     assert fault(data) is None
 
 settle(
-    "crates/cv_pack/src/tests.rt",
+    "crates/cv_pack_tests/src/tests.rt",
     [
         constant("HEADER", "&[u8]", literal(header)),
         constant("HEADER_DIGEST", "[u8; 20]", numbers(hashlib.sha1(header).digest())),

@@ -153,6 +153,6 @@ PUBLISHED = [
 
 if __name__ == "__main__":
     settle(
-        "crates/cv_top/src/publish_tests.rt",
+        "crates/cv_top_tests/src/publish_tests.rt",
         [table("PUBLISHED", "Row", PUBLISHED, "static")],
     )

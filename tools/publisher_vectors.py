@@ -71,7 +71,7 @@ def main():
     rows = lambda lines: [text(one) for one in lines]
     nested = catalogues(NESTED)
     settle(
-        "crates/cv_publisher/src/tests.rt",
+        "crates/cv_publisher_tests/src/tests.rt",
         [
             constant("CATALOGUE", "&[u8]", literal(catalogues(EMPTY)[""])),
             constant("MANIFEST", "&[u8]", literal(manifest(catalogues(EMPTY)[""]))),

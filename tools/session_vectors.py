@@ -420,9 +420,9 @@ def row_of_bytes(exchanges):
 FILES = [(name(CATALOGUE, "C"), CATALOGUE), (RECORD_NAME, RECORD), (EPOCH, b"0\n"), (HEAD, MANIFEST)]
 ROWS = [row(seconds, exchanges) for seconds, exchanges in SESSIONS]
 if __name__ == "__main__":
-    settle("crates/cv_top/src/test_runs.rt", [table("FILES", "(&str, &[u8])", [row_of_file(*file) for file in FILES], "static")])
+    settle("crates/cv_top_tests/src/test_runs.rt", [table("FILES", "(&str, &[u8])", [row_of_file(*file) for file in FILES], "static")])
     settle(
-        "crates/cv_top/src/tests.rt",
+        "crates/cv_top_tests/src/tests.rt",
         [
             constant("OBJECT", "&str", f'"{name(HELLO)}"'),
             constant("CATALOGUE", "&str", f'"{name(CATALOGUE, "C")}"'),
@@ -435,7 +435,7 @@ if __name__ == "__main__":
         ],
     )
     settle(
-        "crates/cv_top/src/store_tests.rt",
+        "crates/cv_top_tests/src/store_tests.rt",
         [
             table("BELOW_FILES", "(&str, &[u8])", [row_of_file(*file) for file in BELOW_FILES], "static"),
             constant("BELOW", "(&str, &str)", "(" + ", ".join(text("".join(part)) for part in zip(*BELOW)) + ")"),
@@ -449,7 +449,14 @@ if __name__ == "__main__":
         ],
     )
     settle(
-        "crates/cv_top/src/commit_tests.rt",
+        "crates/cv_top_tests/src/opening_tests.rt",
+        [
+            constant("STORED_FIRST", "(&[u8], &[u8])", row_of_bytes([LEASED, STORED])),
+            constant("REFUSED_LATER", "&[u8]", joined([granted("2-1").encode(), refused("invalid_token").encode()])),
+        ],
+    )
+    settle(
+        "crates/cv_top_tests/src/commit_tests.rt",
         [
             table("OFFERED", "(&str, &[u8])", [row_of_file(name(HELLO), HELLO), row_of_file(name(WITH_FILE, "C"), WITH_FILE)], "static"),
             constant("PUBLISHED", "(&[u8], &[u8])", row_of_bytes(PUBLISHED)),
@@ -464,6 +471,6 @@ if __name__ == "__main__":
         ],
     )
     settle(
-        "crates/cv_top/src/story_tests.rt",
+        "crates/cv_top_tests/src/story_tests.rt",
         [table("STORIES", "(&str, &[u8], &[u8], usize)", [one.row() for one in stories()], "static")],
     )

@@ -62,7 +62,7 @@ ENDS = [
 ]
 
 if __name__ == "__main__":
-    settle("crates/cv_top/src/shell_tests.rt", [
+    settle("crates/cv_top_tests/src/shell_tests.rt", [
         constant("PINNED", "&[u8]", literal(reply(FIRST))),
         table("REPLIES", "&[u8]", ["PINNED"] + [literal(reply(of[1])) for _, of, _ in STORY if of], "static"),
         constant("REQUESTS", "&[u8]", literal(asked(HEAD) + b"".join(asked(of[0]) for _, of, _ in STORY if of))),

@@ -66,7 +66,7 @@ STORY = [
 ]
 
 if __name__ == "__main__":
-    settle("crates/cv_shell/src/tests.rt", [
+    settle("crates/cv_shell_tests/src/tests.rt", [
         constant("ROOT", "[u8; 20]", numbers(bytes.fromhex(ROOT.decode()), "0x%02x")),
         table("REPLIES", "&[u8]", [literal(given) for _, given, _ in STORY if given is not None], "static"),
         constant("INPUT", "&[u8]", literal(b"\n".join(line for line, _, _ in STORY))),

@@ -135,7 +135,7 @@ def main():
         line = row(entries, [question(entries) for _ in range(8)])
         if line not in rows:
             rows.append(line)
-    settle("crates/cv_resolver/src/tests/rows.rt", [table("BY_HAND", "&str", by_hand, "static"), table("GENERATED", "&str", rows, "static")])
+    settle("crates/cv_resolver_tests/src/tests/rows.rt", [table("BY_HAND", "&str", by_hand, "static"), table("GENERATED", "&str", rows, "static")])
 
 
 main()

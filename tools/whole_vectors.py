@@ -225,4 +225,4 @@ def items():
 
 
 if __name__ == "__main__":
-    settle("crates/cv_load/src/tests_whole.rt", list(items()))
+    settle("crates/cv_load_tests/src/tests_whole.rt", list(items()))

@@ -14,10 +14,6 @@ mod outcome;
 mod publishing;
 mod sent;
 mod taken;
-#[cfg(test)]
-mod test_gates;
-#[cfg(test)]
-mod tests;
 mod waiting;
 
 pub use begun::Begun;

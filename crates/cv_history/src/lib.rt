@@ -8,8 +8,6 @@ mod history;
 pub mod laws;
 mod record;
 mod record_fault;
-#[cfg(test)]
-mod tests;
 mod texts;
 
 pub use chain_fault::ChainFault;

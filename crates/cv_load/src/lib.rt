@@ -7,10 +7,6 @@ mod known_set;
 pub mod laws;
 mod loading;
 mod placing;
-#[cfg(test)]
-mod tests;
-#[cfg(test)]
-mod tests_whole;
 
 pub use checking::whole;
 pub use known_set::KnownSet;

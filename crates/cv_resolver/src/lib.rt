@@ -25,6 +25,3 @@ pub use found::{ClientFault, Found, RenewFault};
 pub use question::Question;
 pub use resolver::Resolver;
 pub use stat_line::StatLine;
-
-#[cfg(test)]
-mod tests;

@@ -1,0 +1,11 @@
+//! The tests of cv_real, over what it offers.
+#![tactic(auto)]
+
+#[cfg(test)]
+mod dial_tests;
+#[cfg(test)]
+mod folder_tests;
+#[cfg(test)]
+mod small_tests;
+#[cfg(test)]
+mod tests;

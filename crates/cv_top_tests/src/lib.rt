@@ -1,0 +1,21 @@
+//! The tests of cv_top, over what it offers.
+#![tactic(auto)]
+
+#[cfg(test)]
+mod commit_tests;
+#[cfg(test)]
+mod look_tests;
+#[cfg(test)]
+mod opening_tests;
+#[cfg(test)]
+mod publish_tests;
+#[cfg(test)]
+mod shell_tests;
+#[cfg(test)]
+mod store_tests;
+#[cfg(test)]
+mod story_tests;
+#[cfg(test)]
+mod test_runs;
+#[cfg(test)]
+mod tests;
