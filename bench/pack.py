@@ -33,7 +33,7 @@ const PIECE: usize = 65_536;
 const PIECES: usize = 4096;
 
 /// How many objects the pack has that comes from the source.
-fn count_objects<S: Source + Drop>(alloc: Global, source: &mut S) -> Option<usize> {
+fn count_objects<S: Source<Beside = cv_ports::MemorySink> + Drop>(alloc: Global, source: &mut S) -> Option<usize> {
     let beside = cv_ports::MemorySink::new(alloc, 0, Vec::new(alloc)).ok()?;
     let mut buffer = vec![in alloc; 0u8; PIECE].ok()?;
     let mut reader = PackReader::new(alloc);

@@ -16,7 +16,7 @@ READ_ALL = """
 const PIECE: usize = 65_536;
 
 /// All bytes of a source, of at most 256 MiB.
-fn read_all<S: Source + Drop>(alloc: Global, source: &mut S) -> Option<Vec<u8>> {
+fn read_all<S: Source<Beside = cv_ports::MemorySink> + Drop>(alloc: Global, source: &mut S) -> Option<Vec<u8>> {
     let beside = cv_ports::MemorySink::new(alloc, 0, Vec::new(alloc)).ok()?;
     let mut buffer = vec![in alloc; 0u8; PIECE].ok()?;
     let mut bytes = Vec::new(alloc);
