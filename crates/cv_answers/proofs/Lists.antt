@@ -7,7 +7,7 @@ use Rattle.serde_json.specs.Data.{Data}
 use Rattle.serde_json.specs.Find.{as_array}
 use Rattle.serde_json.specs.View.{view, items_of}
 use Rattle.serde_json.specs.declared.value.Value.{Value}
-use Rattle.cv_json.proofs.Elements.{elements-items_of}
+use Rattle.cv_json.proofs.Laws.{elements-items_of}
 use Rattle.cv_messages.specs.Member.{IsSaid, and_then}
 use Rattle.cv_answers.specs.AnswerText.{each_of, array_member}
 use Rattle.cv_messages.specs.declared.message_fault.MessageFault.{MessageFault}

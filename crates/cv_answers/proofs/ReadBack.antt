@@ -1,7 +1,7 @@
 -- What is written of an answer says that answer.
 use Rattle.std.proofs.Common.{◌≡◌, ℕ, true, List, [], ◌∷◌, map, Some, Ok, refl, ap, ◌∙◌}
 use Rattle.serde_json.specs.Data.{Data, string}
-use Rattle.cv_json.proofs.Elements.{elements-items_of}
+use Rattle.cv_json.proofs.Laws.{elements-items_of}
 use Rattle.cv_base.specs.Digest.{IsDigest}
 use Rattle.cv_base.specs.declared.token.Token.{Token}
 use Rattle.cv_json.specs.ObjectText.{object_in}

@@ -1,8 +1,8 @@
-pub mod Zips
-pub mod Covering
-pub mod Coming
-pub mod Counting
-pub mod Ending
-pub mod Steps
-pub mod Gifts
+mod Zips
+mod Covering
+mod Coming
+mod Counting
+mod Ending
+mod Steps
+mod Gifts
 pub mod Lemmas

@@ -7,7 +7,7 @@ use Rattle.std.proofs.lemmas.List.Folds.{list_all_at}
 use Rattle.cv_base.specs.Marker.{marker}
 use Rattle.cv_base.specs.Path.{Path, covers, behind}
 use Rattle.cv_base.specs.PathOrder.{path_exact}
-use Rattle.cv_base.proofs.PathPrefixes.{behind-Some, behind-append}
+use Rattle.cv_base.proofs.Laws.{behind-Some, behind-append}
 use Rattle.cv_tree.specs.Tree.{Nodes, at, is_directory}
 use Rattle.cv_tree.specs.declared.node.Node.{Node}
 use Rattle.cv_tree.proofs.Laws.{get-at}

@@ -13,7 +13,7 @@ use Rattle.std.proofs.lemmas.List.Concat.{length-flat_map}
 use Rattle.cv_base.specs.Marker.{marker}
 use Rattle.cv_base.specs.Path.{Path, same_path, text_of}
 use Rattle.cv_base.specs.PathOrder.{path_total, same_path_is}
-use Rattle.cv_base.proofs.Bools.{first_true, second_true}
+use Rattle.cv_base.proofs.Laws.{first_true, second_true}
 use Rattle.cv_tree.specs.Tree.{Nodes, IsTree, at, is_directory}
 use Rattle.cv_tree.proofs.Laws.{get-at}
 use Rattle.cv_tree.specs.declared.node.Node.{Node}

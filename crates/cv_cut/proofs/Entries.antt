@@ -8,7 +8,7 @@ use Rattle.std.specs.Ordering.{is_eq, is_lt, eq_by_cmp}
 use Rattle.std.specs.Cmp.{IsTotalOrder, tied_itself, eq_by_cmp_equiv}
 use Rattle.std.specs.FinMap.{FinMap, IsAntisymmetric, find, get, entries, is_sorted, entries_sorted, get-entries}
 use Rattle.std.specs.FinMap.Entries.{below_all}
-use Rattle.cv_base.proofs.Bools.{first_true, second_true}
+use Rattle.cv_base.proofs.Laws.{first_true, second_true}
 use Rattle.cv_cut.proofs.Members.{none_there, first_there, later_there, first_or_later}
 use Rattle.cv_cut.proofs.Bools.{so, is_less}
 

@@ -8,7 +8,7 @@ use Rattle.cv_base.specs.Path.{Path, behind, covers, overlap}
 use Rattle.cv_base.specs.Marker.{marker}
 use Rattle.cv_base.specs.ObjectId.{object_id}
 use Rattle.cv_base.specs.declared.id.Kind.TheVariants.{Plain, Catalogue}
-use Rattle.cv_base.proofs.PathPrefixes.{behind-Some}
+use Rattle.cv_base.proofs.Laws.{behind-Some}
 use Rattle.cv_ports.specs.Shelf.{Shelf, HasMore}
 use Rattle.cv_tree.specs.Tree.{Nodes, is_directory, at, put}
 use Rattle.cv_tree.specs.Changes.{has_place}

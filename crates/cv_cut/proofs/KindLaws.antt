@@ -4,7 +4,7 @@ use Rattle.std.specs.Prelude.{IfOk, unwrap_or}
 use Rattle.std.specs.List.{All}
 use Rattle.std.proofs.lemmas.List.Elements.{All-map}
 use Rattle.cv_base.specs.Path.{Path, behind, covers}
-use Rattle.cv_base.proofs.PathPrefixes.{behind-Some, behind-append}
+use Rattle.cv_base.proofs.Laws.{behind-Some, behind-append}
 use Rattle.cv_base.specs.declared.attr.Attr.{Attr}
 use Rattle.cv_tree.specs.Tree.{Nodes, at}
 use Rattle.cv_tree.specs.declared.node.FileRef.{FileRef}

@@ -9,7 +9,7 @@ use Rattle.std.proofs.lemmas.List.{map-append}
 use Rattle.std.proofs.lemmas.List.Folds.{list_all-append, list_all-map}
 use Rattle.cv_base.specs.Marker.{marker, ends_in}
 use Rattle.cv_base.specs.Path.{Path, covers}
-use Rattle.cv_base.proofs.PathPrefixes.{behind-append}
+use Rattle.cv_base.proofs.Laws.{behind-append}
 use Rattle.cv_rows.proofs.Lemmas.{covers_below, covers_last, ends_so, not_above}
 use Rattle.cv_tree.specs.Tree.{Nodes, at, put, is_directory}
 use Rattle.cv_tree.proofs.Laws.{at_rest, get-at, get-put, kept-put, put-at}

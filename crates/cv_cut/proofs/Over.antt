@@ -4,7 +4,7 @@ use Rattle.std.specs.List.{filter}
 use Rattle.std.proofs.lemmas.List.{map-append}
 use Rattle.std.proofs.lemmas.List.Elements.{filter-append}
 use Rattle.cv_base.specs.Path.{Path}
-use Rattle.cv_base.proofs.Parts.{same_parts}
+use Rattle.cv_base.proofs.Laws.{same_parts}
 use Rattle.cv_tree.specs.Tree.{Nodes, at}
 use Rattle.cv_cut.specs.Cuts.{is_cut, is_marked}
 use Rattle.cv_cut.specs.Over.{beginnings, cuts_over, IsNearest}

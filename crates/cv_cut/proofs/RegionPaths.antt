@@ -11,8 +11,7 @@ use Rattle.std.specs.FinMap.{entries, is_sorted, entries_sorted}
 use Rattle.std.specs.FinMap.Entries.{below_all}
 use Rattle.cv_base.specs.Path.{Path, path_cmp, behind}
 use Rattle.cv_base.specs.PathOrder.{path_total}
-use Rattle.cv_base.proofs.PathPrefixes.{behind-Some}
-use Rattle.cv_base.proofs.Bools.{first_true, second_true}
+use Rattle.cv_base.proofs.Laws.{behind-Some, first_true, second_true}
 use Rattle.cv_tree.specs.Tree.{Nodes, at, cons_behind, entries_behind}
 use Rattle.cv_tree.specs.declared.node.Node.{Node}
 use Rattle.cv_tree.proofs.Laws.{entries-from_entries}

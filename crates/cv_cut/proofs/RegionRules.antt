@@ -8,8 +8,7 @@ use Rattle.std.proofs.lemmas.List.Folds.{Any-from_list_any, list_any-from_Any}
 use Rattle.std.proofs.lemmas.Slice.Eq.{bytes_eq-Decides}
 use Rattle.cv_base.specs.Marker.{marker}
 use Rattle.cv_base.specs.Path.{Path, IsPath, key_of, last_name_of}
-use Rattle.cv_base.proofs.Digests.{digest_sha1}
-use Rattle.cv_base.proofs.Bools.{first_true, second_true}
+use Rattle.cv_base.proofs.Laws.{digest_sha1, first_true, second_true}
 use Rattle.cv_tree.specs.Tree.{Nodes, is_directory, IsPart, IsTree, at}
 use Rattle.cv_tree.specs.declared.node.Node.{Node}
 use Rattle.cv_tree.proofs.Laws.{get-at, IsPart-at}

@@ -5,7 +5,7 @@ use Rattle.std.specs.List.{list_all}
 use Rattle.std.proofs.lemmas.Str.{IsUtf8-nil, is_utf8-from_IsUtf8}
 use Rattle.cv_base.specs.Path.{Path, key_of, is_path_name, parent_key_of, last_name_of}
 use Rattle.cv_base.specs.Target.{is_target}
-use Rattle.cv_base.proofs.Bools.{first_true, second_true}
+use Rattle.cv_base.proofs.Laws.{first_true, second_true}
 use Rattle.cv_tree.specs.Tree.{Nodes, is_directory}
 use Rattle.cv_tree.specs.declared.node.Node.{Node}
 use Rattle.cv_tree.specs.declared.node.Node.TheVariants as node

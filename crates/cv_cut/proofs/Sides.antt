@@ -17,7 +17,7 @@ use Rattle.std.proofs.lemmas.List.{length-map}
 use Rattle.std.proofs.lemmas.List.Elements.{All-from_recursion, filter_passes}
 use Rattle.cv_base.specs.Path.{Path, name_cmp, path_cmp, same_name, behind, covers}
 use Rattle.cv_base.specs.PathOrder.{path_total, name_exact, same_name_is, same_name_itself}
-use Rattle.cv_base.proofs.PathPrefixes.{behind-Some, behind-append}
+use Rattle.cv_base.proofs.Laws.{behind-Some, behind-append}
 use Rattle.cv_tree.specs.declared.node.Node.{Node}
 use Rattle.cv_cut.specs.Cut.{StandFrom}
 use Rattle.cv_cut.proofs.Members.{first_there, later_there}

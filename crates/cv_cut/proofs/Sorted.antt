@@ -14,7 +14,7 @@ use Rattle.std.proofs.lemmas.List.Sorted.{IsPermutation-refl, IsPermutation-sym,
 use Rattle.cv_rows.specs.Catalogue.{bytes_cmp}
 use Rattle.cv_rows.specs.Made.{AreApart}
 use Rattle.std.proofs.lemmas.Option.{slice_get-get_or}
-use Rattle.cv_base.proofs.Bools.{first_true, second_true}
+use Rattle.cv_base.proofs.Laws.{first_true, second_true}
 use Rattle.cv_cut.proofs.Members.{first_there, later_there, comes_from}
 use Rattle.cv_cut.proofs.Entries.{found_there}
 use Rattle.cv_cut.proofs.Bools.{so, is_less}

@@ -6,7 +6,7 @@ use Rattle.std.specs.FinMap.{get}
 use Rattle.std.proofs.lemmas.List.Sorted.{IsPermutation-sym, Contains-permutation}
 use Rattle.cv_base.specs.Marker.{marker}
 use Rattle.cv_base.specs.Path.{Path, text_of}
-use Rattle.cv_base.proofs.Bools.{first_true}
+use Rattle.cv_base.proofs.Laws.{first_true}
 use Rattle.cv_tree.specs.Tree.{Nodes, IsTree, at, is_directory}
 use Rattle.cv_tree.specs.declared.node.Node.{Node}
 use Rattle.cv_tree.specs.declared.node.Node.TheVariants as node

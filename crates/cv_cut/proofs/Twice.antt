@@ -9,7 +9,7 @@ use Rattle.std.specs.FinMap.{is_sorted}
 use Rattle.std.specs.FinMap.Entries.{below_all}
 use Rattle.std.proofs.lemmas.Bool.{cases_lt}
 use Rattle.std.proofs.lemmas.Option.{slice_get_within, get_or_from_slice_get}
-use Rattle.cv_base.proofs.Bools.{first_true, second_true}
+use Rattle.cv_base.proofs.Laws.{first_true, second_true}
 use Rattle.cv_rows.specs.Made.{AreApart}
 use Rattle.cv_cut.proofs.Entries.{below_each}
 

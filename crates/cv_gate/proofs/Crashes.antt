@@ -8,7 +8,7 @@ use Rattle.cv_base.specs.declared.id.ObjectId.{ObjectId}
 use Rattle.cv_base.specs.declared.object.Object.{Object}
 use Rattle.cv_base.specs.declared.token.Token.{Token}
 use Rattle.cv_ports.specs.Shelf.{Shelf, IsShelf, HasMore}
-use Rattle.cv_cut.proofs.Members.{none_there}
+use Rattle.cv_cut.proofs.Lemmas.{none_there}
 use Rattle.cv_objects.specs.Batches.{AreNamed, IsGained}
 use Rattle.cv_swap.specs.Kept.{AreSound, Kept, IsKept}
 use Rattle.cv_gate.specs.State.{State, aged, Settled, certain, unmade, published}

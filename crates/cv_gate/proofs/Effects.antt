@@ -15,8 +15,8 @@ use Rattle.cv_cut.specs.Above.{cuts_above}
 use Rattle.cv_cut.specs.Catalogues.{Fits}
 use Rattle.cv_cut.specs.Cut.{catalogue_object}
 use Rattle.cv_cut.specs.Means.{Means}
-use Rattle.cv_cut.proofs.Members.{none_there, first_or_later, comes_from}
-use Rattle.cv_history.proofs.TextValues.{bytes_eq_self}
+use Rattle.cv_cut.proofs.Lemmas.{none_there, first_or_later, comes_from}
+use Rattle.cv_history.proofs.Lemmas.{bytes_eq_self}
 use Rattle.cv_leases.specs.Leases.{lease_of, without}
 use Rattle.cv_leases.specs.declared.lease.Lease.{Lease}
 use Rattle.cv_leases.proofs.Laws.{lease_of_token}

@@ -7,8 +7,8 @@ use Rattle.cv_base.specs.declared.id.ObjectId.{ObjectId}
 use Rattle.cv_base.specs.declared.object.Object.{Object}
 use Rattle.cv_ports.specs.Shelf.{Shelf, IsShelf}
 use Rattle.cv_ports.specs.Objects.{same_kind, same_id, shelf_of}
-use Rattle.cv_cut.proofs.Members.{first_there, later_there, none_there, first_or_later}
-use Rattle.cv_history.proofs.TextValues.{bytes_eq_self}
+use Rattle.cv_cut.proofs.Lemmas.{first_there, later_there, none_there, first_or_later}
+use Rattle.cv_history.proofs.Lemmas.{bytes_eq_self}
 use Rattle.cv_swap.specs.Kept.{Revision, record_object, AreSound, IsKept}
 use Rattle.cv_cut.specs.Cut.{catalogue_object}
 use Rattle.cv_objects.specs.Batches.{AreNamed}

@@ -4,7 +4,7 @@ use Rattle.std.specs.declared.option.Option.{Option}
 use Rattle.std.specs.declared.option.Option.TheVariants.{None, Some}
 use Rattle.std.specs.Prelude.{IfSome, ⊤}
 use Rattle.std.specs.List.{cons_option, AllByRecursion, Contains}
-use Rattle.cv_cut.proofs.Members.{first_there, later_there}
+use Rattle.cv_cut.proofs.Lemmas.{first_there, later_there}
 use Rattle.cv_base.specs.declared.object.Object.{Object}
 use Rattle.cv_leases.specs.declared.lease.Lease.{Lease}
 use Rattle.cv_leases.proofs.Laws.{all_filter, all_push, found_all}

@@ -5,7 +5,7 @@ use Rattle.std.specs.declared.option.Option.TheVariants.{None, Some}
 use Rattle.std.specs.List.{last_or, Contains}
 use Rattle.cv_ports.specs.Shelf.{Shelf}
 use Rattle.cv_leases.proofs.Laws.{all_push}
-use Rattle.cv_cut.proofs.Members.{none_there, first_there, later_there, first_or_later}
+use Rattle.cv_cut.proofs.Lemmas.{none_there, first_there, later_there, first_or_later}
 use Rattle.cv_swap.specs.Kept.{Revision, newest, IsRevision, Follows, FollowEachOther, IsLine, TagsDiffer}
 
 -- ---- with a revision more

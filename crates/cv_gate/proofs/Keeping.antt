@@ -12,9 +12,8 @@ use Rattle.cv_base.specs.declared.token.Token.{Token}
 use Rattle.cv_ports.specs.Shelf.{Shelf}
 use Rattle.cv_tree.specs.Tree.{Nodes, at, put}
 use Rattle.cv_tree.specs.Changes.{has_place}
-use Rattle.cv_tree.proofs.Replacements.{at-put_apart}
-use Rattle.cv_tree.proofs.Grafts.{has_place-put_apart}
-use Rattle.cv_cut.proofs.Members.{none_there, first_or_later}
+use Rattle.cv_tree.proofs.Laws.{at-put_apart, has_place-put_apart}
+use Rattle.cv_cut.proofs.Lemmas.{none_there, first_or_later}
 use Rattle.cv_leases.specs.Leases.{without}
 use Rattle.cv_leases.specs.declared.lease.Lease.{Lease}
 use Rattle.cv_leases.proofs.Laws.{all_filter, all_push, found_all, apart}

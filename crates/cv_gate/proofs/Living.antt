@@ -10,7 +10,7 @@ use Rattle.std.proofs.lemmas.List.Kept.{AllPairs-cons}
 use Rattle.cv_base.specs.declared.token.Token.{Token}
 use Rattle.cv_ports.specs.Shelf.{Shelf}
 use Rattle.cv_tree.specs.Tree.{Nodes, at}
-use Rattle.cv_tree.proofs.Replacements.{kept-put}
+use Rattle.cv_tree.proofs.Laws.{kept-put}
 use Rattle.cv_leases.proofs.Laws.{all_push}
 use Rattle.cv_gate.specs.State.{State, aged}
 use Rattle.cv_swap.specs.Kept.{Revision, newest, FollowEachOther, IsLine, Kept, IsKept}

@@ -10,18 +10,16 @@ use Rattle.cv_base.specs.Path.{Path}
 use Rattle.cv_base.specs.Digest.{IsDigest}
 use Rattle.cv_base.specs.Target.{is_target, is_target_byte}
 use Rattle.cv_base.specs.declared.token.Token.{Token}
-use Rattle.cv_base.proofs.Bools.{first_true, second_true}
-use Rattle.cv_base.proofs.Digests.{digest_sha1}
+use Rattle.cv_base.proofs.Laws.{first_true, second_true, digest_sha1}
 use Rattle.cv_ports.specs.Shelf.{Shelf}
 use Rattle.cv_tree.specs.Tree.{Nodes, at, put}
 use Rattle.cv_tree.specs.Changes.{has_place}
 use Rattle.cv_cut.specs.Catalogues.{root_of, Fits}
 use Rattle.cv_cut.specs.Means.{Means}
-use Rattle.cv_cut.proofs.Members.{goes_to, first_there, later_there, none_there, first_or_later}
-use Rattle.cv_cut.proofs.Grafts.{Means-put, cut_covers}
+use Rattle.cv_cut.proofs.Lemmas.{goes_to, first_there, later_there, none_there, first_or_later, Means-put, cut_covers}
 use Rattle.std.proofs.lemmas.List.Sorted.{IsPermutation-reverse, Contains-permutation}
 use Rattle.cv_history.specs.Record.{is_tag_byte}
-use Rattle.cv_history.proofs.TextValues.{bytes_eq_self}
+use Rattle.cv_history.proofs.Lemmas.{bytes_eq_self}
 use Rattle.cv_leases.specs.declared.lease.Lease.{Lease}
 use Rattle.cv_swap.specs.Kept.{Revision, revision_limit, record_object, IsRevision, Follows}
 use Rattle.cv_cut.specs.Above.{cuts_above}

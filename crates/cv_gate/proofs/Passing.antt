@@ -7,7 +7,7 @@ use Rattle.cv_base.specs.declared.object.Object.{Object}
 use Rattle.cv_base.specs.declared.token.Token.{Token}
 use Rattle.cv_ports.specs.Shelf.{Shelf, HasMore}
 use Rattle.cv_cut.specs.Catalogues.{Fits}
-use Rattle.cv_cut.proofs.Grafts.{Means-more}
+use Rattle.cv_cut.proofs.Lemmas.{Means-more}
 use Rattle.cv_objects.specs.Coming.{HasAll, ClashesOn}
 use Rattle.cv_swap.specs.Kept.{Revision}
 use Rattle.cv_gate.specs.State.{State}

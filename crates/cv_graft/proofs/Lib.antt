@@ -1,13 +1,13 @@
-pub mod Parts
-pub mod Nexts
-pub mod Finding
-pub mod Rebuilds
-pub mod Grafts
-pub mod RowsAt
-pub mod Crossing
-pub mod PlacedParts
-pub mod PlacedMade
-pub mod PlacedAbove
-pub mod PlacedWhole
-pub mod PlacedMeans
-pub mod Holders
+mod Parts
+mod Nexts
+mod Finding
+mod Rebuilds
+mod Grafts
+mod RowsAt
+mod Crossing
+mod PlacedParts
+mod PlacedMade
+mod PlacedAbove
+mod PlacedWhole
+mod PlacedMeans
+mod Holders

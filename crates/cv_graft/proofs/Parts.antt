@@ -9,8 +9,7 @@ use Rattle.std.proofs.lemmas.List.Folds.{Any-from_list_any, list_any-from_Any}
 use Rattle.std.proofs.lemmas.Slice.Eq.{bytes_eq-Decides}
 use Rattle.cv_base.specs.Marker.{marker, ends_in}
 use Rattle.cv_base.specs.Path.{Path, covers, key_of, text_of}
-use Rattle.cv_base.proofs.Bools.{first_true, second_true}
-use Rattle.cv_base.proofs.PathGrammar.{text_of-injective}
+use Rattle.cv_base.proofs.Laws.{first_true, second_true, text_of-injective}
 use Rattle.cv_rows.specs.Row.{IsRow, same_kind}
 use Rattle.cv_rows.specs.Nested.{IsNested}
 use Rattle.cv_rows.specs.Places.{IsRoot, StandsAt, root, below, root_kind}

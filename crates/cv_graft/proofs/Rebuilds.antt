@@ -28,10 +28,9 @@ use Rattle.cv_cut.specs.Catalogues.{contents_of}
 use Rattle.cv_graft.specs.declared.made.Made.{Made}
 use Rattle.cv_graft.specs.declared.graft_fault.GraftFault.{GraftFault}
 use Rattle.cv_graft.specs.declared.graft_fault.GraftFault.TheVariants as fault
-use Rattle.cv_cut.proofs.Upper as upper
 use Rattle.cv_cut.specs.Region.{IsNear, StandsOnWay, Passes}
 use Rattle.cv_cut.specs.Replaced.{Grafting, IsPassed, Replacing}
-use Rattle.cv_cut.proofs.Lemmas.{cat_is, cut_some, region_apart, passes, row_key, stands_only, covers_append, longer_covers_not, marked-out, near-out, near-here, rest_behind, path-in, is_near-out, is_near-in, rows_are, at_cut, covers_p, holders, here, there, stays_at, goes_at, cut_after, keys_after, cat_after, full_after, not_full_after, above_cut, above_contents, fits_after, apart_after, holder_way, pass_way, made_here, made_deeper}
+use Rattle.cv_cut.proofs.Lemmas.{cat_is, cut_some, region_apart, passes, row_key, stands_only, covers_append, longer_covers_not, marked-out, near-out, near-here, rest_behind, path-in, is_near-out, is_near-in, rows_are, at_cut, covers_p, holders, here, there, stays_at, goes_at, cut_after, keys_after, cat_after, full_after, not_full_after, above_cut, above_contents, fits_after, apart_after, holder_way, pass_way, made_here, made_deeper, upper_at_cut, upper_unmarked_r}
 use Rattle.cv_rows.proofs.Lemmas.{stands_among}
 
 -- ---- the catalogue that directly holds the path
@@ -185,8 +184,8 @@ module _ (t n : Nodes) (p c r e f : Path) (a : IsPassed t p (at n p) c r e f) wh
   pub passes_after : made_from (put t p (at n p)) c r ≡ made_from (put t p (at n p)) (c ++ e) f ++ catalogue_object (put t p (at n p)) c ∷ []
   passes_after =
       let w = a.passes.way in
-      let same = upper.at_cut t p (at n p) c r e f a in
-      let unmarked = upper.unmarked_r t p (at n p) c r e f a in
+      let same = upper_at_cut t p (at n p) c r e f a in
+      let unmarked = upper_unmarked_r t p (at n p) c r e f a in
       let out : covers r e ≡ false = subst (λ (x : Path). covers x e ≡ false) (sym w.is) (longer_covers_not e f w.more) in
       let way : StandsOnWay (at (put t p (at n p)) c) r e f = record { is = w.is; some = w.some; more = w.more; marked = ap (λ (u : Nodes). is_marked u e) same ∙ marked-out (at t c) r (at n p) e unmarked out ∙ w.marked } in
       let near : is_near (at (put t p (at n p)) c) e ≡ true = ap (λ (u : Nodes). is_near u e) same ∙ near-out (at t c) r (at n p) e unmarked out ∙ a.passes.near in

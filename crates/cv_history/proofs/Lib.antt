@@ -1,11 +1,12 @@
-pub mod ChainLaws
-pub mod FieldFaults
-pub mod FieldOrder
-pub mod NoFaults
-pub mod Places
-pub mod RecordReading
-pub mod Spelling
-pub mod TextFaults
-pub mod TextValues
-pub mod WalksBack
-pub mod Written
+mod ChainLaws
+mod FieldFaults
+mod FieldOrder
+mod NoFaults
+mod Places
+mod RecordReading
+mod Spelling
+mod TextFaults
+mod TextValues
+mod WalksBack
+mod Written
+pub mod Lemmas

@@ -5,7 +5,7 @@ use Rattle.std.specs.Int.{w16, w64, to_be_bytes}
 use Rattle.std.proofs.lemmas.Bool.{eqb-true, eq-eqb}
 use Rattle.std.proofs.lemmas.List.{nil_from_length}
 use Rattle.cv_base.specs.Path.{Path, text_of}
-use Rattle.cv_base.proofs.PathGrammar.{text_of-injective}
+use Rattle.cv_base.proofs.Laws.{text_of-injective}
 use Rattle.cv_base.specs.declared.token.Token.{Token}
 use Rattle.cv_history.specs.declared.record.Record.{Record}
 use Rattle.cv_history.specs.Record.{IsFirst, IsRecord, IsTyped, Spells}

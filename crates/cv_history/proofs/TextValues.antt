@@ -7,7 +7,7 @@ use Rattle.std.proofs.lemmas.Str.{IsUtf8-from_is_utf8, is_utf8-from_IsUtf8, IsUt
 use Rattle.std.proofs.lemmas.Bool.{and_parts}
 use Rattle.std.proofs.lemmas.Slice.Eq.{bytes_eq-Decides}
 use Rattle.cv_base.specs.Path.{Path, IsPath, is_path_name, text_of}
-use Rattle.cv_base.proofs.PathGrammar.{path_of-Spells}
+use Rattle.cv_base.proofs.Laws.{path_of-Spells}
 use Rattle.cv_base.specs.PathText.{path_of}
 use Rattle.cv_history.specs.Faults.{is_path_text}
 

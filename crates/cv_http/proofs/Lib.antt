@@ -1,12 +1,12 @@
-pub mod Numbers
-pub mod OneMore
-pub mod Room
-pub mod Windows
-pub mod Streams
-pub mod Refusals
-pub mod OneReading
-pub mod OneReply
-pub mod Replying
-pub mod Behind
+mod Numbers
+mod OneMore
+mod Room
+mod Windows
+mod Streams
+mod Refusals
+mod OneReading
+mod OneReply
+mod Replying
+mod Behind
 pub mod Lemmas
 mod HeadEnds

@@ -6,7 +6,7 @@ use Rattle.std.proofs.lemmas.Bool.{cases_lt}
 use Rattle.std.proofs.Math.Seq.{take-append-add}
 use Rattle.std.proofs.Common.{◌+◌}
 use Rattle.cv_ports.specs.Streams.{Look, front, onto}
-use Rattle.cv_ports.proofs.Streams.{front_twice, onto_twice}
+use Rattle.cv_ports.proofs.Laws.{front_twice, onto_twice}
 use Rattle.cv_http.specs.Forms.{Form, HasNone, window, HasHeadAs, BeginsAs, NeverAs, UnfinishedAs, RefusedAs, AwaitedAs, never, large, judged}
 use Rattle.cv_http.specs.Wires.{WireView, Gets, Reads, Draws, LookedAt, Looks, Beside, HeadLost, HeadFound, HeadReadAs, BodyRead}
 use Rattle.cv_http.specs.Faults.{IsRefusal, IsHeadFault, IsPieceFault}

@@ -1,2 +1,3 @@
-pub mod Elements
+mod Elements
 mod Objects
+pub mod Laws

@@ -7,7 +7,7 @@ use Rattle.serde_json.specs.Data.{Data}
 use Rattle.serde_json.specs.Find.{get, as_array}
 use Rattle.serde_json.specs.View.{view, items_of}
 use Rattle.serde_json.specs.declared.value.Value.{Value}
-use Rattle.cv_json.proofs.Elements.{elements-items_of}
+use Rattle.cv_json.proofs.Laws.{elements-items_of}
 use Rattle.cv_keys.specs.KeysText.{IsSaid, new_key, keys_behind, array_keys, keys_in_object}
 use Rattle.cv_keys.specs.declared.key.Key.{Key}
 use Rattle.cv_keys.specs.declared.key_fault.KeyFault.{KeyFault}

@@ -1,3 +1,3 @@
 mod Elements
-pub mod Tables
-pub mod Headers
+mod Tables
+mod Headers

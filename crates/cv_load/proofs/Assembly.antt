@@ -23,7 +23,7 @@ use Rattle.cv_cut.specs.Reached.{Place, HasCatalogue, ReachesCatalogue, itself, 
 use Rattle.cv_cut.specs.Cuts.{is_file, is_marked}
 use Rattle.cv_base.specs.ObjectId.{object_id}
 use Rattle.cv_base.specs.declared.id.Kind.TheVariants as id_kind
-use Rattle.cv_base.proofs.Bools.{first_true, second_true}
+use Rattle.cv_base.proofs.Laws.{first_true, second_true}
 use Rattle.cv_load.specs.Growth.{HasRows, IsOfRows, IsFilled, filled}
 use Rattle.cv_cut.specs.Told.{node_of, node_as}
 use Rattle.cv_load.proofs.Growing.{place_of, some_there}

@@ -2,7 +2,7 @@
 use Rattle.std.proofs.Common.{◌≡◌, ◌≢◌, ℕ, ◌<◌, ◌≤◌, true, false, List, ◌∷◌, [], ◌++◌, length, get_or, is_some, refl, sym, ap, subst, arith, length-append, append-nil, inl, inr}
 use Rattle.std.proofs.lemmas.Bool.{or_cases}
 use Rattle.cv_base.specs.Path.{Path, covers, overlap}
-use Rattle.cv_base.proofs.PathPrefixes.{behind-append, overlap-from_covers}
+use Rattle.cv_base.proofs.Laws.{behind-append, overlap-from_covers}
 use Rattle.cv_rows.specs.Row.{holds_rows}
 use Rattle.cv_rows.specs.Catalogue.{Contents, IsCatalogue}
 use Rattle.cv_rows.specs.Places.{StandsAt, root, below}

@@ -25,7 +25,7 @@ use Rattle.cv_load.specs.Growth.{Grows, GrowsBy, IsOfRows, IsFilled, filled, Fil
 use Rattle.cv_cut.specs.Told.{node_of, node_as, hash_of}
 use Rattle.cv_load.proofs.Growing.{place_of, some_there, still_there, added_by_insert, inserted_there, grows_more, grows_added}
 use Rattle.cv_load.proofs.Filling.{filled_more, one_row}
-use Rattle.cv_base.proofs.Bools.{second_true}
+use Rattle.cv_base.proofs.Laws.{second_true}
 use Rattle.cv_base.specs.Target.{is_target}
 use Rattle.cv_load.proofs.Clearing.{directory_some}
 use Rattle.cv_load.proofs.Standing.{root_dir, Standing, so_root, so_below, stands_so, rules_of, same_contents, one_node, last_same, moved, named_by, not_empty, parent_standing}

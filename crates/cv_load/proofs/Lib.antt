@@ -1,25 +1,25 @@
-pub mod CutRows
-pub mod Kept
-pub mod OneTree
-pub mod Sizing
-pub mod Growing
-pub mod Filling
-pub mod Standing
-pub mod Below
-pub mod Assembly
-pub mod WholeRegions
-pub mod OwnRows
-pub mod OwnCatalogues
-pub mod Means
-pub mod LoadedTree
-pub mod Fetching
-pub mod CutFetches
-pub mod Clearing
-pub mod InTheWay
-pub mod GoodTree
-pub mod GoodLaws
-pub mod Checks
-pub mod NewFetching
-pub mod Listing
-pub mod Knowing
+mod CutRows
+mod Kept
+mod OneTree
+mod Sizing
+mod Growing
+mod Filling
+mod Standing
+mod Below
+mod Assembly
+mod WholeRegions
+mod OwnRows
+mod OwnCatalogues
+mod Means
+mod LoadedTree
+mod Fetching
+mod CutFetches
+mod Clearing
+mod InTheWay
+mod GoodTree
+mod GoodLaws
+mod Checks
+mod NewFetching
+mod Listing
+mod Knowing
 pub mod Lemmas

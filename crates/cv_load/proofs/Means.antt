@@ -35,7 +35,7 @@ use Rattle.cv_load.proofs.OwnRows.{same_rows}
 use Rattle.std.proofs.Common.{◌⊎◌}
 use Rattle.std.proofs.lemmas.List.{length-map}
 use Rattle.cv_base.specs.declared.attr.Attr.{Attr}
-use Rattle.cv_base.proofs.Bools.{first_true}
+use Rattle.cv_base.proofs.Laws.{first_true}
 use Rattle.cv_tree.specs.declared.node.FileRef.{FileRef}
 use Rattle.cv_cut.specs.Cuts.{region}
 use Rattle.cv_cut.specs.Catalogues.{SharesKey, IsFull as PassesLimit}

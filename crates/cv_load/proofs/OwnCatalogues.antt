@@ -27,7 +27,7 @@ use Rattle.cv_cut.specs.Catalogues.{kind_of}
 use Rattle.cv_cut.proofs.Lemmas.{order_rises, same_list, cat_is, stands_at_cut, nested_list, texts_apart, nested_of-by_text, marked_transition, entries_are, transition_long, transition_of}
 use Rattle.cv_load.proofs.WholeRegions.{marked_at, transition_marked, row_near}
 use Rattle.cv_base.specs.Path.{text_of}
-use Rattle.cv_base.proofs.Bools.{first_true}
+use Rattle.cv_base.proofs.Laws.{first_true}
 use Rattle.cv_rows.specs.Catalogue.{nested_cmp, file_of}
 use Rattle.cv_rows.proofs.Lemmas.{nested_total}
 use Rattle.cv_tree.proofs.Laws.{IsPart-at}

@@ -1,11 +1,12 @@
-pub mod Clear
-pub mod Cuts
-pub mod Endings
-pub mod Ends
-pub mod Exact
-pub mod OneFault
-pub mod Progress
-pub mod Puts
-pub mod Shown
-pub mod Splits
-pub mod Written
+mod Clear
+mod Cuts
+mod Endings
+mod Ends
+mod Exact
+mod OneFault
+mod Progress
+mod Puts
+mod Shown
+mod Splits
+mod Written
+pub mod Lemmas

@@ -3,7 +3,7 @@ use Rattle.std.proofs.Common.{◌≡◌, ℕ, Bool, true, false, eqb, List, [], 
 use Rattle.std.specs.Prelude.{IfOk, map}
 use Rattle.std.specs.List.{AllByRecursion}
 use Rattle.hex.specs.Hex.{encode_lower}
-use Rattle.cv_base.proofs.Digests.{digest_sha1}
+use Rattle.cv_base.proofs.Laws.{digest_sha1}
 use Rattle.cv_manifest.specs.declared.field.Field.{Field}
 use Rattle.cv_manifest.specs.declared.field.Field.TheVariants.{Root, Size, RootKey, TimeToLive, Revision, Name, History, Time}
 use Rattle.cv_manifest.specs.declared.manifest.Manifest.{Manifest}

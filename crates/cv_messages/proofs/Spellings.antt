@@ -17,7 +17,7 @@ use Rattle.hex.proofs.HexLemmas.{decode_of-ok, decode_sized-ok, decode_sized-twi
 use Rattle.cv_base.specs.Digest.{IsDigest}
 use Rattle.cv_base.specs.Token.{token_text}
 use Rattle.cv_base.specs.declared.token.Token.{Token}
-use Rattle.cv_base.proofs.Decimals.{decimal-no_dash}
+use Rattle.cv_base.proofs.Laws.{decimal-no_dash}
 use Rattle.cv_messages.specs.Spelling.{IsToken, decimal_of, is_dash, token_by, token_of, digest_of}
 
 -- what is kept under a test

@@ -7,16 +7,15 @@ use Rattle.std.specs.declared.option.Option.TheVariants.{None, Some}
 use Rattle.cv_base.specs.Digest.{IsDigest}
 use Rattle.cv_base.specs.ObjectId.{file_name}
 use Rattle.cv_base.specs.declared.object.Object.{Object}
-use Rattle.cv_base.proofs.Digests.{digest_sha1}
+use Rattle.cv_base.proofs.Laws.{digest_sha1, one_file_name}
 use Rattle.cv_vault.specs.Names.{Name, on_way}
 use Rattle.cv_vault.specs.Disk.{Disk, Slot, File, Settled, IsCalm, slot}
 use Rattle.cv_vault.specs.Walks.{Nothing, Gains, Change, Stays, Comes}
-use Rattle.cv_vault.proofs.Names.{same_or_not}
+use Rattle.cv_vault.proofs.Laws.{same_or_not}
 use Rattle.cv_objects.specs.Names.{way_name}
 use Rattle.cv_objects.specs.Batches.{IsReady, is_there, is_coming, Waits, stands, can, AreNamed, IsWritten, IsPlaced, IsApart, IsApartFrom, BringsOne, Brings, IsOne, AreReady, AllWait, Has, SparesOthers, Shows, ShownIn, by_one, by_two, by_itself}
 use Rattle.cv_objects.specs.declared.store_fault.StoreFault.{StoreFault}
 use Rattle.cv_objects.specs.declared.store_fault.StoreFault.TheVariants.{Collision, Failed, Damaged, NoMemory}
-use Rattle.cv_base.proofs.Laws.{one_file_name}
 use Rattle.cv_objects.proofs.Naming.{way_is, data_not_way, data_off_way}
 use Rattle.cv_objects.proofs.Lists.{earlier, last_or_earlier, among}
 

@@ -1,14 +1,14 @@
-pub mod Naming
-pub mod Lists
-pub mod Noted
-pub mod Looking
-pub mod Writing
-pub mod Placing
-pub mod Batching
-pub mod Stores
-pub mod Telling
-pub mod Once
-pub mod Noting
-pub mod Meaning
-pub mod Clashing
+mod Naming
+mod Lists
+mod Noted
+mod Looking
+mod Writing
+mod Placing
+mod Batching
+mod Stores
+mod Telling
+mod Once
+mod Noting
+mod Meaning
+mod Clashing
 pub mod Lemmas

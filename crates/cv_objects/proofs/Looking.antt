@@ -13,8 +13,7 @@ use Rattle.cv_vault.specs.Names.{Name, on_way}
 use Rattle.cv_vault.specs.Disk.{Disk, File, Files, ImageOf, Reads}
 use Rattle.cv_vault.specs.Moments.{Calls}
 use Rattle.cv_vault.specs.Walks.{Walks, Nothing}
-use Rattle.cv_vault.proofs.Walking.{call}
-use Rattle.cv_vault.proofs.Calling.{reads}
+use Rattle.cv_vault.proofs.Laws.{call, reads}
 use Rattle.cv_objects.specs.Faults.{fault_of}
 use Rattle.cv_objects.specs.Batches.{Looked, Compares, Shows, IsOutside}
 use Rattle.cv_objects.specs.declared.store_fault.StoreFault.{StoreFault}

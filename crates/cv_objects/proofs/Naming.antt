@@ -9,7 +9,7 @@ use Rattle.cv_base.specs.ObjectId.{id_text, file_name}
 use Rattle.cv_base.specs.declared.id.ObjectId.{ObjectId}
 use Rattle.cv_base.proofs.Laws.{one_id_text}
 use Rattle.cv_vault.specs.Names.{on_way}
-use Rattle.cv_vault.proofs.Calling.{apart}
+use Rattle.cv_vault.proofs.Laws.{apart}
 use Rattle.cv_objects.specs.Names.{way_name, is_digest, is_byte}
 
 -- an object's name on its way tells its id

@@ -11,7 +11,7 @@ use Rattle.cv_base.specs.declared.object.Object.{Object}
 use Rattle.cv_vault.specs.Names.{on_way}
 use Rattle.cv_vault.specs.Disk.{Disk, Files}
 use Rattle.cv_vault.specs.Walks.{Walks, Nothing}
-use Rattle.cv_vault.proofs.Walking.{looser}
+use Rattle.cv_vault.proofs.Laws.{looser}
 use Rattle.cv_objects.specs.Names.{standing_on}
 use Rattle.cv_objects.specs.Fresh.{lacking}
 use Rattle.cv_objects.specs.Places.{is_noted}

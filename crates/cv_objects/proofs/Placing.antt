@@ -12,9 +12,7 @@ use Rattle.cv_vault.specs.Names.{Name, on_way}
 use Rattle.cv_vault.specs.Disk.{Disk, Slot, Files, ImageOf, Renames, Settled, slot, with_slot, renamed, moved, both_settled}
 use Rattle.cv_vault.specs.Moments.{Calls}
 use Rattle.cv_vault.specs.Walks.{Walks, Nothing, Gains}
-use Rattle.cv_vault.proofs.Names.{here, elsewhere}
-use Rattle.cv_vault.proofs.Walking.{call, bind, looser}
-use Rattle.cv_vault.proofs.Calling.{renames}
+use Rattle.cv_vault.proofs.Laws.{here, elsewhere, call, bind, looser, renames}
 use Rattle.cv_objects.specs.Names.{way_name}
 use Rattle.cv_objects.specs.Batches.{Looked, Shows, Waits, stands, can, BringsOne, IsPlaced, Placed, IsOutside}
 use Rattle.cv_objects.specs.declared.store_fault.StoreFault.{StoreFault}

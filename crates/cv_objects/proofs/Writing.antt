@@ -11,10 +11,7 @@ use Rattle.cv_vault.specs.Names.{Name, on_way}
 use Rattle.cv_vault.specs.Disk.{Disk, Slot, Files, ImageOf, Writes, Torn, slot, written}
 use Rattle.cv_vault.specs.Moments.{Calls}
 use Rattle.cv_vault.specs.Walks.{Walks, Nothing}
-use Rattle.cv_vault.proofs.Names.{here, elsewhere}
-use Rattle.cv_vault.proofs.Walking.{call, bind, looser}
-use Rattle.cv_vault.proofs.Calling.{writes}
-use Rattle.cv_vault.proofs.Replacing.{ok, err}
+use Rattle.cv_vault.proofs.Laws.{here, elsewhere, call, bind, looser, writes, ok, err}
 use Rattle.cv_objects.specs.Names.{way_name}
 use Rattle.cv_objects.specs.Faults.{fault_of}
 use Rattle.cv_objects.specs.Batches.{Looked, is_there, is_coming, IsWritten, Wrote, IsOutside}

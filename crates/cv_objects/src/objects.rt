@@ -9,7 +9,7 @@ ghost use Rattle.cv_vault.specs.Disk.{Syncs};
 ghost use Rattle.cv_vault.specs.Moments.{Calls, OnlyReads};
 ghost use Rattle.cv_vault.specs.Walks.{Walks, Nothing, BringsNothing, SparesIn};
 ghost use Rattle.cv_vault.specs.declared.vault.VaultFault.TheVariants as vault_fault;
-ghost use Rattle.cv_vault.proofs.Quiet.{quiet_none, quiet_then, quiet_same};
+ghost use Rattle.cv_vault.proofs.Laws.{quiet_none, quiet_then, quiet_same};
 ghost use Rattle.cv_objects.specs.Names.{standing_on};
 ghost use Rattle.cv_objects.specs.Batches.{AreNamed, AreReady, Brings, Brought, GivesFresh, IsApart, IsOne, IsRefusal, Stored, WroteAll};
 ghost use Rattle.cv_objects.specs.declared.store_fault.StoreFault.TheVariants as fault;

@@ -10,7 +10,7 @@ use Rattle.cv_base.specs.declared.path_fault.PathFault.{PathFault}
 use Rattle.cv_tree.specs.Tree.{Nodes, IsTree}
 use Rattle.cv_overlay.specs.Whiteout.{is_whiteout}
 use Rattle.cv_overlay.specs.Overlay.{named, is_leaf, hides, hidden_from, hidden}
-use Rattle.cv_tree.proofs.PathLimits.{joined-Ok}
+use Rattle.cv_tree.proofs.Laws.{joined-Ok}
 
 pub last_of : (p : Path) (a : List ℕ) → last_name_of (p ++ a ∷ []) ≡ a
 last_of [] a = refl

@@ -1,16 +1,16 @@
-pub mod Over
-pub mod Children
-pub mod Bases
-pub mod Leasts
-pub mod Trails
-pub mod Limits
-pub mod Events
-pub mod Kept
-pub mod WalkOrder
-pub mod WalkItems
-pub mod Runs
-pub mod Objects
-pub mod Visits
-pub mod Walks
-pub mod WalkTexts
-pub mod Cases
+mod Over
+mod Children
+mod Bases
+mod Leasts
+mod Trails
+mod Limits
+mod Events
+mod Kept
+mod WalkOrder
+mod WalkItems
+mod Runs
+mod Objects
+mod Visits
+mod Walks
+mod WalkTexts
+mod Cases

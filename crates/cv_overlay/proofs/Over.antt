@@ -13,7 +13,7 @@ use Rattle.cv_tree.specs.declared.node.Node.TheVariants.{Dir, File, Link}
 use Rattle.cv_tree.specs.Node.{IsNode}
 use Rattle.cv_tree.specs.Tree.{Nodes, is_directory, HasParents, IsPart, IsTree}
 use Rattle.std.proofs.Common.{◌<◌, ◌^◌, arith}
-use Rattle.cv_tree.proofs.Replacements.{find-append}
+use Rattle.cv_tree.proofs.Laws.{find-append}
 use Rattle.cv_overlay.specs.Whiteout.{is_whiteout, is_bad_at}
 use Rattle.cv_overlay.specs.Overlay.{IsBase, named, hidden, or_else, root_of, over_at, is_leaf, hides, hidden_from, named_entries, kept_entries, over_entries, over}
 

@@ -4,7 +4,7 @@ use Rattle.std.specs.declared.option.Option.{Option}
 use Rattle.std.specs.declared.option.Option.TheVariants.{None, Some}
 use Rattle.std.specs.Prelude.{is_some, ◌==◌, length, Result, Ok, Err, IfOk}
 use Rattle.cv_base.specs.Path.{Path, parent, last_name_of, behind, covers}
-use Rattle.cv_base.proofs.PathPrefixes.{behind-Some}
+use Rattle.cv_base.proofs.Laws.{behind-Some}
 use Rattle.cv_tree.specs.Tree.{Nodes}
 use Rattle.cv_overlay.specs.Overlay.{hidden, hides}
 use Rattle.cv_overlay.proofs.Over.{hidden-append, hidden-split}

@@ -1,8 +1,8 @@
-pub mod Contents
-pub mod Feeding
-pub mod Hashes
-pub mod Lines
-pub mod NamedIds
-pub mod Packs
-pub mod Steps
-pub mod Numbers
+mod Contents
+mod Feeding
+mod Hashes
+mod Lines
+mod NamedIds
+mod Packs
+mod Steps
+mod Numbers

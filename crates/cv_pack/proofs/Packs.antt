@@ -19,7 +19,7 @@ use Rattle.cv_base.specs.declared.id.Kind.{Kind}
 use Rattle.cv_base.specs.declared.id.Kind.TheVariants.{Plain, Catalogue, History}
 use Rattle.cv_base.specs.declared.id.ObjectId.{ObjectId}
 use Rattle.cv_base.specs.declared.object.Object.{Object}
-use Rattle.cv_base.proofs.Digests.{digest_sha1}
+use Rattle.cv_base.proofs.Laws.{digest_sha1}
 use Rattle.cv_pack.specs.declared.entry.Entry.{Entry}
 use Rattle.cv_pack.specs.declared.pack_fault.PackFault.{PackFault}
 use Rattle.cv_pack.specs.declared.pack_fault.PackFault.TheVariants.{HashDiffers, Short}

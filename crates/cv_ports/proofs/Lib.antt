@@ -1,5 +1,5 @@
-pub mod Streams
-pub mod Pieces
-pub mod ShelfPuts
+mod Streams
+mod Pieces
+mod ShelfPuts
 pub mod Laws
-pub mod Folders
+mod Folders

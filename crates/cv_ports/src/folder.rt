@@ -79,9 +79,13 @@ impl From<NoMemory> for FolderFault {
     }
 }
 
-/// A folder. It tells what it holds or it doesn't. Only `root` changes what stands there, and by which name it was opened.
+/// Folders by their names, of which one is open. They tell what they hold or they don't. Only `root` changes which one is open,
+/// and no call changes what one of them holds.
 pub trait Folder {
-    /// What it holds, where it tells.
+    /// What the folder of each name holds, where it tells.
+    ghost holds: { Self → Option (List ℕ → FolderView) };
+
+    /// What the open one holds, where it tells.
     ghost folder: { Self → Option FolderView };
 
     /// The name of the folder at which paths begin, as it was given, once one was given.
@@ -90,9 +94,11 @@ pub trait Folder {
     /// How many of its calls failed, so far as 64 bits can count.
     ghost faults: { Self → ℕ };
 
-    /// Names the folder at which the paths of the later calls begin. What it holds may be another then, and is told where it
-    /// was told before. A call that failed changes neither.
+    /// Opens the folder of a name, at which the paths of the later calls begin. What it holds is told where that of each name is,
+    /// and where it was told before. A call that failed opens none.
     fn root(&mut self, alloc: Global, name: &str) -> Result<(), FolderFault>
+        ensures opens { WhereTold (holds self.old) (λ of. OnOk result (folder self.new ≡ Some (of name.now))) }
+        ensures lasts { holds self.new ≡ holds self.old }
         ensures named { OnOk result (named self.new ≡ Some name.now) }
         ensures tells { is_some (folder self.new) ≡ is_some (folder self.old) }
         ensures unchanged { OnErr result (folder self.new ≡ folder self.old) }
@@ -106,6 +112,7 @@ pub trait Folder {
         ensures ordered { WhereTold (folder self.old) IsOrdered }
         ensures unchanged { folder self.new ≡ folder self.old }
         ensures stays { named self.new ≡ named self.old }
+        ensures lasts { holds self.new ≡ holds self.old }
         ensures cause { HasCause (faults self.old) (faults self.new) (IsErrOf result fault.Failed) };
 
     /// The content of the file at a path, of which it gives at most the first 16,777,217 bytes.
@@ -114,5 +121,6 @@ pub trait Folder {
         ensures limit { IfOk result (λ bytes. length bytes ≤ 16777217) }
         ensures unchanged { folder self.new ≡ folder self.old }
         ensures stays { named self.new ≡ named self.old }
+        ensures lasts { holds self.new ≡ holds self.old }
         ensures cause { HasCause (faults self.old) (faults self.new) (IsErrOf result fault.Failed) };
 }

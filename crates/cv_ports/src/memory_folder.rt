@@ -145,14 +145,18 @@ fn content(alloc: Global, files: &[(RepoPath, Bytes)], path: &RepoPath) -> Resul
 }
 
 impl Folder for MemoryFolder {
+    ghost holds = { λ m. Some (λ _. holding m) };
+
     ghost folder = { λ m. Some (holding m) };
 
     ghost named = { λ m. m.named };
 
     ghost faults = { λ m. m.calls.faults };
 
-    /// Any name is taken: the paths begin where they began.
+    /// Any name is taken: the folder of each holds the same.
     fn root(&mut self, alloc: Global, name: &str) -> Result<(), FolderFault>
+        ensures opens { WhereTold (Some (λ _. holding self.old)) (λ of. OnOk result (Some (holding self.new) ≡ Some (of name.now))) }
+        ensures lasts { Some (λ _. holding self.new) ≡ Some (λ _. holding self.old) }
         ensures named { OnOk result (self.new.named ≡ Some name.now) }
         ensures tells { is_some (Some (holding self.new)) ≡ is_some (Some (holding self.old)) }
         ensures unchanged { OnErr result (Some (holding self.new) ≡ Some (holding self.old)) }
@@ -175,6 +179,7 @@ impl Folder for MemoryFolder {
         ensures ordered { WhereTold (Some (holding self.old)) IsOrdered }
         ensures unchanged { Some (holding self.new) ≡ Some (holding self.old) }
         ensures stays { self.new.named ≡ self.old.named }
+        ensures lasts { Some (λ _. holding self.new) ≡ Some (λ _. holding self.old) }
         ensures cause { HasCause self.old.calls.faults self.new.calls.faults (IsErrOf result fault.Failed) }
         ensures failing { IsErrOf result fault.Failed ↔ IsTrue (fails self.old.calls) }
         ensures after { self.new ≡ record self.old { calls = called self.old.calls } }
@@ -191,6 +196,7 @@ impl Folder for MemoryFolder {
         ensures limit { IfOk result (λ bytes. length bytes ≤ 16777217) }
         ensures unchanged { Some (holding self.new) ≡ Some (holding self.old) }
         ensures stays { self.new.named ≡ self.old.named }
+        ensures lasts { Some (λ _. holding self.new) ≡ Some (λ _. holding self.old) }
         ensures cause { HasCause self.old.calls.faults self.new.calls.faults (IsErrOf result fault.Failed) }
         ensures failing { IsErrOf result fault.Failed ↔ IsTrue (fails self.old.calls) }
         ensures after { self.new ≡ record self.old { calls = called self.old.calls } }

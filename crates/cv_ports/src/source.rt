@@ -9,7 +9,7 @@ use crate::sink::Sink;
 
 /// Where bytes come from, as a file, a pipe or a connection.
 pub trait Source {
-    /// The sink beside it: the one to which what was read is answered.
+    /// The sink beside it, whose bytes go to where these come from.
     type Beside: Sink;
 
     /// The bytes that it will give from here on, where it tells.

@@ -326,7 +326,7 @@ impl<R: Files<File = File> + AllocGlobal + Clone + Drop> FolderVault<R> {
         put_file(&self.rt, self.next.as_str(), self.path.as_str(), bytes)
     }
 
-    /// Whether the file was there. From there on each error is a fault.
+    /// Whether the file was there. From there on each error but want of memory is a fault.
     fn rename_now(&mut self, from: &str, to: &str) -> io::Result<bool>
         ensures { self.new.faults ≡ self.old.faults }
     {

@@ -112,6 +112,8 @@ impl<R: Files + AllocGlobal + Clone + Drop> SystemFolder<R> {
 }
 
 impl<R: Files + AllocGlobal + Clone + Drop> Folder for SystemFolder<R> {
+    ghost holds = { λ f. None };
+
     ghost folder = { λ f. None };
 
     ghost named = { λ f. f.name };

@@ -14,8 +14,7 @@ use Rattle.hex.specs.Hex.{IsBytes}
 use Rattle.cv_base.specs.Path.{Path, IsPath, text_of, is_path_name, is_path_byte, is_dots}
 use Rattle.cv_base.specs.PathText.{path_of, only_path, path_named}
 use Rattle.cv_base.specs.declared.path_fault.PathFault.{PathFault}
-use Rattle.cv_base.proofs.PathGrammar.{path_of-Spells, Spells-path_of}
-use Rattle.cv_base.proofs.Bools.{first_true, second_true}
+use Rattle.cv_base.proofs.Laws.{path_of-Spells, Spells-path_of, first_true, second_true}
 use Rattle.cv_rows.specs.declared.row.Row.{Row}
 use Rattle.cv_rows.specs.declared.nested.Nested.{Nested}
 use Rattle.cv_rows.specs.declared.row_fault.RowFault.{RowFault}

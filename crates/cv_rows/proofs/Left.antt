@@ -10,7 +10,7 @@ use Rattle.std.proofs.lemmas.List.Kept.{IsStrictlySortedBy-filter}
 use Rattle.std.proofs.lemmas.Slice.Eq.{bytes_eq-Decides}
 use Rattle.cv_base.specs.Path.{Path, covers}
 use Rattle.cv_base.specs.Marker.{marker, ends_in}
-use Rattle.cv_base.proofs.Bools.{first_true, second_true}
+use Rattle.cv_base.proofs.Laws.{first_true, second_true}
 use Rattle.cv_rows.specs.Row.{IsRow, row_bytes, same_kind}
 use Rattle.cv_rows.specs.Nested.{IsNested, nested_bytes}
 use Rattle.cv_rows.specs.Places.{StandsAt, root, below, root_kind}

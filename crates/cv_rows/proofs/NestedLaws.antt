@@ -8,7 +8,7 @@ use Rattle.cv_base.specs.Path.{Path, IsPath, key_of, same_path}
 use Rattle.cv_base.specs.PathOrder.{path_total, same_path_is}
 use Rattle.std.specs.Cmp.{tied_itself}
 use Rattle.std.specs.Ordering.{is_eq}
-use Rattle.cv_base.proofs.Bools.{first_true, second_true}
+use Rattle.cv_base.proofs.Laws.{first_true, second_true}
 use Rattle.cv_rows.specs.Row.{same_kind}
 use Rattle.cv_rows.specs.Places.{StandsAt}
 use Rattle.cv_rows.specs.Parents.{IsPlacing, HasPath}

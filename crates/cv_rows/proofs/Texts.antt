@@ -6,7 +6,7 @@ use Rattle.std.proofs.lemmas.Str.{is_utf8-from_IsUtf8, IsUtf8-nil}
 use Rattle.std.proofs.lemmas.Bool.Decides.{nat_tests}
 use Rattle.cv_base.specs.Path.{is_path_byte, is_path_name, is_dots}
 use Rattle.cv_base.specs.Target.{is_target, is_target_byte, target_of}
-use Rattle.cv_base.proofs.Bools.{first_true, second_true}
+use Rattle.cv_base.proofs.Laws.{first_true, second_true}
 use Rattle.cv_rows.specs.Row.{is_row_name}
 use Rattle.cv_rows.specs.Reading.{row_name_of}
 

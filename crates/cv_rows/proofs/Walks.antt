@@ -9,7 +9,7 @@ use Rattle.cv_base.specs.Path.{Path, IsPath, text_of, is_path_name}
 use Rattle.cv_base.specs.PathText.{joined, IsUnlessMemory}
 use Rattle.cv_base.specs.declared.path_fault.PathFault.{PathFault}
 use Rattle.cv_base.specs.declared.path_fault.PathFault.TheVariants.{BadName, TooLong, TooDeep, NoMemory}
-use Rattle.cv_base.proofs.Bools.{first_true, second_true}
+use Rattle.cv_base.proofs.Laws.{first_true, second_true}
 use Rattle.cv_rows.specs.Catalogue.{row_cmp, FitsAt}
 use Rattle.cv_rows.specs.Faults.{IsFirst, IsOrphan, IsMisplaced}
 use Rattle.cv_rows.specs.Places.{IsRoot, IsChild, StandsAt, root, below}

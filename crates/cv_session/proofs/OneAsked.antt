@@ -2,7 +2,7 @@
 use Rattle.std.proofs.Common.{◌≡◌, ◌+◌, ◌++◌, ◌∷◌, ℕ, List, [], length, refl, ap, sym, subst, ◌∙◌, arith, length-append, true, false, inl, inr}
 use Rattle.std.specs.Prelude.{Bool, ◌⊎◌}
 use Rattle.std.specs.declared.option.Option.TheVariants.{Some}
-use Rattle.cv_base.proofs.Parts.{same_parts}
+use Rattle.cv_base.proofs.Laws.{same_parts}
 use Rattle.cv_http.specs.declared.head.RequestHead.{RequestHead}
 use Rattle.cv_http.specs.declared.fault.HttpFault.{HttpFault}
 use Rattle.cv_http.specs.declared.code.Code.{Code}

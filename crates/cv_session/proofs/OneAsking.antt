@@ -9,7 +9,7 @@ use Rattle.cv_base.specs.ObjectId.{object_id, file_name, suffix_of}
 use Rattle.cv_base.specs.declared.id.Kind.{Kind}
 use Rattle.cv_base.specs.declared.id.Kind.TheVariants.{Plain, Catalogue, History}
 use Rattle.cv_base.specs.declared.id.ObjectId.{ObjectId}
-use Rattle.cv_base.proofs.Parts.{same_parts}
+use Rattle.cv_base.proofs.Laws.{same_parts}
 use Rattle.cv_http.specs.declared.head.RequestHead.{RequestHead}
 use Rattle.cv_http.specs.declared.method.Method.{Method}
 use Rattle.cv_http.specs.declared.method.Method.TheVariants.{Get, Post, Delete, Other}

@@ -7,7 +7,7 @@ use Rattle.std.proofs.lemmas.Bool.Decides.{nat_tests}
 use Rattle.std.proofs.lemmas.List.{length-append, map-append}
 use Rattle.std.proofs.lemmas.Grind.{flat_map-append}
 use Rattle.cv_ports.specs.Streams.{Look, onto, Wrote}
-use Rattle.cv_ports.proofs.Streams.{onto_twice}
+use Rattle.cv_ports.proofs.Laws.{onto_twice}
 use Rattle.cv_http.specs.Heads.{Begins}
 use Rattle.cv_http.specs.Replies.{continue_line}
 use Rattle.cv_http.specs.Wires.{WireView, Reads, Looks}

@@ -13,19 +13,18 @@ use Rattle.cv_base.specs.Target.{is_target}
 use Rattle.cv_base.specs.ObjectId.{object_id}
 use Rattle.cv_base.specs.declared.attr.Attr.{Attr}
 use Rattle.cv_base.specs.declared.id.Kind.TheVariants.{Catalogue}
-use Rattle.cv_base.proofs.Digests.{digest_sha1}
+use Rattle.cv_base.proofs.Laws.{digest_sha1}
 use Rattle.cv_ports.specs.Shelf.{Shelf, IsShelf}
 use Rattle.cv_tree.specs.Node.{IsAttr}
 use Rattle.cv_tree.specs.Tree.{single}
 use Rattle.cv_tree.specs.declared.node.Node.{Node}
 use Rattle.cv_tree.specs.declared.node.Node.TheVariants.{Dir, File}
-use Rattle.cv_tree.proofs.Maps.{entries-from_entries}
-use Rattle.cv_tree.proofs.Shapes.{IsTree-single}
+use Rattle.cv_tree.proofs.Laws.{entries-from_entries, IsTree-single}
 use Rattle.cv_cut.specs.Catalogues.{cat, root_of}
 use Rattle.cv_cut.specs.Cut.{catalogue_object}
 use Rattle.cv_cut.specs.Cuts.{is_cut, cuts_of}
 use Rattle.cv_cut.specs.Means.{Means}
-use Rattle.cv_cut.proofs.Single.{Fits-single, cut_single}
+use Rattle.cv_cut.proofs.Lemmas.{Fits-single, cut_single}
 use Rattle.cv_swap.specs.First.{first_tree, first_revision, first_batch}
 use Rattle.cv_swap.specs.Kept.{record_object, AreSound}
 

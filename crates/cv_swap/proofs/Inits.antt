@@ -19,8 +19,7 @@ use Rattle.cv_vault.specs.Names.{Name, on_way}
 use Rattle.cv_vault.specs.Disk.{Disk, File, Files, ImageOf, IsCalm, May, files_now}
 use Rattle.cv_vault.specs.Moments.{OnlyReads, LeavesOnly}
 use Rattle.cv_vault.specs.Walks.{Change, Stays, Comes, Gains, Within, Nothing, ComesTo}
-use Rattle.cv_vault.proofs.Walking.{may_before}
-use Rattle.cv_vault.proofs.Laws.{leaves_more, leaves_then, gains_none, gains_then, gains_more, within_then, within_more, quiet_walks, quiet_same}
+use Rattle.cv_vault.proofs.Laws.{may_before, leaves_more, leaves_then, gains_none, gains_then, gains_more, within_then, within_more, quiet_walks, quiet_same}
 use Rattle.cv_objects.specs.Names.{standing_on, objects_of, is_digest}
 use Rattle.cv_objects.specs.Batches.{HaveHashes}
 use Rattle.cv_objects.specs.declared.store_fault.StoreFault.{StoreFault}

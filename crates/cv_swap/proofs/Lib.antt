@@ -1,26 +1,26 @@
-pub mod Names
-pub mod Raising
-pub mod Finding
-pub mod Opens
-pub mod Views
-pub mod Publish
-pub mod Bringing
-pub mod Building
-pub mod Swapped
-pub mod Begins
-pub mod Growing
-pub mod Prepared
-pub mod Prefixes
-pub mod Made
-pub mod Named
-pub mod Chains
-pub mod Reopened
-pub mod Refusing
-pub mod FirstSound
-pub mod Inits
-pub mod Texts
-pub mod OnShelf
-pub mod Recovered
-pub mod Unsettled
-pub mod Failed
+mod Names
+mod Raising
+mod Finding
+mod Opens
+mod Views
+mod Publish
+mod Bringing
+mod Building
+mod Swapped
+mod Begins
+mod Growing
+mod Prepared
+mod Prefixes
+mod Made
+mod Named
+mod Chains
+mod Reopened
+mod Refusing
+mod FirstSound
+mod Inits
+mod Texts
+mod OnShelf
+mod Recovered
+mod Unsettled
+mod Failed
 pub mod Lemmas

@@ -7,7 +7,7 @@ use Rattle.cv_vault.specs.Names.{Name, on_way}
 use Rattle.cv_vault.specs.Disk.{Disk, File, Files, Image, files_now, synced}
 use Rattle.cv_vault.specs.Walks.{Change, Stays, Comes, Gains, Within, ComesTo}
 use Rattle.cv_vault.specs.Replace.{IsSure}
-use Rattle.cv_vault.proofs.Calling.{may_settled, calm_image}
+use Rattle.cv_vault.proofs.Laws.{may_settled, calm_image}
 use Rattle.cv_swap.specs.Kept.{Kept, raised}
 use Rattle.cv_swap.specs.Stands.{Stands, Publishes, head_name, epoch_name, epoch_text, head_of}
 use Rattle.cv_swap.specs.Opening.{AsRaised, IsRaised}

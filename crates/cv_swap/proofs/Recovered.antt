@@ -6,8 +6,7 @@ use Rattle.cv_vault.specs.Names.{Name, on_way}
 use Rattle.cv_vault.specs.Disk.{Disk, Files, Image, IsCalm, files_now}
 use Rattle.cv_vault.specs.Walks.{Change, Stays, Comes, Gains, Within, Nothing, ComesTo}
 use Rattle.cv_vault.specs.Replace.{IsSure, IsOther}
-use Rattle.cv_vault.proofs.Calling.{calm_image}
-use Rattle.cv_vault.proofs.Walking.{gains_then, gains_more, within_then, within_more}
+use Rattle.cv_vault.proofs.Laws.{calm_image, gains_then, gains_more, within_then, within_more}
 use Rattle.cv_swap.specs.Kept.{Kept, Revision, with_new}
 use Rattle.cv_swap.specs.Stands.{Stands, CanCome, head_name, epoch_name}
 use Rattle.cv_swap.proofs.Swapped.{stands_on, swap_leaves, swap_makes}

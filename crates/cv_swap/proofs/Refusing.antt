@@ -4,11 +4,11 @@ use Rattle.std.specs.declared.option.Option.TheVariants.{None, Some}
 use Rattle.cv_vault.specs.Disk.{File, Files}
 use Rattle.cv_ports.specs.Shelf.{Shelf}
 use Rattle.cv_history.specs.Chain.{Chain, StandsAt, Breaks}
-use Rattle.cv_history.proofs.ChainLaws.{no_break}
+use Rattle.cv_history.proofs.Lemmas.{no_break}
 use Rattle.cv_manifest.specs.Manifest.{Says}
 use Rattle.cv_manifest.specs.declared.head.Head.{Head}
 use Rattle.cv_manifest.specs.declared.manifest.Manifest.{Manifest}
-use Rattle.cv_manifest.proofs.Exact.{one_reading, no_fault}
+use Rattle.cv_manifest.proofs.Lemmas.{one_reading, no_fault}
 use Rattle.cv_objects.specs.Names.{objects_of}
 use Rattle.cv_swap.specs.Kept.{Kept, records_of}
 use Rattle.cv_swap.specs.Stands.{Stands, Publishes, head_name, head_of, history_id}

@@ -3,11 +3,11 @@ use Rattle.std.proofs.Common.{◌≡◌, ℕ, Bool, List, sym, ap, subst, ◌∙
 use Rattle.cv_vault.specs.Disk.{Files}
 use Rattle.cv_ports.specs.Shelf.{Shelf}
 use Rattle.cv_history.specs.Chain.{Chain, StandsAt}
-use Rattle.cv_history.proofs.ChainLaws.{one_chain}
+use Rattle.cv_history.proofs.Lemmas.{one_chain}
 use Rattle.cv_manifest.specs.Manifest.{Says}
 use Rattle.cv_manifest.specs.declared.head.Head.{Head}
 use Rattle.cv_manifest.specs.declared.manifest.Manifest.{Manifest}
-use Rattle.cv_manifest.proofs.Exact.{one_reading}
+use Rattle.cv_manifest.proofs.Lemmas.{one_reading}
 use Rattle.cv_objects.specs.Names.{objects_of}
 use Rattle.cv_swap.specs.Kept.{Kept, records_of}
 use Rattle.cv_swap.specs.Stands.{Stands, Publishes, head_name, head_of, history_id}

@@ -9,7 +9,7 @@ use Rattle.cv_vault.specs.Names.{Name, on_way}
 use Rattle.cv_vault.specs.Disk.{Disk, File, Files, Image, IsCalm, files_now}
 use Rattle.cv_vault.specs.Walks.{Change, Stays, Comes, Gains, Within, ComesTo}
 use Rattle.cv_vault.specs.Replace.{IsSure}
-use Rattle.cv_vault.proofs.Calling.{may_settled, calm_image}
+use Rattle.cv_vault.proofs.Laws.{may_settled, calm_image}
 use Rattle.cv_swap.specs.Kept.{Kept, Revision, with_new}
 use Rattle.cv_swap.specs.Stands.{Stands, CanCome, Publishes, head_name, epoch_name, head_of}
 use Rattle.cv_swap.proofs.Names.{head_not_data, epoch_not_head, same_object}

@@ -2,7 +2,7 @@
 use Rattle.std.proofs.Common.{◌≡◌, ◌≢◌, ◌++◌, ℕ, List, ◌∙◌, refl, ap, subst}
 use Rattle.std.specs.Prelude.{Option}
 use Rattle.cv_ports.specs.Streams.{onto, Wrote}
-use Rattle.cv_ports.proofs.Streams.{onto_twice, wrote_front, wrote_back}
+use Rattle.cv_ports.proofs.Laws.{onto_twice, wrote_front, wrote_back}
 use Rattle.cv_top.specs.Status.{line_of, said, what_of, detail_of}
 use Rattle.cv_top.specs.declared.status.Status.{Status}
 use Rattle.cv_top.specs.declared.status.Status.TheVariants.{Done, Usage, Repository, Refused, InputFailed, OutputFailed, StoreFailed, LinkFailed, JournalFull, NoAnswer, Served, BadReply, Changes, BadRequest, FolderFailed, BadKeys, OutOfMemory}

@@ -11,7 +11,7 @@ use Rattle.std.specs.FinMap.{FinMap, find, empty, insert, get, from_entries, get
 use Rattle.std.proofs.lemmas.Map.Keys.{sorted_head, sorted_tail}
 use Rattle.cv_base.specs.Path.{Path, path_cmp, behind, covers}
 use Rattle.cv_base.specs.PathOrder.{path_total, path_exact, same_path_is}
-use Rattle.cv_base.proofs.PathPrefixes.{behind-append, behind-Some}
+use Rattle.cv_base.proofs.Laws.{behind-append, behind-Some}
 use Rattle.cv_tree.specs.Tree.{entries_behind, entries_under, entries_outside, at, under, outside_with}
 use Rattle.cv_tree.proofs.Replacements.{or_else, or_else-None, at_rest, find-entries_behind, find-entries_under, find-entries_outside, get-at, get-under, get-outside_with}
 

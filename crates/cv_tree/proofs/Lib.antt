@@ -1,9 +1,9 @@
-pub mod Fits
-pub mod Gathers
-pub mod Grafts
-pub mod Made
-pub mod Maps
-pub mod PathLimits
-pub mod Replacements
-pub mod Shapes
+mod Fits
+mod Gathers
+mod Grafts
+mod Made
+mod Maps
+mod PathLimits
+mod Replacements
+mod Shapes
 pub mod Laws

@@ -8,7 +8,7 @@ use Rattle.std.specs.Cmp.{eq_by_cmp_equiv}
 use Rattle.std.specs.Cmp.Lexicographic.{pointwise, nat_list_cmp_total}
 use Rattle.std.proofs.lemmas.Bool.{le-ltb}
 use Rattle.cv_base.specs.Path.{Path, text_of, is_path_name, parent, behind, same_name, IsPath}
-use Rattle.cv_base.proofs.PathPrefixes.{behind-Some}
+use Rattle.cv_base.proofs.Laws.{behind-Some}
 use Rattle.cv_base.specs.declared.path_fault.PathFault.TheVariants.{TooLong, TooDeep}
 use Rattle.cv_base.specs.PathText.{joined, within_limits, of_names}
 

@@ -9,7 +9,7 @@ pub use Rattle.cv_vault.proofs.Calling.{reads, measures, lists, writes, renames,
 -- reads, one after another: a walk by which nothing comes
 pub use Rattle.cv_vault.proofs.Quiet.{quiet_none, quiet_then, quiet_walks, quiet_same, quiet_call}
 -- walks, one after another, and with more names left out of account
-pub use Rattle.cv_vault.proofs.Walking.{stand, call, bind, looser, leaves_then, leaves_more, gains_none, gains_then, gains_more, within_image, within_then, within_more}
+pub use Rattle.cv_vault.proofs.Walking.{stand, call, bind, looser, leaves_then, leaves_more, gains_none, gains_then, gains_more, within_image, within_then, within_more, may_before}
 pub use Rattle.cv_vault.proofs.Walking.{gains_wider, within_wider, walks_wider}
 -- syncs as walks, and what is sure behind one
 pub use Rattle.cv_vault.proofs.Replacing.{ok, err, sync_ok, sync_err, calm_then, sure_then, sure_waits}

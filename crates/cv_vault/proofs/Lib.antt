@@ -1,21 +1,21 @@
-pub mod Names
-pub mod Values
-pub mod Reading
-pub mod Unsettled
-pub mod Growing
-pub mod Changing
-pub mod Steps
-pub mod Settling
-pub mod Ordered
-pub mod Prefixes
-pub mod Listing
-pub mod Failing
-pub mod Remembering
-pub mod Inside
-pub mod Walking
-pub mod Calling
-pub mod Quiet
-pub mod Replacing
-pub mod Sparing
-pub mod Crashing
+mod Names
+mod Values
+mod Reading
+mod Unsettled
+mod Growing
+mod Changing
+mod Steps
+mod Settling
+mod Ordered
+mod Prefixes
+mod Listing
+mod Failing
+mod Remembering
+mod Inside
+mod Walking
+mod Calling
+mod Quiet
+mod Replacing
+mod Sparing
+mod Crashing
 pub mod Laws

@@ -1,12 +1,11 @@
 use Rattle.std.proofs.Common.{arith, subst, List}
 use Rattle.std.proofs.lemmas.List.{take_all}
 use Rattle.cv_base.specs.declared.object.Object.{Object}
-use Rattle.cv_vault.proofs.Walking.{bind, looser, stand}
+use Rattle.cv_vault.proofs.Laws.{bind, looser, stand, spares_none, spares_then, spares_more}
 use Rattle.cv_objects.specs.Batches.{Has}
 use Rattle.cv_objects.proofs.Lists.{among}
 use Rattle.cv_objects.proofs.Looking.{same_fault}
 use Rattle.cv_objects.proofs.Batching.{half_more, half_none, brings_on, placed_others, spares_all, apart_from}
-use Rattle.cv_vault.proofs.Laws.{spares_none, spares_then, spares_more}
 use Rattle.cv_objects.proofs.storing.place_absent.Goals as goal
 
 pub returns-in_err-place_one-clause-walks : goal.returns-in_err-place_one-clause-walks

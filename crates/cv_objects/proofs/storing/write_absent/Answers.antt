@@ -1,12 +1,11 @@
 use Rattle.std.proofs.Common.{arith, subst, List}
 use Rattle.std.proofs.lemmas.List.{take_all}
 use Rattle.cv_base.specs.declared.object.Object.{Object}
-use Rattle.cv_vault.proofs.Walking.{bind, looser, stand}
+use Rattle.cv_vault.proofs.Laws.{bind, looser, stand, spares_none, spares_then, spares_more}
 use Rattle.cv_objects.specs.Batches.{AreReady}
 use Rattle.cv_objects.proofs.Lists.{among}
 use Rattle.cv_objects.proofs.Looking.{same_fault}
 use Rattle.cv_objects.proofs.Batching.{ready_more, ready_none, wrote_then, apart_from}
-use Rattle.cv_vault.proofs.Laws.{spares_none, spares_then, spares_more}
 use Rattle.cv_objects.proofs.storing.write_absent.Goals as goal
 
 pub returns-in_err-write_one-clause-walks : goal.returns-in_err-write_one-clause-walks

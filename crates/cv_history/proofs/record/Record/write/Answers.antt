@@ -2,7 +2,7 @@ use Rattle.std.proofs.Common.{◌≡◌, ◌∙◌, ap, arith, length}
 use Rattle.std.specs.Prelude.{codes, string_bytes}
 use Rattle.std.specs.Int.{w16, w64, to_be_bytes}
 use Rattle.cv_base.specs.Path.{text_of}
-use Rattle.cv_base.proofs.PathGrammar.{Spells-path_of}
+use Rattle.cv_base.proofs.Laws.{Spells-path_of}
 use Rattle.cv_history.proofs.Written.{fourteen}
 use Rattle.cv_history.proofs.record.Record.write.Goals as goal
 

@@ -1,5 +1,5 @@
 use Rattle.std.proofs.Common.{refl}
-use Rattle.cv_vault.proofs.Walking.{stand}
+use Rattle.cv_vault.proofs.Laws.{stand}
 use Rattle.cv_objects.specs.Batches.{by_two}
 use Rattle.cv_objects.specs.declared.store_fault.StoreFault.TheVariants.{NoMemory}
 use Rattle.cv_objects.proofs.Looking.{same_fault}

@@ -1,7 +1,7 @@
 use Rattle.std.proofs.Common.{ap}
 use Rattle.std.specs.Option.{option_map}
 use Rattle.cv_ports.specs.Shelf.{Fetches}
-use Rattle.cv_vault.proofs.Quiet.{quiet_same}
+use Rattle.cv_vault.proofs.Laws.{quiet_same}
 use Rattle.cv_objects.specs.Names.{standing_on}
 use Rattle.cv_objects.proofs.Telling.{told_of}
 use Rattle.cv_objects.proofs.objects.ObjectsShelf.fetch.Goals as goal
