@@ -4,6 +4,8 @@
 The tree is that of the second revision of `session_vectors.py`: the file `/a` alone. A row of LOOKS is a command: its first word and
 its path, the replies of its links in their order, all the requests that these must take, the output, the status and the line.
 """
+import hmac
+
 import line_vectors
 from cut_vectors import catalogues
 from line_vectors import literal, name, sha1
@@ -16,6 +18,21 @@ FILE = name(HELLO)
 RESEALED = SECOND_MANIFEST[:-1] + bytes([SECOND_MANIFEST[-1] ^ 1])
 ROOT_OF_FILE = line_vectors.manifest(2, HELLO, RECORD)
 CHANGED = WITH_FILE[:-1] + bytes([WITH_FILE[-1] ^ 1])
+# A chain of 33 links, each to the next, and the last to a file.
+CHAIN = catalogues({"": ("dir", b""), "/f": ("file", HELLO), **{f"/l{n}": ("link", b"f" if n == 33 else b"l%d" % (n + 1)) for n in range(1, 34)}})[""]
+CHAINED = [HEAD, name(CHAIN, "C")]
+
+
+def sealed(lines):
+    """A manifest of these lines under the tests' seal."""
+    sum = sha1(lines).hex().encode()
+    return lines + b"--\n" + sum + b"\n" + hmac.new(b"seal", sum, "sha1").digest()
+
+
+def with_line(letter, value):
+    """The manifest with another value in one line."""
+    lines = SECOND_MANIFEST.partition(b"--\n")[0].splitlines(keepends=True)
+    return octets(sealed(b"".join(letter + value + b"\n" if line.startswith(letter) else line for line in lines)))
 
 
 def asked(path):
@@ -54,6 +71,14 @@ LOOKS = [
     look("ls", "/", [octets(RESEALED)], FIRST, code=11, line="bad manifest"),
     look("ls", "/", ["MANIFEST", octets(CHANGED)], BOTH, code=11, line=f"bad object {digits(WITH_FILE)}C"),
     look("cat", "/a", ["MANIFEST", "TREE", octets(b"hellO\n")], ALL, code=11, line=f"bad object {digits(HELLO)}"),
+    look("cat", "/l1", [octets(line_vectors.manifest(2, CHAIN, RECORD)), octets(CHAIN)], CHAINED, code=10, line="too many links"),
+    look("cat", "/l2", [octets(line_vectors.manifest(2, CHAIN, RECORD)), octets(CHAIN), "CONTENT"], [*CHAINED, FILE], HELLO),
+    look("ls", "/", [with_line(b"R", b"0" * 32)], FIRST, code=11, line="bad manifest"),
+    look("ls", "/", [with_line(b"D", b"241")], FIRST, code=11, line="bad manifest"),
+    look("ls", "/", [with_line(b"S", b"02")], FIRST, code=11, line="bad manifest"),
+    look("ls", "/", [with_line(b"N", b"other.example.org"), "TREE"], BOTH, b"a\n"),
+    look("ls", "/", [with_line(b"H", b"1" * 39)], FIRST, code=11, line="bad manifest"),
+    look("ls", "/", [with_line(b"T", b"-1")], FIRST, code=11, line="bad manifest"),
     look("ls", "/", [octets(ROOT_OF_FILE), "CONTENT"], [HEAD, name(HELLO, "C")], code=11, line=f"bad catalogue {digits(HELLO)}C"),
     look("cat", "/a", ["MANIFEST", "TREE", "ABSENT"], ALL, code=11, line=f"not served {digits(HELLO)}"),
     look("ls", "/", [b"hello\n"], FIRST, code=12, line="bad reply"),

@@ -16,6 +16,13 @@ symm a b = (eq_by_cmp_equiv path_total).symm a b
 not_covered : (p q r : Path) → overlap p q ≡ false → covers p (q ++ r) ≡ false
 not_covered p q r h = elim (covers p (q ++ r)) as (λ b. covers p (q ++ r) ≡ b → b ≡ false) [ true ↦ λ e. let o = overlap-from_covers q p r e in cc | false ↦ λ e. refl ] refl
 
+-- what is behind a path is another, by the law of it
+is_behind-None : (q : Path) → is_behind None q ≡ false
+is_behind-None q = sym (eq_by_cmp-append ([] ∷ []) q [])
+
+is_behind-Some : (r q : Path) → is_behind (Some r) q ≡ is_eq (path_cmp q r)
+is_behind-Some r q = sym (eq_by_cmp-append [] q r)
+
 either_way : {A : Type 0} (b : Bool) (x : A) → x ≡ cond b x x
 either_way true x = refl
 either_way false x = refl
@@ -35,13 +42,12 @@ module _ {X : Type 0} where
   or_else-None (Some x) = refl
 
   pub find-entries_behind : (p q : Path) (es : List (Path × X)) → find path_cmp q (entries_behind p es) ≡ find path_cmp (p ++ q) es
-  unfolding is_behind
   find-entries_behind p q [] = refl
   find-entries_behind p q (e ∷ es) =
       rw (eq_by_cmp-append p q e.0)
       (elim (behind p e.0) as (λ o. find path_cmp q (cons_behind o e.1 (entries_behind p es)) ≡ cond (is_behind o q) (Some e.1) (find path_cmp (p ++ q) es)) [
-        | None ↦ find-entries_behind p q es
-        | Some r ↦ ap (cond (is_eq (path_cmp q r)) (Some e.1)) (find-entries_behind p q es)
+        | None ↦ rw (is_behind-None q) (find-entries_behind p q es)
+        | Some r ↦ rw (is_behind-Some r q) (ap (cond (is_eq (path_cmp q r)) (Some e.1)) (find-entries_behind p q es))
       ])
 
   -- what `at` has at a path: the node behind p
@@ -50,13 +56,12 @@ module _ {X : Type 0} where
   get-at t p q = get-from_entries path_total _ q ∙ find-entries_behind p q (entries t) ∙ sym (get-entries t (p ++ q))
 
   pub find-entries_under : (p q : Path) (es : List (Path × X)) → find path_cmp q (entries_under p es) ≡ at_rest (behind p q) (λ r. find path_cmp r es) None
-  unfolding is_behind
   find-entries_under p q [] = elim (behind p q) as (λ o. None ≡ at_rest o (λ r. find path_cmp r []) None) [ None ↦ refl | Some r ↦ refl ]
   find-entries_under p q (e ∷ es) =
       rw (symm q (p ++ e.0), eq_by_cmp-append p e.0 q, find-entries_under p q es)
       (elim (behind p q) as (λ o. cond (is_behind o e.0) (Some e.1) (at_rest o (λ r. find path_cmp r es) None) ≡ at_rest o (λ r. find path_cmp r (e ∷ es)) None) [
-        | None ↦ refl
-        | Some r ↦ ap (λ b. cond b (Some e.1) (find path_cmp r es)) (symm e.0 r)
+        | None ↦ rw (is_behind-None e.0) refl
+        | Some r ↦ rw (is_behind-Some r e.0) (ap (λ b. cond b (Some e.1) (find path_cmp r es)) (symm e.0 r))
       ])
 
   pub find-append : (q : Path) (es fs : List (Path × X)) → find path_cmp q (es ++ fs) ≡ or_else (find path_cmp q es) (find path_cmp q fs)
