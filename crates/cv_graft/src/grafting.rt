@@ -11,13 +11,11 @@ ghost use Rattle.cv_tree.specs.Changes.{has_place};
 ghost use Rattle.cv_cut.specs.Means.{Means};
 ghost use Rattle.cv_ports.specs.Calls.{RaisedAtMost};
 ghost use Rattle.cv_cut.specs.Above.{cuts_above, replaced};
-ghost use Rattle.cv_cut.specs.Opening.{MayFail};
 ghost use Rattle.cv_cut.specs.declared.load_fault.LoadFault.TheVariants as load_faults;
-ghost use Rattle.cv_cut.specs.Reached.{root_place};
 ghost use Rattle.cv_graft.specs.Directories.{IsHolder};
 ghost use Rattle.cv_graft.specs.Graft.{Grafts, HasOwnIds};
 ghost use Rattle.cv_graft.specs.Placed.{HasCuts};
-ghost use Rattle.cv_graft.specs.Way.{Finds, TellsDamage};
+ghost use Rattle.cv_graft.specs.Way.{BlamesWay, Finds, TellsDamage};
 ghost use Rattle.cv_graft.specs.declared.graft_fault.GraftFault.TheVariants as faults;
 
 use crate::graft_fault::GraftFault;
@@ -40,10 +38,10 @@ pub(crate) fn holder<S: Shelf>(
     requires kind { root.now.kind ≡ id_kind.Catalogue }
     requires path { path.now ≢ [] }
     ensures told { WhereTold (S.shelf shelf.old) (λ standing. (n : Nodes) → HasCuts standing root.now.hash n path.now → Finds n path.now result) }
-    ensures holder { WhereTold (S.shelf shelf.old) (λ standing. IfOk result (IsHolder standing root.now.hash root_place path.now)) }
+    ensures holder { WhereTold (S.shelf shelf.old) (λ standing. IfOk result (IsHolder standing root.now.hash path.now)) }
     ensures rules { IfOk result IsCatalogue }
     ensures covered { IfOk result (λ c. (covers c.at path.now ≡ true) × (path.now ≢ c.at)) }
-    ensures fault { WhereTold (S.shelf shelf.old) (λ standing. IfErr result (MayFail standing root.now.hash)) }
+    ensures fault { WhereTold (S.shelf shelf.old) (λ standing. IfErr result (BlamesWay standing root.now.hash path.now)) }
     ensures reads { S.reads shelf.old shelf.new }
     ensures unchanged { S.shelf shelf.new ≡ S.shelf shelf.old }
     ensures cause { HasCause (S.faults shelf.old) (S.faults shelf.new) (IsErrOf result load_faults.Failed) }

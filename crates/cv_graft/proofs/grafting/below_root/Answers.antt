@@ -2,7 +2,8 @@ use Rattle.std.proofs.Common.{suc, Result, List, [], Ok, Err, ap, subst, ◌∙�
 use Rattle.cv_base.specs.declared.id.Kind.TheVariants.{Catalogue}
 use Rattle.cv_base.specs.declared.object.Object.{Object}
 use Rattle.cv_graft.specs.Graft.{Grafts}
-use Rattle.cv_graft.proofs.Finding.{cuts_way, some_count, raised_more, top_unread, top_unopened, tells_cause}
+use Rattle.cv_graft.proofs.Finding.{cuts_way, some_count, raised_more, top_unread, tells_way}
+use Rattle.cv_graft.proofs.Holders.{top_blamed}
 use Rattle.cv_graft.proofs.Grafts.{way_of, tree_after, offered_of, top_is, top_count, two_walks, rebuilt_at, made_graft, fault_graft, unread_graft}
 use Rattle.cv_graft.specs.Way.{IsMade, TellsDamage}
 use Rattle.cv_graft.specs.declared.grafted.Grafted.{Grafted}
@@ -93,7 +94,7 @@ returns-in_err-other-clause-told g c = λ standing told t n mt mn place.
 pub returns-in_err-other-clause-damaged : goal.returns-in_err-other-clause-damaged
 returns-in_err-other-clause-damaged g c = λ standing told.
     left_by (λ (x : Result Grafted GraftFault). TellsDamage standing x) _ _ c.from_residual.ensures.1
-    (tells_cause Grafted standing c.args.offered.now.hash _ (c.in_err-other.ensures.fault standing told))
+    (tells_way Grafted standing c.args.offered.now.hash c.args.path.now _ (c.in_err-other.ensures.fault standing told))
 
 pub returns-in_err-catalogue-clause-told : goal.returns-in_err-catalogue-clause-told
 returns-in_err-catalogue-clause-told g c = λ standing told t n mt mn place.
@@ -105,4 +106,4 @@ returns-in_err-catalogue-clause-told g c = λ standing told t n mt mn place.
 pub returns-in_err-catalogue-clause-damaged : goal.returns-in_err-catalogue-clause-damaged
 returns-in_err-catalogue-clause-damaged g c = λ standing told.
     left_by (λ (x : Result Grafted GraftFault). TellsDamage standing x) _ _ c.from_residual-in_err-catalogue.ensures.1
-    (tells_cause Grafted standing c.args.newest.now.hash _ (top_unopened standing c.args.newest.now c.root-top.result _ c.requires.newest c.root-top.ensures (c.in_err-catalogue.ensures.told standing (c.holder.ensures.unchanged ∙ told))))
+    (tells_way Grafted standing c.args.newest.now.hash c.args.path.now _ (top_blamed standing c.args.newest.now c.args.path.now c.root-top.result _ c.requires.newest c.requires.path c.root-top.ensures (c.in_err-catalogue.ensures.told standing (c.holder.ensures.unchanged ∙ told))))
