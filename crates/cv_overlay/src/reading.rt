@@ -34,6 +34,7 @@ fn walk<F: Folder>(
     ensures ordered { WhereTold (F.folder folder.old) IsOrdered }
     ensures unchanged { F.folder folder.new ≡ F.folder folder.old }
     ensures stays { F.named folder.new ≡ F.named folder.old }
+    ensures lasts { F.holds folder.new ≡ F.holds folder.old }
     ensures cause { HasCause (F.faults folder.old) (F.faults folder.new) (IsErrOf result faults.Failed) }
     ensures fits { (at : Path) → published.now ≡ at ++ above.now → FitsUnder at found.nodes → IfOk result (λ new. FitsUnder at new.nodes) }
 {
@@ -78,6 +79,7 @@ pub fn read_folder<F: Folder>(
     ensures told { WhereTold (F.folder folder.old) (Reads at.now result) }
     ensures unchanged { F.folder folder.new ≡ F.folder folder.old }
     ensures stays { F.named folder.new ≡ F.named folder.old }
+    ensures lasts { F.holds folder.new ≡ F.holds folder.old }
     ensures cause { HasCause (F.faults folder.old) (F.faults folder.new) (IsErrOf result faults.Failed) }
 
     // The walk goes by the bytes of the paths' texts.

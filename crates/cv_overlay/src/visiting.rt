@@ -86,6 +86,7 @@ fn visit_file<F: Folder>(
     ensures told { WhereTold (F.folder folder.old) (λ holds. Ends result (file_step path attr (holds.content path) found)) }
     ensures unchanged { F.folder folder.new ≡ F.folder folder.old }
     ensures stays { F.named folder.new ≡ F.named folder.old }
+    ensures lasts { F.holds folder.new ≡ F.holds folder.old }
     ensures cause { HasCause (F.faults folder.old) (F.faults folder.new) (IsErrOf result faults.Failed) }
     ensures within { IsWithin path found result }
 {
@@ -110,6 +111,7 @@ pub(crate) fn visit<F: Folder>(
     ensures told { WhereTold (F.folder folder.old) (λ holds. (at : Path) → published.now ≡ at ++ above.now → Ends result (step holds at (record { above = above.now; item = item }) found)) }
     ensures unchanged { F.folder folder.new ≡ F.folder folder.old }
     ensures stays { F.named folder.new ≡ F.named folder.old }
+    ensures lasts { F.holds folder.new ≡ F.holds folder.old }
     ensures cause { HasCause (F.faults folder.old) (F.faults folder.new) (IsErrOf result faults.Failed) }
     ensures within { IsWithin (above.now ++ item.name ∷ []) found result }
     ensures taken { IfOk result (λ _. (takes published.now item.name ≡ true) × IsPath published.now) }

@@ -9,6 +9,10 @@ pub record FolderView : Type 0 where
   pub items : Path → List FolderItem
   pub content : Path → List ℕ
 
+-- what the folder of each name holds
+abbrev pub Folders : Type 0
+Folders = List ℕ → FolderView
+
 -- the names of these items
 abbrev pub names_of : List FolderItem → List (List ℕ)
 names_of [] = []

@@ -6,7 +6,7 @@ use Rattle.std.specs.FinMap.{find}
 use Rattle.cv_base.specs.Path.{Path, name_cmp, path_cmp}
 use Rattle.cv_ports.specs.declared.folder.FolderItem.{FolderItem}
 use Rattle.cv_ports.specs.Calls.{Calls}
-use Rattle.cv_ports.specs.Folder.{FolderView, Ascend}
+use Rattle.cv_ports.specs.Folder.{FolderView, Folders, Ascend}
 
 -- the items of each directory and the content of each file, by their paths from the folder on; the name by which it was opened; and its
 -- calls
@@ -35,3 +35,7 @@ holding m = record {
   items = λ path. unwrap_or (find path_cmp path m.directories) [];
   content = λ path. unwrap_or (find path_cmp path m.files) [];
 }
+
+-- which stands under every name
+abbrev pub under_each : MemoryFolderView → Folders
+under_each m = λ name. holding m

@@ -2,7 +2,7 @@
 ghost use Rattle.std.specs.Prelude.{◌≡◌, ℕ, List, Option, Some, IfOk, OnOk, OnErr, IsErrOf, is_some, length, ◌≤◌};
 ghost use Rattle.cv_base.specs.Counts.{HasCause};
 ghost use Rattle.cv_base.specs.Told.{WhereTold};
-ghost use Rattle.cv_ports.specs.Folder.{FolderView, Ascend, IsOrdered, read_front};
+ghost use Rattle.cv_ports.specs.Folder.{FolderView, Folders, Ascend, IsOrdered, read_front};
 ghost use Rattle.cv_ports.specs.declared.folder.FolderFault.TheVariants as fault;
 
 use cv_base::{Bytes, Items, NoMemory, RepoPath, Text};
@@ -83,7 +83,7 @@ impl From<NoMemory> for FolderFault {
 /// and no call changes what one of them holds.
 pub trait Folder {
     /// What the folder of each name holds, where it tells.
-    ghost holds: { Self → Option (List ℕ → FolderView) };
+    ghost holds: { Self → Option Folders };
 
     /// What the open one holds, where it tells.
     ghost folder: { Self → Option FolderView };

@@ -6,7 +6,7 @@ ghost use Rattle.cv_base.specs.Path.{path_cmp};
 ghost use Rattle.cv_base.specs.Told.{WhereTold};
 ghost use Rattle.cv_ports.specs.Calls.{fails, called};
 ghost use Rattle.cv_ports.specs.Folder.{Ascend, IsOrdered, read_front};
-ghost use Rattle.cv_ports.specs.MemoryFolder.{AllAscend, ascends, all_ascend, holding};
+ghost use Rattle.cv_ports.specs.MemoryFolder.{AllAscend, ascends, all_ascend, holding, under_each};
 ghost use Rattle.cv_ports.specs.declared.folder.FolderFault.TheVariants as fault;
 
 use crate::failing_calls::FailingCalls;
@@ -145,7 +145,7 @@ fn content(alloc: Global, files: &[(RepoPath, Bytes)], path: &RepoPath) -> Resul
 }
 
 impl Folder for MemoryFolder {
-    ghost holds = { λ m. Some (λ _. holding m) };
+    ghost holds = { λ m. Some (under_each m) };
 
     ghost folder = { λ m. Some (holding m) };
 
@@ -155,8 +155,8 @@ impl Folder for MemoryFolder {
 
     /// Any name is taken: the folder of each holds the same.
     fn root(&mut self, alloc: Global, name: &str) -> Result<(), FolderFault>
-        ensures opens { WhereTold (Some (λ _. holding self.old)) (λ of. OnOk result (Some (holding self.new) ≡ Some (of name.now))) }
-        ensures lasts { Some (λ _. holding self.new) ≡ Some (λ _. holding self.old) }
+        ensures opens { WhereTold (Some (under_each self.old)) (λ of. OnOk result (Some (holding self.new) ≡ Some (of name.now))) }
+        ensures lasts { Some (under_each self.new) ≡ Some (under_each self.old) }
         ensures named { OnOk result (self.new.named ≡ Some name.now) }
         ensures tells { is_some (Some (holding self.new)) ≡ is_some (Some (holding self.old)) }
         ensures unchanged { OnErr result (Some (holding self.new) ≡ Some (holding self.old)) }
@@ -179,7 +179,7 @@ impl Folder for MemoryFolder {
         ensures ordered { WhereTold (Some (holding self.old)) IsOrdered }
         ensures unchanged { Some (holding self.new) ≡ Some (holding self.old) }
         ensures stays { self.new.named ≡ self.old.named }
-        ensures lasts { Some (λ _. holding self.new) ≡ Some (λ _. holding self.old) }
+        ensures lasts { Some (under_each self.new) ≡ Some (under_each self.old) }
         ensures cause { HasCause self.old.calls.faults self.new.calls.faults (IsErrOf result fault.Failed) }
         ensures failing { IsErrOf result fault.Failed ↔ IsTrue (fails self.old.calls) }
         ensures after { self.new ≡ record self.old { calls = called self.old.calls } }
@@ -196,7 +196,7 @@ impl Folder for MemoryFolder {
         ensures limit { IfOk result (λ bytes. length bytes ≤ 16777217) }
         ensures unchanged { Some (holding self.new) ≡ Some (holding self.old) }
         ensures stays { self.new.named ≡ self.old.named }
-        ensures lasts { Some (λ _. holding self.new) ≡ Some (λ _. holding self.old) }
+        ensures lasts { Some (under_each self.new) ≡ Some (under_each self.old) }
         ensures cause { HasCause self.old.calls.faults self.new.calls.faults (IsErrOf result fault.Failed) }
         ensures failing { IsErrOf result fault.Failed ↔ IsTrue (fails self.old.calls) }
         ensures after { self.new ≡ record self.old { calls = called self.old.calls } }

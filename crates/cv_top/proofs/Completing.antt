@@ -4,7 +4,7 @@ use Rattle.std.specs.declared.option.Option.{Option}
 use Rattle.std.specs.declared.option.Option.TheVariants.{Some}
 use Rattle.std.specs.declared.result.Result.TheVariants.{Ok, Err}
 use Rattle.cv_keys.specs.declared.key.Key.{Key}
-use Rattle.cv_ports.specs.Folder.{FolderView}
+use Rattle.cv_ports.specs.Folder.{Folders}
 use Rattle.cv_ports.specs.Streams.{Look}
 use Rattle.cv_vault.specs.Disk.{Disk, Files, files_now}
 use Rattle.cv_swap.specs.Init.{Answers}
@@ -79,32 +79,32 @@ module _ {V : Type 0} (disk : V → Option Disk) (count : V → ℕ) (left : V �
     made_ends name status d told vacant (unsaid makes wrote) fine = absurd (fine.writes refl)
     made_ends name status d told vacant (refused x makes same) fine = by_making d vacant makes.now x (makes.makes d told).answers fine
 
-    serves : (folder : F → Option FolderView) (named : F → Option (List ℕ)) (came : N → Links) (status : Status) → Unfailed status → Runs disk count left faults rest looks taken passed moments folder named came words keys seal a b status → (name : List ℕ) → Asks words (Stdio name) → HasKeys (Stdio name) keys → seal ≢ []
+    serves : (holds : F → Option Folders) (named : F → Option (List ℕ)) (came : N → Links) (status : Status) → Unfailed status → Runs disk count left faults rest looks taken passed moments holds named came words keys seal a b status → (name : List ℕ) → Asks words (Stdio name) → HasKeys (Stdio name) keys → seal ≢ []
         → (d : Disk) (k : Kept) → disk a.vault ≡ Some d → StandsKept name (is_seal_by seal) (files_now d) k → ends_served status ≡ true
-    serves folder named came status fine (usage never same) name asks has some d k told kept = absurd (never (record { command = Stdio name; asks = asks }))
-    serves folder named came status fine (bad_keys other asked fault same) name asks has some d k told kept = (let e : Ok has.0 ≡ Err fault.fault = sym has.1 ∙ fault.is in absurd cc)
-    serves folder named came status fine (unsigned u path root asked fault same) name asks has some d k told kept = absurd (no_publish_stdio u path root name asked asks)
-    serves folder named came status fine (no_seal command asked good empty same) name asks has some d k told kept = absurd (some empty)
-    serves folder named came status fine (unbegun same) name asks has some d k told kept = refl
-    serves folder named came status fine (init other how asked good inits same still near) name asks has some d k told kept = absurd (not_both other name asked asks)
-    serves folder named came status fine (look u q how asked good looked same) name asks has some d k told kept = absurd (no_stdio u q name asked asks)
-    serves folder named came status fine (shell u how asked good answers same) name asks has some d k told kept = absurd (no_shell_stdio u name asked asks)
-    serves folder named came status fine (publish u path root table how asked are good publishes same near) name asks has some d k told kept = absurd (no_publish_stdio u path root name asked asks)
-    serves folder named came status fine (stdio other table how asked are good served still near) name asks has some d k told kept =
+    serves holds named came status fine (usage never same) name asks has some d k told kept = absurd (never (record { command = Stdio name; asks = asks }))
+    serves holds named came status fine (bad_keys other asked fault same) name asks has some d k told kept = (let e : Ok has.0 ≡ Err fault.fault = sym has.1 ∙ fault.is in absurd cc)
+    serves holds named came status fine (unsigned u path root asked fault same) name asks has some d k told kept = absurd (no_publish_stdio u path root name asked asks)
+    serves holds named came status fine (no_seal command asked good empty same) name asks has some d k told kept = absurd (some empty)
+    serves holds named came status fine (unbegun same) name asks has some d k told kept = refl
+    serves holds named came status fine (init other how asked good inits same still near) name asks has some d k told kept = absurd (not_both other name asked asks)
+    serves holds named came status fine (look u q how asked good looked same) name asks has some d k told kept = absurd (no_stdio u q name asked asks)
+    serves holds named came status fine (shell u how asked good answers same) name asks has some d k told kept = absurd (no_shell_stdio u name asked asks)
+    serves holds named came status fine (publish u path root table how asked are good publishes same near) name asks has some d k told kept = absurd (no_publish_stdio u path root name asked asks)
+    serves holds named came status fine (stdio other table how asked are good served still near) name asks has some d k told kept =
         let is : other ≡ name = one_name other name asked asks in
         served_ends other table how d k told (subst (λ n. StandsKept n (is_seal_by seal) (files_now d) k) (sym is) kept) served fine
 
-    makes : (folder : F → Option FolderView) (named : F → Option (List ℕ)) (came : N → Links) (status : Status) → Unfailed status → Runs disk count left faults rest looks taken passed moments folder named came words keys seal a b status → (name : List ℕ) → Asks words (Init name) → seal ≢ [] → (d : Disk) → disk a.vault ≡ Some d → IsVacant d → ends_made status ≡ true
-    makes folder named came status fine (usage never same) name asks some d told vacant = absurd (never (record { command = Init name; asks = asks }))
-    makes folder named came status fine (bad_keys other asked fault same) name asks some d told vacant = absurd (not_both name other asks asked)
-    makes folder named came status fine (unsigned u path root asked fault same) name asks some d told vacant = absurd (no_publish_init u path root name asked asks)
-    makes folder named came status fine (no_seal command asked good empty same) name asks some d told vacant = absurd (some empty)
-    makes folder named came status fine (unbegun same) name asks some d told vacant = refl
-    makes folder named came status fine (init other how asked good inits same still near) name asks some d told vacant = made_ends other how d told vacant inits fine
-    makes folder named came status fine (look u q how asked good looked same) name asks some d told vacant = absurd (no_init u q name asked asks)
-    makes folder named came status fine (shell u how asked good answers same) name asks some d told vacant = absurd (no_shell_init u name asked asks)
-    makes folder named came status fine (publish u path root table how asked are good publishes same near) name asks some d told vacant = absurd (no_publish_init u path root name asked asks)
-    makes folder named came status fine (stdio other table how asked are good served still near) name asks some d told vacant = absurd (not_both name other asks asked)
+    makes : (holds : F → Option Folders) (named : F → Option (List ℕ)) (came : N → Links) (status : Status) → Unfailed status → Runs disk count left faults rest looks taken passed moments holds named came words keys seal a b status → (name : List ℕ) → Asks words (Init name) → seal ≢ [] → (d : Disk) → disk a.vault ≡ Some d → IsVacant d → ends_made status ≡ true
+    makes holds named came status fine (usage never same) name asks some d told vacant = absurd (never (record { command = Init name; asks = asks }))
+    makes holds named came status fine (bad_keys other asked fault same) name asks some d told vacant = absurd (not_both name other asks asked)
+    makes holds named came status fine (unsigned u path root asked fault same) name asks some d told vacant = absurd (no_publish_init u path root name asked asks)
+    makes holds named came status fine (no_seal command asked good empty same) name asks some d told vacant = absurd (some empty)
+    makes holds named came status fine (unbegun same) name asks some d told vacant = refl
+    makes holds named came status fine (init other how asked good inits same still near) name asks some d told vacant = made_ends other how d told vacant inits fine
+    makes holds named came status fine (look u q how asked good looked same) name asks some d told vacant = absurd (no_init u q name asked asks)
+    makes holds named came status fine (shell u how asked good answers same) name asks some d told vacant = absurd (no_shell_init u name asked asks)
+    makes holds named came status fine (publish u path root table how asked are good publishes same near) name asks some d told vacant = absurd (no_publish_init u path root name asked asks)
+    makes holds named came status fine (stdio other table how asked are good served still near) name asks some d told vacant = absurd (not_both name other asks asked)
 
-    pub completes : (folder : F → Option FolderView) (named : F → Option (List ℕ)) (came : N → Links) (status : Status) → Unfailed status → Runs disk count left faults rest looks taken passed moments folder named came words keys seal a b status → Completes words keys seal (disk a.vault) status
-    completes folder named came status fine ran = record { serves = serves folder named came status fine ran; makes = makes folder named came status fine ran }
+    pub completes : (holds : F → Option Folders) (named : F → Option (List ℕ)) (came : N → Links) (status : Status) → Unfailed status → Runs disk count left faults rest looks taken passed moments holds named came words keys seal a b status → Completes words keys seal (disk a.vault) status
+    completes holds named came status fine ran = record { serves = serves holds named came status fine ran; makes = makes holds named came status fine ran }

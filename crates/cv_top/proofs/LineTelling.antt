@@ -2,7 +2,7 @@
 use Rattle.std.proofs.Common.{◌≡◌, true, false, ℕ, List, refl, ap}
 use Rattle.std.specs.declared.option.Option.{Option}
 use Rattle.std.specs.declared.result.Result.TheVariants.{Ok}
-use Rattle.cv_ports.specs.Folder.{FolderView}
+use Rattle.cv_ports.specs.Folder.{Folders}
 use Rattle.cv_ports.specs.Streams.{Look}
 use Rattle.cv_vault.specs.Disk.{Disk, Files}
 use Rattle.cv_resolver.specs.Resolver.{Client}
@@ -32,7 +32,7 @@ silent_fault ask_fault.NoMemory none = refl
 silent_fault (ask_fault.Refused fault) none = absurd cc
 
 module _ {V : Type 0} (disk : V → Option Disk) (count : V → ℕ) (left : V → ℕ → Files → Type 0)
-    {R W C F N : Type 0} (faults : V → ℕ) (rest : R → Option (List ℕ)) (looks : R → Look → Type 0) (taken passed : W → Option (List ℕ)) (moments : C → Option (ℕ → ℕ)) (folder : F → Option FolderView) (named : F → Option (List ℕ)) (came : N → Links)
+    {R W C F N : Type 0} (faults : V → ℕ) (rest : R → Option (List ℕ)) (looks : R → Look → Type 0) (taken passed : W → Option (List ℕ)) (moments : C → Option (ℕ → ℕ)) (holds : F → Option Folders) (named : F → Option (List ℕ)) (came : N → Links)
     (words : List (List ℕ)) (keys seal : List ℕ) (a b : Outside V R W C F N) where
   abbrev Tells : Status → Type 0
   Tells = TellsLines rest taken words seal (came a.dial) (came b.dial) a.input b.input a.output b.output
@@ -64,7 +64,7 @@ module _ {V : Type 0} (disk : V → Option Disk) (count : V → ℕ) (left : V �
   untouched : {status : Status} → is_silent status ≡ true → b ≡ a → Tells status
   untouched is same = silent is (ap (λ (o : Outside V R W C F N). o.input) same) (ap (λ (o : Outside V R W C F N). o.output) same)
 
-  pub lines_tell_truly : (status : Status) → Runs disk count left faults rest looks taken passed moments folder named came words keys seal a b status → IsShell words → Tells status
+  pub lines_tell_truly : (status : Status) → Runs disk count left faults rest looks taken passed moments holds named came words keys seal a b status → IsShell words → Tells status
   lines_tell_truly status (usage never same) asked = absurd (never (record { command = Shell asked.url; asks = asked.asks }))
   lines_tell_truly status (bad_keys name asks has same) asked = untouched refl same
   lines_tell_truly status (unsigned v path root asks has same) asked = untouched refl same

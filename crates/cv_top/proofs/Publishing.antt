@@ -4,7 +4,7 @@ use Rattle.std.specs.Prelude.{Option, Some, None}
 use Rattle.std.specs.declared.result.Result.{Result}
 use Rattle.std.specs.declared.result.Result.TheVariants.{Ok, Err}
 use Rattle.cv_base.specs.Path.{Path}
-use Rattle.cv_ports.specs.Folder.{FolderView}
+use Rattle.cv_ports.specs.Folder.{Folders}
 use Rattle.cv_keys.specs.declared.key.Key.{Key}
 use Rattle.cv_tree.specs.Changes.{FitsUnder}
 use Rattle.cv_overlay.specs.Changes.{AreContents, ChangesView}
@@ -34,10 +34,10 @@ pub no_memory : {is_seal : List ℕ → List ℕ → Bool} {keys : List Key} {u 
 no_memory p so_far = cut_off p p _ exchange_fault.NoMemory so_far (unwanted refl)
 
 -- what came of a publisher of the changes that were read
-module _ {W C F N : Type 0} (taken : W → Option (List ℕ)) (moments : C → Option (ℕ → ℕ)) (folder : F → Option FolderView) (named : F → Option (List ℕ)) (came : N → Links) where
+module _ {W C F N : Type 0} (taken : W → Option (List ℕ)) (moments : C → Option (ℕ → ℕ)) (holds : F → Option Folders) (named : F → Option (List ℕ)) (came : N → Links) where
   pub sends_by : (keys : List Key) (seal : List ℕ) (u : Url) (path : Path) (root : List ℕ) (clock clock' : C) (f f' : F) (dial dial' : N) (changes : ChangesView) (now : ℕ) (start : PublisherView) (r : Result End ExchangeFault)
-      → ReadsRoot folder named path root f f' (Ok changes) → AreContents changes.nodes changes.objects → FitsUnder path changes.nodes → Gives (moments clock) (now ∷ []) (moments clock') → start ≡ start_of u path changes now
-      → Exchanged (is_seal_by seal) keys u (came dial) (came dial') start r → Sends taken moments folder named came keys seal u path root clock clock' f f' dial dial' r
+      → ReadsRoot holds named path root f f' (Ok changes) → AreContents changes.nodes changes.objects → FitsUnder path changes.nodes → Gives (moments clock) (now ∷ []) (moments clock') → start ≡ start_of u path changes now
+      → Exchanged (is_seal_by seal) keys u (came dial) (came dial') start r → Sends taken moments holds named came keys seal u path root clock clock' f f' dial dial' r
   sends_by keys seal u path root clock clock' f f' dial dial' changes now start r reads contents limits moment is exchanged = record {
     changes = changes;
     reads = reads;

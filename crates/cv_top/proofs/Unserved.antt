@@ -5,7 +5,7 @@ use Rattle.std.specs.declared.option.Option.TheVariants.{Some}
 use Rattle.std.specs.declared.result.Result.TheVariants.{Ok, Err}
 use Rattle.cv_keys.specs.KeysText.{keys_of}
 use Rattle.cv_keys.specs.declared.key.Key.{Key}
-use Rattle.cv_ports.specs.Folder.{FolderView}
+use Rattle.cv_ports.specs.Folder.{Folders}
 use Rattle.cv_ports.specs.Streams.{Look}
 use Rattle.cv_vault.specs.Disk.{Disk, Files, ImageOf, files_now}
 use Rattle.cv_vault.specs.Moments.{LeavesOnly}
@@ -118,16 +118,16 @@ module _ {V : Type 0} (disk : V → Option Disk) (count : V → ℕ) (left : V �
       keeps = λ first lives begun lived. refused name seal d k kept first lives begun lived x a.vault b.vault told (opens d told);
     }
 
-    pub keeps : (folder : F → Option FolderView) (named : F → Option (List ℕ)) (came : N → Links) (status : Status) → Runs disk count left faults rest looks taken passed moments folder named came words keys seal a b status → Keeps disk count left faults rest looks taken passed moments words keys seal a b
-    keeps folder named came status (usage never same) name asks d told k kept = absurd (never (record { command = Stdio name; asks = asks }))
-    keeps folder named came status (bad_keys other asked has same) name asks d told k kept = has_none name d k told kept same
-    keeps folder named came status (unsigned u path root asked has same) name asks d told k kept = has_none name d k told kept same
-    keeps folder named came status (no_seal command asked has empty same) name asks d told k kept = has_none name d k told kept same
-    keeps folder named came status (unbegun same) name asks d told k kept = has_none name d k told kept same
-    keeps folder named came status (init other how asked some inits same near far) name asks d told k kept = absurd (not_both other name asked asks)
-    keeps folder named came status (look u q how asked some looked same) name asks d told k kept = absurd (no_stdio u q name asked asks)
-    keeps folder named came status (shell u how asked some answers same) name asks d told k kept = absurd (no_shell_stdio u name asked asks)
-    keeps folder named came status (publish u path root table how asked are some publishes vault input) name asks d told k kept = absurd (no_publish_stdio u path root name asked asks)
-    keeps folder named came status (stdio other table how asked are some serves near far) name asks d told k kept =
+    pub keeps : (holds : F → Option Folders) (named : F → Option (List ℕ)) (came : N → Links) (status : Status) → Runs disk count left faults rest looks taken passed moments holds named came words keys seal a b status → Keeps disk count left faults rest looks taken passed moments words keys seal a b
+    keeps holds named came status (usage never same) name asks d told k kept = absurd (never (record { command = Stdio name; asks = asks }))
+    keeps holds named came status (bad_keys other asked has same) name asks d told k kept = has_none name d k told kept same
+    keeps holds named came status (unsigned u path root asked has same) name asks d told k kept = has_none name d k told kept same
+    keeps holds named came status (no_seal command asked has empty same) name asks d told k kept = has_none name d k told kept same
+    keeps holds named came status (unbegun same) name asks d told k kept = has_none name d k told kept same
+    keeps holds named came status (init other how asked some inits same near far) name asks d told k kept = absurd (not_both other name asked asks)
+    keeps holds named came status (look u q how asked some looked same) name asks d told k kept = absurd (no_stdio u q name asked asks)
+    keeps holds named came status (shell u how asked some answers same) name asks d told k kept = absurd (no_shell_stdio u name asked asks)
+    keeps holds named came status (publish u path root table how asked are some publishes vault input) name asks d told k kept = absurd (no_publish_stdio u path root name asked asks)
+    keeps holds named came status (stdio other table how asked are some serves near far) name asks d told k kept =
         let is : other ≡ name = one_name other name asked asks in
         subst (λ n. Has n d k) is (serves_so other table how d k are told (subst (λ n. StandsKept n (is_seal_by seal) (files_now d) k) (sym is) kept) serves)

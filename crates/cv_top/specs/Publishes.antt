@@ -1,8 +1,8 @@
 -- What the command `publish` does: it reads a folder of changes, and sends what a publisher of them wants, exchange by exchange.
-use Rattle.std.specs.Prelude.{◌≡◌, ◌⊎◌, ℕ, Bool, List, [], ◌∷◌, Option, Some, None, Result, Ok, Err, is_some}
+use Rattle.std.specs.Prelude.{◌≡◌, ◌⊎◌, ℕ, Bool, List, [], ◌∷◌, Option, Some, None, Result, Ok, Err}
 use Rattle.cv_base.specs.Path.{Path, text_of}
 use Rattle.cv_base.specs.Told.{WhereTold}
-use Rattle.cv_ports.specs.Folder.{FolderView}
+use Rattle.cv_ports.specs.Folder.{Folders}
 use Rattle.cv_ports.specs.declared.folder.FolderFault.{FolderFault}
 use Rattle.cv_http.specs.declared.outgoing.Outgoing.{Outgoing}
 use Rattle.cv_http.specs.declared.http_reply.HttpReply.{HttpReply}
@@ -40,12 +40,12 @@ use Rattle.cv_top.specs.declared.status.Status.TheVariants.{Refused, LinkFailed,
 
 -- ---- the folder
 
--- The folder was opened by this name, and its changes were read, or show their first fault, where it told what it holds; or it
--- wasn't opened.
-module _ {F : Type 0} (folder : F → Option FolderView) (named : F → Option (List ℕ)) where
+-- The folder of this name was opened, and its changes were read, or show their first fault, where it is told what stands under each
+-- name; or none was opened. What stands there is the same after it.
+module _ {F : Type 0} (holds : F → Option Folders) (named : F → Option (List ℕ)) where
   pub data ReadsRoot (path : Path) (root : List ℕ) (f f' : F) : Result ChangesView ReadFault → Type 0 where
-    rooted : (r : Result ChangesView ReadFault) → named f' ≡ Some root → is_some (folder f') ≡ is_some (folder f) → WhereTold (folder f') (Reads path r) → ReadsRoot path root f f' r
-    unrooted : (fault : FolderFault) → named f' ≡ named f → folder f' ≡ folder f → ReadsRoot path root f f' (Err (of_folder fault))
+    rooted : (r : Result ChangesView ReadFault) → named f' ≡ Some root → holds f' ≡ holds f → WhereTold (holds f) (λ of. Reads path r (of root)) → ReadsRoot path root f f' r
+    unrooted : (fault : FolderFault) → named f' ≡ named f → holds f' ≡ holds f → ReadsRoot path root f f' (Err (of_folder fault))
 
 -- ---- the exchanges
 
@@ -124,12 +124,12 @@ publish_status publish_fault.NoMemory = OutOfMemory
 
 -- ---- the command
 
--- what an output took, the moments that a clock will give, what a folder tells and its name, and the links that came back to a dial
-module _ {W C F N : Type 0} (taken : W → Option (List ℕ)) (moments : C → Option (ℕ → ℕ)) (folder : F → Option FolderView) (named : F → Option (List ℕ)) (came : N → Links) where
+-- what an output took, the moments that a clock will give, what folders tell and which is open, and the links that came back to a dial
+module _ {W C F N : Type 0} (taken : W → Option (List ℕ)) (moments : C → Option (ℕ → ℕ)) (holds : F → Option Folders) (named : F → Option (List ℕ)) (came : N → Links) where
   -- the changes were read, with the contents of all their files, and at the clock's moment a publisher of them came to this
   pub record Sends (keys : List Key) (seal : List ℕ) (u : Url) (path : Path) (root : List ℕ) (clock clock' : C) (f f' : F) (dial dial' : N) (r : Result End ExchangeFault) : Type 0 where
     pub changes : ChangesView
-    pub reads : ReadsRoot folder named path root f f' (Ok changes)
+    pub reads : ReadsRoot holds named path root f f' (Ok changes)
     pub contents : AreContents changes.nodes changes.objects
     pub limits : FitsUnder path changes.nodes
     pub now : ℕ
@@ -147,5 +147,5 @@ module _ {W C F N : Type 0} (taken : W → Option (List ℕ)) (moments : C → O
     cut : (fault : ExchangeFault) → Sends keys seal u path root clock clock' f f' dial dial' (Err fault) → output' ≡ output
         → Publishes keys seal u path root output output' clock clock' f f' dial dial' (exchange_status fault)
     -- the changes weren't read, and nothing else was touched
-    unread : (fault : ReadFault) (status : Status) → ReadsRoot folder named path root f f' (Err fault) → IsOrMemory (read_status fault) status → output' ≡ output → clock' ≡ clock → dial' ≡ dial
+    unread : (fault : ReadFault) (status : Status) → ReadsRoot holds named path root f f' (Err fault) → IsOrMemory (read_status fault) status → output' ≡ output → clock' ≡ clock → dial' ≡ dial
         → Publishes keys seal u path root output output' clock clock' f f' dial dial' status

@@ -4,7 +4,7 @@ use Rattle.std.specs.declared.result.Result.{Result}
 use Rattle.std.specs.declared.result.Result.TheVariants.{Ok, Err}
 use Rattle.cv_base.specs.Told.{WhereTold}
 use Rattle.cv_base.specs.Path.{Path}
-use Rattle.cv_ports.specs.Folder.{FolderView}
+use Rattle.cv_ports.specs.Folder.{Folders}
 use Rattle.cv_ports.specs.Streams.{Look, front, onto, Wrote}
 use Rattle.cv_vault.specs.Disk.{Disk, Files, files_now}
 use Rattle.cv_seal.specs.Hmac.{hmac_sha1}
@@ -155,8 +155,8 @@ module _ {V : Type 0} (disk : V → Option Disk) (count : V → ℕ) (left : V �
 
     -- ---- the program
 
-    -- what a folder tells and its name, and the links that came back to a dial
-    module _ {F N : Type 0} (folder : F → Option FolderView) (named : F → Option (List ℕ)) (came : N → Links) where
+    -- what folders tell and which is open, and the links that came back to a dial
+    module _ {F N : Type 0} (holds : F → Option Folders) (named : F → Option (List ℕ)) (came : N → Links) where
       -- The words are judged first, then the keys, then the seal. Where they are refused nothing is touched.
       pub data Runs (words : List (List ℕ)) (keys seal : List ℕ) (before after : Outside V R W C F N) : Status → Type 0 where
         usage : (IsCommand words → ⊥) → after ≡ before → Runs words keys seal before after Usage
@@ -178,7 +178,7 @@ module _ {V : Type 0} (disk : V → Option Disk) (count : V → ℕ) (left : V �
             → AnswersLines rest looks taken passed seal u (came before.dial) (came after.dial) before.input after.input before.output after.output status
             → after ≡ outside before.vault after.input after.output before.clock before.folder after.dial → Runs words keys seal before after status
         publish : (u : Url) (path : Path) (root : List ℕ) (table : List Key) (status : Status) → Asks words (Publishing u path root) → keys_of keys ≡ Ok table → seal ≢ []
-            → Publishes taken moments folder named came table seal u path root before.output after.output before.clock after.clock before.folder after.folder before.dial after.dial status
+            → Publishes taken moments holds named came table seal u path root before.output after.output before.clock after.clock before.folder after.folder before.dial after.dial status
             → after.vault ≡ before.vault → after.input ≡ before.input → Runs words keys seal before after status
 
     -- ---- the headline

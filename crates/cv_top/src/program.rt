@@ -156,7 +156,7 @@ fn do_publish<W: Sink, C: Clock, F: Folder, N: Dial>(
 ) -> Status
     requires { ends_in marker path ≡ false }
     ensures does { Keyed keys.now seal.now ((output.new ≡ output.old) × (clock.new ≡ clock.old) × (folder.new ≡ folder.old) × (dial.new ≡ dial.old))
-        (λ table. Publishes W.taken C.moments F.folder F.named N.came table seal.now url.now path root.now
+        (λ table. Publishes W.taken C.moments F.holds F.named N.came table seal.now url.now path root.now
         output.old output.new clock.old clock.new folder.old folder.new dial.old dial.new) result }
     ensures flushed { result ≢ OutputFailed → W.passed output.old ≡ W.taken output.old → W.passed output.new ≡ W.taken output.new }
     ensures reads { result ≢ InputFailed }
@@ -195,7 +195,7 @@ fn do_command<
     dial: &mut N,
     hold: &H,
 ) -> (Status, V, R)
-    ensures runs { Runs V.disk V.count V.left V.faults R.left R.looks W.taken W.passed C.moments F.folder F.named N.came (map string_bytes words.now) keys.now seal.now
+    ensures runs { Runs V.disk V.count V.left V.faults R.left R.looks W.taken W.passed C.moments F.holds F.named N.came (map string_bytes words.now) keys.now seal.now
         (outside vault input output.old clock.old folder.old dial.old) (outside result.1 result.2 output.new clock.new folder.new dial.new) result.0 }
     ensures flushed { result.0 ≢ OutputFailed → W.passed output.old ≡ W.taken output.old → W.passed output.new ≡ W.taken output.new }
     ensures reads { HasCause (R.faults input) (R.faults result.2) (result.0 ≡ InputFailed) }
@@ -274,7 +274,7 @@ pub fn run<
     words: &[String],
     parts: Parts<V, R, W, E, C, F, N, H>,
 ) -> (Status, Parts<V, R, W, E, C, F, N, H>)
-    ensures runs { Runs V.disk V.count V.left V.faults R.left R.looks W.taken W.passed C.moments F.folder F.named N.came (map string_bytes words.now) (string_bytes parts.keys) (string_bytes parts.seal)
+    ensures runs { Runs V.disk V.count V.left V.faults R.left R.looks W.taken W.passed C.moments F.holds F.named N.came (map string_bytes words.now) (string_bytes parts.keys) (string_bytes parts.seal)
         (outside parts.vault parts.input parts.output parts.clock parts.folder parts.dial) (outside result.1.vault result.1.input result.1.output result.1.clock result.1.folder result.1.dial) result.0 }
 
     // The headline: what is kept stays on one line of revisions, whatever is asked, and whenever the program is cut.

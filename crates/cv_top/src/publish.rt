@@ -33,7 +33,7 @@ fn read_changes<F: Folder>(
     root: &str,
     path: &RepoPath,
 ) -> Result<Changes, ReadFault>
-    ensures reads { ReadsRoot F.folder F.named path.now root.now folder.old folder.new result }
+    ensures reads { ReadsRoot F.holds F.named path.now root.now folder.old folder.new result }
     ensures cause { HasCause (F.faults folder.old) (F.faults folder.new) (IsErrOf result read_fault.Failed) }
     ensures limits { IfOk result (λ changes. FitsUnder path.now changes.nodes) }
     ensures contents { IfOk result (λ changes. AreContents changes.nodes changes.objects) }
@@ -142,7 +142,7 @@ fn publish<W: Sink, C: Clock, F: Folder, N: Dial>(
     dial: &mut N,
 ) -> Status
     requires { ends_in marker path ≡ false }
-    ensures publishes { Publishes W.taken C.moments F.folder F.named N.came keys.now signer.now url.now path root.now
+    ensures publishes { Publishes W.taken C.moments F.holds F.named N.came keys.now signer.now url.now path root.now
         output.old output.new clock.old clock.new folder.old folder.new dial.old dial.new result }
     ensures flushed { result ≢ OutputFailed → W.passed output.old ≡ W.taken output.old → W.passed output.new ≡ W.taken output.new }
     ensures reads { result ≢ InputFailed }
@@ -181,7 +181,7 @@ pub(crate) fn publish_sealed<W: Sink, C: Clock, F: Folder, N: Dial>(
 ) -> Status
     requires { ends_in marker path ≡ false }
     ensures does { Sealed seal.now ((output.new ≡ output.old) × (clock.new ≡ clock.old) × (folder.new ≡ folder.old) × (dial.new ≡ dial.old))
-        (Publishes W.taken C.moments F.folder F.named N.came table.now seal.now url.now path root.now
+        (Publishes W.taken C.moments F.holds F.named N.came table.now seal.now url.now path root.now
         output.old output.new clock.old clock.new folder.old folder.new dial.old dial.new) result }
     ensures flushed { result ≢ OutputFailed → W.passed output.old ≡ W.taken output.old → W.passed output.new ≡ W.taken output.new }
     ensures reads { result ≢ InputFailed }

@@ -19,6 +19,7 @@ events-init g t c = record {
   ordered = c.in_ok-items.ensures.ordered;
   unchanged = c.in_ok-items.ensures.unchanged;
   stays = c.in_ok-items.ensures.stays;
+  lasts = c.in_ok-items.ensures.lasts;
   later = c.in_ok-items.ensures.cause.later;
   fits = λ at place fits. subst (λ (v : FoundView). FitsUnder at v.nodes) (sym c.found.view_is) fits;
 }
@@ -32,6 +33,7 @@ events-preserved-in-Item g t c = record {
   ordered = c.events.invariant.ordered;
   unchanged = c.in_ok-found-in-Item.ensures.unchanged ∙ c.events.invariant.unchanged;
   stays = c.in_ok-found-in-Item.ensures.stays ∙ c.events.invariant.stays;
+  lasts = c.in_ok-found-in-Item.ensures.lasts ∙ c.events.invariant.lasts;
   later = omega (arith, c.events.invariant.later, c.in_ok-found-in-Item.ensures.cause.later);
   fits = λ at place fits.
       fits_more c.args.published.now at c.args.above.now c.in-Item.item.name c.events.found c.in_ok-found-in-Item.found place c.in_ok-found-in-Item.ensures.taken.1 c.in_ok-found-in-Item.ensures.taken.0
@@ -53,6 +55,7 @@ events-preserved g t c =
       ordered = c.events.invariant.ordered;
       unchanged = c.in_ok-found-in-Below.ensures.unchanged ∙ c.events.invariant.unchanged;
       stays = c.in_ok-found-in-Below.ensures.stays ∙ c.events.invariant.stays;
+      lasts = c.in_ok-found-in-Below.ensures.lasts ∙ c.events.invariant.lasts;
       later = omega (arith, c.events.invariant.later, c.in_ok-found-in-Below.ensures.cause.later);
       fits = λ at place fits. c.in_ok-found-in-Below.ensures.fits at (place_below c.args.published.now at c.args.above.now _ _ c.in-Below.name place next deeper) (c.events.invariant.fits at place fits);
     }

@@ -21,6 +21,7 @@ invariant-events g l = record {
   ordered : WhereTold (g.F.Folder.folder l.fn.folder) IsOrdered;
   unchanged : g.F.Folder.folder l.folder ≡ g.F.Folder.folder l.fn.folder;
   stays : g.F.Folder.named l.folder ≡ g.F.Folder.named l.fn.folder;
+  lasts : g.F.Folder.holds l.folder ≡ g.F.Folder.holds l.fn.folder;
   later : g.F.Folder.faults l.fn.folder ≤ g.F.Folder.faults l.folder;
   fits : (at : Path) → l.published ≡ at ++ l.above → FitsUnder at l.fn.found.nodes → FitsUnder at l.found.nodes;
 }
