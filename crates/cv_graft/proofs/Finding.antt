@@ -21,7 +21,7 @@ use Rattle.cv_cut.specs.Catalogues.{entry_of, cat}
 use Rattle.cv_cut.specs.Above.{cuts_above, OnWay, Holds}
 use Rattle.cv_graft.specs.Graft.{HasWay}
 use Rattle.cv_graft.specs.Placed.{HasCuts}
-use Rattle.cv_graft.specs.Way.{IsNext, HasNone, Finds, BlamesWay, TellsDamage}
+use Rattle.cv_graft.specs.Way.{IsNext, HasNone, Finds}
 use Rattle.cv_cut.specs.Catalogues.{contents_of}
 use Rattle.cv_graft.specs.Faults.{of_load}
 use Rattle.cv_cut.specs.Reached.{Place, HasCatalogue, root_place}
@@ -150,21 +150,6 @@ top_unread shelf root t p top f way some kind none h =
     let there = ap shelf id ∙ way.catalogues [] refl refl some in
     opens_there shelf root root_place (cat t []) (contents_of t []) f there (sym way.root) (root_decodes_at t way.tree (way.fits [] refl refl some))
     (subst (λ (q : Path). Opens shelf root (record { path = q; row = None }) (Err f)) none h)
-
--- what a fault tells of damage
-pub tells_way : (X : Type 0) (shelf : Shelf) (root : List ℕ) (p : Path) (f : LoadFault) → BlamesWay shelf root p f → TellsDamage shelf {X = X} (Err (of_load f))
-tells_way X shelf root p (fault.Missing x) h = tt
-tells_way X shelf root p (fault.Bad x) h = tt
-tells_way X shelf root p fault.Failed h = tt
-tells_way X shelf root p (fault.Damaged id found) h = h.1
-tells_way X shelf root p fault.NoMemory h = tt
-
-pub tells_nested : (X : Type 0) (shelf : Shelf) (id : ObjectId) (c : Contents) (n : Nested) (f : LoadFault) → OpensNested shelf id c n (Err f) → TellsDamage shelf {X = X} (Err (of_load f))
-tells_nested X shelf id c n (fault.Missing x) h = tt
-tells_nested X shelf id c n (fault.Bad x) h = tt
-tells_nested X shelf id c n fault.Failed h = tt
-tells_nested X shelf id c n (fault.Damaged x found) h = subst (λ (y : ObjectId). HasOtherDigest shelf y found) (sym h.0) h.1
-tells_nested X shelf id c n fault.NoMemory h = tt
 
 -- none or one is fetched
 pub at_most_one : (before after most : ℕ) → 1 ≤ most → (after ≡ before) ⊎ (after ≡ raised before) → RaisedAtMost most before after

@@ -1,5 +1,5 @@
 -- What is found, and what is blamed, on the way to a path, by what stands on a shelf.
-use Rattle.std.proofs.Common.{◌≡◌, ◌≢◌, [], List, ℕ, Result, Ok, Err, Some, None, refl, sym, subst}
+use Rattle.std.proofs.Common.{◌≡◌, ◌≢◌, [], List, ℕ, Result, Ok, Err, Some, None, inl, inr, refl, sym, subst}
 use Rattle.std.specs.Prelude.{IfErr, IfOk}
 use Rattle.cv_base.specs.Path.{Path}
 use Rattle.cv_base.specs.declared.id.ObjectId.{ObjectId}
@@ -8,13 +8,16 @@ use Rattle.cv_ports.specs.Shelf.{Shelf}
 use Rattle.cv_rows.specs.Catalogue.{Contents}
 use Rattle.cv_rows.specs.declared.nested.Nested.{Nested}
 use Rattle.cv_rows.specs.declared.row.Row.{Row}
-use Rattle.cv_cut.specs.Opening.{Opens, OpensNested, IsNestedCatalogue, IsTransitionOf, IsBadNested, of_size, undecodable, below_id}
+use Rattle.cv_cut.specs.Opening.{Opens, OpensNested, IsNestedCatalogue, IsTransitionOf, IsBadNested, HasOtherDigest, of_size, undecodable, below_id}
 use Rattle.cv_cut.specs.Reached.{Place, HasCatalogue, root_place}
 use Rattle.cv_cut.specs.declared.load_fault.LoadFault.{LoadFault}
 use Rattle.cv_cut.specs.declared.load_fault.LoadFault.TheVariants as fault
 use Rattle.cv_cut.proofs.Lemmas.{transition_of}
 use Rattle.cv_graft.specs.Directories.{IsHolder, HoldsFrom}
-use Rattle.cv_graft.specs.Way.{HasNone, IsNext, IsOnWay, IsOfWay, IsBadOnWay, BlamesWay, FailsFrom}
+use Rattle.cv_graft.specs.Faults.{of_load}
+use Rattle.cv_graft.specs.Way.{HasNone, IsNext, IsOnWay, IsOfWay, IsOfEither, IsOfWayOf, IsBadOnWay, BlamesWay, FailsFrom, TellsDamage}
+use Rattle.cv_graft.specs.declared.graft_fault.GraftFault.{GraftFault}
+use Rattle.cv_graft.specs.declared.graft_fault.GraftFault.TheVariants as graft
 
 -- ---- one step
 
@@ -90,3 +93,50 @@ fails_top shelf root top c p (Err f) some none has h = h root.hash root_place (I
 pub top_blamed : (shelf : Shelf) (root : ObjectId) (p top : Path) (f : LoadFault) → root.kind ≡ Catalogue → p ≢ [] → top ≡ [] → Opens shelf root (record { path = top; row = None }) (Err f) → BlamesWay shelf root.hash p f
 top_blamed shelf root p top f kind some none h =
     blames shelf root.hash p root f (record { kind = kind; place = root_place; on = IsOnWay.top some }) (subst (λ (q : Path). Opens shelf root (record { path = q; row = None }) (Err f)) none h)
+
+-- ---- what is told of damage
+
+pub tells_more : {X : Type 0} (shelf : Shelf) (which more : ObjectId → Type 0) (result : Result X GraftFault) → ((id : ObjectId) → which id → more id) → TellsDamage shelf which result → TellsDamage shelf more result
+tells_more shelf which more (Ok x) each h = tt
+tells_more shelf which more (Err (graft.PathCollision a b)) each h = tt
+tells_more shelf which more (Err (graft.CatalogueFull c)) each h = tt
+tells_more shelf which more (Err graft.Failed) each h = tt
+tells_more shelf which more (Err (graft.Damaged id found)) each h = (each id h.0, h.1)
+tells_more shelf which more (Err graft.NoMemory) each h = tt
+
+pub tells_way : (X : Type 0) (shelf : Shelf) (root : List ℕ) (p : Path) (f : LoadFault) → BlamesWay shelf root p f → TellsDamage shelf (IsOfWay shelf root p) {X = X} (Err (of_load f))
+tells_way X shelf root p (fault.Missing x) h = tt
+tells_way X shelf root p (fault.Bad x) h = tt
+tells_way X shelf root p fault.Failed h = tt
+tells_way X shelf root p (fault.Damaged id found) h = h
+tells_way X shelf root p fault.NoMemory h = tt
+
+pub tells_next : (X : Type 0) (shelf : Shelf) (id : ObjectId) (c : Contents) (n : Nested) (p : Path) (f : LoadFault) → id.kind ≡ Catalogue → IsNext c p n → OpensNested shelf id c n (Err f)
+    → TellsDamage shelf (IsOfWayOf shelf id c p) {X = X} (Err (of_load f))
+tells_next X shelf id c n p (fault.Missing x) kind next h = tt
+tells_next X shelf id c n p (fault.Bad x) kind next h = tt
+tells_next X shelf id c n p fault.Failed kind next h = tt
+tells_next X shelf id c n p (fault.Damaged x found) kind next h = (
+  λ root place on there. (blames_next shelf root p id c n (record { kind = kind; place = place; on = on }) there next (fault.Damaged x found) h).0,
+  subst (λ (y : ObjectId). HasOtherDigest shelf y found) (sym h.0) h.1,
+)
+tells_next X shelf id c n p fault.NoMemory kind next h = tt
+
+-- from a nested catalogue on
+pub tells_below : {X : Type 0} (shelf : Shelf) (id : ObjectId) (c below : Contents) (n : Nested) (p : Path) (result : Result X GraftFault) → IsNext c p n → IsNestedCatalogue shelf c n below
+    → TellsDamage shelf (IsOfWayOf shelf (below_id n) below p) result → TellsDamage shelf (IsOfWayOf shelf id c p) result
+tells_below shelf id c below n p result next o =
+    tells_more shelf (IsOfWayOf shelf (below_id n) below p) (IsOfWayOf shelf id c p) result (λ x h root place on there. h root (record { path = n.path; row = Some o.row }) (on_below on there next o) o.opened)
+
+-- from the root of the repository on
+pub tells_top : {X : Type 0} (shelf : Shelf) (root : ObjectId) (top : Path) (c : Contents) (p : Path) (result : Result X GraftFault) → p ≢ [] → top ≡ [] → HasCatalogue shelf root.hash (record { path = top; row = None }) c
+    → TellsDamage shelf (IsOfWayOf shelf root c p) result → TellsDamage shelf (IsOfWay shelf root.hash p) result
+tells_top shelf root top c p result some none has =
+    tells_more shelf (IsOfWayOf shelf root c p) (IsOfWay shelf root.hash p) result (λ x h. h root.hash root_place (IsOnWay.top some) (top_at shelf root.hash top c none has))
+
+-- of one of two trees
+pub tells_left : {X : Type 0} (shelf : Shelf) (root other : List ℕ) (p : Path) (result : Result X GraftFault) → TellsDamage shelf (IsOfWay shelf root p) result → TellsDamage shelf (IsOfEither shelf root other p) result
+tells_left shelf root other p result = tells_more shelf (IsOfWay shelf root p) (IsOfEither shelf root other p) result (λ id. inl)
+
+pub tells_right : {X : Type 0} (shelf : Shelf) (root other : List ℕ) (p : Path) (result : Result X GraftFault) → TellsDamage shelf (IsOfWay shelf other p) result → TellsDamage shelf (IsOfEither shelf root other p) result
+tells_right shelf root other p result = tells_more shelf (IsOfWay shelf other p) (IsOfEither shelf root other p) result (λ id. inr)

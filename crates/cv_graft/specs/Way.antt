@@ -1,5 +1,5 @@
 -- The catalogues on the way to a path.
-use Rattle.std.specs.Prelude.{◌≡◌, ◌≢◌, ℕ, Bool, true, false, List, [], ◌++◌, length, Contains, None, Some, Result, Ok, Err, IsSomeAnd}
+use Rattle.std.specs.Prelude.{◌≡◌, ◌≢◌, ◌⊎◌, ℕ, Bool, true, false, List, [], ◌++◌, length, Contains, None, Some, Result, Ok, Err, IsSomeAnd}
 use Rattle.sha1.specs.Sha1.{sha1}
 use Rattle.cv_base.specs.Path.{Path, covers}
 use Rattle.cv_base.specs.Marker.{marker, ends_in}
@@ -22,14 +22,14 @@ use Rattle.cv_graft.specs.declared.made.Made.{Made}
 use Rattle.cv_graft.specs.declared.graft_fault.GraftFault.{GraftFault}
 use Rattle.cv_graft.specs.declared.graft_fault.GraftFault.TheVariants as fault
 
--- where bytes of another digest are the cause, they stand under the id that is named
-abbrev pub TellsDamage : Shelf → {X : Type 0} → Result X GraftFault → Type 0
-TellsDamage shelf (Ok x) = Unit {0}
-TellsDamage shelf (Err (fault.PathCollision a b)) = Unit {0}
-TellsDamage shelf (Err (fault.CatalogueFull c)) = Unit {0}
-TellsDamage shelf (Err fault.Failed) = Unit {0}
-TellsDamage shelf (Err (fault.Damaged id found)) = HasOtherDigest shelf id found
-TellsDamage shelf (Err fault.NoMemory) = Unit {0}
+-- where bytes of another digest are the cause, they stand under the id that is named, of an object that is one of these
+abbrev pub TellsDamage : Shelf → (ObjectId → Type 0) → {X : Type 0} → Result X GraftFault → Type 0
+TellsDamage shelf which (Ok x) = Unit {0}
+TellsDamage shelf which (Err (fault.PathCollision a b)) = Unit {0}
+TellsDamage shelf which (Err (fault.CatalogueFull c)) = Unit {0}
+TellsDamage shelf which (Err fault.Failed) = Unit {0}
+TellsDamage shelf which (Err (fault.Damaged id found)) = which id × HasOtherDigest shelf id found
+TellsDamage shelf which (Err fault.NoMemory) = Unit {0}
 
 -- the nested entry of a catalogue properly above the path
 pub record IsNext (c : Contents) (p : Path) (n : Nested) : Type 0 where
@@ -54,6 +54,10 @@ pub record IsOfWay (shelf : Shelf) (root : List ℕ) (p : Path) (id : ObjectId) 
   pub place : Place
   pub on : IsOnWay shelf root p id.hash place
 
+-- in the one tree or the other
+abbrev pub IsOfEither : Shelf → List ℕ → List ℕ → Path → ObjectId → Type 0
+IsOfEither shelf root other p id = IsOfWay shelf root p id ⊎ IsOfWay shelf other p id
+
 -- It is there, and is no catalogue at its place; or it states for the next one on the way a size that isn't the length of what is there.
 pub data IsBadOnWay (shelf : Shelf) (root : List ℕ) (p : Path) (id : ObjectId) : Type 0 where
   undecodable : (on : IsOfWay shelf root p id) → IsUndecodable shelf id on.place → IsBadOnWay shelf root p id
@@ -72,6 +76,10 @@ BlamesWay shelf root p load.NoMemory = Unit {0}
 abbrev pub FailsFrom : Shelf → ObjectId → Contents → Path → {X : Type 0} → Result X LoadFault → Type 0
 FailsFrom shelf id c p (Ok x) = Unit {0}
 FailsFrom shelf id c p (Err f) = (root : List ℕ) (place : Place) → IsOnWay shelf root p id.hash place → HasCatalogue shelf id.hash place c → BlamesWay shelf root p f
+
+-- the object is a catalogue on the way on which the catalogue c under an id is
+abbrev pub IsOfWayOf : Shelf → ObjectId → Contents → Path → ObjectId → Type 0
+IsOfWayOf shelf id c p x = (root : List ℕ) (place : Place) → IsOnWay shelf root p id.hash place → HasCatalogue shelf id.hash place c → IsOfWay shelf root p x
 
 -- what a search for the catalogue that directly holds a path answers
 abbrev pub Finds : Nodes → Path → Result Contents LoadFault → Type 0

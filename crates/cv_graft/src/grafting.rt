@@ -5,6 +5,8 @@ ghost use Rattle.cv_base.specs.Marker.{marker, ends_in};
 ghost use Rattle.cv_base.specs.Path.{covers};
 ghost use Rattle.cv_base.specs.Told.{WhereTold};
 ghost use Rattle.cv_base.specs.declared.id.Kind.TheVariants as id_kind;
+ghost use Rattle.cv_base.specs.declared.id.ObjectId.{ObjectId as ObjectId_};
+ghost use Rattle.cv_ports.specs.Shelf.{Shelf as Shelf_};
 ghost use Rattle.cv_rows.specs.Catalogue.{IsCatalogue};
 ghost use Rattle.cv_tree.specs.Tree.{Nodes};
 ghost use Rattle.cv_tree.specs.Changes.{has_place};
@@ -15,7 +17,7 @@ ghost use Rattle.cv_cut.specs.declared.load_fault.LoadFault.TheVariants as load_
 ghost use Rattle.cv_graft.specs.Directories.{IsHolder};
 ghost use Rattle.cv_graft.specs.Graft.{Grafts, HasOwnIds};
 ghost use Rattle.cv_graft.specs.Placed.{HasCuts};
-ghost use Rattle.cv_graft.specs.Way.{BlamesWay, Finds, TellsDamage};
+ghost use Rattle.cv_graft.specs.Way.{BlamesWay, Finds, IsOfEither, TellsDamage};
 ghost use Rattle.cv_graft.specs.declared.graft_fault.GraftFault.TheVariants as faults;
 
 use crate::graft_fault::GraftFault;
@@ -57,7 +59,7 @@ fn whole<S: Shelf>(alloc: Global, shelf: &mut S, offered: &ObjectId) -> Result<G
     requires { offered.now.kind ≡ id_kind.Catalogue }
     ensures told { WhereTold (S.shelf shelf.old) (λ standing. (t n : Nodes) → Means standing offered.now.hash n → Grafts (replaced t n []) [] result) }
     ensures own { IfOk result (λ g. HasOwnIds g.added) }
-    ensures damaged { WhereTold (S.shelf shelf.old) (λ standing. TellsDamage standing result) }
+    ensures undamaged { (standing : Shelf_) (which : ObjectId_ → Type 0) → TellsDamage standing which result }
     ensures reads { S.reads shelf.old shelf.new }
     ensures unchanged { S.shelf shelf.new ≡ S.shelf shelf.old }
     ensures cause { HasCause (S.faults shelf.old) (S.faults shelf.new) (IsErrOf result faults.Failed) }
@@ -90,7 +92,7 @@ fn below_root<S: Shelf>(
     requires unmarked { ends_in marker path.now ≡ false }
     ensures told { WhereTold (S.shelf shelf.old) (λ standing. (t n : Nodes) → Means standing newest.now.hash t → Means standing offered.now.hash n → IsTrue (has_place t path.now) → Grafts (replaced t n path.now) path.now result) }
     ensures own { IfOk result (λ g. HasOwnIds g.added) }
-    ensures damaged { WhereTold (S.shelf shelf.old) (λ standing. TellsDamage standing result) }
+    ensures damaged { WhereTold (S.shelf shelf.old) (λ standing. TellsDamage standing (IsOfEither standing newest.now.hash offered.now.hash path.now) result) }
     ensures reads { S.reads shelf.old shelf.new }
     ensures unchanged { S.shelf shelf.new ≡ S.shelf shelf.old }
     ensures cause { HasCause (S.faults shelf.old) (S.faults shelf.new) (IsErrOf result faults.Failed) }
@@ -129,7 +131,7 @@ pub fn graft<S: Shelf>(
     requires unmarked { ends_in marker path.now ≡ false }
     ensures told { WhereTold (S.shelf shelf.old) (λ standing. (t n : Nodes) → Means standing newest.now.hash t → Means standing offered.now.hash n → IsTrue (has_place t path.now) → Grafts (replaced t n path.now) path.now result) }
     ensures own { IfOk result (λ g. HasOwnIds g.added) }
-    ensures damaged { WhereTold (S.shelf shelf.old) (λ standing. TellsDamage standing result) }
+    ensures damaged { WhereTold (S.shelf shelf.old) (λ standing. TellsDamage standing (IsOfEither standing newest.now.hash offered.now.hash path.now) result) }
     ensures reads { S.reads shelf.old shelf.new }
     ensures unchanged { S.shelf shelf.new ≡ S.shelf shelf.old }
     ensures cause { HasCause (S.faults shelf.old) (S.faults shelf.new) (IsErrOf result faults.Failed) }

@@ -8,3 +8,6 @@ pub returns-then-is_empty-clause-told : goal.returns-then-is_empty-clause-told
 returns-then-is_empty-clause-told g c = λ standing told t n mt mn place.
     let size = (Decides-eqb (length c.names.result.now) 0).0 (sym c.is_empty.ensures ∙ c.if-is_empty.true) in
     at_root t n c.args.path.now c.names.result.now c.whole.result c.names.ensures.names (nil_from_length c.names.result.now size) (c.whole.ensures.told standing told t n mn)
+
+pub returns-then-is_empty-clause-damaged : goal.returns-then-is_empty-clause-damaged
+returns-then-is_empty-clause-damaged g c = λ standing told. c.whole.ensures.undamaged standing _

@@ -20,7 +20,7 @@ returns-then-is_empty-clause-told g c = λ standing told t way place.
     placed_root t (nodes_of (option_copied c.args.part)) c.args.path.now _ root c.at_root.ensures.placed
 
 pub returns-then-is_empty-clause-damaged : goal.returns-then-is_empty-clause-damaged
-returns-then-is_empty-clause-damaged g c = λ standing told. c.at_root.ensures.undamaged standing
+returns-then-is_empty-clause-damaged g c = λ standing told. c.at_root.ensures.undamaged standing _
 
 pub returns-then-is_empty-clause-cause : goal.returns-then-is_empty-clause-cause
 returns-then-is_empty-clause-cause g c = record { later = omega arith; failed = λ is. absurd (c.at_root.ensures.unread is) }
