@@ -11,4 +11,4 @@ mod PlacedAbove
 mod PlacedWhole
 mod PlacedMeans
 mod Holders
-pub mod Ways
+mod Ways
