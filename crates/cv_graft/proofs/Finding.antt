@@ -1,5 +1,5 @@
 -- The catalogues on the way to a path, one below another.
-use Rattle.std.proofs.Common.{◌≡◌, ◌≢◌, ℕ, zero, suc, ◌+◌, ◌≤◌, true, false, List, [], ◌∷◌, ◌++◌, map, length, Some, None, Result, Ok, Err, ◌⊎◌, inl, inr, refl, sym, ap, subst, ◌∙◌, append-nil, append_assoc, arith}
+use Rattle.std.proofs.Common.{◌≡◌, ◌≢◌, ℕ, zero, suc, ◌+◌, ◌≤◌, true, false, List, [], ◌∷◌, ◌++◌, map, length, Some, None, Err, ◌⊎◌, inl, inr, refl, sym, ap, subst, ◌∙◌, append-nil, append_assoc, arith}
 use Rattle.std.specs.declared.option.Option.{Option}
 use Rattle.std.specs.FinMap.{get}
 use Rattle.std.proofs.lemmas.List.{length-map}
@@ -23,11 +23,9 @@ use Rattle.cv_graft.specs.Graft.{HasWay}
 use Rattle.cv_graft.specs.Placed.{HasCuts}
 use Rattle.cv_graft.specs.Way.{IsNext, HasNone, Finds}
 use Rattle.cv_cut.specs.Catalogues.{contents_of}
-use Rattle.cv_graft.specs.Faults.{of_load}
 use Rattle.cv_cut.specs.Reached.{Place, HasCatalogue, root_place}
-use Rattle.cv_cut.specs.Opening.{Opens, OpensNested, IsNestedCatalogue, HasOtherDigest, IsUnread, below_id}
+use Rattle.cv_cut.specs.Opening.{Opens, OpensNested, IsNestedCatalogue, IsUnread}
 use Rattle.cv_cut.specs.declared.load_fault.LoadFault.{LoadFault}
-use Rattle.cv_cut.specs.declared.load_fault.LoadFault.TheVariants as fault
 use Rattle.cv_rows.specs.Places.{StandsAt}
 use Rattle.cv_cut.specs.Region.{FitsAtCut, IsOther, Passes}
 use Rattle.cv_tree.proofs.Laws.{at-at}

@@ -96,7 +96,7 @@ top_blamed shelf root p top f kind some none h =
 
 -- ---- what is told of damage
 
-pub tells_more : {X : Type 0} (shelf : Shelf) (which more : ObjectId → Type 0) (result : Result X GraftFault) → ((id : ObjectId) → which id → more id) → TellsDamage shelf which result → TellsDamage shelf more result
+tells_more : {X : Type 0} (shelf : Shelf) (which more : ObjectId → Type 0) (result : Result X GraftFault) → ((id : ObjectId) → which id → more id) → TellsDamage shelf which result → TellsDamage shelf more result
 tells_more shelf which more (Ok x) each h = tt
 tells_more shelf which more (Err (graft.PathCollision a b)) each h = tt
 tells_more shelf which more (Err (graft.CatalogueFull c)) each h = tt
@@ -123,20 +123,24 @@ tells_next X shelf id c n p (fault.Damaged x found) kind next h = (
 tells_next X shelf id c n p fault.NoMemory kind next h = tt
 
 -- from a nested catalogue on
-pub tells_below : {X : Type 0} (shelf : Shelf) (id : ObjectId) (c below : Contents) (n : Nested) (p : Path) (result : Result X GraftFault) → IsNext c p n → IsNestedCatalogue shelf c n below
-    → TellsDamage shelf (IsOfWayOf shelf (below_id n) below p) result → TellsDamage shelf (IsOfWayOf shelf id c p) result
-tells_below shelf id c below n p result next o =
-    tells_more shelf (IsOfWayOf shelf (below_id n) below p) (IsOfWayOf shelf id c p) result (λ x h root place on there. h root (record { path = n.path; row = Some o.row }) (on_below on there next o) o.opened)
+pub tells_below : (X : Type 0) (shelf : Shelf) (id : ObjectId) (c below : Contents) (n : Nested) (p : Path) (f : GraftFault) → IsNext c p n → IsNestedCatalogue shelf c n below
+    → TellsDamage shelf (IsOfWayOf shelf (below_id n) below p) {X = X} (Err f) → TellsDamage shelf (IsOfWayOf shelf id c p) {X = X} (Err f)
+tells_below X shelf id c below n p f next o =
+    tells_more {X = X} shelf (IsOfWayOf shelf (below_id n) below p) (IsOfWayOf shelf id c p) (Err f) (λ x h root place on there. h root (record { path = n.path; row = Some o.row }) (on_below on there next o) o.opened)
 
 -- from the root of the repository on
-pub tells_top : {X : Type 0} (shelf : Shelf) (root : ObjectId) (top : Path) (c : Contents) (p : Path) (result : Result X GraftFault) → p ≢ [] → top ≡ [] → HasCatalogue shelf root.hash (record { path = top; row = None }) c
-    → TellsDamage shelf (IsOfWayOf shelf root c p) result → TellsDamage shelf (IsOfWay shelf root.hash p) result
-tells_top shelf root top c p result some none has =
-    tells_more shelf (IsOfWayOf shelf root c p) (IsOfWay shelf root.hash p) result (λ x h. h root.hash root_place (IsOnWay.top some) (top_at shelf root.hash top c none has))
+pub tells_top : (X : Type 0) (shelf : Shelf) (root : ObjectId) (top : Path) (c : Contents) (p : Path) (f : GraftFault) → p ≢ [] → top ≡ [] → HasCatalogue shelf root.hash (record { path = top; row = None }) c
+    → TellsDamage shelf (IsOfWayOf shelf root c p) {X = X} (Err f) → TellsDamage shelf (IsOfWay shelf root.hash p) {X = X} (Err f)
+tells_top X shelf root top c p f some none has =
+    tells_more {X = X} shelf (IsOfWayOf shelf root c p) (IsOfWay shelf root.hash p) (Err f) (λ x h. h root.hash root_place (IsOnWay.top some) (top_at shelf root.hash top c none has))
 
 -- of one of two trees
-pub tells_left : {X : Type 0} (shelf : Shelf) (root other : List ℕ) (p : Path) (result : Result X GraftFault) → TellsDamage shelf (IsOfWay shelf root p) result → TellsDamage shelf (IsOfEither shelf root other p) result
-tells_left shelf root other p result = tells_more shelf (IsOfWay shelf root p) (IsOfEither shelf root other p) result (λ id. inl)
+pub tells_left : (X : Type 0) (shelf : Shelf) (root other : List ℕ) (p : Path) (f : GraftFault) → TellsDamage shelf (IsOfWay shelf root p) {X = X} (Err f) → TellsDamage shelf (IsOfEither shelf root other p) {X = X} (Err f)
+tells_left X shelf root other p f = tells_more {X = X} shelf (IsOfWay shelf root p) (IsOfEither shelf root other p) (Err f) (λ id. inl)
 
-pub tells_right : {X : Type 0} (shelf : Shelf) (root other : List ℕ) (p : Path) (result : Result X GraftFault) → TellsDamage shelf (IsOfWay shelf other p) result → TellsDamage shelf (IsOfEither shelf root other p) result
-tells_right shelf root other p result = tells_more shelf (IsOfWay shelf other p) (IsOfEither shelf root other p) result (λ id. inr)
+pub tells_right : (X : Type 0) (shelf : Shelf) (root other : List ℕ) (p : Path) (f : GraftFault) → TellsDamage shelf (IsOfWay shelf other p) {X = X} (Err f) → TellsDamage shelf (IsOfEither shelf root other p) {X = X} (Err f)
+tells_right X shelf root other p f = tells_more {X = X} shelf (IsOfWay shelf other p) (IsOfEither shelf root other p) (Err f) (λ id. inr)
+
+-- of none
+pub tells_none : {X : Type 0} (shelf : Shelf) (which : ObjectId → Type 0) (result : Result X GraftFault) → TellsDamage shelf (λ id. ⊥) result → TellsDamage shelf which result
+tells_none shelf which result = tells_more shelf (λ id. ⊥) which result (λ id none. absurd none)

@@ -4,7 +4,6 @@ use Rattle.std.specs.Prelude.{Contains, IsErrOf}
 use Rattle.std.specs.List.{All}
 use Rattle.std.proofs.lemmas.List.{map-append, take_more, take_all}
 use Rattle.std.proofs.lemmas.List.Elements.{All-contains, All-from_recursion, Contains-append_cases}
-use Rattle.cv_base.specs.declared.id.ObjectId.{ObjectId}
 use Rattle.cv_base.specs.Path.{Path, covers, key_of, text_of}
 use Rattle.cv_base.proofs.Laws.{text_of-injective}
 use Rattle.cv_ports.specs.Shelf.{Shelf}
@@ -120,12 +119,12 @@ part_not_failed X c p m fault.Failed h is = h
 part_not_failed X c p m (fault.Damaged id found) h is = cc
 part_not_failed X c p m fault.NoMemory h is = cc
 
-pub part_tells : (X : Type 0) (c : Contents) (p : Path) (m : Nodes) (f : GraftFault) (shelf : Shelf) (which : ObjectId → Type 0) → JoinsPart c p m (Err f) → TellsDamage shelf which {X = X} (Err f)
-part_tells X c p m (fault.PathCollision a b) shelf which h = tt
-part_tells X c p m (fault.CatalogueFull d) shelf which h = tt
-part_tells X c p m fault.Failed shelf which h = tt
-part_tells X c p m (fault.Damaged id found) shelf which h = absurd h
-part_tells X c p m fault.NoMemory shelf which h = tt
+pub part_tells : (X : Type 0) (c : Contents) (p : Path) (m : Nodes) (f : GraftFault) (shelf : Shelf) → JoinsPart c p m (Err f) → TellsDamage shelf (λ id. ⊥) {X = X} (Err f)
+part_tells X c p m (fault.PathCollision a b) shelf h = tt
+part_tells X c p m (fault.CatalogueFull d) shelf h = tt
+part_tells X c p m fault.Failed shelf h = tt
+part_tells X c p m (fault.Damaged id found) shelf h = absurd h
+part_tells X c p m fault.NoMemory shelf h = tt
 
 -- ---- objects have their own ids
 

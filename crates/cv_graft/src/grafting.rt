@@ -5,7 +5,6 @@ ghost use Rattle.cv_base.specs.Marker.{marker, ends_in};
 ghost use Rattle.cv_base.specs.Path.{covers};
 ghost use Rattle.cv_base.specs.Told.{WhereTold};
 ghost use Rattle.cv_base.specs.declared.id.Kind.TheVariants as id_kind;
-ghost use Rattle.cv_base.specs.declared.id.ObjectId.{ObjectId as ObjectId_};
 ghost use Rattle.cv_ports.specs.Shelf.{Shelf as Shelf_};
 ghost use Rattle.cv_rows.specs.Catalogue.{IsCatalogue};
 ghost use Rattle.cv_tree.specs.Tree.{Nodes};
@@ -59,7 +58,7 @@ fn whole<S: Shelf>(alloc: Global, shelf: &mut S, offered: &ObjectId) -> Result<G
     requires { offered.now.kind ≡ id_kind.Catalogue }
     ensures told { WhereTold (S.shelf shelf.old) (λ standing. (t n : Nodes) → Means standing offered.now.hash n → Grafts (replaced t n []) [] result) }
     ensures own { IfOk result (λ g. HasOwnIds g.added) }
-    ensures undamaged { (standing : Shelf_) (which : ObjectId_ → Type 0) → TellsDamage standing which result }
+    ensures undamaged { (standing : Shelf_) → TellsDamage standing (λ id. ⊥) result }
     ensures reads { S.reads shelf.old shelf.new }
     ensures unchanged { S.shelf shelf.new ≡ S.shelf shelf.old }
     ensures cause { HasCause (S.faults shelf.old) (S.faults shelf.new) (IsErrOf result faults.Failed) }

@@ -1,7 +1,6 @@
 //! What one catalogue has outside a path, with what another has there.
 ghost use Rattle.std.specs.Prelude.{◌≡◌, ◌≢◌, ◌∷◌, ◌++◌, [], ℕ, List, true, false, IfOk, IfErr, IsErrOf, OnOk, Contains};
 ghost use Rattle.cv_base.specs.Marker.{marker, ends_in};
-ghost use Rattle.cv_base.specs.declared.id.ObjectId.{ObjectId};
 ghost use Rattle.cv_base.specs.Path.{covers};
 ghost use Rattle.cv_rows.specs.Catalogue.{IsCatalogue};
 ghost use Rattle.cv_rows.specs.Places.{StandsAt};
@@ -115,7 +114,7 @@ pub(crate) fn joined(
     requires unmarked { ends_in marker path.now ≡ false }
     ensures joins { Joins catalogue other.now path.now result }
     ensures unread { IsErrOf result faults.Failed → ⊥ }
-    ensures undamaged { (standing : Shelf_) (which : ObjectId → Type 0) → TellsDamage standing which result }
+    ensures undamaged { (standing : Shelf_) → TellsDamage standing (λ id. ⊥) result }
 {
     let (rows, nested) = other.within(alloc, path)?;
     let rest = without(alloc, catalogue, path)?;

@@ -6,7 +6,6 @@ ghost use Rattle.cv_base.specs.Marker.{marker, ends_in};
 ghost use Rattle.cv_base.specs.Path.{covers};
 ghost use Rattle.cv_base.specs.Told.{WhereTold};
 ghost use Rattle.cv_base.specs.declared.id.Kind.TheVariants as id_kind;
-ghost use Rattle.cv_base.specs.declared.id.ObjectId.{ObjectId as ObjectId_};
 ghost use Rattle.cv_ports.specs.Calls.{raised_by};
 ghost use Rattle.cv_ports.specs.Shelf.{Shelf as Shelf_};
 ghost use Rattle.cv_rows.specs.Made.{AreApart, keys_of, texts_of};
@@ -133,7 +132,7 @@ fn rejoined_part(
     requires only { (d : List (List ℕ)) → is_cut piece.now.tree d ≡ true → d ≢ [] → covers path.now d ≡ true }
     ensures made { (t : Nodes) (r : List (List ℕ)) → IsAskedPart t piece.now.tree path.now catalogue.at r → catalogue ≡ contents_of t catalogue.at → Sets t piece.now.tree path.now catalogue.at r added.old.items added.new.items result }
     ensures unread { IsErrOf result faults.Failed → ⊥ }
-    ensures undamaged { (standing : Shelf_) (which : ObjectId_ → Type 0) → TellsDamage standing which result }
+    ensures undamaged { (standing : Shelf_) → TellsDamage standing (λ id. ⊥) result }
     ensures digest { IfOk result (λ made. IsDigest made.hash) }
     ensures own { OnOk result (HasOwnIds added.old.items → HasOwnIds added.new.items) }
 {

@@ -8,7 +8,6 @@ ghost use Rattle.cv_base.specs.ObjectId.{object_id};
 ghost use Rattle.cv_base.specs.Path.{covers};
 ghost use Rattle.cv_base.specs.Told.{WhereTold};
 ghost use Rattle.cv_base.specs.declared.id.Kind.TheVariants as id_kind;
-ghost use Rattle.cv_base.specs.declared.id.ObjectId.{ObjectId as ObjectId_};
 ghost use Rattle.cv_ports.specs.Shelf.{Shelf as Shelf_};
 ghost use Rattle.cv_rows.specs.Catalogue.{IsCatalogue, catalogue_bytes};
 ghost use Rattle.cv_rows.specs.Renewed.{renewed};
@@ -84,7 +83,7 @@ fn rejoined(
     requires unmarked { ends_in marker path.now ≡ false }
     ensures made { (t n : Nodes) (r d v : List (List ℕ)) → IsAsked t n path.now catalogue.at r d v → catalogue ≡ contents_of t catalogue.at → other.now ≡ contents_of n d → Rebuilds (replaced t n path.now) catalogue.at r added.old.items added.new.items result }
     ensures unread { IsErrOf result faults.Failed → ⊥ }
-    ensures undamaged { (standing : Shelf_) (which : ObjectId_ → Type 0) → TellsDamage standing which result }
+    ensures undamaged { (standing : Shelf_) → TellsDamage standing (λ id. ⊥) result }
     ensures digest { IfOk result (λ made. IsDigest made.hash) }
     ensures own { OnOk result (HasOwnIds added.old.items → HasOwnIds added.new.items) }
 {

@@ -6,7 +6,6 @@ ghost use Rattle.cv_base.specs.Counts.{HasCause};
 ghost use Rattle.cv_base.specs.Marker.{marker, ends_in};
 ghost use Rattle.cv_base.specs.Told.{WhereTold};
 ghost use Rattle.cv_base.specs.declared.id.Kind.TheVariants as id_kind;
-ghost use Rattle.cv_base.specs.declared.id.ObjectId.{ObjectId as ObjectId_};
 ghost use Rattle.cv_ports.specs.Calls.{RaisedAtMost};
 ghost use Rattle.cv_tree.specs.Changes.{FitsUnder, IsTreeAtRoot, has_place, nodes_of};
 ghost use Rattle.cv_tree.specs.Tree.{Nodes, is_directory, put};
@@ -32,7 +31,7 @@ fn whole_part(alloc: Global, part: &Part) -> Result<Grafted, GraftFault>
     ensures placed { Places part.now [] result }
     ensures own { IfOk result (λ g. HasOwnIds g.added) }
     ensures unread { IsErrOf result faults.Failed → ⊥ }
-    ensures undamaged { (standing : Shelf_) (which : ObjectId_ → Type 0) → TellsDamage standing which result }
+    ensures undamaged { (standing : Shelf_) → TellsDamage standing (λ id. ⊥) result }
 {
     let tree = whole(alloc, part)?;
     match cut(alloc, &tree) {
@@ -52,7 +51,7 @@ fn at_root(alloc: Global, path: &RepoPath, part: Option<&Part>) -> Result<Grafte
     ensures placed { Places (nodes_of (option_copied part.entry)) [] result }
     ensures own { IfOk result (λ g. HasOwnIds g.added) }
     ensures unread { IsErrOf result faults.Failed → ⊥ }
-    ensures undamaged { (standing : Shelf_) (which : ObjectId_ → Type 0) → TellsDamage standing which result }
+    ensures undamaged { (standing : Shelf_) → TellsDamage standing (λ id. ⊥) result }
 {
     let Some(whole) = part else {
         unreachable!("at the root there is a part");

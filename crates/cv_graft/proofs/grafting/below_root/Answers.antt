@@ -96,7 +96,7 @@ returns-in_err-other-clause-damaged g c = λ standing told.
     let one = c.args.newest.now.hash in
     let other = c.args.offered.now.hash in
     left_by (λ (x : Result Grafted GraftFault). TellsDamage standing (IsOfEither standing one other c.args.path.now) x) _ _ c.from_residual.ensures.1
-    (tells_right standing one other c.args.path.now _ (tells_way Grafted standing c.args.offered.now.hash c.args.path.now _ (c.in_err-other.ensures.fault standing told)))
+    (tells_right Grafted standing one other c.args.path.now _ (tells_way Grafted standing c.args.offered.now.hash c.args.path.now _ (c.in_err-other.ensures.fault standing told)))
 
 pub returns-in_err-catalogue-clause-told : goal.returns-in_err-catalogue-clause-told
 returns-in_err-catalogue-clause-told g c = λ standing told t n mt mn place.
@@ -110,7 +110,7 @@ returns-in_err-catalogue-clause-damaged g c = λ standing told.
     let one = c.args.newest.now.hash in
     let other = c.args.offered.now.hash in
     left_by (λ (x : Result Grafted GraftFault). TellsDamage standing (IsOfEither standing one other c.args.path.now) x) _ _ c.from_residual-in_err-catalogue.ensures.1
-    (tells_left standing one other c.args.path.now _
+    (tells_left Grafted standing one other c.args.path.now _
     (tells_way Grafted standing c.args.newest.now.hash c.args.path.now _ (top_blamed standing c.args.newest.now c.args.path.now c.root-top.result _ c.requires.newest c.requires.path c.root-top.ensures
     (c.in_err-catalogue.ensures.told standing (c.holder.ensures.unchanged ∙ told)))))
 
@@ -120,6 +120,6 @@ returns-in_err-made-clause-damaged g c = λ standing told.
     let other = c.args.offered.now.hash in
     let there = c.holder.ensures.unchanged ∙ told in
     left_by (λ (x : Result Grafted GraftFault). TellsDamage standing (IsOfEither standing one other c.args.path.now) x) _ _ c.from_residual-in_err-made.ensures.1
-    (tells_left standing one other c.args.path.now _
-    (tells_top standing c.args.newest.now c.root-top.result c.in_ok-catalogue.catalogue c.args.path.now _ c.requires.path c.root-top.ensures (c.in_ok-catalogue.ensures.told standing there)
+    (tells_left Grafted standing one other c.args.path.now _
+    (tells_top Grafted standing c.args.newest.now c.root-top.result c.in_ok-catalogue.catalogue c.args.path.now _ c.requires.path c.root-top.ensures (c.in_ok-catalogue.ensures.told standing there)
     (c.in_err-made.ensures.damaged standing (c.catalogue_at.ensures.unchanged ∙ there))))

@@ -1,6 +1,5 @@
 use Rattle.std.proofs.Common.{◌≡◌, ◌++◌, true, false, List, Result, Ok, Err, sym, ap, subst, ◌∙◌}
 use Rattle.std.specs.Prelude.{Contains, IsErrAnd, IsErrOf}
-use Rattle.cv_base.specs.declared.id.ObjectId.{ObjectId}
 use Rattle.cv_base.specs.Path.{Path, covers}
 use Rattle.cv_base.specs.Marker.{marker, ends_in}
 use Rattle.cv_rows.specs.Catalogue.{Contents, IsCatalogue}
@@ -110,13 +109,13 @@ never c o p (Err fault.NoMemory) h is = cc
 pub returns-in_err-check_keys-clause-unread : goal.returns-in_err-check_keys-clause-unread
 returns-in_err-check_keys-clause-unread c = never c.args.catalogue c.args.other.now c.args.path.now _ (collides c.args.catalogue c.args.other.now c.in_ok-rest.rest c.args.path.now c.in_ok-rows.rows.items c.deref.result.now c.in_ok-rows.nested.items _ _ c.in_ok-rest.ensures.left c.in_ok-rows.ensures c.deref.ensures.value c.in_err-check_keys.ensures.err c.from_residual-in_err-check_keys.ensures.1)
 
-undamaged : (c o : Contents) (p : Path) (r : Result Contents GraftFault) → Joins c o p r → (shelf : Shelf) (which : ObjectId → Type 0) → TellsDamage shelf which r
-undamaged c o p (Ok k) h shelf which = tt
-undamaged c o p (Err (fault.PathCollision a b)) h shelf which = tt
-undamaged c o p (Err (fault.CatalogueFull d)) h shelf which = tt
-undamaged c o p (Err fault.Failed) h shelf which = tt
-undamaged c o p (Err (fault.Damaged id found)) h shelf which = absurd h
-undamaged c o p (Err fault.NoMemory) h shelf which = tt
+undamaged : (c o : Contents) (p : Path) (r : Result Contents GraftFault) → Joins c o p r → (shelf : Shelf) → TellsDamage shelf (λ id. ⊥) r
+undamaged c o p (Ok k) h shelf = tt
+undamaged c o p (Err (fault.PathCollision a b)) h shelf = tt
+undamaged c o p (Err (fault.CatalogueFull d)) h shelf = tt
+undamaged c o p (Err fault.Failed) h shelf = tt
+undamaged c o p (Err (fault.Damaged id found)) h shelf = absurd h
+undamaged c o p (Err fault.NoMemory) h shelf = tt
 
 pub returns-in_err-check_keys-clause-undamaged : goal.returns-in_err-check_keys-clause-undamaged
 returns-in_err-check_keys-clause-undamaged c = undamaged c.args.catalogue c.args.other.now c.args.path.now _ (collides c.args.catalogue c.args.other.now c.in_ok-rest.rest c.args.path.now c.in_ok-rows.rows.items c.deref.result.now c.in_ok-rows.nested.items _ _ c.in_ok-rest.ensures.left c.in_ok-rows.ensures c.deref.ensures.value c.in_err-check_keys.ensures.err c.from_residual-in_err-check_keys.ensures.1)

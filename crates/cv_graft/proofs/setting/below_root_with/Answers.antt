@@ -59,7 +59,7 @@ returns-in_err-catalogue-clause-damaged g c = λ standing told.
 pub returns-in_err-made-clause-damaged : goal.returns-in_err-made-clause-damaged
 returns-in_err-made-clause-damaged g c = λ standing told.
     left_by (λ (x : Result Grafted GraftFault). TellsDamage standing (IsOfWay standing c.args.base.now.hash c.args.path.now) x) _ _ c.from_residual-in_err-made.ensures.1
-    (tells_top standing c.args.base.now c.root-top.result c.in_ok-catalogue.catalogue c.args.path.now _ c.requires.path c.root-top.ensures (c.in_ok-catalogue.ensures.told standing told)
+    (tells_top Grafted standing c.args.base.now c.root-top.result c.in_ok-catalogue.catalogue c.args.path.now _ c.requires.path c.root-top.ensures (c.in_ok-catalogue.ensures.told standing told)
     (c.in_err-made.ensures.damaged standing (c.catalogue_at.ensures.unchanged ∙ told)))
 
 pub returns-in_err-catalogue-clause-taken : goal.returns-in_err-catalogue-clause-taken
