@@ -20,7 +20,7 @@ way_reached shelf root p (next on there n t) = Reaches.nested (way_reached shelf
 
 bad_reached : (shelf : Shelf) (root : List ℕ) (p : Path) (id : ObjectId) → IsBadOnWay shelf root p id → Bad shelf root id
 bad_reached shelf root p id (undecodable of u) = unopened shelf root root_place id of.place (fault.Bad id) of.kind (way_reached shelf root p of.on) (refl, u)
-bad_reached shelf root p id (misstates {c} {n} of there n_ h) = nested_unopened shelf root root_place id of.place c n of.kind (way_reached shelf root p of.on) there n_.has (fault.Bad id) (of_size h)
+bad_reached shelf root p id (misstates {c = c} {n = n} of there n_ h) = nested_unopened shelf root root_place id of.place c n of.kind (way_reached shelf root p of.on) there n_.has (fault.Bad id) (of_size h)
 
 -- so what blames the way is a fault of what the root reaches
 pub way_fails : (shelf : Shelf) (root : List ℕ) (p : Path) (f : LoadFault) → BlamesWay shelf root p f → MayFail shelf root f
