@@ -1,5 +1,5 @@
 //! Requests that are written.
-ghost use Rattle.std.specs.Prelude.{◌≡◌, ◌≢◌, ◌++◌, OnOk, IfOk, string_bytes, decimal};
+ghost use Rattle.std.specs.Prelude.{◌≡◌, ◌≢◌, ◌++◌, OnOk, OnErr, IfOk, string_bytes, decimal};
 ghost use Rattle.cv_base.specs.Counts.{HasCause};
 ghost use Rattle.cv_ports.specs.Streams.{onto, Wrote};
 ghost use Rattle.cv_http.specs.Requests.{field_line, authorization_line, message_size_line, request_line, request_head, request_text};
@@ -108,6 +108,7 @@ pub fn write_request<W: Sink>(
     ensures part { Wrote (W.taken sink.old) (W.taken sink.new) (request_text request.now) }
     ensures nothing { result ≡ Err NoMemory → W.taken sink.new ≡ W.taken sink.old }
     ensures flushed { result ≢ Err WriteFault → W.passed sink.old ≡ W.taken sink.old → W.passed sink.new ≡ W.taken sink.new }
+    ensures held { OnErr result (W.passed sink.new ≡ W.passed sink.old) }
     ensures cause { HasCause (W.faults sink.old) (W.faults sink.new) (result ≡ Err WriteFault) }
 {
     let Ok(head) = head_text(alloc, request) else {

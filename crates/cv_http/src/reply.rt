@@ -1,5 +1,5 @@
 //! Replies.
-ghost use Rattle.std.specs.Prelude.{◌≡◌, ◌≢◌, ◌++◌, ℕ, List, length, OnOk, IfOk, IsErr, Bool, string_bytes};
+ghost use Rattle.std.specs.Prelude.{◌≡◌, ◌≢◌, ◌++◌, ℕ, List, length, OnOk, OnErr, IfOk, IsErr, Bool, string_bytes};
 ghost use Rattle.cv_base.specs.Counts.{HasCause};
 ghost use Rattle.cv_ports.specs.Streams.{onto, Wrote};
 ghost use Rattle.cv_http.specs.Replies.{close_line, reply_head, reply, continue_line};
@@ -55,6 +55,7 @@ pub(crate) fn send_parts<W: Sink>(sink: &mut W, head: &[u8], body: &[u8]) -> Res
     ensures whole { OnOk result (W.taken sink.new ≡ onto (W.taken sink.old) (head.now ++ body.now)) }
     ensures part { Wrote (W.taken sink.old) (W.taken sink.new) (head.now ++ body.now) }
     ensures flushed { OnOk result (W.passed sink.new ≡ W.taken sink.new) }
+    ensures held { OnErr result (W.passed sink.new ≡ W.passed sink.old) }
     ensures cause { HasCause (W.faults sink.old) (W.faults sink.new) (IsErr result) }
 {
     write_all(sink, head)?;

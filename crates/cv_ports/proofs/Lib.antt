@@ -3,3 +3,4 @@ mod Pieces
 mod ShelfPuts
 pub mod Laws
 mod Folders
+mod Backs

@@ -1,7 +1,7 @@
 -- What a dial in memory holds.
-use Rattle.std.specs.Prelude.{◌≡◌, ◌∷◌, List, Option, Some}
+use Rattle.std.specs.Prelude.{◌≡◌, [], ◌∷◌, List, Option, Some}
 use Rattle.cv_ports.specs.Calls.{Calls}
-use Rattle.cv_ports.specs.Dial.{Came, Event, Story, came_of}
+use Rattle.cv_ports.specs.Dial.{Came, Event, Opened, Back, Story, came_of}
 use Rattle.cv_ports.specs.Memory.{SourceView, SinkView}
 use Rattle.cv_ports.specs.declared.link.Link.{Link}
 use Rattle.cv_ports.specs.declared.memory_link.MemoryLink.{MemoryLink}
@@ -16,6 +16,12 @@ pub record DialView : Type 0 where
 -- a link in memory as it comes back
 abbrev pub came_in_memory : Link SourceView SinkView → Came
 came_in_memory = came_of (λ reads. Some reads.given) (λ reads. Some reads.left) (λ writes. Some writes.taken) (λ writes. Some writes.passed)
+
+-- the links that came back, of what was told
+abbrev pub backs_of : List Event → List Came
+backs_of [] = []
+backs_of (Opened host port ∷ events) = backs_of events
+backs_of (Back came ∷ events) = came ∷ backs_of events
 
 -- what a dial tells
 abbrev pub told_of : DialView → Option Story

@@ -1,11 +1,11 @@
 //! A dial in memory.
-ghost use Rattle.std.specs.Prelude.{◌≡◌, ◌<◌, ◌≤◌, ◌++◌, ◌∷◌, [], ◌⊎◌, ◌↔◌, Some, IfOk, OnErr, IsErr, IsTrue, IsSome, length, is_err, if◌then◌else◌, option_map};
+ghost use Rattle.std.specs.Prelude.{◌≡◌, ◌<◌, ◌≤◌, ◌++◌, ◌∷◌, [], ◌⊎◌, ◌↔◌, Some, IfOk, OnErr, IsErr, IsTrue, IsSome, length, is_err, if◌then◌else◌, option_map, map};
 ghost use Rattle.cv_base.specs.Counts.{HasCause};
 ghost use Rattle.cv_base.specs.Told.{WhereTold};
 ghost use Rattle.cv_ports.specs.Calls.{fails, raised};
 ghost use Rattle.cv_ports.specs.Dial.{and_failed, and_opened, and_back, after_back};
 ghost use Rattle.cv_ports.specs.Streams.{Look};
-ghost use Rattle.cv_ports.specs.MemoryDial.{came_in_memory, told_of, GivesFirst};
+ghost use Rattle.cv_ports.specs.MemoryDial.{came_in_memory, backs_of, told_of, GivesFirst};
 
 use crate::came_back::{CameBack, put_links};
 use crate::dial::Dial;
@@ -67,8 +67,10 @@ impl MemoryDial {
     }
 
     /// The links that came back, in their order.
+    #[tactic(auto, using(crate::proofs::Backs::backs_tell))]
     pub fn into_links(self, alloc: Global) -> Result<Vec<Link<MemorySource, MemorySink>>, NoMemory>
-        ensures { IfOk result (λ links. links.items ≡ self.came) }
+        ensures links { IfOk result (λ links. links.items ≡ self.came) }
+        ensures told { IfOk result (λ links. map came_in_memory links.items ≡ backs_of self.events) }
     {
         let mut links = Vec::new(alloc);
         put_links(Box::into_inner(self.came), &mut links)?;
