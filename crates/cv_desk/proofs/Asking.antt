@@ -204,7 +204,7 @@ module _ {V S : Type 0} (disk : V → Option Disk) (count : V → ℕ) (left : V
 
     pub lease_does : AsksLease disk count left key path aged_before out after → Does disk count left is_seal (op.Lease key path) e before after st
     lease_does (refused is same) = untouched (op.Lease key path) noted (with_reply a (refused_step a key path out (refused_as (Some out) is))) same
-    lease_does (unread free kind looks fetches found) = looked (op.Lease key path) noted (with_reply a (step_on a key path (reply_of out) a (room_for free) (inl (place_is (Err out) found, refl)))) looks
+    lease_does (unread free kind blames looks fetches found) = looked (op.Lease key path) noted (with_reply a (step_on a key path (reply_of out) a (room_for free) (inl (place_is (Err out) found, refl)))) looks
     lease_does (placeless free looks fetches found sees is) = looked (op.Lease key path) noted
         (with_reply a (step_on a key path (reply_of out) a (room_for free) (inr (head.0, head.1, inl (place_is (Ok false) found, ap reply_of is, refl))))) looks
     lease_does (placed mid free looks fetches found sees g) = grants free mid looks (place_is (Ok true) found) g

@@ -27,7 +27,7 @@ use Rattle.cv_cut.specs.Good.{IsGood}
 use Rattle.cv_cut.specs.Means.{Means}
 use Rattle.cv_cut.specs.Reached.{root_place}
 use Rattle.cv_graft.specs.Graft.{Grafts, HasOwnIds}
-use Rattle.cv_graft.specs.Way.{TellsDamage}
+use Rattle.cv_graft.specs.Way.{IsOfEither, TellsDamage}
 use Rattle.cv_graft.specs.declared.grafted.Grafted.{Grafted}
 use Rattle.cv_graft.specs.declared.graft_fault.GraftFault.{GraftFault}
 use Rattle.cv_graft.specs.declared.graft_fault.GraftFault.TheVariants as fault
@@ -82,6 +82,15 @@ grafts_there disk count left line judged reads root is offered path r x e told d
     let same : line.head.root ≡ root = sym (is ∙ ap (λ (l : LineView _ _). l.head.root) reads.1) in
     subst (Grafts (replaced t n path) path) e (told (standing_on d) (ap (option_map standing_on) (quiet_same reads.0 ∙ there)) t n (subst (λ h. Means (standing_on d) h t) same mt) mn place)
 
+-- and of damage
+pub grafts_shown : {V S : Type 0} (disk : V → Option Disk) (count : V → ℕ) (left : V → ℕ → Files → Type 0) (line judged : LineView V S) → LineReads disk count left line judged → (root : List ℕ) → root ≡ judged.head.root
+    → (offered : List ℕ) (path : Path) (r x : Result Grafted GraftFault) → r ≡ x → WhereTold (option_map standing_on (disk judged.vault)) (λ standing. TellsDamage standing (IsOfEither standing root offered path) r)
+    → (d : Disk) → disk line.vault ≡ Some d → TellsDamage (standing_on d) (IsOfEither (standing_on d) line.head.root offered path) x
+grafts_shown disk count left line judged reads root is offered path r x e told d there =
+    let same : root ≡ line.head.root = is ∙ ap (λ (l : LineView _ _). l.head.root) reads.1 in
+    subst (TellsDamage (standing_on d) (IsOfEither (standing_on d) line.head.root offered path)) e
+    (subst (λ h. TellsDamage (standing_on d) (IsOfEither (standing_on d) h offered path) r) same (told (standing_on d) (ap (option_map standing_on) (quiet_same reads.0 ∙ there))))
+
 -- and of how much was fetched for it
 pub grafts_fetched : {V S : Type 0} (disk : V → Option Disk) (count : V → ℕ) (left : V → ℕ → Files → Type 0) (line judged : LineView V S) → LineReads disk count left line judged → (root : List ℕ) → root ≡ judged.head.root
     → (offered : List ℕ) (path : Path) (after : ℕ) → WhereTold (disk line.vault) (λ d. FetchesAll (standing_on d) offered line.taken judged.taken)
@@ -100,13 +109,13 @@ pub judged_alone : {V S : Type 0} (disk : V → Option Disk) (line judged : Line
 judged_alone disk line judged offered path judges = λ d there. (judged.taken, judges d there, λ t n mt mn. (0, omega arith, refl))
 
 pub graft_unfit : (shelf : Shelf) (newest offered : List ℕ) (path : Path) (f : GraftFault) (r : Reply) → Tells f r → IsGood shelf offered root_place
-    → ((t n : Nodes) → Means shelf newest t → Means shelf offered n → has_place t path ≡ true → Grafts (replaced t n path) path (Err f)) → TellsDamage shelf {X = Grafted} (Err f) → IsUnfit shelf newest offered path r
+    → ((t n : Nodes) → Means shelf newest t → Means shelf offered n → has_place t path ≡ true → Grafts (replaced t n path) path (Err f)) → TellsDamage shelf (IsOfEither shelf newest offered path) {X = Grafted} (Err f) → IsUnfit shelf newest offered path r
 graft_unfit shelf newest offered path (fault.PathCollision a b) r (inl e) is grafts shown = unfit is (two a b e) (λ t n mt mn place. shares a b (grafts t n mt mn place) e)
 graft_unfit shelf newest offered path (fault.PathCollision a b) r (inr e) is grafts shown = outside (inr e)
 graft_unfit shelf newest offered path (fault.CatalogueFull c) r (inl e) is grafts shown = unfit is (one c e) (λ t n mt mn place. (let g = grafts t n mt mn place in fills c g.0 g.1 e))
 graft_unfit shelf newest offered path (fault.CatalogueFull c) r (inr e) is grafts shown = outside (inr e)
 graft_unfit shelf newest offered path fault.Failed r e is grafts shown = outside (inl e)
-graft_unfit shelf newest offered path (fault.Damaged id found) r e is grafts shown = damaged id found shown e
+graft_unfit shelf newest offered path (fault.Damaged id found) r e is grafts shown = damaged id found shown.0 shown.1 e
 graft_unfit shelf newest offered path fault.NoMemory r e is grafts shown = outside (inr e)
 
 -- ---- a revision is prepared

@@ -85,7 +85,7 @@ module _ {V : Type 0} (disk : V → Option Disk) (v : V) (d : Disk) (told : disk
   unfit_shows newest offered path r (outside (inl e)) = subst (ShowsDamage disk v) (sym e) tt
   unfit_shows newest offered path r (outside (inr e)) = subst (ShowsDamage disk v) (sym e) tt
   unfit_shows newest offered path r (meaningless x may e) = subst (ShowsDamage disk v) (sym e) (fault_shows offered x may)
-  unfit_shows newest offered path r (damaged id found has e) = subst (ShowsDamage disk v) (sym e) (there id found has)
+  unfit_shows newest offered path r (damaged id found on has e) = subst (ShowsDamage disk v) (sym e) (there id found has)
   unfit_shows newest offered path r (unfit whole (two a b e) why) = subst (ShowsDamage disk v) (sym e) tt
   unfit_shows newest offered path r (unfit whole (one c e) why) = subst (ShowsDamage disk v) (sym e) tt
 

@@ -33,7 +33,7 @@ use Rattle.cv_gate.specs.declared.reply.Reply.TheVariants as reply
 use Rattle.cv_desk.specs.Gate.{StateView, state_of, ShowsDamage, IsExact}
 use Rattle.cv_desk.specs.Views.{aged_view, next_token}
 use Rattle.cv_desk.specs.Refusals.{reply_of, refusal_of, refusal_on, is_unread, is_sending}
-use Rattle.cv_desk.specs.Ends.{IsPlacedOn, FetchesWay, LeaseEnds, lease_refused, lease_unread, lease_placeless, lease_granted, store_refused, sent}
+use Rattle.cv_desk.specs.Ends.{BlamesParent, IsPlacedOn, FetchesWay, LeaseEnds, lease_refused, lease_unread, lease_placeless, lease_granted, store_refused, sent}
 use Rattle.cv_desk.specs.Sending.{outcome_of, outcome_from, IsSent, refused, late, whole}
 use Rattle.cv_desk.specs.Acting.{OnlyLooks, Grants, granted, unremembered, AsksLease, unread, placeless, placed, AsksEnd, not_ended, ends, AsksStore, not_sent, sends, IsAnswered}
 use Rattle.cv_desk.specs.Acting.{refused as refused_lease}
@@ -231,11 +231,12 @@ lease_answered {V} {S} disk count left is_seal key path now before aged_ after o
         (lease_granted looked free sees looks fetches (ap reply_of is ∙ ap (λ (x : StateView V S). reply.Granted (next_token x) x.line.head.revision x.line.head.root) looks.others) same)
         (ap (λ (x : StateView V S). x.line.stage) same ∙ ap (λ (x : StateView V S). x.line.stage) looks.others)
     granting looked free sees looks fetches (unremembered is same) = as_before
-        (lease_unread free (ap (λ (o : Outcome). is_unread (reply_of o)) is) (subst (λ (x : StateView V S). OnlyLooks disk count left s x) (sym same) looks) (subst (λ (x : StateView V S). FetchesWay disk path s x) (sym same) fetches))
+        (lease_unread free (ap (λ (o : Outcome). is_unread (reply_of o)) is) (subst (λ (o : Outcome). BlamesParent (disk s.line.vault) s.line.head.root path (reply_of o)) (sym is) tt)
+        (subst (λ (x : StateView V S). OnlyLooks disk count left s x) (sym same) looks) (subst (λ (x : StateView V S). FetchesWay disk path s x) (sym same) fetches))
         (ap (λ (x : StateView V S). x.line.stage) same ∙ ap (λ (x : StateView V S). x.line.stage) looks.others)
 
     by : AsksLease disk count left key path s out after → before.line.stage ≢ stage.Doubtful → IsExact disk count left is_seal (op.Lease key path) now (act.Lease path) (reply_of out) before after
     by (refused_lease is same) = as_before (lease_refused out is refl same) (ap (λ (x : StateView V S). x.line.stage) same)
-    by (unread free kind looks fetches found) = as_before (lease_unread free kind looks fetches) (ap (λ (x : StateView V S). x.line.stage) looks.others)
+    by (unread free kind blames looks fetches found) = as_before (lease_unread free kind blames looks fetches) (ap (λ (x : StateView V S). x.line.stage) looks.others)
     by (placeless free looks fetches found sees is) = as_before (lease_placeless free (ap reply_of is) sees looks fetches) (ap (λ (x : StateView V S). x.line.stage) looks.others)
     by (placed looked free looks fetches found sees grants) = granting looked free sees looks fetches grants

@@ -1,10 +1,10 @@
 -- What a gate reads through its line.
-use Rattle.std.specs.Prelude.{IfOk}
+use Rattle.std.specs.Prelude.{IfErr, IfOk}
 use Rattle.std.proofs.Common.{◌≡◌, ◌≢◌, Bool, true, ℕ, List, length, [], ◌∷◌, refl, sym, ap, subst, ◌∙◌, arith}
 use Rattle.std.specs.Option.{option_map}
 use Rattle.std.specs.declared.option.Option.{Option}
 use Rattle.std.specs.declared.result.Result.{Result}
-use Rattle.std.specs.declared.result.Result.TheVariants.{Ok}
+use Rattle.std.specs.declared.result.Result.TheVariants.{Err, Ok}
 use Rattle.std.specs.FinMap.{get}
 use Rattle.cv_base.specs.Path.{Path, parent}
 use Rattle.cv_base.specs.Told.{WhereTold}
@@ -16,13 +16,16 @@ use Rattle.cv_tree.specs.Changes.{has_place}
 use Rattle.cv_cut.specs.Above.{cuts_above}
 use Rattle.cv_cut.specs.Means.{Means}
 use Rattle.cv_cut.specs.declared.load_fault.LoadFault.{LoadFault}
+use Rattle.cv_cut.specs.declared.load_fault.LoadFault.TheVariants as load
 use Rattle.cv_graft.specs.Directories.{IsFound}
 use Rattle.cv_graft.specs.Graft.{HasWay}
-use Rattle.cv_graft.specs.Way.{Tells}
+use Rattle.cv_graft.specs.Way.{BlamesWay, IsOfWay, Tells}
 use Rattle.cv_objects.specs.Names.{standing_on}
 use Rattle.cv_desk.specs.Gate.{StateView}
-use Rattle.cv_desk.specs.Ends.{IsPlaced, IsPlacedOn, FetchesWay}
+use Rattle.cv_desk.specs.Ends.{BlamesParent, IsPlaced, IsPlacedOn, FetchesWay}
 use Rattle.cv_desk.specs.Acting.{FindsPlace}
+use Rattle.cv_desk.specs.Refusals.{reply_of}
+use Rattle.cv_desk.specs.Sending.{outcome_from}
 use Rattle.cv_desk.specs.declared.outcome.Outcome.{Outcome}
 
 way_of : (shelf : Shelf) (hash : List ℕ) (t : Nodes) (p : Path) → Means shelf hash t → HasWay shelf hash t p
@@ -73,3 +76,15 @@ placed_below disk s v p above hash some is root vaults r there answered told = �
 pub sees : {V S : Type 0} (disk : V → Option Disk) (s : StateView V S) (p : Path) (r : Result Bool Outcome) (there : Bool) → r ≡ Ok there
     → WhereTold (disk s.line.vault) (λ d. IfOk r (IsPlaced (standing_on d) s.line.head.root p)) → IsPlacedOn (disk s.line.vault) s.line.head.root p there
 sees disk s p r there is told = λ d e. subst (λ x. IfOk x (IsPlaced (standing_on d) s.line.head.root p)) is (told d e)
+
+-- what a fault on the way to the parent blames
+pub blames_parent : {V S : Type 0} (disk : V → Option Disk) (s : StateView V S) (v : V) (p above : Path) (hash : List ℕ) → above ≡ parent p → hash ≡ s.line.head.root → v ≡ s.line.vault
+    → (r : Result Bool LoadFault) (x : LoadFault) → r ≡ Err x → WhereTold (option_map standing_on (disk v)) (λ standing. IfErr r (BlamesWay standing hash above)) → BlamesParent (disk s.line.vault) s.line.head.root p (reply_of (outcome_from x))
+blames_parent disk s v p above hash is root vaults r (load.Missing id) answered told = tt
+blames_parent disk s v p above hash is root vaults r (load.Bad id) answered told = tt
+blames_parent disk s v p above hash is root vaults r load.Failed answered told = tt
+blames_parent disk s v p above hash is root vaults r (load.Damaged id found) answered told = λ d e.
+    let seen : IfErr r (BlamesWay (standing_on d) hash above) = told (standing_on d) (ap (option_map standing_on) (ap disk vaults ∙ e)) in
+    let blamed : BlamesWay (standing_on d) hash above (load.Damaged id found) = subst (λ x. IfErr x (BlamesWay (standing_on d) hash above)) answered seen in
+    subst (λ (q : Path). IsOfWay (standing_on d) s.line.head.root q id) is (subst (λ h. IsOfWay (standing_on d) h above id) root blamed.0)
+blames_parent disk s v p above hash is root vaults r load.NoMemory answered told = tt

@@ -39,7 +39,7 @@ use Rattle.cv_desk.specs.Resuming.{Resumes}
 pub use Rattle.cv_desk.specs.Refusals.{reply_of, refusal_beside, refusal_of, refusal_on}
 use Rattle.cv_desk.specs.Refusals.{is_unread}
 pub use Rattle.cv_desk.specs.Ends.{OnlyLooks, Sends}
-use Rattle.cv_desk.specs.Ends.{IsPlacedOn, FetchesWay}
+use Rattle.cv_desk.specs.Ends.{BlamesParent, IsPlacedOn, FetchesWay}
 use Rattle.cv_desk.specs.declared.outcome.Outcome.{Outcome}
 use Rattle.cv_desk.specs.declared.taken.Taken.{Taken}
 use Rattle.cv_desk.specs.declared.taken.Readied.{Readied}
@@ -85,7 +85,7 @@ pub data Grants {V S : Type 0} (key : List ℕ) (path : Path) (s : StateView V S
 -- what comes of asking for a lease
 pub data AsksLease {V S : Type 0} (disk : V → Option Disk) (count : V → ℕ) (left : V → ℕ → Files → Type 0) (key : List ℕ) (path : Path) (s : StateView V S) (o : Outcome) (s' : StateView V S) : Type 0 where
   refused : refusal_of s.leases s.moment path ≡ Some o → s' ≡ s → AsksLease disk count left key path s o s'
-  unread : refusal_of s.leases s.moment path ≡ None → is_unread (reply_of o) ≡ true → OnlyLooks disk count left s s' → FetchesWay disk path s s' → FindsPlace disk s path (Err o) → AsksLease disk count left key path s o s'
+  unread : refusal_of s.leases s.moment path ≡ None → is_unread (reply_of o) ≡ true → BlamesParent (disk s.line.vault) s.line.head.root path (reply_of o) → OnlyLooks disk count left s s' → FetchesWay disk path s s' → FindsPlace disk s path (Err o) → AsksLease disk count left key path s o s'
   placeless : refusal_of s.leases s.moment path ≡ None → OnlyLooks disk count left s s' → FetchesWay disk path s s' → FindsPlace disk s path (Ok false) → IsPlacedOn (disk s.line.vault) s.line.head.root path false → o ≡ outcome.NoParent → AsksLease disk count left key path s o s'
   placed : (looked : StateView V S) → refusal_of s.leases s.moment path ≡ None → OnlyLooks disk count left s looked → FetchesWay disk path s looked → FindsPlace disk s path (Ok true) → IsPlacedOn (disk s.line.vault) s.line.head.root path true → Grants key path looked o s' → AsksLease disk count left key path s o s'
 

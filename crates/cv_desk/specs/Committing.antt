@@ -31,6 +31,7 @@ use Rattle.cv_load.specs.Known.{is_known}
 use Rattle.cv_load.specs.NewFetches.{FetchesNew}
 use Rattle.cv_load.specs.declared.known_set.KnownSet.{KnownSet}
 use Rattle.cv_graft.specs.Graft.{Grafts}
+use Rattle.cv_graft.specs.Way.{IsOfEither}
 use Rattle.cv_graft.specs.declared.grafted.Grafted.{Grafted}
 use Rattle.cv_history.specs.declared.record.Record.{Record}
 use Rattle.cv_manifest.specs.declared.head.Head.{Head}
@@ -82,11 +83,11 @@ pub data NamesPaths (r : Reply) : Type 0 where
   one : (c : Path) → r ≡ reply.CatalogueFull c → NamesPaths r
 
 -- why no tree is made of the newest root and the offered one: the disk failed or memory was wanted, the offered root means none, a
--- catalogue has other bytes than its hash says, or the new tree doesn't fit
+-- catalogue on the way to the path in either has other bytes than its hash says, or the new tree doesn't fit
 pub data IsUnfit (shelf : Shelf) (newest offered : List ℕ) (path : Path) (r : Reply) : Type 0 where
   outside : IsFault r → IsUnfit shelf newest offered path r
   meaningless : (fault : LoadFault) → MayFail shelf offered fault → r ≡ reply_of (outcome_at fault) → IsUnfit shelf newest offered path r
-  damaged : (id : ObjectId) (found : List ℕ) → HasOtherDigest shelf id found → r ≡ reply.Damaged id found → IsUnfit shelf newest offered path r
+  damaged : (id : ObjectId) (found : List ℕ) → IsOfEither shelf newest offered path id → HasOtherDigest shelf id found → r ≡ reply.Damaged id found → IsUnfit shelf newest offered path r
   unfit : IsGood shelf offered root_place → NamesPaths r → ((t n : Nodes) → Means shelf newest t → Means shelf offered n → has_place t path ≡ true → WhyUnfit (replaced t n path) r) → IsUnfit shelf newest offered path r
 
 -- the offered root is good, and the new tree has this root and these catalogues

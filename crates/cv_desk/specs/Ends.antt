@@ -23,6 +23,7 @@ use Rattle.cv_tree.specs.Tree.{Nodes}
 use Rattle.cv_cut.specs.Above.{cuts_above}
 use Rattle.cv_graft.specs.Directories.{IsFound}
 use Rattle.cv_graft.specs.Graft.{HasWay}
+use Rattle.cv_graft.specs.Way.{IsOfWay}
 use Rattle.cv_graft.specs.declared.grafted.Grafted.{Grafted}
 use Rattle.cv_swap.specs.Kept.{head_with}
 use Rattle.cv_swap.specs.Line.{published}
@@ -51,6 +52,11 @@ IsPlaced shelf root (name ∷ names) there = IsFound shelf root (parent (name �
 abbrev pub IsPlacedOn : Option Disk → List ℕ → Path → Bool → Type 0
 IsPlacedOn told root path there = WhereTold told (λ d. IsPlaced (standing_on d) root path there)
 
+-- bytes that are said to have another digest are those of a catalogue on the way to the path's parent, on the disk that a vault tells
+abbrev pub BlamesParent : Option Disk → List ℕ → Path → Reply → Type 0
+BlamesParent told root path (reply.Damaged id found) = WhereTold told (λ d. IsOfWay (standing_on d) root (parent path) id)
+BlamesParent told root path other = Unit {0}
+
 -- where the newest root means a tree on the way, no more was fetched than the catalogues properly above the path's parent
 abbrev pub FetchesWay : {V S : Type 0} → (V → Option Disk) → Path → StateView V S → StateView V S → Type 0
 FetchesWay disk path s s' = WhereTold (disk s.line.vault) (λ d. (t : Nodes) → HasWay (standing_on d) s.line.head.root t (parent path)
@@ -60,7 +66,8 @@ FetchesWay disk path s s' = WhereTold (disk s.line.vault) (λ d. (t : Nodes) →
 -- alone, and it isn't read, or the path has no place in it, or the lease is granted under the next number.
 pub data LeaseEnds {V S : Type 0} (disk : V → Option Disk) (count : V → ℕ) (left : V → ℕ → Files → Type 0) (key : List ℕ) (path : Path) (s : StateView V S) (r : Reply) (s' : StateView V S) : Type 0 where
   lease_refused : (o : Outcome) → refusal_of s.leases s.moment path ≡ Some o → r ≡ reply_of o → s' ≡ s → LeaseEnds disk count left key path s r s'
-  lease_unread : refusal_of s.leases s.moment path ≡ None → is_unread r ≡ true → OnlyLooks disk count left s s' → FetchesWay disk path s s' → LeaseEnds disk count left key path s r s'
+  lease_unread : refusal_of s.leases s.moment path ≡ None → is_unread r ≡ true → BlamesParent (disk s.line.vault) s.line.head.root path r → OnlyLooks disk count left s s' → FetchesWay disk path s s'
+      → LeaseEnds disk count left key path s r s'
   lease_placeless : refusal_of s.leases s.moment path ≡ None → r ≡ reply.NoParent → IsPlacedOn (disk s.line.vault) s.line.head.root path false → OnlyLooks disk count left s s' → FetchesWay disk path s s' → LeaseEnds disk count left key path s r s'
   lease_granted : (looked : StateView V S) → refusal_of s.leases s.moment path ≡ None → IsPlacedOn (disk s.line.vault) s.line.head.root path true → OnlyLooks disk count left s looked → FetchesWay disk path s looked
       → r ≡ reply.Granted (next_token s) s.line.head.revision s.line.head.root → s' ≡ with_lease looked key path → LeaseEnds disk count left key path s r s'

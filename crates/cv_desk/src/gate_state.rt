@@ -18,7 +18,7 @@ ghost use Rattle.cv_swap.specs.declared.stage.Stage.TheVariants as stage;
 ghost use Rattle.cv_desk.specs.Gate.{StandsFor, IsSameRepository, ShowsDamage};
 ghost use Rattle.cv_desk.specs.Refusals.{is_unread, is_sending};
 ghost use Rattle.cv_desk.specs.Resuming.{Resumes, Awaits};
-ghost use Rattle.cv_desk.specs.Ends.{IsPlaced, FetchesWay};
+ghost use Rattle.cv_desk.specs.Ends.{BlamesParent, IsPlaced, FetchesWay};
 ghost use Rattle.cv_vault.specs.Names.{on_way};
 ghost use Rattle.cv_vault.specs.Walks.{Walks, Nothing};
 ghost use Rattle.cv_desk.specs.Acting.{aged_view, Settles, Acts, refusal_of, refusal_on, FindsPlace, OnlyLooks, new_lease, Grants, AsksLease, AsksEnd, Sends, AsksStore, IsAnswered, Courses, HasFailed, TakesCourse, newest_token, ended, reply_of};
@@ -146,6 +146,7 @@ impl<V: Vault + Drop, S: Signer + Drop> GateState<V, S> {
         ensures sees { WhereTold (V.disk self.old.line.vault) (λ d. IfOk result (IsPlaced (standing_on d) self.old.line.head.root path.now)) }
         ensures unread { IfErr result (λ o. is_unread (reply_of o) ≡ true) }
         ensures damage { IfErr result (λ o. ShowsDamage V.disk self.old.line.vault (reply_of o)) }
+        ensures blames { IfErr result (λ o. BlamesParent (V.disk self.old.line.vault) self.old.line.head.root path.now (reply_of o)) }
         ensures looks { OnlyLooks V.disk V.count V.left self.old self.new }
         ensures fetches { FetchesWay V.disk path.now self.old self.new }
         ensures cause { HasCause (V.faults self.old.line.vault) (V.faults self.new.line.vault) (result ≡ Err outcomes.StoreFailed) }

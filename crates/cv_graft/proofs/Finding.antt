@@ -1,6 +1,5 @@
 -- The catalogues on the way to a path, one below another.
-use Rattle.std.proofs.Common.{◌≡◌, ◌≢◌, ℕ, zero, suc, ◌+◌, ◌≤◌, true, false, List, [], ◌∷◌, ◌++◌, map, length, Some, None, Result, Ok, Err, ◌⊎◌, inl, inr, refl, sym, ap, subst, ◌∙◌, append-nil, append_assoc, arith}
-use Rattle.std.specs.Prelude.{IfErr, Contains}
+use Rattle.std.proofs.Common.{◌≡◌, ◌≢◌, ℕ, zero, suc, ◌+◌, ◌≤◌, true, false, List, [], ◌∷◌, ◌++◌, map, length, Some, None, Err, ◌⊎◌, inl, inr, refl, sym, ap, subst, ◌∙◌, append-nil, append_assoc, arith}
 use Rattle.std.specs.declared.option.Option.{Option}
 use Rattle.std.specs.FinMap.{get}
 use Rattle.std.proofs.lemmas.List.{length-map}
@@ -22,17 +21,15 @@ use Rattle.cv_cut.specs.Catalogues.{entry_of, cat}
 use Rattle.cv_cut.specs.Above.{cuts_above, OnWay, Holds}
 use Rattle.cv_graft.specs.Graft.{HasWay}
 use Rattle.cv_graft.specs.Placed.{HasCuts}
-use Rattle.cv_graft.specs.Way.{IsNext, HasNone, Finds, FailsFrom, TellsDamage}
+use Rattle.cv_graft.specs.Way.{IsNext, HasNone, Finds}
 use Rattle.cv_cut.specs.Catalogues.{contents_of}
-use Rattle.cv_graft.specs.Faults.{of_load}
-use Rattle.cv_cut.specs.Reached.{Place, Reaches, HasCatalogue, root_place, itself}
-use Rattle.cv_cut.specs.Opening.{Opens, OpensNested, IsNestedCatalogue, HasOtherDigest, MayFail, IsUnread, below_id}
+use Rattle.cv_cut.specs.Reached.{Place, HasCatalogue, root_place}
+use Rattle.cv_cut.specs.Opening.{Opens, OpensNested, IsNestedCatalogue, IsUnread}
 use Rattle.cv_cut.specs.declared.load_fault.LoadFault.{LoadFault}
-use Rattle.cv_cut.specs.declared.load_fault.LoadFault.TheVariants as fault
 use Rattle.cv_rows.specs.Places.{StandsAt}
 use Rattle.cv_cut.specs.Region.{FitsAtCut, IsOther, Passes}
 use Rattle.cv_tree.proofs.Laws.{at-at}
-use Rattle.cv_cut.proofs.Lemmas.{cat_is, canonical_at, fits_at_cut, cut_some, stands_at_cut, IsThere, opens_there, nested_there, unopened, nested_unopened, root_decodes_at, nested_decodes_at, covers_append, same_rest, marked-at, covers-shift, rest_behind, entries_are, passes_of, pass_way, holder_way, cuts_some}
+use Rattle.cv_cut.proofs.Lemmas.{cat_is, canonical_at, fits_at_cut, cut_some, stands_at_cut, IsThere, opens_there, nested_there, root_decodes_at, nested_decodes_at, covers_append, same_rest, marked-at, covers-shift, rest_behind, entries_are, passes_of, pass_way, holder_way, cuts_some}
 use Rattle.cv_rows.proofs.Lemmas.{has_file, one_file}
 
 -- a tree that fits does so at the cuts on the way
@@ -144,24 +141,6 @@ opened_is shelf hash t p c r named place k way w same at_ has =
 
 -- ---- faults
 
--- a fault below a catalogue has its cause in what is reached from that one on
-pub fails_below : {X : Type 0} (shelf : Shelf) (id : ObjectId) (c below : Contents) (n : Nested) (result : Result X LoadFault) → Contains c.nested n → IsNestedCatalogue shelf c n below
-    → FailsFrom shelf (below_id n) below result → FailsFrom shelf id c result
-fails_below shelf id c below n (Ok x) has o h = tt
-fails_below shelf id c below n (Err f) has o h = λ from start place reached there. h from start (record { path = n.path; row = Some o.row }) (Reaches.nested reached there has o.kind_ o.stands) o.opened
-
-pub fails_next : (X : Type 0) (shelf : Shelf) (id : ObjectId) (c : Contents) (n : Nested) (f : LoadFault) → id.kind ≡ Catalogue → Contains c.nested n → OpensNested shelf id c n (Err f) → FailsFrom shelf id c {X = X} (Err f)
-fails_next X shelf id c n f kind has h = λ from start place reached there. nested_unopened shelf from start id place c n kind reached there has f h
-
--- from the root of the repository on
-pub fails_top : {X : Type 0} (shelf : Shelf) (root : ObjectId) (top : Path) (c : Contents) (result : Result X LoadFault) → top ≡ [] → HasCatalogue shelf root.hash (record { path = top; row = None }) c
-    → FailsFrom shelf root c result → IfErr result (MayFail shelf root.hash)
-fails_top shelf root top c (Ok x) none has h = tt
-fails_top shelf root top c (Err f) none has h = h root.hash root_place root_place itself (subst (λ (q : Path). HasCatalogue shelf root.hash (record { path = q; row = None }) c) none has)
-
-pub top_unopened : (shelf : Shelf) (root : ObjectId) (top : Path) (f : LoadFault) → root.kind ≡ Catalogue → top ≡ [] → Opens shelf root (record { path = top; row = None }) (Err f) → MayFail shelf root.hash f
-top_unopened shelf root top f kind none h = unopened shelf root.hash root_place root root_place f kind itself (subst (λ (q : Path). Opens shelf root (record { path = q; row = None }) (Err f)) none h)
-
 -- where the shelf has the catalogues on the way, the root's is opened
 pub top_unread : (shelf : Shelf) (root : ObjectId) (t : Nodes) (p top : Path) (f : LoadFault) → HasCuts shelf root.hash t p → p ≢ [] → root.kind ≡ Catalogue → top ≡ [] → Opens shelf root (record { path = top; row = None }) (Err f) → IsUnread f
 top_unread shelf root t p top f way some kind none h =
@@ -169,21 +148,6 @@ top_unread shelf root t p top f way some kind none h =
     let there = ap shelf id ∙ way.catalogues [] refl refl some in
     opens_there shelf root root_place (cat t []) (contents_of t []) f there (sym way.root) (root_decodes_at t way.tree (way.fits [] refl refl some))
     (subst (λ (q : Path). Opens shelf root (record { path = q; row = None }) (Err f)) none h)
-
--- what a fault tells of damage
-pub tells_cause : (X : Type 0) (shelf : Shelf) (root : List ℕ) (f : LoadFault) → MayFail shelf root f → TellsDamage shelf {X = X} (Err (of_load f))
-tells_cause X shelf root (fault.Missing x) h = tt
-tells_cause X shelf root (fault.Bad x) h = tt
-tells_cause X shelf root fault.Failed h = tt
-tells_cause X shelf root (fault.Damaged id found) h = h.damage
-tells_cause X shelf root fault.NoMemory h = tt
-
-pub tells_nested : (X : Type 0) (shelf : Shelf) (id : ObjectId) (c : Contents) (n : Nested) (f : LoadFault) → OpensNested shelf id c n (Err f) → TellsDamage shelf {X = X} (Err (of_load f))
-tells_nested X shelf id c n (fault.Missing x) h = tt
-tells_nested X shelf id c n (fault.Bad x) h = tt
-tells_nested X shelf id c n fault.Failed h = tt
-tells_nested X shelf id c n (fault.Damaged x found) h = subst (λ (y : ObjectId). HasOtherDigest shelf y found) (sym h.0) h.1
-tells_nested X shelf id c n fault.NoMemory h = tt
 
 -- none or one is fetched
 pub at_most_one : (before after most : ℕ) → 1 ≤ most → (after ≡ before) ⊎ (after ≡ raised before) → RaisedAtMost most before after

@@ -11,3 +11,4 @@ mod PlacedAbove
 mod PlacedWhole
 mod PlacedMeans
 mod Holders
+mod Ways

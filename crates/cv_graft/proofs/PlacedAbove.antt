@@ -3,6 +3,7 @@ use Rattle.std.proofs.Common.{◌≡◌, ◌≢◌, ℕ, true, false, List, [], 
 use Rattle.std.specs.Prelude.{OnOk}
 use Rattle.sha1.specs.Sha1.{sha1}
 use Rattle.cv_base.specs.Marker.{marker, ends_in}
+use Rattle.cv_base.specs.declared.id.ObjectId.{ObjectId}
 use Rattle.cv_base.specs.Path.{Path, covers}
 use Rattle.cv_base.specs.ObjectId.{object_id}
 use Rattle.cv_base.specs.declared.id.Kind.TheVariants.{Catalogue}
@@ -132,10 +133,10 @@ unread_place t p load.Failed h = tt
 unread_place t p (load.Damaged id found) h = absurd h
 unread_place t p load.NoMemory h = tt
 
-pub cut_tells : (X : Type 0) (shelf : Shelf) (f : CutFault) → TellsDamage shelf {X = X} (Err (of_cut f))
-cut_tells X shelf (cut.PathCollision a b) = tt
-cut_tells X shelf (cut.CatalogueFull c) = tt
-cut_tells X shelf cut.NoMemory = tt
+pub cut_tells : (X : Type 0) (shelf : Shelf) (which : ObjectId → Type 0) (f : CutFault) → TellsDamage shelf which {X = X} (Err (of_cut f))
+cut_tells X shelf which (cut.PathCollision a b) = tt
+cut_tells X shelf which (cut.CatalogueFull c) = tt
+cut_tells X shelf which cut.NoMemory = tt
 
 pub cut_not_failed : (X : Type 0) (f : CutFault) → Fails {X = X} (Err (of_cut f)) → ⊥
 cut_not_failed X (cut.PathCollision a b) is = cc

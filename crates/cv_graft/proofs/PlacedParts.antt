@@ -119,7 +119,7 @@ part_not_failed X c p m fault.Failed h is = h
 part_not_failed X c p m (fault.Damaged id found) h is = cc
 part_not_failed X c p m fault.NoMemory h is = cc
 
-pub part_tells : (X : Type 0) (c : Contents) (p : Path) (m : Nodes) (f : GraftFault) (shelf : Shelf) → JoinsPart c p m (Err f) → TellsDamage shelf {X = X} (Err f)
+pub part_tells : (X : Type 0) (c : Contents) (p : Path) (m : Nodes) (f : GraftFault) (shelf : Shelf) → JoinsPart c p m (Err f) → TellsDamage shelf (λ id. ⊥) {X = X} (Err f)
 part_tells X c p m (fault.PathCollision a b) shelf h = tt
 part_tells X c p m (fault.CatalogueFull d) shelf h = tt
 part_tells X c p m fault.Failed shelf h = tt

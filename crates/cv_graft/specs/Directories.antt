@@ -1,30 +1,27 @@
 -- Which directories there are by what stands on a shelf, whether or not the root means a tree.
-use Rattle.std.specs.Prelude.{◌≡◌, ◌≢◌, ◌⊎◌, ℕ, Bool, true, false, List, [], Result, Ok, Err}
-use Rattle.cv_base.specs.Path.{Path, covers}
+use Rattle.std.specs.Prelude.{◌≡◌, ◌⊎◌, ℕ, Bool, true, false, List, [], Result, Ok, Err}
+use Rattle.cv_base.specs.Path.{Path}
 use Rattle.cv_base.specs.declared.id.ObjectId.{ObjectId}
 use Rattle.cv_ports.specs.Shelf.{Shelf}
 use Rattle.cv_rows.specs.Catalogue.{Contents}
 use Rattle.cv_rows.specs.Places.{StandsAt}
 use Rattle.cv_rows.specs.declared.row.Row.{Row}
-use Rattle.cv_cut.specs.Reached.{Place, Reaches, HasCatalogue, root_place}
+use Rattle.cv_cut.specs.Reached.{Place, HasCatalogue}
 use Rattle.cv_cut.specs.declared.load_fault.LoadFault.{LoadFault}
 use Rattle.cv_graft.specs.Places.{stands_for_directory}
-use Rattle.cv_graft.specs.Way.{HasNone}
+use Rattle.cv_graft.specs.Way.{HasNone, IsOnWay}
 
--- The catalogue stands on the shelf, and is reached from the one under a hash. Its place is properly above the path, and that of none
--- of its nested entries is.
-pub record IsHolder (shelf : Shelf) (from : List ℕ) (start : Place) (p : Path) (c : Contents) : Type 0 where
+-- The catalogue stands on the shelf, on the way to the path, and none of its nested entries is properly above the path.
+pub record IsHolder (shelf : Shelf) (root : List ℕ) (p : Path) (c : Contents) : Type 0 where
   pub hash : List ℕ
   pub place : Place
-  pub reached : Reaches shelf from start hash place
+  pub on : IsOnWay shelf root p hash place
   pub has : HasCatalogue shelf hash place c
-  pub above : covers c.at p ≡ true
-  pub apart : p ≢ c.at
   pub none : HasNone c p
 
--- where a catalogue is answered, it is such a one from the one under an id on, wherever that is reached
+-- where a catalogue is answered by a search from the one under an id on, it is that of the way on which this one is
 abbrev pub HoldsFrom : Shelf → ObjectId → Contents → Path → Result Contents LoadFault → Type 0
-HoldsFrom shelf id c p (Ok k) = (from : List ℕ) (start place : Place) → Reaches shelf from start id.hash place → HasCatalogue shelf id.hash place c → IsHolder shelf from start p k
+HoldsFrom shelf id c p (Ok k) = (root : List ℕ) (place : Place) → IsOnWay shelf root p id.hash place → HasCatalogue shelf id.hash place c → IsHolder shelf root p k
 HoldsFrom shelf id c p (Err f) = Unit {0}
 
 -- the row at the path says whether it is a directory in the catalogue; where none stands there, it isn't
@@ -32,6 +29,6 @@ pub data HasDirectory (c : Contents) (p : Path) : Bool → Type 0 where
   stands : (r : Row) → StandsAt c.at c.rows r p → HasDirectory c p (stands_for_directory r.kind)
   absent : ((r : Row) → StandsAt c.at c.rows r p → ⊥) → HasDirectory c p false
 
--- the root is a directory; another path is one by the catalogue that holds it, reached from the root's
+-- the root is a directory; another path is one by the catalogue that directly holds it, on the way to it
 abbrev pub IsFound : Shelf → List ℕ → Path → Bool → Type 0
-IsFound shelf root p found = ((p ≡ []) × (found ≡ true)) ⊎ ((c : Contents) × IsHolder shelf root root_place p c × HasDirectory c p found)
+IsFound shelf root p found = ((p ≡ []) × (found ≡ true)) ⊎ ((c : Contents) × IsHolder shelf root p c × HasDirectory c p found)

@@ -12,11 +12,10 @@ ghost use Rattle.cv_base.specs.Told.{WhereTold};
 ghost use Rattle.cv_base.specs.declared.id.Kind.TheVariants as id_kind;
 ghost use Rattle.cv_ports.specs.Calls.{RaisedAtMost};
 ghost use Rattle.cv_cut.specs.Above.{cuts_above, Holds};
-ghost use Rattle.cv_cut.specs.Opening.{MayFail};
 ghost use Rattle.cv_graft.specs.Directories.{HasDirectory, IsFound};
 ghost use Rattle.cv_graft.specs.Graft.{HasWay};
 ghost use Rattle.cv_graft.specs.Places.{stands_for_directory};
-ghost use Rattle.cv_graft.specs.Way.{Tells};
+ghost use Rattle.cv_graft.specs.Way.{BlamesWay, Tells};
 ghost use Rattle.cv_cut.specs.Catalogues.{contents_of};
 ghost use Rattle.cv_cut.specs.declared.load_fault.LoadFault.TheVariants as faults;
 
@@ -49,9 +48,11 @@ pub(crate) fn directory_in(catalogue: &Catalogue, path: &RepoPath) -> bool
 }
 
 /// Whether a path is a directory of the tree of a root. Only catalogues of cuts properly above the path are read, and what is
-/// answered is so by one that is reached from the root's, also where the root means no tree.
+/// answered is so by the last one on the way to it, also where the root means no tree.
 ///
-/// Where the root means a tree, every fault but the shelf's own and want of memory is out of the question.
+/// Missing, Bad and Damaged name a catalogue on the way to the path: it isn't there, it is none at its place or misstates the
+/// size of the next one, or it has another digest. Where the root means a tree, only the shelf's own faults and want of memory
+/// come.
 pub fn directory_at<S: Shelf>(
     alloc: Global,
     shelf: &mut S,
@@ -61,7 +62,7 @@ pub fn directory_at<S: Shelf>(
     requires { root.now.kind ≡ id_kind.Catalogue }
     ensures told { WhereTold (S.shelf shelf.old) (λ standing. (t : Nodes) → HasWay standing root.now.hash t path.now → Tells t path.now result) }
     ensures found { WhereTold (S.shelf shelf.old) (λ standing. IfOk result (IsFound standing root.now.hash path.now)) }
-    ensures fault { WhereTold (S.shelf shelf.old) (λ standing. IfErr result (MayFail standing root.now.hash)) }
+    ensures fault { WhereTold (S.shelf shelf.old) (λ standing. IfErr result (BlamesWay standing root.now.hash path.now)) }
     ensures reads { S.reads shelf.old shelf.new }
     ensures unchanged { S.shelf shelf.new ≡ S.shelf shelf.old }
     ensures cause { HasCause (S.faults shelf.old) (S.faults shelf.new) (IsErrOf result faults.Failed) }

@@ -5,19 +5,18 @@ ghost use Rattle.cv_base.specs.Marker.{marker, ends_in};
 ghost use Rattle.cv_base.specs.Path.{covers};
 ghost use Rattle.cv_base.specs.Told.{WhereTold};
 ghost use Rattle.cv_base.specs.declared.id.Kind.TheVariants as id_kind;
+ghost use Rattle.cv_ports.specs.Shelf.{Shelf as Shelf_};
 ghost use Rattle.cv_rows.specs.Catalogue.{IsCatalogue};
 ghost use Rattle.cv_tree.specs.Tree.{Nodes};
 ghost use Rattle.cv_tree.specs.Changes.{has_place};
 ghost use Rattle.cv_cut.specs.Means.{Means};
 ghost use Rattle.cv_ports.specs.Calls.{RaisedAtMost};
 ghost use Rattle.cv_cut.specs.Above.{cuts_above, replaced};
-ghost use Rattle.cv_cut.specs.Opening.{MayFail};
 ghost use Rattle.cv_cut.specs.declared.load_fault.LoadFault.TheVariants as load_faults;
-ghost use Rattle.cv_cut.specs.Reached.{root_place};
 ghost use Rattle.cv_graft.specs.Directories.{IsHolder};
 ghost use Rattle.cv_graft.specs.Graft.{Grafts, HasOwnIds};
 ghost use Rattle.cv_graft.specs.Placed.{HasCuts};
-ghost use Rattle.cv_graft.specs.Way.{Finds, TellsDamage};
+ghost use Rattle.cv_graft.specs.Way.{BlamesWay, Finds, IsOfEither, TellsDamage};
 ghost use Rattle.cv_graft.specs.declared.graft_fault.GraftFault.TheVariants as faults;
 
 use crate::graft_fault::GraftFault;
@@ -40,10 +39,10 @@ pub(crate) fn holder<S: Shelf>(
     requires kind { root.now.kind ≡ id_kind.Catalogue }
     requires path { path.now ≢ [] }
     ensures told { WhereTold (S.shelf shelf.old) (λ standing. (n : Nodes) → HasCuts standing root.now.hash n path.now → Finds n path.now result) }
-    ensures holder { WhereTold (S.shelf shelf.old) (λ standing. IfOk result (IsHolder standing root.now.hash root_place path.now)) }
+    ensures holder { WhereTold (S.shelf shelf.old) (λ standing. IfOk result (IsHolder standing root.now.hash path.now)) }
     ensures rules { IfOk result IsCatalogue }
     ensures covered { IfOk result (λ c. (covers c.at path.now ≡ true) × (path.now ≢ c.at)) }
-    ensures fault { WhereTold (S.shelf shelf.old) (λ standing. IfErr result (MayFail standing root.now.hash)) }
+    ensures fault { WhereTold (S.shelf shelf.old) (λ standing. IfErr result (BlamesWay standing root.now.hash path.now)) }
     ensures reads { S.reads shelf.old shelf.new }
     ensures unchanged { S.shelf shelf.new ≡ S.shelf shelf.old }
     ensures cause { HasCause (S.faults shelf.old) (S.faults shelf.new) (IsErrOf result load_faults.Failed) }
@@ -59,7 +58,7 @@ fn whole<S: Shelf>(alloc: Global, shelf: &mut S, offered: &ObjectId) -> Result<G
     requires { offered.now.kind ≡ id_kind.Catalogue }
     ensures told { WhereTold (S.shelf shelf.old) (λ standing. (t n : Nodes) → Means standing offered.now.hash n → Grafts (replaced t n []) [] result) }
     ensures own { IfOk result (λ g. HasOwnIds g.added) }
-    ensures damaged { WhereTold (S.shelf shelf.old) (λ standing. TellsDamage standing result) }
+    ensures undamaged { (standing : Shelf_) → TellsDamage standing (λ id. ⊥) result }
     ensures reads { S.reads shelf.old shelf.new }
     ensures unchanged { S.shelf shelf.new ≡ S.shelf shelf.old }
     ensures cause { HasCause (S.faults shelf.old) (S.faults shelf.new) (IsErrOf result faults.Failed) }
@@ -92,7 +91,7 @@ fn below_root<S: Shelf>(
     requires unmarked { ends_in marker path.now ≡ false }
     ensures told { WhereTold (S.shelf shelf.old) (λ standing. (t n : Nodes) → Means standing newest.now.hash t → Means standing offered.now.hash n → IsTrue (has_place t path.now) → Grafts (replaced t n path.now) path.now result) }
     ensures own { IfOk result (λ g. HasOwnIds g.added) }
-    ensures damaged { WhereTold (S.shelf shelf.old) (λ standing. TellsDamage standing result) }
+    ensures damaged { WhereTold (S.shelf shelf.old) (λ standing. TellsDamage standing (IsOfEither standing newest.now.hash offered.now.hash path.now) result) }
     ensures reads { S.reads shelf.old shelf.new }
     ensures unchanged { S.shelf shelf.new ≡ S.shelf shelf.old }
     ensures cause { HasCause (S.faults shelf.old) (S.faults shelf.new) (IsErrOf result faults.Failed) }
@@ -131,7 +130,7 @@ pub fn graft<S: Shelf>(
     requires unmarked { ends_in marker path.now ≡ false }
     ensures told { WhereTold (S.shelf shelf.old) (λ standing. (t n : Nodes) → Means standing newest.now.hash t → Means standing offered.now.hash n → IsTrue (has_place t path.now) → Grafts (replaced t n path.now) path.now result) }
     ensures own { IfOk result (λ g. HasOwnIds g.added) }
-    ensures damaged { WhereTold (S.shelf shelf.old) (λ standing. TellsDamage standing result) }
+    ensures damaged { WhereTold (S.shelf shelf.old) (λ standing. TellsDamage standing (IsOfEither standing newest.now.hash offered.now.hash path.now) result) }
     ensures reads { S.reads shelf.old shelf.new }
     ensures unchanged { S.shelf shelf.new ≡ S.shelf shelf.old }
     ensures cause { HasCause (S.faults shelf.old) (S.faults shelf.new) (IsErrOf result faults.Failed) }

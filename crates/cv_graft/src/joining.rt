@@ -114,7 +114,7 @@ pub(crate) fn joined(
     requires unmarked { ends_in marker path.now ≡ false }
     ensures joins { Joins catalogue other.now path.now result }
     ensures unread { IsErrOf result faults.Failed → ⊥ }
-    ensures undamaged { (standing : Shelf_) → TellsDamage standing result }
+    ensures undamaged { (standing : Shelf_) → TellsDamage standing (λ id. ⊥) result }
 {
     let (rows, nested) = other.within(alloc, path)?;
     let rest = without(alloc, catalogue, path)?;

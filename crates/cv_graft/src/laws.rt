@@ -1,8 +1,8 @@
-//! Laws over the definitions alone: what a graft leaves on a shelf.
-ghost use Rattle.std.specs.Prelude.{◌≡◌, Some, List, ℕ, IsTrue, Contains, true};
+//! Laws over the definitions alone: what a graft leaves on a shelf, and where the catalogues on the way to a path stand.
+ghost use Rattle.std.specs.Prelude.{◌≡◌, ◌≢◌, Some, List, ℕ, IsTrue, Contains, true};
 ghost use Rattle.sha1.specs.Sha1.{sha1};
 ghost use Rattle.cv_base.specs.ObjectId.{object_id};
-ghost use Rattle.cv_base.specs.Path.{Path};
+ghost use Rattle.cv_base.specs.Path.{Path, covers};
 ghost use Rattle.cv_base.specs.declared.id.Kind.TheVariants.{Catalogue};
 ghost use Rattle.cv_base.specs.declared.id.ObjectId.{ObjectId};
 ghost use Rattle.cv_ports.specs.Shelf.{Shelf, HasMore};
@@ -12,7 +12,11 @@ ghost use Rattle.cv_cut.specs.Catalogues.{Fits, cat, root_of};
 ghost use Rattle.cv_cut.specs.Means.{Means};
 ghost use Rattle.cv_cut.specs.Above.{cuts_above, replaced};
 ghost use Rattle.cv_cut.specs.Replaced.{FitsOver};
+ghost use Rattle.cv_cut.specs.Opening.{MayFail};
+ghost use Rattle.cv_cut.specs.Reached.{Place, ReachesCatalogue};
+ghost use Rattle.cv_cut.specs.declared.load_fault.LoadFault.{LoadFault};
 ghost use Rattle.cv_graft.specs.Placed.{HasContentsOf, HasObjects, placed_of};
+ghost use Rattle.cv_graft.specs.Way.{BlamesWay, IsOnWay};
 
 /// A replaced subtree leaves a tree, where the path's parent is a directory.
 pub fn a_graft_is_a_tree()
@@ -32,4 +36,12 @@ pub fn a_graft_means_its_tree()
 pub fn a_placed_part_means_its_tree()
     ensures { (shelf more : Shelf) (hash : List ℕ) (t s : Nodes) (p : Path) → Means shelf hash t → IsTree (put t p s) → FitsOver (put t p s) p → HasMore shelf more
         → HasObjects more (placed_of (put t p s) p).added → HasContentsOf more s → Means more (root_of (put t p s)) (put t p s) }
+{}
+
+/// A catalogue on the way to a path stands properly above it, and is reached from the root. What blames the way is therefore a
+/// fault of what the root reaches.
+pub fn the_way_is_above_and_reached()
+    ensures above { (shelf : Shelf) (root : List ℕ) (p : Path) (hash : List ℕ) (place : Place) → IsOnWay shelf root p hash place → (covers place.path p ≡ true) × (p ≢ place.path) }
+    ensures reached { (shelf : Shelf) (root : List ℕ) (p : Path) (hash : List ℕ) (place : Place) → IsOnWay shelf root p hash place → ReachesCatalogue shelf root hash place }
+    ensures fault { (shelf : Shelf) (root : List ℕ) (p : Path) (f : LoadFault) → BlamesWay shelf root p f → MayFail shelf root f }
 {}

@@ -20,7 +20,7 @@ ghost use Rattle.cv_cut.specs.Cuts.{is_cut};
 ghost use Rattle.cv_cut.specs.Piece.{IsPiece};
 ghost use Rattle.cv_graft.specs.Graft.{HasOwnIds};
 ghost use Rattle.cv_graft.specs.Placed.{ArePathsCrossed, HasCuts, IsAskedPart, IsMeeting, JoinsLists, JoinsPart, LeadsTo, Sets};
-ghost use Rattle.cv_graft.specs.Way.{TellsDamage};
+ghost use Rattle.cv_graft.specs.Way.{IsOfWayOf, TellsDamage};
 ghost use Rattle.cv_graft.specs.declared.graft_fault.GraftFault.TheVariants as faults;
 
 use crate::graft_fault::GraftFault;
@@ -132,7 +132,7 @@ fn rejoined_part(
     requires only { (d : List (List ℕ)) → is_cut piece.now.tree d ≡ true → d ≢ [] → covers path.now d ≡ true }
     ensures made { (t : Nodes) (r : List (List ℕ)) → IsAskedPart t piece.now.tree path.now catalogue.at r → catalogue ≡ contents_of t catalogue.at → Sets t piece.now.tree path.now catalogue.at r added.old.items added.new.items result }
     ensures unread { IsErrOf result faults.Failed → ⊥ }
-    ensures undamaged { (standing : Shelf_) → TellsDamage standing result }
+    ensures undamaged { (standing : Shelf_) → TellsDamage standing (λ id. ⊥) result }
     ensures digest { IfOk result (λ made. IsDigest made.hash) }
     ensures own { OnOk result (HasOwnIds added.old.items → HasOwnIds added.new.items) }
 {
@@ -163,7 +163,7 @@ pub(crate) fn rebuilt_with<S: Shelf>(
     ensures lead { WhereTold (S.shelf shelf.old) (λ standing. OnOk result (LeadsTo standing path.now catalogue)) }
     ensures digest { IfOk result (λ made. IsDigest made.hash) }
     ensures own { OnOk result (HasOwnIds added.old.items → HasOwnIds added.new.items) }
-    ensures damaged { WhereTold (S.shelf shelf.old) (λ standing. TellsDamage standing result) }
+    ensures damaged { WhereTold (S.shelf shelf.old) (λ standing. TellsDamage standing (IsOfWayOf standing id.now catalogue path.now) result) }
     ensures reads { S.reads shelf.old shelf.new }
     ensures unchanged { S.shelf shelf.new ≡ S.shelf shelf.old }
     ensures cause { HasCause (S.faults shelf.old) (S.faults shelf.new) (IsErrOf result faults.Failed) }

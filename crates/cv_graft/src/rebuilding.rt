@@ -16,7 +16,7 @@ ghost use Rattle.cv_ports.specs.Calls.{raised_by};
 ghost use Rattle.cv_cut.specs.Above.{cuts_above, replaced, OnWay};
 ghost use Rattle.cv_graft.specs.Graft.{HasOwnIds};
 ghost use Rattle.cv_graft.specs.Placed.{HasCuts};
-ghost use Rattle.cv_graft.specs.Way.{IsAsked, IsOffered, Rebuilds, TellsDamage};
+ghost use Rattle.cv_graft.specs.Way.{IsAsked, IsOffered, IsOfWayOf, Rebuilds, TellsDamage};
 ghost use Rattle.cv_cut.specs.Catalogues.{Fits, contents_of};
 ghost use Rattle.cv_graft.specs.declared.graft_fault.GraftFault.TheVariants as faults;
 
@@ -83,7 +83,7 @@ fn rejoined(
     requires unmarked { ends_in marker path.now ≡ false }
     ensures made { (t n : Nodes) (r d v : List (List ℕ)) → IsAsked t n path.now catalogue.at r d v → catalogue ≡ contents_of t catalogue.at → other.now ≡ contents_of n d → Rebuilds (replaced t n path.now) catalogue.at r added.old.items added.new.items result }
     ensures unread { IsErrOf result faults.Failed → ⊥ }
-    ensures undamaged { (standing : Shelf_) → TellsDamage standing result }
+    ensures undamaged { (standing : Shelf_) → TellsDamage standing (λ id. ⊥) result }
     ensures digest { IfOk result (λ made. IsDigest made.hash) }
     ensures own { OnOk result (HasOwnIds added.old.items → HasOwnIds added.new.items) }
 {
@@ -115,7 +115,7 @@ pub(crate) fn rebuilt<S: Shelf>(
         → OnWay t path.now catalogue.at r → catalogue ≡ contents_of t catalogue.at → Rebuilds (replaced t n path.now) catalogue.at r added.old.items added.new.items result) }
     ensures digest { IfOk result (λ made. IsDigest made.hash) }
     ensures own { OnOk result (HasOwnIds added.old.items → HasOwnIds added.new.items) }
-    ensures damaged { WhereTold (S.shelf shelf.old) (λ standing. TellsDamage standing result) }
+    ensures damaged { WhereTold (S.shelf shelf.old) (λ standing. TellsDamage standing (IsOfWayOf standing id.now catalogue path.now) result) }
     ensures reads { S.reads shelf.old shelf.new }
     ensures unchanged { S.shelf shelf.new ≡ S.shelf shelf.old }
     ensures cause { HasCause (S.faults shelf.old) (S.faults shelf.new) (IsErrOf result faults.Failed) }

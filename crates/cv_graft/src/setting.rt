@@ -13,7 +13,7 @@ ghost use Rattle.cv_ports.specs.Shelf.{Shelf as Shelf_};
 ghost use Rattle.cv_cut.specs.Above.{cuts_above};
 ghost use Rattle.cv_graft.specs.Graft.{HasOwnIds};
 ghost use Rattle.cv_graft.specs.Placed.{HasCuts, HasLead, Places};
-ghost use Rattle.cv_graft.specs.Way.{TellsDamage};
+ghost use Rattle.cv_graft.specs.Way.{IsOfWay, TellsDamage};
 ghost use Rattle.cv_graft.specs.declared.graft_fault.GraftFault.TheVariants as faults;
 
 use crate::graft_fault::GraftFault;
@@ -31,7 +31,7 @@ fn whole_part(alloc: Global, part: &Part) -> Result<Grafted, GraftFault>
     ensures placed { Places part.now [] result }
     ensures own { IfOk result (λ g. HasOwnIds g.added) }
     ensures unread { IsErrOf result faults.Failed → ⊥ }
-    ensures undamaged { (standing : Shelf_) → TellsDamage standing result }
+    ensures undamaged { (standing : Shelf_) → TellsDamage standing (λ id. ⊥) result }
 {
     let tree = whole(alloc, part)?;
     match cut(alloc, &tree) {
@@ -51,7 +51,7 @@ fn at_root(alloc: Global, path: &RepoPath, part: Option<&Part>) -> Result<Grafte
     ensures placed { Places (nodes_of (option_copied part.entry)) [] result }
     ensures own { IfOk result (λ g. HasOwnIds g.added) }
     ensures unread { IsErrOf result faults.Failed → ⊥ }
-    ensures undamaged { (standing : Shelf_) → TellsDamage standing result }
+    ensures undamaged { (standing : Shelf_) → TellsDamage standing (λ id. ⊥) result }
 {
     let Some(whole) = part else {
         unreachable!("at the root there is a part");
@@ -74,7 +74,7 @@ fn below_root_with<S: Shelf>(
     ensures told { WhereTold (S.shelf shelf.old) (λ standing. (t : Nodes) → HasCuts standing base.now.hash t path.now → IsTrue (has_place t path.now) → Places (put t path.now (nodes_of (option_copied part.entry))) path.now result) }
     ensures lead { WhereTold (S.shelf shelf.old) (λ standing. OnOk result (HasLead standing base.now.hash path.now)) }
     ensures own { IfOk result (λ g. HasOwnIds g.added) }
-    ensures damaged { WhereTold (S.shelf shelf.old) (λ standing. TellsDamage standing result) }
+    ensures damaged { WhereTold (S.shelf shelf.old) (λ standing. TellsDamage standing (IsOfWay standing base.now.hash path.now) result) }
     ensures reads { S.reads shelf.old shelf.new }
     ensures unchanged { S.shelf shelf.new ≡ S.shelf shelf.old }
     ensures cause { HasCause (S.faults shelf.old) (S.faults shelf.new) (IsErrOf result faults.Failed) }
@@ -119,7 +119,7 @@ pub fn place<S: Shelf>(
     ensures whole { path.now ≡ [] → Places (nodes_of (option_copied part.entry)) [] result }
     ensures lead { WhereTold (S.shelf shelf.old) (λ standing. OnOk result (path.now ≢ [] → HasLead standing base.now.hash path.now)) }
     ensures own { IfOk result (λ g. HasOwnIds g.added) }
-    ensures damaged { WhereTold (S.shelf shelf.old) (λ standing. TellsDamage standing result) }
+    ensures damaged { WhereTold (S.shelf shelf.old) (λ standing. TellsDamage standing (IsOfWay standing base.now.hash path.now) result) }
     ensures reads { S.reads shelf.old shelf.new }
     ensures unchanged { S.shelf shelf.new ≡ S.shelf shelf.old }
     ensures cause { HasCause (S.faults shelf.old) (S.faults shelf.new) (IsErrOf result faults.Failed) }

@@ -62,7 +62,7 @@ pub(crate) fn holder_from<S: Shelf>(
     ensures rules { IfOk result IsCatalogue }
     ensures covered { IfOk result (λ c. (covers c.at path.now ≡ true) × (path.now ≢ c.at)) }
     ensures holder { WhereTold (S.shelf shelf.old) (λ standing. HoldsFrom standing id.now catalogue path.now result) }
-    ensures fault { WhereTold (S.shelf shelf.old) (λ standing. FailsFrom standing id.now catalogue result) }
+    ensures fault { WhereTold (S.shelf shelf.old) (λ standing. FailsFrom standing id.now catalogue path.now result) }
     ensures reads { S.reads shelf.old shelf.new }
     ensures unchanged { S.shelf shelf.new ≡ S.shelf shelf.old }
     ensures cause { HasCause (S.faults shelf.old) (S.faults shelf.new) (IsErrOf result faults.Failed) }

@@ -1,14 +1,13 @@
 use Rattle.std.proofs.Common.{◌≡◌, true, ap, subst, ◌∙◌, Ok, Err}
 use Rattle.std.specs.Option.{option_map}
 use Rattle.cv_vault.proofs.Laws.{quiet_same}
-use Rattle.cv_graft.specs.Way.{TellsDamage}
 use Rattle.cv_graft.specs.declared.grafted.Grafted.{Grafted}
 use Rattle.cv_manifest.specs.declared.head.Head.{Head}
 use Rattle.cv_objects.specs.Names.{standing_on}
 use Rattle.cv_desk.specs.Acting.{reply_of}
 use Rattle.cv_desk.specs.Committing.{Offers, meaningless}
 use Rattle.cv_desk.specs.Refusals.{is_unmade}
-use Rattle.cv_desk.proofs.CommitCalls.{grafts_there, grafts_fetched, judged_alone, graft_unfit, if_err}
+use Rattle.cv_desk.proofs.CommitCalls.{grafts_there, grafts_shown, grafts_fetched, judged_alone, graft_unfit, if_err}
 use Rattle.cv_desk.proofs.CommitExact.{unmade_told}
 use Rattle.cv_desk.proofs.committing.graft_offered.Goals as goal
 
@@ -30,7 +29,8 @@ returns-in-Err-graft-clause-grafts g c = λ d told.
     (subst (Offers (standing_on d) c.args.offered.now.hash) c.in_default.is (c.judge.ensures.offers d told))
     (grafts_there g.V.Vault.disk g.V.Vault.count g.V.Vault.left c.args.line.now c.judge.new.line c.judge.ensures.reads c.head.result.root (ap (λ (h : Head). h.root) c.head.ensures.newest)
     c.args.offered.now.hash c.args.path.now c.graft.result (Err c.in-Err-graft.fault) c.in-Err-graft.is c.graft.ensures.told d told)
-    (subst (TellsDamage (standing_on d) {X = Grafted}) c.in-Err-graft.is (c.graft.ensures.damaged (standing_on d) (ap (option_map standing_on) (quiet_same c.judge.ensures.reads.0 ∙ told))))
+    (grafts_shown g.V.Vault.disk g.V.Vault.count g.V.Vault.left c.args.line.now c.judge.new.line c.judge.ensures.reads c.head.result.root (ap (λ (h : Head). h.root) c.head.ensures.newest)
+    c.args.offered.now.hash c.args.path.now c.graft.result (Err c.in-Err-graft.fault) c.in-Err-graft.is c.graft.ensures.damaged d told)
 
 pub returns-in-Err-clause-kind : goal.returns-in-Err-clause-kind
 returns-in-Err-clause-kind g c = ap is_unmade c.of.ensures ∙ if_err (λ o. is_unmade (reply_of o) ≡ true) c.judge.result c.in-Err.outcome c.in-Err.is c.judge.ensures.kind

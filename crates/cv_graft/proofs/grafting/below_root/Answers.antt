@@ -2,9 +2,10 @@ use Rattle.std.proofs.Common.{suc, Result, List, [], Ok, Err, ap, subst, ◌∙�
 use Rattle.cv_base.specs.declared.id.Kind.TheVariants.{Catalogue}
 use Rattle.cv_base.specs.declared.object.Object.{Object}
 use Rattle.cv_graft.specs.Graft.{Grafts}
-use Rattle.cv_graft.proofs.Finding.{cuts_way, some_count, raised_more, top_unread, top_unopened, tells_cause}
+use Rattle.cv_graft.proofs.Finding.{cuts_way, some_count, raised_more, top_unread}
+use Rattle.cv_graft.proofs.Holders.{top_blamed, tells_way, tells_top, tells_left, tells_right}
 use Rattle.cv_graft.proofs.Grafts.{way_of, tree_after, offered_of, top_is, top_count, two_walks, rebuilt_at, made_graft, fault_graft, unread_graft}
-use Rattle.cv_graft.specs.Way.{IsMade, TellsDamage}
+use Rattle.cv_graft.specs.Way.{IsMade, IsOfEither, TellsDamage}
 use Rattle.cv_graft.specs.declared.grafted.Grafted.{Grafted}
 use Rattle.cv_graft.specs.declared.graft_fault.GraftFault.{GraftFault}
 use Rattle.cv_graft.proofs.grafting.below_root.Goals as goal
@@ -92,8 +93,10 @@ returns-in_err-other-clause-told g c = λ standing told t n mt mn place.
 
 pub returns-in_err-other-clause-damaged : goal.returns-in_err-other-clause-damaged
 returns-in_err-other-clause-damaged g c = λ standing told.
-    left_by (λ (x : Result Grafted GraftFault). TellsDamage standing x) _ _ c.from_residual.ensures.1
-    (tells_cause Grafted standing c.args.offered.now.hash _ (c.in_err-other.ensures.fault standing told))
+    let one = c.args.newest.now.hash in
+    let other = c.args.offered.now.hash in
+    left_by (λ (x : Result Grafted GraftFault). TellsDamage standing (IsOfEither standing one other c.args.path.now) x) _ _ c.from_residual.ensures.1
+    (tells_right Grafted standing one other c.args.path.now _ (tells_way Grafted standing c.args.offered.now.hash c.args.path.now _ (c.in_err-other.ensures.fault standing told)))
 
 pub returns-in_err-catalogue-clause-told : goal.returns-in_err-catalogue-clause-told
 returns-in_err-catalogue-clause-told g c = λ standing told t n mt mn place.
@@ -104,5 +107,19 @@ returns-in_err-catalogue-clause-told g c = λ standing told t n mt mn place.
 
 pub returns-in_err-catalogue-clause-damaged : goal.returns-in_err-catalogue-clause-damaged
 returns-in_err-catalogue-clause-damaged g c = λ standing told.
-    left_by (λ (x : Result Grafted GraftFault). TellsDamage standing x) _ _ c.from_residual-in_err-catalogue.ensures.1
-    (tells_cause Grafted standing c.args.newest.now.hash _ (top_unopened standing c.args.newest.now c.root-top.result _ c.requires.newest c.root-top.ensures (c.in_err-catalogue.ensures.told standing (c.holder.ensures.unchanged ∙ told))))
+    let one = c.args.newest.now.hash in
+    let other = c.args.offered.now.hash in
+    left_by (λ (x : Result Grafted GraftFault). TellsDamage standing (IsOfEither standing one other c.args.path.now) x) _ _ c.from_residual-in_err-catalogue.ensures.1
+    (tells_left Grafted standing one other c.args.path.now _
+    (tells_way Grafted standing c.args.newest.now.hash c.args.path.now _ (top_blamed standing c.args.newest.now c.args.path.now c.root-top.result _ c.requires.newest c.requires.path c.root-top.ensures
+    (c.in_err-catalogue.ensures.told standing (c.holder.ensures.unchanged ∙ told)))))
+
+pub returns-in_err-made-clause-damaged : goal.returns-in_err-made-clause-damaged
+returns-in_err-made-clause-damaged g c = λ standing told.
+    let one = c.args.newest.now.hash in
+    let other = c.args.offered.now.hash in
+    let there = c.holder.ensures.unchanged ∙ told in
+    left_by (λ (x : Result Grafted GraftFault). TellsDamage standing (IsOfEither standing one other c.args.path.now) x) _ _ c.from_residual-in_err-made.ensures.1
+    (tells_left Grafted standing one other c.args.path.now _
+    (tells_top Grafted standing c.args.newest.now c.root-top.result c.in_ok-catalogue.catalogue c.args.path.now _ c.requires.path c.root-top.ensures (c.in_ok-catalogue.ensures.told standing there)
+    (c.in_err-made.ensures.damaged standing (c.catalogue_at.ensures.unchanged ∙ there))))

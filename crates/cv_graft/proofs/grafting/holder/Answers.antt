@@ -1,13 +1,11 @@
 use Rattle.std.proofs.Common.{suc, Result, ap, ◌∙◌, arith}
-use Rattle.cv_graft.proofs.Finding.{some_count, raised_more, top_unread, top_unopened, fails_top}
+use Rattle.cv_graft.proofs.Finding.{some_count, raised_more, top_unread}
 use Rattle.std.specs.Prelude.{IfOk, IfErr}
 use Rattle.cv_rows.specs.Catalogue.{Contents}
-use Rattle.cv_cut.specs.Opening.{MayFail}
 use Rattle.cv_cut.specs.declared.load_fault.LoadFault.{LoadFault}
-use Rattle.cv_cut.specs.Reached.{root_place}
 use Rattle.cv_graft.specs.Directories.{IsHolder}
-use Rattle.cv_graft.specs.Way.{Finds}
-use Rattle.cv_graft.proofs.Holders.{holds_top}
+use Rattle.cv_graft.specs.Way.{BlamesWay, Finds}
+use Rattle.cv_graft.proofs.Holders.{fails_top, holds_top, top_blamed}
 use Rattle.cv_graft.proofs.Grafts.{top_is, top_count}
 use Rattle.cv_graft.proofs.grafting.holder.Goals as goal
 use Rattle.cv_ports.specs.Calls.{raised_by}
@@ -39,18 +37,18 @@ returns-in_err-catalogue-clause-told g c = λ standing told n way.
 
 pub returns-in_err-catalogue-clause-fault : goal.returns-in_err-catalogue-clause-fault
 returns-in_err-catalogue-clause-fault g c = λ standing told.
-    left_by (λ (x : Result Contents LoadFault). IfErr x (MayFail standing c.args.root.now.hash)) _ _ c.from_residual.ensures.1
-    (top_unopened standing c.args.root.now c.root-top.result _ c.requires.kind c.root-top.ensures (c.in_err-catalogue.ensures.told standing told))
+    left_by (λ (x : Result Contents LoadFault). IfErr x (BlamesWay standing c.args.root.now.hash c.args.path.now)) _ _ c.from_residual.ensures.1
+    (top_blamed standing c.args.root.now c.args.path.now c.root-top.result _ c.requires.kind c.requires.path c.root-top.ensures (c.in_err-catalogue.ensures.told standing told))
 
 pub returns-clause-fault : goal.returns-clause-fault
 returns-clause-fault g c = λ standing told.
-    fails_top standing c.args.root.now c.root-top.result c.in_ok-catalogue.catalogue c.holder_from.result c.root-top.ensures (c.in_ok-catalogue.ensures.told standing told)
+    fails_top standing c.args.root.now c.root-top.result c.in_ok-catalogue.catalogue c.args.path.now c.holder_from.result c.requires.path c.root-top.ensures (c.in_ok-catalogue.ensures.told standing told)
     (c.holder_from.ensures.fault standing (c.catalogue_at.ensures.unchanged ∙ told))
 
 pub returns-in_err-catalogue-clause-holder : goal.returns-in_err-catalogue-clause-holder
-returns-in_err-catalogue-clause-holder g c = λ standing told. left_by (λ (x : Result Contents LoadFault). IfOk x (IsHolder standing c.args.root.now.hash root_place c.args.path.now)) _ _ c.from_residual.ensures.1 tt
+returns-in_err-catalogue-clause-holder g c = λ standing told. left_by (λ (x : Result Contents LoadFault). IfOk x (IsHolder standing c.args.root.now.hash c.args.path.now)) _ _ c.from_residual.ensures.1 tt
 
 pub returns-clause-holder : goal.returns-clause-holder
 returns-clause-holder g c = λ standing told.
-    holds_top standing c.args.root.now c.root-top.result c.in_ok-catalogue.catalogue c.args.path.now c.holder_from.result c.root-top.ensures (c.in_ok-catalogue.ensures.told standing told)
+    holds_top standing c.args.root.now c.root-top.result c.in_ok-catalogue.catalogue c.args.path.now c.holder_from.result c.requires.path c.root-top.ensures (c.in_ok-catalogue.ensures.told standing told)
     (c.holder_from.ensures.holder standing (c.catalogue_at.ensures.unchanged ∙ told))

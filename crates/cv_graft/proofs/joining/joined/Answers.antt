@@ -109,7 +109,7 @@ never c o p (Err fault.NoMemory) h is = cc
 pub returns-in_err-check_keys-clause-unread : goal.returns-in_err-check_keys-clause-unread
 returns-in_err-check_keys-clause-unread c = never c.args.catalogue c.args.other.now c.args.path.now _ (collides c.args.catalogue c.args.other.now c.in_ok-rest.rest c.args.path.now c.in_ok-rows.rows.items c.deref.result.now c.in_ok-rows.nested.items _ _ c.in_ok-rest.ensures.left c.in_ok-rows.ensures c.deref.ensures.value c.in_err-check_keys.ensures.err c.from_residual-in_err-check_keys.ensures.1)
 
-undamaged : (c o : Contents) (p : Path) (r : Result Contents GraftFault) → Joins c o p r → (shelf : Shelf) → TellsDamage shelf r
+undamaged : (c o : Contents) (p : Path) (r : Result Contents GraftFault) → Joins c o p r → (shelf : Shelf) → TellsDamage shelf (λ id. ⊥) r
 undamaged c o p (Ok k) h shelf = tt
 undamaged c o p (Err (fault.PathCollision a b)) h shelf = tt
 undamaged c o p (Err (fault.CatalogueFull d)) h shelf = tt

@@ -42,7 +42,7 @@ returns-in_err-joined-clause-unread c =
 
 pub returns-in_err-joined-clause-undamaged : goal.returns-in_err-joined-clause-undamaged
 returns-in_err-joined-clause-undamaged c = λ standing.
-    left_by (λ (x : Result Made GraftFault). TellsDamage standing x) _ _ c.from_residual.ensures.1 (part_tells Made c.args.catalogue c.args.path.now c.args.piece.now.tree _ standing c.in_err-joined.ensures.joins)
+    left_by (λ (x : Result Made GraftFault). TellsDamage standing (λ id. ⊥) x) _ _ c.from_residual.ensures.1 (part_tells Made c.args.catalogue c.args.path.now c.args.piece.now.tree _ standing c.in_err-joined.ensures.joins)
 
 pub returns-clause-own : goal.returns-clause-own
 returns-clause-own c = λ own. c.in_ok-keep.ensures.own (own_more c.args.piece.now.tree c.args.piece.now.cuts c.args.added.now.items c.joined_part.new.added.items c.in_ok-joined.ensures.added own)

@@ -1,9 +1,10 @@
 use Rattle.std.proofs.Common.{suc, Result, ap, subst, ◌∙◌, arith}
 use Rattle.cv_rows.specs.Catalogue.{Contents}
-use Rattle.cv_graft.specs.Way.{HasNone, IsNext, Rebuilds, TellsDamage}
+use Rattle.cv_graft.specs.Way.{HasNone, IsNext, IsOfWayOf, Rebuilds, TellsDamage}
 use Rattle.cv_graft.specs.declared.made.Made.{Made}
 use Rattle.cv_graft.specs.declared.graft_fault.GraftFault.{GraftFault}
-use Rattle.cv_graft.proofs.Finding.{raised_more, none_holds, step_unread, step_down, step_count, more_than_one, at_most_below, tells_nested}
+use Rattle.cv_graft.proofs.Holders.{tells_next, tells_below, tells_none}
+use Rattle.cv_graft.proofs.Finding.{raised_more, none_holds, step_unread, step_down, step_count, more_than_one, at_most_below}
 use Rattle.cv_graft.proofs.Rebuilds.{asked_of, above_of, above_made, upper_fault, unread_fault}
 use Rattle.cv_graft.proofs.rebuilding.+rebuilt.Goals as goal
 use Rattle.cv_ports.specs.Calls.{raised_by}
@@ -21,7 +22,7 @@ pub returns-in_default-clause-cause : goal.returns-in_default-clause-cause
 returns-in_default-clause-cause g m c = record { later = omega arith; failed = λ is. absurd (c.rejoined.ensures.unread is) }
 
 pub returns-in_default-clause-damaged : goal.returns-in_default-clause-damaged
-returns-in_default-clause-damaged g m c = λ standing told. c.rejoined.ensures.undamaged standing
+returns-in_default-clause-damaged g m c = λ standing told. tells_none standing (IsOfWayOf standing c.args.id.now c.args.catalogue c.args.path.now) c.rejoined.result (c.rejoined.ensures.undamaged standing)
 
 pub returns-in_err-below-clause-told : goal.returns-in_err-below-clause-told
 returns-in_err-below-clause-told g m c = λ standing told hash t n r way fits offered after w is.
@@ -92,8 +93,16 @@ returns-clause-reads g t c = g.met.S.Shelf.reads_then _ _ _ c.nested_catalogue.e
 
 pub returns-in_err-below-clause-damaged : goal.returns-in_err-below-clause-damaged
 returns-in_err-below-clause-damaged g m c = λ standing told.
-    left_by (λ (x : Result Made GraftFault). TellsDamage standing x) _ _ c.from_residual-in_err-below.ensures.1
-    (tells_nested Made standing c.args.id.now c.args.catalogue c.in-Some.entry _ (c.in_err-below.ensures.told standing told))
+    let next : IsNext c.args.catalogue c.args.path.now c.in-Some.entry = rw c.in-Some.is at c.in_ok-entry.ensures.found in
+    left_by (λ (x : Result Made GraftFault). TellsDamage standing (IsOfWayOf standing c.args.id.now c.args.catalogue c.args.path.now) x) _ _ c.from_residual-in_err-below.ensures.1
+    (tells_next Made standing c.args.id.now c.args.catalogue c.in-Some.entry c.args.path.now _ c.requires.kind next (c.in_err-below.ensures.told standing told))
+
+pub returns-in_err-made-clause-damaged : goal.returns-in_err-made-clause-damaged
+returns-in_err-made-clause-damaged g m c = λ standing told.
+    let next : IsNext c.args.catalogue c.args.path.now c.in-Some.entry = rw c.in-Some.is at c.in_ok-entry.ensures.found in
+    left_by (λ (x : Result Made GraftFault). TellsDamage standing (IsOfWayOf standing c.args.id.now c.args.catalogue c.args.path.now) x) _ _ c.from_residual-in_err-made.ensures.1
+    (tells_below Made standing c.args.id.now c.args.catalogue c.in_ok-below.below c.in-Some.entry c.args.path.now _ next (c.in_ok-below.ensures.told standing told)
+    (c.in_err-made.ensures.damaged standing (c.nested_catalogue.ensures.unchanged ∙ told)))
 
 pub nested_catalogue-requires-clause-entry : goal.nested_catalogue-requires-clause-entry
 nested_catalogue-requires-clause-entry g m c =

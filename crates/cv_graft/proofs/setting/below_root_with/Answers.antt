@@ -10,11 +10,12 @@ use Rattle.cv_ports.specs.Calls.{raised_by}
 use Rattle.cv_cut.specs.Reached.{HasCatalogue}
 use Rattle.cv_cut.proofs.Lemmas.{left_by}
 use Rattle.cv_graft.specs.Placed.{Places, IsSet}
-use Rattle.cv_graft.specs.Way.{TellsDamage}
+use Rattle.cv_graft.specs.Way.{IsOfWay, TellsDamage}
 use Rattle.cv_graft.specs.declared.grafted.Grafted.{Grafted}
 use Rattle.cv_graft.specs.declared.graft_fault.GraftFault.{GraftFault}
 use Rattle.cv_graft.specs.declared.graft_fault.GraftFault.TheVariants as fault
-use Rattle.cv_graft.proofs.Finding.{some_count, raised_more, top_unread, top_unopened, tells_cause}
+use Rattle.cv_graft.proofs.Finding.{some_count, raised_more, top_unread}
+use Rattle.cv_graft.proofs.Holders.{top_blamed, tells_way, tells_top}
 use Rattle.cv_graft.proofs.Grafts.{tree_after, top_is, top_count}
 use Rattle.cv_graft.proofs.PlacedAbove.{early_fault, unread_place, cut_tells, cut_not_failed, own_piece, own_only, set_root, set_fault, fault_root}
 use Rattle.cv_graft.proofs.setting.below_root_with.Goals as goal
@@ -35,7 +36,7 @@ returns-in_err-piece-clause-told g c = λ standing told t way place.
 
 pub returns-in_err-piece-clause-damaged : goal.returns-in_err-piece-clause-damaged
 returns-in_err-piece-clause-damaged g c = λ standing told.
-    left_by (λ (x : Result Grafted GraftFault). TellsDamage standing x) _ _ c.from_residual-in_err-piece.ensures.1 (cut_tells Grafted standing _)
+    left_by (λ (x : Result Grafted GraftFault). TellsDamage standing (IsOfWay standing c.args.base.now.hash c.args.path.now) x) _ _ c.from_residual-in_err-piece.ensures.1 (cut_tells Grafted standing _ _)
 
 pub returns-in_err-piece-clause-cause : goal.returns-in_err-piece-clause-cause
 returns-in_err-piece-clause-cause g c = record {
@@ -52,8 +53,14 @@ returns-in_err-catalogue-clause-told g c = λ standing told t way place.
 
 pub returns-in_err-catalogue-clause-damaged : goal.returns-in_err-catalogue-clause-damaged
 returns-in_err-catalogue-clause-damaged g c = λ standing told.
-    left_by (λ (x : Result Grafted GraftFault). TellsDamage standing x) _ _ c.from_residual-in_err-catalogue.ensures.1
-    (tells_cause Grafted standing c.args.base.now.hash _ (top_unopened standing c.args.base.now c.root-top.result _ c.requires.base c.root-top.ensures (c.in_err-catalogue.ensures.told standing told)))
+    left_by (λ (x : Result Grafted GraftFault). TellsDamage standing (IsOfWay standing c.args.base.now.hash c.args.path.now) x) _ _ c.from_residual-in_err-catalogue.ensures.1
+    (tells_way Grafted standing c.args.base.now.hash c.args.path.now _ (top_blamed standing c.args.base.now c.args.path.now c.root-top.result _ c.requires.base c.requires.path c.root-top.ensures (c.in_err-catalogue.ensures.told standing told)))
+
+pub returns-in_err-made-clause-damaged : goal.returns-in_err-made-clause-damaged
+returns-in_err-made-clause-damaged g c = λ standing told.
+    left_by (λ (x : Result Grafted GraftFault). TellsDamage standing (IsOfWay standing c.args.base.now.hash c.args.path.now) x) _ _ c.from_residual-in_err-made.ensures.1
+    (tells_top Grafted standing c.args.base.now c.root-top.result c.in_ok-catalogue.catalogue c.args.path.now _ c.requires.path c.root-top.ensures (c.in_ok-catalogue.ensures.told standing told)
+    (c.in_err-made.ensures.damaged standing (c.catalogue_at.ensures.unchanged ∙ told)))
 
 pub returns-in_err-catalogue-clause-taken : goal.returns-in_err-catalogue-clause-taken
 returns-in_err-catalogue-clause-taken g c = λ standing told t way. (1, some_count t c.args.path.now c.requires.path, c.in_err-catalogue.ensures.taken)

@@ -4,6 +4,8 @@ use Rattle.std.proofs.lemmas.List.{nil_from_length}
 use Rattle.std.specs.Option.{option_copied}
 use Rattle.cv_tree.specs.Changes.{nodes_of}
 use Rattle.cv_graft.specs.Placed.{HasLead}
+use Rattle.cv_graft.specs.Way.{IsOfWay}
+use Rattle.cv_graft.proofs.Holders.{tells_none}
 use Rattle.cv_graft.proofs.PlacedAbove.{if_ok, ok_more}
 use Rattle.cv_graft.proofs.PlacedWhole.{placed_root}
 use Rattle.cv_graft.proofs.setting.place.Goals as goal
@@ -20,7 +22,7 @@ returns-then-is_empty-clause-told g c = λ standing told t way place.
     placed_root t (nodes_of (option_copied c.args.part)) c.args.path.now _ root c.at_root.ensures.placed
 
 pub returns-then-is_empty-clause-damaged : goal.returns-then-is_empty-clause-damaged
-returns-then-is_empty-clause-damaged g c = λ standing told. c.at_root.ensures.undamaged standing
+returns-then-is_empty-clause-damaged g c = λ standing told. tells_none standing (IsOfWay standing c.args.base.now.hash c.args.path.now) c.at_root.result (c.at_root.ensures.undamaged standing)
 
 pub returns-then-is_empty-clause-cause : goal.returns-then-is_empty-clause-cause
 returns-then-is_empty-clause-cause g c = record { later = omega arith; failed = λ is. absurd (c.at_root.ensures.unread is) }

@@ -2,9 +2,9 @@ use Rattle.std.proofs.Common.{suc, Result, ap, subst, ◌∙◌, arith}
 use Rattle.cv_rows.specs.Catalogue.{Contents}
 use Rattle.cv_graft.specs.Directories.{HoldsFrom}
 use Rattle.cv_graft.specs.Way.{HasNone, IsNext, Finds, FailsFrom}
-use Rattle.cv_graft.proofs.Holders.{holds_itself, holds_below}
+use Rattle.cv_graft.proofs.Holders.{holds_itself, holds_below, fails_next, fails_below}
 use Rattle.cv_cut.specs.declared.load_fault.LoadFault.{LoadFault}
-use Rattle.cv_graft.proofs.Finding.{raised_more, none_holds, step_unread, step_down, step_count, more_than_one, at_most_below, fails_next, fails_below}
+use Rattle.cv_graft.proofs.Finding.{raised_more, none_holds, step_unread, step_down, step_count, more_than_one, at_most_below}
 use Rattle.cv_graft.proofs.way.+holder_from.Goals as goal
 use Rattle.cv_ports.specs.Calls.{raised_by}
 use Rattle.cv_cut.proofs.Lemmas.{left_by}
@@ -46,13 +46,13 @@ returns-clause-reads g t c = g.met.S.Shelf.reads_then _ _ _ c.nested_catalogue.e
 pub returns-in_err-below-clause-fault : goal.returns-in_err-below-clause-fault
 returns-in_err-below-clause-fault g t c = λ standing told.
     let next : IsNext c.args.catalogue c.args.path.now c.in-Some.entry = rw c.in-Some.is at c.in_ok-entry.ensures.found in
-    left_by (λ (x : Result Contents LoadFault). FailsFrom standing c.args.id.now c.args.catalogue x) _ _ c.from_residual-in_err-below.ensures.1
-    (fails_next Contents standing c.args.id.now c.args.catalogue c.in-Some.entry _ c.requires.kind next.has (c.in_err-below.ensures.told standing told))
+    left_by (λ (x : Result Contents LoadFault). FailsFrom standing c.args.id.now c.args.catalogue c.args.path.now x) _ _ c.from_residual-in_err-below.ensures.1
+    (fails_next Contents standing c.args.id.now c.args.catalogue c.in-Some.entry c.args.path.now _ c.requires.kind next (c.in_err-below.ensures.told standing told))
 
 pub returns-clause-fault : goal.returns-clause-fault
 returns-clause-fault g t c = λ standing told.
     let next : IsNext c.args.catalogue c.args.path.now c.in-Some.entry = rw c.in-Some.is at c.in_ok-entry.ensures.found in
-    fails_below standing c.args.id.now c.args.catalogue c.in_ok-below.below c.in-Some.entry c.holder_from.result next.has (c.in_ok-below.ensures.told standing told)
+    fails_below standing c.args.id.now c.args.catalogue c.in_ok-below.below c.in-Some.entry c.args.path.now c.holder_from.result next (c.in_ok-below.ensures.told standing told)
     (c.holder_from.ensures.fault standing (c.nested_catalogue.ensures.unchanged ∙ told))
 
 pub nested_catalogue-requires-clause-entry : goal.nested_catalogue-requires-clause-entry
@@ -63,7 +63,7 @@ nested_catalogue-requires-clause-entry g t c =
 pub returns-in_default-clause-holder : goal.returns-in_default-clause-holder
 returns-in_default-clause-holder g t c = λ standing told.
     let none : HasNone c.args.catalogue c.args.path.now = rw c.in_default.is at c.in_ok-entry.ensures.found in
-    holds_itself standing c.args.id.now c.args.catalogue c.args.path.now c.requires.covered c.requires.apart none
+    holds_itself standing c.args.id.now c.args.catalogue c.args.path.now none
 
 pub returns-in_err-below-clause-holder : goal.returns-in_err-below-clause-holder
 returns-in_err-below-clause-holder g t c = λ standing told. left_by (HoldsFrom standing c.args.id.now c.args.catalogue c.args.path.now) _ _ c.from_residual-in_err-below.ensures.1 tt
@@ -71,5 +71,5 @@ returns-in_err-below-clause-holder g t c = λ standing told. left_by (HoldsFrom 
 pub returns-clause-holder : goal.returns-clause-holder
 returns-clause-holder g t c = λ standing told.
     let next : IsNext c.args.catalogue c.args.path.now c.in-Some.entry = rw c.in-Some.is at c.in_ok-entry.ensures.found in
-    holds_below standing c.args.id.now c.args.catalogue c.in_ok-below.below c.in-Some.entry c.args.path.now c.holder_from.result next.has (c.in_ok-below.ensures.told standing told)
+    holds_below standing c.args.id.now c.args.catalogue c.in_ok-below.below c.in-Some.entry c.args.path.now c.holder_from.result next (c.in_ok-below.ensures.told standing told)
     (c.holder_from.ensures.holder standing (c.nested_catalogue.ensures.unchanged ∙ told))

@@ -1,4 +1,4 @@
-use Rattle.std.proofs.Common.{rules, refl, length, ◌≡◌, ◌≢◌, [], ap, subst, ◌∙◌, Ok}
+use Rattle.std.proofs.Common.{rules, refl, sym, length, ◌≡◌, ◌≢◌, [], ap, subst, ◌∙◌, Ok}
 use Rattle.std.specs.Option.{option_map}
 use Rattle.cv_base.specs.Path.{parent}
 use Rattle.cv_base.specs.Told.{WhereTold}
@@ -6,9 +6,10 @@ use Rattle.cv_tree.specs.Tree.{Nodes}
 use Rattle.cv_graft.specs.Graft.{HasWay}
 use Rattle.cv_graft.specs.Way.{Tells}
 use Rattle.cv_objects.specs.Names.{standing_on}
+use Rattle.cv_desk.specs.Ends.{BlamesParent}
 use Rattle.cv_desk.specs.Refusals.{reply_of, is_unread}
 use Rattle.cv_desk.proofs.Exact.{unread_from}
-use Rattle.cv_desk.proofs.Reading.{place_found, placed_root, placed_below, fetched_none, fetched_way}
+use Rattle.cv_desk.proofs.Reading.{blames_parent, place_found, placed_root, placed_below, fetched_none, fetched_way}
 use Rattle.cv_desk.proofs.gate_state.GateState.has_place.Goals as goal
 
 pub returns-in-Ok-directory_at-clause-place : goal.returns-in-Ok-directory_at-clause-place
@@ -23,6 +24,14 @@ returns-in-Ok-directory_at-clause-place g c =
 
 pub returns-clause-unread : goal.returns-clause-unread
 returns-clause-unread g c = ap (λ o. is_unread (reply_of o)) c.of_load.ensures ∙ unread_from c.in-Err.fault
+
+pub returns-clause-blames : goal.returns-clause-blames
+returns-clause-blames g c =
+    let above : c.into_parent-parent.result ≡ parent c.args.path.now = search rules in
+    let root : c.head.result.root ≡ c.args.self.now.line.head.root = search rules in
+    let vaults : c.self.inside.line.vault ≡ c.args.self.now.line.vault = search rules in
+    subst (λ o. BlamesParent (g.V.Vault.disk c.args.self.now.line.vault) c.args.self.now.line.head.root c.args.path.now (reply_of o)) (sym c.of_load.ensures)
+    (blames_parent g.V.Vault.disk c.args.self.now c.self.inside.line.vault c.args.path.now c.into_parent-parent.result c.head.result.root above root vaults c.directory_at.result c.in-Err.fault c.in-Err.is c.directory_at.ensures.fault)
 
 pub returns-then-is_empty-clause-sees : goal.returns-then-is_empty-clause-sees
 returns-then-is_empty-clause-sees g c =
