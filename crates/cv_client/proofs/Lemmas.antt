@@ -1,5 +1,5 @@
 -- What the crates above may cite of links that are read behind their requests.
-use Rattle.std.proofs.Common.{ℕ, refl, sym, subst, inl, inr}
+use Rattle.std.proofs.Common.{refl, sym, subst, inl, inr}
 use Rattle.std.specs.Prelude.{◌⊎◌, Option, Some, None, IsSome, Result, option_map}
 use Rattle.cv_ports.specs.Streams.{Look}
 use Rattle.cv_http.specs.declared.outgoing.Outgoing.{Outgoing}
