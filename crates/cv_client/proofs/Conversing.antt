@@ -6,7 +6,7 @@ use Rattle.std.proofs.lemmas.Option.{none-some}
 use Rattle.std.proofs.lemmas.Bool.{lt-ltb, false≢true}
 use Rattle.cv_base.specs.Counts.{Rose}
 use Rattle.cv_base.specs.Told.{WhereTold}
-use Rattle.cv_ports.specs.Streams.{Look, onto, Wrote}
+use Rattle.cv_ports.specs.Streams.{Look, front, onto, Wrote}
 use Rattle.cv_ports.specs.Calls.{raised}
 use Rattle.cv_ports.specs.Dial.{Came, after_back}
 use Rattle.cv_http.specs.Requests.{request_text}
@@ -17,7 +17,8 @@ use Rattle.cv_http.specs.declared.fault.HttpFault.{HttpFault}
 use Rattle.cv_http.specs.declared.fault.HttpFault.TheVariants.{BadHead, HeadTooLarge, BodyTooLarge, NoLength, Coding, Short, ReadFault, NoMemory}
 use Rattle.cv_http.specs.declared.reply.SendFault.{SendFault}
 use Rattle.cv_http.specs.declared.reply.SendFault.TheVariants as send_fault
-use Rattle.cv_client.specs.Exchange.{Converses, TookFront, TookAll, bad, failed, no_memory}
+use Rattle.cv_client.specs.Asking.{IsBehind}
+use Rattle.cv_client.specs.Exchange.{Converses, IsTold, TookFront, TookAll, bad, failed, no_memory}
 use Rattle.cv_client.specs.Faults.{of_send, of_read}
 
 -- what comes onto nothing is all that is told then
@@ -30,20 +31,48 @@ onto_told : (old : Option (List ℕ)) (text : List ℕ) → IsSome old → IsSom
 onto_told None text is = is
 onto_told (Some bytes) text is = refl
 
-pub wrote_told : {old new : Option (List ℕ)} {text : List ℕ} → Wrote old new text → IsSome old → IsSome new
+front_told : (text : List ℕ) (new : Option (List ℕ)) → IsSome (front text new) → IsSome new
+front_told text None is = is
+front_told text (Some bytes) is = refl
+
+wrote_told : {old new : Option (List ℕ)} {text : List ℕ} → Wrote old new text → IsSome old → IsSome new
 wrote_told {old} {new} wrote is = subst IsSome (sym wrote.taken) (onto_told old wrote.written is)
+
+-- a link whose request wasn't passed on is told
+pub told_unsent : (c c' : Came) (text : List ℕ) → Wrote c.taken c'.taken text → c'.passed ≡ c.passed → c'.given ≡ c.given → c'.left ≡ c.left → IsTold c → IsTold c'
+told_unsent c c' text wrote held gave left is = record {
+  given = subst IsSome (sym gave) is.given;
+  left = subst IsSome (sym left) is.left;
+  taken = wrote_told wrote is.taken;
+  passed = subst IsSome (sym held) is.passed;
+}
+
+-- and so is one that was read behind its request
+pub told_sent : (c c' : Came) (text got : List ℕ) → Wrote c.taken c'.taken text → c'.passed ≡ c'.taken → c'.given ≡ onto c.given got → c.left ≡ front got c'.left → IsTold c → IsTold c'
+told_sent c c' text got wrote flushed gave left is =
+    let taken : IsSome c'.taken = wrote_told wrote is.taken in record {
+      given = subst IsSome (sym gave) (onto_told c.given got is.given);
+      left = front_told got c'.left (subst IsSome left is.left);
+      taken = taken;
+      passed = subst IsSome (sym flushed) taken;
+    }
 
 -- what is passed on of it is all
 pub all_passed : (old taken passed : Option (List ℕ)) (text : List ℕ) → WhereTold old (λ b. b ≡ []) → taken ≡ onto old text → passed ≡ taken → WhereTold passed (λ b. b ≡ text)
 all_passed old taken passed text fresh is flushed = λ b told. all_of old taken text fresh is b (sym flushed ∙ told)
 
 -- and was when each read began
-pub all_looked : {R : Type 0} (left : R → Option (List ℕ)) (looks : R → Look → Type 0) (w w' : WireView R) (now : R) (passed : Option (List ℕ)) (Are P : List ℕ → Type 0) → now ≡ w'.source
-    → ((look : Look) → looks w.source look → ⊥) → Looks left looks w w' (Beside passed Are) → WhereTold passed P → (look : Look) → looks now look → WhereTold look.passed P
-all_looked left looks w w' now passed Are P same unread seen where_told look is = elim (seen look (subst (λ s. looks s look) same is)) [
-  | inl old ↦ absurd (unread look old)
-  | inr at ↦ λ b told. where_told b (sym at.are.1 ∙ told)
+pub all_looked : {R : Type 0} (left : R → Option (List ℕ)) (looks : R → Look → Type 0) (w w' : WireView R) (now : R) (request : Outgoing) (old passed : Option (List ℕ)) (Are : List ℕ → Type 0)
+    → now ≡ w'.source → ((look : Look) → looks w.source look → ⊥) → Looks left looks w w' (Beside passed Are) → WhereTold passed (λ b. b ≡ request_text request)
+    → (IsSome old → IsSome passed) → (look : Look) → looks now look → IsBehind request (IsSome old) look
+all_looked left looks w w' now request old passed Are same unread seen whole tells look is = elim (seen look (subst (λ s. looks s look) same is)) [
+  | inl noted ↦ absurd (unread look noted)
+  | inr at ↦ record { whole = λ b told. whole b (sym at.are.1 ∙ told); told = λ was. subst IsSome (sym at.are.1) (tells was) }
 ]
+
+-- what was passed on is told where it was before
+pub passed_told : {old old_passed new passed : Option (List ℕ)} {text : List ℕ} → Wrote old new text → old_passed ≡ old → passed ≡ new → IsSome old_passed → IsSome passed
+passed_told wrote before flushed is = subst IsSome (sym flushed) (wrote_told wrote (subst IsSome before is))
 
 -- of a text that was to be written onto nothing a front is told
 pub front_of : (old new : Option (List ℕ)) (request : Outgoing) → WhereTold old (λ b. b ≡ []) → Wrote old new (request_text request) → WhereTold new (TookFront request)

@@ -1,3 +1,4 @@
+pub mod Lemmas
 mod Heads
 mod Coming
 mod Conversing

@@ -8,7 +8,7 @@ use Rattle.cv_http.specs.ReplyTexts.{IsBody, IsReply, IsRefusedReply, IsCutReply
 use Rattle.cv_http.specs.Wires.{HasEnded}
 use Rattle.cv_http.specs.declared.http_reply.HttpReply.{HttpReply}
 use Rattle.cv_http.specs.declared.fault.HttpFault.{HttpFault}
-use Rattle.cv_client.specs.Exchange.{Links, linked_by, GaveReply, GaveNone, TookAll, Converses, replied, bad, failed, no_memory, Exchanges, linked, undialled}
+use Rattle.cv_client.specs.Exchange.{Links, IsTold, linked_by, GaveReply, GaveNone, TookAll, Converses, replied, bad, failed, no_memory, Exchanges, linked, undialled}
 use Rattle.cv_client.specs.Fetch.{SaysFile, served, absent, other, Fetches, said, lost, unasked}
 use Rattle.cv_client.specs.Requests.{file_request}
 use Rattle.cv_client.specs.Served.{Files, SendsFile, ServedBy, IsFetched}
@@ -64,9 +64,9 @@ module _ (one : (b later later' : List ℕ) (reply reply' : HttpReply) → IsRep
   said_file content reply _ (other not_ok not_absent) code body = absurd (not_ok code)
 
   module _ {u : Url} {file : List ℕ} {before after : Links} (files : Files) (content : List ℕ) (has : files file ≡ Some content) (s : ServedBy u files before after) where
-    sent : (c : Came) → after ≡ linked_by u c before → (IsSome before → IsSome c.taken) → TookAll (file_request u file) c → SendsFile content c
+    sent : (c : Came) → after ≡ linked_by u c before → (IsSome before → IsTold c) → TookAll (file_request u file) c → SendsFile content c
     sent c by told took =
-        let t = some_of c.taken (told (is_some_of s.start s.was)) in
+        let t = some_of c.taken (told (is_some_of s.start s.was)).taken in
         s.each (Opened u.host u.port ∷ Back c ∷ []) c (told_behind u c before after s.start s.end s.was by s.is) (Contains-push (Opened u.host u.port ∷ []) (Back c))
         file content has (t.1 ∙ ap (λ (b : List ℕ). Some b) (took.taken t.0 t.1))
 
@@ -75,7 +75,7 @@ module _ (one : (b later later' : List ℕ) (reply reply' : HttpReply) → IsRep
         let same = reply_is c content sends reply gave in
         said_file content reply r says (ap (λ (x : HttpReply). x.code) same ∙ sends.code) (ap (λ (x : HttpReply). x.body) same ∙ sends.body)
 
-    in_reply : (x : Result HttpReply ExchangeFault) (c : Came) (reply : HttpReply) (r : Result (Option (List ℕ)) ExchangeFault) → x ≡ Ok reply → after ≡ linked_by u c before → (IsSome before → IsSome c.taken)
+    in_reply : (x : Result HttpReply ExchangeFault) (c : Came) (reply : HttpReply) (r : Result (Option (List ℕ)) ExchangeFault) → x ≡ Ok reply → after ≡ linked_by u c before → (IsSome before → IsTold c)
         → Converses (file_request u file) c x → SaysFile reply r → IsFetched content r
     in_reply _ c reply r is by told (replied found took gave) says =
         let same : found ≡ reply = cc in
@@ -89,7 +89,7 @@ module _ (one : (b later later' : List ℕ) (reply reply' : HttpReply) → IsRep
     by_exchange _ reply r is (undialled by) says = absurd cc
 
     -- or why there is none
-    in_fault : (x : Result HttpReply ExchangeFault) (c : Came) (fault : ExchangeFault) → x ≡ Err fault → after ≡ linked_by u c before → (IsSome before → IsSome c.taken)
+    in_fault : (x : Result HttpReply ExchangeFault) (c : Came) (fault : ExchangeFault) → x ≡ Err fault → after ≡ linked_by u c before → (IsSome before → IsTold c)
         → Converses (file_request u file) c x → IsFetched content (Err fault)
     in_fault _ c fault is by told (replied found took gave) = absurd cc
     in_fault _ c fault is by told (bad took none) = absurd (some_sent c content (sent c by told took) none)

@@ -24,6 +24,13 @@ linked_by u c = option_map (λ s. and_back c (and_opened u.host u.port s))
 abbrev pub unlinked : Links → Links
 unlinked = option_map and_failed
 
+-- a link tells what it gave, has left, took and passed on
+pub record IsTold (c : Came) : Type 0 where
+  pub given : IsSome c.given
+  pub left : IsSome c.left
+  pub taken : IsSome c.taken
+  pub passed : IsSome c.passed
+
 -- the link took the whole request, and has passed it on
 pub record TookAll (request : Outgoing) (c : Came) : Type 0 where
   pub taken : WhereTold c.taken (λ b. b ≡ request_text request)
@@ -51,9 +58,9 @@ pub data Converses (request : Outgoing) (c : Came) : Result HttpReply ExchangeFa
   failed : WhereTold c.taken (TookFront request) → Converses request c (Err LinkFailed)
   no_memory : WhereTold c.taken (TookFront request) → Converses request c (Err NoMemory)
 
--- What an exchange came to: it made one dial, to the URL's host and port, whose link came back, and tells what it took where the dial
--- tells; or one dial, which failed.
+-- What an exchange came to: it made one dial, to the URL's host and port, whose link came back, and is told where the dial tells; or one
+-- dial, which failed.
 pub data Exchanges (u : Url) (request : Outgoing) (before after : Links) : Result HttpReply ExchangeFault → Type 0 where
-  linked : (c : Came) (r : Result HttpReply ExchangeFault) → after ≡ linked_by u c before → c.host ≡ u.host → c.port ≡ u.port → (IsSome before → IsSome c.taken) → Converses request c r
+  linked : (c : Came) (r : Result HttpReply ExchangeFault) → after ≡ linked_by u c before → c.host ≡ u.host → c.port ≡ u.port → (IsSome before → IsTold c) → Converses request c r
       → Exchanges u request before after r
   undialled : after ≡ unlinked before → Exchanges u request before after (Err LinkFailed)

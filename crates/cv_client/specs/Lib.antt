@@ -1,4 +1,5 @@
 pub mod Answer
+pub mod Asking
 pub mod Exchange
 pub mod Faults
 pub mod Fetch

@@ -2,6 +2,7 @@
 ghost use Rattle.std.specs.Prelude.{◌≡◌, ℕ, List, Some, option_map};
 ghost use Rattle.cv_base.specs.Counts.{HasCause, Rose};
 ghost use Rattle.cv_client.specs.Answer.{Answers};
+ghost use Rattle.cv_client.specs.Asking.{AsksFirst};
 ghost use Rattle.cv_base.specs.ObjectId.{file_name};
 ghost use Rattle.cv_client.specs.Fetch.{Fetches};
 ghost use Rattle.cv_client.specs.Giving.{GivesAll};
@@ -33,6 +34,7 @@ fn fetch_object<N: Dial>(
     ensures fetches { Fetches url.now (file_name id) (N.came dial.old) (N.came dial.new) result }
     ensures completes { (files : Files) (content : List ℕ) → files (file_name id) ≡ Some content
         → ServedBy url.now files (N.came dial.old) (N.came dial.new) → IsFetched content result }
+    ensures asks { AsksFirst N.came N.looks dial.old dial.new }
     ensures cause { HasCause (N.faults dial.old) (N.faults dial.new) (result ≡ Err LinkLost) }
 {
     match id.file_name(alloc) {
@@ -62,6 +64,7 @@ fn give_all<N: Dial>(
     ensures completes { (files : Files) → ServedBy url.now files (N.came dial.old) (N.came dial.new) → (t : Nodes) (q : TheQuestion)
         → IsOn t resolver.old → IsUnblamed resolver.old.asked → question_of resolver.old ≡ Some q → HasWay files resolver.old.name t q
         → IsSupplied t resolver.new result }
+    ensures asks { AsksFirst N.came N.looks dial.old dial.new }
     ensures cause { HasCause (N.faults dial.old) (N.faults dial.new) (result ≡ Err LinkLost) }
 {
     questions_come_to_answers();
@@ -82,6 +85,7 @@ pub fn answer<N: Dial>(
     question: Question,
 ) -> Result<Found, AskFault>
     ensures answers { Answers url.now question (N.came dial.old) (N.came dial.new) resolver.old resolver.new result }
+    ensures asks { AsksFirst N.came N.looks dial.old dial.new }
     ensures cause { HasCause (N.faults dial.old) (N.faults dial.new) (result ≡ Err LinkFailed) }
 
     // Where no fault was counted, and each link that came back sent what the server has, which is all that the question wants in

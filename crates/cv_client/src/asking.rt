@@ -4,6 +4,7 @@ ghost use Rattle.cv_base.specs.Counts.{HasCause, Rose};
 ghost use Rattle.cv_tree.specs.Tree.{Nodes};
 ghost use Rattle.cv_manifest.specs.declared.manifest.Manifest.{Manifest};
 ghost use Rattle.cv_resolver.specs.Look.{look};
+ghost use Rattle.cv_client.specs.Asking.{AsksFirst};
 ghost use Rattle.cv_client.specs.Served.{Files, ServedBy, HasAnswer, IsWhole};
 ghost use Rattle.cv_client.specs.Told.{Told};
 ghost use Rattle.cv_client.specs.declared.ask_fault.AskFault.TheVariants.{LinkFailed};
@@ -27,6 +28,7 @@ pub fn ask<N: Dial, S: Signer>(
     question: Question,
 ) -> Result<Found, AskFault>
     ensures told { Told (S.is_seal signer.now) url.now question (N.came dial.old) (N.came dial.new) result }
+    ensures asks { AsksFirst N.came N.looks dial.old dial.new }
     ensures cause { HasCause (N.faults dial.old) (N.faults dial.new) (result ≡ Err LinkFailed) }
 
     // Where no fault was counted, and each link that came back sent what the server has, which has the answer in a tree: that is

@@ -4,8 +4,8 @@ ghost use Rattle.cv_base.specs.Counts.{HasCause, Rose};
 ghost use Rattle.cv_base.specs.Told.{WhereTold};
 ghost use Rattle.cv_ports.specs.Dial.{came_of};
 ghost use Rattle.cv_ports.specs.Streams.{Look};
-ghost use Rattle.cv_http.specs.Requests.{request_text};
-ghost use Rattle.cv_client.specs.Exchange.{Converses, Exchanges};
+ghost use Rattle.cv_client.specs.Asking.{IsBehind};
+ghost use Rattle.cv_client.specs.Exchange.{Converses, Exchanges, IsTold};
 ghost use Rattle.cv_client.specs.Faults.{of_send, of_read};
 ghost use Rattle.cv_client.specs.declared.exchanging.ExchangeFault.TheVariants.{LinkFailed};
 
@@ -65,9 +65,9 @@ fn converse<R: Source<Beside = W> + Drop, W: Sink + Drop>(
     requires unread { (look : Look) → R.looks link.reads look → ⊥ }
     ensures host { result.0.host ≡ link.host }
     ensures port { result.0.port ≡ link.port }
-    ensures told { IsSome (W.taken link.writes) → IsSome (W.taken result.0.writes) }
+    ensures told { IsTold (came_of R.given R.left W.taken W.passed link) → IsTold (came_of R.given R.left W.taken W.passed result.0) }
     ensures converses { Converses request.now (came_of R.given R.left W.taken W.passed result.0) result.1 }
-    ensures looks { (look : Look) → R.looks result.0.reads look → WhereTold look.passed (λ bytes. bytes ≡ request_text request.now) }
+    ensures looks { (look : Look) → R.looks result.0.reads look → IsBehind request.now (IsSome (W.passed link.writes)) look }
     ensures reads { R.faults link.reads ≤ R.faults result.0.reads }
     ensures writes { W.faults link.writes ≤ W.faults result.0.writes }
     ensures cause { result.1 ≡ Err LinkFailed
@@ -95,7 +95,7 @@ pub fn exchange<N: Dial>(
 ) -> Result<HttpReply, ExchangeFault>
     ensures exchanges { Exchanges url.now request.now (N.came dial.old) (N.came dial.new) result }
     ensures looks { (look : Look) → N.looks dial.new look
-        → N.looks dial.old look ⊎ WhereTold look.passed (λ bytes. bytes ≡ request_text request.now) }
+        → N.looks dial.old look ⊎ IsBehind request.now (IsSome (N.came dial.old)) look }
     ensures cause { HasCause (N.faults dial.old) (N.faults dial.new) (result ≡ Err LinkFailed) }
 {
     let Ok(link) = dial.dial(url.host.as_str(), url.port) else {

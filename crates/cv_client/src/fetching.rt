@@ -1,6 +1,7 @@
 //! Files of a served repository.
 ghost use Rattle.std.specs.Prelude.{◌≡◌, ℕ, List, Some, IfOk, string_bytes};
 ghost use Rattle.cv_base.specs.Counts.{HasCause};
+ghost use Rattle.cv_client.specs.Asking.{AsksFirst};
 ghost use Rattle.cv_client.specs.Fetch.{Fetches, SaysFile};
 ghost use Rattle.cv_client.specs.Requests.{file_request, target_of};
 ghost use Rattle.cv_client.specs.Served.{Files, ServedBy, IsFetched};
@@ -67,6 +68,7 @@ pub fn fetch<N: Dial>(
     file: &str,
 ) -> Result<Option<Bytes>, ExchangeFault>
     ensures fetches { Fetches url.now file.now (N.came dial.old) (N.came dial.new) result }
+    ensures asks { AsksFirst N.came N.looks dial.old dial.new }
     ensures cause { HasCause (N.faults dial.old) (N.faults dial.new) (result ≡ Err LinkFailed) }
 
     // Where the server has the file, and each link that came back sent it, that is what is fetched.

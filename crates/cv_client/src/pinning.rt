@@ -3,6 +3,7 @@ ghost use Rattle.std.specs.Prelude.{◌≡◌, ℕ, List, Some};
 ghost use Rattle.cv_base.specs.Counts.{HasCause, Rose};
 ghost use Rattle.cv_manifest.specs.Manifest.{Says};
 ghost use Rattle.cv_manifest.specs.declared.manifest.Manifest.{Manifest as TheManifest};
+ghost use Rattle.cv_client.specs.Asking.{AsksFirst};
 ghost use Rattle.cv_client.specs.Pin.{FetchesManifest, Pins};
 ghost use Rattle.cv_client.specs.Requests.{manifest_name};
 ghost use Rattle.cv_client.specs.Served.{Files, ServedBy, IsManifestOr, IsPinned};
@@ -32,6 +33,7 @@ pub fn fetch_manifest<N: Dial, S: Signer>(
     signer: &S,
 ) -> Result<Manifest, AskFault>
     ensures fetches { FetchesManifest (S.is_seal signer.now) url.now (N.came dial.old) (N.came dial.new) result }
+    ensures asks { AsksFirst N.came N.looks dial.old dial.new }
     ensures cause { HasCause (N.faults dial.old) (N.faults dial.new) (result ≡ Err LinkFailed) }
 
     // Where no fault was counted, and each link that came back sent what the server has, which is a manifest under its seal: that is
@@ -60,6 +62,7 @@ pub fn pin<N: Dial, S: Signer>(
     signer: &S,
 ) -> Result<Resolver, AskFault>
     ensures pins { Pins (S.is_seal signer.now) url.now (N.came dial.old) (N.came dial.new) result }
+    ensures asks { AsksFirst N.came N.looks dial.old dial.new }
     ensures cause { HasCause (N.faults dial.old) (N.faults dial.new) (result ≡ Err LinkFailed) }
 
     // Where no fault was counted, and each link that came back sent what the server has, which is a manifest under its seal: that is

@@ -3,6 +3,7 @@ ghost use Rattle.std.specs.Prelude.{◌≡◌, ◌≢◌, Some, None, OnOk, IsEr
 ghost use Rattle.cv_base.specs.Counts.{HasCause};
 ghost use Rattle.cv_ports.specs.Streams.{onto, Wrote};
 ghost use Rattle.cv_http.specs.Wires.{Draws};
+ghost use Rattle.cv_client.specs.Asking.{AsksFirst};
 ghost use Rattle.cv_shell.specs.Shells.{unheld, Answered, ReadsUpToDate, Shells};
 ghost use Rattle.cv_shell.specs.declared.shell_end.ShellEnd.TheVariants.{LinkFailed, InputFailed, OutputFailed};
 
@@ -40,6 +41,7 @@ fn serve_line<N: Dial, S: Signer, W: Sink>(
         (W.taken output.old) (W.taken output.new) result }
     ensures flushed { result ≢ Some OutputFailed → W.passed output.old ≡ W.taken output.old → W.passed output.new ≡ W.taken output.new }
     ensures writes { HasCause (W.faults output.old) (W.faults output.new) (result ≡ Some OutputFailed) }
+    ensures asks { AsksFirst N.came N.looks dial.old dial.new }
     ensures links { HasCause (N.faults dial.old) (N.faults dial.new) (result ≡ Some LinkFailed) }
 {
     let text = match answer_line(alloc, dial, url, signer, resolver, line) {
@@ -69,6 +71,7 @@ fn serve_lines<N: Dial, S: Signer, R: Source<Beside = W> + Drop, W: Sink>(
     ensures flushed { result ≢ OutputFailed → W.passed output.old ≡ W.taken output.old → W.passed output.new ≡ W.taken output.new }
     ensures reads { HasCause (R.faults lines.old.source) (R.faults lines.new.source) (result ≡ InputFailed) }
     ensures writes { HasCause (W.faults output.old) (W.faults output.new) (result ≡ OutputFailed) }
+    ensures asks { AsksFirst N.came N.looks dial.old dial.new }
     ensures links { HasCause (N.faults dial.old) (N.faults dial.new) (result ≡ LinkFailed) }
 {
     'turns: for _ in 0..u64::MAX {
@@ -109,6 +112,7 @@ pub fn shell<N: Dial, S: Signer, R: Source<Beside = W> + Drop, W: Sink>(
     ensures flushed { result.0 ≢ OutputFailed → W.passed output.old ≡ W.taken output.old → W.passed output.new ≡ W.taken output.new }
     ensures reads { HasCause (R.faults input) (R.faults result.1) (result.0 ≡ InputFailed) }
     ensures writes { HasCause (W.faults output.old) (W.faults output.new) (result.0 ≡ OutputFailed) }
+    ensures asks { AsksFirst N.came N.looks dial.old dial.new }
     ensures links { HasCause (N.faults dial.old) (N.faults dial.new) (result.0 ≡ LinkFailed) }
 {
     let mut lines = Lines::new(alloc, input);

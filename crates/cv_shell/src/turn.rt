@@ -1,6 +1,7 @@
 //! One line and its answer.
 ghost use Rattle.std.specs.Prelude.{◌≡◌, Ok, Err, MatchResult, IfOk};
 ghost use Rattle.cv_base.specs.Counts.{HasCause};
+ghost use Rattle.cv_client.specs.Asking.{AsksFirst};
 ghost use Rattle.cv_client.specs.declared.ask_fault.AskFault.TheVariants.{LinkFailed as LinkLost};
 ghost use Rattle.cv_shell.specs.Texts.{refusal, fault_text};
 ghost use Rattle.cv_shell.specs.Turns.{said_of_fault, said, Prints, Renews, Turns};
@@ -78,6 +79,7 @@ fn renew<N: Dial, S: Signer>(
     resolver: &mut Resolver,
 ) -> Result<Bytes, Stop>
     ensures renews { Renews (S.is_seal signer.now) url.now (N.came dial.old) (N.came dial.new) resolver.old resolver.new result }
+    ensures asks { AsksFirst N.came N.looks dial.old dial.new }
     ensures cause { HasCause (N.faults dial.old) (N.faults dial.new) (result ≡ Err LinkFailed) }
 {
     let manifest = match fetch_manifest(alloc, dial, url, signer) {
@@ -101,6 +103,7 @@ pub(crate) fn answer_line<N: Dial, S: Signer>(
     line: &[u8],
 ) -> Result<Bytes, Stop>
     ensures turns { Turns (S.is_seal signer.now) url.now line.now (N.came dial.old) (N.came dial.new) resolver.old resolver.new result }
+    ensures asks { AsksFirst N.came N.looks dial.old dial.new }
     ensures cause { HasCause (N.faults dial.old) (N.faults dial.new) (result ≡ Err LinkFailed) }
 {
     match read_line(alloc, line) {

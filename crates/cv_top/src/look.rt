@@ -1,6 +1,7 @@
 //! The commands of a client.
 ghost use Rattle.std.specs.Prelude.{◌≡◌, ◌≢◌};
 ghost use Rattle.cv_base.specs.Counts.{HasCause};
+ghost use Rattle.cv_client.specs.Asking.{AsksFirst};
 ghost use Rattle.cv_client.specs.Texts.{found_text};
 ghost use Rattle.cv_top.specs.Complete.{IsSteady};
 ghost use Rattle.cv_top.specs.Looks.{Prints, Looks};
@@ -47,6 +48,7 @@ pub(crate) fn look<W: Sink, N: Dial>(
     ensures reads { result ≢ InputFailed }
     ensures writes { HasCause (W.faults output.old) (W.faults output.new) (result ≡ OutputFailed) }
     ensures stores { result ≢ StoreFailed }
+    ensures asks { AsksFirst N.came N.looks dial.old dial.new }
     ensures links { HasCause (N.faults dial.old) (N.faults dial.new) (result ≡ LinkFailed) }
     ensures answered { IsSteady (W.faults output.old) (W.faults output.new) → IsSteady (N.faults dial.old) (N.faults dial.new)
         → Answered W.taken signer.now url.now question (N.came dial.old) (N.came dial.new) output.old output.new result }

@@ -3,6 +3,7 @@ ghost use Rattle.std.specs.Prelude.{◌≡◌, ◌≢◌, ◌⊎◌, [], true, f
 ghost use Rattle.cv_base.specs.Counts.{HasCause, Rose};
 ghost use Rattle.cv_base.specs.Marker.{marker, ends_in};
 ghost use Rattle.cv_ports.specs.Streams.{onto, Wrote};
+ghost use Rattle.cv_client.specs.Asking.{AsksFirst};
 ghost use Rattle.cv_top.specs.Complete.{IsSteady, Completes};
 ghost use Rattle.cv_top.specs.Lines.{IsShell, AnswersLines, TellsLines};
 ghost use Rattle.cv_top.specs.Looks.{Looks};
@@ -105,6 +106,7 @@ fn do_look<W: Sink, N: Dial>(
     ensures reads { result ≢ InputFailed }
     ensures writes { HasCause (W.faults output.old) (W.faults output.new) (result ≡ OutputFailed) }
     ensures stores { result ≢ StoreFailed }
+    ensures asks { AsksFirst N.came N.looks dial.old dial.new }
     ensures links { HasCause (N.faults dial.old) (N.faults dial.new) (result ≡ LinkFailed) }
     ensures answered { IsSteady (W.faults output.old) (W.faults output.new) → IsSteady (N.faults dial.old) (N.faults dial.new) → seal.now ≢ []
         → Answered W.taken seal.now url.now question (N.came dial.old) (N.came dial.new) output.old output.new result }
@@ -132,6 +134,7 @@ fn do_shell<R: Source<Beside = W> + Drop, W: Sink, N: Dial>(
     ensures reads { HasCause (R.faults input) (R.faults result.1) (result.0 ≡ InputFailed) }
     ensures writes { HasCause (W.faults output.old) (W.faults output.new) (result.0 ≡ OutputFailed) }
     ensures stores { result.0 ≢ StoreFailed }
+    ensures asks { AsksFirst N.came N.looks dial.old dial.new }
     ensures links { HasCause (N.faults dial.old) (N.faults dial.new) (result.0 ≡ LinkFailed) }
 {
     match read_seal(alloc, seal) {
@@ -162,6 +165,7 @@ fn do_publish<W: Sink, C: Clock, F: Folder, N: Dial>(
     ensures reads { result ≢ InputFailed }
     ensures writes { HasCause (W.faults output.old) (W.faults output.new) (result ≡ OutputFailed) }
     ensures stores { result ≢ StoreFailed }
+    ensures asks { AsksFirst N.came N.looks dial.old dial.new }
     ensures links { HasCause (N.faults dial.old) (N.faults dial.new) (result ≡ LinkFailed) }
     ensures folders { HasCause (F.faults folder.old) (F.faults folder.new) (result ≡ FolderFailed) }
 {
@@ -201,6 +205,7 @@ fn do_command<
     ensures reads { HasCause (R.faults input) (R.faults result.2) (result.0 ≡ InputFailed) }
     ensures writes { HasCause (W.faults output.old) (W.faults output.new) (result.0 ≡ OutputFailed) }
     ensures stores { HasCause (V.faults vault) (V.faults result.1) (result.0 ≡ StoreFailed) }
+    ensures asks { AsksFirst N.came N.looks dial.old dial.new }
     ensures links { HasCause (N.faults dial.old) (N.faults dial.new) (result.0 ≡ LinkFailed) }
     ensures folders { HasCause (F.faults folder.old) (F.faults folder.new) (result.0 ≡ FolderFailed) }
     ensures answered { IsSteady (W.faults output.old) (W.faults output.new) → IsSteady (N.faults dial.old) (N.faults dial.new)
@@ -291,6 +296,9 @@ pub fn run<
     ensures stores { HasCause (V.faults parts.vault) (V.faults result.1.vault) (result.0 ≡ StoreFailed) }
     ensures links { HasCause (N.faults parts.dial) (N.faults result.1.dial) (result.0 ≡ LinkFailed) }
     ensures folders { HasCause (F.faults parts.folder) (F.faults result.1.folder) (result.0 ≡ FolderFailed) }
+
+    // Each read of a link began when that link had passed on a whole request.
+    ensures asks { AsksFirst N.came N.looks parts.dial result.1.dial }
 
     // Where no count rose, `init` and `stdio` do their work, or want memory.
     ensures completes { IsSteady (R.faults parts.input) (R.faults result.1.input) → IsSteady (W.faults parts.output) (W.faults result.1.output) → IsSteady (V.faults parts.vault) (V.faults result.1.vault)

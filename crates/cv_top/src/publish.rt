@@ -5,6 +5,7 @@ ghost use Rattle.cv_base.specs.Marker.{marker, ends_in};
 ghost use Rattle.cv_tree.specs.Changes.{FitsUnder};
 ghost use Rattle.cv_overlay.specs.Changes.{AreContents};
 ghost use Rattle.cv_overlay.specs.declared.read_fault.ReadFault.TheVariants as read_fault;
+ghost use Rattle.cv_client.specs.Asking.{AsksFirst};
 ghost use Rattle.cv_client.specs.declared.exchanging.ExchangeFault.TheVariants as exchange_fault;
 ghost use Rattle.cv_shell.specs.Texts.{revision_line};
 ghost use Rattle.cv_top.specs.Looks.{Prints};
@@ -69,6 +70,7 @@ fn exchange_once<N: Dial>(
     publisher: &mut Publisher,
 ) -> Result<Option<Result<u64, PublishFault>>, ExchangeFault>
     ensures steps { Steps (is_seal_by signer.now) keys.now url.now (N.came dial.old) (N.came dial.new) publisher.old publisher.new result }
+    ensures asks { AsksFirst N.came N.looks dial.old dial.new }
     ensures cause { HasCause (N.faults dial.old) (N.faults dial.new) (result ≡ Err exchange_fault.LinkFailed) }
 {
     match publisher.want(alloc, keys) {
@@ -95,6 +97,7 @@ fn exchange_all<N: Dial>(
     publisher: Publisher,
 ) -> Result<Result<u64, PublishFault>, ExchangeFault>
     ensures exchanged { Exchanged (is_seal_by signer.now) keys.now url.now (N.came dial.old) (N.came dial.new) publisher result }
+    ensures asks { AsksFirst N.came N.looks dial.old dial.new }
     ensures cause { HasCause (N.faults dial.old) (N.faults dial.new) (result ≡ Err exchange_fault.LinkFailed) }
 {
     let mut publisher = publisher;
@@ -148,6 +151,7 @@ fn publish<W: Sink, C: Clock, F: Folder, N: Dial>(
     ensures reads { result ≢ InputFailed }
     ensures writes { HasCause (W.faults output.old) (W.faults output.new) (result ≡ OutputFailed) }
     ensures stores { result ≢ StoreFailed }
+    ensures asks { AsksFirst N.came N.looks dial.old dial.new }
     ensures links { HasCause (N.faults dial.old) (N.faults dial.new) (result ≡ LinkFailed) }
     ensures folders { HasCause (F.faults folder.old) (F.faults folder.new) (result ≡ FolderFailed) }
 {
@@ -187,6 +191,7 @@ pub(crate) fn publish_sealed<W: Sink, C: Clock, F: Folder, N: Dial>(
     ensures reads { result ≢ InputFailed }
     ensures writes { HasCause (W.faults output.old) (W.faults output.new) (result ≡ OutputFailed) }
     ensures stores { result ≢ StoreFailed }
+    ensures asks { AsksFirst N.came N.looks dial.old dial.new }
     ensures links { HasCause (N.faults dial.old) (N.faults dial.new) (result ≡ LinkFailed) }
     ensures folders { HasCause (F.faults folder.old) (F.faults folder.new) (result ≡ FolderFailed) }
 {

@@ -12,12 +12,13 @@ use Rattle.cv_client.specs.Served.{HasObject, IsSupplied}
 use Rattle.cv_client.specs.declared.exchanging.ExchangeFault.{ExchangeFault}
 use Rattle.cv_client.specs.declared.exchanging.ExchangeFault.TheVariants.{LinkFailed}
 use Rattle.cv_client.proofs.Coming.{begins, goes_on, fewer_left, asked_still, named_still}
+use Rattle.cv_client.proofs.Lemmas.{asks_none, asks_then}
 use Rattle.cv_client.proofs.Supplying.{one_supplied, one_fault, unsupplied}
 use Rattle.cv_client.proofs.Telling.{extends_none, extends_then, fetch_extends, served_first, served_next}
 use Rattle.cv_client.proofs.answering.give_all.Goals as goal
 
 pub wants-init : goal.wants-init
-wants-init g c = record { on = begins; extends = extends_none; supplied = λ files s t q on unblamed asked way. (on, unblamed); later = omega arith }
+wants-init g c = record { on = begins; extends = extends_none; supplied = λ files s t q on unblamed asked way. (on, unblamed); asks = asks_none; later = omega arith }
 
 pub wants-smaller : goal.wants-smaller
 wants-smaller g c =
@@ -41,6 +42,7 @@ wants-preserved g c =
           let h : HasObject files t c.in-Some.id = way c.in-Some.id (subst (λ (name : List ℕ). OnWay name t q c.in-Some.id) (named_still before.on.comes) there) in
           one_supplied c.faults_tell_what_was_given.ensures.named c.faults_tell_what_was_given.ensures.not_served c.faults_tell_what_was_given.ensures.bad_object
           t c.in-Some.id files c.in_ok-object.object h (c.in_ok-object.ensures.completes files h.content h.there (served_next before.extends next s)) wanted gives (on t so.0);
+      asks = asks_then before.asks c.in_ok-object.ensures.asks;
       later = omega (arith, first, then);
     }
 
@@ -79,3 +81,9 @@ returns-clause-completes g c = c.wants.invariant.supplied
 
 pub returns-clause-cause : goal.returns-clause-cause
 returns-clause-cause g c = record { later = c.wants.invariant.later; failed = λ is. absurd cc }
+
+pub returns-in_err-object-clause-asks : goal.returns-in_err-object-clause-asks
+returns-in_err-object-clause-asks g c = asks_then c.wants.invariant.asks c.in_err-object.ensures.asks
+
+pub returns-clause-asks : goal.returns-clause-asks
+returns-clause-asks g c = c.wants.invariant.asks

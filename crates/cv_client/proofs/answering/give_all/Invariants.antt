@@ -3,6 +3,7 @@ use Rattle.std.specs.Prelude.{Some}
 use Rattle.cv_tree.specs.Tree.{Nodes}
 use Rattle.cv_resolver.specs.Resolver.{IsOn, question_of}
 use Rattle.cv_resolver.specs.declared.question.Question.{Question}
+use Rattle.cv_client.specs.Asking.{AsksFirst}
 use Rattle.cv_client.specs.Giving.{GoesOn}
 use Rattle.cv_client.specs.Served.{Files, ServedBy, HasWay, IsUnblamed}
 use Rattle.cv_client.proofs.Coming.{left_of}
@@ -15,6 +16,7 @@ invariant-wants g l = record {
   extends : Extends (g.N.Dial.came l.initial.dial) (g.N.Dial.came l.dial);
   supplied : (files : Files) → ServedBy l.url files (g.N.Dial.came l.initial.dial) (g.N.Dial.came l.dial) → (t : Nodes) (q : Question) → IsOn t l.initial.resolver → IsUnblamed l.initial.resolver.asked
       → question_of l.initial.resolver ≡ Some q → HasWay files l.initial.resolver.name t q → IsOn t l.resolver × IsUnblamed l.resolver.asked;
+  asks : AsksFirst g.N.Dial.came g.N.Dial.looks l.initial.dial l.dial;
   later : g.N.Dial.faults l.initial.dial ≤ g.N.Dial.faults l.dial;
 }
 

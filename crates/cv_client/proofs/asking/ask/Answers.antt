@@ -6,6 +6,7 @@ use Rattle.cv_client.specs.Pin.{client_at}
 use Rattle.cv_client.specs.Served.{HasWay, IsWhole}
 use Rattle.cv_client.specs.Told.{pinned, unpinned}
 use Rattle.cv_client.proofs.Heads.{on_head, unpinned_whole}
+use Rattle.cv_client.proofs.Lemmas.{asks_then}
 use Rattle.cv_client.proofs.Telling.{pin_extends, answer_extends, served_first, served_next}
 use Rattle.cv_client.proofs.asking.ask.Goals as goal
 
@@ -30,3 +31,6 @@ returns-in-Ok-clause-completes g c = λ steady files s t m has.
 pub returns-in-Err-clause-completes : goal.returns-in-Err-clause-completes
 returns-in-Err-clause-completes g c = λ steady files s t m has.
     unpinned_whole m c.in-Err.fault (look m.name t c.args.question) (c.in-Err.ensures.completes steady files s has.text m has.there has.says)
+
+pub returns-in-Ok-clause-asks : goal.returns-in-Ok-clause-asks
+returns-in-Ok-clause-asks g c = asks_then c.in-Ok.ensures.asks c.answer.ensures.asks

@@ -1,12 +1,13 @@
-use Rattle.std.proofs.Common.{◌≡◌, ap, ◌∙◌, rules}
+use Rattle.std.proofs.Common.{◌≡◌, ap, refl, ◌∙◌, rules}
 use Rattle.std.specs.declared.result.Result.TheVariants.{Ok, Err}
-use Rattle.cv_ports.specs.Streams.{onto}
+use Rattle.cv_ports.specs.Dial.{Came, came_of}
+use Rattle.cv_ports.specs.Streams.{front, onto}
 use Rattle.cv_http.specs.Requests.{request_text}
 use Rattle.cv_http.specs.ReplyTexts.{IsAwaitedReply, ReplyRead, ReplyLost}
 use Rattle.cv_http.specs.Wires.{HasEnded}
 use Rattle.cv_http.specs.declared.fault.HttpFault.{HttpFault}
 use Rattle.cv_client.specs.Exchange.{GaveReply, replied}
-use Rattle.cv_client.proofs.Conversing.{all_of, all_passed, all_looked, wrote_told, front_of, told_of, unsent, unread}
+use Rattle.cv_client.proofs.Conversing.{all_of, all_passed, all_looked, passed_told, told_unsent, told_sent, front_of, told_of, unsent, unread}
 use Rattle.cv_client.proofs.exchanging.converse.Goals as goal
 
 pub returns-in-Err-clause-converses : goal.returns-in-Err-clause-converses
@@ -15,7 +16,9 @@ returns-in-Err-clause-converses g c =
     rw c.of_send.ensures (unsent _ _ c.in-Err.fault took)
 
 pub returns-in-Err-clause-told : goal.returns-in-Err-clause-told
-returns-in-Err-clause-told g c = λ is. wrote_told c.in-Err.ensures.part is
+returns-in-Err-clause-told g c =
+    let came = came_of g.R.Source.given g.R.Source.left g.W.Sink.taken g.W.Sink.passed in
+    told_unsent (came c.args.link) _ _ c.in-Err.ensures.part c.in-Err.ensures.held refl refl
 
 pub returns-in-Err-clause-looks : goal.returns-in-Err-clause-looks
 returns-in-Err-clause-looks g c = λ look is. absurd (c.requires.unread look is)
@@ -56,25 +59,41 @@ returns-in-Err-reply-clause-converses g c =
     (λ short. rw c.into_source.ensures (c.in-Err-reply.ensures.cut (ap (λ (f : HttpFault). Err f) short))))
 
 pub returns-in-Ok-clause-told : goal.returns-in-Ok-clause-told
-returns-in-Ok-clause-told g c = λ is. wrote_told c.write_request.ensures.part is
+returns-in-Ok-clause-told g c =
+    let came = came_of g.R.Source.given g.R.Source.left g.W.Sink.taken g.W.Sink.passed in
+    let flushed = c.write_request.ensures.flushed (λ is. c.in_default.not-Err _ is) c.requires.passed in
+    let draws = c.in-Ok.ensures.reads in
+    let gave : g.R.Source.given c.into_source.result ≡ onto (g.R.Source.given c.args.link.reads) draws.got =
+    ap g.R.Source.given c.into_source.ensures ∙ draws.gave ∙ ap (λ w. onto (g.R.Source.given w.source) draws.got) c.new-wire.ensures in
+    let left : g.R.Source.left c.args.link.reads ≡ front draws.got (g.R.Source.left c.into_source.result) = rw (← c.into_source.ensures, c.new-wire.ensures) at draws.told in
+    told_sent (came c.args.link) _ _ draws.got c.write_request.ensures.part flushed gave left
 
 pub returns-in-Err-reply-clause-told : goal.returns-in-Err-reply-clause-told
-returns-in-Err-reply-clause-told g c = λ is. wrote_told c.write_request.ensures.part is
+returns-in-Err-reply-clause-told g c =
+    let came = came_of g.R.Source.given g.R.Source.left g.W.Sink.taken g.W.Sink.passed in
+    let flushed = c.write_request.ensures.flushed (λ is. c.in_default.not-Err _ is) c.requires.passed in
+    let draws = c.in-Err-reply.ensures.reads in
+    let gave : g.R.Source.given c.into_source.result ≡ onto (g.R.Source.given c.args.link.reads) draws.got =
+    ap g.R.Source.given c.into_source.ensures ∙ draws.gave ∙ ap (λ w. onto (g.R.Source.given w.source) draws.got) c.new-wire.ensures in
+    let left : g.R.Source.left c.args.link.reads ≡ front draws.got (g.R.Source.left c.into_source.result) = rw (← c.into_source.ensures, c.new-wire.ensures) at draws.told in
+    told_sent (came c.args.link) _ _ draws.got c.write_request.ensures.part flushed gave left
 
 pub returns-in-Ok-clause-looks : goal.returns-in-Ok-clause-looks
 returns-in-Ok-clause-looks g c =
     let text = request_text c.args.request.now in
     let whole : g.W.Sink.taken c.write_request.new.sink ≡ onto (g.W.Sink.taken c.args.link.writes) text = search rules in
     let flushed = c.write_request.ensures.flushed (λ is. c.in_default.not-Err _ is) c.requires.passed in
-    all_looked g.R.Source.left g.R.Source.looks c.new-wire.result c.read_reply-reply.new.self c.into_source.result (g.W.Sink.passed c.write_request.new.sink) IsAwaitedReply (λ b. b ≡ text)
+    all_looked g.R.Source.left g.R.Source.looks c.new-wire.result c.read_reply-reply.new.self c.into_source.result c.args.request.now (g.W.Sink.passed c.args.link.writes) (g.W.Sink.passed c.write_request.new.sink) IsAwaitedReply
     c.into_source.ensures (rw c.new-wire.ensures c.requires.unread) c.read_reply-reply.ensures.looks
     (all_passed (g.W.Sink.taken c.args.link.writes) (g.W.Sink.taken c.write_request.new.sink) (g.W.Sink.passed c.write_request.new.sink) text c.requires.taken whole flushed)
+    (passed_told c.write_request.ensures.part c.requires.passed flushed)
 
 pub returns-in-Err-reply-clause-looks : goal.returns-in-Err-reply-clause-looks
 returns-in-Err-reply-clause-looks g c =
     let text = request_text c.args.request.now in
     let whole : g.W.Sink.taken c.write_request.new.sink ≡ onto (g.W.Sink.taken c.args.link.writes) text = search rules in
     let flushed = c.write_request.ensures.flushed (λ is. c.in_default.not-Err _ is) c.requires.passed in
-    all_looked g.R.Source.left g.R.Source.looks c.new-wire.result c.read_reply-reply.new.self c.into_source.result (g.W.Sink.passed c.write_request.new.sink) IsAwaitedReply (λ b. b ≡ text)
+    all_looked g.R.Source.left g.R.Source.looks c.new-wire.result c.read_reply-reply.new.self c.into_source.result c.args.request.now (g.W.Sink.passed c.args.link.writes) (g.W.Sink.passed c.write_request.new.sink) IsAwaitedReply
     c.into_source.ensures (rw c.new-wire.ensures c.requires.unread) c.read_reply-reply.ensures.looks
     (all_passed (g.W.Sink.taken c.args.link.writes) (g.W.Sink.taken c.write_request.new.sink) (g.W.Sink.passed c.write_request.new.sink) text c.requires.taken whole flushed)
+    (passed_told c.write_request.ensures.part c.requires.passed flushed)

@@ -1,4 +1,5 @@
-use Rattle.std.proofs.Common.{◌∙◌, arith, inl, inr}
+use Rattle.std.proofs.Common.{◌∙◌, arith, inl, inr, subst, sym}
+use Rattle.std.specs.Prelude.{IsSome}
 use Rattle.cv_ports.specs.Dial.{Came, came_of}
 use Rattle.cv_client.specs.Exchange.{linked, undialled}
 use Rattle.cv_client.proofs.Conversing.{back_rose}
@@ -14,12 +15,20 @@ returns-clause-exchanges g c =
     linked came c.converse-link.result.1
     (linked_once c.args.url.now came _ (g.N.Dial.came c.args.dial.now) (g.N.Dial.came c.dial.new.self) (g.N.Dial.came c.back.new.self) c.as_str.ensures c.in-Ok.ensures.opened c.back.ensures.came)
     (c.converse-link.ensures.host ∙ c.in-Ok.ensures.host ∙ c.as_str.ensures) (c.converse-link.ensures.port ∙ c.in-Ok.ensures.port)
-    (λ told. c.converse-link.ensures.told (c.in-Ok.ensures.taken_told told)) c.converse-link.ensures.converses
+    (λ told. c.converse-link.ensures.told (record {
+      given = c.in-Ok.ensures.given_told told;
+      left = c.in-Ok.ensures.left_told told;
+      taken = c.in-Ok.ensures.taken_told told;
+      passed = subst IsSome (sym c.in-Ok.ensures.passed) (c.in-Ok.ensures.taken_told told);
+    }))
+    c.converse-link.ensures.converses
 
 pub returns-clause-looks : goal.returns-clause-looks
 returns-clause-looks g c = λ look is. elim (c.back.ensures.noted look is) [
   | inl old ↦ inl (c.in-Ok.ensures.unlooked look old)
-  | inr new ↦ inr (c.converse-link.ensures.looks look new)
+  | inr new ↦
+      let behind = c.converse-link.ensures.looks look new in
+      inr (record { whole = behind.whole; told = λ told. behind.told (subst IsSome (sym c.in-Ok.ensures.passed) (c.in-Ok.ensures.taken_told told)) })
 ]
 
 pub returns-in_default-clause-looks : goal.returns-in_default-clause-looks

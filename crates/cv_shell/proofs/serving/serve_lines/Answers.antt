@@ -1,4 +1,5 @@
 use Rattle.std.proofs.Common.{◌≡◌, refl, rules, arith, inl}
+use Rattle.cv_client.proofs.Lemmas.{asks_none, asks_then}
 use Rattle.cv_shell.proofs.Streams.{gets_none, draws_of, draws_then, draws_as}
 use Rattle.cv_shell.proofs.Running.{at_first, one_more, one_last, none_more, not_read, tired, up_to_date_grows, up_to_date_on}
 use Rattle.cv_shell.proofs.serving.serve_lines.Goals as goal
@@ -11,6 +12,7 @@ turns-init g c = record {
   flushed = λ was. was;
   reads = omega arith;
   writes = omega arith;
+  asks = asks_none;
   later = omega arith;
 }
 
@@ -60,8 +62,12 @@ turns-preserved g c =
       flushed = λ was. c.serve_line.ensures.flushed (λ is. absurd (c.in_default.not-Some _ is)) (c.turns.invariant.flushed was);
       reads = omega (arith, read, reads);
       writes = omega (arith, wrote, writes);
+      asks = asks_then c.turns.invariant.asks c.serve_line.ensures.asks;
       later = omega (arith, dialled, later);
     }
 
 pub returns-clause-shells : goal.returns-clause-shells
 returns-clause-shells g c = draws_as g.R.Source.left g.R.Source.given c.args.lines.now c.turns.lines _ _ c.turns.invariant.so_far (λ b so. tired so)
+
+pub returns-in-Some-clause-asks : goal.returns-in-Some-clause-asks
+returns-in-Some-clause-asks g c = asks_then c.turns.invariant.asks c.serve_line.ensures.asks

@@ -1,5 +1,6 @@
 use Rattle.std.proofs.Common.{◌≡◌, ◌≤◌}
 use Rattle.cv_http.specs.Wires.{Draws}
+use Rattle.cv_client.specs.Asking.{AsksFirst}
 use Rattle.cv_shell.specs.Shells.{ReadsUpToDate}
 use Rattle.cv_shell.proofs.Running.{SoFar}
 use Rattle.cv_shell.proofs.serving.serve_lines.Given as goal
@@ -14,5 +15,6 @@ invariant-turns g l = record {
   flushed : g.W.Sink.passed l.fn.output ≡ g.W.Sink.taken l.fn.output → g.W.Sink.passed l.output ≡ g.W.Sink.taken l.output;
   reads : g.R.Source.faults l.fn.lines.source ≤ g.R.Source.faults l.lines.source;
   writes : g.W.Sink.faults l.fn.output ≤ g.W.Sink.faults l.output;
+  asks : AsksFirst g.N.Dial.came g.N.Dial.looks l.fn.dial l.dial;
   later : g.N.Dial.faults l.fn.dial ≤ g.N.Dial.faults l.dial;
 }

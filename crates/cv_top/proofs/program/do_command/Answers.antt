@@ -1,5 +1,6 @@
 use Rattle.std.proofs.Common.{refl, ap, sym, subst, map, ◌∙◌, Err, inl, inr, arith}
 use Rattle.std.specs.Prelude.{string_bytes}
+use Rattle.cv_client.proofs.Lemmas.{asks_none}
 use Rattle.cv_keys.specs.KeysText.{keys_of}
 use Rattle.cv_top.specs.Runs.{usage, bad_keys, unbegun}
 use Rattle.cv_top.specs.Words.{Asks}
@@ -107,3 +108,18 @@ returns-in-Ok-Look-clause-folders g c = record { later = omega arith; failed = �
 
 pub returns-in-Ok-Shell-clause-folders : goal.returns-in-Ok-Shell-clause-folders
 returns-in-Ok-Shell-clause-folders g c = record { later = omega arith; failed = λ is. absurd (sealed_fine (λ s does. lines_fine does) c.do_shell-status.ensures.does is) }
+
+pub returns-in-Ok-Init-clause-asks : goal.returns-in-Ok-Init-clause-asks
+returns-in-Ok-Init-clause-asks g c = asks_none
+
+pub returns-in-Ok-clause-asks : goal.returns-in-Ok-clause-asks
+returns-in-Ok-clause-asks g c = asks_none
+
+pub returns-in-Ok-Stdio-clause-asks : goal.returns-in-Ok-Stdio-clause-asks
+returns-in-Ok-Stdio-clause-asks g c = asks_none
+
+pub returns-in-Err-Usage-clause-asks : goal.returns-in-Err-Usage-clause-asks
+returns-in-Err-Usage-clause-asks g c = asks_none
+
+pub returns-clause-asks : goal.returns-clause-asks
+returns-clause-asks g c = asks_none

@@ -1,4 +1,5 @@
 use Rattle.std.proofs.Common.{refl, ap, ◌∙◌, Err}
+use Rattle.cv_client.proofs.Lemmas.{asks_none}
 use Rattle.cv_top.specs.Sealed.{empty, unbegun, begun}
 use Rattle.cv_top.proofs.program.do_look.Goals as goal
 
@@ -20,3 +21,9 @@ returns-in-Err-Empty-clause-answered g c = λ writes links some.
 
 pub returns-clause-answered : goal.returns-clause-answered
 returns-clause-answered g c = λ writes links some files s t m has. record { so = tt; whole = refl }
+
+pub returns-in-Err-Empty-clause-asks : goal.returns-in-Err-Empty-clause-asks
+returns-in-Err-Empty-clause-asks g c = asks_none
+
+pub returns-clause-asks : goal.returns-clause-asks
+returns-clause-asks g c = asks_none

@@ -1,4 +1,5 @@
 use Rattle.std.proofs.Common.{refl, ap, sym, ◌∙◌, inl, inr}
+use Rattle.cv_client.proofs.Lemmas.{asks_none}
 use Rattle.cv_keys.specs.KeysText.{keys_of}
 use Rattle.cv_top.specs.Sealed.{faulty, unread, keyed}
 use Rattle.cv_top.proofs.KeyFaults.{fault_or_memory}
@@ -13,3 +14,6 @@ returns-in-Err-clause-does g c =
       | inl both ↦ rw (c.of_keys.ensures ∙ both.1) (faulty (record { fault = c.in-Err.fault; is = ap keys_of (sym c.as_bytes.ensures.value) ∙ both.0 }) (refl, refl, refl, refl))
       | inr lacks ↦ rw (c.of_keys.ensures ∙ lacks) (unread (refl, refl, refl, refl))
     ]
+
+pub returns-in-Err-clause-asks : goal.returns-in-Err-clause-asks
+returns-in-Err-clause-asks g c = asks_none

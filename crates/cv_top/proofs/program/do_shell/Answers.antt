@@ -1,4 +1,5 @@
 use Rattle.std.proofs.Common.{refl, ap, ◌∙◌, Err}
+use Rattle.cv_client.proofs.Lemmas.{asks_none}
 use Rattle.cv_top.specs.Sealed.{empty, unbegun, begun}
 use Rattle.cv_top.proofs.program.do_shell.Goals as goal
 
@@ -10,3 +11,9 @@ returns-in-Err-Empty-clause-does g c = empty (c.read_seal.ensures.empty (c.in-Er
 
 pub returns-in-Err-NoMemory-clause-does : goal.returns-in-Err-NoMemory-clause-does
 returns-in-Err-NoMemory-clause-does g c = unbegun (refl, refl, refl)
+
+pub returns-in-Err-Empty-clause-asks : goal.returns-in-Err-Empty-clause-asks
+returns-in-Err-Empty-clause-asks g c = asks_none
+
+pub returns-in-Err-NoMemory-clause-asks : goal.returns-in-Err-NoMemory-clause-asks
+returns-in-Err-NoMemory-clause-asks g c = asks_none

@@ -1,6 +1,7 @@
 use Rattle.std.proofs.Common.{◌≡◌, ap, arith}
 use Rattle.std.specs.Prelude.{Err}
 use Rattle.cv_base.specs.Counts.{Rose}
+use Rattle.cv_client.proofs.Lemmas.{asks_none, asks_then}
 use Rattle.cv_client.specs.declared.exchanging.ExchangeFault.{ExchangeFault}
 use Rattle.cv_client.specs.declared.exchanging.ExchangeFault.TheVariants.{LinkFailed}
 use Rattle.cv_top.specs.Publishes.{begins}
@@ -8,13 +9,17 @@ use Rattle.cv_top.proofs.Publishing.{goes_on, ends, breaks, no_memory}
 use Rattle.cv_top.proofs.publish.exchange_all.Goals as goal
 
 pub exchanges-init : goal.exchanges-init
-exchanges-init g c = record { went = begins; later = omega arith }
+exchanges-init g c = record { went = begins; asks = asks_none; later = omega arith }
 
 pub exchanges-preserved : goal.exchanges-preserved
 exchanges-preserved g c =
     let first = c.exchanges.invariant.later in
     let then = c.in-Ok-None.ensures.cause.later in
-    record { went = goes_on c.exchanges.invariant.went c.in-Ok-None.field-0-is c.in-Ok-None.ensures.steps; later = omega (arith, first, then) }
+    record {
+      went = goes_on c.exchanges.invariant.went c.in-Ok-None.field-0-is c.in-Ok-None.ensures.steps;
+      asks = asks_then c.exchanges.invariant.asks c.in-Ok-None.ensures.asks;
+      later = omega (arith, first, then);
+    }
 
 pub returns-in-Ok-Some-clause-exchanged : goal.returns-in-Ok-Some-clause-exchanged
 returns-in-Ok-Some-clause-exchanged g c = ends c.exchanges.invariant.went c.in-Ok-Some.end c.in-Ok-Some.field-0-is c.in-Ok-Some.ensures.steps
@@ -45,3 +50,12 @@ returns-clause-exchanged g c = no_memory _ c.exchanges.invariant.went
 
 pub returns-clause-cause : goal.returns-clause-cause
 returns-clause-cause g c = record { later = c.exchanges.invariant.later; failed = λ is. absurd cc }
+
+pub returns-in-Ok-Some-clause-asks : goal.returns-in-Ok-Some-clause-asks
+returns-in-Ok-Some-clause-asks g c = asks_then c.exchanges.invariant.asks c.in-Ok-Some.ensures.asks
+
+pub returns-in-Err-clause-asks : goal.returns-in-Err-clause-asks
+returns-in-Err-clause-asks g c = asks_then c.exchanges.invariant.asks c.in-Err.ensures.asks
+
+pub returns-clause-asks : goal.returns-clause-asks
+returns-clause-asks g c = c.exchanges.invariant.asks

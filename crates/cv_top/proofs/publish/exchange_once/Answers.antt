@@ -1,4 +1,5 @@
 use Rattle.std.proofs.Common.{subst, refl}
+use Rattle.cv_client.proofs.Lemmas.{asks_none, asks_once}
 use Rattle.cv_publisher.specs.Holding.{PublisherView}
 use Rattle.cv_publisher.specs.Taking.{Takes}
 use Rattle.cv_publisher.specs.Wanting.{Wants}
@@ -21,3 +22,15 @@ returns-in-Ok-Done-clause-steps g c =
 
 pub returns-clause-steps : goal.returns-clause-steps
 returns-clause-steps g c = unwanted refl
+
+pub returns-in-Ok-clause-asks : goal.returns-in-Ok-clause-asks
+returns-in-Ok-clause-asks g c = asks_once c.in-Ok.ensures.exchanges c.in-Ok.ensures.looks
+
+pub returns-in-Ok-Exchange-clause-asks : goal.returns-in-Ok-Exchange-clause-asks
+returns-in-Ok-Exchange-clause-asks g c = asks_once c.in-Err-exchange.ensures.exchanges c.in-Err-exchange.ensures.looks
+
+pub returns-in-Ok-Done-clause-asks : goal.returns-in-Ok-Done-clause-asks
+returns-in-Ok-Done-clause-asks g c = asks_none
+
+pub returns-clause-asks : goal.returns-clause-asks
+returns-clause-asks g c = asks_none

@@ -1,5 +1,6 @@
 use Rattle.std.proofs.Common.{refl}
 use Rattle.std.specs.Prelude.{Ok, Err}
+use Rattle.cv_client.proofs.Lemmas.{asks_none}
 use Rattle.cv_client.specs.declared.exchanging.ExchangeFault.TheVariants.{NoMemory}
 use Rattle.cv_top.specs.Publishes.{published, unpublished, cut, unread, begins}
 use Rattle.cv_top.proofs.Publishing.{sends_by, no_memory}
@@ -30,3 +31,9 @@ returns-in-Err-exchange_all-clause-publishes g c =
     rw c.of_exchange.ensures (cut c.in-Err-exchange_all.fault
     (sends_by g.W.Sink.taken g.C.Clock.moments g.F.Folder.holds g.F.Folder.named g.N.Dial.came c.args.keys.now c.args.signer.now c.args.url.now c.args.path c.args.root.now _ _ _ _ _ _ c.in-Ok.changes c.now-now.result c.in-Ok-publisher_of.publisher (Err c.in-Err-exchange_all.fault)
     c.in-Ok.ensures.reads c.in-Ok.ensures.contents c.in-Ok.ensures.limits (c.now-now.ensures.first, c.now-now.ensures.later) c.in-Ok-publisher_of.ensures c.in-Err-exchange_all.ensures.exchanged) refl)
+
+pub returns-in-Err-clause-asks : goal.returns-in-Err-clause-asks
+returns-in-Err-clause-asks g c = asks_none
+
+pub returns-in_default-clause-asks : goal.returns-in_default-clause-asks
+returns-in_default-clause-asks g c = asks_none
