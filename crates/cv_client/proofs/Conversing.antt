@@ -18,7 +18,7 @@ use Rattle.cv_http.specs.declared.fault.HttpFault.TheVariants.{BadHead, HeadTooL
 use Rattle.cv_http.specs.declared.reply.SendFault.{SendFault}
 use Rattle.cv_http.specs.declared.reply.SendFault.TheVariants as send_fault
 use Rattle.cv_client.specs.Asking.{IsBehind}
-use Rattle.cv_client.specs.Exchange.{Converses, IsTold, TookFront, TookAll, bad, failed, no_memory}
+use Rattle.cv_client.specs.Exchange.{Converses, IsTold, TookFront, TookAll, bad, write_failed, read_failed, no_memory}
 use Rattle.cv_client.specs.Faults.{of_send, of_read}
 
 -- what comes onto nothing is all that is told then
@@ -86,9 +86,9 @@ pub told_of : (P : List ℕ → Type 0) (old new : Option (List ℕ)) (got : Lis
 told_of P old new got fresh gave are = λ b told. subst P (sym (all_of old new got fresh gave b told)) are
 
 -- what the link took and gave where the request wasn't written
-pub unsent : (request : Outgoing) (c : Came) (fault : SendFault) → WhereTold c.taken (TookFront request) → Converses request c (Err (of_send fault))
-unsent request c send_fault.WriteFault took = failed took
-unsent request c send_fault.NoMemory took = no_memory took
+pub unsent : (request : Outgoing) (c : Came) (fault : SendFault) → WhereTold c.taken (TookFront request) → WhereTold c.given (λ b. b ≡ []) → Converses request c (Err (of_send fault))
+unsent request c send_fault.WriteFault took none = write_failed took none
+unsent request c send_fault.NoMemory took none = no_memory took
 
 -- a request of which all was taken
 whole_front : (request : Outgoing) (c : Came) → TookAll request c → WhereTold c.taken (TookFront request)
@@ -103,7 +103,7 @@ unread request c BodyTooLarge took lost ended = bad took (λ b told. inl (BodyTo
 unread request c NoLength took lost ended = bad took (λ b told. absurd (lost b told))
 unread request c Coding took lost ended = bad took (λ b told. inl (Coding, lost b told))
 unread request c Short took lost ended = bad took (λ b told. inr (lost b told, ended refl))
-unread request c ReadFault took lost ended = failed (whole_front request c took)
+unread request c ReadFault took lost ended = read_failed took lost
 unread request c NoMemory took lost ended = no_memory (whole_front request c took)
 
 -- a count that may have been raised when a link came back

@@ -8,7 +8,7 @@ use Rattle.cv_http.specs.ReplyTexts.{IsBody, IsReply, IsRefusedReply, IsCutReply
 use Rattle.cv_http.specs.Wires.{HasEnded}
 use Rattle.cv_http.specs.declared.http_reply.HttpReply.{HttpReply}
 use Rattle.cv_http.specs.declared.fault.HttpFault.{HttpFault}
-use Rattle.cv_client.specs.Exchange.{Links, IsTold, linked_by, GaveReply, GaveNone, TookAll, Converses, replied, bad, failed, no_memory, Exchanges, linked, undialled}
+use Rattle.cv_client.specs.Exchange.{Links, IsTold, linked_by, GaveReply, GaveNone, TookAll, Converses, replied, bad, write_failed, read_failed, no_memory, Exchanges, linked, undialled}
 use Rattle.cv_client.specs.Fetch.{SaysFile, served, absent, other, Fetches, said, lost, unasked}
 use Rattle.cv_client.specs.Requests.{file_request}
 use Rattle.cv_client.specs.Served.{Files, SendsFile, ServedBy, IsFetched}
@@ -81,7 +81,8 @@ module _ (one : (b later later' : List ℕ) (reply reply' : HttpReply) → IsRep
         let same : found ≡ reply = cc in
         by_reply c reply r (sent c by told took) (subst (λ (x : HttpReply). WhereTold c.given (GaveReply c.left x)) same gave) says
     in_reply _ c reply r is by told (bad took none) says = absurd cc
-    in_reply _ c reply r is by told (failed took) says = absurd cc
+    in_reply _ c reply r is by told (write_failed took none) says = absurd cc
+    in_reply _ c reply r is by told (read_failed took waits) says = absurd cc
     in_reply _ c reply r is by told (no_memory took) says = absurd cc
 
     by_exchange : (x : Result HttpReply ExchangeFault) (reply : HttpReply) (r : Result (Option (List ℕ)) ExchangeFault) → x ≡ Ok reply → Exchanges u (file_request u file) before after x → SaysFile reply r → IsFetched content r
@@ -93,7 +94,8 @@ module _ (one : (b later later' : List ℕ) (reply reply' : HttpReply) → IsRep
         → Converses (file_request u file) c x → IsFetched content (Err fault)
     in_fault _ c fault is by told (replied found took gave) = absurd cc
     in_fault _ c fault is by told (bad took none) = absurd (some_sent c content (sent c by told took) none)
-    in_fault _ c fault is by told (failed took) = (let same : exchange_fault.LinkFailed ≡ fault = cc in subst (λ (f : ExchangeFault). IsFetched content (Err f)) same tt)
+    in_fault _ c fault is by told (write_failed took none) = (let same : exchange_fault.LinkFailed ≡ fault = cc in subst (λ (f : ExchangeFault). IsFetched content (Err f)) same tt)
+    in_fault _ c fault is by told (read_failed took waits) = (let same : exchange_fault.LinkFailed ≡ fault = cc in subst (λ (f : ExchangeFault). IsFetched content (Err f)) same tt)
     in_fault _ c fault is by told (no_memory took) = (let same : exchange_fault.NoMemory ≡ fault = cc in subst (λ (f : ExchangeFault). IsFetched content (Err f)) same tt)
 
     by_fault : (x : Result HttpReply ExchangeFault) (fault : ExchangeFault) → x ≡ Err fault → Exchanges u (file_request u file) before after x → IsFetched content (Err fault)

@@ -1,9 +1,9 @@
 -- One exchange: a request on a link of its own, and its reply.
-use Rattle.std.specs.Prelude.{◌≡◌, ◌++◌, ◌⊎◌, ℕ, List, Option, IsSome, Result, Ok, Err, option_map}
+use Rattle.std.specs.Prelude.{◌≡◌, ◌++◌, [], ◌⊎◌, ℕ, List, Option, IsSome, Result, Ok, Err, option_map}
 use Rattle.cv_base.specs.Told.{WhereTold}
 use Rattle.cv_ports.specs.Dial.{Came, Story, and_failed, and_opened, and_back}
 use Rattle.cv_http.specs.Requests.{request_text}
-use Rattle.cv_http.specs.ReplyTexts.{IsReply, IsRefusedReply, IsCutReply}
+use Rattle.cv_http.specs.ReplyTexts.{IsReply, IsRefusedReply, IsCutReply, IsAwaitedReply}
 use Rattle.cv_http.specs.Wires.{HasEnded}
 use Rattle.cv_http.specs.declared.outgoing.Outgoing.{Outgoing}
 use Rattle.cv_http.specs.declared.http_reply.HttpReply.{HttpReply}
@@ -51,11 +51,13 @@ abbrev pub GaveNone : Option (List ℕ) → List ℕ → Type 0
 GaveNone left given = ((fault : HttpFault) × IsRefusedReply given fault) ⊎ (IsCutReply given × HasEnded left)
 
 -- What a link took and gave, by what became of the request: it took all of it and gave this reply; or all of it, and what it gave is none;
--- or it failed, or memory was wanted.
+-- or it failed while it took it, and gave nothing; or took all of it, and failed before what it gave was a whole reply; or memory was
+-- wanted.
 pub data Converses (request : Outgoing) (c : Came) : Result HttpReply ExchangeFault → Type 0 where
   replied : (reply : HttpReply) → TookAll request c → WhereTold c.given (GaveReply c.left reply) → Converses request c (Ok reply)
   bad : TookAll request c → WhereTold c.given (GaveNone c.left) → Converses request c (Err BadReply)
-  failed : WhereTold c.taken (TookFront request) → Converses request c (Err LinkFailed)
+  write_failed : WhereTold c.taken (TookFront request) → WhereTold c.given (λ b. b ≡ []) → Converses request c (Err LinkFailed)
+  read_failed : TookAll request c → WhereTold c.given IsAwaitedReply → Converses request c (Err LinkFailed)
   no_memory : WhereTold c.taken (TookFront request) → Converses request c (Err NoMemory)
 
 -- What an exchange came to: it made one dial, to the URL's host and port, whose link came back, and is told where the dial tells; or one

@@ -13,7 +13,7 @@ use Rattle.cv_client.proofs.exchanging.converse.Goals as goal
 pub returns-in-Err-clause-converses : goal.returns-in-Err-clause-converses
 returns-in-Err-clause-converses g c =
     let took = front_of (g.W.Sink.taken c.args.link.writes) (g.W.Sink.taken c.write_request.new.sink) c.args.request.now c.requires.taken c.in-Err.ensures.part in
-    rw c.of_send.ensures (unsent _ _ c.in-Err.fault took)
+    rw c.of_send.ensures (unsent _ _ c.in-Err.fault took c.requires.given)
 
 pub returns-in-Err-clause-told : goal.returns-in-Err-clause-told
 returns-in-Err-clause-told g c =
