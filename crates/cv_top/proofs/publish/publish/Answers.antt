@@ -2,6 +2,7 @@ use Rattle.std.proofs.Common.{refl}
 use Rattle.std.specs.Prelude.{Ok, Err}
 use Rattle.cv_client.specs.declared.exchanging.ExchangeFault.TheVariants.{NoMemory}
 use Rattle.cv_top.specs.Publishes.{published, unpublished, cut, unread, begins}
+use Rattle.cv_top.proofs.Published.{publishes_once}
 use Rattle.cv_top.proofs.Publishing.{sends_by, no_memory}
 use Rattle.cv_top.proofs.publish.publish.Goals as goal
 
@@ -30,3 +31,18 @@ returns-in-Err-exchange_all-clause-publishes g c =
     rw c.of_exchange.ensures (cut c.in-Err-exchange_all.fault
     (sends_by g.W.Sink.taken g.C.Clock.moments g.F.Folder.holds g.F.Folder.named g.N.Dial.came c.args.keys.now c.args.signer.now c.args.url.now c.args.path c.args.root.now _ _ _ _ _ _ c.in-Ok.changes c.now-now.result c.in-Ok-publisher_of.publisher (Err c.in-Err-exchange_all.fault)
     c.in-Ok.ensures.reads c.in-Ok.ensures.contents c.in-Ok.ensures.limits (c.now-now.ensures.first, c.now-now.ensures.later) c.in-Ok-publisher_of.ensures c.in-Err-exchange_all.ensures.exchanged) refl)
+
+pub returns-in-Err-clause-published : goal.returns-in-Err-clause-published
+returns-in-Err-clause-published g c = publishes_once c.a_revision_is_published_in_order.ensures c.a_lease_is_ended_once_after_a_fault.ensures (returns-in-Err-clause-publishes g c)
+
+pub returns-in_default-clause-published : goal.returns-in_default-clause-published
+returns-in_default-clause-published g c = publishes_once c.a_revision_is_published_in_order.ensures c.a_lease_is_ended_once_after_a_fault.ensures (returns-in_default-clause-publishes g c)
+
+pub returns-in-Ok-Ok-clause-published : goal.returns-in-Ok-Ok-clause-published
+returns-in-Ok-Ok-clause-published g c = publishes_once c.a_revision_is_published_in_order.ensures c.a_lease_is_ended_once_after_a_fault.ensures (returns-in-Ok-Ok-clause-publishes g c)
+
+pub returns-in-Ok-Err-clause-published : goal.returns-in-Ok-Err-clause-published
+returns-in-Ok-Err-clause-published g c = publishes_once c.a_revision_is_published_in_order.ensures c.a_lease_is_ended_once_after_a_fault.ensures (returns-in-Ok-Err-clause-publishes g c)
+
+pub returns-in-Err-exchange_all-clause-published : goal.returns-in-Err-exchange_all-clause-published
+returns-in-Err-exchange_all-clause-published g c = publishes_once c.a_revision_is_published_in_order.ensures c.a_lease_is_ended_once_after_a_fault.ensures (returns-in-Err-exchange_all-clause-publishes g c)
