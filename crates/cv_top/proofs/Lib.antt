@@ -6,6 +6,8 @@ mod Headlines
 mod KeyFaults
 mod LineTelling
 mod Pinning
+mod Publication
+mod Published
 mod Publishing
 mod Saying
 mod Sealing

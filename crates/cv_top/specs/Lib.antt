@@ -2,6 +2,7 @@ pub mod Complete
 pub mod Headline
 pub mod Lines
 pub mod Looks
+pub mod Publication
 pub mod Publishes
 pub mod Runs
 pub mod Seal

@@ -1,11 +1,12 @@
 -- What the command `publish` does: it reads a folder of changes, and sends what a publisher of them wants, exchange by exchange.
-use Rattle.std.specs.Prelude.{◌≡◌, ◌⊎◌, ℕ, Bool, List, [], ◌∷◌, Option, Some, None, Result, Ok, Err}
+use Rattle.std.specs.Prelude.{◌≡◌, ◌≢◌, ◌⊎◌, ℕ, Bool, List, [], ◌∷◌, Option, Some, None, Result, Ok, Err}
 use Rattle.cv_base.specs.Path.{Path, text_of}
 use Rattle.cv_base.specs.Told.{WhereTold}
 use Rattle.cv_ports.specs.Folder.{Folders}
 use Rattle.cv_ports.specs.declared.folder.FolderFault.{FolderFault}
 use Rattle.cv_http.specs.declared.outgoing.Outgoing.{Outgoing}
 use Rattle.cv_http.specs.declared.http_reply.HttpReply.{HttpReply}
+use Rattle.cv_keys.specs.KeysText.{keys_of}
 use Rattle.cv_keys.specs.declared.key.Key.{Key}
 use Rattle.cv_answers.specs.declared.answer.Answer.{Answer}
 use Rattle.cv_answers.specs.declared.answer.Answer.TheVariants as answer
@@ -31,12 +32,15 @@ use Rattle.cv_client.specs.declared.url.Url.{Url}
 use Rattle.cv_session.specs.Standing.{Gives}
 use Rattle.cv_shell.specs.Texts.{revision_line}
 use Rattle.cv_top.specs.Looks.{Prints}
+use Rattle.cv_top.specs.Publication.{IsPublication}
 use Rattle.cv_top.specs.Seal.{is_seal_by}
+use Rattle.cv_top.specs.Words.{Asks}
 use Rattle.cv_top.specs.declared.client_fault.ServedFault.TheVariants as served
 use Rattle.cv_top.specs.declared.publish_fault.ChangesFault.TheVariants as changes
 use Rattle.cv_top.specs.declared.publish_fault.RefusedFor.TheVariants as refused
 use Rattle.cv_top.specs.declared.status.Status.{Status}
-use Rattle.cv_top.specs.declared.status.Status.TheVariants.{Refused, LinkFailed, Served, BadReply, Changes, FolderFailed, OutOfMemory}
+use Rattle.cv_top.specs.declared.status.Status.TheVariants.{Done, Refused, LinkFailed, Served, BadReply, Changes, FolderFailed, OutOfMemory}
+use Rattle.cv_top.specs.declared.words.Command.TheVariants.{Publish}
 
 -- ---- the folder
 
@@ -124,6 +128,13 @@ publish_status publish_fault.NoMemory = OutOfMemory
 
 -- ---- the command
 
+-- the words ask to publish
+pub record IsPublisher (words : List (List ℕ)) : Type 0 where
+  pub url : Url
+  pub path : Path
+  pub root : List ℕ
+  pub asks : Asks words (Publish url path root)
+
 -- what an output took, the moments that a clock will give, what folders tell and which is open, and the links that came back to a dial
 module _ {W C F N : Type 0} (taken : W → Option (List ℕ)) (moments : C → Option (ℕ → ℕ)) (holds : F → Option Folders) (named : F → Option (List ℕ)) (came : N → Links) where
   -- the changes were read, with the contents of all their files, and at the clock's moment a publisher of them came to this
@@ -149,3 +160,33 @@ module _ {W C F N : Type 0} (taken : W → Option (List ℕ)) (moments : C → O
     -- the changes weren't read, and nothing else was touched
     unread : (fault : ReadFault) (status : Status) → ReadsRoot holds named path root f f' (Err fault) → IsOrMemory (read_status fault) status → output' ≡ output → clock' ≡ clock → dial' ≡ dial
         → Publishes keys seal u path root output output' clock clock' f f' dial dial' status
+
+  -- ---- one publication
+
+  -- how the output and the status tell what a publisher came to
+  abbrev pub Says : W → W → Result End ExchangeFault → Status → Type 0
+  Says output output' (Ok (Ok revision)) status = Prints taken (revision_line revision) output output' status
+  Says output output' (Ok (Err fault)) status = IsOrMemory (publish_status fault) status × (output' ≡ output)
+  Says output output' (Err fault) status = (status ≡ exchange_status fault) × (output' ≡ output)
+
+  -- the changes of the folder were read, what went over the dial was one publication of them, and what it came to is told
+  pub record OnePublication (keys : List Key) (seal : List ℕ) (u : Url) (path : Path) (root : List ℕ) (output output' : W) (clock clock' : C) (f f' : F) (dial dial' : N) (status : Status) : Type 0 where
+    pub r : Result End ExchangeFault
+    pub sends : Sends keys seal u path root clock clock' f f' dial dial' r
+    pub publication : IsPublication (is_seal_by seal) keys (start_of u path sends.changes sends.now).plan u (came dial) (came dial') r
+    pub says : Says output output' r status
+
+  -- nothing went over the dial, and nothing is told as done
+  pub record SendsNothing (dial dial' : N) (status : Status) : Type 0 where
+    pub untouched : dial' ≡ dial
+    pub undone : status ≢ Done
+
+  abbrev pub PublishesOnce : List Key → List ℕ → Url → Path → List ℕ → W → W → C → C → F → F → N → N → Status → Type 0
+  PublishesOnce keys seal u path root output output' clock clock' f f' dial dial' status =
+      OnePublication keys seal u path root output output' clock clock' f f' dial dial' status ⊎ SendsNothing dial dial' status
+
+  -- it was one publication that the words ask for, under the keys of this text; or nothing went over the dial
+  pub data PublishesAsked (words : List (List ℕ)) (keys seal : List ℕ) (output output' : W) (clock clock' : C) (f f' : F) (dial dial' : N) (status : Status) : Type 0 where
+    asked : (u : Url) (path : Path) (root : List ℕ) (table : List Key) → Asks words (Publish u path root) → keys_of keys ≡ Ok table
+        → OnePublication table seal u path root output output' clock clock' f f' dial dial' status → PublishesAsked words keys seal output output' clock clock' f f' dial dial' status
+    unasked : SendsNothing dial dial' status → PublishesAsked words keys seal output output' clock clock' f f' dial dial' status

@@ -7,7 +7,7 @@ ghost use Rattle.cv_client.specs.Asking.{AsksFirst};
 ghost use Rattle.cv_top.specs.Complete.{IsSteady, Completes};
 ghost use Rattle.cv_top.specs.Lines.{IsShell, AnswersLines, TellsLines};
 ghost use Rattle.cv_top.specs.Looks.{Looks};
-ghost use Rattle.cv_top.specs.Publishes.{Publishes};
+ghost use Rattle.cv_top.specs.Publishes.{IsPublisher, Publishes, PublishesAsked};
 ghost use Rattle.cv_top.specs.Runs.{Inits, Serves, Keeps, Runs, outside};
 ghost use Rattle.cv_top.specs.Sealed.{Keyed, Sealed};
 ghost use Rattle.cv_top.specs.Status.{line_of};
@@ -28,6 +28,7 @@ use cv_base::{Name, RepoPath, Text};
 use cv_client::Url;
 use cv_keys::KeyTable;
 use cv_ports::{Clock, Dial, Failed, Folder, Hold, Sink, Source};
+use cv_publisher::laws::{a_lease_is_ended_once_after_a_fault, a_revision_is_published_in_order};
 use cv_resolver::Question;
 use cv_swap::laws::{opening_finds_what_is_kept, opening_keeps_what_is_kept};
 use cv_vault::Vault;
@@ -318,12 +319,19 @@ pub fn run<
         → TellsLines R.left W.taken (map string_bytes words.now) (string_bytes parts.seal) (N.came parts.dial) (N.came result.1.dial)
         parts.input result.1.input parts.output result.1.output result.0 }
 
+    // And of a publisher: what went over its links was one publication of the folder's changes, whose end is told.
+    ensures published { IsPublisher (map string_bytes words.now)
+        → PublishesAsked W.taken C.moments F.holds F.named N.came (map string_bytes words.now) (string_bytes parts.keys) (string_bytes parts.seal)
+        parts.output result.1.output parts.clock result.1.clock parts.folder result.1.folder parts.dial result.1.dial result.0 }
+
     // The line of the status is written whole, unless the sink failed. That changes no status.
     ensures line { (E.taken result.1.errors ≡ onto (E.taken parts.errors) (line_of result.0)) ⊎ Rose 1 (E.faults parts.errors) (E.faults result.1.errors) }
     ensures errors { Wrote (E.taken parts.errors) (E.taken result.1.errors) (line_of result.0) }
 {
     opening_keeps_what_is_kept();
     opening_finds_what_is_kept();
+    a_revision_is_published_in_order();
+    a_lease_is_ended_once_after_a_fault();
     let Parts {
         vault,
         input,

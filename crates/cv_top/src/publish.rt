@@ -9,7 +9,7 @@ ghost use Rattle.cv_client.specs.Asking.{AsksFirst};
 ghost use Rattle.cv_client.specs.declared.exchanging.ExchangeFault.TheVariants as exchange_fault;
 ghost use Rattle.cv_shell.specs.Texts.{revision_line};
 ghost use Rattle.cv_top.specs.Looks.{Prints};
-ghost use Rattle.cv_top.specs.Publishes.{Exchanged, Publishes, ReadsRoot, Steps, start_of};
+ghost use Rattle.cv_top.specs.Publishes.{Exchanged, Publishes, PublishesOnce, ReadsRoot, Steps, start_of};
 ghost use Rattle.cv_top.specs.Seal.{is_seal_by};
 ghost use Rattle.cv_top.specs.Sealed.{Sealed};
 ghost use Rattle.cv_top.specs.declared.status.Status.TheVariants.{InputFailed, OutputFailed, StoreFailed, LinkFailed, FolderFailed};
@@ -22,6 +22,7 @@ use cv_client::{ExchangeFault, Url, exchange};
 use cv_keys::KeyTable;
 use cv_overlay::{Changes, ReadFault, read_folder};
 use cv_ports::{Clock, Dial, Failed, Folder, Sink};
+use cv_publisher::laws::{a_lease_is_ended_once_after_a_fault, a_revision_is_published_in_order};
 use cv_publisher::{PublishFault, Publisher, Want};
 use cv_seal::KeyedHash;
 use cv_shell::count_line;
@@ -147,6 +148,8 @@ fn publish<W: Sink, C: Clock, F: Folder, N: Dial>(
     requires { ends_in marker path ≡ false }
     ensures publishes { Publishes W.taken C.moments F.holds F.named N.came keys.now signer.now url.now path root.now
         output.old output.new clock.old clock.new folder.old folder.new dial.old dial.new result }
+    ensures published { PublishesOnce W.taken C.moments F.holds F.named N.came keys.now signer.now url.now path root.now
+        output.old output.new clock.old clock.new folder.old folder.new dial.old dial.new result }
     ensures flushed { result ≢ OutputFailed → W.passed output.old ≡ W.taken output.old → W.passed output.new ≡ W.taken output.new }
     ensures reads { result ≢ InputFailed }
     ensures writes { HasCause (W.faults output.old) (W.faults output.new) (result ≡ OutputFailed) }
@@ -155,6 +158,8 @@ fn publish<W: Sink, C: Clock, F: Folder, N: Dial>(
     ensures links { HasCause (N.faults dial.old) (N.faults dial.new) (result ≡ LinkFailed) }
     ensures folders { HasCause (F.faults folder.old) (F.faults folder.new) (result ≡ FolderFailed) }
 {
+    a_revision_is_published_in_order();
+    a_lease_is_ended_once_after_a_fault();
     let changes = match read_changes(alloc, folder, root, &path) {
         Ok(changes) => changes,
         Err(fault) => return Status::of_read(alloc, fault),

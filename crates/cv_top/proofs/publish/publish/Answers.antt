@@ -3,6 +3,7 @@ use Rattle.std.specs.Prelude.{Ok, Err}
 use Rattle.cv_client.proofs.Lemmas.{asks_none}
 use Rattle.cv_client.specs.declared.exchanging.ExchangeFault.TheVariants.{NoMemory}
 use Rattle.cv_top.specs.Publishes.{published, unpublished, cut, unread, begins}
+use Rattle.cv_top.proofs.Published.{publishes_once}
 use Rattle.cv_top.proofs.Publishing.{sends_by, no_memory}
 use Rattle.cv_top.proofs.publish.publish.Goals as goal
 
@@ -37,3 +38,18 @@ returns-in-Err-clause-asks g c = asks_none
 
 pub returns-in_default-clause-asks : goal.returns-in_default-clause-asks
 returns-in_default-clause-asks g c = asks_none
+
+pub returns-in-Err-clause-published : goal.returns-in-Err-clause-published
+returns-in-Err-clause-published g c = publishes_once c.a_revision_is_published_in_order.ensures c.a_lease_is_ended_once_after_a_fault.ensures (returns-in-Err-clause-publishes g c)
+
+pub returns-in_default-clause-published : goal.returns-in_default-clause-published
+returns-in_default-clause-published g c = publishes_once c.a_revision_is_published_in_order.ensures c.a_lease_is_ended_once_after_a_fault.ensures (returns-in_default-clause-publishes g c)
+
+pub returns-in-Ok-Ok-clause-published : goal.returns-in-Ok-Ok-clause-published
+returns-in-Ok-Ok-clause-published g c = publishes_once c.a_revision_is_published_in_order.ensures c.a_lease_is_ended_once_after_a_fault.ensures (returns-in-Ok-Ok-clause-publishes g c)
+
+pub returns-in-Ok-Err-clause-published : goal.returns-in-Ok-Err-clause-published
+returns-in-Ok-Err-clause-published g c = publishes_once c.a_revision_is_published_in_order.ensures c.a_lease_is_ended_once_after_a_fault.ensures (returns-in-Ok-Err-clause-publishes g c)
+
+pub returns-in-Err-exchange_all-clause-published : goal.returns-in-Err-exchange_all-clause-published
+returns-in-Err-exchange_all-clause-published g c = publishes_once c.a_revision_is_published_in_order.ensures c.a_lease_is_ended_once_after_a_fault.ensures (returns-in-Err-exchange_all-clause-publishes g c)
