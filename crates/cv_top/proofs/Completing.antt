@@ -23,11 +23,11 @@ use Rattle.cv_client.specs.Exchange.{Links}
 use Rattle.cv_top.specs.Runs.{Outside, Runs, Serves, Inits, HasKeys, usage, bad_keys, unsigned, no_seal, unbegun, init, stdio, look, shell, publish, ended, unopened, made, unsaid, refused}
 use Rattle.cv_top.specs.Seal.{is_seal_by}
 use Rattle.cv_top.specs.Status.{init_status, open_status, end_status}
-use Rattle.cv_top.specs.Words.{Asks}
+use Rattle.cv_words.specs.Words.{Asks}
 use Rattle.cv_top.specs.declared.status.Status.{Status}
 use Rattle.cv_top.specs.declared.status.Status.TheVariants.{InputFailed, OutputFailed, StoreFailed}
-use Rattle.cv_top.specs.declared.words.Command.TheVariants.{Init, Stdio}
-use Rattle.cv_top.proofs.Commands.{not_both, one_name, no_init, no_stdio, no_shell_init, no_shell_stdio, no_publish_init, no_publish_stdio}
+use Rattle.cv_words.specs.declared.words.Command.TheVariants.{Init, Stdio}
+use Rattle.cv_words.proofs.Laws.{not_both, one_name, no_init, no_stdio, no_shell_init, no_shell_stdio, no_publish_init, no_publish_stdio}
 use Rattle.cv_top.proofs.Unserved.{RefusesFew}
 
 -- no failure of the outside is the status

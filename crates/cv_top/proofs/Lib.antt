@@ -1,5 +1,4 @@
 mod Answering
-mod Commands
 mod Completing
 mod Folders
 mod Headlines
@@ -14,4 +13,3 @@ mod Sealing
 mod Serving
 mod Telling
 mod Unserved
-mod Values

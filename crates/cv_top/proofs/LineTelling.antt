@@ -17,10 +17,10 @@ use Rattle.cv_top.specs.Lines.{IsShell, Answering, AnswersLines, answered, unpin
 use Rattle.cv_top.specs.Runs.{Outside, Runs, usage, bad_keys, unsigned, no_seal, unbegun, init, stdio, look, shell, publish}
 use Rattle.cv_top.specs.Seal.{is_seal_by}
 use Rattle.cv_top.specs.Status.{ask_status, shell_status}
-use Rattle.cv_top.specs.Words.{Asks}
+use Rattle.cv_words.specs.Words.{Asks}
 use Rattle.cv_top.specs.declared.status.Status.{Status}
-use Rattle.cv_top.specs.declared.words.Command.TheVariants.{Shell}
-use Rattle.cv_top.proofs.Commands.{no_shell, no_shell_init, no_shell_stdio, no_publish_shell}
+use Rattle.cv_words.specs.declared.words.Command.TheVariants.{Shell}
+use Rattle.cv_words.proofs.Laws.{no_shell, no_shell_init, no_shell_stdio, no_publish_shell}
 use Rattle.cv_top.proofs.Pinning.{is_refused, never_refused}
 
 -- where no client is pinned, no question is refused

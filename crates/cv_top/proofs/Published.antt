@@ -17,11 +17,11 @@ use Rattle.cv_client.specs.declared.url.Url.{Url}
 use Rattle.cv_top.specs.Publishes.{End, IsOrMemory, IsPublisher, read_status, Sends, Publishes, published, unpublished, cut, unread, Says, OnePublication, PublishesOnce, PublishesAsked, asked, unasked, start_of}
 use Rattle.cv_top.specs.Runs.{Outside, Runs, usage, bad_keys, unsigned, no_seal, unbegun, init, stdio, look, shell, publish}
 use Rattle.cv_top.specs.Seal.{is_seal_by}
-use Rattle.cv_top.specs.Words.{Asks}
+use Rattle.cv_words.specs.Words.{Asks}
 use Rattle.cv_top.specs.declared.status.Status.{Status}
 use Rattle.cv_top.specs.declared.status.Status.TheVariants.{Done, OutOfMemory}
-use Rattle.cv_top.specs.declared.words.Command.TheVariants.{Publish}
-use Rattle.cv_top.proofs.Commands.{no_publish, no_publish_init, no_publish_shell, no_publish_stdio}
+use Rattle.cv_words.specs.declared.words.Command.TheVariants.{Publish}
+use Rattle.cv_words.proofs.Laws.{no_publish, no_publish_init, no_publish_shell, no_publish_stdio}
 use Rattle.cv_top.proofs.Publication.{IsPublishedInOrder, IsEndedOnce, publication}
 
 unread_undone : (fault : ReadFault) → read_status fault ≢ Done

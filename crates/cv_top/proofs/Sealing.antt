@@ -16,9 +16,9 @@ use Rattle.cv_top.specs.Looks.{Looks}
 use Rattle.cv_top.specs.Publishes.{Publishes}
 use Rattle.cv_top.specs.Runs.{Runs, Inits, Serves, outside, unsigned, no_seal, unbegun as begun_not, init, stdio, look, shell, publish}
 use Rattle.cv_top.specs.Sealed.{Sealed, empty, unbegun, begun, Keyed, faulty, unread, keyed}
-use Rattle.cv_top.specs.Words.{Asks}
+use Rattle.cv_words.specs.Words.{Asks}
 use Rattle.cv_top.specs.declared.status.Status.{Status}
-use Rattle.cv_top.specs.declared.words.Command.TheVariants.{Init, Stdio, Look as Looking, Shell as Shelling, Publish as Publishing}
+use Rattle.cv_words.specs.declared.words.Command.TheVariants.{Init, Stdio, Look as Looking, Shell as Shelling, Publish as Publishing}
 
 module _ {V : Type 0} (disk : V → Option Disk) (count : V → ℕ) (left : V → ℕ → Files → Type 0)
     {R W C F N : Type 0} (faults : V → ℕ) (rest : R → Option (List ℕ)) (looks : R → Look → Type 0) (taken passed : W → Option (List ℕ)) (moments : C → Option (ℕ → ℕ)) (holds : F → Option Folders) (named : F → Option (List ℕ)) (came : N → Links)

@@ -30,13 +30,13 @@ use Rattle.cv_top.specs.Runs.{Outside, Runs, usage, bad_keys, unsigned, no_seal,
 use Rattle.cv_top.specs.Seal.{is_seal_by}
 use Rattle.cv_top.specs.Status.{ask_status}
 use Rattle.cv_top.specs.Tells.{IsQuestion, Tells, tells_of_tree, cause_of}
-use Rattle.cv_top.specs.Words.{Asks}
+use Rattle.cv_words.specs.Words.{Asks}
 use Rattle.cv_top.specs.declared.client_fault.LookFault.{LookFault}
 use Rattle.cv_top.specs.declared.client_fault.LookFault.TheVariants as look_fault
 use Rattle.cv_top.specs.declared.status.Status.{Status}
 use Rattle.cv_top.specs.declared.status.Status.TheVariants.{NoAnswer}
-use Rattle.cv_top.specs.declared.words.Command.TheVariants.{Look as Looking}
-use Rattle.cv_top.proofs.Commands.{no_init, no_stdio, no_shell, no_publish}
+use Rattle.cv_words.specs.declared.words.Command.TheVariants.{Look as Looking}
+use Rattle.cv_words.proofs.Laws.{no_init, no_stdio, no_shell, no_publish}
 use Rattle.cv_top.proofs.Pinning.{is_refused, never_refused}
 
 -- the answers that tell of the tree

@@ -30,8 +30,8 @@ use Rattle.cv_client.specs.Exchange.{Links}
 use Rattle.cv_top.specs.Runs.{Outside, Runs, Serves, HasLine, Keeps, usage, bad_keys, unsigned, no_seal, unbegun, init, stdio, look, shell, publish, ended, unopened, none, talked, calls_in, desk_over}
 use Rattle.cv_top.specs.Seal.{is_seal_by}
 use Rattle.cv_top.specs.declared.status.Status.{Status}
-use Rattle.cv_top.specs.declared.words.Command.TheVariants.{Stdio}
-use Rattle.cv_top.proofs.Commands.{not_both, one_name, no_stdio, no_shell_stdio, no_publish_stdio}
+use Rattle.cv_words.specs.declared.words.Command.TheVariants.{Stdio}
+use Rattle.cv_words.proofs.Laws.{not_both, one_name, no_stdio, no_shell_stdio, no_publish_stdio}
 use Rattle.cv_top.proofs.Headlines.{KeepsRaised, now_image, raised_on_line, same_remains, opening_remains}
 
 -- the law of files that stand for what is kept

@@ -12,12 +12,12 @@ use Rattle.cv_swap.specs.Kept.{Kept}
 use Rattle.cv_swap.specs.Stands.{Stands, head_name}
 use Rattle.cv_top.specs.Runs.{HasKeys}
 use Rattle.cv_top.specs.Seal.{is_seal_by}
-use Rattle.cv_top.specs.Words.{Asks}
+use Rattle.cv_words.specs.Words.{Asks}
 use Rattle.cv_top.specs.declared.status.RepositoryFault.{RepositoryFault}
 use Rattle.cv_top.specs.declared.status.RepositoryFault.TheVariants.{EpochsSpent}
 use Rattle.cv_top.specs.declared.status.Status.{Status}
 use Rattle.cv_top.specs.declared.status.Status.TheVariants.{Done, Repository, JournalFull, BadRequest, OutOfMemory}
-use Rattle.cv_top.specs.declared.words.Command.TheVariants.{Init, Stdio}
+use Rattle.cv_words.specs.declared.words.Command.TheVariants.{Init, Stdio}
 
 -- a count of faults didn't rise
 abbrev pub IsSteady : ℕ → ℕ → Type 0

@@ -10,4 +10,3 @@ pub mod Sealed
 pub mod Status
 pub mod Tells
 pub mod Wholes
-pub mod Words

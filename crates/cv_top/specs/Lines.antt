@@ -14,10 +14,10 @@ use Rattle.cv_shell.specs.Tells.{ToldSo}
 use Rattle.cv_shell.specs.declared.shell_end.ShellEnd.{ShellEnd}
 use Rattle.cv_top.specs.Seal.{is_seal_by}
 use Rattle.cv_top.specs.Status.{ask_status, shell_status}
-use Rattle.cv_top.specs.Words.{Asks}
+use Rattle.cv_words.specs.Words.{Asks}
 use Rattle.cv_top.specs.declared.status.Status.{Status}
 use Rattle.cv_top.specs.declared.status.Status.TheVariants.{LinkFailed, Served, BadReply, BadKeys, OutOfMemory}
-use Rattle.cv_top.specs.declared.words.Command.TheVariants.{Shell}
+use Rattle.cv_words.specs.declared.words.Command.TheVariants.{Shell}
 
 -- the words ask for a shell
 pub record IsShell (words : List (List ℕ)) : Type 0 where

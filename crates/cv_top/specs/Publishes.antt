@@ -34,13 +34,13 @@ use Rattle.cv_shell.specs.Texts.{revision_line}
 use Rattle.cv_top.specs.Looks.{Prints}
 use Rattle.cv_top.specs.Publication.{IsPublication}
 use Rattle.cv_top.specs.Seal.{is_seal_by}
-use Rattle.cv_top.specs.Words.{Asks}
+use Rattle.cv_words.specs.Words.{Asks}
 use Rattle.cv_top.specs.declared.client_fault.ServedFault.TheVariants as served
 use Rattle.cv_top.specs.declared.publish_fault.ChangesFault.TheVariants as changes
 use Rattle.cv_top.specs.declared.publish_fault.RefusedFor.TheVariants as refused
 use Rattle.cv_top.specs.declared.status.Status.{Status}
 use Rattle.cv_top.specs.declared.status.Status.TheVariants.{Done, Refused, LinkFailed, Served, BadReply, Changes, FolderFailed, OutOfMemory}
-use Rattle.cv_top.specs.declared.words.Command.TheVariants.{Publish}
+use Rattle.cv_words.specs.declared.words.Command.TheVariants.{Publish}
 
 -- ---- the folder
 

@@ -37,11 +37,11 @@ use Rattle.cv_top.specs.Publishes.{Publishes}
 use Rattle.cv_top.specs.Seal.{is_seal_by}
 use Rattle.cv_top.specs.Sealed.{HasFault}
 use Rattle.cv_top.specs.Status.{init_status, open_status, end_status}
-use Rattle.cv_top.specs.Words.{Asks, IsCommand}
+use Rattle.cv_words.specs.Words.{Asks, IsCommand}
 use Rattle.cv_top.specs.declared.status.Status.{Status}
 use Rattle.cv_top.specs.declared.status.Status.TheVariants.{Done, Usage, OutputFailed, BadKeys, OutOfMemory}
-use Rattle.cv_top.specs.declared.words.Command.{Command}
-use Rattle.cv_top.specs.declared.words.Command.TheVariants.{Init, Stdio, Look as Looking, Shell as Shelling, Publish as Publishing}
+use Rattle.cv_words.specs.declared.words.Command.{Command}
+use Rattle.cv_words.specs.declared.words.Command.TheVariants.{Init, Stdio, Look as Looking, Shell as Shelling, Publish as Publishing}
 
 -- ---- keys
 

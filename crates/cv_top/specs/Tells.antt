@@ -18,12 +18,12 @@ use Rattle.cv_client.specs.Texts.{found_text}
 use Rattle.cv_client.specs.declared.url.Url.{Url}
 use Rattle.cv_shell.specs.Tells.{IsServed}
 use Rattle.cv_top.specs.Seal.{is_seal_by}
-use Rattle.cv_top.specs.Words.{Asks}
+use Rattle.cv_words.specs.Words.{Asks}
 use Rattle.cv_top.specs.declared.client_fault.LookFault.{LookFault}
 use Rattle.cv_top.specs.declared.client_fault.LookFault.TheVariants as look
 use Rattle.cv_top.specs.declared.status.Status.{Status}
 use Rattle.cv_top.specs.declared.status.Status.TheVariants.{Done, NoAnswer}
-use Rattle.cv_top.specs.declared.words.Command.TheVariants.{Look}
+use Rattle.cv_words.specs.declared.words.Command.TheVariants.{Look}
 
 -- the words ask a question
 pub record IsQuestion (words : List (List ℕ)) : Type 0 where

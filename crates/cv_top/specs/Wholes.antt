@@ -8,10 +8,10 @@ use Rattle.cv_client.specs.Served.{Files, ServedBy, HasAnswer}
 use Rattle.cv_client.specs.declared.url.Url.{Url}
 use Rattle.cv_top.specs.Seal.{is_seal_by}
 use Rattle.cv_top.specs.Tells.{IsSo}
-use Rattle.cv_top.specs.Words.{Asks}
+use Rattle.cv_words.specs.Words.{Asks}
 use Rattle.cv_top.specs.declared.status.Status.{Status}
 use Rattle.cv_top.specs.declared.status.Status.TheVariants.{Done, NoAnswer, OutOfMemory}
-use Rattle.cv_top.specs.declared.words.Command.TheVariants.{Look}
+use Rattle.cv_words.specs.declared.words.Command.TheVariants.{Look}
 
 -- by the answer in the tree, or memory was wanted
 abbrev pub ends_answered : Status → Bool

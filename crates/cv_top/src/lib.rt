@@ -13,7 +13,6 @@ mod seal;
 mod shell;
 mod status;
 mod stdio;
-mod words;
 
 pub use client_fault::{LookFault, ServedFault};
 pub use parts::Parts;

@@ -23,7 +23,6 @@ use crate::seal::{Identity, SealFault, read_seal};
 use crate::shell::answer_lines;
 use crate::status::Status;
 use crate::stdio::serve;
-use crate::words::{Command, WordsFault, read_words};
 use cv_base::{Name, RepoPath, Text};
 use cv_client::Url;
 use cv_keys::KeyTable;
@@ -32,6 +31,7 @@ use cv_publisher::laws::{a_lease_is_ended_once_after_a_fault, a_revision_is_publ
 use cv_resolver::Question;
 use cv_swap::laws::{opening_finds_what_is_kept, opening_keeps_what_is_kept};
 use cv_vault::Vault;
+use cv_words::{Command, WordsFault, read_words};
 use std::alloc::Global;
 
 /// Judges the seal, and then makes the repository.

@@ -3,8 +3,8 @@ use Rattle.std.specs.Prelude.{string_bytes}
 use Rattle.cv_client.proofs.Lemmas.{asks_none}
 use Rattle.cv_keys.specs.KeysText.{keys_of}
 use Rattle.cv_top.specs.Runs.{usage, bad_keys, unbegun}
-use Rattle.cv_top.specs.Words.{Asks}
-use Rattle.cv_top.proofs.Commands.{no_init, no_stdio, no_shell, no_publish, unmarked}
+use Rattle.cv_words.specs.Words.{Asks}
+use Rattle.cv_words.proofs.Laws.{no_init, no_stdio, no_shell, no_publish, unmarked}
 use Rattle.cv_top.proofs.Folders.{inits_fine, lines_fine, looks_fine, sealed_fine, serves_fine}
 use Rattle.cv_top.proofs.KeyFaults.{fault_or_memory}
 use Rattle.cv_top.proofs.Sealing.{runs_init, runs_stdio, runs_look, runs_shell, runs_publish}

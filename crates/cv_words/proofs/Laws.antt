@@ -7,9 +7,9 @@ use Rattle.cv_base.specs.Path.{Path}
 use Rattle.cv_resolver.specs.declared.question.Question.{Question}
 use Rattle.cv_resolver.specs.declared.question.Question.TheVariants as question
 use Rattle.cv_client.specs.declared.url.Url.{Url}
-use Rattle.cv_top.specs.Words.{values_of, Means, Asks, init, stdio, ls, stat, cat, shell, publish}
-use Rattle.cv_top.specs.declared.words.Command.{Command}
-use Rattle.cv_top.specs.declared.words.Command.TheVariants.{Init, Stdio, Look, Shell, Publish}
+use Rattle.cv_words.specs.Words.{values_of, Means, Asks, init, stdio, ls, stat, cat, shell, publish}
+use Rattle.cv_words.specs.declared.words.Command.{Command}
+use Rattle.cv_words.specs.declared.words.Command.TheVariants.{Init, Stdio, Look, Shell, Publish}
 
 -- the word of a command
 abbrev word_of : Command → List ℕ

@@ -1,14 +1,15 @@
 //! The words of the command line.
-ghost use Rattle.std.specs.Prelude.{◌≡◌, ◌∷◌, [], map, string_bytes, IfOk, Err, IsTrue, ℕ, List, Some, None};
+ghost use Rattle.std.specs.Prelude.{◌≡◌, ◌∷◌, [], map, string_bytes, IfOk, Err, IsTrue};
 ghost use Rattle.cv_base.specs.Name.{is_name};
 ghost use Rattle.cv_base.specs.Path.{Path, IsPath};
 ghost use Rattle.cv_base.specs.PathText.{Spells};
 ghost use Rattle.cv_client.specs.Url.{IsUrl};
 ghost use Rattle.cv_client.specs.declared.url.Url.{Url};
-ghost use Rattle.cv_top.specs.Words.{is_option, values_of, IsPlace, Means, Asks, IsCommand};
-ghost use Rattle.cv_top.specs.declared.words.Command.{Command};
-ghost use Rattle.cv_top.specs.declared.words.WordsFault.TheVariants.{Usage};
+ghost use Rattle.cv_words.specs.Words.{IsPlace, Means, Asks, IsCommand};
+ghost use Rattle.cv_words.specs.declared.words.Command.{Command};
+ghost use Rattle.cv_words.specs.declared.words.WordsFault.TheVariants.{Usage};
 
+use crate::program::{match_words, read_given};
 use cv_base::{Name, PathFault, RepoPath, Text, ends_in_marker};
 use cv_client::Url;
 use cv_resolver::Question;
@@ -36,39 +37,6 @@ pub enum WordsFault {
     Usage,
     /// There was no memory.
     NoMemory,
-}
-
-/// Whether a word has the form of an option.
-fn is_option(word: &str) -> bool
-    ensures { result ≡ is_option word.now }
-{
-    match word.as_bytes() {
-        [first, _, ..] => *first == b'-',
-        _ => false,
-    }
-}
-
-/// The values among the words behind that of a command: the command line has no option yet, and behind the first `--` each
-/// word is a value.
-fn read_values(alloc: Global, words: &[String]) -> Result<Vec<&str>, WordsFault>
-    ensures values { IfOk result (λ values. values_of (map string_bytes words.now) ≡ Some (map (λ value. value.now) values.items)) }
-    ensures usage { result ≡ Err Usage → values_of (map string_bytes words.now) ≡ None }
-{
-    let mut values = Vec::new(alloc);
-    let mut all = false;
-    for word in words {
-        if !all && word.as_str() == "--" {
-            all = true;
-            continue;
-        }
-        if !all && is_option(word.as_str()) {
-            return Err(WordsFault::Usage);
-        }
-        if values.push(word.as_str()).is_err() {
-            return Err(WordsFault::NoMemory);
-        }
-    }
-    Ok(values)
 }
 
 /// Reads the name of a repository.
@@ -207,11 +175,7 @@ pub fn read_words(alloc: Global, words: &[String]) -> Result<Command, WordsFault
     ensures command { IfOk result (λ command. Asks (map string_bytes words.now) command) }
     ensures usage { result ≡ Err Usage → IsCommand (map string_bytes words.now) → ⊥ }
 {
-    match words {
-        [verb, rest @ ..] => {
-            let values = read_values(alloc, rest)?;
-            read_command(alloc, verb.as_str(), &values)
-        }
-        [] => Err(WordsFault::Usage),
-    }
+    let matches = match_words(alloc, words)?;
+    let given = read_given(alloc, &matches)?;
+    read_command(alloc, given.verb, &given.values)
 }

@@ -1,6 +1,6 @@
 use Rattle.std.proofs.Common.{◌≡◌, ◌∷◌, [], rules, codes, sym, refl}
-use Rattle.cv_top.specs.Words.{init, stdio, shell}
-use Rattle.cv_top.proofs.words.read_one.Goals as goal
+use Rattle.cv_words.specs.Words.{init, stdio, shell}
+use Rattle.cv_words.proofs.words.read_one.Goals as goal
 
 pub returns-in_ok-read_name-in-init-clause-command : goal.returns-in_ok-read_name-in-init-clause-command
 returns-in_ok-read_name-in-init-clause-command c =

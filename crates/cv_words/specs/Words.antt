@@ -8,8 +8,8 @@ use Rattle.cv_base.specs.PathText.{Spells}
 use Rattle.cv_resolver.specs.declared.question.Question.TheVariants as question
 use Rattle.cv_client.specs.Url.{IsUrl}
 use Rattle.cv_client.specs.declared.url.Url.{Url}
-use Rattle.cv_top.specs.declared.words.Command.{Command}
-use Rattle.cv_top.specs.declared.words.Command.TheVariants.{Init, Stdio, Look, Shell, Publish}
+use Rattle.cv_words.specs.declared.words.Command.{Command}
+use Rattle.cv_words.specs.declared.words.Command.TheVariants.{Init, Stdio, Look, Shell, Publish}
 
 -- ---- words and values
 

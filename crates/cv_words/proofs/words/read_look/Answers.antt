@@ -1,6 +1,6 @@
 use Rattle.std.proofs.Common.{◌≡◌, rules, codes, refl}
-use Rattle.cv_top.specs.Words.{ls, stat, cat}
-use Rattle.cv_top.proofs.words.read_look.Goals as goal
+use Rattle.cv_words.specs.Words.{ls, stat, cat}
+use Rattle.cv_words.proofs.words.read_look.Goals as goal
 
 pub returns-in_ok-url-in-ls-clause-command : goal.returns-in_ok-url-in-ls-clause-command
 returns-in_ok-url-in-ls-clause-command c =

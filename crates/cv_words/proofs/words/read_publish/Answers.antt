@@ -2,9 +2,9 @@ use Rattle.std.proofs.Common.{◌≡◌, ◌∷◌, [], List, ℕ, Bool, true, f
 use Rattle.cv_base.specs.Marker.{marker, ends_in}
 use Rattle.cv_base.specs.Path.{Path}
 use Rattle.cv_client.specs.declared.url.Url.{Url}
-use Rattle.cv_top.specs.Words.{IsPlace, Means, init, stdio, ls, stat, cat, shell, publish}
-use Rattle.cv_top.specs.declared.words.Command.{Command}
-use Rattle.cv_top.proofs.words.read_publish.Goals as goal
+use Rattle.cv_words.specs.Words.{IsPlace, Means, init, stdio, ls, stat, cat, shell, publish}
+use Rattle.cv_words.specs.declared.words.Command.{Command}
+use Rattle.cv_words.proofs.words.read_publish.Goals as goal
 
 -- nothing is published at a marker
 marked : (url path folder : List ℕ) (at : Path) (b : Bool) (command : Command) {verb : List ℕ} {values : List (List ℕ)} → values ≡ url ∷ path ∷ folder ∷ [] → ((u : Url) (p : Path) → IsPlace url path u p → at ≡ p)
