@@ -119,7 +119,7 @@ record IsUnknown (word : Text) : Type 0 where
   no_publish : bytes_eq (codes "publish") word ≡ false
 
 known : (v : Verb) (word : Text) → bytes_eq (word_of v) word ≡ true → (v : Verb) × (word ≡ word_of v)
-known v word is = (v, sym ((bytes_eq-Decides (word_of v) word).1 is))
+known v word is = (v, sym ((bytes_eq-Decides (word_of v) word).0 is))
 
 find_verb : (word : Text) → ((v : Verb) × (word ≡ word_of v)) ⊎ IsUnknown word
 find_verb word =
@@ -157,7 +157,7 @@ flag_first word rest u d (short b more first l is starts) =
 unknown_first : (word : Text) (rest : List Text) → IsUnknown word → IsUtf8 word → fault_of program (word ∷ rest) ≡ [] → ⊥
 unknown_first word rest u utf8 =
     elim (cases_Bool (bytes_eq word dashes)) [
-      | inl d ↦ subst (λ (w : Text). fault_of program (w ∷ rest) ≡ [] → ⊥) (sym ((bytes_eq-Decides word dashes).1 d)) (dashes_first rest)
+      | inl d ↦ subst (λ (w : Text). fault_of program (w ∷ rest) ≡ [] → ⊥) (sym ((bytes_eq-Decides word dashes).0 d)) (dashes_first rest)
       | inr d ↦ elim (cases_Bool (is_option word)) [
         | inl o ↦ flag_first word rest u d (flag word d o utf8)
         | inr o ↦ plain_first word rest u (plain word d o)

@@ -1,7 +1,7 @@
 //! The command line as clap is told of it, and what clap finds in words.
 ghost use Rattle.std.specs.Prelude.{◌≡◌, ◌≢◌, ◌++◌, [], Err, IfOk, None, false, map, string_bytes};
 ghost use Rattle.clap.specs.Matches.{found_of};
-ghost use Rattle.clap.specs.Walk.{first_of, rows_of};
+ghost use Rattle.clap.specs.Walk.{first_of, rows_of, texts};
 ghost use Rattle.clap.specs.Words.{app_of, fault_of, rule_of, shape_of, subcommand_of, subcommand_rows_of};
 ghost use Rattle.clap.specs.declared.builder.command.Command.TheViews.{out-Command};
 ghost use Rattle.cv_words.specs.Program.{IsGiven, all_ids, and_then, asking, bare, command_shape, folder_ids, path_ids, program, repo_ids, served, url_ids, value_rule, values_at};
@@ -133,7 +133,7 @@ fn push_value<'a>(
     matches: &ArgMatches<'a>,
     id: &str,
 ) -> Result<(), WordsFault>
-    ensures pushed { IfOk result (λ _. map (λ value. value.now) values.new.items ≡ map (λ value. value.now) values.old.items ++ and_then (first_of id.now (rows_of (found_of matches.now))) []) }
+    ensures pushed { IfOk result (λ _. texts values.new.items ≡ texts values.old.items ++ and_then (first_of id.now (rows_of (found_of matches.now))) []) }
     ensures memory { result ≢ Err Usage }
 {
     let Some(value) = matches.get_str(id) else {
@@ -147,7 +147,7 @@ fn push_value<'a>(
 
 /// The values of a command, in their order.
 fn read_values<'a>(alloc: Global, matches: &ArgMatches<'a>) -> Result<Vec<&'a str>, WordsFault>
-    ensures values { IfOk result (λ values. map (λ value. value.now) values.items ≡ values_at (rows_of (found_of matches.now)) all_ids) }
+    ensures values { IfOk result (λ values. texts values.items ≡ values_at (rows_of (found_of matches.now)) all_ids) }
     ensures memory { result ≢ Err Usage }
 {
     let mut values = Vec::new(alloc);
@@ -160,7 +160,7 @@ fn read_values<'a>(alloc: Global, matches: &ArgMatches<'a>) -> Result<Vec<&'a st
 
 /// Reads the command that clap has found, and its values.
 pub fn read_given<'a>(alloc: Global, matches: &ArgMatches<'a>) -> Result<Given<'a>, WordsFault>
-    ensures given { IfOk result (λ given. IsGiven (subcommand_rows_of matches.now) given.verb.now (map (λ value. value.now) given.values.items)) }
+    ensures given { IfOk result (λ given. IsGiven (subcommand_rows_of matches.now) given.verb.now (texts given.values.items)) }
     ensures usage { result ≡ Err Usage → subcommand_rows_of matches.now ≡ None }
 {
     match matches.subcommand() {
