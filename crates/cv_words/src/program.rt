@@ -102,7 +102,6 @@ fn whole_program<'a>(alloc: Global) -> Result<Command<'a>, AllocError>
 }
 
 /// What clap finds in the words.
-#[tactic(auto, using(crate::proofs::Entering::program_is_simple, crate::proofs::Entering::program_is_free))]
 pub fn match_words<'a>(alloc: Global, words: &'a [String]) -> Result<ArgMatches<'a>, WordsFault>
     ensures found { IfOk result (λ m. subcommand_rows_of m ≡ subcommand_of program (map string_bytes words.entry.now)) }
     ensures taken { IfOk result (λ m. fault_of program (map string_bytes words.entry.now) ≡ []) }
@@ -146,6 +145,7 @@ fn push_value<'a>(
 }
 
 /// The values of a command, in their order.
+#[tactic(auto, using(crate::proofs::Values::in_turn))]
 fn read_values<'a>(alloc: Global, matches: &ArgMatches<'a>) -> Result<Vec<&'a str>, WordsFault>
     ensures values { IfOk result (λ values. texts values.items ≡ values_at (rows_of (found_of matches.now)) all_ids) }
     ensures memory { result ≢ Err Usage }
