@@ -123,15 +123,35 @@ known v word is = (v, sym ((bytes_eq-Decides (word_of v) word).0 is))
 
 find_verb : (word : Text) → ((v : Verb) × (word ≡ word_of v)) ⊎ IsUnknown word
 find_verb word =
-    elim (cases_Bool (bytes_eq (codes "init") word)) [ inl is ↦ inl (known init word is) | inr no_init ↦
-    elim (cases_Bool (bytes_eq (codes "stdio") word)) [ inl is ↦ inl (known stdio word is) | inr no_stdio ↦
-    elim (cases_Bool (bytes_eq (codes "ls") word)) [ inl is ↦ inl (known ls word is) | inr no_ls ↦
-    elim (cases_Bool (bytes_eq (codes "stat") word)) [ inl is ↦ inl (known stat word is) | inr no_stat ↦
-    elim (cases_Bool (bytes_eq (codes "cat") word)) [ inl is ↦ inl (known cat word is) | inr no_cat ↦
-    elim (cases_Bool (bytes_eq (codes "shell") word)) [ inl is ↦ inl (known shell word is) | inr no_shell ↦
-    elim (cases_Bool (bytes_eq (codes "publish") word)) [ inl is ↦ inl (known publish word is) | inr no_publish ↦
-    inr (record { no_init = no_init; no_stdio = no_stdio; no_ls = no_ls; no_stat = no_stat; no_cat = no_cat; no_shell = no_shell; no_publish = no_publish })
-    ] ] ] ] ] ] ]
+    elim (cases_Bool (bytes_eq (codes "init") word)) [
+      | inl is ↦ inl (known init word is)
+      | inr no_init ↦
+          elim (cases_Bool (bytes_eq (codes "stdio") word)) [
+            | inl is ↦ inl (known stdio word is)
+            | inr no_stdio ↦
+                elim (cases_Bool (bytes_eq (codes "ls") word)) [
+                  | inl is ↦ inl (known ls word is)
+                  | inr no_ls ↦
+                      elim (cases_Bool (bytes_eq (codes "stat") word)) [
+                        | inl is ↦ inl (known stat word is)
+                        | inr no_stat ↦
+                            elim (cases_Bool (bytes_eq (codes "cat") word)) [
+                              | inl is ↦ inl (known cat word is)
+                              | inr no_cat ↦
+                                  elim (cases_Bool (bytes_eq (codes "shell") word)) [
+                                    | inl is ↦ inl (known shell word is)
+                                    | inr no_shell ↦
+                                        elim (cases_Bool (bytes_eq (codes "publish") word)) [
+                                          | inl is ↦ inl (known publish word is)
+                                          | inr no_publish ↦
+                                              inr (record { no_init = no_init; no_stdio = no_stdio; no_ls = no_ls; no_stat = no_stat; no_cat = no_cat; no_shell = no_shell; no_publish = no_publish })
+                                        ]
+                                  ]
+                            ]
+                      ]
+                ]
+          ]
+    ]
 
 no_words : fault_of program [] ≡ [] → ⊥
 unfolding clap_on_literals

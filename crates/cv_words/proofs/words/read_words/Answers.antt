@@ -4,21 +4,22 @@ use Rattle.std.proofs.lemmas.Result.{IfOk-weaker}
 use Rattle.clap.specs.Walk.{Text, texts}
 use Rattle.clap.specs.Words.{subcommand_rows_of}
 use Rattle.cv_words.specs.Words.{Means, Asks}
+use Rattle.cv_words.specs.declared.words.WordsFault.{WordsFault}
 use Rattle.cv_words.specs.declared.words.WordsFault.TheVariants.{Usage}
 use Rattle.cv_words.proofs.Forms.{strings_are_texts}
-use Rattle.cv_words.proofs.Reading.{asks_by, means_by, some_found, takes_commands}
+use Rattle.cv_words.proofs.Reading.{asks_by, means_by, one_fault, some_found, takes_commands}
 use Rattle.cv_words.proofs.words.read_words.Goals as goal
 
 pub returns-in_err-matches-clause-usage : goal.returns-in_err-matches-clause-usage
 returns-in_err-matches-clause-usage c = λ e is.
-    let same : c.in_err-matches.field-0.0 ≡ Usage = cc in
-    c.in_err-matches.ensures.usage (ap (λ f. Err f) same) (takes_commands (map string_bytes c.args.words.now) is)
+    let same : c.in_err-matches.field-0.0 ≡ Usage = one_fault _ _ Usage c.from_residual.ensures.1 e in
+    c.in_err-matches.ensures.usage (ap (λ (f : WordsFault). Err f) same) (takes_commands (map string_bytes c.args.words.now) is)
 
 pub returns-in_err-given-clause-usage : goal.returns-in_err-given-clause-usage
 returns-in_err-given-clause-usage c = λ e is.
-    let same : c.in_err-given.field-0.0 ≡ Usage = cc in
+    let same : c.in_err-given.field-0.0 ≡ Usage = one_fault _ _ Usage c.from_residual-in_err-given.ensures.1 e in
     some_found (map string_bytes c.args.words.now) (strings_are_texts c.args.words.now) (subcommand_rows_of c.in_ok-matches.matches) c.in_ok-matches.ensures.found c.in_ok-matches.ensures.taken
-    (c.in_err-given.ensures.usage (ap (λ f. Err f) same))
+    (c.in_err-given.ensures.usage (ap (λ (f : WordsFault). Err f) same))
 
 pub returns-clause-command : goal.returns-clause-command
 returns-clause-command c =
