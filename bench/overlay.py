@@ -6,8 +6,8 @@
 The base has 50,000 files in directories of 100. The folder is a real one, on the disk of the system's folder for temporary
 files, with 10,000 small files in directories of 100: half of them stand in place of files of the base, a whiteout a directory
 removes one, and each tenth directory is opaque. The program measures the best of three readings of the folder and of three
-overlays; so it does at a tenth of both sizes. The short form has 100 files over 200, and prints no time. FOLDER is a copy of the
-repository in which to build.
+overlays; so it does at a tenth of both sizes. Of five runs of it the best times count. The short form has 100 files over 200, and
+prints no time. FOLDER is a copy of the repository in which to build.
 """
 import os
 import sys
@@ -130,10 +130,13 @@ def times(made, over, directories):
     """The nanoseconds of reading so many directories, and of laying them over a base of `over` directories."""
     with tempfile.TemporaryDirectory(prefix="cvkit-overlay-") as top:
         wanted = 1 + 101 * over + make_folder(top, directories)
-        output = made.output(arguments=[top, str(over)]).split()
-    if len(output) != 3 or int(output[0]) != wanted:
-        sys.exit(f"overlay.py: FAILED: {100 * directories} files over {100 * over}: {output}, of {wanted} entries")
-    return int(output[1]), int(output[2])
+        runs = []
+        for _ in range(1 if SHORT else 5):
+            output = made.output(arguments=[top, str(over)]).split()
+            if len(output) != 3 or int(output[0]) != wanted:
+                sys.exit(f"overlay.py: FAILED: {100 * directories} files over {100 * over}: {output}, of {wanted} entries")
+            runs.append((int(output[1]), int(output[2])))
+    return tuple(min(times) for times in zip(*runs))
 
 
 SHORT, FOLDER = words()

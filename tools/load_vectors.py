@@ -70,4 +70,5 @@ def items():
     yield f"damaged({text(digest.hex() + 'C')}, {text(sha1(itself))})"
 
 
-settle("crates/cv_load_tests/src/tests.rt", list(items()))
+if __name__ == "__main__":
+    settle("crates/cv_load_tests/src/tests.rt", list(items()))

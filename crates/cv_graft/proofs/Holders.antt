@@ -58,7 +58,7 @@ blames shelf root p id fault.NoMemory on h = tt
 
 -- where the next one isn't
 module _ (shelf : Shelf) (root : List ℕ) (p : Path) (id : ObjectId) (c : Contents) (n : Nested) (of : IsOfWay shelf root p id) (there : HasCatalogue shelf id.hash of.place c) (next : IsNext c p n) where
-  below : (r : Row) → IsTransitionOf c n r → IsOfWay shelf root p (below_id n)
+  abbrev below : (r : Row) → IsTransitionOf c n r → IsOfWay shelf root p (below_id n)
   below r t = record { kind = refl; place = record { path = n.path; row = Some r }; on = IsOnWay.next of.on there next t }
 
   bad_next : (x : ObjectId) → IsBadNested shelf id c n x → IsBadOnWay shelf root p x

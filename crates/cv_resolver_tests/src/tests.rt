@@ -1,6 +1,7 @@
 //! What no clause says: that calls find memory. Answers are compared with those of a script, walked another way.
 ghost use Rattle.std.specs.Prelude.{◌≤◌};
 
+mod lies;
 mod rows;
 
 use cv_base::{Bytes, Kind, Name, Object, ObjectId, RepoPath, Text};
