@@ -74,7 +74,7 @@ LOOKS = [
     look("cat", "/l1", [octets(line_vectors.manifest(2, CHAIN, RECORD)), octets(CHAIN)], CHAINED, code=10, line="too many links"),
     look("cat", "/l2", [octets(line_vectors.manifest(2, CHAIN, RECORD)), octets(CHAIN), "CONTENT"], [*CHAINED, FILE], HELLO),
     look("ls", "/", [with_line(b"R", b"0" * 32)], FIRST, code=11, line="bad manifest"),
-    look("ls", "/", [with_line(b"D", b"241")], FIRST, code=11, line="bad manifest"),
+    look("ls", "/", [with_line(b"D", b"24x")], FIRST, code=11, line="bad manifest"),
     look("ls", "/", [with_line(b"S", b"02")], FIRST, code=11, line="bad manifest"),
     look("ls", "/", [with_line(b"N", b"other.example.org"), "TREE"], BOTH, b"a\n"),
     look("ls", "/", [with_line(b"H", b"1" * 39)], FIRST, code=11, line="bad manifest"),

@@ -159,7 +159,7 @@ static LOOKS: [(&str, &str, &[&[u8]], &[u8], &[u8], u8, &str); 22] = [
         "ls",
         "/",
         &[
-            b"HTTP/1.1 200 OK\x0d\nContent-Type: application/octet-stream\x0d\nContent-Length: 223\x0d\n\x0d\nCe6d2e652fce99490956f1126db1cc69c2babc5ce\nB171\nRd41d8cd98f00b204e9800998ecf8427e\nD241\nS2\nNsw.example.org\nHcf0f63d102052d794fc88a4f001b97451d5bac77\nT1700000000\n--\n5881daa95bd0e482643486f62ba3f946d5d870dc\n\xa4\x8e\xe7\xe6\xa7n\xddU\x1abU\xcf\xe2\xda\x08\x9f\x81\x02\x1ei",
+            b"HTTP/1.1 200 OK\x0d\nContent-Type: application/octet-stream\x0d\nContent-Length: 223\x0d\n\x0d\nCe6d2e652fce99490956f1126db1cc69c2babc5ce\nB171\nRd41d8cd98f00b204e9800998ecf8427e\nD24x\nS2\nNsw.example.org\nHcf0f63d102052d794fc88a4f001b97451d5bac77\nT1700000000\n--\n1c9144de500c9e4a2bc2854d1becb356c9095a6e\n\x9a\xfdW\x8b\xd8=Q\xe5\x95J\xca\xc7\xf4R\xee\x11O \xae\xbc",
         ],
         FIRST,
         b"",
@@ -182,11 +182,12 @@ static LOOKS: [(&str, &str, &[&[u8]], &[u8], &[u8], u8, &str); 22] = [
         "/",
         &[
             b"HTTP/1.1 200 OK\x0d\nContent-Type: application/octet-stream\x0d\nContent-Length: 226\x0d\n\x0d\nCe6d2e652fce99490956f1126db1cc69c2babc5ce\nB171\nRd41d8cd98f00b204e9800998ecf8427e\nD240\nS2\nNother.example.org\nHcf0f63d102052d794fc88a4f001b97451d5bac77\nT1700000000\n--\nab8774871ab45b2f72df8711cdff1238638b6def\n\xaf\x00\xa9`\x7f\xfc\xa5C~j3\xac`%*{G\xfb\x05R",
+            TREE,
         ],
-        FIRST,
-        b"",
-        11,
-        "cvkit: bad manifest\n",
+        BOTH,
+        b"a\n",
+        0,
+        "",
     ),
     (
         "ls",
