@@ -1,56 +1,81 @@
 -- A pair is added to a known set.
-use Rattle.std.proofs.Common.{◌≡◌, ℕ, Bool, true, false, cond, List, Option, None, Some, Ok, Err, Result, refl, sym, ap, subst, ◌∙◌}
-use Rattle.std.specs.Prelude.{OnErr}
-use Rattle.std.specs.Ordering.{nat_cmp, eq_by_cmp}
+use Rattle.std.proofs.Common.{◌≡◌, ℕ, Bool, true, false, cond, List, [], Option, Some, Ok, Err, Result, refl, sym, ap, subst, ◌∙◌, inl, inr}
+use Rattle.std.specs.Prelude.{◌⊎◌, OnOk, OnErr}
+use Rattle.std.specs.Ordering.{nat_cmp, eq_by_cmp, is_eq}
+use Rattle.std.specs.Cmp.{tied_itself}
 use Rattle.std.specs.Cmp.Lexicographic.{slice_cmp}
 use Rattle.std.specs.BTreeSet.{BTreeSet, contains}
 use Rattle.std.specs.BTreeMap.{BTreeMap}
 use Rattle.std.specs.BTreeMap as tree
-use Rattle.std.specs.Map.{lookup}
 use Rattle.cv_base.specs.Path.{Path, path_cmp}
-use Rattle.cv_base.specs.PathOrder.{same_path_is}
+use Rattle.cv_base.specs.declared.id.ObjectId.{ObjectId}
+use Rattle.cv_base.specs.PathOrder.{path_total, same_name_is, same_name_itself, same_path_is}
 use Rattle.cv_load.specs.declared.known_set.KnownSet.{KnownSet}
-use Rattle.std.proofs.lemmas.Slice.Eq.{bytes_eq-Decides}
 use Rattle.cv_ports.specs.Shelf.{Shelf, HasMore}
 use Rattle.cv_load.proofs.GoodLaws.{good_more}
-use Rattle.cv_load.specs.Known.{knows, with_pair, is_known, AreKnown}
-use Rattle.std.proofs.lemmas.Map.Text.{is_eq-slice_cmp}
+use Rattle.cv_load.specs.Known.{knows, with_pair, is_known, HasPair, AreKnown, IsWholePair, AreWhole}
+use Rattle.cv_load.proofs.Growing.{each_all}
 use Rattle.cv_cut.specs.Good.{IsWholeAt}
 
 abbrev pub Paths : Type 0
 Paths = BTreeMap Path (BTreeSet (List ℕ))
 
--- nothing more is known where a path was taken out
-less_known : (old mid : Paths) (path : Path) → tree.UpdatesBy path_cmp (path_cmp path) old mid None → (h : List ℕ) (p : Path) → knows (tree.get path_cmp mid p) h ≡ true → knows (tree.get path_cmp old p) h ≡ true
-less_known old mid path u h p told = go (eq_by_cmp path_cmp path p) (sym (ap (λ (o : Option (BTreeSet (List ℕ))). knows o h) (u.0 p)) ∙ told)
-  where
-    go : (b : Bool) → knows (cond b None (tree.get path_cmp old p)) h ≡ true → knows (tree.get path_cmp old p) h ≡ true
-    go true e = absurd (let wrong : false ≡ true = e in cc)
-    go false e = e
+-- what holds after Ok, or after an error, comes of what did
+pub on_ok : {X E A B : Type 0} (r : Result X E) → (A → B) → OnOk r A → OnOk r B
+on_ok (Ok x) f a = f a
+on_ok (Err e) f a = tt
 
-pub pair_added : (old mid new : Paths) (path : Path) (hash : List ℕ) (o : Option (BTreeSet (List ℕ))) (more : BTreeSet (List ℕ)) → o ≡ tree.get path_cmp old path → tree.UpdatesBy path_cmp (path_cmp path) old mid None
-    → ((h : List ℕ) → contains (slice_cmp nat_cmp) more h ≡ cond (eq_by_cmp (slice_cmp nat_cmp) hash h) true (knows o h)) → (q : Path) → q ≡ path → tree.Updates path_cmp mid new q (Some more)
-    → (h : List ℕ) (p : Path) → knows (tree.get path_cmp new p) h ≡ with_pair hash path h p (knows (tree.get path_cmp old p) h)
-pair_added old mid new path hash o more value first has q same second_q h p =
-    let second : tree.Updates path_cmp mid new path (Some more) = subst (λ (x : Path). tree.Updates path_cmp mid new x (Some more)) same second_q in
-    ap (λ (x : Option (BTreeSet (List ℕ))). knows x h) (second.0 p ∙ ap (cond (eq_by_cmp path_cmp path p) (Some more)) (first.0 p)) ∙ go (eq_by_cmp path_cmp path p) refl
-  where
-    go : (b : Bool) → eq_by_cmp path_cmp path p ≡ b → knows (cond b (Some more) (cond b None (tree.get path_cmp old p))) h ≡ cond b (cond (eq_by_cmp (slice_cmp nat_cmp) hash h) true (knows (tree.get path_cmp old p) h)) (knows (tree.get path_cmp old p) h)
-    go true e = has h ∙ ap (λ (x : Option (BTreeSet (List ℕ))). cond (eq_by_cmp (slice_cmp nat_cmp) hash h) true (knows x h)) (value ∙ ap (tree.get path_cmp old) (same_path_is path p e))
-    go false e = refl
+pub on_err : {X E A B : Type 0} (r : Result X E) → (A → B) → OnErr r A → OnErr r B
+on_err (Ok x) f a = tt
+on_err (Err e) f a = f a
 
--- after a fault there is nothing new
-pub lost : {X E : Type 0} (r : Result X E) (old new : KnownSet) (path : Path) → tree.UpdatesBy path_cmp (path_cmp path) old.paths new.paths None → OnErr r ((h : List ℕ) (p : Path) → is_known new h p ≡ true → is_known old h p ≡ true)
-lost (Ok x) old new path u = tt
-lost (Err e) old new path u = λ h p told. less_known old.paths new.paths path u h p told
+-- a hash comes to a set of none
+pub first_hash : (hash : List ℕ) (none more : BTreeSet (List ℕ)) → none.keys ≡ []
+    → ((h : List ℕ) → contains (slice_cmp nat_cmp) more h ≡ cond (eq_by_cmp (slice_cmp nat_cmp) hash h) true (contains (slice_cmp nat_cmp) none h)) → (h : List ℕ) → contains (slice_cmp nat_cmp) more h ≡ cond (eq_by_cmp (slice_cmp nat_cmp) hash h) true false
+first_hash hash none more empty has h = has h ∙ ap (λ (ks : List (List ℕ)). cond (eq_by_cmp (slice_cmp nat_cmp) hash h) true (contains (slice_cmp nat_cmp) (record { keys = ks }) h)) empty
 
-pub lost_after : {X E : Type 0} (r : Result X E) (old new : KnownSet) (mid : Paths) (path : Path) → tree.UpdatesBy path_cmp (path_cmp path) old.paths mid None → tree.IsUnchanged mid new.paths
-    → OnErr r ((h : List ℕ) (p : Path) → is_known new h p ≡ true → is_known old h p ≡ true)
-lost_after {X} {E} r old new mid path u same = go r
+module _ (old new : Paths) (path : Path) (o : Option (BTreeSet (List ℕ))) (more : BTreeSet (List ℕ)) (value : o ≡ tree.get path_cmp old path) (updates : tree.UpdatesBy path_cmp (path_cmp path) old new (Some more)) where
+  -- the path has one hash more
+  pub pair_added : (hash : List ℕ) → ((h : List ℕ) → contains (slice_cmp nat_cmp) more h ≡ cond (eq_by_cmp (slice_cmp nat_cmp) hash h) true (knows o h))
+      → (h : List ℕ) (p : Path) → knows (tree.get path_cmp new p) h ≡ with_pair hash path h p (knows (tree.get path_cmp old p) h)
+  pair_added hash has h p = ap (λ (x : Option (BTreeSet (List ℕ))). knows x h) (updates.0 p) ∙ go (eq_by_cmp path_cmp path p) refl
+    where
+      go : (b : Bool) → eq_by_cmp path_cmp path p ≡ b → knows (cond b (Some more) (tree.get path_cmp old p)) h ≡ cond b (cond (eq_by_cmp (slice_cmp nat_cmp) hash h) true (knows (tree.get path_cmp old p) h)) (knows (tree.get path_cmp old p) h)
+      go true e = has h ∙ ap (λ (x : Option (BTreeSet (List ℕ))). cond (eq_by_cmp (slice_cmp nat_cmp) hash h) true (knows x h)) (value ∙ ap (tree.get path_cmp old) (same_path_is path p e))
+      go false e = refl
+
+  -- or the hashes that it had
+  pub pair_kept : ((h : List ℕ) → contains (slice_cmp nat_cmp) more h ≡ knows o h) → (h : List ℕ) (p : Path) → knows (tree.get path_cmp new p) h ≡ knows (tree.get path_cmp old p) h
+  pair_kept has h p = ap (λ (x : Option (BTreeSet (List ℕ))). knows x h) (updates.0 p) ∙ go (eq_by_cmp path_cmp path p) refl
+    where
+      go : (b : Bool) → eq_by_cmp path_cmp path p ≡ b → knows (cond b (Some more) (tree.get path_cmp old p)) h ≡ knows (tree.get path_cmp old p) h
+      go true e = has h ∙ ap (λ (x : Option (BTreeSet (List ℕ))). knows x h) (value ∙ ap (tree.get path_cmp old) (same_path_is path p e))
+      go false e = refl
+
+-- ---- what is known with one pair more
+
+-- it was known, or is that pair
+pub with_pair_is : (hash : List ℕ) (path : Path) (h : List ℕ) (p : Path) (was : Bool) → with_pair hash path h p was ≡ true → (was ≡ true) ⊎ ((hash ≡ h) × (path ≡ p))
+with_pair_is hash path h p was = at_path (eq_by_cmp path_cmp path p) refl
   where
-    go : (x : Result X E) → OnErr x ((h : List ℕ) (p : Path) → is_known new h p ≡ true → is_known old h p ≡ true)
-    go (Ok x) = tt
-    go (Err e) = λ h p told. less_known old.paths mid path u h p (sym (ap (λ es. knows (lookup (tree.is_at (path_cmp p)) es) h) same) ∙ told)
+    at_hash : path ≡ p → (b : Bool) → eq_by_cmp (slice_cmp nat_cmp) hash h ≡ b → cond b true was ≡ true → (was ≡ true) ⊎ ((hash ≡ h) × (path ≡ p))
+    at_hash same true e is = inr (same_name_is hash h e, same)
+    at_hash same false e is = inl is
+
+    at_path : (b : Bool) → eq_by_cmp path_cmp path p ≡ b → cond b (cond (eq_by_cmp (slice_cmp nat_cmp) hash h) true was) was ≡ true → (was ≡ true) ⊎ ((hash ≡ h) × (path ≡ p))
+    at_path true e is = at_hash (same_path_is path p e) (eq_by_cmp (slice_cmp nat_cmp) hash h) refl is
+    at_path false e is = inl is
+
+pub with_pair_itself : (hash : List ℕ) (path : Path) (was : Bool) → with_pair hash path hash path was ≡ true
+with_pair_itself hash path was = ap (λ b. cond b (cond (eq_by_cmp (slice_cmp nat_cmp) hash hash) true was) was) (ap is_eq (tied_itself path_total path)) ∙ ap (λ b. cond b true was) (same_name_itself hash)
+
+pub with_pair_kept : (hash : List ℕ) (path : Path) (h : List ℕ) (p : Path) (was : Bool) → was ≡ true → with_pair hash path h p was ≡ true
+with_pair_kept hash path h p was e = go (eq_by_cmp path_cmp path p) (eq_by_cmp (slice_cmp nat_cmp) hash h)
+  where
+    go : (b c : Bool) → cond b (cond c true was) was ≡ true
+    go true true = refl
+    go true false = e
+    go false c = e
 
 -- ---- known pairs stay whole
 
@@ -58,12 +83,14 @@ pub known_more : (old new : Shelf) (known : KnownSet) → HasMore old new → Ar
 known_more old new known more all = λ h p told. good_more new more (all h p told)
 
 pub known_with : (shelf : Shelf) (old new : KnownSet) (hash : List ℕ) (path : Path) → IsWholeAt shelf hash path → ((h : List ℕ) (p : Path) → is_known new h p ≡ with_pair hash path h p (is_known old h p)) → AreKnown shelf old → AreKnown shelf new
-known_with shelf old new hash path whole added all h p told = at_path (eq_by_cmp path_cmp path p) refl (sym (added h p) ∙ told)
-  where
-    at_hash : path ≡ p → (b : Bool) → eq_by_cmp (slice_cmp nat_cmp) hash h ≡ b → cond b true (is_known old h p) ≡ true → IsWholeAt shelf h p
-    at_hash same true e was = subst (λ (x : List ℕ). IsWholeAt shelf x p) ((bytes_eq-Decides hash h).0 (sym (is_eq-slice_cmp hash h) ∙ e)) (subst (λ (x : Path). IsWholeAt shelf hash x) same whole)
-    at_hash same false e was = all h p was
+known_with shelf old new hash path whole added all h p told = elim (with_pair_is hash path h p (is_known old h p) (sym (added h p) ∙ told)) [
+  | inl was ↦ all h p was
+  | inr same ↦ subst (λ (x : List ℕ). IsWholeAt shelf x p) same.0 (subst (λ (x : Path). IsWholeAt shelf hash x) same.1 whole)
+]
 
-    at_path : (b : Bool) → eq_by_cmp path_cmp path p ≡ b → cond b (cond (eq_by_cmp (slice_cmp nat_cmp) hash h) true (is_known old h p)) (is_known old h p) ≡ true → IsWholeAt shelf h p
-    at_path true e was = at_hash (same_path_is path p e) (eq_by_cmp (slice_cmp nat_cmp) hash h) refl was
-    at_path false e was = all h p was
+-- pairs that are whole are added
+pub known_with_all : (shelf : Shelf) (old new : KnownSet) (pairs : List (ObjectId × Path)) → AreWhole shelf pairs → ((h : List ℕ) (p : Path) → is_known new h p ≡ true → (is_known old h p ≡ true) ⊎ HasPair pairs h p) → AreKnown shelf old → AreKnown shelf new
+known_with_all shelf old new pairs whole only all h p told = elim (only h p told) [
+  | inl was ↦ all h p was
+  | inr has ↦ subst (λ (x : List ℕ). IsWholeAt shelf x p) has.hash_ (subst (λ (x : Path). IsWholeAt shelf has.pair.0.hash x) has.path_ (each_all (IsWholePair shelf) pairs whole has.pair has.among).whole)
+]

@@ -16,3 +16,5 @@ pub use Rattle.cv_load.proofs.Growing.{each_all, each_more}
 pub use Rattle.cv_load.proofs.Growing.{some_there}
 pub use Rattle.cv_load.proofs.Clearing.{directory_some}
 pub use Rattle.cv_load.proofs.CutFetches.{same_place}
+-- known pairs stay whole while the shelf grows, and where whole pairs are added
+pub use Rattle.cv_load.proofs.Knowing.{known_more, known_with_all}

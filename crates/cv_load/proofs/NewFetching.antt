@@ -147,3 +147,20 @@ pub once_with : (shelf : Shelf) (known : KnownSet) (id : ObjectId) (p : Path) (c
     → ChecksBelow shelf known id c middle after → FetchesNew shelf known id.hash before after
 once_with shelf known id p c before middle after e fresh stands taken deeper =
     once_new shelf known id.hash before after fresh (under_with shelf known id.hash id root_place c before middle after new_root fresh (at_root_place shelf id p c e stands) taken deeper)
+
+-- ---- what is new is new where none is known
+
+reached_new : {shelf : Shelf} {known none : KnownSet} {root hash : List ℕ} {place : Place} → ((h : List ℕ) (p : Path) → is_known none h p ≡ false) → ReachesNew shelf known root hash place → ReachesNew shelf none root hash place
+reached_new nothing new_root = new_root
+reached_new nothing (new_nested {hash = hash} {place = place} reached fresh has there kind stands) = new_nested (reached_new nothing reached) (nothing hash place.path) has there kind stands
+
+pub fetched_new : (shelf : Shelf) (known none : KnownSet) (root : List ℕ) (before after : ℕ) → ((h : List ℕ) (p : Path) → is_known none h p ≡ false) → FetchesNew shelf known root before after → FetchesNew shelf none root before after
+fetched_new shelf known none root before after nothing f = (
+  f.0,
+  record {
+    reached = All-weaker (IsNew shelf known root) (IsNew shelf none root) (λ v reached. reached_new nothing reached) f.0 f.1.reached;
+    apart = f.1.apart;
+    taken = f.1.taken;
+  },
+  λ yes. absurd (let wrong : true ≡ false = sym yes ∙ nothing root [] in cc),
+)

@@ -1,5 +1,5 @@
 -- Which catalogues a load fetches.
-use Rattle.std.specs.Prelude.{◌≡◌, ◌≢◌, ℕ, zero, suc, true, List, length, Some, Result, IfOk, All, AllPairs, Contains}
+use Rattle.std.specs.Prelude.{◌≡◌, ◌≢◌, ℕ, true, List, length, Some, Result, IfOk, All, AllPairs, Contains}
 use Rattle.cv_base.specs.Path.{Path, covers}
 use Rattle.cv_base.specs.declared.id.ObjectId.{ObjectId}
 use Rattle.cv_ports.specs.Calls.{raised_by}

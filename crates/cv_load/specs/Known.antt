@@ -1,6 +1,6 @@
 -- Known pairs of a catalogue's hash and a path.
 use Rattle.std.specs.Prelude.{◌≡◌, ℕ, Bool, true, false, if◌then◌else◌, List, Option, None, Some, Result, Ok, Err}
-use Rattle.std.specs.List.{All}
+use Rattle.std.specs.List.{All, Contains}
 use Rattle.std.specs.Ordering.{nat_cmp, eq_by_cmp}
 use Rattle.std.specs.Cmp.Lexicographic.{slice_cmp}
 use Rattle.std.specs.BTreeSet.{BTreeSet}
@@ -28,6 +28,13 @@ is_known known hash path = knows (tree.get path_cmp known.paths path) hash
 -- whether a pair is in a set to which another was added
 abbrev pub with_pair : List ℕ → Path → List ℕ → Path → Bool → Bool
 with_pair hash path h p was = if eq_by_cmp path_cmp path p then (if eq_by_cmp (slice_cmp nat_cmp) hash h then true else was) else was
+
+-- the hash of an id and its path are among the pairs
+pub record HasPair (pairs : List (ObjectId × Path)) (hash : List ℕ) (path : Path) : Type 0 where
+  pub pair : ObjectId × Path
+  pub among : Contains pairs pair
+  pub hash_ : pair.0.hash ≡ hash
+  pub path_ : pair.1 ≡ path
 
 -- each pair of the set is whole
 abbrev pub AreKnown : Shelf → KnownSet → Type 0

@@ -1,12 +1,12 @@
 //! Sets of known catalogues.
-ghost use Rattle.std.specs.Prelude.{◌≡◌, ℕ, List, true, false, IfOk, OnOk, OnErr, if◌then◌else◌};
+ghost use Rattle.std.specs.Prelude.{◌≡◌, ◌⊎◌, ℕ, List, true, false, OnOk, OnErr, if◌then◌else◌};
 ghost use Rattle.std.specs.Ordering.{nat_cmp, eq_by_cmp};
 ghost use Rattle.std.specs.Cmp.Lexicographic.{slice_cmp};
 ghost use Rattle.std.specs.BTreeSet.{contains};
 ghost use Rattle.cv_base.specs.Path.{Path};
-ghost use Rattle.cv_load.specs.Known.{is_known, knows, with_pair};
+ghost use Rattle.cv_load.specs.Known.{is_known, with_pair, HasPair};
 
-use cv_base::{NoMemory, RepoPath};
+use cv_base::{NoMemory, ObjectId, RepoPath};
 use std::alloc::Global;
 use std::collections::{BTreeMap, BTreeSet};
 
@@ -36,31 +36,39 @@ impl KnownSet {
         }
     }
 
-    /// Adds a pair. Where there is no memory, pairs of the same path may be forgotten.
+    /// Adds a pair. Where there is no memory, the set stays as it was.
     pub fn add(&mut self, alloc: Global, hash: [u8; 20], path: &RepoPath) -> Result<(), NoMemory>
         ensures added { OnOk result ((h : List ℕ) (p : Path) → is_known self.new h p ≡ with_pair hash path.now h p (is_known self.old h p)) }
-        ensures kept { OnErr result ((h : List ℕ) (p : Path) → is_known self.new h p ≡ true → is_known self.old h p ≡ true) }
+        ensures kept { OnErr result ((h : List ℕ) (p : Path) → is_known self.new h p ≡ is_known self.old h p) }
     {
+        if let Some(hashes) = self.paths.get_mut(path) {
+            return add_hash(hashes, hash);
+        }
+        let mut hashes = BTreeSet::new(alloc);
+        add_hash(&mut hashes, hash)?;
         let copy = path.copy(alloc)?;
-        let hashes = self.paths.remove(path);
-        let more = with_hash(alloc, hashes, hash)?;
-        self.paths.insert(copy, more)?;
+        self.paths.insert(copy, hashes)?;
+        Ok(())
+    }
+
+    /// Adds pairs of a catalogue's id and its path. Where there is no memory, some of them are in the set.
+    pub fn add_all(&mut self, alloc: Global, pairs: &[(ObjectId, RepoPath)]) -> Result<(), NoMemory>
+        ensures only { (h : List ℕ) (p : Path) → is_known self.new h p ≡ true → (is_known self.old h p ≡ true) ⊎ HasPair pairs.now h p }
+        ensures kept { (h : List ℕ) (p : Path) → is_known self.old h p ≡ true → is_known self.new h p ≡ true }
+        ensures added { OnOk result ((h : List ℕ) (p : Path) → HasPair pairs.now h p → is_known self.new h p ≡ true) }
+    {
+        for pair in pairs {
+            self.add(alloc, pair.0.hash, &pair.1)?;
+        }
         Ok(())
     }
 }
 
-/// A set of hashes with one more.
-fn with_hash(
-    alloc: Global,
-    hashes: Option<BTreeSet<[u8; 20]>>,
-    hash: [u8; 20],
-) -> Result<BTreeSet<[u8; 20]>, NoMemory>
-    ensures { IfOk result (λ more. (h : List ℕ) → contains (slice_cmp nat_cmp) more h ≡ (if eq_by_cmp (slice_cmp nat_cmp) hash h then true else knows hashes h)) }
+/// Adds a hash. Where there is no memory, the set stays as it was.
+fn add_hash(hashes: &mut BTreeSet<[u8; 20]>, hash: [u8; 20]) -> Result<(), NoMemory>
+    ensures added { OnOk result ((h : List ℕ) → contains (slice_cmp nat_cmp) hashes.new h ≡ (if eq_by_cmp (slice_cmp nat_cmp) hash h then true else contains (slice_cmp nat_cmp) hashes.old h)) }
+    ensures kept { OnErr result ((h : List ℕ) → contains (slice_cmp nat_cmp) hashes.new h ≡ contains (slice_cmp nat_cmp) hashes.old h) }
 {
-    let mut more = match hashes {
-        Some(hashes) => hashes,
-        None => BTreeSet::new(alloc),
-    };
-    more.insert(hash)?;
-    Ok(more)
+    hashes.insert(hash)?;
+    Ok(())
 }

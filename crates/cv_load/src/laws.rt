@@ -1,5 +1,5 @@
 //! Laws over the definitions alone: what a hash means.
-ghost use Rattle.std.specs.Prelude.{◌≡◌, ℕ, List, IsTrue};
+ghost use Rattle.std.specs.Prelude.{◌≡◌, ◌⊎◌, ℕ, List, true, false, IsTrue};
 ghost use Rattle.sha1.specs.Sha1.{sha1};
 ghost use Rattle.cv_base.specs.Path.{Path};
 ghost use Rattle.cv_base.specs.declared.id.ObjectId.{ObjectId};
@@ -7,7 +7,8 @@ ghost use Rattle.cv_ports.specs.Shelf.{Shelf, IsShelf, HasMore};
 ghost use Rattle.cv_tree.specs.Tree.{Nodes};
 ghost use Rattle.cv_cut.specs.Means.{Means};
 ghost use Rattle.cv_cut.specs.Reached.{Lacking, Bad, root_place, Place, HasCatalogue, Reaches, LackingFrom, BadFrom};
-ghost use Rattle.cv_load.specs.Known.{is_known, with_pair, AreKnown};
+ghost use Rattle.cv_load.specs.Known.{is_known, with_pair, HasPair, AreKnown, AreWhole};
+ghost use Rattle.cv_load.specs.NewFetches.{FetchesNew};
 ghost use Rattle.cv_load.specs.declared.known_set.KnownSet.{KnownSet};
 ghost use Rattle.cv_cut.specs.Cuts.{is_cut};
 ghost use Rattle.cv_cut.specs.Catalogues.{cat};
@@ -59,8 +60,15 @@ pub fn a_whole_pair_is_good_where_it_fits()
     ensures path { (shelf : Shelf) (hash : List ℕ) (place : Place) → IsGood shelf hash place → IsWholeAt shelf hash place.path }
 {}
 
-/// Known pairs stay whole while the shelf grows, and where a whole pair is added.
+/// Known pairs stay whole while the shelf grows, and where a whole pair is added, or more of them.
 pub fn known_pairs_stay_whole()
     ensures grown { (old new : Shelf) (known : KnownSet) → HasMore old new → AreKnown old known → AreKnown new known }
     ensures added { (shelf : Shelf) (old new : KnownSet) (hash : List ℕ) (path : Path) → IsWholeAt shelf hash path → ((h : List ℕ) (p : Path) → is_known new h p ≡ with_pair hash path h p (is_known old h p)) → AreKnown shelf old → AreKnown shelf new }
+    ensures more { (shelf : Shelf) (old new : KnownSet) (pairs : List (ObjectId × Path)) → AreWhole shelf pairs → ((h : List ℕ) (p : Path) → is_known new h p ≡ true → (is_known old h p ≡ true) ⊎ HasPair pairs h p) → AreKnown shelf old → AreKnown shelf new }
+{}
+
+/// What is reached through unknown catalogues is reached where none is known: under a known set nothing is fetched that
+/// wouldn't be under an empty one.
+pub fn a_known_set_adds_no_fetch()
+    ensures { (shelf : Shelf) (known none : KnownSet) (root : List ℕ) (before after : ℕ) → ((h : List ℕ) (p : Path) → is_known none h p ≡ false) → FetchesNew shelf known root before after → FetchesNew shelf none root before after }
 {}

@@ -1,14 +1,24 @@
-use Rattle.cv_load.proofs.Knowing.{lost, lost_after, pair_added}
+use Rattle.std.proofs.Common.{None, Some, subst, rules}
+use Rattle.std.specs.BTreeMap as tree
+use Rattle.cv_base.specs.Path.{Path, path_cmp}
+use Rattle.cv_load.proofs.Knowing.{Paths, on_ok, on_err, first_hash, pair_added, pair_kept}
 use Rattle.cv_load.proofs.known_set.KnownSet.add.Goals as goal
 
-pub returns-in_err-more-clause-kept : goal.returns-in_err-more-clause-kept
-returns-in_err-more-clause-kept c = lost c.from_residual-in_err-more.result c.args.self.now (record { paths = c.remove-hashes.new.self }) c.args.path.now c.remove-hashes.ensures.updates
+pub returns-in-Some-clause-added : goal.returns-in-Some-clause-added
+returns-in-Some-clause-added c = on_ok c.add_hash.result
+    (pair_added c.args.self.now.paths (c.get_mut.follows.lender c.add_hash.new.hashes) c.args.path.now (Some c.in-Some.hashes.now) c.add_hash.new.hashes c.in-Some.ensures.value ((c.get_mut.follows.holds c.add_hash.new.hashes).3 (search rules)) c.args.hash)
+    c.add_hash.ensures.added
 
-pub returns-in_err-insert-clause-kept : goal.returns-in_err-insert-clause-kept
-returns-in_err-insert-clause-kept c =
-    lost_after c.from_residual-in_err-insert.result c.args.self.now (record { paths = c.insert.new.self }) c.remove-hashes.new.self c.args.path.now c.remove-hashes.ensures.updates c.in_err-insert.ensures.err
+pub returns-in-Some-clause-kept : goal.returns-in-Some-clause-kept
+returns-in-Some-clause-kept c = on_err c.add_hash.result
+    (pair_kept c.args.self.now.paths (c.get_mut.follows.lender c.add_hash.new.hashes) c.args.path.now (Some c.in-Some.hashes.now) c.add_hash.new.hashes c.in-Some.ensures.value ((c.get_mut.follows.holds c.add_hash.new.hashes).3 (search rules)))
+    c.add_hash.ensures.kept
 
 pub returns-clause-added : goal.returns-clause-added
 returns-clause-added c =
-    pair_added c.args.self.now.paths c.remove-hashes.new.self c.insert.new.self c.args.path.now c.args.hash c.remove-hashes.result c.in_ok-more.more c.remove-hashes.ensures.value c.remove-hashes.ensures.updates c.in_ok-more.ensures
-    c.in_ok-copy.copy c.in_ok-copy.ensures c.in_ok-insert.ensures.updates
+    let more = c.add_hash-2.new.hashes in
+    let at_copy : tree.Updates path_cmp c.args.self.now.paths c.insert.new.self c.in_ok-copy.copy (Some more) =
+    subst (λ (m : Paths). tree.Updates path_cmp m c.insert.new.self c.in_ok-copy.copy (Some more)) c.get_mut.follows.holds-at-none c.in_ok-insert.ensures.updates in
+    let at_path : tree.Updates path_cmp c.args.self.now.paths c.insert.new.self c.args.path.now (Some more) =
+    subst (λ (x : Path). tree.Updates path_cmp c.args.self.now.paths c.insert.new.self x (Some more)) c.in_ok-copy.ensures at_copy in
+    pair_added c.args.self.now.paths c.insert.new.self c.args.path.now None more c.in_default.ensures.value at_path c.args.hash (first_hash c.args.hash c.new-hashes.result more c.new-hashes.ensures.empty c.in_ok-add_hash.ensures.added)
