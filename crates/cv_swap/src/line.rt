@@ -1,6 +1,6 @@
 //! The line of revisions.
 ghost use Rattle.std.proofs.Common.{refl, ap, ◌∙◌};
-ghost use Rattle.std.specs.Prelude.{◌≡◌, ◌≢◌, ◌<◌, ◌^◌, ◌++◌, ◌∷◌, [], Some, Ok, Err, true, false, OnOk, OnErr, IfOk, IsErrOf};
+ghost use Rattle.std.specs.Prelude.{◌≡◌, ◌≢◌, ◌<◌, ◌^◌, ◌++◌, ◌∷◌, [], None, Some, Ok, Err, true, false, OnOk, OnErr, IfOk, IsErrOf};
 ghost use Rattle.std.specs.Option.{option_map};
 ghost use Rattle.cv_base.specs.Counts.{HasCause};
 ghost use Rattle.cv_base.specs.Told.{WhereTold};
@@ -145,6 +145,7 @@ impl<V: Vault + Drop, S: Signer + Drop> Line<V, S> {
         ensures walks { WhereTold (V.disk self.old.vault) (λ d.
             Walks V.disk V.count V.left on_way (ComesTo head_name (Some self.old.manifest)) (MovedIn d head_name self.old.manifest result) d self.old.vault self.new.vault) }
         ensures memory { result ≡ Err vault_fault.NoMemory → OnlyReads V.disk V.count V.left self.old.vault self.new.vault }
+        ensures silent { V.disk self.old.vault ≡ None → V.disk self.new.vault ≡ None }
         ensures ok { OnOk result (self.new ≡ swapped self.old self.new.vault) }
         ensures failed { result ≡ Err vault_fault.Failed → self.new ≡ record self.old { vault = self.new.vault; stage = stage.Doubtful } }
         ensures no_memory { result ≡ Err vault_fault.NoMemory → self.new ≡ record self.old { vault = self.new.vault } }
@@ -170,6 +171,7 @@ impl<V: Vault + Drop, S: Signer + Drop> Line<V, S> {
     pub fn recover(&mut self) -> Result<bool, VaultFault>
         requires doubt { self.old.stage ≡ stage.Doubtful }
         ensures walks { WhereTold (V.disk self.old.vault) (λ d. Walks V.disk V.count V.left on_way Nothing (FoundSo head_name self.old.manifest result) d self.old.vault self.new.vault) }
+        ensures silent { V.disk self.old.vault ≡ None → V.disk self.new.vault ≡ None }
         ensures made { result ≡ Ok true → self.new ≡ swapped self.old self.new.vault }
         ensures unmade { result ≡ Ok false → self.new ≡ record self.old { vault = self.new.vault; stage = stage.Calm } }
         ensures failed { OnErr result (self.new ≡ record self.old { vault = self.new.vault }) }
@@ -268,6 +270,7 @@ impl<V: Vault + Drop, S: Signer + Drop> Line<V, S> {
         ensures walks { WhereTold (V.disk self.old.vault) (λ d.
             Walks V.disk V.count V.left on_way (Brings d (others.items ++ object_of next ∷ [])) (Prepared d (others.items ++ object_of next ∷ []) self.new.manifest result) d self.old.vault self.new.vault) }
         ensures refused { IsRefusal result → BringsNothing V.disk V.count V.left self.old.vault self.new.vault }
+        ensures silent { V.disk self.old.vault ≡ None → V.disk self.new.vault ≡ None }
         ensures head { IfOk result (λ head. head ≡ head_with next size) }
         ensures ready { IfOk result (λ head. IsReady self.old next head self.new) }
         ensures published { IfOk result (λ head. published self.new ≡ published self.old) }

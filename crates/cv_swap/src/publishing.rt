@@ -1,5 +1,5 @@
 //! Revisions that come to the vault: first what they reach, then their head.
-ghost use Rattle.std.specs.Prelude.{◌≡◌, ℕ, List, None, Some, Err, OnOk, IsErrOf};
+ghost use Rattle.std.specs.Prelude.{◌≡◌, ℕ, List, None, Some, Err, IsErrOf};
 ghost use Rattle.cv_base.specs.Counts.{HasCause};
 ghost use Rattle.cv_base.specs.Told.{WhereTold};
 ghost use Rattle.cv_vault.specs.Names.{on_way};
@@ -32,7 +32,7 @@ pub fn prepare_on<V: Vault + Drop>(
     ensures walks { WhereTold (V.disk objects.old.vault) (λ d.
         Walks V.disk V.count V.left on_way (Brings d batch.now) (Prepared d batch.now manifest.now result) d objects.old.vault objects.new.vault) }
     ensures refused { IsRefusal result → BringsNothing V.disk V.count V.left objects.old.vault objects.new.vault }
-    ensures silent { OnOk result (V.disk objects.old.vault ≡ None → V.disk objects.new.vault ≡ None) }
+    ensures silent { V.disk objects.old.vault ≡ None → V.disk objects.new.vault ≡ None }
     ensures cause { HasCause (V.faults objects.old.vault) (V.faults objects.new.vault) (IsErrOf result fault.Failed) }
     ensures taken { objects.new.taken ≡ objects.old.taken }
 {
@@ -47,6 +47,7 @@ pub fn swap_on<V: Vault>(vault: &mut V) -> Result<(), VaultFault>
     ensures walks { WhereTold (V.disk vault.old) (λ d. (manifest : List ℕ) → IsWaiting head_way head_name manifest d
         → Walks V.disk V.count V.left on_way (ComesTo head_name (Some manifest)) (MovedIn d head_name manifest result) d vault.old vault.new) }
     ensures memory { result ≡ Err vault_fault.NoMemory → OnlyReads V.disk V.count V.left vault.old vault.new }
+    ensures silent { V.disk vault.old ≡ None → V.disk vault.new ≡ None }
     ensures cause { HasCause (V.faults vault.old) (V.faults vault.new) (IsErrOf result vault_fault.Failed) }
 {
     move_in(vault, HEAD_WAY, HEAD_NAME)
@@ -55,6 +56,7 @@ pub fn swap_on<V: Vault>(vault: &mut V) -> Result<(), VaultFault>
 /// Whether the manifest came to its name. It settles first.
 pub fn was_swapped<V: Vault>(vault: &mut V, manifest: &[u8]) -> Result<bool, VaultFault>
     ensures walks { WhereTold (V.disk vault.old) (λ d. Walks V.disk V.count V.left on_way Nothing (Found head_name manifest.now result) d vault.old vault.new) }
+    ensures silent { V.disk vault.old ≡ None → V.disk vault.new ≡ None }
     ensures cause { HasCause (V.faults vault.old) (V.faults vault.new) (IsErrOf result vault_fault.Failed) }
 {
     is_sure(vault, HEAD_NAME, manifest)

@@ -45,5 +45,17 @@ returns-in_err-bring-clause-refused g c = λ refusal d e.
 pub returns-clause-refused : goal.returns-clause-refused
 returns-clause-refused g c = λ refusal. absurd refusal
 
+pub returns-in_err-put-clause-silent : goal.returns-in_err-put-clause-silent
+returns-in_err-put-clause-silent g c = λ e. c.in_err-put.ensures.others.silent e
+
+pub returns-in_err-write-clause-silent : goal.returns-in_err-write-clause-silent
+returns-in_err-write-clause-silent g c = λ e. c.in_err-write.ensures.call.silent (c.in_ok-put.ensures.others.silent e)
+
+pub returns-in_err-bring-clause-silent : goal.returns-in_err-bring-clause-silent
+returns-in_err-bring-clause-silent g c = λ e. c.in_err-bring.ensures.others.silent (c.in_ok-write.ensures.call.silent (c.in_ok-put.ensures.others.silent e))
+
+pub returns-in_err-settle-clause-silent : goal.returns-in_err-settle-clause-silent
+returns-in_err-settle-clause-silent g c = λ e. c.in_err-settle.ensures.call.silent (c.in_ok-bring.ensures.others.silent (c.in_ok-write.ensures.call.silent (c.in_ok-put.ensures.others.silent e)))
+
 pub returns-clause-silent : goal.returns-clause-silent
 returns-clause-silent g c = λ e. c.in_ok-settle.ensures.call.silent (c.in_ok-bring.ensures.others.silent (c.in_ok-write.ensures.call.silent (c.in_ok-put.ensures.others.silent e)))
