@@ -32,6 +32,8 @@ use Rattle.cv_graft.specs.declared.grafted.Grafted.{Grafted}
 use Rattle.cv_graft.specs.declared.graft_fault.GraftFault.{GraftFault}
 use Rattle.cv_graft.specs.declared.graft_fault.GraftFault.TheVariants as fault
 use Rattle.cv_history.specs.declared.record.Record.{Record}
+use Rattle.cv_load.specs.NewFetches.{FetchesNew}
+use Rattle.cv_load.specs.declared.known_set.KnownSet.{KnownSet}
 use Rattle.cv_manifest.specs.declared.head.Head.{Head}
 use Rattle.cv_leases.specs.Leases.{IsTable, lease_of, without}
 use Rattle.cv_leases.specs.declared.lease.Lease.{Lease}
@@ -47,10 +49,11 @@ use Rattle.cv_swap.specs.declared.stage.Stage.TheVariants as stage
 use Rattle.cv_gate.specs.declared.reply.Reply.{Reply}
 use Rattle.cv_gate.specs.declared.reply.Reply.TheVariants as reply
 use Rattle.cv_desk.specs.Answers.{Tells}
+use Rattle.cv_desk.specs.Known.{KnowsOn}
 use Rattle.cv_desk.specs.Gate.{StateView, IsState, IsSameRepository}
 use Rattle.cv_desk.specs.Sending.{outcome_of, outcome_in}
 use Rattle.cv_desk.specs.Acting.{reply_of}
-use Rattle.cv_desk.specs.Committing.{FetchesAll, FetchesOffered, IsUnfit, outside, damaged, unfit, two, one, shares, fills, IsFit, next_record, objects_with, Readies, unmade, unprepared, prepared, Finishes, swaps, wavers, stays, opposition, CommitsUnder, opposed, readies}
+use Rattle.cv_desk.specs.Committing.{FetchesOffered, IsUnfit, outside, damaged, unfit, two, one, shares, fills, IsFit, next_record, objects_with, Readies, unmade, unprepared, prepared, Finishes, swaps, wavers, stays, opposition, CommitsUnder, opposed, readies}
 use Rattle.cv_desk.specs.declared.outcome.Outcome.{Outcome}
 use Rattle.cv_desk.proofs.States.{state_ended, state_same}
 use Rattle.cv_desk.proofs.CommitSteps.{found_has}
@@ -92,11 +95,11 @@ grafts_shown disk count left line judged reads root is offered path r x e told d
     (subst (λ h. TellsDamage (standing_on d) (IsOfEither (standing_on d) h offered path) r) same (told (standing_on d) (ap (option_map standing_on) (quiet_same reads.0 ∙ there))))
 
 -- and of how much was fetched for it
-pub grafts_fetched : {V S : Type 0} (disk : V → Option Disk) (count : V → ℕ) (left : V → ℕ → Files → Type 0) (line judged : LineView V S) → LineReads disk count left line judged → (root : List ℕ) → root ≡ judged.head.root
-    → (offered : List ℕ) (path : Path) (after : ℕ) → WhereTold (disk line.vault) (λ d. FetchesAll (standing_on d) offered line.taken judged.taken)
+pub grafts_fetched : {V S : Type 0} (disk : V → Option Disk) (count : V → ℕ) (left : V → ℕ → Files → Type 0) (known : KnownSet) (line judged : LineView V S) → LineReads disk count left line judged → (root : List ℕ) → root ≡ judged.head.root
+    → (offered : List ℕ) (path : Path) (after : ℕ) → WhereTold (disk line.vault) (λ d. FetchesNew (standing_on d) known offered line.taken judged.taken)
     → WhereTold (option_map standing_on (disk judged.vault)) (λ standing. (t n : Nodes) → Means standing root t → Means standing offered n → RaisedAtMost (length (cuts_above n path) + length (cuts_above t path)) judged.taken after)
-    → WhereTold (disk line.vault) (λ d. FetchesOffered (standing_on d) line.head.root offered path line.taken after)
-grafts_fetched disk count left line judged reads root is offered path after judges told = λ d there.
+    → WhereTold (disk line.vault) (λ d. FetchesOffered (standing_on d) known line.head.root offered path line.taken after)
+grafts_fetched disk count left known line judged reads root is offered path after judges told = λ d there.
     let same : line.head.root ≡ root = sym (is ∙ ap (λ (l : LineView _ _). l.head.root) reads.1) in (
       judged.taken,
       judges d there,
@@ -104,9 +107,9 @@ grafts_fetched disk count left line judged reads root is offered path after judg
     )
 
 -- where nothing is grafted nothing more is fetched
-pub judged_alone : {V S : Type 0} (disk : V → Option Disk) (line judged : LineView V S) (offered : List ℕ) (path : Path) → WhereTold (disk line.vault) (λ d. FetchesAll (standing_on d) offered line.taken judged.taken)
-    → WhereTold (disk line.vault) (λ d. FetchesOffered (standing_on d) line.head.root offered path line.taken judged.taken)
-judged_alone disk line judged offered path judges = λ d there. (judged.taken, judges d there, λ t n mt mn. (0, omega arith, refl))
+pub judged_alone : {V S : Type 0} (disk : V → Option Disk) (known : KnownSet) (line judged : LineView V S) (offered : List ℕ) (path : Path) → WhereTold (disk line.vault) (λ d. FetchesNew (standing_on d) known offered line.taken judged.taken)
+    → WhereTold (disk line.vault) (λ d. FetchesOffered (standing_on d) known line.head.root offered path line.taken judged.taken)
+judged_alone disk known line judged offered path judges = λ d there. (judged.taken, judges d there, λ t n mt mn. (0, omega arith, refl))
 
 pub graft_unfit : (shelf : Shelf) (newest offered : List ℕ) (path : Path) (f : GraftFault) (r : Reply) → Tells f r → IsGood shelf offered root_place
     → ((t n : Nodes) → Means shelf newest t → Means shelf offered n → has_place t path ≡ true → Grafts (replaced t n path) path (Err f)) → TellsDamage shelf (IsOfEither shelf newest offered path) {X = Grafted} (Err f) → IsUnfit shelf newest offered path r
@@ -120,9 +123,9 @@ graft_unfit shelf newest offered path fault.NoMemory r e is grafts shown = outsi
 
 -- ---- a revision is prepared
 
-module _ {V S : Type 0} (disk : V → Option Disk) (count : V → ℕ) (left : V → ℕ → Files → Type 0) (is_seal : S → List ℕ → List ℕ → Bool) (lease : Lease) (key : List ℕ) (moment : ℕ) (offered tag : List ℕ) (l read l' : LineView V S)
+module _ {V S : Type 0} (disk : V → Option Disk) (count : V → ℕ) (left : V → ℕ → Files → Type 0) (is_seal : S → List ℕ → List ℕ → Bool) (known : KnownSet) (lease : Lease) (key : List ℕ) (moment : ℕ) (offered tag : List ℕ) (l read l' : LineView V S)
     (g : Grafted) (head : Head) (next : Record) (others : List Object) (reads : LineReads disk count left l read) (same_head : head ≡ l.head) (is : next ≡ next_record head lease key moment g offered tag) (added : others ≡ g.added)
-    (fetches : WhereTold (disk l.vault) (λ d. FetchesOffered (standing_on d) l.head.root offered lease.path l.taken read.taken)) (fit : WhereTold (disk l.vault) (λ d. IsFit (standing_on d) l.head.root offered lease.path g)) where
+    (fetches : WhereTold (disk l.vault) (λ d. FetchesOffered (standing_on d) known l.head.root offered lease.path l.taken read.taken)) (fit : WhereTold (disk l.vault) (λ d. IsFit (standing_on d) l.head.root offered lease.path g)) where
   record_is : next ≡ next_record l.head lease key moment g offered tag
   record_is = is ∙ ap (λ (h : Head). next_record h lease key moment g offered tag) same_head
 
@@ -133,38 +136,38 @@ module _ {V S : Type 0} (disk : V → Option Disk) (count : V → ℕ) (left : V
   With batch r = WhereTold (disk read.vault) (λ d. Walks disk count left on_way (Brings d batch) (Prepared d batch l'.manifest r) d read.vault l'.vault)
 
   pub readied : (r : Result Head StoreFault) (h : Head) → r ≡ Ok h → IfOk r (λ x. x ≡ head_with next g.size) → IfOk r (λ x. IsReady read next x l') → IfOk r (λ x. published l' ≡ published read)
-      → IfOk r (λ x. Publishes read.name (is_seal read.signer) (Some l'.manifest) x) → With (others ++ object_of next ∷ []) r → Readies disk count left is_seal lease key moment offered tag l l' (Ok h)
+      → IfOk r (λ x. Publishes read.name (is_seal read.signer) (Some l'.manifest) x) → With (others ++ object_of next ∷ []) r → Readies disk count left is_seal known lease key moment offered tag l l' (Ok h)
   readied r h e heads ready kept says walks =
       let to : next ≡ next_record l.head lease key moment g offered tag = record_is in
       let size : h ≡ head_with (next_record l.head lease key moment g offered tag) g.size = if_ok (λ x. x ≡ head_with next g.size) r h e heads ∙ ap (λ (x : Record). head_with x g.size) to in
       let said : Publishes l.name (is_seal l.signer) (Some l'.manifest) h =
       subst (λ (x : LineView V S). Publishes x.name (is_seal x.signer) (Some l'.manifest) h) reads.1 (if_ok (λ x. Publishes read.name (is_seal read.signer) (Some l'.manifest) x) r h e says) in
-      subst (λ x. Readies disk count left is_seal lease key moment offered tag l l' (Ok x)) (sym size) (prepared read g reads fetches fit
+      subst (λ x. Readies disk count left is_seal known lease key moment offered tag l l' (Ok x)) (sym size) (prepared read g reads fetches fit
       (if_ok (λ x. published l' ≡ published read) r h e kept ∙ ap (λ (x : LineView V S). published x) reads.1)
       (subst (λ x. IsReady read (next_record l.head lease key moment g offered tag) x l') size (subst (λ (x : Record). IsReady read x h l') to (if_ok (λ x. IsReady read next x l') r h e ready)))
       (subst (λ x. Publishes l.name (is_seal l.signer) (Some l'.manifest) x) size said)
       (subst (λ b. With b (Ok (head_with (next_record l.head lease key moment g offered tag) g.size))) batch_is (subst (With (others ++ object_of next ∷ [])) (e ∙ ap Ok size) walks)))
 
   pub refused : (r : Result Head StoreFault) (f : StoreFault) → r ≡ Err f → IsDropped read l' → HasOwnIds g.added → With (others ++ object_of next ∷ []) r → (a : Reply) → a ≡ reply_of (outcome_of f)
-      → Readies disk count left is_seal lease key moment offered tag l l' (Err a)
-  refused r f e dropped own walks a told = subst (λ x. Readies disk count left is_seal lease key moment offered tag l l' (Err x)) (sym told)
+      → Readies disk count left is_seal known lease key moment offered tag l l' (Err a)
+  refused r f e dropped own walks a told = subst (λ x. Readies disk count left is_seal known lease key moment offered tag l l' (Err x)) (sym told)
       (unprepared read g f reads fetches fit dropped (named_more g.added (object_of (next_record l.head lease key moment g offered tag)) (record { each = own.each }) refl)
       (subst (λ b. With b (Err f)) batch_is (subst (With (others ++ object_of next ∷ [])) e walks)))
 
 -- the line is of the same repository, whatever was answered
-pub readies_same : {V S : Type 0} (disk : V → Option Disk) (count : V → ℕ) (left : V → ℕ → Files → Type 0) (is_seal : S → List ℕ → List ℕ → Bool) (lease : Lease) (key : List ℕ) (moment : ℕ) (offered tag : List ℕ) (l l' : LineView V S)
-    (r : Result Head Reply) → Readies disk count left is_seal lease key moment offered tag l l' r → IsSameRepository l l'
-readies_same disk count left is_seal lease key moment offered tag l l' _ (unmade r kind reads fetches why) = record {
+pub readies_same : {V S : Type 0} (disk : V → Option Disk) (count : V → ℕ) (left : V → ℕ → Files → Type 0) (is_seal : S → List ℕ → List ℕ → Bool) (known : KnownSet) (lease : Lease) (key : List ℕ) (moment : ℕ) (offered tag : List ℕ) (l l' : LineView V S)
+    (r : Result Head Reply) → Readies disk count left is_seal known lease key moment offered tag l l' r → IsSameRepository l l'
+readies_same disk count left is_seal known lease key moment offered tag l l' _ (unmade r kind reads fetches why) = record {
   name_ = ap (λ (x : LineView _ _). x.name) reads.1;
   signer_ = ap (λ (x : LineView _ _). x.signer) reads.1;
   epoch_ = ap (λ (x : LineView _ _). x.epoch) reads.1;
 }
-readies_same disk count left is_seal lease key moment offered tag l l' _ (unprepared read g f reads fetches fit dropped named w) = record {
+readies_same disk count left is_seal known lease key moment offered tag l l' _ (unprepared read g f reads fetches fit dropped named w) = record {
   name_ = dropped.others.name_ ∙ ap (λ (x : LineView _ _). x.name) reads.1;
   signer_ = dropped.others.signer_ ∙ ap (λ (x : LineView _ _). x.signer) reads.1;
   epoch_ = dropped.others.epoch_ ∙ ap (λ (x : LineView _ _). x.epoch) reads.1;
 }
-readies_same disk count left is_seal lease key moment offered tag l l' _ (prepared read g reads fetches fit records ready says w) = record {
+readies_same disk count left is_seal known lease key moment offered tag l l' _ (prepared read g reads fetches fit records ready says w) = record {
   name_ = ready.others.name_ ∙ ap (λ (x : LineView _ _). x.name) reads.1;
   signer_ = ready.others.signer_ ∙ ap (λ (x : LineView _ _). x.signer) reads.1;
   epoch_ = ready.others.epoch_ ∙ ap (λ (x : LineView _ _). x.epoch) reads.1;
@@ -179,12 +182,18 @@ found_unmarked leases token lease table found = found_has (λ l. ends_in marker 
 pub state_ended_over : {V S : Type 0} (s s' : StateView V S) → IsState s → (token : Token) → s'.leases ≡ without token s.leases → s'.moment ≡ s.moment → s'.next ≡ s.next → s'.line.epoch ≡ s.line.epoch → IsState s'
 state_ended_over s s' h token leases moment next epoch = state_same (record s { leases = without token s.leases }) s' (state_ended s (record s { leases = without token s.leases }) h token refl) leases moment next epoch
 
+-- a head that doesn't come leaves the epoch
+pub epoch_kept : {V S : Type 0} (line l : LineView V S) (r : Result (Unit {0}) VaultFault) (f : VaultFault) → r ≡ Err f → (r ≡ Err vault.Failed → l ≡ record line { vault = l.vault; stage = stage.Doubtful }) → (r ≡ Err vault.NoMemory → l ≡ record line { vault = l.vault })
+    → l.epoch ≡ line.epoch
+epoch_kept line l r vault.Failed e failed lacking = ap (λ (x : LineView _ _). x.epoch) (failed e)
+epoch_kept line l r vault.NoMemory e failed lacking = ap (λ (x : LineView _ _). x.epoch) (lacking e)
+
 -- ---- a state as the body has it
 
-module _ {V S : Type 0} (disk : V → Option Disk) (count : V → ℕ) (left : V → ℕ → Files → Type 0) (is_seal : S → List ℕ → List ℕ → Bool) (s : StateView V S) (line : LineView V S) (leases : List Lease) (moment next : ℕ)
-    (is : record { line = line; leases = leases; moment = moment; next = next } ≡ s) where
+module _ {V S : Type 0} (disk : V → Option Disk) (count : V → ℕ) (left : V → ℕ → Files → Type 0) (is_seal : S → List ℕ → List ℕ → Bool) (s : StateView V S) (line : LineView V S) (leases : List Lease) (moment next : ℕ) (known : KnownSet)
+    (is : record { line = line; leases = leases; moment = moment; next = next; known = known } ≡ s) where
   abbrev over : LineView V S → List Lease → StateView V S
-  over l ls = record { line = l; leases = ls; moment = moment; next = next }
+  over l ls = record { line = l; leases = ls; moment = moment; next = next; known = known }
 
   -- the head is swapped in, or isn't
   module _ (token : Token) (l : LineView V S) where
@@ -220,5 +229,6 @@ module _ {V S : Type 0} (disk : V → Option Disk) (count : V → ℕ) (left : V
     pub opposes : (o : Outcome) (r : Reply) → r ≡ reply_of o → opposition line mine.from_revision old_root tag ≡ Some o → Under (Err r) s
     opposes o r told why = subst (λ (y : StateView V S). Under (Err r) y) is (under (Err r) (over line leases) (opposed o why (ap Err told) refl))
 
-    pub made_ready : (l : LineView V S) (r : Result Head Reply) → opposition line mine.from_revision old_root tag ≡ None → Readies disk count left is_seal mine key moment offered tag line l r → Under r (over l leases)
-    made_ready l r none got = under r (over l leases) (readies l none got refl)
+    pub made_ready : (l : LineView V S) (more : KnownSet) (r : Result Head Reply) → opposition line mine.from_revision old_root tag ≡ None → Readies disk count left is_seal known mine key moment offered tag line l r
+        → KnowsOn disk line.vault known offered r more → Under r (record (over l leases) { known = more })
+    made_ready l more r none got knows = under r (record (over l leases) { known = more }) (readies l more none got knows refl)

@@ -16,6 +16,7 @@ use Rattle.cv_cut.specs.declared.load_fault.LoadFault.TheVariants as load
 use Rattle.cv_graft.specs.declared.graft_fault.GraftFault.{GraftFault}
 use Rattle.cv_graft.specs.declared.graft_fault.GraftFault.TheVariants as graft
 use Rattle.cv_history.specs.declared.record.Record.{Record}
+use Rattle.cv_load.specs.declared.known_set.KnownSet.{KnownSet}
 use Rattle.cv_manifest.specs.declared.head.Head.{Head}
 use Rattle.cv_leases.specs.Leases.{lease_of, without}
 use Rattle.cv_leases.specs.declared.lease.Lease.{Lease}
@@ -36,6 +37,7 @@ use Rattle.cv_gate.specs.declared.op.Op.{Op}
 use Rattle.cv_gate.specs.declared.op.Op.TheVariants as op
 use Rattle.cv_gate.specs.declared.reply.Reply.{Reply}
 use Rattle.cv_gate.specs.declared.reply.Reply.TheVariants as reply
+use Rattle.cv_desk.specs.Known.{KnowsOn}
 use Rattle.cv_desk.specs.Gate.{StateView, ShowsDamage, IsExact}
 use Rattle.cv_desk.specs.Sending.{outcome_of}
 use Rattle.cv_desk.specs.Views.{aged_view}
@@ -119,9 +121,9 @@ unmade_told (graft.Damaged id found) r e = ap is_unmade e
 unmade_told graft.NoMemory r e = ap is_unmade e
 
 module _ {V S : Type 0} (disk : V → Option Disk) (count : V → ℕ) (left : V → ℕ → Files → Type 0) (is_seal : S → List ℕ → List ℕ → Bool) where
-  readies_shows : (lease : Lease) (key : List ℕ) (moment : ℕ) (offered tag : List ℕ) (l l' : LineView V S) (r : Reply) → Readies disk count left is_seal lease key moment offered tag l l' (Err r) → ShowsDamage disk l.vault r
-  readies_shows lease key moment offered tag l l' r (unmade _ kind reads fetches why) = wherever_told disk l.vault r (λ d told. unfit_shows disk l.vault d told l.head.root offered lease.path r (why d told))
-  readies_shows lease key moment offered tag l l' _ (unprepared read g x reads fetches fit dropped named w) = wherever_told disk l.vault (reply_of (outcome_of x)) (λ d told.
+  readies_shows : (known : KnownSet) (lease : Lease) (key : List ℕ) (moment : ℕ) (offered tag : List ℕ) (l l' : LineView V S) (r : Reply) → Readies disk count left is_seal known lease key moment offered tag l l' (Err r) → ShowsDamage disk l.vault r
+  readies_shows known lease key moment offered tag l l' r (unmade _ kind reads fetches why) = wherever_told disk l.vault r (λ d told. unfit_shows disk l.vault d told l.head.root offered lease.path r (why d told))
+  readies_shows known lease key moment offered tag l l' _ (unprepared read g x reads fetches fit dropped named w) = wherever_told disk l.vault (reply_of (outcome_of x)) (λ d told.
       let walks = w d (quiet_same reads.0 ∙ told) in refused_shows disk l.vault d told _ l'.manifest x walks.end named walks.is)
 
   -- what the op comes to, where the stage is another
@@ -137,9 +139,9 @@ module _ {V S : Type 0} (disk : V → Option Disk) (count : V → ℕ) (left : V
 
     module _ (lease : Lease) (free : refusal_on (lease_of token s.leases) key ≡ None) (live : lease_of token s.leases ≡ Some lease) (none : opposition s.line lease.from_revision old_root tag ≡ None) where
       -- nothing was published, and the new stage isn't that of a doubt
-      left_calm : (l : LineView V S) (r : Reply) → Readies disk count left is_seal lease key s.moment offered tag s.line l (Err r) → is_unmade r ≡ true → published l ≡ published s.line → l.head ≡ s.line.head → l.stage ≢ stage.Doubtful → after ≡ record s { line = l } → At key token old_root offered tag now before after r
-      left_calm l r got kind records head settled same = λ calm. record {
-        ends = unpublished lease l (Err r) free live none got (refl, same) kind (record {
+      left_calm : (l : LineView V S) (more : KnownSet) (r : Reply) → Readies disk count left is_seal s.known lease key s.moment offered tag s.line l (Err r) → KnowsOn {X = Head} disk s.line.vault s.known offered (Err r) more → is_unmade r ≡ true → published l ≡ published s.line → l.head ≡ s.line.head → l.stage ≢ stage.Doubtful → after ≡ record s { line = l; known = more } → At key token old_root offered tag now before after r
+      left_calm l more r got knows kind records head settled same = λ calm. record {
+        ends = unpublished lease l more (Err r) free live none got knows (refl, same) kind (record {
           records = ap (λ (x : StateView V S). published x.line) same ∙ records;
           head = ap (λ (x : StateView V S). x.line.head) same ∙ head;
           leases = ap (λ (x : StateView V S). x.leases) same;
@@ -149,24 +151,25 @@ module _ {V S : Type 0} (disk : V → Option Disk) (count : V → ℕ) (left : V
         doubt = λ is_now. absurd (settled (sym (ap (λ (x : StateView V S). x.line.stage) same) ∙ is_now));
       }
 
-      stopped_exact : (l : LineView V S) (r : Reply) → Readies disk count left is_seal lease key s.moment offered tag s.line l (Err r) → after ≡ record s { line = l } → At key token old_root offered tag now before after r
-      stopped_exact l r (unmade _ kind reads fetches why) same = λ calm. left_calm l r (unmade r kind reads fetches why) kind (ap (λ (x : LineView V S). published x) reads.1) (ap (λ (x : LineView V S). x.head) reads.1)
+      stopped_exact : (l : LineView V S) (more : KnownSet) (r : Reply) → Readies disk count left is_seal s.known lease key s.moment offered tag s.line l (Err r) → KnowsOn {X = Head} disk s.line.vault s.known offered (Err r) more → after ≡ record s { line = l; known = more } → At key token old_root offered tag now before after r
+      stopped_exact l more r (unmade _ kind reads fetches why) knows same = λ calm. left_calm l more r (unmade r kind reads fetches why) knows kind (ap (λ (x : LineView V S). published x) reads.1) (ap (λ (x : LineView V S). x.head) reads.1)
           (λ is_now. calm (sym (ap (λ (x : LineView V S). x.stage) reads.1) ∙ is_now)) same calm
-      stopped_exact l _ (unprepared read g x reads fetches fit dropped named w) same = λ calm. left_calm l (reply_of (outcome_of x)) (unprepared read g x reads fetches fit dropped named w) (unmade_of x) (dropped.published_ ∙ ap (λ (x : LineView V S). published x) reads.1)
+      stopped_exact l more _ (unprepared read g x reads fetches fit dropped named w) knows same = λ calm. left_calm l more (reply_of (outcome_of x)) (unprepared read g x reads fetches fit dropped named w) knows (unmade_of x) (dropped.published_ ∙ ap (λ (x : LineView V S). published x) reads.1)
           (dropped.others.head_ ∙ ap (λ (x : LineView V S). x.head) reads.1) (λ is_now. (let c = dropped.stage in cc)) same calm
 
       -- it is ready
-      ready_waits : (l : LineView V S) (h : Head) → Readies disk count left is_seal lease key s.moment offered tag s.line l (Ok h) → after ≡ record s { line = l } → CommitWaits disk count left is_seal key token old_root offered tag s after
-      ready_waits l _ (prepared read g reads fetches fit records ready_ says w) same = record {
+      ready_waits : (l : LineView V S) (more : KnownSet) (h : Head) → Readies disk count left is_seal s.known lease key s.moment offered tag s.line l (Ok h) → KnowsOn disk s.line.vault s.known offered (Ok h) more → after ≡ record s { line = l; known = more } → CommitWaits disk count left is_seal key token old_root offered tag s after
+      ready_waits l more _ (prepared read g reads fetches fit records ready_ says w) knows same = record {
         lease = lease;
         grafted = g;
         free = free;
         live = live;
         unopposed = none;
         fit = fit;
-        readies = subst (λ (x : LineView V S). Readies disk count left is_seal lease key s.moment offered tag s.line x (Ok (head_with (next_record s.line.head lease key s.moment g offered tag) g.size)))
+        readies = subst (λ (x : LineView V S). Readies disk count left is_seal s.known lease key s.moment offered tag s.line x (Ok (head_with (next_record s.line.head lease key s.moment g offered tag) g.size)))
             (sym (ap (λ (x : StateView V S). x.line) same)) (prepared read g reads fetches fit records ready_ says w);
-        others = same ∙ ap (λ (x : LineView V S). record s { line = x }) (sym (ap (λ (x : StateView V S). x.line) same));
+        knows = subst (λ (x : KnownSet). KnowsOn {X = Head} disk s.line.vault s.known offered (Ok (head_with (next_record s.line.head lease key s.moment g offered tag) g.size)) x) (sym (ap (λ (x : StateView V S). x.known) same)) knows;
+        others = same ∙ (λ i. record s { line = (sym same i).line; known = (sym same i).known });
         unpublished = record {
           records = ap (λ (x : StateView V S). published x.line) same ∙ records;
           head = ap (λ (x : StateView V S). x.line.head) same ∙ ready_.others.head_ ∙ ap (λ (x : LineView V S). x.head) reads.1;
@@ -179,22 +182,22 @@ module _ {V S : Type 0} (disk : V → Option Disk) (count : V → ℕ) (left : V
       }
 
     -- the stage and the head of a line that is ready
-    ready_stage : (lease : Lease) (l : LineView V S) (h : Head) → Readies disk count left is_seal lease key s.moment offered tag s.line l (Ok h) → (l.stage ≡ stage.Ready) × (h ≡ l.next_head)
+    ready_stage : (lease : Lease) (l : LineView V S) (h : Head) → Readies disk count left is_seal s.known lease key s.moment offered tag s.line l (Ok h) → (l.stage ≡ stage.Ready) × (h ≡ l.next_head)
     ready_stage lease l _ (prepared read g reads fetches fit records ready_ says w) = (ready_.stage, sym ready_.next_head)
 
     -- nothing that isn't ready comes to be in doubt, or is said to be made
-    stopped_calm : (lease : Lease) (l : LineView V S) (r : Reply) → Readies disk count left is_seal lease key s.moment offered tag s.line l (Err r) → before.line.stage ≢ stage.Doubtful → l.stage ≢ stage.Doubtful
+    stopped_calm : (lease : Lease) (l : LineView V S) (r : Reply) → Readies disk count left is_seal s.known lease key s.moment offered tag s.line l (Err r) → before.line.stage ≢ stage.Doubtful → l.stage ≢ stage.Doubtful
     stopped_calm lease l r (unmade _ kind reads fetches why) calm = λ is_now. calm (sym (ap (λ (x : LineView V S). x.stage) reads.1) ∙ is_now)
     stopped_calm lease l _ (unprepared read g x reads fetches fit dropped named w) calm = λ is_now. (let c = dropped.stage in cc)
 
-    stopped_unmade : (lease : Lease) (l : LineView V S) (r : Reply) → Readies disk count left is_seal lease key s.moment offered tag s.line l (Err r) → is_committed r ≡ false
+    stopped_unmade : (lease : Lease) (l : LineView V S) (r : Reply) → Readies disk count left is_seal s.known lease key s.moment offered tag s.line l (Err r) → is_committed r ≡ false
     stopped_unmade lease l r (unmade _ kind reads fetches why) = unmade_uncommitted r kind
     stopped_unmade lease l _ (unprepared read g x reads fetches fit dropped named w) = unmade_uncommitted (reply_of (outcome_of x)) (unmade_of x)
 
     under_exact : (lease : Lease) (r : Reply) → refusal_on (lease_of token s.leases) key ≡ None → lease_of token s.leases ≡ Some lease → CommitsUnder disk count left is_seal lease key old_root offered tag s (Err r) after
         → At key token old_root offered tag now before after r
     under_exact lease r free live (opposed why is e same) = as_before r (commit_opposed lease why free live is (err_is _ refl e) same) (ap (λ (x : StateView V S). x.line.stage) same)
-    under_exact lease r free live (readies l none got same) = stopped_exact lease free live none l r got same
+    under_exact lease r free live (readies l more none got knows same) = stopped_exact lease free live none l more r got knows same
 
     asked_exact : (r : Reply) → AsksCommit disk count left is_seal key token old_root offered tag s (Err r) after → At key token old_root offered tag now before after r
     asked_exact r (not_own why is e same) = as_before r (commit_refused why is (err_is _ refl e) same) (ap (λ (x : StateView V S). x.line.stage) same)
@@ -202,7 +205,7 @@ module _ {V S : Type 0} (disk : V → Option Disk) (count : V → ℕ) (left : V
 
     under_calm : (lease : Lease) (r : Reply) → CommitsUnder disk count left is_seal lease key old_root offered tag s (Err r) after → before.line.stage ≢ stage.Doubtful → after.line.stage ≢ stage.Doubtful
     under_calm lease r (opposed why is e same) calm = λ is_now. calm (sym (ap (λ (x : StateView V S). x.line.stage) same) ∙ is_now)
-    under_calm lease r (readies l none got same) calm = λ is_now. stopped_calm lease l r got calm (sym (ap (λ (x : StateView V S). x.line.stage) same) ∙ is_now)
+    under_calm lease r (readies l more none got knows same) calm = λ is_now. stopped_calm lease l r got calm (sym (ap (λ (x : StateView V S). x.line.stage) same) ∙ is_now)
 
     pub asked_calm : (r : Reply) → AsksCommit disk count left is_seal key token old_root offered tag s (Err r) after → before.line.stage ≢ stage.Doubtful → after.line.stage ≢ stage.Doubtful
     asked_calm r (not_own why is e same) calm = λ is_now. calm (sym (ap (λ (x : StateView V S). x.line.stage) same) ∙ is_now)
@@ -210,7 +213,7 @@ module _ {V S : Type 0} (disk : V → Option Disk) (count : V → ℕ) (left : V
 
     under_unmade : (lease : Lease) (r : Reply) → CommitsUnder disk count left is_seal lease key old_root offered tag s (Err r) after → is_committed r ≡ false
     under_unmade lease r (opposed why is e same) = subst (λ x. is_committed x ≡ false) (sym (err_is _ refl e)) (opposition_uncommitted s.line.head.revision (published s.line) lease.from_revision old_root tag why is)
-    under_unmade lease r (readies l none got same) = stopped_unmade lease l r got
+    under_unmade lease r (readies l more none got knows same) = stopped_unmade lease l r got
 
     pub asked_unmade : (r : Reply) → AsksCommit disk count left is_seal key token old_root offered tag s (Err r) after → is_committed r ≡ false
     asked_unmade r (not_own why is e same) = subst (λ x. is_committed x ≡ false) (sym (err_is _ refl e)) (end_uncommitted (lease_of token s.leases) key why is)
@@ -219,7 +222,7 @@ module _ {V S : Type 0} (disk : V → Option Disk) (count : V → ℕ) (left : V
     under_waits : (lease : Lease) (h : Head) → refusal_on (lease_of token s.leases) key ≡ None → lease_of token s.leases ≡ Some lease → CommitsUnder disk count left is_seal lease key old_root offered tag s (Ok h) after
         → CommitWaits disk count left is_seal key token old_root offered tag s after
     under_waits lease h free live (opposed why is e same) = absurd (ok_no_err _ refl e)
-    under_waits lease h free live (readies l none got same) = ready_waits lease free live none l h got same
+    under_waits lease h free live (readies l more none got knows same) = ready_waits lease free live none l more h got knows same
 
     pub asked_waits : (h : Head) → AsksCommit disk count left is_seal key token old_root offered tag s (Ok h) after → CommitWaits disk count left is_seal key token old_root offered tag s after
     asked_waits h (not_own why is e same) = absurd (ok_no_err _ refl e)
@@ -227,7 +230,7 @@ module _ {V S : Type 0} (disk : V → Option Disk) (count : V → ℕ) (left : V
 
     under_stage : (lease : Lease) (h : Head) → CommitsUnder disk count left is_seal lease key old_root offered tag s (Ok h) after → (after.line.stage ≡ stage.Ready) × (h ≡ after.line.next_head)
     under_stage lease h (opposed why is e same) = absurd (ok_no_err _ refl e)
-    under_stage lease h (readies l none got same) =
+    under_stage lease h (readies l more none got knows same) =
         let is = ready_stage lease l h got in
         (ap (λ (x : StateView V S). x.line.stage) same ∙ is.0, is.1 ∙ sym (ap (λ (x : StateView V S). x.line.next_head) same))
 
@@ -241,7 +244,7 @@ module _ {V S : Type 0} (disk : V → Option Disk) (count : V → ℕ) (left : V
     where
       under : (lease : Lease) → CommitsUnder disk count left is_seal lease key old_root offered tag (aged_view before now) (Err r) after → ShowsDamage disk before.line.vault r
       under lease (opposed why is e same) = subst (ShowsDamage disk before.line.vault) (sym (err_is _ refl e)) (by_plain disk before.line.vault why (plain_opposition before.line.head.revision _ lease.from_revision old_root tag why is))
-      under lease (readies l none got same) = readies_shows lease key (aged_view before now).moment offered tag before.line l r got
+      under lease (readies l more none got knows same) = readies_shows before.known lease key (aged_view before now).moment offered tag before.line l r got
 
       by : AsksCommit disk count left is_seal key token old_root offered tag (aged_view before now) (Err r) after → ShowsDamage disk before.line.vault r
       by (not_own why is e same) = subst (ShowsDamage disk before.line.vault) (sym (err_is _ refl e)) (by_plain disk before.line.vault why (plain_end (lease_of token (aged_view before now).leases) key why is))
@@ -281,18 +284,19 @@ module _ {V S : Type 0} (disk : V → Option Disk) (count : V → ℕ) (left : V
 
   -- its head didn't come
   failed : Finishes disk count left token mid r after → is_unmade r ≡ true → IsUnpublished from after → CommitEnds disk count left is_seal key t old_root offered tag from r after
-  failed finishes kind left_so = unpublished c.lease mid.line (Ok (head_with new c.grafted.size)) c.free c.live c.unopposed c.readies
+  failed finishes kind left_so = unpublished c.lease mid.line mid.known (Ok (head_with new c.grafted.size)) c.free c.live c.unopposed c.readies c.knows
       (subst (λ (x : StateView V S). Finishes disk count left t x r after) c.others (subst (λ x. Finishes disk count left x mid r after) same_token finishes)) kind left_so
 
   pub finished_exact : Finishes disk count left token mid r after → IsExact disk count left is_seal (op.Commit key t old_root offered tag) now a r before after
   finished_exact (swaps moves is same) = record {
-    ends = commit_published c.lease c.grafted mid.line c.free c.live c.unopposed c.fit c.readies moves (is ∙ (λ i. reply.Committed (c.next_head i).revision (c.next_head i).root)) (record {
-      records = ap (λ (y : StateView V S). published y.line) same ∙ all_taken (mid.line.made + 1) mid.line.all counted ∙ c.all;
-      head = ap (λ (y : StateView V S). y.line.head) same ∙ c.next_head;
-      leases = ap (λ (y : StateView V S). y.leases) same ∙ (λ i. without (ended_token i) (c.unpublished.leases i));
-      moment = ap (λ (y : StateView V S). y.moment) same ∙ c.unpublished.moment;
-      next = ap (λ (y : StateView V S). y.next) same ∙ c.unpublished.next;
-    });
+    ends = commit_published c.lease c.grafted mid.line c.free c.live c.unopposed c.fit c.readies
+        (subst (λ (x : KnownSet). KnowsOn {X = Head} disk from.line.vault from.known offered (Ok (head_with new c.grafted.size)) x) (sym (ap (λ (y : StateView V S). y.known) same)) c.knows) moves (is ∙ (λ i. reply.Committed (c.next_head i).revision (c.next_head i).root)) (record {
+          records = ap (λ (y : StateView V S). published y.line) same ∙ all_taken (mid.line.made + 1) mid.line.all counted ∙ c.all;
+          head = ap (λ (y : StateView V S). y.line.head) same ∙ c.next_head;
+          leases = ap (λ (y : StateView V S). y.leases) same ∙ (λ i. without (ended_token i) (c.unpublished.leases i));
+          moment = ap (λ (y : StateView V S). y.moment) same ∙ c.unpublished.moment;
+          next = ap (λ (y : StateView V S). y.next) same ∙ c.unpublished.next;
+        });
     doubt = λ is_now. (let k : after.line.stage ≡ stage.Calm = ap (λ (y : StateView V S). y.line.stage) same in cc);
   }
   finished_exact (wavers moves is same) = record {

@@ -11,7 +11,6 @@ use Rattle.cv_base.specs.declared.token.Token.{Token}
 use Rattle.cv_ports.specs.Shelf.{Shelf}
 use Rattle.cv_vault.specs.Names.{on_way}
 use Rattle.cv_vault.specs.Disk.{Disk, Files, ImageOf}
-use Rattle.cv_vault.specs.Moments.{OnlyReads}
 use Rattle.cv_vault.specs.Walks.{Walks}
 use Rattle.cv_vault.proofs.Laws.{looser, quiet_same}
 use Rattle.cv_tree.specs.Changes.{has_place}
@@ -53,6 +52,7 @@ use Rattle.cv_desk.proofs.Asking.{leases_aged, moment_aged, has_room, looked, un
 use Rattle.cv_desk.proofs.Bringing.{AreSame, are_same, brings_same, prepared_same, Comes, fails, clashes, none_clashes_of}
 use Rattle.cv_desk.proofs.CommitEnds.{holds_a, stopped_does, gets_ready}
 use Rattle.cv_desk.proofs.Holding.{shelf_stands}
+use Rattle.cv_desk.proofs.Learning.{does_knowing, gets_knowing}
 use Rattle.cv_desk.proofs.Imaging.{settled_itself}
 use Rattle.cv_desk.proofs.Offering.{unfit_step, meant, new, grafts, record_is, head_is_of, fit_step, passes}
 use Rattle.cv_desk.proofs.Opposing.{IsUnopposed, unopposed, opposed as opposed_step}
@@ -205,17 +205,13 @@ module _ {V S : Type 0} (disk : V → Option Disk) (count : V → ℕ) (left : V
 
       -- ---- whatever comes of bringing it
 
-      stopped_all : (l : LineView V S) (r : Reply) → Readies disk count left is_seal lease key aged_before.moment offered tag before.line l (Err r) → after ≡ record aged_before { line = l } → e.reply ≡ r
-          → Does disk count left is_seal o e before after st
-      stopped_all l _ (unmade r kind reads fetches unfit) same replied = looked disk count left is_seal before after only room st none stands e o noted (inr (subst (λ x. CommitStep a key token old_root offered tag x a) (sym replied) (on_lease r a (unfit_in r (unfit d stands.told)))))
-          (record {
-            reads = subst (λ (x : StateView V S). OnlyReads disk count left before.line.vault x.line.vault) (sym same) reads.0;
-            others = same ∙ ap (λ (x : LineView V S). record aged_before { line = x }) (reads.1 ∙ (λ i. record before.line { vault = (sym same i).line.vault; taken = (sym same i).line.taken }));
-          })
-      stopped_all l _ (unprepared read g fault reads fetches fit dropped named w) same replied = subst (λ (x : StateView V S). Does disk count left is_seal o e before x st) (sym same)
-          (stopped g (fit_in g (fit d stands.told)) read l reads fault dropped replied (w d (quiet_same reads.0 ∙ stands.told)))
+      stopped_all : (l : LineView V S) (r : Reply) → Readies disk count left is_seal before.known lease key aged_before.moment offered tag before.line l (Err r) → e.reply ≡ r
+          → Does disk count left is_seal o e before (record aged_before { line = l }) st
+      stopped_all l _ (unmade r kind reads fetches unfit) replied = looked disk count left is_seal before (record aged_before { line = l }) only room st none stands e o noted (inr (subst (λ x. CommitStep a key token old_root offered tag x a) (sym replied) (on_lease r a (unfit_in r (unfit d stands.told)))))
+          (record { reads = reads.0; others = ap (λ (x : LineView V S). record aged_before { line = x }) reads.1 })
+      stopped_all l _ (unprepared read g fault reads fetches fit dropped named w) replied = stopped g (fit_in g (fit d stands.told)) read l reads fault dropped replied (w d (quiet_same reads.0 ∙ stands.told))
 
-      ready_all : (l : LineView V S) (h : Head) → Readies disk count left is_seal lease key aged_before.moment offered tag before.line l (Ok h) → GetsReady disk count left is_seal o e.now token before (record aged_before { line = l }) st
+      ready_all : (l : LineView V S) (h : Head) → Readies disk count left is_seal before.known lease key aged_before.moment offered tag before.line l (Ok h) → GetsReady disk count left is_seal o e.now token before (record aged_before { line = l }) st
       ready_all l _ (prepared read g reads fetches fit same_records readied says w) = gets g (fit_in g (fit d stands.told)) read l reads same_records readied says (w d (quiet_same reads.0 ∙ stands.told))
 
     under_does : (r : Reply) → CommitsUnder disk count left is_seal lease key old_root offered tag aged_before (Err r) after → e.reply ≡ r → Does disk count left is_seal o e before after st
@@ -224,12 +220,13 @@ module _ {V S : Type 0} (disk : V → Option Disk) (count : V → ℕ) (left : V
         untouched disk count left is_seal before after only room st none stands e o noted
         (inr (subst (λ x. CommitStep a key token old_root offered tag x a) (sym (replied ∙ told)) (on_lease (reply_of why) a
         (opposed_step a head newest_.1 lease key token old_root offered tag why (opposition_is lease.from_revision (Some why) is))))) same
-    under_does r (readies l is got same) replied = stopped_all (unopposed st.history head lease.from_revision old_root tag (opposition_is lease.from_revision None is)) l r got same replied
+    under_does r (readies l more is got knows same) replied = subst (λ (x : StateView V S). Does disk count left is_seal o e before x st) (sym same)
+        (does_knowing disk count left is_seal o e before (record aged_before { line = l }) st more (stopped_all (unopposed st.history head lease.from_revision old_root tag (opposition_is lease.from_revision None is)) l r got replied))
 
     under_gets : (h : Head) → CommitsUnder disk count left is_seal lease key old_root offered tag aged_before (Ok h) after → GetsReady disk count left is_seal o e.now token before after st
     under_gets h (opposed why is told _) = absurd (ok_no_err _ refl told)
-    under_gets h (readies l is got same) = subst (λ (x : StateView V S). GetsReady disk count left is_seal o e.now token before x st) (sym same)
-        (ready_all (unopposed st.history head lease.from_revision old_root tag (opposition_is lease.from_revision None is)) l h got)
+    under_gets h (readies l more is got knows same) = subst (λ (x : StateView V S). GetsReady disk count left is_seal o e.now token before x st) (sym same)
+        (gets_knowing disk count left is_seal o e.now token before (record aged_before { line = l }) st more (ready_all (unopposed st.history head lease.from_revision old_root tag (opposition_is lease.from_revision None is)) l h got))
 
   -- ---- whoever asks
 

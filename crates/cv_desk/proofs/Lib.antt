@@ -1,4 +1,6 @@
 mod Names
+mod Knowing
+mod Learning
 mod Imaging
 mod Holding
 mod Sending

@@ -1,5 +1,5 @@
 -- A gate that was opened stands for what was kept, opened once more.
-use Rattle.std.proofs.Common.{◌≡◌, ◌+◌, Bool, ℕ, List, [], length, refl, sym, ap, subst, ◌∙◌, arith, inl}
+use Rattle.std.proofs.Common.{◌≡◌, ◌+◌, Bool, false, ℕ, List, [], length, refl, sym, ap, subst, ◌∙◌, arith, inl}
 use Rattle.std.specs.Prelude.{IfSome}
 use Rattle.std.specs.declared.result.Result.TheVariants.{Ok}
 use Rattle.std.specs.declared.option.Option.{Option}
@@ -7,7 +7,10 @@ use Rattle.std.specs.declared.option.Option.TheVariants.{None, Some}
 use Rattle.cv_base.specs.ObjectId.{file_name}
 use Rattle.cv_base.specs.Digest.{IsDigest}
 use Rattle.cv_base.specs.declared.id.ObjectId.{ObjectId}
+use Rattle.cv_base.specs.Path.{Path}
 use Rattle.cv_vault.specs.Disk.{Disk, Files, May, Image, IsCalm, files_now}
+use Rattle.cv_load.specs.Known.{is_known}
+use Rattle.cv_load.specs.declared.known_set.KnownSet.{KnownSet}
 use Rattle.cv_swap.specs.Kept.{Kept, Revision, raised, head_of}
 use Rattle.cv_swap.specs.Line.{LineView, LineOpens, IsOpenedLine}
 use Rattle.cv_swap.specs.Stands.{Stands, head_name, epoch_name}
@@ -75,9 +78,9 @@ KeepsKept = (name : List ℕ) (is_seal : List ℕ → List ℕ → Bool) (d d' :
 
 -- a gate over a line that was opened
 pub gate_opened : {V S : Type 0} (disk : V → Option Disk) (count : V → ℕ) (left : V → ℕ → Files → Type 0) (is_seal : S → List ℕ → List ℕ → Bool) (name : List ℕ) (signer : S) (d : Disk) (v : V) (l : LineView V S) → FindsKept → KeepsKept
-    → LineOpens disk count left name (is_seal signer) d v (Ok l) → IsOpenedLine name signer l → (g : GateView V S) → g ≡ record { state = record { line = l; leases = []; moment = 0; next = 1 }; journal = []; ready = None }
+    → LineOpens disk count left name (is_seal signer) d v (Ok l) → IsOpenedLine name signer l → (known : KnownSet) (g : GateView V S) → g ≡ record { state = record { line = l; leases = []; moment = 0; next = 1; known = known }; journal = []; ready = None }
     → OpensGate disk count left name is_seal signer d v g
-gate_opened {V} {S} disk count left is_seal name signer d v l finds keeps o line g is = subst (OpensGate disk count left name is_seal signer d v) (sym is) (record {
+gate_opened {V} {S} disk count left is_seal name signer d v l finds keeps o line known g is = subst (OpensGate disk count left name is_seal signer d v) (sym is) (record {
   found = o.0;
   opens = o.1;
   records = o.2;
@@ -85,12 +88,13 @@ gate_opened {V} {S} disk count left is_seal name signer d v l finds keeps o line
   epoch = o.4;
   stands = λ k kept.
       let found : IsFound l.name (is_seal l.signer) (files_now d) o.0 = subst (λ n. IsFound n (is_seal l.signer) (files_now d) o.0) (sym line.named) (subst (λ s. IsFound name (is_seal s) (files_now d) o.0) (sym line.signed) o.1.finds) in
-      open_stands disk is_seal (record { line = l; leases = []; moment = 0; next = 1 }) d o.1.end k o.0 o.1.told kept found (finds l.name (is_seal l.signer) (files_now d) k o.0 kept found)
+      open_stands disk is_seal (record { line = l; leases = []; moment = 0; next = 1; known = known }) d o.1.end k o.0 o.1.told kept found (finds l.name (is_seal l.signer) (files_now d) k o.0 kept found)
       (keeps l.name (is_seal l.signer) d o.1.end k o.0 kept found o.1.opened) o.1.opened.sure.calm o.2 line.made o.3 o.4 line.stage refl refl refl;
 })
 
-pub gate_new : {V S : Type 0} (name : List ℕ) (signer : S) (l : LineView V S) → IsOpenedLine name signer l → (g : GateView V S) → g ≡ record { state = record { line = l; leases = []; moment = 0; next = 1 }; journal = []; ready = None } → IsNew name signer g
-gate_new name signer l line g is = subst (IsNew name signer) (sym is) (record {
+pub gate_new : {V S : Type 0} (name : List ℕ) (signer : S) (l : LineView V S) → IsOpenedLine name signer l → (known : KnownSet) → ((hash : List ℕ) (path : Path) → is_known known hash path ≡ false)
+    → (g : GateView V S) → g ≡ record { state = record { line = l; leases = []; moment = 0; next = 1; known = known }; journal = []; ready = None } → IsNew name signer g
+gate_new name signer l line known none g is = subst (IsNew name signer) (sym is) (record {
   named = line.named;
   signed = line.signed;
   leases = refl;
@@ -98,5 +102,6 @@ gate_new name signer l line g is = subst (IsNew name signer) (sym is) (record {
   next = refl;
   journal = refl;
   idle = refl;
+  unknown = none;
   calm = λ e. (let c = line.stage in let k = sym c ∙ e in cc);
 })

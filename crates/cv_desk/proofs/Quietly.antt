@@ -60,7 +60,7 @@ module _ {V S : Type 0} (disk : V → Option Disk) (count : V → ℕ) (left : V
   step = record { noted = noted; next = room; does = inr (record { settled = st; settles = settled_itself st none; acts = acts }) }
 
   abbrev mid : StateView V S
-  mid = record { line = record before.line { vault = after.line.vault; taken = after.line.taken }; leases = leases; moment = max before.moment e.now; next = number }
+  mid = record { line = record before.line { vault = after.line.vault; taken = after.line.taken }; leases = leases; moment = max before.moment e.now; next = number; known = after.known }
 
   mid_stands : StandsFor disk is_seal mid next
   mid_stands = record {
@@ -78,7 +78,7 @@ module _ {V S : Type 0} (disk : V → Option Disk) (count : V → ℕ) (left : V
   }
 
   after_is : mid ≡ after
-  after_is = λ i. record { line = sym line i; leases = sym leases_are i; moment = sym moment i; next = sym next_is i }
+  after_is = λ i. record { line = sym line i; leases = sym leases_are i; moment = sym moment i; next = sym next_is i; known = after.known }
 
   abbrev pending : Pending
   pending = record { op = o; now = e.now }

@@ -11,6 +11,7 @@ use Rattle.cv_vault.specs.Walks.{Walks, Nothing}
 use Rattle.cv_vault.specs.declared.vault.VaultFault.{VaultFault}
 use Rattle.cv_leases.specs.declared.lease.Lease.{Lease}
 use Rattle.cv_history.specs.declared.record.Record.{Record}
+use Rattle.cv_load.specs.declared.known_set.KnownSet.{KnownSet}
 use Rattle.cv_swap.specs.Line.{LineView, swapped, published}
 use Rattle.cv_swap.specs.Stands.{head_name}
 use Rattle.cv_swap.specs.declared.stage.Stage.TheVariants as stage
@@ -20,11 +21,11 @@ use Rattle.cv_desk.specs.Acting.{Settles}
 use Rattle.cv_desk.specs.Resuming.{ended, newest_token, token_in, Resumes, came, lost, Awaits}
 use Rattle.cv_desk.proofs.Settling.{settles_failed, settles_unmade, settles_made}
 
-module _ {V S : Type 0} (disk : V → Option Disk) (count : V → ℕ) (left : V → ℕ → Files → Type 0) (is_seal : S → List ℕ → List ℕ → Bool) (s : StateView V S) (line : LineView V S) (leases : List Lease) (moment next : ℕ)
-    (is : record { line = line; leases = leases; moment = moment; next = next } ≡ s) (doubtful : line.stage ≡ stage.Doubtful) (l : LineView V S) (r : Result Bool VaultFault)
+module _ {V S : Type 0} (disk : V → Option Disk) (count : V → ℕ) (left : V → ℕ → Files → Type 0) (is_seal : S → List ℕ → List ℕ → Bool) (s : StateView V S) (line : LineView V S) (leases : List Lease) (moment next : ℕ) (known : KnownSet)
+    (is : record { line = line; leases = leases; moment = moment; next = next; known = known } ≡ s) (doubtful : line.stage ≡ stage.Doubtful) (l : LineView V S) (r : Result Bool VaultFault)
     (walks : WhereTold (disk line.vault) (λ d. Walks disk count left on_way Nothing (Found head_name line.manifest r) d line.vault l.vault)) where
   abbrev over : LineView V S → StateView V S
-  over x = record { line = x; leases = leases; moment = moment; next = next }
+  over x = record { line = x; leases = leases; moment = moment; next = next; known = known }
 
   answered : (x : Result Bool VaultFault) → r ≡ x → WhereTold (disk line.vault) (λ d. Walks disk count left on_way Nothing (Found head_name line.manifest x) d line.vault l.vault)
   answered x e = λ d told. subst (λ (x : Result Bool VaultFault). Walks disk count left on_way Nothing (Found head_name line.manifest x) d line.vault l.vault) e (walks d told)

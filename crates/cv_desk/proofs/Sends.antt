@@ -11,6 +11,7 @@ use Rattle.cv_vault.specs.Names.{on_way}
 use Rattle.cv_vault.specs.Disk.{Disk, Files}
 use Rattle.cv_vault.specs.Walks.{Walks, Nothing}
 use Rattle.cv_leases.specs.declared.lease.Lease.{Lease}
+use Rattle.cv_load.specs.declared.known_set.KnownSet.{KnownSet}
 use Rattle.cv_objects.specs.Batches.{Brings, GivesFresh, Stored}
 use Rattle.cv_objects.specs.declared.store_fault.StoreFault.{StoreFault}
 use Rattle.cv_objects.specs.declared.store_fault.StoreFault.TheVariants as fault
@@ -35,10 +36,10 @@ pub sending_by : (fresh : List ObjectId) (stored : Result (Unit {0}) StoreFault)
 sending_by fresh (Ok done) = refl
 sending_by fresh (Err x) = sending_of x
 
-module _ {V S : Type 0} (disk : V → Option Disk) (count : V → ℕ) (left : V → ℕ → Files → Type 0) (batch : List Object) (s : StateView V S) (line : LineView V S) (leases : List Lease) (moment next : ℕ)
-    (is : record { line = line; leases = leases; moment = moment; next = next } ≡ s) where
+module _ {V S : Type 0} (disk : V → Option Disk) (count : V → ℕ) (left : V → ℕ → Files → Type 0) (batch : List Object) (s : StateView V S) (line : LineView V S) (leases : List Lease) (moment next : ℕ) (known : KnownSet)
+    (is : record { line = line; leases = leases; moment = moment; next = next; known = known } ≡ s) where
   abbrev over : LineView V S → StateView V S
-  over l = record { line = l; leases = leases; moment = moment; next = next }
+  over l = record { line = l; leases = leases; moment = moment; next = next; known = known }
 
   sends_any : (l : LineView V S) → l ≡ record line { vault = l.vault } → (o : Outcome) (fresh : List ObjectId)
       → WhereTold (disk line.vault) (λ d. Walks disk count left on_way (Brings d batch) (IsSent d batch o fresh) d line.vault l.vault) → Sends disk count left batch s o fresh (over l)

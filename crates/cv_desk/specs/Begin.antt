@@ -29,6 +29,7 @@ use Rattle.cv_gate.specs.declared.reply.Reply.TheVariants as reply
 use Rattle.cv_desk.specs.Holds.{IsHeadOf, Survives}
 use Rattle.cv_desk.specs.Gate.{StateView, GateView, StandsFor, IsSameRepository, IsCommit, Does, Steps}
 use Rattle.cv_desk.specs.Views.{aged_view}
+use Rattle.cv_desk.specs.Known.{KnowsOn}
 use Rattle.cv_desk.specs.Resuming.{Resumes}
 use Rattle.cv_desk.specs.Refusals.{refusal_on, opposition}
 use Rattle.cv_desk.specs.Ends.{next_record, IsUnpublished}
@@ -78,8 +79,9 @@ pub record CommitWaits {V S : Type 0} (disk : V → Option Disk) (count : V → 
   pub live : lease_of token s.leases ≡ Some lease
   pub unopposed : opposition s.line lease.from_revision old_root tag ≡ None
   pub fit : WhereTold (disk s.line.vault) (λ d. IsFit (standing_on d) s.line.head.root offered lease.path grafted)
-  pub readies : Readies disk count left is_seal lease key s.moment offered tag s.line s'.line (Ok (head_with (next_record s.line.head lease key s.moment grafted offered tag) grafted.size))
-  pub others : s' ≡ record s { line = s'.line }
+  pub readies : Readies disk count left is_seal s.known lease key s.moment offered tag s.line s'.line (Ok (head_with (next_record s.line.head lease key s.moment grafted offered tag) grafted.size))
+  pub knows : KnowsOn {X = Head} disk s.line.vault s.known offered (Ok (head_with (next_record s.line.head lease key s.moment grafted offered tag) grafted.size)) s'.known
+  pub others : s' ≡ record s { line = s'.line; known = s'.known }
   pub unpublished : IsUnpublished s s'
   pub all : s'.line.all ≡ published s.line ++ next_record s.line.head lease key s.moment grafted offered tag ∷ []
   pub next_head : s'.line.next_head ≡ head_with (next_record s.line.head lease key s.moment grafted offered tag) grafted.size

@@ -1,5 +1,5 @@
 -- What a commit does inside a step.
-use Rattle.std.specs.Prelude.{◌≡◌, ◌+◌, ℕ, Bool, true, false, List, [], ◌∷◌, ◌++◌, length}
+use Rattle.std.specs.Prelude.{◌≡◌, ◌+◌, ℕ, Bool, true, List, [], ◌∷◌, ◌++◌, length}
 use Rattle.std.specs.declared.option.Option.{Option}
 use Rattle.std.specs.declared.option.Option.TheVariants.{None, Some}
 use Rattle.std.specs.declared.result.Result.{Result}
@@ -27,7 +27,6 @@ use Rattle.cv_cut.specs.Opening.{HasOtherDigest, MayFail}
 use Rattle.cv_cut.specs.Reached.{root_place}
 use Rattle.cv_cut.specs.declared.load_fault.LoadFault.{LoadFault}
 use Rattle.cv_cut.specs.declared.load_fault.LoadFault.TheVariants as load
-use Rattle.cv_load.specs.Known.{is_known}
 use Rattle.cv_load.specs.NewFetches.{FetchesNew}
 use Rattle.cv_load.specs.declared.known_set.KnownSet.{KnownSet}
 use Rattle.cv_graft.specs.Graft.{Grafts}
@@ -49,6 +48,7 @@ use Rattle.cv_gate.specs.Step.{IsFault}
 use Rattle.cv_gate.specs.declared.reply.Reply.{Reply}
 use Rattle.cv_gate.specs.declared.reply.Reply.TheVariants as reply
 use Rattle.cv_desk.specs.Views.{StateView}
+use Rattle.cv_desk.specs.Known.{KnowsOn}
 use Rattle.cv_desk.specs.Sending.{outcome_of}
 pub use Rattle.cv_desk.specs.Ends.{next_record}
 use Rattle.cv_desk.specs.Ends.{IsUnpublished, IsPublished}
@@ -100,13 +100,11 @@ abbrev pub GraftsOffered : Shelf → List ℕ → List ℕ → Path → Result G
 GraftsOffered shelf newest offered path (Ok g) = IsFit shelf newest offered path g
 GraftsOffered shelf newest offered path (Err r) = IsUnfit shelf newest offered path r
 
--- what was fetched to judge the offered root: each catalogue that is reached from it, at each place once
-abbrev pub FetchesAll : Shelf → List ℕ → ℕ → ℕ → Type 0
-FetchesAll shelf offered before after = (known : KnownSet) × ((hash : List ℕ) (path : Path) → is_known known hash path ≡ false) × FetchesNew shelf known offered before after
-
--- and then to graft it: where both roots mean trees, no more than the catalogues properly above the path in the one and in the other
-abbrev pub FetchesOffered : Shelf → List ℕ → List ℕ → Path → ℕ → ℕ → Type 0
-FetchesOffered shelf newest offered path before after = (judged : ℕ) × FetchesAll shelf offered before judged
+-- What was fetched to judge the offered root: of the catalogues that are reached from it through unknown ones, no two at one path; nothing
+-- where it is known. And then to graft it: where both roots mean trees, no more than the catalogues properly above the path in the one and
+-- in the other.
+abbrev pub FetchesOffered : Shelf → KnownSet → List ℕ → List ℕ → Path → ℕ → ℕ → Type 0
+FetchesOffered shelf known newest offered path before after = (judged : ℕ) × FetchesNew shelf known offered before judged
     × ((t n : Nodes) → Means shelf newest t → Means shelf offered n → RaisedAtMost (length (cuts_above n path) + length (cuts_above t path)) judged after)
 
 -- ---- the new revision
@@ -135,28 +133,28 @@ module _ {V S : Type 0} (disk : V → Option Disk) (count : V → ℕ) (left : V
 
 module _ {V S : Type 0} (disk : V → Option Disk) (count : V → ℕ) (left : V → ℕ → Files → Type 0) (is_seal : S → List ℕ → List ℕ → Bool) where
   -- all of a revision but its head is brought to the vault, by what is known of the offered tree; or why it isn't
-  pub data Readies (lease : Lease) (key : List ℕ) (moment : ℕ) (offered tag : List ℕ) (l l' : LineView V S) : Result Head Reply → Type 0 where
-    unmade : (r : Reply) → is_unmade r ≡ true → LineReads disk count left l l' → WhereTold (disk l.vault) (λ d. FetchesOffered (standing_on d) l.head.root offered lease.path l.taken l'.taken)
-        → WhereTold (disk l.vault) (λ d. IsUnfit (standing_on d) l.head.root offered lease.path r) → Readies lease key moment offered tag l l' (Err r)
-    unprepared : (looked : LineView V S) (g : Grafted) (fault : StoreFault) → LineReads disk count left l looked → WhereTold (disk l.vault) (λ d. FetchesOffered (standing_on d) l.head.root offered lease.path l.taken looked.taken)
+  pub data Readies (known : KnownSet) (lease : Lease) (key : List ℕ) (moment : ℕ) (offered tag : List ℕ) (l l' : LineView V S) : Result Head Reply → Type 0 where
+    unmade : (r : Reply) → is_unmade r ≡ true → LineReads disk count left l l' → WhereTold (disk l.vault) (λ d. FetchesOffered (standing_on d) known l.head.root offered lease.path l.taken l'.taken)
+        → WhereTold (disk l.vault) (λ d. IsUnfit (standing_on d) l.head.root offered lease.path r) → Readies known lease key moment offered tag l l' (Err r)
+    unprepared : (looked : LineView V S) (g : Grafted) (fault : StoreFault) → LineReads disk count left l looked → WhereTold (disk l.vault) (λ d. FetchesOffered (standing_on d) known l.head.root offered lease.path l.taken looked.taken)
         → WhereTold (disk l.vault) (λ d. IsFit (standing_on d) l.head.root offered lease.path g) → IsDropped looked l'
         → AreNamed (objects_with g (next_record l.head lease key moment g offered tag))
         → WhereTold (disk looked.vault) (λ d. Walks disk count left on_way (Brings d (objects_with g (next_record l.head lease key moment g offered tag)))
         (Prepared d (objects_with g (next_record l.head lease key moment g offered tag)) l'.manifest {X = Head} (Err fault)) d looked.vault l'.vault)
-        → Readies lease key moment offered tag l l' (Err (reply_of (outcome_of fault)))
-    prepared : (looked : LineView V S) (g : Grafted) → LineReads disk count left l looked → WhereTold (disk l.vault) (λ d. FetchesOffered (standing_on d) l.head.root offered lease.path l.taken looked.taken)
+        → Readies known lease key moment offered tag l l' (Err (reply_of (outcome_of fault)))
+    prepared : (looked : LineView V S) (g : Grafted) → LineReads disk count left l looked → WhereTold (disk l.vault) (λ d. FetchesOffered (standing_on d) known l.head.root offered lease.path l.taken looked.taken)
         → WhereTold (disk l.vault) (λ d. IsFit (standing_on d) l.head.root offered lease.path g)
         → published l' ≡ published l → IsReady looked (next_record l.head lease key moment g offered tag) (head_with (next_record l.head lease key moment g offered tag) g.size) l'
         → Publishes l.name (is_seal l.signer) (Some l'.manifest) (head_with (next_record l.head lease key moment g offered tag) g.size)
         → WhereTold (disk looked.vault) (λ d. Walks disk count left on_way (Brings d (objects_with g (next_record l.head lease key moment g offered tag)))
         (Prepared d (objects_with g (next_record l.head lease key moment g offered tag)) l'.manifest {X = Head} (Ok (head_with (next_record l.head lease key moment g offered tag) g.size))) d looked.vault l'.vault)
-        → Readies lease key moment offered tag l l' (Ok (head_with (next_record l.head lease key moment g offered tag) g.size))
+        → Readies known lease key moment offered tag l l' (Ok (head_with (next_record l.head lease key moment g offered tag) g.size))
 
   -- what comes of a commit under a lease: it is opposed, or made ready or not
   pub data CommitsUnder (lease : Lease) (key old_root offered tag : List ℕ) (s : StateView V S) (r : Result Head Reply) (s' : StateView V S) : Type 0 where
     opposed : (o : Outcome) → opposition s.line lease.from_revision old_root tag ≡ Some o → r ≡ Err (reply_of o) → s' ≡ s → CommitsUnder lease key old_root offered tag s r s'
-    readies : (l : LineView V S) → opposition s.line lease.from_revision old_root tag ≡ None → Readies lease key s.moment offered tag s.line l r
-        → s' ≡ record s { line = l } → CommitsUnder lease key old_root offered tag s r s'
+    readies : (l : LineView V S) (more : KnownSet) → opposition s.line lease.from_revision old_root tag ≡ None → Readies s.known lease key s.moment offered tag s.line l r
+        → KnowsOn disk s.line.vault s.known offered r more → s' ≡ record s { line = l; known = more } → CommitsUnder lease key old_root offered tag s r s'
 
   -- what comes of asking for a commit
   pub data AsksCommit (key : List ℕ) (token : Token) (old_root offered tag : List ℕ) (s : StateView V S) (r : Result Head Reply) (s' : StateView V S) : Type 0 where
@@ -175,10 +173,12 @@ module _ {V S : Type 0} (disk : V → Option Disk) (count : V → ℕ) (left : V
     commit_refused : (o : Outcome) → refusal_on (lease_of token s.leases) key ≡ Some o → r ≡ reply_of o → s' ≡ s → CommitEnds key token old_root offered tag s r s'
     commit_opposed : (lease : Lease) (o : Outcome) → refusal_on (lease_of token s.leases) key ≡ None → lease_of token s.leases ≡ Some lease
         → opposition s.line lease.from_revision old_root tag ≡ Some o → r ≡ reply_of o → s' ≡ s → CommitEnds key token old_root offered tag s r s'
-    unpublished : (lease : Lease) (l : LineView V S) (x : Result Head Reply) → refusal_on (lease_of token s.leases) key ≡ None → lease_of token s.leases ≡ Some lease
-        → opposition s.line lease.from_revision old_root tag ≡ None → Readies lease key s.moment offered tag s.line l x → Fails token (record s { line = l }) x r s'
+    unpublished : (lease : Lease) (l : LineView V S) (more : KnownSet) (x : Result Head Reply) → refusal_on (lease_of token s.leases) key ≡ None → lease_of token s.leases ≡ Some lease
+        → opposition s.line lease.from_revision old_root tag ≡ None → Readies s.known lease key s.moment offered tag s.line l x
+        → KnowsOn disk s.line.vault s.known offered x more → Fails token (record s { line = l; known = more }) x r s'
         → is_unmade r ≡ true → IsUnpublished s s' → CommitEnds key token old_root offered tag s r s'
     commit_published : (lease : Lease) (g : Grafted) (l : LineView V S) → refusal_on (lease_of token s.leases) key ≡ None → lease_of token s.leases ≡ Some lease
         → opposition s.line lease.from_revision old_root tag ≡ None → WhereTold (disk s.line.vault) (λ d. IsFit (standing_on d) s.line.head.root offered lease.path g)
-        → Readies lease key s.moment offered tag s.line l (Ok (head_with (next_record s.line.head lease key s.moment g offered tag) g.size)) → Swaps disk count left l s'.line.vault (Ok tt)
+        → Readies s.known lease key s.moment offered tag s.line l (Ok (head_with (next_record s.line.head lease key s.moment g offered tag) g.size))
+        → KnowsOn {X = Head} disk s.line.vault s.known offered (Ok (head_with (next_record s.line.head lease key s.moment g offered tag) g.size)) s'.known → Swaps disk count left l s'.line.vault (Ok tt)
         → r ≡ reply.Committed (s.line.head.revision + 1) g.root.hash → IsPublished (next_record s.line.head lease key s.moment g offered tag) g.size s s' → CommitEnds key token old_root offered tag s r s'

@@ -4,12 +4,14 @@ use Rattle.std.specs.declared.option.Option.{Option}
 use Rattle.std.specs.declared.option.Option.TheVariants.{None, Some}
 use Rattle.std.specs.declared.result.Result.{Result}
 use Rattle.std.specs.declared.result.Result.TheVariants.{Ok, Err}
+use Rattle.cv_base.specs.Path.{Path}
 use Rattle.cv_base.specs.Told.{WhereTold}
 use Rattle.cv_vault.specs.Disk.{Disk, File, Files, May, files_now}
 use Rattle.cv_vault.specs.Moments.{LeavesOnly}
 use Rattle.cv_vault.specs.declared.vault.VaultFault.{VaultFault}
 use Rattle.cv_cut.specs.Opening.{HasOtherDigest}
 use Rattle.cv_objects.specs.Names.{standing_on}
+use Rattle.cv_load.specs.Known.{is_known}
 use Rattle.cv_swap.specs.Kept.{Kept, Revision, newest, records_of, head_of}
 use Rattle.cv_swap.specs.Line.{LineView, published}
 use Rattle.cv_swap.specs.Opening.{Opens}
@@ -93,7 +95,7 @@ pub record IsSameRepository {V S : Type 0} (before after : LineView V S) : Type 
   pub signer_ : after.signer ≡ before.signer
   pub epoch_ : after.epoch ≡ before.epoch
 
--- it begins without leases, with an empty journal, and without a commit that is in doubt or ready
+-- it begins without leases, with an empty journal, without a commit that is in doubt or ready, and knows no catalogue
 pub record IsNew {V S : Type 0} (name : List ℕ) (signer : S) (g : GateView V S) : Type 0 where
   pub named : g.state.line.name ≡ name
   pub signed : g.state.line.signer ≡ signer
@@ -103,6 +105,7 @@ pub record IsNew {V S : Type 0} (name : List ℕ) (signer : S) (g : GateView V S
   pub journal : g.journal ≡ []
   pub calm : g.state.line.stage ≢ stage.Doubtful
   pub idle : g.ready ≡ None
+  pub unknown : (hash : List ℕ) (path : Path) → is_known g.state.known hash path ≡ false
 
 -- the files were opened with what was found: the gate has its records and its head, in the epoch behind it; and where the files stood for
 -- what is kept, the gate stands for it, opened once more

@@ -1,4 +1,5 @@
 pub mod Views
+pub mod Known
 pub mod Refusals
 pub mod Ends
 pub mod Holds

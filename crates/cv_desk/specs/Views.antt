@@ -5,6 +5,7 @@ use Rattle.cv_base.specs.Path.{Path}
 use Rattle.cv_base.specs.declared.token.Token.{Token}
 use Rattle.cv_leases.specs.Leases.{unexpired}
 use Rattle.cv_leases.specs.declared.lease.Lease.{Lease}
+use Rattle.cv_load.specs.declared.known_set.KnownSet.{KnownSet}
 use Rattle.cv_swap.specs.Line.{LineView}
 use Rattle.cv_gate.specs.Passing.{lease_time}
 use Rattle.cv_gate.specs.declared.entry.Entry.{Entry}
@@ -16,6 +17,8 @@ pub record StateView (V S : Type 0) : Type 0 where
   pub leases : List Lease
   pub moment : ℕ
   pub next : ℕ
+  -- the catalogues that were found whole, with their paths
+  pub known : KnownSet
 
 -- the state, the journal, and the commit that is ready, if one is
 pub record GateView (V S : Type 0) : Type 0 where

@@ -1,5 +1,5 @@
 //! Commits.
-ghost use Rattle.std.specs.Prelude.{◌≡◌, ◌≢◌, ◌<◌, ◌^◌, true, false, IfOk, IfErr, Err, bytes_eq, option_copied};
+ghost use Rattle.std.specs.Prelude.{◌≡◌, ◌≢◌, ◌⊎◌, ◌<◌, ◌^◌, ℕ, List, true, false, IfOk, IfErr, OnOk, Err, bytes_eq, option_copied};
 ghost use Rattle.std.specs.List.{find};
 ghost use Rattle.cv_base.specs.Counts.{HasCause};
 ghost use Rattle.cv_base.specs.Told.{WhereTold};
@@ -13,7 +13,11 @@ ghost use Rattle.cv_gate.specs.Step.{is_key_id, is_tag};
 ghost use Rattle.cv_gate.specs.declared.reply.Reply.TheVariants as replies;
 ghost use Rattle.cv_swap.specs.Line.{published, LineReads};
 ghost use Rattle.cv_desk.specs.Refusals.{reply_of, is_unmade};
-ghost use Rattle.cv_desk.specs.Committing.{has_base, holder_of, taken_by, opposition, outcome_at, Offers, GraftsOffered, FetchesAll, FetchesOffered, next_record, Readies};
+ghost use Rattle.cv_base.specs.Path.{Path};
+ghost use Rattle.cv_load.specs.Known.{is_known, HasPair};
+ghost use Rattle.cv_load.specs.NewFetches.{FetchesNew};
+ghost use Rattle.cv_desk.specs.Known.{KnowsWhole, KnowsOn, Remembers, Learns};
+ghost use Rattle.cv_desk.specs.Committing.{has_base, holder_of, taken_by, opposition, outcome_at, Offers, GraftsOffered, FetchesOffered, next_record, Readies};
 ghost use Rattle.cv_desk.specs.declared.outcome.Outcome.TheVariants as outcomes;
 
 use crate::answer::Answer;
@@ -82,22 +86,41 @@ pub(crate) fn opposition<V: Vault + Drop, S: Signer + Drop>(
     taken_by(line.records(), tag)
 }
 
-/// Judges the offered root: all that it reaches is there, and each catalogue is one.
+/// Adds pairs of a catalogue's id and its path to the known ones.
+fn learn(alloc: Global, known: &mut KnownSet, pairs: &[(ObjectId, RepoPath)]) -> Result<(), Outcome>
+    ensures only { (h : List ℕ) (p : Path) → is_known known.new h p ≡ true → (is_known known.old h p ≡ true) ⊎ HasPair pairs.now h p }
+    ensures remembers { Remembers known.old known.new }
+    ensures added { OnOk result ((h : List ℕ) (p : Path) → HasPair pairs.now h p → is_known known.new h p ≡ true) }
+    ensures memory { IfErr result (λ o. o ≡ outcomes.NoMemory) }
+    ensures failed { result ≢ Err outcomes.StoreFailed }
+{
+    match known.add_all(alloc, pairs) {
+        Ok(()) => Ok(()),
+        Err(NoMemory) => Err(Outcome::NoMemory),
+    }
+}
+
+/// Judges the offered root: all that it reaches is there, and each catalogue is one. What stands below known catalogues
+/// isn't fetched, and those that were found whole are known then.
 fn judge<V: Vault + Drop, S: Signer + Drop>(
     alloc: Global,
     line: &mut Line<V, S>,
+    known: &mut KnownSet,
     offered: &ObjectId,
 ) -> Result<(), Outcome>
-    requires { offered.now.kind ≡ kinds.Catalogue }
+    requires kind { offered.now.kind ≡ kinds.Catalogue }
+    requires known { KnowsWhole V.disk line.old.vault known.old }
+    ensures known { KnowsWhole V.disk line.new.vault known.new }
+    ensures remembers { Remembers known.old known.new }
+    ensures learns { WhereTold (V.disk line.old.vault) (λ d. OnOk result (Learns (standing_on d) known.old offered.now.hash known.new)) }
     ensures offers { WhereTold (V.disk line.old.vault) (λ d. Offers (standing_on d) offered.now.hash result) }
     ensures kind { IfErr result (λ o. is_unmade (reply_of o) ≡ true) }
     ensures reads { LineReads V.disk V.count V.left line.old line.new }
-    ensures fetches { WhereTold (V.disk line.old.vault) (λ d. FetchesAll (standing_on d) offered.now.hash line.old.taken line.new.taken) }
+    ensures fetches { WhereTold (V.disk line.old.vault) (λ d. FetchesNew (standing_on d) known.old offered.now.hash line.old.taken line.new.taken) }
     ensures cause { HasCause (V.faults line.old.vault) (V.faults line.new.vault) (result ≡ Err outcomes.StoreFailed) }
 {
-    let known = KnownSet::new(alloc);
-    match whole(alloc, line, offered, &known) {
-        Ok(_pairs) => Ok(()),
+    match whole(alloc, line, offered, known) {
+        Ok(pairs) => learn(alloc, known, pairs.as_slice()),
         Err(fault) => Err(outcome_at(fault)),
     }
 }
@@ -119,20 +142,24 @@ fn outcome_at(fault: LoadFault) -> Outcome
 fn graft_offered<V: Vault + Drop, S: Signer + Drop>(
     alloc: Global,
     line: &mut Line<V, S>,
+    known: &mut KnownSet,
     offered: &ObjectId,
     path: &RepoPath,
 ) -> Result<Grafted, Answer>
     requires kind { offered.now.kind ≡ kinds.Catalogue }
     requires unmarked { ends_in marker path.now ≡ false }
+    requires known { KnowsWhole V.disk line.old.vault known.old }
+    ensures known { KnowsWhole V.disk line.new.vault known.new }
+    ensures knows { KnowsOn V.disk line.old.vault known.old offered.now.hash result known.new }
     ensures grafts { WhereTold (V.disk line.old.vault) (λ d. GraftsOffered (standing_on d) line.old.head.root offered.now.hash path.now result) }
     ensures kind { IfErr result (λ r. is_unmade r ≡ true) }
     ensures own { IfOk result (λ g. HasOwnIds g.added) }
     ensures reads { LineReads V.disk V.count V.left line.old line.new }
     ensures fetches { WhereTold (V.disk line.old.vault) (λ d.
-        FetchesOffered (standing_on d) line.old.head.root offered.now.hash path.now line.old.taken line.new.taken) }
+        FetchesOffered (standing_on d) known.old line.old.head.root offered.now.hash path.now line.old.taken line.new.taken) }
     ensures cause { HasCause (V.faults line.old.vault) (V.faults line.new.vault) (result ≡ Err replies.StoreFailed) }
 {
-    if let Err(outcome) = judge(alloc, line, offered) {
+    if let Err(outcome) = judge(alloc, line, known, offered) {
         return Err(Answer::of(outcome));
     }
     let hash = line.head().root;
@@ -189,6 +216,7 @@ fn next_record(
 pub(crate) fn ready<V: Vault + Drop, S: Signer + Drop>(
     alloc: Global,
     line: &mut Line<V, S>,
+    known: &mut KnownSet,
     lease: &Lease,
     key: &Text,
     moment: u64,
@@ -201,14 +229,17 @@ pub(crate) fn ready<V: Vault + Drop, S: Signer + Drop>(
     requires key { is_key_id key.now ≡ true }
     requires tag { is_tag tag.now ≡ true }
     requires moment { moment < 2 ^ 62 }
-    ensures readies { Readies V.disk V.count V.left S.is_seal lease.now key.now moment offered tag.now line.old line.new result }
+    requires known { KnowsWhole V.disk line.old.vault known.old }
+    ensures known { KnowsWhole V.disk line.new.vault known.new }
+    ensures knows { KnowsOn V.disk line.old.vault known.old offered result known.new }
+    ensures readies { Readies V.disk V.count V.left S.is_seal known.old lease.now key.now moment offered tag.now line.old line.new result }
     ensures cause { HasCause (V.faults line.old.vault) (V.faults line.new.vault) (result ≡ Err replies.StoreFailed) }
 {
     let id = ObjectId {
         hash: offered,
         kind: Kind::Catalogue,
     };
-    let grafted = match graft_offered(alloc, line, &id, &lease.path) {
+    let grafted = match graft_offered(alloc, line, known, &id, &lease.path) {
         Ok(grafted) => grafted,
         Err(answer) => return Err(answer),
     };

@@ -35,7 +35,7 @@ pub const JOURNAL_LIMIT: usize = 262_144;
 
 /// The gate of a repository: it grants and ends leases, stores objects and commits trees, one step after another, and keeps
 /// a journal of all that was asked of it. A step may be made in two calls: `begin` makes a commit ready, and `finish` ends it.
-/// Between them the gate is ready.
+/// Between them the gate is ready. Catalogues that it found whole for a commit aren't judged again for a later one.
 #[derive(Drop)]
 pub struct Gate<V: Vault + Drop, S: Signer + Drop> {
     alloc: Global,
@@ -48,8 +48,12 @@ impl<V: Vault + Drop, S: Signer + Drop> Model for Gate<V, S> {
     ghost use Rattle.std.specs.Prelude.{◌≤◌, vec_capacity};
     ghost use Rattle.cv_gate.specs.Desk.{journal_limit};
     ghost use Rattle.cv_desk.specs.Gate.{GateView, IsGate};
+    ghost use Rattle.std.specs.Coded.{codes};
+    ghost use Rattle.cv_load.specs.contracts.known_set.KnownSet as known_set;
 
     ghost Value = { GateView V S };
+
+    ghost coded = { Prim.hlevel (codes, known_set.the_row.coded, V.code, S.code) };
 
     ghost view = { λ g. record { state = g.state; journal = g.journal.items; ready = g.ready } };
 

@@ -1,7 +1,7 @@
 //! The state of the gate: all but its journal.
-ghost use Rattle.std.specs.Prelude.{◌≡◌, ◌≢◌, ◌≤◌, ◌<◌, ◌+◌, ◌^◌, [], true, max, None, Some, Err, Ok, IfOk, IfErr, IsErrOf, OnOk};
+ghost use Rattle.std.specs.Prelude.{◌≡◌, ◌≢◌, ◌≤◌, ◌<◌, ◌+◌, ◌^◌, ℕ, List, [], true, false, max, None, Some, Err, Ok, IfOk, IfErr, IsErrOf, OnOk};
 ghost use Rattle.cv_base.specs.Counts.{HasCause};
-ghost use Rattle.cv_base.specs.Path.{IsPath};
+ghost use Rattle.cv_base.specs.Path.{Path, IsPath};
 ghost use Rattle.cv_base.specs.Told.{WhereTold};
 ghost use Rattle.cv_ports.specs.Shelf.{Fetches, Suits};
 ghost use Rattle.cv_ports.specs.declared.shelf.ShelfFault.TheVariants as shelf_fault;
@@ -11,6 +11,7 @@ ghost use Rattle.cv_objects.specs.Batches.{AreNamed};
 ghost use Rattle.cv_gate.specs.declared.act.Act.TheVariants as acts;
 ghost use Rattle.cv_gate.specs.declared.op.Op.TheVariants as ops;
 ghost use Rattle.cv_leases.specs.Leases.{lease_of};
+ghost use Rattle.cv_load.specs.Known.{is_known};
 ghost use Rattle.cv_gate.specs.Lines.{lines_of};
 ghost use Rattle.cv_gate.specs.Step.{IsOp, is_key_id, is_tag};
 ghost use Rattle.cv_swap.specs.Line.{published};
@@ -35,6 +36,7 @@ use cv_gate::{Act, LeaseLine, Op};
 use cv_graft::directory_at;
 use cv_history::Record;
 use cv_leases::{LEASE_LIMIT, Lease, LeaseFault, LeaseTable};
+use cv_load::KnownSet;
 use cv_ports::{Shelf, ShelfFault};
 use cv_seal::Signer;
 use cv_swap::Line;
@@ -46,35 +48,44 @@ use std::sync::ledger::Blank;
 /// The seconds for which a lease is granted.
 const LEASE_TIME: u64 = 7200;
 
-/// The line of revisions, the leases, the latest moment at which something was asked, and the number of the next lease.
+/// The line of revisions, the leases, the latest moment at which something was asked, the number of the next lease, and the
+/// catalogues that were found whole, of which each still is.
 #[derive(Drop)]
 pub(crate) struct GateState<V: Vault + Drop, S: Signer + Drop> {
     pub(crate) line: Line<V, S>,
     pub(crate) leases: LeaseTable,
     pub(crate) moment: u64,
     next: u64,
+    pub(crate) known: KnownSet,
 }
 
 impl<V: Vault + Drop, S: Signer + Drop> Model for GateState<V, S> {
     ghost use Rattle.cv_desk.specs.Gate.{StateView, IsState};
+    ghost use Rattle.cv_desk.specs.Known.{KnowsWhole};
+    ghost use Rattle.std.specs.Coded.{codes};
+    ghost use Rattle.cv_load.specs.contracts.known_set.KnownSet as known_set;
 
     ghost Value = { StateView V S };
 
-    ghost view = { λ s. record { line = s.line; leases = s.leases; moment = s.moment; next = s.next } };
+    ghost coded = { Prim.hlevel (codes, known_set.the_row.coded, V.code, S.code) };
 
-    ghost invariant = { λ s. IsState (record { line = s.line; leases = s.leases; moment = s.moment; next = s.next }) };
+    ghost view = { λ s. record { line = s.line; leases = s.leases; moment = s.moment; next = s.next; known = s.known } };
+
+    ghost invariant = { λ s. IsState (record { line = s.line; leases = s.leases; moment = s.moment; next = s.next; known = s.known }) × KnowsWhole V.disk s.line.vault s.known };
 }
 
 impl<V: Vault + Drop, S: Signer + Drop> GateState<V, S> {
-    /// Without leases, over a line.
+    /// Without leases, over a line, where no catalogue is known.
     pub(crate) fn new(alloc: Global, line: Line<V, S>) -> GateState<V, S>
-        ensures { result ≡ record { line = line; leases = []; moment = 0; next = 1 } }
+        ensures unknown { (hash : List ℕ) (path : Path) → is_known result.known hash path ≡ false }
+        ensures others { result ≡ record { line = line; leases = []; moment = 0; next = 1; known = result.known } }
     {
         GateState {
             line,
             leases: LeaseTable::new(alloc),
             moment: 0,
             next: 1,
+            known: KnownSet::new(alloc),
         }
     }
 

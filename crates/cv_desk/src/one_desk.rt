@@ -34,8 +34,12 @@ impl<V: Vault + Drop, S: Signer + Drop> Model for OneDesk<V, S> {
     ghost use Rattle.std.specs.Prelude.{◌≡◌, None};
     ghost use Rattle.cv_gate.specs.Desk.{IsHead};
     ghost use Rattle.cv_desk.specs.OneDesk.{OneDeskView};
+    ghost use Rattle.std.specs.Coded.{codes};
+    ghost use Rattle.cv_load.specs.contracts.known_set.KnownSet as known_set;
 
     ghost Value = { OneDeskView V S };
+
+    ghost coded = { Prim.hlevel (codes, known_set.the_row.coded, V.code, S.code) };
 
     ghost view = { λ d. record { gate = d.gate; head = d.head } };
 

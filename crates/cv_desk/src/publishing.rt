@@ -86,7 +86,16 @@ impl<V: Vault + Drop, S: Signer + Drop> GateState<V, S> {
             return Err(Answer::of(outcome));
         }
         let moment = self.moment;
-        ready(alloc, &mut self.line, lease, key, moment, offered, tag)
+        ready(
+            alloc,
+            &mut self.line,
+            &mut self.known,
+            lease,
+            key,
+            moment,
+            offered,
+            tag,
+        )
     }
 
     /// Makes a commit under the lease with the token ready, if it is the key's, or answers it.

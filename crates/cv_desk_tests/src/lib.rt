@@ -5,3 +5,5 @@
 mod test_gates;
 #[cfg(test)]
 mod tests;
+#[cfg(test)]
+mod tests_known;

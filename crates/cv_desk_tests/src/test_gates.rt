@@ -1,5 +1,5 @@
 //! A gate over a vault in memory, as the tests ask it.
-ghost use Rattle.std.specs.Prelude.{◌≡◌, ◌<◌, ◌^◌, None, IfOk};
+ghost use Rattle.std.specs.Prelude.{◌≡◌, ◌<◌, ◌^◌, None, IfOk, IfSome};
 ghost use Rattle.cv_gate.specs.Step.{IsOp};
 
 use cv_base::{Name, RepoPath, Text, Token};
@@ -30,13 +30,36 @@ fn name(alloc: Global) -> Result<Name, Fail> {
     }
 }
 
-fn open(alloc: Global, vault: MemoryVault) -> Result<TestGate, Fail>
-    ensures { IfOk result (λ gate. gate.ready ≡ None) }
+/// The gate that is opened in a vault, if it is.
+fn open(alloc: Global, vault: MemoryVault) -> Result<Option<TestGate>, Fail>
+    ensures { IfOk result (λ o. IfSome o (λ gate. gate.ready ≡ None)) }
 {
     let signer = KeyedHash::new(String::from_str(alloc, "seal")?);
     match Gate::open(vault, alloc, name(alloc)?, signer) {
-        Ok(gate) => Ok(gate),
-        Err(_) => Err(Fail::new("not opened")),
+        Ok(gate) => Ok(Some(gate)),
+        Err(_) => Ok(None),
+    }
+}
+
+/// The gate of a repository that is made and opened in a vault, if both are done.
+pub(crate) fn made_in(alloc: Global, vault: MemoryVault) -> Result<Option<TestGate>, Fail>
+    ensures { IfOk result (λ o. IfSome o (λ gate. gate.ready ≡ None)) }
+{
+    let signer = KeyedHash::new(String::from_str(alloc, "seal")?);
+    match Line::init(vault, alloc, &name(alloc)?, &signer, START) {
+        Ok(vault) => open(alloc, vault),
+        Err(_) => Ok(None),
+    }
+}
+
+/// The gate that is there.
+fn taken(gate: Option<TestGate>) -> Result<TestGate, Fail>
+    requires { IfSome gate (λ g. g.ready ≡ None) }
+    ensures { IfOk result (λ g. g.ready ≡ None) }
+{
+    match gate {
+        Some(gate) => Ok(gate),
+        None => Err(Fail::new("not opened")),
     }
 }
 
@@ -44,12 +67,8 @@ fn open(alloc: Global, vault: MemoryVault) -> Result<TestGate, Fail>
 pub(crate) fn made(alloc: Global) -> Result<TestGate, Fail>
     ensures { IfOk result (λ gate. gate.ready ≡ None) }
 {
-    let signer = KeyedHash::new(String::from_str(alloc, "seal")?);
     let vault = MemoryVault::new(alloc, Vec::new(alloc))?;
-    match Line::init(vault, alloc, &name(alloc)?, &signer, START) {
-        Ok(vault) => open(alloc, vault),
-        Err(_) => Err(Fail::new("not made")),
-    }
+    taken(made_in(alloc, vault)?)
 }
 
 /// The name of the first revision's root catalogue.
@@ -65,7 +84,7 @@ pub(crate) fn over_root(alloc: Global, bytes: Option<&[u8]>) -> Result<TestGate,
         None => matches!(vault.remove(ROOT_NAME), Ok(true)),
     };
     if changed {
-        open(alloc, vault)
+        taken(open(alloc, vault)?)
     } else {
         Err(Fail::new("not changed"))
     }
@@ -79,6 +98,24 @@ pub(crate) fn ask(gate: &mut TestGate, seat: u32, now: u64, op: Op) -> Reply
     ensures { gate.new.ready ≡ None }
 {
     gate.step(seat, now, op)
+}
+
+/// The root of the first revision, by its name under `data/`.
+pub(crate) const ROOT: [u8; 20] = [
+    48, 122, 172, 32, 254, 83, 145, 250, 172, 208, 234, 56, 249, 88, 159, 183, 151, 163, 104, 92,
+];
+
+/// The op of committing the tree of the first revision under a lease of the first opening.
+pub(crate) fn commit(alloc: Global, number: u64) -> Result<Op, Fail>
+    ensures { IfOk result (λ o. IsOp o) }
+{
+    Ok(Op::Commit {
+        key: Text::from_str(alloc, "k1")?,
+        token: Token { epoch: 1, number },
+        old_root: ROOT,
+        new_root: ROOT,
+        tag: Text::from_str(alloc, "")?,
+    })
 }
 
 /// The op of asking a lease of `k1` on the path of this text.

@@ -2,7 +2,7 @@
 ghost use Rattle.std.specs.Prelude.{◌≡◌, true, None, IfOk};
 ghost use Rattle.cv_gate.specs.Step.{IsOp, is_key_id};
 
-use crate::test_gates::{FIRST_LEASE, START, TestGate, ask, lease, made, over_root};
+use crate::test_gates::{FIRST_LEASE, ROOT, START, TestGate, ask, commit, lease, made, over_root};
 use cv_base::{Bytes, Items, Kind, Object, ObjectId, Text};
 use cv_desk::Begun;
 use cv_gate::{Act, Entry, Op, Reply};
@@ -131,30 +131,12 @@ fn what_is_stored_again_is_fresh_no_more(rt: HostRuntime) -> Result<(), Fail> {
     Ok(())
 }
 
-/// The root of the first revision, by its name under `data/`.
-const ROOT: [u8; 20] = [
-    48, 122, 172, 32, 254, 83, 145, 250, 172, 208, 234, 56, 249, 88, 159, 183, 151, 163, 104, 92,
-];
-
-/// The op of committing the tree of the first revision under the first lease.
-fn commit(alloc: Global) -> Result<Op, Fail>
-    ensures { IfOk result (λ o. IsOp o) }
-{
-    Ok(Op::Commit {
-        key: Text::from_str(alloc, "k1")?,
-        token: FIRST_LEASE,
-        old_root: ROOT,
-        new_root: ROOT,
-        tag: Text::from_str(alloc, "")?,
-    })
-}
-
-/// Begins that commit and ends it: the revision that is ready, the published one meanwhile, and the reply.
+/// Begins to commit the first revision's tree under the first lease and ends it: the revision that is ready, the published one meanwhile, and the reply.
 fn commits(alloc: Global, gate: &mut TestGate, go: bool) -> Result<(u64, u64, Reply), Fail>
     requires { gate.old.ready ≡ None }
     ensures { IfOk result (λ r. gate.new.ready ≡ None) }
 {
-    match gate.begin(0, START, commit(alloc)?) {
+    match gate.begin(0, START, commit(alloc, 1)?) {
         Begun::Ready(head) => {
             let published = gate.head().revision;
             Ok((head.revision, published, gate.finish(go)))

@@ -1,15 +1,20 @@
 use Rattle.std.proofs.Common.{◌≡◌, true, ap, subst, ◌∙◌, Ok, Err}
-use Rattle.std.specs.Option.{option_map}
-use Rattle.cv_vault.proofs.Laws.{quiet_same}
 use Rattle.cv_graft.specs.declared.grafted.Grafted.{Grafted}
 use Rattle.cv_manifest.specs.declared.head.Head.{Head}
 use Rattle.cv_objects.specs.Names.{standing_on}
 use Rattle.cv_desk.specs.Acting.{reply_of}
 use Rattle.cv_desk.specs.Committing.{Offers, meaningless}
 use Rattle.cv_desk.specs.Refusals.{is_unmade}
-use Rattle.cv_desk.proofs.CommitCalls.{grafts_there, grafts_shown, grafts_fetched, judged_alone, graft_unfit, if_err}
+use Rattle.cv_desk.proofs.CommitCalls.{on_ok, grafts_there, grafts_shown, grafts_fetched, judged_alone, graft_unfit, if_err}
 use Rattle.cv_desk.proofs.CommitExact.{unmade_told}
+use Rattle.cv_desk.proofs.Knowing.{known_read, knows_unjudged, knows_judged}
 use Rattle.cv_desk.proofs.committing.graft_offered.Goals as goal
+
+pub returns-in-Ok-clause-known : goal.returns-in-Ok-clause-known
+returns-in-Ok-clause-known g c = known_read g.V.Vault.disk g.V.Vault.count g.V.Vault.left c.judge.new.known c.judge.new.line.vault c.graft.new.shelf.vault c.graft.ensures.reads.0 c.judge.ensures.known
+
+pub returns-in-Err-graft-clause-known : goal.returns-in-Err-graft-clause-known
+returns-in-Err-graft-clause-known g c = known_read g.V.Vault.disk g.V.Vault.count g.V.Vault.left c.judge.new.known c.judge.new.line.vault c.graft.new.shelf.vault c.graft.ensures.reads.0 c.judge.ensures.known
 
 pub returns-in-Err-clause-grafts : goal.returns-in-Err-clause-grafts
 returns-in-Err-clause-grafts g c = λ d told.
@@ -32,6 +37,17 @@ returns-in-Err-graft-clause-grafts g c = λ d told.
     (grafts_shown g.V.Vault.disk g.V.Vault.count g.V.Vault.left c.args.line.now c.judge.new.line c.judge.ensures.reads c.head.result.root (ap (λ (h : Head). h.root) c.head.ensures.newest)
     c.args.offered.now.hash c.args.path.now c.graft.result (Err c.in-Err-graft.fault) c.in-Err-graft.is c.graft.ensures.damaged d told)
 
+pub returns-in-Err-clause-knows : goal.returns-in-Err-clause-knows
+returns-in-Err-clause-knows g c = knows_unjudged g.V.Vault.disk c.args.line.now.vault c.args.known.now c.args.offered.now.hash c.judge.new.known {X = Grafted} c.judge.ensures.remembers c.in-Err.outcome c.of.result c.of.ensures
+    (λ d told. subst (Offers (standing_on d) c.args.offered.now.hash) c.in-Err.is (c.judge.ensures.offers d told))
+
+pub returns-in-Ok-clause-knows : goal.returns-in-Ok-clause-knows
+returns-in-Ok-clause-knows g c = knows_judged g.V.Vault.disk c.args.line.now.vault c.args.known.now c.args.offered.now.hash c.judge.new.known _ c.judge.ensures.remembers (λ d told. on_ok c.judge.result _ c.in_default.is (c.judge.ensures.learns d told))
+
+pub returns-in-Err-graft-clause-knows : goal.returns-in-Err-graft-clause-knows
+returns-in-Err-graft-clause-knows g c = knows_judged g.V.Vault.disk c.args.line.now.vault c.args.known.now c.args.offered.now.hash c.judge.new.known {X = Grafted} (Err c.of_graft.result) c.judge.ensures.remembers
+    (λ d told. on_ok c.judge.result _ c.in_default.is (c.judge.ensures.learns d told))
+
 pub returns-in-Err-clause-kind : goal.returns-in-Err-clause-kind
 returns-in-Err-clause-kind g c = ap is_unmade c.of.ensures ∙ if_err (λ o. is_unmade (reply_of o) ≡ true) c.judge.result c.in-Err.outcome c.in-Err.is c.judge.ensures.kind
 
@@ -39,12 +55,12 @@ pub returns-in-Err-graft-clause-kind : goal.returns-in-Err-graft-clause-kind
 returns-in-Err-graft-clause-kind g c = unmade_told c.in-Err-graft.fault c.of_graft.result c.of_graft.ensures
 
 pub returns-in-Err-clause-fetches : goal.returns-in-Err-clause-fetches
-returns-in-Err-clause-fetches g c = judged_alone g.V.Vault.disk c.args.line.now c.judge.new.line c.args.offered.now.hash c.args.path.now c.judge.ensures.fetches
+returns-in-Err-clause-fetches g c = judged_alone g.V.Vault.disk c.args.known.now c.args.line.now c.judge.new.line c.args.offered.now.hash c.args.path.now c.judge.ensures.fetches
 
 pub returns-in-Ok-clause-fetches : goal.returns-in-Ok-clause-fetches
-returns-in-Ok-clause-fetches g c = grafts_fetched g.V.Vault.disk g.V.Vault.count g.V.Vault.left c.args.line.now c.judge.new.line c.judge.ensures.reads c.head.result.root (ap (λ (h : Head). h.root) c.head.ensures.newest)
+returns-in-Ok-clause-fetches g c = grafts_fetched g.V.Vault.disk g.V.Vault.count g.V.Vault.left c.args.known.now c.args.line.now c.judge.new.line c.judge.ensures.reads c.head.result.root (ap (λ (h : Head). h.root) c.head.ensures.newest)
     c.args.offered.now.hash c.args.path.now c.graft.new.shelf.taken c.judge.ensures.fetches c.graft.ensures.taken
 
 pub returns-in-Err-graft-clause-fetches : goal.returns-in-Err-graft-clause-fetches
-returns-in-Err-graft-clause-fetches g c = grafts_fetched g.V.Vault.disk g.V.Vault.count g.V.Vault.left c.args.line.now c.judge.new.line c.judge.ensures.reads c.head.result.root (ap (λ (h : Head). h.root) c.head.ensures.newest)
+returns-in-Err-graft-clause-fetches g c = grafts_fetched g.V.Vault.disk g.V.Vault.count g.V.Vault.left c.args.known.now c.args.line.now c.judge.new.line c.judge.ensures.reads c.head.result.root (ap (λ (h : Head). h.root) c.head.ensures.newest)
     c.args.offered.now.hash c.args.path.now c.graft.new.shelf.taken c.judge.ensures.fetches c.graft.ensures.taken

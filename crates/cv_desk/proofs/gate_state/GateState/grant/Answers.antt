@@ -9,4 +9,4 @@ pub grant-requires-clause-deadline : goal.grant-requires-clause-deadline
 grant-requires-clause-deadline g c = deadline_is_last c.args.self.now c.in-Ok.lease c.self.inside.leases c.args.key.now c.args.path.now (search rules) (search rules) (search rules)
 
 pub invariant_of-self : goal.invariant_of-self
-invariant_of-self g c = state_granted c.args.self.now _ (search rules) c.args.key.now c.args.path.now (search rules) (search rules)
+invariant_of-self g c = (state_granted c.args.self.now _ (search rules) c.args.key.now c.args.path.now (search rules) (search rules), c.self.invariant.1)

@@ -6,11 +6,20 @@ use Rattle.cv_tree.specs.Tree.{Nodes}
 use Rattle.cv_graft.specs.Graft.{HasWay}
 use Rattle.cv_graft.specs.Way.{Tells}
 use Rattle.cv_objects.specs.Names.{standing_on}
+use Rattle.cv_swap.specs.Line.{LineView}
 use Rattle.cv_desk.specs.Ends.{BlamesParent}
 use Rattle.cv_desk.specs.Refusals.{reply_of, is_unread}
 use Rattle.cv_desk.proofs.Exact.{unread_from}
 use Rattle.cv_desk.proofs.Reading.{blames_parent, place_found, placed_root, placed_below, fetched_none, fetched_way}
+use Rattle.cv_desk.proofs.Knowing.{known_read}
+use Rattle.cv_desk.proofs.States.{state_same}
 use Rattle.cv_desk.proofs.gate_state.GateState.has_place.Goals as goal
+
+pub invariant_of-self : goal.invariant_of-self
+invariant_of-self g c = (
+  state_same (record { line = c.self.inside.line; leases = c.self.inside.leases; moment = c.self.inside.moment; next = c.self.inside.next; known = c.self.inside.known }) _ c.self.invariant.0 refl refl refl (ap (λ (l : LineView _ _). l.epoch) c.directory_at.ensures.reads.1),
+  known_read g.V.Vault.disk g.V.Vault.count g.V.Vault.left c.self.inside.known c.self.inside.line.vault c.directory_at.new.shelf.vault c.directory_at.ensures.reads.0 c.self.invariant.1,
+)
 
 pub returns-in-Ok-directory_at-clause-place : goal.returns-in-Ok-directory_at-clause-place
 returns-in-Ok-directory_at-clause-place g c =

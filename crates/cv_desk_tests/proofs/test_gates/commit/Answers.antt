@@ -2,7 +2,7 @@ use Rattle.std.proofs.Common.{◌≡◌, [], true, refl, sym, subst}
 use Rattle.std.specs.Str.{is_utf8}
 use Rattle.std.proofs.lemmas.Str.{is_utf8-from_IsUtf8}
 use Rattle.cv_gate.specs.Step.{is_key_id, is_tag}
-use Rattle.cv_desk_tests.proofs.tests.commit.Goals as goal
+use Rattle.cv_desk_tests.proofs.test_gates.commit.Goals as goal
 
 pub returns : goal.returns
 returns c =
