@@ -10,7 +10,7 @@ use Rattle.cv_ports.specs.Streams.{Look, front, onto, Wrote}
 use Rattle.cv_ports.specs.Calls.{raised}
 use Rattle.cv_ports.specs.Dial.{Came, after_back}
 use Rattle.cv_http.specs.Requests.{request_text}
-use Rattle.cv_http.specs.ReplyTexts.{ReplyLost}
+use Rattle.cv_http.specs.ReplyTexts.{IsAwaitedReply, ReplyLost}
 use Rattle.cv_http.specs.Wires.{WireView, Looks, Beside, HasEnded}
 use Rattle.cv_http.specs.declared.outgoing.Outgoing.{Outgoing}
 use Rattle.cv_http.specs.declared.fault.HttpFault.{HttpFault}
@@ -61,13 +61,23 @@ told_sent c c' text got wrote flushed gave left is =
 pub all_passed : (old taken passed : Option (List ℕ)) (text : List ℕ) → WhereTold old (λ b. b ≡ []) → taken ≡ onto old text → passed ≡ taken → WhereTold passed (λ b. b ≡ text)
 all_passed old taken passed text fresh is flushed = λ b told. all_of old taken text fresh is b (sym flushed ∙ told)
 
--- and was when each read began
-pub all_looked : {R : Type 0} (left : R → Option (List ℕ)) (looks : R → Look → Type 0) (w w' : WireView R) (now : R) (request : Outgoing) (old passed : Option (List ℕ)) (Are : List ℕ → Type 0)
-    → now ≡ w'.source → ((look : Look) → looks w.source look → ⊥) → Looks left looks w w' (Beside passed Are) → WhereTold passed (λ b. b ≡ request_text request)
-    → (IsSome old → IsSome passed) → (look : Look) → looks now look → IsBehind request (IsSome old) look
-all_looked left looks w w' now request old passed Are same unread seen whole tells look is = elim (seen look (subst (λ s. looks s look) same is)) [
+-- what a link gave, and then what it has left, is what it had left at first
+pub all_sent : (old given left first : Option (List ℕ)) (got : List ℕ) → WhereTold old (λ b. b ≡ []) → given ≡ onto old got → first ≡ front got left → WhereTold given (λ b. front b left ≡ first)
+all_sent old given left first got fresh gave had = λ b told. ap (λ (g : List ℕ). front g left) (all_of old given got fresh gave b told) ∙ sym had
+
+-- and was when each read began, where no whole reply had come
+pub all_looked : {R : Type 0} (left : R → Option (List ℕ)) (looks : R → Look → Type 0) (w w' : WireView R) (now : R) (link : Came) (request : Outgoing) (old passed : Option (List ℕ))
+    → now ≡ w'.source → w.held ≡ [] → ((look : Look) → looks w.source look → ⊥) → Looks left looks w w' (Beside passed IsAwaitedReply) → WhereTold passed (λ b. b ≡ request_text request)
+    → (IsSome old → IsSome passed) → WhereTold link.given (λ given. front given link.left ≡ left w.source) → (look : Look) → looks now look → IsBehind request link (IsSome old) look
+all_looked left looks w w' now link request old passed same none unread seen whole tells sent look is = elim (seen look (subst (λ s. looks s look) same is)) [
   | inl noted ↦ absurd (unread look noted)
-  | inr at ↦ record { whole = λ b told. whole b (sym at.are.1 ∙ told); told = λ was. subst IsSome (sym at.are.1) (tells was) }
+  | inr at ↦ record {
+    whole = λ b told. whole b (sym at.are.1 ∙ told);
+    told = λ was. subst IsSome (sym at.are.1) (tells was);
+    got = at.got;
+    split = λ given told. sent given told ∙ at.told;
+    awaits = subst (λ (held : List ℕ). IsAwaitedReply (held ++ at.got)) none at.are.0;
+  }
 ]
 
 -- what was passed on is told where it was before

@@ -1,15 +1,16 @@
 -- A question at the head that is served.
-use Rattle.std.proofs.Common.{◌≡◌, arith}
+use Rattle.std.proofs.Common.{◌≡◌, ◌≢◌, refl, arith}
 use Rattle.std.specs.declared.result.Result.{Result}
-use Rattle.std.specs.declared.result.Result.TheVariants.{Err}
+use Rattle.std.specs.declared.result.Result.TheVariants.{Ok, Err}
 use Rattle.cv_tree.specs.Tree.{Nodes, IsTree}
 use Rattle.cv_cut.specs.Catalogues.{root_of, Fits}
 use Rattle.cv_manifest.specs.declared.manifest.Manifest.{Manifest}
 use Rattle.cv_resolver.specs.Look.{Finding}
 use Rattle.cv_resolver.specs.Resolver.{IsOn}
+use Rattle.cv_resolver.specs.declared.found.Found.{Found}
 use Rattle.cv_resolver.specs.declared.found.ClientFault.{ClientFault}
 use Rattle.cv_client.specs.Pin.{client_at}
-use Rattle.cv_client.specs.Served.{IsPinned, IsWhole}
+use Rattle.cv_client.specs.Served.{IsManifestOr, IsPinned, IsWholeOr, IsWhole}
 use Rattle.cv_client.specs.declared.ask_fault.AskFault.{AskFault}
 use Rattle.cv_client.specs.declared.ask_fault.AskFault.TheVariants.{LinkFailed, BadReply, BadManifest, Refused, NoMemory}
 
@@ -30,3 +31,19 @@ unpinned_whole m BadReply finding is = absurd is
 unpinned_whole m BadManifest finding is = absurd is
 unpinned_whole m (Refused why) finding is = absurd is
 unpinned_whole m NoMemory finding is = tt
+
+-- where the link didn't fail
+pub unfailed_pin : (m : Manifest) (fault : AskFault) → fault ≢ LinkFailed → IsManifestOr m (Err fault) → IsPinned m (Err fault)
+unfailed_pin m LinkFailed steady is = absurd (steady refl)
+unfailed_pin m BadReply steady is = is
+unfailed_pin m BadManifest steady is = is
+unfailed_pin m (Refused why) steady is = is
+unfailed_pin m NoMemory steady is = tt
+
+pub unfailed : (finding : Result Finding ClientFault) (answer : Result Found AskFault) → (answer ≡ Err LinkFailed → ⊥) → IsWholeOr finding answer → IsWhole finding answer
+unfailed finding (Ok found) steady is = is
+unfailed finding (Err LinkFailed) steady is = absurd (steady refl)
+unfailed finding (Err BadReply) steady is = is
+unfailed finding (Err BadManifest) steady is = is
+unfailed finding (Err (Refused why)) steady is = is
+unfailed finding (Err NoMemory) steady is = tt

@@ -1,5 +1,5 @@
 -- A client that is given what a server has of a tree.
-use Rattle.std.proofs.Common.{◌≡◌, ◌≢◌, ◌↔◌, ℕ, List, [], ◌∷◌, refl, sym, ap, subst, ◌∙◌}
+use Rattle.std.proofs.Common.{◌≡◌, ◌↔◌, ℕ, List, [], ◌∷◌, refl, sym, ap, subst, ◌∙◌}
 use Rattle.std.specs.Prelude.{Option, Some, None, option_to_list, Result, Ok, Err, IsErrAnd}
 use Rattle.sha1.specs.Sha1.{sha1}
 use Rattle.cv_base.specs.declared.id.ObjectId.{ObjectId}
@@ -24,7 +24,7 @@ use Rattle.cv_client.specs.Answer.{told_by}
 use Rattle.cv_client.specs.Exchange.{Links}
 use Rattle.cv_client.specs.Faults.{lost_by, bad_by}
 use Rattle.cv_client.specs.Giving.{GivesAll, all}
-use Rattle.cv_client.specs.Served.{Files, HasObject, IsFetched, IsManifestOr, IsUnblamed, IsSupplied, IsWhole}
+use Rattle.cv_client.specs.Served.{Files, HasObject, IsFetched, IsManifestOr, IsUnblamed, IsSupplied, IsWholeOr}
 use Rattle.cv_client.specs.declared.exchanging.ExchangeFault.{ExchangeFault}
 use Rattle.cv_client.specs.declared.exchanging.ExchangeFault.TheVariants as exchange_fault
 use Rattle.cv_client.specs.declared.url.Url.{Url}
@@ -98,7 +98,7 @@ ends_as (all gone none) = named_still gone.comes
 pub ends_for : {u : Url} {l l' : Links} {start end : Client} {q : Question} → question_of start ≡ Some q → GivesAll u l l' start end (Ok tt) → question_of end ≡ Some q
 ends_for {q = q} asked (all gone none) = asked_still q gone.comes asked
 
-whole_by : (finding : Result Finding ClientFault) (f : ClientFault) → IsAnswer finding (Err f) → (IsOfPeer f → ⊥) → IsWhole finding (told_by (Err f))
+whole_by : (finding : Result Finding ClientFault) (f : ClientFault) → IsAnswer finding (Err f) → (IsOfPeer f → ⊥) → IsWholeOr finding (told_by (Err f))
 whole_by finding (fault.BadObject id found) is unblamed = absurd (unblamed tt)
 whole_by finding (fault.BadCatalogue id) is unblamed = absurd is
 whole_by finding (fault.NotServed id) is unblamed = absurd (unblamed tt)
@@ -108,7 +108,7 @@ whole_by finding fault.NotFile is unblamed = is
 whole_by finding fault.TooManyLinks is unblamed = is
 whole_by finding fault.NoMemory is unblamed = tt
 
-by_stage : (finding : Result Finding ClientFault) (s : Stage) (a : Result Found ClientFault) → s ≡ Ends a → IsBlameless s → IsAnswer finding a → IsWhole finding (told_by a)
+by_stage : (finding : Result Finding ClientFault) (s : Stage) (a : Result Found ClientFault) → s ≡ Ends a → IsBlameless s → IsAnswer finding a → IsWholeOr finding (told_by a)
 by_stage finding s (Ok found) is unblamed answer = answer
 by_stage finding s (Err f) is unblamed answer = whole_by finding f answer (subst IsBlameless is unblamed)
 
@@ -117,20 +117,20 @@ ended_at (Walks w) a is = absurd cc
 ended_at (Reads hash) a is = absurd cc
 ended_at (Ends b) a is = cc
 
-pub whole : (finding : Result Finding ClientFault) (o : Option Asked) (a : Result Found ClientFault) → answer_in o ≡ Some a → IsUnblamed o → IsAnswer finding a → IsWhole finding (told_by a)
+pub whole : (finding : Result Finding ClientFault) (o : Option Asked) (a : Result Found ClientFault) → answer_in o ≡ Some a → IsUnblamed o → IsAnswer finding a → IsWholeOr finding (told_by a)
 whole finding None a is unblamed answer = absurd cc
 whole finding (Some asked) a is unblamed answer = by_stage finding asked.stage a (ended_at asked.stage a is) unblamed answer
 
 -- or an object wasn't fetched
-pub not_whole : (finding : Result Finding ClientFault) (t : Nodes) (r : Client) (f : ExchangeFault) → (f ≢ exchange_fault.LinkFailed) → IsSupplied t r (Err f) → IsWhole finding (Err (lost_by f))
-not_whole finding t r exchange_fault.LinkFailed steady is = absurd (steady refl)
-not_whole finding t r exchange_fault.BadReply steady is = absurd is
-not_whole finding t r exchange_fault.NoMemory steady is = tt
+pub not_whole : (finding : Result Finding ClientFault) (t : Nodes) (r : Client) (f : ExchangeFault) → IsSupplied t r (Err f) → IsWholeOr finding (Err (lost_by f))
+not_whole finding t r exchange_fault.LinkFailed is = tt
+not_whole finding t r exchange_fault.BadReply is = absurd is
+not_whole finding t r exchange_fault.NoMemory is = tt
 
-pub unpinned : (m : Manifest) (content : List ℕ) (f : ExchangeFault) → (f ≢ exchange_fault.LinkFailed) → IsFetched content (Err f) → IsManifestOr m (Err (lost_by f))
-unpinned m content exchange_fault.LinkFailed steady is = absurd (steady refl)
-unpinned m content exchange_fault.BadReply steady is = absurd is
-unpinned m content exchange_fault.NoMemory steady is = tt
+pub unfetched : (m : Manifest) (content : List ℕ) (f : ExchangeFault) → IsFetched content (Err f) → IsManifestOr m (Err (lost_by f))
+unfetched m content exchange_fault.LinkFailed is = tt
+unfetched m content exchange_fault.BadReply is = absurd is
+unfetched m content exchange_fault.NoMemory is = tt
 
 pub no_memory_for : (m : Manifest) (f : ManifestFault) → f ≡ manifest_fault.NoMemory → IsManifestOr m (Err (bad_by f))
 no_memory_for m f is = subst (λ (x : ManifestFault). IsManifestOr m (Err (bad_by x))) (sym is) tt

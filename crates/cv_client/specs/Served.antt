@@ -13,7 +13,7 @@ use Rattle.cv_http.specs.declared.http_reply.HttpReply.{HttpReply}
 use Rattle.cv_manifest.specs.Manifest.{Says}
 use Rattle.cv_manifest.specs.declared.manifest.Manifest.{Manifest}
 use Rattle.cv_resolver.specs.Kept.{AreOwn}
-use Rattle.cv_resolver.specs.Look.{Finding, OnWay, IsFound}
+use Rattle.cv_resolver.specs.Look.{Finding, OnWay, IsFound, look}
 use Rattle.cv_resolver.specs.Resolver.{Client, IsOn}
 use Rattle.cv_resolver.specs.Stage.{IsBlameless}
 use Rattle.cv_resolver.specs.declared.question.Question.{Question}
@@ -104,11 +104,11 @@ IsSupplied t r (Err exchange_fault.LinkFailed) = Unit {0}
 IsSupplied t r (Err exchange_fault.BadReply) = ⊥
 IsSupplied t r (Err exchange_fault.NoMemory) = Unit {0}
 
--- the manifest is this, unless memory was wanted
+-- the manifest is this, unless the link failed or memory was wanted
 abbrev pub IsManifestOr : Manifest → Result Manifest AskFault → Type 0
 IsManifestOr m (Ok found) = found ≡ m
 IsManifestOr m (Err NoMemory) = Unit {0}
-IsManifestOr m (Err LinkFailed) = ⊥
+IsManifestOr m (Err LinkFailed) = Unit {0}
 IsManifestOr m (Err BadReply) = ⊥
 IsManifestOr m (Err BadManifest) = ⊥
 IsManifestOr m (Err (Refused fault)) = ⊥
@@ -122,6 +122,15 @@ IsPinned m (Err BadReply) = ⊥
 IsPinned m (Err BadManifest) = ⊥
 IsPinned m (Err (Refused fault)) = ⊥
 
+-- the answer is that of the tree, unless the link failed or memory was wanted
+abbrev pub IsWholeOr : Result Finding ClientFault → Result Found AskFault → Type 0
+IsWholeOr finding (Ok found) = IsFound finding found
+IsWholeOr finding (Err (Refused fault)) = finding ≡ Err fault
+IsWholeOr finding (Err NoMemory) = Unit {0}
+IsWholeOr finding (Err LinkFailed) = Unit {0}
+IsWholeOr finding (Err BadReply) = ⊥
+IsWholeOr finding (Err BadManifest) = ⊥
+
 -- the answer is that of the tree, unless memory was wanted
 abbrev pub IsWhole : Result Finding ClientFault → Result Found AskFault → Type 0
 IsWhole finding (Ok found) = IsFound finding found
@@ -130,3 +139,14 @@ IsWhole finding (Err NoMemory) = Unit {0}
 IsWhole finding (Err LinkFailed) = ⊥
 IsWhole finding (Err BadReply) = ⊥
 IsWhole finding (Err BadManifest) = ⊥
+
+-- Where each link that came back sent what a server has, whose manifest says this under its seal: that was fetched.
+abbrev pub FetchesServed : (is_seal : List ℕ → List ℕ → Bool) → Url → (before after : Links) → Result Manifest AskFault → Type 0
+FetchesServed is_seal u before after fetched = (files : Files) → ServedBy u files before after
+    → (text : List ℕ) (m : Manifest) → files manifest_name ≡ Some text → Says is_seal text m → IsManifestOr m fetched
+
+-- Where each link that came back sent what a server has, which is all that the question wants in a tree at whose root the client is pinned:
+-- the answer is that of the tree.
+abbrev pub AnswersServed : Url → Question → (before after : Links) → Client → Result Found AskFault → Type 0
+AnswersServed u q before after r answer = (files : Files) → ServedBy u files before after
+    → (t : Nodes) → IsOn t r → HasWay files r.name t q → IsWholeOr (look r.name t q) answer

@@ -1,14 +1,13 @@
 //! Answers of a served repository.
 ghost use Rattle.std.specs.Prelude.{◌≡◌, ℕ, List, Some, option_map};
-ghost use Rattle.cv_base.specs.Counts.{HasCause, Rose};
+ghost use Rattle.cv_base.specs.Counts.{HasCause};
 ghost use Rattle.cv_client.specs.Answer.{Answers};
 ghost use Rattle.cv_client.specs.Asking.{AsksFirst};
 ghost use Rattle.cv_base.specs.ObjectId.{file_name};
 ghost use Rattle.cv_client.specs.Fetch.{Fetches};
 ghost use Rattle.cv_client.specs.Giving.{GivesAll};
-ghost use Rattle.cv_client.specs.Served.{Files, ServedBy, HasWay, IsFetched, IsSupplied, IsUnblamed, IsWhole};
+ghost use Rattle.cv_client.specs.Served.{Files, ServedBy, HasWay, IsFetched, IsSupplied, IsUnblamed, AnswersServed};
 ghost use Rattle.cv_tree.specs.Tree.{Nodes};
-ghost use Rattle.cv_resolver.specs.Look.{look};
 ghost use Rattle.cv_resolver.specs.Resolver.{IsOn, question_of};
 ghost use Rattle.cv_resolver.specs.declared.question.Question.{Question as TheQuestion};
 ghost use Rattle.cv_client.specs.declared.ask_fault.AskFault.TheVariants.{LinkFailed};
@@ -88,11 +87,9 @@ pub fn answer<N: Dial>(
     ensures asks { AsksFirst N.came N.looks dial.old dial.new }
     ensures cause { HasCause (N.faults dial.old) (N.faults dial.new) (result ≡ Err LinkFailed) }
 
-    // Where no fault was counted, and each link that came back sent what the server has, which is all that the question wants in
-    // a tree: the answer is that of the tree.
-    ensures completes { (Rose 1 (N.faults dial.old) (N.faults dial.new) → ⊥) → (files : Files)
-        → ServedBy url.now files (N.came dial.old) (N.came dial.new) → (t : Nodes) → IsOn t resolver.old
-        → HasWay files resolver.old.name t question → IsWhole (look resolver.old.name t question) result }
+    // Where each link that came back sent what the server has, which is all that the question wants in a tree: the answer is that
+    // of the tree, unless a link failed.
+    ensures completes { AnswersServed url.now question (N.came dial.old) (N.came dial.new) resolver.old result }
 {
     faults_tell_what_was_given();
     resolver.ask(question);

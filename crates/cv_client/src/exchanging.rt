@@ -4,7 +4,7 @@ ghost use Rattle.cv_base.specs.Counts.{HasCause, Rose};
 ghost use Rattle.cv_base.specs.Told.{WhereTold};
 ghost use Rattle.cv_ports.specs.Dial.{came_of};
 ghost use Rattle.cv_ports.specs.Streams.{Look};
-ghost use Rattle.cv_client.specs.Asking.{IsBehind};
+ghost use Rattle.cv_client.specs.Asking.{IsBehind, IsRead};
 ghost use Rattle.cv_client.specs.Exchange.{Converses, Exchanges, IsTold};
 ghost use Rattle.cv_client.specs.Faults.{of_send, of_read};
 ghost use Rattle.cv_client.specs.declared.exchanging.ExchangeFault.TheVariants.{LinkFailed};
@@ -67,7 +67,8 @@ fn converse<R: Source<Beside = W> + Drop, W: Sink + Drop>(
     ensures port { result.0.port ≡ link.port }
     ensures told { IsTold (came_of R.given R.left W.taken W.passed link) → IsTold (came_of R.given R.left W.taken W.passed result.0) }
     ensures converses { Converses request.now (came_of R.given R.left W.taken W.passed result.0) result.1 }
-    ensures looks { (look : Look) → R.looks result.0.reads look → IsBehind request.now (IsSome (W.passed link.writes)) look }
+    ensures looks { (look : Look) → R.looks result.0.reads look
+        → IsBehind request.now (came_of R.given R.left W.taken W.passed result.0) (IsSome (W.passed link.writes)) look }
     ensures reads { R.faults link.reads ≤ R.faults result.0.reads }
     ensures writes { W.faults link.writes ≤ W.faults result.0.writes }
     ensures cause { result.1 ≡ Err LinkFailed
@@ -86,7 +87,7 @@ fn converse<R: Source<Beside = W> + Drop, W: Sink + Drop>(
 }
 
 /// Sends one request on a link of its own (RFC 9112), and reads its reply. The link goes back to the dial, whatever comes.
-/// The whole request was passed on when a read of the link begins.
+/// When a read of the link begins the whole request was passed on, and no whole reply was read.
 pub fn exchange<N: Dial>(
     alloc: Global,
     dial: &mut N,
@@ -95,7 +96,7 @@ pub fn exchange<N: Dial>(
 ) -> Result<HttpReply, ExchangeFault>
     ensures exchanges { Exchanges url.now request.now (N.came dial.old) (N.came dial.new) result }
     ensures looks { (look : Look) → N.looks dial.new look
-        → N.looks dial.old look ⊎ IsBehind request.now (IsSome (N.came dial.old)) look }
+        → N.looks dial.old look ⊎ IsRead request.now (N.came dial.old) (N.came dial.new) look }
     ensures cause { HasCause (N.faults dial.old) (N.faults dial.new) (result ≡ Err LinkFailed) }
 {
     let Ok(link) = dial.dial(url.host.as_str(), url.port) else {

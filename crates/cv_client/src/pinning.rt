@@ -6,7 +6,7 @@ ghost use Rattle.cv_manifest.specs.declared.manifest.Manifest.{Manifest as TheMa
 ghost use Rattle.cv_client.specs.Asking.{AsksFirst};
 ghost use Rattle.cv_client.specs.Pin.{FetchesManifest, Pins};
 ghost use Rattle.cv_client.specs.Requests.{manifest_name};
-ghost use Rattle.cv_client.specs.Served.{Files, ServedBy, IsManifestOr, IsPinned};
+ghost use Rattle.cv_client.specs.Served.{Files, ServedBy, FetchesServed, IsPinned};
 ghost use Rattle.cv_client.specs.declared.ask_fault.AskFault.TheVariants.{LinkFailed};
 
 use crate::ask_fault::AskFault;
@@ -36,11 +36,9 @@ pub fn fetch_manifest<N: Dial, S: Signer>(
     ensures asks { AsksFirst N.came N.looks dial.old dial.new }
     ensures cause { HasCause (N.faults dial.old) (N.faults dial.new) (result ≡ Err LinkFailed) }
 
-    // Where no fault was counted, and each link that came back sent what the server has, which is a manifest under its seal: that is
-    // what is fetched.
-    ensures completes { (Rose 1 (N.faults dial.old) (N.faults dial.new) → ⊥) → (files : Files)
-        → ServedBy url.now files (N.came dial.old) (N.came dial.new) → (text : List ℕ) (m : TheManifest) → files manifest_name ≡ Some text
-        → Says (S.is_seal signer.now) text m → IsManifestOr m result }
+    // Where each link that came back sent what the server has, which is a manifest under its seal: that is what is fetched, unless
+    // a link failed.
+    ensures completes { FetchesServed (S.is_seal signer.now) url.now (N.came dial.old) (N.came dial.new) result }
 {
     a_text_says_one_manifest();
     a_manifest_shows_no_fault();

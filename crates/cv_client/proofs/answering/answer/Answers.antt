@@ -6,7 +6,6 @@ use Rattle.cv_resolver.specs.declared.found.Found.{Found}
 use Rattle.cv_resolver.specs.declared.found.ClientFault.{ClientFault}
 use Rattle.cv_resolver.specs.Look.{IsAnswer, look}
 use Rattle.cv_client.specs.Served.{HasWay}
-use Rattle.cv_client.specs.declared.exchanging.ExchangeFault.{ExchangeFault}
 use Rattle.cv_client.proofs.Coming.{cut_answer, whole_answer, has_answer}
 use Rattle.cv_client.proofs.Supplying.{asks_well, asks_for, asks_as, ends_as, ends_for, whole, not_whole}
 use Rattle.cv_client.proofs.answering.answer.Goals as goal
@@ -28,15 +27,15 @@ returns-in-Some-Err-clause-answers g c =
     (λ t asked on is. (rw c.in-Some-Err.field-0-is at (c.in-Some-Err.ensures.look t asked on is))))
 
 pub returns-in-Err-clause-completes : goal.returns-in-Err-clause-completes
-returns-in-Err-clause-completes g c = λ steady files s t on way.
+returns-in-Err-clause-completes g c = λ files s t on way.
     let asks = c.ask.ensures.asks in
     let so = c.in-Err.ensures.completes files s t c.args.question (c.ask.ensures.on t on) (asks_well c.faults_tell_what_was_given.ensures.asked asks) (asks_for asks)
     (subst (λ (name : List ℕ). HasWay files name t c.args.question) (sym (asks_as asks)) way) in
     rw c.of_exchange.ensures
-    (not_whole (look c.args.resolver.now.name t c.args.question) t c.give_all.new.resolver c.in-Err.fault (λ is. steady (c.in-Err.ensures.cause.failed (ap (λ (f : ExchangeFault). Err f) is))) so)
+    (not_whole (look c.args.resolver.now.name t c.args.question) t c.give_all.new.resolver c.in-Err.fault so)
 
 pub returns-in-Some-Ok-clause-completes : goal.returns-in-Some-Ok-clause-completes
-returns-in-Some-Ok-clause-completes g c = λ steady files s t on way.
+returns-in-Some-Ok-clause-completes g c = λ files s t on way.
     let asks = c.ask.ensures.asks in
     let so = c.in_default.ensures.completes files s t c.args.question (c.ask.ensures.on t on) (asks_well c.faults_tell_what_was_given.ensures.asked asks) (asks_for asks)
     (subst (λ (name : List ℕ). HasWay files name t c.args.question) (sym (asks_as asks)) way) in
@@ -46,7 +45,7 @@ returns-in-Some-Ok-clause-completes g c = λ steady files s t on way.
     (subst (λ (name : List ℕ). IsAnswer (look name t c.args.question) (Ok c.in-Some-Ok.found)) (ends_as c.in_default.ensures.gives ∙ asks_as asks) is))
 
 pub returns-in-Some-Err-clause-completes : goal.returns-in-Some-Err-clause-completes
-returns-in-Some-Err-clause-completes g c = λ steady files s t on way.
+returns-in-Some-Err-clause-completes g c = λ files s t on way.
     let asks = c.ask.ensures.asks in
     let so = c.in_default.ensures.completes files s t c.args.question (c.ask.ensures.on t on) (asks_well c.faults_tell_what_was_given.ensures.asked asks) (asks_for asks)
     (subst (λ (name : List ℕ). HasWay files name t c.args.question) (sym (asks_as asks)) way) in

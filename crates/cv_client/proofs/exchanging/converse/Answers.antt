@@ -1,13 +1,13 @@
-use Rattle.std.proofs.Common.{◌≡◌, ap, refl, ◌∙◌, rules}
+use Rattle.std.proofs.Common.{◌≡◌, ap, refl, sym, ◌∙◌, rules}
 use Rattle.std.specs.declared.result.Result.TheVariants.{Ok, Err}
-use Rattle.cv_ports.specs.Dial.{Came, came_of}
+use Rattle.cv_ports.specs.Dial.{came_of}
 use Rattle.cv_ports.specs.Streams.{front, onto}
 use Rattle.cv_http.specs.Requests.{request_text}
-use Rattle.cv_http.specs.ReplyTexts.{IsAwaitedReply, ReplyRead, ReplyLost}
+use Rattle.cv_http.specs.ReplyTexts.{ReplyRead, ReplyLost}
 use Rattle.cv_http.specs.Wires.{HasEnded}
 use Rattle.cv_http.specs.declared.fault.HttpFault.{HttpFault}
 use Rattle.cv_client.specs.Exchange.{GaveReply, replied}
-use Rattle.cv_client.proofs.Conversing.{all_of, all_passed, all_looked, passed_told, told_unsent, told_sent, front_of, told_of, unsent, unread}
+use Rattle.cv_client.proofs.Conversing.{all_of, all_passed, all_sent, all_looked, passed_told, told_unsent, told_sent, front_of, told_of, unsent, unread}
 use Rattle.cv_client.proofs.exchanging.converse.Goals as goal
 
 pub returns-in-Err-clause-converses : goal.returns-in-Err-clause-converses
@@ -83,17 +83,29 @@ returns-in-Ok-clause-looks g c =
     let text = request_text c.args.request.now in
     let whole : g.W.Sink.taken c.write_request.new.sink ≡ onto (g.W.Sink.taken c.args.link.writes) text = search rules in
     let flushed = c.write_request.ensures.flushed (λ is. c.in_default.not-Err _ is) c.requires.passed in
-    all_looked g.R.Source.left g.R.Source.looks c.new-wire.result c.read_reply-reply.new.self c.into_source.result c.args.request.now (g.W.Sink.passed c.args.link.writes) (g.W.Sink.passed c.write_request.new.sink) IsAwaitedReply
-    c.into_source.ensures (rw c.new-wire.ensures c.requires.unread) c.read_reply-reply.ensures.looks
+    let draws = c.in-Ok.ensures.reads in
+    let gave : g.R.Source.given c.into_source.result ≡ onto (g.R.Source.given c.args.link.reads) draws.got =
+    ap g.R.Source.given c.into_source.ensures ∙ draws.gave ∙ ap (λ w. onto (g.R.Source.given w.source) draws.got) c.new-wire.ensures in
+    let left : g.R.Source.left c.new-wire.result.source ≡ front draws.got (g.R.Source.left c.into_source.result) =
+    draws.told ∙ ap (λ s. front draws.got (g.R.Source.left s)) (sym c.into_source.ensures) in
+    all_looked g.R.Source.left g.R.Source.looks c.new-wire.result c.read_reply-reply.new.self c.into_source.result _ c.args.request.now (g.W.Sink.passed c.args.link.writes) (g.W.Sink.passed c.write_request.new.sink)
+    c.into_source.ensures (ap (λ w. w.held) c.new-wire.ensures) (rw c.new-wire.ensures c.requires.unread) c.read_reply-reply.ensures.looks
     (all_passed (g.W.Sink.taken c.args.link.writes) (g.W.Sink.taken c.write_request.new.sink) (g.W.Sink.passed c.write_request.new.sink) text c.requires.taken whole flushed)
     (passed_told c.write_request.ensures.part c.requires.passed flushed)
+    (all_sent (g.R.Source.given c.args.link.reads) (g.R.Source.given c.into_source.result) (g.R.Source.left c.into_source.result) (g.R.Source.left c.new-wire.result.source) draws.got c.requires.given gave left)
 
 pub returns-in-Err-reply-clause-looks : goal.returns-in-Err-reply-clause-looks
 returns-in-Err-reply-clause-looks g c =
     let text = request_text c.args.request.now in
     let whole : g.W.Sink.taken c.write_request.new.sink ≡ onto (g.W.Sink.taken c.args.link.writes) text = search rules in
     let flushed = c.write_request.ensures.flushed (λ is. c.in_default.not-Err _ is) c.requires.passed in
-    all_looked g.R.Source.left g.R.Source.looks c.new-wire.result c.read_reply-reply.new.self c.into_source.result c.args.request.now (g.W.Sink.passed c.args.link.writes) (g.W.Sink.passed c.write_request.new.sink) IsAwaitedReply
-    c.into_source.ensures (rw c.new-wire.ensures c.requires.unread) c.read_reply-reply.ensures.looks
+    let draws = c.in-Err-reply.ensures.reads in
+    let gave : g.R.Source.given c.into_source.result ≡ onto (g.R.Source.given c.args.link.reads) draws.got =
+    ap g.R.Source.given c.into_source.ensures ∙ draws.gave ∙ ap (λ w. onto (g.R.Source.given w.source) draws.got) c.new-wire.ensures in
+    let left : g.R.Source.left c.new-wire.result.source ≡ front draws.got (g.R.Source.left c.into_source.result) =
+    draws.told ∙ ap (λ s. front draws.got (g.R.Source.left s)) (sym c.into_source.ensures) in
+    all_looked g.R.Source.left g.R.Source.looks c.new-wire.result c.read_reply-reply.new.self c.into_source.result _ c.args.request.now (g.W.Sink.passed c.args.link.writes) (g.W.Sink.passed c.write_request.new.sink)
+    c.into_source.ensures (ap (λ w. w.held) c.new-wire.ensures) (rw c.new-wire.ensures c.requires.unread) c.read_reply-reply.ensures.looks
     (all_passed (g.W.Sink.taken c.args.link.writes) (g.W.Sink.taken c.write_request.new.sink) (g.W.Sink.passed c.write_request.new.sink) text c.requires.taken whole flushed)
     (passed_told c.write_request.ensures.part c.requires.passed flushed)
+    (all_sent (g.R.Source.given c.args.link.reads) (g.R.Source.given c.into_source.result) (g.R.Source.left c.into_source.result) (g.R.Source.left c.new-wire.result.source) draws.got c.requires.given gave left)

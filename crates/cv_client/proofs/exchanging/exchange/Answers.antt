@@ -3,6 +3,7 @@ use Rattle.std.specs.Prelude.{IsSome}
 use Rattle.cv_ports.specs.Dial.{Came, came_of}
 use Rattle.cv_client.specs.Exchange.{linked, undialled}
 use Rattle.cv_client.proofs.Conversing.{back_rose}
+use Rattle.cv_client.proofs.Lemmas.{came_back}
 use Rattle.cv_client.proofs.Telling.{linked_once}
 use Rattle.cv_client.proofs.exchanging.exchange.Goals as goal
 
@@ -27,8 +28,20 @@ pub returns-clause-looks : goal.returns-clause-looks
 returns-clause-looks g c = λ look is. elim (c.back.ensures.noted look is) [
   | inl old ↦ inl (c.in-Ok.ensures.unlooked look old)
   | inr new ↦
-      let behind = c.converse-link.ensures.looks look new in
-      inr (record { whole = behind.whole; told = λ told. behind.told (subst IsSome (sym c.in-Ok.ensures.passed) (c.in-Ok.ensures.taken_told told)) })
+      let came : Came = came_of g.N.Reads.Source.given g.N.Reads.Source.left g.N.Writes.Sink.taken g.N.Writes.Sink.passed c.converse-link.result.0 in
+      let at = c.converse-link.ensures.looks look new in
+      inr (record {
+        link = came;
+        back = came_back c.args.url.now came (g.N.Dial.came c.args.dial.now) (g.N.Dial.came c.back.new.self)
+            (linked_once c.args.url.now came _ (g.N.Dial.came c.args.dial.now) (g.N.Dial.came c.dial.new.self) (g.N.Dial.came c.back.new.self) c.as_str.ensures c.in-Ok.ensures.opened c.back.ensures.came);
+        behind = record {
+          whole = at.whole;
+          told = λ told. at.told (subst IsSome (sym c.in-Ok.ensures.passed) (c.in-Ok.ensures.taken_told told));
+          got = at.got;
+          split = at.split;
+          awaits = at.awaits;
+        };
+      })
 ]
 
 pub returns-in_default-clause-looks : goal.returns-in_default-clause-looks

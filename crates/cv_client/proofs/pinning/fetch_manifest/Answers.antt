@@ -1,13 +1,12 @@
 use Rattle.std.proofs.Common.{◌≡◌, ℕ, List, sym, ap, subst, ◌∙◌}
 use Rattle.std.specs.Prelude.{Option, Some}
-use Rattle.std.specs.declared.result.Result.TheVariants.{Ok, Err}
+use Rattle.std.specs.declared.result.Result.TheVariants.{Ok}
 use Rattle.cv_client.specs.Pin.{good, bad, absent, lost}
 use Rattle.cv_client.specs.Fetch.{Fetches}
 use Rattle.cv_client.specs.Requests.{manifest_name}
 use Rattle.cv_manifest.specs.Manifest.{Says}
 use Rattle.cv_client.specs.Served.{IsFetched}
-use Rattle.cv_client.specs.declared.exchanging.ExchangeFault.{ExchangeFault}
-use Rattle.cv_client.proofs.Supplying.{unpinned, no_memory_for}
+use Rattle.cv_client.proofs.Supplying.{unfetched, no_memory_for}
 use Rattle.cv_client.proofs.pinning.fetch_manifest.Goals as goal
 
 pub returns-in-Ok-clause-fetches : goal.returns-in-Ok-clause-fetches
@@ -29,14 +28,14 @@ pub returns-clause-fetches : goal.returns-clause-fetches
 returns-clause-fetches g c = rw c.of_exchange.ensures (lost c.in-Err.fault c.in-Err.ensures.fetches)
 
 pub returns-in-Ok-clause-completes : goal.returns-in-Ok-clause-completes
-returns-in-Ok-clause-completes g c = λ steady files s text m has says.
+returns-in-Ok-clause-completes g c = λ files s text m has says.
     let same : c.in-Ok-Some.field-0 ≡ Some c.as_slice.result.now = c.in-Ok-Some.field-0-is ∙ ap (λ (b : List ℕ). Some b) (sym c.as_slice.ensures) in
     let got : c.as_slice.result.now ≡ text = subst (λ (x : Option (List ℕ)). IsFetched text (Ok x)) same (c.in-Ok-Some.ensures.completes files text has s) in
     let says_here = subst (λ (b : List ℕ). Says (g.S.Signer.is_seal c.args.signer.now) b m) (sym got) says in
     c.a_text_says_one_manifest.ensures (g.S.Signer.is_seal c.args.signer.now) c.as_slice.result.now c.in-Ok.manifest m c.in-Ok.ensures.value says_here
 
 pub returns-in-Ok-Some-clause-completes : goal.returns-in-Ok-Some-clause-completes
-returns-in-Ok-Some-clause-completes g c = λ steady files s text m has says.
+returns-in-Ok-Some-clause-completes g c = λ files s text m has says.
     let same : c.in-Ok-Some.field-0 ≡ Some c.as_slice.result.now = c.in-Ok-Some.field-0-is ∙ ap (λ (b : List ℕ). Some b) (sym c.as_slice.ensures) in
     let got : c.as_slice.result.now ≡ text = subst (λ (x : Option (List ℕ)). IsFetched text (Ok x)) same (c.in-Ok-Some.ensures.completes files text has s) in
     let says_here = subst (λ (b : List ℕ). Says (g.S.Signer.is_seal c.args.signer.now) b m) (sym got) says in
@@ -45,10 +44,10 @@ returns-in-Ok-Some-clause-completes g c = λ steady files s text m has says.
     (c.a_manifest_shows_no_fault.ensures (g.S.Signer.is_seal c.args.signer.now) c.as_slice.result.now m c.in-Err-read.fault says_here c.in-Err-read.ensures.fault))
 
 pub returns-in-Ok-None-clause-completes : goal.returns-in-Ok-None-clause-completes
-returns-in-Ok-None-clause-completes g c = λ steady files s text m has says.
+returns-in-Ok-None-clause-completes g c = λ files s text m has says.
     absurd (subst (λ (x : Option (List ℕ)). IsFetched text (Ok x)) c.in-Ok-None.field-0-is (c.in-Ok-None.ensures.completes files text has s))
 
 pub returns-clause-completes : goal.returns-clause-completes
-returns-clause-completes g c = λ steady files s text m has says.
+returns-clause-completes g c = λ files s text m has says.
     rw c.of_exchange.ensures
-    (unpinned m text c.in-Err.fault (λ is. steady (c.in-Err.ensures.cause.failed (ap (λ (f : ExchangeFault). Err f) is))) (c.in-Err.ensures.completes files text has s))
+    (unfetched m text c.in-Err.fault (c.in-Err.ensures.completes files text has s))
