@@ -8,6 +8,7 @@ use Rattle.cv_resolver.specs.declared.found.RenewFault.{RenewFault}
 use Rattle.cv_client.specs.Answer.{Answers}
 use Rattle.cv_client.specs.Exchange.{Links}
 use Rattle.cv_client.specs.Pin.{FetchesManifest}
+use Rattle.cv_client.specs.Served.{FetchesServed, AnswersServed}
 use Rattle.cv_client.specs.declared.url.Url.{Url}
 use Rattle.cv_client.specs.declared.ask_fault.AskFault.{AskFault}
 use Rattle.cv_client.specs.declared.ask_fault.AskFault.TheVariants as ask_fault
@@ -52,13 +53,16 @@ Prints says told = (told ≡ says) ⊎ (told ≡ Err NoMemory)
 module _ (is_seal : List ℕ → List ℕ → Bool) (u : Url) where
   -- the manifest was fetched, and taken or refused; or it wasn't fetched
   pub data Renews (before after : Links) (r r' : Client) (told : Said) : Type 0 where
-    offered : (m : Manifest) → FetchesManifest is_seal u before after (Ok m) → r' ≡ after_renewal r m (renewal r m) → Prints (said_of_renewal m (renewal r m)) told → Renews before after r r' told
-    unfetched : (fault : AskFault) → FetchesManifest is_seal u before after (Err fault) → r' ≡ r → Prints (said_of_fault fault) told → Renews before after r r' told
+    offered : (m : Manifest) → FetchesManifest is_seal u before after (Ok m) → FetchesServed is_seal u before after (Ok m) → r' ≡ after_renewal r m (renewal r m)
+        → Prints (said_of_renewal m (renewal r m)) told → Renews before after r r' told
+    unfetched : (fault : AskFault) → FetchesManifest is_seal u before after (Err fault) → FetchesServed is_seal u before after (Err fault) → r' ≡ r
+        → Prints (said_of_fault fault) told → Renews before after r r' told
 
   -- What a line came to, with the links that came back and the client, before and after it: its question was answered; the client was
   -- renewed, or not; or it is of another form. Or there was no memory to read it.
   pub data Turns (line : List ℕ) (before after : Links) (r r' : Client) (told : Said) : Type 0 where
-    asks : (q : Question) (answer : Result Found AskFault) → Says line (Ask q) → Answers u q before after r r' answer → Prints (said answer) told → Turns line before after r r' told
+    asks : (q : Question) (answer : Result Found AskFault) → Says line (Ask q) → Answers u q before after r r' answer → AnswersServed u q before after r answer
+        → Prints (said answer) told → Turns line before after r r' told
     renews : Says line Renew → Renews before after r r' told → Turns line before after r r' told
     bad_line : ((asked : Line) → Says line asked → ⊥) → after ≡ before → r' ≡ r → Prints (Ok (refusal (codes "bad line"))) told → Turns line before after r r' told
     unread : after ≡ before → r' ≡ r → told ≡ Err NoMemory → Turns line before after r r' told

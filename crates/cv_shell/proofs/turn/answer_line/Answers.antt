@@ -5,7 +5,7 @@ use Rattle.cv_shell.proofs.turn.answer_line.Goals as goal
 pub returns-in-Ok-Some-Ask-clause-turns : goal.returns-in-Ok-Some-Ask-clause-turns
 returns-in-Ok-Some-Ask-clause-turns g c =
     asks c.in-Ok-Some-Ask.question c.answer-answer.result (rw (c.in-Ok-Some-Ask.field-0-is, c.in-Ok-Some-Ask.field-0-0-is) at c.in-Ok-Some-Ask.ensures.says)
-    c.answer-answer.ensures.answers c.say.ensures.prints
+    c.answer-answer.ensures.answers c.answer-answer.ensures.completes c.say.ensures.prints
 
 pub returns-in-Ok-Some-Renew-clause-turns : goal.returns-in-Ok-Some-Renew-clause-turns
 returns-in-Ok-Some-Renew-clause-turns g c =
