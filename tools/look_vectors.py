@@ -2,7 +2,8 @@
 """Questions of a client for the tests of cv_top: what servers reply, what the links to them must take, and what is printed.
 
 The tree is that of the second revision of `session_vectors.py`: the file `/a` alone. A row of LOOKS is a command: its first word and
-its path, the replies of its links in their order, all the requests that these must take, the output, the status and the line.
+its path, the replies of its links in their order, all the requests that these must take, the output, the status and the line. A row
+of STALLS is the same where each peer gives its bytes, and then nothing more until the read fails, as one whose time runs out.
 """
 import hmac
 
@@ -86,6 +87,24 @@ LOOKS = [
     look("ls", "/", ["MANIFEST"], FIRST, code=8, line="link failed"),
 ]
 
+# A whole reply is taken from a peer that stalls behind it; a part of one is a link that failed, wherever it ends.
+WHOLE = octets(SECOND_MANIFEST)
+STALLS = [
+    look("cat", "/a", ["MANIFEST", "TREE", "CONTENT"], ALL, HELLO),
+    look("cat", "/a", ["MANIFEST", "TREE", "ABSENT"], ALL, code=11, line=f"not served {digits(HELLO)}"),
+    look("ls", "/", [b""], FIRST, code=8, line="link failed"),
+    look("ls", "/", [b"HTTP/1.1 20"], FIRST, code=8, line="link failed"),
+    look("ls", "/", [b"HTTP/1.1 200 OK\r\nContent-Le"], FIRST, code=8, line="link failed"),
+    look("ls", "/", [b"HTTP/1.1 200 OK\r\nContent-Length: 223\r\n"], FIRST, code=8, line="link failed"),
+    look("ls", "/", [b"HTTP/1.1 100 Continue\r\n\r\n"], FIRST, code=8, line="link failed"),
+    look("ls", "/", [b"HTTP/1.1 100 Continue\r\n\r\nHTTP/1.1 200 OK\r\n"], FIRST, code=8, line="link failed"),
+    look("ls", "/", [b"HTTP/1.1 200 OK\r\nContent-Length: 223\r\n\r\n"], FIRST, code=8, line="link failed"),
+    look("ls", "/", [WHOLE[:-1]], FIRST, code=8, line="link failed"),
+    look("ls", "/", [b"HTTP/1.1 200 OK\r\n\r\n" + SECOND_MANIFEST], FIRST, code=8, line="link failed"),
+    look("ls", "/", ["MANIFEST", b""], BOTH, code=8, line="link failed"),
+    look("cat", "/a", ["MANIFEST", "TREE", octets(HELLO)[:-1]], ALL, code=8, line="link failed"),
+]
+
 if __name__ == "__main__":
     assert WITH_FILE == catalogues({"": ("dir", b""), "/a": ("file", HELLO)})[""]
     settle(
@@ -95,5 +114,6 @@ if __name__ == "__main__":
             *(constant(word, "&[u8]", literal(reply)) for word, reply in REPLIES.items()),
             *(constant(word, "&[u8]", requests(paths)) for word, paths in REQUESTS.items()),
             table("LOOKS", "(&str, &str, &[&[u8]], &[u8], &[u8], u8, &str)", LOOKS, "static"),
+            table("STALLS", "(&str, &str, &[&[u8]], &[u8], &[u8], u8, &str)", STALLS, "static"),
         ],
     )

@@ -298,7 +298,7 @@ pub fn run<
     ensures links { HasCause (N.faults parts.dial) (N.faults result.1.dial) (result.0 ≡ LinkFailed) }
     ensures folders { HasCause (F.faults parts.folder) (F.faults result.1.folder) (result.0 ≡ FolderFailed) }
 
-    // Each read of a link began when that link had passed on a whole request.
+    // Each read of a link began when that link had passed on a whole request, and had given no whole reply.
     ensures asks { AsksFirst N.came N.looks parts.dial result.1.dial }
 
     // Where no count rose, `init` and `stdio` do their work, or want memory.
@@ -314,7 +314,8 @@ pub fn run<
     ensures tells { IsQuestion (map string_bytes words.now) → tells_of_tree result.0 ≡ true
         → Tells W.taken (map string_bytes words.now) (string_bytes parts.seal) (N.came parts.dial) (N.came result.1.dial) parts.output result.1.output result.0 }
 
-    // The same of a shell, line by line, in the tree of the head at which its client is pinned.
+    // The same of a shell, line by line, in the tree of the head at which its client is pinned; and where the links of a line sent
+    // what a server has, which is all that it wants, the line is answered by the tree.
     ensures shell { IsShell (map string_bytes words.now)
         → TellsLines R.left W.taken (map string_bytes words.now) (string_bytes parts.seal) (N.came parts.dial) (N.came result.1.dial)
         parts.input result.1.input parts.output result.1.output result.0 }

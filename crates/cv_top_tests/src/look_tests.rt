@@ -1,8 +1,9 @@
 //! Questions to servers in memory. What these reply, what they must be asked and what is printed are by
 //! `tools/look_vectors.py`, and not the program's own.
 
-use crate::test_runs::{Around, Ended, link_with, run_on};
+use crate::test_runs::{Around, Ended, link_with, run_on, stalled_link};
 use cv_base::NoMemory;
+use cv_ports::MemoryLink;
 use cv_vault::MemoryVault;
 use std::alloc::Global;
 use std::test::Fail;
@@ -253,19 +254,157 @@ static LOOKS: [(&str, &str, &[&[u8]], &[u8], &[u8], u8, &str); 22] = [
     ),
 ];
 
-/// How a command ends whose links give these replies, under this seal.
+/// The same where each peer gives its bytes, and then nothing more until the read fails, as one whose time runs out: a whole reply
+/// is taken, and a part of one is a link that failed.
+static STALLS: [(&str, &str, &[&[u8]], &[u8], &[u8], u8, &str); 13] = [
+    (
+        "cat",
+        "/a",
+        &[MANIFEST, TREE, CONTENT],
+        ALL,
+        b"hello\n",
+        0,
+        "",
+    ),
+    (
+        "cat",
+        "/a",
+        &[MANIFEST, TREE, ABSENT],
+        ALL,
+        b"",
+        11,
+        "cvkit: not served f572d396fae9206628714fb2ce00f72e94f2258f\n",
+    ),
+    ("ls", "/", &[b""], FIRST, b"", 8, "cvkit: link failed\n"),
+    (
+        "ls",
+        "/",
+        &[b"HTTP/1.1 20"],
+        FIRST,
+        b"",
+        8,
+        "cvkit: link failed\n",
+    ),
+    (
+        "ls",
+        "/",
+        &[b"HTTP/1.1 200 OK\x0d\nContent-Le"],
+        FIRST,
+        b"",
+        8,
+        "cvkit: link failed\n",
+    ),
+    (
+        "ls",
+        "/",
+        &[b"HTTP/1.1 200 OK\x0d\nContent-Length: 223\x0d\n"],
+        FIRST,
+        b"",
+        8,
+        "cvkit: link failed\n",
+    ),
+    (
+        "ls",
+        "/",
+        &[b"HTTP/1.1 100 Continue\x0d\n\x0d\n"],
+        FIRST,
+        b"",
+        8,
+        "cvkit: link failed\n",
+    ),
+    (
+        "ls",
+        "/",
+        &[b"HTTP/1.1 100 Continue\x0d\n\x0d\nHTTP/1.1 200 OK\x0d\n"],
+        FIRST,
+        b"",
+        8,
+        "cvkit: link failed\n",
+    ),
+    (
+        "ls",
+        "/",
+        &[b"HTTP/1.1 200 OK\x0d\nContent-Length: 223\x0d\n\x0d\n"],
+        FIRST,
+        b"",
+        8,
+        "cvkit: link failed\n",
+    ),
+    (
+        "ls",
+        "/",
+        &[
+            b"HTTP/1.1 200 OK\x0d\nContent-Type: application/octet-stream\x0d\nContent-Length: 223\x0d\n\x0d\nCe6d2e652fce99490956f1126db1cc69c2babc5ce\nB171\nRd41d8cd98f00b204e9800998ecf8427e\nD240\nS2\nNsw.example.org\nHcf0f63d102052d794fc88a4f001b97451d5bac77\nT1700000000\n--\nb295a9355487c4e5b41b14146b2a89f1beba89aa\n\x1e\xb8\xde2\xcc\xe6`\x19\xdcHU\x15y\x86\x0du\x02\xdd\x8f",
+        ],
+        FIRST,
+        b"",
+        8,
+        "cvkit: link failed\n",
+    ),
+    (
+        "ls",
+        "/",
+        &[
+            b"HTTP/1.1 200 OK\x0d\n\x0d\nCe6d2e652fce99490956f1126db1cc69c2babc5ce\nB171\nRd41d8cd98f00b204e9800998ecf8427e\nD240\nS2\nNsw.example.org\nHcf0f63d102052d794fc88a4f001b97451d5bac77\nT1700000000\n--\nb295a9355487c4e5b41b14146b2a89f1beba89aa\n\x1e\xb8\xde2\xcc\xe6`\x19\xdcHU\x15y\x86\x0du\x02\xdd\x8f\x8b",
+        ],
+        FIRST,
+        b"",
+        8,
+        "cvkit: link failed\n",
+    ),
+    (
+        "ls",
+        "/",
+        &[MANIFEST, b""],
+        BOTH,
+        b"",
+        8,
+        "cvkit: link failed\n",
+    ),
+    (
+        "cat",
+        "/a",
+        &[
+            MANIFEST,
+            TREE,
+            b"HTTP/1.1 200 OK\x0d\nContent-Type: application/octet-stream\x0d\nContent-Length: 6\x0d\n\x0d\nhello",
+        ],
+        ALL,
+        b"",
+        8,
+        "cvkit: link failed\n",
+    ),
+];
+
+/// Links whose peers give these replies and end there.
+fn links_with(alloc: Global, replies: &[&[u8]]) -> Result<Vec<MemoryLink>, NoMemory> {
+    let mut links = Vec::new(alloc);
+    for reply in replies {
+        links.push(link_with(alloc, reply)?)?;
+    }
+    Ok(links)
+}
+
+/// Links whose peers give these replies and stall there.
+fn stalled_links(alloc: Global, replies: &[&[u8]]) -> Result<Vec<MemoryLink>, NoMemory> {
+    let mut links = Vec::new(alloc);
+    for reply in replies {
+        links.push(stalled_link(alloc, reply)?)?;
+    }
+    Ok(links)
+}
+
+/// How a command ends over these links, under this seal.
 fn looked(
     alloc: Global,
     verb: &str,
     path: &str,
-    replies: &[&[u8]],
+    links: Vec<MemoryLink>,
     seal: &'static str,
 ) -> Result<Ended, NoMemory> {
     let mut around = Around::usual(alloc);
     around.seal = seal;
-    for reply in replies {
-        around.links.push(link_with(alloc, reply)?)?;
-    }
+    around.links = links;
     let vault = MemoryVault::new(alloc, Vec::new(alloc))?;
     let (ended, _) = run_on(alloc, &[verb, URL, path], vault, b"".as_slice(), around)?;
     Ok(ended)
@@ -274,7 +413,23 @@ fn looked(
 #[test]
 fn asks_servers(rt: HostRuntime) -> Result<(), Fail> {
     for (verb, path, replies, requests, output, code, line) in &LOOKS {
-        let ended = looked(rt.alloc(), verb, path, replies, "seal")?;
+        let links = links_with(rt.alloc(), replies)?;
+        let ended = looked(rt.alloc(), verb, path, links, "seal")?;
+        assert!(rt; ended.wrote(*code, output), "{verb} {path} {line}");
+        assert!(rt; ended.said(*code, line), "{verb} {path} {line}");
+        assert!(rt;
+            ended.requests.as_slice() == *requests,
+            "{verb} {path} {line}"
+        );
+    }
+    Ok(())
+}
+
+#[test]
+fn waits_for_no_more_than_a_whole_reply(rt: HostRuntime) -> Result<(), Fail> {
+    for (verb, path, replies, requests, output, code, line) in &STALLS {
+        let links = stalled_links(rt.alloc(), replies)?;
+        let ended = looked(rt.alloc(), verb, path, links, "seal")?;
         assert!(rt; ended.wrote(*code, output), "{verb} {path} {line}");
         assert!(rt; ended.said(*code, line), "{verb} {path} {line}");
         assert!(rt;
@@ -287,7 +442,8 @@ fn asks_servers(rt: HostRuntime) -> Result<(), Fail> {
 
 #[test]
 fn asks_no_server_under_an_empty_seal(rt: HostRuntime) -> Result<(), Fail> {
-    let ended = looked(rt.alloc(), "ls", "/", &[MANIFEST, TREE], "")?;
+    let links = links_with(rt.alloc(), &[MANIFEST, TREE])?;
+    let ended = looked(rt.alloc(), "ls", "/", links, "")?;
     assert!(rt; ended.said(16, "cvkit: bad keys\n"));
     assert!(rt; ended.requests.is_empty());
     Ok(())

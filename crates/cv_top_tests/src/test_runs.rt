@@ -128,6 +128,15 @@ pub(crate) fn link_with(alloc: Global, reply: &[u8]) -> Result<MemoryLink, NoMem
     MemoryLink::new(alloc, reads, writes)
 }
 
+/// A link whose peer gives these bytes at once, and then nothing until the read fails.
+pub(crate) fn stalled_link(alloc: Global, reply: &[u8]) -> Result<MemoryLink, NoMemory> {
+    let failing = if reply.is_empty() { 1 } else { 2 };
+    let failing = vec![in alloc; failing]?;
+    let reads = MemorySource::new(Vec::from_slice(alloc, reply)?, 1_000, failing);
+    let writes = MemorySink::new(alloc, 20_000, Vec::new(alloc))?;
+    MemoryLink::new(alloc, reads, writes)
+}
+
 /// All that the links took that came back to a dial.
 fn requests_of(alloc: Global, dial: MemoryDial) -> Result<Vec<u8>, NoMemory> {
     let links = dial.into_links(alloc)?;
