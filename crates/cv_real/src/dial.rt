@@ -1,5 +1,7 @@
 //! Links over TCP.
-ghost use Rattle.std.specs.Prelude.{◌≡◌, ◌≤◌, None, IfOk};
+ghost use Rattle.std.specs.Prelude.{◌≡◌, ◌≤◌, ◌*◌, None, IfOk};
+ghost use Rattle.std.specs.Net.ToAddrs.{GivesHostAndPort};
+ghost use Rattle.std.specs.Duration.{as_nanos};
 ghost use Rattle.cv_ports.specs.Dial.{after_back};
 
 use crate::count::FaultCount;
@@ -7,13 +9,13 @@ use crate::streams::{StreamSink, StreamSource};
 use cv_ports::{Dial, Failed, HostName, Link};
 use std::io;
 use std::io::ErrorKind;
-use std::net::{Net, Shutdown, TcpListener, TcpStream, ToSocketAddrs};
+use std::net::{HostAddrs, Net, Shutdown, TcpListener, TcpStream, ToSocketAddrs};
 use std::time::Duration;
 
-/// How long a host has to answer at one of its addresses, in seconds.
+/// How many seconds a host has to answer at one of its addresses.
 const ANSWER_LIMIT: u64 = 30;
 
-/// How long a peer may send nothing, or take nothing, before the call fails, in seconds.
+/// How many seconds a peer may send nothing, or take nothing, before the call fails.
 const STALL_LIMIT: u64 = 60;
 
 /// What a peer sends. What it is sent stands beside it.
@@ -32,6 +34,31 @@ pub struct TcpDial<R: Net<Listener = TcpListener, Stream = TcpStream> + Drop> {
     faults: FaultCount,
 }
 
+/// How long a host has to answer at one of its addresses.
+fn answer_limit() -> Duration
+    ensures { as_nanos result ≡ 30 * 1_000_000_000 }
+{
+    Duration::from_secs(ANSWER_LIMIT)
+}
+
+/// How long a peer may send nothing, or take nothing, before the call fails.
+fn stall_limit() -> Duration
+    ensures { as_nanos result ≡ 60 * 1_000_000_000 }
+{
+    Duration::from_secs(STALL_LIMIT)
+}
+
+/// The addresses of a port of a host. A text that is an IP address, of version 4 or 6 and without brackets, isn't looked up.
+fn addresses<R: Net<Listener = TcpListener, Stream = TcpStream>>(
+    rt: &R,
+    host: &str,
+    port: u16,
+) -> io::Result<HostAddrs>
+    ensures { GivesHostAndPort host.now port result }
+{
+    (host, port).to_socket_addrs(rt)
+}
+
 /// A stream to the first address of a host that answers.
 fn connect<R: Net<Listener = TcpListener, Stream = TcpStream>>(
     rt: &R,
@@ -39,8 +66,8 @@ fn connect<R: Net<Listener = TcpListener, Stream = TcpStream>>(
     port: u16,
 ) -> io::Result<TcpStream> {
     let mut last = io::Error::from(ErrorKind::NotFound);
-    for address in (host, port).to_socket_addrs(rt)? {
-        match TcpStream::connect_timeout(rt, &address, Duration::from_secs(ANSWER_LIMIT)) {
+    for address in addresses(rt, host, port)? {
+        match TcpStream::connect_timeout(rt, &address, answer_limit()) {
             Ok(stream) => return Ok(stream),
             Err(error) => last = error,
         }
@@ -58,7 +85,7 @@ fn open<R: Net<Listener = TcpListener, Stream = TcpStream>>(
     ensures writes { IfOk result (λ both. both.1.faults.number ≡ 0) }
 {
     let stream = connect(rt, host, port)?;
-    let limit = Some(Duration::from_secs(STALL_LIMIT));
+    let limit = Some(stall_limit());
     stream.set_nodelay(true)?;
     stream.set_read_timeout(limit)?;
     stream.set_write_timeout(limit)?;

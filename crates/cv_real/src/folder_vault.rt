@@ -1,14 +1,17 @@
 //! A vault over a folder.
-ghost use Rattle.std.specs.Prelude.{◌≡◌, ◌≤◌, None, IfOk, ⊤};
+ghost use Rattle.std.specs.Prelude.{◌≡◌, ◌≤◌, ◌<◌, ◌+◌, ◌↔◌, ◌++◌, [], ◌∷◌, length, None, IfOk, IsOk, IsTrue, OnOk, codes, string_bytes, ⊤};
+ghost use Rattle.std.specs.IoError.{error_kind};
 ghost use Rattle.cv_base.specs.Counts.{HasCause};
-ghost use Rattle.cv_vault.specs.declared.vault.VaultFault.TheVariants.{Failed};
+ghost use Rattle.cv_vault.specs.declared.vault.VaultFault.TheVariants.{Failed, NoMemory};
+ghost use Rattle.cv_real.specs.Names.{is_name, folder_of};
 
 use crate::count::FaultCount;
 use crate::names::{NEXT, folder_of, is_name, is_root};
+use crate::path_buffer::PathBuffer;
 use crate::paths::{
-    Unsynced, clear_below, find_file, is_memory, list_files, make_folders, move_file, note,
-    put_file, read_found, sync_folder, sync_folders,
+    find_file, is_memory, list_files, make_folders, move_file, note, put_file, read_found,
 };
+use crate::walk::{Unsynced, Walk, sync_folders, sync_readable};
 use cv_base::{Bytes, Text};
 use cv_vault::{Vault, VaultFault};
 use std::alloc::{AllocError, Global};
@@ -16,9 +19,6 @@ use std::fs::{File, Metadata, OpenFile};
 use std::io::ErrorKind;
 use std::rt::Files;
 use std::{fs, io};
-
-/// The room for a path, from the constructor on. The system takes no longer path.
-const PATH_ROOM: usize = 4_096;
 
 /// What a vault has of its folder.
 #[derive(Drop)]
@@ -29,7 +29,7 @@ enum Hold {
     Held(File),
     /// No folder is there. The first write makes it.
     Absent,
-    /// Another vault holds the folder, or it couldn't be opened, locked or gone through. Each call fails.
+    /// Another vault holds the folder, or it couldn't be opened or locked. Each call fails.
     Refused,
 }
 
@@ -44,7 +44,8 @@ enum Hold {
 /// files at all times, and a file that others have under another name isn't changed. A sync makes the folders durable
 /// that changed since the last one. The first sync of a process does so with the folder, each one below it and the one
 /// above it, since it can't know what a process before it left in the system's memory. Where the system lost what was
-/// written to a folder it says so once, so each later sync fails until the process ends.
+/// written to a folder it says so once, so each later sync fails until the process ends. The constructor takes the memory
+/// that a sync wants, however many folders there are: no sync takes any.
 ///
 /// One vault at a time holds a folder, by the system's lock on it. Over a network the lock keeps out the vaults of the same
 /// machine alone. Nobody else may change the folder meanwhile.
@@ -54,11 +55,15 @@ pub struct FolderVault<R: Files<File = File> + AllocGlobal + Clone + Drop> {
     /// The folder's path, without a slash at its end.
     root: String,
     /// The path of the name that a call is about.
-    path: String,
+    path: PathBuffer,
     /// The path of the adapter's own file beside that name.
-    next: String,
+    next: PathBuffer,
     /// The folders to be synced.
     folders: Vec<String>,
+    /// Whether all folders are to be synced, also those that an earlier process changed.
+    is_unsettled: bool,
+    /// The room of the sync that goes over all folders.
+    walk: Walk,
     hold: Hold,
     /// Whether the system lost what was written to a folder.
     broken: bool,
@@ -102,35 +107,21 @@ fn make_held<R: Files<File = File>>(rt: &R, folder: &str, with_slash: &str) -> i
     held
 }
 
-/// Notes the folder above, where this process may read it, and all that is to be synced from the folder on.
-fn note_all<R: Files + AllocGlobal + Clone + Drop>(
-    rt: &R,
-    root: &str,
-    notes: &mut Vec<String>,
-) -> io::Result<()> {
-    let alloc = rt.alloc();
-    match fs::open(rt, folder_of(root)) {
-        Ok(_) => note(notes, folder_of(root))?,
-        Err(error) if error.kind() == ErrorKind::PermissionDenied => {}
-        Err(error) => return Err(error),
-    }
-    let folder = format!(in alloc; "{root}/")?;
-    clear_below(rt, folder.as_str(), notes)
-}
-
 impl<R: Files<File = File> + AllocGlobal + Clone + Drop> FolderVault<R> {
-    /// The vault over the folder at this path, which need not be there yet. It opens nothing: the first call holds the folder,
-    /// and takes the memory of the first sync. Where another vault holds the folder then, or it can't be gone through, each
-    /// call fails.
+    /// The vault over the folder at this path, which need not be there yet. It takes the memory of each later sync, and opens
+    /// nothing: the first call holds the folder. Where another vault holds the folder then, or it can't be opened, each call
+    /// fails.
     pub fn new(rt: R, root: &str) -> Result<FolderVault<R>, AllocError>
         ensures { IfOk result (λ vault. vault.faults.number ≡ 0) }
     {
         let alloc = rt.alloc();
         Ok(FolderVault {
             root: String::from_str(alloc, root)?,
-            path: String::with_capacity(alloc, PATH_ROOM)?,
-            next: String::with_capacity(alloc, PATH_ROOM)?,
+            path: PathBuffer::new(alloc)?,
+            next: PathBuffer::new(alloc)?,
             folders: Vec::new(alloc),
+            is_unsettled: false,
+            walk: Walk::new(alloc)?,
             hold: Hold::Unasked,
             broken: false,
             faults: FaultCount::new(),
@@ -138,12 +129,12 @@ impl<R: Files<File = File> + AllocGlobal + Clone + Drop> FolderVault<R> {
         })
     }
 
-    /// Holds the folder for the first call. Where memory is wanted a later call tries again.
+    /// Holds the folder for the first call.
     fn hold_first(&mut self) -> io::Result<()>
         ensures { self.new.faults ≡ self.old.faults }
     {
         let held = self.hold_now();
-        if held.as_ref().is_err_and(|error| !is_memory(error)) {
+        if held.is_err() {
             self.hold = Hold::Refused;
         }
         held
@@ -157,10 +148,9 @@ impl<R: Files<File = File> + AllocGlobal + Clone + Drop> FolderVault<R> {
             return Err(refused());
         }
         self.set_root()?;
-        self.folders.clear();
         match lock_folder(&self.rt, self.path.as_str()) {
             Ok(open) => {
-                note_all(&self.rt, self.root.as_str(), &mut self.folders)?;
+                self.is_unsettled = true;
                 self.hold = Hold::Held(open);
             }
             Err(error) if error.kind() == ErrorKind::NotFound => self.hold = Hold::Absent,
@@ -190,43 +180,43 @@ impl<R: Files<File = File> + AllocGlobal + Clone + Drop> FolderVault<R> {
         }
     }
 
-    /// Makes the path of the folder, with a slash at its end, without taking memory.
+    /// Sets the path of the folder, with a slash at its end.
     fn set_root(&mut self) -> io::Result<()>
-        ensures { self.new.faults ≡ self.old.faults }
+        ensures ok { IsOk result ↔ (length (string_bytes self.old.root) + 1 < 4096) }
+        ensures path { OnOk result (self.new.path ≡ string_bytes self.old.root ++ 47 ∷ []) }
+        ensures faults { self.new.faults ≡ self.old.faults }
     {
-        self.path.clear();
-        if self.root.len() + 1 >= PATH_ROOM {
-            return Err(refused());
+        if self.path.set(self.root.as_str(), "/") {
+            Ok(())
+        } else {
+            Err(refused())
         }
-        self.path.push_str(self.root.as_str())?;
-        self.path.push('/')?;
-        Ok(())
     }
 
-    /// Makes the path of a name, without taking memory.
+    /// Sets the path of a name. A text that is none is refused, and one whose path is longer than the system takes.
     fn set_path(&mut self, name: &str) -> io::Result<()>
-        ensures { self.new.faults ≡ self.old.faults }
+        ensures ok { IsOk result ↔ IsTrue (is_name name.now) × (length (string_bytes self.old.root) + length name.now + 1 < 4096) }
+        ensures path { OnOk result (self.new.path ≡ string_bytes self.old.root ++ 47 ∷ name.now) }
+        ensures faults { self.new.faults ≡ self.old.faults }
     {
-        if !is_name(name) || self.root.len() + name.len() + 1 >= PATH_ROOM {
-            return Err(refused());
+        if is_name(name) && self.path.set_below(self.root.as_str(), name) {
+            Ok(())
+        } else {
+            Err(refused())
         }
-        self.set_root()?;
-        self.path.push_str(name)?;
-        Ok(())
     }
 
-    /// Makes the path of the own file beside the path that is set, without taking memory.
+    /// Sets the path of the own file beside the path that is set.
     fn set_next(&mut self) -> io::Result<()>
-        ensures { self.new.faults ≡ self.old.faults }
+        ensures next { OnOk result (self.new.next ≡ folder_of self.old.path ++ codes ".cvkit-next") }
+        ensures path { self.new.path ≡ self.old.path }
+        ensures faults { self.new.faults ≡ self.old.faults }
     {
-        let folder = folder_of(self.path.as_str());
-        self.next.clear();
-        if folder.len() + NEXT.len() >= PATH_ROOM {
-            return Err(refused());
+        if self.next.set(folder_of(self.path.as_str()), NEXT) {
+            Ok(())
+        } else {
+            Err(refused())
         }
-        self.next.push_str(folder)?;
-        self.next.push_str(NEXT)?;
-        Ok(())
     }
 
     /// Makes the path of a name, and tells whether the vault has a folder.
@@ -273,7 +263,8 @@ impl<R: Files<File = File> + AllocGlobal + Clone + Drop> FolderVault<R> {
 
     /// Want of memory, or one more fault.
     fn fault_of(&mut self, error: &io::Error) -> VaultFault
-        ensures { HasCause self.old.faults.number self.new.faults.number (result ≡ Failed) }
+        ensures memory { result ≡ NoMemory → error_kind error.now ≡ ErrorKind.OutOfMemory }
+        ensures cause { HasCause self.old.faults.number self.new.faults.number (result ≡ Failed) }
     {
         if is_memory(error) {
             VaultFault::NoMemory
@@ -370,6 +361,17 @@ impl<R: Files<File = File> + AllocGlobal + Clone + Drop> FolderVault<R> {
         Ok(true)
     }
 
+    /// Makes the folders durable that changed, or all of them where an earlier process may have changed some.
+    fn sync_changed(&mut self) -> Result<(), Unsynced>
+        ensures { self.new.faults ≡ self.old.faults }
+    {
+        if self.is_unsettled {
+            sync_readable(&self.rt, folder_of(self.root.as_str()))?;
+            self.walk.sync_all(&self.rt, self.root.as_str())?;
+        }
+        sync_folders(&self.rt, &self.folders)
+    }
+
     fn sync_now(&mut self) -> io::Result<()>
         ensures { self.new.faults ≡ self.old.faults }
     {
@@ -379,8 +381,9 @@ impl<R: Files<File = File> + AllocGlobal + Clone + Drop> FolderVault<R> {
         if self.broken {
             return Err(refused());
         }
-        match sync_folders(&self.rt, &self.folders) {
+        match self.sync_changed() {
             Ok(()) => {
+                self.is_unsettled = false;
                 self.folders.clear();
                 Ok(())
             }

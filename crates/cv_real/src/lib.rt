@@ -7,10 +7,12 @@ mod dial;
 mod folder_vault;
 mod listing;
 mod names;
+mod path_buffer;
 mod paths;
 mod streams;
 mod system_folder;
 mod texts;
+mod walk;
 
 pub use clock::SystemClock;
 pub use dial::TcpDial;

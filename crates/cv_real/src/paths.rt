@@ -1,8 +1,9 @@
-//! What stands in a folder, without going through a link, and what of it is to be synced. A folder's path ends in a slash:
-//! the system then opens nothing but a folder there.
-ghost use Rattle.std.specs.Prelude.{◌≤◌, length, IfOk};
+//! What stands in a folder, without going through a link. A folder's path ends in a slash: the system then opens nothing but a
+//! folder there.
+ghost use Rattle.std.specs.Prelude.{◌≡◌, ◌≤◌, ◌↔◌, None, length, IfOk, IsTrue};
+ghost use Rattle.std.specs.IoError.{error_kind, raw_os_error};
 
-use crate::names::{NEXT, OWN, folder_of};
+use crate::names::{folder_of, is_own};
 use std::alloc::{AllocError, Global};
 use std::fs::{File, Metadata, OpenFile};
 use std::io::{ErrorKind, Read, Write};
@@ -10,18 +11,11 @@ use std::os::unix::fs::MetadataExt;
 use std::rt::Files;
 use std::{fs, io};
 
-/// A sync that didn't come to its end.
-#[derive(Clone, Copy)]
-pub enum Unsynced {
-    /// A folder couldn't be opened. The system told nothing of what was written, and a later try is as good as this one.
-    NotOpened,
-    /// The system said that it lost what was written. It says so once.
-    Lost,
-}
-
 /// Whether the error is want of memory in this process, and not an error that the system gave.
-pub fn is_memory(error: &io::Error) -> bool {
-    error.kind() == ErrorKind::OutOfMemory && error.raw_os_error().is_none()
+pub fn is_memory(error: &io::Error) -> bool
+    ensures { IsTrue result ↔ (error_kind error.now ≡ ErrorKind.OutOfMemory) × (raw_os_error error.now ≡ None) }
+{
+    matches!(error.kind(), ErrorKind::OutOfMemory) && error.raw_os_error().is_none()
 }
 
 /// What stands at a path, where something does. Of a link this tells the link itself.
@@ -181,85 +175,18 @@ pub fn move_file(rt: &impl Files, from: &str, found: &Metadata, to: &str) -> io:
     fs::rename(rt, from, to)
 }
 
-/// Makes what a folder holds durable, by names alone.
-pub fn sync_folder(rt: &impl Files, folder: &str) -> Result<(), Unsynced> {
-    let Ok(open) = fs::open(rt, folder) else {
-        return Err(Unsynced::NotOpened);
-    };
-    if open.sync_all().is_err() {
-        return Err(Unsynced::Lost);
-    }
-    Ok(())
-}
-
-/// Makes each folder durable.
-pub fn sync_folders(rt: &impl Files, folders: &Vec<String>) -> Result<(), Unsynced> {
-    for folder in folders {
-        sync_folder(rt, folder.as_str())?;
-    }
-    Ok(())
-}
-
 /// Whether a listing goes on without what this error hides: a name that isn't UTF-8, a path that is longer than the system
 /// takes, or nothing at all. No name of a vault is behind it.
-fn is_no_name(error: &io::Error) -> bool {
+pub fn is_no_name(error: &io::Error) -> bool {
     error.kind() == ErrorKind::InvalidFilename || error.kind() == ErrorKind::NotFound
 }
 
 /// What stands at an entry of a folder. Nothing stands at one whose path is longer than the system takes.
-fn seen_entry<R: Files>(rt: &R, path: &str) -> io::Result<Option<Metadata>> {
+pub fn seen_entry<R: Files>(rt: &R, path: &str) -> io::Result<Option<Metadata>> {
     match seen(rt, path) {
         Err(error) if is_no_name(&error) => Ok(None),
         found => found,
     }
-}
-
-/// Removes what an earlier process left in a folder, and adds the folders in it to what is to be done.
-fn clear_folder<R: Files + AllocGlobal + Clone + Drop>(
-    rt: &R,
-    folder: &str,
-    todo: &mut Vec<String>,
-) -> io::Result<()> {
-    for entry in fs::read_dir(rt, folder)? {
-        let entry = match entry {
-            Err(error) if is_no_name(&error) => continue,
-            entry => entry?,
-        };
-        let last = entry.file_name();
-        let path = entry.path();
-        if last == NEXT {
-            let _ = fs::remove_file(rt, path);
-        } else if !last.starts_with(OWN)
-            && seen_entry(rt, path.as_str())?.is_some_and(|found| found.is_dir())
-        {
-            let below = format!(in rt.alloc(); "{folder}{last}/")?;
-            todo.push(below).map_err(AllocError::from)?;
-        }
-    }
-    Ok(())
-}
-
-/// Notes a folder and each one below it that this process may read, and removes what an earlier process left there.
-pub fn clear_below<R: Files + AllocGlobal + Clone + Drop>(
-    rt: &R,
-    root: &str,
-    notes: &mut Vec<String>,
-) -> io::Result<()> {
-    let mut todo = Vec::new(rt.alloc());
-    todo.push(String::from_str(rt.alloc(), root)?)
-        .map_err(AllocError::from)?;
-    // Each turn takes one folder of the disk; the bound is never met.
-    for _ in 0..u64::MAX {
-        let Some(folder) = todo.pop() else {
-            break;
-        };
-        match clear_folder(rt, folder.as_str(), &mut todo) {
-            Ok(()) => notes.push(folder).map_err(AllocError::from)?,
-            Err(error) if error.kind() == ErrorKind::PermissionDenied || is_no_name(&error) => {}
-            Err(error) => return Err(error),
-        }
-    }
-    Ok(())
 }
 
 /// The names below a root that begin with the prefix, in ascending order of bytes.
@@ -302,7 +229,7 @@ fn list_folder<R: Files + AllocGlobal + Clone + Drop>(
             entry => entry?,
         };
         let last = entry.file_name();
-        if last.starts_with(OWN) {
+        if is_own(last) {
             continue;
         }
         let name = format!(in rt.alloc(); "{folder}{last}")?;

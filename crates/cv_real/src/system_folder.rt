@@ -1,8 +1,9 @@
 //! A folder of changes over a real folder.
-ghost use Rattle.std.specs.Prelude.{◌≡◌, ◌≤◌, length, IfOk, None};
+ghost use Rattle.std.specs.Prelude.{◌≡◌, ◌≤◌, ◌++◌, [], ◌∷◌, length, IfOk, None, string_bytes};
 ghost use Rattle.cv_base.specs.Counts.{HasCause};
 ghost use Rattle.cv_ports.specs.Folder.{Ascend};
 ghost use Rattle.cv_ports.specs.declared.folder.FolderFault.TheVariants.{Failed};
+ghost use Rattle.cv_real.specs.Names.{below};
 
 use crate::count::FaultCount;
 use crate::listing::items_of;
@@ -35,14 +36,18 @@ pub struct SystemFolder<R: Files + AllocGlobal + Clone + Drop> {
 }
 
 /// The path of the folder of this name, with a slash at its end.
-fn root_path(alloc: Global, name: &str) -> io::Result<String> {
+fn root_path(alloc: Global, name: &str) -> io::Result<String>
+    ensures { IfOk result (λ path. string_bytes path ≡ name.now ++ 47 ∷ []) }
+{
     let mut path = String::from_str(alloc, name)?;
     path.push('/')?;
     Ok(path)
 }
 
-/// The path of the folder behind these names, with a slash at its end.
-fn folder_path(alloc: Global, root: &str, names: &[PathName]) -> io::Result<String> {
+/// The path of the folder behind these names, from a folder on whose path ends in a slash.
+fn folder_path(alloc: Global, root: &str, names: &[PathName]) -> io::Result<String>
+    ensures { IfOk result (λ path. string_bytes path ≡ below root.now names.now) }
+{
     let mut path = String::from_str(alloc, root)?;
     for name in names {
         path.push_str(name.as_str())?;

@@ -1,0 +1,73 @@
+-- What follows the last slash of a path, and the folder before it.
+use Rattle.std.proofs.Common.{◌≡◌, ◌≢◌, ◌==◌, ℕ, suc, ◌<◌, Bool, true, false, cond, List, [], ◌∷◌, ◌++◌, length, get_or, take, drop, Option, Some, None, MatchOption, refl, sym, ap, subst, ◌∙◌, append_assoc, take-append-drop, arith, length-append, eq-eqb, ne_eqb, Bor, lit<, ◌-◌, codes}
+use Rattle.std.specs.List.{onto_first}
+use Rattle.std.specs.Option.{unwrap_or}
+use Rattle.std.specs.Str.Pattern.{FindsTextSuffix, RFindsChar, SplitsAroundMatch, StripsSuffix}
+use Rattle.std.proofs.lemmas.List.Splits.{slice_split-cons_no}
+use Rattle.std.proofs.lemmas.Str.Pattern.{NoCharPasses-char, drop_at_char}
+use Rattle.cv_base.specs.Path.{Path, last_name_of}
+use Rattle.cv_base.specs.PathText.{parts_of}
+use Rattle.cv_real.specs.Names.{last_part, folder_of}
+
+-- no byte is a slash
+HasNoSlash : List ℕ → Type 0
+HasNoSlash bytes = (i : ℕ) → i < length bytes → get_or bytes i 0 ≢ 47
+
+one_part : (bytes : List ℕ) → HasNoSlash bytes → parts_of bytes ≡ bytes ∷ []
+unfolding HasNoSlash
+one_part [] h = refl
+one_part (b ∷ bytes) h =
+    slice_split-cons_no (λ c. c == 47) b bytes (ne_eqb b 47 (h 0 (omega arith)))
+    ∙ ap (onto_first b) (one_part bytes (λ i l. h (suc i) (omega arith)))
+
+-- there are two parts or more, and this is the last
+Ends : Path → List ℕ → Type 0
+Ends [] last = ⊥
+Ends (a ∷ []) last = ⊥
+Ends (a ∷ b ∷ more) last = last_name_of (b ∷ more) ≡ last
+
+ends_so : (parts : Path) (last : List ℕ) → Ends parts last → last_name_of parts ≡ last
+unfolding Ends
+ends_so [] last h = absurd h
+ends_so (a ∷ []) last h = absurd h
+ends_so (a ∷ b ∷ more) last h = h
+
+one_byte_more : (byte : ℕ) (slash : Bool) (parts : Path) (last : List ℕ) → Ends parts last → Ends (cond slash ([] ∷ parts) (onto_first byte parts)) last
+unfolding Ends
+one_byte_more byte slash [] last h = absurd h
+one_byte_more byte slash (a ∷ []) last h = absurd h
+one_byte_more byte true (a ∷ b ∷ more) last h = h
+one_byte_more byte false (a ∷ b ∷ more) last h = h
+
+parts_end : (front last : List ℕ) → HasNoSlash last → Ends (parts_of (front ++ 47 ∷ last)) last
+unfolding Ends
+parts_end [] last h = subst (λ (parts : Path). Ends ([] ∷ parts) last) (sym (one_part last h)) refl
+parts_end (b ∷ front) last h = one_byte_more b (b == 47) (parts_of (front ++ 47 ∷ last)) last (parts_end front last h)
+
+-- the last part, and what comes before it, as `rsplit_once` finds it
+pub last_part_is : (path : List ℕ) (r : Option (Bor (List ℕ) × Bor (List ℕ)))
+    → MatchOption r (RFindsChar 47 path None) (λ x. SplitsAroundMatch (RFindsChar 47) path x.0.now x.1.now)
+    → MatchOption r (last_part path ≡ path) (λ x. (last_part path ≡ x.1.now) × (path ≡ (x.0.now ++ 47 ∷ []) ++ x.1.now))
+unfolding HasNoSlash
+last_part_is path None h = ap last_name_of (one_part path (λ i l. NoCharPasses-char 47 path i h (lit< tt) l))
+last_part_is path (Some x) (i, j, finds, front, back, within, front_size, back_size) =
+    let behind : drop i path ≡ 47 ∷ x.1.now = drop_at_char 47 path i j finds.1 (lit< tt) ∙ ap (λ l. 47 ∷ l) (sym back) in
+    let whole : x.0.now ++ 47 ∷ x.1.now ≡ path = ap (λ f. f ++ 47 ∷ x.1.now) front ∙ ap (λ l. take i path ++ l) (sym behind) ∙ take-append-drop i path in
+    let free : HasNoSlash x.1.now = subst HasNoSlash (sym back) (λ k l. NoCharPasses-char 47 (drop j path) k finds.0 (lit< tt) l) in
+    (ap last_part (sym whole) ∙ ends_so _ x.1.now (parts_end x.0.now x.1.now free), sym (append_assoc x.0.now (47 ∷ []) x.1.now ∙ whole))
+
+-- a path without a slash stands in the folder at hand
+pub no_folder : (path : List ℕ) → last_part path ≡ path → codes "./" ≡ folder_of path
+no_folder path same =
+    sym (ap (λ b. cond b (codes "./") (take (length path - length (last_part path)) path)) (ap (λ l. length l == length path) same ∙ eq-eqb (length path) (length path) refl))
+
+-- the folder is what is left of the path without its last part
+pub folder_is : (path front last : List ℕ) (r : Option (Bor (List ℕ))) (other : Bor (List ℕ)) → last_part path ≡ last → path ≡ (front ++ 47 ∷ []) ++ last
+    → MatchOption r (FindsTextSuffix last path None) (λ x. StripsSuffix (FindsTextSuffix last) path x.now) → (unwrap_or r other).now ≡ folder_of path
+folder_is path front last None other is whole none = absurd (none (front ++ 47 ∷ []) whole)
+folder_is path front last (Some x) other is whole (n, finds, taken, size) =
+    let longer : length path ≡ length ((front ++ 47 ∷ []) ++ last) = ap length whole in
+    let shorter : (length (last_part path) == length path) ≡ false = ap (λ l. length l == length path) is ∙ ne_eqb (length last) (length path) (λ e. omega (arith, e, longer, length-append (front ++ 47 ∷ []) last, length-append front (47 ∷ []))) in
+    taken
+    ∙ ap (λ k. take (length path - k) path) (finds.0 ∙ ap length (sym is))
+    ∙ sym (ap (λ b. cond b (codes "./") (take (length path - length (last_part path)) path)) shorter)

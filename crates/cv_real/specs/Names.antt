@@ -1,0 +1,39 @@
+-- Which texts are names of a vault over a folder, and the paths that they stand at.
+use Rattle.std.specs.Prelude.{ℕ, Bool, not, ◌==◌, ◌||◌, ◌&&◌, ◌-◌, List, [], ◌∷◌, ◌++◌, length, take, codes, if◌then◌else◌}
+use Rattle.std.specs.List.{starts_with, list_all, flat_map}
+use Rattle.std.specs.Ordering.{is_lt}
+use Rattle.cv_base.specs.Path.{Path, is_dots, last_name_of, name_cmp}
+use Rattle.cv_base.specs.PathText.{parts_of}
+
+-- what the names of the adapter's own files begin with
+abbrev pub own : List ℕ
+own = codes ".cvkit-"
+
+abbrev pub is_own : List ℕ → Bool
+is_own name = starts_with (λ a b. a == b) name own
+
+-- a text that may be one part of a name: it isn't empty, neither `.` nor `..`, and no own name
+abbrev pub is_part : List ℕ → Bool
+is_part part = not (length part == 0) && not (is_dots part) && not (is_own part)
+
+-- a name of the vault: no byte of it is NUL, and what stands between its slashes are parts of a name
+abbrev pub is_name : List ℕ → Bool
+is_name name = list_all (λ b. not (b == 0)) name && list_all is_part (parts_of name)
+
+-- what follows the last slash of a path, or all of a path without one
+abbrev pub last_part : List ℕ → List ℕ
+last_part path = last_name_of (parts_of path)
+
+-- the folder that a path stands in, with the slash at its end: all of the path before its last part, and `./` where that is all of it
+abbrev pub folder_of : List ℕ → List ℕ
+folder_of path =
+    if length (last_part path) == length path then codes "./"
+    else take (length path - length (last_part path)) path
+
+-- the folder behind these names, from a folder on whose path ends in a slash: each name with a slash behind it
+abbrev pub below : List ℕ → Path → List ℕ
+below root names = root ++ flat_map (λ name. name ++ 47 ∷ []) names
+
+-- a path comes next: behind the last one, and before the first that was found behind it, if one was
+abbrev pub comes_next : List ℕ → List ℕ → List ℕ → Bool
+comes_next path last first = is_lt (name_cmp last path) && (length first == 0 || is_lt (name_cmp path first))

@@ -1,0 +1,77 @@
+//! Paths in room that was taken once.
+ghost use Rattle.std.specs.Prelude.{◌≡◌, ◌++◌, ◌∷◌, ◌+◌, ◌<◌, ◌↔◌, [], length, IfOk, IsTrue, if◌then◌else◌};
+
+use std::alloc::{AllocError, Global};
+use std::marker::Model;
+
+/// The room for a path. The system takes no longer one.
+const PATH_ROOM: usize = 4_096;
+
+/// A path of less than 4,096 bytes. Its constructor takes the memory for each; no other call takes any.
+#[derive(Drop)]
+pub struct PathBuffer {
+    text: String,
+}
+
+impl Model for PathBuffer {
+    ghost use Rattle.std.specs.Prelude.{List, ℕ, ◌≤◌};
+    ghost use Rattle.std.specs.String.{string_bytes, string_capacity};
+
+    ghost Value = { List ℕ };
+
+    ghost view = { λ path. string_bytes path.text };
+
+    ghost invariant = { λ path. 4096 ≤ string_capacity path.text };
+}
+
+impl PathBuffer {
+    /// The empty path, which is none.
+    pub fn new(alloc: Global) -> Result<PathBuffer, AllocError>
+        ensures { IfOk result (λ made. made ≡ []) }
+    {
+        Ok(PathBuffer {
+            text: String::with_capacity(alloc, PATH_ROOM)?,
+        })
+    }
+
+    /// The path.
+    pub fn as_str(&self) -> &str
+        ensures { result.now ≡ self.now }
+    {
+        self.text.as_str()
+    }
+
+    /// No path any more.
+    pub fn clear(&mut self)
+        ensures { self.new ≡ [] }
+    {
+        self.text.clear();
+    }
+
+    /// Sets the path of what stands so in a folder, and answers whether the system takes a path of that length. If not, it is
+    /// what it was.
+    pub fn set(&mut self, folder: &str, rest: &str) -> bool
+        ensures fits { IsTrue result ↔ (length folder.now + length rest.now < 4096) }
+        ensures path { self.new ≡ (if result then folder.now ++ rest.now else self.old) }
+    {
+        if folder.len() + rest.len() >= PATH_ROOM {
+            return false;
+        }
+        self.text.clear();
+        self.text.push_str(folder).is_ok() && self.text.push_str(rest).is_ok()
+    }
+
+    /// Sets the path of a name below a folder, whose path has no slash at its end, and answers as `set` does.
+    pub fn set_below(&mut self, folder: &str, name: &str) -> bool
+        ensures fits { IsTrue result ↔ (length folder.now + length name.now + 1 < 4096) }
+        ensures path { self.new ≡ (if result then folder.now ++ 47 ∷ name.now else self.old) }
+    {
+        if folder.len() + name.len() + 1 >= PATH_ROOM {
+            return false;
+        }
+        self.text.clear();
+        self.text.push_str(folder).is_ok()
+            && self.text.push('/').is_ok()
+            && self.text.push_str(name).is_ok()
+    }
+}
