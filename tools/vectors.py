@@ -5,6 +5,10 @@
 
 A script ends in `settle(file, items)`: the tests' file and the texts of the items, which may be whole constants, or
 expressions. Comments, spaces, line ends and a comma before a closing bracket don't count; all else does.
+
+A script that makes whole files ends in `settle_files(files)`: without words it writes them, and with `--check` it compares
+them, byte by byte. One whose tests are a program, with a table in the crate's `stdin` and what it has to print in `stdout`,
+ends in `settle_lines(crate, rows)`, a row being a line of each.
 """
 import os
 import re
@@ -28,12 +32,17 @@ def tokens(text):
     return "".join("\0" + one for one in kept) + "\0"
 
 
+def is_check(name):
+    """Whether the word --check was given."""
+    if sys.argv[1:] not in ([], ["--check"]):
+        sys.exit(f"usage: {name} [--check]")
+    return sys.argv[1:] == ["--check"]
+
+
 def settle(file, items):
     """Prints the items, or looks for them in the tests of this file."""
     name = os.path.basename(sys.argv[0])
-    if sys.argv[1:] not in ([], ["--check"]):
-        sys.exit(f"usage: {name} [--check]")
-    if not sys.argv[1:]:
+    if not is_check(name):
         print("\n\n".join(items))
         return
     with open(os.path.join(TOP, file), encoding="utf-8") as tests:
@@ -44,6 +53,29 @@ def settle(file, items):
     if lacking:
         sys.exit(1)
     print(f"{name}: checked {len(items)} of {file}")
+
+
+def settle_files(files):
+    """Writes files of these texts, or compares those that are there with them."""
+    name = os.path.basename(sys.argv[0])
+    checks = is_check(name)
+    for file, made in files.items():
+        path = os.path.join(TOP, file)
+        if not checks:
+            with open(path, "w", encoding="utf-8") as written:
+                written.write(made)
+            continue
+        with open(path, encoding="utf-8") as there:
+            if there.read() != made:
+                sys.exit(f"{name}: {file} is other than this makes it")
+    if checks:
+        print(f"{name}: checked {len(files)} files: {', '.join(files)}")
+
+
+def settle_lines(crate, rows):
+    """Writes the lines that a program of tests is given and those that it has to print, or compares them with its files."""
+    texts = ("".join(line + "\n" for line in lines) for lines in zip(*rows))
+    settle_files({f"crates/{crate}/{file}": made for file, made in zip(("stdin", "stdout"), texts)})
 
 
 def constant(name, of_type, value, keyword="const"):

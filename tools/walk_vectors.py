@@ -1,21 +1,18 @@
 #!/usr/bin/env python3
-"""Trees and questions for the tests of cv_resolver, with the answers by a walk over nested dicts.
-
-A row is a tree and questions with their answers. In a tree `/d/` is a directory, `/l=t` a link to `t`, and anything else a
-file whose content is the text of its path. A question is L (list), S (stat) or R (read) and a path.
+"""The table of cv_resolver_tests: trees and questions with the answers by a walk over nested dicts, and what is served as a tree
+and is none (`lies.py`). `crates/cv_resolver_tests/src/main.rt` says how a line is read.
 """
-import os
 import random
 
-from vectors import settle, table
-from vectors import text as literal
+import lies
+from vectors import settle_lines
 
 random.seed(31)
 MARKER = ".cvmfscatalog"
 NAMES = ["a", "b", "c"]
 TARGETS = ["a", "b/c", "..", "../a", "./b", "a/", "../../c", "/cvmfs/r", "/cvmfs/r/a", "/cvmfs/r/b/../c", "/cvmfs/rr/a", "//cvmfs/r", "/a", "c//b", "l"]
 LINKS = 32
-COUNT = int(os.environ.get("TABLE_ROWS", "40"))
+COUNT = 300
 
 
 def generated():
@@ -44,7 +41,13 @@ def path_text(path):
 
 def words(entries):
     marks = {"dir": "/", "file": ""}
-    return " ".join(path_text(path) + marks.get(what, what) for path, what in entries.items() if path)
+    return "".join(" " + path_text(path) + marks.get(what, what) for path, what in entries.items() if path)
+
+
+def count(entries):
+    """The catalogues and the contents of files: there is a catalogue of the root and of each directory below it with a marker."""
+    files = [path for path, what in entries.items() if what == "file"]
+    return 1 + sum(len(path) > 1 and path[-1] == MARKER for path in files) + len(files)
 
 
 def nested(entries):
@@ -94,9 +97,9 @@ def answer(top, kind, path):
     if refusal:
         return refusal
     if kind == "L":
-        return ",".join(sorted(there)) if isinstance(there, dict) else "not a directory"
+        return " ".join(["names"] + sorted(there)) if isinstance(there, dict) else "not a directory"
     if kind == "R":
-        return there if isinstance(there, str) else "not a file"
+        return f"content {there}" if isinstance(there, str) else "not a file"
     if isinstance(there, dict):
         return "dir 0"
     return f"file {len(there)}" if isinstance(there, str) else f"link {len(there[0])} -> {there[0]}"
@@ -110,10 +113,17 @@ def question(entries):
     return random.choice("LSR"), path
 
 
-def row(entries, questions):
+def rows(room, entries, questions):
+    """The lines of a tree and of its questions, and what they print."""
+    yield f"tree {room}{words(entries)}", f"{count(entries)} objects"
     top = nested(entries)
-    asked = ";".join(f"{kind} {path_text(path)}>{answer(top, kind, path)}" for kind, path in questions)
-    return literal(f"{words(entries)}|{asked}")
+    for kind, path in questions:
+        yield f"{kind} {path_text(path) or '/'}", answer(top, kind, path)
+
+
+def remark(text):
+    """A line that prints itself."""
+    yield f"# {text}", f"# {text}"
 
 
 def chain():
@@ -124,18 +134,26 @@ def chain():
     return entries
 
 
-def main():
-    by_hand = [
-        row({(): "dir", ("a",): "file"}, [("L", ("a",)), ("R", ("a",)), ("S", ("b",)), ("S", ("a",)), ("L", ()), ("R", ())]),
-        row(chain(), [("R", ("l31",)), ("R", ("l32",)), ("S", ("l33",)), ("L", ("l31",))]),
-    ]
-    rows = []
-    while len(rows) < COUNT:
+def by_hand():
+    yield from rows(1, {(): "dir"}, [("L", ()), ("S", ()), ("S", ("a",))])
+    yield from rows(1, {(): "dir", ("a",): "file"}, [("L", ("a",)), ("R", ("a",)), ("S", ("b",)), ("S", ("a",)), ("L", ()), ("R", ())])
+    yield from remark("the 33rd link is one too many")
+    yield from rows(1, chain(), [("R", ("l31",)), ("R", ("l32",)), ("S", ("l33",)), ("L", ("l31",))])
+    yield from remark("what is kept isn't wanted again")
+    yield from rows(64, {(): "dir", ("d",): "dir", ("d", MARKER): "file", ("d", "f"): "file"}, [])
+    yield from [("N S /d/f", "2 wanted"), ("N L /d", "0 wanted"), ("N R /d/f", "1 wanted")]
+
+
+def at_random():
+    """Trees, of which no two are the same, with eight questions each."""
+    seen = set()
+    while len(seen) < COUNT:
         entries = generated()
-        line = row(entries, [question(entries) for _ in range(8)])
-        if line not in rows:
-            rows.append(line)
-    settle("crates/cv_resolver_tests/src/tests/rows.rt", [table("BY_HAND", "&str", by_hand, "static"), table("GENERATED", "&str", rows, "static")])
+        questions = [question(entries) for _ in range(8)]
+        if words(entries) not in seen:
+            seen.add(words(entries))
+            yield from remark(f"{len(seen)} of {COUNT} at random")
+            yield from rows(2, entries, questions)
 
 
-main()
+settle_lines("cv_resolver_tests", [*by_hand(), *lies.rows(), *at_random()])

@@ -1,4 +1,8 @@
-//! Folders in memory, by the words of a row.
+//! Folders in memory, by the words of a row: each item as its directory, a colon, its name and what it is, directory by directory
+//! and in the order of their names.
+//!
+//! Behind a name `/` is a directory, `=` and a text a file with that content, `*` and a number a file of that many zero bytes,
+//! `>` and a text a link to it, and `!` anything else.
 
 use cv_base::{Bytes, Items, RepoPath, Text};
 use cv_ports::{FolderItem, FoundKind, MemoryFolder};

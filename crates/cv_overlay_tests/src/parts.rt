@@ -1,4 +1,9 @@
 //! Parts as texts.
+//!
+//! A base is the paths of a tree below its root: one that ends in a slash is a directory, `/l>t` a link to `t`, and anything else
+//! a file of one byte, whose hash is of sevens. A part is the paths below its root, and a number sign and the hashes of the new
+//! contents behind them. There a plus marks what the folder puts in, and a file is `=`, its size, a number sign and the first
+//! four digits of its hash.
 ghost use Rattle.std.specs.Prelude.{◌<◌, IfOk};
 ghost use Rattle.cv_tree.specs.Node.{IsNode, IsAttr};
 
@@ -87,16 +92,15 @@ fn is_old(node: &Node) -> bool {
     }
 }
 
-/// Adds an entry of a part below its root.
+/// Adds an entry of a part, and a space behind it.
 fn push_entry(alloc: Global, text: &mut String, path: &RepoPath, node: &Node) -> Result<(), Fail> {
-    if !text.is_empty() {
-        text.push(' ')?;
-    }
     if !is_old(node) {
         text.push('+')?;
     }
     text.push_str(path.text(alloc)?.as_str())?;
-    push_node(alloc, text, node)
+    push_node(alloc, text, node)?;
+    text.push(' ')?;
+    Ok(())
 }
 
 /// The entries of a part, and the hashes of these contents.
@@ -107,13 +111,10 @@ pub(crate) fn text_of(alloc: Global, part: &Part, objects: &[Object]) -> Result<
             push_entry(alloc, &mut text, &path, &node)?;
         }
     }
-    text.push_str(" #")?;
+    text.push('#')?;
     for object in objects {
         text.push(' ')?;
         push_hash(alloc, &mut text, object.id.hash)?;
-    }
-    if objects.is_empty() {
-        text.push(' ')?;
     }
     Ok(text)
 }
