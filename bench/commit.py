@@ -23,6 +23,7 @@ from cvkit_client import (
     Session,
     add_object,
     commit,
+    digest_of,
     expect,
     fsyncs,
     lease,
@@ -32,7 +33,7 @@ from cvkit_client import (
     repository,
     workplace,
 )
-from cvkit_files import whole_head
+from cvkit_files import whole_head, whole_object
 from cvkit_release import DIRECTORY, MARKER, file, offer, tree
 
 # The seconds in which a commit has to be answered.
@@ -40,15 +41,26 @@ PATIENCE = 600
 STDIO = ["stdio", REPOSITORY]
 
 
-def content(number):
-    """A file of 1 KiB, which has no other bytes than its number."""
-    return file(number.to_bytes(8, "big") + bytes(1016))
+def content(number, place=0):
+    """A file of 1 KiB, which has no other bytes than its numbers."""
+    return file(number.to_bytes(8, "big") + place.to_bytes(8, "big") + bytes(1008))
 
 
 def one_catalogue(count):
     """So many files in one directory, and the path of one more."""
     nodes = {f"/d/{index:06}": file(b"%d\n" % index) for index in range(count)}
     return tree({"/d": DIRECTORY}, nodes), "/d/leaf"
+
+
+def catalogues_beside(width, size):
+    """A catalogue of so many catalogues, of as many again, of files, each of this size; and beside it an empty directory."""
+    tops = ["/d", *(f"/d/{index:02}" for index in range(width))]
+    leaves = [f"{top}/{index:02}" for top in tops[1:] for index in range(width)]
+    nodes = {"/a": DIRECTORY}
+    nodes.update({top: DIRECTORY for top in tops + leaves})
+    nodes.update({f"{top}/{MARKER}": file(b"") for top in tops + leaves})
+    nodes.update({f"{top}/{name:06}": file(b"%d\n" % name) for top in leaves for name in range(size)})
+    return tree(nodes)
 
 
 def many_catalogues(count):
@@ -77,18 +89,23 @@ def add_first(folder, nodes):
 
 
 class Publisher:
-    """One who publishes a file of new bytes at a path of a tree, again and again, over one connection."""
+    """One who publishes files of new bytes at or below a path of a tree, again and again, over one connection."""
 
     def __init__(self, nodes, path, root, there, root_time=line_vectors.TIME):
         self.nodes, self.path, self.root, self.there, self.root_time = nodes, path, root, there, root_time
+        self.names = [""]
         self.number = 0
+
+    def offer(self):
+        """The root that is offered, and the objects of its tree."""
+        return offer(self.nodes, self.root_time)
 
     def requests(self):
         """The requests of the next round, with the root that it offers."""
         self.number += 1
         token = f"1-{self.number}"
-        self.nodes[self.path] = content(self.number)
-        root, objects = offer(self.nodes, self.root_time)
+        self.nodes.update({self.path + name: content(self.number, place) for place, name in enumerate(self.names)})
+        root, objects = self.offer()
         sent = [one for one in objects if one[0] not in self.there]
         self.there |= {id_ for id_, _ in sent}
         asked = lease(self.path), payload(token, sent), commit(token, self.root, root)
@@ -167,6 +184,54 @@ def measure_tree(program, what, made, rounds, short):
         print(f"beside {what}: the lease takes {best[0]:.1f} ms, the payload {best[1]:.1f} ms, the commit {best[2]:.1f} ms")
 
 
+class Beside(Publisher):
+    """One who publishes files in a directory beside a catalogue that stays."""
+
+    def __init__(self, inner, *others):
+        self.inner = inner
+        super().__init__(tree({"/a": DIRECTORY, "/d": DIRECTORY, f"/d/{MARKER}": file(b"")}), "/a", *others)
+
+    def offer(self):
+        """What is offered is the tree of these nodes, whose one nested catalogue, the last entry, is another than they make."""
+        root, objects = super().offer()
+        sent = dict(objects)
+        catalogue = sent.pop(root + "C")[:-28] + bytes.fromhex(digest_of(self.inner)) + len(self.inner).to_bytes(8, "big")
+        root = digest_of(catalogue)
+        return root, [*((id_, data) for id_, data in sent.items() if id_[40:] != "C"), (root + "C", catalogue)]
+
+
+def measure_beside(program, width, size, rounds):
+    """The milliseconds of the first commit of a connection, of one file, and of the best behind it of one file and of 100."""
+    nodes = catalogues_beside(width, size)
+    with workplace() as folder:
+        root, there = add_first(folder, nodes)
+        inner = whole_object(folder, whole_object(folder, root + "C")[-28:-8].hex() + "C")
+        publisher, firsts, best = Beside(inner, root, there), [], []
+        with Session(program, folder) as session:
+            for count in (1, 100):
+                publisher.names = [f"/{place:03}" for place in range(count)]
+                first, *others = (publisher.round(session)[-1] for _ in range(rounds + 1))
+                firsts.append(first)
+                best.append(min(others))
+            session.close()
+    return [seconds * 1000 for seconds in (firsts[0], *best)]
+
+
+def compare_sizes(program, short):
+    """How long a commit takes beside few files and beside many, in other catalogues than its own."""
+    width, few, many, rounds = (2, 5, 5, 2) if short else (14, 1_000, 1_021, 20)
+    (_, *small), (first, *large) = (measure_beside(program, *one, rounds) for one in ((1, few), (width, many)))
+    if short:
+        print(f"commits of 1 and 100 files were made beside {few} and {width * width * many} others")
+        return
+    for count, one, other in zip((1, 100), small, large):
+        print(
+            f"a commit of {count} files: beside {few:,} others {one:.1f} ms, beside {width * width * many:,} {other:.1f} ms, "
+            f"{other / one:.2f} times as long"
+        )
+    print(f"the first commit of a connection beside {width * width * many:,}: {first:.0f} ms")
+
+
 def script(program, short):
     if STRACE:
         count_fsyncs(program)
@@ -177,6 +242,7 @@ def script(program, short):
     for count in sizes:
         measure_tree(program, f"{count:,} files of one catalogue", one_catalogue(count), 1 if short else 5, short)
     measure_tree(program, f"{nested:,} catalogues of ten files", many_catalogues(nested), 1 if short else 5, short)
+    compare_sizes(program, short)
 
 
 main(script)

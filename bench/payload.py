@@ -7,7 +7,6 @@ A payload of 32 MiB comes in 100 objects and in 10,000, the most that the interf
 short form sends a few kilobytes and prints no time.
 """
 import os
-import resource
 import subprocess
 import sys
 import time
@@ -21,7 +20,7 @@ PATIENCE = 600
 
 
 def store(program, asked):
-    """The seconds in which the payload is stored in a new repository."""
+    """The seconds in which the payload is stored in a new repository, and the most memory that the program has had then."""
     with repository(program) as folder, Session(program, folder) as session:
         session.exchange(lease("/a"))
         begin = time.perf_counter()
@@ -29,8 +28,9 @@ def store(program, asked):
         answer = session.reply(PATIENCE).json()
         took = time.perf_counter() - begin
         expect(answer == {"status": "ok"}, "the answer to a payload", answer)
+        peak = session.peak()
         session.close()
-    return took
+    return took, peak
 
 
 def sha1sum(data):
@@ -40,24 +40,22 @@ def sha1sum(data):
 
 
 def measure(program, count, size, times):
-    """The seconds of a payload of so many objects of this size, no two alike, and those of sha1sum over their bytes."""
+    """The seconds of a payload of so many objects of this size, no two alike, with the memory of its run, and those of sha1sum."""
     objects = [index.to_bytes(8, "big") + bytes(size - 8) for index in range(count)]
     asked = payload("1-1", [plain(content) for content in objects])
     beside = min(sha1sum(b"".join(objects)) for _ in range(times))
-    return min(store(program, asked) for _ in range(times)), beside
+    return *min(store(program, asked) for _ in range(times)), beside
 
 
 def script(program, short):
     whole, counts, times = (10_240, (10, 20), 1) if short else (32 * MIB, (100, 10_000), 3)
     for count in counts:
-        took, beside = measure(program, count, whole // count, times)
+        took, peak, beside = measure(program, count, whole // count, times)
         if short:
             print(f"{count} objects were stored")
         else:
-            print(f"32 MiB in {count} objects: {took:.3f} s, {whole / MIB / took:.1f} MiB/s, {beside / took:.2f} of sha1sum")
-    if not short:
-        peak = resource.getrusage(resource.RUSAGE_CHILDREN).ru_maxrss / 1024
-        print(f"peak memory of a child: {peak:.0f} MiB")
+            speed = f"{whole / MIB / took:.1f} MiB/s, {beside / took:.2f} of sha1sum"
+            print(f"32 MiB in {count} objects: {took:.3f} s, {speed}, {peak:.0f} MiB of memory at most")
 
 
 main(script)

@@ -321,6 +321,12 @@ class Session:
         self.send(asked)
         return self.reply()
 
+    def peak(self):
+        """The most memory that the program has had so far, in MiB. A child's own account begins with what its parent had."""
+        with open(f"/proc/{self.child.pid}/status", encoding="ascii") as status:
+            fields = dict(line.split(":", 1) for line in status)
+        return int(fields["VmHWM"].split()[0]) / 1024
+
     def is_silent(self, seconds=0.2):
         """Whether nothing comes for so long."""
         return not self.held and not select.select([self.child.stdout], [], [], seconds)[0]
