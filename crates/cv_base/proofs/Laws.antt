@@ -1,7 +1,8 @@
 -- What this crate proves for those above it: the text and the file name of an id tell the id, and the text of a path the path; a SHA-1 is
--- a digest; a path is the one of its text; what a path covers, and what is behind it; and facts of booleans and of the parts of a list.
+-- a digest; kinds that compare as the same are one; a path is the one of its text; what a path covers, and what is behind it; and facts of booleans and of the parts of a list.
 pub use Rattle.cv_base.proofs.Digests.{digest_sha1}
 pub use Rattle.cv_base.proofs.FileNames.{one_id_text, one_file_name}
+pub use Rattle.cv_base.proofs.SameKinds.{same_kind-eq, same_kind-own}
 pub use Rattle.cv_base.proofs.PathGrammar.{text_of-injective, Spells-path_of, path_of-Spells}
 pub use Rattle.cv_base.proofs.Bools.{first_true, second_true}
 pub use Rattle.cv_base.proofs.Decimals.{decimal-no_dash}

@@ -5,6 +5,7 @@ mod Fields
 mod FileNames
 mod IdTexts
 mod LastNames
+mod SameKinds
 pub mod Laws
 mod Parents
 mod Parts

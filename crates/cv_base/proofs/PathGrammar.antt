@@ -6,9 +6,10 @@ use Rattle.std.specs.Str.{is_utf8}
 use Rattle.std.proofs.lemmas.Bool.{eqb-true, le-ltb, ltb-false}
 use Rattle.std.proofs.lemmas.Iterator.Adapters.{position_from-zero}
 use Rattle.cv_base.specs.declared.path_fault.PathFault.{PathFault}
-use Rattle.cv_base.specs.declared.path_fault.PathFault.TheVariants.{BadName, TooLong, TooDeep, NoMemory}
+use Rattle.cv_base.specs.declared.path_fault.PathFault.TheVariants.{TooLong, TooDeep, NoMemory}
 use Rattle.cv_base.specs.Path.{Path, text_of, is_path_name, is_path_byte, IsPath}
-use Rattle.cv_base.specs.PathText.{Spells, parts_of, names_of, bad_name, without_last_slash, of_names, within_limits, path_of, IsUnlessMemory}
+use Rattle.cv_base.specs.PathText.{Spells, parts_of, names_of, bad_name, without_last_slash, of_names, within_limits, path_of}
+use Rattle.cv_base.specs.Unless.{IsUnless}
 use Rattle.cv_base.proofs.PathTexts.{without_last_slash-slash, text_of-names_of, IsPath-names_of}
 use Rattle.cv_base.proofs.Bools.{first_true, second_true}
 
@@ -138,16 +139,14 @@ Spells-path_of text path h =
     )
 
 -- what a reader's answer tells of the grammar
-pub grammar : (text : List ℕ) (answer : Result Path PathFault) → IsUnlessMemory answer (path_of text) → IfOk answer (λ path. IsPath path × Spells text path)
-grammar text (Ok path) h = Spells-path_of text path (sym h)
+pub grammar : (text : List ℕ) (answer : Result Path PathFault) → IsUnless NoMemory answer (path_of text) → IfOk answer (λ path. IsPath path × Spells text path)
+grammar text (Ok path) same = Spells-path_of text path (sym same)
 grammar text (Err fault) h = tt
 
-pub found : (text : List ℕ) (answer : Result Path PathFault) → IsUnlessMemory answer (path_of text) → (path : Path) → IsPath path → Spells text path → IsUnlessMemory answer (Ok path)
-found text (Ok other) h path is spelt = h ∙ path_of-Spells text path is spelt
-found text (Err (BadName place)) h path is spelt = h ∙ path_of-Spells text path is spelt
-found text (Err TooLong) h path is spelt = h ∙ path_of-Spells text path is spelt
-found text (Err TooDeep) h path is spelt = h ∙ path_of-Spells text path is spelt
-found text (Err NoMemory) h path is spelt = tt
+pub found : (text : List ℕ) (answer : Result Path PathFault) → IsUnless NoMemory answer (path_of text) → (path : Path) → IsPath path → Spells text path → IsUnless NoMemory answer (Ok path)
+found text (Ok other) same path is spelt = same ∙ path_of-Spells text path is spelt
+found text (Err fault) (inl lack) path is spelt = inl lack
+found text (Err fault) (inr same) path is spelt = inr (same ∙ path_of-Spells text path is spelt)
 
 -- the text decides the path
 pub text_of-injective : (p q : Path) → IsPath p → IsPath q → text_of p ≡ text_of q → p ≡ q

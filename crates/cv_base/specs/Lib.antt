@@ -1,5 +1,7 @@
+pub mod Attr
 pub mod Counts
 pub mod Digest
+pub mod KeyId
 pub mod Marker
 pub mod Name
 pub mod ObjectId
@@ -8,6 +10,9 @@ pub mod Path
 pub mod PathOrder
 pub mod PathText
 pub mod Decimal
+pub mod Sequence
+pub mod Tag
 pub mod Target
 pub mod TextOrder
 pub mod Token
+pub mod Unless

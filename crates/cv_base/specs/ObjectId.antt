@@ -1,5 +1,6 @@
 -- The ids of objects, their texts and their files.
-use Rattle.std.specs.Prelude.{◌++◌, ℕ, List, [], codes, take, drop}
+use Rattle.std.specs.Prelude.{◌++◌, ℕ, Bool, true, false, ◌&&◌, List, [], codes, take, drop}
+use Rattle.std.specs.Str.{bytes_eq}
 use Rattle.hex.specs.Hex.{encode_lower}
 use Rattle.cv_base.specs.declared.id.Kind.{Kind}
 use Rattle.cv_base.specs.declared.id.Kind.TheVariants.{Plain, Catalogue, History}
@@ -22,3 +23,12 @@ id_text id = encode_lower id.hash ++ suffix_of id.kind
 abbrev pub file_name : ObjectId → List ℕ
 file_name id =
     codes "data/" ++ take 2 (encode_lower id.hash) ++ codes "/" ++ drop 2 (encode_lower id.hash) ++ suffix_of id.kind
+
+abbrev pub same_kind : Kind → Kind → Bool
+same_kind Plain Plain = true
+same_kind Catalogue Catalogue = true
+same_kind History History = true
+same_kind a b = false
+
+abbrev pub same_id : ObjectId → ObjectId → Bool
+same_id a b = bytes_eq a.hash b.hash && same_kind a.kind b.kind

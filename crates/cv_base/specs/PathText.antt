@@ -4,7 +4,7 @@ use Rattle.std.specs.List.{slice_split}
 use Rattle.std.specs.Str.{is_utf8}
 use Rattle.cv_base.specs.Path.{Path, IsPath, text_of, is_path_name}
 use Rattle.cv_base.specs.declared.path_fault.PathFault.{PathFault}
-use Rattle.cv_base.specs.declared.path_fault.PathFault.TheVariants.{BadName, TooLong, TooDeep, NoMemory}
+use Rattle.cv_base.specs.declared.path_fault.PathFault.TheVariants.{BadName, TooLong, TooDeep}
 
 -- the text is that of the path, with or without one slash at its end
 abbrev pub Spells : List ℕ → Path → Type 0
@@ -68,8 +68,3 @@ joined path name =
 -- a path with this name behind its own is one
 abbrev pub Joins : Path → List ℕ → Type 0
 Joins path name = (joined path name ≡ Ok (path ++ name ∷ [])) × IsPath (path ++ name ∷ [])
-
--- the call's answer is this one, or it wanted memory
-abbrev pub IsUnlessMemory : Result Path PathFault → Result Path PathFault → Type 0
-IsUnlessMemory (Err NoMemory) answer = Unit {0}
-IsUnlessMemory result answer = result ≡ answer

@@ -8,6 +8,7 @@ mod digest;
 mod field;
 mod id;
 mod items;
+mod limits;
 mod marker;
 mod memory;
 mod name;
@@ -32,6 +33,7 @@ pub use digest::{DIGEST_DIGITS, DIGEST_SIZE, digest_digits, digest_text, read_di
 pub use field::{split_u16, split_u32, split_u64};
 pub use id::{Kind, ObjectId};
 pub use items::Items;
+pub use limits::{KEY_ID_LIMIT, LAST_REVISION, LAST_TIME, MODE_LIMIT, OBJECT_LIMIT, TAG_LIMIT};
 pub use marker::{MARKER, ends_in_marker};
 pub use memory::NoMemory;
 pub use name::{NAME_LIMIT, Name};

@@ -1,5 +1,8 @@
 //! Why a text is no path.
+ghost use Rattle.std.specs.Prelude.{◌≡◌};
+ghost use Rattle.cv_base.specs.declared.path_fault.PathFault.TheVariants as faults;
 
+use crate::memory::NoMemory;
 use thiserror::Error;
 
 /// Why a text is no path of a repository. Of several faults that a text has, it is the first in the order `TooLong`,
@@ -18,4 +21,12 @@ pub enum PathFault {
     /// There was no memory.
     #[error("no memory")]
     NoMemory,
+}
+
+impl From<NoMemory> for PathFault {
+    ghost from_gives = { λ _ e. e ≡ faults.NoMemory };
+
+    fn from(_fault: NoMemory) -> PathFault {
+        PathFault::NoMemory
+    }
 }

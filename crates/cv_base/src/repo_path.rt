@@ -2,7 +2,9 @@
 ghost use Rattle.std.specs.Prelude.{ℕ, List, Err, MatchOption, ◌≡◌, ◌≤◌, ◌↔◌, ◌∷◌, ◌++◌, [], length, map, Some, refl, IfOk, IfSome, IsTrue, string_bytes, position, not};
 ghost use Rattle.std.specs.Cmp.{eq_by_cmp_equiv, partial_equiv_from_equiv};
 ghost use Rattle.cv_base.specs.Path.{parent, path_cmp, same_path, covers, overlap, text_of, key_of, parent_key_of, last_name_of, is_path_name, IsPath};
-ghost use Rattle.cv_base.specs.PathText.{Spells, path_of, path_of_bare, only_path, path_named, joined, Joins, parts_of, names_of, bad_name, without_last_slash, IsUnlessMemory};
+ghost use Rattle.cv_base.specs.PathText.{Spells, path_of, path_of_bare, only_path, path_named, joined, Joins, parts_of, names_of, bad_name, without_last_slash};
+ghost use Rattle.cv_base.specs.Unless.{IsUnless};
+ghost use Rattle.cv_base.specs.declared.path_fault.PathFault.TheVariants as faults;
 ghost use Rattle.cv_base.specs.PathOrder.{path_total, paths_ordered};
 
 use crate::memory::NoMemory;
@@ -51,11 +53,11 @@ impl RepoPath {
 
     /// The path that a text says. One slash at the end is dropped, and the empty text is the root.
     pub fn read(alloc: Global, text: &str) -> Result<RepoPath, PathFault>
-        ensures answer { IsUnlessMemory result (path_of text.now) }
+        ensures answer { IsUnless faults.NoMemory result (path_of text.now) }
 
         // A path is read from its own text alone, with or without a slash at the end.
         ensures grammar { IfOk result (λ path. IsPath path × Spells text.now path) }
-        ensures found { (path : List (List ℕ)) → IsPath path → Spells text.now path → IsUnlessMemory result (Ok path) }
+        ensures found { (path : List (List ℕ)) → IsPath path → Spells text.now path → IsUnless faults.NoMemory result (Ok path) }
     {
         read_bare(alloc, without_last_slash(text))
     }
@@ -102,15 +104,13 @@ impl RepoPath {
     ///
     /// `TooLong`, `TooDeep` and `BadName(0)`, in this order, by the limits of a path; else want of memory.
     pub fn join(&self, alloc: Global, name: &str) -> Result<RepoPath, PathFault>
-        ensures { IsUnlessMemory result (joined self.now name.now) }
+        ensures { IsUnless faults.NoMemory result (joined self.now name.now) }
     {
         if let Some(fault) = self.name_fault(name) {
             return Err(fault);
         }
-        match names_and(alloc, &self.names, name) {
-            Ok(names) => Ok(RepoPath { names }),
-            Err(NoMemory) => Err(PathFault::NoMemory),
-        }
+        let names = names_and(alloc, &self.names, name)?;
+        Ok(RepoPath { names })
     }
 
     /// The path with one more name behind its own, as `join` makes it. No name that it has is copied.
@@ -119,15 +119,13 @@ impl RepoPath {
     ///
     /// Those of `join`. The path is gone then.
     pub fn with_name(self, alloc: Global, name: &str) -> Result<RepoPath, PathFault>
-        ensures { IsUnlessMemory result (joined self name.now) }
+        ensures { IsUnless faults.NoMemory result (joined self name.now) }
     {
         if let Some(fault) = self.name_fault(name) {
             return Err(fault);
         }
-        match with_last(alloc, self.names, name) {
-            Ok(names) => Ok(RepoPath { names }),
-            Err(NoMemory) => Err(PathFault::NoMemory),
-        }
+        let names = with_last(alloc, self.names, name)?;
+        Ok(RepoPath { names })
     }
 
     /// Why the name can't stand behind the path's own.
@@ -288,7 +286,7 @@ fn own_path(alloc: Global, text: &str) -> Result<Option<RepoPath>, NoMemory>
 
 /// The path that a text says which has no slash at its end.
 fn read_bare(alloc: Global, bare: &str) -> Result<RepoPath, PathFault>
-    ensures { IsUnlessMemory result (path_of_bare bare.now) }
+    ensures { IsUnless faults.NoMemory result (path_of_bare bare.now) }
 {
     if bare.len() > PATH_LIMIT {
         return Err(PathFault::TooLong);
@@ -303,10 +301,8 @@ fn read_bare(alloc: Global, bare: &str) -> Result<RepoPath, PathFault>
     if let Some(place) = bad_name(&parts) {
         return Err(PathFault::BadName(place));
     }
-    match names_from(alloc, names) {
-        Ok(names) => Ok(RepoPath { names }),
-        Err(NoMemory) => Err(PathFault::NoMemory),
-    }
+    let names = names_from(alloc, names)?;
+    Ok(RepoPath { names })
 }
 
 /// The text without the one slash at its end.

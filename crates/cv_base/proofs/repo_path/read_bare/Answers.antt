@@ -15,4 +15,4 @@ invariant_of-result c =
     let good : bad_name (parts_of text) ≡ None = sym (ap bad_name same2) ∙ sym c.bad_name.ensures ∙ c.in_default-bad_name.is in
     let count : length (texts c.names_of-names.result.now) ≡ length c.names_of-names.result.now = length-map _ _ in
     let few : length (names_of (parts_of text)) ≤ 64 = omega (arith, ap length names, count) in
-    rw (c.in-Ok-names_from.ensures, names) (IsPath-names_of text good (omega arith) few)
+    rw (c.in_ok-names.ensures, names) (IsPath-names_of text good (omega arith) few)
