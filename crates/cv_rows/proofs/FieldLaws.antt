@@ -5,9 +5,10 @@ use Rattle.std.proofs.lemmas.Bool.{cases_lt, ltb-false, le-ltb}
 use Rattle.std.proofs.lemmas.List.{take_at, drop_at, take-append-drop, length-append, length-take, get_or-drop, get_or-take, get_or_past}
 use Rattle.std.proofs.lemmas.Nat.{be_bytes_2, be_bytes_4, be_bytes_8, from_be_bytes-to_be_bytes_2, from_be_bytes-to_be_bytes_4, from_be_bytes-to_be_bytes_8}
 use Rattle.hex.specs.Hex.{IsBytes}
+use Rattle.cv_base.specs.Sequence.{◌>>=◌}
 use Rattle.cv_rows.specs.declared.row_fault.RowFault.{RowFault}
 use Rattle.cv_rows.specs.declared.row_fault.RowFault.TheVariants.{Short}
-use Rattle.cv_rows.specs.Reading.{◌>>=◌, accepted, number_at, bytes_at}
+use Rattle.cv_rows.specs.Reading.{accepted, number_at, bytes_at}
 
 pub IsBytes-drop : (n : ℕ) (bytes : List ℕ) → IsBytes bytes → IsBytes (drop n bytes)
 IsBytes-drop n bytes h i = rw get_or-drop (h (n + i))

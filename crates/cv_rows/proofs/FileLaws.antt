@@ -11,6 +11,7 @@ use Rattle.std.proofs.lemmas.List.Concat.{flat_map-cons}
 use Rattle.std.proofs.lemmas.Slice.Eq.{bytes_eq-Decides}
 use Rattle.std.proofs.lemmas.Str.{IsUtf8-append, IsUtf8-from_ascii, IsUtf8-from_is_utf8, IsUtf8-nil, is_utf8-from_IsUtf8}
 use Rattle.hex.specs.Hex.{IsBytes}
+use Rattle.cv_base.specs.Sequence.{◌>>=◌}
 use Rattle.cv_base.specs.Path.{Path, IsPath, text_of, is_path_name, is_path_byte, is_dots}
 use Rattle.cv_base.specs.PathText.{path_of, only_path, path_named}
 use Rattle.cv_base.specs.declared.path_fault.PathFault.{PathFault}
@@ -22,7 +23,7 @@ use Rattle.cv_rows.specs.declared.row_fault.RowFault.TheVariants.{Short, BadMagi
 use Rattle.cv_rows.specs.Row.{IsRow, text_field, row_bytes}
 use Rattle.cv_rows.specs.Nested.{IsNested, nested_bytes}
 use Rattle.cv_rows.specs.Catalogue.{file_of}
-use Rattle.cv_rows.specs.Reading.{◌>>=◌, bad, accepted, number_at, bytes_at, length_at, row_at, path_at, nested_at, many_at, Entries, entries_at, number_in, is_too_large, entries_of}
+use Rattle.cv_rows.specs.Reading.{bad, accepted, number_at, bytes_at, length_at, row_at, path_at, nested_at, many_at, Entries, entries_at, number_in, is_too_large, entries_of}
 use Rattle.cv_rows.proofs.FieldLaws.{bind_ok, guard_ended, passes, accepted_ok, ok_is, IsBytes-drop, IsBytes-take, Takes, Takes-then, wide32, wide64, number_takes, number_again, bytes_take, bytes_again}
 use Rattle.cv_rows.proofs.RowFields.{either, some_is, length_takes, length_reads, text_takes}
 use Rattle.cv_rows.proofs.RowLaws.{row_takes, row_reads}

@@ -5,6 +5,7 @@ use Rattle.std.specs.Int.{w16, w32, w64, to_be_bytes}
 use Rattle.std.proofs.lemmas.Bool.{eqb-true}
 use Rattle.std.proofs.lemmas.Bool.Decides.{nat_tests}
 use Rattle.hex.specs.Hex.{IsBytes}
+use Rattle.cv_base.specs.Sequence.{◌>>=◌}
 use Rattle.cv_base.specs.Digest.{IsDigest}
 use Rattle.cv_base.specs.Path.{is_path_byte, is_dots}
 use Rattle.cv_base.specs.Target.{is_target}
@@ -16,7 +17,7 @@ use Rattle.cv_rows.specs.declared.row_kind.RowKind.{RowKind}
 use Rattle.cv_rows.specs.declared.row_kind.RowKind.TheVariants.{Directory, Transition, NestedRoot, File, Link}
 use Rattle.cv_rows.specs.declared.row_fault.RowFault.{RowFault}
 use Rattle.cv_rows.specs.Row.{flags_of, type_bits, is_row_name, hash_field, text_field}
-use Rattle.cv_rows.specs.Reading.{◌>>=◌, bad, accepted, number_at, bytes_at, kind_of, kind_at, permissions, attr_at, is_size, size_at, hash_at, length_at, name_at, target_limit, is_size_of, target_at}
+use Rattle.cv_rows.specs.Reading.{bad, accepted, number_at, bytes_at, kind_of, kind_at, permissions, attr_at, is_size, size_at, hash_at, length_at, name_at, target_limit, is_size_of, target_at}
 use Rattle.cv_rows.proofs.FieldLaws.{bind_ok, guard_ended, passes, accepted_ok, ok_is, Takes, Takes-then, TakesBytes, wide16, wide32, wide64, number_takes, number_again, bytes_take, bytes_again}
 
 -- which way a test went

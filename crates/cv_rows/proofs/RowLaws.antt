@@ -7,6 +7,7 @@ use Rattle.std.proofs.lemmas.Bool.{eqb-true, eq-eqb, leb-true, le-leb}
 use Rattle.std.proofs.lemmas.List.{nil_from_length}
 use Rattle.std.proofs.lemmas.Str.{IsUtf8-nil, is_utf8-from_IsUtf8}
 use Rattle.hex.specs.Hex.{IsBytes}
+use Rattle.cv_base.specs.Sequence.{◌>>=◌}
 use Rattle.cv_base.specs.Target.{is_target, is_target_byte}
 use Rattle.cv_base.specs.declared.attr.Attr.{Attr}
 use Rattle.cv_base.proofs.Laws.{first_true, second_true}
@@ -15,7 +16,7 @@ use Rattle.cv_rows.specs.declared.row_kind.RowKind.{RowKind}
 use Rattle.cv_rows.specs.declared.row_kind.RowKind.TheVariants.{Directory, Transition, NestedRoot, File, Link}
 use Rattle.cv_rows.specs.declared.row_fault.RowFault.{RowFault}
 use Rattle.cv_rows.specs.Row.{flags_of, is_row_name, IsKey, IsRow, HasContent, hash_field, text_field, row_bytes}
-use Rattle.cv_rows.specs.Reading.{◌>>=◌, bytes_at, kind_at, attr_at, is_size, size_at, hash_at, name_at, target_limit, is_size_of, target_at, row_behind, row_at}
+use Rattle.cv_rows.specs.Reading.{bytes_at, kind_at, attr_at, is_size, size_at, hash_at, name_at, target_limit, is_size_of, target_at, row_behind, row_at}
 use Rattle.cv_rows.proofs.FieldLaws.{bind_ok, ok_is, Takes, bytes_take, bytes_again}
 use Rattle.cv_rows.proofs.RowFields.{kind_takes, kind_reads, attr_bytes, AttrFits, attr_takes, attr_reads, size_takes, size_reads, HashFits, hash_takes, hash_reads, name_takes, name_reads, TargetFits, target_takes, target_reads}
 

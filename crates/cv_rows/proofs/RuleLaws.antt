@@ -1,5 +1,5 @@
 -- A catalogue breaks no rule, and what breaks none is one.
-use Rattle.std.proofs.Common.{◌≡◌, ℕ, ◌-◌, ◌<◌, ◌≤◌, List, [], ◌∷◌, length, get_or, Result, Ok, Err, sym, ap, subst, ◌∙◌, arith, inl, inr}
+use Rattle.std.proofs.Common.{◌≡◌, ℕ, ◌-◌, ◌<◌, ◌≤◌, List, [], ◌∷◌, length, get_or, Result, Ok, Err, refl, sym, ap, subst, ◌∙◌, arith, inl, inr}
 use Rattle.std.specs.Prelude.{Contains}
 use Rattle.std.specs.declared.cmp.Ordering.{Ordering}
 use Rattle.std.specs.List.{HoldsAt, All}
@@ -8,8 +8,9 @@ use Rattle.std.proofs.lemmas.List.Elements.{Contains-get_or}
 use Rattle.std.proofs.lemmas.Map.Keys.{Less-from_sorted}
 use Rattle.hex.specs.Hex.{IsBytes}
 use Rattle.cv_base.specs.Path.{Path, IsPath}
+use Rattle.cv_base.specs.Unless.{IsUnless}
 use Rattle.cv_rows.specs.Places.{IsRoot, StandsAt, root}
-use Rattle.cv_rows.specs.Catalogue.{Contents, IsCatalogue, IsUnlessMemory, IsMarkedWell, IsTransitionAt, IsListed, row_cmp, nested_cmp, file_of, catalogue_bytes}
+use Rattle.cv_rows.specs.Catalogue.{Contents, IsCatalogue, IsMarkedWell, IsTransitionAt, IsListed, row_cmp, nested_cmp, file_of, catalogue_bytes}
 use Rattle.cv_rows.specs.Faults.{IsFirst, IsFirstDisorder, IsFirstOrphan, IsMisplaced, AreOrdered, AllStand, AllFit, IsRuleFault, IsFaultOf, IsFirstFault, KeepsRules}
 use Rattle.cv_rows.specs.Reading.{Entries, entries_of}
 use Rattle.cv_rows.specs.declared.row.Row.{Row}
@@ -91,18 +92,18 @@ fault_of_catalogue c bytes at fault is place spelled f =
     no_fault c fault is (subst (λ (p : Path). IsRuleFault p c.rows c.nested fault) (sym place) (subst (λ (e : Result Entries RowFault). IsFaultOf at e fault) (catalogue_reads c bytes is spelled) f))
 
 -- the bytes of a catalogue have no fault but want of memory
-pub no_first_fault : (c : Contents) (bytes : List ℕ) (at : Path) (fault : RowFault) → IsFirstFault bytes at fault → IsCatalogue c → c.at ≡ at → bytes ≡ catalogue_bytes c → IsUnlessMemory c (Err fault)
-no_first_fault c bytes at NoMemory f is place spelled = tt
-no_first_fault c bytes at Short f is place spelled = fault_of_catalogue c bytes at Short is place spelled f
-no_first_fault c bytes at BadMagic f is place spelled = fault_of_catalogue c bytes at BadMagic is place spelled f
-no_first_fault c bytes at (BadField i) f is place spelled = fault_of_catalogue c bytes at (BadField i) is place spelled f
-no_first_fault c bytes at (Order i) f is place spelled = fault_of_catalogue c bytes at (Order i) is place spelled f
-no_first_fault c bytes at (BadKey i) f is place spelled = fault_of_catalogue c bytes at (BadKey i) is place spelled f
-no_first_fault c bytes at (Orphan i) f is place spelled = fault_of_catalogue c bytes at (Orphan i) is place spelled f
-no_first_fault c bytes at (Marker i) f is place spelled = fault_of_catalogue c bytes at (Marker i) is place spelled f
-no_first_fault c bytes at (NestedList i) f is place spelled = fault_of_catalogue c bytes at (NestedList i) is place spelled f
-no_first_fault c bytes at TrailingBytes f is place spelled = fault_of_catalogue c bytes at TrailingBytes is place spelled f
-no_first_fault c bytes at TooLarge f is place spelled = fault_of_catalogue c bytes at TooLarge is place spelled f
+pub no_first_fault : (c : Contents) (bytes : List ℕ) (at : Path) (fault : RowFault) → IsFirstFault bytes at fault → IsCatalogue c → c.at ≡ at → bytes ≡ catalogue_bytes c → IsUnless NoMemory (Err fault) (Ok c)
+no_first_fault c bytes at NoMemory f is place spelled = inl refl
+no_first_fault c bytes at Short f is place spelled = absurd (fault_of_catalogue c bytes at Short is place spelled f)
+no_first_fault c bytes at BadMagic f is place spelled = absurd (fault_of_catalogue c bytes at BadMagic is place spelled f)
+no_first_fault c bytes at (BadField i) f is place spelled = absurd (fault_of_catalogue c bytes at (BadField i) is place spelled f)
+no_first_fault c bytes at (Order i) f is place spelled = absurd (fault_of_catalogue c bytes at (Order i) is place spelled f)
+no_first_fault c bytes at (BadKey i) f is place spelled = absurd (fault_of_catalogue c bytes at (BadKey i) is place spelled f)
+no_first_fault c bytes at (Orphan i) f is place spelled = absurd (fault_of_catalogue c bytes at (Orphan i) is place spelled f)
+no_first_fault c bytes at (Marker i) f is place spelled = absurd (fault_of_catalogue c bytes at (Marker i) is place spelled f)
+no_first_fault c bytes at (NestedList i) f is place spelled = absurd (fault_of_catalogue c bytes at (NestedList i) is place spelled f)
+no_first_fault c bytes at TrailingBytes f is place spelled = absurd (fault_of_catalogue c bytes at TrailingBytes is place spelled f)
+no_first_fault c bytes at TooLarge f is place spelled = absurd (fault_of_catalogue c bytes at TooLarge is place spelled f)
 
 -- the catalogue of these rows and nested entries
 abbrev pub contents : Path → List Row → List Nested → Contents

@@ -6,9 +6,10 @@ use Rattle.std.specs.List.Sorted.{IsStrictlySortedBy}
 use Rattle.std.proofs.lemmas.Bool.{cases_lt, le-ltb}
 use Rattle.std.proofs.lemmas.List.{get_or_default}
 use Rattle.cv_base.specs.Path.{Path, IsPath, text_of, is_path_name}
-use Rattle.cv_base.specs.PathText.{joined, IsUnlessMemory}
+use Rattle.cv_base.specs.PathText.{joined}
+use Rattle.cv_base.specs.Unless.{IsUnless}
 use Rattle.cv_base.specs.declared.path_fault.PathFault.{PathFault}
-use Rattle.cv_base.specs.declared.path_fault.PathFault.TheVariants.{BadName, TooLong, TooDeep, NoMemory}
+use Rattle.cv_base.specs.declared.path_fault.PathFault.TheVariants.{NoMemory}
 use Rattle.cv_base.proofs.Laws.{first_true, second_true}
 use Rattle.cv_rows.specs.Catalogue.{row_cmp, FitsAt}
 use Rattle.cv_rows.specs.Faults.{IsFirst, IsOrphan, IsMisplaced}
@@ -48,13 +49,11 @@ joined_path p name is =
     let shallow : ltb 64 (length longer) ≡ false = le-ltb 64 (length longer) is.depth in
     rw (short, shallow, all_last p name is.names) refl
 
-other_fault : (fault : PathFault) (answer : Result Path PathFault) (path : Path) → IsUnlessMemory (Err fault) answer → fault ≢ NoMemory → answer ≡ Ok path → ⊥
-other_fault (BadName n) answer path is apart ok = let wrong : Err (BadName n) ≡ Ok path = is ∙ ok in cc
-other_fault TooLong answer path is apart ok = let wrong : Err TooLong ≡ Ok path = is ∙ ok in cc
-other_fault TooDeep answer path is apart ok = let wrong : Err TooDeep ≡ Ok path = is ∙ ok in cc
-other_fault NoMemory answer path is apart ok = apart refl
+other_fault : (fault : PathFault) (answer : Result Path PathFault) (path : Path) → IsUnless NoMemory (Err fault) answer → fault ≢ NoMemory → answer ≡ Ok path → ⊥
+other_fault fault answer path (inl lack) apart ok = apart lack
+other_fault fault answer path (inr is) apart ok = let wrong : Err fault ≡ Ok path = is ∙ ok in cc
 
-pub no_longer : {E : Type 0} (above : Path) (name : List ℕ) (fault : PathFault) (r : Result (Option Path) E) → IsUnlessMemory (Err fault) (joined above name) → IfOk r (λ found. (found ≡ None) × (fault ≢ NoMemory)) → IfOk r (IsBelow above name)
+pub no_longer : {E : Type 0} (above : Path) (name : List ℕ) (fault : PathFault) (r : Result (Option Path) E) → IsUnless NoMemory (Err fault) (joined above name) → IfOk r (λ found. (found ≡ None) × (fault ≢ NoMemory)) → IfOk r (IsBelow above name)
 no_longer above name fault (Ok found) is none =
     subst (λ (o : Option Path). IsBelow above name o) (sym none.0) (λ path. other_fault fault (joined above name) (above ++ name ∷ []) is none.1 (joined_path above name path))
 no_longer above name fault (Err e) is none = tt

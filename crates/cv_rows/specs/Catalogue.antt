@@ -1,5 +1,5 @@
 -- The catalogue of a place, and its bytes.
-use Rattle.std.specs.Prelude.{◌≡◌, ℕ, ◌≤◌, Bool, true, false, not, ◌&&◌, bytes_eq, List, ◌++◌, length, codes, Contains, Result, Ok, Err}
+use Rattle.std.specs.Prelude.{◌≡◌, ℕ, ◌≤◌, Bool, true, false, not, ◌&&◌, bytes_eq, List, ◌++◌, length, codes, Contains}
 use Rattle.std.specs.declared.cmp.Ordering.{Ordering}
 use Rattle.std.specs.Ordering.{nat_cmp}
 use Rattle.std.specs.Cmp.Lexicographic.{slice_cmp}
@@ -7,14 +7,14 @@ use Rattle.std.specs.Int.{w32, to_be_bytes}
 use Rattle.std.specs.List.{flat_map, list_any, All, AllByRecursion}
 use Rattle.std.specs.List.Sorted.{IsStrictlySortedBy}
 use Rattle.cv_base.specs.Marker.{marker}
+use Rattle.cv_base.specs.declared.limits.TheConstants.{OBJECT_LIMIT}
 use Rattle.cv_base.specs.Path.{Path, IsPath, text_of, key_of, last_name_of}
 use Rattle.cv_rows.specs.Row.{IsRow, row_bytes, same_kind}
 use Rattle.cv_rows.specs.Nested.{IsNested, nested_bytes}
 use Rattle.cv_rows.specs.Places.{IsRoot, StandsAt}
+use Rattle.cv_rows.specs.declared.limits.TheConstants.{ROW_LIMIT}
 use Rattle.cv_rows.specs.declared.row.Row.{Row}
 use Rattle.cv_rows.specs.declared.nested.Nested.{Nested}
-use Rattle.cv_rows.specs.declared.row_fault.RowFault.{RowFault}
-use Rattle.cv_rows.specs.declared.row_fault.RowFault.TheVariants.{NoMemory}
 use Rattle.cv_rows.specs.declared.row_kind.RowKind.TheVariants.{Directory, Transition, NestedRoot, File}
 
 -- what a catalogue has: the rows and the nested entries of the cut at a place
@@ -107,15 +107,9 @@ pub record IsCatalogue (c : Contents) : Type 0 where
   pub region : IsRegion c.at c.rows c.nested
   pub ordered : IsStrictlySortedBy row_cmp c.rows
   pub nested_ordered : IsStrictlySortedBy nested_cmp c.nested
-  pub count : length c.rows ≤ 50000
-  pub size : length (catalogue_bytes c) ≤ 16777216
+  pub count : length c.rows ≤ ROW_LIMIT
+  pub size : length (catalogue_bytes c) ≤ OBJECT_LIMIT
 
 -- the row has this key as its parent key, and isn't the row of the key
 abbrev pub is_below : Row → List ℕ → Bool
 is_below r key = bytes_eq r.parent.0 key && not (bytes_eq r.key.0 key)
-
--- the answer is this catalogue, or it wanted memory
-abbrev pub IsUnlessMemory : Contents → Result Contents RowFault → Type 0
-IsUnlessMemory c (Ok made) = made ≡ c
-IsUnlessMemory c (Err NoMemory) = Unit {0}
-IsUnlessMemory c (Err fault) = ⊥

@@ -13,3 +13,4 @@ pub mod Within
 pub mod Renewed
 pub mod Listing
 pub mod Toward
+pub mod Digests

@@ -1,8 +1,10 @@
 -- Catalogues that are made of rows and nested entries in any order.
 use Rattle.std.specs.Prelude.{◌≡◌, ℕ, ◌<◌, ◌⊎◌, List, length, map, Some, slice_get, Result, Ok, Err}
 use Rattle.std.specs.FinMap.{from_entries, values}
+use Rattle.cv_base.specs.declared.limits.TheConstants.{OBJECT_LIMIT}
 use Rattle.cv_base.specs.Path.{Path, text_of}
 use Rattle.cv_rows.specs.Catalogue.{Contents, IsRegion, bytes_cmp, file_of}
+use Rattle.cv_rows.specs.declared.limits.TheConstants.{ROW_LIMIT}
 use Rattle.cv_rows.specs.declared.row.Row.{Row}
 use Rattle.cv_rows.specs.declared.nested.Nested.{Nested}
 use Rattle.cv_rows.specs.declared.with_fault.WithFault.{WithFault}
@@ -44,7 +46,7 @@ pub record AreParts (at : Path) (rows : List Row) (nested : List Nested) : Type 
 
 -- more than 50,000 rows, or more than 16 MiB of bytes
 abbrev pub PassesLimit : List Row → List Nested → Type 0
-PassesLimit rows nested = (50000 < length rows) ⊎ (16777216 < length (file_of rows nested))
+PassesLimit rows nested = (ROW_LIMIT < length rows) ⊎ (OBJECT_LIMIT < length (file_of rows nested))
 
 -- what a judge of rows and nested entries says
 abbrev pub Judges : List Row → List Nested → Result Unit WithFault → Type 0

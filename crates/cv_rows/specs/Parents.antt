@@ -1,8 +1,8 @@
 -- The parents of rows, by index.
-use Rattle.std.specs.Prelude.{◌≡◌, ◌≢◌, Bool, true, false, ℕ, zero, suc, ◌+◌, ◌<◌, ◌≤◌, List, [], ◌∷◌, ◌++◌, length, Option, Some, None, slice_index, slice_index_or, Contains}
+use Rattle.std.specs.Prelude.{◌≡◌, ◌≢◌, Bool, false, ℕ, zero, suc, ◌+◌, ◌<◌, ◌≤◌, List, [], ◌∷◌, ◌++◌, length, Option, Some, None, slice_index, slice_index_or, Contains}
 use Rattle.std.specs.List.{HoldsAt}
 use Rattle.std.specs.List.Sorted.{IsStrictlySortedBy}
-use Rattle.cv_base.specs.Path.{Path, IsPath, covers, text_of, is_path_name}
+use Rattle.cv_base.specs.Path.{Path, IsPath, covers}
 use Rattle.cv_rows.specs.Catalogue.{row_cmp}
 use Rattle.cv_rows.specs.Places.{IsRoot, IsChild, StandsAt}
 use Rattle.cv_rows.specs.declared.row.Row.{Row}
@@ -64,13 +64,3 @@ IsBelow above name (Some path) = (path ≡ above ++ name ∷ []) × IsPath path
 abbrev pub is_covered : Path → Option Path → Bool
 is_covered path None = false
 is_covered path (Some found) = covers path found
-
--- a name is added to the text of a path, or is none in a path, or makes the text too long
-abbrev pub AddsName : List ℕ → List ℕ → List ℕ → Bool → Type 0
-AddsName old name new false = is_path_name name ≡ true → 4095 < length old + length (47 ∷ name)
-AddsName old name new true = (is_path_name name ≡ true) × (length new ≤ 4095) × (new ≡ old ++ 47 ∷ name)
-
--- the text of the path of the row at an index, or none where that is none as above
-abbrev pub IsTextOf : Path → List Row → ℕ → ℕ → List ℕ → Bool → Type 0
-IsTextOf at rows i left text false = IsPathOf at rows i left None
-IsTextOf at rows i left text true = (path : Path) × (length path ≤ length at + left) × (text ≡ text_of path) × IsPathOf at rows i left (Some path)

@@ -8,20 +8,17 @@ use Rattle.std.specs.Int.{Width, w16, w32, w64, byte_len, from_be_bytes}
 use Rattle.cv_base.specs.Path.{Path}
 use Rattle.cv_base.specs.PathText.{path_named}
 use Rattle.cv_base.specs.Target.{is_target}
+use Rattle.cv_base.specs.Sequence.{◌>>=◌}
 use Rattle.cv_base.specs.declared.attr.Attr.{Attr}
+use Rattle.cv_base.specs.declared.limits.TheConstants.{MODE_LIMIT, OBJECT_LIMIT}
 use Rattle.cv_rows.specs.Row.{type_bits, is_row_name}
+use Rattle.cv_rows.specs.declared.limits.TheConstants.{ROW_LIMIT}
 use Rattle.cv_rows.specs.declared.row.Row.{Row}
 use Rattle.cv_rows.specs.declared.nested.Nested.{Nested}
 use Rattle.cv_rows.specs.declared.row_kind.RowKind.{RowKind}
 use Rattle.cv_rows.specs.declared.row_kind.RowKind.TheVariants.{Directory, Transition, NestedRoot, File, Link}
 use Rattle.cv_rows.specs.declared.row_fault.RowFault.{RowFault}
 use Rattle.cv_rows.specs.declared.row_fault.RowFault.TheVariants.{Short, BadMagic, BadField, TrailingBytes, TooLarge, NoMemory}
-
--- what is read first, and then what follows it
-infixl 10 ◌>>=◌
-abbrev pub ◌>>=◌ : {A B : Type 0} → Result A RowFault → (A → Result B RowFault) → Result B RowFault
-(Ok x) >>= f = f x
-(Err e) >>= f = Err e
 
 -- the fault is that of reading, unless it is want of memory
 abbrev pub Fails : {Y : Type 0} → RowFault → Result Y RowFault → Type 0
@@ -70,7 +67,7 @@ kind_at all text = do
 
 -- the permission bits in a mode with the type bits of this kind
 abbrev pub permissions : RowKind → ℕ → Option ℕ
-permissions kind mode = if nat_le (type_bits kind) mode && nat_lt mode (type_bits kind + 4096) then Some (mode - type_bits kind) else None
+permissions kind mode = if nat_le (type_bits kind) mode && nat_lt mode (type_bits kind + MODE_LIMIT) then Some (mode - type_bits kind) else None
 
 unfoldable pub attr_at : ℕ → RowKind → List ℕ → Result (Attr × List ℕ) RowFault
 attr_at all kind text = do
@@ -86,7 +83,7 @@ abbrev pub is_size : RowKind → ℕ → Bool
 is_size Directory size = size == 0
 is_size Transition size = size == 0
 is_size NestedRoot size = size == 0
-is_size File size = nat_le size 16777216
+is_size File size = nat_le size OBJECT_LIMIT
 is_size Link size = nat_le 1 size && nat_le size 4095
 
 unfoldable pub size_at : ℕ → RowKind → List ℕ → Result (ℕ × List ℕ) RowFault
@@ -196,7 +193,7 @@ number_in offset bytes = from_be_bytes w32 (take 4 (drop offset bytes))
 
 -- more than 16 MiB of bytes, or a count of rows above 50,000, as soon as it is there
 abbrev pub is_too_large : List ℕ → Bool
-is_too_large bytes = if nat_lt 16777216 (length bytes) then true else nat_le 8 (length bytes) && nat_lt 50000 (number_in 4 bytes)
+is_too_large bytes = if nat_lt OBJECT_LIMIT (length bytes) then true else nat_le 8 (length bytes) && nat_lt ROW_LIMIT (number_in 4 bytes)
 
 -- the rows and nested entries of all these bytes
 unfoldable pub entries_of : List ℕ → Result Entries RowFault

@@ -2,6 +2,7 @@
 use Rattle.std.specs.Prelude.{◌≡◌, ℕ, ◌+◌, ◌^◌, ◌<◌, ◌≤◌, Bool, true, false, ◌&&◌, ◌==◌, nat_le, bytes_eq, List, [], ◌∷◌, ◌++◌, length, Option, Some, None, IsSomeAnd}
 use Rattle.std.specs.Int.{w16, w32, w64, to_be_bytes}
 use Rattle.hex.specs.Hex.{IsBytes}
+use Rattle.cv_base.specs.declared.limits.TheConstants.{MODE_LIMIT, OBJECT_LIMIT}
 use Rattle.cv_base.specs.Digest.{IsDigest}
 use Rattle.cv_base.specs.Path.{is_path_name, no_key}
 use Rattle.cv_base.specs.Target.{is_target}
@@ -59,13 +60,13 @@ abbrev pub HasContent : RowKind → ℕ → Option (List ℕ) → List ℕ → T
 HasContent Directory size hash target = (size ≡ 0) × (hash ≡ None) × (target ≡ [])
 HasContent Transition size hash target = (size ≡ 0) × (hash ≡ None) × (target ≡ [])
 HasContent NestedRoot size hash target = (size ≡ 0) × (hash ≡ None) × (target ≡ [])
-HasContent File size hash target = (size ≤ 16777216) × IsSomeAnd hash IsDigest × (target ≡ [])
+HasContent File size hash target = (size ≤ OBJECT_LIMIT) × IsSomeAnd hash IsDigest × (target ≡ [])
 HasContent Link size hash target = (size ≡ length target) × (hash ≡ None) × (is_link_target target ≡ true)
 
 pub record IsRow (r : Row) : Type 0 where
   pub key : IsKey r.key.0
   pub parent : IsKey r.parent.0
-  pub mode : r.attr.mode < 4096
+  pub mode : r.attr.mode < MODE_LIMIT
   pub mtime : r.attr.mtime < 2 ^ 64
   pub uid : r.attr.uid < 2 ^ 32
   pub gid : r.attr.gid < 2 ^ 32

@@ -1,8 +1,9 @@
 //! Catalogues.
-ghost use Rattle.std.specs.Prelude.{◌≡◌, ◌≢◌, ◌++◌, true, false, IfOk, IfErr, IfSome, OnOk, Err, None, MatchOption, Contains, filter, map};
+ghost use Rattle.std.specs.Prelude.{◌≡◌, ◌≢◌, ◌++◌, true, false, IfOk, IfErr, IfSome, OnOk, Ok, Err, None, MatchOption, Contains, filter, map};
 ghost use Rattle.cv_base.specs.Marker.{marker, ends_in};
 ghost use Rattle.cv_base.specs.Digest.{IsDigest};
 ghost use Rattle.cv_base.specs.Path.{covers};
+ghost use Rattle.cv_base.specs.Unless.{IsUnless};
 ghost use Rattle.cv_rows.specs.declared.row_fault.RowFault.TheVariants as row_fault;
 
 use crate::children::{children_of, rows_below};
@@ -52,7 +53,7 @@ impl Model for Catalogue {
 }
 
 impl Catalogue {
-    ghost use Rattle.cv_rows.specs.Catalogue.{Contents, IsCatalogue, IsRegion, IsUnlessMemory, catalogue_bytes, is_below};
+    ghost use Rattle.cv_rows.specs.Catalogue.{Contents, IsCatalogue, IsRegion, catalogue_bytes, is_below};
     ghost use Rattle.cv_rows.specs.Faults.{IsFirstFault};
     ghost use Rattle.cv_rows.specs.Made.{AreParts, AreApart, IsTwice, PassesLimit, keys_of, texts_of, in_order};
     ghost use Rattle.cv_rows.specs.Row.{IsRow};
@@ -76,7 +77,8 @@ impl Catalogue {
         ensures found { IfOk result (λ c. (c.at ≡ at.now) × IsCatalogue c × (bytes.now ≡ catalogue_bytes c)) }
 
         // Each row file of a catalogue there is read as that catalogue.
-        ensures only { (c : Contents) → IsCatalogue c → c.at ≡ at.now → bytes.now ≡ catalogue_bytes c → IsUnlessMemory c result }
+        ensures only { (c : Contents) → IsCatalogue c → c.at ≡ at.now → bytes.now ≡ catalogue_bytes c
+            → IsUnless row_fault.NoMemory result (Ok c) }
         ensures fault { IfErr result (IsFirstFault bytes.now at.now) }
     {
         match rules::read(alloc, bytes, at) {
@@ -189,10 +191,10 @@ impl Catalogue {
         let nested = nested_by_text(all_nested);
         match rules::check(alloc, &at, &rows, &nested) {
             Ok(()) => Ok(Some(Catalogue { at, rows, nested })),
-            Err(fault) => match unless_memory(fault) {
-                Ok(()) => Ok(None),
-                Err(NoMemory) => Err(WithFault::NoMemory),
-            },
+            Err(fault) => {
+                unless_memory(fault)?;
+                Ok(None)
+            }
         }
     }
 

@@ -9,6 +9,7 @@ ghost use Rattle.cv_rows.specs.Catalogue.{row_cmp};
 ghost use Rattle.cv_rows.specs.Faults.{AllStand, AllFit};
 ghost use Rattle.cv_rows.specs.Parents.{is_covered};
 ghost use Rattle.cv_rows.specs.Places.{StandsAt};
+ghost use Rattle.cv_rows.specs.declared.limits.TheConstants.{ROW_LIMIT};
 ghost use Rattle.cv_rows.specs.declared.row.Row.{Row as TheRow};
 
 use crate::keys::add;
@@ -37,7 +38,7 @@ pub fn covered_keys(
     path: &RepoPath,
 ) -> Result<BTreeSet<[u8; 16]>, NoMemory>
     requires place { IsPath at.now }
-    requires count { length rows.now ≤ 50000 }
+    requires count { length rows.now ≤ ROW_LIMIT }
     requires ordered { IsStrictlySortedBy row_cmp rows.now }
     requires stand { AllStand at.now rows.now }
     requires fit { AllFit at.now rows.now }

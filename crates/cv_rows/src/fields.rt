@@ -8,8 +8,8 @@ ghost use Rattle.cv_rows.specs.Row.{is_row_name};
 use crate::row_fault::RowFault;
 use crate::row_kind::RowKind;
 use cv_base::{
-    Attr, NoMemory, PATH_LIMIT, PATH_NAME_LIMIT, PathKey, RepoPath, TARGET_LIMIT, Target,
-    is_path_name, split_u16, split_u32, split_u64,
+    Attr, MODE_LIMIT, NoMemory, OBJECT_LIMIT, PATH_LIMIT, PATH_NAME_LIMIT, PathKey, RepoPath,
+    TARGET_LIMIT, Target, is_path_name, split_u16, split_u32, split_u64,
 };
 use std::alloc::Global;
 
@@ -92,7 +92,7 @@ fn permissions(kind: RowKind, mode: u32) -> Option<u32>
     ensures { result ≡ permissions kind mode }
 {
     let bits = kind.type_bits();
-    if bits <= mode && mode < bits + 0o10000 {
+    if bits <= mode && mode < bits + MODE_LIMIT {
         Some(mode - bits)
     } else {
         None
@@ -126,7 +126,7 @@ fn is_size(kind: RowKind, size: u64) -> bool
 {
     match kind {
         RowKind::Directory | RowKind::Transition | RowKind::NestedRoot => size == 0,
-        RowKind::File => size <= 16_777_216,
+        RowKind::File => size <= OBJECT_LIMIT as u64,
         RowKind::Link => 1 <= size && size <= 4095,
     }
 }
@@ -204,10 +204,9 @@ pub fn read_name<'a>(
 {
     let (len, rest) = read_length(all, PATH_NAME_LIMIT, text)?;
     let (name, after) = read_bytes(rest, len)?;
-    match name_of(alloc, parent, name) {
-        Ok(Some(name)) => Ok((name, after)),
-        Ok(None) => Err(bad(all, rest)),
-        Err(NoMemory) => Err(RowFault::NoMemory),
+    match name_of(alloc, parent, name)? {
+        Some(name) => Ok((name, after)),
+        None => Err(bad(all, rest)),
     }
 }
 
@@ -262,10 +261,9 @@ pub fn read_target<'a>(
     if !is_size_of(kind, size, target) {
         return Err(bad(all, sized));
     }
-    match Target::of_bytes(alloc, target) {
-        Ok(Some(target)) => Ok((target, after)),
-        Ok(None) => Err(bad(all, rest)),
-        Err(NoMemory) => Err(RowFault::NoMemory),
+    match Target::of_bytes(alloc, target)? {
+        Some(target) => Ok((target, after)),
+        None => Err(bad(all, rest)),
     }
 }
 
@@ -276,9 +274,8 @@ pub fn read_path(alloc: Global, all: usize, text: &[u8]) -> Result<(RepoPath, &[
 {
     let (len, rest) = read_length(all, PATH_LIMIT, text)?;
     let (name, after) = read_bytes(rest, len)?;
-    match RepoPath::of_bytes(alloc, name) {
-        Ok(Some(path)) => Ok((path, after)),
-        Ok(None) => Err(bad(all, rest)),
-        Err(NoMemory) => Err(RowFault::NoMemory),
+    match RepoPath::of_bytes(alloc, name)? {
+        Some(path) => Ok((path, after)),
+        None => Err(bad(all, rest)),
     }
 }

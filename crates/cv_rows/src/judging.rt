@@ -2,16 +2,18 @@
 //! no limit.
 ghost use Rattle.std.specs.Prelude.{◌≡◌, ◌+◌, ◌<◌, ◌≤◌, ◌↔◌, ◌++◌, take, length, IsTrue, IfOk, OnOk, MatchBool, MatchOption};
 ghost use Rattle.std.specs.List.{flat_map, AllByRecursion};
+ghost use Rattle.cv_base.specs.declared.limits.TheConstants.{OBJECT_LIMIT};
 ghost use Rattle.cv_rows.specs.Row.{IsRow, row_bytes};
 ghost use Rattle.cv_rows.specs.Nested.{IsNested, nested_bytes};
 ghost use Rattle.cv_rows.specs.Made.{AreApart, IsTwice, Judges, PassesLimit, keys_of};
+ghost use Rattle.cv_rows.specs.declared.limits.TheConstants.{ROW_LIMIT};
 
 use crate::keys::add;
+use crate::limits::ROW_LIMIT;
 use crate::nested::Nested;
-use crate::reading::{FILE_LIMIT, ROW_LIMIT};
 use crate::row::Row;
 use crate::with_fault::WithFault;
-use cv_base::{NoMemory, PathKey};
+use cv_base::{NoMemory, OBJECT_LIMIT, PathKey};
 use std::alloc::Global;
 use std::collections::BTreeSet;
 
@@ -43,7 +45,7 @@ fn row_len(row: &Row) -> usize
 
 /// How many bytes rows have in a row file.
 fn rows_len(rows: &[Row]) -> usize
-    requires count { length rows.now ≤ 50000 }
+    requires count { length rows.now ≤ ROW_LIMIT }
     requires spelled { AllByRecursion IsRow rows.now }
     ensures value { result ≡ length (flat_map row_bytes rows.now) }
     ensures bound { result ≤ 413950000 }
@@ -59,16 +61,16 @@ fn rows_len(rows: &[Row]) -> usize
 fn is_too_long(len: usize, nested: &[Nested]) -> bool
     requires len { len ≤ 413950012 }
     requires spelled { AllByRecursion IsNested nested.now }
-    ensures { IsTrue result ↔ (16777216 < len + length (flat_map nested_bytes nested.now)) }
+    ensures { IsTrue result ↔ (OBJECT_LIMIT < len + length (flat_map nested_bytes nested.now)) }
 {
     let mut total = len;
     for entry in nested {
-        if total > FILE_LIMIT {
+        if total > OBJECT_LIMIT {
             return true;
         }
         total += 30 + entry.path.text_len();
     }
-    total > FILE_LIMIT
+    total > OBJECT_LIMIT
 }
 
 /// Whether rows and nested entries pass a limit of row files.

@@ -8,10 +8,12 @@ mod fields;
 mod judging;
 mod keys;
 pub mod laws;
+mod limits;
 mod markers;
 mod nested;
 mod nested_list;
 mod order;
+mod path_digest;
 mod places;
 mod reading;
 mod renewing;
@@ -24,12 +26,10 @@ mod with_fault;
 mod write;
 
 pub use catalogue::Catalogue;
+pub use limits::ROW_LIMIT;
 pub use nested::Nested;
 pub use places::below;
 pub use row::Row;
 pub use row_fault::RowFault;
 pub use row_kind::RowKind;
 pub use with_fault::WithFault;
-
-#[cfg(test)]
-mod tests;

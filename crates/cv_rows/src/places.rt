@@ -7,6 +7,7 @@ ghost use Rattle.cv_rows.specs.Catalogue.{row_cmp};
 ghost use Rattle.cv_rows.specs.Places.{IsRoot, IsChild, StandsAt, StandEach};
 ghost use Rattle.cv_rows.specs.Parents.{IsParentOf, AreParents, AreAbove, AreInside, IsPlacing, IsPathOf, HasPath, IsBelow};
 ghost use Rattle.cv_rows.specs.Faults.{IsFirst, IsOrphan, AllStand, AllFit};
+ghost use Rattle.cv_rows.specs.declared.limits.TheConstants.{ROW_LIMIT};
 ghost use Rattle.cv_base.specs.declared.path_fault.PathFault.TheVariants as faults;
 ghost use Rattle.cv_rows.specs.declared.row.Row.{Row as TheRow};
 
@@ -91,7 +92,7 @@ fn parent_of(rows: &[Row], root: usize, row: usize) -> usize
 pub fn parents(alloc: Global, rows: &[Row], root: usize) -> Result<Vec<usize>, NoMemory>
     requires ordered { IsStrictlySortedBy row_cmp rows.now }
     requires root { root < length rows.now }
-    requires count { length rows.now ≤ 50000 }
+    requires count { length rows.now ≤ ROW_LIMIT }
     ensures { IfOk result (λ parents. AreParents rows.now root parents.items) }
 {
     let mut parents = Vec::with_capacity(alloc, rows.len() + 1)?;
@@ -133,7 +134,7 @@ pub fn first_orphan(
     root: usize,
     parents: &[usize],
 ) -> Result<Option<usize>, NoMemory>
-    requires count { length rows.now ≤ 50000 }
+    requires count { length rows.now ≤ ROW_LIMIT }
     requires root { root < length rows.now }
     requires parents { AreParents rows.now root parents.now }
     ensures { (at : List (List ℕ)) → IsPlacing at rows.now root parents.now → IfOk result (λ found. MatchOption found (All (λ r. (q : List (List ℕ)) × StandsAt at rows.now r q) rows.now) (IsFirst (IsOrphan at rows.now) rows.now)) }
@@ -219,7 +220,7 @@ fn path_there(
 /// The path at which the row at an index of a catalogue stands.
 pub fn path_at(alloc: Global, at: &RepoPath, rows: &[Row], row: usize) -> Result<RepoPath, NoMemory>
     requires place { IsPath at.now }
-    requires count { length rows.now ≤ 50000 }
+    requires count { length rows.now ≤ ROW_LIMIT }
     requires ordered { IsStrictlySortedBy row_cmp rows.now }
     requires stand { AllStand at.now rows.now }
     requires fit { AllFit at.now rows.now }
@@ -236,7 +237,7 @@ pub fn path_at(alloc: Global, at: &RepoPath, rows: &[Row], row: usize) -> Result
 /// The path of each row of a catalogue, in their order.
 pub fn places_of(alloc: Global, at: &RepoPath, rows: &[Row]) -> Result<Vec<RepoPath>, NoMemory>
     requires place { IsPath at.now }
-    requires count { length rows.now ≤ 50000 }
+    requires count { length rows.now ≤ ROW_LIMIT }
     requires ordered { IsStrictlySortedBy row_cmp rows.now }
     requires stand { AllStand at.now rows.now }
     requires fit { AllFit at.now rows.now }

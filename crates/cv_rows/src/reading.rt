@@ -6,19 +6,14 @@ use crate::fields::{
     read_array, read_attr, read_hash, read_kind, read_name, read_path, read_size, read_target,
     read_u64,
 };
+use crate::limits::ROW_LIMIT;
 use crate::nested::Nested;
 use crate::row::Row;
 use crate::row_fault::RowFault;
 use crate::row_kind::RowKind;
 use crate::write::MAGIC;
-use cv_base::{Attr, PathKey};
+use cv_base::{Attr, OBJECT_LIMIT, PathKey};
 use std::alloc::Global;
-
-/// The most bytes of a row file.
-pub const FILE_LIMIT: usize = 16_777_216;
-
-/// The most rows of a catalogue.
-pub const ROW_LIMIT: u32 = 50_000;
 
 /// The rows and the nested entries of a row file, in its order.
 pub type Entries = (Vec<Row>, Vec<Nested>);
@@ -151,7 +146,7 @@ fn number_in(bytes: &[u8], offset: usize) -> u32
 fn is_too_large(bytes: &[u8]) -> bool
     ensures { result ≡ is_too_large bytes.now }
 {
-    if bytes.len() > FILE_LIMIT {
+    if bytes.len() > OBJECT_LIMIT {
         return true;
     }
     bytes.len() >= 8 && number_in(bytes, 4) > ROW_LIMIT

@@ -1,11 +1,13 @@
 //! The rules that rows and nested entries keep, and the first that is broken.
 ghost use Rattle.std.specs.Prelude.{◌≡◌, ℕ, ◌<◌, ◌≤◌, List, Ok, length, MatchResult};
 ghost use Rattle.std.specs.List.{HoldsAt, All};
+ghost use Rattle.cv_base.specs.declared.limits.TheConstants.{OBJECT_LIMIT};
 ghost use Rattle.cv_rows.specs.Catalogue.{IsMarkedWell};
 ghost use Rattle.cv_rows.specs.Places.{IsRoot};
 ghost use Rattle.cv_rows.specs.Parents.{IsPlacing};
 ghost use Rattle.cv_rows.specs.Faults.{AreOrdered, AllStand, AllFit, IsRuleFault, IsFirstFault, KeepsRules, Checks};
 ghost use Rattle.cv_rows.specs.Reading.{entries_of};
+ghost use Rattle.cv_rows.specs.declared.limits.TheConstants.{ROW_LIMIT};
 
 use crate::markers::first_marked_badly;
 use crate::nested::Nested;
@@ -21,8 +23,8 @@ use std::alloc::Global;
 
 /// Checks that rows and nested entries are in order.
 fn check_order(rows: &[Row], nested: &[Nested]) -> Result<(), RowFault>
-    requires rows { length rows.now ≤ 50000 }
-    requires nested { length nested.now ≤ 16777216 }
+    requires rows { length rows.now ≤ ROW_LIMIT }
+    requires nested { length nested.now ≤ OBJECT_LIMIT }
     ensures { (at : List (List ℕ)) → Checks (AreOrdered rows.now nested.now) (IsRuleFault at rows.now nested.now) result }
 {
     if let Some(row) = row_disorder(rows) {
@@ -108,7 +110,7 @@ fn check_places(
     root: usize,
     nested: &[Nested],
 ) -> Result<(), RowFault>
-    requires count { length rows.now ≤ 50000 }
+    requires count { length rows.now ≤ ROW_LIMIT }
     requires ordered { AreOrdered rows.now nested.now }
     requires root { root < length rows.now }
     requires is_root { HoldsAt (IsRoot at.now) rows.now root }
@@ -123,8 +125,8 @@ fn check_places(
 
 /// Checks that rows and nested entries keep all rules of the catalogue at a place.
 pub fn check(alloc: Global, at: &RepoPath, rows: &[Row], nested: &[Nested]) -> Result<(), RowFault>
-    requires rows { length rows.now ≤ 50000 }
-    requires nested { length nested.now ≤ 16777216 }
+    requires rows { length rows.now ≤ ROW_LIMIT }
+    requires nested { length nested.now ≤ OBJECT_LIMIT }
     ensures { Checks (KeepsRules at.now rows.now nested.now) (IsRuleFault at.now rows.now nested.now) result }
 {
     check_order(rows, nested)?;

@@ -1,17 +1,16 @@
-//! Whether rows fit the paths at which they stand, by the texts of these paths: they are written one over another, and no path
-//! is made.
-ghost use Rattle.std.specs.Prelude.{◌≡◌, ℕ, ◌+◌, ◌<◌, ◌≤◌, ◌↔◌, List, length, map, IsTrue, IfOk, MatchOption};
+//! Whether rows fit the paths at which they stand. What is kept of a path serves all rows below it, so that a row costs its own
+//! name alone, however deep it stands, and no path is made.
+ghost use Rattle.std.specs.Prelude.{◌≡◌, ℕ, ◌+◌, ◌<◌, List, length, map, IfOk, MatchOption};
 ghost use Rattle.std.specs.List.{All};
-ghost use Rattle.md5.specs.Md5.{md5};
-ghost use Rattle.cv_base.specs.Path.{IsPath, is_path_name, last_name_of, text_of};
-ghost use Rattle.cv_rows.specs.Places.{IsRoot, StandsAt};
-ghost use Rattle.cv_rows.specs.Parents.{AddsName, IsPlacing, IsTextOf};
+ghost use Rattle.cv_base.specs.Path.{IsPath, is_path_name};
+ghost use Rattle.cv_rows.specs.Places.{StandsAt};
+ghost use Rattle.cv_rows.specs.Parents.{IsPlacing};
+ghost use Rattle.cv_rows.specs.Digests.{AreKept, IsFound};
 ghost use Rattle.cv_rows.specs.Faults.{IsFirst, IsMisplaced, IsPlaced, AllFit};
 
-use crate::places::is_root;
+use crate::path_digest::PathDigest;
 use crate::row::Row;
-use cv_base::{NAMES_LIMIT, NoMemory, PATH_LIMIT, RepoPath, is_path_name};
-use md5::{Digest, Md5};
+use cv_base::{NAMES_LIMIT, NoMemory, RepoPath, is_path_name};
 use std::alloc::Global;
 
 /// Whether the name of each row is a name in a path.
@@ -25,26 +24,22 @@ fn judged_names(alloc: Global, rows: &[Row]) -> Result<Vec<bool>, NoMemory>
     Ok(named)
 }
 
-/// Adds a name to a path's text, unless it is no name in a path, as was judged before, or the text would be too long.
-fn spell_name(text: &mut Vec<u8>, name: &str, is_name: bool) -> Result<bool, NoMemory>
-    requires limit { length text.old.items ≤ 4095 }
-    requires named { is_name ≡ is_path_name name.now }
-    ensures { IfOk result (AddsName text.old.items name.now text.new.items) }
+/// A place for what is kept of each row's path, with nothing yet.
+fn nothing_kept(alloc: Global, rows: &[Row]) -> Result<Vec<Option<PathDigest>>, NoMemory>
+    ensures { (at : List (List ℕ)) → IfOk result (λ kept. AreKept at rows.now kept.items) }
 {
-    if !is_name || name.len() >= PATH_LIMIT - text.len() {
-        return Ok(false);
+    let mut kept = Vec::with_capacity(alloc, rows.len())?;
+    for _ in rows {
+        kept.push(None)?;
     }
-    text.push(b'/')?;
-    text.extend_from_slice(name.as_bytes())?;
-    Ok(true)
+    Ok(kept)
 }
 
-/// Writes the text of the path at which a row stands, where `start` is that of the catalogue's place, unless the path passes
-/// the limits of one. Then it has more than `left` names behind those of the place.
+/// Keeps the path at which a row stands, and those above it, where they weren't kept before. `false` where the path passes
+/// the limits of one. Then it has more than `left` names behind those of the catalogue's place.
 fn spell(
-    text: &mut Vec<u8>,
+    kept: &mut Vec<Option<PathDigest>>,
     at: &RepoPath,
-    start: &str,
     rows: &[Row],
     named: &[bool],
     root: usize,
@@ -53,52 +48,40 @@ fn spell(
     left: usize,
 ) -> Result<bool, NoMemory>
     requires place { IsPath at.now }
-    requires start { start.now ≡ text_of at.now }
-    requires limit { length at.now + left ≤ 64 }
     requires placing { IsPlacing at.now rows.now root parents.now }
     requires stand { All (λ r. (q : List (List ℕ)) × StandsAt at.now rows.now r q) rows.now }
     requires row { row < length rows.now }
     requires named { named.now ≡ map (λ r. is_path_name r.name) rows.now }
-    ensures { IfOk result (IsTextOf at.now rows.now row left text.new.items) }
+    requires kept { AreKept at.now rows.now kept.old.items }
+    ensures kept { AreKept at.now rows.now kept.new.items }
+    ensures found { IfOk result (IsFound at.now rows.now row left kept.new.items) }
 {
+    if kept[row].is_some() {
+        return Ok(true);
+    }
     if row == root {
-        text.clear();
-        text.extend_from_slice(start.as_bytes())?;
+        kept[row] = Some(PathDigest::of(at));
         return Ok(true);
     }
     if left == 0 {
         return Ok(false);
     }
-    let above = spell(
-        text,
-        at,
-        start,
-        rows,
-        named,
-        root,
-        parents,
-        parents[row],
-        left - 1,
-    )?;
-    if !above {
+    if !spell(kept, at, rows, named, root, parents, parents[row], left - 1)? {
         return Ok(false);
     }
-    spell_name(text, rows[row].name.text(), named[row])
+    let Some(above) = &kept[parents[row]] else {
+        unreachable!("the path above is kept");
+    };
+    let more = above.with_name(rows[row].name.text(), named[row])?;
+    let is_path = more.is_some();
+    kept[row] = more;
+    Ok(is_path)
 }
 
-/// Whether a row fits the path at which it stands, of which this is the text.
-fn fits(at: &RepoPath, row: &Row, text: &[u8]) -> bool
-    ensures { IsTrue result ↔ ((row.now.key.0 ≡ md5 text.now) × (IsRoot at.now row.now → row.now.name ≡ last_name_of at.now)) }
-{
-    row.key.0 == Md5::digest(text) && (!is_root(at, row) || row.name.text() == at.last_name())
-}
-
-/// Whether a row stands at a path that it fits, where so many names may stand behind those of the place. A text is written
-/// over.
+/// Whether a row stands at a path that it fits, where so many names may stand behind those of the place.
 fn is_placed(
-    text: &mut Vec<u8>,
+    kept: &mut Vec<Option<PathDigest>>,
     at: &RepoPath,
-    start: &str,
     rows: &[Row],
     named: &[bool],
     root: usize,
@@ -107,16 +90,22 @@ fn is_placed(
     left: usize,
 ) -> Result<bool, NoMemory>
     requires place { IsPath at.now }
-    requires start { start.now ≡ text_of at.now }
     requires left { length at.now + left ≡ 64 }
     requires placing { IsPlacing at.now rows.now root parents.now }
     requires stand { All (λ r. (q : List (List ℕ)) × StandsAt at.now rows.now r q) rows.now }
     requires row { row < length rows.now }
     requires named { named.now ≡ map (λ r. is_path_name r.name) rows.now }
-    ensures { IfOk result (IsPlaced at.now rows.now row) }
+    requires kept { AreKept at.now rows.now kept.old.items }
+    ensures kept { AreKept at.now rows.now kept.new.items }
+    ensures placed { IfOk result (IsPlaced at.now rows.now row) }
 {
-    let is_path = spell(text, at, start, rows, named, root, parents, row, left)?;
-    Ok(is_path && fits(at, &rows[row], text))
+    if !spell(kept, at, rows, named, root, parents, row, left)? {
+        return Ok(false);
+    }
+    let Some(path) = &kept[row] else {
+        unreachable!("the path is kept");
+    };
+    path.fits(at, &rows[row])
 }
 
 /// The index of the first row that doesn't fit the path at which it stands.
@@ -132,13 +121,10 @@ pub fn first_misplaced(
     ensures { IfOk result (λ found. MatchOption found (AllFit at.now rows.now) (IsFirst (IsMisplaced at.now rows.now) rows.now)) }
 {
     let left = NAMES_LIMIT - at.names().len();
-    let start = at.text(alloc)?;
     let named = judged_names(alloc, rows)?;
-    let mut text = Vec::new(alloc);
+    let mut kept = nothing_kept(alloc, rows)?;
     for row in 0..rows.len() {
-        let fits = is_placed(
-            &mut text, at, &start, rows, &named, root, parents, row, left,
-        )?;
+        let fits = is_placed(&mut kept, at, rows, &named, root, parents, row, left)?;
         if !fits {
             return Ok(Some(row));
         }

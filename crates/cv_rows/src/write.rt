@@ -2,9 +2,11 @@
 ghost use Rattle.std.specs.Prelude.{◌≡◌, ◌+◌, ◌++◌, ◌<◌, ◌^◌, ◌≤◌, length, flat_map, IfOk, OnOk};
 ghost use Rattle.std.specs.List.{AllByRecursion};
 ghost use Rattle.std.specs.Int.{w32, w64, to_be_bytes};
+ghost use Rattle.cv_base.specs.Attr.{IsAttr};
 ghost use Rattle.cv_rows.specs.Row.{IsRow, hash_field, text_field, row_bytes, type_bits};
 ghost use Rattle.cv_rows.specs.Nested.{IsNested, nested_bytes};
 ghost use Rattle.cv_rows.specs.Catalogue.{file_of};
+ghost use Rattle.cv_rows.specs.declared.limits.TheConstants.{ROW_LIMIT};
 
 use crate::nested::Nested;
 use crate::row::Row;
@@ -41,7 +43,7 @@ fn put_text(out: &mut Vec<u8>, text: &str) -> Result<(), NoMemory>
 
 /// Adds the mode with the bits of this kind, the time, the user and the group.
 fn put_attr(out: &mut Vec<u8>, kind: RowKind, attr: &Attr) -> Result<(), NoMemory>
-    requires { attr.now.mode < 4096 }
+    requires { IsAttr attr.now }
     ensures { OnOk result (out.new.items ≡ out.old.items ++ to_be_bytes w32 (type_bits kind + attr.now.mode) ++ to_be_bytes w64 attr.now.mtime ++ to_be_bytes w32 attr.now.uid ++ to_be_bytes w32 attr.now.gid) }
 {
     out.extend_from_slice(&(kind.type_bits() + attr.mode).to_be_bytes())?;
@@ -102,7 +104,7 @@ fn put_entries(alloc: Global, out: &mut Vec<u8>, nested: &[Nested]) -> Result<()
 
 /// The bytes of the row file of these rows and nested entries.
 pub fn catalogue(alloc: Global, rows: &[Row], nested: &[Nested]) -> Result<Vec<u8>, NoMemory>
-    requires rows { length rows.now ≤ 50000 }
+    requires rows { length rows.now ≤ ROW_LIMIT }
     requires nested { length nested.now < 2 ^ 32 }
     requires spelled { AllByRecursion IsRow rows.now }
     requires nested_spelled { AllByRecursion IsNested nested.now }

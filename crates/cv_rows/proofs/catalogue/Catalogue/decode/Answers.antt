@@ -1,4 +1,4 @@
-use Rattle.std.proofs.Common.{sym, ap, subst, ◌∙◌, arith}
+use Rattle.std.proofs.Common.{Ok, sym, ap, subst, ◌∙◌, arith}
 use Rattle.cv_base.specs.Path.{Path}
 use Rattle.cv_rows.specs.Catalogue.{IsCatalogue}
 use Rattle.cv_rows.proofs.RuleLaws.{contents, catalogue_is, only_catalogue, no_first_fault}
@@ -16,8 +16,8 @@ returns-in_ok-copy-in-Ok-clause-found c =
 
 pub returns-in_ok-copy-in-Ok-clause-only : goal.returns-in_ok-copy-in-Ok-clause-only
 returns-in_ok-copy-in-Ok-clause-only c = λ other is place spelled.
-    ap (λ (p : Path). contents p c.in-Ok.rows.items c.in-Ok.nested.items) c.in_ok-copy-in-Ok.ensures
-    ∙ only_catalogue other c.args.bytes.now c.args.at.now c.in-Ok.rows.items c.in-Ok.nested.items c.in-Ok.ensures.0 is place spelled
+    ap Ok (ap (λ (p : Path). contents p c.in-Ok.rows.items c.in-Ok.nested.items) c.in_ok-copy-in-Ok.ensures
+    ∙ only_catalogue other c.args.bytes.now c.args.at.now c.in-Ok.rows.items c.in-Ok.nested.items c.in-Ok.ensures.0 is place spelled)
 
 pub returns-in-Err-clause-only : goal.returns-in-Err-clause-only
 returns-in-Err-clause-only c = λ other is place spelled. no_first_fault other c.args.bytes.now c.args.at.now c.in-Err.fault c.in-Err.ensures is place spelled

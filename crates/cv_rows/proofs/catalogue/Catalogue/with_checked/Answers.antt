@@ -65,14 +65,14 @@ returns-in-Ok-clause-rules c =
 pub returns-in-Ok-clause-apart : goal.returns-in-Ok-clause-apart
 returns-in-Ok-clause-apart c = subst (λ (x : Contents). AreApart (keys_of (x.rows ++ c.args.rows.items))) c.self.view_is c.in_ok-extend.ensures.judges.0
 
-pub returns-in-Ok-unless_memory-clause-none : goal.returns-in-Ok-unless_memory-clause-none
-returns-in-Ok-unless_memory-clause-none c = λ is region.
+pub returns-in_ok-unless_memory-in-Err-clause-none : goal.returns-in_ok-unless_memory-in-Err-clause-none
+returns-in_ok-unless_memory-in-Err-clause-none c = λ is region.
     let e = c.in_ok-extend.ensures in
     let was : IsRegion c.self.inside.at (c.self.inside.rows.items ++ c.args.rows.items) (c.self.inside.nested.items ++ c.args.nested.items) =
     subst (λ (x : Contents). IsRegion x.at (x.rows ++ c.args.rows.items) (x.nested ++ c.args.nested.items)) (sym c.self.view_is) region in
     region_unbroken c.self.inside.at c.extend.new.rows.items c.rows_by_key-rows.result.items c.extend.new.nested.items c.nested_by_text-nested.result.items c.in-Err.fault
     (rw (e.rows, e.nested) e.judges.1) c.rows_by_key-rows.ensures.permutation c.nested_by_text-nested.ensures.permutation c.rows_by_key-rows.ensures.sorted c.nested_by_text-nested.ensures.sorted
-    (rw (sym c.deref.ensures.value, sym c.deref-2.ensures.value) (is_so c.in-Err.fault _ c.in-Ok-unless_memory.ensures c.in-Err.ensures)) (rw (e.rows, e.nested) was)
+    (rw (sym c.deref.ensures.value, sym c.deref-2.ensures.value) (is_so c.in-Err.fault _ c.in_ok-unless_memory-in-Err.ensures c.in-Err.ensures)) (rw (e.rows, e.nested) was)
 
-pub returns-in-Ok-unless_memory-clause-apart : goal.returns-in-Ok-unless_memory-clause-apart
-returns-in-Ok-unless_memory-clause-apart c = subst (λ (x : Contents). AreApart (keys_of (x.rows ++ c.args.rows.items))) c.self.view_is c.in_ok-extend.ensures.judges.0
+pub returns-in_ok-unless_memory-in-Err-clause-apart : goal.returns-in_ok-unless_memory-in-Err-clause-apart
+returns-in_ok-unless_memory-in-Err-clause-apart c = subst (λ (x : Contents). AreApart (keys_of (x.rows ++ c.args.rows.items))) c.self.view_is c.in_ok-extend.ensures.judges.0
