@@ -1,11 +1,12 @@
 -- What a gift answers, by its steps.
-use Rattle.std.proofs.Common.{◌≡◌, ◌↔◌, ◌⊎◌, inl, inr, ℕ, List, ◌∷◌, refl, sym, ap, subst, ◌∙◌}
+use Rattle.std.proofs.Common.{◌≡◌, ◌↔◌, inl, inr, ℕ, List, ◌∷◌, refl, sym, ap, subst, ◌∙◌}
 use Rattle.std.specs.Prelude.{Contains, IsErrOf, OnOk, option_to_list}
 use Rattle.std.specs.declared.option.Option.{Option}
 use Rattle.std.specs.declared.option.Option.TheVariants.{None, Some}
 use Rattle.std.specs.declared.result.Result.{Result}
 use Rattle.std.specs.declared.result.Result.TheVariants.{Ok, Err}
 use Rattle.sha1.specs.Sha1.{sha1}
+use Rattle.cv_base.specs.Unless.{IsUnless}
 use Rattle.cv_base.specs.declared.id.ObjectId.{ObjectId}
 use Rattle.cv_tree.specs.Tree.{Nodes}
 use Rattle.cv_cut.specs.Catalogues.{contents_of}
@@ -79,15 +80,15 @@ module _ (s new : Progress) (given : Option (List ℕ)) (id : ObjectId) (next : 
   object_bad found r g = (λ h. (subst (Gives s given new) h g).1, other_found found r g)
 
   -- where bytes suit no catalogue, that or want of memory is answered
-  pub unsuited_told : (r : Result (Unit {0}) CheckoutFault) → Gives s given new r → IsUnsuited s given → IsErrOf r (fault.BadCatalogue id) ⊎ IsErrOf r fault.NoMemory
+  pub unsuited_told : (r : Result (Unit {0}) CheckoutFault) → Gives s given new r → IsUnsuited s given → IsUnless fault.NoMemory r (Err (fault.BadCatalogue id))
   unsuited_told (Ok done) g u = absurd (u.none g.2.contents (subst (λ (w : Wanted). Suits w u.bytes g.2.contents) (one_first s.wanted g.2.first u.first g.2.rest u.rest g.2.is u.is)
       (subst (λ (b : List ℕ). Suits g.2.first b g.2.contents) (one_gift given g.0 u.bytes g.1 u.gives) g.2.suits)))
   unsuited_told (Err (fault.NotServed x)) g u = absurd (not_both given u.bytes u.gives g.1)
   unsuited_told (Err (fault.BadObject x found)) g u =
       let same = one_id (next_of s.wanted) x id g.0 next in
       absurd (not_other given id found u.bytes u.gives (u.digest ∙ hash_of_next u.first u.rest u.is) (subst (λ (y : ObjectId). IsOther y given found) same g.1))
-  unsuited_told (Err (fault.BadCatalogue x)) g u = inl (ap (λ (y : ObjectId). Err (fault.BadCatalogue y)) (one_id (next_of s.wanted) x id g.0 next))
-  unsuited_told (Err fault.NoMemory) g u = inr refl
+  unsuited_told (Err (fault.BadCatalogue x)) g u = inr (ap (λ (y : ObjectId). Err (fault.BadCatalogue y)) (one_id (next_of s.wanted) x id g.0 next))
+  unsuited_told (Err fault.NoMemory) g u = inl refl
 
 pub catalogue_bad : (s new : Progress) (given : Option (List ℕ)) (id : ObjectId) (r : Result (Unit {0}) CheckoutFault) → Gives s given new r → IsErrOf r (fault.BadCatalogue id) → IsUnsuited s given
 catalogue_bad s new given id r g h = (subst (Gives s given new) h g).1

@@ -1,6 +1,7 @@
 //! What follows from the definitions of a checkout.
-ghost use Rattle.std.specs.Prelude.{◌≡◌, ◌≤◌, ◌<◌, ◌↔◌, ◌⊎◌, Bool, true, false, ℕ, List, [], ◌∷◌, length, Option, None, Some, Result, IsErrOf};
+ghost use Rattle.std.specs.Prelude.{◌≡◌, ◌≤◌, ◌<◌, ◌↔◌, Bool, true, false, ℕ, List, [], ◌∷◌, length, Option, None, Some, Result, Err, IsErrOf};
 ghost use Rattle.cv_base.specs.Path.{Path};
+ghost use Rattle.cv_base.specs.Unless.{IsUnless};
 ghost use Rattle.cv_base.specs.declared.id.ObjectId.{ObjectId as TheId};
 ghost use Rattle.cv_tree.specs.Tree.{Nodes};
 ghost use Rattle.cv_cut.specs.Own.{AreOwn};
@@ -22,7 +23,7 @@ pub fn faults_tell_what_was_given()
         → Gives s given new r → IsErrOf r (fault.BadCatalogue id) → IsUnsuited s given }
     ensures unsuited { (s new : Progress) (given : Option (List ℕ)) (r : Result (Unit {0}) TheFault) (id : TheId)
         → next_of s.wanted ≡ Some id → Gives s given new r → IsUnsuited s given
-        → IsErrOf r (fault.BadCatalogue id) ⊎ IsErrOf r fault.NoMemory }
+        → IsUnless fault.NoMemory r (Err (fault.BadCatalogue id)) }
 {}
 
 /// A checkout of a tree comes to its end: at most as many catalogues are left as the tree has cuts on the way to the path and at

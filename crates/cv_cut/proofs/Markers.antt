@@ -4,7 +4,8 @@ use Rattle.std.specs.Prelude.{IfOk}
 use Rattle.std.specs.FinMap.{get}
 use Rattle.cv_base.specs.Marker.{marker}
 use Rattle.cv_base.specs.Path.{Path, IsPath}
-use Rattle.cv_base.specs.PathText.{joined, IsUnlessMemory}
+use Rattle.cv_base.specs.PathText.{joined}
+use Rattle.cv_base.specs.Unless.{IsUnless}
 use Rattle.cv_base.specs.declared.path_fault.PathFault.{PathFault}
 use Rattle.cv_base.specs.declared.path_fault.PathFault.TheVariants.{NoMemory}
 use Rattle.cv_tree.specs.Tree.{Nodes, IsTree}
@@ -17,7 +18,7 @@ nothing_there None none = refl
 nothing_there (Some n) none = absurd (none refl)
 
 -- a tree has no file at what isn't a path
-pub no_marker : {E : Type 0} (t : Nodes) (p : Path) (fault : PathFault) (r : Result Bool E) → IsTree t → IsUnlessMemory (Err fault) (joined p marker)
+pub no_marker : {E : Type 0} (t : Nodes) (p : Path) (fault : PathFault) (r : Result Bool E) → IsTree t → IsUnless NoMemory (Err fault) (joined p marker)
     → IfOk r (λ holds. (holds ≡ false) × (fault ≢ NoMemory)) → IfOk r (λ holds. holds ≡ is_file (get t (p ++ marker ∷ [])))
 no_marker t p fault (Ok holds) tree refused is =
     let none : IsPath (p ++ marker ∷ []) → ⊥ = no_longer {E = ℕ} p marker fault (Ok None) refused (refl, is.1) in

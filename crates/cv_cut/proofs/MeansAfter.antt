@@ -1,5 +1,5 @@
 -- What the root of the tree afterwards means, where the catalogues that were made stand on the shelf.
-use Rattle.std.proofs.Common.{◌≡◌, ℕ, true, false, List, Some, None, refl, sym, subst, ◌∙◌}
+use Rattle.std.proofs.Common.{◌≡◌, ℕ, true, false, List, Some, None, refl, sym, ◌∙◌}
 use Rattle.std.specs.Prelude.{Contains}
 use Rattle.std.specs.FinMap.{get}
 use Rattle.sha1.specs.Sha1.{sha1}
@@ -17,7 +17,6 @@ use Rattle.cv_cut.specs.Above.{cuts_above}
 use Rattle.cv_cut.specs.Catalogues.{cat, root_of, Fits}
 use Rattle.cv_cut.specs.Cuts.{is_cut}
 use Rattle.cv_cut.specs.Means.{Means, HasContentOf}
-use Rattle.cv_cut.specs.Region.{KeysApart}
 use Rattle.cv_cut.specs.Replaced.{FitsOver, IsSound}
 use Rattle.cv_cut.proofs.Fitting.{moved_sound, sound_fits, was_sound}
 use Rattle.cv_cut.proofs.Grafts.{Means-more, Means-put, cut_covers, cut_same, there_too}

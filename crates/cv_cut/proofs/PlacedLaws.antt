@@ -1,20 +1,18 @@
 -- The tree in which a part is set at a path, by a tree m that has the part there: what fits, and which cuts there are.
 use Rattle.std.proofs.Common.{◌≡◌, ◌≢◌, ℕ, zero, suc, ◌+◌, ◌≤◌, true, false, [], ◌∷◌, ◌++◌, length, length-append, refl, sym, ap, subst, ◌∙◌, append-nil, append_assoc, arith}
-use Rattle.std.specs.FinMap.{keys}
 use Rattle.cv_base.specs.Marker.{marker, ends_in}
 use Rattle.cv_base.specs.Path.{Path, covers, overlap}
 use Rattle.cv_tree.specs.Tree.{Nodes, IsTree, at, put}
 use Rattle.cv_tree.proofs.Laws.{at-at, at-put}
 use Rattle.cv_cut.specs.Above.{Holds, OnWay}
 use Rattle.cv_cut.specs.Cuts.{is_cut, is_marked, is_near}
-use Rattle.cv_cut.specs.Catalogues.{catalogue, IsFull}
+use Rattle.cv_cut.specs.Catalogues.{IsFull}
 use Rattle.cv_cut.specs.Piece.{HasOnly}
 use Rattle.cv_cut.specs.Region.{FitsAtCut, KeysApart}
 use Rattle.cv_cut.specs.Replaced.{AreKeysApart, FitsOver, IsPassed, IsSound}
 use Rattle.cv_cut.proofs.Fitting.{moved_sound, one_holder, passes_of}
 use Rattle.cv_cut.proofs.Joined.{rest_behind}
 use Rattle.cv_cut.proofs.MarkLaws.{covers_append, longer_covers_not, marked-at}
-use Rattle.cv_cut.proofs.Members.{passes}
 use Rattle.cv_cut.proofs.Trees.{cut-in, cut-out}
 use Rattle.cv_cut.proofs.Upper.{above_keys, above_full}
 

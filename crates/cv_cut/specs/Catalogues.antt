@@ -1,13 +1,15 @@
 -- The canonical catalogue of a cut, and the root of a tree.
-use Rattle.std.specs.Prelude.{◌≡◌, ◌≢◌, ◌<◌, ◌⊎◌, ◌^◌, ℕ, zero, suc, List, [], ◌∷◌, ◌++◌, map, length, Some, None, IsTrue, IsSome, if◌then◌else◌}
+use Rattle.std.specs.Prelude.{◌≡◌, ◌≢◌, ◌<◌, ◌⊎◌, ℕ, zero, suc, List, [], ◌∷◌, ◌++◌, map, length, Some, None, IsTrue, IsSome, if◌then◌else◌}
 use Rattle.std.specs.FinMap.{get, from_entries, values}
 use Rattle.sha1.specs.Sha1.{sha1}
+use Rattle.cv_base.specs.declared.limits.TheConstants.{OBJECT_LIMIT}
 use Rattle.cv_base.specs.Path.{Path, text_of, key_of, parent_key_of, last_name_of}
 use Rattle.cv_tree.specs.Tree.{Nodes, at}
 use Rattle.cv_tree.specs.declared.node.Node.{Node}
 use Rattle.cv_tree.specs.declared.node.Node.TheVariants as node
 use Rattle.cv_rows.specs.Catalogue.{Contents, bytes_cmp, catalogue_bytes}
 use Rattle.cv_rows.specs.Places.{root_kind}
+use Rattle.cv_rows.specs.declared.limits.TheConstants.{ROW_LIMIT}
 use Rattle.cv_rows.specs.declared.row.Row.{Row}
 use Rattle.cv_rows.specs.declared.nested.Nested.{Nested}
 use Rattle.cv_rows.specs.declared.row_kind.RowKind.{RowKind}
@@ -110,7 +112,7 @@ pub record SharesKey (t : Nodes) (p q : Path) : Type 0 where
 -- a cut whose catalogue passes a limit: 50,000 rows, or 16 MiB
 pub record IsFull (t : Nodes) (c : Path) : Type 0 where
   pub is_cut_ : IsTrue (is_cut t c)
-  pub passes : (50000 < length (region (at t c))) ⊎ (2 ^ 24 < length (cat t c))
+  pub passes : (ROW_LIMIT < length (region (at t c))) ⊎ (OBJECT_LIMIT < length (cat t c))
 
 -- the tree fits its catalogues
 pub record Fits (t : Nodes) : Type 0 where

@@ -8,6 +8,7 @@ use Rattle.std.specs.BTreeMap as tree
 use Rattle.sha1.specs.Sha1.{sha1}
 use Rattle.cv_base.specs.Path.{Path, path_cmp, behind, key_of}
 use Rattle.cv_base.specs.ObjectId.{object_id}
+use Rattle.cv_base.specs.declared.limits.TheConstants.{OBJECT_LIMIT}
 use Rattle.cv_base.specs.declared.object.Object.{Object}
 use Rattle.cv_base.specs.declared.id.Kind.TheVariants.{Catalogue}
 use Rattle.cv_tree.specs.Tree.{Nodes, at}
@@ -67,13 +68,13 @@ cuts_below t c = filter (is_other t c) (cuts_of t)
 pub record HasMade (t : Nodes) (cuts : List Path) (made : BTreeMap Path Nested) : Type 0 where
   pub all : All (λ d. IsSome (tree.get path_cmp made d)) cuts
   pub each : (d : Path) (n : Nested) → tree.get path_cmp made d ≡ Some n → n ≡ nested_in t d
-  pub sizes : (d : Path) (n : Nested) → tree.get path_cmp made d ≡ Some n → n.size ≤ 16777216
+  pub sizes : (d : Path) (n : Nested) → tree.get path_cmp made d ≡ Some n → n.size ≤ OBJECT_LIMIT
 
 -- the entry is that of a path which is another cut
 pub record IsOtherEntry (t : Nodes) (c p : Path) (n : Nested) : Type 0 where
   pub other : is_other t c p ≡ true
   pub is : n ≡ nested_in t p
-  pub size : n.size ≤ 16777216
+  pub size : n.size ≤ OBJECT_LIMIT
 
 -- the fault names two paths that share a key, or a cut whose catalogue is full, or is want of memory
 abbrev pub IsCutFault : Nodes → CutFault → Type 0

@@ -22,10 +22,8 @@ use std::collections::BTreeMap;
 fn note(seen: &mut BTreeMap<[u8; 16], usize>, key: [u8; 16], place: usize) -> Result<(), NoMemory>
     ensures { OnOk result (Updates (slice_cmp nat_cmp) seen.old seen.new key (Some place)) }
 {
-    match seen.insert(key, place) {
-        Ok(_) => Ok(()),
-        Err(_) => Err(NoMemory),
-    }
+    seen.insert(key, place)?;
+    Ok(())
 }
 
 /// The places of two entries whose paths have one key: the first at which such an entry follows another, and the other's.

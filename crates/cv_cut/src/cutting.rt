@@ -78,10 +78,8 @@ fn keep(
     };
     let bytes = Bytes::new(bytes);
     objects.push(Object { id, bytes })?;
-    match made.insert(cut.copy(alloc)?, entry) {
-        Ok(_) => Ok(()),
-        Err(_) => Err(NoMemory),
-    }
+    made.insert(cut.copy(alloc)?, entry)?;
+    Ok(())
 }
 
 /// Makes the catalogue of each of these cuts, which are those of a tree at a path and below.

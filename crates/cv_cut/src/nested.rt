@@ -2,6 +2,7 @@
 ghost use Rattle.std.specs.Prelude.{◌≡◌, ◌≤◌, true, false, map, filter, IfOk, MatchOption};
 ghost use Rattle.std.specs.List.{All};
 ghost use Rattle.cv_base.specs.Path.{covers};
+ghost use Rattle.cv_base.specs.declared.limits.TheConstants.{OBJECT_LIMIT};
 ghost use Rattle.cv_cut.specs.Cut.{HasMade, IsOtherEntry, cuts_below, is_other, nested_in};
 
 use crate::marks::is_other;
@@ -44,7 +45,7 @@ pub(crate) fn nested(
     requires paths { All (λ e. covers cut.now e.0 ≡ true) region.now }
     requires made { HasMade tree.now (cuts_below tree.now cut.now) made.now }
     ensures entries { IfOk result (λ nested. nested.items ≡ map (λ e. nested_in tree.now e.0) (filter (λ e. is_other tree.now cut.now e.0) region.now)) }
-    ensures sizes { IfOk result (λ nested. All (λ n. n.size ≤ 16777216) nested.items) }
+    ensures sizes { IfOk result (λ nested. All (λ n. n.size ≤ OBJECT_LIMIT) nested.items) }
 {
     let mut nested = Vec::new(alloc);
     for entry in region {

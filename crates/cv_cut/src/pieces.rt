@@ -4,6 +4,7 @@ ghost use Rattle.std.specs.List.{All};
 ghost use Rattle.std.specs.Option.{option_copied};
 ghost use Rattle.cv_base.specs.Marker.{marker, ends_in};
 ghost use Rattle.cv_base.specs.Path.{covers};
+ghost use Rattle.cv_base.specs.declared.limits.TheConstants.{OBJECT_LIMIT};
 ghost use Rattle.std.specs.FinMap as finmap;
 ghost use Rattle.cv_tree.specs.Tree.{IsTree, Nodes, is_directory};
 ghost use Rattle.cv_tree.specs.Changes.{FitsUnder, nodes_of};
@@ -191,7 +192,7 @@ pub fn cut_piece(alloc: Global, piece: &Piece) -> Result<PieceCut, CutFault>
     ensures nested { IfOk result (λ made. made.nested ≡ map (λ e. nested_in piece.now.tree e.0) (filter (λ e. is_other piece.now.tree [] e.0) piece.now.region)) }
     ensures catalogues { IfOk result (λ made. made.catalogues ≡ map (catalogue_object piece.now.tree) piece.now.cuts) }
     ensures fits { OnOk result (All (λ c. IsFull piece.now.tree c → ⊥) piece.now.cuts) }
-    ensures sizes { IfOk result (λ made. All (λ n. n.size ≤ 16777216) made.nested) }
+    ensures sizes { IfOk result (λ made. All (λ n. n.size ≤ OBJECT_LIMIT) made.nested) }
     ensures fault { IfErr result (IsFullAmong piece.now.tree piece.now.cuts) }
 {
     let tree = &piece.tree;

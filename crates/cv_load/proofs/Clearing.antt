@@ -4,7 +4,8 @@ use Rattle.std.specs.Prelude.{Contains, Result, Ok, Err}
 use Rattle.std.specs.FinMap.{get, empty, get-insert}
 use Rattle.cv_base.specs.PathOrder.{path_total}
 use Rattle.cv_base.specs.Path.{Path, IsPath, covers}
-use Rattle.cv_tree.specs.Changes.{has_place, insertion, IsUnlessMemory}
+use Rattle.cv_base.specs.Unless.{IsUnless}
+use Rattle.cv_tree.specs.Changes.{has_place, insertion}
 use Rattle.cv_tree.specs.Tree.{Nodes, single, is_directory}
 use Rattle.cv_tree.specs.declared.node.Node.{Node}
 use Rattle.cv_tree.specs.declared.node.Node.TheVariants.{Dir}
@@ -32,13 +33,11 @@ use Rattle.cv_cut.proofs.Lemmas.{transition_of}
 -- ---- answers that aren't given
 
 -- a tree that has a place for a path, and nothing there, refuses nothing but for memory
-pub not_refused : (t : Nodes) (p : Path) (f : TreeFault) → has_place t p ≡ true → get t p ≡ None → IsUnlessMemory (Err f) (insertion t p) → f ≢ tree_fault.NoMemory → ⊥
-not_refused t p f place none answer other = is f answer other (rw (place, none) refl)
-  where
-    is : (g : TreeFault) → IsUnlessMemory (Err g) (insertion t p) → g ≢ tree_fault.NoMemory → insertion t p ≡ Ok (tt {0}) → ⊥
-    is tree_fault.NoParent answer other ok = let wrong : ◌≡◌ {A = Result (Unit {0}) TreeFault} (Err tree_fault.NoParent) (Ok (tt {0})) = answer ∙ ok in cc
-    is tree_fault.Exists answer other ok = let wrong : ◌≡◌ {A = Result (Unit {0}) TreeFault} (Err tree_fault.Exists) (Ok (tt {0})) = answer ∙ ok in cc
-    is tree_fault.NoMemory answer other ok = other refl
+pub not_refused : (t : Nodes) (p : Path) (f : TreeFault) → has_place t p ≡ true → get t p ≡ None → IsUnless tree_fault.NoMemory (Err f) (insertion t p) → f ≢ tree_fault.NoMemory → ⊥
+not_refused t p f place none (inl lack) other = other lack
+not_refused t p f place none (inr refused) other =
+    let ok : insertion t p ≡ Ok (tt {0}) = rw (place, none) refl in
+    let wrong : ◌≡◌ {A = Result (Unit {0}) TreeFault} (Err f) (Ok (tt {0})) = refused ∙ ok in cc
 
 -- ---- directories
 

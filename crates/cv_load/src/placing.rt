@@ -10,13 +10,10 @@ ghost use Rattle.cv_tree.specs.Changes.{has_place};
 ghost use Rattle.cv_load.specs.Growth.{IsAdded, IsClear, IsReady, IsWithin, HasRows, GrowsBy};
 ghost use Rattle.cv_cut.specs.Told.{node_of};
 
-use cv_base::{NoMemory, PathFault, RepoPath};
+use cv_base::{NAMES_LIMIT, NoMemory, PathFault, RepoPath};
 use cv_rows::{Catalogue, Row, RowKind};
 use cv_tree::{FileRef, Node, Tree, TreeFault};
 use std::alloc::Global;
-
-/// The most names of a path.
-const MAX_NAMES: usize = 64;
 
 /// The node for which a row stands.
 pub fn node_of(alloc: Global, row: &Row) -> Result<Node, NoMemory>
@@ -123,7 +120,7 @@ pub fn place_rows(
     ensures grows { GrowsBy catalogue.now.at catalogue.now.rows tree.old tree.new }
 {
     for row in catalogue.rows() {
-        place(alloc, at, catalogue, tree, row, MAX_NAMES)?;
+        place(alloc, at, catalogue, tree, row, NAMES_LIMIT)?;
     }
     Ok(())
 }

@@ -14,6 +14,7 @@ use Rattle.cv_base.specs.PathOrder.{path_total, same_path_is}
 use Rattle.cv_base.specs.declared.id.Kind.TheVariants.{Plain}
 use Rattle.cv_base.specs.declared.object.Object.{Object}
 use Rattle.cv_base.specs.ObjectId.{object_id}
+use Rattle.cv_base.specs.Sequence.{◌>>=◌}
 use Rattle.cv_ports.specs.declared.folder.FolderItem.{FolderItem}
 use Rattle.cv_ports.specs.declared.folder.FoundKind.{FoundKind}
 use Rattle.cv_ports.specs.declared.folder.FoundKind.TheVariants as kind
@@ -25,15 +26,15 @@ use Rattle.cv_tree.specs.Changes.{FitsUnder}
 use Rattle.cv_overlay.specs.Whiteout.{is_whiteout}
 use Rattle.cv_overlay.specs.Walk.{Visit, path_of, paths_of, walk_cmp, with_slashes, takes, has_target, is_file, size_of, attr_of, node_of, node_at, fault_of, kind_fault, first_fault, found_at, item_from, root_attr, IsContent, IsWalk, AreChanges, Reads}
 use Rattle.cv_overlay.specs.Changes.{ChangesView}
-use Rattle.cv_overlay.specs.Found.{FoundView, has_hash, with_content, kept_content, with_item, or_fault, step, and_then, run, Ends}
+use Rattle.cv_overlay.specs.Found.{FoundView, has_hash, with_content, kept_content, with_item, or_fault, step, run, Ends}
 use Rattle.cv_overlay.specs.Events.{visits_deep}
 use Rattle.cv_overlay.specs.declared.read_fault.ReadFault.{ReadFault}
 use Rattle.cv_overlay.specs.declared.read_fault.ReadFault.TheVariants as faults
 use Rattle.cv_overlay.proofs.WalkItems.{none_found, is_walk}
 
-pub run-append : (f : FolderView) (at : Path) (vs ws : List Visit) (s : FoundView) → run f at (vs ++ ws) s ≡ and_then (run f at vs s) (run f at ws)
+pub run-append : (f : FolderView) (at : Path) (vs ws : List Visit) (s : FoundView) → run f at (vs ++ ws) s ≡ (run f at vs s >>= run f at ws)
 run-append f at [] ws s = refl
-run-append f at (v ∷ vs) ws s = elim (step f at v s) as (λ r. and_then r (run f at (vs ++ ws)) ≡ and_then (and_then r (run f at vs)) (run f at ws)) [
+run-append f at (v ∷ vs) ws s = elim (step f at v s) as (λ r. (r >>= run f at (vs ++ ws)) ≡ ((r >>= run f at vs) >>= run f at ws)) [
   | Ok t ↦ run-append f at vs ws t
   | Err fault ↦ refl
 ]
@@ -56,7 +57,7 @@ after f v s = with_item s (path_of v) v.item.kind (attr_of v.item) (f.content (p
 pub run_fault : (f : FolderView) (at : Path) (vs : List Visit) (s : FoundView) → first_fault f at s.sum vs ≡ fault_in (run f at vs s)
 run_fault f at [] s = refl
 run_fault f at (v ∷ vs) s =
-    elim (fault_of f at (s.sum + size_of f v) v) as (λ o. option_or o (first_fault f at (s.sum + size_of f v) vs) ≡ fault_in (and_then (or_fault o (after f v s)) (run f at vs))) [
+    elim (fault_of f at (s.sum + size_of f v) v) as (λ o. option_or o (first_fault f at (s.sum + size_of f v) vs) ≡ fault_in (or_fault o (after f v s) >>= run f at vs)) [
       | Some fault ↦ refl
       | None ↦ ap (λ (n : ℕ). first_fault f at n vs) (sym (sum_with s (path_of v) v.item.kind v.item (f.content (path_of v)))) ∙ run_fault f at vs (after f v s)
     ]
@@ -112,7 +113,7 @@ run_nodes : (f : FolderView) (at : Path) (vs : List Visit) (s t : FoundView) (q 
 unfolding IsStrictlySortedBy
 run_nodes f at [] s t q order h = let same : s ≡ t = cc in ap (λ (w : FoundView). get w.nodes q) (sym same)
 run_nodes f at (v ∷ vs) s t q order h =
-    elim (fault_of f at (s.sum + size_of f v) v) as (λ o. fault_of f at (s.sum + size_of f v) v ≡ o → and_then (or_fault o (after f v s)) (run f at vs) ≡ Ok t
+    elim (fault_of f at (s.sum + size_of f v) v) as (λ o. fault_of f at (s.sum + size_of f v) v ≡ o → (or_fault o (after f v s) >>= run f at vs) ≡ Ok t
     → get t.nodes q ≡ node_or (cond (same_path (path_of v) q) (Some v.item) (found_at q vs)) (f.content q) (get s.nodes q)) [
       | Some fault ↦ λ _ k. cc
       | None ↦ λ good k.
@@ -161,7 +162,7 @@ run_objects : (f : FolderView) (at : Path) (P : List ℕ → Type 0) (vs : List 
     → run f at vs s ≡ Ok t → AllByRecursion (λ x. P x.bytes) t.objects
 run_objects f at P [] s t hv h e = let same : s ≡ t = cc in subst (λ (w : FoundView). AllByRecursion (λ x. P x.bytes) w.objects) same h
 run_objects f at P (v ∷ vs) s t hv h e =
-    elim (fault_of f at (s.sum + size_of f v) v) as (λ o. and_then (or_fault o (after f v s)) (run f at vs) ≡ Ok t → AllByRecursion (λ x. P x.bytes) t.objects) [
+    elim (fault_of f at (s.sum + size_of f v) v) as (λ o. (or_fault o (after f v s) >>= run f at vs) ≡ Ok t → AllByRecursion (λ x. P x.bytes) t.objects) [
       | Some fault ↦ λ k. cc
       | None ↦ λ k. run_objects f at P vs (after f v s) t hv.1 (item_objects P s (path_of v) v.item.kind v.item (f.content (path_of v)) h hv.0) k
     ] e

@@ -2,6 +2,7 @@
 use Rattle.std.proofs.Common.{◌≡◌, ℕ, suc, ◌+◌, ◌-◌, ◌≤◌, Bool, true, cond, inl, inr, List, [], ◌∷◌, ◌++◌, length, sym, ap, subst, ◌∙◌, append-nil, append_assoc, arith}
 use Rattle.std.specs.Prelude.{Result, Ok, Err, IsErrAnd}
 use Rattle.cv_base.specs.Path.{Path, IsPath}
+use Rattle.cv_base.specs.Sequence.{◌>>=◌}
 use Rattle.cv_ports.specs.declared.folder.FolderItem.{FolderItem}
 use Rattle.cv_ports.specs.Folder.{FolderView, IsOrdered}
 use Rattle.cv_tree.specs.Changes.{FitsUnder}
@@ -10,7 +11,7 @@ use Rattle.cv_overlay.specs.declared.event.Event.TheVariants.{Item, Below}
 use Rattle.cv_overlay.specs.Walk.{Visit, takes, Reads}
 use Rattle.cv_overlay.specs.Changes.{ChangesView}
 use Rattle.cv_overlay.specs.Events.{placed_all, visits_of, visits_deep}
-use Rattle.cv_overlay.specs.Found.{FoundView, step, and_then, run, Ends, IsWithin}
+use Rattle.cv_overlay.specs.Found.{FoundView, step, run, Ends, IsWithin}
 use Rattle.cv_overlay.specs.declared.read_fault.ReadFault.{ReadFault}
 use Rattle.cv_overlay.specs.declared.read_fault.ReadFault.TheVariants as faults
 use Rattle.cv_overlay.proofs.Limits.{takes_path, takes_depth}
@@ -30,18 +31,18 @@ listed left f at p items events s is order =
 pub item_visited : (deeper : Path → List Visit) (f : FolderView) (at p : Path) (es rest : List Event) (item : FolderItem) (s t : FoundView) (end : Result FoundView ReadFault) → es ≡ Item item ∷ rest
     → step f at (record { above = p; item = item }) s ≡ Ok t → run f at (visits_of deeper at p es) s ≡ end → run f at (visits_of deeper at p rest) t ≡ end
 item_visited deeper f at p es rest item s t end is one h =
-    sym (ap (λ (r : Result FoundView ReadFault). and_then r (run f at (visits_of deeper at p rest))) one) ∙ sym (ap (λ (w : List Event). run f at (visits_of deeper at p w) s) is) ∙ h
+    sym (ap (λ (r : Result FoundView ReadFault). r >>= run f at (visits_of deeper at p rest)) one) ∙ sym (ap (λ (w : List Event). run f at (visits_of deeper at p w) s) is) ∙ h
 
-ends_here : (fault : ReadFault) (r end : Result FoundView ReadFault) (next : FoundView → Result FoundView ReadFault) → Ends (Err fault) r → and_then r next ≡ end → Ends (Err fault) end
+ends_here : (fault : ReadFault) (r end : Result FoundView ReadFault) (next : FoundView → Result FoundView ReadFault) → Ends (Err fault) r → (r >>= next) ≡ end → Ends (Err fault) end
 ends_here faults.Failed r end next h e = tt
 ends_here faults.NoMemory r end next h e = tt
-ends_here (faults.Special q) r end next h e = sym e ∙ ap (λ (x : Result FoundView ReadFault). and_then x next) h
-ends_here (faults.BadName q) r end next h e = sym e ∙ ap (λ (x : Result FoundView ReadFault). and_then x next) h
-ends_here (faults.TooLarge q) r end next h e = sym e ∙ ap (λ (x : Result FoundView ReadFault). and_then x next) h
+ends_here (faults.Special q) r end next h e = sym e ∙ ap (λ (x : Result FoundView ReadFault). x >>= next) h
+ends_here (faults.BadName q) r end next h e = sym e ∙ ap (λ (x : Result FoundView ReadFault). x >>= next) h
+ends_here (faults.TooLarge q) r end next h e = sym e ∙ ap (λ (x : Result FoundView ReadFault). x >>= next) h
 
 -- a directory in it was walked
 below_is : (deeper : Path → List Visit) (f : FolderView) (at p : Path) (es rest : List Event) (name : List ℕ) (s : FoundView) → es ≡ Below name ∷ rest → takes (at ++ p) name ≡ true
-    → run f at (visits_of deeper at p es) s ≡ and_then (run f at (deeper (p ++ name ∷ [])) s) (run f at (visits_of deeper at p rest))
+    → run f at (visits_of deeper at p es) s ≡ (run f at (deeper (p ++ name ∷ [])) s >>= run f at (visits_of deeper at p rest))
 below_is deeper f at p es rest name s is taken =
     ap (λ (w : List Event). run f at (visits_of deeper at p w) s) is
     ∙ ap (λ (b : Bool). run f at (cond b (deeper (p ++ name ∷ [])) [] ++ visits_of deeper at p rest) s) taken
@@ -50,7 +51,7 @@ below_is deeper f at p es rest name s is taken =
 pub below_walked : (deeper : Path → List Visit) (f : FolderView) (at p : Path) (es rest : List Event) (name : List ℕ) (s t : FoundView) (end : Result FoundView ReadFault) → es ≡ Below name ∷ rest → takes (at ++ p) name ≡ true
     → run f at (deeper (p ++ name ∷ [])) s ≡ Ok t → run f at (visits_of deeper at p es) s ≡ end → run f at (visits_of deeper at p rest) t ≡ end
 below_walked deeper f at p es rest name s t end is taken one h =
-    sym (ap (λ (r : Result FoundView ReadFault). and_then r (run f at (visits_of deeper at p rest))) one) ∙ sym (below_is deeper f at p es rest name s is taken) ∙ h
+    sym (ap (λ (r : Result FoundView ReadFault). r >>= run f at (visits_of deeper at p rest)) one) ∙ sym (below_is deeper f at p es rest name s is taken) ∙ h
 
 pub below_refused : (deeper : Path → List Visit) (f : FolderView) (at p : Path) (es rest : List Event) (name : List ℕ) (s : FoundView) (fault : ReadFault) (end : Result FoundView ReadFault) → es ≡ Below name ∷ rest → takes (at ++ p) name ≡ true
     → Ends (Err fault) (run f at (deeper (p ++ name ∷ [])) s) → run f at (visits_of deeper at p es) s ≡ end → Ends (Err fault) end

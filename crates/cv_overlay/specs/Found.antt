@@ -4,6 +4,7 @@ use Rattle.std.specs.List.{list_any}
 use Rattle.std.specs.FinMap.{insert, get}
 use Rattle.sha1.specs.Sha1.{sha1}
 use Rattle.cv_base.specs.Path.{Path, last_name_of}
+use Rattle.cv_base.specs.Sequence.{◌>>=◌}
 use Rattle.cv_base.specs.declared.attr.Attr.{Attr}
 use Rattle.cv_base.specs.declared.object.Object.{Object}
 use Rattle.cv_base.specs.declared.id.Kind.TheVariants.{Plain}
@@ -72,14 +73,10 @@ step f at v s = or_fault (fault_of f at (s.sum + size_of f v) v) (with_item s (p
 abbrev pub file_step : Path → Attr → List ℕ → FoundView → Result FoundView ReadFault
 file_step q attr content s = if is_large (length content) (s.sum + length content) then Err (faults.TooLarge q) else Ok (with_file s q attr content)
 
-abbrev pub and_then : Result FoundView ReadFault → (FoundView → Result FoundView ReadFault) → Result FoundView ReadFault
-and_then (Ok s) next = next s
-and_then (Err fault) next = Err fault
-
 -- visits one after another, up to the first fault
 abbrev pub run : FolderView → Path → List Visit → FoundView → Result FoundView ReadFault
 run f at [] s = Ok s
-run f at (v ∷ vs) s = and_then (step f at v s) (run f at vs)
+run f at (v ∷ vs) s = step f at v s >>= run f at vs
 
 -- an answer is this one, or the folder failed, or memory was wanted
 abbrev pub Ends : Result FoundView ReadFault → Result FoundView ReadFault → Type 0

@@ -9,6 +9,7 @@ use Rattle.cv_base.specs.Path.{Path, last_name_of, path_cmp, same_name, same_pat
 use Rattle.cv_base.specs.PathText.{joined}
 use Rattle.cv_base.specs.Target.{is_target}
 use Rattle.cv_base.specs.declared.attr.Attr.{Attr}
+use Rattle.cv_base.specs.declared.limits.TheConstants.{MODE_LIMIT, OBJECT_LIMIT}
 use Rattle.cv_base.specs.declared.object.Object.{Object}
 use Rattle.cv_ports.specs.declared.folder.FolderItem.{FolderItem}
 use Rattle.cv_ports.specs.declared.folder.FoundKind.{FoundKind}
@@ -18,6 +19,7 @@ use Rattle.cv_tree.specs.declared.node.Node.{Node}
 use Rattle.cv_tree.specs.declared.node.Node.TheVariants.{Dir, File, Link}
 use Rattle.cv_overlay.specs.Whiteout.{is_whiteout}
 use Rattle.cv_overlay.specs.Changes.{ChangesView}
+use Rattle.cv_overlay.specs.declared.bounds.TheConstants.{SUM_LIMIT}
 use Rattle.cv_overlay.specs.declared.read_fault.ReadFault.{ReadFault}
 use Rattle.cv_overlay.specs.declared.read_fault.ReadFault.TheVariants as faults
 
@@ -93,7 +95,7 @@ size_of f v = if is_file v.item.kind then length (f.content (path_of v)) else 0
 
 -- a file has more than 16 MiB, or all files up to it more than 1 GiB
 abbrev pub is_large : ℕ → ℕ → Bool
-is_large size sum = nat_lt 16777216 size || nat_lt 1073741824 sum
+is_large size sum = nat_lt OBJECT_LIMIT size || nat_lt SUM_LIMIT sum
 
 abbrev pub kind_fault : Path → FoundKind → ℕ → ℕ → Option ReadFault
 kind_fault q kind.Special size sum = Some (faults.Special q)
@@ -113,7 +115,7 @@ first_fault f at before (v ∷ vs) = option_or (fault_of f at (before + size_of 
 
 -- the node of an item: its permission bits and time, and no owner
 abbrev pub attr_of : FolderItem → Attr
-attr_of item = record { mode = item.mode % 4096; mtime = item.mtime; uid = 0; gid = 0 }
+attr_of item = record { mode = item.mode % MODE_LIMIT; mtime = item.mtime; uid = 0; gid = 0 }
 
 abbrev pub node_of : Attr → FoundKind → List ℕ → Option Node
 node_of attr kind.Dir content = Some (Dir attr)

@@ -1,11 +1,13 @@
 //! What is found of a folder.
 ghost use Rattle.std.specs.Prelude.{◌≡◌, ◌≤◌, ◌+◌, [], false, length, IfOk, None};
 ghost use Rattle.std.specs.FinMap as map;
+ghost use Rattle.cv_base.specs.declared.limits.TheConstants.{OBJECT_LIMIT};
 ghost use Rattle.cv_tree.specs.Node.{IsAttr, IsNode};
 ghost use Rattle.cv_tree.specs.Tree.{single};
 ghost use Rattle.cv_tree.specs.declared.node.Node.TheVariants.{Dir};
 ghost use Rattle.cv_overlay.specs.Changes.{AreContents};
 ghost use Rattle.cv_overlay.specs.Walk.{root_attr};
+ghost use Rattle.cv_overlay.specs.declared.bounds.TheConstants.{SUM_LIMIT};
 ghost use Rattle.cv_overlay.specs.Found.{is_file_node, with_node, with_file, kept_content};
 
 use crate::changes::Changes;
@@ -28,6 +30,7 @@ impl Model for Found {
     ghost use Rattle.std.specs.Prelude.{◌≤◌};
     ghost use Rattle.cv_overlay.specs.Changes.{AreContents};
     ghost use Rattle.cv_overlay.specs.Found.{FoundView};
+    ghost use Rattle.cv_overlay.specs.declared.bounds.TheConstants.{SUM_LIMIT};
     ghost use Rattle.std.specs.FinMap as map;
     ghost use Rattle.std.specs.Prelude.{List, ℕ, refl};
     ghost use Rattle.std.specs.Coded.{code_by, coded×, coded_ℕ, coded_list};
@@ -42,7 +45,7 @@ impl Model for Found {
 
     ghost view = { λ f. record { nodes = f.tree; objects = f.contents; sum = f.sum } };
 
-    ghost invariant = { λ f. AreContents f.tree f.contents × (f.sum ≤ 1073741824) };
+    ghost invariant = { λ f. AreContents f.tree f.contents × (f.sum ≤ SUM_LIMIT) };
 }
 
 /// A tree with one node more at a path that is not there yet. A place that is taken, or has no directory above it, is told
@@ -81,7 +84,7 @@ impl Found {
     /// How many bytes all files have, those of whiteouts too.
     pub(crate) fn sum(&self) -> u64
         ensures value { result ≡ self.now.sum }
-        ensures limit { result ≤ 1073741824 }
+        ensures limit { result ≤ SUM_LIMIT }
     {
         self.sum
     }
@@ -114,8 +117,8 @@ impl Found {
         bytes: Bytes,
     ) -> Result<Found, NoMemory>
         requires attr { IsAttr attr }
-        requires size { length bytes ≤ 16777216 }
-        requires sum { self.sum + length bytes ≤ 1073741824 }
+        requires size { length bytes ≤ OBJECT_LIMIT }
+        requires sum { self.sum + length bytes ≤ SUM_LIMIT }
         ensures { IfOk result (λ made. made ≡ with_file self path.now attr bytes) }
     {
         let Found {

@@ -1,6 +1,7 @@
 //! What a folder of changes makes of a published part.
 #![tactic(auto)]
 
+mod bounds;
 mod changes;
 mod contents;
 mod event;

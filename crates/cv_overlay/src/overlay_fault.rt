@@ -1,6 +1,8 @@
 //! Refusals of changes.
+ghost use Rattle.std.specs.Prelude.{◌≡◌};
+ghost use Rattle.cv_overlay.specs.declared.overlay_fault.OverlayFault.TheVariants as faults;
 
-use cv_base::RepoPath;
+use cv_base::{NoMemory, RepoPath};
 
 /// Why changes make no part.
 #[derive(Debug, Drop)]
@@ -9,4 +11,12 @@ pub enum OverlayFault {
     BadWhiteout(RepoPath),
     /// There was no memory.
     NoMemory,
+}
+
+impl From<NoMemory> for OverlayFault {
+    ghost from_gives = { λ _ fault. fault ≡ faults.NoMemory };
+
+    fn from(_fault: NoMemory) -> OverlayFault {
+        OverlayFault::NoMemory
+    }
 }

@@ -111,13 +111,9 @@ pub(crate) fn overlay_tree(
 ) -> Result<Part, OverlayFault>
     ensures { Overlays (nodes_of (option_copied base.entry)) changes.now now result }
 {
-    match least_bad(alloc, changes) {
-        Ok(None) => match overlaid(alloc, base, changes, now) {
-            Ok(part) => Ok(part),
-            Err(NoMemory) => Err(OverlayFault::NoMemory),
-        },
-        Ok(Some(path)) => Err(OverlayFault::BadWhiteout(path)),
-        Err(NoMemory) => Err(OverlayFault::NoMemory),
+    match least_bad(alloc, changes)? {
+        None => Ok(overlaid(alloc, base, changes, now)?),
+        Some(path) => Err(OverlayFault::BadWhiteout(path)),
     }
 }
 

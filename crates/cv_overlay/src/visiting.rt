@@ -1,5 +1,6 @@
 //! Visits to the items of a folder.
 ghost use Rattle.std.specs.Prelude.{◌≡◌, ◌++◌, ◌∷◌, ◌%◌, [], true, false, IfOk, IsErrOf, MatchOption};
+ghost use Rattle.cv_base.specs.declared.limits.TheConstants.{MODE_LIMIT};
 ghost use Rattle.cv_base.specs.Counts.{HasCause};
 ghost use Rattle.cv_base.specs.Path.{Path, IsPath};
 ghost use Rattle.cv_base.specs.Told.{WhereTold};
@@ -9,18 +10,16 @@ ghost use Rattle.cv_overlay.specs.Walk.{takes, has_target, is_large};
 ghost use Rattle.cv_overlay.specs.Found.{step, file_step, Ends, IsWithin};
 ghost use Rattle.cv_overlay.specs.declared.read_fault.ReadFault.TheVariants as faults;
 
+use crate::bounds::SUM_LIMIT;
 use crate::found::Found;
 use crate::read_fault::ReadFault;
-use cv_base::{Attr, NAMES_LIMIT, NoMemory, PATH_LIMIT, RepoPath, Target, Text, is_path_name};
+use cv_base::{
+    Attr, MODE_LIMIT, NAMES_LIMIT, NoMemory, OBJECT_LIMIT, PATH_LIMIT, RepoPath, Target, Text,
+    is_path_name,
+};
 use cv_ports::{Folder, FolderItem, FoundKind};
 use cv_tree::Node;
 use std::alloc::Global;
-
-/// The most bytes of a file.
-const FILE_LIMIT: u64 = 16_777_216;
-
-/// The most bytes of all files.
-const SUM_LIMIT: u64 = 1_073_741_824;
 
 /// Whether a path takes one more name.
 #[tactic(auto, using(crate::proofs::Limits::takes_is))]
@@ -45,11 +44,11 @@ pub(crate) fn below(alloc: Global, path: &RepoPath, name: &str) -> Result<RepoPa
 
 /// The attributes of an item of this mode and time: its twelve permission bits, and no owner.
 fn attr(mode: u32, mtime: u64) -> Attr
-    ensures value { result ≡ record { mode = mode % 4096; mtime = mtime; uid = 0; gid = 0 } }
+    ensures value { result ≡ record { mode = mode % MODE_LIMIT; mtime = mtime; uid = 0; gid = 0 } }
     ensures limits { IsAttr result }
 {
     Attr {
-        mode: mode % 4096,
+        mode: mode % MODE_LIMIT,
         mtime,
         uid: 0,
         gid: 0,
@@ -71,7 +70,7 @@ fn target_of(alloc: Global, text: &Text) -> Result<Option<Target>, NoMemory>
 fn is_large(size: u64, sum: u64) -> bool
     ensures { result ≡ is_large size sum }
 {
-    size > FILE_LIMIT || sum > SUM_LIMIT
+    size > OBJECT_LIMIT as u64 || sum > SUM_LIMIT
 }
 
 /// A file: it is read, and added where it isn't too large.

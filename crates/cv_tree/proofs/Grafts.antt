@@ -1,13 +1,11 @@
 -- A tree with what stands at a path of another tree set at that path.
-use Rattle.std.proofs.Common.{◌≡◌, ◌||◌, Bool, true, false, cond, List, ℕ, [], ◌∷◌, ◌++◌, IsSome, is_some, refl, sym, ap, subst, ◌∙◌, append_assoc, append-nil}
+use Rattle.std.proofs.Common.{◌≡◌, ◌||◌, true, false, cond, List, ℕ, [], ◌∷◌, ◌++◌, is_some, refl, sym, ap, subst, ◌∙◌, append_assoc, append-nil}
 use Rattle.std.specs.Prelude.{IfSome}
-use Rattle.std.specs.declared.option.Option.{Option}
 use Rattle.std.specs.declared.option.Option.TheVariants.{None, Some}
 use Rattle.std.specs.FinMap.{empty, get, get-empty, same_map}
 use Rattle.cv_base.specs.Path.{Path, path_cmp, behind, covers, overlap}
 use Rattle.cv_base.specs.PathOrder.{path_total, path_exact}
 use Rattle.cv_base.proofs.Laws.{behind-append, behind-Some}
-use Rattle.cv_tree.specs.declared.node.Node.{Node}
 use Rattle.cv_tree.specs.Tree.{Nodes, is_directory, HasParents, IsPart, IsTree, at, put}
 use Rattle.cv_tree.specs.Changes.{has_place, nodes_of, subtree_of}
 use Rattle.cv_tree.proofs.Replacements.{get-at, kept-put}

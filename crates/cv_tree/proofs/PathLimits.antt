@@ -1,13 +1,12 @@
 -- Parts of a path, and paths with more names, within the limits of a path.
-use Rattle.std.proofs.Common.{◌≡◌, ℕ, ◌+◌, ◌≤◌, Bool, true, false, cond, ◌&&◌, List, [], ◌∷◌, ◌++◌, length, take, drop, get_or, drop-cons, add-one, suc, ◌-◌, ◌<◌, Option, Some, None, refl, sym, ap, subst, ◌∙◌, append_assoc, length-append, arith}
+use Rattle.std.proofs.Common.{◌≡◌, ℕ, ◌+◌, Bool, true, false, cond, ◌&&◌, List, [], ◌∷◌, ◌++◌, length, take, drop, get_or, drop-cons, add-one, suc, ◌<◌, Option, Some, None, refl, sym, ap, subst, ◌∙◌, append_assoc, length-append, arith}
 use Rattle.std.specs.Prelude.{Ok, Err, nat_lt}
 use Rattle.std.specs.List.{list_all}
 use Rattle.std.proofs.lemmas.List.Folds.{list_all-append}
 use Rattle.std.proofs.lemmas.List.Concat.{flat_map-append}
 use Rattle.std.specs.Cmp.{eq_by_cmp_equiv}
 use Rattle.std.specs.Cmp.Lexicographic.{pointwise, nat_list_cmp_total}
-use Rattle.std.proofs.lemmas.Bool.{le-ltb}
-use Rattle.cv_base.specs.Path.{Path, text_of, is_path_name, parent, behind, same_name, IsPath}
+use Rattle.cv_base.specs.Path.{Path, text_of, is_path_name, behind, same_name, IsPath}
 use Rattle.cv_base.proofs.Laws.{behind-Some}
 use Rattle.cv_base.specs.declared.path_fault.PathFault.TheVariants.{TooLong, TooDeep}
 use Rattle.cv_base.specs.PathText.{joined, within_limits, of_names}
@@ -25,33 +24,13 @@ names_of_both p q h = both_true _ _ (sym (list_all-append is_path_name p q) ∙ 
 size_of_both : (p q : Path) → length (text_of (p ++ q)) ≡ length (text_of p) + length (text_of q)
 size_of_both p q = ap length (text_of-append p q) ∙ length-append (text_of p) (text_of q)
 
--- the front of a path is a path, and so is what is behind it
-pub IsPath-front : (p q : Path) → IsPath (p ++ q) → IsPath p
-IsPath-front p q h = record {
-  names = (names_of_both p q h).0;
-  depth = let d = h.depth in let e = length-append p q in omega arith;
-  size = let d = h.size in let e = size_of_both p q in omega arith;
-}
-
+-- what is behind the front of a path is a path
 pub IsPath-back : (p q : Path) → IsPath (p ++ q) → IsPath q
 IsPath-back p q h = record {
   names = (names_of_both p q h).1;
   depth = let d = h.depth in let e = length-append p q in omega arith;
   size = let d = h.size in let e = size_of_both p q in omega arith;
 }
-
-le_not_above : (n m : ℕ) → n ≤ m → nat_lt m n ≡ false
-le_not_above n m h = le-ltb m n h
-
-within : (size : ℕ) (path : Path) (bad : Option ℕ) → size ≤ 4095 → length path ≤ 64 → bad ≡ None → within_limits size path bad ≡ Ok path
-within size path bad short shallow good = rw (le_not_above size 4095 short, le_not_above (length path) 64 shallow, good) refl
-
--- a name that leaves the path within its limits is joined to it
-joined-within : (p : Path) (name : List ℕ) (rest : Path) → IsPath (p ++ name ∷ rest) → joined p name ≡ Ok (p ++ name ∷ [])
-joined-within p name rest h =
-    let whole : IsPath (p ++ name ∷ []) = IsPath-front (p ++ name ∷ []) rest (subst IsPath (sym (append_assoc p (name ∷ []) rest)) h) in
-    let named : (is_path_name name && true) ≡ true = (names_of_both p (name ∷ []) whole).1 in
-    within _ _ _ whole.size whole.depth (rw ((both_true (is_path_name name) true named).0) refl)
 
 symm : (a b : List ℕ) → same_name a b ≡ same_name b a
 symm a b = (eq_by_cmp_equiv nat_list_cmp_total).symm a b
@@ -80,17 +59,6 @@ stripped-None p q front names is_front is_names apart =
 pub IsPath-behind : (p q rest : Path) → IsPath q → behind p q ≡ Some rest → IsPath rest
 IsPath-behind p q rest h is = IsPath-back p rest (subst IsPath (behind-Some p q rest is) h)
 
--- one more of the names behind a start was joined
-pub joined-next : (start names path : Path) (i : ℕ) (name : List ℕ) (longer : Path) → IsPath (start ++ names) → path ++ drop i names ≡ start ++ names
-    → i < length names → name ≡ get_or names i name → Ok longer ≡ joined path name → longer ++ drop (i + 1) names ≡ start ++ names
-joined-next start names path i name longer whole before more is made =
-    let split : drop i names ≡ name ∷ drop (i + 1) names = rw add-one (drop-cons names i name more ∙ ap (λ w. w ∷ drop (suc i) names) (sym is)) in
-    let rest = drop (i + 1) names in
-    let now : path ++ name ∷ rest ≡ start ++ names = ap (λ w. path ++ w) (sym split) ∙ before in
-    let answer : joined path name ≡ Ok (path ++ name ∷ []) = joined-within path name rest (subst IsPath (sym now) whole) in
-    let same : longer ≡ path ++ name ∷ [] = cc in
-    ap (λ w. w ++ rest) same ∙ append_assoc path (name ∷ []) rest ∙ now
-
 within-Ok : (size : ℕ) (path : Path) (bad : Option ℕ) (r : Path) → within_limits size path bad ≡ Ok r → r ≡ path
 within-Ok size path bad r h =
     elim (nat_lt 4095 size) as (λ t. cond t (Err TooLong) (cond (nat_lt 64 (length path)) (Err TooDeep) (of_names path bad)) ≡ Ok r → r ≡ path) [
@@ -104,3 +72,11 @@ within-Ok size path bad r h =
 -- what was joined is the path with the name
 pub joined-Ok : (p : Path) (name : List ℕ) (r : Path) → Ok r ≡ joined p name → r ≡ p ++ name ∷ []
 joined-Ok p name r h = within-Ok _ (p ++ name ∷ []) _ r (sym h)
+
+-- one more of the names behind a start was joined
+pub joined-next : (start names path : Path) (i : ℕ) (name : List ℕ) (longer : Path) → path ++ drop i names ≡ start ++ names
+    → i < length names → name ≡ get_or names i name → Ok longer ≡ joined path name → longer ++ drop (i + 1) names ≡ start ++ names
+joined-next start names path i name longer before more is made =
+    let split : drop i names ≡ name ∷ drop (i + 1) names = rw add-one (drop-cons names i name more ∙ ap (λ w. w ∷ drop (suc i) names) (sym is)) in
+    let rest = drop (i + 1) names in
+    ap (λ w. w ++ rest) (joined-Ok path name longer made) ∙ append_assoc path (name ∷ []) rest ∙ ap (λ w. path ++ w) (sym split) ∙ before

@@ -6,16 +6,17 @@ use Rattle.std.specs.declared.option.Option.TheVariants.{None, Some}
 use Rattle.std.specs.Ordering.{eq_by_cmp}
 use Rattle.std.specs.FinMap.{empty, insert, get, get-empty, get-insert}
 use Rattle.cv_base.specs.Path.{Path, path_cmp, same_name, behind, parent, IsPath}
+use Rattle.cv_base.specs.Unless.{IsUnless}
 use Rattle.cv_base.specs.PathOrder.{path_total, same_name_is, same_path_is}
 use Rattle.cv_base.proofs.Laws.{behind-Some}
 use Rattle.cv_tree.specs.declared.node.Node.{Node}
 use Rattle.cv_tree.specs.declared.node.Node.TheVariants.{Dir}
 use Rattle.cv_tree.specs.declared.tree_fault.TreeFault.{TreeFault}
-use Rattle.cv_tree.specs.declared.tree_fault.TreeFault.TheVariants.{NoParent, Exists}
+use Rattle.cv_tree.specs.declared.tree_fault.TreeFault.TheVariants.{NoParent, Exists, NoMemory}
 use Rattle.cv_base.specs.declared.attr.Attr.{Attr}
 use Rattle.cv_tree.specs.Node.{IsAttr, IsNode}
 use Rattle.cv_tree.specs.Tree.{Nodes, is_directory, HasParents, IsPart, IsTree, single, at, put}
-use Rattle.cv_tree.specs.Changes.{has_place, insertion, replacement, IsUnlessMemory, nodes_of, FitsUnder, IsTreeAtRoot}
+use Rattle.cv_tree.specs.Changes.{has_place, insertion, replacement, nodes_of, FitsUnder, IsTreeAtRoot}
 use Rattle.cv_tree.proofs.PathLimits.{IsPath-back}
 use Rattle.cv_tree.proofs.Replacements.{at_rest, get-at, get-put}
 
@@ -204,12 +205,12 @@ IsTree-put t p part h good place fits root =
     }
 
 -- ---- by the answers of the calls
-pub IsPart-inserted : (r : Result (Unit {0}) TreeFault) (old new : Nodes) (p : Path) (node : Node) → IsPart old → IsUnlessMemory r (insertion old p)
+pub IsPart-inserted : (r : Result (Unit {0}) TreeFault) (old new : Nodes) (p : Path) (node : Node) → IsPart old → IsUnless NoMemory r (insertion old p)
     → OnOk r (new ≡ insert old p node) → OnErr r (new ≡ old) → IsPath p → IsNode node → IsPart new
 IsPart-inserted (Ok x) old new p node h answer ok err path good = rw ok (IsPart-insert old p node h (sym answer) path good)
 IsPart-inserted (Err fault) old new p node h answer ok err path good = rw err h
 
-pub IsTree-inserted : (r : Result (Unit {0}) TreeFault) (old new : Nodes) (p : Path) (node : Node) → IsTree old → IsUnlessMemory r (insertion old p)
+pub IsTree-inserted : (r : Result (Unit {0}) TreeFault) (old new : Nodes) (p : Path) (node : Node) → IsTree old → IsUnless NoMemory r (insertion old p)
     → OnOk r (new ≡ insert old p node) → OnErr r (new ≡ old) → IsPath p → IsNode node → IsTree new
 IsTree-inserted (Ok x) old new p node h answer ok err path good = rw ok (IsTree-insert old p node h (sym answer) path good)
 IsTree-inserted (Err fault) old new p node h answer ok err path good = rw err h
@@ -217,7 +218,7 @@ IsTree-inserted (Err fault) old new p node h answer ok err path good = rw err h
 placed : (t : Nodes) (p : Path) → replacement t p ≡ Ok tt → has_place t p ≡ true
 placed t p h = elim (has_place t p) as (λ b. cond b (Ok tt) (Err NoParent) ≡ Ok tt → b ≡ true) [ true ↦ λ _. refl | false ↦ λ refused. absurd (not_Ok NoParent refused) ] h
 
-pub IsTree-replaced : (r : Result (Unit {0}) TreeFault) (old new : Nodes) (p : Path) (part : Option Nodes) → IsTree old → IfSome part IsPart → IsUnlessMemory r (replacement old p)
+pub IsTree-replaced : (r : Result (Unit {0}) TreeFault) (old new : Nodes) (p : Path) (part : Option Nodes) → IsTree old → IfSome part IsPart → IsUnless NoMemory r (replacement old p)
     → OnOk r (new ≡ put old p (nodes_of part)) → OnErr r (new ≡ old) → FitsUnder p (nodes_of part) → IsTreeAtRoot p (nodes_of part) → IsTree new
 IsTree-replaced (Ok x) old new p part h good answer ok err fits root = rw ok (IsTree-put old p part h good (placed old p (sym answer)) fits root)
 IsTree-replaced (Err fault) old new p part h good answer ok err fits root = rw err h

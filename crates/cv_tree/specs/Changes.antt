@@ -3,7 +3,7 @@ use Rattle.std.specs.Prelude.{◌≡◌, Bool, true, not, [], ◌∷◌, ◌++�
 use Rattle.std.specs.FinMap.{empty, get}
 use Rattle.cv_base.specs.Path.{Path, parent, IsPath}
 use Rattle.cv_tree.specs.declared.tree_fault.TreeFault.{TreeFault}
-use Rattle.cv_tree.specs.declared.tree_fault.TreeFault.TheVariants.{NoParent, Exists, NoMemory}
+use Rattle.cv_tree.specs.declared.tree_fault.TreeFault.TheVariants.{NoParent, Exists}
 use Rattle.cv_tree.specs.Tree.{Nodes, is_directory, at}
 
 -- a path may have a node: it is the root, or its parent is a directory
@@ -18,11 +18,6 @@ insertion t p = if not (has_place t p) then Err NoParent else if is_some (get t 
 -- the answer to a replacement at a path
 abbrev pub replacement : Nodes → Path → Result (Unit {0}) TreeFault
 replacement t p = if has_place t p then Ok tt else Err NoParent
-
--- the call's answer is this one, or it wanted memory
-abbrev pub IsUnlessMemory : Result (Unit {0}) TreeFault → Result (Unit {0}) TreeFault → Type 0
-IsUnlessMemory (Err NoMemory) answer = Unit {0}
-IsUnlessMemory result answer = result ≡ answer
 
 -- the part at a path, if the path is there
 abbrev pub subtree_of : Nodes → Path → Option Nodes

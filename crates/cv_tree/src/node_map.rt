@@ -3,8 +3,10 @@ ghost use Rattle.std.specs.Prelude.{◌≡◌, IfOk, OnOk, OnErr, IsTrue};
 ghost use Rattle.std.specs.Option.{option_copied};
 ghost use Rattle.std.specs.FinMap as map;
 ghost use Rattle.cv_base.specs.Path.{IsPath};
+ghost use Rattle.cv_base.specs.Unless.{IsUnless};
+ghost use Rattle.cv_tree.specs.declared.tree_fault.TreeFault.TheVariants as faults;
 ghost use Rattle.cv_tree.specs.Tree.{is_directory, single, at, under, outside_with, put};
-ghost use Rattle.cv_tree.specs.Changes.{has_place, insertion, replacement, IsUnlessMemory, FitsUnder};
+ghost use Rattle.cv_tree.specs.Changes.{has_place, insertion, replacement, FitsUnder};
 
 use crate::joined::{behind, below, parent};
 use crate::node::Node;
@@ -100,10 +102,8 @@ impl NodeMap {
         ensures ok { OnOk result (self.new ≡ map.insert self.old path node) }
         ensures err { OnErr result (self.new ≡ self.old) }
     {
-        match self.nodes.insert(path, node) {
-            Ok(_) => Ok(()),
-            Err(_) => Err(NoMemory),
-        }
+        self.nodes.insert(path, node)?;
+        Ok(())
     }
 
     /// Whether a directory stands at a path.
@@ -127,35 +127,31 @@ impl NodeMap {
 
     /// Adds a node at a path that is not there yet.
     pub(crate) fn add(&mut self, path: &RepoPath, node: Node) -> Result<(), TreeFault>
-        ensures answer { IsUnlessMemory result (insertion self.old path.now) }
+        ensures answer { IsUnless faults.NoMemory result (insertion self.old path.now) }
         ensures ok { OnOk result (self.new ≡ map.insert self.old path.now node) }
         ensures err { OnErr result (self.new ≡ self.old) }
         ensures path { IsPath path.now }
     {
-        match self.has_place(path) {
-            Ok(true) => self.add_placed(path, node),
-            Ok(false) => Err(TreeFault::NoParent),
-            Err(NoMemory) => Err(TreeFault::NoMemory),
+        if self.has_place(path)? {
+            self.add_placed(path, node)
+        } else {
+            Err(TreeFault::NoParent)
         }
     }
 
     /// The same at a path where a node may stand.
     fn add_placed(&mut self, path: &RepoPath, node: Node) -> Result<(), TreeFault>
         requires { IsTrue (has_place self.old path.now) }
-        ensures answer { IsUnlessMemory result (insertion self.old path.now) }
+        ensures answer { IsUnless faults.NoMemory result (insertion self.old path.now) }
         ensures ok { OnOk result (self.new ≡ map.insert self.old path.now node) }
         ensures err { OnErr result (self.new ≡ self.old) }
     {
         if self.get(path).is_some() {
             return Err(TreeFault::Exists);
         }
-        let Ok(key) = path.copy(self.alloc) else {
-            return Err(TreeFault::NoMemory);
-        };
-        match self.set(key, node) {
-            Ok(()) => Ok(()),
-            Err(NoMemory) => Err(TreeFault::NoMemory),
-        }
+        let key = path.copy(self.alloc)?;
+        self.set(key, node)?;
+        Ok(())
     }
 
     /// The nodes that a path covers, with the path taken off.
@@ -199,14 +195,14 @@ impl NodeMap {
     /// Takes out all that a path covers, and sets other nodes there.
     pub(crate) fn replace(&mut self, path: &RepoPath, part: NodeMap) -> Result<(), TreeFault>
         requires { FitsUnder path.now part }
-        ensures answer { IsUnlessMemory result (replacement self.old path.now) }
+        ensures answer { IsUnless faults.NoMemory result (replacement self.old path.now) }
         ensures ok { OnOk result (self.new ≡ put self.old path.now part) }
         ensures err { OnErr result (self.new ≡ self.old) }
     {
-        match self.has_place(path) {
-            Ok(true) => self.replace_placed(path, part),
-            Ok(false) => Err(TreeFault::NoParent),
-            Err(NoMemory) => Err(TreeFault::NoMemory),
+        if self.has_place(path)? {
+            self.replace_placed(path, part)
+        } else {
+            Err(TreeFault::NoParent)
         }
     }
 
@@ -214,17 +210,13 @@ impl NodeMap {
     fn replace_placed(&mut self, path: &RepoPath, part: NodeMap) -> Result<(), TreeFault>
         requires place { IsTrue (has_place self.old path.now) }
         requires limits { FitsUnder path.now part }
-        ensures answer { IsUnlessMemory result (replacement self.old path.now) }
+        ensures answer { IsUnless faults.NoMemory result (replacement self.old path.now) }
         ensures ok { OnOk result (self.new ≡ put self.old path.now part) }
         ensures err { OnErr result (self.new ≡ self.old) }
     {
-        match self.replaced(path, part) {
-            Ok(nodes) => {
-                *self = nodes;
-                Ok(())
-            },
-            Err(NoMemory) => Err(TreeFault::NoMemory),
-        }
+        let nodes = self.replaced(path, part)?;
+        *self = nodes;
+        Ok(())
     }
 
     /// A map like this one, but for what the path covers. Since it is made beside this one, a want of

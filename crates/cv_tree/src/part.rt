@@ -2,9 +2,11 @@
 ghost use Rattle.std.specs.Prelude.{◌≡◌, IfOk, IfSome, OnOk, OnErr};
 ghost use Rattle.std.specs.Option.{option_copied};
 ghost use Rattle.std.specs.FinMap as map;
+ghost use Rattle.cv_base.specs.Unless.{IsUnless};
+ghost use Rattle.cv_tree.specs.declared.tree_fault.TreeFault.TheVariants as faults;
 ghost use Rattle.cv_tree.specs.Node.{IsNode};
 ghost use Rattle.cv_tree.specs.Tree.{IsPart, single};
-ghost use Rattle.cv_tree.specs.Changes.{insertion, IsUnlessMemory};
+ghost use Rattle.cv_tree.specs.Changes.{insertion};
 
 use crate::node::Node;
 use crate::node_map::NodeMap;
@@ -76,7 +78,7 @@ impl Part {
     /// Adds a node at a path that is not there yet. A refusal changes nothing.
     pub fn insert(&mut self, path: &RepoPath, node: Node) -> Result<(), TreeFault>
         requires { IsNode node }
-        ensures answer { IsUnlessMemory result (insertion self.old path.now) }
+        ensures answer { IsUnless faults.NoMemory result (insertion self.old path.now) }
         ensures ok { OnOk result (self.new ≡ map.insert self.old path.now node) }
         ensures err { OnErr result (self.new ≡ self.old) }
     {

@@ -2,10 +2,12 @@
 ghost use Rattle.std.specs.Prelude.{◌≡◌, IfOk, IfSome, OnOk, OnErr};
 ghost use Rattle.std.specs.Option.{option_copied};
 ghost use Rattle.std.specs.FinMap as map;
+ghost use Rattle.cv_base.specs.Unless.{IsUnless};
 ghost use Rattle.cv_tree.specs.declared.node.Node.TheVariants.{Dir};
+ghost use Rattle.cv_tree.specs.declared.tree_fault.TreeFault.TheVariants as faults;
 ghost use Rattle.cv_tree.specs.Node.{IsNode, IsAttr};
 ghost use Rattle.cv_tree.specs.Tree.{IsPart, IsTree, single, put};
-ghost use Rattle.cv_tree.specs.Changes.{insertion, replacement, subtree_of, IsUnlessMemory, nodes_of, FitsUnder, IsTreeAtRoot};
+ghost use Rattle.cv_tree.specs.Changes.{insertion, replacement, subtree_of, nodes_of, FitsUnder, IsTreeAtRoot};
 
 use crate::node::Node;
 use crate::node_map::NodeMap;
@@ -80,7 +82,7 @@ impl Tree {
     /// Adds a node at a path that is not there yet. A refusal changes nothing.
     pub fn insert(&mut self, path: &RepoPath, node: Node) -> Result<(), TreeFault>
         requires { IsNode node }
-        ensures answer { IsUnlessMemory result (insertion self.old path.now) }
+        ensures answer { IsUnless faults.NoMemory result (insertion self.old path.now) }
         ensures ok { OnOk result (self.new ≡ map.insert self.old path.now node) }
         ensures err { OnErr result (self.new ≡ self.old) }
     {
@@ -95,7 +97,7 @@ impl Tree {
         requires root { IsTreeAtRoot path.now (nodes_of part) }
         // The paths of the part keep the limits of a path behind this one.
         requires limits { IfSome part (FitsUnder path.now) }
-        ensures answer { IsUnlessMemory result (replacement self.old path.now) }
+        ensures answer { IsUnless faults.NoMemory result (replacement self.old path.now) }
         ensures ok { OnOk result (self.new ≡ put self.old path.now (nodes_of part)) }
         ensures err { OnErr result (self.new ≡ self.old) }
     {
