@@ -8,17 +8,18 @@ use Rattle.serde_json.specs.Find.{as_array}
 use Rattle.serde_json.specs.View.{view, items_of}
 use Rattle.serde_json.specs.declared.value.Value.{Value}
 use Rattle.cv_json.proofs.Laws.{elements-items_of}
-use Rattle.cv_messages.specs.Member.{IsSaid, and_then}
+use Rattle.cv_base.specs.Sequence.{◌>>=◌}
+use Rattle.cv_messages.specs.Member.{IsSaid}
 use Rattle.cv_answers.specs.AnswerText.{each_of, array_member}
 use Rattle.cv_messages.specs.declared.message_fault.MessageFault.{MessageFault}
 use Rattle.cv_messages.specs.declared.message_fault.MessageFault.TheVariants.{NotJson, Missing, WrongType, BadValue, NoMemory}
 
 -- the values behind others
 abbrev pub behind : {A : Type 0} → List A → Result (List A) MessageFault → Result (List A) MessageFault
-behind before later = and_then later (λ xs. Ok (before ++ xs))
+behind before later = later >>= λ xs. Ok (before ++ xs)
 
 -- a value before others stands last behind those that are before it
-behind-one : {A : Type 0} (before : List A) (x : A) (later : Result (List A) MessageFault) → behind before (and_then later (λ xs. Ok (x ∷ xs))) ≡ behind (before ++ x ∷ []) later
+behind-one : {A : Type 0} (before : List A) (x : A) (later : Result (List A) MessageFault) → behind before (later >>= λ xs. Ok (x ∷ xs)) ≡ behind (before ++ x ∷ []) later
 behind-one before x (Ok xs) = ap Ok (sym (append_assoc before (x ∷ []) xs))
 behind-one before x (Err fault) = refl
 
@@ -41,7 +42,7 @@ pub behind-more : {A : Type 0} (says : Data → Result A MessageFault) (vs : Lis
 behind-more says vs i v x before after all below is told pushed so_far =
     let later = each_of says (map view (drop (i + 1) vs)) in
     let cut = drop_is vs i v below is in
-    let here : each_of says (map view (drop i vs)) ≡ and_then later (λ xs. Ok (x ∷ xs)) = rw (cut, told) refl in
+    let here : each_of says (map view (drop i vs)) ≡ (later >>= λ xs. Ok (x ∷ xs)) = rw (cut, told) refl in
     so_far ∙ ap (behind before) here ∙ behind-one before x later ∙ ap (λ w. behind w later) (sym pushed)
 
 -- a fault of a value is that of all

@@ -7,9 +7,10 @@ use Rattle.serde_json.specs.Data.{Data, Items}
 use Rattle.serde_json.specs.Find.{get, as_str, as_array, as_object}
 use Rattle.cv_json.specs.Elements.{elements}
 use Rattle.cv_base.specs.Digest.{IsDigest}
+use Rattle.cv_base.specs.Sequence.{◌>>=◌}
 use Rattle.cv_messages.specs.Spelling.{IsToken}
 use Rattle.cv_json.specs.ObjectText.{object_in}
-use Rattle.cv_messages.specs.Member.{and_then, text_of, text_member, number_member, token_member, digest_member}
+use Rattle.cv_messages.specs.Member.{text_of, text_member, number_member, token_member, digest_member}
 use Rattle.cv_answers.specs.Refusal.{is_refusal, IsWholeRefusal, refusal_in}
 use Rattle.cv_messages.specs.declared.member.Member.TheVariants.{Path, SessionToken, Status, Other}
 use Rattle.cv_messages.specs.declared.message_fault.MessageFault.{MessageFault}
@@ -33,19 +34,24 @@ IsWhole _ = Unit {0}
 
 abbrev pub granted_in : Data → Result Answer MessageFault
 granted_in d =
-    and_then (number_member Other (get (codes "revision") d)) (λ revision.
-    and_then (digest_member Other (get (codes "root_hash") d)) (λ root.
-    and_then (token_member SessionToken (get (codes "session_token") d)) (λ token. Ok (Granted token revision root))))
+    number_member Other (get (codes "revision") d) >>= λ revision.
+    digest_member Other (get (codes "root_hash") d) >>= λ root.
+    token_member SessionToken (get (codes "session_token") d) >>= λ token.
+    Ok (Granted token revision root)
 
 abbrev pub committed_in : Data → Result Answer MessageFault
 committed_in d =
-    and_then (number_member Other (get (codes "final_revision") d)) (λ revision.
-    and_then (digest_member Other (get (codes "root_hash") d)) (λ root. Ok (Committed revision root)))
+    number_member Other (get (codes "final_revision") d) >>= λ revision.
+    digest_member Other (get (codes "root_hash") d) >>= λ root.
+    Ok (Committed revision root)
 
 -- what each value says, or the first fault
 abbrev pub each_of : {A : Type 0} → (Data → Result A MessageFault) → List Data → Result (List A) MessageFault
 each_of says [] = Ok []
-each_of says (d ∷ ds) = and_then (says d) (λ x. and_then (each_of says ds) (λ xs. Ok (x ∷ xs)))
+each_of says (d ∷ ds) =
+    says d >>= λ x.
+    each_of says ds >>= λ xs.
+    Ok (x ∷ xs)
 
 abbrev pub elements_of : Option Items → Result (List Data) MessageFault
 elements_of None = Err (WrongType Other)
@@ -59,32 +65,37 @@ array_member (Some d) = elements_of (as_array d)
 abbrev pub lease_item_in : Data → Result LeaseItem MessageFault
 lease_item_in d =
     if is_some (as_object d)
-    then and_then (text_member Other (get (codes "key_id") d)) (λ key.
-    and_then (text_member Path (get (codes "path") d)) (λ path.
-    and_then (number_member Other (get (codes "time_remaining") d)) (λ remaining.
-    Ok (record { key = key; path = path; remaining = remaining }))))
+    then (
+    text_member Other (get (codes "key_id") d) >>= λ key.
+    text_member Path (get (codes "path") d) >>= λ path.
+    number_member Other (get (codes "time_remaining") d) >>= λ remaining.
+    Ok (record { key = key; path = path; remaining = remaining })
+    )
     else Err (WrongType Other)
 
 abbrev pub leases_in : Data → Result Answer MessageFault
 leases_in d =
-    and_then (array_member (get (codes "data") d)) (λ ds.
-    and_then (each_of lease_item_in ds) (λ items. Ok (Leases items)))
+    array_member (get (codes "data") d) >>= λ ds.
+    each_of lease_item_in ds >>= λ items.
+    Ok (Leases items)
 
 abbrev pub repo_in : Data → Result (List ℕ) MessageFault
 repo_in d = text_of Other (as_str d)
 
 abbrev pub repos_in : Data → Result Answer MessageFault
 repos_in d =
-    and_then (array_member (get (codes "repos") d)) (λ ds.
-    and_then (each_of repo_in ds) (λ names. Ok (Repos names)))
+    array_member (get (codes "repos") d) >>= λ ds.
+    each_of repo_in ds >>= λ names.
+    Ok (Repos names)
 
 abbrev pub path_busy_in : Data → Result Answer MessageFault
 path_busy_in d =
-    and_then (token_member Other (get (codes "lease") d)) (λ token.
-    and_then (number_member Other (get (codes "time_remaining") d)) (λ remaining. Ok (PathBusy token remaining)))
+    token_member Other (get (codes "lease") d) >>= λ token.
+    number_member Other (get (codes "time_remaining") d) >>= λ remaining.
+    Ok (PathBusy token remaining)
 
 abbrev pub refused_in : Data → Result Answer MessageFault
-refused_in d = and_then (refusal_in d) (λ refusal. Ok (Refused refusal))
+refused_in d = refusal_in d >>= λ refusal. Ok (Refused refusal)
 
 -- the kind of an ok answer is told by the member that it has
 abbrev pub ok_in : Data → Result Answer MessageFault
@@ -105,7 +116,7 @@ answer_by status d =
 
 -- the answer that an object says, or its first fault
 abbrev pub answer_in : Data → Result Answer MessageFault
-answer_in d = and_then (text_member Status (get (codes "status") d)) (λ status. answer_by status d)
+answer_in d = text_member Status (get (codes "status") d) >>= λ status. answer_by status d
 
 abbrev pub answer_in_object : Option Data → Result Answer MessageFault
 answer_in_object None = Err NotJson

@@ -9,11 +9,12 @@ use Rattle.cv_base.specs.Digest.{IsDigest}
 use Rattle.cv_base.specs.ObjectId.{object_id, suffix_of, id_text}
 use Rattle.cv_base.specs.Path.{Path, text_of}
 use Rattle.cv_base.specs.PathText.{path_of}
+use Rattle.cv_base.specs.Sequence.{◌>>=◌}
 use Rattle.cv_base.specs.declared.id.Kind.{Kind}
 use Rattle.cv_base.specs.declared.id.Kind.TheVariants as kind
 use Rattle.cv_base.specs.declared.id.ObjectId.{ObjectId}
 use Rattle.cv_messages.specs.Spelling.{digest_of}
-use Rattle.cv_messages.specs.Member.{and_then, known, text_member, number_member, digest_member}
+use Rattle.cv_messages.specs.Member.{known, text_member, number_member, digest_member}
 use Rattle.cv_messages.specs.MemberName.{member_name, member_of, is_named}
 use Rattle.cv_messages.specs.declared.message_fault.MessageFault.{MessageFault}
 use Rattle.cv_messages.specs.declared.member.Member.{Member}
@@ -134,26 +135,28 @@ id_of text = option_and_then (λ hash. option_map (object_id hash) (kind_of (dro
 
 -- members that have to be there: the name of a member, the text of an id, that of a path
 abbrev pub name_member : Option Data → Result Member MessageFault
-name_member value = and_then (text_member Other value) (λ text. known Other (member_of text))
+name_member value = text_member Other value >>= λ text. known Other (member_of text)
 
 abbrev pub object_member : Option Data → Result ObjectId MessageFault
-object_member value = and_then (text_member Other value) (λ text. known Other (id_of text))
+object_member value = text_member Other value >>= λ text. known Other (id_of text)
 
 abbrev pub path_member : Member → Option Data → Result Path MessageFault
-path_member name value = and_then (text_member name value) (λ text. known name (result_ok (path_of text)))
+path_member name value = text_member name value >>= λ text. known name (result_ok (path_of text))
 
 abbrev pub path_collision_in : Data → Result Refusal MessageFault
 path_collision_in d =
-    and_then (path_member ThePath (get (codes "path") d)) (λ path.
-    and_then (path_member Other (get (codes "second") d)) (λ second. Ok (PathCollision path second)))
+    path_member ThePath (get (codes "path") d) >>= λ path.
+    path_member Other (get (codes "second") d) >>= λ second.
+    Ok (PathCollision path second)
 
 abbrev pub damaged_in : Data → Result Refusal MessageFault
 damaged_in d =
-    and_then (digest_member Other (get (codes "found") d)) (λ found.
-    and_then (object_member (get (codes "object") d)) (λ id. Ok (Damaged id found)))
+    digest_member Other (get (codes "found") d) >>= λ found.
+    object_member (get (codes "object") d) >>= λ id.
+    Ok (Damaged id found)
 
 abbrev pub plain_of : List ℕ → Result Refusal MessageFault
-plain_of text = and_then (known TheReason (reason_of text)) (λ why. Ok (Plain why))
+plain_of text = known TheReason (reason_of text) >>= λ why. Ok (Plain why)
 
 -- the refusal for the reason of this text that an object says
 abbrev pub refusal_by : List ℕ → Data → Result Refusal MessageFault
@@ -161,19 +164,19 @@ refusal_by text d =
     let name = name_member (get (codes "member") d) in
     let id = object_member (get (codes "object") d) in
     let revision = number_member Other (get (codes "revision") d) in
-    if bytes_eq text (codes "missing_member") then and_then name (λ m. Ok (MissingMember m))
-    else if bytes_eq text (codes "wrong_type") then and_then name (λ m. Ok (WrongType m))
-    else if bytes_eq text (codes "bad_value") then and_then name (λ m. Ok (BadValue m))
-    else if bytes_eq text (codes "collision") then and_then id (λ o. Ok (Collision o))
-    else if bytes_eq text (codes "stale_base") then and_then revision (λ n. Ok (StaleBase n))
-    else if bytes_eq text (codes "missing_object") then and_then id (λ o. Ok (MissingObject o))
-    else if bytes_eq text (codes "bad_catalogue") then and_then id (λ o. Ok (BadCatalogue o))
+    if bytes_eq text (codes "missing_member") then (name >>= λ m. Ok (MissingMember m))
+    else if bytes_eq text (codes "wrong_type") then (name >>= λ m. Ok (WrongType m))
+    else if bytes_eq text (codes "bad_value") then (name >>= λ m. Ok (BadValue m))
+    else if bytes_eq text (codes "collision") then (id >>= λ o. Ok (Collision o))
+    else if bytes_eq text (codes "stale_base") then (revision >>= λ n. Ok (StaleBase n))
+    else if bytes_eq text (codes "missing_object") then (id >>= λ o. Ok (MissingObject o))
+    else if bytes_eq text (codes "bad_catalogue") then (id >>= λ o. Ok (BadCatalogue o))
     else if bytes_eq text (codes "path_collision") then path_collision_in d
-    else if bytes_eq text (codes "catalogue_full") then and_then (path_member ThePath (get (codes "path") d)) (λ p. Ok (CatalogueFull p))
-    else if bytes_eq text (codes "tag_taken") then and_then revision (λ n. Ok (TagTaken n))
+    else if bytes_eq text (codes "catalogue_full") then (path_member ThePath (get (codes "path") d) >>= λ p. Ok (CatalogueFull p))
+    else if bytes_eq text (codes "tag_taken") then (revision >>= λ n. Ok (TagTaken n))
     else if bytes_eq text (codes "damaged") then damaged_in d
     else plain_of text
 
 -- the refusal that an object says, or its first fault
 abbrev pub refusal_in : Data → Result Refusal MessageFault
-refusal_in d = and_then (text_member TheReason (get (codes "reason") d)) (λ text. refusal_by text d)
+refusal_in d = text_member TheReason (get (codes "reason") d) >>= λ text. refusal_by text d

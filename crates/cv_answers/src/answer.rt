@@ -53,10 +53,8 @@ impl Answer {
         // What was read can be written.
         ensures writable { IfOk result (λ answer. is_answer answer ≡ true) }
     {
-        let value = match read_object(alloc, bytes) {
-            Ok(Some(value)) => value,
-            Ok(None) => return Err(MessageFault::NotJson),
-            Err(NoMemory) => return Err(MessageFault::NoMemory),
+        let Some(value) = read_object(alloc, bytes)? else {
+            return Err(MessageFault::NotJson);
         };
         read_answer(alloc, &value)
     }

@@ -8,11 +8,7 @@ mod read_answer;
 mod read_refusal;
 mod reason;
 mod refusal;
-#[cfg(test)]
-mod refusal_tests;
 mod refusal_value;
-#[cfg(test)]
-mod tests;
 
 pub use answer::Answer;
 pub use lease_item::LeaseItem;

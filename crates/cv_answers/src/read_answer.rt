@@ -1,5 +1,5 @@
 //! Reading answers.
-ghost use Rattle.std.specs.Prelude.{◌≡◌, true, Ok, Err, List, map, is_some, IfOk, MatchResult};
+ghost use Rattle.std.specs.Prelude.{◌≡◌, true, Ok, Err, map, is_some, IfOk, MatchResult};
 ghost use Rattle.serde_json.specs.Find.{get};
 ghost use Rattle.serde_json.specs.View.{view};
 ghost use Rattle.cv_messages.specs.Member.{IsSaid};
@@ -129,10 +129,8 @@ fn read_lease_item(alloc: Global, value: &Value) -> Result<LeaseItem, MessageFau
     let key = text_member(value, "key_id", Member::Other)?;
     let path = text_member(value, "path", Member::Path)?;
     let remaining = number_member(value, "time_remaining", Member::Other)?;
-    match lease_item(alloc, key, path, remaining) {
-        Ok(item) => Ok(item),
-        Err(NoMemory) => Err(MessageFault::NoMemory),
-    }
+    let item = lease_item(alloc, key, path, remaining)?;
+    Ok(item)
 }
 
 /// The lease of these members.
@@ -182,10 +180,8 @@ fn read_name(alloc: Global, value: &Value) -> Result<Text, MessageFault>
     let Some(name) = value.as_str() else {
         return Err(MessageFault::WrongType(Member::Other));
     };
-    match Text::from_str(alloc, name) {
-        Ok(name) => Ok(name),
-        Err(NoMemory) => Err(MessageFault::NoMemory),
-    }
+    let name = Text::from_str(alloc, name)?;
+    Ok(name)
 }
 
 /// The live lease that overlaps.

@@ -23,7 +23,7 @@ pub ruleset field_faults = (short_field, whole_field, nat_tests)
 pub right_field : (text : List ℕ) (at size : ℕ) (right : Bool) → at + size ≤ length text → right ≡ true → field_fault text at size right ≡ None
 right_field text at size right fits h = whole_field text at size right fits ∙ ap (λ (b : Bool). cond b None (Some at)) h
 
-le_test : (a b : ℕ) → a ≤ b → nat_le a b ≡ true
+pub le_test : (a b : ℕ) → a ≤ b → nat_le a b ≡ true
 le_test a b h = grind (arith, nat_tests)
 
 -- a text that is there is wrong where what else is asked of it is

@@ -1,13 +1,14 @@
 -- Where every field is right there is no fault.
-use Rattle.std.proofs.Common.{◌≡◌, ℕ, ◌+◌, ◌<◌, ◌≤◌, ◌^◌, ◌==◌, Bool, true, false, List, length, refl, sym, ap, ◌∙◌, arith}
+use Rattle.std.proofs.Common.{◌≡◌, ℕ, ◌+◌, ◌≤◌, ◌==◌, Bool, true, false, List, length, refl, sym, ap, ◌∙◌, arith}
 use Rattle.std.specs.Prelude.{None, nat_lt}
 use Rattle.std.specs.Str.{bytes_eq}
 use Rattle.std.proofs.lemmas.Bool.Decides.{nat_tests}
 use Rattle.cv_base.specs.Path.{text_of}
 use Rattle.cv_base.specs.declared.token.Token.{Token}
+use Rattle.cv_base.specs.declared.limits.TheConstants.{LAST_REVISION, LAST_TIME}
 use Rattle.cv_history.specs.declared.front.Front.{Front}
 use Rattle.cv_history.specs.declared.record.Record.{Record}
-use Rattle.cv_history.specs.Faults.{u64_at, where_first, is_revision, is_tag, start_fault, hashes_fault, token_fault, front_fault, end_fault, texts_fault}
+use Rattle.cv_history.specs.Faults.{u64_at, where_first, is_revision, is_tag_text, start_fault, hashes_fault, token_fault, front_fault, end_fault, texts_fault}
 use Rattle.cv_history.specs.Reading.{HasStart, HasHashes, HasToken, HasFront, HasEnd, HasTexts}
 use Rattle.cv_history.proofs.FieldFaults.{right_field}
 use Rattle.cv_history.proofs.TextFaults.{end_by_tag, texts_by_key}
@@ -23,7 +24,7 @@ same_test a b e = ap (λ (l : List ℕ). bytes_eq l b) e ∙ bytes_eq_self b
 number_test : (a b : ℕ) → a ≡ b → (a == b) ≡ true
 number_test a b e = grind (arith, nat_tests)
 
-revision_test : (revision : ℕ) → 1 ≤ revision → revision ≤ 262144 → is_revision revision ≡ true
+revision_test : (revision : ℕ) → 1 ≤ revision → revision ≤ LAST_REVISION → is_revision revision ≡ true
 revision_test revision low high = grind (arith, nat_tests)
 
 pub no_start_fault : (text : List ℕ) (revision : ℕ) → HasStart text revision → start_fault text ≡ None
@@ -65,9 +66,9 @@ not_below a b e = grind (arith, nat_tests)
 
 pub no_end_fault : (text : List ℕ) (first : Bool) (at time : ℕ) (tag : List ℕ) → HasEnd text first at time tag → end_fault text first at ≡ None
 no_end_fault text first at time tag h =
-    let early : u64_at text at < 2 ^ 62 = rw h.time h.early in
+    let early : u64_at text at ≤ LAST_TIME = rw h.time h.early in
     let fits : at + 8 ≤ length text = omega (arith, h.tag.fits) in
-    let is : is_tag tag ≡ true = rw (h.target, h.tag_bytes) refl in
+    let is : is_tag_text tag ≡ true = rw (h.target, h.tag_bytes) refl in
     rw (end_by_tag text first at tag fits early h.tag, is, not_below _ _ h.end) refl
 
 pub no_texts_fault : (text : List ℕ) (first : Bool) (r : Record) → HasTexts text first r → texts_fault text first ≡ None

@@ -7,6 +7,7 @@ use Rattle.std.proofs.lemmas.List.{nil_from_length}
 use Rattle.cv_base.specs.Path.{Path, text_of}
 use Rattle.cv_base.proofs.Laws.{text_of-injective}
 use Rattle.cv_base.specs.declared.token.Token.{Token}
+use Rattle.cv_base.specs.declared.limits.TheConstants.{KEY_ID_LIMIT, TAG_LIMIT}
 use Rattle.cv_history.specs.declared.record.Record.{Record}
 use Rattle.cv_history.specs.Record.{IsFirst, IsRecord, IsTyped, Spells}
 use Rattle.cv_history.specs.Faults.{part, u64_at, limit_of}
@@ -97,7 +98,7 @@ end_of text r s =
         size = u16_of_part text _ (length r.tag) (omega (arith, s.limits.tag)) l.at_m;
         same = l.at_n;
         fits = omega (arith, l.end);
-        limit = limit_right (r.revision == 1) 255 (length r.tag) (λ e. ap length (is_first r s.limits e).tag) s.limits.tag;
+        limit = limit_right (r.revision == 1) TAG_LIMIT (length r.tag) (λ e. ap length (is_first r s.limits e).tag) s.limits.tag;
       };
       target = s.typed.tag;
       tag_bytes = s.limits.tag_bytes;
@@ -119,7 +120,7 @@ texts_of text r s =
         size = u16_of_part text _ (length r.key) (omega (arith, s.limits.key)) l.at_j;
         same = l.at_k;
         fits = omega (arith, l.end);
-        limit = limit_right (r.revision == 1) 255 (length r.key) (λ e. ap length (is_first r s.limits e).key) s.limits.key;
+        limit = limit_right (r.revision == 1) KEY_ID_LIMIT (length r.key) (λ e. ap length (is_first r s.limits e).key) s.limits.key;
       };
       target = s.typed.key;
       end = end_of text r s;
@@ -148,17 +149,17 @@ first_is text r f t is =
       epoch = f.token.no_epoch e;
       number = f.token.no_number e;
       path = no_names r.path (limit_none (r.revision == 1) 4095 _ e t.path.limit);
-      key = nil_from_length r.key (limit_none (r.revision == 1) 255 _ e t.key.limit);
-      tag = nil_from_length r.tag (limit_none (r.revision == 1) 255 _ e t.end.tag.limit);
+      key = nil_from_length r.key (limit_none (r.revision == 1) KEY_ID_LIMIT _ e t.key.limit);
+      tag = nil_from_length r.tag (limit_none (r.revision == 1) TAG_LIMIT _ e t.end.tag.limit);
     }
 
 limits_of : (text : List ℕ) (r : Record) → HasFront text (front_of r) → HasTexts text (r.revision == 1) r → IsRecord r
 limits_of text r f t = record {
   from_one = f.start.from_one;
   revision = f.start.limit;
-  key = limit_left (r.revision == 1) 255 _ t.key.limit;
+  key = limit_left (r.revision == 1) KEY_ID_LIMIT _ t.key.limit;
   time = t.end.early;
-  tag = limit_left (r.revision == 1) 255 _ t.end.tag.limit;
+  tag = limit_left (r.revision == 1) TAG_LIMIT _ t.end.tag.limit;
   tag_bytes = t.end.tag_bytes;
   first = first_is text r f t;
 }

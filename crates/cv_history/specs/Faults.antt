@@ -1,10 +1,11 @@
 -- The first fault of bytes that are no record, field by field in the order of their offsets.
-use Rattle.std.specs.Prelude.{ℕ, ◌+◌, ◌^◌, ◌==◌, Bool, true, ◌&&◌, nat_le, nat_lt, List, length, take, drop, codes, Option, Some, None, is_some, if◌then◌else◌}
+use Rattle.std.specs.Prelude.{ℕ, ◌+◌, ◌==◌, Bool, true, ◌&&◌, nat_le, nat_lt, List, length, take, drop, codes, Option, Some, None, is_some, if◌then◌else◌}
 use Rattle.std.specs.Int.{w16, w64, from_be_bytes}
 use Rattle.std.specs.List.{list_all}
 use Rattle.std.specs.Str.{bytes_eq}
 use Rattle.cv_base.specs.PathText.{path_named}
 use Rattle.cv_base.specs.Target.{is_target}
+use Rattle.cv_base.specs.declared.limits.TheConstants.{KEY_ID_LIMIT, LAST_REVISION, LAST_TIME, TAG_LIMIT}
 use Rattle.cv_history.specs.Record.{no_hash, is_tag_byte}
 
 -- so many bytes of a text from one offset on, and the numbers there
@@ -45,11 +46,11 @@ text_fault text at limit right =
 abbrev pub is_path_text : List ℕ → Bool
 is_path_text text = is_some (path_named text)
 
-abbrev pub is_tag : List ℕ → Bool
-is_tag text = is_target text && list_all is_tag_byte text
+abbrev pub is_tag_text : List ℕ → Bool
+is_tag_text text = is_target text && list_all is_tag_byte text
 
 abbrev pub is_revision : ℕ → Bool
-is_revision revision = nat_le 1 revision && nat_le revision 262144
+is_revision revision = nat_le 1 revision && nat_le revision LAST_REVISION
 
 abbrev pub is_first : List ℕ → Bool
 is_first text = u64_at text 4 == 1
@@ -80,15 +81,15 @@ after_text text at = at + 2 + u16_at text at
 -- the time, the tag and the end
 unfoldable pub end_fault : List ℕ → Bool → ℕ → Option ℕ
 end_fault text first at =
-    field_fault text at 8 (nat_lt (u64_at text at) (2 ^ 62))
-    before text_fault text (at + 8) (limit_of first 255) is_tag
+    field_fault text at 8 (nat_le (u64_at text at) LAST_TIME)
+    before text_fault text (at + 8) (limit_of first TAG_LIMIT) is_tag_text
     before (if nat_lt (after_text text (at + 8)) (length text) then Some (after_text text (at + 8)) else None)
 
 -- the path, the key's id, and what follows them
 unfoldable pub texts_fault : List ℕ → Bool → Option ℕ
 texts_fault text first =
     text_fault text 88 (limit_of first 4095) is_path_text
-    before text_fault text (after_text text 88) (limit_of first 255) is_target
+    before text_fault text (after_text text 88) (limit_of first KEY_ID_LIMIT) is_target
     before end_fault text first (after_text text (after_text text 88))
 
 -- all fields before the texts

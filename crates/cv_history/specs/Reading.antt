@@ -4,6 +4,7 @@ use Rattle.std.specs.Int.{w64, to_be_bytes}
 use Rattle.std.specs.List.{concat, list_all}
 use Rattle.cv_base.specs.Path.{IsPath, text_of}
 use Rattle.cv_base.specs.Target.{is_target}
+use Rattle.cv_base.specs.declared.limits.TheConstants.{KEY_ID_LIMIT, LAST_REVISION, LAST_TIME, TAG_LIMIT}
 use Rattle.cv_base.specs.declared.token.Token.{Token}
 use Rattle.cv_history.specs.Record.{no_hash, is_tag_byte}
 use Rattle.cv_history.specs.Faults.{part, u16_at, u64_at, text_fault, limit_of}
@@ -46,7 +47,7 @@ pub record HasStart (text : List ℕ) (number : ℕ) : Type 0 where
   pub revision : u64_at text 4 ≡ number
   pub fits : 12 ≤ length text
   pub from_one : 1 ≤ number
-  pub limit : number ≤ 262144
+  pub limit : number ≤ LAST_REVISION
 
 -- the hashes
 pub record HasHashes (text : List ℕ) (first : Bool) (a b c : List ℕ) : Type 0 where
@@ -76,8 +77,8 @@ pub record HasFront (text : List ℕ) (front : Front) : Type 0 where
 -- the time, the tag and the end
 pub record HasEnd (text : List ℕ) (first : Bool) (at moment : ℕ) (name : List ℕ) : Type 0 where
   pub time : u64_at text at ≡ moment
-  pub early : moment < 2 ^ 62
-  pub tag : HasText text (at + 8) (limit_of first 255) name
+  pub early : moment ≤ LAST_TIME
+  pub tag : HasText text (at + 8) (limit_of first TAG_LIMIT) name
   pub target : is_target name ≡ true
   pub tag_bytes : list_all is_tag_byte name ≡ true
   pub end : length text ≡ at + 8 + 2 + length name
@@ -86,7 +87,7 @@ pub record HasEnd (text : List ℕ) (first : Bool) (at moment : ℕ) (name : Lis
 pub record HasTexts (text : List ℕ) (first : Bool) (r : Record) : Type 0 where
   pub path : HasText text 88 (limit_of first 4095) (text_of r.path)
   pub is_path : IsPath r.path
-  pub key : HasText text (90 + length (text_of r.path)) (limit_of first 255) r.key
+  pub key : HasText text (90 + length (text_of r.path)) (limit_of first KEY_ID_LIMIT) r.key
   pub target : is_target r.key ≡ true
   pub end : HasEnd text first (90 + length (text_of r.path) + 2 + length r.key) r.time r.tag
 

@@ -1,11 +1,13 @@
 -- A record of the history, and its bytes.
-use Rattle.std.specs.Prelude.{◌≡◌, ◌≤◌, ◌<◌, ◌^◌, ℕ, Bool, true, nat_le, List, [], ◌∷◌, length, codes, replicate}
+use Rattle.std.specs.Prelude.{◌≡◌, ◌≤◌, ◌<◌, ◌^◌, ℕ, true, List, [], ◌∷◌, length, codes, replicate}
 use Rattle.std.specs.Int.{w16, w64, to_be_bytes}
 use Rattle.std.specs.List.{concat, list_all}
 use Rattle.cv_base.specs.Digest.{IsDigest}
 use Rattle.cv_base.specs.Path.{IsPath, text_of}
 use Rattle.cv_base.specs.Target.{is_target}
+use Rattle.cv_base.specs.declared.limits.TheConstants.{KEY_ID_LIMIT, LAST_REVISION, LAST_TIME, TAG_LIMIT}
 use Rattle.cv_history.specs.declared.record.Record.{Record}
+pub use Rattle.cv_base.specs.Tag.{is_tag_byte}
 
 -- the bytes of a record, field by field: numbers with the highest byte first, and each text behind its length
 abbrev pub fields : Record → List (List ℕ)
@@ -25,10 +27,6 @@ record_bytes r = concat (fields r)
 abbrev pub no_hash : List ℕ
 no_hash = replicate 20 0
 
--- a byte of a tag, which is no control byte
-abbrev pub is_tag_byte : ℕ → Bool
-is_tag_byte b = nat_le 32 b
-
 -- the first record has no predecessor, and no lease led to it
 pub record IsFirst (r : Record) : Type 0 where
   pub previous : r.previous ≡ no_hash
@@ -42,10 +40,10 @@ pub record IsFirst (r : Record) : Type 0 where
 -- the limits of a record
 pub record IsRecord (r : Record) : Type 0 where
   pub from_one : 1 ≤ r.revision
-  pub revision : r.revision ≤ 262144
-  pub key : length r.key ≤ 255
-  pub time : r.time < 2 ^ 62
-  pub tag : length r.tag ≤ 255
+  pub revision : r.revision ≤ LAST_REVISION
+  pub key : length r.key ≤ KEY_ID_LIMIT
+  pub time : r.time ≤ LAST_TIME
+  pub tag : length r.tag ≤ TAG_LIMIT
   pub tag_bytes : list_all is_tag_byte r.tag ≡ true
   pub first : r.revision ≡ 1 → IsFirst r
 

@@ -1,6 +1,8 @@
 //! Why there is no chain of records.
+ghost use Rattle.std.specs.Prelude.{◌≡◌};
+ghost use Rattle.cv_history.specs.declared.chain_fault.ChainFault.TheVariants as fault;
 
-use cv_base::ObjectId;
+use cv_base::{NoMemory, ObjectId};
 
 /// Why a chain of records wasn't given. What it says of an id is the first that isn't so, from the last record back.
 #[derive(Clone, Copy, Debug, PartialEq, Eq)]
@@ -29,4 +31,12 @@ pub enum ChainFault {
     },
     /// There was no memory.
     NoMemory,
+}
+
+impl From<NoMemory> for ChainFault {
+    ghost from_gives = { λ _ e. e ≡ fault.NoMemory };
+
+    fn from(_fault: NoMemory) -> ChainFault {
+        ChainFault::NoMemory
+    }
 }

@@ -5,10 +5,7 @@ ghost use Rattle.cv_history.specs.Reading.{Judges, HasStart, HasHashes, HasToken
 
 use crate::fields::{hash_at, part_at, u64_at};
 use crate::record_fault::RecordFault;
-use cv_base::Token;
-
-/// The last revision.
-const LAST_REVISION: u64 = 262_144;
+use cv_base::{LAST_REVISION, Token};
 
 /// The fields of fixed size at the front of a record.
 #[derive(Clone, Copy)]

@@ -1,5 +1,5 @@
 //! Laws of records and their chains.
-ghost use Rattle.std.specs.Prelude.{◌≡◌, ◌+◌, ℕ, List, length};
+ghost use Rattle.std.specs.Prelude.{◌≡◌, ℕ, List};
 ghost use Rattle.cv_base.specs.declared.id.ObjectId.{ObjectId};
 ghost use Rattle.cv_ports.specs.Shelf.{Shelf};
 ghost use Rattle.cv_history.specs.Record.{Spells};

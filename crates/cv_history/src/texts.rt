@@ -4,21 +4,15 @@ ghost use Rattle.std.specs.List.{list_all};
 ghost use Rattle.cv_base.specs.Path.{IsPath, text_of};
 ghost use Rattle.cv_base.specs.Target.{is_target};
 ghost use Rattle.cv_history.specs.Record.{is_tag_byte};
-ghost use Rattle.cv_history.specs.Faults.{is_path_text, is_tag, limit_of, end_fault, texts_fault};
+ghost use Rattle.cv_history.specs.Faults.{is_path_text, is_tag_text, limit_of, end_fault, texts_fault};
 ghost use Rattle.cv_history.specs.Reading.{Judges, HasEnd, HasTexts, front_of};
 
 use crate::fields::{text_at, u64_at};
 use crate::front::Front;
 use crate::record::Record;
 use crate::record_fault::RecordFault;
-use cv_base::{PATH_LIMIT, RepoPath, Target};
+use cv_base::{KEY_ID_LIMIT, LAST_TIME, PATH_LIMIT, RepoPath, TAG_LIMIT, Target};
 use std::alloc::Global;
-
-/// The most bytes of a key's id, and of a tag.
-const TEXT_LIMIT: usize = 255;
-
-/// The first moment that no record has.
-const TIME_LIMIT: u64 = 1 << 62;
 
 /// The most bytes of a text, of which the first record has none.
 fn limit_of(first: bool, limit: usize) -> usize
@@ -52,7 +46,7 @@ fn are_tag_bytes(bytes: &[u8]) -> bool
 
 /// The tag at an offset, which has no control bytes.
 fn read_tag(alloc: Global, bytes: &[u8], at: usize) -> Result<Target, RecordFault>
-    ensures judged { Judges (if is_tag bytes.now then None else Some at) result }
+    ensures judged { Judges (if is_tag_text bytes.now then None else Some at) result }
     ensures value { IfOk result (λ tag. tag ≡ bytes.now) }
 {
     let tag = read_target(alloc, bytes, at)?;
@@ -75,11 +69,11 @@ fn read_end(
     ensures value { IfOk result (λ end. HasEnd bytes.now first at end.0 end.1) }
 {
     let time = u64_at(bytes, at)?;
-    if time >= TIME_LIMIT {
+    if time > LAST_TIME {
         return Err(RecordFault::BadRecord(at));
     }
     let tag_at = at + 8;
-    let text = text_at(bytes, tag_at, limit_of(first, TEXT_LIMIT))?;
+    let text = text_at(bytes, tag_at, limit_of(first, TAG_LIMIT))?;
     let tag = read_tag(alloc, text, tag_at + 2)?;
     let end = tag_at + 2 + text.len();
     if end < bytes.len() {
@@ -107,7 +101,7 @@ pub fn read_texts(alloc: Global, bytes: &[u8], front: Front) -> Result<Record, R
     let path_text = text_at(bytes, 88, limit_of(first, PATH_LIMIT))?;
     let path = read_path(alloc, path_text, 90)?;
     let key_at = 90 + path_text.len();
-    let key_text = text_at(bytes, key_at, limit_of(first, TEXT_LIMIT))?;
+    let key_text = text_at(bytes, key_at, limit_of(first, KEY_ID_LIMIT))?;
     let key = read_target(alloc, key_text, key_at + 2)?;
     let (time, tag) = read_end(alloc, bytes, first, key_at + 2 + key_text.len())?;
     Ok(Record {

@@ -1,5 +1,5 @@
 -- A reply where more bytes stand behind it.
-use Rattle.std.proofs.Common.{◌≡◌, ◌<◌, ◌++◌, ℕ, List, [], length, length-append, append_assoc, append-nil, ap, ◌∙◌, arith}
+use Rattle.std.proofs.Common.{◌≡◌, ◌++◌, ℕ, List, [], length, length-append, append_assoc, append-nil, ap, ◌∙◌, arith}
 use Rattle.std.specs.Prelude.{⊤, Option, Some, None}
 use Rattle.cv_http.specs.ReplyTexts.{IsBody, IsTooLarge, IsReply, IsRefusedReply, bad_head, many, too_large}
 use Rattle.cv_http.specs.declared.http_reply.HttpReply.{HttpReply}

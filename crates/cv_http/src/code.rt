@@ -2,6 +2,12 @@
 ghost use Rattle.std.specs.Prelude.{◌≡◌};
 ghost use Rattle.cv_http.specs.Replies.{status_of, text_of};
 
+/// The code of a reply that has what was asked for (RFC 9110, section 15.3.1).
+pub const OK: u16 = 200;
+
+/// The code of a reply that there is none (RFC 9110, section 15.5.5).
+pub const NOT_FOUND: u16 = 404;
+
 /// The status code of a reply (RFC 9110, section 15).
 #[derive(Clone, Copy, Debug, PartialEq, Eq)]
 pub enum Code {

@@ -1,4 +1,8 @@
 //! Why no request or reply was read.
+ghost use Rattle.std.specs.Prelude.{◌≡◌};
+ghost use Rattle.cv_http.specs.declared.fault.HttpFault.TheVariants as faults;
+
+use cv_base::NoMemory;
 
 /// Why a head, a body or a reply wasn't read.
 #[derive(Clone, Copy, Debug, PartialEq, Eq)]
@@ -21,4 +25,12 @@ pub enum HttpFault {
     ReadFault,
     /// There was no memory.
     NoMemory,
+}
+
+impl From<NoMemory> for HttpFault {
+    ghost from_gives = { λ _ e. e ≡ faults.NoMemory };
+
+    fn from(_fault: NoMemory) -> HttpFault {
+        HttpFault::NoMemory
+    }
 }

@@ -1,5 +1,5 @@
 //! What bytes begin.
-ghost use Rattle.std.specs.Prelude.{◌≡◌, ◌≤◌, ℕ, List, length, IfOk, IfSome};
+ghost use Rattle.std.specs.Prelude.{◌≤◌, length, IfOk, IfSome};
 ghost use Rattle.cv_http.specs.Forms.{Form, EndsEmpty, head_limit};
 ghost use Rattle.cv_http.specs.Faults.{IsRefusal};
 ghost use Rattle.cv_http.specs.Judgements.{Judges};

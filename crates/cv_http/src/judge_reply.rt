@@ -1,7 +1,7 @@
 //! What bytes begin, where replies are read.
-ghost use Rattle.std.specs.Prelude.{◌≡◌, ◌≤◌, length, IfOk};
+ghost use Rattle.std.specs.Prelude.{length, IfOk};
 ghost use Rattle.httparse.specs.Grammar.{ResponseHead as ParsedReply};
-ghost use Rattle.httparse.specs.Spans.{IsResponseWithin, IsResponseOf, IsResponseAt};
+ghost use Rattle.httparse.specs.Spans.{IsResponseWithin, IsResponseAt};
 ghost use Rattle.cv_http.specs.ReplyHeads.{fault_of_reply, reply_head_of, reply_form};
 ghost use Rattle.cv_http.specs.Judgements.{JudgesWhole, Judges};
 ghost use Rattle.cv_http.specs.HeadLaws.{reply_ends, reply_refusal};

@@ -1,5 +1,5 @@
 //! What bytes begin, where requests are read.
-ghost use Rattle.std.specs.Prelude.{◌≡◌, ◌≤◌, length, IfOk};
+ghost use Rattle.std.specs.Prelude.{◌≡◌, IfOk};
 ghost use Rattle.httparse.specs.Grammar.{RequestHead as ParsedHead};
 ghost use Rattle.httparse.specs.Spans.{IsRequestWithin, IsRequestOf, IsRequestAt};
 ghost use Rattle.cv_http.specs.Heads.{parts_of, fault_of, read_parts, request_form};

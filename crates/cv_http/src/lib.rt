@@ -24,7 +24,7 @@ mod verb;
 mod wire;
 
 pub use body_kind::BodyKind;
-pub use code::Code;
+pub use code::{Code, NOT_FOUND, OK};
 pub use fault::HttpFault;
 pub use head::RequestHead;
 pub use http_reply::HttpReply;

@@ -3,11 +3,12 @@ ghost use Rattle.std.specs.Prelude.{◌≡◌, ◌≢◌, ◌++◌, OnOk, OnErr,
 ghost use Rattle.cv_base.specs.Counts.{HasCause};
 ghost use Rattle.cv_ports.specs.Streams.{onto, Wrote};
 ghost use Rattle.cv_http.specs.Requests.{field_line, authorization_line, message_size_line, request_line, request_head, request_text};
-ghost use Rattle.cv_http.specs.declared.reply.SendFault.TheVariants.{WriteFault, NoMemory};
+ghost use Rattle.cv_http.specs.declared.reply.SendFault.TheVariants as send_fault;
+ghost use Rattle.cv_http.specs.declared.reply.SendFault.TheVariants.{WriteFault};
 
 use crate::reply::{SendFault, send_parts};
 use crate::verb::Verb;
-use cv_base::{Bytes, Text};
+use cv_base::{Bytes, NoMemory, Text};
 use cv_ports::{Failed, Sink};
 use std::alloc::{AllocError, Global};
 
@@ -83,7 +84,7 @@ fn request_line(alloc: Global, verb: Verb, target: &str) -> Result<String, Alloc
 }
 
 #[tactic(auto, unfolding(crate::specs::Requests::request_head))]
-fn head_text(alloc: Global, request: &Outgoing) -> Result<String, AllocError>
+fn head_text(alloc: Global, request: &Outgoing) -> Result<String, NoMemory>
     ensures { IfOk result (λ text. string_bytes text ≡ request_head request.now) }
 {
     let length = request.body.as_slice().len() as u64;
@@ -106,14 +107,12 @@ pub fn write_request<W: Sink>(
 ) -> Result<(), SendFault>
     ensures whole { OnOk result (W.taken sink.new ≡ onto (W.taken sink.old) (request_text request.now)) }
     ensures part { Wrote (W.taken sink.old) (W.taken sink.new) (request_text request.now) }
-    ensures nothing { result ≡ Err NoMemory → W.taken sink.new ≡ W.taken sink.old }
+    ensures nothing { result ≡ Err send_fault.NoMemory → W.taken sink.new ≡ W.taken sink.old }
     ensures flushed { result ≢ Err WriteFault → W.passed sink.old ≡ W.taken sink.old → W.passed sink.new ≡ W.taken sink.new }
     ensures held { OnErr result (W.passed sink.new ≡ W.passed sink.old) }
     ensures cause { HasCause (W.faults sink.old) (W.faults sink.new) (result ≡ Err WriteFault) }
 {
-    let Ok(head) = head_text(alloc, request) else {
-        return Err(SendFault::NoMemory);
-    };
+    let head = head_text(alloc, request)?;
     match send_parts(sink, head.as_bytes(), request.body.as_slice()) {
         Ok(()) => Ok(()),
         Err(Failed) => Err(SendFault::WriteFault),

@@ -1,14 +1,16 @@
 //! Replies.
-ghost use Rattle.std.specs.Prelude.{◌≡◌, ◌≢◌, ◌++◌, ℕ, List, length, OnOk, OnErr, IfOk, IsErr, Bool, string_bytes};
+ghost use Rattle.std.specs.Prelude.{◌≡◌, ◌≢◌, ◌++◌, OnOk, OnErr, IfOk, IsErr, string_bytes};
 ghost use Rattle.cv_base.specs.Counts.{HasCause};
 ghost use Rattle.cv_ports.specs.Streams.{onto, Wrote};
 ghost use Rattle.cv_http.specs.Replies.{close_line, reply_head, reply, continue_line};
-ghost use Rattle.cv_http.specs.declared.reply.SendFault.TheVariants.{WriteFault, NoMemory};
+ghost use Rattle.cv_http.specs.declared.reply.SendFault.TheVariants as send_fault;
+ghost use Rattle.cv_http.specs.declared.reply.SendFault.TheVariants.{WriteFault};
 
 use crate::body_kind::BodyKind;
 use crate::code::Code;
+use cv_base::NoMemory;
 use cv_ports::{Failed, Sink, write_all};
-use std::alloc::{AllocError, Global};
+use std::alloc::Global;
 
 /// Why a reply or a request wasn't written whole.
 #[derive(Clone, Copy, Debug, PartialEq, Eq)]
@@ -17,6 +19,14 @@ pub enum SendFault {
     WriteFault,
     /// There was no memory for the head. Nothing was written.
     NoMemory,
+}
+
+impl From<NoMemory> for SendFault {
+    ghost from_gives = { λ _ e. e ≡ send_fault.NoMemory };
+
+    fn from(_fault: NoMemory) -> SendFault {
+        SendFault::NoMemory
+    }
 }
 
 fn close_line(last: bool) -> &'static str
@@ -32,7 +42,7 @@ fn head_text(
     kind: BodyKind,
     size: usize,
     last: bool,
-) -> Result<String, AllocError>
+) -> Result<String, NoMemory>
     ensures { IfOk result (λ text. string_bytes text ≡ reply_head code kind size last) }
 {
     let size = size.to_string(alloc)?;
@@ -75,13 +85,11 @@ pub fn write_reply<W: Sink>(
 ) -> Result<(), SendFault>
     ensures whole { OnOk result (W.taken sink.new ≡ onto (W.taken sink.old) (reply code kind last body.now)) }
     ensures part { Wrote (W.taken sink.old) (W.taken sink.new) (reply code kind last body.now) }
-    ensures nothing { result ≡ Err NoMemory → W.taken sink.new ≡ W.taken sink.old }
+    ensures nothing { result ≡ Err send_fault.NoMemory → W.taken sink.new ≡ W.taken sink.old }
     ensures flushed { result ≢ Err WriteFault → W.passed sink.old ≡ W.taken sink.old → W.passed sink.new ≡ W.taken sink.new }
     ensures cause { HasCause (W.faults sink.old) (W.faults sink.new) (result ≡ Err WriteFault) }
 {
-    let Ok(head) = head_text(alloc, code, kind, body.len(), last) else {
-        return Err(SendFault::NoMemory);
-    };
+    let head = head_text(alloc, code, kind, body.len(), last)?;
     match send_parts(sink, head.as_bytes(), body) {
         Ok(()) => Ok(()),
         Err(Failed) => Err(SendFault::WriteFault),

@@ -1,5 +1,5 @@
 //! Requests and replies on a stream.
-ghost use Rattle.std.specs.Prelude.{◌≡◌, ◌≢◌, ◌≤◌, ◌<◌, ◌+◌, ◌++◌, ◌⊎◌, ℕ, List, Some, None, Ok, Err, [], length, drop, true, false, min, OnOk, OnErr, IfOk, IfSome, IfErr};
+ghost use Rattle.std.specs.Prelude.{◌≡◌, ◌≢◌, ◌≤◌, ◌<◌, ◌+◌, ◌++◌, ◌⊎◌, Some, None, Ok, Err, [], length, drop, true, false, min, OnOk, OnErr, IfOk, IfErr};
 ghost use Rattle.cv_base.specs.Counts.{HasCause};
 ghost use Rattle.cv_base.specs.Told.{WhereTold};
 ghost use Rattle.cv_ports.specs.Streams.{Look, front};
@@ -10,7 +10,7 @@ ghost use Rattle.cv_http.specs.Wires.{WireView, rest, Gets, Reads, Draws, Looks,
 ghost use Rattle.cv_http.specs.ReplyTexts.{IsOpen, IsAwaitedReply, FinalRead, ReplyBodyRead, ReplyRead};
 ghost use Rattle.cv_http.specs.Judgements.{Judges};
 ghost use Rattle.cv_http.specs.Faults.{IsHeadFault, IsBodyFault, IsPieceFault, IsReplyFault};
-ghost use Rattle.cv_http.specs.declared.fault.HttpFault.TheVariants.{Short, ReadFault, NoMemory as MemoryFault};
+ghost use Rattle.cv_http.specs.declared.fault.HttpFault.TheVariants.{Short, ReadFault};
 
 use crate::fault::HttpFault;
 use crate::head::RequestHead;
@@ -178,10 +178,7 @@ impl<R: Source + Drop> Wire<R> {
         ensures found { HeadFound H.form (UnfinishedAs H.form) self.old.held self.new.held result }
         ensures source { self.new.source ≡ self.old.source }
     {
-        let Ok(judged) = self.judge_held(alloc) else {
-            return Err(HttpFault::NoMemory);
-        };
-        match judged {
+        match self.judge_held(alloc)? {
             Judged::Whole { head, size } => {
                 self.skip(size);
                 Ok(Some(head))

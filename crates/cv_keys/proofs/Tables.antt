@@ -8,11 +8,12 @@ use Rattle.std.proofs.lemmas.List.Folds.{list_any-append, list_all-append, find_
 use Rattle.std.proofs.lemmas.Option.{slice_get_past}
 use Rattle.std.proofs.lemmas.Slice.Eq.{bytes_eq-Decides}
 use Rattle.std.proofs.lemmas.Iterator.Adapters.{position_from-zero}
+use Rattle.cv_base.specs.Sequence.{◌>>=◌}
 use Rattle.cv_base.proofs.Laws.{first_true, second_true}
 use Rattle.serde_json.specs.Data.{Data}
 use Rattle.serde_json.specs.Find.{get, as_str, as_object}
 use Rattle.cv_keys.specs.Key.{is_key_id, is_secret, has_id, is_distinct, key_of, place_of, IsTable}
-use Rattle.cv_keys.specs.KeysText.{and_then, tested_text, member_text, key_in, new_key, keys_behind, array_keys}
+use Rattle.cv_keys.specs.KeysText.{tested_text, member_text, key_in, new_key, keys_behind, array_keys}
 use Rattle.cv_keys.specs.declared.key.Key.{Key}
 use Rattle.cv_keys.specs.declared.key_fault.KeyFault.{KeyFault}
 use Rattle.cv_keys.specs.declared.key_fault.KeyFault.TheVariants.{WrongType, BadValue, Repeated, TooMany, NoKey}
@@ -107,7 +108,7 @@ record Bound {A B : Type 0} (r : Result A KeyFault) (next : A → Result B KeyFa
   part : r ≡ Ok value
   rest : next value ≡ Ok y
 
-bound : {A B : Type 0} (r : Result A KeyFault) (next : A → Result B KeyFault) (y : B) → and_then r next ≡ Ok y → Bound r next y
+bound : {A B : Type 0} (r : Result A KeyFault) (next : A → Result B KeyFault) (y : B) → (r >>= next) ≡ Ok y → Bound r next y
 bound (Ok x) next y h = record { value = x; part = refl; rest = h }
 bound (Err fault) next y h = cc
 
@@ -119,8 +120,8 @@ id_in (Err fault) other = other
 key_in-Ok : (place : ℕ) (d : Data) (key : Key) → key_in place d ≡ Ok key → is_key_id key.id ≡ true
 key_in-Ok place d key h =
     let made : List ℕ → List ℕ → Result Key KeyFault = λ id secret. Ok (record { id = id; secret = secret }) in
-    let after : List ℕ → Result Key KeyFault = λ id. and_then (member_text place is_secret (get (codes "secret") d)) (made id) in
-    elim (is_some (as_object d)) as (λ t. cond t (and_then (member_text place is_key_id (get (codes "id") d)) after) (Err (WrongType place)) ≡ Ok key → is_key_id key.id ≡ true) [
+    let after : List ℕ → Result Key KeyFault = λ id. member_text place is_secret (get (codes "secret") d) >>= made id in
+    elim (is_some (as_object d)) as (λ t. cond t (member_text place is_key_id (get (codes "id") d) >>= after) (Err (WrongType place)) ≡ Ok key → is_key_id key.id ≡ true) [
       | true ↦ λ k.
           let id = bound (member_text place is_key_id (get (codes "id") d)) after key k in
           let secret = bound (member_text place is_secret (get (codes "secret") d)) (made id.value) key id.rest in

@@ -21,11 +21,11 @@ mac_of key message = encode_lower (hmac_sha1 key.secret message)
 abbrev pub header_of : Key → List ℕ → List ℕ
 header_of key message = key.id ++ 32 ∷ encode_of standard (mac_of key message)
 
--- the answer is this one, of a key its place in the table, or the call wanted memory
-abbrev pub IsUnlessMemory : List Key → Result KeyNo AuthFault → Result Key AuthFault → Type 0
-IsUnlessMemory keys (Ok place) answer = IsSomeAnd (slice_get keys place.0) (λ key. answer ≡ Ok key)
-IsUnlessMemory keys (Err NoMemory) answer = Unit {0}
-IsUnlessMemory keys (Err fault) answer = answer ≡ Err fault
+-- the call gives the place of the key that is the answer, or the answer's fault, unless it wanted memory
+abbrev pub IsPlaceOf : List Key → Result KeyNo AuthFault → Result Key AuthFault → Type 0
+IsPlaceOf keys (Ok place) answer = IsSomeAnd (slice_get keys place.0) (λ key. answer ≡ Ok key)
+IsPlaceOf keys (Err NoMemory) answer = Unit {0}
+IsPlaceOf keys (Err fault) answer = answer ≡ Err fault
 
 -- 40 bytes, where it is so many
 abbrev pub of_forty : Result (List ℕ) DecodeError → Option (List ℕ)

@@ -3,14 +3,7 @@ use Rattle.std.specs.Prelude.{ℕ, ◌≡◌, ◌≤◌, Bool, true, not, ◌&&�
 use Rattle.std.specs.List.{list_all, list_any, find}
 use Rattle.std.specs.Str.{bytes_eq}
 use Rattle.cv_keys.specs.declared.key.Key.{Key}
-
--- an ASCII character that is seen, so that no id has a space
-abbrev pub is_visible : ℕ → Bool
-is_visible b = nat_le 33 b && nat_le b 126
-
--- an id: 1 to 255 such characters
-abbrev pub is_key_id : List ℕ → Bool
-is_key_id id = nat_le 1 (length id) && nat_le (length id) 255 && list_all is_visible id
+pub use Rattle.cv_base.specs.KeyId.{is_visible, is_key_id}
 
 -- a secret: 1 to 255 bytes
 abbrev pub is_secret : List ℕ → Bool

@@ -1,7 +1,8 @@
 -- The keys text, and its first fault.
 use Rattle.std.specs.Prelude.{ℕ, ◌+◌, ◌==◌, Bool, nat_lt, List, [], ◌∷◌, ◌++◌, length, codes, Option, Some, None, is_some, Result, Ok, Err, if◌then◌else◌}
-use Rattle.serde_json.specs.Data.{Data, Items, no_items, item}
+use Rattle.serde_json.specs.Data.{Data, Items}
 use Rattle.serde_json.specs.Find.{get, as_str, as_array, as_object}
+use Rattle.cv_base.specs.Sequence.{◌>>=◌}
 use Rattle.cv_json.specs.Elements.{elements}
 use Rattle.cv_json.specs.ObjectText.{object_in}
 use Rattle.cv_keys.specs.Key.{is_key_id, is_secret, has_id}
@@ -13,11 +14,6 @@ use Rattle.cv_keys.specs.declared.key_fault.KeyFault.TheVariants.{NotJson, Missi
 abbrev pub IsSaid : KeyFault → Type 0 → Type 0
 IsSaid NoMemory said = Unit {0}
 IsSaid fault said = said
-
--- the first fault, or what follows
-abbrev pub and_then : {A B : Type 0} → Result A KeyFault → (A → Result B KeyFault) → Result B KeyFault
-and_then (Ok x) next = next x
-and_then (Err fault) next = Err fault
 
 -- a text that has to pass a test
 abbrev pub tested_text : ℕ → (List ℕ → Bool) → Option (List ℕ) → Result (List ℕ) KeyFault
@@ -33,19 +29,25 @@ member_text place test (Some d) = tested_text place test (as_str d)
 abbrev pub key_in : ℕ → Data → Result Key KeyFault
 key_in place d =
     if is_some (as_object d)
-    then and_then (member_text place is_key_id (get (codes "id") d)) (λ id.
-    and_then (member_text place is_secret (get (codes "secret") d)) (λ secret. Ok (record { id = id; secret = secret })))
+    then (
+    member_text place is_key_id (get (codes "id") d) >>= λ id.
+    member_text place is_secret (get (codes "secret") d) >>= λ secret.
+    Ok (record { id = id; secret = secret })
+    )
     else Err (WrongType place)
 
 -- the same behind other keys, none of which may have its id
 abbrev pub new_key : List Key → ℕ → Data → Result Key KeyFault
-new_key before place d = and_then (key_in place d) (λ key. if has_id before key.id then Err (Repeated place) else Ok key)
+new_key before place d =
+    key_in place d >>= λ key.
+    if has_id before key.id then Err (Repeated place) else Ok key
 
 -- the keys behind others, in order; faults name places from 1 on
 abbrev pub keys_behind : List Key → ℕ → List Data → Result (List Key) KeyFault
 keys_behind before place [] = Ok before
 keys_behind before place (d ∷ ds) =
-    and_then (new_key before place d) (λ key. keys_behind (before ++ key ∷ []) (place + 1) ds)
+    new_key before place d >>= λ key.
+    keys_behind (before ++ key ∷ []) (place + 1) ds
 
 -- the keys of an array, whose length is judged before them
 abbrev pub array_keys : List Data → Result (List Key) KeyFault

@@ -1,4 +1,8 @@
 //! Why an Authorization header is refused.
+ghost use Rattle.std.specs.Prelude.{◌≡◌};
+ghost use Rattle.cv_keys.specs.declared.auth_fault.AuthFault.TheVariants as faults;
+
+use cv_base::NoMemory;
 
 /// Why a header isn't that of a key for a message: the first cause that is so, in this order.
 #[derive(Clone, Copy, Debug, PartialEq, Eq)]
@@ -13,4 +17,12 @@ pub enum AuthFault {
     WrongMac,
     /// There was no memory.
     NoMemory,
+}
+
+impl From<NoMemory> for AuthFault {
+    ghost from_gives = { λ _ e. e ≡ faults.NoMemory };
+
+    fn from(_fault: NoMemory) -> AuthFault {
+        AuthFault::NoMemory
+    }
 }

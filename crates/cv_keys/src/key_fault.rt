@@ -1,4 +1,8 @@
 //! Why a keys text is refused.
+ghost use Rattle.std.specs.Prelude.{◌≡◌};
+ghost use Rattle.cv_keys.specs.declared.key_fault.KeyFault.TheVariants as faults;
+
+use cv_base::NoMemory;
 
 /// The first fault of a keys text. Numbers are places: 0 for the member `keys` itself, and from 1 on
 /// for its elements in order.
@@ -20,4 +24,12 @@ pub enum KeyFault {
     NoKey,
     /// There was no memory.
     NoMemory,
+}
+
+impl From<NoMemory> for KeyFault {
+    ghost from_gives = { λ _ e. e ≡ faults.NoMemory };
+
+    fn from(_fault: NoMemory) -> KeyFault {
+        KeyFault::NoMemory
+    }
 }

@@ -1,8 +1,8 @@
 //! The table of a gateway's keys.
-ghost use Rattle.std.specs.Prelude.{◌≡◌, ◌<◌, ℕ, List, true, Ok, Err, Some, None, length, slice_get, option_map, IfOk, IsSomeAnd, MatchResult, string_bytes};
+ghost use Rattle.std.specs.Prelude.{◌≡◌, ◌<◌, List, true, Ok, Err, Some, None, length, slice_get, option_map, IfOk, IsSomeAnd, MatchResult, string_bytes};
 ghost use Rattle.cv_keys.specs.Key.{is_key_id, place_of};
 ghost use Rattle.cv_keys.specs.KeysText.{IsSaid, keys_of};
-ghost use Rattle.cv_keys.specs.Header.{header_of, is_mac, decoded, checked, checked_parts, IsUnlessMemory};
+ghost use Rattle.cv_keys.specs.Header.{header_of, is_mac, decoded, checked, checked_parts, IsPlaceOf};
 
 use crate::auth_fault::AuthFault;
 use crate::key::Key;
@@ -42,10 +42,8 @@ impl KeyTable {
     pub fn read(alloc: Global, json: &[u8]) -> Result<KeyTable, KeyFault>
         ensures { MatchResult result (λ table. keys_of json.now ≡ Ok table) (λ fault. IsSaid fault (keys_of json.now ≡ Err fault)) }
     {
-        let value = match read_object(alloc, json) {
-            Ok(Some(value)) => value,
-            Ok(None) => return Err(KeyFault::NotJson),
-            Err(NoMemory) => return Err(KeyFault::NoMemory),
+        let Some(value) = read_object(alloc, json)? else {
+            return Err(KeyFault::NotJson);
         };
         let keys = read_keys(alloc, &value)?;
         Ok(KeyTable { keys })
@@ -87,7 +85,7 @@ impl KeyTable {
         header: Option<&str>,
         message: &[u8],
     ) -> Result<KeyNo, AuthFault>
-        ensures answer { IsUnlessMemory self.now result (checked self.now (option_map (λ text. text.now) header.entry) message.now) }
+        ensures answer { IsPlaceOf self.now result (checked self.now (option_map (λ text. text.now) header.entry) message.now) }
         ensures known { IfOk result (λ key. key.0 < length self.now) }
     {
         let Some(header) = header else {
@@ -107,13 +105,11 @@ impl KeyTable {
         code: &str,
         message: &[u8],
     ) -> Result<KeyNo, AuthFault>
-        ensures answer { IsUnlessMemory self.now result (checked_parts self.now id.now (decoded code.now) message.now) }
+        ensures answer { IsPlaceOf self.now result (checked_parts self.now id.now (decoded code.now) message.now) }
         ensures known { IfOk result (λ key. key.0 < length self.now) }
     {
-        let mac = match decode_mac(alloc, code.as_bytes()) {
-            Ok(Some(mac)) => mac,
-            Ok(None) => return Err(AuthFault::BadHeader),
-            Err(NoMemory) => return Err(AuthFault::NoMemory),
+        let Some(mac) = decode_mac(alloc, code.as_bytes())? else {
+            return Err(AuthFault::BadHeader);
         };
         let Some(place) = place_of(&self.keys, id) else {
             return Err(AuthFault::UnknownKey);

@@ -7,8 +7,6 @@ mod key_fault;
 mod key_no;
 mod key_table;
 mod read_keys;
-#[cfg(test)]
-mod tests;
 
 pub use auth_fault::AuthFault;
 pub use key::Key;

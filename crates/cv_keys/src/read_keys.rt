@@ -1,5 +1,5 @@
 //! Reading the keys text.
-ghost use Rattle.std.specs.Prelude.{◌≡◌, ◌+◌, ◌≤◌, ◌<◌, ◌^◌, ℕ, List, [], Bool, Ok, Err, Some, IfOk, codes, map, length, option_map, MatchResult, MatchOption};
+ghost use Rattle.std.specs.Prelude.{◌≡◌, ◌+◌, ◌≤◌, ◌<◌, [], Ok, Err, Some, IfOk, codes, map, length, MatchResult};
 ghost use Rattle.std.specs.List.{list_all};
 ghost use Rattle.serde_json.specs.Find.{get};
 ghost use Rattle.serde_json.specs.View.{view};
@@ -8,7 +8,7 @@ ghost use Rattle.cv_keys.specs.KeysText.{IsSaid, member_text, key_in, new_key, k
 
 use crate::key::Key;
 use crate::key_fault::KeyFault;
-use cv_base::{NoMemory, Text};
+use cv_base::{KEY_ID_LIMIT, Text};
 use serde_json::Value;
 use std::alloc::Global;
 
@@ -26,7 +26,7 @@ fn is_visible(text: &str) -> bool
 fn is_key_id(text: &str) -> bool
     ensures { result ≡ is_key_id text.now }
 {
-    !text.is_empty() && text.len() <= 255 && is_visible(text)
+    !text.is_empty() && text.len() <= KEY_ID_LIMIT && is_visible(text)
 }
 
 /// Whether a text is a secret.
@@ -82,10 +82,9 @@ fn read_key(alloc: Global, value: &Value, place: u32) -> Result<Key, KeyFault>
     }
     let id = read_id(value, place)?;
     let secret = read_secret(value, place)?;
-    match (Text::from_str(alloc, id), Text::from_str(alloc, secret)) {
-        (Ok(id), Ok(secret)) => Ok(Key { id, secret }),
-        _ => Err(KeyFault::NoMemory),
-    }
+    let id = Text::from_str(alloc, id)?;
+    let secret = Text::from_str(alloc, secret)?;
+    Ok(Key { id, secret })
 }
 
 /// Whether one of the keys has this id.

@@ -1,10 +1,11 @@
 -- A text says one thing.
-use Rattle.std.proofs.Common.{◌≡◌, ◌≢◌, ℕ, Bool, true, false, eqb, List, [], ◌∷◌, ◌++◌, length, Some, Result, Ok, Err, refl, sym, ap, subst, ◌∙◌, inl, inr, ◌⊎◌, arith, length-append}
+use Rattle.std.proofs.Common.{◌≡◌, ◌≢◌, ℕ, Bool, true, false, eqb, List, [], ◌∷◌, ◌++◌, length, Some, Result, Ok, Err, refl, sym, ap, subst, ◌∙◌, inl, inr, arith, length-append}
 use Rattle.std.specs.Prelude.{MatchResult, IfOk, IfErr, find}
 use Rattle.std.specs.List.{AllByRecursion}
 use Rattle.std.proofs.lemmas.Bool.{eq-eqb, cases_Bool}
 use Rattle.std.proofs.lemmas.Fmt.{decimal_injective}
 use Rattle.std.proofs.lemmas.Grind.{flat_map-append}
+use Rattle.cv_base.specs.Unless.{IsUnless}
 use Rattle.cv_manifest.specs.declared.field.Field.{Field}
 use Rattle.cv_manifest.specs.declared.field.Field.TheVariants.{Root, Size, RootKey, TimeToLive, Revision, Name, History, Time}
 use Rattle.cv_manifest.specs.declared.manifest.Manifest.{Manifest}
@@ -149,6 +150,6 @@ answer_fault is_seal text (Ok m) answers = tt
 answer_fault is_seal text (Err fault) answers = answers
 
 pub answer_found : (is_seal : Seals) (text : List ℕ) (result : Result Manifest ManifestFault) → Answers is_seal text result
-    → (m : Manifest) → Says is_seal text m → (result ≡ Ok m) ⊎ (result ≡ Err NoMemory)
-answer_found is_seal text (Ok found) answers m reads = inl (ap (λ (x : Manifest). Ok x) (one_reading is_seal text found m answers reads))
-answer_found is_seal text (Err fault) answers m reads = inr (ap (λ (f : ManifestFault). Err f) (no_fault is_seal text m reads fault answers))
+    → (m : Manifest) → Says is_seal text m → IsUnless NoMemory result (Ok m)
+answer_found is_seal text (Ok found) answers m reads = ap (λ (x : Manifest). Ok x) (one_reading is_seal text found m answers reads)
+answer_found is_seal text (Err fault) answers m reads = inl (no_fault is_seal text m reads fault answers)

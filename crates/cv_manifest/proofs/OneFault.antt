@@ -3,6 +3,7 @@ use Rattle.std.proofs.Common.{◌≡◌, ◌≢◌, ℕ, ◌+◌, ◌<◌, true,
 use Rattle.std.specs.List.{AllByRecursion}
 use Rattle.std.proofs.lemmas.Grind.{flat_map-append}
 use Rattle.hex.specs.Hex.{encode_lower}
+use Rattle.cv_base.specs.Unless.{IsUnless}
 use Rattle.cv_manifest.specs.declared.field.Field.{Field}
 use Rattle.cv_manifest.specs.declared.manifest.Manifest.{Manifest}
 use Rattle.cv_manifest.specs.declared.manifest_fault.ManifestFault.{ManifestFault}
@@ -219,9 +220,9 @@ memory_or BadSeal = inr (λ e. cc)
 memory_or NoMemory = inl refl
 
 pub answer_refused : (is_seal : Seals) (text : List ℕ) (result : Result Manifest ManifestFault) → Answers is_seal text result
-    → (fault : ManifestFault) → Shows is_seal text fault → fault ≢ NoMemory → (result ≡ Err fault) ⊎ (result ≡ Err NoMemory)
+    → (fault : ManifestFault) → Shows is_seal text fault → fault ≢ NoMemory → IsUnless NoMemory result (Err fault)
 answer_refused is_seal text (Ok m) answers fault shows other = absurd (other (no_fault is_seal text m answers fault shows))
 answer_refused is_seal text (Err own) answers fault shows other = elim (memory_or own) [
-  | inl is ↦ inr (ap (λ (f : ManifestFault). Err f) is)
-  | inr own-other ↦ inl (ap (λ (f : ManifestFault). Err f) (one_fault is_seal text own fault own-other other answers shows))
+  | inl is ↦ inl is
+  | inr own-other ↦ inr (ap (λ (f : ManifestFault). Err f) (one_fault is_seal text own fault own-other other answers shows))
 ]

@@ -6,6 +6,7 @@ use Rattle.std.proofs.lemmas.Bool.{cases_Bool, eqb-true}
 use Rattle.std.proofs.lemmas.Fmt.{decimal_injective}
 use Rattle.sha1.specs.Sha1.{sha1}
 use Rattle.hex.specs.Hex.{encode_lower}
+use Rattle.cv_base.specs.declared.limits.TheConstants.{LAST_TIME}
 use Rattle.cv_manifest.specs.declared.field.Field.{Field}
 use Rattle.cv_manifest.specs.declared.field.Field.TheVariants.{Revision, Name, Time}
 use Rattle.cv_manifest.specs.declared.fields.Fields.{Fields}
@@ -73,7 +74,7 @@ revision_good revision small (n, least, most, is) =
     let same : revision ≡ n = decimal_injective revision n small (omega arith) is in
     omega arith
 
-time_good : (time : ℕ) → time < 2 ^ 64 → IsValue Time (decimal time) → time < 2 ^ 62
+time_good : (time : ℕ) → time < 2 ^ 64 → IsValue Time (decimal time) → time ≤ LAST_TIME
 time_good time small (n, least, most, is) =
     let same : time ≡ n = decimal_injective time n small (omega arith) is in
     omega arith

@@ -3,6 +3,7 @@ use Rattle.std.specs.Prelude.{◌≡◌, ℕ, ◌≤◌, ◌-◌, ◌^◌, ◌==
 use Rattle.hex.specs.Hex.{encode_lower}
 use Rattle.cv_base.specs.Digest.{IsDigest}
 use Rattle.cv_base.specs.Name.{is_name}
+use Rattle.cv_base.specs.declared.limits.TheConstants.{LAST_TIME}
 use Rattle.cv_manifest.specs.declared.field.Field.{Field}
 use Rattle.cv_manifest.specs.declared.field.Field.TheVariants.{Root, Size, RootKey, TimeToLive, Revision, Name, History, Time}
 
@@ -46,4 +47,4 @@ IsValue TimeToLive value = NamesNumber 0 (2 ^ 64 - 1) value
 IsValue Revision value = NamesNumber 1 (2 ^ 64 - 1) value
 IsValue Name value = IsTrue (is_name value)
 IsValue History value = NamesDigest value
-IsValue Time value = NamesNumber 0 (2 ^ 62 - 1) value
+IsValue Time value = NamesNumber 0 LAST_TIME value

@@ -5,6 +5,7 @@ use Rattle.sha1.specs.Sha1.{sha1}
 use Rattle.hex.specs.Hex.{encode_lower}
 use Rattle.cv_base.specs.Digest.{IsDigest}
 use Rattle.cv_base.specs.Name.{is_name}
+use Rattle.cv_base.specs.declared.limits.TheConstants.{LAST_TIME}
 use Rattle.cv_manifest.specs.declared.field.Field.{Field}
 use Rattle.cv_manifest.specs.declared.field.Field.TheVariants.{Root, Size, RootKey, TimeToLive, Revision, Name, History, Time}
 use Rattle.cv_manifest.specs.declared.head.Head.{Head}
@@ -12,6 +13,10 @@ use Rattle.cv_manifest.specs.declared.manifest.Manifest.{Manifest}
 use Rattle.cv_manifest.specs.Field.{letter_of, all_fields, root_key}
 use Rattle.cv_manifest.specs.Lines.{ended, values}
 use Rattle.cv_manifest.specs.Parts.{Parts, HasParts, IsSealed}
+
+-- the name under which a repository publishes its manifest
+abbrev pub manifest_name : List ℕ
+manifest_name = codes ".cvmfspublished"
 
 -- the manifest of this name, time to live and head
 abbrev pub manifest : List ℕ → ℕ → Head → Manifest
@@ -42,12 +47,12 @@ pub record IsManifest (m : Manifest) : Type 0 where
   pub in_range : InRange m
   pub revision : 1 ≤ m.head.revision
   pub name : IsTrue (is_name m.name)
-  pub time : m.head.time < 2 ^ 62
+  pub time : m.head.time ≤ LAST_TIME
 
 -- the head can be written
 pub record IsHead (head : Head) : Type 0 where
   pub revision : 1 ≤ head.revision
-  pub time : head.time < 2 ^ 62
+  pub time : head.time ≤ LAST_TIME
 
 -- the lines that are written: one for each field
 abbrev pub lines_of : Manifest → List (List ℕ)

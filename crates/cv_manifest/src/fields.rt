@@ -10,11 +10,8 @@ use crate::line::split_line;
 use crate::manifest::Manifest;
 use crate::manifest_fault::ManifestFault;
 use crate::values::{read_hash, read_name, read_number, read_root_key};
-use cv_base::{Name, NoMemory};
+use cv_base::{LAST_TIME, Name};
 use std::alloc::Global;
-
-/// The last moment.
-const LAST_TIME: u64 = (1 << 62) - 1;
 
 /// The fields of a manifest that were read so far.
 #[derive(Drop)]
@@ -96,10 +93,10 @@ impl Fields {
                 field,
                 line,
             ),
-            Field::Name => match read_name(alloc, value) {
-                Ok(name) => put(&mut self.name, name, field, line),
-                Err(NoMemory) => Err(ManifestFault::NoMemory),
-            },
+            Field::Name => {
+                let name = read_name(alloc, value)?;
+                put(&mut self.name, name, field, line)
+            }
             Field::History => put(&mut self.history, read_hash(value), field, line),
             Field::Time => put(
                 &mut self.time,

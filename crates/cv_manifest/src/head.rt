@@ -11,6 +11,6 @@ pub struct Head {
     pub size: u64,
     /// The SHA-1 of the revision's record of the history.
     pub history: [u8; 20],
-    /// The moment of publication in Unix seconds, below 2^62.
+    /// The moment of publication in Unix seconds, at most `LAST_TIME`.
     pub time: u64,
 }

@@ -14,5 +14,5 @@ mod tests;
 mod values;
 
 pub use head::Head;
-pub use manifest::Manifest;
+pub use manifest::{MANIFEST_NAME, Manifest, TIME_TO_LIVE};
 pub use manifest_fault::ManifestFault;

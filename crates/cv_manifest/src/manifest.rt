@@ -1,6 +1,8 @@
 //! The manifest.
-ghost use Rattle.std.specs.Prelude.{◌≡◌, ◌≢◌, ◌≤◌, ◌<◌, ◌^◌, ◌⊎◌, ℕ, List, Ok, Err, IfOk, IfErr, IsTrue, MatchResult, OnOk, string_bytes};
+ghost use Rattle.std.specs.Prelude.{◌≡◌, ◌≢◌, ◌≤◌, ℕ, List, Ok, Err, IfOk, IfErr, IsTrue, MatchResult, OnOk, string_bytes};
 ghost use Rattle.cv_base.specs.Name.{is_name};
+ghost use Rattle.cv_base.specs.Unless.{IsUnless};
+ghost use Rattle.cv_base.specs.declared.limits.TheConstants.{LAST_TIME};
 ghost use Rattle.cv_manifest.specs.Split.{IsSplit};
 ghost use Rattle.cv_manifest.specs.Lines.{ended};
 ghost use Rattle.cv_manifest.specs.Manifest.{manifest, InRange, lines_of, sealed_text, Says};
@@ -16,6 +18,12 @@ use cv_base::{Name, NoMemory, digest_digits, digest_text};
 use cv_seal::Signer;
 use sha1::Sha1;
 use std::alloc::Global;
+
+/// The name under which a repository publishes its manifest.
+pub const MANIFEST_NAME: &str = ".cvmfspublished";
+
+/// How long a client may take the head of a manifest that is written here for the newest one, in seconds.
+pub const TIME_TO_LIVE: u64 = 240;
 
 /// A repository's newest head, as the repository publishes it.
 #[derive(Debug, Drop)]
@@ -39,10 +47,10 @@ impl Manifest {
         signer: &S,
     ) -> Result<Manifest, ManifestFault>
         ensures value { IfOk result (λ m. Says (S.is_seal signer.now) bytes.now m) }
-        ensures found { (m : _) → Says (S.is_seal signer.now) bytes.now m → (result ≡ Ok m) ⊎ (result ≡ Err faults.NoMemory) }
+        ensures found { (m : _) → Says (S.is_seal signer.now) bytes.now m → IsUnless faults.NoMemory result (Ok m) }
         ensures fault { IfErr result (λ fault. Shows (S.is_seal signer.now) bytes.now fault) }
         ensures refused { (fault : _) → Shows (S.is_seal signer.now) bytes.now fault → fault ≢ faults.NoMemory
-            → (result ≡ Err fault) ⊎ (result ≡ Err faults.NoMemory) }
+            → IsUnless faults.NoMemory result (Err fault) }
     {
         match Parts::split(bytes) {
             Some(parts) => read_parts(alloc, &parts, signer),
@@ -54,7 +62,7 @@ impl Manifest {
     /// these.
     pub fn write<S: Signer>(&self, alloc: Global, signer: &S) -> Result<Vec<u8>, NoMemory>
         requires revision { 1 ≤ self.now.head.revision }
-        requires time { self.now.head.time < 2 ^ 62 }
+        requires time { self.now.head.time ≤ LAST_TIME }
         ensures text { IfOk result (λ bytes. bytes.items ≡ manifest_text (S.seal_of signer.now) self.now) }
         ensures reads_back { IfOk result (λ bytes. Says (S.is_seal signer.now) bytes.items self.now) }
     {

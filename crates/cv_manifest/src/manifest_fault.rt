@@ -1,4 +1,8 @@
 //! Why bytes are no manifest.
+ghost use Rattle.std.specs.Prelude.{◌≡◌};
+ghost use Rattle.cv_manifest.specs.declared.manifest_fault.ManifestFault.TheVariants as faults;
+
+use cv_base::NoMemory;
 
 /// Why bytes are no manifest: the first fault, in the order of the variants `NoEnd`, `HashDiffers` and
 /// `BadSeal`, then that of the first line that has one, then `Missing`.
@@ -25,4 +29,12 @@ pub enum ManifestFault {
     BadSeal,
     /// There was no memory.
     NoMemory,
+}
+
+impl From<NoMemory> for ManifestFault {
+    ghost from_gives = { λ _ e. e ≡ faults.NoMemory };
+
+    fn from(_fault: NoMemory) -> ManifestFault {
+        ManifestFault::NoMemory
+    }
 }

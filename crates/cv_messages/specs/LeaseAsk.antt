@@ -2,6 +2,7 @@
 use Rattle.std.specs.Prelude.{ℕ, List, codes, Option, Some, None, Result, Ok, Err}
 use Rattle.serde_json.specs.Data.{Data, string, object, member, no_members}
 use Rattle.serde_json.specs.Find.{get}
+use Rattle.cv_base.specs.Sequence.{◌>>=◌}
 use Rattle.cv_json.specs.ObjectText.{object_in}
 use Rattle.cv_messages.specs.Member.{text_member}
 use Rattle.cv_messages.specs.declared.lease_ask.LeaseAsk.{LeaseAsk}
@@ -13,13 +14,9 @@ use Rattle.cv_messages.specs.declared.message_fault.MessageFault.TheVariants.{No
 abbrev pub lease_ask_data : LeaseAsk → Data
 lease_ask_data ask = object (member (codes "path") (string ask.path) no_members)
 
-abbrev pub lease_ask_by : Result (List ℕ) MessageFault → Result LeaseAsk MessageFault
-lease_ask_by (Ok path) = Ok (record { path = path })
-lease_ask_by (Err fault) = Err fault
-
 abbrev pub lease_ask_in : Option Data → Result LeaseAsk MessageFault
 lease_ask_in None = Err NotJson
-lease_ask_in (Some d) = lease_ask_by (text_member Path (get (codes "path") d))
+lease_ask_in (Some d) = text_member Path (get (codes "path") d) >>= λ path. Ok (record { path = path })
 
 -- the message that a text is, or its first fault
 abbrev pub lease_ask_of : List ℕ → Result LeaseAsk MessageFault

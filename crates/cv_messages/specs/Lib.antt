@@ -4,3 +4,4 @@ pub mod MemberName
 pub mod LeaseAsk
 pub mod CommitAsk
 pub mod PayloadAsk
+pub mod Targets

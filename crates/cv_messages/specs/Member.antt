@@ -2,6 +2,7 @@
 use Rattle.std.specs.Prelude.{ℕ, List, Option, Some, None, Result, Ok, Err}
 use Rattle.serde_json.specs.Data.{Data, Num}
 use Rattle.serde_json.specs.Find.{as_str, as_number, as_u64}
+use Rattle.cv_base.specs.Sequence.{◌>>=◌}
 use Rattle.cv_base.specs.declared.token.Token.{Token}
 use Rattle.cv_messages.specs.Spelling.{decimal_of, token_of, digest_of}
 use Rattle.cv_messages.specs.declared.message_fault.MessageFault.{MessageFault}
@@ -23,11 +24,6 @@ abbrev pub text_member : Member → Option Data → Result (List ℕ) MessageFau
 text_member name None = Err (Missing name)
 text_member name (Some d) = text_of name (as_str d)
 
--- the first fault, or what follows
-abbrev pub and_then : {A B : Type 0} → Result A MessageFault → (A → Result B MessageFault) → Result B MessageFault
-and_then (Ok x) next = next x
-and_then (Err fault) next = Err fault
-
 -- what a value says, or that it is out of its limits
 abbrev pub known : {A : Type 0} → Member → Option A → Result A MessageFault
 known name None = Err (BadValue name)
@@ -45,11 +41,11 @@ number_member name (Some d) = whole_of name (as_number d)
 
 -- a member that has to be there, and the text of a token
 abbrev pub token_member : Member → Option Data → Result Token MessageFault
-token_member name value = and_then (text_member name value) (λ text. known name (token_of text))
+token_member name value = text_member name value >>= λ text. known name (token_of text)
 
 -- a member that has to be there, and forty digits
 abbrev pub digest_member : Member → Option Data → Result (List ℕ) MessageFault
-digest_member name value = and_then (text_member name value) (λ text. known name (digest_of text))
+digest_member name value = text_member name value >>= λ text. known name (digest_of text)
 
 -- a value that has to be the text of a decimal, or a whole number
 abbrev pub size_of : Member → Option (List ℕ) → Option Num → Result ℕ MessageFault

@@ -1,10 +1,11 @@
 //! The message of a commit.
-ghost use Rattle.std.specs.Prelude.{◌≡◌, true, codes, nat_le, Ok, Err, IfOk, MatchResult};
+ghost use Rattle.std.specs.Prelude.{◌≡◌, true, codes, Ok, Err, IfOk, MatchResult};
 ghost use Rattle.std.specs.List.{list_all};
 ghost use Rattle.serde_json.specs.Find.{get};
 ghost use Rattle.serde_json.specs.View.{view};
 ghost use Rattle.serde_json.specs.Written.{compact_text};
 ghost use Rattle.cv_base.specs.Digest.{IsDigest};
+ghost use Rattle.cv_base.specs.Tag.{is_tag_byte};
 ghost use Rattle.cv_messages.specs.CommitAsk.{is_tag, root_digits, root_member, tag_member, commit_ask_data, commit_ask_members};
 ghost use Rattle.cv_messages.specs.Member.{IsSaid};
 
@@ -12,13 +13,10 @@ use crate::member::Member;
 use crate::members::{digest_in, text_member};
 use crate::message_fault::MessageFault;
 use crate::spelled_members::with_digest;
-use cv_base::{DIGEST_DIGITS, NoMemory, Text};
+use cv_base::{DIGEST_DIGITS, NoMemory, TAG_LIMIT, Text};
 use cv_json::{read_object, with_text, write_object};
 use serde_json::{Map, Value};
 use std::alloc::Global;
-
-/// The most bytes of a tag.
-const TAG_LIMIT: usize = 255;
 
 /// Asks that the leased subtree be replaced by that of an offered tree.
 #[derive(Debug, Drop)]
@@ -51,7 +49,7 @@ fn root_member(value: &Value, key: &str, name: Member) -> Result<[u8; 20], Messa
 
 /// Whether a text has no control bytes.
 fn has_no_control(text: &str) -> bool
-    ensures { result ≡ list_all (λ b. nat_le 32 b) text.now }
+    ensures { result ≡ list_all is_tag_byte text.now }
 {
     text.bytes().all(|byte| byte >= 0x20)
 }
@@ -87,14 +85,12 @@ fn read_members(alloc: Global, value: &Value) -> Result<CommitAsk, MessageFault>
     let old_root = root_member(value, "old_root_hash", Member::OldRoot)?;
     let new_root = root_member(value, "new_root_hash", Member::NewRoot)?;
     let tag = tag_member(value)?;
-    match Text::from_str(alloc, tag) {
-        Ok(tag) => Ok(CommitAsk {
-            old_root,
-            new_root,
-            tag,
-        }),
-        Err(NoMemory) => Err(MessageFault::NoMemory),
-    }
+    let tag = Text::from_str(alloc, tag)?;
+    Ok(CommitAsk {
+        old_root,
+        new_root,
+        tag,
+    })
 }
 
 /// The message as JSON.
@@ -117,11 +113,10 @@ impl CommitAsk {
         ensures reads { MatchResult result (λ ask. commit_ask_of bytes.now ≡ Ok ask) (λ fault. IsSaid fault (commit_ask_of bytes.now ≡ Err fault)) }
         ensures tag { IfOk result (λ ask. is_tag ask.tag ≡ true) }
     {
-        match read_object(alloc, bytes) {
-            Ok(Some(value)) => read_members(alloc, &value),
-            Ok(None) => Err(MessageFault::NotJson),
-            Err(NoMemory) => Err(MessageFault::NoMemory),
-        }
+        let Some(value) = read_object(alloc, bytes)? else {
+            return Err(MessageFault::NotJson);
+        };
+        read_members(alloc, &value)
     }
 
     /// The message as compact JSON, with digits alone for the roots.

@@ -28,16 +28,12 @@ impl LeaseAsk {
     pub fn read(alloc: Global, bytes: &[u8]) -> Result<LeaseAsk, MessageFault>
         ensures { MatchResult result (λ ask. lease_ask_of bytes.now ≡ Ok ask) (λ fault. IsSaid fault (lease_ask_of bytes.now ≡ Err fault)) }
     {
-        let value = match read_object(alloc, bytes) {
-            Ok(Some(value)) => value,
-            Ok(None) => return Err(MessageFault::NotJson),
-            Err(NoMemory) => return Err(MessageFault::NoMemory),
+        let Some(value) = read_object(alloc, bytes)? else {
+            return Err(MessageFault::NotJson);
         };
         let path = text_member(&value, "path", Member::Path)?;
-        match Text::from_str(alloc, path) {
-            Ok(path) => Ok(LeaseAsk { path }),
-            Err(NoMemory) => Err(MessageFault::NoMemory),
-        }
+        let path = Text::from_str(alloc, path)?;
+        Ok(LeaseAsk { path })
     }
 
     /// The message as compact JSON.

@@ -8,6 +8,7 @@ mod members;
 mod message_fault;
 mod payload_ask;
 mod spelled_members;
+mod targets;
 #[cfg(test)]
 mod tests;
 
@@ -20,3 +21,4 @@ pub use members::{
 pub use message_fault::MessageFault;
 pub use payload_ask::PayloadAsk;
 pub use spelled_members::{with_digest, with_token};
+pub use targets::{LEASE, LEASES, PAYLOADS};

@@ -1,6 +1,9 @@
 //! Why a message is refused.
+ghost use Rattle.std.specs.Prelude.{◌≡◌};
+ghost use Rattle.cv_messages.specs.declared.message_fault.MessageFault.TheVariants as faults;
 
 use crate::member::Member;
+use cv_base::NoMemory;
 
 /// The first fault of a message: the members are judged in order, and each for being there, for its
 /// type and for its value.
@@ -16,4 +19,12 @@ pub enum MessageFault {
     BadValue(Member),
     /// There was no memory.
     NoMemory,
+}
+
+impl From<NoMemory> for MessageFault {
+    ghost from_gives = { λ _ e. e ≡ faults.NoMemory };
+
+    fn from(_fault: NoMemory) -> MessageFault {
+        MessageFault::NoMemory
+    }
 }

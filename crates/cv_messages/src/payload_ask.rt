@@ -33,14 +33,12 @@ fn read_members(alloc: Global, value: &Value) -> Result<PayloadAsk, MessageFault
     let token = text_member(value, "session_token", Member::SessionToken)?;
     let digest = digest_member(value, "payload_digest", Member::Digest)?;
     let header_size = size_member(value, "header_size", Member::HeaderSize)?;
-    match Text::from_str(alloc, token) {
-        Ok(token) => Ok(PayloadAsk {
-            token,
-            digest,
-            header_size,
-        }),
-        Err(NoMemory) => Err(MessageFault::NoMemory),
-    }
+    let token = Text::from_str(alloc, token)?;
+    Ok(PayloadAsk {
+        token,
+        digest,
+        header_size,
+    })
 }
 
 /// The message as JSON.
@@ -61,11 +59,10 @@ impl PayloadAsk {
     pub fn read(alloc: Global, bytes: &[u8]) -> Result<PayloadAsk, MessageFault>
         ensures { MatchResult result (λ ask. payload_ask_of bytes.now ≡ Ok ask) (λ fault. IsSaid fault (payload_ask_of bytes.now ≡ Err fault)) }
     {
-        match read_object(alloc, bytes) {
-            Ok(Some(value)) => read_members(alloc, &value),
-            Ok(None) => Err(MessageFault::NotJson),
-            Err(NoMemory) => Err(MessageFault::NoMemory),
-        }
+        let Some(value) = read_object(alloc, bytes)? else {
+            return Err(MessageFault::NotJson);
+        };
+        read_members(alloc, &value)
     }
 
     /// The message as compact JSON. The header's size is a number.

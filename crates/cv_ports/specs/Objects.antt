@@ -6,15 +6,7 @@ use Rattle.cv_base.specs.declared.id.Kind.TheVariants.{Plain, Catalogue, History
 use Rattle.cv_base.specs.declared.id.ObjectId.{ObjectId}
 use Rattle.cv_base.specs.declared.object.Object.{Object}
 use Rattle.cv_ports.specs.Shelf.{Shelf}
-
-abbrev pub same_kind : Kind → Kind → Bool
-same_kind Plain Plain = true
-same_kind Catalogue Catalogue = true
-same_kind History History = true
-same_kind a b = false
-
-abbrev pub same_id : ObjectId → ObjectId → Bool
-same_id a b = bytes_eq a.hash b.hash && same_kind a.kind b.kind
+pub use Rattle.cv_base.specs.ObjectId.{same_kind, same_id}
 
 -- under each id the bytes of the first object that has it
 abbrev pub shelf_of : List Object → Shelf
