@@ -13,7 +13,8 @@ use Rattle.cv_base.specs.declared.id.Kind.{Kind}
 use Rattle.cv_base.specs.declared.id.Kind.TheVariants.{Plain, Catalogue, History}
 use Rattle.cv_base.specs.declared.id.ObjectId.{ObjectId}
 use Rattle.cv_base.specs.declared.object.Object.{Object}
-use Rattle.cv_ports.specs.Objects.{same_id, same_kind}
+use Rattle.cv_base.specs.ObjectId.{same_id, same_kind}
+use Rattle.cv_base.proofs.Laws.{first_true, second_true, same_kind-eq, same_kind-own}
 use Rattle.cv_objects.specs.Places.{of_kind, place_of}
 use Rattle.cv_objects.specs.Batches.{IsOne}
 use Rattle.cv_objects.specs.declared.places.Places.{Places}
@@ -73,38 +74,14 @@ put_record was are id p is u a b x = rw is (record_at was are id.hash x.hash p u
 
 -- ---- ids that are the same
 
-kinds_are : (k j : Kind) → same_kind k j ≡ true → k ≡ j
-kinds_are Plain Plain e = refl
-kinds_are Catalogue Catalogue e = refl
-kinds_are History History e = refl
-kinds_are Plain Catalogue e = absurd (let k = e in cc)
-kinds_are Plain History e = absurd (let k = e in cc)
-kinds_are Catalogue Plain e = absurd (let k = e in cc)
-kinds_are Catalogue History e = absurd (let k = e in cc)
-kinds_are History Plain e = absurd (let k = e in cc)
-kinds_are History Catalogue e = absurd (let k = e in cc)
-
-kind_is : (k : Kind) → same_kind k k ≡ true
-kind_is Plain = refl
-kind_is Catalogue = refl
-kind_is History = refl
-
-first_true : (a b : Bool) → a && b ≡ true → a ≡ true
-first_true true b h = refl
-first_true false b h = cc
-
-second_true : (a b : Bool) → a && b ≡ true → b ≡ true
-second_true true b h = h
-second_true false b h = absurd (let k = h in cc)
-
 pub same_is : (a b : ObjectId) → same_id a b ≡ true → a ≡ b
 same_is a b e =
     let hash : a.hash ≡ b.hash = (bytes_eq-Decides a.hash b.hash).0 (first_true (bytes_eq a.hash b.hash) (same_kind a.kind b.kind) e) in
-    let kind : a.kind ≡ b.kind = kinds_are a.kind b.kind (second_true (bytes_eq a.hash b.hash) (same_kind a.kind b.kind) e) in
+    let kind : a.kind ≡ b.kind = same_kind-eq a.kind b.kind (second_true (bytes_eq a.hash b.hash) (same_kind a.kind b.kind) e) in
     λ i. record { hash = hash i; kind = kind i }
 
 pub same_itself : (a : ObjectId) → same_id a a ≡ true
-same_itself a = rw ((bytes_eq-Decides a.hash a.hash).1 refl, kind_is a.kind) refl
+same_itself a = rw ((bytes_eq-Decides a.hash a.hash).1 refl, same_kind-own a.kind) refl
 
 -- ---- a batch whose objects are noted
 

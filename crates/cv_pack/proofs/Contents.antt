@@ -11,7 +11,8 @@ use Rattle.cv_pack.specs.declared.entry.Entry.{Entry}
 use Rattle.cv_pack.specs.declared.pack_fault.PackFault.{PackFault}
 use Rattle.cv_pack.specs.declared.pack_fault.PackFault.TheVariants.{BadHeader, TooLarge, TooMany, HashDiffers, Short, Trailing, Duplicate, NoMemory}
 use Rattle.cv_pack.specs.HeaderState.{Faults}
-use Rattle.cv_pack.specs.Reading.{◌>>=◌, object, contents_at}
+use Rattle.cv_base.specs.Sequence.{◌>>=◌}
+use Rattle.cv_pack.specs.Reading.{object, contents_at}
 use Rattle.cv_pack.specs.ContentsState.{with_front, contents_on, so_far, BeginsFirst, IsOpen, IsClosed, Closes, Goes}
 
 -- the entry at an index, and those after it

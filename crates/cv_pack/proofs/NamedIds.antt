@@ -6,12 +6,13 @@ use Rattle.std.specs.Cmp.Lexicographic.{slice_cmp}
 use Rattle.std.specs.BTreeSet.{BTreeSet, contains, Updates}
 use Rattle.std.proofs.lemmas.Map.Text.{is_eq-slice_cmp}
 use Rattle.std.proofs.lemmas.List.Folds.{list_any-append}
-use Rattle.cv_base.specs.ObjectId.{object_id}
+use Rattle.cv_base.specs.ObjectId.{object_id, same_kind}
 use Rattle.cv_base.specs.declared.id.Kind.{Kind}
 use Rattle.cv_base.specs.declared.id.Kind.TheVariants.{Plain, Catalogue, History}
 use Rattle.cv_base.specs.declared.id.ObjectId.{ObjectId}
+use Rattle.cv_base.proofs.Laws.{same_kind-own}
 use Rattle.cv_pack.specs.declared.entry.Entry.{Entry}
-use Rattle.cv_pack.specs.Reading.{is_named, same_kind}
+use Rattle.cv_pack.specs.Reading.{is_named}
 use Rattle.cv_pack.specs.Named.{HasHashes, AreHashes}
 
 or_last : (a b : Bool) → (a || (b || false)) ≡ cond b true a
@@ -34,17 +35,12 @@ and_false : (a : Bool) → (a && false) ≡ false
 and_false true = refl
 and_false false = refl
 
-pub same_self : (kind : Kind) → same_kind kind kind ≡ true
-same_self Plain = refl
-same_self Catalogue = refl
-same_self History = refl
-
 -- the set of the entry's own kind has its hash
 with_hash : (kind : Kind) (es : List Entry) (e : Entry) (s n : BTreeSet (List ℕ)) → e.id.kind ≡ kind → HasHashes kind es s
     → Updates (slice_cmp nat_cmp) s n e.id.hash true → HasHashes kind (es ++ e ∷ []) n
 with_hash kind es e s n k h u hash =
     let named = is_named-more es e (object_id hash kind) in
-    let own : same_kind e.id.kind kind ≡ true = ap (λ (x : Kind). same_kind x kind) k ∙ same_self kind in
+    let own : same_kind e.id.kind kind ≡ true = ap (λ (x : Kind). same_kind x kind) k ∙ same_kind-own kind in
     let test : (bytes_eq e.id.hash hash && same_kind e.id.kind kind) ≡ is_eq (slice_cmp nat_cmp e.id.hash hash) =
     ap (λ (b : Bool). bytes_eq e.id.hash hash && b) own ∙ and_true (bytes_eq e.id.hash hash) ∙ sym (is_eq-slice_cmp e.id.hash hash) in
     u.0 hash ∙ sym (named ∙ ap (λ (b : Bool). cond b true (is_named es (object_id hash kind))) test

@@ -6,7 +6,8 @@ use Rattle.std.proofs.lemmas.Fmt.{decimal_digit, decimal_step, decimal_by_steps}
 use Rattle.std.specs.Char.{is_ascii_digit}
 use Rattle.cv_pack.specs.declared.pack_fault.PackFault.{PackFault}
 use Rattle.cv_pack.specs.declared.pack_fault.PackFault.TheVariants.{BadHeader}
-use Rattle.cv_pack.specs.Reading.{◌>>=◌, text_at, with_digit, limited, ended, number_at}
+use Rattle.cv_base.specs.Sequence.{◌>>=◌}
+use Rattle.cv_pack.specs.Reading.{text_at, with_digit, limited, ended, number_at}
 
 -- the value of a step that did not fail
 pub bind_ok : {A B : Type 0} (r : Result A PackFault) (f : A → Result B PackFault) (y : B) → (r >>= f) ≡ Ok y → (x : A) × (r ≡ Ok x) × (f x ≡ Ok y)

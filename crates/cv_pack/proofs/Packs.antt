@@ -1,5 +1,5 @@
 -- Packs, written and read.
-use Rattle.std.proofs.Common.{◌≡◌, ◌≢◌, ℕ, suc, ◌+◌, ◌<◌, ◌≤◌, Bool, true, false, cond, ◌&&◌, ◌||◌, ltb, List, [], ◌∷◌, ◌++◌, length, map, take, drop, Result, Ok, Err, refl, sym, ap, subst, ◌∙◌, inl, inr, arith, append_assoc, length-append, take-append-drop, zero-add, get_or}
+use Rattle.std.proofs.Common.{◌≡◌, ◌≢◌, ℕ, suc, ◌+◌, ◌<◌, ◌≤◌, Bool, true, false, cond, ◌||◌, ltb, List, [], ◌∷◌, ◌++◌, length, map, take, drop, Result, Ok, Err, refl, sym, ap, subst, ◌∙◌, inl, inr, arith, append_assoc, length-append, take-append-drop, zero-add, get_or}
 use Rattle.std.specs.Prelude.{bytes_eq, AllPairs, Contains}
 use Rattle.std.proofs.lemmas.List.Quantifiers.{all_pairs_push}
 use Rattle.std.specs.Bool.{Decides}
@@ -14,45 +14,30 @@ use Rattle.std.proofs.lemmas.Slice.Eq.{bytes_eq-Decides}
 use Rattle.std.proofs.lemmas.Map.Made.{AllPairs-from_IsDistinct, IsDistinct-from_AllPairs}
 use Rattle.sha1.specs.Sha1.{sha1}
 use Rattle.cv_base.specs.Digest.{IsDigest}
-use Rattle.cv_base.specs.ObjectId.{object_id}
+use Rattle.cv_base.specs.ObjectId.{object_id, same_kind, same_id}
 use Rattle.cv_base.specs.declared.id.Kind.{Kind}
-use Rattle.cv_base.specs.declared.id.Kind.TheVariants.{Plain, Catalogue, History}
 use Rattle.cv_base.specs.declared.id.ObjectId.{ObjectId}
 use Rattle.cv_base.specs.declared.object.Object.{Object}
-use Rattle.cv_base.proofs.Laws.{digest_sha1}
+use Rattle.cv_base.proofs.Laws.{digest_sha1, same_kind-eq, same_kind-own}
 use Rattle.cv_pack.specs.declared.entry.Entry.{Entry}
 use Rattle.cv_pack.specs.declared.pack_fault.PackFault.{PackFault}
 use Rattle.cv_pack.specs.declared.pack_fault.PackFault.TheVariants.{HashDiffers, Short}
 use Rattle.cv_pack.specs.Pack.{entry, entry_of, ids, total_size, header_of, header_bytes, contents, contents_size, pack_bytes, IsPacked, IsPack}
-use Rattle.cv_pack.specs.Reading.{◌>>=◌, Header, object, is_named, same_kind, header_at, contents_at, reading}
+use Rattle.cv_base.specs.Sequence.{◌>>=◌}
+use Rattle.cv_pack.specs.Reading.{Header, object, is_named, header_at, contents_at, reading}
 use Rattle.cv_pack.proofs.Numbers.{bind_ok, chosen, either, ok_is, both_true}
-use Rattle.cv_pack.proofs.NamedIds.{same_self}
 use Rattle.cv_pack.proofs.Lines.{IsLine, AreLines, IsHeader, header_takes, header_again}
 
 -- ---- the same id
 
-abbrev pub same_id : ObjectId → ObjectId → Bool
-same_id a b = bytes_eq a.hash b.hash && same_kind a.kind b.kind
-
-kind_is : (a b : Kind) → same_kind a b ≡ true → a ≡ b
-kind_is Plain Plain e = refl
-kind_is Plain Catalogue e = absurd cc
-kind_is Plain History e = absurd cc
-kind_is Catalogue Plain e = absurd cc
-kind_is Catalogue Catalogue e = refl
-kind_is Catalogue History e = absurd cc
-kind_is History Plain e = absurd cc
-kind_is History Catalogue e = absurd cc
-kind_is History History e = refl
-
 self_same : (a : ObjectId) → same_id a a ≡ true
-self_same a = rw ((bytes_eq-Decides a.hash a.hash).1 refl, same_self a.kind) refl
+self_same a = rw ((bytes_eq-Decides a.hash a.hash).1 refl, same_kind-own a.kind) refl
 
 pub same_id-Decides : (a b : ObjectId) → Decides (same_id a b) (a ≡ b)
 same_id-Decides a b = (
   λ e.
       let parts = both_true (bytes_eq a.hash b.hash) (same_kind a.kind b.kind) e in
-      ap (λ (h : List ℕ). object_id h a.kind) ((bytes_eq-Decides a.hash b.hash).0 parts.0) ∙ ap (λ (k : Kind). object_id b.hash k) (kind_is a.kind b.kind parts.1),
+      ap (λ (h : List ℕ). object_id h a.kind) ((bytes_eq-Decides a.hash b.hash).0 parts.0) ∙ ap (λ (k : Kind). object_id b.hash k) (same_kind-eq a.kind b.kind parts.1),
   λ e. ap (λ (x : ObjectId). same_id a x) (sym e) ∙ self_same a,
 )
 

@@ -7,7 +7,8 @@ use Rattle.cv_pack.specs.declared.entry.Entry.{Entry}
 use Rattle.cv_pack.specs.declared.pack_fault.PackFault.{PackFault}
 use Rattle.cv_pack.specs.declared.pack_fault.PackFault.TheVariants.{HashDiffers, Short, NoMemory}
 use Rattle.cv_pack.specs.HeaderState.{Faults}
-use Rattle.cv_pack.specs.Reading.{◌>>=◌, object, contents_at}
+use Rattle.cv_base.specs.Sequence.{◌>>=◌}
+use Rattle.cv_pack.specs.Reading.{object, contents_at}
 
 -- objects that were read, and those that are still read
 abbrev pub with_front : List Object → Result (List Object) PackFault → Result (List Object) PackFault

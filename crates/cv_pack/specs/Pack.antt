@@ -5,6 +5,7 @@ use Rattle.sha1.specs.Sha1.{sha1}
 use Rattle.cv_base.specs.ObjectId.{id_text}
 use Rattle.cv_base.specs.declared.id.Kind.TheVariants.{History}
 use Rattle.cv_base.specs.declared.id.ObjectId.{ObjectId}
+use Rattle.cv_base.specs.declared.limits.TheConstants.{OBJECT_LIMIT}
 use Rattle.cv_base.specs.declared.object.Object.{Object}
 use Rattle.cv_pack.specs.declared.entry.Entry.{Entry}
 
@@ -50,7 +51,7 @@ ids os = map (λ o. o.id) os
 pub record IsPacked (o : Object) : Type 0 where
   pub hash : o.id.hash ≡ sha1 o.bytes
   pub kind : o.id.kind ≢ History
-  pub size : length o.bytes ≤ 16777216
+  pub size : length o.bytes ≤ OBJECT_LIMIT
 
 -- the objects of a pack: at most 10,000 of them, of 32 MiB in all, with an id each
 pub record IsPack (os : List Object) : Type 0 where
@@ -65,4 +66,4 @@ contents_size os = total_size (map entry_of os)
 
 -- one more object with these bytes passes no limit
 abbrev pub has_room : List Object → List ℕ → Bool
-has_room os bytes = nat_lt (length os) 10000 && nat_le (length bytes) 16777216 && nat_le (contents_size os + length bytes) 33554432
+has_room os bytes = nat_lt (length os) 10000 && nat_le (length bytes) OBJECT_LIMIT && nat_le (contents_size os + length bytes) 33554432

@@ -9,27 +9,23 @@
 --   HashDiffers   the last byte of the content; for an empty one the byte before it
 --   Trailing   the first byte after the contents
 --   Short      none: the bytes end
-use Rattle.std.specs.Prelude.{ℕ, zero, suc, ◌+◌, ◌-◌, ◌*◌, Bool, true, false, not, ◌&&◌, ◌||◌, ◌==◌, nat_lt, nat_le, bytes_eq, if◌then◌else◌, List, [], ◌∷◌, ◌++◌, length, take, drop, codes, Option, Some, None, Result, Ok, Err}
+use Rattle.std.specs.Prelude.{ℕ, zero, suc, ◌+◌, ◌-◌, ◌*◌, Bool, not, ◌&&◌, ◌||◌, ◌==◌, nat_lt, nat_le, bytes_eq, if◌then◌else◌, List, [], ◌∷◌, ◌++◌, length, take, drop, codes, Option, Some, None, Result, Ok, Err}
 use Rattle.std.specs.List.{list_any}
 use Rattle.std.specs.Char.{is_ascii_digit}
 use Rattle.sha1.specs.Sha1.{sha1}
 use Rattle.hex.specs.Hex.{decode_sized}
 use Rattle.hex.specs.declared.error.FromHexError.{FromHexError}
-use Rattle.cv_base.specs.ObjectId.{object_id}
+use Rattle.cv_base.specs.ObjectId.{object_id, same_kind}
+use Rattle.cv_base.specs.Sequence.{◌>>=◌}
+use Rattle.cv_base.specs.declared.limits.TheConstants.{OBJECT_LIMIT}
 use Rattle.cv_base.specs.declared.id.Kind.{Kind}
-use Rattle.cv_base.specs.declared.id.Kind.TheVariants.{Plain, Catalogue, History}
+use Rattle.cv_base.specs.declared.id.Kind.TheVariants.{Plain, Catalogue}
 use Rattle.cv_base.specs.declared.id.ObjectId.{ObjectId}
 use Rattle.cv_base.specs.declared.object.Object.{Object}
 use Rattle.cv_pack.specs.declared.entry.Entry.{Entry}
 use Rattle.cv_pack.specs.declared.pack_fault.PackFault.{PackFault}
 use Rattle.cv_pack.specs.declared.pack_fault.PackFault.TheVariants.{BadHeader, TooLarge, TooMany, HashDiffers, Short, Trailing, Duplicate}
 use Rattle.cv_pack.specs.Pack.{entry, total_size}
-
--- what is read first, and then what follows it
-infixl 10 ◌>>=◌
-abbrev pub ◌>>=◌ : {A B : Type 0} → Result A PackFault → (A → Result B PackFault) → Result B PackFault
-(Ok x) >>= f = f x
-(Err e) >>= f = Err e
 
 -- Below, a line begins at the offset `line` and the text at the offset `at`; what is read comes with
 -- the offset and the text after it.
@@ -86,12 +82,6 @@ abbrev pub hash_named : ℕ → Result (List ℕ) FromHexError → Result (List 
 hash_named line (Ok hash) = Ok hash
 hash_named line (Err e) = Err (BadHeader line)
 
-abbrev pub same_kind : Kind → Kind → Bool
-same_kind Plain Plain = true
-same_kind Catalogue Catalogue = true
-same_kind History History = true
-same_kind a b = false
-
 -- whether one of these entries has this id
 abbrev pub is_named : List Entry → ObjectId → Bool
 is_named es id = list_any (λ e. bytes_eq e.id.hash id.hash && same_kind e.id.kind id.kind) es
@@ -108,7 +98,7 @@ id_from before line kind digits = hash_named line (decode_sized digits 20) >>= �
 
 -- the size of an object, and the rest of the header
 abbrev pub size_from : (Entry → ℕ → List ℕ → Result Header PackFault) → ℕ → ObjectId → Option ℕ → ℕ → List ℕ → Result Header PackFault
-size_from k line id so_far at text = number_at line 16777216 TooLarge so_far at text >>= λ s. k (entry id s.0) s.1 s.2
+size_from k line id so_far at text = number_at line OBJECT_LIMIT TooLarge so_far at text >>= λ s. k (entry id s.0) s.1 s.2
 
 -- a blank before it
 abbrev pub blank_from : (Entry → ℕ → List ℕ → Result Header PackFault) → ℕ → ObjectId → ℕ → List ℕ → Result Header PackFault

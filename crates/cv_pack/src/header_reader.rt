@@ -12,18 +12,16 @@ use crate::entries::Entries;
 use crate::entry::Entry;
 use crate::field::{Field, Mark};
 use crate::pack_fault::PackFault;
-use cv_base::{DIGEST_DIGITS, Kind, ObjectId};
+use cv_base::{DIGEST_DIGITS, Kind, OBJECT_LIMIT, ObjectId};
 use hex::FromHex;
 use std::alloc::Global;
+use std::marker::Model;
 
 /// The most bytes of a header.
 const HEADER_LIMIT: u64 = 1_048_576;
 
 /// The most bytes of all contents of a pack.
 pub const TOTAL_LIMIT: u32 = 33_554_432;
-
-/// The most bytes of one content of a pack.
-pub const SIZE_LIMIT: u32 = 16_777_216;
 
 /// The most objects of a pack.
 pub const COUNT_LIMIT: u32 = 10_000;
@@ -35,21 +33,31 @@ const TOTAL_LINE: u64 = 3;
 #[derive(Drop)]
 pub struct HeaderReader {
     /// What comes next.
-    pub field: Field,
+    field: Field,
     /// The total that the header says.
-    pub total: u32,
+    total: u32,
     /// The lines of objects that are still to come, after the one that was begun.
-    pub left: u32,
+    left: u32,
     /// The lines that were read.
-    pub entries: Entries,
+    entries: Entries,
     /// The digits of the hash that is being read.
-    pub digits: Vec<u8>,
+    digits: Vec<u8>,
     /// The offset of the line that is being read.
-    pub line: u64,
+    line: u64,
     /// The offset of what comes next.
-    pub at: u64,
-    pub ghost few: { length entries ≤ at },
-    pub ghost short: { at ≤ 1048576 },
+    at: u64,
+}
+
+impl Model for HeaderReader {
+    ghost use Rattle.cv_pack.specs.HeaderState.{Begun};
+
+    ghost Value = { Begun };
+
+    ghost use Rattle.cv_pack.specs.HeaderReader.{begun_of, IsBegun};
+
+    ghost view = { begun_of };
+
+    ghost invariant = { IsBegun };
 }
 
 /// The sum of the sizes.
@@ -92,6 +100,21 @@ impl HeaderReader {
         matches!(self.field, Field::Whole)
     }
 
+    /// The lines that were read, of which there is at most one a byte of a header.
+    pub fn entries(&self) -> &[Entry]
+        ensures entries { result.now ≡ self.now.entries }
+        ensures few { length result.now ≤ 1048576 }
+    {
+        self.entries.as_slice()
+    }
+
+    /// How many bytes were read.
+    pub fn length(&self) -> u64
+        ensures { result ≡ self.now.at }
+    {
+        self.at
+    }
+
     /// Begins the line of the next object, if there is one.
     fn begin_line(&mut self) -> Result<Field, PackFault>
         ensures begins { Begins self.old self.new result }
@@ -103,11 +126,10 @@ impl HeaderReader {
             self.digits.clear();
             return Ok(Field::Mark(Mark::LineLetter));
         }
-        if sum_of_sizes(self.entries.as_slice()) == u64::from(self.total) {
-            Ok(Field::Whole)
-        } else {
-            Err(PackFault::BadHeader(TOTAL_LINE))
+        if sum_of_sizes(self.entries.as_slice()) != u64::from(self.total) {
+            return Err(PackFault::BadHeader(TOTAL_LINE));
         }
+        Ok(Field::Whole)
     }
 
     /// Takes a byte that is to be this one, which leads to this field.
@@ -161,7 +183,6 @@ impl HeaderReader {
 
     /// Takes a byte of the hash, or the byte after its digits.
     fn take_in_hash(&mut self, byte: u8) -> Result<Field, PackFault>
-        requires more { length self.old.entries < self.old.at }
         ensures leads { Leads self.old self.new fields.Hash byte result }
         ensures line { self.new.line ≡ self.old.line }
         ensures at { self.new.at ≡ self.old.at }
@@ -179,8 +200,7 @@ impl HeaderReader {
     /// The id of the digits that were read and this kind, which no line before has.
     fn fresh_id(&self, kind: Kind) -> Result<ObjectId, PackFault>
         requires kind { kind ≢ History }
-        requires more { length self.now.entries < self.now.at }
-        ensures id { result ≡ id_from self.now.entries self.now.line kind self.now.digits.items }
+        ensures id { result ≡ id_from self.now.entries self.now.line kind self.now.digits }
         ensures of_kind { IfOk result (λ id. id.kind ≡ kind) }
     {
         let Ok(hash) = <[u8; 20] as FromHex>::from_hex(self.digits.as_slice()) else {
@@ -195,7 +215,6 @@ impl HeaderReader {
 
     /// Takes the byte after the digits of a hash.
     fn take_after_hash(&self, byte: u8) -> Result<Field, PackFault>
-        requires more { length self.now.entries < self.now.at }
         ensures leads { LeadsAfterHash self.now byte result }
     {
         match byte {
@@ -224,7 +243,7 @@ impl HeaderReader {
         }
         let size = limited(
             self.line,
-            SIZE_LIMIT,
+            OBJECT_LIMIT as u32,
             PackFault::TooLarge,
             with_digit(so_far, byte),
         )?;

@@ -50,7 +50,7 @@ impl PackReader {
         self.header_hash.update(front);
         if self.header.is_whole() {
             self.contents
-                .read(self.alloc, self.header.entries.as_slice(), after)?;
+                .read(self.alloc, self.header.entries(), after)?;
         }
         Ok(())
     }
@@ -103,12 +103,12 @@ impl PackReader {
             return Err(PackFault::Short);
         }
         let ContentsReader { objects, .. } = contents;
-        if objects.len() < header.entries.as_slice().len() {
+        if objects.len() < header.entries().len() {
             return Err(PackFault::Short);
         }
         Ok(Pack {
             objects: Items::new(objects),
-            header: header.at,
+            header: header.length(),
             digest: header_hash.finalize(),
         })
     }

@@ -7,8 +7,8 @@ ghost use Rattle.cv_pack.specs.Pack.{IsPack, entry_of, line, lines_of, ids, cont
 ghost use Rattle.cv_pack.specs.Reading.{object, reading};
 
 use crate::add_fault::AddFault;
-use crate::header_reader::{COUNT_LIMIT, SIZE_LIMIT, TOTAL_LIMIT};
-use cv_base::{Bytes, NoMemory, Object, ObjectId};
+use crate::header_reader::{COUNT_LIMIT, TOTAL_LIMIT};
+use cv_base::{Bytes, NoMemory, OBJECT_LIMIT, Object, ObjectId};
 use itoa::Buffer;
 use std::alloc::Global;
 use std::marker::Model;
@@ -117,7 +117,7 @@ impl PackWriter {
         ensures err { OnErr result (self.new ≡ self.old) }
     {
         if self.objects.len() >= COUNT_LIMIT as usize
-            || bytes.len() > SIZE_LIMIT as usize
+            || bytes.len() > OBJECT_LIMIT
             || self.total + bytes.len() > TOTAL_LIMIT as usize
         {
             return Err(AddFault::Full);

@@ -1,5 +1,5 @@
 -- Entries that change, and the disk that they stand for.
-use Rattle.std.proofs.Common.{◌≡◌, ◌≢◌, ◌⊎◌, inl, inr, ℕ, ◌<◌, ◌≤◌, ◌+◌, Bool, false, not, cond, ◌||◌, List, [], ◌∷◌, ◌++◌, length, get_or, set, map, refl, ap, subst, sym, ◌∙◌, arith, length-append, length-set, get_or-set_other, add-zero, vec_len}
+use Rattle.std.proofs.Common.{◌≡◌, ◌≢◌, ◌⊎◌, inl, inr, ℕ, ◌<◌, ◌≤◌, ◌+◌, Bool, false, not, cond, ◌||◌, List, [], ◌∷◌, ◌++◌, length, get_or, set, map, refl, ap, subst, sym, ◌∙◌, arith, length-append, length-set, get_or-set_other, add-zero}
 use Rattle.std.specs.Vec.{vec_capacity}
 use Rattle.std.specs.Str.{bytes_eq}
 use Rattle.std.specs.BTreeMap.{get_by_text, IsOrdered}
@@ -19,21 +19,19 @@ use Rattle.cv_vault.specs.Disk.{Disk, File, Slot, slot, with_slot, is_settled, s
 use Rattle.cv_vault.specs.Events.{NamedSlot, Event, after, replay, value_at, disk_of, first_disk, has_file, file_count, any_unsettled}
 use Rattle.cv_vault.specs.Events as event
 use Rattle.cv_vault.specs.Places.{slot_in, IsPlaceIn}
-use Rattle.cv_vault.specs.Table.{name_in, names_in, named_in, event_in, any_entry, entry_at, entries_of, past_of, table_disk, table_first, Lacks, AreNumbers, AreUnsettled, IsEntryIn, IsChangeIn, IsTable, Stays, Adds}
+use Rattle.cv_vault.specs.Table.{Rows, name_in, names_in, named_in, event_in, any_entry, entry_at, entries_of, past_of, table_disk, table_first, Lacks, IsEntryIn, IsChangeIn, Stays, Adds, AreApart}
+use Rattle.cv_vault.specs.Indexed.{rows_of, IsIndexed, AreNumbers, AreUnsettled}
 use Rattle.cv_vault.specs.declared.place.Place.{Place}
 use Rattle.cv_vault.specs.declared.place.PlaceMark.TheVariants.{Settled}
 use Rattle.cv_vault.specs.declared.table.Entry.{Entry}
-use Rattle.cv_vault.specs.declared.table.Table.{Table}
+use Rattle.cv_vault.specs.declared.table.Table.TheInside.{Inside}
 use Rattle.cv_vault.specs.declared.table.Change.{Change}
 use Rattle.cv_vault.specs.declared.table.Change.TheVariants.{Puts, PutsTwo}
 use Rattle.cv_vault.proofs.Names.{same_or_not, bytes_eq_same, bytes_eq_other}
-use Rattle.cv_vault.proofs.Values.{AreApart, value_at-set, value_at-push}
+use Rattle.cv_vault.proofs.Values.{value_at-set, value_at-push}
 use Rattle.cv_vault.proofs.Unsettled.{unsettled_pushed}
 use Rattle.cv_vault.proofs.Growing.{Grows, names_grown, table_grown, stays_grown}
 use Rattle.cv_vault.proofs.Reading.{pair_of, resolved, firsts-pairs, pairs_at, length-pairs, numbers_apart}
-
-pub names_apart : (t : Table) → IsTable t → AreApart (names_in t.names.items t.entries.items)
-names_apart t is = numbers_apart (get_by_text t.numbers) (names_in t.names.items t.entries.items) is.numbers
 
 abbrev pub first_of : NamedSlot → Name × File
 first_of e = (e.name, e.first)
@@ -146,7 +144,7 @@ numbers_pushed f f' ns n h lacks put q i = (forward, backward)
     ]
 
 -- t' is t with one name more and its entry, which stands for no file
-pub record Pushes (t t' : Table) (n : Name) : Type 0 where
+pub record Pushes (t t' : Inside) (n : Name) : Type 0 where
   pub lacks : Lacks n (names_in t.names.items t.entries.items)
   pub names : t'.names.items ≡ t.names.items ++ n ∷ []
   pub contents : t'.contents.items ≡ t.contents.items
@@ -157,41 +155,43 @@ pub record Pushes (t t' : Table) (n : Name) : Type 0 where
   pub room : length t.entries.items + 1 ≤ vec_capacity t'.unsettled
   pub changes : t'.changes ≡ t.changes
 
-module _ (t t' : Table) (n : Name) (is : IsTable t) (h : Pushes t t' n) where
+module _ (t t' : Inside) (n : Name) (is : IsIndexed t) (h : Pushes t t' n) where
   -- the table with the name, without its entry
-  named : Table
+  named : Inside
   named = record t { names = t'.names }
 
   grows : Grows t named
   unfolding named
   grows = record { names_more = n ∷ []; names = h.names; contents_more = []; contents = sym (append-nil t.contents.items); entries = refl; numbers = refl; unsettled = refl; room = omega arith; changes = refl }
 
-  resolved_is : entries_of t' ≡ resolved t'.names.items t.contents.items (t.entries.items ++ new_entry (length t.names.items) ∷ [])
+  resolved_is : entries_of (rows_of t') ≡ resolved t'.names.items t.contents.items (t.entries.items ++ new_entry (length t.names.items) ∷ [])
   resolved_is = rw (h.contents, h.entries) refl
 
-  from_named : Stays named t'
+  from_named : Stays (rows_of named) (rows_of t')
   unfolding named
   from_named =
       let names = t'.names.items in
       let contents = t.contents.items in
       let es = t.entries.items in
       let new = new_entry (length t.names.items) in
-      let pushed : entries_of t' ≡ resolved names contents es ++ named_in names contents new ∷ [] = resolved_is ∙ resolved_pushed names contents es new in
+      let pushed : entries_of (rows_of t') ≡ resolved names contents es ++ named_in names contents new ∷ [] = resolved_is ∙ resolved_pushed names contents es new in
       record {
         disk = ap disk_of resolved_is ∙ (λ j q. value_pushed names contents es new (λ e. e.stands) (slot None disk.Settled) refl q j);
         first = ap first_disk resolved_is ∙ (λ j q. slot (value_pushed names contents es new (λ e. e.first) None refl q j) disk.Settled);
         past = rw (h.contents, h.changes) refl;
-        changes = h.changes;
+        changes = ap (λ v. v.items) h.changes;
+        room = ap (λ v. vec_capacity v) h.changes;
         files = ap file_count pushed ∙ sum_by-append (λ (e : NamedSlot). has_file e.stands) (resolved names contents es) (named_in names contents new ∷ []) ∙ add-zero (file_count (resolved names contents es));
         unsettled = ap any_unsettled pushed ∙ any_pushed (λ (e : NamedSlot). not (is_settled e.stands.mark)) (resolved names contents es) (named_in names contents new) refl;
       }
 
-  pub stays_pushed : Stays t t'
+  pub stays_pushed : Stays (rows_of t) (rows_of t')
   stays_pushed = let a = stays_grown t named is grows in let b = from_named in record {
     disk = b.disk ∙ a.disk;
     first = b.first ∙ a.first;
     past = b.past ∙ a.past;
     changes = b.changes ∙ a.changes;
+    room = b.room ∙ a.room;
     files = b.files ∙ a.files;
     unsettled = b.unsettled ∙ a.unsettled;
   }
@@ -201,33 +201,38 @@ module _ (t t' : Table) (n : Name) (is : IsTable t) (h : Pushes t t' n) where
       let es = t.entries.items in
       let f : Entry → Name = λ e. name_in t'.names.items e.name in
       let number : name_in t'.names.items (length t.names.items) ≡ n = rw h.names (get_or-append_seam t.names.items n [] []) in
-      let before : names_in t'.names.items es ≡ names_in t.names.items es = rw h.names (names_grown t.names.items t.contents.items (n ∷ []) [] es is.entries) in
+      let before : names_in t'.names.items es ≡ names_in t.names.items es = rw h.names (names_grown t.names.items t.contents.items (n ∷ []) [] es is.table.entries) in
       ap (map f) h.entries ∙ map-append f es (new_entry (length t.names.items) ∷ []) ∙ ap (λ ns. ns ++ name_in t'.names.items (length t.names.items) ∷ []) before ∙ ap (λ m. names_in t.names.items es ++ m ∷ []) number
 
-  pub table_pushed : IsTable t'
+  pub table_pushed : IsIndexed t'
   unfolding named
   table_pushed =
       let grown = table_grown t named is grows in
       let s = stays_pushed in
       let P = IsEntryIn (length t'.names.items) (length t.contents.items) in
+      let numbers : AreNumbers (get_by_text t'.numbers) (names_in t'.names.items t'.entries.items) = subst (AreNumbers (get_by_text t'.numbers)) (sym names_pushed)
+      (numbers_pushed (get_by_text t.numbers) (get_by_text t'.numbers) (names_in t.names.items t.entries.items) n is.numbers h.lacks
+      (λ q. rw (length-map t.entries.items (λ (e : Entry). name_in t.names.items e.name)) (h.numbers q))) in
       record {
-        entries = rw (h.contents, h.entries) (All-push P t.entries.items (new_entry (length t.names.items)) grown.entries
-            (record { name = omega (arith, ap (λ (xs : List Name). length xs) h.names, length-append t.names.items (n ∷ [])); first = tt; place = record { file = tt; mark = tt } }));
-        changes = rw (h.contents, h.changes) grown.changes;
+        table = record {
+          entries = rw (h.contents, h.entries) (All-push P t.entries.items (new_entry (length t.names.items)) grown.table.entries
+              (record { name = omega (arith, ap (λ (xs : List Name). length xs) h.names, length-append t.names.items (n ∷ [])); first = tt; place = record { file = tt; mark = tt } }));
+          changes = rw (h.contents, h.changes) grown.table.changes;
+          apart = numbers_apart (get_by_text t'.numbers) (names_in t'.names.items t'.entries.items) numbers;
+          linked = s.disk ∙ is.table.linked ∙ (let p = s.past in let f = s.first in cc);
+        };
         ordered = h.ordered;
-        numbers = subst (AreNumbers (get_by_text t'.numbers)) (sym names_pushed)
-            (numbers_pushed (get_by_text t.numbers) (get_by_text t'.numbers) (names_in t.names.items t.entries.items) n is.numbers h.lacks
-            (λ q. rw (length-map t.entries.items (λ (e : Entry). name_in t.names.items e.name)) (h.numbers q)));
+        numbers = numbers;
         unsettled = rw h.entries (unsettled_pushed t.unsettled t'.unsettled t.entries.items (new_entry (length t.names.items)) is.unsettled refl h.unsettled h.room);
-        linked = s.disk ∙ is.linked ∙ (let p = s.past in let f = s.first in cc);
       }
 
-pub stays_then : (t u v : Table) → Stays t u → Stays u v → Stays t v
+pub stays_then : (t u v : Rows) → Stays t u → Stays u v → Stays t v
 stays_then t u v a b = record {
   disk = b.disk ∙ a.disk;
   first = b.first ∙ a.first;
   past = b.past ∙ a.past;
   changes = b.changes ∙ a.changes;
+  room = b.room ∙ a.room;
   files = b.files ∙ a.files;
   unsettled = b.unsettled ∙ a.unsettled;
 }
@@ -235,44 +240,53 @@ stays_then t u v a b = record {
 -- A change that is recorded.
 
 -- a table whose entries changed by an event that its record has last
-pub record Records (t t' : Table) (c : Change) (e : Event) : Type 0 where
+pub record Records (t t' : Inside) (c : Change) (e : Event) : Type 0 where
   pub names : t'.names.items ≡ t.names.items
   pub contents : t'.contents.items ≡ t.contents.items
   pub entries : All (IsEntryIn (length t.names.items) (length t.contents.items)) t'.entries.items
   pub names_same : names_in t.names.items t'.entries.items ≡ names_in t.names.items t.entries.items
   pub numbers : t'.numbers ≡ t.numbers
   pub unsettled : AreUnsettled t'.unsettled t'.entries.items
-  pub first : first_disk (resolved t.names.items t.contents.items t'.entries.items) ≡ table_first t
-  pub disk : disk_of (resolved t.names.items t.contents.items t'.entries.items) ≡ after e (table_disk t)
+  pub first : first_disk (resolved t.names.items t.contents.items t'.entries.items) ≡ table_first (rows_of t)
+  pub disk : disk_of (resolved t.names.items t.contents.items t'.entries.items) ≡ after e (table_disk (rows_of t))
   pub changes : t'.changes.items ≡ t.changes.items ++ c ∷ []
   pub within : IsChangeIn (length t.names.items) (length t.contents.items) c
   pub event : event_in t.names.items t.contents.items c ≡ e
 
-resolved_same : (t t' : Table) (c : Change) (e : Event) → Records t t' c e → entries_of t' ≡ resolved t.names.items t.contents.items t'.entries.items
+resolved_same : (t t' : Inside) (c : Change) (e : Event) → Records t t' c e → entries_of (rows_of t') ≡ resolved t.names.items t.contents.items t'.entries.items
 resolved_same t t' c e h = rw (h.names, h.contents) refl
 
-disk_recorded : (t t' : Table) (c : Change) (e : Event) → Records t t' c e → table_disk t' ≡ after e (table_disk t)
+disk_recorded : (t t' : Inside) (c : Change) (e : Event) → Records t t' c e → table_disk (rows_of t') ≡ after e (table_disk (rows_of t))
 disk_recorded t t' c e h = ap disk_of (resolved_same t t' c e h) ∙ h.disk
 
-first_recorded : (t t' : Table) (c : Change) (e : Event) → Records t t' c e → table_first t' ≡ table_first t
+first_recorded : (t t' : Inside) (c : Change) (e : Event) → Records t t' c e → table_first (rows_of t') ≡ table_first (rows_of t)
 first_recorded t t' c e h = ap first_disk (resolved_same t t' c e h) ∙ h.first
 
-past_recorded : (t t' : Table) (c : Change) (e : Event) → Records t t' c e → past_of t' ≡ past_of t ++ e ∷ []
+past_recorded : (t t' : Inside) (c : Change) (e : Event) → Records t t' c e → past_of (rows_of t') ≡ past_of (rows_of t) ++ e ∷ []
 past_recorded t t' c e h = rw (h.names, h.contents, h.changes)
-    (map-append (event_in t.names.items t.contents.items) t.changes.items (c ∷ []) ∙ ap (λ x. past_of t ++ x ∷ []) h.event)
+    (map-append (event_in t.names.items t.contents.items) t.changes.items (c ∷ []) ∙ ap (λ x. past_of (rows_of t) ++ x ∷ []) h.event)
 
-pub table_recorded : (t t' : Table) (c : Change) (e : Event) → IsTable t → Records t t' c e → IsTable t'
+pub table_recorded : (t t' : Inside) (c : Change) (e : Event) → IsIndexed t → Records t t' c e → IsIndexed t'
 table_recorded t t' c e is h = record {
-  entries = rw (h.names, h.contents) h.entries;
-  changes = rw (h.names, h.contents, h.changes) (All-push (IsChangeIn (length t.names.items) (length t.contents.items)) t.changes.items c is.changes h.within);
+  table = record {
+    entries = rw (h.names, h.contents) h.entries;
+    changes = rw (h.names, h.contents, h.changes) (All-push (IsChangeIn (length t.names.items) (length t.contents.items)) t.changes.items c is.table.changes h.within);
+    apart = rw (h.names, h.names_same) is.table.apart;
+    linked = disk_recorded t t' c e h ∙ ap (after e) is.table.linked ∙ sym (replay-push (past_of (rows_of t)) e (table_first (rows_of t))) ∙ (let p = past_recorded t t' c e h in let f = first_recorded t t' c e h in cc);
+  };
   ordered = rw h.numbers is.ordered;
   numbers = rw (h.names, h.names_same, h.numbers) is.numbers;
   unsettled = h.unsettled;
-  linked = disk_recorded t t' c e h ∙ ap (after e) is.linked ∙ sym (replay-push (past_of t) e (table_first t)) ∙ (let p = past_recorded t t' c e h in let f = first_recorded t t' c e h in cc);
 }
 
-pub adds_recorded : (t t' : Table) (c : Change) (e : Event) → Records t t' c e → vec_len t'.changes ≡ vec_len t.changes + 1 → vec_capacity t'.changes ≡ vec_capacity t.changes → Adds e t t'
-adds_recorded t t' c e h len capacity = record { disk = disk_recorded t t' c e h; first = first_recorded t t' c e h; past = past_recorded t t' c e h; len = len; capacity = capacity }
+pub adds_recorded : (t t' : Inside) (c : Change) (e : Event) → Records t t' c e → vec_capacity t'.changes ≡ vec_capacity t.changes → Adds e (rows_of t) (rows_of t')
+adds_recorded t t' c e h room = record {
+  disk = disk_recorded t t' c e h;
+  first = first_recorded t t' c e h;
+  past = past_recorded t t' c e h;
+  len = ap (λ (cs : List Change). length cs) h.changes ∙ length-append t.changes.items (c ∷ []);
+  room = room;
+}
 
 all_put : (names : List Name) (contents : List (List ℕ)) (es : List Entry) (i : ℕ) (p : Place) → All (IsEntryIn (length names) (length contents)) es → i < length es → IsPlaceIn (length contents) p
     → All (IsEntryIn (length names) (length contents)) (set es i (record (get_or es i any_entry) { place = p }))
@@ -282,30 +296,30 @@ all_put names contents es i p all lt within =
     All-set P es i (record (get_or es i any_entry) { place = p }) (record { name = old.name; first = old.first; place = within }) all
 
 -- t' is t with another place at an entry, and the change
-pub record PutsOne (t t' : Table) (i : ℕ) (p : Place) : Type 0 where
+pub record PutsOne (t t' : Inside) (i : ℕ) (p : Place) : Type 0 where
   pub at : i < length t.entries.items
   pub numbers : t'.numbers ≡ t.numbers
   pub unsettled : AreUnsettled t'.unsettled t'.entries.items
   pub within : IsPlaceIn (length t.contents.items) p
   pub names : t'.names.items ≡ t.names.items
   pub contents : t'.contents.items ≡ t.contents.items
-  pub entries : t'.entries.items ≡ set t.entries.items i (record (entry_at t i) { place = p })
-  pub changes : t'.changes.items ≡ t.changes.items ++ Puts (entry_at t i).name p ∷ []
+  pub entries : t'.entries.items ≡ set t.entries.items i (record (entry_at (rows_of t) i) { place = p })
+  pub changes : t'.changes.items ≡ t.changes.items ++ Puts (entry_at (rows_of t) i).name p ∷ []
 
-put_in : (t t' : Table) (i : ℕ) (p : Place) → IsTable t → PutsOne t t' i p
-    → IsPut t.names.items t.contents.items t.entries.items t'.entries.items (name_in t.names.items (entry_at t i).name) (slot_in t.contents.items (entry_at t i).place) (slot_in t.contents.items p)
+put_in : (t t' : Inside) (i : ℕ) (p : Place) → IsIndexed t → PutsOne t t' i p
+    → IsPut t.names.items t.contents.items t.entries.items t'.entries.items (name_in t.names.items (entry_at (rows_of t) i).name) (slot_in t.contents.items (entry_at (rows_of t) i).place) (slot_in t.contents.items p)
 put_in t t' i p is h =
-    subst (λ es. IsPut t.names.items t.contents.items t.entries.items es (name_in t.names.items (entry_at t i).name) (slot_in t.contents.items (entry_at t i).place) (slot_in t.contents.items p)) (sym h.entries)
-    (is_put t.names.items t.contents.items t.entries.items i any_entry (name_in t.names.items (entry_at t i).name) p (names_apart t is) h.at refl)
+    subst (λ es. IsPut t.names.items t.contents.items t.entries.items es (name_in t.names.items (entry_at (rows_of t) i).name) (slot_in t.contents.items (entry_at (rows_of t) i).place) (slot_in t.contents.items p)) (sym h.entries)
+    (is_put t.names.items t.contents.items t.entries.items i any_entry (name_in t.names.items (entry_at (rows_of t) i).name) p is.table.apart h.at refl)
 
-pub records_put : (t t' : Table) (i : ℕ) (p : Place) → IsTable t → PutsOne t t' i p → Records t t' (Puts (entry_at t i).name p) (event.Puts (name_in t.names.items (entry_at t i).name) (slot_in t.contents.items p))
+pub records_put : (t t' : Inside) (i : ℕ) (p : Place) → IsIndexed t → PutsOne t t' i p → Records t t' (Puts (entry_at (rows_of t) i).name p) (event.Puts (name_in t.names.items (entry_at (rows_of t) i).name) (slot_in t.contents.items p))
 records_put t t' i p is h =
     let put = put_in t t' i p is h in
-    let old = is.entries i any_entry h.at in
+    let old = is.table.entries i any_entry h.at in
     record {
       names = h.names;
       contents = h.contents;
-      entries = rw h.entries (all_put t.names.items t.contents.items t.entries.items i p is.entries h.at h.within);
+      entries = rw h.entries (all_put t.names.items t.contents.items t.entries.items i p is.table.entries h.at h.within);
       names_same = put.names_same;
       numbers = h.numbers;
       unsettled = h.unsettled;
@@ -316,11 +330,11 @@ records_put t t' i p is h =
       event = refl;
     }
 
-pub files_put : (t t' : Table) (i : ℕ) (p : Place) → IsTable t → PutsOne t t' i p → file_count (entries_of t') + has_file (slot_in t.contents.items (entry_at t i).place) ≡ file_count (entries_of t) + has_file (slot_in t.contents.items p)
+pub files_put : (t t' : Inside) (i : ℕ) (p : Place) → IsIndexed t → PutsOne t t' i p → file_count (entries_of (rows_of t')) + has_file (slot_in t.contents.items (entry_at (rows_of t) i).place) ≡ file_count (entries_of (rows_of t)) + has_file (slot_in t.contents.items p)
 files_put t t' i p is h = rw (h.names, h.contents) ((put_in t t' i p is h).files)
 
 -- t' is t with other places at two entries, and the change
-pub record PutsBoth (t t' : Table) (i : ℕ) (p : Place) (j : ℕ) (q : Place) : Type 0 where
+pub record PutsBoth (t t' : Inside) (i : ℕ) (p : Place) (j : ℕ) (q : Place) : Type 0 where
   pub at : i < length t.entries.items
   pub numbers : t'.numbers ≡ t.numbers
   pub unsettled : AreUnsettled t'.unsettled t'.entries.items
@@ -330,57 +344,57 @@ pub record PutsBoth (t t' : Table) (i : ℕ) (p : Place) (j : ℕ) (q : Place) :
   pub apart : i ≢ j
   pub names : t'.names.items ≡ t.names.items
   pub contents : t'.contents.items ≡ t.contents.items
-  pub entries : t'.entries.items ≡ set (set t.entries.items i (record (entry_at t i) { place = p })) j (record (get_or (set t.entries.items i (record (entry_at t i) { place = p })) j any_entry) { place = q })
-  pub changes : t'.changes.items ≡ t.changes.items ++ PutsTwo (entry_at t i).name p (entry_at t j).name q ∷ []
+  pub entries : t'.entries.items ≡ set (set t.entries.items i (record (entry_at (rows_of t) i) { place = p })) j (record (get_or (set t.entries.items i (record (entry_at (rows_of t) i) { place = p })) j any_entry) { place = q })
+  pub changes : t'.changes.items ≡ t.changes.items ++ PutsTwo (entry_at (rows_of t) i).name p (entry_at (rows_of t) j).name q ∷ []
 
 -- the entries after the first of two puts
-abbrev pub one_put : Table → ℕ → Place → List Entry
-one_put t i p = set t.entries.items i (record (entry_at t i) { place = p })
+abbrev pub one_put : Inside → ℕ → Place → List Entry
+one_put t i p = set t.entries.items i (record (entry_at (rows_of t) i) { place = p })
 
-other_same : (t t' : Table) (i : ℕ) (p : Place) (j : ℕ) (q : Place) → PutsBoth t t' i p j q → get_or (one_put t i p) j any_entry ≡ entry_at t j
-other_same t t' i p j q h = get_or-set_other t.entries.items i j (record (entry_at t i) { place = p }) any_entry (λ e. h.apart (sym e))
+other_same : (t t' : Inside) (i : ℕ) (p : Place) (j : ℕ) (q : Place) → PutsBoth t t' i p j q → get_or (one_put t i p) j any_entry ≡ entry_at (rows_of t) j
+other_same t t' i p j q h = get_or-set_other t.entries.items i j (record (entry_at (rows_of t) i) { place = p }) any_entry (λ e. h.apart (sym e))
 
-first_put_in : (t t' : Table) (i : ℕ) (p : Place) (j : ℕ) (q : Place) → IsTable t → PutsBoth t t' i p j q
-    → IsPut t.names.items t.contents.items t.entries.items (one_put t i p) (name_in t.names.items (entry_at t i).name) (slot_in t.contents.items (entry_at t i).place) (slot_in t.contents.items p)
-first_put_in t t' i p j q is h = is_put t.names.items t.contents.items t.entries.items i any_entry (name_in t.names.items (entry_at t i).name) p (names_apart t is) h.at refl
+first_put_in : (t t' : Inside) (i : ℕ) (p : Place) (j : ℕ) (q : Place) → IsIndexed t → PutsBoth t t' i p j q
+    → IsPut t.names.items t.contents.items t.entries.items (one_put t i p) (name_in t.names.items (entry_at (rows_of t) i).name) (slot_in t.contents.items (entry_at (rows_of t) i).place) (slot_in t.contents.items p)
+first_put_in t t' i p j q is h = is_put t.names.items t.contents.items t.entries.items i any_entry (name_in t.names.items (entry_at (rows_of t) i).name) p is.table.apart h.at refl
 
-second_put_in : (t t' : Table) (i : ℕ) (p : Place) (j : ℕ) (q : Place) → IsTable t → PutsBoth t t' i p j q
-    → IsPut t.names.items t.contents.items (one_put t i p) t'.entries.items (name_in t.names.items (entry_at t j).name) (slot_in t.contents.items (entry_at t j).place) (slot_in t.contents.items q)
+second_put_in : (t t' : Inside) (i : ℕ) (p : Place) (j : ℕ) (q : Place) → IsIndexed t → PutsBoth t t' i p j q
+    → IsPut t.names.items t.contents.items (one_put t i p) t'.entries.items (name_in t.names.items (entry_at (rows_of t) j).name) (slot_in t.contents.items (entry_at (rows_of t) j).place) (slot_in t.contents.items q)
 second_put_in t t' i p j q is h =
     let es1 = one_put t i p in
     let same = other_same t t' i p j q h in
-    let differ : AreApart (names_in t.names.items es1) = rw (first_put_in t t' i p j q is h).names_same (names_apart t is) in
-    let lt : j < length es1 = rw (length-set t.entries.items i (record (entry_at t i) { place = p })) h.other in
-    let put = is_put t.names.items t.contents.items es1 j any_entry (name_in t.names.items (entry_at t j).name) q differ lt (ap (λ (e : Entry). name_in t.names.items e.name) same) in
-    subst (λ es. IsPut t.names.items t.contents.items es1 es (name_in t.names.items (entry_at t j).name) (slot_in t.contents.items (entry_at t j).place) (slot_in t.contents.items q)) (sym h.entries)
-    (subst (λ (e : Entry). IsPut t.names.items t.contents.items es1 (set es1 j (record (get_or es1 j any_entry) { place = q })) (name_in t.names.items (entry_at t j).name) (slot_in t.contents.items e.place) (slot_in t.contents.items q)) same put)
+    let differ : AreApart (names_in t.names.items es1) = rw (first_put_in t t' i p j q is h).names_same is.table.apart in
+    let lt : j < length es1 = rw (length-set t.entries.items i (record (entry_at (rows_of t) i) { place = p })) h.other in
+    let put = is_put t.names.items t.contents.items es1 j any_entry (name_in t.names.items (entry_at (rows_of t) j).name) q differ lt (ap (λ (e : Entry). name_in t.names.items e.name) same) in
+    subst (λ es. IsPut t.names.items t.contents.items es1 es (name_in t.names.items (entry_at (rows_of t) j).name) (slot_in t.contents.items (entry_at (rows_of t) j).place) (slot_in t.contents.items q)) (sym h.entries)
+    (subst (λ (e : Entry). IsPut t.names.items t.contents.items es1 (set es1 j (record (get_or es1 j any_entry) { place = q })) (name_in t.names.items (entry_at (rows_of t) j).name) (slot_in t.contents.items e.place) (slot_in t.contents.items q)) same put)
 
 -- the event of two puts
-abbrev pub both_put : Table → ℕ → Place → ℕ → Place → Event
-both_put t i p j q = event.PutsTwo (name_in t.names.items (entry_at t i).name) (slot_in t.contents.items p) (name_in t.names.items (entry_at t j).name) (slot_in t.contents.items q)
+abbrev pub both_put : Inside → ℕ → Place → ℕ → Place → Event
+both_put t i p j q = event.PutsTwo (name_in t.names.items (entry_at (rows_of t) i).name) (slot_in t.contents.items p) (name_in t.names.items (entry_at (rows_of t) j).name) (slot_in t.contents.items q)
 
-pub records_both : (t t' : Table) (i : ℕ) (p : Place) (j : ℕ) (q : Place) → IsTable t → PutsBoth t t' i p j q → Records t t' (PutsTwo (entry_at t i).name p (entry_at t j).name q) (both_put t i p j q)
+pub records_both : (t t' : Inside) (i : ℕ) (p : Place) (j : ℕ) (q : Place) → IsIndexed t → PutsBoth t t' i p j q → Records t t' (PutsTwo (entry_at (rows_of t) i).name p (entry_at (rows_of t) j).name q) (both_put t i p j q)
 records_both t t' i p j q is h =
     let a = first_put_in t t' i p j q is h in
     let b = second_put_in t t' i p j q is h in
-    let lt : j < length (one_put t i p) = rw (length-set t.entries.items i (record (entry_at t i) { place = p })) h.other in
+    let lt : j < length (one_put t i p) = rw (length-set t.entries.items i (record (entry_at (rows_of t) i) { place = p })) h.other in
     record {
       names = h.names;
       contents = h.contents;
-      entries = rw h.entries (all_put t.names.items t.contents.items (one_put t i p) j q (all_put t.names.items t.contents.items t.entries.items i p is.entries h.at h.within) lt h.other_within);
+      entries = rw h.entries (all_put t.names.items t.contents.items (one_put t i p) j q (all_put t.names.items t.contents.items t.entries.items i p is.table.entries h.at h.within) lt h.other_within);
       names_same = b.names_same ∙ a.names_same;
       numbers = h.numbers;
       unsettled = h.unsettled;
       first = b.first ∙ a.first;
-      disk = b.disk ∙ ap (λ d. with_slot d (name_in t.names.items (entry_at t j).name) (slot_in t.contents.items q)) a.disk;
+      disk = b.disk ∙ ap (λ d. with_slot d (name_in t.names.items (entry_at (rows_of t) j).name) (slot_in t.contents.items q)) a.disk;
       changes = h.changes;
-      within = ((is.entries i any_entry h.at).name, h.within, (is.entries j any_entry h.other).name, h.other_within);
+      within = ((is.table.entries i any_entry h.at).name, h.within, (is.table.entries j any_entry h.other).name, h.other_within);
       event = refl;
     }
 
-pub files_both : (t t' : Table) (i : ℕ) (p : Place) (j : ℕ) (q : Place) → IsTable t → PutsBoth t t' i p j q
-    → file_count (entries_of t') + (has_file (slot_in t.contents.items (entry_at t i).place) + has_file (slot_in t.contents.items (entry_at t j).place))
-    ≡ file_count (entries_of t) + (has_file (slot_in t.contents.items p) + has_file (slot_in t.contents.items q))
+pub files_both : (t t' : Inside) (i : ℕ) (p : Place) (j : ℕ) (q : Place) → IsIndexed t → PutsBoth t t' i p j q
+    → file_count (entries_of (rows_of t')) + (has_file (slot_in t.contents.items (entry_at (rows_of t) i).place) + has_file (slot_in t.contents.items (entry_at (rows_of t) j).place))
+    ≡ file_count (entries_of (rows_of t)) + (has_file (slot_in t.contents.items p) + has_file (slot_in t.contents.items q))
 files_both t t' i p j q is h =
     let a = (first_put_in t t' i p j q is h).files in
     let b = (second_put_in t t' i p j q is h).files in

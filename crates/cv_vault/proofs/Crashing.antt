@@ -15,17 +15,17 @@ use Rattle.cv_vault.specs.Disk.{Disk, Slot, May, Image, LeftAt, slot, with_slot,
 use Rattle.cv_vault.specs.Crash.{Crashes, file_before, left_by, picks}
 use Rattle.cv_vault.specs.Events.{disk_of, first_disk, any_unsettled}
 use Rattle.cv_vault.specs.Places.{file_in, mark_in, slot_in, is_settled_place, before_place, left_place, next_pick, IsFileIn, IsMarkIn, IsPlaceIn}
-use Rattle.cv_vault.specs.Table.{any_entry, crash_at, crashed, name_in, names_in, entries_of, past_of, table_disk, Lacks, IsEntryIn, IsTable}
+use Rattle.cv_vault.specs.Table.{any_entry, crash_at, crashed, name_in, names_in, entries_of, past_of, table_disk, Lacks, IsEntryIn, AreApart}
+use Rattle.cv_vault.specs.Indexed.{rows_of, IsIndexed}
 use Rattle.cv_vault.specs.declared.place.Place.{Place}
 use Rattle.cv_vault.specs.declared.place.PlaceMark.{PlaceMark}
 use Rattle.cv_vault.specs.declared.place.PlaceMark.TheVariants as mark
 use Rattle.cv_vault.specs.declared.table.Entry.{Entry}
-use Rattle.cv_vault.specs.declared.table.Table.{Table}
+use Rattle.cv_vault.specs.declared.table.Table.TheInside.{Inside}
 use Rattle.cv_vault.proofs.Names.{here, elsewhere, other_name, same_name_itself, same_or_not, below_differs}
-use Rattle.cv_vault.proofs.Values.{AreApart}
 use Rattle.cv_vault.proofs.Reading.{resolved}
 use Rattle.cv_vault.proofs.Unsettled.{Contains-rest, unsettled_none}
-use Rattle.cv_vault.proofs.Changing.{set_disk, names_apart}
+use Rattle.cv_vault.proofs.Changing.{set_disk}
 use Rattle.cv_vault.proofs.Steps.{slot_at, settled_in}
 use Rattle.cv_vault.proofs.Ordered.{names_of, all_names, ascending, placed, numbers_in_range, covered, among_or_none, passes, passed}
 
@@ -286,7 +286,7 @@ unturned true h = cc
 unturned false h = refl
 
 -- t' is t after a crash
-pub record IsCrashed (pick : ℕ) (t t' : Table) : Type 0 where
+pub record IsCrashed (pick : ℕ) (t t' : Inside) : Type 0 where
   pub names : t'.names.items ≡ t.names.items
   pub contents : t'.contents.items ≡ t.contents.items
   pub entries : t'.entries.items ≡ crashed pick t.numbers.entries t.entries.items
@@ -295,60 +295,63 @@ pub record IsCrashed (pick : ℕ) (t t' : Table) : Type 0 where
   pub room : vec_capacity t'.unsettled ≡ vec_capacity t.unsettled
   pub changes : t'.changes.items ≡ []
 
-pub past_crashed : (pick : ℕ) (t t' : Table) → IsCrashed pick t t' → past_of t' ≡ []
+pub past_crashed : (pick : ℕ) (t t' : Inside) → IsCrashed pick t t' → past_of (rows_of t') ≡ []
 past_crashed pick t t' h = rw h.changes refl
 
-module _ (pick : ℕ) (t t' : Table) (is : IsTable t) (h : IsCrashed pick t t') where
+module _ (pick : ℕ) (t t' : Inside) (is : IsIndexed t) (h : IsCrashed pick t t') where
   fresh : All IsFresh (crashed pick t.numbers.entries t.entries.items)
   fresh = all_fresh pick t.numbers.entries t.entries.items (covered t is)
 
-  pub table_crashed : IsTable t'
+  pub table_crashed : IsIndexed t'
   table_crashed = record {
-    entries = rw (h.names, h.contents, h.entries) (crashed_in (length t.names.items) (length t.contents.items) pick t.numbers.entries t.entries.items
-        (numbers_in_range t is) is.entries);
-    changes = rw h.changes (λ k d lt. absurd (omega arith));
+    table = record {
+      entries = rw (h.names, h.contents, h.entries) (crashed_in (length t.names.items) (length t.contents.items) pick t.numbers.entries t.entries.items
+          (numbers_in_range t is) is.table.entries);
+      changes = rw h.changes (λ k d lt. absurd (omega arith));
+      apart = rw (h.names, h.entries, names_crashed t.names.items t.contents.items pick t.numbers.entries t.entries.items) is.table.apart;
+      linked = rw (h.names, h.contents, h.entries, h.changes) (λ i n. first_fresh t.names.items t.contents.items (crashed pick t.numbers.entries t.entries.items) n fresh i);
+    };
     ordered = rw h.numbers is.ordered;
     numbers = rw (h.names, h.entries, h.numbers, names_crashed t.names.items t.contents.items pick t.numbers.entries t.entries.items) is.numbers;
     unsettled = unsettled_none t'.unsettled t'.entries.items h.unsettled (rw h.entries (All-weaker IsFresh _ settled_if_fresh (crashed pick t.numbers.entries t.entries.items) fresh))
         (rw (h.entries, h.room, length-crashed pick t.numbers.entries t.entries.items) is.unsettled.room);
-    linked = rw (h.names, h.contents, h.entries, h.changes) (λ i n. first_fresh t.names.items t.contents.items (crashed pick t.numbers.entries t.entries.items) n fresh i);
   }
     where
       settled_if_fresh : (e : Entry) → IsFresh e → is_settled_place e.place ≡ true
       settled_if_fresh e f = rw f refl
 
-  pub calm_after : any_unsettled (entries_of t') ≡ false
+  pub calm_after : any_unsettled (entries_of (rows_of t')) ≡ false
   calm_after = rw (h.names, h.contents, h.entries) (calm_fresh t.names.items t.contents.items (crashed pick t.numbers.entries t.entries.items) fresh)
 
   pub count_after : length t'.entries.items ≡ length t.entries.items
   count_after = rw h.entries (length-crashed pick t.numbers.entries t.entries.items)
 
-  pub crashes : Crashes pick (table_disk t) (table_disk t')
+  pub crashes : Crashes pick (table_disk (rows_of t)) (table_disk (rows_of t'))
   crashes = record {
     unsettled = open_names;
-    ascending = IsStrictlySortedBy-filter name_cmp (λ m. not (is_settled (table_disk t m).mark)) (all_names t) (ascending t is);
-    exact = λ n. (λ c. unturned (is_settled (table_disk t n).mark) (passed (λ m. not (is_settled (table_disk t m).mark)) (all_names t) n c), is_among n);
-    left = rw (h.names, h.contents, h.entries) (λ i n. crashed_at string_bytes t.names.items t.contents.items (table_disk t) pick t.numbers.entries t.entries.items n (ascending t is) (names_apart t is) agree (missing n) i);
-    image = picks_image pick open_names (table_disk t);
+    ascending = IsStrictlySortedBy-filter name_cmp (λ m. not (is_settled (table_disk (rows_of t) m).mark)) (all_names t) (ascending t is);
+    exact = λ n. (λ c. unturned (is_settled (table_disk (rows_of t) n).mark) (passed (λ m. not (is_settled (table_disk (rows_of t) m).mark)) (all_names t) n c), is_among n);
+    left = rw (h.names, h.contents, h.entries) (λ i n. crashed_at string_bytes t.names.items t.contents.items (table_disk (rows_of t)) pick t.numbers.entries t.entries.items n (ascending t is) is.table.apart agree (missing n) i);
+    image = picks_image pick open_names (table_disk (rows_of t));
   }
     where
       open_names : List Name
-      open_names = unsettled_in string_bytes t.names.items t.contents.items (table_disk t) t.numbers.entries
+      open_names = unsettled_in string_bytes t.names.items t.contents.items (table_disk (rows_of t)) t.numbers.entries
 
-      agree : All (Agrees string_bytes t.names.items t.contents.items (table_disk t) t.entries.items) t.numbers.entries
+      agree : All (Agrees string_bytes t.names.items t.contents.items (table_disk (rows_of t)) t.entries.items) t.numbers.entries
       agree k e lt =
           let at = placed t is k e lt in
           let p = get_or t.numbers.entries k e in
-          record { within = at.0; name = at.1; stands = slot_at t (string_bytes p.0) p.1 is at }
+          record { within = at.0; name = at.1; stands = slot_at (rows_of t) (string_bytes p.0) p.1 is.table at }
 
-      missing : (n : Name) → Lacks n (all_names t) → table_disk t n ≡ slot (table_disk t n).now disk.Settled
+      missing : (n : Name) → Lacks n (all_names t) → table_disk (rows_of t) n ≡ slot (table_disk (rows_of t) n).now disk.Settled
       missing n lacks = elim (among_or_none t is n) [
         | inl c ↦ absurd (lacks c.0 n c.1 (sym c.2))
         | inr none ↦ none ∙ ap (λ (s : Slot). slot s.now disk.Settled) (sym none)
       ]
 
-      is_among : (n : Name) → is_settled (table_disk t n).mark ≡ false → Contains (unsettled_in string_bytes t.names.items t.contents.items (table_disk t) t.numbers.entries) n
+      is_among : (n : Name) → is_settled (table_disk (rows_of t) n).mark ≡ false → Contains (unsettled_in string_bytes t.names.items t.contents.items (table_disk (rows_of t)) t.numbers.entries) n
       is_among n u = elim (among_or_none t is n) [
-        | inl c ↦ passes (λ m. not (is_settled (table_disk t m).mark)) (all_names t) n c (ap not u)
+        | inl c ↦ passes (λ m. not (is_settled (table_disk (rows_of t) m).mark)) (all_names t) n c (ap not u)
         | inr none ↦ absurd (settled_there (sym (ap (λ (s : Slot). is_settled s.mark) none) ∙ u))
       ]

@@ -17,14 +17,16 @@ use Rattle.cv_vault.specs.Disk as disk
 use Rattle.cv_vault.specs.Names.{Name}
 use Rattle.cv_vault.specs.Events.{disk_of, first_disk, file_count, any_unsettled}
 use Rattle.cv_vault.specs.Places.{file_in, mark_in, slot_in, IsFileIn, IsMarkIn, IsPlaceIn}
-use Rattle.cv_vault.specs.Table.{name_in, names_in, named_in, event_in, entries_of, past_of, IsEntryIn, IsChangeIn, AreNumbers, AreUnsettled, IsTable, Stays}
+use Rattle.cv_vault.specs.Table.{name_in, names_in, named_in, event_in, entries_of, past_of, IsEntryIn, IsChangeIn, Stays}
+use Rattle.cv_vault.specs.Indexed.{rows_of, IsIndexed, AreNumbers, AreUnsettled}
 use Rattle.cv_vault.specs.declared.place.Place.{Place}
 use Rattle.cv_vault.specs.declared.place.PlaceMark.{PlaceMark}
 use Rattle.cv_vault.specs.declared.place.PlaceMark.TheVariants.{Settled, Torn, Moved}
 use Rattle.cv_vault.specs.declared.table.Entry.{Entry}
-use Rattle.cv_vault.specs.declared.table.Table.{Table}
+use Rattle.cv_vault.specs.declared.table.Table.TheInside.{Inside}
 use Rattle.cv_vault.specs.declared.table.Change.{Change}
 use Rattle.cv_vault.specs.declared.table.Change.TheVariants.{Puts, PutsTwo, Settles}
+use Rattle.cv_vault.proofs.Reading.{numbers_apart}
 
 map_agree : {X Y : Type 0} (f g : X → Y) (P : X → Type 0) → ((x : X) → P x → f x ≡ g x) → (xs : List X) → All P xs → map f xs ≡ map g xs
 map_agree f g P h [] all = refl
@@ -94,7 +96,7 @@ module _ (names : List Name) (contents : List (List ℕ)) (names_more : List Nam
   names_grown es h = map_agree (λ (e : Entry). name_in (names ++ names_more) e.name) (λ (e : Entry). name_in names e.name) (IsEntryIn (length names) (length contents)) (λ e x. get_or-append names names_more [] e.name x.name) es h
 
 -- t' is t with more names and contents
-pub record Grows (t t' : Table) : Type 0 where
+pub record Grows (t t' : Inside) : Type 0 where
   pub names_more : List Name
   pub names : t'.names.items ≡ t.names.items ++ names_more
   pub contents_more : List (List ℕ)
@@ -111,7 +113,7 @@ numbers_same {Y} m m' e =
     let find : List (String Y × ℕ) → Name → Option ℕ = λ es n. lookup (is_at (λ (k : String Y). slice_cmp nat_cmp n (string_bytes k))) es in
     ap find e
 
-unsettled_grown : (t t' : Table) → AreUnsettled t.unsettled t.entries.items → Grows t t' → AreUnsettled t'.unsettled t'.entries.items
+unsettled_grown : (t t' : Inside) → AreUnsettled t.unsettled t.entries.items → Grows t t' → AreUnsettled t'.unsettled t'.entries.items
 unsettled_grown t t' u g = record {
   within = rw (g.unsettled, g.entries) u.within;
   each = rw (g.unsettled, g.entries) u.each;
@@ -119,43 +121,52 @@ unsettled_grown t t' u g = record {
   room = rw g.entries (let r = u.room in let s = g.room in omega arith);
 }
 
-pub entries_of-grown : (t t' : Table) → IsTable t → Grows t t' → entries_of t' ≡ entries_of t
-entries_of-grown t t' is g = rw (g.names, g.contents, g.entries) (entries_grown t.names.items t.contents.items g.names_more g.contents_more t.entries.items is.entries)
+pub entries_of-grown : (t t' : Inside) → IsIndexed t → Grows t t' → entries_of (rows_of t') ≡ entries_of (rows_of t)
+entries_of-grown t t' is g = rw (g.names, g.contents, g.entries) (entries_grown t.names.items t.contents.items g.names_more g.contents_more t.entries.items is.table.entries)
 
-pub past_of-grown : (t t' : Table) → IsTable t → Grows t t' → past_of t' ≡ past_of t
-past_of-grown t t' is g = rw (g.names, g.contents, g.changes) (events_grown t.names.items t.contents.items g.names_more g.contents_more t.changes.items is.changes)
+pub past_of-grown : (t t' : Inside) → IsIndexed t → Grows t t' → past_of (rows_of t') ≡ past_of (rows_of t)
+past_of-grown t t' is g = rw (g.names, g.contents, g.changes) (events_grown t.names.items t.contents.items g.names_more g.contents_more t.changes.items is.table.changes)
 
-pub stays_grown : (t t' : Table) → IsTable t → Grows t t' → Stays t t'
+pub stays_grown : (t t' : Inside) → IsIndexed t → Grows t t' → Stays (rows_of t) (rows_of t')
 stays_grown t t' is g =
     let e = entries_of-grown t t' is g in
-    record { disk = ap disk_of e; first = ap first_disk e; past = past_of-grown t t' is g; changes = g.changes; files = ap file_count e; unsettled = ap any_unsettled e }
+    record { disk = ap disk_of e; first = ap first_disk e; past = past_of-grown t t' is g; changes = ap (λ v. v.items) g.changes; room = ap (λ v. vec_capacity v) g.changes; files = ap file_count e; unsettled = ap any_unsettled e }
 
-pub table_grown : (t t' : Table) → IsTable t → Grows t t' → IsTable t'
+pub table_grown : (t t' : Inside) → IsIndexed t → Grows t t' → IsIndexed t'
 table_grown t t' is g =
     let s = stays_grown t t' is g in
+    let ns : List Name = names_in t'.names.items t'.entries.items in
+    let numbers : AreNumbers (get_by_text t'.numbers) ns = rw (g.names, g.entries)
+    (subst (λ f. AreNumbers f (names_in (t.names.items ++ g.names_more) t.entries.items)) (sym (numbers_same t.numbers t'.numbers g.numbers))
+    (subst (AreNumbers (get_by_text t.numbers)) (sym (names_grown t.names.items t.contents.items g.names_more g.contents_more t.entries.items is.table.entries)) is.numbers)) in
     record {
-      entries = rw (g.names, g.contents, g.entries) (All-weaker _ _ (entry_within t.names.items t.contents.items g.names_more g.contents_more) t.entries.items is.entries);
-      changes = rw (g.names, g.contents, g.changes) (All-weaker _ _ (change_within t.names.items t.contents.items g.names_more g.contents_more) t.changes.items is.changes);
+      table = record {
+        entries = rw (g.names, g.contents, g.entries) (All-weaker _ _ (entry_within t.names.items t.contents.items g.names_more g.contents_more) t.entries.items is.table.entries);
+        changes = rw (g.names, g.contents, g.changes) (All-weaker _ _ (change_within t.names.items t.contents.items g.names_more g.contents_more) t.changes.items is.table.changes);
+        apart = numbers_apart (get_by_text t'.numbers) ns numbers;
+        linked = s.disk ∙ is.table.linked ∙ (let p = s.past in let f = s.first in cc);
+      };
       ordered = subst (λ (ks : List (String Global × ℕ)). IsStrictlySortedBy string_cmp (map (λ (k : String Global × ℕ). k.0) ks)) (sym g.numbers) is.ordered;
-      numbers = rw (g.names, g.entries)
-          (subst (λ f. AreNumbers f (names_in (t.names.items ++ g.names_more) t.entries.items)) (sym (numbers_same t.numbers t'.numbers g.numbers))
-          (subst (AreNumbers (get_by_text t.numbers)) (sym (names_grown t.names.items t.contents.items g.names_more g.contents_more t.entries.items is.entries)) is.numbers));
+      numbers = numbers;
       unsettled = unsettled_grown t t' is.unsettled g;
-      linked = s.disk ∙ is.linked ∙ (let p = s.past in let f = s.first in cc);
     }
 
 -- a table without names
-pub record IsNone (t : Table) : Type 0 where
+pub record IsNone (t : Inside) : Type 0 where
   pub entries : t.entries.items ≡ []
   pub numbers : t.numbers.entries ≡ []
   pub unsettled : t.unsettled.items ≡ []
   pub changes : t.changes.items ≡ []
 
-pub table_none : (t : Table) → IsNone t → IsTable t
+pub table_none : (t : Inside) → IsNone t → IsIndexed t
 unfolding IsStrictlySortedBy
 table_none t h = record {
-  entries = rw h.entries (All-nil _);
-  changes = rw h.changes (All-nil _);
+  table = record {
+    entries = rw h.entries (All-nil _);
+    changes = rw h.changes (All-nil _);
+    apart = rw h.entries (λ i j lt. absurd (omega arith));
+    linked = rw (h.entries, h.changes) refl;
+  };
   ordered = rw h.numbers tt;
   numbers = λ n i. rw (h.entries, h.numbers) (none i, λ l. absurd (let lt = l.0 in omega arith));
   unsettled = record {
@@ -164,7 +175,6 @@ table_none t h = record {
     count = rw (h.entries, h.unsettled) refl;
     room = rw h.entries (omega arith);
   };
-  linked = rw (h.entries, h.changes) refl;
 }
   where
     none : {X : Type 0} (i : ℕ) → None ≡ Some i → X

@@ -1,5 +1,5 @@
 -- The calls of a vault in memory, by what it holds.
-use Rattle.std.proofs.Common.{◌≡◌, ◌≢◌, ℕ, ◌+◌, ◌<◌, ◌≤◌, Bool, true, false, cond, ◌⊎◌, inl, inr, List, [], ◌∷◌, ◌++◌, is_some, min, nat_lt, refl, ap, sym, subst, ◌∙◌, arith, vec_len}
+use Rattle.std.proofs.Common.{◌≡◌, ◌≢◌, ℕ, ◌+◌, ◌<◌, ◌≤◌, Bool, true, false, cond, ◌⊎◌, inl, inr, List, [], ◌∷◌, ◌++◌, is_some, min, nat_lt, refl, ap, sym, subst, ◌∙◌, arith, length}
 use Rattle.std.specs.Prelude.{IsSome, IfOk, IsErrAnd, Vec}
 use Rattle.std.specs.Bool.{OnTrue, OnFalse}
 use Rattle.std.specs.declared.option.Option.{Option}
@@ -7,7 +7,6 @@ use Rattle.std.specs.declared.option.Option.TheVariants.{Some, None}
 use Rattle.std.specs.declared.result.Result.{Result}
 use Rattle.std.specs.declared.result.Result.TheVariants.{Ok, Err}
 use Rattle.cv_base.specs.Counts.{last_count}
-use Rattle.std.specs.Vec.{vec_capacity}
 use Rattle.std.proofs.lemmas.List.Sums.{sum_by-cons}
 use Rattle.cv_vault.specs.Names.{Name, same_name}
 use Rattle.cv_vault.specs.Disk.{Disk, File, Reads, Lists, Writes, Renames, Removes, Syncs, Absent, Made, Unmade, synced}
@@ -258,7 +257,7 @@ file_there (e ∷ es) n h = by (same_name n e.name) h (file_there es n)
     by true h rest = let one : has_file e.stands ≡ 1 = rw h refl in omega (arith, counted)
     by false h rest = omega (arith, counted, rest h)
 
-pub removal_room : (v : Inside) (n : Name) → IsMemory v → IsSome (table_disk v.table n).now → vec_len v.table.changes < vec_capacity v.table.changes
+pub removal_room : (v : Inside) (n : Name) → IsMemory v → IsSome (table_disk v.table n).now → length v.table.changes < v.table.room
 removal_room v n is h =
     let one = file_there (entries_of v.table) n h in
     let room = is.room in

@@ -16,8 +16,9 @@ use Rattle.std.proofs.lemmas.Map.Views.{All-found}
 use Rattle.cv_vault.specs.Names.{Name, name_cmp, same_name}
 use Rattle.cv_vault.specs.Disk as disk
 use Rattle.cv_vault.specs.Disk.{slot}
-use Rattle.cv_vault.specs.Table.{name_in, names_in, entry_at, IsEntryOf, IsTable, table_disk}
-use Rattle.cv_vault.specs.declared.table.Table.{Table}
+use Rattle.cv_vault.specs.Table.{name_in, names_in, entry_at, IsEntryOf, table_disk}
+use Rattle.cv_vault.specs.Indexed.{rows_of, IsIndexed}
+use Rattle.cv_vault.specs.declared.table.Table.TheInside.{Inside}
 use Rattle.cv_vault.proofs.Names.{same_name_is}
 use Rattle.cv_vault.proofs.Reading.{slot_missing, numbers_lack, names_at, at_names}
 
@@ -69,30 +70,30 @@ unfolding IsStrictlySortedBy
 sorted_bytes [] h = tt
 sorted_bytes (p ∷ es) h = (all_bytes p.0 es h.0, sorted_bytes es h.1)
 
-module _ (t : Table) where
+module _ (t : Inside) where
   abbrev pub all_names : List Name
   all_names = names_of string_bytes t.numbers.entries
 
-module _ (t : Table) (is : IsTable t) where
+module _ (t : Inside) (is : IsIndexed t) where
   pub ascending : IsStrictlySortedBy name_cmp (all_names t)
   ascending = sorted_bytes t.numbers.entries is.ordered
 
   -- each name stands with the number of its entry
-  pub placed : All (λ p. IsEntryOf t (string_bytes p.0) p.1) t.numbers.entries
-  placed = All-weaker (λ p. get_by_text t.numbers (string_bytes p.0) ≡ Some p.1) (λ p. IsEntryOf t (string_bytes p.0) p.1)
-      (λ p e. names_at t (string_bytes p.0) p.1 ((is.numbers (string_bytes p.0) p.1).0 e)) t.numbers.entries (All-found string_cmp_total t.numbers is.ordered)
+  pub placed : All (λ p. IsEntryOf (rows_of t) (string_bytes p.0) p.1) t.numbers.entries
+  placed = All-weaker (λ p. get_by_text t.numbers (string_bytes p.0) ≡ Some p.1) (λ p. IsEntryOf (rows_of t) (string_bytes p.0) p.1)
+      (λ p e. names_at (rows_of t) (string_bytes p.0) p.1 ((is.numbers (string_bytes p.0) p.1).0 e)) t.numbers.entries (All-found string_cmp_total t.numbers is.ordered)
 
   pub numbers_in_range : All (λ p. p.1 < length t.entries.items) t.numbers.entries
   numbers_in_range = λ k d lt. (placed k d lt).0
 
   -- the number of each entry stands with its name
   pub covered : (i : ℕ) → i < length t.entries.items → Contains (map (λ p. p.1) t.numbers.entries) i
-  covered i lt = (at_key t.numbers.entries (name_in t.names.items (entry_at t i).name) i ((is.numbers (name_in t.names.items (entry_at t i).name) i).1 (at_names t i lt))).1
+  covered i lt = (at_key t.numbers.entries (name_in t.names.items (entry_at (rows_of t) i).name) i ((is.numbers (name_in t.names.items (entry_at (rows_of t) i).name) i).1 (at_names (rows_of t) i lt))).1
 
   -- a name is among them, or nothing stands there
-  pub among_or_none : (n : Name) → Contains (all_names t) n ⊎ (table_disk t n ≡ slot None disk.Settled)
+  pub among_or_none : (n : Name) → Contains (all_names t) n ⊎ (table_disk (rows_of t) n ≡ slot None disk.Settled)
   among_or_none n = by (get_by_text t.numbers n) refl
     where
-      by : (r : Option ℕ) → get_by_text t.numbers n ≡ r → Contains (all_names t) n ⊎ (table_disk t n ≡ slot None disk.Settled)
+      by : (r : Option ℕ) → get_by_text t.numbers n ≡ r → Contains (all_names t) n ⊎ (table_disk (rows_of t) n ≡ slot None disk.Settled)
       by None e = inr (slot_missing t.names.items t.contents.items t.entries.items n (numbers_lack (get_by_text t.numbers) (names_in t.names.items t.entries.items) n is.numbers e))
       by (Some i) e = inl ((at_key t.numbers.entries n i e).0)

@@ -9,11 +9,11 @@ use Rattle.cv_vault.specs.Names.{Name}
 use Rattle.cv_vault.specs.Disk as disk
 use Rattle.cv_vault.specs.Disk.{Slot, slot}
 use Rattle.cv_vault.specs.Events.{NamedSlot, value_at, disk_of}
-use Rattle.cv_vault.specs.Table.{name_in, names_in, Lacks, named_in, AreNumbers, any_entry, entry_at, IsEntryOf}
+use Rattle.cv_vault.specs.Table.{name_in, names_in, Rows, Lacks, AreApart, named_in, any_entry, entry_at, IsEntryOf}
+use Rattle.cv_vault.specs.Indexed.{AreNumbers}
 use Rattle.cv_vault.specs.Places.{slot_in}
 use Rattle.cv_vault.specs.declared.table.Entry.{Entry}
-use Rattle.cv_vault.specs.declared.table.Table.{Table}
-use Rattle.cv_vault.proofs.Values.{AreApart, LacksPair, firsts, value_at-get, value_at-lacks}
+use Rattle.cv_vault.proofs.Values.{LacksPair, firsts, value_at-get, value_at-lacks}
 
 -- names that have numbers differ
 pub numbers_apart : (f : Name → Option ℕ) (ns : List Name) → AreNumbers f ns → AreApart ns
@@ -64,15 +64,15 @@ module _ (names : List Name) (contents : List (List ℕ)) where
   slot_missing es n h = value_at-lacks (slot None disk.Settled) (map pair_of (resolved names contents es)) n (lacks es n h)
 
 -- an entry at the place of a name
-module _ (t : Table) where
-  pub names_at : (n : Name) (i : ℕ) → (i < length (names_in t.names.items t.entries.items)) × (get_or (names_in t.names.items t.entries.items) i [] ≡ n) → IsEntryOf t n i
+module _ (t : Rows) where
+  pub names_at : (n : Name) (i : ℕ) → (i < length (names_in t.names t.entries)) × (get_or (names_in t.names t.entries) i [] ≡ n) → IsEntryOf t n i
   names_at n i h =
-      let f : Entry → Name = λ e. name_in t.names.items e.name in
-      let lt : i < length t.entries.items = subst (λ k. i < k) (length-map t.entries.items f) h.0 in
-      (lt, sym (get_or-map f t.entries.items i any_entry [] lt) ∙ h.1)
+      let f : Entry → Name = λ e. name_in t.names e.name in
+      let lt : i < length t.entries = subst (λ k. i < k) (length-map t.entries f) h.0 in
+      (lt, sym (get_or-map f t.entries i any_entry [] lt) ∙ h.1)
 
-  pub at_names : (i : ℕ) → i < length t.entries.items
-      → (i < length (names_in t.names.items t.entries.items)) × (get_or (names_in t.names.items t.entries.items) i [] ≡ name_in t.names.items (entry_at t i).name)
+  pub at_names : (i : ℕ) → i < length t.entries
+      → (i < length (names_in t.names t.entries)) × (get_or (names_in t.names t.entries) i [] ≡ name_in t.names (entry_at t i).name)
   at_names i lt =
-      let f : Entry → Name = λ e. name_in t.names.items e.name in
-      (subst (λ k. i < k) (sym (length-map t.entries.items f)) lt, get_or-map f t.entries.items i any_entry [] lt)
+      let f : Entry → Name = λ e. name_in t.names e.name in
+      (subst (λ k. i < k) (sym (length-map t.entries f)) lt, get_or-map f t.entries i any_entry [] lt)

@@ -10,16 +10,17 @@ use Rattle.std.proofs.lemmas.Bool.Decides.{nat_tests}
 use Rattle.std.proofs.lemmas.List.Elements.{All-head, All-tail, All-map, All-weaker, All-from_get_or}
 use Rattle.cv_vault.specs.Names.{Name, same_name}
 use Rattle.cv_vault.specs.Disk as disk
-use Rattle.cv_vault.specs.Disk.{Disk, Slot, slot, is_settled, synced}
+use Rattle.cv_vault.specs.Disk.{Slot, slot, is_settled, synced}
 use Rattle.cv_vault.specs.Events.{NamedSlot, disk_of, first_disk, file_count, has_file, any_unsettled}
 use Rattle.cv_vault.specs.Events as event
 use Rattle.cv_vault.specs.Places.{file_in, mark_in, slot_in, is_settled_place}
-use Rattle.cv_vault.specs.Table.{name_in, names_in, settled_entry, settled_each, entry_at, any_entry, table_disk, entries_of, AreUnsettled, IsEntryIn, IsTable}
+use Rattle.cv_vault.specs.Table.{Rows, name_in, names_in, settled_entry, settled_each, entry_at, any_entry, table_disk, entries_of, IsEntryIn, IsTable}
+use Rattle.cv_vault.specs.Indexed.{rows_of, IsIndexed, AreUnsettled}
 use Rattle.cv_vault.specs.declared.place.Place.{Place}
 use Rattle.cv_vault.specs.declared.place.PlaceMark.{PlaceMark}
 use Rattle.cv_vault.specs.declared.place.PlaceMark.TheVariants as mark
 use Rattle.cv_vault.specs.declared.table.Entry.{Entry}
-use Rattle.cv_vault.specs.declared.table.Table.{Table}
+use Rattle.cv_vault.specs.declared.table.Table.TheInside.{Inside}
 use Rattle.cv_vault.specs.declared.table.Change.TheVariants.{Settles}
 use Rattle.cv_vault.proofs.Reading.{resolved}
 use Rattle.cv_vault.proofs.Steps.{settled_in, slot_at}
@@ -164,7 +165,7 @@ calm_listed us es u = ap (λ k. k == 0) u.count ∙ none es
         by false h = suc_not_zero (count_by is_open xs)
 
 -- t' is t with every name settled, and the change
-pub record SettlesAll (t t' : Table) : Type 0 where
+pub record SettlesAll (t t' : Inside) : Type 0 where
   pub names : t'.names.items ≡ t.names.items
   pub contents : t'.contents.items ≡ t.contents.items
   pub entries : t'.entries.items ≡ map settled_entry t.entries.items
@@ -176,7 +177,7 @@ pub record SettlesAll (t t' : Table) : Type 0 where
 settled_within : (names contents : ℕ) (e : Entry) → IsEntryIn names contents e → IsEntryIn names contents (settled_entry e)
 settled_within names contents e h = record { name = h.name; first = h.first; place = record { file = h.place.file; mark = tt } }
 
-pub records_settled : (t t' : Table) → IsTable t → SettlesAll t t' → Records t t' Settles event.Settles
+pub records_settled : (t t' : Inside) → IsIndexed t → SettlesAll t t' → Records t t' Settles event.Settles
 records_settled t t' is h =
     let names = t.names.items in
     let contents = t.contents.items in
@@ -184,7 +185,7 @@ records_settled t t' is h =
     record {
       names = h.names;
       contents = h.contents;
-      entries = rw h.entries (All-map (IsEntryIn (length names) (length contents)) settled_entry es (All-weaker _ _ (settled_within (length names) (length contents)) es is.entries));
+      entries = rw h.entries (All-map (IsEntryIn (length names) (length contents)) settled_entry es (All-weaker _ _ (settled_within (length names) (length contents)) es is.table.entries));
       names_same = rw h.entries (names_settled names contents es);
       numbers = h.numbers;
       unsettled = unsettled_none t'.unsettled t'.entries.items h.unsettled (rw h.entries (All-map IsCalmEntry settled_entry es (λ k d lt. refl)))
@@ -196,13 +197,13 @@ records_settled t t' is h =
       event = refl;
     }
 
-pub any_unsettled-settled : (t t' : Table) → SettlesAll t t' → any_unsettled (entries_of t') ≡ false
+pub any_unsettled-settled : (t t' : Inside) → SettlesAll t t' → any_unsettled (entries_of (rows_of t')) ≡ false
 any_unsettled-settled t t' h = rw (h.names, h.contents, h.entries) (any_settled t.names.items t.contents.items t.entries.items)
 
-pub file_count-settled : (t t' : Table) → SettlesAll t t' → file_count (entries_of t') ≡ file_count (entries_of t)
+pub file_count-settled : (t t' : Inside) → SettlesAll t t' → file_count (entries_of (rows_of t')) ≡ file_count (entries_of (rows_of t))
 file_count-settled t t' h =
     rw (h.names, h.contents, h.entries) (sym (sum-map (λ (e : NamedSlot). has_file e.stands) (resolved t.names.items t.contents.items (map settled_entry t.entries.items)))
-    ∙ ap sum (files_settled t.names.items t.contents.items t.entries.items) ∙ sum-map (λ (e : NamedSlot). has_file e.stands) (entries_of t))
+    ∙ ap sum (files_settled t.names.items t.contents.items t.entries.items) ∙ sum-map (λ (e : NamedSlot). has_file e.stands) (entries_of (rows_of t)))
 
 -- an entry that isn't settled
 pub record Unsettled (names : List Name) (contents : List (List ℕ)) (es : List Entry) : Type 0 where
@@ -219,8 +220,8 @@ unsettled_entry names contents (e ∷ es) h = by (is_settled (mark_in contents e
     by false k rest = record { place = 0; within = omega arith; mark = k }
 
 -- a sync of a disk with an unsettled name changes it
-pub unsettled_differs : (t : Table) → IsTable t → any_unsettled (entries_of t) ≡ true → (n : Name) × (synced (table_disk t) n ≢ table_disk t n)
+pub unsettled_differs : (t : Rows) → IsTable t → any_unsettled (entries_of t) ≡ true → (n : Name) × (synced (table_disk t) n ≢ table_disk t n)
 unsettled_differs t is h =
-    let u = unsettled_entry t.names.items t.contents.items t.entries.items h in
-    let n : Name = name_in t.names.items (entry_at t u.place).name in
-    (n, λ e. (let m : disk.Settled ≡ (slot_in t.contents.items (entry_at t u.place).place).mark = ap (λ (s : Slot). s.mark) (e ∙ slot_at t n u.place is (u.within, refl)) in let k = ap is_settled m in let f = u.mark in cc))
+    let u = unsettled_entry t.names t.contents t.entries h in
+    let n : Name = name_in t.names (entry_at t u.place).name in
+    (n, λ e. (let m : disk.Settled ≡ (slot_in t.contents (entry_at t u.place).place).mark = ap (λ (s : Slot). s.mark) (e ∙ slot_at t n u.place is (u.within, refl)) in let k = ap is_settled m in let f = u.mark in cc))

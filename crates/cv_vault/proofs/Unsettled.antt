@@ -9,7 +9,8 @@ use Rattle.std.proofs.lemmas.List.Sums.{sum_by-set, sum_by-append, sum_by-cons, 
 use Rattle.std.proofs.Math.ListN.{get_or-append}
 use Rattle.std.proofs.Math.Seq.{get_or-append_seam}
 use Rattle.cv_vault.specs.Places.{is_settled_place}
-use Rattle.cv_vault.specs.Table.{any_entry, AreUnsettled}
+use Rattle.cv_vault.specs.Table.{any_entry}
+use Rattle.cv_vault.specs.Indexed.{AreUnsettled}
 use Rattle.cv_vault.specs.declared.place.Place.{Place}
 use Rattle.cv_vault.specs.declared.place.PlaceMark.TheVariants.{Torn}
 use Rattle.cv_vault.specs.declared.table.Entry.{Entry}

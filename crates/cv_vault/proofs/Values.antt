@@ -4,6 +4,7 @@ use Rattle.std.specs.List.{AllByRecursion}
 use Rattle.std.proofs.lemmas.List.{length-map, get_or-map}
 use Rattle.cv_vault.specs.Names.{Name, same_name}
 use Rattle.cv_vault.specs.Events.{value_at}
+use Rattle.cv_vault.specs.Table.{AreApart}
 use Rattle.cv_vault.proofs.Names.{same_name_itself, other_name, same_or_not}
 
 -- no pair has the name
@@ -16,10 +17,6 @@ firsts {X} ps = map (λ (p : Name × X). p.0) ps
 pub value_at-lacks : {X : Type 0} (absent : X) (ps : List (Name × X)) (n : Name) → LacksPair n ps → value_at absent ps n ≡ absent
 value_at-lacks absent [] n h = refl
 value_at-lacks absent (p ∷ ps) n h = rw (other_name n p.0 h.0) (value_at-lacks absent ps n h.1)
-
--- no two places have the same name
-abbrev pub AreApart : List Name → Type 0
-AreApart ns = (i j : ℕ) → i < length ns → j < length ns → get_or ns i [] ≡ get_or ns j [] → i ≡ j
 
 later_differs : (m : Name) (ns : List Name) (i : ℕ) → AreApart (m ∷ ns) → i < length ns → get_or ns i [] ≢ m
 later_differs m ns i h lt e = let z : suc i ≡ 0 = h (suc i) 0 (omega arith) (omega arith) e in omega arith

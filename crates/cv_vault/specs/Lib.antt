@@ -8,6 +8,7 @@ pub mod Failures
 pub mod Events
 pub mod Places
 pub mod Table
+pub mod Indexed
 pub mod Memory
 pub mod MemoryLaws
 pub mod MemoryVault

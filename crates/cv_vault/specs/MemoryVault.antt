@@ -1,8 +1,8 @@
 -- What a vault in memory holds, and what it stands for.
-use Rattle.std.specs.Prelude.{◌*◌, length, ◌+◌, ◌≤◌, map, vec_len, vec_capacity}
+use Rattle.std.specs.Prelude.{◌*◌, length, ◌+◌, ◌≤◌, map}
 use Rattle.cv_vault.specs.Events.{NamedSlot}
 use Rattle.cv_vault.specs.Failures.{later_failures}
-use Rattle.cv_vault.specs.Table.{IsTable, entries_of, past_of}
+use Rattle.cv_vault.specs.Table.{entries_of, past_of}
 use Rattle.cv_vault.specs.Memory.{Memory, needs}
 use Rattle.cv_vault.specs.declared.memory_vault.MemoryVault.TheInside.{Inside}
 
@@ -17,7 +17,6 @@ memory_of v = record {
 
 -- there is room for what is owed, and that is what is needed at least. After a crash, which may leave a file at every name, it is enough as well
 pub record IsMemory (v : Inside) : Type 0 where
-  pub table : IsTable v.table
-  pub room : vec_len v.table.changes + v.owed ≤ vec_capacity v.table.changes
+  pub room : length v.table.changes + v.owed ≤ v.table.room
   pub enough : needs (entries_of v.table) v.schedule.failing.items v.schedule.calls ≤ v.owed
-  pub enough_after : 2 * length v.table.entries.items + 2 * later_failures v.schedule.failing.items v.schedule.calls ≤ vec_len v.table.changes + v.owed
+  pub enough_after : 2 * length v.table.entries + 2 * later_failures v.schedule.failing.items v.schedule.calls ≤ length v.table.changes + v.owed

@@ -1,21 +1,26 @@
 -- What the numbers of a table in memory stand for.
-use Rattle.std.specs.Prelude.{◌≡◌, ◌≢◌, ◌↔◌, ℕ, Bool, false, ◌&&◌, is_some, not, nat_eq, count_by, ◌+◌, ◌≤◌, ◌<◌, List, Vec, [], ◌∷◌, ◌++◌, map, slice_index_or, slice_set, length, All, vec_len, vec_capacity}
-use Rattle.std.specs.List.{Contains, starts_with}
-use Rattle.std.specs.BTreeMap.{get_by_text, IsOrdered}
-use Rattle.std.specs.String.{string_cmp}
+use Rattle.std.specs.Prelude.{◌≡◌, ◌≢◌, ℕ, Bool, ◌&&◌, is_some, nat_eq, ◌+◌, ◌≤◌, ◌<◌, List, [], ◌∷◌, ◌++◌, map, slice_index_or, slice_set, length, All}
+use Rattle.std.specs.List.{starts_with}
 use Rattle.std.specs.declared.option.Option.{Option}
-use Rattle.std.specs.declared.option.Option.TheVariants.{None, Some}
+use Rattle.std.specs.declared.option.Option.TheVariants.{None}
 use Rattle.cv_vault.specs.Names.{Name}
 use Rattle.cv_vault.specs.Disk as disk
-use Rattle.cv_vault.specs.Disk.{File, Slot, slot}
 use Rattle.cv_vault.specs.Events.{NamedSlot, Event, IfDiffers, replay, disk_of, first_disk, any_unsettled, file_count}
 use Rattle.cv_vault.specs.Events as event
-use Rattle.cv_vault.specs.Places.{file_in, slot_in, is_settled_place, left_place, next_pick, IsFileIn, IsPlaceIn}
-use Rattle.cv_vault.specs.declared.table.Table.{Table}
+use Rattle.cv_vault.specs.Places.{file_in, slot_in, left_place, next_pick, IsFileIn, IsPlaceIn}
 use Rattle.cv_vault.specs.declared.place.PlaceMark.TheVariants.{Settled}
 use Rattle.cv_vault.specs.declared.table.Entry.{Entry}
 use Rattle.cv_vault.specs.declared.table.Change.{Change}
 use Rattle.cv_vault.specs.declared.table.Change.TheVariants.{Puts, PutsTwo, Settles}
+
+-- what a table holds: the names and the contents, which have numbers by their places, the entries, the record of changes, and
+-- how many changes there is room for
+pub record Rows : Type 0 where
+  pub names : List Name
+  pub contents : List (List ℕ)
+  pub entries : List Entry
+  pub changes : List Change
+  pub room : ℕ
 
 -- an entry, where none is asked for
 abbrev pub any_entry : Entry
@@ -32,13 +37,13 @@ names_in names es = map (λ e. name_in names e.name) es
 abbrev pub Lacks : Name → List Name → Type 0
 Lacks n ns = All (λ m. n ≢ m) ns
 
--- each name has its place among the names for a number, and no other has one
-abbrev pub AreNumbers : (Name → Option ℕ) → List Name → Type 0
-AreNumbers number ns = (n : Name) (i : ℕ) → (number n ≡ Some i) ↔ ((i < length ns) × (slice_index_or ns i [] ≡ n))
+-- no two places have the same name
+abbrev pub AreApart : List Name → Type 0
+AreApart ns = (i j : ℕ) → i < length ns → j < length ns → slice_index_or ns i [] ≡ slice_index_or ns j [] → i ≡ j
 
 -- the entry at a place
-abbrev pub entry_at : Table → ℕ → Entry
-entry_at t i = slice_index_or t.entries.items i any_entry
+abbrev pub entry_at : Rows → ℕ → Entry
+entry_at t i = slice_index_or t.entries i any_entry
 
 -- a name has a file and begins so
 abbrev pub is_listed : disk.Disk → Name → Name → Bool
@@ -68,8 +73,8 @@ crashed pick (p ∷ ps) es =
     crashed (next_pick pick (slice_index_or es p.1 any_entry).place) ps (slice_set es p.1 (crash_at pick (slice_index_or es p.1 any_entry)))
 
 -- the entry at a place is that of a name
-abbrev pub IsEntryOf : Table → Name → ℕ → Type 0
-IsEntryOf t n i = (i < length t.entries.items) × (name_in t.names.items (entry_at t i).name ≡ n)
+abbrev pub IsEntryOf : Rows → Name → ℕ → Type 0
+IsEntryOf t n i = (i < length t.entries) × (name_in t.names (entry_at t i).name ≡ n)
 
 abbrev pub named_in : List Name → List (List ℕ) → Entry → NamedSlot
 named_in names contents e = record { name = name_in names e.name; first = file_in contents e.first; stands = slot_in contents e.place }
@@ -79,17 +84,17 @@ event_in names contents (Puts n p) = event.Puts (name_in names n) (slot_in conte
 event_in names contents (PutsTwo n p m q) = event.PutsTwo (name_in names n) (slot_in contents p) (name_in names m) (slot_in contents q)
 event_in names contents Settles = event.Settles
 
-abbrev pub entries_of : Table → List NamedSlot
-entries_of t = map (named_in t.names.items t.contents.items) t.entries.items
+abbrev pub entries_of : Rows → List NamedSlot
+entries_of t = map (named_in t.names t.contents) t.entries
 
-abbrev pub past_of : Table → List Event
-past_of t = map (event_in t.names.items t.contents.items) t.changes.items
+abbrev pub past_of : Rows → List Event
+past_of t = map (event_in t.names t.contents) t.changes
 
 -- the disk that a table stands for
-abbrev pub table_disk : Table → disk.Disk
+abbrev pub table_disk : Rows → disk.Disk
 table_disk t = disk_of (entries_of t)
 
-abbrev pub table_first : Table → disk.Disk
+abbrev pub table_first : Rows → disk.Disk
 table_first t = first_disk (entries_of t)
 
 pub record IsEntryIn (names contents : ℕ) (e : Entry) : Type 0 where
@@ -102,45 +107,37 @@ IsChangeIn names contents (Puts n p) = (n < names) × IsPlaceIn contents p
 IsChangeIn names contents (PutsTwo n p m q) = (n < names) × IsPlaceIn contents p × (m < names) × IsPlaceIn contents q
 IsChangeIn names contents Settles = Unit {0}
 
--- the numbers are those of the entries that aren't settled, each once, and there is room for all
-pub record AreUnsettled {Y : Type 0} (numbers : Vec ℕ Y) (es : List Entry) : Type 0 where
-  pub within : All (λ k. k < length es) numbers.items
-  pub each : (i : ℕ) → i < length es → is_settled_place (slice_index_or es i any_entry).place ≡ false → Contains numbers.items i
-  pub count : length numbers.items ≡ count_by (λ e. not (is_settled_place e.place)) es
-  pub room : length es ≤ vec_capacity numbers
-
--- the numbers are in range and say what the entries say, and so does the record of changes
-pub record IsTable (t : Table) : Type 0 where
-  pub entries : All (IsEntryIn (length t.names.items) (length t.contents.items)) t.entries.items
-  pub changes : All (IsChangeIn (length t.names.items) (length t.contents.items)) t.changes.items
-  pub ordered : IsOrdered string_cmp t.numbers
-  pub numbers : AreNumbers (get_by_text t.numbers) (names_in t.names.items t.entries.items)
-  pub unsettled : AreUnsettled t.unsettled t.entries.items
+-- the numbers are in range, no two entries are of one name, and the record of changes says how the disk came to be
+pub record IsTable (t : Rows) : Type 0 where
+  pub entries : All (IsEntryIn (length t.names) (length t.contents)) t.entries
+  pub changes : All (IsChangeIn (length t.names) (length t.contents)) t.changes
+  pub apart : AreApart (names_in t.names t.entries)
   pub linked : table_disk t ≡ replay (past_of t) (table_first t)
 
 -- the disk and the record of its changes are as before
-pub record Stays (t t' : Table) : Type 0 where
+pub record Stays (t t' : Rows) : Type 0 where
   pub disk : table_disk t' ≡ table_disk t
   pub first : table_first t' ≡ table_first t
   pub past : past_of t' ≡ past_of t
   pub changes : t'.changes ≡ t.changes
+  pub room : t'.room ≡ t.room
   pub files : file_count (entries_of t') ≡ file_count (entries_of t)
   pub unsettled : any_unsettled (entries_of t') ≡ any_unsettled (entries_of t)
 
 -- the record has one change more, in the room that it had
-pub record Adds (e : Event) (t t' : Table) : Type 0 where
+pub record Adds (e : Event) (t t' : Rows) : Type 0 where
   pub disk : table_disk t' ≡ event.after e (table_disk t)
   pub first : table_first t' ≡ table_first t
   pub past : past_of t' ≡ past_of t ++ e ∷ []
-  pub len : vec_len t'.changes ≡ vec_len t.changes + 1
-  pub capacity : vec_capacity t'.changes ≡ vec_capacity t.changes
+  pub len : length t'.changes ≡ length t.changes + 1
+  pub room : t'.room ≡ t.room
 
 -- the change is made: the record has one change more where a name or its state is another by it, and else all is as before
-abbrev pub Makes : Event → Table → Table → Type 0
+abbrev pub Makes : Event → Rows → Rows → Type 0
 Makes e t t' = IfDiffers (table_disk t) (event.after e (table_disk t)) (Adds e t t') (Stays t t')
 
 -- the record has at most one change more, in the room that it had
-pub record TakesOne (t t' : Table) : Type 0 where
-  pub not_less : vec_len t.changes ≤ vec_len t'.changes
-  pub at_most : vec_len t'.changes ≤ vec_len t.changes + 1
-  pub capacity : vec_capacity t'.changes ≡ vec_capacity t.changes
+pub record TakesOne (t t' : Rows) : Type 0 where
+  pub not_less : length t.changes ≤ length t'.changes
+  pub at_most : length t'.changes ≤ length t.changes + 1
+  pub room : t'.room ≡ t.room

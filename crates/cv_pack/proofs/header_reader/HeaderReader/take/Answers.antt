@@ -1,24 +1,28 @@
 use Rattle.std.proofs.Common.{arith, ◌∙◌}
 use Rattle.std.proofs.lemmas.Result.{err_from_is_err_and}
 use Rattle.cv_pack.proofs.Steps.{past_limit, after_newline, after_other}
+use Rattle.cv_pack.specs.HeaderReader.{begun_of}
 use Rattle.cv_pack.specs.HeaderState.{progress}
 use Rattle.cv_pack.proofs.header_reader.HeaderReader.take.Goals as goal
 
 pub returns-then-self-ge-HEADER_LIMIT-clause-takes :
     goal.returns-then-self-ge-HEADER_LIMIT-clause-takes
-returns-then-self-ge-HEADER_LIMIT-clause-takes c = λ text. past_limit _ _ _ _ _ text c.requires (omega arith)
+returns-then-self-ge-HEADER_LIMIT-clause-takes c = rw (← c.self.view_is) (λ text. past_limit _ _ _ _ _ text (rw (← c.self.view_is) at c.requires) (omega arith))
 
-pub returns-in_err-self-clause-takes : goal.returns-in_err-self-clause-takes
-returns-in_err-self-clause-takes c =
+pub returns-in_err-self-inside-clause-takes : goal.returns-in_err-self-inside-clause-takes
+returns-in_err-self-inside-clause-takes c =
     let p = err_from_is_err_and c.from_residual.result c.from_residual.ensures.1 in
-    rw (p.1, p.2) (λ text. c.in_err-self.ensures.leads c.args.self.now.at text (omega arith))
+    rw (p.1, p.2, ← c.self.view_is) (λ text. c.in_err-self-inside.ensures.leads c.self.inside.at text (omega arith))
 
 pub returns-then-byte-eq10-clause-takes : goal.returns-then-byte-eq10-clause-takes
-returns-then-byte-eq10-clause-takes c = λ text.
-    c.in_ok-self.ensures.leads c.args.self.now.at text (omega arith)
-    ∙ after_newline (progress c.take_field.new.self) c.in_ok-self.field-0 c.args.self.now.line c.args.byte c.args.self.now.at c.take_field.new.self.at text c.if-byte-eq10.true c.take_field.ensures.at
+returns-then-byte-eq10-clause-takes c = rw (← c.self.view_is) (λ text.
+    let r = c.self-2.inside in
+    (rw (← c.self-2.view_is) at (c.in_ok-self-inside.ensures.leads c.self.inside.at text (omega arith)))
+    ∙ after_newline (progress (begun_of r)) c.in_ok-self-inside.field-0 c.self.inside.line c.args.byte c.self.inside.at r.at text c.if-byte-eq10.true (rw (← c.self-2.view_is) at c.take_field.ensures.at))
 
 pub returns-else-byte-eq10-clause-takes : goal.returns-else-byte-eq10-clause-takes
-returns-else-byte-eq10-clause-takes c = λ text.
-    c.in_ok-self.ensures.leads c.args.self.now.at text (omega arith)
-    ∙ after_other (progress c.take_field.new.self) c.in_ok-self.field-0 c.args.self.now.line c.args.byte c.args.self.now.at c.take_field.new.self.line c.take_field.new.self.at text c.if-byte-eq10.false c.take_field.ensures.line c.take_field.ensures.at
+returns-else-byte-eq10-clause-takes c = rw (← c.self.view_is) (λ text.
+    let r = c.self-2.inside in
+    (rw (← c.self-2.view_is) at (c.in_ok-self-inside.ensures.leads c.self.inside.at text (omega arith)))
+    ∙ after_other (progress (begun_of r)) c.in_ok-self-inside.field-0 c.self.inside.line c.args.byte c.self.inside.at r.line r.at text c.if-byte-eq10.false
+    (rw (← c.self-2.view_is) at c.take_field.ensures.line) (rw (← c.self-2.view_is) at c.take_field.ensures.at))

@@ -22,23 +22,23 @@ returns-then-not-is_whole-clause-reads c = λ bytes fed.
 pub returns-then-not-is_whole-clause-only : goal.returns-then-not-is_whole-clause-only
 returns-then-not-is_whole-clause-only c = λ os is fed. finish_only os (Err Short) is (returns-then-not-is_whole-clause-reads c (pack_bytes os) fed)
 
-pub returns-then-len-as_slice-clause-reads : goal.returns-then-len-as_slice-clause-reads
-returns-then-len-as_slice-clause-reads c = λ bytes fed.
+pub returns-then-len-entries-clause-reads : goal.returns-then-len-entries-clause-reads
+returns-then-len-entries-clause-reads c = λ bytes fed.
     let whole : c.args.self.header.field ≡ fields.Whole = search rules in
-    let short : length c.args.self.contents.objects.items < length c.args.self.header.entries = omega (arith, ap length c.as_slice.ensures) in
+    let short : length c.args.self.contents.objects.items < length c.args.self.header.entries = omega (arith, ap length c.entries.ensures.entries) in
     short_contents c.args.self bytes (subst (λ (o : Option PackFault). FedWith o c.args.self bytes) c.in_default.is fed) whole short
 
-pub returns-then-len-as_slice-clause-only : goal.returns-then-len-as_slice-clause-only
-returns-then-len-as_slice-clause-only c = λ os is fed. finish_only os (Err Short) is (returns-then-len-as_slice-clause-reads c (pack_bytes os) fed)
+pub returns-then-len-entries-clause-only : goal.returns-then-len-entries-clause-only
+returns-then-len-entries-clause-only c = λ os is fed. finish_only os (Err Short) is (returns-then-len-entries-clause-reads c (pack_bytes os) fed)
 
 pub returns-clause-reads : goal.returns-clause-reads
 returns-clause-reads c = λ bytes fed.
     let whole : c.args.self.header.field ≡ fields.Whole = search rules in
-    let long : length c.args.self.header.entries ≤ length c.args.self.contents.objects.items = omega (arith, ap length c.as_slice.ensures) in
-    whole_pack c.args.self bytes c.finalize.result c.new.result (subst (λ (o : Option PackFault). FedWith o c.args.self bytes) c.in_default.is fed) whole long c.new.ensures c.finalize.ensures
+    let long : length c.args.self.header.entries ≤ length c.args.self.contents.objects.items = omega (arith, ap length c.entries.ensures.entries) in
+    rw c.length.ensures (whole_pack c.args.self bytes c.finalize.result c.new.result (subst (λ (o : Option PackFault). FedWith o c.args.self bytes) c.in_default.is fed) whole long c.new.ensures c.finalize.ensures)
 
 pub returns-clause-found : goal.returns-clause-found
 returns-clause-found c = λ bytes fed. finish_found bytes _ (returns-clause-reads c bytes fed)
 
 pub returns-clause-only : goal.returns-clause-only
-returns-clause-only c = λ os is fed. finish_only os (Ok (record { objects = c.new.result; header = c.args.self.header.at; digest = c.finalize.result })) is (returns-clause-reads c (pack_bytes os) fed)
+returns-clause-only c = λ os is fed. finish_only os (Ok (record { objects = c.new.result; header = c.length.result; digest = c.finalize.result })) is (returns-clause-reads c (pack_bytes os) fed)

@@ -21,7 +21,7 @@ pub returns-in_err-read-clause-feeds : goal.returns-in_err-read-clause-feeds
 returns-in_err-read-clause-feeds c =
     let p = err_from_is_err_and c.from_residual-in_err-read.result c.from_residual-in_err-read.ensures.1 in
     let whole : c.read.new.self.field ≡ fields.Whole = search rules in
-    let reads = subst (λ (es : List Entry). IsOpen c.args.self.now.contents es → Reads c.args.self.now.contents c.read-then-is_whole.new.self es c.split_at.result.1.now (Err c.in_err-read.field-0.0)) c.as_slice.ensures c.in_err-read.ensures in
+    let reads = subst (λ (es : List Entry). IsOpen c.args.self.now.contents es → Reads c.args.self.now.contents c.read-then-is_whole.new.self es c.split_at.result.1.now (Err c.in_err-read.field-0.0)) c.entries.ensures.entries c.in_err-read.ensures in
     rw (p.1, p.2) (λ bytes fed text.
     let mid = header_taken fed.header fed.contents c.args.piece.now c.split_at.result.0.now _ c.update.new.self c.args.self.now.header c.read.new.self c.args.self.now.contents c.in_ok-used.used fed.taken (λ w. (c.in_ok-used.ensures.whole w).1) c.in_ok-used.ensures.takes c.split_at.ensures.front c.in_ok-used.ensures.at c.update.ensures in
     let parts = parts_taken bytes fed.header fed.contents c.args.piece.now c.split_at.result.0.now c.split_at.result.1.now _ c.args.self.now.header c.args.self.now.contents c.in_ok-used.used fed.taken (λ w. ok_is _ _ (c.in_ok-used.ensures.whole w).0) fed.parts c.split_at.ensures.front c.split_at.ensures.back in
@@ -30,7 +30,7 @@ returns-in_err-read-clause-feeds c =
 pub returns-in_ok-read-clause-feeds : goal.returns-in_ok-read-clause-feeds
 returns-in_ok-read-clause-feeds c = λ bytes fed.
     let whole : c.read.new.self.field ≡ fields.Whole = search rules in
-    let reads = subst (λ (es : List Entry). IsOpen c.args.self.now.contents es → Reads c.args.self.now.contents c.read-then-is_whole.new.self es c.split_at.result.1.now (Ok c.in_ok-read.field-0)) c.as_slice.ensures c.in_ok-read.ensures in
+    let reads = subst (λ (es : List Entry). IsOpen c.args.self.now.contents es → Reads c.args.self.now.contents c.read-then-is_whole.new.self es c.split_at.result.1.now (Ok c.in_ok-read.field-0)) c.entries.ensures.entries c.in_ok-read.ensures in
     let mid = header_taken fed.header fed.contents c.args.piece.now c.split_at.result.0.now _ c.update.new.self c.args.self.now.header c.read.new.self c.args.self.now.contents c.in_ok-used.used fed.taken (λ w. (c.in_ok-used.ensures.whole w).1) c.in_ok-used.ensures.takes c.split_at.ensures.front c.in_ok-used.ensures.at c.update.ensures in
     let parts = parts_taken bytes fed.header fed.contents c.args.piece.now c.split_at.result.0.now c.split_at.result.1.now _ c.args.self.now.header c.args.self.now.contents c.in_ok-used.used fed.taken (λ w. ok_is _ _ (c.in_ok-used.ensures.whole w).0) fed.parts c.split_at.ensures.front c.split_at.ensures.back in
     let done = reads (mid.is_open c.read.new.self.entries (λ w. refl)) in

@@ -12,4 +12,4 @@ returns-then-fails-clause-numbered c =
 pub returns-clause-call : goal.returns-clause-call
 returns-clause-call c =
     let after : Inside = record c.self.inside { schedule = c.next.new.self } in
-    rw (← c.self.view_is) (calls_read c.self.inside after c.args.name.now _ c.copy_of.result c.self.invariant.table (kept_same c.self.inside after refl) c.file.ensures c.copy_of.ensures.copy)
+    rw (← c.self.view_is) (calls_read c.self.inside after c.args.name.now _ c.copy_of.result c.file.ensures.table (kept_same c.self.inside after refl) c.file.ensures.file c.copy_of.ensures.copy)

@@ -11,9 +11,9 @@ returns-then-fails-clause-numbered c =
 pub returns-clause-call : goal.returns-clause-call
 returns-clause-call c =
     let after : Inside = record c.self.inside { table = c.sync-changed.new.self; schedule = c.next.new.self } in
-    rw (← c.self.view_is) (sync_calls c.self.inside after c.self.invariant.table c.sync-changed.ensures.settles c.sync-changed.ensures.unchanged c.sync-changed.ensures.disk)
+    rw (← c.self.view_is) (sync_calls c.self.inside after c.sync-changed.ensures.table c.sync-changed.ensures.settles c.sync-changed.ensures.unchanged c.sync-changed.ensures.disk)
 
 pub returns-clause-counted : goal.returns-clause-counted
 returns-clause-counted c =
     let after : Inside = record c.self.inside { table = c.sync-changed.new.self; schedule = c.next.new.self } in
-    rw (← c.self.view_is) (sync_counted c.self.inside after c.self.invariant.table c.sync-changed.ensures.settles c.sync-changed.ensures.unchanged)
+    rw (← c.self.view_is) (sync_counted c.self.inside after c.sync-changed.ensures.table c.sync-changed.ensures.settles c.sync-changed.ensures.unchanged)

@@ -6,9 +6,9 @@ use Rattle.cv_vault.proofs.table.Table.change.Goals as goal
 pub returns-then-stands-clause-makes : goal.returns-then-stands-clause-makes
 returns-then-stands-clause-makes c =
     let t = c.args.self.now in
-    makes_none t c.args.at (slot_in t.contents.items c.args.place) c.requires.table c.requires.at (c.stands.ensures.0 c.if-stands.true)
+    makes_none t c.args.at (slot_in t.contents c.args.place) c.stands.ensures.table c.requires.at (c.stands.ensures.same.0 c.if-stands.true)
 
 pub returns-clause-makes : goal.returns-clause-makes
 returns-clause-makes c =
     let t = c.args.self.now in
-    makes_put t c.put.new.self c.args.at (slot_in t.contents.items c.args.place) c.requires.table c.requires.at (not_from_Decides c.stands.result c.stands.ensures c.if-stands.false) c.put.ensures.adds
+    makes_put t c.put.new.self c.args.at (slot_in t.contents c.args.place) c.stands.ensures.table c.requires.at (not_from_Decides c.stands.result c.stands.ensures.same c.if-stands.false) c.put.ensures.adds

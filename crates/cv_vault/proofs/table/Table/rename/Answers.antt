@@ -11,7 +11,7 @@ pub returns-in_default-clause-absent : goal.returns-in_default-clause-absent
 returns-in_default-clause-absent c =
     let t = c.entry_for.new.self in (
       ap (λ (d : Disk). (d c.args.from.now).now) (sym c.in_ok-to_at.ensures.stays.disk)
-          ∙ ap (λ (s : Slot). s.now) (slot_missing t.names.items t.contents.items t.entries.items c.args.from.now (c.in_default.ensures.absent refl)),
+          ∙ ap (λ (s : Slot). s.now) (slot_missing t.names t.contents t.entries c.args.from.now (c.in_default.ensures.absent refl)),
       c.in_ok-to_at.ensures.stays,
     )
 
@@ -19,8 +19,8 @@ pub returns-then-is_none-clause-absent : goal.returns-then-is_none-clause-absent
 returns-then-is_none-clause-absent c =
     let t = c.entry_for.new.self in (
       ap (λ (d : Disk). (d c.args.from.now).now) (sym c.in_ok-to_at.ensures.stays.disk)
-          ∙ ap (λ (s : Slot). s.now) (slot_at t c.args.from.now c.in-Some.from_at c.in_ok-to_at.ensures.table c.in-Some.ensures.found)
-          ∙ missing t.contents.items (entry_at t c.in-Some.from_at).place.now (rw c.place_at-place.ensures at c.if-is_none.ensures),
+          ∙ ap (λ (s : Slot). s.now) (slot_at t c.args.from.now c.in-Some.from_at c.in-Some.ensures.table c.in-Some.ensures.found)
+          ∙ missing t.contents (entry_at t c.in-Some.from_at).place.now (rw c.place_at-place.ensures.place at c.if-is_none.ensures),
       c.in_ok-to_at.ensures.stays,
     )
 
@@ -28,13 +28,13 @@ pub returns-clause-there : goal.returns-clause-there
 returns-clause-there c =
     let t = c.args.self.now in
     let u = c.entry_for.new.self in
-    let there : IsSome (table_disk u c.args.from.now).now = subst (λ (s : Slot). IsSome s.now) (sym (slot_at u c.args.from.now c.in-Some.from_at c.in_ok-to_at.ensures.table c.in-Some.ensures.found))
-    (present u.contents.items (entry_at u c.in-Some.from_at).place.now (rw c.place_at-place.ensures at c.if-is_none.ensures)) in (
+    let there : IsSome (table_disk u c.args.from.now).now = subst (λ (s : Slot). IsSome s.now) (sym (slot_at u c.args.from.now c.in-Some.from_at c.in-Some.ensures.table c.in-Some.ensures.found))
+    (present u.contents (entry_at u c.in-Some.from_at).place.now (rw c.place_at-place.ensures.place at c.if-is_none.ensures)) in (
       subst (λ (d : Disk). IsSome (d c.args.from.now).now) c.in_ok-to_at.ensures.stays.disk there,
       makes_after (rename_of (table_disk t) c.args.from.now c.args.to.now c.args.made) t u c.change_two.new.self c.in_ok-to_at.ensures.stays
           (subst (λ (e : Event). Makes e u c.change_two.new.self)
-          (rename_is u c.args.from.now c.args.to.now c.in-Some.from_at c.in_ok-to_at.to_at c.args.made c.renamed.result.0 c.renamed.result.1 c.in_ok-to_at.ensures.table c.in-Some.ensures.found c.in_ok-to_at.ensures.at
-          (rw (c.place_at-place.ensures, c.place_at.ensures) at c.renamed.ensures.from) (rw (c.place_at-place.ensures, c.place_at.ensures) at c.renamed.ensures.to)
+          (rename_is u c.args.from.now c.args.to.now c.in-Some.from_at c.in_ok-to_at.to_at c.args.made c.renamed.result.0 c.renamed.result.1 c.in-Some.ensures.table c.in-Some.ensures.found c.in_ok-to_at.ensures.at
+          (rw (c.place_at-place.ensures.place, c.place_at.ensures.place) at c.renamed.ensures.from) (rw (c.place_at-place.ensures.place, c.place_at.ensures.place) at c.renamed.ensures.to)
           ∙ ap (λ (d : Disk). rename_of d c.args.from.now c.args.to.now c.args.made) c.in_ok-to_at.ensures.stays.disk) c.change_two.ensures.makes),
     )
 

@@ -13,5 +13,5 @@ returns-clause-ok c =
     let v = c.content_for.new.self in
     makes_after (write_of (table_disk t) c.args.name.now c.args.bytes.now c.args.made) t v c.change.new.self (stays_then t u v c.in_ok-at.ensures.stays c.in_ok-now.ensures.stays)
     (subst (λ (e : Event). Makes e v c.change.new.self)
-    (write_is u v c.args.name.now c.args.bytes.now c.in_ok-at.at c.args.made c.in_ok-now.now c.in_ok-at.ensures.table c.in_ok-at.ensures.at c.in_ok-now.ensures.names c.in_ok-now.ensures.entries c.in_ok-now.ensures.file
+    (write_is u v c.args.name.now c.args.bytes.now c.in_ok-at.at c.args.made c.in_ok-now.now c.in_ok-now.ensures.table c.in_ok-at.ensures.at c.in_ok-now.ensures.names c.in_ok-now.ensures.entries c.in_ok-now.ensures.file
     ∙ ap (λ (d : Disk). write_of d c.args.name.now c.args.bytes.now c.args.made) c.in_ok-at.ensures.stays.disk) c.change.ensures.makes)
