@@ -1,5 +1,5 @@
 -- What holds of a table when leases leave it or come to it.
-use Rattle.std.proofs.Common.{ℕ, T, ◌≡◌, ◌≤◌, ◌<◌, ◌+◌, ◌&&◌, nat_eq, Bool, true, false, cond, List, [], ◌∷◌, ◌++◌, length, arith, refl, sym, subst, Some, None}
+use Rattle.std.proofs.Common.{ℕ, T, ◌≡◌, ◌≤◌, ◌<◌, ◌+◌, ◌&&◌, nat_eq, nat_le, Bool, true, false, cond, List, [], ◌∷◌, ◌++◌, length, arith, rules, refl, sym, subst, Some, None}
 use Rattle.std.proofs.lemmas.Bool.{eqb-true}
 use Rattle.std.proofs.Math.Dec.{eqb_refl}
 use Rattle.std.specs.List.{filter, last_or, AllByRecursion}
@@ -10,7 +10,8 @@ use Rattle.cv_base.specs.Path.{Path, overlap}
 use Rattle.cv_base.specs.Marker.{marker, ends_in}
 use Rattle.cv_base.specs.declared.token.Token.{Token}
 use Rattle.cv_leases.specs.declared.lease.Lease.{Lease}
-use Rattle.cv_leases.specs.Leases.{lease_limit, same_token, lease_of, busy, IsTable}
+use Rattle.cv_leases.specs.declared.lease_fault.LeaseFault.TheVariants.{BadPath, TooManyLeases}
+use Rattle.cv_leases.specs.Leases.{lease_limit, same_token, lease_of, busy, refusal_beside, refusal, IsTable}
 
 -- tokens that compare equal are
 pub same_token_is : (a b : Token) → same_token a b ≡ true → a ≡ b
@@ -52,6 +53,25 @@ table_filter test leases h = record {
   paths = all_filter _ test leases h.paths;
   count = (let fewer = count_filter test leases in let few = h.count in omega (arith, fewer, few));
 }
+
+-- what a path has on which nothing refuses a lease
+pub record HasRoom (leases : List Lease) (path : Path) : Type 0 where
+  pub unmarked : ends_in marker path ≡ false
+  pub clear : busy leases path ≡ None
+  pub few : length leases < lease_limit
+
+pub not_refused : (leases : List Lease) (path : Path) → refusal leases path ≡ None → HasRoom leases path
+not_refused leases path h =
+    elim (ends_in marker path) as (λ m. ends_in marker path ≡ m → cond m (Some BadPath) (refusal_beside (busy leases path) leases) ≡ None → HasRoom leases path) [
+      | true ↦ λ m none. cc
+      | false ↦ λ m none. elim (busy leases path) as (λ b. busy leases path ≡ b → refusal_beside b leases ≡ None → HasRoom leases path) [
+        | Some lease ↦ λ b none2. cc
+        | None ↦ λ b none2. elim (nat_le lease_limit (length leases)) as (λ many. nat_le lease_limit (length leases) ≡ many → cond many (Some TooManyLeases) None ≡ None → HasRoom leases path) [
+          | true ↦ λ many none3. cc
+          | false ↦ λ many none3. record { unmarked = m; clear = b; few = search rules }
+        ] refl none2
+      ] refl none
+    ] refl h
 
 pub all_push : {X : Type 0} (P : X → Type 0) (xs : List X) (x : X) → AllByRecursion P xs → P x → AllByRecursion P (xs ++ x ∷ [])
 all_push P [] x h p = (p, tt)

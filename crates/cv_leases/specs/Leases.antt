@@ -1,12 +1,12 @@
 -- Leases in the order in which they were granted.
-use Rattle.std.specs.Prelude.{◌≤◌, ◌≡◌, ◌&&◌, ◌==◌, nat_le, nat_lt, not, false, ℕ, Bool, List, length, Option, None, Some, Result, Ok, Err, AllPairs, if◌then◌else◌}
+use Rattle.std.specs.Prelude.{◌≤◌, ◌≡◌, ◌&&◌, ◌==◌, nat_le, nat_lt, not, false, ℕ, Bool, List, length, Option, None, Some, AllPairs, if◌then◌else◌}
 use Rattle.std.specs.List.{filter, find, last_or, AllByRecursion}
 use Rattle.cv_base.specs.Path.{Path, overlap}
 use Rattle.cv_base.specs.Marker.{marker, ends_in}
 use Rattle.cv_base.specs.declared.token.Token.{Token}
 use Rattle.cv_leases.specs.declared.lease.Lease.{Lease}
 use Rattle.cv_leases.specs.declared.lease_fault.LeaseFault.{LeaseFault}
-use Rattle.cv_leases.specs.declared.lease_fault.LeaseFault.TheVariants.{BadPath, PathBusy, TooManyLeases, NoMemory}
+use Rattle.cv_leases.specs.declared.lease_fault.LeaseFault.TheVariants.{BadPath, PathBusy, TooManyLeases}
 
 -- the most leases at one time
 abbrev pub lease_limit : ℕ
@@ -31,21 +31,14 @@ unexpired moment leases = filter (λ lease. nat_lt moment lease.deadline) leases
 abbrev pub busy : List Lease → Path → Option Lease
 busy leases path = last_or None (filter (λ lease. overlap lease.path path) leases)
 
+-- why a lease isn't granted where this one is in its way, or none is and these are live, if it isn't
+abbrev pub refusal_beside : Option Lease → List Lease → Option LeaseFault
+refusal_beside (Some lease) leases = Some (PathBusy lease.token lease.deadline)
+refusal_beside None leases = if nat_le lease_limit (length leases) then Some TooManyLeases else None
+
 -- why a lease on this path isn't granted beside these leases, if it isn't
 abbrev pub refusal : List Lease → Path → Option LeaseFault
-refusal leases path =
-    if ends_in marker path then Some BadPath
-    else on_busy (busy leases path)
-  where
-    on_busy : Option Lease → Option LeaseFault
-    on_busy (Some lease) = Some (PathBusy lease.token)
-    on_busy None = if nat_le lease_limit (length leases) then Some TooManyLeases else None
-
--- the call is refused for this reason, or granted where there is none, or it wanted memory
-abbrev pub IsAnswer : Option LeaseFault → Result Unit LeaseFault → Type 0
-IsAnswer why (Ok done) = why ≡ None
-IsAnswer why (Err NoMemory) = why ≡ None
-IsAnswer why (Err fault) = why ≡ Some fault
+refusal leases path = if ends_in marker path then Some BadPath else refusal_beside (busy leases path) leases
 
 -- ---- what holds of the leases of a table, in the order of grant
 

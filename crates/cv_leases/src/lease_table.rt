@@ -1,7 +1,7 @@
 //! The table of leases.
 ghost use Rattle.std.specs.Prelude.{◌≡◌, ◌≤◌, ◌+◌, ◌-◌, ◌*◌, ◌++◌, ◌∷◌, [], length, None, is_ok, is_some, slice_get, option_copied, if◌then◌else◌, IfOk, map};
 ghost use Rattle.std.specs.List.{AllByRecursion};
-ghost use Rattle.cv_leases.specs.Leases.{lease_of, without, unexpired, busy, refusal, IsAnswer};
+ghost use Rattle.cv_leases.specs.Leases.{lease_of, without, unexpired, refusal};
 
 use crate::lease::Lease;
 use crate::lease_fault::LeaseFault;
@@ -12,7 +12,7 @@ use std::marker::{Brand, Model};
 use std::sync::ledger::{Blank, Ledger};
 
 /// The most leases at one time.
-pub const LEASE_LIMIT: usize = 4096;
+const LEASE_LIMIT: usize = 4096;
 
 /// The leases that are live, of which no two overlap. Clauses see them in the order in which they were granted.
 #[derive(Drop)]
@@ -44,37 +44,34 @@ impl LeaseTable {
         }
     }
 
-    /// Adds a lease, unless it is refused. Its token is its own, and no lease ends later.
-    ///
-    /// # Errors
-    ///
-    /// The first reason of [`LeaseFault`] that holds. The table is unchanged then.
-    pub fn grant(&mut self, lease: Lease) -> Result<(), LeaseFault>
-        requires token { lease_of lease.token self.old ≡ None }
-        requires deadline { AllByRecursion (λ other. other.deadline ≤ lease.deadline) self.old }
-        ensures answer { IsAnswer (refusal self.old lease.path) result }
-        ensures leases { self.new ≡ (if is_ok result then self.old ++ lease ∷ [] else self.old) }
+    /// Why a lease on the path isn't granted, if it isn't: the first reason of [`LeaseFault`] that holds.
+    pub fn refusal(&self, path: &RepoPath) -> Option<LeaseFault>
+        ensures { result ≡ refusal self.now path.now }
     {
-        if ends_in_marker(&lease.path) {
-            return Err(LeaseFault::BadPath);
+        if ends_in_marker(path) {
+            return Some(LeaseFault::BadPath);
         }
-        if let Some(other) = self.overlapping(&lease.path) {
-            return Err(LeaseFault::PathBusy(other.token));
+        if let Some(other) = self.linked.overlapping::<Brand>(path, Blank::new(1)) {
+            return Some(LeaseFault::PathBusy {
+                token: other.token,
+                deadline: other.deadline,
+            });
         }
         if self.count() >= LEASE_LIMIT {
-            return Err(LeaseFault::TooManyLeases);
+            return Some(LeaseFault::TooManyLeases);
         }
-        match self.linked.grant::<Brand>(lease, Blank::new(1)) {
-            Ok(()) => Ok(()),
-            Err(NoMemory) => Err(LeaseFault::NoMemory),
-        }
+        None
     }
 
-    /// Of the leases that overlap the path, the one granted last.
-    pub fn overlapping(&self, path: &RepoPath) -> Option<&Lease>
-        ensures { option_copied result ≡ busy self.now path.now }
+    /// Adds a lease that nothing refuses. Its token is its own, and no lease ends later. Where there is no memory, the table
+    /// is unchanged.
+    pub fn grant(&mut self, lease: Lease) -> Result<(), NoMemory>
+        requires free { refusal self.old lease.path ≡ None }
+        requires token { lease_of lease.token self.old ≡ None }
+        requires deadline { AllByRecursion (λ other. other.deadline ≤ lease.deadline) self.old }
+        ensures { self.new ≡ (if is_ok result then self.old ++ lease ∷ [] else self.old) }
     {
-        self.linked.overlapping::<Brand>(path, Blank::new(1))
+        self.linked.grant::<Brand>(lease, Blank::new(1))
     }
 
     /// The lease with this token.

@@ -12,4 +12,4 @@ mod tests;
 
 pub use lease::Lease;
 pub use lease_fault::LeaseFault;
-pub use lease_table::{LEASE_LIMIT, LeaseTable};
+pub use lease_table::LeaseTable;
