@@ -1,6 +1,7 @@
 -- What is done inside a step is the gate's step.
 use Rattle.std.proofs.Common.{◌≡◌, ◌≢◌, ◌⊎◌, ◌<◌, ◌+◌, ◌-◌, max, Bool, true, false, cond, nat_le, ℕ, List, [], ◌∷◌, ◌++◌, length, refl, sym, ap, subst, ◌∙◌, inl, inr, arith, rules}
 use Rattle.std.specs.Prelude.{bytes_eq}
+use Rattle.std.specs.Option.{option_map}
 use Rattle.std.specs.declared.option.Option.{Option}
 use Rattle.std.specs.declared.option.Option.TheVariants.{None, Some}
 use Rattle.std.specs.declared.result.Result.{Result}
@@ -15,8 +16,10 @@ use Rattle.cv_vault.specs.Disk.{Disk, Files, ImageOf}
 use Rattle.cv_vault.specs.Walks.{Walks, Nothing}
 use Rattle.cv_vault.proofs.Laws.{stand, quiet_walks}
 use Rattle.cv_tree.specs.Changes.{has_place}
-use Rattle.cv_leases.specs.Leases.{lease_limit, busy, lease_of, without, unexpired}
+use Rattle.cv_leases.specs.Leases.{lease_limit, busy, refusal_beside, refusal, lease_of, without, unexpired}
 use Rattle.cv_leases.specs.declared.lease.Lease.{Lease}
+use Rattle.cv_leases.specs.declared.lease_fault.LeaseFault.TheVariants as fault
+use Rattle.cv_leases.proofs.Laws.{HasRoom, not_refused}
 use Rattle.cv_objects.specs.Batches.{AreNamed}
 use Rattle.cv_swap.specs.Kept.{Revision, newest, head_of}
 use Rattle.cv_swap.specs.Line.{LineView}
@@ -31,7 +34,8 @@ use Rattle.cv_gate.specs.declared.reply.Reply.{Reply}
 use Rattle.cv_gate.specs.declared.reply.Reply.TheVariants as reply
 use Rattle.cv_gate.proofs.Lemmas.{some_newest}
 use Rattle.cv_desk.specs.Gate.{StateView, StandsFor, Does}
-use Rattle.cv_desk.specs.Acting.{aged_view, reply_of, Acts, refusal_of, refusal_beside, refusal_on, PlaceIs, FindsPlace, OnlyLooks, Grants, granted, unremembered, AsksLease, refused, unread, placeless, placed, AsksEnd, not_ended, ends, AsksStore, not_sent, sends}
+use Rattle.cv_desk.specs.Acting.{aged_view, reply_of, Acts, refusal_of, refusal_on, PlaceIs, FindsPlace, OnlyLooks, Grants, granted, unremembered, AsksLease, refused, unread, placeless, placed, AsksEnd, not_ended, ends, AsksStore, not_sent, sends}
+use Rattle.cv_desk.specs.Refusals.{outcome_then}
 use Rattle.cv_desk.specs.declared.outcome.Outcome.{Outcome}
 use Rattle.cv_desk.specs.declared.outcome.Outcome.TheVariants as outcome
 use Rattle.cv_desk.proofs.Quietly.{quiet_does}
@@ -40,23 +44,12 @@ use Rattle.cv_desk.proofs.Places.{head_is, newest_means}
 
 -- ---- a lease is refused or isn't
 
--- what a path has that isn't refused
-pub record HasRoom (leases : List Lease) (path : Path) : Type 0 where
-  pub unmarked : ends_in marker path ≡ false
-  pub clear : busy leases path ≡ None
-  pub few : length leases < lease_limit
-
-pub not_refused : (leases : List Lease) (moment : ℕ) (path : Path) → refusal_of leases moment path ≡ None → HasRoom leases path
-not_refused leases moment path h =
-    elim (ends_in marker path) as (λ m. ends_in marker path ≡ m → cond m (Some outcome.BadPath) (refusal_beside (busy leases path) leases moment) ≡ None → HasRoom leases path) [
-      | true ↦ λ m none. cc
-      | false ↦ λ m none. elim (busy leases path) as (λ b. busy leases path ≡ b → refusal_beside b leases moment ≡ None → HasRoom leases path) [
-        | Some lease ↦ λ b none2. cc
-        | None ↦ λ b none2. elim (nat_le lease_limit (length leases)) as (λ many. nat_le lease_limit (length leases) ≡ many → cond many (Some outcome.TooManyLeases) None ≡ None → HasRoom leases path) [
-          | true ↦ λ many none3. cc
-          | false ↦ λ many none3. record { unmarked = m; clear = b; few = search rules }
-        ] refl none2
-      ] refl none
+-- where no refusal is answered there is none
+pub unrefused : (leases : List Lease) (moment : ℕ) (path : Path) → refusal_of leases moment path ≡ None → refusal leases path ≡ None
+unrefused leases moment path h =
+    elim (refusal leases path) as (λ r. refusal leases path ≡ r → option_map (outcome_then moment) r ≡ None → refusal leases path ≡ None) [
+      | Some why ↦ λ _ some. cc
+      | None ↦ λ none _. none
     ] refl h
 
 -- the end of a lease's step, where nothing refuses it before
@@ -72,11 +65,11 @@ step_on st key path r st' room rest = inr (
 
 refused_step : (st : State) (key : List ℕ) (path : Path) (out : Outcome) → refusal_of st.leases st.moment path ≡ Some out → LeaseStep st key path (reply_of out) st
 refused_step st key path out h =
-    elim (ends_in marker path) as (λ m. ends_in marker path ≡ m → cond m (Some outcome.BadPath) (refusal_beside (busy st.leases path) st.leases st.moment) ≡ Some out → LeaseStep st key path (reply_of out) st) [
+    elim (ends_in marker path) as (λ m. ends_in marker path ≡ m → option_map (outcome_then st.moment) (cond m (Some fault.BadPath) (refusal_beside (busy st.leases path) st.leases)) ≡ Some out → LeaseStep st key path (reply_of out) st) [
       | true ↦ λ m is. (let same : outcome.BadPath ≡ out = cc in inl (m, ap reply_of (sym same), refl))
-      | false ↦ λ m is. elim (busy st.leases path) as (λ b. busy st.leases path ≡ b → refusal_beside b st.leases st.moment ≡ Some out → LeaseStep st key path (reply_of out) st) [
+      | false ↦ λ m is. elim (busy st.leases path) as (λ b. busy st.leases path ≡ b → option_map (outcome_then st.moment) (refusal_beside b st.leases) ≡ Some out → LeaseStep st key path (reply_of out) st) [
         | Some lease ↦ λ b is2. (let same : outcome.PathBusy lease.token (lease.deadline - st.moment) ≡ out = cc in inr ((λ marked. cc), inl (lease, b, ap reply_of (sym same), refl)))
-        | None ↦ λ b is2. elim (nat_le lease_limit (length st.leases)) as (λ many. nat_le lease_limit (length st.leases) ≡ many → cond many (Some outcome.TooManyLeases) None ≡ Some out → LeaseStep st key path (reply_of out) st) [
+        | None ↦ λ b is2. elim (nat_le lease_limit (length st.leases)) as (λ many. nat_le lease_limit (length st.leases) ≡ many → option_map (outcome_then st.moment) (cond many (Some fault.TooManyLeases) None) ≡ Some out → LeaseStep st key path (reply_of out) st) [
           | true ↦ λ many is3. (let same : outcome.TooManyLeases ≡ out = cc in inr ((λ marked. cc), inr ((λ lease other. cc), inl (search rules, ap reply_of (sym same), refl))))
           | false ↦ λ many is3. absurd cc
         ] refl is2
@@ -166,7 +159,7 @@ module _ {V S : Type 0} (disk : V → Option Disk) (count : V → ℕ) (left : V
     refused_as r e = (λ i. refusal_of (sym leases_aged i) (sym moment_aged i) path) ∙ e
 
     room_for : refusal_of aged_before.leases aged_before.moment path ≡ None → HasRoom a.leases path
-    room_for e = not_refused a.leases a.moment path (refused_as None e)
+    room_for e = not_refused a.leases path (unrefused a.leases a.moment path (refused_as None e))
 
     -- it is granted
     grants : refusal_of aged_before.leases aged_before.moment path ≡ None → (mid : StateView V S) → OnlyLooks disk count left aged_before mid → has_place head.0.tree path ≡ true

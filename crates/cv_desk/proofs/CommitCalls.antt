@@ -1,5 +1,5 @@
 -- What the calls of a commit say.
-use Rattle.std.proofs.Common.{◌≡◌, true, false, Bool, ℕ, List, [], ◌∷◌, ◌++◌, refl, sym, ap, subst, ◌∙◌, inl, inr, ◌+◌, length, arith}
+use Rattle.std.proofs.Common.{◌≡◌, true, false, Bool, ℕ, List, [], ◌∷◌, ◌++◌, refl, sym, ap, subst, ◌∙◌, inl, inr, ◌+◌, length}
 use Rattle.std.specs.Prelude.{MatchResult, IfOk, IfErr, OnOk, OnErr, IsTrue}
 use Rattle.std.specs.Option.{option_map}
 use Rattle.std.specs.declared.option.Option.{Option}
@@ -97,19 +97,20 @@ grafts_shown disk count left line judged reads root is offered path r x e told d
 -- and of how much was fetched for it
 pub grafts_fetched : {V S : Type 0} (disk : V → Option Disk) (count : V → ℕ) (left : V → ℕ → Files → Type 0) (known : KnownSet) (line judged : LineView V S) → LineReads disk count left line judged → (root : List ℕ) → root ≡ judged.head.root
     → (offered : List ℕ) (path : Path) (after : ℕ) → WhereTold (disk line.vault) (λ d. FetchesNew (standing_on d) known offered line.taken judged.taken)
+    → WhereTold (disk line.vault) (λ d. IsGood (standing_on d) offered root_place)
     → WhereTold (option_map standing_on (disk judged.vault)) (λ standing. (t n : Nodes) → Means standing root t → Means standing offered n → RaisedAtMost (length (cuts_above n path) + length (cuts_above t path)) judged.taken after)
     → WhereTold (disk line.vault) (λ d. FetchesOffered (standing_on d) known line.head.root offered path line.taken after)
-grafts_fetched disk count left known line judged reads root is offered path after judges told = λ d there.
+grafts_fetched disk count left known line judged reads root is offered path after judges good told = λ d there.
     let same : line.head.root ≡ root = sym (is ∙ ap (λ (l : LineView _ _). l.head.root) reads.1) in (
       judged.taken,
       judges d there,
-      λ t n mt mn. told (standing_on d) (ap (option_map standing_on) (quiet_same reads.0 ∙ there)) t n (subst (λ h. Means (standing_on d) h t) same mt) mn,
+      inr (good d there, λ t n mt mn. told (standing_on d) (ap (option_map standing_on) (quiet_same reads.0 ∙ there)) t n (subst (λ h. Means (standing_on d) h t) same mt) mn),
     )
 
 -- where nothing is grafted nothing more is fetched
 pub judged_alone : {V S : Type 0} (disk : V → Option Disk) (known : KnownSet) (line judged : LineView V S) (offered : List ℕ) (path : Path) → WhereTold (disk line.vault) (λ d. FetchesNew (standing_on d) known offered line.taken judged.taken)
     → WhereTold (disk line.vault) (λ d. FetchesOffered (standing_on d) known line.head.root offered path line.taken judged.taken)
-judged_alone disk known line judged offered path judges = λ d there. (judged.taken, judges d there, λ t n mt mn. (0, omega arith, refl))
+judged_alone disk known line judged offered path judges = λ d there. (judged.taken, judges d there, inl refl)
 
 pub graft_unfit : (shelf : Shelf) (newest offered : List ℕ) (path : Path) (f : GraftFault) (r : Reply) → Tells f r → IsGood shelf offered root_place
     → ((t n : Nodes) → Means shelf newest t → Means shelf offered n → has_place t path ≡ true → Grafts (replaced t n path) path (Err f)) → TellsDamage shelf (IsOfEither shelf newest offered path) {X = Grafted} (Err f) → IsUnfit shelf newest offered path r

@@ -290,7 +290,7 @@ module _ {V S : Type 0} (disk : V → Option Disk) (count : V → ℕ) (left : V
   pub finished_exact : Finishes disk count left token mid r after → IsExact disk count left is_seal (op.Commit key t old_root offered tag) now a r before after
   finished_exact (swaps moves is same) = record {
     ends = commit_published c.lease c.grafted mid.line c.free c.live c.unopposed c.fit c.readies
-        (subst (λ (x : KnownSet). KnowsOn {X = Head} disk from.line.vault from.known offered (Ok (head_with new c.grafted.size)) x) (sym (ap (λ (y : StateView V S). y.known) same)) c.knows) moves (is ∙ (λ i. reply.Committed (c.next_head i).revision (c.next_head i).root)) (record {
+        (subst (λ (x : KnownSet). KnowsOn {X = Head} disk from.line.vault from.known offered (Ok (head_with new c.grafted.size)) x) (sym (ap (λ (y : StateView V S). y.known) same)) c.knows) moves (ap (λ (y : StateView V S). y.line) same) (is ∙ (λ i. reply.Committed (c.next_head i).revision (c.next_head i).root)) (record {
           records = ap (λ (y : StateView V S). published y.line) same ∙ all_taken (mid.line.made + 1) mid.line.all counted ∙ c.all;
           head = ap (λ (y : StateView V S). y.line.head) same ∙ c.next_head;
           leases = ap (λ (y : StateView V S). y.leases) same ∙ (λ i. without (ended_token i) (c.unpublished.leases i));

@@ -86,19 +86,19 @@ end_answered {V} {S} disk count left is_seal key token now before aged_ after ou
     s : StateView V S
     s = aged_view before now
 
-    line_is : after.line ≡ before.line → CancelStep (aged (state_of before) now) key token (reply_of out) (state_of after) → before.line.stage ≢ stage.Doubtful → IsExact disk count left is_seal (op.Cancel key token) now (act.Cancel token) (reply_of out) before after
-    line_is same step calm = record { ends = (step, same); doubt = λ is_now. absurd (calm (sym (ap (λ (l : LineView V S). l.stage) same) ∙ is_now)) }
+    on_leases : after.line ≡ before.line → after.known ≡ before.known → CancelStep (aged (state_of before) now) key token (reply_of out) (state_of after) → before.line.stage ≢ stage.Doubtful → IsExact disk count left is_seal (op.Cancel key token) now (act.Cancel token) (reply_of out) before after
+    on_leases same known step calm = record { ends = (step, same, known); doubt = λ is_now. absurd (calm (sym (ap (λ (l : LineView V S). l.stage) same) ∙ is_now)) }
 
     by : AsksEnd key token s out after → IsAnswered disk count left is_seal (op.Cancel key token) now (act.Cancel token) (reply_of out) before after
     by (not_ended is same) = record {
-      exact = line_is (ap (λ (x : StateView V S). x.line) same)
+      exact = on_leases (ap (λ (x : StateView V S). x.line) same) (ap (λ (x : StateView V S). x.known) same)
           (subst (λ (x : StateView V S). CancelStep (state_of s) key token (reply_of out) (state_of x)) (sym same)
           ((refused_on (state_of s) key token out is).step (λ lease. Cancels (state_of s) token (reply_of out) (state_of s))));
       damage = by_plain disk before.line.vault out (plain_end (lease_of token s.leases) key out is);
     }
     by (ends free is same) =
         let left_ : StateView V S = record s { leases = without token s.leases } in record {
-          exact = line_is (ap (λ (x : StateView V S). x.line) same)
+          exact = on_leases (ap (λ (x : StateView V S). x.line) same) (ap (λ (x : StateView V S). x.known) same)
               (subst (λ (x : StateView V S). CancelStep (state_of s) key token (reply_of out) (state_of x)) (sym same)
               (on_own (state_of s) key token (reply_of out) (state_of left_) (λ lease. Cancels (state_of s) token (reply_of out) (state_of left_)) (own_lease s.leases key token free) (takes (ap reply_of is) refl)));
           damage = subst (λ o. ShowsDamage disk before.line.vault (reply_of o)) (sym is) tt;

@@ -1,5 +1,5 @@
 -- Known catalogues stay whole while objects come to the disk.
-use Rattle.std.proofs.Common.{◌≡◌, ℕ, Bool, true, false, List, refl, sym, ap, subst, ◌∙◌}
+use Rattle.std.proofs.Common.{◌≡◌, ℕ, Bool, true, false, List, refl, sym, ap, subst, ◌∙◌, inl, inr}
 use Rattle.std.specs.Prelude.{◌⊎◌, OnOk, IfErr}
 use Rattle.std.specs.declared.option.Option.{Option}
 use Rattle.std.specs.declared.option.Option.TheVariants.{None, Some}
@@ -17,11 +17,11 @@ use Rattle.cv_vault.specs.Disk.{Disk, File, Files, files_now}
 use Rattle.cv_vault.specs.Moments.{OnlyReads}
 use Rattle.cv_vault.specs.Walks.{Stays, Comes, Gains, Walks, Nothing, ComesTo}
 use Rattle.cv_vault.proofs.Laws.{quiet_same}
-use Rattle.cv_load.specs.Known.{is_known, HasPair, AreKnown, AreWhole}
+use Rattle.cv_load.specs.Known.{is_known, HasPair, AreKnown, IsWholePair, AreWhole}
 use Rattle.cv_load.specs.NewFetches.{ReachesNew, HasNew}
 use Rattle.cv_load.specs.declared.known_set.KnownSet.{KnownSet}
-use Rattle.cv_load.proofs.Lemmas.{known_more, known_with_all}
-use Rattle.cv_cut.specs.Good.{IsGood}
+use Rattle.cv_load.proofs.Lemmas.{known_more, each_all}
+use Rattle.cv_cut.specs.Good.{IsGood, IsWholeAt}
 use Rattle.cv_cut.specs.Reached.{Place, root_place}
 use Rattle.cv_cut.specs.declared.load_fault.LoadFault.{LoadFault}
 use Rattle.cv_cut.specs.declared.load_fault.LoadFault.TheVariants as load
@@ -32,7 +32,7 @@ use Rattle.cv_swap.specs.Line.{LineView, LineReads}
 use Rattle.cv_swap.specs.Stands.{head_name}
 use Rattle.cv_gate.specs.declared.reply.Reply.{Reply}
 use Rattle.cv_desk.specs.Committing.{Offers, outcome_at}
-use Rattle.cv_desk.specs.Known.{KnowsWhole, Remembers, Learns, refuses_new, KnowsOn}
+use Rattle.cv_desk.specs.Known.{KnowsWhole, Remembers, Learns, LearnsWhole, refuses_new, KnowsOn}
 use Rattle.cv_desk.specs.Refusals.{reply_of, is_unmade}
 use Rattle.cv_desk.specs.declared.outcome.Outcome.{Outcome}
 use Rattle.cv_desk.specs.declared.outcome.Outcome.TheVariants as outcome
@@ -84,12 +84,19 @@ module _ {V : Type 0} (disk : V → Option Disk) (count : V → ℕ) (left : V �
     pub known_settled : WhereTold (disk v) (λ d. Walks disk count left on_way Nothing (E d) d v v') → KnowsWhole disk v known → KnowsWhole disk v' known
     known_settled = known_walked (λ d. Nothing) (λ d id f never. absurd never)
 
--- what is found whole in the offered tree is known then
-pub known_judged : {V S : Type 0} (disk : V → Option Disk) (count : V → ℕ) (left : V → ℕ → Files → Type 0) (line judged : LineView V S) → LineReads disk count left line judged → (known more : KnownSet) (pairs : List (ObjectId × Path))
-    → KnowsWhole disk line.vault known → ((d : Disk) → disk line.vault ≡ Some d → AreWhole (standing_on d) pairs) → ((h : List ℕ) (p : Path) → is_known more h p ≡ true → (is_known known h p ≡ true) ⊎ HasPair pairs h p) → KnowsWhole disk judged.vault more
-known_judged disk count left line judged reads known more pairs all whole only = λ d told.
+-- where only pairs are added that are whole, no other comes to be known
+pub learned_whole : (shelf : Shelf) (known more : KnownSet) (pairs : List (ObjectId × Path)) → AreWhole shelf pairs → ((h : List ℕ) (p : Path) → is_known more h p ≡ true → (is_known known h p ≡ true) ⊎ HasPair pairs h p) → LearnsWhole shelf known more
+learned_whole shelf known more pairs whole only = λ h p is. elim (only h p is) [
+  | inl was ↦ inl was
+  | inr has ↦ inr (subst (λ (x : List ℕ). IsWholeAt shelf x p) has.hash_ (subst (λ (x : Path). IsWholeAt shelf has.pair.0.hash x) has.path_ (each_all (IsWholePair shelf) pairs whole has.pair has.among).whole))
+]
+
+-- then all that is known is whole, if it was
+pub known_judged : {V S : Type 0} (disk : V → Option Disk) (count : V → ℕ) (left : V → ℕ → Files → Type 0) (line judged : LineView V S) → LineReads disk count left line judged → (known more : KnownSet)
+    → KnowsWhole disk line.vault known → WhereTold (disk line.vault) (λ d. LearnsWhole (standing_on d) known more) → KnowsWhole disk judged.vault more
+known_judged disk count left line judged reads known more all only = λ d told h p is.
     let there : disk line.vault ≡ Some d = sym (quiet_same reads.0) ∙ told in
-    known_with_all (standing_on d) known more pairs (whole d there) only (all d there)
+    elim (only d there h p is) [ inl was ↦ all d there h p was | inr whole ↦ whole ]
 
 pub learned : (shelf : Shelf) (known more : KnownSet) (offered : List ℕ) (pairs : List (ObjectId × Path)) → HasNew shelf known offered pairs → Remembers known more → (r : Result (Unit {0}) Outcome)
     → OnOk r ((h : List ℕ) (p : Path) → HasPair pairs h p → is_known more h p ≡ true) → OnOk r (Learns shelf known offered more)
@@ -121,21 +128,22 @@ not_new_at load.NoMemory = refl
 
 module _ {V : Type 0} (disk : V → Option Disk) (v : V) (known : KnownSet) (offered : List ℕ) (more : KnownSet) where
   -- the offered root wasn't found whole
-  pub knows_unjudged : {X : Type 0} → Remembers known more → (o : Outcome) (r : Reply) → r ≡ reply_of o → WhereTold (disk v) (λ d. Offers (standing_on d) offered (Err o)) → KnowsOn {X = X} disk v known offered (Err r) more
-  knows_unjudged remembers o r is why = record {
+  pub knows_unjudged : {X : Type 0} → Remembers known more → WhereTold (disk v) (λ d. LearnsWhole (standing_on d) known more) → (o : Outcome) (r : Reply) → r ≡ reply_of o → WhereTold (disk v) (λ d. Offers (standing_on d) offered (Err o)) → KnowsOn {X = X} disk v known offered (Err r) more
+  knows_unjudged remembers only o r is why = record {
     remembers = remembers;
+    only = only;
     learns = λ was d told.
         let f = why d told in
         absurd (let e : true ≡ false = sym was ∙ ap refuses_new (is ∙ ap reply_of f.2) ∙ not_new_at f.0 in cc);
   }
 
   -- it was
-  pub knows_judged : {X : Type 0} (r : Result X Reply) → Remembers known more → WhereTold (disk v) (λ d. Learns (standing_on d) known offered more) → KnowsOn disk v known offered r more
-  knows_judged r remembers learns = record { remembers = remembers; learns = λ was. learns }
+  pub knows_judged : {X : Type 0} (r : Result X Reply) → Remembers known more → WhereTold (disk v) (λ d. Learns (standing_on d) known offered more) → WhereTold (disk v) (λ d. LearnsWhole (standing_on d) known more) → KnowsOn disk v known offered r more
+  knows_judged r remembers learns only = record { remembers = remembers; learns = λ was. learns; only = only }
 
   -- the same answer, or any where it was found whole
   pub knows_same : {X Y : Type 0} (r : Reply) → KnowsOn {X = X} disk v known offered (Err r) more → KnowsOn {X = Y} disk v known offered (Err r) more
-  knows_same r k = record { remembers = k.remembers; learns = k.learns }
+  knows_same r k = record { remembers = k.remembers; learns = k.learns; only = k.only }
 
   pub knows_behind : {X Y : Type 0} (x : X) (r : Result Y Reply) → KnowsOn disk v known offered (Ok x) more → KnowsOn disk v known offered r more
-  knows_behind x r k = knows_judged r k.remembers (k.learns tt)
+  knows_behind x r k = knows_judged r k.remembers (k.learns tt) k.only

@@ -7,15 +7,16 @@ use Rattle.cv_base.specs.declared.token.Token.{Token}
 use Rattle.cv_tree.specs.Tree.{single}
 use Rattle.cv_tree.specs.declared.node.Node.TheVariants.{Dir}
 use Rattle.cv_history.specs.Record.{no_hash}
-use Rattle.cv_leases.specs.Leases.{lease_of, without}
+use Rattle.cv_leases.specs.Leases.{refusal, lease_of, without}
 use Rattle.cv_leases.specs.declared.lease.Lease.{Lease}
+use Rattle.cv_leases.proofs.Laws.{HasRoom, not_refused}
 use Rattle.cv_swap.specs.Kept.{Revision}
 use Rattle.cv_gate.specs.Passing.{lease_time}
 use Rattle.cv_gate.specs.Sound.{AreLeases}
 use Rattle.cv_gate.proofs.Lemmas.{by_ageing, filtered, granted_apart, is_new, ends_last}
 use Rattle.cv_desk.specs.Gate.{StateView, IsState, state_of}
 use Rattle.cv_desk.specs.Acting.{aged_view, refusal_of, with_lease, new_lease}
-use Rattle.cv_desk.proofs.Asking.{HasRoom, not_refused}
+use Rattle.cv_desk.proofs.Asking.{unrefused}
 
 -- a revision with this number and this root: a lease that is granted knows nothing else of the newest one
 abbrev numbered : ℕ → List ℕ → Revision
@@ -56,7 +57,7 @@ module _ {V S : Type 0} (s s' : StateView V S) (h : IsState s) where
 
   pub state_granted : (key : List ℕ) (path : Path) → refusal_of s.leases s.moment path ≡ None → s' ≡ with_lease s key path → IsState s'
   state_granted key path none e =
-      let room : HasRoom s.leases path = not_refused s.leases s.moment path none in
+      let room : HasRoom s.leases path = not_refused s.leases path (unrefused s.leases s.moment path none) in
       let head : Revision = numbered s.line.head.revision s.line.head.root in
       subst IsState (sym e) (record {
         leases = granted_apart (state_of s) key path head h.leases room.unmarked room.clear room.few;
@@ -64,7 +65,10 @@ module _ {V S : Type 0} (s s' : StateView V S) (h : IsState s) where
       })
 
 module _ {V S : Type 0} (s : StateView V S) (lease : Lease) (leases : List Lease) (key : List ℕ) (path : Path) (h : IsState s) (same : leases ≡ s.leases) (e : lease ≡ new_lease s key path) where
-  -- a lease that is granted now has a token of its own, and ends last
+  -- a lease that is granted now isn't refused, has a token of its own, and ends last
+  pub lease_is_free : refusal_of s.leases s.moment path ≡ None → refusal leases lease.path ≡ None
+  lease_is_free none = (λ i. refusal (same i) (e i).path) ∙ unrefused s.leases s.moment path none
+
   pub token_is_new : lease_of lease.token leases ≡ None
   token_is_new = (λ i. lease_of (e i).token (same i)) ∙ is_new (state_of s) s.leases h.leases.granted
 

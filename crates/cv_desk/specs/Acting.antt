@@ -36,7 +36,7 @@ use Rattle.cv_desk.specs.Begin.{GetsReady, WaitsSo}
 pub use Rattle.cv_desk.specs.Views.{at_vault, aged_view, next_token, new_lease, with_lease}
 pub use Rattle.cv_desk.specs.Resuming.{token_in, newest_token, ended}
 use Rattle.cv_desk.specs.Resuming.{Resumes}
-pub use Rattle.cv_desk.specs.Refusals.{reply_of, refusal_beside, refusal_of, refusal_on}
+pub use Rattle.cv_desk.specs.Refusals.{reply_of, refusal_of, refusal_on}
 use Rattle.cv_desk.specs.Refusals.{is_unread}
 pub use Rattle.cv_desk.specs.Ends.{OnlyLooks, Sends}
 use Rattle.cv_desk.specs.Ends.{BlamesParent, IsPlacedOn, FetchesWay}

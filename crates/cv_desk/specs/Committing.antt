@@ -1,5 +1,5 @@
 -- What a commit does inside a step.
-use Rattle.std.specs.Prelude.{◌≡◌, ◌+◌, ℕ, Bool, true, List, [], ◌∷◌, ◌++◌, length}
+use Rattle.std.specs.Prelude.{◌≡◌, ◌⊎◌, ◌+◌, ℕ, Bool, true, List, [], ◌∷◌, ◌++◌, length}
 use Rattle.std.specs.declared.option.Option.{Option}
 use Rattle.std.specs.declared.option.Option.TheVariants.{None, Some}
 use Rattle.std.specs.declared.result.Result.{Result}
@@ -101,11 +101,11 @@ GraftsOffered shelf newest offered path (Ok g) = IsFit shelf newest offered path
 GraftsOffered shelf newest offered path (Err r) = IsUnfit shelf newest offered path r
 
 -- What was fetched to judge the offered root: of the catalogues that are reached from it through unknown ones, no two at one path; nothing
--- where it is known. And then to graft it: where both roots mean trees, no more than the catalogues properly above the path in the one and
--- in the other.
+-- where it is known. And then nothing more; or the root is good, and to graft it, where both roots mean trees, no more than the catalogues
+-- properly above the path in the one and in the other.
 abbrev pub FetchesOffered : Shelf → KnownSet → List ℕ → List ℕ → Path → ℕ → ℕ → Type 0
-FetchesOffered shelf known newest offered path before after = (judged : ℕ) × FetchesNew shelf known offered before judged
-    × ((t n : Nodes) → Means shelf newest t → Means shelf offered n → RaisedAtMost (length (cuts_above n path) + length (cuts_above t path)) judged after)
+FetchesOffered shelf known newest offered path before after = (judged : ℕ) × FetchesNew shelf known offered before judged × ((after ≡ judged) ⊎ (IsGood shelf offered root_place
+    × ((t n : Nodes) → Means shelf newest t → Means shelf offered n → RaisedAtMost (length (cuts_above n path) + length (cuts_above t path)) judged after)))
 
 -- ---- the new revision
 
@@ -181,4 +181,4 @@ module _ {V S : Type 0} (disk : V → Option Disk) (count : V → ℕ) (left : V
         → opposition s.line lease.from_revision old_root tag ≡ None → WhereTold (disk s.line.vault) (λ d. IsFit (standing_on d) s.line.head.root offered lease.path g)
         → Readies s.known lease key s.moment offered tag s.line l (Ok (head_with (next_record s.line.head lease key s.moment g offered tag) g.size))
         → KnowsOn {X = Head} disk s.line.vault s.known offered (Ok (head_with (next_record s.line.head lease key s.moment g offered tag) g.size)) s'.known → Swaps disk count left l s'.line.vault (Ok tt)
-        → r ≡ reply.Committed (s.line.head.revision + 1) g.root.hash → IsPublished (next_record s.line.head lease key s.moment g offered tag) g.size s s' → CommitEnds key token old_root offered tag s r s'
+        → s'.line ≡ swapped l s'.line.vault → r ≡ reply.Committed (s.line.head.revision + 1) g.root.hash → IsPublished (next_record s.line.head lease key s.moment g offered tag) g.size s s' → CommitEnds key token old_root offered tag s r s'

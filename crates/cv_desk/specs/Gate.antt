@@ -133,12 +133,12 @@ IsFailed (Err e) = e.0 ≡ open_fault.Failed
 -- ---- a step
 
 -- What comes of an op whatever the vault tells: what the leases, the moment and the published revisions refuse is refused so, and only
--- that. An end of a lease is the gate's step on the leases alone, and nothing is done to the line.
+-- that. An end of a lease is the gate's step on the leases alone: nothing is done to the line, and what is known of catalogues stays.
 abbrev pub EndsSo : {V S : Type 0} (disk : V → Option Disk) (count : V → ℕ) (left : V → ℕ → Files → Type 0) → (S → List ℕ → List ℕ → Bool) → Op → ℕ → Act → Reply → StateView V S → StateView V S → Type 0
 EndsSo disk count left is_seal (op.Lease key path) now a r s s' = LeaseEnds disk count left key path (aged_view s now) r s'
 EndsSo disk count left is_seal (op.Store key token digest batch) now a r s s' = StoreEnds disk count left key token digest batch a (aged_view s now) r s'
 EndsSo disk count left is_seal (op.Commit key token old_root new_root tag) now a r s s' = CommitEnds disk count left is_seal key token old_root new_root tag (aged_view s now) r s'
-EndsSo disk count left is_seal (op.Cancel key token) now a r s s' = CancelStep (aged (state_of s) now) key token r (state_of s') × (s'.line ≡ s.line)
+EndsSo disk count left is_seal (op.Cancel key token) now a r s s' = CancelStep (aged (state_of s) now) key token r (state_of s') × (s'.line ≡ s.line) × (s'.known ≡ s.known)
 
 -- bytes that are said to have another digest stand under the id that is named, where a disk is told
 abbrev pub ShowsDamage : {V : Type 0} → (V → Option Disk) → V → Reply → Type 0

@@ -39,13 +39,9 @@ pub record Survives (name : List ℕ) (is_seal : List ℕ → List ℕ → Bool)
 
 -- ---- the state that a disk holds after a store
 
--- what came may be loose, and what was
-abbrev pub loose_now : Bool → Option (List ℕ) → Option (List ℕ) → Bool
-loose_now was before now = was || (is_none before && is_some now)
-
--- the store failed, and some objects may have come
+-- the store failed, and some objects may have come, which are loose then
 abbrev pub after_failure : State → Disk → State
-after_failure st d = record st { shelf = standing_on d; loose = λ id. loose_now (st.loose id) (st.shelf id) (standing_on d id) }
+after_failure st d = record st { shelf = standing_on d; loose = λ id. st.loose id || (is_none (st.shelf id) && is_some (standing_on d id)) }
 
 -- the store was done, and nothing is loose
 abbrev pub after_store : State → Disk → State

@@ -1,13 +1,14 @@
 -- Why an op is refused by the leases, the moment and the published revisions alone.
-use Rattle.std.specs.Prelude.{◌-◌, ◌&&◌, ℕ, Bool, true, false, nat_le, bytes_eq, List, [], ◌∷◌, length, if◌then◌else◌}
+use Rattle.std.specs.Prelude.{◌-◌, ◌&&◌, ℕ, Bool, true, false, nat_le, bytes_eq, List, [], ◌∷◌, option_map, if◌then◌else◌}
 use Rattle.std.specs.List.{find, list_any}
 use Rattle.std.specs.declared.option.Option.{Option}
 use Rattle.std.specs.declared.option.Option.TheVariants.{None, Some}
 use Rattle.cv_base.specs.Path.{Path}
-use Rattle.cv_base.specs.Marker.{marker, ends_in}
 use Rattle.cv_history.specs.declared.record.Record.{Record}
-use Rattle.cv_leases.specs.Leases.{lease_limit, busy}
+use Rattle.cv_leases.specs.Leases.{refusal}
 use Rattle.cv_leases.specs.declared.lease.Lease.{Lease}
+use Rattle.cv_leases.specs.declared.lease_fault.LeaseFault.{LeaseFault}
+use Rattle.cv_leases.specs.declared.lease_fault.LeaseFault.TheVariants as fault
 use Rattle.cv_swap.specs.Kept.{revision_limit}
 use Rattle.cv_swap.specs.Line.{LineView, published}
 use Rattle.cv_gate.specs.declared.reply.Reply.{Reply}
@@ -38,13 +39,15 @@ reply_of outcome.NoMemory = reply.NoMemory
 
 -- ---- a lease
 
--- why a lease on the path isn't granted beside these at a moment, if it isn't
-abbrev pub refusal_beside : Option Lease → List Lease → ℕ → Option Outcome
-refusal_beside (Some lease) leases moment = Some (outcome.PathBusy lease.token (lease.deadline - moment))
-refusal_beside None leases moment = if nat_le lease_limit (length leases) then Some outcome.TooManyLeases else None
+-- how a refusal of the table is answered at a moment
+abbrev pub outcome_then : ℕ → LeaseFault → Outcome
+outcome_then moment fault.BadPath = outcome.BadPath
+outcome_then moment (fault.PathBusy token deadline) = outcome.PathBusy token (deadline - moment)
+outcome_then moment fault.TooManyLeases = outcome.TooManyLeases
 
+-- why a lease on the path isn't granted beside these at a moment, if it isn't
 abbrev pub refusal_of : List Lease → ℕ → Path → Option Outcome
-refusal_of leases moment path = if ends_in marker path then Some outcome.BadPath else refusal_beside (busy leases path) leases moment
+refusal_of leases moment path = option_map (outcome_then moment) (refusal leases path)
 
 -- why nothing is done on a lease for a key, if it isn't
 abbrev pub refusal_on : Option Lease → List ℕ → Option Outcome

@@ -16,7 +16,7 @@ ghost use Rattle.cv_desk.specs.Refusals.{reply_of, is_unmade};
 ghost use Rattle.cv_base.specs.Path.{Path};
 ghost use Rattle.cv_load.specs.Known.{is_known, HasPair};
 ghost use Rattle.cv_load.specs.NewFetches.{FetchesNew};
-ghost use Rattle.cv_desk.specs.Known.{KnowsWhole, KnowsOn, Remembers, Learns};
+ghost use Rattle.cv_desk.specs.Known.{KnowsWhole, KnowsOn, Remembers, Learns, LearnsWhole};
 ghost use Rattle.cv_desk.specs.Committing.{has_base, holder_of, taken_by, opposition, outcome_at, Offers, GraftsOffered, FetchesOffered, next_record, Readies};
 ghost use Rattle.cv_desk.specs.declared.outcome.Outcome.TheVariants as outcomes;
 
@@ -113,6 +113,7 @@ fn judge<V: Vault + Drop, S: Signer + Drop>(
     ensures known { KnowsWhole V.disk line.new.vault known.new }
     ensures remembers { Remembers known.old known.new }
     ensures learns { WhereTold (V.disk line.old.vault) (λ d. OnOk result (Learns (standing_on d) known.old offered.now.hash known.new)) }
+    ensures only { WhereTold (V.disk line.old.vault) (λ d. LearnsWhole (standing_on d) known.old known.new) }
     ensures offers { WhereTold (V.disk line.old.vault) (λ d. Offers (standing_on d) offered.now.hash result) }
     ensures kind { IfErr result (λ o. is_unmade (reply_of o) ≡ true) }
     ensures reads { LineReads V.disk V.count V.left line.old line.new }

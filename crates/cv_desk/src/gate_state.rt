@@ -31,11 +31,11 @@ use crate::listing::list_leases;
 use crate::outcome::Outcome;
 use crate::sent::Sent;
 use crate::taken::{Course, Readied, Taken, commit_act, decline, store_act};
-use cv_base::{Bytes, Kind, NoMemory, Object, ObjectId, RepoPath, Text, Token, ends_in_marker};
+use cv_base::{Bytes, Kind, NoMemory, Object, ObjectId, RepoPath, Text, Token};
 use cv_gate::{Act, LeaseLine, Op};
 use cv_graft::directory_at;
 use cv_history::Record;
-use cv_leases::{LEASE_LIMIT, Lease, LeaseFault, LeaseTable};
+use cv_leases::{Lease, LeaseTable};
 use cv_load::KnownSet;
 use cv_ports::{Shelf, ShelfFault};
 use cv_seal::Signer;
@@ -136,19 +136,10 @@ impl<V: Vault + Drop, S: Signer + Drop> GateState<V, S> {
     fn refusal(&self, path: &RepoPath) -> Option<Outcome>
         ensures { result ≡ refusal_of self.now.leases self.now.moment path.now }
     {
-        if ends_in_marker(path) {
-            return Some(Outcome::BadPath);
+        match self.leases.refusal(path) {
+            Some(fault) => Some(Outcome::of_lease(fault, self.moment)),
+            None => None,
         }
-        if let Some(lease) = self.leases.overlapping(path) {
-            return Some(Outcome::PathBusy {
-                token: lease.token,
-                remaining: lease.deadline.saturating_sub(self.moment),
-            });
-        }
-        if self.leases.count() >= LEASE_LIMIT {
-            return Some(Outcome::TooManyLeases);
-        }
-        None
     }
 
     /// Whether the path has a place in the newest tree: it is the root, or its parent is a directory.
@@ -217,8 +208,7 @@ impl<V: Vault + Drop, S: Signer + Drop> GateState<V, S> {
                     root,
                 }
             },
-            Err(LeaseFault::NoMemory) => Outcome::NoMemory,
-            Err(_) => unreachable!(),
+            Err(NoMemory) => Outcome::NoMemory,
         }
     }
 

@@ -1,11 +1,12 @@
 //! What comes of an op.
 ghost use Rattle.std.specs.Prelude.{◌≡◌};
-ghost use Rattle.cv_desk.specs.Acting.{reply_of};
+ghost use Rattle.cv_desk.specs.Refusals.{reply_of, outcome_then};
 ghost use Rattle.cv_desk.specs.Sending.{outcome_of, outcome_in, outcome_from};
 
 use cv_base::{ObjectId, Token};
 use cv_cut::LoadFault;
 use cv_gate::Reply;
+use cv_leases::LeaseFault;
 use cv_objects::StoreFault;
 use cv_vault::VaultFault;
 
@@ -83,6 +84,20 @@ impl Outcome {
             Outcome::StoreFailed => Reply::StoreFailed,
             Outcome::Damaged { id, found } => Reply::Damaged { id, found },
             Outcome::NoMemory => Reply::NoMemory,
+        }
+    }
+
+    /// What comes of a lease that the table refuses so at a moment.
+    pub(crate) fn of_lease(fault: LeaseFault, moment: u64) -> Outcome
+        ensures { result ≡ outcome_then moment fault }
+    {
+        match fault {
+            LeaseFault::BadPath => Outcome::BadPath,
+            LeaseFault::PathBusy { token, deadline } => Outcome::PathBusy {
+                token,
+                remaining: deadline.saturating_sub(moment),
+            },
+            LeaseFault::TooManyLeases => Outcome::TooManyLeases,
         }
     }
 

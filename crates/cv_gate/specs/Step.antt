@@ -32,6 +32,8 @@ use Rattle.cv_gate.specs.declared.act.Act.TheVariants as act
 use Rattle.cv_gate.specs.declared.reply.Reply.{Reply}
 use Rattle.cv_gate.specs.declared.reply.Reply.TheVariants as reply
 use Rattle.cv_gate.specs.declared.entry.Entry.{Entry}
+pub use Rattle.cv_base.specs.KeyId.{is_key_id}
+pub use Rattle.cv_base.specs.Tag.{is_tag}
 
 -- ---- refusals in their order
 
@@ -146,14 +148,6 @@ abbrev pub CancelStep : State → List ℕ → Token → Reply → State → Typ
 CancelStep st key token r st' = OnLease st key token r st' (λ lease. Cancels st token r st')
 
 -- ---- the step
-
--- 1 to 255 visible bytes of ASCII
-abbrev pub is_key_id : List ℕ → Bool
-is_key_id key = nat_le 1 (length key) && nat_le (length key) 255 && list_all (λ b. nat_le 33 b && nat_le b 126) key
-
--- at most 255 bytes of UTF-8, and no control bytes
-abbrev pub is_tag : List ℕ → Bool
-is_tag tag = is_utf8 tag && nat_le (length tag) 255 && list_all (λ b. nat_le 32 b) tag
 
 -- the object has the id of its bytes, and is no record of the history
 abbrev pub IsSent : Object → Type 0

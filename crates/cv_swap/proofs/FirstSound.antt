@@ -94,7 +94,7 @@ first_sound s now limit hashes catalogue there = record {
         from_one = omega arith;
         revision = omega arith;
         key = omega arith;
-        time = limit;
+        time = omega (arith, limit);
         tag = omega arith;
         tag_bytes = refl;
         first = λ one. record { previous = refl; offered = refl; epoch = refl; number = refl; path = refl; key = refl; tag = refl };

@@ -2,6 +2,7 @@
 use Rattle.std.specs.Prelude.{◌≡◌, ◌≢◌, ℕ, ◌+◌, ◌<◌, ◌≤◌, ◌^◌, ⊤, List, [], ◌∷◌, ◌++◌, length, map, Option, None, Some}
 use Rattle.std.specs.List.{AllByRecursion, last_or}
 use Rattle.sha1.specs.Sha1.{sha1}
+use Rattle.cv_base.specs.declared.limits.TheConstants.{LAST_REVISION}
 use Rattle.cv_base.specs.ObjectId.{object_id}
 use Rattle.cv_base.specs.declared.id.Kind.TheVariants.{History}
 use Rattle.cv_base.specs.declared.object.Object.{Object}
@@ -20,7 +21,7 @@ pub record Revision : Type 0 where
 
 -- the most revisions
 abbrev pub revision_limit : ℕ
-revision_limit = 262144
+revision_limit = LAST_REVISION
 
 abbrev pub newest : List Revision → Option Revision
 newest history = last_or None history

@@ -8,9 +8,10 @@ use Rattle.cv_ports.specs.Shelf.{Shelf}
 use Rattle.cv_vault.specs.Names.{Name}
 use Rattle.cv_vault.specs.Disk.{Disk, Files, File}
 use Rattle.cv_history.specs.declared.record.Record.{Record}
-use Rattle.cv_manifest.specs.Manifest.{Says, manifest_text}
+use Rattle.cv_manifest.specs.Manifest.{Says, manifest_name, manifest_text}
 use Rattle.cv_manifest.specs.declared.head.Head.{Head}
 use Rattle.cv_manifest.specs.declared.manifest.Manifest.{Manifest}
+use Rattle.cv_manifest.specs.declared.manifest.TheConstants.{TIME_TO_LIVE}
 use Rattle.cv_objects.specs.Coming.{ShelfGains}
 use Rattle.cv_objects.specs.Names.{objects_of, standing_on}
 pub use Rattle.cv_swap.specs.Kept.{head_with, head_of}
@@ -18,7 +19,7 @@ use Rattle.cv_swap.specs.Kept.{Kept, IsKept, AreSound, Revision, newest}
 
 -- where the manifest and the epoch stand, and the names by which they come there
 abbrev pub head_name : Name
-head_name = codes ".cvmfspublished"
+head_name = manifest_name
 
 abbrev pub head_way : Name
 head_way = codes "txn/manifest"
@@ -46,9 +47,9 @@ head_on shelf r = head_with r (size_of (shelf (object_id r.root Catalogue)))
 abbrev pub history_id : Head → ObjectId
 history_id head = object_id head.history History
 
--- the bytes of a head's manifest: a client may take the head for the newest one for 240 seconds
+-- the bytes of a head's manifest
 abbrev pub head_text : (List ℕ → List ℕ) → List ℕ → Head → List ℕ
-head_text seal_of name head = manifest_text seal_of (record { name = name; ttl = 240; head = head })
+head_text seal_of name head = manifest_text seal_of (record { name = name; ttl = TIME_TO_LIVE; head = head })
 
 -- the file at the head says a manifest of this name
 pub record Publishes (name : List ℕ) (is_seal : List ℕ → List ℕ → Bool) (file : File) (head : Head) : Type 0 where

@@ -1,5 +1,5 @@
 //! A repository is made: its first revision.
-ghost use Rattle.std.specs.Prelude.{◌≡◌, ◌<◌, ◌^◌, ◌≢◌, None, true, false, IsErrOf};
+ghost use Rattle.std.specs.Prelude.{◌<◌, ◌^◌, IsErrOf};
 ghost use Rattle.cv_base.specs.Counts.{HasCause};
 ghost use Rattle.cv_base.specs.Told.{WhereTold};
 ghost use Rattle.cv_vault.specs.Moments.{OnlyReads};
@@ -11,9 +11,9 @@ ghost use Rattle.cv_swap.specs.declared.init_fault.InitFault.TheVariants as faul
 
 use crate::first::first_parts;
 use crate::init_fault::InitFault;
-use crate::opening::HEAD_NAME;
 use crate::publishing::init_on;
 use cv_base::Name;
+use cv_manifest::MANIFEST_NAME;
 use cv_objects::Objects;
 use cv_seal::Signer;
 use cv_vault::{Vault, VaultFault};
@@ -25,7 +25,7 @@ fn has_head<V: Vault>(vault: &mut V) -> Result<bool, VaultFault>
     ensures reads { OnlyReads V.disk V.count V.left vault.old vault.new }
     ensures cause { HasCause (V.faults vault.old) (V.faults vault.new) (IsErrOf result vault_fault.Failed) }
 {
-    Ok(vault.length(HEAD_NAME)?.is_some())
+    Ok(vault.length(MANIFEST_NAME)?.is_some())
 }
 
 /// Makes the first revision of a repository in a vault without one.

@@ -1,6 +1,7 @@
 //! What a revision is made of: its record as an object, and its manifest.
-ghost use Rattle.std.specs.Prelude.{◌≡◌, ◌++◌, ◌∷◌, [], ◌≤◌, ◌<◌, ◌^◌, Some, IfOk};
+ghost use Rattle.std.specs.Prelude.{◌≡◌, ◌++◌, ◌∷◌, [], ◌≤◌, Some, IfOk};
 ghost use Rattle.sha1.specs.Sha1.{sha1};
+ghost use Rattle.cv_base.specs.declared.limits.TheConstants.{LAST_TIME};
 ghost use Rattle.cv_history.specs.Record.{IsRecord, record_bytes};
 ghost use Rattle.cv_manifest.specs.Manifest.{IsHead};
 ghost use Rattle.cv_swap.specs.Kept.{object_of};
@@ -8,12 +9,9 @@ ghost use Rattle.cv_swap.specs.Stands.{head_with, head_text, Publishes};
 
 use cv_base::{Bytes, Items, Kind, Name, NoMemory, Object, ObjectId};
 use cv_history::Record;
-use cv_manifest::{Head, Manifest};
+use cv_manifest::{Head, Manifest, TIME_TO_LIVE};
 use cv_seal::Signer;
 use std::alloc::Global;
-
-/// How long a client may take a head for the newest one, in seconds.
-const TIME_TO_LIVE: u64 = 240;
 
 /// The object of a record.
 pub fn record_object(alloc: Global, next: &Record) -> Result<Object, NoMemory>
@@ -50,7 +48,7 @@ pub fn write_manifest<S: Signer>(
     signer: &S,
 ) -> Result<Bytes, NoMemory>
     requires revision { 1 ≤ head.revision }
-    requires time { head.time < 2 ^ 62 }
+    requires time { head.time ≤ LAST_TIME }
     ensures text { IfOk result (λ bytes. bytes ≡ head_text (S.seal_of signer.now) name.now head) }
     ensures says { IfOk result (λ bytes. Publishes name.now (S.is_seal signer.now) (Some bytes) head) }
 {

@@ -1,5 +1,5 @@
 //! What stands in the vault of a repository is read, and its epoch is raised.
-ghost use Rattle.std.specs.Prelude.{◌≡◌, ◌≢◌, ◌+◌, ◌<◌, ◌^◌, ℕ, List, Some, Err, IfOk, IfSome, IsErrOf, string_bytes};
+ghost use Rattle.std.specs.Prelude.{◌≡◌, ◌+◌, ◌<◌, ◌^◌, ℕ, Some, Err, IfOk, IfSome, IsErrOf, string_bytes};
 ghost use Rattle.cv_base.specs.Counts.{HasCause};
 ghost use Rattle.cv_base.specs.Told.{WhereTold};
 ghost use Rattle.cv_vault.specs.Disk.{files_now};
@@ -9,7 +9,7 @@ ghost use Rattle.cv_vault.specs.Walks.{Walks, ComesTo, BringsNothing};
 ghost use Rattle.cv_vault.specs.Replace.{Replaced};
 ghost use Rattle.cv_vault.specs.declared.vault.VaultFault.TheVariants as vault_fault;
 ghost use Rattle.cv_manifest.specs.Manifest.{IsHead};
-ghost use Rattle.cv_swap.specs.Stands.{head_name, epoch_name, epoch_text};
+ghost use Rattle.cv_swap.specs.Stands.{epoch_name, epoch_text};
 ghost use Rattle.cv_swap.specs.Opening.{FindsHead, FindsEpoch, FindsRecords, Finds, IsRead, Opens};
 ghost use Rattle.cv_swap.specs.declared.open_fault.OpenFault.TheVariants as fault;
 
@@ -17,14 +17,11 @@ use crate::found::Found;
 use crate::open_fault::OpenFault;
 use cv_base::{Bytes, Items, Kind, Name, NoMemory, ObjectId, read_decimal};
 use cv_history::{ChainFault, Record, chain};
-use cv_manifest::{Head, Manifest, ManifestFault};
+use cv_manifest::{Head, MANIFEST_NAME, Manifest, ManifestFault};
 use cv_objects::Objects;
 use cv_seal::Signer;
 use cv_vault::{Vault, VaultFault, replace};
 use std::alloc::Global;
-
-/// The name of the manifest's file.
-pub const HEAD_NAME: &str = ".cvmfspublished";
 
 /// The name of the epoch's file.
 pub const EPOCH_NAME: &str = "gateway.epoch";
@@ -64,7 +61,7 @@ fn read_head<V: Vault, S: Signer>(
     ensures reads { OnlyReads V.disk V.count V.left vault.old vault.new }
     ensures cause { HasCause (V.faults vault.old) (V.faults vault.new) (IsErrOf result fault.Failed) }
 {
-    match vault.read(HEAD_NAME) {
+    match vault.read(MANIFEST_NAME) {
         Ok(file) => match file {
             Some(bytes) => read_manifest(alloc, &bytes, name, signer),
             None => Err(OpenFault::NoRepository),

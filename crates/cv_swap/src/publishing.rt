@@ -12,8 +12,9 @@ ghost use Rattle.cv_objects.specs.declared.store_fault.StoreFault.TheVariants as
 ghost use Rattle.cv_swap.specs.Stands.{head_name, head_way};
 ghost use Rattle.cv_swap.specs.Publishing.{Prepared, BringsFirst, PutBeside, Built, Inits};
 
-use crate::opening::{EPOCH_NAME, EPOCH_WAY, HEAD_NAME, epoch_text_of};
+use crate::opening::{EPOCH_NAME, EPOCH_WAY, epoch_text_of};
 use cv_base::Object;
+use cv_manifest::MANIFEST_NAME;
 use cv_objects::{Objects, StoreFault};
 use cv_vault::{Vault, VaultFault, bring_file, is_sure, move_in};
 use std::alloc::Global;
@@ -50,7 +51,7 @@ pub fn swap_on<V: Vault>(vault: &mut V) -> Result<(), VaultFault>
     ensures silent { V.disk vault.old ≡ None → V.disk vault.new ≡ None }
     ensures cause { HasCause (V.faults vault.old) (V.faults vault.new) (IsErrOf result vault_fault.Failed) }
 {
-    move_in(vault, HEAD_WAY, HEAD_NAME)
+    move_in(vault, HEAD_WAY, MANIFEST_NAME)
 }
 
 /// Whether the manifest came to its name. It settles first.
@@ -59,7 +60,7 @@ pub fn was_swapped<V: Vault>(vault: &mut V, manifest: &[u8]) -> Result<bool, Vau
     ensures silent { V.disk vault.old ≡ None → V.disk vault.new ≡ None }
     ensures cause { HasCause (V.faults vault.old) (V.faults vault.new) (IsErrOf result vault_fault.Failed) }
 {
-    is_sure(vault, HEAD_NAME, manifest)
+    is_sure(vault, MANIFEST_NAME, manifest)
 }
 
 /// Puts the first epoch and a manifest on their way, where the next sync settles them.

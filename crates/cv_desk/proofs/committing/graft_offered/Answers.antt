@@ -38,15 +38,15 @@ returns-in-Err-graft-clause-grafts g c = λ d told.
     c.args.offered.now.hash c.args.path.now c.graft.result (Err c.in-Err-graft.fault) c.in-Err-graft.is c.graft.ensures.damaged d told)
 
 pub returns-in-Err-clause-knows : goal.returns-in-Err-clause-knows
-returns-in-Err-clause-knows g c = knows_unjudged g.V.Vault.disk c.args.line.now.vault c.args.known.now c.args.offered.now.hash c.judge.new.known {X = Grafted} c.judge.ensures.remembers c.in-Err.outcome c.of.result c.of.ensures
+returns-in-Err-clause-knows g c = knows_unjudged g.V.Vault.disk c.args.line.now.vault c.args.known.now c.args.offered.now.hash c.judge.new.known {X = Grafted} c.judge.ensures.remembers c.judge.ensures.only c.in-Err.outcome c.of.result c.of.ensures
     (λ d told. subst (Offers (standing_on d) c.args.offered.now.hash) c.in-Err.is (c.judge.ensures.offers d told))
 
 pub returns-in-Ok-clause-knows : goal.returns-in-Ok-clause-knows
-returns-in-Ok-clause-knows g c = knows_judged g.V.Vault.disk c.args.line.now.vault c.args.known.now c.args.offered.now.hash c.judge.new.known _ c.judge.ensures.remembers (λ d told. on_ok c.judge.result _ c.in_default.is (c.judge.ensures.learns d told))
+returns-in-Ok-clause-knows g c = knows_judged g.V.Vault.disk c.args.line.now.vault c.args.known.now c.args.offered.now.hash c.judge.new.known _ c.judge.ensures.remembers (λ d told. on_ok c.judge.result _ c.in_default.is (c.judge.ensures.learns d told)) c.judge.ensures.only
 
 pub returns-in-Err-graft-clause-knows : goal.returns-in-Err-graft-clause-knows
 returns-in-Err-graft-clause-knows g c = knows_judged g.V.Vault.disk c.args.line.now.vault c.args.known.now c.args.offered.now.hash c.judge.new.known {X = Grafted} (Err c.of_graft.result) c.judge.ensures.remembers
-    (λ d told. on_ok c.judge.result _ c.in_default.is (c.judge.ensures.learns d told))
+    (λ d told. on_ok c.judge.result _ c.in_default.is (c.judge.ensures.learns d told)) c.judge.ensures.only
 
 pub returns-in-Err-clause-kind : goal.returns-in-Err-clause-kind
 returns-in-Err-clause-kind g c = ap is_unmade c.of.ensures ∙ if_err (λ o. is_unmade (reply_of o) ≡ true) c.judge.result c.in-Err.outcome c.in-Err.is c.judge.ensures.kind
@@ -59,8 +59,8 @@ returns-in-Err-clause-fetches g c = judged_alone g.V.Vault.disk c.args.known.now
 
 pub returns-in-Ok-clause-fetches : goal.returns-in-Ok-clause-fetches
 returns-in-Ok-clause-fetches g c = grafts_fetched g.V.Vault.disk g.V.Vault.count g.V.Vault.left c.args.known.now c.args.line.now c.judge.new.line c.judge.ensures.reads c.head.result.root (ap (λ (h : Head). h.root) c.head.ensures.newest)
-    c.args.offered.now.hash c.args.path.now c.graft.new.shelf.taken c.judge.ensures.fetches c.graft.ensures.taken
+    c.args.offered.now.hash c.args.path.now c.graft.new.shelf.taken c.judge.ensures.fetches (λ d told. subst (Offers (standing_on d) c.args.offered.now.hash) c.in_default.is (c.judge.ensures.offers d told)) c.graft.ensures.taken
 
 pub returns-in-Err-graft-clause-fetches : goal.returns-in-Err-graft-clause-fetches
 returns-in-Err-graft-clause-fetches g c = grafts_fetched g.V.Vault.disk g.V.Vault.count g.V.Vault.left c.args.known.now c.args.line.now c.judge.new.line c.judge.ensures.reads c.head.result.root (ap (λ (h : Head). h.root) c.head.ensures.newest)
-    c.args.offered.now.hash c.args.path.now c.graft.new.shelf.taken c.judge.ensures.fetches c.graft.ensures.taken
+    c.args.offered.now.hash c.args.path.now c.graft.new.shelf.taken c.judge.ensures.fetches (λ d told. subst (Offers (standing_on d) c.args.offered.now.hash) c.in_default.is (c.judge.ensures.offers d told)) c.graft.ensures.taken

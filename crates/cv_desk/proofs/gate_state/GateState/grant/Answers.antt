@@ -1,6 +1,9 @@
 use Rattle.std.proofs.Common.{rules}
-use Rattle.cv_desk.proofs.States.{state_granted, token_is_new, deadline_is_last}
+use Rattle.cv_desk.proofs.States.{state_granted, lease_is_free, token_is_new, deadline_is_last}
 use Rattle.cv_desk.proofs.gate_state.GateState.grant.Goals as goal
+
+pub grant-requires-clause-free : goal.grant-requires-clause-free
+grant-requires-clause-free g c = lease_is_free c.args.self.now c.in-Ok.lease c.self.inside.leases c.args.key.now c.args.path.now (search rules) (search rules) (search rules) c.requires.free
 
 pub grant-requires-clause-token : goal.grant-requires-clause-token
 grant-requires-clause-token g c = token_is_new c.args.self.now c.in-Ok.lease c.self.inside.leases c.args.key.now c.args.path.now (search rules) (search rules) (search rules)
