@@ -1,14 +1,13 @@
 -- A client is pinned at the head of the manifest that a repository's server serves.
 use Rattle.std.specs.Prelude.{ℕ, Bool, List, [], Some, None, Result, Ok, Err}
 use Rattle.lru.specs.LruCache.{lru_cache}
-use Rattle.cv_manifest.specs.Manifest.{Says}
+use Rattle.cv_manifest.specs.Manifest.{Says, manifest_name}
 use Rattle.cv_manifest.specs.Fault.{Shows}
 use Rattle.cv_manifest.specs.declared.manifest.Manifest.{Manifest}
 use Rattle.cv_manifest.specs.declared.manifest_fault.ManifestFault.{ManifestFault}
 use Rattle.cv_resolver.specs.Resolver.{Client}
 use Rattle.cv_client.specs.Exchange.{Links}
 use Rattle.cv_client.specs.Fetch.{Fetches}
-use Rattle.cv_client.specs.Requests.{manifest_name}
 use Rattle.cv_client.specs.declared.url.Url.{Url}
 use Rattle.cv_client.specs.declared.exchanging.ExchangeFault.{ExchangeFault}
 use Rattle.cv_client.specs.declared.ask_fault.AskFault.{AskFault}

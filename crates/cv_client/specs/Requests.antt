@@ -4,10 +4,6 @@ use Rattle.cv_http.specs.declared.outgoing.Outgoing.{Outgoing}
 use Rattle.cv_http.specs.declared.verb.Verb.TheVariants.{Get}
 use Rattle.cv_client.specs.declared.url.Url.{Url}
 
--- the name of the manifest's file
-abbrev pub manifest_name : List ℕ
-manifest_name = codes ".cvmfspublished"
-
 -- a file below the repository
 abbrev pub target_of : List ℕ → List ℕ → List ℕ
 target_of repository file = codes "/cvmfs/" ++ repository ++ codes "/" ++ file

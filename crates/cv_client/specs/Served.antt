@@ -10,7 +10,7 @@ use Rattle.cv_cut.specs.Catalogues.{root_of, Fits}
 use Rattle.cv_http.specs.Requests.{request_text}
 use Rattle.cv_http.specs.ReplyTexts.{IsReply}
 use Rattle.cv_http.specs.declared.http_reply.HttpReply.{HttpReply}
-use Rattle.cv_manifest.specs.Manifest.{Says}
+use Rattle.cv_manifest.specs.Manifest.{Says, manifest_name}
 use Rattle.cv_manifest.specs.declared.manifest.Manifest.{Manifest}
 use Rattle.cv_resolver.specs.Kept.{AreOwn}
 use Rattle.cv_resolver.specs.Look.{Finding, OnWay, IsFound, look}
@@ -21,7 +21,7 @@ use Rattle.cv_resolver.specs.declared.resolver.Asked.{Asked}
 use Rattle.cv_resolver.specs.declared.found.Found.{Found}
 use Rattle.cv_resolver.specs.declared.found.ClientFault.{ClientFault}
 use Rattle.cv_client.specs.Exchange.{Links}
-use Rattle.cv_client.specs.Requests.{file_request, manifest_name}
+use Rattle.cv_client.specs.Requests.{file_request}
 use Rattle.cv_client.specs.Pin.{client_at}
 use Rattle.cv_client.specs.declared.url.Url.{Url}
 use Rattle.cv_client.specs.declared.exchanging.ExchangeFault.{ExchangeFault}

@@ -11,15 +11,9 @@ use crate::exchanging::{ExchangeFault, exchange};
 use crate::url::Url;
 use cv_base::{Bytes, NoMemory, Text};
 use cv_http::laws::{more_behind_a_reply, one_reply, reply_or_fault};
-use cv_http::{HttpReply, Outgoing, Verb};
+use cv_http::{HttpReply, NOT_FOUND, OK, Outgoing, Verb};
 use cv_ports::Dial;
 use std::alloc::Global;
-
-/// The code of a reply that has what was asked for (RFC 9110, section 15.3.1).
-const OK: u16 = 200;
-
-/// The code of a reply that there is none (RFC 9110, section 15.5.5).
-const NOT_FOUND: u16 = 404;
 
 /// The target of a file of a repository.
 fn target(alloc: Global, repository: &str, file: &str) -> Result<String, NoMemory>

@@ -1,26 +1,22 @@
 //! The manifest of a served repository.
 ghost use Rattle.std.specs.Prelude.{◌≡◌, ℕ, List, Some};
 ghost use Rattle.cv_base.specs.Counts.{HasCause, Rose};
-ghost use Rattle.cv_manifest.specs.Manifest.{Says};
+ghost use Rattle.cv_manifest.specs.Manifest.{Says, manifest_name};
 ghost use Rattle.cv_manifest.specs.declared.manifest.Manifest.{Manifest as TheManifest};
 ghost use Rattle.cv_client.specs.Asking.{AsksFirst};
 ghost use Rattle.cv_client.specs.Pin.{FetchesManifest, Pins};
-ghost use Rattle.cv_client.specs.Requests.{manifest_name};
 ghost use Rattle.cv_client.specs.Served.{Files, ServedBy, FetchesServed, IsPinned};
 ghost use Rattle.cv_client.specs.declared.ask_fault.AskFault.TheVariants.{LinkFailed};
 
 use crate::ask_fault::AskFault;
 use crate::fetching::fetch;
 use crate::url::Url;
-use cv_manifest::Manifest;
 use cv_manifest::laws::{a_manifest_shows_no_fault, a_text_says_one_manifest};
+use cv_manifest::{MANIFEST_NAME, Manifest};
 use cv_ports::Dial;
 use cv_resolver::Resolver;
 use cv_seal::Signer;
 use std::alloc::Global;
-
-/// The name of the manifest's file.
-const MANIFEST: &str = ".cvmfspublished";
 
 /// The most catalogues that a client keeps.
 const CATALOGUES: usize = 64;
@@ -42,7 +38,7 @@ pub fn fetch_manifest<N: Dial, S: Signer>(
 {
     a_text_says_one_manifest();
     a_manifest_shows_no_fault();
-    match fetch(alloc, dial, url, MANIFEST) {
+    match fetch(alloc, dial, url, MANIFEST_NAME) {
         Ok(Some(text)) => match Manifest::read(alloc, text.as_slice(), signer) {
             Ok(manifest) => Ok(manifest),
             Err(fault) => Err(AskFault::of_manifest(fault)),

@@ -29,7 +29,7 @@ use Rattle.cv_publisher.specs.Replies.{answer_in, fault_in, served_in}
 use Rattle.cv_publisher.specs.Requests.{object_request}
 use Rattle.cv_publisher.specs.Taking.{AfterLease, lease_said, lease_lost, AfterManifest, manifest_read, manifest_bad, manifest_unsaid, manifest_lost, AfterCheckout, assembled, unassembled, AfterCatalogue, catalogue_more, catalogue_last, catalogue_refused, catalogue_unsaid, behind_checkout, offer_of}
 use Rattle.cv_publisher.specs.Talks as talks
-use Rattle.cv_publisher.specs.Talks.{Exchanged, Talks, Fails, lease, manifest, catalogue, payload, commit, Terms, errands, IsDone, Faults, Fetches, IsUnmade, Sends, bodies, joined, AreFronts, AreToward, Completes, Explains, IsReady, MaySend, IsServedOf, Offers, Published, Unleased, Cancelled}
+use Rattle.cv_publisher.specs.Talks.{Exchanged, Talks, Fails, lease, manifest, catalogue, payload, commit, Terms, errands, IsDone, Faults, Fetches, IsUnmade, Sends, bodies, AreToward, Completes, Explains, IsReady, MaySend, IsServedOf, Offers, Published, Unleased, Cancelled}
 use Rattle.cv_publisher.specs.Wanting.{AsksCatalogue, Wants}
 use Rattle.cv_publisher.specs.declared.assembling.Delivery.{Delivery}
 use Rattle.cv_publisher.specs.declared.fault.PublishFault.{PublishFault}

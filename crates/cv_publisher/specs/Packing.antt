@@ -5,9 +5,10 @@ use Rattle.sha1.specs.Sha1.{sha1}
 use Rattle.cv_base.specs.Path.{name_cmp}
 use Rattle.cv_base.specs.ObjectId.{id_text}
 use Rattle.cv_base.specs.declared.id.Kind.TheVariants.{Catalogue, History}
+use Rattle.cv_base.specs.declared.limits.TheConstants.{OBJECT_LIMIT}
 use Rattle.cv_base.specs.declared.object.Object.{Object}
 use Rattle.cv_pack.specs.Pack.{contents_size, has_room, ids}
-use Rattle.cv_pack.specs.declared.header_reader.TheConstants.{COUNT_LIMIT, SIZE_LIMIT, TOTAL_LIMIT}
+use Rattle.cv_pack.specs.declared.header_reader.TheConstants.{COUNT_LIMIT, TOTAL_LIMIT}
 
 -- the texts of the ids of objects
 abbrev pub id_texts : List Object → List (List ℕ)
@@ -28,12 +29,12 @@ pub record AreInOrder (all os : List Object) : Type 0 where
 pub record IsOwn (o : Object) : Type 0 where
   pub hash : o.id.hash ≡ sha1 o.bytes
   pub kind : o.id.kind ≢ History
-  pub size : length o.bytes ≤ SIZE_LIMIT
+  pub size : length o.bytes ≤ OBJECT_LIMIT
 
 -- a catalogue that a pack may have
 pub record IsCatalogueObject (o : Object) : Type 0 where
   pub kind : o.id.kind ≡ Catalogue
-  pub size : length o.bytes ≤ SIZE_LIMIT
+  pub size : length o.bytes ≤ OBJECT_LIMIT
 
 -- these places are there, and have objects of different ids that packs may have
 pub record AreSendable (all : List Object) (places : List ℕ) : Type 0 where
@@ -45,7 +46,7 @@ pub record AreSendable (all : List Object) (places : List ℕ) : Type 0 where
 pub record IsFront (os pack rest : List Object) : Type 0 where
   pub split : os ≡ pack ++ rest
   pub count : length pack ≤ COUNT_LIMIT
-  pub sizes : All (λ o. length o.bytes ≤ SIZE_LIMIT) pack
+  pub sizes : All (λ o. length o.bytes ≤ OBJECT_LIMIT) pack
   pub total : contents_size pack ≤ TOTAL_LIMIT
   pub longest : (next : Object) (more : List Object) → rest ≡ next ∷ more → has_room pack next.bytes ≡ false
 

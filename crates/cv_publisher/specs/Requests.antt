@@ -12,9 +12,11 @@ use Rattle.cv_http.specs.declared.outgoing.Outgoing.{Outgoing}
 use Rattle.cv_http.specs.declared.verb.Verb.TheVariants.{Get, Post, Delete}
 use Rattle.cv_keys.specs.Header.{header_of}
 use Rattle.cv_keys.specs.declared.key.Key.{Key}
+use Rattle.cv_manifest.specs.Manifest.{manifest_name}
 use Rattle.cv_messages.specs.CommitAsk.{commit_ask_data}
 use Rattle.cv_messages.specs.LeaseAsk.{lease_ask_data}
 use Rattle.cv_messages.specs.PayloadAsk.{payload_ask_data}
+use Rattle.cv_messages.specs.Targets.{leases_target, lease_target, payloads_target}
 use Rattle.cv_pack.specs.Pack.{header_bytes, pack_bytes}
 use Rattle.cv_publisher.specs.Packing.{IsFront}
 use Rattle.cv_publisher.specs.declared.plan.Plan.{Plan}
@@ -24,9 +26,6 @@ abbrev pub signature : List Key → List ℕ → Option (List ℕ)
 signature keys message = option_map (λ key. header_of key message) (slice_get keys 0)
 
 -- ---- the lease
-
-abbrev pub leases_target : List ℕ
-leases_target = codes "/api/v1/leases"
 
 -- it asks for the repository's name and behind it the path's text
 abbrev pub lease_message : List ℕ → Path → List ℕ
@@ -59,15 +58,12 @@ file_request plan file = record {
 }
 
 abbrev pub manifest_request : Plan → Outgoing
-manifest_request plan = file_request plan (codes ".cvmfspublished")
+manifest_request plan = file_request plan manifest_name
 
 abbrev pub object_request : Plan → ObjectId → Outgoing
 object_request plan id = file_request plan (file_name id)
 
 -- ---- payloads
-
-abbrev pub payloads_target : List ℕ
-payloads_target = codes "/api/v1/payloads"
 
 -- it says the digest and the length of the pack's header
 abbrev pub payload_message : Token → List Object → List ℕ
@@ -95,9 +91,6 @@ pub record SendsFront (keys : List Key) (plan : Plan) (token : Token) (os : List
 
 -- ---- the lease by its token, whose text is signed
 
-abbrev pub lease_target : Token → List ℕ
-lease_target token = codes "/api/v1/leases/" ++ token_text token
-
 -- the digests of two root catalogues, and no tag
 abbrev pub commit_message : List ℕ → List ℕ → List ℕ
 commit_message base root = compact_text (commit_ask_data (record { old_root = base; new_root = root; tag = [] }))
@@ -106,7 +99,7 @@ abbrev pub commit_request : List Key → Plan → Token → List ℕ → List �
 commit_request keys plan token base root = record {
   method = Post;
   host = plan.host;
-  target = lease_target token;
+  target = lease_target (token_text token);
   authorization = signature keys (token_text token);
   message_size = None;
   body = commit_message base root;
@@ -116,7 +109,7 @@ abbrev pub cancel_request : List Key → Plan → Token → Outgoing
 cancel_request keys plan token = record {
   method = Delete;
   host = plan.host;
-  target = lease_target token;
+  target = lease_target (token_text token);
   authorization = signature keys (token_text token);
   message_size = None;
   body = [];

@@ -11,10 +11,9 @@ ghost use Rattle.cv_publisher.specs.Packing.{IsCatalogueObject};
 use crate::fault::PublishFault;
 use crate::ordering::in_order;
 use crate::plan::Plan;
-use cv_base::{Items, Kind, NoMemory, Object, ObjectId};
+use cv_base::{Items, Kind, NoMemory, OBJECT_LIMIT, Object, ObjectId};
 use cv_graft::{GraftFault, Grafted, place};
 use cv_overlay::overlay;
-use cv_pack::SIZE_LIMIT;
 use cv_ports::{MemoryShelf, Shelf};
 use cv_tree::Part;
 use std::alloc::Global;
@@ -35,9 +34,7 @@ fn are_catalogues(objects: &[Object]) -> bool
     ensures { IsTrue result → All IsCatalogueObject objects.now }
 {
     for object in objects {
-        if object.id.kind != Kind::Catalogue
-            || object.bytes.as_slice().len() > SIZE_LIMIT as usize
-        {
+        if object.id.kind != Kind::Catalogue || object.bytes.as_slice().len() > OBJECT_LIMIT {
             return false;
         }
     }

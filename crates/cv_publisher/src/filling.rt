@@ -3,8 +3,8 @@ ghost use Rattle.std.specs.Prelude.{◌≡◌, ◌≢◌, ◌≤◌, ◌<◌, �
 ghost use Rattle.cv_pack.specs.Pack.{contents_size};
 ghost use Rattle.cv_publisher.specs.Packing.{AreSendable, IsFront, objects_at};
 
-use cv_base::{NoMemory, Object};
-use cv_pack::{COUNT_LIMIT, PackWriter, SIZE_LIMIT, TOTAL_LIMIT};
+use cv_base::{NoMemory, OBJECT_LIMIT, Object};
+use cv_pack::{COUNT_LIMIT, PackWriter, TOTAL_LIMIT};
 use std::alloc::Global;
 
 /// The front of objects that one pack takes.
@@ -49,7 +49,7 @@ pub(crate) fn front_of(contents: &[Object], catalogues: &[Object], left: &[usize
             .as_slice()
             .len();
         if count >= COUNT_LIMIT as usize
-            || length > SIZE_LIMIT as usize
+            || length > OBJECT_LIMIT
             || size + length > TOTAL_LIMIT as usize
         {
             return Front { count, size };

@@ -5,15 +5,9 @@ ghost use Rattle.cv_publisher.specs.Replies.{answer_in, fault_in, served_in};
 use crate::fault::PublishFault;
 use cv_answers::Answer;
 use cv_base::{Bytes, NoMemory};
-use cv_http::HttpReply;
+use cv_http::{HttpReply, NOT_FOUND, OK};
 use cv_messages::MessageFault;
 use std::alloc::Global;
-
-/// The code of a reply that has what was asked for (RFC 9110, section 15.3.1).
-pub(crate) const OK: u16 = 200;
-
-/// The code of a reply that there is none (RFC 9110, section 15.5.5).
-const NOT_FOUND: u16 = 404;
 
 /// The answer of the gateway that a reply has, if it has one.
 pub(crate) fn answer_in(alloc: Global, reply: &HttpReply) -> Result<Option<Answer>, NoMemory>

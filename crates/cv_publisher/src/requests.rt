@@ -1,16 +1,18 @@
 //! The requests of a publisher.
-ghost use Rattle.std.specs.Prelude.{◌≡◌, ◌≢◌, ◌≤◌, ◌++◌, [], IfOk, codes, length, string_bytes};
+ghost use Rattle.std.specs.Prelude.{◌≡◌, ◌≢◌, ◌≤◌, ◌++◌, [], IfOk, length, string_bytes};
 ghost use Rattle.cv_base.specs.Token.{token_text};
-ghost use Rattle.cv_pack.specs.Pack.{contents_size, header_bytes, pack_bytes};
+ghost use Rattle.cv_messages.specs.Targets.{lease_target};
+ghost use Rattle.cv_pack.specs.Pack.{contents_size, pack_bytes};
 ghost use Rattle.cv_publisher.specs.Packing.{AreSendable, objects_at};
-ghost use Rattle.cv_publisher.specs.Requests.{SendsFront, cancel_request, commit_message, commit_request, file_request, file_target, lease_message, lease_request, lease_target, manifest_request, object_request, payload_message, payload_request, signature};
+ghost use Rattle.cv_publisher.specs.Requests.{SendsFront, cancel_request, commit_message, commit_request, file_request, file_target, lease_message, lease_request, manifest_request, object_request, payload_message, payload_request, signature};
 
 use crate::filling::{filled, front_of};
 use crate::plan::Plan;
 use cv_base::{Bytes, Name, NoMemory, Object, ObjectId, RepoPath, Text, Token};
 use cv_http::{Outgoing, Verb};
 use cv_keys::KeyTable;
-use cv_messages::{CommitAsk, LeaseAsk, PayloadAsk};
+use cv_manifest::MANIFEST_NAME;
+use cv_messages::{CommitAsk, LEASE, LEASES, LeaseAsk, PAYLOADS, PayloadAsk};
 use sha1::Sha1;
 use std::alloc::Global;
 
@@ -46,7 +48,7 @@ pub(crate) fn lease_request(
     Ok(Outgoing {
         method: Verb::Post,
         host: plan.host.copy(alloc)?,
-        target: Text::from_str(alloc, "/api/v1/leases")?,
+        target: Text::from_str(alloc, LEASES)?,
         authorization: signature(alloc, keys, &message)?,
         message_size: None,
         body: Bytes::new(message),
@@ -82,7 +84,7 @@ fn file_request(alloc: Global, plan: &Plan, file: &str) -> Result<Outgoing, NoMe
 pub(crate) fn manifest_request(alloc: Global, plan: &Plan) -> Result<Outgoing, NoMemory>
     ensures { IfOk result (λ request. request ≡ manifest_request plan.now) }
 {
-    file_request(alloc, plan, ".cvmfspublished")
+    file_request(alloc, plan, MANIFEST_NAME)
 }
 
 /// The request for an object.
@@ -135,7 +137,7 @@ fn pack_request(
     Ok(Outgoing {
         method: Verb::Post,
         host: plan.host.copy(alloc)?,
-        target: Text::from_str(alloc, "/api/v1/payloads")?,
+        target: Text::from_str(alloc, PAYLOADS)?,
         authorization,
         message_size: Some(message_size),
         body: Bytes::new(body),
@@ -164,9 +166,9 @@ pub(crate) fn payload_request(
 
 /// The target of a lease.
 fn lease_target(alloc: Global, token: &str) -> Result<String, NoMemory>
-    ensures { IfOk result (λ text. string_bytes text ≡ codes "/api/v1/leases/" ++ token.now) }
+    ensures { IfOk result (λ text. string_bytes text ≡ lease_target token.now) }
 {
-    let mut text = String::from_str(alloc, "/api/v1/leases/")?;
+    let mut text = String::from_str(alloc, LEASE)?;
     text.push_str(token)?;
     Ok(text)
 }
@@ -183,7 +185,7 @@ fn token_request(
     ensures { IfOk result (λ request. request ≡ record {
       method = method;
       host = plan.now.host;
-      target = lease_target token;
+      target = lease_target (token_text token);
       authorization = signature keys.now (token_text token);
       message_size = None;
       body = body.items;

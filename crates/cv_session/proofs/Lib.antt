@@ -8,4 +8,3 @@ mod TurnsDone
 mod Readings
 mod Sessioning
 mod OneAsked
-mod Seating

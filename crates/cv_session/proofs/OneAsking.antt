@@ -14,7 +14,9 @@ use Rattle.cv_http.specs.declared.head.RequestHead.{RequestHead}
 use Rattle.cv_http.specs.declared.method.Method.{Method}
 use Rattle.cv_http.specs.declared.method.Method.TheVariants.{Get, Post, Delete, Other}
 use Rattle.cv_keys.specs.declared.key.Key.{Key}
-use Rattle.cv_session.specs.Targets.{manifest_name, lease_target, leases_target, repositories_target, Names, manifest, object}
+use Rattle.cv_manifest.specs.Manifest.{manifest_name}
+use Rattle.cv_messages.specs.Targets.{leases_target, lease_target}
+use Rattle.cv_session.specs.Targets.{repositories_target, Names, manifest, object}
 use Rattle.cv_session.specs.Turns.{Wants, commit_turn, end_turn, unknown_method, resource, repositories, leases, nothing_there, lease, commit, no_post, end, no_delete}
 use Rattle.cv_session.specs.declared.target.Resource.{Resource}
 use Rattle.cv_session.specs.declared.target.Resource.TheVariants.{Object}

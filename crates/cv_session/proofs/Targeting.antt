@@ -7,7 +7,8 @@ use Rattle.std.proofs.lemmas.List.{append_cancel_left}
 use Rattle.cv_base.specs.Digest.{IsDigest}
 use Rattle.cv_base.specs.ObjectId.{file_name}
 use Rattle.cv_base.specs.declared.id.ObjectId.{ObjectId}
-use Rattle.cv_session.specs.Targets.{target_of, manifest_name, Names, NamesNothing, manifest, object}
+use Rattle.cv_manifest.specs.Manifest.{manifest_name}
+use Rattle.cv_session.specs.Targets.{target_of, Names, NamesNothing, manifest, object}
 use Rattle.cv_session.specs.declared.target.Resource.TheVariants.{Manifest, Object}
 
 -- what is known of the rest behind a front is known of the whole

@@ -10,4 +10,3 @@ pub mod Exchanges
 pub mod Asking
 pub mod OneAsked
 pub mod Sessions
-pub mod Seats

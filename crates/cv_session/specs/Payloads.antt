@@ -1,6 +1,6 @@
 -- What a payload asks: its message size is judged first, then the authorization, the message, the digest of the pack's header,
 -- the pack, and the header's length.
-use Rattle.std.specs.Prelude.{◌≡◌, ◌==◌, ◌++◌, ◌<◌, ℕ, Bool, true, false, List, Option, Some, None, Result, Ok, Err, bytes_eq, codes, take, drop, length, nat_le, ◌&&◌, if◌then◌else◌}
+use Rattle.std.specs.Prelude.{◌≡◌, ◌==◌, ◌++◌, ◌<◌, ℕ, Bool, true, false, List, Option, Some, None, Result, Ok, Err, bytes_eq, take, drop, length, nat_le, ◌&&◌, if◌then◌else◌}
 use Rattle.sha1.specs.Sha1.{sha1}
 use Rattle.cv_base.specs.declared.object.Object.{Object}
 use Rattle.cv_ports.specs.Streams.{Look}
@@ -21,13 +21,10 @@ use Rattle.cv_pack.specs.Pack.{header_bytes}
 use Rattle.cv_pack.specs.Reading.{reading}
 use Rattle.cv_pack.specs.declared.pack_fault.PackFault.{PackFault}
 use Rattle.cv_pack.specs.declared.pack_fault.PackFault.TheVariants.{BadHeader, TooLarge, TooMany, HashDiffers, Short, Trailing, Duplicate, NoMemory}
+use Rattle.cv_messages.specs.Targets.{payloads_target}
 use Rattle.cv_session.specs.Turns.{IsGood, denied, denied_message, signed, token_by}
 use Rattle.cv_session.specs.declared.turn.Turn.{Turn}
 use Rattle.cv_session.specs.declared.turn.Turn.TheVariants.{Step}
-
--- the target of payloads
-abbrev pub payloads_target : List ℕ
-payloads_target = codes "/api/v1/payloads"
 
 abbrev pub is_post : Method → Bool
 is_post Post = true

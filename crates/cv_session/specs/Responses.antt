@@ -10,6 +10,7 @@ use Rattle.cv_http.specs.Replies.{reply, text_of}
 use Rattle.cv_http.specs.declared.code.Code.{Code}
 use Rattle.cv_http.specs.declared.code.Code.TheVariants.{Success, NotFound, ServerError}
 use Rattle.cv_http.specs.declared.body_kind.BodyKind.TheVariants.{Json, Octets, Text}
+use Rattle.cv_manifest.specs.declared.manifest.TheConstants.{TIME_TO_LIVE}
 use Rattle.cv_manifest.specs.Manifest.{manifest, manifest_text}
 use Rattle.cv_manifest.specs.declared.head.Head.{Head}
 use Rattle.cv_answers.specs.Answer.{answer_data}
@@ -55,13 +56,9 @@ is_writable (Reply replied) = true
 
 -- ---- what comes of a turn
 
--- the seconds for which a client may take the head for the newest one
-abbrev pub time_to_live : ℕ
-time_to_live = 240
-
 -- the answer to a turn by the calls of the desk that were made for it, or none where memory was wanted for the answer or its reply
 pub data Answers (repository : List ℕ) (seal : List ℕ → List ℕ) : Turn → List Call → Option Response → Type 0 where
-  newest : (head : Head) → Answers repository seal (turn.Serve Manifest) (told head ∷ []) (Some (Content (manifest_text seal (manifest repository time_to_live head))))
+  newest : (head : Head) → Answers repository seal (turn.Serve Manifest) (told head ∷ []) (Some (Content (manifest_text seal (manifest repository TIME_TO_LIVE head))))
   object : (id : ObjectId) (bytes : List ℕ) → sha1 bytes ≡ id.hash → Answers repository seal (turn.Serve (Object id)) (fetched id (Ok (Some bytes)) ∷ []) (Some (Content bytes))
   absent : (id : ObjectId) → Answers repository seal (turn.Serve (Object id)) (fetched id (Ok None) ∷ []) (Some (Fixed NotFound))
   failed : (id : ObjectId) (fault : ShelfFault) → fault ≢ no_memory → Answers repository seal (turn.Serve (Object id)) (fetched id (Err fault) ∷ []) (Some (Fixed ServerError))

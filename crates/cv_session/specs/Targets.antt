@@ -3,16 +3,13 @@ use Rattle.std.specs.Prelude.{◌≡◌, ◌++◌, ℕ, List, codes}
 use Rattle.cv_base.specs.Digest.{IsDigest}
 use Rattle.cv_base.specs.ObjectId.{file_name}
 use Rattle.cv_base.specs.declared.id.ObjectId.{ObjectId}
+use Rattle.cv_manifest.specs.Manifest.{manifest_name}
 use Rattle.cv_session.specs.declared.target.Resource.{Resource}
 use Rattle.cv_session.specs.declared.target.Resource.TheVariants.{Manifest, Object}
 
 -- the target of a file of this repository
 abbrev pub target_of : List ℕ → List ℕ → List ℕ
 target_of repository file = codes "/cvmfs/" ++ (repository ++ (codes "/" ++ file))
-
--- the file of the manifest
-abbrev pub manifest_name : List ℕ
-manifest_name = codes ".cvmfspublished"
 
 -- the target names this resource of the repository
 pub data Names (repository target : List ℕ) : Resource → Type 0 where
@@ -23,12 +20,6 @@ pub data Names (repository target : List ℕ) : Resource → Type 0 where
 abbrev pub NamesNothing : List ℕ → List ℕ → Type 0
 NamesNothing repository target = (resource : Resource) → Names repository target resource → ⊥
 
--- the targets of the gateway's interface: the repositories, the leases, and a lease by the text of its token
+-- the target of the repositories
 abbrev pub repositories_target : List ℕ
 repositories_target = codes "/api/v1/repos"
-
-abbrev pub leases_target : List ℕ
-leases_target = codes "/api/v1/leases"
-
-abbrev pub lease_target : List ℕ → List ℕ
-lease_target token = codes "/api/v1/leases/" ++ token

@@ -1,6 +1,6 @@
 -- What a request asks: for a lease, a commit and a lease's end the authorization is judged first, then the message, the
 -- repository and the path.
-use Rattle.std.specs.Prelude.{◌≡◌, ◌≢◌, ◌==◌, ℕ, true, List, Option, Some, None, Result, Ok, Err, bytes_eq, codes, drop, length, if◌then◌else◌}
+use Rattle.std.specs.Prelude.{◌≡◌, ◌≢◌, ◌==◌, ℕ, true, List, Option, Some, None, Result, Ok, Err, bytes_eq, drop, length, if◌then◌else◌}
 use Rattle.std.specs.List.{before_first}
 use Rattle.cv_base.specs.Path.{Path}
 use Rattle.cv_base.specs.PathText.{path_of}
@@ -26,7 +26,8 @@ use Rattle.cv_gate.specs.declared.op.Op.TheVariants as op
 use Rattle.cv_http.specs.declared.head.RequestHead.{RequestHead}
 use Rattle.cv_http.specs.declared.method.Method.TheVariants.{Get, Post, Delete, Other}
 use Rattle.cv_http.specs.declared.code.Code.TheVariants.{NotFound, NotImplemented}
-use Rattle.cv_session.specs.Targets.{Names, NamesNothing, repositories_target, leases_target, lease_target}
+use Rattle.cv_messages.specs.Targets.{leases_target, lease_target}
+use Rattle.cv_session.specs.Targets.{Names, NamesNothing, repositories_target}
 use Rattle.cv_session.specs.declared.target.Resource.{Resource}
 use Rattle.cv_session.specs.declared.turn.Turn.{Turn}
 use Rattle.cv_session.specs.declared.turn.Turn.TheVariants.{Serve, Repositories, Leases, Step, Deny, Refuse}

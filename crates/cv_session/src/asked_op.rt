@@ -1,5 +1,5 @@
 //! The steps of the gate that requests ask for.
-ghost use Rattle.std.specs.Prelude.{◌≡◌, ◌==◌, ℕ, List, true, false, length, drop, bytes_eq, option_map, IfOk, MatchOption, MatchResult};
+ghost use Rattle.std.specs.Prelude.{◌≡◌, ◌==◌, true, false, length, drop, bytes_eq, option_map, IfOk, MatchOption, MatchResult};
 ghost use Rattle.std.specs.List.{before_first};
 ghost use Rattle.cv_base.specs.Path.{IsPath};
 ghost use Rattle.cv_gate.specs.Step.{is_key_id};

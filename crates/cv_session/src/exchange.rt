@@ -1,11 +1,9 @@
 //! One turn and its reply.
-ghost use Rattle.std.specs.Prelude.{◌≡◌, ◌≢◌, ◌≤◌, Some, None, Err, OnOk, is_some, true};
+ghost use Rattle.std.specs.Prelude.{◌≡◌, ◌≢◌, ◌≤◌, Some, None, Err, is_some, true};
 ghost use Rattle.cv_base.specs.Counts.{HasCause};
-ghost use Rattle.cv_ports.specs.Streams.{onto, Wrote};
-ghost use Rattle.cv_http.specs.declared.reply.SendFault.TheVariants.{WriteFault as write_fault, NoMemory as no_memory};
 ghost use Rattle.cv_session.specs.Turns.{IsGood};
-ghost use Rattle.cv_session.specs.Responses.{is_writable, reply_of};
-ghost use Rattle.cv_session.specs.Exchanges.{ends, is_full, end_after, Handles, Sends};
+ghost use Rattle.cv_session.specs.Responses.{is_writable};
+ghost use Rattle.cv_session.specs.Exchanges.{ends, end_after, Handles, Sends};
 ghost use Rattle.cv_session.specs.Standing.{standing};
 ghost use Rattle.cv_session.specs.declared.session_end.SessionEnd.TheVariants.{WriteFault};
 

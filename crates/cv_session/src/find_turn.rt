@@ -14,16 +14,11 @@ use cv_base::{Name, NoMemory};
 use cv_gate::Op;
 use cv_http::{Code, Method, RequestHead};
 use cv_keys::KeyTable;
+use cv_messages::{LEASE, LEASES};
 use std::alloc::Global;
 
 /// The target of the repositories.
 const REPOSITORIES: &str = "/api/v1/repos";
-
-/// The target of the leases.
-const LEASES: &str = "/api/v1/leases";
-
-/// The target of a lease, before the text of its token.
-const LEASE: &str = "/api/v1/leases/";
 
 /// What the request with this head and body asks of the repository and its gate.
 pub(crate) fn request_turn(

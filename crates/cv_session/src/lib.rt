@@ -11,15 +11,9 @@ mod payload;
 mod request;
 mod responding;
 mod response;
-#[cfg(test)]
-mod seat_tests;
 mod serving;
 mod session_end;
-#[cfg(test)]
-mod session_tests;
 mod target;
-#[cfg(test)]
-mod tests;
 mod turn;
 
 pub use serving::session;

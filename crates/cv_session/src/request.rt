@@ -18,11 +18,9 @@ use crate::turn::Turn;
 use cv_base::{Name, NoMemory};
 use cv_http::{Code, HttpFault, Method, RequestHead, Wire, write_continue};
 use cv_keys::KeyTable;
+use cv_messages::PAYLOADS;
 use cv_ports::{Failed, Sink, Source};
 use std::alloc::Global;
-
-/// The target of payloads.
-const PAYLOADS: &str = "/api/v1/payloads";
 
 /// What a request asks, and whether it asks for the end.
 #[derive(Debug, Drop)]

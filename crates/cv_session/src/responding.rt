@@ -18,13 +18,10 @@ use cv_answers::Answer as MessageData;
 use cv_base::{Bytes, Name, NoMemory, ObjectId};
 use cv_gate::{Desk, Op, Reply};
 use cv_http::Code;
-use cv_manifest::Manifest;
+use cv_manifest::{Manifest, TIME_TO_LIVE};
 use cv_ports::{Clock, ShelfFault};
 use cv_seal::Signer;
 use std::alloc::Global;
-
-/// The seconds for which a client may take the head for the newest one.
-const TIME_TO_LIVE: u64 = 240;
 
 /// The manifest of the newest head.
 fn write_newest<K: Desk, S: Signer>(

@@ -3,9 +3,7 @@ ghost use Rattle.std.specs.Prelude.{◌≡◌, ◌≢◌, ◌++◌, ℕ, List, M
 ghost use Rattle.cv_session.specs.Targets.{target_of, Names, NamesNothing};
 
 use cv_base::ObjectId;
-
-/// The name of the manifest's file.
-const MANIFEST: &str = ".cvmfspublished";
+use cv_manifest::MANIFEST_NAME;
 
 /// What a repository serves under a target.
 #[derive(Clone, Copy, Debug, PartialEq, Eq)]
@@ -37,7 +35,7 @@ pub(crate) fn read_target(repository: &str, target: &[u8]) -> Option<Resource>
     ensures { MatchOption result (NamesNothing repository.now target.now) (Names repository.now target.now) }
 {
     let file = file_below(repository, target)?;
-    if file == MANIFEST.as_bytes() {
+    if file == MANIFEST_NAME.as_bytes() {
         return Some(Resource::Manifest);
     }
     let id = ObjectId::read_file_name(file)?;

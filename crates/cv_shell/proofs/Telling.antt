@@ -37,8 +37,7 @@ use Rattle.cv_shell.proofs.Given.{asks_pin, begins_among, comes_pin, comes_among
 
 -- where a text is printed it is what is said
 printed_is : (says : Said) (text : List ℕ) → Prints says (Ok text) → says ≡ Ok text
-printed_is says text (inl is) = sym is
-printed_is says text (inr wants) = absurd cc
+printed_is says text is = sym is
 
 text_is : (says : Said) (a b : List ℕ) → says ≡ Ok a → says ≡ Ok b → b ≡ a
 text_is says a b first next = cc
@@ -90,8 +89,8 @@ no_end_by_offer m (Ok done) stops = cc
 no_end_by_offer m (Err f) stops = cc
 
 stop_is : (says : Said) → Prints says (Err stop.BadReply) → says ≡ Err stop.BadReply
-stop_is says (inl is) = sym is
-stop_is says (inr wants) = absurd cc
+stop_is says (inl wants) = absurd cc
+stop_is says (inr is) = sym is
 
 module _ (m : Manifest) (known : List (List ℕ)) (r : Client) (pin : IsPinned r m) (among : (s : List ℕ) → Contains (kept_bytes r.cache) s → Contains known s) where
   -- the client is on its way in each tree with the root of the manifest

@@ -4,7 +4,7 @@ use Rattle.cv_base.specs.ObjectId.{file_name}
 use Rattle.cv_base.specs.declared.id.ObjectId.{ObjectId}
 use Rattle.cv_tree.specs.Tree.{Nodes, IsTree}
 use Rattle.cv_cut.specs.Catalogues.{root_of, Fits}
-use Rattle.cv_manifest.specs.Manifest.{Says as IsText}
+use Rattle.cv_manifest.specs.Manifest.{Says as IsText, manifest_name}
 use Rattle.cv_manifest.specs.declared.manifest.Manifest.{Manifest}
 use Rattle.cv_resolver.specs.Giving.{IsOther, IsUndecoded}
 use Rattle.cv_resolver.specs.Kept.{AreOwn}
@@ -21,7 +21,6 @@ use Rattle.cv_client.specs.Answer.{Given, Comes, bytes_in}
 use Rattle.cv_client.specs.Exchange.{Links}
 use Rattle.cv_client.specs.Fetch.{Fetches}
 use Rattle.cv_client.specs.Pin.{FetchesManifest, client_at}
-use Rattle.cv_client.specs.Requests.{manifest_name}
 use Rattle.cv_client.specs.Served.{Files, ServedBy, HasWay}
 use Rattle.cv_client.specs.declared.url.Url.{Url}
 use Rattle.cv_client.specs.declared.ask_fault.AskFault.TheVariants.{BadManifest}

@@ -1,5 +1,6 @@
 -- What a line comes to.
-use Rattle.std.specs.Prelude.{◌≡◌, ◌⊎◌, ℕ, Bool, List, codes, Result, Ok, Err}
+use Rattle.std.specs.Prelude.{◌≡◌, ℕ, Bool, List, codes, Result, Ok, Err}
+use Rattle.cv_base.specs.Unless.{IsUnless}
 use Rattle.cv_manifest.specs.declared.manifest.Manifest.{Manifest}
 use Rattle.cv_resolver.specs.Resolver.{Client, renewal, pinned_at}
 use Rattle.cv_resolver.specs.declared.question.Question.{Question}
@@ -48,7 +49,7 @@ after_renewal r m (Err fault) = r
 
 -- this is said, or there was no memory for its text
 abbrev pub Prints : Said → Said → Type 0
-Prints says told = (told ≡ says) ⊎ (told ≡ Err NoMemory)
+Prints says told = IsUnless NoMemory told says
 
 module _ (is_seal : List ℕ → List ℕ → Bool) (u : Url) where
   -- the manifest was fetched, and taken or refused; or it wasn't fetched

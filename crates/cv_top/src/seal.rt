@@ -1,8 +1,9 @@
 //! The seal of a repository.
 ghost use Rattle.std.specs.Prelude.{◌≡◌, ◌≢◌, [], IfOk, Err};
+ghost use Rattle.cv_top.specs.declared.seal.SealFault.TheVariants as faults;
 ghost use Rattle.cv_top.specs.declared.seal.SealFault.TheVariants.{Empty};
 
-use cv_base::Name;
+use cv_base::{Name, NoMemory};
 use cv_seal::KeyedHash;
 use std::alloc::Global;
 
@@ -13,6 +14,14 @@ pub enum SealFault {
     Empty,
     /// There was no memory.
     NoMemory,
+}
+
+impl From<NoMemory> for SealFault {
+    ghost from_gives = { λ _ e. e ≡ faults.NoMemory };
+
+    fn from(_fault: NoMemory) -> SealFault {
+        SealFault::NoMemory
+    }
 }
 
 /// The signer whose secret is the text of a seal.
@@ -43,9 +52,7 @@ impl Identity {
         ensures empty { result ≡ Err Empty → seal.now ≡ [] }
     {
         let signer = read_seal(alloc, seal)?;
-        match name.copy(alloc) {
-            Ok(name) => Ok(Identity { name, signer }),
-            Err(_) => Err(SealFault::NoMemory),
-        }
+        let name = name.copy(alloc)?;
+        Ok(Identity { name, signer })
     }
 }

@@ -1,5 +1,5 @@
 //! How the program ends.
-ghost use Rattle.std.specs.Prelude.{◌≡◌, [], OnOk, IsErr};
+ghost use Rattle.std.specs.Prelude.{◌≡◌, OnOk, IsErr};
 ghost use Rattle.cv_base.specs.Counts.{HasCause};
 ghost use Rattle.cv_ports.specs.Streams.{onto, Wrote};
 ghost use Rattle.cv_base.specs.Path.{text_of as path_text_of};

@@ -1,12 +1,11 @@
 -- What clap makes of a whole command line.
-use Rattle.std.proofs.Common.{◌≡◌, true, false, List, [], ◌∷◌, ◌⊎◌, Option, Some, None, codes, refl, sym, ap, ap₂, subst, ◌∙◌, bytes_eq, is_some, inl, inr}
-use Rattle.std.specs.Prelude.{Bool, fold, find, option_map}
-use Rattle.std.specs.Option.{option_map_or}
+use Rattle.std.proofs.Common.{◌≡◌, true, false, List, [], ◌∷◌, ◌⊎◌, Some, codes, refl, sym, ap, ap₂, subst, ◌∙◌, bytes_eq, is_some, inl, inr}
+use Rattle.std.specs.Prelude.{fold, find}
 use Rattle.std.specs.Str.{IsUtf8}
 use Rattle.std.proofs.lemmas.Bool.{cases_Bool}
 use Rattle.std.proofs.lemmas.Slice.Eq.{bytes_eq-Decides}
 use Rattle.clap.specs.Walk.{Names, Row, Text, Walk, answers_to, nothing_held, rows_after, settled, finished, walk_from, walked}
-use Rattle.clap.specs.Simple.{App, Shape, built, entered, label_of, names_of, subcommand_of, is_simple}
+use Rattle.clap.specs.Simple.{Shape, built, entered, label_of, names_of, subcommand_of, is_simple}
 use Rattle.clap.specs.Kinds.{Kinds, or_else}
 use Rattle.clap.specs.Faults.{check_fault, defaults_fault, entered_fault, fault_of, is_simple_and_free, level_fault, settle_fault, turn_fault, walk_fault}
 use Rattle.clap.specs.declared.error.kind.ErrorKind.TheVariants.{MissingSubcommand}

@@ -1,5 +1,5 @@
 -- What clap makes of the values behind each command.
-use Rattle.std.proofs.Common.{◌≡◌, true, false, List, [], ◌∷◌, Some, None, codes, refl, sym, ap, ◌∙◌, inl, inr}
+use Rattle.std.proofs.Common.{◌≡◌, true, false, List, [], ◌∷◌, Some, None, refl, sym, ap, ◌∙◌}
 use Rattle.std.specs.Prelude.{Bool, Option}
 use Rattle.std.specs.List.{list_all}
 use Rattle.clap.specs.Walk.{Text, nothing_held, rows_after}

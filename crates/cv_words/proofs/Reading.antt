@@ -1,5 +1,5 @@
 -- The command line by what clap finds in it.
-use Rattle.std.proofs.Common.{◌≡◌, ℕ, List, [], ◌∷◌, Option, Some, None, codes, refl, sym, ap, subst, ◌∙◌}
+use Rattle.std.proofs.Common.{◌≡◌, List, [], ◌∷◌, Option, Some, None, refl, sym, ap, subst, ◌∙◌}
 use Rattle.std.specs.Prelude.{Box, IsErrAnd, Result, Ok, Err, option_map}
 use Rattle.std.specs.Box.{box_value}
 use Rattle.clap.specs.Walk.{Row, Text}
@@ -11,7 +11,7 @@ use Rattle.cv_words.specs.Words.{values_of, Means, Asks, IsCommand, init, stdio,
 use Rattle.cv_words.specs.Program.{program, all_ids, values_at, IsGiven}
 use Rattle.cv_words.specs.declared.words.Command.{Command}
 use Rattle.cv_words.proofs.Forms.{AreTexts}
-use Rattle.cv_words.proofs.Entering.{Finds, finds, takes_all}
+use Rattle.cv_words.proofs.Entering.{finds, takes_all}
 use Rattle.cv_words.proofs.Entering as entering
 
 -- ---- the subcommand of a parse

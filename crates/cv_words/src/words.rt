@@ -7,10 +7,11 @@ ghost use Rattle.cv_client.specs.Url.{IsUrl};
 ghost use Rattle.cv_client.specs.declared.url.Url.{Url};
 ghost use Rattle.cv_words.specs.Words.{IsPlace, Means, Asks, IsCommand};
 ghost use Rattle.cv_words.specs.declared.words.Command.{Command};
+ghost use Rattle.cv_words.specs.declared.words.WordsFault.TheVariants as faults;
 ghost use Rattle.cv_words.specs.declared.words.WordsFault.TheVariants.{Usage};
 
 use crate::program::{match_words, read_given};
-use cv_base::{Name, PathFault, RepoPath, Text, ends_in_marker};
+use cv_base::{Name, NoMemory, PathFault, RepoPath, Text, ends_in_marker};
 use cv_client::Url;
 use cv_resolver::Question;
 use std::alloc::Global;
@@ -39,16 +40,20 @@ pub enum WordsFault {
     NoMemory,
 }
 
+impl From<NoMemory> for WordsFault {
+    ghost from_gives = { λ _ e. e ≡ faults.NoMemory };
+
+    fn from(_fault: NoMemory) -> WordsFault {
+        WordsFault::NoMemory
+    }
+}
+
 /// Reads the name of a repository.
 fn read_name(alloc: Global, word: &str) -> Result<Name, WordsFault>
     ensures name { IfOk result (λ name. (name ≡ word.now) × IsTrue (is_name name)) }
     ensures usage { result ≡ Err Usage → IsTrue (is_name word.now) → ⊥ }
 {
-    match Name::read(alloc, word) {
-        Ok(Some(name)) => Ok(name),
-        Ok(None) => Err(WordsFault::Usage),
-        Err(_) => Err(WordsFault::NoMemory),
-    }
+    Name::read(alloc, word)?.ok_or(WordsFault::Usage)
 }
 
 /// Reads the URL under which a repository is served.
@@ -56,11 +61,7 @@ fn read_url(alloc: Global, word: &str) -> Result<Url, WordsFault>
     ensures url { IfOk result (IsUrl word.now) }
     ensures usage { result ≡ Err Usage → (url : Url) → IsUrl word.now url → ⊥ }
 {
-    match Url::read(alloc, word) {
-        Ok(Some(url)) => Ok(url),
-        Ok(None) => Err(WordsFault::Usage),
-        Err(_) => Err(WordsFault::NoMemory),
-    }
+    Url::read(alloc, word)?.ok_or(WordsFault::Usage)
 }
 
 /// Reads a path of a repository.

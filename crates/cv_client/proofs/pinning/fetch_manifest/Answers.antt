@@ -3,7 +3,7 @@ use Rattle.std.specs.Prelude.{Option, Some}
 use Rattle.std.specs.declared.result.Result.TheVariants.{Ok}
 use Rattle.cv_client.specs.Pin.{good, bad, absent, lost}
 use Rattle.cv_client.specs.Fetch.{Fetches}
-use Rattle.cv_client.specs.Requests.{manifest_name}
+use Rattle.cv_manifest.specs.Manifest.{manifest_name}
 use Rattle.cv_manifest.specs.Manifest.{Says}
 use Rattle.cv_client.specs.Served.{IsFetched}
 use Rattle.cv_client.proofs.Supplying.{unfetched, no_memory_for}

@@ -1,5 +1,5 @@
 use Rattle.std.proofs.Common.{◌≡◌, ◌≢◌, sym, ◌∙◌, rules}
-use Rattle.cv_session.specs.Targets.{manifest_name}
+use Rattle.cv_manifest.specs.Manifest.{manifest_name}
 use Rattle.cv_session.proofs.Targeting.{not_same, names_manifest, names_object, names_nothing}
 use Rattle.cv_session.proofs.target.read_target.Goals as goal
 

@@ -1,9 +1,8 @@
-use Rattle.std.proofs.Common.{◌≡◌, [], map, ap, sym, subst, ◌∙◌, ⊎_elim}
+use Rattle.std.proofs.Common.{map, ap, sym, subst, ◌∙◌, ⊎_elim}
 use Rattle.std.specs.Prelude.{string_bytes}
 use Rattle.clap.specs.Kinds.{IsAmong}
 use Rattle.clap.specs.Values.{kind_of}
 use Rattle.clap.specs.Words.{App, fault_of, is_simple, is_simple_and_free, subcommand_of}
-use Rattle.cv_words.specs.Program.{program}
 use Rattle.cv_words.proofs.Entering.{program_is_simple, program_is_free}
 use Rattle.cv_words.proofs.program.match_words.Goals as goal
 

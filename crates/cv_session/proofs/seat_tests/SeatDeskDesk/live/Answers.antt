@@ -1,5 +1,0 @@
-use Rattle.cv_session.proofs.Seating.{lists}
-use Rattle.cv_session.proofs.seat_tests.SeatDeskDesk.live.Goals as goal
-
-pub returns-clause-does : goal.returns-clause-does
-returns-clause-does c = lists c.args.self.now.head c.args._now _ c.new.ensures.items

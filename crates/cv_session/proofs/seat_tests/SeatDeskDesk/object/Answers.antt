@@ -1,5 +1,0 @@
-use Rattle.cv_session.proofs.Seating.{fetches}
-use Rattle.cv_session.proofs.seat_tests.SeatDeskDesk.object.Goals as goal
-
-pub returns-clause-does : goal.returns-clause-does
-returns-clause-does c = fetches c.args.self.now.head c.args._id.now
