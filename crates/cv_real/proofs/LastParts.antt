@@ -1,8 +1,9 @@
 -- What follows the last slash of a path, and the folder before it.
-use Rattle.std.proofs.Common.{◌≡◌, ◌≢◌, ◌==◌, ℕ, suc, ◌<◌, Bool, true, false, cond, List, [], ◌∷◌, ◌++◌, length, get_or, take, drop, Option, Some, None, MatchOption, refl, sym, ap, subst, ◌∙◌, append_assoc, take-append-drop, arith, length-append, eq-eqb, ne_eqb, Bor, lit<, ◌-◌, codes}
+use Rattle.std.proofs.Common.{◌≡◌, ◌≢◌, ◌==◌, ℕ, suc, ◌<◌, ◌≤◌, Bool, true, false, cond, List, [], ◌∷◌, ◌++◌, length, get_or, take, drop, Option, Some, None, MatchOption, refl, sym, ap, subst, ◌∙◌, append_assoc, take-append-drop, arith, length-append, length-take, eq-eqb, ne_eqb, Bor, lit<, ◌-◌, codes}
 use Rattle.std.specs.List.{onto_first}
 use Rattle.std.specs.Option.{unwrap_or}
 use Rattle.std.specs.Str.Pattern.{FindsTextSuffix, RFindsChar, SplitsAroundMatch, StripsSuffix}
+use Rattle.std.proofs.lemmas.List.{take_at}
 use Rattle.std.proofs.lemmas.List.Splits.{slice_split-cons_no}
 use Rattle.std.proofs.lemmas.Str.Pattern.{NoCharPasses-char, drop_at_char}
 use Rattle.cv_base.specs.Path.{Path, last_name_of}
@@ -71,3 +72,24 @@ folder_is path front last (Some x) other is whole (n, finds, taken, size) =
     taken
     ∙ ap (λ k. take (length path - k) path) (finds.0 ∙ ap length (sym is))
     ∙ sym (ap (λ b. cond b (codes "./") (take (length path - length (last_part path)) path)) shorter)
+
+-- what is left of a folder's path without its last slash
+pub above_is : (folder path : List ℕ) (r : Option (Bor (List ℕ))) (other : Bor (List ℕ)) → folder ≡ path ++ 47 ∷ []
+    → MatchOption r (FindsTextSuffix (47 ∷ []) folder None) (λ x. StripsSuffix (FindsTextSuffix (47 ∷ [])) folder x.now) → (unwrap_or r other).now ≡ path
+above_is folder path None other is none = absurd (none path is)
+above_is folder path (Some x) other is (n, finds, taken, size) =
+    let kept : length folder - n ≡ length path = omega (arith, finds.0, ap length is, length-append path (47 ∷ [])) in
+    taken ∙ ap (λ k. take k folder) kept ∙ ap (λ f. take (length path) f) is ∙ take_at path (47 ∷ []) (length path) refl
+
+-- it isn't longer than the path
+pub not_longer : (folder : List ℕ) (r : Option (Bor (List ℕ))) (other : Bor (List ℕ)) → other.now ≡ folder
+    → MatchOption r (FindsTextSuffix (47 ∷ []) folder None) (λ x. StripsSuffix (FindsTextSuffix (47 ∷ [])) folder x.now) → length (unwrap_or r other).now ≤ length folder
+not_longer folder None other is none = omega (arith, ap length is)
+not_longer folder (Some x) other is (n, finds, taken, size) = omega (arith, size)
+
+-- the folder of a path that the system takes has a path that it takes
+pub folder_fits : (path : List ℕ) → length path < 4096 → length (folder_of path) < 4096
+folder_fits path h = elim (length (last_part path) == length path) as (λ t. length (cond t (codes "./") (take (length path - length (last_part path)) path)) < 4096) [
+  | true ↦ lit< tt
+  | false ↦ omega (arith, length-take (length path - length (last_part path)) path)
+]

@@ -1,8 +1,7 @@
 -- Which texts are names of a vault over a folder, and the paths that they stand at.
-use Rattle.std.specs.Prelude.{ℕ, Bool, not, ◌==◌, ◌||◌, ◌&&◌, ◌-◌, List, [], ◌∷◌, ◌++◌, length, take, codes, if◌then◌else◌}
+use Rattle.std.specs.Prelude.{ℕ, Bool, not, ◌==◌, ◌&&◌, ◌-◌, List, [], ◌∷◌, ◌++◌, length, take, codes, if◌then◌else◌}
 use Rattle.std.specs.List.{starts_with, list_all, flat_map}
-use Rattle.std.specs.Ordering.{is_lt}
-use Rattle.cv_base.specs.Path.{Path, is_dots, last_name_of, name_cmp}
+use Rattle.cv_base.specs.Path.{Path, is_dots, last_name_of}
 use Rattle.cv_base.specs.PathText.{parts_of}
 
 -- what the names of the adapter's own files begin with
@@ -33,7 +32,3 @@ folder_of path =
 -- the folder behind these names, from a folder on whose path ends in a slash: each name with a slash behind it
 abbrev pub below : List ℕ → Path → List ℕ
 below root names = root ++ flat_map (λ name. name ++ 47 ∷ []) names
-
--- a path comes next: behind the last one, and before the first that was found behind it, if one was
-abbrev pub comes_next : List ℕ → List ℕ → List ℕ → Bool
-comes_next path last first = is_lt (name_cmp last path) && (length first == 0 || is_lt (name_cmp path first))

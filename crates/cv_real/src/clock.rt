@@ -1,12 +1,10 @@
 //! The system's clock, in whole seconds.
 ghost use Rattle.std.specs.Prelude.{None};
 
+use cv_base::LAST_TIME;
 use cv_ports::Clock;
 use std::rt::Clock as SystemTimes;
 use std::time::{SystemTime, UNIX_EPOCH};
-
-/// The last moment that a clock gives.
-const LATEST: u64 = (1 << 62) - 1;
 
 /// The system's clock. It tells nothing of the moments to come. Where the clock can't be read, or stands before 1970, the
 /// moment is 0.
@@ -30,7 +28,7 @@ impl<R: SystemTimes> Clock for SystemClock<R> {
             return 0;
         };
         match moment.duration_since(UNIX_EPOCH) {
-            Ok(since) => since.as_secs().min(LATEST),
+            Ok(since) => since.as_secs().min(LAST_TIME),
             Err(_) => 0,
         }
     }

@@ -1,6 +1,6 @@
 //! A vault over a folder.
 ghost use Rattle.std.specs.Prelude.{◌≡◌, ◌≤◌, ◌<◌, ◌+◌, ◌↔◌, ◌++◌, [], ◌∷◌, length, None, IfOk, IsOk, IsTrue, OnOk, codes, string_bytes, ⊤};
-ghost use Rattle.std.specs.IoError.{error_kind};
+ghost use Rattle.std.specs.IoError.{error_kind, raw_os_error};
 ghost use Rattle.cv_base.specs.Counts.{HasCause};
 ghost use Rattle.cv_vault.specs.declared.vault.VaultFault.TheVariants.{Failed, NoMemory};
 ghost use Rattle.cv_real.specs.Names.{is_name, folder_of};
@@ -11,11 +11,11 @@ use crate::path_buffer::PathBuffer;
 use crate::paths::{
     find_file, is_memory, list_files, make_folders, move_file, note, put_file, read_found,
 };
-use crate::walk::{Unsynced, Walk, sync_folders, sync_readable};
+use crate::walk::{Unsynced, Walk, sync_folder, sync_folders};
 use cv_base::{Bytes, Text};
 use cv_vault::{Vault, VaultFault};
 use std::alloc::{AllocError, Global};
-use std::fs::{File, Metadata, OpenFile};
+use std::fs::{File, Metadata, OpenFile, TryLockError};
 use std::io::ErrorKind;
 use std::rt::Files;
 use std::{fs, io};
@@ -23,13 +23,13 @@ use std::{fs, io};
 /// What a vault has of its folder.
 #[derive(Drop)]
 enum Hold {
-    /// Nothing was asked of the vault yet, and nothing was opened.
+    /// Nothing was asked of the vault yet, or the folder couldn't be opened or locked: the next call tries it.
     Unasked,
     /// The folder is open and locked: no other vault holds it, in this process or another.
     Held(File),
     /// No folder is there. The first write makes it.
     Absent,
-    /// Another vault holds the folder, or it couldn't be opened or locked. Each call fails.
+    /// Another vault holds the folder or has made it, or its path is none that a vault's folder may have. Each call fails.
     Refused,
 }
 
@@ -43,9 +43,10 @@ enum Hold {
 /// A write makes a new file beside the name, makes its bytes durable and then gives it the name, so that a name has whole
 /// files at all times, and a file that others have under another name isn't changed. A sync makes the folders durable
 /// that changed since the last one. The first sync of a process does so with the folder, each one below it and the one
-/// above it, since it can't know what a process before it left in the system's memory. Where the system lost what was
-/// written to a folder it says so once, so each later sync fails until the process ends. The constructor takes the memory
-/// that a sync wants, however many folders there are: no sync takes any.
+/// above it, since it can't know what a process before it left in the system's memory. It passes over a folder that this
+/// process may not read only where it may look nothing up in it: each call of a name there fails too. Where the system lost
+/// what was written to a folder it says so once, so each later sync fails until the process ends. The constructor takes the
+/// memory that a sync wants, however many folders there are: no sync takes any.
 ///
 /// One vault at a time holds a folder, by the system's lock on it. Over a network the lock keeps out the vaults of the same
 /// machine alone. Nobody else may change the folder meanwhile.
@@ -84,24 +85,29 @@ fn refused() -> io::Error {
     io::Error::from(ErrorKind::InvalidInput)
 }
 
-/// Opens and locks a folder whose path ends in a slash.
-fn lock_folder<R: Files<File = File>>(rt: &R, folder: &str) -> io::Result<File> {
+/// Opens and locks a folder whose path ends in a slash. None where another vault holds it.
+fn lock_folder<R: Files<File = File>>(rt: &R, folder: &str) -> io::Result<Option<File>> {
     let open = fs::open(rt, folder)?;
-    open.try_lock()?;
-    Ok(open)
+    match open.try_lock() {
+        Ok(()) => Ok(Some(open)),
+        Err(TryLockError::WouldBlock) => Ok(None),
+        Err(TryLockError::Error(error)) => Err(error),
+    }
 }
 
-/// Whether the error says that another process has made the folder, or holds it.
-fn is_taken(error: &io::Error) -> bool {
-    error.kind() == ErrorKind::AlreadyExists || error.kind() == ErrorKind::WouldBlock
-}
-
-/// Makes a folder, and opens and locks it by its path with a slash at the end. Where it can't be opened it goes again, so
-/// that a later try may make it.
-fn make_held<R: Files<File = File>>(rt: &R, folder: &str, with_slash: &str) -> io::Result<File> {
-    fs::create_dir(rt, folder)?;
+/// Makes a folder, and opens and locks it by its path with a slash at the end. None where something stands there by now, or
+/// another vault holds it. Where it can't be opened or locked it goes again, so that a later try may make it.
+fn make_held<R: Files<File = File>>(
+    rt: &R,
+    folder: &str,
+    with_slash: &str,
+) -> io::Result<Option<File>> {
+    match fs::create_dir(rt, folder) {
+        Err(error) if error.kind() == ErrorKind::AlreadyExists => return Ok(None),
+        made => made?,
+    }
     let held = lock_folder(rt, with_slash);
-    if held.as_ref().is_err_and(|error| !is_taken(error)) {
+    if held.is_err() {
         let _ = fs::remove_dir(rt, folder);
     }
     held
@@ -109,8 +115,8 @@ fn make_held<R: Files<File = File>>(rt: &R, folder: &str, with_slash: &str) -> i
 
 impl<R: Files<File = File> + AllocGlobal + Clone + Drop> FolderVault<R> {
     /// The vault over the folder at this path, which need not be there yet. It takes the memory of each later sync, and opens
-    /// nothing: the first call holds the folder. Where another vault holds the folder then, or it can't be opened, each call
-    /// fails.
+    /// nothing: the first call holds the folder. Where another vault holds it then, each call fails. Where it can't be opened
+    /// or locked that call fails, and the next one tries again.
     pub fn new(rt: R, root: &str) -> Result<FolderVault<R>, AllocError>
         ensures { IfOk result (λ vault. vault.faults.number ≡ 0) }
     {
@@ -129,34 +135,19 @@ impl<R: Files<File = File> + AllocGlobal + Clone + Drop> FolderVault<R> {
         })
     }
 
-    /// Holds the folder for the first call.
-    fn hold_first(&mut self) -> io::Result<()>
+    /// What the vault has of its folder: it holds it, if it is there.
+    fn hold_now(&mut self) -> io::Result<Hold>
         ensures { self.new.faults ≡ self.old.faults }
     {
-        let held = self.hold_now();
-        if held.is_err() {
-            self.hold = Hold::Refused;
+        if !is_root(self.root.as_str()) || self.set_root().is_err() {
+            return Ok(Hold::Refused);
         }
-        held
-    }
-
-    /// Holds the folder, if it is there.
-    fn hold_now(&mut self) -> io::Result<()>
-        ensures { self.new.faults ≡ self.old.faults }
-    {
-        if !is_root(self.root.as_str()) {
-            return Err(refused());
-        }
-        self.set_root()?;
         match lock_folder(&self.rt, self.path.as_str()) {
-            Ok(open) => {
-                self.is_unsettled = true;
-                self.hold = Hold::Held(open);
-            }
-            Err(error) if error.kind() == ErrorKind::NotFound => self.hold = Hold::Absent,
-            Err(error) => return Err(error),
+            Ok(Some(open)) => Ok(Hold::Held(open)),
+            Ok(None) => Ok(Hold::Refused),
+            Err(error) if error.kind() == ErrorKind::NotFound => Ok(Hold::Absent),
+            Err(error) => Err(error),
         }
-        Ok(())
     }
 
     /// Makes the folder, which wasn't there, and holds it. What another process has made there since isn't taken: each
@@ -166,16 +157,14 @@ impl<R: Files<File = File> + AllocGlobal + Clone + Drop> FolderVault<R> {
     {
         note(&mut self.folders, folder_of(self.root.as_str()))?;
         self.set_root()?;
-        match make_held(&self.rt, self.root.as_str(), self.path.as_str()) {
-            Ok(open) => {
+        match make_held(&self.rt, self.root.as_str(), self.path.as_str())? {
+            Some(open) => {
                 self.hold = Hold::Held(open);
                 Ok(())
             }
-            Err(error) => {
-                if is_taken(&error) {
-                    self.hold = Hold::Refused;
-                }
-                Err(error)
+            None => {
+                self.hold = Hold::Refused;
+                Err(refused())
             }
         }
     }
@@ -208,6 +197,7 @@ impl<R: Files<File = File> + AllocGlobal + Clone + Drop> FolderVault<R> {
 
     /// Sets the path of the own file beside the path that is set.
     fn set_next(&mut self) -> io::Result<()>
+        ensures ok { IsOk result ↔ (length (folder_of self.old.path) + 11 < 4096) }
         ensures next { OnOk result (self.new.next ≡ folder_of self.old.path ++ codes ".cvkit-next") }
         ensures path { self.new.path ≡ self.old.path }
         ensures faults { self.new.faults ≡ self.old.faults }
@@ -228,12 +218,13 @@ impl<R: Files<File = File> + AllocGlobal + Clone + Drop> FolderVault<R> {
         Ok(held)
     }
 
-    /// Whether the vault has a folder.
+    /// Whether the vault has a folder. What was there before it was held is unsettled.
     fn is_held(&mut self) -> io::Result<bool>
         ensures { self.new.faults ≡ self.old.faults }
     {
         if matches!(self.hold, Hold::Unasked) {
-            self.hold_first()?;
+            self.hold = self.hold_now()?;
+            self.is_unsettled = matches!(self.hold, Hold::Held(_));
         }
         match &self.hold {
             Hold::Held(_) => Ok(true),
@@ -263,7 +254,8 @@ impl<R: Files<File = File> + AllocGlobal + Clone + Drop> FolderVault<R> {
 
     /// Want of memory, or one more fault.
     fn fault_of(&mut self, error: &io::Error) -> VaultFault
-        ensures memory { result ≡ NoMemory → error_kind error.now ≡ ErrorKind.OutOfMemory }
+        ensures memory { (result ≡ NoMemory)
+            ↔ (error_kind error.now ≡ ErrorKind.OutOfMemory) × (raw_os_error error.now ≡ None) }
         ensures cause { HasCause self.old.faults.number self.new.faults.number (result ≡ Failed) }
     {
         if is_memory(error) {
@@ -366,7 +358,7 @@ impl<R: Files<File = File> + AllocGlobal + Clone + Drop> FolderVault<R> {
         ensures { self.new.faults ≡ self.old.faults }
     {
         if self.is_unsettled {
-            sync_readable(&self.rt, folder_of(self.root.as_str()))?;
+            sync_folder(&self.rt, folder_of(self.root.as_str()))?;
             self.walk.sync_all(&self.rt, self.root.as_str())?;
         }
         sync_folders(&self.rt, &self.folders)

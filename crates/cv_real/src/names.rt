@@ -1,5 +1,5 @@
 //! Which texts are names of a vault over a folder, and the paths of their folders.
-ghost use Rattle.std.specs.Prelude.{◌≡◌, ◌==◌, not};
+ghost use Rattle.std.specs.Prelude.{◌≡◌, ◌==◌, ◌++◌, ◌∷◌, [], ◌<◌, List, ℕ, length, not};
 ghost use Rattle.std.specs.List.{list_all};
 ghost use Rattle.cv_base.specs.Path.{is_dots};
 ghost use Rattle.cv_base.specs.PathText.{parts_of};
@@ -75,4 +75,12 @@ pub fn folder_of(path: &str) -> &str
         Some((_, last)) => path.strip_suffix(last).unwrap_or("./"),
         None => "./",
     }
+}
+
+/// The folder above one, of which each path ends in a slash.
+pub fn above(folder: &str) -> &str
+    ensures above { (path : List ℕ) → folder.now ≡ path ++ 47 ∷ [] → result.now ≡ folder_of path }
+    ensures fits { length folder.now < 4096 → length result.now < 4096 }
+{
+    folder_of(folder.strip_suffix("/").unwrap_or(folder))
 }

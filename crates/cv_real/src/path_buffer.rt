@@ -14,14 +14,14 @@ pub struct PathBuffer {
 }
 
 impl Model for PathBuffer {
-    ghost use Rattle.std.specs.Prelude.{List, ℕ, ◌≤◌};
+    ghost use Rattle.std.specs.Prelude.{List, ℕ, ◌≤◌, ◌<◌, length};
     ghost use Rattle.std.specs.String.{string_bytes, string_capacity};
 
     ghost Value = { List ℕ };
 
     ghost view = { λ path. string_bytes path.text };
 
-    ghost invariant = { λ path. 4096 ≤ string_capacity path.text };
+    ghost invariant = { λ path. (4096 ≤ string_capacity path.text) × (length (string_bytes path.text) < 4096) };
 }
 
 impl PathBuffer {

@@ -1,8 +1,9 @@
 //! A folder of changes over a real folder.
-ghost use Rattle.std.specs.Prelude.{◌≡◌, ◌≤◌, ◌++◌, [], ◌∷◌, length, IfOk, None, string_bytes};
+ghost use Rattle.std.specs.Prelude.{◌≡◌, ◌≤◌, ◌↔◌, ◌++◌, [], ◌∷◌, length, IfOk, None, string_bytes};
+ghost use Rattle.std.specs.IoError.{error_kind, raw_os_error};
 ghost use Rattle.cv_base.specs.Counts.{HasCause};
 ghost use Rattle.cv_ports.specs.Folder.{Ascend};
-ghost use Rattle.cv_ports.specs.declared.folder.FolderFault.TheVariants.{Failed};
+ghost use Rattle.cv_ports.specs.declared.folder.FolderFault.TheVariants.{Failed, NoMemory};
 ghost use Rattle.cv_real.specs.Names.{below};
 
 use crate::count::FaultCount;
@@ -105,6 +106,8 @@ impl<R: Files + AllocGlobal + Clone + Drop> SystemFolder<R> {
 
     /// Want of memory, or one more fault.
     fn fault_of(&mut self, error: &io::Error) -> FolderFault
+        ensures memory { (result ≡ NoMemory)
+            ↔ (error_kind error.now ≡ ErrorKind.OutOfMemory) × (raw_os_error error.now ≡ None) }
         ensures cause { HasCause self.old.faults.number self.new.faults.number (result ≡ Failed) }
         ensures name { self.new.name ≡ self.old.name }
     {

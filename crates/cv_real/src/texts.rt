@@ -1,13 +1,13 @@
 //! Words and small texts of the environment.
 
-use crate::paths::is_memory;
+use crate::paths::{is_memory, read_front};
 use cv_base::NoMemory;
 use std::alloc::AllocError;
 use std::rt::{Env, Files};
 use std::{env, fs, io};
 
 /// The most bytes that a text is read of. More than each text of the product may have.
-const TEXT_LIMIT: u64 = 16_777_216;
+const TEXT_LIMIT: usize = 16_777_216;
 
 /// The words after the program's name. None where the words can't be had, since one of them isn't UTF-8.
 pub fn program_words<R: Env + AllocGlobal>(rt: &R) -> Result<Option<Vec<String>>, NoMemory> {
@@ -23,13 +23,19 @@ pub fn program_words<R: Env + AllocGlobal>(rt: &R) -> Result<Option<Vec<String>>
     Ok(Some(words))
 }
 
-/// The text of a regular file of at most 16,777,216 bytes. A pipe or a device, which may have no end, isn't opened.
+/// The text of a regular file of at most 16,777,216 bytes. A pipe or a device, which may have no end, isn't opened, and no more
+/// is read of a file that grows meanwhile.
 fn regular_text<R: Files + AllocGlobal>(rt: &R, name: &str) -> io::Result<String> {
+    let none = String::new(rt.alloc());
     let found = fs::metadata(rt, name)?;
-    if !found.is_file() || found.len() > TEXT_LIMIT {
-        return Ok(String::new(rt.alloc()));
+    if !found.is_file() || found.len() > TEXT_LIMIT as u64 {
+        return Ok(none);
     }
-    fs::read_to_string(rt, name)
+    let bytes = read_front(rt, rt.alloc(), name, &found, TEXT_LIMIT + 1)?;
+    if bytes.len() > TEXT_LIMIT {
+        return Ok(none);
+    }
+    Ok(String::from_utf8(bytes).unwrap_or(none))
 }
 
 /// The text of a regular file. Empty where no such file is there, it has more than 16,777,216 bytes, can't be read or

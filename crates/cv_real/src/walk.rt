@@ -1,17 +1,19 @@
 //! All folders from one on, made durable without a list of them.
-ghost use Rattle.std.specs.Prelude.{◌≡◌, ◌+◌, ◌<◌, ◌↔◌, ◌++◌, [], ◌∷◌, length, IsTrue, if◌then◌else◌};
-ghost use Rattle.cv_real.specs.Names.{comes_next};
+ghost use Rattle.std.specs.Prelude.{◌≡◌, ◌⊎◌, ◌==◌, ◌++◌, [], ◌∷◌, drop, IfOk, IsTrue};
+ghost use Rattle.std.specs.List.{starts_with};
+ghost use Rattle.cv_real.specs.Walk.{comes_next, with_path, first_of, end_of};
 
-use crate::names::{NEXT, folder_of, is_part};
+use crate::ahead::Ahead;
+use crate::names::{NEXT, above, is_part};
 use crate::path_buffer::PathBuffer;
-use crate::paths::{is_no_name, seen_entry};
+use crate::paths::{is_no_name, seen, seen_entry};
 use std::alloc::{AllocError, Global};
 use std::fs::OpenFile;
 use std::io::{ErrorKind, Read};
 use std::rt::Files;
-use std::{fs, io, mem};
+use std::{fs, io};
 
-/// The room for the names of a folder, as many as the system gives in one call. One name has at most 255 bytes.
+/// The room for the names of a folder, as many as the system gives in one call.
 const NAMES_ROOM: usize = 16_384;
 
 /// A sync that didn't come to its end.
@@ -32,49 +34,48 @@ fn sync_open(open: &impl OpenFile) -> Result<(), Unsynced> {
     }
 }
 
-/// Makes each folder durable.
-pub fn sync_folders(rt: &impl Files, folders: &Vec<String>) -> Result<(), Unsynced> {
-    for folder in folders {
-        match fs::open(rt, folder.as_str()) {
-            Ok(open) => sync_open(&open)?,
-            Err(_) => return Err(Unsynced::NotOpened),
-        }
-    }
-    Ok(())
-}
-
-/// Whether the error says that this process may not read a folder, or that none is there.
-fn is_passed_over(error: &io::Error) -> bool {
-    error.kind() == ErrorKind::PermissionDenied || is_no_name(error)
-}
-
-/// Makes a folder durable, if this process may read it.
-pub fn sync_readable(rt: &impl Files, folder: &str) -> Result<(), Unsynced> {
+/// Makes a folder durable.
+pub fn sync_folder(rt: &impl Files, folder: &str) -> Result<(), Unsynced> {
     match fs::open(rt, folder) {
         Ok(open) => sync_open(&open),
-        Err(error) if is_passed_over(&error) => Ok(()),
         Err(_) => Err(Unsynced::NotOpened),
     }
 }
 
-/// Whether a path comes next: behind the last one, and before the first that was found behind it.
-fn comes_next(path: &str, last: &str, first: &str) -> bool
-    ensures { result ≡ comes_next path.now last.now first.now }
-{
-    last < path && (first.is_empty() || path < first)
+/// Makes each folder durable.
+pub fn sync_folders(rt: &impl Files, folders: &Vec<String>) -> Result<(), Unsynced> {
+    for folder in folders {
+        sync_folder(rt, folder.as_str())?;
+    }
+    Ok(())
 }
 
-/// Where a walk over folders is. A folder's own folders come in the order of their names.
+/// Whether this process may not do what it asked for.
+fn is_refused(error: &io::Error) -> bool {
+    error.kind() == ErrorKind::PermissionDenied
+}
+
+/// Whether a path comes next: behind the last one, and before the end of what is kept, if there is no room for more.
+fn comes_next(path: &str, last: &str, end: &str) -> bool
+    ensures { result ≡ comes_next path.now last.now end.now }
+{
+    last < path && (end.is_empty() || path < end)
+}
+
+/// Where a walk over folders is. Each folder's path ends in a slash, and they come in the order of the bytes of these paths:
+/// so all that stands in a folder comes behind it, and before what comes behind that.
 #[derive(Drop)]
 struct Place {
-    /// The folder, with a slash at its end.
+    /// The folder that is read.
     folder: PathBuffer,
-    /// The folder in it that the walk came back from. Empty where there was none.
+    /// The folder that was the last to be made durable. Each one before it was.
     last: PathBuffer,
-    /// The first folder behind that one. Empty where none was found.
-    first: PathBuffer,
+    /// The folders behind it that are known. None is left out before one that is kept.
+    ahead: Ahead,
     /// What is looked at.
     entry: PathBuffer,
+    /// The same as a folder.
+    found: PathBuffer,
 }
 
 impl Place {
@@ -82,59 +83,155 @@ impl Place {
         Ok(Place {
             folder: PathBuffer::new(alloc)?,
             last: PathBuffer::new(alloc)?,
-            first: PathBuffer::new(alloc)?,
+            ahead: Ahead::new(alloc)?,
             entry: PathBuffer::new(alloc)?,
+            found: PathBuffer::new(alloc)?,
         })
     }
 
-    /// Looks at what has this name, and keeps it if it is the folder that comes next. Nothing stands at a path that is longer
-    /// than the system takes.
-    fn look(&mut self, rt: &impl Files, name: &str) -> io::Result<()> {
-        if !is_part(name) || !self.entry.set(self.folder.as_str(), name) {
+    /// Whether this process may look nothing up in the folder, so that no call of the vault tells of a name there. Nothing
+    /// stands at a path that is longer than the system takes.
+    fn is_closed(&mut self, rt: &impl Files) -> bool
+        ensures folder { self.new.folder ≡ self.old.folder }
+        ensures last { self.new.last ≡ self.old.last }
+        ensures ahead { self.new.ahead ≡ self.old.ahead }
+        ensures found { self.new.found ≡ self.old.found }
+    {
+        if !self.entry.set(self.folder.as_str(), ".") {
+            return true;
+        }
+        match seen(rt, self.entry.as_str()) {
+            Ok(_) => false,
+            Err(error) => is_refused(&error),
+        }
+    }
+
+    /// Passes over an error in the folder where no name of the vault is behind it. Any other ends the sync.
+    fn pass_over(&mut self, rt: &impl Files, error: &io::Error) -> Result<(), Unsynced>
+        ensures folder { self.new.folder ≡ self.old.folder }
+        ensures last { self.new.last ≡ self.old.last }
+        ensures ahead { self.new.ahead ≡ self.old.ahead }
+        ensures found { self.new.found ≡ self.old.found }
+    {
+        if is_no_name(error) {
             return Ok(());
         }
-        let path = self.entry.as_str();
-        if comes_next(path, self.last.as_str(), self.first.as_str())
-            && seen_entry(rt, path)?.is_some_and(|found| found.is_dir())
-        {
-            mem::swap(&mut self.entry, &mut self.first);
+        if is_refused(error) && self.is_closed(rt) {
+            return Ok(());
         }
+        Err(Unsynced::NotOpened)
+    }
+
+    /// Whether what has this name comes next, if it is a folder. Its paths are then set. Nothing stands in a folder whose path
+    /// is longer than the system takes.
+    fn is_next(&mut self, name: &str) -> bool
+        ensures folder { self.new.folder ≡ self.old.folder }
+        ensures last { self.new.last ≡ self.old.last }
+        ensures ahead { self.new.ahead ≡ self.old.ahead }
+        ensures found { IsTrue result → self.new.found ≡ (self.old.folder ++ name.now) ++ 47 ∷ [] }
+        ensures next { IsTrue result
+            → IsTrue (comes_next self.new.found self.old.last (end_of self.old.ahead)) }
+    {
+        if !is_part(name) || !self.entry.set(self.folder.as_str(), name) {
+            return false;
+        }
+        if !self.found.set(self.entry.as_str(), "/") {
+            return false;
+        }
+        comes_next(self.found.as_str(), self.last.as_str(), self.ahead.end())
+    }
+
+    /// Whether a folder stands at what is looked at. What this process may not look at is passed over where it may look
+    /// nothing up in the folder.
+    fn is_folder(&mut self, rt: &impl Files) -> Result<bool, Unsynced>
+        ensures folder { self.new.folder ≡ self.old.folder }
+        ensures last { self.new.last ≡ self.old.last }
+        ensures ahead { self.new.ahead ≡ self.old.ahead }
+        ensures found { self.new.found ≡ self.old.found }
+    {
+        match seen_entry(rt, self.entry.as_str()) {
+            Ok(seen) => Ok(seen.is_some_and(|seen| seen.is_dir())),
+            Err(error) => {
+                self.pass_over(rt, &error)?;
+                Ok(false)
+            }
+        }
+    }
+
+    /// Looks at what has this name, and keeps its path if it is a folder that comes next.
+    fn look(&mut self, rt: &impl Files, name: &str) -> Result<(), Unsynced>
+        ensures folder { self.new.folder ≡ self.old.folder }
+        ensures last { self.new.last ≡ self.old.last }
+        ensures ahead { (self.new.ahead ≡ self.old.ahead)
+            ⊎ (self.new.ahead ≡ with_path ((self.old.folder ++ name.now) ++ 47 ∷ []) self.old.ahead) }
+    {
+        if !self.is_next(name) {
+            return Ok(());
+        }
+        if !self.is_folder(rt)? {
+            return Ok(());
+        }
+        self.ahead.keep(&mut self.found);
         Ok(())
     }
 
-    /// Goes into the folder that comes next, if the system takes its path. If not, the walk is behind it.
-    fn enter(&mut self) -> bool
-        ensures fits { IsTrue result ↔ (length self.old.first + 1 < 4096) }
-        ensures folder { self.new.folder ≡ (if result then self.old.first ++ 47 ∷ [] else self.old.folder) }
-        ensures last { self.new.last ≡ (if result then [] else self.old.first) }
+    /// Whether the first folder that is kept stands in this one.
+    fn is_above_next(&self) -> bool
+        ensures { result ≡ starts_with (λ a b. a == b) (first_of self.now.ahead) self.now.folder }
     {
-        mem::swap(&mut self.last, &mut self.first);
-        let is_in = self.folder.set(self.last.as_str(), "/");
-        if is_in {
-            self.last.clear();
-        }
-        is_in
+        self.ahead
+            .first()
+            .as_bytes()
+            .starts_with(self.folder.as_str().as_bytes())
+    }
+
+    /// Goes into the folder that comes next.
+    fn enter(&mut self)
+        ensures folder { self.new.folder ≡ first_of self.old.ahead }
+        ensures ahead { self.new.ahead ≡ drop 1 self.old.ahead ++ [] ∷ [] }
+    {
+        self.ahead.take_first(&mut self.folder);
+        self.last.set(self.folder.as_str(), "");
     }
 
     /// Goes back into the folder above.
-    fn leave(&mut self) {
-        let folder = self.folder.as_str();
-        self.last
-            .set(folder.strip_suffix('/').unwrap_or(folder), "");
-        self.folder.set(folder_of(self.last.as_str()), "");
+    fn leave(&mut self)
+        ensures last { self.new.last ≡ self.old.last }
+        ensures ahead { self.new.ahead ≡ self.old.ahead }
+    {
+        self.entry.set(above(self.folder.as_str()), "");
+        self.folder.set(self.entry.as_str(), "");
     }
 
-    /// Removes what an earlier process left in the folder, and makes the folder durable, if this process may read it.
-    fn settle(&mut self, rt: &impl Files) -> Result<(), Unsynced> {
-        if self.entry.set(self.folder.as_str(), NEXT) {
-            let _ = fs::remove_file(rt, self.entry.as_str());
+    /// Removes what an earlier process left in the folder.
+    fn remove_left(&mut self, rt: &impl Files)
+        ensures folder { self.new.folder ≡ self.old.folder }
+        ensures last { self.new.last ≡ self.old.last }
+        ensures ahead { self.new.ahead ≡ self.old.ahead }
+    {
+        if !self.entry.set(self.folder.as_str(), NEXT) {
+            return;
         }
-        sync_readable(rt, self.folder.as_str())
+        let _ = fs::remove_file(rt, self.entry.as_str());
+    }
+
+    /// Removes what an earlier process left in the folder, and makes the folder durable. One in which this process may look
+    /// nothing up is passed over, if it may not read it.
+    fn settle(&mut self, rt: &impl Files) -> Result<(), Unsynced>
+        ensures folder { self.new.folder ≡ self.old.folder }
+        ensures last { self.new.last ≡ self.old.last }
+        ensures ahead { self.new.ahead ≡ self.old.ahead }
+    {
+        self.remove_left(rt);
+        match fs::open(rt, self.folder.as_str()) {
+            Ok(open) => sync_open(&open),
+            Err(error) => self.pass_over(rt, &error),
+        }
     }
 }
 
 /// Looks at each of these names, of which each ends in a NUL.
-fn look_at(rt: &impl Files, place: &mut Place, names: &[u8]) -> io::Result<()> {
+fn look_at(rt: &impl Files, place: &mut Place, names: &[u8]) -> Result<(), Unsynced> {
     for name in names.split(|byte| *byte == 0) {
         if let Ok(name) = str::from_utf8(name) {
             place.look(rt, name)?;
@@ -159,12 +256,18 @@ impl Walk {
         })
     }
 
-    /// Looks at all that stands in the folder.
-    fn look_round<R: Files>(&mut self, rt: &R) -> io::Result<()> {
-        let mut open = rt.open_dir(self.place.folder.as_str())?;
+    /// Looks at all that stands in the folder. One in which this process may look nothing up is passed over, if it may not
+    /// read it.
+    fn look_round<R: Files>(&mut self, rt: &R) -> Result<(), Unsynced> {
+        let mut open = match rt.open_dir(self.place.folder.as_str()) {
+            Ok(open) => open,
+            Err(error) => return self.place.pass_over(rt, &error),
+        };
         // Each turn but the last takes names of the disk; the bound is never met.
         for _ in 0..u64::MAX {
-            let count = open.read(&mut self.names)?;
+            let Ok(count) = open.read(&mut self.names) else {
+                return Err(Unsynced::NotOpened);
+            };
             if count == 0 {
                 break;
             }
@@ -173,30 +276,31 @@ impl Walk {
         Ok(())
     }
 
-    /// Whether the folder has one that comes next. One that this process may not read has none.
-    fn has_next<R: Files>(&mut self, rt: &R) -> Result<bool, Unsynced> {
-        self.place.first.clear();
-        match self.look_round(rt) {
-            Ok(()) => Ok(!self.place.first.as_str().is_empty()),
-            Err(error) if is_passed_over(&error) => Ok(false),
-            Err(_) => Err(Unsynced::NotOpened),
+    /// Whether the folder has one that comes next. It is read where none is known.
+    fn has_next<R: Files>(&mut self, rt: &R) -> Result<bool, Unsynced>
+        ensures next { IfOk result (λ is. is
+            ≡ starts_with (λ a b. a == b) (first_of self.new.place.ahead) self.new.place.folder) }
+    {
+        if self.place.is_above_next() {
+            return Ok(true);
         }
+        self.look_round(rt)?;
+        Ok(self.place.is_above_next())
     }
 
-    /// Makes durable the folder of this path and each one below it that this process may read, and removes what an earlier
-    /// process left there.
+    /// Makes durable the folder of this path and each one below it, and removes what an earlier process left there. Folders in
+    /// which this process may look nothing up are passed over, if it may not read them.
     pub fn sync_all<R: Files>(&mut self, rt: &R, top: &str) -> Result<(), Unsynced> {
-        self.place.last.clear();
-        if !self.place.folder.set(top, "/") {
+        self.place.ahead.clear();
+        if !self.place.folder.set(top, "/") || !self.place.last.set(top, "/") {
             return Err(Unsynced::NotOpened);
         }
         self.place.settle(rt)?;
         // Each turn goes into a folder of the disk or back from one; the bound is never met.
         for _ in 0..u64::MAX {
             if self.has_next(rt)? {
-                if self.place.enter() {
-                    self.place.settle(rt)?;
-                }
+                self.place.enter();
+                self.place.settle(rt)?;
             } else if self.place.folder.as_str().len() <= top.len() + 1 {
                 break;
             } else {

@@ -173,6 +173,33 @@ fn a_vault_keeps_what_was_written(rt: HostRuntime) -> Result<(), Fail> {
     Ok(())
 }
 
+// What a killed process left in the folder `below` of the folder of this number.
+fn left_in(alloc: Global, number: u32) -> Result<String, Fail> {
+    Ok(format!(in alloc; "walked/srv/{number}/below/.cvkit-next")?)
+}
+
+// A first sync goes over each folder, also over more in one than a walk keeps.
+#[test]
+fn a_first_sync_goes_over_each_folder(rt: HostRuntime) -> Result<(), Fail> {
+    let alloc = rt.alloc();
+    begin(&rt, "walked")?;
+    for number in 0..300 {
+        let folder = format!(in alloc; "walked/srv/{number}/below")?;
+        fs::create_dir_all(&rt, folder.as_str())?;
+        fs::write(&rt, left_in(alloc, number)?.as_str(), b"half".as_slice())?;
+    }
+    let mut vault = FolderVault::new(rt, "walked/srv")?;
+    assert!(rt; vault.sync().is_ok());
+    for number in 0..300 {
+        let left = left_in(alloc, number)?;
+        assert!(rt;
+            fs::symlink_metadata(&rt, left.as_str()).is_err(),
+            "{number}"
+        );
+    }
+    Ok(())
+}
+
 // Two names of one file: after a rename one is left.
 #[test]
 fn a_rename_of_two_names_of_one_file_leaves_one(rt: HostRuntime) -> Result<(), Fail> {
