@@ -1,19 +1,17 @@
 #!/usr/bin/env python3
-"""Row files for the tests of cv_rows, written by the format's table alone.
-
-The tests have the good texts as constants of hex digits, and the table FAULTS. A bad text stands there as the change of a
-good one: the place, the good text, the offsets between which its bytes are others, the hex digits of these others, and the
-fault. To change a text or to add one, change `items`, paste what is printed in place of both, and run `rt fmt` in the
-crate's folder."""
+"""The table of cv_rows_tests: row files by the format's table alone, what is found in them, and what is left of them without a path;
+and bad ones, each with its first fault. `crates/cv_rows_tests/src/main.rt` says how a row is read."""
 import hashlib
+import random
 import struct
 
-from vectors import settle
+from vectors import settle_lines
 
 TIME = 1700000000
 FLAGS = {"dir": 1, "transition": 3, "nested": 33, "file": 4, "link": 12}
 TYPES = {"dir": 0o040000, "transition": 0o040000, "nested": 0o040000, "file": 0o100000, "link": 0o120000}
 NO_KEY = bytes(16)
+COUNT = 50
 
 
 def key(path):
@@ -58,95 +56,132 @@ def index(rows, path):
     return [r[0] for r in sorted(rows)].index(key(path))
 
 
-def change(good, bad):
-    """The offsets between which a good text has other bytes than a bad one, and the bytes of the bad one there."""
-    start = 0
-    while start < min(len(good), len(bad)) and good[start] == bad[start]:
-        start += 1
-    same = 0
-    while same < min(len(good), len(bad)) - start and good[-1 - same] == bad[-1 - same]:
-        same += 1
-    end = len(good) - same
-    new = bad[start:len(bad) - same]
-    assert good[:start] + new + good[end:] == bad
-    return start, end, new
+# ---- rows by hand
+
+ROOT = row("", "dir")
+A = row("/a", "file", b"hello\n")
+D, F, G, MARKER = row("/d", "dir"), row("/d/f", "file", b"f\n"), row("/d/g", "file", b"g\n"), row("/d/.cvmfscatalog", "file")
+INNER_ROWS = [row("/d", "nested"), F, G, MARKER]
+INNER = file(INNER_ROWS)
+OUTER_ROWS = [ROOT, row("/d", "transition")]
+# A directory `/a` with a nested catalogue `/a/x`, and one at `/a-b`, whose text stands below.
+CROSSED_ROWS = [ROOT, row("/a", "dir"), row("/a/x", "transition"), row("/a-b", "transition")]
+EMPTY, ONE = file([ROOT]), file([ROOT, A])
+LINKED = file([ROOT, row("/l", "link", b"../t")])
+OUTER = file(OUTER_ROWS, [entry("/d", INNER)])
+PLAIN_ROWS = [ROOT, D, F, G]
+PLAIN = file(PLAIN_ROWS)
+CROSSED = file(CROSSED_ROWS, [entry("/a-b", INNER), entry("/a/x", INNER)])
+PRUNED = file([ROOT, CROSSED_ROWS[3]], [entry("/a-b", INNER)])
+DEEP = "/n" * 64
+TOO_DEEP = [row(DEEP, "nested"), row(DEEP + "/.cvmfscatalog", "file")]
+FAR, IN_ITSELF = row("/x/f", "file", b"f\n"), (D[0], at(D[1], 16, D[0]))
+
+# What is bad, the place at which it's read, its bytes, and its fault.
+FAULTS = [
+    ("an empty text", "/", b"", "Short"),
+    ("eleven bytes", "/", EMPTY[:11], "Short"),
+    ("the last byte lacks", "/", EMPTY[:80], "Short"),
+    ("another name of the format", "/", at(EMPTY, 3, b"2"), "BadMagic"),
+    ("50,001 rows", "/", b"CVR2" + struct.pack(">I", 50001), "TooLarge"),
+    ("flags of no kind", "/", at(EMPTY, 44, struct.pack(">I", 2)), "BadField(44)"),
+    ("a bit above the type", "/", at(EMPTY, 48, struct.pack(">I", 0o240755)), "BadField(48)"),
+    ("a directory with a size", "/", at(EMPTY, 68, struct.pack(">Q", 1)), "BadField(68)"),
+    ("a directory with a hash", "/", at(EMPTY, 76, b"\x14"), "BadField(76)"),
+    ("a name of 256 bytes", "/", at(EMPTY, 77, struct.pack(">H", 256)), "BadField(77)"),
+    ("a name with a slash", "/", file([row("", "dir", name=b"/")]), "BadField(79)"),
+    ("no name below a directory", "/", at(EMPTY, 28, b"\x01"), "BadField(79)"),
+    ("a directory with a target", "/", file([row("", "dir", target=b"t")]), "BadField(79)"),
+    ("a link with a longer size", "/", file([row("", "link", b"t", size=2)]), "BadField(68)"),
+    ("a target with NUL", "/", file([row("", "link", b"\0")]), "BadField(81)"),
+    ("a nested path with a slash at its end", "/", file([ROOT], [entry("/d/", b"")]), "BadField(83)"),
+    ("a byte more", "/", EMPTY + b"\0", "TrailingBytes"),
+    ("rows out of order", "/", file([ROOT, A], sort=False), "Order(1)"),
+    ("an entry twice", "/", file(CROSSED_ROWS, [entry("/a-b", INNER)] * 2), "Order(5)"),
+    ("no rows", "/", file([]), "Orphan(0)"),
+    ("a root row of another key", "/", at(EMPTY, 12, b"\0"), "Orphan(0)"),
+    ("a file in no directory", "/", file([ROOT, FAR]), f"Orphan({index([ROOT, FAR], '/x/f')})"),
+    ("a key of another path", "/", file([ROOT, row("/a", "file", b"hello\n", key_=bytes(16))]), "BadKey(0)"),
+    ("a path of 65 names", DEEP, file(TOO_DEEP), f"BadKey({index(TOO_DEEP, DEEP + '/.cvmfscatalog')})"),
+    ("a root row of another name", "/d", file([row("/d", "nested", name=b"e"), F, G, MARKER]), f"BadKey({index(INNER_ROWS, '/d')})"),
+    ("a marked directory", "/", file([ROOT, D, F, MARKER]), f"Marker({index([ROOT, D, F, MARKER], '/d')})"),
+    ("a nested root without a marker", "/d", file(INNER_ROWS[:3]), f"Marker({index(INNER_ROWS[:3], '/d')})"),
+    ("an entry of a plain directory", "/", file([ROOT, D], [entry("/d", INNER)]), "NestedList(0)"),
+    ("a transition without an entry", "/", file(OUTER_ROWS), "NestedList(0)"),
+    ("an entry of another place", "/", file(OUTER_ROWS, [entry("/e", INNER)]), "NestedList(0)"),
+    ("an entry of the catalogue's own place", "/d", file(INNER_ROWS, [entry("/d", INNER)]), "NestedList(0)"),
+    ("an entry of the place above", "/d", file(INNER_ROWS, [entry("", INNER)]), "NestedList(0)"),
+    ("a directory in itself", "/", file([ROOT, IN_ITSELF, F, G]), f"Orphan({index([ROOT, F], '/d/f')})"),
+]
 
 
-def items():
-    """The good texts as constants, and the table of the bad ones."""
-    root = row("", "dir")
-    a = row("/a", "file", b"hello\n")
-    d = row("/d", "dir")
-    f = row("/d/f", "file", b"f\n")
-    g = row("/d/g", "file", b"g\n")
-    marker = row("/d/.cvmfscatalog", "file")
-    inner_root = row("/d", "nested")
-    inner = file([inner_root, f, g, marker])
-    outer_rows = [root, row("/d", "transition")]
-    crossed_rows = [root, row("/a", "dir"), row("/a/x", "transition"), row("/a-b", "transition")]
-    good = {
-        "EMPTY": ("The empty tree.", file([root])),
-        "ONE": ("The root and a file `/a` of the bytes `hello` and a newline.", file([root, a])),
-        "LINKED": ("The root and a link `/l`.", file([root, row("/l", "link", b"../t")])),
-        "INNER": ("The nested catalogue of `/d`, with `f`, `g` and the marker.", inner),
-        "OUTER": ("The catalogue above it.", file(outer_rows, [entry("/d", inner)])),
-        "PLAIN": ("The catalogue of the same files without a marker.", file([root, d, f, g])),
-        "CROSSED": ("A directory `/a` with a nested catalogue `/a/x`, and one at `/a-b`, whose text stands below.",
-                    file(crossed_rows, [entry("/a-b", inner), entry("/a/x", inner)])),
-        "PRUNED": ("The same without `/a`.", file([root, crossed_rows[3]], [entry("/a-b", inner)])),
-    }
-    text = {name: data for name, (_, data) in good.items()}
-    empty, one, outer = text["EMPTY"], text["ONE"], text["OUTER"]
-    assert len(empty) == 81 and len(one) == 171
-    for name, (what, data) in good.items():
-        yield f'/// {what}\nconst {name}: &str =\n    "{data.hex()}";'
-    deep = "/n" * 64
-    in_itself = (d[0], at(d[1], 16, d[0]))
-    far = row("/x/f", "file", b"f\n")
-    faults = [
-        ("an empty text", "", "EMPTY", b"", "Short"),
-        ("eleven bytes", "", "EMPTY", empty[:11], "Short"),
-        ("the last byte lacks", "", "EMPTY", empty[:80], "Short"),
-        ("another name of the format", "", "EMPTY", at(empty, 3, b"2"), "BadMagic"),
-        ("50,001 rows", "", "EMPTY", b"CVR2" + struct.pack(">I", 50001), "TooLarge"),
-        ("flags of no kind", "", "EMPTY", at(empty, 44, struct.pack(">I", 2)), "BadField(44)"),
-        ("a bit above the type", "", "EMPTY", at(empty, 48, struct.pack(">I", 0o240755)), "BadField(48)"),
-        ("a directory with a size", "", "EMPTY", at(empty, 68, struct.pack(">Q", 1)), "BadField(68)"),
-        ("a directory with a hash", "", "EMPTY", at(empty, 76, b"\x14"), "BadField(76)"),
-        ("a name of 256 bytes", "", "EMPTY", at(empty, 77, struct.pack(">H", 256)), "BadField(77)"),
-        ("a name with a slash", "", "EMPTY", file([row("", "dir", name=b"/")]), "BadField(79)"),
-        ("no name below a directory", "", "EMPTY", at(empty, 28, b"\x01"), "BadField(79)"),
-        ("a directory with a target", "", "EMPTY", file([row("", "dir", target=b"t")]), "BadField(79)"),
-        ("a link with a longer size", "", "EMPTY", file([row("", "link", b"t", size=2)]), "BadField(68)"),
-        ("a target with NUL", "", "EMPTY", file([row("", "link", b"\0")]), "BadField(81)"),
-        ("a nested path with a slash at its end", "", "EMPTY", file([root], [entry("/d/", b"")]), "BadField(83)"),
-        ("a byte more", "", "EMPTY", empty + b"\0", "TrailingBytes"),
-        ("rows out of order", "", "ONE", file([root, a], sort=False), "Order(1)"),
-        ("an entry twice", "", "CROSSED", file(crossed_rows, [entry("/a-b", inner)] * 2), "Order(5)"),
-        ("no rows", "", "EMPTY", file([]), "Orphan(0)"),
-        ("a root row of another key", "", "EMPTY", at(empty, 12, b"\0"), "Orphan(0)"),
-        ("a file in no directory", "", "ONE", file([root, far]), f"Orphan({index([root, far], '/x/f')})"),
-        ("a key of another path", "", "ONE", file([root, row("/a", "file", b"hello\n", key_=bytes(16))]), "BadKey(0)"),
-        ("a path of 65 names", deep, "EMPTY", file([row(deep, "nested"), row(deep + "/.cvmfscatalog", "file")]),
-         f"BadKey({index([row(deep, 'nested'), row(deep + '/.cvmfscatalog', 'file')], deep + '/.cvmfscatalog')})"),
-        ("a root row of another name", "/d", "INNER", file([row("/d", "nested", name=b"e"), f, g, marker]),
-         f"BadKey({index([inner_root, f, g, marker], '/d')})"),
-        ("a marked directory", "", "PLAIN", file([root, d, f, marker]), f"Marker({index([root, d, f, marker], '/d')})"),
-        ("a nested root without a marker", "/d", "INNER", file([inner_root, f, g]), f"Marker({index([inner_root, f, g], '/d')})"),
-        ("an entry of a plain directory", "", "OUTER", file([root, d], [entry("/d", inner)]), "NestedList(0)"),
-        ("a transition without an entry", "", "OUTER", file(outer_rows), "NestedList(0)"),
-        ("an entry of another place", "", "OUTER", file(outer_rows, [entry("/e", inner)]), "NestedList(0)"),
-        ("an entry of the catalogue's own place", "/d", "INNER", file([inner_root, f, g, marker], [entry("/d", inner)]), "NestedList(0)"),
-        ("an entry of the place above", "/d", "INNER", file([inner_root, f, g, marker], [entry("", inner)]), "NestedList(0)"),
-        ("a directory in itself", "", "PLAIN", file([root, in_itself, f, g]), f"Orphan({index([root, f], '/d/f')})"),
-    ]
-    lines = [f"const FAULTS: [Change; {len(faults)}] = ["]
-    for what, place, name, bad, fault in faults:
-        start, end, new = change(text[name], bad)
-        lines.append(f'    // {what}')
-        lines.append(f'    ("{place}", Good::{name.capitalize()}, {start}, {end}, "{new.hex()}", RowFault::{fault}),')
-    yield "\n".join(lines + ["];"])
+def kept(place, data):
+    return f"read {place} {data.hex()}", data.hex()
+
+
+def by_hand():
+    assert len(EMPTY) == 81 and len(ONE) == 171
+    for place, data in ("/", EMPTY), ("/", ONE), ("/", LINKED), ("/d", INNER), ("/", OUTER), ("/", PLAIN), ("/", CROSSED), ("/", PRUNED):
+        yield kept(place, data)
+    for _, place, data, fault in FAULTS:
+        yield f"read {place} {data.hex()}", fault
+    # at most 16 MiB
+    yield "zeros 16777216", "BadMagic"
+    yield "zeros 16777217", "TooLarge"
+    for path, found in ("/", "'', 1 below"), ("/d", "'d', 2 below"), ("/e", "none, 0 below"):
+        yield f"row {path} {PLAIN.hex()}", found
+    yield f"nested {OUTER.hex()}", f"/d {hashlib.sha1(INNER).hexdigest()} {len(INNER)};"
+    yield f"without /a {CROSSED.hex()}", PRUNED.hex()
+
+
+# ---- rows at random
+
+def generated():
+    """The kinds of what stands at the paths of a catalogue of the root, each behind its directory."""
+    kinds = {"": "dir"}
+    for _ in range(random.randint(1, 9)):
+        above = random.choice([path for path, kind in kinds.items() if kind == "dir"])
+        kinds.setdefault(above + "/" + random.choice(["a", "b", "a-b", "\u00e9"]), random.choice(["dir", "dir", "file", "link", "transition"]))
+    return kinds
+
+
+def contents_of(kinds):
+    """The rows and the nested entries, by their paths."""
+    texts = {path: path.encode() if kind in ("file", "link") else b"" for path, kind in kinds.items()}
+    rows = {path: row(path, kind, texts[path]) for path, kind in kinds.items()}
+    return rows, {path: entry(path, INNER) for path, kind in kinds.items() if kind == "transition"}
+
+
+def written(rows, nested):
+    return file(rows.values(), [nested[path] for path in sorted(nested, key=str.encode)]).hex()
+
+
+def questions(kinds):
+    rows, nested = contents_of(kinds)
+    whole = written(rows, nested)
+    by_key = sorted(kinds, key=key)
+    yield f"read / {whole}", whole
+    yield f"places {whole}", "".join(path + " " for path in by_key)
+    directory = random.choice([path for path, kind in kinds.items() if kind == "dir"])
+    inside = [path.rpartition("/")[2] for path in by_key if path and path.rpartition("/")[0] == directory]
+    yield f"in {directory or '/'} {whole}", "".join(name + " " for name in inside)
+    if len(kinds) > 1:
+        gone = random.choice(list(kinds)[1:])
+        rest = [path for path in kinds if path != gone and not path.startswith(gone + "/")]
+        left = written({path: rows[path] for path in rest}, {path: nested[path] for path in rest if path in nested})
+        yield f"without {gone} {whole}", left
+
+
+def at_random():
+    """Catalogues of which no two have the same paths, with four questions each."""
+    random.seed(77)
+    seen = []
+    while len(seen) < COUNT:
+        kinds = generated()
+        if kinds not in seen:
+            seen.append(kinds)
+            yield from questions(kinds)
 
 
 if __name__ == "__main__":
-    settle("crates/cv_rows/src/tests.rt", list(items()))
+    settle_lines("cv_rows_tests", [*by_hand(), *at_random()])

@@ -78,6 +78,19 @@ def settle_lines(crate, rows):
     settle_files({f"crates/{crate}/{file}": made for file, made in zip(("stdin", "stdout"), texts)})
 
 
+def in_line(data):
+    """Bytes as a part of a line, as `crates/cv_lines/src/line.rt` says."""
+    marks = {10: "\\n", 13: "\\r"}
+    return "".join(marks.get(byte) or (chr(byte) if 32 <= byte < 127 and byte not in b"\\|<" else f"\\{byte:02x}") for byte in data)
+
+
+def from_line(text):
+    """The bytes that a part of a line says."""
+    whole = re.sub(r"<(\d+)\*([^>]*)>", lambda found: found[2] * int(found[1]), text).encode()
+    marks = {b"n": b"\n", b"r": b"\r"}
+    return re.sub(rb"\\(n|r|[0-9a-f]{2})", lambda found: marks.get(found[1]) or bytes([int(found[1], 16)]), whole)
+
+
 def constant(name, of_type, value, keyword="const"):
     return f"{keyword} {name}: {of_type} = {value};"
 

@@ -1,8 +1,7 @@
-#!/usr/bin/env python3
 """Requests for the tests of cv_session, with what each asks, by the tables of the interface and not by the program.
 
-A row is a request: method, target, Authorization header, body, and the turn in words. The headers are made by Python's hmac
-and base64, and the turns by a second telling of the rules, over regular expressions and Python's json.
+A request is a method, a target, an Authorization header and a body. The headers are made by Python's hmac and base64, and what is
+asked by a second telling of the rules, over regular expressions and Python's json.
 """
 import base64
 import json
@@ -11,7 +10,6 @@ import re
 import cvkit_client
 import line_vectors
 from cvkit_client import KEYS, LEASES, REPOSITORY, digest_of, mac
-from vectors import raw_text, settle, table
 
 HASH = "f572d396fae9206628714fb2ce00f72e94f2258f"
 OLD, NEW = (digest_of(tree) for tree in line_vectors.trees)
@@ -96,15 +94,15 @@ def end(authorization, text):
 
 
 def turn(method, target, authorization, body):
-    if method == "Other":
+    if method not in ("GET", "POST", "DELETE"):
         return "501 Not Implemented"
-    if method == "Post" and target == LEASES:
+    if method == "POST" and target == LEASES:
         return lease(authorization, body)
-    if method == "Post" and target.startswith(LEASES + "/"):
+    if method == "POST" and target.startswith(LEASES + "/"):
         return commit(authorization, target[len(LEASES) + 1 :], body)
-    if method == "Delete" and target.startswith(LEASES + "/"):
+    if method == "DELETE" and target.startswith(LEASES + "/"):
         return end(authorization, target[len(LEASES) + 1 :])
-    if method == "Get":
+    if method == "GET":
         file = re.fullmatch(r"/cvmfs/sw\.example\.org/(\.cvmfspublished|data/[0-9a-f]{2}/[0-9a-f]{38}[CH]?)", target)
         if file:
             return "file " + file.group(1)
@@ -122,16 +120,16 @@ def ask(path):
 
 
 GOOD = ask("sw.example.org/a")
-ROWS = [("Post", LEASES, None, GOOD)]
-ROWS += [("Post", LEASES, text, GOOD) for text in ["k1", header("k9", GOOD, "s1"), header("k1", GOOD, "s2")]]
-ROWS += [("Post", LEASES, header("k1", GOOD), "{")]
+REQUESTS = [("POST", LEASES, None, GOOD)]
+REQUESTS += [("POST", LEASES, text, GOOD) for text in ["k1", header("k9", GOOD, "s1"), header("k1", GOOD, "s2")]]
+REQUESTS += [("POST", LEASES, header("k1", GOOD), "{")]
 for body in ["{", "{}", '{"path":1}']:
-    ROWS.append(("Post", LEASES, header("k1", body), body))
+    REQUESTS.append(("POST", LEASES, header("k1", body), body))
 for path in ["other.org/a//", "sw.example.orgs", "sw.example.org/a//", "sw.example.org"]:
-    ROWS.append(("Post", LEASES, header("k1", ask(path)), ask(path)))
-ROWS.append(("Post", LEASES, header("k2", ask("sw.example.org/a/b/")), ask("sw.example.org/a/b/")))
+    REQUESTS.append(("POST", LEASES, header("k1", ask(path)), ask(path)))
+REQUESTS.append(("POST", LEASES, header("k2", ask("sw.example.org/a/b/")), ask("sw.example.org/a/b/")))
 COMMIT = text_of(old_root_hash=OLD, new_root_hash=NEW, tag_name="")
-ROWS.append(("Post", LEASES + "/1-1", header("k1", COMMIT), "{"))
+REQUESTS.append(("POST", LEASES + "/1-1", header("k1", COMMIT), "{"))
 for body in [
     "{",
     text_of(new_root_hash=1),
@@ -141,25 +139,15 @@ for body in [
     COMMIT,
     text_of(old_root_hash=OLD + "C", new_root_hash=NEW),
 ]:
-    ROWS.append(("Post", LEASES + "/1-1", header("k1", "1-1"), body))
-ROWS.append(("Post", LEASES + "/1-01", header("k2", "1-01"), text_of(old_root_hash=OLD, new_root_hash=NEW + "C", tag_name="v1")))
-ROWS.append(("Post", "/api/v1/repos", header("k1", ""), ""))
+    REQUESTS.append(("POST", LEASES + "/1-1", header("k1", "1-1"), body))
+REQUESTS.append(("POST", LEASES + "/1-01", header("k2", "1-01"), text_of(old_root_hash=OLD, new_root_hash=NEW + "C", tag_name="v1")))
+REQUESTS.append(("POST", "/api/v1/repos", header("k1", ""), ""))
 for token in ["12-34", "01-1", "", "1-1/"]:
-    ROWS.append(("Delete", LEASES + "/" + token, header("k2", token), ""))
-ROWS.append(("Delete", LEASES + "/01-1", header("k2", "0-0"), ""))
-ROWS.append(("Delete", LEASES, header("k1", ""), ""))
+    REQUESTS.append(("DELETE", LEASES + "/" + token, header("k2", token), ""))
+REQUESTS.append(("DELETE", LEASES + "/01-1", header("k2", "0-0"), ""))
+REQUESTS.append(("DELETE", LEASES, header("k1", ""), ""))
 for target in ["/api/v1/repos", LEASES]:
-    ROWS.append(("Get", target, None, ""))
+    REQUESTS.append(("GET", target, None, ""))
 for file in [".cvmfspublished", "data/%s/%sC" % (HASH[:2], HASH[2:])]:
-    ROWS.append(("Get", "/cvmfs/%s/%s" % (REPOSITORY, file), None, ""))
-ROWS.append(("Other", LEASES, None, ""))
-
-
-def row(method, target, authorization, body):
-    given = "None" if authorization is None else f"Some({raw_text(authorization)})"
-    words = raw_text(turn(method, target, authorization, body))
-    return f"(Method::{method}, {raw_text(target)}, {given}, {raw_text(body)}, {words})"
-
-
-ITEM = table("REQUESTS", "(Method, &str, Option<&str>, &str, &str)", [row(*request) for request in ROWS], "static")
-settle("crates/cv_session/src/tests.rt", [ITEM])
+    REQUESTS.append(("GET", "/cvmfs/%s/%s" % (REPOSITORY, file), None, ""))
+REQUESTS.append(("PUT", LEASES, None, ""))

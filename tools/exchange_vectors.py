@@ -1,22 +1,26 @@
 #!/usr/bin/env python3
-"""Sessions with payloads for the tests of cv_session: requests, and their replies by the tables of the interface, not by the program.
+"""The table of cv_session_tests: requests, their replies and what they ask of the desk, by the tables of the interface and not by the
+program. `crates/cv_session_tests/src/main.rt` says how a row is read.
 
-A row is a session over a desk in the tests: the input, the output, and how the session ends. Behind each entry of the desk's seat
-stands one of another's, and a lease's token has the number of its entry. Digests are made by hashlib, signatures by hmac.
+Behind each entry of the seat of a desk that grants stands one of another's, and a lease's token has the number of its entry.
+Digests are made by hashlib, signatures by hmac.
 """
 import hashlib
+import hmac
 import json
+import re
 
 import cvkit_client
+import turns
 from cvkit_client import LEASES, PAYLOADS, REPOSITORY, authorization, digest_of, lease_message
-from vectors import constant, settle, table, text
+from vectors import in_line, settle_lines
 
 HELLO = b"hello\n"
-CLEAN, CLOSED = "SessionEnd::Clean", "SessionEnd::Closed"
+CLEAN, CLOSED = "Clean", "Closed"
 
 
 def bad(fault):
-    return f"SessionEnd::Bad(HttpFault::{fault})"
+    return f"Bad({fault})"
 
 
 def header(*contents):
@@ -176,6 +180,140 @@ SESSIONS += [
 SESSIONS.append(([(commit("1-1"), refused("revisions_full"))], CLEAN))
 
 
+# ---- what is asked of the desk
+
+def told_of(asked, said):
+    """What a request asks of the desk, where it's answered so."""
+    found = re.match(r"POST (\S+) HTTP/1.1\r\n(.*?)\r\n\r\n(.*)", asked, re.S)
+    if not found or not (said.endswith(DONE) or "root_hash" in said or "revisions_full" in said):
+        return ""
+    target, fields, body = found.groups()
+    if target == PAYLOADS:
+        size = int(re.search(r"Message-Size: (\d+)", fields)[1])
+        ask, pack = json.loads(body[:size]), body[size:]
+        count = int(re.search(r"^N(\d+)$", pack, re.M)[1])
+        return "store k1 of {}: {} of {};".format(ask["session_token"], count, ask["payload_digest"])
+    if target == LEASES:
+        return "lease k1 on '{}';".format(json.loads(body)["path"].removeprefix(REPOSITORY))
+    ask = json.loads(body)
+    return f"commit k1 of {target.removeprefix(LEASES + '/')} from {ask['old_root_hash']} to {ask['new_root_hash']} as '{ask['tag_name']}';"
+
+
+def row(desk, piece, reading, writing, exchanges, end):
+    """A line of the table, and what it prints, where all is answered."""
+    asked, said = ("".join(part) for part in zip(*exchanges))
+    told = "".join(told_of(*exchange) for exchange in exchanges) if desk != "seat" else ""
+    counts = told.count("store "), told.count("lease ")
+    return line(desk, piece, reading, writing, asked, said, end, told, *counts)
+
+
+def line(desk, piece, reading, writing, asked, said, end, told, payloads=0, leases=0):
+    given = f"{desk}|{piece}|{reading}|{writing}|{in_line(asked.encode())}"
+    said = said if isinstance(said, bytes) else said.encode()
+    return given, f"{in_line(said)}|{end}|{told}|{payloads} {leases}"
+
+
+# ---- requests one by one
+
+def sealed():
+    """The manifest of the desk's newest head, under the seal `seal`."""
+    lines = f"C{'0' * 40}\nB0\nR{hashlib.md5(b'').hexdigest()}\nD240\nS1\nN{REPOSITORY}\nH{'0' * 40}\nT0\n".encode()
+    digits = hashlib.sha1(lines).hexdigest().encode()
+    return lines + b"--\n" + digits + b"\n" + hmac.new(b"seal", digits, "sha1").digest()
+
+
+def octets(data):
+    return f"HTTP/1.1 200 OK\r\nContent-Type: application/octet-stream\r\nContent-Length: {len(data)}\r\n\r\n".encode() + data
+
+
+LIVE = [{"key_id": "k1", "path": REPOSITORY + "/a/b", "time_remaining": 7200}, {"key_id": "k2", "path": REPOSITORY, "time_remaining": 0}]
+
+
+def turn_row(method, target, signature, body):
+    """A request to a desk that grants: what it asks, and the reply to that."""
+    asked = cvkit_client.request(method, target, body.encode() if method == "POST" else None, signature).decode()
+    words = turns.turn(method, target, signature, body)
+    kind, _, rest = words.partition(" ")
+    told, said = words + ";", None
+    if kind == "lease":
+        said = granted("1-1")
+    elif kind == "commit":
+        said = refused("revisions_full")
+    elif kind == "end":
+        said = DONE
+    elif kind == "file" and rest.startswith("data/"):
+        told, said = rest.removeprefix("data/").replace("/", "") + ";", written("404 Not Found", "text/plain", "Not Found\n")
+    elif kind == "file":
+        told, said = "newest;", octets(sealed())
+    elif kind == "leases":
+        said = answer(data=LIVE, status="ok")
+    else:
+        told = ""
+        if kind == "repos":
+            said = answer(repos=[REPOSITORY], status="ok")
+        elif kind in ("404", "501"):
+            said = written(words, "text/plain", rest + "\n")
+        else:
+            said = refused(kind, member=rest) if rest else refused(kind)
+    return line("grants", 7, 0, 0, asked, said, CLEAN, told, 0, int(kind == "lease"))
+
+
+# ---- replies of the gate
+
+AB = "ab" * 20
+# What is answered where the gate replies by a word.
+REPLIES = {
+    "granted": answer(revision=3, root_hash=AB, session_token="1-2", status="ok"),
+    "committed": answer(final_revision=3, root_hash=AB, status="ok"),
+    "stored": DONE,
+    "cancelled": DONE,
+    "path_busy": answer(lease="1-2", status="path_busy", time_remaining=1),
+    "path_collision": refused("path_collision", path="/b", second="/a"),
+    "catalogue_full": refused("catalogue_full", path="/b"),
+    "damaged": refused("damaged", found="0" * 40, object=AB + "C"),
+    **{word: refused(word, object=AB + "C") for word in ("collision", "missing_object", "bad_catalogue")},
+    **{word: refused(word, revision=3) for word in ("stale_base", "tag_taken")},
+    **{
+        word: refused(word)
+        for word in "bad_path too_many_leases no_parent invalid_token wrong_key store_failed no_memory revisions_full".split()
+    },
+}
+
+
+def replied():
+    for word, said in REPLIES.items():
+        yield line(word, 100, 0, 0, lease("/a"), said, CLEAN, "lease k1 on '/a';", 0, 1)
+    full = written("200 OK", "application/json", '{"reason":"journal_full","status":"error"}', True)
+    yield line("journal_full", 100, 0, 0, lease("/a") + lease("/b"), full, "JournalFull", "lease k1 on '/a';", 0, 1)
+
+
+# ---- sources and sinks that fail
+
+NONE = head("GET", "/", HOST)
+NOT_FOUND = written("404 Not Found", "text/plain", "Not Found\n")
+
+
+def failing():
+    # two requests in one read, behind which the source fails: both are answered
+    yield line("grants", 100, 2, 0, NONE + NONE, NOT_FOUND * 2, "ReadFault", "")
+    yield line("grants", 100, 1, 0, NONE, "", "ReadFault", "")
+    # a head, a body and a flush
+    top = NOT_FOUND.index("Not Found\n", 20)
+    for call, taken in (1, ""), (2, NOT_FOUND[:top]), (3, NOT_FOUND), (4, NOT_FOUND):
+        yield line("grants", 100, 0, call, NONE + NONE, taken, "WriteFault", "")
+    asked, said = payload(*EMPTY, EXPECT), LINE + DONE
+    told = told_of(asked, said)
+    for call, taken in (1, ""), (2, LINE):
+        yield line("grants", 100, 0, call, asked, taken, "WriteFault", "")
+    for call, taken in (3, LINE), (4, LINE + DONE[: -len('{"status":"ok"}')]), (5, said):
+        yield line("grants", 100, 0, call, asked, taken, "WriteFault", told, 1, 0)
+    said = granted("1-1")
+    for call, taken in (1, ""), (3, said):
+        yield line("grants", 100, 0, call, lease("/a"), taken, "WriteFault", "lease k1 on '/a';", 0, 0)
+
+
+# ---- the table
+
 # The leases, and the ends of two, asked at a seat where no lease is live.
 AT_SEAT = [
     (cvkit_client.LIST.decode(), answer(data=[], status="ok")),
@@ -184,16 +322,15 @@ AT_SEAT = [
 ]
 
 
-def joined(exchanges):
-    """What is asked, and what is said."""
-    return [text("".join(part)) for part in zip(*exchanges)]
+def rows():
+    for exchanges, end in SESSIONS:
+        for piece in 1, 100:
+            yield row("grants", piece, 0, 0, exchanges, end)
+    yield row("seat", 100, 0, 0, AT_SEAT, CLEAN)
+    for request in turns.REQUESTS:
+        yield turn_row(*request)
+    yield from replied()
+    yield from failing()
 
 
-def row(exchanges, end):
-    return f"({', '.join(joined(exchanges))}, {end})"
-
-
-ROWS = [row(exchanges, end) for exchanges, end in SESSIONS]
-settle("crates/cv_session/src/session_tests.rt", [table("SESSIONS", "(&str, &str, SessionEnd)", ROWS, "static")])
-BOTH = zip(("ASKED", "SAID"), joined(AT_SEAT))
-settle("crates/cv_session/src/seat_tests.rt", [constant(name, "&str", value) for name, value in BOTH])
+settle_lines("cv_session_tests", list(rows()))
