@@ -194,7 +194,7 @@ fn measure(rt: &HostRuntime, asking: &Asking) -> Option<(usize, u128, u128, u128
 }
 
 /// What the words say.
-fn asking(alloc: Global, words: &[String]) -> Option<Asking> {
+fn asked(alloc: Global, words: &[String]) -> Option<Asking> {
     match words {
         [names, file, questions] => Some(Asking {
             names: names.as_str().parse::<u32>().ok()?,
@@ -209,7 +209,7 @@ fn main(rt: HostRuntime) {
     let Ok(Some(words)) = program_words(&rt) else {
         return;
     };
-    let Some(asking) = asking(rt.alloc(), words.as_slice()) else {
+    let Some(asking) = asked(rt.alloc(), words.as_slice()) else {
         return;
     };
     if let Some((listed, entry, listing, decoding)) = measure(&rt, &asking) {
