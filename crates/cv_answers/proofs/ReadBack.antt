@@ -8,8 +8,10 @@ use Rattle.cv_json.specs.ObjectText.{object_in}
 use Rattle.cv_messages.specs.Spelling.{IsToken}
 use Rattle.cv_answers.specs.Answer.{granted_data, committed_data, lease_item_data, leases_data, repos_data, path_busy_data, answer_data}
 use Rattle.cv_messages.specs.MemberName.{member_name, member_of, is_named}
-use Rattle.cv_answers.specs.Refusal.{reason_text, is_refusal, IsWholeRefusal, refusal_data, refusal_by}
-use Rattle.cv_answers.specs.AnswerText.{is_answer, IsWhole, each_of, lease_item_in, repo_in, answer_in, answer_in_object, answer_of}
+use Rattle.cv_answers.specs.Refusal.{reason_text, is_refusal, refusal_data, refusal_by}
+use Rattle.cv_answers.specs.RefusalInner.{IsWholeRefusal}
+use Rattle.cv_answers.specs.AnswerText.{is_answer, each_of, lease_item_in, repo_in, answer_in, answer_in_object, answer_of}
+use Rattle.cv_answers.specs.AnswerTextInner.{IsWhole}
 use Rattle.cv_answers.specs.declared.answer.Answer.{Answer}
 use Rattle.cv_answers.specs.declared.answer.Answer.TheVariants.{Granted, Done, Committed, Leases, Repos, PathBusy, Refused}
 use Rattle.cv_answers.specs.declared.lease_item.LeaseItem.{LeaseItem}

@@ -1,17 +1,13 @@
 -- The answer that a text says, or its first fault. The status is judged first. The members of each kind are judged in
--- the order in which they are written, but the reason of a refusal before those that it asks for, and the elements of
--- a list one after another.
 use Rattle.std.specs.Prelude.{◌∷◌, ℕ, Bool, true, List, [], codes, Option, Some, None, is_some, Result, Ok, Err, if◌then◌else◌}
 use Rattle.std.specs.Str.{bytes_eq}
 use Rattle.serde_json.specs.Data.{Data, Items}
 use Rattle.serde_json.specs.Find.{get, as_str, as_array, as_object}
 use Rattle.cv_json.specs.Elements.{elements}
-use Rattle.cv_base.specs.Digest.{IsDigest}
 use Rattle.cv_base.specs.Sequence.{◌>>=◌}
-use Rattle.cv_messages.specs.Spelling.{IsToken}
 use Rattle.cv_json.specs.ObjectText.{object_in}
 use Rattle.cv_messages.specs.Member.{text_of, text_member, number_member, token_member, digest_member}
-use Rattle.cv_answers.specs.Refusal.{is_refusal, IsWholeRefusal, refusal_in}
+use Rattle.cv_answers.specs.Refusal.{is_refusal, refusal_in}
 use Rattle.cv_messages.specs.declared.member.Member.TheVariants.{Path, SessionToken, Status, Other}
 use Rattle.cv_messages.specs.declared.message_fault.MessageFault.{MessageFault}
 use Rattle.cv_messages.specs.declared.message_fault.MessageFault.TheVariants.{NotJson, Missing, WrongType, BadValue}
@@ -23,14 +19,6 @@ use Rattle.cv_answers.specs.declared.answer.Answer.TheVariants.{Granted, Done, C
 abbrev pub is_answer : Answer → Bool
 is_answer (Refused refusal) = is_refusal refusal
 is_answer _ = true
-
--- the numbers of a token have 64 bits, a digest has twenty bytes, and a path is what its text says, as their types have it
-abbrev pub IsWhole : Answer → Type 0
-IsWhole (Granted token revision root) = IsToken token × IsDigest root
-IsWhole (Committed revision root) = IsDigest root
-IsWhole (PathBusy token remaining) = IsToken token
-IsWhole (Refused refusal) = IsWholeRefusal refusal
-IsWhole _ = Unit {0}
 
 abbrev pub granted_in : Data → Result Answer MessageFault
 granted_in d =

@@ -1,3 +1,5 @@
 pub mod Refusal
+pub mod RefusalInner
 pub mod Answer
 pub mod AnswerText
+pub mod AnswerTextInner

@@ -1,11 +1,10 @@
 -- Refusals as JSON.
-use Rattle.std.specs.Prelude.{◌≡◌, ℕ, Bool, true, List, [], ◌∷◌, codes, take, drop, find, option_map, option_and_then, Option, Result, Ok, if◌then◌else◌}
+use Rattle.std.specs.Prelude.{ℕ, Bool, true, List, [], ◌∷◌, codes, take, drop, find, option_map, option_and_then, Option, Result, Ok, if◌then◌else◌}
 use Rattle.std.specs.Result.{result_ok}
 use Rattle.std.specs.Str.{bytes_eq}
 use Rattle.serde_json.specs.Data.{Data, Members, string, number, unsigned, object, member, no_members}
 use Rattle.serde_json.specs.Find.{get}
 use Rattle.hex.specs.Hex.{encode_lower}
-use Rattle.cv_base.specs.Digest.{IsDigest}
 use Rattle.cv_base.specs.ObjectId.{object_id, suffix_of, id_text}
 use Rattle.cv_base.specs.Path.{Path, text_of}
 use Rattle.cv_base.specs.PathText.{path_of}
@@ -97,20 +96,6 @@ is_refusal (MissingMember name) = is_named name
 is_refusal (WrongType name) = is_named name
 is_refusal (BadValue name) = is_named name
 is_refusal _ = true
-
--- the text of a path says the path
-abbrev pub IsSaidByText : Path → Type 0
-IsSaidByText path = path_of (text_of path) ≡ Ok path
-
--- a digest has twenty bytes, and a path is what its text says, as their types have it
-abbrev pub IsWholeRefusal : Refusal → Type 0
-IsWholeRefusal (Collision id) = IsDigest id.hash
-IsWholeRefusal (MissingObject id) = IsDigest id.hash
-IsWholeRefusal (BadCatalogue id) = IsDigest id.hash
-IsWholeRefusal (PathCollision path second) = IsSaidByText path × IsSaidByText second
-IsWholeRefusal (CatalogueFull path) = IsSaidByText path
-IsWholeRefusal (Damaged id found) = IsDigest id.hash × IsDigest found
-IsWholeRefusal _ = Unit {0}
 
 -- ---- as it is read
 

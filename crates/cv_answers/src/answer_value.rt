@@ -5,7 +5,7 @@ ghost use Rattle.serde_json.specs.Data.{put, string, array, object, member, no_m
 ghost use Rattle.serde_json.specs.View.{view, items_view, members_view};
 ghost use Rattle.cv_answers.specs.Answer.{granted_data, done_data, committed_data, lease_item_data, leases_data, repos_data, path_busy_data, answer_data};
 ghost use Rattle.cv_messages.specs.Spelling.{IsToken};
-ghost use Rattle.cv_answers.specs.AnswerText.{IsWhole};
+ghost use Rattle.cv_answers.specs.AnswerTextInner.{IsWhole};
 
 use crate::answer::Answer;
 use crate::lease_item::LeaseItem;

@@ -4,7 +4,8 @@ ghost use Rattle.cv_base.specs.Digest.{IsDigest};
 ghost use Rattle.cv_base.specs.Path.{text_of};
 ghost use Rattle.serde_json.specs.Data.{put, string};
 ghost use Rattle.serde_json.specs.View.{view, members_view};
-ghost use Rattle.cv_answers.specs.Refusal.{reason_members, member_members, object_members, revision_members, path_collision_members, refusal_members, refusal_data, IsSaidByText, IsWholeRefusal};
+ghost use Rattle.cv_answers.specs.Refusal.{reason_members, member_members, object_members, revision_members, path_collision_members, refusal_members, refusal_data};
+ghost use Rattle.cv_answers.specs.RefusalInner.{IsSaidByText, IsWholeRefusal};
 
 use crate::refusal::Refusal;
 use cv_base::{NoMemory, ObjectId, RepoPath};

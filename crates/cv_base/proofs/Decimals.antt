@@ -7,7 +7,7 @@ use Rattle.std.specs.Str.Parse.{ParsesUnsigned}
 use Rattle.std.proofs.lemmas.Str.Parse.{IsNumeralModel, numerals_by_fold, parse_plain, not_in_digits}
 use Rattle.std.proofs.lemmas.Fmt.{decimal-digits_value, decimal_digit, first_decimal, IsAscii-decimal, digits_decimal}
 use Rattle.std.proofs.lemmas.Str.{IsUtf8-from_ascii}
-use Rattle.cv_base.specs.Decimal.{MatchPlain}
+use Rattle.cv_base.specs.DecimalInner.{MatchPlain}
 
 -- the number that digits say behind others
 abbrev read_on : ℕ → List ℕ → ℕ

@@ -1,4 +1,4 @@
-pub mod Attr
+pub mod AttrInner
 pub mod Counts
 pub mod Digest
 pub mod KeyId
@@ -9,10 +9,11 @@ pub mod Told
 pub mod Path
 pub mod PathOrder
 pub mod PathText
-pub mod Decimal
+pub mod PathTextInner
+pub mod DecimalInner
 pub mod Sequence
 pub mod Tag
 pub mod Target
-pub mod TextOrder
+pub mod TextOrderInner
 pub mod Token
 pub mod Unless

@@ -2,7 +2,7 @@
 use Rattle.std.specs.Prelude.{ℕ, ◌≡◌, ◌==◌, ◌⊎◌, not, nat_lt, bytes_eq, List, [], ◌∷◌, ◌++◌, length, Option, Some, None, Result, Ok, Err, position, if◌then◌else◌}
 use Rattle.std.specs.List.{slice_split}
 use Rattle.std.specs.Str.{is_utf8}
-use Rattle.cv_base.specs.Path.{Path, IsPath, text_of, is_path_name}
+use Rattle.cv_base.specs.Path.{Path, text_of, is_path_name}
 use Rattle.cv_base.specs.declared.path_fault.PathFault.{PathFault}
 use Rattle.cv_base.specs.declared.path_fault.PathFault.TheVariants.{BadName, TooLong, TooDeep}
 
@@ -64,7 +64,3 @@ abbrev pub joined : Path → List ℕ → Result Path PathFault
 joined path name =
     let longer = path ++ name ∷ [] in
     within_limits (length (text_of longer)) longer (if is_path_name name then None else Some 0)
-
--- a path with this name behind its own is one
-abbrev pub Joins : Path → List ℕ → Type 0
-Joins path name = (joined path name ≡ Ok (path ++ name ∷ [])) × IsPath (path ++ name ∷ [])

@@ -1,6 +1,6 @@
 //! Decimals, as all formats write them.
 ghost use Rattle.std.specs.Prelude.{◌≡◌, ◌<◌, ◌^◌, ℕ, Some, decimal, IfSome};
-ghost use Rattle.cv_base.specs.Decimal.{MatchPlain};
+ghost use Rattle.cv_base.specs.DecimalInner.{MatchPlain};
 
 /// The number below 2^64 that a text of decimal digits says. The text has no sign, and no leading zero unless it is `0`:
 /// it is what `to_string` writes of the number. It takes no memory.

@@ -2,7 +2,8 @@
 ghost use Rattle.std.specs.Prelude.{ℕ, List, Err, MatchOption, ◌≡◌, ◌≤◌, ◌↔◌, ◌∷◌, ◌++◌, [], length, map, Some, refl, IfOk, IfSome, IsTrue, string_bytes, position, not};
 ghost use Rattle.std.specs.Cmp.{eq_by_cmp_equiv, partial_equiv_from_equiv};
 ghost use Rattle.cv_base.specs.Path.{parent, path_cmp, same_path, covers, overlap, text_of, key_of, parent_key_of, last_name_of, is_path_name, IsPath};
-ghost use Rattle.cv_base.specs.PathText.{Spells, path_of, path_of_bare, only_path, path_named, joined, Joins, parts_of, names_of, bad_name, without_last_slash};
+ghost use Rattle.cv_base.specs.PathText.{Spells, path_of, path_of_bare, only_path, path_named, joined, parts_of, names_of, bad_name, without_last_slash};
+ghost use Rattle.cv_base.specs.PathTextInner.{Joins};
 ghost use Rattle.cv_base.specs.Unless.{IsUnless};
 ghost use Rattle.cv_base.specs.declared.path_fault.PathFault.TheVariants as faults;
 ghost use Rattle.cv_base.specs.PathOrder.{path_total, paths_ordered};

@@ -2,7 +2,7 @@
 ghost use Rattle.std.specs.Prelude.{◌≡◌, ◌≢◌, ◌++◌, List, ℕ, true};
 ghost use Rattle.std.specs.List.{list_all};
 ghost use Rattle.cv_base.specs.Path.{text_of, is_path_byte, name_cmp};
-ghost use Rattle.cv_base.specs.TextOrder.{Follows};
+ghost use Rattle.cv_base.specs.TextOrderInner.{Follows};
 
 use crate::repo_path::RepoPath;
 use std::cmp::Ordering;

@@ -26,7 +26,7 @@ use Rattle.cv_cut.specs.Told.{node_of}
 use Rattle.cv_rows.proofs.Lemmas.{one_place, stands_contained}
 use Rattle.cv_load.specs.Growth.{IsRootOf, IsRowNode}
 use Rattle.cv_load.proofs.Lemmas.{each_all, each_more, one_row, some_there}
-use Rattle.cv_checkout.specs.Growing.{AreNodes, AreThere, IsGrown, KeepLimits}
+use Rattle.cv_checkout.specs.GrowingInner.{AreNodes, AreThere, IsGrown, KeepLimits}
 use Rattle.cv_checkout.specs.Progress.{ComesTo, StartsFrom}
 use Rattle.cv_checkout.proofs.Zips.{zip_push}
 

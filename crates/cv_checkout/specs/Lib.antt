@@ -1,6 +1,6 @@
 pub mod Wanting
 pub mod Progress
 pub mod Giving
-pub mod Opening
-pub mod Growing
+pub mod OpeningInner
+pub mod GrowingInner
 pub mod InTree

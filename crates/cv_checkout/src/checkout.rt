@@ -11,7 +11,7 @@ ghost use Rattle.cv_cut.specs.Own.{AreOwn};
 ghost use Rattle.cv_checkout.specs.Wanting.{next_of};
 ghost use Rattle.cv_checkout.specs.Progress.{begun};
 ghost use Rattle.cv_checkout.specs.Giving.{Gives};
-ghost use Rattle.cv_checkout.specs.Opening.{Judges};
+ghost use Rattle.cv_checkout.specs.OpeningInner.{Judges};
 ghost use Rattle.cv_checkout.specs.InTree.{IsOn, IsIdToward, IsBase};
 ghost use Rattle.cv_checkout.specs.declared.fault.CheckoutFault.TheVariants as faults;
 

@@ -4,7 +4,7 @@ ghost use Rattle.std.specs.List.Sorted.{IsPermutation};
 ghost use Rattle.cv_base.specs.Path.{path_cmp};
 ghost use Rattle.cv_rows.specs.Catalogue.{IsCatalogue};
 ghost use Rattle.cv_load.specs.Growth.{IsRootOf};
-ghost use Rattle.cv_checkout.specs.Growing.{AreNodes, AreThere, IsGrown, KeepLimits};
+ghost use Rattle.cv_checkout.specs.GrowingInner.{AreNodes, AreThere, IsGrown, KeepLimits};
 ghost use Rattle.cv_checkout.specs.Progress.{ComesTo};
 
 use cv_base::{NoMemory, RepoPath};

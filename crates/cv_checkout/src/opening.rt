@@ -1,6 +1,6 @@
 //! Bytes that are given for a catalogue.
 ghost use Rattle.std.specs.Prelude.{◌≡◌, ◌↔◌, IfSome, IsTrue, length};
-ghost use Rattle.cv_checkout.specs.Opening.{IsServed, Opens};
+ghost use Rattle.cv_checkout.specs.OpeningInner.{IsServed, Opens};
 
 use crate::fault::CheckoutFault;
 use crate::wanted::{Wanted, id_of};

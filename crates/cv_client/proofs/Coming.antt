@@ -25,7 +25,7 @@ use Rattle.cv_client.specs.Exchange.{Links}
 use Rattle.cv_client.specs.Fetch.{Fetches}
 use Rattle.cv_client.specs.Answer.{Given, bytes_in, Comes, stays, goes, StaysOn, Answers, answered, cut as cut_off, told_by}
 use Rattle.cv_client.specs.Faults.{lost_by}
-use Rattle.cv_client.specs.Giving.{GoesOn, GivesAll, all, cut}
+use Rattle.cv_client.specs.GivingInner.{GoesOn, GivesAll, all, cut}
 use Rattle.cv_client.specs.declared.exchanging.ExchangeFault.{ExchangeFault}
 use Rattle.cv_client.specs.declared.url.Url.{Url}
 use Rattle.std.specs.declared.result.Result.{Result}

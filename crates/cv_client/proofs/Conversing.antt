@@ -19,7 +19,7 @@ use Rattle.cv_http.specs.declared.reply.SendFault.{SendFault}
 use Rattle.cv_http.specs.declared.reply.SendFault.TheVariants as send_fault
 use Rattle.cv_client.specs.Asking.{IsBehind}
 use Rattle.cv_client.specs.Exchange.{Converses, IsTold, TookFront, TookAll, bad, write_failed, read_failed, no_memory}
-use Rattle.cv_client.specs.Faults.{of_send, of_read}
+use Rattle.cv_client.specs.FaultsInner.{of_send, of_read}
 
 -- what comes onto nothing is all that is told then
 pub all_of : (old : Option (List ℕ)) (new : Option (List ℕ)) (text : List ℕ) → WhereTold old (λ b. b ≡ []) → new ≡ onto old text → WhereTold new (λ b. b ≡ text)

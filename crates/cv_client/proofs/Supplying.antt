@@ -23,8 +23,9 @@ use Rattle.cv_resolver.specs.declared.stage.Stage.TheVariants.{Walks, Reads, End
 use Rattle.cv_client.specs.Answer.{told_by}
 use Rattle.cv_client.specs.Exchange.{Links}
 use Rattle.cv_client.specs.Faults.{lost_by, bad_by}
-use Rattle.cv_client.specs.Giving.{GivesAll, all}
-use Rattle.cv_client.specs.Served.{Files, HasObject, IsFetched, IsManifestOr, IsUnblamed, IsSupplied, IsWholeOr}
+use Rattle.cv_client.specs.GivingInner.{GivesAll, all}
+use Rattle.cv_client.specs.Served.{Files, HasObject, IsFetched, IsManifestOr, IsWholeOr}
+use Rattle.cv_client.specs.ServedInner.{IsUnblamed, IsSupplied}
 use Rattle.cv_client.specs.declared.exchanging.ExchangeFault.{ExchangeFault}
 use Rattle.cv_client.specs.declared.exchanging.ExchangeFault.TheVariants as exchange_fault
 use Rattle.cv_client.specs.declared.url.Url.{Url}

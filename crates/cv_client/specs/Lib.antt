@@ -2,11 +2,13 @@ pub mod Answer
 pub mod Asking
 pub mod Exchange
 pub mod Faults
+pub mod FaultsInner
 pub mod Fetch
-pub mod Giving
+pub mod GivingInner
 pub mod Pin
 pub mod Requests
 pub mod Served
+pub mod ServedInner
 pub mod Texts
 pub mod Told
 pub mod Url

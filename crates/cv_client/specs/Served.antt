@@ -15,9 +15,7 @@ use Rattle.cv_manifest.specs.declared.manifest.Manifest.{Manifest}
 use Rattle.cv_resolver.specs.Kept.{AreOwn}
 use Rattle.cv_resolver.specs.Look.{Finding, OnWay, IsFound, look}
 use Rattle.cv_resolver.specs.Resolver.{Client, IsOn}
-use Rattle.cv_resolver.specs.Stage.{IsBlameless}
 use Rattle.cv_resolver.specs.declared.question.Question.{Question}
-use Rattle.cv_resolver.specs.declared.resolver.Asked.{Asked}
 use Rattle.cv_resolver.specs.declared.found.Found.{Found}
 use Rattle.cv_resolver.specs.declared.found.ClientFault.{ClientFault}
 use Rattle.cv_client.specs.Exchange.{Links}
@@ -91,18 +89,6 @@ IsFetched content (Ok None) = ⊥
 IsFetched content (Err exchange_fault.LinkFailed) = Unit {0}
 IsFetched content (Err exchange_fault.BadReply) = ⊥
 IsFetched content (Err exchange_fault.NoMemory) = Unit {0}
-
--- the question isn't answered by a fault of the server's
-abbrev pub IsUnblamed : Option Asked → Type 0
-IsUnblamed None = Unit {0}
-IsUnblamed (Some a) = IsBlameless a.stage
-
--- the question came to its answer in the tree, and the server isn't blamed, unless the link failed or memory was wanted
-abbrev pub IsSupplied : Nodes → Client → Result (Unit {0}) ExchangeFault → Type 0
-IsSupplied t r (Ok done) = IsOn t r × IsUnblamed r.asked
-IsSupplied t r (Err exchange_fault.LinkFailed) = Unit {0}
-IsSupplied t r (Err exchange_fault.BadReply) = ⊥
-IsSupplied t r (Err exchange_fault.NoMemory) = Unit {0}
 
 -- the manifest is this, unless the link failed or memory was wanted
 abbrev pub IsManifestOr : Manifest → Result Manifest AskFault → Type 0

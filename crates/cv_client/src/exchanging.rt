@@ -6,7 +6,7 @@ ghost use Rattle.cv_ports.specs.Dial.{came_of};
 ghost use Rattle.cv_ports.specs.Streams.{Look};
 ghost use Rattle.cv_client.specs.Asking.{IsBehind, IsRead};
 ghost use Rattle.cv_client.specs.Exchange.{Converses, Exchanges, IsTold};
-ghost use Rattle.cv_client.specs.Faults.{of_send, of_read};
+ghost use Rattle.cv_client.specs.FaultsInner.{of_send, of_read};
 ghost use Rattle.cv_client.specs.declared.exchanging.ExchangeFault.TheVariants.{LinkFailed};
 
 use crate::url::Url;

@@ -16,7 +16,8 @@ use Rattle.cv_base.specs.PathOrder.{path_total}
 use Rattle.cv_base.proofs.Laws.{first_true, second_true}
 use Rattle.cv_tree.specs.Tree.{Nodes}
 use Rattle.cv_tree.specs.declared.node.Node.{Node}
-use Rattle.cv_cut.specs.Cut.{StandFrom, is_other, region_at}
+use Rattle.cv_cut.specs.Cut.{is_other, region_at}
+use Rattle.cv_cut.specs.CutInner.{StandFrom}
 use Rattle.cv_cut.proofs.Members.{first_there, later_there, first_or_later, passes, passing}
 use Rattle.cv_cut.proofs.Entries.{below_each}
 use Rattle.cv_cut.proofs.Between.{below_covered, other_stands, not_in_region, in_region, outside}

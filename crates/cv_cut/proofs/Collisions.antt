@@ -15,8 +15,10 @@ use Rattle.cv_tree.specs.declared.node.Node.{Node}
 use Rattle.cv_rows.specs.Made.{AreApart}
 use Rattle.cv_cut.specs.Cuts.{cuts_of, is_cut, region}
 use Rattle.cv_cut.specs.Catalogues.{IsInRegion, SharesKey}
-use Rattle.cv_cut.specs.Cut.{AreSame, ShareKey, IsCollision, IsCutFault, IsFirstFault, keys_at, region_at}
-use Rattle.cv_cut.specs.Piece.{AreCutsWithin, IsFaultAmong, IsSharedAmong, cuts_within}
+use Rattle.cv_cut.specs.Cut.{keys_at, region_at}
+use Rattle.cv_cut.specs.CutInner.{AreSame, ShareKey, IsCollision, IsCutFault, IsFirstFault}
+use Rattle.cv_cut.specs.Piece.{cuts_within}
+use Rattle.cv_cut.specs.PieceInner.{AreCutsWithin, IsFaultAmong, IsSharedAmong}
 use Rattle.cv_cut.specs.Region.{KeysApart}
 use Rattle.cv_cut.specs.declared.cut_fault.CutFault.{CutFault}
 use Rattle.cv_cut.specs.declared.cut_fault.CutFault.TheVariants.{PathCollision, CatalogueFull, NoMemory}

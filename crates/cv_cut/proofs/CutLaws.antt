@@ -20,7 +20,8 @@ use Rattle.cv_rows.specs.declared.row.Row.{Row}
 use Rattle.cv_rows.specs.declared.nested.Nested.{Nested}
 use Rattle.cv_cut.specs.Cuts.{is_cut, cuts_of, region}
 use Rattle.cv_cut.specs.Catalogues.{cat, entry_of, SharesKey, IsFull, Fits}
-use Rattle.cv_cut.specs.Cut.{HasMade, keys_at, row_in, nested_in, is_other, cuts_below, catalogue_object, region_at}
+use Rattle.cv_cut.specs.Cut.{keys_at, row_in, nested_in, is_other, catalogue_object, region_at}
+use Rattle.cv_cut.specs.CutInner.{HasMade, cuts_below}
 use Rattle.cv_cut.proofs.RegionRules.{stands_at_cut}
 use Rattle.cv_cut.proofs.RegionLists.{row_list, nested_list, keys_apart, keys_at_are, rows_tell_keys, texts_apart, are_parts}
 use Rattle.cv_cut.proofs.CanonicalRules.{cat_in_order, order_length}

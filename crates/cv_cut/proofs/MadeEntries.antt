@@ -15,7 +15,8 @@ use Rattle.cv_tree.specs.declared.node.Node.{Node}
 use Rattle.cv_rows.specs.declared.nested.Nested.{Nested}
 use Rattle.cv_cut.specs.Cuts.{cuts_of, is_marked, is_inner, region}
 use Rattle.cv_cut.specs.Catalogues.{entry_of, cat}
-use Rattle.cv_cut.specs.Cut.{HasMade, IsOtherEntry, rest_of, is_other, cuts_below, nested_in, region_at}
+use Rattle.cv_cut.specs.Cut.{rest_of, is_other, nested_in, region_at}
+use Rattle.cv_cut.specs.CutInner.{HasMade, IsOtherEntry, cuts_below}
 use Rattle.cv_cut.proofs.Members.{passing}
 use Rattle.cv_cut.proofs.Between.{marked-at, other_cut}
 use Rattle.cv_cut.proofs.Bools.{none_some}

@@ -21,7 +21,8 @@ use Rattle.cv_rows.proofs.Lemmas.{stands_contained, same_by_key, fits_there}
 use Rattle.cv_cut.specs.Open.{FitsRow}
 use Rattle.cv_cut.specs.Reached.{ReachedFrom, Reaches, Place, Decodes, FitsPlace, HasCatalogue, Misstates, BadFrom}
 use Rattle.cv_cut.specs.Good.{HasSize}
-use Rattle.cv_cut.specs.Opening.{MayFailFrom, IsUnread, Decoded, Fetched, Sizes, Opens, OpensNested, IsTransitionOf, HasOtherDigest, IsUndecodable, IsBadNested, of_size, undecodable, below_id}
+use Rattle.cv_cut.specs.Opening.{MayFailFrom, IsUnread, Sizes, Opens, OpensNested, IsTransitionOf, HasOtherDigest, IsUndecodable, IsBadNested, of_size, undecodable, below_id}
+use Rattle.cv_cut.specs.OpeningInner.{Decoded, Fetched}
 use Rattle.cv_cut.specs.declared.load_fault.LoadFault.{LoadFault}
 use Rattle.cv_cut.specs.declared.load_fault.LoadFault.TheVariants as fault
 

@@ -22,8 +22,10 @@ use Rattle.cv_rows.specs.declared.nested.Nested.{Nested}
 use Rattle.cv_rows.proofs.Lemmas.{covers_below}
 use Rattle.cv_cut.specs.Cuts.{is_cut, is_file, is_marked, cuts_of, region}
 use Rattle.cv_cut.specs.Catalogues.{SharesKey, IsInRegion}
-use Rattle.cv_cut.specs.Cut.{HasMade, IsCollision, is_other, cuts_below, region_at}
-use Rattle.cv_cut.specs.Piece.{HasNoFiles, HasOnly, IsPiece, IsReady, IsFaultAmong, IsFullAmong, IsSharedAmong, IsSharedWithin, cuts_within, region_within}
+use Rattle.cv_cut.specs.Cut.{is_other, region_at}
+use Rattle.cv_cut.specs.CutInner.{HasMade, IsCollision, cuts_below}
+use Rattle.cv_cut.specs.Piece.{HasOnly, IsPiece, IsReady, IsFullAmong, IsSharedWithin, cuts_within, region_within}
+use Rattle.cv_cut.specs.PieceInner.{HasNoFiles, IsFaultAmong, IsSharedAmong}
 use Rattle.cv_cut.specs.Region.{KeysApart}
 use Rattle.cv_cut.specs.declared.pieces.Piece.{Piece}
 use Rattle.cv_cut.specs.declared.cut_fault.CutFault.{CutFault}

@@ -10,7 +10,7 @@ use Rattle.std.proofs.lemmas.Map.Text.{is_eq-slice_cmp}
 use Rattle.std.proofs.lemmas.Slice.Eq.{bytes_eq-Decides}
 use Rattle.std.proofs.lemmas.Option.{slice_get_within}
 use Rattle.cv_rows.specs.Made.{AreApart}
-use Rattle.cv_cut.specs.Cut.{AreSame}
+use Rattle.cv_cut.specs.CutInner.{AreSame}
 use Rattle.cv_cut.proofs.Bools.{none_some}
 
 abbrev Map : Type 0

@@ -19,7 +19,7 @@ use Rattle.cv_base.specs.Path.{Path, name_cmp, path_cmp, same_name, behind, cove
 use Rattle.cv_base.specs.PathOrder.{path_total, name_exact, same_name_is, same_name_itself}
 use Rattle.cv_base.proofs.Laws.{behind-Some, behind-append}
 use Rattle.cv_tree.specs.declared.node.Node.{Node}
-use Rattle.cv_cut.specs.Cut.{StandFrom}
+use Rattle.cv_cut.specs.CutInner.{StandFrom}
 use Rattle.cv_cut.proofs.Members.{first_there, later_there}
 use Rattle.cv_cut.proofs.Between.{behind_it}
 use Rattle.cv_cut.proofs.RegionPaths.{keys_rise}

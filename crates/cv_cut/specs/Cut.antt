@@ -1,14 +1,8 @@
 -- What a tree is cut into.
-use Rattle.std.specs.Prelude.{◌≡◌, ℕ, ◌<◌, ◌≤◌, List, [], ◌++◌, Bool, true, not, Some, IsSome, map, reverse, length, slice_get, unwrap_or}
-use Rattle.std.specs.List.{All, filter}
-use Rattle.std.specs.Ordering.{is_lt}
-use Rattle.std.specs.FinMap.{is_sorted}
-use Rattle.std.specs.BTreeMap.{BTreeMap}
-use Rattle.std.specs.BTreeMap as tree
+use Rattle.std.specs.Prelude.{ℕ, List, [], ◌++◌, Bool, map, reverse, length, unwrap_or}
 use Rattle.sha1.specs.Sha1.{sha1}
-use Rattle.cv_base.specs.Path.{Path, path_cmp, behind, key_of}
+use Rattle.cv_base.specs.Path.{Path, behind, key_of}
 use Rattle.cv_base.specs.ObjectId.{object_id}
-use Rattle.cv_base.specs.declared.limits.TheConstants.{OBJECT_LIMIT}
 use Rattle.cv_base.specs.declared.object.Object.{Object}
 use Rattle.cv_base.specs.declared.id.Kind.TheVariants.{Catalogue}
 use Rattle.cv_tree.specs.Tree.{Nodes, at}
@@ -16,19 +10,12 @@ use Rattle.cv_tree.specs.declared.node.Node.{Node}
 use Rattle.cv_rows.specs.declared.row.Row.{Row}
 use Rattle.cv_rows.specs.declared.nested.Nested.{Nested}
 use Rattle.cv_cut.specs.Cuts.{cuts_of, is_inner, region}
-use Rattle.cv_cut.specs.Catalogues.{kind_of, row_of, entry_of, cat, root_of, SharesKey, IsFull}
+use Rattle.cv_cut.specs.Catalogues.{kind_of, row_of, entry_of, cat, root_of}
 use Rattle.cv_cut.specs.declared.tree_cut.Cut.{Cut}
-use Rattle.cv_cut.specs.declared.cut_fault.CutFault.{CutFault}
-use Rattle.cv_cut.specs.declared.cut_fault.CutFault.TheVariants.{PathCollision, CatalogueFull, NoMemory}
 
 -- the region of a cut, with its paths from the root of the repository on
 abbrev pub region_at : Nodes → Path → List (Path × Node)
 region_at t c = map (λ e. (c ++ e.0, e.1)) (region (at t c))
-
--- entries in the order of their paths, of which none stands before p
-pub record StandFrom (p : Path) (es : List (Path × Node)) : Type 0 where
-  pub rises : is_sorted path_cmp es ≡ true
-  pub from : All (λ e. not (is_lt (path_cmp e.0 p)) ≡ true) es
 
 -- the catalogue of the cut at a path, under its id
 abbrev pub catalogue_object : Nodes → Path → Object
@@ -60,58 +47,6 @@ is_other t c p = is_inner (at t c) (rest_of c p)
 abbrev pub nested_in : Nodes → Path → Nested
 nested_in t d = entry_of d (cat t d)
 
--- the other cuts that the cut at c covers
-abbrev pub cuts_below : Nodes → Path → List Path
-cuts_below t c = filter (is_other t c) (cuts_of t)
-
--- what has been made: nested entries of cuts, among them those of all of a list, and none of more than 16 MiB
-pub record HasMade (t : Nodes) (cuts : List Path) (made : BTreeMap Path Nested) : Type 0 where
-  pub all : All (λ d. IsSome (tree.get path_cmp made d)) cuts
-  pub each : (d : Path) (n : Nested) → tree.get path_cmp made d ≡ Some n → n ≡ nested_in t d
-  pub sizes : (d : Path) (n : Nested) → tree.get path_cmp made d ≡ Some n → n.size ≤ OBJECT_LIMIT
-
--- the entry is that of a path which is another cut
-pub record IsOtherEntry (t : Nodes) (c p : Path) (n : Nested) : Type 0 where
-  pub other : is_other t c p ≡ true
-  pub is : n ≡ nested_in t p
-  pub size : n.size ≤ OBJECT_LIMIT
-
--- the fault names two paths that share a key, or a cut whose catalogue is full, or is want of memory
-abbrev pub IsCutFault : Nodes → CutFault → Type 0
-IsCutFault t (PathCollision first second) = SharesKey t first second
-IsCutFault t (CatalogueFull c) = IsFull t c
-IsCutFault t NoMemory = Unit {0}
-
--- and no catalogue is said to be full where two paths share a key
-abbrev pub IsFirstFault : Nodes → CutFault → Type 0
-IsFirstFault t (PathCollision first second) = SharesKey t first second
-IsFirstFault t (CatalogueFull c) = IsFull t c × ((p q : Path) → SharesKey t p q → ⊥)
-IsFirstFault t NoMemory = Unit {0}
-
--- ---- collisions
-
--- two places of a list with paths of one key
-pub record ShareKey (region : List (Path × Node)) (p q : Path) : Type 0 where
-  pub first : ℕ
-  pub second : ℕ
-  pub order : first < second
-  pub one : slice_get (map (λ e. e.0) region) first ≡ Some p
-  pub other : slice_get (map (λ e. e.0) region) second ≡ Some q
-  pub keys : key_of p ≡ key_of q
-
 -- the keys of the paths
 abbrev pub keys_at : List (Path × Node) → List (List ℕ)
 keys_at region = map (λ e. key_of e.0) region
-
--- the same key stands at two places
-pub record AreSame (keys : List (List ℕ)) (i j : ℕ) : Type 0 where
-  pub key : List ℕ
-  pub order : i < j
-  pub one : slice_get keys i ≡ Some key
-  pub other : slice_get keys j ≡ Some key
-
--- the fault names two such paths, or is want of memory
-abbrev pub IsCollision : List (Path × Node) → CutFault → Type 0
-IsCollision region (PathCollision first second) = ShareKey region first second
-IsCollision region (CatalogueFull c) = ⊥
-IsCollision region NoMemory = Unit {0}

@@ -1,8 +1,11 @@
 pub mod Cuts
 pub mod Catalogues
 pub mod Cut
+pub mod CutInner
 pub mod Above
+pub mod AboveInner
 pub mod Region
+pub mod RegionInner
 pub mod Replaced
 pub mod Over
 pub mod Told
@@ -10,6 +13,9 @@ pub mod Open
 pub mod Means
 pub mod Own
 pub mod Piece
+pub mod PieceInner
 pub mod Reached
+pub mod ReachedInner
 pub mod Good
 pub mod Opening
+pub mod OpeningInner

@@ -65,24 +65,6 @@ Sizes shelf id size owner (Err fault.Failed) = Unit {0}
 Sizes shelf id size owner (Err (fault.Damaged x found)) = ⊥
 Sizes shelf id size owner (Err fault.NoMemory) = Unit {0}
 
--- the bytes under an id, or why not
-abbrev pub Fetched : Shelf → ObjectId → Result (List ℕ) LoadFault → Type 0
-Fetched shelf id (Ok bytes) = (shelf id ≡ Some bytes) × (sha1 bytes ≡ id.hash)
-Fetched shelf id (Err (fault.Missing x)) = (x ≡ id) × (shelf id ≡ None)
-Fetched shelf id (Err (fault.Bad x)) = ⊥
-Fetched shelf id (Err fault.Failed) = Unit {0}
-Fetched shelf id (Err (fault.Damaged x found)) = (x ≡ id) × HasOtherDigest shelf id found
-Fetched shelf id (Err fault.NoMemory) = Unit {0}
-
--- the catalogue that the bytes under an id are at a place, or why not
-abbrev pub Decoded : Place → List ℕ → ObjectId → Result Contents LoadFault → Type 0
-Decoded place bytes id (Ok c) = Decodes place bytes c
-Decoded place bytes id (Err (fault.Missing x)) = ⊥
-Decoded place bytes id (Err (fault.Bad x)) = (x ≡ id) × ((c : Contents) → Decodes place bytes c → ⊥)
-Decoded place bytes id (Err fault.Failed) = ⊥
-Decoded place bytes id (Err (fault.Damaged x found)) = ⊥
-Decoded place bytes id (Err fault.NoMemory) = Unit {0}
-
 -- ---- catalogues
 
 -- bytes stand under the id which are no catalogue at the place

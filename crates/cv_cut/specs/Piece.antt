@@ -1,11 +1,11 @@
 -- A part that is to be set at a path.
-use Rattle.std.specs.Prelude.{◌≡◌, ◌≢◌, true, false, List, [], Contains, filter, reverse}
-use Rattle.std.specs.FinMap.{entries, get}
+use Rattle.std.specs.Prelude.{◌≡◌, ◌≢◌, true, List, [], Contains, filter, reverse}
+use Rattle.std.specs.FinMap.{entries}
 use Rattle.cv_base.specs.Path.{Path, covers}
 use Rattle.cv_tree.specs.Tree.{Nodes, IsTree, at}
 use Rattle.cv_tree.specs.declared.node.Node.{Node}
 use Rattle.cv_rows.specs.Made.{AreApart}
-use Rattle.cv_cut.specs.Cuts.{is_cut, is_file, cuts_of}
+use Rattle.cv_cut.specs.Cuts.{is_cut, cuts_of}
 use Rattle.cv_cut.specs.Catalogues.{SharesKey, IsFull}
 use Rattle.cv_cut.specs.Cut.{region_at, keys_at}
 use Rattle.cv_cut.specs.Region.{KeysApart}
@@ -17,15 +17,6 @@ use Rattle.cv_cut.specs.declared.cut_fault.CutFault.TheVariants.{PathCollision, 
 abbrev pub cuts_within : Nodes → Path → List Path
 cuts_within t p = filter (λ c. covers p c) (cuts_of t)
 
--- all cuts at and below some path, those nested in another before it
-pub record AreCutsWithin (t : Nodes) (cuts : List Path) : Type 0 where
-  pub path : Path
-  pub is : cuts ≡ reverse (cuts_within t path)
-
--- no path is that of a file
-abbrev pub HasNoFiles : Nodes → Type 0
-HasNoFiles t = (q : Path) → is_file (get t q) ≡ false
-
 -- the part stands at the path, and no other cut than the root's but those at the path and below
 pub record HasOnly (t : Nodes) (p : Path) (s : Nodes) : Type 0 where
   pub part : at t p ≡ s
@@ -34,18 +25,6 @@ pub record HasOnly (t : Nodes) (p : Path) (s : Nodes) : Type 0 where
 -- what the root's region has at the path and below
 abbrev pub region_within : Nodes → Path → List (Path × Node)
 region_within t p = filter (λ e. covers p e.0) (region_at t [])
-
--- the fault names two paths that share a key in the region of one of these cuts, or one of them whose catalogue is full
-abbrev pub IsFaultAmong : Nodes → List Path → CutFault → Type 0
-IsFaultAmong t cuts (PathCollision a b) = (s : SharesKey t a b) × Contains cuts s.cut
-IsFaultAmong t cuts (CatalogueFull c) = IsFull t c × Contains cuts c
-IsFaultAmong t cuts NoMemory = Unit {0}
-
--- it names two such paths
-abbrev pub IsSharedAmong : Nodes → List Path → CutFault → Type 0
-IsSharedAmong t cuts (PathCollision a b) = (s : SharesKey t a b) × Contains cuts s.cut
-IsSharedAmong t cuts (CatalogueFull c) = ⊥
-IsSharedAmong t cuts NoMemory = Unit {0}
 
 -- two paths of one region, at a path or below, share a key
 pub record SharesWithin (t : Nodes) (p a b : Path) : Type 0 where

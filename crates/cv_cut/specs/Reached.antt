@@ -78,9 +78,6 @@ pub record BadFrom (shelf : Shelf) (from : List ℕ) (start : Place) (x : Object
 abbrev pub ReachesCatalogue : Shelf → List ℕ → List ℕ → Place → Type 0
 ReachesCatalogue shelf root = Reaches shelf root root_place
 
-abbrev pub Reached : Shelf → List ℕ → ObjectId → Type 0
-Reached shelf root = ReachedFrom shelf root root_place
-
 abbrev pub Lacking : Shelf → List ℕ → ObjectId → Type 0
 Lacking shelf root = LackingFrom shelf root root_place
 

@@ -6,7 +6,8 @@ ghost use Rattle.cv_base.specs.Told.{WhereTold};
 ghost use Rattle.cv_base.specs.declared.id.Kind.TheVariants as id_kind;
 ghost use Rattle.cv_ports.specs.Calls.{raised};
 ghost use Rattle.cv_rows.specs.Catalogue.{IsCatalogue};
-ghost use Rattle.cv_cut.specs.Opening.{Decoded, Opens, OpensNested, FetchesOne};
+ghost use Rattle.cv_cut.specs.Opening.{Opens, OpensNested, FetchesOne};
+ghost use Rattle.cv_cut.specs.OpeningInner.{Decoded};
 ghost use Rattle.cv_cut.specs.declared.load_fault.LoadFault.TheVariants as faults;
 
 use crate::load_fault::LoadFault;

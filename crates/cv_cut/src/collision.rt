@@ -7,8 +7,9 @@ ghost use Rattle.std.specs.FinMap as map;
 ghost use Rattle.std.specs.Ordering.{nat_cmp};
 ghost use Rattle.cv_rows.specs.Made.{AreApart};
 ghost use Rattle.cv_tree.specs.Tree.{at};
-ghost use Rattle.cv_cut.specs.Cut.{AreSame, IsCollision, keys_at};
-ghost use Rattle.cv_cut.specs.Piece.{AreCutsWithin, IsSharedAmong};
+ghost use Rattle.cv_cut.specs.Cut.{keys_at};
+ghost use Rattle.cv_cut.specs.CutInner.{AreSame, IsCollision};
+ghost use Rattle.cv_cut.specs.PieceInner.{AreCutsWithin, IsSharedAmong};
 ghost use Rattle.cv_cut.specs.Region.{KeysApart};
 
 use crate::cut_fault::CutFault;

@@ -3,7 +3,8 @@ ghost use Rattle.std.specs.Prelude.{◌≡◌, ◌≤◌, true, false, map, filt
 ghost use Rattle.std.specs.List.{All};
 ghost use Rattle.cv_base.specs.Path.{covers};
 ghost use Rattle.cv_base.specs.declared.limits.TheConstants.{OBJECT_LIMIT};
-ghost use Rattle.cv_cut.specs.Cut.{HasMade, IsOtherEntry, cuts_below, is_other, nested_in};
+ghost use Rattle.cv_cut.specs.Cut.{is_other, nested_in};
+ghost use Rattle.cv_cut.specs.CutInner.{HasMade, IsOtherEntry, cuts_below};
 
 use crate::marks::is_other;
 use cv_base::{NoMemory, RepoPath};

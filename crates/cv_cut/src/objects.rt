@@ -3,7 +3,8 @@ ghost use Rattle.std.specs.Prelude.{◌≡◌, IsErrOf};
 ghost use Rattle.cv_base.specs.Counts.{HasCause};
 ghost use Rattle.cv_base.specs.Told.{WhereTold};
 ghost use Rattle.cv_ports.specs.Calls.{raised};
-ghost use Rattle.cv_cut.specs.Opening.{Sizes, Fetched};
+ghost use Rattle.cv_cut.specs.Opening.{Sizes};
+ghost use Rattle.cv_cut.specs.OpeningInner.{Fetched};
 ghost use Rattle.cv_cut.specs.declared.load_fault.LoadFault.TheVariants as faults;
 
 use crate::load_fault::LoadFault;

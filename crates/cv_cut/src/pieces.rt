@@ -10,7 +10,8 @@ ghost use Rattle.cv_tree.specs.Tree.{IsTree, Nodes, is_directory};
 ghost use Rattle.cv_tree.specs.Changes.{FitsUnder, nodes_of};
 ghost use Rattle.cv_cut.specs.Catalogues.{IsFull};
 ghost use Rattle.cv_cut.specs.Cut.{catalogue_object, is_other, nested_in, row_in};
-ghost use Rattle.cv_cut.specs.Piece.{HasNoFiles, HasOnly, IsPiece, IsReady, IsSharedWithin, IsFullAmong};
+ghost use Rattle.cv_cut.specs.Piece.{HasOnly, IsPiece, IsReady, IsSharedWithin, IsFullAmong};
+ghost use Rattle.cv_cut.specs.PieceInner.{HasNoFiles};
 
 use crate::collision::{check_keys, check_region};
 use crate::cut_fault::CutFault;

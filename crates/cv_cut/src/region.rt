@@ -4,7 +4,8 @@ ghost use Rattle.std.specs.FinMap as map;
 ghost use Rattle.std.specs.Ordering.{is_lt};
 ghost use Rattle.cv_base.specs.Path.{path_cmp, covers};
 ghost use Rattle.cv_cut.specs.Cuts.{is_cut, cuts_of};
-ghost use Rattle.cv_cut.specs.Cut.{StandFrom, is_other, region_at};
+ghost use Rattle.cv_cut.specs.Cut.{is_other, region_at};
+ghost use Rattle.cv_cut.specs.CutInner.{StandFrom};
 
 use crate::marks::{is_marked, is_other};
 use cv_base::{NoMemory, RepoPath};

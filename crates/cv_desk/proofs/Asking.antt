@@ -34,7 +34,7 @@ use Rattle.cv_gate.specs.declared.reply.Reply.{Reply}
 use Rattle.cv_gate.specs.declared.reply.Reply.TheVariants as reply
 use Rattle.cv_gate.proofs.Lemmas.{some_newest}
 use Rattle.cv_desk.specs.Gate.{StateView, StandsFor, Does}
-use Rattle.cv_desk.specs.Acting.{aged_view, reply_of, Acts, refusal_of, refusal_on, PlaceIs, FindsPlace, OnlyLooks, Grants, granted, unremembered, AsksLease, refused, unread, placeless, placed, AsksEnd, not_ended, ends, AsksStore, not_sent, sends}
+use Rattle.cv_desk.specs.ActingInner.{aged_view, reply_of, Acts, refusal_of, refusal_on, PlaceIs, FindsPlace, OnlyLooks, Grants, granted, unremembered, AsksLease, refused, unread, placeless, placed, AsksEnd, not_ended, ends, AsksStore, not_sent, sends}
 use Rattle.cv_desk.specs.Refusals.{outcome_then}
 use Rattle.cv_desk.specs.declared.outcome.Outcome.{Outcome}
 use Rattle.cv_desk.specs.declared.outcome.Outcome.TheVariants as outcome

@@ -30,9 +30,10 @@ use Rattle.cv_gate.specs.Step.{IsFault}
 use Rattle.cv_gate.specs.declared.reply.Reply.{Reply}
 use Rattle.cv_gate.specs.declared.reply.Reply.TheVariants as reply
 use Rattle.cv_gate.proofs.Lemmas.{hashed_made}
-use Rattle.cv_desk.specs.Holds.{Holds, after_failure, after_store}
+use Rattle.cv_desk.specs.Holds.{Holds}
+use Rattle.cv_desk.specs.HoldsInner.{after_failure, after_store}
 use Rattle.cv_desk.specs.Sending.{outcome_of}
-use Rattle.cv_desk.specs.Acting.{reply_of}
+use Rattle.cv_desk.specs.ActingInner.{reply_of}
 use Rattle.cv_desk.specs.Committing.{objects_with}
 use Rattle.cv_desk.proofs.Holding.{holds_same, failed_gains, failed_holds, done_gains, done_holds}
 use Rattle.cv_desk.proofs.Sending.{gains_none, clash_of, not_damaged, no_clash}

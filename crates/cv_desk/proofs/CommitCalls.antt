@@ -48,11 +48,12 @@ use Rattle.cv_swap.specs.Stands.{head_name, Publishes}
 use Rattle.cv_swap.specs.declared.stage.Stage.TheVariants as stage
 use Rattle.cv_gate.specs.declared.reply.Reply.{Reply}
 use Rattle.cv_gate.specs.declared.reply.Reply.TheVariants as reply
-use Rattle.cv_desk.specs.Answers.{Tells}
+use Rattle.cv_desk.specs.AnswersInner.{Tells}
 use Rattle.cv_desk.specs.Known.{KnowsOn}
-use Rattle.cv_desk.specs.Gate.{StateView, IsState, IsSameRepository}
+use Rattle.cv_desk.specs.Gate.{StateView, IsSameRepository}
+use Rattle.cv_desk.specs.GateInner.{IsState}
 use Rattle.cv_desk.specs.Sending.{outcome_of, outcome_in}
-use Rattle.cv_desk.specs.Acting.{reply_of}
+use Rattle.cv_desk.specs.ActingInner.{reply_of}
 use Rattle.cv_desk.specs.Committing.{FetchesOffered, IsUnfit, outside, damaged, unfit, two, one, shares, fills, IsFit, next_record, objects_with, Readies, unmade, unprepared, prepared, Finishes, swaps, wavers, stays, opposition, CommitsUnder, opposed, readies}
 use Rattle.cv_desk.specs.declared.outcome.Outcome.{Outcome}
 use Rattle.cv_desk.proofs.States.{state_ended, state_same}

@@ -34,10 +34,11 @@ use Rattle.cv_gate.specs.declared.op.Op.{Op}
 use Rattle.cv_gate.specs.declared.entry.Entry.{Entry}
 use Rattle.cv_gate.specs.declared.reply.Reply.TheVariants as reply
 use Rattle.cv_gate.proofs.Lemmas.{by_step, ready_ends, hashed_made}
-use Rattle.cv_desk.specs.Holds.{IsHeadOf, Holds, Survives, after_store}
+use Rattle.cv_desk.specs.Holds.{IsHeadOf, Holds, Survives}
+use Rattle.cv_desk.specs.HoldsInner.{after_store}
 use Rattle.cv_desk.specs.Gate.{StateView, StandsFor, KnowsDoubt, Does}
 use Rattle.cv_desk.specs.Sending.{outcome_of}
-use Rattle.cv_desk.specs.Acting.{aged_view, reply_of}
+use Rattle.cv_desk.specs.ActingInner.{aged_view, reply_of}
 use Rattle.cv_desk.specs.Begin.{IsReadyIn, GetsReady}
 use Rattle.cv_desk.proofs.Bringing.{Comes, Ends, unprepared_ends, all_gained, all_held}
 use Rattle.cv_desk.proofs.Finishing.{records_again}

@@ -43,8 +43,8 @@ use Rattle.cv_desk.specs.Sending.{outcome_of}
 use Rattle.cv_desk.specs.Views.{aged_view}
 use Rattle.cv_desk.specs.Refusals.{reply_of, refusal_on, has_base, holder_of, taken_by, opposition_by, opposition, is_unmade}
 use Rattle.cv_desk.specs.Ends.{next_record, IsUnpublished}
-use Rattle.cv_desk.specs.Answers.{Tells}
-use Rattle.cv_desk.specs.Acting.{IsAnswered}
+use Rattle.cv_desk.specs.AnswersInner.{Tells}
+use Rattle.cv_desk.specs.ActingInner.{IsAnswered}
 use Rattle.cv_desk.specs.Committing.{CommitEnds, commit_refused, commit_opposed, unpublished, commit_published}
 use Rattle.cv_desk.specs.Committing.{outcome_at, two, one, IsUnfit, outside, meaningless, damaged, unfit, Readies, unmade, unprepared, prepared, Finishes, swaps, wavers, stays, CommitsUnder, opposed, readies, AsksCommit, not_own, own}
 use Rattle.cv_desk.specs.Begin.{CommitWaits, WaitsSo}

@@ -43,7 +43,7 @@ use Rattle.cv_gate.specs.declared.reply.Reply.TheVariants as reply
 use Rattle.cv_gate.proofs.Lemmas.{some_newest, newest_is_head, sound_aged}
 use Rattle.cv_desk.specs.Gate.{StateView, StandsFor, Does}
 use Rattle.cv_desk.specs.Sending.{outcome_of}
-use Rattle.cv_desk.specs.Acting.{aged_view, reply_of, Acts, refusal_on}
+use Rattle.cv_desk.specs.ActingInner.{aged_view, reply_of, Acts, refusal_on}
 use Rattle.cv_desk.specs.Committing.{opposition, opposition_by, IsUnfit, IsFit, next_record, objects_with, Readies, unmade, unprepared, prepared, CommitsUnder, opposed, readies, AsksCommit, not_own, own}
 use Rattle.cv_desk.specs.Begin.{GetsReady}
 use Rattle.cv_desk.specs.declared.outcome.Outcome.{Outcome}

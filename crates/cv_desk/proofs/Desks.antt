@@ -39,7 +39,7 @@ use Rattle.cv_gate.proofs.Lemmas.{from_any, run_on, front_self, some_newest}
 use Rattle.cv_desk.specs.Holds.{Survives}
 use Rattle.cv_desk.specs.Gate.{StateView, GateView, StandsFor, IsSameRepository, Steps}
 use Rattle.cv_desk.specs.Gate.{full, made, Does}
-use Rattle.cv_desk.specs.Acting.{OnlyLooks}
+use Rattle.cv_desk.specs.ActingInner.{OnlyLooks}
 use Rattle.cv_desk.specs.OneDesk.{OneDeskView, Stands, IsLeft, behind, within, Goes, DoesCall, DoesCalls, view_since}
 use Rattle.cv_desk.specs.Calls.{calls_one}
 use Rattle.cv_desk.proofs.Imaging.{calm_survives, image_survives}

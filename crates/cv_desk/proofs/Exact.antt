@@ -34,9 +34,10 @@ use Rattle.cv_desk.specs.Gate.{StateView, state_of, ShowsDamage, IsExact}
 use Rattle.cv_desk.specs.Views.{aged_view, next_token}
 use Rattle.cv_desk.specs.Refusals.{reply_of, refusal_of, refusal_on, is_unread, is_sending}
 use Rattle.cv_desk.specs.Ends.{BlamesParent, IsPlacedOn, FetchesWay, LeaseEnds, lease_refused, lease_unread, lease_placeless, lease_granted, store_refused, sent}
-use Rattle.cv_desk.specs.Sending.{outcome_of, outcome_from, IsSent, refused, late, whole}
-use Rattle.cv_desk.specs.Acting.{OnlyLooks, Grants, granted, unremembered, AsksLease, unread, placeless, placed, AsksEnd, not_ended, ends, AsksStore, not_sent, sends, IsAnswered}
-use Rattle.cv_desk.specs.Acting.{refused as refused_lease}
+use Rattle.cv_desk.specs.Sending.{outcome_of, IsSent, refused, late, whole}
+use Rattle.cv_desk.specs.SendingInner.{outcome_from}
+use Rattle.cv_desk.specs.ActingInner.{OnlyLooks, Grants, granted, unremembered, AsksLease, unread, placeless, placed, AsksEnd, not_ended, ends, AsksStore, not_sent, sends, IsAnswered}
+use Rattle.cv_desk.specs.ActingInner.{refused as refused_lease}
 use Rattle.cv_desk.specs.declared.outcome.Outcome.{Outcome}
 use Rattle.cv_desk.specs.declared.outcome.Outcome.TheVariants as outcome
 use Rattle.cv_desk.proofs.Names.{at_digest}

@@ -21,7 +21,8 @@ use Rattle.cv_swap.specs.Stands.{head_name, epoch_name, epoch_text}
 use Rattle.cv_gate.specs.State.{State, Settled, certain, unmade, published}
 use Rattle.cv_gate.specs.Objects.{GainsSome, GainsAll}
 use Rattle.cv_leases.specs.declared.lease.Lease.{Lease}
-use Rattle.cv_desk.specs.Holds.{SaysNewest, Holds, after_failure, after_store}
+use Rattle.cv_desk.specs.Holds.{SaysNewest, Holds}
+use Rattle.cv_desk.specs.HoldsInner.{after_failure, after_store}
 use Rattle.cv_desk.proofs.Names.{no_head, no_epoch, none_under, at_digest, settled_at}
 use Rattle.cv_desk.proofs.Imaging.{settled_itself, settled_same}
 

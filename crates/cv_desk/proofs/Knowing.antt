@@ -31,8 +31,10 @@ use Rattle.cv_objects.proofs.Lemmas.{digest_back}
 use Rattle.cv_swap.specs.Line.{LineView, LineReads}
 use Rattle.cv_swap.specs.Stands.{head_name}
 use Rattle.cv_gate.specs.declared.reply.Reply.{Reply}
-use Rattle.cv_desk.specs.Committing.{Offers, outcome_at}
-use Rattle.cv_desk.specs.Known.{KnowsWhole, Remembers, Learns, LearnsWhole, refuses_new, KnowsOn}
+use Rattle.cv_desk.specs.Committing.{outcome_at}
+use Rattle.cv_desk.specs.CommittingInner.{Offers}
+use Rattle.cv_desk.specs.Known.{Remembers, Learns, LearnsWhole, refuses_new, KnowsOn}
+use Rattle.cv_desk.specs.KnownInner.{KnowsWhole}
 use Rattle.cv_desk.specs.Refusals.{reply_of, is_unmade}
 use Rattle.cv_desk.specs.declared.outcome.Outcome.{Outcome}
 use Rattle.cv_desk.specs.declared.outcome.Outcome.TheVariants as outcome

@@ -28,7 +28,7 @@ use Rattle.cv_gate.specs.Passing.{Passes}
 use Rattle.cv_gate.specs.Step.{MayFail, MeansNone, Refuses, Publishes, Commits}
 use Rattle.cv_gate.specs.declared.reply.Reply.{Reply}
 use Rattle.cv_gate.specs.declared.reply.Reply.TheVariants as reply
-use Rattle.cv_desk.specs.Acting.{reply_of}
+use Rattle.cv_desk.specs.ActingInner.{reply_of}
 use Rattle.cv_desk.specs.Committing.{outcome_at, WhyUnfit, shares, fills, IsUnfit, outside, meaningless, damaged, unfit, IsFit, next_record}
 use Rattle.cv_desk.proofs.Opposing.{IsUnopposed}
 

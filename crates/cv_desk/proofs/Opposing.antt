@@ -12,7 +12,7 @@ use Rattle.cv_swap.specs.Kept.{Revision, newest, records_of, revision_limit}
 use Rattle.cv_gate.specs.State.{State}
 use Rattle.cv_gate.specs.Commits.{is_base, tagged, IsTaken}
 use Rattle.cv_gate.specs.Step.{Commits}
-use Rattle.cv_desk.specs.Acting.{reply_of}
+use Rattle.cv_desk.specs.ActingInner.{reply_of}
 use Rattle.cv_desk.specs.Committing.{has_base, holder_of, taken_by, opposition_by}
 use Rattle.cv_desk.specs.declared.outcome.Outcome.{Outcome}
 use Rattle.cv_desk.specs.declared.outcome.Outcome.TheVariants as outcome

@@ -16,7 +16,7 @@ use Rattle.cv_gate.specs.declared.op.Op.{Op}
 use Rattle.cv_gate.specs.declared.entry.Entry.{Entry}
 use Rattle.cv_gate.proofs.Lemmas.{by_step}
 use Rattle.cv_desk.specs.Gate.{StateView, StandsFor, KnowsDoubt, Does}
-use Rattle.cv_desk.specs.Acting.{OnlyLooks}
+use Rattle.cv_desk.specs.ActingInner.{OnlyLooks}
 use Rattle.cv_desk.proofs.Imaging.{quiet_survives, settled_itself}
 use Rattle.cv_desk.proofs.Holding.{holds_same, holds_with}
 

@@ -27,7 +27,7 @@ use Rattle.cv_gate.specs.declared.reply.Reply.TheVariants as reply
 use Rattle.cv_gate.proofs.Lemmas.{by_settling, ready_ends}
 use Rattle.cv_desk.specs.Holds.{Survives}
 use Rattle.cv_desk.specs.Gate.{StateView, StandsFor, IsSameRepository}
-use Rattle.cv_desk.specs.Acting.{ComesTo as ComesToBe}
+use Rattle.cv_desk.specs.ActingInner.{ComesTo as ComesToBe}
 use Rattle.cv_desk.specs.Committing.{Finishes, swaps, wavers, stays}
 use Rattle.cv_desk.specs.Begin.{entry_of, IsReadyIn, GetsReady, EndsStep, EndsBy}
 use Rattle.cv_desk.specs.declared.waiting.Waiting.{Waiting}

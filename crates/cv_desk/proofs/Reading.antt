@@ -23,9 +23,9 @@ use Rattle.cv_graft.specs.Way.{BlamesWay, IsOfWay, Tells}
 use Rattle.cv_objects.specs.Names.{standing_on}
 use Rattle.cv_desk.specs.Gate.{StateView}
 use Rattle.cv_desk.specs.Ends.{BlamesParent, IsPlaced, IsPlacedOn, FetchesWay}
-use Rattle.cv_desk.specs.Acting.{FindsPlace}
+use Rattle.cv_desk.specs.ActingInner.{FindsPlace}
 use Rattle.cv_desk.specs.Refusals.{reply_of}
-use Rattle.cv_desk.specs.Sending.{outcome_from}
+use Rattle.cv_desk.specs.SendingInner.{outcome_from}
 use Rattle.cv_desk.specs.declared.outcome.Outcome.{Outcome}
 
 way_of : (shelf : Shelf) (hash : List ℕ) (t : Nodes) (p : Path) → Means shelf hash t → HasWay shelf hash t p

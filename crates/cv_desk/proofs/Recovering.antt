@@ -17,7 +17,7 @@ use Rattle.cv_swap.specs.Stands.{head_name}
 use Rattle.cv_swap.specs.declared.stage.Stage.TheVariants as stage
 use Rattle.cv_gate.specs.State.{State}
 use Rattle.cv_desk.specs.Gate.{StateView, StandsFor}
-use Rattle.cv_desk.specs.Acting.{Settles}
+use Rattle.cv_desk.specs.ActingInner.{Settles}
 use Rattle.cv_desk.specs.Resuming.{ended, newest_token, token_in, Resumes, came, lost, Awaits}
 use Rattle.cv_desk.proofs.Settling.{settles_failed, settles_unmade, settles_made}
 

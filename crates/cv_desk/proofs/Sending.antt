@@ -24,10 +24,11 @@ use Rattle.cv_gate.specs.Objects.{GainsSome}
 use Rattle.cv_gate.specs.Step.{Stores, FreshIs}
 use Rattle.cv_gate.specs.declared.reply.Reply.{Reply}
 use Rattle.cv_gate.specs.declared.reply.Reply.TheVariants as reply
-use Rattle.cv_desk.specs.Holds.{Holds, after_failure, after_store}
+use Rattle.cv_desk.specs.Holds.{Holds}
+use Rattle.cv_desk.specs.HoldsInner.{after_failure, after_store}
 use Rattle.cv_desk.specs.Sending.{outcome_of, IsSent, refused, late, whole}
-use Rattle.cv_desk.specs.Sent.{sent_by}
-use Rattle.cv_desk.specs.Acting.{reply_of}
+use Rattle.cv_desk.specs.SentInner.{sent_by}
+use Rattle.cv_desk.specs.ActingInner.{reply_of}
 use Rattle.cv_desk.specs.declared.outcome.Outcome.{Outcome}
 use Rattle.cv_desk.specs.declared.outcome.Outcome.TheVariants as outcome
 use Rattle.cv_desk.proofs.Holding.{holds_same, shelf_stands, failed_gains, failed_holds, done_gains, done_holds}

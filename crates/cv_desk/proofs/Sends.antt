@@ -19,8 +19,8 @@ use Rattle.cv_swap.specs.Line.{LineView}
 use Rattle.cv_desk.specs.Gate.{StateView}
 use Rattle.cv_desk.specs.Refusals.{reply_of, is_sending}
 use Rattle.cv_desk.specs.Sending.{IsSent, outcome_of}
-use Rattle.cv_desk.specs.Sent.{sent_by}
-use Rattle.cv_desk.specs.Acting.{Sends}
+use Rattle.cv_desk.specs.SentInner.{sent_by}
+use Rattle.cv_desk.specs.ActingInner.{Sends}
 use Rattle.cv_desk.specs.declared.outcome.Outcome.{Outcome}
 use Rattle.cv_desk.specs.declared.sent.Sent.{Sent}
 use Rattle.cv_desk.proofs.Sending.{unknown, known_then}

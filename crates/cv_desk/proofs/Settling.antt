@@ -30,7 +30,7 @@ use Rattle.cv_gate.specs.declared.entry.Entry.{Entry}
 use Rattle.cv_gate.proofs.Lemmas.{newest_push, some_newest, by_settling, crash_before}
 use Rattle.cv_desk.specs.Holds.{IsHeadOf, Holds, Survives}
 use Rattle.cv_desk.specs.Gate.{StateView, StandsFor, KnowsDoubt, Does, IsInDoubt, IsSameRepository}
-use Rattle.cv_desk.specs.Acting.{at_vault, ComesTo, Settles}
+use Rattle.cv_desk.specs.ActingInner.{at_vault, ComesTo, Settles}
 use Rattle.cv_desk.proofs.Names.{settled_at}
 use Rattle.cv_desk.proofs.Imaging.{quiet_survives, settled_itself, settled_same}
 use Rattle.cv_desk.proofs.Holding.{holds_same}

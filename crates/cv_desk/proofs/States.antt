@@ -14,8 +14,9 @@ use Rattle.cv_swap.specs.Kept.{Revision}
 use Rattle.cv_gate.specs.Passing.{lease_time}
 use Rattle.cv_gate.specs.Sound.{AreLeases}
 use Rattle.cv_gate.proofs.Lemmas.{by_ageing, filtered, granted_apart, is_new, ends_last}
-use Rattle.cv_desk.specs.Gate.{StateView, IsState, state_of}
-use Rattle.cv_desk.specs.Acting.{aged_view, refusal_of, with_lease, new_lease}
+use Rattle.cv_desk.specs.Gate.{StateView, state_of}
+use Rattle.cv_desk.specs.GateInner.{IsState}
+use Rattle.cv_desk.specs.ActingInner.{aged_view, refusal_of, with_lease, new_lease}
 use Rattle.cv_desk.proofs.Asking.{unrefused}
 
 -- a revision with this number and this root: a lease that is granted knows nothing else of the newest one

@@ -26,7 +26,7 @@ use Rattle.cv_gate.proofs.Lemmas.{by_step}
 use Rattle.cv_desk.specs.Holds.{Holds}
 use Rattle.cv_desk.specs.Gate.{StateView, StandsFor, Does}
 use Rattle.cv_desk.specs.Sending.{IsSent}
-use Rattle.cv_desk.specs.Acting.{at_vault, aged_view, reply_of}
+use Rattle.cv_desk.specs.ActingInner.{at_vault, aged_view, reply_of}
 use Rattle.cv_desk.specs.declared.outcome.Outcome.{Outcome}
 use Rattle.cv_desk.proofs.Imaging.{any_survives, settled_itself}
 use Rattle.cv_desk.proofs.Holding.{holds_with}

@@ -38,7 +38,7 @@ use Rattle.cv_desk.specs.Sending.{outcome_in}
 use Rattle.cv_desk.specs.Refusals.{reply_of}
 use Rattle.cv_desk.specs.Committing.{Finishes, swaps, wavers, stays, AsksCommit}
 use Rattle.cv_desk.specs.Begin.{entry_of, IsReadyIn, GetsReady, EndsStep, Begins, over, waits as waits_ready, EndsBy, EndsWaiting}
-use Rattle.cv_desk.specs.Acting.{Settles, Acts, Keeps, IsAnswered, IsDone, IsReadied, IsDeclined, Courses, ComesToCommit, Takes, TakesReady, TakesCourse}
+use Rattle.cv_desk.specs.ActingInner.{Settles, Acts, Keeps, IsAnswered, IsDone, IsReadied, IsDeclined, Courses, ComesToCommit, Takes, TakesReady, TakesCourse}
 use Rattle.cv_desk.specs.declared.outcome.Outcome.{Outcome}
 use Rattle.cv_desk.specs.declared.begun.Begun.TheVariants.{Done, Ready}
 use Rattle.cv_desk.specs.declared.taken.Taken.{Taken}

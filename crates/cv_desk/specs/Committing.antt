@@ -67,11 +67,6 @@ outcome_at load.Failed = outcome.StoreFailed
 outcome_at (load.Damaged id found) = outcome.Damaged id found
 outcome_at load.NoMemory = outcome.NoMemory
 
--- the offered root is good, or why it isn't
-abbrev pub Offers : Shelf → List ℕ → Result (Unit {0}) Outcome → Type 0
-Offers shelf offered (Ok done) = IsGood shelf offered root_place
-Offers shelf offered (Err o) = (fault : LoadFault) × MayFail shelf offered fault × (o ≡ outcome_at fault)
-
 -- the new tree doesn't fit, and the reply says why
 pub data WhyUnfit (t : Nodes) (r : Reply) : Type 0 where
   shares : (a b : Path) → SharesKey t a b → r ≡ reply.PathCollision a b → WhyUnfit t r
@@ -94,11 +89,6 @@ pub data IsUnfit (shelf : Shelf) (newest offered : List ℕ) (path : Path) (r : 
 pub record IsFit (shelf : Shelf) (newest offered : List ℕ) (path : Path) (g : Grafted) : Type 0 where
   pub good : IsGood shelf offered root_place
   pub grafts : (t n : Nodes) → Means shelf newest t → Means shelf offered n → has_place t path ≡ true → Grafts (replaced t n path) path (Ok g)
-
--- one or the other
-abbrev pub GraftsOffered : Shelf → List ℕ → List ℕ → Path → Result Grafted Reply → Type 0
-GraftsOffered shelf newest offered path (Ok g) = IsFit shelf newest offered path g
-GraftsOffered shelf newest offered path (Err r) = IsUnfit shelf newest offered path r
 
 -- What was fetched to judge the offered root: of the catalogues that are reached from it through unknown ones, no two at one path; nothing
 -- where it is known. And then nothing more; or the root is good, and to graft it, where both roots mean trees, no more than the catalogues

@@ -1,5 +1,5 @@
 -- The states for which a gate stands, its opening, and its steps.
-use Rattle.std.specs.Prelude.{◌≡◌, ◌≢◌, ◌⊎◌, ℕ, ◌+◌, ◌<◌, ◌≤◌, ◌^◌, Bool, false, List, [], ◌∷◌, ◌++◌, length, IfSome, IsSome}
+use Rattle.std.specs.Prelude.{◌≡◌, ◌≢◌, ◌⊎◌, ℕ, ◌+◌, ◌<◌, ◌≤◌, Bool, false, List, [], ◌∷◌, ◌++◌, length, IfSome, IsSome}
 use Rattle.std.specs.declared.option.Option.{Option}
 use Rattle.std.specs.declared.option.Option.TheVariants.{None, Some}
 use Rattle.std.specs.declared.result.Result.{Result}
@@ -21,7 +21,7 @@ use Rattle.cv_swap.specs.declared.open_fault.OpenFault.{OpenFault}
 use Rattle.cv_swap.specs.declared.open_fault.OpenFault.TheVariants as open_fault
 use Rattle.cv_swap.specs.declared.stage.Stage.TheVariants as stage
 use Rattle.cv_gate.specs.State.{State, aged}
-use Rattle.cv_gate.specs.Sound.{Sound, AreLeases}
+use Rattle.cv_gate.specs.Sound.{Sound}
 use Rattle.cv_gate.specs.Step.{Step, Records, CancelStep, IsFault, HasNoFresh}
 use Rattle.cv_gate.specs.Kept.{reopened}
 use Rattle.cv_gate.specs.Desk.{journal_limit}
@@ -75,10 +75,6 @@ pub record StandsFor {V S : Type 0} (disk : V → Option Disk) (is_seal : S → 
 -- a state with these leases, of which nothing else is said
 abbrev pub state_of : {V S : Type 0} → StateView V S → State
 state_of g = record { history = []; leases = g.leases; doubt = None; shelf = λ id. None; loose = λ id. false; moment = g.moment; epoch = g.line.epoch; next = g.next }
-
-pub record IsState {V S : Type 0} (g : StateView V S) : Type 0 where
-  pub leases : AreLeases (state_of g)
-  pub moment : g.moment < 2 ^ 62
 
 -- where a commit is ready its record and its manifest wait, and the journal has a place for it
 pub record IsGate {V S : Type 0} (g : GateView V S) : Type 0 where

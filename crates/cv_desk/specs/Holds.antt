@@ -1,12 +1,11 @@
 -- When a disk holds a state, and what a crash of it leaves.
-use Rattle.std.specs.Prelude.{◌≡◌, ◌⊎◌, ℕ, Bool, true, ◌&&◌, ◌||◌, is_some, is_none, false, List}
+use Rattle.std.specs.Prelude.{◌≡◌, ◌⊎◌, ℕ, Bool, true, List}
 use Rattle.std.specs.declared.option.Option.{Option}
 use Rattle.std.specs.declared.option.Option.TheVariants.{None, Some}
 use Rattle.cv_base.specs.Digest.{IsDigest}
 use Rattle.cv_base.specs.ObjectId.{file_name}
 use Rattle.cv_base.specs.declared.id.ObjectId.{ObjectId}
 use Rattle.cv_vault.specs.Disk.{Disk, File, Files, May}
-use Rattle.cv_objects.specs.Names.{standing_on}
 use Rattle.cv_swap.specs.Kept.{Revision, newest, Kept, head_of}
 use Rattle.cv_swap.specs.Stands.{Stands, Publishes, head_name, epoch_name, epoch_text}
 use Rattle.cv_gate.specs.State.{State, Settled}
@@ -36,13 +35,3 @@ pub record Survives (name : List ℕ) (is_seal : List ℕ → List ℕ → Bool)
   pub kept : Kept
   pub stands : Stands name is_seal f kept
   pub crash : Crash st p kept
-
--- ---- the state that a disk holds after a store
-
--- the store failed, and some objects may have come, which are loose then
-abbrev pub after_failure : State → Disk → State
-after_failure st d = record st { shelf = standing_on d; loose = λ id. st.loose id || (is_none (st.shelf id) && is_some (standing_on d id)) }
-
--- the store was done, and nothing is loose
-abbrev pub after_store : State → Disk → State
-after_store st d = record st { shelf = standing_on d; loose = λ id. false }

@@ -10,15 +10,11 @@ use Rattle.cv_vault.specs.Disk.{Disk}
 use Rattle.cv_cut.specs.Good.{IsWholeAt}
 use Rattle.cv_cut.specs.Reached.{Place}
 use Rattle.cv_objects.specs.Names.{standing_on}
-use Rattle.cv_load.specs.Known.{is_known, AreKnown}
+use Rattle.cv_load.specs.Known.{is_known}
 use Rattle.cv_load.specs.NewFetches.{ReachesNew}
 use Rattle.cv_load.specs.declared.known_set.KnownSet.{KnownSet}
 use Rattle.cv_gate.specs.declared.reply.Reply.{Reply}
 use Rattle.cv_gate.specs.declared.reply.Reply.TheVariants as reply
-
--- each known pair of a catalogue's hash and a path is whole by what stands on the disk, where the vault tells it
-abbrev pub KnowsWhole : {V : Type 0} → (V → Option Disk) → V → KnownSet → Type 0
-KnowsWhole disk v known = WhereTold (disk v) (λ d. AreKnown (standing_on d) known)
 
 -- what was known is known still
 abbrev pub Remembers : KnownSet → KnownSet → Type 0

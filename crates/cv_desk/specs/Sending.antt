@@ -1,5 +1,5 @@
 -- What sending a batch of objects leaves on a disk.
-use Rattle.std.specs.Prelude.{◌≡◌, Bool, true, false, List, []}
+use Rattle.std.specs.Prelude.{◌≡◌, List, []}
 use Rattle.cv_base.specs.declared.id.ObjectId.{ObjectId}
 use Rattle.cv_base.specs.declared.object.Object.{Object}
 use Rattle.cv_vault.specs.Names.{on_way}
@@ -7,8 +7,6 @@ use Rattle.cv_vault.specs.Disk.{Disk}
 use Rattle.cv_vault.specs.Walks.{Gains, Nothing}
 use Rattle.cv_vault.specs.declared.vault.VaultFault.{VaultFault}
 use Rattle.cv_vault.specs.declared.vault.VaultFault.TheVariants as vault
-use Rattle.cv_cut.specs.declared.load_fault.LoadFault.{LoadFault}
-use Rattle.cv_cut.specs.declared.load_fault.LoadFault.TheVariants as load
 use Rattle.cv_objects.specs.Names.{standing_on}
 use Rattle.cv_objects.specs.Fresh.{fresh_of}
 use Rattle.cv_objects.specs.Batches.{IsOne, ShownIn, IsOutside, AreStored}
@@ -31,22 +29,7 @@ pub data IsSent (d : Disk) (batch : List Object) (o : Outcome) (fresh : List Obj
   late : (x : StoreFault) → o ≡ outcome_of x → fresh ≡ fresh_of batch (standing_on d) → IsOutside x → IsOne batch → IsSent d batch o fresh d'
   whole : o ≡ outcome.Stored → fresh ≡ fresh_of batch (standing_on d) → IsOne batch → AreStored batch d' → IsSent d batch o fresh d'
 
--- the fault refuses the batch
-abbrev pub is_refusal : StoreFault → Bool
-is_refusal (fault.Collision id) = true
-is_refusal fault.Failed = false
-is_refusal (fault.Damaged id found) = true
-is_refusal fault.NoMemory = false
-
 -- how a fault of the vault is answered
 abbrev pub outcome_in : VaultFault → Outcome
 outcome_in vault.Failed = outcome.StoreFailed
 outcome_in vault.NoMemory = outcome.NoMemory
-
--- how a fault of a catalogue is answered
-abbrev pub outcome_from : LoadFault → Outcome
-outcome_from (load.Missing id) = outcome.NoMemory
-outcome_from (load.Bad id) = outcome.NoMemory
-outcome_from load.Failed = outcome.StoreFailed
-outcome_from (load.Damaged id found) = outcome.Damaged id found
-outcome_from load.NoMemory = outcome.NoMemory

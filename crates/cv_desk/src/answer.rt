@@ -1,8 +1,8 @@
 //! What is answered.
 ghost use Rattle.std.specs.Prelude.{◌≡◌, ◌≢◌, ◌⊎◌};
 ghost use Rattle.cv_gate.specs.declared.reply.Reply.TheVariants as replies;
-ghost use Rattle.cv_desk.specs.Acting.{reply_of};
-ghost use Rattle.cv_desk.specs.Answers.{Tells};
+ghost use Rattle.cv_desk.specs.ActingInner.{reply_of};
+ghost use Rattle.cv_desk.specs.AnswersInner.{Tells};
 
 use crate::outcome::Outcome;
 use cv_base::RepoPath;

@@ -16,8 +16,10 @@ ghost use Rattle.cv_desk.specs.Refusals.{reply_of, is_unmade};
 ghost use Rattle.cv_base.specs.Path.{Path};
 ghost use Rattle.cv_load.specs.Known.{is_known, HasPair};
 ghost use Rattle.cv_load.specs.NewFetches.{FetchesNew};
-ghost use Rattle.cv_desk.specs.Known.{KnowsWhole, KnowsOn, Remembers, Learns, LearnsWhole};
-ghost use Rattle.cv_desk.specs.Committing.{has_base, holder_of, taken_by, opposition, outcome_at, Offers, GraftsOffered, FetchesOffered, next_record, Readies};
+ghost use Rattle.cv_desk.specs.Known.{KnowsOn, Remembers, Learns, LearnsWhole};
+ghost use Rattle.cv_desk.specs.KnownInner.{KnowsWhole};
+ghost use Rattle.cv_desk.specs.Committing.{has_base, holder_of, taken_by, opposition, outcome_at, FetchesOffered, next_record, Readies};
+ghost use Rattle.cv_desk.specs.CommittingInner.{Offers, GraftsOffered};
 ghost use Rattle.cv_desk.specs.declared.outcome.Outcome.TheVariants as outcomes;
 
 use crate::answer::Answer;

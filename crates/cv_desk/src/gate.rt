@@ -9,7 +9,7 @@ ghost use Rattle.cv_manifest.specs.Manifest.{IsHead};
 ghost use Rattle.cv_gate.specs.Lines.{lines_of};
 ghost use Rattle.cv_gate.specs.Step.{IsOp};
 ghost use Rattle.cv_gate.specs.declared.reply.Reply.TheVariants as reply;
-ghost use Rattle.cv_desk.specs.Acting.{OnlyLooks};
+ghost use Rattle.cv_desk.specs.ActingInner.{OnlyLooks};
 ghost use Rattle.cv_desk.specs.Begin.{Begins, EndsWaiting};
 ghost use Rattle.cv_desk.specs.declared.begun.Begun.TheVariants as begun;
 ghost use Rattle.cv_desk.specs.Gate.{Steps, GateOpens, IsNew, vault_of, IsFailed};

@@ -22,7 +22,7 @@ ghost use Rattle.cv_desk.specs.Resuming.{Resumes, Awaits};
 ghost use Rattle.cv_desk.specs.Ends.{BlamesParent, IsPlaced, FetchesWay};
 ghost use Rattle.cv_vault.specs.Names.{on_way};
 ghost use Rattle.cv_vault.specs.Walks.{Walks, Nothing};
-ghost use Rattle.cv_desk.specs.Acting.{aged_view, Settles, Acts, refusal_of, refusal_on, FindsPlace, OnlyLooks, new_lease, Grants, AsksLease, AsksEnd, Sends, AsksStore, IsAnswered, Courses, HasFailed, TakesCourse, newest_token, ended, reply_of};
+ghost use Rattle.cv_desk.specs.ActingInner.{aged_view, Settles, Acts, refusal_of, refusal_on, FindsPlace, OnlyLooks, new_lease, Grants, AsksLease, AsksEnd, Sends, AsksStore, IsAnswered, Courses, HasFailed, TakesCourse, newest_token, ended, reply_of};
 ghost use Rattle.cv_desk.specs.declared.outcome.Outcome.TheVariants as outcomes;
 
 use crate::ageing::drop_due;
@@ -60,8 +60,9 @@ pub(crate) struct GateState<V: Vault + Drop, S: Signer + Drop> {
 }
 
 impl<V: Vault + Drop, S: Signer + Drop> Model for GateState<V, S> {
-    ghost use Rattle.cv_desk.specs.Gate.{StateView, IsState};
-    ghost use Rattle.cv_desk.specs.Known.{KnowsWhole};
+    ghost use Rattle.cv_desk.specs.Gate.{StateView};
+    ghost use Rattle.cv_desk.specs.GateInner.{IsState};
+    ghost use Rattle.cv_desk.specs.KnownInner.{KnowsWhole};
     ghost use Rattle.std.specs.Coded.{codes};
     ghost use Rattle.cv_load.specs.contracts.known_set.KnownSet as known_set;
 

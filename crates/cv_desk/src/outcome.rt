@@ -1,7 +1,8 @@
 //! What comes of an op.
 ghost use Rattle.std.specs.Prelude.{◌≡◌};
 ghost use Rattle.cv_desk.specs.Refusals.{reply_of, outcome_then};
-ghost use Rattle.cv_desk.specs.Sending.{outcome_of, outcome_in, outcome_from};
+ghost use Rattle.cv_desk.specs.Sending.{outcome_of, outcome_in};
+ghost use Rattle.cv_desk.specs.SendingInner.{outcome_from};
 
 use cv_base::{ObjectId, Token};
 use cv_cut::LoadFault;

@@ -7,7 +7,7 @@ ghost use Rattle.cv_gate.specs.declared.reply.Reply.TheVariants as replies;
 ghost use Rattle.cv_leases.specs.Leases.{lease_of};
 ghost use Rattle.cv_swap.specs.declared.stage.Stage.TheVariants as stage;
 ghost use Rattle.cv_desk.specs.Gate.{IsSameRepository};
-ghost use Rattle.cv_desk.specs.Acting.{ComesToCommit, reply_of};
+ghost use Rattle.cv_desk.specs.ActingInner.{ComesToCommit, reply_of};
 ghost use Rattle.cv_desk.specs.Begin.{EndsBy};
 ghost use Rattle.cv_desk.specs.Committing.{Finishes, CommitsUnder, AsksCommit};
 ghost use Rattle.cv_desk.specs.declared.outcome.Outcome.TheVariants as outcomes;

@@ -1,7 +1,7 @@
 //! What comes of sending objects.
 ghost use Rattle.std.specs.Prelude.{◌≡◌, []};
-ghost use Rattle.cv_desk.specs.Sending.{is_refusal};
-ghost use Rattle.cv_desk.specs.Sent.{sent_by};
+ghost use Rattle.cv_desk.specs.SendingInner.{is_refusal};
+ghost use Rattle.cv_desk.specs.SentInner.{sent_by};
 
 use crate::outcome::Outcome;
 use cv_base::{Items, ObjectId};

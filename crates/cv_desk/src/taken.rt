@@ -4,7 +4,7 @@ ghost use Rattle.cv_base.specs.Digest.{IsDigest};
 ghost use Rattle.cv_base.specs.Path.{IsPath};
 ghost use Rattle.cv_gate.specs.Step.{HasTypes};
 ghost use Rattle.cv_gate.specs.declared.act.Act.TheVariants as acts;
-ghost use Rattle.cv_desk.specs.Acting.{IsDeclined};
+ghost use Rattle.cv_desk.specs.ActingInner.{IsDeclined};
 
 use crate::answer::Answer;
 use cv_base::{Items, ObjectId, RepoPath, Text, Token};

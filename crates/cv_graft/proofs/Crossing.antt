@@ -8,8 +8,8 @@ use Rattle.cv_rows.specs.Row.{holds_rows}
 use Rattle.cv_rows.specs.Catalogue.{Contents}
 use Rattle.cv_rows.specs.Places.{StandsAt}
 use Rattle.cv_rows.specs.declared.row.Row.{Row}
-use Rattle.cv_graft.specs.Joins.{AreCrossed}
-use Rattle.cv_graft.specs.Places.{HasPlace}
+use Rattle.cv_graft.specs.JoinsInner.{AreCrossed}
+use Rattle.cv_graft.specs.PlacesInner.{HasPlace}
 use Rattle.cv_cut.proofs.Lemmas.{first_or_later, none_there, rest_behind}
 
 pub crossed_none : (left right : List Row) → AreCrossed left (take 0 right)

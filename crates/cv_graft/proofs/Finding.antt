@@ -21,7 +21,8 @@ use Rattle.cv_cut.specs.Catalogues.{entry_of, cat}
 use Rattle.cv_cut.specs.Above.{cuts_above, OnWay, Holds}
 use Rattle.cv_graft.specs.Graft.{HasWay}
 use Rattle.cv_graft.specs.Placed.{HasCuts}
-use Rattle.cv_graft.specs.Way.{IsNext, HasNone, Finds}
+use Rattle.cv_graft.specs.Way.{IsNext, HasNone}
+use Rattle.cv_graft.specs.WayInner.{Finds}
 use Rattle.cv_cut.specs.Catalogues.{contents_of}
 use Rattle.cv_cut.specs.Reached.{Place, HasCatalogue, root_place}
 use Rattle.cv_cut.specs.Opening.{Opens, OpensNested, IsNestedCatalogue, IsUnread}

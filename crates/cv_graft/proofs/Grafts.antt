@@ -25,7 +25,7 @@ use Rattle.cv_cut.specs.Opening.{IsUnread}
 use Rattle.cv_cut.specs.declared.load_fault.LoadFault.{LoadFault}
 use Rattle.cv_cut.specs.declared.load_fault.LoadFault.TheVariants as load
 use Rattle.cv_graft.specs.Faults.{of_load}
-use Rattle.cv_graft.specs.Way.{IsMade, IsOffered, Finds, Rebuilds}
+use Rattle.cv_graft.specs.WayInner.{IsMade, IsOffered, Finds, Rebuilds}
 use Rattle.cv_cut.specs.Catalogues.{contents_of}
 use Rattle.cv_graft.proofs.Finding.{opened_is}
 use Rattle.cv_rows.specs.Catalogue.{Contents}

@@ -13,9 +13,11 @@ use Rattle.cv_cut.specs.Reached.{Place, HasCatalogue, root_place}
 use Rattle.cv_cut.specs.declared.load_fault.LoadFault.{LoadFault}
 use Rattle.cv_cut.specs.declared.load_fault.LoadFault.TheVariants as fault
 use Rattle.cv_cut.proofs.Lemmas.{transition_of}
-use Rattle.cv_graft.specs.Directories.{IsHolder, HoldsFrom}
+use Rattle.cv_graft.specs.Directories.{IsHolder}
+use Rattle.cv_graft.specs.DirectoriesInner.{HoldsFrom}
 use Rattle.cv_graft.specs.Faults.{of_load}
-use Rattle.cv_graft.specs.Way.{HasNone, IsNext, IsOnWay, IsOfWay, IsOfEither, IsOfWayOf, IsBadOnWay, BlamesWay, FailsFrom, TellsDamage}
+use Rattle.cv_graft.specs.Way.{HasNone, IsNext, IsOnWay, IsOfWay, IsOfEither, IsBadOnWay, BlamesWay, TellsDamage}
+use Rattle.cv_graft.specs.WayInner.{IsOfWayOf, FailsFrom}
 use Rattle.cv_graft.specs.declared.graft_fault.GraftFault.{GraftFault}
 use Rattle.cv_graft.specs.declared.graft_fault.GraftFault.TheVariants as graft
 

@@ -12,7 +12,8 @@ use Rattle.cv_tree.specs.Tree.{Nodes, IsTree, at, put}
 use Rattle.cv_rows.specs.Catalogue.{Contents, catalogue_bytes}
 use Rattle.cv_rows.specs.Renewed as rows
 use Rattle.cv_ports.specs.Shelf.{Shelf}
-use Rattle.cv_cut.specs.Above.{made_from, cuts_above, Holds, OnWay}
+use Rattle.cv_cut.specs.Above.{cuts_above, Holds, OnWay}
+use Rattle.cv_cut.specs.AboveInner.{made_from}
 use Rattle.cv_cut.specs.Cuts.{is_cut}
 use Rattle.cv_cut.specs.Catalogues.{cat, contents_of}
 use Rattle.cv_cut.specs.Cut.{catalogue_object}
@@ -27,7 +28,8 @@ use Rattle.cv_cut.specs.declared.load_fault.LoadFault.{LoadFault}
 use Rattle.cv_cut.specs.declared.load_fault.LoadFault.TheVariants as load
 use Rattle.cv_cut.proofs.Lemmas.{above_cut, alone_holds, fits_over, holder_of, keys_over, part_objects, shares_over, cat_is, cut_some, made_all}
 use Rattle.cv_graft.specs.Faults.{of_load}
-use Rattle.cv_graft.specs.Placed.{HasCuts, IsAskedPart, IsSet, Places, Sets, of_cut, placed_of}
+use Rattle.cv_graft.specs.Placed.{HasCuts, Places, of_cut, placed_of}
+use Rattle.cv_graft.specs.PlacedInner.{IsAskedPart, IsSet, Sets}
 use Rattle.cv_graft.specs.Way.{TellsDamage}
 use Rattle.cv_graft.specs.declared.grafted.Grafted.{Grafted}
 use Rattle.cv_graft.specs.declared.made.Made.{Made}

@@ -16,14 +16,15 @@ use Rattle.cv_rows.specs.declared.row.Row.{Row}
 use Rattle.cv_cut.specs.Cuts.{is_marked, is_near}
 use Rattle.cv_cut.specs.Catalogues.{rows_of, cat, Fits, SharesKey, IsFull}
 use Rattle.cv_cut.specs.Cut.{catalogue_object}
-use Rattle.cv_cut.specs.Above.{made_from, Holds}
+use Rattle.cv_cut.specs.Above.{Holds}
+use Rattle.cv_cut.specs.AboveInner.{made_from}
 use Rattle.cv_graft.specs.Placed.{HasCuts}
-use Rattle.cv_graft.specs.Joins.{Parts, IsJoined, CollidesAt, IsFullAt, Joins}
+use Rattle.cv_graft.specs.JoinsInner.{Parts, IsJoined, CollidesAt, IsFullAt, Joins}
 use Rattle.cv_cut.specs.Opening.{IsUnread}
 use Rattle.cv_cut.specs.declared.load_fault.LoadFault.{LoadFault}
 use Rattle.cv_cut.specs.declared.load_fault.LoadFault.TheVariants as load
 use Rattle.cv_graft.specs.Faults.{of_load}
-use Rattle.cv_graft.specs.Way.{IsAsked, IsOffered, IsMade, Rebuilds}
+use Rattle.cv_graft.specs.WayInner.{IsAsked, IsOffered, IsMade, Rebuilds}
 use Rattle.cv_cut.specs.Catalogues.{contents_of}
 use Rattle.cv_graft.specs.declared.made.Made.{Made}
 use Rattle.cv_graft.specs.declared.graft_fault.GraftFault.{GraftFault}

@@ -1,13 +1,11 @@
 -- Which directories there are by what stands on a shelf, whether or not the root means a tree.
-use Rattle.std.specs.Prelude.{◌≡◌, ◌⊎◌, ℕ, Bool, true, false, List, [], Result, Ok, Err}
+use Rattle.std.specs.Prelude.{◌≡◌, ◌⊎◌, ℕ, Bool, true, false, List, []}
 use Rattle.cv_base.specs.Path.{Path}
-use Rattle.cv_base.specs.declared.id.ObjectId.{ObjectId}
 use Rattle.cv_ports.specs.Shelf.{Shelf}
 use Rattle.cv_rows.specs.Catalogue.{Contents}
 use Rattle.cv_rows.specs.Places.{StandsAt}
 use Rattle.cv_rows.specs.declared.row.Row.{Row}
 use Rattle.cv_cut.specs.Reached.{Place, HasCatalogue}
-use Rattle.cv_cut.specs.declared.load_fault.LoadFault.{LoadFault}
 use Rattle.cv_graft.specs.Places.{stands_for_directory}
 use Rattle.cv_graft.specs.Way.{HasNone, IsOnWay}
 
@@ -18,11 +16,6 @@ pub record IsHolder (shelf : Shelf) (root : List ℕ) (p : Path) (c : Contents) 
   pub on : IsOnWay shelf root p hash place
   pub has : HasCatalogue shelf hash place c
   pub none : HasNone c p
-
--- where a catalogue is answered by a search from the one under an id on, it is that of the way on which this one is
-abbrev pub HoldsFrom : Shelf → ObjectId → Contents → Path → Result Contents LoadFault → Type 0
-HoldsFrom shelf id c p (Ok k) = (root : List ℕ) (place : Place) → IsOnWay shelf root p id.hash place → HasCatalogue shelf id.hash place c → IsHolder shelf root p k
-HoldsFrom shelf id c p (Err f) = Unit {0}
 
 -- the row at the path says whether it is a directory in the catalogue; where none stands there, it isn't
 pub data HasDirectory (c : Contents) (p : Path) : Bool → Type 0 where

@@ -1,7 +1,11 @@
 pub mod Places
+pub mod PlacesInner
 pub mod Faults
 pub mod Graft
-pub mod Joins
+pub mod JoinsInner
 pub mod Placed
+pub mod PlacedInner
 pub mod Way
+pub mod WayInner
 pub mod Directories
+pub mod DirectoriesInner

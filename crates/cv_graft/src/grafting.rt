@@ -16,7 +16,8 @@ ghost use Rattle.cv_cut.specs.declared.load_fault.LoadFault.TheVariants as load_
 ghost use Rattle.cv_graft.specs.Directories.{IsHolder};
 ghost use Rattle.cv_graft.specs.Graft.{Grafts, HasOwnIds};
 ghost use Rattle.cv_graft.specs.Placed.{HasCuts};
-ghost use Rattle.cv_graft.specs.Way.{BlamesWay, Finds, IsOfEither, TellsDamage};
+ghost use Rattle.cv_graft.specs.Way.{BlamesWay, IsOfEither, TellsDamage};
+ghost use Rattle.cv_graft.specs.WayInner.{Finds};
 ghost use Rattle.cv_graft.specs.declared.graft_fault.GraftFault.TheVariants as faults;
 
 use crate::graft_fault::GraftFault;

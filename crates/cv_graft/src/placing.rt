@@ -19,8 +19,10 @@ ghost use Rattle.cv_cut.specs.Cut.{catalogue_object};
 ghost use Rattle.cv_cut.specs.Cuts.{is_cut};
 ghost use Rattle.cv_cut.specs.Piece.{IsPiece};
 ghost use Rattle.cv_graft.specs.Graft.{HasOwnIds};
-ghost use Rattle.cv_graft.specs.Placed.{ArePathsCrossed, HasCuts, IsAskedPart, IsMeeting, JoinsLists, JoinsPart, LeadsTo, Sets};
-ghost use Rattle.cv_graft.specs.Way.{IsOfWayOf, TellsDamage};
+ghost use Rattle.cv_graft.specs.Placed.{HasCuts, LeadsTo};
+ghost use Rattle.cv_graft.specs.PlacedInner.{ArePathsCrossed, IsAskedPart, IsMeeting, JoinsLists, JoinsPart, Sets};
+ghost use Rattle.cv_graft.specs.Way.{TellsDamage};
+ghost use Rattle.cv_graft.specs.WayInner.{IsOfWayOf};
 ghost use Rattle.cv_graft.specs.declared.graft_fault.GraftFault.TheVariants as faults;
 
 use crate::graft_fault::GraftFault;

@@ -16,7 +16,8 @@ ghost use Rattle.cv_ports.specs.Calls.{raised_by};
 ghost use Rattle.cv_cut.specs.Above.{cuts_above, replaced, OnWay};
 ghost use Rattle.cv_graft.specs.Graft.{HasOwnIds};
 ghost use Rattle.cv_graft.specs.Placed.{HasCuts};
-ghost use Rattle.cv_graft.specs.Way.{IsAsked, IsOffered, IsOfWayOf, Rebuilds, TellsDamage};
+ghost use Rattle.cv_graft.specs.Way.{TellsDamage};
+ghost use Rattle.cv_graft.specs.WayInner.{IsAsked, IsOffered, IsOfWayOf, Rebuilds};
 ghost use Rattle.cv_cut.specs.Catalogues.{Fits, contents_of};
 ghost use Rattle.cv_graft.specs.declared.graft_fault.GraftFault.TheVariants as faults;
 

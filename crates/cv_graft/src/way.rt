@@ -11,8 +11,9 @@ ghost use Rattle.cv_cut.specs.Above.{cuts_above, OnWay};
 ghost use Rattle.cv_cut.specs.Catalogues.{contents_of};
 ghost use Rattle.cv_cut.specs.declared.load_fault.LoadFault.TheVariants as faults;
 ghost use Rattle.cv_graft.specs.Placed.{HasCuts};
-ghost use Rattle.cv_graft.specs.Directories.{HoldsFrom};
-ghost use Rattle.cv_graft.specs.Way.{IsNext, HasNone, Finds, FailsFrom};
+ghost use Rattle.cv_graft.specs.DirectoriesInner.{HoldsFrom};
+ghost use Rattle.cv_graft.specs.Way.{IsNext, HasNone};
+ghost use Rattle.cv_graft.specs.WayInner.{Finds, FailsFrom};
 
 use cv_base::{Kind, NoMemory, ObjectId, RepoPath};
 use cv_cut::{LoadFault, nested_catalogue};

@@ -3,7 +3,8 @@ use Rattle.std.proofs.Common.{◌≡◌, ℕ, ◌+◌, ◌<◌, ◌≤◌, Bool,
 use Rattle.std.specs.Prelude.{Option, Some, None, Result, Ok, Err, IsErrAnd, nat_le}
 use Rattle.std.proofs.lemmas.Bool.Decides.{nat_tests}
 use Rattle.cv_history.specs.Faults.{part, u16_at, field_fault, text_fault, ◌before◌}
-use Rattle.cv_history.specs.Reading.{HasText, IsFault, IsTextFault, Judges}
+use Rattle.cv_history.specs.Reading.{IsFault, Judges}
+use Rattle.cv_history.specs.ReadingInner.{HasText, IsTextFault}
 use Rattle.cv_history.specs.declared.record_fault.RecordFault.{RecordFault}
 use Rattle.cv_history.specs.declared.record_fault.RecordFault.TheVariants.{BadRecord, NoMemory}
 

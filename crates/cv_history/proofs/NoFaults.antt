@@ -9,7 +9,7 @@ use Rattle.cv_base.specs.declared.limits.TheConstants.{LAST_REVISION, LAST_TIME}
 use Rattle.cv_history.specs.declared.front.Front.{Front}
 use Rattle.cv_history.specs.declared.record.Record.{Record}
 use Rattle.cv_history.specs.Faults.{u64_at, where_first, is_revision, is_tag_text, start_fault, hashes_fault, token_fault, front_fault, end_fault, texts_fault}
-use Rattle.cv_history.specs.Reading.{HasStart, HasHashes, HasToken, HasFront, HasEnd, HasTexts}
+use Rattle.cv_history.specs.ReadingInner.{HasStart, HasHashes, HasToken, HasFront, HasEnd, HasTexts}
 use Rattle.cv_history.proofs.FieldFaults.{right_field}
 use Rattle.cv_history.proofs.TextFaults.{end_by_tag, texts_by_key}
 use Rattle.cv_history.proofs.TextValues.{bytes_eq_self, path_text}

@@ -7,7 +7,8 @@ use Rattle.cv_history.specs.declared.record_fault.RecordFault.{RecordFault}
 use Rattle.cv_history.specs.declared.record_fault.RecordFault.TheVariants.{BadRecord, NoMemory}
 use Rattle.cv_history.specs.Record.{Spells}
 use Rattle.cv_history.specs.Faults.{fault_of, front_fault, texts_fault, is_first}
-use Rattle.cv_history.specs.Reading.{IsFault, IsRead, Judges, HasFront, HasTexts, front_of}
+use Rattle.cv_history.specs.Reading.{IsFault, IsRead, Judges}
+use Rattle.cv_history.specs.ReadingInner.{HasFront, HasTexts, front_of}
 use Rattle.cv_history.proofs.FieldFaults.{fault_before, judges_err}
 use Rattle.cv_history.proofs.NoFaults.{no_front_fault, no_texts_fault}
 use Rattle.cv_history.proofs.Places.{IsText}

@@ -11,7 +11,7 @@ use Rattle.cv_base.specs.declared.limits.TheConstants.{KEY_ID_LIMIT, TAG_LIMIT}
 use Rattle.cv_history.specs.declared.record.Record.{Record}
 use Rattle.cv_history.specs.Record.{IsFirst, IsRecord, IsTyped, Spells}
 use Rattle.cv_history.specs.Faults.{part, u64_at, limit_of}
-use Rattle.cv_history.specs.Reading.{HasText, HasStart, HasHashes, HasToken, HasFront, HasEnd, HasTexts, front_of}
+use Rattle.cv_history.specs.ReadingInner.{HasText, HasStart, HasHashes, HasToken, HasFront, HasEnd, HasTexts, front_of}
 use Rattle.cv_history.proofs.FieldOrder.{Laid, Sized, laid, joined}
 use Rattle.cv_history.proofs.Places.{IsText, u64_of_part, u16_of_part, part_of_u64, part_of_u16, digest_part}
 

@@ -4,7 +4,8 @@ use Rattle.std.specs.Prelude.{Some, None, nat_le, nat_lt, if◌then◌else◌}
 use Rattle.cv_base.specs.Target.{is_target}
 use Rattle.cv_base.specs.declared.limits.TheConstants.{KEY_ID_LIMIT, LAST_TIME, TAG_LIMIT}
 use Rattle.cv_history.specs.Faults.{u64_at, text_fault, ◌before◌, limit_of, after_text, is_tag_text, is_path_text, end_fault, texts_fault}
-use Rattle.cv_history.specs.Reading.{HasText, IsFault, IsTextFault}
+use Rattle.cv_history.specs.Reading.{IsFault}
+use Rattle.cv_history.specs.ReadingInner.{HasText, IsTextFault}
 use Rattle.cv_history.specs.declared.record_fault.RecordFault.{RecordFault}
 use Rattle.cv_history.proofs.FieldFaults.{right_field, le_test, found_text, text_fault_before}
 

@@ -4,7 +4,8 @@ use Rattle.std.proofs.lemmas.List.{reverse-append}
 use Rattle.std.specs.Prelude.{Vec, Result, Ok, Err, IsErrAnd}
 use Rattle.cv_base.specs.declared.id.ObjectId.{ObjectId}
 use Rattle.cv_ports.specs.Shelf.{Shelf}
-use Rattle.cv_history.specs.Chain.{id_before, StandsAt, Link, Chain, IsAmiss, Breaks, MayBreak, Reads, Gives, GivesBack}
+use Rattle.cv_history.specs.Chain.{id_before, StandsAt, Link, Chain, IsAmiss, Breaks, MayBreak, Gives}
+use Rattle.cv_history.specs.ChainInner.{Reads, GivesBack}
 use Rattle.cv_history.specs.declared.chain_fault.ChainFault.{ChainFault}
 use Rattle.cv_history.specs.declared.chain_fault.ChainFault.TheVariants.{Missing, BadRecord, BadLink, Failed, Damaged, NoMemory}
 use Rattle.cv_history.specs.declared.record.Record.{Record}

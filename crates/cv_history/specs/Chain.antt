@@ -1,5 +1,5 @@
 -- The chain of records that a last id names.
-use Rattle.std.specs.Prelude.{◌≡◌, ◌≢◌, ◌⊎◌, ℕ, zero, suc, List, [], ◌∷◌, ◌++◌, reverse, Vec, Some, None, Result, Ok, Err}
+use Rattle.std.specs.Prelude.{◌≡◌, ◌≢◌, ◌⊎◌, ℕ, zero, suc, List, [], ◌∷◌, ◌++◌, Vec, Some, None, Result, Ok, Err}
 use Rattle.sha1.specs.Sha1.{sha1}
 use Rattle.cv_base.specs.ObjectId.{object_id}
 use Rattle.cv_base.specs.declared.id.Kind.TheVariants.{History}
@@ -92,11 +92,6 @@ abbrev pub Gives : Shelf → ℕ → ObjectId → {Z : Type 0} → Result (Vec R
 Gives shelf n id (Ok rs) = Chain (StandsAt shelf) n id rs.items
 Gives shelf n id (Err fault) = MayBreak shelf n id fault
 
--- the same, from the last record back
-abbrev pub GivesBack : Shelf → ℕ → ObjectId → {Z : Type 0} → Result (Vec Record Z) ChainFault → Type 0
-GivesBack shelf n id (Ok rs) = Chain (StandsAt shelf) n id (reverse rs.items)
-GivesBack shelf n id (Err fault) = MayBreak shelf n id fault
-
 -- the answer is these records, unless the shelf failed or memory was wanted
 abbrev pub IsList : {Z : Type 0} → Result (Vec Record Z) ChainFault → List Record → Type 0
 IsList (Ok given) rs = given.items ≡ rs
@@ -110,17 +105,3 @@ IsBroken (Ok given) fault = ⊥
 IsBroken (Err Failed) fault = Unit {0}
 IsBroken (Err NoMemory) fault = Unit {0}
 IsBroken (Err found) fault = found ≡ fault
-
--- what is read under an id: its record, or what is amiss there whatever revision is wanted
-abbrev pub Reads : Shelf → ObjectId → Result Record ChainFault → Type 0
-Reads shelf id (Ok r) = StandsAt shelf id r
-Reads shelf id (Err Failed) = Unit {0}
-Reads shelf id (Err NoMemory) = Unit {0}
-Reads shelf id (Err fault) = (wanted : ℕ) → IsAmiss shelf wanted id fault
-
--- what is read of the bytes under an id: the record that they spell, or that they are none
-abbrev pub IsParsed : ObjectId → List ℕ → Result Record ChainFault → Type 0
-IsParsed id bytes (Ok r) = Spells bytes r
-IsParsed id bytes (Err (BadRecord at)) = (at ≡ id) × ((r : Record) → Spells bytes r → ⊥)
-IsParsed id bytes (Err NoMemory) = Unit {0}
-IsParsed id bytes (Err fault) = ⊥

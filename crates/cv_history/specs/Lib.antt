@@ -1,4 +1,6 @@
 pub mod Record
 pub mod Faults
 pub mod Reading
+pub mod ReadingInner
 pub mod Chain
+pub mod ChainInner

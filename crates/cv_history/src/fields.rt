@@ -1,7 +1,7 @@
 //! Fields of a record, by their offsets.
 ghost use Rattle.std.specs.Prelude.{◌≡◌, ◌≤◌, ◌+◌, length, IfOk, IfErr};
 ghost use Rattle.cv_history.specs.Faults.{part, u16_at, u64_at};
-ghost use Rattle.cv_history.specs.Reading.{IsShort, HasText, IsTextFault};
+ghost use Rattle.cv_history.specs.ReadingInner.{IsShort, HasText, IsTextFault};
 
 use crate::record_fault::RecordFault;
 use cv_base::{DIGEST_SIZE, split_u16, split_u64};

@@ -1,7 +1,8 @@
 //! The fields of a record before its texts.
 ghost use Rattle.std.specs.Prelude.{◌≡◌, ◌≤◌, ◌==◌, length, IfOk};
 ghost use Rattle.cv_history.specs.Faults.{start_fault, hashes_fault, token_fault, front_fault, where_first};
-ghost use Rattle.cv_history.specs.Reading.{Judges, HasStart, HasHashes, HasToken, HasFront};
+ghost use Rattle.cv_history.specs.Reading.{Judges};
+ghost use Rattle.cv_history.specs.ReadingInner.{HasStart, HasHashes, HasToken, HasFront};
 
 use crate::fields::{hash_at, part_at, u64_at};
 use crate::record_fault::RecordFault;

@@ -3,7 +3,8 @@ ghost use Rattle.std.specs.Prelude.{◌≡◌, ◌≤◌, ◌+◌, List, reverse
 ghost use Rattle.cv_base.specs.Counts.{HasCause};
 ghost use Rattle.cv_base.specs.Told.{WhereTold};
 ghost use Rattle.cv_ports.specs.Calls.{raised};
-ghost use Rattle.cv_history.specs.Chain.{Names, Chain, StandsAt, Breaks, Gives, GivesBack, IsList, IsBroken, Reads, IsParsed};
+ghost use Rattle.cv_history.specs.Chain.{Names, Chain, StandsAt, Breaks, Gives, IsList, IsBroken};
+ghost use Rattle.cv_history.specs.ChainInner.{GivesBack, Reads, IsParsed};
 ghost use Rattle.cv_history.specs.declared.chain_fault.ChainFault.{ChainFault as Fault};
 ghost use Rattle.cv_history.specs.declared.chain_fault.ChainFault.TheVariants as fault;
 ghost use Rattle.cv_history.specs.declared.record.Record.{Record as Value};

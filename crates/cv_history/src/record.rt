@@ -64,7 +64,8 @@ fn push_text(bytes: &mut Vec<u8>, text: &[u8]) -> Result<(), AllocError>
 impl Record {
     ghost use Rattle.cv_history.specs.Record.{IsRecord, Spells};
     ghost use Rattle.cv_history.specs.Faults.{fault_of};
-    ghost use Rattle.cv_history.specs.Reading.{Judges, IsRead, front_bytes};
+    ghost use Rattle.cv_history.specs.Reading.{Judges, IsRead};
+    ghost use Rattle.cv_history.specs.ReadingInner.{front_bytes};
 
     /// The record that bytes spell.
     pub fn read(alloc: Global, bytes: &[u8]) -> Result<Record, RecordFault>

@@ -5,7 +5,8 @@ ghost use Rattle.cv_base.specs.Path.{IsPath, text_of};
 ghost use Rattle.cv_base.specs.Target.{is_target};
 ghost use Rattle.cv_history.specs.Record.{is_tag_byte};
 ghost use Rattle.cv_history.specs.Faults.{is_path_text, is_tag_text, limit_of, end_fault, texts_fault};
-ghost use Rattle.cv_history.specs.Reading.{Judges, HasEnd, HasTexts, front_of};
+ghost use Rattle.cv_history.specs.Reading.{Judges};
+ghost use Rattle.cv_history.specs.ReadingInner.{HasEnd, HasTexts, front_of};
 
 use crate::fields::{text_at, u64_at};
 use crate::front::Front;

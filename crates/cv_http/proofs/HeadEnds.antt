@@ -3,8 +3,9 @@ use Rattle.std.proofs.Common.{◌≡◌, ◌<◌, ◌≤◌, ◌+◌, ◌-◌, �
 use Rattle.std.proofs.lemmas.Bool.{cases_lt, le-leb}
 use Rattle.std.proofs.lemmas.List.{take_all, take-append-le, take-append-drop, drop-append-le, take_at}
 use Rattle.httparse.specs.Grammar.{LineEnd, crlf, lf, print_end}
-use Rattle.cv_http.specs.Forms.{Form, HasNone, UnfinishedAs, AwaitedAs, EndsEmpty, head_limit}
-use Rattle.cv_http.specs.HeadEnds.{closes, after, has_empty_line, may_end, NoneWithin}
+use Rattle.cv_http.specs.Forms.{Form, HasNone, UnfinishedAs, AwaitedAs, head_limit}
+use Rattle.cv_http.specs.FormsInner.{EndsEmpty}
+use Rattle.cv_http.specs.HeadEndsInner.{closes, after, has_empty_line, may_end, NoneWithin}
 use Rattle.cv_http.specs.declared.head_end.Line.{Line}
 use Rattle.cv_http.specs.declared.head_end.Line.TheVariants.{Empty, Returned, Text}
 

@@ -11,7 +11,8 @@ use Rattle.std.proofs.lemmas.Str.Ascii.{IsAscii-cons, IsAscii-nil}
 use Rattle.std.specs.Prelude.{IsTrue}
 use Rattle.cv_http.proofs.Streams.{seen_more}
 use Rattle.cv_http.specs.Forms.{Form, ReadsAs, HasNone, HasHeadAs, BeginsAs, NeverAs, RefusedAs, CutAs, head_limit, window, never, large, judged}
-use Rattle.cv_http.specs.Heads.{request_form, fault_of_head, Begins, Never, Unfinished, Refused, IsCut}
+use Rattle.cv_http.specs.Heads.{request_form, fault_of_head, Begins, Never, Refused, IsCut}
+use Rattle.cv_http.specs.HeadsInner.{Unfinished}
 use Rattle.cv_http.specs.declared.head.RequestHead.{RequestHead}
 use Rattle.cv_http.specs.declared.fault.HttpFault.{HttpFault}
 use Rattle.cv_http.specs.declared.fault.HttpFault.TheVariants.{BadHead}

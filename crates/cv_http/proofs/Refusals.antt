@@ -4,7 +4,7 @@ use Rattle.std.specs.Prelude.{Option, Some, None, IfSome, if◌then◌else◌, n
 use Rattle.cv_http.specs.FieldFaults.{is_length_wrong, field_limit, is_coded}
 use Rattle.cv_http.specs.Forms.{Form, RefusedAs, never, large, judged}
 use Rattle.cv_http.specs.ReplyHeads.{fields_of, reply_form}
-use Rattle.cv_http.specs.Faults.{IsRefusal}
+use Rattle.cv_http.specs.FaultsInner.{IsRefusal}
 use Rattle.cv_http.specs.declared.fault.HttpFault.{HttpFault}
 use Rattle.cv_http.specs.declared.fault.HttpFault.TheVariants.{BadHead, HeadTooLarge, NoLength, Coding}
 

@@ -4,7 +4,8 @@ use Rattle.std.specs.Prelude.{Option, Some, None, Ok, Err}
 use Rattle.cv_ports.specs.Streams.{Look}
 use Rattle.cv_http.specs.Forms.{BeginsAs, AwaitedAs}
 use Rattle.cv_http.specs.ReplyHeads.{reply_form}
-use Rattle.cv_http.specs.ReplyTexts.{interim_code, interim_limit, Passes, no_more, one_more, Reaches, HasFinal, IsBody, IsOpen, IsReply, bad_head, too_large, IsCutReply, before_head, inside_head, inside_body, IsAwaitedReply, awaits_head, awaits_body, ReplyLost, ReplyBodyRead}
+use Rattle.cv_http.specs.ReplyTexts.{interim_code, interim_limit, Passes, no_more, one_more, Reaches, HasFinal, IsBody, IsOpen, IsReply, bad_head, too_large, IsCutReply, before_head, inside_head, inside_body, IsAwaitedReply, awaits_head, awaits_body, ReplyLost}
+use Rattle.cv_http.specs.ReplyTextsInner.{ReplyBodyRead}
 use Rattle.cv_http.specs.Wires.{WireView, Draws, Looks, Beside, HeadReadAs}
 use Rattle.cv_http.specs.declared.reply_head.ReplyHead.{ReplyHead}
 use Rattle.cv_http.specs.declared.fault.HttpFault.{HttpFault}

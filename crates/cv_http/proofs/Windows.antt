@@ -3,7 +3,7 @@ use Rattle.std.proofs.Common.{◌≡◌, ◌≤◌, ◌++◌, ℕ, List, length,
 use Rattle.std.proofs.lemmas.List.{take-append-drop, drop-append-le, take_all, length-take}
 use Rattle.std.proofs.lemmas.Bool.{cases_lt}
 use Rattle.cv_http.specs.Forms.{Form, ReadsAs, HasNone, BeginsAs, RefusedAs, head_limit, window, judged}
-use Rattle.cv_http.specs.Judgements.{JudgesWhole, Judges}
+use Rattle.cv_http.specs.JudgementsInner.{JudgesWhole, Judges}
 use Rattle.cv_http.specs.declared.judge.Judged.{Judged}
 use Rattle.cv_http.specs.declared.judge.Judged.TheVariants.{Whole, More, Refused as RefusedBy}
 use Rattle.cv_http.proofs.Streams.{begins_on, refused_on}

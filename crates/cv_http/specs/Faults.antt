@@ -24,28 +24,6 @@ IsBodyFault Short = Unit {0}
 IsBodyFault ReadFault = Unit {0}
 IsBodyFault NoMemory = Unit {0}
 
--- a fault that reading a piece may answer
-abbrev pub IsPieceFault : HttpFault → Type 0
-IsPieceFault BadHead = ⊥
-IsPieceFault HeadTooLarge = ⊥
-IsPieceFault BodyTooLarge = ⊥
-IsPieceFault NoLength = ⊥
-IsPieceFault Coding = ⊥
-IsPieceFault Short = ⊥
-IsPieceFault ReadFault = Unit {0}
-IsPieceFault NoMemory = Unit {0}
-
--- a fault by which a head is refused
-abbrev pub IsRefusal : HttpFault → Type 0
-IsRefusal BadHead = Unit {0}
-IsRefusal HeadTooLarge = Unit {0}
-IsRefusal BodyTooLarge = ⊥
-IsRefusal NoLength = Unit {0}
-IsRefusal Coding = Unit {0}
-IsRefusal Short = ⊥
-IsRefusal ReadFault = ⊥
-IsRefusal NoMemory = ⊥
-
 -- a fault that reading a reply may answer
 abbrev pub IsReplyFault : HttpFault → Type 0
 IsReplyFault BadHead = Unit {0}

@@ -1,6 +1,5 @@
 -- Heads of a form, as requests have one and replies another: whether bytes begin with one of at most 16,384 bytes.
-use Rattle.std.specs.Prelude.{◌≡◌, ◌≢◌, ◌<◌, ◌≤◌, ◌++◌, ◌∷◌, ℕ, List, [], length, take, Option, Some, None}
-use Rattle.httparse.specs.Grammar.{LineEnd, print_end}
+use Rattle.std.specs.Prelude.{◌≡◌, ◌≢◌, ◌<◌, ◌≤◌, ◌++◌, ℕ, List, [], length, take, Option, Some, None}
 use Rattle.cv_http.specs.declared.fault.HttpFault.{HttpFault}
 use Rattle.cv_http.specs.declared.fault.HttpFault.TheVariants.{BadHead, HeadTooLarge}
 
@@ -66,7 +65,3 @@ pub record CutAs {P H : Type 0} (form : Form P H) (b : List ℕ) : Type 0 where
   pub some : b ≢ []
   pub short : length b < head_limit
   pub unfinished : UnfinishedAs form b
-
--- the text ends with the end of a line and an empty line
-abbrev pub EndsEmpty : List ℕ → Type 0
-EndsEmpty text = (front : List ℕ) × (last : LineEnd) × (text ≡ front ++ 10 ∷ print_end last)

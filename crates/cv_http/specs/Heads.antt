@@ -7,7 +7,7 @@ use Rattle.httparse.specs.Grammar.{RequestHead as ParsedHead, IsRequestHead, May
 use Rattle.httparse.specs.Spans.{name_and_value}
 use Rattle.cv_http.specs.Fields.{values_of, length_of, text_value, has_token}
 use Rattle.cv_http.specs.FieldFaults.{lengths_of, fields_fault}
-use Rattle.cv_http.specs.Forms.{Form, BeginsAs, NeverAs, UnfinishedAs, RefusedAs, AwaitedAs, CutAs}
+use Rattle.cv_http.specs.Forms.{Form, BeginsAs, NeverAs, RefusedAs, AwaitedAs, CutAs}
 use Rattle.cv_http.specs.declared.head.RequestHead.{RequestHead}
 use Rattle.cv_http.specs.declared.method.Method.{Method}
 use Rattle.cv_http.specs.declared.method.Method.TheVariants.{Get, Post, Delete, Other}
@@ -84,10 +84,6 @@ Begins = BeginsAs request_form
 -- no bytes can follow the first 16,384 that make them begin with a head
 abbrev pub Never : List ℕ → Type 0
 Never = NeverAs request_form
-
--- the first 16,384 bytes don't begin with a head, and may become one
-abbrev pub Unfinished : List ℕ → Type 0
-Unfinished = UnfinishedAs request_form
 
 -- the bytes begin with something that is refused by this fault
 abbrev pub Refused : List ℕ → HttpFault → Type 0

@@ -22,13 +22,6 @@ rest left wire = front wire.held (left wire.source)
 abbrev pub HasEnded : Option (List ℕ) → Type 0
 HasEnded left = WhereTold left (λ l. l ≡ [])
 
--- so much was got of the source, which tells that it gave it, and is held behind what was held
-pub record Gets {R : Type 0} (left given : R → Option (List ℕ)) (wire wire' : WireView R) : Type 0 where
-  pub got : List ℕ
-  pub told : left wire.source ≡ front got (left wire'.source)
-  pub gave : given wire'.source ≡ onto (given wire.source) got
-  pub more : wire'.held ≡ wire.held ++ got
-
 -- the bytes that were read meanwhile, those held before and then those got of the source, are so
 pub record Reads {R : Type 0} (left : R → Option (List ℕ)) (wire wire' : WireView R) (Are : List ℕ → Type 0) : Type 0 where
   pub got : List ℕ
@@ -56,17 +49,6 @@ Looks left looks wire wire' Are = (look : Look) → looks wire'.source look → 
 -- such bytes were read when this had been passed on
 abbrev pub Beside : Option (List ℕ) → (List ℕ → Type 0) → List ℕ → Option (List ℕ) → Type 0
 Beside passed Are b passed' = Are b × (passed' ≡ passed)
-
--- the bytes are refused by this fault, or memory was wanted, and all are still held
-abbrev pub HeadLost : {P H : Type 0} → Form P H → List ℕ → List ℕ → HttpFault → Type 0
-HeadLost form b held NoMemory = held ≡ b
-HeadLost form b held fault = RefusedAs form b fault × (held ≡ b)
-
--- what the bytes held are where a head is taken of them: a head, and then what is still held; or a part of one
-abbrev pub HeadFound : {P H : Type 0} → Form P H → (List ℕ → Type 0) → List ℕ → List ℕ → Result (Option H) HttpFault → Type 0
-HeadFound form IsPart b held (Ok (Some head)) = BeginsAs form b head held
-HeadFound form IsPart b held (Ok None) = IsPart b × (held ≡ b)
-HeadFound form IsPart b held (Err fault) = HeadLost form b held fault
 
 -- what the bytes read are where a head of a form was asked for, and which of them are still held
 abbrev pub HeadReadAs : {P H : Type 0} → Form P H → List ℕ → List ℕ → Result (Option H) HttpFault → Type 0

@@ -1,6 +1,6 @@
 //! Where a head may end: at an empty line.
 ghost use Rattle.std.specs.Prelude.{◌≡◌};
-ghost use Rattle.cv_http.specs.HeadEnds.{closes, after, has_empty_line};
+ghost use Rattle.cv_http.specs.HeadEndsInner.{closes, after, has_empty_line};
 ghost use Rattle.cv_http.specs.declared.head_end.Line.TheVariants.{Text};
 
 /// What stands of a line.

@@ -1,8 +1,9 @@
 //! What bytes begin.
 ghost use Rattle.std.specs.Prelude.{◌≤◌, length, IfOk, IfSome};
-ghost use Rattle.cv_http.specs.Forms.{Form, EndsEmpty, head_limit};
-ghost use Rattle.cv_http.specs.Faults.{IsRefusal};
-ghost use Rattle.cv_http.specs.Judgements.{Judges};
+ghost use Rattle.cv_http.specs.Forms.{Form, head_limit};
+ghost use Rattle.cv_http.specs.FormsInner.{EndsEmpty};
+ghost use Rattle.cv_http.specs.FaultsInner.{IsRefusal};
+ghost use Rattle.cv_http.specs.JudgementsInner.{Judges};
 
 use crate::fault::HttpFault;
 use cv_base::NoMemory;

@@ -3,8 +3,8 @@ ghost use Rattle.std.specs.Prelude.{length, IfOk};
 ghost use Rattle.httparse.specs.Grammar.{ResponseHead as ParsedReply};
 ghost use Rattle.httparse.specs.Spans.{IsResponseWithin, IsResponseAt};
 ghost use Rattle.cv_http.specs.ReplyHeads.{fault_of_reply, reply_head_of, reply_form};
-ghost use Rattle.cv_http.specs.Judgements.{JudgesWhole, Judges};
-ghost use Rattle.cv_http.specs.HeadLaws.{reply_ends, reply_refusal};
+ghost use Rattle.cv_http.specs.JudgementsInner.{JudgesWhole, Judges};
+ghost use Rattle.cv_http.specs.HeadLawsInner.{reply_ends, reply_refusal};
 
 use crate::fault::HttpFault;
 use crate::field_faults::{fields_fault, length_in};

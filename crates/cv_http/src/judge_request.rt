@@ -3,8 +3,8 @@ ghost use Rattle.std.specs.Prelude.{◌≡◌, IfOk};
 ghost use Rattle.httparse.specs.Grammar.{RequestHead as ParsedHead};
 ghost use Rattle.httparse.specs.Spans.{IsRequestWithin, IsRequestOf, IsRequestAt};
 ghost use Rattle.cv_http.specs.Heads.{parts_of, fault_of, read_parts, request_form};
-ghost use Rattle.cv_http.specs.Judgements.{JudgesWhole, Judges};
-ghost use Rattle.cv_http.specs.HeadLaws.{request_ends, request_refusal};
+ghost use Rattle.cv_http.specs.JudgementsInner.{JudgesWhole, Judges};
+ghost use Rattle.cv_http.specs.HeadLawsInner.{request_ends, request_refusal};
 
 use crate::fault::HttpFault;
 use crate::fields::Fields;

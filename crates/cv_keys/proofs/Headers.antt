@@ -15,7 +15,8 @@ use Rattle.base64.proofs.EngineFacts.{decode_of-encode_of}
 use Rattle.cv_base.specs.Digest.{IsDigest}
 use Rattle.cv_seal.specs.Hmac.{hmac_sha1}
 use Rattle.cv_base.proofs.Laws.{digest_sha1, first_true, second_true}
-use Rattle.cv_keys.specs.Key.{is_visible, is_key_id, key_of, place_of, IsTable}
+use Rattle.cv_keys.specs.Key.{is_visible, is_key_id, key_of, IsTable}
+use Rattle.cv_keys.specs.KeyInner.{place_of}
 use Rattle.cv_keys.specs.Header.{mac_of, header_of, is_mac, decoded, checked_mac, checked_parts, checked}
 use Rattle.cv_keys.specs.declared.auth_fault.AuthFault.TheVariants.{UnknownKey, WrongMac}
 use Rattle.cv_keys.specs.declared.key.Key.{Key}

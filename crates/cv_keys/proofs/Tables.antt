@@ -12,7 +12,8 @@ use Rattle.cv_base.specs.Sequence.{◌>>=◌}
 use Rattle.cv_base.proofs.Laws.{first_true, second_true}
 use Rattle.serde_json.specs.Data.{Data}
 use Rattle.serde_json.specs.Find.{get, as_str, as_object}
-use Rattle.cv_keys.specs.Key.{is_key_id, is_secret, has_id, is_distinct, key_of, place_of, IsTable}
+use Rattle.cv_keys.specs.Key.{is_key_id, is_secret, has_id, is_distinct, key_of, IsTable}
+use Rattle.cv_keys.specs.KeyInner.{place_of}
 use Rattle.cv_keys.specs.KeysText.{tested_text, member_text, key_in, new_key, keys_behind, array_keys}
 use Rattle.cv_keys.specs.declared.key.Key.{Key}
 use Rattle.cv_keys.specs.declared.key_fault.KeyFault.{KeyFault}

@@ -1,5 +1,5 @@
 -- Keys, and the table of a gateway's keys.
-use Rattle.std.specs.Prelude.{ℕ, ◌≡◌, ◌≤◌, Bool, true, not, ◌&&◌, nat_le, List, [], ◌∷◌, length, Option, position}
+use Rattle.std.specs.Prelude.{ℕ, ◌≡◌, ◌≤◌, Bool, true, not, ◌&&◌, nat_le, List, [], ◌∷◌, length, Option}
 use Rattle.std.specs.List.{list_all, list_any, find}
 use Rattle.std.specs.Str.{bytes_eq}
 use Rattle.cv_keys.specs.declared.key.Key.{Key}
@@ -21,10 +21,6 @@ is_distinct (key ∷ keys) = not (has_id keys key.id) && is_distinct keys
 -- the key of this id
 abbrev pub key_of : List Key → List ℕ → Option Key
 key_of keys id = find (λ key. bytes_eq key.id id) keys
-
--- its place
-abbrev pub place_of : List Key → List ℕ → Option ℕ
-place_of keys id = position (λ key. bytes_eq key.id id) keys
 
 -- a table: 1 to 256 keys, each with an id of its own
 pub record IsTable (keys : List Key) : Type 0 where

@@ -1,3 +1,4 @@
 pub mod Key
+pub mod KeyInner
 pub mod KeysText
 pub mod Header

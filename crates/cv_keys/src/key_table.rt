@@ -1,6 +1,7 @@
 //! The table of a gateway's keys.
 ghost use Rattle.std.specs.Prelude.{◌≡◌, ◌<◌, List, true, Ok, Err, Some, None, length, slice_get, option_map, IfOk, IsSomeAnd, MatchResult, string_bytes};
-ghost use Rattle.cv_keys.specs.Key.{is_key_id, place_of};
+ghost use Rattle.cv_keys.specs.Key.{is_key_id};
+ghost use Rattle.cv_keys.specs.KeyInner.{place_of};
 ghost use Rattle.cv_keys.specs.KeysText.{IsSaid, keys_of};
 ghost use Rattle.cv_keys.specs.Header.{header_of, is_mac, decoded, checked, checked_parts, IsPlaceOf};
 

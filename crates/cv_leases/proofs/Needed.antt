@@ -8,7 +8,8 @@ use Rattle.cv_links.specs.Arena.{value_at, IsLive, SameValues}
 use Rattle.cv_links.proofs.Laws.{id_cases}
 use Rattle.cv_leases.specs.declared.names.Place.{Place}
 use Rattle.cv_leases.specs.declared.names.Names.{Names}
-use Rattle.cv_leases.specs.Names.{is_leased, above_of, below_of, Climbs, IsOver, IsWithin, IsNames, IsNeeded, IsPruned, IsPrunedBut, IsPrunedTo}
+use Rattle.cv_leases.specs.Names.{is_leased, above_of, below_of, Climbs, IsOver, IsWithin, IsNames, IsNeeded, IsPruned}
+use Rattle.cv_leases.specs.NamesInner.{IsPrunedBut, IsPrunedTo}
 use Rattle.cv_leases.proofs.Reaching.{none_some}
 use Rattle.cv_leases.proofs.Trees.{IsAttached, above_live}
 use Rattle.cv_leases.proofs.Pruned.{IsDetached}

@@ -15,7 +15,8 @@ use Rattle.cv_leases.specs.declared.names.Place.{Place}
 use Rattle.cv_leases.specs.declared.names.Names.{Names}
 use Rattle.cv_leases.specs.Leases.{busy}
 use Rattle.cv_leases.specs.Queue.{before_rest, leases_by, leases_in, ids_of}
-use Rattle.cv_leases.specs.Names.{has_name, is_leased, above_of, named, step, place_of, below_of, IsNames, SameLeased}
+use Rattle.cv_leases.specs.Names.{has_name, is_leased, above_of, named, step, place_of, below_of, IsNames}
+use Rattle.cv_leases.specs.NamesInner.{SameLeased}
 use Rattle.cv_leases.specs.Linked.{AreTied}
 use Rattle.cv_leases.proofs.Reaching.{none_some, reach_more}
 use Rattle.cv_leases.proofs.Needed.{root_top}

@@ -10,7 +10,8 @@ use Rattle.cv_links.specs.Chains.{AreApart}
 use Rattle.cv_links.proofs.Laws.{split, id_cases}
 use Rattle.cv_leases.specs.declared.names.Place.{Place}
 use Rattle.cv_leases.specs.declared.names.Names.{Names}
-use Rattle.cv_leases.specs.Names.{has_name, is_leased, above_of, named, reach, place_of, list_below, below_of, IsTree, IsNames, IsWithin, SamePlaces, SameLeased, Ends, step}
+use Rattle.cv_leases.specs.Names.{has_name, is_leased, above_of, named, reach, place_of, list_below, below_of, IsTree, IsNames, IsWithin, step}
+use Rattle.cv_leases.specs.NamesInner.{SamePlaces, SameLeased, Ends}
 use Rattle.cv_leases.proofs.Queues.{absent}
 use Rattle.cv_leases.proofs.Reaching.{none_some, reach_more, named_kept, named_more, named_new, named_less, reach_kept, reach_less}
 use Rattle.cv_leases.proofs.Trees.{IsAttached, known_below}

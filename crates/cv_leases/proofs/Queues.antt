@@ -17,7 +17,8 @@ use Rattle.cv_leases.proofs.Ending.{leaves, none_due, due, rest_rise}
 use Rattle.cv_leases.specs.declared.lease.Lease.{Lease}
 use Rattle.cv_leases.specs.declared.queue.Entry.{Entry}
 use Rattle.cv_leases.specs.declared.queue.Queue.{Queue}
-use Rattle.cv_leases.specs.Queue.{before_rest, leases_by, leases_in, ids_of, lease_at, IsQueue, IsParted}
+use Rattle.cv_leases.specs.Queue.{before_rest, leases_by, leases_in, ids_of, IsQueue}
+use Rattle.cv_leases.specs.QueueInner.{lease_at, IsParted}
 
 before_cat : (entry : Option Entry) (xs ys : List Lease) → before_rest entry (xs ++ ys) ≡ before_rest entry xs ++ ys
 before_cat None xs ys = refl

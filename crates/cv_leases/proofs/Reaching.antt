@@ -6,7 +6,8 @@ use Rattle.cv_base.specs.PathOrder.{same_name_is, same_name_itself}
 use Rattle.cv_links.specs.declared.id.Id.{Id}
 use Rattle.cv_links.proofs.Laws.{here, later, id_cases}
 use Rattle.cv_leases.specs.declared.names.Place.{Place}
-use Rattle.cv_leases.specs.Names.{has_name, is_leased, named, step, reach, leased_at, meets}
+use Rattle.cv_leases.specs.Names.{has_name, is_leased, named, step, reach}
+use Rattle.cv_leases.specs.NamesInner.{leased_at, meets}
 
 pub none_some : {A : Type 0} (x : A) → None ≡ Some x → ⊥
 none_some x e = cc

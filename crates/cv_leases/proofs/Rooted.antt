@@ -13,7 +13,8 @@ use Rattle.cv_links.specs.Chains.{IsChain, list_of, rest_of, SameLists, IsEmpty}
 use Rattle.cv_links.proofs.Laws.{none_within, id_cases, empty_list, rest_first, puts_with_value, links_of_value}
 use Rattle.cv_leases.specs.declared.names.Place.{Place}
 use Rattle.cv_leases.specs.declared.names.Names.{Names}
-use Rattle.cv_leases.specs.Names.{has_name, is_leased, above_of, named, reach, list_below, below_of, IsTree, IsNames, IsWithin, SamePlaces, SameLeased, Begins, Ends}
+use Rattle.cv_leases.specs.Names.{has_name, is_leased, above_of, named, reach, list_below, below_of, IsTree, IsNames, IsWithin}
+use Rattle.cv_leases.specs.NamesInner.{SamePlaces, SameLeased, Begins, Ends}
 use Rattle.cv_leases.proofs.Reaching.{none_some, reach_none, named_kept, reach_kept}
 use Rattle.cv_leases.proofs.Trees.{known_below}
 use Rattle.cv_leases.proofs.Climbing.{within_kept, root_within, within_more}

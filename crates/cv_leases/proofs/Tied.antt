@@ -15,8 +15,10 @@ use Rattle.cv_leases.specs.declared.names.Names.{Names}
 use Rattle.cv_leases.specs.declared.names.Place.{Place}
 use Rattle.cv_leases.specs.Leases.{busy}
 use Rattle.cv_leases.specs.Queue.{before_rest, leases_by, leases_in, ids_of, IsQueue}
-use Rattle.cv_leases.specs.Names.{is_leased, below_of, meets, place_of, IsLeasedAt, SameLeased, Begins, Ends}
-use Rattle.cv_leases.specs.Linked.{Holds, AreTied, TakesOut, PutsIn, SameEntries}
+use Rattle.cv_leases.specs.Names.{is_leased, below_of, place_of, IsLeasedAt}
+use Rattle.cv_leases.specs.NamesInner.{meets, SameLeased, Begins, Ends}
+use Rattle.cv_leases.specs.Linked.{Holds, AreTied}
+use Rattle.cv_leases.specs.LinkedInner.{TakesOut, PutsIn, SameEntries}
 use Rattle.cv_leases.proofs.Reaching.{clear}
 use Rattle.cv_leases.proofs.Queues.{absent, gone}
 

@@ -1,5 +1,5 @@
 -- The tree of the names on the way to leases: where a path leads to, and what stands on its way.
-use Rattle.std.specs.Prelude.{◌≡◌, ◌≢◌, ◌≤◌, ◌||◌, ◌⊎◌, ℕ, Bool, true, false, cond, List, [], ◌∷◌, length, Option, None, Some, is_some, IfSome, Contains}
+use Rattle.std.specs.Prelude.{◌≡◌, ◌≤◌, ◌⊎◌, ℕ, Bool, true, false, cond, List, [], ◌∷◌, length, Option, None, Some, IfSome, Contains}
 use Rattle.cv_base.specs.Path.{Path, same_name}
 use Rattle.cv_links.specs.declared.id.Id.{Id}
 use Rattle.cv_links.specs.declared.lane.Lane.TheVariants.{Tree, Time}
@@ -38,16 +38,6 @@ step at below name (Some id) = named at name (below id)
 abbrev pub reach : (Id → Option Place) → (Id → List Id) → Path → Option Id → Option Id
 reach at below [] from = from
 reach at below (name ∷ path) from = reach at below path (step at below name from)
-
--- a lease ends at this place, if it is one
-abbrev pub leased_at : (Id → Option Place) → Option Id → Bool
-leased_at at None = false
-leased_at at (Some id) = is_leased (at id)
-
--- a place on the way of the path is leased, or the path leads to a place
-abbrev pub meets : (Id → Option Place) → (Id → List Id) → Path → Option Id → Bool
-meets at below [] from = is_some from
-meets at below (name ∷ path) from = leased_at at from || meets at below path (step at below name from)
 
 -- the list of the places below one
 abbrev pub list_below : Arena Place → Option Place → List Id
@@ -102,41 +92,7 @@ pub record IsNeeded (places : Arena Place) (id : Id) : Type 0 where
 abbrev pub IsPruned : Names → Type 0
 IsPruned names = (id : Id) → IsLive names.places id → (names.root ≡ Some id) ⊎ IsNeeded names.places id
 
--- and but for this place and those above it
-abbrev pub IsPrunedBut : Names → Id → Type 0
-IsPrunedBut names from = (id : Id) → IsLive names.places id → (names.root ≡ Some id) ⊎ IsNeeded names.places id ⊎ IsOver names.places id from
-
--- no place is left bare, but for this one and those above it, if there is one
-abbrev pub IsPrunedTo : Names → Option Id → Type 0
-IsPrunedTo names None = IsPruned names
-IsPrunedTo names (Some from) = IsPrunedBut names from
-
 -- a lease on this path ends at this place
 pub record IsLeasedAt (names : Names) (path : Path) (id : Id) : Type 0 where
   pub place : place_of names path ≡ Some id
   pub leased : is_leased (value_at names.places id) ≡ true
-
--- each path that led to a place leads there
-abbrev pub SamePlaces : Names → Names → Type 0
-SamePlaces old new = (path : Path) (id : Id) → place_of old path ≡ Some id → place_of new path ≡ Some id
-
--- leases end where they ended, and nowhere else
-pub record SameLeased (old new : Names) : Type 0 where
-  pub kept : (path : Path) (id : Id) → IsLeasedAt old path id → IsLeasedAt new path id
-  pub none : (id : Id) → is_leased (value_at new.places id) ≡ true → is_leased (value_at old.places id) ≡ true
-
--- no lease ends at the place, and none is below it
-pub record IsBare (places : Arena Place) (id : Id) : Type 0 where
-  pub unleased : is_leased (value_at places id) ≡ false
-  pub leaf : below_of places id ≡ []
-
--- a lease begins at the place
-pub record Begins (old new : Names) (id : Id) : Type 0 where
-  pub kept : (path : Path) (other : Id) → IsLeasedAt old path other → IsLeasedAt new path other
-  pub here : (path : Path) → place_of old path ≡ Some id → IsLeasedAt new path id
-  pub none : (other : Id) → other ≢ id → is_leased (value_at new.places other) ≡ true → is_leased (value_at old.places other) ≡ true
-
--- the lease at the place ends
-pub record Ends (old new : Names) (id : Id) : Type 0 where
-  pub kept : (path : Path) (other : Id) → other ≢ id → IsLeasedAt old path other → IsLeasedAt new path other
-  pub none : (other : Id) → is_leased (value_at new.places other) ≡ true → (other ≢ id) × (is_leased (value_at old.places other) ≡ true)

@@ -1,9 +1,11 @@
 //! Leases in the order of grant, and the tree of the names on the way to them.
 ghost use Rattle.std.specs.Prelude.{◌≡◌, ◌<◌, ◌≤◌, ◌+◌, ◌*◌, ◌++◌, ◌∷◌, [], length, Some, None, false, is_ok, is_some, if◌then◌else◌, Contains, List, option_copied, IfOk, map};
 ghost use Rattle.cv_leases.specs.Leases.{lease_of, busy, without, unexpired, TokensDiffer, DeadlinesRise};
-ghost use Rattle.cv_leases.specs.Linked.{IsLinked, IsReady};
+ghost use Rattle.cv_leases.specs.Linked.{IsLinked};
+ghost use Rattle.cv_leases.specs.LinkedInner.{IsReady};
 ghost use Rattle.cv_leases.specs.Names.{place_of, is_leased};
-ghost use Rattle.cv_leases.specs.Queue.{IsParted, IsDropped, ids_of, leases_in, lease_at};
+ghost use Rattle.cv_leases.specs.Queue.{ids_of, leases_in};
+ghost use Rattle.cv_leases.specs.QueueInner.{IsParted, IsDropped, lease_at};
 ghost use Rattle.cv_links.specs.Arena.{value_at, IsLive};
 ghost use Rattle.cv_links.specs.declared.id.Id.{Id as NodeId};
 

@@ -1,6 +1,7 @@
 //! The names on the way to leases, linked by index.
 ghost use Rattle.std.specs.Prelude.{◌≡◌, ◌≤◌, ◌+◌, [], Some, None, true, false, ℕ, IfOk, IfSome, OnErr, length};
-ghost use Rattle.cv_leases.specs.Names.{IsNames, IsBare, IsWithin, IsPruned, IsPrunedBut, IsPrunedTo, SameLeased, SamePlaces, Begins, Ends, below_of, above_of, is_leased, named, place_of, meets};
+ghost use Rattle.cv_leases.specs.Names.{IsNames, IsWithin, IsPruned, below_of, above_of, is_leased, named, place_of};
+ghost use Rattle.cv_leases.specs.NamesInner.{IsBare, IsPrunedBut, IsPrunedTo, SameLeased, SamePlaces, Begins, Ends, meets};
 ghost use Rattle.cv_base.specs.Path.{same_name};
 ghost use Rattle.cv_links.specs.Arena.{value_at, IsLive};
 

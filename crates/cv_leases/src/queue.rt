@@ -2,9 +2,10 @@
 ghost use Rattle.std.specs.Prelude.{◌≡◌, ◌<◌, ◌+◌, ◌++◌, ◌∷◌, [], length, IfSome, Some, None, is_ok, if◌then◌else◌, Contains, slice_get, option_copied, List, IfOk, map, ◌≤◌};
 ghost use Rattle.cv_links.specs.Arena.{value_at};
 ghost use Rattle.cv_leases.specs.Leases.{lease_of, busy};
-ghost use Rattle.cv_leases.specs.Linked.{TakesOut, Stores};
+ghost use Rattle.cv_leases.specs.LinkedInner.{TakesOut, Stores};
 ghost use Rattle.cv_links.specs.Chains.{head_or};
-ghost use Rattle.cv_leases.specs.Queue.{IsQueue, IsParted, ids_of, leases_in, lease_at};
+ghost use Rattle.cv_leases.specs.Queue.{IsQueue, ids_of, leases_in};
+ghost use Rattle.cv_leases.specs.QueueInner.{IsParted, lease_at};
 ghost use Rattle.cv_links.specs.declared.id.Id.{Id as NodeId};
 
 use crate::lease::Lease;

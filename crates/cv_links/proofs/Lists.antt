@@ -21,7 +21,7 @@ use Rattle.cv_links.specs.Links.{link_in}
 use Rattle.cv_links.specs.Arena.{link_at, IsLive, IsFree, Puts, SameLinks}
 use Rattle.cv_links.specs.Chains.{IsNext, AreDisjoint, head_or, last_or, Runs, AreApart, IsList, follow, after_of, list_of, rest_of, IsChain, SameList, SameLists}
 use Rattle.cv_links.specs.Lends.{with_value, revalued}
-use Rattle.cv_links.specs.RawSteps.{end_of, Joins, Parts, Touches}
+use Rattle.cv_links.specs.RawStepsInner.{end_of, Joins, Parts, Touches}
 use Rattle.cv_links.proofs.Segments.{here, later, cons_cases, none_within, runs_held, runs_live, runs_kept, runs_cut, apart_cat, apart_left, apart_right, apart_between, last_or-append, last_within, head_within}
 
 pub lane_cases : (a b : Lane) → (a ≡ b) ⊎ (a ≢ b)

@@ -5,7 +5,7 @@ use Rattle.std.proofs.lemmas.List.Elements.{Contains-append_left, Contains-appen
 use Rattle.cv_links.specs.declared.id.Id.{Id}
 use Rattle.cv_links.specs.declared.links.Link.{Link}
 use Rattle.cv_links.specs.declared.links.Link.TheVariants.{Free, Held}
-use Rattle.cv_links.specs.Links.{with_before, with_after}
+use Rattle.cv_links.specs.LinksInner.{with_before, with_after}
 use Rattle.cv_links.specs.Chains.{head_or, last_or, Runs, AreApart}
 
 pub here : (x : Id) (xs : List Id) → Contains (x ∷ xs) x

@@ -1,5 +1,6 @@
 pub mod Links
+pub mod LinksInner
 pub mod Arena
 pub mod Chains
 pub mod Lends
-pub mod RawSteps
+pub mod RawStepsInner

@@ -1,12 +1,12 @@
 //! Values under ids, and lists of the ids.
 ghost use Rattle.std.specs.Prelude.{◌≡◌, ◌≢◌, ◌+◌, ◌<◌, ◌≤◌, Some, None, IsSome, IfSome, IfOk, IfErr, OnOk, OnErr, IsOk, option_map, Contains, ◌++◌, ◌∷◌, []};
-ghost use Rattle.cv_links.specs.Links.{with_before, with_after};
+ghost use Rattle.cv_links.specs.LinksInner.{with_before, with_after};
 ghost use Rattle.cv_links.specs.Arena.{value_at, IsLive, link_at, IsFree, spare, Puts, SameValues, SameContents, SameLinks, SameLinksBut, SameFreedomBut};
 ghost use Rattle.cv_links.specs.declared.links.Link.TheVariants.{Held};
 ghost use Rattle.std.specs.Borrow.{sem};
 ghost use Rattle.cv_links.specs.Lends.{lends_value, with_value};
 ghost use Rattle.cv_links.specs.Chains.{IsChain, list_of, rest_of, head_or, SameElsewhere, SameLists, IsNext, IsPutAfter, IsTakenOut};
-ghost use Rattle.cv_links.specs.RawSteps.{Relinks, Mends, Touches, Joins, Parts, end_of as spec_end_of};
+ghost use Rattle.cv_links.specs.RawStepsInner.{Relinks, Mends, Touches, Joins, Parts, end_of as spec_end_of};
 
 use crate::chain::Chain;
 use crate::id::Id;

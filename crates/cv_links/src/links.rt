@@ -1,7 +1,8 @@
 //! Where a node stands in each lane.
 ghost use Rattle.std.specs.Prelude.{◌≡◌};
 ghost use Rattle.cv_links.specs.declared.links.Link.TheVariants.{Free};
-ghost use Rattle.cv_links.specs.Links.{link_in, with_link, with_before, with_after};
+ghost use Rattle.cv_links.specs.Links.{link_in};
+ghost use Rattle.cv_links.specs.LinksInner.{with_link, with_before, with_after};
 
 use crate::id::Id;
 use crate::lane::Lane;

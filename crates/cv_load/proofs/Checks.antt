@@ -16,8 +16,9 @@ use Rattle.cv_cut.specs.Reached.{Reaches, root_place, itself, HasCatalogue}
 use Rattle.cv_cut.proofs.Lemmas.{nested_unopened}
 use Rattle.cv_cut.specs.declared.load_fault.LoadFault.{LoadFault}
 use Rattle.cv_load.specs.declared.known_set.KnownSet.{KnownSet}
-use Rattle.cv_load.specs.Growth.{HasFiles}
-use Rattle.cv_load.specs.Known.{is_known, AreKnown, IsWholePair, AreWhole, ChecksFrom}
+use Rattle.cv_load.specs.GrowthInner.{HasFiles}
+use Rattle.cv_load.specs.Known.{is_known, AreKnown, IsWholePair, AreWhole}
+use Rattle.cv_load.specs.KnownInner.{ChecksFrom}
 use Rattle.cv_load.proofs.Growing.{each_more, each_all}
 use Rattle.cv_load.proofs.Filling.{one_row}
 use Rattle.cv_load.proofs.GoodLaws.{good_whole, whole_good}

@@ -20,7 +20,8 @@ use Rattle.cv_rows.specs.declared.nested.Nested.{Nested}
 use Rattle.cv_rows.specs.declared.row_kind.RowKind.{RowKind}
 use Rattle.cv_rows.specs.declared.row_kind.RowKind.TheVariants.{Directory, Transition, NestedRoot, File, Link}
 use Rattle.cv_rows.proofs.Lemmas.{fits_there}
-use Rattle.cv_load.specs.Growth.{GrowsBy, IsClear, IsReady, ChangesBelow, HasRows, IsRootOf}
+use Rattle.cv_load.specs.Growth.{GrowsBy, IsRootOf}
+use Rattle.cv_load.specs.GrowthInner.{IsClear, IsReady, ChangesBelow, HasRows}
 use Rattle.cv_cut.specs.Told.{node_of, node_as}
 use Rattle.cv_load.proofs.Growing.{HasParent, some_there, stands_below}
 use Rattle.cv_load.proofs.Filling.{one_row}

@@ -17,7 +17,8 @@ use Rattle.cv_rows.specs.declared.nested.Nested.{Nested}
 use Rattle.cv_cut.specs.Reached.{Reaches, Place, HasCatalogue, ReachesCatalogue, itself, root_place}
 use Rattle.cv_cut.specs.declared.load_fault.LoadFault.{LoadFault}
 use Rattle.cv_cut.specs.declared.load_fault.LoadFault.TheVariants as fault
-use Rattle.cv_load.specs.Fetches.{Visit, Visited, FetchesOnce, IsInside, HasEntry, HasEntries, IsClosed, AreBelow, FetchesBelow}
+use Rattle.cv_load.specs.Fetches.{Visit, Visited, FetchesOnce}
+use Rattle.cv_load.specs.FetchesInner.{IsInside, HasEntry, HasEntries, IsClosed, AreBelow, FetchesBelow}
 use Rattle.cv_load.proofs.Growing.{each_more, each_all}
 use Rattle.cv_load.proofs.Filling.{one_row}
 use Rattle.cv_load.proofs.Standing.{same_contents}

@@ -21,7 +21,8 @@ use Rattle.cv_rows.proofs.Lemmas.{stands_contained, one_place, fits_there}
 use Rattle.cv_cut.specs.Reached.{Place, ReachesCatalogue, Reaches, root_place}
 use Rattle.cv_cut.specs.Means.{Means}
 use Rattle.cv_cut.proofs.Lemmas.{none_there, first_there, later_there, first_or_later, transition_of}
-use Rattle.cv_load.specs.Growth.{Grows, GrowsBy, IsOfRows, IsFilled, filled, FillsIn}
+use Rattle.cv_load.specs.Growth.{Grows, GrowsBy, filled}
+use Rattle.cv_load.specs.GrowthInner.{IsOfRows, IsFilled, FillsIn}
 use Rattle.cv_cut.specs.Told.{node_of, node_as, hash_of}
 use Rattle.cv_load.proofs.Growing.{place_of, some_there, still_there, added_by_insert, inserted_there, grows_more, grows_added}
 use Rattle.cv_load.proofs.Filling.{filled_more, one_row}

@@ -17,7 +17,8 @@ use Rattle.cv_rows.specs.Catalogue.{Contents, IsCatalogue}
 use Rattle.cv_rows.specs.Places.{IsRoot, IsChild, StandsAt, root, below}
 use Rattle.cv_rows.specs.declared.row.Row.{Row}
 use Rattle.cv_rows.proofs.Lemmas.{stands_contained, same_by_key, one_place, fits_there}
-use Rattle.cv_load.specs.Growth.{Grows, GrowsBy, IsAdded, IsWithin}
+use Rattle.cv_load.specs.Growth.{Grows, GrowsBy}
+use Rattle.cv_load.specs.GrowthInner.{IsAdded, IsWithin}
 use Rattle.cv_cut.specs.Told.{node_of}
 use Rattle.cv_cut.proofs.Lemmas.{root_by_key, stands_long}
 

@@ -15,7 +15,8 @@ use Rattle.cv_rows.specs.Places.{StandsAt, root}
 use Rattle.cv_cut.specs.Means.{Means}
 use Rattle.cv_cut.specs.Reached.{Place, ReachesCatalogue, itself, root_place, HasCatalogue}
 use Rattle.cv_cut.specs.declared.load_fault.LoadFault.{LoadFault}
-use Rattle.cv_load.specs.Growth.{IsRootOf, IsOfRows, FillsFrom}
+use Rattle.cv_load.specs.Growth.{IsRootOf}
+use Rattle.cv_load.specs.GrowthInner.{IsOfRows, FillsFrom}
 use Rattle.cv_cut.proofs.Lemmas.{unopened}
 use Rattle.cv_load.proofs.Assembly.{IsWhole}
 use Rattle.cv_load.proofs.Standing.{root_dir}

@@ -12,9 +12,11 @@ use Rattle.cv_rows.specs.Catalogue.{Contents, IsCatalogue}
 use Rattle.cv_rows.specs.declared.nested.Nested.{Nested}
 use Rattle.cv_cut.specs.Reached.{Place, root_place, HasCatalogue}
 use Rattle.cv_load.specs.declared.known_set.KnownSet.{KnownSet}
-use Rattle.cv_load.specs.Fetches.{Visit, IsInside}
+use Rattle.cv_load.specs.Fetches.{Visit}
+use Rattle.cv_load.specs.FetchesInner.{IsInside}
 use Rattle.cv_load.specs.Known.{is_known}
-use Rattle.cv_load.specs.NewFetches.{ReachesNew, new_root, new_nested, VisitedNew, ChecksBelow, FetchesNew}
+use Rattle.cv_load.specs.NewFetches.{ReachesNew, new_root, new_nested, VisitedNew, FetchesNew}
+use Rattle.cv_load.specs.NewFetchesInner.{ChecksBelow}
 use Rattle.cv_load.proofs.LoadedTree.{place_at, at_root_place}
 use Rattle.cv_load.proofs.Below.{covers_itself, entries_apart}
 use Rattle.cv_load.proofs.Fetching.{pairs_append, raised_more, inside_below, IsInsideFirst}

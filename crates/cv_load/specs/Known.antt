@@ -1,5 +1,5 @@
 -- Known pairs of a catalogue's hash and a path.
-use Rattle.std.specs.Prelude.{◌≡◌, ℕ, Bool, true, false, if◌then◌else◌, List, Option, None, Some, Result, Ok, Err}
+use Rattle.std.specs.Prelude.{◌≡◌, ℕ, Bool, true, false, if◌then◌else◌, List, Option, None, Some}
 use Rattle.std.specs.List.{All, Contains}
 use Rattle.std.specs.Ordering.{nat_cmp, eq_by_cmp}
 use Rattle.std.specs.Cmp.Lexicographic.{slice_cmp}
@@ -10,12 +10,8 @@ use Rattle.cv_base.specs.Path.{Path, path_cmp}
 use Rattle.cv_base.specs.declared.id.ObjectId.{ObjectId}
 use Rattle.cv_base.specs.declared.id.Kind.TheVariants.{Catalogue}
 use Rattle.cv_ports.specs.Shelf.{Shelf}
-use Rattle.cv_rows.specs.Catalogue.{Contents}
-use Rattle.cv_cut.specs.Reached.{Place, ReachesCatalogue, HasCatalogue}
 use Rattle.cv_load.specs.declared.known_set.KnownSet.{KnownSet}
-use Rattle.cv_cut.specs.declared.load_fault.LoadFault.{LoadFault}
-use Rattle.cv_cut.specs.Opening.{MayFail}
-use Rattle.cv_cut.specs.Good.{IsGood, IsWholeAt}
+use Rattle.cv_cut.specs.Good.{IsWholeAt}
 
 abbrev pub knows : Option (BTreeSet (List ℕ)) → List ℕ → Bool
 knows None hash = false
@@ -47,12 +43,3 @@ pub record IsWholePair (shelf : Shelf) (pair : ObjectId × Path) : Type 0 where
 
 abbrev pub AreWhole : Shelf → List (ObjectId × Path) → Type 0
 AreWhole shelf pairs = All (IsWholePair shelf) pairs
-
--- the catalogue is good at a place, and all pairs are whole; or there is the cause of a fault
-abbrev pub Checked : Shelf → List ℕ → Place → List (ObjectId × Path) → {X : Type 0} → Result X LoadFault → Type 0
-Checked shelf hash place pairs (Ok done) = IsGood shelf hash place × AreWhole shelf pairs
-Checked shelf hash place pairs (Err f) = (root : List ℕ) → ReachesCatalogue shelf root hash place → MayFail shelf root f
-
--- the same of the catalogue that stands under an id, at each place where it is
-abbrev pub ChecksFrom : Shelf → ObjectId → Contents → List (ObjectId × Path) → List (ObjectId × Path) → {X : Type 0} → Result X LoadFault → Type 0
-ChecksFrom shelf id c old new result = (place : Place) → HasCatalogue shelf id.hash place c → AreWhole shelf old → Checked shelf id.hash place new result

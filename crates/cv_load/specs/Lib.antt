@@ -1,5 +1,9 @@
 pub mod Answers
 pub mod Fetches
+pub mod FetchesInner
 pub mod Growth
+pub mod GrowthInner
 pub mod Known
+pub mod KnownInner
 pub mod NewFetches
+pub mod NewFetchesInner

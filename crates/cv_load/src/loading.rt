@@ -6,8 +6,10 @@ ghost use Rattle.cv_base.specs.declared.id.Kind.TheVariants as id_kind;
 ghost use Rattle.cv_rows.specs.Catalogue.{IsCatalogue};
 ghost use Rattle.cv_cut.specs.Cuts.{cuts_of};
 ghost use Rattle.cv_load.specs.Answers.{Loads};
-ghost use Rattle.cv_load.specs.Growth.{IsRootOf, IsClear, ChangesBelow, FillsFrom};
-ghost use Rattle.cv_load.specs.Fetches.{FetchesBelow, FetchesOnce};
+ghost use Rattle.cv_load.specs.Growth.{IsRootOf};
+ghost use Rattle.cv_load.specs.GrowthInner.{IsClear, ChangesBelow, FillsFrom};
+ghost use Rattle.cv_load.specs.Fetches.{FetchesOnce};
+ghost use Rattle.cv_load.specs.FetchesInner.{FetchesBelow};
 ghost use Rattle.cv_cut.specs.declared.load_fault.LoadFault.TheVariants as faults;
 ghost use Rattle.cv_ports.specs.Calls.{raised_by};
 

@@ -7,7 +7,8 @@ ghost use Rattle.cv_rows.specs.Catalogue.{IsCatalogue};
 ghost use Rattle.cv_rows.specs.Places.{StandsAt};
 ghost use Rattle.cv_tree.specs.Node.{IsNode};
 ghost use Rattle.cv_tree.specs.Changes.{has_place};
-ghost use Rattle.cv_load.specs.Growth.{IsAdded, IsClear, IsReady, IsWithin, HasRows, GrowsBy};
+ghost use Rattle.cv_load.specs.Growth.{GrowsBy};
+ghost use Rattle.cv_load.specs.GrowthInner.{IsAdded, IsClear, IsReady, IsWithin, HasRows};
 ghost use Rattle.cv_cut.specs.Told.{node_of};
 
 use cv_base::{NAMES_LIMIT, NoMemory, PathFault, RepoPath};

@@ -3,7 +3,7 @@ use Rattle.std.proofs.Common.{◌≡◌, ℕ, ◌-◌, ◌+◌, false, List, [],
 use Rattle.std.specs.List.{AllByRecursion}
 use Rattle.std.proofs.lemmas.List.{take_at}
 use Rattle.cv_manifest.specs.Lines.{has_newline, ended, IsLine}
-use Rattle.cv_manifest.specs.Split.{EndsAt, HasNoEnd}
+use Rattle.cv_manifest.specs.SplitInner.{EndsAt, HasNoEnd}
 use Rattle.cv_manifest.proofs.Cuts.{ended-push}
 use Rattle.cv_manifest.proofs.Endings.{all_push, end_line, no_end}
 

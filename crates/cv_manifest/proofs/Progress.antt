@@ -11,7 +11,7 @@ use Rattle.cv_manifest.specs.declared.manifest_fault.ManifestFault.TheVariants.{
 use Rattle.cv_manifest.specs.Field.{letter_of}
 use Rattle.cv_manifest.specs.Lines.{has_newline, ended, IsLine, value_in, values}
 use Rattle.cv_manifest.specs.Fault.{IsGood, IsFaultless, Comes}
-use Rattle.cv_manifest.specs.Fields.{spelled, texts, TakesLine, RefusesLine, HaveFields, ShowFault}
+use Rattle.cv_manifest.specs.FieldsInner.{spelled, texts, TakesLine, RefusesLine, HaveFields, ShowFault}
 use Rattle.cv_manifest.proofs.Cuts.{one_cut, newline_in, not_nil, ended-push, ended-first}
 use Rattle.cv_manifest.proofs.Endings.{IsWhole, all_push, are_whole, Follow, follow}
 

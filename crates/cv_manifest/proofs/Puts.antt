@@ -6,8 +6,8 @@ use Rattle.cv_manifest.specs.declared.fields.Fields.{Fields}
 use Rattle.cv_manifest.specs.declared.manifest_fault.ManifestFault.{ManifestFault}
 use Rattle.cv_manifest.specs.declared.manifest_fault.ManifestFault.TheVariants.{BadLine, Repeated}
 use Rattle.cv_manifest.specs.Field.{letter_of, IsValue}
-use Rattle.cv_manifest.specs.Put.{Gives, put_into}
-use Rattle.cv_manifest.specs.Fields.{spelled, texts, Refuses}
+use Rattle.cv_manifest.specs.PutInner.{Gives, put_into}
+use Rattle.cv_manifest.specs.FieldsInner.{spelled, texts, Refuses}
 
 -- a value that isn't put
 pub put_refused : {A : Type 0} (spell : A → List ℕ) (is : Field) (old : Fields) (field : Field) (value : List ℕ) (line : ℕ) (before given : Option A) (result : Result Unit ManifestFault)

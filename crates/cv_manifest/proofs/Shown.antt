@@ -17,8 +17,8 @@ use Rattle.cv_manifest.specs.Lines.{ended, IsLine, values}
 use Rattle.cv_manifest.specs.Parts.{Parts, digest_of, IsSealed}
 use Rattle.cv_manifest.specs.Manifest.{value_of, InRange, IsManifest, Says}
 use Rattle.cv_manifest.specs.Fault.{IsGood, is_none_of, Shows}
-use Rattle.cv_manifest.specs.Split.{IsSplit}
-use Rattle.cv_manifest.specs.Fields.{texts, HaveFields, LacksField}
+use Rattle.cv_manifest.specs.SplitInner.{IsSplit}
+use Rattle.cv_manifest.specs.FieldsInner.{texts, HaveFields, LacksField}
 use Rattle.cv_manifest.proofs.Endings.{all_weaker}
 use Rattle.cv_manifest.proofs.Exact.{Seals}
 use Rattle.cv_manifest.proofs.Progress.{have_faultless}

@@ -4,7 +4,7 @@ use Rattle.std.proofs.lemmas.List.{take_at, drop_at}
 use Rattle.hex.specs.Hex.{encode_lower}
 use Rattle.cv_manifest.specs.Lines.{ended}
 use Rattle.cv_manifest.specs.Parts.{Parts, HasParts}
-use Rattle.cv_manifest.specs.Split.{EndsAt, BeginsWith, HasNoDigest}
+use Rattle.cv_manifest.specs.SplitInner.{EndsAt, BeginsWith, HasNoDigest}
 use Rattle.cv_manifest.proofs.Cuts.{one_cut}
 use Rattle.cv_manifest.proofs.Endings.{end_line, one_end}
 use Rattle.cv_manifest.proofs.Clear.{hash_clear, hash_size, same_hash}

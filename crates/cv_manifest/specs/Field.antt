@@ -1,5 +1,5 @@
 -- The fields of a manifest: their letters, and the values that each may have.
-use Rattle.std.specs.Prelude.{◌≡◌, ℕ, ◌≤◌, ◌-◌, ◌^◌, ◌==◌, List, [], ◌∷◌, Option, IsTrue, find, codes, decimal}
+use Rattle.std.specs.Prelude.{◌≡◌, ℕ, ◌≤◌, ◌-◌, ◌^◌, List, [], ◌∷◌, IsTrue, codes, decimal}
 use Rattle.hex.specs.Hex.{encode_lower}
 use Rattle.cv_base.specs.Digest.{IsDigest}
 use Rattle.cv_base.specs.Name.{is_name}
@@ -21,10 +21,6 @@ letter_of Time = 84
 -- the fields in the order in which they are written
 abbrev pub all_fields : List Field
 all_fields = Root ∷ Size ∷ RootKey ∷ TimeToLive ∷ Revision ∷ Name ∷ History ∷ Time ∷ []
-
--- the field with this letter
-abbrev pub field_of : ℕ → Option Field
-field_of letter = find (λ field. letter == letter_of field) all_fields
 
 -- the key of the root path, in hex
 abbrev pub root_key : List ℕ

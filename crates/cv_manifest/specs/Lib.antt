@@ -1,8 +1,9 @@
 pub mod Fault
 pub mod Field
-pub mod Fields
+pub mod FieldInner
+pub mod FieldsInner
 pub mod Lines
 pub mod Manifest
 pub mod Parts
-pub mod Put
-pub mod Split
+pub mod PutInner
+pub mod SplitInner

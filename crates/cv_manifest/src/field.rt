@@ -1,6 +1,7 @@
 //! The fields of a manifest.
 ghost use Rattle.std.specs.Prelude.{◌≡◌};
-ghost use Rattle.cv_manifest.specs.Field.{letter_of, field_of};
+ghost use Rattle.cv_manifest.specs.Field.{letter_of};
+ghost use Rattle.cv_manifest.specs.FieldInner.{field_of};
 
 /// A field of a manifest. Each is a line that begins with the field's letter.
 #[derive(Clone, Copy, Debug, PartialEq, Eq)]

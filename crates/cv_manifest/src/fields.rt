@@ -2,7 +2,7 @@
 ghost use Rattle.std.specs.Prelude.{◌≡◌, ◌∷◌, [], ℕ, List, IfOk, IfErr, OnOk, MatchResult};
 ghost use Rattle.std.specs.List.{AllByRecursion};
 ghost use Rattle.cv_manifest.specs.Lines.{ended, IsLine};
-ghost use Rattle.cv_manifest.specs.Put.{put_into};
+ghost use Rattle.cv_manifest.specs.PutInner.{put_into};
 
 use crate::field::Field;
 use crate::head::Head;
@@ -47,7 +47,7 @@ fn put<T: Drop>(
 }
 
 impl Fields {
-    ghost use Rattle.cv_manifest.specs.Fields.{texts, Takes, Refuses, TakesLine, RefusesLine, HaveFields, ShowFault, LacksField};
+    ghost use Rattle.cv_manifest.specs.FieldsInner.{texts, Takes, Refuses, TakesLine, RefusesLine, HaveFields, ShowFault, LacksField};
     ghost use Rattle.cv_manifest.specs.Manifest.{value_of, InRange};
 
     /// No fields.

@@ -3,7 +3,7 @@ ghost use Rattle.std.specs.Prelude.{◌≡◌, ◌≢◌, ◌≤◌, ℕ, List, 
 ghost use Rattle.cv_base.specs.Name.{is_name};
 ghost use Rattle.cv_base.specs.Unless.{IsUnless};
 ghost use Rattle.cv_base.specs.declared.limits.TheConstants.{LAST_TIME};
-ghost use Rattle.cv_manifest.specs.Split.{IsSplit};
+ghost use Rattle.cv_manifest.specs.SplitInner.{IsSplit};
 ghost use Rattle.cv_manifest.specs.Lines.{ended};
 ghost use Rattle.cv_manifest.specs.Manifest.{manifest, InRange, lines_of, sealed_text, Says};
 ghost use Rattle.cv_manifest.specs.Fault.{Shows};

@@ -1,7 +1,7 @@
 //! The parts of a manifest's text.
 ghost use Rattle.std.specs.Prelude.{MatchOption};
 ghost use Rattle.cv_manifest.specs.Parts.{HasParts};
-ghost use Rattle.cv_manifest.specs.Split.{EndsAt, HasNoEnd, BeginsWith, HasNoDigest, IsSplit};
+ghost use Rattle.cv_manifest.specs.SplitInner.{EndsAt, HasNoEnd, BeginsWith, HasNoDigest, IsSplit};
 
 use crate::line::split_line;
 use cv_base::{DIGEST_DIGITS, read_digest};

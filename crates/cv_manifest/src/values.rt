@@ -3,7 +3,7 @@ ghost use Rattle.std.specs.Prelude.{◌≡◌, IfOk, IsTrue, decimal};
 ghost use Rattle.hex.specs.Hex.{encode_lower};
 ghost use Rattle.cv_base.specs.Name.{is_name};
 ghost use Rattle.cv_manifest.specs.Field.{NamesDigest, NamesNumber, root_key};
-ghost use Rattle.cv_manifest.specs.Put.{Gives};
+ghost use Rattle.cv_manifest.specs.PutInner.{Gives};
 
 use cv_base::{Name, NoMemory, read_decimal, read_digest};
 use std::alloc::Global;

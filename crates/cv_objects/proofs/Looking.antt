@@ -15,7 +15,8 @@ use Rattle.cv_vault.specs.Moments.{Calls}
 use Rattle.cv_vault.specs.Walks.{Walks, Nothing}
 use Rattle.cv_vault.proofs.Laws.{call, reads}
 use Rattle.cv_objects.specs.Faults.{fault_of}
-use Rattle.cv_objects.specs.Batches.{Looked, Compares, Shows, IsOutside}
+use Rattle.cv_objects.specs.Batches.{Shows, IsOutside}
+use Rattle.cv_objects.specs.BatchesInner.{Looked, Compares}
 use Rattle.cv_objects.specs.declared.store_fault.StoreFault.{StoreFault}
 use Rattle.cv_objects.specs.declared.store_fault.StoreFault.TheVariants.{Collision, Failed, Damaged, NoMemory}
 

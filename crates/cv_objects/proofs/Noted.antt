@@ -15,7 +15,7 @@ use Rattle.cv_base.specs.declared.id.ObjectId.{ObjectId}
 use Rattle.cv_base.specs.declared.object.Object.{Object}
 use Rattle.cv_base.specs.ObjectId.{same_id, same_kind}
 use Rattle.cv_base.proofs.Laws.{first_true, second_true, same_kind-eq, same_kind-own}
-use Rattle.cv_objects.specs.Places.{of_kind, place_of}
+use Rattle.cv_objects.specs.PlacesInner.{of_kind, place_of}
 use Rattle.cv_objects.specs.Batches.{IsOne}
 use Rattle.cv_objects.specs.declared.places.Places.{Places}
 use Rattle.cv_objects.proofs.Lists.{last_or_earlier}

@@ -14,8 +14,9 @@ use Rattle.cv_vault.specs.Walks.{Walks, Nothing}
 use Rattle.cv_vault.proofs.Laws.{looser}
 use Rattle.cv_objects.specs.Names.{standing_on}
 use Rattle.cv_objects.specs.Fresh.{lacking}
-use Rattle.cv_objects.specs.Places.{is_noted}
-use Rattle.cv_objects.specs.Batches.{Notes, again, anew, Noted, has_file, has_none, NotesOne, Looked, GivesFresh, Agrees, Shows, by_one, by_itself, IsOutside}
+use Rattle.cv_objects.specs.PlacesInner.{is_noted}
+use Rattle.cv_objects.specs.Batches.{again, anew, has_file, has_none, GivesFresh, Agrees, Shows, by_one, by_itself, IsOutside}
+use Rattle.cv_objects.specs.BatchesInner.{Notes, Noted, NotesOne, Looked}
 use Rattle.cv_objects.specs.declared.places.Places.{Places}
 use Rattle.cv_objects.specs.declared.store_fault.StoreFault.{StoreFault}
 use Rattle.cv_objects.specs.declared.store_fault.StoreFault.TheVariants.{NoMemory}

@@ -14,7 +14,8 @@ use Rattle.cv_vault.specs.Moments.{Calls}
 use Rattle.cv_vault.specs.Walks.{Walks, Nothing, Gains}
 use Rattle.cv_vault.proofs.Laws.{bind, looser, ok, err, sync_ok, sync_err, calm_then}
 use Rattle.cv_objects.specs.Faults.{fault_of}
-use Rattle.cv_objects.specs.Batches.{AreReady, AllWait, Has, Brings, WroteAll, PlacedAll, Brought, Stored, AreStored, SparesOthers, IsOne, IsReady, is_there, is_coming, ShownIn, by_itself, IsOutside, IsRefusal}
+use Rattle.cv_objects.specs.Batches.{AreReady, Has, Brings, WroteAll, Brought, Stored, AreStored, SparesOthers, IsOne, IsReady, is_there, is_coming, ShownIn, by_itself, IsOutside, IsRefusal}
+use Rattle.cv_objects.specs.BatchesInner.{AllWait, PlacedAll}
 use Rattle.cv_objects.specs.declared.store_fault.StoreFault.{StoreFault}
 use Rattle.cv_objects.specs.declared.store_fault.StoreFault.TheVariants.{Collision, Failed, Damaged, NoMemory}
 use Rattle.cv_objects.proofs.Looking.{outside}

@@ -14,7 +14,8 @@ use Rattle.cv_vault.specs.Walks.{Walks, Nothing}
 use Rattle.cv_vault.proofs.Laws.{here, elsewhere, call, bind, looser, writes, ok, err}
 use Rattle.cv_objects.specs.Names.{way_name}
 use Rattle.cv_objects.specs.Faults.{fault_of}
-use Rattle.cv_objects.specs.Batches.{Looked, is_there, is_coming, IsWritten, Wrote, IsOutside}
+use Rattle.cv_objects.specs.Batches.{is_there, is_coming, IsOutside}
+use Rattle.cv_objects.specs.BatchesInner.{Looked, IsWritten, Wrote}
 use Rattle.cv_objects.specs.declared.store_fault.StoreFault.{StoreFault}
 use Rattle.cv_objects.proofs.Naming.{data_not_way, way_on_way}
 use Rattle.cv_objects.proofs.Looking.{outside, shows_outside}

@@ -1,5 +1,5 @@
 -- What storing a batch does.
-use Rattle.std.specs.Prelude.{◌≡◌, ◌≢◌, ◌⊎◌, ℕ, Bool, true, false, ◌||◌, List, [], ◌∷◌, ◌++◌, Vec}
+use Rattle.std.specs.Prelude.{◌≡◌, ◌≢◌, ◌⊎◌, ℕ, List, Vec}
 use Rattle.std.specs.List.{Contains}
 use Rattle.std.specs.declared.option.Option.TheVariants.{None, Some}
 use Rattle.std.specs.declared.result.Result.{Result}
@@ -10,15 +10,12 @@ use Rattle.cv_base.specs.Digest.{IsDigest}
 use Rattle.cv_base.specs.ObjectId.{file_name}
 use Rattle.cv_base.specs.declared.id.ObjectId.{ObjectId}
 use Rattle.cv_base.specs.declared.object.Object.{Object}
-use Rattle.cv_ports.specs.Objects.{same_id}
 use Rattle.cv_ports.specs.Shelf.{Shelf}
 use Rattle.cv_vault.specs.Names.{Name, on_way}
-use Rattle.cv_vault.specs.Disk.{Disk, File, Files, May, IsCalm, Settled, slot, synced}
+use Rattle.cv_vault.specs.Disk.{Disk, File, Files, May, IsCalm, synced}
 use Rattle.cv_vault.specs.Walks.{Gains, Nothing}
 use Rattle.cv_objects.specs.Names.{way_name, standing_on}
 use Rattle.cv_objects.specs.Fresh.{fresh_of}
-use Rattle.cv_objects.specs.Places.{is_noted}
-use Rattle.cv_objects.specs.declared.places.Places.{Places}
 use Rattle.cv_objects.specs.declared.store_fault.StoreFault.{StoreFault}
 use Rattle.cv_objects.specs.declared.store_fault.StoreFault.TheVariants.{Collision, Failed, Damaged, NoMemory}
 
@@ -82,47 +79,16 @@ pub data ShownIn (d : Disk) (batch : List Object) : StoreFault → Type 0 where
   by_two : {id : ObjectId} (clash : Clashes batch id) → ShownIn d batch (Collision id)
   by_itself : {fault : StoreFault} (outside : IsOutside fault) → ShownIn d batch fault
 
--- ---- one object
-
--- whether it stands under its name
-abbrev pub Looked : Disk → Object → Result Bool StoreFault → Disk → Type 0
-Looked d o (Ok true) d' = (d' ≡ d) × ((d (file_name o.id)).now ≡ Some o.bytes)
-Looked d o (Ok false) d' = (d' ≡ d) × ((d (file_name o.id)).now ≡ None)
-Looked d o (Err fault) d' = (d' ≡ d) × Shows d o fault
-
 -- it stands under its name, or is on its way
 pub data IsReady (d : Disk) (o : Object) : Type 0 where
   is_there : (there : (d (file_name o.id)).now ≡ Some o.bytes) → IsReady d o
   is_coming : (absent : (d (file_name o.id)).now ≡ None) (on_its_way : (d (way_name o.id)).now ≡ Some o.bytes) → IsReady d o
-
--- it stands under its name, or can be brought there
-pub data Waits (d : Disk) (o : Object) : Type 0 where
-  stands : (there : (d (file_name o.id)).now ≡ Some o.bytes) → Waits d o
-  can : (absent : d (file_name o.id) ≡ slot None Settled) (on_its_way : d (way_name o.id) ≡ slot (Some o.bytes) Settled) → Waits d o
-
--- what putting it on its way leaves
-pub record IsWritten (d : Disk) (o : Object) (d' : Disk) : Type 0 where
-  pub ready : IsReady d' o
-  pub others : (n : Name) → n ≢ way_name o.id → d' n ≡ d n
-
-abbrev pub Wrote : Disk → Object → {X : Type 0} → Result X StoreFault → Disk → Type 0
-Wrote d o (Ok x) d' = IsWritten d o d'
-Wrote d o (Err fault) d' = Shows d o fault
 
 -- it comes to its name, which had no file
 pub record BringsOne (d : Disk) (o : Object) (n : Name) (f : File) : Type 0 where
   pub name : n ≡ file_name o.id
   pub file : f ≡ Some o.bytes
   pub absent : (d n).now ≡ None
-
--- what bringing it leaves
-pub record IsPlaced (d : Disk) (o : Object) (d' : Disk) : Type 0 where
-  pub there : (d' (file_name o.id)).now ≡ Some o.bytes
-  pub others : (n : Name) → n ≢ way_name o.id → n ≢ file_name o.id → d' n ≡ d n
-
-abbrev pub Placed : Disk → Object → {X : Type 0} → Result X StoreFault → Disk → Type 0
-Placed d o (Ok x) d' = IsPlaced d o d'
-Placed d o (Err fault) d' = IsOutside fault
 
 -- ---- a batch
 
@@ -135,9 +101,6 @@ pub record Brings (d : Disk) (batch : List Object) (n : Name) (f : File) : Type 
 pub record AreReady (d : Disk) (batch : List Object) : Type 0 where
   pub each : (o : Object) → Contains batch o → IsReady d o
 
-pub record AllWait (d : Disk) (batch : List Object) : Type 0 where
-  pub each : (o : Object) → Contains batch o → Waits d o
-
 -- all stand under their names
 pub record Has (d : Disk) (batch : List Object) : Type 0 where
   pub each : (o : Object) → Contains batch o → (d (file_name o.id)).now ≡ Some o.bytes
@@ -147,11 +110,6 @@ pub record IsApart (batch : List Object) (n : Name) : Type 0 where
   pub way : (o : Object) → Contains batch o → n ≢ way_name o.id
   pub name : (o : Object) → Contains batch o → n ≢ file_name o.id
 
--- no name by which the object comes, or to which
-pub record IsApartFrom (o : Object) (n : Name) : Type 0 where
-  pub way : n ≢ way_name o.id
-  pub name : n ≢ file_name o.id
-
 abbrev pub WroteAll : Disk → List Object → {X : Type 0} → Result X StoreFault → Disk → Type 0
 WroteAll d batch (Ok x) d' = AreReady d' batch
 WroteAll d batch (Err fault) d' = ShownIn d batch fault
@@ -159,10 +117,6 @@ WroteAll d batch (Err fault) d' = ShownIn d batch fault
 -- the names apart from the batch are as they were, marks included
 pub record SparesOthers (d : Disk) (batch : List Object) (d' : Disk) : Type 0 where
   pub each : (n : Name) → IsApart batch n → d' n ≡ d n
-
-abbrev pub PlacedAll : Disk → List Object → {X : Type 0} → Result X StoreFault → Disk → Type 0
-PlacedAll d batch (Ok x) d' = Has d' batch × SparesOthers d batch d'
-PlacedAll d batch (Err fault) d' = IsOutside fault
 
 -- what settling the disk and bringing the batch leaves
 abbrev pub Brought : Disk → List Object → {X : Type 0} → Result X StoreFault → Disk → Type 0
@@ -203,28 +157,6 @@ pub record Agrees (batch : List Object) (shelf : Shelf) : Type 0 where
 abbrev pub GivesFresh : Disk → List Object → {Z : Type 0} → Result (Vec ObjectId Z) StoreFault → Disk → Type 0
 GivesFresh d batch (Ok ids) d' = (d' ≡ d) × (ids.items ≡ fresh_of batch (standing_on d)) × IsOne batch × Agrees batch (standing_on d)
 GivesFresh d batch (Err fault) d' = (d' ≡ d) × ShownIn d batch fault
-
--- bytes that stand under an object's name, against it
-abbrev pub Compares : Object → List ℕ → Result Bool StoreFault → Type 0
-Compares o bytes (Ok true) = bytes ≡ o.bytes
-Compares o bytes (Ok false) = ⊥
-Compares o bytes (Err (Collision id)) = (id ≡ o.id) × (bytes ≢ o.bytes) × (sha1 bytes ≡ o.id.hash)
-Compares o bytes (Err (Damaged id found)) = (id ≡ o.id) × (found ≡ sha1 bytes) × (found ≢ o.id.hash)
-Compares o bytes (Err fault) = ⊥
-
--- an id is noted behind others, unless it is noted already
-pub data Notes (old : List ObjectId) (was : Places) (id : ObjectId) (new : List ObjectId) (are : Places) : Type 0 where
-  again : (noted : is_noted was id ≡ true) (same : new ≡ old) (kept : are ≡ was) → Notes old was id new are
-  anew : (other : is_noted was id ≡ false) (end : new ≡ old ++ id ∷ []) (more : (x : ObjectId) → is_noted are x ≡ same_id id x || is_noted was x) → Notes old was id new are
-
--- the id of an object without a file is noted
-pub data Noted (d : Disk) (o : Object) (old : List ObjectId) (was : Places) (new : List ObjectId) (are : Places) : Type 0 where
-  has_file : (there : standing_on d o.id ≡ Some o.bytes) (same : new ≡ old) (kept : are ≡ was) → Noted d o old was new are
-  has_none : (absent : standing_on d o.id ≡ None) (notes : Notes old was o.id new are) → Noted d o old was new are
-
-abbrev pub NotesOne : Disk → Object → List ObjectId → Places → List ObjectId → Places → {X : Type 0} → Result X StoreFault → Disk → Type 0
-NotesOne d o old was new are (Ok x) d' = (d' ≡ d) × Noted d o old was new are
-NotesOne d o old was new are (Err fault) d' = (d' ≡ d) × Shows d o fault
 
 -- ---- what a store means
 

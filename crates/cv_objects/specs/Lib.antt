@@ -1,6 +1,7 @@
 pub mod Names
 pub mod Fresh
-pub mod Places
+pub mod PlacesInner
 pub mod Faults
 pub mod Batches
+pub mod BatchesInner
 pub mod Coming

@@ -5,7 +5,8 @@ ghost use Rattle.cv_base.specs.Told.{WhereTold};
 ghost use Rattle.cv_vault.specs.Names.{on_way};
 ghost use Rattle.cv_vault.specs.Moments.{OnlyReads};
 ghost use Rattle.cv_vault.specs.Walks.{Walks, Nothing};
-ghost use Rattle.cv_objects.specs.Batches.{GivesFresh, IsOne, Notes, NotesOne};
+ghost use Rattle.cv_objects.specs.Batches.{GivesFresh, IsOne};
+ghost use Rattle.cv_objects.specs.BatchesInner.{Notes, NotesOne};
 ghost use Rattle.cv_objects.specs.declared.store_fault.StoreFault.TheVariants as fault;
 
 use crate::places::{Places, no_places, note_place, place_of};

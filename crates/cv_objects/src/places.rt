@@ -5,7 +5,7 @@ ghost use Rattle.std.specs.Cmp.Lexicographic.{slice_cmp};
 ghost use Rattle.std.specs.BTreeMap.{Updates};
 ghost use Rattle.cv_base.specs.declared.id.ObjectId.{ObjectId as Id};
 ghost use Rattle.cv_ports.specs.Objects.{same_id};
-ghost use Rattle.cv_objects.specs.Places.{place_of};
+ghost use Rattle.cv_objects.specs.PlacesInner.{place_of};
 
 use cv_base::{Kind, NoMemory, ObjectId};
 use std::alloc::Global;

@@ -7,7 +7,8 @@ ghost use Rattle.cv_base.specs.Told.{WhereTold};
 ghost use Rattle.cv_vault.specs.Names.{on_way};
 ghost use Rattle.cv_vault.specs.Moments.{OnlyReads};
 ghost use Rattle.cv_vault.specs.Walks.{Walks, Nothing, SparesIn, BringsNothing};
-ghost use Rattle.cv_objects.specs.Batches.{Compares, IsApart, IsApartFrom, Looked, Wrote, Placed, WroteAll, PlacedAll, Brought, Stored, Brings, BringsOne, IsRefusal, AreNamed, AreReady, IsOne, Waits, AllWait};
+ghost use Rattle.cv_objects.specs.Batches.{IsApart, WroteAll, Brought, Stored, Brings, BringsOne, IsRefusal, AreNamed, AreReady, IsOne};
+ghost use Rattle.cv_objects.specs.BatchesInner.{Compares, IsApartFrom, Looked, Wrote, Placed, PlacedAll, Waits, AllWait};
 ghost use Rattle.cv_objects.specs.declared.store_fault.StoreFault.TheVariants as fault;
 
 use crate::names::{name_of, way_of};

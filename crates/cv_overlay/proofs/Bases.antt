@@ -8,7 +8,8 @@ use Rattle.cv_tree.specs.declared.node.Node.{Node}
 use Rattle.cv_tree.specs.Tree.{Nodes, IsPart, IsTree}
 use Rattle.cv_tree.specs.Changes.{nodes_of}
 use Rattle.cv_tree.proofs.Laws.{nothing_at}
-use Rattle.cv_overlay.specs.Overlay.{IsBase, root_of, named_entries, kept_entries, over_entries, over}
+use Rattle.cv_overlay.specs.Overlay.{root_of, named_entries, kept_entries, over_entries, over}
+use Rattle.cv_overlay.specs.OverlayInner.{IsBase}
 use Rattle.cv_overlay.specs.Answers.{HasNoBad}
 use Rattle.cv_overlay.proofs.Over.{IsPart-over}
 use Rattle.std.specs.Prelude.{Result, Ok, Err, IfOk}

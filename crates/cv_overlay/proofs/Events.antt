@@ -3,7 +3,7 @@ use Rattle.std.proofs.Common.{◌≡◌, ℕ, ◌+◌, suc, Bool, true, false, c
 use Rattle.cv_ports.specs.declared.folder.FolderItem.{FolderItem}
 use Rattle.cv_overlay.specs.declared.event.Event.{Event}
 use Rattle.cv_overlay.specs.declared.event.Event.TheVariants.{Below}
-use Rattle.cv_overlay.specs.Events.{slashed, goes_before, place_in, put_below, placed, placed_all}
+use Rattle.cv_overlay.specs.EventsInner.{slashed, goes_before, place_in, put_below, placed, placed_all}
 
 -- the walk of a directory at its place
 pub put_at : (name : List ℕ) (es : List Event) → take (place_in (slashed name) es) es ++ Below name ∷ drop (place_in (slashed name) es) es ≡ put_below name es

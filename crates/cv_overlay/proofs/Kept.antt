@@ -9,7 +9,7 @@ use Rattle.sha1.specs.Sha1.{sha1}
 use Rattle.cv_base.specs.declared.object.Object.{Object}
 use Rattle.cv_base.specs.declared.id.Kind.TheVariants.{Plain}
 use Rattle.cv_base.specs.ObjectId.{object_id}
-use Rattle.cv_overlay.specs.Found.{has_hash, with_content}
+use Rattle.cv_overlay.specs.FoundInner.{has_hash, with_content}
 
 or_cond : (a b : Bool) → cond b true a ≡ (a || b)
 or_cond true true = refl

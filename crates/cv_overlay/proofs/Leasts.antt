@@ -15,7 +15,7 @@ use Rattle.cv_base.specs.PathOrder.{same_path_is}
 use Rattle.cv_tree.specs.declared.node.Node.{Node}
 use Rattle.cv_tree.specs.Tree.{Nodes}
 use Rattle.cv_overlay.specs.Whiteout.{is_bad_at, is_bad}
-use Rattle.cv_overlay.specs.Least.{lesser, least_from, IsLeast}
+use Rattle.cv_overlay.specs.LeastInner.{lesser, least_from, IsLeast}
 
 abbrev Le : List ℕ → List ℕ → Type 0
 Le a b = name_cmp a b ≢ Greater

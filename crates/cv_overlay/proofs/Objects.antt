@@ -19,7 +19,7 @@ use Rattle.cv_tree.specs.Tree.{Nodes, single}
 use Rattle.cv_overlay.specs.Whiteout.{is_whiteout}
 use Rattle.cv_overlay.specs.Overlay.{named}
 use Rattle.cv_overlay.specs.Changes.{AreContents, IsFileOf}
-use Rattle.cv_overlay.specs.Found.{has_hash, with_content, kept_content, is_file_node}
+use Rattle.cv_overlay.specs.FoundInner.{has_hash, with_content, kept_content, is_file_node}
 
 -- ---- the files of nodes
 record IsNamed (c : Nodes) (p : Path) (node : Node) : Type 0 where

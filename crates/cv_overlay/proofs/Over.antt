@@ -15,7 +15,8 @@ use Rattle.cv_tree.specs.Tree.{Nodes, is_directory, HasParents, IsPart, IsTree}
 use Rattle.std.proofs.Common.{◌<◌, ◌^◌, arith}
 use Rattle.cv_tree.proofs.Laws.{find-append}
 use Rattle.cv_overlay.specs.Whiteout.{is_whiteout, is_bad_at}
-use Rattle.cv_overlay.specs.Overlay.{IsBase, named, hidden, or_else, root_of, over_at, is_leaf, hides, hidden_from, named_entries, kept_entries, over_entries, over}
+use Rattle.cv_overlay.specs.Overlay.{named, hidden, or_else, root_of, over_at, is_leaf, hides, hidden_from, named_entries, kept_entries, over_entries, over}
+use Rattle.cv_overlay.specs.OverlayInner.{IsBase}
 
 either_way : (b : Bool) (x : Option Node) → x ≡ cond b x x
 either_way true x = refl

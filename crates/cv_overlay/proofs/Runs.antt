@@ -26,8 +26,8 @@ use Rattle.cv_tree.specs.Changes.{FitsUnder}
 use Rattle.cv_overlay.specs.Whiteout.{is_whiteout}
 use Rattle.cv_overlay.specs.Walk.{Visit, path_of, paths_of, walk_cmp, with_slashes, takes, has_target, is_file, size_of, attr_of, node_of, node_at, fault_of, kind_fault, first_fault, found_at, item_from, root_attr, IsContent, IsWalk, AreChanges, Reads}
 use Rattle.cv_overlay.specs.Changes.{ChangesView}
-use Rattle.cv_overlay.specs.Found.{FoundView, has_hash, with_content, kept_content, with_item, or_fault, step, run, Ends}
-use Rattle.cv_overlay.specs.Events.{visits_deep}
+use Rattle.cv_overlay.specs.FoundInner.{FoundView, has_hash, with_content, kept_content, with_item, or_fault, step, run, Ends}
+use Rattle.cv_overlay.specs.EventsInner.{visits_deep}
 use Rattle.cv_overlay.specs.declared.read_fault.ReadFault.{ReadFault}
 use Rattle.cv_overlay.specs.declared.read_fault.ReadFault.TheVariants as faults
 use Rattle.cv_overlay.proofs.WalkItems.{none_found, is_walk}

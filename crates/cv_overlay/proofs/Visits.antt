@@ -10,7 +10,7 @@ use Rattle.cv_base.specs.declared.attr.Attr.{Attr}
 use Rattle.cv_ports.specs.Folder.{read_front}
 use Rattle.cv_tree.specs.declared.node.Node.{Node}
 use Rattle.cv_overlay.specs.Walk.{is_large}
-use Rattle.cv_overlay.specs.Found.{FoundView, with_file, file_step, IsWithin}
+use Rattle.cv_overlay.specs.FoundInner.{FoundView, with_file, file_step, IsWithin}
 use Rattle.cv_overlay.specs.declared.read_fault.ReadFault.TheVariants as faults
 
 pub record IsSmall (a b : ℕ) : Type 0 where

@@ -15,7 +15,7 @@ use Rattle.cv_ports.specs.Folder.{FolderView, Ascend, IsOrdered, names_of}
 use Rattle.cv_overlay.specs.declared.event.Event.{Event}
 use Rattle.cv_overlay.specs.declared.event.Event.TheVariants.{Item, Below}
 use Rattle.cv_overlay.specs.Walk.{Visit, path_of, paths_of, takes, is_dir, is_way, item_named, item_from, found_at, IsWalk}
-use Rattle.cv_overlay.specs.Events.{slashed, goes_before, put_below, placed_all, visits_of, visits_deep}
+use Rattle.cv_overlay.specs.EventsInner.{slashed, goes_before, put_below, placed_all, visits_of, visits_deep}
 use Rattle.cv_overlay.proofs.Limits.{takes_depth, takes_path, depth_with}
 use Rattle.cv_overlay.proofs.WalkOrder.{AreDeeper, are_deeper, ascend_deep, IsBehind, IsOf, all_map, of_below, same_front}
 

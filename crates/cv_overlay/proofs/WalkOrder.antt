@@ -14,7 +14,7 @@ use Rattle.cv_ports.specs.Folder.{FolderView, Ascend, IsOrdered, names_of}
 use Rattle.cv_overlay.specs.declared.event.Event.{Event}
 use Rattle.cv_overlay.specs.declared.event.Event.TheVariants.{Item, Below}
 use Rattle.cv_overlay.specs.Walk.{Visit, path_of, paths_of, with_slashes, walk_cmp, takes, is_dir}
-use Rattle.cv_overlay.specs.Events.{slashed, goes_before, put_below, placed_all, visits_of, visits_deep}
+use Rattle.cv_overlay.specs.EventsInner.{slashed, goes_before, put_below, placed_all, visits_of, visits_deep}
 
 -- ---- the order of events
 -- an event as the names that its visits begin with

@@ -10,7 +10,7 @@ use Rattle.std.specs.List.{list_all}
 use Rattle.std.specs.Str.{is_utf8}
 use Rattle.cv_base.specs.Path.{Path, IsPath, text_of, is_path_name, is_path_byte, is_dots, name_cmp}
 use Rattle.cv_overlay.specs.Walk.{walk_cmp}
-use Rattle.cv_overlay.specs.Events.{slashed}
+use Rattle.cv_overlay.specs.EventsInner.{slashed}
 use Rattle.cv_overlay.proofs.Limits.{first_of, second_of}
 use Rattle.cv_overlay.proofs.WalkOrder.{none_less, some_greater}
 

@@ -10,8 +10,8 @@ use Rattle.cv_overlay.specs.declared.event.Event.{Event}
 use Rattle.cv_overlay.specs.declared.event.Event.TheVariants.{Item, Below}
 use Rattle.cv_overlay.specs.Walk.{Visit, takes, Reads}
 use Rattle.cv_overlay.specs.Changes.{ChangesView}
-use Rattle.cv_overlay.specs.Events.{placed_all, visits_of, visits_deep}
-use Rattle.cv_overlay.specs.Found.{FoundView, step, run, Ends, IsWithin}
+use Rattle.cv_overlay.specs.EventsInner.{placed_all, visits_of, visits_deep}
+use Rattle.cv_overlay.specs.FoundInner.{FoundView, step, run, Ends, IsWithin}
 use Rattle.cv_overlay.specs.declared.read_fault.ReadFault.{ReadFault}
 use Rattle.cv_overlay.specs.declared.read_fault.ReadFault.TheVariants as faults
 use Rattle.cv_overlay.proofs.Limits.{takes_path, takes_depth}

@@ -1,9 +1,10 @@
 pub mod Fault
 pub mod Whiteout
 pub mod Overlay
+pub mod OverlayInner
 pub mod Changes
 pub mod Answers
-pub mod Least
+pub mod LeastInner
 pub mod Walk
-pub mod Events
-pub mod Found
+pub mod EventsInner
+pub mod FoundInner

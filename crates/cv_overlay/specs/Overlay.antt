@@ -1,14 +1,11 @@
 -- The part that changes make of a base: what stands at each path.
-use Rattle.std.specs.Prelude.{◌≡◌, ℕ, Bool, true, false, not, ◌||◌, List, [], ◌∷◌, ◌++◌, Option, Some, None, is_some, if◌then◌else◌}
+use Rattle.std.specs.Prelude.{ℕ, Bool, true, false, not, ◌||◌, List, [], ◌∷◌, ◌++◌, Option, Some, None, is_some, if◌then◌else◌}
 use Rattle.std.specs.List.{filter}
 use Rattle.std.specs.FinMap.{get, entries, from_entries}
 use Rattle.cv_base.specs.Path.{Path, last_name_of}
 use Rattle.cv_tree.specs.declared.node.Node.{Node}
 use Rattle.cv_tree.specs.declared.node.Node.TheVariants.{Dir, File, Link}
-use Rattle.cv_tree.specs.Tree.{Nodes, HasParents}
-use Rattle.cv_tree.specs.Node.{IsNode}
-use Rattle.cv_base.specs.Path.{IsPath}
-use Rattle.std.specs.Prelude.{IsSome}
+use Rattle.cv_tree.specs.Tree.{Nodes}
 use Rattle.cv_overlay.specs.Whiteout.{whiteout, opaque, is_whiteout}
 
 -- what the folder puts at a path: an entry of it that is no whiteout
@@ -62,9 +59,3 @@ over_entries b c now = ([], root_of (get b []) now) ∷ named_entries (entries c
 
 unfoldable pub over : Nodes → Nodes → ℕ → Nodes
 over b c now = from_entries (over_entries b c now)
-
--- what a part has, or nothing
-pub record IsBase (b : Nodes) : Type 0 where
-  pub parents : HasParents b
-  pub paths : (q : Path) → IsSome (get b q) → IsPath q
-  pub nodes : (q : Path) (node : Node) → get b q ≡ Some node → IsNode node

@@ -1,6 +1,6 @@
 //! Contents of files, each once.
 ghost use Rattle.std.specs.Prelude.{◌≡◌, [], IfOk};
-ghost use Rattle.cv_overlay.specs.Found.{with_content};
+ghost use Rattle.cv_overlay.specs.FoundInner.{with_content};
 
 use cv_base::{Bytes, Items, Kind, NoMemory, Object, ObjectId};
 use std::alloc::Global;
@@ -20,7 +20,7 @@ impl Model for Contents {
     ghost use Rattle.std.specs.Cmp.Lexicographic.{slice_cmp};
     ghost use Rattle.std.specs.BTreeSet.{contains};
     ghost use Rattle.cv_base.specs.declared.object.Object.{Object};
-    ghost use Rattle.cv_overlay.specs.Found.{has_hash};
+    ghost use Rattle.cv_overlay.specs.FoundInner.{has_hash};
 
     ghost Value = { List Object };
 

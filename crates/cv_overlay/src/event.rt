@@ -1,7 +1,7 @@
 //! The walk of a directory as a list of events.
 ghost use Rattle.std.specs.Prelude.{◌≡◌, ◌≤◌, [], IfOk, OnOk, string_bytes};
 ghost use Rattle.std.specs.VecDeque.{deque_len};
-ghost use Rattle.cv_overlay.specs.Events.{slashed, goes_before, place_in, put_below, placed, placed_all};
+ghost use Rattle.cv_overlay.specs.EventsInner.{slashed, goes_before, place_in, put_below, placed, placed_all};
 ghost use Rattle.cv_overlay.specs.Walk.{is_dir};
 
 use cv_base::{NoMemory, Text};

@@ -8,7 +8,7 @@ ghost use Rattle.cv_tree.specs.declared.node.Node.TheVariants.{Dir};
 ghost use Rattle.cv_overlay.specs.Changes.{AreContents};
 ghost use Rattle.cv_overlay.specs.Walk.{root_attr};
 ghost use Rattle.cv_overlay.specs.declared.bounds.TheConstants.{SUM_LIMIT};
-ghost use Rattle.cv_overlay.specs.Found.{is_file_node, with_node, with_file, kept_content};
+ghost use Rattle.cv_overlay.specs.FoundInner.{is_file_node, with_node, with_file, kept_content};
 
 use crate::changes::Changes;
 use crate::contents::Contents;
@@ -29,7 +29,7 @@ pub(crate) struct Found {
 impl Model for Found {
     ghost use Rattle.std.specs.Prelude.{◌≤◌};
     ghost use Rattle.cv_overlay.specs.Changes.{AreContents};
-    ghost use Rattle.cv_overlay.specs.Found.{FoundView};
+    ghost use Rattle.cv_overlay.specs.FoundInner.{FoundView};
     ghost use Rattle.cv_overlay.specs.declared.bounds.TheConstants.{SUM_LIMIT};
     ghost use Rattle.std.specs.FinMap as map;
     ghost use Rattle.std.specs.Prelude.{List, ℕ, refl};

@@ -5,7 +5,8 @@ ghost use Rattle.std.specs.FinMap as map;
 ghost use Rattle.cv_base.specs.Path.{Path};
 ghost use Rattle.cv_tree.specs.Changes.{nodes_of};
 ghost use Rattle.cv_tree.specs.Tree.{IsTree};
-ghost use Rattle.cv_overlay.specs.Overlay.{IsBase, root_of, named_entries, kept_entries, over_entries, over_at, over};
+ghost use Rattle.cv_overlay.specs.Overlay.{root_of, named_entries, kept_entries, over_entries, over_at, over};
+ghost use Rattle.cv_overlay.specs.OverlayInner.{IsBase};
 ghost use Rattle.cv_overlay.specs.Answers.{HasNoBad, Overlays};
 
 use crate::changes::Changes;

@@ -6,8 +6,8 @@ ghost use Rattle.cv_base.specs.Told.{WhereTold};
 ghost use Rattle.cv_ports.specs.Folder.{IsOrdered};
 ghost use Rattle.cv_tree.specs.Changes.{FitsUnder};
 ghost use Rattle.cv_overlay.specs.Changes.{AreContents};
-ghost use Rattle.cv_overlay.specs.Events.{visits_deep};
-ghost use Rattle.cv_overlay.specs.Found.{run, Ends};
+ghost use Rattle.cv_overlay.specs.EventsInner.{visits_deep};
+ghost use Rattle.cv_overlay.specs.FoundInner.{run, Ends};
 ghost use Rattle.cv_overlay.specs.Walk.{Reads, walk_cmp};
 ghost use Rattle.cv_overlay.specs.declared.read_fault.ReadFault.TheVariants as faults;
 

@@ -7,7 +7,7 @@ ghost use Rattle.cv_base.specs.Told.{WhereTold};
 ghost use Rattle.cv_ports.specs.declared.folder.FoundKind.TheVariants as kind;
 ghost use Rattle.cv_tree.specs.Node.{IsAttr, IsLinkTarget};
 ghost use Rattle.cv_overlay.specs.Walk.{takes, has_target, is_large};
-ghost use Rattle.cv_overlay.specs.Found.{step, file_step, Ends, IsWithin};
+ghost use Rattle.cv_overlay.specs.FoundInner.{step, file_step, Ends, IsWithin};
 ghost use Rattle.cv_overlay.specs.declared.read_fault.ReadFault.TheVariants as faults;
 
 use crate::bounds::SUM_LIMIT;

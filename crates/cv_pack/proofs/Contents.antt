@@ -13,7 +13,8 @@ use Rattle.cv_pack.specs.declared.pack_fault.PackFault.TheVariants.{BadHeader, T
 use Rattle.cv_pack.specs.HeaderState.{Faults}
 use Rattle.cv_base.specs.Sequence.{◌>>=◌}
 use Rattle.cv_pack.specs.Reading.{object, contents_at}
-use Rattle.cv_pack.specs.ContentsState.{with_front, contents_on, so_far, BeginsFirst, IsOpen, IsClosed, Closes, Goes}
+use Rattle.cv_pack.specs.ContentsState.{with_front, contents_on, so_far, BeginsFirst, IsOpen}
+use Rattle.cv_pack.specs.ContentsStateInner.{IsClosed, Closes, Goes}
 
 -- the entry at an index, and those after it
 pub entries_from : (es : List Entry) (k : ℕ) (d : Entry) → k < length es → drop k es ≡ get_or es k d ∷ drop (k + 1) es

@@ -21,8 +21,10 @@ use Rattle.cv_pack.proofs.Lines.{header_takes}
 use Rattle.cv_pack.proofs.Packs.{contents_take, pack_takes, pack_again}
 use Rattle.cv_base.specs.Sequence.{◌>>=◌}
 use Rattle.cv_pack.specs.Reading.{Header, hash_from, header_at, contents_at, reading, shown, fault_in}
-use Rattle.cv_pack.specs.HeaderState.{Progress, progress, after_line, from_field, header_on, Faults, TakesPart}
-use Rattle.cv_pack.specs.ContentsState.{contents_on, so_far, IsOpen, Goes}
+use Rattle.cv_pack.specs.HeaderState.{Progress, progress, after_line, from_field, header_on, Faults}
+use Rattle.cv_pack.specs.HeaderStateInner.{TakesPart}
+use Rattle.cv_pack.specs.ContentsState.{contents_on, so_far, IsOpen}
+use Rattle.cv_pack.specs.ContentsStateInner.{Goes}
 use Rattle.cv_pack.specs.PackReader.{HasTaken, IsFed, Shows, Finishes, IsFoundIn, GivesPack, pack_of}
 
 pub whole_or_not : (f : Field) → (f ≡ fields.Whole) ⊎ (f ≡ fields.Whole → ⊥)

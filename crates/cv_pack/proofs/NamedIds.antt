@@ -13,7 +13,7 @@ use Rattle.cv_base.specs.declared.id.ObjectId.{ObjectId}
 use Rattle.cv_base.proofs.Laws.{same_kind-own}
 use Rattle.cv_pack.specs.declared.entry.Entry.{Entry}
 use Rattle.cv_pack.specs.Reading.{is_named}
-use Rattle.cv_pack.specs.Named.{HasHashes, AreHashes}
+use Rattle.cv_pack.specs.NamedInner.{HasHashes, AreHashes}
 
 or_last : (a b : Bool) → (a || (b || false)) ≡ cond b true a
 or_last true true = refl

@@ -9,11 +9,12 @@ use Rattle.cv_pack.specs.declared.field.Field.{Field}
 use Rattle.cv_pack.specs.declared.field.Field.TheVariants as fields
 use Rattle.cv_pack.specs.declared.field.Mark.{Mark}
 use Rattle.cv_pack.specs.declared.field.Mark.TheVariants.{FormatLetter, FormatDigit, FormatEnd, TotalLetter, CountLetter, FirstDash, SecondDash, LineLetter, LineBlank}
-use Rattle.cv_pack.specs.Fields.{mark_byte, after_mark}
+use Rattle.cv_pack.specs.FieldsInner.{mark_byte, after_mark}
 use Rattle.cv_pack.specs.Pack.{total_size}
 use Rattle.cv_base.specs.Sequence.{◌>>=◌}
 use Rattle.cv_pack.specs.Reading.{Header, text_at, is_hash_digit, suffix_from, hash_from, lines_from}
-use Rattle.cv_pack.specs.HeaderState.{Begun, Progress, progress, after_line, from_mark, from_field, header_on, line_after, Takes, Faults, Leads, LeadsAfterHash}
+use Rattle.cv_pack.specs.HeaderState.{Begun, Progress, progress, after_line, from_mark, from_field, header_on, Faults}
+use Rattle.cv_pack.specs.HeaderStateInner.{line_after, Takes, Leads, LeadsAfterHash}
 
 -- no line is left, and the total is the sum, or isn't
 pub lines_end : (total left : ℕ) (es : List Entry) (at : ℕ) (text : List ℕ) → left ≡ 0 → eqb (total_size es) total ≡ true → lines_from total left es at text ≡ Ok (es, at, text)

@@ -1,5 +1,5 @@
 -- A header that was begun: what reading it on from there gives.
-use Rattle.std.specs.Prelude.{◌≡◌, ℕ, ◌+◌, ◌-◌, ◌<◌, ◌≤◌, ◌==◌, List, [], ◌∷◌, ◌++◌, length, take, codes, Result, Ok, Err, if◌then◌else◌}
+use Rattle.std.specs.Prelude.{◌≡◌, ℕ, ◌+◌, ◌-◌, List, [], ◌∷◌, ◌++◌, length, codes, Result, Ok, Err}
 use Rattle.cv_pack.specs.declared.entry.Entry.{Entry}
 use Rattle.cv_pack.specs.declared.field.Field.{Field}
 use Rattle.cv_pack.specs.declared.field.Field.TheVariants as fields
@@ -8,7 +8,7 @@ use Rattle.cv_pack.specs.declared.field.Mark.TheVariants.{FormatLetter, FormatDi
 use Rattle.cv_pack.specs.declared.pack_fault.PackFault.{PackFault}
 use Rattle.cv_pack.specs.declared.pack_fault.PackFault.TheVariants.{Short, NoMemory}
 use Rattle.cv_base.specs.Sequence.{◌>>=◌}
-use Rattle.cv_pack.specs.Reading.{Header, text_at, size_from, blank_from, suffix_from, hash_from, lines_from, dashes_from, count_from, count_line_from, total_from, total_line_from, format_from}
+use Rattle.cv_pack.specs.Reading.{Header, text_at, size_from, blank_from, hash_from, lines_from, dashes_from, count_from, count_line_from, total_from, total_line_from, format_from}
 
 -- a header as far as it was read: what comes next, the total that it says, how many lines are still to come after the one that was
 -- begun, the lines that were read, the digits of the hash that is being read, and the offsets of the line and of what comes next
@@ -64,41 +64,8 @@ from_field r fields.Whole line at text = Ok (r.entries, at, text)
 abbrev pub header_on : Begun → List ℕ → Result Header PackFault
 header_on r text = from_field (progress r) r.field r.line r.at text
 
--- where the line begins after a byte
-abbrev pub line_after : ℕ → ℕ → ℕ → ℕ
-line_after line b at = if b == 10 then at else line
-
 -- the fault is that of reading on, unless it is want of memory, and not that bytes are lacking
 abbrev pub Faults : {A : Type 0} → PackFault → Result A PackFault → Type 0
 Faults NoMemory read = Unit {0}
 Faults Short read = ⊥
 Faults fault read = read ≡ Err fault
-
--- a byte in place of the old field leads to this new field
-abbrev pub Leads : Begun → Begun → Field → ℕ → Result Field PackFault → Type 0
-Leads old new from b (Ok to) = (at : ℕ) (text : List ℕ) → at < 1048576
-    → from_field (progress old) from old.line at (b ∷ text) ≡ from_field (progress new) to (line_after old.line b (at + 1)) (at + 1) text
-Leads old new from b (Err fault) = (at : ℕ) (text : List ℕ) → at < 1048576
-    → Faults fault (from_field (progress old) from old.line at (b ∷ text))
-
--- the same of the byte after the digits of a hash
-abbrev pub LeadsAfterHash : Begun → ℕ → Result Field PackFault → Type 0
-LeadsAfterHash r b (Ok to) = (at : ℕ) (text : List ℕ) → at < 1048576
-    → suffix_from (after_line (progress r)) r.entries r.line r.digits at (b ∷ text) ≡ from_field (progress r) to (line_after r.line b (at + 1)) (at + 1) text
-LeadsAfterHash r b (Err fault) = (at : ℕ) (text : List ℕ) → at < 1048576
-    → Faults fault (suffix_from (after_line (progress r)) r.entries r.line r.digits at (b ∷ text))
-
--- where a line ended, the next begins with this field
-abbrev pub Begins : Begun → Begun → Result Field PackFault → Type 0
-Begins old new (Ok to) = (at : ℕ) (text : List ℕ) → lines_from old.total old.left old.entries at text ≡ from_field (progress new) to at at text
-Begins old new (Err fault) = (at : ℕ) (text : List ℕ) → Faults fault (lines_from old.total old.left old.entries at text)
-
--- reading these bytes leads from the old state to the new one
-abbrev pub Takes : Begun → Begun → List ℕ → Result Unit PackFault → Type 0
-Takes old new bytes (Ok _) = (text : List ℕ) → header_on old (bytes ++ text) ≡ header_on new text
-Takes old new bytes (Err fault) = (text : List ℕ) → Faults fault (header_on old (bytes ++ text))
-
--- reading leads over a front of these bytes, to the header's end where bytes are left
-abbrev pub TakesPart : Begun → Begun → List ℕ → Result ℕ PackFault → Type 0
-TakesPart old new piece (Ok used) = (used ≤ length piece) × (used < length piece → new.field ≡ fields.Whole) × Takes old new (take used piece) (Ok tt)
-TakesPart old new piece (Err fault) = (text : List ℕ) → Faults fault (header_on old (piece ++ text))

@@ -1,8 +1,12 @@
 pub mod ContentsState
-pub mod Fields
+pub mod ContentsStateInner
+pub mod FieldsInner
 pub mod HeaderState
-pub mod HeaderReader
-pub mod Named
+pub mod HeaderStateInner
+pub mod HeaderReaderInner
+pub mod NamedInner
 pub mod Pack
+pub mod PackInner
 pub mod PackReader
+pub mod PackReaderInner
 pub mod Reading

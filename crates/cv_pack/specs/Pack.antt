@@ -28,10 +28,6 @@ abbrev pub header_of : List Entry → List ℕ
 header_of es =
     codes "V2\nS" ++ decimal (total_size es) ++ codes "\nN" ++ decimal (length es) ++ codes "\n--\n" ++ flat_map line es
 
--- the lines of objects
-abbrev pub lines_of : List Object → List ℕ
-lines_of os = flat_map line (map entry_of os)
-
 abbrev pub header_bytes : List Object → List ℕ
 header_bytes os = header_of (map entry_of os)
 

@@ -45,11 +45,6 @@ FedWith (Some fault) r bytes = (text : List ℕ) → Faults fault (reading (byte
 abbrev pub Fed : PackReader → List ℕ → Type 0
 Fed r bytes = FedWith r.fault r bytes
 
--- the reader was fed these bytes, or they show this fault
-abbrev pub Feeds : PackReader → List ℕ → Result Unit PackFault → Type 0
-Feeds r bytes (Ok _) = IsFed r bytes
-Feeds r bytes (Err fault) = (text : List ℕ) → Faults fault (reading (bytes ++ text))
-
 -- the fault of an answer
 abbrev pub answer_of : Result Unit PackFault → Option PackFault
 answer_of (Ok _) = None

@@ -2,7 +2,8 @@
 ghost use Rattle.std.specs.Prelude.{◌≡◌, ◌+◌, ◌≤◌, ◌<◌, ◌++◌, [], List, length, OnOk};
 ghost use Rattle.sha1.specs.Sha1.{Holds};
 ghost use Rattle.cv_pack.specs.declared.entry.Entry.{Entry as Line};
-ghost use Rattle.cv_pack.specs.ContentsState.{IsOpen, Closes, Reads};
+ghost use Rattle.cv_pack.specs.ContentsState.{IsOpen};
+ghost use Rattle.cv_pack.specs.ContentsStateInner.{Closes, Reads};
 
 use crate::entry::Entry;
 use crate::pack_fault::PackFault;

@@ -21,7 +21,7 @@ pub struct Entries {
 impl Model for Entries {
     ghost use Rattle.std.specs.Prelude.{List};
     ghost use Rattle.cv_pack.specs.declared.entry.Entry.{Entry};
-    ghost use Rattle.cv_pack.specs.Named.{AreHashes};
+    ghost use Rattle.cv_pack.specs.NamedInner.{AreHashes};
 
     ghost Value = { List Entry };
 

@@ -1,6 +1,6 @@
 //! Where the header is.
 ghost use Rattle.std.specs.Prelude.{◌≡◌};
-ghost use Rattle.cv_pack.specs.Fields.{mark_byte, after_mark};
+ghost use Rattle.cv_pack.specs.FieldsInner.{mark_byte, after_mark};
 
 use cv_base::ObjectId;
 

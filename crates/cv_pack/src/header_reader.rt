@@ -53,7 +53,7 @@ impl Model for HeaderReader {
 
     ghost Value = { Begun };
 
-    ghost use Rattle.cv_pack.specs.HeaderReader.{begun_of, IsBegun};
+    ghost use Rattle.cv_pack.specs.HeaderReaderInner.{begun_of, IsBegun};
 
     ghost view = { begun_of };
 
@@ -73,7 +73,7 @@ fn sum_of_sizes(entries: &[Entry]) -> u64
 }
 
 impl HeaderReader {
-    ghost use Rattle.cv_pack.specs.HeaderState.{Leads, LeadsAfterHash, Begins, Takes, TakesPart};
+    ghost use Rattle.cv_pack.specs.HeaderStateInner.{Leads, LeadsAfterHash, Begins, Takes, TakesPart};
 
     /// Nothing was read.
     pub fn new(alloc: Global) -> HeaderReader

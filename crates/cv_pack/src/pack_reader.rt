@@ -3,7 +3,8 @@ ghost use Rattle.std.specs.Prelude.{◌≡◌, ◌++◌, ◌∷◌, [], List, �
 ghost use Rattle.cv_base.specs.declared.object.Object.{Object as Packed};
 ghost use Rattle.cv_pack.specs.declared.pack_fault.PackFault.TheVariants as faults;
 ghost use Rattle.cv_pack.specs.Pack.{IsPack, pack_bytes};
-ghost use Rattle.cv_pack.specs.PackReader.{Fed, IsFed, Feeds, fault_of, answer_of, Shows, Finishes, IsFoundIn, GivesPack};
+ghost use Rattle.cv_pack.specs.PackReader.{Fed, IsFed, fault_of, answer_of, Shows, Finishes, IsFoundIn, GivesPack};
+ghost use Rattle.cv_pack.specs.PackReaderInner.{Feeds};
 
 use crate::contents_reader::ContentsReader;
 use crate::header_reader::HeaderReader;

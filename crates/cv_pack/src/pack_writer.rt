@@ -3,7 +3,8 @@ ghost use Rattle.std.specs.Prelude.{◌≡◌, ◌≢◌, ◌++◌, ◌∷◌, [
 ghost use Rattle.sha1.specs.Sha1.{sha1};
 ghost use Rattle.cv_base.specs.declared.id.Kind.TheVariants.{History};
 ghost use Rattle.cv_pack.specs.declared.add_fault.AddFault.TheVariants.{Full as IsFull};
-ghost use Rattle.cv_pack.specs.Pack.{IsPack, entry_of, line, lines_of, ids, contents, has_room, pack_bytes};
+ghost use Rattle.cv_pack.specs.Pack.{IsPack, entry_of, line, ids, contents, has_room, pack_bytes};
+ghost use Rattle.cv_pack.specs.PackInner.{lines_of};
 ghost use Rattle.cv_pack.specs.Reading.{object, reading};
 
 use crate::add_fault::AddFault;

@@ -7,6 +7,7 @@ pub mod Objects
 pub mod MemoryShelf
 pub mod Folder
 pub mod MemoryFolder
+pub mod MemoryFolderInner
 pub mod Dial
 pub mod CameBack
 pub mod MemoryDial

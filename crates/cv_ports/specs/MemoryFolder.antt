@@ -1,9 +1,8 @@
 -- What a folder in memory holds.
-use Rattle.std.specs.Prelude.{ℕ, Option, Bool, true, ◌&&◌, List, [], ◌∷◌, unwrap_or}
-use Rattle.std.specs.Ordering.{is_lt}
-use Rattle.std.specs.List.{AllByRecursion, list_all}
+use Rattle.std.specs.Prelude.{ℕ, Option, List, [], unwrap_or}
+use Rattle.std.specs.List.{AllByRecursion}
 use Rattle.std.specs.FinMap.{find}
-use Rattle.cv_base.specs.Path.{Path, name_cmp, path_cmp}
+use Rattle.cv_base.specs.Path.{Path, path_cmp}
 use Rattle.cv_ports.specs.declared.folder.FolderItem.{FolderItem}
 use Rattle.cv_ports.specs.Calls.{Calls}
 use Rattle.cv_ports.specs.Folder.{FolderView, Folders, Ascend}
@@ -19,15 +18,6 @@ pub record MemoryFolderView : Type 0 where
 -- the items of each directory ascend
 abbrev pub AllAscend : List (Path × List FolderItem) → Type 0
 AllAscend directories = AllByRecursion (λ directory. Ascend directory.1) directories
-
--- the same, as a test: each name is below the next
-abbrev pub ascends : List FolderItem → Bool
-ascends [] = true
-ascends (last ∷ []) = true
-ascends (item ∷ next ∷ items) = is_lt (name_cmp item.name next.name) && ascends (next ∷ items)
-
-abbrev pub all_ascend : List (Path × List FolderItem) → Bool
-all_ascend directories = list_all (λ directory. ascends directory.1) directories
 
 -- the folder that these lists say: of several at one path the first counts, and what isn't among them is empty
 abbrev pub holding : MemoryFolderView → FolderView

@@ -6,7 +6,8 @@ ghost use Rattle.cv_base.specs.Path.{path_cmp};
 ghost use Rattle.cv_base.specs.Told.{WhereTold};
 ghost use Rattle.cv_ports.specs.Calls.{fails, called};
 ghost use Rattle.cv_ports.specs.Folder.{Ascend, IsOrdered, read_front};
-ghost use Rattle.cv_ports.specs.MemoryFolder.{AllAscend, ascends, all_ascend, holding, under_each};
+ghost use Rattle.cv_ports.specs.MemoryFolder.{AllAscend, holding, under_each};
+ghost use Rattle.cv_ports.specs.MemoryFolderInner.{ascends, all_ascend};
 ghost use Rattle.cv_ports.specs.declared.folder.FolderFault.TheVariants as fault;
 
 use crate::failing_calls::FailingCalls;

@@ -21,9 +21,10 @@ use Rattle.cv_publisher.specs.Assembling.{Assembles, Delivers, is_bad, unfetched
 use Rattle.cv_base.specs.declared.id.ObjectId.{ObjectId}
 use Rattle.cv_publisher.specs.declared.assembling.Delivery.{Delivery}
 use Rattle.cv_publisher.specs.declared.fault.PublishFault.{PublishFault}
-use Rattle.cv_publisher.specs.Faults.{of_overlay}
+use Rattle.cv_publisher.specs.FaultsInner.{of_overlay}
 use Rattle.cv_graft.specs.declared.grafted.Grafted.{Grafted}
-use Rattle.cv_publisher.specs.Packing.{AreInOrder, AreSendable, IsCatalogueObject, IsOwn, objects_at}
+use Rattle.cv_publisher.specs.Packing.{AreInOrder, AreSendable, IsOwn, objects_at}
+use Rattle.cv_publisher.specs.PackingInner.{IsCatalogueObject}
 use Rattle.cv_publisher.proofs.Orders.{sendable}
 use Rattle.cv_publisher.specs.declared.plan.Plan.{Plan}
 

@@ -23,7 +23,8 @@ use Rattle.cv_base.specs.ObjectId.{id_text}
 use Rattle.cv_base.specs.declared.id.ObjectId.{ObjectId}
 use Rattle.cv_base.specs.declared.object.Object.{Object}
 use Rattle.cv_pack.specs.Pack.{ids}
-use Rattle.cv_publisher.specs.Packing.{AreInOrder, AreSendable, FindsFirst, IsOwn, id_texts, objects_at}
+use Rattle.cv_publisher.specs.Packing.{AreInOrder, AreSendable, IsOwn, id_texts, objects_at}
+use Rattle.cv_publisher.specs.PackingInner.{FindsFirst}
 
 abbrev Found : Type 0
 Found = String Global × ℕ

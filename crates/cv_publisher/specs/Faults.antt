@@ -1,22 +1,15 @@
 -- Why nothing is published.
 use Rattle.cv_manifest.specs.declared.manifest_fault.ManifestFault.{ManifestFault}
 use Rattle.cv_manifest.specs.declared.manifest_fault.ManifestFault.TheVariants as manifest
-use Rattle.cv_overlay.specs.declared.overlay_fault.OverlayFault.{OverlayFault}
-use Rattle.cv_overlay.specs.declared.overlay_fault.OverlayFault.TheVariants as overlay
 use Rattle.cv_checkout.specs.declared.fault.CheckoutFault.{CheckoutFault}
 use Rattle.cv_checkout.specs.declared.fault.CheckoutFault.TheVariants as checkout
 use Rattle.cv_publisher.specs.declared.fault.PublishFault.{PublishFault}
-use Rattle.cv_publisher.specs.declared.fault.PublishFault.TheVariants.{BadManifest, BadObject, NotServed, BadCatalogue, BadWhiteout, NoMemory}
+use Rattle.cv_publisher.specs.declared.fault.PublishFault.TheVariants.{BadManifest, BadObject, NotServed, BadCatalogue, NoMemory}
 
 -- where the manifest has a fault
 abbrev pub of_manifest : ManifestFault → PublishFault
 of_manifest manifest.NoMemory = NoMemory
 of_manifest fault = BadManifest fault
-
--- where the changes make no part
-abbrev pub of_overlay : OverlayFault → PublishFault
-of_overlay (overlay.BadWhiteout path) = BadWhiteout path
-of_overlay overlay.NoMemory = NoMemory
 
 -- where a catalogue isn't taken
 abbrev pub of_checkout : CheckoutFault → PublishFault

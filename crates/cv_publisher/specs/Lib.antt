@@ -1,8 +1,10 @@
 pub mod Assembling
 pub mod Faults
+pub mod FaultsInner
 pub mod Fetching
 pub mod Holding
 pub mod Packing
+pub mod PackingInner
 pub mod Replies
 pub mod Requests
 pub mod Taking

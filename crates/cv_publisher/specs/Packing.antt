@@ -1,10 +1,10 @@
 -- What is sent in packs, and in which order.
-use Rattle.std.specs.Prelude.{◌≡◌, ◌≢◌, ◌≤◌, ◌<◌, ℕ, false, List, [], ◌∷◌, ◌++◌, length, map, All, AllPairs, Contains, slice_get, option_to_list, Option, Some, IsSome}
+use Rattle.std.specs.Prelude.{◌≡◌, ◌≢◌, ◌≤◌, ◌<◌, ℕ, false, List, [], ◌∷◌, ◌++◌, length, map, All, AllPairs, Contains, slice_get, option_to_list}
 use Rattle.std.specs.List.Sorted.{IsStrictlySortedBy}
 use Rattle.sha1.specs.Sha1.{sha1}
 use Rattle.cv_base.specs.Path.{name_cmp}
 use Rattle.cv_base.specs.ObjectId.{id_text}
-use Rattle.cv_base.specs.declared.id.Kind.TheVariants.{Catalogue, History}
+use Rattle.cv_base.specs.declared.id.Kind.TheVariants.{History}
 use Rattle.cv_base.specs.declared.limits.TheConstants.{OBJECT_LIMIT}
 use Rattle.cv_base.specs.declared.object.Object.{Object}
 use Rattle.cv_pack.specs.Pack.{contents_size, has_room, ids}
@@ -31,11 +31,6 @@ pub record IsOwn (o : Object) : Type 0 where
   pub kind : o.id.kind ≢ History
   pub size : length o.bytes ≤ OBJECT_LIMIT
 
--- a catalogue that a pack may have
-pub record IsCatalogueObject (o : Object) : Type 0 where
-  pub kind : o.id.kind ≡ Catalogue
-  pub size : length o.bytes ≤ OBJECT_LIMIT
-
 -- these places are there, and have objects of different ids that packs may have
 pub record AreSendable (all : List Object) (places : List ℕ) : Type 0 where
   pub there : All (λ place. place < length all) places
@@ -49,8 +44,3 @@ pub record IsFront (os pack rest : List Object) : Type 0 where
   pub sizes : All (λ o. length o.bytes ≤ OBJECT_LIMIT) pack
   pub total : contents_size pack ≤ TOTAL_LIMIT
   pub longest : (next : Object) (more : List Object) → rest ≡ next ∷ more → has_room pack next.bytes ≡ false
-
--- a search by text finds a place of the text, where it is one of the first of these
-pub record FindsFirst (texts : List (List ℕ)) (count : ℕ) (find : List ℕ → Option ℕ) : Type 0 where
-  pub found : (text : List ℕ) (place : ℕ) → find text ≡ Some place → slice_get texts place ≡ Some text
-  pub known : (text : List ℕ) (place : ℕ) → place < count → slice_get texts place ≡ Some text → IsSome (find text)

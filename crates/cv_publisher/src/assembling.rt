@@ -6,7 +6,7 @@ ghost use Rattle.cv_graft.specs.Graft.{HasOwnIds};
 ghost use Rattle.cv_ports.specs.MemoryShelf.{standing};
 ghost use Rattle.cv_tree.specs.Changes.{FitsUnder, IsTreeAtRoot, nodes_of};
 ghost use Rattle.cv_publisher.specs.Assembling.{Assembles, Delivers, Sets, unfetched};
-ghost use Rattle.cv_publisher.specs.Packing.{IsCatalogueObject};
+ghost use Rattle.cv_publisher.specs.PackingInner.{IsCatalogueObject};
 
 use crate::fault::PublishFault;
 use crate::ordering::in_order;

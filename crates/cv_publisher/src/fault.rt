@@ -1,6 +1,7 @@
 //! Why nothing is published.
 ghost use Rattle.std.specs.Prelude.{◌≡◌, IfOk};
-ghost use Rattle.cv_publisher.specs.Faults.{of_checkout, of_manifest, of_overlay};
+ghost use Rattle.cv_publisher.specs.Faults.{of_checkout, of_manifest};
+ghost use Rattle.cv_publisher.specs.FaultsInner.{of_overlay};
 
 use crate::copying::copy_answer;
 use cv_answers::Answer;

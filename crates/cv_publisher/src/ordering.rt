@@ -2,7 +2,8 @@
 ghost use Rattle.std.specs.Prelude.{◌≡◌, ◌++◌, ◌+◌, ◌<◌, All, IfOk, length};
 ghost use Rattle.std.specs.BTreeMap.{IsOrdered, get_by_text, values};
 ghost use Rattle.std.specs.String.{string_cmp};
-ghost use Rattle.cv_publisher.specs.Packing.{AreInOrder, FindsFirst, id_texts, objects_at};
+ghost use Rattle.cv_publisher.specs.Packing.{AreInOrder, id_texts, objects_at};
+ghost use Rattle.cv_publisher.specs.PackingInner.{FindsFirst};
 
 use crate::filling::object_at;
 use cv_base::{NoMemory, Object};

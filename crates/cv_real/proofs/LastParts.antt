@@ -8,7 +8,7 @@ use Rattle.std.proofs.lemmas.List.Splits.{slice_split-cons_no}
 use Rattle.std.proofs.lemmas.Str.Pattern.{NoCharPasses-char, drop_at_char}
 use Rattle.cv_base.specs.Path.{Path, last_name_of}
 use Rattle.cv_base.specs.PathText.{parts_of}
-use Rattle.cv_real.specs.Names.{last_part, folder_of}
+use Rattle.cv_real.specs.NamesInner.{last_part, folder_of}
 
 -- no byte is a slash
 HasNoSlash : List ℕ → Type 0

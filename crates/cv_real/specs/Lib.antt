@@ -1,2 +1,2 @@
-pub mod Names
-pub mod Walk
+pub mod NamesInner
+pub mod WalkInner

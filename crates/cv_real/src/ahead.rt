@@ -1,6 +1,6 @@
 //! The folders that a walk goes into next.
 ghost use Rattle.std.specs.Prelude.{◌≡◌, ◌<◌, ◌++◌, [], ◌∷◌, drop, length, IfSome};
-ghost use Rattle.cv_real.specs.Walk.{place_of, with_path, first_of, end_of};
+ghost use Rattle.cv_real.specs.WalkInner.{place_of, with_path, first_of, end_of};
 
 use crate::path_buffer::PathBuffer;
 use std::alloc::{AllocError, Global};

@@ -3,7 +3,7 @@ ghost use Rattle.std.specs.Prelude.{◌≡◌, ◌≤◌, ◌<◌, ◌+◌, ◌�
 ghost use Rattle.std.specs.IoError.{error_kind, raw_os_error};
 ghost use Rattle.cv_base.specs.Counts.{HasCause};
 ghost use Rattle.cv_vault.specs.declared.vault.VaultFault.TheVariants.{Failed, NoMemory};
-ghost use Rattle.cv_real.specs.Names.{is_name, folder_of};
+ghost use Rattle.cv_real.specs.NamesInner.{is_name, folder_of};
 
 use crate::count::FaultCount;
 use crate::names::{NEXT, folder_of, is_name, is_root};

@@ -4,7 +4,7 @@ ghost use Rattle.std.specs.IoError.{error_kind, raw_os_error};
 ghost use Rattle.cv_base.specs.Counts.{HasCause};
 ghost use Rattle.cv_ports.specs.Folder.{Ascend};
 ghost use Rattle.cv_ports.specs.declared.folder.FolderFault.TheVariants.{Failed, NoMemory};
-ghost use Rattle.cv_real.specs.Names.{below};
+ghost use Rattle.cv_real.specs.NamesInner.{below};
 
 use crate::count::FaultCount;
 use crate::listing::items_of;

@@ -1,7 +1,7 @@
 //! All folders from one on, made durable without a list of them.
 ghost use Rattle.std.specs.Prelude.{◌≡◌, ◌⊎◌, ◌==◌, ◌++◌, [], ◌∷◌, drop, IfOk, IsTrue};
 ghost use Rattle.std.specs.List.{starts_with};
-ghost use Rattle.cv_real.specs.Walk.{comes_next, with_path, first_of, end_of};
+ghost use Rattle.cv_real.specs.WalkInner.{comes_next, with_path, first_of, end_of};
 
 use crate::ahead::Ahead;
 use crate::names::{NEXT, above, is_part};

@@ -21,11 +21,11 @@ use Rattle.cv_cut.specs.Catalogues.{contents_of, rows_of, Fits}
 use Rattle.cv_cut.specs.Region.{IsNear, row_at}
 use Rattle.cv_cut.specs.Told.{hash_of, node_as, node_of}
 use Rattle.cv_cut.proofs.Lemmas.{region_apart, rows_are, stands, stands_at_cut}
-use Rattle.cv_resolver.specs.Entry.{entry_kind}
+use Rattle.cv_resolver.specs.EntryInner.{entry_kind}
 use Rattle.cv_resolver.specs.Naming.{NamesFile}
 use Rattle.cv_resolver.specs.Spot.{IsSpot, IsOwn}
 use Rattle.cv_resolver.specs.Look.{Finding, Names, Content, content_at, names_at, names_in}
-use Rattle.cv_resolver.specs.Listing.{AreNames}
+use Rattle.cv_resolver.specs.ListingInner.{AreNames}
 use Rattle.cv_resolver.specs.declared.spot.Spot.{Spot}
 use Rattle.cv_resolver.specs.declared.found.ClientFault.{ClientFault}
 use Rattle.cv_resolver.proofs.Entering.{nearest_of}

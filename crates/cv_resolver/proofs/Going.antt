@@ -14,7 +14,8 @@ use Rattle.cv_resolver.specs.Spot.{StandsIn, levels_of}
 use Rattle.cv_resolver.specs.Start.{IsStart}
 use Rattle.cv_resolver.specs.declared.spot.Level.{Level}
 use Rattle.cv_resolver.specs.Pass.{Continues}
-use Rattle.cv_resolver.specs.Step.{trail_from, IsStep, steps_left, HasFewer, stepped_levels}
+use Rattle.cv_resolver.specs.Step.{trail_from, IsStep, steps_left}
+use Rattle.cv_resolver.specs.StepInner.{HasFewer, stepped_levels}
 use Rattle.cv_resolver.specs.Naming.{AreKnown}
 use Rattle.cv_resolver.specs.Progress.{ArrivesAt, StepsTo}
 use Rattle.cv_resolver.specs.Look.{Finding, found_at, finding_of, look, trail}

@@ -16,7 +16,8 @@ use Rattle.cv_rows.specs.declared.row.Row.{Row}
 use Rattle.cv_cut.specs.Reached.{FitsPlace}
 use Rattle.cv_cut.proofs.Lemmas.{comes_from, goes_to}
 use Rattle.cv_resolver.specs.Spot.{place_of}
-use Rattle.cv_resolver.specs.Kept.{Kept, IsKept, AreKept, Holds, used, with_catalogue, AreOwn, kept_bytes}
+use Rattle.cv_resolver.specs.Kept.{Kept, Holds, used, with_catalogue, AreOwn, kept_bytes}
+use Rattle.cv_resolver.specs.KeptInner.{IsKept, AreKept}
 use Rattle.cv_resolver.specs.declared.spot.Level.{Level}
 
 -- what is found under a digest is there under it

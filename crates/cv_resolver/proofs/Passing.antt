@@ -11,8 +11,9 @@ use Rattle.cv_tree.specs.declared.node.Node.{Node}
 use Rattle.cv_tree.specs.declared.node.Node.TheVariants as node
 use Rattle.cv_resolver.specs.Walk.{Name, Trail, from, is_idle, is_up, walk}
 use Rattle.cv_resolver.specs.Spot.{StandsIn, IsSpot, levels_of}
-use Rattle.cv_resolver.specs.Enter.{IsOpen, IsEntered}
-use Rattle.cv_resolver.specs.Pass.{Continues, at_link, IsPassed}
+use Rattle.cv_resolver.specs.EnterInner.{IsOpen, IsEntered}
+use Rattle.cv_resolver.specs.Pass.{Continues}
+use Rattle.cv_resolver.specs.PassInner.{at_link, IsPassed}
 use Rattle.cv_resolver.specs.declared.spot.Spot.{Spot}
 use Rattle.cv_resolver.specs.declared.enter.Entered.TheVariants.{Nothing, Stands, Link}
 use Rattle.cv_resolver.specs.declared.pass.Halt.TheVariants as halt

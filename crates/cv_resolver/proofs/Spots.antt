@@ -29,7 +29,8 @@ use Rattle.std.specs.Map.{lookup}
 use Rattle.cv_cut.specs.Reached.{Decodes, FitsPlace}
 use Rattle.cv_cut.specs.Told.{node_of}
 use Rattle.cv_cut.proofs.Lemmas.{entry_tells, goes_to as member_of_map, last_some, more_over, nearest, nested_decodes, one_decoding, region_apart, root_decodes, row_tells, row_tells_cut, same_ends, same_over, some_last}
-use Rattle.cv_resolver.specs.Kept.{Kept, IsKept, AreOwn, kept_bytes}
+use Rattle.cv_resolver.specs.Kept.{Kept, AreOwn, kept_bytes}
+use Rattle.cv_resolver.specs.KeptInner.{IsKept}
 use Rattle.cv_resolver.specs.Spot.{IsLevel, StandsIn, IsSpot, levels_of, place_of}
 use Rattle.cv_resolver.specs.declared.spot.Level.{Level}
 use Rattle.cv_resolver.specs.declared.spot.Spot.{Spot}

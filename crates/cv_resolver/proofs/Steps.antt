@@ -10,7 +10,7 @@ use Rattle.cv_tree.specs.Tree.{Nodes, is_directory}
 use Rattle.cv_tree.specs.declared.node.Node.TheVariants.{Dir, File, Link}
 use Rattle.cv_tree.specs.declared.node.FileRef.{FileRef}
 use Rattle.cv_resolver.specs.Walk.{Name, NotFound, NotDirectory, TooManyLinks, Trail, ends, arrives, from, is_idle, is_up, is_last, lead_of, entry_trail, walk_by, trail_along, walk}
-use Rattle.cv_resolver.specs.Pass.{behind_link, at_link}
+use Rattle.cv_resolver.specs.PassInner.{behind_link, at_link}
 
 module _ (repository : List ℕ) (t : Nodes) (stays : Bool) where
   abbrev follow : ℕ → Path → List ℕ → List Name → Trail

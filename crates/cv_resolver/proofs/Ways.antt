@@ -18,7 +18,8 @@ use Rattle.cv_cut.proofs.Lemmas.{covers_append}
 use Rattle.cv_resolver.specs.Walk.{Name, Trail, arrives, from, is_idle, is_up, is_last, walk}
 use Rattle.cv_resolver.specs.Asking.{is_stat}
 use Rattle.cv_resolver.specs.Spot.{IsSpot}
-use Rattle.cv_resolver.specs.Pass.{Continues, behind_link}
+use Rattle.cv_resolver.specs.Pass.{Continues}
+use Rattle.cv_resolver.specs.PassInner.{behind_link}
 use Rattle.cv_resolver.specs.Step.{trail_from}
 use Rattle.cv_resolver.specs.Look.{trail, look, IsAnswer, OnWay, catalogue, file as file_way}
 use Rattle.cv_resolver.specs.Stage.{IsStage, wanted_by}

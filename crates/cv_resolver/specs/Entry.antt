@@ -2,7 +2,6 @@
 use Rattle.std.specs.Prelude.{[], length}
 use Rattle.cv_tree.specs.declared.node.Node.{Node}
 use Rattle.cv_tree.specs.declared.node.Node.TheVariants.{Dir, File, Link}
-use Rattle.cv_rows.specs.declared.row_kind.RowKind.{RowKind}
 use Rattle.cv_rows.specs.declared.row_kind.RowKind.TheVariants as kind
 use Rattle.cv_resolver.specs.declared.stat_line.StatLine.{StatLine}
 
@@ -10,11 +9,3 @@ abbrev pub stat_of : Node → StatLine
 stat_of (Dir attr) = record { kind = kind.Directory; attr = attr; size = 0; target = [] }
 stat_of (File attr file) = record { kind = kind.File; attr = attr; size = file.size; target = [] }
 stat_of (Link attr target) = record { kind = kind.Link; attr = attr; size = length target; target = target }
-
--- the kind that is told of the entry of a row
-abbrev pub entry_kind : RowKind → RowKind
-entry_kind kind.Directory = kind.Directory
-entry_kind kind.Transition = kind.Directory
-entry_kind kind.NestedRoot = kind.Directory
-entry_kind kind.File = kind.File
-entry_kind kind.Link = kind.Link

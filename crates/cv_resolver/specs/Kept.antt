@@ -1,26 +1,16 @@
 -- The catalogues that a client keeps.
-use Rattle.std.specs.Prelude.{◌≡◌, ℕ, List, map, Some, Contains, bytes_eq}
+use Rattle.std.specs.Prelude.{◌≡◌, ℕ, List, map, Some, bytes_eq}
 use Rattle.std.specs.Map.{lookup}
-use Rattle.sha1.specs.Sha1.{sha1}
 use Rattle.lru.specs.LruCache.{LruCache, lru_cache, promoted, put_entries}
-use Rattle.cv_rows.specs.Catalogue.{Contents, IsCatalogue, catalogue_bytes}
+use Rattle.cv_rows.specs.Catalogue.{Contents, catalogue_bytes}
 use Rattle.cv_cut.specs.Reached.{FitsPlace}
 use Rattle.cv_resolver.specs.Spot.{place_of}
 use Rattle.cv_resolver.specs.declared.spot.Level.{Level}
--- no other bytes have the SHA-1 of a catalogue of the tree
 pub use Rattle.cv_cut.specs.Own.{AreOwn}
 
 -- the pairs of a digest and its catalogue, the last used first, and how many there may be
 abbrev pub Kept : Type 0
 Kept = LruCache (List ℕ) Contents
-
--- a catalogue, under the digest of its bytes
-pub record IsKept (hash : List ℕ) (c : Contents) : Type 0 where
-  pub is : IsCatalogue c
-  pub digest : hash ≡ sha1 (catalogue_bytes c)
-
-pub record AreKept (entries : List (List ℕ × Contents)) : Type 0 where
-  pub each : (hash : List ℕ) (c : Contents) → Contains entries (hash, c) → IsKept hash c
 
 -- the catalogue of a level is there: one of its digest, which stands at its place
 pub record Holds (k : Kept) (l : Level) : Type 0 where

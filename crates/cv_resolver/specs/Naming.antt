@@ -18,10 +18,6 @@ pub record NamesCut (c : Contents) (l : Level) : Type 0 where
   pub path : l.path ≡ entry.path
   pub hash : l.hash ≡ entry.hash
 
--- each of the levels is among these
-abbrev pub AreAmong : List Level → List Level → Type 0
-AreAmong known levels = (l : Level) → Contains levels l → Contains known l
-
 -- or the catalogue names it
 abbrev pub AreKnown : Contents → List Level → List Level → Type 0
 AreKnown c known levels = (l : Level) → Contains levels l → Contains known l ⊎ NamesCut c l

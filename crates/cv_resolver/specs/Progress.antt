@@ -11,20 +11,11 @@ use Rattle.cv_resolver.specs.Stage.{IsStage, IsBlameless}
 use Rattle.cv_resolver.specs.Start.{IsStart}
 use Rattle.cv_resolver.specs.Asking.{path_of_question}
 use Rattle.cv_resolver.specs.declared.question.Question.{Question}
-use Rattle.cv_resolver.specs.declared.pass.Halt.{Halt}
-use Rattle.cv_resolver.specs.declared.pass.Halt.TheVariants.{NotFound, NotDirectory, TooManyLinks}
-use Rattle.cv_resolver.specs.declared.found.ClientFault.{ClientFault}
 use Rattle.cv_resolver.specs.declared.found.ClientFault.TheVariants as fault
 use Rattle.cv_resolver.specs.declared.walk.Walk.{Walk}
 use Rattle.cv_resolver.specs.declared.stage.Stage.{Stage}
 use Rattle.cv_resolver.specs.declared.stage.Stage.TheVariants.{Walks, Reads, Ends}
 use Rattle.std.specs.declared.result.Result.TheVariants.{Err}
-
--- the answer where a walk is over
-abbrev pub refusal_of : Halt → ClientFault
-refusal_of NotFound = fault.NotFound
-refusal_of NotDirectory = fault.NotDirectory
-refusal_of TooManyLinks = fault.TooManyLinks
 
 -- What a walk that has arrived comes to by a catalogue: the content of a file of it is wanted, or the question is answered
 -- and nobody is blamed.

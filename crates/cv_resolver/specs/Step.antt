@@ -1,11 +1,11 @@
 -- One step of a walk.
-use Rattle.std.specs.Prelude.{◌≡◌, ◌+◌, ◌*◌, ◌<◌, ◌≤◌, ℕ, Bool, List, [], length}
+use Rattle.std.specs.Prelude.{◌≡◌, ◌+◌, ◌*◌, ℕ, Bool, List, length}
 use Rattle.cv_base.specs.Path.{Path}
 use Rattle.cv_tree.specs.Tree.{Nodes}
 use Rattle.cv_resolver.specs.Walk.{Trail, walk}
-use Rattle.cv_resolver.specs.Spot.{IsSpot, levels_of}
-use Rattle.cv_resolver.specs.Pass.{Continues, end_of, at_link}
-use Rattle.cv_resolver.specs.declared.spot.Level.{Level}
+use Rattle.cv_resolver.specs.Spot.{IsSpot}
+use Rattle.cv_resolver.specs.Pass.{Continues}
+use Rattle.cv_resolver.specs.PassInner.{end_of, at_link}
 use Rattle.cv_resolver.specs.declared.walk.Walk.{Walk}
 use Rattle.cv_resolver.specs.declared.step.Step.{Step}
 use Rattle.cv_resolver.specs.declared.step.Step.TheVariants.{On, Over}
@@ -27,16 +27,3 @@ module _ (repository : List ℕ) (t : Nodes) (stays : Bool) where
 -- a walk makes no more steps than this: a target has at most 4,096 parts between its slashes
 abbrev pub steps_left : Walk → ℕ
 steps_left w = 4097 * w.links + length w.names.items
-
-abbrev pub HasAtMost : ℕ → Step → Type 0
-HasAtMost n (On w) = steps_left w ≤ n
-HasAtMost n (Over halt) = Unit {0}
-
-abbrev pub HasFewer : ℕ → Step → Type 0
-HasFewer n (On w) = steps_left w < n
-HasFewer n (Over halt) = Unit {0}
-
--- the cuts below which the walk stands then
-abbrev pub stepped_levels : Step → List Level
-stepped_levels (On w) = levels_of w.spot
-stepped_levels (Over halt) = []

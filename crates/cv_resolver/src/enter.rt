@@ -6,7 +6,7 @@ ghost use Rattle.cv_rows.specs.declared.row_kind.RowKind.TheVariants as kind;
 ghost use Rattle.cv_cut.specs.Catalogues.{Fits};
 ghost use Rattle.cv_resolver.specs.Spot.{IsSpot, IsOwn, levels_of};
 ghost use Rattle.cv_resolver.specs.Naming.{AreKnown};
-ghost use Rattle.cv_resolver.specs.Enter.{IsInCut, IsEntered, entered_levels};
+ghost use Rattle.cv_resolver.specs.EnterInner.{IsInCut, IsEntered, entered_levels};
 
 use crate::spot::{Level, Spot, moved};
 use cv_base::{NoMemory, RepoPath, Target};

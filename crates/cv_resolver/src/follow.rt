@@ -3,8 +3,9 @@ ghost use Rattle.std.specs.Prelude.{◌≡◌, ◌≢◌, ◌&&◌, ◌++◌, �
 ghost use Rattle.cv_tree.specs.Tree.{Nodes, IsTree};
 ghost use Rattle.cv_resolver.specs.Walk.{is_last};
 ghost use Rattle.cv_resolver.specs.Spot.{StandsIn, IsSpot, levels_of};
-ghost use Rattle.cv_resolver.specs.Naming.{AreAmong};
-ghost use Rattle.cv_resolver.specs.Step.{IsStep, HasAtMost, steps_left, link_trail, stepped_levels};
+ghost use Rattle.cv_resolver.specs.NamingInner.{AreAmong};
+ghost use Rattle.cv_resolver.specs.Step.{IsStep, steps_left, link_trail};
+ghost use Rattle.cv_resolver.specs.StepInner.{HasAtMost, stepped_levels};
 
 use crate::pass::Halt;
 use crate::spot::{Spot, at_root, moved};

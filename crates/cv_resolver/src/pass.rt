@@ -5,7 +5,7 @@ ghost use Rattle.cv_cut.specs.Catalogues.{Fits};
 ghost use Rattle.cv_resolver.specs.Walk.{is_idle, is_up};
 ghost use Rattle.cv_resolver.specs.Spot.{IsSpot, IsOwn, levels_of};
 ghost use Rattle.cv_resolver.specs.Naming.{AreKnown};
-ghost use Rattle.cv_resolver.specs.Pass.{IsPassed, passed_levels};
+ghost use Rattle.cv_resolver.specs.PassInner.{IsPassed, passed_levels};
 
 use crate::enter::{Entered, enter};
 use crate::spot::{Spot, above};

@@ -5,7 +5,8 @@ ghost use Rattle.cv_cut.specs.Catalogues.{Fits};
 ghost use Rattle.cv_resolver.specs.Spot.{IsOwn};
 ghost use Rattle.cv_resolver.specs.Kept.{AreOwn, Holds, kept_bytes};
 ghost use Rattle.cv_resolver.specs.Stage.{IsStage};
-ghost use Rattle.cv_resolver.specs.Progress.{Leads, StepsByKept, StepsTo, refusal_of};
+ghost use Rattle.cv_resolver.specs.Progress.{Leads, StepsByKept, StepsTo};
+ghost use Rattle.cv_resolver.specs.ProgressInner.{refusal_of};
 ghost use Rattle.cv_resolver.specs.declared.stage.Stage.TheVariants as stage;
 
 use crate::arrival::arrive;

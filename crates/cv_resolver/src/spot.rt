@@ -1,6 +1,6 @@
 //! Where a walk stands.
 ghost use Rattle.std.specs.Prelude.{◌≡◌, ◌∷◌, ◌++◌, [], take, true, Bool, List};
-ghost use Rattle.cv_resolver.specs.Naming.{AreAmong};
+ghost use Rattle.cv_resolver.specs.NamingInner.{AreAmong};
 ghost use Rattle.cv_base.specs.Path.{Path, parent};
 ghost use Rattle.cv_tree.specs.Tree.{Nodes, IsTree};
 ghost use Rattle.cv_resolver.specs.Spot.{StandsIn, IsSpot, levels_of};

@@ -2,7 +2,8 @@
 ghost use Rattle.std.specs.Prelude.{◌≡◌, IfOk};
 ghost use Rattle.cv_rows.specs.Row.{HasContent};
 ghost use Rattle.cv_cut.specs.Told.{node_of};
-ghost use Rattle.cv_resolver.specs.Entry.{entry_kind, stat_of};
+ghost use Rattle.cv_resolver.specs.Entry.{stat_of};
+ghost use Rattle.cv_resolver.specs.EntryInner.{entry_kind};
 
 use cv_base::{Attr, NoMemory, Target};
 use cv_rows::{Row, RowKind};

@@ -4,7 +4,8 @@ ghost use Rattle.cv_tree.specs.Tree.{Nodes, IsTree};
 ghost use Rattle.cv_cut.specs.Catalogues.{Fits};
 ghost use Rattle.cv_resolver.specs.Spot.{IsSpot, IsOwn, levels_of};
 ghost use Rattle.cv_resolver.specs.Naming.{AreKnown};
-ghost use Rattle.cv_resolver.specs.Step.{IsStep, HasFewer, steps_left, trail_from, stepped_levels};
+ghost use Rattle.cv_resolver.specs.Step.{IsStep, steps_left, trail_from};
+ghost use Rattle.cv_resolver.specs.StepInner.{HasFewer, stepped_levels};
 
 use crate::follow::follow_link;
 use crate::pass::{Halt, Passed, pass};

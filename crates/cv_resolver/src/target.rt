@@ -3,7 +3,7 @@ ghost use Rattle.std.specs.Prelude.{◌≡◌, ℕ, List, map, length, IfOk};
 ghost use Rattle.cv_base.specs.Path.{Path};
 ghost use Rattle.cv_base.specs.PathText.{parts_of};
 ghost use Rattle.cv_resolver.specs.Walk.{lead_of};
-ghost use Rattle.cv_resolver.specs.Target.{is_absolute, is_own, start_of, HasNames};
+ghost use Rattle.cv_resolver.specs.TargetInner.{is_absolute, is_own, start_of, HasNames};
 
 use cv_base::{NoMemory, Target, Text};
 use std::alloc::{AllocError, Global};

@@ -10,7 +10,8 @@ use Rattle.cv_rows.specs.Row.{IsRow}
 use Rattle.cv_rows.specs.Nested.{IsNested}
 use Rattle.cv_rows.specs.Places.{root}
 use Rattle.cv_rows.specs.Catalogue.{IsCatalogue, IsRegion, file_of, row_cmp, nested_cmp}
-use Rattle.cv_rows.specs.Faults.{IsRuleFault, IsSaid, KeepsRules}
+use Rattle.cv_rows.specs.Faults.{IsRuleFault, IsSaid}
+use Rattle.cv_rows.specs.FaultsInner.{KeepsRules}
 use Rattle.cv_rows.specs.Made.{PassesLimit}
 use Rattle.cv_rows.specs.declared.row.Row.{Row}
 use Rattle.cv_rows.specs.declared.nested.Nested.{Nested}

@@ -7,7 +7,7 @@ use Rattle.std.proofs.lemmas.Slice.Eq.{bytes_eq-Decides}
 use Rattle.cv_base.specs.Path.{Path, covers}
 use Rattle.cv_rows.specs.Catalogue.{row_cmp}
 use Rattle.cv_rows.specs.Faults.{AllFit}
-use Rattle.cv_rows.specs.Parents.{HasPath, is_covered}
+use Rattle.cv_rows.specs.ParentsInner.{HasPath, is_covered}
 use Rattle.cv_rows.specs.Places.{StandsAt}
 use Rattle.cv_rows.specs.declared.row.Row.{Row}
 use Rattle.cv_rows.proofs.NestedLaws.{fits_there}

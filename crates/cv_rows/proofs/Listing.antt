@@ -8,7 +8,8 @@ use Rattle.std.proofs.lemmas.List.{take_more, take_all, get_or_default}
 use Rattle.cv_base.specs.Path.{Path, key_of, covers, same_path}
 use Rattle.cv_base.specs.PathOrder.{same_path_is, path_total}
 use Rattle.cv_rows.specs.Catalogue.{Contents, IsCatalogue, is_below}
-use Rattle.cv_rows.specs.Listing.{IsListing, is_in}
+use Rattle.cv_rows.specs.Listing.{IsListing}
+use Rattle.cv_rows.specs.ListingInner.{is_in}
 use Rattle.cv_rows.specs.Places.{IsRoot, StandsAt, StandEach, root, below}
 use Rattle.cv_rows.specs.declared.row.Row.{Row}
 use Rattle.cv_rows.proofs.PlaceLaws.{stands_contained, same_by_key, one_place}

@@ -4,7 +4,8 @@ use Rattle.std.proofs.lemmas.List.{append-nil}
 use Rattle.cv_base.specs.Sequence.{◌>>=◌}
 use Rattle.cv_rows.specs.declared.row_fault.RowFault.{RowFault}
 use Rattle.cv_rows.specs.declared.row_fault.RowFault.TheVariants.{Short, BadMagic, BadField, Order, BadKey, Orphan, Marker, NestedList, TrailingBytes, TooLarge, NoMemory}
-use Rattle.cv_rows.specs.Reading.{Fails, many_at}
+use Rattle.cv_rows.specs.Reading.{many_at}
+use Rattle.cv_rows.specs.ReadingInner.{Fails}
 
 -- what was read before, and what is still read
 abbrev pub with_front : {A : Type 0} → List A → Result (List A × List ℕ) RowFault → Result (List A × List ℕ) RowFault

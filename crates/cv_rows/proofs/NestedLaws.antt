@@ -11,10 +11,10 @@ use Rattle.std.specs.Ordering.{is_eq}
 use Rattle.cv_base.proofs.Laws.{first_true, second_true}
 use Rattle.cv_rows.specs.Row.{same_kind}
 use Rattle.cv_rows.specs.Places.{StandsAt}
-use Rattle.cv_rows.specs.Parents.{IsPlacing, HasPath}
+use Rattle.cv_rows.specs.ParentsInner.{IsPlacing, HasPath}
 use Rattle.cv_rows.specs.Catalogue.{row_cmp, FitsAt, IsTransitionAt, IsListed}
 use Rattle.cv_rows.specs.Faults.{AllFit}
-use Rattle.cv_rows.specs.NestedList.{is_transition, has_key, HasNested}
+use Rattle.cv_rows.specs.NestedListInner.{is_transition, has_key, HasNested}
 use Rattle.cv_rows.specs.declared.row.Row.{Row}
 use Rattle.cv_rows.specs.declared.nested.Nested.{Nested}
 use Rattle.cv_rows.specs.declared.row_kind.RowKind.{RowKind}

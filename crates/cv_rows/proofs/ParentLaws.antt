@@ -8,7 +8,7 @@ use Rattle.std.proofs.lemmas.Bool.{cases_lt}
 use Rattle.std.proofs.lemmas.List.{get_or_default, get_or_append_left}
 use Rattle.cv_rows.specs.Catalogue.{row_cmp}
 use Rattle.cv_rows.specs.Places.{IsChild}
-use Rattle.cv_rows.specs.Parents.{IsParentOf, AreParents}
+use Rattle.cv_rows.specs.ParentsInner.{IsParentOf, AreParents}
 use Rattle.cv_rows.specs.declared.row.Row.{Row}
 use Rattle.cv_rows.proofs.Sorting.{same_row}
 

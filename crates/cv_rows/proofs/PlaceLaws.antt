@@ -8,7 +8,7 @@ use Rattle.std.proofs.lemmas.List.Elements.{Contains-get_or}
 use Rattle.cv_base.specs.Path.{Path, key_of}
 use Rattle.cv_rows.specs.Catalogue.{row_cmp}
 use Rattle.cv_rows.specs.Places.{IsRoot, IsChild, StandsAt, root, below}
-use Rattle.cv_rows.specs.Parents.{step, times, AreParents, AreInside}
+use Rattle.cv_rows.specs.ParentsInner.{step, times, AreParents, AreInside}
 use Rattle.cv_rows.specs.declared.row.Row.{Row}
 use Rattle.cv_rows.proofs.Sorting.{same_index, same_row}
 use Rattle.cv_rows.proofs.Reach.{same_or_not, hit_by}

@@ -8,7 +8,7 @@ use Rattle.std.proofs.lemmas.Bool.Decides.{Decides-eqb}
 use Rattle.std.proofs.lemmas.Cmp.{nat_eq_equiv}
 use Rattle.std.proofs.lemmas.List.FromFn.{length-range_with_len, get_or-range_with_len}
 use Rattle.std.proofs.lemmas.Map.Made.{is_member-Decides, length-le_from_is_member}
-use Rattle.cv_rows.specs.Parents.{step, times, AreInside}
+use Rattle.cv_rows.specs.ParentsInner.{step, times, AreInside}
 use Rattle.cv_rows.proofs.Steps.{times_sum}
 
 -- two indices are the same or not

@@ -14,7 +14,8 @@ use Rattle.cv_rows.specs.Row.{IsRow, row_bytes}
 use Rattle.cv_rows.specs.Nested.{IsNested, nested_bytes}
 use Rattle.cv_rows.specs.Places.{StandsAt, root, below}
 use Rattle.cv_rows.specs.Catalogue.{IsCatalogue, IsRegion, IsMarkedSo, IsMarkedWell, IsTransitionAt, IsListed, FitsAt, file_of, row_cmp, nested_cmp}
-use Rattle.cv_rows.specs.Made.{AreApart, Judges, PassesLimit, keys_of}
+use Rattle.cv_rows.specs.Made.{AreApart, PassesLimit, keys_of}
+use Rattle.cv_rows.specs.MadeInner.{Judges}
 use Rattle.cv_rows.specs.declared.with_fault.WithFault.{WithFault}
 use Rattle.cv_rows.specs.declared.with_fault.WithFault.TheVariants.{Full}
 use Rattle.cv_rows.specs.declared.row.Row.{Row}

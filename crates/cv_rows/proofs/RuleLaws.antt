@@ -11,14 +11,15 @@ use Rattle.cv_base.specs.Path.{Path, IsPath}
 use Rattle.cv_base.specs.Unless.{IsUnless}
 use Rattle.cv_rows.specs.Places.{IsRoot, StandsAt, root}
 use Rattle.cv_rows.specs.Catalogue.{Contents, IsCatalogue, IsMarkedWell, IsTransitionAt, IsListed, row_cmp, nested_cmp, file_of, catalogue_bytes}
-use Rattle.cv_rows.specs.Faults.{IsFirst, IsFirstDisorder, IsFirstOrphan, IsMisplaced, AreOrdered, AllStand, AllFit, IsRuleFault, IsFaultOf, IsFirstFault, KeepsRules}
+use Rattle.cv_rows.specs.Faults.{IsFirst, IsFirstDisorder, IsFirstOrphan, IsMisplaced, AreOrdered, AllStand, AllFit, IsRuleFault, IsFaultOf, IsFirstFault}
+use Rattle.cv_rows.specs.FaultsInner.{KeepsRules}
 use Rattle.cv_rows.specs.Reading.{Entries, entries_of}
 use Rattle.cv_rows.specs.declared.row.Row.{Row}
 use Rattle.cv_rows.specs.declared.nested.Nested.{Nested}
 use Rattle.cv_rows.specs.declared.row_fault.RowFault.{RowFault}
 use Rattle.cv_rows.specs.declared.row_fault.RowFault.TheVariants.{Short, BadMagic, BadField, Order, BadKey, Orphan, Marker, NestedList, TrailingBytes, TooLarge, NoMemory}
-use Rattle.cv_rows.specs.Parents.{AreParents, IsPlacing}
-use Rattle.cv_rows.specs.NestedList.{HasNested}
+use Rattle.cv_rows.specs.ParentsInner.{AreParents, IsPlacing}
+use Rattle.cv_rows.specs.NestedListInner.{HasNested}
 use Rattle.cv_rows.proofs.Sizes.{nested_le}
 use Rattle.cv_rows.proofs.NestedLaws.{fits_there, listed_is, listed_has}
 use Rattle.cv_rows.proofs.FieldLaws.{ok_is}

@@ -15,7 +15,7 @@ use Rattle.cv_base.specs.PathOrder.{path_total, same_name_is, same_name_itself, 
 use Rattle.cv_base.proofs.Laws.{same_parts}
 use Rattle.cv_rows.specs.Catalogue.{Contents, IsCatalogue, row_cmp}
 use Rattle.cv_rows.specs.Places.{IsRoot, IsChild, StandsAt, root, below}
-use Rattle.cv_rows.specs.Parents.{IsParentOf}
+use Rattle.cv_rows.specs.ParentsInner.{IsParentOf}
 use Rattle.cv_rows.specs.declared.row.Row.{Row}
 use Rattle.cv_rows.specs.declared.nested.Nested.{Nested}
 use Rattle.std.specs.Ordering.{is_eq}

@@ -1,6 +1,6 @@
 -- Steps up from index to index.
 use Rattle.std.proofs.Common.{◌≡◌, ℕ, zero, suc, ◌+◌, ◌^◌, ◌<◌, List, length, get_or, refl, sym, ap, ◌∙◌, arith}
-use Rattle.cv_rows.specs.Parents.{step, times, AreAbove, AreInside}
+use Rattle.cv_rows.specs.ParentsInner.{step, times, AreAbove, AreInside}
 
 pub times_inside : (parents : List ℕ) (n i : ℕ) → AreInside parents → i < length parents → times parents n i < length parents
 unfolding times

@@ -8,7 +8,7 @@ use Rattle.cv_base.specs.Path.{is_path_byte, is_path_name, is_dots}
 use Rattle.cv_base.specs.Target.{is_target, is_target_byte, target_of}
 use Rattle.cv_base.proofs.Laws.{first_true, second_true}
 use Rattle.cv_rows.specs.Row.{is_row_name}
-use Rattle.cv_rows.specs.Reading.{row_name_of}
+use Rattle.cv_rows.specs.ReadingInner.{row_name_of}
 
 path_byte : (b : ℕ) → is_path_byte b ≡ true → is_target_byte b ≡ true
 path_byte b h = second_true (not (b == 47)) (not (b == 0)) h

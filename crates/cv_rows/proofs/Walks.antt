@@ -14,7 +14,8 @@ use Rattle.cv_base.proofs.Laws.{first_true, second_true}
 use Rattle.cv_rows.specs.Catalogue.{row_cmp, FitsAt}
 use Rattle.cv_rows.specs.Faults.{IsFirst, IsOrphan, IsMisplaced}
 use Rattle.cv_rows.specs.Places.{IsRoot, IsChild, StandsAt, root, below}
-use Rattle.cv_rows.specs.Parents.{step, times, AreAbove, IsPlacing, IsPathOf, HasPath, IsBelow}
+use Rattle.cv_rows.specs.Parents.{IsBelow}
+use Rattle.cv_rows.specs.ParentsInner.{step, times, AreAbove, IsPlacing, IsPathOf, HasPath}
 use Rattle.cv_rows.specs.declared.row.Row.{Row}
 use Rattle.cv_rows.proofs.Sorting.{same_row}
 use Rattle.cv_rows.proofs.PlaceLaws.{stands_contained, one_place, root_index, stands_above, orphan}

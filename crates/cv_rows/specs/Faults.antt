@@ -1,6 +1,5 @@
 -- The first fault of bytes that are no row file: that of a field, or else the first rule that rows and
--- nested entries break.
-use Rattle.std.specs.Prelude.{◌≡◌, ◌≢◌, ℕ, Bool, true, false, ◌+◌, ◌-◌, ◌<◌, ◌⊎◌, List, length, slice_index_or, Contains, Result, Ok, Err}
+use Rattle.std.specs.Prelude.{◌≡◌, ◌≢◌, ℕ, ◌+◌, ◌-◌, ◌<◌, ◌⊎◌, List, length, slice_index_or, Contains, Result, Ok, Err}
 use Rattle.std.specs.declared.cmp.Ordering.{Ordering}
 use Rattle.std.specs.declared.cmp.Ordering.TheVariants.{Less}
 use Rattle.std.specs.List.{All, AllWithin, AllAdjacentBelow, HoldsAt}
@@ -48,11 +47,6 @@ IsOrphan at rows r = (q : Path) → StandsAt at rows r q → ⊥
 abbrev pub IsMisplaced : Path → List Row → Row → Type 0
 IsMisplaced at rows r = (q : Path) × StandsAt at rows r q × (FitsAt at r q → ⊥)
 
--- what is told of the row at an index: whether it stands at a path that it fits
-abbrev pub IsPlaced : Path → List Row → ℕ → Bool → Type 0
-IsPlaced at rows i true = (d : Row) → (q : Path) × StandsAt at rows (slice_index_or rows i d) q × FitsAt at (slice_index_or rows i d) q
-IsPlaced at rows i false = (d : Row) → IsMisplaced at rows (slice_index_or rows i d)
-
 -- without a root row every row is an orphan, and so is the first where there are no rows
 abbrev pub IsFirstOrphan : Path → List Row → ℕ → Type 0
 IsFirstOrphan at rows i =
@@ -91,17 +85,3 @@ IsSaid fault said = said
 -- the fault of these bytes as a row file at this place
 abbrev pub IsFirstFault : List ℕ → Path → RowFault → Type 0
 IsFirstFault bytes at fault = IsSaid fault (IsFaultOf at (entries_of bytes) fault)
-
--- all rules are kept
-pub record KeepsRules (at : Path) (rows : List Row) (nested : List Nested) : Type 0 where
-  pub ordered : AreOrdered rows nested
-  pub stand : AllStand at rows
-  pub fit : AllFit at rows
-  pub marked : All (IsMarkedWell at rows) rows
-  pub named : All (λ n. IsTransitionAt at rows n.path) nested
-  pub listed : All (IsListed at rows nested) rows
-
--- what a check tells: the rules are kept, or which fault it is
-abbrev pub Checks : Type 0 → (RowFault → Type 0) → Result Unit RowFault → Type 0
-Checks kept fails (Ok _) = kept
-Checks kept fails (Err fault) = IsSaid fault (fails fault)

@@ -1,8 +1,8 @@
 -- The rows that stand directly in a directory.
-use Rattle.std.specs.Prelude.{◌≡◌, ◌↔◌, Bool, true, not, ◌&&◌, bytes_eq, ℕ, List, [], ◌∷◌, ◌++◌}
+use Rattle.std.specs.Prelude.{◌≡◌, ◌↔◌, Bool, true, ℕ, List, [], ◌∷◌, ◌++◌}
 use Rattle.std.specs.List.{filter}
 use Rattle.cv_base.specs.Path.{Path}
-use Rattle.cv_rows.specs.Catalogue.{Contents, is_below}
+use Rattle.cv_rows.specs.Catalogue.{Contents}
 use Rattle.cv_rows.specs.Places.{IsRoot, StandsAt}
 use Rattle.cv_rows.specs.declared.row.Row.{Row}
 
@@ -11,7 +11,3 @@ pub record IsListing (c : Contents) (p : Path) (rows : List Row) : Type 0 where
   pub lists : Row → Bool
   pub lists_is : (r : Row) (q : Path) → StandsAt c.at c.rows r q → (lists r ≡ true) ↔ ((IsRoot c.at r → ⊥) × (name : List ℕ) × (q ≡ p ++ name ∷ []))
   pub rows_are : rows ≡ filter lists c.rows
-
--- the row has this key as its parent key, and is neither the row of the key nor that of the root's key
-abbrev pub is_in : List ℕ → List ℕ → Row → Bool
-is_in root key r = is_below r key && not (bytes_eq r.key.0 root)

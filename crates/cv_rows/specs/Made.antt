@@ -1,5 +1,5 @@
 -- Catalogues that are made of rows and nested entries in any order.
-use Rattle.std.specs.Prelude.{◌≡◌, ℕ, ◌<◌, ◌⊎◌, List, length, map, Some, slice_get, Result, Ok, Err}
+use Rattle.std.specs.Prelude.{◌≡◌, ℕ, ◌<◌, ◌⊎◌, List, length, map, Some, slice_get}
 use Rattle.std.specs.FinMap.{from_entries, values}
 use Rattle.cv_base.specs.declared.limits.TheConstants.{OBJECT_LIMIT}
 use Rattle.cv_base.specs.Path.{Path, text_of}
@@ -7,8 +7,6 @@ use Rattle.cv_rows.specs.Catalogue.{Contents, IsRegion, bytes_cmp, file_of}
 use Rattle.cv_rows.specs.declared.limits.TheConstants.{ROW_LIMIT}
 use Rattle.cv_rows.specs.declared.row.Row.{Row}
 use Rattle.cv_rows.specs.declared.nested.Nested.{Nested}
-use Rattle.cv_rows.specs.declared.with_fault.WithFault.{WithFault}
-use Rattle.cv_rows.specs.declared.with_fault.WithFault.TheVariants.{Collision, Full, NoMemory}
 
 abbrev pub keys_of : List Row → List (List ℕ)
 keys_of rows = map (λ r. r.key.0) rows
@@ -47,10 +45,3 @@ pub record AreParts (at : Path) (rows : List Row) (nested : List Nested) : Type 
 -- more than 50,000 rows, or more than 16 MiB of bytes
 abbrev pub PassesLimit : List Row → List Nested → Type 0
 PassesLimit rows nested = (ROW_LIMIT < length rows) ⊎ (OBJECT_LIMIT < length (file_of rows nested))
-
--- what a judge of rows and nested entries says
-abbrev pub Judges : List Row → List Nested → Result Unit WithFault → Type 0
-Judges rows nested (Ok _) = AreApart (keys_of rows) × (PassesLimit rows nested → ⊥)
-Judges rows nested (Err (Collision key)) = IsTwice (keys_of rows) key.0
-Judges rows nested (Err Full) = AreApart (keys_of rows) × PassesLimit rows nested
-Judges rows nested (Err NoMemory) = Unit {0}

@@ -1,9 +1,5 @@
 -- Reading the fields of a row file, one after another from its first byte on: its rows and nested
--- entries, or the first fault. Bytes that are a row file's are read so, and no others are (`file_of`
--- spells them). Where a value isn't as it has to be the fault is the offset of its field; that of a
--- text is the offset of the length where it passes its limit, and of the bytes otherwise. The size of
--- a link is judged at once where no target has that size, and once the target is there otherwise.
-use Rattle.std.specs.Prelude.{◌≡◌, ℕ, zero, suc, ◌+◌, ◌-◌, Bool, true, not, ◌&&◌, ◌==◌, nat_le, nat_lt, bytes_eq, if◌then◌else◌, List, [], ◌∷◌, length, take, drop, codes, Option, Some, None, Result, Ok, Err}
+use Rattle.std.specs.Prelude.{ℕ, zero, suc, ◌+◌, ◌-◌, Bool, true, not, ◌&&◌, ◌==◌, nat_le, nat_lt, bytes_eq, if◌then◌else◌, List, [], ◌∷◌, length, take, drop, codes, Option, Some, None, Result, Ok, Err}
 use Rattle.std.specs.Int.{Width, w16, w32, w64, byte_len, from_be_bytes}
 use Rattle.cv_base.specs.Path.{Path}
 use Rattle.cv_base.specs.PathText.{path_named}
@@ -18,17 +14,7 @@ use Rattle.cv_rows.specs.declared.nested.Nested.{Nested}
 use Rattle.cv_rows.specs.declared.row_kind.RowKind.{RowKind}
 use Rattle.cv_rows.specs.declared.row_kind.RowKind.TheVariants.{Directory, Transition, NestedRoot, File, Link}
 use Rattle.cv_rows.specs.declared.row_fault.RowFault.{RowFault}
-use Rattle.cv_rows.specs.declared.row_fault.RowFault.TheVariants.{Short, BadMagic, BadField, TrailingBytes, TooLarge, NoMemory}
-
--- the fault is that of reading, unless it is want of memory
-abbrev pub Fails : {Y : Type 0} → RowFault → Result Y RowFault → Type 0
-Fails NoMemory read = Unit {0}
-Fails fault read = read ≡ Err fault
-
--- what a function returned, seen by view, is what reading gives, unless it wanted memory
-abbrev pub Gives : {X Y : Type 0} → (X → Y) → Result X RowFault → Result Y RowFault → Type 0
-Gives view (Ok x) read = read ≡ Ok (view x)
-Gives view (Err fault) read = Fails fault read
+use Rattle.cv_rows.specs.declared.row_fault.RowFault.TheVariants.{Short, BadMagic, BadField, TrailingBytes, TooLarge}
 
 -- Below, `all` is the count of all bytes, and a field is read from the text that begins with it: so its
 -- offset is `all` less the bytes of that text. What is read comes with the text after it.
@@ -105,10 +91,6 @@ unfoldable pub length_at : ℕ → ℕ → List ℕ → Result (ℕ × List ℕ)
 length_at all limit text = do
   len ← number_at w16 text
   if nat_le len.0 limit then Ok len else Err (bad all text)
-
--- the name that a text is, in a row with this parent key
-abbrev pub row_name_of : List ℕ → List ℕ → Option (List ℕ)
-row_name_of parent name = if is_row_name parent name then Some name else None
 
 unfoldable pub name_at : ℕ → List ℕ → List ℕ → Result (List ℕ × List ℕ) RowFault
 name_at all parent text = do

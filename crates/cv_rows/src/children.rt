@@ -1,7 +1,7 @@
 //! The rows below a directory.
 ghost use Rattle.std.specs.Prelude.{◌≡◌, IfOk, filter};
 ghost use Rattle.cv_rows.specs.Catalogue.{is_below};
-ghost use Rattle.cv_rows.specs.Listing.{is_in};
+ghost use Rattle.cv_rows.specs.ListingInner.{is_in};
 
 use crate::row::Row;
 use cv_base::NoMemory;

@@ -7,7 +7,7 @@ ghost use Rattle.std.specs.List.Sorted.{IsStrictlySortedBy};
 ghost use Rattle.cv_base.specs.Path.{IsPath, covers};
 ghost use Rattle.cv_rows.specs.Catalogue.{row_cmp};
 ghost use Rattle.cv_rows.specs.Faults.{AllStand, AllFit};
-ghost use Rattle.cv_rows.specs.Parents.{is_covered};
+ghost use Rattle.cv_rows.specs.ParentsInner.{is_covered};
 ghost use Rattle.cv_rows.specs.Places.{StandsAt};
 ghost use Rattle.cv_rows.specs.declared.limits.TheConstants.{ROW_LIMIT};
 ghost use Rattle.cv_rows.specs.declared.row.Row.{Row as TheRow};

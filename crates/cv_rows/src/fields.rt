@@ -2,7 +2,8 @@
 //! which a fault names the offset of a field. Each function gives what follows its field too.
 ghost use Rattle.std.specs.Prelude.{◌≡◌, IfOk};
 ghost use Rattle.std.specs.Int.{w16, w32, w64};
-ghost use Rattle.cv_rows.specs.Reading.{Gives, bad, number_at, bytes_at, kind_of, kind_at, attr_at, permissions, is_size, size_at, hash_at, length_at, name_at, row_name_of, target_limit, is_size_of, target_at, path_at};
+ghost use Rattle.cv_rows.specs.Reading.{bad, number_at, bytes_at, kind_of, kind_at, attr_at, permissions, is_size, size_at, hash_at, length_at, name_at, target_limit, is_size_of, target_at, path_at};
+ghost use Rattle.cv_rows.specs.ReadingInner.{Gives, row_name_of};
 ghost use Rattle.cv_rows.specs.Row.{is_row_name};
 
 use crate::row_fault::RowFault;

@@ -5,7 +5,8 @@ ghost use Rattle.std.specs.List.{flat_map, AllByRecursion};
 ghost use Rattle.cv_base.specs.declared.limits.TheConstants.{OBJECT_LIMIT};
 ghost use Rattle.cv_rows.specs.Row.{IsRow, row_bytes};
 ghost use Rattle.cv_rows.specs.Nested.{IsNested, nested_bytes};
-ghost use Rattle.cv_rows.specs.Made.{AreApart, IsTwice, Judges, PassesLimit, keys_of};
+ghost use Rattle.cv_rows.specs.Made.{AreApart, IsTwice, PassesLimit, keys_of};
+ghost use Rattle.cv_rows.specs.MadeInner.{Judges};
 ghost use Rattle.cv_rows.specs.declared.limits.TheConstants.{ROW_LIMIT};
 
 use crate::keys::add;

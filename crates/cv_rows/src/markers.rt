@@ -6,7 +6,7 @@ ghost use Rattle.std.specs.BTreeSet.{contains};
 ghost use Rattle.std.specs.List.{All};
 ghost use Rattle.cv_rows.specs.Catalogue.{is_marker, has_marker, IsMarkedWell};
 ghost use Rattle.cv_rows.specs.Faults.{IsFirst};
-ghost use Rattle.cv_rows.specs.Markers.{MarksWell};
+ghost use Rattle.cv_rows.specs.MarkersInner.{MarksWell};
 
 use crate::keys::add;
 use crate::places::is_root;

@@ -6,11 +6,11 @@ ghost use Rattle.std.specs.Cmp.Lexicographic.{slice_cmp};
 ghost use Rattle.std.specs.BTreeSet.{contains};
 ghost use Rattle.std.specs.List.{All, HoldsAt};
 ghost use Rattle.cv_rows.specs.Places.{StandsAt};
-ghost use Rattle.cv_rows.specs.Parents.{IsPlacing};
+ghost use Rattle.cv_rows.specs.ParentsInner.{IsPlacing};
 ghost use Rattle.cv_rows.specs.Catalogue.{IsTransitionAt};
 ghost use Rattle.cv_rows.specs.Faults.{IsFirst, AllFit};
 ghost use Rattle.cv_rows.specs.Toward.{IsAbove};
-ghost use Rattle.cv_rows.specs.NestedList.{is_transition, has_key, HasNested, IsListedBy};
+ghost use Rattle.cv_rows.specs.NestedListInner.{is_transition, has_key, HasNested, IsListedBy};
 
 use crate::keys::add;
 use crate::nested::Nested;

@@ -2,7 +2,7 @@
 ghost use Rattle.std.specs.Prelude.{◌≡◌, ◌≤◌, ◌↔◌, List, ℕ, IsTrue, IfOk};
 ghost use Rattle.cv_base.specs.Path.{IsPath, is_path_name};
 ghost use Rattle.cv_rows.specs.Catalogue.{FitsAt};
-ghost use Rattle.cv_rows.specs.Digests.{IsDigestOf, IsDigestBelow};
+ghost use Rattle.cv_rows.specs.DigestsInner.{IsDigestOf, IsDigestBelow};
 
 use crate::places::is_root;
 use crate::row::Row;

@@ -1,6 +1,7 @@
 //! Reading the rows and nested entries of a row file.
 ghost use Rattle.std.specs.Prelude.{◌≡◌, ◌+◌, ◌≤◌, length};
-ghost use Rattle.cv_rows.specs.Reading.{Gives, row_behind, row_at, nested_at, many_at, entries_at, entries_of, number_in, is_too_large};
+ghost use Rattle.cv_rows.specs.Reading.{row_behind, row_at, nested_at, many_at, entries_at, entries_of, number_in, is_too_large};
+ghost use Rattle.cv_rows.specs.ReadingInner.{Gives};
 
 use crate::fields::{
     read_array, read_attr, read_hash, read_kind, read_name, read_path, read_size, read_target,

@@ -4,8 +4,9 @@ ghost use Rattle.std.specs.List.{HoldsAt, All};
 ghost use Rattle.cv_base.specs.declared.limits.TheConstants.{OBJECT_LIMIT};
 ghost use Rattle.cv_rows.specs.Catalogue.{IsMarkedWell};
 ghost use Rattle.cv_rows.specs.Places.{IsRoot};
-ghost use Rattle.cv_rows.specs.Parents.{IsPlacing};
-ghost use Rattle.cv_rows.specs.Faults.{AreOrdered, AllStand, AllFit, IsRuleFault, IsFirstFault, KeepsRules, Checks};
+ghost use Rattle.cv_rows.specs.ParentsInner.{IsPlacing};
+ghost use Rattle.cv_rows.specs.Faults.{AreOrdered, AllStand, AllFit, IsRuleFault, IsFirstFault};
+ghost use Rattle.cv_rows.specs.FaultsInner.{KeepsRules, Checks};
 ghost use Rattle.cv_rows.specs.Reading.{entries_of};
 ghost use Rattle.cv_rows.specs.declared.limits.TheConstants.{ROW_LIMIT};
 

@@ -4,9 +4,10 @@ ghost use Rattle.std.specs.Prelude.{◌≡◌, ℕ, ◌+◌, ◌<◌, List, leng
 ghost use Rattle.std.specs.List.{All};
 ghost use Rattle.cv_base.specs.Path.{IsPath, is_path_name};
 ghost use Rattle.cv_rows.specs.Places.{StandsAt};
-ghost use Rattle.cv_rows.specs.Parents.{IsPlacing};
-ghost use Rattle.cv_rows.specs.Digests.{AreKept, IsFound};
-ghost use Rattle.cv_rows.specs.Faults.{IsFirst, IsMisplaced, IsPlaced, AllFit};
+ghost use Rattle.cv_rows.specs.ParentsInner.{IsPlacing};
+ghost use Rattle.cv_rows.specs.DigestsInner.{AreKept, IsFound};
+ghost use Rattle.cv_rows.specs.Faults.{IsFirst, IsMisplaced, AllFit};
+ghost use Rattle.cv_rows.specs.FaultsInner.{IsPlaced};
 
 use crate::path_digest::PathDigest;
 use crate::row::Row;

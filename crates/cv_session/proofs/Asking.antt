@@ -7,8 +7,9 @@ use Rattle.cv_base.specs.declared.memory.NoMemory.{NoMemory}
 use Rattle.cv_gate.specs.declared.op.Op.{Op}
 use Rattle.cv_messages.specs.Spelling.{IsToken, token_of}
 use Rattle.cv_messages.proofs.Laws.{token_of-token_text, token_of-None}
-use Rattle.cv_session.specs.Denials.{Asks, Denies}
-use Rattle.cv_session.specs.Turns.{IsGood, token_by}
+use Rattle.cv_session.specs.DenialsInner.{Asks, Denies}
+use Rattle.cv_session.specs.Turns.{token_by}
+use Rattle.cv_session.specs.TurnsInner.{IsGood}
 use Rattle.cv_session.specs.declared.denial.Denial.{Denial}
 use Rattle.cv_session.specs.declared.turn.Turn.{Turn}
 

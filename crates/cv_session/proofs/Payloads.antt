@@ -28,9 +28,11 @@ use Rattle.cv_pack.specs.Reading.{reading}
 use Rattle.cv_pack.specs.declared.pack_fault.PackFault.{PackFault}
 use Rattle.cv_pack.specs.declared.pack_fault.PackFault.TheVariants.{BadHeader, TooLarge, TooMany, HashDiffers, Short, Trailing, Duplicate, NoMemory}
 use Rattle.cv_pack.specs.declared.pack_reader.PackReader.{PackReader}
-use Rattle.cv_session.specs.Denials.{Denies}
-use Rattle.cv_session.specs.Payloads.{Came, ReadsBody, LooksWithin, Says, fitting, message_size, payload_by_ask, payload_on, payload_from, payload_turn, refused_pack}
-use Rattle.cv_session.specs.Turns.{signed, denied, IsGood}
+use Rattle.cv_session.specs.DenialsInner.{Denies}
+use Rattle.cv_session.specs.Payloads.{fitting, message_size, payload_by_ask, payload_on, payload_from, payload_turn}
+use Rattle.cv_session.specs.PayloadsInner.{Came, ReadsBody, LooksWithin, Says, refused_pack}
+use Rattle.cv_session.specs.Turns.{signed, denied}
+use Rattle.cv_session.specs.TurnsInner.{IsGood}
 use Rattle.cv_session.specs.declared.denial.Denial.{Denial}
 use Rattle.cv_session.specs.declared.denial.Denial.TheVariants.{Refused}
 use Rattle.cv_session.specs.declared.payload.Announced.{Announced}

@@ -11,12 +11,16 @@ use Rattle.cv_http.specs.declared.fault.HttpFault.{HttpFault}
 use Rattle.cv_http.specs.declared.fault.HttpFault.TheVariants.{BadHead, HeadTooLarge, BodyTooLarge, NoLength, Coding, Short, ReadFault, NoMemory}
 use Rattle.cv_http.proofs.Lemmas.{begins_on, reads_as, reads_then, looks_as, looks_then}
 use Rattle.cv_keys.specs.declared.key.Key.{Key}
-use Rattle.cv_session.specs.Payloads.{ReadsBody, LooksWithin, Says, is_payload, payload_turn}
-use Rattle.cv_session.specs.Turns.{Wants, IsGood}
+use Rattle.cv_session.specs.Payloads.{is_payload, payload_turn}
+use Rattle.cv_session.specs.PayloadsInner.{ReadsBody, LooksWithin, Says}
+use Rattle.cv_session.specs.Turns.{Wants}
+use Rattle.cv_session.specs.TurnsInner.{IsGood}
 use Rattle.cv_session.specs.declared.turn.Turn.{Turn}
-use Rattle.cv_session.specs.Requests.{head_refused, body_refused, inside_head, inside_body, Reached, before_head, behind_head, awaits_head, awaits_body, WantsAny, Asks, body_size, body_limit, waits, line_text}
+use Rattle.cv_session.specs.Requests.{head_refused, body_refused, inside_head, inside_body, Reached, before_head, behind_head, awaits_head, awaits_body, WantsAny, body_size, body_limit, waits, line_text}
+use Rattle.cv_session.specs.RequestsInner.{Asks}
 use Rattle.cv_session.specs.Requests.WantsAny.{payload as payload_wants, other as other_wants}
-use Rattle.cv_session.specs.Exchanges.{IsWhy, IsAsking, IsAskingBehind, Gets, whole, ended, fault, unsaid, GetsBehind, behind, large, breaks, unsaid_behind}
+use Rattle.cv_session.specs.Exchanges.{whole, ended, fault, unsaid, behind, large, breaks, unsaid_behind}
+use Rattle.cv_session.specs.ExchangesInner.{IsWhy, IsAsking, IsAskingBehind, Gets, GetsBehind}
 use Rattle.cv_session.specs.declared.request.Asked.{Asked}
 use Rattle.cv_session.specs.declared.request.Unread.{Unread}
 use Rattle.cv_session.specs.declared.request.Unread.TheVariants.{Fault}

@@ -19,10 +19,12 @@ use Rattle.cv_keys.specs.declared.key.Key.{Key}
 use Rattle.cv_gate.specs.Desk.{Call}
 use Rattle.cv_session.specs.Asking.{Turned, refusing, IsNext, Opens, clean, closed, cut}
 use Rattle.cv_session.specs.Asking.EndsWith.{refused as asked_refused}
-use Rattle.cv_session.specs.Exchanges.{IsWhy, IsAsking, Gets, fault, request_limit, ends, is_full, end_after, whole, front, nothing, Handles, answered, unanswered, EndsBy, refused, broken_off, cut_short, not_read, no_memory, not_said}
+use Rattle.cv_session.specs.Exchanges.{fault, request_limit, ends, is_full, whole, front, nothing, answered, unanswered, refused, broken_off, cut_short, not_read, no_memory, not_said}
+use Rattle.cv_session.specs.ExchangesInner.{IsWhy, IsAsking, Gets, end_after, Handles, EndsBy}
 use Rattle.cv_session.specs.Exchanges.Gets.{whole as read_whole, ended as read_end, unsaid as line_unsaid}
 use Rattle.cv_session.specs.Requests.{Request, IsRequest, IsBad, Reached, waits, line_text, code_of_fault}
-use Rattle.cv_session.specs.Responses.{Does, unsaid, reply_of}
+use Rattle.cv_session.specs.Responses.{unsaid, reply_of}
+use Rattle.cv_session.specs.ResponsesInner.{Does}
 use Rattle.cv_session.specs.Responses.{refused as refusal}
 use Rattle.cv_session.specs.Sessions.{Exchange, turns, calls_of, is_last, saying, sayings, IsAnswered, Opened, IsLast, Ended, by_bytes, full, unread, broken, broken_line, forgotten, silent, IsUpToDate, ReadsUpToDate, Session}
 use Rattle.cv_session.specs.Sessions.Comes.{request as next_request, fault as next_fault}

@@ -20,7 +20,8 @@ use Rattle.cv_ports.specs.Shelf.{Suits}
 use Rattle.cv_http.specs.declared.code.Code.TheVariants.{NotFound, ServerError}
 use Rattle.cv_session.specs.declared.target.Resource.TheVariants.{Object}
 use Rattle.cv_session.specs.declared.turn.Turn.TheVariants.{Serve, Repositories}
-use Rattle.cv_session.specs.Responses.{Answers, Does, object, absent, failed, unfetched, repositories, unsaid}
+use Rattle.cv_session.specs.Responses.{Answers, object, absent, failed, unfetched, repositories, unsaid}
+use Rattle.cv_session.specs.ResponsesInner.{Does}
 use Rattle.cv_session.specs.declared.response.Response.TheVariants.{Content, Fixed, Message}
 use Rattle.cv_session.specs.Standing.{Standing, standing, Gives}
 use Rattle.cv_session.specs.declared.response.Response.{Response}

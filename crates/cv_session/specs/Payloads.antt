@@ -1,12 +1,7 @@
 -- What a payload asks: its message size is judged first, then the authorization, the message, the digest of the pack's header,
--- the pack, and the header's length.
-use Rattle.std.specs.Prelude.{◌≡◌, ◌==◌, ◌++◌, ◌<◌, ℕ, Bool, true, false, List, Option, Some, None, Result, Ok, Err, bytes_eq, take, drop, length, nat_le, ◌&&◌, if◌then◌else◌}
+use Rattle.std.specs.Prelude.{◌==◌, ℕ, Bool, true, false, List, Option, Some, None, Result, Ok, Err, bytes_eq, take, drop, length, nat_le, ◌&&◌, if◌then◌else◌}
 use Rattle.sha1.specs.Sha1.{sha1}
 use Rattle.cv_base.specs.declared.object.Object.{Object}
-use Rattle.cv_ports.specs.Streams.{Look}
-use Rattle.cv_http.specs.Wires.{WireView, Reads, Looks, Beside, BodyRead}
-use Rattle.cv_http.specs.declared.fault.HttpFault.{HttpFault}
-use Rattle.cv_http.specs.declared.fault.HttpFault.TheVariants as http
 use Rattle.cv_http.specs.declared.head.RequestHead.{RequestHead}
 use Rattle.cv_http.specs.declared.method.Method.{Method}
 use Rattle.cv_http.specs.declared.method.Method.TheVariants.{Get, Post, Delete, Other}
@@ -20,9 +15,8 @@ use Rattle.cv_gate.specs.declared.op.Op.TheVariants as op
 use Rattle.cv_pack.specs.Pack.{header_bytes}
 use Rattle.cv_pack.specs.Reading.{reading}
 use Rattle.cv_pack.specs.declared.pack_fault.PackFault.{PackFault}
-use Rattle.cv_pack.specs.declared.pack_fault.PackFault.TheVariants.{BadHeader, TooLarge, TooMany, HashDiffers, Short, Trailing, Duplicate, NoMemory}
 use Rattle.cv_messages.specs.Targets.{payloads_target}
-use Rattle.cv_session.specs.Turns.{IsGood, denied, denied_message, signed, token_by}
+use Rattle.cv_session.specs.Turns.{denied, denied_message, signed, token_by}
 use Rattle.cv_session.specs.declared.turn.Turn.{Turn}
 use Rattle.cv_session.specs.declared.turn.Turn.TheVariants.{Step}
 
@@ -77,35 +71,3 @@ payload_from keys header (Some n) body = signed keys header (take n body) (paylo
 -- what a payload asks, by its Authorization and Message-Size headers and its body
 abbrev pub payload_turn : List Key → Option (List ℕ) → Option (List ℕ) → List ℕ → Turn
 payload_turn keys header text body = payload_from keys header (message_size text (length body)) body
-
--- a body says this turn, whose op the gate takes or whose refusal can be written
-abbrev pub Says : (List ℕ → Turn) → List ℕ → Turn → Type 0
-Says says body turn = (turn ≡ says body) × IsGood turn
-
--- ---- inside the reading of a payload
-
--- a body of so many bytes was read, of which this was made, or not for a fault
-abbrev pub ReadsBody : {R A : Type 0} → (R → Option (List ℕ)) → WireView R → WireView R → ℕ → (List ℕ → A → Type 0) → Result A HttpFault → Type 0
-ReadsBody left wire wire' size Made result = Reads left wire wire' (λ b. BodyRead size Made b wire'.held result)
-
--- each read of the source began where this was passed on and fewer bytes were there
-abbrev pub LooksWithin : {R : Type 0} → (R → Option (List ℕ)) → (R → Look → Type 0) → WireView R → WireView R → Option (List ℕ) → ℕ → Type 0
-LooksWithin left looks wire wire' passed size = Looks left looks wire wire' (Beside passed (λ b. length b < size))
-
--- so many bytes came, which are so, and then what is held
-pub record Came (count : ℕ) (So : List ℕ → Type 0) (b held : List ℕ) : Type 0 where
-  pub body : List ℕ
-  pub split : b ≡ body ++ held
-  pub size : length body ≡ count
-  pub so : So body
-
--- the turn of a pack with a fault, unless memory was wanted
-abbrev pub refused_pack : PackFault → Result Turn HttpFault
-refused_pack (BadHeader at) = Ok (denied reason.BadPack)
-refused_pack TooLarge = Ok (denied reason.BadPack)
-refused_pack TooMany = Ok (denied reason.BadPack)
-refused_pack (HashDiffers index) = Ok (denied reason.BadPack)
-refused_pack Short = Ok (denied reason.BadPack)
-refused_pack Trailing = Ok (denied reason.BadPack)
-refused_pack (Duplicate index) = Ok (denied reason.BadPack)
-refused_pack NoMemory = Err http.NoMemory

@@ -9,7 +9,7 @@ use Rattle.cv_http.specs.declared.fault.HttpFault.TheVariants.{BadHead, HeadTooL
 use Rattle.cv_http.specs.declared.code.Code.{Code}
 use Rattle.cv_http.specs.declared.code.Code.TheVariants.{BadRequest, FieldsTooLarge, ContentTooLarge, LengthRequired, NotImplemented}
 use Rattle.cv_keys.specs.declared.key.Key.{Key}
-use Rattle.cv_session.specs.Turns.{Wants, IsGood}
+use Rattle.cv_session.specs.Turns.{Wants}
 use Rattle.cv_session.specs.Payloads.{is_payload, payload_turn}
 use Rattle.cv_session.specs.declared.turn.Turn.{Turn}
 
@@ -76,7 +76,3 @@ code_of_fault NoMemory = None
 pub data WantsAny (repository : List ℕ) (keys : List Key) (head : RequestHead) (body : List ℕ) : Turn → Type 0 where
   payload : is_payload head ≡ true → WantsAny repository keys head body (payload_turn keys head.authorization head.message_size body)
   other : (turn : Turn) → is_payload head ≡ false → Wants repository keys head body turn → WantsAny repository keys head body turn
-
--- the same, where the gate takes the op or the refusal can be written
-abbrev pub Asks : List ℕ → List Key → RequestHead → List ℕ → Turn → Type 0
-Asks repository keys head body turn = WantsAny repository keys head body turn × IsGood turn

@@ -1,5 +1,5 @@
 -- What is answered to a turn, by what the desk answered.
-use Rattle.std.specs.Prelude.{◌≡◌, ◌≢◌, ◌∷◌, ℕ, List, [], Option, Ok, Err, Bool, true}
+use Rattle.std.specs.Prelude.{◌≡◌, ◌≢◌, ◌∷◌, ℕ, List, [], Option, Ok, Err, Bool}
 use Rattle.std.specs.declared.option.Option.TheVariants.{Some, None}
 use Rattle.sha1.specs.Sha1.{sha1}
 use Rattle.serde_json.specs.Written.{compact_text}
@@ -14,7 +14,6 @@ use Rattle.cv_manifest.specs.declared.manifest.TheConstants.{TIME_TO_LIVE}
 use Rattle.cv_manifest.specs.Manifest.{manifest, manifest_text}
 use Rattle.cv_manifest.specs.declared.head.Head.{Head}
 use Rattle.cv_answers.specs.Answer.{answer_data}
-use Rattle.cv_answers.specs.AnswerText.{is_answer}
 use Rattle.cv_answers.specs.declared.answer.Answer.{Answer as MessageData}
 use Rattle.cv_answers.specs.declared.answer.Answer.TheVariants.{Refused}
 use Rattle.cv_answers.specs.declared.refusal.Refusal.{Refusal}
@@ -26,7 +25,6 @@ use Rattle.cv_session.specs.Answers.{answer_of, leases_answer, repositories_answ
 use Rattle.cv_session.specs.declared.target.Resource.TheVariants.{Manifest, Object}
 use Rattle.cv_session.specs.declared.turn.Turn.{Turn}
 use Rattle.cv_session.specs.declared.turn.Turn.TheVariants as turn
-use Rattle.cv_session.specs.Standing.{Standing, Made}
 use Rattle.cv_session.specs.declared.response.Response.{Response}
 use Rattle.cv_session.specs.declared.response.Response.TheVariants.{Content, Fixed, Message, Reply}
 
@@ -47,13 +45,6 @@ reply_of (Fixed code) last = code_reply code last
 reply_of (Message message) last = message_reply message last
 reply_of (Reply replied) last = message_reply (answer_of replied) last
 
--- an answer that can be written
-abbrev pub is_writable : Response → Bool
-is_writable (Content bytes) = true
-is_writable (Fixed code) = true
-is_writable (Message message) = is_answer message
-is_writable (Reply replied) = true
-
 -- ---- what comes of a turn
 
 -- the answer to a turn by the calls of the desk that were made for it, or none where memory was wanted for the answer or its reply
@@ -71,9 +62,3 @@ pub data Answers (repository : List ℕ) (seal : List ℕ → List ℕ) : Turn �
   unlisted : (now : ℕ) (lines : Option (List LeaseLine)) → Answers repository seal turn.Leases (listed now lines ∷ []) None
   unfetched : (id : ObjectId) → Answers repository seal (turn.Serve (Object id)) (fetched id (Err no_memory) ∷ []) None
   unsaid : {asked_ : Turn} {calls : List Call} (answer : Response) → Answers repository seal asked_ calls (Some answer) → Answers repository seal asked_ calls None
-
--- what comes of a turn, from where the repository stood to where it stands
-pub record Does {K : Type 0} (does : K → List Call → K → Type 0) (repository : List ℕ) (seal : List ℕ → List ℕ) (turn : Turn) (answer : Option Response) (before after : Standing K) : Type 0 where
-  pub calls : List Call
-  pub answers : Answers repository seal turn calls answer
-  pub made : Made does before calls after

@@ -1,6 +1,5 @@
 -- What a request asks: for a lease, a commit and a lease's end the authorization is judged first, then the message, the
--- repository and the path.
-use Rattle.std.specs.Prelude.{◌≡◌, ◌≢◌, ◌==◌, ℕ, true, List, Option, Some, None, Result, Ok, Err, bytes_eq, drop, length, if◌then◌else◌}
+use Rattle.std.specs.Prelude.{◌≡◌, ◌≢◌, ◌==◌, ℕ, List, Option, Some, None, Result, Ok, Err, bytes_eq, drop, length, if◌then◌else◌}
 use Rattle.std.specs.List.{before_first}
 use Rattle.cv_base.specs.Path.{Path}
 use Rattle.cv_base.specs.PathText.{path_of}
@@ -17,11 +16,9 @@ use Rattle.cv_messages.specs.declared.commit_ask.CommitAsk.{CommitAsk}
 use Rattle.cv_messages.specs.declared.lease_ask.LeaseAsk.{LeaseAsk}
 use Rattle.cv_messages.specs.declared.message_fault.MessageFault.{MessageFault}
 use Rattle.cv_messages.specs.declared.message_fault.MessageFault.TheVariants as message
-use Rattle.cv_answers.specs.Refusal.{is_refusal}
 use Rattle.cv_answers.specs.declared.reason.Reason.{Reason}
 use Rattle.cv_answers.specs.declared.reason.Reason.TheVariants as reason
 use Rattle.cv_answers.specs.declared.refusal.Refusal.TheVariants.{Plain, MissingMember, WrongType, BadValue}
-use Rattle.cv_gate.specs.Step.{IsOp}
 use Rattle.cv_gate.specs.declared.op.Op.TheVariants as op
 use Rattle.cv_http.specs.declared.head.RequestHead.{RequestHead}
 use Rattle.cv_http.specs.declared.method.Method.TheVariants.{Get, Post, Delete, Other}
@@ -123,9 +120,3 @@ pub data Wants (repository : List ℕ) (keys : List Key) (head : RequestHead) (b
   no_post : head.method ≡ Post → head.target ≢ leases_target → ((text : List ℕ) → head.target ≢ lease_target text) → Wants repository keys head body (Refuse NotFound)
   end : (text : List ℕ) → head.method ≡ Delete → head.target ≡ lease_target text → Wants repository keys head body (end_turn keys head.authorization text)
   no_delete : head.method ≡ Delete → ((text : List ℕ) → head.target ≢ lease_target text) → Wants repository keys head body (Refuse NotFound)
-
--- the gate takes the op of a step, and a refusal can be written
-abbrev pub IsGood : Turn → Type 0
-IsGood (Step o) = IsOp o
-IsGood (Deny refusal) = is_refusal refusal ≡ true
-IsGood other = Unit {0}

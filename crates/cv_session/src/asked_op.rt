@@ -5,7 +5,7 @@ ghost use Rattle.cv_base.specs.Path.{IsPath};
 ghost use Rattle.cv_gate.specs.Step.{is_key_id};
 ghost use Rattle.cv_gate.specs.declared.op.Op.TheVariants as op;
 ghost use Rattle.cv_messages.specs.Spelling.{token_of};
-ghost use Rattle.cv_session.specs.Denials.{Asks, Denies};
+ghost use Rattle.cv_session.specs.DenialsInner.{Asks, Denies};
 ghost use Rattle.cv_session.specs.Turns.{signed, lease_on, lease_turn, commit_turn, end_turn, token_by};
 ghost use Rattle.cv_keys.specs.declared.key.Key.{Key as KeyData};
 ghost use Rattle.cv_session.specs.declared.turn.Turn.{Turn};

@@ -2,7 +2,7 @@
 ghost use Rattle.std.specs.Prelude.{◌≡◌};
 ghost use Rattle.cv_keys.specs.declared.auth_fault.AuthFault.TheVariants as auth;
 ghost use Rattle.cv_messages.specs.declared.message_fault.MessageFault.TheVariants as message;
-ghost use Rattle.cv_session.specs.Denials.{turn_of};
+ghost use Rattle.cv_session.specs.DenialsInner.{turn_of};
 ghost use Rattle.cv_session.specs.Turns.{denied_header, denied_message};
 ghost use Rattle.cv_session.specs.declared.denial.Denial.TheVariants as denials;
 ghost use Rattle.cv_answers.specs.declared.refusal.Refusal.TheVariants.{Plain};

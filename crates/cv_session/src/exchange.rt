@@ -1,9 +1,10 @@
 //! One turn and its reply.
 ghost use Rattle.std.specs.Prelude.{◌≡◌, ◌≢◌, ◌≤◌, Some, None, Err, is_some, true};
 ghost use Rattle.cv_base.specs.Counts.{HasCause};
-ghost use Rattle.cv_session.specs.Turns.{IsGood};
-ghost use Rattle.cv_session.specs.Responses.{is_writable};
-ghost use Rattle.cv_session.specs.Exchanges.{ends, end_after, Handles, Sends};
+ghost use Rattle.cv_session.specs.TurnsInner.{IsGood};
+ghost use Rattle.cv_session.specs.ResponsesInner.{is_writable};
+ghost use Rattle.cv_session.specs.Exchanges.{ends};
+ghost use Rattle.cv_session.specs.ExchangesInner.{end_after, Handles, Sends};
 ghost use Rattle.cv_session.specs.Standing.{standing};
 ghost use Rattle.cv_session.specs.declared.session_end.SessionEnd.TheVariants.{WriteFault};
 

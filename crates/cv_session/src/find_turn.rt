@@ -2,8 +2,9 @@
 ghost use Rattle.std.specs.Prelude.{◌≡◌, ℕ, List, option_map, IfOk};
 ghost use Rattle.cv_http.specs.declared.method.Method.TheVariants.{Get, Post, Delete};
 ghost use Rattle.cv_keys.specs.declared.key.Key.{Key};
-ghost use Rattle.cv_session.specs.Denials.{Asks};
-ghost use Rattle.cv_session.specs.Turns.{Wants, IsGood};
+ghost use Rattle.cv_session.specs.DenialsInner.{Asks};
+ghost use Rattle.cv_session.specs.Turns.{Wants};
+ghost use Rattle.cv_session.specs.TurnsInner.{IsGood};
 ghost use Rattle.cv_session.specs.declared.turn.Turn.{Turn};
 
 use crate::asked_op::{asked_commit, asked_end, asked_lease};

@@ -9,10 +9,12 @@ ghost use Rattle.cv_gate.specs.Step.{is_key_id};
 ghost use Rattle.cv_messages.specs.PayloadAsk.{payload_ask_of};
 ghost use Rattle.cv_pack.specs.Pack.{IsPack};
 ghost use Rattle.cv_pack.specs.PackReader.{Fed, pack_of};
-ghost use Rattle.cv_session.specs.Denials.{Denies};
-ghost use Rattle.cv_session.specs.Payloads.{ReadsBody, LooksWithin, Says, message_size, payload_by_ask, payload_on, payload_turn, store_on, refused_pack};
+ghost use Rattle.cv_session.specs.DenialsInner.{Denies};
+ghost use Rattle.cv_session.specs.Payloads.{message_size, payload_by_ask, payload_on, payload_turn, store_on};
+ghost use Rattle.cv_session.specs.PayloadsInner.{ReadsBody, LooksWithin, Says, refused_pack};
 ghost use Rattle.cv_session.specs.declared.turn.Turn.{Turn as TurnData};
-ghost use Rattle.cv_session.specs.Turns.{signed, denied, IsGood};
+ghost use Rattle.cv_session.specs.Turns.{signed, denied};
+ghost use Rattle.cv_session.specs.TurnsInner.{IsGood};
 
 use crate::asked_op::{read_signer, read_token};
 use crate::denial::Denial;

@@ -6,10 +6,12 @@ ghost use Rattle.cv_ports.specs.Streams.{onto, Wrote};
 ghost use Rattle.cv_http.specs.Wires.{Reads, Looks};
 ghost use Rattle.cv_http.specs.Faults.{IsBodyFault};
 ghost use Rattle.cv_http.specs.declared.fault.HttpFault.TheVariants.{Short, ReadFault};
-ghost use Rattle.cv_session.specs.Turns.{IsGood};
-ghost use Rattle.cv_session.specs.Payloads.{ReadsBody, LooksWithin, is_payload};
-ghost use Rattle.cv_session.specs.Requests.{body_limit, body_size, waits, line_text, Asks, code_of_fault};
-ghost use Rattle.cv_session.specs.Exchanges.{Gets, GetsBehind, IsAsking, IsAskingBehind};
+ghost use Rattle.cv_session.specs.TurnsInner.{IsGood};
+ghost use Rattle.cv_session.specs.Payloads.{is_payload};
+ghost use Rattle.cv_session.specs.PayloadsInner.{ReadsBody, LooksWithin};
+ghost use Rattle.cv_session.specs.Requests.{body_limit, body_size, waits, line_text, code_of_fault};
+ghost use Rattle.cv_session.specs.RequestsInner.{Asks};
+ghost use Rattle.cv_session.specs.ExchangesInner.{Gets, GetsBehind, IsAsking, IsAskingBehind};
 ghost use Rattle.cv_session.specs.declared.request.Unread.TheVariants.{Fault, Unsaid};
 
 use crate::find_turn::request_turn;

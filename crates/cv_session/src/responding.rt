@@ -3,10 +3,10 @@ ghost use Rattle.std.specs.Prelude.{◌≡◌, ◌≤◌, ℕ, List, Option, IfO
 ghost use Rattle.std.specs.Result.{result_ok};
 ghost use Rattle.cv_gate.specs.Step.{IsOp};
 ghost use Rattle.cv_session.specs.Answers.{repositories_answer};
-ghost use Rattle.cv_session.specs.Turns.{IsGood};
+ghost use Rattle.cv_session.specs.TurnsInner.{IsGood};
 ghost use Rattle.cv_session.specs.declared.target.Resource.TheVariants.{Manifest as manifest, Object};
 ghost use Rattle.cv_session.specs.declared.turn.Turn.TheVariants.{Serve, Leases, Step};
-ghost use Rattle.cv_session.specs.Responses.{Does, is_writable};
+ghost use Rattle.cv_session.specs.ResponsesInner.{Does, is_writable};
 ghost use Rattle.cv_session.specs.Standing.{standing};
 ghost use Rattle.cv_session.specs.declared.response.Response.TheVariants.{Reply as reply, Message as message};
 

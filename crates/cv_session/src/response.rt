@@ -7,7 +7,8 @@ ghost use Rattle.cv_http.specs.declared.body_kind.BodyKind.TheVariants.{Json};
 ghost use Rattle.cv_http.specs.declared.code.Code.TheVariants.{Success};
 ghost use Rattle.cv_http.specs.declared.reply.SendFault.TheVariants.{WriteFault, NoMemory};
 ghost use Rattle.cv_answers.specs.AnswerText.{is_answer};
-ghost use Rattle.cv_session.specs.Responses.{is_writable, message_reply, code_reply, reply_of};
+ghost use Rattle.cv_session.specs.Responses.{message_reply, code_reply, reply_of};
+ghost use Rattle.cv_session.specs.ResponsesInner.{is_writable};
 
 use crate::answering::answer_reply;
 use cv_answers::Answer as MessageData;

@@ -4,7 +4,7 @@ ghost use Rattle.cv_base.specs.Counts.{HasCause};
 ghost use Rattle.cv_base.specs.Told.{WhereTold};
 ghost use Rattle.cv_http.specs.Wires.{Reads};
 ghost use Rattle.cv_http.specs.declared.fault.HttpFault.TheVariants.{Short};
-ghost use Rattle.cv_session.specs.Exchanges.{EndsBy};
+ghost use Rattle.cv_session.specs.ExchangesInner.{EndsBy};
 ghost use Rattle.cv_session.specs.Sessions.{Session, ReadsUpToDate};
 ghost use Rattle.cv_session.specs.Standing.{standing};
 ghost use Rattle.cv_session.specs.declared.request.Unread.TheVariants.{Fault, Unsaid};

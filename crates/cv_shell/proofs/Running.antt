@@ -8,7 +8,7 @@ use Rattle.cv_http.specs.Wires.{WireView, HasEnded, Draws, Looks, Beside}
 use Rattle.cv_resolver.specs.Resolver.{Client}
 use Rattle.cv_client.specs.Exchange.{Links}
 use Rattle.cv_client.specs.declared.url.Url.{Url}
-use Rattle.cv_shell.specs.Ends.{end_of_fault}
+use Rattle.cv_shell.specs.EndsInner.{end_of_fault}
 use Rattle.cv_shell.specs.Lines.{IsLine, IsNext, LineRead, closed, last}
 use Rattle.cv_shell.specs.Shells.{Turn, printed, Answered, Runs, Ends, Shells, ReadsUpToDate, begins, goes, written, unwritten, stopped, ended, too_long, unread, by_line, no_memory}
 use Rattle.cv_shell.specs.declared.lines.LineFault.{LineFault}

@@ -1,6 +1,9 @@
 pub mod Ends
+pub mod EndsInner
 pub mod Line
+pub mod LineInner
 pub mod Lines
+pub mod LinesInner
 pub mod Shells
 pub mod Tells
 pub mod Texts

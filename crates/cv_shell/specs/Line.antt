@@ -27,10 +27,6 @@ pub record PathIn (bytes : List ℕ) (path : Path) : Type 0 where
   pub utf8 : is_utf8 bytes ≡ true
   pub says : path_of bytes ≡ Ok path
 
--- they say none
-abbrev pub NoPathIn : List ℕ → Type 0
-NoPathIn bytes = (path : Path) → PathIn bytes path → ⊥
-
 -- the text asks this
 pub data Says (text : List ℕ) : Line → Type 0 where
   asks : (verb : Verb) (bytes : List ℕ) (path : Path) → text ≡ word_of verb ++ bytes → PathIn bytes path → Says text (Ask (question_of verb path))

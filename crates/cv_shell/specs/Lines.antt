@@ -23,14 +23,6 @@ pub data IsNext (left : Option (List ℕ)) (b line later : List ℕ) : Type 0 wh
   closed : IsLine line → b ≡ line ++ 10 ∷ later → IsNext left b line later
   last : IsLine line → 0 < length line → b ≡ line ++ later → HasEnded (front later left) → IsNext left b line later
 
--- what the bytes held are where a line and its newline are taken of them, and which of them are still held
-abbrev pub LineFound : List ℕ → List ℕ → Result (Option (List ℕ)) LineFault → Type 0
-LineFound b held (Ok (Some line)) = IsLine line × (b ≡ line ++ 10 ∷ held)
-LineFound b held (Ok None) = IsLine b × (held ≡ b)
-LineFound b held (Err TooLong) = IsTooLong b × (held ≡ b)
-LineFound b held (Err ReadFault) = ⊥
-LineFound b held (Err NoMemory) = held ≡ b
-
 -- what the bytes read are where a line was asked for, and which of them are still held
 abbrev pub LineRead : Option (List ℕ) → List ℕ → List ℕ → Result (Option (List ℕ)) LineFault → Type 0
 LineRead left b held (Ok (Some line)) = IsNext left b line held
@@ -38,9 +30,3 @@ LineRead left b held (Ok None) = (b ≡ []) × (held ≡ b) × HasEnded left
 LineRead left b held (Err TooLong) = IsTooLong b × (held ≡ b)
 LineRead left b held (Err ReadFault) = IsLine b × (held ≡ b)
 LineRead left b held (Err NoMemory) = held ≡ b
-
--- a piece isn't read for a fault of the source or want of memory
-abbrev pub IsPieceFault : LineFault → Type 0
-IsPieceFault TooLong = ⊥
-IsPieceFault ReadFault = Unit {0}
-IsPieceFault NoMemory = Unit {0}

@@ -1,6 +1,7 @@
 //! What a line asks.
 ghost use Rattle.std.specs.Prelude.{◌≡◌, ◌≢◌, ◌++◌, ℕ, List, Some, MatchOption, IfOk, IfSome};
-ghost use Rattle.cv_shell.specs.Line.{word_of, question_of, PathIn, NoPathIn, Says};
+ghost use Rattle.cv_shell.specs.Line.{word_of, question_of, PathIn, Says};
+ghost use Rattle.cv_shell.specs.LineInner.{NoPathIn};
 ghost use Rattle.cv_shell.specs.declared.line.Line.{Line as TheLine};
 
 use cv_base::{NoMemory, PathFault, RepoPath};

@@ -1,6 +1,7 @@
 //! How a shell ends.
 ghost use Rattle.std.specs.Prelude.{◌≡◌};
-ghost use Rattle.cv_shell.specs.Ends.{end_of_fault, end_of_stop};
+ghost use Rattle.cv_shell.specs.Ends.{end_of_stop};
+ghost use Rattle.cv_shell.specs.EndsInner.{end_of_fault};
 
 use crate::lines::LineFault;
 use crate::turn::Stop;

@@ -21,8 +21,10 @@ use Rattle.cv_objects.specs.Batches.{AreNamed, AreReady, IsApart, Has, Brings, B
 use Rattle.cv_objects.specs.declared.store_fault.StoreFault.{StoreFault}
 use Rattle.cv_objects.specs.declared.store_fault.StoreFault.TheVariants.{Collision, Failed, Damaged, NoMemory}
 use Rattle.cv_objects.proofs.Lemmas.{data_off_way, outside, brings_later, has_then}
-use Rattle.cv_swap.specs.Stands.{head_way, epoch_name, epoch_way, epoch_text}
-use Rattle.cv_swap.specs.Publishing.{BringsFirst, an_object, the_epoch, AreBeside, PutBeside, Built, AreBuilt}
+use Rattle.cv_swap.specs.Stands.{head_way, epoch_name, epoch_text}
+use Rattle.cv_swap.specs.StandsInner.{epoch_way}
+use Rattle.cv_swap.specs.Publishing.{BringsFirst, an_object, the_epoch}
+use Rattle.cv_swap.specs.PublishingInner.{AreBeside, PutBeside, Built, AreBuilt}
 use Rattle.cv_swap.proofs.Names.{head_apart, epoch_way_apart, epoch_apart, epoch_not_data, epoch_not_manifest, manifest_not_epoch}
 use Rattle.cv_swap.proofs.Publish.{ready_beside}
 

@@ -11,7 +11,7 @@ use Rattle.cv_vault.specs.Moments.{Calls}
 use Rattle.cv_manifest.specs.declared.head.Head.{Head}
 use Rattle.cv_manifest.specs.Manifest.{IsHead}
 use Rattle.cv_swap.specs.Stands.{head_name}
-use Rattle.cv_swap.specs.Opening.{FindsHead, IsRead}
+use Rattle.cv_swap.specs.OpeningInner.{FindsHead, IsRead}
 use Rattle.cv_swap.specs.declared.open_fault.OpenFault.{OpenFault}
 use Rattle.cv_swap.specs.declared.open_fault.OpenFault.TheVariants.{NoRepository, BadManifest, OtherName, BadHistory, BadEpoch, EpochsSpent, Failed, NoMemory}
 

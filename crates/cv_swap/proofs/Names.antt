@@ -15,7 +15,8 @@ use Rattle.cv_objects.specs.Batches.{AreNamed, IsApart}
 use Rattle.cv_objects.specs.Names.{objects_of, is_digest, way_name}
 use Rattle.cv_objects.proofs.Lemmas.{is_digest_of}
 use Rattle.cv_vault.specs.Names.{on_way}
-use Rattle.cv_swap.specs.Stands.{head_name, head_way, epoch_name, epoch_way, epoch_text}
+use Rattle.cv_swap.specs.Stands.{head_name, head_way, epoch_name, epoch_text}
+use Rattle.cv_swap.specs.StandsInner.{epoch_way}
 
 abbrev is_data : List ℕ → Bool
 is_data n = starts_with nat_eq n (codes "data/")

@@ -1,12 +1,11 @@
 -- Making a repository: its first revision.
-use Rattle.std.specs.Prelude.{◌≡◌, ◌≢◌, ⊤, ℕ, Bool, true, false, List, [], ◌∷◌, None, Some}
+use Rattle.std.specs.Prelude.{◌≡◌, ◌≢◌, ⊤, ℕ, Bool, List, [], ◌∷◌, None, Some}
 use Rattle.std.specs.List.{Contains}
 use Rattle.std.specs.declared.option.Option.{Option}
 use Rattle.std.specs.declared.result.Result.{Result}
 use Rattle.std.specs.declared.result.Result.TheVariants.{Ok, Err}
 use Rattle.cv_base.specs.ObjectId.{file_name}
 use Rattle.cv_base.specs.declared.object.Object.{Object}
-use Rattle.cv_vault.specs.declared.vault.VaultFault.{VaultFault}
 use Rattle.cv_vault.specs.Names.{Name, on_way}
 use Rattle.cv_vault.specs.Disk.{Disk, File, Files, Image, IsCalm, files_now}
 use Rattle.cv_vault.specs.Moments.{LeavesOnly, OnlyReads}
@@ -18,12 +17,6 @@ use Rattle.cv_swap.specs.Publishing.{BringsFirst}
 use Rattle.cv_swap.specs.Stands.{HasRevisions, Publishes, head_name, head_of, epoch_name, epoch_text}
 use Rattle.cv_swap.specs.declared.init_fault.InitFault.{InitFault}
 use Rattle.cv_swap.specs.declared.init_fault.InitFault.TheVariants.{Exists, Collision, Failed, Damaged, NoMemory}
-
--- whether there is a manifest
-abbrev pub HasHead : Result Bool VaultFault → Disk → Type 0
-HasHead (Ok true) d = (d head_name).now ≢ None
-HasHead (Ok false) d = (d head_name).now ≡ None
-HasHead (Err fault) d = Unit {0}
 
 -- the files stand for the first revision, made at this moment, and for no other
 abbrev pub StandsFirst : List ℕ → (List ℕ → List ℕ → Bool) → ℕ → Files → Type 0

@@ -1,8 +1,12 @@
 pub mod Faults
 pub mod Kept
 pub mod Stands
+pub mod StandsInner
 pub mod Opening
+pub mod OpeningInner
 pub mod Publishing
+pub mod PublishingInner
 pub mod Line
 pub mod First
 pub mod Init
+pub mod InitInner

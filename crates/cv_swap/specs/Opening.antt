@@ -1,5 +1,5 @@
 -- What opening finds, and what a crash in it leaves.
-use Rattle.std.specs.Prelude.{◌≡◌, ◌≢◌, ◌⊎◌, ℕ, ◌+◌, ◌<◌, ◌^◌, Bool, false, List, Vec, Option, None, Some}
+use Rattle.std.specs.Prelude.{◌≡◌, ◌≢◌, ◌⊎◌, ℕ, ◌+◌, ◌<◌, ◌^◌, Bool, false, List, Option, None, Some}
 use Rattle.std.specs.declared.result.Result.{Result}
 use Rattle.std.specs.declared.result.Result.TheVariants.{Ok, Err}
 use Rattle.cv_vault.specs.Names.{Name, on_way}
@@ -85,21 +85,6 @@ abbrev pub Finds : List ℕ → (List ℕ → List ℕ → Bool) → Files → R
 Finds name is_seal f (Ok found) = IsFound name is_seal f found
 Finds name is_seal f (Err fault) = Refuses name is_seal f fault
 
-abbrev pub FindsHead : List ℕ → (List ℕ → List ℕ → Bool) → Files → Result Head OpenFault → Type 0
-FindsHead name is_seal f (Ok head) = Publishes name is_seal (f head_name) head
-FindsHead name is_seal f (Err fault) = Refuses name is_seal f fault
-
-abbrev pub FindsEpoch : File → Result ℕ OpenFault → Type 0
-FindsEpoch file (Ok epoch) = file ≡ Some (epoch_text epoch)
-FindsEpoch file (Err NoRepository) = ⊥
-FindsEpoch file (Err (BadManifest fault)) = ⊥
-FindsEpoch file (Err OtherName) = ⊥
-FindsEpoch file (Err (BadHistory fault)) = ⊥
-FindsEpoch file (Err BadEpoch) = (n : ℕ) → n < 2 ^ 64 → file ≡ Some (epoch_text n) → ⊥
-FindsEpoch file (Err EpochsSpent) = ⊥
-FindsEpoch file (Err Failed) = Unit {0}
-FindsEpoch file (Err NoMemory) = Unit {0}
-
 -- the file is the epoch's, raised by one
 pub record IsRaised (d : Disk) (n : Name) (f : File) : Type 0 where
   pub name : n ≡ epoch_name
@@ -116,30 +101,6 @@ pub record AsRaised (d : Disk) (f : Files) : Type 0 where
 pub data WhileOpening (d : Disk) (f : Files) : Type 0 where
   before : Within on_way Nothing d f → WhileOpening d f
   after : AsRaised d f → WhileOpening d f
-
--- what bytes say under the head's name
-abbrev pub IsRead : List ℕ → (List ℕ → List ℕ → Bool) → List ℕ → Result Head OpenFault → Type 0
-IsRead name is_seal bytes (Ok head) = (m : Manifest) × Says is_seal bytes m × (m.name ≡ name) × (m.head ≡ head)
-IsRead name is_seal bytes (Err NoRepository) = ⊥
-IsRead name is_seal bytes (Err (BadManifest fault)) = Shows is_seal bytes fault × (fault ≢ manifest_fault.NoMemory)
-IsRead name is_seal bytes (Err OtherName) = (m : Manifest) × Says is_seal bytes m × (m.name ≢ name)
-IsRead name is_seal bytes (Err (BadHistory fault)) = ⊥
-IsRead name is_seal bytes (Err BadEpoch) = ⊥
-IsRead name is_seal bytes (Err EpochsSpent) = ⊥
-IsRead name is_seal bytes (Err Failed) = ⊥
-IsRead name is_seal bytes (Err NoMemory) = Unit {0}
-
--- the records of a head, or where their chain breaks
-abbrev pub FindsRecords : Files → Head → {Z : Type 0} → Result (Vec Record Z) OpenFault → Type 0
-FindsRecords f head (Ok records) = Chain (StandsAt (objects_of f)) head.revision (history_id head) records.items
-FindsRecords f head (Err NoRepository) = ⊥
-FindsRecords f head (Err (BadManifest fault)) = ⊥
-FindsRecords f head (Err OtherName) = ⊥
-FindsRecords f head (Err (BadHistory fault)) = Breaks (objects_of f) head.revision (history_id head) fault
-FindsRecords f head (Err BadEpoch) = ⊥
-FindsRecords f head (Err EpochsSpent) = ⊥
-FindsRecords f head (Err Failed) = Unit {0}
-FindsRecords f head (Err NoMemory) = Unit {0}
 
 -- the epoch was raised by one for sure, and nothing else came
 pub record IsOpened (d : Disk) (found : Found) (d' : Disk) : Type 0 where

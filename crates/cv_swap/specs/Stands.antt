@@ -27,9 +27,6 @@ head_way = codes "txn/manifest"
 abbrev pub epoch_name : Name
 epoch_name = codes "gateway.epoch"
 
-abbrev pub epoch_way : Name
-epoch_way = codes "txn/epoch"
-
 -- the epoch's file: its decimal digits and a newline
 abbrev pub epoch_text : ℕ → List ℕ
 epoch_text epoch = decimal epoch ++ 10 ∷ []

@@ -5,7 +5,8 @@ ghost use Rattle.cv_base.specs.Told.{WhereTold};
 ghost use Rattle.cv_vault.specs.Moments.{OnlyReads};
 ghost use Rattle.cv_vault.specs.declared.vault.VaultFault.TheVariants as vault_fault;
 ghost use Rattle.cv_swap.specs.First.{first_revision};
-ghost use Rattle.cv_swap.specs.Init.{HasHead, MakesFirst, WritesHead};
+ghost use Rattle.cv_swap.specs.Init.{MakesFirst, WritesHead};
+ghost use Rattle.cv_swap.specs.InitInner.{HasHead};
 ghost use Rattle.cv_swap.specs.Stands.{head_of, head_text};
 ghost use Rattle.cv_swap.specs.declared.init_fault.InitFault.TheVariants as fault;
 

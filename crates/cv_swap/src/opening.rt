@@ -10,7 +10,8 @@ ghost use Rattle.cv_vault.specs.Replace.{Replaced};
 ghost use Rattle.cv_vault.specs.declared.vault.VaultFault.TheVariants as vault_fault;
 ghost use Rattle.cv_manifest.specs.Manifest.{IsHead};
 ghost use Rattle.cv_swap.specs.Stands.{epoch_name, epoch_text};
-ghost use Rattle.cv_swap.specs.Opening.{FindsHead, FindsEpoch, FindsRecords, Finds, IsRead, Opens};
+ghost use Rattle.cv_swap.specs.Opening.{Finds, Opens};
+ghost use Rattle.cv_swap.specs.OpeningInner.{FindsHead, FindsEpoch, FindsRecords, IsRead};
 ghost use Rattle.cv_swap.specs.declared.open_fault.OpenFault.TheVariants as fault;
 
 use crate::found::Found;

@@ -10,7 +10,8 @@ ghost use Rattle.cv_vault.specs.declared.vault.VaultFault.TheVariants as vault_f
 ghost use Rattle.cv_objects.specs.Batches.{AreNamed, Brings, IsRefusal};
 ghost use Rattle.cv_objects.specs.declared.store_fault.StoreFault.TheVariants as fault;
 ghost use Rattle.cv_swap.specs.Stands.{head_name, head_way};
-ghost use Rattle.cv_swap.specs.Publishing.{Prepared, BringsFirst, PutBeside, Built, Inits};
+ghost use Rattle.cv_swap.specs.Publishing.{Prepared, BringsFirst};
+ghost use Rattle.cv_swap.specs.PublishingInner.{PutBeside, Built, Inits};
 
 use crate::opening::{EPOCH_NAME, EPOCH_WAY, epoch_text_of};
 use cv_base::Object;

@@ -4,7 +4,7 @@ use Rattle.std.specs.Prelude.{◌⊎◌}
 use Rattle.cv_keys.specs.KeysText.{IsSaid}
 use Rattle.cv_keys.specs.declared.key_fault.KeyFault.{KeyFault}
 use Rattle.cv_keys.specs.declared.key_fault.KeyFault.TheVariants as fault
-use Rattle.cv_top.specs.Status.{keys_status}
+use Rattle.cv_top.specs.StatusInner.{keys_status}
 use Rattle.cv_top.specs.declared.status.Status.TheVariants.{BadKeys, OutOfMemory}
 
 -- the text has the fault, or memory was wanted

@@ -7,6 +7,8 @@ pub mod Publishes
 pub mod Runs
 pub mod Seal
 pub mod Sealed
+pub mod SealedInner
 pub mod Status
+pub mod StatusInner
 pub mod Tells
 pub mod Wholes

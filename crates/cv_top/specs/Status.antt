@@ -4,8 +4,6 @@ use Rattle.cv_base.specs.ObjectId.{id_text}
 use Rattle.cv_answers.specs.Refusal.{reason_text}
 use Rattle.cv_answers.specs.declared.refusal.Refusal.{Refusal}
 use Rattle.cv_answers.specs.declared.refusal.Refusal.TheVariants as refusal
-use Rattle.cv_keys.specs.declared.key_fault.KeyFault.{KeyFault}
-use Rattle.cv_keys.specs.declared.key_fault.KeyFault.TheVariants as key_fault
 use Rattle.cv_swap.specs.declared.init_fault.InitFault.{InitFault}
 use Rattle.cv_swap.specs.declared.init_fault.InitFault.TheVariants as init_fault
 use Rattle.cv_swap.specs.declared.open_fault.OpenFault.{OpenFault}
@@ -143,13 +141,6 @@ said what detail = codes "cvkit: " ++ (what ++ (detail ++ codes "\n"))
 abbrev pub line_of : Status → List ℕ
 line_of Done = []
 line_of status = said (what_of status) (detail_of status)
-
--- ---- how the program ends by what a command came to
-
--- by a fault of the keys text
-abbrev pub keys_status : KeyFault → Status
-keys_status key_fault.NoMemory = OutOfMemory
-keys_status other = BadKeys
 
 -- where no first revision was made
 abbrev pub init_status : InitFault → Status

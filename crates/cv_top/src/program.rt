@@ -9,7 +9,7 @@ ghost use Rattle.cv_top.specs.Lines.{IsShell, AnswersLines, TellsLines};
 ghost use Rattle.cv_top.specs.Looks.{Looks};
 ghost use Rattle.cv_top.specs.Publishes.{IsPublisher, Publishes, PublishesAsked};
 ghost use Rattle.cv_top.specs.Runs.{Inits, Serves, Keeps, Runs, outside};
-ghost use Rattle.cv_top.specs.Sealed.{Keyed, Sealed};
+ghost use Rattle.cv_top.specs.SealedInner.{Keyed, Sealed};
 ghost use Rattle.cv_top.specs.Status.{line_of};
 ghost use Rattle.cv_top.specs.Tells.{IsQuestion, Tells, tells_of_tree};
 ghost use Rattle.cv_top.specs.Wholes.{Answered, Answers};

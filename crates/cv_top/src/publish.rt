@@ -11,7 +11,7 @@ ghost use Rattle.cv_shell.specs.Texts.{revision_line};
 ghost use Rattle.cv_top.specs.Looks.{Prints};
 ghost use Rattle.cv_top.specs.Publishes.{Exchanged, Publishes, PublishesOnce, ReadsRoot, Steps, start_of};
 ghost use Rattle.cv_top.specs.Seal.{is_seal_by};
-ghost use Rattle.cv_top.specs.Sealed.{Sealed};
+ghost use Rattle.cv_top.specs.SealedInner.{Sealed};
 ghost use Rattle.cv_top.specs.declared.status.Status.TheVariants.{InputFailed, OutputFailed, StoreFailed, LinkFailed, FolderFailed};
 
 use crate::print::print;

@@ -5,7 +5,8 @@ ghost use Rattle.cv_ports.specs.Streams.{onto, Wrote};
 ghost use Rattle.cv_base.specs.Path.{text_of as path_text_of};
 ghost use Rattle.cv_top.specs.Publishes.{IsOrMemory, exchange_status, read_status, refusal_status, publish_status};
 ghost use Rattle.cv_top.specs.declared.status.Status.TheVariants.{Changes};
-ghost use Rattle.cv_top.specs.Status.{code_of, text_of, what_of, detail_of, said, line_of, keys_status, init_status, open_status, end_status, ask_status, refused_status, shell_status};
+ghost use Rattle.cv_top.specs.Status.{code_of, text_of, what_of, detail_of, said, line_of, init_status, open_status, end_status, ask_status, refused_status, shell_status};
+ghost use Rattle.cv_top.specs.StatusInner.{keys_status};
 
 use crate::client_fault::{LookFault, ServedFault};
 use crate::publish_fault::{ChangesFault, RefusedFor};

@@ -16,11 +16,14 @@ use Rattle.std.proofs.Math.Seq.{map-set_same, get_or-append_seam}
 use Rattle.cv_vault.specs.Names.{Name, same_name}
 use Rattle.cv_vault.specs.Disk as disk
 use Rattle.cv_vault.specs.Disk.{Disk, File, Slot, slot, with_slot, is_settled, settled}
-use Rattle.cv_vault.specs.Events.{NamedSlot, Event, after, replay, value_at, disk_of, first_disk, has_file, file_count, any_unsettled}
+use Rattle.cv_vault.specs.Events.{NamedSlot, Event, after, replay, value_at, file_count, any_unsettled}
+use Rattle.cv_vault.specs.EventsInner.{disk_of, first_disk, has_file}
 use Rattle.cv_vault.specs.Events as event
-use Rattle.cv_vault.specs.Places.{slot_in, IsPlaceIn}
-use Rattle.cv_vault.specs.Table.{Rows, name_in, names_in, named_in, event_in, any_entry, entry_at, entries_of, past_of, table_disk, table_first, Lacks, IsEntryIn, IsChangeIn, Stays, Adds, AreApart}
-use Rattle.cv_vault.specs.Indexed.{rows_of, IsIndexed, AreNumbers, AreUnsettled}
+use Rattle.cv_vault.specs.Places.{slot_in}
+use Rattle.cv_vault.specs.PlacesInner.{IsPlaceIn}
+use Rattle.cv_vault.specs.Table.{Rows, name_in, named_in, event_in, entries_of, past_of}
+use Rattle.cv_vault.specs.TableInner.{names_in, any_entry, entry_at, table_disk, table_first, Lacks, IsEntryIn, IsChangeIn, Stays, Adds, AreApart}
+use Rattle.cv_vault.specs.IndexedInner.{rows_of, IsIndexed, AreNumbers, AreUnsettled}
 use Rattle.cv_vault.specs.declared.place.Place.{Place}
 use Rattle.cv_vault.specs.declared.place.PlaceMark.TheVariants.{Settled}
 use Rattle.cv_vault.specs.declared.table.Entry.{Entry}

@@ -13,10 +13,13 @@ use Rattle.cv_vault.specs.Names.{Name, name_cmp, same_name}
 use Rattle.cv_vault.specs.Disk as disk
 use Rattle.cv_vault.specs.Disk.{Disk, Slot, May, Image, LeftAt, slot, with_slot, is_settled}
 use Rattle.cv_vault.specs.Crash.{Crashes, file_before, left_by, picks}
-use Rattle.cv_vault.specs.Events.{disk_of, first_disk, any_unsettled}
-use Rattle.cv_vault.specs.Places.{file_in, mark_in, slot_in, is_settled_place, before_place, left_place, next_pick, IsFileIn, IsMarkIn, IsPlaceIn}
-use Rattle.cv_vault.specs.Table.{any_entry, crash_at, crashed, name_in, names_in, entries_of, past_of, table_disk, Lacks, IsEntryIn, AreApart}
-use Rattle.cv_vault.specs.Indexed.{rows_of, IsIndexed}
+use Rattle.cv_vault.specs.Events.{any_unsettled}
+use Rattle.cv_vault.specs.EventsInner.{disk_of, first_disk}
+use Rattle.cv_vault.specs.Places.{file_in, mark_in, slot_in}
+use Rattle.cv_vault.specs.PlacesInner.{is_settled_place, before_place, left_place, next_pick, IsFileIn, IsMarkIn, IsPlaceIn}
+use Rattle.cv_vault.specs.Table.{name_in, entries_of, past_of}
+use Rattle.cv_vault.specs.TableInner.{any_entry, crash_at, crashed, names_in, table_disk, Lacks, IsEntryIn, AreApart}
+use Rattle.cv_vault.specs.IndexedInner.{rows_of, IsIndexed}
 use Rattle.cv_vault.specs.declared.place.Place.{Place}
 use Rattle.cv_vault.specs.declared.place.PlaceMark.{PlaceMark}
 use Rattle.cv_vault.specs.declared.place.PlaceMark.TheVariants as mark

@@ -4,7 +4,8 @@ use Rattle.std.specs.List.{count_by}
 use Rattle.std.proofs.lemmas.List.Sums.{sum_by-cons}
 use Rattle.std.proofs.lemmas.Bool.Decides.{nat_tests}
 use Rattle.cv_base.specs.Counts.{last_count}
-use Rattle.cv_vault.specs.Failures.{later_failures, fate_of, fate_fails}
+use Rattle.cv_vault.specs.Failures.{later_failures}
+use Rattle.cv_vault.specs.FailuresInner.{fate_of, fate_fails}
 use Rattle.cv_vault.specs.declared.fate.Fate.{Fate}
 
 one_step : (c k : ℕ) → cond (nat_lt c k) 1 0 ≡ cond (nat_lt (c + 1) k) 1 0 + cond (k == c + 1) 1 0

@@ -15,10 +15,13 @@ use Rattle.std.specs.Cmp.Lexicographic.{slice_cmp}
 use Rattle.std.specs.Vec.{vec_capacity}
 use Rattle.cv_vault.specs.Disk as disk
 use Rattle.cv_vault.specs.Names.{Name}
-use Rattle.cv_vault.specs.Events.{disk_of, first_disk, file_count, any_unsettled}
-use Rattle.cv_vault.specs.Places.{file_in, mark_in, slot_in, IsFileIn, IsMarkIn, IsPlaceIn}
-use Rattle.cv_vault.specs.Table.{name_in, names_in, named_in, event_in, entries_of, past_of, IsEntryIn, IsChangeIn, Stays}
-use Rattle.cv_vault.specs.Indexed.{rows_of, IsIndexed, AreNumbers, AreUnsettled}
+use Rattle.cv_vault.specs.Events.{file_count, any_unsettled}
+use Rattle.cv_vault.specs.EventsInner.{disk_of, first_disk}
+use Rattle.cv_vault.specs.Places.{file_in, mark_in, slot_in}
+use Rattle.cv_vault.specs.PlacesInner.{IsFileIn, IsMarkIn, IsPlaceIn}
+use Rattle.cv_vault.specs.Table.{name_in, named_in, event_in, entries_of, past_of}
+use Rattle.cv_vault.specs.TableInner.{names_in, IsEntryIn, IsChangeIn, Stays}
+use Rattle.cv_vault.specs.IndexedInner.{rows_of, IsIndexed, AreNumbers, AreUnsettled}
 use Rattle.cv_vault.specs.declared.place.Place.{Place}
 use Rattle.cv_vault.specs.declared.place.PlaceMark.{PlaceMark}
 use Rattle.cv_vault.specs.declared.place.PlaceMark.TheVariants.{Settled, Torn, Moved}

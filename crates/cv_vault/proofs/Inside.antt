@@ -10,10 +10,13 @@ use Rattle.cv_base.specs.Counts.{last_count}
 use Rattle.std.proofs.lemmas.List.Sums.{sum_by-cons}
 use Rattle.cv_vault.specs.Names.{Name, same_name}
 use Rattle.cv_vault.specs.Disk.{Disk, File, Reads, Lists, Writes, Renames, Removes, Syncs, Absent, Made, Unmade, synced}
-use Rattle.cv_vault.specs.Events.{NamedSlot, Event, Differs, Same, disk_of, file_count, has_file, first_disk, after, any_unsettled, write_of, rename_of, removal_of, Settles}
-use Rattle.cv_vault.specs.Failures.{times_next, next_call, fate_of, fate_fails, fate_makes}
-use Rattle.cv_vault.specs.Table as table
-use Rattle.cv_vault.specs.Table.{IsTable, Stays, Adds, table_disk, entries_of, past_of}
+use Rattle.cv_vault.specs.Events.{NamedSlot, Event, Differs, Same, file_count, after, any_unsettled, write_of, rename_of, removal_of, Settles}
+use Rattle.cv_vault.specs.EventsInner.{disk_of, has_file, first_disk}
+use Rattle.cv_vault.specs.Failures.{times_next, next_call}
+use Rattle.cv_vault.specs.FailuresInner.{fate_of, fate_fails, fate_makes}
+use Rattle.cv_vault.specs.TableInner as table_inner
+use Rattle.cv_vault.specs.Table.{entries_of, past_of}
+use Rattle.cv_vault.specs.TableInner.{IsTable, Stays, Adds, table_disk}
 use Rattle.cv_vault.specs.Memory.{memory_disk, times, MemoryCalls, Kept, Changed, Makes, Counted, Numbered}
 use Rattle.cv_vault.specs.MemoryVault.{memory_of, IsMemory}
 use Rattle.cv_vault.specs.declared.memory_vault.MemoryVault.TheInside.{Inside}
@@ -80,7 +83,7 @@ changed_then e v v1 v' is k a =
 pub kept_then : (v v1 v' : Inside) → Kept (memory_of v) (memory_of v1) → Stays v1.table v'.table → Kept (memory_of v) (memory_of v')
 kept_then v v1 v' k s = record { first = s.first ∙ k.first; past = s.past ∙ k.past }
 
-pub makes_then : (e : Disk → Event) (v v1 v' : Inside) → IsTable v1.table → Kept (memory_of v) (memory_of v1) → table.Makes (e (table_disk v1.table)) v1.table v'.table → Makes (e (memory_disk (memory_of v))) (memory_of v) (memory_of v')
+pub makes_then : (e : Disk → Event) (v v1 v' : Inside) → IsTable v1.table → Kept (memory_of v) (memory_of v1) → table_inner.Makes (e (table_disk v1.table)) v1.table v'.table → Makes (e (memory_disk (memory_of v))) (memory_of v) (memory_of v')
 makes_then e v v1 v' is k (Differs n h a) = Differs n (subst (λ (d : Disk). after (e d) d n ≢ d n) (kept_disk v v1 is k) h) (changed_then e v v1 v' is k a)
 makes_then e v v1 v' is k (Same h s) = Same (subst (λ (d : Disk). after (e d) d ≡ d) (kept_disk v v1 is k) h) (kept_then v v1 v' k s)
 
@@ -133,21 +136,21 @@ there_parts false a b = inr (refl, b)
 -- what is recorded of a rename, a removal, a write and a sync
 
 pub rename_counted : (v v1 v' : Inside) (from to : Name) (made there : Bool) → IsTable v1.table → Kept (memory_of v) (memory_of v1)
-    → OnTrue there (IsSome (table_disk v1.table from).now × table.Makes (rename_of (table_disk v1.table) from to made) v1.table v'.table)
+    → OnTrue there (IsSome (table_disk v1.table from).now × table_inner.Makes (rename_of (table_disk v1.table) from to made) v1.table v'.table)
     → OnFalse there (((table_disk v1.table from).now ≡ None) × Stays v1.table v'.table) → Counted (memory_of v) (memory_of v')
 rename_counted v v1 v' from to made there is k a b = elim (there_parts there a b) [
   | inl h ↦ counted_makes _ (memory_of v) (memory_of v') (makes_then (λ d. rename_of d from to made) v v1 v' is k h.1.1)
   | inr h ↦ counted_kept (memory_of v) (memory_of v') (kept_then v v1 v' k h.1.1)
 ]
 
-pub removal_counted : (v v' : Inside) (n : Name) (made there : Bool) → IsTable v.table → OnTrue there (IsSome (table_disk v.table n).now × table.Makes (removal_of (table_disk v.table) n made) v.table v'.table)
+pub removal_counted : (v v' : Inside) (n : Name) (made there : Bool) → IsTable v.table → OnTrue there (IsSome (table_disk v.table n).now × table_inner.Makes (removal_of (table_disk v.table) n made) v.table v'.table)
     → OnFalse there (((table_disk v.table n).now ≡ None) × (v'.table ≡ v.table)) → Counted (memory_of v) (memory_of v')
 removal_counted v v' n made there is a b = elim (there_parts there a b) [
   | inl h ↦ counted_makes _ (memory_of v) (memory_of v') (makes_then (λ d. removal_of d n made) v v v' is (kept_same v v refl) h.1.1)
   | inr h ↦ counted_kept (memory_of v) (memory_of v') (kept_same v v' h.1.1)
 ]
 
-pub write_counted : (v v1 v' : Inside) (n bytes : Name) (made : Bool) → IsTable v1.table → Kept (memory_of v) (memory_of v1) → table.Makes (write_of (table_disk v1.table) n bytes made) v1.table v'.table → Counted (memory_of v) (memory_of v')
+pub write_counted : (v v1 v' : Inside) (n bytes : Name) (made : Bool) → IsTable v1.table → Kept (memory_of v) (memory_of v1) → table_inner.Makes (write_of (table_disk v1.table) n bytes made) v1.table v'.table → Counted (memory_of v) (memory_of v')
 write_counted v v1 v' n bytes made is k a = counted_makes _ (memory_of v) (memory_of v') (makes_then (λ d. write_of d n bytes made) v v1 v' is k a)
 
 pub sync_counted : (v v' : Inside) → IsTable v.table → OnTrue (any_unsettled (entries_of v.table)) (Adds Settles v.table v'.table) → OnFalse (any_unsettled (entries_of v.table)) (v'.table ≡ v.table) → Counted (memory_of v) (memory_of v')
@@ -157,7 +160,7 @@ sync_counted v v' is a b = elim (there_parts (any_unsettled (entries_of v.table)
 ]
 
 module _ (v v1 v' : Inside) (from to : Name) (fate : Fate) (there : Bool) (r : Result Bool VaultFault) (is : IsTable v1.table) (k : Kept (memory_of v) (memory_of v1)) (answer : r ≡ cond (fate_fails fate) (Err Failed) (Ok there)) where
-  pub rename_calls : OnTrue there (IsSome (table_disk v1.table from).now × table.Makes (rename_of (table_disk v1.table) from to (fate_makes fate)) v1.table v'.table)
+  pub rename_calls : OnTrue there (IsSome (table_disk v1.table from).now × table_inner.Makes (rename_of (table_disk v1.table) from to (fate_makes fate)) v1.table v'.table)
       → OnFalse there (((table_disk v1.table from).now ≡ None) × Stays v1.table v'.table) → MemoryCalls (Renames from to r) (memory_of v) (memory_of v')
   rename_calls a b = elim (there_parts there a b) [
     | inl h ↦ calls_makes (Renames from to r) (rename_of (memory_disk (memory_of v)) from to (fate_makes fate)) (memory_of v) (memory_of v')
@@ -168,7 +171,7 @@ module _ (v v1 v' : Inside) (from to : Name) (fate : Fate) (there : Bool) (r : R
   ]
 
 module _ (v v' : Inside) (n : Name) (fate : Fate) (there : Bool) (r : Result Bool VaultFault) (is : IsTable v.table) (answer : r ≡ cond (fate_fails fate) (Err Failed) (Ok there)) where
-  pub remove_calls : OnTrue there (IsSome (table_disk v.table n).now × table.Makes (removal_of (table_disk v.table) n (fate_makes fate)) v.table v'.table)
+  pub remove_calls : OnTrue there (IsSome (table_disk v.table n).now × table_inner.Makes (removal_of (table_disk v.table) n (fate_makes fate)) v.table v'.table)
       → OnFalse there (((table_disk v.table n).now ≡ None) × (v'.table ≡ v.table)) → MemoryCalls (Removes n r) (memory_of v) (memory_of v')
   remove_calls a b = elim (there_parts there a b) [
     | inl h ↦ calls_makes (Removes n r) (removal_of (memory_disk (memory_of v)) n (fate_makes fate)) (memory_of v) (memory_of v')
@@ -178,7 +181,7 @@ module _ (v v' : Inside) (n : Name) (fate : Fate) (there : Bool) (r : Result Boo
         (rw (answer, h.0) (removes_none n (memory_disk (memory_of v)) fate (ap (λ (d : Disk). (d n).now) (disk_is v is) ∙ h.1.0)))
   ]
 
-  pub remove_failed : OnTrue there (IsSome (table_disk v.table n).now × table.Makes (removal_of (table_disk v.table) n (fate_makes fate)) v.table v'.table)
+  pub remove_failed : OnTrue there (IsSome (table_disk v.table n).now × table_inner.Makes (removal_of (table_disk v.table) n (fate_makes fate)) v.table v'.table)
       → OnFalse there (((table_disk v.table n).now ≡ None) × (v'.table ≡ v.table)) → Next v.schedule v'.schedule fate → r ≡ Err Failed → IsSome (memory_disk (memory_of v) n).now
       → Makes (removal_of (memory_disk (memory_of v)) n (nat_lt 1 (times (memory_of v)))) (memory_of v) (memory_of v')
   remove_failed a b next failed some = elim (there_parts there a b) [
@@ -188,7 +191,7 @@ module _ (v v' : Inside) (n : Name) (fate : Fate) (there : Bool) (r : Result Boo
   ]
 
 module _ (v v1 v' : Inside) (from to : Name) (fate : Fate) (there : Bool) (r : Result Bool VaultFault) (is : IsTable v1.table) (k : Kept (memory_of v) (memory_of v1)) (answer : r ≡ cond (fate_fails fate) (Err Failed) (Ok there)) where
-  pub rename_failed : OnTrue there (IsSome (table_disk v1.table from).now × table.Makes (rename_of (table_disk v1.table) from to (fate_makes fate)) v1.table v'.table)
+  pub rename_failed : OnTrue there (IsSome (table_disk v1.table from).now × table_inner.Makes (rename_of (table_disk v1.table) from to (fate_makes fate)) v1.table v'.table)
       → OnFalse there (((table_disk v1.table from).now ≡ None) × Stays v1.table v'.table) → Next v.schedule v'.schedule fate → r ≡ Err Failed → IsSome (memory_disk (memory_of v) from).now
       → Makes (rename_of (memory_disk (memory_of v)) from to (nat_lt 1 (times (memory_of v)))) (memory_of v) (memory_of v')
   rename_failed a b next failed some = elim (there_parts there a b) [
@@ -198,12 +201,12 @@ module _ (v v1 v' : Inside) (from to : Name) (fate : Fate) (there : Bool) (r : R
   ]
 
 pub write_calls : (v v1 v' : Inside) (n bytes : Name) (fate : Fate) (r : Result (Unit {0}) VaultFault) → IsTable v1.table → Kept (memory_of v) (memory_of v1) → r ≡ cond (fate_fails fate) (Err Failed) (Ok tt)
-    → table.Makes (write_of (table_disk v1.table) n bytes (fate_makes fate)) v1.table v'.table → MemoryCalls (Writes n bytes r) (memory_of v) (memory_of v')
+    → table_inner.Makes (write_of (table_disk v1.table) n bytes (fate_makes fate)) v1.table v'.table → MemoryCalls (Writes n bytes r) (memory_of v) (memory_of v')
 write_calls v v1 v' n bytes fate r is k answer a = calls_makes (Writes n bytes r) (write_of (memory_disk (memory_of v)) n bytes (fate_makes fate)) (memory_of v) (memory_of v')
     (makes_then (λ d. write_of d n bytes (fate_makes fate)) v v1 v' is k a) (rw answer (writes_fate n bytes (memory_disk (memory_of v)) fate))
 
 pub write_failed : (v v1 v' : Inside) (n bytes : Name) (fate : Fate) (r : Result (Unit {0}) VaultFault) → IsTable v1.table → Kept (memory_of v) (memory_of v1) → r ≡ cond (fate_fails fate) (Err Failed) (Ok tt)
-    → table.Makes (write_of (table_disk v1.table) n bytes (fate_makes fate)) v1.table v'.table → Next v.schedule v'.schedule fate → r ≡ Err Failed
+    → table_inner.Makes (write_of (table_disk v1.table) n bytes (fate_makes fate)) v1.table v'.table → Next v.schedule v'.schedule fate → r ≡ Err Failed
     → Makes (write_of (memory_disk (memory_of v)) n bytes (nat_lt 1 (times (memory_of v)))) (memory_of v) (memory_of v')
 write_failed v v1 v' n bytes fate r is k answer a next failed =
     subst (λ made. Makes (write_of (memory_disk (memory_of v)) n bytes made) (memory_of v) (memory_of v')) (makes_failed v v'.schedule fate r tt next answer failed)

@@ -14,8 +14,9 @@ use Rattle.std.proofs.lemmas.List.Kept.{IsStrictlySortedBy-filter}
 use Rattle.cv_vault.specs.Names.{Name, name_cmp}
 use Rattle.cv_vault.specs.Disk as disk
 use Rattle.cv_vault.specs.Disk.{Slot, slot, IsListing}
-use Rattle.cv_vault.specs.Table.{entry_at, is_listed, IsEntryOf, table_disk, Rows, IsTable}
-use Rattle.cv_vault.specs.Indexed.{rows_of, IsIndexed}
+use Rattle.cv_vault.specs.Table.{Rows}
+use Rattle.cv_vault.specs.TableInner.{entry_at, is_listed, IsEntryOf, table_disk, IsTable}
+use Rattle.cv_vault.specs.IndexedInner.{rows_of, IsIndexed}
 use Rattle.cv_vault.specs.declared.table.Table.TheInside.{Inside}
 use Rattle.cv_vault.proofs.Ordered.{names_of, all_names, ascending, among_or_none, passes, passed, placed}
 use Rattle.cv_vault.proofs.Steps.{slot_at, present, missing}

@@ -16,8 +16,9 @@ use Rattle.std.proofs.lemmas.Map.Views.{All-found}
 use Rattle.cv_vault.specs.Names.{Name, name_cmp, same_name}
 use Rattle.cv_vault.specs.Disk as disk
 use Rattle.cv_vault.specs.Disk.{slot}
-use Rattle.cv_vault.specs.Table.{name_in, names_in, entry_at, IsEntryOf, table_disk}
-use Rattle.cv_vault.specs.Indexed.{rows_of, IsIndexed}
+use Rattle.cv_vault.specs.Table.{name_in}
+use Rattle.cv_vault.specs.TableInner.{names_in, entry_at, IsEntryOf, table_disk}
+use Rattle.cv_vault.specs.IndexedInner.{rows_of, IsIndexed}
 use Rattle.cv_vault.specs.declared.table.Table.TheInside.{Inside}
 use Rattle.cv_vault.proofs.Names.{same_name_is}
 use Rattle.cv_vault.proofs.Reading.{slot_missing, numbers_lack, names_at, at_names}

@@ -8,9 +8,11 @@ use Rattle.std.proofs.lemmas.List.{length-map, get_or_default, get_or-map}
 use Rattle.cv_vault.specs.Names.{Name}
 use Rattle.cv_vault.specs.Disk as disk
 use Rattle.cv_vault.specs.Disk.{Slot, slot}
-use Rattle.cv_vault.specs.Events.{NamedSlot, value_at, disk_of}
-use Rattle.cv_vault.specs.Table.{name_in, names_in, Rows, Lacks, AreApart, named_in, any_entry, entry_at, IsEntryOf}
-use Rattle.cv_vault.specs.Indexed.{AreNumbers}
+use Rattle.cv_vault.specs.Events.{NamedSlot, value_at}
+use Rattle.cv_vault.specs.EventsInner.{disk_of}
+use Rattle.cv_vault.specs.Table.{name_in, Rows, named_in}
+use Rattle.cv_vault.specs.TableInner.{names_in, Lacks, AreApart, any_entry, entry_at, IsEntryOf}
+use Rattle.cv_vault.specs.IndexedInner.{AreNumbers}
 use Rattle.cv_vault.specs.Places.{slot_in}
 use Rattle.cv_vault.specs.declared.table.Entry.{Entry}
 use Rattle.cv_vault.proofs.Values.{LacksPair, firsts, value_at-get, value_at-lacks}

@@ -8,7 +8,8 @@ use Rattle.cv_base.specs.Counts.{last_count}
 use Rattle.cv_vault.specs.Names.{Name}
 use Rattle.cv_vault.specs.Disk.{Disk, Files, Image}
 use Rattle.cv_vault.specs.Events.{Event, Differs, Same, LeftBy, after, replay}
-use Rattle.cv_vault.specs.Failures.{next_call, fate_of, fate_fails, fate_makes}
+use Rattle.cv_vault.specs.Failures.{next_call}
+use Rattle.cv_vault.specs.FailuresInner.{fate_of, fate_fails, fate_makes}
 use Rattle.cv_vault.specs.Memory.{Memory, began, memory_disk, times, MemoryCalls, Kept, Changed, Makes, Counted, Numbered}
 use Rattle.cv_vault.specs.declared.fate.Fate.{Fate}
 use Rattle.cv_vault.specs.declared.fate.Fate.TheVariants.{Works, FailsUnmade, FailsMade}

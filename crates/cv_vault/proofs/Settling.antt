@@ -11,11 +11,14 @@ use Rattle.std.proofs.lemmas.List.Elements.{All-head, All-tail, All-map, All-wea
 use Rattle.cv_vault.specs.Names.{Name, same_name}
 use Rattle.cv_vault.specs.Disk as disk
 use Rattle.cv_vault.specs.Disk.{Slot, slot, is_settled, synced}
-use Rattle.cv_vault.specs.Events.{NamedSlot, disk_of, first_disk, file_count, has_file, any_unsettled}
+use Rattle.cv_vault.specs.Events.{NamedSlot, file_count, any_unsettled}
+use Rattle.cv_vault.specs.EventsInner.{disk_of, first_disk, has_file}
 use Rattle.cv_vault.specs.Events as event
-use Rattle.cv_vault.specs.Places.{file_in, mark_in, slot_in, is_settled_place}
-use Rattle.cv_vault.specs.Table.{Rows, name_in, names_in, settled_entry, settled_each, entry_at, any_entry, table_disk, entries_of, IsEntryIn, IsTable}
-use Rattle.cv_vault.specs.Indexed.{rows_of, IsIndexed, AreUnsettled}
+use Rattle.cv_vault.specs.Places.{file_in, mark_in, slot_in}
+use Rattle.cv_vault.specs.PlacesInner.{is_settled_place}
+use Rattle.cv_vault.specs.Table.{Rows, name_in, entries_of}
+use Rattle.cv_vault.specs.TableInner.{names_in, settled_entry, settled_each, entry_at, any_entry, table_disk, IsEntryIn, IsTable}
+use Rattle.cv_vault.specs.IndexedInner.{rows_of, IsIndexed, AreUnsettled}
 use Rattle.cv_vault.specs.declared.place.Place.{Place}
 use Rattle.cv_vault.specs.declared.place.PlaceMark.{PlaceMark}
 use Rattle.cv_vault.specs.declared.place.PlaceMark.TheVariants as mark

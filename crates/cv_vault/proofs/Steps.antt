@@ -6,8 +6,10 @@ use Rattle.std.specs.declared.option.Option.TheVariants.{None, Some}
 use Rattle.cv_vault.specs.Names.{Name}
 use Rattle.cv_vault.specs.Disk.{Disk, File, Slot, slot, with_slot, is_settled, moved, Torn}
 use Rattle.cv_vault.specs.Events.{Event, Puts, PutsTwo, Differs, Same, after, write_of, rename_of, removal_of}
-use Rattle.cv_vault.specs.Places.{file_in, mark_in, slot_in, moved_place, is_settled_place}
-use Rattle.cv_vault.specs.Table.{Rows, name_in, any_entry, entry_at, IsEntryOf, IsTable, Stays, Adds, Makes, table_disk}
+use Rattle.cv_vault.specs.Places.{file_in, mark_in, slot_in}
+use Rattle.cv_vault.specs.PlacesInner.{moved_place, is_settled_place}
+use Rattle.cv_vault.specs.Table.{Rows, name_in}
+use Rattle.cv_vault.specs.TableInner.{any_entry, entry_at, IsEntryOf, IsTable, Stays, Adds, Makes, table_disk}
 use Rattle.cv_vault.specs.declared.place.Place.{Place}
 use Rattle.cv_vault.specs.declared.place.PlaceMark.{PlaceMark}
 use Rattle.cv_vault.specs.declared.place.PlaceMark.TheVariants as mark

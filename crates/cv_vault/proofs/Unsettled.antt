@@ -8,9 +8,9 @@ use Rattle.std.proofs.lemmas.List.Elements.{All-head, All-tail, All-weaker, All-
 use Rattle.std.proofs.lemmas.List.Sums.{sum_by-set, sum_by-append, sum_by-cons, count_by-le-length}
 use Rattle.std.proofs.Math.ListN.{get_or-append}
 use Rattle.std.proofs.Math.Seq.{get_or-append_seam}
-use Rattle.cv_vault.specs.Places.{is_settled_place}
-use Rattle.cv_vault.specs.Table.{any_entry}
-use Rattle.cv_vault.specs.Indexed.{AreUnsettled}
+use Rattle.cv_vault.specs.PlacesInner.{is_settled_place}
+use Rattle.cv_vault.specs.TableInner.{any_entry}
+use Rattle.cv_vault.specs.IndexedInner.{AreUnsettled}
 use Rattle.cv_vault.specs.declared.place.Place.{Place}
 use Rattle.cv_vault.specs.declared.place.PlaceMark.TheVariants.{Torn}
 use Rattle.cv_vault.specs.declared.table.Entry.{Entry}

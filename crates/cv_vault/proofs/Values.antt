@@ -4,7 +4,7 @@ use Rattle.std.specs.List.{AllByRecursion}
 use Rattle.std.proofs.lemmas.List.{length-map, get_or-map}
 use Rattle.cv_vault.specs.Names.{Name, same_name}
 use Rattle.cv_vault.specs.Events.{value_at}
-use Rattle.cv_vault.specs.Table.{AreApart}
+use Rattle.cv_vault.specs.TableInner.{AreApart}
 use Rattle.cv_vault.proofs.Names.{same_name_itself, other_name, same_or_not}
 
 -- no pair has the name

@@ -1,9 +1,9 @@
 -- A disk in memory: the names that were ever used, and the record of the changes since the record began.
-use Rattle.std.specs.Prelude.{◌≡◌, ◌≢◌, ℕ, ◌≤◌, Bool, List, [], ◌∷◌, map, length, take, not, is_some, count_by, if◌then◌else◌}
+use Rattle.std.specs.Prelude.{◌≡◌, ◌≢◌, ℕ, ◌≤◌, Bool, List, [], ◌∷◌, length, take, not, is_some, count_by, if◌then◌else◌}
 use Rattle.std.specs.List.{list_any}
 use Rattle.std.specs.declared.option.Option.TheVariants.{None, Some}
 use Rattle.cv_vault.specs.Names.{Name, same_name}
-use Rattle.cv_vault.specs.Disk.{File, Files, Slot, Disk, Image, Settled, Torn, is_settled, both_settled, moved, slot, with_slot, settled, synced}
+use Rattle.cv_vault.specs.Disk.{File, Files, Slot, Disk, Image, Torn, is_settled, both_settled, moved, slot, with_slot, synced}
 
 -- a name, the file that it had when the record began, and what stands there now
 pub record NamedSlot : Type 0 where
@@ -37,19 +37,8 @@ abbrev pub value_at : {X : Type 0} → X → List (Name × X) → Name → X
 value_at absent [] n = absent
 value_at absent (p ∷ ps) n = if same_name n p.0 then p.1 else value_at absent ps n
 
-abbrev pub disk_of : List NamedSlot → Disk
-disk_of es = value_at (slot None Settled) (map (λ e. (e.name, e.stands)) es)
-
--- the disk when the record began
-abbrev pub first_disk : List NamedSlot → Disk
-first_disk es = settled (value_at None (map (λ e. (e.name, e.first)) es))
-
 abbrev pub any_unsettled : List NamedSlot → Bool
 any_unsettled es = list_any (λ e. not (is_settled e.stands.mark)) es
-
--- whether there is a file, as a number
-abbrev pub has_file : Slot → ℕ
-has_file s = if is_some s.now then 1 else 0
 
 -- how many names have a file
 abbrev pub file_count : List NamedSlot → ℕ

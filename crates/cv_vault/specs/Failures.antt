@@ -1,8 +1,6 @@
 -- The calls of a vault in memory that are to fail, by their numbers.
-use Rattle.std.specs.Prelude.{ℕ, ◌+◌, ◌==◌, Bool, true, false, List, min, nat_lt, count_by, if◌then◌else◌}
+use Rattle.std.specs.Prelude.{ℕ, ◌+◌, ◌==◌, List, min, nat_lt, count_by, if◌then◌else◌}
 use Rattle.cv_base.specs.Counts.{last_count}
-use Rattle.cv_vault.specs.declared.fate.Fate.{Fate}
-use Rattle.cv_vault.specs.declared.fate.Fate.TheVariants.{Works, FailsUnmade, FailsMade}
 
 -- how often the number of the next call stands among those that are to fail, after so many calls. Calls are numbered from 1 up to the last value of a `u64`
 abbrev pub times_next : List ℕ → ℕ → ℕ
@@ -14,17 +12,3 @@ later_failures failing calls = count_by (λ k. nat_lt calls k) failing
 
 abbrev pub next_call : ℕ → ℕ
 next_call calls = min (calls + 1) last_count
-
--- a number that stands once: the call makes no change. One that stands twice or more: it makes its change all the same
-abbrev pub fate_of : ℕ → Fate
-fate_of times = if times == 0 then Works else (if times == 1 then FailsUnmade else FailsMade)
-
-abbrev pub fate_fails : Fate → Bool
-fate_fails Works = false
-fate_fails FailsUnmade = true
-fate_fails FailsMade = true
-
-abbrev pub fate_makes : Fate → Bool
-fate_makes Works = true
-fate_makes FailsUnmade = false
-fate_makes FailsMade = true

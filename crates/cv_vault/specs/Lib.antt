@@ -5,10 +5,14 @@ pub mod Crash
 pub mod Walks
 pub mod Replace
 pub mod Failures
+pub mod FailuresInner
 pub mod Events
+pub mod EventsInner
 pub mod Places
+pub mod PlacesInner
 pub mod Table
-pub mod Indexed
+pub mod TableInner
+pub mod IndexedInner
 pub mod Memory
 pub mod MemoryLaws
 pub mod MemoryVault

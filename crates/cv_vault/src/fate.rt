@@ -1,7 +1,7 @@
 //! How a call of a vault in memory is to end.
 ghost use Rattle.std.specs.Prelude.{◌≡◌, ◌≢◌, IsErrOf, if◌then◌else◌, nat_lt};
 ghost use Rattle.std.specs.Bool.{OnTrue};
-ghost use Rattle.cv_vault.specs.Failures.{fate_of, fate_fails, fate_makes};
+ghost use Rattle.cv_vault.specs.FailuresInner.{fate_of, fate_fails, fate_makes};
 ghost use Rattle.cv_vault.specs.declared.vault.VaultFault.TheVariants as fault;
 
 use crate::vault::VaultFault;

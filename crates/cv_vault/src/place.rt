@@ -1,6 +1,6 @@
 //! What stands at a name of a vault in memory, in numbers.
 ghost use Rattle.std.specs.Prelude.{◌≡◌, ◌&&◌, if◌then◌else◌};
-ghost use Rattle.cv_vault.specs.Places.{is_settled_place, moved_place, left_place, next_pick};
+ghost use Rattle.cv_vault.specs.PlacesInner.{is_settled_place, moved_place, left_place, next_pick};
 
 /// What a crash may do to a name. The file before a move is given by its number among the contents.
 #[derive(Clone, Copy)]

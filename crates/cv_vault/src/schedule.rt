@@ -1,7 +1,8 @@
 //! The calls of a vault in memory that are to fail.
 ghost use Rattle.std.specs.Prelude.{◌≡◌, ◌+◌, ◌≤◌, min, if◌then◌else◌};
 ghost use Rattle.cv_base.specs.Counts.{last_count};
-ghost use Rattle.cv_vault.specs.Failures.{times_next, next_call, later_failures, fate_of, fate_fails};
+ghost use Rattle.cv_vault.specs.Failures.{times_next, next_call, later_failures};
+ghost use Rattle.cv_vault.specs.FailuresInner.{fate_of, fate_fails};
 
 use crate::fate::Fate;
 

@@ -6,10 +6,13 @@ ghost use Rattle.std.specs.String.{string_cmp};
 ghost use Rattle.std.specs.Bool.{OnTrue, OnFalse, Decides};
 ghost use Rattle.cv_vault.specs.Disk.{IsListing, synced};
 ghost use Rattle.cv_vault.specs.Crash.{Crashes};
-ghost use Rattle.cv_vault.specs.Events.{write_of, rename_of, removal_of, any_unsettled, file_count, has_file, Puts, PutsTwo, Settles as all_settled};
-ghost use Rattle.cv_vault.specs.Places.{is_settled_place, next_pick, file_in, mark_in, slot_in, IsFileIn, IsMarkIn, IsPlaceIn};
-ghost use Rattle.cv_vault.specs.Table.{name_in, names_in, is_listed, IsEntryOf, Lacks, any_entry, settled_each, crash_at, crashed, entry_at, entries_of, past_of, table_disk, table_first, IsTable, Stays, Adds, Makes, TakesOne};
-ghost use Rattle.cv_vault.specs.Indexed.{AreUnsettled};
+ghost use Rattle.cv_vault.specs.Events.{write_of, rename_of, removal_of, any_unsettled, file_count, Puts, PutsTwo, Settles as all_settled};
+ghost use Rattle.cv_vault.specs.EventsInner.{has_file};
+ghost use Rattle.cv_vault.specs.Places.{file_in, mark_in, slot_in};
+ghost use Rattle.cv_vault.specs.PlacesInner.{is_settled_place, next_pick, IsFileIn, IsMarkIn, IsPlaceIn};
+ghost use Rattle.cv_vault.specs.Table.{name_in, entries_of, past_of};
+ghost use Rattle.cv_vault.specs.TableInner.{names_in, is_listed, IsEntryOf, Lacks, any_entry, settled_each, crash_at, crashed, entry_at, table_disk, table_first, IsTable, Stays, Adds, Makes, TakesOne};
+ghost use Rattle.cv_vault.specs.IndexedInner.{AreUnsettled};
 
 use crate::place::{Place, PlaceMark, removed, renamed};
 use cv_base::{Bytes, Text};
@@ -54,7 +57,7 @@ impl Model for Table {
 
     ghost Value = { Rows };
 
-    ghost use Rattle.cv_vault.specs.Indexed.{rows_of, IsIndexed};
+    ghost use Rattle.cv_vault.specs.IndexedInner.{rows_of, IsIndexed};
 
     ghost view = { rows_of };
 

@@ -13,7 +13,7 @@ use Rattle.clap.proofs.OnLiterals.{clap_on_literals}
 use Rattle.clap.proofs.FaultLemmas.{stopped_fault}
 use Rattle.clap.proofs.WalkLemmas.{walk_stopped}
 use Rattle.cv_words.specs.Words.{dashes, is_option, values_of}
-use Rattle.cv_words.specs.Program.{program, all_ids, values_at}
+use Rattle.cv_words.specs.ProgramInner.{program, all_ids, values_at}
 use Rattle.cv_words.proofs.Forms.{AreTexts, IsFlag, IsPlain, plain, flag, long, short}
 use Rattle.cv_words.proofs.Walks.{no_option}
 use Rattle.cv_words.proofs.Leaves.{Form, repo, url, path, folder, leaf, leaf_gives, leaf_takes, fits}

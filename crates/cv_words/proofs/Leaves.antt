@@ -9,7 +9,7 @@ use Rattle.clap.specs.Faults.{level_fault}
 use Rattle.clap.specs.declared.error.kind.ErrorKind.TheVariants.{MissingRequiredArgument, UnknownArgument}
 use Rattle.clap.proofs.OnLiterals.{clap_on_literals}
 use Rattle.cv_words.specs.Words.{dashes, values_of}
-use Rattle.cv_words.specs.Program.{bare, command_shape, repo_ids, url_ids, path_ids, folder_ids, all_ids, values_at}
+use Rattle.cv_words.specs.ProgramInner.{bare, command_shape, repo_ids, url_ids, path_ids, folder_ids, all_ids, values_at}
 use Rattle.cv_words.proofs.Forms.{AreTexts}
 use Rattle.cv_words.proofs.Walks.{is_placed, fault_as, rows_as, refused}
 

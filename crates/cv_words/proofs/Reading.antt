@@ -8,7 +8,7 @@ use Rattle.clap.specs.Faults.{fault_of}
 use Rattle.clap.specs.declared.parser.matches.ArgMatches.TheViews.{out-SubCommand}
 use Rattle.clap.specs.declared.parser.matches.SubCommand.{SubCommand}
 use Rattle.cv_words.specs.Words.{values_of, Means, Asks, IsCommand, init, stdio, ls, stat, cat, shell, publish}
-use Rattle.cv_words.specs.Program.{program, all_ids, values_at, IsGiven}
+use Rattle.cv_words.specs.ProgramInner.{program, all_ids, values_at, IsGiven}
 use Rattle.cv_words.specs.declared.words.Command.{Command}
 use Rattle.cv_words.proofs.Forms.{AreTexts}
 use Rattle.cv_words.proofs.Entering.{finds, takes_all}

@@ -5,7 +5,7 @@ use Rattle.clap.specs.Matches.{first_value}
 use Rattle.clap.specs.Walk.{Text, first_of, rows_of, texts}
 use Rattle.clap.specs.declared.parser.matches.Found.{Found}
 use Rattle.clap.proofs.WalkLemmas.{first_value-rows}
-use Rattle.cv_words.specs.Program.{and_then}
+use Rattle.cv_words.specs.ProgramInner.{and_then}
 
 alone : (o : Option Text) (rest : List Text) → and_then o rest ≡ and_then o [] ++ rest
 alone None rest = refl

@@ -4,7 +4,7 @@ ghost use Rattle.clap.specs.Matches.{found_of};
 ghost use Rattle.clap.specs.Walk.{first_of, rows_of, texts};
 ghost use Rattle.clap.specs.Words.{app_of, fault_of, rule_of, shape_of, subcommand_of, subcommand_rows_of};
 ghost use Rattle.clap.specs.declared.builder.command.Command.TheViews.{out-Command};
-ghost use Rattle.cv_words.specs.Program.{IsGiven, all_ids, and_then, asking, bare, command_shape, folder_ids, path_ids, program, repo_ids, served, url_ids, value_rule, values_at};
+ghost use Rattle.cv_words.specs.ProgramInner.{IsGiven, all_ids, and_then, asking, bare, command_shape, folder_ids, path_ids, program, repo_ids, served, url_ids, value_rule, values_at};
 ghost use Rattle.cv_words.specs.declared.words.WordsFault.TheVariants.{Usage};
 
 use crate::words::WordsFault;

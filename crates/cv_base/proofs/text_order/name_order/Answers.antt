@@ -1,6 +1,6 @@
 use Rattle.std.proofs.Common.{Bool, sym, subst, ◌∙◌}
 use Rattle.cv_base.proofs.TextOrder.{front_shorter, slash_first, slash_second, names_decide, tested}
-use Rattle.cv_base.specs.TextOrder.{Follows}
+use Rattle.cv_base.specs.TextOrderInner.{Follows}
 use Rattle.cv_base.proofs.text_order.name_order.Goals as goal
 use Rattle.cv_base.proofs.text_order.name_order.Goals.{else-a_goes_on-via-then-a_goes_on+else-starts_with, else-a_goes_on-via-else-a_goes_on, else-b_goes_on-via-then-b_goes_on+else-starts_with-2, else-b_goes_on-via-else-b_goes_on}
 

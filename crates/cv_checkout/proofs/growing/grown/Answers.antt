@@ -1,6 +1,6 @@
 use Rattle.std.proofs.Common.{sym, subst}
 use Rattle.std.specs.List.Sorted.{IsPermutation}
-use Rattle.cv_checkout.specs.Growing.{KeepLimits}
+use Rattle.cv_checkout.specs.GrowingInner.{KeepLimits}
 use Rattle.cv_checkout.specs.Progress.{StartsFrom}
 use Rattle.cv_checkout.proofs.Steps.{comes_by, starts_none, starts_some, still_good}
 use Rattle.cv_checkout.proofs.growing.grown.Goals.{in-Some, in-None+in_ok-grown-in-None}

@@ -7,8 +7,9 @@ use Rattle.cv_tree.specs.Tree.{Nodes}
 use Rattle.cv_resolver.specs.Kept.{AreOwn}
 use Rattle.cv_resolver.specs.declared.resolver.Asked.{Asked}
 use Rattle.cv_cut.proofs.Lemmas.{left_by}
-use Rattle.cv_client.specs.Giving.{GivesAll, all, cut}
-use Rattle.cv_client.specs.Served.{HasObject, IsSupplied}
+use Rattle.cv_client.specs.GivingInner.{GivesAll, all, cut}
+use Rattle.cv_client.specs.Served.{HasObject}
+use Rattle.cv_client.specs.ServedInner.{IsSupplied}
 use Rattle.cv_client.specs.declared.exchanging.ExchangeFault.{ExchangeFault}
 use Rattle.cv_client.specs.declared.exchanging.ExchangeFault.TheVariants.{LinkFailed}
 use Rattle.cv_client.proofs.Coming.{begins, goes_on, fewer_left, asked_still, named_still}

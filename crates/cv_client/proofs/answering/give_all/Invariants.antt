@@ -4,8 +4,9 @@ use Rattle.cv_tree.specs.Tree.{Nodes}
 use Rattle.cv_resolver.specs.Resolver.{IsOn, question_of}
 use Rattle.cv_resolver.specs.declared.question.Question.{Question}
 use Rattle.cv_client.specs.Asking.{AsksFirst}
-use Rattle.cv_client.specs.Giving.{GoesOn}
-use Rattle.cv_client.specs.Served.{Files, ServedBy, HasWay, IsUnblamed}
+use Rattle.cv_client.specs.GivingInner.{GoesOn}
+use Rattle.cv_client.specs.Served.{Files, ServedBy, HasWay}
+use Rattle.cv_client.specs.ServedInner.{IsUnblamed}
 use Rattle.cv_client.proofs.Coming.{left_of}
 use Rattle.cv_client.proofs.Telling.{Extends}
 use Rattle.cv_client.proofs.answering.give_all.Given as goal

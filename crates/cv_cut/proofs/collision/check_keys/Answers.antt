@@ -1,5 +1,5 @@
 use Rattle.std.proofs.Common.{◌∙◌}
-use Rattle.cv_cut.specs.Piece.{IsSharedAmong}
+use Rattle.cv_cut.specs.PieceInner.{IsSharedAmong}
 use Rattle.cv_cut.proofs.Collisions.{all_apart, one_apart, region_keys, sharing_there, handed_on}
 use Rattle.cv_cut.proofs.collision.check_keys.Goals as goal
 

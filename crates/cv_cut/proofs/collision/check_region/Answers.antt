@@ -1,4 +1,5 @@
-use Rattle.cv_cut.specs.Cut.{AreSame, keys_at}
+use Rattle.cv_cut.specs.Cut.{keys_at}
+use Rattle.cv_cut.specs.CutInner.{AreSame}
 use Rattle.cv_cut.proofs.Collisions.{shares}
 use Rattle.cv_cut.proofs.collision.check_region.Goals as goal
 

@@ -2,7 +2,7 @@ use Rattle.std.proofs.Common.{ap, Err, [], ◌∷◌}
 use Rattle.cv_cut.proofs.Collisions.{handed_on, sharing_of}
 use Rattle.cv_cut.proofs.KindLaws.{all_covered}
 use Rattle.cv_cut.proofs.CutLaws.{made_from, parts_of, made_apart, not_apart, bytes_of, full_cut, not_full_cut}
-use Rattle.cv_cut.specs.Piece.{IsFaultAmong}
+use Rattle.cv_cut.specs.PieceInner.{IsFaultAmong}
 use Rattle.cv_cut.proofs.Members.{first_there}
 use Rattle.cv_cut.proofs.cutting.catalogue.Goals as goal
 

@@ -1,4 +1,4 @@
-use Rattle.cv_cut.specs.Piece.{IsFaultAmong}
+use Rattle.cv_cut.specs.PieceInner.{IsFaultAmong}
 use Rattle.cv_cut.proofs.Collisions.{handed_on, wider_fault}
 use Rattle.cv_cut.proofs.CutLaws.{cut_there, below_made, next_made}
 use Rattle.cv_cut.proofs.cutting.catalogues.Goals as goal

@@ -1,7 +1,8 @@
 use Rattle.std.proofs.Common.{List, subst}
 use Rattle.cv_base.specs.Path.{Path}
-use Rattle.cv_cut.specs.Cut.{HasMade}
-use Rattle.cv_cut.specs.Piece.{IsFaultAmong, IsFullAmong}
+use Rattle.cv_cut.specs.CutInner.{HasMade}
+use Rattle.cv_cut.specs.Piece.{IsFullAmong}
+use Rattle.cv_cut.specs.PieceInner.{IsFaultAmong}
 use Rattle.cv_cut.proofs.Collisions.{handed_on}
 use Rattle.cv_cut.proofs.PieceLaws.{made_below, only_full}
 use Rattle.cv_cut.proofs.pieces.cut_piece.Goals as goal

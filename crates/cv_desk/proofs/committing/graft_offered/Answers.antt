@@ -2,8 +2,9 @@ use Rattle.std.proofs.Common.{◌≡◌, true, ap, subst, ◌∙◌, Ok, Err}
 use Rattle.cv_graft.specs.declared.grafted.Grafted.{Grafted}
 use Rattle.cv_manifest.specs.declared.head.Head.{Head}
 use Rattle.cv_objects.specs.Names.{standing_on}
-use Rattle.cv_desk.specs.Acting.{reply_of}
-use Rattle.cv_desk.specs.Committing.{Offers, meaningless}
+use Rattle.cv_desk.specs.ActingInner.{reply_of}
+use Rattle.cv_desk.specs.Committing.{meaningless}
+use Rattle.cv_desk.specs.CommittingInner.{Offers}
 use Rattle.cv_desk.specs.Refusals.{is_unmade}
 use Rattle.cv_desk.proofs.CommitCalls.{on_ok, grafts_there, grafts_shown, grafts_fetched, judged_alone, graft_unfit, if_err}
 use Rattle.cv_desk.proofs.CommitExact.{unmade_told}

@@ -9,7 +9,8 @@ use Rattle.cv_swap.specs.Publishing.{Prepared}
 use Rattle.cv_gate.specs.declared.reply.Reply.{Reply}
 use Rattle.cv_desk.specs.Known.{KnowsOn}
 use Rattle.cv_desk.specs.Refusals.{reply_of, is_unmade}
-use Rattle.cv_desk.specs.Committing.{GraftsOffered, unmade, outside}
+use Rattle.cv_desk.specs.Committing.{unmade, outside}
+use Rattle.cv_desk.specs.CommittingInner.{GraftsOffered}
 use Rattle.cv_desk.proofs.CommitCalls.{if_ok, if_err, on_err, readied, refused}
 use Rattle.cv_desk.proofs.Knowing.{known_brought, knows_same, knows_behind}
 use Rattle.cv_desk.proofs.committing.ready.Goals as goal

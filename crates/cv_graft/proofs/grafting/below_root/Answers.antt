@@ -5,7 +5,8 @@ use Rattle.cv_graft.specs.Graft.{Grafts}
 use Rattle.cv_graft.proofs.Finding.{cuts_way, some_count, raised_more, top_unread}
 use Rattle.cv_graft.proofs.Holders.{top_blamed, tells_way, tells_top, tells_left, tells_right}
 use Rattle.cv_graft.proofs.Grafts.{way_of, tree_after, offered_of, top_is, top_count, two_walks, rebuilt_at, made_graft, fault_graft, unread_graft}
-use Rattle.cv_graft.specs.Way.{IsMade, IsOfEither, TellsDamage}
+use Rattle.cv_graft.specs.Way.{IsOfEither, TellsDamage}
+use Rattle.cv_graft.specs.WayInner.{IsMade}
 use Rattle.cv_graft.specs.declared.grafted.Grafted.{Grafted}
 use Rattle.cv_graft.specs.declared.graft_fault.GraftFault.{GraftFault}
 use Rattle.cv_graft.proofs.grafting.below_root.Goals as goal

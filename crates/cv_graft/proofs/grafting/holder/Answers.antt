@@ -4,7 +4,8 @@ use Rattle.std.specs.Prelude.{IfOk, IfErr}
 use Rattle.cv_rows.specs.Catalogue.{Contents}
 use Rattle.cv_cut.specs.declared.load_fault.LoadFault.{LoadFault}
 use Rattle.cv_graft.specs.Directories.{IsHolder}
-use Rattle.cv_graft.specs.Way.{BlamesWay, Finds}
+use Rattle.cv_graft.specs.Way.{BlamesWay}
+use Rattle.cv_graft.specs.WayInner.{Finds}
 use Rattle.cv_graft.proofs.Holders.{fails_top, holds_top, top_blamed}
 use Rattle.cv_graft.proofs.Grafts.{top_is, top_count}
 use Rattle.cv_graft.proofs.grafting.holder.Goals as goal

@@ -8,10 +8,10 @@ use Rattle.cv_rows.specs.Without.{IsWithout}
 use Rattle.cv_rows.specs.declared.row.Row.{Row}
 use Rattle.cv_rows.specs.declared.nested.Nested.{Nested}
 use Rattle.cv_rows.specs.Made.{PassesLimit, in_order}
-use Rattle.cv_graft.specs.Joins.{AreCrossed, IsCollision, IsJoined, IsFullAt, Joins}
+use Rattle.cv_graft.specs.JoinsInner.{AreCrossed, IsCollision, IsJoined, IsFullAt, Joins}
 use Rattle.cv_ports.specs.Shelf.{Shelf}
 use Rattle.cv_graft.specs.Way.{TellsDamage}
-use Rattle.cv_graft.specs.Places.{HasPlace}
+use Rattle.cv_graft.specs.PlacesInner.{HasPlace}
 use Rattle.cv_graft.specs.declared.graft_fault.GraftFault.{GraftFault}
 use Rattle.cv_graft.specs.declared.graft_fault.GraftFault.TheVariants as fault
 use Rattle.cv_graft.proofs.Parts.{AreJoinable, parts_joined, keys_joined}

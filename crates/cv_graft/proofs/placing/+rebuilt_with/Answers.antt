@@ -1,7 +1,9 @@
 use Rattle.std.proofs.Common.{suc, Result, ap, subst, ◌∙◌, arith}
 use Rattle.cv_rows.specs.Catalogue.{Contents}
-use Rattle.cv_graft.specs.Placed.{LeadsTo, Sets, holds, passes}
-use Rattle.cv_graft.specs.Way.{HasNone, IsNext, IsOfWayOf, TellsDamage}
+use Rattle.cv_graft.specs.Placed.{LeadsTo, holds, passes}
+use Rattle.cv_graft.specs.PlacedInner.{Sets}
+use Rattle.cv_graft.specs.Way.{HasNone, IsNext, TellsDamage}
+use Rattle.cv_graft.specs.WayInner.{IsOfWayOf}
 use Rattle.cv_graft.specs.declared.made.Made.{Made}
 use Rattle.cv_graft.specs.declared.graft_fault.GraftFault.{GraftFault}
 use Rattle.cv_graft.proofs.Holders.{tells_next, tells_below, tells_none}

@@ -9,7 +9,7 @@ use Rattle.cv_rows.specs.declared.nested.Nested.{Nested}
 use Rattle.cv_rows.specs.declared.row.Row.{Row}
 use Rattle.cv_cut.specs.Cut.{is_other, nested_in, row_in}
 use Rattle.cv_cut.proofs.Lemmas.{entries_spelled, left_by, rows_spelled}
-use Rattle.cv_graft.specs.Placed.{ArePathsCrossed, JoinsPart, Rests}
+use Rattle.cv_graft.specs.PlacedInner.{ArePathsCrossed, JoinsPart, Rests}
 use Rattle.cv_graft.proofs.PlacedParts.{all_keys, all_texts, meets_at, full_at, none_full, lists_join}
 use Rattle.cv_graft.proofs.placing.joined_part.Goals as goal
 

@@ -6,7 +6,7 @@ use Rattle.cv_cut.specs.Catalogues.{contents_of}
 use Rattle.cv_cut.proofs.Lemmas.{left_by}
 use Rattle.std.proofs.Common.{Result}
 use Rattle.std.specs.Prelude.{IsErrOf}
-use Rattle.cv_graft.specs.Placed.{Sets}
+use Rattle.cv_graft.specs.PlacedInner.{Sets}
 use Rattle.cv_graft.specs.Way.{TellsDamage}
 use Rattle.cv_graft.specs.declared.made.Made.{Made}
 use Rattle.cv_graft.specs.declared.graft_fault.GraftFault.{GraftFault}

@@ -1,5 +1,5 @@
 use Rattle.std.proofs.Common.{Ok, Err}
-use Rattle.cv_graft.specs.Way.{Rebuilds}
+use Rattle.cv_graft.specs.WayInner.{Rebuilds}
 use Rattle.cv_cut.specs.Catalogues.{contents_of}
 use Rattle.cv_graft.proofs.Rebuilds.{holder_made, holder_fault, joins_moved}
 use Rattle.cv_graft.proofs.rebuilding.rejoined.Goals as goal

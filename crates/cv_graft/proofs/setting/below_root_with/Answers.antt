@@ -9,7 +9,8 @@ use Rattle.cv_tree.specs.Changes.{nodes_of}
 use Rattle.cv_ports.specs.Calls.{raised_by}
 use Rattle.cv_cut.specs.Reached.{HasCatalogue}
 use Rattle.cv_cut.proofs.Lemmas.{left_by}
-use Rattle.cv_graft.specs.Placed.{Places, IsSet}
+use Rattle.cv_graft.specs.Placed.{Places}
+use Rattle.cv_graft.specs.PlacedInner.{IsSet}
 use Rattle.cv_graft.specs.Way.{IsOfWay, TellsDamage}
 use Rattle.cv_graft.specs.declared.grafted.Grafted.{Grafted}
 use Rattle.cv_graft.specs.declared.graft_fault.GraftFault.{GraftFault}

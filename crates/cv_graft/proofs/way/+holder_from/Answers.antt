@@ -1,7 +1,8 @@
 use Rattle.std.proofs.Common.{suc, Result, ap, subst, ◌∙◌, arith}
 use Rattle.cv_rows.specs.Catalogue.{Contents}
-use Rattle.cv_graft.specs.Directories.{HoldsFrom}
-use Rattle.cv_graft.specs.Way.{HasNone, IsNext, Finds, FailsFrom}
+use Rattle.cv_graft.specs.DirectoriesInner.{HoldsFrom}
+use Rattle.cv_graft.specs.Way.{HasNone, IsNext}
+use Rattle.cv_graft.specs.WayInner.{Finds, FailsFrom}
 use Rattle.cv_graft.proofs.Holders.{holds_itself, holds_below, fails_next, fails_below}
 use Rattle.cv_cut.specs.declared.load_fault.LoadFault.{LoadFault}
 use Rattle.cv_graft.proofs.Finding.{raised_more, none_holds, step_unread, step_down, step_count, more_than_one, at_most_below}

@@ -1,5 +1,5 @@
 use Rattle.std.proofs.Common.{◌≡◌, drop}
-use Rattle.cv_http.specs.HeadEnds.{has_empty_line}
+use Rattle.cv_http.specs.HeadEndsInner.{has_empty_line}
 use Rattle.cv_http.specs.declared.head_end.Line.TheVariants.{Text}
 use Rattle.cv_http.proofs.head_end.has_empty_line.Given as goal
 

@@ -1,6 +1,6 @@
 use Rattle.std.proofs.Common.{take}
 use Rattle.std.proofs.lemmas.Result.{IfOk-weaker}
-use Rattle.cv_http.specs.Judgements.{Judges}
+use Rattle.cv_http.specs.JudgementsInner.{Judges}
 use Rattle.cv_http.proofs.Windows.{seen_is, judged_all}
 use Rattle.cv_http.proofs.judge.judge.Goals as goal
 

@@ -1,7 +1,7 @@
 use Rattle.std.proofs.Common.{List, [], ◌∷◌, ◌++◌, length, sym, ap, ◌∙◌, arith, inr}
 use Rattle.cv_base.specs.Path.{Path}
 use Rattle.cv_rows.specs.declared.nested.Nested.{Nested}
-use Rattle.cv_load.specs.Known.{ChecksFrom}
+use Rattle.cv_load.specs.KnownInner.{ChecksFrom}
 use Rattle.cv_load.proofs.Growing.{item_of}
 use Rattle.cv_load.proofs.Checks.{checks_known, checks_unopened, checks_more, checks_all, checks_broken, checks_none}
 use Rattle.cv_load.proofs.Listing.{lists_none, lists_known, lists_more, lists_all, has_added}

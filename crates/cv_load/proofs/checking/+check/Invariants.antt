@@ -2,7 +2,7 @@ use Rattle.std.proofs.Common.{◌≡◌, ◌≤◌, ◌-◌, length}
 use Rattle.cv_base.specs.Told.{WhereTold}
 use Rattle.cv_load.specs.Known.{AreKnown}
 use Rattle.cv_load.proofs.Checks.{ChecksSomeFrom}
-use Rattle.cv_load.specs.NewFetches.{HasAll}
+use Rattle.cv_load.specs.NewFetchesInner.{HasAll}
 use Rattle.cv_load.proofs.NewFetching.{FirstNewOf}
 use Rattle.cv_load.proofs.Listing.{ListsSome}
 use Rattle.cv_load.proofs.checking.+check.Given as goal

@@ -3,8 +3,8 @@ use Rattle.std.specs.Prelude.{Contains}
 use Rattle.cv_base.specs.Path.{Path}
 use Rattle.cv_rows.specs.declared.nested.Nested.{Nested}
 use Rattle.cv_cut.specs.declared.load_fault.LoadFault.{LoadFault}
-use Rattle.cv_load.specs.Growth.{FillsFrom, IsClear, ChangesBelow}
-use Rattle.cv_load.specs.Fetches.{FetchesBelow}
+use Rattle.cv_load.specs.GrowthInner.{FillsFrom, IsClear, ChangesBelow}
+use Rattle.cv_load.specs.FetchesInner.{FetchesBelow}
 use Rattle.cv_load.proofs.Growing.{item_of}
 use Rattle.cv_load.proofs.Filling.{fills_none, fills_unopened, fills_more, fills_all, fills_broken}
 use Rattle.cv_load.proofs.Clearing.{clear_first, clear_more, grows_within, changes_more}

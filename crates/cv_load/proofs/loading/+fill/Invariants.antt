@@ -2,7 +2,7 @@ use Rattle.std.proofs.Common.{Ok, ◌≡◌, ◌≤◌, ◌-◌, length}
 use Rattle.cv_base.specs.Told.{WhereTold}
 use Rattle.cv_load.proofs.Filling.{FillsSomeFrom}
 use Rattle.cv_load.proofs.Fetching.{FetchesFirstOf}
-use Rattle.cv_load.specs.Growth.{ChangesBelow}
+use Rattle.cv_load.specs.GrowthInner.{ChangesBelow}
 use Rattle.cv_load.proofs.Clearing.{AreClear}
 use Rattle.cv_load.proofs.loading.+fill.Given as goal
 

@@ -2,7 +2,8 @@ use Rattle.std.proofs.Common.{arith, subst, List, ap, ◌∙◌}
 use Rattle.std.proofs.lemmas.List.{take_all}
 use Rattle.cv_base.specs.declared.object.Object.{Object}
 use Rattle.cv_vault.proofs.Laws.{bind, looser, quiet_then}
-use Rattle.cv_objects.specs.Batches.{Shows, Noted, Agrees}
+use Rattle.cv_objects.specs.Batches.{Shows, Agrees}
+use Rattle.cv_objects.specs.BatchesInner.{Noted}
 use Rattle.cv_objects.specs.Fresh.{fresh_of}
 use Rattle.cv_objects.specs.Names.{standing_on}
 use Rattle.cv_objects.proofs.Looking.{same_fault}

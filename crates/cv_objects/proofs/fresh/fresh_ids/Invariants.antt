@@ -6,7 +6,7 @@ use Rattle.cv_vault.specs.Walks.{Walks, Nothing}
 use Rattle.cv_objects.specs.Fresh.{lacking}
 use Rattle.cv_objects.specs.Batches.{Agrees}
 use Rattle.cv_objects.specs.Names.{standing_on}
-use Rattle.cv_objects.specs.Places.{is_noted}
+use Rattle.cv_objects.specs.PlacesInner.{is_noted}
 use Rattle.cv_objects.proofs.Once.{AreOnce}
 use Rattle.cv_objects.proofs.fresh.fresh_ids.Given as goal
 

@@ -2,7 +2,8 @@ use Rattle.std.proofs.Common.{take, ◌≤◌}
 use Rattle.cv_base.specs.Told.{WhereTold}
 use Rattle.cv_vault.specs.Names.{on_way}
 use Rattle.cv_vault.specs.Walks.{Walks, SparesIn}
-use Rattle.cv_objects.specs.Batches.{IsApart, Brings, AllWait, SparesOthers}
+use Rattle.cv_objects.specs.Batches.{IsApart, Brings, SparesOthers}
+use Rattle.cv_objects.specs.BatchesInner.{AllWait}
 use Rattle.cv_objects.proofs.Batching.{Half}
 use Rattle.cv_objects.proofs.storing.place_absent.Given as goal
 

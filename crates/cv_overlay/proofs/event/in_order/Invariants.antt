@@ -1,5 +1,5 @@
 use Rattle.std.proofs.Common.{◌≡◌, [], vec_len}
-use Rattle.cv_overlay.specs.Events.{placed_all}
+use Rattle.cv_overlay.specs.EventsInner.{placed_all}
 use Rattle.cv_overlay.proofs.event.in_order.Given as goal
 
 abbrev pub invariant-items : goal.invariant-items

@@ -1,5 +1,5 @@
 use Rattle.std.proofs.Common.{◌≡◌, ◌+◌, drop}
-use Rattle.cv_overlay.specs.Events.{place_in}
+use Rattle.cv_overlay.specs.EventsInner.{place_in}
 use Rattle.cv_overlay.proofs.event.place_in.Given as goal
 
 abbrev pub invariant-loop-i : goal.invariant-loop-i

@@ -4,8 +4,8 @@ use Rattle.cv_base.specs.Path.{Path}
 use Rattle.cv_base.specs.Told.{WhereTold}
 use Rattle.cv_ports.specs.Folder.{IsOrdered}
 use Rattle.cv_tree.specs.Changes.{FitsUnder}
-use Rattle.cv_overlay.specs.Events.{visits_of, visits_deep}
-use Rattle.cv_overlay.specs.Found.{run}
+use Rattle.cv_overlay.specs.EventsInner.{visits_of, visits_deep}
+use Rattle.cv_overlay.specs.FoundInner.{run}
 use Rattle.cv_overlay.proofs.reading.+walk.Given as goal
 
 abbrev pub decreases-walk : goal.decreases-walk

@@ -1,5 +1,5 @@
 use Rattle.std.proofs.Common.{List, ℕ, ◌++◌, ◌∷◌, [], ap, ◌∙◌}
-use Rattle.cv_overlay.specs.Found.{FoundView}
+use Rattle.cv_overlay.specs.FoundInner.{FoundView}
 use Rattle.cv_overlay.proofs.Visits.{within}
 use Rattle.cv_overlay.proofs.visiting.visit.Goals as goal
 

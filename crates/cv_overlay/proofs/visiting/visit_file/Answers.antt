@@ -1,5 +1,5 @@
 use Rattle.std.proofs.Common.{refl, ap, ◌∙◌}
-use Rattle.cv_overlay.specs.Found.{FoundView}
+use Rattle.cv_overlay.specs.FoundInner.{FoundView}
 use Rattle.cv_overlay.proofs.Visits.{small, file_large, file_read, within, tested}
 use Rattle.cv_overlay.proofs.visiting.visit_file.Goals as goal
 

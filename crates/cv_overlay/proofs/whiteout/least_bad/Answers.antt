@@ -1,6 +1,6 @@
 use Rattle.std.proofs.Common.{◌∙◌, sym, ap}
 use Rattle.std.specs.declared.option.Option.TheVariants.{None}
-use Rattle.cv_overlay.specs.Least.{least_from}
+use Rattle.cv_overlay.specs.LeastInner.{least_from}
 use Rattle.cv_overlay.proofs.Leasts.{least_is}
 use Rattle.cv_overlay.proofs.whiteout.least_bad.Goals as goal
 

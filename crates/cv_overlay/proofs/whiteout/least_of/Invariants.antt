@@ -1,6 +1,6 @@
 use Rattle.std.proofs.Common.{◌≡◌, None}
 use Rattle.std.specs.Vec.Iter.{into_iter_items}
-use Rattle.cv_overlay.specs.Least.{least_from}
+use Rattle.cv_overlay.specs.LeastInner.{least_from}
 use Rattle.cv_overlay.proofs.whiteout.least_of.Given as goal
 
 abbrev pub invariant-loop-path : goal.invariant-loop-path

@@ -1,5 +1,5 @@
 use Rattle.std.proofs.Common.{◌≡◌, ◌++◌, take}
-use Rattle.cv_pack.specs.Pack.{lines_of}
+use Rattle.cv_pack.specs.PackInner.{lines_of}
 use Rattle.cv_pack.proofs.pack_writer.push_lines.Given as goal
 
 abbrev pub invariant-loop-object : goal.invariant-loop-object

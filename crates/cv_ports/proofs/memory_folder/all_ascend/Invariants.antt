@@ -1,5 +1,5 @@
 use Rattle.std.proofs.Common.{◌≡◌, drop}
-use Rattle.cv_ports.specs.MemoryFolder.{all_ascend}
+use Rattle.cv_ports.specs.MemoryFolderInner.{all_ascend}
 use Rattle.cv_ports.proofs.memory_folder.all_ascend.Given as goal
 
 abbrev pub invariant-loop-directory : goal.invariant-loop-directory

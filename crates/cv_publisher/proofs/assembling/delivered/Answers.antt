@@ -1,7 +1,7 @@
 use Rattle.std.proofs.Common.{refl, subst}
 use Rattle.std.specs.Prelude.{All}
 use Rattle.cv_ports.specs.MemoryShelf.{standing}
-use Rattle.cv_publisher.specs.Packing.{IsCatalogueObject}
+use Rattle.cv_publisher.specs.PackingInner.{IsCatalogueObject}
 use Rattle.cv_publisher.proofs.Assembled.{delivers}
 use Rattle.cv_publisher.proofs.assembling.delivered.Goals as goal
 

@@ -7,7 +7,8 @@ use Rattle.std.proofs.lemmas.Map.Text.{btree_map_updates_text}
 use Rattle.std.proofs.lemmas.Option.{slice_get-map}
 use Rattle.cv_base.specs.ObjectId.{id_text}
 use Rattle.cv_base.specs.declared.object.Object.{Object}
-use Rattle.cv_publisher.specs.Packing.{FindsFirst, id_texts}
+use Rattle.cv_publisher.specs.Packing.{id_texts}
+use Rattle.cv_publisher.specs.PackingInner.{FindsFirst}
 use Rattle.cv_publisher.proofs.Orders.{finds_new, finds_old}
 use Rattle.cv_publisher.proofs.ordering.places_by_text.Goals as goal
 use Rattle.cv_publisher.proofs.ordering.places_by_text.Goals.{then-not-contains_key+in_ok-insert, else-not-contains_key}

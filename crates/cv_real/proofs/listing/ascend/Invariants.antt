@@ -1,5 +1,5 @@
 use Rattle.std.proofs.Common.{◌≡◌, ◌-◌, drop}
-use Rattle.cv_ports.specs.MemoryFolder.{ascends}
+use Rattle.cv_ports.specs.MemoryFolderInner.{ascends}
 use Rattle.cv_real.proofs.listing.ascend.Given as goal
 
 abbrev pub invariant-loop-i : goal.invariant-loop-i

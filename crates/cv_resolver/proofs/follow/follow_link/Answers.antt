@@ -3,8 +3,8 @@ use Rattle.std.specs.declared.option.Option.TheVariants.{Some}
 use Rattle.cv_base.specs.Path.{Path}
 use Rattle.cv_resolver.specs.Walk.{Name}
 use Rattle.cv_resolver.specs.Spot.{IsSpot, levels_of}
-use Rattle.cv_resolver.specs.Naming.{AreAmong}
-use Rattle.cv_resolver.specs.Target.{start_of}
+use Rattle.cv_resolver.specs.NamingInner.{AreAmong}
+use Rattle.cv_resolver.specs.TargetInner.{start_of}
 use Rattle.cv_resolver.specs.declared.spot.Spot.{Spot}
 use Rattle.cv_resolver.proofs.Following.{stops, leads_on}
 use Rattle.cv_resolver.proofs.follow.follow_link.Goals as goal

@@ -1,6 +1,6 @@
 use Rattle.std.proofs.Common.{sym, subst, ◌∙◌}
 use Rattle.cv_cut.proofs.Lemmas.{not_false, not_true}
-use Rattle.cv_resolver.specs.Enter.{IsEntered, entered_levels}
+use Rattle.cv_resolver.specs.EnterInner.{IsEntered, entered_levels}
 use Rattle.cv_resolver.specs.declared.enter.Entered.{Entered}
 use Rattle.cv_resolver.specs.Naming.{AreKnown}
 use Rattle.cv_resolver.specs.Spot.{levels_of}

@@ -1,5 +1,5 @@
 use Rattle.std.proofs.Common.{List, ◌++◌, ◌∷◌, [], sym, subst}
-use Rattle.cv_resolver.specs.Naming.{AreAmong}
+use Rattle.cv_resolver.specs.NamingInner.{AreAmong}
 use Rattle.cv_resolver.specs.Spot.{levels_of}
 use Rattle.cv_resolver.specs.declared.spot.Level.{Level}
 use Rattle.cv_resolver.proofs.Naming.{first_among}

@@ -1,7 +1,7 @@
 use Rattle.std.proofs.Common.{subst}
 use Rattle.cv_resolver.specs.Naming.{AreKnown}
 use Rattle.cv_resolver.specs.Spot.{levels_of}
-use Rattle.cv_resolver.specs.Pass.{passed_levels}
+use Rattle.cv_resolver.specs.PassInner.{passed_levels}
 use Rattle.cv_resolver.specs.declared.pass.Passed.{Passed}
 use Rattle.cv_resolver.proofs.Naming.{none_known, known_on}
 use Rattle.cv_resolver.proofs.step.step_on.Goals as goal

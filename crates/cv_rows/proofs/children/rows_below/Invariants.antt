@@ -1,5 +1,5 @@
 use Rattle.std.proofs.Common.{◌≡◌, take, filter}
-use Rattle.cv_rows.specs.Listing.{is_in}
+use Rattle.cv_rows.specs.ListingInner.{is_in}
 use Rattle.cv_rows.proofs.children.rows_below.Given as goal
 
 abbrev pub invariant-loop-row : goal.invariant-loop-row

@@ -1,5 +1,5 @@
 use Rattle.std.proofs.Common.{ℕ, ◌<◌, get_or}
-use Rattle.cv_rows.specs.NestedList.{HasNested}
+use Rattle.cv_rows.specs.NestedListInner.{HasNested}
 use Rattle.cv_rows.specs.declared.row.Row.{Row}
 use Rattle.cv_rows.proofs.nested_list.first_unlisted.Given as goal
 

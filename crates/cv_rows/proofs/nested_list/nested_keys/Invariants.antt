@@ -2,7 +2,7 @@ use Rattle.std.proofs.Common.{◌≡◌, ℕ, List, take}
 use Rattle.std.specs.Ordering.{nat_cmp}
 use Rattle.std.specs.Cmp.Lexicographic.{slice_cmp}
 use Rattle.std.specs.BTreeSet.{contains}
-use Rattle.cv_rows.specs.NestedList.{has_key}
+use Rattle.cv_rows.specs.NestedListInner.{has_key}
 use Rattle.cv_rows.proofs.nested_list.nested_keys.Given as goal
 
 abbrev pub invariant-loop-entry : goal.invariant-loop-entry

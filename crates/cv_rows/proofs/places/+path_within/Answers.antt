@@ -2,7 +2,8 @@ use Rattle.std.proofs.Common.{ℕ, ◌-◌, List, Option, sym, ap, subst, ◌∙
 use Rattle.std.specs.Prelude.{IfOk}
 use Rattle.cv_base.specs.Path.{Path}
 use Rattle.cv_rows.specs.declared.row.Row.{Row}
-use Rattle.cv_rows.specs.Parents.{step, IsPathOf, IsBelow}
+use Rattle.cv_rows.specs.Parents.{IsBelow}
+use Rattle.cv_rows.specs.ParentsInner.{step, IsPathOf}
 use Rattle.cv_rows.proofs.Walks.{root_stands, none_left, parent_inside, above_none, if_below}
 use Rattle.cv_rows.proofs.places.+path_within.Goals as goal
 

@@ -1,5 +1,5 @@
 use Rattle.std.proofs.Common.{◌≡◌, ℕ, ◌^◌, subst, arith}
-use Rattle.cv_rows.specs.Parents.{AreAbove}
+use Rattle.cv_rows.specs.ParentsInner.{AreAbove}
 use Rattle.cv_rows.proofs.Steps.{above_one, above_inside, doubling, next_power}
 use Rattle.cv_rows.proofs.places.far_above.Goals as goal
 

@@ -1,5 +1,5 @@
 use Rattle.std.proofs.Common.{◌^◌}
-use Rattle.cv_rows.specs.Parents.{AreAbove}
+use Rattle.cv_rows.specs.ParentsInner.{AreAbove}
 use Rattle.cv_rows.proofs.places.far_above.Given as goal
 
 abbrev pub invariant-loop : goal.invariant-loop

@@ -1,5 +1,5 @@
 use Rattle.std.proofs.Common.{◌≡◌, ℕ, ◌<◌, length, get_or}
-use Rattle.cv_rows.specs.Parents.{IsParentOf}
+use Rattle.cv_rows.specs.ParentsInner.{IsParentOf}
 use Rattle.cv_rows.proofs.places.parents.Given as goal
 
 abbrev pub invariant-loop-row : goal.invariant-loop-row

@@ -1,7 +1,7 @@
 use Rattle.std.proofs.Common.{◌≡◌, ℕ, List, get_or, set, None, Some, refl, arith, sym, ◌∙◌, ap, subst}
 use Rattle.std.proofs.lemmas.List.{get_or_default}
-use Rattle.cv_rows.specs.Digests.{IsDigestBelow, IsFound}
-use Rattle.cv_rows.specs.Parents.{step}
+use Rattle.cv_rows.specs.DigestsInner.{IsDigestBelow, IsFound}
+use Rattle.cv_rows.specs.ParentsInner.{step}
 use Rattle.cv_rows.specs.declared.row.Row.{Row}
 use Rattle.cv_rows.proofs.Spelled.{kept_more, kept_path, kept_below, found_below, not_found}
 use Rattle.cv_rows.proofs.Walks.{none_left, parent_inside, above_none, root_stands}

@@ -2,7 +2,7 @@ use Rattle.std.proofs.Common.{ℕ, ◌<◌, get_or}
 use Rattle.cv_base.specs.Path.{Path}
 use Rattle.cv_rows.specs.Places.{StandsAt}
 use Rattle.cv_rows.specs.Catalogue.{FitsAt}
-use Rattle.cv_rows.specs.Digests.{AreKept}
+use Rattle.cv_rows.specs.DigestsInner.{AreKept}
 use Rattle.cv_rows.specs.declared.row.Row.{Row}
 use Rattle.cv_rows.proofs.spelling.first_misplaced.Given as goal
 

@@ -1,6 +1,6 @@
 use Rattle.std.proofs.Common.{◌≡◌, length, get_or, List, Option, None, arith, ap, subst, sym, ◌∙◌}
 use Rattle.std.proofs.lemmas.List.{get_or-replicate, length-replicate}
-use Rattle.cv_rows.specs.Digests.{IsKept}
+use Rattle.cv_rows.specs.DigestsInner.{IsKept}
 use Rattle.cv_rows.specs.declared.path_digest.PathDigest.{PathDigest}
 use Rattle.cv_rows.proofs.spelling.nothing_kept.Goals as goal
 

@@ -1,6 +1,6 @@
 use Rattle.std.proofs.Common.{◌∙◌, sym, ap, subst}
 use Rattle.cv_messages.specs.LeaseAsk.{lease_ask_of}
-use Rattle.cv_session.specs.Denials.{Denies}
+use Rattle.cv_session.specs.DenialsInner.{Denies}
 use Rattle.cv_session.specs.Turns.{lease_by_ask}
 use Rattle.cv_session.specs.declared.turn.Turn.{Turn}
 use Rattle.cv_session.proofs.Asking.{asks_denied}

@@ -1,6 +1,6 @@
 use Rattle.std.proofs.Common.{◌≡◌, refl, ap, length, arith}
 use Rattle.cv_http.proofs.Lemmas.{by_fault, looks_none}
-use Rattle.cv_session.specs.Payloads.{ReadsBody}
+use Rattle.cv_session.specs.PayloadsInner.{ReadsBody}
 use Rattle.cv_session.proofs.Payloads.{came_none, came_on, came_short, came_looks}
 use Rattle.cv_session.proofs.payload.pass_over.Goals as goal
 

@@ -1,6 +1,7 @@
 use Rattle.std.proofs.Common.{◌≡◌, refl, ap, length, arith}
 use Rattle.cv_http.proofs.Lemmas.{by_fault, looks_none}
-use Rattle.cv_session.specs.Payloads.{ReadsBody, Says, payload_on}
+use Rattle.cv_session.specs.Payloads.{payload_on}
+use Rattle.cv_session.specs.PayloadsInner.{ReadsBody, Says}
 use Rattle.cv_session.proofs.Payloads.{came_none, came_on, came_short, came_looks, fed_none, Fed_}
 use Rattle.cv_session.proofs.payload.read_pack.Goals as goal
 

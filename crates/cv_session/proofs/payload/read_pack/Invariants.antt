@@ -1,6 +1,6 @@
 use Rattle.std.proofs.Common.{◌≤◌, ◌-◌}
 use Rattle.cv_http.specs.Wires.{Reads}
-use Rattle.cv_session.specs.Payloads.{Came, LooksWithin}
+use Rattle.cv_session.specs.PayloadsInner.{Came, LooksWithin}
 use Rattle.cv_session.proofs.Payloads.{Fed_}
 use Rattle.cv_session.proofs.payload.read_pack.Given as goal
 

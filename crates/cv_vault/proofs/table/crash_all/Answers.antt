@@ -1,7 +1,7 @@
 use Rattle.std.proofs.Common.{◌≡◌, ◌<◌, length, subst}
 use Rattle.std.specs.List.{All}
 use Rattle.std.proofs.lemmas.List.Elements.{All-head, All-tail}
-use Rattle.cv_vault.specs.Table.{crashed}
+use Rattle.cv_vault.specs.TableInner.{crashed}
 use Rattle.cv_vault.proofs.Crashing.{in_range}
 use Rattle.cv_vault.proofs.table.crash_all.Goals as goal
 

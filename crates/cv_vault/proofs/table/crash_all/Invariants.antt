@@ -1,6 +1,6 @@
 use Rattle.std.proofs.Common.{◌≡◌, ◌<◌, length}
 use Rattle.std.specs.List.{All}
-use Rattle.cv_vault.specs.Table.{crashed}
+use Rattle.cv_vault.specs.TableInner.{crashed}
 use Rattle.cv_vault.proofs.table.crash_all.Given as goal
 
 abbrev pub invariant-loop-number : goal.invariant-loop-number

@@ -1,8 +1,8 @@
 use Rattle.std.proofs.Common.{◌≡◌, List, get_or, set, refl, sym, subst, ◌∙◌, true, false}
 use Rattle.std.proofs.lemmas.List.{get_or_default}
-use Rattle.cv_vault.specs.Places.{is_settled_place}
-use Rattle.cv_vault.specs.Table.{any_entry}
-use Rattle.cv_vault.specs.Indexed.{AreUnsettled}
+use Rattle.cv_vault.specs.PlacesInner.{is_settled_place}
+use Rattle.cv_vault.specs.TableInner.{any_entry}
+use Rattle.cv_vault.specs.IndexedInner.{AreUnsettled}
 use Rattle.cv_vault.specs.declared.table.Entry.{Entry}
 use Rattle.cv_vault.proofs.Unsettled.{room_for, unsettled_noted, unsettled_kept}
 use Rattle.cv_vault.proofs.table.set_place.Goals as goal

@@ -1,5 +1,5 @@
 use Rattle.std.proofs.Common.{◌≡◌, drop, length}
-use Rattle.cv_vault.specs.Table.{settled_each}
+use Rattle.cv_vault.specs.TableInner.{settled_each}
 use Rattle.cv_vault.proofs.table.settle_all.Given as goal
 
 abbrev pub invariant-loop-number : goal.invariant-loop-number

@@ -1,7 +1,7 @@
 use Rattle.std.proofs.Common.{rules, refl, subst, Some}
 use Rattle.cv_gate.specs.declared.reply.Reply.TheVariants as reply
 use Rattle.cv_desk.specs.Gate.{GateView}
-use Rattle.cv_desk.specs.Acting.{TakesCourse}
+use Rattle.cv_desk.specs.ActingInner.{TakesCourse}
 use Rattle.cv_desk.specs.Begin.{Begins, over}
 use Rattle.cv_desk.specs.declared.begun.Begun.TheVariants.{Done, Ready}
 use Rattle.cv_desk.proofs.Taking.{begun_done, begun_ready}

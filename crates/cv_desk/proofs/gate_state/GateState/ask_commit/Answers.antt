@@ -1,7 +1,7 @@
 use Rattle.std.proofs.Common.{◌≡◌, None, sym, ap, refl, ◌∙◌}
 use Rattle.std.specs.declared.result.Result.TheVariants.{Err}
 use Rattle.cv_leases.specs.Leases.{lease_of}
-use Rattle.cv_desk.specs.Acting.{refusal_on}
+use Rattle.cv_desk.specs.ActingInner.{refusal_on}
 use Rattle.cv_desk.specs.Committing.{not_own, own}
 use Rattle.cv_desk.proofs.Asking.{own_lease}
 use Rattle.cv_desk.proofs.gate_state.GateState.ask_commit.Goals as goal

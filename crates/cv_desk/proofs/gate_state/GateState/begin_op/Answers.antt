@@ -1,5 +1,5 @@
 use Rattle.std.proofs.Common.{sym, subst}
-use Rattle.cv_desk.specs.Acting.{IsDone, IsReadied, ComesToCommit}
+use Rattle.cv_desk.specs.ActingInner.{IsDone, IsReadied, ComesToCommit}
 use Rattle.cv_gate.specs.declared.op.Op.TheVariants as ops
 use Rattle.cv_desk.proofs.gate_state.GateState.begin_op.Goals as goal
 

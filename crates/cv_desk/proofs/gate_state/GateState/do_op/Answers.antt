@@ -2,7 +2,7 @@ use Rattle.std.proofs.Common.{rules, ◌≡◌, ◌≤◌, ◌+◌, sym, ap, sub
 use Rattle.cv_swap.specs.Line.{LineView}
 use Rattle.cv_gate.specs.declared.act.Act.TheVariants as acts
 use Rattle.cv_gate.specs.declared.op.Op.TheVariants as ops
-use Rattle.cv_desk.specs.Acting.{IsDone}
+use Rattle.cv_desk.specs.ActingInner.{IsDone}
 use Rattle.cv_desk.proofs.Answering.{failed_by}
 use Rattle.cv_desk.proofs.Taking.{store_done, replied_done}
 use Rattle.cv_desk.proofs.gate_state.GateState.do_op.Goals as goal

@@ -1,5 +1,5 @@
 use Rattle.std.proofs.Common.{rules, ◌≡◌, subst, Ok}
-use Rattle.cv_desk.specs.Acting.{Settles}
+use Rattle.cv_desk.specs.ActingInner.{Settles}
 use Rattle.cv_desk.proofs.CommitCalls.{on_ok}
 use Rattle.cv_desk.proofs.Taking.{takes_course, takes_waiting}
 use Rattle.cv_desk.proofs.gate_state.GateState.take.Goals as goal

@@ -3,7 +3,7 @@ use Rattle.httparse.specs.Grammar.{HasNoResponse, MayBecomeResponse, NeverHasRes
 use Rattle.std.proofs.lemmas.Result.{IfOk-weaker}
 use Rattle.cv_http.specs.Forms.{never}
 use Rattle.cv_http.specs.ReplyHeads.{reply_form}
-use Rattle.cv_http.specs.Judgements.{Judges}
+use Rattle.cv_http.specs.JudgementsInner.{Judges}
 use Rattle.cv_http.proofs.Room.{reply_fits}
 use Rattle.cv_http.proofs.Windows.{all_seen, judged_whole}
 use Rattle.cv_http.proofs.judge_reply.ReplyHeadHead.parse.Goals as goal

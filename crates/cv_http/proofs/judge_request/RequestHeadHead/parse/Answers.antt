@@ -3,7 +3,7 @@ use Rattle.httparse.specs.Grammar.{HasNoRequest, MayBecomeRequest, NeverHasReque
 use Rattle.std.proofs.lemmas.Result.{IfOk-weaker}
 use Rattle.cv_http.specs.Forms.{never}
 use Rattle.cv_http.specs.Heads.{HeadParts, fault_of, read_parts, request_form}
-use Rattle.cv_http.specs.Judgements.{JudgesWhole, Judges}
+use Rattle.cv_http.specs.JudgementsInner.{JudgesWhole, Judges}
 use Rattle.cv_http.proofs.Room.{request_fits}
 use Rattle.cv_http.proofs.Windows.{all_seen, judged_whole}
 use Rattle.cv_http.proofs.judge_request.RequestHeadHead.parse.Goals as goal

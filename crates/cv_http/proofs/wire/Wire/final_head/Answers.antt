@@ -1,5 +1,6 @@
 use Rattle.std.proofs.Common.{◌≡◌, ℕ, refl, subst, arith}
-use Rattle.cv_http.specs.ReplyTexts.{Passes, no_more, many, FinalRead}
+use Rattle.cv_http.specs.ReplyTexts.{Passes, no_more, many}
+use Rattle.cv_http.specs.ReplyTextsInner.{FinalRead}
 use Rattle.cv_http.specs.Wires.{Draws}
 use Rattle.cv_http.proofs.Replying.{one_passed, final_found, final_lost, final_none, interim_looks}
 use Rattle.cv_http.proofs.Streams.{draws_none, draws_as, draws_then, looks_none, by_fault}

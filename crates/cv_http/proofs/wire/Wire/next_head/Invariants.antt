@@ -1,7 +1,8 @@
 use Rattle.std.proofs.Common.{◌≤◌, length, ◌-◌}
-use Rattle.cv_http.specs.Wires.{Gets, Looks, Beside}
+use Rattle.cv_http.specs.Wires.{Looks, Beside}
+use Rattle.cv_http.specs.WiresInner.{Gets}
 use Rattle.cv_http.specs.Forms.{AwaitedAs}
-use Rattle.cv_http.specs.HeadEnds.{NoneWithin}
+use Rattle.cv_http.specs.HeadEndsInner.{NoneWithin}
 use Rattle.cv_http.proofs.wire.Wire.next_head.Given as goal
 
 abbrev pub invariant-pieces : goal.invariant-pieces

@@ -1,6 +1,7 @@
 use Rattle.std.proofs.Common.{◌≡◌, ◌∙◌, IfSome, Contains, Some, is_some, sym, ap, subst}
 use Rattle.cv_leases.specs.Leases.{lease_of}
-use Rattle.cv_leases.specs.Queue.{ids_of, leases_in, lease_at}
+use Rattle.cv_leases.specs.Queue.{ids_of, leases_in}
+use Rattle.cv_leases.specs.QueueInner.{lease_at}
 use Rattle.cv_leases.proofs.Ending.{none_leaves}
 use Rattle.cv_leases.proofs.Queues.{ended}
 use Rattle.cv_leases.proofs.linked.Linked.end.Goals as goal

@@ -1,7 +1,8 @@
 use Rattle.std.proofs.Common.{IfSome, Contains, None, sym, ap, subst, ◌≡◌, ◌∙◌}
 use Rattle.std.specs.ControlFlow.{continue_value}
 use Rattle.cv_links.specs.Arena.{value_at}
-use Rattle.cv_leases.specs.Names.{is_leased, above_of, IsNames, IsPruned, IsPrunedTo}
+use Rattle.cv_leases.specs.Names.{is_leased, above_of, IsNames, IsPruned}
+use Rattle.cv_leases.specs.NamesInner.{IsPrunedTo}
 use Rattle.cv_leases.proofs.Climbing.{is_root}
 use Rattle.cv_leases.proofs.Needed.{needed_here, needed_some, needed_root}
 use Rattle.cv_leases.proofs.Trees.{below_is}

@@ -1,6 +1,7 @@
 use Rattle.std.proofs.Common.{◌≡◌, ◌∙◌, drop, sym, subst}
 use Rattle.cv_links.specs.Arena.{value_at}
-use Rattle.cv_leases.specs.Names.{meets, below_of}
+use Rattle.cv_leases.specs.Names.{below_of}
+use Rattle.cv_leases.specs.NamesInner.{meets}
 use Rattle.cv_leases.proofs.Reaching.{meets_none}
 use Rattle.cv_leases.proofs.names.Names.meets.Goals as goal
 

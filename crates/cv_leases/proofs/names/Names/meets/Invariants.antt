@@ -1,6 +1,7 @@
 use Rattle.std.proofs.Common.{◌≡◌, IfSome, drop}
 use Rattle.cv_links.specs.Arena.{value_at, IsLive}
-use Rattle.cv_leases.specs.Names.{meets, below_of}
+use Rattle.cv_leases.specs.Names.{below_of}
+use Rattle.cv_leases.specs.NamesInner.{meets}
 use Rattle.cv_leases.proofs.names.Names.meets.Given as goal
 
 abbrev pub invariant-loop-name : goal.invariant-loop-name

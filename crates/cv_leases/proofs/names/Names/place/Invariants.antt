@@ -1,6 +1,7 @@
 use Rattle.std.proofs.Common.{◌≡◌, Some, take}
 use Rattle.cv_links.specs.Arena.{IsLive}
-use Rattle.cv_leases.specs.Names.{place_of, IsNames, IsPrunedBut, IsWithin, SameLeased}
+use Rattle.cv_leases.specs.Names.{place_of, IsNames, IsWithin}
+use Rattle.cv_leases.specs.NamesInner.{IsPrunedBut, SameLeased}
 use Rattle.cv_leases.proofs.names.Names.place.Given as goal
 
 abbrev pub invariant-loop-name : goal.invariant-loop-name

@@ -1,5 +1,6 @@
 use Rattle.std.proofs.Common.{IfSome, subst, arith}
-use Rattle.cv_leases.specs.Names.{IsPrunedTo, IsWithin}
+use Rattle.cv_leases.specs.Names.{IsWithin}
+use Rattle.cv_leases.specs.NamesInner.{IsPrunedTo}
 use Rattle.cv_leases.proofs.Needed.{pruned_last, near_next}
 use Rattle.cv_leases.proofs.Places.{leased_on}
 use Rattle.cv_leases.proofs.names.Names.prune.Goals as goal

@@ -1,6 +1,7 @@
 use Rattle.std.proofs.Common.{◌≤◌, ◌+◌, IfSome}
 use Rattle.cv_links.specs.Arena.{IsLive}
-use Rattle.cv_leases.specs.Names.{IsNames, IsPrunedTo, IsWithin, SameLeased}
+use Rattle.cv_leases.specs.Names.{IsNames, IsWithin}
+use Rattle.cv_leases.specs.NamesInner.{IsPrunedTo, SameLeased}
 use Rattle.cv_leases.proofs.names.Names.prune.Given as goal
 
 abbrev pub invariant-loop-left : goal.invariant-loop-left

@@ -4,7 +4,8 @@ use Rattle.cv_base.specs.Path.{overlap}
 use Rattle.cv_links.specs.Arena.{value_at}
 use Rattle.cv_links.specs.Chains.{rest_of}
 use Rattle.cv_leases.specs.Leases.{busy}
-use Rattle.cv_leases.specs.Queue.{leases_by, leases_in, ids_of, lease_at}
+use Rattle.cv_leases.specs.Queue.{leases_by, leases_in, ids_of}
+use Rattle.cv_leases.specs.QueueInner.{lease_at}
 use Rattle.cv_leases.proofs.queue.Queue.last_overlapping.Given as goal
 
 abbrev pub invariant-loop-at : goal.invariant-loop-at

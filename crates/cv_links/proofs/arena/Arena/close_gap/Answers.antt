@@ -1,5 +1,5 @@
 use Rattle.std.proofs.Common.{◌∷◌, None, Some, option_map, ap, ◌∙◌}
-use Rattle.cv_links.specs.Links.{with_before, with_after}
+use Rattle.cv_links.specs.LinksInner.{with_before, with_after}
 use Rattle.cv_links.specs.Arena.{link_at}
 use Rattle.cv_links.proofs.Segments.{runs_cut, runs_cat, apart_left, apart_right, apart_between, sides, here, later}
 use Rattle.cv_links.proofs.arena.Arena.close_gap.Goals as goal

@@ -1,5 +1,5 @@
 use Rattle.std.proofs.Common.{◌∷◌, Contains, None, Some, option_map, ap, sym, ◌∙◌}
-use Rattle.cv_links.specs.Links.{with_before, with_after}
+use Rattle.cv_links.specs.LinksInner.{with_before, with_after}
 use Rattle.cv_links.specs.Arena.{link_at}
 use Rattle.cv_links.specs.Chains.{last_or, head_or}
 use Rattle.cv_links.proofs.Segments.{runs_cut, runs_cat, runs_held, apart_left, apart_right, apart_between, sides, last_within, head_within}

@@ -1,6 +1,6 @@
 use Rattle.std.proofs.Common.{List, ap, ◌∙◌, sym}
 use Rattle.cv_base.specs.declared.object.Object.{Object}
-use Rattle.cv_overlay.specs.Found.{has_hash}
+use Rattle.cv_overlay.specs.FoundInner.{has_hash}
 use Rattle.cv_overlay.proofs.Kept.{known_more}
 use Rattle.cv_overlay.proofs.contents.Contents.with.Goals as goal
 

@@ -1,6 +1,6 @@
 use Rattle.std.proofs.Common.{length, ap, ◌∙◌, arith}
 use Rattle.sha1.specs.Sha1.{sha1}
-use Rattle.cv_overlay.specs.Found.{FoundView}
+use Rattle.cv_overlay.specs.FoundInner.{FoundView}
 use Rattle.cv_overlay.proofs.Objects.{file_added}
 use Rattle.cv_overlay.proofs.found.Found.with_file.Goals as goal
 

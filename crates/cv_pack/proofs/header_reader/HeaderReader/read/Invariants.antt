@@ -1,6 +1,6 @@
 use Rattle.std.proofs.Common.{◌≡◌, ◌+◌, ◌-◌, ◌≤◌, length, take, Ok}
 use Rattle.cv_pack.specs.declared.field.Field.TheVariants as fields
-use Rattle.cv_pack.specs.HeaderState.{Takes}
+use Rattle.cv_pack.specs.HeaderStateInner.{Takes}
 use Rattle.cv_pack.proofs.header_reader.HeaderReader.read.Given as goal
 
 abbrev pub invariant-loop-used : goal.invariant-loop-used

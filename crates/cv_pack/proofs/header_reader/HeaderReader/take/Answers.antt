@@ -1,7 +1,7 @@
 use Rattle.std.proofs.Common.{arith, ◌∙◌}
 use Rattle.std.proofs.lemmas.Result.{err_from_is_err_and}
 use Rattle.cv_pack.proofs.Steps.{past_limit, after_newline, after_other}
-use Rattle.cv_pack.specs.HeaderReader.{begun_of}
+use Rattle.cv_pack.specs.HeaderReaderInner.{begun_of}
 use Rattle.cv_pack.specs.HeaderState.{progress}
 use Rattle.cv_pack.proofs.header_reader.HeaderReader.take.Goals as goal
 

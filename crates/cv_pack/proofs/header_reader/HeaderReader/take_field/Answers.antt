@@ -2,8 +2,8 @@ use Rattle.std.proofs.Common.{◌≡◌, if◌then◌else◌, ◌==◌, Ok, Err,
 use Rattle.cv_pack.specs.declared.field.Field.{Field}
 use Rattle.cv_pack.specs.declared.field.Field.TheVariants as fields
 use Rattle.cv_pack.specs.declared.pack_fault.PackFault.TheVariants.{BadHeader}
-use Rattle.cv_pack.specs.Fields.{mark_byte, after_mark}
-use Rattle.cv_pack.specs.HeaderState.{Leads}
+use Rattle.cv_pack.specs.FieldsInner.{mark_byte, after_mark}
+use Rattle.cv_pack.specs.HeaderStateInner.{Leads}
 use Rattle.cv_pack.proofs.Steps.{mark_leads}
 use Rattle.cv_pack.proofs.header_reader.HeaderReader.take_field.Goals as goal
 

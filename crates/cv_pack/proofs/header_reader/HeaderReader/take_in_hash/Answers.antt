@@ -1,6 +1,6 @@
 use Rattle.std.proofs.Common.{◌≡◌, true, arith, rules}
 use Rattle.cv_pack.specs.HeaderState.{after_line, progress}
-use Rattle.cv_pack.specs.HeaderReader.{begun_of}
+use Rattle.cv_pack.specs.HeaderReaderInner.{begun_of}
 use Rattle.cv_pack.specs.Reading.{is_hash_digit}
 use Rattle.cv_pack.proofs.Steps.{hash_more, leads_end}
 use Rattle.cv_pack.proofs.header_reader.HeaderReader.take_in_hash.Goals as goal

@@ -3,7 +3,8 @@ use Rattle.std.proofs.lemmas.List.{append-nil}
 use Rattle.std.proofs.lemmas.Result.{err_from_is_err_and}
 use Rattle.cv_pack.specs.declared.entry.Entry.{Entry}
 use Rattle.cv_pack.specs.declared.field.Field.TheVariants as fields
-use Rattle.cv_pack.specs.ContentsState.{IsOpen, Reads}
+use Rattle.cv_pack.specs.ContentsState.{IsOpen}
+use Rattle.cv_pack.specs.ContentsStateInner.{Reads}
 use Rattle.cv_pack.specs.HeaderState.{Faults}
 use Rattle.cv_pack.specs.Reading.{reading}
 use Rattle.cv_pack.proofs.Numbers.{ok_is}

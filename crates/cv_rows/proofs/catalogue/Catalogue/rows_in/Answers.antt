@@ -2,7 +2,8 @@ use Rattle.std.proofs.Common.{◌≡◌, List, Result, Ok, Err, refl, ap, ◌∙
 use Rattle.std.specs.Prelude.{IfOk}
 use Rattle.cv_base.specs.Path.{Path, key_of}
 use Rattle.cv_rows.specs.Catalogue.{Contents, IsCatalogue}
-use Rattle.cv_rows.specs.Listing.{IsListing, is_in}
+use Rattle.cv_rows.specs.Listing.{IsListing}
+use Rattle.cv_rows.specs.ListingInner.{is_in}
 use Rattle.cv_rows.specs.Places.{StandsAt}
 use Rattle.cv_rows.specs.declared.row.Row.{Row}
 use Rattle.cv_rows.proofs.Listing.{listing, empty_listing}

@@ -1,6 +1,7 @@
 use Rattle.std.proofs.Common.{List, ◌++◌, Err, sym, ap, subst, ◌∙◌}
 use Rattle.cv_rows.specs.Catalogue.{Contents}
-use Rattle.cv_rows.specs.Made.{AreApart, AreParts, Judges, keys_of, texts_of}
+use Rattle.cv_rows.specs.Made.{AreApart, AreParts, keys_of, texts_of}
+use Rattle.cv_rows.specs.MadeInner.{Judges}
 use Rattle.cv_rows.specs.declared.row.Row.{Row}
 use Rattle.cv_rows.specs.declared.nested.Nested.{Nested}
 use Rattle.cv_rows.proofs.Regions.{full_is, catalogue_made}

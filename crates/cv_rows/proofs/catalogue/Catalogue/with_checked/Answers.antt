@@ -3,7 +3,8 @@ use Rattle.std.proofs.Common.{List, ◌++◌, Result, Ok, Err, sym, ap, subst, �
 use Rattle.cv_rows.specs.Row.{IsRow}
 use Rattle.cv_rows.specs.Nested.{IsNested}
 use Rattle.cv_rows.specs.Catalogue.{Contents, IsRegion}
-use Rattle.cv_rows.specs.Made.{AreApart, Judges, PassesLimit, keys_of, texts_of}
+use Rattle.cv_rows.specs.Made.{AreApart, PassesLimit, keys_of, texts_of}
+use Rattle.cv_rows.specs.MadeInner.{Judges}
 use Rattle.cv_rows.specs.declared.row.Row.{Row}
 use Rattle.cv_rows.specs.declared.nested.Nested.{Nested}
 use Rattle.cv_rows.specs.declared.with_fault.WithFault.{WithFault}

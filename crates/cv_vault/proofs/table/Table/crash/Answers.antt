@@ -1,7 +1,7 @@
 use Rattle.std.proofs.Common.{refl, ap, ◌∙◌}
 use Rattle.std.proofs.lemmas.List.{with_items_is}
 use Rattle.std.specs.Vec.{with_items}
-use Rattle.cv_vault.specs.Table.{crashed}
+use Rattle.cv_vault.specs.TableInner.{crashed}
 use Rattle.cv_vault.specs.declared.table.Table.TheInside.{Inside}
 use Rattle.cv_vault.proofs.Ordered.{numbers_in_range}
 use Rattle.cv_vault.proofs.Crashing.{IsCrashed, past_crashed, table_crashed, calm_after, count_after, crashes}

@@ -4,8 +4,8 @@ use Rattle.std.specs.BTreeMap.{get_by_text}
 use Rattle.std.specs.declared.option.Option.{Option}
 use Rattle.std.specs.declared.option.Option.TheVariants.{None, Some}
 use Rattle.cv_vault.specs.Names.{Name}
-use Rattle.cv_vault.specs.Table.{names_in, IsEntryOf}
-use Rattle.cv_vault.specs.Indexed.{rows_of, IsIndexed}
+use Rattle.cv_vault.specs.TableInner.{names_in, IsEntryOf}
+use Rattle.cv_vault.specs.IndexedInner.{rows_of, IsIndexed}
 use Rattle.cv_vault.specs.declared.table.Table.TheInside.{Inside}
 use Rattle.cv_vault.proofs.Reading.{names_at, numbers_lack}
 use Rattle.cv_vault.proofs.table.Table.find.Goals as goal

@@ -6,7 +6,8 @@ use Rattle.std.specs.declared.option.Option.TheVariants.{Some}
 use Rattle.std.proofs.lemmas.Map.Text.{btree_map_updates_text}
 use Rattle.std.proofs.lemmas.List.{append-nil}
 use Rattle.cv_vault.specs.Names.{Name}
-use Rattle.cv_vault.specs.Table.{Rows, Lacks, names_in}
+use Rattle.cv_vault.specs.Table.{Rows}
+use Rattle.cv_vault.specs.TableInner.{Lacks, names_in}
 use Rattle.cv_vault.specs.declared.table.Table.TheInside.{Inside}
 use Rattle.cv_vault.proofs.Growing.{table_grown, stays_grown}
 use Rattle.cv_vault.proofs.Changing.{Pushes, new_entry, table_pushed, stays_pushed}

@@ -8,8 +8,9 @@ use Rattle.std.proofs.lemmas.List.Elements.{All-head}
 use Rattle.std.proofs.lemmas.Str.Pattern.{starts_text}
 use Rattle.cv_vault.specs.Disk.{IsListing}
 use Rattle.cv_vault.specs.Names.{Name}
-use Rattle.cv_vault.specs.Table.{Rows, is_listed, table_disk, IsEntryOf}
-use Rattle.cv_vault.specs.Indexed.{rows_of}
+use Rattle.cv_vault.specs.Table.{Rows}
+use Rattle.cv_vault.specs.TableInner.{is_listed, table_disk, IsEntryOf}
+use Rattle.cv_vault.specs.IndexedInner.{rows_of}
 use Rattle.cv_vault.proofs.Ordered.{names_of}
 use Rattle.cv_vault.proofs.Listing.{AreLeft, left_first, all_left, left_next, left_past, listed_by, listing, complete, kept_step, skipped_step}
 use Rattle.cv_vault.proofs.table.Table.list.Goals as goal

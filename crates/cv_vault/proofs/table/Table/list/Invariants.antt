@@ -2,7 +2,7 @@ use Rattle.std.proofs.Common.{◌++◌}
 use Rattle.std.specs.List.{filter}
 use Rattle.std.specs.String.{string_bytes}
 use Rattle.cv_vault.specs.Disk.{IsListing}
-use Rattle.cv_vault.specs.Table.{is_listed, table_disk}
+use Rattle.cv_vault.specs.TableInner.{is_listed, table_disk}
 use Rattle.cv_vault.proofs.Ordered.{names_of}
 use Rattle.cv_vault.proofs.Listing.{AreLeft}
 use Rattle.cv_vault.proofs.table.Table.list.Given as goal

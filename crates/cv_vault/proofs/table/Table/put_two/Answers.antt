@@ -1,6 +1,6 @@
 use Rattle.std.proofs.Common.{◌≡◌, get_or, set, get_or-set_other, length-set, List, refl, sym, ap, ◌∙◌}
 use Rattle.cv_vault.specs.declared.table.Table.TheInside.{Inside}
-use Rattle.cv_vault.specs.Table.{any_entry}
+use Rattle.cv_vault.specs.TableInner.{any_entry}
 use Rattle.cv_vault.specs.declared.table.Entry.{Entry}
 use Rattle.cv_vault.proofs.Changing.{PutsBoth, table_recorded, adds_recorded, records_both, files_both}
 use Rattle.cv_vault.proofs.table.Table.put_two.Goals as goal

@@ -2,7 +2,7 @@ use Rattle.std.proofs.Common.{refl, sym, ap, subst, ◌∙◌}
 use Rattle.std.specs.Prelude.{IsSome}
 use Rattle.cv_vault.specs.Disk.{Slot}
 use Rattle.cv_vault.specs.Events.{Event}
-use Rattle.cv_vault.specs.Table.{entry_at, Makes}
+use Rattle.cv_vault.specs.TableInner.{entry_at, Makes}
 use Rattle.cv_vault.proofs.Reading.{slot_missing}
 use Rattle.cv_vault.proofs.Steps.{slot_at, present, missing, moved_torn, removal_is}
 use Rattle.cv_vault.proofs.table.Table.remove.Goals as goal

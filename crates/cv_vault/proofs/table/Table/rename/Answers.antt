@@ -2,7 +2,7 @@ use Rattle.std.proofs.Common.{refl, sym, ap, subst, ◌∙◌}
 use Rattle.std.specs.Prelude.{IsSome}
 use Rattle.cv_vault.specs.Disk.{Disk, Slot}
 use Rattle.cv_vault.specs.Events.{Event, rename_of}
-use Rattle.cv_vault.specs.Table.{entry_at, Makes, table_disk}
+use Rattle.cv_vault.specs.TableInner.{entry_at, Makes, table_disk}
 use Rattle.cv_vault.proofs.Reading.{slot_missing}
 use Rattle.cv_vault.proofs.Steps.{slot_at, present, missing, moved_torn, makes_after, rename_is}
 use Rattle.cv_vault.proofs.table.Table.rename.Goals as goal

@@ -1,7 +1,7 @@
 use Rattle.std.proofs.Common.{refl, ap, ◌∙◌}
 use Rattle.std.proofs.lemmas.List.{with_items_is}
 use Rattle.std.specs.Vec.{with_items}
-use Rattle.cv_vault.specs.Table.{settled_each}
+use Rattle.cv_vault.specs.TableInner.{settled_each}
 use Rattle.cv_vault.specs.declared.table.Table.TheInside.{Inside}
 use Rattle.cv_vault.proofs.Changing.{table_recorded, adds_recorded}
 use Rattle.cv_vault.proofs.Settling.{SettlesAll, each_is_all, records_settled, any_unsettled-settled, file_count-settled}

@@ -2,7 +2,7 @@ use Rattle.std.proofs.Common.{◌≡◌, Bool, true, false, not, refl, sym, ◌�
 use Rattle.cv_vault.specs.Table.{Rows, entries_of}
 use Rattle.cv_vault.specs.Events.{any_unsettled}
 use Rattle.std.specs.List.{list_all}
-use Rattle.cv_vault.specs.Places.{is_settled_place}
+use Rattle.cv_vault.specs.PlacesInner.{is_settled_place}
 use Rattle.cv_vault.specs.declared.table.Entry.{Entry}
 use Rattle.cv_vault.proofs.Settling.{calm_is, calm_disk}
 use Rattle.cv_vault.proofs.table.Table.sync.Goals as goal

@@ -1,7 +1,7 @@
 use Rattle.std.proofs.Common.{ap, subst, ◌∙◌}
 use Rattle.cv_vault.specs.Disk.{Disk}
 use Rattle.cv_vault.specs.Events.{Event, write_of}
-use Rattle.cv_vault.specs.Table.{Makes, table_disk}
+use Rattle.cv_vault.specs.TableInner.{Makes, table_disk}
 use Rattle.cv_vault.proofs.Changing.{stays_then}
 use Rattle.cv_vault.proofs.Steps.{makes_after, write_is}
 use Rattle.cv_vault.proofs.table.Table.write.Goals as goal

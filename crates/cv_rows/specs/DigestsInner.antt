@@ -2,7 +2,7 @@
 use Rattle.std.specs.Prelude.{◌≡◌, ◌<◌, ℕ, Bool, true, false, List, [], ◌∷◌, ◌++◌, length, Option, Some, None, slice_index_or}
 use Rattle.md5.specs.Md5.{Holds}
 use Rattle.cv_base.specs.Path.{Path, IsPath, text_of}
-use Rattle.cv_rows.specs.Parents.{IsPathOf}
+use Rattle.cv_rows.specs.ParentsInner.{IsPathOf}
 use Rattle.cv_rows.specs.declared.row.Row.{Row}
 use Rattle.cv_rows.specs.declared.path_digest.PathDigest.{PathDigest}
 

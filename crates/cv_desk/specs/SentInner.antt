@@ -4,7 +4,8 @@ use Rattle.std.specs.declared.result.Result.{Result}
 use Rattle.std.specs.declared.result.Result.TheVariants.{Ok, Err}
 use Rattle.cv_base.specs.declared.id.ObjectId.{ObjectId}
 use Rattle.cv_objects.specs.declared.store_fault.StoreFault.{StoreFault}
-use Rattle.cv_desk.specs.Sending.{outcome_of, is_refusal}
+use Rattle.cv_desk.specs.Sending.{outcome_of}
+use Rattle.cv_desk.specs.SendingInner.{is_refusal}
 use Rattle.cv_desk.specs.declared.outcome.Outcome.TheVariants as outcome
 use Rattle.cv_desk.specs.declared.sent.Sent.{Sent}
 

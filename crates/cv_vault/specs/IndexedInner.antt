@@ -6,8 +6,9 @@ use Rattle.std.specs.String.{string_cmp}
 use Rattle.std.specs.declared.option.Option.{Option}
 use Rattle.std.specs.declared.option.Option.TheVariants.{Some}
 use Rattle.cv_vault.specs.Names.{Name}
-use Rattle.cv_vault.specs.Places.{is_settled_place}
-use Rattle.cv_vault.specs.Table.{Rows, any_entry, names_in, IsTable}
+use Rattle.cv_vault.specs.PlacesInner.{is_settled_place}
+use Rattle.cv_vault.specs.Table.{Rows}
+use Rattle.cv_vault.specs.TableInner.{any_entry, names_in, IsTable}
 use Rattle.cv_vault.specs.declared.table.Entry.{Entry}
 use Rattle.cv_vault.specs.declared.table.Table.TheInside.{Inside}
 

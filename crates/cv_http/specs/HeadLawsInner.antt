@@ -5,8 +5,8 @@ use Rattle.httparse.specs.Grammar.{LineEnd, crlf, lf, print_end, Field, print_fi
 use Rattle.std.specs.Prelude.{Bool, true, false, Option, Some, None, IfSome, if◌then◌else◌, nat_lt, length}
 use Rattle.std.specs.Option.{option_or}
 use Rattle.cv_http.specs.FieldFaults.{is_length_wrong, field_limit, is_coded, fields_fault}
-use Rattle.cv_http.specs.Faults.{IsRefusal}
-use Rattle.cv_http.specs.Forms.{EndsEmpty}
+use Rattle.cv_http.specs.FaultsInner.{IsRefusal}
+use Rattle.cv_http.specs.FormsInner.{EndsEmpty}
 use Rattle.cv_http.specs.Heads.{parts_of, is_host_wrong, is_length_lacking, fault_of_head}
 use Rattle.cv_http.specs.ReplyHeads.{fields_of, fault_of_reply}
 use Rattle.cv_http.specs.declared.fault.HttpFault.{HttpFault}
