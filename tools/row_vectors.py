@@ -131,7 +131,14 @@ def by_hand():
     for path, found in ("/", "'', 1 below"), ("/d", "'d', 2 below"), ("/e", "none, 0 below"):
         yield f"row {path} {PLAIN.hex()}", found
     yield f"nested {OUTER.hex()}", f"/d {hashlib.sha1(INNER).hexdigest()} {len(INNER)};"
+    for data in CROSSED, EMPTY:
+        yield f"of {data.hex()}", data.hex()
+    # a row that is there collides, and changes nothing
+    yield f"with {ONE.hex()}", f"collision {key('/a').hex()} {ONE.hex()}"
+    yield f"twice {ONE.hex()}", f"collision {key('/a').hex()}"
     yield f"without /a {CROSSED.hex()}", PRUNED.hex()
+    yield f"back /a {CROSSED.hex()}", CROSSED.hex()
+    yield f"back /d {PLAIN.hex()}", PLAIN.hex()
 
 
 # ---- rows at random
@@ -161,6 +168,7 @@ def questions(kinds):
     whole = written(rows, nested)
     by_key = sorted(kinds, key=key)
     yield f"read / {whole}", whole
+    yield f"of {whole}", whole
     yield f"places {whole}", "".join(path + " " for path in by_key)
     directory = random.choice([path for path, kind in kinds.items() if kind == "dir"])
     inside = [path.rpartition("/")[2] for path in by_key if path and path.rpartition("/")[0] == directory]
@@ -170,10 +178,11 @@ def questions(kinds):
         rest = [path for path in kinds if path != gone and not path.startswith(gone + "/")]
         left = written({path: rows[path] for path in rest}, {path: nested[path] for path in rest if path in nested})
         yield f"without {gone} {whole}", left
+        yield f"back {gone} {whole}", whole
 
 
 def at_random():
-    """Catalogues of which no two have the same paths, with four questions each."""
+    """Catalogues of which no two have the same paths, with six questions each."""
     random.seed(77)
     seen = []
     while len(seen) < COUNT:

@@ -1,4 +1,4 @@
-pub mod AttrInner
+pub mod Attr
 pub mod Counts
 pub mod Digest
 pub mod KeyId

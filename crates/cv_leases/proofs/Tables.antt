@@ -11,7 +11,8 @@ use Rattle.cv_base.specs.Marker.{marker, ends_in}
 use Rattle.cv_base.specs.declared.token.Token.{Token}
 use Rattle.cv_leases.specs.declared.lease.Lease.{Lease}
 use Rattle.cv_leases.specs.declared.lease_fault.LeaseFault.TheVariants.{BadPath, TooManyLeases}
-use Rattle.cv_leases.specs.Leases.{lease_limit, same_token, lease_of, busy, refusal_beside, refusal, IsTable}
+use Rattle.cv_leases.specs.declared.limits.TheConstants.{LEASE_LIMIT}
+use Rattle.cv_leases.specs.Leases.{same_token, lease_of, busy, refusal_beside, refusal, IsTable}
 
 -- tokens that compare equal are
 pub same_token_is : (a b : Token) → same_token a b ≡ true → a ≡ b
@@ -58,7 +59,7 @@ table_filter test leases h = record {
 pub record HasRoom (leases : List Lease) (path : Path) : Type 0 where
   pub unmarked : ends_in marker path ≡ false
   pub clear : busy leases path ≡ None
-  pub few : length leases < lease_limit
+  pub few : length leases < LEASE_LIMIT
 
 pub not_refused : (leases : List Lease) (path : Path) → refusal leases path ≡ None → HasRoom leases path
 not_refused leases path h =
@@ -66,7 +67,7 @@ not_refused leases path h =
       | true ↦ λ m none. cc
       | false ↦ λ m none. elim (busy leases path) as (λ b. busy leases path ≡ b → refusal_beside b leases ≡ None → HasRoom leases path) [
         | Some lease ↦ λ b none2. cc
-        | None ↦ λ b none2. elim (nat_le lease_limit (length leases)) as (λ many. nat_le lease_limit (length leases) ≡ many → cond many (Some TooManyLeases) None ≡ None → HasRoom leases path) [
+        | None ↦ λ b none2. elim (nat_le LEASE_LIMIT (length leases)) as (λ many. nat_le LEASE_LIMIT (length leases) ≡ many → cond many (Some TooManyLeases) None ≡ None → HasRoom leases path) [
           | true ↦ λ many none3. cc
           | false ↦ λ many none3. record { unmarked = m; clear = b; few = search rules }
         ] refl none2
@@ -104,7 +105,7 @@ length_push [] x = refl
 length_push (y ∷ ys) x = let rest = length_push ys x in omega (arith, rest)
 
 -- where a lease comes to it that isn't refused
-pub table_push : (leases : List Lease) (lease : Lease) → IsTable leases → ends_in marker lease.path ≡ false → busy leases lease.path ≡ None → length leases < lease_limit → lease_of lease.token leases ≡ None → AllByRecursion (λ other. other.deadline ≤ lease.deadline) leases → IsTable (leases ++ lease ∷ [])
+pub table_push : (leases : List Lease) (lease : Lease) → IsTable leases → ends_in marker lease.path ≡ false → busy leases lease.path ≡ None → length leases < LEASE_LIMIT → lease_of lease.token leases ≡ None → AllByRecursion (λ other. other.deadline ≤ lease.deadline) leases → IsTable (leases ++ lease ∷ [])
 table_push leases lease h unmarked free room new last = record {
   apart = all_pairs_push (λ (a b : Lease). overlap a.path b.path ≡ false) leases lease h.apart (All-from_recursion (λ l. overlap l.path lease.path ≡ false) leases (none_overlaps leases lease.path free));
   tokens = all_pairs_push (λ (a b : Lease). same_token a.token b.token ≡ false) leases lease h.tokens (All-from_recursion (λ l. same_token l.token lease.token ≡ false) leases (none_has leases lease.token new));

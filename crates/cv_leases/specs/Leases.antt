@@ -4,13 +4,10 @@ use Rattle.std.specs.List.{filter, find, last_or, AllByRecursion}
 use Rattle.cv_base.specs.Path.{Path, overlap}
 use Rattle.cv_base.specs.Marker.{marker, ends_in}
 use Rattle.cv_base.specs.declared.token.Token.{Token}
+use Rattle.cv_leases.specs.declared.limits.TheConstants.{LEASE_LIMIT}
 use Rattle.cv_leases.specs.declared.lease.Lease.{Lease}
 use Rattle.cv_leases.specs.declared.lease_fault.LeaseFault.{LeaseFault}
 use Rattle.cv_leases.specs.declared.lease_fault.LeaseFault.TheVariants.{BadPath, PathBusy, TooManyLeases}
-
--- the most leases at one time
-abbrev pub lease_limit : ℕ
-lease_limit = 4096
 
 abbrev pub same_token : Token → Token → Bool
 same_token a b = (a.epoch == b.epoch) && (a.number == b.number)
@@ -34,7 +31,7 @@ busy leases path = last_or None (filter (λ lease. overlap lease.path path) leas
 -- why a lease isn't granted where this one is in its way, or none is and these are live, if it isn't
 abbrev pub refusal_beside : Option Lease → List Lease → Option LeaseFault
 refusal_beside (Some lease) leases = Some (PathBusy lease.token lease.deadline)
-refusal_beside None leases = if nat_le lease_limit (length leases) then Some TooManyLeases else None
+refusal_beside None leases = if nat_le LEASE_LIMIT (length leases) then Some TooManyLeases else None
 
 -- why a lease on this path isn't granted beside these leases, if it isn't
 abbrev pub refusal : List Lease → Path → Option LeaseFault
@@ -60,4 +57,4 @@ pub record IsTable (leases : List Lease) : Type 0 where
   pub tokens : TokensDiffer leases
   pub deadlines : DeadlinesRise leases
   pub paths : AllByRecursion (λ lease. ends_in marker lease.path ≡ false) leases
-  pub count : length leases ≤ lease_limit
+  pub count : length leases ≤ LEASE_LIMIT

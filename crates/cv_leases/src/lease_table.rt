@@ -5,14 +5,12 @@ ghost use Rattle.cv_leases.specs.Leases.{lease_of, without, unexpired, refusal};
 
 use crate::lease::Lease;
 use crate::lease_fault::LeaseFault;
+use crate::limits::LEASE_LIMIT;
 use crate::linked::Linked;
 use cv_base::{NoMemory, RepoPath, Steps, Token, ends_in_marker};
 use std::alloc::Global;
 use std::marker::{Brand, Model};
 use std::sync::ledger::{Blank, Ledger};
-
-/// The most leases at one time.
-const LEASE_LIMIT: usize = 4096;
 
 /// The leases that are live, of which no two overlap. Clauses see them in the order in which they were granted.
 #[derive(Drop)]
@@ -113,10 +111,15 @@ impl LeaseTable {
         self.linked.queue.at::<Brand>(place, Blank::new(1))
     }
 
-    /// All leases, in the order in which they were granted.
-    pub fn leases(&self, alloc: Global) -> Result<Vec<&Lease>, NoMemory>
-        ensures { IfOk result (λ all. map (λ lease. lease.now) all.items ≡ self.now) }
+    /// All leases, in the order in which they were granted. Each costs at most one step.
+    pub fn leases<L: Ledger>(
+        &self,
+        alloc: Global,
+        steps: &mut Steps<L>,
+    ) -> Result<Vec<&Lease>, NoMemory>
+        ensures leases { IfOk result (λ all. map (λ lease. lease.now) all.items ≡ self.now) }
+        ensures steps { steps.new ≤ steps.old + length self.now }
     {
-        self.linked.leases::<Brand>(alloc, Blank::new(1))
+        self.linked.leases(alloc, steps)
     }
 }

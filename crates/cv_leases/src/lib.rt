@@ -4,6 +4,7 @@
 mod lease;
 mod lease_fault;
 mod lease_table;
+mod limits;
 mod linked;
 mod names;
 mod queue;
@@ -13,3 +14,4 @@ mod tests;
 pub use lease::Lease;
 pub use lease_fault::LeaseFault;
 pub use lease_table::LeaseTable;
+pub use limits::LEASE_LIMIT;

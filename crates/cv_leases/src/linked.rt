@@ -8,6 +8,7 @@ ghost use Rattle.cv_leases.specs.Queue.{ids_of, leases_in};
 ghost use Rattle.cv_leases.specs.QueueInner.{IsParted, IsDropped, lease_at};
 ghost use Rattle.cv_links.specs.Arena.{value_at, IsLive};
 ghost use Rattle.cv_links.specs.declared.id.Id.{Id as NodeId};
+ghost use Rattle.cv_leases.specs.declared.limits.TheConstants.{LEASE_LIMIT};
 
 use crate::lease::Lease;
 use crate::names::Names;
@@ -54,18 +55,17 @@ impl Linked {
         }
     }
 
-    /// All leases, in the order of grant.
+    /// All leases, in the order of grant. Each is one step.
     pub(crate) fn leases<L: Ledger>(
         &self,
         alloc: Global,
-        blank: Blank,
+        steps: &mut Steps<L>,
     ) -> Result<Vec<&Lease>, NoMemory>
-        requires whole { IsLinked self.now }
-        requires blank { (blank.name ≡ L.name) × (blank.parts ≡ L.parts) × (0 < blank.parts) }
-        ensures { IfOk result (λ all. map (λ lease. lease.now) all.items ≡ leases_in self.now.queue) }
+        requires { IsLinked self.now }
+        ensures leases { IfOk result (λ all. map (λ lease. lease.now) all.items ≡ leases_in self.now.queue) }
+        ensures steps { steps.new ≤ steps.old + length (leases_in self.now.queue) }
     {
-        let mut steps: Steps<L> = Steps::new(blank);
-        self.queue.leases(alloc, &mut steps)
+        self.queue.leases(alloc, steps)
     }
 
     /// Puts a lease behind all others.
@@ -73,7 +73,7 @@ impl Linked {
     pub(crate) fn grant<L: Ledger>(&mut self, lease: Lease, blank: Blank) -> Result<(), NoMemory>
         requires whole { IsLinked self.old }
         requires free { busy (leases_in self.old.queue) lease.path ≡ None }
-        requires room { length (leases_in self.old.queue) < 4096 }
+        requires room { length (leases_in self.old.queue) < LEASE_LIMIT }
         requires blank { (blank.name ≡ L.name) × (blank.parts ≡ L.parts) × (0 < blank.parts) }
         ensures whole { IsLinked self.new }
         ensures leases { leases_in self.new.queue ≡ (if is_ok result then leases_in self.old.queue ++ lease ∷ [] else leases_in self.old.queue) }
@@ -89,7 +89,7 @@ impl Linked {
         requires place { place_of self.old.names entry.lease.path ≡ Some entry.place }
         requires live { IsLive self.old.names.places entry.place }
         requires free { is_leased (value_at self.old.names.places entry.place) ≡ false }
-        requires room { length (leases_in self.old.queue) < 4096 }
+        requires room { length (leases_in self.old.queue) < LEASE_LIMIT }
         ensures whole { IsLinked self.new }
         ensures leases { leases_in self.new.queue ≡ (if is_ok result then leases_in self.old.queue ++ entry.lease ∷ [] else leases_in self.old.queue) }
     {

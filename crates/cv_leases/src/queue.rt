@@ -7,6 +7,7 @@ ghost use Rattle.cv_links.specs.Chains.{head_or};
 ghost use Rattle.cv_leases.specs.Queue.{IsQueue, ids_of, leases_in};
 ghost use Rattle.cv_leases.specs.QueueInner.{IsParted, lease_at};
 ghost use Rattle.cv_links.specs.declared.id.Id.{Id as NodeId};
+ghost use Rattle.cv_leases.specs.declared.limits.TheConstants.{LEASE_LIMIT};
 
 use crate::lease::Lease;
 use cv_base::{NoMemory, RepoPath, Steps, Token};
@@ -146,7 +147,7 @@ impl Queue {
         steps: &mut Steps<L>,
     ) -> Result<(), NoMemory>
         requires whole { IsQueue self.old }
-        requires room { length (leases_in self.old) < 4096 }
+        requires room { length (leases_in self.old) < LEASE_LIMIT }
         ensures whole { IsQueue self.new }
         ensures leases { leases_in self.new ≡ (if is_ok result then leases_in self.old ++ entry.lease ∷ [] else leases_in self.old) }
         ensures entries { Stores result self.old self.new entry }

@@ -5,7 +5,7 @@ ghost use Rattle.std.specs.List.{AllByRecursion};
 ghost use Rattle.cv_leases.specs.Leases.{lease_of, unexpired};
 
 use crate::{Lease, LeaseFault, LeaseTable};
-use cv_base::{RepoPath, Steps, Text, Token};
+use cv_base::{NoMemory, RepoPath, Steps, Text, Token};
 use std::alloc::Global;
 use std::marker::Brand;
 use std::sync::ledger::{Blank, Ledger};
@@ -60,6 +60,18 @@ fn expire<L: Ledger>(table: &mut LeaseTable, moment: u64, blank: Blank)
     table.expire(moment, &mut steps);
 }
 
+/// All leases.
+fn all_leases<L: Ledger>(
+    alloc: Global,
+    table: &LeaseTable,
+    blank: Blank,
+) -> Result<Vec<&Lease>, NoMemory>
+    requires { (blank.name ≡ L.name) × (blank.parts ≡ L.parts) × (0 < blank.parts) }
+{
+    let mut steps: Steps<L> = Steps::new(blank);
+    table.leases(alloc, &mut steps)
+}
+
 #[test]
 fn a_lease_excludes_those_above_and_below_it(rt: HostRuntime) -> Result<(), Fail> {
     let mut table = LeaseTable::new(rt.alloc());
@@ -98,7 +110,7 @@ fn leases_are_found_and_end(rt: HostRuntime) -> Result<(), Fail> {
     assert_eq!(rt; table.at(2).map(|lease| lease.token), Some(token(3)));
     assert!(rt; table.at(3).is_none() && table.find(token(4)).is_none());
     assert!(rt; table.end(token(2)) && !table.end(token(2)));
-    let left = table.leases(rt.alloc())?;
+    let left = all_leases::<Brand>(rt.alloc(), &table, Blank::new(1))?;
     assert_eq!(rt; left.len(), 2);
     assert_eq!(rt; left.last().map(|lease| lease.token), Some(token(3)));
     Ok(())

@@ -15,8 +15,8 @@ use Rattle.cv_vault.proofs.Laws.{looser}
 use Rattle.cv_objects.specs.Names.{standing_on}
 use Rattle.cv_objects.specs.Fresh.{lacking}
 use Rattle.cv_objects.specs.PlacesInner.{is_noted}
-use Rattle.cv_objects.specs.Batches.{again, anew, has_file, has_none, GivesFresh, Agrees, Shows, by_one, by_itself, IsOutside}
-use Rattle.cv_objects.specs.BatchesInner.{Notes, Noted, NotesOne, Looked}
+use Rattle.cv_objects.specs.Batches.{GivesFresh, Agrees, Shows, by_one, by_itself, IsOutside}
+use Rattle.cv_objects.specs.BatchesInner.{Notes, Noted, NotesOne, Looked, again, anew, has_file, has_none}
 use Rattle.cv_objects.specs.declared.places.Places.{Places}
 use Rattle.cv_objects.specs.declared.store_fault.StoreFault.{StoreFault}
 use Rattle.cv_objects.specs.declared.store_fault.StoreFault.TheVariants.{NoMemory}

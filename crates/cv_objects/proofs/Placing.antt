@@ -14,8 +14,8 @@ use Rattle.cv_vault.specs.Moments.{Calls}
 use Rattle.cv_vault.specs.Walks.{Walks, Nothing, Gains}
 use Rattle.cv_vault.proofs.Laws.{here, elsewhere, call, bind, looser, renames}
 use Rattle.cv_objects.specs.Names.{way_name}
-use Rattle.cv_objects.specs.Batches.{Shows, stands, can, BringsOne, IsOutside}
-use Rattle.cv_objects.specs.BatchesInner.{Looked, Waits, IsPlaced, Placed}
+use Rattle.cv_objects.specs.Batches.{Shows, BringsOne, IsOutside}
+use Rattle.cv_objects.specs.BatchesInner.{Looked, Waits, IsPlaced, Placed, stands, can}
 use Rattle.cv_objects.specs.declared.store_fault.StoreFault.{StoreFault}
 use Rattle.cv_objects.specs.declared.store_fault.StoreFault.TheVariants.{Collision, Failed, Damaged, NoMemory}
 use Rattle.cv_objects.proofs.Naming.{way_on_way, data_off_way}

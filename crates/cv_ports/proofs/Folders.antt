@@ -11,9 +11,9 @@ use Rattle.std.specs.List.{AllByRecursion}
 use Rattle.std.specs.List.Sorted.{IsStrictlySortedBy}
 use Rattle.cv_base.specs.Path.{Path, name_cmp, path_cmp}
 use Rattle.cv_ports.specs.declared.folder.FolderItem.{FolderItem}
-use Rattle.cv_ports.specs.Folder.{Ascend, IsOrdered, names_of}
+use Rattle.cv_ports.specs.Folder.{Ascend, IsOrdered, ascends, names_of}
 use Rattle.cv_ports.specs.MemoryFolder.{MemoryFolderView, AllAscend, holding}
-use Rattle.cv_ports.specs.MemoryFolderInner.{ascends, all_ascend}
+use Rattle.cv_ports.specs.MemoryFolderInner.{all_ascend}
 
 both_true : (a b : Bool) → (a && b) ≡ true → (a ≡ true) × (b ≡ true)
 both_true true b h = (refl, h)

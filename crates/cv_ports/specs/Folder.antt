@@ -1,5 +1,6 @@
 -- What a folder holds, and what its calls answer of it.
-use Rattle.std.specs.Prelude.{ℕ, List, [], ◌∷◌, take}
+use Rattle.std.specs.Prelude.{ℕ, Bool, true, ◌&&◌, List, [], ◌∷◌, take}
+use Rattle.std.specs.Ordering.{is_lt}
 use Rattle.std.specs.List.Sorted.{IsStrictlySortedBy}
 use Rattle.cv_base.specs.Path.{Path, name_cmp}
 use Rattle.cv_ports.specs.declared.folder.FolderItem.{FolderItem}
@@ -26,6 +27,12 @@ read_front content = take 16777217 content
 abbrev pub Ascend : List FolderItem → Type 0
 Ascend items = IsStrictlySortedBy name_cmp (names_of items)
 
--- so do those of each directory of a folder
+-- the same, as a test: each name is below the next
+abbrev pub ascends : List FolderItem → Bool
+ascends [] = true
+ascends (last ∷ []) = true
+ascends (item ∷ next ∷ items) = is_lt (name_cmp item.name next.name) && ascends (next ∷ items)
+
+-- the names of each directory of a folder ascend
 abbrev pub IsOrdered : FolderView → Type 0
 IsOrdered holds = (path : Path) → Ascend (holds.items path)

@@ -2,6 +2,7 @@
 //! and where a session is held. Each has a form in memory.
 #![tactic(auto)]
 
+mod ascending;
 mod came_back;
 mod clock;
 mod dial;
@@ -25,6 +26,7 @@ mod shelf;
 mod sink;
 mod source;
 
+pub use ascending::ascend;
 pub use clock::Clock;
 pub use dial::Dial;
 pub use failed::Failed;

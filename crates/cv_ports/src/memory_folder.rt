@@ -7,9 +7,10 @@ ghost use Rattle.cv_base.specs.Told.{WhereTold};
 ghost use Rattle.cv_ports.specs.Calls.{fails, called};
 ghost use Rattle.cv_ports.specs.Folder.{Ascend, IsOrdered, read_front};
 ghost use Rattle.cv_ports.specs.MemoryFolder.{AllAscend, holding, under_each};
-ghost use Rattle.cv_ports.specs.MemoryFolderInner.{ascends, all_ascend};
+ghost use Rattle.cv_ports.specs.MemoryFolderInner.{all_ascend};
 ghost use Rattle.cv_ports.specs.declared.folder.FolderFault.TheVariants as fault;
 
+use crate::ascending::ascend;
 use crate::failing_calls::FailingCalls;
 use crate::folder::{Folder, FolderFault, FolderItem};
 use cv_base::{Bytes, Items, NoMemory, RepoPath, Text};
@@ -60,19 +61,6 @@ impl MemoryFolder {
             calls: FailingCalls::new(failing),
         })
     }
-}
-
-/// Whether the names of these items ascend by their bytes.
-#[tactic(auto, using(crate::proofs::Folders::next_tested, crate::proofs::Folders::all_tested))]
-fn ascend(items: &[FolderItem]) -> bool
-    ensures { result ≡ ascends items.now }
-{
-    for i in 1..items.len() {
-        if items[i - 1].name.as_str() >= items[i].name.as_str() {
-            return false;
-        }
-    }
-    true
 }
 
 /// Whether those of each directory do.

@@ -6,5 +6,6 @@ pub use Rattle.cv_rows.proofs.PlaceLaws.{one_place, same_by_key, stands_containe
 pub use Rattle.cv_rows.proofs.Regions.{file_len, same_test, stands_among}
 pub use Rattle.cv_rows.proofs.RuleLaws.{has_file}
 pub use Rattle.cv_rows.proofs.Sorting.{nested_total, row_total}
+pub use Rattle.cv_rows.proofs.TestLaws.{lacking_back, lacking_there, lacks, lacks_is, left_there, parts_again, parts_more, parts_moved}
 pub use Rattle.cv_rows.proofs.Texts.{path_name-target}
 pub use Rattle.cv_rows.proofs.Walks.{no_longer}

@@ -5,6 +5,7 @@ use Rattle.std.specs.Int.{w16, w32, w64, to_be_bytes}
 use Rattle.std.proofs.lemmas.Bool.{eqb-true}
 use Rattle.std.proofs.lemmas.Bool.Decides.{nat_tests}
 use Rattle.hex.specs.Hex.{IsBytes}
+use Rattle.cv_base.specs.Attr.{IsAttr}
 use Rattle.cv_base.specs.Sequence.{◌>>=◌}
 use Rattle.cv_base.specs.Digest.{IsDigest}
 use Rattle.cv_base.specs.Path.{is_path_byte, is_dots}
@@ -78,12 +79,6 @@ kind_reads all kind rest = rw (number_again w32 (2 ^ 32) wide32 (flags_of kind) 
 abbrev pub attr_bytes : RowKind → Attr → List ℕ
 attr_bytes kind a = to_be_bytes w32 (type_bits kind + a.mode) ++ (to_be_bytes w64 a.mtime ++ (to_be_bytes w32 a.uid ++ to_be_bytes w32 a.gid))
 
-pub record AttrFits (a : Attr) : Type 0 where
-  pub mode : a.mode < 4096
-  pub mtime : a.mtime < 2 ^ 64
-  pub uid : a.uid < 2 ^ 32
-  pub gid : a.gid < 2 ^ 32
-
 within : (t m x : ℕ) → cond (leb t m && ltb m (t + 4096)) (Some (m - t)) None ≡ Some x → (m ≡ t + x) × (x < 4096)
 within t m x e =
     elim (either (leb t m && ltb m (t + 4096)) (Some (m - t)) None (Some x) e) [
@@ -109,7 +104,7 @@ bits_fit NestedRoot x lt = omega arith
 bits_fit File x lt = omega arith
 bits_fit Link x lt = omega arith
 
-pub attr_takes : (all : ℕ) (kind : RowKind) (text : List ℕ) (a : Attr) (rest : List ℕ) → IsBytes text → attr_at all kind text ≡ Ok (a, rest) → Takes text (attr_bytes kind a) rest × AttrFits a
+pub attr_takes : (all : ℕ) (kind : RowKind) (text : List ℕ) (a : Attr) (rest : List ℕ) → IsBytes text → attr_at all kind text ≡ Ok (a, rest) → Takes text (attr_bytes kind a) rest × IsAttr a
 unfolding attr_at
 attr_takes all kind text attr rest fits e =
     let a = bind_ok (number_at w32 text) (λ bits. accepted (bad all text) (permissions kind bits.0) >>= λ mode. number_at w64 bits.1 >>= λ mtime. number_at w32 mtime.1 >>= λ uid. number_at w32 uid.1 >>= λ gid. Ok (record { mode = mode; mtime = mtime.0; uid = uid.0; gid = gid.0 }, gid.1)) (attr, rest) e in
@@ -127,9 +122,9 @@ attr_takes all kind text attr rest fits e =
     let bd = Takes-then a.0.1 (to_be_bytes w64 b.0.0) b.0.1 (to_be_bytes w32 c.0.0 ++ to_be_bytes w32 d.0.0) d.0.1 tb.0 cd in
     let ad = Takes-then text (to_be_bytes w32 (type_bits kind + m.0)) a.0.1 (to_be_bytes w64 b.0.0 ++ (to_be_bytes w32 c.0.0 ++ to_be_bytes w32 d.0.0)) d.0.1 first bd in
     let made : Attr × List ℕ = (record { mode = m.0; mtime = b.0.0; uid = c.0.0; gid = d.0.0 }, d.0.1) in
-    subst (λ (x : Attr × List ℕ). Takes text (attr_bytes kind x.0) x.1 × AttrFits x.0) (ok_is made (attr, rest) d.2) (ad, record { mode = mode.1; mtime = tb.1; uid = tc.1; gid = td.1 })
+    subst (λ (x : Attr × List ℕ). Takes text (attr_bytes kind x.0) x.1 × IsAttr x.0) (ok_is made (attr, rest) d.2) (ad, record { mode = mode.1; mtime = tb.1; uid = tc.1; gid = td.1 })
 
-pub attr_reads : (all : ℕ) (kind : RowKind) (a : Attr) (rest : List ℕ) → AttrFits a → attr_at all kind (attr_bytes kind a ++ rest) ≡ Ok (a, rest)
+pub attr_reads : (all : ℕ) (kind : RowKind) (a : Attr) (rest : List ℕ) → IsAttr a → attr_at all kind (attr_bytes kind a ++ rest) ≡ Ok (a, rest)
 unfolding attr_at
 attr_reads all kind a rest fits =
     let regrouped : attr_bytes kind a ++ rest ≡ to_be_bytes w32 (type_bits kind + a.mode) ++ (to_be_bytes w64 a.mtime ++ (to_be_bytes w32 a.uid ++ (to_be_bytes w32 a.gid ++ rest))) = simp append_assoc in

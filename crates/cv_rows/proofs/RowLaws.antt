@@ -18,7 +18,8 @@ use Rattle.cv_rows.specs.declared.row_fault.RowFault.{RowFault}
 use Rattle.cv_rows.specs.Row.{flags_of, is_row_name, IsKey, IsRow, HasContent, hash_field, text_field, row_bytes}
 use Rattle.cv_rows.specs.Reading.{bytes_at, kind_at, attr_at, is_size, size_at, hash_at, name_at, target_limit, is_size_of, target_at, row_behind, row_at}
 use Rattle.cv_rows.proofs.FieldLaws.{bind_ok, ok_is, Takes, bytes_take, bytes_again}
-use Rattle.cv_rows.proofs.RowFields.{kind_takes, kind_reads, attr_bytes, AttrFits, attr_takes, attr_reads, size_takes, size_reads, HashFits, hash_takes, hash_reads, name_takes, name_reads, TargetFits, target_takes, target_reads}
+use Rattle.cv_base.specs.Attr.{IsAttr}
+use Rattle.cv_rows.proofs.RowFields.{kind_takes, kind_reads, attr_bytes, attr_takes, attr_reads, size_takes, size_reads, HashFits, hash_takes, hash_reads, name_takes, name_reads, TargetFits, target_takes, target_reads}
 
 -- ---- what a row says of its content
 
@@ -228,7 +229,7 @@ record FromAttr (key parent : List ℕ) (kind : RowKind) (text : List ℕ) (r : 
   rest_fits : IsBytes rest
   name : is_row_name parent r.name ≡ true
   content : HasContent kind r.size r.hash r.target
-  attr : AttrFits r.attr
+  attr : IsAttr r.attr
 
 take_attr : (all : ℕ) (key parent : List ℕ) (kind : RowKind) (text : List ℕ) (r : Row) (rest : List ℕ) → IsBytes text
     → from_attr all key parent kind text ≡ Ok (r, rest) → FromAttr key parent kind text r rest
@@ -244,7 +245,7 @@ take_attr all key parent kind text r rest fits e =
       rest_fits = after.rest_fits;
       name = after.name;
       content = after.content;
-      attr = subst (λ (m : Attr). AttrFits m) attr_is took.1;
+      attr = subst (λ (m : Attr). IsAttr m) attr_is took.1;
     }
 
 record FromKind (key parent text : List ℕ) (r : Row) (rest : List ℕ) : Type 0 where
@@ -253,7 +254,7 @@ record FromKind (key parent text : List ℕ) (r : Row) (rest : List ℕ) : Type 
   rest_fits : IsBytes rest
   name : is_row_name parent r.name ≡ true
   content : HasContent r.kind r.size r.hash r.target
-  attr : AttrFits r.attr
+  attr : IsAttr r.attr
 
 take_kind : (all : ℕ) (key parent text : List ℕ) (r : Row) (rest : List ℕ) → IsBytes text → from_kind all key parent text ≡ Ok (r, rest) → FromKind key parent text r rest
 take_kind all key parent text r rest fits e =
@@ -278,7 +279,7 @@ record FromParent (key text : List ℕ) (r : Row) (rest : List ℕ) : Type 0 whe
   parent : IsKey r.parent.0
   name : is_row_name r.parent.0 r.name ≡ true
   content : HasContent r.kind r.size r.hash r.target
-  attr : AttrFits r.attr
+  attr : IsAttr r.attr
 
 take_parent : (all : ℕ) (key text : List ℕ) (r : Row) (rest : List ℕ) → IsBytes text → from_parent all key text ≡ Ok (r, rest) → FromParent key text r rest
 take_parent all key text r rest fits e =
@@ -309,10 +310,7 @@ row_takes all text r rest fits e =
     let is : IsRow r = record {
       key = subst (λ (m : List ℕ). IsKey m) key_is (record { size = took.size; bytes = took.fits });
       parent = after.parent;
-      mode = after.attr.mode;
-      mtime = after.attr.mtime;
-      uid = after.attr.uid;
-      gid = after.attr.gid;
+      attr = after.attr;
       content = after.content;
       name = after.name;
     } in
@@ -321,7 +319,6 @@ row_takes all text r rest fits e =
 pub row_reads : (all : ℕ) (r : Row) (rest : List ℕ) → IsRow r → row_at all (row_bytes r ++ rest) ≡ Ok (r, rest)
 row_reads all r rest is =
     let parts = parts_of_content r.kind r.size r.hash r.target is.content in
-    let attr : AttrFits r.attr = record { mode = is.mode; mtime = is.mtime; uid = is.uid; gid = is.gid } in
     let last : List ℕ = text_field r.target ++ rest in
     let named : List ℕ = text_field r.name ++ last in
     let hashed : List ℕ = hash_field r.hash ++ named in
@@ -333,7 +330,7 @@ row_reads all r rest is =
     let e2 : from_name all r.key.0 r.parent.0 r.kind r.attr r.size sized r.hash named ≡ Ok (r, rest) = name_next all r.key.0 r.parent.0 r.kind r.attr r.size sized r.hash named ∙ rw (name_reads all r.parent.0 r.name last is.name) e1 in
     let e3 : from_hash all r.key.0 r.parent.0 r.kind r.attr r.size sized hashed ≡ Ok (r, rest) = hash_next all r.key.0 r.parent.0 r.kind r.attr r.size sized hashed ∙ rw (hash_reads all r.kind r.hash named parts.hash_is) e2 in
     let e4 : row_behind all r.key.0 r.parent.0 r.kind r.attr sized ≡ Ok (r, rest) = size_next all r.key.0 r.parent.0 r.kind r.attr sized ∙ rw (size_reads all r.kind r.size hashed parts.size_fits parts.size_is) e3 in
-    let e5 : from_attr all r.key.0 r.parent.0 r.kind owned ≡ Ok (r, rest) = attr_next all r.key.0 r.parent.0 r.kind owned ∙ rw (attr_reads all r.kind r.attr sized attr) e4 in
+    let e5 : from_attr all r.key.0 r.parent.0 r.kind owned ≡ Ok (r, rest) = attr_next all r.key.0 r.parent.0 r.kind owned ∙ rw (attr_reads all r.kind r.attr sized is.attr) e4 in
     let e6 : from_kind all r.key.0 r.parent.0 flagged ≡ Ok (r, rest) = kind_next all r.key.0 r.parent.0 flagged ∙ rw (kind_reads all r.kind owned) e5 in
     let e7 : from_parent all r.key.0 below ≡ Ok (r, rest) = parent_next all r.key.0 below ∙ rw (bytes_again 16 r.parent.0 flagged is.parent.size) e6 in
     ap (row_at all) (row_parts r rest) ∙ row_next all (r.key.0 ++ below) ∙ rw (bytes_again 16 r.key.0 below is.key.size) e7

@@ -1,8 +1,9 @@
 -- A row, and its bytes.
-use Rattle.std.specs.Prelude.{◌≡◌, ℕ, ◌+◌, ◌^◌, ◌<◌, ◌≤◌, Bool, true, false, ◌&&◌, ◌==◌, nat_le, bytes_eq, List, [], ◌∷◌, ◌++◌, length, Option, Some, None, IsSomeAnd}
+use Rattle.std.specs.Prelude.{◌≡◌, ℕ, ◌+◌, ◌<◌, ◌≤◌, Bool, true, false, ◌&&◌, ◌==◌, nat_le, bytes_eq, List, [], ◌∷◌, ◌++◌, length, Option, Some, None, IsSomeAnd}
 use Rattle.std.specs.Int.{w16, w32, w64, to_be_bytes}
 use Rattle.hex.specs.Hex.{IsBytes}
-use Rattle.cv_base.specs.declared.limits.TheConstants.{MODE_LIMIT, OBJECT_LIMIT}
+use Rattle.cv_base.specs.declared.limits.TheConstants.{OBJECT_LIMIT}
+use Rattle.cv_base.specs.Attr.{IsAttr}
 use Rattle.cv_base.specs.Digest.{IsDigest}
 use Rattle.cv_base.specs.Path.{is_path_name, no_key}
 use Rattle.cv_base.specs.Target.{is_target}
@@ -66,10 +67,7 @@ HasContent Link size hash target = (size ≡ length target) × (hash ≡ None) �
 pub record IsRow (r : Row) : Type 0 where
   pub key : IsKey r.key.0
   pub parent : IsKey r.parent.0
-  pub mode : r.attr.mode < MODE_LIMIT
-  pub mtime : r.attr.mtime < 2 ^ 64
-  pub uid : r.attr.uid < 2 ^ 32
-  pub gid : r.attr.gid < 2 ^ 32
+  pub attr : IsAttr r.attr
   pub content : HasContent r.kind r.size r.hash r.target
   pub name : is_row_name r.parent.0 r.name ≡ true
 

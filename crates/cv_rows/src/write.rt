@@ -2,7 +2,7 @@
 ghost use Rattle.std.specs.Prelude.{◌≡◌, ◌+◌, ◌++◌, ◌<◌, ◌^◌, ◌≤◌, length, flat_map, IfOk, OnOk};
 ghost use Rattle.std.specs.List.{AllByRecursion};
 ghost use Rattle.std.specs.Int.{w32, w64, to_be_bytes};
-ghost use Rattle.cv_base.specs.AttrInner.{IsAttr};
+ghost use Rattle.cv_base.specs.Attr.{IsAttr};
 ghost use Rattle.cv_rows.specs.Row.{IsRow, hash_field, text_field, row_bytes, type_bits};
 ghost use Rattle.cv_rows.specs.Nested.{IsNested, nested_bytes};
 ghost use Rattle.cv_rows.specs.Catalogue.{file_of};

@@ -1,8 +1,8 @@
-//! Row files as digits, and what is left of them without a path.
-ghost use Rattle.std.specs.Prelude.{◌≡◌, [], IfOk};
+//! What is made of catalogues.
 
-use cv_base::{RepoPath, ends_in_marker};
-use cv_rows::Catalogue;
+use crate::parts::{opened, parted, reversed};
+use cv_base::RepoPath;
+use cv_rows::{Catalogue, WithFault};
 use std::alloc::Global;
 use std::test::Fail;
 
@@ -18,23 +18,76 @@ pub(crate) fn digits(alloc: Global, catalogue: &Catalogue) -> Result<String, Fai
 }
 
 /// The catalogue of the root of these digits.
-pub(crate) fn catalogue(alloc: Global, digits: &str) -> Result<Catalogue, Fail>
-    ensures { IfOk result (λ catalogue. catalogue.at ≡ []) }
-{
+pub(crate) fn catalogue(alloc: Global, digits: &str) -> Result<Catalogue, Fail> {
     let bytes = bytes(alloc, digits)?;
-    let root = RepoPath::root(alloc);
-    Ok(Catalogue::decode(alloc, bytes.as_slice(), &root)?)
+    Ok(Catalogue::decode(alloc, bytes.as_slice(), &RepoPath::root(alloc))?)
+}
+
+/// The text of a fault of making.
+fn fault_text(alloc: Global, fault: WithFault) -> Result<String, Fail> {
+    match fault {
+        WithFault::Collision { first } => {
+            let key = hex::encode(alloc, first.0.as_slice())?;
+            Ok(format!(in alloc; "collision {key}")?)
+        }
+        WithFault::Full => Ok(String::from_str(alloc, "full")?),
+        WithFault::NoMemory => Ok(String::from_str(alloc, "no memory")?),
+    }
+}
+
+/// A catalogue that is made, or why not.
+fn made_text(alloc: Global, made: Result<Catalogue, WithFault>) -> Result<String, Fail> {
+    match made {
+        Ok(made) => digits(alloc, &made),
+        Err(fault) => fault_text(alloc, fault),
+    }
+}
+
+/// The catalogue of the rows and nested entries in the other order.
+pub(crate) fn of(alloc: Global, text: &str) -> Result<String, Fail> {
+    let at = RepoPath::root(alloc);
+    let (_, (rows, nested)) = opened(alloc, text, &at)?;
+    let made = Catalogue::of(alloc, &at, reversed(rows), reversed(nested));
+    made_text(alloc, made)
+}
+
+/// Why the rows of the root's directory aren't added once more, and what comes back.
+pub(crate) fn with(alloc: Global, text: &str) -> Result<String, Fail> {
+    let at = RepoPath::root(alloc);
+    let (whole, _) = opened(alloc, text, &at)?;
+    let more = whole.children(alloc, at.key())?;
+    match whole.with(alloc, more, Vec::new(alloc)) {
+        Ok(made) => digits(alloc, &made),
+        Err((back, fault)) => {
+            let mut text = fault_text(alloc, fault)?;
+            text.push(' ')?;
+            text.push_str(digits(alloc, &back)?.as_str())?;
+            Ok(text)
+        }
+    }
+}
+
+/// The catalogue of the rows and, once more, those of the root's directory, or why there is none.
+pub(crate) fn twice(alloc: Global, text: &str) -> Result<String, Fail> {
+    let at = RepoPath::root(alloc);
+    let (whole, (mut rows, nested)) = opened(alloc, text, &at)?;
+    let mut more = whole.children(alloc, at.key())?;
+    rows.append(&mut more)?;
+    let made = Catalogue::of(alloc, &at, rows, nested);
+    made_text(alloc, made)
 }
 
 /// What is left without what stands at a path and below it.
 pub(crate) fn without(alloc: Global, text: &str, path: &RepoPath) -> Result<String, Fail> {
-    let root = RepoPath::root(alloc);
-    if !root.covers(path) || *path == root || ends_in_marker(path) {
-        return Err("a path below the root")?;
-    }
-    let whole = catalogue(alloc, text)?;
-    let Ok(left) = whole.without(alloc, path) else {
-        return Err("memory")?;
-    };
+    let (left, _) = parted(alloc, text, path)?;
     digits(alloc, &left)
+}
+
+/// The whole, of what is left and of what stood at a path and below it.
+pub(crate) fn back(alloc: Global, text: &str, path: &RepoPath) -> Result<String, Fail> {
+    let (left, (rows, nested)) = parted(alloc, text, path)?;
+    match left.with(alloc, rows, nested) {
+        Ok(whole) => digits(alloc, &whole),
+        Err((_, fault)) => fault_text(alloc, fault),
+    }
 }

@@ -7,14 +7,19 @@
 //! in PATH DIGITS           prints the names in a directory
 //! places DIGITS            prints the path of each row
 //! nested DIGITS            prints the path, the hash and the size of each nested entry
+//! of DIGITS                makes a catalogue of the rows and nested entries, the other way round, and prints as what it's written
+//! with DIGITS              adds the rows of the root's directory once more, and prints why not, and as what the rest is written
+//! twice DIGITS             makes a catalogue of the rows and, once more, those of the root's directory
 //! without PATH DIGITS      prints as what the rest is written without what stands at a path and below it
+//! back PATH DIGITS         adds what stood there again, and prints as what the whole is written
 //! ```
 //!
-//! A row file stands in digits of base 16. But for `read` it's one of the root. What isn't read prints its fault.
+//! A row file stands in digits of base 16. But for `read` it's one of the root. What isn't read or made prints its fault.
 #![tactic(auto)]
 
 mod found;
 mod made;
+mod parts;
 
 use cv_base::RepoPath;
 use cv_rows::Catalogue;
@@ -50,6 +55,7 @@ fn of_path(alloc: Global, kind: &str, words: &str) -> Result<String, Fail> {
         "row" => found::row(alloc, text, &path),
         "in" => found::names(alloc, text, &path),
         "without" => made::without(alloc, text, &path),
+        "back" => made::back(alloc, text, &path),
         _ => Err(Fail::new("no row")),
     }
 }
@@ -61,6 +67,9 @@ fn answer(alloc: Global, line: &str) -> Result<String, Fail> {
         "zeros" => zeros(alloc, words),
         "places" => found::places(alloc, words),
         "nested" => found::nested(alloc, words),
+        "of" => made::of(alloc, words),
+        "with" => made::with(alloc, words),
+        "twice" => made::twice(alloc, words),
         _ => of_path(alloc, kind, words),
     }
 }

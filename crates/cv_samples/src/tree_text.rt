@@ -1,6 +1,7 @@
 //! Trees as texts of their paths.
 ghost use Rattle.std.specs.Prelude.{IfOk};
-ghost use Rattle.cv_tree.specs.Node.{IsAttr, IsFileRef, IsNode};
+ghost use Rattle.cv_base.specs.Attr.{IsAttr};
+ghost use Rattle.cv_tree.specs.Node.{IsFileRef, IsNode};
 
 use cv_base::{Attr, Kind, ObjectId, RepoPath, Target};
 use cv_tree::{FileRef, Node, Tree};

@@ -15,7 +15,7 @@ use Rattle.cv_base.specs.declared.attr.Attr.{Attr}
 use Rattle.cv_base.specs.declared.id.Kind.TheVariants.{Catalogue}
 use Rattle.cv_base.proofs.Laws.{digest_sha1}
 use Rattle.cv_ports.specs.Shelf.{Shelf, IsShelf}
-use Rattle.cv_tree.specs.Node.{IsAttr}
+use Rattle.cv_base.specs.Attr.{IsAttr}
 use Rattle.cv_tree.specs.Tree.{single}
 use Rattle.cv_tree.specs.declared.node.Node.{Node}
 use Rattle.cv_tree.specs.declared.node.Node.TheVariants.{Dir, File}

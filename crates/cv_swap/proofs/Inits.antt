@@ -28,8 +28,8 @@ use Rattle.cv_objects.proofs.Lemmas.{digest_back, is_digest_of, standing_is}
 use Rattle.cv_swap.specs.Kept.{head_of, record_object}
 use Rattle.cv_swap.specs.Stands.{Stands, CanBegin, Publishes, first_kept, head_name, epoch_name}
 use Rattle.cv_swap.specs.First.{first_tree, first_revision, first_batch}
-use Rattle.cv_swap.specs.Publishing.{BringsFirst, an_object, the_epoch, comes_before, comes_last, before_head, with_head}
-use Rattle.cv_swap.specs.PublishingInner.{BringsAll, AreBuilt, WhileFirst, FirstLeaves, Inited, Inits}
+use Rattle.cv_swap.specs.Publishing.{BringsFirst, an_object, the_epoch}
+use Rattle.cv_swap.specs.PublishingInner.{BringsAll, AreBuilt, WhileFirst, FirstLeaves, Inited, Inits, comes_before, comes_last, before_head, with_head}
 use Rattle.cv_swap.specs.Faults.{init_fault_of, init_fault_in}
 use Rattle.cv_swap.specs.Init.{StandsFirst, HasFirst, BringsRevision, before_it, the_head, WhileInit, InitLeaves, not_yet, whole, Answers, Makes, MakesFirst}
 use Rattle.cv_swap.specs.declared.init_fault.InitFault.{InitFault}

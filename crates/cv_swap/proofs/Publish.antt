@@ -24,8 +24,8 @@ use Rattle.cv_objects.specs.declared.store_fault.StoreFault.{StoreFault}
 use Rattle.cv_objects.specs.declared.store_fault.StoreFault.TheVariants.{Collision, Failed, Damaged, NoMemory}
 use Rattle.cv_objects.proofs.Lemmas.{outside, brings_nothing, brings_later, has_then}
 use Rattle.cv_swap.specs.Stands.{head_name, head_way}
-use Rattle.cv_swap.specs.Publishing.{Prepared, BringsFirst, before_head, with_head, comes_before, comes_last}
-use Rattle.cv_swap.specs.PublishingInner.{Built, AreBuilt, WhileFirst, FirstLeaves, Inited, Inits}
+use Rattle.cv_swap.specs.Publishing.{Prepared, BringsFirst}
+use Rattle.cv_swap.specs.PublishingInner.{Built, AreBuilt, WhileFirst, FirstLeaves, Inited, Inits, before_head, with_head, comes_before, comes_last}
 use Rattle.cv_swap.proofs.Names.{head_apart}
 
 -- ---- a batch that stays where it is on its way, while other names change

@@ -13,8 +13,8 @@ use Rattle.cv_vault.specs.Walks.{Gains, Within}
 use Rattle.cv_vault.proofs.Laws.{bind, looser, leaves_more, gains_then, gains_more, within_then, within_more, quiet_walks, quiet_same}
 use Rattle.cv_objects.specs.declared.store_fault.StoreFault.{StoreFault}
 use Rattle.cv_objects.specs.declared.store_fault.StoreFault.TheVariants.{Collision, Failed, Damaged, NoMemory}
-use Rattle.cv_swap.specs.Publishing.{BringsFirst, comes_before, comes_last, before_head, with_head}
-use Rattle.cv_swap.specs.PublishingInner.{BringsAll, WhileFirst, FirstLeaves, Inited, Inits}
+use Rattle.cv_swap.specs.Publishing.{BringsFirst}
+use Rattle.cv_swap.specs.PublishingInner.{BringsAll, WhileFirst, FirstLeaves, Inited, Inits, comes_before, comes_last, before_head, with_head}
 use Rattle.cv_swap.specs.Init.{OnlyText, WritesHead}
 use Rattle.cv_swap.proofs.Begins.{not_first}
 

@@ -14,7 +14,8 @@ use Rattle.cv_tree.specs.declared.node.Node.TheVariants.{Dir}
 use Rattle.cv_tree.specs.declared.tree_fault.TreeFault.{TreeFault}
 use Rattle.cv_tree.specs.declared.tree_fault.TreeFault.TheVariants.{NoParent, Exists, NoMemory}
 use Rattle.cv_base.specs.declared.attr.Attr.{Attr}
-use Rattle.cv_tree.specs.Node.{IsAttr, IsNode}
+use Rattle.cv_base.specs.Attr.{IsAttr}
+use Rattle.cv_tree.specs.Node.{IsNode}
 use Rattle.cv_tree.specs.Tree.{Nodes, is_directory, HasParents, IsPart, IsTree, single, at, put}
 use Rattle.cv_tree.specs.Changes.{has_place, insertion, replacement, nodes_of, FitsUnder, IsTreeAtRoot}
 use Rattle.cv_tree.proofs.PathLimits.{IsPath-back}

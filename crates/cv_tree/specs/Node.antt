@@ -1,19 +1,13 @@
 -- The limits of a node's fields: those in which a catalogue can write it.
-use Rattle.std.specs.Prelude.{ℕ, List, length, ◌<◌, ◌≤◌, ◌^◌, IsTrue}
+use Rattle.std.specs.Prelude.{ℕ, List, length, ◌<◌, ◌≤◌, IsTrue}
 use Rattle.cv_base.specs.declared.attr.Attr.{Attr}
-use Rattle.cv_base.specs.declared.limits.TheConstants.{MODE_LIMIT, OBJECT_LIMIT}
+use Rattle.cv_base.specs.declared.limits.TheConstants.{OBJECT_LIMIT}
+use Rattle.cv_base.specs.Attr.{IsAttr}
 use Rattle.cv_base.specs.Digest.{IsDigest}
 use Rattle.cv_base.specs.Target.{is_target}
 use Rattle.cv_tree.specs.declared.node.FileRef.{FileRef}
 use Rattle.cv_tree.specs.declared.node.Node.{Node}
 use Rattle.cv_tree.specs.declared.node.Node.TheVariants.{Dir, File, Link}
-
--- twelve bits of permissions, a time of 64 bits, and owners of 32
-pub record IsAttr (attr : Attr) : Type 0 where
-  pub mode : attr.mode < MODE_LIMIT
-  pub mtime : attr.mtime < 2 ^ 64
-  pub uid : attr.uid < 2 ^ 32
-  pub gid : attr.gid < 2 ^ 32
 
 -- a SHA-1 digest, and at most 16 MiB
 pub record IsFileRef (file : FileRef) : Type 0 where

@@ -5,7 +5,8 @@ ghost use Rattle.std.specs.FinMap as map;
 ghost use Rattle.cv_base.specs.Unless.{IsUnless};
 ghost use Rattle.cv_tree.specs.declared.node.Node.TheVariants.{Dir};
 ghost use Rattle.cv_tree.specs.declared.tree_fault.TreeFault.TheVariants as faults;
-ghost use Rattle.cv_tree.specs.Node.{IsNode, IsAttr};
+ghost use Rattle.cv_base.specs.Attr.{IsAttr};
+ghost use Rattle.cv_tree.specs.Node.{IsNode};
 ghost use Rattle.cv_tree.specs.Tree.{IsPart, IsTree, single, put};
 ghost use Rattle.cv_tree.specs.Changes.{insertion, replacement, subtree_of, nodes_of, FitsUnder, IsTreeAtRoot};
 
