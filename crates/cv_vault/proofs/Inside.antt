@@ -17,7 +17,7 @@ use Rattle.cv_vault.specs.FailuresInner.{fate_of, fate_fails, fate_makes}
 use Rattle.cv_vault.specs.TableInner as table_inner
 use Rattle.cv_vault.specs.Table.{entries_of, past_of}
 use Rattle.cv_vault.specs.TableInner.{IsTable, Stays, Adds, table_disk}
-use Rattle.cv_vault.specs.Memory.{memory_disk, times, MemoryCalls, Kept, Changed, Makes, Counted, Numbered}
+use Rattle.cv_vault.specs.Memory.{Memory, memory_disk, times, MemoryCalls, Kept, Changed, Makes, Counted, Numbered}
 use Rattle.cv_vault.specs.MemoryVault.{memory_of, IsMemory}
 use Rattle.cv_vault.specs.declared.memory_vault.MemoryVault.TheInside.{Inside}
 use Rattle.cv_vault.specs.declared.fate.Fate.{Fate}
@@ -241,11 +241,21 @@ no_memory (Err e) h = ap Err h
 pub calls_listed : (v v' : Inside) (prefix : Name) {Z : Type 0} (r : Result (Vec Name Z) VaultFault) → r ≡ Err NoMemory → Kept (memory_of v) (memory_of v') → MemoryCalls (Lists prefix r) (memory_of v) (memory_of v')
 calls_listed v v' prefix r is k = calls_kept (Lists prefix r) (memory_of v) (memory_of v') k (rw is refl)
 
-pub renames_none_of : (v v' : Inside) (from to : Name) (r : Result Bool VaultFault) → r ≡ Err NoMemory → Kept (memory_of v) (memory_of v') → MemoryCalls (Renames from to r) (memory_of v) (memory_of v')
-renames_none_of v v' from to r is k = calls_kept (Renames from to r) (memory_of v) (memory_of v') k (rw is refl)
+-- what is said of a call that found no memory: it has its number, and nothing else changed
+pub record Wants {X : Type 0} (R : Result X VaultFault → Disk → Disk → Type 0) (v v' : Memory) (r : Result X VaultFault) : Type 0 where
+  pub call : MemoryCalls (R r) v v'
+  pub numbered : Numbered v v' r
+  pub counted : Counted v v'
 
-pub writes_none_of : (v v' : Inside) (n bytes : Name) (r : Result (Unit {0}) VaultFault) → r ≡ Err NoMemory → Kept (memory_of v) (memory_of v') → MemoryCalls (Writes n bytes r) (memory_of v) (memory_of v')
-writes_none_of v v' n bytes r is k = calls_kept (Writes n bytes r) (memory_of v) (memory_of v') k (rw is refl)
+pub wants : {X : Type 0} (R : Result X VaultFault → Disk → Disk → Type 0) (v v' : Inside) (fate : Fate) (r : Result X VaultFault) → Next v.schedule v'.schedule fate
+    → Kept (memory_of v) (memory_of v') → IsErrAnd r (λ e. e ≡ NoMemory) → ((d : Disk) → R (Err NoMemory) d d) → Wants R (memory_of v) (memory_of v') r
+wants R v v' fate r next kept none same =
+    let is = no_memory r none in
+    record {
+      call = calls_kept (R r) (memory_of v) (memory_of v') kept (rw is (same (memory_disk (memory_of v))));
+      numbered = numbered_none v v' fate r next is;
+      counted = counted_kept (memory_of v) (memory_of v') kept;
+    }
 
 -- Room.
 

@@ -1,4 +1,4 @@
-use Rattle.std.proofs.Common.{◌≡◌, ◌++◌, ◌∷◌, Bool, true, false, nat_eq, List, ℕ, [], refl, sym, subst, ◌∙◌}
+use Rattle.std.proofs.Common.{◌≡◌, ◌++◌, Bool, true, false, nat_eq, List, [], refl, sym, subst, ◌∙◌}
 use Rattle.std.specs.Bool.{MatchBool}
 use Rattle.std.specs.List.{filter, starts_with}
 use Rattle.std.specs.Str.Pattern.{HasPrefixMatch, FindsTextPrefix}
@@ -10,7 +10,6 @@ use Rattle.cv_vault.specs.Disk.{IsListing}
 use Rattle.cv_vault.specs.Names.{Name}
 use Rattle.cv_vault.specs.Table.{Rows}
 use Rattle.cv_vault.specs.TableInner.{is_listed, table_disk, IsEntryOf}
-use Rattle.cv_vault.specs.IndexedInner.{rows_of}
 use Rattle.cv_vault.proofs.Ordered.{names_of}
 use Rattle.cv_vault.proofs.Listing.{AreLeft, left_first, all_left, left_next, left_past, listed_by, listing, complete, kept_step, skipped_step}
 use Rattle.cv_vault.proofs.table.Table.list.Goals as goal

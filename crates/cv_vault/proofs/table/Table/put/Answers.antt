@@ -1,4 +1,4 @@
-use Rattle.std.proofs.Common.{refl, ap, ◌∙◌}
+use Rattle.std.proofs.Common.{refl, ◌∙◌}
 use Rattle.cv_vault.specs.declared.table.Table.TheInside.{Inside}
 use Rattle.cv_vault.proofs.Changing.{PutsOne, table_recorded, adds_recorded, records_put, files_put}
 use Rattle.cv_vault.proofs.table.Table.put.Goals as goal
