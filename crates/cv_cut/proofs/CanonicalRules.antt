@@ -30,8 +30,7 @@ use Rattle.cv_cut.proofs.RegionRules.{stands_at_cut, region_rules}
 use Rattle.cv_cut.proofs.RegionLists.{row_list, nested_list, row_list_are, nested_list_are, keys_apart, texts_apart, rows_of-by_key, nested_of-by_text}
 use Rattle.cv_cut.proofs.Sorted.{order_moves, order_rises}
 use Rattle.cv_cut.proofs.Ends.{back}
-use Rattle.cv_cut.specs.Region.{KeysApart, IsOther, FitsAtCut, row_at}
-use Rattle.cv_cut.specs.RegionInner.{AreRowsOf, AreEntriesOf}
+use Rattle.cv_cut.specs.Region.{KeysApart, IsOther, FitsAtCut, row_at, AreRowsOf, AreEntriesOf}
 
 -- ---- lists in another order
 

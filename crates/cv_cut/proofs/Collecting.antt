@@ -1,15 +1,15 @@
 -- The region of a cut, collected from the entries that it covers.
-use Rattle.std.proofs.Common.{◌≡◌, ◌<◌, ◌≤◌, true, false, cond, not, List, [], ◌∷◌, ◌++◌, length, get_or, refl, sym, ap, subst, ◌∙◌, append-nil, append_assoc, arith, inl, inr}
+use Rattle.std.proofs.Common.{◌≡◌, ◌<◌, ◌≤◌, true, false, cond, not, List, [], ◌∷◌, ◌++◌, length, get_or, Some, refl, sym, ap, subst, ◌∙◌, append-nil, append_assoc, arith, inl, inr}
 use Rattle.std.specs.Prelude.{Contains}
 use Rattle.std.specs.declared.cmp.Ordering.{Ordering}
 use Rattle.std.specs.declared.cmp.Ordering.TheVariants.{Less, Equal}
 use Rattle.std.specs.Ordering.{is_lt, ordering_reverse}
 use Rattle.std.specs.Cmp.{tied_itself}
 use Rattle.std.specs.List.{filter}
-use Rattle.std.specs.FinMap.{entries, is_sorted, entries_sorted}
+use Rattle.std.specs.FinMap.{get, entries, is_sorted, entries_sorted}
 use Rattle.std.specs.FinMap.Entries.{below_all}
 use Rattle.std.proofs.lemmas.List.{nil_from_length}
-use Rattle.std.proofs.lemmas.List.Elements.{Contains-get_or}
+use Rattle.std.proofs.lemmas.List.Elements.{All-contains, Contains-append_left, Contains-append_right, Contains-get_or}
 use Rattle.std.proofs.lemmas.List.Filters.{length-filter_both}
 use Rattle.cv_base.specs.Path.{Path, path_cmp, covers}
 use Rattle.cv_base.specs.PathOrder.{path_total}
@@ -22,6 +22,7 @@ use Rattle.cv_cut.proofs.Members.{first_there, later_there, first_or_later, pass
 use Rattle.cv_cut.proofs.Entries.{below_each}
 use Rattle.cv_cut.proofs.Between.{below_covered, other_stands, not_in_region, in_region, outside}
 use Rattle.cv_cut.proofs.RegionPaths.{is_in_region, region_is}
+use Rattle.cv_cut.proofs.Standing.{region_stands}
 use Rattle.cv_cut.proofs.Sides.{covers_before, covers_through, filter_within, sorted_filter}
 use Rattle.cv_cut.proofs.Bools.{false_not, not_false, so}
 
@@ -78,6 +79,12 @@ module _ (t : Nodes) (c : Path) (found : List (Path × Node)) (e : Path × Node)
       ∙ ap (λ w. found ++ w) (sym (ap (λ b. cond b (e ∷ filter (λ x. is_in_region t c x.0) more) (filter (λ x. is_in_region t c x.0) more)) first_in))
       ∙ has.all
 
+  -- its node stands in the tree
+  stands_there : get t e.0 ≡ Some e.1
+  stands_there =
+      let found_it = Contains-append_left (found ++ e ∷ []) (filter (λ x. is_in_region t c x.0) more) e (Contains-append_right found (e ∷ []) e (first_there e [])) in
+      All-contains (λ (x : Path × Node). get t x.0 ≡ Some x.1) (region_at t c) e (region_stands t c (region_at t c) refl) (subst (λ es. Contains es e) (one_more more refl) found_it)
+
   -- where it is no other cut, all others are left
   without_one : is_other t c e.0 ≡ false → Collects t c (found ++ e ∷ []) more
   without_one unmarked = record {
@@ -129,6 +136,9 @@ module _ (t : Nodes) (c : Path) (found : List (Path × Node)) (e : Path × Node)
 module _ (t : Nodes) (c : Path) (found rest : List (Path × Node)) (e : Path × Node) (more : List (Path × Node)) where
   pub first_covered : Collects t c found rest → rest ≡ e ∷ more → covers c e.0 ≡ true
   first_covered has is = covers_first t c found e more (subst (Collects t c found) is has)
+
+  pub first_stands : Collects t c found rest → rest ≡ e ∷ more → get t e.0 ≡ Some e.1
+  first_stands has is = stands_there t c found e more (subst (Collects t c found) is has)
 
   pub stand_behind : Collects t c found rest → rest ≡ e ∷ more → StandFrom e.0 more
   stand_behind has is = stands_first t c found e more (subst (Collects t c found) is has)

@@ -18,8 +18,7 @@ use Rattle.cv_cut.proofs.RegionLists.{row_list, nested_list, keys_apart, texts_a
 use Rattle.cv_cut.proofs.CanonicalRules.{order_count}
 use Rattle.cv_cut.proofs.Sorted.{order_moves, order_rises}
 use Rattle.cv_cut.proofs.Sameness.{same_list}
-use Rattle.cv_cut.specs.Region.{KeysApart, row_at}
-use Rattle.cv_cut.specs.RegionInner.{AreRowsOf, AreEntriesOf}
+use Rattle.cv_cut.specs.Region.{KeysApart, row_at, AreRowsOf, AreEntriesOf}
 use Rattle.cv_cut.proofs.Told.{rows_are, entries_are}
 
 rows_moved : (c : Path) (u : Nodes) (xs : List Row) → AreApart (keys_of xs) → AreRowsOf c u xs → AreRowsOf c u (by_key xs)

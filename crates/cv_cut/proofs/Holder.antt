@@ -31,8 +31,7 @@ use Rattle.cv_cut.proofs.Lists.{kept_apart, apart_append}
 use Rattle.cv_cut.proofs.Contents.{rows_rise, entries_rise, rows_in_order, entries_in_order, rows_count}
 use Rattle.cv_cut.proofs.Told.{rows_are, entries_are}
 use Rattle.cv_cut.proofs.Trees.{at-put_below, cut-out, ends-behind}
-use Rattle.cv_cut.specs.Region.{row_at, IsNear, KeysApart, IsOther}
-use Rattle.cv_cut.specs.RegionInner.{AreRowsOf, AreEntriesOf}
+use Rattle.cv_cut.specs.Region.{row_at, IsNear, KeysApart, IsOther, AreRowsOf, AreEntriesOf}
 use Rattle.cv_cut.specs.Replaced.{Grafting}
 
 -- another cut doesn't stand above a path that is near

@@ -23,8 +23,7 @@ use Rattle.cv_cut.specs.Cuts.{is_marked, is_near}
 use Rattle.cv_cut.specs.Catalogues.{kind_of, row_of, entry_of}
 use Rattle.cv_cut.proofs.Members.{passes, passing}
 use Rattle.cv_cut.proofs.MarkLaws.{covers_append, get-in, marked-at, marked-out, marked-in, near-out, near-in, near-at}
-use Rattle.cv_cut.specs.Region.{row_at, IsNear, IsOther}
-use Rattle.cv_cut.specs.RegionInner.{AreRowsOf, AreEntriesOf}
+use Rattle.cv_cut.specs.Region.{row_at, IsNear, IsOther, AreRowsOf, AreEntriesOf}
 
 not_true : (b : Bool) → not b ≡ true → b ≡ false
 not_true true h = absurd cc

@@ -14,6 +14,7 @@ mod Sorted
 mod CanonicalRules
 mod Markers
 mod RegionPaths
+mod Standing
 mod Between
 mod Sides
 mod Collecting

@@ -18,8 +18,7 @@ use Rattle.cv_cut.specs.Cuts.{is_cut, is_inner, is_marked, region}
 use Rattle.cv_cut.specs.Catalogues.{rows_of, nested_of, entry_of, cat, contents_of, IsFull}
 use Rattle.cv_cut.specs.Cut.{is_other, nested_in, row_in, region_at}
 use Rattle.cv_cut.specs.Piece.{region_within}
-use Rattle.cv_cut.specs.Region.{row_at, IsNear, KeysApart, IsOther}
-use Rattle.cv_cut.specs.RegionInner.{AreRowsOf, AreEntriesOf}
+use Rattle.cv_cut.specs.Region.{row_at, IsNear, KeysApart, IsOther, AreRowsOf, AreEntriesOf}
 use Rattle.cv_cut.proofs.Canonical.{cat_is, cat-put_apart, cat-put_below}
 use Rattle.cv_cut.proofs.CanonicalRules.{cut_some, order_length}
 use Rattle.cv_cut.proofs.Contents.{rows_in_order, entries_in_order, rows_count}

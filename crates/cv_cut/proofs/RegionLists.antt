@@ -24,8 +24,7 @@ use Rattle.cv_cut.proofs.RowFacts.{row_key}
 use Rattle.cv_cut.proofs.RegionRules.{StandsAtCut, path_there, region_rules}
 use Rattle.cv_cut.proofs.Bools.{so}
 use Rattle.cv_cut.proofs.Ends.{back}
-use Rattle.cv_cut.specs.Region.{row_at, IsNear, KeysApart, IsOther}
-use Rattle.cv_cut.specs.RegionInner.{AreRowsOf, AreEntriesOf}
+use Rattle.cv_cut.specs.Region.{row_at, IsNear, KeysApart, IsOther, AreRowsOf, AreEntriesOf}
 
 abbrev pub row_list : Path → Nodes → List Row
 row_list c u = map (λ e. row_at c u e.0 e.1) (region u)

@@ -26,8 +26,7 @@ use Rattle.cv_cut.proofs.Ends.{HasLast, some_last}
 use Rattle.cv_cut.proofs.RowFacts.{row_key, row_kind, row_name, parent_at, name_at, root_row, transition_marked, marked_transition, directory_unmarked, file_node, node_file, nested_root_at}
 use Rattle.cv_cut.proofs.RowRules.{row_keeps, suits}
 use Rattle.cv_cut.proofs.Regions.{above, root_node, only_root, stands}
-use Rattle.cv_cut.specs.Region.{row_at, IsNear, KeysApart, IsOther}
-use Rattle.cv_cut.specs.RegionInner.{AreRowsOf, AreEntriesOf}
+use Rattle.cv_cut.specs.Region.{row_at, IsNear, KeysApart, IsOther, AreRowsOf, AreEntriesOf}
 
 -- ---- the place
 

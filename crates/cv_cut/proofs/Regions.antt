@@ -12,8 +12,7 @@ use Rattle.cv_rows.specs.declared.row.Row.{Row}
 use Rattle.cv_cut.specs.Cuts.{is_marked}
 use Rattle.cv_cut.proofs.Ends.{some_last, last_some, near_parent, parent_unmarked}
 use Rattle.cv_cut.proofs.RowFacts.{row_key, row_kind, parent_at, name_at, root_row, not_nested_root, directory_holds}
-use Rattle.cv_cut.specs.Region.{row_at, IsNear, KeysApart}
-use Rattle.cv_cut.specs.RegionInner.{AreRowsOf}
+use Rattle.cv_cut.specs.Region.{row_at, IsNear, KeysApart, AreRowsOf}
 
 -- In what follows u is what stands at a cut c, and its paths begin there.
 

@@ -20,8 +20,7 @@ use Rattle.cv_cut.proofs.Members.{comes_from, goes_to}
 use Rattle.cv_cut.proofs.MarkLaws.{marked-out, longer_covers_not, same_rest}
 use Rattle.cv_cut.proofs.Between.{between_has}
 use Rattle.cv_cut.proofs.Joined.{rest_behind, row-out, is_near-out, was_near-out, other-out, was_other-out}
-use Rattle.cv_cut.specs.Region.{IsOther, StandsOnWay}
-use Rattle.cv_cut.specs.RegionInner.{AreRowsOf, AreEntriesOf}
+use Rattle.cv_cut.specs.Region.{IsOther, StandsOnWay, AreRowsOf, AreEntriesOf}
 
 -- the nested entry of a path is another one, and the others stay
 abbrev pub renewed : Path → List ℕ → Nested → Nested

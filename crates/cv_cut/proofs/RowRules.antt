@@ -60,15 +60,15 @@ suits c u (a ∷ q) (node.File attr file) directory = tt
 suits c u (a ∷ q) (node.Link attr target) directory = tt
 
 pub row_keeps : (kind : RowKind) (p : Path) (n : Node) → IsPath p → IsNode n → Suits kind n → IsRow (row_of kind p n)
-row_keeps Directory p (node.Dir attr) path good suit = record { key = key_is p; parent = parent_is p; mode = good.mode; mtime = good.mtime; uid = good.uid; gid = good.gid; content = (refl, refl, refl); name = named p path }
-row_keeps Transition p (node.Dir attr) path good suit = record { key = key_is p; parent = parent_is p; mode = good.mode; mtime = good.mtime; uid = good.uid; gid = good.gid; content = (refl, refl, refl); name = named p path }
-row_keeps NestedRoot p (node.Dir attr) path good suit = record { key = key_is p; parent = parent_is p; mode = good.mode; mtime = good.mtime; uid = good.uid; gid = good.gid; content = (refl, refl, refl); name = named p path }
+row_keeps Directory p (node.Dir attr) path good suit = record { key = key_is p; parent = parent_is p; attr = good; content = (refl, refl, refl); name = named p path }
+row_keeps Transition p (node.Dir attr) path good suit = record { key = key_is p; parent = parent_is p; attr = good; content = (refl, refl, refl); name = named p path }
+row_keeps NestedRoot p (node.Dir attr) path good suit = record { key = key_is p; parent = parent_is p; attr = good; content = (refl, refl, refl); name = named p path }
 row_keeps File p (node.Dir attr) path good suit = absurd suit
 row_keeps Link p (node.Dir attr) path good suit = absurd suit
 row_keeps Directory p (node.File attr file) path good suit = cc
 row_keeps Transition p (node.File attr file) path good suit = cc
 row_keeps NestedRoot p (node.File attr file) path good suit = cc
-row_keeps File p (node.File attr file) path good suit = record { key = key_is p; parent = parent_is p; mode = good.0.mode; mtime = good.0.mtime; uid = good.0.uid; gid = good.0.gid; content = (good.1.size, good.1.hash, refl); name = named p path }
+row_keeps File p (node.File attr file) path good suit = record { key = key_is p; parent = parent_is p; attr = good.0; content = (good.1.size, good.1.hash, refl); name = named p path }
 row_keeps Link p (node.File attr file) path good suit = absurd suit
 row_keeps Directory p (node.Link attr target) path good suit = cc
 row_keeps Transition p (node.Link attr target) path good suit = cc
@@ -77,10 +77,7 @@ row_keeps File p (node.Link attr target) path good suit = absurd suit
 row_keeps Link p (node.Link attr target) path good suit = record {
   key = key_is p;
   parent = parent_is p;
-  mode = good.0.mode;
-  mtime = good.0.mtime;
-  uid = good.0.uid;
-  gid = good.0.gid;
+  attr = good.0;
   content = (refl, refl, (let some : nat_le 1 (length target) ≡ true = le-leb _ _ good.1.some in rw (some, good.1.text) refl));
   name = named p path;
 }

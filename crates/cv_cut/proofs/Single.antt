@@ -12,7 +12,7 @@ use Rattle.cv_base.specs.PathOrder.{path_total, path_exact, same_path_is}
 use Rattle.cv_base.specs.declared.attr.Attr.{Attr}
 use Rattle.cv_tree.specs.declared.node.Node.{Node}
 use Rattle.cv_tree.specs.declared.node.Node.TheVariants.{Dir}
-use Rattle.cv_tree.specs.Node.{IsAttr}
+use Rattle.cv_base.specs.Attr.{IsAttr}
 use Rattle.cv_tree.specs.Tree.{Nodes, IsTree, single, at}
 use Rattle.cv_tree.proofs.Laws.{entries-from_entries, get-at, IsTree-single}
 use Rattle.cv_rows.specs.Catalogue.{bytes_cmp, file_of}

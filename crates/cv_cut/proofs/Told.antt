@@ -35,8 +35,7 @@ use Rattle.cv_cut.proofs.Sorted.{order_moves}
 use Rattle.cv_cut.proofs.RowFacts.{row_kind, root_row, transition_marked, marked_transition}
 use Rattle.cv_cut.proofs.CanonicalRules.{canonical_at, cut_some, fits_at_cut, other_cut, region_apart}
 use Rattle.cv_cut.proofs.Between.{marked-at}
-use Rattle.cv_cut.specs.Region.{IsNear, KeysApart, FitsAtCut, row_at}
-use Rattle.cv_cut.specs.RegionInner.{AreRowsOf, AreEntriesOf}
+use Rattle.cv_cut.specs.Region.{IsNear, KeysApart, FitsAtCut, row_at, AreRowsOf, AreEntriesOf}
 
 -- ---- rows and entries of a region
 

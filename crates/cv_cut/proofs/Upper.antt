@@ -33,8 +33,7 @@ use Rattle.cv_cut.proofs.Contents.{rows_rise, entries_rise, same_rows, same_entr
 use Rattle.cv_cut.proofs.Told.{rows_are, entries_are}
 use Rattle.cv_cut.proofs.Trees.{at-put_below, cut-out, ends-behind}
 use Rattle.cv_cut.proofs.Holder.{apart_ways}
-use Rattle.cv_cut.specs.Region.{KeysApart, IsOther}
-use Rattle.cv_cut.specs.RegionInner.{AreRowsOf, AreEntriesOf}
+use Rattle.cv_cut.specs.Region.{KeysApart, IsOther, AreRowsOf, AreEntriesOf}
 use Rattle.cv_cut.specs.Replaced.{IsPassed}
 
 -- two beginnings of one path: the one begins the other

@@ -13,8 +13,7 @@ use Rattle.cv_tree.proofs.Laws.{get-at, at-at}
 use Rattle.cv_cut.specs.Cuts.{is_cut, is_marked, is_near, between}
 use Rattle.cv_cut.specs.Cut.{catalogue_object}
 use Rattle.cv_cut.proofs.Members.{first_there, later_there}
-use Rattle.cv_cut.specs.Above.{above, cuts_above}
-use Rattle.cv_cut.specs.AboveInner.{made_from}
+use Rattle.cv_cut.specs.Above.{above, cuts_above, made_from}
 use Rattle.cv_cut.proofs.MarkLaws.{between-behind, marked-at}
 use Rattle.cv_cut.proofs.Between.{between_is}
 use Rattle.cv_cut.specs.Region.{StandsOnWay}

@@ -3,9 +3,7 @@ pub mod Catalogues
 pub mod Cut
 pub mod CutInner
 pub mod Above
-pub mod AboveInner
 pub mod Region
-pub mod RegionInner
 pub mod Replaced
 pub mod Over
 pub mod Told
@@ -15,7 +13,6 @@ pub mod Own
 pub mod Piece
 pub mod PieceInner
 pub mod Reached
-pub mod ReachedInner
 pub mod Good
 pub mod Opening
 pub mod OpeningInner

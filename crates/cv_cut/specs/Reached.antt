@@ -83,3 +83,6 @@ Lacking shelf root = LackingFrom shelf root root_place
 
 abbrev pub Bad : Shelf → List ℕ → ObjectId → Type 0
 Bad shelf root = BadFrom shelf root root_place
+
+abbrev pub Reached : Shelf → List ℕ → ObjectId → Type 0
+Reached shelf root = ReachedFrom shelf root root_place

@@ -1,12 +1,13 @@
 -- The rows and nested entries of the region of a cut, in whatever order.
-use Rattle.std.specs.Prelude.{◌≡◌, ◌≢◌, ◌<◌, ◌^◌, true, [], ◌++◌, Some, length}
+use Rattle.std.specs.Prelude.{◌≡◌, ◌≢◌, ◌<◌, ◌^◌, true, [], ◌++◌, Some, length, ℕ, List, Contains}
 use Rattle.std.specs.FinMap.{get}
 use Rattle.cv_base.specs.Path.{Path, key_of}
 use Rattle.cv_tree.specs.Tree.{Nodes, at}
 use Rattle.cv_tree.specs.declared.node.Node.{Node}
 use Rattle.cv_rows.specs.declared.row.Row.{Row}
 use Rattle.cv_cut.specs.Cuts.{is_cut, is_marked, is_near}
-use Rattle.cv_cut.specs.Catalogues.{kind_of, row_of, cat, IsFull}
+use Rattle.cv_cut.specs.Catalogues.{kind_of, row_of, cat, IsFull, entry_of}
+use Rattle.cv_rows.specs.declared.nested.Nested.{Nested}
 
 -- In what follows u is what stands at a cut c, and its paths begin there.
 
@@ -53,3 +54,13 @@ pub record Passes (t : Nodes) (p c r e f : Path) : Type 0 where
   pub cut : is_cut t c ≡ true
   pub way : StandsOnWay (at t c) r e f
   pub near : is_near (at t c) e ≡ true
+
+-- in whatever order, these are the rows of the region
+pub record AreRowsOf (c : Path) (u : Nodes) (rows : List Row) : Type 0 where
+  pub each : (r : Row) → Contains rows r → (q : Path) × (n : Node) × IsNear u q n × (r ≡ row_at c u q n)
+  pub all : (q : Path) (n : Node) → IsNear u q n → Contains rows (row_at c u q n)
+
+-- in whatever order, these are the nested entries of the region, where the other cuts have these files
+pub record AreEntriesOf (c : Path) (u : Nodes) (file : Path → List ℕ) (nested : List Nested) : Type 0 where
+  pub each : (n : Nested) → Contains nested n → (d : Path) × IsOther u d × (n ≡ entry_of (c ++ d) (file d))
+  pub all : (d : Path) → IsOther u d → Contains nested (entry_of (c ++ d) (file d))

@@ -6,7 +6,7 @@ ghost use Rattle.std.specs.Cmp.Lexicographic.{slice_cmp};
 ghost use Rattle.std.specs.FinMap as map;
 ghost use Rattle.std.specs.Ordering.{nat_cmp};
 ghost use Rattle.cv_rows.specs.Made.{AreApart};
-ghost use Rattle.cv_tree.specs.Tree.{at};
+ghost use Rattle.cv_tree.specs.Tree.{IsTree, at};
 ghost use Rattle.cv_cut.specs.Cut.{keys_at};
 ghost use Rattle.cv_cut.specs.CutInner.{AreSame, IsCollision};
 ghost use Rattle.cv_cut.specs.PieceInner.{AreCutsWithin, IsSharedAmong};
@@ -67,6 +67,7 @@ pub(crate) fn check_keys(
     entries: &[(RepoPath, Node)],
     cuts: &[RepoPath],
 ) -> Result<(), CutFault>
+    requires tree { IsTree tree.now }
     requires entries { entries.now ≡ map.entries tree.now }
     requires cuts { AreCutsWithin tree.now cuts.now }
     ensures ok { OnOk result (All (λ c. KeysApart c (at tree.now c)) cuts.now) }

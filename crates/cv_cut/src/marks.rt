@@ -1,5 +1,5 @@
 //! Directories that are marked as roots of nested catalogues.
-ghost use Rattle.std.specs.Prelude.{◌≡◌, ◌≢◌, ◌∷◌, ◌++◌, [], true, false, IfOk};
+ghost use Rattle.std.specs.Prelude.{◌≡◌, ◌≢◌, ◌∷◌, ◌++◌, [], true, false, Some, IfOk};
 ghost use Rattle.std.specs.FinMap as map;
 ghost use Rattle.cv_base.specs.Marker.{marker};
 ghost use Rattle.cv_base.specs.Path.{covers};
@@ -33,28 +33,38 @@ fn holds_marker(alloc: Global, tree: &Tree, path: &RepoPath) -> Result<bool, NoM
     }
 }
 
-/// Whether a marked directory stands at a path.
-pub(crate) fn is_marked(alloc: Global, tree: &Tree, path: &RepoPath) -> Result<bool, NoMemory>
+/// Whether the node at a path is a marked directory.
+pub(crate) fn is_marked(
+    alloc: Global,
+    tree: &Tree,
+    path: &RepoPath,
+    node: &Node,
+) -> Result<bool, NoMemory>
+    requires tree { IsTree tree.now }
+    requires node { map.get tree.now path.now ≡ Some node.now }
     ensures { IfOk result (λ marked. marked ≡ is_marked tree.now path.now) }
 {
-    match tree.get(path) {
-        Some(Node::Dir(_)) => holds_marker(alloc, tree, path),
-        _ => Ok(false),
+    match node {
+        Node::Dir(_) => holds_marker(alloc, tree, path),
+        Node::File(_, _) | Node::Link(_, _) => Ok(false),
     }
 }
 
-/// Whether a path that a cut covers is another cut.
+/// Whether a path that a cut covers, with this node, is another cut.
 pub(crate) fn is_other(
     alloc: Global,
     tree: &Tree,
     cut: &RepoPath,
     path: &RepoPath,
+    node: &Node,
 ) -> Result<bool, NoMemory>
-    requires { covers cut.now path.now ≡ true }
+    requires tree { IsTree tree.now }
+    requires node { map.get tree.now path.now ≡ Some node.now }
+    requires covered { covers cut.now path.now ≡ true }
     ensures { IfOk result (λ other. other ≡ is_other tree.now cut.now path.now) }
 {
     if path.names().len() == cut.names().len() {
         return Ok(false);
     }
-    is_marked(alloc, tree, path)
+    is_marked(alloc, tree, path, node)
 }

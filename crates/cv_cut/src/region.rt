@@ -1,8 +1,9 @@
 //! The cuts of a tree, and their regions.
-ghost use Rattle.std.specs.Prelude.{◌≡◌, ◌≤◌, true, not, filter, length, take, drop, reverse, IfOk, if◌then◌else◌};
+ghost use Rattle.std.specs.Prelude.{◌≡◌, ◌≤◌, true, not, filter, length, take, drop, reverse, Some, IfOk, if◌then◌else◌};
 ghost use Rattle.std.specs.FinMap as map;
 ghost use Rattle.std.specs.Ordering.{is_lt};
 ghost use Rattle.cv_base.specs.Path.{path_cmp, covers};
+ghost use Rattle.cv_tree.specs.Tree.{IsTree};
 ghost use Rattle.cv_cut.specs.Cuts.{is_cut, cuts_of};
 ghost use Rattle.cv_cut.specs.Cut.{is_other, region_at};
 ghost use Rattle.cv_cut.specs.CutInner.{StandFrom};
@@ -12,14 +13,16 @@ use cv_base::{NoMemory, RepoPath};
 use cv_tree::{Node, Tree};
 use std::alloc::Global;
 
-/// Whether a path is that of a cut.
-fn is_cut(alloc: Global, tree: &Tree, path: &RepoPath) -> Result<bool, NoMemory>
+/// Whether a path, with this node, is that of a cut.
+fn is_cut(alloc: Global, tree: &Tree, path: &RepoPath, node: &Node) -> Result<bool, NoMemory>
+    requires tree { IsTree tree.now }
+    requires node { map.get tree.now path.now ≡ Some node.now }
     ensures { IfOk result (λ found. found ≡ is_cut tree.now path.now) }
 {
     if path.names().is_empty() {
         return Ok(true);
     }
-    is_marked(alloc, tree, path)
+    is_marked(alloc, tree, path, node)
 }
 
 /// The cuts of a tree with these entries, in the reverse order of their paths: so those below a cut stand before it.
@@ -28,12 +31,13 @@ pub(crate) fn cuts(
     tree: &Tree,
     entries: &[(RepoPath, Node)],
 ) -> Result<Vec<RepoPath>, NoMemory>
-    requires { entries.now ≡ map.entries tree.now }
+    requires tree { IsTree tree.now }
+    requires entries { entries.now ≡ map.entries tree.now }
     ensures { IfOk result (λ found. found.items ≡ reverse (cuts_of tree.now)) }
 {
     let mut found = Vec::new(alloc);
     for entry in entries {
-        if is_cut(alloc, tree, &entry.0)? {
+        if is_cut(alloc, tree, &entry.0, &entry.1)? {
             found.push(entry.0.copy(alloc)?)?;
         }
     }
@@ -82,15 +86,17 @@ fn left_behind<'a>(
     alloc: Global,
     tree: &Tree,
     cut: &RepoPath,
-    path: &RepoPath,
+    first: &(RepoPath, Node),
     more: &'a [(RepoPath, Node)],
 ) -> Result<&'a [(RepoPath, Node)], NoMemory>
-    requires covered { covers cut.now path.now ≡ true }
-    requires more { StandFrom path.now more.now }
-    ensures { IfOk result (λ rest. rest.now ≡ (if is_other tree.now cut.now path.now then filter (λ e. not (covers path.now e.0)) more.now else more.now)) }
+    requires tree { IsTree tree.now }
+    requires node { map.get tree.now first.now.0 ≡ Some first.now.1 }
+    requires covered { covers cut.now first.now.0 ≡ true }
+    requires more { StandFrom first.now.0 more.now }
+    ensures { IfOk result (λ rest. rest.now ≡ (if is_other tree.now cut.now first.now.0 then filter (λ e. not (covers first.now.0 e.0)) more.now else more.now)) }
 {
-    if is_other(alloc, tree, cut, path)? {
-        Ok(&more[count_covered(more, path)..])
+    if is_other(alloc, tree, cut, &first.0, &first.1)? {
+        Ok(&more[count_covered(more, &first.0)..])
     } else {
         Ok(more)
     }
@@ -110,14 +116,15 @@ pub(crate) fn region(
     entries: &[(RepoPath, Node)],
     cut: &RepoPath,
 ) -> Result<Vec<(RepoPath, Node)>, NoMemory>
-    requires { entries.now ≡ map.entries tree.now }
+    requires tree { IsTree tree.now }
+    requires entries { entries.now ≡ map.entries tree.now }
     ensures { IfOk result (λ region. region.items ≡ region_at tree.now cut.now) }
 {
     let mut region = Vec::new(alloc);
     let mut rest = covered(entries, cut);
     while let Some((first, more)) = rest.split_first() {
         region.push(copy(alloc, first)?)?;
-        rest = left_behind(alloc, tree, cut, &first.0, more)?;
+        rest = left_behind(alloc, tree, cut, first, more)?;
     }
     Ok(region)
 }

@@ -1,11 +1,12 @@
 //! The rows of a region.
-ghost use Rattle.std.specs.Prelude.{◌≡◌, true, map, IfOk, if◌then◌else◌};
+ghost use Rattle.std.specs.Prelude.{◌≡◌, true, map, Some, IfOk, if◌then◌else◌};
 ghost use Rattle.std.specs.List.{All};
+ghost use Rattle.std.specs.FinMap.{get};
 ghost use Rattle.cv_base.specs.Path.{covers, last_name_of};
 ghost use Rattle.cv_base.specs.Target.{is_target};
 ghost use Rattle.cv_rows.specs.Places.{root_kind};
 ghost use Rattle.cv_rows.specs.declared.row_kind.RowKind.TheVariants as kinds;
-ghost use Rattle.cv_tree.specs.Tree.{at};
+ghost use Rattle.cv_tree.specs.Tree.{IsTree, at};
 ghost use Rattle.cv_cut.specs.Cuts.{is_marked};
 ghost use Rattle.cv_cut.specs.Catalogues.{kind_of, row_of};
 ghost use Rattle.cv_cut.specs.Cut.{rest_of, row_in};
@@ -39,10 +40,17 @@ fn root_kind(cut: &RepoPath) -> RowKind
 }
 
 /// The kind of the row of a directory below a cut: a Transition where another catalogue begins.
-fn directory_kind(alloc: Global, tree: &Tree, path: &RepoPath) -> Result<RowKind, NoMemory>
+fn directory_kind(
+    alloc: Global,
+    tree: &Tree,
+    path: &RepoPath,
+    node: &Node,
+) -> Result<RowKind, NoMemory>
+    requires tree { IsTree tree.now }
+    requires node { get tree.now path.now ≡ Some node.now }
     ensures { IfOk result (λ kind. kind ≡ (if is_marked tree.now path.now then kinds.Transition else kinds.Directory)) }
 {
-    if is_marked(alloc, tree, path)? {
+    if is_marked(alloc, tree, path, node)? {
         Ok(RowKind::Transition)
     } else {
         Ok(RowKind::Directory)
@@ -57,14 +65,16 @@ fn kind(
     path: &RepoPath,
     node: &Node,
 ) -> Result<RowKind, NoMemory>
-    requires { covers cut.now path.now ≡ true }
+    requires tree { IsTree tree.now }
+    requires node { get tree.now path.now ≡ Some node.now }
+    requires covered { covers cut.now path.now ≡ true }
     ensures { IfOk result (λ kind. kind ≡ kind_of cut.now (at tree.now cut.now) (rest_of cut.now path.now) node.now) }
 {
     if path.names().len() == cut.names().len() {
         return Ok(root_kind(cut));
     }
     match node {
-        Node::Dir(_) => directory_kind(alloc, tree, path),
+        Node::Dir(_) => directory_kind(alloc, tree, path, node),
         Node::File(_, _) => Ok(RowKind::File),
         Node::Link(_, _) => Ok(RowKind::Link),
     }
@@ -109,7 +119,9 @@ pub(crate) fn rows(
     cut: &RepoPath,
     region: &[(RepoPath, Node)],
 ) -> Result<Vec<Row>, NoMemory>
-    requires { All (λ e. covers cut.now e.0 ≡ true) region.now }
+    requires tree { IsTree tree.now }
+    requires nodes { All (λ e. get tree.now e.0 ≡ Some e.1) region.now }
+    requires paths { All (λ e. covers cut.now e.0 ≡ true) region.now }
     ensures { IfOk result (λ rows. rows.items ≡ map (row_in tree.now cut.now) region.now) }
 {
     let mut rows = Vec::new(alloc);

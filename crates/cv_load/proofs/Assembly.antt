@@ -24,8 +24,7 @@ use Rattle.cv_cut.specs.Cuts.{is_file, is_marked}
 use Rattle.cv_base.specs.ObjectId.{object_id}
 use Rattle.cv_base.specs.declared.id.Kind.TheVariants as id_kind
 use Rattle.cv_base.proofs.Laws.{first_true, second_true}
-use Rattle.cv_load.specs.Growth.{filled}
-use Rattle.cv_load.specs.GrowthInner.{HasRows, IsOfRows, IsFilled}
+use Rattle.cv_load.specs.GrowthInner.{HasRows, IsOfRows, IsFilled, filled}
 use Rattle.cv_cut.specs.Told.{node_of, node_as}
 use Rattle.cv_load.proofs.Growing.{place_of, some_there}
 use Rattle.cv_load.proofs.Standing.{IsOpen, Standing, so_root, so_below, stands_so, rules_of, same_contents, contents_same, row_same, one_holder, one_node, last_same, moved, parent_standing}

@@ -22,8 +22,7 @@ use Rattle.cv_rows.proofs.Lemmas.{stands_contained, one_place}
 use Rattle.cv_cut.specs.Cuts.{is_file, is_inner}
 use Rattle.cv_cut.specs.Catalogues.{kind_of, row_of, rows_of, nested_of}
 use Rattle.cv_cut.proofs.Lemmas.{row_kind, transition_marked, marked_transition}
-use Rattle.cv_cut.specs.Region.{IsNear, row_at}
-use Rattle.cv_cut.specs.RegionInner.{AreRowsOf, AreEntriesOf}
+use Rattle.cv_cut.specs.Region.{IsNear, row_at, AreRowsOf, AreEntriesOf}
 
 -- ---- single rows
 

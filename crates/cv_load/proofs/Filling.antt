@@ -16,8 +16,8 @@ use Rattle.cv_rows.proofs.Lemmas.{stands_contained, same_by_key, fits_there}
 use Rattle.cv_cut.specs.Reached.{Reaches, Place, ReachesCatalogue, HasCatalogue, root_place}
 use Rattle.cv_cut.proofs.Lemmas.{nested_unopened}
 use Rattle.cv_cut.specs.declared.load_fault.LoadFault.{LoadFault}
-use Rattle.cv_load.specs.Growth.{Grows, GrowsBy, filled}
-use Rattle.cv_load.specs.GrowthInner.{HasRows, HasFiles, IsOfRows, IsFilled, FillsFrom}
+use Rattle.cv_load.specs.Growth.{Grows, GrowsBy}
+use Rattle.cv_load.specs.GrowthInner.{HasRows, HasFiles, IsOfRows, IsFilled, FillsFrom, filled}
 use Rattle.cv_load.proofs.Growing.{still_there, each_more, each_all}
 use Rattle.cv_cut.specs.Good.{HasSize}
 use Rattle.cv_cut.specs.Opening.{OpensNested, IsNestedCatalogue}

@@ -21,8 +21,8 @@ use Rattle.cv_rows.proofs.Lemmas.{stands_contained, one_place, fits_there}
 use Rattle.cv_cut.specs.Reached.{Place, ReachesCatalogue, Reaches, root_place}
 use Rattle.cv_cut.specs.Means.{Means}
 use Rattle.cv_cut.proofs.Lemmas.{none_there, first_there, later_there, first_or_later, transition_of}
-use Rattle.cv_load.specs.Growth.{Grows, GrowsBy, filled}
-use Rattle.cv_load.specs.GrowthInner.{IsOfRows, IsFilled, FillsIn}
+use Rattle.cv_load.specs.Growth.{Grows, GrowsBy}
+use Rattle.cv_load.specs.GrowthInner.{IsOfRows, IsFilled, FillsIn, filled}
 use Rattle.cv_cut.specs.Told.{node_of, node_as, hash_of}
 use Rattle.cv_load.proofs.Growing.{place_of, some_there, still_there, added_by_insert, inserted_there, grows_more, grows_added}
 use Rattle.cv_load.proofs.Filling.{filled_more, one_row}
@@ -147,11 +147,11 @@ pub node_limits : (r : Row) → IsRow r → IsNode (node_of r)
 node_limits r is = go r.kind is.content
   where
     go : (k : RowKind) → HasContent k r.size r.hash r.target → IsNode (node_as k r)
-    go Directory h = record { mode = is.mode; mtime = is.mtime; uid = is.uid; gid = is.gid }
-    go Transition h = record { mode = is.mode; mtime = is.mtime; uid = is.uid; gid = is.gid }
-    go NestedRoot h = record { mode = is.mode; mtime = is.mtime; uid = is.uid; gid = is.gid }
-    go File h = (record { mode = is.mode; mtime = is.mtime; uid = is.uid; gid = is.gid }, record { hash = digest_of r.hash h.1; size = h.0 })
-    go Link h = (record { mode = is.mode; mtime = is.mtime; uid = is.uid; gid = is.gid }, record { some = target_some r.target h.2; text = second_true (nat_le 1 (length r.target)) (is_target r.target) h.2 })
+    go Directory h = is.attr
+    go Transition h = is.attr
+    go NestedRoot h = is.attr
+    go File h = (is.attr, record { hash = digest_of r.hash h.1; size = h.0 })
+    go Link h = (is.attr, record { some = target_some r.target h.2; text = second_true (nat_le 1 (length r.target)) (is_target r.target) h.2 })
 
 module _ {shelf : Shelf} {top : List ℕ} {t : Nodes} (fills : IsFilled shelf t top root_place) (rows : IsOfRows shelf top t) where
   standing : (q : Path) (n : Node) → get t q ≡ Some n → (s : Standing shelf top q) × (n ≡ node_of s.row)

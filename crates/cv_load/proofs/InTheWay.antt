@@ -23,8 +23,7 @@ use Rattle.cv_rows.specs.declared.row_kind.RowKind.{RowKind}
 use Rattle.cv_cut.specs.Cuts.{is_cut}
 use Rattle.cv_cut.specs.Catalogues.{kind_of, row_of, cat}
 use Rattle.cv_cut.specs.Means.{Means}
-use Rattle.cv_cut.specs.Reached.{ReachedFrom, Reaches, Place, Decodes, HasCatalogue, ReachesCatalogue, itself, Lacking, Misstates, Bad}
-use Rattle.cv_cut.specs.ReachedInner.{Reached}
+use Rattle.cv_cut.specs.Reached.{ReachedFrom, Reaches, Place, Decodes, HasCatalogue, ReachesCatalogue, itself, Lacking, Misstates, Bad, Reached}
 use Rattle.cv_cut.proofs.Lemmas.{cat_is, IsRowThere, root_node, stands_only, stands_at_cut, root_row, canonical, other_cut, region_apart, one_decoding}
 use Rattle.cv_cut.specs.Catalogues.{contents_of}
 use Rattle.cv_load.proofs.CutRows.{IsKept}

@@ -15,8 +15,8 @@ use Rattle.cv_rows.specs.declared.row_kind.RowKind.TheVariants.{Transition}
 use Rattle.cv_cut.specs.Reached.{Place, HasCatalogue, root_place}
 use Rattle.cv_load.specs.declared.known_set.KnownSet.{KnownSet}
 use Rattle.cv_load.specs.Known.{is_known}
-use Rattle.cv_load.specs.NewFetches.{ReachesNew, new_root, new_nested, ended, listed, HasNew}
-use Rattle.cv_load.specs.NewFetchesInner.{IsListed, HasAll, ListsFrom}
+use Rattle.cv_load.specs.NewFetches.{ReachesNew, new_root, new_nested, HasNew}
+use Rattle.cv_load.specs.NewFetchesInner.{IsListed, HasAll, ListsFrom, ended, listed}
 use Rattle.cv_load.proofs.Growing.{each_more, each_all}
 use Rattle.cv_load.proofs.Filling.{one_row}
 use Rattle.cv_load.proofs.Standing.{same_contents}

@@ -36,8 +36,7 @@ use Rattle.cv_cut.specs.Catalogues.{cat, nested_of, entry_of}
 use Rattle.cv_load.proofs.WholeRegions.{names_open}
 use Rattle.cv_load.proofs.OwnRows.{kind_is, near_of, same_rows}
 use Rattle.cv_cut.specs.Good.{HasSize}
-use Rattle.cv_cut.specs.Region.{IsOther}
-use Rattle.cv_cut.specs.RegionInner.{AreEntriesOf}
+use Rattle.cv_cut.specs.Region.{IsOther, AreEntriesOf}
 
 -- a marked directory is a cut, and so is the root
 pub marked_cut : (t : Nodes) (p : Path) → (p ≢ [] → is_marked t p ≡ true) → is_cut t p ≡ true

@@ -33,8 +33,7 @@ use Rattle.cv_cut.specs.Catalogues.{kind_of, row_of, rows_of}
 use Rattle.cv_cut.proofs.Lemmas.{parent_key-append, last_name-append, row_list, keys_apart, rows_of-by_key, order_rises, rows_are, same_list}
 use Rattle.cv_cut.specs.Told.{hash_of}
 use Rattle.cv_load.proofs.WholeRegions.{marked_at, near_by, transition_marked, row_near}
-use Rattle.cv_cut.specs.Region.{IsNear, row_at, KeysApart}
-use Rattle.cv_cut.specs.RegionInner.{AreRowsOf}
+use Rattle.cv_cut.specs.Region.{IsNear, row_at, KeysApart, AreRowsOf}
 
 -- ---- the row of a node
 

@@ -9,8 +9,7 @@ use Rattle.cv_ports.specs.Shelf.{Shelf}
 use Rattle.cv_rows.specs.Catalogue.{Contents}
 use Rattle.cv_rows.specs.declared.row.Row.{Row}
 use Rattle.cv_rows.specs.declared.row_kind.RowKind.TheVariants.{File}
-use Rattle.cv_cut.specs.Reached.{ReachedFrom, Place, HasCatalogue, ReachesCatalogue, Misstates, root_place}
-use Rattle.cv_cut.specs.ReachedInner.{Reached}
+use Rattle.cv_cut.specs.Reached.{ReachedFrom, Place, HasCatalogue, ReachesCatalogue, Misstates, root_place, Reached}
 use Rattle.cv_cut.specs.Opening.{MayFail}
 use Rattle.cv_cut.specs.declared.load_fault.LoadFault.{LoadFault}
 use Rattle.cv_cut.specs.declared.load_fault.LoadFault.TheVariants as fault

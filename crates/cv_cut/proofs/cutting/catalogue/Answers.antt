@@ -1,13 +1,20 @@
 use Rattle.std.proofs.Common.{ap, Err, [], ◌∷◌}
 use Rattle.cv_cut.proofs.Collisions.{handed_on, sharing_of}
 use Rattle.cv_cut.proofs.KindLaws.{all_covered}
+use Rattle.cv_cut.proofs.Standing.{region_stands}
 use Rattle.cv_cut.proofs.CutLaws.{made_from, parts_of, made_apart, not_apart, bytes_of, full_cut, not_full_cut}
 use Rattle.cv_cut.specs.PieceInner.{IsFaultAmong}
 use Rattle.cv_cut.proofs.Members.{first_there}
 use Rattle.cv_cut.proofs.cutting.catalogue.Goals as goal
 
-pub rows-requires : goal.rows-requires
-rows-requires c = all_covered c.args.tree.now c.args.cut.now c.args.region.now c.requires.region
+pub rows-requires-clause-nodes : goal.rows-requires-clause-nodes
+rows-requires-clause-nodes c = region_stands c.args.tree.now c.args.cut.now c.args.region.now c.requires.region
+
+pub rows-requires-clause-paths : goal.rows-requires-clause-paths
+rows-requires-clause-paths c = all_covered c.args.tree.now c.args.cut.now c.args.region.now c.requires.region
+
+pub nested-requires-clause-nodes : goal.nested-requires-clause-nodes
+nested-requires-clause-nodes c = region_stands c.args.tree.now c.args.cut.now c.args.region.now c.requires.region
 
 pub nested-requires-clause-paths : goal.nested-requires-clause-paths
 nested-requires-clause-paths c = all_covered c.args.tree.now c.args.cut.now c.args.region.now c.requires.region
