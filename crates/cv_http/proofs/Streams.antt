@@ -8,8 +8,8 @@ use Rattle.std.proofs.Common.{◌+◌}
 use Rattle.cv_ports.specs.Streams.{Look, front, onto}
 use Rattle.cv_ports.proofs.Laws.{front_twice, onto_twice}
 use Rattle.cv_http.specs.Forms.{Form, HasNone, window, HasHeadAs, BeginsAs, NeverAs, UnfinishedAs, RefusedAs, AwaitedAs, never, large, judged}
-use Rattle.cv_http.specs.Wires.{WireView, Reads, Draws, LookedAt, Looks, Beside, HeadReadAs, BodyRead}
-use Rattle.cv_http.specs.WiresInner.{Gets, HeadLost, HeadFound}
+use Rattle.cv_http.specs.Wires.{WireView, Reads, Draws, LookedAt, Looks, Beside, HeadReadAs, BodyRead, Gets}
+use Rattle.cv_http.specs.WiresInner.{HeadLost, HeadFound}
 use Rattle.cv_http.specs.Faults.{IsHeadFault}
 use Rattle.cv_http.specs.FaultsInner.{IsRefusal, IsPieceFault}
 use Rattle.cv_http.proofs.Refusals.{refusal}

@@ -91,3 +91,10 @@ PieceRead b held (Err NoLength) = Unit {0}
 PieceRead b held (Err Coding) = Unit {0}
 PieceRead b held (Err ReadFault) = b ≡ []
 PieceRead b held (Err NoMemory) = Unit {0}
+
+-- so much was got of the source, which tells that it gave it, and is held behind what was held
+pub record Gets {R : Type 0} (left given : R → Option (List ℕ)) (wire wire' : WireView R) : Type 0 where
+  pub got : List ℕ
+  pub told : left wire.source ≡ front got (left wire'.source)
+  pub gave : given wire'.source ≡ onto (given wire.source) got
+  pub more : wire'.held ≡ wire.held ++ got

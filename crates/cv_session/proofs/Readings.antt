@@ -19,8 +19,7 @@ use Rattle.cv_session.specs.declared.turn.Turn.{Turn}
 use Rattle.cv_session.specs.Requests.{head_refused, body_refused, inside_head, inside_body, Reached, before_head, behind_head, awaits_head, awaits_body, WantsAny, body_size, body_limit, waits, line_text}
 use Rattle.cv_session.specs.RequestsInner.{Asks}
 use Rattle.cv_session.specs.Requests.WantsAny.{payload as payload_wants, other as other_wants}
-use Rattle.cv_session.specs.Exchanges.{whole, ended, fault, unsaid, behind, large, breaks, unsaid_behind}
-use Rattle.cv_session.specs.ExchangesInner.{IsWhy, IsAsking, IsAskingBehind, Gets, GetsBehind}
+use Rattle.cv_session.specs.ExchangesInner.{IsWhy, IsAsking, IsAskingBehind, Gets, GetsBehind, whole, ended, fault, unsaid, behind, large, breaks, unsaid_behind}
 use Rattle.cv_session.specs.declared.request.Asked.{Asked}
 use Rattle.cv_session.specs.declared.request.Unread.{Unread}
 use Rattle.cv_session.specs.declared.request.Unread.TheVariants.{Fault}

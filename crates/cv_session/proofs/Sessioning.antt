@@ -19,9 +19,9 @@ use Rattle.cv_keys.specs.declared.key.Key.{Key}
 use Rattle.cv_gate.specs.Desk.{Call}
 use Rattle.cv_session.specs.Asking.{Turned, refusing, IsNext, Opens, clean, closed, cut}
 use Rattle.cv_session.specs.Asking.EndsWith.{refused as asked_refused}
-use Rattle.cv_session.specs.Exchanges.{fault, request_limit, ends, is_full, whole, front, nothing, answered, unanswered, refused, broken_off, cut_short, not_read, no_memory, not_said}
-use Rattle.cv_session.specs.ExchangesInner.{IsWhy, IsAsking, Gets, end_after, Handles, EndsBy}
-use Rattle.cv_session.specs.Exchanges.Gets.{whole as read_whole, ended as read_end, unsaid as line_unsaid}
+use Rattle.cv_session.specs.Exchanges.{request_limit, ends, is_full}
+use Rattle.cv_session.specs.ExchangesInner.{IsWhy, IsAsking, Gets, end_after, Handles, EndsBy, fault, whole, front, nothing, answered, unanswered, refused, broken_off, cut_short, not_read, no_memory, not_said}
+use Rattle.cv_session.specs.ExchangesInner.Gets.{whole as read_whole, ended as read_end, unsaid as line_unsaid}
 use Rattle.cv_session.specs.Requests.{Request, IsRequest, IsBad, Reached, waits, line_text, code_of_fault}
 use Rattle.cv_session.specs.Responses.{unsaid, reply_of}
 use Rattle.cv_session.specs.ResponsesInner.{Does}

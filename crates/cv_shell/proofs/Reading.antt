@@ -2,8 +2,7 @@
 use Rattle.std.proofs.Common.{◌≡◌, ◌++◌, ℕ, List, sym, subst, ap, ◌∙◌, refl}
 use Rattle.std.specs.Prelude.{Option, Some, None, Result, Ok, Err, IsErrAnd}
 use Rattle.cv_ports.specs.Streams.{Look}
-use Rattle.cv_http.specs.Wires.{WireView, Looks, Beside}
-use Rattle.cv_http.specs.WiresInner.{Gets}
+use Rattle.cv_http.specs.Wires.{WireView, Looks, Beside, Gets}
 use Rattle.cv_http.proofs.Lemmas.{looks_then}
 use Rattle.cv_shell.specs.Lines.{IsLine, LineRead}
 use Rattle.cv_shell.specs.LinesInner.{LineFound, IsPieceFault}

@@ -3,8 +3,7 @@ use Rattle.std.proofs.Common.{◌≡◌, ◌++◌, ℕ, List, [], refl, ap, sym,
 use Rattle.std.specs.Prelude.{Option, Some, None}
 use Rattle.cv_ports.specs.Streams.{front, onto}
 use Rattle.cv_ports.proofs.Laws.{front_twice, onto_twice}
-use Rattle.cv_http.specs.Wires.{WireView, Draws}
-use Rattle.cv_http.specs.WiresInner.{Gets}
+use Rattle.cv_http.specs.Wires.{WireView, Draws, Gets}
 
 -- nothing before what is left, and nothing behind what was given
 front_none : (left : Option (List ℕ)) → left ≡ front [] left

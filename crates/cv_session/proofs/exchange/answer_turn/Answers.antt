@@ -1,5 +1,5 @@
 use Rattle.std.proofs.Common.{refl}
-use Rattle.cv_session.specs.Exchanges.{answered, unanswered}
+use Rattle.cv_session.specs.ExchangesInner.{answered, unanswered}
 use Rattle.cv_session.proofs.exchange.answer_turn.Goals as goal
 
 pub returns-in-Ok-clause-handles : goal.returns-in-Ok-clause-handles

@@ -2,7 +2,7 @@ use Rattle.std.proofs.Common.{subst, ap, ◌∙◌, Err, Bool}
 use Rattle.std.specs.Prelude.{is_some}
 use Rattle.cv_ports.specs.Streams.{onto, Wrote}
 use Rattle.cv_session.specs.Responses.{reply_of}
-use Rattle.cv_session.specs.Exchanges.{whole, front, nothing}
+use Rattle.cv_session.specs.ExchangesInner.{whole, front, nothing}
 use Rattle.cv_session.proofs.exchange.send.Goals as goal
 
 pub returns-in-Ok-clause-sends : goal.returns-in-Ok-clause-sends

@@ -2,8 +2,7 @@ use Rattle.std.proofs.Common.{refl, ◌∙◌, Err, rules, subst, Bool}
 use Rattle.cv_ports.specs.Streams.{Wrote}
 use Rattle.cv_http.proofs.Lemmas.{reads_none, looks_none}
 use Rattle.cv_session.specs.Requests.{line_text}
-use Rattle.cv_session.specs.Exchanges.{large, unsaid_behind}
-use Rattle.cv_session.specs.ExchangesInner.{GetsBehind}
+use Rattle.cv_session.specs.ExchangesInner.{GetsBehind, large, unsaid_behind}
 use Rattle.cv_session.specs.declared.request.Unread.TheVariants.{Fault, Unsaid}
 use Rattle.cv_http.specs.declared.fault.HttpFault.TheVariants.{BodyTooLarge}
 use Rattle.cv_session.proofs.Readings.{behind_whole, behind_fault, asks_body}

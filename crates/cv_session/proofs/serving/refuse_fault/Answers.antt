@@ -1,5 +1,5 @@
 use Rattle.std.proofs.Common.{refl, sym, ◌∙◌, ap, Err, arith}
-use Rattle.cv_session.specs.Exchanges.{refused, broken_off, cut_short, not_read, no_memory}
+use Rattle.cv_session.specs.ExchangesInner.{refused, broken_off, cut_short, not_read, no_memory}
 use Rattle.cv_session.specs.declared.request.Unread.TheVariants.{Fault}
 use Rattle.cv_session.proofs.serving.refuse_fault.Goals as goal
 

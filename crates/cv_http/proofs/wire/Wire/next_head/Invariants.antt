@@ -1,6 +1,5 @@
 use Rattle.std.proofs.Common.{◌≤◌, length, ◌-◌}
-use Rattle.cv_http.specs.Wires.{Looks, Beside}
-use Rattle.cv_http.specs.WiresInner.{Gets}
+use Rattle.cv_http.specs.Wires.{Looks, Beside, Gets}
 use Rattle.cv_http.specs.Forms.{AwaitedAs}
 use Rattle.cv_http.specs.HeadEndsInner.{NoneWithin}
 use Rattle.cv_http.proofs.wire.Wire.next_head.Given as goal

@@ -1,6 +1,5 @@
 use Rattle.std.proofs.Common.{◌≤◌, length, ◌-◌}
-use Rattle.cv_http.specs.Wires.{Looks, Beside}
-use Rattle.cv_http.specs.WiresInner.{Gets}
+use Rattle.cv_http.specs.Wires.{Looks, Beside, Gets}
 use Rattle.cv_shell.specs.Lines.{IsLine}
 use Rattle.cv_shell.proofs.lines.Lines.next_line.Given as goal
 
