@@ -7,10 +7,12 @@ use Rattle.cv_base.specs.Path.{Path, covers}
 use Rattle.cv_rows.specs.Row.{holds_rows}
 use Rattle.cv_rows.specs.Catalogue.{Contents}
 use Rattle.cv_rows.specs.Places.{StandsAt}
+use Rattle.cv_rows.specs.Without.{IsWithout}
 use Rattle.cv_rows.specs.declared.row.Row.{Row}
-use Rattle.cv_graft.specs.JoinsInner.{AreCrossed}
-use Rattle.cv_graft.specs.PlacesInner.{HasPlace}
-use Rattle.cv_cut.proofs.Lemmas.{first_or_later, none_there, rest_behind}
+use Rattle.cv_graft.specs.Joins.{AreCrossed}
+use Rattle.cv_graft.specs.Places.{HasPlace}
+use Rattle.cv_cut.proofs.Lemmas.{first_or_later, none_there, passes, rest_behind}
+use Rattle.cv_rows.proofs.Lemmas.{stands_among}
 
 pub crossed_none : (left right : List Row) → AreCrossed left (take 0 right)
 crossed_none left right a b has had = absurd (none_there b had)
@@ -39,6 +41,17 @@ one_more p q h size =
     of [] is one = absurd (omega arith)
     of (a ∷ []) is one = (a, is)
     of (a ∷ b ∷ x) is one = absurd (omega arith)
+
+-- a place in what is left is one in the whole
+pub place_before : (c rest : Contents) (p q : Path) → IsWithout c q rest → HasPlace rest p → HasPlace c p
+place_before c rest p q out h = record {
+  front = h.front;
+  name = h.name;
+  is = h.is;
+  row = h.row;
+  stands = subst (λ (x : Path). StandsAt x c.rows h.row h.front) out.at (stands_among (λ r has. (passes out.stays c.rows r (subst (λ (l : List Row). Contains l r) out.rows has)).0) h.stands);
+  holds = h.holds;
+}
 
 pub place_of : (c : Contents) (p front : Path) (row : Row) → StandsAt c.at c.rows row front → holds_rows row.kind ≡ true → (name : List ℕ) × (p ≡ front ++ name ∷ []) → HasPlace c p
 place_of c p front row stands holds named = record { front = front; name = named.0; is = named.1; row = row; stands = stands; holds = holds }

@@ -1,5 +1,5 @@
 -- The catalogues on the way to a path, one below another.
-use Rattle.std.proofs.Common.{◌≡◌, ◌≢◌, ℕ, zero, suc, ◌+◌, ◌≤◌, true, false, List, [], ◌∷◌, ◌++◌, map, length, Some, None, Err, ◌⊎◌, inl, inr, refl, sym, ap, subst, ◌∙◌, append-nil, append_assoc, arith}
+use Rattle.std.proofs.Common.{◌≡◌, ◌≢◌, ℕ, zero, suc, ◌+◌, ◌<◌, ◌≤◌, true, false, List, [], ◌∷◌, ◌++◌, map, length, Some, None, Err, ◌⊎◌, inl, inr, refl, sym, ap, subst, ◌∙◌, append-nil, append_assoc, arith}
 use Rattle.std.specs.declared.option.Option.{Option}
 use Rattle.std.specs.FinMap.{get}
 use Rattle.std.proofs.lemmas.List.{length-map}
@@ -16,6 +16,7 @@ use Rattle.cv_tree.specs.Tree.{Nodes, at, is_directory, IsTree}
 use Rattle.cv_tree.specs.declared.node.Node.{Node}
 use Rattle.cv_rows.specs.Catalogue.{Contents, catalogue_bytes}
 use Rattle.cv_rows.specs.declared.nested.Nested.{Nested}
+use Rattle.cv_rows.specs.declared.row.Row.{Row}
 use Rattle.cv_cut.specs.Cuts.{is_cut, is_file, is_marked, is_near}
 use Rattle.cv_cut.specs.Catalogues.{entry_of, cat}
 use Rattle.cv_cut.specs.Above.{cuts_above, OnWay, Holds}
@@ -151,13 +152,25 @@ top_unread shelf root t p top f way some kind none h =
     (subst (λ (q : Path). Opens shelf root (record { path = q; row = None }) (Err f)) none h)
 
 -- none or one is fetched
-pub at_most_one : (before after most : ℕ) → 1 ≤ most → (after ≡ before) ⊎ (after ≡ raised before) → RaisedAtMost most before after
-at_most_one before after most le (inl none) = (0, omega arith, none)
-at_most_one before after most le (inr one) = (1, le, one)
-
 pub at_most_below : (before after most : ℕ) → 2 ≤ most → (after ≡ before) ⊎ (after ≡ raised before) → (k : ℕ) × (k + 1 ≤ most) × (after ≡ raised_by k before)
 at_most_below before after most le (inl none) = (0, omega (arith, le), none)
 at_most_below before after most le (inr one) = (1, le, one)
+
+-- ---- how many there can be, since each stands deeper than the one before it
+
+pub some_long : (p : Path) → p ≢ [] → 1 ≤ length p
+some_long [] some = absurd (some refl)
+some_long (a ∷ p) some = omega arith
+
+pub none_or_one : (above below most before after : ℕ) → above < below → below < most → (after ≡ before) ⊎ (after ≡ raised before) → (k : ℕ) × (k + above < most) × (after ≡ raised_by k before)
+none_or_one above below most before after deeper shorter (inl none) = (0, omega (arith, deeper, shorter), none)
+none_or_one above below most before after deeper shorter (inr one) = (1, omega (arith, deeper, shorter), one)
+
+pub one_more : (above below most before between after : ℕ) → above < below → between ≡ raised before → (k : ℕ) × (k + below < most) × (after ≡ raised_by k between) → (k : ℕ) × (k + above < most) × (after ≡ raised_by k before)
+one_more above below most before between after deeper one (k, le, is) = (suc k, omega (arith, deeper, le), is ∙ ap (raised_by k) one ∙ raised_more k before)
+
+pub from_top : (above most before between after : ℕ) → between ≡ raised before → (k : ℕ) × (k + above < most) × (after ≡ raised_by k between) → RaisedAtMost most before after
+from_top above most before between after one (k, le, is) = (suc k, omega (arith, le), is ∙ ap (raised_by k) one ∙ raised_more k before)
 
 -- ---- how many there are
 
@@ -216,11 +229,11 @@ module _ (shelf : Shelf) (hash : List ℕ) (t : Nodes) (p r : Path) (c : Content
     pub is_ : below ≡ contents_of t below.at
     pub path : entry.path ≡ c.at ++ e
 
-  pub step_down : (below : Contents) → IsNestedCatalogue shelf c entry below → StepsTo below
-  step_down below opened =
+  pub step_to : (below : Contents) (row : Row) → HasCatalogue shelf entry.hash (record { path = entry.path; row = Some row }) below → StepsTo below
+  step_to below row opened =
       let named : entry.hash ≡ sha1 (cat t (c.at ++ next_here.e)) = ap (λ (m : Nested). m.hash) next_here.entry in
-      let same = opened_is shelf hash t p (c.at ++ next_here.e) next_here.f entry.hash (record { path = entry.path; row = Some opened.row }) below way on_next named entry_path opened.opened in
-      let place : below.at ≡ c.at ++ next_here.e = opened.opened.decodes.at ∙ entry_path in
+      let same = opened_is shelf hash t p (c.at ++ next_here.e) next_here.f entry.hash (record { path = entry.path; row = Some row }) below way on_next named entry_path opened in
+      let place : below.at ≡ c.at ++ next_here.e = opened.decodes.at ∙ entry_path in
       record {
         e = next_here.e;
         f = next_here.f;
@@ -230,6 +243,9 @@ module _ (shelf : Shelf) (hash : List ℕ) (t : Nodes) (p r : Path) (c : Content
         is_ = same ∙ ap (contents_of t) (sym place);
         path = entry_path;
       }
+
+  pub step_down : (below : Contents) → IsNestedCatalogue shelf c entry below → StepsTo below
+  step_down below opened = step_to below opened.row opened.opened
 
   pub step_count : (below : Contents) (s : StepsTo below) → length (cuts_above (at t c.at) r) ≡ length (cuts_above (at t below.at) s.f) + 1
   step_count below s = pass_count t p c.at r s.e s.f s.passes ∙ ap (λ (x : Path). length (cuts_above (at t x) s.f) + 1) (sym s.place)

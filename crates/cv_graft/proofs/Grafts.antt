@@ -36,9 +36,6 @@ use Rattle.cv_graft.specs.declared.graft_fault.GraftFault.TheVariants as fault
 use Rattle.cv_tree.proofs.Laws.{get-at, IsPart-at, IsTree-put}
 use Rattle.cv_cut.proofs.Lemmas.{some_last, put-root, made_all, at-root}
 
-pub way_of : (shelf : Shelf) (hash : List ℕ) (t : Nodes) (p : Path) → Means shelf hash t → HasWay shelf hash t p
-way_of shelf hash t p m = record { tree = m.tree; fits = m.fits; root = m.root; catalogues = λ c cut covered apart. m.catalogues c cut }
-
 -- ---- the tree afterwards
 
 directory_some : (o : Option Node) → is_directory o ≡ true → IsSome o
@@ -76,21 +73,6 @@ tree_after t n p tree other place = of (get n p) refl
     of None e = subst (λ (s : Nodes). IsTree (put t p s)) (sym (nothing_at n p other.part e))
         (IsTree-put t p None tree tt place (subst (FitsUnder p) (nothing_at n p other.part e) fits) (λ none. subst (λ (s : Nodes). IsTrue (is_directory (get s []))) (nothing_at n p other.part e) (top none)))
     of (Some x) e = IsTree-put t p (Some (at n p)) tree (IsPart-at n p other.part (ap is_some e)) place fits top
-
--- ---- the root
-
-sized : (o : Option (List ℕ)) (bytes : List ℕ) (len : ℕ) → o ≡ Some bytes → Some len ≡ option_map length o → len ≡ length bytes
-sized o bytes len is h = (let e : Some len ≡ Some (length bytes) = h ∙ ap (option_map length) is in cc)
-
-pub whole_root : (shelf : Shelf) (offered : ObjectId) (t n : Nodes) (size : ℕ) (g : Grafted) → Means shelf offered.hash n → offered.kind ≡ Catalogue → Some size ≡ option_map length (shelf offered) → g ≡ record { root = offered; size = size; added = [] } → Grafts (put t [] (at n [])) [] (Ok g)
-whole_root shelf offered t n size g m kind len is =
-    let same = put-root t n in
-    let id : offered ≡ object_id (root_of n) Catalogue = λ i. record { hash = m.root i; kind = kind i } in
-    let there : shelf offered ≡ Some (cat n []) = ap shelf id ∙ m.catalogues [] refl in
-    let long = sized (shelf offered) (cat n []) size there len in (
-      subst Fits (sym same) m.fits,
-      is ∙ (λ i. record { root = id i; size = long i; added = [] }) ∙ ap (λ (u : Nodes). record { root = object_id (root_of u) Catalogue; size = length (cat u []); added = [] }) (sym same),
-    )
 
 -- ---- below it
 
@@ -140,7 +122,3 @@ two_walks a b old between after k m le is le_ then_ = raised_both a b old betwee
 
 pub rebuilt_at : (t' : Nodes) (p : Path) (k : Contents) (t : Nodes) (before after : List Object) (r : Result Made GraftFault) → IsTop t p k → Rebuilds t' k.at p before after r → Rebuilds t' [] p before after r
 rebuilt_at t' p k t before after r h m = subst (λ (x : Path). Rebuilds t' x p before after r) h.place m
-
--- at the root
-pub at_root : (t n : Nodes) (p names : Path) (r : Result Grafted GraftFault) → names ≡ p → names ≡ [] → Grafts (put t [] (at n [])) [] r → Grafts (put t p (at n p)) p r
-at_root t n p names r same none h = subst (λ (x : Path). Grafts (put t x (at n x)) x r) (sym (sym same ∙ none)) h

@@ -23,11 +23,11 @@ use Rattle.cv_graft.specs.declared.graft_fault.GraftFault.TheVariants as graft
 
 -- ---- one step
 
-on_below : {shelf : Shelf} {root : List ℕ} {p : Path} {hash : List ℕ} {place : Place} {c below : Contents} {n : Nested} → IsOnWay shelf root p hash place → HasCatalogue shelf hash place c → IsNext c p n
+pub on_below : {shelf : Shelf} {root : List ℕ} {p : Path} {hash : List ℕ} {place : Place} {c below : Contents} {n : Nested} → IsOnWay shelf root p hash place → HasCatalogue shelf hash place c → IsNext c p n
     → (o : IsNestedCatalogue shelf c n below) → IsOnWay shelf root p n.hash (record { path = n.path; row = Some o.row })
 on_below on there next o = IsOnWay.next {r = o.row} on there next (record { kind = o.kind_; stands = o.stands })
 
-top_at : (shelf : Shelf) (hash : List ℕ) (top : Path) (c : Contents) → top ≡ [] → HasCatalogue shelf hash (record { path = top; row = None }) c → HasCatalogue shelf hash root_place c
+pub top_at : (shelf : Shelf) (hash : List ℕ) (top : Path) (c : Contents) → top ≡ [] → HasCatalogue shelf hash (record { path = top; row = None }) c → HasCatalogue shelf hash root_place c
 top_at shelf hash top c none has = subst (λ (q : Path). HasCatalogue shelf hash (record { path = q; row = None }) c) none has
 
 -- ---- the holder

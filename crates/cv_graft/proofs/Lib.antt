@@ -3,6 +3,8 @@ mod Nexts
 mod Finding
 mod Rebuilds
 mod Grafts
+mod Both
+mod Parentless
 mod RowsAt
 mod Crossing
 mod PlacedParts

@@ -65,11 +65,14 @@ next_deeper c p n is next =
     let t = All-contains (λ (m : Nested). IsTransitionAt c.at c.rows m.path) c.nested n is.region.named next.has in
     transition_long t.stands t.kind
 
-pub next_shorter : (c : Contents) (p : Path) (n : Nested) → IsNext c p n → length n.path < length p
-next_shorter c p n next =
-    let b = rest_behind n.path p next.covered in
+pub above_shorter : (q p : Path) → covers q p ≡ true → p ≢ q → length q < length p
+above_shorter q p covered apart =
+    let b = rest_behind q p covered in
     of b.0 b.1
   where
-    of : (x : Path) → p ≡ n.path ++ x → length n.path < length p
-    of [] is = absurd (next.apart (is ∙ append-nil n.path))
-    of (a ∷ x) is = omega (arith, ap (λ (q : Path). length q) is, length-append n.path (a ∷ x))
+    of : (x : Path) → p ≡ q ++ x → length q < length p
+    of [] is = absurd (apart (is ∙ append-nil q))
+    of (a ∷ x) is = omega (arith, ap (λ (y : Path). length y) is, length-append q (a ∷ x))
+
+pub next_shorter : (c : Contents) (p : Path) (n : Nested) → IsNext c p n → length n.path < length p
+next_shorter c p n next = above_shorter n.path p next.covered next.apart

@@ -21,7 +21,7 @@ use Rattle.cv_rows.specs.declared.nested.Nested.{Nested}
 use Rattle.cv_rows.specs.declared.row_kind.RowKind.{RowKind}
 use Rattle.cv_rows.specs.declared.row_kind.RowKind.TheVariants.{Directory, NestedRoot, File}
 use Rattle.cv_rows.specs.Within.{IsWithin}
-use Rattle.cv_graft.specs.PlacesInner.{HasPlace}
+use Rattle.cv_graft.specs.Places.{HasPlace}
 use Rattle.cv_cut.proofs.Lemmas.{passes, passing, comes_from, kept_apart, sorted_apart, apart_append}
 use Rattle.cv_rows.proofs.Lemmas.{covers_last, ends_so, not_above, stands_contained, one_place, fits_there, stands_among}
 

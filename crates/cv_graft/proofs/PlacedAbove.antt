@@ -12,8 +12,7 @@ use Rattle.cv_tree.specs.Tree.{Nodes, IsTree, at, put}
 use Rattle.cv_rows.specs.Catalogue.{Contents, catalogue_bytes}
 use Rattle.cv_rows.specs.Renewed as rows
 use Rattle.cv_ports.specs.Shelf.{Shelf}
-use Rattle.cv_cut.specs.Above.{cuts_above, Holds, OnWay}
-use Rattle.cv_cut.specs.AboveInner.{made_from}
+use Rattle.cv_cut.specs.Above.{cuts_above, Holds, OnWay, made_from}
 use Rattle.cv_cut.specs.Cuts.{is_cut}
 use Rattle.cv_cut.specs.Catalogues.{cat, contents_of}
 use Rattle.cv_cut.specs.Cut.{catalogue_object}

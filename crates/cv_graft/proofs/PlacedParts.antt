@@ -25,8 +25,8 @@ use Rattle.cv_cut.specs.Piece.{IsFullAmong, cuts_within, region_within}
 use Rattle.cv_cut.specs.declared.cut_fault.CutFault.{CutFault}
 use Rattle.cv_cut.specs.declared.cut_fault.CutFault.TheVariants as cut
 use Rattle.cv_cut.proofs.Lemmas.{among_within, within_among, keys_are, entry_there, texts_apart_within, passes, comes_from, first_or_later, none_there, row_key, sorted_apart, apart_append}
-use Rattle.cv_graft.specs.Placed.{of_cut, of_part, of_cut_}
-use Rattle.cv_graft.specs.PlacedInner.{ArePathsCrossed, IsMeeting, JoinsLists, JoinsPart, MeetsPath, Rests, rows_within, entries_within}
+use Rattle.cv_graft.specs.Placed.{of_cut}
+use Rattle.cv_graft.specs.PlacedInner.{ArePathsCrossed, IsMeeting, JoinsLists, JoinsPart, MeetsPath, Rests, rows_within, entries_within, of_part, of_cut_}
 use Rattle.cv_graft.specs.Way.{TellsDamage}
 use Rattle.cv_graft.specs.declared.graft_fault.GraftFault.{GraftFault}
 use Rattle.cv_graft.specs.declared.graft_fault.GraftFault.TheVariants as fault

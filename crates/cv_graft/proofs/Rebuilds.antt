@@ -16,10 +16,10 @@ use Rattle.cv_rows.specs.declared.row.Row.{Row}
 use Rattle.cv_cut.specs.Cuts.{is_marked, is_near}
 use Rattle.cv_cut.specs.Catalogues.{rows_of, cat, Fits, SharesKey, IsFull}
 use Rattle.cv_cut.specs.Cut.{catalogue_object}
-use Rattle.cv_cut.specs.Above.{Holds}
-use Rattle.cv_cut.specs.AboveInner.{made_from}
+use Rattle.cv_cut.specs.Above.{Holds, made_from}
 use Rattle.cv_graft.specs.Placed.{HasCuts}
-use Rattle.cv_graft.specs.JoinsInner.{Parts, IsJoined, CollidesAt, IsFullAt, Joins}
+use Rattle.cv_graft.specs.Joins.{Parts, IsJoined, CollidesAt, IsFullAt}
+use Rattle.cv_graft.specs.JoinsInner.{Joins}
 use Rattle.cv_cut.specs.Opening.{IsUnread}
 use Rattle.cv_cut.specs.declared.load_fault.LoadFault.{LoadFault}
 use Rattle.cv_cut.specs.declared.load_fault.LoadFault.TheVariants as load

@@ -23,6 +23,12 @@ pub record HasWay (shelf : Shelf) (hash : List ℕ) (t : Nodes) (p : Path) : Typ
   pub root : hash ≡ root_of t
   pub catalogues : (c : Path) → is_cut t c ≡ true → covers c p ≡ true → p ≢ c → shelf (object_id (sha1 (cat t c)) Catalogue) ≡ Some (cat t c)
 
+-- The shelf has what a graft asks of both trees: the catalogues on the way to the path in each, and the offered one's at the root in any case.
+pub record HasWays (shelf : Shelf) (newest offered : List ℕ) (t n : Nodes) (p : Path) : Type 0 where
+  pub way : HasWay shelf newest t p
+  pub other : HasWay shelf offered n p
+  pub top : shelf (object_id offered Catalogue) ≡ Some (cat n [])
+
 -- the root of a tree, and its catalogues at the cuts properly above a path, those nested in another before it
 abbrev pub grafted_of : Nodes → Path → Grafted
 grafted_of t p = record {

@@ -1,8 +1,10 @@
 pub mod Places
-pub mod PlacesInner
 pub mod Faults
 pub mod Graft
+pub mod Joins
 pub mod JoinsInner
+pub mod Both
+pub mod BothInner
 pub mod Placed
 pub mod PlacedInner
 pub mod Way

@@ -11,8 +11,7 @@ use Rattle.cv_rows.specs.Places.{StandsAt}
 use Rattle.cv_rows.specs.Without.{IsWithout}
 use Rattle.cv_rows.specs.declared.row.Row.{Row}
 use Rattle.cv_rows.specs.declared.nested.Nested.{Nested}
-use Rattle.cv_cut.specs.Above.{replaced, Holds}
-use Rattle.cv_cut.specs.AboveInner.{made_from}
+use Rattle.cv_cut.specs.Above.{replaced, Holds, made_from}
 use Rattle.cv_cut.specs.Cuts.{is_cut}
 use Rattle.cv_cut.specs.Catalogues.{cat, IsFull}
 use Rattle.cv_cut.specs.Cut.{catalogue_object, is_other, nested_in, row_in}

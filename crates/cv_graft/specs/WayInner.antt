@@ -9,8 +9,7 @@ use Rattle.cv_ports.specs.Shelf.{Shelf}
 use Rattle.cv_tree.specs.Tree.{Nodes, IsTree}
 use Rattle.cv_rows.specs.Catalogue.{Contents}
 use Rattle.cv_cut.specs.Catalogues.{cat, Fits, SharesKey, IsFull, contents_of}
-use Rattle.cv_cut.specs.Above.{replaced, Holds}
-use Rattle.cv_cut.specs.AboveInner.{made_from}
+use Rattle.cv_cut.specs.Above.{replaced, Holds, made_from}
 use Rattle.cv_cut.specs.Reached.{Place, HasCatalogue}
 use Rattle.cv_cut.specs.Opening.{IsUnread}
 use Rattle.cv_cut.specs.declared.load_fault.LoadFault.{LoadFault}

@@ -48,7 +48,8 @@ pub(crate) fn directory_in(catalogue: &Catalogue, path: &RepoPath) -> bool
 }
 
 /// Whether a path is a directory of the tree of a root. Only catalogues of cuts properly above the path are read, and what is
-/// answered is so by the last one on the way to it, also where the root means no tree.
+/// answered is so by the last one on the way to it, also where the root means no tree. At most as many are read as the path has
+/// names, since each stands deeper than the one before it.
 ///
 /// Missing, Bad and Damaged name a catalogue on the way to the path: it isn't there, it is none at its place or misstates the
 /// size of the next one, or it has another digest. Where the root means a tree, only the shelf's own faults and want of memory
@@ -67,6 +68,7 @@ pub fn directory_at<S: Shelf>(
     ensures unchanged { S.shelf shelf.new ≡ S.shelf shelf.old }
     ensures cause { HasCause (S.faults shelf.old) (S.faults shelf.new) (IsErrOf result faults.Failed) }
     ensures taken { WhereTold (S.shelf shelf.old) (λ standing. (t : Nodes) → HasWay standing root.now.hash t path.now → RaisedAtMost (length (cuts_above t path.now)) (S.taken shelf.old) (S.taken shelf.new)) }
+    ensures most { RaisedAtMost (length path.now) (S.taken shelf.old) (S.taken shelf.new) }
 {
     if path.names().is_empty() {
         return Ok(true);

@@ -1,5 +1,5 @@
 //! Setting a part at a path below the root, by the catalogues on the way.
-ghost use Rattle.std.specs.Prelude.{map, ◌≡◌, ◌≢◌, ◌≤◌, ◌+◌, ◌++◌, [], true, false, ℕ, List, length, IfOk, IfErr, OnOk, IsErrOf};
+ghost use Rattle.std.specs.Prelude.{map, ◌≡◌, ◌≢◌, ◌≤◌, ◌+◌, ◌<◌, ◌++◌, [], true, false, ℕ, List, length, IfOk, IfErr, OnOk, IsErrOf};
 ghost use Rattle.cv_base.specs.Counts.{HasCause};
 ghost use Rattle.cv_base.specs.Digest.{IsDigest};
 ghost use Rattle.cv_base.specs.Marker.{marker, ends_in};
@@ -171,6 +171,7 @@ pub(crate) fn rebuilt_with<S: Shelf>(
     ensures cause { HasCause (S.faults shelf.old) (S.faults shelf.new) (IsErrOf result faults.Failed) }
     ensures taken { WhereTold (S.shelf shelf.old) (λ standing. (hash : List ℕ) (t : Nodes) (r : List (List ℕ)) → HasCuts standing hash t path.now → OnWay t path.now catalogue.at r → catalogue ≡ contents_of t catalogue.at
         → (k : ℕ) × (k + 1 ≤ length (cuts_above (at t catalogue.at) r)) × (S.taken shelf.new ≡ raised_by k (S.taken shelf.old))) }
+    ensures most { (k : ℕ) × (k + length catalogue.at < length path.now) × (S.taken shelf.new ≡ raised_by k (S.taken shelf.old)) }
 {
     let Some(entry) = entry_above(alloc, &catalogue, path)? else {
         return rejoined_part(alloc, cut, catalogue, piece, path, added);

@@ -14,6 +14,7 @@ ghost use Rattle.cv_rows.specs.Renewed.{renewed};
 ghost use Rattle.cv_tree.specs.Tree.{Nodes, IsTree, at};
 ghost use Rattle.cv_ports.specs.Calls.{raised_by};
 ghost use Rattle.cv_cut.specs.Above.{cuts_above, replaced, OnWay};
+ghost use Rattle.cv_graft.specs.BothInner.{Rejoins, Remakes};
 ghost use Rattle.cv_graft.specs.Graft.{HasOwnIds};
 ghost use Rattle.cv_graft.specs.Placed.{HasCuts};
 ghost use Rattle.cv_graft.specs.Way.{TellsDamage};
@@ -83,6 +84,7 @@ fn rejoined(
     requires other_apart { path.now ≢ other.now.at }
     requires unmarked { ends_in marker path.now ≡ false }
     ensures made { (t n : Nodes) (r d v : List (List ℕ)) → IsAsked t n path.now catalogue.at r d v → catalogue ≡ contents_of t catalogue.at → other.now ≡ contents_of n d → Rebuilds (replaced t n path.now) catalogue.at r added.old.items added.new.items result }
+    ensures rejoins { Rejoins catalogue other.now path.now added.old.items added.new.items result }
     ensures unread { IsErrOf result faults.Failed → ⊥ }
     ensures undamaged { (standing : Shelf_) → TellsDamage standing (λ id. ⊥) result }
     ensures digest { IfOk result (λ made. IsDigest made.hash) }
@@ -114,6 +116,7 @@ pub(crate) fn rebuilt<S: Shelf>(
     requires unmarked { ends_in marker path.now ≡ false }
     ensures told { WhereTold (S.shelf shelf.old) (λ standing. (hash : List ℕ) (t n : Nodes) (r : List (List ℕ)) → HasCuts standing hash t path.now → Fits t → IsOffered n path.now other.now → IsTree (replaced t n path.now)
         → OnWay t path.now catalogue.at r → catalogue ≡ contents_of t catalogue.at → Rebuilds (replaced t n path.now) catalogue.at r added.old.items added.new.items result) }
+    ensures way { WhereTold (S.shelf shelf.old) (λ standing. Remakes standing id.now catalogue other.now path.now added.old.items added.new.items result) }
     ensures digest { IfOk result (λ made. IsDigest made.hash) }
     ensures own { OnOk result (HasOwnIds added.old.items → HasOwnIds added.new.items) }
     ensures damaged { WhereTold (S.shelf shelf.old) (λ standing. TellsDamage standing (IsOfWayOf standing id.now catalogue path.now) result) }
@@ -122,6 +125,7 @@ pub(crate) fn rebuilt<S: Shelf>(
     ensures cause { HasCause (S.faults shelf.old) (S.faults shelf.new) (IsErrOf result faults.Failed) }
     ensures taken { WhereTold (S.shelf shelf.old) (λ standing. (hash : List ℕ) (t : Nodes) (r : List (List ℕ)) → HasCuts standing hash t path.now → OnWay t path.now catalogue.at r → catalogue ≡ contents_of t catalogue.at
         → (k : ℕ) × (k + 1 ≤ length (cuts_above (at t catalogue.at) r)) × (S.taken shelf.new ≡ raised_by k (S.taken shelf.old))) }
+    ensures most { (k : ℕ) × (k + length catalogue.at < length path.now) × (S.taken shelf.new ≡ raised_by k (S.taken shelf.old)) }
 {
     let Some(entry) = entry_above(alloc, &catalogue, path)? else {
         return rejoined(alloc, cut, catalogue, other, path, added);

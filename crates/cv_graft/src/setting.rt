@@ -79,6 +79,7 @@ fn below_root_with<S: Shelf>(
     ensures unchanged { S.shelf shelf.new ≡ S.shelf shelf.old }
     ensures cause { HasCause (S.faults shelf.old) (S.faults shelf.new) (IsErrOf result faults.Failed) }
     ensures taken { WhereTold (S.shelf shelf.old) (λ standing. (t : Nodes) → HasCuts standing base.now.hash t path.now → RaisedAtMost (length (cuts_above t path.now)) (S.taken shelf.old) (S.taken shelf.new)) }
+    ensures most { RaisedAtMost (length path.now) (S.taken shelf.old) (S.taken shelf.new) }
 {
     let tree = alone(alloc, path, part)?;
     let piece = piece_at(alloc, tree, path)?;
@@ -97,9 +98,11 @@ fn below_root_with<S: Shelf>(
     })
 }
 
-/// A tree with a part set at a path, or with what it has there taken out, by the catalogues on the way alone. Made are the
-/// catalogues of the cuts properly above the path, and the part's own. Below the root only the former are read, as the tree
-/// has them; at the root nothing is, and the part is the tree.
+/// A tree with a part set at a path, or with what it has there taken out, by the catalogues on the way alone. A file or a link
+/// there goes like a directory with all below it, and the part may begin with any of the three; at the root alone it begins
+/// with a directory. Made are the catalogues of the cuts properly above the path, and the part's own. Below the root only the
+/// former are read, as the tree has them, and at most as many as the path has names; at the root nothing is, and the part is
+/// the tree.
 ///
 /// A catalogue on the way that isn't there or doesn't decode is answered as want of memory, and so is a part whose path's parent
 /// is no directory: below the root an answer says that each catalogue on the way was there. Where there is no part, such a path
@@ -124,6 +127,7 @@ pub fn place<S: Shelf>(
     ensures unchanged { S.shelf shelf.new ≡ S.shelf shelf.old }
     ensures cause { HasCause (S.faults shelf.old) (S.faults shelf.new) (IsErrOf result faults.Failed) }
     ensures taken { WhereTold (S.shelf shelf.old) (λ standing. (t : Nodes) → HasCuts standing base.now.hash t path.now → RaisedAtMost (length (cuts_above t path.now)) (S.taken shelf.old) (S.taken shelf.new)) }
+    ensures most { RaisedAtMost (length path.now) (S.taken shelf.old) (S.taken shelf.new) }
 {
     if path.names().is_empty() {
         return at_root(alloc, path, part);

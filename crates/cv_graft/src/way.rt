@@ -69,6 +69,7 @@ pub(crate) fn holder_from<S: Shelf>(
     ensures cause { HasCause (S.faults shelf.old) (S.faults shelf.new) (IsErrOf result faults.Failed) }
     ensures taken { WhereTold (S.shelf shelf.old) (λ standing. (hash : List ℕ) (n : Nodes) (r : List (List ℕ)) → HasCuts standing hash n path.now → OnWay n path.now catalogue.at r → catalogue ≡ contents_of n catalogue.at
         → (k : ℕ) × (k + 1 ≤ length (cuts_above (at n catalogue.at) r)) × (S.taken shelf.new ≡ raised_by k (S.taken shelf.old))) }
+    ensures most { (k : ℕ) × (k + length catalogue.at < length path.now) × (S.taken shelf.new ≡ raised_by k (S.taken shelf.old)) }
 {
     let Some(entry) = entry_above(alloc, &catalogue, path)? else {
         return Ok(catalogue);

@@ -91,6 +91,19 @@ const GRAFTS: [(&str, &str, &str, &str, usize, usize); 9] = [
     ),
 ];
 
+/// A newest tree in which the path's parent is no directory, the path, and an offered tree.
+const PARENTLESS: [(&str, &str, &str); 5] = [
+    ("/b", "/a/x", "/a/ /a/x"),
+    ("/a /b", "/a/x", "/a/ /a/x"),
+    ("/b", "/a/x", "/a/"),
+    (
+        "/a/ /a/.cvmfscatalog /a/c",
+        "/a/b/x",
+        "/a/ /a/b/ /a/b/.cvmfscatalog /a/b/x",
+    ),
+    ("/b", "/a/b/x", "/a/ /a/b/ /a/b/x"),
+];
+
 /// A tree.
 const PLACES: &str = "/a/ /a/.cvmfscatalog /a/b/ /a/b/x /c";
 
@@ -127,8 +140,13 @@ fn add_catalogues(alloc: Global, objects: &mut Vec<Object>, text: &str) -> Resul
     add_cut(alloc, objects, &tree_of(alloc, Modes::Usual, text)?)
 }
 
-/// What a graft gives.
-fn grafted(alloc: Global, newest: &str, at: &str, offered: &str) -> Result<Grafted, Fail> {
+/// What a graft answers.
+fn graft_answer(
+    alloc: Global,
+    newest: &str,
+    at: &str,
+    offered: &str,
+) -> Result<Result<Grafted, GraftFault>, Fail> {
     let mut objects = Vec::new(alloc);
     let newest = add_catalogues(alloc, &mut objects, newest)?;
     let offered = add_catalogues(alloc, &mut objects, offered)?;
@@ -137,7 +155,12 @@ fn grafted(alloc: Global, newest: &str, at: &str, offered: &str) -> Result<Graft
     if ends_in_marker(&path) {
         return Err(Fail::new("a marker"));
     }
-    match graft(alloc, &mut shelf, &newest, &offered, &path) {
+    Ok(graft(alloc, &mut shelf, &newest, &offered, &path))
+}
+
+/// What a graft gives.
+fn grafted(alloc: Global, newest: &str, at: &str, offered: &str) -> Result<Grafted, Fail> {
+    match graft_answer(alloc, newest, at, offered)? {
         Ok(grafted) => Ok(grafted),
         Err(_) => Err(Fail::new("no graft")),
     }
@@ -149,6 +172,15 @@ fn a_graft_is_the_cut_of_the_tree(rt: HostRuntime) -> Result<(), Fail> {
         let grafted = grafted(rt.alloc(), newest, at, offered)?;
         assert!(rt; Some(grafted.root) == ObjectId::read(root));
         assert!(rt; grafted.added.as_slice().len() == *made);
+    }
+    Ok(())
+}
+
+#[test]
+fn a_path_whose_parent_went_away_is_not_grafted(rt: HostRuntime) -> Result<(), Fail> {
+    for (newest, at, offered) in &PARENTLESS {
+        let answer = graft_answer(rt.alloc(), newest, at, offered)?;
+        assert!(rt; matches!(answer, Err(GraftFault::NoMemory)));
     }
     Ok(())
 }

@@ -1,78 +1,81 @@
-use Rattle.std.proofs.Common.{suc, Result, List, [], Ok, Err, ap, subst, ◌∙◌, arith}
+use Rattle.std.proofs.Common.{suc, length, Result, List, [], Ok, Err, ap, subst, ◌∙◌, arith}
 use Rattle.cv_base.specs.declared.id.Kind.TheVariants.{Catalogue}
 use Rattle.cv_base.specs.declared.object.Object.{Object}
+use Rattle.cv_graft.specs.Both.{GraftsBoth}
 use Rattle.cv_graft.specs.Graft.{Grafts}
-use Rattle.cv_graft.proofs.Finding.{cuts_way, some_count, raised_more, top_unread}
+use Rattle.cv_graft.proofs.Both.{grafted_top, refused_top, unread_both}
+use Rattle.cv_graft.proofs.Finding.{cuts_way, from_top, some_count, some_long, raised_more, top_unread}
 use Rattle.cv_graft.proofs.Holders.{top_blamed, tells_way, tells_top, tells_left, tells_right}
-use Rattle.cv_graft.proofs.Grafts.{way_of, tree_after, offered_of, top_is, top_count, two_walks, rebuilt_at, made_graft, fault_graft, unread_graft}
+use Rattle.cv_graft.proofs.Grafts.{tree_after, offered_of, top_is, top_count, two_walks, rebuilt_at, made_graft, fault_graft, unread_graft}
 use Rattle.cv_graft.specs.Way.{IsOfEither, TellsDamage}
 use Rattle.cv_graft.specs.WayInner.{IsMade}
 use Rattle.cv_graft.specs.declared.grafted.Grafted.{Grafted}
 use Rattle.cv_graft.specs.declared.graft_fault.GraftFault.{GraftFault}
 use Rattle.cv_graft.proofs.grafting.below_root.Goals as goal
 use Rattle.cv_ports.specs.Calls.{raised_by}
+use Rattle.cv_ports.proofs.Laws.{raised_both}
 use Rattle.cv_cut.specs.Above.{replaced}
 use Rattle.cv_cut.proofs.Lemmas.{left_by}
 
 pub returns-in_err-other-clause-taken : goal.returns-in_err-other-clause-taken
-returns-in_err-other-clause-taken g c = λ standing told t n mt mn.
+returns-in_err-other-clause-taken g c = λ standing told t n way other.
     let p = c.args.path.now in
-    let one = c.holder.ensures.taken standing told n (cuts_way (way_of standing c.args.offered.now.hash n p mn)) in
+    let one = c.holder.ensures.taken standing told n (cuts_way other) in
     let le = one.1 in
     (one.0, omega (arith, le), one.2)
 
 pub returns-in_err-catalogue-clause-taken : goal.returns-in_err-catalogue-clause-taken
-returns-in_err-catalogue-clause-taken g c = λ standing told t n mt mn.
+returns-in_err-catalogue-clause-taken g c = λ standing told t n way other.
     let p = c.args.path.now in
-    let one = c.holder.ensures.taken standing told n (cuts_way (way_of standing c.args.offered.now.hash n p mn)) in
+    let one = c.holder.ensures.taken standing told n (cuts_way other) in
     two_walks _ _ _ (g.S.Shelf.taken c.holder.new.shelf) _ one.0 1 one.1 one.2 (some_count t p c.requires.path) c.in_err-catalogue.ensures.taken
 
 pub returns-in_err-made-clause-told : goal.returns-in_err-made-clause-told
-returns-in_err-made-clause-told g c = λ standing told t n mt mn place.
+returns-in_err-made-clause-told g c = λ standing told t n ways place.
     let p = c.args.path.now in
     let there = c.holder.ensures.unchanged ∙ told in
-    let way = cuts_way (way_of standing c.args.newest.now.hash t p mt) in
+    let way = cuts_way ways.way in
     let top = top_is standing c.args.newest.now t p c.root-top.result c.in_ok-catalogue.catalogue way c.requires.path (c.in_ok-catalogue.ensures.told standing there) c.root-top.ensures in
-    let offered = offered_of n p c.in_ok-other.other mn.tree mn.fits (c.in_ok-other.ensures.told standing told n (cuts_way (way_of standing c.args.offered.now.hash n p mn))) in
-    let after = tree_after t n p mt.tree mn.tree place in
+    let offered = offered_of n p c.in_ok-other.other ways.other.tree ways.other.fits (c.in_ok-other.ensures.told standing told n (cuts_way ways.other)) in
+    let after = tree_after t n p ways.way.tree ways.other.tree place in
     left_by (Grafts (replaced t n p) p) _ _ c.from_residual-in_err-made.ensures.1
     (fault_graft (replaced t n p) p c.new-added.result.items c.rebuilt.new.added.items c.in_err-made.field-0.0
     (rebuilt_at (replaced t n p) p c.in_ok-catalogue.catalogue t c.new-added.result.items c.rebuilt.new.added.items (Err c.in_err-made.field-0.0) top
-    (c.in_err-made.ensures.told standing (c.catalogue_at.ensures.unchanged ∙ there) c.args.newest.now.hash t n p way mt.fits offered after top.on top.is)))
+    (c.in_err-made.ensures.told standing (c.catalogue_at.ensures.unchanged ∙ there) c.args.newest.now.hash t n p way ways.way.fits offered after top.on top.is)))
 
 pub returns-in_err-made-clause-taken : goal.returns-in_err-made-clause-taken
-returns-in_err-made-clause-taken g c = λ standing told t n mt mn.
+returns-in_err-made-clause-taken g c = λ standing told t n way other.
     let p = c.args.path.now in
     let there = c.holder.ensures.unchanged ∙ told in
-    let way = cuts_way (way_of standing c.args.newest.now.hash t p mt) in
-    let top = top_is standing c.args.newest.now t p c.root-top.result c.in_ok-catalogue.catalogue way c.requires.path (c.in_ok-catalogue.ensures.told standing there) c.root-top.ensures in
-    let one = c.holder.ensures.taken standing told n (cuts_way (way_of standing c.args.offered.now.hash n p mn)) in
-    let deep = c.rebuilt.ensures.taken standing (c.catalogue_at.ensures.unchanged ∙ there) c.args.newest.now.hash t p way top.on top.is in
+    let cuts = cuts_way way in
+    let top = top_is standing c.args.newest.now t p c.root-top.result c.in_ok-catalogue.catalogue cuts c.requires.path (c.in_ok-catalogue.ensures.told standing there) c.root-top.ensures in
+    let one = c.holder.ensures.taken standing told n (cuts_way other) in
+    let deep = c.rebuilt.ensures.taken standing (c.catalogue_at.ensures.unchanged ∙ there) c.args.newest.now.hash t p cuts top.on top.is in
     let le = deep.1 in
     let count = top_count t p c.in_ok-catalogue.catalogue top in
     two_walks _ _ _ (g.S.Shelf.taken c.holder.new.shelf) _ one.0 (suc deep.0) one.1 one.2 (omega (arith, le, count)) (deep.2 ∙ ap (raised_by deep.0) c.catalogue_at.ensures.taken ∙ raised_more deep.0 (g.S.Shelf.taken c.holder.new.shelf))
 
 pub returns-clause-told : goal.returns-clause-told
-returns-clause-told g c = λ standing told t n mt mn place.
+returns-clause-told g c = λ standing told t n ways place.
     let p = c.args.path.now in
     let there = c.holder.ensures.unchanged ∙ told in
-    let way = cuts_way (way_of standing c.args.newest.now.hash t p mt) in
+    let way = cuts_way ways.way in
     let top = top_is standing c.args.newest.now t p c.root-top.result c.in_ok-catalogue.catalogue way c.requires.path (c.in_ok-catalogue.ensures.told standing there) c.root-top.ensures in
-    let offered = offered_of n p c.in_ok-other.other mn.tree mn.fits (c.in_ok-other.ensures.told standing told n (cuts_way (way_of standing c.args.offered.now.hash n p mn))) in
-    let after = tree_after t n p mt.tree mn.tree place in
+    let offered = offered_of n p c.in_ok-other.other ways.other.tree ways.other.fits (c.in_ok-other.ensures.told standing told n (cuts_way ways.other)) in
+    let after = tree_after t n p ways.way.tree ways.other.tree place in
     let made = rebuilt_at (replaced t n p) p c.in_ok-catalogue.catalogue t c.new-added.result.items c.rebuilt.new.added.items (Ok c.in_ok-made.made) top
-    (c.in_ok-made.ensures.told standing (c.catalogue_at.ensures.unchanged ∙ there) c.args.newest.now.hash t n p way mt.fits offered after top.on top.is) in
+    (c.in_ok-made.ensures.told standing (c.catalogue_at.ensures.unchanged ∙ there) c.args.newest.now.hash t n p way ways.way.fits offered after top.on top.is) in
     made_graft (replaced t n p) p c.rebuilt.new.added.items c.in_ok-made.made _ (subst (λ (l : List Object). IsMade (replaced t n p) [] p l c.rebuilt.new.added.items c.in_ok-made.made) c.new-added.ensures.items made)
     (ap (λ (l : List Object). record { root = record { hash = c.in_ok-made.made.hash; kind = Catalogue }; size = c.in_ok-made.made.size; added = l }) c.new.ensures)
 
 pub returns-clause-taken : goal.returns-clause-taken
-returns-clause-taken g c = λ standing told t n mt mn.
+returns-clause-taken g c = λ standing told t n way other.
     let p = c.args.path.now in
     let there = c.holder.ensures.unchanged ∙ told in
-    let way = cuts_way (way_of standing c.args.newest.now.hash t p mt) in
-    let top = top_is standing c.args.newest.now t p c.root-top.result c.in_ok-catalogue.catalogue way c.requires.path (c.in_ok-catalogue.ensures.told standing there) c.root-top.ensures in
-    let one = c.holder.ensures.taken standing told n (cuts_way (way_of standing c.args.offered.now.hash n p mn)) in
-    let deep = c.rebuilt.ensures.taken standing (c.catalogue_at.ensures.unchanged ∙ there) c.args.newest.now.hash t p way top.on top.is in
+    let cuts = cuts_way way in
+    let top = top_is standing c.args.newest.now t p c.root-top.result c.in_ok-catalogue.catalogue cuts c.requires.path (c.in_ok-catalogue.ensures.told standing there) c.root-top.ensures in
+    let one = c.holder.ensures.taken standing told n (cuts_way other) in
+    let deep = c.rebuilt.ensures.taken standing (c.catalogue_at.ensures.unchanged ∙ there) c.args.newest.now.hash t p cuts top.on top.is in
     let le = deep.1 in
     let count = top_count t p c.in_ok-catalogue.catalogue top in
     two_walks _ _ _ (g.S.Shelf.taken c.holder.new.shelf) _ one.0 (suc deep.0) one.1 one.2 (omega (arith, le, count)) (deep.2 ∙ ap (raised_by deep.0) c.catalogue_at.ensures.taken ∙ raised_more deep.0 (g.S.Shelf.taken c.holder.new.shelf))
@@ -87,10 +90,10 @@ pub returns-clause-reads : goal.returns-clause-reads
 returns-clause-reads g c = g.met.S.Shelf.reads_then _ _ _ c.holder.ensures.reads (g.met.S.Shelf.reads_then _ _ _ c.catalogue_at.ensures.reads c.rebuilt.ensures.reads)
 
 pub returns-in_err-other-clause-told : goal.returns-in_err-other-clause-told
-returns-in_err-other-clause-told g c = λ standing told t n mt mn place.
+returns-in_err-other-clause-told g c = λ standing told t n ways place.
     let p = c.args.path.now in
     left_by (Grafts (replaced t n p) p) _ _ c.from_residual.ensures.1
-    (unread_graft (replaced t n p) p _ (c.in_err-other.ensures.told standing told n (cuts_way (way_of standing c.args.offered.now.hash n p mn))))
+    (unread_graft (replaced t n p) p _ (c.in_err-other.ensures.told standing told n (cuts_way ways.other)))
 
 pub returns-in_err-other-clause-damaged : goal.returns-in_err-other-clause-damaged
 returns-in_err-other-clause-damaged g c = λ standing told.
@@ -100,10 +103,10 @@ returns-in_err-other-clause-damaged g c = λ standing told.
     (tells_right Grafted standing one other c.args.path.now _ (tells_way Grafted standing c.args.offered.now.hash c.args.path.now _ (c.in_err-other.ensures.fault standing told)))
 
 pub returns-in_err-catalogue-clause-told : goal.returns-in_err-catalogue-clause-told
-returns-in_err-catalogue-clause-told g c = λ standing told t n mt mn place.
+returns-in_err-catalogue-clause-told g c = λ standing told t n ways place.
     let p = c.args.path.now in
     left_by (Grafts (replaced t n p) p) _ _ c.from_residual-in_err-catalogue.ensures.1
-    (unread_graft (replaced t n p) p _ (top_unread standing c.args.newest.now t p c.root-top.result _ (cuts_way (way_of standing c.args.newest.now.hash t p mt)) c.requires.path c.requires.newest c.root-top.ensures
+    (unread_graft (replaced t n p) p _ (top_unread standing c.args.newest.now t p c.root-top.result _ (cuts_way ways.way) c.requires.path c.requires.newest c.root-top.ensures
     (c.in_err-catalogue.ensures.told standing (c.holder.ensures.unchanged ∙ told))))
 
 pub returns-in_err-catalogue-clause-damaged : goal.returns-in_err-catalogue-clause-damaged
@@ -124,3 +127,45 @@ returns-in_err-made-clause-damaged g c = λ standing told.
     (tells_left Grafted standing one other c.args.path.now _
     (tells_top Grafted standing c.args.newest.now c.root-top.result c.in_ok-catalogue.catalogue c.args.path.now _ c.requires.path c.root-top.ensures (c.in_ok-catalogue.ensures.told standing there)
     (c.in_err-made.ensures.damaged standing (c.catalogue_at.ensures.unchanged ∙ there))))
+
+pub returns-in_err-other-clause-way : goal.returns-in_err-other-clause-way
+returns-in_err-other-clause-way g c = λ standing told.
+    let one = c.args.newest.now.hash in
+    let other = c.args.offered.now.hash in
+    left_by (GraftsBoth standing one other c.args.path.now) _ _ c.from_residual.ensures.1 (unread_both standing one other c.args.path.now _)
+
+pub returns-in_err-catalogue-clause-way : goal.returns-in_err-catalogue-clause-way
+returns-in_err-catalogue-clause-way g c = λ standing told.
+    let one = c.args.newest.now.hash in
+    let other = c.args.offered.now.hash in
+    left_by (GraftsBoth standing one other c.args.path.now) _ _ c.from_residual-in_err-catalogue.ensures.1 (unread_both standing one other c.args.path.now _)
+
+pub returns-in_err-made-clause-way : goal.returns-in_err-made-clause-way
+returns-in_err-made-clause-way g c = λ standing told.
+    let one = c.args.newest.now in
+    let other = c.args.offered.now.hash in
+    let there = c.holder.ensures.unchanged ∙ told in
+    left_by (GraftsBoth standing one.hash other c.args.path.now) _ _ c.from_residual-in_err-made.ensures.1
+    (refused_top standing one other c.root-top.result c.args.path.now c.in_ok-catalogue.catalogue c.in_ok-other.other c.new-added.result.items c.rebuilt.new.added.items _
+    c.requires.path c.root-top.ensures (c.in_ok-catalogue.ensures.told standing there) (c.in_ok-other.ensures.holder standing told) (c.in_err-made.ensures.way standing (c.catalogue_at.ensures.unchanged ∙ there)))
+
+pub returns-clause-way : goal.returns-clause-way
+returns-clause-way g c = λ standing told.
+    let there = c.holder.ensures.unchanged ∙ told in
+    grafted_top standing c.args.newest.now c.args.offered.now.hash c.root-top.result c.args.path.now c.in_ok-catalogue.catalogue c.in_ok-other.other c.new-added.result.items c.rebuilt.new.added.items c.in_ok-made.made _
+    c.root-top.ensures (c.in_ok-catalogue.ensures.told standing there) (c.in_ok-other.ensures.holder standing told) (c.in_ok-made.ensures.way standing (c.catalogue_at.ensures.unchanged ∙ there)) c.new-added.ensures.items
+    (ap (λ (l : List Object). record { root = record { hash = c.in_ok-made.made.hash; kind = Catalogue }; size = c.in_ok-made.made.size; added = l }) c.new.ensures)
+
+pub returns-in_err-other-clause-most : goal.returns-in_err-other-clause-most
+returns-in_err-other-clause-most g c =
+    let le = c.holder.ensures.most.1 in
+    (c.holder.ensures.most.0, omega (arith, le), c.holder.ensures.most.2)
+
+pub returns-in_err-catalogue-clause-most : goal.returns-in_err-catalogue-clause-most
+returns-in_err-catalogue-clause-most g c = raised_both _ _ _ _ _ c.holder.ensures.most (1, some_long c.args.path.now c.requires.path, c.in_err-catalogue.ensures.taken)
+
+pub returns-in_err-made-clause-most : goal.returns-in_err-made-clause-most
+returns-in_err-made-clause-most g c = raised_both _ _ _ _ _ c.holder.ensures.most (from_top (length c.in_ok-catalogue.catalogue.at) _ _ _ _ c.catalogue_at.ensures.taken c.rebuilt.ensures.most)
+
+pub returns-clause-most : goal.returns-clause-most
+returns-clause-most g c = raised_both _ _ _ _ _ c.holder.ensures.most (from_top (length c.in_ok-catalogue.catalogue.at) _ _ _ _ c.catalogue_at.ensures.taken c.rebuilt.ensures.most)

@@ -1,5 +1,5 @@
-use Rattle.std.proofs.Common.{suc, Result, ap, ◌∙◌, arith}
-use Rattle.cv_graft.proofs.Finding.{some_count, raised_more, top_unread}
+use Rattle.std.proofs.Common.{suc, length, Result, ap, ◌∙◌, arith}
+use Rattle.cv_graft.proofs.Finding.{from_top, some_count, some_long, raised_more, top_unread}
 use Rattle.std.specs.Prelude.{IfOk, IfErr}
 use Rattle.cv_rows.specs.Catalogue.{Contents}
 use Rattle.cv_cut.specs.declared.load_fault.LoadFault.{LoadFault}
@@ -53,3 +53,9 @@ pub returns-clause-holder : goal.returns-clause-holder
 returns-clause-holder g c = λ standing told.
     holds_top standing c.args.root.now c.root-top.result c.in_ok-catalogue.catalogue c.args.path.now c.holder_from.result c.requires.path c.root-top.ensures (c.in_ok-catalogue.ensures.told standing told)
     (c.holder_from.ensures.holder standing (c.catalogue_at.ensures.unchanged ∙ told))
+
+pub returns-in_err-catalogue-clause-most : goal.returns-in_err-catalogue-clause-most
+returns-in_err-catalogue-clause-most g c = (1, some_long c.args.path.now c.requires.path, c.in_err-catalogue.ensures.taken)
+
+pub returns-clause-most : goal.returns-clause-most
+returns-clause-most g c = from_top (length c.in_ok-catalogue.catalogue.at) _ _ _ _ c.catalogue_at.ensures.taken c.holder_from.ensures.most

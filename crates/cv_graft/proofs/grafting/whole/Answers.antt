@@ -1,9 +1,9 @@
 use Rattle.std.proofs.Common.{List, sym, ap, ◌∙◌}
 use Rattle.cv_base.specs.declared.object.Object.{Object}
-use Rattle.cv_graft.proofs.Grafts.{whole_root}
+use Rattle.cv_graft.proofs.Both.{offered_there}
 use Rattle.cv_graft.proofs.grafting.whole.Goals as goal
 
-pub returns-in-Ok-Some-clause-told : goal.returns-in-Ok-Some-clause-told
-returns-in-Ok-Some-clause-told g c = λ standing told t n means.
-    whole_root standing c.args.offered.now t n c.in-Ok-Some.size _ means c.requires (sym c.in-Ok-Some.field-0-is ∙ c.in-Ok-Some.ensures.told standing told)
+pub returns-in-Ok-Some-clause-gives : goal.returns-in-Ok-Some-clause-gives
+returns-in-Ok-Some-clause-gives g c = λ standing told.
+    offered_there (standing c.args.offered.now) c.args.offered.now c.in-Ok-Some.size _ (sym c.in-Ok-Some.field-0-is ∙ c.in-Ok-Some.ensures.told standing told)
     (ap (λ (l : List Object). record { root = c.args.offered.now; size = c.in-Ok-Some.size; added = l }) (c.new-in-Ok-Some.ensures ∙ c.new.ensures.items))

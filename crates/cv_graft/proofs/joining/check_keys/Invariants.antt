@@ -1,5 +1,5 @@
 use Rattle.std.proofs.Common.{take}
-use Rattle.cv_graft.specs.JoinsInner.{AreCrossed}
+use Rattle.cv_graft.specs.Joins.{AreCrossed}
 use Rattle.cv_graft.proofs.joining.check_keys.Given as goal
 
 abbrev pub invariant-loop-row : goal.invariant-loop-row

@@ -1,4 +1,5 @@
-use Rattle.std.proofs.Common.{suc, Result, ap, subst, ◌∙◌, arith}
+use Rattle.std.proofs.Common.{◌<◌, length, refl, sym, suc, Result, ap, subst, ◌∙◌, arith}
+use Rattle.cv_base.specs.Path.{Path}
 use Rattle.cv_rows.specs.Catalogue.{Contents}
 use Rattle.cv_graft.specs.Placed.{LeadsTo, holds, passes}
 use Rattle.cv_graft.specs.PlacedInner.{Sets}
@@ -7,7 +8,8 @@ use Rattle.cv_graft.specs.WayInner.{IsOfWayOf}
 use Rattle.cv_graft.specs.declared.made.Made.{Made}
 use Rattle.cv_graft.specs.declared.graft_fault.GraftFault.{GraftFault}
 use Rattle.cv_graft.proofs.Holders.{tells_next, tells_below, tells_none}
-use Rattle.cv_graft.proofs.Finding.{raised_more, none_holds, step_unread, step_down, step_count, more_than_one, at_most_below}
+use Rattle.cv_graft.proofs.Nexts.{above_shorter, next_shorter}
+use Rattle.cv_graft.proofs.Finding.{none_or_one, one_more, raised_more, none_holds, step_unread, step_down, step_count, more_than_one, at_most_below}
 use Rattle.cv_graft.proofs.PlacedAbove.{asked_part, if_ok, passed_part, set_above, set_fault, unread_set}
 use Rattle.cv_graft.proofs.placing.+rebuilt_with.Goals as goal
 use Rattle.cv_ports.specs.Calls.{raised_by}
@@ -124,3 +126,29 @@ pub returns-clause-lead : goal.returns-clause-lead
 returns-clause-lead g m c = λ standing told.
     let next : IsNext c.args.catalogue c.args.path.now c.in-Some.entry = rw c.in-Some.is at c.in_ok-entry.ensures.found in
     passes next (c.in_ok-below.ensures.told standing told) (c.in_ok-made.ensures.lead standing (c.nested_catalogue.ensures.unchanged ∙ told))
+
+pub returns-in_err-entry-clause-most : goal.returns-in_err-entry-clause-most
+returns-in_err-entry-clause-most g m c = (0, omega (arith, above_shorter c.args.catalogue.at c.args.path.now c.requires.below c.requires.apart), refl)
+
+pub returns-in_default-clause-most : goal.returns-in_default-clause-most
+returns-in_default-clause-most g m c = (0, omega (arith, above_shorter c.args.catalogue.at c.args.path.now c.requires.below c.requires.apart), refl)
+
+pub returns-in_err-below-clause-most : goal.returns-in_err-below-clause-most
+returns-in_err-below-clause-most g m c =
+    let next : IsNext c.args.catalogue c.args.path.now c.in-Some.entry = rw c.in-Some.is at c.in_ok-entry.ensures.found in
+    none_or_one _ _ _ _ _ c.nested_catalogue.ensures.deeper (next_shorter c.args.catalogue c.args.path.now c.in-Some.entry next) c.in_err-below.ensures.taken
+
+pub returns-in_err-made-clause-most : goal.returns-in_err-made-clause-most
+returns-in_err-made-clause-most g m c =
+    let deeper = subst (λ (q : Path). length c.args.catalogue.at < length q) (sym c.in_ok-below.ensures.place) c.nested_catalogue.ensures.deeper in
+    one_more _ _ _ _ _ _ deeper c.in_ok-below.ensures.taken c.rebuilt_with.ensures.most
+
+pub returns-in_err-keep-clause-most : goal.returns-in_err-keep-clause-most
+returns-in_err-keep-clause-most g m c =
+    let deeper = subst (λ (q : Path). length c.args.catalogue.at < length q) (sym c.in_ok-below.ensures.place) c.nested_catalogue.ensures.deeper in
+    one_more _ _ _ _ _ _ deeper c.in_ok-below.ensures.taken c.rebuilt_with.ensures.most
+
+pub returns-clause-most : goal.returns-clause-most
+returns-clause-most g m c =
+    let deeper = subst (λ (q : Path). length c.args.catalogue.at < length q) (sym c.in_ok-below.ensures.place) c.nested_catalogue.ensures.deeper in
+    one_more _ _ _ _ _ _ deeper c.in_ok-below.ensures.taken c.rebuilt_with.ensures.most

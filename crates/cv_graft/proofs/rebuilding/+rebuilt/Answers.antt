@@ -1,11 +1,15 @@
-use Rattle.std.proofs.Common.{suc, Result, ap, subst, ◌∙◌, arith}
+use Rattle.std.proofs.Common.{◌<◌, length, refl, sym, suc, Result, ap, subst, ◌∙◌, arith}
+use Rattle.cv_base.specs.Path.{Path}
 use Rattle.cv_rows.specs.Catalogue.{Contents}
 use Rattle.cv_graft.specs.Way.{HasNone, IsNext, TellsDamage}
+use Rattle.cv_graft.specs.BothInner.{Remakes}
 use Rattle.cv_graft.specs.WayInner.{IsOfWayOf, Rebuilds}
+use Rattle.cv_graft.proofs.Both.{fault_remakes, remade_above, remade_here, unread_remakes}
 use Rattle.cv_graft.specs.declared.made.Made.{Made}
 use Rattle.cv_graft.specs.declared.graft_fault.GraftFault.{GraftFault}
 use Rattle.cv_graft.proofs.Holders.{tells_next, tells_below, tells_none}
-use Rattle.cv_graft.proofs.Finding.{raised_more, none_holds, step_unread, step_down, step_count, more_than_one, at_most_below}
+use Rattle.cv_graft.proofs.Nexts.{above_shorter, next_shorter}
+use Rattle.cv_graft.proofs.Finding.{none_or_one, one_more, raised_more, none_holds, step_unread, step_down, step_count, more_than_one, at_most_below}
 use Rattle.cv_graft.proofs.Rebuilds.{asked_of, above_of, above_made, upper_fault, unread_fault}
 use Rattle.cv_graft.proofs.rebuilding.+rebuilt.Goals as goal
 use Rattle.cv_ports.specs.Calls.{raised_by}
@@ -109,3 +113,60 @@ pub nested_catalogue-requires-clause-entry : goal.nested_catalogue-requires-clau
 nested_catalogue-requires-clause-entry g m c =
     let next : IsNext c.args.catalogue c.args.path.now c.in-Some.entry = rw c.in-Some.is at c.in_ok-entry.ensures.found in
     next.has
+
+pub returns-in_err-entry-clause-most : goal.returns-in_err-entry-clause-most
+returns-in_err-entry-clause-most g m c = (0, omega (arith, above_shorter c.args.catalogue.at c.args.path.now c.requires.below c.requires.apart), refl)
+
+pub returns-in_default-clause-most : goal.returns-in_default-clause-most
+returns-in_default-clause-most g m c = (0, omega (arith, above_shorter c.args.catalogue.at c.args.path.now c.requires.below c.requires.apart), refl)
+
+pub returns-in_err-below-clause-most : goal.returns-in_err-below-clause-most
+returns-in_err-below-clause-most g m c =
+    let next : IsNext c.args.catalogue c.args.path.now c.in-Some.entry = rw c.in-Some.is at c.in_ok-entry.ensures.found in
+    none_or_one _ _ _ _ _ c.nested_catalogue.ensures.deeper (next_shorter c.args.catalogue c.args.path.now c.in-Some.entry next) c.in_err-below.ensures.taken
+
+pub returns-in_err-made-clause-most : goal.returns-in_err-made-clause-most
+returns-in_err-made-clause-most g m c =
+    let deeper = subst (λ (q : Path). length c.args.catalogue.at < length q) (sym c.in_ok-below.ensures.place) c.nested_catalogue.ensures.deeper in
+    one_more _ _ _ _ _ _ deeper c.in_ok-below.ensures.taken c.rebuilt.ensures.most
+
+pub returns-in_err-keep-clause-most : goal.returns-in_err-keep-clause-most
+returns-in_err-keep-clause-most g m c =
+    let deeper = subst (λ (q : Path). length c.args.catalogue.at < length q) (sym c.in_ok-below.ensures.place) c.nested_catalogue.ensures.deeper in
+    one_more _ _ _ _ _ _ deeper c.in_ok-below.ensures.taken c.rebuilt.ensures.most
+
+pub returns-clause-most : goal.returns-clause-most
+returns-clause-most g m c =
+    let deeper = subst (λ (q : Path). length c.args.catalogue.at < length q) (sym c.in_ok-below.ensures.place) c.nested_catalogue.ensures.deeper in
+    one_more _ _ _ _ _ _ deeper c.in_ok-below.ensures.taken c.rebuilt.ensures.most
+
+pub returns-in_default-clause-way : goal.returns-in_default-clause-way
+returns-in_default-clause-way g m c = λ standing told.
+    let none : HasNone c.args.catalogue c.args.path.now = rw c.in_default.is at c.in_ok-entry.ensures.found in
+    remade_here standing c.args.id.now c.args.catalogue c.args.other.now c.args.path.now c.args.added.now.items c.rejoined.new.added.items c.rejoined.result none c.rejoined.ensures.rejoins
+
+pub returns-in_err-below-clause-way : goal.returns-in_err-below-clause-way
+returns-in_err-below-clause-way g m c = λ standing told.
+    let items = c.args.added.now.items in
+    left_by (Remakes standing c.args.id.now c.args.catalogue c.args.other.now c.args.path.now items items) _ _ c.from_residual-in_err-below.ensures.1
+    (unread_remakes standing c.args.id.now c.args.catalogue c.args.other.now c.args.path.now items items _)
+
+pub returns-in_err-made-clause-way : goal.returns-in_err-made-clause-way
+returns-in_err-made-clause-way g m c = λ standing told.
+    let next : IsNext c.args.catalogue c.args.path.now c.in-Some.entry = rw c.in-Some.is at c.in_ok-entry.ensures.found in
+    let items = c.args.added.now.items in
+    let more = c.rebuilt.new.added.items in
+    left_by (Remakes standing c.args.id.now c.args.catalogue c.args.other.now c.args.path.now items more) _ _ c.from_residual-in_err-made.ensures.1
+    (fault_remakes standing c.args.id.now c.args.catalogue c.in_ok-below.below c.args.other.now c.in-Some.entry c.args.path.now items more _ next (c.in_ok-below.ensures.told standing told)
+    (c.in_err-made.ensures.way standing (c.nested_catalogue.ensures.unchanged ∙ told)))
+
+pub returns-in_err-keep-clause-way : goal.returns-in_err-keep-clause-way
+returns-in_err-keep-clause-way g m c = λ standing told.
+    left_by (Remakes standing c.args.id.now c.args.catalogue c.args.other.now c.args.path.now c.args.added.now.items c.keep.new.added.items) _ _ c.from_residual-in_err-keep.ensures.1 (λ root place on has. tt)
+
+pub returns-clause-way : goal.returns-clause-way
+returns-clause-way g m c = λ standing told.
+    let next : IsNext c.args.catalogue c.args.path.now c.in-Some.entry = rw c.in-Some.is at c.in_ok-entry.ensures.found in
+    remade_above standing c.args.catalogue c.in_ok-below.below c.args.other.now c.with_entry-catalogue.result c.in-Some.entry c.args.path.now c.args.added.now.items c.rebuilt.new.added.items c.keep.new.added.items c.in_ok-made.made c.in_ok-keep.field-0
+    next (c.in_ok-below.ensures.told standing told) (c.in_ok-made.ensures.way standing (c.nested_catalogue.ensures.unchanged ∙ told)) c.with_entry-catalogue.ensures
+    (record { hash = c.in_ok-keep.ensures.hash; size = c.in_ok-keep.ensures.size; added = c.in_ok-keep.ensures.added })

@@ -1,4 +1,4 @@
-use Rattle.std.proofs.Common.{suc, Result, None, List, [], ap, subst, ◌∙◌, arith}
+use Rattle.std.proofs.Common.{suc, length, Result, None, List, [], ap, subst, ◌∙◌, arith}
 use Rattle.std.specs.Prelude.{IsErrOf}
 use Rattle.std.specs.Option.{option_copied}
 use Rattle.cv_base.specs.declared.id.Kind.TheVariants.{Catalogue}
@@ -15,7 +15,7 @@ use Rattle.cv_graft.specs.Way.{IsOfWay, TellsDamage}
 use Rattle.cv_graft.specs.declared.grafted.Grafted.{Grafted}
 use Rattle.cv_graft.specs.declared.graft_fault.GraftFault.{GraftFault}
 use Rattle.cv_graft.specs.declared.graft_fault.GraftFault.TheVariants as fault
-use Rattle.cv_graft.proofs.Finding.{some_count, raised_more, top_unread}
+use Rattle.cv_graft.proofs.Finding.{from_top, some_count, some_long, raised_more, top_unread}
 use Rattle.cv_graft.proofs.Holders.{top_blamed, tells_way, tells_top}
 use Rattle.cv_graft.proofs.Grafts.{tree_after, top_is, top_count}
 use Rattle.cv_graft.proofs.PlacedAbove.{early_fault, unread_place, cut_tells, cut_not_failed, own_piece, own_only, set_root, set_fault, fault_root}
@@ -131,3 +131,12 @@ returns-clause-lead g c = λ standing told.
       there = subst (λ (q : Path). HasCatalogue standing c.args.base.now.hash (record { path = q; row = None }) k) c.root-top.ensures (c.in_ok-catalogue.ensures.told standing told);
       leads = c.in_ok-made.ensures.lead standing (c.catalogue_at.ensures.unchanged ∙ told);
     }
+
+pub returns-in_err-catalogue-clause-most : goal.returns-in_err-catalogue-clause-most
+returns-in_err-catalogue-clause-most g c = (1, some_long c.args.path.now c.requires.path, c.in_err-catalogue.ensures.taken)
+
+pub returns-in_err-made-clause-most : goal.returns-in_err-made-clause-most
+returns-in_err-made-clause-most g c = from_top (length c.in_ok-catalogue.catalogue.at) _ _ _ _ c.catalogue_at.ensures.taken c.rebuilt_with.ensures.most
+
+pub returns-clause-most : goal.returns-clause-most
+returns-clause-most g c = from_top (length c.in_ok-catalogue.catalogue.at) _ _ _ _ c.catalogue_at.ensures.taken c.rebuilt_with.ensures.most

@@ -30,6 +30,9 @@ returns-then-is_empty-clause-cause g c = record { later = omega arith; failed = 
 pub returns-then-is_empty-clause-taken : goal.returns-then-is_empty-clause-taken
 returns-then-is_empty-clause-taken g c = λ standing told t way. (0, omega arith, refl)
 
+pub returns-then-is_empty-clause-most : goal.returns-then-is_empty-clause-most
+returns-then-is_empty-clause-most g c = (0, omega arith, refl)
+
 pub returns-then-is_empty-clause-lead : goal.returns-then-is_empty-clause-lead
 returns-then-is_empty-clause-lead g c = λ standing told.
     let size = (Decides-eqb (length c.names.result.now) 0).0 (sym c.is_empty.ensures ∙ c.if-is_empty.true) in

@@ -1,11 +1,13 @@
-use Rattle.std.proofs.Common.{suc, Result, ap, subst, ◌∙◌, arith}
+use Rattle.std.proofs.Common.{◌<◌, length, refl, sym, suc, Result, ap, subst, ◌∙◌, arith}
+use Rattle.cv_base.specs.Path.{Path}
 use Rattle.cv_rows.specs.Catalogue.{Contents}
 use Rattle.cv_graft.specs.DirectoriesInner.{HoldsFrom}
 use Rattle.cv_graft.specs.Way.{HasNone, IsNext}
 use Rattle.cv_graft.specs.WayInner.{Finds, FailsFrom}
 use Rattle.cv_graft.proofs.Holders.{holds_itself, holds_below, fails_next, fails_below}
 use Rattle.cv_cut.specs.declared.load_fault.LoadFault.{LoadFault}
-use Rattle.cv_graft.proofs.Finding.{raised_more, none_holds, step_unread, step_down, step_count, more_than_one, at_most_below}
+use Rattle.cv_graft.proofs.Nexts.{above_shorter, next_shorter}
+use Rattle.cv_graft.proofs.Finding.{none_or_one, one_more, raised_more, none_holds, step_unread, step_down, step_count, more_than_one, at_most_below}
 use Rattle.cv_graft.proofs.way.+holder_from.Goals as goal
 use Rattle.cv_ports.specs.Calls.{raised_by}
 use Rattle.cv_cut.proofs.Lemmas.{left_by}
@@ -74,3 +76,19 @@ returns-clause-holder g t c = λ standing told.
     let next : IsNext c.args.catalogue c.args.path.now c.in-Some.entry = rw c.in-Some.is at c.in_ok-entry.ensures.found in
     holds_below standing c.args.id.now c.args.catalogue c.in_ok-below.below c.in-Some.entry c.args.path.now c.holder_from.result next (c.in_ok-below.ensures.told standing told)
     (c.holder_from.ensures.holder standing (c.nested_catalogue.ensures.unchanged ∙ told))
+
+pub returns-in_err-entry-clause-most : goal.returns-in_err-entry-clause-most
+returns-in_err-entry-clause-most g t c = (0, omega (arith, above_shorter c.args.catalogue.at c.args.path.now c.requires.covered c.requires.apart), refl)
+
+pub returns-in_default-clause-most : goal.returns-in_default-clause-most
+returns-in_default-clause-most g t c = (0, omega (arith, above_shorter c.args.catalogue.at c.args.path.now c.requires.covered c.requires.apart), refl)
+
+pub returns-in_err-below-clause-most : goal.returns-in_err-below-clause-most
+returns-in_err-below-clause-most g t c =
+    let next : IsNext c.args.catalogue c.args.path.now c.in-Some.entry = rw c.in-Some.is at c.in_ok-entry.ensures.found in
+    none_or_one _ _ _ _ _ c.nested_catalogue.ensures.deeper (next_shorter c.args.catalogue c.args.path.now c.in-Some.entry next) c.in_err-below.ensures.taken
+
+pub returns-clause-most : goal.returns-clause-most
+returns-clause-most g t c =
+    let deeper = subst (λ (q : Path). length c.args.catalogue.at < length q) (sym c.in_ok-below.ensures.place) c.nested_catalogue.ensures.deeper in
+    one_more _ _ _ _ _ _ deeper c.in_ok-below.ensures.taken c.holder_from.ensures.most
