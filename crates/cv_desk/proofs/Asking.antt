@@ -16,7 +16,8 @@ use Rattle.cv_vault.specs.Disk.{Disk, Files, ImageOf}
 use Rattle.cv_vault.specs.Walks.{Walks, Nothing}
 use Rattle.cv_vault.proofs.Laws.{stand, quiet_walks}
 use Rattle.cv_tree.specs.Changes.{has_place}
-use Rattle.cv_leases.specs.Leases.{lease_limit, busy, refusal_beside, refusal, lease_of, without, unexpired}
+use Rattle.cv_leases.specs.declared.limits.TheConstants.{LEASE_LIMIT}
+use Rattle.cv_leases.specs.Leases.{busy, refusal_beside, refusal, lease_of, without, unexpired}
 use Rattle.cv_leases.specs.declared.lease.Lease.{Lease}
 use Rattle.cv_leases.specs.declared.lease_fault.LeaseFault.TheVariants as fault
 use Rattle.cv_leases.proofs.Laws.{HasRoom, not_refused}
@@ -34,10 +35,8 @@ use Rattle.cv_gate.specs.declared.reply.Reply.{Reply}
 use Rattle.cv_gate.specs.declared.reply.Reply.TheVariants as reply
 use Rattle.cv_gate.proofs.Lemmas.{some_newest}
 use Rattle.cv_desk.specs.Gate.{StateView, StandsFor, Does}
-use Rattle.cv_desk.specs.ActingInner.{aged_view, reply_of, Acts, refusal_of, refusal_on, PlaceIs, FindsPlace, OnlyLooks, Grants, granted, unremembered, AsksLease, refused, unread, placeless, placed, AsksEnd, not_ended, ends, AsksStore, not_sent, sends}
-use Rattle.cv_desk.specs.Refusals.{outcome_then}
-use Rattle.cv_desk.specs.declared.outcome.Outcome.{Outcome}
-use Rattle.cv_desk.specs.declared.outcome.Outcome.TheVariants as outcome
+use Rattle.cv_desk.specs.ActingInner.{aged_view, Acts, refusal_of, refusal_on, PlaceIs, FindsPlace, OnlyLooks, Grants, granted, unremembered, AsksLease, refused, unread, placeless, placed, AsksEnd, not_ended, ends, AsksStore, not_sent, sends}
+use Rattle.cv_desk.specs.Refusals.{reply_then}
 use Rattle.cv_desk.proofs.Quietly.{quiet_does}
 use Rattle.cv_desk.proofs.Storing.{store_does}
 use Rattle.cv_desk.proofs.Places.{head_is, newest_means}
@@ -47,7 +46,7 @@ use Rattle.cv_desk.proofs.Places.{head_is, newest_means}
 -- where no refusal is answered there is none
 pub unrefused : (leases : List Lease) (moment : ℕ) (path : Path) → refusal_of leases moment path ≡ None → refusal leases path ≡ None
 unrefused leases moment path h =
-    elim (refusal leases path) as (λ r. refusal leases path ≡ r → option_map (outcome_then moment) r ≡ None → refusal leases path ≡ None) [
+    elim (refusal leases path) as (λ r. refusal leases path ≡ r → option_map (reply_then moment) r ≡ None → refusal leases path ≡ None) [
       | Some why ↦ λ _ some. cc
       | None ↦ λ none _. none
     ] refl h
@@ -63,14 +62,14 @@ step_on st key path r st' room rest = inr (
   inr ((λ lease is. (let c = room.clear in cc)), inr ((λ many. (let f = room.few in omega (arith, many, f))), rest)),
 )
 
-refused_step : (st : State) (key : List ℕ) (path : Path) (out : Outcome) → refusal_of st.leases st.moment path ≡ Some out → LeaseStep st key path (reply_of out) st
+refused_step : (st : State) (key : List ℕ) (path : Path) (out : Reply) → refusal_of st.leases st.moment path ≡ Some out → LeaseStep st key path out st
 refused_step st key path out h =
-    elim (ends_in marker path) as (λ m. ends_in marker path ≡ m → option_map (outcome_then st.moment) (cond m (Some fault.BadPath) (refusal_beside (busy st.leases path) st.leases)) ≡ Some out → LeaseStep st key path (reply_of out) st) [
-      | true ↦ λ m is. (let same : outcome.BadPath ≡ out = cc in inl (m, ap reply_of (sym same), refl))
-      | false ↦ λ m is. elim (busy st.leases path) as (λ b. busy st.leases path ≡ b → option_map (outcome_then st.moment) (refusal_beside b st.leases) ≡ Some out → LeaseStep st key path (reply_of out) st) [
-        | Some lease ↦ λ b is2. (let same : outcome.PathBusy lease.token (lease.deadline - st.moment) ≡ out = cc in inr ((λ marked. cc), inl (lease, b, ap reply_of (sym same), refl)))
-        | None ↦ λ b is2. elim (nat_le lease_limit (length st.leases)) as (λ many. nat_le lease_limit (length st.leases) ≡ many → option_map (outcome_then st.moment) (cond many (Some fault.TooManyLeases) None) ≡ Some out → LeaseStep st key path (reply_of out) st) [
-          | true ↦ λ many is3. (let same : outcome.TooManyLeases ≡ out = cc in inr ((λ marked. cc), inr ((λ lease other. cc), inl (search rules, ap reply_of (sym same), refl))))
+    elim (ends_in marker path) as (λ m. ends_in marker path ≡ m → option_map (reply_then st.moment) (cond m (Some fault.BadPath) (refusal_beside (busy st.leases path) st.leases)) ≡ Some out → LeaseStep st key path out st) [
+      | true ↦ λ m is. (let same : reply.BadPath ≡ out = cc in inl (m, sym same, refl))
+      | false ↦ λ m is. elim (busy st.leases path) as (λ b. busy st.leases path ≡ b → option_map (reply_then st.moment) (refusal_beside b st.leases) ≡ Some out → LeaseStep st key path out st) [
+        | Some lease ↦ λ b is2. (let same : reply.PathBusy lease.token (lease.deadline - st.moment) ≡ out = cc in inr ((λ marked. cc), inl (lease, b, sym same, refl)))
+        | None ↦ λ b is2. elim (nat_le LEASE_LIMIT (length st.leases)) as (λ many. nat_le LEASE_LIMIT (length st.leases) ≡ many → option_map (reply_then st.moment) (cond many (Some fault.TooManyLeases) None) ≡ Some out → LeaseStep st key path out st) [
+          | true ↦ λ many is3. (let same : reply.TooManyLeases ≡ out = cc in inr ((λ marked. cc), inr ((λ lease other. cc), inl (search rules, sym same, refl))))
           | false ↦ λ many is3. absurd cc
         ] refl is2
       ] refl is
@@ -87,7 +86,7 @@ pub own_lease : (leases : List Lease) (key : List ℕ) (token : Token) → refus
 own_lease leases key token h =
     elim (lease_of token leases) as (λ o. lease_of token leases ≡ o → refusal_on o key ≡ None → IsOwn leases key token) [
       | None ↦ λ _ not. cc
-      | Some lease ↦ λ live none. elim (bytes_eq lease.key key) as (λ b. bytes_eq lease.key key ≡ b → cond b None (Some outcome.WrongKey) ≡ None → IsOwn leases key token) [
+      | Some lease ↦ λ live none. elim (bytes_eq lease.key key) as (λ b. bytes_eq lease.key key ≡ b → cond b None (Some reply.WrongKey) ≡ None → IsOwn leases key token) [
         | true ↦ λ own _. record { lease = lease; live = live; own = own }
         | false ↦ λ _ not. cc
       ] refl none
@@ -102,13 +101,13 @@ pub record IsNotDone (st : State) (key : List ℕ) (token : Token) (r : Reply) :
   pub step : (does : Lease → Type 0) → OnLease st key token r st does
   pub unstored : r ≢ reply.Stored
 
-pub refused_on : (st : State) (key : List ℕ) (token : Token) (out : Outcome) → refusal_on (lease_of token st.leases) key ≡ Some out → IsNotDone st key token (reply_of out)
+pub refused_on : (st : State) (key : List ℕ) (token : Token) (out : Reply) → refusal_on (lease_of token st.leases) key ≡ Some out → IsNotDone st key token out
 refused_on st key token out h =
-    elim (lease_of token st.leases) as (λ o. lease_of token st.leases ≡ o → refusal_on o key ≡ Some out → IsNotDone st key token (reply_of out)) [
-      | None ↦ λ absent is. (let same : outcome.InvalidToken ≡ out = cc in subst (λ o. IsNotDone st key token (reply_of o)) same (record { step = λ does. inl (absent, refl, refl); unstored = λ e. cc }))
-      | Some lease ↦ λ live is. elim (bytes_eq lease.key key) as (λ b. bytes_eq lease.key key ≡ b → cond b None (Some outcome.WrongKey) ≡ Some out → IsNotDone st key token (reply_of out)) [
+    elim (lease_of token st.leases) as (λ o. lease_of token st.leases ≡ o → refusal_on o key ≡ Some out → IsNotDone st key token out) [
+      | None ↦ λ absent is. (let same : reply.InvalidToken ≡ out = cc in subst (IsNotDone st key token) same (record { step = λ does. inl (absent, refl, refl); unstored = λ e. cc }))
+      | Some lease ↦ λ live is. elim (bytes_eq lease.key key) as (λ b. bytes_eq lease.key key ≡ b → cond b None (Some reply.WrongKey) ≡ Some out → IsNotDone st key token out) [
         | true ↦ λ _ not. cc
-        | false ↦ λ other is2. (let same : outcome.WrongKey ≡ out = cc in subst (λ o. IsNotDone st key token (reply_of o)) same
+        | false ↦ λ other is2. (let same : reply.WrongKey ≡ out = cc in subst (IsNotDone st key token) same
             (record { step = λ does. inr ((λ absent. cc), (lease, live, inl (other, refl, refl))); unstored = λ e. cc }))
       ] refl is
     ] refl h
@@ -145,17 +144,17 @@ module _ {V S : Type 0} (disk : V → Option Disk) (count : V → ℕ) (left : V
         (quiet_does disk count left is_seal before aged_before st stands none o e noted has_room a.leases st.next acts refl leases_aged refl stands.next _ (stand {E = λ d'. Unit {0}} only stands.told tt))
 
   -- a lease is asked
-  module _ (key : List ℕ) (path : Path) (out : Outcome) (noted : IsNoted (op.Lease key path) e) (replied : e.reply ≡ reply_of out) where
-    with_reply : (st' : State) → LeaseStep a key path (reply_of out) st' → ActsAs a (op.Lease key path) e st'
+  module _ (key : List ℕ) (path : Path) (out : Reply) (noted : IsNoted (op.Lease key path) e) (replied : e.reply ≡ out) where
+    with_reply : (st' : State) → LeaseStep a key path out st' → ActsAs a (op.Lease key path) e st'
     with_reply st' s = subst (λ r. ((r ≡ reply.NoMemory) × (st' ≡ a)) ⊎ LeaseStep a key path r st') (sym replied) (inr s)
 
     head : (r : Revision) × (newest st.history ≡ Some r)
     head = some_newest st.shelf st.history stands.sound.line
 
-    place_is : (s : Result Bool Outcome) → FindsPlace disk aged_before path s → PlaceIs head.0.tree path s
+    place_is : (s : Result Bool Reply) → FindsPlace disk aged_before path s → PlaceIs head.0.tree path s
     place_is s found = found stands.end stands.told head.0.tree (newest_means disk is_seal before st stands head.0 head.1)
 
-    refused_as : (r : Option Outcome) → refusal_of aged_before.leases aged_before.moment path ≡ r → refusal_of a.leases a.moment path ≡ r
+    refused_as : (r : Option Reply) → refusal_of aged_before.leases aged_before.moment path ≡ r → refusal_of a.leases a.moment path ≡ r
     refused_as r e = (λ i. refusal_of (sym leases_aged i) (sym moment_aged i) path) ∙ e
 
     room_for : refusal_of aged_before.leases aged_before.moment path ≡ None → HasRoom a.leases path
@@ -165,7 +164,7 @@ module _ {V S : Type 0} (disk : V → Option Disk) (count : V → ℕ) (left : V
     grants : refusal_of aged_before.leases aged_before.moment path ≡ None → (mid : StateView V S) → OnlyLooks disk count left aged_before mid → has_place head.0.tree path ≡ true
         → Grants key path mid out after → Does disk count left is_seal (op.Lease key path) e before after st
     grants free mid looks place (unremembered is same) = looked (op.Lease key path) noted
-        (subst (λ r. ((r ≡ reply.NoMemory) × (a ≡ a)) ⊎ LeaseStep a key path r a) (sym replied) (inl (ap reply_of is, refl)))
+        (subst (λ r. ((r ≡ reply.NoMemory) × (a ≡ a)) ⊎ LeaseStep a key path r a) (sym replied) (inl (is, refl)))
         (subst (λ (s : StateView V S). OnlyLooks disk count left aged_before s) (sym same) looks)
     grants free mid looks place (granted is same) =
         let r : Revision = head.0 in
@@ -182,13 +181,13 @@ module _ {V S : Type 0} (disk : V → Option Disk) (count : V → ℕ) (left : V
         let after_leases : after.leases ≡ a.leases ++ lease ∷ [] = ap (λ (s : StateView V S). s.leases) same
         ∙ (λ i. leases_is i ++ record { token = record { epoch = epoch_is i; number = next_is i }; key = key; path = path; deadline = moment_is i + 7200; from_revision = (mid_head i).revision } ∷ []) in
         quiet_does disk count left is_seal before after st stands none (op.Lease key path) e noted has_room (a.leases ++ lease ∷ []) (st.next + 1)
-        (with_reply _ (step_on a key path (reply_of out) _ room_ (inr (
+        (with_reply _ (step_on a key path out _ room_ (inr (
           r,
           head.1,
           inr (
             (λ not. (let p = place in cc)),
             adds r (record { unmarked = room_.unmarked; clear = room_.clear; few = room_.few; is_newest = head.1; place = place })
-                (ap reply_of is ∙ (λ i. reply.Granted (record { epoch = epoch_is i; number = next_is i }) (mid_head i).revision (mid_head i).root)) refl,
+                (is ∙ (λ i. reply.Granted (record { epoch = epoch_is i; number = next_is i }) (mid_head i).revision (mid_head i).root)) refl,
           ),
         ))))
         (after_line ∙ line_is ∙ ap (λ (l : LineView V S). record before.line { vault = l.vault; taken = l.taken }) (sym after_line))
@@ -197,24 +196,24 @@ module _ {V S : Type 0} (disk : V → Option Disk) (count : V → ℕ) (left : V
 
     pub lease_does : AsksLease disk count left key path aged_before out after → Does disk count left is_seal (op.Lease key path) e before after st
     lease_does (refused is same) = untouched (op.Lease key path) noted (with_reply a (refused_step a key path out (refused_as (Some out) is))) same
-    lease_does (unread free kind blames looks fetches found) = looked (op.Lease key path) noted (with_reply a (step_on a key path (reply_of out) a (room_for free) (inl (place_is (Err out) found, refl)))) looks
+    lease_does (unread free kind blames looks fetches found) = looked (op.Lease key path) noted (with_reply a (step_on a key path out a (room_for free) (inl (place_is (Err out) found, refl)))) looks
     lease_does (placeless free looks fetches found sees is) = looked (op.Lease key path) noted
-        (with_reply a (step_on a key path (reply_of out) a (room_for free) (inr (head.0, head.1, inl (place_is (Ok false) found, ap reply_of is, refl))))) looks
+        (with_reply a (step_on a key path out a (room_for free) (inr (head.0, head.1, inl (place_is (Ok false) found, is, refl))))) looks
     lease_does (placed mid free looks fetches found sees g) = grants free mid looks (place_is (Ok true) found) g
 
   -- its end is asked
-  module _ (key : List ℕ) (token : Token) (out : Outcome) (noted : IsNoted (op.Cancel key token) e) (replied : e.reply ≡ reply_of out) where
-    on_aged : (r : Option Outcome) → refusal_on (lease_of token aged_before.leases) key ≡ r → refusal_on (lease_of token a.leases) key ≡ r
+  module _ (key : List ℕ) (token : Token) (out : Reply) (noted : IsNoted (op.Cancel key token) e) (replied : e.reply ≡ out) where
+    on_aged : (r : Option Reply) → refusal_on (lease_of token aged_before.leases) key ≡ r → refusal_on (lease_of token a.leases) key ≡ r
     on_aged r e = ap (λ (l : List Lease). refusal_on (lease_of token l) key) (sym leases_aged) ∙ e
 
     pub cancel_does : AsksEnd key token aged_before out after → Does disk count left is_seal (op.Cancel key token) e before after st
     cancel_does (not_ended is same) = untouched (op.Cancel key token) noted
-        (subst (λ r. OnLease a key token r a (λ lease. Cancels a token r a)) (sym replied) ((refused_on a key token out (on_aged (Some out) is)).step (λ lease. Cancels a token (reply_of out) a))) same
+        (subst (λ r. OnLease a key token r a (λ lease. Cancels a token r a)) (sym replied) ((refused_on a key token out (on_aged (Some out) is)).step (λ lease. Cancels a token out a))) same
     cancel_does (ends free is same) =
         let own : IsOwn a.leases key token = own_lease a.leases key token (on_aged None free) in
         let left_ : List Lease = without token a.leases in
-        let done : OnLease a key token (reply_of out) (record a { leases = left_ }) (λ lease. Cancels a token (reply_of out) (record a { leases = left_ })) =
-        on_own a key token (reply_of out) (record a { leases = left_ }) (λ lease. Cancels a token (reply_of out) (record a { leases = left_ })) own (takes (ap reply_of is) refl) in
+        let done : OnLease a key token out (record a { leases = left_ }) (λ lease. Cancels a token out (record a { leases = left_ })) =
+        on_own a key token out (record a { leases = left_ }) (λ lease. Cancels a token out (record a { leases = left_ })) own (takes is refl) in
         quiet_does disk count left is_seal before after st stands none (op.Cancel key token) e noted has_room left_ st.next
         (subst (λ r. OnLease a key token r (record a { leases = left_ }) (λ lease. Cancels a token r (record a { leases = left_ }))) (sym replied) done)
         (line_over (ap (λ (s : StateView V S). s.line) same)) (ap (λ (s : StateView V S). s.leases) same ∙ ap (without token) leases_aged) (ap (λ (s : StateView V S). s.moment) same) (ap (λ (s : StateView V S). s.next) same ∙ stands.next)
@@ -224,16 +223,16 @@ module _ {V S : Type 0} (disk : V → Option Disk) (count : V → ℕ) (left : V
         line_over e = subst (λ (l : LineView V S). l ≡ record before.line { vault = l.vault; taken = l.taken }) (sym e) refl
 
   -- objects are sent
-  module _ (key digest : List ℕ) (token : Token) (batch : List Object) (out : Outcome) (fresh : List ObjectId) (noted : IsNoted (op.Store key token digest batch) e) (named : AreNamed batch)
-      (kept : e.act ≡ act.Store token digest fresh) (replied : e.reply ≡ reply_of out) where
-    sent_aged : (r : Option Outcome) → refusal_on (lease_of token aged_before.leases) key ≡ r → refusal_on (lease_of token a.leases) key ≡ r
+  module _ (key digest : List ℕ) (token : Token) (batch : List Object) (out : Reply) (fresh : List ObjectId) (noted : IsNoted (op.Store key token digest batch) e) (named : AreNamed batch)
+      (kept : e.act ≡ act.Store token digest fresh) (replied : e.reply ≡ out) where
+    sent_aged : (r : Option Reply) → refusal_on (lease_of token aged_before.leases) key ≡ r → refusal_on (lease_of token a.leases) key ≡ r
     sent_aged r e = ap (λ (l : List Lease). refusal_on (lease_of token l) key) (sym leases_aged) ∙ e
 
     pub sent_does : AsksStore disk count left key token batch aged_before out fresh after → Does disk count left is_seal (op.Store key token digest batch) e before after st
     sent_does (not_sent is no_fresh same) =
-        let not : IsNotDone a key token (reply_of out) = refused_on a key token out (sent_aged (Some out) is) in
+        let not : IsNotDone a key token out = refused_on a key token out (sent_aged (Some out) is) in
         untouched (op.Store key token digest batch) noted
-        (fresh, kept, inr (subst (λ r. FreshIs a batch r a fresh) (sym replied) (inr (no_fresh, not.unstored, refl)), subst (λ r. StoreStep a key token batch r a) (sym replied) (not.step (λ lease. Stores a batch (reply_of out) a)))) same
+        (fresh, kept, inr (subst (λ r. FreshIs a batch r a fresh) (sym replied) (inr (no_fresh, not.unstored, refl)), subst (λ r. StoreStep a key token batch r a) (sym replied) (not.step (λ lease. Stores a batch out a)))) same
     sent_does (sends free s) =
         let own : IsOwn a.leases key token = own_lease a.leases key token (sent_aged None free) in
         subst (λ (g : StateView V S). Does disk count left is_seal (op.Store key token digest batch) e before g st) (sym s.others)
@@ -246,15 +245,15 @@ module _ {V S : Type 0} (disk : V → Option Disk) (count : V → ℕ) (left : V
   at_moment : (e : Entry) → e.now ≡ now → aged_ ≡ aged_view before e.now
   at_moment e is = aged_is ∙ ap (aged_view before) (sym is)
 
-  pub lease_acts : (key : List ℕ) (path : Path) (out : Outcome) → AsksLease disk count left key path aged_ out after → Acts disk count left is_seal (op.Lease key path) now (act.Lease path) (reply_of out) before after
+  pub lease_acts : (key : List ℕ) (path : Path) (out : Reply) → AsksLease disk count left key path aged_ out after → Acts disk count left is_seal (op.Lease key path) now (act.Lease path) out before after
   lease_acts key path out asks = λ st none stands e noted e_now e_act e_reply. lease_does disk count left is_seal before after only room st none stands e key path out noted e_reply
       (subst (λ (s : StateView V S). AsksLease disk count left key path s out after) (at_moment e e_now) asks)
 
-  pub cancel_acts : (key : List ℕ) (token : Token) (out : Outcome) → AsksEnd key token aged_ out after → Acts disk count left is_seal (op.Cancel key token) now (act.Cancel token) (reply_of out) before after
+  pub cancel_acts : (key : List ℕ) (token : Token) (out : Reply) → AsksEnd key token aged_ out after → Acts disk count left is_seal (op.Cancel key token) now (act.Cancel token) out before after
   cancel_acts key token out asks = λ st none stands e noted e_now e_act e_reply. cancel_does disk count left is_seal before after only room st none stands e key token out noted e_reply
       (subst (λ (s : StateView V S). AsksEnd key token s out after) (at_moment e e_now) asks)
 
-  pub store_acts : (key digest : List ℕ) (token : Token) (batch : List Object) (out : Outcome) (fresh : List ObjectId) → AreNamed batch → AsksStore disk count left key token batch aged_ out fresh after
-      → Acts disk count left is_seal (op.Store key token digest batch) now (act.Store token digest fresh) (reply_of out) before after
+  pub store_acts : (key digest : List ℕ) (token : Token) (batch : List Object) (out : Reply) (fresh : List ObjectId) → AreNamed batch → AsksStore disk count left key token batch aged_ out fresh after
+      → Acts disk count left is_seal (op.Store key token digest batch) now (act.Store token digest fresh) out before after
   store_acts key digest token batch out fresh named asks = λ st none stands e noted e_now e_act e_reply. sent_does disk count left is_seal before after only room st none stands e key digest token batch out fresh noted named e_act e_reply
       (subst (λ (s : StateView V S). AsksStore disk count left key token batch s out fresh after) (at_moment e e_now) asks)

@@ -32,8 +32,7 @@ use Rattle.cv_gate.specs.declared.reply.Reply.TheVariants as reply
 use Rattle.cv_gate.proofs.Lemmas.{hashed_made}
 use Rattle.cv_desk.specs.Holds.{Holds}
 use Rattle.cv_desk.specs.HoldsInner.{after_failure, after_store}
-use Rattle.cv_desk.specs.Sending.{outcome_of}
-use Rattle.cv_desk.specs.ActingInner.{reply_of}
+use Rattle.cv_desk.specs.Sending.{reply_of}
 use Rattle.cv_desk.specs.Committing.{objects_with}
 use Rattle.cv_desk.proofs.Holding.{holds_same, failed_gains, failed_holds, done_gains, done_holds}
 use Rattle.cv_desk.proofs.Sending.{gains_none, clash_of, not_damaged, no_clash}
@@ -108,7 +107,7 @@ module _ (name : List ℕ) (is_seal : List ℕ → List ℕ → Bool) (d d' : Di
   }
 
   -- it wasn't prepared
-  pub unprepared_ends : (x : StoreFault) → Prepared d (made new) manifest {X = Head} (Err x) d' → Ends (reply_of (outcome_of x))
+  pub unprepared_ends : (x : StoreFault) → Prepared d (made new) manifest {X = Head} (Err x) d' → Ends (reply_of x)
   unprepared_ends (fault.Collision id) p = none_came (reply.Collision id) (clashes id (clash_of name is_seal d d' st (made new) h hashes named id p.shown) refl refl) p.same
   unprepared_ends fault.Failed p = some_came reply.StoreFailed (inl refl) p
   unprepared_ends (fault.Damaged id found) p = absurd (not_damaged name is_seal d d' st (made new) h hashes named id found p.shown)

@@ -9,6 +9,8 @@ use Rattle.std.specs.declared.result.Result.TheVariants.{Ok, Err}
 use Rattle.cv_base.specs.Path.{Path}
 use Rattle.cv_base.specs.Marker.{marker, ends_in}
 use Rattle.cv_base.specs.Told.{WhereTold}
+use Rattle.cv_base.specs.ObjectId.{object_id}
+use Rattle.cv_base.specs.declared.id.Kind.TheVariants.{Catalogue}
 use Rattle.cv_base.specs.declared.object.Object.{Object}
 use Rattle.cv_base.specs.declared.token.Token.{Token}
 use Rattle.cv_ports.specs.Calls.{RaisedAtMost}
@@ -26,7 +28,7 @@ use Rattle.cv_cut.specs.Above.{replaced, cuts_above}
 use Rattle.cv_cut.specs.Good.{IsGood}
 use Rattle.cv_cut.specs.Means.{Means}
 use Rattle.cv_cut.specs.Reached.{root_place}
-use Rattle.cv_graft.specs.Graft.{Grafts, HasOwnIds}
+use Rattle.cv_graft.specs.Graft.{Grafts, HasOwnIds, HasWay, HasWays}
 use Rattle.cv_graft.specs.Way.{IsOfEither, TellsDamage}
 use Rattle.cv_graft.specs.declared.grafted.Grafted.{Grafted}
 use Rattle.cv_graft.specs.declared.graft_fault.GraftFault.{GraftFault}
@@ -52,10 +54,10 @@ use Rattle.cv_desk.specs.AnswersInner.{Tells}
 use Rattle.cv_desk.specs.Known.{KnowsOn}
 use Rattle.cv_desk.specs.Gate.{StateView, IsSameRepository}
 use Rattle.cv_desk.specs.GateInner.{IsState}
-use Rattle.cv_desk.specs.Sending.{outcome_of, outcome_in}
-use Rattle.cv_desk.specs.ActingInner.{reply_of}
-use Rattle.cv_desk.specs.Committing.{FetchesOffered, IsUnfit, outside, damaged, unfit, two, one, shares, fills, IsFit, next_record, objects_with, Readies, unmade, unprepared, prepared, Finishes, swaps, wavers, stays, opposition, CommitsUnder, opposed, readies}
-use Rattle.cv_desk.specs.declared.outcome.Outcome.{Outcome}
+use Rattle.cv_desk.specs.Sending.{reply_of, reply_in}
+use Rattle.cv_desk.specs.Committing.{FetchesOffered, IsUnfit, outside, damaged, unfit, two, one, shares, fills, IsFit, next_record, objects_with, Readies, unmade, unprepared, prepared, Finishes, swaps, wavers, stays, opposition}
+use Rattle.cv_desk.specs.CommittingInner.{CommitsUnder, opposed, readies}
+use Rattle.cv_desk.proofs.Reading.{way_of}
 use Rattle.cv_desk.proofs.States.{state_ended, state_same}
 use Rattle.cv_desk.proofs.CommitSteps.{found_has}
 
@@ -77,14 +79,22 @@ on_err {P = P} r f e m = subst (λ r. OnErr r P) e m
 
 -- ---- a graft
 
+-- two roots that mean trees have there what a graft asks of them
+ways_of : (shelf : Shelf) (newest offered : List ℕ) (t n : Nodes) (p : Path) → Means shelf newest t → Means shelf offered n → HasWays shelf newest offered t n p
+ways_of shelf newest offered t n p mt mn = record {
+  way = way_of shelf newest t p mt;
+  other = way_of shelf offered n p mn;
+  top = ap (λ h. shelf (object_id h Catalogue)) mn.root ∙ mn.catalogues [] refl;
+}
+
 -- from what a graft says of the shelf that the line tells
 pub grafts_there : {V S : Type 0} (disk : V → Option Disk) (count : V → ℕ) (left : V → ℕ → Files → Type 0) (line judged : LineView V S) → LineReads disk count left line judged → (root : List ℕ) → root ≡ judged.head.root
     → (offered : List ℕ) (path : Path) (r x : Result Grafted GraftFault) → r ≡ x
-    → WhereTold (option_map standing_on (disk judged.vault)) (λ standing. (t n : Nodes) → Means standing root t → Means standing offered n → IsTrue (has_place t path) → Grafts (replaced t n path) path r)
+    → WhereTold (option_map standing_on (disk judged.vault)) (λ standing. (t n : Nodes) → HasWays standing root offered t n path → IsTrue (has_place t path) → Grafts (replaced t n path) path r)
     → (d : Disk) → disk line.vault ≡ Some d → (t n : Nodes) → Means (standing_on d) line.head.root t → Means (standing_on d) offered n → has_place t path ≡ true → Grafts (replaced t n path) path x
 grafts_there disk count left line judged reads root is offered path r x e told d there t n mt mn place =
     let same : line.head.root ≡ root = sym (is ∙ ap (λ (l : LineView _ _). l.head.root) reads.1) in
-    subst (Grafts (replaced t n path) path) e (told (standing_on d) (ap (option_map standing_on) (quiet_same reads.0 ∙ there)) t n (subst (λ h. Means (standing_on d) h t) same mt) mn place)
+    subst (Grafts (replaced t n path) path) e (told (standing_on d) (ap (option_map standing_on) (quiet_same reads.0 ∙ there)) t n (ways_of (standing_on d) root offered t n path (subst (λ h. Means (standing_on d) h t) same mt) mn) place)
 
 -- and of damage
 pub grafts_shown : {V S : Type 0} (disk : V → Option Disk) (count : V → ℕ) (left : V → ℕ → Files → Type 0) (line judged : LineView V S) → LineReads disk count left line judged → (root : List ℕ) → root ≡ judged.head.root
@@ -99,13 +109,17 @@ grafts_shown disk count left line judged reads root is offered path r x e told d
 pub grafts_fetched : {V S : Type 0} (disk : V → Option Disk) (count : V → ℕ) (left : V → ℕ → Files → Type 0) (known : KnownSet) (line judged : LineView V S) → LineReads disk count left line judged → (root : List ℕ) → root ≡ judged.head.root
     → (offered : List ℕ) (path : Path) (after : ℕ) → WhereTold (disk line.vault) (λ d. FetchesNew (standing_on d) known offered line.taken judged.taken)
     → WhereTold (disk line.vault) (λ d. IsGood (standing_on d) offered root_place)
-    → WhereTold (option_map standing_on (disk judged.vault)) (λ standing. (t n : Nodes) → Means standing root t → Means standing offered n → RaisedAtMost (length (cuts_above n path) + length (cuts_above t path)) judged.taken after)
+    → WhereTold (option_map standing_on (disk judged.vault)) (λ standing. (t n : Nodes) → HasWay standing root t path → HasWay standing offered n path → RaisedAtMost (length (cuts_above n path) + length (cuts_above t path)) judged.taken after)
     → WhereTold (disk line.vault) (λ d. FetchesOffered (standing_on d) known line.head.root offered path line.taken after)
 grafts_fetched disk count left known line judged reads root is offered path after judges good told = λ d there.
     let same : line.head.root ≡ root = sym (is ∙ ap (λ (l : LineView _ _). l.head.root) reads.1) in (
       judged.taken,
       judges d there,
-      inr (good d there, λ t n mt mn. told (standing_on d) (ap (option_map standing_on) (quiet_same reads.0 ∙ there)) t n (subst (λ h. Means (standing_on d) h t) same mt) mn),
+      inr (
+        good d there,
+        λ t n mt mn. told (standing_on d) (ap (option_map standing_on) (quiet_same reads.0 ∙ there)) t n
+            (way_of (standing_on d) root t path (subst (λ h. Means (standing_on d) h t) same mt)) (way_of (standing_on d) offered n path mn),
+      ),
     )
 
 -- where nothing is grafted nothing more is fetched
@@ -150,7 +164,7 @@ module _ {V S : Type 0} (disk : V → Option Disk) (count : V → ℕ) (left : V
       (subst (λ x. Publishes l.name (is_seal l.signer) (Some l'.manifest) x) size said)
       (subst (λ b. With b (Ok (head_with (next_record l.head lease key moment g offered tag) g.size))) batch_is (subst (With (others ++ object_of next ∷ [])) (e ∙ ap Ok size) walks)))
 
-  pub refused : (r : Result Head StoreFault) (f : StoreFault) → r ≡ Err f → IsDropped read l' → HasOwnIds g.added → With (others ++ object_of next ∷ []) r → (a : Reply) → a ≡ reply_of (outcome_of f)
+  pub refused : (r : Result Head StoreFault) (f : StoreFault) → r ≡ Err f → IsDropped read l' → HasOwnIds g.added → With (others ++ object_of next ∷ []) r → (a : Reply) → a ≡ reply_of f
       → Readies disk count left is_seal known lease key moment offered tag l l' (Err a)
   refused r f e dropped own walks a told = subst (λ x. Readies disk count left is_seal known lease key moment offered tag l l' (Err x)) (sym told)
       (unprepared read g f reads fetches fit dropped (named_more g.added (object_of (next_record l.head lease key moment g offered tag)) (record { each = own.each }) refl)
@@ -203,18 +217,18 @@ module _ {V S : Type 0} (disk : V → Option Disk) (count : V → ℕ) (left : V
     Moves r = WhereTold (disk line.vault) (λ d. Walks disk count left on_way (ComesTo head_name (Some line.manifest)) (MovedIn d head_name line.manifest r) d line.vault l.vault)
 
     pub ends_well : (r : Result (Unit {0}) VaultFault) (x : Unit {0}) → r ≡ Ok x → OnOk r (l ≡ swapped line l.vault) → (ls : List Lease) → ls ≡ without token leases → Moves r → (head : Head) → head ≡ l.head
-        → Finishes disk count left token s (reply.Committed head.revision head.root) (over l ls)
-    ends_well r x e ok ls ended moves head newest =
+        → (o : Reply) → o ≡ reply.Committed head.revision head.root → Finishes disk count left token s o (over l ls)
+    ends_well r x e ok ls ended moves head newest o told =
         let is_next : head ≡ line.next_head = newest ∙ ap (λ (y : LineView V S). y.head) (on_ok r x e ok) in
-        subst (λ (y : StateView V S). Finishes disk count left token y (reply.Committed head.revision head.root) (over l ls)) is
-        (swaps (subst Moves e moves) (λ i. reply.Committed (is_next i).revision (is_next i).root) (λ i. over (on_ok r x e ok i) (ended i)))
+        subst (λ (y : StateView V S). Finishes disk count left token y o (over l ls)) is
+        (swaps (subst Moves e moves) (told ∙ (λ i. reply.Committed (is_next i).revision (is_next i).root)) (λ i. over (on_ok r x e ok i) (ended i)))
 
     pub ends_badly : (r : Result (Unit {0}) VaultFault) (f : VaultFault) → r ≡ Err f → (r ≡ Err vault.Failed → l ≡ record line { vault = l.vault; stage = stage.Doubtful }) → (r ≡ Err vault.NoMemory → l ≡ record line { vault = l.vault }) → Moves r
-        → (o : Outcome) → o ≡ outcome_in f → Finishes disk count left token s (reply_of o) (over l leases)
-    ends_badly r vault.Failed e failed lacking moves o told = subst (λ (y : StateView V S). Finishes disk count left token y (reply_of o) (over l leases)) is
-        (wavers (subst Moves e moves) (ap reply_of told) (λ i. over (failed e i) leases))
-    ends_badly r vault.NoMemory e failed lacking moves o told = subst (λ (y : StateView V S). Finishes disk count left token y (reply_of o) (over l leases)) is
-        (stays (subst Moves e moves) (ap reply_of told) (λ i. over (lacking e i) leases))
+        → (o : Reply) → o ≡ reply_in f → Finishes disk count left token s o (over l leases)
+    ends_badly r vault.Failed e failed lacking moves o told = subst (λ (y : StateView V S). Finishes disk count left token y o (over l leases)) is
+        (wavers (subst Moves e moves) told (λ i. over (failed e i) leases))
+    ends_badly r vault.NoMemory e failed lacking moves o told = subst (λ (y : StateView V S). Finishes disk count left token y o (over l leases)) is
+        (stays (subst Moves e moves) told (λ i. over (lacking e i) leases))
 
   -- a commit under the lease that the token finds
   module _ (token : Token) (mine : Lease) (found : lease_of token leases ≡ Some mine) (key old_root offered tag : List ℕ) where
@@ -228,8 +242,8 @@ module _ {V S : Type 0} (disk : V → Option Disk) (count : V → ℕ) (left : V
     under r s' does = λ lease there. subst (λ x. CommitsUnder disk count left is_seal x key old_root offered tag s r s') (the_lease lease there)
         (subst (λ (y : StateView V S). CommitsUnder disk count left is_seal mine key old_root offered tag y r s') is does)
 
-    pub opposes : (o : Outcome) (r : Reply) → r ≡ reply_of o → opposition line mine.from_revision old_root tag ≡ Some o → Under (Err r) s
-    opposes o r told why = subst (λ (y : StateView V S). Under (Err r) y) is (under (Err r) (over line leases) (opposed o why (ap Err told) refl))
+    pub opposes : (r : Reply) → opposition line mine.from_revision old_root tag ≡ Some r → Under (Err r) s
+    opposes r why = subst (λ (y : StateView V S). Under (Err r) y) is (under (Err r) (over line leases) (opposed r why refl refl))
 
     pub made_ready : (l : LineView V S) (more : KnownSet) (r : Result Head Reply) → opposition line mine.from_revision old_root tag ≡ None → Readies disk count left is_seal known mine key moment offered tag line l r
         → KnowsOn disk line.vault known offered r more → Under r (record (over l leases) { known = more })

@@ -37,8 +37,8 @@ use Rattle.cv_gate.proofs.Lemmas.{by_step, ready_ends, hashed_made}
 use Rattle.cv_desk.specs.Holds.{IsHeadOf, Holds, Survives}
 use Rattle.cv_desk.specs.HoldsInner.{after_store}
 use Rattle.cv_desk.specs.Gate.{StateView, StandsFor, KnowsDoubt, Does}
-use Rattle.cv_desk.specs.Sending.{outcome_of}
-use Rattle.cv_desk.specs.ActingInner.{aged_view, reply_of}
+use Rattle.cv_desk.specs.Sending.{reply_of}
+use Rattle.cv_desk.specs.ActingInner.{aged_view}
 use Rattle.cv_desk.specs.Begin.{IsReadyIn, GetsReady}
 use Rattle.cv_desk.proofs.Bringing.{Comes, Ends, unprepared_ends, all_gained, all_held}
 use Rattle.cv_desk.proofs.Finishing.{records_again}
@@ -108,10 +108,10 @@ module _ {V S : Type 0} (disk : V → Option Disk) (count : V → ℕ) (left : V
   -- ---- it isn't prepared
 
   pub stopped_does : (fault : StoreFault) → IsDropped read l → (w : Walks disk count left on_way (Brings d (made new)) (Prepared d (made new) l.manifest {X = Head} (Err fault)) d read.vault l.vault)
-      → ((st' : State) → Comes new a (reply_of (outcome_of fault)) st' → Step st o e st') → Does disk count left is_seal o e before mid st
+      → ((st' : State) → Comes new a (reply_of fault) st' → Step st o e st') → Does disk count left is_seal o e before mid st
   stopped_does fault dropped w steps = by (unprepared_ends name seal d w.end a new holds_a stands.sound.hashes w.gains l.manifest fault w.is)
     where
-      by : Ends name seal d w.end a new holds_a stands.sound.hashes w.gains l.manifest (reply_of (outcome_of fault)) → Does disk count left is_seal o e before mid st
+      by : Ends name seal d w.end a new holds_a stands.sound.hashes w.gains l.manifest (reply_of fault) → Does disk count left is_seal o e before mid st
       by x = record {
         next = x.next;
         step = steps x.next x.comes;

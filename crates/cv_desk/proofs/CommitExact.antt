@@ -39,33 +39,32 @@ use Rattle.cv_gate.specs.declared.reply.Reply.{Reply}
 use Rattle.cv_gate.specs.declared.reply.Reply.TheVariants as reply
 use Rattle.cv_desk.specs.Known.{KnowsOn}
 use Rattle.cv_desk.specs.Gate.{StateView, ShowsDamage, IsExact}
-use Rattle.cv_desk.specs.Sending.{outcome_of}
+use Rattle.cv_desk.specs.Sending.{reply_of}
 use Rattle.cv_desk.specs.Views.{aged_view}
-use Rattle.cv_desk.specs.Refusals.{reply_of, refusal_on, has_base, holder_of, taken_by, opposition_by, opposition, is_unmade}
+use Rattle.cv_desk.specs.Refusals.{refusal_on, has_base, holder_of, taken_by, opposition_by, opposition, is_unmade}
 use Rattle.cv_desk.specs.Ends.{next_record, IsUnpublished}
 use Rattle.cv_desk.specs.AnswersInner.{Tells}
 use Rattle.cv_desk.specs.ActingInner.{IsAnswered}
 use Rattle.cv_desk.specs.Committing.{CommitEnds, commit_refused, commit_opposed, unpublished, commit_published}
-use Rattle.cv_desk.specs.Committing.{outcome_at, two, one, IsUnfit, outside, meaningless, damaged, unfit, Readies, unmade, unprepared, prepared, Finishes, swaps, wavers, stays, CommitsUnder, opposed, readies, AsksCommit, not_own, own}
+use Rattle.cv_desk.specs.Committing.{reply_at, two, one, IsUnfit, outside, meaningless, damaged, unfit, Readies, unmade, unprepared, prepared, Finishes, swaps, wavers, stays}
+use Rattle.cv_desk.specs.CommittingInner.{CommitsUnder, opposed, readies, AsksCommit, not_own, own}
 use Rattle.cv_desk.specs.Begin.{CommitWaits, WaitsSo}
-use Rattle.cv_desk.specs.declared.outcome.Outcome.{Outcome}
-use Rattle.cv_desk.specs.declared.outcome.Outcome.TheVariants as outcome
 use Rattle.cv_desk.proofs.Answering.{err_is, ok_no_err, unmade_uncommitted, end_uncommitted, opposition_uncommitted}
-use Rattle.cv_desk.proofs.Exact.{IsPlain, plain_end, by_plain, wherever_told, outcome_shows}
+use Rattle.cv_desk.proofs.Exact.{IsPlain, plain_end, by_plain, wherever_told, store_shows}
 use Rattle.cv_desk.proofs.Settling.{all_taken, counted_all}
 
 -- what the revisions say names no bytes
-plain_taken : (o : Option Record) (out : Outcome) → taken_by o ≡ Some out → IsPlain out
+plain_taken : (o : Option Record) (out : Reply) → taken_by o ≡ Some out → IsPlain out
 plain_taken None out h id found is = cc
-plain_taken (Some r) out h id found is = let e : Some (outcome.TagTaken r.revision) ≡ Some (outcome.Damaged id found) = h ∙ ap Some is in cc
+plain_taken (Some r) out h id found is = let e : Some (reply.TagTaken r.revision) ≡ Some (reply.Damaged id found) = h ∙ ap Some is in cc
 
-plain_opposition : (newest : ℕ) (records : List Record) (from : ℕ) (old_root tag : List ℕ) (out : Outcome) → opposition_by newest records from old_root tag ≡ Some out → IsPlain out
+plain_opposition : (newest : ℕ) (records : List Record) (from : ℕ) (old_root tag : List ℕ) (out : Reply) → opposition_by newest records from old_root tag ≡ Some out → IsPlain out
 plain_opposition newest records from old_root tag out h id found is =
-    elim (nat_le revision_limit newest) as (λ full. cond full (Some outcome.RevisionsFull) (cond (has_base records from old_root) (taken_by (holder_of tag records)) (Some (outcome.StaleBase from))) ≡ Some out → ⊥) [
-      | true ↦ λ e. (let f : Some outcome.RevisionsFull ≡ Some (outcome.Damaged id found) = e ∙ ap Some is in cc)
-      | false ↦ λ e. elim (has_base records from old_root) as (λ base. cond base (taken_by (holder_of tag records)) (Some (outcome.StaleBase from)) ≡ Some out → ⊥) [
+    elim (nat_le revision_limit newest) as (λ full. cond full (Some reply.RevisionsFull) (cond (has_base records from old_root) (taken_by (holder_of tag records)) (Some (reply.StaleBase from))) ≡ Some out → ⊥) [
+      | true ↦ λ e. (let f : Some reply.RevisionsFull ≡ Some (reply.Damaged id found) = e ∙ ap Some is in cc)
+      | false ↦ λ e. elim (has_base records from old_root) as (λ base. cond base (taken_by (holder_of tag records)) (Some (reply.StaleBase from)) ≡ Some out → ⊥) [
         | true ↦ λ e2. plain_taken (holder_of tag records) out e2 id found is
-        | false ↦ λ e2. (let f : Some (outcome.StaleBase from) ≡ Some (outcome.Damaged id found) = e2 ∙ ap Some is in cc)
+        | false ↦ λ e2. (let f : Some (reply.StaleBase from) ≡ Some (reply.Damaged id found) = e2 ∙ ap Some is in cc)
       ] e
     ] h
 
@@ -76,7 +75,7 @@ module _ {V : Type 0} (disk : V → Option Disk) (v : V) (d : Disk) (told : disk
       let alike : d ≡ e = cc in
       subst (λ x. HasOtherDigest (standing_on x) id found) alike has
 
-  fault_shows : (offered : List ℕ) (x : LoadFault) → MayFail (standing_on d) offered x → ShowsDamage disk v (reply_of (outcome_at x))
+  fault_shows : (offered : List ℕ) (x : LoadFault) → MayFail (standing_on d) offered x → ShowsDamage disk v (reply_at x)
   fault_shows offered (load.Missing id) may = tt
   fault_shows offered (load.Bad id) may = tt
   fault_shows offered load.Failed may = tt
@@ -91,20 +90,20 @@ module _ {V : Type 0} (disk : V → Option Disk) (v : V) (d : Disk) (told : disk
   unfit_shows newest offered path r (unfit whole (two a b e) why) = subst (ShowsDamage disk v) (sym e) tt
   unfit_shows newest offered path r (unfit whole (one c e) why) = subst (ShowsDamage disk v) (sym e) tt
 
-  refused_shows : (batch : List Object) (manifest : List ℕ) (x : StoreFault) (d' : Disk) → AreNamed batch → Prepared d batch manifest {X = Head} (Err x) d' → ShowsDamage disk v (reply_of (outcome_of x))
+  refused_shows : (batch : List Object) (manifest : List ℕ) (x : StoreFault) (d' : Disk) → AreNamed batch → Prepared d batch manifest {X = Head} (Err x) d' → ShowsDamage disk v (reply_of x)
   refused_shows batch manifest (fault.Collision id) d' named p = tt
   refused_shows batch manifest fault.Failed d' named p = tt
-  refused_shows batch manifest (fault.Damaged id found) d' named p = outcome_shows d batch (fault.Damaged id found) named p.shown disk v told
+  refused_shows batch manifest (fault.Damaged id found) d' named p = store_shows d batch (fault.Damaged id found) named p.shown disk v told
   refused_shows batch manifest fault.NoMemory d' named p = tt
 
 -- what the store refuses, and what the tree is refused for, publishes nothing
-pub unmade_of : (x : StoreFault) → is_unmade (reply_of (outcome_of x)) ≡ true
+pub unmade_of : (x : StoreFault) → is_unmade (reply_of x) ≡ true
 unmade_of (fault.Collision id) = refl
 unmade_of fault.Failed = refl
 unmade_of (fault.Damaged id found) = refl
 unmade_of fault.NoMemory = refl
 
-pub unmade_at : (x : LoadFault) → is_unmade (reply_of (outcome_at x)) ≡ true
+pub unmade_at : (x : LoadFault) → is_unmade (reply_at x) ≡ true
 unmade_at (load.Missing id) = refl
 unmade_at (load.Bad id) = refl
 unmade_at load.Failed = refl
@@ -123,7 +122,7 @@ unmade_told graft.NoMemory r e = ap is_unmade e
 module _ {V S : Type 0} (disk : V → Option Disk) (count : V → ℕ) (left : V → ℕ → Files → Type 0) (is_seal : S → List ℕ → List ℕ → Bool) where
   readies_shows : (known : KnownSet) (lease : Lease) (key : List ℕ) (moment : ℕ) (offered tag : List ℕ) (l l' : LineView V S) (r : Reply) → Readies disk count left is_seal known lease key moment offered tag l l' (Err r) → ShowsDamage disk l.vault r
   readies_shows known lease key moment offered tag l l' r (unmade _ kind reads fetches why) = wherever_told disk l.vault r (λ d told. unfit_shows disk l.vault d told l.head.root offered lease.path r (why d told))
-  readies_shows known lease key moment offered tag l l' _ (unprepared read g x reads fetches fit dropped named w) = wherever_told disk l.vault (reply_of (outcome_of x)) (λ d told.
+  readies_shows known lease key moment offered tag l l' _ (unprepared read g x reads fetches fit dropped named w) = wherever_told disk l.vault (reply_of x) (λ d told.
       let walks = w d (quiet_same reads.0 ∙ told) in refused_shows disk l.vault d told _ l'.manifest x walks.end named walks.is)
 
   -- what the op comes to, where the stage is another
@@ -154,7 +153,7 @@ module _ {V S : Type 0} (disk : V → Option Disk) (count : V → ℕ) (left : V
       stopped_exact : (l : LineView V S) (more : KnownSet) (r : Reply) → Readies disk count left is_seal s.known lease key s.moment offered tag s.line l (Err r) → KnowsOn {X = Head} disk s.line.vault s.known offered (Err r) more → after ≡ record s { line = l; known = more } → At key token old_root offered tag now before after r
       stopped_exact l more r (unmade _ kind reads fetches why) knows same = λ calm. left_calm l more r (unmade r kind reads fetches why) knows kind (ap (λ (x : LineView V S). published x) reads.1) (ap (λ (x : LineView V S). x.head) reads.1)
           (λ is_now. calm (sym (ap (λ (x : LineView V S). x.stage) reads.1) ∙ is_now)) same calm
-      stopped_exact l more _ (unprepared read g x reads fetches fit dropped named w) knows same = λ calm. left_calm l more (reply_of (outcome_of x)) (unprepared read g x reads fetches fit dropped named w) knows (unmade_of x) (dropped.published_ ∙ ap (λ (x : LineView V S). published x) reads.1)
+      stopped_exact l more _ (unprepared read g x reads fetches fit dropped named w) knows same = λ calm. left_calm l more (reply_of x) (unprepared read g x reads fetches fit dropped named w) knows (unmade_of x) (dropped.published_ ∙ ap (λ (x : LineView V S). published x) reads.1)
           (dropped.others.head_ ∙ ap (λ (x : LineView V S). x.head) reads.1) (λ is_now. (let c = dropped.stage in cc)) same calm
 
       -- it is ready
@@ -192,15 +191,15 @@ module _ {V S : Type 0} (disk : V → Option Disk) (count : V → ℕ) (left : V
 
     stopped_unmade : (lease : Lease) (l : LineView V S) (r : Reply) → Readies disk count left is_seal s.known lease key s.moment offered tag s.line l (Err r) → is_committed r ≡ false
     stopped_unmade lease l r (unmade _ kind reads fetches why) = unmade_uncommitted r kind
-    stopped_unmade lease l _ (unprepared read g x reads fetches fit dropped named w) = unmade_uncommitted (reply_of (outcome_of x)) (unmade_of x)
+    stopped_unmade lease l _ (unprepared read g x reads fetches fit dropped named w) = unmade_uncommitted (reply_of x) (unmade_of x)
 
     under_exact : (lease : Lease) (r : Reply) → refusal_on (lease_of token s.leases) key ≡ None → lease_of token s.leases ≡ Some lease → CommitsUnder disk count left is_seal lease key old_root offered tag s (Err r) after
         → At key token old_root offered tag now before after r
-    under_exact lease r free live (opposed why is e same) = as_before r (commit_opposed lease why free live is (err_is _ refl e) same) (ap (λ (x : StateView V S). x.line.stage) same)
+    under_exact lease r free live (opposed why is e same) = as_before r (commit_opposed lease free live (is ∙ ap Some (sym (err_is _ refl e))) same) (ap (λ (x : StateView V S). x.line.stage) same)
     under_exact lease r free live (readies l more none got knows same) = stopped_exact lease free live none l more r got knows same
 
     asked_exact : (r : Reply) → AsksCommit disk count left is_seal key token old_root offered tag s (Err r) after → At key token old_root offered tag now before after r
-    asked_exact r (not_own why is e same) = as_before r (commit_refused why is (err_is _ refl e) same) (ap (λ (x : StateView V S). x.line.stage) same)
+    asked_exact r (not_own why is e same) = as_before r (commit_refused (is ∙ ap Some (sym (err_is _ refl e))) same) (ap (λ (x : StateView V S). x.line.stage) same)
     asked_exact r (own lease free live commits) = under_exact lease r free live commits
 
     under_calm : (lease : Lease) (r : Reply) → CommitsUnder disk count left is_seal lease key old_root offered tag s (Err r) after → before.line.stage ≢ stage.Doubtful → after.line.stage ≢ stage.Doubtful

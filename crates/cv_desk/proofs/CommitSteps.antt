@@ -42,11 +42,11 @@ use Rattle.cv_gate.specs.declared.reply.Reply.{Reply}
 use Rattle.cv_gate.specs.declared.reply.Reply.TheVariants as reply
 use Rattle.cv_gate.proofs.Lemmas.{some_newest, newest_is_head, sound_aged}
 use Rattle.cv_desk.specs.Gate.{StateView, StandsFor, Does}
-use Rattle.cv_desk.specs.Sending.{outcome_of}
-use Rattle.cv_desk.specs.ActingInner.{aged_view, reply_of, Acts, refusal_on}
-use Rattle.cv_desk.specs.Committing.{opposition, opposition_by, IsUnfit, IsFit, next_record, objects_with, Readies, unmade, unprepared, prepared, CommitsUnder, opposed, readies, AsksCommit, not_own, own}
+use Rattle.cv_desk.specs.Sending.{reply_of}
+use Rattle.cv_desk.specs.ActingInner.{aged_view, Acts, refusal_on}
+use Rattle.cv_desk.specs.Committing.{opposition, opposition_by, IsUnfit, IsFit, next_record, objects_with, Readies, unmade, unprepared, prepared}
+use Rattle.cv_desk.specs.CommittingInner.{CommitsUnder, opposed, readies, AsksCommit, not_own, own}
 use Rattle.cv_desk.specs.Begin.{GetsReady}
-use Rattle.cv_desk.specs.declared.outcome.Outcome.{Outcome}
 use Rattle.cv_desk.proofs.Answering.{err_is, ok_no_err}
 use Rattle.cv_desk.proofs.Asking.{leases_aged, moment_aged, has_room, looked, untouched, refused_on, IsNotDone, IsOwn, own_lease}
 use Rattle.cv_desk.proofs.Bringing.{AreSame, are_same, brings_same, prepared_same, Comes, fails, clashes, none_clashes_of}
@@ -126,7 +126,7 @@ module _ {V S : Type 0} (disk : V → Option Disk) (count : V → ℕ) (left : V
   means : Means a.shelf head.record_.root head.tree
   means = (newest_is_head st.shelf st.history head stands.sound.line newest_.1).is.tree
 
-  opposition_is : (from : ℕ) (r : Option Outcome) → opposition before.line from old_root tag ≡ r → opposition_by head.record_.revision (records_of st.history) from old_root tag ≡ r
+  opposition_is : (from : ℕ) (r : Option Reply) → opposition before.line from old_root tag ≡ r → opposition_by head.record_.revision (records_of st.history) from old_root tag ≡ r
   opposition_is from r is = (λ i. opposition_by (sym is_head i).revision (sym stands.records i) from old_root tag) ∙ is
 
   -- ---- under a lease that is live and the key's own
@@ -185,10 +185,10 @@ module _ {V S : Type 0} (disk : V → Option Disk) (count : V → ℕ) (left : V
         stops r replied st' comes = step st' (on_lease e.reply st' (fit_step a head lease key token old_root offered tag newest_.1 stands.sound.hashes means place free g fit e.reply st'
             (subst (λ x. PublishesAs a key token old_root offered tag new_ x st') (sym replied) (publishes r st' comes))))
 
-        stopped : (fault : StoreFault) → IsDropped read l → e.reply ≡ reply_of (outcome_of fault)
+        stopped : (fault : StoreFault) → IsDropped read l → e.reply ≡ reply_of fault
             → Walks disk count left on_way (Brings d (objects_with g next)) (Prepared d (objects_with g next) l.manifest {X = Head} (Err fault)) d read.vault l.vault → Does disk count left is_seal o e before mid st
         stopped fault dropped replied w = stopped_does disk count left is_seal before only st none stands o e noted.op noted.now noted.records room_ new_ brings_ read l reads fault dropped (brought (Err fault) w)
-            (stops (reply_of (outcome_of fault)) replied)
+            (stops (reply_of fault) replied)
 
         head_is_new : head_with next g.size ≡ head_of new_
         head_is_new = head_is_of a head lease key token old_root offered tag newest_.1 stands.sound.hashes means place free g fit next next_is
@@ -216,9 +216,9 @@ module _ {V S : Type 0} (disk : V → Option Disk) (count : V → ℕ) (left : V
 
     under_does : (r : Reply) → CommitsUnder disk count left is_seal lease key old_root offered tag aged_before (Err r) after → e.reply ≡ r → Does disk count left is_seal o e before after st
     under_does r (opposed why is told_ same) replied =
-        let told : r ≡ reply_of why = err_is _ refl told_ in
+        let told : r ≡ why = err_is _ refl told_ in
         untouched disk count left is_seal before after only room st none stands e o noted
-        (inr (subst (λ x. CommitStep a key token old_root offered tag x a) (sym (replied ∙ told)) (on_lease (reply_of why) a
+        (inr (subst (λ x. CommitStep a key token old_root offered tag x a) (sym (replied ∙ told)) (on_lease why a
         (opposed_step a head newest_.1 lease key token old_root offered tag why (opposition_is lease.from_revision (Some why) is))))) same
     under_does r (readies l more is got knows same) replied = subst (λ (x : StateView V S). Does disk count left is_seal o e before x st) (sym same)
         (does_knowing disk count left is_seal o e before (record aged_before { line = l }) st more (stopped_all (unopposed st.history head lease.from_revision old_root tag (opposition_is lease.from_revision None is)) l r got replied))
@@ -230,7 +230,7 @@ module _ {V S : Type 0} (disk : V → Option Disk) (count : V → ℕ) (left : V
 
   -- ---- whoever asks
 
-  refused_aged : (r : Option Outcome) → refusal_on (lease_of token aged_before.leases) key ≡ r → refusal_on (lease_of token a.leases) key ≡ r
+  refused_aged : (r : Option Reply) → refusal_on (lease_of token aged_before.leases) key ≡ r → refusal_on (lease_of token a.leases) key ≡ r
   refused_aged r is = ap (λ (l : List Lease). refusal_on (lease_of token l) key) (sym leases_are) ∙ is
 
   own_is : (lease : Lease) → refusal_on (lease_of token aged_before.leases) key ≡ None → lease_of token aged_before.leases ≡ Some lease → (lease_of token a.leases ≡ Some lease) × (bytes_eq lease.key key ≡ true)
@@ -242,10 +242,10 @@ module _ {V S : Type 0} (disk : V → Option Disk) (count : V → ℕ) (left : V
 
   pub commit_does : (r : Reply) → AsksCommit disk count left is_seal key token old_root offered tag aged_before (Err r) after → e.reply ≡ r → Does disk count left is_seal o e before after st
   commit_does r (not_own why is told_ same) replied =
-      let told : r ≡ reply_of why = err_is _ refl told_ in
-      let not : IsNotDone a key token (reply_of why) = refused_on a key token why (refused_aged (Some why) is) in
+      let told : r ≡ why = err_is _ refl told_ in
+      let not : IsNotDone a key token why = refused_on a key token why (refused_aged (Some why) is) in
       untouched disk count left is_seal before after only room st none stands e o noted
-      (inr (subst (λ x. CommitStep a key token old_root offered tag x a) (sym (replied ∙ told)) (not.step (λ lease. Commits a key token old_root offered tag (reply_of why) a lease)))) same
+      (inr (subst (λ x. CommitStep a key token old_root offered tag x a) (sym (replied ∙ told)) (not.step (λ lease. Commits a key token old_root offered tag why a lease)))) same
   commit_does r (own lease is live under) replied = let mine = own_is lease is live in under_does lease mine.0 mine.1 r under replied
 
   pub commit_gets : (h : Head) → AsksCommit disk count left is_seal key token old_root offered tag aged_before (Ok h) after → GetsReady disk count left is_seal o e.now token before after st

@@ -31,13 +31,12 @@ use Rattle.cv_objects.proofs.Lemmas.{digest_back}
 use Rattle.cv_swap.specs.Line.{LineView, LineReads}
 use Rattle.cv_swap.specs.Stands.{head_name}
 use Rattle.cv_gate.specs.declared.reply.Reply.{Reply}
-use Rattle.cv_desk.specs.Committing.{outcome_at}
+use Rattle.cv_gate.specs.declared.reply.Reply.TheVariants as reply
+use Rattle.cv_desk.specs.Committing.{reply_at}
 use Rattle.cv_desk.specs.CommittingInner.{Offers}
 use Rattle.cv_desk.specs.Known.{Remembers, Learns, LearnsWhole, refuses_new, KnowsOn}
 use Rattle.cv_desk.specs.KnownInner.{KnowsWhole}
-use Rattle.cv_desk.specs.Refusals.{reply_of, is_unmade}
-use Rattle.cv_desk.specs.declared.outcome.Outcome.{Outcome}
-use Rattle.cv_desk.specs.declared.outcome.Outcome.TheVariants as outcome
+use Rattle.cv_desk.specs.Refusals.{is_unmade}
 use Rattle.cv_desk.proofs.Names.{no_head, at_digest}
 
 -- where what comes to the name of an object comes to no file, no object is lost or changed
@@ -100,7 +99,7 @@ known_judged disk count left line judged reads known more all only = λ d told h
     let there : disk line.vault ≡ Some d = sym (quiet_same reads.0) ∙ told in
     elim (only d there h p is) [ inl was ↦ all d there h p was | inr whole ↦ whole ]
 
-pub learned : (shelf : Shelf) (known more : KnownSet) (offered : List ℕ) (pairs : List (ObjectId × Path)) → HasNew shelf known offered pairs → Remembers known more → (r : Result (Unit {0}) Outcome)
+pub learned : (shelf : Shelf) (known more : KnownSet) (offered : List ℕ) (pairs : List (ObjectId × Path)) → HasNew shelf known offered pairs → Remembers known more → (r : Result (Unit {0}) Reply)
     → OnOk r ((h : List ℕ) (p : Path) → HasPair pairs h p → is_known more h p ≡ true) → OnOk r (Learns shelf known offered more)
 learned shelf known more offered pairs new kept (Err o) added = tt
 learned shelf known more offered pairs new kept (Ok done) added = λ hash place reached. by hash place reached (is_known known hash place.path) refl
@@ -110,18 +109,18 @@ learned shelf known more offered pairs new kept (Ok done) added = λ hash place 
     by hash place reached false unknown = added hash place.path (record { pair = (object_id hash Catalogue, place.path); among = new hash place reached unknown; hash_ = refl; path_ = refl })
 
 -- where there was no memory for it, that is what is answered
-pub offers_learnt : (shelf : Shelf) (offered : List ℕ) (r : Result (Unit {0}) Outcome) → IfErr r (λ o. o ≡ outcome.NoMemory) → IsGood shelf offered root_place → Offers shelf offered r
+pub offers_learnt : (shelf : Shelf) (offered : List ℕ) (r : Result (Unit {0}) Reply) → IfErr r (λ o. o ≡ reply.NoMemory) → IsGood shelf offered root_place → Offers shelf offered r
 offers_learnt shelf offered (Ok done) memory is = is
 offers_learnt shelf offered (Err o) memory is = (load.NoMemory, tt, memory)
 
-pub unmade_learnt : (r : Result (Unit {0}) Outcome) → IfErr r (λ o. o ≡ outcome.NoMemory) → IfErr r (λ o. is_unmade (reply_of o) ≡ true)
+pub unmade_learnt : (r : Result (Unit {0}) Reply) → IfErr r (λ o. o ≡ reply.NoMemory) → IfErr r (λ o. is_unmade o ≡ true)
 unmade_learnt (Ok done) memory = tt
-unmade_learnt (Err o) memory = ap (λ o. is_unmade (reply_of o)) memory
+unmade_learnt (Err o) memory = ap is_unmade memory
 
 -- ---- what is known behind an answer
 
 -- no answer to a fault of the offered root refuses what is looked at behind it
-not_new_at : (x : LoadFault) → refuses_new (reply_of (outcome_at x)) ≡ false
+not_new_at : (x : LoadFault) → refuses_new (reply_at x) ≡ false
 not_new_at (load.Missing id) = refl
 not_new_at (load.Bad id) = refl
 not_new_at load.Failed = refl
@@ -130,13 +129,13 @@ not_new_at load.NoMemory = refl
 
 module _ {V : Type 0} (disk : V → Option Disk) (v : V) (known : KnownSet) (offered : List ℕ) (more : KnownSet) where
   -- the offered root wasn't found whole
-  pub knows_unjudged : {X : Type 0} → Remembers known more → WhereTold (disk v) (λ d. LearnsWhole (standing_on d) known more) → (o : Outcome) (r : Reply) → r ≡ reply_of o → WhereTold (disk v) (λ d. Offers (standing_on d) offered (Err o)) → KnowsOn {X = X} disk v known offered (Err r) more
-  knows_unjudged remembers only o r is why = record {
+  pub knows_unjudged : {X : Type 0} → Remembers known more → WhereTold (disk v) (λ d. LearnsWhole (standing_on d) known more) → (r : Reply) → WhereTold (disk v) (λ d. Offers (standing_on d) offered (Err r)) → KnowsOn {X = X} disk v known offered (Err r) more
+  knows_unjudged remembers only r why = record {
     remembers = remembers;
     only = only;
     learns = λ was d told.
         let f = why d told in
-        absurd (let e : true ≡ false = sym was ∙ ap refuses_new (is ∙ ap reply_of f.2) ∙ not_new_at f.0 in cc);
+        absurd (let e : true ≡ false = sym was ∙ ap refuses_new f.2 ∙ not_new_at f.0 in cc);
   }
 
   -- it was

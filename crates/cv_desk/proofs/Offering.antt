@@ -28,8 +28,7 @@ use Rattle.cv_gate.specs.Passing.{Passes}
 use Rattle.cv_gate.specs.Step.{MayFail, MeansNone, Refuses, Publishes, Commits}
 use Rattle.cv_gate.specs.declared.reply.Reply.{Reply}
 use Rattle.cv_gate.specs.declared.reply.Reply.TheVariants as reply
-use Rattle.cv_desk.specs.ActingInner.{reply_of}
-use Rattle.cv_desk.specs.Committing.{outcome_at, WhyUnfit, shares, fills, IsUnfit, outside, meaningless, damaged, unfit, IsFit, next_record}
+use Rattle.cv_desk.specs.Committing.{reply_at, WhyUnfit, shares, fills, IsUnfit, outside, meaningless, damaged, unfit, IsFit, next_record}
 use Rattle.cv_desk.proofs.Opposing.{IsUnopposed}
 
 module _ (st : State) (head : Revision) (lease : Lease) (key : List ℕ) (token : Token) (old_root offered tag : List ℕ) (is : newest st.history ≡ Some head) (hashes : IsShelf st.shelf)
@@ -53,7 +52,7 @@ module _ (st : State) (head : Revision) (lease : Lease) (key : List ℕ) (token 
   no_damage : (id : ObjectId) (found : List ℕ) → HasOtherDigest st.shelf id found → ⊥
   no_damage id found d = d.other (d.digest ∙ sym (hashes.hash id d.bytes d.there))
 
-  means_none : (fault : LoadFault) → MayFailThere st.shelf offered fault → Rest (reply_of (outcome_at fault)) st
+  means_none : (fault : LoadFault) → MayFailThere st.shelf offered fault → Rest (reply_at fault) st
   means_none (load.Missing id) lacks = inr (inl (record { none = λ n m. none_lacking m id lacks; id = id; why = inl (refl, lacks); same = refl }))
   means_none (load.Bad id) bad = inr (inl (record { none = λ n m. none_bad m id bad; id = id; why = inr (refl, bad); same = refl }))
   means_none load.Failed may = inl (inl refl, refl)

@@ -12,10 +12,9 @@ use Rattle.cv_swap.specs.Kept.{Revision, newest, records_of, revision_limit}
 use Rattle.cv_gate.specs.State.{State}
 use Rattle.cv_gate.specs.Commits.{is_base, tagged, IsTaken}
 use Rattle.cv_gate.specs.Step.{Commits}
-use Rattle.cv_desk.specs.ActingInner.{reply_of}
+use Rattle.cv_gate.specs.declared.reply.Reply.{Reply}
+use Rattle.cv_gate.specs.declared.reply.Reply.TheVariants as reply
 use Rattle.cv_desk.specs.Committing.{has_base, holder_of, taken_by, opposition_by}
-use Rattle.cv_desk.specs.declared.outcome.Outcome.{Outcome}
-use Rattle.cv_desk.specs.declared.outcome.Outcome.TheVariants as outcome
 
 base_is : (history : List Revision) (from : ℕ) (root : List ℕ) → has_base (records_of history) from root ≡ is_base history from root
 base_is [] from root = refl
@@ -36,19 +35,19 @@ taken_found [] text records some is o e = absurd cc
 taken_found (b ∷ tag) text records some is o e = ap taken_by e ∙ ap (λ t. taken_by (find (λ (r : Record). bytes_eq r.tag t) records)) is
 
 -- a revision that has the tag, where the records have one
-taken_is : (history : List Revision) (tag : List ℕ) (o : Outcome) → taken_by (holder_of tag (records_of history)) ≡ Some o → (r : Revision) × IsTaken history tag r × (o ≡ outcome.TagTaken r.record_.revision)
+taken_is : (history : List Revision) (tag : List ℕ) (o : Reply) → taken_by (holder_of tag (records_of history)) ≡ Some o → (r : Revision) × IsTaken history tag r × (o ≡ reply.TagTaken r.record_.revision)
 taken_is history [] o e = absurd cc
 taken_is history (b ∷ tag) o e =
-    elim (tagged (b ∷ tag) history) as (λ x. tagged (b ∷ tag) history ≡ x → taken_by (option_map (λ (r : Revision). r.record_) x) ≡ Some o → (r : Revision) × IsTaken history (b ∷ tag) r × (o ≡ outcome.TagTaken r.record_.revision)) [
+    elim (tagged (b ∷ tag) history) as (λ x. tagged (b ∷ tag) history ≡ x → taken_by (option_map (λ (r : Revision). r.record_) x) ≡ Some o → (r : Revision) × IsTaken history (b ∷ tag) r × (o ≡ reply.TagTaken r.record_.revision)) [
       | None ↦ λ _ none. absurd cc
-      | Some r ↦ λ found some. (let same : outcome.TagTaken r.record_.revision ≡ o = cc in (r, ((λ none. cc), found), sym same))
+      | Some r ↦ λ found some. (let same : reply.TagTaken r.record_.revision ≡ o = cc in (r, ((λ none. cc), found), sym same))
     ] refl (ap taken_by (sym (holder_is history (b ∷ tag))) ∙ e)
 
 -- none has it, where they have none
 free_of : (history : List Revision) (tag : List ℕ) → taken_by (holder_of tag (records_of history)) ≡ None → (taken : Revision) → IsTaken history tag taken → ⊥
 free_of history [] e taken is = is.0 refl
 free_of history (b ∷ tag) e taken is =
-    let found : taken_by (holder_of (b ∷ tag) (records_of history)) ≡ Some (outcome.TagTaken taken.record_.revision) =
+    let found : taken_by (holder_of (b ∷ tag) (records_of history)) ≡ Some (reply.TagTaken taken.record_.revision) =
     ap taken_by (holder_is history (b ∷ tag)) ∙ ap (λ x. taken_by (option_map (λ (r : Revision). r.record_) x)) is.1 in
     (let none = e in cc)
 
@@ -60,8 +59,8 @@ pub record IsUnopposed (history : List Revision) (head : Revision) (from : ℕ) 
   pub free : (taken : Revision) → IsTaken history tag taken → ⊥
 
 module _ (history : List Revision) (head : Revision) (from : ℕ) (old_root tag : List ℕ) where
-  abbrev against : Bool → Bool → Option Outcome
-  against full base = cond full (Some outcome.RevisionsFull) (cond base (taken_by (holder_of tag (records_of history))) (Some (outcome.StaleBase from)))
+  abbrev against : Bool → Bool → Option Reply
+  against full base = cond full (Some reply.RevisionsFull) (cond base (taken_by (holder_of tag (records_of history))) (Some (reply.StaleBase from)))
 
   abbrev is_full : Bool
   is_full = nat_le revision_limit head.record_.revision
@@ -80,9 +79,9 @@ module _ (history : List Revision) (head : Revision) (from : ℕ) (old_root tag 
       ] refl h
 
 -- what stands against it is the gate's refusal
-module _ (st : State) (head : Revision) (is : newest st.history ≡ Some head) (lease : Lease) (key : List ℕ) (token : Token) (old_root new_root tag : List ℕ) (o : Outcome) where
+module _ (st : State) (head : Revision) (is : newest st.history ≡ Some head) (lease : Lease) (key : List ℕ) (token : Token) (old_root new_root tag : List ℕ) (o : Reply) where
   abbrev Refused : Type 0
-  Refused = Commits st key token old_root new_root tag (reply_of o) st lease
+  Refused = Commits st key token old_root new_root tag o st lease
 
   abbrev based : Bool
   based = is_based st.history head lease.from_revision old_root tag
@@ -93,10 +92,10 @@ module _ (st : State) (head : Revision) (is : newest st.history ≡ Some head) (
   pub opposed : opposition_by head.record_.revision (records_of st.history) lease.from_revision old_root tag ≡ Some o → Refused
   opposed h =
       elim (is_full st.history head lease.from_revision old_root tag) as (λ full. is_full st.history head lease.from_revision old_root tag ≡ full → against st.history head lease.from_revision old_root tag full based ≡ Some o → Refused) [
-        | true ↦ λ full some. (let same : outcome.RevisionsFull ≡ o = cc in (head, is, inl (search rules, ap reply_of (sym same), refl)))
+        | true ↦ λ full some. (let same : reply.RevisionsFull ≡ o = cc in (head, is, inl (search rules, sym same, refl)))
         | false ↦ λ room some. elim based as (λ b. based ≡ b → against st.history head lease.from_revision old_root tag false b ≡ Some o → Refused) [
-          | false ↦ λ stale some2. (let same : outcome.StaleBase lease.from_revision ≡ o = cc in
-              (head, is, inr ((λ full. absurd (no_room room full)), inl (sym (base_is st.history lease.from_revision old_root) ∙ stale, ap reply_of (sym same), refl))))
+          | false ↦ λ stale some2. (let same : reply.StaleBase lease.from_revision ≡ o = cc in
+              (head, is, inr ((λ full. absurd (no_room room full)), inl (sym (base_is st.history lease.from_revision old_root) ∙ stale, sym same, refl))))
           | true ↦ λ base some2. (let t = taken_is st.history tag o some2 in (
             head,
             is,
@@ -104,7 +103,7 @@ module _ (st : State) (head : Revision) (is : newest st.history ≡ Some head) (
               (λ full. absurd (no_room room full)),
               inr (
                 (λ stale. (let b : is_base st.history lease.from_revision old_root ≡ true = sym (base_is st.history lease.from_revision old_root) ∙ base in cc)),
-                inl (t.0, t.1, ap reply_of t.2, refl),
+                inl (t.0, t.1, t.2, refl),
               ),
             ),
           ))

@@ -21,14 +21,13 @@ use Rattle.cv_graft.specs.Directories.{IsFound}
 use Rattle.cv_graft.specs.Graft.{HasWay}
 use Rattle.cv_graft.specs.Way.{BlamesWay, IsOfWay, Tells}
 use Rattle.cv_objects.specs.Names.{standing_on}
+use Rattle.cv_gate.specs.declared.reply.Reply.{Reply}
 use Rattle.cv_desk.specs.Gate.{StateView}
 use Rattle.cv_desk.specs.Ends.{BlamesParent, IsPlaced, IsPlacedOn, FetchesWay}
 use Rattle.cv_desk.specs.ActingInner.{FindsPlace}
-use Rattle.cv_desk.specs.Refusals.{reply_of}
-use Rattle.cv_desk.specs.SendingInner.{outcome_from}
-use Rattle.cv_desk.specs.declared.outcome.Outcome.{Outcome}
+use Rattle.cv_desk.specs.SendingInner.{reply_from}
 
-way_of : (shelf : Shelf) (hash : List ℕ) (t : Nodes) (p : Path) → Means shelf hash t → HasWay shelf hash t p
+pub way_of : (shelf : Shelf) (hash : List ℕ) (t : Nodes) (p : Path) → Means shelf hash t → HasWay shelf hash t p
 way_of shelf hash t p m = record { tree = m.tree; fits = m.fits; root = m.root; catalogues = λ c cut covered apart. m.catalogues c cut }
 
 below_root : (t : Nodes) (p : Path) → p ≢ [] → has_place t p ≡ is_directory (get t (parent p))
@@ -73,13 +72,13 @@ placed_below disk s v p above hash some is root vaults r there answered told = �
     let found : IsFound (standing_on d) hash above there = subst (λ x. IfOk x (IsFound (standing_on d) hash above)) answered seen in
     at_parent (standing_on d) s.line.head.root p there some (subst (λ (q : Path). IsFound (standing_on d) s.line.head.root q there) is (subst (λ h. IsFound (standing_on d) h above there) root found))
 
-pub sees : {V S : Type 0} (disk : V → Option Disk) (s : StateView V S) (p : Path) (r : Result Bool Outcome) (there : Bool) → r ≡ Ok there
+pub sees : {V S : Type 0} (disk : V → Option Disk) (s : StateView V S) (p : Path) (r : Result Bool Reply) (there : Bool) → r ≡ Ok there
     → WhereTold (disk s.line.vault) (λ d. IfOk r (IsPlaced (standing_on d) s.line.head.root p)) → IsPlacedOn (disk s.line.vault) s.line.head.root p there
 sees disk s p r there is told = λ d e. subst (λ x. IfOk x (IsPlaced (standing_on d) s.line.head.root p)) is (told d e)
 
 -- what a fault on the way to the parent blames
 pub blames_parent : {V S : Type 0} (disk : V → Option Disk) (s : StateView V S) (v : V) (p above : Path) (hash : List ℕ) → above ≡ parent p → hash ≡ s.line.head.root → v ≡ s.line.vault
-    → (r : Result Bool LoadFault) (x : LoadFault) → r ≡ Err x → WhereTold (option_map standing_on (disk v)) (λ standing. IfErr r (BlamesWay standing hash above)) → BlamesParent (disk s.line.vault) s.line.head.root p (reply_of (outcome_from x))
+    → (r : Result Bool LoadFault) (x : LoadFault) → r ≡ Err x → WhereTold (option_map standing_on (disk v)) (λ standing. IfErr r (BlamesWay standing hash above)) → BlamesParent (disk s.line.vault) s.line.head.root p (reply_from x)
 blames_parent disk s v p above hash is root vaults r (load.Missing id) answered told = tt
 blames_parent disk s v p above hash is root vaults r (load.Bad id) answered told = tt
 blames_parent disk s v p above hash is root vaults r load.Failed answered told = tt

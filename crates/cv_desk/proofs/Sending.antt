@@ -26,11 +26,8 @@ use Rattle.cv_gate.specs.declared.reply.Reply.{Reply}
 use Rattle.cv_gate.specs.declared.reply.Reply.TheVariants as reply
 use Rattle.cv_desk.specs.Holds.{Holds}
 use Rattle.cv_desk.specs.HoldsInner.{after_failure, after_store}
-use Rattle.cv_desk.specs.Sending.{outcome_of, IsSent, refused, late, whole}
+use Rattle.cv_desk.specs.Sending.{reply_of, IsSent, refused, late, whole}
 use Rattle.cv_desk.specs.SentInner.{sent_by}
-use Rattle.cv_desk.specs.ActingInner.{reply_of}
-use Rattle.cv_desk.specs.declared.outcome.Outcome.{Outcome}
-use Rattle.cv_desk.specs.declared.outcome.Outcome.TheVariants as outcome
 use Rattle.cv_desk.proofs.Holding.{holds_same, shelf_stands, failed_gains, failed_holds, done_gains, done_holds}
 
 pub gains_none : (batch : List Object) (st : State) → GainsSome batch st st
@@ -56,7 +53,7 @@ module _ (name : List ℕ) (is_seal : List ℕ → List ℕ → Bool) (d d' : Di
   abbrev Ends : Reply → List ObjectId → Type 0
   Ends r fresh = (st' : State) × Stores st batch r st' × FreshIs st batch r st' fresh × Holds name is_seal d' st' × (st' ≡ record st { shelf = st'.shelf; loose = st'.loose })
 
-  none_came : (x : StoreFault) → ShownIn d batch x → Gains on_way Nothing d d' → Ends (reply_of (outcome_of x)) []
+  none_came : (x : StoreFault) → ShownIn d batch x → Gains on_way Nothing d d' → Ends (reply_of x) []
   none_came (fault.Collision id) s g = (st, inr (inl (id, clash_of id s, refl, refl)), inr (refl, (λ e. cc), refl), holds_same name is_seal d d' st h g, refl)
   none_came fault.Failed s g = (st, inl (inl refl, gains_none batch st), inr (refl, (λ e. cc), refl), holds_same name is_seal d d' st h g, refl)
   none_came (fault.Damaged id found) s g = absurd (not_damaged id found s)
@@ -66,7 +63,7 @@ module _ (name : List ℕ) (is_seal : List ℕ → List ℕ → Bool) (d d' : Di
     same_fresh : fresh_of batch (standing_on d) ≡ fresh_of batch st.shelf
     same_fresh = ap (fresh_of batch) (sym known)
 
-    some_came : (x : StoreFault) → IsOutside x → Ends (reply_of (outcome_of x)) (fresh_of batch (standing_on d))
+    some_came : (x : StoreFault) → IsOutside x → Ends (reply_of x) (fresh_of batch (standing_on d))
     some_came (fault.Collision id) o = absurd o
     some_came fault.Failed o = (after_failure st d', inl (inl refl, failed_gains name is_seal batch d d' st h hashes named g), inl (same_fresh, inr (inl refl)), failed_holds name is_seal batch d d' st h hashes named g one, refl)
     some_came (fault.Damaged id found) o = absurd o
@@ -81,31 +78,31 @@ module _ (name : List ℕ) (is_seal : List ℕ → List ℕ → Bool) (d d' : Di
       refl,
     )
 
-  ends_at : (o out : Outcome) (fresh ids : List ObjectId) → o ≡ out → fresh ≡ ids → Ends (reply_of out) ids → Ends (reply_of o) fresh
+  ends_at : (o out : Reply) (fresh ids : List ObjectId) → o ≡ out → fresh ≡ ids → Ends out ids → Ends o fresh
   ends_at o out fresh ids a b e = rw (a, b) e
 
   -- however a sending ends, the gate's step of the store ends so, and the disk holds its state
-  pub sent_ends : (o : Outcome) (fresh : List ObjectId) → Gains on_way (Brings d batch) d d' → IsSent d batch o fresh d' → Ends (reply_of o) fresh
-  sent_ends o fresh g (refused x is none s same) = ends_at o (outcome_of x) fresh [] is none (none_came x s same)
-  sent_ends o fresh g (late x is some out one) = ends_at o (outcome_of x) fresh _ is some (some_came g one x out)
-  sent_ends o fresh g (whole is some one all) = ends_at o outcome.Stored fresh _ is some (all_came g one all)
+  pub sent_ends : (o : Reply) (fresh : List ObjectId) → Gains on_way (Brings d batch) d d' → IsSent d batch o fresh d' → Ends o fresh
+  sent_ends o fresh g (refused x is none s same) = ends_at o (reply_of x) fresh [] is none (none_came x s same)
+  sent_ends o fresh g (late x is some out one) = ends_at o (reply_of x) fresh _ is some (some_came g one x out)
+  sent_ends o fresh g (whole is some one all) = ends_at o reply.Stored fresh _ is some (all_came g one all)
 
 -- ---- what was done to the vault
 
 module _ {V : Type 0} {disk : V → Option Disk} {count : V → ℕ} {left : V → ℕ → Files → Type 0} (d : Disk) (batch : List Object) (v v1 : V) where
   -- the ids weren't known
-  pub unknown : (fault_ : StoreFault) → Walks disk count left on_way Nothing (λ d'. (d' ≡ d) × ShownIn d batch fault_) d v v1 → Walks disk count left on_way (Brings d batch) (IsSent d batch (outcome_of fault_) []) d v v1
+  pub unknown : (fault_ : StoreFault) → Walks disk count left on_way Nothing (λ d'. (d' ≡ d) × ShownIn d batch fault_) d v v1 → Walks disk count left on_way (Brings d batch) (IsSent d batch (reply_of fault_) []) d v v1
   unknown fault_ w = looser w (λ n f b. absurd b) (λ d' g is. refused fault_ refl refl is.1 g)
 
   -- they were, and then the batch was stored or not
   pub known_then : {Z : Type 0} (ids : Vec ObjectId Z) (v2 : V) (r : Result (Unit {0}) StoreFault) → Walks disk count left on_way Nothing (GivesFresh d batch {Z = Z} (Ok ids)) d v v1
       → WhereTold (disk v1) (λ e. Walks disk count left on_way (Brings e batch) (Stored e batch r) e v1 v2)
-      → Walks disk count left on_way (Brings d batch) (IsSent d batch (sent_by ids.items r).outcome (sent_by ids.items r).fresh) d v v2
+      → Walks disk count left on_way (Brings d batch) (IsSent d batch (sent_by ids.items r).answer (sent_by ids.items r).fresh) d v v2
   known_then ids v2 r w then = bind w (λ n f b. absurd b) (λ d1 told g is.
       let back : d1 ≡ d = is.0 in
       looser (then d1 told) (λ n f b. subst (λ (x : Disk). Brings x batch n f) back b) (λ d' gains s. by r is.1 is.2 d' (subst (λ (x : Disk). Stored x batch r d') back s)))
     where
-      by : (r : Result (Unit {0}) StoreFault) → ids.items ≡ fresh_of batch (standing_on d) → IsOne batch → (d' : Disk) → Stored d batch r d' → IsSent d batch (sent_by ids.items r).outcome (sent_by ids.items r).fresh d'
+      by : (r : Result (Unit {0}) StoreFault) → ids.items ≡ fresh_of batch (standing_on d) → IsOne batch → (d' : Disk) → Stored d batch r d' → IsSent d batch (sent_by ids.items r).answer (sent_by ids.items r).fresh d'
       by (Ok done) fresh one d' s = whole refl fresh one s
       by (Err (fault.Collision id)) fresh one d' s = refused (fault.Collision id) refl refl s.shown s.same
       by (Err fault.Failed) fresh one d' s = late fault.Failed refl fresh tt one

@@ -23,18 +23,18 @@ use Rattle.cv_gate.specs.declared.op.Op.TheVariants as op
 use Rattle.cv_gate.specs.declared.act.Act.TheVariants as act
 use Rattle.cv_gate.specs.declared.entry.Entry.{Entry}
 use Rattle.cv_gate.proofs.Lemmas.{by_step}
+use Rattle.cv_gate.specs.declared.reply.Reply.{Reply}
 use Rattle.cv_desk.specs.Holds.{Holds}
 use Rattle.cv_desk.specs.Gate.{StateView, StandsFor, Does}
 use Rattle.cv_desk.specs.Sending.{IsSent}
-use Rattle.cv_desk.specs.ActingInner.{at_vault, aged_view, reply_of}
-use Rattle.cv_desk.specs.declared.outcome.Outcome.{Outcome}
+use Rattle.cv_desk.specs.ActingInner.{at_vault, aged_view}
 use Rattle.cv_desk.proofs.Imaging.{any_survives, settled_itself}
 use Rattle.cv_desk.proofs.Holding.{holds_with}
 use Rattle.cv_desk.proofs.Sending.{sent_ends}
 use Rattle.cv_desk.proofs.Quietly.{no_doubt}
 
 module _ {V S : Type 0} (disk : V → Option Disk) (count : V → ℕ) (left : V → ℕ → Files → Type 0) (is_seal : S → List ℕ → List ℕ → Bool) (before : StateView V S) (st : State) (stands : StandsFor disk is_seal before st)
-    (none : st.doubt ≡ None) (key digest : List ℕ) (token : Token) (batch : List Object) (out : Outcome) (fresh : List ObjectId) (e : Entry) where
+    (none : st.doubt ≡ None) (key digest : List ℕ) (token : Token) (batch : List Object) (out : Reply) (fresh : List ObjectId) (e : Entry) where
   abbrev o : Op
   o = op.Store key token digest batch
 
@@ -49,9 +49,9 @@ module _ {V S : Type 0} (disk : V → Option Disk) (count : V → ℕ) (left : V
 
   -- the lease is live and the key's own, and the batch was sent
   module _ (noted : IsNoted o e) (room : st.next < last_number) (named : AreNamed batch) (lease : Lease) (live : lease_of token a.leases ≡ Some lease) (own : bytes_eq lease.key key ≡ true)
-      (e_act : e.act ≡ act.Store token digest fresh) (e_reply : e.reply ≡ reply_of out) (v' : V)
+      (e_act : e.act ≡ act.Store token digest fresh) (e_reply : e.reply ≡ out) (v' : V)
       (walks : Walks disk count left on_way (Brings stands.end batch) (IsSent stands.end batch out fresh) stands.end before.line.vault v') where
-    ends : (st' : State) × Stores a batch (reply_of out) st' × FreshIs a batch (reply_of out) st' fresh × Holds name seal walks.end st' × (st' ≡ record a { shelf = st'.shelf; loose = st'.loose })
+    ends : (st' : State) × Stores a batch out st' × FreshIs a batch out st' fresh × Holds name seal walks.end st' × (st' ≡ record a { shelf = st'.shelf; loose = st'.loose })
     ends = sent_ends name seal stands.end walks.end a batch (holds_with name seal stands.end st (unexpired (max st.moment e.now) st.leases) (max st.moment e.now) st.next none stands.holds) stands.sound.hashes named out fresh walks.gains walks.is
 
     abbrev next : State

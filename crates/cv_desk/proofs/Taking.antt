@@ -34,12 +34,11 @@ use Rattle.cv_gate.specs.declared.entry.Entry.{Entry}
 use Rattle.cv_desk.specs.Gate.{StateView, GateView, StandsFor, IsSameRepository, IsCommit, Proceeds, waits as waits_for, goes, ShowsDamage, Does, Steps, made}
 use Rattle.cv_desk.specs.Resuming.{Resumes, Awaits}
 use Rattle.cv_desk.specs.Views.{aged_view}
-use Rattle.cv_desk.specs.Sending.{outcome_in}
-use Rattle.cv_desk.specs.Refusals.{reply_of}
-use Rattle.cv_desk.specs.Committing.{Finishes, swaps, wavers, stays, AsksCommit}
+use Rattle.cv_desk.specs.Sending.{reply_in}
+use Rattle.cv_desk.specs.Committing.{Finishes, swaps, wavers, stays}
+use Rattle.cv_desk.specs.CommittingInner.{AsksCommit}
 use Rattle.cv_desk.specs.Begin.{entry_of, IsReadyIn, GetsReady, EndsStep, Begins, over, waits as waits_ready, EndsBy, EndsWaiting}
 use Rattle.cv_desk.specs.ActingInner.{Settles, Acts, Keeps, IsAnswered, IsDone, IsReadied, IsDeclined, Courses, ComesToCommit, Takes, TakesReady, TakesCourse}
-use Rattle.cv_desk.specs.declared.outcome.Outcome.{Outcome}
 use Rattle.cv_desk.specs.declared.begun.Begun.TheVariants.{Done, Ready}
 use Rattle.cv_desk.specs.declared.taken.Taken.{Taken}
 use Rattle.cv_desk.specs.declared.taken.Readied.{Readied}
@@ -75,26 +74,16 @@ plain_done disk count left is_seal o now t before after never types keeps acts a
 }
 
 -- objects were sent
-pub store_done : {V S : Type 0} (disk : V → Option Disk) (count : V → ℕ) (left : V → ℕ → Files → Type 0) (is_seal : S → List ℕ → List ℕ → Bool) (key digest : List ℕ) (token : Token) (batch : List Object) (fresh : List ObjectId) (out : Outcome) (answer : Reply) (now : ℕ) (act : Act)
-    (before after : StateView V S) → IsDigest digest → act ≡ acts.Store token digest fresh → answer ≡ reply_of out
-    → Acts disk count left is_seal (op.Store key token digest batch) now (acts.Store token digest fresh) (reply_of out) before after
-    → IsAnswered disk count left is_seal (op.Store key token digest batch) now (acts.Store token digest fresh) (reply_of out) before after → IsSameRepository before.line after.line → after.next ≤ before.next + 1
+pub store_done : {V S : Type 0} (disk : V → Option Disk) (count : V → ℕ) (left : V → ℕ → Files → Type 0) (is_seal : S → List ℕ → List ℕ → Bool) (key digest : List ℕ) (token : Token) (batch : List Object) (fresh : List ObjectId) (answer : Reply) (now : ℕ) (act : Act)
+    (before after : StateView V S) → IsDigest digest → act ≡ acts.Store token digest fresh
+    → Acts disk count left is_seal (op.Store key token digest batch) now (acts.Store token digest fresh) answer before after
+    → IsAnswered disk count left is_seal (op.Store key token digest batch) now (acts.Store token digest fresh) answer before after → IsSameRepository before.line after.line → after.next ≤ before.next + 1
     → IsDone disk count left is_seal (op.Store key token digest batch) now (record { key = key; act = act; answer = answer }) before after
-store_done disk count left is_seal key digest token batch fresh out answer now act before after types is told done answered same next =
+store_done disk count left is_seal key digest token batch fresh answer now act before after types is done answered same next =
     plain_done disk count left is_seal (op.Store key token digest batch) now (record { key = key; act = act; answer = answer }) before after (λ c. c) types
     (λ e e_key e_act. (e_key, (fresh, e_act ∙ is)))
-    (subst (λ a. Acts disk count left is_seal (op.Store key token digest batch) now a answer before after) (sym is)
-    (subst (λ r. Acts disk count left is_seal (op.Store key token digest batch) now (acts.Store token digest fresh) r before after) (sym told) done))
-    (subst (λ a. IsAnswered disk count left is_seal (op.Store key token digest batch) now a answer before after) (sym is)
-    (subst (λ r. IsAnswered disk count left is_seal (op.Store key token digest batch) now (acts.Store token digest fresh) r before after) (sym told) answered)) same next
-
--- a lease was asked, or its end
-pub replied_done : {V S : Type 0} (disk : V → Option Disk) (count : V → ℕ) (left : V → ℕ → Files → Type 0) (is_seal : S → List ℕ → List ℕ → Bool) (o : Op) (now : ℕ) (key : List ℕ) (act : Act) (out : Outcome) (answer : Reply) (before after : StateView V S)
-    → (IsCommit o → ⊥) → HasTypes o → ((e : Entry) → e.key ≡ key → e.act ≡ act → Records e o) → answer ≡ reply_of out → Acts disk count left is_seal o now act (reply_of out) before after → IsAnswered disk count left is_seal o now act (reply_of out) before after
-    → IsSameRepository before.line after.line → after.next ≤ before.next + 1 → IsDone disk count left is_seal o now (record { key = key; act = act; answer = answer }) before after
-replied_done disk count left is_seal o now key act out answer before after never types keeps told done answered same next =
-    plain_done disk count left is_seal o now (record { key = key; act = act; answer = answer }) before after never types keeps
-    (subst (λ r. Acts disk count left is_seal o now act r before after) (sym told) done) (subst (λ r. IsAnswered disk count left is_seal o now act r before after) (sym told) answered) same next
+    (subst (λ a. Acts disk count left is_seal (op.Store key token digest batch) now a answer before after) (sym is) done)
+    (subst (λ a. IsAnswered disk count left is_seal (op.Store key token digest batch) now a answer before after) (sym is) answered) same next
 
 -- a commit was answered, or is ready
 module _ {V S : Type 0} (disk : V → Option Disk) (count : V → ℕ) (left : V → ℕ → Files → Type 0) (is_seal : S → List ℕ → List ℕ → Bool) (before aged_ after : StateView V S) (now : ℕ) (aged_is : aged_ ≡ aged_view before now)
@@ -126,15 +115,15 @@ module _ {V S : Type 0} (disk : V → Option Disk) (count : V → ℕ) (left : V
         calm = λ c. asked_calm disk count left is_seal key token old_root offered tag now before after r asked calm;
       }
 
-fault_in : (fault : VaultFault) (r : Reply) → r ≡ reply_of (outcome_in fault) → IsFault r
+fault_in : (fault : VaultFault) (r : Reply) → r ≡ reply_in fault → IsFault r
 fault_in vault.Failed r e = inl e
 fault_in vault.NoMemory r e = inr e
 
-fault_uncommitted : (fault : VaultFault) → is_committed (reply_of (outcome_in fault)) ≡ false
+fault_uncommitted : (fault : VaultFault) → is_committed (reply_in fault) ≡ false
 fault_uncommitted vault.Failed = refl
 fault_uncommitted vault.NoMemory = refl
 
-fault_shows : {V : Type 0} (disk : V → Option Disk) (v : V) (fault : VaultFault) → ShowsDamage disk v (reply_of (outcome_in fault))
+fault_shows : {V : Type 0} (disk : V → Option Disk) (v : V) (fault : VaultFault) → ShowsDamage disk v (reply_in fault)
 fault_shows disk v vault.Failed = tt
 fault_shows disk v vault.NoMemory = tt
 
@@ -180,7 +169,7 @@ module _ {V S : Type 0} (disk : V → Option Disk) (count : V → ℕ) (left : V
     takes_course (course.Ready w) done = takes_ready w done
 
   pub takes_waiting : (t : Taken) (fault : VaultFault) → Awaits disk count left fault before mid → ((st : State) → StandsFor disk is_seal before st → Settles disk count left is_seal before (Err fault) mid st) → HasTypes o → IsDeclined o t
-      → t.answer ≡ reply_of (outcome_in fault) → Takes disk count left is_seal o now t before mid
+      → t.answer ≡ reply_in fault → Takes disk count left is_seal o now t before mid
   takes_waiting t fault awaits settles types declined is = record {
     types = types;
     keeps = declined.keeps;

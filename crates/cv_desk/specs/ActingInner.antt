@@ -36,16 +36,14 @@ use Rattle.cv_desk.specs.Begin.{GetsReady, WaitsSo}
 pub use Rattle.cv_desk.specs.Views.{at_vault, aged_view, next_token, new_lease, with_lease}
 pub use Rattle.cv_desk.specs.Resuming.{token_in, newest_token, ended}
 use Rattle.cv_desk.specs.Resuming.{Resumes}
-pub use Rattle.cv_desk.specs.Refusals.{reply_of, refusal_of, refusal_on}
+pub use Rattle.cv_desk.specs.Refusals.{refusal_of, refusal_on}
 use Rattle.cv_desk.specs.Refusals.{is_unread}
 pub use Rattle.cv_desk.specs.Ends.{OnlyLooks, Sends}
 use Rattle.cv_desk.specs.Ends.{BlamesParent, IsPlacedOn, FetchesWay}
-use Rattle.cv_desk.specs.declared.outcome.Outcome.{Outcome}
 use Rattle.cv_desk.specs.declared.taken.Taken.{Taken}
 use Rattle.cv_desk.specs.declared.taken.Readied.{Readied}
 use Rattle.cv_desk.specs.declared.taken.Course.{Course}
 use Rattle.cv_desk.specs.declared.taken.Course.TheVariants as course
-use Rattle.cv_desk.specs.declared.outcome.Outcome.TheVariants as outcome
 
 -- ---- what becomes of the state
 
@@ -69,37 +67,37 @@ Acts disk count left is_seal o now a r before after =
 -- ---- a lease is asked
 
 -- whether the path has a place in the tree, or the disk failed, or memory was wanted
-abbrev pub PlaceIs : Nodes → Path → Result Bool Outcome → Type 0
+abbrev pub PlaceIs : Nodes → Path → Result Bool Reply → Type 0
 PlaceIs t p (Ok there) = has_place t p ≡ there
-PlaceIs t p (Err o) = IsFault (reply_of o)
+PlaceIs t p (Err r) = IsFault r
 
 -- the same of the tree that the newest root means, where the vault tells
-abbrev pub FindsPlace : {V S : Type 0} (disk : V → Option Disk) → StateView V S → Path → Result Bool Outcome → Type 0
+abbrev pub FindsPlace : {V S : Type 0} (disk : V → Option Disk) → StateView V S → Path → Result Bool Reply → Type 0
 FindsPlace disk s p r = WhereTold (disk s.line.vault) (λ d. (t : Nodes) → Means (standing_on d) s.line.head.root t → PlaceIs t p r)
 
 -- a lease that nothing refuses is granted, or memory was wanted
-pub data Grants {V S : Type 0} (key : List ℕ) (path : Path) (s : StateView V S) (o : Outcome) (s' : StateView V S) : Type 0 where
-  granted : o ≡ outcome.Granted (next_token s) s.line.head.revision s.line.head.root → s' ≡ with_lease s key path → Grants key path s o s'
-  unremembered : o ≡ outcome.NoMemory → s' ≡ s → Grants key path s o s'
+pub data Grants {V S : Type 0} (key : List ℕ) (path : Path) (s : StateView V S) (r : Reply) (s' : StateView V S) : Type 0 where
+  granted : r ≡ reply.Granted (next_token s) s.line.head.revision s.line.head.root → s' ≡ with_lease s key path → Grants key path s r s'
+  unremembered : r ≡ reply.NoMemory → s' ≡ s → Grants key path s r s'
 
 -- what comes of asking for a lease
-pub data AsksLease {V S : Type 0} (disk : V → Option Disk) (count : V → ℕ) (left : V → ℕ → Files → Type 0) (key : List ℕ) (path : Path) (s : StateView V S) (o : Outcome) (s' : StateView V S) : Type 0 where
-  refused : refusal_of s.leases s.moment path ≡ Some o → s' ≡ s → AsksLease disk count left key path s o s'
-  unread : refusal_of s.leases s.moment path ≡ None → is_unread (reply_of o) ≡ true → BlamesParent (disk s.line.vault) s.line.head.root path (reply_of o) → OnlyLooks disk count left s s' → FetchesWay disk path s s' → FindsPlace disk s path (Err o) → AsksLease disk count left key path s o s'
-  placeless : refusal_of s.leases s.moment path ≡ None → OnlyLooks disk count left s s' → FetchesWay disk path s s' → FindsPlace disk s path (Ok false) → IsPlacedOn (disk s.line.vault) s.line.head.root path false → o ≡ outcome.NoParent → AsksLease disk count left key path s o s'
-  placed : (looked : StateView V S) → refusal_of s.leases s.moment path ≡ None → OnlyLooks disk count left s looked → FetchesWay disk path s looked → FindsPlace disk s path (Ok true) → IsPlacedOn (disk s.line.vault) s.line.head.root path true → Grants key path looked o s' → AsksLease disk count left key path s o s'
+pub data AsksLease {V S : Type 0} (disk : V → Option Disk) (count : V → ℕ) (left : V → ℕ → Files → Type 0) (key : List ℕ) (path : Path) (s : StateView V S) (r : Reply) (s' : StateView V S) : Type 0 where
+  refused : refusal_of s.leases s.moment path ≡ Some r → s' ≡ s → AsksLease disk count left key path s r s'
+  unread : refusal_of s.leases s.moment path ≡ None → is_unread r ≡ true → BlamesParent (disk s.line.vault) s.line.head.root path r → OnlyLooks disk count left s s' → FetchesWay disk path s s' → FindsPlace disk s path (Err r) → AsksLease disk count left key path s r s'
+  placeless : refusal_of s.leases s.moment path ≡ None → OnlyLooks disk count left s s' → FetchesWay disk path s s' → FindsPlace disk s path (Ok false) → IsPlacedOn (disk s.line.vault) s.line.head.root path false → r ≡ reply.NoParent → AsksLease disk count left key path s r s'
+  placed : (looked : StateView V S) → refusal_of s.leases s.moment path ≡ None → OnlyLooks disk count left s looked → FetchesWay disk path s looked → FindsPlace disk s path (Ok true) → IsPlacedOn (disk s.line.vault) s.line.head.root path true → Grants key path looked r s' → AsksLease disk count left key path s r s'
 
 -- ---- something is asked of a lease
 
 -- what comes of asking that a lease end
-pub data AsksEnd {V S : Type 0} (key : List ℕ) (token : Token) (s : StateView V S) (o : Outcome) (s' : StateView V S) : Type 0 where
-  not_ended : refusal_on (lease_of token s.leases) key ≡ Some o → s' ≡ s → AsksEnd key token s o s'
-  ends : refusal_on (lease_of token s.leases) key ≡ None → o ≡ outcome.Cancelled → s' ≡ record s { leases = without token s.leases } → AsksEnd key token s o s'
+pub data AsksEnd {V S : Type 0} (key : List ℕ) (token : Token) (s : StateView V S) (r : Reply) (s' : StateView V S) : Type 0 where
+  not_ended : refusal_on (lease_of token s.leases) key ≡ Some r → s' ≡ s → AsksEnd key token s r s'
+  ends : refusal_on (lease_of token s.leases) key ≡ None → r ≡ reply.Cancelled → s' ≡ record s { leases = without token s.leases } → AsksEnd key token s r s'
 
 -- what comes of sending a batch under a lease
-pub data AsksStore {V S : Type 0} (disk : V → Option Disk) (count : V → ℕ) (left : V → ℕ → Files → Type 0) (key : List ℕ) (token : Token) (batch : List Object) (s : StateView V S) (o : Outcome) (fresh : List ObjectId) (s' : StateView V S) : Type 0 where
-  not_sent : refusal_on (lease_of token s.leases) key ≡ Some o → fresh ≡ [] → s' ≡ s → AsksStore disk count left key token batch s o fresh s'
-  sends : refusal_on (lease_of token s.leases) key ≡ None → Sends disk count left batch s o fresh s' → AsksStore disk count left key token batch s o fresh s'
+pub data AsksStore {V S : Type 0} (disk : V → Option Disk) (count : V → ℕ) (left : V → ℕ → Files → Type 0) (key : List ℕ) (token : Token) (batch : List Object) (s : StateView V S) (r : Reply) (fresh : List ObjectId) (s' : StateView V S) : Type 0 where
+  not_sent : refusal_on (lease_of token s.leases) key ≡ Some r → fresh ≡ [] → s' ≡ s → AsksStore disk count left key token batch s r fresh s'
+  sends : refusal_on (lease_of token s.leases) key ≡ None → Sends disk count left batch s r fresh s' → AsksStore disk count left key token batch s r fresh s'
 
 -- ---- an op is taken
 

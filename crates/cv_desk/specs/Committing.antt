@@ -49,23 +49,21 @@ use Rattle.cv_gate.specs.declared.reply.Reply.{Reply}
 use Rattle.cv_gate.specs.declared.reply.Reply.TheVariants as reply
 use Rattle.cv_desk.specs.Views.{StateView}
 use Rattle.cv_desk.specs.Known.{KnowsOn}
-use Rattle.cv_desk.specs.Sending.{outcome_of}
+use Rattle.cv_desk.specs.Sending.{reply_of}
 pub use Rattle.cv_desk.specs.Ends.{next_record}
 use Rattle.cv_desk.specs.Ends.{IsUnpublished, IsPublished}
 pub use Rattle.cv_desk.specs.Refusals.{has_base, holder_of, taken_by, opposition_by, opposition}
-use Rattle.cv_desk.specs.Refusals.{reply_of, refusal_on, is_unmade}
-use Rattle.cv_desk.specs.declared.outcome.Outcome.{Outcome}
-use Rattle.cv_desk.specs.declared.outcome.Outcome.TheVariants as outcome
+use Rattle.cv_desk.specs.Refusals.{refusal_on, is_unmade}
 
 -- ---- the offered tree
 
 -- how a fault of the offered tree is answered
-abbrev pub outcome_at : LoadFault → Outcome
-outcome_at (load.Missing id) = outcome.MissingObject id
-outcome_at (load.Bad id) = outcome.BadCatalogue id
-outcome_at load.Failed = outcome.StoreFailed
-outcome_at (load.Damaged id found) = outcome.Damaged id found
-outcome_at load.NoMemory = outcome.NoMemory
+abbrev pub reply_at : LoadFault → Reply
+reply_at (load.Missing id) = reply.MissingObject id
+reply_at (load.Bad id) = reply.BadCatalogue id
+reply_at load.Failed = reply.StoreFailed
+reply_at (load.Damaged id found) = reply.Damaged id found
+reply_at load.NoMemory = reply.NoMemory
 
 -- the new tree doesn't fit, and the reply says why
 pub data WhyUnfit (t : Nodes) (r : Reply) : Type 0 where
@@ -81,7 +79,7 @@ pub data NamesPaths (r : Reply) : Type 0 where
 -- catalogue on the way to the path in either has other bytes than its hash says, or the new tree doesn't fit
 pub data IsUnfit (shelf : Shelf) (newest offered : List ℕ) (path : Path) (r : Reply) : Type 0 where
   outside : IsFault r → IsUnfit shelf newest offered path r
-  meaningless : (fault : LoadFault) → MayFail shelf offered fault → r ≡ reply_of (outcome_at fault) → IsUnfit shelf newest offered path r
+  meaningless : (fault : LoadFault) → MayFail shelf offered fault → r ≡ reply_at fault → IsUnfit shelf newest offered path r
   damaged : (id : ObjectId) (found : List ℕ) → IsOfEither shelf newest offered path id → HasOtherDigest shelf id found → r ≡ reply.Damaged id found → IsUnfit shelf newest offered path r
   unfit : IsGood shelf offered root_place → NamesPaths r → ((t n : Nodes) → Means shelf newest t → Means shelf offered n → has_place t path ≡ true → WhyUnfit (replaced t n path) r) → IsUnfit shelf newest offered path r
 
@@ -131,7 +129,7 @@ module _ {V S : Type 0} (disk : V → Option Disk) (count : V → ℕ) (left : V
         → AreNamed (objects_with g (next_record l.head lease key moment g offered tag))
         → WhereTold (disk looked.vault) (λ d. Walks disk count left on_way (Brings d (objects_with g (next_record l.head lease key moment g offered tag)))
         (Prepared d (objects_with g (next_record l.head lease key moment g offered tag)) l'.manifest {X = Head} (Err fault)) d looked.vault l'.vault)
-        → Readies known lease key moment offered tag l l' (Err (reply_of (outcome_of fault)))
+        → Readies known lease key moment offered tag l l' (Err (reply_of fault))
     prepared : (looked : LineView V S) (g : Grafted) → LineReads disk count left l looked → WhereTold (disk l.vault) (λ d. FetchesOffered (standing_on d) known l.head.root offered lease.path l.taken looked.taken)
         → WhereTold (disk l.vault) (λ d. IsFit (standing_on d) l.head.root offered lease.path g)
         → published l' ≡ published l → IsReady looked (next_record l.head lease key moment g offered tag) (head_with (next_record l.head lease key moment g offered tag) g.size) l'
@@ -139,18 +137,6 @@ module _ {V S : Type 0} (disk : V → Option Disk) (count : V → ℕ) (left : V
         → WhereTold (disk looked.vault) (λ d. Walks disk count left on_way (Brings d (objects_with g (next_record l.head lease key moment g offered tag)))
         (Prepared d (objects_with g (next_record l.head lease key moment g offered tag)) l'.manifest {X = Head} (Ok (head_with (next_record l.head lease key moment g offered tag) g.size))) d looked.vault l'.vault)
         → Readies known lease key moment offered tag l l' (Ok (head_with (next_record l.head lease key moment g offered tag) g.size))
-
-  -- what comes of a commit under a lease: it is opposed, or made ready or not
-  pub data CommitsUnder (lease : Lease) (key old_root offered tag : List ℕ) (s : StateView V S) (r : Result Head Reply) (s' : StateView V S) : Type 0 where
-    opposed : (o : Outcome) → opposition s.line lease.from_revision old_root tag ≡ Some o → r ≡ Err (reply_of o) → s' ≡ s → CommitsUnder lease key old_root offered tag s r s'
-    readies : (l : LineView V S) (more : KnownSet) → opposition s.line lease.from_revision old_root tag ≡ None → Readies s.known lease key s.moment offered tag s.line l r
-        → KnowsOn disk s.line.vault s.known offered r more → s' ≡ record s { line = l; known = more } → CommitsUnder lease key old_root offered tag s r s'
-
-  -- what comes of asking for a commit
-  pub data AsksCommit (key : List ℕ) (token : Token) (old_root offered tag : List ℕ) (s : StateView V S) (r : Result Head Reply) (s' : StateView V S) : Type 0 where
-    not_own : (o : Outcome) → refusal_on (lease_of token s.leases) key ≡ Some o → r ≡ Err (reply_of o) → s' ≡ s → AsksCommit key token old_root offered tag s r s'
-    own : (lease : Lease) → refusal_on (lease_of token s.leases) key ≡ None → lease_of token s.leases ≡ Some lease → CommitsUnder lease key old_root offered tag s r s'
-        → AsksCommit key token old_root offered tag s r s'
 
   -- how a commit ends that isn't published: it isn't made ready, or its head doesn't come
   abbrev pub Fails : Token → StateView V S → Result Head Reply → Reply → StateView V S → Type 0
@@ -160,9 +146,9 @@ module _ {V S : Type 0} (disk : V → Option Disk) (count : V → ℕ) (left : V
   -- A commit is asked. Where its lease isn't live or not the key's, or the published revisions oppose it, nothing changes, not even the
   -- vault; else it is made ready or isn't, by what stands on the disk, and its revision is published or isn't.
   pub data CommitEnds (key : List ℕ) (token : Token) (old_root offered tag : List ℕ) (s : StateView V S) (r : Reply) (s' : StateView V S) : Type 0 where
-    commit_refused : (o : Outcome) → refusal_on (lease_of token s.leases) key ≡ Some o → r ≡ reply_of o → s' ≡ s → CommitEnds key token old_root offered tag s r s'
-    commit_opposed : (lease : Lease) (o : Outcome) → refusal_on (lease_of token s.leases) key ≡ None → lease_of token s.leases ≡ Some lease
-        → opposition s.line lease.from_revision old_root tag ≡ Some o → r ≡ reply_of o → s' ≡ s → CommitEnds key token old_root offered tag s r s'
+    commit_refused : refusal_on (lease_of token s.leases) key ≡ Some r → s' ≡ s → CommitEnds key token old_root offered tag s r s'
+    commit_opposed : (lease : Lease) → refusal_on (lease_of token s.leases) key ≡ None → lease_of token s.leases ≡ Some lease
+        → opposition s.line lease.from_revision old_root tag ≡ Some r → s' ≡ s → CommitEnds key token old_root offered tag s r s'
     unpublished : (lease : Lease) (l : LineView V S) (more : KnownSet) (x : Result Head Reply) → refusal_on (lease_of token s.leases) key ≡ None → lease_of token s.leases ≡ Some lease
         → opposition s.line lease.from_revision old_root tag ≡ None → Readies s.known lease key s.moment offered tag s.line l x
         → KnowsOn disk s.line.vault s.known offered x more → Fails token (record s { line = l; known = more }) x r s'

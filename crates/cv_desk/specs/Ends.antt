@@ -32,9 +32,8 @@ use Rattle.cv_gate.specs.declared.act.Act.TheVariants as act
 use Rattle.cv_gate.specs.declared.reply.Reply.{Reply}
 use Rattle.cv_gate.specs.declared.reply.Reply.TheVariants as reply
 use Rattle.cv_desk.specs.Views.{StateView, at_vault, next_token, with_lease}
-use Rattle.cv_desk.specs.Refusals.{reply_of, refusal_of, refusal_on, is_unread, is_sending}
+use Rattle.cv_desk.specs.Refusals.{refusal_of, refusal_on, is_unread, is_sending}
 use Rattle.cv_desk.specs.Sending.{IsSent}
-use Rattle.cv_desk.specs.declared.outcome.Outcome.{Outcome}
 
 -- The gate has come to the moment of the op in each of these, so that leases whose deadline has come are gone.
 
@@ -65,7 +64,7 @@ FetchesWay disk path s s' = WhereTold (disk s.line.vault) (λ d. (t : Nodes) →
 -- A lease is asked. Where the path or the leases refuse it nothing changes, not even the vault; else the newest tree is looked at, by reads
 -- alone, and it isn't read, or the path has no place in it, or the lease is granted under the next number.
 pub data LeaseEnds {V S : Type 0} (disk : V → Option Disk) (count : V → ℕ) (left : V → ℕ → Files → Type 0) (key : List ℕ) (path : Path) (s : StateView V S) (r : Reply) (s' : StateView V S) : Type 0 where
-  lease_refused : (o : Outcome) → refusal_of s.leases s.moment path ≡ Some o → r ≡ reply_of o → s' ≡ s → LeaseEnds disk count left key path s r s'
+  lease_refused : refusal_of s.leases s.moment path ≡ Some r → s' ≡ s → LeaseEnds disk count left key path s r s'
   lease_unread : refusal_of s.leases s.moment path ≡ None → is_unread r ≡ true → BlamesParent (disk s.line.vault) s.line.head.root path r → OnlyLooks disk count left s s' → FetchesWay disk path s s'
       → LeaseEnds disk count left key path s r s'
   lease_placeless : refusal_of s.leases s.moment path ≡ None → r ≡ reply.NoParent → IsPlacedOn (disk s.line.vault) s.line.head.root path false → OnlyLooks disk count left s s' → FetchesWay disk path s s' → LeaseEnds disk count left key path s r s'
@@ -73,15 +72,15 @@ pub data LeaseEnds {V S : Type 0} (disk : V → Option Disk) (count : V → ℕ)
       → r ≡ reply.Granted (next_token s) s.line.head.revision s.line.head.root → s' ≡ with_lease looked key path → LeaseEnds disk count left key path s r s'
 
 -- a batch was sent to the vault, and these ids were found fresh
-pub record Sends {V S : Type 0} (disk : V → Option Disk) (count : V → ℕ) (left : V → ℕ → Files → Type 0) (batch : List Object) (s : StateView V S) (o : Outcome) (fresh : List ObjectId) (s' : StateView V S) : Type 0 where
-  pub walks : WhereTold (disk s.line.vault) (λ d. Walks disk count left on_way (Brings d batch) (IsSent d batch o fresh) d s.line.vault s'.line.vault)
+pub record Sends {V S : Type 0} (disk : V → Option Disk) (count : V → ℕ) (left : V → ℕ → Files → Type 0) (batch : List Object) (s : StateView V S) (r : Reply) (fresh : List ObjectId) (s' : StateView V S) : Type 0 where
+  pub walks : WhereTold (disk s.line.vault) (λ d. Walks disk count left on_way (Brings d batch) (IsSent d batch r fresh) d s.line.vault s'.line.vault)
   pub others : s' ≡ at_vault s s'.line.vault
 
 -- Objects are sent under a lease. Where that isn't live or not the key's nothing changes, not even the vault, and no id is noted; else they are
 -- sent to it, and noted are the ids that were found fresh.
 pub data StoreEnds {V S : Type 0} (disk : V → Option Disk) (count : V → ℕ) (left : V → ℕ → Files → Type 0) (key : List ℕ) (token : Token) (digest : List ℕ) (batch : List Object) (a : Act) (s : StateView V S) (r : Reply) (s' : StateView V S) : Type 0 where
-  store_refused : (o : Outcome) → refusal_on (lease_of token s.leases) key ≡ Some o → r ≡ reply_of o → a ≡ act.Store token digest [] → s' ≡ s → StoreEnds disk count left key token digest batch a s r s'
-  sent : (o : Outcome) (fresh : List ObjectId) → refusal_on (lease_of token s.leases) key ≡ None → r ≡ reply_of o → is_sending r ≡ true → a ≡ act.Store token digest fresh → Sends disk count left batch s o fresh s'
+  store_refused : refusal_on (lease_of token s.leases) key ≡ Some r → a ≡ act.Store token digest [] → s' ≡ s → StoreEnds disk count left key token digest batch a s r s'
+  sent : (fresh : List ObjectId) → refusal_on (lease_of token s.leases) key ≡ None → is_sending r ≡ true → a ≡ act.Store token digest fresh → Sends disk count left batch s r fresh s'
       → StoreEnds disk count left key token digest batch a s r s'
 
 -- ---- commits

@@ -37,8 +37,7 @@ use Rattle.cv_desk.specs.Views.{aged_view}
 use Rattle.cv_desk.specs.Ends.{LeaseEnds, StoreEnds}
 use Rattle.cv_desk.specs.Committing.{CommitEnds}
 use Rattle.cv_desk.specs.Resuming.{Resumes, Awaits}
-use Rattle.cv_desk.specs.Refusals.{reply_of}
-use Rattle.cv_desk.specs.Sending.{outcome_in}
+use Rattle.cv_desk.specs.Sending.{reply_in}
 
 -- ---- the state for which it stands
 
@@ -160,7 +159,7 @@ pub record IsExact {V S : Type 0} (disk : V → Option Disk) (count : V → ℕ)
 -- What comes of an op whatever the vault tells: a commit is in doubt, the op waits, and the fault is answered; or the op goes on, from where
 -- the doubt was settled if there was one.
 pub data Proceeds {V S : Type 0} (disk : V → Option Disk) (count : V → ℕ) (left : V → ℕ → Files → Type 0) (is_seal : S → List ℕ → List ℕ → Bool) (o : Op) (now : ℕ) (a : Act) (r : Reply) (before after : StateView V S) : Type 0 where
-  waits : (fault : VaultFault) → Awaits disk count left fault before after → r ≡ reply_of (outcome_in fault) → HasNoFresh a → Proceeds disk count left is_seal o now a r before after
+  waits : (fault : VaultFault) → Awaits disk count left fault before after → r ≡ reply_in fault → HasNoFresh a → Proceeds disk count left is_seal o now a r before after
   goes : (from : StateView V S) → Resumes disk count left before from → IsExact disk count left is_seal o now a r from after → Proceeds disk count left is_seal o now a r before after
 
 -- What a step does for a state for which the gate stood: the entry is a step to a state for which it then stands, and a crash at any

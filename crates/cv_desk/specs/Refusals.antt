@@ -13,46 +13,23 @@ use Rattle.cv_swap.specs.Kept.{revision_limit}
 use Rattle.cv_swap.specs.Line.{LineView, published}
 use Rattle.cv_gate.specs.declared.reply.Reply.{Reply}
 use Rattle.cv_gate.specs.declared.reply.Reply.TheVariants as reply
-use Rattle.cv_desk.specs.declared.outcome.Outcome.{Outcome}
-use Rattle.cv_desk.specs.declared.outcome.Outcome.TheVariants as outcome
-
-abbrev pub reply_of : Outcome → Reply
-reply_of (outcome.Granted token revision root) = reply.Granted token revision root
-reply_of outcome.Stored = reply.Stored
-reply_of (outcome.Committed revision root) = reply.Committed revision root
-reply_of outcome.Cancelled = reply.Cancelled
-reply_of outcome.BadPath = reply.BadPath
-reply_of (outcome.PathBusy token remaining) = reply.PathBusy token remaining
-reply_of outcome.TooManyLeases = reply.TooManyLeases
-reply_of outcome.NoParent = reply.NoParent
-reply_of outcome.InvalidToken = reply.InvalidToken
-reply_of outcome.WrongKey = reply.WrongKey
-reply_of (outcome.Collision id) = reply.Collision id
-reply_of outcome.RevisionsFull = reply.RevisionsFull
-reply_of (outcome.StaleBase revision) = reply.StaleBase revision
-reply_of (outcome.TagTaken revision) = reply.TagTaken revision
-reply_of (outcome.MissingObject id) = reply.MissingObject id
-reply_of (outcome.BadCatalogue id) = reply.BadCatalogue id
-reply_of outcome.StoreFailed = reply.StoreFailed
-reply_of (outcome.Damaged id found) = reply.Damaged id found
-reply_of outcome.NoMemory = reply.NoMemory
 
 -- ---- a lease
 
 -- how a refusal of the table is answered at a moment
-abbrev pub outcome_then : ℕ → LeaseFault → Outcome
-outcome_then moment fault.BadPath = outcome.BadPath
-outcome_then moment (fault.PathBusy token deadline) = outcome.PathBusy token (deadline - moment)
-outcome_then moment fault.TooManyLeases = outcome.TooManyLeases
+abbrev pub reply_then : ℕ → LeaseFault → Reply
+reply_then moment fault.BadPath = reply.BadPath
+reply_then moment (fault.PathBusy token deadline) = reply.PathBusy token (deadline - moment)
+reply_then moment fault.TooManyLeases = reply.TooManyLeases
 
 -- why a lease on the path isn't granted beside these at a moment, if it isn't
-abbrev pub refusal_of : List Lease → ℕ → Path → Option Outcome
-refusal_of leases moment path = option_map (outcome_then moment) (refusal leases path)
+abbrev pub refusal_of : List Lease → ℕ → Path → Option Reply
+refusal_of leases moment path = option_map (reply_then moment) (refusal leases path)
 
 -- why nothing is done on a lease for a key, if it isn't
-abbrev pub refusal_on : Option Lease → List ℕ → Option Outcome
-refusal_on None key = Some outcome.InvalidToken
-refusal_on (Some lease) key = if bytes_eq lease.key key then None else Some outcome.WrongKey
+abbrev pub refusal_on : Option Lease → List ℕ → Option Reply
+refusal_on None key = Some reply.InvalidToken
+refusal_on (Some lease) key = if bytes_eq lease.key key then None else Some reply.WrongKey
 
 -- ---- what the published revisions say
 
@@ -65,17 +42,17 @@ abbrev pub holder_of : List ℕ → List Record → Option Record
 holder_of [] records = None
 holder_of (b ∷ tag) records = find (λ r. bytes_eq r.tag (b ∷ tag)) records
 
-abbrev pub taken_by : Option Record → Option Outcome
+abbrev pub taken_by : Option Record → Option Reply
 taken_by None = None
-taken_by (Some r) = Some (outcome.TagTaken r.revision)
+taken_by (Some r) = Some (reply.TagTaken r.revision)
 
 -- why they refuse a commit under a lease that was granted at a revision, if they do: the newest of them, and all of them
-abbrev pub opposition_by : ℕ → List Record → ℕ → List ℕ → List ℕ → Option Outcome
+abbrev pub opposition_by : ℕ → List Record → ℕ → List ℕ → List ℕ → Option Reply
 opposition_by newest records from old_root tag =
-    if nat_le revision_limit newest then Some outcome.RevisionsFull else
-    if has_base records from old_root then taken_by (holder_of tag records) else Some (outcome.StaleBase from)
+    if nat_le revision_limit newest then Some reply.RevisionsFull else
+    if has_base records from old_root then taken_by (holder_of tag records) else Some (reply.StaleBase from)
 
-abbrev pub opposition : {V S : Type 0} → LineView V S → ℕ → List ℕ → List ℕ → Option Outcome
+abbrev pub opposition : {V S : Type 0} → LineView V S → ℕ → List ℕ → List ℕ → Option Reply
 opposition l from old_root tag = opposition_by l.head.revision (published l) from old_root tag
 
 -- ---- replies of ops that nothing refuses so

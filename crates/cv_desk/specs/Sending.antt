@@ -12,24 +12,24 @@ use Rattle.cv_objects.specs.Fresh.{fresh_of}
 use Rattle.cv_objects.specs.Batches.{IsOne, ShownIn, IsOutside, AreStored}
 use Rattle.cv_objects.specs.declared.store_fault.StoreFault.{StoreFault}
 use Rattle.cv_objects.specs.declared.store_fault.StoreFault.TheVariants as fault
-use Rattle.cv_desk.specs.declared.outcome.Outcome.{Outcome}
-use Rattle.cv_desk.specs.declared.outcome.Outcome.TheVariants as outcome
+use Rattle.cv_gate.specs.declared.reply.Reply.{Reply}
+use Rattle.cv_gate.specs.declared.reply.Reply.TheVariants as reply
 
 -- how a fault of the store is answered
-abbrev pub outcome_of : StoreFault → Outcome
-outcome_of (fault.Collision id) = outcome.Collision id
-outcome_of fault.Failed = outcome.StoreFailed
-outcome_of (fault.Damaged id found) = outcome.Damaged id found
-outcome_of fault.NoMemory = outcome.NoMemory
+abbrev pub reply_of : StoreFault → Reply
+reply_of (fault.Collision id) = reply.Collision id
+reply_of fault.Failed = reply.StoreFailed
+reply_of (fault.Damaged id found) = reply.Damaged id found
+reply_of fault.NoMemory = reply.NoMemory
 
 -- What is answered, with the ids that were found fresh: the batch was refused, and nothing came; or the disk failed or memory was wanted,
 -- before the ids were known, or after, when some may have come; or all came.
-pub data IsSent (d : Disk) (batch : List Object) (o : Outcome) (fresh : List ObjectId) (d' : Disk) : Type 0 where
-  refused : (x : StoreFault) → o ≡ outcome_of x → fresh ≡ [] → ShownIn d batch x → Gains on_way Nothing d d' → IsSent d batch o fresh d'
-  late : (x : StoreFault) → o ≡ outcome_of x → fresh ≡ fresh_of batch (standing_on d) → IsOutside x → IsOne batch → IsSent d batch o fresh d'
-  whole : o ≡ outcome.Stored → fresh ≡ fresh_of batch (standing_on d) → IsOne batch → AreStored batch d' → IsSent d batch o fresh d'
+pub data IsSent (d : Disk) (batch : List Object) (r : Reply) (fresh : List ObjectId) (d' : Disk) : Type 0 where
+  refused : (x : StoreFault) → r ≡ reply_of x → fresh ≡ [] → ShownIn d batch x → Gains on_way Nothing d d' → IsSent d batch r fresh d'
+  late : (x : StoreFault) → r ≡ reply_of x → fresh ≡ fresh_of batch (standing_on d) → IsOutside x → IsOne batch → IsSent d batch r fresh d'
+  whole : r ≡ reply.Stored → fresh ≡ fresh_of batch (standing_on d) → IsOne batch → AreStored batch d' → IsSent d batch r fresh d'
 
 -- how a fault of the vault is answered
-abbrev pub outcome_in : VaultFault → Outcome
-outcome_in vault.Failed = outcome.StoreFailed
-outcome_in vault.NoMemory = outcome.NoMemory
+abbrev pub reply_in : VaultFault → Reply
+reply_in vault.Failed = reply.StoreFailed
+reply_in vault.NoMemory = reply.NoMemory

@@ -4,8 +4,8 @@ use Rattle.cv_cut.specs.declared.load_fault.LoadFault.{LoadFault}
 use Rattle.cv_cut.specs.declared.load_fault.LoadFault.TheVariants as load
 use Rattle.cv_objects.specs.declared.store_fault.StoreFault.{StoreFault}
 use Rattle.cv_objects.specs.declared.store_fault.StoreFault.TheVariants as fault
-use Rattle.cv_desk.specs.declared.outcome.Outcome.{Outcome}
-use Rattle.cv_desk.specs.declared.outcome.Outcome.TheVariants as outcome
+use Rattle.cv_gate.specs.declared.reply.Reply.{Reply}
+use Rattle.cv_gate.specs.declared.reply.Reply.TheVariants as reply
 
 -- the fault refuses the batch
 abbrev pub is_refusal : StoreFault → Bool
@@ -15,9 +15,9 @@ is_refusal (fault.Damaged id found) = true
 is_refusal fault.NoMemory = false
 
 -- how a fault of a catalogue is answered
-abbrev pub outcome_from : LoadFault → Outcome
-outcome_from (load.Missing id) = outcome.NoMemory
-outcome_from (load.Bad id) = outcome.NoMemory
-outcome_from load.Failed = outcome.StoreFailed
-outcome_from (load.Damaged id found) = outcome.Damaged id found
-outcome_from load.NoMemory = outcome.NoMemory
+abbrev pub reply_from : LoadFault → Reply
+reply_from (load.Missing id) = reply.NoMemory
+reply_from (load.Bad id) = reply.NoMemory
+reply_from load.Failed = reply.StoreFailed
+reply_from (load.Damaged id found) = reply.Damaged id found
+reply_from load.NoMemory = reply.NoMemory

@@ -12,20 +12,18 @@ ghost use Rattle.cv_graft.specs.Graft.{HasOwnIds};
 ghost use Rattle.cv_gate.specs.Step.{is_key_id, is_tag};
 ghost use Rattle.cv_gate.specs.declared.reply.Reply.TheVariants as replies;
 ghost use Rattle.cv_swap.specs.Line.{published, LineReads};
-ghost use Rattle.cv_desk.specs.Refusals.{reply_of, is_unmade};
+ghost use Rattle.cv_desk.specs.Refusals.{is_unmade};
 ghost use Rattle.cv_base.specs.Path.{Path};
 ghost use Rattle.cv_load.specs.Known.{is_known, HasPair};
 ghost use Rattle.cv_load.specs.NewFetches.{FetchesNew};
 ghost use Rattle.cv_desk.specs.Known.{KnowsOn, Remembers, Learns, LearnsWhole};
 ghost use Rattle.cv_desk.specs.KnownInner.{KnowsWhole};
-ghost use Rattle.cv_desk.specs.Committing.{has_base, holder_of, taken_by, opposition, outcome_at, FetchesOffered, next_record, Readies};
+ghost use Rattle.cv_desk.specs.Committing.{has_base, holder_of, taken_by, opposition, FetchesOffered, next_record, Readies};
 ghost use Rattle.cv_desk.specs.CommittingInner.{Offers, GraftsOffered};
-ghost use Rattle.cv_desk.specs.declared.outcome.Outcome.TheVariants as outcomes;
 
 use crate::answer::Answer;
-use crate::outcome::Outcome;
 use cv_base::{Kind, NoMemory, ObjectId, RepoPath, Target, Text};
-use cv_cut::LoadFault;
+use cv_gate::Reply;
 use cv_graft::{Grafted, graft};
 use cv_history::Record;
 use cv_leases::Lease;
@@ -56,16 +54,17 @@ fn find_tag<'a>(records: &'a [Record], tag: &str) -> Option<&'a Record>
 }
 
 /// That a revision has the tag, if one has it, and it isn't empty.
-fn taken_by(records: &[Record], tag: &Text) -> Option<Outcome>
+fn taken_by(records: &[Record], tag: &Text) -> Option<Answer>
     ensures { result ≡ taken_by (holder_of tag.now records.now) }
 {
     if tag.as_str().is_empty() {
         return None;
     }
     match find_tag(records, tag.as_str()) {
-        Some(record) => Some(Outcome::TagTaken {
-            revision: record.revision,
-        }),
+        Some(record) => {
+            let revision = record.revision;
+            Some(answer!(Reply::TagTaken { revision }))
+        },
         None => None,
     }
 }
@@ -76,29 +75,29 @@ pub(crate) fn opposition<V: Vault + Drop, S: Signer + Drop>(
     from: u64,
     old_root: &[u8; 20],
     tag: &Text,
-) -> Option<Outcome>
+) -> Option<Answer>
     ensures { result ≡ opposition line.now from old_root.now tag.now }
 {
     if line.head().revision >= REVISION_LIMIT {
-        return Some(Outcome::RevisionsFull);
+        return Some(answer!(Reply::RevisionsFull));
     }
     if !has_base(line.records(), from, old_root) {
-        return Some(Outcome::StaleBase { revision: from });
+        return Some(answer!(Reply::StaleBase { revision: from }));
     }
     taken_by(line.records(), tag)
 }
 
 /// Adds pairs of a catalogue's id and its path to the known ones.
-fn learn(alloc: Global, known: &mut KnownSet, pairs: &[(ObjectId, RepoPath)]) -> Result<(), Outcome>
+fn learn(alloc: Global, known: &mut KnownSet, pairs: &[(ObjectId, RepoPath)]) -> Result<(), Answer>
     ensures only { (h : List ℕ) (p : Path) → is_known known.new h p ≡ true → (is_known known.old h p ≡ true) ⊎ HasPair pairs.now h p }
     ensures remembers { Remembers known.old known.new }
     ensures added { OnOk result ((h : List ℕ) (p : Path) → HasPair pairs.now h p → is_known known.new h p ≡ true) }
-    ensures memory { IfErr result (λ o. o ≡ outcomes.NoMemory) }
-    ensures failed { result ≢ Err outcomes.StoreFailed }
+    ensures memory { IfErr result (λ r. r ≡ replies.NoMemory) }
+    ensures failed { result ≢ Err replies.StoreFailed }
 {
     match known.add_all(alloc, pairs) {
         Ok(()) => Ok(()),
-        Err(NoMemory) => Err(Outcome::NoMemory),
+        Err(NoMemory) => Err(answer!(Reply::NoMemory)),
     }
 }
 
@@ -109,7 +108,7 @@ fn judge<V: Vault + Drop, S: Signer + Drop>(
     line: &mut Line<V, S>,
     known: &mut KnownSet,
     offered: &ObjectId,
-) -> Result<(), Outcome>
+) -> Result<(), Answer>
     requires kind { offered.now.kind ≡ kinds.Catalogue }
     requires known { KnowsWhole V.disk line.old.vault known.old }
     ensures known { KnowsWhole V.disk line.new.vault known.new }
@@ -117,27 +116,14 @@ fn judge<V: Vault + Drop, S: Signer + Drop>(
     ensures learns { WhereTold (V.disk line.old.vault) (λ d. OnOk result (Learns (standing_on d) known.old offered.now.hash known.new)) }
     ensures only { WhereTold (V.disk line.old.vault) (λ d. LearnsWhole (standing_on d) known.old known.new) }
     ensures offers { WhereTold (V.disk line.old.vault) (λ d. Offers (standing_on d) offered.now.hash result) }
-    ensures kind { IfErr result (λ o. is_unmade (reply_of o) ≡ true) }
+    ensures kind { IfErr result (λ r. is_unmade r ≡ true) }
     ensures reads { LineReads V.disk V.count V.left line.old line.new }
     ensures fetches { WhereTold (V.disk line.old.vault) (λ d. FetchesNew (standing_on d) known.old offered.now.hash line.old.taken line.new.taken) }
-    ensures cause { HasCause (V.faults line.old.vault) (V.faults line.new.vault) (result ≡ Err outcomes.StoreFailed) }
+    ensures cause { HasCause (V.faults line.old.vault) (V.faults line.new.vault) (result ≡ Err replies.StoreFailed) }
 {
     match whole(alloc, line, offered, known) {
         Ok(pairs) => learn(alloc, known, pairs.as_slice()),
-        Err(fault) => Err(outcome_at(fault)),
-    }
-}
-
-/// How a fault of the offered tree is answered.
-fn outcome_at(fault: LoadFault) -> Outcome
-    ensures { result ≡ outcome_at fault }
-{
-    match fault {
-        LoadFault::Missing(id) => Outcome::MissingObject(id),
-        LoadFault::Bad(id) => Outcome::BadCatalogue(id),
-        LoadFault::Failed => Outcome::StoreFailed,
-        LoadFault::Damaged { id, found } => Outcome::Damaged { id, found },
-        LoadFault::NoMemory => Outcome::NoMemory,
+        Err(fault) => Err(Answer::of_offered(fault)),
     }
 }
 
@@ -162,8 +148,8 @@ fn graft_offered<V: Vault + Drop, S: Signer + Drop>(
         FetchesOffered (standing_on d) known.old line.old.head.root offered.now.hash path.now line.old.taken line.new.taken) }
     ensures cause { HasCause (V.faults line.old.vault) (V.faults line.new.vault) (result ≡ Err replies.StoreFailed) }
 {
-    if let Err(outcome) = judge(alloc, line, known, offered) {
-        return Err(Answer::of(outcome));
+    if let Err(answer) = judge(alloc, line, known, offered) {
+        return Err(answer);
     }
     let hash = line.head().root;
     let newest = ObjectId {
@@ -248,7 +234,7 @@ pub(crate) fn ready<V: Vault + Drop, S: Signer + Drop>(
     };
     let head = line.head();
     let Ok(next) = next_record(alloc, &head, lease, key, moment, &grafted, offered, tag) else {
-        return Err(Answer::of(Outcome::NoMemory));
+        return Err(answer!(Reply::NoMemory));
     };
     let Grafted {
         root: _,
@@ -257,6 +243,6 @@ pub(crate) fn ready<V: Vault + Drop, S: Signer + Drop>(
     } = grafted;
     match line.prepare(alloc, next, size, added.into_vec()) {
         Ok(head) => Ok(head),
-        Err(fault) => Err(Answer::of(Outcome::of_store(fault))),
+        Err(fault) => Err(Answer::of_store(fault)),
     }
 }

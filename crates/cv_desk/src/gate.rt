@@ -2,6 +2,7 @@
 ghost use Rattle.std.specs.Prelude.{◌≡◌, ◌≤◌, ◌<◌, ◌++◌, ◌∷◌, ◌^◌, [], max, None, Some, IfOk, IsErrOf, IsSome, ◌≢◌, vec_len, vec_capacity};
 ghost use Rattle.cv_base.specs.Counts.{HasCause};
 ghost use Rattle.cv_base.specs.Told.{WhereTold};
+ghost use Rattle.cv_ports.specs.Calls.{raised};
 ghost use Rattle.cv_ports.specs.Shelf.{Fetches, Suits};
 ghost use Rattle.cv_ports.specs.declared.shelf.ShelfFault.TheVariants as shelf_fault;
 ghost use Rattle.cv_objects.specs.Names.{standing_on};
@@ -14,7 +15,6 @@ ghost use Rattle.cv_desk.specs.Begin.{Begins, EndsWaiting};
 ghost use Rattle.cv_desk.specs.declared.begun.Begun.TheVariants as begun;
 ghost use Rattle.cv_desk.specs.Gate.{Steps, GateOpens, IsNew, vault_of, IsFailed};
 
-use crate::answer::Answer;
 use crate::begun::Begun;
 use crate::gate_state::GateState;
 use crate::taken::{Course, Readied, Taken};
@@ -148,12 +148,8 @@ impl<V: Vault + Drop, S: Signer + Drop> Gate<V, S> {
             act,
             token,
         } = waiting;
-        let outcome = self.state.end_ready(token, go);
-        let taken = Taken {
-            key,
-            act,
-            answer: Answer::of(outcome),
-        };
+        let answer = self.state.end_ready(token, go);
+        let taken = Taken { key, act, answer };
         note_taken(&mut self.journal, seat, now, taken)
     }
 
@@ -198,11 +194,12 @@ impl<V: Vault + Drop, S: Signer + Drop> Gate<V, S> {
         self.state.live(self.alloc, now)
     }
 
-    /// An object of the repository, if it is there. It is noted nowhere.
+    /// An object of the repository, if it is there. One is fetched, and it is noted nowhere.
     pub fn object(&mut self, id: &ObjectId) -> Result<Option<Bytes>, ShelfFault>
         ensures told { WhereTold (V.disk self.old.state.line.vault) (λ d. Fetches id.now result (standing_on d)) }
         ensures suits { Suits id.now result }
         ensures looks { OnlyLooks V.disk V.count V.left self.old.state self.new.state }
+        ensures fetches { self.new.state.line.taken ≡ raised self.old.state.line.taken }
         ensures journal { self.new.journal ≡ self.old.journal }
         ensures ready { self.new.ready ≡ self.old.ready }
         ensures cause { HasCause (V.faults self.old.state.line.vault) (V.faults self.new.state.line.vault) (IsErrOf result shelf_fault.Failed) }

@@ -3,6 +3,7 @@ ghost use Rattle.std.specs.Prelude.{◌≡◌, ◌≢◌, ◌≤◌, ◌<◌, �
 ghost use Rattle.cv_base.specs.Counts.{HasCause};
 ghost use Rattle.cv_base.specs.Path.{Path, IsPath};
 ghost use Rattle.cv_base.specs.Told.{WhereTold};
+ghost use Rattle.cv_ports.specs.Calls.{raised};
 ghost use Rattle.cv_ports.specs.Shelf.{Fetches, Suits};
 ghost use Rattle.cv_ports.specs.declared.shelf.ShelfFault.TheVariants as shelf_fault;
 ghost use Rattle.cv_vault.specs.declared.vault.VaultFault.TheVariants as vault_fault;
@@ -10,6 +11,7 @@ ghost use Rattle.cv_objects.specs.Names.{standing_on};
 ghost use Rattle.cv_objects.specs.Batches.{AreNamed};
 ghost use Rattle.cv_gate.specs.declared.act.Act.TheVariants as acts;
 ghost use Rattle.cv_gate.specs.declared.op.Op.TheVariants as ops;
+ghost use Rattle.cv_gate.specs.declared.reply.Reply.TheVariants as replies;
 ghost use Rattle.cv_leases.specs.Leases.{lease_of};
 ghost use Rattle.cv_load.specs.Known.{is_known};
 ghost use Rattle.cv_gate.specs.Lines.{lines_of};
@@ -22,17 +24,15 @@ ghost use Rattle.cv_desk.specs.Resuming.{Resumes, Awaits};
 ghost use Rattle.cv_desk.specs.Ends.{BlamesParent, IsPlaced, FetchesWay};
 ghost use Rattle.cv_vault.specs.Names.{on_way};
 ghost use Rattle.cv_vault.specs.Walks.{Walks, Nothing};
-ghost use Rattle.cv_desk.specs.ActingInner.{aged_view, Settles, Acts, refusal_of, refusal_on, FindsPlace, OnlyLooks, new_lease, Grants, AsksLease, AsksEnd, Sends, AsksStore, IsAnswered, Courses, HasFailed, TakesCourse, newest_token, ended, reply_of};
-ghost use Rattle.cv_desk.specs.declared.outcome.Outcome.TheVariants as outcomes;
+ghost use Rattle.cv_desk.specs.ActingInner.{aged_view, Settles, Acts, refusal_of, refusal_on, FindsPlace, OnlyLooks, new_lease, Grants, AsksLease, AsksEnd, Sends, AsksStore, IsAnswered, Courses, HasFailed, TakesCourse, newest_token, ended};
 
 use crate::ageing::drop_due;
 use crate::answer::Answer;
 use crate::listing::list_leases;
-use crate::outcome::Outcome;
 use crate::sent::Sent;
 use crate::taken::{Course, Readied, Taken, commit_act, decline, store_act};
 use cv_base::{Bytes, Kind, NoMemory, Object, ObjectId, RepoPath, Text, Token};
-use cv_gate::{Act, LeaseLine, Op};
+use cv_gate::{Act, LeaseLine, Op, Reply};
 use cv_graft::directory_at;
 use cv_history::Record;
 use cv_leases::{Lease, LeaseTable};
@@ -134,31 +134,31 @@ impl<V: Vault + Drop, S: Signer + Drop> GateState<V, S> {
     }
 
     /// Why a lease on the path isn't granted now, if it isn't.
-    fn refusal(&self, path: &RepoPath) -> Option<Outcome>
+    fn refusal(&self, path: &RepoPath) -> Option<Answer>
         ensures { result ≡ refusal_of self.now.leases self.now.moment path.now }
     {
         match self.leases.refusal(path) {
-            Some(fault) => Some(Outcome::of_lease(fault, self.moment)),
+            Some(fault) => Some(Answer::of_lease(fault, self.moment)),
             None => None,
         }
     }
 
     /// Whether the path has a place in the newest tree: it is the root, or its parent is a directory.
-    fn has_place(&mut self, alloc: Global, path: &RepoPath) -> Result<bool, Outcome>
+    fn has_place(&mut self, alloc: Global, path: &RepoPath) -> Result<bool, Answer>
         ensures place { FindsPlace V.disk self.old path.now result }
         ensures sees { WhereTold (V.disk self.old.line.vault) (λ d. IfOk result (IsPlaced (standing_on d) self.old.line.head.root path.now)) }
-        ensures unread { IfErr result (λ o. is_unread (reply_of o) ≡ true) }
-        ensures damage { IfErr result (λ o. ShowsDamage V.disk self.old.line.vault (reply_of o)) }
-        ensures blames { IfErr result (λ o. BlamesParent (V.disk self.old.line.vault) self.old.line.head.root path.now (reply_of o)) }
+        ensures unread { IfErr result (λ r. is_unread r ≡ true) }
+        ensures damage { IfErr result (ShowsDamage V.disk self.old.line.vault) }
+        ensures blames { IfErr result (BlamesParent (V.disk self.old.line.vault) self.old.line.head.root path.now) }
         ensures looks { OnlyLooks V.disk V.count V.left self.old self.new }
         ensures fetches { FetchesWay V.disk path.now self.old self.new }
-        ensures cause { HasCause (V.faults self.old.line.vault) (V.faults self.new.line.vault) (result ≡ Err outcomes.StoreFailed) }
+        ensures cause { HasCause (V.faults self.old.line.vault) (V.faults self.new.line.vault) (result ≡ Err replies.StoreFailed) }
     {
         if path.names().is_empty() {
             return Ok(true);
         }
         let Ok(path) = path.copy(alloc) else {
-            return Err(Outcome::NoMemory);
+            return Err(answer!(Reply::NoMemory));
         };
         let parent = path.into_parent();
         let hash = self.line.head().root;
@@ -168,7 +168,7 @@ impl<V: Vault + Drop, S: Signer + Drop> GateState<V, S> {
         };
         match directory_at(alloc, &mut self.line, &root, &parent) {
             Ok(there) => Ok(there),
-            Err(fault) => Err(Outcome::of_load(fault)),
+            Err(fault) => Err(Answer::of_load(fault)),
         }
     }
 
@@ -189,13 +189,13 @@ impl<V: Vault + Drop, S: Signer + Drop> GateState<V, S> {
     }
 
     /// Grants a lease that nothing refuses.
-    fn grant(&mut self, alloc: Global, key: &Text, path: &RepoPath) -> Outcome
+    fn grant(&mut self, alloc: Global, key: &Text, path: &RepoPath) -> Answer
         requires next { self.old.next < 18446744073709551615 }
         requires free { refusal_of self.old.leases self.old.moment path.now ≡ None }
         ensures { Grants key.now path.now self.old result self.new }
     {
         let Ok(lease) = self.new_lease(alloc, key, path) else {
-            return Outcome::NoMemory;
+            return answer!(Reply::NoMemory);
         };
         let token = lease.token;
         match self.leases.grant(lease) {
@@ -203,43 +203,43 @@ impl<V: Vault + Drop, S: Signer + Drop> GateState<V, S> {
                 self.next += 1;
                 let head = self.line.head();
                 let root = head.root;
-                Outcome::Granted {
+                answer!(Reply::Granted {
                     token,
                     revision: head.revision,
                     root,
-                }
+                })
             },
-            Err(NoMemory) => Outcome::NoMemory,
+            Err(NoMemory) => answer!(Reply::NoMemory),
         }
     }
 
     /// Grants a lease on the path, or says why not.
-    fn ask_lease(&mut self, alloc: Global, key: &Text, path: &RepoPath) -> Outcome
+    fn ask_lease(&mut self, alloc: Global, key: &Text, path: &RepoPath) -> Answer
         requires next { self.old.next < 18446744073709551615 }
         ensures asks { AsksLease V.disk V.count V.left key.now path.now self.old result self.new }
-        ensures damage { ShowsDamage V.disk self.old.line.vault (reply_of result) }
-        ensures cause { HasCause (V.faults self.old.line.vault) (V.faults self.new.line.vault) (result ≡ outcomes.StoreFailed) }
+        ensures damage { ShowsDamage V.disk self.old.line.vault result }
+        ensures cause { HasCause (V.faults self.old.line.vault) (V.faults self.new.line.vault) (result ≡ replies.StoreFailed) }
     {
-        if let Some(outcome) = self.refusal(path) {
-            return outcome;
+        if let Some(answer) = self.refusal(path) {
+            return answer;
         }
         match self.has_place(alloc, path) {
             Ok(true) => self.grant(alloc, key, path),
-            Ok(false) => Outcome::NoParent,
-            Err(outcome) => outcome,
+            Ok(false) => answer!(Reply::NoParent),
+            Err(answer) => answer,
         }
     }
 
     /// Grants a lease on the path at a moment, or says why not. The path's parent must be a directory of the newest tree.
-    pub(crate) fn lease(&mut self, alloc: Global, now: u64, key: &Text, path: &RepoPath) -> Outcome
+    pub(crate) fn lease(&mut self, alloc: Global, now: u64, key: &Text, path: &RepoPath) -> Answer
         requires now { now < 2 ^ 62 }
         requires next { self.old.next < 18446744073709551615 }
-        ensures acts { Acts V.disk V.count V.left S.is_seal (ops.Lease key.now path.now) now (acts.Lease path.now) (reply_of result) self.old self.new }
-        ensures answered { IsAnswered V.disk V.count V.left S.is_seal (ops.Lease key.now path.now) now (acts.Lease path.now) (reply_of result) self.old self.new }
+        ensures acts { Acts V.disk V.count V.left S.is_seal (ops.Lease key.now path.now) now (acts.Lease path.now) result self.old self.new }
+        ensures answered { IsAnswered V.disk V.count V.left S.is_seal (ops.Lease key.now path.now) now (acts.Lease path.now) result self.old self.new }
         ensures same { IsSameRepository self.old.line self.new.line }
         ensures next { self.new.next ≤ self.old.next + 1 }
         ensures path { IsPath path.now }
-        ensures cause { HasCause (V.faults self.old.line.vault) (V.faults self.new.line.vault) (result ≡ outcomes.StoreFailed) }
+        ensures cause { HasCause (V.faults self.old.line.vault) (V.faults self.new.line.vault) (result ≡ replies.StoreFailed) }
     {
         let _names = path.names();
         self.age(now);
@@ -247,39 +247,39 @@ impl<V: Vault + Drop, S: Signer + Drop> GateState<V, S> {
     }
 
     /// Why nothing is done on the lease with the token for the key, if it isn't.
-    pub(crate) fn refusal_on(&self, key: &Text, token: Token) -> Option<Outcome>
+    pub(crate) fn refusal_on(&self, key: &Text, token: Token) -> Option<Answer>
         ensures answer { result ≡ refusal_on (lease_of token self.now.leases) key.now }
-        ensures failed { result ≢ Some outcomes.StoreFailed }
+        ensures failed { result ≢ Some replies.StoreFailed }
     {
         match self.leases.find(token) {
-            None => Some(Outcome::InvalidToken),
+            None => Some(answer!(Reply::InvalidToken)),
             Some(lease) => if lease.key.as_str() == key.as_str() {
                 None
             } else {
-                Some(Outcome::WrongKey)
+                Some(answer!(Reply::WrongKey))
             },
         }
     }
 
     /// Ends the lease with the token, if it is the key's.
-    fn ask_end(&mut self, key: &Text, token: Token) -> Outcome
+    fn ask_end(&mut self, key: &Text, token: Token) -> Answer
         ensures asks { AsksEnd key.now token self.old result self.new }
-        ensures failed { result ≢ outcomes.StoreFailed }
+        ensures failed { result ≢ replies.StoreFailed }
     {
-        if let Some(outcome) = self.refusal_on(key, token) {
-            return outcome;
+        if let Some(answer) = self.refusal_on(key, token) {
+            return answer;
         }
         self.leases.end(token);
-        Outcome::Cancelled
+        answer!(Reply::Cancelled)
     }
 
     /// Ends the lease with the token at a moment, if it is the key's. Nothing is done to the vault.
-    pub(crate) fn cancel(&mut self, now: u64, key: &Text, token: Token) -> Outcome
+    pub(crate) fn cancel(&mut self, now: u64, key: &Text, token: Token) -> Answer
         requires now { now < 2 ^ 62 }
         requires next { self.old.next < 18446744073709551615 }
-        ensures acts { Acts V.disk V.count V.left S.is_seal (ops.Cancel key.now token) now (acts.Cancel token) (reply_of result) self.old self.new }
-        ensures answered { IsAnswered V.disk V.count V.left S.is_seal (ops.Cancel key.now token) now (acts.Cancel token) (reply_of result) self.old self.new }
-        ensures failed { result ≢ outcomes.StoreFailed }
+        ensures acts { Acts V.disk V.count V.left S.is_seal (ops.Cancel key.now token) now (acts.Cancel token) result self.old self.new }
+        ensures answered { IsAnswered V.disk V.count V.left S.is_seal (ops.Cancel key.now token) now (acts.Cancel token) result self.old self.new }
+        ensures failed { result ≢ replies.StoreFailed }
         ensures same { self.new.line ≡ self.old.line }
         ensures next { self.new.next ≡ self.old.next }
     {
@@ -290,13 +290,13 @@ impl<V: Vault + Drop, S: Signer + Drop> GateState<V, S> {
     /// Stores the objects that the repository lacks.
     fn send(&mut self, alloc: Global, batch: &[Object]) -> Sent
         requires named { AreNamed batch.now }
-        ensures sends { Sends V.disk V.count V.left batch.now self.old result.outcome result.fresh self.new }
-        ensures kind { is_sending (reply_of result.outcome) ≡ true }
-        ensures cause { HasCause (V.faults self.old.line.vault) (V.faults self.new.line.vault) (result.outcome ≡ outcomes.StoreFailed) }
+        ensures sends { Sends V.disk V.count V.left batch.now self.old result.answer result.fresh self.new }
+        ensures kind { is_sending result.answer ≡ true }
+        ensures cause { HasCause (V.faults self.old.line.vault) (V.faults self.new.line.vault) (result.answer ≡ replies.StoreFailed) }
     {
         let fresh = match self.line.fresh(alloc, batch) {
             Ok(fresh) => fresh,
-            Err(fault) => return Sent::none(alloc, Outcome::of_store(fault)),
+            Err(fault) => return Sent::none(alloc, Answer::of_store(fault)),
         };
         let stored = self.line.store(alloc, batch);
         Sent::by(alloc, fresh, stored)
@@ -305,12 +305,12 @@ impl<V: Vault + Drop, S: Signer + Drop> GateState<V, S> {
     /// Stores the objects that the repository lacks, under the lease with the token, if it is the key's.
     fn ask_store(&mut self, alloc: Global, key: &Text, token: Token, batch: &[Object]) -> Sent
         requires named { AreNamed batch.now }
-        ensures asks { AsksStore V.disk V.count V.left key.now token batch.now self.old result.outcome result.fresh self.new }
-        ensures kind { refusal_on (lease_of token self.old.leases) key.now ≡ None → is_sending (reply_of result.outcome) ≡ true }
-        ensures cause { HasCause (V.faults self.old.line.vault) (V.faults self.new.line.vault) (result.outcome ≡ outcomes.StoreFailed) }
+        ensures asks { AsksStore V.disk V.count V.left key.now token batch.now self.old result.answer result.fresh self.new }
+        ensures kind { refusal_on (lease_of token self.old.leases) key.now ≡ None → is_sending result.answer ≡ true }
+        ensures cause { HasCause (V.faults self.old.line.vault) (V.faults self.new.line.vault) (result.answer ≡ replies.StoreFailed) }
     {
-        if let Some(outcome) = self.refusal_on(key, token) {
-            return Sent::none(alloc, outcome);
+        if let Some(answer) = self.refusal_on(key, token) {
+            return Sent::none(alloc, answer);
         }
         self.send(alloc, batch)
     }
@@ -328,11 +328,11 @@ impl<V: Vault + Drop, S: Signer + Drop> GateState<V, S> {
         requires now { now < 2 ^ 62 }
         requires next { self.old.next < 18446744073709551615 }
         requires named { AreNamed batch.now }
-        ensures acts { (digest : _) → Acts V.disk V.count V.left S.is_seal (ops.Store key.now token digest batch.now) now (acts.Store token digest result.fresh) (reply_of result.outcome) self.old self.new }
-        ensures answered { (digest : _) → IsAnswered V.disk V.count V.left S.is_seal (ops.Store key.now token digest batch.now) now (acts.Store token digest result.fresh) (reply_of result.outcome) self.old self.new }
+        ensures acts { (digest : _) → Acts V.disk V.count V.left S.is_seal (ops.Store key.now token digest batch.now) now (acts.Store token digest result.fresh) result.answer self.old self.new }
+        ensures answered { (digest : _) → IsAnswered V.disk V.count V.left S.is_seal (ops.Store key.now token digest batch.now) now (acts.Store token digest result.fresh) result.answer self.old self.new }
         ensures same { IsSameRepository self.old.line self.new.line }
         ensures next { self.new.next ≡ self.old.next }
-        ensures cause { HasCause (V.faults self.old.line.vault) (V.faults self.new.line.vault) (result.outcome ≡ outcomes.StoreFailed) }
+        ensures cause { HasCause (V.faults self.old.line.vault) (V.faults self.new.line.vault) (result.answer ≡ replies.StoreFailed) }
     {
         self.age(now);
         self.ask_store(alloc, key, token, batch)
@@ -354,6 +354,7 @@ impl<V: Vault + Drop, S: Signer + Drop> GateState<V, S> {
         ensures told { WhereTold (V.disk self.old.line.vault) (λ d. Fetches id.now result (standing_on d)) }
         ensures suits { Suits id.now result }
         ensures looks { OnlyLooks V.disk V.count V.left self.old self.new }
+        ensures fetches { self.new.line.taken ≡ raised self.old.line.taken }
         ensures cause { HasCause (V.faults self.old.line.vault) (V.faults self.new.line.vault) (IsErrOf result shelf_fault.Failed) }
     {
         self.line.fetch(alloc, id)
@@ -402,11 +403,11 @@ impl<V: Vault + Drop, S: Signer + Drop> GateState<V, S> {
     {
         match op {
             Op::Lease { key, path } => {
-                let outcome = self.lease(alloc, now, &key, &path);
+                let answer = self.lease(alloc, now, &key, &path);
                 Course::Done(Taken {
                     key,
                     act: Act::Lease(path),
-                    answer: Answer::of(outcome),
+                    answer,
                 })
             },
             Op::Store {
@@ -419,7 +420,7 @@ impl<V: Vault + Drop, S: Signer + Drop> GateState<V, S> {
                 Course::Done(Taken {
                     key,
                     act: store_act(token, digest, sent.fresh),
-                    answer: Answer::of(sent.outcome),
+                    answer: sent.answer,
                 })
             },
             Op::Commit {
@@ -430,11 +431,11 @@ impl<V: Vault + Drop, S: Signer + Drop> GateState<V, S> {
                 tag,
             } => self.begin_op(alloc, now, key, token, old_root, new_root, tag),
             Op::Cancel { key, token } => {
-                let outcome = self.cancel(now, &key, token);
+                let answer = self.cancel(now, &key, token);
                 Course::Done(Taken {
                     key,
                     act: Act::Cancel(token),
-                    answer: Answer::of(outcome),
+                    answer,
                 })
             },
         }
@@ -451,7 +452,7 @@ impl<V: Vault + Drop, S: Signer + Drop> GateState<V, S> {
     {
         match self.settle() {
             Ok(()) => self.do_op(alloc, now, op),
-            Err(fault) => Course::Done(decline(alloc, op, Answer::of(Outcome::of_vault(fault)))),
+            Err(fault) => Course::Done(decline(alloc, op, Answer::of_vault(fault))),
         }
     }
 }

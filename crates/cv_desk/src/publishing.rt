@@ -7,16 +7,16 @@ ghost use Rattle.cv_gate.specs.declared.reply.Reply.TheVariants as replies;
 ghost use Rattle.cv_leases.specs.Leases.{lease_of};
 ghost use Rattle.cv_swap.specs.declared.stage.Stage.TheVariants as stage;
 ghost use Rattle.cv_desk.specs.Gate.{IsSameRepository};
-ghost use Rattle.cv_desk.specs.ActingInner.{ComesToCommit, reply_of};
+ghost use Rattle.cv_desk.specs.ActingInner.{ComesToCommit};
 ghost use Rattle.cv_desk.specs.Begin.{EndsBy};
-ghost use Rattle.cv_desk.specs.Committing.{Finishes, CommitsUnder, AsksCommit};
-ghost use Rattle.cv_desk.specs.declared.outcome.Outcome.TheVariants as outcomes;
+ghost use Rattle.cv_desk.specs.Committing.{Finishes};
+ghost use Rattle.cv_desk.specs.CommittingInner.{CommitsUnder, AsksCommit};
 
 use crate::answer::Answer;
 use crate::committing::{opposition, ready};
 use crate::gate_state::GateState;
-use crate::outcome::Outcome;
 use cv_base::{Text, Token};
+use cv_gate::Reply;
 use cv_manifest::Head;
 use cv_seal::Signer;
 use cv_vault::Vault;
@@ -24,39 +24,39 @@ use std::alloc::Global;
 
 impl<V: Vault + Drop, S: Signer + Drop> GateState<V, S> {
     /// Publishes the revision that is ready, and ends the lease with the token. After `StoreFailed` it is in doubt.
-    fn finish(&mut self, token: Token) -> Outcome
+    fn finish(&mut self, token: Token) -> Answer
         requires ready { self.old.line.stage ≡ stage.Ready }
-        ensures finishes { Finishes V.disk V.count V.left token self.old (reply_of result) self.new }
+        ensures finishes { Finishes V.disk V.count V.left token self.old result self.new }
         ensures same { IsSameRepository self.old.line self.new.line }
         ensures next { self.new.next ≡ self.old.next }
-        ensures cause { HasCause (V.faults self.old.line.vault) (V.faults self.new.line.vault) (result ≡ outcomes.StoreFailed) }
+        ensures cause { HasCause (V.faults self.old.line.vault) (V.faults self.new.line.vault) (result ≡ replies.StoreFailed) }
     {
         match self.line.swap() {
             Ok(()) => {
                 self.leases.end(token);
                 let head = self.line.head();
                 let root = head.root;
-                Outcome::Committed {
+                answer!(Reply::Committed {
                     revision: head.revision,
                     root,
-                }
+                })
             },
-            Err(fault) => Outcome::of_vault(fault),
+            Err(fault) => Answer::of_vault(fault),
         }
     }
 
     /// Ends the commit that is ready under the lease with the token: publishes its revision, or gives it up, with nothing done.
-    pub(crate) fn end_ready(&mut self, token: Token, go: bool) -> Outcome
+    pub(crate) fn end_ready(&mut self, token: Token, go: bool) -> Answer
         requires ready { self.old.line.stage ≡ stage.Ready }
-        ensures ends { EndsBy V.disk V.count V.left go token self.old (reply_of result) self.new }
+        ensures ends { EndsBy V.disk V.count V.left go token self.old result self.new }
         ensures same { IsSameRepository self.old.line self.new.line }
         ensures next { self.new.next ≡ self.old.next }
-        ensures cause { HasCause (V.faults self.old.line.vault) (V.faults self.new.line.vault) (result ≡ outcomes.StoreFailed) }
+        ensures cause { HasCause (V.faults self.old.line.vault) (V.faults self.new.line.vault) (result ≡ replies.StoreFailed) }
     {
         if go {
             self.finish(token)
         } else {
-            Outcome::NoMemory
+            answer!(Reply::NoMemory)
         }
     }
 
@@ -80,10 +80,10 @@ impl<V: Vault + Drop, S: Signer + Drop> GateState<V, S> {
         ensures cause { HasCause (V.faults self.old.line.vault) (V.faults self.new.line.vault) (result ≡ Err replies.StoreFailed) }
     {
         let Some(lease) = self.leases.find(token) else {
-            return Err(Answer::of(Outcome::InvalidToken));
+            return Err(answer!(Reply::InvalidToken));
         };
-        if let Some(outcome) = opposition(&self.line, lease.from_revision, old_root, tag) {
-            return Err(Answer::of(outcome));
+        if let Some(answer) = opposition(&self.line, lease.from_revision, old_root, tag) {
+            return Err(answer);
         }
         let moment = self.moment;
         ready(
@@ -116,8 +116,8 @@ impl<V: Vault + Drop, S: Signer + Drop> GateState<V, S> {
         ensures next { self.new.next ≡ self.old.next }
         ensures cause { HasCause (V.faults self.old.line.vault) (V.faults self.new.line.vault) (result ≡ Err replies.StoreFailed) }
     {
-        if let Some(outcome) = self.refusal_on(key, token) {
-            return Err(Answer::of(outcome));
+        if let Some(answer) = self.refusal_on(key, token) {
+            return Err(answer);
         }
         self.commit_under(alloc, key, token, old_root, offered, tag)
     }

@@ -3,8 +3,9 @@ ghost use Rattle.std.specs.Prelude.{◌≡◌, []};
 ghost use Rattle.cv_desk.specs.SendingInner.{is_refusal};
 ghost use Rattle.cv_desk.specs.SentInner.{sent_by};
 
-use crate::outcome::Outcome;
+use crate::answer::Answer;
 use cv_base::{Items, ObjectId};
+use cv_gate::Reply;
 use cv_objects::StoreFault;
 use std::alloc::Global;
 
@@ -12,17 +13,17 @@ use std::alloc::Global;
 /// before they were known.
 #[derive(Drop)]
 pub(crate) struct Sent {
-    pub(crate) outcome: Outcome,
+    pub(crate) answer: Answer,
     pub(crate) fresh: Items<ObjectId>,
 }
 
 impl Sent {
     /// No object came.
-    pub(crate) fn none(alloc: Global, outcome: Outcome) -> Sent
-        ensures { result ≡ record { outcome = outcome; fresh = [] } }
+    pub(crate) fn none(alloc: Global, answer: Answer) -> Sent
+        ensures { result ≡ record { answer = answer; fresh = [] } }
     {
         Sent {
-            outcome,
+            answer,
             fresh: Items::new(Vec::new(alloc)),
         }
     }
@@ -31,17 +32,16 @@ impl Sent {
     pub(crate) fn by(alloc: Global, fresh: Vec<ObjectId>, stored: Result<(), StoreFault>) -> Sent
         ensures { result ≡ sent_by fresh.items stored }
     {
-        let (outcome, came) = match stored {
-            Ok(()) => (Outcome::Stored, true),
-            Err(fault) => (Outcome::of_store(fault), !is_refusal(fault)),
-        };
-        if came {
-            Sent {
-                outcome,
+        match stored {
+            Ok(()) => Sent {
+                answer: answer!(Reply::Stored),
                 fresh: Items::new(fresh),
-            }
-        } else {
-            Sent::none(alloc, outcome)
+            },
+            Err(fault) if is_refusal(fault) => Sent::none(alloc, Answer::of_store(fault)),
+            Err(fault) => Sent {
+                answer: Answer::of_store(fault),
+                fresh: Items::new(fresh),
+            },
         }
     }
 }

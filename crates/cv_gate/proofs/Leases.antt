@@ -7,7 +7,8 @@ use Rattle.std.proofs.lemmas.Bool.{eqb-true}
 use Rattle.cv_base.specs.declared.id.ObjectId.{ObjectId}
 use Rattle.cv_ports.specs.Shelf.{Shelf}
 use Rattle.cv_base.specs.Marker.{marker, ends_in}
-use Rattle.cv_leases.specs.Leases.{lease_limit, lease_of, busy, IsTable}
+use Rattle.cv_leases.specs.declared.limits.TheConstants.{LEASE_LIMIT}
+use Rattle.cv_leases.specs.Leases.{lease_of, busy, IsTable}
 use Rattle.cv_leases.specs.declared.lease.Lease.{Lease}
 use Rattle.cv_leases.proofs.Laws.{all_filter, all_push, table_filter, table_push}
 use Rattle.cv_base.specs.Path.{Path}
@@ -75,7 +76,7 @@ pub unchanged : (st : State) (doubt : Option Revision) (shelf : Shelf) (loose : 
 unchanged st doubt shelf loose h = same st _ (record { epoch = refl; next = omega arith; moment = omega arith }) refl h
 
 -- a lease that overlaps none is granted
-pub granted_apart : (st : State) (key : List ℕ) (p : Path) (head : Revision) → AreLeases st → ends_in marker p ≡ false → busy st.leases p ≡ None → length st.leases < lease_limit
+pub granted_apart : (st : State) (key : List ℕ) (p : Path) (head : Revision) → AreLeases st → ends_in marker p ≡ false → busy st.leases p ≡ None → length st.leases < LEASE_LIMIT
     → AreLeases (record st { leases = st.leases ++ granted st key p head ∷ []; next = st.next + 1 })
 granted_apart st key p head h unmarked free few =
     let lease : Lease = granted st key p head in

@@ -8,7 +8,8 @@ use Rattle.cv_tree.specs.Tree.{Nodes}
 use Rattle.cv_tree.specs.Changes.{has_place}
 use Rattle.cv_cut.specs.Catalogues.{Fits}
 use Rattle.cv_cut.specs.Means.{Means}
-use Rattle.cv_leases.specs.Leases.{lease_limit, busy, lease_of}
+use Rattle.cv_leases.specs.declared.limits.TheConstants.{LEASE_LIMIT}
+use Rattle.cv_leases.specs.Leases.{busy, lease_of}
 use Rattle.cv_leases.specs.declared.lease.Lease.{Lease}
 use Rattle.cv_objects.specs.Coming.{ClashesOn}
 use Rattle.cv_swap.specs.Kept.{Revision, newest, revision_limit}
@@ -38,7 +39,7 @@ granted st key p head = record {
 pub record IsFree (st : State) (p : Path) (head : Revision) : Type 0 where
   pub unmarked : ends_in marker p ≡ false
   pub clear : busy st.leases p ≡ None
-  pub few : length st.leases < lease_limit
+  pub few : length st.leases < LEASE_LIMIT
   pub is_newest : newest st.history ≡ Some head
   pub place : has_place head.tree p ≡ true
 

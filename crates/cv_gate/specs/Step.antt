@@ -16,7 +16,8 @@ use Rattle.cv_tree.specs.Changes.{has_place}
 use Rattle.cv_cut.specs.Catalogues.{SharesKey, IsFull}
 use Rattle.cv_cut.specs.Means.{Means}
 use Rattle.cv_cut.specs.Reached.{Lacking, Bad}
-use Rattle.cv_leases.specs.Leases.{lease_limit, busy, lease_of, without}
+use Rattle.cv_leases.specs.declared.limits.TheConstants.{LEASE_LIMIT}
+use Rattle.cv_leases.specs.Leases.{busy, lease_of, without}
 use Rattle.cv_leases.specs.declared.lease.Lease.{Lease}
 use Rattle.cv_objects.specs.Fresh.{fresh_of}
 use Rattle.cv_objects.specs.Coming.{ClashesOn}
@@ -69,7 +70,7 @@ abbrev pub LeaseStep : State → List ℕ → Path → Reply → State → Type 
 LeaseStep st key p r st' =
     RefusesIf st r st' (ends_in marker p ≡ true) reply.BadPath (
     Refuses st r st' (λ (lease : Lease). busy st.leases p ≡ Some lease) (λ lease. reply.PathBusy lease.token (lease.deadline - st.moment)) (
-    RefusesIf st r st' (lease_limit ≤ length st.leases) reply.TooManyLeases (
+    RefusesIf st r st' (LEASE_LIMIT ≤ length st.leases) reply.TooManyLeases (
     MayFail st r st' (
     (head : Revision) × (newest st.history ≡ Some head) × (
     RefusesIf st r st' (has_place head.tree p ≡ false) reply.NoParent (

@@ -2,7 +2,6 @@ use Rattle.std.proofs.Common.{◌≡◌, true, ap, subst, ◌∙◌, Ok, Err}
 use Rattle.cv_graft.specs.declared.grafted.Grafted.{Grafted}
 use Rattle.cv_manifest.specs.declared.head.Head.{Head}
 use Rattle.cv_objects.specs.Names.{standing_on}
-use Rattle.cv_desk.specs.ActingInner.{reply_of}
 use Rattle.cv_desk.specs.Committing.{meaningless}
 use Rattle.cv_desk.specs.CommittingInner.{Offers}
 use Rattle.cv_desk.specs.Refusals.{is_unmade}
@@ -20,7 +19,7 @@ returns-in-Err-graft-clause-known g c = known_read g.V.Vault.disk g.V.Vault.coun
 pub returns-in-Err-clause-grafts : goal.returns-in-Err-clause-grafts
 returns-in-Err-clause-grafts g c = λ d told.
     let o = subst (Offers (standing_on d) c.args.offered.now.hash) c.in-Err.is (c.judge.ensures.offers d told) in
-    meaningless o.0 o.1 (c.of.ensures ∙ ap reply_of o.2)
+    meaningless o.0 o.1 o.2
 
 pub returns-in-Ok-clause-grafts : goal.returns-in-Ok-clause-grafts
 returns-in-Ok-clause-grafts g c = λ d told. record {
@@ -39,7 +38,7 @@ returns-in-Err-graft-clause-grafts g c = λ d told.
     c.args.offered.now.hash c.args.path.now c.graft.result (Err c.in-Err-graft.fault) c.in-Err-graft.is c.graft.ensures.damaged d told)
 
 pub returns-in-Err-clause-knows : goal.returns-in-Err-clause-knows
-returns-in-Err-clause-knows g c = knows_unjudged g.V.Vault.disk c.args.line.now.vault c.args.known.now c.args.offered.now.hash c.judge.new.known {X = Grafted} c.judge.ensures.remembers c.judge.ensures.only c.in-Err.outcome c.of.result c.of.ensures
+returns-in-Err-clause-knows g c = knows_unjudged g.V.Vault.disk c.args.line.now.vault c.args.known.now c.args.offered.now.hash c.judge.new.known {X = Grafted} c.judge.ensures.remembers c.judge.ensures.only c.in-Err.answer
     (λ d told. subst (Offers (standing_on d) c.args.offered.now.hash) c.in-Err.is (c.judge.ensures.offers d told))
 
 pub returns-in-Ok-clause-knows : goal.returns-in-Ok-clause-knows
@@ -50,7 +49,7 @@ returns-in-Err-graft-clause-knows g c = knows_judged g.V.Vault.disk c.args.line.
     (λ d told. on_ok c.judge.result _ c.in_default.is (c.judge.ensures.learns d told)) c.judge.ensures.only
 
 pub returns-in-Err-clause-kind : goal.returns-in-Err-clause-kind
-returns-in-Err-clause-kind g c = ap is_unmade c.of.ensures ∙ if_err (λ o. is_unmade (reply_of o) ≡ true) c.judge.result c.in-Err.outcome c.in-Err.is c.judge.ensures.kind
+returns-in-Err-clause-kind g c = if_err (λ r. is_unmade r ≡ true) c.judge.result c.in-Err.answer c.in-Err.is c.judge.ensures.kind
 
 pub returns-in-Err-graft-clause-kind : goal.returns-in-Err-graft-clause-kind
 returns-in-Err-graft-clause-kind g c = unmade_told c.in-Err-graft.fault c.of_graft.result c.of_graft.ensures

@@ -5,7 +5,7 @@ use Rattle.cv_base.specs.declared.id.ObjectId.{ObjectId}
 use Rattle.cv_objects.specs.Names.{standing_on}
 use Rattle.cv_load.specs.Known.{AreWhole}
 use Rattle.cv_load.specs.NewFetches.{HasNew}
-use Rattle.cv_desk.specs.Refusals.{reply_of, is_unmade}
+use Rattle.cv_desk.specs.Refusals.{is_unmade}
 use Rattle.cv_desk.proofs.CommitCalls.{at_ok, if_ok}
 use Rattle.cv_desk.proofs.CommitExact.{unmade_at}
 use Rattle.cv_desk.proofs.Knowing.{known_read, known_judged, learned, learned_whole, offers_learnt, unmade_learnt}
@@ -40,7 +40,7 @@ pub returns-in-Ok-clause-kind : goal.returns-in-Ok-clause-kind
 returns-in-Ok-clause-kind g c = unmade_learnt c.learn.result c.learn.ensures.memory
 
 pub returns-in-Err-clause-kind : goal.returns-in-Err-clause-kind
-returns-in-Err-clause-kind g c = ap (λ o. is_unmade (reply_of o)) c.outcome_at.ensures ∙ unmade_at c.in-Err.fault
+returns-in-Err-clause-kind g c = ap is_unmade c.of_offered.ensures ∙ unmade_at c.in-Err.fault
 
 pub returns-in-Ok-clause-fetches : goal.returns-in-Ok-clause-fetches
 returns-in-Ok-clause-fetches g c = λ d told. c.whole.ensures.fetches (standing_on d) (ap (option_map standing_on) told)

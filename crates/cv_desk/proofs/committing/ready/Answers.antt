@@ -8,7 +8,7 @@ use Rattle.cv_swap.specs.Line.{LineView}
 use Rattle.cv_swap.specs.Publishing.{Prepared}
 use Rattle.cv_gate.specs.declared.reply.Reply.{Reply}
 use Rattle.cv_desk.specs.Known.{KnowsOn}
-use Rattle.cv_desk.specs.Refusals.{reply_of, is_unmade}
+use Rattle.cv_desk.specs.Refusals.{is_unmade}
 use Rattle.cv_desk.specs.Committing.{unmade, outside}
 use Rattle.cv_desk.specs.CommittingInner.{GraftsOffered}
 use Rattle.cv_desk.proofs.CommitCalls.{if_ok, if_err, on_err, readied, refused}
@@ -55,4 +55,4 @@ returns-in-Err-prepare-clause-readies g c = refused g.V.Vault.disk g.V.Vault.cou
     (if_ok _ c.next_record.result c.in-Ok-next_record.next c.in-Ok-next_record.is c.next_record.ensures) (search rules) c.graft_offered.ensures.fetches
     (λ d told. subst (GraftsOffered (standing_on d) c.args.line.now.head.root c.args.offered c.args.lease.now.path) c.in-Ok.is (c.graft_offered.ensures.grafts d told))
     c.prepare.result c.in-Err-prepare.fault c.in-Err-prepare.is (on_err c.prepare.result c.in-Err-prepare.fault c.in-Err-prepare.is c.prepare.ensures.dropped)
-    (if_ok _ c.graft_offered.result c.in-Ok.grafted c.in-Ok.is c.graft_offered.ensures.own) c.prepare.ensures.walks c.of-in-Err-prepare.result (c.of-in-Err-prepare.ensures ∙ ap reply_of c.of_store.ensures)
+    (if_ok _ c.graft_offered.result c.in-Ok.grafted c.in-Ok.is c.graft_offered.ensures.own) c.prepare.ensures.walks c.of_store.result c.of_store.ensures

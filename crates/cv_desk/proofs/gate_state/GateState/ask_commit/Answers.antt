@@ -1,13 +1,12 @@
-use Rattle.std.proofs.Common.{◌≡◌, None, sym, ap, refl, ◌∙◌}
-use Rattle.std.specs.declared.result.Result.TheVariants.{Err}
+use Rattle.std.proofs.Common.{◌≡◌, None, sym, refl, ◌∙◌}
 use Rattle.cv_leases.specs.Leases.{lease_of}
 use Rattle.cv_desk.specs.ActingInner.{refusal_on}
-use Rattle.cv_desk.specs.Committing.{not_own, own}
+use Rattle.cv_desk.specs.CommittingInner.{not_own, own}
 use Rattle.cv_desk.proofs.Asking.{own_lease}
 use Rattle.cv_desk.proofs.gate_state.GateState.ask_commit.Goals as goal
 
 pub returns-in-Some-clause-asks : goal.returns-in-Some-clause-asks
-returns-in-Some-clause-asks g c = not_own c.in-Some.outcome (sym c.refusal_on.ensures.answer ∙ c.in-Some.is) (ap Err c.of.ensures) refl
+returns-in-Some-clause-asks g c = not_own c.in-Some.answer (sym c.refusal_on.ensures.answer ∙ c.in-Some.is) refl refl
 
 pub returns-clause-asks : goal.returns-clause-asks
 returns-clause-asks g c =

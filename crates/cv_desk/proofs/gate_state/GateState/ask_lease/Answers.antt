@@ -11,4 +11,4 @@ returns-in-Ok-true-clause-asks g c =
 pub returns-in-Ok-false-clause-asks : goal.returns-in-Ok-false-clause-asks
 returns-in-Ok-false-clause-asks g c =
     let is : c.has_place.result ≡ Ok false = search rules in
-    placeless (search rules) c.has_place.ensures.looks c.has_place.ensures.fetches (subst (FindsPlace g.V.Vault.disk c.args.self.now c.args.path.now) is c.has_place.ensures.place) (sees g.V.Vault.disk c.args.self.now c.args.path.now c.has_place.result false is c.has_place.ensures.sees) refl
+    placeless (search rules) c.has_place.ensures.looks c.has_place.ensures.fetches (subst (FindsPlace g.V.Vault.disk c.args.self.now c.args.path.now) is c.has_place.ensures.place) (sees g.V.Vault.disk c.args.self.now c.args.path.now c.has_place.result false is c.has_place.ensures.sees) c.of.ensures

@@ -8,7 +8,7 @@ use Rattle.cv_desk.proofs.gate_state.GateState.commit_under.Goals as goal
 pub returns-in-Some-opposition-clause-under : goal.returns-in-Some-opposition-clause-under
 returns-in-Some-opposition-clause-under g c = opposes g.V.Vault.disk g.V.Vault.count g.V.Vault.left g.S.Signer.is_seal c.args.self.now c.self.inside.line c.self.inside.leases c.self.inside.moment c.self.inside.next c.self.inside.known c.self.view_is c.args.token c.in-Some.lease.now
     (sym c.find.ensures ∙ ap option_copied c.in-Some.is) c.args.key.now c.args.old_root.now c.args.offered c.args.tag.now
-    c.in-Some-opposition.outcome c.of-in-Some-opposition.result c.of-in-Some-opposition.ensures (sym c.opposition.ensures ∙ c.in-Some-opposition.is)
+    c.in-Some-opposition.answer (sym c.opposition.ensures ∙ c.in-Some-opposition.is)
 
 pub ready-requires-clause-unmarked : goal.ready-requires-clause-unmarked
 ready-requires-clause-unmarked g c = found_unmarked c.self.inside.leases c.args.token c.in-Some.lease.now c.self.invariant.0.leases.table (sym c.find.ensures ∙ ap option_copied c.in-Some.is)

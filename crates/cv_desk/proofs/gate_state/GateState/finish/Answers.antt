@@ -23,7 +23,7 @@ invariant_of-self-in-Err g c = (
 
 pub returns-in-Ok-clause-finishes : goal.returns-in-Ok-clause-finishes
 returns-in-Ok-clause-finishes g c = ends_well g.V.Vault.disk g.V.Vault.count g.V.Vault.left g.S.Signer.is_seal c.args.self.now c.self.inside.line c.self.inside.leases c.self.inside.moment c.self.inside.next c.self.inside.known c.self.view_is
-    c.args.token c.swap.new.self c.swap.result c.in-Ok.field-0 c.in-Ok.is c.swap.ensures.ok c.end.new.self c.end.ensures.leases c.swap.ensures.walks c.head-head.result c.head-head.ensures.newest
+    c.args.token c.swap.new.self c.swap.result c.in-Ok.field-0 c.in-Ok.is c.swap.ensures.ok c.end.new.self c.end.ensures.leases c.swap.ensures.walks c.head-head.result c.head-head.ensures.newest c.of.result c.of.ensures
 
 pub returns-in-Err-clause-finishes : goal.returns-in-Err-clause-finishes
 returns-in-Err-clause-finishes g c = ends_badly g.V.Vault.disk g.V.Vault.count g.V.Vault.left g.S.Signer.is_seal c.args.self.now c.self.inside.line c.self.inside.leases c.self.inside.moment c.self.inside.next c.self.inside.known c.self.view_is

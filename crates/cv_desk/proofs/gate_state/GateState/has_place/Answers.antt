@@ -8,7 +8,7 @@ use Rattle.cv_graft.specs.Way.{Tells}
 use Rattle.cv_objects.specs.Names.{standing_on}
 use Rattle.cv_swap.specs.Line.{LineView}
 use Rattle.cv_desk.specs.Ends.{BlamesParent}
-use Rattle.cv_desk.specs.Refusals.{reply_of, is_unread}
+use Rattle.cv_desk.specs.Refusals.{is_unread}
 use Rattle.cv_desk.proofs.Exact.{unread_from}
 use Rattle.cv_desk.proofs.Reading.{blames_parent, place_found, placed_root, placed_below, fetched_none, fetched_way}
 use Rattle.cv_desk.proofs.Knowing.{known_read}
@@ -32,14 +32,14 @@ returns-in-Ok-directory_at-clause-place g c =
     (subst (λ r. WhereTold (option_map standing_on (g.V.Vault.disk c.self.inside.line.vault)) (λ standing. (t : Nodes) → HasWay standing c.head.result.root t c.into_parent-parent.result → Tells t c.into_parent-parent.result r)) c.in-Ok-directory_at.is c.directory_at.ensures.told))
 
 pub returns-clause-unread : goal.returns-clause-unread
-returns-clause-unread g c = ap (λ o. is_unread (reply_of o)) c.of_load.ensures ∙ unread_from c.in-Err.fault
+returns-clause-unread g c = ap is_unread c.of_load.ensures ∙ unread_from c.in-Err.fault
 
 pub returns-clause-blames : goal.returns-clause-blames
 returns-clause-blames g c =
     let above : c.into_parent-parent.result ≡ parent c.args.path.now = search rules in
     let root : c.head.result.root ≡ c.args.self.now.line.head.root = search rules in
     let vaults : c.self.inside.line.vault ≡ c.args.self.now.line.vault = search rules in
-    subst (λ o. BlamesParent (g.V.Vault.disk c.args.self.now.line.vault) c.args.self.now.line.head.root c.args.path.now (reply_of o)) (sym c.of_load.ensures)
+    subst (BlamesParent (g.V.Vault.disk c.args.self.now.line.vault) c.args.self.now.line.head.root c.args.path.now) (sym c.of_load.ensures)
     (blames_parent g.V.Vault.disk c.args.self.now c.self.inside.line.vault c.args.path.now c.into_parent-parent.result c.head.result.root above root vaults c.directory_at.result c.in-Err.fault c.in-Err.is c.directory_at.ensures.fault)
 
 pub returns-then-is_empty-clause-sees : goal.returns-then-is_empty-clause-sees

@@ -1,7 +1,7 @@
 use Rattle.std.proofs.Common.{rules, refl, ap, ◌∙◌}
 use Rattle.cv_objects.specs.Batches.{Stored}
 use Rattle.cv_swap.specs.Line.{LineView}
-use Rattle.cv_desk.specs.Refusals.{reply_of, is_sending}
+use Rattle.cv_desk.specs.Refusals.{is_sending}
 use Rattle.cv_desk.specs.declared.sent.Sent.{Sent}
 use Rattle.cv_desk.proofs.Sends.{sends_unknown, sends_known, sending_of, sending_by}
 use Rattle.cv_desk.proofs.Knowing.{known_read, known_brought}
@@ -30,7 +30,7 @@ returns-clause-sends g c = sends_known g.V.Vault.disk g.V.Vault.count g.V.Vault.
     c.fresh.new.self c.store-stored.new.self c.fresh.ensures.others c.store-stored.ensures.others c.fresh.result c.in-Ok.fresh c.in-Ok.is c.fresh.ensures.walks c.store-stored.result c.store-stored.ensures.walks c.by.result c.by.ensures
 
 pub returns-in-Err-clause-kind : goal.returns-in-Err-clause-kind
-returns-in-Err-clause-kind g c = ap (λ (s : Sent). is_sending (reply_of s.outcome)) c.none.ensures ∙ ap (λ o. is_sending (reply_of o)) c.of_store.ensures ∙ sending_of c.in-Err.fault
+returns-in-Err-clause-kind g c = ap (λ (s : Sent). is_sending s.answer) c.none.ensures ∙ ap is_sending c.of_store.ensures ∙ sending_of c.in-Err.fault
 
 pub returns-clause-kind : goal.returns-clause-kind
-returns-clause-kind g c = ap (λ (s : Sent). is_sending (reply_of s.outcome)) c.by.ensures ∙ sending_by c.in-Ok.fresh.items c.store-stored.result
+returns-clause-kind g c = ap (λ (s : Sent). is_sending s.answer) c.by.ensures ∙ sending_by c.in-Ok.fresh.items c.store-stored.result
