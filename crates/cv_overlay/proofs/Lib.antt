@@ -14,3 +14,4 @@ mod Visits
 mod Walks
 mod WalkTexts
 mod Cases
+pub mod Lemmas

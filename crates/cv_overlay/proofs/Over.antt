@@ -14,7 +14,7 @@ use Rattle.cv_tree.specs.Node.{IsNode}
 use Rattle.cv_tree.specs.Tree.{Nodes, is_directory, HasParents, IsPart, IsTree}
 use Rattle.std.proofs.Common.{◌<◌, ◌^◌, arith}
 use Rattle.cv_tree.proofs.Laws.{find-append}
-use Rattle.cv_overlay.specs.Whiteout.{is_whiteout, is_bad_at}
+use Rattle.cv_overlay.specs.Whiteout.{whiteout, opaque, is_whiteout, is_bad_at}
 use Rattle.cv_overlay.specs.Overlay.{named, hidden, or_else, root_of, over_at, is_leaf, hides, hidden_from, named_entries, kept_entries, over_entries, over}
 use Rattle.cv_overlay.specs.OverlayInner.{IsBase}
 
@@ -180,3 +180,42 @@ hidden-split c p [] r = ap (λ (w : Path). hidden_from c w r) (sym (append-nil p
 hidden-split c p (n ∷ q) r =
     rw (hidden-split c (p ++ n ∷ []) q r, append_assoc p (n ∷ []) q)
     (elim (hides c p n) as (λ (b : Bool). (b || (hidden_from c (p ++ n ∷ []) q || hidden_from c (p ++ n ∷ q) r)) ≡ ((b || hidden_from c (p ++ n ∷ []) q) || hidden_from c (p ++ n ∷ q) r)) [ true ↦ refl | false ↦ refl ])
+
+-- ---- case by case
+
+-- what the folder names
+pub at_named : (b c : Nodes) (now : ℕ) (name : List ℕ) (names : Path) (n : Node) → named c (name ∷ names) ≡ Some n → over_at b c now (name ∷ names) ≡ Some n
+at_named b c now name names n is = ap (λ (o : Option Node). or_else o (cond (hidden c (name ∷ names)) None (get b (name ∷ names)))) is
+
+-- what the changes hide, or don't
+base_at : (b c : Nodes) (now : ℕ) (name : List ℕ) (names : Path) (gone : Bool) → named c (name ∷ names) ≡ None → hidden c (name ∷ names) ≡ gone → over_at b c now (name ∷ names) ≡ cond gone None (get b (name ∷ names))
+base_at b c now name names gone none is =
+    ap (λ (o : Option Node). or_else o (cond (hidden c (name ∷ names)) None (get b (name ∷ names)))) none ∙ ap (λ (h : Bool). cond h None (get b (name ∷ names))) is
+
+pub at_hidden : (b c : Nodes) (now : ℕ) (name : List ℕ) (names : Path) → named c (name ∷ names) ≡ None → hidden c (name ∷ names) ≡ true → over_at b c now (name ∷ names) ≡ None
+at_hidden b c now name names = base_at b c now name names true
+
+pub at_kept : (b c : Nodes) (now : ℕ) (name : List ℕ) (names : Path) → named c (name ∷ names) ≡ None → hidden c (name ∷ names) ≡ false → over_at b c now (name ∷ names) ≡ get b (name ∷ names)
+at_kept b c now name names = base_at b c now name names false
+
+-- what hides a name of a directory hides all below it
+or_true : (a : Bool) → (a || true) ≡ true
+or_true true = refl
+or_true false = refl
+
+pub hidden_below : (c : Nodes) (p : Path) (name : List ℕ) (names : Path) → hides c p name ≡ true → hidden c (p ++ name ∷ names) ≡ true
+hidden_below c p name names is =
+    hidden-split c [] p (name ∷ names) ∙ ap (λ (h : Bool). hidden_from c [] p || (h || hidden_from c (p ++ name ∷ []) names)) is ∙ or_true (hidden_from c [] p)
+
+pub hides_all : (c : Nodes) (p : Path) (name : List ℕ) → is_some (get c (p ++ opaque ∷ [])) ≡ true → hides c p name ≡ true
+hides_all c p name is = ap (λ (h : Bool). h || (is_some (get c (p ++ (whiteout ++ name) ∷ [])) || is_leaf (named c (p ++ name ∷ [])))) is
+
+pub hides_removed : (c : Nodes) (p : Path) (name : List ℕ) → is_some (get c (p ++ (whiteout ++ name) ∷ [])) ≡ true → hides c p name ≡ true
+hides_removed c p name is =
+    ap (λ (h : Bool). is_some (get c (p ++ opaque ∷ [])) || (h || is_leaf (named c (p ++ name ∷ [])))) is ∙ or_true (is_some (get c (p ++ opaque ∷ [])))
+
+pub hides_replaced : (c : Nodes) (p : Path) (name : List ℕ) → is_leaf (named c (p ++ name ∷ [])) ≡ true → hides c p name ≡ true
+hides_replaced c p name is =
+    ap (λ (h : Bool). is_some (get c (p ++ opaque ∷ [])) || (is_some (get c (p ++ (whiteout ++ name) ∷ [])) || h)) is
+    ∙ ap (λ (h : Bool). is_some (get c (p ++ opaque ∷ [])) || h) (or_true (is_some (get c (p ++ (whiteout ++ name) ∷ []))))
+    ∙ or_true (is_some (get c (p ++ opaque ∷ [])))

@@ -1,23 +1,24 @@
 -- The order of the walk is that of the bytes of paths' texts.
-use Rattle.std.proofs.Common.{◌≡◌, ℕ, true, not, ◌&&◌, List, [], ◌∷◌, ◌++◌, refl, sym, ap, subst, ◌∙◌, append-nil}
-use Rattle.std.specs.Prelude.{nat_le, length}
+use Rattle.std.proofs.Common.{◌≡◌, ℕ, Bool, true, not, ◌==◌, List, [], ◌∷◌, ◌++◌, refl, sym, ap, subst, ◌∙◌, append-nil}
 use Rattle.std.specs.declared.cmp.Ordering.{Ordering}
 use Rattle.std.specs.declared.cmp.Ordering.TheVariants.{Less, Equal, Greater}
 use Rattle.std.specs.Ordering.{nat_cmp, ordering_then, ordering_reverse}
 use Rattle.std.specs.Cmp.{nat_cmp_total}
 use Rattle.std.specs.FinMap.{nat_cmp-IsAntisymmetric}
 use Rattle.std.specs.List.{list_all}
-use Rattle.std.specs.Str.{is_utf8}
-use Rattle.cv_base.specs.Path.{Path, IsPath, text_of, is_path_name, is_path_byte, is_dots, name_cmp}
-use Rattle.cv_overlay.specs.Walk.{walk_cmp}
+use Rattle.cv_base.specs.Path.{Path, text_of, name_cmp}
+use Rattle.cv_overlay.specs.Walk.{has_no_slash, walk_cmp}
 use Rattle.cv_overlay.specs.EventsInner.{slashed}
 use Rattle.cv_overlay.proofs.Limits.{first_of, second_of}
 use Rattle.cv_overlay.proofs.WalkOrder.{none_less, some_greater}
 
-no_slash : (c : ℕ) → is_path_byte c ≡ true → nat_cmp 47 c ≡ Equal → ⊥
-no_slash c h e = let is : 47 ≡ c = nat_cmp-IsAntisymmetric 47 c e in let other : is_path_byte 47 ≡ true = subst (λ (b : ℕ). is_path_byte b ≡ true) (sym is) h in cc
+abbrev is_other : ℕ → Bool
+is_other c = not (c == 47)
 
-no_slash_either : (c : ℕ) → is_path_byte c ≡ true → nat_cmp c 47 ≡ Equal → ⊥
+no_slash : (c : ℕ) → is_other c ≡ true → nat_cmp 47 c ≡ Equal → ⊥
+no_slash c h e = let is : 47 ≡ c = nat_cmp-IsAntisymmetric 47 c e in let other : is_other 47 ≡ true = subst (λ (b : ℕ). is_other b ≡ true) (sym is) h in cc
+
+no_slash_either : (c : ℕ) → is_other c ≡ true → nat_cmp c 47 ≡ Equal → ⊥
 no_slash_either c h e = no_slash c h (nat_cmp_total.antisymm 47 c ∙ ap ordering_reverse e)
 
 then_then : (r x y : Ordering) → ordering_then r (ordering_then x y) ≡ ordering_then (ordering_then r x) y
@@ -37,55 +38,47 @@ decides Equal x y z differs = absurd (differs refl)
 decides Greater x y z differs = refl
 
 abbrev Plain : List ℕ → Type 0
-Plain name = list_all is_path_byte name ≡ true
+Plain name = has_no_slash name ≡ true
 
 -- two names that go on
 both_go_on : (a b s t : List ℕ) → Plain a → Plain b → ordering_then (name_cmp (slashed a) (slashed b)) (name_cmp s t) ≡ name_cmp (a ++ 47 ∷ s) (b ++ 47 ∷ t)
 both_go_on [] [] s t ha hb = refl
-both_go_on [] (y ∷ b) s t ha hb = sym (decides (nat_cmp 47 y) _ _ _ (no_slash y (first_of (is_path_byte y) _ hb)))
-both_go_on (x ∷ a) [] s t ha hb = sym (decides (nat_cmp x 47) _ _ _ (no_slash_either x (first_of (is_path_byte x) _ ha)))
+both_go_on [] (y ∷ b) s t ha hb = sym (decides (nat_cmp 47 y) _ _ _ (no_slash y (first_of (is_other y) _ hb)))
+both_go_on (x ∷ a) [] s t ha hb = sym (decides (nat_cmp x 47) _ _ _ (no_slash_either x (first_of (is_other x) _ ha)))
 both_go_on (x ∷ a) (y ∷ b) s t ha hb =
     sym (then_then (nat_cmp x y) (name_cmp (slashed a) (slashed b)) (name_cmp s t))
-    ∙ ap (ordering_then (nat_cmp x y)) (both_go_on a b s t (second_of (is_path_byte x) _ ha) (second_of (is_path_byte y) _ hb))
+    ∙ ap (ordering_then (nat_cmp x y)) (both_go_on a b s t (second_of (is_other x) _ ha) (second_of (is_other y) _ hb))
 
 -- the second goes on
 second_goes_on : (a b t : List ℕ) → Plain a → ordering_then (name_cmp a (slashed b)) Less ≡ name_cmp a (b ++ 47 ∷ t)
 second_goes_on [] [] t ha = refl
 second_goes_on [] (y ∷ b) t ha = refl
-second_goes_on (x ∷ a) [] t ha = sym (decides (nat_cmp x 47) _ _ _ (no_slash_either x (first_of (is_path_byte x) _ ha)))
+second_goes_on (x ∷ a) [] t ha = sym (decides (nat_cmp x 47) _ _ _ (no_slash_either x (first_of (is_other x) _ ha)))
 second_goes_on (x ∷ a) (y ∷ b) t ha =
-    sym (then_then (nat_cmp x y) (name_cmp a (slashed b)) Less) ∙ ap (ordering_then (nat_cmp x y)) (second_goes_on a b t (second_of (is_path_byte x) _ ha))
+    sym (then_then (nat_cmp x y) (name_cmp a (slashed b)) Less) ∙ ap (ordering_then (nat_cmp x y)) (second_goes_on a b t (second_of (is_other x) _ ha))
 
 -- the first goes on
 first_goes_on : (a b s : List ℕ) → Plain b → ordering_then (name_cmp (slashed a) b) Greater ≡ name_cmp (a ++ 47 ∷ s) b
 first_goes_on [] [] s hb = refl
 first_goes_on (x ∷ a) [] s hb = refl
-first_goes_on [] (y ∷ b) s hb = sym (decides (nat_cmp 47 y) _ _ _ (no_slash y (first_of (is_path_byte y) _ hb)))
+first_goes_on [] (y ∷ b) s hb = sym (decides (nat_cmp 47 y) _ _ _ (no_slash y (first_of (is_other y) _ hb)))
 first_goes_on (x ∷ a) (y ∷ b) s hb =
-    sym (then_then (nat_cmp x y) (name_cmp (slashed a) b) Greater) ∙ ap (ordering_then (nat_cmp x y)) (first_goes_on a b s (second_of (is_path_byte y) _ hb))
-
-plain_name : (name : List ℕ) → is_path_name name ≡ true → Plain name
-plain_name name h =
-    second_of (is_utf8 name && nat_le 1 (length name) && nat_le (length name) 255) (list_all is_path_byte name)
-    (first_of (is_utf8 name && nat_le 1 (length name) && nat_le (length name) 255 && list_all is_path_byte name) (not (is_dots name)) h)
+    sym (then_then (nat_cmp x y) (name_cmp (slashed a) b) Greater) ∙ ap (ordering_then (nat_cmp x y)) (first_goes_on a b s (second_of (is_other y) _ hb))
 
 abbrev Names : Path → Type 0
-Names p = list_all is_path_name p ≡ true
+Names p = list_all has_no_slash p ≡ true
 
-by_texts : (p q : Path) → Names p → Names q → walk_cmp p q ≡ name_cmp (text_of p) (text_of q)
-by_texts [] [] hp hq = refl
-by_texts [] (b ∷ q) hp hq = none_less b q
-by_texts (a ∷ p) [] hp hq = some_greater a p
-by_texts (a ∷ []) (b ∷ []) hp hq = then_equal (name_cmp a b) ∙ (λ i. name_cmp (sym (append-nil a) i) (sym (append-nil b) i))
-by_texts (a ∷ []) (b ∷ d ∷ q) hp hq =
-    let pa = plain_name a (first_of (is_path_name a) _ hp) in
+pub walk_texts : (p q : Path) → Names p → Names q → walk_cmp p q ≡ name_cmp (text_of p) (text_of q)
+walk_texts [] [] hp hq = refl
+walk_texts [] (b ∷ q) hp hq = none_less b q
+walk_texts (a ∷ p) [] hp hq = some_greater a p
+walk_texts (a ∷ []) (b ∷ []) hp hq = then_equal (name_cmp a b) ∙ (λ i. name_cmp (sym (append-nil a) i) (sym (append-nil b) i))
+walk_texts (a ∷ []) (b ∷ d ∷ q) hp hq =
+    let pa = first_of (has_no_slash a) _ hp in
     ap (ordering_then (name_cmp a (slashed b))) (none_less d q) ∙ second_goes_on a b (d ++ text_of q) pa ∙ ap (λ (x : List ℕ). name_cmp x (b ++ text_of (d ∷ q))) (sym (append-nil a))
-by_texts (a ∷ c ∷ p) (b ∷ []) hp hq =
-    let pb = plain_name b (first_of (is_path_name b) _ hq) in
+walk_texts (a ∷ c ∷ p) (b ∷ []) hp hq =
+    let pb = first_of (has_no_slash b) _ hq in
     ap (ordering_then (name_cmp (slashed a) b)) (some_greater c p) ∙ first_goes_on a b (c ++ text_of p) pb ∙ ap (name_cmp (a ++ text_of (c ∷ p))) (sym (append-nil b))
-by_texts (a ∷ c ∷ p) (b ∷ d ∷ q) hp hq =
-    ap (ordering_then (name_cmp (slashed a) (slashed b))) (by_texts (c ∷ p) (d ∷ q) (second_of (is_path_name a) _ hp) (second_of (is_path_name b) _ hq))
-    ∙ both_go_on a b (c ++ text_of p) (d ++ text_of q) (plain_name a (first_of (is_path_name a) _ hp)) (plain_name b (first_of (is_path_name b) _ hq))
-
-pub walk_texts : (p q : Path) → IsPath p → IsPath q → walk_cmp p q ≡ name_cmp (text_of p) (text_of q)
-walk_texts p q hp hq = by_texts p q hp.names hq.names
+walk_texts (a ∷ c ∷ p) (b ∷ d ∷ q) hp hq =
+    ap (ordering_then (name_cmp (slashed a) (slashed b))) (walk_texts (c ∷ p) (d ∷ q) (second_of (has_no_slash a) _ hp) (second_of (has_no_slash b) _ hq))
+    ∙ both_go_on a b (c ++ text_of p) (d ++ text_of q) (first_of (has_no_slash a) _ hp) (first_of (has_no_slash b) _ hq)

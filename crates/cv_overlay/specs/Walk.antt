@@ -1,7 +1,8 @@
 -- The walk of a folder of changes: its visits in order, the first fault, and what the changes of the folder are.
-use Rattle.std.specs.Prelude.{◌≡◌, ℕ, ◌+◌, ◌%◌, Bool, true, false, ◌||◌, ◌&&◌, nat_le, nat_lt, List, [], ◌∷◌, ◌++◌, length, Option, Some, None, Result, Ok, Err, is_ok, slice_get, if◌then◌else◌}
+use Rattle.std.specs.Prelude.{◌≡◌, ℕ, ◌+◌, ◌%◌, Bool, true, false, not, ◌==◌, ◌||◌, ◌&&◌, nat_le, nat_lt, List, [], ◌∷◌, ◌++◌, length, Option, Some, None, Result, Ok, Err, is_ok, slice_get, if◌then◌else◌}
 use Rattle.std.specs.declared.cmp.Ordering.{Ordering}
 use Rattle.std.specs.Option.{option_or}
+use Rattle.std.specs.List.{list_all}
 use Rattle.std.specs.List.Sorted.{IsStrictlySortedBy}
 use Rattle.std.specs.FinMap.{get}
 use Rattle.sha1.specs.Sha1.{sha1}
@@ -40,6 +41,9 @@ abbrev pub with_slashes : Path → Path
 with_slashes [] = []
 with_slashes (a ∷ []) = a ∷ []
 with_slashes (a ∷ b ∷ p) = (a ++ 47 ∷ []) ∷ with_slashes (b ∷ p)
+
+abbrev pub has_no_slash : List ℕ → Bool
+has_no_slash name = list_all (λ byte. not (byte == 47)) name
 
 -- the order of the walk: of names without a slash it is that of the bytes of the paths' texts
 abbrev pub walk_cmp : Path → Path → Ordering

@@ -2,7 +2,8 @@
 ghost use Rattle.std.specs.Prelude.{◌≡◌, ◌≤◌, ◌+◌, [], false, length, IfOk, None};
 ghost use Rattle.std.specs.FinMap as map;
 ghost use Rattle.cv_base.specs.declared.limits.TheConstants.{OBJECT_LIMIT};
-ghost use Rattle.cv_tree.specs.Node.{IsAttr, IsNode};
+ghost use Rattle.cv_base.specs.Attr.{IsAttr};
+ghost use Rattle.cv_tree.specs.Node.{IsNode};
 ghost use Rattle.cv_tree.specs.Tree.{single};
 ghost use Rattle.cv_tree.specs.declared.node.Node.TheVariants.{Dir};
 ghost use Rattle.cv_overlay.specs.Changes.{AreContents};

@@ -7,6 +7,7 @@ mod contents;
 mod event;
 mod found;
 mod hidden;
+pub mod laws;
 mod overlay_fault;
 mod overlaying;
 mod read_fault;

@@ -119,7 +119,8 @@ pub(crate) fn overlay_tree(
 }
 
 /// The part that changes make of a base, or of nothing: at each path what the folder names, and what of the base it doesn't
-/// hide. Its root keeps the attributes of the base's directory; over nothing it is of mode 0755 and time `now`.
+/// hide. Its root is a directory. It keeps the attributes of the base's, where that is one; over nothing, a file or a link it
+/// is of mode 0755 and time `now`.
 ///
 /// # Errors
 ///

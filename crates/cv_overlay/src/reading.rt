@@ -1,14 +1,15 @@
 //! The walk of a folder of changes.
-ghost use Rattle.std.specs.Prelude.{◌≡◌, ◌+◌, ◌++◌, length, IfOk, IsErrOf};
+ghost use Rattle.std.specs.Prelude.{◌≡◌, ◌+◌, ◌++◌, true, length, IfOk, IsErrOf};
+ghost use Rattle.std.specs.List.{list_all};
 ghost use Rattle.cv_base.specs.Counts.{HasCause};
-ghost use Rattle.cv_base.specs.Path.{Path, IsPath, text_of, name_cmp};
+ghost use Rattle.cv_base.specs.Path.{Path, text_of, name_cmp};
 ghost use Rattle.cv_base.specs.Told.{WhereTold};
 ghost use Rattle.cv_ports.specs.Folder.{IsOrdered};
 ghost use Rattle.cv_tree.specs.Changes.{FitsUnder};
 ghost use Rattle.cv_overlay.specs.Changes.{AreContents};
 ghost use Rattle.cv_overlay.specs.EventsInner.{visits_deep};
 ghost use Rattle.cv_overlay.specs.FoundInner.{run, Ends};
-ghost use Rattle.cv_overlay.specs.Walk.{Reads, walk_cmp};
+ghost use Rattle.cv_overlay.specs.Walk.{Reads, has_no_slash, walk_cmp};
 ghost use Rattle.cv_overlay.specs.declared.read_fault.ReadFault.TheVariants as faults;
 
 use crate::changes::Changes;
@@ -82,8 +83,9 @@ pub fn read_folder<F: Folder>(
     ensures lasts { F.holds folder.new ≡ F.holds folder.old }
     ensures cause { HasCause (F.faults folder.old) (F.faults folder.new) (IsErrOf result faults.Failed) }
 
-    // The walk goes by the bytes of the paths' texts.
-    ensures order { (p q : Path) → IsPath p → IsPath q → walk_cmp p q ≡ name_cmp (text_of p) (text_of q) }
+    // The walk goes by the bytes of the paths' texts, also where names are bad, as long as none has a slash.
+    ensures order { (p q : Path) → list_all has_no_slash p ≡ true → list_all has_no_slash q ≡ true
+        → walk_cmp p q ≡ name_cmp (text_of p) (text_of q) }
 
     // Each path of the changes, those of whiteouts too, keeps the limits of a path behind the published one.
     ensures limits { IfOk result (λ changes. FitsUnder at.now changes.nodes) }

@@ -5,7 +5,8 @@
 //! contents behind them. There a plus marks what the folder puts in, and a file is `=`, its size, a number sign and the first
 //! four digits of its hash.
 ghost use Rattle.std.specs.Prelude.{◌<◌, IfOk};
-ghost use Rattle.cv_tree.specs.Node.{IsNode, IsAttr};
+ghost use Rattle.cv_base.specs.Attr.{IsAttr};
+ghost use Rattle.cv_tree.specs.Node.{IsNode};
 
 use cv_base::{Attr, Kind, Object, ObjectId, RepoPath, Target};
 use cv_tree::{FileRef, Node, Part, Tree};
