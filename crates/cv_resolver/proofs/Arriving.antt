@@ -25,7 +25,7 @@ use Rattle.cv_resolver.specs.EntryInner.{entry_kind}
 use Rattle.cv_resolver.specs.Naming.{NamesFile}
 use Rattle.cv_resolver.specs.Spot.{IsSpot, IsOwn}
 use Rattle.cv_resolver.specs.Look.{Finding, Names, Content, content_at, names_at, names_in}
-use Rattle.cv_resolver.specs.ListingInner.{AreNames}
+use Rattle.cv_resolver.specs.Listing.{AreNames}
 use Rattle.cv_resolver.specs.declared.spot.Spot.{Spot}
 use Rattle.cv_resolver.specs.declared.found.ClientFault.{ClientFault}
 use Rattle.cv_resolver.proofs.Entering.{nearest_of}
@@ -78,13 +78,13 @@ module _ (t : Nodes) (s : Spot) (c : Contents) (tree : IsTree t) (fits : Fits t)
       let n = nearest_of t s is in
       names_are t tree s.level.path n.1.cut (region_apart t s.level.path n.1.cut fits.apart) (subst IsCatalogue own good) s.at n.0 names (subst (λ (x : Contents). AreNames x s.at names) own are)
 
-  pub names_found : (r : Row) (names : List (List ℕ)) → IsCatalogue c → kind.Directory ≡ entry_kind r.kind → AreNames c s.at names → names_at t s.at (Some (node_of r)) ≡ Ok (Names names)
+  pub names_found : (r : Row) (names : List (List ℕ)) → IsCatalogue c → kind.Directory ≡ entry_kind r.kind → AreNames c s.at names → names_at (names_in t s.at) (Some (node_of r)) ≡ Ok (Names names)
   names_found r names good directory are = by r.kind directory
     where
       same : ok (Names (names_in t s.at)) ≡ ok (Names names)
       same = ap (λ (n : List (List ℕ)). ok (Names n)) (sym (own_names names good are))
 
-      by : (k : RowKind) → kind.Directory ≡ entry_kind k → names_at t s.at (Some (node_as k r)) ≡ Ok (Names names)
+      by : (k : RowKind) → kind.Directory ≡ entry_kind k → names_at (names_in t s.at) (Some (node_as k r)) ≡ Ok (Names names)
       by kind.Directory h = same
       by kind.Transition h = same
       by kind.NestedRoot h = same

@@ -22,7 +22,8 @@ use Rattle.cv_cut.specs.Told.{node_of}
 use Rattle.cv_cut.proofs.Lemmas.{no_row_tells, region_apart, row_tells}
 use Rattle.cv_resolver.specs.Walk.{Name}
 use Rattle.cv_resolver.specs.Spot.{StandsIn, IsLevel, IsSpot, IsOwn, levels_of}
-use Rattle.cv_resolver.specs.EnterInner.{IsInCut, IsOpen, IsEntered}
+use Rattle.cv_resolver.specs.Rows.{IsInCut}
+use Rattle.cv_resolver.specs.EnterInner.{IsOpen, IsEntered}
 use Rattle.cv_resolver.specs.declared.spot.Level.{Level}
 use Rattle.cv_resolver.specs.declared.spot.Spot.{Spot}
 use Rattle.cv_resolver.specs.declared.enter.Entered.TheVariants.{Nothing, Stands, Link}

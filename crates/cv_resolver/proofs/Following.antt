@@ -16,7 +16,8 @@ use Rattle.cv_tree.specs.Tree.{Nodes}
 use Rattle.cv_resolver.specs.Walk.{Name, Trail, arrives, from, is_last, lead_of, trail_along, walk}
 use Rattle.cv_resolver.specs.Spot.{StandsIn, IsSpot, levels_of}
 use Rattle.cv_resolver.specs.PassInner.{behind_link}
-use Rattle.cv_resolver.specs.Step.{trail_from, link_trail, IsStep, steps_left}
+use Rattle.cv_resolver.specs.Step.{trail_from, steps_left}
+use Rattle.cv_resolver.specs.StepInner.{link_trail, IsStep}
 use Rattle.cv_resolver.specs.TargetInner.{HasNames}
 use Rattle.cv_resolver.specs.declared.spot.Spot.{Spot}
 use Rattle.cv_resolver.specs.declared.walk.Walk.{Walk}

@@ -14,10 +14,11 @@ use Rattle.cv_resolver.specs.Spot.{StandsIn, levels_of}
 use Rattle.cv_resolver.specs.Start.{IsStart}
 use Rattle.cv_resolver.specs.declared.spot.Level.{Level}
 use Rattle.cv_resolver.specs.Pass.{Continues}
-use Rattle.cv_resolver.specs.Step.{trail_from, IsStep, steps_left}
-use Rattle.cv_resolver.specs.StepInner.{HasFewer, stepped_levels}
+use Rattle.cv_resolver.specs.Step.{trail_from, steps_left}
+use Rattle.cv_resolver.specs.StepInner.{IsStep, HasFewer, stepped_levels}
 use Rattle.cv_resolver.specs.Naming.{AreKnown}
-use Rattle.cv_resolver.specs.Progress.{ArrivesAt, StepsTo}
+use Rattle.cv_resolver.specs.Progress.{StepsTo}
+use Rattle.cv_resolver.specs.ProgressInner.{ComesTo}
 use Rattle.cv_resolver.specs.Look.{Finding, found_at, finding_of, look, trail}
 use Rattle.cv_resolver.specs.Stage.{IsFoundBy, IsStage}
 use Rattle.cv_resolver.specs.declared.question.Question.{Question}
@@ -43,7 +44,7 @@ some_left (n ∷ ns) h = λ e. cc
 
 -- ---- steps by a catalogue
 
-pub arrived_step : {E : Type 0} (c : Contents) (w : Walk) (r : Result Stage E) → IfOk r (ArrivesAt c) → IfOk r (StepsTo c w)
+pub arrived_step : {E : Type 0} (c : Contents) (w : Walk) (r : Result Stage E) → IfOk r (ComesTo c) → IfOk r (StepsTo c w)
 arrived_step c w (Err e) h = tt
 arrived_step c w (Ok (Walks next)) h = absurd h
 arrived_step c w (Ok (Reads hash)) h = h

@@ -14,3 +14,4 @@ mod Going
 mod Taking
 mod Resolving
 mod Blames
+mod Telling

@@ -38,7 +38,7 @@ use Rattle.cv_cut.specs.Region.{IsNear, KeysApart, row_at}
 use Rattle.cv_cut.specs.Told.{node_of}
 use Rattle.cv_cut.proofs.Lemmas.{comes_from, goes_to, near_below, passes, passing, row_tells, rows_are, same_ends, same_list, so, stands, stands_at_cut}
 use Rattle.cv_resolver.specs.Look.{is_single, names_in}
-use Rattle.cv_resolver.specs.ListingInner.{IsNameAt, AreNames}
+use Rattle.cv_resolver.specs.Listing.{IsNameAt, AreNames}
 
 -- ---- by the rows of a catalogue
 

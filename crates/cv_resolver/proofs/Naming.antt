@@ -13,7 +13,7 @@ use Rattle.cv_rows.specs.declared.row_kind.RowKind.TheVariants as kind
 use Rattle.cv_resolver.specs.Naming.{AreKnown, NamesCut}
 use Rattle.cv_resolver.specs.NamingInner.{AreAmong}
 use Rattle.cv_resolver.specs.Spot.{levels_of}
-use Rattle.cv_resolver.specs.EnterInner.{IsInCut}
+use Rattle.cv_resolver.specs.Rows.{IsInCut}
 use Rattle.cv_resolver.specs.StepInner.{stepped_levels}
 use Rattle.cv_resolver.specs.declared.step.Step.{Step}
 use Rattle.cv_resolver.specs.declared.spot.Level.{Level}

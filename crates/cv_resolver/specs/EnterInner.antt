@@ -1,5 +1,5 @@
 -- What stands at a name in the directory of a spot.
-use Rattle.std.specs.Prelude.{◌≡◌, true, List, [], ◌∷◌, ◌++◌, Option, Some, None, Contains}
+use Rattle.std.specs.Prelude.{◌≡◌, ◌≢◌, List, [], ◌∷◌, ◌++◌, Option, Some, None}
 use Rattle.std.specs.FinMap.{get}
 use Rattle.cv_base.specs.Path.{Path}
 use Rattle.cv_base.specs.declared.attr.Attr.{Attr}
@@ -7,23 +7,16 @@ use Rattle.cv_tree.specs.Tree.{Nodes}
 use Rattle.cv_tree.specs.declared.node.Node.{Node}
 use Rattle.cv_tree.specs.declared.node.Node.TheVariants as node
 use Rattle.cv_rows.specs.Catalogue.{Contents}
+use Rattle.cv_rows.specs.Places.{StandsAt}
 use Rattle.cv_rows.specs.declared.row.Row.{Row}
-use Rattle.cv_rows.specs.declared.nested.Nested.{Nested}
+use Rattle.cv_rows.specs.declared.row_kind.RowKind.TheVariants as kind
 use Rattle.cv_resolver.specs.Walk.{Name}
 use Rattle.cv_resolver.specs.Spot.{IsSpot, levels_of}
+use Rattle.cv_resolver.specs.Rows.{Enters}
 use Rattle.cv_resolver.specs.declared.spot.Level.{Level}
 use Rattle.cv_resolver.specs.declared.spot.Spot.{Spot}
 use Rattle.cv_resolver.specs.declared.enter.Entered.{Entered}
 use Rattle.cv_resolver.specs.declared.enter.Entered.TheVariants.{Nothing, Stands, Link}
-
--- the spot is in the cut of a Transition row, of whose catalogue the nested entry tells
-pub record IsInCut (c : Contents) (row : Row) (s : Spot) (path : Path) (into : Spot) : Type 0 where
-  pub entry : Nested
-  pub listed : Contains c.nested entry
-  pub path_is : entry.path ≡ path
-  pub at : into.at ≡ path
-  pub directory : into.is_directory ≡ true
-  pub levels : levels_of into ≡ levels_of s ++ record { path = path; hash = entry.hash; row = Some row } ∷ []
 
 -- a directory or a file
 abbrev pub IsOpen : Option Node → Type 0
@@ -50,3 +43,11 @@ abbrev pub entered_levels : Entered → List Level
 entered_levels Nothing = []
 entered_levels (Stands next) = levels_of next
 entered_levels (Link same path target) = levels_of same
+
+-- ---- by the rows of a catalogue, whatever it is
+
+abbrev pub IsToldBy : Contents → Spot → Name → Entered → Type 0
+IsToldBy c s name Nothing = (r : Row) → StandsAt c.at c.rows r (s.at ++ name ∷ []) → ⊥
+IsToldBy c s name (Stands next) = (r : Row) × StandsAt c.at c.rows r (s.at ++ name ∷ []) × (r.kind ≢ kind.Link) × Enters c s r.kind r (s.at ++ name ∷ []) next
+IsToldBy c s name (Link same path target) =
+    (r : Row) × StandsAt c.at c.rows r (s.at ++ name ∷ []) × (r.kind ≡ kind.Link) × (same ≡ s) × (path ≡ s.at ++ name ∷ []) × (target ≡ r.target)

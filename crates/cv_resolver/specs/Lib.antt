@@ -3,7 +3,9 @@ pub mod Asking
 pub mod Entry
 pub mod EntryInner
 pub mod Look
+pub mod Listing
 pub mod Spot
+pub mod Rows
 pub mod EnterInner
 pub mod Pass
 pub mod PassInner
@@ -11,7 +13,6 @@ pub mod Step
 pub mod StepInner
 pub mod TargetInner
 pub mod Start
-pub mod ListingInner
 pub mod Stage
 pub mod Kept
 pub mod KeptInner

@@ -42,11 +42,11 @@ pub data Finding : Type 0 where
   Stat : StatLine → Finding
   Content : FileRef → Finding
 
-abbrev pub names_at : Nodes → Path → Option Node → Result Finding ClientFault
-names_at t p None = Err fault.NotFound
-names_at t p (Some (Dir attr)) = Ok (Names (names_in t p))
-names_at t p (Some (File attr file)) = Err fault.NotDirectory
-names_at t p (Some (Link attr target)) = Err fault.NotDirectory
+abbrev pub names_at : List (List ℕ) → Option Node → Result Finding ClientFault
+names_at names None = Err fault.NotFound
+names_at names (Some (Dir attr)) = Ok (Names names)
+names_at names (Some (File attr file)) = Err fault.NotDirectory
+names_at names (Some (Link attr target)) = Err fault.NotDirectory
 
 abbrev pub stat_at : Option Node → Result Finding ClientFault
 stat_at None = Err fault.NotFound
@@ -60,7 +60,7 @@ content_at (Some (Link attr target)) = Err fault.NotFile
 
 -- what the question finds where its walk ends
 abbrev pub found_at : Nodes → Question → Path → Result Finding ClientFault
-found_at t (Lists asked) p = names_at t p (get t p)
+found_at t (Lists asked) p = names_at (names_in t p) (get t p)
 found_at t (Stats asked) p = stat_at (get t p)
 found_at t (Reads asked) p = content_at (get t p)
 

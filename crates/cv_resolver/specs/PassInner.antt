@@ -1,11 +1,17 @@
 -- What a name leads to from a spot. What only this crate's own functions say.
-use Rattle.std.specs.Prelude.{◌≡◌, ◌&&◌, ℕ, zero, suc, Bool, false, List, [], ◌∷◌, if◌then◌else◌}
-use Rattle.cv_base.specs.Path.{Path}
+use Rattle.std.specs.Prelude.{◌≡◌, ◌&&◌, ℕ, zero, suc, Bool, true, false, List, [], ◌∷◌, if◌then◌else◌}
+use Rattle.cv_base.specs.Path.{Path, parent}
 use Rattle.cv_base.specs.PathText.{parts_of}
 use Rattle.cv_tree.specs.Tree.{Nodes}
-use Rattle.cv_resolver.specs.Walk.{Name, End, Trail, ends, arrives, from, is_last, lead_of, trail_along, walk}
+use Rattle.cv_resolver.specs.Walk.{Name, End, Trail, ends, arrives, from, is_idle, is_up, is_last, lead_of, trail_along, walk}
 use Rattle.cv_resolver.specs.Walk as end
 use Rattle.cv_resolver.specs.Spot.{StandsIn, IsSpot, levels_of}
+use Rattle.cv_rows.specs.Catalogue.{Contents}
+use Rattle.cv_resolver.specs.Rows.{IsAt, IsEntryName, levels_above}
+use Rattle.cv_resolver.specs.EnterInner.{IsToldBy}
+use Rattle.cv_resolver.specs.declared.enter.Entered.{Entered}
+use Rattle.cv_resolver.specs.declared.enter.Entered.TheVariants.{Nothing, Stands}
+use Rattle.cv_resolver.specs.declared.enter.Entered.TheVariants as entered
 use Rattle.cv_resolver.specs.declared.spot.Level.{Level}
 use Rattle.cv_resolver.specs.declared.spot.Spot.{Spot}
 use Rattle.cv_resolver.specs.declared.pass.Halt.{Halt}
@@ -59,3 +65,16 @@ abbrev pub passed_levels : Passed → List Level
 passed_levels (At next) = levels_of next
 passed_levels (Over halt) = []
 passed_levels (Link same path target) = levels_of same
+
+-- ---- by the rows of a catalogue, whatever it is
+
+abbrev pub passed_of : Entered → Passed
+passed_of Nothing = Over NotFound
+passed_of (Stands next) = At next
+passed_of (entered.Link same path target) = Link same path target
+
+pub data PassesTo (c : Contents) (s : Spot) (name : Name) (p : Passed) : Type 0 where
+  idle : is_idle name ≡ true → p ≡ At s → PassesTo c s name p
+  below_file : is_idle name ≡ false → s.is_directory ≡ false → p ≡ Over NotDirectory → PassesTo c s name p
+  up : is_idle name ≡ false → s.is_directory ≡ true → is_up name ≡ true → (next : Spot) → IsAt (parent s.at) true (levels_above s) next → p ≡ At next → PassesTo c s name p
+  down : IsEntryName s name → (e : Entered) → IsToldBy c s name e → p ≡ passed_of e → PassesTo c s name p

@@ -1,11 +1,13 @@
 -- How the walk of a question goes on by the catalogues that are kept.
 use Rattle.std.specs.Prelude.{◌≡◌, ◌<◌, ◌+◌, ℕ, List}
+use Rattle.cv_base.specs.Path.{Path}
 use Rattle.cv_tree.specs.Tree.{Nodes, IsTree}
 use Rattle.cv_rows.specs.Catalogue.{Contents}
 use Rattle.cv_cut.specs.Catalogues.{Fits}
 use Rattle.cv_resolver.specs.Kept.{Kept, Holds, used}
 use Rattle.cv_resolver.specs.Naming.{AreKnown, NamesFile}
 use Rattle.cv_resolver.specs.Spot.{IsOwn, levels_of}
+use Rattle.cv_resolver.specs.Rows.{ArrivesAt, StepsBy}
 use Rattle.cv_resolver.specs.Step.{steps_left}
 use Rattle.cv_resolver.specs.Stage.{IsStage, IsBlameless}
 use Rattle.cv_resolver.specs.Start.{IsStart}
@@ -15,21 +17,14 @@ use Rattle.cv_resolver.specs.declared.found.ClientFault.TheVariants as fault
 use Rattle.cv_resolver.specs.declared.walk.Walk.{Walk}
 use Rattle.cv_resolver.specs.declared.stage.Stage.{Stage}
 use Rattle.cv_resolver.specs.declared.stage.Stage.TheVariants.{Walks, Reads, Ends}
-use Rattle.std.specs.declared.result.Result.TheVariants.{Err}
+use Rattle.std.specs.declared.result.Result.TheVariants.{Ok, Err}
 
--- What a walk that has arrived comes to by a catalogue: the content of a file of it is wanted, or the question is answered
--- and nobody is blamed.
-abbrev pub ArrivesAt : Contents → Stage → Type 0
-ArrivesAt c (Walks w) = ⊥
-ArrivesAt c (Reads hash) = NamesFile c hash
-ArrivesAt c (Ends answer) = IsBlameless (Ends answer)
-
--- One step of a walk by a catalogue: it has arrived, or it goes on with fewer steps left, below cuts that it knew or that the
--- catalogue names.
+-- What a step of a walk by a catalogue comes to at most: it goes on with fewer steps left, below cuts that it knew or that the
+-- catalogue names; the content of a file of the catalogue is wanted; or the question is answered and nobody is blamed.
 abbrev pub StepsTo : Contents → Walk → Stage → Type 0
 StepsTo c w (Walks next) = (steps_left next < steps_left w) × AreKnown c (levels_of w.spot) (levels_of next.spot)
-StepsTo c w (Reads hash) = ArrivesAt c (Reads hash)
-StepsTo c w (Ends answer) = ArrivesAt c (Ends answer)
+StepsTo c w (Reads hash) = NamesFile c hash
+StepsTo c w (Ends answer) = IsBlameless (Ends answer)
 
 -- in every tree of which that is the catalogue of the walk's nearest cut, the question stays on its way to its answer
 abbrev pub StaysOn : (repository : List ℕ) → Question → Contents → Walk → Stage → Type 0
@@ -38,6 +33,7 @@ StaysOn repository q c w s = (t : Nodes) → IsTree t → Fits t → IsOwn t w.s
 -- one step by the catalogue of the nearest cut, which is kept
 pub record StepsByKept (repository : List ℕ) (q : Question) (k : Kept) (w : Walk) (s : Stage) : Type 0 where
   pub holds : Holds k w.spot.level
+  pub told : StepsBy repository q holds.found w s
   pub steps : StepsTo holds.found w s
   pub on : StaysOn repository q holds.found w s
 
@@ -60,6 +56,19 @@ pub data Begins (repository root : List ℕ) (q : Question) (k after : Kept) (s 
   no_memory : after ≡ k → s ≡ Ends (Err fault.NoMemory) → Begins repository root q k after s
 
 -- ---- what follows
+
+-- the walk has arrived: the question is answered and not refused, or the content of a file is wanted
+abbrev pub HasArrived : Stage → Type 0
+HasArrived (Walks w) = ⊥
+HasArrived (Reads hash) = Unit {0}
+HasArrived (Ends (Ok found)) = Unit {0}
+HasArrived (Ends (Err fault)) = ⊥
+
+-- the question has come to what the row at a path of a catalogue says
+pub record IsRead (q : Question) (s : Stage) : Type 0 where
+  pub catalogue : Contents
+  pub at : Path
+  pub arrives : ArrivesAt catalogue q at s
 
 -- no catalogue is wanted that is kept for its place
 abbrev pub IsUncached : Kept → Stage → Type 0

@@ -1,16 +1,11 @@
 -- Where targets of links lead, as the code tells it.
-use Rattle.std.specs.Prelude.{◌≤◌, ℕ, Bool, false, true, ◌&&◌, bytes_eq, List, [], ◌∷◌, length, codes, Option, Some, None}
+use Rattle.std.specs.Prelude.{◌≡◌, ◌≤◌, ℕ, Bool, false, true, ◌&&◌, bytes_eq, List, [], ◌∷◌, length, codes, Option, Some, None}
 use Rattle.cv_base.specs.Path.{Path}
-use Rattle.cv_resolver.specs.Walk.{Name}
+use Rattle.cv_resolver.specs.Walk.{Name, is_absolute}
 use Rattle.cv_resolver.specs.declared.target.Lead.{Lead}
 use Rattle.cv_resolver.specs.declared.target.Lead.TheVariants.{Nowhere, Root, Here}
 
--- the text of these parts begins with a slash
-abbrev pub is_absolute : List Name → Bool
-is_absolute ([] ∷ names) = true
-is_absolute names = false
-
--- and goes on with the repository
+-- the text of these parts begins with a slash, and goes on with the repository
 abbrev pub is_own : List ℕ → List Name → Bool
 is_own repository ([] ∷ folder ∷ name ∷ names) = bytes_eq folder (codes "cvmfs") && bytes_eq name repository
 is_own repository names = false
@@ -26,3 +21,9 @@ abbrev pub HasNames : ℕ → Lead → Type 0
 HasNames n Nowhere = Unit {0}
 HasNames n (Root names) = length names.items ≤ n
 HasNames n (Here names) = length names.items ≤ n
+
+-- it leads on from the root where the text of these parts begins with a slash, else from the link's directory
+abbrev pub IsFrom : List Name → Lead → Type 0
+IsFrom parts Nowhere = Unit {0}
+IsFrom parts (Root names) = is_absolute parts ≡ true
+IsFrom parts (Here names) = is_absolute parts ≡ false

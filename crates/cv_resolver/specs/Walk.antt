@@ -50,6 +50,11 @@ is_last (name ∷ names) = false
 
 -- ---- targets of links
 
+-- the text of these parts begins with a slash
+abbrev pub is_absolute : List Name → Bool
+is_absolute ([] ∷ names) = true
+is_absolute names = false
+
 -- Where the target of a link leads from the link's directory, by the names between its slashes: a relative one on from
 -- there; /cvmfs/, the repository's name and what follows, on from the root; another absolute one nowhere.
 abbrev pub lead_of : (repository : List ℕ) → Path → List Name → Option (Path × List Name)

@@ -2,13 +2,17 @@
 ghost use Rattle.std.specs.Prelude.{◌≡◌, Some, IfOk, Contains};
 ghost use Rattle.cv_tree.specs.Tree.{Nodes, IsTree};
 ghost use Rattle.cv_rows.specs.Catalogue.{Contents, IsCatalogue};
+ghost use Rattle.cv_rows.specs.Places.{StandsAt};
 ghost use Rattle.cv_rows.specs.Row.{HasContent};
 ghost use Rattle.cv_cut.specs.Catalogues.{Fits};
 ghost use Rattle.cv_cut.specs.Told.{node_of};
 ghost use Rattle.cv_resolver.specs.Spot.{IsSpot, IsOwn};
-ghost use Rattle.cv_resolver.specs.Look.{content_at, names_at, found_at};
+ghost use Rattle.cv_base.specs.Path.{Path};
+ghost use Rattle.cv_resolver.specs.Look.{content_at, names_at, names_in, found_at};
 ghost use Rattle.cv_resolver.specs.Stage.{IsFoundBy};
-ghost use Rattle.cv_resolver.specs.Progress.{ArrivesAt};
+ghost use Rattle.cv_resolver.specs.ProgressInner.{ComesTo};
+ghost use Rattle.cv_resolver.specs.Rows.{ArrivesAt};
+ghost use Rattle.cv_resolver.specs.declared.question.Question.TheVariants as question;
 
 use crate::found::{ClientFault, Found};
 use crate::listing::listing;
@@ -24,7 +28,8 @@ use std::alloc::Global;
 fn content(row: &Row) -> Stage
     requires { HasContent row.now.kind row.now.size row.now.hash row.now.target }
     ensures found { IsFoundBy (content_at (Some (node_of row.now))) result }
-    ensures arrives { (c : Contents) → Contains c.rows row.now → ArrivesAt c result }
+    ensures comes { (c : Contents) → Contains c.rows row.now → ComesTo c result }
+    ensures told { (c : Contents) (p asked : Path) → StandsAt c.at c.rows row.now p → ArrivesAt c (question.Read asked) p result }
 {
     match row.hash {
         Some(hash) => Stage::Reads(hash),
@@ -36,8 +41,10 @@ fn content(row: &Row) -> Stage
 fn names(alloc: Global, spot: &Spot, row: &Row, catalogue: &Catalogue) -> Result<Stage, NoMemory>
     requires { IsCatalogue catalogue.now }
     ensures found { (t : Nodes) → IsTree t → Fits t → IsSpot t spot.now → IsOwn t spot.now catalogue.now
-        → IfOk result (IsFoundBy (names_at t spot.now.at (Some (node_of row.now)))) }
-    ensures arrives { IfOk result (ArrivesAt catalogue.now) }
+        → IfOk result (IsFoundBy (names_at (names_in t spot.now.at) (Some (node_of row.now)))) }
+    ensures comes { IfOk result (ComesTo catalogue.now) }
+    ensures told { (asked : Path) → StandsAt catalogue.now.at catalogue.now.rows row.now spot.now.at
+        → IfOk result (ArrivesAt catalogue.now (question.List asked) spot.now.at) }
 {
     match entry_kind(row.kind) {
         RowKind::Directory => {
@@ -57,7 +64,8 @@ pub fn arrive(
 ) -> Result<Stage, NoMemory>
     ensures found { (t : Nodes) → IsTree t → Fits t → IsSpot t spot.now → IsOwn t spot.now catalogue.now
         → IfOk result (IsFoundBy (found_at t question.now spot.now.at)) }
-    ensures arrives { IfOk result (ArrivesAt catalogue.now) }
+    ensures comes { IfOk result (ComesTo catalogue.now) }
+    ensures told { IfOk result (ArrivesAt catalogue.now question.now spot.now.at) }
 {
     let Some(row) = catalogue.row_at(&spot.at) else {
         return Ok(Stage::Ends(Err(ClientFault::NotFound)));

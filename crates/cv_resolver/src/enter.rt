@@ -1,12 +1,14 @@
 //! What stands at a name.
 ghost use Rattle.std.specs.Prelude.{◌≡◌, true, IfOk};
 ghost use Rattle.cv_tree.specs.Tree.{Nodes, IsTree};
+ghost use Rattle.cv_rows.specs.Catalogue.{IsCatalogue};
 ghost use Rattle.cv_rows.specs.Places.{StandsAt};
 ghost use Rattle.cv_rows.specs.declared.row_kind.RowKind.TheVariants as kind;
 ghost use Rattle.cv_cut.specs.Catalogues.{Fits};
 ghost use Rattle.cv_resolver.specs.Spot.{IsSpot, IsOwn, levels_of};
 ghost use Rattle.cv_resolver.specs.Naming.{AreKnown};
-ghost use Rattle.cv_resolver.specs.EnterInner.{IsInCut, IsEntered, entered_levels};
+ghost use Rattle.cv_resolver.specs.Rows.{IsInCut};
+ghost use Rattle.cv_resolver.specs.EnterInner.{IsEntered, IsToldBy, entered_levels};
 
 use crate::spot::{Level, Spot, moved};
 use cv_base::{NoMemory, RepoPath, Target};
@@ -65,6 +67,7 @@ pub fn enter(
     ensures entered { (t : Nodes) → IsTree t → Fits t → IsSpot t spot → IsOwn t spot catalogue.now
         → IfOk result (IsEntered t spot name.now) }
     ensures levels { IfOk result (λ e. AreKnown catalogue.now (levels_of spot) (entered_levels e)) }
+    ensures told { IsCatalogue catalogue.now → IfOk result (IsToldBy catalogue.now spot name.now) }
 {
     let Some(path) = below(alloc, &spot.at, name)? else {
         return Ok(Entered::Nothing);

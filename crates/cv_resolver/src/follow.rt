@@ -1,11 +1,12 @@
 //! A walk follows a link.
-ghost use Rattle.std.specs.Prelude.{◌≡◌, ◌≢◌, ◌&&◌, ◌++◌, ◌-◌, ℕ, Bool, false, List, IfOk};
+ghost use Rattle.std.specs.Prelude.{◌≡◌, ◌≢◌, ◌&&◌, ◌++◌, ◌-◌, ℕ, Bool, true, false, List, IfOk};
+ghost use Rattle.cv_base.specs.PathText.{parts_of};
 ghost use Rattle.cv_tree.specs.Tree.{Nodes, IsTree};
 ghost use Rattle.cv_resolver.specs.Walk.{is_last};
 ghost use Rattle.cv_resolver.specs.Spot.{StandsIn, IsSpot, levels_of};
 ghost use Rattle.cv_resolver.specs.NamingInner.{AreAmong};
-ghost use Rattle.cv_resolver.specs.Step.{IsStep, steps_left, link_trail};
-ghost use Rattle.cv_resolver.specs.StepInner.{HasAtMost, stepped_levels};
+ghost use Rattle.cv_resolver.specs.Step.{steps_left};
+ghost use Rattle.cv_resolver.specs.StepInner.{IsStep, link_trail, HasAtMost, MeetsLink, stage_after, stepped_levels};
 
 use crate::pass::Halt;
 use crate::spot::{Spot, at_root, moved};
@@ -63,6 +64,9 @@ pub fn follow_link(
         → IfOk result (IsStep repository.now t stays (link_trail repository.now t stays walk path target.now)) }
     ensures steps { IfOk result (HasAtMost (steps_left walk)) }
     ensures levels { IfOk result (λ s. AreAmong (levels_of walk.spot) (stepped_levels s)) }
+    ensures told { walk.spot.is_directory ≡ true
+        → IfOk result (λ s. MeetsLink repository.now (is_last walk.names.items && stays) walk.spot walk.names.items walk.links path
+        (parts_of target.now) (stage_after s)) }
 {
     if stops(stays, &walk.names) {
         return Ok(Step::On(Walk {

@@ -1,5 +1,5 @@
 //! What follows from the definitions of a client's answer.
-ghost use Rattle.std.specs.Prelude.{◌≡◌, ◌≤◌, ◌<◌, ◌+◌, ◌&&◌, ◌⊎◌, ◌↔◌, ℕ, Bool, true, false, suc, List, [], ◌∷◌, ◌++◌, length, codes, Option, Some, None};
+ghost use Rattle.std.specs.Prelude.{◌≡◌, ◌≤◌, ◌<◌, ◌+◌, ◌&&◌, ◌⊎◌, ◌↔◌, ℕ, Bool, true, false, suc, List, [], ◌∷◌, ◌++◌, length, codes, Option, Some, None, Ok};
 ghost use Rattle.std.specs.FinMap.{get};
 ghost use Rattle.cv_base.specs.Path.{Path, parent};
 ghost use Rattle.cv_base.specs.PathText.{parts_of};
@@ -10,12 +10,16 @@ ghost use Rattle.cv_tree.specs.declared.node.FileRef.{FileRef as TheFile};
 ghost use Rattle.cv_base.specs.declared.id.ObjectId.{ObjectId as TheId};
 ghost use Rattle.cv_resolver.specs.Kept.{Kept};
 ghost use Rattle.cv_resolver.specs.Stage.{wanted_by, IsBlameless};
-ghost use Rattle.cv_resolver.specs.Progress.{Begins, IsUncached, wants_left};
+ghost use Rattle.cv_resolver.specs.Progress.{Begins, HasArrived, IsRead, IsUncached, wants_left};
 ghost use Rattle.cv_resolver.specs.Giving.{Blames, EndsBy, IsOther, IsUndecoded, Takes};
 ghost use Rattle.cv_resolver.specs.declared.found.ClientFault.{ClientFault as TheFault};
 ghost use Rattle.cv_resolver.specs.Asking.{path_of_question};
 ghost use Rattle.cv_resolver.specs.declared.question.Question.{Question as TheQuestion};
+ghost use Rattle.sha1.specs.Sha1.{sha1};
+ghost use Rattle.cv_resolver.specs.declared.walk.Walk.{Walk as TheWalk};
 ghost use Rattle.cv_resolver.specs.declared.stage.Stage.{Stage as TheStage};
+ghost use Rattle.cv_resolver.specs.declared.stage.Stage.TheVariants as stage;
+ghost use Rattle.cv_resolver.specs.declared.found.Found.TheVariants as found;
 ghost use Rattle.cv_resolver.specs.declared.found.ClientFault.TheVariants as fault;
 ghost use Rattle.cv_resolver.specs.Walk.{Name, NotFound, NotDirectory, TooManyLinks, ends, arrives, from, is_idle, is_up, is_last, lead_of, walk};
 
@@ -99,6 +103,17 @@ pub fn what_is_kept_is_not_wanted()
     ensures asked { (r root : List ℕ) (q : TheQuestion) (k after : Kept) (s : TheStage) → Begins r root q k after s → IsUncached after s }
     ensures given { (r : List ℕ) (q : TheQuestion) (k after : Kept) (was s : TheStage) (given : Option (List ℕ)) → Takes r q k was given after s
         → IsUncached after s }
+{}
+
+/// Whatever the catalogues say, a question that isn't refused is answered by what the row at a path of one of them says, and a
+/// read by bytes of the digest in that row.
+pub fn answers_are_those_of_rows()
+    ensures asked { (r root : List ℕ) (q : TheQuestion) (k after : Kept) (s : TheStage) → Begins r root q k after s → HasArrived s → IsRead q s }
+    ensures given { (r : List ℕ) (q : TheQuestion) (k after : Kept) (w : TheWalk) (s : TheStage) (given : Option (List ℕ))
+        → Takes r q k (stage.Walks w) given after s → HasArrived s → IsRead q s }
+    ensures content { (r : List ℕ) (q : TheQuestion) (k after : Kept) (hash : List ℕ) (s : TheStage) (given : Option (List ℕ))
+        → Takes r q k (stage.Reads hash) given after s → HasArrived s
+        → (bytes : List ℕ) × (s ≡ stage.Ends (Ok (found.Bytes bytes))) × (sha1 bytes ≡ hash) }
 {}
 
 /// Where targets of links lead, in a repository of the name r.

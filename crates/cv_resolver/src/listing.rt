@@ -3,7 +3,7 @@ ghost use Rattle.std.specs.Prelude.{◌≡◌, map, IfOk};
 ghost use Rattle.std.specs.List.Sorted.{IsPermutation, IsSortedByKey};
 ghost use Rattle.cv_base.specs.Path.{name_cmp};
 ghost use Rattle.cv_rows.specs.Catalogue.{IsCatalogue};
-ghost use Rattle.cv_resolver.specs.ListingInner.{AreNames};
+ghost use Rattle.cv_resolver.specs.Listing.{AreNames};
 
 use cv_base::{NoMemory, RepoPath, Text};
 use cv_rows::{Catalogue, Row};

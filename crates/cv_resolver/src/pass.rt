@@ -1,11 +1,12 @@
 //! By one name from a spot.
 ghost use Rattle.std.specs.Prelude.{◌≡◌, IfOk};
 ghost use Rattle.cv_tree.specs.Tree.{Nodes, IsTree};
+ghost use Rattle.cv_rows.specs.Catalogue.{IsCatalogue};
 ghost use Rattle.cv_cut.specs.Catalogues.{Fits};
 ghost use Rattle.cv_resolver.specs.Walk.{is_idle, is_up};
 ghost use Rattle.cv_resolver.specs.Spot.{IsSpot, IsOwn, levels_of};
 ghost use Rattle.cv_resolver.specs.Naming.{AreKnown};
-ghost use Rattle.cv_resolver.specs.PassInner.{IsPassed, passed_levels};
+ghost use Rattle.cv_resolver.specs.PassInner.{IsPassed, PassesTo, passed_levels};
 
 use crate::enter::{Entered, enter};
 use crate::spot::{Spot, above};
@@ -59,6 +60,7 @@ pub fn pass(
     ensures passed { (t : Nodes) → IsTree t → Fits t → IsSpot t spot → IsOwn t spot catalogue.now
         → IfOk result (IsPassed t spot name.now) }
     ensures levels { IfOk result (λ p. AreKnown catalogue.now (levels_of spot) (passed_levels p)) }
+    ensures told { IsCatalogue catalogue.now → IfOk result (PassesTo catalogue.now spot name.now) }
 {
     if is_idle(name) {
         return Ok(Passed::At(spot));

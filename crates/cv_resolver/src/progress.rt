@@ -1,10 +1,12 @@
 //! How the walk of a question goes on.
 ghost use Rattle.std.specs.Prelude.{◌≡◌, IfOk};
 ghost use Rattle.cv_tree.specs.Tree.{Nodes, IsTree};
+ghost use Rattle.cv_rows.specs.Catalogue.{IsCatalogue};
 ghost use Rattle.cv_cut.specs.Catalogues.{Fits};
 ghost use Rattle.cv_resolver.specs.Spot.{IsOwn};
 ghost use Rattle.cv_resolver.specs.Kept.{AreOwn, Holds, kept_bytes};
 ghost use Rattle.cv_resolver.specs.Stage.{IsStage};
+ghost use Rattle.cv_resolver.specs.Rows.{StepsBy};
 ghost use Rattle.cv_resolver.specs.Progress.{Leads, StepsByKept, StepsTo};
 ghost use Rattle.cv_resolver.specs.ProgressInner.{refusal_of};
 ghost use Rattle.cv_resolver.specs.declared.stage.Stage.TheVariants as stage;
@@ -42,6 +44,7 @@ fn go(
 ) -> Result<Stage, NoMemory>
     ensures stage { (t : Nodes) → IsTree t → Fits t → IsOwn t walk.spot catalogue.now
         → IsStage repository.now t question.now (stage.Walks walk) → IfOk result (IsStage repository.now t question.now) }
+    ensures told { IsCatalogue catalogue.now → IfOk result (StepsBy repository.now question.now catalogue.now walk) }
     ensures steps { IfOk result (StepsTo catalogue.now walk) }
 {
     if is_last(&walk.names) {

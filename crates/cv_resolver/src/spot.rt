@@ -1,8 +1,9 @@
 //! Where a walk stands.
-ghost use Rattle.std.specs.Prelude.{◌≡◌, ◌∷◌, ◌++◌, [], take, true, Bool, List};
+ghost use Rattle.std.specs.Prelude.{◌≡◌, ◌∷◌, ◌++◌, [], take, true, Bool, List, if◌then◌else◌};
 ghost use Rattle.cv_resolver.specs.NamingInner.{AreAmong};
-ghost use Rattle.cv_base.specs.Path.{Path, parent};
+ghost use Rattle.cv_base.specs.Path.{Path, parent, same_path};
 ghost use Rattle.cv_tree.specs.Tree.{Nodes, IsTree};
+ghost use Rattle.cv_resolver.specs.Rows.{IsAt, levels_above, outer_or};
 ghost use Rattle.cv_resolver.specs.Spot.{StandsIn, IsSpot, levels_of};
 
 use cv_base::RepoPath;
@@ -59,7 +60,7 @@ fn first_level(outer: Vec<Level>, level: Level) -> Level
 
 /// The root of the repository.
 pub fn at_root(alloc: Global, spot: Spot) -> Spot
-    ensures at { result.at ≡ [] }
+    ensures at { IsAt [] true (take 1 (levels_of spot)) result }
     ensures levels { AreAmong (levels_of spot) (levels_of result) }
     ensures stands { (t : Nodes) → IsTree t → IsSpot t spot → IsSpot t result }
 {
@@ -73,6 +74,8 @@ pub fn at_root(alloc: Global, spot: Spot) -> Spot
 
 /// The cuts that cover the parent of a path: all that cover the path but for one at the path itself.
 fn levels_above(at: &RepoPath, outer: Vec<Level>, level: Level) -> (Vec<Level>, Level)
+    ensures cuts { result.0.items ++ result.1 ∷ []
+        ≡ (if same_path level.path at.now then outer_or outer.items level else outer.items ++ level ∷ []) }
     ensures levels { AreAmong (outer.items ++ level ∷ []) (result.0.items ++ result.1 ∷ []) }
     ensures stands { (t : Nodes) (d : Bool) → IsTree t → StandsIn t at.now d (outer.items ++ level ∷ [])
         → StandsIn t (parent at.now) true (result.0.items ++ result.1 ∷ []) }
@@ -89,7 +92,7 @@ fn levels_above(at: &RepoPath, outer: Vec<Level>, level: Level) -> (Vec<Level>, 
 
 /// The directory in which a spot stands. That of the root is the root. It takes no memory.
 pub fn above(spot: Spot) -> Spot
-    ensures at { result.at ≡ parent spot.at }
+    ensures at { IsAt (parent spot.at) true (levels_above spot) result }
     ensures levels { AreAmong (levels_of spot) (levels_of result) }
     ensures stands { (t : Nodes) → IsTree t → IsSpot t spot → IsSpot t result }
 {

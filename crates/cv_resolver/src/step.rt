@@ -1,11 +1,14 @@
 //! One step of a walk.
-ghost use Rattle.std.specs.Prelude.{◌≡◌, ◌≢◌, [], ℕ, Bool, List, IfOk};
+ghost use Rattle.std.specs.Prelude.{◌≡◌, ◌≢◌, [], ◌∷◌, ℕ, Bool, List, IfOk};
 ghost use Rattle.cv_tree.specs.Tree.{Nodes, IsTree};
+ghost use Rattle.cv_rows.specs.Catalogue.{IsCatalogue};
 ghost use Rattle.cv_cut.specs.Catalogues.{Fits};
+ghost use Rattle.cv_resolver.specs.Walk.{Name};
+ghost use Rattle.cv_resolver.specs.Rows.{Passes};
 ghost use Rattle.cv_resolver.specs.Spot.{IsSpot, IsOwn, levels_of};
 ghost use Rattle.cv_resolver.specs.Naming.{AreKnown};
-ghost use Rattle.cv_resolver.specs.Step.{IsStep, steps_left, trail_from};
-ghost use Rattle.cv_resolver.specs.StepInner.{HasFewer, stepped_levels};
+ghost use Rattle.cv_resolver.specs.Step.{steps_left, trail_from};
+ghost use Rattle.cv_resolver.specs.StepInner.{IsStep, HasFewer, stage_after, stepped_levels};
 
 use crate::follow::follow_link;
 use crate::pass::{Halt, Passed, pass};
@@ -36,6 +39,8 @@ pub fn step_on(
         → IfOk result (IsStep repository.now t stays (trail_from repository.now t stays walk)) }
     ensures steps { IfOk result (HasFewer (steps_left walk)) }
     ensures levels { IfOk result (λ s. AreKnown catalogue.now (levels_of walk.spot) (stepped_levels s)) }
+    ensures told { IsCatalogue catalogue.now → (name : Name) (names : List Name) → walk.names.items ≡ name ∷ names
+        → IfOk result (λ s. Passes repository.now stays catalogue.now walk name names (stage_after s)) }
 {
     let mut names = walk.names;
     let Some(name) = names.pop_front() else {

@@ -2,8 +2,8 @@
 ghost use Rattle.std.specs.Prelude.{◌≡◌, ℕ, List, map, length, IfOk};
 ghost use Rattle.cv_base.specs.Path.{Path};
 ghost use Rattle.cv_base.specs.PathText.{parts_of};
-ghost use Rattle.cv_resolver.specs.Walk.{lead_of};
-ghost use Rattle.cv_resolver.specs.TargetInner.{is_absolute, is_own, start_of, HasNames};
+ghost use Rattle.cv_resolver.specs.Walk.{is_absolute, lead_of};
+ghost use Rattle.cv_resolver.specs.TargetInner.{is_own, start_of, HasNames, IsFrom};
 
 use cv_base::{NoMemory, Target, Text};
 use std::alloc::{AllocError, Global};
@@ -65,6 +65,7 @@ fn lead_of_pieces(alloc: Global, repository: &str, pieces: &[&str]) -> Result<Le
     ensures lead { (p : Path) → IfOk result
         (λ lead. lead_of repository.now p (map (λ piece. piece.now) pieces.now) ≡ start_of p lead) }
     ensures names { IfOk result (HasNames (length pieces.now)) }
+    ensures from { IfOk result (IsFrom (map (λ piece. piece.now) pieces.now)) }
 {
     if !is_absolute(pieces) {
         let names = texts(alloc, pieces)?;
@@ -86,6 +87,7 @@ fn lead_of_pieces(alloc: Global, repository: &str, pieces: &[&str]) -> Result<Le
 pub fn lead_of_target(alloc: Global, repository: &str, target: &Target) -> Result<Lead, NoMemory>
     ensures lead { (p : Path) → IfOk result (λ lead. lead_of repository.now p (parts_of target.now) ≡ start_of p lead) }
     ensures names { IfOk result (HasNames 4096) }
+    ensures from { IfOk result (IsFrom (parts_of target.now)) }
 {
     let pieces = pieces(alloc, target.text())?;
     lead_of_pieces(alloc, repository, pieces.as_slice())

@@ -7,7 +7,7 @@ use Rattle.cv_base.specs.Path.{Path}
 use Rattle.cv_tree.specs.Tree.{Nodes}
 use Rattle.cv_tree.specs.declared.node.Node.{Node}
 use Rattle.cv_tree.specs.declared.node.Node.TheVariants.{Dir, File, Link}
-use Rattle.cv_resolver.specs.Look.{Finding, IsFound, names_at, stat_at, content_at, found_at, finding_of, look as found_in, trail}
+use Rattle.cv_resolver.specs.Look.{Finding, IsFound, names_at, names_in, stat_at, content_at, found_at, finding_of, look as found_in, trail}
 use Rattle.cv_resolver.specs.Walk.{End, Arrives, NotFound, NotDirectory, TooManyLinks}
 use Rattle.cv_resolver.specs.declared.question.Question.{Question}
 use Rattle.cv_resolver.specs.declared.question.Question.TheVariants as question
@@ -34,11 +34,11 @@ is_of_tree (Err client_fault.NotFile) = true
 is_of_tree (Err client_fault.TooManyLinks) = true
 is_of_tree (Err other) = false
 
-names_of_tree : (t : Nodes) (p : Path) (o : Option Node) → is_of_tree (names_at t p o) ≡ true
-names_of_tree t p None = refl
-names_of_tree t p (Some (Dir attr)) = refl
-names_of_tree t p (Some (File attr file)) = refl
-names_of_tree t p (Some (Link attr target)) = refl
+names_of_tree : (names : List (List ℕ)) (o : Option Node) → is_of_tree (names_at names o) ≡ true
+names_of_tree names None = refl
+names_of_tree names (Some (Dir attr)) = refl
+names_of_tree names (Some (File attr file)) = refl
+names_of_tree names (Some (Link attr target)) = refl
 
 stat_of_tree : (o : Option Node) → is_of_tree (stat_at o) ≡ true
 stat_of_tree None = refl
@@ -51,7 +51,7 @@ content_of_tree (Some (File attr file)) = refl
 content_of_tree (Some (Link attr target)) = refl
 
 found_of_tree : (t : Nodes) (q : Question) (p : Path) → is_of_tree (found_at t q p) ≡ true
-found_of_tree t (question.List asked) p = names_of_tree t p _
+found_of_tree t (question.List asked) p = names_of_tree (names_in t p) _
 found_of_tree t (question.Stat asked) p = stat_of_tree _
 found_of_tree t (question.Read asked) p = content_of_tree _
 

@@ -25,8 +25,7 @@ use Rattle.cv_top.specs.Looks as looked
 use Rattle.cv_top.specs.Looks.{Looks, Prints}
 use Rattle.cv_top.specs.Runs as runs
 use Rattle.cv_top.specs.Runs.{Inits, Serves}
-use Rattle.cv_top.specs.Sealed.{empty, unbegun, begun}
-use Rattle.cv_top.specs.SealedInner.{Sealed}
+use Rattle.cv_top.specs.SealedInner.{Sealed, empty, unbegun, begun}
 use Rattle.cv_top.specs.Status.{init_status, open_status, end_status, refused_status, ask_status, shell_status}
 use Rattle.cv_top.specs.declared.status.Status.{Status}
 use Rattle.cv_top.specs.declared.status.Status.TheVariants.{FolderFailed}

@@ -14,7 +14,8 @@ use Rattle.cv_overlay.specs.declared.read_fault.ReadFault.TheVariants as read_fa
 use Rattle.cv_client.specs.Exchange.{Links}
 use Rattle.cv_client.specs.declared.exchanging.ExchangeFault.{ExchangeFault}
 use Rattle.cv_client.specs.declared.url.Url.{Url}
-use Rattle.cv_top.specs.Publishes.{End, IsOrMemory, IsPublisher, read_status, Sends, Publishes, published, unpublished, cut, unread, Says, OnePublication, PublishesOnce, PublishesAsked, asked, unasked, start_of}
+use Rattle.cv_top.specs.Publishes.{End, IsOrMemory, IsPublisher, read_status, Sends, Publishes, published, unpublished, cut, unread, Says, OnePublication, PublishesAsked, asked, unasked, start_of}
+use Rattle.cv_top.specs.PublishesInner.{PublishesOnce}
 use Rattle.cv_top.specs.Runs.{Outside, Runs, usage, bad_keys, unsigned, no_seal, unbegun, init, stdio, look, shell, publish}
 use Rattle.cv_top.specs.Seal.{is_seal_by}
 use Rattle.cv_words.specs.Words.{Asks}

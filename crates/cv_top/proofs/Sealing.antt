@@ -15,8 +15,7 @@ use Rattle.cv_top.specs.Lines.{AnswersLines}
 use Rattle.cv_top.specs.Looks.{Looks}
 use Rattle.cv_top.specs.Publishes.{Publishes}
 use Rattle.cv_top.specs.Runs.{Runs, Inits, Serves, outside, unsigned, no_seal, unbegun as begun_not, init, stdio, look, shell, publish}
-use Rattle.cv_top.specs.Sealed.{empty, unbegun, begun, faulty, unread, keyed}
-use Rattle.cv_top.specs.SealedInner.{Sealed, Keyed}
+use Rattle.cv_top.specs.SealedInner.{Sealed, Keyed, empty, unbegun, begun, faulty, unread, keyed}
 use Rattle.cv_words.specs.Words.{Asks}
 use Rattle.cv_top.specs.declared.status.Status.{Status}
 use Rattle.cv_words.specs.declared.words.Command.TheVariants.{Init, Stdio, Look as Looking, Shell as Shelling, Publish as Publishing}

@@ -4,6 +4,7 @@ pub mod Lines
 pub mod Looks
 pub mod Publication
 pub mod Publishes
+pub mod PublishesInner
 pub mod Runs
 pub mod Seal
 pub mod Sealed

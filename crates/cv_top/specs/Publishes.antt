@@ -181,10 +181,6 @@ module _ {W C F N : Type 0} (taken : W → Option (List ℕ)) (moments : C → O
     pub untouched : dial' ≡ dial
     pub undone : status ≢ Done
 
-  abbrev pub PublishesOnce : List Key → List ℕ → Url → Path → List ℕ → W → W → C → C → F → F → N → N → Status → Type 0
-  PublishesOnce keys seal u path root output output' clock clock' f f' dial dial' status =
-      OnePublication keys seal u path root output output' clock clock' f f' dial dial' status ⊎ SendsNothing dial dial' status
-
   -- it was one publication that the words ask for, under the keys of this text; or nothing went over the dial
   pub data PublishesAsked (words : List (List ℕ)) (keys seal : List ℕ) (output output' : W) (clock clock' : C) (f f' : F) (dial dial' : N) (status : Status) : Type 0 where
     asked : (u : Url) (path : Path) (root : List ℕ) (table : List Key) → Asks words (Publish u path root) → keys_of keys ≡ Ok table

@@ -1,9 +1,11 @@
-use Rattle.std.proofs.Common.{sym, subst}
+use Rattle.std.proofs.Common.{true, false, sym, subst}
 use Rattle.cv_resolver.specs.Naming.{AreKnown}
 use Rattle.cv_resolver.specs.Spot.{levels_of}
 use Rattle.cv_resolver.specs.declared.spot.Spot.{Spot}
 use Rattle.cv_resolver.proofs.Naming.{none_known, still_known, cut_known}
 use Rattle.cv_resolver.proofs.Entering.{no_row, to_file, to_directory, to_root, to_cut, to_link}
+use Rattle.cv_resolver.proofs.Telling.{moved_at, told_no_path, told_no_row, told_row, told_link}
+use Rattle.cv_rows.specs.declared.row_kind.RowKind.TheVariants as kind
 use Rattle.cv_resolver.proofs.enter.enter.Goals as goal
 
 pub returns-in_default-row_at-clause-entered : goal.returns-in_default-row_at-clause-entered
@@ -50,3 +52,34 @@ returns-in_ok-target-in-Link-clause-levels c = still_known c.args.catalogue.now 
 pub returns-in_ok-spot-in-Transition-clause-levels : goal.returns-in_ok-spot-in-Transition-clause-levels
 returns-in_ok-spot-in-Transition-clause-levels c =
     cut_known c.args.catalogue.now c.in-Some-row_at.row.now c.args.spot c.in-Some.path c.in_ok-spot-in-Transition.spot c.in-Some-row_at.ensures.row c.in-Transition.is c.in_ok-spot-in-Transition.ensures
+
+pub returns-in_default-clause-told : goal.returns-in_default-clause-told
+returns-in_default-clause-told c = told_no_path c.args.catalogue.now c.args.spot c.args.name.now c.in_ok-path.field-0 c.in_ok-path.ensures c.in_default.is
+
+pub returns-in_default-row_at-clause-told : goal.returns-in_default-row_at-clause-told
+returns-in_default-row_at-clause-told c = λ rules.
+    told_no_row c.args.catalogue.now c.args.spot c.args.name.now c.in_ok-path.field-0 c.in_ok-path.ensures c.in-Some.path c.in-Some.is c.in_default-row_at.ensures.row
+
+pub returns-in_ok-target-in-Link-clause-told : goal.returns-in_ok-target-in-Link-clause-told
+returns-in_ok-target-in-Link-clause-told c = λ rules.
+    told_link c.args.catalogue.now c.args.spot c.args.name.now c.in_ok-path.field-0 c.in_ok-path.ensures c.in-Some.path c.in-Some.is c.in-Some-row_at.row.now c.in-Some-row_at.ensures.row c.in_ok-target-in-Link.target c.in-Link.is c.in_ok-target-in-Link.ensures
+
+pub returns-in_ok-spot-in-Transition-clause-told : goal.returns-in_ok-spot-in-Transition-clause-told
+returns-in_ok-spot-in-Transition-clause-told c = λ rules.
+    told_row c.args.catalogue.now c.args.spot c.args.name.now c.in_ok-path.field-0 c.in_ok-path.ensures c.in-Some.path c.in-Some.is c.in-Some-row_at.row.now c.in-Some-row_at.ensures.row kind.Transition c.in_ok-spot-in-Transition.spot c.in-Transition.is
+    (λ e. cc) c.in_ok-spot-in-Transition.ensures
+
+pub returns-in-File-clause-told : goal.returns-in-File-clause-told
+returns-in-File-clause-told c = λ rules.
+    told_row c.args.catalogue.now c.args.spot c.args.name.now c.in_ok-path.field-0 c.in_ok-path.ensures c.in-Some.path c.in-Some.is c.in-Some-row_at.row.now c.in-Some-row_at.ensures.row kind.File c.moved.result c.in-File.is
+    (λ e. cc) (moved_at c.args.spot c.moved.result c.in-Some.path false c.moved.ensures)
+
+pub returns-in-Directory-clause-told : goal.returns-in-Directory-clause-told
+returns-in-Directory-clause-told c = λ rules.
+    told_row c.args.catalogue.now c.args.spot c.args.name.now c.in_ok-path.field-0 c.in_ok-path.ensures c.in-Some.path c.in-Some.is c.in-Some-row_at.row.now c.in-Some-row_at.ensures.row kind.Directory c.moved-in-Directory.result c.in-Directory.is
+    (λ e. cc) (moved_at c.args.spot c.moved-in-Directory.result c.in-Some.path true c.moved-in-Directory.ensures)
+
+pub returns-in-NestedRoot-clause-told : goal.returns-in-NestedRoot-clause-told
+returns-in-NestedRoot-clause-told c = λ rules.
+    told_row c.args.catalogue.now c.args.spot c.args.name.now c.in_ok-path.field-0 c.in_ok-path.ensures c.in-Some.path c.in-Some.is c.in-Some-row_at.row.now c.in-Some-row_at.ensures.row kind.NestedRoot c.moved-in-NestedRoot.result c.in-NestedRoot.is
+    (λ e. cc) (moved_at c.args.spot c.moved-in-NestedRoot.result c.in-Some.path true c.moved-in-NestedRoot.ensures)

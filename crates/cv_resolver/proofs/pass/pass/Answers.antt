@@ -1,11 +1,14 @@
-use Rattle.std.proofs.Common.{sym, subst, ◌∙◌}
+use Rattle.std.proofs.Common.{refl, sym, subst, ◌∙◌}
 use Rattle.cv_cut.proofs.Lemmas.{not_false, not_true}
 use Rattle.cv_resolver.specs.EnterInner.{IsEntered, entered_levels}
 use Rattle.cv_resolver.specs.declared.enter.Entered.{Entered}
+use Rattle.cv_resolver.specs.declared.enter.Entered.TheVariants.{Nothing, Stands, Link}
 use Rattle.cv_resolver.specs.Naming.{AreKnown}
 use Rattle.cv_resolver.specs.Spot.{levels_of}
 use Rattle.cv_resolver.proofs.Naming.{none_known, still_known}
 use Rattle.cv_resolver.proofs.Passing.{idle, below_file, up, nothing, stands, link}
+use Rattle.cv_resolver.specs.EnterInner.{IsToldBy}
+use Rattle.cv_resolver.specs.PassInner.{idle as passed_over, below_file as passed_file, up as passed_up, down}
 use Rattle.cv_resolver.proofs.pass.pass.Goals as goal
 
 pub returns-then-is_idle-clause-passed : goal.returns-then-is_idle-clause-passed
@@ -16,7 +19,7 @@ returns-then-not-spot-clause-passed c = λ t tree fits is own. below_file t c.ar
 
 pub returns-then-is_up-clause-passed : goal.returns-then-is_up-clause-passed
 returns-then-is_up-clause-passed c = λ t tree fits is own.
-    up t c.args.spot c.args.name.now (sym c.is_idle.ensures ∙ c.if-is_idle.false) (not_false c.args.spot.is_directory c.if-not-spot.false) c.above.result (sym c.is_up.ensures ∙ c.if-is_up.true) is (c.above.ensures.stands t tree is) c.above.ensures.at
+    up t c.args.spot c.args.name.now (sym c.is_idle.ensures ∙ c.if-is_idle.false) (not_false c.args.spot.is_directory c.if-not-spot.false) c.above.result (sym c.is_up.ensures ∙ c.if-is_up.true) is (c.above.ensures.stands t tree is) c.above.ensures.at.place
 
 pub returns-in-Nothing-clause-passed : goal.returns-in-Nothing-clause-passed
 returns-in-Nothing-clause-passed c = λ t tree fits is own.
@@ -54,3 +57,28 @@ pub returns-in-Link-clause-levels : goal.returns-in-Link-clause-levels
 returns-in-Link-clause-levels c =
     let e = c.in_ok-enter.ensures in
     subst (λ (x : Entered). AreKnown c.args.catalogue.now (levels_of c.args.spot) (entered_levels x)) c.in-Link.is e.levels
+
+pub returns-then-is_idle-clause-told : goal.returns-then-is_idle-clause-told
+returns-then-is_idle-clause-told c = λ rules. passed_over (sym c.is_idle.ensures ∙ c.if-is_idle.true) refl
+
+pub returns-then-not-spot-clause-told : goal.returns-then-not-spot-clause-told
+returns-then-not-spot-clause-told c = λ rules. passed_file (sym c.is_idle.ensures ∙ c.if-is_idle.false) (not_true c.args.spot.is_directory c.if-not-spot.true) refl
+
+pub returns-then-is_up-clause-told : goal.returns-then-is_up-clause-told
+returns-then-is_up-clause-told c = λ rules.
+    passed_up (sym c.is_idle.ensures ∙ c.if-is_idle.false) (not_false c.args.spot.is_directory c.if-not-spot.false) (sym c.is_up.ensures ∙ c.if-is_up.true) c.above.result c.above.ensures.at refl
+
+pub returns-in-Nothing-clause-told : goal.returns-in-Nothing-clause-told
+returns-in-Nothing-clause-told c = λ rules.
+    down (record { some = sym c.is_idle.ensures ∙ c.if-is_idle.false; directory = not_false c.args.spot.is_directory c.if-not-spot.false; down = sym c.is_up.ensures ∙ c.if-is_up.false }) Nothing
+    (subst (λ (e : Entered). IsToldBy c.args.catalogue.now c.args.spot c.args.name.now e) c.in-Nothing.is (let e = c.in_ok-enter.ensures in e.told rules)) refl
+
+pub returns-in-Stands-clause-told : goal.returns-in-Stands-clause-told
+returns-in-Stands-clause-told c = λ rules.
+    down (record { some = sym c.is_idle.ensures ∙ c.if-is_idle.false; directory = not_false c.args.spot.is_directory c.if-not-spot.false; down = sym c.is_up.ensures ∙ c.if-is_up.false }) (Stands c.in-Stands.spot)
+    (subst (λ (e : Entered). IsToldBy c.args.catalogue.now c.args.spot c.args.name.now e) c.in-Stands.is (let e = c.in_ok-enter.ensures in e.told rules)) refl
+
+pub returns-in-Link-clause-told : goal.returns-in-Link-clause-told
+returns-in-Link-clause-told c = λ rules.
+    down (record { some = sym c.is_idle.ensures ∙ c.if-is_idle.false; directory = not_false c.args.spot.is_directory c.if-not-spot.false; down = sym c.is_up.ensures ∙ c.if-is_up.false }) (Link c.in-Link.spot c.in-Link.path c.in-Link.target)
+    (subst (λ (e : Entered). IsToldBy c.args.catalogue.now c.args.spot c.args.name.now e) c.in-Link.is (let e = c.in_ok-enter.ensures in e.told rules)) refl

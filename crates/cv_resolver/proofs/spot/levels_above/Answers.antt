@@ -3,6 +3,7 @@ use Rattle.cv_base.specs.Path.{same_path}
 use Rattle.cv_cut.proofs.Lemmas.{not_false, not_true}
 use Rattle.cv_resolver.proofs.Naming.{above_among}
 use Rattle.cv_resolver.proofs.Spots.{above_here, above_cut}
+use Rattle.cv_resolver.proofs.Telling.{cuts_here, cuts_above}
 use Rattle.cv_resolver.proofs.spot.levels_above.Goals as goal
 
 pub returns-then-ne-clause-stands : goal.returns-then-ne-clause-stands
@@ -17,3 +18,10 @@ returns-then-ne-clause-levels c = λ l has. has
 
 pub returns-in-Some-clause-levels : goal.returns-in-Some-clause-levels
 returns-in-Some-clause-levels c = above_among c.pop.new.self.items c.in-Some.above c.args.level c.args.outer.items c.in-Some.ensures.items
+
+pub returns-then-ne-clause-cuts : goal.returns-then-ne-clause-cuts
+returns-then-ne-clause-cuts c = cuts_here c.args.outer.items c.args.level _ (not_true (same_path c.args.level.path c.args.at.now) (sym c.ne.ensures ∙ c.if-ne.true))
+
+pub returns-in-Some-clause-cuts : goal.returns-in-Some-clause-cuts
+returns-in-Some-clause-cuts c =
+    cuts_above c.pop.new.self.items c.in-Some.above c.args.level c.args.outer.items _ c.in-Some.ensures.items (not_false (same_path c.args.level.path c.args.at.now) (sym c.ne.ensures ∙ c.if-ne.false))

@@ -1,7 +1,7 @@
 use Rattle.std.proofs.Common.{refl, ap, sym, ◌∙◌, inl, inr}
 use Rattle.cv_client.proofs.Lemmas.{asks_none}
 use Rattle.cv_keys.specs.KeysText.{keys_of}
-use Rattle.cv_top.specs.Sealed.{faulty, unread, keyed}
+use Rattle.cv_top.specs.SealedInner.{faulty, unread, keyed}
 use Rattle.cv_top.proofs.KeyFaults.{fault_or_memory}
 use Rattle.cv_top.proofs.program.do_publish.Goals as goal
 

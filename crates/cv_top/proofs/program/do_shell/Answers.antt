@@ -1,6 +1,6 @@
 use Rattle.std.proofs.Common.{refl, ap, ◌∙◌, Err}
 use Rattle.cv_client.proofs.Lemmas.{asks_none}
-use Rattle.cv_top.specs.Sealed.{empty, unbegun, begun}
+use Rattle.cv_top.specs.SealedInner.{empty, unbegun, begun}
 use Rattle.cv_top.proofs.program.do_shell.Goals as goal
 
 pub returns-in-Ok-clause-does : goal.returns-in-Ok-clause-does

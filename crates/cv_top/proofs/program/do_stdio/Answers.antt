@@ -1,5 +1,5 @@
 use Rattle.std.proofs.Common.{refl, ap, ◌∙◌, Err}
-use Rattle.cv_top.specs.Sealed.{empty, unbegun, begun}
+use Rattle.cv_top.specs.SealedInner.{empty, unbegun, begun}
 use Rattle.cv_top.proofs.program.do_stdio.Goals as goal
 
 pub returns-in-Err-Empty-clause-does : goal.returns-in-Err-Empty-clause-does

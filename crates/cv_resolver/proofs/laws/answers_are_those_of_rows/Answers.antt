@@ -1,0 +1,11 @@
+use Rattle.cv_resolver.proofs.Telling.{begun_read, given_read, given_content}
+use Rattle.cv_resolver.proofs.laws.answers_are_those_of_rows.Goals as goal
+
+pub returns-clause-asked : goal.returns-clause-asked
+returns-clause-asked c = begun_read
+
+pub returns-clause-given : goal.returns-clause-given
+returns-clause-given c = given_read
+
+pub returns-clause-content : goal.returns-clause-content
+returns-clause-content c = given_content
