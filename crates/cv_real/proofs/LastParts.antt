@@ -2,13 +2,14 @@
 use Rattle.std.proofs.Common.{◌≡◌, ◌≢◌, ◌==◌, ℕ, suc, ◌<◌, ◌≤◌, Bool, true, false, cond, List, [], ◌∷◌, ◌++◌, length, get_or, take, drop, Option, Some, None, MatchOption, refl, sym, ap, subst, ◌∙◌, append_assoc, take-append-drop, arith, length-append, length-take, eq-eqb, ne_eqb, Bor, lit<, ◌-◌, codes}
 use Rattle.std.specs.List.{onto_first}
 use Rattle.std.specs.Option.{unwrap_or}
+use Rattle.std.specs.Str.{IsCharBoundary}
 use Rattle.std.specs.Str.Pattern.{FindsTextSuffix, RFindsChar, SplitsAroundMatch, StripsSuffix}
 use Rattle.std.proofs.lemmas.List.{take_at}
 use Rattle.std.proofs.lemmas.List.Splits.{slice_split-cons_no}
-use Rattle.std.proofs.lemmas.Str.Pattern.{NoCharPasses-char, drop_at_char}
+use Rattle.std.proofs.lemmas.Str.Pattern.{NoCharPasses-char, drop_at_char, ends_text}
 use Rattle.cv_base.specs.Path.{Path, last_name_of}
 use Rattle.cv_base.specs.PathText.{parts_of}
-use Rattle.cv_real.specs.NamesInner.{last_part, folder_of}
+use Rattle.cv_real.specs.NamesInner.{last_part, folder_of, without_slash}
 
 -- no byte is a slash
 HasNoSlash : List ℕ → Type 0
@@ -74,12 +75,11 @@ folder_is path front last (Some x) other is whole (n, finds, taken, size) =
     ∙ sym (ap (λ b. cond b (codes "./") (take (length path - length (last_part path)) path)) shorter)
 
 -- what is left of a folder's path without its last slash
-pub above_is : (folder path : List ℕ) (r : Option (Bor (List ℕ))) (other : Bor (List ℕ)) → folder ≡ path ++ 47 ∷ []
-    → MatchOption r (FindsTextSuffix (47 ∷ []) folder None) (λ x. StripsSuffix (FindsTextSuffix (47 ∷ [])) folder x.now) → (unwrap_or r other).now ≡ path
-above_is folder path None other is none = absurd (none path is)
-above_is folder path (Some x) other is (n, finds, taken, size) =
-    let kept : length folder - n ≡ length path = omega (arith, finds.0, ap length is, length-append path (47 ∷ [])) in
-    taken ∙ ap (λ k. take k folder) kept ∙ ap (λ f. take (length path) f) is ∙ take_at path (47 ∷ []) (length path) refl
+pub without_slash_is : (folder : List ℕ) (r : Option (Bor (List ℕ))) (other : Bor (List ℕ)) → other.now ≡ folder
+    → MatchOption r (FindsTextSuffix (47 ∷ []) folder None) (λ x. StripsSuffix (FindsTextSuffix (47 ∷ [])) folder x.now) → (unwrap_or r other).now ≡ without_slash folder
+without_slash_is folder None other is none = is ∙ ap (λ t. cond t (take (length folder - 1) folder) folder) (ends_text false (47 ∷ []) folder none)
+without_slash_is folder (Some x) other is (n, finds, taken, size) =
+    taken ∙ ap (λ k. take (length folder - k) folder) finds.0 ∙ ap (λ t. cond t (take (length folder - 1) folder) folder) (ends_text true (47 ∷ []) folder (n, finds, omega (arith, size), subst (λ k. IsCharBoundary folder (length folder - k)) (sym finds.0) finds.2))
 
 -- it isn't longer than the path
 pub not_longer : (folder : List ℕ) (r : Option (Bor (List ℕ))) (other : Bor (List ℕ)) → other.now ≡ folder

@@ -1,2 +1,3 @@
-mod Ascending
+mod CutNames
 mod LastParts
+mod Looking

@@ -1,2 +1,3 @@
 pub mod NamesInner
+pub mod PathsInner
 pub mod WalkInner

@@ -1,6 +1,6 @@
 -- Which texts are names of a vault over a folder, and the paths that they stand at.
 use Rattle.std.specs.Prelude.{ℕ, Bool, not, ◌==◌, ◌&&◌, ◌-◌, List, [], ◌∷◌, ◌++◌, length, take, codes, if◌then◌else◌}
-use Rattle.std.specs.List.{starts_with, list_all, flat_map}
+use Rattle.std.specs.List.{starts_with, ends_with, list_all, flat_map}
 use Rattle.cv_base.specs.Path.{Path, is_dots, last_name_of}
 use Rattle.cv_base.specs.PathText.{parts_of}
 
@@ -28,6 +28,14 @@ abbrev pub folder_of : List ℕ → List ℕ
 folder_of path =
     if length (last_part path) == length path then codes "./"
     else take (length path - length (last_part path)) path
+
+-- a folder's path without the slash at its end
+abbrev pub without_slash : List ℕ → List ℕ
+without_slash folder = if ends_with (λ a b. a == b) folder (47 ∷ []) then take (length folder - 1) folder else folder
+
+-- the folder above one
+abbrev pub above : List ℕ → List ℕ
+above folder = folder_of (without_slash folder)
 
 -- the folder behind these names, from a folder on whose path ends in a slash: each name with a slash behind it
 abbrev pub below : List ℕ → Path → List ℕ

@@ -1,8 +1,10 @@
 -- Which folders a walk goes into next. A path that is kept and empty is free room.
-use Rattle.std.specs.Prelude.{ℕ, Bool, ◌==◌, ◌||◌, ◌&&◌, ◌-◌, List, [], length, take, insert, slice_index_or, position, Option}
+use Rattle.std.specs.Prelude.{ℕ, Bool, ◌≡◌, ◌⊎◌, ◌==◌, ◌||◌, ◌&&◌, ◌+◌, ◌-◌, ◌<◌, List, [], ◌∷◌, ◌++◌, length, take, insert, slice_index_or, position, Option, IsTrue}
 use Rattle.std.specs.Ordering.{is_lt}
+use Rattle.std.specs.List.{slice_split}
 use Rattle.std.specs.Option.{option_map_or}
 use Rattle.cv_base.specs.Path.{name_cmp}
+use Rattle.cv_real.specs.NamesInner.{is_part}
 
 -- a path comes next: behind the last one, and before the end of what is kept, if there is no room for more
 abbrev pub comes_next : List ℕ → List ℕ → List ℕ → Bool
@@ -23,3 +25,29 @@ first_of kept = slice_index_or kept 0 []
 -- the path that comes last, where there is no room for more
 abbrev pub end_of : List (List ℕ) → List ℕ
 end_of kept = slice_index_or kept (length kept - 1) []
+
+-- the path of the folder of this name in a folder
+abbrev pub folder_in : List ℕ → List ℕ → List ℕ
+folder_in folder name = (folder ++ name) ++ 47 ∷ []
+
+-- what has this name comes next, if it is a folder: the name may be a part of one, and the system takes the folder's path
+abbrev pub IsNext : List ℕ → List ℕ → List ℕ → List (List ℕ) → Type 0
+IsNext folder name last kept =
+    IsTrue (is_part name) × (length folder + length name + 1 < 4096) × IsTrue (comes_next (folder_in folder name) last (end_of kept))
+
+-- a name of a folder was looked at: what is kept is the same, or its folder came next and is kept too
+abbrev pub Looks : List ℕ → List ℕ → List ℕ → List (List ℕ) → List (List ℕ) → Type 0
+Looks folder last name kept kept' = (kept' ≡ kept) ⊎ (IsNext folder name last kept × (kept' ≡ with_path (folder_in folder name) kept))
+
+-- the names in what the system gives of a folder, between which NULs stand
+abbrev pub names_in : List ℕ → List (List ℕ)
+names_in bytes = slice_split (λ b. b == 0) bytes
+
+-- these names of a folder were looked at, one after another
+abbrev pub LooksAtAll : List ℕ → List ℕ → List (List ℕ) → List (List ℕ) → List (List ℕ) → Type 0
+LooksAtAll folder last [] kept kept' = kept' ≡ kept
+LooksAtAll folder last (name ∷ names) kept kept' = (between : List (List ℕ)) × Looks folder last name kept between × LooksAtAll folder last names between kept'
+
+-- some names of a folder were looked at
+abbrev pub LooksRound : List ℕ → List ℕ → List (List ℕ) → List (List ℕ) → Type 0
+LooksRound folder last kept kept' = (names : List (List ℕ)) × LooksAtAll folder last names kept kept'

@@ -1,5 +1,5 @@
 //! The folders that a walk goes into next.
-ghost use Rattle.std.specs.Prelude.{◌≡◌, ◌<◌, ◌++◌, [], ◌∷◌, drop, length, IfSome};
+ghost use Rattle.std.specs.Prelude.{◌≡◌, ◌<◌, ◌++◌, [], ◌∷◌, All, drop, length, map, IfOk, IfSome};
 ghost use Rattle.cv_real.specs.WalkInner.{place_of, with_path, first_of, end_of};
 
 use crate::path_buffer::PathBuffer;
@@ -39,7 +39,9 @@ fn place_of(paths: &[PathBuffer], path: &str) -> Option<usize>
 
 impl Ahead {
     /// Nothing is kept.
-    pub fn new(alloc: Global) -> Result<Ahead, AllocError> {
+    pub fn new(alloc: Global) -> Result<Ahead, AllocError>
+        ensures { IfOk result (λ ahead. All (λ path. path ≡ []) ahead) }
+    {
         let mut paths = Vec::with_capacity(alloc, ROOM)?;
         for _ in 0..ROOM {
             paths.push(PathBuffer::new(alloc)?)?;
@@ -92,7 +94,9 @@ impl Ahead {
     }
 
     /// Keeps nothing any more.
-    pub fn clear(&mut self) {
+    pub fn clear(&mut self)
+        ensures { self.new ≡ map (λ _. []) self.old }
+    {
         for path in self.paths.iter_mut() {
             path.clear();
         }

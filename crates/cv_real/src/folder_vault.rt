@@ -81,7 +81,9 @@ fn as_texts(alloc: Global, names: Vec<String>) -> Result<Vec<Text>, AllocError> 
 }
 
 /// The error of a call that isn't made.
-fn refused() -> io::Error {
+fn refused() -> io::Error
+    ensures { error_kind result ≡ ErrorKind.InvalidInput }
+{
     io::Error::from(ErrorKind::InvalidInput)
 }
 

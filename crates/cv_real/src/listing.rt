@@ -1,9 +1,9 @@
 //! The items of a real folder.
-ghost use Rattle.std.specs.Prelude.{◌≡◌, IfOk, IsTrue};
+ghost use Rattle.std.specs.Prelude.{IfOk};
 ghost use Rattle.cv_ports.specs.Folder.{Ascend};
 
 use cv_base::{Items, Text};
-use cv_ports::{FolderItem, FoundKind};
+use cv_ports::{FolderItem, FoundKind, ascend};
 use std::alloc::{AllocError, Global};
 use std::fs::{DirEntry, Metadata};
 use std::io::ErrorKind;
@@ -47,19 +47,6 @@ fn item_of<R: Files + AllocGlobal + Clone + Drop>(
         mode: seen.mode() & PERMISSIONS,
         mtime: since_1970(seen.mtime()),
     })
-}
-
-/// Whether the names of these items ascend by their bytes.
-#[tactic(auto, using(crate::proofs::Ascending::passed, crate::proofs::Ascending::next_tested, crate::proofs::Ascending::all_tested))]
-fn ascend(items: &[FolderItem]) -> bool
-    ensures { IsTrue result → Ascend items.now }
-{
-    for i in 1..items.len() {
-        if items[i - 1].name.as_str() >= items[i].name.as_str() {
-            return false;
-        }
-    }
-    true
 }
 
 /// The items of the folder at a path with a slash at its end, in the order of the bytes of their names. It fails where a name

@@ -1,9 +1,9 @@
 //! Which texts are names of a vault over a folder, and the paths of their folders.
-ghost use Rattle.std.specs.Prelude.{◌≡◌, ◌==◌, ◌++◌, ◌∷◌, [], ◌<◌, List, ℕ, length, not};
+ghost use Rattle.std.specs.Prelude.{◌≡◌, ◌==◌, ◌<◌, length, not};
 ghost use Rattle.std.specs.List.{list_all};
 ghost use Rattle.cv_base.specs.Path.{is_dots};
 ghost use Rattle.cv_base.specs.PathText.{parts_of};
-ghost use Rattle.cv_real.specs.NamesInner.{is_own, is_part, is_name, last_part, folder_of};
+ghost use Rattle.cv_real.specs.NamesInner.{is_own, is_part, is_name, last_part, folder_of, above};
 
 /// The one own file of a folder: the next file of one of its names, as long as it isn't whole.
 pub const NEXT: &str = ".cvkit-next";
@@ -79,7 +79,7 @@ pub fn folder_of(path: &str) -> &str
 
 /// The folder above one, of which each path ends in a slash.
 pub fn above(folder: &str) -> &str
-    ensures above { (path : List ℕ) → folder.now ≡ path ++ 47 ∷ [] → result.now ≡ folder_of path }
+    ensures above { result.now ≡ above folder.now }
     ensures fits { length folder.now < 4096 → length result.now < 4096 }
 {
     folder_of(folder.strip_suffix("/").unwrap_or(folder))

@@ -36,7 +36,8 @@ impl PathBuffer {
 
     /// The path.
     pub fn as_str(&self) -> &str
-        ensures { result.now ≡ self.now }
+        ensures path { result.now ≡ self.now }
+        ensures fits { length result.now < 4096 }
     {
         self.text.as_str()
     }
@@ -46,6 +47,15 @@ impl PathBuffer {
         ensures { self.new ≡ [] }
     {
         self.text.clear();
+    }
+
+    /// Sets a path that the system takes.
+    pub fn copy(&mut self, path: &str)
+        requires { length path.now < 4096 }
+        ensures { self.new ≡ path.now }
+    {
+        self.text.clear();
+        let _ = self.text.push_str(path);
     }
 
     /// Sets the path of what stands so in a folder, and answers whether the system takes a path of that length. If not, it is

@@ -2,6 +2,7 @@
 //! folder there.
 ghost use Rattle.std.specs.Prelude.{◌≡◌, ◌≤◌, ◌↔◌, None, length, IfOk, IsTrue};
 ghost use Rattle.std.specs.IoError.{error_kind, raw_os_error};
+ghost use Rattle.cv_real.specs.PathsInner.{IsNoName};
 
 use crate::names::{folder_of, is_own};
 use std::alloc::{AllocError, Global};
@@ -177,8 +178,13 @@ pub fn move_file(rt: &impl Files, from: &str, found: &Metadata, to: &str) -> io:
 
 /// Whether a listing goes on without what this error hides: a name that isn't UTF-8, a path that is longer than the system
 /// takes, or nothing at all. No name of a vault is behind it.
-pub fn is_no_name(error: &io::Error) -> bool {
-    error.kind() == ErrorKind::InvalidFilename || error.kind() == ErrorKind::NotFound
+pub fn is_no_name(error: &io::Error) -> bool
+    ensures { IsTrue result ↔ IsNoName (error_kind error.now) }
+{
+    matches!(
+        error.kind(),
+        ErrorKind::InvalidFilename | ErrorKind::NotFound
+    )
 }
 
 /// What stands at an entry of a folder. Nothing stands at one whose path is longer than the system takes.

@@ -1,7 +1,10 @@
 //! All folders from one on, made durable without a list of them.
-ghost use Rattle.std.specs.Prelude.{◌≡◌, ◌⊎◌, ◌==◌, ◌++◌, [], ◌∷◌, drop, IfOk, IsTrue};
+ghost use Rattle.std.specs.Prelude.{◌≡◌, ◌↔◌, ◌⊎◌, ◌==◌, ◌+◌, ◌<◌, ◌++◌, [], ◌∷◌, All, List, ℕ, drop, length, map, position, IfOk, IfErr, IfSome, MatchOption, Err, IsOk, IsTrue, OnOk, ◌≤◌};
+ghost use Rattle.std.specs.IoError.{error_kind};
 ghost use Rattle.std.specs.List.{starts_with};
-ghost use Rattle.cv_real.specs.WalkInner.{comes_next, with_path, first_of, end_of};
+ghost use Rattle.cv_real.specs.NamesInner.{above};
+ghost use Rattle.cv_real.specs.PathsInner.{IsNoName};
+ghost use Rattle.cv_real.specs.WalkInner.{comes_next, first_of, end_of, folder_in, IsNext, Looks, LooksAtAll, LooksRound, names_in};
 
 use crate::ahead::Ahead;
 use crate::names::{NEXT, above, is_part};
@@ -27,7 +30,9 @@ pub enum Unsynced {
 }
 
 /// Makes durable what a folder holds, by names alone.
-fn sync_open(open: &impl OpenFile) -> Result<(), Unsynced> {
+fn sync_open(open: &impl OpenFile) -> Result<(), Unsynced>
+    ensures { IfErr result (λ unsynced. unsynced ≡ Unsynced.Lost) }
+{
     match open.sync_all() {
         Ok(()) => Ok(()),
         Err(_) => Err(Unsynced::Lost),
@@ -51,8 +56,10 @@ pub fn sync_folders(rt: &impl Files, folders: &Vec<String>) -> Result<(), Unsync
 }
 
 /// Whether this process may not do what it asked for.
-fn is_refused(error: &io::Error) -> bool {
-    error.kind() == ErrorKind::PermissionDenied
+fn is_refused(error: &io::Error) -> bool
+    ensures { IsTrue result ↔ (error_kind error.now ≡ ErrorKind.PermissionDenied) }
+{
+    matches!(error.kind(), ErrorKind::PermissionDenied)
 }
 
 /// Whether a path comes next: behind the last one, and before the end of what is kept, if there is no room for more.
@@ -68,7 +75,7 @@ fn comes_next(path: &str, last: &str, end: &str) -> bool
 struct Place {
     /// The folder that is read.
     folder: PathBuffer,
-    /// The folder that was the last to be made durable. Each one before it was.
+    /// The folder that was gone into last. Each one before it was gone into too.
     last: PathBuffer,
     /// The folders behind it that are known. None is left out before one that is kept.
     ahead: Ahead,
@@ -79,7 +86,12 @@ struct Place {
 }
 
 impl Place {
-    fn new(alloc: Global) -> Result<Place, AllocError> {
+    /// Nowhere yet.
+    fn new(alloc: Global) -> Result<Place, AllocError>
+        ensures folder { IfOk result (λ place. place.folder ≡ []) }
+        ensures last { IfOk result (λ place. place.last ≡ []) }
+        ensures ahead { IfOk result (λ place. All (λ path. path ≡ []) place.ahead) }
+    {
         Ok(Place {
             folder: PathBuffer::new(alloc)?,
             last: PathBuffer::new(alloc)?,
@@ -87,6 +99,21 @@ impl Place {
             entry: PathBuffer::new(alloc)?,
             found: PathBuffer::new(alloc)?,
         })
+    }
+
+    /// Comes to the folder at the top of a walk, whose path has no slash at its end.
+    fn begin(&mut self, top: &str) -> Result<(), Unsynced>
+        ensures fits { IsOk result ↔ (length top.now + 1 < 4096) }
+        ensures folder { OnOk result (self.new.folder ≡ top.now ++ 47 ∷ []) }
+        ensures last { OnOk result (self.new.last ≡ top.now ++ 47 ∷ []) }
+        ensures ahead { self.new.ahead ≡ map (λ _. []) self.old.ahead }
+        ensures ends { IfErr result (λ unsynced. unsynced ≡ Unsynced.NotOpened) }
+    {
+        self.ahead.clear();
+        if !self.folder.set(top, "/") || !self.last.set(top, "/") {
+            return Err(Unsynced::NotOpened);
+        }
+        Ok(())
     }
 
     /// Whether this process may look nothing up in the folder, so that no call of the vault tells of a name there. Nothing
@@ -112,6 +139,10 @@ impl Place {
         ensures last { self.new.last ≡ self.old.last }
         ensures ahead { self.new.ahead ≡ self.old.ahead }
         ensures found { self.new.found ≡ self.old.found }
+        ensures passed { IsNoName (error_kind error.now) → IsOk result }
+        ensures refused { IsOk result → IsNoName (error_kind error.now)
+            ⊎ (error_kind error.now ≡ ErrorKind.PermissionDenied) }
+        ensures ends { IfErr result (λ unsynced. unsynced ≡ Unsynced.NotOpened) }
     {
         if is_no_name(error) {
             return Ok(());
@@ -125,12 +156,12 @@ impl Place {
     /// Whether what has this name comes next, if it is a folder. Its paths are then set. Nothing stands in a folder whose path
     /// is longer than the system takes.
     fn is_next(&mut self, name: &str) -> bool
+        ensures next { IsTrue result ↔ IsNext self.old.folder name.now self.old.last self.old.ahead }
         ensures folder { self.new.folder ≡ self.old.folder }
         ensures last { self.new.last ≡ self.old.last }
         ensures ahead { self.new.ahead ≡ self.old.ahead }
-        ensures found { IsTrue result → self.new.found ≡ (self.old.folder ++ name.now) ++ 47 ∷ [] }
-        ensures next { IsTrue result
-            → IsTrue (comes_next self.new.found self.old.last (end_of self.old.ahead)) }
+        ensures entry { IsTrue result → self.new.entry ≡ self.old.folder ++ name.now }
+        ensures found { IsTrue result → self.new.found ≡ folder_in self.old.folder name.now }
     {
         if !is_part(name) || !self.entry.set(self.folder.as_str(), name) {
             return false;
@@ -148,6 +179,7 @@ impl Place {
         ensures last { self.new.last ≡ self.old.last }
         ensures ahead { self.new.ahead ≡ self.old.ahead }
         ensures found { self.new.found ≡ self.old.found }
+        ensures ends { IfErr result (λ unsynced. unsynced ≡ Unsynced.NotOpened) }
     {
         match seen_entry(rt, self.entry.as_str()) {
             Ok(seen) => Ok(seen.is_some_and(|seen| seen.is_dir())),
@@ -158,13 +190,17 @@ impl Place {
         }
     }
 
-    /// Looks at what has this name, and keeps its path if it is a folder that comes next.
-    fn look(&mut self, rt: &impl Files, name: &str) -> Result<(), Unsynced>
+    /// Looks at what has this name, and keeps its path if it is a folder that comes next. No text that isn't UTF-8 is a name of
+    /// the vault.
+    fn look(&mut self, rt: &impl Files, bytes: &[u8]) -> Result<(), Unsynced>
         ensures folder { self.new.folder ≡ self.old.folder }
         ensures last { self.new.last ≡ self.old.last }
-        ensures ahead { (self.new.ahead ≡ self.old.ahead)
-            ⊎ (self.new.ahead ≡ with_path ((self.old.folder ++ name.now) ++ 47 ∷ []) self.old.ahead) }
+        ensures ahead { Looks self.old.folder self.old.last bytes.now self.old.ahead self.new.ahead }
+        ensures ends { IfErr result (λ unsynced. unsynced ≡ Unsynced.NotOpened) }
     {
+        let Ok(name) = str::from_utf8(bytes) else {
+            return Ok(());
+        };
         if !self.is_next(name) {
             return Ok(());
         }
@@ -188,19 +224,21 @@ impl Place {
     /// Goes into the folder that comes next.
     fn enter(&mut self)
         ensures folder { self.new.folder ≡ first_of self.old.ahead }
+        ensures last { self.new.last ≡ first_of self.old.ahead }
         ensures ahead { self.new.ahead ≡ drop 1 self.old.ahead ++ [] ∷ [] }
     {
         self.ahead.take_first(&mut self.folder);
-        self.last.set(self.folder.as_str(), "");
+        self.last.copy(self.folder.as_str());
     }
 
     /// Goes back into the folder above.
     fn leave(&mut self)
+        ensures folder { self.new.folder ≡ above self.old.folder }
         ensures last { self.new.last ≡ self.old.last }
         ensures ahead { self.new.ahead ≡ self.old.ahead }
     {
-        self.entry.set(above(self.folder.as_str()), "");
-        self.folder.set(self.entry.as_str(), "");
+        self.entry.copy(above(self.folder.as_str()));
+        self.folder.copy(self.entry.as_str());
     }
 
     /// Removes what an earlier process left in the folder.
@@ -230,14 +268,38 @@ impl Place {
     }
 }
 
-/// Looks at each of these names, of which each ends in a NUL.
-fn look_at(rt: &impl Files, place: &mut Place, names: &[u8]) -> Result<(), Unsynced> {
-    for name in names.split(|byte| *byte == 0) {
-        if let Ok(name) = str::from_utf8(name) {
-            place.look(rt, name)?;
-        }
+/// Where the first of these names ends, if a NUL stands there.
+fn end_of_name(names: &[u8]) -> Option<usize>
+    ensures { result ≡ position (λ b. b == 0) names.now }
+{
+    names.iter().position(|byte| *byte == 0)
+}
+
+/// The first of these names, and the others, if a NUL stands between them.
+fn cut_name(names: &[u8]) -> Option<(&[u8], &[u8])>
+    ensures cut { MatchOption result (names_in names.now ≡ names.now ∷ [])
+        (λ cut. names_in names.now ≡ cut.0.now ∷ names_in cut.1.now) }
+    ensures shorter { IfSome result (λ cut. length cut.1.now < length names.now) }
+{
+    let end = end_of_name(names)?;
+    Some((&names[..end], &names[end + 1..]))
+}
+
+/// Looks at each of these names, between which NULs stand.
+fn look_at(rt: &impl Files, place: &mut Place, names: &[u8]) -> Result<(), Unsynced>
+    ensures folder { place.new.folder ≡ place.old.folder }
+    ensures last { place.new.last ≡ place.old.last }
+    ensures all { OnOk result (LooksAtAll place.old.folder place.old.last (names_in names.now)
+        place.old.ahead place.new.ahead) }
+    ensures ahead { LooksRound place.old.folder place.old.last place.old.ahead place.new.ahead }
+    ensures ends { IfErr result (λ unsynced. unsynced ≡ Unsynced.NotOpened) }
+{
+    let mut rest = names;
+    while let Some((name, others)) = cut_name(rest) {
+        place.look(rt, name)?;
+        rest = others;
     }
-    Ok(())
+    place.look(rt, rest)
 }
 
 /// A walk over folders. Its constructor takes the memory for a walk over any number of them; no other call takes any.
@@ -249,7 +311,11 @@ pub struct Walk {
 
 impl Walk {
     /// A walk that is nowhere yet.
-    pub fn new(alloc: Global) -> Result<Walk, AllocError> {
+    pub fn new(alloc: Global) -> Result<Walk, AllocError>
+        ensures folder { IfOk result (λ walk. walk.place.folder ≡ []) }
+        ensures last { IfOk result (λ walk. walk.place.last ≡ []) }
+        ensures ahead { IfOk result (λ walk. All (λ path. path ≡ []) walk.place.ahead) }
+    {
         Ok(Walk {
             place: Place::new(alloc)?,
             names: vec![in alloc; 0u8; NAMES_ROOM]?,
@@ -258,7 +324,13 @@ impl Walk {
 
     /// Looks at all that stands in the folder. One in which this process may look nothing up is passed over, if it may not
     /// read it.
-    fn look_round<R: Files>(&mut self, rt: &R) -> Result<(), Unsynced> {
+    fn look_round<R: Files>(&mut self, rt: &R) -> Result<(), Unsynced>
+        ensures folder { self.new.place.folder ≡ self.old.place.folder }
+        ensures last { self.new.place.last ≡ self.old.place.last }
+        ensures ahead { LooksRound self.old.place.folder self.old.place.last
+            self.old.place.ahead self.new.place.ahead }
+        ensures ends { IfErr result (λ unsynced. unsynced ≡ Unsynced.NotOpened) }
+    {
         let mut open = match rt.open_dir(self.place.folder.as_str()) {
             Ok(open) => open,
             Err(error) => return self.place.pass_over(rt, &error),
@@ -280,6 +352,11 @@ impl Walk {
     fn has_next<R: Files>(&mut self, rt: &R) -> Result<bool, Unsynced>
         ensures next { IfOk result (λ is. is
             ≡ starts_with (λ a b. a == b) (first_of self.new.place.ahead) self.new.place.folder) }
+        ensures folder { self.new.place.folder ≡ self.old.place.folder }
+        ensures last { self.new.place.last ≡ self.old.place.last }
+        ensures ahead { LooksRound self.old.place.folder self.old.place.last
+            self.old.place.ahead self.new.place.ahead }
+        ensures ends { IfErr result (λ unsynced. unsynced ≡ Unsynced.NotOpened) }
     {
         if self.place.is_above_next() {
             return Ok(true);
@@ -290,11 +367,10 @@ impl Walk {
 
     /// Makes durable the folder of this path and each one below it, and removes what an earlier process left there. Folders in
     /// which this process may look nothing up are passed over, if it may not read them.
-    pub fn sync_all<R: Files>(&mut self, rt: &R, top: &str) -> Result<(), Unsynced> {
-        self.place.ahead.clear();
-        if !self.place.folder.set(top, "/") || !self.place.last.set(top, "/") {
-            return Err(Unsynced::NotOpened);
-        }
+    pub fn sync_all<R: Files>(&mut self, rt: &R, top: &str) -> Result<(), Unsynced>
+        ensures { 4096 ≤ length top.now + 1 → result ≡ Err Unsynced.NotOpened }
+    {
+        self.place.begin(top)?;
         self.place.settle(rt)?;
         // Each turn goes into a folder of the disk or back from one; the bound is never met.
         for _ in 0..u64::MAX {

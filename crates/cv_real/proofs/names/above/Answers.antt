@@ -1,10 +1,10 @@
 use Rattle.std.proofs.Common.{refl, ◌<◌, ◌≤◌, List, ℕ, length, subst, sym, ap, ◌∙◌, arith}
 use Rattle.cv_real.specs.NamesInner.{folder_of}
-use Rattle.cv_real.proofs.LastParts.{above_is, not_longer, folder_fits}
+use Rattle.cv_real.proofs.LastParts.{without_slash_is, not_longer, folder_fits}
 use Rattle.cv_real.proofs.names.above.Goals as goal
 
 pub returns-clause-above : goal.returns-clause-above
-returns-clause-above c = λ path is. c.folder_of.ensures ∙ ap folder_of (ap (λ x. x.now) c.unwrap_or.ensures ∙ above_is c.args.folder.now path c.strip_suffix.result _ is c.strip_suffix.ensures.cases)
+returns-clause-above c = c.folder_of.ensures ∙ ap folder_of (ap (λ x. x.now) c.unwrap_or.ensures ∙ without_slash_is c.args.folder.now c.strip_suffix.result _ refl c.strip_suffix.ensures.cases)
 
 pub returns-clause-fits : goal.returns-clause-fits
 returns-clause-fits c = λ fits.
