@@ -1,13 +1,8 @@
 //! Lines that end with a newline.
-ghost use Rattle.std.specs.Prelude.{◌≡◌, ◌==◌, ◌++◌, ◌∷◌, false, MatchOption, position};
+ghost use Rattle.std.specs.Prelude.{◌≡◌, ◌++◌, ◌∷◌, false, MatchOption};
 ghost use Rattle.cv_manifest.specs.Lines.{has_newline};
 
-/// The offset of the first newline.
-fn newline_at(bytes: &[u8]) -> Option<usize>
-    ensures { result ≡ position (λ b. b == 10) bytes.now }
-{
-    bytes.iter().position(|byte| *byte == b'\n')
-}
+use cv_base::newline_at;
 
 /// The first line of the bytes without its newline, and what follows it. None where they have no
 /// newline.

@@ -1,5 +1,5 @@
 //! Lines of a source.
-ghost use Rattle.std.specs.Prelude.{◌≡◌, ◌≤◌, ◌<◌, ◌==◌, ◌⊎◌, [], length, drop, true, false, position, Ok, Err, OnErr, IfErr};
+ghost use Rattle.std.specs.Prelude.{◌≡◌, ◌≤◌, ◌<◌, ◌⊎◌, [], length, drop, true, false, Ok, Err, OnErr, IfErr};
 ghost use Rattle.cv_base.specs.Counts.{HasCause};
 ghost use Rattle.cv_ports.specs.Streams.{Look};
 ghost use Rattle.cv_http.specs.Wires.{Draws, Looks, Beside, HasEnded, Gets};
@@ -7,7 +7,7 @@ ghost use Rattle.cv_shell.specs.Lines.{IsLine, LineRead};
 ghost use Rattle.cv_shell.specs.LinesInner.{LineFound, IsPieceFault};
 ghost use Rattle.cv_shell.specs.declared.lines.LineFault.TheVariants.{ReadFault};
 
-use cv_base::Bytes;
+use cv_base::{Bytes, newline_at};
 use cv_ports::Source;
 use std::alloc::Global;
 use std::marker::Model;
@@ -46,13 +46,6 @@ impl<R: Source + Drop> Model for Lines<R> {
     ghost view = { λ l. record { source = l.source; held = drop l.used l.held.items } };
 
     ghost invariant = { λ l. l.used ≤ vec_len l.held };
-}
-
-/// The offset of the first newline.
-fn newline_at(bytes: &[u8]) -> Option<usize>
-    ensures { result ≡ position (λ b. b == 10) bytes.now }
-{
-    bytes.iter().position(|byte| *byte == b'\n')
 }
 
 /// Reads a piece to the end of what is held, beside a sink. `false` is the end of the source.
