@@ -1,6 +1,7 @@
 mod Bools
 mod Decimals
 mod Digests
+mod FieldLaws
 mod Fields
 mod FileNames
 mod IdTexts

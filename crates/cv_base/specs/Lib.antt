@@ -1,6 +1,7 @@
 pub mod Attr
 pub mod Counts
 pub mod Digest
+pub mod Fields
 pub mod KeyId
 pub mod Marker
 pub mod Name

@@ -15,7 +15,6 @@ use Rattle.cv_base.specs.Sequence.{◌>>=◌}
 use Rattle.cv_base.specs.Path.{Path, IsPath, text_of, is_path_name, is_path_byte, is_dots}
 use Rattle.cv_base.specs.PathText.{path_of, only_path, path_named}
 use Rattle.cv_base.specs.declared.path_fault.PathFault.{PathFault}
-use Rattle.cv_base.proofs.Laws.{path_of-Spells, Spells-path_of, first_true, second_true}
 use Rattle.cv_rows.specs.declared.row.Row.{Row}
 use Rattle.cv_rows.specs.declared.nested.Nested.{Nested}
 use Rattle.cv_rows.specs.declared.row_fault.RowFault.{RowFault}
@@ -23,8 +22,10 @@ use Rattle.cv_rows.specs.declared.row_fault.RowFault.TheVariants.{Short, BadMagi
 use Rattle.cv_rows.specs.Row.{IsRow, text_field, row_bytes}
 use Rattle.cv_rows.specs.Nested.{IsNested, nested_bytes}
 use Rattle.cv_rows.specs.Catalogue.{file_of}
-use Rattle.cv_rows.specs.Reading.{bad, accepted, number_at, bytes_at, length_at, row_at, path_at, nested_at, many_at, Entries, entries_at, number_in, is_too_large, entries_of}
-use Rattle.cv_rows.proofs.FieldLaws.{bind_ok, guard_ended, passes, accepted_ok, ok_is, IsBytes-drop, IsBytes-take, Takes, Takes-then, wide32, wide64, number_takes, number_again, bytes_take, bytes_again}
+use Rattle.cv_base.specs.Fields.{accepted, number_at, bytes_at, Takes}
+use Rattle.cv_rows.specs.Reading.{bad, length_at, row_at, path_at, nested_at, many_at, Entries, entries_at, number_in, is_too_large, entries_of}
+use Rattle.cv_base.proofs.Laws.{path_of-Spells, Spells-path_of, first_true, second_true, bind_ok, guard_ended, passes, accepted_ok, IsBytes-drop, IsBytes-take, Takes-then, wide32, wide64, number_takes, number_again, bytes_take, bytes_again}
+use Rattle.cv_rows.proofs.FieldLaws.{ok_is}
 use Rattle.cv_rows.proofs.RowFields.{either, some_is, length_takes, length_reads, text_takes}
 use Rattle.cv_rows.proofs.RowLaws.{row_takes, row_reads}
 use Rattle.cv_rows.proofs.Sizes.{nested_le}
@@ -89,12 +90,12 @@ path_takes : (all : ℕ) (text : List ℕ) (path : Path) (rest : List ℕ) → I
 unfolding path_at
 path_takes all text path rest fits e =
     let x : Path × List ℕ = (path, rest) in
-    let a = bind_ok (length_at all 4095 text) (λ len. bytes_at len.0 len.1 >>= λ name. accepted (bad all len.1) (path_named name.0) >>= λ path. Ok (path, name.1)) x e in
-    let b = bind_ok (bytes_at a.0.0 a.0.1) (λ name. accepted (bad all a.0.1) (path_named name.0) >>= λ path. Ok (path, name.1)) x a.2 in
+    let a = bind_ok (length_at all 4095 text) (λ len. bytes_at Short len.0 len.1 >>= λ name. accepted (bad all len.1) (path_named name.0) >>= λ path. Ok (path, name.1)) x e in
+    let b = bind_ok (bytes_at Short a.0.0 a.0.1) (λ name. accepted (bad all a.0.1) (path_named name.0) >>= λ path. Ok (path, name.1)) x a.2 in
     let p = bind_ok (accepted (bad all a.0.1) (path_named b.0.0)) (λ path. Ok (path, b.0.1)) x b.2 in
     let is = named b.0.0 p.0 (accepted_ok (bad all a.0.1) (path_named b.0.0) p.0 p.1) in
     let len = length_takes all 4095 text a.0.0 a.0.1 fits a.1 in
-    let t = bytes_take a.0.0 a.0.1 b.0.0 b.0.1 len.0.rest_fits b.1 in
+    let t = bytes_take Short a.0.0 a.0.1 b.0.0 b.0.1 len.0.rest_fits b.1 in
     let whole : Takes text (text_field (text_of p.0)) b.0.1 = subst (λ (w : List ℕ). Takes text (text_field w) b.0.1) (sym is.spelled) (text_takes text a.0.0 a.0.1 b.0.0 b.0.1 len.0 t) in
     let y : Path × List ℕ = (p.0, b.0.1) in
     subst (λ (z : Path × List ℕ). Takes text (text_field (text_of z.0)) z.1 × IsPath z.0) (ok_is y x p.2) (whole, is.limits)
@@ -106,7 +107,7 @@ path_reads all path rest is =
     let short : leb (length name) 4095 ≡ true = le-leb (length name) 4095 is.size in
     let fits : length name < 2 ^ 16 = omega (arith, is.size) in
     let regrouped : text_field name ++ rest ≡ to_be_bytes w16 (length name) ++ (name ++ rest) = append_assoc (to_be_bytes w16 (length name)) name rest in
-    ap (path_at all) regrouped ∙ rw (length_reads all 4095 (length name) (name ++ rest) fits short, bytes_again (length name) name rest refl, named_again path is) refl
+    ap (path_at all) regrouped ∙ rw (length_reads all 4095 (length name) (name ++ rest) fits short, bytes_again Short (length name) name rest refl, named_again path is) refl
 
 -- a nested entry with its parts to the right
 nested_parts : (n : Nested) (rest : List ℕ) → nested_bytes n ++ rest ≡ text_field (text_of n.path) ++ (n.hash ++ (to_be_bytes w64 n.size ++ rest))
@@ -116,12 +117,12 @@ pub nested_takes : (all : ℕ) (text : List ℕ) (n : Nested) (rest : List ℕ) 
 unfolding nested_at
 nested_takes all text n rest fits e =
     let x : Nested × List ℕ = (n, rest) in
-    let a = bind_ok (path_at all text) (λ p. bytes_at 20 p.1 >>= λ h. number_at w64 h.1 >>= λ s. Ok (record { path = p.0; hash = h.0; size = s.0 }, s.1)) x e in
-    let b = bind_ok (bytes_at 20 a.0.1) (λ h. number_at w64 h.1 >>= λ s. Ok (record { path = a.0.0; hash = h.0; size = s.0 }, s.1)) x a.2 in
-    let c = bind_ok (number_at w64 b.0.1) (λ s. Ok (record { path = a.0.0; hash = b.0.0; size = s.0 }, s.1)) x b.2 in
+    let a = bind_ok (path_at all text) (λ p. bytes_at Short 20 p.1 >>= λ h. number_at Short w64 h.1 >>= λ s. Ok (record { path = p.0; hash = h.0; size = s.0 }, s.1)) x e in
+    let b = bind_ok (bytes_at Short 20 a.0.1) (λ h. number_at Short w64 h.1 >>= λ s. Ok (record { path = a.0.0; hash = h.0; size = s.0 }, s.1)) x a.2 in
+    let c = bind_ok (number_at Short w64 b.0.1) (λ s. Ok (record { path = a.0.0; hash = b.0.0; size = s.0 }, s.1)) x b.2 in
     let ta = path_takes all text a.0.0 a.0.1 fits a.1 in
-    let tb = bytes_take 20 a.0.1 b.0.0 b.0.1 ta.0.rest_fits b.1 in
-    let tc = number_takes w64 (2 ^ 64) wide64 b.0.1 c.0.0 c.0.1 tb.takes.rest_fits c.1 in
+    let tb = bytes_take Short 20 a.0.1 b.0.0 b.0.1 ta.0.rest_fits b.1 in
+    let tc = number_takes Short w64 (2 ^ 64) wide64 b.0.1 c.0.0 c.0.1 tb.takes.rest_fits c.1 in
     let found : Nested = record { path = a.0.0; hash = b.0.0; size = c.0.0 } in
     let whole : text ≡ nested_bytes found ++ c.0.1 =
     ta.0.parts ∙ ap (λ (y : List ℕ). text_field (text_of a.0.0) ++ y) (tb.takes.parts ∙ ap (λ (y : List ℕ). b.0.0 ++ y) tc.0.parts) ∙ sym (nested_parts found c.0.1) in
@@ -132,7 +133,7 @@ nested_takes all text n rest fits e =
 pub nested_reads : (all : ℕ) (n : Nested) (rest : List ℕ) → IsNested n → nested_at all (nested_bytes n ++ rest) ≡ Ok (n, rest)
 unfolding nested_at
 nested_reads all n rest is =
-    ap (nested_at all) (nested_parts n rest) ∙ rw (path_reads all n.path (n.hash ++ (to_be_bytes w64 n.size ++ rest)) is.path, bytes_again 20 n.hash (to_be_bytes w64 n.size ++ rest) is.hash.size, number_again w64 (2 ^ 64) wide64 n.size rest is.size) refl
+    ap (nested_at all) (nested_parts n rest) ∙ rw (path_reads all n.path (n.hash ++ (to_be_bytes w64 n.size ++ rest)) is.path, bytes_again Short 20 n.hash (to_be_bytes w64 n.size ++ rest) is.hash.size, number_again Short w64 (2 ^ 64) wide64 n.size rest is.size) refl
 
 -- ---- many
 

@@ -17,9 +17,12 @@ use Rattle.cv_base.proofs.Laws.{first_true, second_true}
 use Rattle.cv_rows.specs.declared.row_kind.RowKind.{RowKind}
 use Rattle.cv_rows.specs.declared.row_kind.RowKind.TheVariants.{Directory, Transition, NestedRoot, File, Link}
 use Rattle.cv_rows.specs.declared.row_fault.RowFault.{RowFault}
+use Rattle.cv_rows.specs.declared.row_fault.RowFault.TheVariants.{Short}
 use Rattle.cv_rows.specs.Row.{flags_of, type_bits, is_row_name, hash_field, text_field}
-use Rattle.cv_rows.specs.Reading.{bad, accepted, number_at, bytes_at, kind_of, kind_at, permissions, attr_at, is_size, size_at, hash_at, length_at, name_at, target_limit, is_size_of, target_at}
-use Rattle.cv_rows.proofs.FieldLaws.{bind_ok, guard_ended, passes, accepted_ok, ok_is, Takes, Takes-then, TakesBytes, wide16, wide32, wide64, number_takes, number_again, bytes_take, bytes_again}
+use Rattle.cv_base.specs.Fields.{accepted, number_at, bytes_at, Takes, TakesBytes}
+use Rattle.cv_rows.specs.Reading.{bad, kind_of, kind_at, permissions, attr_at, is_size, size_at, hash_at, length_at, name_at, target_limit, is_size_of, target_at}
+use Rattle.cv_base.proofs.Laws.{bind_ok, guard_ended, passes, accepted_ok, Takes-then, wide16, wide32, wide64, number_takes, number_again, bytes_take, bytes_again}
+use Rattle.cv_rows.proofs.FieldLaws.{ok_is}
 
 -- which way a test went
 pub either : {A : Type 0} (b : Bool) (x y z : A) → cond b x y ≡ z → ((b ≡ true) × (x ≡ z)) ⊎ ((b ≡ false) × (y ≡ z))
@@ -63,16 +66,16 @@ flags_fit Link = omega arith
 pub kind_takes : (all : ℕ) (text : List ℕ) (kind : RowKind) (rest : List ℕ) → IsBytes text → kind_at all text ≡ Ok (kind, rest) → Takes text (to_be_bytes w32 (flags_of kind)) rest
 unfolding kind_at
 kind_takes all text kind rest fits e =
-    let a = bind_ok (number_at w32 text) (λ flags. accepted (bad all text) (kind_of flags.0) >>= λ kind. Ok (kind, flags.1)) (kind, rest) e in
+    let a = bind_ok (number_at Short w32 text) (λ flags. accepted (bad all text) (kind_of flags.0) >>= λ kind. Ok (kind, flags.1)) (kind, rest) e in
     let b = bind_ok (accepted (bad all text) (kind_of a.0.0)) (λ kind. Ok (kind, a.0.1)) (kind, rest) a.2 in
     let flags = kind_flags a.0.0 b.0 (accepted_ok (bad all text) (kind_of a.0.0) b.0 b.1) in
-    let t = number_takes w32 (2 ^ 32) wide32 text a.0.0 a.0.1 fits a.1 in
+    let t = number_takes Short w32 (2 ^ 32) wide32 text a.0.0 a.0.1 fits a.1 in
     let same : Takes text (to_be_bytes w32 (flags_of b.0)) a.0.1 = subst (λ (n : ℕ). Takes text (to_be_bytes w32 n) a.0.1) flags t.0 in
     subst (λ (x : RowKind × List ℕ). Takes text (to_be_bytes w32 (flags_of x.0)) x.1) (ok_is (b.0, a.0.1) (kind, rest) b.2) same
 
 pub kind_reads : (all : ℕ) (kind : RowKind) (rest : List ℕ) → kind_at all (to_be_bytes w32 (flags_of kind) ++ rest) ≡ Ok (kind, rest)
 unfolding kind_at
-kind_reads all kind rest = rw (number_again w32 (2 ^ 32) wide32 (flags_of kind) rest (flags_fit kind), kind_again kind) refl
+kind_reads all kind rest = rw (number_again Short w32 (2 ^ 32) wide32 (flags_of kind) rest (flags_fit kind), kind_again kind) refl
 
 -- ---- attributes
 
@@ -107,16 +110,16 @@ bits_fit Link x lt = omega arith
 pub attr_takes : (all : ℕ) (kind : RowKind) (text : List ℕ) (a : Attr) (rest : List ℕ) → IsBytes text → attr_at all kind text ≡ Ok (a, rest) → Takes text (attr_bytes kind a) rest × IsAttr a
 unfolding attr_at
 attr_takes all kind text attr rest fits e =
-    let a = bind_ok (number_at w32 text) (λ bits. accepted (bad all text) (permissions kind bits.0) >>= λ mode. number_at w64 bits.1 >>= λ mtime. number_at w32 mtime.1 >>= λ uid. number_at w32 uid.1 >>= λ gid. Ok (record { mode = mode; mtime = mtime.0; uid = uid.0; gid = gid.0 }, gid.1)) (attr, rest) e in
-    let m = bind_ok (accepted (bad all text) (permissions kind a.0.0)) (λ mode. number_at w64 a.0.1 >>= λ mtime. number_at w32 mtime.1 >>= λ uid. number_at w32 uid.1 >>= λ gid. Ok (record { mode = mode; mtime = mtime.0; uid = uid.0; gid = gid.0 }, gid.1)) (attr, rest) a.2 in
-    let b = bind_ok (number_at w64 a.0.1) (λ mtime. number_at w32 mtime.1 >>= λ uid. number_at w32 uid.1 >>= λ gid. Ok (record { mode = m.0; mtime = mtime.0; uid = uid.0; gid = gid.0 }, gid.1)) (attr, rest) m.2 in
-    let c = bind_ok (number_at w32 b.0.1) (λ uid. number_at w32 uid.1 >>= λ gid. Ok (record { mode = m.0; mtime = b.0.0; uid = uid.0; gid = gid.0 }, gid.1)) (attr, rest) b.2 in
-    let d = bind_ok (number_at w32 c.0.1) (λ gid. Ok (record { mode = m.0; mtime = b.0.0; uid = c.0.0; gid = gid.0 }, gid.1)) (attr, rest) c.2 in
+    let a = bind_ok (number_at Short w32 text) (λ bits. accepted (bad all text) (permissions kind bits.0) >>= λ mode. number_at Short w64 bits.1 >>= λ mtime. number_at Short w32 mtime.1 >>= λ uid. number_at Short w32 uid.1 >>= λ gid. Ok (record { mode = mode; mtime = mtime.0; uid = uid.0; gid = gid.0 }, gid.1)) (attr, rest) e in
+    let m = bind_ok (accepted (bad all text) (permissions kind a.0.0)) (λ mode. number_at Short w64 a.0.1 >>= λ mtime. number_at Short w32 mtime.1 >>= λ uid. number_at Short w32 uid.1 >>= λ gid. Ok (record { mode = mode; mtime = mtime.0; uid = uid.0; gid = gid.0 }, gid.1)) (attr, rest) a.2 in
+    let b = bind_ok (number_at Short w64 a.0.1) (λ mtime. number_at Short w32 mtime.1 >>= λ uid. number_at Short w32 uid.1 >>= λ gid. Ok (record { mode = m.0; mtime = mtime.0; uid = uid.0; gid = gid.0 }, gid.1)) (attr, rest) m.2 in
+    let c = bind_ok (number_at Short w32 b.0.1) (λ uid. number_at Short w32 uid.1 >>= λ gid. Ok (record { mode = m.0; mtime = b.0.0; uid = uid.0; gid = gid.0 }, gid.1)) (attr, rest) b.2 in
+    let d = bind_ok (number_at Short w32 c.0.1) (λ gid. Ok (record { mode = m.0; mtime = b.0.0; uid = c.0.0; gid = gid.0 }, gid.1)) (attr, rest) c.2 in
     let mode = within (type_bits kind) a.0.0 m.0 (accepted_ok (bad all text) (permissions kind a.0.0) m.0 m.1) in
-    let ta = number_takes w32 (2 ^ 32) wide32 text a.0.0 a.0.1 fits a.1 in
-    let tb = number_takes w64 (2 ^ 64) wide64 a.0.1 b.0.0 b.0.1 ta.0.rest_fits b.1 in
-    let tc = number_takes w32 (2 ^ 32) wide32 b.0.1 c.0.0 c.0.1 tb.0.rest_fits c.1 in
-    let td = number_takes w32 (2 ^ 32) wide32 c.0.1 d.0.0 d.0.1 tc.0.rest_fits d.1 in
+    let ta = number_takes Short w32 (2 ^ 32) wide32 text a.0.0 a.0.1 fits a.1 in
+    let tb = number_takes Short w64 (2 ^ 64) wide64 a.0.1 b.0.0 b.0.1 ta.0.rest_fits b.1 in
+    let tc = number_takes Short w32 (2 ^ 32) wide32 b.0.1 c.0.0 c.0.1 tb.0.rest_fits c.1 in
+    let td = number_takes Short w32 (2 ^ 32) wide32 c.0.1 d.0.0 d.0.1 tc.0.rest_fits d.1 in
     let first : Takes text (to_be_bytes w32 (type_bits kind + m.0)) a.0.1 = subst (λ (n : ℕ). Takes text (to_be_bytes w32 n) a.0.1) mode.0 ta.0 in
     let cd = Takes-then b.0.1 (to_be_bytes w32 c.0.0) c.0.1 (to_be_bytes w32 d.0.0) d.0.1 tc.0 td.0 in
     let bd = Takes-then a.0.1 (to_be_bytes w64 b.0.0) b.0.1 (to_be_bytes w32 c.0.0 ++ to_be_bytes w32 d.0.0) d.0.1 tb.0 cd in
@@ -128,21 +131,21 @@ pub attr_reads : (all : ℕ) (kind : RowKind) (a : Attr) (rest : List ℕ) → I
 unfolding attr_at
 attr_reads all kind a rest fits =
     let regrouped : attr_bytes kind a ++ rest ≡ to_be_bytes w32 (type_bits kind + a.mode) ++ (to_be_bytes w64 a.mtime ++ (to_be_bytes w32 a.uid ++ (to_be_bytes w32 a.gid ++ rest))) = simp append_assoc in
-    ap (attr_at all kind) regrouped ∙ rw (number_again w32 (2 ^ 32) wide32 (type_bits kind + a.mode) (to_be_bytes w64 a.mtime ++ (to_be_bytes w32 a.uid ++ (to_be_bytes w32 a.gid ++ rest))) (bits_fit kind a.mode fits.mode), within_again (type_bits kind) a.mode fits.mode, number_again w64 (2 ^ 64) wide64 a.mtime (to_be_bytes w32 a.uid ++ (to_be_bytes w32 a.gid ++ rest)) fits.mtime, number_again w32 (2 ^ 32) wide32 a.uid (to_be_bytes w32 a.gid ++ rest) fits.uid, number_again w32 (2 ^ 32) wide32 a.gid rest fits.gid) refl
+    ap (attr_at all kind) regrouped ∙ rw (number_again Short w32 (2 ^ 32) wide32 (type_bits kind + a.mode) (to_be_bytes w64 a.mtime ++ (to_be_bytes w32 a.uid ++ (to_be_bytes w32 a.gid ++ rest))) (bits_fit kind a.mode fits.mode), within_again (type_bits kind) a.mode fits.mode, number_again Short w64 (2 ^ 64) wide64 a.mtime (to_be_bytes w32 a.uid ++ (to_be_bytes w32 a.gid ++ rest)) fits.mtime, number_again Short w32 (2 ^ 32) wide32 a.uid (to_be_bytes w32 a.gid ++ rest) fits.uid, number_again Short w32 (2 ^ 32) wide32 a.gid rest fits.gid) refl
 
 -- ---- size
 
 pub size_takes : (all : ℕ) (kind : RowKind) (text : List ℕ) (n : ℕ) (rest : List ℕ) → IsBytes text → size_at all kind text ≡ Ok (n, rest) → Takes text (to_be_bytes w64 n) rest × (is_size kind n ≡ true)
 unfolding size_at
 size_takes all kind text n rest fits e =
-    let a = bind_ok (number_at w64 text) (λ size. cond (is_size kind size.0) (Ok size) (Err (bad all text))) (n, rest) e in
+    let a = bind_ok (number_at Short w64 text) (λ size. cond (is_size kind size.0) (Ok size) (Err (bad all text))) (n, rest) e in
     let g = guard_ended (is_size kind a.0.0) (bad all text) a.0 (n, rest) a.2 in
-    let t = number_takes w64 (2 ^ 64) wide64 text a.0.0 a.0.1 fits a.1 in
+    let t = number_takes Short w64 (2 ^ 64) wide64 text a.0.0 a.0.1 fits a.1 in
     subst (λ (x : ℕ × List ℕ). Takes text (to_be_bytes w64 x.0) x.1 × (is_size kind x.0 ≡ true)) g.1 (t.0, g.0)
 
 pub size_reads : (all : ℕ) (kind : RowKind) (n : ℕ) (rest : List ℕ) → n < 2 ^ 64 → is_size kind n ≡ true → size_at all kind (to_be_bytes w64 n ++ rest) ≡ Ok (n, rest)
 unfolding size_at
-size_reads all kind n rest lt is = rw (number_again w64 (2 ^ 64) wide64 n rest lt, is) refl
+size_reads all kind n rest lt is = rw (number_again Short w64 (2 ^ 64) wide64 n rest lt, is) refl
 
 -- ---- hash
 
@@ -161,7 +164,7 @@ abbrev no_hash_read : List ℕ → Result Hash RowFault
 no_hash_read rest = Ok (None, rest)
 
 abbrev some_hash_read : List ℕ → Result Hash RowFault
-some_hash_read rest = bytes_at 20 rest >>= λ hash. Ok (Some hash.0, hash.1)
+some_hash_read rest = bytes_at Short 20 rest >>= λ hash. Ok (Some hash.0, hash.1)
 
 abbrev read_as : Option (List ℕ) → List ℕ → Result Hash RowFault
 read_as o after = Ok (o, after)
@@ -181,8 +184,8 @@ some_hash len rest o after fault fits e =
       | inl long ↦
           let len-is : len ≡ 20 = eqb-true len 20 long.0 in
           let read : Hash = (o, after) in
-          let b = bind_ok (bytes_at 20 rest) (λ hash. read_as (Some hash.0) hash.1) read long.1 in
-          let t = bytes_take 20 rest b.0.0 b.0.1 (IsBytes-rest len rest fits) b.1 in
+          let b = bind_ok (bytes_at Short 20 rest) (λ hash. read_as (Some hash.0) hash.1) read long.1 in
+          let t = bytes_take Short 20 rest b.0.0 b.0.1 (IsBytes-rest len rest fits) b.1 in
           let made : Option (List ℕ) × List ℕ = (Some b.0.0, b.0.1) in
           subst (λ (x : Option (List ℕ) × List ℕ). Takes (len ∷ rest) (hash_field x.0) x.1 × IsSomeAnd x.0 IsDigest) (ok_is made read b.2)
           (record { parts = ap (λ (b : ℕ). b ∷ rest) len-is ∙ ap (λ (x : List ℕ). 20 ∷ x) t.takes.parts; rest_fits = t.takes.rest_fits }, record { size = t.size; bytes = t.fits })
@@ -211,7 +214,7 @@ unfolding hash_at
 some_reads all Directory hash rest h = absurd cc
 some_reads all Transition hash rest h = absurd cc
 some_reads all NestedRoot hash rest h = absurd cc
-some_reads all File hash rest h = rw (bytes_again 20 hash rest h.size) refl
+some_reads all File hash rest h = rw (bytes_again Short 20 hash rest h.size) refl
 some_reads all Link hash rest h = absurd cc
 
 pub hash_reads : (all : ℕ) (kind : RowKind) (o : Option (List ℕ)) (rest : List ℕ) → HashFits kind o → hash_at all kind (hash_field o ++ rest) ≡ Ok (o, rest)
@@ -223,14 +226,14 @@ hash_reads all kind (Some hash) rest h = some_reads all kind hash rest h
 pub length_takes : (all limit : ℕ) (text : List ℕ) (n : ℕ) (rest : List ℕ) → IsBytes text → length_at all limit text ≡ Ok (n, rest) → Takes text (to_be_bytes w16 n) rest × (leb n limit ≡ true)
 unfolding length_at
 length_takes all limit text n rest fits e =
-    let a = bind_ok (number_at w16 text) (λ len. cond (leb len.0 limit) (Ok len) (Err (bad all text))) (n, rest) e in
+    let a = bind_ok (number_at Short w16 text) (λ len. cond (leb len.0 limit) (Ok len) (Err (bad all text))) (n, rest) e in
     let g = guard_ended (leb a.0.0 limit) (bad all text) a.0 (n, rest) a.2 in
-    let t = number_takes w16 (2 ^ 16) wide16 text a.0.0 a.0.1 fits a.1 in
+    let t = number_takes Short w16 (2 ^ 16) wide16 text a.0.0 a.0.1 fits a.1 in
     subst (λ (x : ℕ × List ℕ). Takes text (to_be_bytes w16 x.0) x.1 × (leb x.0 limit ≡ true)) g.1 (t.0, g.0)
 
 pub length_reads : (all limit n : ℕ) (rest : List ℕ) → n < 2 ^ 16 → leb n limit ≡ true → length_at all limit (to_be_bytes w16 n ++ rest) ≡ Ok (n, rest)
 unfolding length_at
-length_reads all limit n rest lt le = rw (number_again w16 (2 ^ 16) wide16 n rest lt, le) refl
+length_reads all limit n rest lt le = rw (number_again Short w16 (2 ^ 16) wide16 n rest lt, le) refl
 
 -- a length and so many bytes are a text
 pub text_takes : (text : List ℕ) (n : ℕ) (after bytes rest : List ℕ) → Takes text (to_be_bytes w16 n) after → TakesBytes n after bytes rest → Takes text (text_field bytes) rest
@@ -240,11 +243,11 @@ text_takes text n after bytes rest len t =
 pub name_takes : (all : ℕ) (parent text name rest : List ℕ) → IsBytes text → name_at all parent text ≡ Ok (name, rest) → Takes text (text_field name) rest × (is_row_name parent name ≡ true)
 unfolding name_at
 name_takes all parent text name rest fits e =
-    let a = bind_ok (length_at all 255 text) (λ len. bytes_at len.0 len.1 >>= λ name. cond (is_row_name parent name.0) (Ok name) (Err (bad all len.1))) (name, rest) e in
-    let b = bind_ok (bytes_at a.0.0 a.0.1) (λ name. cond (is_row_name parent name.0) (Ok name) (Err (bad all a.0.1))) (name, rest) a.2 in
+    let a = bind_ok (length_at all 255 text) (λ len. bytes_at Short len.0 len.1 >>= λ name. cond (is_row_name parent name.0) (Ok name) (Err (bad all len.1))) (name, rest) e in
+    let b = bind_ok (bytes_at Short a.0.0 a.0.1) (λ name. cond (is_row_name parent name.0) (Ok name) (Err (bad all a.0.1))) (name, rest) a.2 in
     let g = guard_ended (is_row_name parent b.0.0) (bad all a.0.1) b.0 (name, rest) b.2 in
     let len = length_takes all 255 text a.0.0 a.0.1 fits a.1 in
-    let t = bytes_take a.0.0 a.0.1 b.0.0 b.0.1 len.0.rest_fits b.1 in
+    let t = bytes_take Short a.0.0 a.0.1 b.0.0 b.0.1 len.0.rest_fits b.1 in
     subst (λ (x : List ℕ × List ℕ). Takes text (text_field x.0) x.1 × (is_row_name parent x.0 ≡ true)) g.1 (text_takes text a.0.0 a.0.1 b.0.0 b.0.1 len.0 t, g.0)
 
 -- a name has at most 255 bytes
@@ -267,7 +270,7 @@ unfolding name_at
 name_reads all parent name rest is =
     let size = name_size parent name is in
     let regrouped : text_field name ++ rest ≡ to_be_bytes w16 (length name) ++ (name ++ rest) = append_assoc (to_be_bytes w16 (length name)) name rest in
-    ap (name_at all parent) regrouped ∙ rw (length_reads all 255 (length name) (name ++ rest) (short_name (length name) size) size, bytes_again (length name) name rest refl, is) refl
+    ap (name_at all parent) regrouped ∙ rw (length_reads all 255 (length name) (name ++ rest) (short_name (length name) size) size, bytes_again Short (length name) name rest refl, is) refl
 
 -- what a target is in a row of this kind and this size
 pub record TargetFits (kind : RowKind) (size : ℕ) (target : List ℕ) : Type 0 where
@@ -278,12 +281,12 @@ pub record TargetFits (kind : RowKind) (size : ℕ) (target : List ℕ) : Type 0
 pub target_takes : (all : ℕ) (kind : RowKind) (size : ℕ) (sized text target rest : List ℕ) → IsBytes text → target_at all kind size sized text ≡ Ok (target, rest) → Takes text (text_field target) rest × TargetFits kind size target
 unfolding target_at
 target_takes all kind size sized text target rest fits e =
-    let a = bind_ok (length_at all (target_limit kind) text) (λ len. bytes_at len.0 len.1 >>= λ target. cond (not (is_size_of kind size target.0)) (Err (bad all sized)) (cond (is_target target.0) (Ok target) (Err (bad all len.1)))) (target, rest) e in
-    let b = bind_ok (bytes_at a.0.0 a.0.1) (λ target. cond (not (is_size_of kind size target.0)) (Err (bad all sized)) (cond (is_target target.0) (Ok target) (Err (bad all a.0.1)))) (target, rest) a.2 in
+    let a = bind_ok (length_at all (target_limit kind) text) (λ len. bytes_at Short len.0 len.1 >>= λ target. cond (not (is_size_of kind size target.0)) (Err (bad all sized)) (cond (is_target target.0) (Ok target) (Err (bad all len.1)))) (target, rest) e in
+    let b = bind_ok (bytes_at Short a.0.0 a.0.1) (λ target. cond (not (is_size_of kind size target.0)) (Err (bad all sized)) (cond (is_target target.0) (Ok target) (Err (bad all a.0.1)))) (target, rest) a.2 in
     let p = passes (not (is_size_of kind size b.0.0)) (bad all sized) (cond (is_target b.0.0) (Ok b.0) (Err (bad all a.0.1))) (target, rest) b.2 in
     let g = guard_ended (is_target b.0.0) (bad all a.0.1) b.0 (target, rest) p.1 in
     let len = length_takes all (target_limit kind) text a.0.0 a.0.1 fits a.1 in
-    let t = bytes_take a.0.0 a.0.1 b.0.0 b.0.1 len.0.rest_fits b.1 in
+    let t = bytes_take Short a.0.0 a.0.1 b.0.0 b.0.1 len.0.rest_fits b.1 in
     let fit : TargetFits kind size b.0.0 = record { limit = rw t.size len.1; size_is = not_false (is_size_of kind size b.0.0) p.0; text = g.0 } in
     subst (λ (x : List ℕ × List ℕ). Takes text (text_field x.0) x.1 × TargetFits kind size x.0) g.1 (text_takes text a.0.0 a.0.1 b.0.0 b.0.1 len.0 t, fit)
   where
@@ -302,4 +305,4 @@ pub target_reads : (all : ℕ) (kind : RowKind) (size : ℕ) (sized target rest 
 unfolding target_at
 target_reads all kind size sized target rest fits =
     let regrouped : text_field target ++ rest ≡ to_be_bytes w16 (length target) ++ (target ++ rest) = append_assoc (to_be_bytes w16 (length target)) target rest in
-    ap (target_at all kind size sized) regrouped ∙ rw (length_reads all (target_limit kind) (length target) (target ++ rest) (target_short kind (length target) fits.limit) fits.limit, bytes_again (length target) target rest refl, fits.size_is, fits.text) refl
+    ap (target_at all kind size sized) regrouped ∙ rw (length_reads all (target_limit kind) (length target) (target ++ rest) (target_short kind (length target) fits.limit) fits.limit, bytes_again Short (length target) target rest refl, fits.size_is, fits.text) refl

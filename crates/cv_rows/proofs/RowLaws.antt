@@ -15,9 +15,12 @@ use Rattle.cv_rows.specs.declared.row.Row.{Row}
 use Rattle.cv_rows.specs.declared.row_kind.RowKind.{RowKind}
 use Rattle.cv_rows.specs.declared.row_kind.RowKind.TheVariants.{Directory, Transition, NestedRoot, File, Link}
 use Rattle.cv_rows.specs.declared.row_fault.RowFault.{RowFault}
+use Rattle.cv_rows.specs.declared.row_fault.RowFault.TheVariants.{Short}
 use Rattle.cv_rows.specs.Row.{flags_of, is_row_name, IsKey, IsRow, HasContent, hash_field, text_field, row_bytes}
-use Rattle.cv_rows.specs.Reading.{bytes_at, kind_at, attr_at, is_size, size_at, hash_at, name_at, target_limit, is_size_of, target_at, row_behind, row_at}
-use Rattle.cv_rows.proofs.FieldLaws.{bind_ok, ok_is, Takes, bytes_take, bytes_again}
+use Rattle.cv_base.specs.Fields.{bytes_at, Takes}
+use Rattle.cv_rows.specs.Reading.{kind_at, attr_at, is_size, size_at, hash_at, name_at, target_limit, is_size_of, target_at, row_behind, row_at}
+use Rattle.cv_base.proofs.Laws.{bind_ok, bytes_take, bytes_again}
+use Rattle.cv_rows.proofs.FieldLaws.{ok_is}
 use Rattle.cv_base.specs.Attr.{IsAttr}
 use Rattle.cv_rows.proofs.RowFields.{kind_takes, kind_reads, attr_bytes, attr_takes, attr_reads, size_takes, size_reads, HashFits, hash_takes, hash_reads, name_takes, name_reads, TargetFits, target_takes, target_reads}
 
@@ -95,7 +98,7 @@ unfoldable from_kind : ℕ → List ℕ → List ℕ → List ℕ → ReadRow
 from_kind all key parent text = kind_at all text >>= λ k. from_attr all key parent k.0 k.1
 
 unfoldable from_parent : ℕ → List ℕ → List ℕ → ReadRow
-from_parent all key text = bytes_at 16 text >>= λ p. from_kind all key p.0 p.1
+from_parent all key text = bytes_at Short 16 text >>= λ p. from_kind all key p.0 p.1
 
 target_next : (all : ℕ) (key : List ℕ) (parent : List ℕ) (kind : RowKind) (attr : Attr) (size : ℕ) (sized : List ℕ) (hash : Option (List ℕ)) (name : List ℕ) (text : List ℕ) → from_target all key parent kind attr size sized hash name text ≡ (target_at all kind size sized text >>= λ t. Ok (made key parent kind attr size hash name t.0, t.1))
 unfolding from_target
@@ -121,7 +124,7 @@ kind_next : (all : ℕ) (key : List ℕ) (parent : List ℕ) (text : List ℕ) �
 unfolding from_kind
 kind_next all key parent text = refl
 
-parent_next : (all : ℕ) (key : List ℕ) (text : List ℕ) → from_parent all key text ≡ (bytes_at 16 text >>= λ p. from_kind all key p.0 p.1)
+parent_next : (all : ℕ) (key : List ℕ) (text : List ℕ) → from_parent all key text ≡ (bytes_at Short 16 text >>= λ p. from_kind all key p.0 p.1)
 unfolding from_parent
 parent_next all key text = refl
 
@@ -130,7 +133,7 @@ row_parts : (r : Row) (rest : List ℕ) → row_bytes r ++ rest
     ≡ r.key.0 ++ (r.parent.0 ++ (to_be_bytes w32 (flags_of r.kind) ++ (attr_bytes r.kind r.attr ++ (to_be_bytes w64 r.size ++ (hash_field r.hash ++ (text_field r.name ++ (text_field r.target ++ rest)))))))
 row_parts r rest = simp append_assoc
 
-row_next : (all : ℕ) (text : List ℕ) → row_at all text ≡ (bytes_at 16 text >>= λ k. from_parent all k.0 k.1)
+row_next : (all : ℕ) (text : List ℕ) → row_at all text ≡ (bytes_at Short 16 text >>= λ k. from_parent all k.0 k.1)
 unfolding row_at from_parent from_kind from_attr
 row_next all text = refl
 
@@ -284,8 +287,8 @@ record FromParent (key text : List ℕ) (r : Row) (rest : List ℕ) : Type 0 whe
 take_parent : (all : ℕ) (key text : List ℕ) (r : Row) (rest : List ℕ) → IsBytes text → from_parent all key text ≡ Ok (r, rest) → FromParent key text r rest
 take_parent all key text r rest fits e =
     let x : Row × List ℕ = (r, rest) in
-    let p = bind_ok (bytes_at 16 text) (λ q. from_kind all key q.0 q.1) x (sym (parent_next all key text) ∙ e) in
-    let took = bytes_take 16 text p.0.0 p.0.1 fits p.1 in
+    let p = bind_ok (bytes_at Short 16 text) (λ q. from_kind all key q.0 q.1) x (sym (parent_next all key text) ∙ e) in
+    let took = bytes_take Short 16 text p.0.0 p.0.1 fits p.1 in
     let after = take_kind all key p.0.0 p.0.1 r rest took.takes.rest_fits p.2 in
     let parent_is : p.0.0 ≡ r.parent.0 = ap (λ (z : Row). z.parent.0) after.same in
     record {
@@ -301,8 +304,8 @@ take_parent all key text r rest fits e =
 pub row_takes : (all : ℕ) (text : List ℕ) (r : Row) (rest : List ℕ) → IsBytes text → row_at all text ≡ Ok (r, rest) → Takes text (row_bytes r) rest × IsRow r
 row_takes all text r rest fits e =
     let x : Row × List ℕ = (r, rest) in
-    let k = bind_ok (bytes_at 16 text) (λ q. from_parent all q.0 q.1) x (sym (row_next all text) ∙ e) in
-    let took = bytes_take 16 text k.0.0 k.0.1 fits k.1 in
+    let k = bind_ok (bytes_at Short 16 text) (λ q. from_parent all q.0 q.1) x (sym (row_next all text) ∙ e) in
+    let took = bytes_take Short 16 text k.0.0 k.0.1 fits k.1 in
     let after = take_parent all k.0.0 k.0.1 r rest took.takes.rest_fits k.2 in
     let key_is : k.0.0 ≡ r.key.0 = ap (λ (z : Row). z.key.0) after.same in
     let whole : text ≡ r.key.0 ++ (r.parent.0 ++ (to_be_bytes w32 (flags_of r.kind) ++ (attr_bytes r.kind r.attr ++ (to_be_bytes w64 r.size ++ (hash_field r.hash ++ (text_field r.name ++ (text_field r.target ++ rest))))))) =
@@ -332,5 +335,5 @@ row_reads all r rest is =
     let e4 : row_behind all r.key.0 r.parent.0 r.kind r.attr sized ≡ Ok (r, rest) = size_next all r.key.0 r.parent.0 r.kind r.attr sized ∙ rw (size_reads all r.kind r.size hashed parts.size_fits parts.size_is) e3 in
     let e5 : from_attr all r.key.0 r.parent.0 r.kind owned ≡ Ok (r, rest) = attr_next all r.key.0 r.parent.0 r.kind owned ∙ rw (attr_reads all r.kind r.attr sized is.attr) e4 in
     let e6 : from_kind all r.key.0 r.parent.0 flagged ≡ Ok (r, rest) = kind_next all r.key.0 r.parent.0 flagged ∙ rw (kind_reads all r.kind owned) e5 in
-    let e7 : from_parent all r.key.0 below ≡ Ok (r, rest) = parent_next all r.key.0 below ∙ rw (bytes_again 16 r.parent.0 flagged is.parent.size) e6 in
-    ap (row_at all) (row_parts r rest) ∙ row_next all (r.key.0 ++ below) ∙ rw (bytes_again 16 r.key.0 below is.key.size) e7
+    let e7 : from_parent all r.key.0 below ≡ Ok (r, rest) = parent_next all r.key.0 below ∙ rw (bytes_again Short 16 r.parent.0 flagged is.parent.size) e6 in
+    ap (row_at all) (row_parts r rest) ∙ row_next all (r.key.0 ++ below) ∙ rw (bytes_again Short 16 r.key.0 below is.key.size) e7

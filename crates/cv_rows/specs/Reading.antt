@@ -1,6 +1,7 @@
 -- Reading the fields of a row file, one after another from its first byte on: its rows and nested
 use Rattle.std.specs.Prelude.{ℕ, zero, suc, ◌+◌, ◌-◌, Bool, true, not, ◌&&◌, ◌==◌, nat_le, nat_lt, bytes_eq, if◌then◌else◌, List, [], ◌∷◌, length, take, drop, codes, Option, Some, None, Result, Ok, Err}
-use Rattle.std.specs.Int.{Width, w16, w32, w64, byte_len, from_be_bytes}
+use Rattle.std.specs.Int.{w16, w32, w64, from_be_bytes}
+use Rattle.cv_base.specs.Fields.{accepted, number_at, bytes_at}
 use Rattle.cv_base.specs.Path.{Path}
 use Rattle.cv_base.specs.PathText.{path_named}
 use Rattle.cv_base.specs.Target.{is_target}
@@ -23,17 +24,6 @@ use Rattle.cv_rows.specs.declared.row_fault.RowFault.TheVariants.{Short, BadMagi
 abbrev pub bad : ℕ → List ℕ → RowFault
 bad all text = BadField (all - length text)
 
-abbrev pub accepted : {A : Type 0} → RowFault → Option A → Result A RowFault
-accepted fault None = Err fault
-accepted fault (Some x) = Ok x
-
-abbrev pub number_at : Width → List ℕ → Result (ℕ × List ℕ) RowFault
-number_at w text = if nat_lt (length text) (byte_len w) then Err Short else Ok (from_be_bytes w (take (byte_len w) text), drop (byte_len w) text)
-
--- so many bytes
-abbrev pub bytes_at : ℕ → List ℕ → Result (List ℕ × List ℕ) RowFault
-bytes_at n text = if nat_lt (length text) n then Err Short else Ok (take n text, drop n text)
-
 -- ---- the fields of a row
 
 abbrev pub kind_of : ℕ → Option RowKind
@@ -47,7 +37,7 @@ kind_of flags =
 
 unfoldable pub kind_at : ℕ → List ℕ → Result (RowKind × List ℕ) RowFault
 kind_at all text = do
-  flags ← number_at w32 text
+  flags ← number_at Short w32 text
   kind ← accepted (bad all text) (kind_of flags.0)
   Ok (kind, flags.1)
 
@@ -57,11 +47,11 @@ permissions kind mode = if nat_le (type_bits kind) mode && nat_lt mode (type_bit
 
 unfoldable pub attr_at : ℕ → RowKind → List ℕ → Result (Attr × List ℕ) RowFault
 attr_at all kind text = do
-  bits ← number_at w32 text
+  bits ← number_at Short w32 text
   mode ← accepted (bad all text) (permissions kind bits.0)
-  mtime ← number_at w64 bits.1
-  uid ← number_at w32 mtime.1
-  gid ← number_at w32 uid.1
+  mtime ← number_at Short w64 bits.1
+  uid ← number_at Short w32 mtime.1
+  gid ← number_at Short w32 uid.1
   Ok (record { mode = mode; mtime = mtime.0; uid = uid.0; gid = gid.0 }, gid.1)
 
 -- a size that a row of this kind may have
@@ -74,12 +64,12 @@ is_size Link size = nat_le 1 size && nat_le size 4095
 
 unfoldable pub size_at : ℕ → RowKind → List ℕ → Result (ℕ × List ℕ) RowFault
 size_at all kind text = do
-  size ← number_at w64 text
+  size ← number_at Short w64 text
   if is_size kind size.0 then Ok size else Err (bad all text)
 
 -- the hash, behind the byte of its length
 abbrev pub hash_behind : ℕ → RowKind → List ℕ → ℕ → List ℕ → Result (Option (List ℕ) × List ℕ) RowFault
-hash_behind all File text len rest = if len == 20 then (bytes_at 20 rest >>= λ hash. Ok (Some hash.0, hash.1)) else Err (bad all text)
+hash_behind all File text len rest = if len == 20 then (bytes_at Short 20 rest >>= λ hash. Ok (Some hash.0, hash.1)) else Err (bad all text)
 hash_behind all kind text len rest = if len == 0 then Ok (None, rest) else Err (bad all text)
 
 unfoldable pub hash_at : ℕ → RowKind → List ℕ → Result (Option (List ℕ) × List ℕ) RowFault
@@ -89,13 +79,13 @@ hash_at all kind (len ∷ rest) = hash_behind all kind (len ∷ rest) len rest
 -- the length of a text that has at most `limit` bytes
 unfoldable pub length_at : ℕ → ℕ → List ℕ → Result (ℕ × List ℕ) RowFault
 length_at all limit text = do
-  len ← number_at w16 text
+  len ← number_at Short w16 text
   if nat_le len.0 limit then Ok len else Err (bad all text)
 
 unfoldable pub name_at : ℕ → List ℕ → List ℕ → Result (List ℕ × List ℕ) RowFault
 name_at all parent text = do
   len ← length_at all 255 text
-  name ← bytes_at len.0 len.1
+  name ← bytes_at Short len.0 len.1
   if is_row_name parent name.0 then Ok name else Err (bad all len.1)
 
 -- the most bytes of a target
@@ -112,7 +102,7 @@ is_size_of kind size target = true
 unfoldable pub target_at : ℕ → RowKind → ℕ → List ℕ → List ℕ → Result (List ℕ × List ℕ) RowFault
 target_at all kind size sized text = do
   len ← length_at all (target_limit kind) text
-  target ← bytes_at len.0 len.1
+  target ← bytes_at Short len.0 len.1
   if not (is_size_of kind size target.0) then Err (bad all sized)
       else if is_target target.0 then Ok target
       else Err (bad all len.1)
@@ -128,8 +118,8 @@ row_behind all key parent kind attr text = do
 
 unfoldable pub row_at : ℕ → List ℕ → Result (Row × List ℕ) RowFault
 row_at all text = do
-  key ← bytes_at 16 text
-  parent ← bytes_at 16 key.1
+  key ← bytes_at Short 16 text
+  parent ← bytes_at Short 16 key.1
   kind ← kind_at all parent.1
   attr ← attr_at all kind.0 kind.1
   row_behind all key.0 parent.0 kind.0 attr.0 attr.1
@@ -139,15 +129,15 @@ row_at all text = do
 unfoldable pub path_at : ℕ → List ℕ → Result (Path × List ℕ) RowFault
 path_at all text = do
   len ← length_at all 4095 text
-  name ← bytes_at len.0 len.1
+  name ← bytes_at Short len.0 len.1
   path ← accepted (bad all len.1) (path_named name.0)
   Ok (path, name.1)
 
 unfoldable pub nested_at : ℕ → List ℕ → Result (Nested × List ℕ) RowFault
 nested_at all text = do
   path ← path_at all text
-  hash ← bytes_at 20 path.1
-  size ← number_at w64 hash.1
+  hash ← bytes_at Short 20 path.1
+  size ← number_at Short w64 hash.1
   Ok (record { path = path.0; hash = hash.0; size = size.0 }, size.1)
 
 -- ---- the whole file

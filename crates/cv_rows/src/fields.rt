@@ -2,9 +2,11 @@
 //! which a fault names the offset of a field. Each function gives what follows its field too.
 ghost use Rattle.std.specs.Prelude.{◌≡◌, IfOk};
 ghost use Rattle.std.specs.Int.{w16, w32, w64};
-ghost use Rattle.cv_rows.specs.Reading.{bad, number_at, bytes_at, kind_of, kind_at, attr_at, permissions, is_size, size_at, hash_at, length_at, name_at, target_limit, is_size_of, target_at, path_at};
+ghost use Rattle.cv_base.specs.Fields.{number_at, bytes_at};
+ghost use Rattle.cv_rows.specs.Reading.{bad, kind_of, kind_at, attr_at, permissions, is_size, size_at, hash_at, length_at, name_at, target_limit, is_size_of, target_at, path_at};
 ghost use Rattle.cv_rows.specs.ReadingInner.{Gives, row_name_of};
 ghost use Rattle.cv_rows.specs.Row.{is_row_name};
+ghost use Rattle.cv_rows.specs.declared.row_fault.RowFault.TheVariants.{Short};
 
 use crate::row_fault::RowFault;
 use crate::row_kind::RowKind;
@@ -23,28 +25,28 @@ pub fn bad(all: usize, text: &[u8]) -> RowFault
 
 /// A number of two bytes.
 fn read_u16(text: &[u8]) -> Result<(u16, &[u8]), RowFault>
-    ensures { Gives (λ x. (x.0, x.1.now)) result (number_at w16 text.now) }
+    ensures { Gives (λ x. (x.0, x.1.now)) result (number_at Short w16 text.now) }
 {
     split_u16(text).ok_or(RowFault::Short)
 }
 
 /// A number of four bytes.
 pub fn read_u32(text: &[u8]) -> Result<(u32, &[u8]), RowFault>
-    ensures { Gives (λ x. (x.0, x.1.now)) result (number_at w32 text.now) }
+    ensures { Gives (λ x. (x.0, x.1.now)) result (number_at Short w32 text.now) }
 {
     split_u32(text).ok_or(RowFault::Short)
 }
 
 /// A number of eight bytes.
 pub fn read_u64(text: &[u8]) -> Result<(u64, &[u8]), RowFault>
-    ensures { Gives (λ x. (x.0, x.1.now)) result (number_at w64 text.now) }
+    ensures { Gives (λ x. (x.0, x.1.now)) result (number_at Short w64 text.now) }
 {
     split_u64(text).ok_or(RowFault::Short)
 }
 
 /// So many bytes.
 pub fn read_bytes(text: &[u8], len: usize) -> Result<(&[u8], &[u8]), RowFault>
-    ensures { Gives (λ x. (x.0.now, x.1.now)) result (bytes_at len text.now) }
+    ensures { Gives (λ x. (x.0.now, x.1.now)) result (bytes_at Short len text.now) }
 {
     if text.len() < len {
         return Err(RowFault::Short);
@@ -54,7 +56,7 @@ pub fn read_bytes(text: &[u8], len: usize) -> Result<(&[u8], &[u8]), RowFault>
 
 /// An array of bytes.
 pub fn read_array<const N: usize>(text: &[u8]) -> Result<([u8; N], &[u8]), RowFault>
-    ensures { Gives (λ x. (x.0, x.1.now)) result (bytes_at N text.now) }
+    ensures { Gives (λ x. (x.0, x.1.now)) result (bytes_at Short N text.now) }
 {
     match text.split_first_chunk::<N>() {
         Some((array, rest)) => Ok((*array, rest)),
