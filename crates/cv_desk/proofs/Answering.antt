@@ -1,5 +1,5 @@
 -- What an answer says.
-use Rattle.std.proofs.Common.{◌≡◌, ◌≢◌, true, false, cond, nat_le, ℕ, List, refl, subst}
+use Rattle.std.proofs.Common.{◌≡◌, true, false, cond, nat_le, ℕ, List, refl, subst}
 use Rattle.std.specs.Prelude.{bytes_eq}
 use Rattle.std.specs.declared.option.Option.{Option}
 use Rattle.std.specs.declared.option.Option.TheVariants.{None, Some}

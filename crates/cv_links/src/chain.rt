@@ -6,7 +6,7 @@ use crate::id::Id;
 use crate::lane::Lane;
 
 /// The ends of a list in one lane. The list itself is in the arena, and each call wants the arena that the chain is of:
-/// a copy that was made before the list changed is of it no more.
+/// a copy that was made before its ends changed is of it no more.
 #[derive(Clone, Copy)]
 pub struct Chain {
     pub(crate) lane: Lane,

@@ -1,4 +1,4 @@
-use Rattle.std.proofs.Common.{◌≡◌, true, ap, subst, ◌∙◌, Ok, Err}
+use Rattle.std.proofs.Common.{◌≡◌, true, ap, subst, Ok, Err}
 use Rattle.cv_graft.specs.declared.grafted.Grafted.{Grafted}
 use Rattle.cv_manifest.specs.declared.head.Head.{Head}
 use Rattle.cv_objects.specs.Names.{standing_on}

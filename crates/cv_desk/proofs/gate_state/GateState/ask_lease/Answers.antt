@@ -1,4 +1,4 @@
-use Rattle.std.proofs.Common.{rules, refl, subst, ◌≡◌, true, false, Ok}
+use Rattle.std.proofs.Common.{rules, subst, ◌≡◌, true, false, Ok}
 use Rattle.cv_desk.specs.ActingInner.{FindsPlace, placed, placeless}
 use Rattle.cv_desk.proofs.Reading.{sees}
 use Rattle.cv_desk.proofs.gate_state.GateState.ask_lease.Goals as goal
