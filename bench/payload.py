@@ -19,18 +19,23 @@ MIB = 1 << 20
 PATIENCE = 600
 
 
-def store(program, asked):
-    """The seconds in which the payload is stored in a new repository, and the most memory that the program has had then."""
-    with repository(program) as folder, Session(program, folder) as session:
-        session.exchange(lease("/a"))
-        begin = time.perf_counter()
-        session.send(asked)
-        answer = session.reply(PATIENCE).json()
-        took = time.perf_counter() - begin
-        expect(answer == {"status": "ok"}, "the answer to a payload", answer)
-        peak = session.peak()
-        session.close()
+def store_by(session, asked):
+    """The seconds in which the payload is stored by a session, and the most memory that the program has had then."""
+    session.exchange(lease("/a"))
+    begin = time.perf_counter()
+    session.send(asked)
+    answer = session.reply(PATIENCE).json()
+    took = time.perf_counter() - begin
+    expect(answer == {"status": "ok"}, "the answer to a payload", answer)
+    peak = session.peak()
+    session.close()
     return took, peak
+
+
+def store(program, asked):
+    """The same, in a new repository in a folder."""
+    with repository(program) as folder, Session(program, folder) as session:
+        return store_by(session, asked)
 
 
 def sha1sum(data):
@@ -39,23 +44,34 @@ def sha1sum(data):
     return time.perf_counter() - begin
 
 
-def measure(program, count, size, times):
-    """The seconds of a payload of so many objects of this size, no two alike, with the memory of its run, and those of sha1sum."""
-    objects = [index.to_bytes(8, "big") + bytes(size - 8) for index in range(count)]
+def objects_of(count, size):
+    """So many objects of this size, no two alike."""
+    return [index.to_bytes(8, "big") + bytes(size - 8) for index in range(count)]
+
+
+def measure(stored, count, size, times):
+    """The seconds of a payload of so many objects of this size, with the memory of its run, and those of sha1sum."""
+    objects = objects_of(count, size)
     asked = payload("1-1", [plain(content) for content in objects])
     beside = min(sha1sum(b"".join(objects)) for _ in range(times))
-    return *min(store(program, asked) for _ in range(times)), beside
+    return *min(stored(asked) for _ in range(times)), beside
+
+
+def tell(count, took, peak, beside):
+    """Prints what a payload of 32 MiB took."""
+    speed = f"{32 / took:.1f} MiB/s, {beside / took:.2f} of sha1sum"
+    print(f"32 MiB in {count} objects: {took:.3f} s, {speed}, {peak:.0f} MiB of memory at most")
 
 
 def script(program, short):
     whole, counts, times = (10_240, (10, 20), 1) if short else (32 * MIB, (100, 10_000), 3)
     for count in counts:
-        took, peak, beside = measure(program, count, whole // count, times)
+        found = measure(lambda asked: store(program, asked), count, whole // count, times)
         if short:
             print(f"{count} objects were stored")
         else:
-            speed = f"{whole / MIB / took:.1f} MiB/s, {beside / took:.2f} of sha1sum"
-            print(f"32 MiB in {count} objects: {took:.3f} s, {speed}, {peak:.0f} MiB of memory at most")
+            tell(count, *found)
 
 
-main(script)
+if __name__ == "__main__":
+    main(script)
