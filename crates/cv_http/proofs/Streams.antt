@@ -149,6 +149,17 @@ body_unread P b held size Short is short = absurd is
 body_unread P b held size ReadFault is short = short
 body_unread P b held size NoMemory is short = tt
 
+-- the same of a head that is awaited
+pub head_unread : {P H : Type 0} (form : Form P H) (held : List ℕ) (fault : HttpFault) → IsPieceFault fault → AwaitedAs form held → HeadReadAs form held held (Err fault)
+head_unread form held BadHead is waits = absurd is
+head_unread form held HeadTooLarge is waits = absurd is
+head_unread form held BodyTooLarge is waits = absurd is
+head_unread form held NoLength is waits = absurd is
+head_unread form held Coding is waits = absurd is
+head_unread form held Short is waits = absurd is
+head_unread form held ReadFault is waits = (waits, refl)
+head_unread form held NoMemory is waits = refl
+
 -- ---- what was judged
 
 module _ {P H : Type 0} {form : Form P H} where

@@ -1,4 +1,6 @@
 -- Which faults which call may answer.
+use Rattle.cv_http.specs.declared.buffer.FillFault.{FillFault}
+use Rattle.cv_http.specs.declared.buffer.FillFault.TheVariants as fill_fault
 use Rattle.cv_http.specs.declared.fault.HttpFault.{HttpFault}
 use Rattle.cv_http.specs.declared.fault.HttpFault.TheVariants.{BadHead, HeadTooLarge, BodyTooLarge, NoLength, Coding, Short, ReadFault, NoMemory}
 
@@ -34,3 +36,8 @@ IsReplyFault Coding = Unit {0}
 IsReplyFault Short = Unit {0}
 IsReplyFault ReadFault = Unit {0}
 IsReplyFault NoMemory = Unit {0}
+
+-- the fault of a head, a body or a reply where no more was read
+abbrev pub filling : FillFault → HttpFault
+filling fill_fault.ReadFault = ReadFault
+filling fill_fault.NoMemory = NoMemory

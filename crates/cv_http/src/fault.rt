@@ -1,7 +1,9 @@
 //! Why no request or reply was read.
 ghost use Rattle.std.specs.Prelude.{◌≡◌};
+ghost use Rattle.cv_http.specs.Faults.{filling};
 ghost use Rattle.cv_http.specs.declared.fault.HttpFault.TheVariants as faults;
 
+use crate::buffer::FillFault;
 use cv_base::NoMemory;
 
 /// Why a head, a body or a reply wasn't read.
@@ -32,5 +34,16 @@ impl From<NoMemory> for HttpFault {
 
     fn from(_fault: NoMemory) -> HttpFault {
         HttpFault::NoMemory
+    }
+}
+
+impl From<FillFault> for HttpFault {
+    ghost from_gives = { λ fault e. e ≡ filling fault };
+
+    fn from(fault: FillFault) -> HttpFault {
+        match fault {
+            FillFault::ReadFault => HttpFault::ReadFault,
+            FillFault::NoMemory => HttpFault::NoMemory,
+        }
     }
 }

@@ -2,6 +2,7 @@
 #![tactic(auto)]
 
 mod body_kind;
+mod buffer;
 mod code;
 mod fault;
 mod field_faults;
@@ -24,6 +25,7 @@ mod verb;
 mod wire;
 
 pub use body_kind::BodyKind;
+pub use buffer::{Buffer, FillFault};
 pub use code::{Code, NOT_FOUND, OK};
 pub use fault::HttpFault;
 pub use head::RequestHead;

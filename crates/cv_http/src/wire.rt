@@ -1,8 +1,8 @@
 //! Requests and replies on a stream.
-ghost use Rattle.std.specs.Prelude.{◌≡◌, ◌≢◌, ◌≤◌, ◌<◌, ◌+◌, ◌++◌, ◌⊎◌, Some, None, Ok, Err, [], length, drop, true, false, min, OnOk, OnErr, IfOk, IfErr};
+ghost use Rattle.std.specs.Prelude.{◌≡◌, ◌≢◌, ◌≤◌, ◌<◌, ◌+◌, ◌++◌, Some, None, Ok, Err, [], length, drop, true, false, min, OnOk, OnErr, IfOk, IfErr};
 ghost use Rattle.cv_base.specs.Counts.{HasCause};
 ghost use Rattle.cv_base.specs.Told.{WhereTold};
-ghost use Rattle.cv_ports.specs.Streams.{Look, front};
+ghost use Rattle.cv_ports.specs.Streams.{front};
 ghost use Rattle.cv_http.specs.Forms.{UnfinishedAs, AwaitedAs};
 ghost use Rattle.cv_http.specs.Heads.{IsAwaited};
 ghost use Rattle.cv_http.specs.HeadEndsInner.{NoneWithin, may_end};
@@ -15,6 +15,7 @@ ghost use Rattle.cv_http.specs.Faults.{IsHeadFault, IsBodyFault, IsReplyFault};
 ghost use Rattle.cv_http.specs.FaultsInner.{IsPieceFault};
 ghost use Rattle.cv_http.specs.declared.fault.HttpFault.TheVariants.{Short, ReadFault};
 
+use crate::buffer::{Buffer, PIECE};
 use crate::fault::HttpFault;
 use crate::head::RequestHead;
 use crate::head_end::has_empty_line;
@@ -26,9 +27,6 @@ use cv_ports::Source;
 use httparse::spans::{EMPTY_HEADER_SPAN, HeaderSpan};
 use std::alloc::Global;
 use std::marker::Model;
-
-/// The most bytes of a read.
-const PIECE: usize = 65_536;
 
 /// The most header fields that 16,384 bytes can hold: each takes three bytes at least.
 const ROOM: usize = 5_462;
@@ -46,54 +44,16 @@ const BODY_LIMIT: usize = 33_554_432;
 /// piece of 65,536, and from the first head on room for the fields of a head.
 #[derive(Drop)]
 pub struct Wire<R: Source + Drop> {
-    source: R,
-    held: Vec<u8>,
-    used: usize,
-    piece: Vec<u8>,
+    buffer: Buffer<R>,
     room: Vec<HeaderSpan>,
 }
 
 impl<R: Source + Drop> Model for Wire<R> {
-    ghost use Rattle.std.specs.Prelude.{◌≤◌, drop, vec_len};
     ghost use Rattle.cv_http.specs.Wires.{WireView};
 
     ghost Value = { WireView R };
 
-    ghost view = { λ w. record { source = w.source; held = drop w.used w.held.items } };
-
-    ghost invariant = { λ w. w.used ≤ vec_len w.held };
-}
-
-/// Reads a piece to the end of what is held, beside a sink. `false` is the end of the source.
-#[tactic(auto, using(crate::proofs::Streams::reads_on))]
-fn read_piece<R: Source>(
-    source: &mut R,
-    piece: &mut [u8],
-    held: &mut Vec<u8>,
-    beside: &R::Beside,
-) -> Result<bool, HttpFault>
-    requires { 0 < length piece.old }
-    ensures stream { front held.new.items (R.left source.new) ≡ front held.old.items (R.left source.old) }
-    ensures gets { Gets R.left R.given (record { source = source.old; held = held.old.items })
-        (record { source = source.new; held = held.new.items }) }
-    ensures more { result ≡ Ok true → length held.old.items < length held.new.items }
-    ensures lost { OnErr result (held.new.items ≡ held.old.items) }
-    ensures end { result ≡ Ok false → (held.new.items ≡ held.old.items) × WhereTold (R.left source.new) (λ left. left ≡ []) }
-    ensures faults { IfErr result IsPieceFault }
-    ensures cause { HasCause (R.faults source.old) (R.faults source.new) (result ≡ Err ReadFault) }
-    ensures looks { (look : Look) → R.looks source.new look
-        → R.looks source.old look ⊎ (look ≡ record { left = R.left source.old; passed = R.Beside.passed beside.now }) }
-{
-    if held.reserve(piece.len()).is_err() {
-        return Err(HttpFault::NoMemory);
-    }
-    let Ok(count) = source.read(piece, beside) else {
-        return Err(HttpFault::ReadFault);
-    };
-    if held.extend_from_slice(&piece[..count]).is_err() {
-        unreachable!();
-    }
-    Ok(count > 0)
+    ghost view = { λ w. w.buffer };
 }
 
 /// Makes room for each field of a head.
@@ -112,10 +72,7 @@ impl<R: Source + Drop> Wire<R> {
         ensures { result ≡ record { source = source; held = [] } }
     {
         Wire {
-            source,
-            held: Vec::new(alloc),
-            used: 0,
-            piece: Vec::new(alloc),
+            buffer: Buffer::new(alloc, source),
             room: Vec::new(alloc),
         }
     }
@@ -124,14 +81,14 @@ impl<R: Source + Drop> Wire<R> {
     pub fn into_source(self) -> R
         ensures { result ≡ self.source }
     {
-        self.source
+        self.buffer.into_source()
     }
 
     /// What is held.
     fn bytes(&self) -> &[u8]
         ensures { result.now ≡ self.now.held }
     {
-        &self.held[self.used..]
+        self.buffer.bytes()
     }
 
     /// Uses bytes up.
@@ -139,7 +96,7 @@ impl<R: Source + Drop> Wire<R> {
         requires { count ≤ length self.old.held }
         ensures { self.new ≡ record self.old { held = drop count self.old.held } }
     {
-        self.used += count;
+        self.buffer.skip(count);
     }
 
     /// Reads more of the source, beside a sink. `false` is its end.
@@ -153,17 +110,7 @@ impl<R: Source + Drop> Wire<R> {
         ensures cause { HasCause (R.faults self.old.source) (R.faults self.new.source) (result ≡ Err ReadFault) }
         ensures looks { Looks R.left R.looks self.old self.new (Beside (R.Beside.passed beside.now) (λ b. b ≡ self.old.held)) }
     {
-        self.held.drain(..self.used);
-        self.used = 0;
-        if self.piece.resize(PIECE, 0).is_err() {
-            return Err(HttpFault::NoMemory);
-        }
-        read_piece(
-            &mut self.source,
-            self.piece.as_mut_slice(),
-            &mut self.held,
-            beside,
-        )
+        Ok(self.buffer.fill(beside)?)
     }
 
     /// Judges what is held.
@@ -172,8 +119,7 @@ impl<R: Source + Drop> Wire<R> {
         ensures judged { IfOk result (Judges H.form self.old.held) }
     {
         make_room(alloc, &mut self.room)?;
-        let (_, held) = self.held.as_slice().split_at(self.used);
-        judge(alloc, held, self.room.as_mut_slice())
+        judge(alloc, self.buffer.bytes(), self.room.as_mut_slice())
     }
 
     /// Takes the head with which what is held begins. `None` where it is a part of one.

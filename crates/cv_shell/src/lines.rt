@@ -1,22 +1,19 @@
 //! Lines of a source.
-ghost use Rattle.std.specs.Prelude.{◌≡◌, ◌≤◌, ◌<◌, ◌⊎◌, [], length, drop, true, false, Ok, Err, OnErr, IfErr};
+ghost use Rattle.std.specs.Prelude.{◌≡◌, ◌≤◌, ◌<◌, [], length, drop, true, false, Ok, Err, OnErr, IfErr};
 ghost use Rattle.cv_base.specs.Counts.{HasCause};
-ghost use Rattle.cv_ports.specs.Streams.{Look};
 ghost use Rattle.cv_http.specs.Wires.{Draws, Looks, Beside, HasEnded, Gets};
 ghost use Rattle.cv_shell.specs.Lines.{IsLine, LineRead};
-ghost use Rattle.cv_shell.specs.LinesInner.{LineFound, IsPieceFault};
+ghost use Rattle.cv_shell.specs.LinesInner.{LineFound, IsPieceFault, filling};
 ghost use Rattle.cv_shell.specs.declared.lines.LineFault.TheVariants.{ReadFault};
 
 use cv_base::{Bytes, newline_at};
+use cv_http::{Buffer, FillFault};
 use cv_ports::Source;
 use std::alloc::Global;
 use std::marker::Model;
 
 /// The most bytes of a line, for which its newline doesn't count.
 pub const LINE_LIMIT: usize = 8_192;
-
-/// The most bytes of a read.
-const PIECE: usize = 4_096;
 
 /// Why no line was read.
 #[derive(Clone, Copy, Debug, PartialEq, Eq)]
@@ -29,52 +26,29 @@ pub enum LineFault {
     NoMemory,
 }
 
+impl From<FillFault> for LineFault {
+    ghost from_gives = { λ fault e. e ≡ filling fault };
+
+    fn from(fault: FillFault) -> LineFault {
+        match fault {
+            FillFault::ReadFault => LineFault::ReadFault,
+            FillFault::NoMemory => LineFault::NoMemory,
+        }
+    }
+}
+
 /// A source of lines, with the bytes that it gave and that no line was made of yet.
 #[derive(Drop)]
 pub struct Lines<R: Source + Drop> {
-    source: R,
-    held: Vec<u8>,
-    used: usize,
+    buffer: Buffer<R>,
 }
 
 impl<R: Source + Drop> Model for Lines<R> {
-    ghost use Rattle.std.specs.Prelude.{◌≤◌, drop, vec_len};
     ghost use Rattle.cv_http.specs.Wires.{WireView};
 
     ghost Value = { WireView R };
 
-    ghost view = { λ l. record { source = l.source; held = drop l.used l.held.items } };
-
-    ghost invariant = { λ l. l.used ≤ vec_len l.held };
-}
-
-/// Reads a piece to the end of what is held, beside a sink. `false` is the end of the source.
-fn read_piece<R: Source>(
-    source: &mut R,
-    held: &mut Vec<u8>,
-    beside: &R::Beside,
-) -> Result<bool, LineFault>
-    ensures gets { Gets R.left R.given (record { source = source.old; held = held.old.items })
-        (record { source = source.new; held = held.new.items }) }
-    ensures more { result ≡ Ok true → length held.old.items < length held.new.items }
-    ensures lost { OnErr result (held.new.items ≡ held.old.items) }
-    ensures end { result ≡ Ok false → (held.new.items ≡ held.old.items) × HasEnded (R.left source.new) }
-    ensures faults { IfErr result IsPieceFault }
-    ensures cause { HasCause (R.faults source.old) (R.faults source.new) (result ≡ Err ReadFault) }
-    ensures looks { (look : Look) → R.looks source.new look
-        → R.looks source.old look ⊎ (look ≡ record { left = R.left source.old; passed = R.Beside.passed beside.now }) }
-{
-    let mut piece = [0; PIECE];
-    if held.reserve(PIECE).is_err() {
-        return Err(LineFault::NoMemory);
-    }
-    let Ok(count) = source.read(&mut piece, beside) else {
-        return Err(LineFault::ReadFault);
-    };
-    if held.extend_from_slice(&piece[..count]).is_err() {
-        unreachable!();
-    }
-    Ok(count > 0)
+    ghost view = { λ l. l.buffer };
 }
 
 impl<R: Source + Drop> Lines<R> {
@@ -83,9 +57,7 @@ impl<R: Source + Drop> Lines<R> {
         ensures { result ≡ record { source = source; held = [] } }
     {
         Lines {
-            source,
-            held: Vec::new(alloc),
-            used: 0,
+            buffer: Buffer::new(alloc, source),
         }
     }
 
@@ -93,14 +65,14 @@ impl<R: Source + Drop> Lines<R> {
     pub fn into_source(self) -> R
         ensures { result ≡ self.source }
     {
-        self.source
+        self.buffer.into_source()
     }
 
     /// What is held.
     fn bytes(&self) -> &[u8]
         ensures { result.now ≡ self.now.held }
     {
-        &self.held[self.used..]
+        self.buffer.bytes()
     }
 
     /// Uses bytes up.
@@ -108,7 +80,7 @@ impl<R: Source + Drop> Lines<R> {
         requires { count ≤ length self.old.held }
         ensures { self.new ≡ record self.old { held = drop count self.old.held } }
     {
-        self.used += count;
+        self.buffer.skip(count);
     }
 
     /// Reads more of the source, beside a sink. `false` is its end.
@@ -121,9 +93,7 @@ impl<R: Source + Drop> Lines<R> {
         ensures cause { HasCause (R.faults self.old.source) (R.faults self.new.source) (result ≡ Err ReadFault) }
         ensures looks { Looks R.left R.looks self.old self.new (Beside (R.Beside.passed beside.now) (λ b. b ≡ self.old.held)) }
     {
-        self.held.drain(..self.used);
-        self.used = 0;
-        read_piece(&mut self.source, &mut self.held, beside)
+        Ok(self.buffer.fill(beside)?)
     }
 
     /// Takes the line with which what is held begins, with its newline. `None` where a part of one is held.

@@ -5,7 +5,7 @@ use Rattle.cv_http.specs.Wires.{Draws, HeadReadAs}
 use Rattle.cv_http.specs.Faults.{IsHeadFault}
 use Rattle.cv_http.specs.declared.fault.HttpFault.TheVariants.{Short, ReadFault}
 use Rattle.cv_http.proofs.HeadEnds.{none_yet, none_at_all, none_on}
-use Rattle.cv_http.proofs.Streams.{gets_same, gets_moved, gets_on, draws_of, draws_reads, read_lost, found_none, by_fault, looks_none, looks_still, head_looks}
+use Rattle.cv_http.proofs.Streams.{gets_same, gets_moved, gets_on, draws_of, draws_reads, read_lost, found_none, head_unread, by_fault, looks_none, looks_still, head_looks}
 use Rattle.cv_http.proofs.wire.Wire.next_head.Goals as goal
 
 pub pieces-init : goal.pieces-init
@@ -40,6 +40,24 @@ returns-in_err-head-clause-cause g c = record {
       absurd (by_fault c.from_residual.result _ (λ r. r ≡ Err ReadFault → ⊥) c.from_residual.ensures.1
       ((read_lost g.H.Head.form g.met.H.Head.refusal c.pieces.self.held c.seek_head.new.self.held _ c.in_err-head.ensures.found).2 _ refl) is);
 }
+
+pub returns-in_err-fill-clause-reads : goal.returns-in_err-fill-clause-reads
+returns-in_err-fill-clause-reads g c =
+    let found = found_none g.H.Head.form (AwaitedAs g.H.Head.form) c.pieces.self.held c.seek_head.new.self.held c.in_ok-head.field-0 c.in_ok-head.ensures.found c.in_default.not-Some in
+    let waits : AwaitedAs g.H.Head.form c.fill.new.self.held = subst (AwaitedAs g.H.Head.form) (sym (c.in_err-fill.ensures.lost ∙ found.1)) found.0 in
+    let gets = gets_moved g.R.Source.left g.R.Source.given c.args.self.now c.pieces.self c.seek_head.new.self c.pieces.invariant.gets c.seek_head.ensures.source found.1 in
+    by_fault c.from_residual-in_err-fill.result _ (λ r. Draws g.R.Source.left g.R.Source.given c.args.self.now c.fill.new.self (λ b. HeadReadAs g.H.Head.form b c.fill.new.self.held r)) c.from_residual-in_err-fill.ensures.1
+    (draws_of g.R.Source.left g.R.Source.given c.args.self.now c.fill.new.self c.fill.new.self _ (gets_on g.R.Source.left g.R.Source.given c.args.self.now c.seek_head.new.self c.fill.new.self gets c.fill.ensures.gets) refl
+    (head_unread g.H.Head.form c.fill.new.self.held _ c.in_err-fill.ensures.faults waits))
+
+pub returns-in_err-fill-clause-looks : goal.returns-in_err-fill-clause-looks
+returns-in_err-fill-clause-looks g c =
+    let found = found_none g.H.Head.form (AwaitedAs g.H.Head.form) c.pieces.self.held c.seek_head.new.self.held c.in_ok-head.field-0 c.in_ok-head.ensures.found c.in_default.not-Some in
+    let waits : AwaitedAs g.H.Head.form c.seek_head.new.self.held = subst (AwaitedAs g.H.Head.form) (sym found.1) found.0 in
+    let gets = gets_moved g.R.Source.left g.R.Source.given c.args.self.now c.pieces.self c.seek_head.new.self c.pieces.invariant.gets c.seek_head.ensures.source found.1 in
+    head_looks g.R.Source.left g.R.Source.looks g.H.Head.form c.args.self.now c.seek_head.new.self c.fill.new.self _
+    (looks_still g.R.Source.left g.R.Source.looks c.args.self.now c.pieces.self c.seek_head.new.self _ c.pieces.invariant.looks c.seek_head.ensures.source)
+    (draws_reads g.R.Source.left g.R.Source.given c.args.self.now c.seek_head.new.self _ (draws_of g.R.Source.left g.R.Source.given c.args.self.now c.seek_head.new.self c.seek_head.new.self (λ b. b ≡ c.seek_head.new.self.held) gets refl refl)) waits c.fill.ensures.looks
 
 pub pieces-preserved : goal.pieces-preserved
 pieces-preserved g c =

@@ -1,6 +1,6 @@
 use Rattle.std.proofs.Common.{rules, ◌≡◌, [], ap}
 use Rattle.cv_http.proofs.Streams.{gets_same, looks_one}
-use Rattle.cv_http.proofs.wire.Wire.fill.Goals as goal
+use Rattle.cv_http.proofs.buffer.Buffer.fill.Goals as goal
 
 pub returns-then-is_err-clause-gets : goal.returns-then-is_err-clause-gets
 returns-then-is_err-clause-gets g c =
