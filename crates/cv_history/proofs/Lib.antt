@@ -1,11 +1,6 @@
 mod ChainLaws
-mod FieldFaults
-mod FieldOrder
-mod NoFaults
-mod Places
-mod RecordReading
+mod FieldLaws
 mod Spelling
-mod TextFaults
 mod TextValues
 mod WalksBack
 mod Written

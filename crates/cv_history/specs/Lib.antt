@@ -1,5 +1,4 @@
 pub mod Record
-pub mod Faults
 pub mod Reading
 pub mod ReadingInner
 pub mod Chain

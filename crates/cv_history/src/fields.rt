@@ -1,74 +1,52 @@
-//! Fields of a record, by their offsets.
-ghost use Rattle.std.specs.Prelude.{◌≡◌, ◌≤◌, ◌+◌, length, IfOk, IfErr};
-ghost use Rattle.cv_history.specs.Faults.{part, u16_at, u64_at};
-ghost use Rattle.cv_history.specs.ReadingInner.{IsShort, HasText, IsTextFault};
+//! The fields of a record, read at the front of bytes. `all` is the count of all bytes of the record, by
+//! which a fault names the offset of a field. Each function gives what follows its field too.
+ghost use Rattle.std.specs.Prelude.{◌≡◌};
+ghost use Rattle.std.specs.Int.{w16, w64};
+ghost use Rattle.cv_base.specs.Fields.{number_at, bytes_at};
+ghost use Rattle.cv_history.specs.Reading.{bad};
+ghost use Rattle.cv_history.specs.ReadingInner.{Gives};
+ghost use Rattle.cv_history.specs.declared.record_fault.RecordFault.TheVariants.{BadRecord};
 
 use crate::record_fault::RecordFault;
 use cv_base::{DIGEST_SIZE, split_u16, split_u64};
 
-/// So many bytes from an offset on.
-pub fn part_at(bytes: &[u8], at: usize, size: usize) -> Result<&[u8], RecordFault>
-    requires { at ≤ length bytes.now }
-    ensures value { IfOk result (λ found. found.now ≡ part bytes.now at size) }
-    ensures fits { IfOk result (λ _. at + size ≤ length bytes.now) }
-    ensures short { IfErr result (IsShort bytes.now (at + size)) }
+/// The fault that the field which begins with this text isn't as it has to be.
+pub fn bad(all: usize, text: &[u8]) -> RecordFault
+    ensures { result ≡ bad all text.now }
 {
-    let rest = &bytes[at..];
-    if rest.len() < size {
-        return Err(RecordFault::BadRecord(bytes.len()));
-    }
-    Ok(&rest[..size])
+    RecordFault::BadRecord(all.saturating_sub(text.len()))
 }
 
-/// The number of two bytes at an offset.
-pub fn u16_at(bytes: &[u8], at: usize) -> Result<u16, RecordFault>
-    requires { at ≤ length bytes.now }
-    ensures value { IfOk result (λ number. u16_at bytes.now at ≡ number) }
-    ensures fits { IfOk result (λ _. at + 2 ≤ length bytes.now) }
-    ensures short { IfErr result (IsShort bytes.now (at + 2)) }
+/// A number of two bytes.
+pub fn read_u16(all: usize, text: &[u8]) -> Result<(u16, &[u8]), RecordFault>
+    ensures { Gives (λ x. (x.0, x.1.now)) result (number_at (BadRecord all) w16 text.now) }
 {
-    match split_u16(&bytes[at..]) {
-        Some((number, _)) => Ok(number),
-        None => Err(RecordFault::BadRecord(bytes.len())),
-    }
+    split_u16(text).ok_or(RecordFault::BadRecord(all))
 }
 
-/// The number of eight bytes at an offset.
-pub fn u64_at(bytes: &[u8], at: usize) -> Result<u64, RecordFault>
-    requires { at ≤ length bytes.now }
-    ensures value { IfOk result (λ number. u64_at bytes.now at ≡ number) }
-    ensures fits { IfOk result (λ _. at + 8 ≤ length bytes.now) }
-    ensures short { IfErr result (IsShort bytes.now (at + 8)) }
+/// A number of eight bytes.
+pub fn read_u64(all: usize, text: &[u8]) -> Result<(u64, &[u8]), RecordFault>
+    ensures { Gives (λ x. (x.0, x.1.now)) result (number_at (BadRecord all) w64 text.now) }
 {
-    match split_u64(&bytes[at..]) {
-        Some((number, _)) => Ok(number),
-        None => Err(RecordFault::BadRecord(bytes.len())),
-    }
+    split_u64(text).ok_or(RecordFault::BadRecord(all))
 }
 
-/// The hash at an offset.
-pub fn hash_at(bytes: &[u8], at: usize) -> Result<[u8; 20], RecordFault>
-    requires { at ≤ length bytes.now }
-    ensures value { IfOk result (λ hash. part bytes.now at 20 ≡ hash) }
-    ensures fits { IfOk result (λ _. at + 20 ≤ length bytes.now) }
-    ensures short { IfErr result (IsShort bytes.now (at + 20)) }
+/// So many bytes.
+pub fn read_bytes(all: usize, size: usize, text: &[u8]) -> Result<(&[u8], &[u8]), RecordFault>
+    ensures { Gives (λ x. (x.0.now, x.1.now)) result (bytes_at (BadRecord all) size text.now) }
 {
-    match bytes[at..].first_chunk::<DIGEST_SIZE>() {
-        Some(hash) => Ok(*hash),
-        None => Err(RecordFault::BadRecord(bytes.len())),
+    if text.len() < size {
+        return Err(RecordFault::BadRecord(all));
     }
+    Ok(text.split_at(size))
 }
 
-/// The text at an offset, behind its length, which is at most the limit.
-#[tactic(auto, using(crate::proofs::FieldFaults::field_faults), unfolding(crate::specs::Faults::text_fault))]
-pub fn text_at(bytes: &[u8], at: usize, limit: usize) -> Result<&[u8], RecordFault>
-    requires { at ≤ length bytes.now }
-    ensures text { IfOk result (λ text. HasText bytes.now at limit text.now) }
-    ensures fault { IfErr result (IsTextFault bytes.now at limit) }
+/// A hash.
+pub fn read_hash(all: usize, text: &[u8]) -> Result<([u8; 20], &[u8]), RecordFault>
+    ensures { Gives (λ x. (x.0, x.1.now)) result (bytes_at (BadRecord all) 20 text.now) }
 {
-    let size = usize::from(u16_at(bytes, at)?);
-    if size > limit {
-        return Err(RecordFault::BadRecord(at));
+    match text.split_first_chunk::<DIGEST_SIZE>() {
+        Some((hash, rest)) => Ok((*hash, rest)),
+        None => Err(RecordFault::BadRecord(all)),
     }
-    part_at(bytes, at + 2, size)
 }

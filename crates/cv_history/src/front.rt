@@ -1,22 +1,11 @@
-//! The fields of a record before its texts.
-ghost use Rattle.std.specs.Prelude.{◌≡◌, ◌≤◌, ◌==◌, length, IfOk};
-ghost use Rattle.cv_history.specs.Faults.{start_fault, hashes_fault, token_fault, front_fault, where_first};
-ghost use Rattle.cv_history.specs.Reading.{Judges};
-ghost use Rattle.cv_history.specs.ReadingInner.{HasStart, HasHashes, HasToken, HasFront};
+//! The fields of a record that are numbers and hashes.
+ghost use Rattle.std.specs.Prelude.{◌≡◌};
+ghost use Rattle.cv_history.specs.Reading.{where_first, is_revision, revision_at, hash_at, count_at, token_at, time_at};
+ghost use Rattle.cv_history.specs.ReadingInner.{Gives};
 
-use crate::fields::{hash_at, part_at, u64_at};
+use crate::fields::{bad, read_bytes, read_hash, read_u64};
 use crate::record_fault::RecordFault;
-use cv_base::{LAST_REVISION, Token};
-
-/// The fields of fixed size at the front of a record.
-#[derive(Clone, Copy)]
-pub struct Front {
-    pub revision: u64,
-    pub previous: [u8; 20],
-    pub root: [u8; 20],
-    pub offered: [u8; 20],
-    pub token: Token,
-}
+use cv_base::{LAST_REVISION, LAST_TIME, Token};
 
 /// What is asked of the first record alone.
 fn where_first(first: bool, right: bool) -> bool
@@ -25,73 +14,76 @@ fn where_first(first: bool, right: bool) -> bool
     !first || right
 }
 
-/// The revision, behind the name of the format.
-#[tactic(auto, using(crate::proofs::FieldFaults::field_faults), unfolding(crate::specs::Faults::start_fault))]
-fn read_start(bytes: &[u8]) -> Result<u64, RecordFault>
-    ensures judged { Judges (start_fault bytes.now) result }
-    ensures value { IfOk result (HasStart bytes.now) }
+/// Whether a record may have this revision.
+fn is_revision(revision: u64) -> bool
+    ensures { result ≡ is_revision revision }
 {
-    if part_at(bytes, 0, 4)? != b"CVH1".as_slice() {
-        return Err(RecordFault::BadRecord(0));
-    }
-    let revision = u64_at(bytes, 4)?;
-    if revision < 1 || revision > LAST_REVISION {
-        return Err(RecordFault::BadRecord(4));
-    }
-    Ok(revision)
+    1 <= revision && revision <= LAST_REVISION
 }
 
-/// The hash of the record before, the root and the offered root.
-#[tactic(auto, using(crate::proofs::FieldFaults::field_faults), unfolding(crate::specs::Faults::hashes_fault))]
-fn read_hashes(bytes: &[u8], first: bool) -> Result<([u8; 20], [u8; 20], [u8; 20]), RecordFault>
-    requires { 12 ≤ length bytes.now }
-    ensures judged { Judges (hashes_fault bytes.now first) result }
-    ensures value { IfOk result (λ hashes. HasHashes bytes.now first hashes.0 hashes.1 hashes.2) }
+/// The revision, behind the name of the format.
+#[tactic(auto, unfolding(crate::specs::Reading::revision_at))]
+pub fn read_revision(all: usize, text: &[u8]) -> Result<(u64, &[u8]), RecordFault>
+    ensures { Gives (λ x. (x.0, x.1.now)) result (revision_at all text.now) }
 {
-    let previous = hash_at(bytes, 12)?;
-    if !where_first(first, previous == [0; 20]) {
-        return Err(RecordFault::BadRecord(12));
+    let (format, rest) = read_bytes(all, 4, text)?;
+    if format != b"CVH1".as_slice() {
+        return Err(bad(all, text));
     }
-    let root = hash_at(bytes, 32)?;
-    let offered = hash_at(bytes, 52)?;
-    if !where_first(first, offered == root) {
-        return Err(RecordFault::BadRecord(52));
+    let (revision, after) = read_u64(all, rest)?;
+    if !is_revision(revision) {
+        return Err(bad(all, rest));
     }
-    Ok((previous, root, offered))
+    Ok((revision, after))
+}
+
+/// A hash, which in the first record is the one that is wanted.
+#[tactic(auto, unfolding(crate::specs::Reading::hash_at))]
+pub fn read_hash_of<'a>(
+    all: usize,
+    first: bool,
+    wanted: &[u8; 20],
+    text: &'a [u8],
+) -> Result<([u8; 20], &'a [u8]), RecordFault>
+    ensures { Gives (λ x. (x.0, x.1.now)) result (hash_at all first wanted.now text.now) }
+{
+    let (hash, rest) = read_hash(all, text)?;
+    if !where_first(first, hash == *wanted) {
+        return Err(bad(all, text));
+    }
+    Ok((hash, rest))
+}
+
+/// A number of a token, which in the first record is zero.
+#[tactic(auto, unfolding(crate::specs::Reading::count_at))]
+fn read_count(all: usize, first: bool, text: &[u8]) -> Result<(u64, &[u8]), RecordFault>
+    ensures { Gives (λ x. (x.0, x.1.now)) result (count_at all first text.now) }
+{
+    let (count, rest) = read_u64(all, text)?;
+    if !where_first(first, count == 0) {
+        return Err(bad(all, text));
+    }
+    Ok((count, rest))
 }
 
 /// The token of the lease.
-#[tactic(auto, using(crate::proofs::FieldFaults::field_faults), unfolding(crate::specs::Faults::token_fault))]
-fn read_token(bytes: &[u8], first: bool) -> Result<Token, RecordFault>
-    requires { 72 ≤ length bytes.now }
-    ensures judged { Judges (token_fault bytes.now first) result }
-    ensures value { IfOk result (HasToken bytes.now first) }
+#[tactic(auto, unfolding(crate::specs::Reading::token_at))]
+pub fn read_token(all: usize, first: bool, text: &[u8]) -> Result<(Token, &[u8]), RecordFault>
+    ensures { Gives (λ x. (x.0, x.1.now)) result (token_at all first text.now) }
 {
-    let epoch = u64_at(bytes, 72)?;
-    if !where_first(first, epoch == 0) {
-        return Err(RecordFault::BadRecord(72));
-    }
-    let number = u64_at(bytes, 80)?;
-    if !where_first(first, number == 0) {
-        return Err(RecordFault::BadRecord(80));
-    }
-    Ok(Token { epoch, number })
+    let (epoch, rest) = read_count(all, first, text)?;
+    let (number, rest) = read_count(all, first, rest)?;
+    Ok((Token { epoch, number }, rest))
 }
 
-/// The fields before the texts.
-pub fn read_front(bytes: &[u8]) -> Result<Front, RecordFault>
-    ensures judged { Judges (front_fault bytes.now) result }
-    ensures value { IfOk result (HasFront bytes.now) }
+/// The time.
+#[tactic(auto, unfolding(crate::specs::Reading::time_at))]
+pub fn read_time(all: usize, text: &[u8]) -> Result<(u64, &[u8]), RecordFault>
+    ensures { Gives (λ x. (x.0, x.1.now)) result (time_at all text.now) }
 {
-    let revision = read_start(bytes)?;
-    let first = revision == 1;
-    let (previous, root, offered) = read_hashes(bytes, first)?;
-    let token = read_token(bytes, first)?;
-    Ok(Front {
-        revision,
-        previous,
-        root,
-        offered,
-        token,
-    })
+    let (time, rest) = read_u64(all, text)?;
+    if time > LAST_TIME {
+        return Err(bad(all, text));
+    }
+    Ok((time, rest))
 }

@@ -1,12 +1,15 @@
 //! Records of the history.
-ghost use Rattle.std.specs.Prelude.{◌≡◌, ◌≤◌, ◌<◌, ◌^◌, ◌++◌, length, IfOk, OnOk};
+ghost use Rattle.std.specs.Prelude.{◌≡◌, ◌≤◌, ◌<◌, ◌^◌, ◌++◌, length, Ok, IfOk, OnOk};
 ghost use Rattle.std.specs.Int.{w16, w64, to_be_bytes};
 ghost use Rattle.cv_base.specs.Digest.{IsDigest};
+ghost use Rattle.cv_history.specs.Reading.{record_of};
+ghost use Rattle.cv_history.specs.ReadingInner.{Gives};
 ghost use Rattle.cv_history.specs.declared.record.Record.{Record as Value};
 
-use crate::front::read_front;
+use crate::fields::{bad, read_hash};
+use crate::front::{read_hash_of, read_revision, read_time, read_token};
 use crate::record_fault::RecordFault;
-use crate::texts::read_texts;
+use crate::texts::{read_key, read_path, read_tag};
 use cv_base::{NoMemory, RepoPath, Target, Token};
 use std::alloc::{AllocError, Global};
 
@@ -61,20 +64,51 @@ fn push_text(bytes: &mut Vec<u8>, text: &[u8]) -> Result<(), AllocError>
     Ok(())
 }
 
+/// The record that bytes are, or their first fault.
+#[tactic(auto, unfolding(crate::specs::Reading::record_of))]
+fn read_record(alloc: Global, bytes: &[u8]) -> Result<Record, RecordFault>
+    ensures { Gives (λ r. r) result (record_of bytes.now) }
+{
+    let all = bytes.len();
+    let (revision, rest) = read_revision(all, bytes)?;
+    let first = revision == 1;
+    let (previous, rest) = read_hash_of(all, first, &[0; 20], rest)?;
+    let (root, rest) = read_hash(all, rest)?;
+    let (offered, rest) = read_hash_of(all, first, &root, rest)?;
+    let (token, rest) = read_token(all, first, rest)?;
+    let (path, rest) = read_path(alloc, all, first, rest)?;
+    let (key, rest) = read_key(alloc, all, first, rest)?;
+    let (time, rest) = read_time(all, rest)?;
+    let (tag, rest) = read_tag(alloc, all, first, rest)?;
+    if !rest.is_empty() {
+        return Err(bad(all, rest));
+    }
+    Ok(Record {
+        revision,
+        previous,
+        root,
+        offered,
+        token,
+        path,
+        key,
+        time,
+        tag,
+    })
+}
+
 impl Record {
+    ghost use Rattle.cv_base.specs.Unless.{IsUnless};
     ghost use Rattle.cv_history.specs.Record.{IsRecord, Spells};
-    ghost use Rattle.cv_history.specs.Faults.{fault_of};
-    ghost use Rattle.cv_history.specs.Reading.{Judges, IsRead};
     ghost use Rattle.cv_history.specs.ReadingInner.{front_bytes};
+    ghost use Rattle.cv_history.specs.declared.record_fault.RecordFault.TheVariants as fault;
 
     /// The record that bytes spell.
     pub fn read(alloc: Global, bytes: &[u8]) -> Result<Record, RecordFault>
         ensures value { IfOk result (Spells bytes.now) }
-        ensures found { (r : Value) → Spells bytes.now r → IsRead result r }
-        ensures fault { Judges (fault_of bytes.now) result }
+        ensures found { (r : Value) → Spells bytes.now r → IsUnless fault.NoMemory result (Ok r) }
+        ensures read { IsUnless fault.NoMemory result (record_of bytes.now) }
     {
-        let front = read_front(bytes)?;
-        read_texts(alloc, bytes, front)
+        read_record(alloc, bytes)
     }
 
     /// The bytes that spell the record, whose fields are within their limits.

@@ -1,18 +1,13 @@
-//! The texts of a record, its time and its end.
-ghost use Rattle.std.specs.Prelude.{◌≡◌, ◌≤◌, ◌==◌, length, IfOk, Some, None, if◌then◌else◌};
+//! The texts of a record, each behind its length.
+ghost use Rattle.std.specs.Prelude.{◌≡◌, IfOk};
 ghost use Rattle.std.specs.List.{list_all};
-ghost use Rattle.cv_base.specs.Path.{IsPath, text_of};
-ghost use Rattle.cv_base.specs.Target.{is_target};
 ghost use Rattle.cv_history.specs.Record.{is_tag_byte};
-ghost use Rattle.cv_history.specs.Faults.{is_path_text, is_tag_text, limit_of, end_fault, texts_fault};
-ghost use Rattle.cv_history.specs.Reading.{Judges};
-ghost use Rattle.cv_history.specs.ReadingInner.{HasEnd, HasTexts, front_of};
+ghost use Rattle.cv_history.specs.Reading.{limit_of, size_at, path_at, key_at, tag_of, tag_at};
+ghost use Rattle.cv_history.specs.ReadingInner.{Gives};
 
-use crate::fields::{text_at, u64_at};
-use crate::front::Front;
-use crate::record::Record;
+use crate::fields::{bad, read_bytes, read_u16};
 use crate::record_fault::RecordFault;
-use cv_base::{KEY_ID_LIMIT, LAST_TIME, PATH_LIMIT, RepoPath, TAG_LIMIT, Target};
+use cv_base::{KEY_ID_LIMIT, NoMemory, PATH_LIMIT, RepoPath, TAG_LIMIT, Target};
 use std::alloc::Global;
 
 /// The most bytes of a text, of which the first record has none.
@@ -22,20 +17,53 @@ fn limit_of(first: bool, limit: usize) -> usize
     if first { 0 } else { limit }
 }
 
-/// The path whose own text stands at an offset.
-fn read_path(alloc: Global, bytes: &[u8], at: usize) -> Result<RepoPath, RecordFault>
-    ensures judged { Judges (if is_path_text bytes.now then None else Some at) result }
-    ensures value { IfOk result (λ path. IsPath path × (bytes.now ≡ text_of path)) }
+/// The length of a text of at most `limit` bytes.
+#[tactic(auto, unfolding(crate::specs::Reading::size_at))]
+fn read_size(all: usize, limit: usize, text: &[u8]) -> Result<(usize, &[u8]), RecordFault>
+    ensures { Gives (λ x. (x.0, x.1.now)) result (size_at all limit text.now) }
 {
-    RepoPath::of_bytes(alloc, bytes)?.ok_or(RecordFault::BadRecord(at))
+    let (size, rest) = read_u16(all, text)?;
+    let size = usize::from(size);
+    if size > limit {
+        return Err(bad(all, text));
+    }
+    Ok((size, rest))
 }
 
-/// The text of a key's id or a tag at an offset.
-fn read_target(alloc: Global, bytes: &[u8], at: usize) -> Result<Target, RecordFault>
-    ensures judged { Judges (if is_target bytes.now then None else Some at) result }
-    ensures value { IfOk result (λ target. target ≡ bytes.now) }
+/// The path of the lease.
+#[tactic(auto, unfolding(crate::specs::Reading::text_at))]
+pub fn read_path(
+    alloc: Global,
+    all: usize,
+    first: bool,
+    text: &[u8],
+) -> Result<(RepoPath, &[u8]), RecordFault>
+    ensures { Gives (λ x. (x.0, x.1.now)) result (path_at all first text.now) }
 {
-    Target::of_bytes(alloc, bytes)?.ok_or(RecordFault::BadRecord(at))
+    let (size, rest) = read_size(all, limit_of(first, PATH_LIMIT), text)?;
+    let (bytes, after) = read_bytes(all, size, rest)?;
+    match RepoPath::of_bytes(alloc, bytes)? {
+        Some(path) => Ok((path, after)),
+        None => Err(bad(all, rest)),
+    }
+}
+
+/// The id of the publisher's key.
+#[tactic(auto, unfolding(crate::specs::Reading::text_at))]
+pub fn read_key(
+    alloc: Global,
+    all: usize,
+    first: bool,
+    text: &[u8],
+) -> Result<(Target, &[u8]), RecordFault>
+    ensures { Gives (λ x. (x.0, x.1.now)) result (key_at all first text.now) }
+{
+    let (size, rest) = read_size(all, limit_of(first, KEY_ID_LIMIT), text)?;
+    let (bytes, after) = read_bytes(all, size, rest)?;
+    match Target::of_bytes(alloc, bytes)? {
+        Some(key) => Ok((key, after)),
+        None => Err(bad(all, rest)),
+    }
 }
 
 /// Whether bytes have no control byte.
@@ -45,75 +73,31 @@ fn are_tag_bytes(bytes: &[u8]) -> bool
     bytes.iter().all(|byte| *byte >= 32)
 }
 
-/// The tag at an offset, which has no control bytes.
-fn read_tag(alloc: Global, bytes: &[u8], at: usize) -> Result<Target, RecordFault>
-    ensures judged { Judges (if is_tag_text bytes.now then None else Some at) result }
-    ensures value { IfOk result (λ tag. tag ≡ bytes.now) }
+/// The tag that these bytes are.
+fn tag_of(alloc: Global, bytes: &[u8]) -> Result<Option<Target>, NoMemory>
+    ensures { IfOk result (λ found. found ≡ tag_of bytes.now) }
 {
-    let tag = read_target(alloc, bytes, at)?;
-    if !are_tag_bytes(bytes) {
-        return Err(RecordFault::BadRecord(at));
+    if are_tag_bytes(bytes) {
+        Target::of_bytes(alloc, bytes)
+    } else {
+        Ok(None)
     }
-    Ok(tag)
 }
 
-/// The time, and the tag with which the record ends.
-#[tactic(auto, using(crate::proofs::FieldFaults::field_faults), unfolding(crate::specs::Faults::end_fault))]
-fn read_end(
+/// The tag.
+#[tactic(auto, unfolding(crate::specs::Reading::text_at))]
+pub fn read_tag(
     alloc: Global,
-    bytes: &[u8],
+    all: usize,
     first: bool,
-    at: usize,
-) -> Result<(u64, Target), RecordFault>
-    requires { at ≤ length bytes.now }
-    ensures judged { Judges (end_fault bytes.now first at) result }
-    ensures value { IfOk result (λ end. HasEnd bytes.now first at end.0 end.1) }
+    text: &[u8],
+) -> Result<(Target, &[u8]), RecordFault>
+    ensures { Gives (λ x. (x.0, x.1.now)) result (tag_at all first text.now) }
 {
-    let time = u64_at(bytes, at)?;
-    if time > LAST_TIME {
-        return Err(RecordFault::BadRecord(at));
+    let (size, rest) = read_size(all, limit_of(first, TAG_LIMIT), text)?;
+    let (bytes, after) = read_bytes(all, size, rest)?;
+    match tag_of(alloc, bytes)? {
+        Some(tag) => Ok((tag, after)),
+        None => Err(bad(all, rest)),
     }
-    let tag_at = at + 8;
-    let text = text_at(bytes, tag_at, limit_of(first, TAG_LIMIT))?;
-    let tag = read_tag(alloc, text, tag_at + 2)?;
-    let end = tag_at + 2 + text.len();
-    if end < bytes.len() {
-        return Err(RecordFault::BadRecord(end));
-    }
-    Ok((time, tag))
-}
-
-/// The record of these first fields, by the texts behind them.
-#[tactic(auto, using(crate::proofs::FieldFaults::field_faults), unfolding(crate::specs::Faults::texts_fault))]
-pub fn read_texts(alloc: Global, bytes: &[u8], front: Front) -> Result<Record, RecordFault>
-    requires { 88 ≤ length bytes.now }
-    ensures judged { Judges (texts_fault bytes.now (front.revision == 1)) result }
-    ensures front { IfOk result (λ r. front_of r ≡ front) }
-    ensures value { IfOk result (HasTexts bytes.now (front.revision == 1)) }
-{
-    let Front {
-        revision,
-        previous,
-        root,
-        offered,
-        token,
-    } = front;
-    let first = revision == 1;
-    let path_text = text_at(bytes, 88, limit_of(first, PATH_LIMIT))?;
-    let path = read_path(alloc, path_text, 90)?;
-    let key_at = 90 + path_text.len();
-    let key_text = text_at(bytes, key_at, limit_of(first, KEY_ID_LIMIT))?;
-    let key = read_target(alloc, key_text, key_at + 2)?;
-    let (time, tag) = read_end(alloc, bytes, first, key_at + 2 + key_text.len())?;
-    Ok(Record {
-        revision,
-        previous,
-        root,
-        offered,
-        token,
-        path,
-        key,
-        time,
-        tag,
-    })
 }
