@@ -1,9 +1,9 @@
 -- What a catalogue's rows find in the tree, and leave to the catalogues below.
-use Rattle.std.proofs.Common.{◌≡◌, ◌≢◌, ℕ, ◌+◌, ◌<◌, ◌≤◌, true, false, List, [], ◌∷◌, ◌++◌, length, get_or, Option, None, Some, IsSome, is_some, refl, sym, ap, subst, ◌∙◌, arith, length-append, inl, inr}
+use Rattle.std.proofs.Common.{◌≡◌, ◌≢◌, ℕ, ◌+◌, ◌<◌, ◌≤◌, Bool, true, false, cond, not, List, [], ◌∷◌, length, get_or, Option, None, Some, IsSome, is_some, refl, sym, ap, subst, ◌∙◌, arith, length-append, inl, inr}
 use Rattle.std.specs.Prelude.{Contains, Result, Ok, Err}
 use Rattle.std.specs.FinMap.{get, empty, get-insert}
 use Rattle.cv_base.specs.PathOrder.{path_total}
-use Rattle.cv_base.specs.Path.{Path, IsPath, covers}
+use Rattle.cv_base.specs.Path.{Path, covers}
 use Rattle.cv_base.specs.Unless.{IsUnless}
 use Rattle.cv_tree.specs.Changes.{has_place, insertion}
 use Rattle.cv_tree.specs.Tree.{Nodes, single, is_directory}
@@ -19,11 +19,10 @@ use Rattle.cv_rows.specs.declared.row.Row.{Row}
 use Rattle.cv_rows.specs.declared.nested.Nested.{Nested}
 use Rattle.cv_rows.specs.declared.row_kind.RowKind.{RowKind}
 use Rattle.cv_rows.specs.declared.row_kind.RowKind.TheVariants.{Directory, Transition, NestedRoot, File, Link}
-use Rattle.cv_rows.proofs.Lemmas.{fits_there}
 use Rattle.cv_load.specs.Growth.{GrowsBy, IsRootOf}
 use Rattle.cv_load.specs.GrowthInner.{IsClear, IsReady, ChangesBelow, HasRows}
 use Rattle.cv_cut.specs.Told.{node_of, node_as}
-use Rattle.cv_load.proofs.Growing.{HasParent, some_there, stands_below}
+use Rattle.cv_load.proofs.Growing.{StandsBelow, some_there}
 use Rattle.cv_load.proofs.Filling.{one_row}
 use Rattle.cv_load.proofs.Standing.{dir_of, so_root, so_below, stands_so}
 use Rattle.cv_load.proofs.Assembly.{not_true}
@@ -31,14 +30,43 @@ use Rattle.cv_load.proofs.LoadedTree.{single_entry}
 use Rattle.cv_load.proofs.Below.{covers_itself, covers_long, stands_covered, nothing_below, entries_apart, entry_below}
 use Rattle.cv_cut.proofs.Lemmas.{transition_of}
 
--- ---- answers that aren't given
+-- ---- what an insertion tells
 
--- a tree that has a place for a path, and nothing there, refuses nothing but for memory
-pub not_refused : (t : Nodes) (p : Path) (f : TreeFault) → has_place t p ≡ true → get t p ≡ None → IsUnless tree_fault.NoMemory (Err f) (insertion t p) → f ≢ tree_fault.NoMemory → ⊥
-not_refused t p f place none (inl lack) other = other lack
-not_refused t p f place none (inr refused) other =
-    let ok : insertion t p ≡ Ok (tt {0}) = rw (place, none) refl in
-    let wrong : ◌≡◌ {A = Result (Unit {0}) TreeFault} (Err f) (Ok (tt {0})) = refused ∙ ok in cc
+abbrev pub Told : Nodes → Path → Result (Unit {0}) TreeFault → Type 0
+Told t p answer = IsUnless tree_fault.NoMemory answer (insertion t p)
+
+-- the answer, by what is asked of the tree
+abbrev answer_of : Bool → Bool → Result (Unit {0}) TreeFault
+answer_of place some = cond (not place) (Err tree_fault.NoParent) (cond some (Err tree_fault.Exists) (Ok tt))
+
+-- a node came
+pub told_new : (t : Nodes) (p : Path) (u : Unit {0}) → Told t p (Ok u) → (has_place t p ≡ true) × (get t p ≡ None)
+told_new t p u told = by_answer (has_place t p) (get t p) told
+  where
+    by_answer : (place : Bool) (o : Option Node) → ◌≡◌ {A = Result (Unit {0}) TreeFault} (Ok u) (answer_of place (is_some o)) → (place ≡ true) × (o ≡ None)
+    by_answer true None h = (refl, refl)
+    by_answer true (Some n) h = absurd cc
+    by_answer false o h = absurd cc
+
+-- one was there
+pub told_there : (t : Nodes) (p : Path) → Told t p (Err tree_fault.Exists) → (has_place t p ≡ true) × IsSome (get t p)
+told_there t p (inl lack) = absurd cc
+told_there t p (inr told) = by_answer (has_place t p) (get t p) told
+  where
+    by_answer : (place : Bool) (o : Option Node) → ◌≡◌ {A = Result (Unit {0}) TreeFault} (Err tree_fault.Exists) (answer_of place (is_some o)) → (place ≡ true) × IsSome o
+    by_answer true None h = absurd cc
+    by_answer true (Some n) h = (refl, refl)
+    by_answer false o h = absurd cc
+
+-- there was no place
+pub told_no_place : (t : Nodes) (p : Path) → Told t p (Err tree_fault.NoParent) → has_place t p ≡ false
+told_no_place t p (inl lack) = absurd cc
+told_no_place t p (inr told) = by_answer (has_place t p) (get t p) told
+  where
+    by_answer : (place : Bool) (o : Option Node) → ◌≡◌ {A = Result (Unit {0}) TreeFault} (Err tree_fault.NoParent) (answer_of place (is_some o)) → place ≡ false
+    by_answer true None h = absurd cc
+    by_answer true (Some n) h = absurd cc
+    by_answer false o h = refl
 
 -- ---- directories
 
@@ -85,12 +113,8 @@ holder_there c p q t is ready stands holds some = elim (stands_so stands) [
 ]
 
 -- there is a place for the path of a row below it
-pub place_below : (c : Contents) (r p : Row) (q path : Path) (t : Nodes) → IsCatalogue c → IsReady c.at c.rows t → HasParent c r p → StandsAt c.at c.rows p q → IsSome (get t q) → path ≡ q ++ r.name ∷ [] → has_place t path ≡ true
-place_below c r p q path t is ready h stands some way = ap (has_place t) way ∙ has_place-append t q r.name ∙ holder_there c p q t is ready stands h.child.holds some
-
--- which keeps the limits
-pub path_below : (c : Contents) (r p : Row) (q : Path) → IsCatalogue c → HasParent c r p → StandsAt c.at c.rows p q → IsPath (q ++ r.name ∷ [])
-path_below c r p q is h stands = (fits_there c.at c.rows r (q ++ r.name ∷ []) is.ordered is.region.placed (stands_below c r p q (q ++ r.name ∷ []) h stands refl)).path
+pub place_below : (c : Contents) (r p : Row) (path front : Path) (t : Nodes) → IsCatalogue c → IsReady c.at c.rows t → StandsBelow c r p path front → IsSome (get t front) → has_place t path ≡ true
+place_below c r p path front t is ready below some = ap (has_place t) below.way ∙ has_place-append t front r.name ∙ holder_there c p front t is ready below.stands below.child.holds some
 
 -- ---- what the rows leave to nested catalogues
 

@@ -1,26 +1,24 @@
 -- How a tree grows by rows.
-use Rattle.std.proofs.Common.{◌≡◌, ◌≢◌, ℕ, ◌+◌, ◌-◌, ◌<◌, ◌≤◌, Bool, true, false, cond, List, [], ◌∷◌, ◌++◌, length, get_or, None, Some, IsSome, is_some, refl, sym, ap, subst, ◌∙◌, arith, length-append, ◌⊎◌, inl, inr}
-use Rattle.std.specs.Prelude.{Contains, IsTrue, ◌↔◌}
-use Rattle.std.specs.Option.{option_copied}
-use Rattle.std.specs.Borrow.{Bor}
+use Rattle.std.proofs.Common.{◌≡◌, ◌≢◌, ℕ, zero, suc, ◌+◌, ◌<◌, Bool, true, false, cond, List, [], ◌∷◌, ◌++◌, length, get_or, None, Some, IsSome, is_some, refl, sym, ap, subst, ◌∙◌, arith, length-append, ◌⊎◌, inl, inr}
+use Rattle.std.specs.Prelude.{Contains}
 use Rattle.std.specs.declared.option.Option.{Option}
 use Rattle.std.specs.Ordering.{is_eq, eq_by_cmp}
 use Rattle.std.specs.Cmp.{tied_itself}
 use Rattle.std.specs.FinMap.{get, insert, get-insert}
 use Rattle.std.proofs.lemmas.Bool.{cases_lt}
 use Rattle.std.proofs.lemmas.List.{get_or_default}
-use Rattle.cv_base.specs.Path.{Path, path_cmp, key_of}
+use Rattle.cv_base.specs.Path.{Path, path_cmp, parent}
 use Rattle.cv_base.specs.PathOrder.{path_total, same_path_is}
 use Rattle.cv_tree.specs.Tree.{Nodes}
 use Rattle.cv_tree.specs.declared.node.Node.{Node}
 use Rattle.cv_rows.specs.Catalogue.{Contents, IsCatalogue}
-use Rattle.cv_rows.specs.Places.{IsRoot, IsChild, StandsAt, root, below}
+use Rattle.cv_rows.specs.Places.{IsChild, StandsAt, StandEach, root, below}
 use Rattle.cv_rows.specs.declared.row.Row.{Row}
-use Rattle.cv_rows.proofs.Lemmas.{stands_contained, same_by_key, one_place, fits_there}
+use Rattle.cv_rows.proofs.Lemmas.{stands_contained, same_by_key, one_place}
 use Rattle.cv_load.specs.Growth.{Grows, GrowsBy}
-use Rattle.cv_load.specs.GrowthInner.{IsAdded, IsWithin}
+use Rattle.cv_load.specs.GrowthInner.{IsAdded}
 use Rattle.cv_cut.specs.Told.{node_of}
-use Rattle.cv_cut.proofs.Lemmas.{root_by_key, stands_long}
+use Rattle.cv_cut.proofs.Lemmas.{stands_long}
 
 -- ---- growth
 
@@ -69,61 +67,42 @@ grows_added at rows r path a b stands added = record {
 
 -- ---- the parent of a row
 
--- a row that isn't the root row, and its parent
-pub record HasParent (c : Contents) (r p : Row) : Type 0 where
-  pub has : Contains c.rows r
-  pub other : IsRoot c.at r → ⊥
-  pub parent : Contains c.rows p
-  pub child : IsChild r p
-
-parent_of : (c : Contents) (r : Row) (q : Path) → StandsAt c.at c.rows r q → (IsRoot c.at r → ⊥) → (p : Row) × HasParent c r p
-parent_of c r q (root has is) other = absurd (other is)
-parent_of c r q (below {p = p} has away s child) other = (p, record { has = has; other = other; parent = stands_contained s; child = child })
-
-not_root : (c : Contents) (at : Path) (r : Row) → c.at ≡ at → r.key.0 ≢ key_of at → IsRoot c.at r → ⊥
-not_root c at r place differs is = differs (is.key ∙ ap key_of place)
-
 -- where a row stands
 pub place_of : (c : Contents) (r : Row) → IsCatalogue c → Contains c.rows r → (q : Path) × StandsAt c.at c.rows r q
 place_of c r is has =
     let p = is.region.placed has.0 r has.1 in
     (p.0, subst (λ (x : Row). StandsAt c.at c.rows x p.0) has.2 p.1)
 
-parent_there : (c : Contents) (at : Path) (r : Row) → IsCatalogue c → c.at ≡ at → Contains c.rows r → r.key.0 ≢ key_of at → (p : Row) × HasParent c r p
-parent_there c at r is place has differs = let s = place_of c r is has in parent_of c r s.0 s.1 (not_root c at r place differs)
+-- a row stands at a path, and its parent directly above
+pub record StandsBelow (c : Contents) (r p : Row) (path front : Path) : Type 0 where
+  pub there : Contains c.rows p
+  pub child : IsChild r p
+  pub stands : StandsAt c.at c.rows p front
+  pub way : path ≡ front ++ r.name ∷ []
 
--- what a test tells doesn't hold where the test fails
-not_by_test : {A : Type 0} (test : Bool) → IsTrue test ↔ A → test ≡ false → A → ⊥
-not_by_test test says fails is = let yes : true ≡ false = sym (says.1 is) ∙ fails in cc
+-- so does each row that stands deeper than the catalogue's place
+pub parent_of : (c : Contents) (r : Row) (path : Path) → StandsAt c.at c.rows r path → length path ≢ length c.at → (p : Row) × (front : Path) × StandsBelow c r p path front
+parent_of c r path (root has is) deeper = absurd (deeper refl)
+parent_of c r path (below {p = p} {q = q} has other s child) deeper =
+    (p, q, record { there = stands_contained s; child = child; stands = s; way = refl })
 
-pub parent_found : (c : Contents) (at : Path) (r : Row) (test : Bool) → IsCatalogue c → c.at ≡ at → Contains c.rows r → IsTrue test ↔ (r.key.0 ≡ key_of at) → test ≡ false → ((p : Row) → Contains c.rows p → p.key.0 ≢ r.parent.0) → ⊥
-parent_found c at r test is place has says fails none = let p = parent_there c at r is place has (not_by_test test says fails) in none p.0 p.1.parent (sym p.1.child.parent)
+parent_below : (q : Path) (name : List ℕ) → parent (q ++ name ∷ []) ≡ q
+parent_below [] name = refl
+parent_below (a ∷ []) name = refl
+parent_below (a ∷ b ∷ q) name = ap (λ (p : Path). a ∷ p) (parent_below (b ∷ q) name)
 
-pub parent_by_key : (c : Contents) (at : Path) (r p : Row) (test : Bool) → IsCatalogue c → c.at ≡ at → Contains c.rows r → IsTrue test ↔ (r.key.0 ≡ key_of at) → test ≡ false → Contains c.rows p → p.key.0 ≡ r.parent.0 → HasParent c r p
-parent_by_key c at r p test is place has says fails there key =
-    let o = parent_there c at r is place has (not_by_test test says fails) in
-    subst (HasParent c r) (same_by_key c.rows o.0 p is.ordered o.1.parent there (sym o.1.child.parent ∙ sym key)) o.1
+-- the row with the parent's key is the parent, and stands at the path above
+pub parent_by_key : (c : Contents) (r p : Row) (path front : Path) → IsCatalogue c → StandsAt c.at c.rows r path → length path ≢ length c.at → Contains c.rows p → p.key.0 ≡ r.parent.0 → front ≡ parent path → StandsBelow c r p path front
+parent_by_key c r p path front is stands deeper has key up =
+    let o = parent_of c r path stands deeper in
+    let row : o.0 ≡ p = same_by_key c.rows o.0 p is.ordered o.2.there has (sym o.2.child.parent ∙ sym key) in
+    let place : o.1 ≡ front = sym (parent_below o.1 r.name) ∙ ap parent (sym o.2.way) ∙ sym up in
+    subst (λ (q : Path). StandsBelow c r p path q) place (subst (λ (x : Row). StandsBelow c r x path o.1) row o.2)
 
--- a row stands at the path of its parent with its name
-pub stands_below : (c : Contents) (r p : Row) (q path : Path) → HasParent c r p → StandsAt c.at c.rows p q → path ≡ q ++ r.name ∷ [] → StandsAt c.at c.rows r path
-stands_below c r p q path h s is = subst (StandsAt c.at c.rows r) (sym is) (below h.has h.other s h.child)
-
-pub stands_at_root : (c : Contents) (at path : Path) (r : Row) → IsCatalogue c → c.at ≡ at → Contains c.rows r → r.key.0 ≡ key_of at → path ≡ at → StandsAt c.at c.rows r path
-stands_at_root c at path r is place has key same = subst (StandsAt c.at c.rows r) (place ∙ sym same) (root has (root_by_key c at r is place has key))
-
--- ---- how many names are left
-
-pub some_left : (c : Contents) (r p : Row) (left : ℕ) → IsCatalogue c → HasParent c r p → IsWithin c.at c.rows r left → 1 ≤ left
-some_left c r p left is h within =
-    let s = place_of c p is h.parent in
-    let long = stands_long s.1 in
-    let le = within (s.0 ++ r.name ∷ []) (below h.has h.other s.1 h.child) in
-    omega (arith, long, le, length-append s.0 (r.name ∷ []))
-
-pub within_parent : (c : Contents) (r p : Row) (left : ℕ) → HasParent c r p → IsWithin c.at c.rows r left → IsWithin c.at c.rows p (left - 1)
-within_parent c r p left h within = λ q s.
-    let le = within (q ++ r.name ∷ []) (below h.has h.other s h.child) in
-    omega (arith, le, length-append q (r.name ∷ []))
+-- and the others stand at the place itself
+pub stands_at_place : (c : Contents) (r : Row) (path : Path) → StandsAt c.at c.rows r path → length path ≡ length c.at → path ≡ c.at
+stands_at_place c r path (root has is) same = refl
+stands_at_place c r path (below {q = q} has other s child) same = absurd (let long = stands_long s in omega (arith, long, same, length-append q (r.name ∷ [])))
 
 -- ---- all rows
 
@@ -131,14 +110,24 @@ within_parent c r p left h within = λ q s.
 pub row_there : (c : Contents) (r : Row) (path q : Path) (t : Nodes) → IsCatalogue c → StandsAt c.at c.rows r path → IsSome (get t path) → StandsAt c.at c.rows r q → IsSome (get t q)
 row_there c r path q t is found some s = subst (λ (p : Path). IsSome (get t p)) (one_place is.ordered found s) some
 
--- each path has at most 64 names
-pub within_limit : (c : Contents) (r : Row) → IsCatalogue c → IsWithin c.at c.rows r 64
-within_limit c r is = λ q s. let fits = fits_there c.at c.rows r q is.ordered is.region.placed s in let d = fits.path.depth in omega (arith, d)
+-- ---- the paths of all rows
 
--- nothing was found
-pub absent : (found : Option (Bor Node)) (o : Option Node) (b : Bool) → option_copied found ≡ o → b ≡ is_some found → b ≡ false → o ≡ None
-absent None o b copied is no_one = sym copied
-absent (Some n) o b copied is no_one = absurd (let e : true ≡ false = sym is ∙ no_one in cc)
+-- they are as many as the rows
+pub each_long : (at : Path) (rows rs : List Row) (qs : List Path) → StandEach at rows rs qs → length qs ≡ length rs
+each_long at rows [] [] each = refl
+each_long at rows [] (q ∷ qs) each = absurd each
+each_long at rows (r ∷ rs) [] each = absurd each
+each_long at rows (r ∷ rs) (q ∷ qs) each = ap suc (each_long at rows rs qs each.1)
+
+-- and each row stands at the path in its place
+each_stands : (at : Path) (rows rs : List Row) (qs : List Path) (i : ℕ) (d : Row) (e : Path) → StandEach at rows rs qs → i < length rs → StandsAt at rows (get_or rs i d) (get_or qs i e)
+each_stands at rows [] qs i d e each lt = absurd (omega arith)
+each_stands at rows (r ∷ rs) [] i d e each lt = absurd each
+each_stands at rows (r ∷ rs) (q ∷ qs) zero d e each lt = each.0
+each_stands at rows (r ∷ rs) (q ∷ qs) (suc i) d e each lt = each_stands at rows rs qs i d e each.1 (omega arith)
+
+pub row_stands : (at : Path) (rows : List Row) (qs : List Path) (i : ℕ) (r : Row) (q : Path) → StandEach at rows rows qs → i < length rows → r ≡ get_or rows i r → q ≡ get_or qs i q → StandsAt at rows r q
+row_stands at rows qs i r q each lt row path = subst (λ (x : Row). StandsAt at rows x q) (sym row) (subst (StandsAt at rows (get_or rows i r)) (sym path) (each_stands at rows rows qs i r q each lt))
 
 -- ---- loops over a list
 

@@ -1,5 +1,5 @@
 -- How a tree grows by the rows of catalogues. What only this crate's own functions say.
-use Rattle.std.specs.Prelude.{◌≡◌, ◌≢◌, ◌⊎◌, ◌≤◌, ◌+◌, ℕ, true, false, List, length, Some, Result, Ok, Err, IsSome, Contains}
+use Rattle.std.specs.Prelude.{◌≡◌, ◌≢◌, ◌⊎◌, ℕ, true, false, List, Some, Result, Ok, Err, IsSome, Contains}
 use Rattle.std.specs.FinMap.{get}
 use Rattle.cv_base.specs.Path.{Path, covers}
 use Rattle.cv_base.specs.ObjectId.{object_id}
@@ -38,10 +38,6 @@ pub record IsReady (at : Path) (rows : List Row) (t : Nodes) : Type 0 where
 -- nothing has changed but at the path and below it
 abbrev pub ChangesBelow : Path → Nodes → Nodes → Type 0
 ChangesBelow p old new = (q : Path) → covers p q ≡ false → get new q ≡ get old q
-
--- the row stands at most so many names behind the catalogue's place
-abbrev pub IsWithin : Path → List Row → Row → ℕ → Type 0
-IsWithin at rows r left = (q : Path) → StandsAt at rows r q → length q ≤ length at + left
 
 -- the path of each row of the catalogue is in the tree
 abbrev pub HasRows : Contents → Nodes → Type 0

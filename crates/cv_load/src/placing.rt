@@ -1,17 +1,16 @@
 //! The rows of a catalogue in a tree.
-ghost use Rattle.std.specs.Prelude.{◌≡◌, ◌↔◌, ◌++◌, ◌∷◌, [], IfOk, OnOk, IsSome, IsTrue, Contains};
+ghost use Rattle.std.specs.Prelude.{◌≡◌, IfOk, OnOk, IsSome, IsTrue, Contains};
 ghost use Rattle.std.specs.FinMap.{get};
-ghost use Rattle.cv_base.specs.Path.{IsPath, key_of};
 ghost use Rattle.cv_rows.specs.Row.{IsRow};
 ghost use Rattle.cv_rows.specs.Catalogue.{IsCatalogue};
 ghost use Rattle.cv_rows.specs.Places.{StandsAt};
 ghost use Rattle.cv_tree.specs.Node.{IsNode};
 ghost use Rattle.cv_tree.specs.Changes.{has_place};
 ghost use Rattle.cv_load.specs.Growth.{GrowsBy};
-ghost use Rattle.cv_load.specs.GrowthInner.{IsAdded, IsClear, IsReady, IsWithin, HasRows};
+ghost use Rattle.cv_load.specs.GrowthInner.{IsAdded, IsClear, IsReady, HasRows};
 ghost use Rattle.cv_cut.specs.Told.{node_of};
 
-use cv_base::{NAMES_LIMIT, NoMemory, PathFault, RepoPath};
+use cv_base::{NoMemory, RepoPath};
 use cv_rows::{Catalogue, Row, RowKind};
 use cv_tree::{FileRef, Node, Tree, TreeFault};
 use std::alloc::Global;
@@ -35,76 +34,52 @@ pub fn node_of(alloc: Global, row: &Row) -> Result<Node, NoMemory>
     }
 }
 
-/// Sees to it that a row's path is in the tree.
-fn add(alloc: Global, tree: &mut Tree, path: &RepoPath, row: &Row) -> Result<(), NoMemory>
-    requires row { IsRow row.now }
-    requires place { IsTrue (has_place tree.old path.now) }
-    ensures there { OnOk result (IsSome (get tree.new path.now)) }
+/// Adds the node of a row at a path, unless one stands there already. Tells whether the path has a place in the tree.
+fn add(alloc: Global, tree: &mut Tree, path: &RepoPath, row: &Row) -> Result<bool, NoMemory>
+    requires { IsRow row.now }
+    ensures place { IfOk result (λ placed. placed ≡ has_place tree.old path.now) }
+    ensures there { IfOk result (λ placed. IsTrue placed → IsSome (get tree.new path.now)) }
     ensures added { IsAdded path.now row.now tree.old tree.new }
 {
-    if tree.get(path).is_some() {
-        return Ok(());
-    }
     let node = node_of(alloc, row)?;
     match tree.insert(path, node) {
-        Ok(()) => Ok(()),
-        Err(fault) => match fault {
-            TreeFault::NoMemory => Err(NoMemory),
-            _ => unreachable!(),
-        },
+        Ok(()) => Ok(true),
+        Err(TreeFault::Exists) => Ok(true),
+        Err(TreeFault::NoParent) => Ok(false),
+        Err(TreeFault::NoMemory) => Err(NoMemory),
     }
 }
 
-/// A path with one more name.
-fn below(alloc: Global, above: RepoPath, name: &str) -> Result<RepoPath, NoMemory>
-    requires { IsPath (above ++ name.now ∷ []) }
-    ensures { IfOk result (λ path. path ≡ above ++ name.now ∷ []) }
-{
-    match above.with_name(alloc, name) {
-        Ok(path) => Ok(path),
-        Err(fault) => match fault {
-            PathFault::NoMemory => Err(NoMemory),
-            _ => unreachable!(),
-        },
-    }
-}
-
-/// Whether a row has the key of a path.
-fn has_key(row: &Row, path: &RepoPath) -> bool
-    ensures { IsTrue result ↔ (row.now.key.0 ≡ key_of path.now) }
-{
-    row.key == path.key()
-}
-
-/// Sees to it that the path at which a row stands is in the tree, with those of all rows above it, and gives it. It has
-/// at most `left` names behind those of the catalogue's place.
+/// Sees to it that the path at which a row stands is in the tree, with those of all rows above it.
 fn place(
     alloc: Global,
     at: &RepoPath,
     catalogue: &Catalogue,
     tree: &mut Tree,
     row: &Row,
-    left: usize,
-) -> Result<RepoPath, NoMemory>
+    path: &RepoPath,
+) -> Result<(), NoMemory>
     requires rules { IsCatalogue catalogue.now }
     requires place { catalogue.now.at ≡ at.now }
     requires row { Contains catalogue.now.rows row.now }
-    requires left { IsWithin catalogue.now.at catalogue.now.rows row.now left }
+    requires stands { StandsAt catalogue.now.at catalogue.now.rows row.now path.now }
     requires ready { IsReady catalogue.now.at catalogue.now.rows tree.old }
-    ensures stands { IfOk result (StandsAt catalogue.now.at catalogue.now.rows row.now) }
-    ensures there { IfOk result (λ path. IsSome (get tree.new path)) }
+    ensures there { OnOk result (IsSome (get tree.new path.now)) }
     ensures grows { GrowsBy catalogue.now.at catalogue.now.rows tree.old tree.new }
 {
-    if has_key(row, at) {
-        return at.copy(alloc);
+    if path.names().len() == at.names().len() {
+        return Ok(());
+    }
+    if add(alloc, tree, path, row)? {
+        return Ok(());
     }
     let Some(parent) = catalogue.find(row.parent) else {
         unreachable!();
     };
-    let above = place(alloc, at, catalogue, tree, parent, left - 1)?;
-    let path = below(alloc, above, row.name.text())?;
-    add(alloc, tree, &path, row)?;
-    Ok(path)
+    let above = path.copy(alloc)?.into_parent();
+    place(alloc, at, catalogue, tree, parent, &above)?;
+    add(alloc, tree, path, row)?;
+    Ok(())
 }
 
 /// Sees to it that the path of each row of a catalogue is in the tree.
@@ -120,8 +95,10 @@ pub fn place_rows(
     ensures there { OnOk result (HasRows catalogue.now tree.new) }
     ensures grows { GrowsBy catalogue.now.at catalogue.now.rows tree.old tree.new }
 {
-    for row in catalogue.rows() {
-        place(alloc, at, catalogue, tree, row, NAMES_LIMIT)?;
+    let rows = catalogue.rows();
+    let paths = catalogue.places(alloc)?;
+    for row in 0..rows.len() {
+        place(alloc, at, catalogue, tree, &rows[row], &paths[row])?;
     }
     Ok(())
 }

@@ -1,66 +1,57 @@
-use Rattle.std.proofs.Common.{◌≡◌, ℕ, List, [], ◌∷◌, ◌++◌, IsSome, sym, ap, subst, ◌∙◌, arith}
+use Rattle.std.proofs.Common.{◌≡◌, ◌∷◌, [], length, length-append, IsSome, sym, ap, subst, ◌∙◌, arith, rules}
 use Rattle.std.specs.FinMap.{get}
-use Rattle.std.proofs.lemmas.Result.{IfOk-weaker}
-use Rattle.cv_base.specs.Path.{Path, IsPath}
-use Rattle.cv_rows.specs.Places.{StandsAt}
-use Rattle.cv_load.proofs.Growing.{grows_added, grows_more, stands_at_root, parent_found, parent_by_key, stands_below, some_left, within_parent}
-use Rattle.cv_load.proofs.Clearing.{directory_some, ready_grown, place_below, path_below}
+use Rattle.cv_base.specs.Path.{Path, parent}
+use Rattle.cv_load.proofs.Growing.{grows_added, grows_more, parent_of, parent_by_key, stands_at_place}
+use Rattle.cv_load.proofs.Clearing.{directory_some, ready_grown, place_below}
 use Rattle.cv_load.proofs.placing.+place.Goals as goal
 
-pub returns-then-has_key-clause-stands : goal.returns-then-has_key-clause-stands
-returns-then-has_key-clause-stands t c =
-    IfOk-weaker c.copy.result (λ (path : Path). path ≡ c.args.at.now) (StandsAt c.args.catalogue.now.at c.args.catalogue.now.rows c.args.row.now)
-    (λ path same. stands_at_root c.args.catalogue.now c.args.at.now path c.args.row.now c.requires.rules c.requires.place c.requires.row (c.has_key.ensures.0 c.if-has_key.true) same) c.copy.ensures
-
-pub returns-then-has_key-clause-there : goal.returns-then-has_key-clause-there
-returns-then-has_key-clause-there t c =
-    IfOk-weaker c.copy.result (λ (path : Path). path ≡ c.args.at.now) (λ path. IsSome (get c.args.tree.now path))
-    (λ path same. subst (λ (p : Path). IsSome (get c.args.tree.now p)) (c.requires.place ∙ sym same) (directory_some (get c.args.tree.now c.args.catalogue.now.at) c.requires.ready.directory)) c.copy.ensures
-
-pub unreachable-requires : goal.unreachable-requires
-unreachable-requires t c =
-    parent_found c.args.catalogue.now c.args.at.now c.args.row.now c.has_key.result c.requires.rules c.requires.place c.requires.row c.has_key.ensures c.if-has_key.false c.in_default.ensures
-
-pub overflow_sub-left : goal.overflow_sub-left
-overflow_sub-left t c =
-    let h = parent_by_key c.args.catalogue.now c.args.at.now c.args.row.now c.in-Some.parent.now c.has_key.result c.requires.rules c.requires.place c.requires.row c.has_key.ensures c.if-has_key.false c.in-Some.ensures.0 c.in-Some.ensures.1 in
-    some_left c.args.catalogue.now c.args.row.now c.in-Some.parent.now c.args.left c.requires.rules h c.requires.left
-
-pub place-requires : goal.place-requires
-place-requires t c =
-    let h = parent_by_key c.args.catalogue.now c.args.at.now c.args.row.now c.in-Some.parent.now c.has_key.result c.requires.rules c.requires.place c.requires.row c.has_key.ensures c.if-has_key.false c.in-Some.ensures.0 c.in-Some.ensures.1 in
-    let one = some_left c.args.catalogue.now c.args.row.now c.in-Some.parent.now c.args.left c.requires.rules h c.requires.left in
-    let within = within_parent c.args.catalogue.now c.args.row.now c.in-Some.parent.now c.args.left h c.requires.left in
-    (omega (arith, one), (c.requires.rules, (c.requires.place, (c.in-Some.ensures.0, (within, c.requires.ready)))))
-
-pub below-requires : goal.below-requires
-below-requires t c =
-    let h = parent_by_key c.args.catalogue.now c.args.at.now c.args.row.now c.in-Some.parent.now c.has_key.result c.requires.rules c.requires.place c.requires.row c.has_key.ensures c.if-has_key.false c.in-Some.ensures.0 c.in-Some.ensures.1 in
-    subst (λ (n : List ℕ). IsPath (c.in_ok-above.above ++ n ∷ [])) (sym c.text.ensures.text) (path_below c.args.catalogue.now c.args.row.now c.in-Some.parent.now c.in_ok-above.above c.requires.rules h c.in_ok-above.ensures.stands)
-
-pub add-requires-clause-place : goal.add-requires-clause-place
-add-requires-clause-place t c =
-    let h = parent_by_key c.args.catalogue.now c.args.at.now c.args.row.now c.in-Some.parent.now c.has_key.result c.requires.rules c.requires.place c.requires.row c.has_key.ensures c.if-has_key.false c.in-Some.ensures.0 c.in-Some.ensures.1 in
-    let name : c.in_ok-path.path ≡ c.in_ok-above.above ++ c.args.row.now.name ∷ [] = c.in_ok-path.ensures ∙ ap (λ (n : List ℕ). c.in_ok-above.above ++ n ∷ []) c.text.ensures.text in
-    place_below c.args.catalogue.now c.args.row.now c.in-Some.parent.now c.in_ok-above.above c.in_ok-path.path c.place.new.tree c.requires.rules
-    (ready_grown c.args.catalogue.now.at c.args.catalogue.now.rows c.args.tree.now c.place.new.tree c.requires.ready c.in_ok-above.ensures.grows) h c.in_ok-above.ensures.stands c.in_ok-above.ensures.there name
+pub returns-then-names-clause-there : goal.returns-then-names-clause-there
+returns-then-names-clause-there t c =
+    let same = ap length (sym c.names.ensures.names) ∙ c.if-names.true ∙ ap length (c.names-2.ensures.names ∙ sym c.requires.place) in
+    subst (λ (p : Path). IsSome (get c.args.tree.now p)) (sym (stands_at_place c.args.catalogue.now c.args.row.now c.args.path.now c.requires.stands same)) (directory_some _ c.requires.ready.directory)
 
 pub returns-in_err-add-clause-grows : goal.returns-in_err-add-clause-grows
 returns-in_err-add-clause-grows t c =
-    let h = parent_by_key c.args.catalogue.now c.args.at.now c.args.row.now c.in-Some.parent.now c.has_key.result c.requires.rules c.requires.place c.requires.row c.has_key.ensures c.if-has_key.false c.in-Some.ensures.0 c.in-Some.ensures.1 in
-    let name : c.in_ok-path.path ≡ c.in_ok-above.above ++ c.args.row.now.name ∷ [] = c.in_ok-path.ensures ∙ ap (λ (n : List ℕ). c.in_ok-above.above ++ n ∷ []) c.text.ensures.text in
-    let stands = stands_below c.args.catalogue.now c.args.row.now c.in-Some.parent.now c.in_ok-above.above c.in_ok-path.path h c.in_ok-above.ensures.stands name in
-    grows_more _ _ _ c.place.new.tree _ c.in_ok-above.ensures.grows (grows_added _ _ c.args.row.now c.in_ok-path.path _ _ stands c.in_err-add.ensures.added)
+    grows_added _ _ c.args.row.now c.args.path.now _ _ c.requires.stands c.in_err-add.ensures.added
 
-pub returns-clause-stands : goal.returns-clause-stands
-returns-clause-stands t c =
-    let h = parent_by_key c.args.catalogue.now c.args.at.now c.args.row.now c.in-Some.parent.now c.has_key.result c.requires.rules c.requires.place c.requires.row c.has_key.ensures c.if-has_key.false c.in-Some.ensures.0 c.in-Some.ensures.1 in
-    let name : c.in_ok-path.path ≡ c.in_ok-above.above ++ c.args.row.now.name ∷ [] = c.in_ok-path.ensures ∙ ap (λ (n : List ℕ). c.in_ok-above.above ++ n ∷ []) c.text.ensures.text in
-    stands_below c.args.catalogue.now c.args.row.now c.in-Some.parent.now c.in_ok-above.above c.in_ok-path.path h c.in_ok-above.ensures.stands name
+pub returns-then-branch-clause-grows : goal.returns-then-branch-clause-grows
+returns-then-branch-clause-grows t c =
+    grows_added _ _ c.args.row.now c.args.path.now _ _ c.requires.stands c.in_ok-add.ensures.added
+
+pub unreachable-requires : goal.unreachable-requires
+unreachable-requires t c =
+    let deeper = λ (same : length c.args.path.now ≡ length c.args.catalogue.now.at). c.if-names.false (ap length c.names.ensures.names ∙ same ∙ ap length (c.requires.place ∙ sym c.names-2.ensures.names)) in
+    let above = parent_of c.args.catalogue.now c.args.row.now c.args.path.now c.requires.stands deeper in
+    c.in_default.ensures above.0 above.2.there (sym above.2.child.parent)
+
+pub returns-in_err-copy-clause-grows : goal.returns-in_err-copy-clause-grows
+returns-in_err-copy-clause-grows t c =
+    grows_added _ _ c.args.row.now c.args.path.now _ _ c.requires.stands c.in_ok-add.ensures.added
+
+pub place-requires : goal.place-requires
+place-requires t c =
+    let deeper = λ (same : length c.args.path.now ≡ length c.args.catalogue.now.at). c.if-names.false (ap length c.names.ensures.names ∙ same ∙ ap length (c.requires.place ∙ sym c.names-2.ensures.names)) in
+    let up : c.into_parent-above.result ≡ parent c.args.path.now = search rules in
+    let below = parent_by_key c.args.catalogue.now c.args.row.now c.in-Some.parent.now c.args.path.now c.into_parent-above.result c.requires.rules c.requires.stands deeper c.in-Some.ensures.0 c.in-Some.ensures.1 up in
+    let ready = ready_grown _ _ _ _ c.requires.ready (grows_added _ _ c.args.row.now c.args.path.now _ _ c.requires.stands c.in_ok-add.ensures.added) in
+    (omega (arith, ap length below.way, length-append c.into_parent-above.result (c.args.row.now.name ∷ [])), (c.requires.rules, (c.requires.place, (c.in-Some.ensures.0, (below.stands, ready)))))
+
+pub returns-in_err-place-clause-grows : goal.returns-in_err-place-clause-grows
+returns-in_err-place-clause-grows t c =
+    grows_more _ _ _ _ _ (grows_added _ _ c.args.row.now c.args.path.now _ _ c.requires.stands c.in_ok-add.ensures.added) c.in_err-place.ensures.grows
+
+pub returns-in_err-add-2-clause-grows : goal.returns-in_err-add-2-clause-grows
+returns-in_err-add-2-clause-grows t c =
+    grows_more _ _ _ _ _ (grows_more _ _ _ _ _ (grows_added _ _ c.args.row.now c.args.path.now _ _ c.requires.stands c.in_ok-add.ensures.added) c.in_ok-place.ensures.grows) (grows_added _ _ c.args.row.now c.args.path.now _ _ c.requires.stands c.in_err-add-2.ensures.added)
+
+pub returns-clause-there : goal.returns-clause-there
+returns-clause-there t c =
+    let deeper = λ (same : length c.args.path.now ≡ length c.args.catalogue.now.at). c.if-names.false (ap length c.names.ensures.names ∙ same ∙ ap length (c.requires.place ∙ sym c.names-2.ensures.names)) in
+    let up : c.into_parent-above.result ≡ parent c.args.path.now = search rules in
+    let below = parent_by_key c.args.catalogue.now c.args.row.now c.in-Some.parent.now c.args.path.now c.into_parent-above.result c.requires.rules c.requires.stands deeper c.in-Some.ensures.0 c.in-Some.ensures.1 up in
+    let ready = ready_grown _ _ _ _ c.requires.ready (grows_more _ _ _ _ _ (grows_added _ _ c.args.row.now c.args.path.now _ _ c.requires.stands c.in_ok-add.ensures.added) c.in_ok-place.ensures.grows) in
+    c.in_ok-add-2.ensures.there (c.in_ok-add-2.ensures.place ∙ place_below c.args.catalogue.now c.args.row.now c.in-Some.parent.now c.args.path.now c.into_parent-above.result c.place.new.tree c.requires.rules ready below c.in_ok-place.ensures.there)
 
 pub returns-clause-grows : goal.returns-clause-grows
 returns-clause-grows t c =
-    let h = parent_by_key c.args.catalogue.now c.args.at.now c.args.row.now c.in-Some.parent.now c.has_key.result c.requires.rules c.requires.place c.requires.row c.has_key.ensures c.if-has_key.false c.in-Some.ensures.0 c.in-Some.ensures.1 in
-    let name : c.in_ok-path.path ≡ c.in_ok-above.above ++ c.args.row.now.name ∷ [] = c.in_ok-path.ensures ∙ ap (λ (n : List ℕ). c.in_ok-above.above ++ n ∷ []) c.text.ensures.text in
-    let stands = stands_below c.args.catalogue.now c.args.row.now c.in-Some.parent.now c.in_ok-above.above c.in_ok-path.path h c.in_ok-above.ensures.stands name in
-    grows_more _ _ _ c.place.new.tree _ c.in_ok-above.ensures.grows (grows_added _ _ c.args.row.now c.in_ok-path.path _ _ stands c.in_ok-add.ensures.added)
+    grows_more _ _ _ _ _ (grows_more _ _ _ _ _ (grows_added _ _ c.args.row.now c.args.path.now _ _ c.requires.stands c.in_ok-add.ensures.added) c.in_ok-place.ensures.grows) (grows_added _ _ c.args.row.now c.args.path.now _ _ c.requires.stands c.in_ok-add-2.ensures.added)

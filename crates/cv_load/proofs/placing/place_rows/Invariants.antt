@@ -9,5 +9,5 @@ use Rattle.cv_load.proofs.placing.place_rows.Given as goal
 abbrev pub invariant-loop-row : goal.invariant-loop-row
 invariant-loop-row l = record {
   grows : GrowsBy l.fn.catalogue.at l.fn.catalogue.rows l.fn.tree l.tree;
-  there : (k : ℕ) (d : Row) (q : Path) → k < l.row-index → StandsAt l.fn.catalogue.at l.fn.catalogue.rows (get_or l.fn.catalogue.rows k d) q → IsSome (get l.tree q);
+  there : (k : ℕ) (d : Row) (q : Path) → k < l.row → StandsAt l.fn.catalogue.at l.fn.catalogue.rows (get_or l.fn.catalogue.rows k d) q → IsSome (get l.tree q);
 }
