@@ -3,6 +3,8 @@ use Rattle.std.specs.Prelude.{◌≡◌, ◌<◌, ◌≤◌, ◌++◌, ◌∷◌
 use Rattle.std.specs.declared.option.Option.TheVariants.{Some, None}
 use Rattle.cv_ports.specs.Streams.{front}
 use Rattle.cv_http.specs.Wires.{HasEnded}
+use Rattle.cv_http.specs.declared.buffer.FillFault.{FillFault}
+use Rattle.cv_http.specs.declared.buffer.FillFault.TheVariants as fill_fault
 use Rattle.cv_manifest.specs.Lines.{has_newline}
 use Rattle.cv_shell.specs.declared.lines.LineFault.{LineFault}
 use Rattle.cv_shell.specs.declared.lines.LineFault.TheVariants.{TooLong, ReadFault, NoMemory}
@@ -30,3 +32,8 @@ LineRead left b held (Ok None) = (b ≡ []) × (held ≡ b) × HasEnded left
 LineRead left b held (Err TooLong) = IsTooLong b × (held ≡ b)
 LineRead left b held (Err ReadFault) = IsLine b × (held ≡ b)
 LineRead left b held (Err NoMemory) = held ≡ b
+
+-- the fault of a line where no more was read
+abbrev pub filling : FillFault → LineFault
+filling fill_fault.ReadFault = ReadFault
+filling fill_fault.NoMemory = NoMemory

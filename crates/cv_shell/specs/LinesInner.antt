@@ -1,8 +1,6 @@
 -- Lines, and what was read where one was asked for. What only this crate's own functions say.
 use Rattle.std.specs.Prelude.{◌≡◌, ◌++◌, ◌∷◌, ℕ, List, Option, Result, Ok, Err}
 use Rattle.std.specs.declared.option.Option.TheVariants.{Some, None}
-use Rattle.cv_http.specs.declared.buffer.FillFault.{FillFault}
-use Rattle.cv_http.specs.declared.buffer.FillFault.TheVariants as fill_fault
 use Rattle.cv_shell.specs.declared.lines.LineFault.{LineFault}
 use Rattle.cv_shell.specs.declared.lines.LineFault.TheVariants.{TooLong, ReadFault, NoMemory}
 use Rattle.cv_shell.specs.Lines.{IsLine, IsTooLong}
@@ -20,8 +18,3 @@ abbrev pub IsPieceFault : LineFault → Type 0
 IsPieceFault TooLong = ⊥
 IsPieceFault ReadFault = Unit {0}
 IsPieceFault NoMemory = Unit {0}
-
--- the fault of a line where no more was read
-abbrev pub filling : FillFault → LineFault
-filling fill_fault.ReadFault = ReadFault
-filling fill_fault.NoMemory = NoMemory

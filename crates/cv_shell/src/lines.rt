@@ -2,8 +2,8 @@
 ghost use Rattle.std.specs.Prelude.{◌≡◌, ◌≤◌, ◌<◌, [], length, drop, true, false, Ok, Err, OnErr, IfErr};
 ghost use Rattle.cv_base.specs.Counts.{HasCause};
 ghost use Rattle.cv_http.specs.Wires.{Draws, Looks, Beside, HasEnded, Gets};
-ghost use Rattle.cv_shell.specs.Lines.{IsLine, LineRead};
-ghost use Rattle.cv_shell.specs.LinesInner.{LineFound, IsPieceFault, filling};
+ghost use Rattle.cv_shell.specs.Lines.{IsLine, LineRead, filling};
+ghost use Rattle.cv_shell.specs.LinesInner.{LineFound, IsPieceFault};
 ghost use Rattle.cv_shell.specs.declared.lines.LineFault.TheVariants.{ReadFault};
 
 use cv_base::{Bytes, newline_at};
