@@ -1,5 +1,5 @@
 -- What the calls of a commit say.
-use Rattle.std.proofs.Common.{◌≡◌, true, false, Bool, ℕ, List, [], ◌∷◌, ◌++◌, refl, sym, ap, subst, ◌∙◌, inl, inr, ◌+◌, length}
+use Rattle.std.proofs.Common.{◌≡◌, ◌≢◌, true, false, Bool, ℕ, List, [], ◌∷◌, ◌++◌, refl, sym, ap, subst, ◌∙◌, inl, inr, ◌+◌, length, arith}
 use Rattle.std.specs.Prelude.{MatchResult, IfOk, IfErr, OnOk, OnErr, IsTrue}
 use Rattle.std.specs.Option.{option_map}
 use Rattle.std.specs.declared.option.Option.{Option}
@@ -11,6 +11,7 @@ use Rattle.cv_base.specs.Marker.{marker, ends_in}
 use Rattle.cv_base.specs.Told.{WhereTold}
 use Rattle.cv_base.specs.ObjectId.{object_id}
 use Rattle.cv_base.specs.declared.id.Kind.TheVariants.{Catalogue}
+use Rattle.cv_base.specs.declared.id.ObjectId.{ObjectId}
 use Rattle.cv_base.specs.declared.object.Object.{Object}
 use Rattle.cv_base.specs.declared.token.Token.{Token}
 use Rattle.cv_ports.specs.Calls.{RaisedAtMost}
@@ -28,6 +29,7 @@ use Rattle.cv_cut.specs.Above.{replaced, cuts_above}
 use Rattle.cv_cut.specs.Good.{IsGood}
 use Rattle.cv_cut.specs.Means.{Means}
 use Rattle.cv_cut.specs.Reached.{root_place}
+use Rattle.cv_graft.specs.Both.{GraftsBoth, GivesOffered, MakesNothing}
 use Rattle.cv_graft.specs.Graft.{Grafts, HasOwnIds, HasWay, HasWays}
 use Rattle.cv_graft.specs.Way.{IsOfEither, TellsDamage}
 use Rattle.cv_graft.specs.declared.grafted.Grafted.{Grafted}
@@ -55,7 +57,7 @@ use Rattle.cv_desk.specs.Known.{KnowsOn}
 use Rattle.cv_desk.specs.Gate.{StateView, IsSameRepository}
 use Rattle.cv_desk.specs.GateInner.{IsState}
 use Rattle.cv_desk.specs.Sending.{reply_of, reply_in}
-use Rattle.cv_desk.specs.Committing.{FetchesOffered, IsUnfit, outside, damaged, unfit, two, one, shares, fills, IsFit, next_record, objects_with, Readies, unmade, unprepared, prepared, Finishes, swaps, wavers, stays, opposition}
+use Rattle.cv_desk.specs.Committing.{FetchesOffered, IsUnfit, outside, damaged, unfit, two, one, shares, fills, HasPlaceIn, IsFit, next_record, objects_with, Readies, unmade, unprepared, prepared, Finishes, swaps, wavers, stays, opposition}
 use Rattle.cv_desk.specs.CommittingInner.{CommitsUnder, opposed, readies}
 use Rattle.cv_desk.proofs.Reading.{way_of}
 use Rattle.cv_desk.proofs.States.{state_ended, state_same}
@@ -79,42 +81,35 @@ on_err {P = P} r f e m = subst (λ r. OnErr r P) e m
 
 -- ---- a graft
 
--- two roots that mean trees have there what a graft asks of them
-ways_of : (shelf : Shelf) (newest offered : List ℕ) (t n : Nodes) (p : Path) → Means shelf newest t → Means shelf offered n → HasWays shelf newest offered t n p
-ways_of shelf newest offered t n p mt mn = record {
-  way = way_of shelf newest t p mt;
-  other = way_of shelf offered n p mn;
-  top = ap (λ h. shelf (object_id h Catalogue)) mn.root ∙ mn.catalogues [] refl;
-}
+-- all that a graft answers, of a shelf and the newest root
+pub record GraftSays (shelf : Shelf) (newest : List ℕ) (offered : ObjectId) (path : Path) (r : Result Grafted GraftFault) : Type 0 where
+  pub told : (t n : Nodes) → HasWays shelf newest offered.hash t n path → IsTrue (has_place t path) → Grafts (replaced t n path) path r
+  pub way : path ≢ [] → GraftsBoth shelf newest offered.hash path r
+  pub whole : path ≡ [] → GivesOffered shelf offered r
+  pub parentless : (t : Nodes) → HasWay shelf newest t path → has_place t path ≡ false → MakesNothing r
+  pub damaged : TellsDamage shelf (IsOfEither shelf newest offered.hash path) r
 
--- from what a graft says of the shelf that the line tells
+-- of the shelf that the line told before the judging
 pub grafts_there : {V S : Type 0} (disk : V → Option Disk) (count : V → ℕ) (left : V → ℕ → Files → Type 0) (line judged : LineView V S) → LineReads disk count left line judged → (root : List ℕ) → root ≡ judged.head.root
-    → (offered : List ℕ) (path : Path) (r x : Result Grafted GraftFault) → r ≡ x
-    → WhereTold (option_map standing_on (disk judged.vault)) (λ standing. (t n : Nodes) → HasWays standing root offered t n path → IsTrue (has_place t path) → Grafts (replaced t n path) path r)
-    → (d : Disk) → disk line.vault ≡ Some d → (t n : Nodes) → Means (standing_on d) line.head.root t → Means (standing_on d) offered n → has_place t path ≡ true → Grafts (replaced t n path) path x
-grafts_there disk count left line judged reads root is offered path r x e told d there t n mt mn place =
-    let same : line.head.root ≡ root = sym (is ∙ ap (λ (l : LineView _ _). l.head.root) reads.1) in
-    subst (Grafts (replaced t n path) path) e (told (standing_on d) (ap (option_map standing_on) (quiet_same reads.0 ∙ there)) t n (ways_of (standing_on d) root offered t n path (subst (λ h. Means (standing_on d) h t) same mt) mn) place)
-
--- and of damage
-pub grafts_shown : {V S : Type 0} (disk : V → Option Disk) (count : V → ℕ) (left : V → ℕ → Files → Type 0) (line judged : LineView V S) → LineReads disk count left line judged → (root : List ℕ) → root ≡ judged.head.root
-    → (offered : List ℕ) (path : Path) (r x : Result Grafted GraftFault) → r ≡ x → WhereTold (option_map standing_on (disk judged.vault)) (λ standing. TellsDamage standing (IsOfEither standing root offered path) r)
-    → (d : Disk) → disk line.vault ≡ Some d → TellsDamage (standing_on d) (IsOfEither (standing_on d) line.head.root offered path) x
-grafts_shown disk count left line judged reads root is offered path r x e told d there =
+    → (offered : ObjectId) (path : Path) (r x : Result Grafted GraftFault) → r ≡ x → WhereTold (option_map standing_on (disk judged.vault)) (λ standing. GraftSays standing root offered path r)
+    → WhereTold (disk line.vault) (λ d. GraftSays (standing_on d) line.head.root offered path x)
+grafts_there disk count left line judged reads root is offered path r x e told = λ d there.
     let same : root ≡ line.head.root = is ∙ ap (λ (l : LineView _ _). l.head.root) reads.1 in
-    subst (TellsDamage (standing_on d) (IsOfEither (standing_on d) line.head.root offered path)) e
-    (subst (λ h. TellsDamage (standing_on d) (IsOfEither (standing_on d) h offered path) r) same (told (standing_on d) (ap (option_map standing_on) (quiet_same reads.0 ∙ there))))
+    subst (GraftSays (standing_on d) line.head.root offered path) e
+    (subst (λ h. GraftSays (standing_on d) h offered path r) same (told (standing_on d) (ap (option_map standing_on) (quiet_same reads.0 ∙ there))))
 
 -- and of how much was fetched for it
 pub grafts_fetched : {V S : Type 0} (disk : V → Option Disk) (count : V → ℕ) (left : V → ℕ → Files → Type 0) (known : KnownSet) (line judged : LineView V S) → LineReads disk count left line judged → (root : List ℕ) → root ≡ judged.head.root
     → (offered : List ℕ) (path : Path) (after : ℕ) → WhereTold (disk line.vault) (λ d. FetchesNew (standing_on d) known offered line.taken judged.taken)
     → WhereTold (disk line.vault) (λ d. IsGood (standing_on d) offered root_place)
+    → RaisedAtMost (length path + length path) judged.taken after
     → WhereTold (option_map standing_on (disk judged.vault)) (λ standing. (t n : Nodes) → HasWay standing root t path → HasWay standing offered n path → RaisedAtMost (length (cuts_above n path) + length (cuts_above t path)) judged.taken after)
     → WhereTold (disk line.vault) (λ d. FetchesOffered (standing_on d) known line.head.root offered path line.taken after)
-grafts_fetched disk count left known line judged reads root is offered path after judges good told = λ d there.
+grafts_fetched disk count left known line judged reads root is offered path after judges good most told = λ d there.
     let same : line.head.root ≡ root = sym (is ∙ ap (λ (l : LineView _ _). l.head.root) reads.1) in (
       judged.taken,
       judges d there,
+      most,
       inr (
         good d there,
         λ t n mt mn. told (standing_on d) (ap (option_map standing_on) (quiet_same reads.0 ∙ there)) t n
@@ -125,17 +120,43 @@ grafts_fetched disk count left known line judged reads root is offered path afte
 -- where nothing is grafted nothing more is fetched
 pub judged_alone : {V S : Type 0} (disk : V → Option Disk) (known : KnownSet) (line judged : LineView V S) (offered : List ℕ) (path : Path) → WhereTold (disk line.vault) (λ d. FetchesNew (standing_on d) known offered line.taken judged.taken)
     → WhereTold (disk line.vault) (λ d. FetchesOffered (standing_on d) known line.head.root offered path line.taken judged.taken)
-judged_alone disk known line judged offered path judges = λ d there. (judged.taken, judges d there, inl refl)
+judged_alone disk known line judged offered path judges = λ d there. (judged.taken, judges d there, (0, omega arith, refl), inl refl)
 
-pub graft_unfit : (shelf : Shelf) (newest offered : List ℕ) (path : Path) (f : GraftFault) (r : Reply) → Tells f r → IsGood shelf offered root_place
-    → ((t n : Nodes) → Means shelf newest t → Means shelf offered n → has_place t path ≡ true → Grafts (replaced t n path) path (Err f)) → TellsDamage shelf (IsOfEither shelf newest offered path) {X = Grafted} (Err f) → IsUnfit shelf newest offered path r
-graft_unfit shelf newest offered path (fault.PathCollision a b) r (inl e) is grafts shown = unfit is (two a b e) (λ t n mt mn place. shares a b (grafts t n mt mn place) e)
-graft_unfit shelf newest offered path (fault.PathCollision a b) r (inr e) is grafts shown = outside (inr e)
-graft_unfit shelf newest offered path (fault.CatalogueFull c) r (inl e) is grafts shown = unfit is (one c e) (λ t n mt mn place. (let g = grafts t n mt mn place in fills c g.0 g.1 e))
-graft_unfit shelf newest offered path (fault.CatalogueFull c) r (inr e) is grafts shown = outside (inr e)
-graft_unfit shelf newest offered path fault.Failed r e is grafts shown = outside (inl e)
-graft_unfit shelf newest offered path (fault.Damaged id found) r e is grafts shown = damaged id found shown.0 shown.1 e
-graft_unfit shelf newest offered path fault.NoMemory r e is grafts shown = outside (inr e)
+module _ (shelf : Shelf) (newest : List ℕ) (offered : ObjectId) (path : Path) (good : IsGood shelf offered.hash root_place) where
+  -- two roots that mean trees have there what a graft asks of them
+  meant : (r : Result Grafted GraftFault) → GraftSays shelf newest offered path r → (t n : Nodes) → Means shelf newest t → Means shelf offered.hash n → has_place t path ≡ true → Grafts (replaced t n path) path r
+  meant r h t n mt mn place = h.told t n
+      (record { way = way_of shelf newest t path mt; other = way_of shelf offered.hash n path mn; top = ap (λ h. shelf (object_id h Catalogue)) mn.root ∙ mn.catalogues [] refl }) place
+
+  -- where something is made, or paths are named, the path has a place
+  has_place_in : (r : Result Grafted GraftFault) → GraftSays shelf newest offered path r → (MakesNothing r → ⊥) → HasPlaceIn shelf newest path
+  has_place_in r h some t way = elim (has_place t path) as (λ b. (b ≡ false → ⊥) → b ≡ true) [
+    | true ↦ λ no. refl
+    | false ↦ λ no. absurd (no refl)
+  ] (λ none. some (h.parentless t way none))
+
+  pub graft_fit : (g : Grafted) → offered.kind ≡ Catalogue → GraftSays shelf newest offered path (Ok g) → IsFit shelf newest offered.hash path g
+  graft_fit g kind h = record {
+    good = good;
+    grafts = meant (Ok g) h;
+    placed = has_place_in (Ok g) h (λ x. x);
+    way = h.way;
+    whole = λ root. subst (λ (id : ObjectId). GivesOffered shelf id (Ok g)) (λ i. record { hash = offered.hash; kind = kind i }) (h.whole root);
+  }
+
+  pub graft_unfit : (f : GraftFault) (r : Reply) → Tells f r → GraftSays shelf newest offered path (Err f) → IsUnfit shelf newest offered.hash path r
+  graft_unfit (fault.PathCollision a b) r (inl e) h =
+      let both = h.way h.whole in
+      unfit good (two a b both.0 both.1 both.2 both.3 e) (has_place_in (Err (fault.PathCollision a b)) h (λ x. x)) (λ t n mt mn place. shares a b (meant (Err (fault.PathCollision a b)) h t n mt mn place) e)
+  graft_unfit (fault.PathCollision a b) r (inr e) h = outside (inr e)
+  graft_unfit (fault.CatalogueFull c) r (inl e) h =
+      let both = h.way h.whole in
+      unfit good (one c both.0 both.1 both.2 both.3 e) (has_place_in (Err (fault.CatalogueFull c)) h (λ x. x))
+      (λ t n mt mn place. (let g = meant (Err (fault.CatalogueFull c)) h t n mt mn place in fills c g.0 g.1 e))
+  graft_unfit (fault.CatalogueFull c) r (inr e) h = outside (inr e)
+  graft_unfit fault.Failed r e h = outside (inl e)
+  graft_unfit (fault.Damaged id found) r e h = damaged id found h.damaged.0 h.damaged.1 e
+  graft_unfit fault.NoMemory r e h = outside (inr e)
 
 -- ---- a revision is prepared
 

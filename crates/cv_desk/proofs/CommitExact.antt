@@ -87,8 +87,8 @@ module _ {V : Type 0} (disk : V → Option Disk) (v : V) (d : Disk) (told : disk
   unfit_shows newest offered path r (outside (inr e)) = subst (ShowsDamage disk v) (sym e) tt
   unfit_shows newest offered path r (meaningless x may e) = subst (ShowsDamage disk v) (sym e) (fault_shows offered x may)
   unfit_shows newest offered path r (damaged id found on has e) = subst (ShowsDamage disk v) (sym e) (there id found has)
-  unfit_shows newest offered path r (unfit whole (two a b e) why) = subst (ShowsDamage disk v) (sym e) tt
-  unfit_shows newest offered path r (unfit whole (one c e) why) = subst (ShowsDamage disk v) (sym e) tt
+  unfit_shows newest offered path r (unfit whole (two a b c o both at e) placed why) = subst (ShowsDamage disk v) (sym e) tt
+  unfit_shows newest offered path r (unfit whole (one a c o both at e) placed why) = subst (ShowsDamage disk v) (sym e) tt
 
   refused_shows : (batch : List Object) (manifest : List ℕ) (x : StoreFault) (d' : Disk) → AreNamed batch → Prepared d batch manifest {X = Head} (Err x) d' → ShowsDamage disk v (reply_of x)
   refused_shows batch manifest (fault.Collision id) d' named p = tt

@@ -68,7 +68,7 @@ module _ (st : State) (head : Revision) (lease : Lease) (key : List ℕ) (token 
   unfit_step r (outside fault) = on_rest r st (inl (fault, refl))
   unfit_step r (meaningless fault may e) = on_rest r st (subst (λ x. Rest x st) (sym e) (means_none fault may))
   unfit_step r (damaged id found on d e) = absurd (no_damage id found d)
-  unfit_step r (unfit whole names why) =
+  unfit_step r (unfit whole both placed why) =
       let n = a_tree_is_meant st.shelf offered hashes whole in
       on_rest r st (inr (inr (n.0, n.1, refuses n.0 r (why head.tree n.0 means n.1 place))))
 

@@ -44,16 +44,19 @@ module _ {V S : Type 0} (disk : V → Option Disk) (s : StateView V S) (p above 
 
   -- what was fetched on the way
   pub fetched_way : (v : V) (before after : ℕ) → v ≡ s.line.vault → before ≡ s.line.taken
-      → WhereTold (option_map standing_on (disk v)) (λ standing. (t : Nodes) → HasWay standing hash t above → RaisedAtMost (length (cuts_above t above)) before after)
-      → WhereTold (disk s.line.vault) (λ d. (t : Nodes) → HasWay (standing_on d) s.line.head.root t (parent p) → RaisedAtMost (length (cuts_above t (parent p))) s.line.taken after)
-  fetched_way v before after vaults from told = λ d e t way.
-      let there : HasWay (standing_on d) hash t above = subst (λ (q : Path). HasWay (standing_on d) hash t q) (sym is) (subst (λ h. HasWay (standing_on d) h t (parent p)) (sym root) way) in
-      subst (λ (q : Path). RaisedAtMost (length (cuts_above t q)) s.line.taken after) is (subst (λ n. RaisedAtMost (length (cuts_above t above)) n after) from
-      (told (standing_on d) (ap (option_map standing_on) (ap disk vaults ∙ e)) t there))
+      → RaisedAtMost (length above) before after → WhereTold (option_map standing_on (disk v)) (λ standing. (t : Nodes) → HasWay standing hash t above → RaisedAtMost (length (cuts_above t above)) before after)
+      → RaisedAtMost (length (parent p)) s.line.taken after × WhereTold (disk s.line.vault) (λ d. (t : Nodes) → HasWay (standing_on d) s.line.head.root t (parent p) → RaisedAtMost (length (cuts_above t (parent p))) s.line.taken after)
+  fetched_way v before after vaults from most told = (
+    subst (λ (q : Path). RaisedAtMost (length q) s.line.taken after) is (subst (λ n. RaisedAtMost (length above) n after) from most),
+    λ d e t way.
+        let there : HasWay (standing_on d) hash t above = subst (λ (q : Path). HasWay (standing_on d) hash t q) (sym is) (subst (λ h. HasWay (standing_on d) h t (parent p)) (sym root) way) in
+        subst (λ (q : Path). RaisedAtMost (length (cuts_above t q)) s.line.taken after) is (subst (λ n. RaisedAtMost (length (cuts_above t above)) n after) from
+        (told (standing_on d) (ap (option_map standing_on) (ap disk vaults ∙ e)) t there)),
+  )
 
 -- nothing was fetched
 pub fetched_none : {V S : Type 0} (disk : V → Option Disk) (s s' : StateView V S) (p : Path) → s'.line.taken ≡ s.line.taken → FetchesWay disk p s s'
-fetched_none disk s s' p same = λ d told t way. (0, omega arith, same)
+fetched_none disk s s' p same = ((0, omega arith, same), λ d told t way. (0, omega arith, same))
 
 -- ---- by the catalogues alone
 

@@ -1,11 +1,13 @@
 -- What a commit does inside a step.
-use Rattle.std.specs.Prelude.{◌≡◌, ◌⊎◌, ◌+◌, ℕ, Bool, true, List, [], ◌∷◌, ◌++◌, length}
+use Rattle.std.specs.Prelude.{◌≡◌, ◌≢◌, ◌⊎◌, ◌+◌, ℕ, Bool, true, List, [], ◌∷◌, ◌++◌, length}
 use Rattle.std.specs.declared.option.Option.{Option}
 use Rattle.std.specs.declared.option.Option.TheVariants.{None, Some}
 use Rattle.std.specs.declared.result.Result.{Result}
 use Rattle.std.specs.declared.result.Result.TheVariants.{Ok, Err}
 use Rattle.cv_base.specs.Path.{Path}
 use Rattle.cv_base.specs.Told.{WhereTold}
+use Rattle.cv_base.specs.ObjectId.{object_id}
+use Rattle.cv_base.specs.declared.id.Kind.TheVariants.{Catalogue}
 use Rattle.cv_base.specs.declared.id.ObjectId.{ObjectId}
 use Rattle.cv_base.specs.declared.object.Object.{Object}
 use Rattle.cv_base.specs.declared.token.Token.{Token}
@@ -19,6 +21,7 @@ use Rattle.cv_vault.specs.declared.vault.VaultFault.{VaultFault}
 use Rattle.cv_vault.specs.declared.vault.VaultFault.TheVariants as vault
 use Rattle.cv_tree.specs.Tree.{Nodes}
 use Rattle.cv_tree.specs.Changes.{has_place}
+use Rattle.cv_rows.specs.Catalogue.{Contents}
 use Rattle.cv_cut.specs.Above.{replaced, cuts_above}
 use Rattle.cv_cut.specs.Catalogues.{SharesKey, IsFull}
 use Rattle.cv_cut.specs.Good.{IsGood}
@@ -29,7 +32,9 @@ use Rattle.cv_cut.specs.declared.load_fault.LoadFault.{LoadFault}
 use Rattle.cv_cut.specs.declared.load_fault.LoadFault.TheVariants as load
 use Rattle.cv_load.specs.NewFetches.{FetchesNew}
 use Rattle.cv_load.specs.declared.known_set.KnownSet.{KnownSet}
-use Rattle.cv_graft.specs.Graft.{Grafts}
+use Rattle.cv_graft.specs.Both.{IsGrafted, HasBoth, GivesOffered}
+use Rattle.cv_graft.specs.Graft.{Grafts, HasWay}
+use Rattle.cv_graft.specs.Joins.{CollidesAt, IsFullAt}
 use Rattle.cv_graft.specs.Way.{IsOfEither}
 use Rattle.cv_graft.specs.declared.grafted.Grafted.{Grafted}
 use Rattle.cv_history.specs.declared.record.Record.{Record}
@@ -70,29 +75,39 @@ pub data WhyUnfit (t : Nodes) (r : Reply) : Type 0 where
   shares : (a b : Path) → SharesKey t a b → r ≡ reply.PathCollision a b → WhyUnfit t r
   fills : (c : Path) → IsFull t c → ((a b : Path) → SharesKey t a b → ⊥) → r ≡ reply.CatalogueFull c → WhyUnfit t r
 
--- the reply refuses the new tree by paths of it
-pub data NamesPaths (r : Reply) : Type 0 where
-  two : (a b : Path) → r ≡ reply.PathCollision a b → NamesPaths r
-  one : (c : Path) → r ≡ reply.CatalogueFull c → NamesPaths r
+-- The reply refuses the new tree by paths of it: what the catalogue that directly holds the path in the newest tree keeps, and what the one in
+-- the offered tree has at the path, clash or are too much for one catalogue.
+pub data RefusesBoth (shelf : Shelf) (newest offered : List ℕ) (path : Path) (r : Reply) : Type 0 where
+  two : (a b : Path) (c o : Contents) → HasBoth shelf newest offered path c o → CollidesAt c o path a b → r ≡ reply.PathCollision a b → RefusesBoth shelf newest offered path r
+  one : (d : Path) (c o : Contents) → HasBoth shelf newest offered path c o → IsFullAt c o path d → r ≡ reply.CatalogueFull d → RefusesBoth shelf newest offered path r
 
--- why no tree is made of the newest root and the offered one: the disk failed or memory was wanted, the offered root means none, a
--- catalogue on the way to the path in either has other bytes than its hash says, or the new tree doesn't fit
+-- where the newest root means a tree on the way to the path, the path has a place there
+abbrev pub HasPlaceIn : Shelf → List ℕ → Path → Type 0
+HasPlaceIn shelf newest path = (t : Nodes) → HasWay shelf newest t path → has_place t path ≡ true
+
+-- Why no tree is made of the newest root and the offered one: the disk failed or memory was wanted, the offered root means none, a
+-- catalogue on the way to the path in either has other bytes than its hash says, or the new tree doesn't fit, by the catalogues on both
+-- ways, whether or not the newest root means a tree.
 pub data IsUnfit (shelf : Shelf) (newest offered : List ℕ) (path : Path) (r : Reply) : Type 0 where
   outside : IsFault r → IsUnfit shelf newest offered path r
   meaningless : (fault : LoadFault) → MayFail shelf offered fault → r ≡ reply_at fault → IsUnfit shelf newest offered path r
   damaged : (id : ObjectId) (found : List ℕ) → IsOfEither shelf newest offered path id → HasOtherDigest shelf id found → r ≡ reply.Damaged id found → IsUnfit shelf newest offered path r
-  unfit : IsGood shelf offered root_place → NamesPaths r → ((t n : Nodes) → Means shelf newest t → Means shelf offered n → has_place t path ≡ true → WhyUnfit (replaced t n path) r) → IsUnfit shelf newest offered path r
+  unfit : IsGood shelf offered root_place → RefusesBoth shelf newest offered path r → HasPlaceIn shelf newest path → ((t n : Nodes) → Means shelf newest t → Means shelf offered n → has_place t path ≡ true → WhyUnfit (replaced t n path) r) → IsUnfit shelf newest offered path r
 
--- the offered root is good, and the new tree has this root and these catalogues
+-- The offered root is good, and the new tree has this root and these catalogues. Whether or not the newest root means a tree, they are what
+-- comes of the catalogues on both ways to the path; and at the root the offered one as it is.
 pub record IsFit (shelf : Shelf) (newest offered : List ℕ) (path : Path) (g : Grafted) : Type 0 where
   pub good : IsGood shelf offered root_place
   pub grafts : (t n : Nodes) → Means shelf newest t → Means shelf offered n → has_place t path ≡ true → Grafts (replaced t n path) path (Ok g)
+  pub placed : HasPlaceIn shelf newest path
+  pub way : path ≢ [] → IsGrafted shelf newest offered path g
+  pub whole : path ≡ [] → GivesOffered shelf (object_id offered Catalogue) (Ok g)
 
 -- What was fetched to judge the offered root: of the catalogues that are reached from it through unknown ones, no two at one path; nothing
--- where it is known. And then nothing more; or the root is good, and to graft it, where both roots mean trees, no more than the catalogues
--- properly above the path in the one and in the other.
+-- where it is known. And then, to graft it, at most as many as the path has names, in each tree: nothing more; or the root is good, and where
+-- both roots mean trees, no more than the catalogues properly above the path in the one and in the other.
 abbrev pub FetchesOffered : Shelf → KnownSet → List ℕ → List ℕ → Path → ℕ → ℕ → Type 0
-FetchesOffered shelf known newest offered path before after = (judged : ℕ) × FetchesNew shelf known offered before judged × ((after ≡ judged) ⊎ (IsGood shelf offered root_place
+FetchesOffered shelf known newest offered path before after = (judged : ℕ) × FetchesNew shelf known offered before judged × RaisedAtMost (length path + length path) judged after × ((after ≡ judged) ⊎ (IsGood shelf offered root_place
     × ((t n : Nodes) → Means shelf newest t → Means shelf offered n → RaisedAtMost (length (cuts_above n path) + length (cuts_above t path)) judged after)))
 
 -- ---- the new revision

@@ -56,9 +56,10 @@ abbrev pub BlamesParent : Option Disk → List ℕ → Path → Reply → Type 0
 BlamesParent told root path (reply.Damaged id found) = WhereTold told (λ d. IsOfWay (standing_on d) root (parent path) id)
 BlamesParent told root path other = Unit {0}
 
--- where the newest root means a tree on the way, no more was fetched than the catalogues properly above the path's parent
+-- At most as many catalogues were fetched as the path's parent has names; and where the newest root means a tree on the way, no more than those
+-- properly above the parent.
 abbrev pub FetchesWay : {V S : Type 0} → (V → Option Disk) → Path → StateView V S → StateView V S → Type 0
-FetchesWay disk path s s' = WhereTold (disk s.line.vault) (λ d. (t : Nodes) → HasWay (standing_on d) s.line.head.root t (parent path)
+FetchesWay disk path s s' = RaisedAtMost (length (parent path)) s.line.taken s'.line.taken × WhereTold (disk s.line.vault) (λ d. (t : Nodes) → HasWay (standing_on d) s.line.head.root t (parent path)
     → RaisedAtMost (length (cuts_above t (parent path))) s.line.taken s'.line.taken)
 
 -- A lease is asked. Where the path or the leases refuse it nothing changes, not even the vault; else the newest tree is looked at, by reads

@@ -127,7 +127,8 @@ fn judge<V: Vault + Drop, S: Signer + Drop>(
     }
 }
 
-/// The newest tree with the offered subtree at a path, or why there is none.
+/// The newest tree with the offered subtree at a path, or why there is none. It is made of the catalogues on the way to the path
+/// in both, whether or not the newest root means a tree; and at the root it is the offered one as it is.
 fn graft_offered<V: Vault + Drop, S: Signer + Drop>(
     alloc: Global,
     line: &mut Line<V, S>,

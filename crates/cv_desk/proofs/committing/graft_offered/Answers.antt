@@ -5,7 +5,7 @@ use Rattle.cv_objects.specs.Names.{standing_on}
 use Rattle.cv_desk.specs.Committing.{meaningless}
 use Rattle.cv_desk.specs.CommittingInner.{Offers}
 use Rattle.cv_desk.specs.Refusals.{is_unmade}
-use Rattle.cv_desk.proofs.CommitCalls.{on_ok, grafts_there, grafts_shown, grafts_fetched, judged_alone, graft_unfit, if_err}
+use Rattle.cv_desk.proofs.CommitCalls.{on_ok, grafts_there, graft_fit, graft_unfit, grafts_fetched, judged_alone, if_err}
 use Rattle.cv_desk.proofs.CommitExact.{unmade_told}
 use Rattle.cv_desk.proofs.Knowing.{known_read, knows_unjudged, knows_judged}
 use Rattle.cv_desk.proofs.committing.graft_offered.Goals as goal
@@ -22,20 +22,28 @@ returns-in-Err-clause-grafts g c = λ d told.
     meaningless o.0 o.1 o.2
 
 pub returns-in-Ok-clause-grafts : goal.returns-in-Ok-clause-grafts
-returns-in-Ok-clause-grafts g c = λ d told. record {
-  good = subst (Offers (standing_on d) c.args.offered.now.hash) c.in_default.is (c.judge.ensures.offers d told);
-  grafts = grafts_there g.V.Vault.disk g.V.Vault.count g.V.Vault.left c.args.line.now c.judge.new.line c.judge.ensures.reads c.head.result.root (ap (λ (h : Head). h.root) c.head.ensures.newest)
-      c.args.offered.now.hash c.args.path.now c.graft.result (Ok c.in-Ok.grafted) c.in-Ok.is c.graft.ensures.told d told;
-}
+returns-in-Ok-clause-grafts g c = λ d there. graft_fit (standing_on d) c.args.line.now.head.root c.args.offered.now c.args.path.now
+    (subst (Offers (standing_on d) c.args.offered.now.hash) c.in_default.is (c.judge.ensures.offers d there)) c.in-Ok.grafted c.requires.kind
+    (grafts_there g.V.Vault.disk g.V.Vault.count g.V.Vault.left c.args.line.now c.judge.new.line c.judge.ensures.reads c.head.result.root (ap (λ (h : Head). h.root) c.head.ensures.newest)
+    c.args.offered.now c.args.path.now c.graft.result (Ok c.in-Ok.grafted) c.in-Ok.is (λ standing told. record {
+      told = c.graft.ensures.told standing told;
+      way = c.graft.ensures.way standing told;
+      whole = c.graft.ensures.whole standing told;
+      parentless = c.graft.ensures.parentless standing told;
+      damaged = c.graft.ensures.damaged standing told;
+    }) d there)
 
 pub returns-in-Err-graft-clause-grafts : goal.returns-in-Err-graft-clause-grafts
-returns-in-Err-graft-clause-grafts g c = λ d told.
-    graft_unfit (standing_on d) c.args.line.now.head.root c.args.offered.now.hash c.args.path.now c.in-Err-graft.fault c.of_graft.result c.of_graft.ensures
-    (subst (Offers (standing_on d) c.args.offered.now.hash) c.in_default.is (c.judge.ensures.offers d told))
+returns-in-Err-graft-clause-grafts g c = λ d there. graft_unfit (standing_on d) c.args.line.now.head.root c.args.offered.now c.args.path.now
+    (subst (Offers (standing_on d) c.args.offered.now.hash) c.in_default.is (c.judge.ensures.offers d there)) c.in-Err-graft.fault c.of_graft.result c.of_graft.ensures
     (grafts_there g.V.Vault.disk g.V.Vault.count g.V.Vault.left c.args.line.now c.judge.new.line c.judge.ensures.reads c.head.result.root (ap (λ (h : Head). h.root) c.head.ensures.newest)
-    c.args.offered.now.hash c.args.path.now c.graft.result (Err c.in-Err-graft.fault) c.in-Err-graft.is c.graft.ensures.told d told)
-    (grafts_shown g.V.Vault.disk g.V.Vault.count g.V.Vault.left c.args.line.now c.judge.new.line c.judge.ensures.reads c.head.result.root (ap (λ (h : Head). h.root) c.head.ensures.newest)
-    c.args.offered.now.hash c.args.path.now c.graft.result (Err c.in-Err-graft.fault) c.in-Err-graft.is c.graft.ensures.damaged d told)
+    c.args.offered.now c.args.path.now c.graft.result (Err c.in-Err-graft.fault) c.in-Err-graft.is (λ standing told. record {
+      told = c.graft.ensures.told standing told;
+      way = c.graft.ensures.way standing told;
+      whole = c.graft.ensures.whole standing told;
+      parentless = c.graft.ensures.parentless standing told;
+      damaged = c.graft.ensures.damaged standing told;
+    }) d there)
 
 pub returns-in-Err-clause-knows : goal.returns-in-Err-clause-knows
 returns-in-Err-clause-knows g c = knows_unjudged g.V.Vault.disk c.args.line.now.vault c.args.known.now c.args.offered.now.hash c.judge.new.known {X = Grafted} c.judge.ensures.remembers c.judge.ensures.only c.in-Err.answer
@@ -59,8 +67,8 @@ returns-in-Err-clause-fetches g c = judged_alone g.V.Vault.disk c.args.known.now
 
 pub returns-in-Ok-clause-fetches : goal.returns-in-Ok-clause-fetches
 returns-in-Ok-clause-fetches g c = grafts_fetched g.V.Vault.disk g.V.Vault.count g.V.Vault.left c.args.known.now c.args.line.now c.judge.new.line c.judge.ensures.reads c.head.result.root (ap (λ (h : Head). h.root) c.head.ensures.newest)
-    c.args.offered.now.hash c.args.path.now c.graft.new.shelf.taken c.judge.ensures.fetches (λ d told. subst (Offers (standing_on d) c.args.offered.now.hash) c.in_default.is (c.judge.ensures.offers d told)) c.graft.ensures.taken
+    c.args.offered.now.hash c.args.path.now c.graft.new.shelf.taken c.judge.ensures.fetches (λ d told. subst (Offers (standing_on d) c.args.offered.now.hash) c.in_default.is (c.judge.ensures.offers d told)) c.graft.ensures.most c.graft.ensures.taken
 
 pub returns-in-Err-graft-clause-fetches : goal.returns-in-Err-graft-clause-fetches
 returns-in-Err-graft-clause-fetches g c = grafts_fetched g.V.Vault.disk g.V.Vault.count g.V.Vault.left c.args.known.now c.args.line.now c.judge.new.line c.judge.ensures.reads c.head.result.root (ap (λ (h : Head). h.root) c.head.ensures.newest)
-    c.args.offered.now.hash c.args.path.now c.graft.new.shelf.taken c.judge.ensures.fetches (λ d told. subst (Offers (standing_on d) c.args.offered.now.hash) c.in_default.is (c.judge.ensures.offers d told)) c.graft.ensures.taken
+    c.args.offered.now.hash c.args.path.now c.graft.new.shelf.taken c.judge.ensures.fetches (λ d told. subst (Offers (standing_on d) c.args.offered.now.hash) c.in_default.is (c.judge.ensures.offers d told)) c.graft.ensures.most c.graft.ensures.taken

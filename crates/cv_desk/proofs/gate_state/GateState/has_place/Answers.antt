@@ -64,7 +64,7 @@ returns-in-Ok-directory_at-clause-fetches g c =
     let above : c.into_parent-parent.result ≡ parent c.args.path.now = search rules in
     let root : c.head.result.root ≡ c.args.self.now.line.head.root = search rules in
     let vaults : c.self.inside.line.vault ≡ c.args.self.now.line.vault = search rules in
-    fetched_way g.V.Vault.disk c.args.self.now c.args.path.now c.into_parent-parent.result c.head.result.root some above root c.self.inside.line.vault c.self.inside.line.taken c.directory_at.new.shelf.taken vaults (search rules) c.directory_at.ensures.taken
+    fetched_way g.V.Vault.disk c.args.self.now c.args.path.now c.into_parent-parent.result c.head.result.root some above root c.self.inside.line.vault c.self.inside.line.taken c.directory_at.new.shelf.taken vaults (search rules) c.directory_at.ensures.most c.directory_at.ensures.taken
 
 pub returns-clause-fetches : goal.returns-clause-fetches
 returns-clause-fetches g c =
@@ -72,4 +72,4 @@ returns-clause-fetches g c =
     let above : c.into_parent-parent.result ≡ parent c.args.path.now = search rules in
     let root : c.head.result.root ≡ c.args.self.now.line.head.root = search rules in
     let vaults : c.self.inside.line.vault ≡ c.args.self.now.line.vault = search rules in
-    fetched_way g.V.Vault.disk c.args.self.now c.args.path.now c.into_parent-parent.result c.head.result.root some above root c.self.inside.line.vault c.self.inside.line.taken c.directory_at.new.shelf.taken vaults (search rules) c.directory_at.ensures.taken
+    fetched_way g.V.Vault.disk c.args.self.now c.args.path.now c.into_parent-parent.result c.head.result.root some above root c.self.inside.line.vault c.self.inside.line.taken c.directory_at.new.shelf.taken vaults (search rules) c.directory_at.ensures.most c.directory_at.ensures.taken
