@@ -18,6 +18,7 @@ use Rattle.cv_ports.specs.Calls.{RaisedAtMost}
 use Rattle.cv_ports.specs.Shelf.{Shelf}
 use Rattle.cv_vault.specs.Names.{on_way}
 use Rattle.cv_vault.specs.Disk.{Disk, Files}
+use Rattle.cv_vault.specs.Moments.{OnlyReads}
 use Rattle.cv_vault.specs.Replace.{MovedIn}
 use Rattle.cv_vault.specs.Walks.{Walks, ComesTo}
 use Rattle.cv_vault.specs.declared.vault.VaultFault.{VaultFault}
@@ -244,12 +245,13 @@ module _ {V S : Type 0} (disk : V → Option Disk) (count : V → ℕ) (left : V
         subst (λ (y : StateView V S). Finishes disk count left token y o (over l ls)) is
         (swaps (subst Moves e moves) (told ∙ (λ i. reply.Committed (is_next i).revision (is_next i).root)) (λ i. over (on_ok r x e ok i) (ended i)))
 
-    pub ends_badly : (r : Result (Unit {0}) VaultFault) (f : VaultFault) → r ≡ Err f → (r ≡ Err vault.Failed → l ≡ record line { vault = l.vault; stage = stage.Doubtful }) → (r ≡ Err vault.NoMemory → l ≡ record line { vault = l.vault }) → Moves r
+    pub ends_badly : (r : Result (Unit {0}) VaultFault) (f : VaultFault) → r ≡ Err f → (r ≡ Err vault.Failed → l ≡ record line { vault = l.vault; stage = stage.Doubtful }) → (r ≡ Err vault.NoMemory → l ≡ record line { vault = l.vault })
+        → (r ≡ Err vault.NoMemory → OnlyReads disk count left line.vault l.vault) → Moves r
         → (o : Reply) → o ≡ reply_in f → Finishes disk count left token s o (over l leases)
-    ends_badly r vault.Failed e failed lacking moves o told = subst (λ (y : StateView V S). Finishes disk count left token y o (over l leases)) is
+    ends_badly r vault.Failed e failed lacking reads moves o told = subst (λ (y : StateView V S). Finishes disk count left token y o (over l leases)) is
         (wavers (subst Moves e moves) told (λ i. over (failed e i) leases))
-    ends_badly r vault.NoMemory e failed lacking moves o told = subst (λ (y : StateView V S). Finishes disk count left token y o (over l leases)) is
-        (stays (subst Moves e moves) told (λ i. over (lacking e i) leases))
+    ends_badly r vault.NoMemory e failed lacking reads moves o told = subst (λ (y : StateView V S). Finishes disk count left token y o (over l leases)) is
+        (stays (subst Moves e moves) (reads e) told (λ i. over (lacking e i) leases))
 
   -- a commit under the lease that the token finds
   module _ (token : Token) (mine : Lease) (found : lease_of token leases ≡ Some mine) (key old_root offered tag : List ℕ) where

@@ -255,7 +255,7 @@ module _ {V S : Type 0} (disk : V → Option Disk) (count : V → ℕ) (left : V
 pub finishes_shows : {V S : Type 0} (disk : V → Option Disk) (count : V → ℕ) (left : V → ℕ → Files → Type 0) (token : Token) (s s' : StateView V S) (r : Reply) (v : V) → Finishes disk count left token s r s' → ShowsDamage disk v r
 finishes_shows disk count left token s s' r v (swaps moves e same) = subst (ShowsDamage disk v) (sym e) tt
 finishes_shows disk count left token s s' r v (wavers moves e same) = subst (ShowsDamage disk v) (sym e) tt
-finishes_shows disk count left token s s' r v (stays moves e same) = subst (ShowsDamage disk v) (sym e) tt
+finishes_shows disk count left token s s' r v (stays moves reads e same) = subst (ShowsDamage disk v) (sym e) tt
 
 module _ {V S : Type 0} (disk : V → Option Disk) (count : V → ℕ) (left : V → ℕ → Files → Type 0) (is_seal : S → List ℕ → List ℕ → Bool) (key : List ℕ) (t token : Token) (old_root offered tag : List ℕ) (now : ℕ) (before mid after : StateView V S) (r : Reply)
     (same_token : token ≡ t) (a : Act) (c : CommitWaits disk count left is_seal key t old_root offered tag (aged_view before now) mid) (is_ready : mid.line.stage ≡ stage.Ready) where
@@ -302,8 +302,8 @@ module _ {V S : Type 0} (disk : V → Option Disk) (count : V → ℕ) (left : V
     ends = failed (wavers moves is same) (ap is_unmade is) (kept after.line.vault stage.Doubtful same);
     doubt = λ is_now. record { commit = tt; failed = is };
   }
-  finished_exact (stays moves is same) = record {
-    ends = failed (stays moves is same) (ap is_unmade is) (kept after.line.vault mid.line.stage same);
+  finished_exact (stays moves reads is same) = record {
+    ends = failed (stays moves reads is same) (ap is_unmade is) (kept after.line.vault mid.line.stage same);
     doubt = λ is_now. (let k : after.line.stage ≡ stage.Ready = ap (λ (y : StateView V S). y.line.stage) same ∙ is_ready in cc);
   }
 

@@ -147,7 +147,7 @@ module _ {V S : Type 0} (disk : V → Option Disk) (count : V → ℕ) (left : V
       ended r after.line.vault _ m after (record stored { doubt = Some new }) refl (ends_doubtful is refl)
       (subst (λ (x : StateView V S). StandsFor disk is_seal x (record stored { doubt = Some new })) (sym same)
       (doubted_stands disk count left is_seal settled o g new stored ready.stands.end (entry_of w r) prepared (noted r) after.line.vault _ m is))
-  finished r after (stays moves is same) =
+  finished r after (stays moves reads is same) =
       let m = moves ready.stands.end ready.stands.told in
       ended r after.line.vault _ m after stored refl (ends_fault (inr is) refl)
       (subst (λ (x : StateView V S). StandsFor disk is_seal x stored) (sym same)

@@ -222,12 +222,12 @@ module _ {V S : Type 0} (disk : V → Option Disk) (count : V → ℕ) (left : V
   never_full : (w : Waiting) → Finishes disk count left w.token mid.state r after.state → r ≢ reply.JournalFull
   never_full w (swaps moves is same) = λ e. (let k = sym is ∙ e in cc)
   never_full w (wavers moves is same) = λ e. (let k = sym is ∙ e in cc)
-  never_full w (stays moves is same) = λ e. (let k = sym is ∙ e in cc)
+  never_full w (stays moves reads is same) = λ e. (let k = sym is ∙ e in cc)
 
   fault_then : (w : Waiting) → Finishes disk count left w.token mid.state r after.state → after.state.line.stage ≡ stage.Doubtful → IsFault r
   fault_then w (swaps moves is same) doubt = let k : after.state.line.stage ≡ stage.Calm = ap (λ (x : StateView V S). x.line.stage) same in cc
   fault_then w (wavers moves is same) doubt = inl is
-  fault_then w (stays moves is same) doubt = inr is
+  fault_then w (stays moves reads is same) doubt = inr is
 
   -- and so is what was done in two
   pub ready_steps : (head : Head) → Begins disk count left is_seal o seat now before mid (Ready head) → ((w : Waiting) → mid.ready ≡ Some w → EndsWaiting disk count left is_seal true w mid after r)

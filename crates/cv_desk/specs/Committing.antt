@@ -15,6 +15,7 @@ use Rattle.cv_ports.specs.Calls.{RaisedAtMost}
 use Rattle.cv_ports.specs.Shelf.{Shelf}
 use Rattle.cv_vault.specs.Names.{on_way}
 use Rattle.cv_vault.specs.Disk.{Disk, Files}
+use Rattle.cv_vault.specs.Moments.{OnlyReads}
 use Rattle.cv_vault.specs.Replace.{MovedIn}
 use Rattle.cv_vault.specs.Walks.{Walks, ComesTo}
 use Rattle.cv_vault.specs.declared.vault.VaultFault.{VaultFault}
@@ -123,13 +124,14 @@ module _ {V S : Type 0} (disk : V → Option Disk) (count : V → ℕ) (left : V
   abbrev pub Swaps : LineView V S → V → Result (Unit {0}) VaultFault → Type 0
   Swaps l v r = WhereTold (disk l.vault) (λ d. Walks disk count left on_way (ComesTo head_name (Some l.manifest)) (MovedIn d head_name l.manifest r) d l.vault v)
 
-  -- how a commit that is ready ends: its head came and its lease ended, or it is in doubt, or memory was wanted
+  -- How a commit that is ready ends: its head came and its lease ended, or it is in doubt; or memory was wanted, and nothing was done but
+  -- reads of the vault, so that a crash leaves what it might have left before.
   pub data Finishes (token : Token) (s : StateView V S) (r : Reply) (s' : StateView V S) : Type 0 where
     swaps : Swaps s.line s'.line.vault (Ok tt) → r ≡ reply.Committed s.line.next_head.revision s.line.next_head.root
         → s' ≡ record s { line = swapped s.line s'.line.vault; leases = without token s.leases } → Finishes token s r s'
     wavers : Swaps s.line s'.line.vault (Err vault.Failed) → r ≡ reply.StoreFailed
         → s' ≡ record s { line = record s.line { vault = s'.line.vault; stage = stage.Doubtful } } → Finishes token s r s'
-    stays : Swaps s.line s'.line.vault (Err vault.NoMemory) → r ≡ reply.NoMemory
+    stays : Swaps s.line s'.line.vault (Err vault.NoMemory) → OnlyReads disk count left s.line.vault s'.line.vault → r ≡ reply.NoMemory
         → s' ≡ record s { line = record s.line { vault = s'.line.vault } } → Finishes token s r s'
 
 -- ---- it is made ready

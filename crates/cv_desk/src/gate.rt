@@ -129,7 +129,7 @@ impl<V: Vault + Drop, S: Signer + Drop> Gate<V, S> {
     }
 
     /// Ends the commit that is ready, and notes it: publishes its head and ends its lease, or gives it up and answers
-    /// `NoMemory`. After `StoreFailed` it is in doubt, and after `NoMemory` nothing of it is published.
+    /// `NoMemory`. After `StoreFailed` it is in doubt; after `NoMemory` nothing of it is published, and the vault was only read.
     ///
     /// A crash at any moment leaves what a crash within the commit may leave of the state in which it was begun. To give it up
     /// takes no memory, and does nothing to the vault.

@@ -23,7 +23,8 @@ use cv_vault::Vault;
 use std::alloc::Global;
 
 impl<V: Vault + Drop, S: Signer + Drop> GateState<V, S> {
-    /// Publishes the revision that is ready, and ends the lease with the token. After `StoreFailed` it is in doubt.
+    /// Publishes the revision that is ready, and ends the lease with the token. After `StoreFailed` it is in doubt, and after
+    /// `NoMemory` the vault was only read.
     fn finish(&mut self, token: Token) -> Answer
         requires ready { self.old.line.stage ≡ stage.Ready }
         ensures finishes { Finishes V.disk V.count V.left token self.old result self.new }

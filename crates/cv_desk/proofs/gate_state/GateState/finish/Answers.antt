@@ -27,4 +27,4 @@ returns-in-Ok-clause-finishes g c = ends_well g.V.Vault.disk g.V.Vault.count g.V
 
 pub returns-in-Err-clause-finishes : goal.returns-in-Err-clause-finishes
 returns-in-Err-clause-finishes g c = ends_badly g.V.Vault.disk g.V.Vault.count g.V.Vault.left g.S.Signer.is_seal c.args.self.now c.self.inside.line c.self.inside.leases c.self.inside.moment c.self.inside.next c.self.inside.known c.self.view_is
-    c.args.token c.swap.new.self c.swap.result c.in-Err.fault c.in-Err.is c.swap.ensures.failed c.swap.ensures.no_memory c.swap.ensures.walks c.of_vault.result c.of_vault.ensures
+    c.args.token c.swap.new.self c.swap.result c.in-Err.fault c.in-Err.is c.swap.ensures.failed c.swap.ensures.no_memory c.swap.ensures.memory c.swap.ensures.walks c.of_vault.result c.of_vault.ensures
