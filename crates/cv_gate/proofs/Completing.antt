@@ -12,10 +12,10 @@ use Rattle.cv_cut.specs.Means.{Means}
 use Rattle.cv_leases.specs.declared.lease.Lease.{Lease}
 use Rattle.cv_objects.specs.Coming.{ClashesOn}
 use Rattle.cv_swap.specs.Kept.{Revision, newest}
-use Rattle.cv_gate.specs.State.{State, aged, Settled}
+use Rattle.cv_gate.specs.State.{State, aged}
 use Rattle.cv_gate.specs.Commits.{committed, made}
 use Rattle.cv_gate.specs.Passing.{IsFree, Passes}
-use Rattle.cv_gate.specs.Step.{IsFault, OnLease, Grants, adds, LeaseStep, Stores, Publishes, collides, fails, commits, doubts, Commits, Cancels, takes, Acts, Step}
+use Rattle.cv_gate.specs.Step.{IsFault, OnLease, Grants, adds, LeaseStep, Stores, Publishes, collides, fails, commits, doubts, Commits, Cancels, takes, Acts, Goes, Step}
 use Rattle.cv_gate.specs.Completeness.{IsOwn, Unopposed}
 use Rattle.cv_gate.specs.declared.op.Op.{Op}
 use Rattle.cv_gate.specs.declared.op.Op.TheVariants as op
@@ -153,15 +153,9 @@ of_acts st (op.Commit key token old_root new_root tag) e st' r one h a = elim a 
 of_acts st (op.Cancel key token) e st' r one h a =
     inl (of_cancels st token e.reply st' (of_own st key token e.reply st' (λ lease. Cancels st token e.reply st') h.0 a) ∙ sym h.1)
 
-pub completes : (st : State) (o : Op) (e : Entry) (st' : State) → ((shelf : Shelf) (root : List ℕ) (t u : Nodes) → Means shelf root t → Means shelf root u → t ≡ u)
-    → ((settled : State) → Settled st settled → (r : Reply) × Unopposed (aged settled e.now) o r) → Step st o e st'
-    → ((settled : State) × Settled st settled × Unopposed (aged settled e.now) o e.reply) ⊎ IsFault e.reply
-completes st o e st' one h s = elim s.does [
-  | inl w ↦ inr w.fault
-  | inr g ↦
-      let wanted = h g.settled g.settles in
-      elim (of_acts (aged g.settled e.now) o e st' wanted.0 one wanted.1 g.acts) [
-        | inl is ↦ inl (g.settled, g.settles, subst (Unopposed (aged g.settled e.now) o) (sym is) wanted.1)
-        | inr fault ↦ inr fault
-      ]
+pub completes : (st : State) (o : Op) (e : Entry) (st' : State) → ((shelf : Shelf) (root : List ℕ) (t u : Nodes) → Means shelf root t → Means shelf root u → t ≡ u) → Step st o e st'
+    → IsFault e.reply ⊎ ((came : Goes st o e st') × ((r : Reply) → Unopposed (aged came.settled e.now) o r → Done e.reply r))
+completes st o e st' one s = elim s.does [
+  | inl w ↦ inl w.fault
+  | inr g ↦ inr (g, λ r wanted. of_acts (aged g.settled e.now) o e st' r one wanted g.acts)
 ]

@@ -16,7 +16,7 @@ ghost use Rattle.cv_objects.specs.Coming.{HasAll};
 ghost use Rattle.cv_swap.specs.Kept.{Revision, newest, record_object, AreSound, Kept, IsKept};
 ghost use Rattle.cv_swap.specs.First.{first_revision};
 ghost use Rattle.cv_gate.specs.State.{State, aged, Settled};
-ghost use Rattle.cv_gate.specs.Step.{last_number, IsFault, Records, Step, Run};
+ghost use Rattle.cv_gate.specs.Step.{last_number, IsFault, Records, Goes, Step, Run};
 ghost use Rattle.cv_gate.specs.Sound.{AreLeases, Sound};
 ghost use Rattle.cv_gate.specs.Completeness.{Unopposed};
 ghost use Rattle.cv_gate.specs.Ready.{IsReady, Ends};
@@ -64,13 +64,14 @@ pub fn tokens_are_numbered()
     ensures { (st : State) (entries : List EntryData) (st' : State) → Run st entries st' → Numbers st entries st' }
 {}
 
-/// Where no refusal's condition holds, however a commit in doubt is settled, the op is answered as it would be in one of the
-/// settled states, or a fault came. That a root means no two trees on a shelf is a law of loading trees.
+/// A step answers a fault, or goes on from the settled state that came. Where no refusal's condition holds in that one, whatever
+/// holds had a commit in doubt been settled otherwise, the op is answered as it would be there, or a fault came. That a root
+/// means no two trees on a shelf is a law of loading trees.
 pub fn what_nothing_opposes_is_answered()
     ensures { (st : State) (o : OpData) (e : EntryData) (st' : State)
         → ((shelf : ObjectShelf) (root : List ℕ) (t u : Nodes) → Means shelf root t → Means shelf root u → t ≡ u)
-        → ((settled : State) → Settled st settled → (r : ReplyData) × Unopposed (aged settled e.now) o r) → Step st o e st'
-        → ((settled : State) × Settled st settled × Unopposed (aged settled e.now) o e.reply) ⊎ IsFault e.reply }
+        → Step st o e st'
+        → IsFault e.reply ⊎ ((came : Goes st o e st') × ((r : ReplyData) → Unopposed (aged came.settled e.now) o r → (e.reply ≡ r) ⊎ IsFault e.reply)) }
 {}
 
 /// A commit that is ready ends as its step: whichever of its three ends comes, the entry with that reply is a step from the
