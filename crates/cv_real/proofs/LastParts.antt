@@ -4,12 +4,12 @@ use Rattle.std.specs.List.{onto_first}
 use Rattle.std.specs.Option.{unwrap_or}
 use Rattle.std.specs.Str.{IsCharBoundary}
 use Rattle.std.specs.Str.Pattern.{FindsTextSuffix, RFindsChar, SplitsAroundMatch, StripsSuffix}
-use Rattle.std.proofs.lemmas.List.{take_at}
 use Rattle.std.proofs.lemmas.List.Splits.{slice_split-cons_no}
 use Rattle.std.proofs.lemmas.Str.Pattern.{NoCharPasses-char, drop_at_char, ends_text}
 use Rattle.cv_base.specs.Path.{Path, last_name_of}
 use Rattle.cv_base.specs.PathText.{parts_of}
-use Rattle.cv_real.specs.NamesInner.{last_part, folder_of, without_slash}
+use Rattle.cv_real.specs.Names.{last_part, folder_of}
+use Rattle.cv_real.specs.NamesInner.{without_slash}
 
 -- no byte is a slash
 HasNoSlash : List ℕ → Type 0

@@ -1,3 +1,4 @@
 mod CutNames
 mod LastParts
 mod Looking
+mod Notes

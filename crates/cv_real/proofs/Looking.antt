@@ -1,5 +1,5 @@
 -- Names that a walk looks at, one after another.
-use Rattle.std.proofs.Common.{◌≡◌, ◌∙◌, ℕ, List, [], ◌∷◌, ◌++◌, refl, subst, ap, sym}
+use Rattle.std.proofs.Common.{◌≡◌, ℕ, List, [], ◌∷◌, ◌++◌, refl, subst}
 use Rattle.cv_real.specs.WalkInner.{Looks, LooksAtAll, LooksRound}
 
 -- some names, and then others

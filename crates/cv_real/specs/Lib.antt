@@ -1,3 +1,5 @@
+pub mod FolderVault
+pub mod Names
 pub mod NamesInner
 pub mod PathsInner
 pub mod WalkInner

@@ -4,7 +4,7 @@ use Rattle.std.specs.Ordering.{is_lt}
 use Rattle.std.specs.List.{slice_split}
 use Rattle.std.specs.Option.{option_map_or}
 use Rattle.cv_base.specs.Path.{name_cmp}
-use Rattle.cv_real.specs.NamesInner.{is_part}
+use Rattle.cv_real.specs.Names.{is_part}
 
 -- a path comes next: behind the last one, and before the end of what is kept, if there is no room for more
 abbrev pub comes_next : List ℕ → List ℕ → List ℕ → Bool

@@ -1,37 +1,27 @@
 //! A vault over a folder.
-ghost use Rattle.std.specs.Prelude.{◌≡◌, ◌≤◌, ◌<◌, ◌+◌, ◌↔◌, ◌++◌, [], ◌∷◌, length, None, IfOk, IsOk, IsTrue, OnOk, codes, string_bytes, ⊤};
+ghost use Rattle.std.specs.Prelude.{◌≡◌, ◌≢◌, ◌<◌, ◌+◌, ◌↔◌, ◌++◌, [], ◌∷◌, length, true, false, None, Ok, Err, IfOk, IsOk, IsErr, IsErrOf, IsTrue, OnErr, OnOk, codes, string_bytes, ⊤};
 ghost use Rattle.std.specs.IoError.{error_kind, raw_os_error};
 ghost use Rattle.cv_base.specs.Counts.{HasCause};
+ghost use Rattle.cv_vault.specs.Disk.{Reads, Measures, Lists, Writes, Renames, Removes, Syncs};
 ghost use Rattle.cv_vault.specs.declared.vault.VaultFault.TheVariants.{Failed, NoMemory};
-ghost use Rattle.cv_real.specs.NamesInner.{is_name, folder_of};
+ghost use Rattle.cv_real.specs.Names.{is_name, folder_of, path_of};
+ghost use Rattle.cv_real.specs.FolderVault.{Untold, IsAt, Notes, Stays, Adds, is_noted};
 
 use crate::count::FaultCount;
+use crate::hold::{Hold, lock_folder, make_held, refused};
 use crate::names::{NEXT, folder_of, is_name, is_root};
 use crate::path_buffer::PathBuffer;
 use crate::paths::{
-    find_file, is_memory, list_files, make_folders, move_file, note, put_file, read_found,
+    as_texts, find_file, is_memory, list_files, make_folders, move_file, note, put_file, read_found,
 };
 use crate::walk::{Unsynced, Walk, sync_folder, sync_folders};
 use cv_base::{Bytes, Text};
 use cv_vault::{Vault, VaultFault};
 use std::alloc::{AllocError, Global};
-use std::fs::{File, Metadata, OpenFile, TryLockError};
+use std::fs::{File, Metadata, OpenFile};
 use std::io::ErrorKind;
 use std::rt::Files;
 use std::{fs, io};
-
-/// What a vault has of its folder.
-#[derive(Drop)]
-enum Hold {
-    /// Nothing was asked of the vault yet, or the folder couldn't be opened or locked: the next call tries it.
-    Unasked,
-    /// The folder is open and locked: no other vault holds it, in this process or another.
-    Held(File),
-    /// No folder is there. The first write makes it.
-    Absent,
-    /// Another vault holds the folder or has made it, or its path is none that a vault's folder may have. Each call fails.
-    Refused,
-}
 
 /// A vault over a folder of regular files, in which each name is the path below the folder.
 ///
@@ -71,56 +61,13 @@ pub struct FolderVault<R: Files<File = File> + AllocGlobal + Clone + Drop> {
     faults: FaultCount,
 }
 
-/// The same names as texts of their own type.
-fn as_texts(alloc: Global, names: Vec<String>) -> Result<Vec<Text>, AllocError> {
-    let mut texts = Vec::with_capacity(alloc, names.len())?;
-    for name in names {
-        texts.push(Text::new(name))?;
-    }
-    Ok(texts)
-}
-
-/// The error of a call that isn't made.
-fn refused() -> io::Error
-    ensures { error_kind result ≡ ErrorKind.InvalidInput }
-{
-    io::Error::from(ErrorKind::InvalidInput)
-}
-
-/// Opens and locks a folder whose path ends in a slash. None where another vault holds it.
-fn lock_folder<R: Files<File = File>>(rt: &R, folder: &str) -> io::Result<Option<File>> {
-    let open = fs::open(rt, folder)?;
-    match open.try_lock() {
-        Ok(()) => Ok(Some(open)),
-        Err(TryLockError::WouldBlock) => Ok(None),
-        Err(TryLockError::Error(error)) => Err(error),
-    }
-}
-
-/// Makes a folder, and opens and locks it by its path with a slash at the end. None where something stands there by now, or
-/// another vault holds it. Where it can't be opened or locked it goes again, so that a later try may make it.
-fn make_held<R: Files<File = File>>(
-    rt: &R,
-    folder: &str,
-    with_slash: &str,
-) -> io::Result<Option<File>> {
-    match fs::create_dir(rt, folder) {
-        Err(error) if error.kind() == ErrorKind::AlreadyExists => return Ok(None),
-        made => made?,
-    }
-    let held = lock_folder(rt, with_slash);
-    if held.is_err() {
-        let _ = fs::remove_dir(rt, folder);
-    }
-    held
-}
-
 impl<R: Files<File = File> + AllocGlobal + Clone + Drop> FolderVault<R> {
     /// The vault over the folder at this path, which need not be there yet. It takes the memory of each later sync, and opens
     /// nothing: the first call holds the folder. Where another vault holds it then, each call fails. Where it can't be opened
     /// or locked that call fails, and the next one tries again.
     pub fn new(rt: R, root: &str) -> Result<FolderVault<R>, AllocError>
-        ensures { IfOk result (λ vault. vault.faults.number ≡ 0) }
+        ensures faults { IfOk result (λ vault. vault.faults.number ≡ 0) }
+        ensures root { IfOk result (λ vault. string_bytes vault.root ≡ root.now) }
     {
         let alloc = rt.alloc();
         Ok(FolderVault {
@@ -139,7 +86,8 @@ impl<R: Files<File = File> + AllocGlobal + Clone + Drop> FolderVault<R> {
 
     /// What the vault has of its folder: it holds it, if it is there.
     fn hold_now(&mut self) -> io::Result<Hold>
-        ensures { self.new.faults ≡ self.old.faults }
+        ensures stays { Stays self.old self.new }
+        ensures faults { self.new.faults ≡ self.old.faults }
     {
         if !is_root(self.root.as_str()) || self.set_root().is_err() {
             return Ok(Hold::Refused);
@@ -155,7 +103,10 @@ impl<R: Files<File = File> + AllocGlobal + Clone + Drop> FolderVault<R> {
     /// Makes the folder, which wasn't there, and holds it. What another process has made there since isn't taken: each
     /// later call of the vault fails.
     fn make_root(&mut self) -> io::Result<()>
-        ensures { self.new.faults ≡ self.old.faults }
+        ensures noted { OnOk result
+            (IsTrue (is_noted self.new.folders.items (folder_of (string_bytes self.old.root)))) }
+        ensures adds { Adds self.old self.new }
+        ensures faults { self.new.faults ≡ self.old.faults }
     {
         note(&mut self.folders, folder_of(self.root.as_str()))?;
         self.set_root()?;
@@ -175,6 +126,7 @@ impl<R: Files<File = File> + AllocGlobal + Clone + Drop> FolderVault<R> {
     fn set_root(&mut self) -> io::Result<()>
         ensures ok { IsOk result ↔ (length (string_bytes self.old.root) + 1 < 4096) }
         ensures path { OnOk result (self.new.path ≡ string_bytes self.old.root ++ 47 ∷ []) }
+        ensures stays { Stays self.old self.new }
         ensures faults { self.new.faults ≡ self.old.faults }
     {
         if self.path.set(self.root.as_str(), "/") {
@@ -187,7 +139,8 @@ impl<R: Files<File = File> + AllocGlobal + Clone + Drop> FolderVault<R> {
     /// Sets the path of a name. A text that is none is refused, and one whose path is longer than the system takes.
     fn set_path(&mut self, name: &str) -> io::Result<()>
         ensures ok { IsOk result ↔ IsTrue (is_name name.now) × (length (string_bytes self.old.root) + length name.now + 1 < 4096) }
-        ensures path { OnOk result (self.new.path ≡ string_bytes self.old.root ++ 47 ∷ name.now) }
+        ensures path { OnOk result (self.new.path ≡ path_of (string_bytes self.old.root) name.now) }
+        ensures stays { Stays self.old self.new }
         ensures faults { self.new.faults ≡ self.old.faults }
     {
         if is_name(name) && self.path.set_below(self.root.as_str(), name) {
@@ -202,6 +155,7 @@ impl<R: Files<File = File> + AllocGlobal + Clone + Drop> FolderVault<R> {
         ensures ok { IsOk result ↔ (length (folder_of self.old.path) + 11 < 4096) }
         ensures next { OnOk result (self.new.next ≡ folder_of self.old.path ++ codes ".cvkit-next") }
         ensures path { self.new.path ≡ self.old.path }
+        ensures stays { Stays self.old self.new }
         ensures faults { self.new.faults ≡ self.old.faults }
     {
         if self.next.set(folder_of(self.path.as_str()), NEXT) {
@@ -213,7 +167,9 @@ impl<R: Files<File = File> + AllocGlobal + Clone + Drop> FolderVault<R> {
 
     /// Makes the path of a name, and tells whether the vault has a folder.
     fn begin(&mut self, name: &str) -> io::Result<bool>
-        ensures { self.new.faults ≡ self.old.faults }
+        ensures path { OnOk result (IsAt self.new name.now) }
+        ensures stays { Stays self.old self.new }
+        ensures faults { self.new.faults ≡ self.old.faults }
     {
         let held = self.is_held()?;
         self.set_path(name)?;
@@ -222,11 +178,14 @@ impl<R: Files<File = File> + AllocGlobal + Clone + Drop> FolderVault<R> {
 
     /// Whether the vault has a folder. What was there before it was held is unsettled.
     fn is_held(&mut self) -> io::Result<bool>
-        ensures { self.new.faults ≡ self.old.faults }
+        ensures unsettled { self.old.hold ≡ Hold.Unasked → result ≡ Ok true
+            → IsTrue self.new.is_unsettled }
+        ensures stays { Stays self.old self.new }
+        ensures faults { self.new.faults ≡ self.old.faults }
     {
         if matches!(self.hold, Hold::Unasked) {
             self.hold = self.hold_now()?;
-            self.is_unsettled = matches!(self.hold, Hold::Held(_));
+            self.is_unsettled |= matches!(self.hold, Hold::Held(_));
         }
         match &self.hold {
             Hold::Held(_) => Ok(true),
@@ -237,7 +196,9 @@ impl<R: Files<File = File> + AllocGlobal + Clone + Drop> FolderVault<R> {
 
     /// The file of a name, if it is there. Its path is then set.
     fn find(&mut self, name: &str) -> io::Result<Option<Metadata>>
-        ensures { self.new.faults ≡ self.old.faults }
+        ensures path { OnOk result (IsAt self.new name.now) }
+        ensures stays { Stays self.old self.new }
+        ensures faults { self.new.faults ≡ self.old.faults }
     {
         if !self.begin(name)? {
             return Ok(None);
@@ -248,6 +209,7 @@ impl<R: Files<File = File> + AllocGlobal + Clone + Drop> FolderVault<R> {
     /// One more fault.
     fn fault(&mut self) -> VaultFault
         ensures fault { result ≡ Failed }
+        ensures stays { Stays self.old self.new }
         ensures cause { HasCause self.old.faults.number self.new.faults.number ⊤ }
     {
         self.faults.raise();
@@ -259,6 +221,7 @@ impl<R: Files<File = File> + AllocGlobal + Clone + Drop> FolderVault<R> {
         ensures memory { (result ≡ NoMemory)
             ↔ (error_kind error.now ≡ ErrorKind.OutOfMemory) × (raw_os_error error.now ≡ None) }
         ensures cause { HasCause self.old.faults.number self.new.faults.number (result ≡ Failed) }
+        ensures stays { Stays self.old self.new }
     {
         if is_memory(error) {
             VaultFault::NoMemory
@@ -268,7 +231,9 @@ impl<R: Files<File = File> + AllocGlobal + Clone + Drop> FolderVault<R> {
     }
 
     fn read_now(&mut self, name: &str) -> io::Result<Option<Vec<u8>>>
-        ensures { self.new.faults ≡ self.old.faults }
+        ensures refused { OnOk result (IsTrue (is_name name.now)) }
+        ensures stays { Stays self.old self.new }
+        ensures faults { self.new.faults ≡ self.old.faults }
     {
         let Some(found) = self.find(name)? else {
             return Ok(None);
@@ -278,13 +243,16 @@ impl<R: Files<File = File> + AllocGlobal + Clone + Drop> FolderVault<R> {
     }
 
     fn length_now(&mut self, name: &str) -> io::Result<Option<u64>>
-        ensures { self.new.faults ≡ self.old.faults }
+        ensures refused { OnOk result (IsTrue (is_name name.now)) }
+        ensures stays { Stays self.old self.new }
+        ensures faults { self.new.faults ≡ self.old.faults }
     {
         Ok(self.find(name)?.map(|found| found.len()))
     }
 
     fn list_now(&mut self, prefix: &str) -> io::Result<Vec<Text>>
-        ensures { self.new.faults ≡ self.old.faults }
+        ensures stays { Stays self.old self.new }
+        ensures faults { self.new.faults ≡ self.old.faults }
     {
         let alloc = self.rt.alloc();
         if !self.is_held()? {
@@ -294,13 +262,26 @@ impl<R: Files<File = File> + AllocGlobal + Clone + Drop> FolderVault<R> {
         Ok(as_texts(alloc, names)?)
     }
 
-    fn write_now(&mut self, name: &str, bytes: &[u8]) -> io::Result<()>
-        ensures { self.new.faults ≡ self.old.faults }
+    /// Makes the path of a name, and the vault's folder, if none is there.
+    fn begin_write(&mut self, name: &str) -> io::Result<()>
+        ensures path { OnOk result (IsAt self.new name.now) }
+        ensures adds { Adds self.old self.new }
+        ensures faults { self.new.faults ≡ self.old.faults }
     {
-        if !self.begin(name)? {
-            self.make_root()?;
-            self.set_path(name)?;
+        if self.begin(name)? {
+            return Ok(());
         }
+        self.make_root()?;
+        self.set_path(name)
+    }
+
+    fn write_now(&mut self, name: &str, bytes: &[u8]) -> io::Result<()>
+        ensures refused { OnOk result (IsTrue (is_name name.now)) }
+        ensures noted { OnOk result (Notes self.new name.now) }
+        ensures adds { Adds self.old self.new }
+        ensures faults { self.new.faults ≡ self.old.faults }
+    {
+        self.begin_write(name)?;
         self.set_next()?;
         make_folders(
             &self.rt,
@@ -313,7 +294,11 @@ impl<R: Files<File = File> + AllocGlobal + Clone + Drop> FolderVault<R> {
 
     /// Whether the file was there. From there on each error but want of memory is a fault.
     fn rename_now(&mut self, from: &str, to: &str) -> io::Result<bool>
-        ensures { self.new.faults ≡ self.old.faults }
+        ensures refused { OnOk result (IsTrue (is_name from.now) × IsTrue (is_name to.now)) }
+        ensures left { result ≡ Ok true → Notes self.new from.now }
+        ensures noted { result ≡ Ok true → Notes self.new to.now }
+        ensures adds { Adds self.old self.new }
+        ensures faults { self.new.faults ≡ self.old.faults }
     {
         if !is_name(to) {
             return Err(refused());
@@ -336,7 +321,9 @@ impl<R: Files<File = File> + AllocGlobal + Clone + Drop> FolderVault<R> {
 
     /// Whether the file was there. Where there is no room to note the folder, it is synced at once.
     fn remove_now(&mut self, name: &str) -> io::Result<bool>
-        ensures { self.new.faults ≡ self.old.faults }
+        ensures refused { OnOk result (IsTrue (is_name name.now)) }
+        ensures adds { Adds self.old self.new }
+        ensures faults { self.new.faults ≡ self.old.faults }
     {
         if self.find(name)?.is_none() {
             return Ok(false);
@@ -357,7 +344,8 @@ impl<R: Files<File = File> + AllocGlobal + Clone + Drop> FolderVault<R> {
 
     /// Makes the folders durable that changed, or all of them where an earlier process may have changed some.
     fn sync_changed(&mut self) -> Result<(), Unsynced>
-        ensures { self.new.faults ≡ self.old.faults }
+        ensures stays { Stays self.old self.new }
+        ensures faults { self.new.faults ≡ self.old.faults }
     {
         if self.is_unsettled {
             sync_folder(&self.rt, folder_of(self.root.as_str()))?;
@@ -366,16 +354,16 @@ impl<R: Files<File = File> + AllocGlobal + Clone + Drop> FolderVault<R> {
         sync_folders(&self.rt, &self.folders)
     }
 
-    fn sync_now(&mut self) -> io::Result<()>
-        ensures { self.new.faults ≡ self.old.faults }
+    /// Ends a sync: what it made durable is done, and what the system lost is so from now on.
+    fn end_sync(&mut self, done: Result<(), Unsynced>) -> io::Result<()>
+        ensures ok { IsOk result ↔ IsOk done }
+        ensures done { OnOk result ((self.new.folders.items ≡ []) × (self.new.is_unsettled ≡ false)) }
+        ensures lost { done ≡ Err Unsynced.Lost → IsTrue self.new.broken }
+        ensures adds { OnErr result (Adds self.old self.new) }
+        ensures root { self.new.root ≡ self.old.root }
+        ensures faults { self.new.faults ≡ self.old.faults }
     {
-        if !self.is_held()? {
-            return Ok(());
-        }
-        if self.broken {
-            return Err(refused());
-        }
-        match self.sync_changed() {
+        match done {
             Ok(()) => {
                 self.is_unsettled = false;
                 self.folders.clear();
@@ -387,6 +375,23 @@ impl<R: Files<File = File> + AllocGlobal + Clone + Drop> FolderVault<R> {
                 Err(refused())
             }
         }
+    }
+
+    /// Nothing is to be synced where no folder is there.
+    fn sync_now(&mut self) -> io::Result<()>
+        ensures lost { IsTrue self.old.broken → IsErr result }
+        ensures adds { OnErr result (Adds self.old self.new) }
+        ensures root { self.new.root ≡ self.old.root }
+        ensures faults { self.new.faults ≡ self.old.faults }
+    {
+        if self.broken {
+            return Err(refused());
+        }
+        if !self.is_held()? {
+            return Ok(());
+        }
+        let done = self.sync_changed();
+        self.end_sync(done)
     }
 }
 
@@ -403,7 +408,12 @@ impl<R: Files<File = File> + AllocGlobal + Clone + Drop> Vault for FolderVault<R
 
     ghost only_now = { λ v f left. tt };
 
-    fn read(&mut self, name: &str) -> Result<Option<Bytes>, VaultFault> {
+    fn read(&mut self, name: &str) -> Result<Option<Bytes>, VaultFault>
+        ensures call { Untold (Reads name.now result) self.old self.new }
+        ensures cause { HasCause self.old.faults.number self.new.faults.number (IsErrOf result Failed) }
+        ensures refused { OnOk result (IsTrue (is_name name.now)) }
+        ensures stays { Stays self.old self.new }
+    {
         match self.read_now(name) {
             Ok(Some(bytes)) => Ok(Some(Bytes::new(bytes))),
             Ok(None) => Ok(None),
@@ -411,42 +421,76 @@ impl<R: Files<File = File> + AllocGlobal + Clone + Drop> Vault for FolderVault<R
         }
     }
 
-    fn length(&mut self, name: &str) -> Result<Option<u64>, VaultFault> {
+    fn length(&mut self, name: &str) -> Result<Option<u64>, VaultFault>
+        ensures call { Untold (Measures name.now result) self.old self.new }
+        ensures cause { HasCause self.old.faults.number self.new.faults.number (IsErrOf result Failed) }
+        ensures refused { OnOk result (IsTrue (is_name name.now)) }
+        ensures stays { Stays self.old self.new }
+    {
         match self.length_now(name) {
             Ok(length) => Ok(length),
             Err(error) => Err(self.fault_of(&error)),
         }
     }
 
-    fn list(&mut self, prefix: &str) -> Result<Vec<Text>, VaultFault> {
+    fn list(&mut self, prefix: &str) -> Result<Vec<Text>, VaultFault>
+        ensures call { Untold (Lists prefix.now result) self.old self.new }
+        ensures cause { HasCause self.old.faults.number self.new.faults.number (IsErrOf result Failed) }
+        ensures stays { Stays self.old self.new }
+    {
         match self.list_now(prefix) {
             Ok(names) => Ok(names),
             Err(error) => Err(self.fault_of(&error)),
         }
     }
 
-    fn write(&mut self, name: &str, bytes: &[u8]) -> Result<(), VaultFault> {
+    fn write(&mut self, name: &str, bytes: &[u8]) -> Result<(), VaultFault>
+        ensures call { Untold (Writes name.now bytes.now result) self.old self.new }
+        ensures cause { HasCause self.old.faults.number self.new.faults.number (IsErrOf result Failed) }
+        ensures refused { OnOk result (IsTrue (is_name name.now)) }
+        ensures noted { OnOk result (Notes self.new name.now) }
+        ensures adds { Adds self.old self.new }
+    {
         match self.write_now(name, bytes) {
             Ok(()) => Ok(()),
             Err(error) => Err(self.fault_of(&error)),
         }
     }
 
-    fn rename(&mut self, from: &str, to: &str) -> Result<bool, VaultFault> {
+    fn rename(&mut self, from: &str, to: &str) -> Result<bool, VaultFault>
+        ensures call { Untold (Renames from.now to.now result) self.old self.new }
+        ensures cause { HasCause self.old.faults.number self.new.faults.number (IsErrOf result Failed) }
+        ensures refused { OnOk result (IsTrue (is_name from.now) × IsTrue (is_name to.now)) }
+        ensures left { result ≡ Ok true → Notes self.new from.now }
+        ensures noted { result ≡ Ok true → Notes self.new to.now }
+        ensures adds { Adds self.old self.new }
+    {
         match self.rename_now(from, to) {
             Ok(found) => Ok(found),
             Err(error) => Err(self.fault_of(&error)),
         }
     }
 
-    fn remove(&mut self, name: &str) -> Result<bool, VaultFault> {
+    fn remove(&mut self, name: &str) -> Result<bool, VaultFault>
+        ensures call { Untold (Removes name.now result) self.old self.new }
+        ensures cause { HasCause self.old.faults.number self.new.faults.number (IsErrOf result Failed) }
+        ensures memory { result ≢ Err NoMemory }
+        ensures refused { OnOk result (IsTrue (is_name name.now)) }
+        ensures adds { Adds self.old self.new }
+    {
         match self.remove_now(name) {
             Ok(found) => Ok(found),
             Err(_) => Err(self.fault()),
         }
     }
 
-    fn sync(&mut self) -> Result<(), VaultFault> {
+    fn sync(&mut self) -> Result<(), VaultFault>
+        ensures call { Untold (Syncs result) self.old self.new }
+        ensures cause { HasCause self.old.faults.number self.new.faults.number (IsErrOf result Failed) }
+        ensures memory { result ≢ Err NoMemory }
+        ensures lost { IsTrue self.old.broken → IsErr result }
+        ensures adds { OnErr result (Adds self.old self.new) }
+    {
         match self.sync_now() {
             Ok(()) => Ok(()),
             Err(_) => Err(self.fault()),

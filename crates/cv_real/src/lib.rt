@@ -6,6 +6,7 @@ mod clock;
 mod count;
 mod dial;
 mod folder_vault;
+mod hold;
 mod listing;
 mod names;
 mod path_buffer;

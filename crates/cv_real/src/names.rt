@@ -3,7 +3,8 @@ ghost use Rattle.std.specs.Prelude.{◌≡◌, ◌==◌, ◌<◌, length, not};
 ghost use Rattle.std.specs.List.{list_all};
 ghost use Rattle.cv_base.specs.Path.{is_dots};
 ghost use Rattle.cv_base.specs.PathText.{parts_of};
-ghost use Rattle.cv_real.specs.NamesInner.{is_own, is_part, is_name, last_part, folder_of, above};
+ghost use Rattle.cv_real.specs.Names.{is_own, is_part, is_name, last_part, folder_of};
+ghost use Rattle.cv_real.specs.NamesInner.{above};
 
 /// The one own file of a folder: the next file of one of its names, as long as it isn't whole.
 pub const NEXT: &str = ".cvkit-next";

@@ -1,10 +1,13 @@
 //! What stands in a folder, without going through a link. A folder's path ends in a slash: the system then opens nothing but a
 //! folder there.
-ghost use Rattle.std.specs.Prelude.{◌≡◌, ◌≤◌, ◌↔◌, None, length, IfOk, IsTrue};
+ghost use Rattle.std.specs.Prelude.{◌≡◌, ◌≤◌, ◌↔◌, None, length, IfOk, IsTrue, OnOk};
 ghost use Rattle.std.specs.IoError.{error_kind, raw_os_error};
+ghost use Rattle.cv_real.specs.FolderVault.{Keeps, is_noted};
+ghost use Rattle.cv_real.specs.Names.{folder_of};
 ghost use Rattle.cv_real.specs.PathsInner.{IsNoName};
 
 use crate::names::{folder_of, is_own};
+use cv_base::Text;
 use std::alloc::{AllocError, Global};
 use std::fs::{File, Metadata, OpenFile};
 use std::io::{ErrorKind, Read, Write};
@@ -55,9 +58,19 @@ pub fn find_file(rt: &impl Files, path: &str, from: usize) -> io::Result<Option<
     Ok(seen(rt, path)?.filter(|found| found.is_file()))
 }
 
-/// Notes a folder once.
-pub fn note(notes: &mut Vec<String>, folder: &str) -> Result<(), AllocError> {
-    if notes.iter().any(|known| known.as_str() == folder) {
+/// Whether a folder is noted.
+fn is_noted(notes: &[String], folder: &str) -> bool
+    ensures { result ≡ is_noted notes.now folder.now }
+{
+    notes.iter().any(|known| known.as_str() == folder)
+}
+
+/// Notes a folder once. What was noted stays.
+pub fn note(notes: &mut Vec<String>, folder: &str) -> Result<(), AllocError>
+    ensures noted { OnOk result (IsTrue (is_noted notes.new.items folder.now)) }
+    ensures kept { Keeps notes.old.items notes.new.items }
+{
+    if is_noted(notes.as_slice(), folder) {
         return Ok(());
     }
     let alloc: Global = *notes.allocator();
@@ -66,7 +79,9 @@ pub fn note(notes: &mut Vec<String>, folder: &str) -> Result<(), AllocError> {
 }
 
 /// Makes a folder where nothing stands, and notes the one that it comes into.
-fn make_folder(rt: &impl Files, folder: &str, notes: &mut Vec<String>) -> io::Result<()> {
+fn make_folder(rt: &impl Files, folder: &str, notes: &mut Vec<String>) -> io::Result<()>
+    ensures { Keeps notes.old.items notes.new.items }
+{
     match seen(rt, folder)? {
         Some(found) if found.is_dir() => Ok(()),
         Some(_) => Err(io::Error::from(ErrorKind::NotADirectory)),
@@ -84,7 +99,10 @@ pub fn make_folders(
     path: &str,
     from: usize,
     notes: &mut Vec<String>,
-) -> io::Result<()> {
+) -> io::Result<()>
+    ensures noted { OnOk result (IsTrue (is_noted notes.new.items (folder_of path.now))) }
+    ensures kept { Keeps notes.old.items notes.new.items }
+{
     for end in from..path.len() {
         if let Some((folder, rest)) = path.split_at_checked(end) {
             if rest.starts_with('/') {
@@ -217,6 +235,15 @@ pub fn list_files<R: Files + AllocGlobal + Clone + Drop>(
     }
     found.sort_unstable();
     Ok(found)
+}
+
+/// The same names as texts of their own type.
+pub fn as_texts(alloc: Global, names: Vec<String>) -> Result<Vec<Text>, AllocError> {
+    let mut texts = Vec::with_capacity(alloc, names.len())?;
+    for name in names {
+        texts.push(Text::new(name))?;
+    }
+    Ok(texts)
 }
 
 /// Adds the files of a folder whose names begin with the prefix, and the folders that may hold others.

@@ -1,10 +1,10 @@
 //! All folders from one on, made durable without a list of them.
-ghost use Rattle.std.specs.Prelude.{◌≡◌, ◌↔◌, ◌⊎◌, ◌==◌, ◌+◌, ◌<◌, ◌++◌, [], ◌∷◌, All, List, ℕ, drop, length, map, position, IfOk, IfErr, IfSome, MatchOption, Err, IsOk, IsTrue, OnOk, ◌≤◌};
+ghost use Rattle.std.specs.Prelude.{◌≡◌, ◌↔◌, ◌==◌, ◌+◌, ◌<◌, ◌++◌, [], ◌∷◌, All, drop, length, map, position, IfOk, IfErr, IfSome, MatchOption, Err, IsOk, IsTrue, OnOk, true, false, ◌≤◌};
 ghost use Rattle.std.specs.IoError.{error_kind};
 ghost use Rattle.std.specs.List.{starts_with};
 ghost use Rattle.cv_real.specs.NamesInner.{above};
-ghost use Rattle.cv_real.specs.PathsInner.{IsNoName};
-ghost use Rattle.cv_real.specs.WalkInner.{comes_next, first_of, end_of, folder_in, IsNext, Looks, LooksAtAll, LooksRound, names_in};
+ghost use Rattle.cv_real.specs.PathsInner.{IsPassed};
+ghost use Rattle.cv_real.specs.WalkInner.{comes_next, first_of, folder_in, IsNext, Looks, LooksAtAll, LooksRound, names_in};
 
 use crate::ahead::Ahead;
 use crate::names::{NEXT, above, is_part};
@@ -60,6 +60,14 @@ fn is_refused(error: &io::Error) -> bool
     ensures { IsTrue result ↔ (error_kind error.now ≡ ErrorKind.PermissionDenied) }
 {
     matches!(error.kind(), ErrorKind::PermissionDenied)
+}
+
+/// Whether an error in a folder is passed over, since no name of the vault is behind it. In a closed folder no call tells of a
+/// name.
+fn is_passed(error: &io::Error, is_closed: bool) -> bool
+    ensures { IsTrue result ↔ IsPassed (error_kind error.now) is_closed }
+{
+    is_no_name(error) || (is_refused(error) && is_closed)
 }
 
 /// Whether a path comes next: behind the last one, and before the end of what is kept, if there is no room for more.
@@ -139,18 +147,16 @@ impl Place {
         ensures last { self.new.last ≡ self.old.last }
         ensures ahead { self.new.ahead ≡ self.old.ahead }
         ensures found { self.new.found ≡ self.old.found }
-        ensures passed { IsNoName (error_kind error.now) → IsOk result }
-        ensures refused { IsOk result → IsNoName (error_kind error.now)
-            ⊎ (error_kind error.now ≡ ErrorKind.PermissionDenied) }
+        ensures passed { IsPassed (error_kind error.now) false → IsOk result }
+        ensures refused { IsOk result → IsPassed (error_kind error.now) true }
         ensures ends { IfErr result (λ unsynced. unsynced ≡ Unsynced.NotOpened) }
     {
-        if is_no_name(error) {
-            return Ok(());
+        let is_closed = is_refused(error) && self.is_closed(rt);
+        if is_passed(error, is_closed) {
+            Ok(())
+        } else {
+            Err(Unsynced::NotOpened)
         }
-        if is_refused(error) && self.is_closed(rt) {
-            return Ok(());
-        }
-        Err(Unsynced::NotOpened)
     }
 
     /// Whether what has this name comes next, if it is a folder. Its paths are then set. Nothing stands in a folder whose path

@@ -1,5 +1,5 @@
 use Rattle.std.proofs.Common.{refl, ◌<◌, ◌≤◌, List, ℕ, length, subst, sym, ap, ◌∙◌, arith}
-use Rattle.cv_real.specs.NamesInner.{folder_of}
+use Rattle.cv_real.specs.Names.{folder_of}
 use Rattle.cv_real.proofs.LastParts.{without_slash_is, not_longer, folder_fits}
 use Rattle.cv_real.proofs.names.above.Goals as goal
 

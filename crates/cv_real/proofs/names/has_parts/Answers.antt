@@ -1,7 +1,7 @@
 use Rattle.std.proofs.Common.{lit<, rules, tests}
 use Rattle.std.proofs.lemmas.Iterator.Splits.{YieldsList-from_str_split}
 use Rattle.std.proofs.lemmas.Iterator.Search.{all_from_yields_List}
-use Rattle.cv_real.specs.NamesInner.{is_part}
+use Rattle.cv_real.specs.Names.{is_part}
 use Rattle.cv_real.proofs.names.has_parts.Goals as goal
 
 pub returns : goal.returns

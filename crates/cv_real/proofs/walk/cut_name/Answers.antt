@@ -1,7 +1,6 @@
-use Rattle.std.proofs.Common.{arith, ◌≡◌, ◌∷◌, [], ap, sym, ◌∙◌}
+use Rattle.std.proofs.Common.{arith, sym}
 use Rattle.std.proofs.lemmas.Grind.{common_steps}
 use Rattle.cv_real.proofs.CutNames.{one_name, first_name}
-use Rattle.cv_real.specs.WalkInner.{names_in}
 use Rattle.cv_real.proofs.walk.cut_name.Goals as goal
 
 pub returns-in_err-end-clause-cut : goal.returns-in_err-end-clause-cut

@@ -1,4 +1,4 @@
-use Rattle.std.proofs.Common.{◌≡◌, ◌<◌, ◌++◌, List, ℕ, length}
+use Rattle.std.proofs.Common.{◌≡◌, ◌++◌, List, ℕ, length}
 use Rattle.cv_real.specs.WalkInner.{LooksAtAll, names_in}
 use Rattle.cv_real.proofs.walk.look_at.Given as goal
 

@@ -1,0 +1,38 @@
+-- What a call of a vault over a folder leaves to the next sync.
+use Rattle.std.specs.Prelude.{ℕ, Bool, ◌≡◌, List, None, IsTrue, bytes_eq, string_bytes, ⊤}
+use Rattle.std.specs.List.{list_any}
+use Rattle.std.specs.declared.string.String.{String}
+use Rattle.cv_vault.specs.Disk.{Disk}
+use Rattle.cv_vault.specs.Moments.{Calls}
+use Rattle.cv_real.specs.declared.folder_vault.FolderVault.{FolderVault}
+use Rattle.cv_real.specs.Names.{is_name, folder_of, path_of}
+
+-- one of the notes is this folder
+abbrev pub is_noted : {A : Type 0} → List (String A) → List ℕ → Bool
+is_noted notes folder = list_any (λ note. bytes_eq (string_bytes note) folder) notes
+
+-- a folder that was noted is noted still
+abbrev pub Keeps : {A : Type 0} → List (String A) → List (String A) → Type 0
+Keeps before after = (folder : List ℕ) → IsTrue (is_noted before folder) → IsTrue (is_noted after folder)
+
+-- this is a name of the vault, and its path is set
+abbrev pub IsAt : {R F : Type 0} → FolderVault R F → List ℕ → Type 0
+IsAt vault name = IsTrue (is_name name) × (vault.path ≡ path_of (string_bytes vault.root) name)
+
+-- the folder of a name of the vault is noted
+abbrev pub Notes : {R F : Type 0} → FolderVault R F → List ℕ → Type 0
+Notes vault name = IsTrue (is_noted vault.folders.items (folder_of (path_of (string_bytes vault.root) name)))
+
+-- a call that changes no file: the vault's folder has the same path, the same folders are noted, and what was unsettled or lost is so still
+abbrev pub Stays : {R F : Type 0} → FolderVault R F → FolderVault R F → Type 0
+Stays before after =
+    (after.root ≡ before.root) × (after.folders ≡ before.folders) × (IsTrue before.is_unsettled → IsTrue after.is_unsettled) × (after.broken ≡ before.broken)
+
+-- a call that may change files: the same, but that more folders may be noted, and more may be lost
+abbrev pub Adds : {R F : Type 0} → FolderVault R F → FolderVault R F → Type 0
+Adds before after =
+    (after.root ≡ before.root) × Keeps before.folders.items after.folders.items × (IsTrue before.is_unsettled → IsTrue after.is_unsettled) × (IsTrue before.broken → IsTrue after.broken)
+
+-- the call of a vault that tells nothing of its disk, as that of any vault
+abbrev pub Untold : {V : Type 0} → (Disk → Disk → Type 0) → V → V → Type 0
+Untold R before after = Calls (λ _. None) (λ _. 0) (λ _ _ _. ⊤) R before after
