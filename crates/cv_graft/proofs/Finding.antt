@@ -166,8 +166,9 @@ pub none_or_one : (above below most before after : ℕ) → above < below → be
 none_or_one above below most before after deeper shorter (inl none) = (0, omega (arith, deeper, shorter), none)
 none_or_one above below most before after deeper shorter (inr one) = (1, omega (arith, deeper, shorter), one)
 
-pub one_more : (above below most before between after : ℕ) → above < below → between ≡ raised before → (k : ℕ) × (k + below < most) × (after ≡ raised_by k between) → (k : ℕ) × (k + above < most) × (after ≡ raised_by k before)
-one_more above below most before between after deeper one (k, le, is) = (suc k, omega (arith, deeper, le), is ∙ ap (raised_by k) one ∙ raised_more k before)
+pub one_more : (above below named : Path) (most before between after : ℕ) → below ≡ named → length above < length named → between ≡ raised before → (k : ℕ) × (k + length below < most) × (after ≡ raised_by k between)
+    → (k : ℕ) × (k + length above < most) × (after ≡ raised_by k before)
+one_more above below named most before between after place deeper one (k, le, is) = (suc k, omega (arith, ap length place, deeper, le), is ∙ ap (raised_by k) one ∙ raised_more k before)
 
 pub from_top : (above most before between after : ℕ) → between ≡ raised before → (k : ℕ) × (k + above < most) × (after ≡ raised_by k between) → RaisedAtMost most before after
 from_top above most before between after one (k, le, is) = (suc k, omega (arith, le), is ∙ ap (raised_by k) one ∙ raised_more k before)
@@ -247,8 +248,19 @@ module _ (shelf : Shelf) (hash : List ℕ) (t : Nodes) (p r : Path) (c : Content
   pub step_down : (below : Contents) → IsNestedCatalogue shelf c entry below → StepsTo below
   step_down below opened = step_to below opened.row opened.opened
 
-  pub step_count : (below : Contents) (s : StepsTo below) → length (cuts_above (at t c.at) r) ≡ length (cuts_above (at t below.at) s.f) + 1
+  step_count : (below : Contents) (s : StepsTo below) → length (cuts_above (at t c.at) r) ≡ length (cuts_above (at t below.at) s.f) + 1
   step_count below s = pass_count t p c.at r s.e s.f s.passes ∙ ap (λ (x : Path). length (cuts_above (at t x) s.f) + 1) (sym s.place)
+
+  -- and what is fetched below comes to the one that was fetched
+  pub step_taken : (below : Contents) → IsNestedCatalogue shelf c entry below → (before between after : ℕ) → between ≡ raised before
+      → ((f : Path) → OnWay t p below.at f → below ≡ contents_of t below.at → (k : ℕ) × (k + 1 ≤ length (cuts_above (at t below.at) f)) × (after ≡ raised_by k between))
+      → (k : ℕ) × (k + 1 ≤ length (cuts_above (at t c.at) r)) × (after ≡ raised_by k before)
+  step_taken below opened before between after one deep =
+      let s = step_down below opened in
+      let count = step_count below s in
+      let d = deep s.f s.on s.is_ in
+      let le = d.1 in
+      (suc d.0, omega (arith, count, le), d.2 ∙ ap (raised_by d.0) one ∙ raised_more d.0 before)
 
   pub more_than_one : 2 ≤ length (cuts_above (at t c.at) r)
   more_than_one =

@@ -18,8 +18,7 @@ use Rattle.cv_cut.specs.Catalogues.{cat, root_of, Fits}
 use Rattle.cv_cut.specs.Above.{cuts_above, OnWay}
 use Rattle.cv_graft.specs.Graft.{HasWay, Grafts}
 use Rattle.cv_graft.specs.Placed.{HasCuts}
-use Rattle.cv_ports.specs.Calls.{raised_by, RaisedAtMost}
-use Rattle.cv_ports.proofs.Laws.{raised_both}
+use Rattle.cv_ports.specs.Calls.{raised, raised_by, RaisedAtMost}
 use Rattle.cv_cut.specs.Reached.{HasCatalogue}
 use Rattle.cv_cut.specs.Opening.{IsUnread}
 use Rattle.cv_cut.specs.declared.load_fault.LoadFault.{LoadFault}
@@ -27,7 +26,7 @@ use Rattle.cv_cut.specs.declared.load_fault.LoadFault.TheVariants as load
 use Rattle.cv_graft.specs.Faults.{of_load}
 use Rattle.cv_graft.specs.WayInner.{IsMade, IsOffered, Finds, Rebuilds}
 use Rattle.cv_cut.specs.Catalogues.{contents_of}
-use Rattle.cv_graft.proofs.Finding.{opened_is}
+use Rattle.cv_graft.proofs.Finding.{opened_is, raised_more}
 use Rattle.cv_rows.specs.Catalogue.{Contents}
 use Rattle.cv_graft.specs.declared.grafted.Grafted.{Grafted}
 use Rattle.cv_graft.specs.declared.made.Made.{Made}
@@ -116,9 +115,14 @@ top_is shelf root t p top k way some has none =
 pub top_count : (t : Nodes) (p : Path) (k : Contents) → IsTop t p k → length (cuts_above (at t k.at) p) ≡ length (cuts_above t p)
 top_count t p k h = ap (λ (x : Path). length (cuts_above (at t x) p)) h.place ∙ ap (λ (u : Nodes). length (cuts_above u p)) (at-root t)
 
--- two walks, one after another
-pub two_walks : (a b : ℕ) (old between after : ℕ) (k m : ℕ) → k ≤ a → between ≡ raised_by k old → m ≤ b → after ≡ raised_by m between → RaisedAtMost (a + b) old after
-two_walks a b old between after k m le is le_ then_ = raised_both a b old between after (k, le, is) (m, le_, then_)
+-- and what is fetched below it comes to the one that was fetched
+pub top_taken : (t : Nodes) (p : Path) (k : Contents) → IsTop t p k → (before between after : ℕ) → between ≡ raised before
+    → (OnWay t p k.at p → k ≡ contents_of t k.at → (n : ℕ) × (n + 1 ≤ length (cuts_above (at t k.at) p)) × (after ≡ raised_by n between)) → RaisedAtMost (length (cuts_above t p)) before after
+top_taken t p k top before between after one deep =
+    let count = top_count t p k top in
+    let d = deep top.on top.is in
+    let le = d.1 in
+    (suc d.0, omega (arith, le, count), d.2 ∙ ap (raised_by d.0) one ∙ raised_more d.0 before)
 
 pub rebuilt_at : (t' : Nodes) (p : Path) (k : Contents) (t : Nodes) (before after : List Object) (r : Result Made GraftFault) → IsTop t p k → Rebuilds t' k.at p before after r → Rebuilds t' [] p before after r
 rebuilt_at t' p k t before after r h m = subst (λ (x : Path). Rebuilds t' x p before after r) h.place m

@@ -5,6 +5,7 @@ mod Rebuilds
 mod Grafts
 mod Both
 mod Parentless
+mod Unplaced
 mod RowsAt
 mod Crossing
 mod PlacedParts

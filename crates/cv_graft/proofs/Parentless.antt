@@ -67,6 +67,9 @@ module _ (shelf : Shelf) (root : List ℕ) (t : Nodes) (p : Path) (way : HasCuts
   place_held : (c : Contents) → IsOfCut t p c → HasPlace c p → has_place t p ≡ true
   place_held c x h = place_there t p c.at c way.tree x.on.cut (way.fits c.at x.on.cut (way_covers t p c.at x.rest x.on) (some_of t p c.at x.rest x.on)).apart x.is h
 
+  pub held_there : (c : Contents) (r : Path) → OnWay t p c.at r → c ≡ contents_of t c.at → HasPlace c p → has_place t p ≡ true
+  held_there c r on is = place_held c (record { rest = r; on = on; is = is })
+
   holder_place : (c : Contents) → IsHolder shelf root p c → HasPlace c p → has_place t p ≡ true
   holder_place c h place = place_held c (of_cut_there c h.on h.has) place
 

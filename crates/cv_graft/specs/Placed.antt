@@ -1,8 +1,8 @@
 -- What comes of a part that is set at a path by the catalogues on the way.
-use Rattle.std.specs.Prelude.{◌≡◌, ◌≢◌, ℕ, true, List, [], ◌++◌, map, reverse, length, Contains, Some, Result, Ok, Err}
+use Rattle.std.specs.Prelude.{◌≡◌, ◌≢◌, ℕ, true, List, [], ◌++◌, map, reverse, length, Contains, Some, IsSome, Result, Ok, Err}
 use Rattle.std.specs.FinMap.{get}
 use Rattle.sha1.specs.Sha1.{sha1}
-use Rattle.cv_base.specs.Path.{Path, covers}
+use Rattle.cv_base.specs.Path.{Path, covers, key_of}
 use Rattle.cv_base.specs.ObjectId.{object_id}
 use Rattle.cv_base.specs.declared.attr.Attr.{Attr}
 use Rattle.cv_base.specs.declared.id.Kind.TheVariants.{Catalogue}
@@ -54,6 +54,26 @@ Places t p (Err (fault.CatalogueFull c)) = IsFullOver t p c
 Places t p (Err fault.Failed) = Unit {0}
 Places t p (Err (fault.Damaged id found)) = ⊥
 Places t p (Err fault.NoMemory) = Unit {0}
+
+-- two paths share a key that a part has behind the path at which it is set
+pub record SharesOwn (s : Nodes) (p a b : Path) : Type 0 where
+  pub first : Path
+  pub second : Path
+  pub has_first : IsSome (get s first)
+  pub has_second : IsSome (get s second)
+  pub first_is : a ≡ p ++ first
+  pub second_is : b ≡ p ++ second
+  pub differ : a ≢ b
+  pub keys : key_of a ≡ key_of b
+
+-- nothing is made, and no paths are named but two of the part's own
+abbrev pub PlacesNothing : Nodes → Path → Result Grafted GraftFault → Type 0
+PlacesNothing s p (Ok g) = ⊥
+PlacesNothing s p (Err (fault.PathCollision a b)) = SharesOwn s p a b
+PlacesNothing s p (Err (fault.CatalogueFull c)) = ⊥
+PlacesNothing s p (Err fault.Failed) = Unit {0}
+PlacesNothing s p (Err (fault.Damaged id found)) = Unit {0}
+PlacesNothing s p (Err fault.NoMemory) = Unit {0}
 
 -- the shelf has each of these objects
 pub record HasObjects (shelf : Shelf) (objects : List Object) : Type 0 where

@@ -22,6 +22,15 @@ use Rattle.cv_graft.specs.declared.made.Made.{Made}
 use Rattle.cv_graft.specs.declared.graft_fault.GraftFault.{GraftFault}
 use Rattle.cv_graft.specs.declared.graft_fault.GraftFault.TheVariants as fault
 
+-- what is made, and what names paths, is answered only where this is so
+abbrev pub WhereMade : {X : Type 0} → Type 0 → Result X GraftFault → Type 0
+WhereMade so (Ok made) = so
+WhereMade so (Err (fault.PathCollision a b)) = so
+WhereMade so (Err (fault.CatalogueFull c)) = so
+WhereMade so (Err fault.Failed) = Unit {0}
+WhereMade so (Err (fault.Damaged id found)) = Unit {0}
+WhereMade so (Err fault.NoMemory) = Unit {0}
+
 -- ---- the catalogue that directly holds the path
 
 -- no row that stays has the key of a path that comes

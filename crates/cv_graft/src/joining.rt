@@ -29,7 +29,11 @@ fn is_parent(above: &RepoPath, path: &RepoPath) -> bool
 }
 
 /// Whether the directory in which a path stands has a row, below which other rows of the catalogue may stand.
-fn has_place(alloc: Global, catalogue: &Catalogue, path: &RepoPath) -> Result<bool, NoMemory>
+pub(crate) fn has_place(
+    alloc: Global,
+    catalogue: &Catalogue,
+    path: &RepoPath,
+) -> Result<bool, NoMemory>
     ensures { IfOk result (λ found. found ≡ true → HasPlace catalogue.now path.now) }
 {
     let Some(row) = catalogue.find(path.parent_key()) else {

@@ -12,6 +12,7 @@ ghost use Rattle.cv_rows.specs.Made.{AreApart, keys_of, texts_of};
 ghost use Rattle.cv_rows.specs.Nested.{IsNested};
 ghost use Rattle.cv_rows.specs.Row.{IsRow};
 ghost use Rattle.std.specs.List.{AllByRecursion};
+ghost use Rattle.cv_tree.specs.Changes.{has_place};
 ghost use Rattle.cv_tree.specs.Tree.{Nodes, IsTree, at};
 ghost use Rattle.cv_cut.specs.Above.{cuts_above, replaced, OnWay};
 ghost use Rattle.cv_cut.specs.Catalogues.{contents_of};
@@ -20,13 +21,14 @@ ghost use Rattle.cv_cut.specs.Cuts.{is_cut};
 ghost use Rattle.cv_cut.specs.Piece.{IsPiece};
 ghost use Rattle.cv_graft.specs.Graft.{HasOwnIds};
 ghost use Rattle.cv_graft.specs.Placed.{HasCuts, LeadsTo};
-ghost use Rattle.cv_graft.specs.PlacedInner.{ArePathsCrossed, IsAskedPart, IsMeeting, JoinsLists, JoinsPart, Sets};
+ghost use Rattle.cv_graft.specs.PlacedInner.{ArePathsCrossed, IsAskedPart, IsMeeting, JoinsLists, JoinsPart, Sets, WhereMade};
+ghost use Rattle.cv_graft.specs.Places.{HasPlace};
 ghost use Rattle.cv_graft.specs.Way.{TellsDamage};
 ghost use Rattle.cv_graft.specs.WayInner.{IsOfWayOf};
 ghost use Rattle.cv_graft.specs.declared.graft_fault.GraftFault.TheVariants as faults;
 
 use crate::graft_fault::GraftFault;
-use crate::joining::without;
+use crate::joining::{has_place, without};
 use crate::made::Made;
 use crate::rebuilding::{keep, with_entry};
 use crate::way::entry_above;
@@ -73,7 +75,7 @@ fn with_part(
 {
     match rest.with_checked(alloc, rows, nested) {
         Ok(Some(joined)) => Ok(joined),
-        // The catalogue isn't that of a tree which has a directory above the path.
+        // Together they are those of no tree.
         Ok(None) => Err(GraftFault::NoMemory),
         Err(WithFault::Full) => Err(GraftFault::CatalogueFull(at.copy(alloc)?)),
         Err(WithFault::Collision { first: _ }) => unreachable!(),
@@ -106,9 +108,13 @@ fn joined_part(
     requires piece { IsPiece piece.now piece.now.tree path.now }
     requires only { (d : List (List ℕ)) → is_cut piece.now.tree d ≡ true → d ≢ [] → covers path.now d ≡ true }
     ensures joins { JoinsPart catalogue path.now piece.now.tree result }
+    ensures place { WhereMade (HasPlace catalogue path.now) result }
     ensures added { OnOk result (added.new.items ≡ added.old.items ++ map (catalogue_object piece.now.tree) piece.now.cuts) }
 {
     let rest = without(alloc, catalogue, path)?;
+    if !has_place(alloc, &rest, path)? {
+        return Err(GraftFault::NoMemory);
+    }
     check_paths(alloc, &rest, piece.region.as_slice())?;
     let made = cut_piece(alloc, piece)?;
     add_all(added, made.catalogues.into_vec())?;
@@ -133,6 +139,7 @@ fn rejoined_part(
     requires piece { IsPiece piece.now piece.now.tree path.now }
     requires only { (d : List (List ℕ)) → is_cut piece.now.tree d ≡ true → d ≢ [] → covers path.now d ≡ true }
     ensures made { (t : Nodes) (r : List (List ℕ)) → IsAskedPart t piece.now.tree path.now catalogue.at r → catalogue ≡ contents_of t catalogue.at → Sets t piece.now.tree path.now catalogue.at r added.old.items added.new.items result }
+    ensures place { WhereMade (HasPlace catalogue path.now) result }
     ensures unread { IsErrOf result faults.Failed → ⊥ }
     ensures undamaged { (standing : Shelf_) → TellsDamage standing (λ id. ⊥) result }
     ensures digest { IfOk result (λ made. IsDigest made.hash) }
@@ -162,6 +169,8 @@ pub(crate) fn rebuilt_with<S: Shelf>(
     requires only { (d : List (List ℕ)) → is_cut piece.now.tree d ≡ true → d ≢ [] → covers path.now d ≡ true }
     ensures told { WhereTold (S.shelf shelf.old) (λ standing. (hash : List ℕ) (t : Nodes) (r : List (List ℕ)) → HasCuts standing hash t path.now → IsTree (replaced t piece.now.tree path.now)
         → OnWay t path.now catalogue.at r → catalogue ≡ contents_of t catalogue.at → Sets t piece.now.tree path.now catalogue.at r added.old.items added.new.items result) }
+    ensures place { WhereTold (S.shelf shelf.old) (λ standing. (hash : List ℕ) (t : Nodes) (r : List (List ℕ)) → HasCuts standing hash t path.now → OnWay t path.now catalogue.at r → catalogue ≡ contents_of t catalogue.at
+        → WhereMade (has_place t path.now ≡ true) result) }
     ensures lead { WhereTold (S.shelf shelf.old) (λ standing. OnOk result (LeadsTo standing path.now catalogue)) }
     ensures digest { IfOk result (λ made. IsDigest made.hash) }
     ensures own { OnOk result (HasOwnIds added.old.items → HasOwnIds added.new.items) }

@@ -12,7 +12,7 @@ ghost use Rattle.cv_tree.specs.Tree.{Nodes, is_directory, put};
 ghost use Rattle.cv_ports.specs.Shelf.{Shelf as Shelf_};
 ghost use Rattle.cv_cut.specs.Above.{cuts_above};
 ghost use Rattle.cv_graft.specs.Graft.{HasOwnIds};
-ghost use Rattle.cv_graft.specs.Placed.{HasCuts, HasLead, Places};
+ghost use Rattle.cv_graft.specs.Placed.{HasCuts, HasLead, Places, PlacesNothing};
 ghost use Rattle.cv_graft.specs.Way.{IsOfWay, TellsDamage};
 ghost use Rattle.cv_graft.specs.declared.graft_fault.GraftFault.TheVariants as faults;
 
@@ -72,6 +72,7 @@ fn below_root_with<S: Shelf>(
     requires unmarked { ends_in marker path.now ≡ false }
     requires limits { FitsUnder path.now (nodes_of (option_copied part)) }
     ensures told { WhereTold (S.shelf shelf.old) (λ standing. (t : Nodes) → HasCuts standing base.now.hash t path.now → IsTrue (has_place t path.now) → Places (put t path.now (nodes_of (option_copied part.entry))) path.now result) }
+    ensures parentless { WhereTold (S.shelf shelf.old) (λ standing. (t : Nodes) → HasCuts standing base.now.hash t path.now → has_place t path.now ≡ false → PlacesNothing (nodes_of (option_copied part.entry)) path.now result) }
     ensures lead { WhereTold (S.shelf shelf.old) (λ standing. OnOk result (HasLead standing base.now.hash path.now)) }
     ensures own { IfOk result (λ g. HasOwnIds g.added) }
     ensures damaged { WhereTold (S.shelf shelf.old) (λ standing. TellsDamage standing (IsOfWay standing base.now.hash path.now) result) }
@@ -104,9 +105,9 @@ fn below_root_with<S: Shelf>(
 /// former are read, as the tree has them, and at most as many as the path has names; at the root nothing is, and the part is
 /// the tree.
 ///
-/// A catalogue on the way that isn't there or doesn't decode is answered as want of memory, and so is a part whose path's parent
-/// is no directory: below the root an answer says that each catalogue on the way was there. Where there is no part, such a path
-/// changes nothing.
+/// A catalogue on the way that isn't there or doesn't decode is answered as want of memory: below the root an answer says that
+/// each catalogue on the way was there. So is a path whose parent is no directory, but for a part of which two paths share a key:
+/// that is looked for first.
 pub fn place<S: Shelf>(
     alloc: Global,
     shelf: &mut S,
@@ -120,6 +121,7 @@ pub fn place<S: Shelf>(
     requires limits { FitsUnder path.now (nodes_of (option_copied part)) }
     ensures told { WhereTold (S.shelf shelf.old) (λ standing. (t : Nodes) → HasCuts standing base.now.hash t path.now → IsTrue (has_place t path.now) → Places (put t path.now (nodes_of (option_copied part.entry))) path.now result) }
     ensures whole { path.now ≡ [] → Places (nodes_of (option_copied part.entry)) [] result }
+    ensures parentless { WhereTold (S.shelf shelf.old) (λ standing. (t : Nodes) → HasCuts standing base.now.hash t path.now → has_place t path.now ≡ false → PlacesNothing (nodes_of (option_copied part.entry)) path.now result) }
     ensures lead { WhereTold (S.shelf shelf.old) (λ standing. OnOk result (path.now ≢ [] → HasLead standing base.now.hash path.now)) }
     ensures own { IfOk result (λ g. HasOwnIds g.added) }
     ensures damaged { WhereTold (S.shelf shelf.old) (λ standing. TellsDamage standing (IsOfWay standing base.now.hash path.now) result) }

@@ -1,18 +1,17 @@
-use Rattle.std.proofs.Common.{suc, length, Result, List, [], Ok, Err, ap, subst, ◌∙◌, arith}
+use Rattle.std.proofs.Common.{length, Result, List, [], Ok, Err, ap, subst, ◌∙◌, arith}
 use Rattle.cv_base.specs.declared.id.Kind.TheVariants.{Catalogue}
 use Rattle.cv_base.specs.declared.object.Object.{Object}
 use Rattle.cv_graft.specs.Both.{GraftsBoth}
 use Rattle.cv_graft.specs.Graft.{Grafts}
 use Rattle.cv_graft.proofs.Both.{grafted_top, refused_top, unread_both}
-use Rattle.cv_graft.proofs.Finding.{cuts_way, from_top, some_count, some_long, raised_more, top_unread}
+use Rattle.cv_graft.proofs.Finding.{cuts_way, from_top, some_count, some_long, top_unread}
 use Rattle.cv_graft.proofs.Holders.{top_blamed, tells_way, tells_top, tells_left, tells_right}
-use Rattle.cv_graft.proofs.Grafts.{tree_after, offered_of, top_is, top_count, two_walks, rebuilt_at, made_graft, fault_graft, unread_graft}
+use Rattle.cv_graft.proofs.Grafts.{tree_after, offered_of, top_is, top_taken, rebuilt_at, made_graft, fault_graft, unread_graft}
 use Rattle.cv_graft.specs.Way.{IsOfEither, TellsDamage}
 use Rattle.cv_graft.specs.WayInner.{IsMade}
 use Rattle.cv_graft.specs.declared.grafted.Grafted.{Grafted}
 use Rattle.cv_graft.specs.declared.graft_fault.GraftFault.{GraftFault}
 use Rattle.cv_graft.proofs.grafting.below_root.Goals as goal
-use Rattle.cv_ports.specs.Calls.{raised_by}
 use Rattle.cv_ports.proofs.Laws.{raised_both}
 use Rattle.cv_cut.specs.Above.{replaced}
 use Rattle.cv_cut.proofs.Lemmas.{left_by}
@@ -28,7 +27,7 @@ pub returns-in_err-catalogue-clause-taken : goal.returns-in_err-catalogue-clause
 returns-in_err-catalogue-clause-taken g c = λ standing told t n way other.
     let p = c.args.path.now in
     let one = c.holder.ensures.taken standing told n (cuts_way other) in
-    two_walks _ _ _ (g.S.Shelf.taken c.holder.new.shelf) _ one.0 1 one.1 one.2 (some_count t p c.requires.path) c.in_err-catalogue.ensures.taken
+    raised_both _ _ _ _ _ one (1, some_count t p c.requires.path, c.in_err-catalogue.ensures.taken)
 
 pub returns-in_err-made-clause-told : goal.returns-in_err-made-clause-told
 returns-in_err-made-clause-told g c = λ standing told t n ways place.
@@ -50,10 +49,8 @@ returns-in_err-made-clause-taken g c = λ standing told t n way other.
     let cuts = cuts_way way in
     let top = top_is standing c.args.newest.now t p c.root-top.result c.in_ok-catalogue.catalogue cuts c.requires.path (c.in_ok-catalogue.ensures.told standing there) c.root-top.ensures in
     let one = c.holder.ensures.taken standing told n (cuts_way other) in
-    let deep = c.rebuilt.ensures.taken standing (c.catalogue_at.ensures.unchanged ∙ there) c.args.newest.now.hash t p cuts top.on top.is in
-    let le = deep.1 in
-    let count = top_count t p c.in_ok-catalogue.catalogue top in
-    two_walks _ _ _ (g.S.Shelf.taken c.holder.new.shelf) _ one.0 (suc deep.0) one.1 one.2 (omega (arith, le, count)) (deep.2 ∙ ap (raised_by deep.0) c.catalogue_at.ensures.taken ∙ raised_more deep.0 (g.S.Shelf.taken c.holder.new.shelf))
+    let below = top_taken t p c.in_ok-catalogue.catalogue top _ _ _ c.catalogue_at.ensures.taken (c.rebuilt.ensures.taken standing (c.catalogue_at.ensures.unchanged ∙ there) c.args.newest.now.hash t p cuts) in
+    raised_both _ _ _ _ _ one below
 
 pub returns-clause-told : goal.returns-clause-told
 returns-clause-told g c = λ standing told t n ways place.
@@ -75,10 +72,8 @@ returns-clause-taken g c = λ standing told t n way other.
     let cuts = cuts_way way in
     let top = top_is standing c.args.newest.now t p c.root-top.result c.in_ok-catalogue.catalogue cuts c.requires.path (c.in_ok-catalogue.ensures.told standing there) c.root-top.ensures in
     let one = c.holder.ensures.taken standing told n (cuts_way other) in
-    let deep = c.rebuilt.ensures.taken standing (c.catalogue_at.ensures.unchanged ∙ there) c.args.newest.now.hash t p cuts top.on top.is in
-    let le = deep.1 in
-    let count = top_count t p c.in_ok-catalogue.catalogue top in
-    two_walks _ _ _ (g.S.Shelf.taken c.holder.new.shelf) _ one.0 (suc deep.0) one.1 one.2 (omega (arith, le, count)) (deep.2 ∙ ap (raised_by deep.0) c.catalogue_at.ensures.taken ∙ raised_more deep.0 (g.S.Shelf.taken c.holder.new.shelf))
+    let below = top_taken t p c.in_ok-catalogue.catalogue top _ _ _ c.catalogue_at.ensures.taken (c.rebuilt.ensures.taken standing (c.catalogue_at.ensures.unchanged ∙ there) c.args.newest.now.hash t p cuts) in
+    raised_both _ _ _ _ _ one below
 
 pub returns-in_err-catalogue-clause-reads : goal.returns-in_err-catalogue-clause-reads
 returns-in_err-catalogue-clause-reads g c = g.met.S.Shelf.reads_then _ _ _ c.holder.ensures.reads c.catalogue_at.ensures.reads

@@ -1,18 +1,19 @@
-use Rattle.std.proofs.Common.{◌<◌, length, refl, sym, suc, Result, ap, subst, ◌∙◌, arith}
-use Rattle.cv_base.specs.Path.{Path}
+use Rattle.std.proofs.Common.{◌≡◌, true, refl, Result, subst, ◌∙◌, arith}
 use Rattle.cv_rows.specs.Catalogue.{Contents}
+use Rattle.cv_tree.specs.Changes.{has_place}
 use Rattle.cv_graft.specs.Placed.{LeadsTo, holds, passes}
-use Rattle.cv_graft.specs.PlacedInner.{Sets}
+use Rattle.cv_graft.specs.PlacedInner.{Sets, WhereMade}
 use Rattle.cv_graft.specs.Way.{HasNone, IsNext, TellsDamage}
 use Rattle.cv_graft.specs.WayInner.{IsOfWayOf}
 use Rattle.cv_graft.specs.declared.made.Made.{Made}
 use Rattle.cv_graft.specs.declared.graft_fault.GraftFault.{GraftFault}
 use Rattle.cv_graft.proofs.Holders.{tells_next, tells_below, tells_none}
 use Rattle.cv_graft.proofs.Nexts.{above_shorter, next_shorter}
-use Rattle.cv_graft.proofs.Finding.{none_or_one, one_more, raised_more, none_holds, step_unread, step_down, step_count, more_than_one, at_most_below}
+use Rattle.cv_graft.proofs.Finding.{none_or_one, one_more, none_holds, step_unread, step_down, step_taken, more_than_one, at_most_below}
+use Rattle.cv_graft.proofs.Parentless.{held_there}
+use Rattle.cv_graft.proofs.Unplaced.{unread_there, where_made}
 use Rattle.cv_graft.proofs.PlacedAbove.{asked_part, if_ok, passed_part, set_above, set_fault, unread_set}
 use Rattle.cv_graft.proofs.placing.+rebuilt_with.Goals as goal
-use Rattle.cv_ports.specs.Calls.{raised_by}
 use Rattle.cv_cut.proofs.Lemmas.{left_by}
 
 pub returns-in_default-clause-told : goal.returns-in_default-clause-told
@@ -56,29 +57,20 @@ returns-in_err-made-clause-told g m c = λ standing told hash t r way after w is
 pub returns-in_err-made-clause-taken : goal.returns-in_err-made-clause-taken
 returns-in_err-made-clause-taken g m c = λ standing told hash t r way w is.
     let next : IsNext c.args.catalogue c.args.path.now c.in-Some.entry = rw c.in-Some.is at c.in_ok-entry.ensures.found in
-    let s = step_down standing hash t c.args.path.now r c.args.catalogue c.in-Some.entry way w is next c.in_ok-below.below (c.in_ok-below.ensures.told standing told) in
-    let count = step_count standing hash t c.args.path.now r c.args.catalogue c.in-Some.entry way w is next c.in_ok-below.below s in
-    let deep = c.rebuilt_with.ensures.taken standing (c.nested_catalogue.ensures.unchanged ∙ told) hash t s.f way s.on s.is_ in
-    let le = deep.1 in
-    (suc deep.0, omega (arith, count, le), deep.2 ∙ ap (raised_by deep.0) c.in_ok-below.ensures.taken ∙ raised_more deep.0 (g.S.Shelf.taken c.args.shelf.now))
+    step_taken standing hash t c.args.path.now r c.args.catalogue c.in-Some.entry way w is next c.in_ok-below.below (c.in_ok-below.ensures.told standing told) _ _ _ c.in_ok-below.ensures.taken
+    (λ f. c.rebuilt_with.ensures.taken standing (c.nested_catalogue.ensures.unchanged ∙ told) hash t f way)
 
 pub returns-in_err-keep-clause-taken : goal.returns-in_err-keep-clause-taken
 returns-in_err-keep-clause-taken g m c = λ standing told hash t r way w is.
     let next : IsNext c.args.catalogue c.args.path.now c.in-Some.entry = rw c.in-Some.is at c.in_ok-entry.ensures.found in
-    let s = step_down standing hash t c.args.path.now r c.args.catalogue c.in-Some.entry way w is next c.in_ok-below.below (c.in_ok-below.ensures.told standing told) in
-    let count = step_count standing hash t c.args.path.now r c.args.catalogue c.in-Some.entry way w is next c.in_ok-below.below s in
-    let deep = c.rebuilt_with.ensures.taken standing (c.nested_catalogue.ensures.unchanged ∙ told) hash t s.f way s.on s.is_ in
-    let le = deep.1 in
-    (suc deep.0, omega (arith, count, le), deep.2 ∙ ap (raised_by deep.0) c.in_ok-below.ensures.taken ∙ raised_more deep.0 (g.S.Shelf.taken c.args.shelf.now))
+    step_taken standing hash t c.args.path.now r c.args.catalogue c.in-Some.entry way w is next c.in_ok-below.below (c.in_ok-below.ensures.told standing told) _ _ _ c.in_ok-below.ensures.taken
+    (λ f. c.rebuilt_with.ensures.taken standing (c.nested_catalogue.ensures.unchanged ∙ told) hash t f way)
 
 pub returns-clause-taken : goal.returns-clause-taken
 returns-clause-taken g m c = λ standing told hash t r way w is.
     let next : IsNext c.args.catalogue c.args.path.now c.in-Some.entry = rw c.in-Some.is at c.in_ok-entry.ensures.found in
-    let s = step_down standing hash t c.args.path.now r c.args.catalogue c.in-Some.entry way w is next c.in_ok-below.below (c.in_ok-below.ensures.told standing told) in
-    let count = step_count standing hash t c.args.path.now r c.args.catalogue c.in-Some.entry way w is next c.in_ok-below.below s in
-    let deep = c.rebuilt_with.ensures.taken standing (c.nested_catalogue.ensures.unchanged ∙ told) hash t s.f way s.on s.is_ in
-    let le = deep.1 in
-    (suc deep.0, omega (arith, count, le), deep.2 ∙ ap (raised_by deep.0) c.in_ok-below.ensures.taken ∙ raised_more deep.0 (g.S.Shelf.taken c.args.shelf.now))
+    step_taken standing hash t c.args.path.now r c.args.catalogue c.in-Some.entry way w is next c.in_ok-below.below (c.in_ok-below.ensures.told standing told) _ _ _ c.in_ok-below.ensures.taken
+    (λ f. c.rebuilt_with.ensures.taken standing (c.nested_catalogue.ensures.unchanged ∙ told) hash t f way)
 
 pub returns-clause-told : goal.returns-clause-told
 returns-clause-told g m c = λ standing told hash t r way after w is.
@@ -140,15 +132,35 @@ returns-in_err-below-clause-most g m c =
 
 pub returns-in_err-made-clause-most : goal.returns-in_err-made-clause-most
 returns-in_err-made-clause-most g m c =
-    let deeper = subst (λ (q : Path). length c.args.catalogue.at < length q) (sym c.in_ok-below.ensures.place) c.nested_catalogue.ensures.deeper in
-    one_more _ _ _ _ _ _ deeper c.in_ok-below.ensures.taken c.rebuilt_with.ensures.most
+    one_more _ _ _ _ _ _ _ c.in_ok-below.ensures.place c.nested_catalogue.ensures.deeper c.in_ok-below.ensures.taken c.rebuilt_with.ensures.most
 
 pub returns-in_err-keep-clause-most : goal.returns-in_err-keep-clause-most
 returns-in_err-keep-clause-most g m c =
-    let deeper = subst (λ (q : Path). length c.args.catalogue.at < length q) (sym c.in_ok-below.ensures.place) c.nested_catalogue.ensures.deeper in
-    one_more _ _ _ _ _ _ deeper c.in_ok-below.ensures.taken c.rebuilt_with.ensures.most
+    one_more _ _ _ _ _ _ _ c.in_ok-below.ensures.place c.nested_catalogue.ensures.deeper c.in_ok-below.ensures.taken c.rebuilt_with.ensures.most
 
 pub returns-clause-most : goal.returns-clause-most
 returns-clause-most g m c =
-    let deeper = subst (λ (q : Path). length c.args.catalogue.at < length q) (sym c.in_ok-below.ensures.place) c.nested_catalogue.ensures.deeper in
-    one_more _ _ _ _ _ _ deeper c.in_ok-below.ensures.taken c.rebuilt_with.ensures.most
+    one_more _ _ _ _ _ _ _ c.in_ok-below.ensures.place c.nested_catalogue.ensures.deeper c.in_ok-below.ensures.taken c.rebuilt_with.ensures.most
+
+pub returns-in_default-clause-place : goal.returns-in_default-clause-place
+returns-in_default-clause-place g m c = λ standing told hash t r way w is.
+    where_made (held_there standing hash t c.args.path.now way c.args.catalogue r w is) c.rejoined_part.result c.rejoined_part.ensures.place
+
+pub returns-in_err-below-clause-place : goal.returns-in_err-below-clause-place
+returns-in_err-below-clause-place g m c = λ standing told hash t r way w is.
+    left_by (λ (x : Result Made GraftFault). WhereMade (has_place t c.args.path.now ≡ true) x) _ _ c.from_residual-in_err-below.ensures.1 (unread_there Made (has_place t c.args.path.now ≡ true) _)
+
+pub returns-in_err-made-clause-place : goal.returns-in_err-made-clause-place
+returns-in_err-made-clause-place g m c = λ standing told hash t r way w is.
+    let p = c.args.path.now in
+    let next : IsNext c.args.catalogue p c.in-Some.entry = rw c.in-Some.is at c.in_ok-entry.ensures.found in
+    let s = step_down standing hash t p r c.args.catalogue c.in-Some.entry way w is next c.in_ok-below.below (c.in_ok-below.ensures.told standing told) in
+    left_by (λ (x : Result Made GraftFault). WhereMade (has_place t p ≡ true) x) _ _ c.from_residual-in_err-made.ensures.1
+    (c.in_err-made.ensures.place standing (c.nested_catalogue.ensures.unchanged ∙ told) hash t s.f way s.on s.is_)
+
+pub returns-clause-place : goal.returns-clause-place
+returns-clause-place g m c = λ standing told hash t r way w is.
+    let p = c.args.path.now in
+    let next : IsNext c.args.catalogue p c.in-Some.entry = rw c.in-Some.is at c.in_ok-entry.ensures.found in
+    let s = step_down standing hash t p r c.args.catalogue c.in-Some.entry way w is next c.in_ok-below.below (c.in_ok-below.ensures.told standing told) in
+    c.in_ok-made.ensures.place standing (c.nested_catalogue.ensures.unchanged ∙ told) hash t s.f way s.on s.is_

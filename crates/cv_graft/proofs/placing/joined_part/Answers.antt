@@ -10,7 +10,9 @@ use Rattle.cv_rows.specs.declared.row.Row.{Row}
 use Rattle.cv_cut.specs.Cut.{is_other, nested_in, row_in}
 use Rattle.cv_cut.proofs.Lemmas.{entries_spelled, left_by, rows_spelled}
 use Rattle.cv_graft.specs.PlacedInner.{ArePathsCrossed, JoinsPart, Rests}
+use Rattle.cv_graft.proofs.Crossing.{place_before}
 use Rattle.cv_graft.proofs.PlacedParts.{all_keys, all_texts, meets_at, full_at, none_full, lists_join}
+use Rattle.cv_graft.proofs.Unplaced.{made_there}
 use Rattle.cv_graft.proofs.placing.joined_part.Goals as goal
 
 pub cut_piece-requires : goal.cut_piece-requires
@@ -68,3 +70,12 @@ returns-clause-joins c =
     let rests : Rests c.args.catalogue p m = record { rest = c.in_ok-rest.rest; is_ = c.in_ok-rest.ensures.rules; without = c.in_ok-rest.ensures.left; crossed = crossed } in
     lists_join c.args.catalogue p m c.into_vec-rows.result.items c.into_vec-nested.result.items c.with_part.result rests
     (none_full m p c.args.piece.now.cuts c.requires.piece.whole c.requires.piece.cuts_are c.in_ok-made.ensures.fits) rows nested c.with_part.ensures
+
+pub returns-in_err-check_paths-clause-place : goal.returns-in_err-check_paths-clause-place
+returns-in_err-check_paths-clause-place c = made_there (place_before c.args.catalogue c.in_ok-rest.rest c.args.path.now c.args.path.now c.in_ok-rest.ensures.left (c.in_ok-has_place.ensures c.if-not-branch.false)) _
+
+pub returns-in_err-made-clause-place : goal.returns-in_err-made-clause-place
+returns-in_err-made-clause-place c = made_there (place_before c.args.catalogue c.in_ok-rest.rest c.args.path.now c.args.path.now c.in_ok-rest.ensures.left (c.in_ok-has_place.ensures c.if-not-branch.false)) _
+
+pub returns-clause-place : goal.returns-clause-place
+returns-clause-place c = made_there (place_before c.args.catalogue c.in_ok-rest.rest c.args.path.now c.args.path.now c.in_ok-rest.ensures.left (c.in_ok-has_place.ensures c.if-not-branch.false)) _

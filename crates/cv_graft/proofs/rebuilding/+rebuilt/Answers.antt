@@ -1,5 +1,4 @@
-use Rattle.std.proofs.Common.{◌<◌, length, refl, sym, suc, Result, ap, subst, ◌∙◌, arith}
-use Rattle.cv_base.specs.Path.{Path}
+use Rattle.std.proofs.Common.{refl, Result, subst, ◌∙◌, arith}
 use Rattle.cv_rows.specs.Catalogue.{Contents}
 use Rattle.cv_graft.specs.Way.{HasNone, IsNext, TellsDamage}
 use Rattle.cv_graft.specs.BothInner.{Remakes}
@@ -9,10 +8,9 @@ use Rattle.cv_graft.specs.declared.made.Made.{Made}
 use Rattle.cv_graft.specs.declared.graft_fault.GraftFault.{GraftFault}
 use Rattle.cv_graft.proofs.Holders.{tells_next, tells_below, tells_none}
 use Rattle.cv_graft.proofs.Nexts.{above_shorter, next_shorter}
-use Rattle.cv_graft.proofs.Finding.{none_or_one, one_more, raised_more, none_holds, step_unread, step_down, step_count, more_than_one, at_most_below}
+use Rattle.cv_graft.proofs.Finding.{none_or_one, one_more, none_holds, step_unread, step_down, step_taken, more_than_one, at_most_below}
 use Rattle.cv_graft.proofs.Rebuilds.{asked_of, above_of, above_made, upper_fault, unread_fault}
 use Rattle.cv_graft.proofs.rebuilding.+rebuilt.Goals as goal
-use Rattle.cv_ports.specs.Calls.{raised_by}
 use Rattle.cv_cut.specs.Above.{replaced}
 use Rattle.cv_cut.proofs.Lemmas.{left_by}
 
@@ -54,29 +52,20 @@ returns-in_err-made-clause-told g m c = λ standing told hash t n r way fits off
 pub returns-in_err-made-clause-taken : goal.returns-in_err-made-clause-taken
 returns-in_err-made-clause-taken g m c = λ standing told hash t r way w is.
     let next : IsNext c.args.catalogue c.args.path.now c.in-Some.entry = rw c.in-Some.is at c.in_ok-entry.ensures.found in
-    let s = step_down standing hash t c.args.path.now r c.args.catalogue c.in-Some.entry way w is next c.in_ok-below.below (c.in_ok-below.ensures.told standing told) in
-    let count = step_count standing hash t c.args.path.now r c.args.catalogue c.in-Some.entry way w is next c.in_ok-below.below s in
-    let deep = c.rebuilt.ensures.taken standing (c.nested_catalogue.ensures.unchanged ∙ told) hash t s.f way s.on s.is_ in
-    let le = deep.1 in
-    (suc deep.0, omega (arith, count, le), deep.2 ∙ ap (raised_by deep.0) c.in_ok-below.ensures.taken ∙ raised_more deep.0 (g.S.Shelf.taken c.args.shelf.now))
+    step_taken standing hash t c.args.path.now r c.args.catalogue c.in-Some.entry way w is next c.in_ok-below.below (c.in_ok-below.ensures.told standing told) _ _ _ c.in_ok-below.ensures.taken
+    (λ f. c.rebuilt.ensures.taken standing (c.nested_catalogue.ensures.unchanged ∙ told) hash t f way)
 
 pub returns-in_err-keep-clause-taken : goal.returns-in_err-keep-clause-taken
 returns-in_err-keep-clause-taken g m c = λ standing told hash t r way w is.
     let next : IsNext c.args.catalogue c.args.path.now c.in-Some.entry = rw c.in-Some.is at c.in_ok-entry.ensures.found in
-    let s = step_down standing hash t c.args.path.now r c.args.catalogue c.in-Some.entry way w is next c.in_ok-below.below (c.in_ok-below.ensures.told standing told) in
-    let count = step_count standing hash t c.args.path.now r c.args.catalogue c.in-Some.entry way w is next c.in_ok-below.below s in
-    let deep = c.rebuilt.ensures.taken standing (c.nested_catalogue.ensures.unchanged ∙ told) hash t s.f way s.on s.is_ in
-    let le = deep.1 in
-    (suc deep.0, omega (arith, count, le), deep.2 ∙ ap (raised_by deep.0) c.in_ok-below.ensures.taken ∙ raised_more deep.0 (g.S.Shelf.taken c.args.shelf.now))
+    step_taken standing hash t c.args.path.now r c.args.catalogue c.in-Some.entry way w is next c.in_ok-below.below (c.in_ok-below.ensures.told standing told) _ _ _ c.in_ok-below.ensures.taken
+    (λ f. c.rebuilt.ensures.taken standing (c.nested_catalogue.ensures.unchanged ∙ told) hash t f way)
 
 pub returns-clause-taken : goal.returns-clause-taken
 returns-clause-taken g m c = λ standing told hash t r way w is.
     let next : IsNext c.args.catalogue c.args.path.now c.in-Some.entry = rw c.in-Some.is at c.in_ok-entry.ensures.found in
-    let s = step_down standing hash t c.args.path.now r c.args.catalogue c.in-Some.entry way w is next c.in_ok-below.below (c.in_ok-below.ensures.told standing told) in
-    let count = step_count standing hash t c.args.path.now r c.args.catalogue c.in-Some.entry way w is next c.in_ok-below.below s in
-    let deep = c.rebuilt.ensures.taken standing (c.nested_catalogue.ensures.unchanged ∙ told) hash t s.f way s.on s.is_ in
-    let le = deep.1 in
-    (suc deep.0, omega (arith, count, le), deep.2 ∙ ap (raised_by deep.0) c.in_ok-below.ensures.taken ∙ raised_more deep.0 (g.S.Shelf.taken c.args.shelf.now))
+    step_taken standing hash t c.args.path.now r c.args.catalogue c.in-Some.entry way w is next c.in_ok-below.below (c.in_ok-below.ensures.told standing told) _ _ _ c.in_ok-below.ensures.taken
+    (λ f. c.rebuilt.ensures.taken standing (c.nested_catalogue.ensures.unchanged ∙ told) hash t f way)
 
 pub returns-clause-told : goal.returns-clause-told
 returns-clause-told g m c = λ standing told hash t n r way fits offered after w is.
@@ -127,18 +116,15 @@ returns-in_err-below-clause-most g m c =
 
 pub returns-in_err-made-clause-most : goal.returns-in_err-made-clause-most
 returns-in_err-made-clause-most g m c =
-    let deeper = subst (λ (q : Path). length c.args.catalogue.at < length q) (sym c.in_ok-below.ensures.place) c.nested_catalogue.ensures.deeper in
-    one_more _ _ _ _ _ _ deeper c.in_ok-below.ensures.taken c.rebuilt.ensures.most
+    one_more _ _ _ _ _ _ _ c.in_ok-below.ensures.place c.nested_catalogue.ensures.deeper c.in_ok-below.ensures.taken c.rebuilt.ensures.most
 
 pub returns-in_err-keep-clause-most : goal.returns-in_err-keep-clause-most
 returns-in_err-keep-clause-most g m c =
-    let deeper = subst (λ (q : Path). length c.args.catalogue.at < length q) (sym c.in_ok-below.ensures.place) c.nested_catalogue.ensures.deeper in
-    one_more _ _ _ _ _ _ deeper c.in_ok-below.ensures.taken c.rebuilt.ensures.most
+    one_more _ _ _ _ _ _ _ c.in_ok-below.ensures.place c.nested_catalogue.ensures.deeper c.in_ok-below.ensures.taken c.rebuilt.ensures.most
 
 pub returns-clause-most : goal.returns-clause-most
 returns-clause-most g m c =
-    let deeper = subst (λ (q : Path). length c.args.catalogue.at < length q) (sym c.in_ok-below.ensures.place) c.nested_catalogue.ensures.deeper in
-    one_more _ _ _ _ _ _ deeper c.in_ok-below.ensures.taken c.rebuilt.ensures.most
+    one_more _ _ _ _ _ _ _ c.in_ok-below.ensures.place c.nested_catalogue.ensures.deeper c.in_ok-below.ensures.taken c.rebuilt.ensures.most
 
 pub returns-in_default-clause-way : goal.returns-in_default-clause-way
 returns-in_default-clause-way g m c = λ standing told.

@@ -1,24 +1,25 @@
-use Rattle.std.proofs.Common.{suc, length, Result, None, List, [], ap, subst, ◌∙◌, arith}
+use Rattle.std.proofs.Common.{◌≡◌, true, false, length, Result, None, List, [], sym, ap, subst, ◌∙◌, arith}
 use Rattle.std.specs.Prelude.{IsErrOf}
 use Rattle.std.specs.Option.{option_copied}
 use Rattle.cv_base.specs.declared.id.Kind.TheVariants.{Catalogue}
 use Rattle.cv_base.specs.declared.object.Object.{Object}
 use Rattle.cv_base.specs.Path.{Path}
 use Rattle.cv_tree.specs.Tree.{put}
-use Rattle.cv_tree.specs.Changes.{nodes_of}
-use Rattle.cv_ports.specs.Calls.{raised_by}
+use Rattle.cv_tree.specs.Changes.{has_place, nodes_of}
 use Rattle.cv_cut.specs.Reached.{HasCatalogue}
 use Rattle.cv_cut.proofs.Lemmas.{left_by}
-use Rattle.cv_graft.specs.Placed.{Places}
+use Rattle.cv_graft.specs.Placed.{Places, PlacesNothing}
 use Rattle.cv_graft.specs.PlacedInner.{IsSet}
 use Rattle.cv_graft.specs.Way.{IsOfWay, TellsDamage}
 use Rattle.cv_graft.specs.declared.grafted.Grafted.{Grafted}
+use Rattle.cv_graft.specs.declared.made.Made.{Made}
 use Rattle.cv_graft.specs.declared.graft_fault.GraftFault.{GraftFault}
 use Rattle.cv_graft.specs.declared.graft_fault.GraftFault.TheVariants as fault
-use Rattle.cv_graft.proofs.Finding.{from_top, some_count, some_long, raised_more, top_unread}
+use Rattle.cv_graft.proofs.Finding.{from_top, some_count, some_long, top_unread}
 use Rattle.cv_graft.proofs.Holders.{top_blamed, tells_way, tells_top}
-use Rattle.cv_graft.proofs.Grafts.{tree_after, top_is, top_count}
+use Rattle.cv_graft.proofs.Grafts.{tree_after, top_is, top_taken}
 use Rattle.cv_graft.proofs.PlacedAbove.{early_fault, unread_place, cut_tells, cut_not_failed, own_piece, own_only, set_root, set_fault, fault_root}
+use Rattle.cv_graft.proofs.Unplaced.{early_nothing, nothing_placed, unread_nothing}
 use Rattle.cv_graft.proofs.setting.below_root_with.Goals as goal
 
 pub rebuilt_with-requires-clause-piece : goal.rebuilt_with-requires-clause-piece
@@ -86,10 +87,7 @@ pub returns-in_err-made-clause-taken : goal.returns-in_err-made-clause-taken
 returns-in_err-made-clause-taken g c = λ standing told t way.
     let p = c.args.path.now in
     let top = top_is standing c.args.base.now t p c.root-top.result c.in_ok-catalogue.catalogue way c.requires.path (c.in_ok-catalogue.ensures.told standing told) c.root-top.ensures in
-    let deep = c.rebuilt_with.ensures.taken standing (c.catalogue_at.ensures.unchanged ∙ told) c.args.base.now.hash t p way top.on top.is in
-    let le = deep.1 in
-    let count = top_count t p c.in_ok-catalogue.catalogue top in
-    (suc deep.0, omega (arith, le, count), deep.2 ∙ ap (raised_by deep.0) c.catalogue_at.ensures.taken ∙ raised_more deep.0 (g.S.Shelf.taken c.args.shelf.now))
+    top_taken t p c.in_ok-catalogue.catalogue top _ _ _ c.catalogue_at.ensures.taken (c.rebuilt_with.ensures.taken standing (c.catalogue_at.ensures.unchanged ∙ told) c.args.base.now.hash t p way)
 
 pub returns-clause-told : goal.returns-clause-told
 returns-clause-told g c = λ standing told t way place.
@@ -112,10 +110,7 @@ pub returns-clause-taken : goal.returns-clause-taken
 returns-clause-taken g c = λ standing told t way.
     let p = c.args.path.now in
     let top = top_is standing c.args.base.now t p c.root-top.result c.in_ok-catalogue.catalogue way c.requires.path (c.in_ok-catalogue.ensures.told standing told) c.root-top.ensures in
-    let deep = c.rebuilt_with.ensures.taken standing (c.catalogue_at.ensures.unchanged ∙ told) c.args.base.now.hash t p way top.on top.is in
-    let le = deep.1 in
-    let count = top_count t p c.in_ok-catalogue.catalogue top in
-    (suc deep.0, omega (arith, le, count), deep.2 ∙ ap (raised_by deep.0) c.catalogue_at.ensures.taken ∙ raised_more deep.0 (g.S.Shelf.taken c.args.shelf.now))
+    top_taken t p c.in_ok-catalogue.catalogue top _ _ _ c.catalogue_at.ensures.taken (c.rebuilt_with.ensures.taken standing (c.catalogue_at.ensures.unchanged ∙ told) c.args.base.now.hash t p way)
 
 pub returns-in_err-made-clause-reads : goal.returns-in_err-made-clause-reads
 returns-in_err-made-clause-reads g c = g.met.S.Shelf.reads_then _ _ _ c.catalogue_at.ensures.reads c.rebuilt_with.ensures.reads
@@ -140,3 +135,29 @@ returns-in_err-made-clause-most g c = from_top (length c.in_ok-catalogue.catalog
 
 pub returns-clause-most : goal.returns-clause-most
 returns-clause-most g c = from_top (length c.in_ok-catalogue.catalogue.at) _ _ _ _ c.catalogue_at.ensures.taken c.rebuilt_with.ensures.most
+
+pub returns-in_err-piece-clause-parentless : goal.returns-in_err-piece-clause-parentless
+returns-in_err-piece-clause-parentless g c = λ standing told t way none.
+    let p = c.args.path.now in
+    let s = nodes_of (option_copied c.args.part) in
+    left_by (PlacesNothing s p) _ _ c.from_residual-in_err-piece.ensures.1 (early_nothing c.in_ok-tree.tree s p _ c.in_ok-tree.ensures c.in_err-piece.ensures.fault)
+
+pub returns-in_err-catalogue-clause-parentless : goal.returns-in_err-catalogue-clause-parentless
+returns-in_err-catalogue-clause-parentless g c = λ standing told t way none.
+    left_by (PlacesNothing (nodes_of (option_copied c.args.part)) c.args.path.now) _ _ c.from_residual-in_err-catalogue.ensures.1 (unread_nothing _ _ _)
+
+pub returns-in_err-made-clause-parentless : goal.returns-in_err-made-clause-parentless
+returns-in_err-made-clause-parentless g c = λ standing told t way none.
+    let p = c.args.path.now in
+    let s = nodes_of (option_copied c.args.part) in
+    let top = top_is standing c.args.base.now t p c.root-top.result c.in_ok-catalogue.catalogue way c.requires.path (c.in_ok-catalogue.ensures.told standing told) c.root-top.ensures in
+    left_by (PlacesNothing s p) _ _ c.from_residual-in_err-made.ensures.1
+    (nothing_placed Made t s p _ none (c.in_err-made.ensures.place standing (c.catalogue_at.ensures.unchanged ∙ told) c.args.base.now.hash t p way top.on top.is))
+
+pub returns-clause-parentless : goal.returns-clause-parentless
+returns-clause-parentless g c = λ standing told t way none.
+    let p = c.args.path.now in
+    let top = top_is standing c.args.base.now t p c.root-top.result c.in_ok-catalogue.catalogue way c.requires.path (c.in_ok-catalogue.ensures.told standing told) c.root-top.ensures in
+    let place : has_place t p ≡ true = c.in_ok-made.ensures.place standing (c.catalogue_at.ensures.unchanged ∙ told) c.args.base.now.hash t p way top.on top.is in
+    let wrong : true ≡ false = sym place ∙ none in
+    cc

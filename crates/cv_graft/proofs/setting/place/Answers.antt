@@ -6,6 +6,7 @@ use Rattle.cv_tree.specs.Changes.{nodes_of}
 use Rattle.cv_graft.specs.Placed.{HasLead}
 use Rattle.cv_graft.specs.Way.{IsOfWay}
 use Rattle.cv_graft.proofs.Holders.{tells_none}
+use Rattle.cv_graft.proofs.Parentless.{some_below}
 use Rattle.cv_graft.proofs.PlacedAbove.{if_ok, ok_more}
 use Rattle.cv_graft.proofs.PlacedWhole.{placed_root}
 use Rattle.cv_graft.proofs.setting.place.Goals as goal
@@ -41,3 +42,8 @@ returns-then-is_empty-clause-lead g c = λ standing told.
 
 pub returns-clause-lead : goal.returns-clause-lead
 returns-clause-lead g c = λ standing told. ok_more _ (HasLead standing c.args.base.now.hash c.args.path.now) _ (λ lead some. lead) (c.below_root_with.ensures.lead standing told)
+
+pub returns-then-is_empty-clause-parentless : goal.returns-then-is_empty-clause-parentless
+returns-then-is_empty-clause-parentless g c = λ standing told t way none.
+    let size = (Decides-eqb (length c.names.result.now) 0).0 (sym c.is_empty.ensures ∙ c.if-is_empty.true) in
+    absurd (some_below t c.args.path.now none (sym c.names.ensures.names ∙ nil_from_length c.names.result.now size))

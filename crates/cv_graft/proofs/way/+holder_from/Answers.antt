@@ -1,5 +1,4 @@
-use Rattle.std.proofs.Common.{◌<◌, length, refl, sym, suc, Result, ap, subst, ◌∙◌, arith}
-use Rattle.cv_base.specs.Path.{Path}
+use Rattle.std.proofs.Common.{refl, Result, subst, ◌∙◌, arith}
 use Rattle.cv_rows.specs.Catalogue.{Contents}
 use Rattle.cv_graft.specs.DirectoriesInner.{HoldsFrom}
 use Rattle.cv_graft.specs.Way.{HasNone, IsNext}
@@ -7,9 +6,8 @@ use Rattle.cv_graft.specs.WayInner.{Finds, FailsFrom}
 use Rattle.cv_graft.proofs.Holders.{holds_itself, holds_below, fails_next, fails_below}
 use Rattle.cv_cut.specs.declared.load_fault.LoadFault.{LoadFault}
 use Rattle.cv_graft.proofs.Nexts.{above_shorter, next_shorter}
-use Rattle.cv_graft.proofs.Finding.{none_or_one, one_more, raised_more, none_holds, step_unread, step_down, step_count, more_than_one, at_most_below}
+use Rattle.cv_graft.proofs.Finding.{none_or_one, one_more, none_holds, step_unread, step_down, step_taken, more_than_one, at_most_below}
 use Rattle.cv_graft.proofs.way.+holder_from.Goals as goal
-use Rattle.cv_ports.specs.Calls.{raised_by}
 use Rattle.cv_cut.proofs.Lemmas.{left_by}
 
 pub returns-in_default-clause-told : goal.returns-in_default-clause-told
@@ -37,11 +35,8 @@ returns-clause-told g t c = λ standing told hash n r way w is.
 pub returns-clause-taken : goal.returns-clause-taken
 returns-clause-taken g t c = λ standing told hash n r way w is.
     let next : IsNext c.args.catalogue c.args.path.now c.in-Some.entry = rw c.in-Some.is at c.in_ok-entry.ensures.found in
-    let s = step_down standing hash n c.args.path.now r c.args.catalogue c.in-Some.entry way w is next c.in_ok-below.below (c.in_ok-below.ensures.told standing told) in
-    let count = step_count standing hash n c.args.path.now r c.args.catalogue c.in-Some.entry way w is next c.in_ok-below.below s in
-    let deep = c.holder_from.ensures.taken standing (c.nested_catalogue.ensures.unchanged ∙ told) hash n s.f way s.on s.is_ in
-    let le = deep.1 in
-    (suc deep.0, omega (arith, count, le), deep.2 ∙ ap (raised_by deep.0) c.in_ok-below.ensures.taken ∙ raised_more deep.0 (g.S.Shelf.taken c.args.shelf.now))
+    step_taken standing hash n c.args.path.now r c.args.catalogue c.in-Some.entry way w is next c.in_ok-below.below (c.in_ok-below.ensures.told standing told) _ _ _ c.in_ok-below.ensures.taken
+    (λ f. c.holder_from.ensures.taken standing (c.nested_catalogue.ensures.unchanged ∙ told) hash n f way)
 
 pub returns-clause-reads : goal.returns-clause-reads
 returns-clause-reads g t c = g.met.S.Shelf.reads_then _ _ _ c.nested_catalogue.ensures.reads c.holder_from.ensures.reads
@@ -90,5 +85,4 @@ returns-in_err-below-clause-most g t c =
 
 pub returns-clause-most : goal.returns-clause-most
 returns-clause-most g t c =
-    let deeper = subst (λ (q : Path). length c.args.catalogue.at < length q) (sym c.in_ok-below.ensures.place) c.nested_catalogue.ensures.deeper in
-    one_more _ _ _ _ _ _ deeper c.in_ok-below.ensures.taken c.holder_from.ensures.most
+    one_more _ _ _ _ _ _ _ c.in_ok-below.ensures.place c.nested_catalogue.ensures.deeper c.in_ok-below.ensures.taken c.holder_from.ensures.most
