@@ -5,7 +5,7 @@ use Rattle.std.specs.declared.string.String.{String}
 use Rattle.cv_vault.specs.Disk.{Disk}
 use Rattle.cv_vault.specs.Moments.{Calls}
 use Rattle.cv_real.specs.declared.folder_vault.FolderVault.{FolderVault}
-use Rattle.cv_real.specs.Names.{is_name, folder_of, path_of}
+use Rattle.cv_real.specs.Names.{folder_of, path_of}
 
 -- one of the notes is this folder
 abbrev pub is_noted : {A : Type 0} → List (String A) → List ℕ → Bool
@@ -14,10 +14,6 @@ is_noted notes folder = list_any (λ note. bytes_eq (string_bytes note) folder) 
 -- a folder that was noted is noted still
 abbrev pub Keeps : {A : Type 0} → List (String A) → List (String A) → Type 0
 Keeps before after = (folder : List ℕ) → IsTrue (is_noted before folder) → IsTrue (is_noted after folder)
-
--- this is a name of the vault, and its path is set
-abbrev pub IsAt : {R F : Type 0} → FolderVault R F → List ℕ → Type 0
-IsAt vault name = IsTrue (is_name name) × (vault.path ≡ path_of (string_bytes vault.root) name)
 
 -- the folder of a name of the vault is noted
 abbrev pub Notes : {R F : Type 0} → FolderVault R F → List ℕ → Type 0

@@ -1,4 +1,5 @@
 pub mod FolderVault
+pub mod FolderVaultInner
 pub mod Names
 pub mod NamesInner
 pub mod PathsInner

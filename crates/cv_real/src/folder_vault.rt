@@ -5,7 +5,8 @@ ghost use Rattle.cv_base.specs.Counts.{HasCause};
 ghost use Rattle.cv_vault.specs.Disk.{Reads, Measures, Lists, Writes, Renames, Removes, Syncs};
 ghost use Rattle.cv_vault.specs.declared.vault.VaultFault.TheVariants.{Failed, NoMemory};
 ghost use Rattle.cv_real.specs.Names.{is_name, folder_of, path_of};
-ghost use Rattle.cv_real.specs.FolderVault.{Untold, IsAt, Notes, Stays, Adds, is_noted};
+ghost use Rattle.cv_real.specs.FolderVault.{Untold, Notes, Stays, Adds, is_noted};
+ghost use Rattle.cv_real.specs.FolderVaultInner.{IsAt};
 
 use crate::count::FaultCount;
 use crate::hold::{Hold, lock_folder, make_held, refused};

@@ -1,0 +1,8 @@
+-- Where a call of a vault over a folder stands. What only this crate's own functions say.
+use Rattle.std.specs.Prelude.{ℕ, ◌≡◌, List, IsTrue, string_bytes}
+use Rattle.cv_real.specs.declared.folder_vault.FolderVault.{FolderVault}
+use Rattle.cv_real.specs.Names.{is_name, path_of}
+
+-- this is a name of the vault, and its path is set
+abbrev pub IsAt : {R F : Type 0} → FolderVault R F → List ℕ → Type 0
+IsAt vault name = IsTrue (is_name name) × (vault.path ≡ path_of (string_bytes vault.root) name)
