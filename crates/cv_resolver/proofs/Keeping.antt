@@ -16,8 +16,7 @@ use Rattle.cv_rows.specs.declared.row.Row.{Row}
 use Rattle.cv_cut.specs.Reached.{FitsPlace}
 use Rattle.cv_cut.proofs.Lemmas.{comes_from, goes_to}
 use Rattle.cv_resolver.specs.Spot.{place_of}
-use Rattle.cv_resolver.specs.Kept.{Kept, Holds, used, with_catalogue, AreOwn, kept_bytes}
-use Rattle.cv_resolver.specs.KeptInner.{IsKept, AreKept}
+use Rattle.cv_resolver.specs.Kept.{Kept, Holds, IsKept, AreKept, used, with_catalogue, AreOwn, kept_bytes}
 use Rattle.cv_resolver.specs.declared.spot.Level.{Level}
 
 -- what is found under a digest is there under it
@@ -53,7 +52,7 @@ holds_here k view l c row b same found rows test = (
 pub kept_promoted : (es : List (List ℕ × Contents)) (hash : List ℕ) → AreKept es → AreKept (promoted (bytes_eq hash) es)
 kept_promoted es hash kept = record { each = λ h c has. kept.each h c (Contains-promoted (bytes_eq hash) es (h, c) has) }
 
-kept_one : (k : Kept) (hash : List ℕ) (c : Contents) → AreKept k.entries → IsKept hash c → AreKept (put_entries bytes_eq k hash c)
+pub kept_one : (k : Kept) (hash : List ℕ) (c : Contents) → AreKept k.entries → IsKept hash c → AreKept (put_entries bytes_eq k hash c)
 kept_one k hash c kept new = record {
   each = λ h d has. elim (Contains-put_entries bytes_eq k hash c (h, d) has) [
     | inl old ↦ kept.each h d old

@@ -15,3 +15,4 @@ mod Taking
 mod Resolving
 mod Blames
 mod Telling
+mod Grounds

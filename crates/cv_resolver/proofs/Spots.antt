@@ -29,8 +29,7 @@ use Rattle.std.specs.Map.{lookup}
 use Rattle.cv_cut.specs.Reached.{Decodes, FitsPlace}
 use Rattle.cv_cut.specs.Told.{node_of}
 use Rattle.cv_cut.proofs.Lemmas.{entry_tells, goes_to as member_of_map, last_some, more_over, nearest, nested_decodes, one_decoding, region_apart, root_decodes, row_tells, row_tells_cut, same_ends, same_over, some_last}
-use Rattle.cv_resolver.specs.Kept.{Kept, AreOwn, kept_bytes}
-use Rattle.cv_resolver.specs.KeptInner.{IsKept}
+use Rattle.cv_resolver.specs.Kept.{Kept, IsKept, AreOwn, kept_bytes}
 use Rattle.cv_resolver.specs.Spot.{IsLevel, StandsIn, IsSpot, levels_of, place_of}
 use Rattle.cv_resolver.specs.declared.spot.Level.{Level}
 use Rattle.cv_resolver.specs.declared.spot.Spot.{Spot}
@@ -166,7 +165,7 @@ top_or_below : (p : Path) → (p ≡ []) ⊎ (p ≢ [])
 top_or_below [] = inl refl
 top_or_below (a ∷ p) = inr (λ e. cc)
 
-parent-append : (p : Path) (a : List ℕ) → parent (p ++ a ∷ []) ≡ p
+pub parent-append : (p : Path) (a : List ℕ) → parent (p ++ a ∷ []) ≡ p
 parent-append [] a = refl
 parent-append (b ∷ []) a = refl
 parent-append (b ∷ c ∷ p) a = ap (λ (w : Path). b ∷ w) (parent-append (c ∷ p) a)

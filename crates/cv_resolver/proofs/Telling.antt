@@ -9,7 +9,6 @@ use Rattle.std.proofs.lemmas.List.Elements.{All-contains}
 use Rattle.cv_base.specs.Path.{Path, IsPath, parent}
 use Rattle.cv_base.specs.PathText.{parts_of}
 use Rattle.cv_tree.specs.Tree.{is_directory}
-use Rattle.cv_tree.specs.declared.node.Node.{Node}
 use Rattle.cv_rows.specs.Catalogue.{Contents, IsCatalogue, FitsAt}
 use Rattle.cv_rows.specs.Places.{StandsAt}
 use Rattle.cv_rows.specs.Parents.{IsBelow}
@@ -19,17 +18,14 @@ use Rattle.cv_rows.specs.declared.row_kind.RowKind.{RowKind}
 use Rattle.cv_rows.specs.declared.row_kind.RowKind.TheVariants as kind
 use Rattle.cv_rows.proofs.Lemmas.{one_place, stands_contained}
 use Rattle.cv_cut.specs.Told.{hash_of, node_as, node_of}
-use Rattle.cv_resolver.specs.Walk.{Name, is_idle, is_last, lead_of, is_absolute}
+use Rattle.cv_resolver.specs.Walk.{Name, is_last, lead_of, is_absolute}
 use Rattle.cv_resolver.specs.Asking.{is_stat}
 use Rattle.cv_resolver.specs.Entry.{stat_of}
 use Rattle.cv_resolver.specs.EntryInner.{entry_kind}
 use Rattle.cv_resolver.specs.Listing.{AreNames}
-use Rattle.cv_resolver.specs.Look.{Finding, Stat, names_at, stat_at, content_at}
-use Rattle.cv_resolver.specs.Rows.{Finds, ArrivesAt, stage_of, IsAt, Enters, outer_or, levels_above, levels_behind, GoesOn, Follows, IsEntryName, Passes, idle, below_file, up, nothing, enters, follows, StepsBy, arrives, passes, no_memory}
-use Rattle.sha1.specs.Sha1.{sha1}
-use Rattle.cv_resolver.specs.Kept.{Kept}
-use Rattle.cv_resolver.specs.Progress.{Leads, waits, halts, goes_further, Begins, starts, no_memory as unbegun, HasArrived, IsRead}
-use Rattle.cv_resolver.specs.Giving.{TakesCatalogue, opened, bad, no_memory as unread, Takes, nothing as unserved, other, content, catalogue}
+use Rattle.cv_resolver.specs.Look.{Stat, names_at, stat_at, content_at}
+use Rattle.cv_resolver.specs.Rows.{ArrivesAt, stage_of, IsAt, Enters, outer_or, levels_above, levels_behind, GoesOn, Follows, IsEntryName, Passes, idle, below_file, up, nothing, enters, follows, StepsBy, arrives, passes}
+use Rattle.cv_resolver.specs.Giving.{catalogue}
 use Rattle.cv_resolver.specs.EnterInner.{IsToldBy}
 use Rattle.cv_resolver.specs.PassInner.{PassesTo, idle as passed_over, below_file as passed_file, up as passed_up, down}
 use Rattle.cv_resolver.specs.StepInner.{MeetsLink, stage_after}
@@ -39,7 +35,6 @@ use Rattle.cv_resolver.specs.declared.spot.Level.{Level}
 use Rattle.cv_resolver.specs.declared.spot.Spot.{Spot}
 use Rattle.cv_resolver.specs.declared.walk.Walk.{Walk}
 use Rattle.cv_resolver.specs.declared.step.Step.{Step}
-use Rattle.cv_resolver.specs.declared.enter.Entered.{Entered}
 use Rattle.cv_resolver.specs.declared.enter.Entered.TheVariants.{Nothing, Stands, Link}
 use Rattle.cv_resolver.specs.declared.pass.Halt.{Halt}
 use Rattle.cv_resolver.specs.declared.pass.Halt.TheVariants.{NotFound, NotDirectory}
@@ -48,7 +43,6 @@ use Rattle.cv_resolver.specs.declared.question.Question.{Question}
 use Rattle.cv_resolver.specs.declared.question.Question.TheVariants as question
 use Rattle.cv_resolver.specs.declared.stat_line.StatLine.{StatLine}
 use Rattle.cv_resolver.specs.declared.found.Found.TheVariants as found
-use Rattle.cv_resolver.specs.declared.found.ClientFault.{ClientFault}
 use Rattle.cv_resolver.specs.declared.found.ClientFault.TheVariants as fault
 use Rattle.cv_resolver.specs.declared.stage.Stage.{Stage}
 use Rattle.cv_resolver.specs.declared.stage.Stage.TheVariants.{Walks, Reads, Ends}
@@ -288,50 +282,3 @@ passed_told repository b q c w s stage same is some told = by w.names.items refl
     by [] all_is h = absurd (let e : true ≡ false = h in cc)
     by (name ∷ names) all_is h =
         passes name names all_is (subst (λ (x : Stage). Passes repository (is_stat q) c w name names x) is (subst (λ (x : Bool). Passes repository x c w name names (stage_after s)) same (told name names all_is)))
-
--- ---- answers
-
-follows_not : (spot : Spot) (names : List Name) (links : ℕ) (parts : List Name) (lead : Option (Path × List Name)) (s : Stage) → Follows spot names links parts lead s → HasArrived s → ⊥
-follows_not spot names zero parts lead s is h = subst HasArrived is h
-follows_not spot names (suc links) parts None s is h = subst HasArrived is h
-follows_not spot names (suc links) parts (Some start) s on h = subst HasArrived on.is h
-
-passes_not : (repository : List ℕ) (stays : Bool) (c : Contents) (w : Walk) (name : Name) (names : List Name) (s : Stage) → Passes repository stays c w name names s → HasArrived s → ⊥
-passes_not repository stays c w name names s (idle idle_is on) h = subst HasArrived on.is h
-passes_not repository stays c w name names s (below_file some file is) h = subst HasArrived is h
-passes_not repository stays c w name names s (up some directory up_is on) h = subst HasArrived on.is h
-passes_not repository stays c w name names s (nothing entry none is) h = subst HasArrived is h
-passes_not repository stays c w name names s (enters entry r st stays_there on) h = subst HasArrived on.is h
-passes_not repository stays c w name names s (follows entry r st is test there) h = follows_not w.spot names w.links (parts_of r.target) (lead_of repository w.spot.at (parts_of r.target)) s there h
-
-step_read : (repository : List ℕ) (q : Question) (c : Contents) (w : Walk) (s : Stage) → StepsBy repository q c w s → HasArrived s → IsRead q s
-step_read repository q c w s (arrives none there) h = record { catalogue = c; at = w.spot.at; arrives = there }
-step_read repository q c w s (passes name names is passed) h = absurd (passes_not repository (is_stat q) c w name names s passed h)
-step_read repository q c w s (no_memory is) h = absurd (subst HasArrived is h)
-
-led_read : {repository : List ℕ} {q : Question} {k : Kept} {w : Walk} {after : Kept} {s : Stage} → Leads repository q k w after s → HasArrived s → IsRead q s
-led_read (waits none same is) h = absurd (subst HasArrived is h)
-led_read {repository} {q} {k} {w} {after} {s} (halts by over same) h = step_read repository q by.holds.found w s by.told h
-led_read (goes_further next by rest) h = led_read rest h
-
-pub begun_read : (repository root : List ℕ) (q : Question) (k after : Kept) (s : Stage) → Begins repository root q k after s → HasArrived s → IsRead q s
-begun_read repository root q k after s (starts w is led) h = led_read led h
-begun_read repository root q k after s (unbegun same is) h = absurd (subst HasArrived is h)
-
-taken_read : (repository : List ℕ) (q : Question) (k : Kept) (w : Walk) (bytes : List ℕ) (after : Kept) (s : Stage) → TakesCatalogue repository q k w bytes after s → HasArrived s → IsRead q s
-taken_read repository q k w bytes after s (opened c decodes led) h = led_read led h
-taken_read repository q k w bytes after s (bad none same is) h = absurd (subst HasArrived is h)
-taken_read repository q k w bytes after s (unread same is) h = absurd (subst HasArrived is h)
-
-pub given_read : (repository : List ℕ) (q : Question) (k after : Kept) (w : Walk) (s : Stage) (given : Option (List ℕ)) → Takes repository q k (Walks w) given after s → HasArrived s → IsRead q s
-given_read repository q k after w s given (unserved id wanted none same is) h = absurd (subst HasArrived is h)
-given_read repository q k after w s given (other id bytes wanted is differs same ends) h = absurd (subst HasArrived ends h)
-given_read repository q k after w s given (content hash bytes reads is digest same ends) h = absurd (let e : Walks w ≡ Reads hash = reads in cc)
-given_read repository q k after w s given (catalogue next bytes walks is digest takes) h = taken_read repository q k next bytes after s takes h
-
-pub given_content : (repository : List ℕ) (q : Question) (k after : Kept) (hash : List ℕ) (s : Stage) (given : Option (List ℕ)) → Takes repository q k (Reads hash) given after s → HasArrived s
-    → (bytes : List ℕ) × (s ≡ Ends (Ok (found.Bytes bytes))) × (sha1 bytes ≡ hash)
-given_content repository q k after hash s given (unserved id wanted none same is) h = absurd (subst HasArrived is h)
-given_content repository q k after hash s given (other id bytes wanted is differs same ends) h = absurd (subst HasArrived ends h)
-given_content repository q k after hash s given (content wanted bytes reads is digest same ends) h = (bytes, ends, digest ∙ (let e : Reads hash ≡ Reads wanted = reads in let one : wanted ≡ hash = cc in one))
-given_content repository q k after hash s given (catalogue next bytes walks is digest takes) h = absurd (let e : Reads hash ≡ Walks next = walks in cc)

@@ -15,10 +15,10 @@ pub mod TargetInner
 pub mod Start
 pub mod Stage
 pub mod Kept
-pub mod KeptInner
 pub mod Naming
 pub mod NamingInner
 pub mod Progress
+pub mod Grounds
 pub mod ProgressInner
 pub mod Giving
 pub mod Resolver

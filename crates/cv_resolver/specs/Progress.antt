@@ -1,13 +1,12 @@
 -- How the walk of a question goes on by the catalogues that are kept.
 use Rattle.std.specs.Prelude.{◌≡◌, ◌<◌, ◌+◌, ℕ, List}
-use Rattle.cv_base.specs.Path.{Path}
 use Rattle.cv_tree.specs.Tree.{Nodes, IsTree}
 use Rattle.cv_rows.specs.Catalogue.{Contents}
 use Rattle.cv_cut.specs.Catalogues.{Fits}
 use Rattle.cv_resolver.specs.Kept.{Kept, Holds, used}
 use Rattle.cv_resolver.specs.Naming.{AreKnown, NamesFile}
 use Rattle.cv_resolver.specs.Spot.{IsOwn, levels_of}
-use Rattle.cv_resolver.specs.Rows.{ArrivesAt, StepsBy}
+use Rattle.cv_resolver.specs.Rows.{StepsBy}
 use Rattle.cv_resolver.specs.Step.{steps_left}
 use Rattle.cv_resolver.specs.Stage.{IsStage, IsBlameless}
 use Rattle.cv_resolver.specs.Start.{IsStart}
@@ -63,12 +62,6 @@ HasArrived (Walks w) = ⊥
 HasArrived (Reads hash) = Unit {0}
 HasArrived (Ends (Ok found)) = Unit {0}
 HasArrived (Ends (Err fault)) = ⊥
-
--- the question has come to what the row at a path of a catalogue says
-pub record IsRead (q : Question) (s : Stage) : Type 0 where
-  pub catalogue : Contents
-  pub at : Path
-  pub arrives : ArrivesAt catalogue q at s
 
 -- no catalogue is wanted that is kept for its place
 abbrev pub IsUncached : Kept → Stage → Type 0

@@ -22,7 +22,7 @@ impl Model for Catalogues {
     ghost use Rattle.std.specs.Prelude.{List, ℕ};
     ghost use Rattle.lru.specs.LruCache.{LruCache as Entries};
     ghost use Rattle.cv_rows.specs.Catalogue.{Contents};
-    ghost use Rattle.cv_resolver.specs.KeptInner.{AreKept};
+    ghost use Rattle.cv_resolver.specs.Kept.{AreKept};
 
     ghost Value = { Entries (List ℕ) Contents };
 
@@ -35,8 +35,7 @@ impl Catalogues {
     ghost use Rattle.std.specs.Map.{lookup};
     ghost use Rattle.cv_cut.specs.Reached.{FitsPlace};
     ghost use Rattle.cv_resolver.specs.Spot.{place_of};
-    ghost use Rattle.cv_resolver.specs.Kept.{Holds, used, with_catalogue};
-    ghost use Rattle.cv_resolver.specs.KeptInner.{IsKept};
+    ghost use Rattle.cv_resolver.specs.Kept.{Holds, IsKept, used, with_catalogue};
 
     /// Without a catalogue, and with room for so many.
     pub fn new(alloc: Global, capacity: usize) -> Result<Catalogues, NoMemory>

@@ -8,9 +8,10 @@ ghost use Rattle.cv_tree.specs.Tree.{Nodes, is_directory};
 ghost use Rattle.cv_tree.specs.declared.node.Node.TheVariants as node;
 ghost use Rattle.cv_tree.specs.declared.node.FileRef.{FileRef as TheFile};
 ghost use Rattle.cv_base.specs.declared.id.ObjectId.{ObjectId as TheId};
-ghost use Rattle.cv_resolver.specs.Kept.{Kept};
+ghost use Rattle.cv_resolver.specs.Kept.{Kept, AreKept};
 ghost use Rattle.cv_resolver.specs.Stage.{wanted_by, IsBlameless};
-ghost use Rattle.cv_resolver.specs.Progress.{Begins, HasArrived, IsRead, IsUncached, wants_left};
+ghost use Rattle.cv_resolver.specs.Progress.{Begins, HasArrived, IsUncached, wants_left};
+ghost use Rattle.cv_resolver.specs.Grounds.{IsRead, IsRefusal, IsRefusedBy, IsUnder, WaitsUnder};
 ghost use Rattle.cv_resolver.specs.Giving.{Blames, EndsBy, IsOther, IsUndecoded, Takes};
 ghost use Rattle.cv_resolver.specs.declared.found.ClientFault.{ClientFault as TheFault};
 ghost use Rattle.cv_resolver.specs.Asking.{path_of_question};
@@ -105,15 +106,37 @@ pub fn what_is_kept_is_not_wanted()
         → IsUncached after s }
 {}
 
-/// Whatever the catalogues say, a question that isn't refused is answered by what the row at a path of one of them says, and a
-/// read by bytes of the digest in that row.
+/// Each catalogue that is kept has the digest that it is kept under, and a walk waits in a directory below cuts that the root's
+/// catalogue names, or one below it: so it was when the question was asked, and so it stays, whatever is given.
+pub fn walks_stay_under_their_root()
+    ensures kept { (r root : List ℕ) (q : TheQuestion) (k after : Kept) (s : TheStage) → AreKept k.entries → Begins r root q k after s
+        → AreKept after.entries }
+    ensures still_kept { (r root : List ℕ) (q : TheQuestion) (k after : Kept) (was s : TheStage) (given : Option (List ℕ)) → AreKept k.entries
+        → IsUnder root was → Takes r q k was given after s → AreKept after.entries }
+    ensures asked { (r root : List ℕ) (q : TheQuestion) (k after : Kept) (s : TheStage) → AreKept k.entries → Begins r root q k after s
+        → IsUnder root s }
+    ensures given { (r root : List ℕ) (q : TheQuestion) (k after : Kept) (was s : TheStage) (given : Option (List ℕ)) → AreKept k.entries
+        → IsUnder root was → Takes r q k was given after s → IsUnder root s }
+{}
+
+/// Whatever the catalogues say, a question that isn't refused is answered by what the row at a path says, in the catalogue that
+/// was used last: the nearest on the way from the root to that path. A read is answered by bytes of the digest in that row.
 pub fn answers_are_those_of_rows()
-    ensures asked { (r root : List ℕ) (q : TheQuestion) (k after : Kept) (s : TheStage) → Begins r root q k after s → HasArrived s → IsRead q s }
-    ensures given { (r : List ℕ) (q : TheQuestion) (k after : Kept) (w : TheWalk) (s : TheStage) (given : Option (List ℕ))
-        → Takes r q k (stage.Walks w) given after s → HasArrived s → IsRead q s }
+    ensures asked { (r root : List ℕ) (q : TheQuestion) (k after : Kept) (s : TheStage) → AreKept k.entries → Begins r root q k after s
+        → HasArrived s → IsRead root q after s }
+    ensures given { (r root : List ℕ) (q : TheQuestion) (k after : Kept) (w : TheWalk) (s : TheStage) (given : Option (List ℕ)) → AreKept k.entries
+        → WaitsUnder root w → Takes r q k (stage.Walks w) given after s → HasArrived s → IsRead root q after s }
     ensures content { (r : List ℕ) (q : TheQuestion) (k after : Kept) (hash : List ℕ) (s : TheStage) (given : Option (List ℕ))
         → Takes r q k (stage.Reads hash) given after s → HasArrived s
         → (bytes : List ℕ) × (s ≡ stage.Ends (Ok (found.Bytes bytes))) × (sha1 bytes ≡ hash) }
+{}
+
+/// And a question is refused by what such a row says, or because none stands there.
+pub fn refusals_are_those_of_rows()
+    ensures asked { (r root : List ℕ) (q : TheQuestion) (k after : Kept) (s : TheStage) → AreKept k.entries → Begins r root q k after s
+        → (f : TheFault) → EndsBy s f → IsRefusal f → IsRefusedBy r root q after f }
+    ensures given { (r root : List ℕ) (q : TheQuestion) (k after : Kept) (was s : TheStage) (given : Option (List ℕ)) → AreKept k.entries
+        → IsUnder root was → Takes r q k was given after s → (f : TheFault) → EndsBy s f → IsRefusal f → IsRefusedBy r root q after f }
 {}
 
 /// Where targets of links lead, in a repository of the name r.

@@ -1,4 +1,4 @@
-use Rattle.cv_resolver.proofs.Telling.{begun_read, given_read, given_content}
+use Rattle.cv_resolver.proofs.Grounds.{begun_read, given_content, given_read}
 use Rattle.cv_resolver.proofs.laws.answers_are_those_of_rows.Goals as goal
 
 pub returns-clause-asked : goal.returns-clause-asked

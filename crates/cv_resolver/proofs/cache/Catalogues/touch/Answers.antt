@@ -1,6 +1,5 @@
 use Rattle.std.proofs.Common.{sym, subst}
-use Rattle.cv_resolver.specs.Kept.{Kept}
-use Rattle.cv_resolver.specs.KeptInner.{AreKept}
+use Rattle.cv_resolver.specs.Kept.{Kept, AreKept}
 use Rattle.cv_resolver.proofs.Keeping.{kept_promoted}
 use Rattle.cv_resolver.proofs.cache.Catalogues.touch.Goals as goal
 
