@@ -1,5 +1,5 @@
 -- What comes of the catalogues on the way to a path in both trees.
-use Rattle.std.proofs.Common.{◌≡◌, ◌≢◌, ℕ, List, [], ◌∷◌, ◌++◌, map, length, Some, None, Result, Ok, Err, refl, sym, ap, subst, ◌∙◌, append_assoc}
+use Rattle.std.proofs.Common.{◌≡◌, ◌≢◌, ℕ, List, [], ◌∷◌, ◌++◌, map, length, Some, None, Result, Ok, Err, sym, ap, subst, ◌∙◌, append_assoc}
 use Rattle.std.specs.Option.{option_map}
 use Rattle.std.specs.Prelude.{IsSomeAnd}
 use Rattle.std.specs.declared.option.Option.{Option}
@@ -11,21 +11,20 @@ use Rattle.cv_base.specs.declared.id.Kind.TheVariants.{Catalogue}
 use Rattle.cv_base.specs.declared.object.Object.{Object}
 use Rattle.cv_ports.specs.Shelf.{Shelf}
 use Rattle.cv_tree.specs.Tree.{Nodes, at, put}
-use Rattle.cv_rows.specs.Catalogue.{Contents, catalogue_bytes}
+use Rattle.cv_rows.specs.Catalogue.{Contents}
 use Rattle.cv_rows.specs.Renewed as rows
 use Rattle.cv_rows.specs.declared.nested.Nested.{Nested}
 use Rattle.cv_cut.specs.Catalogues.{cat, root_of, Fits}
 use Rattle.cv_cut.specs.Opening.{IsNestedCatalogue, below_id}
-use Rattle.cv_cut.specs.Reached.{Place, HasCatalogue, root_place}
+use Rattle.cv_cut.specs.Reached.{HasCatalogue, root_place}
 use Rattle.cv_cut.specs.declared.load_fault.LoadFault.{LoadFault}
 use Rattle.cv_cut.specs.declared.load_fault.LoadFault.TheVariants as load
 use Rattle.cv_cut.proofs.Lemmas.{put-root}
-use Rattle.cv_graft.specs.Both.{Makes, joins, names, as_object, naming, IsGrafted, HasBoth, GraftsBoth, GivesOffered}
-use Rattle.cv_graft.specs.BothInner.{IsKept, IsRejoined, Rejoins, IsRemade, RefusesOn, Remakes}
+use Rattle.cv_graft.specs.Both.{Makes, joins, names, as_object, naming, IsGrafted, GraftsBoth, GivesOffered}
+use Rattle.cv_graft.specs.BothInner.{IsKept, Rejoins, IsRemade, RefusesOn, Remakes}
 use Rattle.cv_graft.specs.Directories.{IsHolder}
 use Rattle.cv_graft.specs.Faults.{of_load}
 use Rattle.cv_graft.specs.Graft.{Grafts, HasWays}
-use Rattle.cv_graft.specs.Joins.{IsJoined, CollidesAt, IsFullAt}
 use Rattle.cv_graft.specs.JoinsInner.{Joins}
 use Rattle.cv_graft.specs.Way.{HasNone, IsNext, IsOnWay}
 use Rattle.cv_graft.specs.declared.grafted.Grafted.{Grafted}

@@ -1,5 +1,5 @@
 -- Where a tree lacks the directory in which a path stands, no part is set there.
-use Rattle.std.proofs.Common.{◌≡◌, ◌++◌, true, false, List, ℕ, Result, Ok, Err, sym, ap, subst, ◌∙◌}
+use Rattle.std.proofs.Common.{◌≡◌, ◌++◌, true, false, Result, Ok, Err, sym, ap, subst, ◌∙◌}
 use Rattle.std.specs.Prelude.{IsSome}
 use Rattle.std.specs.FinMap.{get}
 use Rattle.cv_base.specs.Path.{Path, covers}
@@ -16,7 +16,6 @@ use Rattle.cv_cut.proofs.Lemmas.{rest_behind}
 use Rattle.cv_graft.specs.Faults.{of_load}
 use Rattle.cv_graft.specs.Placed.{PlacesNothing, of_cut}
 use Rattle.cv_graft.specs.PlacedInner.{WhereMade}
-use Rattle.cv_graft.specs.declared.grafted.Grafted.{Grafted}
 use Rattle.cv_graft.specs.declared.graft_fault.GraftFault.{GraftFault}
 use Rattle.cv_graft.specs.declared.graft_fault.GraftFault.TheVariants as fault
 

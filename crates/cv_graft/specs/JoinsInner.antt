@@ -1,5 +1,5 @@
 -- What one catalogue has outside a path, with what another has at the path and below it. What only this crate's own functions say.
-use Rattle.std.specs.Prelude.{◌≡◌, List, Result, Ok, Err}
+use Rattle.std.specs.Prelude.{List, Result, Ok, Err}
 use Rattle.cv_base.specs.Path.{Path}
 use Rattle.cv_rows.specs.Catalogue.{Contents}
 use Rattle.cv_rows.specs.declared.row.Row.{Row}
