@@ -1,15 +1,21 @@
 -- What follows the last slash of a path, and the folder before it.
-use Rattle.std.proofs.Common.{◌≡◌, ◌≢◌, ◌==◌, ℕ, suc, ◌<◌, ◌≤◌, Bool, true, false, cond, List, [], ◌∷◌, ◌++◌, length, get_or, take, drop, Option, Some, None, MatchOption, refl, sym, ap, subst, ◌∙◌, append_assoc, take-append-drop, arith, length-append, length-take, eq-eqb, ne_eqb, Bor, lit<, ◌-◌, codes}
-use Rattle.std.specs.List.{onto_first}
+use Rattle.std.proofs.Common.{◌≡◌, ◌≢◌, ◌==◌, ℕ, suc, ◌+◌, ◌<◌, ◌≤◌, Bool, true, false, cond, List, [], ◌∷◌, ◌++◌, length, get_or, take, drop, Option, Some, None, MatchOption, refl, sym, ap, subst, ◌∙◌, append_assoc, take-append-drop, arith, length-append, length-take, eq-eqb, ne_eqb, Bor, lit<, ◌-◌, codes}
+use Rattle.std.specs.Prelude.{IsTrue}
+use Rattle.std.specs.List.{onto_first, starts_with, ends_with}
 use Rattle.std.specs.Option.{unwrap_or}
 use Rattle.std.specs.Str.{IsCharBoundary}
 use Rattle.std.specs.Str.Pattern.{FindsTextSuffix, RFindsChar, SplitsAroundMatch, StripsSuffix}
+use Rattle.std.proofs.Math.Seq.{take-append-add}
+use Rattle.std.proofs.lemmas.List.{append-nil}
 use Rattle.std.proofs.lemmas.List.Splits.{slice_split-cons_no}
+use Rattle.std.proofs.lemmas.Slice.Eq.{starts_is}
+use Rattle.std.proofs.lemmas.Bool.Decides.{Decides-eqb}
 use Rattle.std.proofs.lemmas.Str.Pattern.{NoCharPasses-char, drop_at_char, ends_text}
 use Rattle.cv_base.specs.Path.{Path, last_name_of}
 use Rattle.cv_base.specs.PathText.{parts_of}
 use Rattle.cv_real.specs.Names.{last_part, folder_of}
-use Rattle.cv_real.specs.NamesInner.{without_slash}
+use Rattle.cv_real.specs.NamesInner.{above, without_slash}
+use Rattle.cv_real.specs.WalkInner.{IsUnder}
 
 -- no byte is a slash
 HasNoSlash : List ℕ → Type 0
@@ -41,10 +47,26 @@ one_byte_more byte slash (a ∷ []) last h = absurd h
 one_byte_more byte true (a ∷ b ∷ more) last h = h
 one_byte_more byte false (a ∷ b ∷ more) last h = h
 
-parts_end : (front last : List ℕ) → HasNoSlash last → Ends (parts_of (front ++ 47 ∷ last)) last
+-- a text has one part at least
+some_part : (text : List ℕ) → (first : List ℕ) × (more : Path) × (parts_of text ≡ first ∷ more)
+some_part [] = ([], [], refl)
+some_part (b ∷ text) =
+    let parts = some_part text in
+    elim (b == 47) as (λ slash. (first : List ℕ) × (more : Path) × (cond slash ([] ∷ parts_of text) (onto_first b (parts_of text)) ≡ first ∷ more)) [
+      | true ↦ ([], parts_of text, refl)
+      | false ↦ (b ∷ parts.0, parts.1, ap (onto_first b) parts.2)
+    ]
+
+-- behind a slash the last part is that of what follows
+parts_behind : (front rest : List ℕ) → Ends (parts_of (front ++ 47 ∷ rest)) (last_part rest)
 unfolding Ends
-parts_end [] last h = subst (λ (parts : Path). Ends ([] ∷ parts) last) (sym (one_part last h)) refl
-parts_end (b ∷ front) last h = one_byte_more b (b == 47) (parts_of (front ++ 47 ∷ last)) last (parts_end front last h)
+parts_behind [] rest =
+    let parts = some_part rest in
+    subst (λ (all : Path). Ends ([] ∷ all) (last_name_of all)) (sym parts.2) refl
+parts_behind (b ∷ front) rest = one_byte_more b (b == 47) (parts_of (front ++ 47 ∷ rest)) (last_part rest) (parts_behind front rest)
+
+parts_end : (front last : List ℕ) → HasNoSlash last → Ends (parts_of (front ++ 47 ∷ last)) last
+parts_end front last h = subst (λ l. Ends (parts_of (front ++ 47 ∷ last)) l) (ap last_name_of (one_part last h)) (parts_behind front last)
 
 -- the last part, and what comes before it, as `rsplit_once` finds it
 pub last_part_is : (path : List ℕ) (r : Option (Bor (List ℕ) × Bor (List ℕ)))
@@ -93,3 +115,60 @@ folder_fits path h = elim (length (last_part path) == length path) as (λ t. len
   | true ↦ lit< tt
   | false ↦ omega (arith, length-take (length path - length (last_part path)) path)
 ]
+
+one_byte_longer : (byte : ℕ) (slash : Bool) (parts : Path) (n : ℕ) → length (last_name_of parts) ≤ n → length (last_name_of (cond slash ([] ∷ parts) (onto_first byte parts))) ≤ suc n
+one_byte_longer byte true [] n h = omega arith
+one_byte_longer byte false [] n h = omega arith
+one_byte_longer byte true (a ∷ parts) n h = omega arith
+one_byte_longer byte false (a ∷ []) n h = omega arith
+one_byte_longer byte false (a ∷ b ∷ parts) n h = omega arith
+
+-- the last part isn't longer than the path
+last_fits : (path : List ℕ) → length (last_part path) ≤ length path
+last_fits [] = omega arith
+last_fits (b ∷ path) = one_byte_longer b (b == 47) (parts_of path) (length path) (last_fits path)
+
+-- a top stands under itself
+pub top_under : (top : List ℕ) → IsUnder top (top ++ 47 ∷ [])
+unfolding IsUnder
+top_under top = ([], sym (append-nil (top ++ 47 ∷ [])))
+
+under : (top rest : List ℕ) (size : ℕ) → length top + 1 ≤ size → IsUnder top (take size ((top ++ 47 ∷ []) ++ rest))
+unfolding IsUnder
+under top rest size h =
+    let is : length (top ++ 47 ∷ []) + (size - (length top + 1)) ≡ size = omega (arith, length-append top (47 ∷ [])) in
+    (take (size - (length top + 1)) rest, subst (λ n. take n ((top ++ 47 ∷ []) ++ rest) ≡ (top ++ 47 ∷ []) ++ take (size - (length top + 1)) rest) is (take-append-add (top ++ 47 ∷ []) rest (size - (length top + 1))))
+
+-- the folder of a path under another is that one, or under it
+folder_under : (top path : List ℕ) → IsUnder top path → IsUnder top (folder_of path)
+unfolding IsUnder
+folder_under top path (rest, is) =
+    let behind : (top ++ 47 ∷ []) ++ rest ≡ top ++ 47 ∷ rest = append_assoc top (47 ∷ []) rest in
+    let last : last_part path ≡ last_part rest = ap last_part (is ∙ behind) ∙ ends_so _ _ (parts_behind top rest) in
+    let size : length path ≡ length top + 1 + length rest = ap length is ∙ omega (arith, length-append (top ++ 47 ∷ []) rest, length-append top (47 ∷ [])) in
+    let fits : length (last_part path) ≤ length rest = subst (λ (l : List ℕ). length l ≤ length rest) (sym last) (last_fits rest) in
+    let shorter : (length (last_part path) == length path) ≡ false = ne_eqb (length (last_part path)) (length path) (λ e. omega (arith, e, size, fits)) in
+    subst (IsUnder top) (ap (λ l. take (length path - length (last_part path)) l) (sym is) ∙ sym (ap (λ b. cond b (codes "./") (take (length path - length (last_part path)) path)) shorter))
+    (under top rest (length path - length (last_part path)) (omega (arith, size, fits)))
+
+-- the folder above one that stands under another is that one, or under it
+pub above_under : (top folder : List ℕ) → length top + 1 < length folder → IsUnder top folder → IsUnder top (above folder)
+unfolding IsUnder
+above_under top folder longer (rest, is) =
+    elim (ends_with (λ a b. a == b) folder (47 ∷ [])) as (λ t. IsUnder top (folder_of (cond t (take (length folder - 1) folder) folder))) [
+      | true ↦ folder_under top (take (length folder - 1) folder) (subst (IsUnder top) (ap (λ l. take (length folder - 1) l) (sym is)) (under top rest (length folder - 1) (omega arith)))
+      | false ↦ folder_under top folder (rest, is)
+    ]
+
+-- what begins with the path of a folder is under what that is under
+pub first_under : (top folder path : List ℕ) → IsTrue (starts_with (λ a b. a == b) path folder) → IsUnder top folder → IsUnder top path
+unfolding IsUnder
+first_under top folder path begins (rest, is) =
+    let whole : path ≡ folder ++ drop (length folder) path = (starts_is Decides-eqb path folder _ refl).0 begins in
+    (rest ++ drop (length folder) path, whole ∙ ap (λ l. l ++ drop (length folder) path) is ∙ append_assoc (top ++ 47 ∷ []) rest (drop (length folder) path))
+
+-- under a folder nothing but that one has so short a path
+pub only_top : (top folder : List ℕ) → length folder ≤ length top + 1 → IsUnder top folder → folder ≡ top ++ 47 ∷ []
+unfolding IsUnder
+only_top top folder short ([], is) = is ∙ append-nil (top ++ 47 ∷ [])
+only_top top folder short (b ∷ rest, is) = absurd (omega (arith, ap length is, length-append (top ++ 47 ∷ []) (b ∷ rest), length-append top (47 ∷ [])))

@@ -1,4 +1,5 @@
 mod CutNames
 mod LastParts
+mod Listed
 mod Looking
 mod Notes

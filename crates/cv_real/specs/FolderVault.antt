@@ -1,7 +1,9 @@
 -- What a call of a vault over a folder leaves to the next sync.
-use Rattle.std.specs.Prelude.{ℕ, Bool, ◌≡◌, List, None, IsTrue, bytes_eq, string_bytes, ⊤}
-use Rattle.std.specs.List.{list_any}
+use Rattle.std.specs.Prelude.{ℕ, Bool, ◌≡◌, ◌==◌, List, None, IsTrue, bytes_eq, string_bytes, ⊤}
+use Rattle.std.specs.List.{All, list_any, starts_with}
+use Rattle.std.specs.List.Sorted.{IsStrictlySortedBy}
 use Rattle.std.specs.declared.string.String.{String}
+use Rattle.cv_base.specs.Path.{name_cmp}
 use Rattle.cv_vault.specs.Disk.{Disk}
 use Rattle.cv_vault.specs.Moments.{Calls}
 use Rattle.cv_real.specs.declared.folder_vault.FolderVault.{FolderVault}
@@ -28,6 +30,14 @@ Stays before after =
 abbrev pub Adds : {R F : Type 0} → FolderVault R F → FolderVault R F → Type 0
 Adds before after =
     (after.root ≡ before.root) × Keeps before.folders.items after.folders.items × (IsTrue before.is_unsettled → IsTrue after.is_unsettled) × (IsTrue before.broken → IsTrue after.broken)
+
+-- each of these names begins with the prefix
+abbrev pub AllBegin : List ℕ → List (List ℕ) → Type 0
+AllBegin prefix names = All (λ name. IsTrue (starts_with (λ a b. a == b) name prefix)) names
+
+-- a listing: names that begin with the prefix, in ascending order of their bytes, each once
+abbrev pub IsListed : List ℕ → List (List ℕ) → Type 0
+IsListed prefix names = IsStrictlySortedBy name_cmp names × AllBegin prefix names
 
 -- the call of a vault that tells nothing of its disk, as that of any vault
 abbrev pub Untold : {V : Type 0} → (Disk → Disk → Type 0) → V → V → Type 0

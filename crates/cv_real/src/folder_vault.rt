@@ -5,7 +5,7 @@ ghost use Rattle.cv_base.specs.Counts.{HasCause};
 ghost use Rattle.cv_vault.specs.Disk.{Reads, Measures, Lists, Writes, Renames, Removes, Syncs};
 ghost use Rattle.cv_vault.specs.declared.vault.VaultFault.TheVariants.{Failed, NoMemory};
 ghost use Rattle.cv_real.specs.Names.{is_name, folder_of, path_of};
-ghost use Rattle.cv_real.specs.FolderVault.{Untold, Notes, Stays, Adds, is_noted};
+ghost use Rattle.cv_real.specs.FolderVault.{Untold, IsListed, Notes, Stays, Adds, is_noted};
 ghost use Rattle.cv_real.specs.FolderVaultInner.{IsAt};
 
 use crate::count::FaultCount;
@@ -13,7 +13,7 @@ use crate::hold::{Hold, lock_folder, make_held, refused};
 use crate::names::{NEXT, folder_of, is_name, is_root};
 use crate::path_buffer::PathBuffer;
 use crate::paths::{
-    as_texts, find_file, is_memory, list_files, make_folders, move_file, note, put_file, read_found,
+    find_file, is_memory, list_files, make_folders, move_file, note, put_file, read_found,
 };
 use crate::walk::{Unsynced, Walk, sync_folder, sync_folders};
 use cv_base::{Bytes, Text};
@@ -252,15 +252,14 @@ impl<R: Files<File = File> + AllocGlobal + Clone + Drop> FolderVault<R> {
     }
 
     fn list_now(&mut self, prefix: &str) -> io::Result<Vec<Text>>
+        ensures listed { IfOk result (λ names. IsListed prefix.now names.items) }
         ensures stays { Stays self.old self.new }
         ensures faults { self.new.faults ≡ self.old.faults }
     {
-        let alloc = self.rt.alloc();
         if !self.is_held()? {
-            return Ok(Vec::new(alloc));
+            return Ok(Vec::new(self.rt.alloc()));
         }
-        let names = list_files(&self.rt, self.root.as_str(), prefix)?;
-        Ok(as_texts(alloc, names)?)
+        list_files(&self.rt, self.root.as_str(), prefix)
     }
 
     /// Makes the path of a name, and the vault's folder, if none is there.
@@ -284,12 +283,8 @@ impl<R: Files<File = File> + AllocGlobal + Clone + Drop> FolderVault<R> {
     {
         self.begin_write(name)?;
         self.set_next()?;
-        make_folders(
-            &self.rt,
-            self.path.as_str(),
-            self.root.len() + 1,
-            &mut self.folders,
-        )?;
+        let from = self.root.len() + 1;
+        make_folders(&self.rt, self.path.as_str(), from, &mut self.folders)?;
         put_file(&self.rt, self.next.as_str(), self.path.as_str(), bytes)
     }
 
@@ -310,12 +305,8 @@ impl<R: Files<File = File> + AllocGlobal + Clone + Drop> FolderVault<R> {
         let source = String::from_str(self.rt.alloc(), self.path.as_str())?;
         self.set_path(to)?;
         note(&mut self.folders, folder_of(source.as_str()))?;
-        make_folders(
-            &self.rt,
-            self.path.as_str(),
-            self.root.len() + 1,
-            &mut self.folders,
-        )?;
+        let from = self.root.len() + 1;
+        make_folders(&self.rt, self.path.as_str(), from, &mut self.folders)?;
         move_file(&self.rt, source.as_str(), &found, self.path.as_str())?;
         Ok(true)
     }
@@ -436,6 +427,7 @@ impl<R: Files<File = File> + AllocGlobal + Clone + Drop> Vault for FolderVault<R
 
     fn list(&mut self, prefix: &str) -> Result<Vec<Text>, VaultFault>
         ensures call { Untold (Lists prefix.now result) self.old self.new }
+        ensures listed { IfOk result (λ names. IsListed prefix.now names.items) }
         ensures cause { HasCause self.old.faults.number self.new.faults.number (IsErrOf result Failed) }
         ensures stays { Stays self.old self.new }
     {
@@ -491,6 +483,7 @@ impl<R: Files<File = File> + AllocGlobal + Clone + Drop> Vault for FolderVault<R
         ensures memory { result ≢ Err NoMemory }
         ensures lost { IsTrue self.old.broken → IsErr result }
         ensures adds { OnErr result (Adds self.old self.new) }
+        ensures root { self.new.root ≡ self.old.root }
     {
         match self.sync_now() {
             Ok(()) => Ok(()),

@@ -1,6 +1,8 @@
 //! The items of a real folder.
-ghost use Rattle.std.specs.Prelude.{IfOk};
+ghost use Rattle.std.specs.Prelude.{◌≡◌, ◌<◌, IfOk};
+ghost use Rattle.std.specs.Fs.{dir_entry_name, file_type};
 ghost use Rattle.cv_ports.specs.Folder.{Ascend};
+ghost use Rattle.cv_real.specs.ListingInner.{Tells, seconds_since_1970};
 
 use cv_base::{Items, Text};
 use cv_ports::{FolderItem, FoundKind, ascend};
@@ -15,7 +17,9 @@ use std::{fs, io};
 const PERMISSIONS: u32 = 0o7777;
 
 /// What stands at a path, of which this was seen. Of a link its text is read.
-fn kind_of<R: Files + AllocGlobal>(rt: &R, path: &str, seen: &Metadata) -> io::Result<FoundKind> {
+fn kind_of<R: Files + AllocGlobal>(rt: &R, path: &str, seen: &Metadata) -> io::Result<FoundKind>
+    ensures { IfOk result (λ kind. Tells (file_type seen.now) kind) }
+{
     if seen.is_dir() {
         return Ok(FoundKind::Dir);
     }
@@ -30,7 +34,9 @@ fn kind_of<R: Files + AllocGlobal>(rt: &R, path: &str, seen: &Metadata) -> io::R
 }
 
 /// The whole seconds since 1970, or 0 before.
-fn since_1970(seconds: i64) -> u64 {
+fn since_1970(seconds: i64) -> u64
+    ensures { result ≡ seconds_since_1970 seconds }
+{
     u64::try_from(seconds).unwrap_or(0)
 }
 
@@ -39,7 +45,10 @@ fn item_of<R: Files + AllocGlobal + Clone + Drop>(
     rt: &R,
     alloc: Global,
     entry: &DirEntry<R>,
-) -> io::Result<FolderItem> {
+) -> io::Result<FolderItem>
+    ensures name { IfOk result (λ item. item.name ≡ dir_entry_name entry.now) }
+    ensures mode { IfOk result (λ item. item.mode < 4096) }
+{
     let seen = entry.metadata()?;
     Ok(FolderItem {
         name: Text::new(String::from_str(alloc, entry.file_name())?),

@@ -1,15 +1,19 @@
 //! What stands in a folder, without going through a link. A folder's path ends in a slash: the system then opens nothing but a
 //! folder there.
-ghost use Rattle.std.specs.Prelude.{◌≡◌, ◌≤◌, ◌↔◌, None, length, IfOk, IsTrue, OnOk};
+ghost use Rattle.std.specs.Prelude.{◌≡◌, ◌==◌, ◌≤◌, ◌↔◌, ℕ, List, None, length, IfOk, IsTrue, OnOk};
 ghost use Rattle.std.specs.IoError.{error_kind, raw_os_error};
-ghost use Rattle.cv_real.specs.FolderVault.{Keeps, is_noted};
+ghost use Rattle.std.specs.List.{Contains, starts_with};
+ghost use Rattle.std.specs.List.Sorted.{IsStrictlySortedBy};
+ghost use Rattle.cv_base.specs.Path.{name_cmp, same_name};
+ghost use Rattle.cv_real.specs.FolderVault.{Keeps, is_noted, AllBegin, IsListed};
 ghost use Rattle.cv_real.specs.Names.{folder_of};
 ghost use Rattle.cv_real.specs.PathsInner.{IsNoName};
 
 use crate::names::{folder_of, is_own};
 use cv_base::Text;
 use std::alloc::{AllocError, Global};
-use std::fs::{File, Metadata, OpenFile};
+use std::cmp::Ordering;
+use std::fs::{DirEntry, File, Metadata, OpenFile};
 use std::io::{ErrorKind, Read, Write};
 use std::os::unix::fs::MetadataExt;
 use std::rt::Files;
@@ -213,12 +217,48 @@ pub fn seen_entry<R: Files>(rt: &R, path: &str) -> io::Result<Option<Metadata>> 
     }
 }
 
-/// The names below a root that begin with the prefix, in ascending order of bytes.
+/// Whether a name begins with a prefix.
+fn begins(name: &str, prefix: &str) -> bool
+    ensures { result ≡ starts_with (λ a b. a == b) name.now prefix.now }
+{
+    name.as_bytes().starts_with(prefix.as_bytes())
+}
+
+/// How two texts are ordered by their bytes.
+fn text_order(one: &Text, other: &Text) -> Ordering
+    ensures { result ≡ name_cmp one.now other.now }
+{
+    one.as_str().cmp(other.as_str())
+}
+
+/// Whether two texts have the same bytes.
+fn is_same_text(one: &mut Text, other: &mut Text) -> bool
+    ensures same { result ≡ same_name one.old other.old }
+    ensures one { one.new ≡ one.old }
+    ensures other { other.new ≡ other.old }
+{
+    matches!(text_order(one, other), Ordering::Equal)
+}
+
+/// These texts in ascending order of their bytes, each once.
+fn in_order(found: Vec<Text>) -> Vec<Text>
+    ensures ascending { IsStrictlySortedBy name_cmp result.items }
+    ensures same { (text : List ℕ) → Contains result.items text ↔ Contains found.items text }
+{
+    let mut texts = found;
+    texts.sort_unstable_by(text_order);
+    texts.dedup_by(is_same_text);
+    texts
+}
+
+/// The names below a root that begin with the prefix, in ascending order of bytes, each once.
 pub fn list_files<R: Files + AllocGlobal + Clone + Drop>(
     rt: &R,
     root: &str,
     prefix: &str,
-) -> io::Result<Vec<String>> {
+) -> io::Result<Vec<Text>>
+    ensures { IfOk result (λ names. IsListed prefix.now names.items) }
+{
     let mut found = Vec::new(rt.alloc());
     let mut todo = Vec::new(rt.alloc());
     todo.push(String::new(rt.alloc()))
@@ -226,24 +266,59 @@ pub fn list_files<R: Files + AllocGlobal + Clone + Drop>(
     // Each turn takes one folder of the disk; the bound is never met.
     for _ in 0..u64::MAX {
         let Some(folder) = todo.pop() else {
-            break;
+            return Ok(in_order(found));
         };
         match list_folder(rt, root, folder.as_str(), prefix, &mut found, &mut todo) {
             Err(error) if is_no_name(&error) => {}
             done => done?,
         }
     }
-    found.sort_unstable();
-    Ok(found)
+    Err(io::Error::from(ErrorKind::TimedOut))
 }
 
-/// The same names as texts of their own type.
-pub fn as_texts(alloc: Global, names: Vec<String>) -> Result<Vec<Text>, AllocError> {
-    let mut texts = Vec::with_capacity(alloc, names.len())?;
-    for name in names {
-        texts.push(Text::new(name))?;
+/// Adds a name, if it begins with the prefix.
+#[tactic(auto, using(crate::proofs::Listed::one_more))]
+fn add(found: &mut Vec<Text>, name: String, prefix: &str) -> Result<(), AllocError>
+    ensures { AllBegin prefix.now found.old.items → AllBegin prefix.now found.new.items }
+{
+    if !begins(name.as_str(), prefix) {
+        return Ok(());
     }
-    Ok(texts)
+    found.push(Text::new(name))?;
+    Ok(())
+}
+
+/// Adds what stands at an entry of a folder: a file whose name begins with the prefix, or a folder that may hold others.
+fn list_entry<R: Files + AllocGlobal + Clone + Drop>(
+    rt: &R,
+    folder: &str,
+    entry: &DirEntry<R>,
+    prefix: &str,
+    found: &mut Vec<Text>,
+    todo: &mut Vec<String>,
+) -> io::Result<()>
+    ensures { AllBegin prefix.now found.old.items → AllBegin prefix.now found.new.items }
+{
+    let last = entry.file_name();
+    if is_own(last) {
+        return Ok(());
+    }
+    let name = format!(in rt.alloc(); "{folder}{last}")?;
+    let below = format!(in rt.alloc(); "{name}/")?;
+    if !begins(name.as_str(), prefix) && !begins(prefix, below.as_str()) {
+        return Ok(());
+    }
+    let Some(kind) = seen_entry(rt, entry.path().as_str())? else {
+        return Ok(());
+    };
+    if kind.is_dir() {
+        todo.push(below).map_err(AllocError::from)?;
+        return Ok(());
+    }
+    if kind.is_file() {
+        add(found, name, prefix)?;
+    }
+    Ok(())
 }
 
 /// Adds the files of a folder whose names begin with the prefix, and the folders that may hold others.
@@ -252,32 +327,17 @@ fn list_folder<R: Files + AllocGlobal + Clone + Drop>(
     root: &str,
     folder: &str,
     prefix: &str,
-    found: &mut Vec<String>,
+    found: &mut Vec<Text>,
     todo: &mut Vec<String>,
-) -> io::Result<()> {
+) -> io::Result<()>
+    ensures { AllBegin prefix.now found.old.items → AllBegin prefix.now found.new.items }
+{
     let at = format!(in rt.alloc(); "{root}/{folder}")?;
     for entry in fs::read_dir(rt, at.as_str())? {
-        let entry = match entry {
-            Err(error) if is_no_name(&error) => continue,
-            entry => entry?,
-        };
-        let last = entry.file_name();
-        if is_own(last) {
-            continue;
-        }
-        let name = format!(in rt.alloc(); "{folder}{last}")?;
-        let below = format!(in rt.alloc(); "{name}/")?;
-        let is_found = name.as_str().starts_with(prefix);
-        if !is_found && !prefix.starts_with(below.as_str()) {
-            continue;
-        }
-        let Some(kind) = seen_entry(rt, entry.path().as_str())? else {
-            continue;
-        };
-        if kind.is_dir() {
-            todo.push(below).map_err(AllocError::from)?;
-        } else if kind.is_file() && is_found {
-            found.push(name).map_err(AllocError::from)?;
+        match entry {
+            Ok(entry) => list_entry(rt, folder, &entry, prefix, found, todo)?,
+            Err(error) if is_no_name(&error) => {}
+            Err(error) => return Err(error),
         }
     }
     Ok(())

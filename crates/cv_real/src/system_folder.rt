@@ -1,5 +1,5 @@
 //! A folder of changes over a real folder.
-ghost use Rattle.std.specs.Prelude.{◌≡◌, ◌≤◌, ◌↔◌, ◌++◌, [], ◌∷◌, length, IfOk, None, string_bytes};
+ghost use Rattle.std.specs.Prelude.{◌≡◌, ◌≤◌, ◌↔◌, ◌++◌, [], ◌∷◌, length, IfOk, IfSome, IsOk, IsSome, None, string_bytes};
 ghost use Rattle.std.specs.IoError.{error_kind, raw_os_error};
 ghost use Rattle.cv_base.specs.Counts.{HasCause};
 ghost use Rattle.cv_ports.specs.Folder.{Ascend};
@@ -71,7 +71,11 @@ impl<R: Files + AllocGlobal + Clone + Drop> SystemFolder<R> {
     }
 
     /// The path of the folder, with a slash at its end.
-    fn root_now(&self, alloc: Global) -> io::Result<String> {
+    fn root_now(&self, alloc: Global) -> io::Result<String>
+        ensures named { IsOk result → IsSome self.now.name }
+        ensures path { IfOk result (λ path. IfSome self.now.name
+            (λ name. string_bytes path ≡ name ++ 47 ∷ [])) }
+    {
         match &self.name {
             Some(name) => root_path(alloc, name.as_str()),
             None => Err(io::Error::from(ErrorKind::InvalidInput)),

@@ -1,17 +1,18 @@
 //! All folders from one on, made durable without a list of them.
-ghost use Rattle.std.specs.Prelude.{◌≡◌, ◌↔◌, ◌==◌, ◌+◌, ◌<◌, ◌++◌, [], ◌∷◌, All, drop, length, map, position, IfOk, IfErr, IfSome, MatchOption, Err, IsOk, IsTrue, OnOk, true, false, ◌≤◌};
+ghost use Rattle.std.specs.Prelude.{◌≡◌, ◌↔◌, ◌==◌, ◌+◌, ◌<◌, ◌++◌, [], ◌∷◌, All, drop, length, map, position, IfOk, IfErr, IfSome, MatchOption, Ok, Err, IsOk, IsErr, IsSome, IsTrue, OnOk, true, false, ◌≤◌, if◌then◌else◌};
+ghost use Rattle.std.specs.Fs.{file_type, IsDir};
 ghost use Rattle.std.specs.IoError.{error_kind};
 ghost use Rattle.std.specs.List.{starts_with};
 ghost use Rattle.cv_real.specs.NamesInner.{above};
-ghost use Rattle.cv_real.specs.PathsInner.{IsPassed};
-ghost use Rattle.cv_real.specs.WalkInner.{comes_next, first_of, folder_in, IsNext, Looks, LooksAtAll, LooksRound, names_in};
+ghost use Rattle.cv_real.specs.PathsInner.{IsPassed, Settles};
+ghost use Rattle.cv_real.specs.WalkInner.{comes_next, first_of, folder_in, IsNext, IsUnder, Looks, LooksAtAll, LooksRound, names_in, with_path};
 
 use crate::ahead::Ahead;
 use crate::names::{NEXT, above, is_part};
 use crate::path_buffer::PathBuffer;
 use crate::paths::{is_no_name, seen, seen_entry};
 use std::alloc::{AllocError, Global};
-use std::fs::OpenFile;
+use std::fs::{Metadata, OpenFile};
 use std::io::{ErrorKind, Read};
 use std::rt::Files;
 use std::{fs, io};
@@ -29,11 +30,20 @@ pub enum Unsynced {
     Lost,
 }
 
-/// Makes durable what a folder holds, by names alone.
-fn sync_open(open: &impl OpenFile) -> Result<(), Unsynced>
-    ensures { IfErr result (λ unsynced. unsynced ≡ Unsynced.Lost) }
+/// What the system gives as a folder is opened and, where it was, synced.
+fn sync_at(rt: &impl Files, folder: &str) -> io::Result<io::Result<()>> {
+    match fs::open(rt, folder) {
+        Ok(open) => Ok(open.sync_all()),
+        Err(error) => Err(error),
+    }
+}
+
+/// Whether what the system gave says that what was written is durable.
+fn told(synced: &io::Result<()>) -> Result<(), Unsynced>
+    ensures ok { IsOk result ↔ IsOk synced.now }
+    ensures lost { IfErr result (λ unsynced. unsynced ≡ Unsynced.Lost) }
 {
-    match open.sync_all() {
+    match synced {
         Ok(()) => Ok(()),
         Err(_) => Err(Unsynced::Lost),
     }
@@ -41,8 +51,8 @@ fn sync_open(open: &impl OpenFile) -> Result<(), Unsynced>
 
 /// Makes a folder durable.
 pub fn sync_folder(rt: &impl Files, folder: &str) -> Result<(), Unsynced> {
-    match fs::open(rt, folder) {
-        Ok(open) => sync_open(&open),
+    match sync_at(rt, folder) {
+        Ok(synced) => told(&synced),
         Err(_) => Err(Unsynced::NotOpened),
     }
 }
@@ -60,6 +70,27 @@ fn is_refused(error: &io::Error) -> bool
     ensures { IsTrue result ↔ (error_kind error.now ≡ ErrorKind.PermissionDenied) }
 {
     matches!(error.kind(), ErrorKind::PermissionDenied)
+}
+
+/// Whether this process may look nothing up in a folder, by what was seen at the path of `.` in it.
+fn is_shut(seen: &io::Result<Option<Metadata>>) -> bool
+    ensures { IsTrue result ↔ IsErr seen.now
+        × IfErr seen.now (λ error. error_kind error ≡ ErrorKind.PermissionDenied) }
+{
+    match seen {
+        Ok(_) => false,
+        Err(error) => is_refused(error),
+    }
+}
+
+/// Whether a folder was seen.
+fn is_dir(seen: &Option<Metadata>) -> bool
+    ensures { IsTrue result ↔ IsSome seen.now × IfSome seen.now (λ found. IsDir (file_type found)) }
+{
+    match seen {
+        Some(found) => found.is_dir(),
+        None => false,
+    }
 }
 
 /// Whether an error in a folder is passed over, since no name of the vault is behind it. In a closed folder no call tells of a
@@ -135,10 +166,7 @@ impl Place {
         if !self.entry.set(self.folder.as_str(), ".") {
             return true;
         }
-        match seen(rt, self.entry.as_str()) {
-            Ok(_) => false,
-            Err(error) => is_refused(&error),
-        }
+        is_shut(&seen(rt, self.entry.as_str()))
     }
 
     /// Passes over an error in the folder where no name of the vault is behind it. Any other ends the sync.
@@ -188,11 +216,23 @@ impl Place {
         ensures ends { IfErr result (λ unsynced. unsynced ≡ Unsynced.NotOpened) }
     {
         match seen_entry(rt, self.entry.as_str()) {
-            Ok(seen) => Ok(seen.is_some_and(|seen| seen.is_dir())),
+            Ok(seen) => Ok(is_dir(&seen)),
             Err(error) => {
                 self.pass_over(rt, &error)?;
                 Ok(false)
             }
+        }
+    }
+
+    /// Keeps the path that was found, if a folder stands there.
+    fn keep_if(&mut self, is_folder: bool)
+        ensures folder { self.new.folder ≡ self.old.folder }
+        ensures last { self.new.last ≡ self.old.last }
+        ensures ahead { self.new.ahead
+            ≡ (if is_folder then with_path self.old.found self.old.ahead else self.old.ahead) }
+    {
+        if is_folder {
+            self.ahead.keep(&mut self.found);
         }
     }
 
@@ -210,10 +250,8 @@ impl Place {
         if !self.is_next(name) {
             return Ok(());
         }
-        if !self.is_folder(rt)? {
-            return Ok(());
-        }
-        self.ahead.keep(&mut self.found);
+        let is_folder = self.is_folder(rt)?;
+        self.keep_if(is_folder);
         Ok(())
     }
 
@@ -227,24 +265,15 @@ impl Place {
             .starts_with(self.folder.as_str().as_bytes())
     }
 
-    /// Goes into the folder that comes next.
+    /// Goes into the folder that comes next, which stands in this one.
     fn enter(&mut self)
+        requires { IsTrue (starts_with (λ a b. a == b) (first_of self.old.ahead) self.old.folder) }
         ensures folder { self.new.folder ≡ first_of self.old.ahead }
         ensures last { self.new.last ≡ first_of self.old.ahead }
         ensures ahead { self.new.ahead ≡ drop 1 self.old.ahead ++ [] ∷ [] }
     {
         self.ahead.take_first(&mut self.folder);
         self.last.copy(self.folder.as_str());
-    }
-
-    /// Goes back into the folder above.
-    fn leave(&mut self)
-        ensures folder { self.new.folder ≡ above self.old.folder }
-        ensures last { self.new.last ≡ self.old.last }
-        ensures ahead { self.new.ahead ≡ self.old.ahead }
-    {
-        self.entry.copy(above(self.folder.as_str()));
-        self.folder.copy(self.entry.as_str());
     }
 
     /// Removes what an earlier process left in the folder.
@@ -259,6 +288,24 @@ impl Place {
         let _ = fs::remove_file(rt, self.entry.as_str());
     }
 
+    /// What a sync of the folder comes to, by what the system gave. A folder that couldn't be opened is passed over, if this
+    /// process may look nothing up in it.
+    fn settled(
+        &mut self,
+        rt: &impl Files,
+        synced: &io::Result<io::Result<()>>,
+    ) -> Result<(), Unsynced>
+        ensures folder { self.new.folder ≡ self.old.folder }
+        ensures last { self.new.last ≡ self.old.last }
+        ensures ahead { self.new.ahead ≡ self.old.ahead }
+        ensures settles { Settles synced.now result }
+    {
+        match synced {
+            Ok(synced) => told(synced),
+            Err(error) => self.pass_over(rt, error),
+        }
+    }
+
     /// Removes what an earlier process left in the folder, and makes the folder durable. One in which this process may look
     /// nothing up is passed over, if it may not read it.
     fn settle(&mut self, rt: &impl Files) -> Result<(), Unsynced>
@@ -267,10 +314,8 @@ impl Place {
         ensures ahead { self.new.ahead ≡ self.old.ahead }
     {
         self.remove_left(rt);
-        match fs::open(rt, self.folder.as_str()) {
-            Ok(open) => sync_open(&open),
-            Err(error) => self.pass_over(rt, &error),
-        }
+        let synced = sync_at(rt, self.folder.as_str());
+        self.settled(rt, &synced)
     }
 }
 
@@ -313,6 +358,8 @@ fn look_at(rt: &impl Files, place: &mut Place, names: &[u8]) -> Result<(), Unsyn
 pub struct Walk {
     place: Place,
     names: Vec<u8>,
+    /// Whether the folder was looked through as it was last asked for one that comes next.
+    looked: bool,
 }
 
 impl Walk {
@@ -325,6 +372,7 @@ impl Walk {
         Ok(Walk {
             place: Place::new(alloc)?,
             names: vec![in alloc; 0u8; NAMES_ROOM]?,
+            looked: false,
         })
     }
 
@@ -335,11 +383,16 @@ impl Walk {
         ensures last { self.new.place.last ≡ self.old.place.last }
         ensures ahead { LooksRound self.old.place.folder self.old.place.last
             self.old.place.ahead self.new.place.ahead }
+        ensures looked { OnOk result (self.new.looked ≡ true) }
         ensures ends { IfErr result (λ unsynced. unsynced ≡ Unsynced.NotOpened) }
     {
         let mut open = match rt.open_dir(self.place.folder.as_str()) {
             Ok(open) => open,
-            Err(error) => return self.place.pass_over(rt, &error),
+            Err(error) => {
+                self.place.pass_over(rt, &error)?;
+                self.looked = true;
+                return Ok(());
+            }
         };
         // Each turn but the last takes names of the disk; the bound is never met.
         for _ in 0..u64::MAX {
@@ -347,23 +400,26 @@ impl Walk {
                 return Err(Unsynced::NotOpened);
             };
             if count == 0 {
-                break;
+                self.looked = true;
+                return Ok(());
             }
             look_at(rt, &mut self.place, &self.names[..count])?;
         }
-        Ok(())
+        Err(Unsynced::NotOpened)
     }
 
     /// Whether the folder has one that comes next. It is read where none is known.
     fn has_next<R: Files>(&mut self, rt: &R) -> Result<bool, Unsynced>
         ensures next { IfOk result (λ is. is
             ≡ starts_with (λ a b. a == b) (first_of self.new.place.ahead) self.new.place.folder) }
+        ensures looked { result ≡ Ok false → self.new.looked ≡ true }
         ensures folder { self.new.place.folder ≡ self.old.place.folder }
         ensures last { self.new.place.last ≡ self.old.place.last }
         ensures ahead { LooksRound self.old.place.folder self.old.place.last
             self.old.place.ahead self.new.place.ahead }
         ensures ends { IfErr result (λ unsynced. unsynced ≡ Unsynced.NotOpened) }
     {
+        self.looked = false;
         if self.place.is_above_next() {
             return Ok(true);
         }
@@ -371,24 +427,53 @@ impl Walk {
         Ok(self.place.is_above_next())
     }
 
+    /// Goes back from a folder that was looked at into the one above.
+    fn leave(&mut self)
+        requires { self.old.looked ≡ true }
+        ensures folder { self.new.place.folder ≡ above self.old.place.folder }
+        ensures last { self.new.place.last ≡ self.old.place.last }
+        ensures ahead { self.new.place.ahead ≡ self.old.place.ahead }
+    {
+        self.place.entry.copy(above(self.place.folder.as_str()));
+        self.place.folder.copy(self.place.entry.as_str());
+    }
+
+    /// Goes into the folder that comes next, or back from this one. Whether this one is the top, and no folder comes next.
+    #[tactic(auto, using(crate::proofs::LastParts::above_under, crate::proofs::LastParts::first_under, crate::proofs::LastParts::only_top))]
+    fn turn<R: Files>(&mut self, rt: &R, top: &str) -> Result<bool, Unsynced>
+        requires { IsUnder top.now self.old.place.folder }
+        ensures under { OnOk result (IsUnder top.now self.new.place.folder) }
+        ensures done { result ≡ Ok true → (self.new.place.folder ≡ top.now ++ 47 ∷ [])
+            × (self.new.looked ≡ true) }
+    {
+        if self.has_next(rt)? {
+            self.place.enter();
+            self.place.settle(rt)?;
+            return Ok(false);
+        }
+        if self.place.folder.as_str().len() <= top.len() + 1 {
+            return Ok(true);
+        }
+        self.leave();
+        Ok(false)
+    }
+
     /// Makes durable the folder of this path and each one below it, and removes what an earlier process left there. Folders in
     /// which this process may look nothing up are passed over, if it may not read them.
+    #[tactic(auto, using(crate::proofs::LastParts::top_under))]
     pub fn sync_all<R: Files>(&mut self, rt: &R, top: &str) -> Result<(), Unsynced>
-        ensures { 4096 ≤ length top.now + 1 → result ≡ Err Unsynced.NotOpened }
+        ensures long { 4096 ≤ length top.now + 1 → result ≡ Err Unsynced.NotOpened }
+        ensures done { OnOk result ((self.new.place.folder ≡ top.now ++ 47 ∷ [])
+            × (self.new.looked ≡ true)) }
     {
         self.place.begin(top)?;
         self.place.settle(rt)?;
         // Each turn goes into a folder of the disk or back from one; the bound is never met.
         for _ in 0..u64::MAX {
-            if self.has_next(rt)? {
-                self.place.enter();
-                self.place.settle(rt)?;
-            } else if self.place.folder.as_str().len() <= top.len() + 1 {
-                break;
-            } else {
-                self.place.leave();
+            if self.turn(rt, top)? {
+                return Ok(());
             }
         }
-        Ok(())
+        Err(Unsynced::NotOpened)
     }
 }
