@@ -30,17 +30,13 @@ pub none_known : (c : Contents) (known : List Level) → AreKnown c known []
 none_known c known = λ l has. absurd (nothing_in l has)
 
 -- and a cut that was entered by its Transition row
-pub named : (c : Contents) (row : Row) (s : Spot) (path : Path) (into : Spot) → StandsAt c.at c.rows row path → row.kind ≡ kind.Transition → (is : IsInCut c row s path into)
-    → NamesCut c (record { path = path; hash = is.entry.hash; row = Some row })
-named c row s path into st trans is = record { row = row; is = refl; kind = trans; stands = st; entry = is.entry; listed = is.listed; path = sym is.path_is; hash = refl }
-
 pub cut_known : (c : Contents) (row : Row) (s : Spot) (path : Path) (into : Spot) → StandsAt c.at c.rows row path → row.kind ≡ kind.Transition → IsInCut c row s path into
     → AreKnown c (levels_of s) (levels_of into)
 cut_known c row s path into st trans is = λ l has.
     let more : Level = record { path = path; hash = is.entry.hash; row = Some row } in
     elim (Contains-push_cases (levels_of s) more l (subst (λ (ls : List Level). Contains ls l) is.levels has)) [
       | inl old ↦ inl old
-      | inr new ↦ inr (subst (NamesCut c) new (named c row s path into st trans is))
+      | inr new ↦ inr (subst (NamesCut c) new (record { row = row; is = refl; kind = trans; stands = st; entry = is.entry; listed = is.listed; path = sym is.path_is; hash = refl }))
     ]
 
 -- the first of all levels, the one above the last, and the last

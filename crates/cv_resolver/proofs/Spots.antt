@@ -165,7 +165,7 @@ top_or_below : (p : Path) → (p ≡ []) ⊎ (p ≢ [])
 top_or_below [] = inl refl
 top_or_below (a ∷ p) = inr (λ e. cc)
 
-pub parent-append : (p : Path) (a : List ℕ) → parent (p ++ a ∷ []) ≡ p
+parent-append : (p : Path) (a : List ℕ) → parent (p ++ a ∷ []) ≡ p
 parent-append [] a = refl
 parent-append (b ∷ []) a = refl
 parent-append (b ∷ c ∷ p) a = ap (λ (w : Path). b ∷ w) (parent-append (c ∷ p) a)

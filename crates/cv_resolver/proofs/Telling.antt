@@ -23,9 +23,8 @@ use Rattle.cv_resolver.specs.Asking.{is_stat}
 use Rattle.cv_resolver.specs.Entry.{stat_of}
 use Rattle.cv_resolver.specs.EntryInner.{entry_kind}
 use Rattle.cv_resolver.specs.Listing.{AreNames}
-use Rattle.cv_resolver.specs.Look.{Stat, names_at, stat_at, content_at}
+use Rattle.cv_resolver.specs.Look.{names_at, stat_at, content_at}
 use Rattle.cv_resolver.specs.Rows.{ArrivesAt, stage_of, IsAt, Enters, outer_or, levels_above, levels_behind, GoesOn, Follows, IsEntryName, Passes, idle, below_file, up, nothing, enters, follows, StepsBy, arrives, passes}
-use Rattle.cv_resolver.specs.Giving.{catalogue}
 use Rattle.cv_resolver.specs.EnterInner.{IsToldBy}
 use Rattle.cv_resolver.specs.PassInner.{PassesTo, idle as passed_over, below_file as passed_file, up as passed_up, down}
 use Rattle.cv_resolver.specs.StepInner.{MeetsLink, stage_after}

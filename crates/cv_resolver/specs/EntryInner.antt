@@ -1,5 +1,4 @@
 -- What is told of an entry. What only this crate's own functions say.
-use Rattle.cv_tree.specs.declared.node.Node.TheVariants.{File, Link}
 use Rattle.cv_rows.specs.declared.row_kind.RowKind.{RowKind}
 use Rattle.cv_rows.specs.declared.row_kind.RowKind.TheVariants as kind
 

@@ -1,97 +1,46 @@
--- On what an answer rests, whatever the catalogues say: on the rows of the one that was used last, whose cut is reached from
--- the root and is the nearest on the way to the path.
-use Rattle.std.specs.Prelude.{◌≡◌, ◌≢◌, ℕ, true, false, List, [], ◌∷◌, ◌++◌, reverse, None, Some, Err}
-use Rattle.sha1.specs.Sha1.{sha1}
-use Rattle.cv_base.specs.Path.{Path, covers}
-use Rattle.cv_base.specs.PathText.{parts_of}
-use Rattle.cv_tree.specs.Tree.{is_directory}
-use Rattle.cv_rows.specs.Catalogue.{Contents, catalogue_bytes}
-use Rattle.cv_rows.specs.Places.{StandsAt}
-use Rattle.cv_rows.specs.declared.row.Row.{Row}
-use Rattle.cv_rows.specs.declared.row_kind.RowKind.TheVariants as kind
+-- On what an answer or a refusal rests, whatever the catalogues say: on a walk from the root, step by step, by the rows of
+-- catalogues that are named one below the other from there.
+use Rattle.std.specs.Prelude.{◌≡◌, ℕ, true, List, ◌∷◌}
+use Rattle.cv_rows.specs.Catalogue.{Contents}
 use Rattle.cv_cut.specs.Reached.{FitsPlace}
-use Rattle.cv_cut.specs.Told.{node_of}
-use Rattle.cv_resolver.specs.Walk.{Name, is_idle, is_up, lead_of}
-use Rattle.cv_resolver.specs.Spot.{place_of, levels_of}
-use Rattle.cv_resolver.specs.Kept.{Kept}
-use Rattle.cv_resolver.specs.Naming.{NamesCut}
-use Rattle.cv_resolver.specs.Rows.{ArrivesAt}
+use Rattle.cv_resolver.specs.Asking.{path_of_question}
+use Rattle.cv_resolver.specs.Spot.{place_of}
+use Rattle.cv_resolver.specs.Kept.{Kept, IsKept}
+use Rattle.cv_resolver.specs.Start.{IsStart}
+use Rattle.cv_resolver.specs.Rows.{StepsBy}
 use Rattle.cv_resolver.specs.declared.spot.Level.{Level}
 use Rattle.cv_resolver.specs.declared.walk.Walk.{Walk}
 use Rattle.cv_resolver.specs.declared.question.Question.{Question}
-use Rattle.cv_resolver.specs.declared.found.ClientFault.{ClientFault}
-use Rattle.cv_resolver.specs.declared.found.ClientFault.TheVariants.{NotFound, NotDirectory, NotFile, TooManyLinks}
 use Rattle.cv_resolver.specs.declared.stage.Stage.{Stage}
 use Rattle.cv_resolver.specs.declared.stage.Stage.TheVariants.{Walks, Reads, Ends}
 
--- ---- the cuts on the way
-
-abbrev pub root_level : List ℕ → Level
-root_level root = record { path = []; hash = root; row = None }
-
--- this is the catalogue of the level: its bytes have the digest, and it stands at the place
+-- the catalogue of the level: it has the digest, and stands at the place
 pub record IsOfLevel (l : Level) (c : Contents) : Type 0 where
-  pub digest : l.hash ≡ sha1 (catalogue_bytes c)
+  pub kept : IsKept l.hash c
   pub place : FitsPlace (place_of l) c
 
--- The levels of cuts on the way from the root of this hash to a path, the nearest first: that of the root alone; or one that is
--- named by the catalogue of the nearest above it.
-pub data AreCuts (root : List ℕ) : List Level → Path → Type 0 where
-  top : {p : Path} → AreCuts root (root_level root ∷ []) p
-  below : {above l : Level} {outer : List Level} {c : Contents} {p : Path} → AreCuts root (above ∷ outer) l.path → above.path ≢ l.path → IsOfLevel above c
-      → NamesCut c l → covers l.path p ≡ true → AreCuts root (l ∷ above ∷ outer) p
+-- How far the walk of a question may have come: it begins at the root of this hash, and each of its steps is what the rows of
+-- the catalogue of the nearest cut say there.
+pub data Walked (repository root : List ℕ) (q : Question) : Walk → Type 0 where
+  begins : {w : Walk} → IsStart root (path_of_question q) w → Walked repository root q w
+  goes : {w next : Walk} {c : Contents} → Walked repository root q w → IsOfLevel w.spot.level c → StepsBy repository q c w (Walks next) → Walked repository root q next
 
--- a walk waits in a directory, below such cuts
-pub record WaitsUnder (root : List ℕ) (w : Walk) : Type 0 where
+-- the walk of the question has come so far, and waits in a directory
+pub record WaitsUnder (repository root : List ℕ) (q : Question) (w : Walk) : Type 0 where
   pub directory : w.spot.is_directory ≡ true
-  pub cuts : AreCuts root (reverse (levels_of w.spot)) w.spot.at
+  pub walked : Walked repository root q w
 
-abbrev pub IsUnder : (root : List ℕ) → Stage → Type 0
-IsUnder root (Walks w) = WaitsUnder root w
-IsUnder root (Reads hash) = Unit {0}
-IsUnder root (Ends answer) = Unit {0}
+abbrev pub IsUnder : (repository root : List ℕ) → Question → Stage → Type 0
+IsUnder repository root q (Walks w) = WaitsUnder repository root q w
+IsUnder repository root q (Reads hash) = Unit {0}
+IsUnder repository root q (Ends answer) = Unit {0}
 
--- the catalogue was used last, and is that of the nearest of the cuts on the way to the path, which it covers
-pub record IsUsedAt (root : List ℕ) (k : Kept) (c : Contents) (p : Path) : Type 0 where
-  pub level : Level
-  pub outer : List Level
-  pub cuts : AreCuts root (level ∷ outer) p
-  pub is : IsOfLevel level c
-  pub covered : covers c.at p ≡ true
+-- the question has come to this by the last step of such a walk: by the catalogue of its nearest cut, which was used last
+pub record IsLastStep (repository root : List ℕ) (q : Question) (k : Kept) (s : Stage) : Type 0 where
+  pub walk : Walk
+  pub walked : Walked repository root q walk
+  pub catalogue : Contents
+  pub is : IsOfLevel walk.spot.level catalogue
   pub rest : List (List ℕ × Contents)
-  pub last_used : k.entries ≡ (level.hash, c) ∷ rest
-
--- ---- answers
-
--- the question has come to what the row at a path of that catalogue says
-pub record IsRead (root : List ℕ) (q : Question) (k : Kept) (s : Stage) : Type 0 where
-  pub catalogue : Contents
-  pub at : Path
-  pub used : IsUsedAt root k catalogue at
-  pub arrives : ArrivesAt catalogue q at s
-
--- ---- refusals
-
-abbrev pub IsRefusal : ClientFault → Type 0
-IsRefusal NotFound = Unit {0}
-IsRefusal NotDirectory = Unit {0}
-IsRefusal NotFile = Unit {0}
-IsRefusal TooManyLinks = Unit {0}
-IsRefusal fault = ⊥
-
--- Why a question is refused, by a catalogue and the place to which its walk has come: it has arrived, and the row there is none
--- that is asked for, or there is none; no row stands at the next name; what stands at the place is no directory; or a link
--- stands at the next name, and leads nowhere or is one too many.
-pub data Refuses (repository : List ℕ) (c : Contents) (q : Question) (p : Path) : ClientFault → Type 0 where
-  arrives : {f : ClientFault} → ArrivesAt c q p (Ends (Err f)) → Refuses repository c q p f
-  nothing : (name : Name) → is_idle name ≡ false → is_up name ≡ false → ((r : Row) → StandsAt c.at c.rows r (p ++ name ∷ []) → ⊥) → Refuses repository c q p NotFound
-  no_directory : (r : Row) → StandsAt c.at c.rows r p → is_directory (Some (node_of r)) ≡ false → Refuses repository c q p NotDirectory
-  nowhere : (name : Name) (r : Row) → StandsAt c.at c.rows r (p ++ name ∷ []) → r.kind ≡ kind.Link → lead_of repository p (parts_of r.target) ≡ None → Refuses repository c q p NotFound
-  one_too_many : (name : Name) (r : Row) → StandsAt c.at c.rows r (p ++ name ∷ []) → r.kind ≡ kind.Link → Refuses repository c q p TooManyLinks
-
--- the question is refused so by the catalogue that was used last
-pub record IsRefusedBy (repository root : List ℕ) (q : Question) (k : Kept) (f : ClientFault) : Type 0 where
-  pub catalogue : Contents
-  pub at : Path
-  pub used : IsUsedAt root k catalogue at
-  pub refuses : Refuses repository catalogue q at f
+  pub last_used : k.entries ≡ (walk.spot.level.hash, catalogue) ∷ rest
+  pub step : StepsBy repository q catalogue walk s

@@ -16,7 +16,7 @@ use Rattle.cv_resolver.specs.declared.found.ClientFault.TheVariants as fault
 use Rattle.cv_resolver.specs.declared.walk.Walk.{Walk}
 use Rattle.cv_resolver.specs.declared.stage.Stage.{Stage}
 use Rattle.cv_resolver.specs.declared.stage.Stage.TheVariants.{Walks, Reads, Ends}
-use Rattle.std.specs.declared.result.Result.TheVariants.{Ok, Err}
+use Rattle.std.specs.declared.result.Result.TheVariants.{Err}
 
 -- What a step of a walk by a catalogue comes to at most: it goes on with fewer steps left, below cuts that it knew or that the
 -- catalogue names; the content of a file of the catalogue is wanted; or the question is answered and nobody is blamed.
@@ -55,13 +55,6 @@ pub data Begins (repository root : List ℕ) (q : Question) (k after : Kept) (s 
   no_memory : after ≡ k → s ≡ Ends (Err fault.NoMemory) → Begins repository root q k after s
 
 -- ---- what follows
-
--- the walk has arrived: the question is answered and not refused, or the content of a file is wanted
-abbrev pub HasArrived : Stage → Type 0
-HasArrived (Walks w) = ⊥
-HasArrived (Reads hash) = Unit {0}
-HasArrived (Ends (Ok found)) = Unit {0}
-HasArrived (Ends (Err fault)) = ⊥
 
 -- no catalogue is wanted that is kept for its place
 abbrev pub IsUncached : Kept → Stage → Type 0

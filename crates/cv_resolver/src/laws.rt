@@ -10,8 +10,8 @@ ghost use Rattle.cv_tree.specs.declared.node.FileRef.{FileRef as TheFile};
 ghost use Rattle.cv_base.specs.declared.id.ObjectId.{ObjectId as TheId};
 ghost use Rattle.cv_resolver.specs.Kept.{Kept, AreKept};
 ghost use Rattle.cv_resolver.specs.Stage.{wanted_by, IsBlameless};
-ghost use Rattle.cv_resolver.specs.Progress.{Begins, HasArrived, IsUncached, wants_left};
-ghost use Rattle.cv_resolver.specs.Grounds.{IsRead, IsRefusal, IsRefusedBy, IsUnder, WaitsUnder};
+ghost use Rattle.cv_resolver.specs.Progress.{Begins, IsOver, IsUncached, wants_left};
+ghost use Rattle.cv_resolver.specs.Grounds.{IsLastStep, IsUnder, WaitsUnder};
 ghost use Rattle.cv_resolver.specs.Giving.{Blames, EndsBy, IsOther, IsUndecoded, Takes};
 ghost use Rattle.cv_resolver.specs.declared.found.ClientFault.{ClientFault as TheFault};
 ghost use Rattle.cv_resolver.specs.Asking.{path_of_question};
@@ -106,37 +106,32 @@ pub fn what_is_kept_is_not_wanted()
         → IsUncached after s }
 {}
 
-/// Each catalogue that is kept has the digest that it is kept under, and a walk waits in a directory below cuts that the root's
-/// catalogue names, or one below it: so it was when the question was asked, and so it stays, whatever is given.
+/// Each catalogue that is kept has the digest that it is kept under. A walk that goes on waits in a directory; it began at the
+/// root, with the names of the question's path, and has come step by step, by the rows of catalogues that are named one below
+/// the other from the root: so it was when the question was asked, and so it stays, whatever is given.
 pub fn walks_stay_under_their_root()
     ensures kept { (r root : List ℕ) (q : TheQuestion) (k after : Kept) (s : TheStage) → AreKept k.entries → Begins r root q k after s
         → AreKept after.entries }
     ensures still_kept { (r root : List ℕ) (q : TheQuestion) (k after : Kept) (was s : TheStage) (given : Option (List ℕ)) → AreKept k.entries
-        → IsUnder root was → Takes r q k was given after s → AreKept after.entries }
+        → IsUnder r root q was → Takes r q k was given after s → AreKept after.entries }
     ensures asked { (r root : List ℕ) (q : TheQuestion) (k after : Kept) (s : TheStage) → AreKept k.entries → Begins r root q k after s
-        → IsUnder root s }
+        → IsUnder r root q s }
     ensures given { (r root : List ℕ) (q : TheQuestion) (k after : Kept) (was s : TheStage) (given : Option (List ℕ)) → AreKept k.entries
-        → IsUnder root was → Takes r q k was given after s → IsUnder root s }
+        → IsUnder r root q was → Takes r q k was given after s → IsUnder r root q s }
 {}
 
-/// Whatever the catalogues say, a question that isn't refused is answered by what the row at a path says, in the catalogue that
-/// was used last: the nearest on the way from the root to that path. A read is answered by bytes of the digest in that row.
+/// Whatever the catalogues say, an answer or a refusal is the last step of such a walk: it is what the rows say at this point in
+/// the catalogue that was used last. But NotServed, BadObject and BadCatalogue tell of what was given, and NoMemory of memory. A
+/// read is answered by bytes of the digest to which its walk has come.
 pub fn answers_are_those_of_rows()
     ensures asked { (r root : List ℕ) (q : TheQuestion) (k after : Kept) (s : TheStage) → AreKept k.entries → Begins r root q k after s
-        → HasArrived s → IsRead root q after s }
+        → IsOver s → (EndsBy s fault.NoMemory → ⊥) → IsLastStep r root q after s }
     ensures given { (r root : List ℕ) (q : TheQuestion) (k after : Kept) (w : TheWalk) (s : TheStage) (given : Option (List ℕ)) → AreKept k.entries
-        → WaitsUnder root w → Takes r q k (stage.Walks w) given after s → HasArrived s → IsRead root q after s }
+        → WaitsUnder r root q w → Takes r q k (stage.Walks w) given after s → IsOver s → IsBlameless s → (EndsBy s fault.NoMemory → ⊥)
+        → IsLastStep r root q after s }
     ensures content { (r : List ℕ) (q : TheQuestion) (k after : Kept) (hash : List ℕ) (s : TheStage) (given : Option (List ℕ))
-        → Takes r q k (stage.Reads hash) given after s → HasArrived s
+        → Takes r q k (stage.Reads hash) given after s → IsBlameless s
         → (bytes : List ℕ) × (s ≡ stage.Ends (Ok (found.Bytes bytes))) × (sha1 bytes ≡ hash) }
-{}
-
-/// And a question is refused by what such a row says, or because none stands there.
-pub fn refusals_are_those_of_rows()
-    ensures asked { (r root : List ℕ) (q : TheQuestion) (k after : Kept) (s : TheStage) → AreKept k.entries → Begins r root q k after s
-        → (f : TheFault) → EndsBy s f → IsRefusal f → IsRefusedBy r root q after f }
-    ensures given { (r root : List ℕ) (q : TheQuestion) (k after : Kept) (was s : TheStage) (given : Option (List ℕ)) → AreKept k.entries
-        → IsUnder root was → Takes r q k was given after s → (f : TheFault) → EndsBy s f → IsRefusal f → IsRefusedBy r root q after f }
 {}
 
 /// Where targets of links lead, in a repository of the name r.
