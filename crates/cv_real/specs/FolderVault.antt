@@ -26,10 +26,15 @@ abbrev pub Stays : {R F : Type 0} → FolderVault R F → FolderVault R F → Ty
 Stays before after =
     (after.root ≡ before.root) × (after.folders ≡ before.folders) × (IsTrue before.is_unsettled → IsTrue after.is_unsettled) × (after.broken ≡ before.broken)
 
--- a call that may change files: the same, but that more folders may be noted, and more may be lost
+-- a call that may change files: the same, but that more folders may be noted
 abbrev pub Adds : {R F : Type 0} → FolderVault R F → FolderVault R F → Type 0
 Adds before after =
-    (after.root ≡ before.root) × Keeps before.folders.items after.folders.items × (IsTrue before.is_unsettled → IsTrue after.is_unsettled) × (IsTrue before.broken → IsTrue after.broken)
+    (after.root ≡ before.root) × Keeps before.folders.items after.folders.items × (IsTrue before.is_unsettled → IsTrue after.is_unsettled) × (after.broken ≡ before.broken)
+
+-- a sync that failed: as a call that changes no file, but that more may be lost
+abbrev pub Fails : {R F : Type 0} → FolderVault R F → FolderVault R F → Type 0
+Fails before after =
+    (after.root ≡ before.root) × (after.folders ≡ before.folders) × (IsTrue before.is_unsettled → IsTrue after.is_unsettled) × (IsTrue before.broken → IsTrue after.broken)
 
 -- each of these names begins with the prefix
 abbrev pub AllBegin : List ℕ → List (List ℕ) → Type 0
@@ -39,6 +44,6 @@ AllBegin prefix names = All (λ name. IsTrue (starts_with (λ a b. a == b) name 
 abbrev pub IsListed : List ℕ → List (List ℕ) → Type 0
 IsListed prefix names = IsStrictlySortedBy name_cmp names × AllBegin prefix names
 
--- the call of a vault that tells nothing of its disk, as that of any vault
+-- the call of a vault that tells nothing of its disk, as that of any vault. Of such a vault it says nothing: it is true of any two
 abbrev pub Untold : {V : Type 0} → (Disk → Disk → Type 0) → V → V → Type 0
 Untold R before after = Calls (λ _. None) (λ _. 0) (λ _ _ _. ⊤) R before after

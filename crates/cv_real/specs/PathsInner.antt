@@ -15,6 +15,12 @@ IsNoName kind = (kind ≡ InvalidFilename) ⊎ (kind ≡ NotFound)
 abbrev pub IsPassed : ErrorKind → Bool → Type 0
 IsPassed kind is_closed = IsNoName kind ⊎ ((kind ≡ PermissionDenied) × IsTrue is_closed)
 
+-- what a sync of a folder that was noted answers, where the system gave this as the folder was opened and, if it was, as it was synced
+abbrev pub Ends : {T U : Type 0} → Result (Result T Error) Error → Result U Unsynced → Type 0
+Ends (Ok (Ok x)) answer = IsOk answer
+Ends (Ok (Err lost)) answer = answer ≡ Err Lost
+Ends (Err error) answer = answer ≡ Err NotOpened
+
 -- what a sync of a folder answers, where the system gave this as the folder was opened and, if it was, as it was synced
 abbrev pub Settles : {T U : Type 0} → Result (Result T Error) Error → Result U Unsynced → Type 0
 Settles (Ok (Ok x)) answer = IsOk answer

@@ -1,11 +1,11 @@
 //! A vault over a folder.
-ghost use Rattle.std.specs.Prelude.{◌≡◌, ◌≢◌, ◌<◌, ◌+◌, ◌↔◌, ◌++◌, [], ◌∷◌, length, true, false, None, Ok, Err, IfOk, IsOk, IsErr, IsErrOf, IsTrue, OnErr, OnOk, codes, string_bytes, ⊤};
+ghost use Rattle.std.specs.Prelude.{◌≡◌, ◌≢◌, ◌<◌, ◌+◌, ◌↔◌, ◌⊎◌, ◌++◌, [], ◌∷◌, length, true, false, None, Ok, Err, IfOk, IsOk, IsErr, IsErrOf, IsTrue, OnErr, OnOk, codes, string_bytes, ⊤};
 ghost use Rattle.std.specs.IoError.{error_kind, raw_os_error};
 ghost use Rattle.cv_base.specs.Counts.{HasCause};
 ghost use Rattle.cv_vault.specs.Disk.{Reads, Measures, Lists, Writes, Renames, Removes, Syncs};
 ghost use Rattle.cv_vault.specs.declared.vault.VaultFault.TheVariants.{Failed, NoMemory};
 ghost use Rattle.cv_real.specs.Names.{is_name, folder_of, path_of};
-ghost use Rattle.cv_real.specs.FolderVault.{Untold, IsListed, Notes, Stays, Adds, is_noted};
+ghost use Rattle.cv_real.specs.FolderVault.{Untold, IsListed, Notes, Stays, Adds, Fails, is_noted};
 ghost use Rattle.cv_real.specs.FolderVaultInner.{IsAt};
 
 use crate::count::FaultCount;
@@ -69,6 +69,8 @@ impl<R: Files<File = File> + AllocGlobal + Clone + Drop> FolderVault<R> {
     pub fn new(rt: R, root: &str) -> Result<FolderVault<R>, AllocError>
         ensures faults { IfOk result (λ vault. vault.faults.number ≡ 0) }
         ensures root { IfOk result (λ vault. string_bytes vault.root ≡ root.now) }
+        ensures fresh { IfOk result (λ vault. (vault.folders.items ≡ []) × (vault.is_unsettled ≡ false)
+            × (vault.hold ≡ Hold.Unasked) × (vault.broken ≡ false)) }
     {
         let alloc = rt.alloc();
         Ok(FolderVault {
@@ -288,15 +290,16 @@ impl<R: Files<File = File> + AllocGlobal + Clone + Drop> FolderVault<R> {
         put_file(&self.rt, self.next.as_str(), self.path.as_str(), bytes)
     }
 
-    /// Whether the file was there. From there on each error but want of memory is a fault.
+    /// Whether the file was there. A name doesn't take the place of itself.
     fn rename_now(&mut self, from: &str, to: &str) -> io::Result<bool>
         ensures refused { OnOk result (IsTrue (is_name from.now) × IsTrue (is_name to.now)) }
+        ensures other { OnOk result (from.now ≢ to.now) }
         ensures left { result ≡ Ok true → Notes self.new from.now }
         ensures noted { result ≡ Ok true → Notes self.new to.now }
         ensures adds { Adds self.old self.new }
         ensures faults { self.new.faults ≡ self.old.faults }
     {
-        if !is_name(to) {
+        if from == to || !is_name(to) {
             return Err(refused());
         }
         let Some(found) = self.find(from)? else {
@@ -311,26 +314,30 @@ impl<R: Files<File = File> + AllocGlobal + Clone + Drop> FolderVault<R> {
         Ok(true)
     }
 
-    /// Whether the file was there. Where there is no room to note the folder, it is synced at once.
+    /// Notes the folder of the path that is set. Where there is no room for that, the next sync goes over all folders.
+    fn note_left(&mut self)
+        ensures noted { IsTrue (is_noted self.new.folders.items (folder_of self.old.path)) ⊎ IsTrue self.new.is_unsettled }
+        ensures path { self.new.path ≡ self.old.path }
+        ensures adds { Adds self.old self.new }
+        ensures faults { self.new.faults ≡ self.old.faults }
+    {
+        if note(&mut self.folders, folder_of(self.path.as_str())).is_err() {
+            self.is_unsettled = true;
+        }
+    }
+
+    /// Whether the file was there.
     fn remove_now(&mut self, name: &str) -> io::Result<bool>
         ensures refused { OnOk result (IsTrue (is_name name.now)) }
+        ensures noted { result ≡ Ok true → Notes self.new name.now ⊎ IsTrue self.new.is_unsettled }
         ensures adds { Adds self.old self.new }
         ensures faults { self.new.faults ≡ self.old.faults }
     {
         if self.find(name)?.is_none() {
             return Ok(false);
         }
-        let folder = folder_of(self.path.as_str());
-        if note(&mut self.folders, folder).is_ok() {
-            fs::remove_file(&self.rt, self.path.as_str())?;
-            return Ok(true);
-        }
-        let open = fs::open(&self.rt, folder)?;
+        self.note_left();
         fs::remove_file(&self.rt, self.path.as_str())?;
-        if let Err(error) = open.sync_all() {
-            self.broken = true;
-            return Err(error);
-        }
         Ok(true)
     }
 
@@ -351,7 +358,8 @@ impl<R: Files<File = File> + AllocGlobal + Clone + Drop> FolderVault<R> {
         ensures ok { IsOk result ↔ IsOk done }
         ensures done { OnOk result ((self.new.folders.items ≡ []) × (self.new.is_unsettled ≡ false)) }
         ensures lost { done ≡ Err Unsynced.Lost → IsTrue self.new.broken }
-        ensures adds { OnErr result (Adds self.old self.new) }
+        ensures whole { done ≢ Err Unsynced.Lost → self.new.broken ≡ self.old.broken }
+        ensures fails { OnErr result (Fails self.old self.new) }
         ensures root { self.new.root ≡ self.old.root }
         ensures faults { self.new.faults ≡ self.old.faults }
     {
@@ -372,7 +380,8 @@ impl<R: Files<File = File> + AllocGlobal + Clone + Drop> FolderVault<R> {
     /// Nothing is to be synced where no folder is there.
     fn sync_now(&mut self) -> io::Result<()>
         ensures lost { IsTrue self.old.broken → IsErr result }
-        ensures adds { OnErr result (Adds self.old self.new) }
+        ensures whole { OnOk result (self.new.broken ≡ false) }
+        ensures fails { OnErr result (Fails self.old self.new) }
         ensures root { self.new.root ≡ self.old.root }
         ensures faults { self.new.faults ≡ self.old.faults }
     {
@@ -454,6 +463,7 @@ impl<R: Files<File = File> + AllocGlobal + Clone + Drop> Vault for FolderVault<R
         ensures call { Untold (Renames from.now to.now result) self.old self.new }
         ensures cause { HasCause self.old.faults.number self.new.faults.number (IsErrOf result Failed) }
         ensures refused { OnOk result (IsTrue (is_name from.now) × IsTrue (is_name to.now)) }
+        ensures other { OnOk result (from.now ≢ to.now) }
         ensures left { result ≡ Ok true → Notes self.new from.now }
         ensures noted { result ≡ Ok true → Notes self.new to.now }
         ensures adds { Adds self.old self.new }
@@ -469,6 +479,7 @@ impl<R: Files<File = File> + AllocGlobal + Clone + Drop> Vault for FolderVault<R
         ensures cause { HasCause self.old.faults.number self.new.faults.number (IsErrOf result Failed) }
         ensures memory { result ≢ Err NoMemory }
         ensures refused { OnOk result (IsTrue (is_name name.now)) }
+        ensures noted { result ≡ Ok true → Notes self.new name.now ⊎ IsTrue self.new.is_unsettled }
         ensures adds { Adds self.old self.new }
     {
         match self.remove_now(name) {
@@ -482,7 +493,8 @@ impl<R: Files<File = File> + AllocGlobal + Clone + Drop> Vault for FolderVault<R
         ensures cause { HasCause self.old.faults.number self.new.faults.number (IsErrOf result Failed) }
         ensures memory { result ≢ Err NoMemory }
         ensures lost { IsTrue self.old.broken → IsErr result }
-        ensures adds { OnErr result (Adds self.old self.new) }
+        ensures whole { OnOk result (self.new.broken ≡ false) }
+        ensures fails { OnErr result (Fails self.old self.new) }
         ensures root { self.new.root ≡ self.old.root }
     {
         match self.sync_now() {

@@ -82,6 +82,15 @@ pub fn note(notes: &mut Vec<String>, folder: &str) -> Result<(), AllocError>
     Ok(())
 }
 
+/// Makes a folder where nothing stands, once the one that it comes into is noted.
+fn make_noted(rt: &impl Files, folder: &str, notes: &mut Vec<String>) -> io::Result<()>
+    ensures noted { OnOk result (IsTrue (is_noted notes.new.items (folder_of folder.now))) }
+    ensures kept { Keeps notes.old.items notes.new.items }
+{
+    note(notes, folder_of(folder))?;
+    fs::create_dir(rt, folder)
+}
+
 /// Makes a folder where nothing stands, and notes the one that it comes into.
 fn make_folder(rt: &impl Files, folder: &str, notes: &mut Vec<String>) -> io::Result<()>
     ensures { Keeps notes.old.items notes.new.items }
@@ -89,10 +98,7 @@ fn make_folder(rt: &impl Files, folder: &str, notes: &mut Vec<String>) -> io::Re
     match seen(rt, folder)? {
         Some(found) if found.is_dir() => Ok(()),
         Some(_) => Err(io::Error::from(ErrorKind::NotADirectory)),
-        None => {
-            note(notes, folder_of(folder))?;
-            fs::create_dir(rt, folder)
-        }
+        None => make_noted(rt, folder, notes),
     }
 }
 

@@ -4,7 +4,7 @@ ghost use Rattle.std.specs.Fs.{file_type, IsDir};
 ghost use Rattle.std.specs.IoError.{error_kind};
 ghost use Rattle.std.specs.List.{starts_with};
 ghost use Rattle.cv_real.specs.NamesInner.{above};
-ghost use Rattle.cv_real.specs.PathsInner.{IsPassed, Settles};
+ghost use Rattle.cv_real.specs.PathsInner.{Ends, IsPassed, Settles};
 ghost use Rattle.cv_real.specs.WalkInner.{comes_next, first_of, folder_in, IsNext, IsUnder, Looks, LooksAtAll, LooksRound, names_in, with_path};
 
 use crate::ahead::Ahead;
@@ -49,12 +49,19 @@ fn told(synced: &io::Result<()>) -> Result<(), Unsynced>
     }
 }
 
-/// Makes a folder durable.
-pub fn sync_folder(rt: &impl Files, folder: &str) -> Result<(), Unsynced> {
-    match sync_at(rt, folder) {
-        Ok(synced) => told(&synced),
+/// What a sync of a folder that was noted comes to, by what the system gave. It must be opened.
+fn told_of(synced: &io::Result<io::Result<()>>) -> Result<(), Unsynced>
+    ensures { Ends synced.now result }
+{
+    match synced {
+        Ok(synced) => told(synced),
         Err(_) => Err(Unsynced::NotOpened),
     }
+}
+
+/// Makes a folder durable.
+pub fn sync_folder(rt: &impl Files, folder: &str) -> Result<(), Unsynced> {
+    told_of(&sync_at(rt, folder))
 }
 
 /// Makes each folder durable.
