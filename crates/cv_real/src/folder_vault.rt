@@ -13,7 +13,7 @@ use crate::hold::{Hold, lock_folder, make_held, refused};
 use crate::names::{NEXT, folder_of, is_name, is_root};
 use crate::path_buffer::PathBuffer;
 use crate::paths::{
-    find_file, is_memory, list_files, make_folders, move_file, note, put_file, read_found,
+    find_file, is_memory, list_files, make_folders, move_file, note, note_or_all, put_file, read_found,
 };
 use crate::walk::{Unsynced, Walk, sync_folder, sync_folders};
 use cv_base::{Bytes, Text};
@@ -314,19 +314,7 @@ impl<R: Files<File = File> + AllocGlobal + Clone + Drop> FolderVault<R> {
         Ok(true)
     }
 
-    /// Notes the folder of the path that is set. Where there is no room for that, the next sync goes over all folders.
-    fn note_left(&mut self)
-        ensures noted { IsTrue (is_noted self.new.folders.items (folder_of self.old.path)) ⊎ IsTrue self.new.is_unsettled }
-        ensures path { self.new.path ≡ self.old.path }
-        ensures adds { Adds self.old self.new }
-        ensures faults { self.new.faults ≡ self.old.faults }
-    {
-        if note(&mut self.folders, folder_of(self.path.as_str())).is_err() {
-            self.is_unsettled = true;
-        }
-    }
-
-    /// Whether the file was there.
+    /// Whether the file was there. Where there is no room to note the folder, the next sync goes over all of them.
     fn remove_now(&mut self, name: &str) -> io::Result<bool>
         ensures refused { OnOk result (IsTrue (is_name name.now)) }
         ensures noted { result ≡ Ok true → Notes self.new name.now ⊎ IsTrue self.new.is_unsettled }
@@ -336,7 +324,8 @@ impl<R: Files<File = File> + AllocGlobal + Clone + Drop> FolderVault<R> {
         if self.find(name)?.is_none() {
             return Ok(false);
         }
-        self.note_left();
+        let folder = folder_of(self.path.as_str());
+        note_or_all(&mut self.folders, folder, &mut self.is_unsettled);
         fs::remove_file(&self.rt, self.path.as_str())?;
         Ok(true)
     }

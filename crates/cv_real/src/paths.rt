@@ -1,6 +1,6 @@
 //! What stands in a folder, without going through a link. A folder's path ends in a slash: the system then opens nothing but a
 //! folder there.
-ghost use Rattle.std.specs.Prelude.{◌≡◌, ◌==◌, ◌≤◌, ◌↔◌, ℕ, List, None, length, IfOk, IsTrue, OnOk};
+ghost use Rattle.std.specs.Prelude.{◌≡◌, ◌==◌, ◌≤◌, ◌↔◌, ◌⊎◌, ℕ, List, None, length, IfOk, IsTrue, OnOk};
 ghost use Rattle.std.specs.IoError.{error_kind, raw_os_error};
 ghost use Rattle.std.specs.List.{Contains, starts_with};
 ghost use Rattle.std.specs.List.Sorted.{IsStrictlySortedBy};
@@ -80,6 +80,17 @@ pub fn note(notes: &mut Vec<String>, folder: &str) -> Result<(), AllocError>
     let alloc: Global = *notes.allocator();
     notes.push(String::from_str(alloc, folder)?)?;
     Ok(())
+}
+
+/// Notes a folder. Where there is no room for that, all are unsettled.
+pub fn note_or_all(notes: &mut Vec<String>, folder: &str, is_unsettled: &mut bool)
+    ensures noted { IsTrue (is_noted notes.new.items folder.now) ⊎ IsTrue is_unsettled.new }
+    ensures kept { Keeps notes.old.items notes.new.items }
+    ensures unsettled { IsTrue is_unsettled.old → IsTrue is_unsettled.new }
+{
+    if note(notes, folder).is_err() {
+        *is_unsettled = true;
+    }
 }
 
 /// Makes a folder where nothing stands, once the one that it comes into is noted.
