@@ -1,19 +1,20 @@
 //! A vault over a folder.
-ghost use Rattle.std.specs.Prelude.{◌≡◌, ◌≢◌, ◌<◌, ◌+◌, ◌↔◌, ◌⊎◌, ◌++◌, [], ◌∷◌, length, true, false, None, Ok, Err, IfOk, IsOk, IsErr, IsErrOf, IsTrue, OnErr, OnOk, codes, string_bytes, ⊤};
+ghost use Rattle.std.specs.Prelude.{◌≡◌, ◌≢◌, ◌<◌, ◌+◌, ◌↔◌, ◌⊎◌, ◌++◌, [], ◌∷◌, length, true, false, None, Ok, Err, IfOk, IsOk, IsErrOf, IsTrue, OnErr, OnOk, codes, string_bytes, ⊤};
 ghost use Rattle.std.specs.IoError.{error_kind, raw_os_error};
 ghost use Rattle.cv_base.specs.Counts.{HasCause};
 ghost use Rattle.cv_vault.specs.Disk.{Reads, Measures, Lists, Writes, Renames, Removes, Syncs};
 ghost use Rattle.cv_vault.specs.declared.vault.VaultFault.TheVariants.{Failed, NoMemory};
 ghost use Rattle.cv_real.specs.Names.{is_name, folder_of, path_of};
-ghost use Rattle.cv_real.specs.FolderVault.{Untold, IsListed, Notes, Stays, Adds, Fails, is_noted};
-ghost use Rattle.cv_real.specs.FolderVaultInner.{IsAt};
+ghost use Rattle.cv_real.specs.FolderVault.{Untold, IsListed, IsHeld, Holds, Notes, Serves, Stays, Adds, Fails, is_noted};
+ghost use Rattle.cv_real.specs.FolderVaultInner.{HasFolder, IsAt};
 
 use crate::count::FaultCount;
-use crate::hold::{Hold, lock_folder, make_held, refused};
+use crate::hold::{Hold, hold_of, make_held, refused};
 use crate::names::{NEXT, folder_of, is_name, is_root};
 use crate::path_buffer::PathBuffer;
 use crate::paths::{
-    find_file, is_memory, list_files, make_folders, move_file, note, note_or_all, put_file, read_found,
+    find_file, is_memory, list_files, make_folders, move_file, note, note_or_all, put_file,
+    read_found,
 };
 use crate::walk::{Unsynced, Walk, sync_folder, sync_folders};
 use cv_base::{Bytes, Text};
@@ -95,17 +96,14 @@ impl<R: Files<File = File> + AllocGlobal + Clone + Drop> FolderVault<R> {
         if !is_root(self.root.as_str()) || self.set_root().is_err() {
             return Ok(Hold::Refused);
         }
-        match lock_folder(&self.rt, self.path.as_str()) {
-            Ok(Some(open)) => Ok(Hold::Held(open)),
-            Ok(None) => Ok(Hold::Refused),
-            Err(error) if error.kind() == ErrorKind::NotFound => Ok(Hold::Absent),
-            Err(error) => Err(error),
-        }
+        hold_of(&self.rt, self.path.as_str())
     }
 
     /// Makes the folder, which wasn't there, and holds it. What another process has made there since isn't taken: each
     /// later call of the vault fails.
     fn make_root(&mut self) -> io::Result<()>
+        requires { self.old.hold ≡ Hold.Absent }
+        ensures held { OnOk result (IsHeld self.new.hold) }
         ensures noted { OnOk result
             (IsTrue (is_noted self.new.folders.items (folder_of (string_bytes self.old.root)))) }
         ensures adds { Adds self.old self.new }
@@ -170,7 +168,8 @@ impl<R: Files<File = File> + AllocGlobal + Clone + Drop> FolderVault<R> {
 
     /// Makes the path of a name, and tells whether the vault has a folder.
     fn begin(&mut self, name: &str) -> io::Result<bool>
-        ensures path { OnOk result (IsAt self.new name.now) }
+        ensures held { IfOk result (λ has. HasFolder self.new.hold has) }
+        ensures path { OnOk result (IsAt self.new name.now × (self.old.hold ≢ Hold.Refused)) }
         ensures stays { Stays self.old self.new }
         ensures faults { self.new.faults ≡ self.old.faults }
     {
@@ -183,6 +182,8 @@ impl<R: Files<File = File> + AllocGlobal + Clone + Drop> FolderVault<R> {
     fn is_held(&mut self) -> io::Result<bool>
         ensures unsettled { self.old.hold ≡ Hold.Unasked → result ≡ Ok true
             → IsTrue self.new.is_unsettled }
+        ensures held { IfOk result (λ has. HasFolder self.new.hold has) }
+        ensures refused { OnOk result (self.old.hold ≢ Hold.Refused) }
         ensures stays { Stays self.old self.new }
         ensures faults { self.new.faults ≡ self.old.faults }
     {
@@ -199,7 +200,7 @@ impl<R: Files<File = File> + AllocGlobal + Clone + Drop> FolderVault<R> {
 
     /// The file of a name, if it is there. Its path is then set.
     fn find(&mut self, name: &str) -> io::Result<Option<Metadata>>
-        ensures path { OnOk result (IsAt self.new name.now) }
+        ensures path { OnOk result (IsAt self.new name.now × (self.old.hold ≢ Hold.Refused)) }
         ensures stays { Stays self.old self.new }
         ensures faults { self.new.faults ≡ self.old.faults }
     {
@@ -234,7 +235,7 @@ impl<R: Files<File = File> + AllocGlobal + Clone + Drop> FolderVault<R> {
     }
 
     fn read_now(&mut self, name: &str) -> io::Result<Option<Vec<u8>>>
-        ensures refused { OnOk result (IsTrue (is_name name.now)) }
+        ensures refused { OnOk result (Serves self.old name.now) }
         ensures stays { Stays self.old self.new }
         ensures faults { self.new.faults ≡ self.old.faults }
     {
@@ -246,7 +247,7 @@ impl<R: Files<File = File> + AllocGlobal + Clone + Drop> FolderVault<R> {
     }
 
     fn length_now(&mut self, name: &str) -> io::Result<Option<u64>>
-        ensures refused { OnOk result (IsTrue (is_name name.now)) }
+        ensures refused { OnOk result (Serves self.old name.now) }
         ensures stays { Stays self.old self.new }
         ensures faults { self.new.faults ≡ self.old.faults }
     {
@@ -255,6 +256,7 @@ impl<R: Files<File = File> + AllocGlobal + Clone + Drop> FolderVault<R> {
 
     fn list_now(&mut self, prefix: &str) -> io::Result<Vec<Text>>
         ensures listed { IfOk result (λ names. IsListed prefix.now names.items) }
+        ensures refused { OnOk result (self.old.hold ≢ Hold.Refused) }
         ensures stays { Stays self.old self.new }
         ensures faults { self.new.faults ≡ self.old.faults }
     {
@@ -266,6 +268,7 @@ impl<R: Files<File = File> + AllocGlobal + Clone + Drop> FolderVault<R> {
 
     /// Makes the path of a name, and the vault's folder, if none is there.
     fn begin_write(&mut self, name: &str) -> io::Result<()>
+        ensures held { OnOk result (IsHeld self.new.hold × (self.old.hold ≢ Hold.Refused)) }
         ensures path { OnOk result (IsAt self.new name.now) }
         ensures adds { Adds self.old self.new }
         ensures faults { self.new.faults ≡ self.old.faults }
@@ -278,7 +281,7 @@ impl<R: Files<File = File> + AllocGlobal + Clone + Drop> FolderVault<R> {
     }
 
     fn write_now(&mut self, name: &str, bytes: &[u8]) -> io::Result<()>
-        ensures refused { OnOk result (IsTrue (is_name name.now)) }
+        ensures refused { OnOk result (Serves self.old name.now × IsHeld self.new.hold) }
         ensures noted { OnOk result (Notes self.new name.now) }
         ensures adds { Adds self.old self.new }
         ensures faults { self.new.faults ≡ self.old.faults }
@@ -292,7 +295,7 @@ impl<R: Files<File = File> + AllocGlobal + Clone + Drop> FolderVault<R> {
 
     /// Whether the file was there. A name doesn't take the place of itself.
     fn rename_now(&mut self, from: &str, to: &str) -> io::Result<bool>
-        ensures refused { OnOk result (IsTrue (is_name from.now) × IsTrue (is_name to.now)) }
+        ensures refused { OnOk result (Serves self.old from.now × Serves self.old to.now) }
         ensures other { OnOk result (from.now ≢ to.now) }
         ensures left { result ≡ Ok true → Notes self.new from.now }
         ensures noted { result ≡ Ok true → Notes self.new to.now }
@@ -316,7 +319,7 @@ impl<R: Files<File = File> + AllocGlobal + Clone + Drop> FolderVault<R> {
 
     /// Whether the file was there. Where there is no room to note the folder, the next sync goes over all of them.
     fn remove_now(&mut self, name: &str) -> io::Result<bool>
-        ensures refused { OnOk result (IsTrue (is_name name.now)) }
+        ensures refused { OnOk result (Serves self.old name.now) }
         ensures noted { result ≡ Ok true → Notes self.new name.now ⊎ IsTrue self.new.is_unsettled }
         ensures adds { Adds self.old self.new }
         ensures faults { self.new.faults ≡ self.old.faults }
@@ -349,7 +352,7 @@ impl<R: Files<File = File> + AllocGlobal + Clone + Drop> FolderVault<R> {
         ensures lost { done ≡ Err Unsynced.Lost → IsTrue self.new.broken }
         ensures whole { done ≢ Err Unsynced.Lost → self.new.broken ≡ self.old.broken }
         ensures fails { OnErr result (Fails self.old self.new) }
-        ensures root { self.new.root ≡ self.old.root }
+        ensures root { (self.new.root ≡ self.old.root) × Holds self.old.hold self.new.hold }
         ensures faults { self.new.faults ≡ self.old.faults }
     {
         match done {
@@ -368,10 +371,10 @@ impl<R: Files<File = File> + AllocGlobal + Clone + Drop> FolderVault<R> {
 
     /// Nothing is to be synced where no folder is there.
     fn sync_now(&mut self) -> io::Result<()>
-        ensures lost { IsTrue self.old.broken → IsErr result }
-        ensures whole { OnOk result (self.new.broken ≡ false) }
+        ensures lost { OnOk result ((self.old.broken ≡ false) × (self.new.broken ≡ false)) }
+        ensures refused { OnOk result (self.old.hold ≢ Hold.Refused) }
         ensures fails { OnErr result (Fails self.old self.new) }
-        ensures root { self.new.root ≡ self.old.root }
+        ensures root { (self.new.root ≡ self.old.root) × Holds self.old.hold self.new.hold }
         ensures faults { self.new.faults ≡ self.old.faults }
     {
         if self.broken {
@@ -401,7 +404,7 @@ impl<R: Files<File = File> + AllocGlobal + Clone + Drop> Vault for FolderVault<R
     fn read(&mut self, name: &str) -> Result<Option<Bytes>, VaultFault>
         ensures call { Untold (Reads name.now result) self.old self.new }
         ensures cause { HasCause self.old.faults.number self.new.faults.number (IsErrOf result Failed) }
-        ensures refused { OnOk result (IsTrue (is_name name.now)) }
+        ensures refused { OnOk result (Serves self.old name.now) }
         ensures stays { Stays self.old self.new }
     {
         match self.read_now(name) {
@@ -414,7 +417,7 @@ impl<R: Files<File = File> + AllocGlobal + Clone + Drop> Vault for FolderVault<R
     fn length(&mut self, name: &str) -> Result<Option<u64>, VaultFault>
         ensures call { Untold (Measures name.now result) self.old self.new }
         ensures cause { HasCause self.old.faults.number self.new.faults.number (IsErrOf result Failed) }
-        ensures refused { OnOk result (IsTrue (is_name name.now)) }
+        ensures refused { OnOk result (Serves self.old name.now) }
         ensures stays { Stays self.old self.new }
     {
         match self.length_now(name) {
@@ -426,6 +429,7 @@ impl<R: Files<File = File> + AllocGlobal + Clone + Drop> Vault for FolderVault<R
     fn list(&mut self, prefix: &str) -> Result<Vec<Text>, VaultFault>
         ensures call { Untold (Lists prefix.now result) self.old self.new }
         ensures listed { IfOk result (λ names. IsListed prefix.now names.items) }
+        ensures refused { OnOk result (self.old.hold ≢ Hold.Refused) }
         ensures cause { HasCause self.old.faults.number self.new.faults.number (IsErrOf result Failed) }
         ensures stays { Stays self.old self.new }
     {
@@ -438,7 +442,7 @@ impl<R: Files<File = File> + AllocGlobal + Clone + Drop> Vault for FolderVault<R
     fn write(&mut self, name: &str, bytes: &[u8]) -> Result<(), VaultFault>
         ensures call { Untold (Writes name.now bytes.now result) self.old self.new }
         ensures cause { HasCause self.old.faults.number self.new.faults.number (IsErrOf result Failed) }
-        ensures refused { OnOk result (IsTrue (is_name name.now)) }
+        ensures refused { OnOk result (Serves self.old name.now × IsHeld self.new.hold) }
         ensures noted { OnOk result (Notes self.new name.now) }
         ensures adds { Adds self.old self.new }
     {
@@ -451,7 +455,7 @@ impl<R: Files<File = File> + AllocGlobal + Clone + Drop> Vault for FolderVault<R
     fn rename(&mut self, from: &str, to: &str) -> Result<bool, VaultFault>
         ensures call { Untold (Renames from.now to.now result) self.old self.new }
         ensures cause { HasCause self.old.faults.number self.new.faults.number (IsErrOf result Failed) }
-        ensures refused { OnOk result (IsTrue (is_name from.now) × IsTrue (is_name to.now)) }
+        ensures refused { OnOk result (Serves self.old from.now × Serves self.old to.now) }
         ensures other { OnOk result (from.now ≢ to.now) }
         ensures left { result ≡ Ok true → Notes self.new from.now }
         ensures noted { result ≡ Ok true → Notes self.new to.now }
@@ -467,7 +471,7 @@ impl<R: Files<File = File> + AllocGlobal + Clone + Drop> Vault for FolderVault<R
         ensures call { Untold (Removes name.now result) self.old self.new }
         ensures cause { HasCause self.old.faults.number self.new.faults.number (IsErrOf result Failed) }
         ensures memory { result ≢ Err NoMemory }
-        ensures refused { OnOk result (IsTrue (is_name name.now)) }
+        ensures refused { OnOk result (Serves self.old name.now) }
         ensures noted { result ≡ Ok true → Notes self.new name.now ⊎ IsTrue self.new.is_unsettled }
         ensures adds { Adds self.old self.new }
     {
@@ -481,10 +485,10 @@ impl<R: Files<File = File> + AllocGlobal + Clone + Drop> Vault for FolderVault<R
         ensures call { Untold (Syncs result) self.old self.new }
         ensures cause { HasCause self.old.faults.number self.new.faults.number (IsErrOf result Failed) }
         ensures memory { result ≢ Err NoMemory }
-        ensures lost { IsTrue self.old.broken → IsErr result }
-        ensures whole { OnOk result (self.new.broken ≡ false) }
+        ensures lost { OnOk result ((self.old.broken ≡ false) × (self.new.broken ≡ false)) }
+        ensures refused { OnOk result (self.old.hold ≢ Hold.Refused) }
         ensures fails { OnErr result (Fails self.old self.new) }
-        ensures root { self.new.root ≡ self.old.root }
+        ensures root { (self.new.root ≡ self.old.root) × Holds self.old.hold self.new.hold }
     {
         match self.sync_now() {
             Ok(()) => Ok(()),

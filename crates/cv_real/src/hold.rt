@@ -1,5 +1,5 @@
 //! The hold that a vault has of its folder.
-ghost use Rattle.std.specs.Prelude.{◌≡◌};
+ghost use Rattle.std.specs.Prelude.{◌≡◌, ◌↔◌, IfOk, IsOk, IsSome};
 ghost use Rattle.std.specs.IoError.{error_kind};
 
 use std::fs::{File, OpenFile, TryLockError};
@@ -27,13 +27,31 @@ pub fn refused() -> io::Error
     io::Error::from(ErrorKind::InvalidInput)
 }
 
-/// Opens and locks a folder whose path ends in a slash. None where another vault holds it.
-pub fn lock_folder<R: Files<File = File>>(rt: &R, folder: &str) -> io::Result<Option<File>> {
-    let open = fs::open(rt, folder)?;
-    match open.try_lock() {
+/// The folder, if this try has locked it. None where another vault holds it.
+fn held_by(open: File, tried: Result<(), TryLockError>) -> io::Result<Option<File>>
+    ensures { IfOk result (λ held. IsSome held ↔ IsOk tried) }
+{
+    match tried {
         Ok(()) => Ok(Some(open)),
         Err(TryLockError::WouldBlock) => Ok(None),
         Err(TryLockError::Error(error)) => Err(error),
+    }
+}
+
+/// Opens and locks a folder whose path ends in a slash. None where another vault holds it.
+pub fn lock_folder<R: Files<File = File>>(rt: &R, folder: &str) -> io::Result<Option<File>> {
+    let open = fs::open(rt, folder)?;
+    let tried = open.try_lock();
+    held_by(open, tried)
+}
+
+/// What a vault has of the folder at this path, which ends in a slash: it holds it, if it is there.
+pub fn hold_of<R: Files<File = File>>(rt: &R, folder: &str) -> io::Result<Hold> {
+    match lock_folder(rt, folder) {
+        Ok(Some(open)) => Ok(Hold::Held(open)),
+        Ok(None) => Ok(Hold::Refused),
+        Err(error) if error.kind() == ErrorKind::NotFound => Ok(Hold::Absent),
+        Err(error) => Err(error),
     }
 }
 
