@@ -20,7 +20,7 @@ const REOPENED: (&[u8], &[u8]) = (
 #[test]
 fn publishes_what_is_committed(rt: HostRuntime) -> Result<(), Fail> {
     let alloc = rt.alloc();
-    let vault = vault_with(alloc, "", &[], Vec::new(alloc))?;
+    let vault = vault_with(alloc, &[], Vec::new(alloc))?;
     let (first, again) = opened_twice(alloc, vault, PUBLISHED.0, 0, REOPENED.0)?;
     assert!(rt; first.wrote(0, PUBLISHED.1));
     assert!(rt; again.wrote(0, REOPENED.1));
@@ -45,7 +45,7 @@ fn ended_by(
     asked: &[u8],
     pick: u64,
 ) -> Result<(Ended, Ended), NoMemory> {
-    let vault = vault_with(alloc, "", &OFFERED, failing_at(alloc, call, made)?)?;
+    let vault = vault_with(alloc, &OFFERED, failing_at(alloc, call, made)?)?;
     opened_twice(alloc, vault, asked, pick, REOPENED.0)
 }
 

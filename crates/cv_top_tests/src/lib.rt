@@ -4,17 +4,13 @@
 #[cfg(test)]
 mod commit_tests;
 #[cfg(test)]
-mod look_tests;
+mod full_tests;
 #[cfg(test)]
 mod opening_tests;
-#[cfg(test)]
-mod publish_tests;
 #[cfg(test)]
 mod shell_tests;
 #[cfg(test)]
 mod store_tests;
-#[cfg(test)]
-mod story_tests;
 #[cfg(test)]
 mod test_runs;
 #[cfg(test)]

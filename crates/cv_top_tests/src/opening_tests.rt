@@ -18,7 +18,7 @@ const REFUSED_LATER: &[u8] =
 
 /// A repository that is settled, with a call that fails, the change made or not.
 fn settled(alloc: Global, call: u64, made: bool) -> Result<MemoryVault, NoMemory> {
-    let mut vault = vault_with(alloc, "", &[], failing_at(alloc, call, made)?)?;
+    let mut vault = vault_with(alloc, &[], failing_at(alloc, call, made)?)?;
     match vault.sync() {
         Ok(()) => Ok(vault),
         Err(_) => Err(NoMemory),

@@ -1,73 +1,9 @@
-//! Payloads, and leases below a directory, over a vault in memory. The expected bytes are by `tools/session_vectors.py`.
+//! Payloads at which a call of the vault fails. The expected bytes are by `tools/session_vectors.py`.
 
-use crate::test_runs::{Around, STDIO, failing_at, opened_twice, put, run_on, vault_with};
+use crate::test_runs::{failing_at, opened_twice, vault_with};
 use cv_base::NoMemory;
-use cv_vault::MemoryVault;
 use std::alloc::Global;
 use std::test::Fail;
-
-/// The files of a repository whose tree has the directory `/a`.
-static BELOW_FILES: [(&str, &[u8]); 4] = [
-    (
-        "data/b4/c0f6afb853cc922b4a51b0ebe79d235460669fC",
-        b"CVR1\x00\x00\x00\x02\x00\x00\x00\x00\x069v\x7f>\x9e\xaa\xd7)\xb5@7\xa7\xe2\xab\xf5\xd4\x1d\x8c\xd9\x8f\x00\xb2\x04\xe9\x80\x09\x98\xec\xf8B~\x00\x00\x00\x01\x00\x00A\xed\x00\x00\x00\x00eS\xf1\x00\x00\x00\x00\x00\x00\x00\x00\x00\x00\x00\x00\x00\x00\x00\x00\x00\x00\x00\x01a\x00\x00\xd4\x1d\x8c\xd9\x8f\x00\xb2\x04\xe9\x80\x09\x98\xec\xf8B~\x00\x00\x00\x00\x00\x00\x00\x00\x00\x00\x00\x00\x00\x00\x00\x00\x00\x00\x00\x01\x00\x00A\xed\x00\x00\x00\x00eS\xf1\x00\x00\x00\x00\x00\x00\x00\x00\x00\x00\x00\x00\x00\x00\x00\x00\x00\x00\x00\x00\x00\x00",
-    ),
-    (
-        "data/80/9e1148a1c59ceaab2fb21a49bc9ba112abf74eH",
-        b"CVH1\x00\x00\x00\x00\x00\x00\x00\x01\x00\x00\x00\x00\x00\x00\x00\x00\x00\x00\x00\x00\x00\x00\x00\x00\x00\x00\x00\x00\xb4\xc0\xf6\xaf\xb8S\xcc\x92+JQ\xb0\xeb\xe7\x9d#T`f\x9f\xb4\xc0\xf6\xaf\xb8S\xcc\x92+JQ\xb0\xeb\xe7\x9d#T`f\x9f\x00\x00\x00\x00\x00\x00\x00\x00\x00\x00\x00\x00\x00\x00\x00\x00\x00\x00\x00\x00\x00\x00\x00\x00eS\xf1\x00\x00\x00",
-    ),
-    ("gateway.epoch", b"0\n"),
-    (
-        ".cvmfspublished",
-        b"Cb4c0f6afb853cc922b4a51b0ebe79d235460669f\nB151\nRd41d8cd98f00b204e9800998ecf8427e\nD240\nS1\nNsw.example.org\nH809e1148a1c59ceaab2fb21a49bc9ba112abf74e\nT1700000000\n--\n6dd21893521cf35f747d6acba0685e2a683bc6a5\nxx\x1a&eY\xe4\x05\x18\x19R\xe3\x8dj\x18\xd1\xf3@\xf5\xb1",
-    ),
-];
-
-/// Requests for leases below and on it, and the replies.
-const BELOW: (&str, &str) = (
-    "POST /api/v1/leases HTTP/1.1\r\nHost: x\r\nAuthorization: k1 NzFjNDI4MWU3YmFlZTE1ZWFjYTBhNGFmZTU3YTQ1MDhmNGYyZDAwZQ==\r\nContent-Length: 29\r\n\r\n{\"path\":\"sw.example.org/a/b\"}POST /api/v1/leases HTTP/1.1\r\nHost: x\r\nAuthorization: k1 YjY0MTExZmNjYzY5Njk0YjFlZDE5OGE5YzFmNTllZGZhZjAzMDA1Mg==\r\nContent-Length: 27\r\n\r\n{\"path\":\"sw.example.org/a\"}POST /api/v1/leases HTTP/1.1\r\nHost: x\r\nAuthorization: k1 YzQyMDI1NDI5ZTNlOWY4YjA5NzZlMzhkYWZlMzQyMWRmNzBiMTZlYQ==\r\nContent-Length: 29\r\n\r\n{\"path\":\"sw.example.org/a/c\"}POST /api/v1/leases HTTP/1.1\r\nHost: x\r\nAuthorization: k1 YjY0MTExZmNjYzY5Njk0YjFlZDE5OGE5YzFmNTllZGZhZjAzMDA1Mg==\r\nContent-Length: 27\r\n\r\n{\"path\":\"sw.example.org/a\"}",
-    "HTTP/1.1 200 OK\r\nContent-Type: application/json\r\nContent-Length: 105\r\n\r\n{\"revision\":1,\"root_hash\":\"b4c0f6afb853cc922b4a51b0ebe79d235460669f\",\"session_token\":\"1-1\",\"status\":\"ok\"}HTTP/1.1 200 OK\r\nContent-Type: application/json\r\nContent-Length: 58\r\n\r\n{\"lease\":\"1-1\",\"status\":\"path_busy\",\"time_remaining\":7200}HTTP/1.1 200 OK\r\nContent-Type: application/json\r\nContent-Length: 105\r\n\r\n{\"revision\":1,\"root_hash\":\"b4c0f6afb853cc922b4a51b0ebe79d235460669f\",\"session_token\":\"1-2\",\"status\":\"ok\"}HTTP/1.1 200 OK\r\nContent-Type: application/json\r\nContent-Length: 58\r\n\r\n{\"lease\":\"1-2\",\"status\":\"path_busy\",\"time_remaining\":7200}",
-);
-
-#[test]
-fn leases_below_a_directory(rt: HostRuntime) -> Result<(), Fail> {
-    let alloc = rt.alloc();
-    let mut vault = MemoryVault::new(alloc, Vec::new(alloc))?;
-    for (name, bytes) in &BELOW_FILES {
-        put(&mut vault, name, bytes)?;
-    }
-    let (asked, said) = BELOW;
-    let (ended, _) = run_on(alloc, &STDIO, vault, asked.as_bytes(), Around::usual(alloc))?;
-    assert!(rt; ended.wrote(0, said.as_bytes()));
-    Ok(())
-}
-
-/// Sessions with payloads: the requests and the replies.
-static PAYLOADS: [(&[u8], &[u8]); 3] = [
-    (
-        b"POST /api/v1/leases HTTP/1.1\x0d\nHost: x\x0d\nAuthorization: k1 YjY0MTExZmNjYzY5Njk0YjFlZDE5OGE5YzFmNTllZGZhZjAzMDA1Mg==\x0d\nContent-Length: 27\x0d\n\x0d\n{\x22path\x22:\x22sw.example.org/a\x22}POST /api/v1/payloads HTTP/1.1\x0d\nHost: x\x0d\nMessage-Size: 101\x0d\nAuthorization: k1 MjQ1NTc3NDcxODJjYWEzN2E0NmNhZjc1ZGQwZGZkYzg3NDI4MWNiZg==\x0d\nContent-Length: 385\x0d\n\x0d\n{\x22header_size\x22:107,\x22payload_digest\x22:\x22e8528f0997481a06644063ddecaab2f85ea3de37\x22,\x22session_token\x22:\x221-1\x22}V2\nS177\nN2\n--\nC f572d396fae9206628714fb2ce00f72e94f2258f 6\nC e6d2e652fce99490956f1126db1cc69c2babc5ceC 171\nhello\nCVR1\x00\x00\x00\x02\x00\x00\x00\x00\x069v\x7f>\x9e\xaa\xd7)\xb5@7\xa7\xe2\xab\xf5\xd4\x1d\x8c\xd9\x8f\x00\xb2\x04\xe9\x80\x09\x98\xec\xf8B~\x00\x00\x00\x04\x00\x00\x81\xa4\x00\x00\x00\x00eS\xf1\x00\x00\x00\x00\x00\x00\x00\x00\x00\x00\x00\x00\x00\x00\x00\x00\x06\x14\xf5r\xd3\x96\xfa\xe9 f(qO\xb2\xce\x00\xf7.\x94\xf2%\x8f\x00\x01a\x00\x00\xd4\x1d\x8c\xd9\x8f\x00\xb2\x04\xe9\x80\x09\x98\xec\xf8B~\x00\x00\x00\x00\x00\x00\x00\x00\x00\x00\x00\x00\x00\x00\x00\x00\x00\x00\x00\x01\x00\x00A\xed\x00\x00\x00\x00eS\xf1\x00\x00\x00\x00\x00\x00\x00\x00\x00\x00\x00\x00\x00\x00\x00\x00\x00\x00\x00\x00\x00\x00POST /api/v1/payloads HTTP/1.1\x0d\nHost: x\x0d\nMessage-Size: 101\x0d\nAuthorization: k1 MjQ1NTc3NDcxODJjYWEzN2E0NmNhZjc1ZGQwZGZkYzg3NDI4MWNiZg==\x0d\nContent-Length: 385\x0d\n\x0d\n{\x22header_size\x22:107,\x22payload_digest\x22:\x22e8528f0997481a06644063ddecaab2f85ea3de37\x22,\x22session_token\x22:\x221-1\x22}V2\nS177\nN2\n--\nC f572d396fae9206628714fb2ce00f72e94f2258f 6\nC e6d2e652fce99490956f1126db1cc69c2babc5ceC 171\nhello\nCVR1\x00\x00\x00\x02\x00\x00\x00\x00\x069v\x7f>\x9e\xaa\xd7)\xb5@7\xa7\xe2\xab\xf5\xd4\x1d\x8c\xd9\x8f\x00\xb2\x04\xe9\x80\x09\x98\xec\xf8B~\x00\x00\x00\x04\x00\x00\x81\xa4\x00\x00\x00\x00eS\xf1\x00\x00\x00\x00\x00\x00\x00\x00\x00\x00\x00\x00\x00\x00\x00\x00\x06\x14\xf5r\xd3\x96\xfa\xe9 f(qO\xb2\xce\x00\xf7.\x94\xf2%\x8f\x00\x01a\x00\x00\xd4\x1d\x8c\xd9\x8f\x00\xb2\x04\xe9\x80\x09\x98\xec\xf8B~\x00\x00\x00\x00\x00\x00\x00\x00\x00\x00\x00\x00\x00\x00\x00\x00\x00\x00\x00\x01\x00\x00A\xed\x00\x00\x00\x00eS\xf1\x00\x00\x00\x00\x00\x00\x00\x00\x00\x00\x00\x00\x00\x00\x00\x00\x00\x00\x00\x00\x00\x00GET /cvmfs/sw.example.org/data/f5/72d396fae9206628714fb2ce00f72e94f2258f HTTP/1.1\x0d\nHost: x\x0d\n\x0d\n",
-        b"HTTP/1.1 200 OK\x0d\nContent-Type: application/json\x0d\nContent-Length: 105\x0d\n\x0d\n{\x22revision\x22:1,\x22root_hash\x22:\x22307aac20fe5391faacd0ea38f9589fb797a3685c\x22,\x22session_token\x22:\x221-1\x22,\x22status\x22:\x22ok\x22}HTTP/1.1 200 OK\x0d\nContent-Type: application/json\x0d\nContent-Length: 15\x0d\n\x0d\n{\x22status\x22:\x22ok\x22}HTTP/1.1 200 OK\x0d\nContent-Type: application/json\x0d\nContent-Length: 15\x0d\n\x0d\n{\x22status\x22:\x22ok\x22}HTTP/1.1 200 OK\x0d\nContent-Type: application/octet-stream\x0d\nContent-Length: 6\x0d\n\x0d\nhello\n",
-    ),
-    (
-        b"POST /api/v1/leases HTTP/1.1\x0d\nHost: x\x0d\nAuthorization: k1 YjY0MTExZmNjYzY5Njk0YjFlZDE5OGE5YzFmNTllZGZhZjAzMDA1Mg==\x0d\nContent-Length: 27\x0d\n\x0d\n{\x22path\x22:\x22sw.example.org/a\x22}POST /api/v1/payloads HTTP/1.1\x0d\nHost: x\x0d\nMessage-Size: 101\x0d\nAuthorization: k1 MjQ1NTc3NDcxODJjYWEzN2E0NmNhZjc1ZGQwZGZkYzg3NDI4MWNiZg==\x0d\nContent-Length: 384\x0d\n\x0d\n{\x22header_size\x22:107,\x22payload_digest\x22:\x22e8528f0997481a06644063ddecaab2f85ea3de37\x22,\x22session_token\x22:\x221-1\x22}V2\nS177\nN2\n--\nC f572d396fae9206628714fb2ce00f72e94f2258f 6\nC e6d2e652fce99490956f1126db1cc69c2babc5ceC 171\nhello\nCVR1\x00\x00\x00\x02\x00\x00\x00\x00\x069v\x7f>\x9e\xaa\xd7)\xb5@7\xa7\xe2\xab\xf5\xd4\x1d\x8c\xd9\x8f\x00\xb2\x04\xe9\x80\x09\x98\xec\xf8B~\x00\x00\x00\x04\x00\x00\x81\xa4\x00\x00\x00\x00eS\xf1\x00\x00\x00\x00\x00\x00\x00\x00\x00\x00\x00\x00\x00\x00\x00\x00\x06\x14\xf5r\xd3\x96\xfa\xe9 f(qO\xb2\xce\x00\xf7.\x94\xf2%\x8f\x00\x01a\x00\x00\xd4\x1d\x8c\xd9\x8f\x00\xb2\x04\xe9\x80\x09\x98\xec\xf8B~\x00\x00\x00\x00\x00\x00\x00\x00\x00\x00\x00\x00\x00\x00\x00\x00\x00\x00\x00\x01\x00\x00A\xed\x00\x00\x00\x00eS\xf1\x00\x00\x00\x00\x00\x00\x00\x00\x00\x00\x00\x00\x00\x00\x00\x00\x00\x00\x00\x00\x00POST /api/v1/payloads HTTP/1.1\x0d\nHost: x\x0d\nMessage-Size: 101\x0d\nAuthorization: k1 MjQ1NTc3NDcxODJjYWEzN2E0NmNhZjc1ZGQwZGZkYzg3NDI4MWNiZg==\x0d\nContent-Length: 386\x0d\n\x0d\n{\x22header_size\x22:107,\x22payload_digest\x22:\x22e8528f0997481a06644063ddecaab2f85ea3de37\x22,\x22session_token\x22:\x221-1\x22}V2\nS177\nN2\n--\nC f572d396fae9206628714fb2ce00f72e94f2258f 6\nC e6d2e652fce99490956f1126db1cc69c2babc5ceC 171\nhello\nCVR1\x00\x00\x00\x02\x00\x00\x00\x00\x069v\x7f>\x9e\xaa\xd7)\xb5@7\xa7\xe2\xab\xf5\xd4\x1d\x8c\xd9\x8f\x00\xb2\x04\xe9\x80\x09\x98\xec\xf8B~\x00\x00\x00\x04\x00\x00\x81\xa4\x00\x00\x00\x00eS\xf1\x00\x00\x00\x00\x00\x00\x00\x00\x00\x00\x00\x00\x00\x00\x00\x00\x06\x14\xf5r\xd3\x96\xfa\xe9 f(qO\xb2\xce\x00\xf7.\x94\xf2%\x8f\x00\x01a\x00\x00\xd4\x1d\x8c\xd9\x8f\x00\xb2\x04\xe9\x80\x09\x98\xec\xf8B~\x00\x00\x00\x00\x00\x00\x00\x00\x00\x00\x00\x00\x00\x00\x00\x00\x00\x00\x00\x01\x00\x00A\xed\x00\x00\x00\x00eS\xf1\x00\x00\x00\x00\x00\x00\x00\x00\x00\x00\x00\x00\x00\x00\x00\x00\x00\x00\x00\x00\x00\x00xPOST /api/v1/payloads HTTP/1.1\x0d\nHost: x\x0d\nMessage-Size: 101\x0d\nAuthorization: k1 MjQ1NTc3NDcxODJjYWEzN2E0NmNhZjc1ZGQwZGZkYzg3NDI4MWNiZg==\x0d\nContent-Length: 385\x0d\n\x0d\n{\x22header_size\x22:107,\x22payload_digest\x22:\x22e8528f0997481a06644063ddecaab2f85ea3de37\x22,\x22session_token\x22:\x221-1\x22}V2\nS177\nN2\n--\nC f572d396fae9206628714fb2ce00f72e94f2258f 6\nC e6d2e652fce99490956f1126db1cc69c2babc5ceC 171\nhellO\nCVR1\x00\x00\x00\x02\x00\x00\x00\x00\x069v\x7f>\x9e\xaa\xd7)\xb5@7\xa7\xe2\xab\xf5\xd4\x1d\x8c\xd9\x8f\x00\xb2\x04\xe9\x80\x09\x98\xec\xf8B~\x00\x00\x00\x04\x00\x00\x81\xa4\x00\x00\x00\x00eS\xf1\x00\x00\x00\x00\x00\x00\x00\x00\x00\x00\x00\x00\x00\x00\x00\x00\x06\x14\xf5r\xd3\x96\xfa\xe9 f(qO\xb2\xce\x00\xf7.\x94\xf2%\x8f\x00\x01a\x00\x00\xd4\x1d\x8c\xd9\x8f\x00\xb2\x04\xe9\x80\x09\x98\xec\xf8B~\x00\x00\x00\x00\x00\x00\x00\x00\x00\x00\x00\x00\x00\x00\x00\x00\x00\x00\x00\x01\x00\x00A\xed\x00\x00\x00\x00eS\xf1\x00\x00\x00\x00\x00\x00\x00\x00\x00\x00\x00\x00\x00\x00\x00\x00\x00\x00\x00\x00\x00\x00",
-        b"HTTP/1.1 200 OK\x0d\nContent-Type: application/json\x0d\nContent-Length: 105\x0d\n\x0d\n{\x22revision\x22:1,\x22root_hash\x22:\x22307aac20fe5391faacd0ea38f9589fb797a3685c\x22,\x22session_token\x22:\x221-1\x22,\x22status\x22:\x22ok\x22}HTTP/1.1 200 OK\x0d\nContent-Type: application/json\x0d\nContent-Length: 38\x0d\n\x0d\n{\x22reason\x22:\x22bad_pack\x22,\x22status\x22:\x22error\x22}HTTP/1.1 200 OK\x0d\nContent-Type: application/json\x0d\nContent-Length: 38\x0d\n\x0d\n{\x22reason\x22:\x22bad_pack\x22,\x22status\x22:\x22error\x22}HTTP/1.1 200 OK\x0d\nContent-Type: application/json\x0d\nContent-Length: 38\x0d\n\x0d\n{\x22reason\x22:\x22bad_pack\x22,\x22status\x22:\x22error\x22}",
-    ),
-    (
-        b"POST /api/v1/payloads HTTP/1.1\x0d\nHost: x\x0d\nMessage-Size: 101\x0d\nAuthorization: k1 MjQ1NTc3NDcxODJjYWEzN2E0NmNhZjc1ZGQwZGZkYzg3NDI4MWNiZg==\x0d\nContent-Length: 385\x0d\n\x0d\n{\x22header_size\x22:107,\x22payload_digest\x22:\x22e8528f0997481a06644063ddecaab2f85ea3de37\x22,\x22session_token\x22:\x221-1\x22}V2\nS177\nN2\n--\nC f572d396fae9206628714fb2ce00f72e94f2258f 6\nC e6d2e652fce99490956f1126db1cc69c2babc5ceC 171\nhello\nCVR1\x00\x00\x00\x02\x00\x00\x00\x00\x069v\x7f>\x9e\xaa\xd7)\xb5@7\xa7\xe2\xab\xf5\xd4\x1d\x8c\xd9\x8f\x00\xb2\x04\xe9\x80\x09\x98\xec\xf8B~\x00\x00\x00\x04\x00\x00\x81\xa4\x00\x00\x00\x00eS\xf1\x00\x00\x00\x00\x00\x00\x00\x00\x00\x00\x00\x00\x00\x00\x00\x00\x06\x14\xf5r\xd3\x96\xfa\xe9 f(qO\xb2\xce\x00\xf7.\x94\xf2%\x8f\x00\x01a\x00\x00\xd4\x1d\x8c\xd9\x8f\x00\xb2\x04\xe9\x80\x09\x98\xec\xf8B~\x00\x00\x00\x00\x00\x00\x00\x00\x00\x00\x00\x00\x00\x00\x00\x00\x00\x00\x00\x01\x00\x00A\xed\x00\x00\x00\x00eS\xf1\x00\x00\x00\x00\x00\x00\x00\x00\x00\x00\x00\x00\x00\x00\x00\x00\x00\x00\x00\x00\x00\x00POST /api/v1/leases HTTP/1.1\x0d\nHost: x\x0d\nAuthorization: k1 YjY0MTExZmNjYzY5Njk0YjFlZDE5OGE5YzFmNTllZGZhZjAzMDA1Mg==\x0d\nContent-Length: 27\x0d\n\x0d\n{\x22path\x22:\x22sw.example.org/a\x22}POST /api/v1/payloads HTTP/1.1\x0d\nHost: x\x0d\nMessage-Size: 101\x0d\nAuthorization: k2 OTNhNGM2MTA0NWVjM2I4MjY1YTc5MzcxYTA1NDM1ZDJmMTFmOWJlZg==\x0d\nContent-Length: 385\x0d\n\x0d\n{\x22header_size\x22:107,\x22payload_digest\x22:\x22e8528f0997481a06644063ddecaab2f85ea3de37\x22,\x22session_token\x22:\x221-1\x22}V2\nS177\nN2\n--\nC f572d396fae9206628714fb2ce00f72e94f2258f 6\nC e6d2e652fce99490956f1126db1cc69c2babc5ceC 171\nhello\nCVR1\x00\x00\x00\x02\x00\x00\x00\x00\x069v\x7f>\x9e\xaa\xd7)\xb5@7\xa7\xe2\xab\xf5\xd4\x1d\x8c\xd9\x8f\x00\xb2\x04\xe9\x80\x09\x98\xec\xf8B~\x00\x00\x00\x04\x00\x00\x81\xa4\x00\x00\x00\x00eS\xf1\x00\x00\x00\x00\x00\x00\x00\x00\x00\x00\x00\x00\x00\x00\x00\x00\x06\x14\xf5r\xd3\x96\xfa\xe9 f(qO\xb2\xce\x00\xf7.\x94\xf2%\x8f\x00\x01a\x00\x00\xd4\x1d\x8c\xd9\x8f\x00\xb2\x04\xe9\x80\x09\x98\xec\xf8B~\x00\x00\x00\x00\x00\x00\x00\x00\x00\x00\x00\x00\x00\x00\x00\x00\x00\x00\x00\x01\x00\x00A\xed\x00\x00\x00\x00eS\xf1\x00\x00\x00\x00\x00\x00\x00\x00\x00\x00\x00\x00\x00\x00\x00\x00\x00\x00\x00\x00\x00\x00",
-        b"HTTP/1.1 200 OK\x0d\nContent-Type: application/json\x0d\nContent-Length: 43\x0d\n\x0d\n{\x22reason\x22:\x22invalid_token\x22,\x22status\x22:\x22error\x22}HTTP/1.1 200 OK\x0d\nContent-Type: application/json\x0d\nContent-Length: 105\x0d\n\x0d\n{\x22revision\x22:1,\x22root_hash\x22:\x22307aac20fe5391faacd0ea38f9589fb797a3685c\x22,\x22session_token\x22:\x221-1\x22,\x22status\x22:\x22ok\x22}HTTP/1.1 200 OK\x0d\nContent-Type: application/json\x0d\nContent-Length: 39\x0d\n\x0d\n{\x22reason\x22:\x22wrong_key\x22,\x22status\x22:\x22error\x22}",
-    ),
-];
-
-#[test]
-fn stores_payloads(rt: HostRuntime) -> Result<(), Fail> {
-    let alloc = rt.alloc();
-    for (asked, said) in &PAYLOADS {
-        let vault = vault_with(alloc, "", &[], Vec::new(alloc))?;
-        let (ended, _) = run_on(alloc, &STDIO, vault, asked, Around::usual(alloc))?;
-        assert!(rt; ended.wrote(0, said));
-    }
-    Ok(())
-}
 
 /// A lease, and a payload twice.
 const STORED_TWICE: &[u8] =
@@ -88,7 +24,7 @@ const STORED_AGAIN: (&[u8], &[u8]) = (
 
 /// Whether the first opening says what it may, and the next one has the object and stores the payload again.
 fn survives(alloc: Global, call: u64, made: bool, pick: u64) -> Result<bool, NoMemory> {
-    let vault = vault_with(alloc, "", &[], failing_at(alloc, call, made)?)?;
+    let vault = vault_with(alloc, &[], failing_at(alloc, call, made)?)?;
     let (first, again) = opened_twice(alloc, vault, STORED_TWICE, pick, STORED_AGAIN.0)?;
     let said = SAID.iter().any(|said| first.wrote(0, said));
     Ok(said && again.wrote(0, STORED_AGAIN.1))
@@ -123,7 +59,7 @@ const LACKING: &[u8] =
 
 /// Whether the next opening has the object, or where its payload wasn't answered maybe not, and stores it when it is sent.
 fn is_whole(alloc: Global, call: u64, made: bool, pick: u64) -> Result<bool, NoMemory> {
-    let vault = vault_with(alloc, "", &[], failing_at(alloc, call, made)?)?;
+    let vault = vault_with(alloc, &[], failing_at(alloc, call, made)?)?;
     let (first, again) = opened_twice(alloc, vault, STORED_ONCE, pick, STORED_AGAIN.0)?;
     let stands = again.wrote(0, STORED_AGAIN.1);
     if first.wrote(0, ONCE_SAID[0]) {

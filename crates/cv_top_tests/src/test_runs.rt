@@ -1,5 +1,4 @@
 //! Runs of the program over parts in memory, for the tests.
-ghost use Rattle.std.specs.Prelude.{◌≡◌, ◌+◌, ◌∷◌, [], IfOk};
 
 use cv_base::NoMemory;
 use cv_ports::{
@@ -10,16 +9,10 @@ use cv_vault::{MemoryVault, Mortal, Vault};
 use std::alloc::Global;
 
 /// The keys text of two keys.
-pub(crate) const KEYS: &str = r#"{"keys":[{"id":"k1","secret":"s1"},{"id":"k2","secret":"s2"}]}"#;
-
-/// The seal.
-pub(crate) const SEAL: &str = "seal";
-
-/// The first moment of the tests.
-pub(crate) const START: u64 = 1_700_000_000;
+const KEYS: &str = r#"{"keys":[{"id":"k1","secret":"s1"},{"id":"k2","secret":"s2"}]}"#;
 
 /// The files of the repository `sw.example.org` that was made at that moment.
-pub(crate) static FILES: [(&str, &[u8]); 4] = [
+static FILES: [(&str, &[u8]); 4] = [
     (
         "data/30/7aac20fe5391faacd0ea38f9589fb797a3685cC",
         b"CVR1\x00\x00\x00\x01\x00\x00\x00\x00\xd4\x1d\x8c\xd9\x8f\x00\xb2\x04\xe9\x80\x09\x98\xec\xf8B~\x00\x00\x00\x00\x00\x00\x00\x00\x00\x00\x00\x00\x00\x00\x00\x00\x00\x00\x00\x01\x00\x00A\xed\x00\x00\x00\x00eS\xf1\x00\x00\x00\x00\x00\x00\x00\x00\x00\x00\x00\x00\x00\x00\x00\x00\x00\x00\x00\x00\x00\x00",
@@ -35,13 +28,12 @@ pub(crate) static FILES: [(&str, &[u8]); 4] = [
     ),
 ];
 
-/// How the program ended, what it wrote, its line on the status, and all that links to servers took.
+/// How the program ended, what it wrote, and its line on the status.
 #[derive(Drop)]
 pub(crate) struct Ended {
     pub(crate) status: Status,
     pub(crate) output: Vec<u8>,
     pub(crate) errors: Vec<u8>,
-    pub(crate) requests: Vec<u8>,
 }
 
 impl Ended {
@@ -64,18 +56,15 @@ pub(crate) fn put(vault: &mut MemoryVault, name: &str, bytes: &[u8]) -> Result<(
     }
 }
 
-/// A vault with the files of the repository but one, and with these. Its calls are numbered from the first of the writes.
+/// A vault with the files of the repository, and with these. Its calls are numbered from the first of the writes.
 pub(crate) fn vault_with(
     alloc: Global,
-    lacking: &str,
     files: &[(&str, &[u8])],
     failing: Vec<u64>,
 ) -> Result<MemoryVault, NoMemory> {
     let mut vault = MemoryVault::new(alloc, failing)?;
     for (name, bytes) in &FILES {
-        if *name != lacking {
-            put(&mut vault, name, bytes)?;
-        }
+        put(&mut vault, name, bytes)?;
     }
     for (name, bytes) in files {
         put(&mut vault, name, bytes)?;
@@ -83,40 +72,21 @@ pub(crate) fn vault_with(
     Ok(vault)
 }
 
-/// Three moments, so many seconds after the first of the tests.
-pub(crate) fn moments_at(alloc: Global, seconds: (u32, u32, u32)) -> Result<Vec<u64>, NoMemory>
-    ensures { IfOk result (λ moments. moments.items ≡ (1700000000 + seconds.0) ∷ (1700000000 + seconds.1) ∷ (1700000000 + seconds.2) ∷ []) }
-{
-    let mut moments = Vec::new(alloc);
-    moments.push(START + u64::from(seconds.0))?;
-    moments.push(START + u64::from(seconds.1))?;
-    moments.push(START + u64::from(seconds.2))?;
-    Ok(moments)
-}
-
 /// What a run has besides its vault and its input.
 #[derive(Drop)]
 pub(crate) struct Around {
-    pub(crate) keys: &'static str,
-    pub(crate) seal: &'static str,
-    pub(crate) seconds: (u32, u32, u32),
     pub(crate) input: Vec<u64>,
     pub(crate) output: Vec<u64>,
     pub(crate) links: Vec<MemoryLink>,
-    pub(crate) folder: Option<MemoryFolder>,
 }
 
 impl Around {
-    /// Two keys, a seal, one moment, no link, an empty folder, and nothing fails.
+    /// No link, and nothing fails.
     pub(crate) fn usual(alloc: Global) -> Around {
         Around {
-            keys: KEYS,
-            seal: SEAL,
-            seconds: (0, 0, 0),
             input: Vec::new(alloc),
             output: Vec::new(alloc),
             links: Vec::new(alloc),
-            folder: None,
         }
     }
 }
@@ -128,38 +98,14 @@ pub(crate) fn link_with(alloc: Global, reply: &[u8]) -> Result<MemoryLink, NoMem
     MemoryLink::new(alloc, reads, writes)
 }
 
-/// A link whose peer gives these bytes at once, and then nothing until the read fails.
-pub(crate) fn stalled_link(alloc: Global, reply: &[u8]) -> Result<MemoryLink, NoMemory> {
-    let failing = if reply.is_empty() { 1 } else { 2 };
-    let failing = vec![in alloc; failing]?;
-    let reads = MemorySource::new(Vec::from_slice(alloc, reply)?, 1_000, failing);
-    let writes = MemorySink::new(alloc, 20_000, Vec::new(alloc))?;
-    MemoryLink::new(alloc, reads, writes)
-}
-
-/// All that the links took that came back to a dial.
-fn requests_of(alloc: Global, dial: MemoryDial) -> Result<Vec<u8>, NoMemory> {
-    let links = dial.into_links(alloc)?;
-    let mut requests = Vec::new(alloc);
-    for link in &links {
-        requests.extend_from_slice(link.writes.as_slice())?;
-    }
-    Ok(requests)
-}
-
 /// The words of a run that makes the one repository, and of one that serves it.
 pub(crate) const INIT: [&str; 2] = ["init", "sw.example.org"];
 
 pub(crate) const STDIO: [&str; 2] = ["stdio", "sw.example.org"];
 
-/// The folder, or an empty one.
-fn folder_or_empty(alloc: Global, folder: Option<MemoryFolder>) -> Result<MemoryFolder, NoMemory> {
-    match folder {
-        Some(folder) => Ok(folder),
-        None => MemoryFolder::new(Vec::new(alloc), Vec::new(alloc), Vec::new(alloc)).ok_or(
-            NoMemory,
-        ),
-    }
+/// A folder of no changes.
+fn no_changes(alloc: Global) -> Result<MemoryFolder, NoMemory> {
+    MemoryFolder::new(Vec::new(alloc), Vec::new(alloc), Vec::new(alloc)).ok_or(NoMemory)
 }
 
 /// Runs the program on these words, this vault and this input, and hands the vault back.
@@ -179,10 +125,10 @@ pub(crate) fn run_on(
         input: MemorySource::new(Vec::from_slice(alloc, input)?, 100, around.input),
         output: MemorySink::new(alloc, 200_000, around.output)?,
         errors: MemorySink::new(alloc, 100, Vec::new(alloc))?,
-        clock: MemoryClock::new(moments_at(alloc, around.seconds)?),
-        keys: String::from_str(alloc, around.keys)?,
-        seal: String::from_str(alloc, around.seal)?,
-        folder: folder_or_empty(alloc, around.folder)?,
+        clock: MemoryClock::new(Vec::from_slice(alloc, &[1_700_000_000])?),
+        keys: String::from_str(alloc, KEYS)?,
+        seal: String::from_str(alloc, "seal")?,
+        folder: no_changes(alloc)?,
         dial: MemoryDial::new(alloc, around.links, Vec::new(alloc))?,
         hold: NoHold,
     };
@@ -191,7 +137,6 @@ pub(crate) fn run_on(
         status,
         output: parts.output.into_vec(),
         errors: parts.errors.into_vec(),
-        requests: requests_of(alloc, parts.dial)?,
     };
     Ok((ended, parts.vault))
 }

@@ -1,16 +1,13 @@
-#!/usr/bin/env python3
-"""Publications for the tests of cv_top: folders, what the gateway replies, what the links to it must take, and what is printed.
+"""Publications for cv_run_tests: folders, what the gateway replies, what the links to it must take, and what is printed.
 
-Digests are made by hashlib, signatures by hmac, catalogues by `cut_vectors.py` and manifests by `line_vectors.py`. A row of
-PUBLISHED is a run of `publish`: its path, the folder's entries, the replies of its links in their order, all the requests that
-these must take, the output, the status and the line.
+Digests are made by hashlib, signatures by hmac, catalogues by `cut_vectors.py` and manifests by `line_vectors.py`.
 """
 import json
 
+import runs
 from cut_vectors import catalogues
 from cvkit_client import LEASES, PAYLOADS, REPOSITORY, authorization, commit_message, digest_of, lease_message, pack, pack_header, payload_message
-from line_vectors import first, literal, manifest
-from vectors import constant, settle, table, text
+from line_vectors import first, manifest
 
 TIME = 1700000000
 HELLO = b"hello\n"
@@ -112,47 +109,49 @@ HEAD = get(".cvmfspublished")
 # ---- rows
 
 
-def row(path, entries, exchanges, output=b"", code=0, line=""):
-    """An exchange is a request and its reply; a reply that is None is that of a link that can't be dialled."""
-    folder = "&[" + ", ".join(f"({text(above)}, {text(name)}, {literal(content)})" for above, name, content in entries) + "]"
-    replies = "&[" + ", ".join(literal(given) for _, given in exchanges if given is not None) + "]"
-    took = literal(b"".join(asking for asking, given in exchanges if given is not None))
-    end = f"cvkit: {line}\\n" if line else ""
-    return f'("{path}", {folder}, {replies}, {took}, {literal(output)}, {code}, "{end}")'
+def publish(path, items, exchanges, output=b"", code=0, line="", parts=()):
+    """A run of `publish` with the folder of these items. An exchange is a request and its reply; a reply that is None is that of a
+    link that can't be dialled."""
+    links = [runs.given("link", given) for _, given in exchanges if given is not None]
+    took = b"".join(asking for asking, given in exchanges if given is not None)
+    words = ["publish", f"http://h/cvmfs/{REPOSITORY}", path, "changes"]
+    parts = [*parts, *(f"item {item}" for item in items), *links]
+    return runs.run(words, *parts, code=code, line=line, output=output, requests=took)
 
 
 def begun(path, nodes):
     return [(lease(path), granted(nodes)), (HEAD, served(nodes)), (catalogue(nodes), octets(catalogues(nodes, TIME)[""]))]
 
 
-ENTRIES = [("", "d/", b""), ("d", ".wh.x", b""), ("d", "z", HELLO)]
+ITEMS = ["dir /d", "file /d/.wh.x", "file /d/z hello\\n"]
 STORY = begun("/r", BASE) + [(payload(*made(NEXT, HELLO)), DONE), (commit(BASE, NEXT), committed(NEXT))]
 CAUGHT = begun("/r", BASE)
-FILE = [("", "f", HELLO)]
+FILE = ["file /f hello\\n"]
 PUBLISHED = [
     # One file is taken out, and one is brought.
-    row("/r", ENTRIES, STORY, b"revision 3\n"),
+    publish("/r", ITEMS, STORY, b"revision 3\n"),
     # An opaque directory, a catalogue of its own, and a link.
-    row(
+    publish(
         "/r",
-        [("", ".cvmfscatalog", b""), ("", "d/", b""), ("d", ".wh..wh..opq", b""), ("d", "f", HELLO), ("", "l@d/f", b"")],
+        ["file /.cvmfscatalog", "dir /d", "file /d/.wh..wh..opq", "file /d/f hello\\n", "link /l d/f"],
         begun("/r", BASE) + [(payload(*made(OPAQUE, b"", HELLO)), DONE), (commit(BASE, OPAQUE), committed(OPAQUE))],
         b"revision 3\n",
     ),
-    row("/r", [("", ".wh.", b"")], CAUGHT + [(CANCEL, DONE)], code=13, line="changes: bad whiteout /.wh."),
-    row("/r/d", FILE, begun("/r/d", EMPTY) + [(CANCEL, DONE)], code=4, line="refused: no_parent"),
-    row("/r", FILE, [(lease("/r"), BUSY)], code=4, line="refused: path_busy"),
-    row("/r", ENTRIES, STORY[:4] + [(STORY[4][0], STALE), (CANCEL, GONE)], code=4, line="refused: stale_base"),
-    row("/r", FILE, [(lease("/r"), granted(BASE)), (HEAD, ABSENT), (CANCEL, DONE)], code=12, line="bad reply"),
-    row("/r", FILE, CAUGHT[:2] + [(CAUGHT[2][0], ABSENT), (CANCEL, DONE)], code=11, line=f"not served {root_of(BASE)}C"),
-    row("/r", FILE, CAUGHT[:2] + [(CAUGHT[2][0], b"hello\n")], code=12, line="bad reply"),
-    row("/r", FILE, CAUGHT[:2] + [(CAUGHT[2][0], None)], code=8, line="link failed"),
-    row("/r", [("", "p|", b"")], [], code=13, line="changes: special /p"),
-    row("/r", [("", "", b"")], [], code=15, line="folder failed"),
+    publish("/r", ["file /.wh."], CAUGHT + [(CANCEL, DONE)], code=13, line="changes: bad whiteout /.wh."),
+    publish("/r/d", FILE, begun("/r/d", EMPTY) + [(CANCEL, DONE)], code=4, line="refused: no_parent"),
+    publish("/r", FILE, [(lease("/r"), BUSY)], code=4, line="refused: path_busy"),
+    publish("/r", ITEMS, STORY[:4] + [(STORY[4][0], STALE), (CANCEL, GONE)], code=4, line="refused: stale_base"),
+    publish("/r", FILE, [(lease("/r"), granted(BASE)), (HEAD, ABSENT), (CANCEL, DONE)], code=12, line="bad reply"),
+    publish("/r", FILE, CAUGHT[:2] + [(CAUGHT[2][0], ABSENT), (CANCEL, DONE)], code=11, line=f"not served {root_of(BASE)}C"),
+    publish("/r", FILE, CAUGHT[:2] + [(CAUGHT[2][0], b"hello\n")], code=12, line="bad reply"),
+    publish("/r", FILE, CAUGHT[:2] + [(CAUGHT[2][0], None)], code=8, line="link failed"),
+    publish("/r", ["special /p"], [], code=13, line="changes: special /p"),
+    publish("/r", [], [], code=15, line="folder failed", parts=["lost"]),
+    publish("/r", FILE, [], code=16, line="bad keys", parts=["keys {}"]),
+    publish("/r/.cvmfscatalog", FILE, [], code=2, line="usage"),
 ]
 
-if __name__ == "__main__":
-    settle(
-        "crates/cv_top_tests/src/publish_tests.rt",
-        [table("PUBLISHED", "Row", PUBLISHED, "static")],
-    )
+
+def rows():
+    yield runs.remark("folders are published")
+    yield from PUBLISHED

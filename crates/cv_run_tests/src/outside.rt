@@ -1,0 +1,108 @@
+//! What a run has, by the parts of a row.
+ghost use Rattle.std.specs.Prelude.{◌<◌};
+
+use cv_base::NoMemory;
+use cv_lines::bytes_of;
+use cv_ports::{MemoryClock, MemoryLink, MemorySink, MemorySource};
+use cv_vault::{MemoryVault, Vault};
+use std::alloc::Global;
+use std::test::Fail;
+
+/// The keys text of two keys.
+const KEYS: &str = r#"{"keys":[{"id":"k1","secret":"s1"},{"id":"k2","secret":"s2"}]}"#;
+
+/// The first moment.
+const START: u64 = 1_700_000_000;
+
+/// The outside of a run but what it writes to.
+#[derive(Drop)]
+pub(crate) struct Outside {
+    pub(crate) vault: MemoryVault,
+    pub(crate) input: Vec<u8>,
+    pub(crate) clock: MemoryClock,
+    pub(crate) keys: String,
+    pub(crate) seal: String,
+    pub(crate) links: Vec<MemoryLink>,
+    pub(crate) items: Vec<String>,
+    pub(crate) lost: Vec<u64>,
+}
+
+/// Writes the file of a name, an equals sign and its bytes.
+fn put(alloc: Global, vault: &mut MemoryVault, file: &str) -> Result<(), Fail> {
+    let Some((name, content)) = file.split_once('=') else {
+        return Err(Fail::new("no content"));
+    };
+    match vault.write(name, bytes_of(alloc, content)?.as_slice()) {
+        Ok(()) => Ok(()),
+        Err(_) => Err(Fail::new("no file")),
+    }
+}
+
+/// A clock of three moments, so many seconds after the first one.
+fn clock_at(alloc: Global, seconds: &str) -> Result<MemoryClock, Fail> {
+    let mut words = seconds.split(' ');
+    let (Some(first), Some(second), Some(third)) = (words.next(), words.next(), words.next()) else {
+        return Err(Fail::new("no three moments"));
+    };
+    let (first, second, third): (u32, u32, u32) = (first.parse()?, second.parse()?, third.parse()?);
+    let moments = [
+        START + u64::from(first),
+        START + u64::from(second),
+        START + u64::from(third),
+    ];
+    Ok(MemoryClock::new(Vec::from_slice(alloc, &moments)?))
+}
+
+/// A link whose peer gives these bytes, so many a read; the read of a number fails, and none where it's 0.
+fn link(alloc: Global, reply: Vec<u8>, piece: usize, failing: u64) -> Result<MemoryLink, NoMemory>
+    requires { 0 < piece }
+{
+    let reads = MemorySource::new(reply, piece, vec![in alloc; failing]?);
+    let writes = MemorySink::new(alloc, 20_000, Vec::new(alloc))?;
+    MemoryLink::new(alloc, reads, writes)
+}
+
+/// A link whose peer gives these bytes at once, and then nothing until the read fails.
+fn stalled_link(alloc: Global, reply: Vec<u8>) -> Result<MemoryLink, NoMemory> {
+    let failing = if reply.is_empty() { 1 } else { 2 };
+    link(alloc, reply, 1_000, failing)
+}
+
+impl Outside {
+    /// No file, no input, no link and no change, two keys, a seal, and one moment.
+    pub(crate) fn bare(alloc: Global) -> Result<Outside, Fail> {
+        Ok(Outside {
+            vault: MemoryVault::new(alloc, Vec::new(alloc))?,
+            input: Vec::new(alloc),
+            clock: clock_at(alloc, "0 0 0")?,
+            keys: String::from_str(alloc, KEYS)?,
+            seal: String::from_str(alloc, "seal")?,
+            links: Vec::new(alloc),
+            items: Vec::new(alloc),
+            lost: Vec::new(alloc),
+        })
+    }
+
+    /// Takes a part of a row.
+    pub(crate) fn take(&mut self, alloc: Global, part: &str) -> Result<(), Fail> {
+        let (word, rest) = part.split_once(' ').unwrap_or((part, ""));
+        match word {
+            "in" => self.input = bytes_of(alloc, rest)?,
+            "at" => self.clock = clock_at(alloc, rest)?,
+            "keys" => self.keys = String::from_str(alloc, rest)?,
+            "seal" => self.seal = String::from_str(alloc, rest)?,
+            "bare" => self.vault = MemoryVault::new(alloc, Vec::new(alloc))?,
+            "file" => put(alloc, &mut self.vault, rest)?,
+            "link" => self
+                .links
+                .push(link(alloc, bytes_of(alloc, rest)?, 100, 0)?)?,
+            "stall" => self
+                .links
+                .push(stalled_link(alloc, bytes_of(alloc, rest)?)?)?,
+            "item" => self.items.push(String::from_str(alloc, rest)?)?,
+            "lost" => self.lost.push(1)?,
+            _ => return Err(Fail::new("no part")),
+        }
+        Ok(())
+    }
+}
