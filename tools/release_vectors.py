@@ -9,7 +9,7 @@ import random
 
 from cut_vectors import MARKER, TIME
 from cvkit_client import LIST, ZEROS, commit, digest_of, end, get, lease
-from publish_run_vectors import EMPTY, reply, root_of, said
+from publish_runs import EMPTY, reply, root_of, said
 from told_gateway import DONE, HEAD, LEASE_TIME, Gateway, kept_open, refused
 from told_publisher import OPAQUE, Publication, bad_whiteout, changed
 from vectors import in_line, settle_lines

@@ -5,18 +5,16 @@
 The stories of publishers, the questions of clients, the lines of shells and the folders that are published stand in scripts of
 their own. One story, of a catalogue with all the rows that it may have, is a test of cv_top_tests. Digests are made by hashlib, signatures and seals by hmac.
 """
-import line_vectors
 import looks
 import publish_runs
-import row_vectors
 import runs
 import shell_runs
 import stories
 from cvkit_client import LEASES, REPOSITORY, commit, get, payload
 from line_vectors import literal, name, sha1
 from runs import INIT, STDIO, run, session
-from session_vectors import CATALOGUE, DONE, EPOCH, FILES, HEAD, HELLO, LEASED, MANIFEST, OBJECTS, PACK, READ, RECORD, RECORD_NAME, STORED
-from session_vectors import ask, committed, end, granted, listed, octets, refusal, refused, reply, request
+from session_vectors import BELOW_FILES, CATALOGUE, DONE, EPOCH, FILES, HEAD, HELLO, LEASED, MANIFEST, OBJECTS, OTHER_RECORD, PACK, READ, RECORD, RECORD_NAME, STORED, WITH_DIRECTORY
+from session_vectors import ask, busy, committed, end, granted, listed, octets, refusal, refused, reply, request, sealed
 from vectors import constant, settle, settle_lines
 
 MANIFEST_ASKED = get(HEAD)
@@ -58,11 +56,6 @@ def refused_requests():
     yield run(STDIO)
 
 
-def sealed(lines, secret):
-    digits = sha1(lines).hex().encode()
-    return lines + b"--\n" + digits + b"\n" + line_vectors.hmac.new(secret, digits, "sha1").digest()
-
-
 LINES = MANIFEST[: MANIFEST.index(b"--\n")]
 # A file, what it is instead or nothing, and what the line says then.
 BROKEN = [
@@ -100,10 +93,6 @@ def judged():
     yield run(STDIO, "bare", asked, code=3, line="repository: missing", objects=0)
 
 
-def busy(token, seconds):
-    return reply({"lease": token, "status": "path_busy", "time_remaining": seconds})
-
-
 def leases():
     yield runs.remark("leases")
     yield session([(ask("/a"), granted("1-1")), (end("1-1", "k2"), refused("wrong_key")), (end("1-1", "k1"), DONE), (end("1-1", "k1"), refused("invalid_token"))])
@@ -129,15 +118,7 @@ def leases():
 
 
 # A repository whose tree has the directory `/a`.
-WITH_DIRECTORY = row_vectors.file([row_vectors.row("", "dir"), row_vectors.row("/a", "dir")])
-OTHER_RECORD = line_vectors.record(1, bytes(20), sha1(WITH_DIRECTORY), (0, 0), b"", b"")
-BELOW = [
-    "bare",
-    runs.file(name(WITH_DIRECTORY, "C"), WITH_DIRECTORY),
-    runs.file(name(OTHER_RECORD, "H"), OTHER_RECORD),
-    runs.file(EPOCH, b"0\n"),
-    runs.file(HEAD, line_vectors.manifest(1, WITH_DIRECTORY, OTHER_RECORD)),
-]
+BELOW = ["bare", *(runs.file(*file) for file in BELOW_FILES)]
 
 
 def below():

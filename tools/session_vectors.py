@@ -23,6 +23,9 @@ MANIFEST = line_vectors.manifest(1, CATALOGUE, RECORD)
 HELLO = b"hello\n"
 # A catalogue that has the file `/a` with these bytes.
 WITH_FILE = row_vectors.file([row_vectors.row("", "dir"), row_vectors.row("/a", "file", HELLO)])
+# A tree with the directory `/a`, and the record of its first revision.
+WITH_DIRECTORY = row_vectors.file([row_vectors.row("", "dir"), row_vectors.row("/a", "dir")])
+OTHER_RECORD = line_vectors.record(1, bytes(20), sha1(WITH_DIRECTORY), (0, 0), b"", b"")
 
 
 def second_record(root):
@@ -63,6 +66,10 @@ def granted(token, root=CATALOGUE):
     return reply({"revision": 1, "root_hash": sha1(root).hex(), "session_token": token, "status": "ok"})
 
 
+def busy(token, seconds):
+    return reply({"lease": token, "status": "path_busy", "time_remaining": seconds})
+
+
 def committed(revision, root):
     return reply({"final_revision": revision, "root_hash": sha1(root).hex(), "status": "ok"})
 
@@ -95,6 +102,20 @@ def row_of_file(path, data):
 
 
 HEAD, EPOCH = ".cvmfspublished", "gateway.epoch"
+# The files of that repository.
+BELOW_FILES = [
+    (name(WITH_DIRECTORY, "C"), WITH_DIRECTORY),
+    (name(OTHER_RECORD, "H"), OTHER_RECORD),
+    (EPOCH, b"0\n"),
+    (HEAD, line_vectors.manifest(1, WITH_DIRECTORY, OTHER_RECORD)),
+]
+
+
+def sealed(lines, secret):
+    digits = sha1(lines).hex().encode()
+    return lines + b"--\n" + digits + b"\n" + line_vectors.hmac.new(secret, digits, "sha1").digest()
+
+
 RECORD_NAME = name(RECORD, "H")
 
 # An object and the manifest are asked. A failing call of the vault (five files are written first, then eight calls open the

@@ -8,7 +8,7 @@ from cut_vectors import TIME, above, catalogues, covers
 from cvkit_client import REPOSITORY, digest_of, object_name
 from graft_vectors import replaced
 from line_vectors import first, manifest as manifest_at_first, sha1, sized
-from publish_run_vectors import EMPTY, octets, reply, root_of, said
+from publish_runs import EMPTY, octets, reply, root_of, said
 from session_vectors import sealed
 
 HEAD = ".cvmfspublished"

@@ -8,7 +8,7 @@ import json
 from cut_vectors import TIME, above, catalogues, covers, owner, read
 from cvkit_client import LEASES, PAYLOADS, REPOSITORY, commit_message, digest_of, lease_message, object_name, pack, pack_header
 from cvkit_client import payload_message
-from publish_run_vectors import DIRECTORY, asked, root_of
+from publish_runs import DIRECTORY, asked, root_of
 from told_gateway import HEAD, has_place
 
 OPAQUE = ".wh..wh..opq"
