@@ -83,25 +83,43 @@ impl Outside {
         })
     }
 
+    /// Takes a text that the run is given.
+    fn take_text(&mut self, alloc: Global, word: &str, rest: &str) -> Result<(), Fail> {
+        match word {
+            "in" => self.input = bytes_of(alloc, rest)?,
+            "keys" => self.keys = String::from_str(alloc, rest)?,
+            "seal" => self.seal = String::from_str(alloc, rest)?,
+            _ => return Err(Fail::new("no part")),
+        }
+        Ok(())
+    }
+
+    /// Takes a link to a server.
+    fn take_link(&mut self, made: MemoryLink) -> Result<(), Fail> {
+        self.links.push(made)?;
+        Ok(())
+    }
+
+    /// Takes what the folder of changes has, or that it is lost.
+    fn take_change(&mut self, alloc: Global, word: &str, rest: &str) -> Result<(), Fail> {
+        match word {
+            "item" => self.items.push(String::from_str(alloc, rest)?)?,
+            "lost" => self.lost.push(1)?,
+            _ => return self.take_text(alloc, word, rest),
+        }
+        Ok(())
+    }
+
     /// Takes a part of a row.
     pub(crate) fn take(&mut self, alloc: Global, part: &str) -> Result<(), Fail> {
         let (word, rest) = part.split_once(' ').unwrap_or((part, ""));
         match word {
-            "in" => self.input = bytes_of(alloc, rest)?,
             "at" => self.clock = clock_at(alloc, rest)?,
-            "keys" => self.keys = String::from_str(alloc, rest)?,
-            "seal" => self.seal = String::from_str(alloc, rest)?,
             "bare" => self.vault = MemoryVault::new(alloc, Vec::new(alloc))?,
             "file" => put(alloc, &mut self.vault, rest)?,
-            "link" => self
-                .links
-                .push(link(alloc, bytes_of(alloc, rest)?, 100, 0)?)?,
-            "stall" => self
-                .links
-                .push(stalled_link(alloc, bytes_of(alloc, rest)?)?)?,
-            "item" => self.items.push(String::from_str(alloc, rest)?)?,
-            "lost" => self.lost.push(1)?,
-            _ => return Err(Fail::new("no part")),
+            "link" => self.take_link(link(alloc, bytes_of(alloc, rest)?, 100, 0)?)?,
+            "stall" => self.take_link(stalled_link(alloc, bytes_of(alloc, rest)?)?)?,
+            _ => return self.take_change(alloc, word, rest),
         }
         Ok(())
     }
