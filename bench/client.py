@@ -6,8 +6,8 @@
 Publishes a directory of 10,000 names, which has a catalogue of its own, and a file of 16 MiB. nginx serves the files of the
 repository over the loopback, or Python's own http.server where there is no nginx. It measures `ls` of the directory beside `curl`
 of its catalogue, `cat` of the file beside `curl | sha1sum`, and `shell` on 1,000 lines `stat` of entries in one catalogue, each with
-the start of its processes, the best of five in turn, and their processor time beside it; and it counts the requests of `shell`. A program that has no `shell` is
-measured without it. The short form has 100 names and lines and a small file, compares what is answered, and prints no time.
+the start of its processes, the best of five in turn, and their processor time beside it; and it counts the requests of `shell`. Of
+an entry eight names deep it measures what one more such line takes, of 100,000. A program that has no `shell` is measured without it. The short form has 100 names and lines and a small file, compares what is answered, and prints no time.
 """
 import collections
 import contextlib
@@ -182,8 +182,41 @@ def ask_lines(program, folder, short):
         print(f"from {name}: shell on {count} lines of stat in one catalogue: {ms(answered)}, 2 requests")
 
 
+# ---- an entry eight names deep
+
+DEEP = "/one/two/three/four/five/six/seven/eight"
+
+
+def deep_tree():
+    """A file eight names deep, with a catalogue at each second directory above it."""
+    names = DEEP.split("/")[1:]
+    above = ["/" + "/".join(names[:count]) for count in range(1, 8)]
+    return tree({path: DIRECTORY for path in above}, {f"{path}/{MARKER}": file(b"") for path in above[1::2]}, {DEEP: file(b"")})
+
+
+def ask_deep(program, folder, short):
+    """What one more line of a shell takes, where every catalogue on the way is kept."""
+    count = 100 if short else 100_000
+    publish(program, folder, deep_tree())
+    with web_server(folder) as (port, asked):
+        status, output, said = ended(program, folder, ["shell", url_of(port)], f"stat {DEEP}\n".encode() * 100)
+        if status == 2:
+            return
+        expect((status, said) == (0, "") and output.count(b"file 0644 0 0 0 ") == output.count(b"\n") == 100, "shell", (status, said))
+        expect(len(asked) == 5, "the requests of a shell", asked)
+    if short:
+        print("100 lines on an entry eight names deep were answered by 5 requests")
+        return
+    with server(folder) as (name, port), tempfile.TemporaryDirectory() as given:
+        for lines in (1, count):
+            with open(os.path.join(given, str(lines)), "w", encoding="ascii") as file_:
+                file_.write(f"stat {DEEP}\n" * lines)
+        one, many = in_turn(*(f"{program} shell {url_of(port)} <{given}/{lines}" for lines in (1, count)), folder=folder)
+        print(f"from {name}: a line of a shell on an entry eight names deep, everything kept: {(many.whole - one.whole) / (count - 1) * 1e6:.1f} us")
+
+
 def script(program, short):
-    for part in read, ask_lines:
+    for part in read, ask_lines, ask_deep:
         with repository(program) as folder:
             part(program, folder, short)
 
