@@ -18,7 +18,7 @@ Not covered are: a call that gives other bytes than were written, a crash that d
 output, bits of a pick behind the fourth, two failing calls in one run with a working one between them, more than two runs that are
 cut, a crash by another pick than 0 behind a run that isn't, a third revision, and trees of more than a file or a directory.
 """
-import session_vectors as told
+import sessions as told
 from told_runs import (
     BELOW_MANIFEST, EPOCH, FIRST_MANIFEST, HEAD, INIT, LINES, NONE, OBJECTS, TEXTS, Cut, Vault,
     commits, end_of, ends, gets, lease_on, path_of, refused_by, sends, text,

@@ -1,6 +1,6 @@
 """Questions of a client for cv_run_tests: what servers reply, what the links to them must take, and what is printed.
 
-The tree is that of the second revision of `session_vectors.py`: the file `/a` alone. A question is a command's first word and its
+The tree is that of the second revision of `sessions.py`: the file `/a` alone. A question is a command's first word and its
 path, the replies of its links in their order, the files that these must be asked for, the output, the status and the line.
 """
 import hmac
@@ -9,7 +9,7 @@ import line_vectors
 import runs
 from cut_vectors import catalogues
 from line_vectors import name, sha1
-from session_vectors import HEAD, HELLO, RECORD, REPOSITORY, SECOND_MANIFEST, WITH_FILE, octets, refusal
+from sessions import HEAD, HELLO, RECORD, REPOSITORY, SECOND_MANIFEST, WITH_FILE, octets, refusal
 
 URL = f"http://h/cvmfs/{REPOSITORY}"
 ROOT = name(WITH_FILE, "C")

@@ -3,7 +3,7 @@
 `crates/cv_run_tests/src/main.rt` says how a row is read.
 
 The stories of publishers, the questions of clients, the lines of shells and the folders that are published stand in scripts of
-their own. One story, of a catalogue with all the rows that it may have, is a test of cv_top_tests. Digests are made by hashlib, signatures and seals by hmac.
+their own. Digests are made by hashlib, signatures and seals by hmac.
 """
 import looks
 import publish_runs
@@ -11,11 +11,11 @@ import runs
 import shell_runs
 import stories
 from cvkit_client import LEASES, REPOSITORY, commit, get, payload
-from line_vectors import literal, name, sha1
+from line_vectors import name, sha1
 from runs import INIT, STDIO, run, session
-from session_vectors import BELOW_FILES, CATALOGUE, DONE, EPOCH, FILES, HEAD, HELLO, LEASED, MANIFEST, OBJECTS, OTHER_RECORD, PACK, READ, RECORD, RECORD_NAME, STORED, WITH_DIRECTORY
-from session_vectors import ask, busy, committed, end, granted, listed, octets, refusal, refused, reply, request, sealed
-from vectors import constant, settle, settle_lines
+from sessions import BELOW_FILES, CATALOGUE, DONE, EPOCH, FILES, HEAD, HELLO, LEASED, MANIFEST, OBJECTS, OTHER_RECORD, PACK, READ, RECORD, RECORD_NAME, STORED, WITH_DIRECTORY
+from sessions import ask, busy, committed, end, granted, listed, octets, refusal, refused, reply, request, sealed
+from vectors import settle_lines
 
 MANIFEST_ASKED = get(HEAD)
 # The reply to a request for what isn't there.
@@ -152,13 +152,40 @@ def payloads():
     yield session([unled, LEASED, other])
 
 
+# How many calls of the vault open a repository that stands, before one reads the first object that is asked for.
+OPENING = 8
+TWO = [READ, (MANIFEST_ASKED, octets(MANIFEST))]
+FAILED = refusal("500 Internal Server Error")
+PINNED = [runs.given("link", shell_runs.PINNED)]
+
+
+def failing():
+    """A call of the vault, a read of the input or a write of the output fails."""
+    hello = runs.file(name(HELLO), HELLO)
+    asked = runs.given("in", b"".join(asked for asked, _ in TWO))
+    yield runs.remark("calls that fail")
+    for call in range(1, OPENING + 1):
+        yield run(STDIO, hello, f"broken {call}", asked, code=7, line="store failed", objects=3)
+    yield session([(READ[0], FAILED), TWO[1]], hello, f"broken {OPENING + 1}", objects=3)
+    yield run(STDIO, hello, asked, "deaf 1", code=5, line="input failed", objects=3)
+    yield run(STDIO, hello, asked, "mute 1", code=6, line="output failed", objects=3)
+    # The last of the writes passes on what the others wrote.
+    yield session(TWO, hello, "mute 6", code=6, line="output failed", objects=3)
+    yield runs.remark("all that came is answered before a read that fails")
+    absent = request("GET", "/"), ABSENT
+    for exchanges in [absent], [absent, absent], [(request("POST", "/", body=b"a"), ABSENT)]:
+        yield session(exchanges, "deaf 2", code=5, line="input failed")
+    yield shell_runs.run("x\\n", [shell_runs.PINNED], [shell_runs.HEAD], shell_runs.BAD_LINE, 5, "input failed", parts=["deaf 2"])
+    yield shell_runs.run("x\\n", [shell_runs.PINNED], [shell_runs.HEAD], b"", 6, "output failed", parts=["mute 1"])
+    yield runs.remark("the thousandth request of a session is its last")
+    many = rf"in <1001*GET / HTTP/1.1\r\nHost: x\r\n\r\n>"
+    yield run(STDIO, many, output=ABSENT * 999 + refusal("404 Not Found", True))
+
+
 def rows():
-    for part in made, refused_requests, broken, judged, leases, below, payloads, stories.rows, looks.rows, shell_runs.rows, publish_runs.rows:
+    for part in made, refused_requests, broken, judged, leases, below, payloads, failing, stories.rows, looks.rows, shell_runs.rows, publish_runs.rows:
         yield from part()
 
 
 if __name__ == "__main__":
     settle_lines("cv_run_tests", list(rows()))
-    asked, said = (literal(b"".join(map(runs.octets_of, texts))) for texts in zip(*stories.filled()))
-    filled = [constant("CROWD", "u32", f"{stories.CROWD:_}"), constant("FILLED", "(&[u8], &[u8])", f"({asked}, {said})")]
-    settle("crates/cv_top_tests/src/full_tests.rt", filled)

@@ -14,7 +14,7 @@ from cvkit_client import LEASES, commit, digest_of, get, object_name, payload, p
 from cvkit_release import offer
 from graft_vectors import replaced
 from line_vectors import name
-from session_vectors import CATALOGUE, HELLO, NEW, OLD, WITH_FILE, ask, listed, octets, reply, request
+from sessions import CATALOGUE, HELLO, NEW, OLD, WITH_FILE, ask, listed, octets, reply, request
 
 EMPTY = read("")
 assert catalogues(EMPTY)[""] == CATALOGUE
@@ -22,7 +22,6 @@ X, Y, BOTH = read("/x"), read("/y"), read("/x /y")
 # No catalogue's digits, and those of a file.
 NOWHERE, AWAY = "0" * 39 + "1", digest_of(HELLO)
 # With the root these are all rows but one that a catalogue may have.
-CROWD = 49_998
 
 
 @functools.cache
@@ -246,22 +245,6 @@ def of_bad_offers():
     one.lease("/d")
     one.refuse(commit("1-1", OLD, root[:-1]), "bad_catalogue", object=root)
     yield one
-
-
-def filled():
-    """The root's catalogue is filled to its last row, and has no room for another one: by a tree of so many directories, and two with
-    one more, whose catalogues are there already. It isn't a row, since it takes long where nothing is optimized."""
-    one = Story("a catalogue is filled to its last row")
-    crowd = read(" ".join(f"/{number}/" for number in range(CROWD)))
-    with_x, with_y = ({**crowd, path: EMPTY[""]} for path in ("/x", "/y"))
-    assert [len(nodes) for nodes in (crowd, with_x)] == [49_999, 50_000]
-    one.lease("")
-    one.publish(1, EMPTY, crowd)
-    one.lease("/x", "/y")
-    one.publish(2, crowd, with_x)
-    one.refuse(commit("1-3", offered(crowd)[0], offered(with_y)[0]), "catalogue_full", path="")
-    one.list(("k1", "/y", 7200))
-    return one.exchanges
 
 
 def rows():

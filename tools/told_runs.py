@@ -1,11 +1,11 @@
 """Runs of cvkit over a vault of which calls fail, by a second telling of the vault with its crashes and of the gateway over it,
 call by call: how each run ends, and what a crash behind it leaves.
 
-Requests, replies and files are those of `session_vectors.py` and `line_vectors.py`. What is asked and answered are names of texts.
+Requests, replies and files are those of `sessions.py` and `line_vectors.py`. What is asked and answered are names of texts.
 """
 from collections import namedtuple
 
-import session_vectors as told
+import sessions as told
 from cvkit_client import commit, digest_of, end, get, lease, payload
 from line_vectors import manifest, name, record, sha1
 

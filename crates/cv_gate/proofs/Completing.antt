@@ -15,8 +15,8 @@ use Rattle.cv_swap.specs.Kept.{Revision, newest}
 use Rattle.cv_gate.specs.State.{State, aged}
 use Rattle.cv_gate.specs.Commits.{committed, made}
 use Rattle.cv_gate.specs.Passing.{IsFree, Passes}
-use Rattle.cv_gate.specs.Step.{IsFault, OnLease, Grants, adds, LeaseStep, Stores, Publishes, collides, fails, commits, doubts, Commits, Cancels, takes, Acts, Goes, Step}
-use Rattle.cv_gate.specs.Completeness.{IsOwn, Unopposed}
+use Rattle.cv_gate.specs.Step.{IsFault, OnLease, Grants, adds, LeaseStep, Stores, Publishes, collides, fails, commits, doubts, Commits, Cancels, takes, Acts, Waits, Goes, Step}
+use Rattle.cv_gate.specs.Completeness.{IsOwn, Unopposed, IsDone}
 use Rattle.cv_gate.specs.declared.op.Op.{Op}
 use Rattle.cv_gate.specs.declared.op.Op.TheVariants as op
 use Rattle.cv_gate.specs.declared.reply.Reply.{Reply}
@@ -127,7 +127,7 @@ module _ (st : State) (key : List ℕ) (token : Token) (old_root new_root tag : 
 
 -- ---- any op
 
-of_acts : (st : State) (o : Op) (e : Entry) (st' : State) (r : Reply) → ((shelf : Shelf) (root : List ℕ) (t u : Nodes) → Means shelf root t → Means shelf root u → t ≡ u) → Unopposed st o r → Acts st o e st' → Done e.reply r
+of_acts : (st : State) (o : Op) (e : Entry) (st' : State) (r : Reply) → ((shelf : Shelf) (root : List ℕ) (t u : Nodes) → Means shelf root t → Means shelf root u → t ≡ u) → Unopposed st o r → Acts st o e st' → IsDone o e.reply r
 of_acts st (op.Lease key path) e st' r one h a = elim a [
   | inl lacks ↦ inr (inr lacks.0)
   | inr d ↦ subst (Done e.reply) (sym h.2) (of_lease st key path e.reply st' h.0 h.1 d)
@@ -151,11 +151,11 @@ of_acts st (op.Commit key token old_root new_root tag) e st' r one h a = elim a 
       (of_own st key token e.reply st' (Commits st key token old_root new_root tag e.reply st') its d))
 ]
 of_acts st (op.Cancel key token) e st' r one h a =
-    inl (of_cancels st token e.reply st' (of_own st key token e.reply st' (λ lease. Cancels st token e.reply st') h.0 a) ∙ sym h.1)
+    of_cancels st token e.reply st' (of_own st key token e.reply st' (λ lease. Cancels st token e.reply st') h.0 a) ∙ sym h.1
 
 pub completes : (st : State) (o : Op) (e : Entry) (st' : State) → ((shelf : Shelf) (root : List ℕ) (t u : Nodes) → Means shelf root t → Means shelf root u → t ≡ u) → Step st o e st'
-    → IsFault e.reply ⊎ ((came : Goes st o e st') × ((r : Reply) → Unopposed (aged came.settled e.now) o r → Done e.reply r))
+    → Waits st e st' ⊎ ((came : Goes st o e st') × ((r : Reply) → Unopposed (aged came.settled e.now) o r → IsDone o e.reply r))
 completes st o e st' one s = elim s.does [
-  | inl w ↦ inl w.fault
+  | inl w ↦ inl w
   | inr g ↦ inr (g, λ r wanted. of_acts (aged g.settled e.now) o e st' r one wanted g.acts)
 ]

@@ -1,5 +1,5 @@
 -- What is answered where no refusal's condition holds.
-use Rattle.std.specs.Prelude.{◌≡◌, ℕ, true, bytes_eq, List, Some}
+use Rattle.std.specs.Prelude.{◌≡◌, ◌⊎◌, ℕ, true, bytes_eq, List, Some}
 use Rattle.cv_base.specs.declared.id.ObjectId.{ObjectId}
 use Rattle.cv_base.specs.declared.token.Token.{Token}
 use Rattle.cv_leases.specs.Leases.{lease_of}
@@ -8,6 +8,7 @@ use Rattle.cv_objects.specs.Coming.{ClashesOn}
 use Rattle.cv_swap.specs.Kept.{Revision}
 use Rattle.cv_gate.specs.State.{State}
 use Rattle.cv_gate.specs.Passing.{IsFree, Passes}
+use Rattle.cv_gate.specs.Step.{IsFault}
 use Rattle.cv_gate.specs.declared.op.Op.{Op}
 use Rattle.cv_gate.specs.declared.op.Op.TheVariants as op
 use Rattle.cv_gate.specs.declared.reply.Reply.{Reply}
@@ -28,3 +29,10 @@ Unopposed st (op.Store key token digest batch) r =
 Unopposed st (op.Commit key token old_root new_root tag) r =
     (new : Revision) × Passes st key token old_root new_root tag new × (r ≡ reply.Committed new.record_.revision new.record_.root)
 Unopposed st (op.Cancel key token) r = IsOwn st key token × (r ≡ reply.Cancelled)
+
+-- the op is answered as it was to be, or a fault came: the end of a lease meets none
+abbrev pub IsDone : Op → Reply → Reply → Type 0
+IsDone (op.Lease key path) r wanted = (r ≡ wanted) ⊎ IsFault r
+IsDone (op.Store key token digest batch) r wanted = (r ≡ wanted) ⊎ IsFault r
+IsDone (op.Commit key token old_root new_root tag) r wanted = (r ≡ wanted) ⊎ IsFault r
+IsDone (op.Cancel key token) r wanted = r ≡ wanted

@@ -16,9 +16,9 @@ ghost use Rattle.cv_objects.specs.Coming.{HasAll};
 ghost use Rattle.cv_swap.specs.Kept.{Revision, newest, record_object, AreSound, Kept, IsKept};
 ghost use Rattle.cv_swap.specs.First.{first_revision};
 ghost use Rattle.cv_gate.specs.State.{State, aged, Settled};
-ghost use Rattle.cv_gate.specs.Step.{last_number, IsFault, Records, Goes, Step, Run};
+ghost use Rattle.cv_gate.specs.Step.{last_number, Records, Waits, Goes, Step, Run};
 ghost use Rattle.cv_gate.specs.Sound.{AreLeases, Sound};
-ghost use Rattle.cv_gate.specs.Completeness.{Unopposed};
+ghost use Rattle.cv_gate.specs.Completeness.{Unopposed, IsDone};
 ghost use Rattle.cv_gate.specs.Ready.{IsReady, Ends};
 ghost use Rattle.cv_gate.specs.Laws.{is_committed, Makes, GrowsBy, Numbers};
 ghost use Rattle.cv_gate.specs.Kept.{kept, reopened, Pending, Left, Crash};
@@ -64,14 +64,14 @@ pub fn tokens_are_numbered()
     ensures { (st : State) (entries : List EntryData) (st' : State) → Run st entries st' → Numbers st entries st' }
 {}
 
-/// A step answers a fault, or goes on from the settled state that came. Where no refusal's condition holds in that one, whatever
-/// holds had a commit in doubt been settled otherwise, the op is answered as it would be there, or a fault came. That a root
-/// means no two trees on a shelf is a law of loading trees.
+/// A step waits for a commit in doubt, or goes on from the settled state that came. Where no refusal's condition holds in that
+/// one, whatever holds had the commit been settled otherwise, the op is answered as it would be there, or a fault came, which
+/// the end of a lease doesn't meet. That a root means no two trees on a shelf is a law of loading trees.
 pub fn what_nothing_opposes_is_answered()
     ensures { (st : State) (o : OpData) (e : EntryData) (st' : State)
         → ((shelf : ObjectShelf) (root : List ℕ) (t u : Nodes) → Means shelf root t → Means shelf root u → t ≡ u)
         → Step st o e st'
-        → IsFault e.reply ⊎ ((came : Goes st o e st') × ((r : ReplyData) → Unopposed (aged came.settled e.now) o r → (e.reply ≡ r) ⊎ IsFault e.reply)) }
+        → Waits st e st' ⊎ ((came : Goes st o e st') × ((r : ReplyData) → Unopposed (aged came.settled e.now) o r → IsDone o e.reply r)) }
 {}
 
 /// A commit that is ready ends as its step: whichever of its three ends comes, the entry with that reply is a step from the

@@ -65,6 +65,7 @@ fn read_piece<R: Source>(
     ensures gets { Gets R.left R.given (record { source = source.old; held = held.old.items })
         (record { source = source.new; held = held.new.items }) }
     ensures more { result ≡ Ok true → length held.old.items < length held.new.items }
+    ensures most { length held.new.items ≤ length held.old.items + length piece.old }
     ensures lost { OnErr result (held.new.items ≡ held.old.items) }
     ensures end { result ≡ Ok false → (held.new.items ≡ held.old.items) × HasEnded (R.left source.new) }
     ensures cause { HasCause (R.faults source.old) (R.faults source.new) (result ≡ Err ReadFault) }
@@ -118,11 +119,12 @@ impl<R: Source + Drop> Buffer<R> {
         self.used += count;
     }
 
-    /// Reads more of the source, beside a sink. `false` is its end.
+    /// Reads more of the source, beside a sink, a piece of 64 KiB at most. `false` is its end.
     pub fn fill(&mut self, beside: &R::Beside) -> Result<bool, FillFault>
         ensures stream { rest R.left self.new ≡ rest R.left self.old }
         ensures gets { Gets R.left R.given self.old self.new }
         ensures more { result ≡ Ok true → length self.old.held < length self.new.held }
+        ensures most { length self.new.held ≤ length self.old.held + PIECE }
         ensures lost { OnErr result (self.new.held ≡ self.old.held) }
         ensures end { result ≡ Ok false → (self.new.held ≡ self.old.held) × HasEnded (R.left self.new.source) }
         ensures cause { HasCause (R.faults self.old.source) (R.faults self.new.source) (result ≡ Err ReadFault) }

@@ -15,6 +15,9 @@
 //! stall REPLY            one more dial gets a link, whose peer gives this, and then nothing until the read fails
 //! item ITEM              the folder of changes has this item: it has none without this part
 //! lost                   the first call for that folder fails
+//! broken CALL            the vault's call of this number fails, counted from the run's first, and is not made
+//! deaf READ              the read of the input with this number fails
+//! mute WRITE             the write to the output with this number fails
 //! ```
 //!
 //! Parts are taken in their order. `cv_lines` says how bytes stand in a line, and `folder` what an item is.

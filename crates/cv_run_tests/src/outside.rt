@@ -24,7 +24,15 @@ pub(crate) struct Outside {
     pub(crate) seal: String,
     pub(crate) links: Vec<MemoryLink>,
     pub(crate) items: Vec<String>,
-    pub(crate) lost: Vec<u64>,
+    pub(crate) failing: Failing,
+}
+
+/// The numbers of the calls that fail: those for the folder of changes, the reads of the input, and the writes to the output.
+#[derive(Drop)]
+pub(crate) struct Failing {
+    pub(crate) folder: Vec<u64>,
+    pub(crate) input: Vec<u64>,
+    pub(crate) output: Vec<u64>,
 }
 
 /// Writes the file of a name, an equals sign and its bytes.
@@ -36,6 +44,25 @@ fn put(alloc: Global, vault: &mut MemoryVault, file: &str) -> Result<(), Fail> {
         Ok(()) => Ok(()),
         Err(_) => Err(Fail::new("no file")),
     }
+}
+
+/// Copies a file of one vault into another.
+fn copy(from: &mut MemoryVault, to: &mut MemoryVault, name: &str) -> Result<(), Fail> {
+    let bytes = from.read(name)?.ok_or("no file of a name")?;
+    to.write(name, bytes.as_slice())?;
+    Ok(())
+}
+
+/// A vault with the same files, for sure, whose call of this number fails from then on.
+fn broken(alloc: Global, vault: &mut MemoryVault, call: u64) -> Result<MemoryVault, Fail> {
+    let names = vault.list("")?;
+    let before = (names.len() as u64).saturating_add(1);
+    let mut made = MemoryVault::new(alloc, vec![in alloc; before.saturating_add(call)]?)?;
+    for name in &names {
+        copy(vault, &mut made, name.as_str())?;
+    }
+    made.sync()?;
+    Ok(made)
 }
 
 /// A clock of three moments, so many seconds after the first one.
@@ -68,6 +95,27 @@ fn stalled_link(alloc: Global, reply: Vec<u8>) -> Result<MemoryLink, NoMemory> {
     link(alloc, reply, 1_000, failing)
 }
 
+/// No call fails.
+fn none_failing(alloc: Global) -> Failing {
+    Failing {
+        folder: Vec::new(alloc),
+        input: Vec::new(alloc),
+        output: Vec::new(alloc),
+    }
+}
+
+impl Failing {
+    /// Takes the number of a call that fails.
+    fn take(&mut self, word: &str, number: u64) -> Result<(), Fail> {
+        match word {
+            "lost" => self.folder.push(number)?,
+            "deaf" => self.input.push(number)?,
+            _ => self.output.push(number)?,
+        }
+        Ok(())
+    }
+}
+
 impl Outside {
     /// No file, no input, no link and no change, two keys, a seal, and one moment.
     pub(crate) fn bare(alloc: Global) -> Result<Outside, Fail> {
@@ -79,7 +127,7 @@ impl Outside {
             seal: String::from_str(alloc, "seal")?,
             links: Vec::new(alloc),
             items: Vec::new(alloc),
-            lost: Vec::new(alloc),
+            failing: none_failing(alloc),
         })
     }
 
@@ -100,11 +148,12 @@ impl Outside {
         Ok(())
     }
 
-    /// Takes what the folder of changes has, or that it is lost.
+    /// Takes what the folder of changes has, or that a call fails.
     fn take_change(&mut self, alloc: Global, word: &str, rest: &str) -> Result<(), Fail> {
         match word {
             "item" => self.items.push(String::from_str(alloc, rest)?)?,
-            "lost" => self.lost.push(1)?,
+            "lost" => self.failing.take(word, 1)?,
+            "deaf" | "mute" => self.failing.take(word, rest.parse()?)?,
             _ => return self.take_text(alloc, word, rest),
         }
         Ok(())
@@ -117,6 +166,7 @@ impl Outside {
             "at" => self.clock = clock_at(alloc, rest)?,
             "bare" => self.vault = MemoryVault::new(alloc, Vec::new(alloc))?,
             "file" => put(alloc, &mut self.vault, rest)?,
+            "broken" => self.vault = broken(alloc, &mut self.vault, rest.parse()?)?,
             "link" => self.take_link(link(alloc, bytes_of(alloc, rest)?, 100, 0)?)?,
             "stall" => self.take_link(stalled_link(alloc, bytes_of(alloc, rest)?)?)?,
             _ => return self.take_change(alloc, word, rest),

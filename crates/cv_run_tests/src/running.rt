@@ -3,7 +3,9 @@
 use crate::folder::folder_of;
 use crate::outside::Outside;
 use cv_lines::line_of;
-use cv_ports::{MemoryDial, MemorySink, MemorySource, NoHold};
+use cv_ports::{
+    MemoryClock, MemoryDial, MemoryFolder, MemoryLink, MemorySink, MemorySource, NoHold,
+};
 use cv_top::{Parts, Status, run};
 use cv_vault::{MemoryVault, Vault};
 use std::alloc::Global;
@@ -19,35 +21,79 @@ pub(crate) struct End {
     dial: MemoryDial,
 }
 
+/// The parts of a run.
+type Memory = Parts<
+    MemoryVault,
+    MemorySource,
+    MemorySink,
+    MemorySink,
+    MemoryClock,
+    MemoryFolder,
+    MemoryDial,
+    NoHold,
+>;
+
+/// The words of a text, with a comma between each two.
+fn words_of(alloc: Global, text: &str) -> Result<Vec<String>, Fail> {
+    let mut words = Vec::new(alloc);
+    for word in text.split(',') {
+        words.push(String::from_str(alloc, word)?)?;
+    }
+    Ok(words)
+}
+
+/// What a run writes to: its output, of which the writes of these numbers fail, and its status.
+fn sinks(alloc: Global, failing: Vec<u64>) -> Result<(MemorySink, MemorySink), Fail> {
+    let output = MemorySink::new(alloc, 200_000, failing)?;
+    let errors = MemorySink::new(alloc, 100, Vec::new(alloc))?;
+    Ok((output, errors))
+}
+
+/// The folder of changes, and the links to servers.
+fn others(
+    alloc: Global,
+    items: &[String],
+    failing: Vec<u64>,
+    links: Vec<MemoryLink>,
+) -> Result<(MemoryFolder, MemoryDial), Fail> {
+    let folder = folder_of(alloc, items, failing)?;
+    let dial = MemoryDial::new(alloc, links, Vec::new(alloc))?;
+    Ok((folder, dial))
+}
+
+/// The parts of a run that has this.
+fn parts_of(alloc: Global, outside: Outside) -> Result<Memory, Fail> {
+    let (output, errors) = sinks(alloc, outside.failing.output)?;
+    let (folder, dial) = others(
+        alloc,
+        outside.items.as_slice(),
+        outside.failing.folder,
+        outside.links,
+    )?;
+    Ok(Parts {
+        vault: outside.vault,
+        input: MemorySource::new(outside.input, 100, outside.failing.input),
+        output,
+        errors,
+        clock: outside.clock,
+        keys: outside.keys,
+        seal: outside.seal,
+        folder,
+        dial,
+        hold: NoHold,
+    })
+}
+
+/// Runs the program.
+fn run_parts(alloc: Global, words: &[String], parts: Memory) -> (Status, Memory) {
+    run(alloc, words, parts)
+}
+
 /// How a run of these words ends, with a comma between each two.
 pub(crate) fn end_of(alloc: Global, words: &str, outside: Outside) -> Result<End, Fail> {
-    let mut owned = Vec::new(alloc);
-    for word in words.split(',') {
-        owned.push(String::from_str(alloc, word)?)?;
-    }
-    let Outside {
-        vault,
-        input,
-        clock,
-        keys,
-        seal,
-        links,
-        items,
-        lost,
-    } = outside;
-    let parts = Parts {
-        vault,
-        input: MemorySource::new(input, 100, Vec::new(alloc)),
-        output: MemorySink::new(alloc, 200_000, Vec::new(alloc))?,
-        errors: MemorySink::new(alloc, 100, Vec::new(alloc))?,
-        clock,
-        keys,
-        seal,
-        folder: folder_of(alloc, items.as_slice(), lost)?,
-        dial: MemoryDial::new(alloc, links, Vec::new(alloc))?,
-        hold: NoHold,
-    };
-    let (status, parts) = run(alloc, &owned, parts);
+    let words = words_of(alloc, words)?;
+    let parts = parts_of(alloc, outside)?;
+    let (status, parts) = run_parts(alloc, words.as_slice(), parts);
     Ok(End {
         vault: parts.vault,
         status,
