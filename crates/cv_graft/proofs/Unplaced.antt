@@ -1,18 +1,13 @@
 -- Where a tree lacks the directory in which a path stands, no part is set there.
-use Rattle.std.proofs.Common.{◌≡◌, ◌++◌, true, false, Result, Ok, Err, sym, ap, subst, ◌∙◌}
-use Rattle.std.specs.Prelude.{IsSome}
-use Rattle.std.specs.FinMap.{get}
-use Rattle.cv_base.specs.Path.{Path, covers}
-use Rattle.cv_tree.specs.Tree.{Nodes, at}
+use Rattle.std.proofs.Common.{◌≡◌, true, false, Result, Ok, Err, sym, ◌∙◌}
+use Rattle.cv_base.specs.Path.{Path}
+use Rattle.cv_tree.specs.Tree.{Nodes}
 use Rattle.cv_tree.specs.Changes.{has_place}
-use Rattle.cv_tree.proofs.Laws.{get-at}
-use Rattle.cv_cut.specs.Catalogues.{IsInRegion}
 use Rattle.cv_cut.specs.Piece.{HasOnly, IsSharedWithin}
 use Rattle.cv_cut.specs.declared.load_fault.LoadFault.{LoadFault}
 use Rattle.cv_cut.specs.declared.load_fault.LoadFault.TheVariants as load
 use Rattle.cv_cut.specs.declared.cut_fault.CutFault.{CutFault}
 use Rattle.cv_cut.specs.declared.cut_fault.CutFault.TheVariants as cut
-use Rattle.cv_cut.proofs.Lemmas.{rest_behind}
 use Rattle.cv_graft.specs.Faults.{of_load}
 use Rattle.cv_graft.specs.Placed.{PlacesNothing, of_cut}
 use Rattle.cv_graft.specs.PlacedInner.{WhereMade}
@@ -68,18 +63,7 @@ nothing_placed X t s p fault.Failed none h = tt
 nothing_placed X t s p (fault.Damaged id found) none h = tt
 nothing_placed X t s p fault.NoMemory none h = tt
 
--- what is in a region, and covered by the path, is of the part that stands there
-of_part : (m s : Nodes) (p c a : Path) → HasOnly m p s → IsInRegion m c a → covers p a ≡ true → (q : Path) × IsSome (get s q) × (a ≡ p ++ q)
-of_part m s p c a only in_region covered =
-    let q = rest_behind p a covered in
-    let here : get (at m c) in_region.0 ≡ get m a = get-at m c in_region.0 ∙ ap (get m) (sym in_region.1) in
-    let there : get m a ≡ get s q.0 = ap (get m) q.1 ∙ sym (get-at m p q.0) ∙ ap (λ (u : Nodes). get u q.0) only.part in
-    (q.0, subst IsSome (here ∙ there) in_region.2, q.1)
-
 pub early_nothing : (m s : Nodes) (p : Path) (f : CutFault) → HasOnly m p s → IsSharedWithin m p f → PlacesNothing s p (Err (of_cut f))
-early_nothing m s p (cut.PathCollision a b) only h =
-    let x = of_part m s p h.shares.cut a only h.shares.first h.first in
-    let y = of_part m s p h.shares.cut b only h.shares.second h.second in
-    record { first = x.0; second = y.0; has_first = x.1; has_second = y.1; first_is = x.2; second_is = y.2; differ = h.shares.differ; keys = h.shares.keys }
+early_nothing m s p (cut.PathCollision a b) only h = record { around = m; alone = only; shares = h }
 early_nothing m s p (cut.CatalogueFull c) only h = absurd h
 early_nothing m s p cut.NoMemory only h = tt

@@ -1,8 +1,8 @@
 -- What comes of a part that is set at a path by the catalogues on the way.
-use Rattle.std.specs.Prelude.{◌≡◌, ◌≢◌, ℕ, true, List, [], ◌++◌, map, reverse, length, Contains, Some, IsSome, Result, Ok, Err}
+use Rattle.std.specs.Prelude.{◌≡◌, ◌≢◌, ℕ, true, List, [], ◌++◌, map, reverse, length, Contains, Some, Result, Ok, Err}
 use Rattle.std.specs.FinMap.{get}
 use Rattle.sha1.specs.Sha1.{sha1}
-use Rattle.cv_base.specs.Path.{Path, covers, key_of}
+use Rattle.cv_base.specs.Path.{Path, covers}
 use Rattle.cv_base.specs.ObjectId.{object_id}
 use Rattle.cv_base.specs.declared.attr.Attr.{Attr}
 use Rattle.cv_base.specs.declared.id.Kind.TheVariants.{Catalogue}
@@ -19,7 +19,7 @@ use Rattle.cv_cut.specs.Catalogues.{cat, root_of}
 use Rattle.cv_cut.specs.Cut.{catalogue_object}
 use Rattle.cv_cut.specs.Means.{HasContentOf}
 use Rattle.cv_cut.specs.Opening.{IsNestedCatalogue}
-use Rattle.cv_cut.specs.Piece.{cuts_within}
+use Rattle.cv_cut.specs.Piece.{cuts_within, HasOnly, SharesWithin}
 use Rattle.cv_cut.specs.Reached.{HasCatalogue, root_place}
 use Rattle.cv_cut.specs.Region.{FitsAtCut}
 use Rattle.cv_cut.specs.Replaced.{FitsOver, SharesOver, IsFullOver}
@@ -55,16 +55,11 @@ Places t p (Err fault.Failed) = Unit {0}
 Places t p (Err (fault.Damaged id found)) = ⊥
 Places t p (Err fault.NoMemory) = Unit {0}
 
--- two paths share a key that a part has behind the path at which it is set
+-- two paths share a key where a part stands alone at a path: at it or below it, in one region of a tree whose cuts but the root's are those of the part
 pub record SharesOwn (s : Nodes) (p a b : Path) : Type 0 where
-  pub first : Path
-  pub second : Path
-  pub has_first : IsSome (get s first)
-  pub has_second : IsSome (get s second)
-  pub first_is : a ≡ p ++ first
-  pub second_is : b ≡ p ++ second
-  pub differ : a ≢ b
-  pub keys : key_of a ≡ key_of b
+  pub around : Nodes
+  pub alone : HasOnly around p s
+  pub shares : SharesWithin around p a b
 
 -- nothing is made, and no paths are named but two of the part's own
 abbrev pub PlacesNothing : Nodes → Path → Result Grafted GraftFault → Type 0
