@@ -1,9 +1,10 @@
 //! A source, with what it gave and nothing was made of yet.
-ghost use Rattle.std.specs.Prelude.{◌≡◌, ◌≤◌, ◌<◌, ◌⊎◌, Ok, Err, [], length, drop, true, false, OnErr};
+ghost use Rattle.std.specs.Prelude.{◌≡◌, ◌≤◌, ◌<◌, ◌+◌, ◌⊎◌, Ok, Err, [], length, drop, true, false, OnErr};
 ghost use Rattle.cv_base.specs.Counts.{HasCause};
 ghost use Rattle.cv_ports.specs.Streams.{Look, front};
 ghost use Rattle.cv_http.specs.Wires.{rest, Looks, Beside, HasEnded, Gets};
 ghost use Rattle.cv_http.specs.declared.buffer.FillFault.TheVariants as faults;
+ghost use Rattle.cv_http.specs.declared.buffer.TheConstants.{PIECE};
 ghost use Rattle.cv_http.specs.declared.buffer.FillFault.TheVariants.{ReadFault};
 
 use cv_base::NoMemory;
