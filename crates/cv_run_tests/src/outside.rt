@@ -31,8 +31,8 @@ pub(crate) struct Outside {
 #[derive(Drop)]
 pub(crate) struct Failing {
     pub(crate) folder: Vec<u64>,
-    pub(crate) input: Vec<u64>,
-    pub(crate) output: Vec<u64>,
+    pub(crate) reads: Vec<u64>,
+    pub(crate) writes: Vec<u64>,
 }
 
 /// Writes the file of a name, an equals sign and its bytes.
@@ -99,8 +99,8 @@ fn stalled_link(alloc: Global, reply: Vec<u8>) -> Result<MemoryLink, NoMemory> {
 fn none_failing(alloc: Global) -> Failing {
     Failing {
         folder: Vec::new(alloc),
-        input: Vec::new(alloc),
-        output: Vec::new(alloc),
+        reads: Vec::new(alloc),
+        writes: Vec::new(alloc),
     }
 }
 
@@ -109,8 +109,8 @@ impl Failing {
     fn take(&mut self, word: &str, number: u64) -> Result<(), Fail> {
         match word {
             "lost" => self.folder.push(number)?,
-            "deaf" => self.input.push(number)?,
-            _ => self.output.push(number)?,
+            "deaf" => self.reads.push(number)?,
+            _ => self.writes.push(number)?,
         }
         Ok(())
     }

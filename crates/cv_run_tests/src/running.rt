@@ -1,7 +1,7 @@
 //! A run of the program, and what comes of it.
 
 use crate::folder::folder_of;
-use crate::outside::Outside;
+use crate::outside::{Failing, Outside};
 use cv_lines::line_of;
 use cv_ports::{
     MemoryClock, MemoryDial, MemoryFolder, MemoryLink, MemorySink, MemorySource, NoHold,
@@ -63,21 +63,31 @@ fn others(
 
 /// The parts of a run that has this.
 fn parts_of(alloc: Global, outside: Outside) -> Result<Memory, Fail> {
-    let (output, errors) = sinks(alloc, outside.failing.output)?;
-    let (folder, dial) = others(
-        alloc,
-        outside.items.as_slice(),
-        outside.failing.folder,
-        outside.links,
-    )?;
+    let Outside {
+        vault,
+        input,
+        clock,
+        keys,
+        seal,
+        links,
+        items,
+        failing,
+    } = outside;
+    let Failing {
+        folder,
+        reads,
+        writes,
+    } = failing;
+    let (output, errors) = sinks(alloc, writes)?;
+    let (folder, dial) = others(alloc, items.as_slice(), folder, links)?;
     Ok(Parts {
-        vault: outside.vault,
-        input: MemorySource::new(outside.input, 100, outside.failing.input),
+        vault,
+        input: MemorySource::new(input, 100, reads),
         output,
         errors,
-        clock: outside.clock,
-        keys: outside.keys,
-        seal: outside.seal,
+        clock,
+        keys,
+        seal,
         folder,
         dial,
         hold: NoHold,
