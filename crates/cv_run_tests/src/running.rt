@@ -15,9 +15,9 @@ use std::test::Fail;
 #[derive(Drop)]
 pub(crate) struct End {
     pub(crate) vault: MemoryVault,
-    status: Status,
-    output: MemorySink,
-    errors: MemorySink,
+    code: u8,
+    output: Vec<u8>,
+    errors: Vec<u8>,
     dial: MemoryDial,
 }
 
@@ -106,21 +106,21 @@ pub(crate) fn end_of(alloc: Global, words: &str, outside: Outside) -> Result<End
     let (status, parts) = run_parts(alloc, words.as_slice(), parts);
     Ok(End {
         vault: parts.vault,
-        status,
-        output: parts.output,
-        errors: parts.errors,
+        code: status.code(),
+        output: parts.output.into_vec(),
+        errors: parts.errors.into_vec(),
         dial: parts.dial,
     })
 }
 
 /// All that the links took that came back to a dial.
-fn requests_of(alloc: Global, dial: MemoryDial) -> Result<Vec<u8>, Fail> {
+fn requests_of(alloc: Global, dial: MemoryDial) -> Result<String, Fail> {
     let links = dial.into_links(alloc)?;
     let mut requests = Vec::new(alloc);
     for link in &links {
         requests.extend_from_slice(link.writes.as_slice())?;
     }
-    Ok(requests)
+    line_of(alloc, requests.as_slice())
 }
 
 /// How many objects a vault has.
@@ -132,12 +132,30 @@ fn count_of(vault: MemoryVault) -> Result<usize, Fail> {
     }
 }
 
+/// The code of a status, its line and the output, as they stand in a line.
+fn written(alloc: Global, code: u8, errors: &[u8], output: &[u8]) -> Result<String, Fail> {
+    let said = line_of(alloc, errors)?;
+    let output = line_of(alloc, output)?;
+    Ok(format!(in alloc; "{code}|{said}|{output}")?)
+}
+
+/// What links took, and how many objects a vault has, as they stand in a line.
+fn left(alloc: Global, dial: MemoryDial, vault: MemoryVault) -> Result<String, Fail> {
+    let count = count_of(vault)?;
+    let requests = requests_of(alloc, dial)?;
+    Ok(format!(in alloc; "{requests}|{count}")?)
+}
+
 /// The text of what came of a run.
 pub(crate) fn text_of(alloc: Global, end: End) -> Result<String, Fail> {
-    let code = end.status.code();
-    let said = line_of(alloc, end.errors.as_slice())?;
-    let output = line_of(alloc, end.output.as_slice())?;
-    let requests = line_of(alloc, requests_of(alloc, end.dial)?.as_slice())?;
-    let count = count_of(end.vault)?;
-    Ok(format!(in alloc; "{code}|{said}|{output}|{requests}|{count}")?)
+    let End {
+        vault,
+        code,
+        output,
+        errors,
+        dial,
+    } = end;
+    let written = written(alloc, code, errors.as_slice(), output.as_slice())?;
+    let left = left(alloc, dial, vault)?;
+    Ok(format!(in alloc; "{written}|{left}")?)
 }
