@@ -23,11 +23,14 @@ fn nodes_toward(
     ensures nodes { IfOk result (λ nodes. AreNodes path.now catalogue.now nodes.items) }
     ensures limits { IfOk result (λ nodes. KeepLimits nodes.items) }
 {
+    let rows = catalogue.rows();
+    let places = catalogue.places(alloc)?;
     let mut nodes = Vec::new(alloc);
-    for row in catalogue.rows() {
-        let place = catalogue.path_of(alloc, row)?;
-        if path.overlaps(&place) {
-            let entry = (place, node_of(alloc, row)?);
+    for number in 0..rows.len() {
+        let row = &rows[number];
+        let place = &places[number];
+        if path.overlaps(place) {
+            let entry = (place.copy(alloc)?, node_of(alloc, row)?);
             nodes.push(entry)?;
         }
     }
