@@ -36,6 +36,7 @@ from cvkit_client import (
     main,
     object_path,
     payload,
+    peak_of,
     repository,
     sync_calls,
 )
@@ -74,15 +75,20 @@ def change(folder):
 
 
 def run_measured(words, place, env=None):
-    """Runs these words, which must end with status 0: their output, the seconds, and the most memory, in MiB."""
-    begin = time.perf_counter()
+    """Runs these words, which must end with status 0: their output, the seconds, and the most memory, in MiB.
+
+    The memory is looked at every few milliseconds.
+    """
+    begin, peak = time.perf_counter(), 0
     child = subprocess.Popen(words, cwd=place, env=env, stdin=subprocess.DEVNULL, stdout=subprocess.PIPE, stderr=subprocess.DEVNULL)
+    while child.poll() is None:
+        peak = max(peak, peak_of(child.pid))
+        time.sleep(0.005)
+    seconds = time.perf_counter() - begin
     output = child.stdout.read()
-    _, status, usage = os.wait4(child.pid, 0)
     child.stdout.close()
-    child.returncode = os.waitstatus_to_exitcode(status)
     expect(child.returncode == 0, f"{words[0]} {words[1]}", child.returncode)
-    return output, time.perf_counter() - begin, usage.ru_maxrss / 1024
+    return output, seconds, peak
 
 
 def contents_of(folder):

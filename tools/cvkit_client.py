@@ -256,6 +256,14 @@ def file_reply(content):
     return b"HTTP/1.1 200 OK\r\nContent-Type: application/octet-stream\r\nContent-Length: %d\r\n\r\n" % len(content) + content
 
 
+def peak_of(process):
+    """The most memory that a process has had so far, in MiB, or 0 once it has ended. What the system tells of it in the end begins
+    with what its parent had."""
+    with open(f"/proc/{process}/status", encoding="ascii") as status:
+        fields = dict(line.split(":", 1) for line in status)
+    return int(fields.get("VmHWM", "0 kB").split()[0]) / 1024
+
+
 class Session:
     """The program serving one connection on pipes, of which the input stays open until `close`."""
 
@@ -322,10 +330,8 @@ class Session:
         return self.reply()
 
     def peak(self):
-        """The most memory that the program has had so far, in MiB. A child's own account begins with what its parent had."""
-        with open(f"/proc/{self.child.pid}/status", encoding="ascii") as status:
-            fields = dict(line.split(":", 1) for line in status)
-        return int(fields["VmHWM"].split()[0]) / 1024
+        """The most memory that the program has had so far, in MiB."""
+        return peak_of(self.child.pid)
 
     def is_silent(self, seconds=0.2):
         """Whether nothing comes for so long."""
