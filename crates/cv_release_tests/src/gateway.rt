@@ -1,0 +1,120 @@
+//! A gateway in memory, which lives across links.
+
+use cv_base::{Name, NoMemory};
+use cv_desk::{Gate, OneDesk};
+use cv_http::Wire;
+use cv_keys::KeyTable;
+use cv_ports::{MemoryClock, MemorySink, MemorySource, NoHold};
+use cv_seal::KeyedHash;
+use cv_session::session;
+use cv_swap::Line;
+use cv_vault::MemoryVault;
+use std::alloc::Global;
+use std::marker::Model;
+use std::test::Fail;
+
+/// The keys text of two keys.
+pub(crate) const KEYS: &str = r#"{"keys":[{"id":"k1","secret":"s1"},{"id":"k2","secret":"s2"}]}"#;
+
+/// The seal.
+pub(crate) const SEAL: &str = "seal";
+
+/// The first moment.
+pub(crate) const START: u64 = 1_700_000_000;
+
+/// The requests for the live leases and for the manifest.
+const STANDING: &[u8] =
+    b"GET /api/v1/leases HTTP/1.1\r\nHost: x\r\n\r\nGET /cvmfs/sw.example.org/.cvmfspublished HTTP/1.1\r\nHost: x\r\n\r\n";
+
+/// The most bytes that one read of a connection gives.
+const PIECE: usize = 65_536;
+
+/// The most bytes that a session may reply.
+const ROOM: usize = 100_000;
+
+/// One gate over a vault in memory, which sessions ask one after another. Its leases live as long as it does. No clause says what
+/// stands in it.
+#[derive(Drop)]
+pub(crate) struct Gateway {
+    alloc: Global,
+    desk: OneDesk<MemoryVault, KeyedHash>,
+    keys: KeyTable,
+    signer: KeyedHash,
+    seconds: u32,
+}
+
+impl Model for Gateway {
+    ghost use Rattle.std.specs.Prelude.{⊤};
+
+    ghost Value = { ⊤ };
+
+    ghost view = { λ g. tt };
+}
+
+/// What signs manifests.
+fn signer(alloc: Global) -> Result<KeyedHash, Fail> {
+    Ok(KeyedHash::new(String::from_str(alloc, SEAL)?))
+}
+
+/// The desk over a repository that is made and opened in an empty vault.
+fn desk(alloc: Global) -> Result<OneDesk<MemoryVault, KeyedHash>, Fail> {
+    let name = Name::read(alloc, "sw.example.org")?.ok_or("no name")?;
+    let signer = signer(alloc)?;
+    let vault = MemoryVault::new(alloc, Vec::new(alloc))?;
+    let Ok(vault) = Line::init(vault, alloc, &name, &signer, START) else {
+        return Err(Fail::new("not made"));
+    };
+    match Gate::open(vault, alloc, name, signer) {
+        Ok(gate) => Ok(OneDesk::new(gate)),
+        Err(_) => Err(Fail::new("not opened")),
+    }
+}
+
+/// A clock that stands so many seconds after the first moment.
+fn clock_at(alloc: Global, seconds: u32) -> Result<MemoryClock, NoMemory> {
+    let moment = START + u64::from(seconds);
+    Ok(MemoryClock::new(Vec::from_slice(alloc, &[moment])?))
+}
+
+impl Gateway {
+    /// Over a new repository, at the first moment.
+    pub(crate) fn new(alloc: Global) -> Result<Gateway, Fail> {
+        Ok(Gateway {
+            alloc,
+            desk: desk(alloc)?,
+            keys: KeyTable::read(alloc, KEYS.as_bytes())?,
+            signer: signer(alloc)?,
+            seconds: 0,
+        })
+    }
+
+    /// Comes to a moment, so many seconds after the first.
+    pub(crate) fn come_to(&mut self, seconds: u32) {
+        self.seconds = seconds;
+    }
+
+    /// What a session replies to these requests, which are all that its connection brings.
+    pub(crate) fn reply(&mut self, requests: &[u8]) -> Result<Vec<u8>, NoMemory> {
+        let alloc = self.alloc;
+        let input = Vec::from_slice(alloc, requests)?;
+        let mut wire = Wire::new(alloc, MemorySource::new(input, PIECE, Vec::new(alloc)));
+        let mut sink = MemorySink::new(alloc, ROOM, Vec::new(alloc))?;
+        let mut clock = clock_at(alloc, self.seconds)?;
+        let _end = session(
+            alloc,
+            &mut self.desk,
+            &self.keys,
+            &self.signer,
+            &mut clock,
+            &NoHold,
+            &mut wire,
+            &mut sink,
+        );
+        Ok(sink.into_vec())
+    }
+
+    /// What a session replies to one who asks for the live leases and for the manifest.
+    pub(crate) fn standing(&mut self) -> Result<Vec<u8>, NoMemory> {
+        self.reply(STANDING)
+    }
+}

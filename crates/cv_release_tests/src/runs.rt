@@ -1,0 +1,108 @@
+//! Runs of the program whose links a gateway in memory serves.
+
+use crate::changes::Change;
+use crate::folders::folder_of;
+use crate::gateway::{Gateway, KEYS, SEAL, START};
+use crate::served_dial::{Exchange, ServedDial};
+use cv_base::NoMemory;
+use cv_ports::{MemoryClock, MemoryFolder, MemorySink, MemorySource, NoHold};
+use cv_top::{Parts, run};
+use cv_vault::MemoryVault;
+use std::alloc::Global;
+use std::test::Fail;
+
+/// Where the repository is served.
+const URL: &str = "http://h/cvmfs/sw.example.org";
+
+/// The most bytes that a run may write.
+const ROOM: usize = 20_000;
+
+/// How a run ended: the code of its status, what it wrote, its line on the status, how many links it dialled, what went over
+/// them, and the gateway behind them.
+#[derive(Drop)]
+pub(crate) struct Ended {
+    pub(crate) code: u8,
+    pub(crate) output: Vec<u8>,
+    pub(crate) errors: Vec<u8>,
+    pub(crate) dials: u64,
+    pub(crate) exchanges: Vec<Exchange>,
+    pub(crate) gateway: Gateway,
+}
+
+/// The words as texts of their own.
+fn owned(alloc: Global, words: &[&str]) -> Result<Vec<String>, NoMemory> {
+    let mut owned = Vec::new(alloc);
+    for word in words {
+        owned.push(String::from_str(alloc, word)?)?;
+    }
+    Ok(owned)
+}
+
+/// How a run ended whose status has this code.
+fn end_of(
+    code: u8,
+    output: MemorySink,
+    errors: MemorySink,
+    dial: ServedDial,
+) -> Result<Ended, Fail> {
+    let dials = dial.dials();
+    let (gateway, exchanges) = dial.into_parts();
+    let gateway = gateway.ok_or("a link was lost")?;
+    Ok(Ended {
+        code,
+        output: output.into_vec(),
+        errors: errors.into_vec(),
+        dials,
+        exchanges,
+        gateway,
+    })
+}
+
+/// Runs the program on these words, this folder and this dial.
+fn run_on(
+    alloc: Global,
+    words: &[&str],
+    folder: MemoryFolder,
+    dial: ServedDial,
+) -> Result<Ended, Fail> {
+    let owned = owned(alloc, words)?;
+    let parts = Parts {
+        vault: MemoryVault::new(alloc, Vec::new(alloc))?,
+        input: MemorySource::new(Vec::new(alloc), 100, Vec::new(alloc)),
+        output: MemorySink::new(alloc, ROOM, Vec::new(alloc))?,
+        errors: MemorySink::new(alloc, ROOM, Vec::new(alloc))?,
+        clock: MemoryClock::new(Vec::from_slice(alloc, &[START])?),
+        keys: String::from_str(alloc, KEYS)?,
+        seal: String::from_str(alloc, SEAL)?,
+        folder,
+        dial,
+        hold: NoHold,
+    };
+    let (status, parts) = run(alloc, &owned, parts);
+    end_of(status.code(), parts.output, parts.errors, parts.dial)
+}
+
+/// How a publication of the folder of these words ends at a path, to whose links this happens.
+pub(crate) fn published(
+    alloc: Global,
+    gateway: Gateway,
+    path: &str,
+    words: &str,
+    changes: Vec<Change>,
+) -> Result<Ended, Fail> {
+    let folder = folder_of(alloc, words)?;
+    let dial = ServedDial::new(alloc, gateway, changes);
+    run_on(alloc, &["publish", URL, path, "changes"], folder, dial)
+}
+
+/// How a question on a path ends.
+pub(crate) fn asked(
+    alloc: Global,
+    gateway: Gateway,
+    question: &str,
+    path: &str,
+) -> Result<Ended, Fail> {
+    let folder = folder_of(alloc, "")?;
+    let dial = ServedDial::new(alloc, gateway, Vec::new(alloc));
+    run_on(alloc, &[question, URL, path], folder, dial)
+}

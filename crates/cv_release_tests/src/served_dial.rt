@@ -1,0 +1,168 @@
+//! A dial whose links a gateway in memory serves.
+ghost use Rattle.std.specs.Prelude.{◌≡◌, ◌≤◌, [], None, IfSome};
+ghost use Rattle.cv_ports.specs.Dial.{after_back};
+
+use crate::changes::Change;
+use crate::gateway::Gateway;
+use crate::served_source::ServedSource;
+use cv_base::NoMemory;
+use cv_ports::{Dial, Failed, FailingCalls, HostName, Link, MemorySink, MemorySource};
+use std::alloc::Global;
+
+/// The most bytes that a link takes.
+const ROOM: usize = 200_000;
+
+/// What went over a link that came back: what it took, and what came on it, where a read began.
+#[derive(Drop)]
+pub(crate) struct Exchange {
+    took: MemorySink,
+    reply: Option<MemorySource>,
+}
+
+impl Exchange {
+    /// What the link took.
+    pub(crate) fn took(&self) -> &[u8] {
+        self.took.as_slice()
+    }
+
+    /// What came on the link, read or not.
+    pub(crate) fn came(&self, alloc: Global) -> Result<Vec<u8>, NoMemory> {
+        let mut came = Vec::new(alloc);
+        if let Some(reply) = &self.reply {
+            came.extend_from_slice(reply.given())?;
+            came.extend_from_slice(reply.left())?;
+        }
+        Ok(came)
+    }
+}
+
+/// Gives links to one gateway, one after another. It tells nothing.
+#[derive(Drop)]
+pub(crate) struct ServedDial {
+    alloc: Global,
+    gateway: Option<Gateway>,
+    changes: Vec<Change>,
+    dials: u64,
+    exchanges: Vec<Exchange>,
+    calls: FailingCalls,
+}
+
+impl ServedDial {
+    /// Gives links to which these changes happen, that of the first link last, and nothing to those behind them.
+    pub(crate) fn new(alloc: Global, gateway: Gateway, changes: Vec<Change>) -> ServedDial {
+        ServedDial {
+            alloc,
+            gateway: Some(gateway),
+            changes,
+            dials: 0,
+            exchanges: Vec::new(alloc),
+            calls: FailingCalls::new(Vec::new(alloc)),
+        }
+    }
+
+    /// How many links were dialled.
+    pub(crate) fn dials(&self) -> u64 {
+        self.dials
+    }
+
+    /// The gateway, where no link is open and none was lost, and what went over the links.
+    pub(crate) fn into_parts(self) -> (Option<Gateway>, Vec<Exchange>) {
+        (self.gateway, self.exchanges)
+    }
+
+    /// What becomes of the next link.
+    fn next_change(&mut self) -> Change
+        ensures { self.new.calls ≡ self.old.calls }
+    {
+        self.dials = self.dials.saturating_add(1);
+        self.changes.pop().unwrap_or(Change::Nothing)
+    }
+
+    /// Has others ask the gateway before a link is opened, where they do.
+    fn serve_others(&mut self, change: &Change) -> Result<(), NoMemory>
+        ensures { self.new.calls ≡ self.old.calls }
+    {
+        if let Change::Others(seconds, requests) = change {
+            if let Some(gateway) = &mut self.gateway {
+                gateway.come_to(*seconds);
+                let _reply = gateway.reply(requests.as_slice())?;
+            }
+        }
+        Ok(())
+    }
+
+    /// Counts a link that came back with so many faults of its halves.
+    fn count(&mut self, reads: u64, writes: u64)
+        ensures counted { self.new.calls.faults ≡ after_back reads writes self.old.calls.faults }
+        ensures later { self.old.calls.faults ≤ self.new.calls.faults }
+    {
+        if reads > 0 || writes > 0 {
+            self.calls.add_fault();
+        }
+    }
+
+    /// Keeps what went over a link, and the gateway behind it. Without memory for it the gateway is lost.
+    fn keep(&mut self, exchange: Exchange, gateway: Gateway)
+        ensures { self.new.calls ≡ self.old.calls }
+    {
+        if self.exchanges.push(exchange).is_ok() {
+            self.gateway = Some(gateway);
+        }
+    }
+
+    /// The next link, if it is opened.
+    fn open(&mut self, host: &str, port: u16) -> Option<Link<ServedSource, MemorySink>>
+        ensures host { IfSome result (λ link. link.host ≡ host.now) }
+        ensures port { IfSome result (λ link. link.port ≡ port) }
+        ensures taken { IfSome result (λ link. link.writes.taken ≡ []) }
+        ensures passed { IfSome result (λ link. link.writes.passed ≡ []) }
+        ensures reads { IfSome result (λ link. link.reads.calls.faults ≡ 0) }
+        ensures writes { IfSome result (λ link. link.writes.calls.faults ≡ 0) }
+        ensures calls { self.new.calls ≡ self.old.calls }
+    {
+        let alloc = self.alloc;
+        let change = self.next_change();
+        if matches!(&change, Change::Undialled) {
+            return None;
+        }
+        self.serve_others(&change).ok()?;
+        let name = HostName::new(host)?;
+        let writes = MemorySink::new(alloc, ROOM, Vec::new(alloc)).ok()?;
+        let gateway = self.gateway.take()?;
+        let reads = ServedSource::new(alloc, gateway, change);
+        Some(Link::new(reads, writes, name, port))
+    }
+}
+
+impl Dial for ServedDial {
+    type Reads = ServedSource;
+
+    type Writes = MemorySink;
+
+    ghost came = { λ d. None };
+
+    ghost looks = { λ d look. ⊥ };
+
+    ghost faults = { λ d. d.calls.faults };
+
+    fn dial(&mut self, host: &str, port: u16) -> Result<Link<ServedSource, MemorySink>, Failed> {
+        match self.open(host, port) {
+            Some(link) => Ok(link),
+            None => {
+                self.calls.add_fault();
+                Err(Failed)
+            }
+        }
+    }
+
+    fn back(&mut self, link: Link<ServedSource, MemorySink>)
+        ensures later { self.old.calls.faults ≤ self.new.calls.faults }
+        ensures counted { self.new.calls.faults
+            ≡ after_back link.reads.calls.faults link.writes.calls.faults self.old.calls.faults }
+    {
+        self.count(link.reads.faults(), link.writes.faults());
+        let (gateway, reply) = link.reads.into_parts();
+        let took = link.writes;
+        self.keep(Exchange { took, reply }, gateway);
+    }
+}

@@ -1,0 +1,38 @@
+//! What a line of the table prints.
+
+use crate::runs::Ended;
+use crate::served_dial::Exchange;
+use cv_base::{NoMemory, digest_text};
+use cv_lines::line_of;
+use sha1::Sha1;
+use std::alloc::Global;
+use std::test::Fail;
+
+/// How a run ended: its status, and what it wrote.
+pub(crate) fn end_text(alloc: Global, ended: &Ended) -> Result<String, Fail> {
+    let code = ended.code;
+    let output = line_of(alloc, ended.output.as_slice())?;
+    let errors = line_of(alloc, ended.errors.as_slice())?;
+    Ok(format!(in alloc; "{code} {output}{errors}")?)
+}
+
+/// The digests of all that links took, and of all that came on them.
+fn digests(alloc: Global, exchanges: &[Exchange]) -> Result<([u8; 20], [u8; 20]), NoMemory> {
+    let mut took = Sha1::new();
+    let mut came = Sha1::new();
+    for exchange in exchanges {
+        took.update(exchange.took());
+        came.update(exchange.came(alloc)?.as_slice());
+    }
+    Ok((took.finalize(), came.finalize()))
+}
+
+/// How a publication ended, how many links it dialled, the digests of what went over them, and that of what stands then.
+pub(crate) fn publication_text(alloc: Global, ended: &mut Ended) -> Result<String, Fail> {
+    let standing = Sha1::digest(ended.gateway.standing()?.as_slice());
+    let (took, came) = digests(alloc, ended.exchanges.as_slice())?;
+    let (end, dials) = (end_text(alloc, ended)?, ended.dials);
+    let (took, came) = (digest_text(alloc, &took)?, digest_text(alloc, &came)?);
+    let standing = digest_text(alloc, &standing)?;
+    Ok(format!(in alloc; "{end} links {dials} {took} {came} {standing}")?)
+}
