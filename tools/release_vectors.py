@@ -6,6 +6,7 @@ is by `told_gateway.py` and `told_publisher.py`, and not by the program. Where a
 finds, is told by hand.
 """
 import random
+import re
 
 from cut_vectors import MARKER, TIME
 from cvkit_client import LIST, ZEROS, commit, digest_of, end, get, lease
@@ -29,7 +30,7 @@ def link_text(link):
 
 def names_of(word):
     """The names of the path that a word of a folder says."""
-    return [name.encode() for name in word.split("=")[0].rstrip("/!").split("/")]
+    return [name.encode() for name in re.split("[=*]", word)[0].rstrip("/!").split("/")]
 
 
 def in_order(words):
@@ -157,6 +158,7 @@ UNREAD = [
     ("/r", "/d/ /d/l=", "bad name /d"),
     ("/r", "/" + "n" * 256, "bad name "),
     (DEEP, "/f", "bad name "),
+    ("/r", "/z*16777217", "too large /z"),
     ("/r", "/a! /b/ /b/..", "special /a"),
     ("/r", "/b/ /b/.. /c!", "bad name /b"),
     ("/r", "/b/ /b/p! /b-c!", "special /b-c"),

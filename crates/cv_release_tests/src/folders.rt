@@ -1,7 +1,7 @@
 //! Folders of changes in memory, by the words of a row: directory by directory, and in the order of their names.
 //!
-//! A word is a path: `/d/` is a directory, `/l=t` a link to `t`, `/p!` a pipe, and anything else a file whose content is the
-//! word. `!2` says that the folder's second call fails.
+//! A word is a path: `/d/` is a directory, `/l=t` a link to `t`, `/p!` a pipe, `/z*9` a file of nine zero bytes, and anything else
+//! a file whose content is the word. `!2` says that the folder's second call fails.
 
 use crate::gateway::START;
 use cv_base::{Bytes, Items, RepoPath, Text};
@@ -11,7 +11,7 @@ use std::test::Fail;
 
 /// The path of a word, before what says what stands there.
 fn path_of(word: &str) -> &str {
-    if let Some((path, _)) = word.split_once('=') {
+    if let Some((path, _)) = word.split_once('=').or(word.split_once('*')) {
         return path;
     }
     word.strip_suffix('/')
@@ -73,13 +73,24 @@ fn directories(alloc: Global, words: &str) -> Result<Vec<(RepoPath, Items<Folder
     Ok(directories)
 }
 
+/// The content of the file of a word.
+fn content_of(alloc: Global, word: &str) -> Result<Bytes, Fail> {
+    let Some((_, size)) = word.split_once('*') else {
+        return Ok(Bytes::from_slice(alloc, word.as_bytes())?);
+    };
+    let size: u32 = size.parse()?;
+    let mut zeros = Vec::new(alloc);
+    zeros.resize(size as usize, 0)?;
+    Ok(Bytes::new(zeros))
+}
+
 /// The contents of the files of these words.
 fn files(alloc: Global, words: &str) -> Result<Vec<(RepoPath, Bytes)>, Fail> {
     let mut files = Vec::new(alloc);
     for word in words.split(' ') {
         if word.starts_with('/') {
             if let Ok(path) = RepoPath::read(alloc, path_of(word)) {
-                files.push((path, Bytes::from_slice(alloc, word.as_bytes())?))?;
+                files.push((path, content_of(alloc, word)?))?;
             }
         }
     }

@@ -56,24 +56,46 @@ fn signer(alloc: Global) -> Result<KeyedHash, Fail> {
     Ok(KeyedHash::new(String::from_str(alloc, SEAL)?))
 }
 
-/// The desk over a repository that is made and opened in an empty vault.
-fn desk(alloc: Global) -> Result<OneDesk<MemoryVault, KeyedHash>, Fail> {
-    let name = Name::read(alloc, "sw.example.org")?.ok_or("no name")?;
-    let signer = signer(alloc)?;
+/// An empty vault in which a repository was made.
+fn made(alloc: Global, name: &Name, signer: &KeyedHash) -> Result<MemoryVault, Fail> {
     let vault = MemoryVault::new(alloc, Vec::new(alloc))?;
-    let Ok(vault) = Line::init(vault, alloc, &name, &signer, START) else {
-        return Err(Fail::new("not made"));
-    };
+    match Line::init(vault, alloc, name, signer, START) {
+        Ok(vault) => Ok(vault),
+        Err(_) => Err(Fail::new("not made")),
+    }
+}
+
+/// The desk over a vault in which this repository stands.
+fn opened(
+    alloc: Global,
+    vault: MemoryVault,
+    name: Name,
+    signer: KeyedHash,
+) -> Result<OneDesk<MemoryVault, KeyedHash>, Fail> {
     match Gate::open(vault, alloc, name, signer) {
         Ok(gate) => Ok(OneDesk::new(gate)),
         Err(_) => Err(Fail::new("not opened")),
     }
 }
 
+/// The desk over a new repository.
+fn desk(alloc: Global) -> Result<OneDesk<MemoryVault, KeyedHash>, Fail> {
+    let name = Name::read(alloc, "sw.example.org")?.ok_or("no name")?;
+    let signer = signer(alloc)?;
+    let vault = made(alloc, &name, &signer)?;
+    opened(alloc, vault, name, signer)
+}
+
 /// A clock that stands so many seconds after the first moment.
 fn clock_at(alloc: Global, seconds: u32) -> Result<MemoryClock, NoMemory> {
     let moment = START + u64::from(seconds);
     Ok(MemoryClock::new(Vec::from_slice(alloc, &[moment])?))
+}
+
+/// The wire of a connection that brings these bytes alone.
+fn wire_of(alloc: Global, bytes: &[u8]) -> Result<Wire<MemorySource>, NoMemory> {
+    let input = Vec::from_slice(alloc, bytes)?;
+    Ok(Wire::new(alloc, MemorySource::new(input, PIECE, Vec::new(alloc))))
 }
 
 impl Gateway {
@@ -93,23 +115,32 @@ impl Gateway {
         self.seconds = seconds;
     }
 
-    /// What a session replies to these requests, which are all that its connection brings.
-    pub(crate) fn reply(&mut self, requests: &[u8]) -> Result<Vec<u8>, NoMemory> {
-        let alloc = self.alloc;
-        let input = Vec::from_slice(alloc, requests)?;
-        let mut wire = Wire::new(alloc, MemorySource::new(input, PIECE, Vec::new(alloc)));
-        let mut sink = MemorySink::new(alloc, ROOM, Vec::new(alloc))?;
-        let mut clock = clock_at(alloc, self.seconds)?;
+    /// Serves a connection.
+    fn serve(
+        &mut self,
+        clock: &mut MemoryClock,
+        wire: &mut Wire<MemorySource>,
+        sink: &mut MemorySink,
+    ) {
         let _end = session(
-            alloc,
+            self.alloc,
             &mut self.desk,
             &self.keys,
             &self.signer,
-            &mut clock,
+            clock,
             &NoHold,
-            &mut wire,
-            &mut sink,
+            wire,
+            sink,
         );
+    }
+
+    /// What a session replies to these requests, which are all that its connection brings.
+    pub(crate) fn reply(&mut self, requests: &[u8]) -> Result<Vec<u8>, NoMemory> {
+        let alloc = self.alloc;
+        let mut clock = clock_at(alloc, self.seconds)?;
+        let mut wire = wire_of(alloc, requests)?;
+        let mut sink = MemorySink::new(alloc, ROOM, Vec::new(alloc))?;
+        self.serve(&mut clock, &mut wire, &mut sink);
         Ok(sink.into_vec())
     }
 

@@ -6,7 +6,7 @@ use crate::gateway::{Gateway, KEYS, SEAL, START};
 use crate::served_dial::{Exchange, ServedDial};
 use cv_base::NoMemory;
 use cv_ports::{MemoryClock, MemoryFolder, MemorySink, MemorySource, NoHold};
-use cv_top::{Parts, run};
+use cv_top::{Parts, Status, run};
 use cv_vault::MemoryVault;
 use std::alloc::Global;
 use std::test::Fail;
@@ -29,6 +29,18 @@ pub(crate) struct Ended {
     pub(crate) gateway: Gateway,
 }
 
+/// The parts of a run.
+type Served = Parts<
+    MemoryVault,
+    MemorySource,
+    MemorySink,
+    MemorySink,
+    MemoryClock,
+    MemoryFolder,
+    ServedDial,
+    NoHold,
+>;
+
 /// The words as texts of their own.
 fn owned(alloc: Global, words: &[&str]) -> Result<Vec<String>, NoMemory> {
     let mut owned = Vec::new(alloc);
@@ -38,13 +50,60 @@ fn owned(alloc: Global, words: &[&str]) -> Result<Vec<String>, NoMemory> {
     Ok(owned)
 }
 
+/// An empty input, the output, and the status.
+fn streams(alloc: Global) -> Result<(MemorySource, MemorySink, MemorySink), NoMemory> {
+    let output = MemorySink::new(alloc, ROOM, Vec::new(alloc))?;
+    let errors = MemorySink::new(alloc, ROOM, Vec::new(alloc))?;
+    let input = MemorySource::new(Vec::new(alloc), 100, Vec::new(alloc));
+    Ok((input, output, errors))
+}
+
+/// The keys and the seal.
+fn secrets(alloc: Global) -> Result<(String, String), NoMemory> {
+    let keys = String::from_str(alloc, KEYS)?;
+    let seal = String::from_str(alloc, SEAL)?;
+    Ok((keys, seal))
+}
+
+/// A vault without files, and a clock that stands at the first moment.
+fn stage(alloc: Global) -> Result<(MemoryVault, MemoryClock), NoMemory> {
+    let moments = Vec::from_slice(alloc, &[START])?;
+    let vault = MemoryVault::new(alloc, Vec::new(alloc))?;
+    Ok((vault, MemoryClock::new(moments)))
+}
+
+/// The parts of a run on this folder and this dial.
+fn parts_of(alloc: Global, folder: MemoryFolder, dial: ServedDial) -> Result<Served, NoMemory> {
+    let (keys, seal) = secrets(alloc)?;
+    let (input, output, errors) = streams(alloc)?;
+    let (vault, clock) = stage(alloc)?;
+    Ok(Parts {
+        vault,
+        input,
+        output,
+        errors,
+        clock,
+        keys,
+        seal,
+        folder,
+        dial,
+        hold: NoHold,
+    })
+}
+
+/// Runs the program.
+fn run_parts(alloc: Global, words: &[String], parts: Served) -> (Status, Served) {
+    run(alloc, words, parts)
+}
+
 /// How a run ended whose status has this code.
-fn end_of(
-    code: u8,
-    output: MemorySink,
-    errors: MemorySink,
-    dial: ServedDial,
-) -> Result<Ended, Fail> {
+fn end_of(code: u8, parts: Served) -> Result<Ended, Fail> {
+    let Parts {
+        output,
+        errors,
+        dial,
+        ..
+    } = parts;
     let dials = dial.dials();
     let (gateway, exchanges) = dial.into_parts();
     let gateway = gateway.ok_or("a link was lost")?;
@@ -65,21 +124,10 @@ fn run_on(
     folder: MemoryFolder,
     dial: ServedDial,
 ) -> Result<Ended, Fail> {
-    let owned = owned(alloc, words)?;
-    let parts = Parts {
-        vault: MemoryVault::new(alloc, Vec::new(alloc))?,
-        input: MemorySource::new(Vec::new(alloc), 100, Vec::new(alloc)),
-        output: MemorySink::new(alloc, ROOM, Vec::new(alloc))?,
-        errors: MemorySink::new(alloc, ROOM, Vec::new(alloc))?,
-        clock: MemoryClock::new(Vec::from_slice(alloc, &[START])?),
-        keys: String::from_str(alloc, KEYS)?,
-        seal: String::from_str(alloc, SEAL)?,
-        folder,
-        dial,
-        hold: NoHold,
-    };
-    let (status, parts) = run(alloc, &owned, parts);
-    end_of(status.code(), parts.output, parts.errors, parts.dial)
+    let words = owned(alloc, words)?;
+    let parts = parts_of(alloc, folder, dial)?;
+    let (status, parts) = run_parts(alloc, words.as_slice(), parts);
+    end_of(status.code(), parts)
 }
 
 /// How a publication of the folder of these words ends at a path, to whose links this happens.

@@ -1,5 +1,6 @@
 //! What a line of the table prints.
 
+use crate::gateway::Gateway;
 use crate::runs::Ended;
 use crate::served_dial::Exchange;
 use cv_base::{NoMemory, digest_text};
@@ -27,12 +28,23 @@ fn digests(alloc: Global, exchanges: &[Exchange]) -> Result<([u8; 20], [u8; 20])
     Ok((took.finalize(), came.finalize()))
 }
 
+/// The texts of these digests.
+fn links_text(alloc: Global, exchanges: &[Exchange]) -> Result<String, Fail> {
+    let (took, came) = digests(alloc, exchanges)?;
+    let (took, came) = (digest_text(alloc, &took)?, digest_text(alloc, &came)?);
+    Ok(format!(in alloc; "{took} {came}")?)
+}
+
+/// The text of the digest of what stands behind a gateway.
+fn standing_text(alloc: Global, gateway: &mut Gateway) -> Result<String, Fail> {
+    let standing = Sha1::digest(gateway.standing()?.as_slice());
+    Ok(digest_text(alloc, &standing)?)
+}
+
 /// How a publication ended, how many links it dialled, the digests of what went over them, and that of what stands then.
 pub(crate) fn publication_text(alloc: Global, ended: &mut Ended) -> Result<String, Fail> {
-    let standing = Sha1::digest(ended.gateway.standing()?.as_slice());
-    let (took, came) = digests(alloc, ended.exchanges.as_slice())?;
+    let standing = standing_text(alloc, &mut ended.gateway)?;
+    let links = links_text(alloc, ended.exchanges.as_slice())?;
     let (end, dials) = (end_text(alloc, ended)?, ended.dials);
-    let (took, came) = (digest_text(alloc, &took)?, digest_text(alloc, &came)?);
-    let standing = digest_text(alloc, &standing)?;
-    Ok(format!(in alloc; "{end} links {dials} {took} {came} {standing}")?)
+    Ok(format!(in alloc; "{end} links {dials} {links} {standing}")?)
 }
