@@ -31,7 +31,7 @@ mod told;
 use changes::{changes, first_word};
 use cv_lines::{bytes_of, line_of};
 use gateway::Gateway;
-use runs::{asked, published};
+use runs::{Ended, asked, published};
 use served_dial::Exchange;
 use std::alloc::Global;
 use std::test::Fail;
@@ -74,13 +74,9 @@ fn link<'a>(exchanges: &'a [Exchange], number: &str) -> Result<&'a Exchange, Fai
 
 /// Asks what a question says.
 fn question(alloc: Global, stage: Stage, word: &str, path: &str) -> Result<(Stage, String), Fail> {
-    let ended = asked(alloc, stage.gateway, word, path)?;
-    let text = told::end_text(alloc, &ended)?;
-    let stage = Stage {
-        gateway: ended.gateway,
-        exchanges: stage.exchanges,
-    };
-    Ok((stage, text))
+    let Stage { gateway, exchanges } = stage;
+    let Ended { gateway, text, .. } = asked(alloc, gateway, word, path)?;
+    Ok((Stage { gateway, exchanges }, text))
 }
 
 /// What is told of the stage.

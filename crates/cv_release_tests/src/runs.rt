@@ -5,6 +5,7 @@ use crate::folders::folder_of;
 use crate::gateway::{Gateway, KEYS, SEAL, START};
 use crate::served_dial::{Exchange, ServedDial};
 use cv_base::NoMemory;
+use cv_lines::line_of;
 use cv_ports::{MemoryClock, MemoryFolder, MemorySink, MemorySource, NoHold};
 use cv_top::{Parts, Status, run};
 use cv_vault::MemoryVault;
@@ -17,13 +18,11 @@ const URL: &str = "http://h/cvmfs/sw.example.org";
 /// The most bytes that a run may write.
 const ROOM: usize = 20_000;
 
-/// How a run ended: the code of its status, what it wrote, its line on the status, how many links it dialled, what went over
-/// them, and the gateway behind them.
+/// How a run ended: its status and what it wrote, as a text, how many links it dialled, what went over them, and the gateway
+/// behind them.
 #[derive(Drop)]
 pub(crate) struct Ended {
-    pub(crate) code: u8,
-    pub(crate) output: Vec<u8>,
-    pub(crate) errors: Vec<u8>,
+    pub(crate) text: String,
     pub(crate) dials: u64,
     pub(crate) exchanges: Vec<Exchange>,
     pub(crate) gateway: Gateway,
@@ -96,25 +95,30 @@ fn run_parts(alloc: Global, words: &[String], parts: Served) -> (Status, Served)
     run(alloc, words, parts)
 }
 
-/// How a run ended whose status has this code.
-fn end_of(code: u8, parts: Served) -> Result<Ended, Fail> {
-    let Parts {
-        output,
-        errors,
-        dial,
-        ..
-    } = parts;
+/// The code of a status, and what a run wrote.
+fn text_of(alloc: Global, status: &Status, parts: &Served) -> Result<String, Fail> {
+    let code = status.code();
+    let output = line_of(alloc, parts.output.as_slice())?;
+    let errors = line_of(alloc, parts.errors.as_slice())?;
+    Ok(format!(in alloc; "{code} {output}{errors}")?)
+}
+
+/// How a run ended whose end has this text, and that has this dial then.
+fn ended(text: String, dial: ServedDial) -> Result<Ended, Fail> {
     let dials = dial.dials();
     let (gateway, exchanges) = dial.into_parts();
     let gateway = gateway.ok_or("a link was lost")?;
     Ok(Ended {
-        code,
-        output: output.into_vec(),
-        errors: errors.into_vec(),
+        text,
         dials,
         exchanges,
         gateway,
     })
+}
+
+/// The dial of a run that ended.
+fn dial_of(parts: Served) -> ServedDial {
+    parts.dial
 }
 
 /// Runs the program on these words, this folder and this dial.
@@ -127,7 +131,8 @@ fn run_on(
     let words = owned(alloc, words)?;
     let parts = parts_of(alloc, folder, dial)?;
     let (status, parts) = run_parts(alloc, words.as_slice(), parts);
-    end_of(status.code(), parts)
+    let text = text_of(alloc, &status, &parts)?;
+    ended(text, dial_of(parts))
 }
 
 /// How a publication of the folder of these words ends at a path, to whose links this happens.

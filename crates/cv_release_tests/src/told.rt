@@ -4,18 +4,9 @@ use crate::gateway::Gateway;
 use crate::runs::Ended;
 use crate::served_dial::Exchange;
 use cv_base::{NoMemory, digest_text};
-use cv_lines::line_of;
 use sha1::Sha1;
 use std::alloc::Global;
 use std::test::Fail;
-
-/// How a run ended: its status, and what it wrote.
-pub(crate) fn end_text(alloc: Global, ended: &Ended) -> Result<String, Fail> {
-    let code = ended.code;
-    let output = line_of(alloc, ended.output.as_slice())?;
-    let errors = line_of(alloc, ended.errors.as_slice())?;
-    Ok(format!(in alloc; "{code} {output}{errors}")?)
-}
 
 /// The digests of all that links took, and of all that came on them.
 fn digests(alloc: Global, exchanges: &[Exchange]) -> Result<([u8; 20], [u8; 20]), NoMemory> {
@@ -45,6 +36,6 @@ fn standing_text(alloc: Global, gateway: &mut Gateway) -> Result<String, Fail> {
 pub(crate) fn publication_text(alloc: Global, ended: &mut Ended) -> Result<String, Fail> {
     let standing = standing_text(alloc, &mut ended.gateway)?;
     let links = links_text(alloc, ended.exchanges.as_slice())?;
-    let (end, dials) = (end_text(alloc, ended)?, ended.dials);
+    let (end, dials) = (ended.text.as_str(), ended.dials);
     Ok(format!(in alloc; "{end} links {dials} {links} {standing}")?)
 }
