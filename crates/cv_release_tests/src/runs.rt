@@ -104,7 +104,7 @@ fn text_of(alloc: Global, status: &Status, parts: &Served) -> Result<String, Fai
 }
 
 /// How a run ended whose end has this text, and that has this dial then.
-fn ended(text: String, dial: ServedDial) -> Result<Ended, Fail> {
+fn end_of(text: String, dial: ServedDial) -> Result<Ended, Fail> {
     let dials = dial.dials();
     let (gateway, exchanges) = dial.into_parts();
     let gateway = gateway.ok_or("a link was lost")?;
@@ -132,7 +132,7 @@ fn run_on(
     let parts = parts_of(alloc, folder, dial)?;
     let (status, parts) = run_parts(alloc, words.as_slice(), parts);
     let text = text_of(alloc, &status, &parts)?;
-    ended(text, dial_of(parts))
+    end_of(text, dial_of(parts))
 }
 
 /// How a publication of the folder of these words ends at a path, to whose links this happens.
