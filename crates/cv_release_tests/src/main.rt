@@ -4,7 +4,7 @@
 //! # REMARK                      prints itself
 //! publish PATH|FOLDER|LINK|..   publishes a folder at a path of a new repository, and prints how that ends
 //! again PATH|FOLDER|LINK|..     publishes one at a path of the repository that stands
-//! took NUMBER                   prints what a link of the last publication took
+//! took NUMBER                   prints what a link of the last run took
 //! came NUMBER                   prints what came on it
 //! ask REQUESTS                  prints what a session replies to these
 //! ls PATH, cat PATH, stat PATH  asks the program this question, and prints how that ends
@@ -31,25 +31,10 @@ mod told;
 use changes::{changes, first_word};
 use cv_lines::{bytes_of, line_of};
 use gateway::Gateway;
-use runs::{Ended, asked, published};
+use runs::{Stage, asked, published};
 use served_dial::Exchange;
 use std::alloc::Global;
 use std::test::Fail;
-
-/// The gateway that stands, and what went over the links of the last publication.
-#[derive(Drop)]
-struct Stage {
-    gateway: Gateway,
-    exchanges: Vec<Exchange>,
-}
-
-/// A new repository, in which nothing was published.
-fn begin(alloc: Global) -> Result<Stage, Fail> {
-    Ok(Stage {
-        gateway: Gateway::new(alloc)?,
-        exchanges: Vec::new(alloc),
-    })
-}
 
 /// Publishes what a row says.
 fn publish(alloc: Global, gateway: Gateway, row: &str) -> Result<(Stage, String), Fail> {
@@ -59,11 +44,7 @@ fn publish(alloc: Global, gateway: Gateway, row: &str) -> Result<(Stage, String)
     let (words, links) = rest.split_once('|').unwrap_or((rest, ""));
     let mut ended = published(alloc, gateway, path, words, changes(alloc, links)?)?;
     let text = told::publication_text(alloc, &mut ended)?;
-    let stage = Stage {
-        gateway: ended.gateway,
-        exchanges: ended.exchanges,
-    };
-    Ok((stage, text))
+    Ok((ended.stage, text))
 }
 
 /// The link of a number, from 1 on.
@@ -73,15 +54,21 @@ fn link<'a>(exchanges: &'a [Exchange], number: &str) -> Result<&'a Exchange, Fai
 }
 
 /// Asks what a question says.
-fn question(alloc: Global, stage: Stage, word: &str, path: &str) -> Result<(Stage, String), Fail> {
-    let Stage { gateway, exchanges } = stage;
-    let Ended { gateway, text, .. } = asked(alloc, gateway, word, path)?;
-    Ok((Stage { gateway, exchanges }, text))
+fn question(
+    alloc: Global,
+    gateway: Gateway,
+    word: &str,
+    path: &str,
+) -> Result<(Stage, String), Fail> {
+    let ended = asked(alloc, gateway, word, path)?;
+    Ok((ended.stage, ended.text))
 }
 
-/// What is told of the stage.
-fn tell(alloc: Global, stage: &mut Stage, word: &str, rest: &str) -> Result<String, Fail> {
+/// What a line prints that runs nothing.
+fn text_for(alloc: Global, stage: &mut Stage, line: &str) -> Result<String, Fail> {
+    let (word, rest) = first_word(line);
     match word {
+        "#" => Ok(String::from_str(alloc, line)?),
         "took" => line_of(alloc, link(stage.exchanges.as_slice(), rest)?.took()),
         "came" => {
             let came = link(stage.exchanges.as_slice(), rest)?.came(alloc)?;
@@ -96,24 +83,26 @@ fn tell(alloc: Global, stage: &mut Stage, word: &str, rest: &str) -> Result<Stri
     }
 }
 
+/// What a line prints that runs nothing, and the stage then.
+fn tell(alloc: Global, mut stage: Stage, line: &str) -> Result<(Stage, String), Fail> {
+    let text = text_for(alloc, &mut stage, line)?;
+    Ok((stage, text))
+}
+
 /// What a line prints, and the stage then.
-fn answer(alloc: Global, mut stage: Stage, line: &str) -> Result<(Stage, String), Fail> {
+fn answer(alloc: Global, stage: Stage, line: &str) -> Result<(Stage, String), Fail> {
     let (word, rest) = first_word(line);
     match word {
-        "#" => Ok((stage, String::from_str(alloc, line)?)),
         "publish" => publish(alloc, Gateway::new(alloc)?, rest),
         "again" => publish(alloc, stage.gateway, rest),
-        "ls" | "cat" | "stat" => question(alloc, stage, word, rest),
-        _ => {
-            let text = tell(alloc, &mut stage, word, rest)?;
-            Ok((stage, text))
-        }
+        "ls" | "cat" | "stat" => question(alloc, stage.gateway, word, rest),
+        _ => tell(alloc, stage, line),
     }
 }
 
 fn main(rt: HostRuntime) -> Result<(), Fail> {
     let alloc = rt.alloc();
-    let mut stage = begin(alloc)?;
+    let mut stage = Stage::new(alloc)?;
     for line in rt.lines(alloc) {
         let (next, text) = answer(alloc, stage, line?.as_str())?;
         stage = next;

@@ -18,14 +18,29 @@ const URL: &str = "http://h/cvmfs/sw.example.org";
 /// The most bytes that a run may write.
 const ROOM: usize = 20_000;
 
-/// How a run ended: its status and what it wrote, as a text, how many links it dialled, what went over them, and the gateway
-/// behind them.
+/// The gateway that stands, and what went over the links of the last run.
+#[derive(Drop)]
+pub(crate) struct Stage {
+    pub(crate) gateway: Gateway,
+    pub(crate) exchanges: Vec<Exchange>,
+}
+
+/// How a run ended: its status and what it wrote, as a text, how many links it dialled, and what stands then.
 #[derive(Drop)]
 pub(crate) struct Ended {
     pub(crate) text: String,
     pub(crate) dials: u64,
-    pub(crate) exchanges: Vec<Exchange>,
-    pub(crate) gateway: Gateway,
+    pub(crate) stage: Stage,
+}
+
+impl Stage {
+    /// A new repository, in which nothing was published.
+    pub(crate) fn new(alloc: Global) -> Result<Stage, Fail> {
+        Ok(Stage {
+            gateway: Gateway::new(alloc)?,
+            exchanges: Vec::new(alloc),
+        })
+    }
 }
 
 /// The parts of a run.
@@ -65,7 +80,7 @@ fn secrets(alloc: Global) -> Result<(String, String), NoMemory> {
 }
 
 /// A vault without files, and a clock that stands at the first moment.
-fn stage(alloc: Global) -> Result<(MemoryVault, MemoryClock), NoMemory> {
+fn vault_and_clock(alloc: Global) -> Result<(MemoryVault, MemoryClock), NoMemory> {
     let moments = Vec::from_slice(alloc, &[START])?;
     let vault = MemoryVault::new(alloc, Vec::new(alloc))?;
     Ok((vault, MemoryClock::new(moments)))
@@ -75,7 +90,7 @@ fn stage(alloc: Global) -> Result<(MemoryVault, MemoryClock), NoMemory> {
 fn parts_of(alloc: Global, folder: MemoryFolder, dial: ServedDial) -> Result<Served, NoMemory> {
     let (keys, seal) = secrets(alloc)?;
     let (input, output, errors) = streams(alloc)?;
-    let (vault, clock) = stage(alloc)?;
+    let (vault, clock) = vault_and_clock(alloc)?;
     Ok(Parts {
         vault,
         input,
@@ -103,22 +118,11 @@ fn text_of(alloc: Global, status: &Status, parts: &Served) -> Result<String, Fai
     Ok(format!(in alloc; "{code} {output}{errors}")?)
 }
 
-/// How a run ended whose end has this text, and that has this dial then.
-fn end_of(text: String, dial: ServedDial) -> Result<Ended, Fail> {
-    let dials = dial.dials();
-    let (gateway, exchanges) = dial.into_parts();
-    let gateway = gateway.ok_or("a link was lost")?;
-    Ok(Ended {
-        text,
-        dials,
-        exchanges,
-        gateway,
-    })
-}
-
-/// The dial of a run that ended.
-fn dial_of(parts: Served) -> ServedDial {
-    parts.dial
+/// What stands behind a dial of which no link is open.
+fn stage_of(dial: &mut ServedDial) -> Result<Stage, Fail> {
+    let (gateway, exchanges) = dial.take_parts();
+    let gateway = gateway.ok_or("a link is open")?;
+    Ok(Stage { gateway, exchanges })
 }
 
 /// Runs the program on these words, this folder and this dial.
@@ -130,9 +134,12 @@ fn run_on(
 ) -> Result<Ended, Fail> {
     let words = owned(alloc, words)?;
     let parts = parts_of(alloc, folder, dial)?;
-    let (status, parts) = run_parts(alloc, words.as_slice(), parts);
-    let text = text_of(alloc, &status, &parts)?;
-    end_of(text, dial_of(parts))
+    let (status, mut parts) = run_parts(alloc, words.as_slice(), parts);
+    Ok(Ended {
+        text: text_of(alloc, &status, &parts)?,
+        dials: parts.dial.dials(),
+        stage: stage_of(&mut parts.dial)?,
+    })
 }
 
 /// How a publication of the folder of these words ends at a path, to whose links this happens.

@@ -8,6 +8,7 @@ use crate::served_source::ServedSource;
 use cv_base::NoMemory;
 use cv_ports::{Dial, Failed, FailingCalls, HostName, Link, MemorySink, MemorySource};
 use std::alloc::Global;
+use std::mem;
 
 /// The most bytes that a link takes.
 const ROOM: usize = 200_000;
@@ -65,9 +66,10 @@ impl ServedDial {
         self.dials
     }
 
-    /// The gateway, where no link is open and none was lost, and what went over the links.
-    pub(crate) fn into_parts(self) -> (Option<Gateway>, Vec<Exchange>) {
-        (self.gateway, self.exchanges)
+    /// The gateway, where no link is open, and what went over the links. They are taken away.
+    pub(crate) fn take_parts(&mut self) -> (Option<Gateway>, Vec<Exchange>) {
+        let exchanges = mem::replace(&mut self.exchanges, Vec::new(self.alloc));
+        (self.gateway.take(), exchanges)
     }
 
     /// What becomes of the next link.
@@ -101,13 +103,25 @@ impl ServedDial {
         }
     }
 
-    /// Keeps what went over a link, and the gateway behind it. Without memory for it the gateway is lost.
+    /// Keeps the gateway behind a link that came back, and what went over the link where there is memory for it.
     fn keep(&mut self, exchange: Exchange, gateway: Gateway)
         ensures { self.new.calls ≡ self.old.calls }
     {
-        if self.exchanges.push(exchange).is_ok() {
-            self.gateway = Some(gateway);
+        self.gateway = Some(gateway);
+        let _kept = self.exchanges.push(exchange);
+    }
+
+    /// What the gateway sends on the next link, if it is opened.
+    fn accept(&mut self) -> Option<ServedSource>
+        ensures faults { IfSome result (λ reads. reads.calls.faults ≡ 0) }
+        ensures calls { self.new.calls ≡ self.old.calls }
+    {
+        let change = self.next_change();
+        if matches!(&change, Change::Undialled) {
+            return None;
         }
+        self.serve_others(&change).ok()?;
+        Some(ServedSource::new(self.alloc, self.gateway.take()?, change))
     }
 
     /// The next link, if it is opened.
@@ -120,16 +134,9 @@ impl ServedDial {
         ensures writes { IfSome result (λ link. link.writes.calls.faults ≡ 0) }
         ensures calls { self.new.calls ≡ self.old.calls }
     {
-        let alloc = self.alloc;
-        let change = self.next_change();
-        if matches!(&change, Change::Undialled) {
-            return None;
-        }
-        self.serve_others(&change).ok()?;
         let name = HostName::new(host)?;
-        let writes = MemorySink::new(alloc, ROOM, Vec::new(alloc)).ok()?;
-        let gateway = self.gateway.take()?;
-        let reads = ServedSource::new(alloc, gateway, change);
+        let writes = MemorySink::new(self.alloc, ROOM, Vec::new(self.alloc)).ok()?;
+        let reads = self.accept()?;
         Some(Link::new(reads, writes, name, port))
     }
 }

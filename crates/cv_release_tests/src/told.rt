@@ -34,8 +34,8 @@ fn standing_text(alloc: Global, gateway: &mut Gateway) -> Result<String, Fail> {
 
 /// How a publication ended, how many links it dialled, the digests of what went over them, and that of what stands then.
 pub(crate) fn publication_text(alloc: Global, ended: &mut Ended) -> Result<String, Fail> {
-    let standing = standing_text(alloc, &mut ended.gateway)?;
-    let links = links_text(alloc, ended.exchanges.as_slice())?;
+    let standing = standing_text(alloc, &mut ended.stage.gateway)?;
+    let links = links_text(alloc, ended.stage.exchanges.as_slice())?;
     let (end, dials) = (ended.text.as_str(), ended.dials);
     Ok(format!(in alloc; "{end} links {dials} {links} {standing}")?)
 }
