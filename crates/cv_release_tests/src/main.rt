@@ -30,82 +30,66 @@ mod told;
 
 use changes::{changes, first_word};
 use cv_lines::{bytes_of, line_of};
-use gateway::Gateway;
-use runs::{Stage, asked, published};
-use served_dial::Exchange;
+use runs::{asked, published};
+use served_dial::{Exchange, ServedDial};
 use std::alloc::Global;
 use std::test::Fail;
+use told::publication_text;
 
 /// Publishes what a row says.
-fn publish(alloc: Global, gateway: Gateway, row: &str) -> Result<(Stage, String), Fail> {
+fn publish(alloc: Global, dial: &mut ServedDial, row: &str) -> Result<String, Fail> {
     let Some((path, rest)) = row.split_once('|') else {
         return Err(Fail::new("no folder"));
     };
     let (words, links) = rest.split_once('|').unwrap_or((rest, ""));
-    let mut ended = published(alloc, gateway, path, words, changes(alloc, links)?)?;
-    let text = told::publication_text(alloc, &mut ended)?;
-    Ok((ended.stage, text))
-}
-
-/// The link of a number, from 1 on.
-fn link<'a>(exchanges: &'a [Exchange], number: &str) -> Result<&'a Exchange, Fail> {
-    let number: usize = number.parse()?;
-    Ok(exchanges.get(number.wrapping_sub(1)).ok_or("no such link")?)
+    dial.begin(changes(alloc, links)?);
+    let end = published(alloc, dial, path, words)?;
+    publication_text(alloc, end.as_str(), dial)
 }
 
 /// Asks what a question says.
-fn question(
-    alloc: Global,
-    gateway: Gateway,
-    word: &str,
-    path: &str,
-) -> Result<(Stage, String), Fail> {
-    let ended = asked(alloc, gateway, word, path)?;
-    Ok((ended.stage, ended.text))
+fn question(alloc: Global, dial: &mut ServedDial, word: &str, path: &str) -> Result<String, Fail> {
+    dial.begin(Vec::new(alloc));
+    asked(alloc, dial, word, path)
 }
 
-/// What a line prints that runs nothing.
-fn text_for(alloc: Global, stage: &mut Stage, line: &str) -> Result<String, Fail> {
+/// The link of a number, from 1 on.
+fn link<'a>(dial: &'a ServedDial, number: &str) -> Result<&'a Exchange, Fail> {
+    let number: usize = number.parse()?;
+    let exchange = dial.exchanges().get(number.wrapping_sub(1));
+    Ok(exchange.ok_or("no such link")?)
+}
+
+/// What a session replies to requests.
+fn reply(alloc: Global, dial: &mut ServedDial, requests: &str) -> Result<String, Fail> {
+    let requests = bytes_of(alloc, requests)?;
+    let reply = dial.gateway()?.reply(requests.as_slice())?;
+    line_of(alloc, reply.as_slice())
+}
+
+/// What a line prints.
+fn answer(alloc: Global, dial: &mut ServedDial, line: &str) -> Result<String, Fail> {
     let (word, rest) = first_word(line);
     match word {
         "#" => Ok(String::from_str(alloc, line)?),
-        "took" => line_of(alloc, link(stage.exchanges.as_slice(), rest)?.took()),
-        "came" => {
-            let came = link(stage.exchanges.as_slice(), rest)?.came(alloc)?;
-            line_of(alloc, came.as_slice())
+        "publish" => {
+            dial.renew()?;
+            publish(alloc, dial, rest)
         }
-        "ask" => {
-            let requests = bytes_of(alloc, rest)?;
-            let reply = stage.gateway.reply(requests.as_slice())?;
-            line_of(alloc, reply.as_slice())
-        }
+        "again" => publish(alloc, dial, rest),
+        "took" => line_of(alloc, link(dial, rest)?.took()),
+        "came" => line_of(alloc, link(dial, rest)?.came(alloc)?.as_slice()),
+        "ask" => reply(alloc, dial, rest),
+        "ls" | "cat" | "stat" => question(alloc, dial, word, rest),
         _ => Err(Fail::new("no row")),
-    }
-}
-
-/// What a line prints that runs nothing, and the stage then.
-fn tell(alloc: Global, mut stage: Stage, line: &str) -> Result<(Stage, String), Fail> {
-    let text = text_for(alloc, &mut stage, line)?;
-    Ok((stage, text))
-}
-
-/// What a line prints, and the stage then.
-fn answer(alloc: Global, stage: Stage, line: &str) -> Result<(Stage, String), Fail> {
-    let (word, rest) = first_word(line);
-    match word {
-        "publish" => publish(alloc, Gateway::new(alloc)?, rest),
-        "again" => publish(alloc, stage.gateway, rest),
-        "ls" | "cat" | "stat" => question(alloc, stage.gateway, word, rest),
-        _ => tell(alloc, stage, line),
     }
 }
 
 fn main(rt: HostRuntime) -> Result<(), Fail> {
     let alloc = rt.alloc();
-    let mut stage = Stage::new(alloc)?;
+    let mut dial = ServedDial::new(alloc);
     for line in rt.lines(alloc) {
-        let (next, text) = answer(alloc, stage, line?.as_str())?;
-        stage = next;
+        let text = answer(alloc, &mut dial, line?.as_str())?;
         rt.println(text)?;
     }
     Ok(())

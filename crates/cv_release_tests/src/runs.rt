@@ -1,15 +1,15 @@
 //! Runs of the program whose links a gateway in memory serves.
 
-use crate::changes::Change;
 use crate::folders::folder_of;
-use crate::gateway::{Gateway, KEYS, SEAL, START};
-use crate::served_dial::{Exchange, ServedDial};
+use crate::gateway::{KEYS, SEAL, START};
+use crate::served_dial::ServedDial;
 use cv_base::NoMemory;
 use cv_lines::line_of;
 use cv_ports::{MemoryClock, MemoryFolder, MemorySink, MemorySource, NoHold};
 use cv_top::{Parts, Status, run};
 use cv_vault::MemoryVault;
 use std::alloc::Global;
+use std::mem::swap;
 use std::test::Fail;
 
 /// Where the repository is served.
@@ -17,31 +17,6 @@ const URL: &str = "http://h/cvmfs/sw.example.org";
 
 /// The most bytes that a run may write.
 const ROOM: usize = 20_000;
-
-/// The gateway that stands, and what went over the links of the last run.
-#[derive(Drop)]
-pub(crate) struct Stage {
-    pub(crate) gateway: Gateway,
-    pub(crate) exchanges: Vec<Exchange>,
-}
-
-/// How a run ended: its status and what it wrote, as a text, how many links it dialled, and what stands then.
-#[derive(Drop)]
-pub(crate) struct Ended {
-    pub(crate) text: String,
-    pub(crate) dials: u64,
-    pub(crate) stage: Stage,
-}
-
-impl Stage {
-    /// A new repository, in which nothing was published.
-    pub(crate) fn new(alloc: Global) -> Result<Stage, Fail> {
-        Ok(Stage {
-            gateway: Gateway::new(alloc)?,
-            exchanges: Vec::new(alloc),
-        })
-    }
-}
 
 /// The parts of a run.
 type Served = Parts<
@@ -86,8 +61,8 @@ fn vault_and_clock(alloc: Global) -> Result<(MemoryVault, MemoryClock), NoMemory
     Ok((vault, MemoryClock::new(moments)))
 }
 
-/// The parts of a run on this folder and this dial.
-fn parts_of(alloc: Global, folder: MemoryFolder, dial: ServedDial) -> Result<Served, NoMemory> {
+/// The parts of a run on this folder, whose dial opens no link.
+fn parts_of(alloc: Global, folder: MemoryFolder) -> Result<Served, NoMemory> {
     let (keys, seal) = secrets(alloc)?;
     let (input, output, errors) = streams(alloc)?;
     let (vault, clock) = vault_and_clock(alloc)?;
@@ -100,7 +75,7 @@ fn parts_of(alloc: Global, folder: MemoryFolder, dial: ServedDial) -> Result<Ser
         keys,
         seal,
         folder,
-        dial,
+        dial: ServedDial::new(alloc),
         hold: NoHold,
     })
 }
@@ -118,51 +93,39 @@ fn text_of(alloc: Global, status: &Status, parts: &Served) -> Result<String, Fai
     Ok(format!(in alloc; "{code} {output}{errors}")?)
 }
 
-/// What stands behind a dial of which no link is open.
-fn stage_of(dial: &mut ServedDial) -> Result<Stage, Fail> {
-    let (gateway, exchanges) = dial.take_parts();
-    let gateway = gateway.ok_or("a link is open")?;
-    Ok(Stage { gateway, exchanges })
-}
-
-/// Runs the program on these words, this folder and this dial.
+/// Runs the program on these words, this folder and this dial, and tells how it ends.
 fn run_on(
     alloc: Global,
     words: &[&str],
     folder: MemoryFolder,
-    dial: ServedDial,
-) -> Result<Ended, Fail> {
+    dial: &mut ServedDial,
+) -> Result<String, Fail> {
     let words = owned(alloc, words)?;
-    let parts = parts_of(alloc, folder, dial)?;
+    let mut parts = parts_of(alloc, folder)?;
+    swap(dial, &mut parts.dial);
     let (status, mut parts) = run_parts(alloc, words.as_slice(), parts);
-    Ok(Ended {
-        text: text_of(alloc, &status, &parts)?,
-        dials: parts.dial.dials(),
-        stage: stage_of(&mut parts.dial)?,
-    })
+    swap(dial, &mut parts.dial);
+    text_of(alloc, &status, &parts)
 }
 
-/// How a publication of the folder of these words ends at a path, to whose links this happens.
+/// How a publication of the folder of these words ends at a path.
 pub(crate) fn published(
     alloc: Global,
-    gateway: Gateway,
+    dial: &mut ServedDial,
     path: &str,
     words: &str,
-    changes: Vec<Change>,
-) -> Result<Ended, Fail> {
+) -> Result<String, Fail> {
     let folder = folder_of(alloc, words)?;
-    let dial = ServedDial::new(alloc, gateway, changes);
     run_on(alloc, &["publish", URL, path, "changes"], folder, dial)
 }
 
 /// How a question on a path ends.
 pub(crate) fn asked(
     alloc: Global,
-    gateway: Gateway,
+    dial: &mut ServedDial,
     question: &str,
     path: &str,
-) -> Result<Ended, Fail> {
+) -> Result<String, Fail> {
     let folder = folder_of(alloc, "")?;
-    let dial = ServedDial::new(alloc, gateway, Vec::new(alloc));
     run_on(alloc, &[question, URL, path], folder, dial)
 }

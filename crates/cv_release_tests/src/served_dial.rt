@@ -8,7 +8,7 @@ use crate::served_source::ServedSource;
 use cv_base::NoMemory;
 use cv_ports::{Dial, Failed, FailingCalls, HostName, Link, MemorySink, MemorySource};
 use std::alloc::Global;
-use std::mem;
+use std::test::Fail;
 
 /// The most bytes that a link takes.
 const ROOM: usize = 200_000;
@@ -49,16 +49,30 @@ pub(crate) struct ServedDial {
 }
 
 impl ServedDial {
-    /// Gives links to which these changes happen, that of the first link last, and nothing to those behind them.
-    pub(crate) fn new(alloc: Global, gateway: Gateway, changes: Vec<Change>) -> ServedDial {
+    /// Without a gateway: no link is opened.
+    pub(crate) fn new(alloc: Global) -> ServedDial {
         ServedDial {
             alloc,
-            gateway: Some(gateway),
-            changes,
+            gateway: None,
+            changes: Vec::new(alloc),
             dials: 0,
             exchanges: Vec::new(alloc),
             calls: FailingCalls::new(Vec::new(alloc)),
         }
+    }
+
+    /// Puts the gateway of a new repository behind the links.
+    pub(crate) fn renew(&mut self) -> Result<(), Fail> {
+        self.gateway = Some(Gateway::new(self.alloc)?);
+        Ok(())
+    }
+
+    /// Begins anew to count links and to keep what goes over them. These changes happen to the next ones, that of the first link
+    /// last, and nothing to those behind them.
+    pub(crate) fn begin(&mut self, changes: Vec<Change>) {
+        self.changes = changes;
+        self.dials = 0;
+        self.exchanges.clear();
     }
 
     /// How many links were dialled.
@@ -66,10 +80,14 @@ impl ServedDial {
         self.dials
     }
 
-    /// The gateway, where no link is open, and what went over the links. They are taken away.
-    pub(crate) fn take_parts(&mut self) -> (Option<Gateway>, Vec<Exchange>) {
-        let exchanges = mem::replace(&mut self.exchanges, Vec::new(self.alloc));
-        (self.gateway.take(), exchanges)
+    /// What went over the links that came back.
+    pub(crate) fn exchanges(&self) -> &[Exchange] {
+        self.exchanges.as_slice()
+    }
+
+    /// The gateway, where no link is open.
+    pub(crate) fn gateway(&mut self) -> Result<&mut Gateway, Fail> {
+        Ok(self.gateway.as_mut().ok_or("no gateway")?)
     }
 
     /// What becomes of the next link.

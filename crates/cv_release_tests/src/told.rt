@@ -1,8 +1,7 @@
 //! What a line of the table prints.
 
 use crate::gateway::Gateway;
-use crate::runs::Ended;
-use crate::served_dial::Exchange;
+use crate::served_dial::{Exchange, ServedDial};
 use cv_base::{NoMemory, digest_text};
 use sha1::Sha1;
 use std::alloc::Global;
@@ -33,9 +32,13 @@ fn standing_text(alloc: Global, gateway: &mut Gateway) -> Result<String, Fail> {
 }
 
 /// How a publication ended, how many links it dialled, the digests of what went over them, and that of what stands then.
-pub(crate) fn publication_text(alloc: Global, ended: &mut Ended) -> Result<String, Fail> {
-    let standing = standing_text(alloc, &mut ended.stage.gateway)?;
-    let links = links_text(alloc, ended.stage.exchanges.as_slice())?;
-    let (end, dials) = (ended.text.as_str(), ended.dials);
+pub(crate) fn publication_text(
+    alloc: Global,
+    end: &str,
+    dial: &mut ServedDial,
+) -> Result<String, Fail> {
+    let standing = standing_text(alloc, dial.gateway()?)?;
+    let links = links_text(alloc, dial.exchanges())?;
+    let dials = dial.dials();
     Ok(format!(in alloc; "{end} links {dials} {links} {standing}")?)
 }
