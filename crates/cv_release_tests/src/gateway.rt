@@ -1,5 +1,6 @@
 //! A gateway in memory, which lives across links.
 
+use crate::peer::Peer;
 use cv_base::{Name, NoMemory};
 use cv_desk::{Gate, OneDesk};
 use cv_http::Wire;
@@ -21,10 +22,6 @@ pub(crate) const SEAL: &str = "seal";
 
 /// The first moment.
 pub(crate) const START: u64 = 1_700_000_000;
-
-/// The requests for the live leases and for the manifest.
-const STANDING: &[u8] =
-    b"GET /api/v1/leases HTTP/1.1\r\nHost: x\r\n\r\nGET /cvmfs/sw.example.org/.cvmfspublished HTTP/1.1\r\nHost: x\r\n\r\n";
 
 /// The most bytes that one read of a connection gives.
 const PIECE: usize = 65_536;
@@ -99,22 +96,6 @@ fn wire_of(alloc: Global, bytes: &[u8]) -> Result<Wire<MemorySource>, NoMemory> 
 }
 
 impl Gateway {
-    /// Over a new repository, at the first moment.
-    pub(crate) fn new(alloc: Global) -> Result<Gateway, Fail> {
-        Ok(Gateway {
-            alloc,
-            desk: desk(alloc)?,
-            keys: KeyTable::read(alloc, KEYS.as_bytes())?,
-            signer: signer(alloc)?,
-            seconds: 0,
-        })
-    }
-
-    /// Comes to a moment, so many seconds after the first.
-    pub(crate) fn come_to(&mut self, seconds: u32) {
-        self.seconds = seconds;
-    }
-
     /// Serves a connection.
     fn serve(
         &mut self,
@@ -133,19 +114,34 @@ impl Gateway {
             sink,
         );
     }
+}
 
-    /// What a session replies to these requests, which are all that its connection brings.
-    pub(crate) fn reply(&mut self, requests: &[u8]) -> Result<Vec<u8>, NoMemory> {
+impl Peer for Gateway {
+    /// Over a new repository.
+    fn new(alloc: Global) -> Result<Gateway, Fail> {
+        let keys = KeyTable::read(alloc, KEYS.as_bytes())?;
+        let signer = signer(alloc)?;
+        let desk = desk(alloc)?;
+        Ok(Gateway {
+            alloc,
+            desk,
+            keys,
+            signer,
+            seconds: 0,
+        })
+    }
+
+    fn come_to(&mut self, seconds: u32) {
+        self.seconds = seconds;
+    }
+
+    /// What a session replies.
+    fn reply(&mut self, requests: &[u8]) -> Result<Vec<u8>, NoMemory> {
         let alloc = self.alloc;
         let mut clock = clock_at(alloc, self.seconds)?;
         let mut wire = wire_of(alloc, requests)?;
         let mut sink = MemorySink::new(alloc, ROOM, Vec::new(alloc))?;
         self.serve(&mut clock, &mut wire, &mut sink);
         Ok(sink.into_vec())
-    }
-
-    /// What a session replies to one who asks for the live leases and for the manifest.
-    pub(crate) fn standing(&mut self) -> Result<Vec<u8>, NoMemory> {
-        self.reply(STANDING)
     }
 }

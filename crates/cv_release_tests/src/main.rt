@@ -23,6 +23,7 @@
 mod changes;
 mod folders;
 mod gateway;
+mod peer;
 mod runs;
 mod served_dial;
 mod served_source;
@@ -30,6 +31,8 @@ mod told;
 
 use changes::{changes, first_word};
 use cv_lines::{bytes_of, line_of};
+use gateway::Gateway;
+use peer::Peer;
 use runs::{asked, published};
 use served_dial::{Exchange, ServedDial};
 use std::alloc::Global;
@@ -37,7 +40,7 @@ use std::test::Fail;
 use told::publication_text;
 
 /// Publishes what a row says.
-fn publish(alloc: Global, dial: &mut ServedDial, row: &str) -> Result<String, Fail> {
+fn publish<P: Peer>(alloc: Global, dial: &mut ServedDial<P>, row: &str) -> Result<String, Fail> {
     let Some((path, rest)) = row.split_once('|') else {
         return Err(Fail::new("no folder"));
     };
@@ -48,27 +51,32 @@ fn publish(alloc: Global, dial: &mut ServedDial, row: &str) -> Result<String, Fa
 }
 
 /// Asks what a question says.
-fn question(alloc: Global, dial: &mut ServedDial, word: &str, path: &str) -> Result<String, Fail> {
+fn question<P: Peer>(
+    alloc: Global,
+    dial: &mut ServedDial<P>,
+    word: &str,
+    path: &str,
+) -> Result<String, Fail> {
     dial.begin(Vec::new(alloc));
     asked(alloc, dial, word, path)
 }
 
 /// The link of a number, from 1 on.
-fn link<'a>(dial: &'a ServedDial, number: &str) -> Result<&'a Exchange, Fail> {
+fn link<'a, P: Peer>(dial: &'a ServedDial<P>, number: &str) -> Result<&'a Exchange, Fail> {
     let number: usize = number.parse()?;
     let exchange = dial.exchanges().get(number.wrapping_sub(1));
     Ok(exchange.ok_or("no such link")?)
 }
 
 /// What a session replies to requests.
-fn reply(alloc: Global, dial: &mut ServedDial, requests: &str) -> Result<String, Fail> {
+fn reply<P: Peer>(alloc: Global, dial: &mut ServedDial<P>, requests: &str) -> Result<String, Fail> {
     let requests = bytes_of(alloc, requests)?;
-    let reply = dial.gateway()?.reply(requests.as_slice())?;
+    let reply = dial.peer()?.reply(requests.as_slice())?;
     line_of(alloc, reply.as_slice())
 }
 
 /// What a line prints.
-fn answer(alloc: Global, dial: &mut ServedDial, line: &str) -> Result<String, Fail> {
+fn answer<P: Peer>(alloc: Global, dial: &mut ServedDial<P>, line: &str) -> Result<String, Fail> {
     let (word, rest) = first_word(line);
     match word {
         "#" => Ok(String::from_str(alloc, line)?),
@@ -85,12 +93,17 @@ fn answer(alloc: Global, dial: &mut ServedDial, line: &str) -> Result<String, Fa
     }
 }
 
-fn main(rt: HostRuntime) -> Result<(), Fail> {
+/// Answers the lines of standard input over a peer.
+fn answer_lines<P: Peer>(rt: HostRuntime) -> Result<(), Fail> {
     let alloc = rt.alloc();
-    let mut dial = ServedDial::new(alloc);
+    let mut dial = ServedDial::<P>::new(alloc);
     for line in rt.lines(alloc) {
         let text = answer(alloc, &mut dial, line?.as_str())?;
         rt.println(text)?;
     }
     Ok(())
+}
+
+fn main(rt: HostRuntime) -> Result<(), Fail> {
+    answer_lines::<Gateway>(rt)
 }

@@ -1,7 +1,8 @@
-//! Runs of the program whose links a gateway in memory serves.
+//! Runs of the program whose links a peer in memory serves.
 
 use crate::folders::folder_of;
 use crate::gateway::{KEYS, SEAL, START};
+use crate::peer::Peer;
 use crate::served_dial::ServedDial;
 use cv_base::NoMemory;
 use cv_lines::line_of;
@@ -19,14 +20,14 @@ const URL: &str = "http://h/cvmfs/sw.example.org";
 const ROOM: usize = 20_000;
 
 /// The parts of a run.
-type Served = Parts<
+type Served<P> = Parts<
     MemoryVault,
     MemorySource,
     MemorySink,
     MemorySink,
     MemoryClock,
     MemoryFolder,
-    ServedDial,
+    ServedDial<P>,
     NoHold,
 >;
 
@@ -62,7 +63,7 @@ fn vault_and_clock(alloc: Global) -> Result<(MemoryVault, MemoryClock), NoMemory
 }
 
 /// The parts of a run on this folder, whose dial opens no link.
-fn parts_of(alloc: Global, folder: MemoryFolder) -> Result<Served, NoMemory> {
+fn parts_of<P: Peer>(alloc: Global, folder: MemoryFolder) -> Result<Served<P>, NoMemory> {
     let (keys, seal) = secrets(alloc)?;
     let (input, output, errors) = streams(alloc)?;
     let (vault, clock) = vault_and_clock(alloc)?;
@@ -81,12 +82,12 @@ fn parts_of(alloc: Global, folder: MemoryFolder) -> Result<Served, NoMemory> {
 }
 
 /// Runs the program.
-fn run_parts(alloc: Global, words: &[String], parts: Served) -> (Status, Served) {
+fn run_parts<P: Peer>(alloc: Global, words: &[String], parts: Served<P>) -> (Status, Served<P>) {
     run(alloc, words, parts)
 }
 
 /// The code of a status, and what a run wrote.
-fn text_of(alloc: Global, status: &Status, parts: &Served) -> Result<String, Fail> {
+fn text_of<P: Peer>(alloc: Global, status: &Status, parts: &Served<P>) -> Result<String, Fail> {
     let code = status.code();
     let output = line_of(alloc, parts.output.as_slice())?;
     let errors = line_of(alloc, parts.errors.as_slice())?;
@@ -94,11 +95,11 @@ fn text_of(alloc: Global, status: &Status, parts: &Served) -> Result<String, Fai
 }
 
 /// Runs the program on these words, this folder and this dial, and tells how it ends.
-fn run_on(
+fn run_on<P: Peer>(
     alloc: Global,
     words: &[&str],
     folder: MemoryFolder,
-    dial: &mut ServedDial,
+    dial: &mut ServedDial<P>,
 ) -> Result<String, Fail> {
     let words = owned(alloc, words)?;
     let mut parts = parts_of(alloc, folder)?;
@@ -109,9 +110,9 @@ fn run_on(
 }
 
 /// How a publication of the folder of these words ends at a path.
-pub(crate) fn published(
+pub(crate) fn published<P: Peer>(
     alloc: Global,
-    dial: &mut ServedDial,
+    dial: &mut ServedDial<P>,
     path: &str,
     words: &str,
 ) -> Result<String, Fail> {
@@ -120,9 +121,9 @@ pub(crate) fn published(
 }
 
 /// How a question on a path ends.
-pub(crate) fn asked(
+pub(crate) fn asked<P: Peer>(
     alloc: Global,
-    dial: &mut ServedDial,
+    dial: &mut ServedDial<P>,
     question: &str,
     path: &str,
 ) -> Result<String, Fail> {

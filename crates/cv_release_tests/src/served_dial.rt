@@ -1,9 +1,9 @@
-//! A dial whose links a gateway in memory serves.
+//! A dial whose links a peer in memory serves.
 ghost use Rattle.std.specs.Prelude.{◌≡◌, ◌≤◌, [], None, IfSome};
 ghost use Rattle.cv_ports.specs.Dial.{after_back};
 
 use crate::changes::Change;
-use crate::gateway::Gateway;
+use crate::peer::Peer;
 use crate::served_source::ServedSource;
 use cv_base::NoMemory;
 use cv_ports::{Dial, Failed, FailingCalls, HostName, Link, MemorySink, MemorySource};
@@ -37,23 +37,23 @@ impl Exchange {
     }
 }
 
-/// Gives links to one gateway, one after another. It tells nothing.
+/// Gives links to one peer, one after another. It tells nothing.
 #[derive(Drop)]
-pub(crate) struct ServedDial {
+pub(crate) struct ServedDial<P> {
     alloc: Global,
-    gateway: Option<Gateway>,
+    peer: Option<P>,
     changes: Vec<Change>,
     dials: u64,
     exchanges: Vec<Exchange>,
     calls: FailingCalls,
 }
 
-impl ServedDial {
-    /// Without a gateway: no link is opened.
-    pub(crate) fn new(alloc: Global) -> ServedDial {
+impl<P: Peer> ServedDial<P> {
+    /// Without a peer: no link is opened.
+    pub(crate) fn new(alloc: Global) -> ServedDial<P> {
         ServedDial {
             alloc,
-            gateway: None,
+            peer: None,
             changes: Vec::new(alloc),
             dials: 0,
             exchanges: Vec::new(alloc),
@@ -61,9 +61,9 @@ impl ServedDial {
         }
     }
 
-    /// Puts the gateway of a new repository behind the links.
+    /// Puts a new peer behind the links.
     pub(crate) fn renew(&mut self) -> Result<(), Fail> {
-        self.gateway = Some(Gateway::new(self.alloc)?);
+        self.peer = Some(P::new(self.alloc)?);
         Ok(())
     }
 
@@ -85,9 +85,9 @@ impl ServedDial {
         self.exchanges.as_slice()
     }
 
-    /// The gateway, where no link is open.
-    pub(crate) fn gateway(&mut self) -> Result<&mut Gateway, Fail> {
-        Ok(self.gateway.as_mut().ok_or("no gateway")?)
+    /// The peer, where no link is open.
+    pub(crate) fn peer(&mut self) -> Result<&mut P, Fail> {
+        Ok(self.peer.as_mut().ok_or("no peer")?)
     }
 
     /// What becomes of the next link.
@@ -98,14 +98,14 @@ impl ServedDial {
         self.changes.pop().unwrap_or(Change::Nothing)
     }
 
-    /// Has others ask the gateway before a link is opened, where they do.
+    /// Has others ask the peer before a link is opened, where they do.
     fn serve_others(&mut self, change: &Change) -> Result<(), NoMemory>
         ensures { self.new.calls ≡ self.old.calls }
     {
         if let Change::Others(seconds, requests) = change {
-            if let Some(gateway) = &mut self.gateway {
-                gateway.come_to(*seconds);
-                let _reply = gateway.reply(requests.as_slice())?;
+            if let Some(peer) = &mut self.peer {
+                peer.come_to(*seconds);
+                let _reply = peer.reply(requests.as_slice())?;
             }
         }
         Ok(())
@@ -121,16 +121,16 @@ impl ServedDial {
         }
     }
 
-    /// Keeps the gateway behind a link that came back, and what went over the link where there is memory for it.
-    fn keep(&mut self, exchange: Exchange, gateway: Gateway)
+    /// Keeps the peer of a link that came back, and what went over the link where there is memory for it.
+    fn keep(&mut self, exchange: Exchange, peer: P)
         ensures { self.new.calls ≡ self.old.calls }
     {
-        self.gateway = Some(gateway);
+        self.peer = Some(peer);
         let _kept = self.exchanges.push(exchange);
     }
 
-    /// What the gateway sends on the next link, if it is opened.
-    fn accept(&mut self) -> Option<ServedSource>
+    /// What the peer sends on the next link, if it is opened.
+    fn accept(&mut self) -> Option<ServedSource<P>>
         ensures faults { IfSome result (λ reads. reads.calls.faults ≡ 0) }
         ensures calls { self.new.calls ≡ self.old.calls }
     {
@@ -139,11 +139,11 @@ impl ServedDial {
             return None;
         }
         self.serve_others(&change).ok()?;
-        Some(ServedSource::new(self.alloc, self.gateway.take()?, change))
+        Some(ServedSource::new(self.alloc, self.peer.take()?, change))
     }
 
     /// The next link, if it is opened.
-    fn open(&mut self, host: &str, port: u16) -> Option<Link<ServedSource, MemorySink>>
+    fn open(&mut self, host: &str, port: u16) -> Option<Link<ServedSource<P>, MemorySink>>
         ensures host { IfSome result (λ link. link.host ≡ host.now) }
         ensures port { IfSome result (λ link. link.port ≡ port) }
         ensures taken { IfSome result (λ link. link.writes.taken ≡ []) }
@@ -159,8 +159,8 @@ impl ServedDial {
     }
 }
 
-impl Dial for ServedDial {
-    type Reads = ServedSource;
+impl<P: Peer> Dial for ServedDial<P> {
+    type Reads = ServedSource<P>;
 
     type Writes = MemorySink;
 
@@ -170,7 +170,7 @@ impl Dial for ServedDial {
 
     ghost faults = { λ d. d.calls.faults };
 
-    fn dial(&mut self, host: &str, port: u16) -> Result<Link<ServedSource, MemorySink>, Failed> {
+    fn dial(&mut self, host: &str, port: u16) -> Result<Link<ServedSource<P>, MemorySink>, Failed> {
         match self.open(host, port) {
             Some(link) => Ok(link),
             None => {
@@ -180,14 +180,14 @@ impl Dial for ServedDial {
         }
     }
 
-    fn back(&mut self, link: Link<ServedSource, MemorySink>)
+    fn back(&mut self, link: Link<ServedSource<P>, MemorySink>)
         ensures later { self.old.calls.faults ≤ self.new.calls.faults }
         ensures counted { self.new.calls.faults
             ≡ after_back link.reads.calls.faults link.writes.calls.faults self.old.calls.faults }
     {
         self.count(link.reads.faults(), link.writes.faults());
-        let (gateway, reply) = link.reads.into_parts();
+        let (peer, reply) = link.reads.into_parts();
         let took = link.writes;
-        self.keep(Exchange { took, reply }, gateway);
+        self.keep(Exchange { took, reply }, peer);
     }
 }

@@ -1,41 +1,41 @@
-//! What a gateway in memory sends on a link.
+//! What a peer in memory sends on a link.
 ghost use Rattle.std.specs.Prelude.{◌≡◌, ◌≤◌, None, length};
 
 use crate::changes::Change;
-use crate::gateway::Gateway;
+use crate::peer::Peer;
 use cv_ports::{Failed, FailingCalls, MemorySink, MemorySource, Source};
 use std::alloc::Global;
 
 /// The most bytes that one read gives.
 const PIECE: usize = 65_536;
 
-/// What the peer of a link sends: by the first read, all that a session replies to what the link was sent by then.
+/// What the peer of a link sends: by the first read, all that it replies to what the link was sent by then.
 #[derive(Drop)]
-pub(crate) struct ServedSource {
+pub(crate) struct ServedSource<P> {
     alloc: Global,
-    gateway: Gateway,
+    peer: P,
     change: Change,
     reply: Option<MemorySource>,
     calls: FailingCalls,
 }
 
-impl ServedSource {
+impl<P: Peer> ServedSource<P> {
     /// A source that gave nothing yet.
-    pub(crate) fn new(alloc: Global, gateway: Gateway, change: Change) -> ServedSource
+    pub(crate) fn new(alloc: Global, peer: P, change: Change) -> ServedSource<P>
         ensures { result.calls.faults ≡ 0 }
     {
         ServedSource {
             alloc,
-            gateway,
+            peer,
             change,
             reply: None,
             calls: FailingCalls::new(Vec::new(alloc)),
         }
     }
 
-    /// The gateway behind it, and what came.
-    pub(crate) fn into_parts(self) -> (Gateway, Option<MemorySource>) {
-        (self.gateway, self.reply)
+    /// The peer, and what came.
+    pub(crate) fn into_parts(self) -> (P, Option<MemorySource>) {
+        (self.peer, self.reply)
     }
 
     /// How many of its reads failed.
@@ -53,15 +53,15 @@ impl ServedSource {
             Change::Failing => None,
             Change::Says(bytes) => Vec::from_slice(self.alloc, bytes.as_slice()).ok(),
             Change::Cut(most) => {
-                let mut reply = self.gateway.reply(sent).ok()?;
+                let mut reply = self.peer.reply(sent).ok()?;
                 reply.truncate(*most);
                 Some(reply)
             }
-            _ => self.gateway.reply(sent).ok(),
+            _ => self.peer.reply(sent).ok(),
         }
     }
 
-    /// Whether there is a reply, for which the gateway is asked by the first read.
+    /// Whether there is a reply, for which the peer is asked by the first read.
     fn begin(&mut self, sent: &[u8]) -> bool
         ensures { self.new.calls ≡ self.old.calls }
     {
@@ -96,7 +96,7 @@ fn next_of(source: &mut MemorySource, buf: &mut [u8], beside: &MemorySink) -> us
     }
 }
 
-impl Source for ServedSource {
+impl<P: Peer> Source for ServedSource<P> {
     type Beside = MemorySink;
 
     ghost left = { λ s. None };
