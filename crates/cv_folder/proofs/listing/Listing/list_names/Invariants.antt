@@ -1,0 +1,9 @@
+use Rattle.std.proofs.Common.{length}
+use Rattle.cv_folder.specs.Listed.{AllBegin}
+use Rattle.cv_folder.proofs.listing.Listing.list_names.Given as goal
+
+abbrev pub invariant-loop-name : goal.invariant-loop-name
+invariant-loop-name g l = AllBegin l.prefix l.fn.self.found.items → AllBegin l.prefix l.self.found.items
+
+abbrev pub decreases-loop-name : goal.decreases-loop-name
+decreases-loop-name g l = length l.rest

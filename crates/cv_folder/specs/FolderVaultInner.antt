@@ -1,0 +1,16 @@
+-- Where a call of a vault over a folder stands. What only this crate's own functions say.
+use Rattle.std.specs.Prelude.{ℕ, ◌≡◌, List, IsTrue, string_bytes, Bool, true, false}
+use Rattle.cv_folder.specs.declared.folder_vault.FolderVault.{FolderVault}
+use Rattle.cv_folder.specs.declared.hold.Hold.{Hold}
+use Rattle.cv_folder.specs.declared.hold.Hold.TheVariants.{Absent}
+use Rattle.cv_folder.specs.FolderVault.{IsHeld}
+use Rattle.cv_folder.specs.Names.{is_name, path_of}
+
+-- this is a name of the vault, and its path is set
+abbrev pub IsAt : {S F N : Type 0} → FolderVault S F N → List ℕ → Type 0
+IsAt vault name = IsTrue (is_name name) × (vault.path ≡ path_of (string_bytes vault.root) name)
+
+-- whether there is a folder: the vault holds it, or it isn't there
+abbrev pub HasFolder : {F : Type 0} → Hold F → Bool → Type 0
+HasFolder hold true = IsHeld hold
+HasFolder hold false = hold ≡ Absent

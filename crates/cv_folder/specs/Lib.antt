@@ -1,0 +1,10 @@
+pub mod Calls
+pub mod FolderVault
+pub mod FolderVaultInner
+pub mod Listed
+pub mod Looks
+pub mod Names
+pub mod NamesInner
+pub mod Noted
+pub mod PathsInner
+pub mod WalkInner
