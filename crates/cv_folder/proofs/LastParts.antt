@@ -15,7 +15,7 @@ use Rattle.cv_base.specs.Path.{Path, last_name_of}
 use Rattle.cv_base.specs.PathText.{parts_of}
 use Rattle.cv_folder.specs.Names.{last_part, folder_of}
 use Rattle.cv_folder.specs.NamesInner.{above, without_slash}
-use Rattle.cv_folder.specs.WalkInner.{IsUnder}
+use Rattle.cv_folder.specs.Syncs.{IsUnder}
 
 -- no byte is a slash
 HasNoSlash : List ℕ → Type 0

@@ -36,6 +36,11 @@ Log = Option (List Call)
 unfoldable pub and_call : Call → Log → Log
 and_call call log = option_map (λ calls. calls ++ call ∷ []) log
 
+-- with these calls more
+abbrev pub and_calls : List Call → Log → Log
+and_calls [] log = log
+and_calls (call ∷ calls) log = and_calls calls (and_call call log)
+
 -- how a call came out that answered so
 abbrev pub outcome : {A : Type 0} → Result A Error → Outcome
 outcome (Ok x) = Done

@@ -1,23 +1,18 @@
--- What a call of a vault over a folder leaves to the next sync.
+-- What a call of a vault over a folder leaves to the next sync, and which calls of the system it makes.
 use Rattle.std.specs.Prelude.{ℕ, ◌≡◌, ◌≢◌, List, None, IsTrue, string_bytes, ⊤}
 use Rattle.cv_vault.specs.Disk.{Disk}
 use Rattle.cv_vault.specs.Moments.{Calls}
 use Rattle.cv_folder.specs.declared.folder_vault.FolderVault.{FolderVault}
 use Rattle.cv_folder.specs.declared.hold.Hold.{Hold}
-use Rattle.cv_folder.specs.declared.hold.Hold.TheVariants.{Unasked, Held, Absent, Refused}
+use Rattle.cv_folder.specs.declared.hold.Hold.TheVariants.{Unasked, Absent, Refused}
+use Rattle.cv_folder.specs.Calls.{Log}
+use Rattle.cv_folder.specs.Hold.{Asks}
 use Rattle.cv_folder.specs.Names.{folder_of, is_name, path_of}
 use Rattle.cv_folder.specs.Noted.{is_noted, Keeps}
 
 -- the folder of a name of the vault is noted
 abbrev pub Notes : {S F N : Type 0} → FolderVault S F N → List ℕ → Type 0
 Notes vault name = IsTrue (is_noted vault.folders.items (folder_of (path_of (string_bytes vault.root) name)))
-
--- the vault has its folder open and locked
-abbrev pub IsHeld : {F : Type 0} → Hold F → Type 0
-IsHeld Unasked = ⊥
-IsHeld (Held file) = ⊤
-IsHeld Absent = ⊥
-IsHeld Refused = ⊥
 
 -- once it was asked for, what the vault has of its folder stays
 abbrev pub Holds : {F : Type 0} → Hold F → Hold F → Type 0
@@ -49,3 +44,16 @@ Fails before after =
 -- the call of a vault that tells nothing of its disk, as that of any vault. Of such a vault it says nothing: it is true of any two
 abbrev pub Untold : {V : Type 0} → (Disk → Disk → Type 0) → V → V → Type 0
 Untold R before after = Calls (λ _. None) (λ _. 0) (λ _ _ _. ⊤) R before after
+
+-- no call of the system was made
+abbrev pub IsUncalled : {S F N : Type 0} → (S → Log) → FolderVault S F N → FolderVault S F N → Type 0
+IsUncalled log before after = log after.system ≡ log before.system
+
+-- no call but those by which the vault asks for its folder, if it hadn't yet
+unfoldable pub AsksAlone : {S F N : Type 0} → (S → Log) → FolderVault S F N → FolderVault S F N → Type 0
+AsksAlone log before after = Asks (string_bytes before.root) before.hold after.hold (log before.system) (log after.system)
+
+-- the vault asks for its folder, if it hadn't yet, and then it acts so
+unfoldable pub Acts : {S F N : Type 0} → (S → Log) → (Log → Log → Type 0) → FolderVault S F N → FolderVault S F N → Type 0
+Acts log Act before after =
+    (asked : Log) × Asks (string_bytes before.root) before.hold after.hold (log before.system) asked × Act asked (log after.system)

@@ -1,9 +1,12 @@
 -- Where a call of a vault over a folder stands. What only this crate's own functions say.
-use Rattle.std.specs.Prelude.{ℕ, ◌≡◌, List, IsTrue, string_bytes, Bool, true, false}
+use Rattle.std.specs.Prelude.{ℕ, ◌≡◌, ◌⊎◌, ◌+◌, List, length, IsTrue, string_bytes, Bool, true, false}
 use Rattle.cv_folder.specs.declared.folder_vault.FolderVault.{FolderVault}
 use Rattle.cv_folder.specs.declared.hold.Hold.{Hold}
 use Rattle.cv_folder.specs.declared.hold.Hold.TheVariants.{Absent}
-use Rattle.cv_folder.specs.FolderVault.{IsHeld}
+use Rattle.cv_folder.specs.Hold.{IsHeld}
+use Rattle.cv_folder.specs.Writes.{MovesFile, Prepares}
+use Rattle.cv_folder.specs.declared.seen.Seen.{Seen}
+use Rattle.cv_folder.specs.Calls.{Log}
 use Rattle.cv_folder.specs.Names.{is_name, path_of}
 
 -- this is a name of the vault, and its path is set
@@ -14,3 +17,9 @@ IsAt vault name = IsTrue (is_name name) × (vault.path ≡ path_of (string_bytes
 abbrev pub HasFolder : {F : Type 0} → Hold F → Bool → Type 0
 HasFolder hold true = IsHeld hold
 HasFolder hold false = hold ≡ Absent
+
+-- a file that was found at a path is moved to a name: folders are made on the way to it, and then the file gets it, or that fails
+unfoldable pub MovesOn : List ℕ → List ℕ → List ℕ → Seen → Bool → Log → Log → Type 0
+MovesOn root path to seen done before after =
+    (ready : Log) × Prepares (length root + 1) (path_of root to) before ready
+        × (((done ≡ false) × (after ≡ ready)) ⊎ MovesFile path (path_of root to) seen done ready after)

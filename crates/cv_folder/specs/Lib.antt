@@ -1,10 +1,16 @@
 pub mod Calls
 pub mod FolderVault
 pub mod FolderVaultInner
+pub mod Hold
 pub mod Listed
 pub mod Looks
 pub mod Names
 pub mod NamesInner
 pub mod Noted
-pub mod PathsInner
+pub mod Passed
+pub mod Reads
+pub mod Steps
+pub mod Syncs
+pub mod SyncsInner
 pub mod WalkInner
+pub mod Writes

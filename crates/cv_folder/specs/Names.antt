@@ -32,3 +32,7 @@ abbrev pub folder_of : List ℕ → List ℕ
 folder_of path =
     if length (last_part path) == length path then codes "./"
     else take (length path - length (last_part path)) path
+
+-- the path of the own file beside a name
+abbrev pub next_of : List ℕ → List ℕ → List ℕ
+next_of root name = folder_of (path_of root name) ++ codes ".cvkit-next"

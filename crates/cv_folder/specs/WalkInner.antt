@@ -30,10 +30,6 @@ end_of kept = slice_index_or kept (length kept - 1) []
 abbrev pub folder_in : List ℕ → List ℕ → List ℕ
 folder_in folder name = (folder ++ name) ++ 47 ∷ []
 
--- this path begins with that of the folder at the top of a walk, whose path has no slash at its end
-unfoldable pub IsUnder : List ℕ → List ℕ → Type 0
-IsUnder top path = (rest : List ℕ) × (path ≡ (top ++ 47 ∷ []) ++ rest)
-
 -- what has this name comes next, if it is a folder: the name may be a part of one, and the system takes the folder's path
 abbrev pub IsNext : List ℕ → List ℕ → List ℕ → List (List ℕ) → Type 0
 IsNext folder name last kept =

@@ -1,32 +1,24 @@
 //! A vault over a folder.
-ghost use Rattle.std.specs.Prelude.{◌≡◌, ◌≢◌, ◌<◌, ◌+◌, ◌↔◌, ◌⊎◌, ◌++◌, [], ◌∷◌, length, true, false, None, Ok, Err, IfOk, IsOk, IsErrOf, IsTrue, OnErr, OnOk, codes, string_bytes, ⊤};
-ghost use Rattle.std.specs.IoError.{error_kind, raw_os_error};
+ghost use Rattle.std.specs.Prelude.{◌≡◌, ◌≢◌, ◌⊎◌, [], map, true, false, None, Ok, Err, IfOk, IsErrOf, IsTrue, OnErr, OnOk, is_ok, string_bytes, ⊤};
 ghost use Rattle.cv_base.specs.Counts.{HasCause};
 ghost use Rattle.cv_vault.specs.Disk.{Reads, Measures, Lists, Writes, Renames, Removes, Syncs};
 ghost use Rattle.cv_vault.specs.declared.vault.VaultFault.TheVariants.{Failed, NoMemory};
-ghost use Rattle.cv_folder.specs.Names.{is_name, folder_of, path_of};
-ghost use Rattle.cv_folder.specs.FolderVault.{Untold, IsHeld, Holds, Notes, Serves, Stays, Adds, Fails};
+ghost use Rattle.cv_folder.specs.FolderVault.{Acts, Adds, AsksAlone, Fails, Holds, IsUncalled, Notes, Serves, Stays, Untold};
+ghost use Rattle.cv_folder.specs.Hold.{IsHeld};
 ghost use Rattle.cv_folder.specs.Listed.{IsListed};
-ghost use Rattle.cv_folder.specs.Noted.{is_noted};
-ghost use Rattle.cv_folder.specs.FolderVaultInner.{HasFolder, IsAt};
+ghost use Rattle.cv_folder.specs.Names.{is_name};
+ghost use Rattle.cv_folder.specs.Reads.{MeasuresNamed, ReadsNamed};
+ghost use Rattle.cv_folder.specs.Steps.{Quiet};
+ghost use Rattle.cv_folder.specs.Syncs.{SyncsHeld};
+ghost use Rattle.cv_folder.specs.Writes.{MovesNamed, RemovesNamed, WritesFile};
 
-use crate::hold::{Hold, hold_of, make_held, refused};
-use crate::names::{NEXT, folder_of, is_name, is_root};
-use crate::listing::list_files;
-use crate::looks::{find_file, is_memory, read_found};
-use crate::making::make_folders;
-use crate::noting::{note, note_or_all};
+use crate::hold::Hold;
 use crate::path_buffer::PathBuffer;
-use crate::putting::{move_file, put_file};
-use crate::seen::Seen;
-use crate::syncing::{Unsynced, sync_folder, sync_folders};
 use crate::system::System;
 use crate::walk::Walk;
 use cv_base::{Bytes, Text};
 use cv_vault::{Vault, VaultFault};
 use std::alloc::{AllocError, Global};
-use std::io;
-use std::io::ErrorKind;
 
 /// A vault over a folder of regular files, in which each name is the path below the folder.
 ///
@@ -47,25 +39,25 @@ use std::io::ErrorKind;
 /// machine alone. Nobody else may change the folder meanwhile.
 #[derive(Drop)]
 pub struct FolderVault<S: System + Drop> {
-    system: S,
-    alloc: Global,
+    pub(crate) system: S,
+    pub(crate) alloc: Global,
     /// The folder's path, without a slash at its end.
-    root: String,
+    pub(crate) root: String,
     /// The path of the name that a call is about.
-    path: PathBuffer,
+    pub(crate) path: PathBuffer,
     /// The path of the adapter's own file beside that name.
-    next: PathBuffer,
+    pub(crate) next: PathBuffer,
     /// The folders to be synced.
-    folders: Vec<String>,
+    pub(crate) folders: Vec<String>,
     /// Whether all folders are to be synced, also those that an earlier process changed.
-    is_unsettled: bool,
+    pub(crate) is_unsettled: bool,
     /// The room of the sync that goes over all folders.
-    walk: Walk,
-    hold: Hold<S::File>,
+    pub(crate) walk: Walk,
+    pub(crate) hold: Hold<S::File>,
     /// Whether the system lost what was written to a folder.
-    broken: bool,
+    pub(crate) broken: bool,
     /// How many calls failed. The count stays at its last value.
-    faults: u64,
+    pub(crate) faults: u64,
 }
 
 impl<S: System + Drop> FolderVault<S> {
@@ -92,304 +84,6 @@ impl<S: System + Drop> FolderVault<S> {
             faults: 0,
         })
     }
-
-    /// What the vault has of its folder: it holds it, if it is there.
-    fn hold_now(&mut self) -> io::Result<Hold<S::File>>
-        ensures stays { Stays self.old self.new }
-        ensures faults { self.new.faults ≡ self.old.faults }
-    {
-        if !is_root(self.root.as_str()) || self.set_root().is_err() {
-            return Ok(Hold::Refused);
-        }
-        hold_of(&mut self.system, self.path.as_str())
-    }
-
-    /// Makes the folder, which wasn't there, and holds it. What another process has made there since isn't taken: each
-    /// later call of the vault fails.
-    fn make_root(&mut self) -> io::Result<()>
-        requires { self.old.hold ≡ Hold.Absent }
-        ensures held { OnOk result (IsHeld self.new.hold) }
-        ensures noted { OnOk result
-            (IsTrue (is_noted self.new.folders.items (folder_of (string_bytes self.old.root)))) }
-        ensures adds { Adds self.old self.new }
-        ensures faults { self.new.faults ≡ self.old.faults }
-    {
-        note(&mut self.folders, folder_of(self.root.as_str()))?;
-        self.set_root()?;
-        match make_held(&mut self.system, self.root.as_str(), self.path.as_str())? {
-            Some(open) => {
-                self.hold = Hold::Held(open);
-                Ok(())
-            }
-            None => {
-                self.hold = Hold::Refused;
-                Err(refused())
-            }
-        }
-    }
-
-    /// Sets the path of the folder, with a slash at its end.
-    fn set_root(&mut self) -> io::Result<()>
-        ensures ok { IsOk result ↔ (length (string_bytes self.old.root) + 1 < 4096) }
-        ensures path { OnOk result (self.new.path ≡ string_bytes self.old.root ++ 47 ∷ []) }
-        ensures stays { Stays self.old self.new }
-        ensures faults { self.new.faults ≡ self.old.faults }
-    {
-        if self.path.set(self.root.as_str(), "/") {
-            Ok(())
-        } else {
-            Err(refused())
-        }
-    }
-
-    /// Sets the path of a name. A text that is none is refused, and one whose path is longer than the system takes.
-    fn set_path(&mut self, name: &str) -> io::Result<()>
-        ensures ok { IsOk result ↔ IsTrue (is_name name.now) × (length (string_bytes self.old.root) + length name.now + 1 < 4096) }
-        ensures path { OnOk result (self.new.path ≡ path_of (string_bytes self.old.root) name.now) }
-        ensures stays { Stays self.old self.new }
-        ensures faults { self.new.faults ≡ self.old.faults }
-    {
-        if is_name(name) && self.path.set_below(self.root.as_str(), name) {
-            Ok(())
-        } else {
-            Err(refused())
-        }
-    }
-
-    /// Sets the path of the own file beside the path that is set.
-    fn set_next(&mut self) -> io::Result<()>
-        ensures ok { IsOk result ↔ (length (folder_of self.old.path) + 11 < 4096) }
-        ensures next { OnOk result (self.new.next ≡ folder_of self.old.path ++ codes ".cvkit-next") }
-        ensures path { self.new.path ≡ self.old.path }
-        ensures stays { Stays self.old self.new }
-        ensures faults { self.new.faults ≡ self.old.faults }
-    {
-        if self.next.set(folder_of(self.path.as_str()), NEXT) {
-            Ok(())
-        } else {
-            Err(refused())
-        }
-    }
-
-    /// Makes the path of a name, and tells whether the vault has a folder.
-    fn begin(&mut self, name: &str) -> io::Result<bool>
-        ensures held { IfOk result (λ has. HasFolder self.new.hold has) }
-        ensures path { OnOk result (IsAt self.new name.now × (self.old.hold ≢ Hold.Refused)) }
-        ensures stays { Stays self.old self.new }
-        ensures faults { self.new.faults ≡ self.old.faults }
-    {
-        let held = self.is_held()?;
-        self.set_path(name)?;
-        Ok(held)
-    }
-
-    /// Whether the vault has a folder. What was there before it was held is unsettled.
-    fn is_held(&mut self) -> io::Result<bool>
-        ensures unsettled { self.old.hold ≡ Hold.Unasked → result ≡ Ok true
-            → IsTrue self.new.is_unsettled }
-        ensures held { IfOk result (λ has. HasFolder self.new.hold has) }
-        ensures refused { OnOk result (self.old.hold ≢ Hold.Refused) }
-        ensures stays { Stays self.old self.new }
-        ensures faults { self.new.faults ≡ self.old.faults }
-    {
-        if matches!(self.hold, Hold::Unasked) {
-            self.hold = self.hold_now()?;
-            self.is_unsettled |= matches!(self.hold, Hold::Held(_));
-        }
-        match &self.hold {
-            Hold::Held(_) => Ok(true),
-            Hold::Absent => Ok(false),
-            Hold::Unasked | Hold::Refused => Err(refused()),
-        }
-    }
-
-    /// The file of a name, if it is there. Its path is then set.
-    fn find(&mut self, name: &str) -> io::Result<Option<Seen>>
-        ensures path { OnOk result (IsAt self.new name.now × (self.old.hold ≢ Hold.Refused)) }
-        ensures stays { Stays self.old self.new }
-        ensures faults { self.new.faults ≡ self.old.faults }
-    {
-        if !self.begin(name)? {
-            return Ok(None);
-        }
-        find_file(&mut self.system, self.path.as_str(), self.root.len() + 1)
-    }
-
-    /// One more fault.
-    fn fault(&mut self) -> VaultFault
-        ensures fault { result ≡ Failed }
-        ensures stays { Stays self.old self.new }
-        ensures cause { HasCause self.old.faults self.new.faults ⊤ }
-    {
-        self.faults = self.faults.saturating_add(1);
-        VaultFault::Failed
-    }
-
-    /// Want of memory, or one more fault.
-    fn fault_of(&mut self, error: &io::Error) -> VaultFault
-        ensures memory { (result ≡ NoMemory)
-            ↔ (error_kind error.now ≡ ErrorKind.OutOfMemory) × (raw_os_error error.now ≡ None) }
-        ensures cause { HasCause self.old.faults self.new.faults (result ≡ Failed) }
-        ensures stays { Stays self.old self.new }
-    {
-        if is_memory(error) {
-            VaultFault::NoMemory
-        } else {
-            self.fault()
-        }
-    }
-
-    fn read_now(&mut self, name: &str) -> io::Result<Option<Vec<u8>>>
-        ensures refused { OnOk result (Serves self.old name.now) }
-        ensures stays { Stays self.old self.new }
-        ensures faults { self.new.faults ≡ self.old.faults }
-    {
-        let Some(found) = self.find(name)? else {
-            return Ok(None);
-        };
-        Ok(Some(read_found(&mut self.system, self.alloc, self.path.as_str(), &found)?))
-    }
-
-    fn length_now(&mut self, name: &str) -> io::Result<Option<u64>>
-        ensures refused { OnOk result (Serves self.old name.now) }
-        ensures stays { Stays self.old self.new }
-        ensures faults { self.new.faults ≡ self.old.faults }
-    {
-        Ok(self.find(name)?.map(|found| found.length))
-    }
-
-    fn list_now(&mut self, prefix: &str) -> io::Result<Vec<Text>>
-        ensures listed { IfOk result (λ names. IsListed prefix.now names.items) }
-        ensures refused { OnOk result (self.old.hold ≢ Hold.Refused) }
-        ensures stays { Stays self.old self.new }
-        ensures faults { self.new.faults ≡ self.old.faults }
-    {
-        if !self.is_held()? {
-            return Ok(Vec::new(self.alloc));
-        }
-        list_files(&mut self.system, self.alloc, self.root.as_str(), prefix)
-    }
-
-    /// Makes the path of a name, and the vault's folder, if none is there.
-    fn begin_write(&mut self, name: &str) -> io::Result<()>
-        ensures held { OnOk result (IsHeld self.new.hold × (self.old.hold ≢ Hold.Refused)) }
-        ensures path { OnOk result (IsAt self.new name.now) }
-        ensures adds { Adds self.old self.new }
-        ensures faults { self.new.faults ≡ self.old.faults }
-    {
-        if self.begin(name)? {
-            return Ok(());
-        }
-        self.make_root()?;
-        self.set_path(name)
-    }
-
-    fn write_now(&mut self, name: &str, bytes: &[u8]) -> io::Result<()>
-        ensures refused { OnOk result (Serves self.old name.now × IsHeld self.new.hold) }
-        ensures noted { OnOk result (Notes self.new name.now) }
-        ensures adds { Adds self.old self.new }
-        ensures faults { self.new.faults ≡ self.old.faults }
-    {
-        self.begin_write(name)?;
-        self.set_next()?;
-        let from = self.root.len() + 1;
-        make_folders(&mut self.system, self.path.as_str(), from, &mut self.folders)?;
-        put_file(&mut self.system, self.next.as_str(), self.path.as_str(), bytes)
-    }
-
-    /// Whether the file was there. A name doesn't take the place of itself.
-    fn rename_now(&mut self, from: &str, to: &str) -> io::Result<bool>
-        ensures refused { OnOk result (Serves self.old from.now × Serves self.old to.now) }
-        ensures other { OnOk result (from.now ≢ to.now) }
-        ensures left { result ≡ Ok true → Notes self.new from.now }
-        ensures noted { result ≡ Ok true → Notes self.new to.now }
-        ensures adds { Adds self.old self.new }
-        ensures faults { self.new.faults ≡ self.old.faults }
-    {
-        if from == to || !is_name(to) {
-            return Err(refused());
-        }
-        let Some(found) = self.find(from)? else {
-            return Ok(false);
-        };
-        let source = String::from_str(self.alloc, self.path.as_str())?;
-        self.set_path(to)?;
-        note(&mut self.folders, folder_of(source.as_str()))?;
-        let from = self.root.len() + 1;
-        make_folders(&mut self.system, self.path.as_str(), from, &mut self.folders)?;
-        move_file(&mut self.system, source.as_str(), &found, self.path.as_str())?;
-        Ok(true)
-    }
-
-    /// Whether the file was there. Where there is no room to note the folder, the next sync goes over all of them.
-    fn remove_now(&mut self, name: &str) -> io::Result<bool>
-        ensures refused { OnOk result (Serves self.old name.now) }
-        ensures noted { result ≡ Ok true → Notes self.new name.now ⊎ IsTrue self.new.is_unsettled }
-        ensures adds { Adds self.old self.new }
-        ensures faults { self.new.faults ≡ self.old.faults }
-    {
-        if self.find(name)?.is_none() {
-            return Ok(false);
-        }
-        let folder = folder_of(self.path.as_str());
-        note_or_all(&mut self.folders, folder, &mut self.is_unsettled);
-        self.system.remove_file(self.path.as_str())?;
-        Ok(true)
-    }
-
-    /// Makes the folders durable that changed, or all of them where an earlier process may have changed some.
-    fn sync_changed(&mut self) -> Result<(), Unsynced>
-        ensures stays { Stays self.old self.new }
-        ensures faults { self.new.faults ≡ self.old.faults }
-    {
-        if self.is_unsettled {
-            sync_folder(&mut self.system, folder_of(self.root.as_str()))?;
-            self.walk.sync_all(&mut self.system, self.root.as_str())?;
-        }
-        sync_folders(&mut self.system, &self.folders)
-    }
-
-    /// Ends a sync: what it made durable is done, and what the system lost is so from now on.
-    fn end_sync(&mut self, done: Result<(), Unsynced>) -> io::Result<()>
-        ensures ok { IsOk result ↔ IsOk done }
-        ensures done { OnOk result ((self.new.folders.items ≡ []) × (self.new.is_unsettled ≡ false)) }
-        ensures lost { done ≡ Err Unsynced.Lost → IsTrue self.new.broken }
-        ensures whole { done ≢ Err Unsynced.Lost → self.new.broken ≡ self.old.broken }
-        ensures fails { OnErr result (Fails self.old self.new) }
-        ensures root { (self.new.root ≡ self.old.root) × Holds self.old.hold self.new.hold }
-        ensures faults { self.new.faults ≡ self.old.faults }
-    {
-        match done {
-            Ok(()) => {
-                self.is_unsettled = false;
-                self.folders.clear();
-                Ok(())
-            }
-            Err(Unsynced::NotOpened) => Err(refused()),
-            Err(Unsynced::Lost) => {
-                self.broken = true;
-                Err(refused())
-            }
-        }
-    }
-
-    /// Nothing is to be synced where no folder is there.
-    fn sync_now(&mut self) -> io::Result<()>
-        ensures lost { OnOk result ((self.old.broken ≡ false) × (self.new.broken ≡ false)) }
-        ensures refused { OnOk result (self.old.hold ≢ Hold.Refused) }
-        ensures fails { OnErr result (Fails self.old self.new) }
-        ensures root { (self.new.root ≡ self.old.root) × Holds self.old.hold self.new.hold }
-        ensures faults { self.new.faults ≡ self.old.faults }
-    {
-        if self.broken {
-            return Err(refused());
-        }
-        if !self.is_held()? {
-            return Ok(());
-        }
-        let done = self.sync_changed();
-        self.end_sync(done)
-    }
 }
 
 impl<S: System + Drop> Vault for FolderVault<S> {
@@ -410,10 +104,10 @@ impl<S: System + Drop> Vault for FolderVault<S> {
         ensures cause { HasCause self.old.faults self.new.faults (IsErrOf result Failed) }
         ensures refused { OnOk result (Serves self.old name.now) }
         ensures stays { Stays self.old self.new }
+        ensures calls { Acts S.log (ReadsNamed (string_bytes self.old.root) name.now self.new.hold result) self.old self.new }
     {
         match self.read_now(name) {
-            Ok(Some(bytes)) => Ok(Some(Bytes::new(bytes))),
-            Ok(None) => Ok(None),
+            Ok(bytes) => Ok(bytes),
             Err(error) => Err(self.fault_of(&error)),
         }
     }
@@ -423,6 +117,7 @@ impl<S: System + Drop> Vault for FolderVault<S> {
         ensures cause { HasCause self.old.faults self.new.faults (IsErrOf result Failed) }
         ensures refused { OnOk result (Serves self.old name.now) }
         ensures stays { Stays self.old self.new }
+        ensures calls { Acts S.log (MeasuresNamed (string_bytes self.old.root) name.now self.new.hold result) self.old self.new }
     {
         match self.length_now(name) {
             Ok(length) => Ok(length),
@@ -436,6 +131,7 @@ impl<S: System + Drop> Vault for FolderVault<S> {
         ensures refused { OnOk result (self.old.hold ≢ Hold.Refused) }
         ensures cause { HasCause self.old.faults self.new.faults (IsErrOf result Failed) }
         ensures stays { Stays self.old self.new }
+        ensures calls { Acts S.log Quiet self.old self.new }
     {
         match self.list_now(prefix) {
             Ok(names) => Ok(names),
@@ -449,6 +145,10 @@ impl<S: System + Drop> Vault for FolderVault<S> {
         ensures refused { OnOk result (Serves self.old name.now × IsHeld self.new.hold) }
         ensures noted { OnOk result (Notes self.new name.now) }
         ensures adds { Adds self.old self.new }
+        ensures calls { WritesFile (string_bytes self.old.root) name.now bytes.now self.old.hold (is_ok result)
+            (S.log self.old.system) (S.log self.new.system) }
+        ensures no_name { is_name name.now ≡ false
+            → AsksAlone S.log self.old self.new }
     {
         match self.write_now(name, bytes) {
             Ok(()) => Ok(()),
@@ -464,6 +164,9 @@ impl<S: System + Drop> Vault for FolderVault<S> {
         ensures left { result ≡ Ok true → Notes self.new from.now }
         ensures noted { result ≡ Ok true → Notes self.new to.now }
         ensures adds { Adds self.old self.new }
+        ensures calls { IsTrue (is_name to.now)
+            → Acts S.log (MovesNamed (string_bytes self.old.root) from.now to.now self.new.hold result) self.old self.new }
+        ensures no_name { is_name to.now ≡ false → IsUncalled S.log self.old self.new }
     {
         match self.rename_now(from, to) {
             Ok(found) => Ok(found),
@@ -478,6 +181,7 @@ impl<S: System + Drop> Vault for FolderVault<S> {
         ensures refused { OnOk result (Serves self.old name.now) }
         ensures noted { result ≡ Ok true → Notes self.new name.now ⊎ IsTrue self.new.is_unsettled }
         ensures adds { Adds self.old self.new }
+        ensures calls { Acts S.log (RemovesNamed (string_bytes self.old.root) name.now self.new.hold result) self.old self.new }
     {
         match self.remove_now(name) {
             Ok(found) => Ok(found),
@@ -493,6 +197,7 @@ impl<S: System + Drop> Vault for FolderVault<S> {
         ensures refused { OnOk result (self.old.hold ≢ Hold.Refused) }
         ensures fails { OnErr result (Fails self.old self.new) }
         ensures root { (self.new.root ≡ self.old.root) × Holds self.old.hold self.new.hold }
+        ensures calls { OnOk result (Acts S.log (SyncsHeld (string_bytes self.old.root) self.old.hold self.new.hold self.old.is_unsettled (map string_bytes self.old.folders.items)) self.old self.new) }
     {
         match self.sync_now() {
             Ok(()) => Ok(()),

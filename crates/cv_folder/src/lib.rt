@@ -1,6 +1,7 @@
 //! A vault over a folder, and the trait of what it asks of the system.
 #![tactic(auto)]
 
+mod acting;
 mod ahead;
 mod cut;
 mod folder_vault;

@@ -4,10 +4,12 @@ ghost use Rattle.std.specs.List.{Contains, starts_with};
 ghost use Rattle.std.specs.List.Sorted.{IsStrictlySortedBy};
 ghost use Rattle.cv_base.specs.Path.{name_cmp, same_name};
 ghost use Rattle.cv_folder.specs.Listed.{AllBegin, IsListed};
+ghost use Rattle.cv_folder.specs.Steps.{Quiet};
 
 use crate::cut::{NAMES_ROOM, cut_name};
 use crate::looks::{is_no_name, seen_entry};
 use crate::names::is_part;
+use crate::seen::Seen;
 use crate::system::System;
 use cv_base::Text;
 use std::alloc::{AllocError, Global};
@@ -66,7 +68,8 @@ pub fn list_files<S: System>(
     root: &str,
     prefix: &str,
 ) -> io::Result<Vec<Text>>
-    ensures { IfOk result (λ names. IsListed prefix.now names.items) }
+    ensures listed { IfOk result (λ names. IsListed prefix.now names.items) }
+    ensures quiet { Quiet (S.log system.old) (S.log system.new) }
 {
     let mut listing = Listing {
         alloc,
@@ -100,6 +103,29 @@ impl Listing {
         Ok(())
     }
 
+    /// Adds what was seen at a name: a file whose name begins with the prefix, or a folder that may hold others.
+    fn add_found(
+        &mut self,
+        found: Option<Seen>,
+        name: String,
+        below: String,
+        prefix: &str,
+    ) -> io::Result<()>
+        ensures { AllBegin prefix.now self.old.found.items → AllBegin prefix.now self.new.found.items }
+    {
+        let Some(found) = found else {
+            return Ok(());
+        };
+        if found.is_folder() {
+            self.todo.push(below).map_err(AllocError::from)?;
+            return Ok(());
+        }
+        if found.is_file() {
+            self.add(name, prefix)?;
+        }
+        Ok(())
+    }
+
     /// Adds what stands in a folder under this name: a file whose name begins with the prefix, or a folder that may hold others.
     /// No text that isn't UTF-8 is a name of the vault.
     fn list_entry<S: System>(
@@ -110,7 +136,8 @@ impl Listing {
         bytes: &[u8],
         prefix: &str,
     ) -> io::Result<()>
-        ensures { AllBegin prefix.now self.old.found.items → AllBegin prefix.now self.new.found.items }
+        ensures begin { AllBegin prefix.now self.old.found.items → AllBegin prefix.now self.new.found.items }
+        ensures quiet { Quiet (S.log system.old) (S.log system.new) }
     {
         let Ok(last) = str::from_utf8(bytes) else {
             return Ok(());
@@ -124,17 +151,8 @@ impl Listing {
             return Ok(());
         }
         let path = format!(in self.alloc; "{root}/{name}")?;
-        let Some(found) = seen_entry(system, path.as_str())? else {
-            return Ok(());
-        };
-        if found.is_folder() {
-            self.todo.push(below).map_err(AllocError::from)?;
-            return Ok(());
-        }
-        if found.is_file() {
-            self.add(name, prefix)?;
-        }
-        Ok(())
+        let found = seen_entry(system, path.as_str())?;
+        self.add_found(found, name, below, prefix)
     }
 
     /// Adds what stands in a folder under each of these names, between which NULs stand.
@@ -146,7 +164,8 @@ impl Listing {
         names: &[u8],
         prefix: &str,
     ) -> io::Result<()>
-        ensures { AllBegin prefix.now self.old.found.items → AllBegin prefix.now self.new.found.items }
+        ensures begin { AllBegin prefix.now self.old.found.items → AllBegin prefix.now self.new.found.items }
+        ensures quiet { Quiet (S.log system.old) (S.log system.new) }
     {
         let mut rest = names;
         while let Some((name, others)) = cut_name(rest) {
@@ -156,18 +175,19 @@ impl Listing {
         self.list_entry(system, root, folder, rest, prefix)
     }
 
-    /// Adds the files of a folder whose names begin with the prefix, and the folders that may hold others.
-    fn list_folder<S: System>(
+    /// Adds the files of a folder that is open whose names begin with the prefix, and the folders that may hold others.
+    fn list_open<S: System>(
         &mut self,
         system: &mut S,
         root: &str,
         folder: &str,
+        open: S::Names,
         prefix: &str,
     ) -> io::Result<()>
-        ensures { AllBegin prefix.now self.old.found.items → AllBegin prefix.now self.new.found.items }
+        ensures begin { AllBegin prefix.now self.old.found.items → AllBegin prefix.now self.new.found.items }
+        ensures quiet { Quiet (S.log system.old) (S.log system.new) }
     {
-        let at = format!(in self.alloc; "{root}/{folder}")?;
-        let mut open = system.open_names(at.as_str())?;
+        let mut open = open;
         let mut names = vec![in self.alloc; 0u8; NAMES_ROOM]?;
         // Each turn but the last takes names of the disk; the bound is never met.
         for _ in 0..u64::MAX {
@@ -178,5 +198,21 @@ impl Listing {
             self.list_names(system, root, folder, &names[..count], prefix)?;
         }
         Err(io::Error::from(ErrorKind::TimedOut))
+    }
+
+    /// Adds what stands in a folder whose name begins with the prefix, and the folders that may hold others.
+    fn list_folder<S: System>(
+        &mut self,
+        system: &mut S,
+        root: &str,
+        folder: &str,
+        prefix: &str,
+    ) -> io::Result<()>
+        ensures begin { AllBegin prefix.now self.old.found.items → AllBegin prefix.now self.new.found.items }
+        ensures quiet { Quiet (S.log system.old) (S.log system.new) }
+    {
+        let at = format!(in self.alloc; "{root}/{folder}")?;
+        let open = system.open_names(at.as_str())?;
+        self.list_open(system, root, folder, open, prefix)
     }
 }

@@ -2,7 +2,10 @@
 ghost use Rattle.std.specs.Prelude.{◌≡◌, ◌↔◌, ◌==◌, ◌+◌, ◌<◌, ◌++◌, [], ◌∷◌, All, drop, length, map, IfOk, IfErr, IfSome, IsOk, IsErr, IsSome, IsTrue, OnOk, true, false, if◌then◌else◌};
 ghost use Rattle.std.specs.IoError.{error_kind};
 ghost use Rattle.std.specs.List.{starts_with};
-ghost use Rattle.cv_folder.specs.PathsInner.{IsPassed, Settles};
+ghost use Rattle.cv_folder.specs.Passed.{IsPassed};
+ghost use Rattle.cv_folder.specs.Steps.{IsLook, Makes};
+ghost use Rattle.cv_folder.specs.Syncs.{ClearsFolder, SettlesFolder};
+ghost use Rattle.cv_folder.specs.SyncsInner.{Settles};
 ghost use Rattle.cv_folder.specs.WalkInner.{comes_next, first_of, folder_in, IsNext, Looks, with_path};
 
 use crate::ahead::Ahead;
@@ -113,11 +116,26 @@ impl Place {
         ensures last { self.new.last ≡ self.old.last }
         ensures ahead { self.new.ahead ≡ self.old.ahead }
         ensures found { self.new.found ≡ self.old.found }
+        ensures calls { Makes IsLook (S.log system.old) (S.log system.new) }
     {
         if !self.entry.set(self.folder.as_str(), ".") {
             return true;
         }
         is_shut(&seen(system, self.entry.as_str()))
+    }
+
+    /// Whether the folder is closed to this process, which may not do what gave this error.
+    fn is_closed_by<S: System>(&mut self, system: &mut S, error: &io::Error) -> bool
+        ensures folder { self.new.folder ≡ self.old.folder }
+        ensures last { self.new.last ≡ self.old.last }
+        ensures ahead { self.new.ahead ≡ self.old.ahead }
+        ensures found { self.new.found ≡ self.old.found }
+        ensures calls { Makes IsLook (S.log system.old) (S.log system.new) }
+    {
+        if !is_refused(error) {
+            return false;
+        }
+        self.is_closed(system)
     }
 
     /// Passes over an error in the folder where no name of the vault is behind it. Any other ends the sync.
@@ -129,8 +147,9 @@ impl Place {
         ensures passed { IsPassed (error_kind error.now) false → IsOk result }
         ensures refused { IsOk result → IsPassed (error_kind error.now) true }
         ensures ends { IfErr result (λ unsynced. unsynced ≡ Unsynced.NotOpened) }
+        ensures calls { Makes IsLook (S.log system.old) (S.log system.new) }
     {
-        let is_closed = is_refused(error) && self.is_closed(system);
+        let is_closed = self.is_closed_by(system, error);
         if is_passed(error, is_closed) {
             Ok(())
         } else {
@@ -165,6 +184,7 @@ impl Place {
         ensures ahead { self.new.ahead ≡ self.old.ahead }
         ensures found { self.new.found ≡ self.old.found }
         ensures ends { IfErr result (λ unsynced. unsynced ≡ Unsynced.NotOpened) }
+        ensures calls { Makes IsLook (S.log system.old) (S.log system.new) }
     {
         match seen_entry(system, self.entry.as_str()) {
             Ok(seen) => Ok(is_folder(&seen)),
@@ -194,6 +214,7 @@ impl Place {
         ensures last { self.new.last ≡ self.old.last }
         ensures ahead { Looks self.old.folder self.old.last bytes.now self.old.ahead self.new.ahead }
         ensures ends { IfErr result (λ unsynced. unsynced ≡ Unsynced.NotOpened) }
+        ensures calls { Makes IsLook (S.log system.old) (S.log system.new) }
     {
         let Ok(name) = str::from_utf8(bytes) else {
             return Ok(());
@@ -232,6 +253,7 @@ impl Place {
         ensures folder { self.new.folder ≡ self.old.folder }
         ensures last { self.new.last ≡ self.old.last }
         ensures ahead { self.new.ahead ≡ self.old.ahead }
+        ensures calls { ClearsFolder self.old.folder (S.log system.old) (S.log system.new) }
     {
         if !self.entry.set(self.folder.as_str(), NEXT) {
             return;
@@ -250,6 +272,8 @@ impl Place {
         ensures last { self.new.last ≡ self.old.last }
         ensures ahead { self.new.ahead ≡ self.old.ahead }
         ensures settles { Settles synced.now result }
+        ensures calls { Makes IsLook (S.log system.old) (S.log system.new) }
+        ensures synced { IsOk synced.now → S.log system.new ≡ S.log system.old }
     {
         match synced {
             Ok(synced) => told(synced),
@@ -263,6 +287,7 @@ impl Place {
         ensures folder { self.new.folder ≡ self.old.folder }
         ensures last { self.new.last ≡ self.old.last }
         ensures ahead { self.new.ahead ≡ self.old.ahead }
+        ensures calls { OnOk result (SettlesFolder self.old.folder (S.log system.old) (S.log system.new)) }
     {
         self.remove_left(system);
         let synced = sync_at(system, self.folder.as_str());

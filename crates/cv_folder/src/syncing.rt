@@ -1,6 +1,8 @@
 //! Folders made durable.
-ghost use Rattle.std.specs.Prelude.{◌≡◌, ◌↔◌, IfErr, IsOk};
-ghost use Rattle.cv_folder.specs.PathsInner.{Ends};
+ghost use Rattle.std.specs.Prelude.{◌≡◌, ◌↔◌, [], ◌∷◌, IfErr, IsOk, is_ok, map, string_bytes};
+ghost use Rattle.cv_folder.specs.Steps.{Tries};
+ghost use Rattle.cv_folder.specs.Syncs.{syncs};
+ghost use Rattle.cv_folder.specs.SyncsInner.{Ends, SyncsAt};
 
 use crate::system::System;
 use std::io;
@@ -16,7 +18,9 @@ pub enum Unsynced {
 }
 
 /// What the system gives as a folder is opened and, where it was, synced.
-pub fn sync_at<S: System>(system: &mut S, folder: &str) -> io::Result<io::Result<()>> {
+pub fn sync_at<S: System>(system: &mut S, folder: &str) -> io::Result<io::Result<()>>
+    ensures { SyncsAt folder.now result (S.log system.old) (S.log system.new) }
+{
     match system.open(folder) {
         Ok(open) => Ok(system.sync(&open)),
         Err(error) => Err(error),
@@ -45,12 +49,16 @@ fn told_of(synced: &io::Result<io::Result<()>>) -> Result<(), Unsynced>
 }
 
 /// Makes a folder durable.
-pub fn sync_folder<S: System>(system: &mut S, folder: &str) -> Result<(), Unsynced> {
+pub fn sync_folder<S: System>(system: &mut S, folder: &str) -> Result<(), Unsynced>
+    ensures { Tries (syncs (folder.now ∷ [])) (is_ok result) (S.log system.old) (S.log system.new) }
+{
     told_of(&sync_at(system, folder))
 }
 
 /// Makes each folder durable.
-pub fn sync_folders<S: System>(system: &mut S, folders: &Vec<String>) -> Result<(), Unsynced> {
+pub fn sync_folders<S: System>(system: &mut S, folders: &Vec<String>) -> Result<(), Unsynced>
+    ensures { Tries (syncs (map string_bytes folders.now.items)) (is_ok result) (S.log system.old) (S.log system.new) }
+{
     for folder in folders {
         sync_folder(system, folder.as_str())?;
     }

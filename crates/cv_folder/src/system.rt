@@ -1,6 +1,6 @@
 //! What a vault over a folder asks of the system.
 ghost use Rattle.std.specs.Prelude.{◌≡◌, ℕ, List, IfOk, IsSome, length, ◌≤◌};
-ghost use Rattle.cv_folder.specs.Calls.{Log, Call, and_call, outcome, told, told_bytes};
+ghost use Rattle.cv_folder.specs.Calls.{Log, and_call, outcome, told, told_bytes};
 ghost use Rattle.cv_folder.specs.Calls.{Looked, Opened, Created, Wrote, Synced, Checked, Read};
 ghost use Rattle.cv_folder.specs.Calls.{Locked, Renamed, Removed, Made, Unmade, Entered, Named};
 

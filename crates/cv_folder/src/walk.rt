@@ -2,7 +2,9 @@
 ghost use Rattle.std.specs.Prelude.{◌≡◌, ◌==◌, ◌+◌, ◌++◌, [], ◌∷◌, All, length, IfOk, IfErr, Ok, Err, OnOk, true, false, ◌≤◌};
 ghost use Rattle.std.specs.List.{starts_with};
 ghost use Rattle.cv_folder.specs.NamesInner.{above};
-ghost use Rattle.cv_folder.specs.WalkInner.{first_of, IsUnder, LooksAtAll, LooksRound, names_in};
+ghost use Rattle.cv_folder.specs.Steps.{IsLook, Makes, Quiet};
+ghost use Rattle.cv_folder.specs.Syncs.{GoesOn, IsUnder, SettlesAll};
+ghost use Rattle.cv_folder.specs.WalkInner.{first_of, LooksAtAll, LooksRound, names_in};
 
 use crate::cut::{NAMES_ROOM, cut_name};
 use crate::names::above;
@@ -19,6 +21,7 @@ fn look_at<S: System>(system: &mut S, place: &mut Place, names: &[u8]) -> Result
         place.old.ahead place.new.ahead) }
     ensures ahead { LooksRound place.old.folder place.old.last place.old.ahead place.new.ahead }
     ensures ends { IfErr result (λ unsynced. unsynced ≡ Unsynced.NotOpened) }
+    ensures calls { Makes IsLook (S.log system.old) (S.log system.new) }
 {
     let mut rest = names;
     while let Some((name, others)) = cut_name(rest) {
@@ -60,6 +63,7 @@ impl Walk {
             self.old.place.ahead self.new.place.ahead }
         ensures looked { OnOk result (self.new.looked ≡ true) }
         ensures ends { IfErr result (λ unsynced. unsynced ≡ Unsynced.NotOpened) }
+        ensures calls { Quiet (S.log system.old) (S.log system.new) }
     {
         let mut open = match system.open_names(self.place.folder.as_str()) {
             Ok(open) => open,
@@ -93,6 +97,7 @@ impl Walk {
         ensures ahead { LooksRound self.old.place.folder self.old.place.last
             self.old.place.ahead self.new.place.ahead }
         ensures ends { IfErr result (λ unsynced. unsynced ≡ Unsynced.NotOpened) }
+        ensures calls { Quiet (S.log system.old) (S.log system.new) }
     {
         self.looked = false;
         if self.place.is_above_next() {
@@ -120,6 +125,7 @@ impl Walk {
         ensures under { OnOk result (IsUnder top.now self.new.place.folder) }
         ensures done { result ≡ Ok true → (self.new.place.folder ≡ top.now ++ 47 ∷ [])
             × (self.new.looked ≡ true) }
+        ensures calls { OnOk result (GoesOn top.now (S.log system.old) (S.log system.new)) }
     {
         if self.has_next(system)? {
             self.place.enter();
@@ -140,6 +146,7 @@ impl Walk {
         ensures long { 4096 ≤ length top.now + 1 → result ≡ Err Unsynced.NotOpened }
         ensures done { OnOk result ((self.new.place.folder ≡ top.now ++ 47 ∷ [])
             × (self.new.looked ≡ true)) }
+        ensures calls { OnOk result (SettlesAll top.now (S.log system.old) (S.log system.new)) }
     {
         self.place.begin(top)?;
         self.place.settle(system)?;

@@ -1,19 +1,11 @@
--- Which errors a listing or a sync passes over, and what a sync answers.
-use Rattle.std.specs.Prelude.{Bool, true, false, ◌≡◌, ◌⊎◌, Result, Ok, Err, IsOk, IsTrue}
+-- What a sync answers.
+use Rattle.std.specs.Prelude.{ℕ, true, false, ◌≡◌, List, [], ◌∷◌, Result, Ok, Err, IsOk}
 use Rattle.std.specs.IoError.{error_kind}
 use Rattle.std.specs.declared.io.Error.{Error}
-use Rattle.std.specs.declared.io.ErrorKind.{ErrorKind}
-use Rattle.std.specs.declared.io.ErrorKind.TheVariants.{NotFound, InvalidFilename, PermissionDenied}
 use Rattle.cv_folder.specs.declared.syncing.Unsynced.{Unsynced}
 use Rattle.cv_folder.specs.declared.syncing.Unsynced.TheVariants.{NotOpened, Lost}
-
--- a listing goes on without what such an error hides: a name that isn't UTF-8, a path that is longer than the system takes, or nothing at all
-abbrev pub IsNoName : ErrorKind → Type 0
-IsNoName kind = (kind ≡ InvalidFilename) ⊎ (kind ≡ NotFound)
-
--- a sync passes over such an error in a folder: no name is behind it, or the process may do nothing in a folder that is closed to it
-abbrev pub IsPassed : ErrorKind → Bool → Type 0
-IsPassed kind is_closed = IsNoName kind ⊎ ((kind ≡ PermissionDenied) × IsTrue is_closed)
+use Rattle.cv_folder.specs.Calls.{Log, Done, Failed, Opened, Synced, and_call, and_calls, outcome}
+use Rattle.cv_folder.specs.Passed.{IsPassed}
 
 -- what a sync of a folder that was noted answers, where the system gave this as the folder was opened and, if it was, as it was synced
 abbrev pub Ends : {T U : Type 0} → Result (Result T Error) Error → Result U Unsynced → Type 0
@@ -27,3 +19,8 @@ Settles (Ok (Ok x)) answer = IsOk answer
 Settles (Ok (Err lost)) answer = answer ≡ Err Lost
 Settles (Err error) (Ok x) = IsPassed (error_kind error) true
 Settles (Err error) (Err unsynced) = (unsynced ≡ NotOpened) × (IsPassed (error_kind error) false → ⊥)
+
+-- a folder is opened and, if it is, made durable
+abbrev pub SyncsAt : {T : Type 0} → List ℕ → Result (Result T Error) Error → Log → Log → Type 0
+SyncsAt folder (Ok synced) before after = after ≡ and_calls (Opened folder Done ∷ Synced folder (outcome synced) ∷ []) before
+SyncsAt folder (Err error) before after = after ≡ and_call (Opened folder (Failed (error_kind error))) before
