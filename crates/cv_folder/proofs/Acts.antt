@@ -215,3 +215,25 @@ module _ {S F N E D : Type 0} (log : S → Log) (before between after : FolderVa
 
   pub lists_fault : Acts log Quiet before between → Acts log Quiet before after
   lists_fault acts = as_called (λ hold. Quiet) acts
+
+-- what is answered well is the same
+module _ {S F N : Type 0} (E D : Type 0) (log : S → Log) (before after : FolderVault S F N) (hold : Hold F) (root name : List ℕ) where
+  pub reads_done : (found : Option (List ℕ)) → Acts log (ReadsNamed {E = E} root name hold (Ok found)) before after → Acts log (ReadsNamed {E = D} root name hold (Ok found)) before after
+  unfolding ReadsNamed
+  reads_done (Some bytes) acts = acts
+  reads_done None acts = acts
+
+  pub measures_done : (found : Option ℕ) → Acts log (MeasuresNamed {E = E} root name hold (Ok found)) before after → Acts log (MeasuresNamed {E = D} root name hold (Ok found)) before after
+  unfolding MeasuresNamed
+  measures_done (Some size) acts = acts
+  measures_done None acts = acts
+
+  pub removes_done : (found : Bool) → Acts log (RemovesNamed {E = E} root name hold (Ok found)) before after → Acts log (RemovesNamed {E = D} root name hold (Ok found)) before after
+  unfolding RemovesNamed
+  removes_done true acts = acts
+  removes_done false acts = acts
+
+  pub moves_done : (to : List ℕ) (found : Bool) → Acts log (MovesNamed {E = E} root name to hold (Ok found)) before after → Acts log (MovesNamed {E = D} root name to hold (Ok found)) before after
+  unfolding MovesNamed
+  moves_done to true acts = acts
+  moves_done to false acts = acts

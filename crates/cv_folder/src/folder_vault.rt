@@ -164,7 +164,7 @@ impl<S: System + Drop> Vault for FolderVault<S> {
         ensures left { result ≡ Ok true → Notes self.new from.now }
         ensures noted { result ≡ Ok true → Notes self.new to.now }
         ensures adds { Adds self.old self.new }
-        ensures calls { IsTrue (is_name to.now)
+        ensures calls { from.now ≢ to.now → IsTrue (is_name to.now)
             → Acts S.log (MovesNamed (string_bytes self.old.root) from.now to.now self.new.hold result) self.old self.new }
         ensures no_name { is_name to.now ≡ false → IsUncalled S.log self.old self.new }
     {
