@@ -1,7 +1,6 @@
 -- The calls of a vault over a folder, put together.
-use Rattle.std.proofs.Common.{◌≡◌, ◌∙◌, ◌+◌, ◌∷◌, [], Bool, true, false, List, ℕ, length, Option, Some, None, Result, Ok, Err, refl, sym, ap, subst, inl, inr, string_bytes}
+use Rattle.std.proofs.Common.{◌≡◌, ◌+◌, ◌∷◌, [], Bool, true, false, List, ℕ, length, Option, Some, None, Result, Ok, Err, refl, sym, subst, inl, inr, string_bytes}
 use Rattle.std.specs.Prelude.{IsTrue, IfErr, OnErr, OnOk}
-use Rattle.std.specs.IoError.{error_kind}
 use Rattle.std.specs.declared.io.Error.{Error}
 use Rattle.std.specs.declared.io.ErrorKind.{ErrorKind}
 use Rattle.std.specs.declared.io.ErrorKind.TheVariants.{NotFound}
@@ -11,12 +10,12 @@ use Rattle.cv_folder.specs.declared.hold.Hold.TheVariants.{Unasked, Held, Absent
 use Rattle.cv_folder.specs.declared.seen.Seen.{Seen}
 use Rattle.cv_folder.specs.Calls.{Log, Removed}
 use Rattle.cv_folder.specs.FolderVault.{Acts, AsksAlone, IsUncalled}
-use Rattle.cv_folder.specs.FolderVaultInner.{MovesOn}
+use Rattle.cv_folder.specs.FolderVaultInner.{FindsNamed, MovesOn}
 use Rattle.cv_folder.specs.Hold.{Asked, AskedAt, Asks, IsHeld, IsRoot, LocksNot, with_slash}
 use Rattle.cv_folder.specs.Looks.{Finds, IsReading, ReadsFile}
 use Rattle.cv_folder.specs.Names.{is_name, path_of}
-use Rattle.cv_folder.specs.Reads.{FindsNamed, HasFile, LacksFile, LooksInVain, MeasuresNamed, ReadsNamed}
-use Rattle.cv_folder.specs.Steps.{IsLook, Makes, Quiet, Tries}
+use Rattle.cv_folder.specs.Reads.{HasFile, LacksFile, LooksInVain, MeasuresNamed, ReadsNamed}
+use Rattle.cv_folder.specs.Steps.{Makes, Quiet, Tries}
 use Rattle.cv_folder.specs.Writes.{MovesNamed, RemovesNamed}
 
 -- what holds holds where a call is made too

@@ -1,5 +1,5 @@
 -- How a vault's folder is made and held.
-use Rattle.std.proofs.Common.{◌≡◌, ◌∙◌, ◌++◌, Bool, true, false, List, ℕ, Option, Some, None, Result, Ok, Err, refl, ap, subst, inl, inr}
+use Rattle.std.proofs.Common.{◌≡◌, Bool, true, false, List, ℕ, Option, Some, None, Result, Ok, Err, subst, inl, inr}
 use Rattle.std.specs.Prelude.{IfOk, IfErr, OnErr, is_some}
 use Rattle.std.specs.IoError.{error_kind}
 use Rattle.std.specs.declared.io.Error.{Error}
@@ -21,8 +21,11 @@ module _ {A : Type 0} (root path : List ℕ) (before made after : Log) where
   unfolding MakesRoot
   makes_no_root (Ok held) at is leaves = tt
   makes_no_root (Err error) at is leaves =
-      inr (inr (inr (error_kind error, subst (λ (log : Log). LocksAndLeaves root (with_slash root) (error_kind error) log after) is
-      (subst (λ (p : List ℕ). LocksAndLeaves root p (error_kind error) made after) at leaves))))
+      inr (inr (inr (
+        error_kind error,
+        subst (λ (log : Log). LocksAndLeaves root (with_slash root) (error_kind error) log after) is
+            (subst (λ (p : List ℕ). LocksAndLeaves root p (error_kind error) made after) at leaves),
+      )))
 
 -- no folder was made
 pub makes_still : (root : List ℕ) (before after : Log) → after ≡ before → (held : Bool) × MakesRoot root held before after

@@ -1,8 +1,8 @@
 -- Folders that are made on the way of a path.
-use Rattle.std.proofs.Common.{◌≡◌, ◌∙◌, ◌<◌, ◌≤◌, ◌++◌, ◌∷◌, suc, List, ℕ, length, take, drop, get_or, None, Ok, Err, refl, sym, ap, inl, inr, arith, take-append-drop, drop-cons, length-take}
+use Rattle.std.proofs.Common.{◌≡◌, ◌∙◌, ◌<◌, ◌≤◌, ◌++◌, ◌∷◌, suc, List, ℕ, length, take, drop, get_or, None, Ok, Err, sym, ap, inl, inr, arith, take-append-drop, drop-cons, length-take}
 use Rattle.std.specs.Prelude.{◌⊎◌}
 use Rattle.cv_folder.specs.Calls.{Log, Looked, Made, Outcome, and_call}
-use Rattle.cv_folder.specs.Looks.{Looks}
+use Rattle.cv_folder.specs.LooksInner.{Looks}
 use Rattle.cv_folder.specs.Steps.{IsLook, Makes, Still, Then}
 use Rattle.cv_folder.specs.Writes.{IsOnWay, MakesMissing, Prepares}
 use Rattle.cv_folder.proofs.Trying.{two_calls}
@@ -11,12 +11,12 @@ use Rattle.cv_folder.proofs.Stepping.{no_step, steps_then, steps_wider}
 -- what is before a slash of a path is on its way
 on_way : (path folder : List ℕ) (end : ℕ) → end < length path → folder ≡ take end path → get_or path end 0 ≡ 47 → IsOnWay end path folder
 on_way path folder end within is slash = (
-    drop (suc end) path,
-    sym (take-append-drop end path)
-    ∙ ap (λ (rest : List ℕ). take end path ++ rest) (drop-cons path end 0 within)
-    ∙ ap (λ (b : ℕ). take end path ++ b ∷ drop (suc end) path) slash
-    ∙ ap (λ (front : List ℕ). front ++ 47 ∷ drop (suc end) path) (sym is),
-    omega (arith, ap length is, length-take end path),
+  drop (suc end) path,
+  sym (take-append-drop end path)
+      ∙ ap (λ (rest : List ℕ). take end path ++ rest) (drop-cons path end 0 within)
+      ∙ ap (λ (b : ℕ). take end path ++ b ∷ drop (suc end) path) slash
+      ∙ ap (λ (front : List ℕ). front ++ 47 ∷ drop (suc end) path) (sym is),
+  omega (arith, ap length is, length-take end path),
 )
 
 -- where nothing is a folder is made, or nothing more is called

@@ -1,7 +1,6 @@
 -- A file that was seen is read.
-use Rattle.std.proofs.Common.{◌≡◌, ◌∷◌, [], List, ℕ, Result, Ok, Err, Vec, refl, subst, sym}
+use Rattle.std.proofs.Common.{◌≡◌, List, ℕ, Result, Ok, Err, Vec, refl, subst, sym}
 use Rattle.std.specs.Prelude.{IfOk, OnErr}
-use Rattle.std.specs.IoError.{error_kind}
 use Rattle.std.specs.declared.io.Error.{Error}
 use Rattle.cv_folder.specs.declared.seen.Seen.{Seen}
 use Rattle.cv_folder.specs.Calls.{Log, Checked, Done, Opened, Read, and_call, told_bytes}

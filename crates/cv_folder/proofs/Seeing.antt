@@ -1,9 +1,10 @@
 -- Folders that are seen on the way of a path.
-use Rattle.std.proofs.Common.{◌≡◌, ◌∙◌, ◌==◌, ◌+◌, ◌<◌, ◌≤◌, ◌++◌, ◌∷◌, [], suc, List, ℕ, refl, sym, ap, subst, inl, inr, take, drop, get_or, length, add-one, append_assoc, drop-cons, if◌then◌else◌}
+use Rattle.std.proofs.Common.{◌≡◌, ◌∙◌, ◌+◌, ◌<◌, ◌≤◌, ◌++◌, ◌∷◌, [], suc, List, ℕ, sym, ap, subst, inl, inr, take, drop, length, add-one, append_assoc, drop-cons}
 use Rattle.std.proofs.Math.Seq.{take-suc}
 use Rattle.std.proofs.lemmas.List.{append-nil, drop_all}
-use Rattle.cv_folder.specs.Calls.{Log, and_call, Looked}
-use Rattle.cv_folder.specs.Looks.{MissesFolder, SeesFolders, folders_at, folders_behind, folders_past}
+use Rattle.cv_folder.specs.Calls.{Log}
+use Rattle.cv_folder.specs.Looks.{MissesFolder, SeesFolders, folders_behind, folders_past}
+use Rattle.cv_folder.specs.LooksInner.{folders_at}
 
 -- some folders, and then others
 pub sees_then : (folders others : List (List ℕ)) (before between after : Log) → SeesFolders folders before between → SeesFolders others between after → SeesFolders (folders ++ others) before after

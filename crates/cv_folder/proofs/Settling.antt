@@ -2,13 +2,13 @@
 use Rattle.std.proofs.Common.{◌≡◌, ◌∙◌, ◌+◌, ◌<◌, ◌++◌, ◌∷◌, [], suc, Bool, true, false, List, ℕ, map, take, drop, length, get_or, Result, Ok, Err, refl, sym, ap, subst, inl, inr, add-one, take-append-drop, drop-cons}
 use Rattle.std.proofs.Math.Seq.{take-suc}
 use Rattle.std.proofs.lemmas.List.{map-append}
-use Rattle.std.specs.Prelude.{IsOk, OnOk, is_ok}
+use Rattle.std.specs.Prelude.{IsOk, OnOk}
 use Rattle.std.specs.IoError.{error_kind}
 use Rattle.std.specs.declared.io.Error.{Error}
 use Rattle.cv_folder.specs.declared.syncing.Unsynced.{Unsynced}
-use Rattle.cv_folder.specs.Calls.{Call, Log, Outcome, Done, Failed, Opened, Synced, and_call}
+use Rattle.cv_folder.specs.Calls.{Call, Log, Outcome, Opened, Synced}
 use Rattle.cv_folder.specs.Hold.{with_slash}
-use Rattle.cv_folder.specs.Steps.{IsLook, Makes, Quiet, Steps, Still, Then, Tries}
+use Rattle.cv_folder.specs.Steps.{IsLook, Makes, Quiet, Still, Then, Tries}
 use Rattle.cv_folder.specs.Syncs.{ClearsFolder, GoesOn, IsUnder, SettlesAll, SettlesFolder, syncs}
 use Rattle.cv_folder.specs.SyncsInner.{Settles, SyncsAt}
 use Rattle.cv_folder.proofs.Stepping.{steps_then}

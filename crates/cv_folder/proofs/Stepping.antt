@@ -1,11 +1,11 @@
 -- Steps from one log to a later one.
-use Rattle.std.proofs.Common.{◌≡◌, Bool, true, false, List, ℕ, Option, Some, None, Result, Ok, Err, refl, sym, subst}
+use Rattle.std.proofs.Common.{◌≡◌, Bool, true, false, List, ℕ, Option, Some, None, Result, Ok, Err, sym, subst}
 use Rattle.std.specs.IoError.{error_kind}
 use Rattle.std.specs.declared.io.Error.{Error}
 use Rattle.cv_folder.specs.declared.seen.Seen.{Seen}
 use Rattle.cv_folder.specs.Calls.{Call, Log, and_call}
 use Rattle.cv_folder.specs.Calls.{Looked, Opened, Created, Wrote, Synced, Checked, Read, Locked, Renamed, Removed, Made, Unmade, Entered, Named}
-use Rattle.cv_folder.specs.Looks.{Looks, LooksForFolder}
+use Rattle.cv_folder.specs.LooksInner.{Looks, LooksForFolder}
 use Rattle.cv_folder.specs.Steps.{IsLook, IsQuiet, Makes, Quiet, Steps, Still, Then}
 
 -- some steps, and then others

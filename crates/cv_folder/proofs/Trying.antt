@@ -1,9 +1,9 @@
 -- Calls that are tried, one after another.
-use Rattle.std.proofs.Common.{◌≡◌, ◌∙◌, ◌++◌, ◌∷◌, [], Bool, true, false, List, ℕ, Option, Some, None, Result, Ok, Err, refl, sym, ap, subst, inl, inr}
+use Rattle.std.proofs.Common.{◌≡◌, ◌∙◌, ◌++◌, ◌∷◌, [], Bool, true, false, List, ℕ, Some, None, Result, Ok, Err, refl, ap, subst, inl, inr}
 use Rattle.std.specs.Prelude.{IsSome, is_ok}
 use Rattle.std.specs.IoError.{error_kind}
 use Rattle.std.specs.declared.io.Error.{Error}
-use Rattle.cv_folder.specs.Calls.{Call, Log, Outcome, Done, Failed, and_call, outcome, Created, Removed}
+use Rattle.cv_folder.specs.Calls.{Call, Log, Outcome, Done, and_call, outcome, Created, Removed}
 use Rattle.cv_folder.specs.Steps.{Tries}
 use Rattle.cv_folder.specs.Writes.{TriesAnew}
 

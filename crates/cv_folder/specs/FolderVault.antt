@@ -1,5 +1,5 @@
 -- What a call of a vault over a folder leaves to the next sync, and which calls of the system it makes.
-use Rattle.std.specs.Prelude.{ℕ, ◌≡◌, ◌≢◌, List, None, IsTrue, string_bytes, ⊤}
+use Rattle.std.specs.Prelude.{ℕ, ◌≡◌, ◌≢◌, List, map, None, IsTrue, string_bytes, ⊤}
 use Rattle.cv_vault.specs.Disk.{Disk}
 use Rattle.cv_vault.specs.Moments.{Calls}
 use Rattle.cv_folder.specs.declared.folder_vault.FolderVault.{FolderVault}
@@ -9,6 +9,7 @@ use Rattle.cv_folder.specs.Calls.{Log}
 use Rattle.cv_folder.specs.Hold.{Asks}
 use Rattle.cv_folder.specs.Names.{folder_of, is_name, path_of}
 use Rattle.cv_folder.specs.Noted.{is_noted, Keeps}
+use Rattle.cv_folder.specs.Syncs.{SyncsHeld}
 
 -- the folder of a name of the vault is noted
 abbrev pub Notes : {S F N : Type 0} → FolderVault S F N → List ℕ → Type 0
@@ -57,3 +58,8 @@ AsksAlone log before after = Asks (string_bytes before.root) before.hold after.h
 unfoldable pub Acts : {S F N : Type 0} → (S → Log) → (Log → Log → Type 0) → FolderVault S F N → FolderVault S F N → Type 0
 Acts log Act before after =
     (asked : Log) × Asks (string_bytes before.root) before.hold after.hold (log before.system) asked × Act asked (log after.system)
+
+-- a sync that is done: the vault asks for its folder, if it hadn't yet, and makes durable what was noted, or all
+abbrev pub SyncsDone : {S F N : Type 0} → (S → Log) → FolderVault S F N → FolderVault S F N → Type 0
+SyncsDone log before after =
+    Acts log (SyncsHeld (string_bytes before.root) before.hold after.hold before.is_unsettled (map string_bytes before.folders.items)) before after

@@ -1,9 +1,10 @@
 -- Where a call of a vault over a folder stands. What only this crate's own functions say.
-use Rattle.std.specs.Prelude.{ℕ, ◌≡◌, ◌⊎◌, ◌+◌, List, length, IsTrue, string_bytes, Bool, true, false}
+use Rattle.std.specs.Prelude.{ℕ, ◌≡◌, ◌⊎◌, ◌+◌, List, length, IsTrue, string_bytes, Bool, true, false, Option, Some, None, Result, Ok, Err}
 use Rattle.cv_folder.specs.declared.folder_vault.FolderVault.{FolderVault}
 use Rattle.cv_folder.specs.declared.hold.Hold.{Hold}
 use Rattle.cv_folder.specs.declared.hold.Hold.TheVariants.{Absent}
 use Rattle.cv_folder.specs.Hold.{IsHeld}
+use Rattle.cv_folder.specs.Reads.{HasFile, LacksFile, LooksInVain}
 use Rattle.cv_folder.specs.Writes.{MovesFile, Prepares}
 use Rattle.cv_folder.specs.declared.seen.Seen.{Seen}
 use Rattle.cv_folder.specs.Calls.{Log}
@@ -22,4 +23,10 @@ HasFolder hold false = hold ≡ Absent
 unfoldable pub MovesOn : List ℕ → List ℕ → List ℕ → Seen → Bool → Log → Log → Type 0
 MovesOn root path to seen done before after =
     (ready : Log) × Prepares (length root + 1) (path_of root to) before ready
-        × (((done ≡ false) × (after ≡ ready)) ⊎ MovesFile path (path_of root to) seen done ready after)
+    × (((done ≡ false) × (after ≡ ready)) ⊎ MovesFile path (path_of root to) seen done ready after)
+
+-- a file is looked for under a name
+unfoldable pub FindsNamed : {F E : Type 0} → List ℕ → List ℕ → Hold F → Result (Option Seen) E → Log → Log → Type 0
+FindsNamed root name hold (Ok (Some seen)) before after = HasFile root name hold seen before after
+FindsNamed root name hold (Ok None) before after = LacksFile root name hold before after
+FindsNamed root name hold (Err error) before after = LooksInVain name hold before after

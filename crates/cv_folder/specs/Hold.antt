@@ -70,4 +70,4 @@ MakesRoot root false before after =
 unfoldable pub Begins : {F : Type 0} → List ℕ → Hold F → Log → Log → Type 0
 Begins {F} root before_hold before after =
     (hold : Hold F) × (asked : Log) × Asks root before_hold hold before asked
-        × ((after ≡ asked) ⊎ ((hold ≡ Absent) × (held : Bool) × MakesRoot root held asked after))
+    × ((after ≡ asked) ⊎ ((hold ≡ Absent) × (held : Bool) × MakesRoot root held asked after))

@@ -4,6 +4,7 @@ pub mod FolderVaultInner
 pub mod Hold
 pub mod Listed
 pub mod Looks
+pub mod LooksInner
 pub mod Names
 pub mod NamesInner
 pub mod Noted

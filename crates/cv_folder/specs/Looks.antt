@@ -1,12 +1,11 @@
 -- What is seen at a path.
-use Rattle.std.specs.Prelude.{◌≡◌, ◌⊎◌, ◌==◌, ℕ, Bool, true, false, List, [], ◌∷◌, ◌++◌, take, drop, if◌then◌else◌, slice_index, Option, Some, None, Result, Ok, Err}
-use Rattle.std.specs.IoError.{error_kind}
+use Rattle.std.specs.Prelude.{◌≡◌, ◌⊎◌, ◌==◌, ℕ, List, [], ◌∷◌, ◌++◌, take, drop, if◌then◌else◌, Option, Some, None, Result, Ok, Err}
 use Rattle.std.specs.declared.io.Error.{Error}
 use Rattle.std.specs.declared.io.ErrorKind.{ErrorKind}
 use Rattle.std.specs.declared.io.ErrorKind.TheVariants.{NotFound, NotADirectory}
 use Rattle.cv_folder.specs.declared.seen.Seen.{Seen}
 use Rattle.cv_folder.specs.declared.seen.Kind.TheVariants.{File, Folder}
-use Rattle.cv_folder.specs.Calls.{Call, Log, Outcome, and_call, and_calls, Done}
+use Rattle.cv_folder.specs.Calls.{Call, Log, and_call, and_calls, Done}
 use Rattle.cv_folder.specs.Calls.{Looked, Opened, Created, Wrote, Synced, Checked, Read, Locked, Renamed, Removed, Made, Unmade, Entered, Named}
 use Rattle.cv_folder.specs.Steps.{IsLook, Makes}
 
@@ -17,16 +16,6 @@ IsSame one other = (one.device ≡ other.device) × (one.inode ≡ other.inode)
 -- a look that fails so says that nothing stands at the path
 abbrev pub IsNothing : ErrorKind → Type 0
 IsNothing kind = (kind ≡ NotFound) ⊎ (kind ≡ NotADirectory)
-
--- a look at a path: what was seen, or that nothing stands there
-abbrev pub Looks : List ℕ → Result (Option Seen) Error → Log → Log → Type 0
-Looks path (Ok (Some seen)) before after = after ≡ and_call (Looked path (Ok seen)) before
-Looks path (Ok None) before after = (kind : ErrorKind) × IsNothing kind × (after ≡ and_call (Looked path (Err kind)) before)
-Looks path (Err error) before after = after ≡ and_call (Looked path (Err (error_kind error))) before
-
--- the folder whose path ends at this place of a path, if a slash stands there
-abbrev pub folders_at : List ℕ → ℕ → List (List ℕ)
-folders_at path end = if slice_index path end == 47 then take end path ∷ [] else []
 
 -- the folders of a path behind its front: what comes before each slash of the rest
 unfoldable pub folders_behind : List ℕ → List ℕ → List (List ℕ)
@@ -60,12 +49,6 @@ MissesFolder (folder ∷ folders) before after =
     ((seen : Result Seen ErrorKind) × IsNoFolder seen × (after ≡ and_call (Looked folder seen) before))
     ⊎ ((seen : Seen) × (seen.kind ≡ Folder) × MissesFolder folders (and_call (Looked folder (Ok seen)) before) after)
 
--- a look at a path, and whether a folder is there
-abbrev pub LooksForFolder : List ℕ → Result Bool Error → Log → Log → Type 0
-LooksForFolder path (Ok true) before after = (seen : Seen) × (seen.kind ≡ Folder) × (after ≡ and_call (Looked path (Ok seen)) before)
-LooksForFolder path (Ok false) before after = (seen : Result Seen ErrorKind) × IsNoFolder seen × (after ≡ and_call (Looked path seen) before)
-LooksForFolder path (Err error) before after = after ≡ and_call (Looked path (Err (error_kind error))) before
-
 -- a regular file is found at a path: folders stand on the way to it, and then it was seen
 abbrev pub FindsFile : ℕ → List ℕ → Seen → Log → Log → Type 0
 FindsFile from path seen before after =
@@ -76,7 +59,7 @@ abbrev pub MissesFile : ℕ → List ℕ → Log → Log → Type 0
 MissesFile from path before after =
     MissesFolder (folders_past from path) before after
     ⊎ ((through : Log) × (seen : Result Seen ErrorKind) × SeesFolders (folders_past from path) before through × IsNoFile seen
-        × (after ≡ and_call (Looked path seen) through))
+    × (after ≡ and_call (Looked path seen) through))
 
 -- a regular file is looked for at a path
 abbrev pub Finds : ℕ → List ℕ → Result (Option Seen) Error → Log → Log → Type 0
@@ -93,7 +76,7 @@ OpensFile path seen before after =
 abbrev pub ReadsFile : List ℕ → Seen → List ℕ → Log → Log → Type 0
 ReadsFile path seen bytes before after =
     (opened : Log) × (again : Seen) × OpensFile path seen before opened
-        × (after ≡ and_calls (Checked path (Ok again) ∷ Read path (Ok bytes) ∷ []) opened)
+    × (after ≡ and_calls (Checked path (Ok again) ∷ Read path (Ok bytes) ∷ []) opened)
 
 -- a call that opens or reads what stands at a path
 abbrev pub IsReading : List ℕ → Call → Type 0

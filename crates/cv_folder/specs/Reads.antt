@@ -22,12 +22,6 @@ LacksFile root name hold before after =
 unfoldable pub LooksInVain : {F : Type 0} → List ℕ → Hold F → Log → Log → Type 0
 LooksInVain name hold before after = (after ≡ before) ⊎ (IsHeld hold × IsTrue (is_name name) × Makes IsLook before after)
 
--- a file is looked for under a name
-unfoldable pub FindsNamed : {F E : Type 0} → List ℕ → List ℕ → Hold F → Result (Option Seen) E → Log → Log → Type 0
-FindsNamed root name hold (Ok (Some seen)) before after = HasFile root name hold seen before after
-FindsNamed root name hold (Ok None) before after = LacksFile root name hold before after
-FindsNamed root name hold (Err error) before after = LooksInVain name hold before after
-
 -- a file is read under a name: these are its bytes as the system gave them, none is there, or the read failed after it was found or before
 unfoldable pub ReadsNamed : {F E : Type 0} → List ℕ → List ℕ → Hold F → Result (Option (List ℕ)) E → Log → Log → Type 0
 ReadsNamed root name hold (Ok (Some bytes)) before after =

@@ -1,5 +1,5 @@
 -- What calls lead from one log to a later one.
-use Rattle.std.specs.Prelude.{◌≡◌, ◌⊎◌, Bool, true, false, List, [], ◌∷◌, IsTrue, ⊤}
+use Rattle.std.specs.Prelude.{◌≡◌, ◌⊎◌, Bool, false, List, [], ◌∷◌, IsTrue, ⊤}
 use Rattle.std.specs.declared.io.ErrorKind.{ErrorKind}
 use Rattle.cv_folder.specs.Calls.{Call, Log, Outcome, and_call, Done, Failed}
 use Rattle.cv_folder.specs.Calls.{Looked, Opened, Created, Wrote, Synced, Checked, Read, Locked, Renamed, Removed, Made, Unmade, Entered, Named}

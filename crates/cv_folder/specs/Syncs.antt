@@ -1,7 +1,7 @@
 -- How folders are made durable.
 use Rattle.std.specs.Prelude.{ℕ, Bool, true, false, ◌≡◌, ◌⊎◌, List, [], ◌∷◌, ◌++◌, codes, IsTrue}
 use Rattle.std.specs.declared.io.ErrorKind.{ErrorKind}
-use Rattle.cv_folder.specs.Calls.{Call, Log, Outcome, and_call, and_calls, Done, Failed, Opened, Removed, Synced}
+use Rattle.cv_folder.specs.Calls.{Call, Log, Outcome, and_call, Failed, Opened, Removed, Synced}
 use Rattle.cv_folder.specs.declared.hold.Hold.{Hold}
 use Rattle.cv_folder.specs.declared.hold.Hold.TheVariants.{Absent, Unasked}
 use Rattle.cv_folder.specs.Hold.{IsHeld, with_slash}
@@ -27,8 +27,8 @@ ClearsFolder folder before after =
 unfoldable pub SettlesFolder : List ℕ → Log → Log → Type 0
 SettlesFolder folder before after =
     (cleared : Log) × ClearsFolder folder before cleared
-        × (Tries (Opened folder ∷ Synced folder ∷ []) true cleared after
-            ⊎ ((kind : ErrorKind) × IsPassed kind true × Makes IsLook (and_call (Opened folder (Failed kind)) cleared) after))
+    × (Tries (Opened folder ∷ Synced folder ∷ []) true cleared after
+    ⊎ ((kind : ErrorKind) × IsPassed kind true × Makes IsLook (and_call (Opened folder (Failed kind)) cleared) after))
 
 -- a walk goes on under a top: it goes through folders, and settles those that it comes to
 unfoldable pub GoesOn : List ℕ → Log → Log → Type 0

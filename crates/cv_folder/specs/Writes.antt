@@ -2,7 +2,7 @@
 use Rattle.std.specs.Prelude.{ℕ, ◌≡◌, ◌⊎◌, ◌≤◌, ◌+◌, Bool, true, false, List, [], ◌∷◌, ◌++◌, length, Result, Ok, Err}
 use Rattle.std.specs.declared.io.ErrorKind.{ErrorKind}
 use Rattle.std.specs.declared.io.ErrorKind.TheVariants.{AlreadyExists}
-use Rattle.cv_folder.specs.Calls.{Call, Log, Outcome, and_call, and_calls, Done, Failed, Looked, Created, Wrote, Synced, Renamed, Removed, Made}
+use Rattle.cv_folder.specs.Calls.{Call, Log, Outcome, and_call, and_calls, Failed, Looked, Created, Wrote, Synced, Renamed, Removed, Made}
 use Rattle.cv_folder.specs.Steps.{IsLook, Makes, Steps, Tries}
 use Rattle.cv_folder.specs.declared.seen.Seen.{Seen}
 use Rattle.cv_folder.specs.Looks.{IsNothing, IsSame}
@@ -45,7 +45,7 @@ Prepares from path before after = Steps (λ one other. Makes IsLook one other �
 unfoldable pub WritesFile : {F : Type 0} → List ℕ → List ℕ → List ℕ → Hold F → Bool → Log → Log → Type 0
 WritesFile root name bytes hold done before after =
     (begun ready : Log) × Begins root hold before begun × Prepares (length root + 1) (path_of root name) begun ready
-        × (Puts (next_of root name) (path_of root name) bytes done ready after ⊎ ((done ≡ false) × (after ≡ ready)))
+    × (Puts (next_of root name) (path_of root name) bytes done ready after ⊎ ((done ≡ false) × (after ≡ ready)))
 
 -- a look sees that a path is another name of a file
 abbrev pub SeesOther : Seen → List ℕ → Log → Log → Type 0
@@ -62,12 +62,12 @@ MovesFile from to seen done before after =
 unfoldable pub MovesNamed : {F E : Type 0} → List ℕ → List ℕ → List ℕ → Hold F → Result Bool E → Log → Log → Type 0
 MovesNamed root from to hold (Ok true) before after =
     (seen : Seen) × (found ready : Log) × HasFile root from hold seen before found × Prepares (length root + 1) (path_of root to) found ready
-        × MovesFile (path_of root from) (path_of root to) seen true ready after
+    × MovesFile (path_of root from) (path_of root to) seen true ready after
 MovesNamed root from to hold (Ok false) before after = LacksFile root from hold before after
 MovesNamed root from to hold (Err error) before after =
     LooksInVain from hold before after
     ⊎ ((seen : Seen) × (found ready : Log) × HasFile root from hold seen before found × Prepares (length root + 1) (path_of root to) found ready
-        × ((after ≡ ready) ⊎ MovesFile (path_of root from) (path_of root to) seen false ready after))
+    × ((after ≡ ready) ⊎ MovesFile (path_of root from) (path_of root to) seen false ready after))
 
 -- a file is removed under a name: it is found and removed, none is there, or one of the two failed
 unfoldable pub RemovesNamed : {F E : Type 0} → List ℕ → List ℕ → Hold F → Result Bool E → Log → Log → Type 0

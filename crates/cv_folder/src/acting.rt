@@ -3,16 +3,16 @@ ghost use Rattle.std.specs.Prelude.{◌≡◌, ◌≢◌, ◌<◌, ◌+◌, ◌�
 ghost use Rattle.std.specs.IoError.{error_kind, raw_os_error};
 ghost use Rattle.cv_base.specs.Counts.{HasCause};
 ghost use Rattle.cv_vault.specs.declared.vault.VaultFault.TheVariants.{Failed, NoMemory};
-ghost use Rattle.cv_folder.specs.FolderVault.{Acts, Adds, AsksAlone, Fails, Holds, IsUncalled, Notes, Serves, Stays};
-ghost use Rattle.cv_folder.specs.FolderVaultInner.{HasFolder, IsAt, MovesOn};
+ghost use Rattle.cv_folder.specs.FolderVault.{Acts, Adds, AsksAlone, Fails, Holds, IsUncalled, Notes, Serves, Stays, SyncsDone};
+ghost use Rattle.cv_folder.specs.FolderVaultInner.{FindsNamed, HasFolder, IsAt, MovesOn};
 ghost use Rattle.cv_folder.specs.Hold.{Asked, Begins, IsHeld, IsRoot, MakesRoot, with_slash};
 ghost use Rattle.cv_folder.specs.Listed.{IsListed};
 ghost use Rattle.cv_folder.specs.Names.{is_name, folder_of, path_of};
 ghost use Rattle.cv_folder.specs.Noted.{is_noted};
-ghost use Rattle.cv_folder.specs.Reads.{FindsNamed, MeasuresNamed, ReadsNamed};
+ghost use Rattle.cv_folder.specs.Reads.{MeasuresNamed, ReadsNamed};
 ghost use Rattle.cv_folder.specs.Calls.{Removed};
 ghost use Rattle.cv_folder.specs.Steps.{Quiet, Tries};
-ghost use Rattle.cv_folder.specs.Syncs.{SettlesFirst, SyncsAll, SyncsHeld};
+ghost use Rattle.cv_folder.specs.Syncs.{SettlesFirst, SyncsAll};
 ghost use Rattle.cv_folder.specs.Writes.{MovesNamed, RemovesNamed, WritesFile};
 
 use crate::folder_vault::FolderVault;
@@ -50,8 +50,10 @@ impl<S: System + Drop> FolderVault<S> {
     /// What the vault has of its folder: it holds it, if it is there.
     pub(crate) fn hold_now(&mut self) -> io::Result<Hold<S::File>>
         requires { self.old.hold ≡ Hold.Unasked }
-        ensures asked { IfOk result (λ hold. Asked (string_bytes self.old.root) hold (S.log self.old.system) (S.log self.new.system)) }
-        ensures fails { OnErr result (Asked (string_bytes self.old.root) self.old.hold (S.log self.old.system) (S.log self.new.system)) }
+        ensures asked { IfOk result (λ hold. Asked (string_bytes self.old.root) hold
+            (S.log self.old.system) (S.log self.new.system)) }
+        ensures fails { OnErr result (Asked (string_bytes self.old.root) self.old.hold
+            (S.log self.old.system) (S.log self.new.system)) }
         ensures hold { self.new.hold ≡ self.old.hold }
         ensures stays { Stays self.old self.new }
         ensures faults { self.new.faults ≡ self.old.faults }
@@ -71,7 +73,8 @@ impl<S: System + Drop> FolderVault<S> {
             (IsTrue (is_noted self.new.folders.items (folder_of (string_bytes self.old.root)))) }
         ensures adds { Adds self.old self.new }
         ensures faults { self.new.faults ≡ self.old.faults }
-        ensures calls { (held : Bool) × MakesRoot (string_bytes self.old.root) held (S.log self.old.system) (S.log self.new.system) }
+        ensures calls { (held : Bool) × MakesRoot (string_bytes self.old.root) held
+            (S.log self.old.system) (S.log self.new.system) }
     {
         note(&mut self.folders, folder_of(self.root.as_str()))?;
         self.set_root()?;
@@ -105,7 +108,8 @@ impl<S: System + Drop> FolderVault<S> {
 
     /// Sets the path of a name. A text that is none is refused, and one whose path is longer than the system takes.
     pub(crate) fn set_path(&mut self, name: &str) -> io::Result<()>
-        ensures ok { IsOk result ↔ IsTrue (is_name name.now) × (length (string_bytes self.old.root) + length name.now + 1 < 4096) }
+        ensures ok { IsOk result ↔ IsTrue (is_name name.now) × (length (string_bytes self.old.root)
+            + length name.now + 1 < 4096) }
         ensures path { OnOk result (self.new.path ≡ path_of (string_bytes self.old.root) name.now) }
         ensures stays { Stays self.old self.new }
         ensures faults { self.new.faults ≡ self.old.faults }
@@ -196,7 +200,8 @@ impl<S: System + Drop> FolderVault<S> {
         ensures path { OnOk result (IsAt self.new name.now × (self.old.hold ≢ Hold.Refused)) }
         ensures stays { Stays self.old self.new }
         ensures faults { self.new.faults ≡ self.old.faults }
-        ensures calls { Acts S.log (FindsNamed (string_bytes self.old.root) name.now self.new.hold result) self.old self.new }
+        ensures calls { Acts S.log (FindsNamed (string_bytes self.old.root) name.now self.new.hold
+            result) self.old self.new }
     {
         if !self.begin(name)? {
             return Ok(None);
@@ -237,7 +242,8 @@ impl<S: System + Drop> FolderVault<S> {
         ensures refused { OnOk result (Serves self.old name.now) }
         ensures stays { Stays self.old self.new }
         ensures faults { self.new.faults ≡ self.old.faults }
-        ensures calls { Acts S.log (ReadsNamed (string_bytes self.old.root) name.now self.new.hold result) self.old self.new }
+        ensures calls { Acts S.log (ReadsNamed (string_bytes self.old.root) name.now self.new.hold
+            result) self.old self.new }
     {
         match self.find(name)? {
             Some(found) => {
@@ -253,7 +259,8 @@ impl<S: System + Drop> FolderVault<S> {
         ensures refused { OnOk result (Serves self.old name.now) }
         ensures stays { Stays self.old self.new }
         ensures faults { self.new.faults ≡ self.old.faults }
-        ensures calls { Acts S.log (MeasuresNamed (string_bytes self.old.root) name.now self.new.hold result) self.old self.new }
+        ensures calls { Acts S.log (MeasuresNamed (string_bytes self.old.root) name.now
+            self.new.hold result) self.old self.new }
     {
         match self.find(name)? {
             Some(found) => Ok(Some(found.length)),
@@ -280,7 +287,8 @@ impl<S: System + Drop> FolderVault<S> {
         ensures path { OnOk result (IsAt self.new name.now) }
         ensures adds { Adds self.old self.new }
         ensures faults { self.new.faults ≡ self.old.faults }
-        ensures begins { Begins (string_bytes self.old.root) self.old.hold (S.log self.old.system) (S.log self.new.system) }
+        ensures begins { Begins (string_bytes self.old.root) self.old.hold (S.log self.old.system)
+            (S.log self.new.system) }
         ensures no_name { is_name name.now ≡ false
             → AsksAlone S.log self.old self.new }
     {
@@ -296,33 +304,49 @@ impl<S: System + Drop> FolderVault<S> {
         ensures noted { OnOk result (Notes self.new name.now) }
         ensures adds { Adds self.old self.new }
         ensures faults { self.new.faults ≡ self.old.faults }
-        ensures calls { WritesFile (string_bytes self.old.root) name.now bytes.now self.old.hold (is_ok result)
-            (S.log self.old.system) (S.log self.new.system) }
+        ensures calls { WritesFile (string_bytes self.old.root) name.now bytes.now self.old.hold
+            (is_ok result) (S.log self.old.system) (S.log self.new.system) }
         ensures no_name { is_name name.now ≡ false
             → AsksAlone S.log self.old self.new }
     {
         self.begin_write(name)?;
         self.set_next()?;
         let from = self.names_from();
-        make_folders(&mut self.system, self.path.as_str(), from, &mut self.folders)?;
-        put_file(&mut self.system, self.next.as_str(), self.path.as_str(), bytes)
+        make_folders(
+            &mut self.system,
+            self.path.as_str(),
+            from,
+            &mut self.folders,
+        )?;
+        put_file(
+            &mut self.system,
+            self.next.as_str(),
+            self.path.as_str(),
+            bytes,
+        )
     }
 
     /// Gives the file that was found at the path that is set another name.
     pub(crate) fn move_found(&mut self, found: &Seen, to: &str) -> io::Result<()>
-        ensures left { OnOk result (IsTrue (is_noted self.new.folders.items (folder_of self.old.path))) }
+        ensures left { OnOk result (IsTrue
+            (is_noted self.new.folders.items (folder_of self.old.path))) }
         ensures noted { OnOk result (Notes self.new to.now) }
         ensures adds { Adds self.old self.new }
         ensures hold { self.new.hold ≡ self.old.hold }
         ensures faults { self.new.faults ≡ self.old.faults }
-        ensures calls { MovesOn (string_bytes self.old.root) self.old.path to.now found.now (is_ok result)
-            (S.log self.old.system) (S.log self.new.system) }
+        ensures calls { MovesOn (string_bytes self.old.root) self.old.path to.now found.now
+            (is_ok result) (S.log self.old.system) (S.log self.new.system) }
     {
         let source = String::from_str(self.alloc, self.path.as_str())?;
         self.set_path(to)?;
         note(&mut self.folders, folder_of(source.as_str()))?;
         let from = self.names_from();
-        make_folders(&mut self.system, self.path.as_str(), from, &mut self.folders)?;
+        make_folders(
+            &mut self.system,
+            self.path.as_str(),
+            from,
+            &mut self.folders,
+        )?;
         move_file(&mut self.system, source.as_str(), found, self.path.as_str())
     }
 
@@ -375,7 +399,8 @@ impl<S: System + Drop> FolderVault<S> {
         ensures noted { result ≡ Ok true → Notes self.new name.now ⊎ IsTrue self.new.is_unsettled }
         ensures adds { Adds self.old self.new }
         ensures faults { self.new.faults ≡ self.old.faults }
-        ensures calls { Acts S.log (RemovesNamed (string_bytes self.old.root) name.now self.new.hold result) self.old self.new }
+        ensures calls { Acts S.log (RemovesNamed (string_bytes self.old.root) name.now self.new.hold
+            result) self.old self.new }
     {
         match self.find(name)? {
             Some(_found) => {
@@ -446,7 +471,7 @@ impl<S: System + Drop> FolderVault<S> {
         ensures fails { OnErr result (Fails self.old self.new) }
         ensures root { (self.new.root ≡ self.old.root) × Holds self.old.hold self.new.hold }
         ensures faults { self.new.faults ≡ self.old.faults }
-        ensures calls { OnOk result (Acts S.log (SyncsHeld (string_bytes self.old.root) self.old.hold self.new.hold self.old.is_unsettled (map string_bytes self.old.folders.items)) self.old self.new) }
+        ensures calls { OnOk result (SyncsDone S.log self.old self.new) }
     {
         if self.broken {
             return Err(refused());

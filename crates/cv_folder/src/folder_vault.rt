@@ -1,15 +1,14 @@
 //! A vault over a folder.
-ghost use Rattle.std.specs.Prelude.{◌≡◌, ◌≢◌, ◌⊎◌, [], map, true, false, None, Ok, Err, IfOk, IsErrOf, IsTrue, OnErr, OnOk, is_ok, string_bytes, ⊤};
+ghost use Rattle.std.specs.Prelude.{◌≡◌, ◌≢◌, ◌⊎◌, [], true, false, None, Ok, Err, IfOk, IsErrOf, IsTrue, OnErr, OnOk, is_ok, string_bytes, ⊤};
 ghost use Rattle.cv_base.specs.Counts.{HasCause};
 ghost use Rattle.cv_vault.specs.Disk.{Reads, Measures, Lists, Writes, Renames, Removes, Syncs};
 ghost use Rattle.cv_vault.specs.declared.vault.VaultFault.TheVariants.{Failed, NoMemory};
-ghost use Rattle.cv_folder.specs.FolderVault.{Acts, Adds, AsksAlone, Fails, Holds, IsUncalled, Notes, Serves, Stays, Untold};
+ghost use Rattle.cv_folder.specs.FolderVault.{Acts, Adds, AsksAlone, Fails, Holds, IsUncalled, Notes, Serves, Stays, SyncsDone, Untold};
 ghost use Rattle.cv_folder.specs.Hold.{IsHeld};
 ghost use Rattle.cv_folder.specs.Listed.{IsListed};
 ghost use Rattle.cv_folder.specs.Names.{is_name};
 ghost use Rattle.cv_folder.specs.Reads.{MeasuresNamed, ReadsNamed};
 ghost use Rattle.cv_folder.specs.Steps.{Quiet};
-ghost use Rattle.cv_folder.specs.Syncs.{SyncsHeld};
 ghost use Rattle.cv_folder.specs.Writes.{MovesNamed, RemovesNamed, WritesFile};
 
 use crate::hold::Hold;
@@ -67,7 +66,8 @@ impl<S: System + Drop> FolderVault<S> {
     pub fn new(alloc: Global, system: S, root: &str) -> Result<FolderVault<S>, AllocError>
         ensures faults { IfOk result (λ vault. vault.faults ≡ 0) }
         ensures root { IfOk result (λ vault. string_bytes vault.root ≡ root.now) }
-        ensures fresh { IfOk result (λ vault. (vault.folders.items ≡ []) × (vault.is_unsettled ≡ false)
+        ensures fresh { IfOk result (λ vault. (vault.folders.items ≡ [])
+            × (vault.is_unsettled ≡ false)
             × (vault.hold ≡ Hold.Unasked) × (vault.broken ≡ false)) }
     {
         Ok(FolderVault {
@@ -104,7 +104,8 @@ impl<S: System + Drop> Vault for FolderVault<S> {
         ensures cause { HasCause self.old.faults self.new.faults (IsErrOf result Failed) }
         ensures refused { OnOk result (Serves self.old name.now) }
         ensures stays { Stays self.old self.new }
-        ensures calls { Acts S.log (ReadsNamed (string_bytes self.old.root) name.now self.new.hold result) self.old self.new }
+        ensures calls { Acts S.log (ReadsNamed (string_bytes self.old.root) name.now self.new.hold
+            result) self.old self.new }
     {
         match self.read_now(name) {
             Ok(bytes) => Ok(bytes),
@@ -117,7 +118,8 @@ impl<S: System + Drop> Vault for FolderVault<S> {
         ensures cause { HasCause self.old.faults self.new.faults (IsErrOf result Failed) }
         ensures refused { OnOk result (Serves self.old name.now) }
         ensures stays { Stays self.old self.new }
-        ensures calls { Acts S.log (MeasuresNamed (string_bytes self.old.root) name.now self.new.hold result) self.old self.new }
+        ensures calls { Acts S.log (MeasuresNamed (string_bytes self.old.root) name.now
+            self.new.hold result) self.old self.new }
     {
         match self.length_now(name) {
             Ok(length) => Ok(length),
@@ -145,8 +147,8 @@ impl<S: System + Drop> Vault for FolderVault<S> {
         ensures refused { OnOk result (Serves self.old name.now × IsHeld self.new.hold) }
         ensures noted { OnOk result (Notes self.new name.now) }
         ensures adds { Adds self.old self.new }
-        ensures calls { WritesFile (string_bytes self.old.root) name.now bytes.now self.old.hold (is_ok result)
-            (S.log self.old.system) (S.log self.new.system) }
+        ensures calls { WritesFile (string_bytes self.old.root) name.now bytes.now self.old.hold
+            (is_ok result) (S.log self.old.system) (S.log self.new.system) }
         ensures no_name { is_name name.now ≡ false
             → AsksAlone S.log self.old self.new }
     {
@@ -181,7 +183,8 @@ impl<S: System + Drop> Vault for FolderVault<S> {
         ensures refused { OnOk result (Serves self.old name.now) }
         ensures noted { result ≡ Ok true → Notes self.new name.now ⊎ IsTrue self.new.is_unsettled }
         ensures adds { Adds self.old self.new }
-        ensures calls { Acts S.log (RemovesNamed (string_bytes self.old.root) name.now self.new.hold result) self.old self.new }
+        ensures calls { Acts S.log (RemovesNamed (string_bytes self.old.root) name.now self.new.hold
+            result) self.old self.new }
     {
         match self.remove_now(name) {
             Ok(found) => Ok(found),
@@ -197,7 +200,7 @@ impl<S: System + Drop> Vault for FolderVault<S> {
         ensures refused { OnOk result (self.old.hold ≢ Hold.Refused) }
         ensures fails { OnErr result (Fails self.old self.new) }
         ensures root { (self.new.root ≡ self.old.root) × Holds self.old.hold self.new.hold }
-        ensures calls { OnOk result (Acts S.log (SyncsHeld (string_bytes self.old.root) self.old.hold self.new.hold self.old.is_unsettled (map string_bytes self.old.folders.items)) self.old self.new) }
+        ensures calls { OnOk result (SyncsDone S.log self.old self.new) }
     {
         match self.sync_now() {
             Ok(()) => Ok(()),

@@ -45,8 +45,10 @@ pub fn refused() -> io::Error
 
 /// Opens and locks a folder whose path ends in a slash. None where another vault holds it.
 fn lock_folder<S: System>(system: &mut S, folder: &str) -> io::Result<Option<S::File>>
-    ensures given { IfOk result (λ held. Locks folder.now (is_some held) (S.log system.old) (S.log system.new)) }
-    ensures fails { IfErr result (λ error. LocksNot folder.now (error_kind error) (S.log system.old) (S.log system.new)) }
+    ensures given { IfOk result (λ held. Locks folder.now (is_some held) (S.log system.old)
+        (S.log system.new)) }
+    ensures fails { IfErr result (λ error. LocksNot folder.now (error_kind error) (S.log system.old)
+        (S.log system.new)) }
 {
     let open = system.open(folder)?;
     if system.lock(&open)? {
@@ -58,7 +60,8 @@ fn lock_folder<S: System>(system: &mut S, folder: &str) -> io::Result<Option<S::
 
 /// What a vault has of the folder at this path, which ends in a slash: it holds it, if it is there.
 pub fn hold_of<S: System>(system: &mut S, folder: &str) -> io::Result<Hold<S::File>>
-    ensures asked { IfOk result (λ hold. AskedAt folder.now hold (S.log system.old) (S.log system.new)) }
+    ensures asked { IfOk result (λ hold. AskedAt folder.now hold (S.log system.old)
+        (S.log system.new)) }
     ensures fails { IfErr result (λ error. (error_kind error ≢ ErrorKind.NotFound)
         × LocksNot folder.now (error_kind error) (S.log system.old) (S.log system.new)) }
 {
@@ -72,12 +75,9 @@ pub fn hold_of<S: System>(system: &mut S, folder: &str) -> io::Result<Hold<S::Fi
 
 /// Opens and locks a folder that was just made, by its path with a slash at the end. None where another vault holds it. Where it
 /// can't be opened or locked it goes again, so that a later try may make it.
-fn hold_made<S: System>(
-    system: &mut S,
-    folder: &str,
-    slashed: &str,
-) -> io::Result<Option<S::File>>
-    ensures given { IfOk result (λ held. Locks slashed.now (is_some held) (S.log system.old) (S.log system.new)) }
+fn hold_made<S: System>(system: &mut S, folder: &str, slashed: &str) -> io::Result<Option<S::File>>
+    ensures given { IfOk result (λ held. Locks slashed.now (is_some held) (S.log system.old)
+        (S.log system.new)) }
     ensures fails { IfErr result (λ error. LocksAndLeaves folder.now slashed.now (error_kind error)
         (S.log system.old) (S.log system.new)) }
 {
@@ -98,7 +98,8 @@ pub fn make_held<S: System>(
     slashed: &str,
 ) -> io::Result<Option<S::File>>
     requires { slashed.now ≡ with_slash folder.now }
-    ensures made { IfOk result (λ held. MakesRoot folder.now (is_some held) (S.log system.old) (S.log system.new)) }
+    ensures made { IfOk result (λ held. MakesRoot folder.now (is_some held) (S.log system.old)
+        (S.log system.new)) }
     ensures fails { OnErr result (MakesRoot folder.now false (S.log system.old) (S.log system.new)) }
 {
     match system.make_folder(folder) {

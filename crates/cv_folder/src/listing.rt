@@ -76,7 +76,10 @@ pub fn list_files<S: System>(
         found: Vec::new(alloc),
         todo: Vec::new(alloc),
     };
-    listing.todo.push(String::new(alloc)).map_err(AllocError::from)?;
+    listing
+        .todo
+        .push(String::new(alloc))
+        .map_err(AllocError::from)?;
     // Each turn takes one folder of the disk; the bound is never met.
     for _ in 0..u64::MAX {
         let Some(folder) = listing.todo.pop() else {
@@ -94,7 +97,8 @@ impl Listing {
     /// Adds a name, if it begins with the prefix.
     #[tactic(auto, using(crate::proofs::Listed::one_more))]
     fn add(&mut self, name: String, prefix: &str) -> Result<(), AllocError>
-        ensures { AllBegin prefix.now self.old.found.items → AllBegin prefix.now self.new.found.items }
+        ensures { AllBegin prefix.now self.old.found.items
+            → AllBegin prefix.now self.new.found.items }
     {
         if !begins(name.as_str(), prefix) {
             return Ok(());
@@ -111,7 +115,8 @@ impl Listing {
         below: String,
         prefix: &str,
     ) -> io::Result<()>
-        ensures { AllBegin prefix.now self.old.found.items → AllBegin prefix.now self.new.found.items }
+        ensures { AllBegin prefix.now self.old.found.items
+            → AllBegin prefix.now self.new.found.items }
     {
         let Some(found) = found else {
             return Ok(());
@@ -136,7 +141,8 @@ impl Listing {
         bytes: &[u8],
         prefix: &str,
     ) -> io::Result<()>
-        ensures begin { AllBegin prefix.now self.old.found.items → AllBegin prefix.now self.new.found.items }
+        ensures begin { AllBegin prefix.now self.old.found.items
+            → AllBegin prefix.now self.new.found.items }
         ensures quiet { Quiet (S.log system.old) (S.log system.new) }
     {
         let Ok(last) = str::from_utf8(bytes) else {
@@ -164,7 +170,8 @@ impl Listing {
         names: &[u8],
         prefix: &str,
     ) -> io::Result<()>
-        ensures begin { AllBegin prefix.now self.old.found.items → AllBegin prefix.now self.new.found.items }
+        ensures begin { AllBegin prefix.now self.old.found.items
+            → AllBegin prefix.now self.new.found.items }
         ensures quiet { Quiet (S.log system.old) (S.log system.new) }
     {
         let mut rest = names;
@@ -184,7 +191,8 @@ impl Listing {
         open: S::Names,
         prefix: &str,
     ) -> io::Result<()>
-        ensures begin { AllBegin prefix.now self.old.found.items → AllBegin prefix.now self.new.found.items }
+        ensures begin { AllBegin prefix.now self.old.found.items
+            → AllBegin prefix.now self.new.found.items }
         ensures quiet { Quiet (S.log system.old) (S.log system.new) }
     {
         let mut open = open;
@@ -208,7 +216,8 @@ impl Listing {
         folder: &str,
         prefix: &str,
     ) -> io::Result<()>
-        ensures begin { AllBegin prefix.now self.old.found.items → AllBegin prefix.now self.new.found.items }
+        ensures begin { AllBegin prefix.now self.old.found.items
+            → AllBegin prefix.now self.new.found.items }
         ensures quiet { Quiet (S.log system.old) (S.log system.new) }
     {
         let at = format!(in self.alloc; "{root}/{folder}")?;

@@ -2,7 +2,8 @@
 //! folder there.
 ghost use Rattle.std.specs.Prelude.{◌≡◌, ◌≢◌, ◌↔◌, ◌<◌, None, Ok, IfOk, OnOk, OnErr, IsSome, IfSome, IfNone, IsTrue, length, slice_index, take, true, false};
 ghost use Rattle.std.specs.IoError.{error_kind, raw_os_error};
-ghost use Rattle.cv_folder.specs.Looks.{Finds, IsNothing, IsReading, Looks, LooksForFolder, MissesFolder, OpensFile, ReadsFile, SeesFolders, folders_at, folders_past};
+ghost use Rattle.cv_folder.specs.Looks.{Finds, IsNothing, IsReading, MissesFolder, OpensFile, ReadsFile, SeesFolders, folders_past};
+ghost use Rattle.cv_folder.specs.LooksInner.{Looks, LooksForFolder, folders_at};
 ghost use Rattle.cv_folder.specs.Passed.{IsNoName};
 ghost use Rattle.cv_folder.specs.Steps.{IsLook, Makes};
 
@@ -14,7 +15,8 @@ use std::io::ErrorKind;
 
 /// Whether the error is want of memory in this process, and not an error that the system gave.
 pub fn is_memory(error: &io::Error) -> bool
-    ensures { IsTrue result ↔ (error_kind error.now ≡ ErrorKind.OutOfMemory) × (raw_os_error error.now ≡ None) }
+    ensures { IsTrue result ↔ (error_kind error.now ≡ ErrorKind.OutOfMemory)
+        × (raw_os_error error.now ≡ None) }
 {
     matches!(error.kind(), ErrorKind::OutOfMemory) && error.raw_os_error().is_none()
 }
@@ -62,7 +64,8 @@ pub fn seen_entry<S: System>(system: &mut S, path: &str) -> io::Result<Option<Se
 /// The folder whose path ends at this place of a path, if a slash stands there.
 pub fn folder_at(path: &str, end: usize) -> Option<&str>
     requires { end < length path.now }
-    ensures folder { IfSome result (λ folder. (folder.now ≡ take end path.now) × (slice_index path.now end ≡ 47)) }
+    ensures folder { IfSome result (λ folder. (folder.now ≡ take end path.now)
+        × (slice_index path.now end ≡ 47)) }
     ensures none { IfNone result (slice_index path.now end ≢ 47) }
 {
     if path.as_bytes()[end] != b'/' {
@@ -114,11 +117,7 @@ pub fn has_folders<S: System>(system: &mut S, path: &str, from: usize) -> io::Re
 }
 
 /// The regular file at a path, if one is there. The first `from` bytes of the path aren't looked at.
-pub fn find_file<S: System>(
-    system: &mut S,
-    path: &str,
-    from: usize,
-) -> io::Result<Option<Seen>>
+pub fn find_file<S: System>(system: &mut S, path: &str, from: usize) -> io::Result<Option<Seen>>
     ensures { Finds from path.now result (S.log system.old) (S.log system.new) }
 {
     if !has_folders(system, path, from)? {
@@ -148,7 +147,8 @@ pub fn read_found<S: System>(
     path: &str,
     found: &Seen,
 ) -> io::Result<Vec<u8>>
-    ensures whole { IfOk result (λ bytes. ReadsFile path.now found.now bytes.items (S.log system.old) (S.log system.new)) }
+    ensures whole { IfOk result (λ bytes. ReadsFile path.now found.now bytes.items
+        (S.log system.old) (S.log system.new)) }
     ensures reads { OnErr result (Makes (IsReading path.now) (S.log system.old) (S.log system.new)) }
 {
     let file = open_found(system, path, found)?;

@@ -139,7 +139,11 @@ impl Place {
     }
 
     /// Passes over an error in the folder where no name of the vault is behind it. Any other ends the sync.
-    pub fn pass_over<S: System>(&mut self, system: &mut S, error: &io::Error) -> Result<(), Unsynced>
+    pub fn pass_over<S: System>(
+        &mut self,
+        system: &mut S,
+        error: &io::Error,
+    ) -> Result<(), Unsynced>
         ensures folder { self.new.folder ≡ self.old.folder }
         ensures last { self.new.last ≡ self.old.last }
         ensures ahead { self.new.ahead ≡ self.old.ahead }
@@ -287,7 +291,8 @@ impl Place {
         ensures folder { self.new.folder ≡ self.old.folder }
         ensures last { self.new.last ≡ self.old.last }
         ensures ahead { self.new.ahead ≡ self.old.ahead }
-        ensures calls { OnOk result (SettlesFolder self.old.folder (S.log system.old) (S.log system.new)) }
+        ensures calls { OnOk result (SettlesFolder self.old.folder (S.log system.old)
+            (S.log system.new)) }
     {
         self.remove_left(system);
         let synced = sync_at(system, self.folder.as_str());

@@ -1,7 +1,6 @@
 //! A file that gets its name.
-ghost use Rattle.std.specs.Prelude.{◌≡◌, [], ◌∷◌, IfOk, IsSome, OnErr, Ok, true, false, is_ok};
+ghost use Rattle.std.specs.Prelude.{◌≡◌, [], ◌∷◌, IfOk, IsSome, Ok, true, false, is_ok};
 ghost use Rattle.cv_folder.specs.Calls.{Created, Removed};
-ghost use Rattle.cv_folder.specs.Looks.{IsSame};
 ghost use Rattle.cv_folder.specs.Steps.{IsLook, Makes, Tries};
 ghost use Rattle.cv_folder.specs.Writes.{MovesFile, Puts, SeesOther, TriesAnew, put};
 
@@ -45,12 +44,7 @@ fn put_next<S: System>(system: &mut S, next: &str, path: &str, bytes: &[u8]) -> 
 
 /// Makes a new file with these bytes under `next`, and gives it its name once they are durable. Where that fails the file
 /// goes again.
-pub fn put_file<S: System>(
-    system: &mut S,
-    next: &str,
-    path: &str,
-    bytes: &[u8],
-) -> io::Result<()>
+pub fn put_file<S: System>(system: &mut S, next: &str, path: &str, bytes: &[u8]) -> io::Result<()>
     ensures { Puts next.now path.now bytes.now (is_ok result) (S.log system.old) (S.log system.new) }
 {
     match put_next(system, next, path, bytes) {
@@ -64,7 +58,8 @@ pub fn put_file<S: System>(
 
 /// Whether a path is another name of a file that was found.
 fn is_other_name<S: System>(system: &mut S, found: &Seen, path: &str) -> io::Result<bool>
-    ensures other { result ≡ Ok true → SeesOther found.now path.now (S.log system.old) (S.log system.new) }
+    ensures other { result ≡ Ok true → SeesOther found.now path.now (S.log system.old)
+        (S.log system.new) }
     ensures looks { Makes IsLook (S.log system.old) (S.log system.new) }
 {
     if found.links <= 1 {
@@ -78,7 +73,8 @@ fn is_other_name<S: System>(system: &mut S, found: &Seen, path: &str) -> io::Res
 
 /// Gives a file another name. Of two names of one file the system's own rename leaves both.
 pub fn move_file<S: System>(system: &mut S, from: &str, found: &Seen, to: &str) -> io::Result<()>
-    ensures { MovesFile from.now to.now found.now (is_ok result) (S.log system.old) (S.log system.new) }
+    ensures { MovesFile from.now to.now found.now (is_ok result) (S.log system.old)
+        (S.log system.new) }
 {
     if is_other_name(system, found, to)? {
         system.remove_file(from)

@@ -57,7 +57,8 @@ pub fn sync_folder<S: System>(system: &mut S, folder: &str) -> Result<(), Unsync
 
 /// Makes each folder durable.
 pub fn sync_folders<S: System>(system: &mut S, folders: &Vec<String>) -> Result<(), Unsynced>
-    ensures { Tries (syncs (map string_bytes folders.now.items)) (is_ok result) (S.log system.old) (S.log system.new) }
+    ensures { Tries (syncs (map string_bytes folders.now.items)) (is_ok result) (S.log system.old)
+        (S.log system.new) }
 {
     for folder in folders {
         sync_folder(system, folder.as_str())?;

@@ -52,12 +52,7 @@ pub trait System {
         ensures { log self.new ≡ and_call (Checked (place file.now) (told result)) (log self.old) };
 
     /// All bytes of a file that was just opened. It begins with room for so many.
-    fn read_to_end(
-        &mut self,
-        alloc: Global,
-        file: Self::File,
-        room: usize,
-    ) -> io::Result<Vec<u8>>
+    fn read_to_end(&mut self, alloc: Global, file: Self::File, room: usize) -> io::Result<Vec<u8>>
         ensures { log self.new ≡ and_call (Read (place file) (told_bytes result)) (log self.old) };
 
     /// Locks what is open, so that no other lock of it is given until it is closed. Whether no other lock was.

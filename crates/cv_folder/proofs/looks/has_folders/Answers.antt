@@ -1,5 +1,6 @@
 use Rattle.std.proofs.Common.{◌∙◌, [], ap, refl, subst, Ok, List, ℕ}
-use Rattle.cv_folder.specs.Looks.{SeesFolders, folders_at, folders_past}
+use Rattle.cv_folder.specs.Looks.{SeesFolders}
+use Rattle.cv_folder.specs.LooksInner.{folders_at}
 use Rattle.cv_folder.specs.Steps.{Still}
 use Rattle.cv_folder.proofs.Seeing.{all_seen, ends_here, one_place_more, sees_then}
 use Rattle.cv_folder.proofs.Stepping.{steps_then}

@@ -25,8 +25,8 @@ returns-clause-place g c = λ some. c.in_ok-file.ensures.place (told_before _ _ 
 
 pub returns-clause-opens : goal.returns-clause-opens
 returns-clause-opens g c = (
-    c.in_ok-opened.opened,
-    c.is_file.ensures.0 c.if-not-is_file.false,
-    c.is_same.ensures.0 c.if-not-is_same.false,
-    two_calls _ _ _ _ _ c.in_ok-file.ensures.call (call_at Checked _ _ _ _ _ c.in_ok-file.ensures.place c.in_ok-opened.ensures),
+  c.in_ok-opened.opened,
+  c.is_file.ensures.0 c.if-not-is_file.false,
+  c.is_same.ensures.0 c.if-not-is_same.false,
+  two_calls _ _ _ _ _ c.in_ok-file.ensures.call (call_at Checked _ _ _ _ _ c.in_ok-file.ensures.place c.in_ok-opened.ensures),
 )

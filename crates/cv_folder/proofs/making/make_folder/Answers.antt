@@ -1,4 +1,4 @@
-use Rattle.std.proofs.Common.{inl, subst, Ok}
+use Rattle.std.proofs.Common.{inl}
 use Rattle.cv_folder.proofs.Stepping.{looks_so}
 use Rattle.cv_folder.proofs.Preparing.{makes_missing}
 use Rattle.cv_folder.proofs.making.make_folder.Goals as goal

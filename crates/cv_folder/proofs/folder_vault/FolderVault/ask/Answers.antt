@@ -1,4 +1,3 @@
-use Rattle.std.proofs.lemmas.Result.{err_from_is_err_and}
 use Rattle.std.proofs.Common.{subst, string_bytes, sym}
 use Rattle.std.specs.Prelude.{IsTrue}
 use Rattle.cv_folder.specs.FolderVault.{AsksAlone}

@@ -1,4 +1,4 @@
-use Rattle.std.proofs.Common.{◌∙◌, ap, refl, string_bytes}
+use Rattle.std.proofs.Common.{ap, string_bytes}
 use Rattle.std.specs.Prelude.{IsTrue}
 use Rattle.cv_folder.specs.Names.{is_name}
 use Rattle.cv_folder.proofs.Filing.{begins_asked, begins_made}

@@ -1,5 +1,5 @@
 use Rattle.std.proofs.lemmas.Result.{err_from_is_err_and}
-use Rattle.std.proofs.Common.{◌∙◌, List, ℕ, ap, refl, string_bytes, subst, sym}
+use Rattle.std.proofs.Common.{◌∙◌, List, ℕ, ap, refl, string_bytes, subst}
 use Rattle.cv_folder.specs.Looks.{IsReading, ReadsFile}
 use Rattle.cv_folder.specs.Names.{path_of}
 use Rattle.cv_folder.specs.Steps.{Makes}

@@ -1,4 +1,4 @@
-use Rattle.std.proofs.Common.{◌∙◌, ap, refl, string_bytes}
+use Rattle.std.proofs.Common.{◌∙◌, ap}
 use Rattle.cv_folder.specs.Names.{folder_of}
 use Rattle.cv_folder.specs.Calls.{Removed}
 use Rattle.cv_folder.proofs.Trying.{tried_one}
