@@ -18,26 +18,26 @@ use Rattle.cv_folder.proofs.Stepping.{no_step}
 
 -- a write begins as the folder is asked for
 pub begins_asked : {S F N : Type 0} (log : S → Log) (before after : FolderVault S F N) → AsksAlone log before after
-    → Begins (string_bytes before.root) before.hold (log before.system) (log after.system)
+    → Begins (string_bytes before.root) before.hold after.hold (log before.system) (log after.system)
 unfolding AsksAlone Begins
-begins_asked log before after asks = (after.hold, log after.system, asks, inl refl)
+begins_asked log before after asks = (after.hold, log after.system, asks, inl (refl, refl))
 
-module _ {S F N : Type 0} (log : S → Log) (before between after : FolderVault S F N) where
-  -- where it is absent it is made
-  pub begins_made : AsksAlone log before between → between.hold ≡ Absent → (root : List ℕ) → root ≡ string_bytes before.root
-      → (held : Bool) × MakesRoot root held (log between.system) (log after.system) → Begins (string_bytes before.root) before.hold (log before.system) (log after.system)
-  unfolding AsksAlone Begins
-  begins_made asks absent root same (held, makes) =
-      (between.hold, log between.system, asks, inr (absent, held, subst (λ (r : List ℕ). MakesRoot r held (log between.system) (log after.system)) same makes))
+-- where it is absent it is made
+pub begins_made : {S F N : Type 0} (log : S → Log) (before between after : FolderVault S F N) → AsksAlone log before between → between.hold ≡ Absent
+    → (root : List ℕ) → root ≡ string_bytes before.root → MakesRoot root after.hold (log between.system) (log after.system)
+    → Begins (string_bytes before.root) before.hold after.hold (log before.system) (log after.system)
+unfolding AsksAlone Begins
+begins_made log before between after asks absent root same makes =
+    (between.hold, log between.system, asks, inr (absent, subst (λ (r : List ℕ). MakesRoot r after.hold (log between.system) (log after.system)) same makes))
 
-module _ {F : Type 0} (root name bytes : List ℕ) (hold : Hold F) (before begun : Log) (begins : Begins root hold before begun) where
+module _ {F : Type 0} (root name bytes : List ℕ) (was hold : Hold F) (before begun : Log) (begins : Begins root was hold before begun) where
   -- a write ends before its file is put
-  pub writes_not : (ready : Log) → Prepares (length root + 1) (path_of root name) begun ready → WritesFile root name bytes hold false before ready
+  pub writes_not : (ready : Log) → Prepares (length root + 1) (path_of root name) begun ready → WritesFile root name bytes was hold false before ready
   unfolding WritesFile
   writes_not ready prepares = (begun, ready, begins, prepares, inr (refl, refl))
 
   -- it ends before it made a folder on the way
-  pub writes_no_more : (after : Log) → after ≡ begun → WritesFile root name bytes hold false before after
+  pub writes_no_more : (after : Log) → after ≡ begun → WritesFile root name bytes was hold false before after
   unfolding Prepares
   writes_no_more after same = writes_not after (no_step same)
 
@@ -49,11 +49,11 @@ module _ {F : Type 0} (root name bytes : List ℕ) (hold : Hold F) (before begun
         (subst (λ (p : List ℕ). Prepares (length root + 1) p set ready) at (subst (λ (n : ℕ). Prepares n path set ready) size prepares))
 
     -- a folder on the way couldn't be made
-    pub writes_on_way : WritesFile root name bytes hold false before ready
+    pub writes_on_way : WritesFile root name bytes was hold false before ready
     writes_on_way = writes_not ready prepared
 
     -- the file is put, or that fails
-    pub writes_so : (done : Bool) (after : Log) → next ≡ folder_of path ++ codes ".cvkit-next" → Puts next path bytes done ready after → WritesFile root name bytes hold done before after
+    pub writes_so : (done : Bool) (after : Log) → next ≡ folder_of path ++ codes ".cvkit-next" → Puts next path bytes done ready after → WritesFile root name bytes was hold done before after
     unfolding WritesFile
     writes_so done after beside puts =
         let own : next ≡ next_of root name = beside ∙ ap (λ (p : List ℕ). folder_of p ++ codes ".cvkit-next") at in

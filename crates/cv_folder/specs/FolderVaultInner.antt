@@ -2,7 +2,7 @@
 use Rattle.std.specs.Prelude.{ℕ, ◌≡◌, ◌⊎◌, ◌+◌, List, length, IsTrue, string_bytes, Bool, true, false, Option, Some, None, Result, Ok, Err}
 use Rattle.cv_folder.specs.declared.folder_vault.FolderVault.{FolderVault}
 use Rattle.cv_folder.specs.declared.hold.Hold.{Hold}
-use Rattle.cv_folder.specs.declared.hold.Hold.TheVariants.{Absent}
+use Rattle.cv_folder.specs.declared.hold.Hold.TheVariants.{Absent, Held, Refused}
 use Rattle.cv_folder.specs.Hold.{IsHeld}
 use Rattle.cv_folder.specs.Reads.{HasFile, LacksFile, LooksInVain}
 use Rattle.cv_folder.specs.Writes.{MovesFile, Prepares}
@@ -30,3 +30,9 @@ unfoldable pub FindsNamed : {F E : Type 0} → List ℕ → List ℕ → Hold F 
 FindsNamed root name hold (Ok (Some seen)) before after = HasFile root name hold seen before after
 FindsNamed root name hold (Ok None) before after = LacksFile root name hold before after
 FindsNamed root name hold (Err error) before after = LooksInVain name hold before after
+
+-- what a vault has of a folder whose making and locking answered so
+abbrev pub made_hold : {F E : Type 0} → Result (Option F) E → Hold F
+made_hold (Ok (Some file)) = Held file
+made_hold (Ok None) = Refused
+made_hold (Err error) = Absent

@@ -1,7 +1,7 @@
 -- How a vault comes to hold its folder.
 use Rattle.std.specs.Prelude.{ℕ, ◌≡◌, ◌⊎◌, ◌+◌, ◌<◌, Bool, true, false, List, [], ◌∷◌, ◌++◌, length, Ok, Err, IsTrue, ⊤}
 use Rattle.std.specs.declared.io.ErrorKind.{ErrorKind}
-use Rattle.std.specs.declared.io.ErrorKind.TheVariants.{NotFound}
+use Rattle.std.specs.declared.io.ErrorKind.TheVariants.{AlreadyExists, NotFound}
 use Rattle.cv_folder.specs.declared.hold.Hold.{Hold}
 use Rattle.cv_folder.specs.declared.hold.Hold.TheVariants.{Unasked, Held, Absent, Refused}
 use Rattle.cv_folder.specs.Calls.{Log, Outcome, and_call, and_calls, Done, Failed, Opened, Locked, Made, Unmade}
@@ -57,17 +57,20 @@ abbrev pub LocksAndLeaves : List ℕ → List ℕ → ErrorKind → Log → Log 
 LocksAndLeaves folder slashed kind before after =
     (gone : Outcome) × (tried : Log) × LocksNot slashed kind before tried × (after ≡ and_call (Unmade folder gone) tried)
 
--- a vault's folder, which wasn't there, is made, opened and locked, up to what fails; where it can't be locked it goes again. Whether it is held
-unfoldable pub MakesRoot : List ℕ → Bool → Log → Log → Type 0
-MakesRoot root true before after = Locks (with_slash root) true (and_call (Made root Done) before) after
-MakesRoot root false before after =
+-- a vault's folder, which wasn't there, is made, and what the vault has of it then: it holds it exactly where it was made, opened and locked;
+-- it is refused where something stood there by now or another vault holds it; else it is absent still, and where it couldn't be locked it goes again
+unfoldable pub MakesRoot : {F : Type 0} → List ℕ → Hold F → Log → Log → Type 0
+MakesRoot root (Held file) before after = Locks (with_slash root) true (and_call (Made root Done) before) after
+MakesRoot root Refused before after =
+    (after ≡ and_call (Made root (Failed AlreadyExists)) before) ⊎ Locks (with_slash root) false (and_call (Made root Done) before) after
+MakesRoot root Absent before after =
     (after ≡ before)
     ⊎ ((kind : ErrorKind) × (after ≡ and_call (Made root (Failed kind)) before))
-    ⊎ Locks (with_slash root) false (and_call (Made root Done) before) after
     ⊎ ((kind : ErrorKind) × LocksAndLeaves root (with_slash root) kind (and_call (Made root Done) before) after)
+MakesRoot root Unasked before after = ⊥
 
--- a write begins: the folder is asked for, and made where it is absent
-unfoldable pub Begins : {F : Type 0} → List ℕ → Hold F → Log → Log → Type 0
-Begins {F} root before_hold before after =
-    (hold : Hold F) × (asked : Log) × Asks root before_hold hold before asked
-    × ((after ≡ asked) ⊎ ((hold ≡ Absent) × (held : Bool) × MakesRoot root held asked after))
+-- a write begins: the folder is asked for, and where it is absent it is made. What the vault had of it, and has by then
+unfoldable pub Begins : {F : Type 0} → List ℕ → Hold F → Hold F → Log → Log → Type 0
+Begins {F} root was hold before after =
+    (found : Hold F) × (asked : Log) × Asks root was found before asked
+    × (((hold ≡ found) × (after ≡ asked)) ⊎ ((found ≡ Absent) × MakesRoot root hold asked after))

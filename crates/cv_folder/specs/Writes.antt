@@ -41,10 +41,10 @@ unfoldable pub Prepares : ℕ → List ℕ → Log → Log → Type 0
 Prepares from path before after = Steps (λ one other. Makes IsLook one other ⊎ ((folder : List ℕ) × IsOnWay from path folder × MakesMissing folder one other)) before after
 
 -- a write: it begins, then nothing is changed but that folders on the way to the name are made, and then the file is put, once, or
--- the write has failed before. Whether it is done
-unfoldable pub WritesFile : {F : Type 0} → List ℕ → List ℕ → List ℕ → Hold F → Bool → Log → Log → Type 0
-WritesFile root name bytes hold done before after =
-    (begun ready : Log) × Begins root hold before begun × Prepares (length root + 1) (path_of root name) begun ready
+-- the write has failed before. What the vault had of its folder and has by now, and whether the write is done
+unfoldable pub WritesFile : {F : Type 0} → List ℕ → List ℕ → List ℕ → Hold F → Hold F → Bool → Log → Log → Type 0
+WritesFile root name bytes was hold done before after =
+    (begun ready : Log) × Begins root was hold before begun × Prepares (length root + 1) (path_of root name) begun ready
     × (Puts (next_of root name) (path_of root name) bytes done ready after ⊎ ((done ≡ false) × (after ≡ ready)))
 
 -- a look sees that a path is another name of a file

@@ -1,5 +1,5 @@
 //! What a vault over a folder does, and which calls of the system it makes for it.
-ghost use Rattle.std.specs.Prelude.{◌≡◌, ◌≢◌, ◌<◌, ◌+◌, ◌↔◌, ◌⊎◌, ◌++◌, Bool, [], ◌∷◌, length, map, true, false, Ok, Err, None, IfOk, IsOk, IsTrue, OnErr, OnOk, codes, is_ok, string_bytes, ⊤};
+ghost use Rattle.std.specs.Prelude.{◌≡◌, ◌≢◌, ◌<◌, ◌+◌, ◌↔◌, ◌⊎◌, ◌++◌, [], ◌∷◌, length, map, true, false, Ok, Err, None, IfOk, IsOk, IsTrue, OnErr, OnOk, codes, is_ok, string_bytes, ⊤};
 ghost use Rattle.std.specs.IoError.{error_kind, raw_os_error};
 ghost use Rattle.cv_base.specs.Counts.{HasCause};
 ghost use Rattle.cv_vault.specs.declared.vault.VaultFault.TheVariants.{Failed, NoMemory};
@@ -73,7 +73,7 @@ impl<S: System + Drop> FolderVault<S> {
             (IsTrue (is_noted self.new.folders.items (folder_of (string_bytes self.old.root)))) }
         ensures adds { Adds self.old self.new }
         ensures faults { self.new.faults ≡ self.old.faults }
-        ensures calls { (held : Bool) × MakesRoot (string_bytes self.old.root) held
+        ensures calls { MakesRoot (string_bytes self.old.root) self.new.hold
             (S.log self.old.system) (S.log self.new.system) }
     {
         note(&mut self.folders, folder_of(self.root.as_str()))?;
@@ -287,8 +287,8 @@ impl<S: System + Drop> FolderVault<S> {
         ensures path { OnOk result (IsAt self.new name.now) }
         ensures adds { Adds self.old self.new }
         ensures faults { self.new.faults ≡ self.old.faults }
-        ensures begins { Begins (string_bytes self.old.root) self.old.hold (S.log self.old.system)
-            (S.log self.new.system) }
+        ensures begins { Begins (string_bytes self.old.root) self.old.hold self.new.hold
+            (S.log self.old.system) (S.log self.new.system) }
         ensures no_name { is_name name.now ≡ false
             → AsksAlone S.log self.old self.new }
     {
@@ -305,7 +305,7 @@ impl<S: System + Drop> FolderVault<S> {
         ensures adds { Adds self.old self.new }
         ensures faults { self.new.faults ≡ self.old.faults }
         ensures calls { WritesFile (string_bytes self.old.root) name.now bytes.now self.old.hold
-            (is_ok result) (S.log self.old.system) (S.log self.new.system) }
+            self.new.hold (is_ok result) (S.log self.old.system) (S.log self.new.system) }
         ensures no_name { is_name name.now ≡ false
             → AsksAlone S.log self.old self.new }
     {

@@ -148,7 +148,7 @@ impl<S: System + Drop> Vault for FolderVault<S> {
         ensures noted { OnOk result (Notes self.new name.now) }
         ensures adds { Adds self.old self.new }
         ensures calls { WritesFile (string_bytes self.old.root) name.now bytes.now self.old.hold
-            (is_ok result) (S.log self.old.system) (S.log self.new.system) }
+            self.new.hold (is_ok result) (S.log self.old.system) (S.log self.new.system) }
         ensures no_name { is_name name.now ≡ false
             → AsksAlone S.log self.old self.new }
     {

@@ -1,6 +1,7 @@
 //! The hold that a vault has of its folder.
-ghost use Rattle.std.specs.Prelude.{◌≡◌, ◌≢◌, ◌↔◌, IfOk, IfErr, OnErr, IsTrue, is_some, false};
+ghost use Rattle.std.specs.Prelude.{◌≡◌, ◌≢◌, ◌↔◌, IfOk, IfErr, IsTrue, is_some};
 ghost use Rattle.std.specs.IoError.{error_kind};
+ghost use Rattle.cv_folder.specs.FolderVaultInner.{made_hold};
 ghost use Rattle.cv_folder.specs.Hold.{AskedAt, Locks, LocksAndLeaves, LocksNot, MakesRoot, with_slash};
 
 use crate::system::System;
@@ -98,9 +99,7 @@ pub fn make_held<S: System>(
     slashed: &str,
 ) -> io::Result<Option<S::File>>
     requires { slashed.now ≡ with_slash folder.now }
-    ensures made { IfOk result (λ held. MakesRoot folder.now (is_some held) (S.log system.old)
-        (S.log system.new)) }
-    ensures fails { OnErr result (MakesRoot folder.now false (S.log system.old) (S.log system.new)) }
+    ensures { MakesRoot folder.now (made_hold result) (S.log system.old) (S.log system.new) }
 {
     match system.make_folder(folder) {
         Ok(()) => hold_made(system, folder, slashed),

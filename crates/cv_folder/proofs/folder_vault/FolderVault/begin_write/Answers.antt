@@ -25,7 +25,7 @@ returns-in_err-make_root-clause-no_name g c = λ never. let named : IsTrue (is_n
 
 pub returns-clause-begins : goal.returns-clause-begins
 returns-clause-begins g c =
-    rw c.set_path.ensures.calls
+    rw (c.set_path.ensures.calls, c.set_path.ensures.hold)
     (begins_made g.S.System.log c.args.self.now c.begin.new.self c.make_root.new.self c.begin.ensures.asks (rw c.if-branch.false at c.in_ok-begin.ensures.held) _ (ap string_bytes c.begin.ensures.stays.0) c.make_root.ensures.calls)
 
 pub returns-clause-no_name : goal.returns-clause-no_name
