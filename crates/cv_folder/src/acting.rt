@@ -289,8 +289,7 @@ impl<S: System + Drop> FolderVault<S> {
         ensures faults { self.new.faults ≡ self.old.faults }
         ensures begins { Begins (string_bytes self.old.root) self.old.hold self.new.hold
             (S.log self.old.system) (S.log self.new.system) }
-        ensures no_name { is_name name.now ≡ false
-            → AsksAlone S.log self.old self.new }
+        ensures no_name { is_name name.now ≡ false → AsksAlone S.log self.old self.new }
     {
         if self.begin(name)? {
             return Ok(());
@@ -306,8 +305,7 @@ impl<S: System + Drop> FolderVault<S> {
         ensures faults { self.new.faults ≡ self.old.faults }
         ensures calls { WritesFile (string_bytes self.old.root) name.now bytes.now self.old.hold
             self.new.hold (is_ok result) (S.log self.old.system) (S.log self.new.system) }
-        ensures no_name { is_name name.now ≡ false
-            → AsksAlone S.log self.old self.new }
+        ensures no_name { is_name name.now ≡ false → AsksAlone S.log self.old self.new }
     {
         self.begin_write(name)?;
         self.set_next()?;

@@ -66,6 +66,7 @@ impl<S: System + Drop> FolderVault<S> {
     pub fn new(alloc: Global, system: S, root: &str) -> Result<FolderVault<S>, AllocError>
         ensures faults { IfOk result (λ vault. vault.faults ≡ 0) }
         ensures root { IfOk result (λ vault. string_bytes vault.root ≡ root.now) }
+        ensures system { IfOk result (λ vault. vault.system ≡ system) }
         ensures fresh { IfOk result (λ vault. (vault.folders.items ≡ [])
             × (vault.is_unsettled ≡ false)
             × (vault.hold ≡ Hold.Unasked) × (vault.broken ≡ false)) }
@@ -149,8 +150,7 @@ impl<S: System + Drop> Vault for FolderVault<S> {
         ensures adds { Adds self.old self.new }
         ensures calls { WritesFile (string_bytes self.old.root) name.now bytes.now self.old.hold
             self.new.hold (is_ok result) (S.log self.old.system) (S.log self.new.system) }
-        ensures no_name { is_name name.now ≡ false
-            → AsksAlone S.log self.old self.new }
+        ensures no_name { is_name name.now ≡ false → AsksAlone S.log self.old self.new }
     {
         match self.write_now(name, bytes) {
             Ok(()) => Ok(()),
