@@ -9,7 +9,7 @@ use Rattle.cv_folder.specs.declared.seen.Seen.{Seen}
 use Rattle.cv_folder.specs.FolderVault.{Acts, AsksAlone, IsUncalled}
 use Rattle.cv_folder.specs.FolderVaultInner.{MovesOn}
 use Rattle.cv_folder.specs.Hold.{Begins, IsHeld, MakesRoot}
-use Rattle.cv_folder.specs.Names.{folder_of, next_of, path_of}
+use Rattle.cv_folder.specs.Names.{folder_of, is_name, next_of, path_of}
 use Rattle.cv_folder.specs.Steps.{Tries}
 use Rattle.cv_folder.specs.Syncs.{SettlesAll, SettlesFirst, SyncsAll, SyncsHeld, syncs}
 use Rattle.cv_folder.specs.Writes.{MovesFile, Prepares, Puts, WritesFile}
@@ -31,18 +31,13 @@ begins_made log before between after asks absent root same makes =
     (between.hold, log between.system, asks, inr (absent, subst (λ (r : List ℕ). MakesRoot r after.hold (log between.system) (log after.system)) same makes))
 
 module _ {F : Type 0} (root name bytes : List ℕ) (was hold : Hold F) (before begun : Log) (begins : Begins root was hold before begun) where
-  -- a write ends before its file is put
-  pub writes_not : (ready : Log) → Prepares (length root + 1) (path_of root name) begun ready → WritesFile root name bytes was hold false before ready
-  unfolding WritesFile
-  writes_not ready prepares = (begun, ready, begins, prepares, inr (refl, refl))
-
-  -- it ends before it made a folder on the way
+  -- a write ends as it has begun
   pub writes_no_more : (after : Log) → after ≡ begun → WritesFile root name bytes was hold false before after
-  unfolding Prepares
-  writes_no_more after same = writes_not after (no_step same)
+  unfolding WritesFile
+  writes_no_more after same = (begun, begins, inl (refl, same))
 
-  module _ (path next : List ℕ) (from : ℕ) (at : path ≡ path_of root name) (size : from ≡ length root + 1) (set ready : Log) (same : set ≡ begun)
-      (prepares : Prepares from path set ready) where
+  module _ (held : IsHeld hold) (named : IsTrue (is_name name)) (path next : List ℕ) (from : ℕ) (at : path ≡ path_of root name) (size : from ≡ length root + 1)
+      (set ready : Log) (same : set ≡ begun) (prepares : Prepares from path set ready) where
     prepared : Prepares (length root + 1) (path_of root name) begun ready
     prepared =
         subst (λ (log : Log). Prepares (length root + 1) (path_of root name) log ready) same
@@ -50,14 +45,15 @@ module _ {F : Type 0} (root name bytes : List ℕ) (was hold : Hold F) (before b
 
     -- a folder on the way couldn't be made
     pub writes_on_way : WritesFile root name bytes was hold false before ready
-    writes_on_way = writes_not ready prepared
+    unfolding WritesFile
+    writes_on_way = (begun, begins, inr (held, named, ready, prepared, inr (refl, refl)))
 
     -- the file is put, or that fails
     pub writes_so : (done : Bool) (after : Log) → next ≡ folder_of path ++ codes ".cvkit-next" → Puts next path bytes done ready after → WritesFile root name bytes was hold done before after
     unfolding WritesFile
     writes_so done after beside puts =
         let own : next ≡ next_of root name = beside ∙ ap (λ (p : List ℕ). folder_of p ++ codes ".cvkit-next") at in
-        (begun, ready, begins, prepared, inl (subst (λ (n : List ℕ). Puts n (path_of root name) bytes done ready after) own (subst (λ (p : List ℕ). Puts next p bytes done ready after) at puts)))
+        (begun, begins, inr (held, named, ready, prepared, inl (subst (λ (n : List ℕ). Puts n (path_of root name) bytes done ready after) own (subst (λ (p : List ℕ). Puts next p bytes done ready after) at puts))))
 
 -- nothing is settled first
 pub settles_nothing : (root : List ℕ) (is_unsettled : Bool) (before after : Log) → is_unsettled ≡ false → after ≡ before → SettlesFirst root is_unsettled before after

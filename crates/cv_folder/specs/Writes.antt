@@ -1,5 +1,5 @@
 -- How a file gets its name, and the folders that it stands in.
-use Rattle.std.specs.Prelude.{ℕ, ◌≡◌, ◌⊎◌, ◌≤◌, ◌+◌, Bool, true, false, List, [], ◌∷◌, ◌++◌, length, Result, Ok, Err}
+use Rattle.std.specs.Prelude.{ℕ, ◌≡◌, ◌⊎◌, ◌≤◌, ◌+◌, Bool, true, false, List, [], ◌∷◌, ◌++◌, length, Result, Ok, Err, IsTrue}
 use Rattle.std.specs.declared.io.ErrorKind.{ErrorKind}
 use Rattle.std.specs.declared.io.ErrorKind.TheVariants.{AlreadyExists}
 use Rattle.cv_folder.specs.Calls.{Call, Log, Outcome, and_call, and_calls, Failed, Looked, Created, Wrote, Synced, Renamed, Removed, Made}
@@ -7,8 +7,8 @@ use Rattle.cv_folder.specs.Steps.{IsLook, Makes, Steps, Tries}
 use Rattle.cv_folder.specs.declared.seen.Seen.{Seen}
 use Rattle.cv_folder.specs.Looks.{IsNothing, IsSame}
 use Rattle.cv_folder.specs.Reads.{HasFile, LacksFile, LooksInVain}
-use Rattle.cv_folder.specs.Hold.{Begins}
-use Rattle.cv_folder.specs.Names.{next_of, path_of}
+use Rattle.cv_folder.specs.Hold.{Begins, IsHeld}
+use Rattle.cv_folder.specs.Names.{is_name, next_of, path_of}
 use Rattle.cv_folder.specs.declared.hold.Hold.{Hold}
 
 -- the own file is created anew, also where something stood there and was removed, and then these calls are tried
@@ -40,12 +40,15 @@ MakesMissing folder before after =
 unfoldable pub Prepares : ℕ → List ℕ → Log → Log → Type 0
 Prepares from path before after = Steps (λ one other. Makes IsLook one other ⊎ ((folder : List ℕ) × IsOnWay from path folder × MakesMissing folder one other)) before after
 
--- a write: it begins, then nothing is changed but that folders on the way to the name are made, and then the file is put, once, or
--- the write has failed before. What the vault had of its folder and has by now, and whether the write is done
+-- a write: it begins, and nothing more is called where it fails by then; where this is a name and the folder is held, folders are made
+-- on the way to it, and then the file is put, once, or the write has failed before. What the vault had of its folder and has, and whether
+-- the write is done
 unfoldable pub WritesFile : {F : Type 0} → List ℕ → List ℕ → List ℕ → Hold F → Hold F → Bool → Log → Log → Type 0
 WritesFile root name bytes was hold done before after =
-    (begun ready : Log) × Begins root was hold before begun × Prepares (length root + 1) (path_of root name) begun ready
-    × (Puts (next_of root name) (path_of root name) bytes done ready after ⊎ ((done ≡ false) × (after ≡ ready)))
+    (begun : Log) × Begins root was hold before begun
+    × (((done ≡ false) × (after ≡ begun))
+    ⊎ (IsHeld hold × IsTrue (is_name name) × (ready : Log) × Prepares (length root + 1) (path_of root name) begun ready
+    × (Puts (next_of root name) (path_of root name) bytes done ready after ⊎ ((done ≡ false) × (after ≡ ready)))))
 
 -- a look sees that a path is another name of a file
 abbrev pub SeesOther : Seen → List ℕ → Log → Log → Type 0

@@ -1,5 +1,6 @@
 //! The system's own calls, as a vault over a folder asks for them.
 #![tactic(auto, unfolding(cv_folder::specs::Calls::and_call))]
+
 ghost use Rattle.std.specs.Prelude.{◌≡◌, [], None};
 ghost use Rattle.std.specs.Fs.{file_type, metadata_len};
 ghost use Rattle.cv_real.specs.SeenInner.{IsKind};

@@ -20,14 +20,14 @@ returns-in_err-make_folders-clause-calls g c =
     let p = err_from_is_err_and c.from_residual-in_err-make_folders.result c.from_residual-in_err-make_folders.ensures.1 in
     let root = c.set_next.ensures.stays.0 ∙ c.begin_write.ensures.adds.0 in
     let at = c.set_next.ensures.path ∙ c.in_ok-begin_write.ensures.path.1 ∙ ap (λ root. path_of (string_bytes root) c.args.name.now) c.begin_write.ensures.adds.0 in
-    rw p.1 (writes_on_way (string_bytes c.args.self.now.root) c.args.name.now c.args.bytes.now c.args.self.now.hold c.set_next.new.self.hold _ _ (rw (← c.set_next.ensures.hold) at c.begin_write.ensures.begins) c.set_next.new.self.path c.set_next.new.self.next c.names_from-from.result
+    rw p.1 (writes_on_way (string_bytes c.args.self.now.root) c.args.name.now c.args.bytes.now c.args.self.now.hold c.set_next.new.self.hold _ _ (rw (← c.set_next.ensures.hold) at c.begin_write.ensures.begins) (rw (← c.set_next.ensures.hold) at c.in_ok-begin_write.ensures.held.0) c.in_ok-begin_write.ensures.path.0 c.set_next.new.self.path c.set_next.new.self.next c.names_from-from.result
     at (c.names_from-from.ensures ∙ ap (λ root. length (string_bytes root) + 1) root) _ _ c.set_next.ensures.calls (rw c.as_str.ensures.path at c.make_folders.ensures.calls))
 
 pub returns-clause-calls : goal.returns-clause-calls
 returns-clause-calls g c =
     let root = c.set_next.ensures.stays.0 ∙ c.begin_write.ensures.adds.0 in
     let at = c.set_next.ensures.path ∙ c.in_ok-begin_write.ensures.path.1 ∙ ap (λ root. path_of (string_bytes root) c.args.name.now) c.begin_write.ensures.adds.0 in
-    writes_so (string_bytes c.args.self.now.root) c.args.name.now c.args.bytes.now c.args.self.now.hold c.set_next.new.self.hold _ _ (rw (← c.set_next.ensures.hold) at c.begin_write.ensures.begins) c.set_next.new.self.path c.set_next.new.self.next c.names_from-from.result
+    writes_so (string_bytes c.args.self.now.root) c.args.name.now c.args.bytes.now c.args.self.now.hold c.set_next.new.self.hold _ _ (rw (← c.set_next.ensures.hold) at c.begin_write.ensures.begins) (rw (← c.set_next.ensures.hold) at c.in_ok-begin_write.ensures.held.0) c.in_ok-begin_write.ensures.path.0 c.set_next.new.self.path c.set_next.new.self.next c.names_from-from.result
     at (c.names_from-from.ensures ∙ ap (λ root. length (string_bytes root) + 1) root) _ _ c.set_next.ensures.calls (rw c.as_str.ensures.path at c.make_folders.ensures.calls) _ _
     (c.in_ok-set_next.ensures.next ∙ ap (λ (path : List ℕ). folder_of path ++ codes ".cvkit-next") (sym c.set_next.ensures.path))
     (rw (c.as_str-2.ensures.path, c.as_str-3.ensures.path) at c.put_file.ensures)
