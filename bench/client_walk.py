@@ -218,7 +218,7 @@ fn main(rt: HostRuntime) {
 }
 """
 
-LIBRARIES = "cv_base cv_ports cv_vault cv_real cv_tree cv_rows cv_cut cv_seal cv_manifest cv_resolver"
+LIBRARIES = "cv_base cv_ports cv_vault cv_folder cv_real cv_tree cv_rows cv_cut cv_seal cv_manifest cv_resolver"
 # The most nanoseconds of an entry, and how many times as long as a decoding a listing may take.
 ENTRY, RATIO = 20_000, 3
 

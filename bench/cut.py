@@ -145,7 +145,7 @@ fn main(rt: HostRuntime) {
 """
 
 
-LIBRARIES = "cv_base cv_ports cv_vault cv_real cv_tree cv_cut cv_load"
+LIBRARIES = "cv_base cv_ports cv_vault cv_folder cv_real cv_tree cv_cut cv_load"
 
 
 def paths(files, tops=50):

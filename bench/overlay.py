@@ -107,7 +107,7 @@ fn main(rt: HostRuntime) {
 }
 """
 
-LIBRARIES = "cv_base cv_ports cv_vault cv_real cv_tree cv_overlay"
+LIBRARIES = "cv_base cv_ports cv_vault cv_folder cv_real cv_tree cv_overlay"
 # How much longer a base and a folder ten times the size may take.
 GROWTH = 14
 

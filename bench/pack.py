@@ -55,7 +55,7 @@ fn main(rt: HostRuntime) {
 }
 """
 
-LIBRARIES = "cv_base cv_ports cv_vault cv_real cv_pack"
+LIBRARIES = "cv_base cv_ports cv_vault cv_folder cv_real cv_pack"
 
 
 def pack(contents):

@@ -61,7 +61,7 @@ fn main(rt: HostRuntime) {
 """
 
 
-LIBRARIES = "cv_base cv_ports cv_vault cv_real cv_rows sha1"
+LIBRARIES = "cv_base cv_ports cv_vault cv_folder cv_real cv_rows sha1"
 
 
 def row_file(count):

@@ -16,15 +16,22 @@
 #![tactic(auto)]
 
 use cv_base::{Bytes, Items, RepoPath};
+use cv_folder::FolderVault;
 use cv_ports::{Folder, FolderItem, FoundKind};
-use cv_real::{FolderVault, SystemFolder, program_words};
+use cv_real::{SystemCalls, SystemFolder, program_words};
 use cv_vault::{MemoryVault, Vault, VaultFault};
+use std::alloc::AllocError;
 use std::io;
 use std::io::Read;
 use std::process::ExitCode;
 use std::time::Instant;
 
-type Vaulted = FolderVault<HostRuntime>;
+type Vaulted = FolderVault<SystemCalls<HostRuntime>>;
+
+/// The vault over the folder at a path.
+fn vault_at(rt: &HostRuntime, root: &str) -> Result<Vaulted, AllocError> {
+    FolderVault::new(rt.alloc(), SystemCalls::new(*rt), root)
+}
 
 /// What a call answers.
 #[derive(Clone, Copy)]
@@ -239,7 +246,7 @@ fn answer_of(
             Ok(Answer::Done)
         }
         "also" => {
-            let mut second = FolderVault::new(*rt, name)?;
+            let mut second = vault_at(rt, name)?;
             Ok(there_answer(second.read("file").map(|file| file.is_some())))
         }
         _ => Ok(Answer::NoCall),
@@ -271,13 +278,13 @@ fn make_call(
 
 fn make_calls(rt: &HostRuntime, words: &Vec<String>) -> io::Result<()> {
     let root = words.first().map_or("srv", |word| word.as_str());
-    let mut vault = FolderVault::new(*rt, root)?;
+    let mut vault = vault_at(rt, root)?;
     for word in words.iter().skip(1) {
         let word = word.as_str();
         let (call, names) = word.split_once('=').unwrap_or((word, ""));
         let (name, other) = names.split_once('>').unwrap_or((names, ""));
         if call == "at" {
-            vault = FolderVault::new(*rt, name)?;
+            vault = vault_at(rt, name)?;
         } else {
             make_call(rt, &mut vault, call, name, other)?;
         }

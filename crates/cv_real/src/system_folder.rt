@@ -4,14 +4,17 @@ ghost use Rattle.std.specs.IoError.{error_kind, raw_os_error};
 ghost use Rattle.cv_base.specs.Counts.{HasCause};
 ghost use Rattle.cv_ports.specs.Folder.{Ascend};
 ghost use Rattle.cv_ports.specs.declared.folder.FolderFault.TheVariants.{Failed, NoMemory};
-ghost use Rattle.cv_real.specs.NamesInner.{below};
+ghost use Rattle.cv_real.specs.ListingInner.{below};
 
 use crate::count::FaultCount;
+use crate::front::read_front;
 use crate::listing::items_of;
-use crate::paths::{find_file, has_folders, is_memory, read_front};
+use crate::system_calls::SystemCalls;
 use cv_base::{Bytes, Items, PathName, RepoPath, Text};
+use cv_folder::{find_file, has_folders, is_memory};
 use cv_ports::{Folder, FolderFault, FolderItem};
 use std::alloc::Global;
+use std::fs::File;
 use std::io;
 use std::io::ErrorKind;
 use std::rt::Files;
@@ -29,8 +32,8 @@ const READ_LIMIT: usize = 16_777_217;
 /// Nobody else may change the folder meanwhile. A file that took another's place is not read, but a pipe that takes one's
 /// place in the moment in which it is opened blocks the call.
 #[derive(Drop)]
-pub struct SystemFolder<R: Files + AllocGlobal + Clone + Drop> {
-    rt: R,
+pub struct SystemFolder<R: Files<File = File> + AllocGlobal + Clone + Drop> {
+    system: SystemCalls<R>,
     /// The folder's path as it was given, once one was.
     name: Option<Text>,
     faults: FaultCount,
@@ -57,14 +60,14 @@ fn folder_path(alloc: Global, root: &str, names: &[PathName]) -> io::Result<Stri
     Ok(path)
 }
 
-impl<R: Files + AllocGlobal + Clone + Drop> SystemFolder<R> {
+impl<R: Files<File = File> + AllocGlobal + Clone + Drop> SystemFolder<R> {
     /// A folder that isn't named yet: until then no path leads to anything.
     pub fn new(rt: R) -> SystemFolder<R>
         ensures faults { result.faults.number ≡ 0 }
         ensures name { result.name ≡ None }
     {
         SystemFolder {
-            rt,
+            system: SystemCalls::new(rt),
             name: None,
             faults: FaultCount::new(),
         }
@@ -82,19 +85,23 @@ impl<R: Files + AllocGlobal + Clone + Drop> SystemFolder<R> {
         }
     }
 
-    fn list_now(&self, alloc: Global, path: &RepoPath) -> io::Result<Items<FolderItem>>
-        ensures { IfOk result (λ items. Ascend items) }
+    fn list_now(&mut self, alloc: Global, path: &RepoPath) -> io::Result<Items<FolderItem>>
+        ensures ascend { IfOk result (λ items. Ascend items) }
+        ensures name { self.new.name ≡ self.old.name }
+        ensures faults { self.new.faults ≡ self.old.faults }
     {
         let root = self.root_now(alloc)?;
         let folder = folder_path(alloc, root.as_str(), path.names())?;
-        if !has_folders(&self.rt, folder.as_str(), root.len())? {
+        if !has_folders(&mut self.system, folder.as_str(), root.len())? {
             return Err(io::Error::from(ErrorKind::NotADirectory));
         }
-        items_of(&self.rt, alloc, folder.as_str())
+        items_of(self.system.rt(), alloc, folder.as_str())
     }
 
-    fn read_now(&self, alloc: Global, path: &RepoPath) -> io::Result<Vec<u8>>
-        ensures { IfOk result (λ bytes. length bytes.items ≤ 16777217) }
+    fn read_now(&mut self, alloc: Global, path: &RepoPath) -> io::Result<Vec<u8>>
+        ensures length { IfOk result (λ bytes. length bytes.items ≤ 16777217) }
+        ensures name { self.new.name ≡ self.old.name }
+        ensures faults { self.new.faults ≡ self.old.faults }
     {
         let Some((last, above)) = path.names().split_last() else {
             return Err(io::Error::from(ErrorKind::IsADirectory));
@@ -102,8 +109,8 @@ impl<R: Files + AllocGlobal + Clone + Drop> SystemFolder<R> {
         let root = self.root_now(alloc)?;
         let mut file = folder_path(alloc, root.as_str(), above)?;
         file.push_str(last.as_str())?;
-        match find_file(&self.rt, file.as_str(), root.len())? {
-            Some(found) => read_front(&self.rt, alloc, file.as_str(), &found, READ_LIMIT),
+        match find_file(&mut self.system, file.as_str(), root.len())? {
+            Some(found) => read_front(&mut self.system, alloc, file.as_str(), &found, READ_LIMIT),
             None => Err(io::Error::from(ErrorKind::NotFound)),
         }
     }
@@ -123,7 +130,7 @@ impl<R: Files + AllocGlobal + Clone + Drop> SystemFolder<R> {
     }
 }
 
-impl<R: Files + AllocGlobal + Clone + Drop> Folder for SystemFolder<R> {
+impl<R: Files<File = File> + AllocGlobal + Clone + Drop> Folder for SystemFolder<R> {
     ghost holds = { λ f. None };
 
     ghost folder = { λ f. None };

@@ -1,8 +1,11 @@
 //! Words and small texts of the environment.
 
-use crate::paths::{is_memory, read_front};
+use crate::front::read_front;
+use crate::system_calls::{SystemCalls, seen_of};
 use cv_base::NoMemory;
+use cv_folder::is_memory;
 use std::alloc::AllocError;
+use std::fs::File;
 use std::rt::{Env, Files};
 use std::{env, fs, io};
 
@@ -25,13 +28,17 @@ pub fn program_words<R: Env + AllocGlobal>(rt: &R) -> Result<Option<Vec<String>>
 
 /// The text of a regular file of at most 16,777,216 bytes. A pipe or a device, which may have no end, isn't opened, and no more
 /// is read of a file that grows meanwhile.
-fn regular_text<R: Files + AllocGlobal>(rt: &R, name: &str) -> io::Result<String> {
+fn regular_text<R: Files<File = File> + AllocGlobal + Clone + Drop>(
+    rt: &R,
+    name: &str,
+) -> io::Result<String> {
     let none = String::new(rt.alloc());
-    let found = fs::metadata(rt, name)?;
-    if !found.is_file() || found.len() > TEXT_LIMIT as u64 {
+    let found = seen_of(&fs::metadata(rt, name)?);
+    if !found.is_file() || found.length > TEXT_LIMIT as u64 {
         return Ok(none);
     }
-    let bytes = read_front(rt, rt.alloc(), name, &found, TEXT_LIMIT + 1)?;
+    let mut system = SystemCalls::new(rt.clone()?);
+    let bytes = read_front(&mut system, rt.alloc(), name, &found, TEXT_LIMIT + 1)?;
     if bytes.len() > TEXT_LIMIT {
         return Ok(none);
     }
@@ -40,7 +47,10 @@ fn regular_text<R: Files + AllocGlobal>(rt: &R, name: &str) -> io::Result<String
 
 /// The text of a regular file. Empty where no such file is there, it has more than 16,777,216 bytes, can't be read or
 /// isn't UTF-8.
-pub fn text_or_empty<R: Files + AllocGlobal>(rt: &R, name: &str) -> Result<String, NoMemory> {
+pub fn text_or_empty<R: Files<File = File> + AllocGlobal + Clone + Drop>(
+    rt: &R,
+    name: &str,
+) -> Result<String, NoMemory> {
     match regular_text(rt, name) {
         Ok(text) => Ok(text),
         Err(error) if is_memory(&error) => Err(NoMemory),

@@ -1,9 +1,10 @@
 //! The vault over a real folder, and streams over a real pipe.
 
+use cv_folder::FolderVault;
 use cv_ports::{MemorySink, Sink, Source};
-use cv_real::{FolderVault, StreamSink, StreamSource};
+use cv_real::{StreamSink, StreamSource, SystemCalls};
 use cv_vault::{Vault, VaultFault};
-use std::alloc::Global;
+use std::alloc::{AllocError, Global};
 use std::fs::File;
 use std::io::Write;
 use std::os::unix::fs::symlink;
@@ -12,7 +13,12 @@ use std::rt::Files;
 use std::test::Fail;
 use std::{fs, io};
 
-type Vaulted = FolderVault<HostRuntime>;
+type Vaulted = FolderVault<SystemCalls<HostRuntime>>;
+
+// The vault over the folder at a path.
+fn vault_at(rt: HostRuntime, root: &str) -> Result<Vaulted, AllocError> {
+    FolderVault::new(rt.alloc(), SystemCalls::new(rt), root)
+}
 
 // What a call answers, as one word.
 fn word(answer: Result<bool, VaultFault>) -> &'static str {
@@ -119,7 +125,7 @@ const ROWS: [(&str, &str); 17] = [
 fn each_call_agrees_on_what_is_a_name(rt: HostRuntime) -> Result<(), Fail> {
     let alloc = rt.alloc();
     make_all(&rt)?;
-    let mut vault = FolderVault::new(rt, "kinds/srv")?;
+    let mut vault = vault_at(rt, "kinds/srv")?;
     assert!(rt; word(vault.read("linked/victim").map(|file| file.is_some())) == "no");
     assert!(rt; word(vault.remove("linked/victim")) == "no");
     assert!(rt; word(vault.write("linked/victim", b"new").map(|_done| true)) == "failed");
@@ -140,7 +146,7 @@ fn each_call_agrees_on_what_is_a_name(rt: HostRuntime) -> Result<(), Fail> {
 fn a_vault_keeps_what_was_written(rt: HostRuntime) -> Result<(), Fail> {
     let alloc = rt.alloc();
     begin(&rt, "kept")?;
-    let mut vault = FolderVault::new(rt, "kept/srv")?;
+    let mut vault = vault_at(rt, "kept/srv")?;
     assert!(rt; names(alloc, &mut vault, "")?.is_empty());
     assert!(rt; vault.sync().is_ok());
     assert!(rt; fs::symlink_metadata(&rt, "kept/srv").is_err());
@@ -160,13 +166,13 @@ fn a_vault_keeps_what_was_written(rt: HostRuntime) -> Result<(), Fail> {
     assert!(rt; word(vault.remove("c/d/e")) == "yes");
     assert!(rt; word(vault.remove("c/d/e")) == "no");
     assert!(rt; vault.sync().is_ok());
-    let mut other = FolderVault::new(rt, "kept/srv")?;
+    let mut other = vault_at(rt, "kept/srv")?;
     assert!(rt; word(other.read("b-").map(|file| file.is_some())) == "failed");
     assert!(rt; other.list("").is_err());
     assert!(rt; other.sync().is_err());
     drop(vault);
     fs::write(&rt, "kept/srv/a/.cvkit-next", b"half of a fi".as_slice())?;
-    let mut third = FolderVault::new(rt, "kept/srv")?;
+    let mut third = vault_at(rt, "kept/srv")?;
     assert!(rt; third.sync().is_ok());
     assert!(rt; fs::symlink_metadata(&rt, "kept/srv/a/.cvkit-next").is_err());
     assert_eq!(rt; names(alloc, &mut third, "")?.as_str(), "a/é b- ");
@@ -188,7 +194,7 @@ fn a_first_sync_goes_over_each_folder(rt: HostRuntime) -> Result<(), Fail> {
         fs::create_dir_all(&rt, folder.as_str())?;
         fs::write(&rt, left_in(alloc, number)?.as_str(), b"half".as_slice())?;
     }
-    let mut vault = FolderVault::new(rt, "walked/srv")?;
+    let mut vault = vault_at(rt, "walked/srv")?;
     assert!(rt; vault.sync().is_ok());
     for number in 0..300 {
         let left = left_in(alloc, number)?;
@@ -204,7 +210,7 @@ fn a_first_sync_goes_over_each_folder(rt: HostRuntime) -> Result<(), Fail> {
 #[test]
 fn a_rename_of_two_names_of_one_file_leaves_one(rt: HostRuntime) -> Result<(), Fail> {
     begin(&rt, "renamed")?;
-    let mut vault = FolderVault::new(rt, "renamed/srv")?;
+    let mut vault = vault_at(rt, "renamed/srv")?;
     vault.write("a", b"1")?;
     fs::hard_link(&rt, "renamed/srv/a", "renamed/srv/b")?;
     assert!(rt; word(vault.rename("a", "b")) == "yes");

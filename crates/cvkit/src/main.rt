@@ -2,9 +2,10 @@
 #![tactic(auto)]
 
 use cv_base::NoMemory;
+use cv_folder::FolderVault;
 use cv_ports::NoHold;
 use cv_real::{
-    FolderVault, StreamSink, StreamSource, SystemClock, SystemFolder, TcpDial, program_words,
+    StreamSink, StreamSource, SystemCalls, SystemClock, SystemFolder, TcpDial, program_words,
     text_or_empty,
 };
 use cv_top::{Parts, Status, run};
@@ -20,7 +21,7 @@ fn run_here(rt: HostRuntime) -> Result<Status, NoMemory> {
         None => Vec::new(rt.alloc()),
     };
     let parts = Parts {
-        vault: FolderVault::new(rt, VAULT)?,
+        vault: FolderVault::new(rt.alloc(), SystemCalls::new(rt), VAULT)?,
         input: StreamSource::new(rt.stdin()),
         output: StreamSink::new(rt.stdout()),
         errors: StreamSink::new(rt.stderr()),

@@ -1,5 +1,5 @@
 use Rattle.std.proofs.Common.{◌≡◌, take, string_bytes}
-use Rattle.cv_real.specs.NamesInner.{below}
+use Rattle.cv_real.specs.ListingInner.{below}
 use Rattle.cv_real.proofs.system_folder.folder_path.Given as goal
 
 abbrev pub invariant-loop-name : goal.invariant-loop-name

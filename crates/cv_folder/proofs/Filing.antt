@@ -1,0 +1,130 @@
+-- A write and a sync of a vault over a folder, put together.
+use Rattle.std.proofs.Common.{◌≡◌, ◌∙◌, ◌+◌, ◌++◌, ◌∷◌, [], Bool, true, false, List, ℕ, length, map, Result, Ok, Err, refl, sym, ap, subst, inl, inr, string_bytes, codes}
+use Rattle.std.specs.Prelude.{IsOk, IsTrue, OnOk, is_ok}
+use Rattle.cv_folder.specs.declared.folder_vault.FolderVault.{FolderVault}
+use Rattle.cv_folder.specs.declared.hold.Hold.{Hold}
+use Rattle.cv_folder.specs.declared.hold.Hold.TheVariants.{Unasked, Absent}
+use Rattle.cv_folder.specs.Calls.{Log}
+use Rattle.cv_folder.specs.declared.seen.Seen.{Seen}
+use Rattle.cv_folder.specs.FolderVault.{Acts, AsksAlone, IsUncalled}
+use Rattle.cv_folder.specs.FolderVaultInner.{MovesOn}
+use Rattle.cv_folder.specs.Hold.{Begins, IsHeld, MakesRoot}
+use Rattle.cv_folder.specs.Names.{folder_of, is_name, next_of, path_of}
+use Rattle.cv_folder.specs.Steps.{Tries}
+use Rattle.cv_folder.specs.Syncs.{SettlesAll, SettlesFirst, SyncsAll, SyncsHeld, syncs}
+use Rattle.cv_folder.specs.Writes.{MovesFile, Prepares, Puts, WritesFile}
+use Rattle.cv_folder.proofs.Acts.{acts_so}
+use Rattle.cv_folder.proofs.Stepping.{no_step}
+
+-- a write begins as the folder is asked for
+pub begins_asked : {S F N : Type 0} (log : S → Log) (before after : FolderVault S F N) → AsksAlone log before after
+    → Begins (string_bytes before.root) before.hold after.hold (log before.system) (log after.system)
+unfolding AsksAlone Begins
+begins_asked log before after asks = (after.hold, log after.system, asks, inl (refl, refl))
+
+-- where it is absent it is made
+pub begins_made : {S F N : Type 0} (log : S → Log) (before between after : FolderVault S F N) → AsksAlone log before between → between.hold ≡ Absent
+    → (root : List ℕ) → root ≡ string_bytes before.root → MakesRoot root after.hold (log between.system) (log after.system)
+    → Begins (string_bytes before.root) before.hold after.hold (log before.system) (log after.system)
+unfolding AsksAlone Begins
+begins_made log before between after asks absent root same makes =
+    (between.hold, log between.system, asks, inr (absent, subst (λ (r : List ℕ). MakesRoot r after.hold (log between.system) (log after.system)) same makes))
+
+module _ {F : Type 0} (root name bytes : List ℕ) (was hold : Hold F) (before begun : Log) (begins : Begins root was hold before begun) where
+  -- a write ends as it has begun
+  pub writes_no_more : (after : Log) → after ≡ begun → WritesFile root name bytes was hold false before after
+  unfolding WritesFile
+  writes_no_more after same = (begun, begins, inl (refl, same))
+
+  module _ (held : IsHeld hold) (named : IsTrue (is_name name)) (path next : List ℕ) (from : ℕ) (at : path ≡ path_of root name) (size : from ≡ length root + 1)
+      (set ready : Log) (same : set ≡ begun) (prepares : Prepares from path set ready) where
+    prepared : Prepares (length root + 1) (path_of root name) begun ready
+    prepared =
+        subst (λ (log : Log). Prepares (length root + 1) (path_of root name) log ready) same
+        (subst (λ (p : List ℕ). Prepares (length root + 1) p set ready) at (subst (λ (n : ℕ). Prepares n path set ready) size prepares))
+
+    -- a folder on the way couldn't be made
+    pub writes_on_way : WritesFile root name bytes was hold false before ready
+    unfolding WritesFile
+    writes_on_way = (begun, begins, inr (held, named, ready, prepared, inr (refl, refl)))
+
+    -- the file is put, or that fails
+    pub writes_so : (done : Bool) (after : Log) → next ≡ folder_of path ++ codes ".cvkit-next" → Puts next path bytes done ready after → WritesFile root name bytes was hold done before after
+    unfolding WritesFile
+    writes_so done after beside puts =
+        let own : next ≡ next_of root name = beside ∙ ap (λ (p : List ℕ). folder_of p ++ codes ".cvkit-next") at in
+        (begun, begins, inr (held, named, ready, prepared, inl (subst (λ (n : List ℕ). Puts n (path_of root name) bytes done ready after) own (subst (λ (p : List ℕ). Puts next p bytes done ready after) at puts))))
+
+-- nothing is settled first
+pub settles_nothing : (root : List ℕ) (is_unsettled : Bool) (before after : Log) → is_unsettled ≡ false → after ≡ before → SettlesFirst root is_unsettled before after
+unfolding SettlesFirst
+settles_nothing root true before after never same = absurd (cc)
+settles_nothing root false before after never same = same
+
+-- all is
+pub settles_all : (root : List ℕ) (is_unsettled : Bool) (before above after : Log) → is_unsettled ≡ true
+    → Tries (syncs (folder_of root ∷ [])) true before above → SettlesAll root above after → SettlesFirst root is_unsettled before after
+unfolding SettlesFirst
+settles_all root true before above after is tried settles = (above, tried, settles)
+settles_all root false before above after is tried settles = absurd (cc)
+
+-- and then each folder that was noted
+pub syncs_all : {E : Type 0} (root : List ℕ) (is_unsettled : Bool) (noted : List (List ℕ)) (before settled after : Log) (result : Result (Unit {0}) E)
+    → SettlesFirst root is_unsettled before settled → Tries (syncs noted) (is_ok result) settled after → OnOk result (SyncsAll root is_unsettled noted before after)
+unfolding SyncsAll
+syncs_all root is_unsettled noted before settled after (Ok x) first tried = (settled, first, tried)
+syncs_all root is_unsettled noted before settled after (Err error) first tried = tt
+
+module _ {F : Type 0} (root : List ℕ) (was hold : Hold F) (is_unsettled : Bool) (noted : List (List ℕ)) (before after : Log) where
+  -- without a folder nothing is synced
+  pub syncs_nothing : hold ≡ Absent → after ≡ before → SyncsHeld root was hold is_unsettled noted before after
+  unfolding SyncsHeld
+  syncs_nothing absent same = inl (absent, same)
+
+  pub syncs_held : IsHeld hold → (all : Bool) → (IsTrue is_unsettled → IsTrue all) → (was ≡ Unasked → IsTrue all) → SyncsAll root all noted before after → SyncsHeld root was hold is_unsettled noted before after
+  unfolding SyncsHeld
+  syncs_held held all kept first syncs = inr (held, all, kept, first, syncs)
+
+synced_so : {S F N : Type 0} (log : S → Log) (before between synced after : FolderVault S F N) → between.root ≡ before.root → between.folders ≡ before.folders → IsUncalled log synced after
+    → SyncsAll (string_bytes between.root) between.is_unsettled (map string_bytes between.folders.items) (log between.system) (log synced.system)
+    → SyncsAll (string_bytes before.root) between.is_unsettled (map string_bytes before.folders.items) (log between.system) (log after.system)
+synced_so log before between synced after root folders uncalled syncs =
+    subst (λ r. SyncsAll (string_bytes r) between.is_unsettled (map string_bytes before.folders.items) (log between.system) (log after.system)) root
+    (subst (λ f. SyncsAll (string_bytes between.root) between.is_unsettled (map string_bytes f.items) (log between.system) (log after.system)) folders
+    (subst (λ (l : Log). SyncsAll (string_bytes between.root) between.is_unsettled (map string_bytes between.folders.items) (log between.system) l) (sym uncalled) syncs))
+
+-- a sync that is done has asked for the folder and made all durable
+pub sync_done : {S F N T E D : Type 0} (log : S → Log) (before between synced after : FolderVault S F N) (done : Result (Unit {0}) D) (result : Result T E)
+    → AsksAlone log before between → IsHeld between.hold → (IsTrue before.is_unsettled → IsTrue between.is_unsettled) → (before.hold ≡ Unasked → IsTrue between.is_unsettled)
+    → between.root ≡ before.root → between.folders ≡ before.folders
+    → OnOk done (SyncsAll (string_bytes between.root) between.is_unsettled (map string_bytes between.folders.items) (log between.system) (log synced.system))
+    → after.hold ≡ between.hold → IsUncalled log synced after → (IsOk result → IsOk done)
+    → OnOk result (Acts log (SyncsHeld (string_bytes before.root) before.hold after.hold before.is_unsettled (map string_bytes before.folders.items)) before after)
+sync_done log before between synced after (Err fault) (Ok x) asks held kept first root folders syncs same uncalled ok = absurd (let never = ok refl in cc)
+sync_done log before between synced after done (Err error) asks held kept first root folders syncs same uncalled ok = tt
+sync_done log before between synced after (Ok y) (Ok x) asks held kept first root folders syncs same uncalled ok =
+    acts_so log before between after _ asks same
+    (syncs_held _ _ _ _ _ _ _ (subst IsHeld (sym same) held) between.is_unsettled kept first (synced_so log before between synced after root folders uncalled syncs))
+
+module _ (root to : List ℕ) (seen : Seen) (before : Log) where
+  -- a move ends before it made a folder
+  pub moves_no_more : (path : List ℕ) (after : Log) → after ≡ before → MovesOn root path to seen false before after
+  unfolding MovesOn Prepares
+  moves_no_more path after same = (after, no_step same, inl (refl, refl))
+
+  module _ (path target : List ℕ) (from : ℕ) (at : target ≡ path_of root to) (size : from ≡ length root + 1) (set ready : Log) (same : set ≡ before) (prepares : Prepares from target set ready) where
+    on_way : Prepares (length root + 1) (path_of root to) before ready
+    on_way =
+        subst (λ (log : Log). Prepares (length root + 1) (path_of root to) log ready) same
+        (subst (λ (p : List ℕ). Prepares (length root + 1) p set ready) at (subst (λ (n : ℕ). Prepares n target set ready) size prepares))
+
+    -- a folder on the way couldn't be made
+    pub moves_on_way : MovesOn root path to seen false before ready
+    unfolding MovesOn
+    moves_on_way = (ready, on_way, inl (refl, refl))
+
+    -- the file is moved, or that fails
+    pub moves_on : (source : List ℕ) (done : Bool) (after : Log) → source ≡ path → MovesFile source target seen done ready after → MovesOn root path to seen done before after
+    unfolding MovesOn
+    moves_on source done after is moves =
+        (ready, on_way, inr (subst (λ (p : List ℕ). MovesFile p (path_of root to) seen done ready after) is (subst (λ (t : List ℕ). MovesFile source t seen done ready after) at moves)))

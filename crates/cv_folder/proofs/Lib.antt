@@ -1,0 +1,14 @@
+mod Acts
+mod CutNames
+mod Filing
+mod Holding
+mod LastParts
+mod Listed
+mod Looking
+mod Notes
+mod Preparing
+mod Reading
+mod Seeing
+mod Settling
+mod Stepping
+mod Trying

@@ -1,0 +1,42 @@
+-- Names that were found, in their order.
+use Rattle.std.proofs.Common.{◌==◌, ◌++◌, ℕ, List, [], ◌∷◌, get_or, refl}
+use Rattle.std.specs.Prelude.{◌↔◌, IsTrue}
+use Rattle.std.specs.List.{Contains, dedup, starts_with}
+use Rattle.std.specs.List.Sorted.{IsPermutation, IsSorted, IsStrictlySortedBy}
+use Rattle.std.specs.Cmp.Lexicographic.{nat_list_cmp_total}
+use Rattle.std.proofs.lemmas.Cmp.{eq_by_cmp_equiv}
+use Rattle.std.proofs.lemmas.List.Elements.{All-contains, All-contains_itself, All-nil, All-push}
+use Rattle.std.proofs.lemmas.List.Kept.{Contains-dedup, Contains-from_dedup, IsStrictlySortedBy-dedup}
+use Rattle.std.proofs.lemmas.List.Sorted.{Contains-permutation, IsPermutation-sym}
+use Rattle.cv_base.specs.Path.{name_cmp, same_name}
+use Rattle.cv_base.specs.PathOrder.{same_name_is}
+use Rattle.cv_folder.specs.Listed.{AllBegin, IsListed}
+
+module _ (found sorted : List (List ℕ)) (moved : IsPermutation found sorted) where
+  -- what is sorted has the same texts, and each once where those that are the same go
+  pub same_texts : (text : List ℕ) → Contains (dedup same_name sorted) text ↔ Contains found text
+  same_texts text = (
+    λ has. Contains-permutation sorted found text (IsPermutation-sym found sorted moved) (Contains-from_dedup same_name sorted text has),
+    λ has. Contains-dedup (eq_by_cmp_equiv nat_list_cmp_total) same_name_is sorted text (Contains-permutation found sorted text moved has),
+  )
+
+pub ascending : (sorted : List (List ℕ)) → IsSorted name_cmp sorted → IsStrictlySortedBy name_cmp (dedup same_name sorted)
+ascending sorted h = IsStrictlySortedBy-dedup nat_list_cmp_total (λ x y. refl) sorted h
+
+-- with one name more that begins with the prefix, each of them does
+pub one_more : (prefix name : List ℕ) (found : List (List ℕ)) → IsTrue (starts_with (λ a b. a == b) name prefix) → AllBegin prefix found → AllBegin prefix (found ++ name ∷ [])
+one_more prefix name found begins all = All-push (λ name. IsTrue (starts_with (λ a b. a == b) name prefix)) found name all begins
+
+-- where these texts are those that were found, each of which begins with the prefix, so does each of them
+all_begin : (prefix : List ℕ) (found texts : List (List ℕ)) → ((text : List ℕ) → Contains texts text ↔ Contains found text) → AllBegin prefix found → AllBegin prefix texts
+all_begin prefix found texts same begin k d within =
+    All-contains (λ name. IsTrue (starts_with (λ a b. a == b) name prefix)) found (get_or texts k d) begin ((same (get_or texts k d)).0 (All-contains_itself texts k d within))
+
+-- what was found, in its order, is a listing
+pub listed : (prefix : List ℕ) (found texts : List (List ℕ)) → IsStrictlySortedBy name_cmp texts → ((text : List ℕ) → Contains texts text ↔ Contains found text) → AllBegin prefix found → IsListed prefix texts
+listed prefix found texts ascend same begin = (ascend, all_begin prefix found texts same begin)
+
+-- without a name nothing is listed
+pub none_listed : (prefix : List ℕ) → IsListed prefix []
+unfolding IsStrictlySortedBy
+none_listed prefix = (tt, All-nil (λ name. IsTrue (starts_with (λ a b. a == b) name prefix)))

@@ -1,0 +1,22 @@
+use Rattle.std.proofs.lemmas.Result.{err_from_is_err_and}
+use Rattle.std.proofs.Common.{◌∙◌, ◌+◌, ap, length, refl, string_bytes}
+use Rattle.cv_folder.specs.Names.{path_of}
+use Rattle.cv_folder.proofs.Acts.{acts_so, finds_named, finds_no_more, finds_none}
+use Rattle.cv_folder.proofs.folder_vault.FolderVault.find.Goals as goal
+
+pub returns-in_err-begin-clause-calls : goal.returns-in_err-begin-clause-calls
+returns-in_err-begin-clause-calls g c =
+    let p = err_from_is_err_and c.from_residual.result c.from_residual.ensures.1 in
+    rw p.1 (acts_so g.S.System.log _ _ _ _ c.begin.ensures.asks refl (finds_no_more (string_bytes c.args.self.now.root) c.args.name.now _ _ _ _ refl))
+
+pub returns-then-not-branch-clause-calls : goal.returns-then-not-branch-clause-calls
+returns-then-not-branch-clause-calls g c =
+    acts_so g.S.System.log _ _ _ _ c.begin.ensures.asks refl (finds_none (string_bytes c.args.self.now.root) c.args.name.now _ _ _ _ (rw c.if-not-branch.true at c.in_ok-begin.ensures.held) refl)
+
+pub returns-clause-calls : goal.returns-clause-calls
+returns-clause-calls g c =
+    acts_so g.S.System.log _ _ _ _ c.begin.ensures.asks refl
+    (finds_named (string_bytes c.args.self.now.root) c.args.name.now _ _ _ _ c.find_file.result _ (rw c.if-not-branch.false at c.in_ok-begin.ensures.held) c.in_ok-begin.ensures.path.0.0
+    (c.names_from-from.ensures ∙ ap (λ root. length (string_bytes root) + 1) c.begin.ensures.stays.0)
+    (c.as_str.ensures.path ∙ c.in_ok-begin.ensures.path.0.1 ∙ ap (λ root. path_of (string_bytes root) c.args.name.now) c.begin.ensures.stays.0)
+    c.find_file.ensures)

@@ -1,0 +1,11 @@
+use Rattle.std.proofs.Common.{◌∙◌, ap}
+use Rattle.cv_folder.specs.Names.{folder_of}
+use Rattle.cv_folder.specs.Calls.{Removed}
+use Rattle.cv_folder.proofs.Trying.{tried_one}
+use Rattle.cv_folder.proofs.folder_vault.FolderVault.remove_found.Goals as goal
+
+pub returns-clause-calls : goal.returns-clause-calls
+returns-clause-calls g c = rw c.as_str-2.ensures.path at (tried_one (Removed c.as_str-2.result.now) c.remove_file.result _ _ c.remove_file.ensures)
+
+pub returns-clause-noted : goal.returns-clause-noted
+returns-clause-noted g c = rw (c.folder_of-folder.ensures ∙ ap folder_of c.as_str.ensures.path) at c.note_or_all.ensures.noted

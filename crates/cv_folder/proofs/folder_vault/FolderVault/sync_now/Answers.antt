@@ -1,0 +1,15 @@
+use Rattle.std.proofs.Common.{◌∙◌, Ok, ap, map, refl, string_bytes}
+use Rattle.cv_folder.proofs.Acts.{acts_so}
+use Rattle.cv_folder.proofs.Filing.{sync_done, syncs_nothing}
+use Rattle.cv_folder.proofs.folder_vault.FolderVault.sync_now.Goals as goal
+
+pub returns-then-not-branch-clause-calls : goal.returns-then-not-branch-clause-calls
+returns-then-not-branch-clause-calls g c =
+    acts_so g.S.System.log _ _ _ _ c.is_held.ensures.asks refl
+    (syncs_nothing (string_bytes c.args.self.now.root) c.args.self.now.hold _ c.args.self.now.is_unsettled (map string_bytes c.args.self.now.folders.items) _ _ (rw c.if-not-branch.true at c.in_ok-is_held.ensures.held) refl)
+
+pub returns-clause-calls : goal.returns-clause-calls
+returns-clause-calls g c =
+    sync_done g.S.System.log c.args.self.now c.is_held.new.self c.sync_changed-done.new.self c.end_sync.new.self c.sync_changed-done.result c.end_sync.result c.is_held.ensures.asks
+    (rw c.if-not-branch.false at c.in_ok-is_held.ensures.held) c.is_held.ensures.stays.2 (λ was. c.is_held.ensures.unsettled was (c.in_ok-is_held.was ∙ ap Ok c.if-not-branch.false))
+    c.is_held.ensures.stays.0 c.is_held.ensures.stays.1 c.sync_changed-done.ensures.calls (c.end_sync.ensures.hold ∙ c.sync_changed-done.ensures.hold) c.end_sync.ensures.calls c.end_sync.ensures.ok.0

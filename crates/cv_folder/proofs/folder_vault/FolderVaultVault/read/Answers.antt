@@ -1,0 +1,10 @@
+use Rattle.std.proofs.Common.{string_bytes}
+use Rattle.cv_folder.proofs.Acts.{reads_done, reads_fault}
+use Rattle.cv_folder.proofs.folder_vault.FolderVaultVault.read.Goals as goal
+
+pub returns-in-Err-clause-calls : goal.returns-in-Err-clause-calls
+returns-in-Err-clause-calls g c =
+    reads_fault g.S.System.log _ _ _ c.fault_of.ensures.hold c.fault_of.ensures.calls _ _ (string_bytes c.args.self.now.root) c.args.name.now c.in-Err.ensures.calls
+
+pub returns-in-Ok-clause-calls : goal.returns-in-Ok-clause-calls
+returns-in-Ok-clause-calls g c = reads_done _ _ g.S.System.log _ _ _ _ _ _ c.in-Ok.ensures.calls

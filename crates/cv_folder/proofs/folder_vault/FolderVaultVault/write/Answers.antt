@@ -1,0 +1,8 @@
+use Rattle.cv_folder.proofs.Acts.{asks_still}
+use Rattle.cv_folder.proofs.folder_vault.FolderVaultVault.write.Goals as goal
+
+pub returns-in-Err-clause-calls : goal.returns-in-Err-clause-calls
+returns-in-Err-clause-calls g c = rw (c.fault_of.ensures.calls, c.fault_of.ensures.hold) c.in-Err.ensures.calls
+
+pub returns-in-Err-clause-no_name : goal.returns-in-Err-clause-no_name
+returns-in-Err-clause-no_name g c = λ never. asks_still g.S.System.log _ _ _ (c.write_now.ensures.no_name never) c.fault_of.ensures.hold c.fault_of.ensures.calls

@@ -1,0 +1,9 @@
+use Rattle.std.proofs.Common.{refl}
+use Rattle.cv_folder.proofs.Preparing.{prepares_none, prepares_one}
+use Rattle.cv_folder.proofs.making.make_folder_at.Goals as goal
+
+pub returns-in-Some-clause-calls : goal.returns-in-Some-clause-calls
+returns-in-Some-clause-calls g c = prepares_one _ _ _ _ _ c.requires c.in-Some.ensures.folder.0 c.in-Some.ensures.folder.1 c.make_folder.ensures.calls
+
+pub returns-in-None-clause-calls : goal.returns-in-None-clause-calls
+returns-in-None-clause-calls g c = prepares_none _ _ _ _ refl

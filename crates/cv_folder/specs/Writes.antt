@@ -1,0 +1,82 @@
+-- How a file gets its name, and the folders that it stands in.
+use Rattle.std.specs.Prelude.{ℕ, ◌≡◌, ◌⊎◌, ◌≤◌, ◌+◌, Bool, true, false, List, [], ◌∷◌, ◌++◌, length, Result, Ok, Err, IsTrue}
+use Rattle.std.specs.declared.io.ErrorKind.{ErrorKind}
+use Rattle.std.specs.declared.io.ErrorKind.TheVariants.{AlreadyExists}
+use Rattle.cv_folder.specs.Calls.{Call, Log, Outcome, and_call, and_calls, Failed, Looked, Created, Wrote, Synced, Renamed, Removed, Made}
+use Rattle.cv_folder.specs.Steps.{IsLook, Makes, Steps, Tries}
+use Rattle.cv_folder.specs.declared.seen.Seen.{Seen}
+use Rattle.cv_folder.specs.Looks.{IsNothing, IsSame}
+use Rattle.cv_folder.specs.Reads.{HasFile, LacksFile, LooksInVain}
+use Rattle.cv_folder.specs.Hold.{Begins, IsHeld}
+use Rattle.cv_folder.specs.Names.{is_name, next_of, path_of}
+use Rattle.cv_folder.specs.declared.hold.Hold.{Hold}
+
+-- the own file is created anew, also where something stood there and was removed, and then these calls are tried
+abbrev pub TriesAnew : List ℕ → List (Outcome → Call) → Bool → Log → Log → Type 0
+TriesAnew next calls all before after =
+    Tries (Created next ∷ calls) all before after
+    ⊎ Tries (Removed next ∷ Created next ∷ calls) all (and_call (Created next (Failed AlreadyExists)) before) after
+
+-- all the bytes are written to the own file, it is made durable, and then it is renamed onto the name
+abbrev pub put : List ℕ → List ℕ → List ℕ → List (Outcome → Call)
+put next path bytes = Wrote next bytes ∷ Synced next ∷ Renamed next path ∷ []
+
+-- a whole file was put under a name, or it wasn't: then the own file was removed, if it could be
+unfoldable pub Puts : List ℕ → List ℕ → List ℕ → Bool → Log → Log → Type 0
+Puts next path bytes true before after = TriesAnew next (put next path bytes) true before after
+Puts next path bytes false before after =
+    (tried : Log) × (gone : Outcome) × TriesAnew next (put next path bytes) false before tried × (after ≡ and_call (Removed next gone) tried)
+
+-- a folder on the way of a path, past its first bytes
+abbrev pub IsOnWay : ℕ → List ℕ → List ℕ → Type 0
+IsOnWay from path folder = (rest : List ℕ) × (path ≡ folder ++ 47 ∷ rest) × (from ≤ length folder)
+
+-- a folder is made, or tried to be, where a look has just found nothing
+abbrev pub MakesMissing : List ℕ → Log → Log → Type 0
+MakesMissing folder before after =
+    (kind : ErrorKind) × (made : Outcome) × IsNothing kind × (after ≡ and_calls (Looked folder (Err kind) ∷ Made folder made ∷ []) before)
+
+-- there are looks, and folders on the way of a path are made where nothing is
+unfoldable pub Prepares : ℕ → List ℕ → Log → Log → Type 0
+Prepares from path before after = Steps (λ one other. Makes IsLook one other ⊎ ((folder : List ℕ) × IsOnWay from path folder × MakesMissing folder one other)) before after
+
+-- a write: it begins, and nothing more is called where it fails by then; where this is a name and the folder is held, folders are made
+-- on the way to it, and then the file is put, once, or the write has failed before. What the vault had of its folder and has, and whether
+-- the write is done
+unfoldable pub WritesFile : {F : Type 0} → List ℕ → List ℕ → List ℕ → Hold F → Hold F → Bool → Log → Log → Type 0
+WritesFile root name bytes was hold done before after =
+    (begun : Log) × Begins root was hold before begun
+    × (((done ≡ false) × (after ≡ begun))
+    ⊎ (IsHeld hold × IsTrue (is_name name) × (ready : Log) × Prepares (length root + 1) (path_of root name) begun ready
+    × (Puts (next_of root name) (path_of root name) bytes done ready after ⊎ ((done ≡ false) × (after ≡ ready)))))
+
+-- a look sees that a path is another name of a file
+abbrev pub SeesOther : Seen → List ℕ → Log → Log → Type 0
+SeesOther seen path before after = (other : Seen) × IsSame seen other × (after ≡ and_call (Looked path (Ok other)) before)
+
+-- a file gets another name, or of two names of one file the first goes. That is the last call, whether it is made or fails
+unfoldable pub MovesFile : List ℕ → List ℕ → Seen → Bool → Log → Log → Type 0
+MovesFile from to seen done before after =
+    ((looked : Log) × Makes IsLook before looked × Tries (Renamed from to ∷ []) done looked after)
+    ⊎ ((looked : Log) × SeesOther seen to before looked × Tries (Removed from ∷ []) done looked after)
+    ⊎ ((done ≡ false) × Makes IsLook before after)
+
+-- a file is moved from a name to another: it is found, folders are made on the way to the other, and it is moved; or none is there
+unfoldable pub MovesNamed : {F E : Type 0} → List ℕ → List ℕ → List ℕ → Hold F → Result Bool E → Log → Log → Type 0
+MovesNamed root from to hold (Ok true) before after =
+    (seen : Seen) × (found ready : Log) × HasFile root from hold seen before found × Prepares (length root + 1) (path_of root to) found ready
+    × MovesFile (path_of root from) (path_of root to) seen true ready after
+MovesNamed root from to hold (Ok false) before after = LacksFile root from hold before after
+MovesNamed root from to hold (Err error) before after =
+    LooksInVain from hold before after
+    ⊎ ((seen : Seen) × (found ready : Log) × HasFile root from hold seen before found × Prepares (length root + 1) (path_of root to) found ready
+    × ((after ≡ ready) ⊎ MovesFile (path_of root from) (path_of root to) seen false ready after))
+
+-- a file is removed under a name: it is found and removed, none is there, or one of the two failed
+unfoldable pub RemovesNamed : {F E : Type 0} → List ℕ → List ℕ → Hold F → Result Bool E → Log → Log → Type 0
+RemovesNamed root name hold (Ok true) before after =
+    (seen : Seen) × (found : Log) × HasFile root name hold seen before found × Tries (Removed (path_of root name) ∷ []) true found after
+RemovesNamed root name hold (Ok false) before after = LacksFile root name hold before after
+RemovesNamed root name hold (Err error) before after =
+    LooksInVain name hold before after
+    ⊎ ((seen : Seen) × (found : Log) × HasFile root name hold seen before found × Tries (Removed (path_of root name) ∷ []) false found after)

@@ -1,0 +1,109 @@
+//! The hold that a vault has of its folder.
+ghost use Rattle.std.specs.Prelude.{◌≡◌, ◌≢◌, ◌↔◌, IfOk, IfErr, IsTrue, is_some};
+ghost use Rattle.std.specs.IoError.{error_kind};
+ghost use Rattle.cv_folder.specs.FolderVaultInner.{made_hold};
+ghost use Rattle.cv_folder.specs.Hold.{AskedAt, Locks, LocksAndLeaves, LocksNot, MakesRoot, with_slash};
+
+use crate::system::System;
+use std::io;
+use std::io::ErrorKind;
+
+/// What a vault has of its folder.
+#[derive(Drop)]
+pub enum Hold<F: Drop> {
+    /// Nothing was asked of the vault yet, or the folder couldn't be opened or locked: the next call tries it.
+    Unasked,
+    /// The folder is open and locked: no other vault holds it, in this process or another.
+    Held(F),
+    /// No folder is there. The first write makes it.
+    Absent,
+    /// Another vault holds the folder or has made it, or its path is none that a vault's folder may have. Each call fails.
+    Refused,
+}
+
+impl<F: Drop> Hold<F> {
+    /// Whether nothing was asked yet.
+    pub fn is_unasked(&self) -> bool
+        ensures { IsTrue result ↔ (self.now ≡ Hold.Unasked) }
+    {
+        matches!(self, Hold::Unasked)
+    }
+}
+
+/// Whether an error says that nothing stands at a path.
+fn is_absent(error: &io::Error) -> bool
+    ensures { IsTrue result ↔ (error_kind error.now ≡ ErrorKind.NotFound) }
+{
+    matches!(error.kind(), ErrorKind::NotFound)
+}
+
+/// The error of a call that isn't made.
+pub fn refused() -> io::Error
+    ensures { error_kind result ≡ ErrorKind.InvalidInput }
+{
+    io::Error::from(ErrorKind::InvalidInput)
+}
+
+/// Opens and locks a folder whose path ends in a slash. None where another vault holds it.
+fn lock_folder<S: System>(system: &mut S, folder: &str) -> io::Result<Option<S::File>>
+    ensures given { IfOk result (λ held. Locks folder.now (is_some held) (S.log system.old)
+        (S.log system.new)) }
+    ensures fails { IfErr result (λ error. LocksNot folder.now (error_kind error) (S.log system.old)
+        (S.log system.new)) }
+{
+    let open = system.open(folder)?;
+    if system.lock(&open)? {
+        Ok(Some(open))
+    } else {
+        Ok(None)
+    }
+}
+
+/// What a vault has of the folder at this path, which ends in a slash: it holds it, if it is there.
+pub fn hold_of<S: System>(system: &mut S, folder: &str) -> io::Result<Hold<S::File>>
+    ensures asked { IfOk result (λ hold. AskedAt folder.now hold (S.log system.old)
+        (S.log system.new)) }
+    ensures fails { IfErr result (λ error. (error_kind error ≢ ErrorKind.NotFound)
+        × LocksNot folder.now (error_kind error) (S.log system.old) (S.log system.new)) }
+{
+    match lock_folder(system, folder) {
+        Ok(Some(open)) => Ok(Hold::Held(open)),
+        Ok(None) => Ok(Hold::Refused),
+        Err(error) if is_absent(&error) => Ok(Hold::Absent),
+        Err(error) => Err(error),
+    }
+}
+
+/// Opens and locks a folder that was just made, by its path with a slash at the end. None where another vault holds it. Where it
+/// can't be opened or locked it goes again, so that a later try may make it.
+fn hold_made<S: System>(system: &mut S, folder: &str, slashed: &str) -> io::Result<Option<S::File>>
+    ensures given { IfOk result (λ held. Locks slashed.now (is_some held) (S.log system.old)
+        (S.log system.new)) }
+    ensures fails { IfErr result (λ error. LocksAndLeaves folder.now slashed.now (error_kind error)
+        (S.log system.old) (S.log system.new)) }
+{
+    match lock_folder(system, slashed) {
+        Ok(held) => Ok(held),
+        Err(error) => {
+            let _ = system.remove_folder(folder);
+            Err(error)
+        }
+    }
+}
+
+/// Makes a folder, and opens and locks it by its path with a slash at the end. None where something stands there by now, or
+/// another vault holds it.
+pub fn make_held<S: System>(
+    system: &mut S,
+    folder: &str,
+    slashed: &str,
+) -> io::Result<Option<S::File>>
+    requires { slashed.now ≡ with_slash folder.now }
+    ensures { MakesRoot folder.now (made_hold result) (S.log system.old) (S.log system.new) }
+{
+    match system.make_folder(folder) {
+        Ok(()) => hold_made(system, folder, slashed),
+        Err(error) if error.kind() == ErrorKind::AlreadyExists => Ok(None),
+        Err(error) => Err(error),
+    }
+}

@@ -1,0 +1,36 @@
+//! The folders that were noted, to be synced.
+ghost use Rattle.std.specs.Prelude.{◌≡◌, ◌⊎◌, IsTrue, OnOk};
+ghost use Rattle.cv_folder.specs.Noted.{Keeps, is_noted};
+
+use std::alloc::{AllocError, Global};
+
+/// Whether a folder is noted.
+fn is_noted(notes: &[String], folder: &str) -> bool
+    ensures { result ≡ is_noted notes.now folder.now }
+{
+    notes.iter().any(|known| known.as_str() == folder)
+}
+
+/// Notes a folder once. What was noted stays.
+pub fn note(notes: &mut Vec<String>, folder: &str) -> Result<(), AllocError>
+    ensures noted { OnOk result (IsTrue (is_noted notes.new.items folder.now)) }
+    ensures kept { Keeps notes.old.items notes.new.items }
+{
+    if is_noted(notes.as_slice(), folder) {
+        return Ok(());
+    }
+    let alloc: Global = *notes.allocator();
+    notes.push(String::from_str(alloc, folder)?)?;
+    Ok(())
+}
+
+/// Notes a folder. Where there is no room for that, all are unsettled.
+pub fn note_or_all(notes: &mut Vec<String>, folder: &str, is_unsettled: &mut bool)
+    ensures noted { IsTrue (is_noted notes.new.items folder.now) ⊎ IsTrue is_unsettled.new }
+    ensures kept { Keeps notes.old.items notes.new.items }
+    ensures unsettled { IsTrue is_unsettled.old → IsTrue is_unsettled.new }
+{
+    if note(notes, folder).is_err() {
+        *is_unsettled = true;
+    }
+}

@@ -1,5 +1,0 @@
-mod CutNames
-mod LastParts
-mod Listed
-mod Looking
-mod Notes

@@ -1,5 +1,0 @@
-use Rattle.cv_real.specs.WalkInner.{IsUnder}
-use Rattle.cv_real.proofs.walk.Walk.sync_all.Given as goal
-
-abbrev pub invariant-loop : goal.invariant-loop
-invariant-loop g l = IsUnder l.top l.self.place.folder
