@@ -138,7 +138,7 @@ module _ {F : Type 0} (root name : List ℕ) (hold : Hold F) (before : Log) wher
       named_so : (after : Log) → MovesOn root (path_of root name) to seen true found after → MovesNamed {F = F} {E = Error} root name to hold (Ok true) before after
       unfolding FindsNamed MovesNamed MovesOn
       named_so after (ready, prepared, inl (never, same)) = absurd (cc)
-      named_so after (ready, prepared, inr moved) = (seen, found, ready, has, prepared, moved)
+      named_so after (ready, prepared, inr (leads, moved)) = (seen, found, ready, has, prepared, leads, moved)
 
       pub moves_named : (after : Log) → MovesOn home path to seen true found after → MovesNamed {F = F} {E = Error} root name to hold (Ok true) before after
       moves_named after moves = named_so after (moved_on true after moves)

@@ -12,7 +12,8 @@ use Rattle.cv_folder.specs.Hold.{Begins, IsHeld, MakesRoot}
 use Rattle.cv_folder.specs.Names.{folder_of, is_name, next_of, path_of}
 use Rattle.cv_folder.specs.Steps.{Tries}
 use Rattle.cv_folder.specs.Syncs.{SettlesAll, SettlesFirst, SyncsAll, SyncsHeld, syncs}
-use Rattle.cv_folder.specs.Writes.{MovesFile, Prepares, Puts, WritesFile}
+use Rattle.cv_folder.specs.Looks.{folders_past}
+use Rattle.cv_folder.specs.Writes.{Leads, MovesFile, Prepares, Puts, WritesFile}
 use Rattle.cv_folder.proofs.Acts.{acts_so}
 use Rattle.cv_folder.proofs.Stepping.{no_step}
 
@@ -43,17 +44,22 @@ module _ {F : Type 0} (root name bytes : List ℕ) (was hold : Hold F) (before b
         subst (λ (log : Log). Prepares (length root + 1) (path_of root name) log ready) same
         (subst (λ (p : List ℕ). Prepares (length root + 1) p set ready) at (subst (λ (n : ℕ). Prepares n path set ready) size prepares))
 
+    led : Leads (folders_past from path) set ready → Leads (folders_past (length root + 1) (path_of root name)) begun ready
+    led leads =
+        subst (λ (log : Log). Leads (folders_past (length root + 1) (path_of root name)) log ready) same
+        (subst (λ (p : List ℕ). Leads (folders_past (length root + 1) p) set ready) at (subst (λ (n : ℕ). Leads (folders_past n path) set ready) size leads))
+
     -- a folder on the way couldn't be made
     pub writes_on_way : WritesFile root name bytes was hold false before ready
     unfolding WritesFile
     writes_on_way = (begun, begins, inr (held, named, ready, prepared, inr (refl, refl)))
 
     -- the file is put, or that fails
-    pub writes_so : (done : Bool) (after : Log) → next ≡ folder_of path ++ codes ".cvkit-next" → Puts next path bytes done ready after → WritesFile root name bytes was hold done before after
+    pub writes_so : (done : Bool) (after : Log) → next ≡ folder_of path ++ codes ".cvkit-next" → Leads (folders_past from path) set ready → Puts next path bytes done ready after → WritesFile root name bytes was hold done before after
     unfolding WritesFile
-    writes_so done after beside puts =
+    writes_so done after beside leads puts =
         let own : next ≡ next_of root name = beside ∙ ap (λ (p : List ℕ). folder_of p ++ codes ".cvkit-next") at in
-        (begun, begins, inr (held, named, ready, prepared, inl (subst (λ (n : List ℕ). Puts n (path_of root name) bytes done ready after) own (subst (λ (p : List ℕ). Puts next p bytes done ready after) at puts))))
+        (begun, begins, inr (held, named, ready, prepared, inl (led leads, subst (λ (n : List ℕ). Puts n (path_of root name) bytes done ready after) own (subst (λ (p : List ℕ). Puts next p bytes done ready after) at puts))))
 
 -- nothing is settled first
 pub settles_nothing : (root : List ℕ) (is_unsettled : Bool) (before after : Log) → is_unsettled ≡ false → after ≡ before → SettlesFirst root is_unsettled before after
@@ -123,8 +129,13 @@ module _ (root to : List ℕ) (seen : Seen) (before : Log) where
     unfolding MovesOn
     moves_on_way = (ready, on_way, inl (refl, refl))
 
+    led_on : Leads (folders_past from target) set ready → Leads (folders_past (length root + 1) (path_of root to)) before ready
+    led_on leads =
+        subst (λ (log : Log). Leads (folders_past (length root + 1) (path_of root to)) log ready) same
+        (subst (λ (p : List ℕ). Leads (folders_past (length root + 1) p) set ready) at (subst (λ (n : ℕ). Leads (folders_past n target) set ready) size leads))
+
     -- the file is moved, or that fails
-    pub moves_on : (source : List ℕ) (done : Bool) (after : Log) → source ≡ path → MovesFile source target seen done ready after → MovesOn root path to seen done before after
+    pub moves_on : (source : List ℕ) (done : Bool) (after : Log) → source ≡ path → Leads (folders_past from target) set ready → MovesFile source target seen done ready after → MovesOn root path to seen done before after
     unfolding MovesOn
-    moves_on source done after is moves =
-        (ready, on_way, inr (subst (λ (p : List ℕ). MovesFile p (path_of root to) seen done ready after) is (subst (λ (t : List ℕ). MovesFile source t seen done ready after) at moves)))
+    moves_on source done after is leads moves =
+        (ready, on_way, inr (led_on leads, subst (λ (p : List ℕ). MovesFile p (path_of root to) seen done ready after) is (subst (λ (t : List ℕ). MovesFile source t seen done ready after) at moves)))

@@ -1,10 +1,13 @@
 -- Folders that are made on the way of a path.
-use Rattle.std.proofs.Common.{◌≡◌, ◌∙◌, ◌<◌, ◌≤◌, ◌++◌, ◌∷◌, suc, List, ℕ, length, take, drop, get_or, None, Ok, Err, sym, ap, inl, inr, arith, take-append-drop, drop-cons, length-take}
-use Rattle.std.specs.Prelude.{◌⊎◌}
-use Rattle.cv_folder.specs.Calls.{Log, Looked, Made, Outcome, and_call}
+use Rattle.std.proofs.Common.{◌≡◌, ◌∙◌, ◌<◌, ◌≤◌, ◌++◌, ◌∷◌, [], suc, List, ℕ, length, take, drop, get_or, None, Some, Ok, Err, refl, sym, ap, subst, inl, inr, arith, take-append-drop, drop-cons, length-take}
+use Rattle.std.specs.Prelude.{◌⊎◌, ◌==◌, if◌then◌else◌, OnOk, Result, slice_index}
+use Rattle.cv_folder.specs.LooksInner.{folders_at}
+use Rattle.cv_folder.specs.Calls.{Log, Looked, Made, Done, Outcome, and_call}
+use Rattle.cv_folder.specs.declared.seen.Seen.{Seen}
+use Rattle.cv_folder.specs.declared.seen.Kind.TheVariants.{Folder}
 use Rattle.cv_folder.specs.LooksInner.{Looks}
 use Rattle.cv_folder.specs.Steps.{IsLook, Makes, Still, Then}
-use Rattle.cv_folder.specs.Writes.{IsOnWay, MakesMissing, Prepares}
+use Rattle.cv_folder.specs.Writes.{IsOnWay, Leads, LeadsOn, MakesMissing, Prepares}
 use Rattle.cv_folder.proofs.Trying.{two_calls}
 use Rattle.cv_folder.proofs.Stepping.{no_step, steps_then, steps_wider}
 
@@ -23,7 +26,7 @@ on_way path folder end within is slash = (
 pub makes_missing : (folder : List ℕ) (before between after : Log) → Looks folder (Ok None) before between
     → (after ≡ between) ⊎ ((made : Outcome) × (after ≡ and_call (Made folder made) between)) → Makes IsLook before after ⊎ MakesMissing folder before after
 makes_missing folder before between after (kind, nothing, is) (inl same) = inl (Then Still (Looked folder (Err kind), tt, same ∙ is))
-makes_missing folder before between after (kind, nothing, is) (inr (made, then)) = inr (kind, made, nothing, two_calls _ _ _ _ _ is then)
+makes_missing folder before between after (kind, nothing, is) (inr (made, next)) = inr (kind, made, nothing, two_calls _ _ _ _ _ is next)
 
 -- such a folder is looked at, and made if it is missing
 pub prepares_one : (path folder : List ℕ) (end : ℕ) (before after : Log) → end < length path → folder ≡ take end path → get_or path end 0 ≡ 47
@@ -47,3 +50,32 @@ widen_way path from end behind one other (inr (folder, (rest, is, size), makes))
 pub prepares_on : (path : List ℕ) (from end : ℕ) (before between after : Log) → from ≤ end → Prepares from path before between → Prepares end path between after → Prepares from path before after
 unfolding Prepares
 prepares_on path from end before between after behind first more = steps_then first (steps_wider (widen_way path from end behind) more)
+
+-- ---- where a way leads
+
+-- what was seen is a folder
+pub leads_seen : (folder : List ℕ) (seen : Seen) (before after : Log) → Looks folder (Ok (Some seen)) before after → seen.kind ≡ Folder → LeadsOn folder before after
+leads_seen folder seen before after is kind = inl (seen, kind, is)
+
+-- nothing was, and a folder was made
+pub leads_made : (folder : List ℕ) (before between after : Log) → Looks folder (Ok None) before between → after ≡ and_call (Made folder Done) between → LeadsOn folder before after
+leads_made folder before between after (kind, nothing, is) made = inr (kind, nothing, two_calls _ _ _ _ _ is made)
+
+-- so it is where it was made
+pub leads_if_made : {A E : Type 0} (folder : List ℕ) (before between after : Log) (made : Result A E) → Looks folder (Ok None) before between
+    → OnOk made (after ≡ and_call (Made folder Done) between) → OnOk made (LeadsOn folder before after)
+leads_if_made folder before between after (Ok x) looks made = leads_made folder before between after looks made
+leads_if_made folder before between after (Err error) looks made = tt
+
+-- at one place of a path
+pub leads_at : {A E : Type 0} (path folder : List ℕ) (end : ℕ) (before after : Log) (made : Result A E) → slice_index path end ≡ 47 → folder ≡ take end path
+    → OnOk made (LeadsOn folder before after) → OnOk made (Leads (folders_at path end) before after)
+leads_at path folder end before after (Ok x) slash is on =
+    subst (λ (b : ℕ). Leads (if b == 47 then take end path ∷ [] else []) before after) (sym slash)
+    (subst (λ (f : List ℕ). Leads (f ∷ []) before after) is (after, on, refl))
+leads_at path folder end before after (Err error) slash is on = tt
+
+-- some folders, and then others
+pub leads_then : (folders others : List (List ℕ)) (before between after : Log) → Leads folders before between → Leads others between after → Leads (folders ++ others) before after
+leads_then [] others before between after same more = subst (λ (log : Log). Leads others log after) same more
+leads_then (folder ∷ folders) others before between after (next, on, rest) more = (next, on, leads_then folders others next between after rest more)

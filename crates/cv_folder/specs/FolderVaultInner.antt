@@ -5,7 +5,8 @@ use Rattle.cv_folder.specs.declared.hold.Hold.{Hold}
 use Rattle.cv_folder.specs.declared.hold.Hold.TheVariants.{Absent, Held, Refused}
 use Rattle.cv_folder.specs.Hold.{IsHeld}
 use Rattle.cv_folder.specs.Reads.{HasFile, LacksFile, LooksInVain}
-use Rattle.cv_folder.specs.Writes.{MovesFile, Prepares}
+use Rattle.cv_folder.specs.Looks.{folders_past}
+use Rattle.cv_folder.specs.Writes.{Leads, MovesFile, Prepares}
 use Rattle.cv_folder.specs.declared.seen.Seen.{Seen}
 use Rattle.cv_folder.specs.Calls.{Log}
 use Rattle.cv_folder.specs.Names.{is_name, path_of}
@@ -23,7 +24,8 @@ HasFolder hold false = hold ≡ Absent
 unfoldable pub MovesOn : List ℕ → List ℕ → List ℕ → Seen → Bool → Log → Log → Type 0
 MovesOn root path to seen done before after =
     (ready : Log) × Prepares (length root + 1) (path_of root to) before ready
-    × (((done ≡ false) × (after ≡ ready)) ⊎ MovesFile path (path_of root to) seen done ready after)
+    × (((done ≡ false) × (after ≡ ready))
+    ⊎ (Leads (folders_past (length root + 1) (path_of root to)) before ready × MovesFile path (path_of root to) seen done ready after))
 
 -- a file is looked for under a name
 unfoldable pub FindsNamed : {F E : Type 0} → List ℕ → List ℕ → Hold F → Result (Option Seen) E → Log → Log → Type 0

@@ -2,10 +2,11 @@
 use Rattle.std.specs.Prelude.{ℕ, ◌≡◌, ◌⊎◌, ◌≤◌, ◌+◌, Bool, true, false, List, [], ◌∷◌, ◌++◌, length, Result, Ok, Err, IsTrue}
 use Rattle.std.specs.declared.io.ErrorKind.{ErrorKind}
 use Rattle.std.specs.declared.io.ErrorKind.TheVariants.{AlreadyExists}
-use Rattle.cv_folder.specs.Calls.{Call, Log, Outcome, and_call, and_calls, Failed, Looked, Created, Wrote, Synced, Renamed, Removed, Made}
+use Rattle.cv_folder.specs.Calls.{Call, Log, Outcome, and_call, and_calls, Done, Failed, Looked, Created, Wrote, Synced, Renamed, Removed, Made}
 use Rattle.cv_folder.specs.Steps.{IsLook, Makes, Steps, Tries}
 use Rattle.cv_folder.specs.declared.seen.Seen.{Seen}
-use Rattle.cv_folder.specs.Looks.{IsNothing, IsSame}
+use Rattle.cv_folder.specs.declared.seen.Kind.TheVariants.{Folder}
+use Rattle.cv_folder.specs.Looks.{IsNothing, IsSame, folders_past}
 use Rattle.cv_folder.specs.Reads.{HasFile, LacksFile, LooksInVain}
 use Rattle.cv_folder.specs.Hold.{Begins, IsHeld}
 use Rattle.cv_folder.specs.Names.{is_name, next_of, path_of}
@@ -40,15 +41,27 @@ MakesMissing folder before after =
 unfoldable pub Prepares : ℕ → List ℕ → Log → Log → Type 0
 Prepares from path before after = Steps (λ one other. Makes IsLook one other ⊎ ((folder : List ℕ) × IsOnWay from path folder × MakesMissing folder one other)) before after
 
+-- a folder on a way was seen as a folder, or nothing was there and it was made
+abbrev pub LeadsOn : List ℕ → Log → Log → Type 0
+LeadsOn folder before after =
+    ((seen : Seen) × (seen.kind ≡ Folder) × (after ≡ and_call (Looked folder (Ok seen)) before))
+    ⊎ ((kind : ErrorKind) × IsNothing kind × (after ≡ and_calls (Looked folder (Err kind) ∷ Made folder Done ∷ []) before))
+
+-- so was each of these folders, in their order
+abbrev pub Leads : List (List ℕ) → Log → Log → Type 0
+Leads [] before after = after ≡ before
+Leads (folder ∷ folders) before after = (between : Log) × LeadsOn folder before between × Leads folders between after
+
 -- a write: it begins, and nothing more is called where it fails by then; where this is a name and the folder is held, folders are made
--- on the way to it, and then the file is put, once, or the write has failed before. What the vault had of its folder and has, and whether
--- the write is done
+-- on the way to it, and then, where the way leads to it by folders alone, the file is put, once, or the write has failed before. What the
+-- vault had of its folder and has, and whether the write is done
 unfoldable pub WritesFile : {F : Type 0} → List ℕ → List ℕ → List ℕ → Hold F → Hold F → Bool → Log → Log → Type 0
 WritesFile root name bytes was hold done before after =
     (begun : Log) × Begins root was hold before begun
     × (((done ≡ false) × (after ≡ begun))
     ⊎ (IsHeld hold × IsTrue (is_name name) × (ready : Log) × Prepares (length root + 1) (path_of root name) begun ready
-    × (Puts (next_of root name) (path_of root name) bytes done ready after ⊎ ((done ≡ false) × (after ≡ ready)))))
+    × ((Leads (folders_past (length root + 1) (path_of root name)) begun ready × Puts (next_of root name) (path_of root name) bytes done ready after)
+    ⊎ ((done ≡ false) × (after ≡ ready)))))
 
 -- a look sees that a path is another name of a file
 abbrev pub SeesOther : Seen → List ℕ → Log → Log → Type 0
@@ -61,16 +74,18 @@ MovesFile from to seen done before after =
     ⊎ ((looked : Log) × SeesOther seen to before looked × Tries (Removed from ∷ []) done looked after)
     ⊎ ((done ≡ false) × Makes IsLook before after)
 
--- a file is moved from a name to another: it is found, folders are made on the way to the other, and it is moved; or none is there
+-- a file is moved from a name to another: it is found, folders are made on the way to the other, and where that leads there by folders
+-- alone it is moved; or none is there
 unfoldable pub MovesNamed : {F E : Type 0} → List ℕ → List ℕ → List ℕ → Hold F → Result Bool E → Log → Log → Type 0
 MovesNamed root from to hold (Ok true) before after =
     (seen : Seen) × (found ready : Log) × HasFile root from hold seen before found × Prepares (length root + 1) (path_of root to) found ready
-    × MovesFile (path_of root from) (path_of root to) seen true ready after
+    × Leads (folders_past (length root + 1) (path_of root to)) found ready × MovesFile (path_of root from) (path_of root to) seen true ready after
 MovesNamed root from to hold (Ok false) before after = LacksFile root from hold before after
 MovesNamed root from to hold (Err error) before after =
     LooksInVain from hold before after
     ⊎ ((seen : Seen) × (found ready : Log) × HasFile root from hold seen before found × Prepares (length root + 1) (path_of root to) found ready
-    × ((after ≡ ready) ⊎ MovesFile (path_of root from) (path_of root to) seen false ready after))
+    × ((after ≡ ready)
+    ⊎ (Leads (folders_past (length root + 1) (path_of root to)) found ready × MovesFile (path_of root from) (path_of root to) seen false ready after)))
 
 -- a file is removed under a name: it is found and removed, none is there, or one of the two failed
 unfoldable pub RemovesNamed : {F E : Type 0} → List ℕ → List ℕ → Hold F → Result Bool E → Log → Log → Type 0

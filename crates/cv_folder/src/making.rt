@@ -1,10 +1,12 @@
 //! The folders that a name stands in, made where they are missing.
 ghost use Rattle.std.specs.Prelude.{◌≡◌, ◌⊎◌, ◌<◌, IsTrue, OnOk, length};
-ghost use Rattle.cv_folder.specs.Calls.{Made, Outcome, and_call};
+ghost use Rattle.cv_folder.specs.Calls.{Done, Made, Outcome, and_call};
 ghost use Rattle.cv_folder.specs.Names.{folder_of};
 ghost use Rattle.cv_folder.specs.Noted.{Keeps, is_noted};
 ghost use Rattle.cv_folder.specs.Steps.{IsLook, Makes};
-ghost use Rattle.cv_folder.specs.Writes.{MakesMissing, Prepares};
+ghost use Rattle.cv_folder.specs.Looks.{folders_past};
+ghost use Rattle.cv_folder.specs.LooksInner.{folders_at};
+ghost use Rattle.cv_folder.specs.Writes.{Leads, LeadsOn, MakesMissing, Prepares};
 
 use crate::looks::{folder_at, seen};
 use crate::names::folder_of;
@@ -19,6 +21,7 @@ fn make_noted<S: System>(system: &mut S, folder: &str, notes: &mut Vec<String>) 
     ensures kept { Keeps notes.old.items notes.new.items }
     ensures calls { (S.log system.new ≡ S.log system.old)
         ⊎ ((made : Outcome) × (S.log system.new ≡ and_call (Made folder.now made) (S.log system.old))) }
+    ensures made { OnOk result (S.log system.new ≡ and_call (Made folder.now Done) (S.log system.old)) }
 {
     note(notes, folder_of(folder))?;
     system.make_folder(folder)
@@ -29,6 +32,7 @@ fn make_folder<S: System>(system: &mut S, folder: &str, notes: &mut Vec<String>)
     ensures kept { Keeps notes.old.items notes.new.items }
     ensures calls { Makes IsLook (S.log system.old) (S.log system.new)
         ⊎ MakesMissing folder.now (S.log system.old) (S.log system.new) }
+    ensures leads { OnOk result (LeadsOn folder.now (S.log system.old) (S.log system.new)) }
 {
     match seen(system, folder)? {
         Some(found) if found.is_folder() => Ok(()),
@@ -47,6 +51,8 @@ fn make_folder_at<S: System>(
     requires { end < length path.now }
     ensures kept { Keeps notes.old.items notes.new.items }
     ensures calls { Prepares end path.now (S.log system.old) (S.log system.new) }
+    ensures leads { OnOk result
+        (Leads (folders_at path.now end) (S.log system.old) (S.log system.new)) }
 {
     match folder_at(path, end) {
         Some(folder) => make_folder(system, folder, notes),
@@ -65,6 +71,8 @@ pub fn make_folders<S: System>(
     ensures noted { OnOk result (IsTrue (is_noted notes.new.items (folder_of path.now))) }
     ensures kept { Keeps notes.old.items notes.new.items }
     ensures calls { Prepares from path.now (S.log system.old) (S.log system.new) }
+    ensures leads { OnOk result
+        (Leads (folders_past from path.now) (S.log system.old) (S.log system.new)) }
 {
     for end in from..path.len() {
         make_folder_at(system, path, end, notes)?;

@@ -1,5 +1,5 @@
 use Rattle.std.proofs.Common.{refl}
-use Rattle.cv_folder.proofs.Preparing.{prepares_none, prepares_one}
+use Rattle.cv_folder.proofs.Preparing.{leads_at, prepares_none, prepares_one}
 use Rattle.cv_folder.proofs.making.make_folder_at.Goals as goal
 
 pub returns-in-Some-clause-calls : goal.returns-in-Some-clause-calls
@@ -7,3 +7,6 @@ returns-in-Some-clause-calls g c = prepares_one _ _ _ _ _ c.requires c.in-Some.e
 
 pub returns-in-None-clause-calls : goal.returns-in-None-clause-calls
 returns-in-None-clause-calls g c = prepares_none _ _ _ _ refl
+
+pub returns-in-Some-clause-leads : goal.returns-in-Some-clause-leads
+returns-in-Some-clause-leads g c = leads_at _ _ _ _ _ _ c.in-Some.ensures.folder.1 c.in-Some.ensures.folder.0 c.make_folder.ensures.leads

@@ -36,4 +36,4 @@ pub returns-clause-calls : goal.returns-clause-calls
 returns-clause-calls g c =
     moves_on (string_bytes c.args.self.now.root) c.args.to.now c.args.found.now _ c.args.self.now.path c.set_path.new.self.path c.names_from-from.result c.in_ok-set_path.ensures.path
     (c.names_from-from.ensures ∙ ap (λ root. length (string_bytes root) + 1) c.set_path.ensures.stays.0) _ _ c.set_path.ensures.calls (rw c.as_str-3.ensures.path at c.make_folders.ensures.calls)
-    _ _ _ (c.as_str-4.ensures.value ∙ c.in_ok-source.ensures.ok ∙ c.as_str.ensures.path) (rw c.as_str-5.ensures.path at c.move_file.ensures)
+    _ _ _ (c.as_str-4.ensures.value ∙ c.in_ok-source.ensures.ok ∙ c.as_str.ensures.path) (rw c.as_str-3.ensures.path at c.in_ok-make_folders.ensures.leads) (rw c.as_str-5.ensures.path at c.move_file.ensures)

@@ -30,6 +30,7 @@ returns-clause-calls g c =
     writes_so (string_bytes c.args.self.now.root) c.args.name.now c.args.bytes.now c.args.self.now.hold c.set_next.new.self.hold _ _ (rw (← c.set_next.ensures.hold) at c.begin_write.ensures.begins) (rw (← c.set_next.ensures.hold) at c.in_ok-begin_write.ensures.held.0) c.in_ok-begin_write.ensures.path.0 c.set_next.new.self.path c.set_next.new.self.next c.names_from-from.result
     at (c.names_from-from.ensures ∙ ap (λ root. length (string_bytes root) + 1) root) _ _ c.set_next.ensures.calls (rw c.as_str.ensures.path at c.make_folders.ensures.calls) _ _
     (c.in_ok-set_next.ensures.next ∙ ap (λ (path : List ℕ). folder_of path ++ codes ".cvkit-next") (sym c.set_next.ensures.path))
+    (rw c.as_str.ensures.path at c.in_ok-make_folders.ensures.leads)
     (rw (c.as_str-2.ensures.path, c.as_str-3.ensures.path) at c.put_file.ensures)
 
 pub returns-in_err-begin_write-clause-no_name : goal.returns-in_err-begin_write-clause-no_name
