@@ -1,4 +1,5 @@
-//! What stands behind the links of a dial.
+//! What stands behind the links of a dial. The dial and the runs are over any peer, so that no proof of theirs goes over what a
+//! gateway is made of.
 
 use cv_base::NoMemory;
 use std::alloc::Global;
