@@ -1,5 +1,4 @@
-//! What stands behind the links of a dial. The dial and the runs are over any peer, so that no proof of theirs goes over what a
-//! gateway is made of.
+//! What stands behind the links of a dial.
 
 use cv_base::NoMemory;
 use std::alloc::Global;
