@@ -16,7 +16,7 @@ from told_publisher import OPAQUE, Publication, bad_whiteout, changed
 from vectors import in_line, settle_lines
 
 random.seed(244)
-COUNT = 4
+COUNT = 20
 
 
 def link_text(link):
