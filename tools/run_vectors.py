@@ -156,7 +156,6 @@ def payloads():
 OPENING = 8
 TWO = [READ, (MANIFEST_ASKED, octets(MANIFEST))]
 FAILED = refusal("500 Internal Server Error")
-PINNED = [runs.given("link", shell_runs.PINNED)]
 
 
 def failing():
