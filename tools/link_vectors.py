@@ -29,4 +29,4 @@ rows = []
 for _ in range(32):
     run = "".join(random.choice("LLFFfs") for _ in range(random.randint(4, 9)))
     rows.append(f"({text(run)}, {text(left(run))})")
-settle("crates/cv_links/src/tests.rt", [table("RUNS", "(&str, &str)", rows, "static")])
+settle("crates/cv_links_tests/src/tests.rt", [table("RUNS", "(&str, &str)", rows, "static")])

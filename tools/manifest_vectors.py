@@ -131,7 +131,7 @@ def digest(name, data):
 
 
 settle(
-    "crates/cv_manifest/src/tests.rt",
+    "crates/cv_manifest_tests/src/tests.rt",
     [
         digest("ROOT", root),
         digest("HISTORY", history),

@@ -20,8 +20,6 @@ mod path_name;
 mod repo_path;
 mod steps;
 mod target;
-#[cfg(test)]
-mod tests;
 mod text;
 mod text_order;
 mod token;

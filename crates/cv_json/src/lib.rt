@@ -3,8 +3,6 @@
 
 mod object_members;
 mod object_text;
-#[cfg(test)]
-mod tests;
 
 pub use object_members::{Members, with_number, with_text, with_value};
 pub use object_text::{read_object, write_object};

@@ -8,8 +8,6 @@ mod limits;
 mod linked;
 mod names;
 mod queue;
-#[cfg(test)]
-mod tests;
 
 pub use lease::Lease;
 pub use lease_fault::LeaseFault;

@@ -9,8 +9,6 @@ mod line;
 mod manifest;
 mod manifest_fault;
 mod parts;
-#[cfg(test)]
-mod tests;
 mod values;
 
 pub use head::Head;

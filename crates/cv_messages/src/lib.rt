@@ -9,8 +9,6 @@ mod message_fault;
 mod payload_ask;
 mod spelled_members;
 mod targets;
-#[cfg(test)]
-mod tests;
 
 pub use commit_ask::CommitAsk;
 pub use lease_ask::LeaseAsk;

@@ -5,8 +5,6 @@ mod compare;
 mod hmac;
 mod keyed_hash;
 mod signer;
-#[cfg(test)]
-mod tests;
 
 pub use compare::same_bytes;
 pub use hmac::hmac_sha1;

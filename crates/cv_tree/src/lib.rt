@@ -5,8 +5,6 @@ mod joined;
 mod node;
 mod node_map;
 mod part;
-#[cfg(test)]
-mod tests;
 mod tree;
 mod tree_fault;
 

@@ -1,6 +1,6 @@
 //! What the contracts can't say: values from outside, and that calls find memory.
 
-use crate::{CommitAsk, LeaseAsk, Member, MessageFault, PayloadAsk};
+use cv_messages::{CommitAsk, LeaseAsk, Member, MessageFault, PayloadAsk};
 use std::alloc::Global;
 use std::test::Fail;
 

@@ -1,6 +1,6 @@
 //! What the contracts can't say: values from outside, and that calls find memory.
 
-use crate::{read_object, with_number, with_text, with_value, write_object};
+use cv_json::{read_object, with_number, with_text, with_value, write_object};
 use serde_json::{Map, Value};
 use std::alloc::Global;
 use std::test::Fail;

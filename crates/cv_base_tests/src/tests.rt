@@ -1,6 +1,6 @@
 //! What the contracts can't say: values from outside, and that calls find memory.
 
-use crate::{
+use cv_base::{
     Kind, Name, ObjectId, PathFault, RepoPath, Target, Token, cmp_texts, read_decimal, split_u16,
     split_u32, split_u64,
 };

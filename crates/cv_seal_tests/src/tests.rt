@@ -1,6 +1,6 @@
 //! What the contracts can't say: values from outside, and that calls find memory.
 
-use crate::{KeyedHash, Signer, hmac_sha1};
+use cv_seal::{KeyedHash, Signer, hmac_sha1};
 use std::alloc::Global;
 use std::test::Fail;
 

@@ -1,6 +1,6 @@
 //! What the contracts can't say: values from outside, and that calls find memory.
 
-use crate::{Head, Manifest, ManifestFault};
+use cv_manifest::{Head, Manifest, ManifestFault};
 use cv_base::Name;
 use cv_seal::{KeyedHash, Signer};
 use sha1::Sha1;

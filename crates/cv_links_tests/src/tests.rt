@@ -4,7 +4,7 @@ ghost use Rattle.std.specs.Prelude.{◌≡◌, ◌<◌, Some, None, IfSome, IfOk
 ghost use Rattle.cv_links.specs.Arena.{IsLive, IsFree};
 ghost use Rattle.cv_links.specs.Chains.{IsChain, list_of};
 
-use crate::{Arena, Chain, Id, Lane};
+use cv_links::{Arena, Chain, Id, Lane};
 use cv_base::Steps;
 use std::alloc::Global;
 use std::marker::Brand;
@@ -97,7 +97,7 @@ fn apply<L: Ledger>(
 }
 
 /// The values of a list in its order, the first nine of them.
-#[tactic(auto, using(crate::proofs::Laws::live_in))]
+#[tactic(auto, using(cv_links::proofs::Laws::live_in))]
 fn in_order<L: Ledger>(
     alloc: Global,
     arena: &Arena<u8>,
@@ -118,7 +118,7 @@ fn in_order<L: Ledger>(
 }
 
 /// The list that a run of operations leaves.
-#[tactic(auto, using(crate::proofs::Laws::empty_list))]
+#[tactic(auto, using(cv_links::proofs::Laws::empty_list))]
 fn run<L: Ledger>(alloc: Global, letters: &str, steps: &mut Steps<L>) -> Result<Vec<u8>, Fail> {
     let mut arena = Arena::new(alloc);
     let mut chain = Chain::new(Lane::Tree);
@@ -186,7 +186,7 @@ fn above_twice(arena: &Arena<Place>, id: Id) -> (Option<Id>, Option<Id>)
 }
 
 /// A place stands in both lanes, leaves one, and changes.
-#[tactic(auto, using(crate::proofs::Laws::empty_list))]
+#[tactic(auto, using(cv_links::proofs::Laws::empty_list))]
 fn lanes<L: Ledger>(alloc: Global, blank: Blank) -> Result<[u64; 3], Fail>
     requires { (blank.name ≡ L.name) × (blank.parts ≡ L.parts) × (0 < blank.parts) }
 {

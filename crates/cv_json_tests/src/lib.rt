@@ -1,0 +1,5 @@
+//! The tests of cv_json, over what it offers.
+#![tactic(auto)]
+
+#[cfg(test)]
+mod tests;
