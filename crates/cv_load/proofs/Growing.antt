@@ -1,5 +1,5 @@
 -- How a tree grows by rows.
-use Rattle.std.proofs.Common.{◌≡◌, ◌≢◌, ℕ, zero, suc, ◌+◌, ◌<◌, Bool, true, false, cond, List, [], ◌∷◌, ◌++◌, length, get_or, None, Some, IsSome, is_some, refl, sym, ap, subst, ◌∙◌, arith, length-append, ◌⊎◌, inl, inr}
+use Rattle.std.proofs.Common.{◌≡◌, ◌≢◌, ℕ, ◌+◌, ◌<◌, Bool, true, false, cond, List, [], ◌∷◌, ◌++◌, length, get_or, None, Some, IsSome, is_some, refl, sym, ap, subst, ◌∙◌, arith, length-append, ◌⊎◌, inl, inr}
 use Rattle.std.specs.Prelude.{Contains}
 use Rattle.std.specs.declared.option.Option.{Option}
 use Rattle.std.specs.Ordering.{is_eq, eq_by_cmp}
@@ -12,7 +12,7 @@ use Rattle.cv_base.specs.PathOrder.{path_total, same_path_is}
 use Rattle.cv_tree.specs.Tree.{Nodes}
 use Rattle.cv_tree.specs.declared.node.Node.{Node}
 use Rattle.cv_rows.specs.Catalogue.{Contents, IsCatalogue}
-use Rattle.cv_rows.specs.Places.{IsChild, StandsAt, StandEach, root, below}
+use Rattle.cv_rows.specs.Places.{IsChild, StandsAt, root, below}
 use Rattle.cv_rows.specs.declared.row.Row.{Row}
 use Rattle.cv_rows.proofs.Lemmas.{stands_contained, same_by_key, one_place}
 use Rattle.cv_load.specs.Growth.{Grows, GrowsBy}
@@ -109,25 +109,6 @@ stands_at_place c r path (below {q = q} has other s child) same = absurd (let lo
 -- a row's path is there, where it was found
 pub row_there : (c : Contents) (r : Row) (path q : Path) (t : Nodes) → IsCatalogue c → StandsAt c.at c.rows r path → IsSome (get t path) → StandsAt c.at c.rows r q → IsSome (get t q)
 row_there c r path q t is found some s = subst (λ (p : Path). IsSome (get t p)) (one_place is.ordered found s) some
-
--- ---- the paths of all rows
-
--- they are as many as the rows
-pub each_long : (at : Path) (rows rs : List Row) (qs : List Path) → StandEach at rows rs qs → length qs ≡ length rs
-each_long at rows [] [] each = refl
-each_long at rows [] (q ∷ qs) each = absurd each
-each_long at rows (r ∷ rs) [] each = absurd each
-each_long at rows (r ∷ rs) (q ∷ qs) each = ap suc (each_long at rows rs qs each.1)
-
--- and each row stands at the path in its place
-each_stands : (at : Path) (rows rs : List Row) (qs : List Path) (i : ℕ) (d : Row) (e : Path) → StandEach at rows rs qs → i < length rs → StandsAt at rows (get_or rs i d) (get_or qs i e)
-each_stands at rows [] qs i d e each lt = absurd (omega arith)
-each_stands at rows (r ∷ rs) [] i d e each lt = absurd each
-each_stands at rows (r ∷ rs) (q ∷ qs) zero d e each lt = each.0
-each_stands at rows (r ∷ rs) (q ∷ qs) (suc i) d e each lt = each_stands at rows rs qs i d e each.1 (omega arith)
-
-pub row_stands : (at : Path) (rows : List Row) (qs : List Path) (i : ℕ) (r : Row) (q : Path) → StandEach at rows rows qs → i < length rows → r ≡ get_or rows i r → q ≡ get_or qs i q → StandsAt at rows r q
-row_stands at rows qs i r q each lt row path = subst (λ (x : Row). StandsAt at rows x q) (sym row) (subst (StandsAt at rows (get_or rows i r)) (sym path) (each_stands at rows rows qs i r q each lt))
 
 -- ---- loops over a list
 

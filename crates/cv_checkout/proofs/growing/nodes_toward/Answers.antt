@@ -3,7 +3,8 @@ use Rattle.cv_base.specs.Path.{Path}
 use Rattle.cv_tree.specs.declared.node.Node.{Node}
 use Rattle.cv_rows.specs.Places.{StandsAt}
 use Rattle.cv_rows.specs.declared.row.Row.{Row}
-use Rattle.cv_checkout.proofs.Steps.{AreNodesOf, all_nodes, each_long, each_stands, node_passed, node_pushed}
+use Rattle.cv_rows.proofs.Lemmas.{each_long, each_stands}
+use Rattle.cv_checkout.proofs.Steps.{AreNodesOf, all_nodes, node_passed, node_pushed}
 use Rattle.cv_checkout.proofs.growing.nodes_toward.Goals.{then-overlaps+in_ok-copy+in_ok-node_of+in_ok-push, else-overlaps}
 use Rattle.cv_checkout.proofs.growing.nodes_toward.Goals as goal
 

@@ -3,8 +3,8 @@ use Rattle.std.specs.FinMap.{get}
 use Rattle.cv_base.specs.Path.{Path}
 use Rattle.cv_rows.specs.Places.{StandsAt}
 use Rattle.cv_rows.specs.declared.row.Row.{Row}
-use Rattle.cv_rows.proofs.Lemmas.{stands_contained}
-use Rattle.cv_load.proofs.Growing.{grows_more, still_there, row_there, each_more, each_all, each_long, item_of, row_stands}
+use Rattle.cv_rows.proofs.Lemmas.{each_long, each_stands, stands_contained}
+use Rattle.cv_load.proofs.Growing.{grows_more, still_there, row_there, each_more, each_all, item_of}
 use Rattle.cv_load.proofs.Clearing.{ready_clear, ready_grown}
 use Rattle.cv_load.proofs.placing.place_rows.Goals as goal
 
@@ -22,7 +22,7 @@ index-requires c =
 pub place-requires-clause-stands : goal.place-requires-clause-stands
 place-requires-clause-stands c =
     let item = item_of c.args.catalogue.now.rows c.rows-rows.result.now c.loop-row.row c.index-rows-row.result c.rows-rows.ensures.rows c.loop-row-test.true c.index-rows-row.is in
-    row_stands c.args.catalogue.now.at c.args.catalogue.now.rows c.in_ok-paths.paths.items c.loop-row.row c.index-rows-row.result c.index.result.now c.in_ok-paths.ensures item.0 item.1 c.index.ensures
+    each_stands c.args.catalogue.now.at c.args.catalogue.now.rows c.args.catalogue.now.rows c.in_ok-paths.paths.items c.loop-row.row c.index-rows-row.result c.index.result.now c.in_ok-paths.ensures item.0 item.1 c.index.ensures
 
 pub loop-row-preserved : goal.loop-row-preserved
 loop-row-preserved c =
@@ -32,7 +32,7 @@ loop-row-preserved c =
     let There : Row → Type 0 = λ (r : Row). (q : Path) → StandsAt at rows r q → IsSome (get c.place.new.tree q) in
     let before : (k : ℕ) (d : Row) → k < c.loop-row.row → There (get_or rows k d) =
     λ k d lt q s. still_there c.loop-row.tree c.place.new.tree q c.in_ok-place.ensures.grows.grows (c.loop-row.invariant.there k d q lt s) in
-    let stands = row_stands c.args.catalogue.now.at c.args.catalogue.now.rows c.in_ok-paths.paths.items c.loop-row.row c.index-rows-row.result c.index.result.now c.in_ok-paths.ensures item.0 item.1 c.index.ensures in
+    let stands = each_stands c.args.catalogue.now.at c.args.catalogue.now.rows c.args.catalogue.now.rows c.in_ok-paths.paths.items c.loop-row.row c.index-rows-row.result c.index.result.now c.in_ok-paths.ensures item.0 item.1 c.index.ensures in
     let here : There c.index-rows-row.result = λ q s. row_there c.args.catalogue.now c.index-rows-row.result c.index.result.now q c.place.new.tree c.requires.rules stands c.in_ok-place.ensures.there s in
     record {
       grows = grows_more at rows c.args.tree.now c.loop-row.tree c.place.new.tree c.loop-row.invariant.grows c.in_ok-place.ensures.grows;
