@@ -1,5 +1,5 @@
 -- How a tree grows by rows.
-use Rattle.std.proofs.Common.{◌≡◌, ◌≢◌, ℕ, ◌+◌, ◌<◌, Bool, true, false, cond, List, [], ◌∷◌, ◌++◌, length, get_or, None, Some, IsSome, is_some, refl, sym, ap, subst, ◌∙◌, arith, length-append, ◌⊎◌, inl, inr}
+use Rattle.std.proofs.Common.{◌≡◌, ◌≢◌, ℕ, ◌+◌, ◌<◌, Bool, true, false, cond, List, [], ◌∷◌, ◌++◌, length, get_or, IfSome, None, Some, IsSome, is_some, refl, sym, ap, subst, ◌∙◌, arith, length-append, ◌⊎◌, inl, inr}
 use Rattle.std.specs.Prelude.{Contains}
 use Rattle.std.specs.declared.option.Option.{Option}
 use Rattle.std.specs.Ordering.{is_eq, eq_by_cmp}
@@ -30,12 +30,12 @@ some_there (Some n) some = (n, refl)
 pub still_there : (old new : Nodes) (q : Path) → Grows old new → IsSome (get old q) → IsSome (get new q)
 still_there old new q grows some = let n = some_there (get old q) some in ap is_some (grows q n.0 n.1)
 
-pub added_by_insert : (path : Path) (r : Row) (old new : Nodes) → get old path ≡ None → new ≡ insert old path (node_of r) → IsAdded path r old new
-added_by_insert path r old new absent is =
+pub added_alone : (path : Path) (r : Row) (old new : Nodes) → IfSome (get old path) (λ there. there ≡ node_of r) → new ≡ insert old path (node_of r) → IsAdded path r old new
+added_alone path r old new alone is =
     let there : (q : Path) → get new q ≡ cond (eq_by_cmp path_cmp q path) (Some (node_of r)) (get old q) = λ q. ap (λ (t : Nodes). get t q) is ∙ get-insert path_total old path (node_of r) q in
     record {
       grows = λ q n e. there q ∙ elim (eq_by_cmp path_cmp q path) as (λ b. eq_by_cmp path_cmp q path ≡ b → cond b (Some (node_of r)) (get old q) ≡ Some n) [
-        | true ↦ λ same. let none : get old q ≡ None = ap (get old) (same_path_is q path same) ∙ absent in absurd (let f : None ≡ Some n = sym none ∙ e in cc)
+        | true ↦ λ same. ap Some (sym (subst (λ (o : Option Node). IfSome o (λ m. m ≡ node_of r)) (sym (ap (get old) (same_path_is q path same)) ∙ e) alone))
         | false ↦ λ other. e
       ] refl;
       comes = λ q n e. elim (eq_by_cmp path_cmp q path) as (λ b. eq_by_cmp path_cmp q path ≡ b → cond b (Some (node_of r)) (get old q) ≡ Some n → (get old q ≡ Some n) ⊎ ((q ≡ path) × (n ≡ node_of r))) [
@@ -44,11 +44,17 @@ added_by_insert path r old new absent is =
       ] refl (sym (there q) ∙ e);
     }
 
+pub added_by_insert : (path : Path) (r : Row) (old new : Nodes) → get old path ≡ None → new ≡ insert old path (node_of r) → IsAdded path r old new
+added_by_insert path r old new absent is = added_alone path r old new (subst (λ (o : Option Node). IfSome o (λ there. there ≡ node_of r)) (sym absent) tt) is
+
 pub inserted_there : (path : Path) (n : Node) (old new : Nodes) → new ≡ insert old path n → IsSome (get new path)
 inserted_there path n old new is =
     ap (λ (t : Nodes). is_some (get t path)) is ∙ ap is_some (get-insert path_total old path n path) ∙ ap (λ (b : Bool). is_some (cond b (Some n) (get old path))) (ap is_eq (tied_itself path_total path))
 
 -- ---- growth by the rows of a catalogue
+
+pub grows_none : (at : Path) (rows : List Row) (t : Nodes) → GrowsBy at rows t t
+grows_none at rows t = record { grows = λ q n e. e; comes = λ q n e. inl e }
 
 pub grows_more : (at : Path) (rows : List Row) (a b c : Nodes) → GrowsBy at rows a b → GrowsBy at rows b c → GrowsBy at rows a c
 grows_more at rows a b c first then = record {
