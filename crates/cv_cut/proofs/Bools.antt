@@ -17,14 +17,6 @@ pub false_not : (b : Bool) → (b ≡ true → ⊥) → not b ≡ true
 false_not true h = absurd (h refl)
 false_not false h = refl
 
-pub not_true : (b : Bool) → not b ≡ true → b ≡ false
-not_true true h = cc
-not_true false h = refl
-
-pub not_false : (b : Bool) → not b ≡ false → b ≡ true
-not_false true h = refl
-not_false false h = cc
-
 pub none_some : {X : Type 0} (o : Option X) → o ≡ None → IsSome o → ⊥
 none_some None h some = cc
 none_some (Some x) h some = cc

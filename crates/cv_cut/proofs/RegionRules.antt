@@ -3,6 +3,7 @@ use Rattle.std.proofs.Common.{◌≡◌, ◌≢◌, ℕ, ◌<◌, ◌^◌, Bool,
 use Rattle.std.specs.Prelude.{Contains, bytes_eq}
 use Rattle.std.specs.List.{All}
 use Rattle.std.specs.FinMap.{get}
+use Rattle.std.proofs.lemmas.Bool.{false_from_ne_true}
 use Rattle.std.proofs.lemmas.List.Elements.{Contains-get_or, recursion_from_All}
 use Rattle.std.proofs.lemmas.List.Folds.{Any-from_list_any, list_any-from_Any}
 use Rattle.std.proofs.lemmas.Slice.Eq.{bytes_eq-Decides}
@@ -143,14 +144,10 @@ both true true ha hb = refl
 both true false ha hb = absurd cc
 both false b ha hb = absurd cc
 
-not_true : (b : Bool) → (b ≡ true → ⊥) → b ≡ false
-not_true true h = absurd (h refl)
-not_true false h = refl
-
 -- the row of a directory is marked as it may be
 marked_well : (c : Path) (u : Nodes) (rows : List Row) → StandsAtCut c u → KeysApart c u → AreRowsOf c u rows → (q : Path) (n : Node) → IsNear u q n → IsMarkedWell c rows (row_at c u q n)
 marked_well c u rows cut apart are q n has = (
-  λ kind other. not_true _ (λ marked.
+  λ kind other. false_from_ne_true _ (λ marked.
       let some : q ≢ [] = λ none. other (subst (λ (x : Path). IsRoot c (row_at c u x n)) (sym none) (root_row c u n)) in
       let d = directory_unmarked c u q n some (sym (row_kind _ (c ++ q) n) ∙ kind) in
       let file = marker_there c u rows cut apart are q n has (ap (has_marker rows) (sym (row_key _ (c ++ q) n)) ∙ marked) in

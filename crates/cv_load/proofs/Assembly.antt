@@ -3,6 +3,7 @@ use Rattle.std.proofs.Common.{◌≡◌, ◌≢◌, ℕ, Bool, true, false, ◌&
 use Rattle.std.specs.Prelude.{Contains, bytes_eq}
 use Rattle.std.specs.declared.option.Option.{Option}
 use Rattle.std.specs.FinMap.{get}
+use Rattle.std.proofs.lemmas.Bool.{false_from_ne_true}
 use Rattle.std.proofs.lemmas.List.Elements.{All-contains}
 use Rattle.std.proofs.lemmas.List.Folds.{Any-from_list_any, list_any-from_Any}
 use Rattle.std.proofs.lemmas.Slice.Eq.{bytes_eq-Decides}
@@ -78,10 +79,6 @@ both : (a b : Bool) → a ≡ true → b ≡ true → (a && b) ≡ true
 both true true ha hb = refl
 both true false ha hb = absurd cc
 both false b ha hb = absurd cc
-
-pub not_true : (b : Bool) → (b ≡ true → ⊥) → b ≡ false
-not_true true h = absurd (h refl)
-not_true false h = refl
 
 -- ---- all rows
 
@@ -159,7 +156,7 @@ module _ {shelf : Shelf} {top : List ℕ} {t : Nodes} (whole : IsWhole shelf top
 
   -- a directory in a catalogue isn't marked
   pub directory_unmarked : (q : Path) (s : Standing shelf top q) → s.row.kind ≡ Directory → (IsRoot s.contents.at s.row → ⊥) → is_marked t q ≡ false
-  directory_unmarked q s kind other = not_true (is_marked t q) (λ marked.
+  directory_unmarked q s kind other = false_from_ne_true (is_marked t q) (λ marked.
       let n = file_there (get t (q ++ marker ∷ [])) (second_true (is_directory (get t q)) (is_file (get t (q ++ marker ∷ []))) marked) in
       let o = standing_of (q ++ marker ∷ []) n.0 n.1 in
       let f = o.0 in
