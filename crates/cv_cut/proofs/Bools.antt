@@ -1,13 +1,9 @@
 -- Tests, and what they tell.
-use Rattle.std.proofs.Common.{◌≡◌, Bool, true, false, not, ◌&&◌, Option, None, Some, IsSome, refl}
+use Rattle.std.proofs.Common.{◌≡◌, Bool, true, false, not, Option, None, Some, IsSome, refl}
 use Rattle.std.specs.Prelude.{T}
 use Rattle.std.specs.declared.cmp.Ordering.{Ordering}
 use Rattle.std.specs.declared.cmp.Ordering.TheVariants.{Less, Equal, Greater}
 use Rattle.std.specs.Ordering.{is_lt}
-
-pub both_true : (a b : Bool) → a ≡ true → b ≡ true → (a && b) ≡ true
-both_true true b ha hb = hb
-both_true false b ha hb = cc
 
 pub so : (b : Bool) → T b → b ≡ true
 so true h = refl

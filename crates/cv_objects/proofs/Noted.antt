@@ -9,7 +9,7 @@ use Rattle.std.specs.BTreeMap.{BTreeMap, get, Updates}
 use Rattle.std.proofs.lemmas.Map.Text.{is_eq-slice_cmp}
 use Rattle.std.proofs.lemmas.Slice.Eq.{bytes_eq-Decides}
 use Rattle.std.proofs.lemmas.Option.{slice_get_read, same_Some}
-use Rattle.std.proofs.Math.Bool.{and-true}
+use Rattle.std.proofs.Math.Bool.{and-true, and-false}
 use Rattle.cv_base.specs.declared.id.Kind.{Kind}
 use Rattle.cv_base.specs.declared.id.Kind.TheVariants.{Plain, Catalogue, History}
 use Rattle.cv_base.specs.declared.id.ObjectId.{ObjectId}
@@ -21,15 +21,11 @@ use Rattle.cv_objects.specs.Batches.{IsOne}
 use Rattle.cv_objects.specs.declared.places.Places.{Places}
 use Rattle.cv_objects.proofs.Lists.{last_or_earlier}
 
-and_false : (a : Bool) → (a && false) ≡ false
-and_false true = refl
-and_false false = refl
-
 own : (m n : BTreeMap (List ℕ) ℕ) (hash q : List ℕ) (p : ℕ) → Updates (slice_cmp nat_cmp) m n hash (Some p) → get (slice_cmp nat_cmp) n q ≡ cond (bytes_eq hash q && true) (Some p) (get (slice_cmp nat_cmp) m q)
 own m n hash q p u = u.0 q ∙ ap (λ (b : Bool). cond b (Some p) (get (slice_cmp nat_cmp) m q)) (is_eq-slice_cmp hash q ∙ sym (and-true (bytes_eq hash q)))
 
 apart : {X : Type 0} (b : Bool) (x y : X) → y ≡ cond (b && false) x y
-apart b x y = sym (ap (λ (a : Bool). cond a x y) (and_false b))
+apart b x y = sym (ap (λ (a : Bool). cond a x y) (and-false b))
 
 other : (m n : BTreeMap (List ℕ) ℕ) (hash q : List ℕ) (p : ℕ) → n ≡ m → get (slice_cmp nat_cmp) n q ≡ cond (bytes_eq hash q && false) (Some p) (get (slice_cmp nat_cmp) m q)
 other m n hash q p same = ap (λ (x : BTreeMap (List ℕ) ℕ). get (slice_cmp nat_cmp) x q) same ∙ apart (bytes_eq hash q) (Some p) (get (slice_cmp nat_cmp) m q)
