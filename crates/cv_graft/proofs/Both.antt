@@ -1,5 +1,5 @@
 -- What comes of the catalogues on the way to a path in both trees.
-use Rattle.std.proofs.Common.{◌≡◌, ◌≢◌, ℕ, List, [], ◌∷◌, ◌++◌, map, length, Some, None, Result, Ok, Err, sym, ap, subst, ◌∙◌, append_assoc}
+use Rattle.std.proofs.Common.{◌≡◌, ◌≢◌, ℕ, List, [], ◌++◌, length, Some, None, Result, Ok, Err, sym, ap, subst, ◌∙◌}
 use Rattle.std.specs.Option.{option_map}
 use Rattle.std.specs.Prelude.{IsSomeAnd}
 use Rattle.std.specs.declared.option.Option.{Option}
@@ -12,96 +12,42 @@ use Rattle.cv_base.specs.declared.object.Object.{Object}
 use Rattle.cv_ports.specs.Shelf.{Shelf}
 use Rattle.cv_tree.specs.Tree.{Nodes, at, put}
 use Rattle.cv_rows.specs.Catalogue.{Contents}
-use Rattle.cv_rows.specs.Renewed as rows
-use Rattle.cv_rows.specs.declared.nested.Nested.{Nested}
 use Rattle.cv_cut.specs.Catalogues.{cat, root_of, Fits}
-use Rattle.cv_cut.specs.Opening.{IsNestedCatalogue, below_id}
 use Rattle.cv_cut.specs.Reached.{HasCatalogue, root_place}
 use Rattle.cv_cut.specs.declared.load_fault.LoadFault.{LoadFault}
 use Rattle.cv_cut.specs.declared.load_fault.LoadFault.TheVariants as load
 use Rattle.cv_cut.proofs.Lemmas.{put-root}
-use Rattle.cv_graft.specs.Both.{Makes, joins, names, as_object, naming, IsGrafted, GraftsBoth, GivesOffered}
-use Rattle.cv_graft.specs.BothInner.{IsKept, Rejoins, IsRemade, RefusesOn, Remakes}
+use Rattle.cv_graft.specs.Both.{IsGrafted, GraftsBoth, GivesOffered}
 use Rattle.cv_graft.specs.Directories.{IsHolder}
 use Rattle.cv_graft.specs.Faults.{of_load}
 use Rattle.cv_graft.specs.Graft.{Grafts, HasWays}
+use Rattle.cv_graft.specs.Joins.{IsJoined}
 use Rattle.cv_graft.specs.JoinsInner.{Joins}
-use Rattle.cv_graft.specs.Way.{HasNone, IsNext, IsOnWay}
+use Rattle.cv_graft.specs.Makes.{Makes}
+use Rattle.cv_graft.specs.MakesInner.{IsRemade, RefusesOn, Remakes}
+use Rattle.cv_graft.specs.Way.{IsOnWay}
 use Rattle.cv_graft.specs.declared.grafted.Grafted.{Grafted}
 use Rattle.cv_graft.specs.declared.made.Made.{Made}
 use Rattle.cv_graft.specs.declared.graft_fault.GraftFault.{GraftFault}
 use Rattle.cv_graft.specs.declared.graft_fault.GraftFault.TheVariants as fault
-use Rattle.cv_graft.proofs.Holders.{on_below, top_at}
-
--- ---- the catalogue that holds the path
-
-pub unjoined : (c o : Contents) (p : Path) (before after : List Object) (f : GraftFault) → Joins c o p (Err f) → Rejoins c o p before after (Err f)
-unjoined c o p before after (fault.PathCollision a b) h = h
-unjoined c o p before after (fault.CatalogueFull d) h = h
-unjoined c o p before after fault.Failed h = tt
-unjoined c o p before after (fault.Damaged id found) h = tt
-unjoined c o p before after fault.NoMemory h = tt
-
-refuses : (shelf : Shelf) (root : List ℕ) (p : Path) (c o : Contents) (before after : List Object) (f : GraftFault) → IsHolder shelf root p c → Rejoins c o p before after (Err f) → RefusesOn shelf root p o f
-refuses shelf root p c o before after (fault.PathCollision a b) holder h = (c, holder, h)
-refuses shelf root p c o before after (fault.CatalogueFull d) holder h = (c, holder, h)
-refuses shelf root p c o before after fault.Failed holder h = tt
-refuses shelf root p c o before after (fault.Damaged id found) holder h = tt
-refuses shelf root p c o before after fault.NoMemory holder h = tt
-
-pub remade_here : (shelf : Shelf) (id : ObjectId) (c o : Contents) (p : Path) (before after : List Object) (result : Result Made GraftFault) → HasNone c p → Rejoins c o p before after result → Remakes shelf id c o p before after result
-remade_here shelf id c o p before after (Ok made) none h =
-    record { is = h.is; objects = as_object h.is ∷ []; makes = joins none h.joined; hash = h.kept.hash; size = h.kept.size; added = h.kept.added }
-remade_here shelf id c o p before after (Err f) none h = λ root place on has. refuses shelf root p c o before after f (record { hash = id.hash; place = place; on = on; has = has; none = none }) h
-
--- ---- a catalogue further above
-
-pub remade_above : (shelf : Shelf) (c below o k : Contents) (n : Nested) (p : Path) (before between after : List Object) (made kept : Made) → IsNext c p n → IsNestedCatalogue shelf c n below → IsRemade shelf below o p before between made
-    → k ≡ record c { nested = map (rows.renewed n.path made.hash made.size) c.nested } → IsKept k between after kept → IsRemade shelf c o p before after kept
-remade_above shelf c below o k n p before between after made kept next opened m is h =
-    let same : k ≡ naming c n.path m.is = is ∙ (λ i. record c { nested = map (rows.renewed n.path (m.hash i) (m.size i)) c.nested }) in
-    let own : IsKept (naming c n.path m.is) between after kept = subst (λ (x : Contents). IsKept x between after kept) same h in
-    record {
-      is = naming c n.path m.is;
-      objects = m.objects ++ as_object (naming c n.path m.is) ∷ [];
-      makes = names next opened m.makes;
-      hash = own.hash;
-      size = own.size;
-      added = own.added ∙ ap (λ (l : List Object). l ++ as_object (naming c n.path m.is) ∷ []) m.added ∙ append_assoc before m.objects (as_object (naming c n.path m.is) ∷ []);
-    }
-
-unread_refuses : (shelf : Shelf) (root : List ℕ) (p : Path) (o : Contents) (f : LoadFault) → RefusesOn shelf root p o (of_load f)
-unread_refuses shelf root p o (load.Missing x) = tt
-unread_refuses shelf root p o (load.Bad x) = tt
-unread_refuses shelf root p o load.Failed = tt
-unread_refuses shelf root p o (load.Damaged id found) = tt
-unread_refuses shelf root p o load.NoMemory = tt
-
--- where the next one isn't opened
-pub unread_remakes : (shelf : Shelf) (id : ObjectId) (c o : Contents) (p : Path) (before after : List Object) (f : LoadFault) → Remakes shelf id c o p before after (Err (of_load f))
-unread_remakes shelf id c o p before after f = λ root place on has. unread_refuses shelf root p o f
-
--- a fault of the next one
-pub fault_remakes : (shelf : Shelf) (id : ObjectId) (c below o : Contents) (n : Nested) (p : Path) (before after : List Object) (f : GraftFault) → IsNext c p n → IsNestedCatalogue shelf c n below
-    → Remakes shelf (below_id n) below o p before after (Err f) → Remakes shelf id c o p before after (Err f)
-fault_remakes shelf id c below o n p before after f next opened h = λ root place on there. h root (record { path = n.path; row = Some opened.row }) (on_below on there next opened) opened.opened
+use Rattle.cv_graft.proofs.Holders.{top_at}
 
 -- ---- from the root on
 
 pub grafted_top : (shelf : Shelf) (newest : ObjectId) (offered : List ℕ) (top p : Path) (c o : Contents) (before after : List Object) (made : Made) (g : Grafted) → top ≡ [] → HasCatalogue shelf newest.hash (record { path = top; row = None }) c
-    → IsHolder shelf offered p o → IsRemade shelf c o p before after made → before ≡ [] → g ≡ record { root = object_id made.hash Catalogue; size = made.size; added = after } → IsGrafted shelf newest.hash offered p g
+    → IsHolder shelf offered p o → IsRemade shelf (λ k r. Joins k o p r) p c [] before after made → before ≡ [] → g ≡ record { root = object_id made.hash Catalogue; size = made.size; added = after } → IsGrafted shelf newest.hash offered p g
 grafted_top shelf newest offered top p c o before after made g none there held m first is = record {
   top = c;
   there = top_at shelf newest.hash top c none there;
   other = o;
   held = held;
   made = m.is;
-  makes = subst (λ (l : List Object). Makes shelf o p c m.is l) (sym (ap (λ (x : Grafted). x.added) is ∙ m.added ∙ ap (λ (l : List Object). l ++ m.objects) first)) m.makes;
+  makes = subst (λ (l : List Object). Makes shelf (λ k x. IsJoined k o p x) p c m.is l) (sym (ap (λ (x : Grafted). x.added) is ∙ m.added ∙ ap (λ (l : List Object). l ++ m.objects) first)) m.makes;
   root = ap (λ (x : Grafted). x.root) is ∙ ap (λ (x : List ℕ). object_id x Catalogue) m.hash;
   size = ap (λ (x : Grafted). x.size) is ∙ m.size;
 }
 
-refused : (shelf : Shelf) (newest offered : List ℕ) (p : Path) (o : Contents) (f : GraftFault) → IsHolder shelf offered p o → RefusesOn shelf newest p o f → GraftsBoth shelf newest offered p (Err f)
+refused : (shelf : Shelf) (newest offered : List ℕ) (p : Path) (o : Contents) (f : GraftFault) → IsHolder shelf offered p o → RefusesOn shelf newest p (λ k r. Joins k o p r) f → GraftsBoth shelf newest offered p (Err f)
 refused shelf newest offered p o (fault.PathCollision a b) held h = (h.0, o, record { holds = h.1; held = held }, h.2)
 refused shelf newest offered p o (fault.CatalogueFull d) held h = (h.0, o, record { holds = h.1; held = held }, h.2)
 refused shelf newest offered p o fault.Failed held h = tt
@@ -109,7 +55,7 @@ refused shelf newest offered p o (fault.Damaged id found) held h = tt
 refused shelf newest offered p o fault.NoMemory held h = tt
 
 pub refused_top : (shelf : Shelf) (newest : ObjectId) (offered : List ℕ) (top p : Path) (c o : Contents) (before after : List Object) (f : GraftFault) → p ≢ [] → top ≡ [] → HasCatalogue shelf newest.hash (record { path = top; row = None }) c
-    → IsHolder shelf offered p o → Remakes shelf newest c o p before after (Err f) → GraftsBoth shelf newest.hash offered p (Err f)
+    → IsHolder shelf offered p o → Remakes shelf (λ k r. Joins k o p r) p newest c [] before after (Err f) → GraftsBoth shelf newest.hash offered p (Err f)
 refused_top shelf newest offered top p c o before after f some none there held h =
     refused shelf newest.hash offered p o f held (h newest.hash root_place (IsOnWay.top some) (top_at shelf newest.hash top c none there))
 

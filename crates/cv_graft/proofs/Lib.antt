@@ -3,14 +3,15 @@ mod Nexts
 mod Finding
 mod Rebuilds
 mod Grafts
+mod Makes
 mod Both
 mod Parentless
-mod Unplaced
 mod RowsAt
 mod Crossing
 mod PlacedParts
 mod PlacedMade
 mod PlacedAbove
+mod PlacedWay
 mod PlacedWhole
 mod PlacedMeans
 mod Holders

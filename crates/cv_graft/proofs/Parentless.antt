@@ -1,5 +1,5 @@
--- Where the newest tree lacks the directory in which a path stands, nothing is made.
-use Rattle.std.proofs.Common.{◌≡◌, ◌≢◌, true, false, List, ℕ, [], Some, Result, Ok, Err, refl, sym, ap, subst, ◌∙◌}
+-- Where a tree lacks the directory in which a path stands, nothing is made.
+use Rattle.std.proofs.Common.{◌≡◌, ◌≢◌, true, false, List, ℕ, [], Some, Result, Ok, Err, inl, inr, refl, sym, ap, subst, ◌∙◌}
 use Rattle.cv_base.specs.Path.{Path}
 use Rattle.cv_base.specs.ObjectId.{object_id}
 use Rattle.cv_base.specs.declared.id.Kind.TheVariants.{Catalogue}
@@ -21,9 +21,12 @@ use Rattle.cv_cut.specs.Reached.{Place, HasCatalogue}
 use Rattle.cv_cut.specs.Region.{KeysApart}
 use Rattle.cv_cut.specs.Told.{node_as}
 use Rattle.cv_cut.proofs.Lemmas.{row_tells}
-use Rattle.cv_graft.specs.Both.{Makes, joins, names, GraftsBoth, MakesNothing}
+use Rattle.cv_graft.specs.Both.{GraftsBoth, MakesNothing}
 use Rattle.cv_graft.specs.Directories.{IsHolder}
-use Rattle.cv_graft.specs.Placed.{HasCuts}
+use Rattle.cv_graft.specs.Joins.{IsJoined}
+use Rattle.cv_graft.specs.Makes.{Makes, joins, names}
+use Rattle.cv_graft.specs.Placed.{HasCuts, PlacesNothing}
+use Rattle.cv_graft.specs.PlacedWay.{IsFullThere, IsPlaced, PlacesOnWay, of_part, of_cut_}
 use Rattle.cv_graft.specs.Places.{HasPlace}
 use Rattle.cv_graft.specs.Way.{IsOnWay, top, next}
 use Rattle.cv_graft.specs.declared.grafted.Grafted.{Grafted}
@@ -67,25 +70,36 @@ module _ (shelf : Shelf) (root : List ℕ) (t : Nodes) (p : Path) (way : HasCuts
   place_held : (c : Contents) → IsOfCut t p c → HasPlace c p → has_place t p ≡ true
   place_held c x h = place_there t p c.at c way.tree x.on.cut (way.fits c.at x.on.cut (way_covers t p c.at x.rest x.on) (some_of t p c.at x.rest x.on)).apart x.is h
 
-  pub held_there : (c : Contents) (r : Path) → OnWay t p c.at r → c ≡ contents_of t c.at → HasPlace c p → has_place t p ≡ true
-  held_there c r on is = place_held c (record { rest = r; on = on; is = is })
-
   holder_place : (c : Contents) → IsHolder shelf root p c → HasPlace c p → has_place t p ≡ true
   holder_place c h place = place_held c (of_cut_there c h.on h.has) place
 
-  makes_place : (o c made : Contents) (objects : List Object) → IsOfCut t p c → Makes shelf o p c made objects → has_place t p ≡ true
-  makes_place o c made objects x (joins none j) = place_held c x j.parts.place
-  makes_place o c made objects x (names {below = below} {made = made_} {n = n} {objects = objects_} after opened m) =
+  makes_place : (Last : Contents → Contents → Type 0) → ((c made : Contents) → Last c made → HasPlace c p) → (c made : Contents) (objects : List Object) → IsOfCut t p c → Makes shelf Last p c made objects → has_place t p ≡ true
+  makes_place Last place c made objects x (joins none last) = place_held c x (place c made last)
+  makes_place Last place c made objects x (names {below = below} {made = made_} {n = n} {objects = objects_} after opened m) =
       let s = step_down shelf root t p x.rest c n way x.on x.is after below opened in
-      makes_place o below made_ objects_ (record { rest = s.f; on = s.on; is = s.is_ }) m
+      makes_place Last place below made_ objects_ (record { rest = s.f; on = s.on; is = s.is_ }) m
 
   no_place : has_place t p ≡ false → has_place t p ≡ true → ⊥
   no_place none place = (let wrong : true ≡ false = sym place ∙ none in cc)
 
   pub nothing_made : (offered : List ℕ) (r : Result Grafted GraftFault) → has_place t p ≡ false → GraftsBoth shelf root offered p r → MakesNothing r
-  nothing_made offered (Ok g) none h = no_place none (makes_place h.other h.top h.made g.added (of_cut_there h.top (top (some_below t p none)) h.there) h.makes)
+  nothing_made offered (Ok g) none h = no_place none (makes_place (λ k x. IsJoined k h.other p x) (λ k x last. last.parts.place) h.top h.made g.added (of_cut_there h.top (top (some_below t p none)) h.there) h.makes)
   nothing_made offered (Err (fault.PathCollision a b)) none h = no_place none (holder_place h.0 h.2.holds h.3.parts.place)
   nothing_made offered (Err (fault.CatalogueFull d)) none h = no_place none (holder_place h.0 h.2.holds h.3.parts.place)
   nothing_made offered (Err fault.Failed) none h = tt
   nothing_made offered (Err (fault.Damaged id found)) none h = tt
   nothing_made offered (Err fault.NoMemory) none h = tt
+
+  full_place : (c : Contents) (m : Nodes) (d : Path) → IsFullThere c p m d → HasPlace c p
+  full_place c m d (of_part x full inside) = x.place
+  full_place c m d (of_cut_ x same passes) = x.place
+
+  pub nothing_placed : (s : Nodes) (r : Result Grafted GraftFault) → has_place t p ≡ false → PlacesOnWay shelf root p s r → PlacesNothing s p r
+  nothing_placed s (Ok g) none h =
+      no_place none (makes_place (λ k x. IsPlaced k p h.around x) (λ k x last. last.rests.place) h.top h.made h.objects (of_cut_there h.top (top (some_below t p none)) h.there) h.makes)
+  nothing_placed s (Err (fault.PathCollision a b)) none (inl own) = own
+  nothing_placed s (Err (fault.PathCollision a b)) none (inr h) = absurd (no_place none (holder_place h.0 h.2.holds h.3.place))
+  nothing_placed s (Err (fault.CatalogueFull d)) none h = no_place none (holder_place h.0 h.2.holds (full_place h.0 h.1 d h.3))
+  nothing_placed s (Err fault.Failed) none h = tt
+  nothing_placed s (Err (fault.Damaged id found)) none h = tt
+  nothing_placed s (Err fault.NoMemory) none h = tt

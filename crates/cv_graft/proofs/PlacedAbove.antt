@@ -1,6 +1,5 @@
 -- The catalogues further above a path at which a part is set, up to the root.
-use Rattle.std.proofs.Common.{◌≡◌, ◌≢◌, ℕ, true, false, List, [], ◌∷◌, ◌++◌, map, reverse, length, Result, Ok, Err, sym, ap, subst, ◌∙◌, append_assoc}
-use Rattle.std.specs.Prelude.{OnOk}
+use Rattle.std.proofs.Common.{◌≡◌, ◌≢◌, ℕ, true, false, List, [], ◌∷◌, ◌++◌, map, reverse, length, Ok, Err, sym, ap, subst, ◌∙◌, append_assoc}
 use Rattle.sha1.specs.Sha1.{sha1}
 use Rattle.cv_base.specs.Marker.{marker, ends_in}
 use Rattle.cv_base.specs.declared.id.ObjectId.{ObjectId}
@@ -151,13 +150,3 @@ own_piece x t p h = subst (λ (u : Nodes). IsPiece x u p) (sym h.tree) h
 
 pub own_only : (x : Piece) (t : Nodes) (p : Path) (s : Nodes) → IsPiece x t p → HasOnly t p s → HasOnly x.tree p s
 own_only x t p s h only = subst (λ (u : Nodes). HasOnly u p s) (sym h.tree) only
-
--- ---- what an answer says
-
-pub if_ok : {X E : Type 0} (r : Result X E) (P : Type 0) → P → OnOk r P
-if_ok (Ok x) P p = p
-if_ok (Err e) P p = tt
-
-pub ok_more : {X E : Type 0} (r : Result X E) (P Q : Type 0) → (P → Q) → OnOk r P → OnOk r Q
-ok_more (Ok x) P Q more p = more p
-ok_more (Err e) P Q more p = tt

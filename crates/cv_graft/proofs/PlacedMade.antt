@@ -23,7 +23,8 @@ use Rattle.cv_cut.specs.Region.{IsNear, KeysApart}
 use Rattle.cv_cut.specs.Replaced.{SharesOver}
 use Rattle.cv_cut.proofs.Lemmas.{alone_holds, come_apart, full_below, passes, row_key, stands_only, covers_append, longer_covers_not, near-here, path-in, is_near-out, is_near-in, rows_are, stands_at_cut, holder_way, made_here}
 use Rattle.cv_cut.proofs.Lemmas.{Placing, placed_holders as holders, placed_at_cut as at_cut, placed_covers_p as covers_p, placed_stays_at as stays_at, placed_keys_after as keys_after, placed_cat_after as cat_after, placed_full_after as full_after, placed_not_full_after as not_full_after, placed_inside_each as inside_each, placed_cut_after as cut_after}
-use Rattle.cv_graft.specs.PlacedInner.{Rests, IsPlaced, IsFullThere, MeetsAt, IsAskedPart, HoldsWell, IsSet, FullOf, JoinsPart, Sets, of_part, of_cut_}
+use Rattle.cv_graft.specs.PlacedInner.{IsAskedPart, HoldsWell, IsSet, FullOf, JoinsPart, Sets}
+use Rattle.cv_graft.specs.PlacedWay.{Rests, IsPlaced, IsFullThere, MeetsAt, of_part, of_cut_}
 use Rattle.cv_graft.specs.declared.made.Made.{Made}
 use Rattle.cv_graft.specs.declared.graft_fault.GraftFault.{GraftFault}
 use Rattle.cv_graft.specs.declared.graft_fault.GraftFault.TheVariants as fault

@@ -26,7 +26,9 @@ use Rattle.cv_cut.specs.declared.cut_fault.CutFault.{CutFault}
 use Rattle.cv_cut.specs.declared.cut_fault.CutFault.TheVariants as cut
 use Rattle.cv_cut.proofs.Lemmas.{among_within, within_among, keys_are, entry_there, texts_apart_within, passes, comes_from, first_or_later, none_there, row_key, sorted_apart, apart_append}
 use Rattle.cv_graft.specs.Placed.{of_cut}
-use Rattle.cv_graft.specs.PlacedInner.{ArePathsCrossed, IsMeeting, JoinsLists, JoinsPart, MeetsPath, Rests, rows_within, entries_within, of_part, of_cut_}
+use Rattle.cv_graft.specs.PlacedInner.{IsMeeting, JoinsLists, JoinsPart}
+use Rattle.cv_graft.specs.PlacedWay.{ArePathsCrossed, MeetsPath, Rests, rows_within, entries_within, of_part, of_cut_}
+use Rattle.cv_graft.specs.Places.{HasPlace}
 use Rattle.cv_graft.specs.Way.{TellsDamage}
 use Rattle.cv_graft.specs.declared.graft_fault.GraftFault.{GraftFault}
 use Rattle.cv_graft.specs.declared.graft_fault.GraftFault.TheVariants as fault
@@ -81,12 +83,12 @@ paths_all rows coming i le h = subst (ArePathsCrossed rows) (take_all i coming l
 
 -- ---- what is put together
 
-pub meets_at : (c rest : Contents) (p : Path) (m : Nodes) (es : List (Path × Node)) (f : GraftFault) → IsWithout c p rest → es ≡ region_within m p → IsMeeting rest es f → JoinsPart c p m (Err f)
-meets_at c rest p m es (fault.PathCollision a b) without is h = record { rest = rest; without = without; meets = subst (λ (l : List (Path × Node)). MeetsPath rest l a b) is h }
-meets_at c rest p m es (fault.CatalogueFull d) without is h = absurd h
-meets_at c rest p m es fault.Failed without is h = absurd h
-meets_at c rest p m es (fault.Damaged id found) without is h = absurd h
-meets_at c rest p m es fault.NoMemory without is h = tt
+pub meets_at : (c rest : Contents) (p : Path) (m : Nodes) (es : List (Path × Node)) (f : GraftFault) → HasPlace c p → IsWithout c p rest → es ≡ region_within m p → IsMeeting rest es f → JoinsPart c p m (Err f)
+meets_at c rest p m es (fault.PathCollision a b) place without is h = record { place = place; rest = rest; without = without; meets = subst (λ (l : List (Path × Node)). MeetsPath rest l a b) is h }
+meets_at c rest p m es (fault.CatalogueFull d) place without is h = absurd h
+meets_at c rest p m es fault.Failed place without is h = absurd h
+meets_at c rest p m es (fault.Damaged id found) place without is h = absurd h
+meets_at c rest p m es fault.NoMemory place without is h = tt
 
 pub full_at : (c : Contents) (p : Path) (m : Nodes) (cuts : List Path) (f : CutFault) → Rests c p m → cuts ≡ reverse (cuts_within m p) → IsFullAmong m cuts f → JoinsPart c p m (Err (of_cut f))
 full_at c p m cuts (cut.PathCollision a b) rests is h = absurd h

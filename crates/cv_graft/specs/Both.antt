@@ -1,38 +1,19 @@
 -- What a graft answers by the catalogues on the way to a path in both trees, whether or not the roots mean trees.
-use Rattle.std.specs.Prelude.{◌≡◌, ℕ, List, [], ◌∷◌, ◌++◌, map, length, Result, Ok, Err, IsSomeAnd}
+use Rattle.std.specs.Prelude.{◌≡◌, ℕ, List, [], length, Result, Ok, Err, IsSomeAnd}
 use Rattle.sha1.specs.Sha1.{sha1}
 use Rattle.cv_base.specs.Path.{Path}
 use Rattle.cv_base.specs.ObjectId.{object_id}
 use Rattle.cv_base.specs.declared.id.ObjectId.{ObjectId}
 use Rattle.cv_base.specs.declared.id.Kind.TheVariants.{Catalogue}
-use Rattle.cv_base.specs.declared.object.Object.{Object}
 use Rattle.cv_ports.specs.Shelf.{Shelf}
 use Rattle.cv_rows.specs.Catalogue.{Contents, catalogue_bytes}
-use Rattle.cv_rows.specs.Renewed.{renewed}
-use Rattle.cv_rows.specs.declared.nested.Nested.{Nested}
-use Rattle.cv_cut.specs.Opening.{IsNestedCatalogue}
 use Rattle.cv_cut.specs.Reached.{HasCatalogue, root_place}
 use Rattle.cv_graft.specs.Directories.{IsHolder}
 use Rattle.cv_graft.specs.Joins.{IsJoined, CollidesAt, IsFullAt}
-use Rattle.cv_graft.specs.Way.{HasNone, IsNext}
+use Rattle.cv_graft.specs.Makes.{Makes}
 use Rattle.cv_graft.specs.declared.grafted.Grafted.{Grafted}
 use Rattle.cv_graft.specs.declared.graft_fault.GraftFault.{GraftFault}
 use Rattle.cv_graft.specs.declared.graft_fault.GraftFault.TheVariants as fault
-
--- a catalogue as an object
-abbrev pub as_object : Contents → Object
-as_object c = record { id = object_id (sha1 (catalogue_bytes c)) Catalogue; bytes = catalogue_bytes c }
-
--- the catalogue, whose nested entry of the path names another one
-abbrev pub naming : Contents → Path → Contents → Contents
-naming c p below = record c { nested = map (renewed p (sha1 (catalogue_bytes below)) (length (catalogue_bytes below))) c.nested }
-
--- What comes of a catalogue on the way to the path p, where o holds the path in the other tree, and the objects that are made, those nested in
--- another before it. The last one on the way takes what o has at the path; one above it names what came of the next.
-pub data Makes (shelf : Shelf) (o : Contents) (p : Path) : Contents → Contents → List Object → Type 0 where
-  joins : {c made : Contents} → HasNone c p → IsJoined c o p made → Makes shelf o p c made (as_object made ∷ [])
-  names : {c below made : Contents} {n : Nested} {objects : List Object} → IsNext c p n → IsNestedCatalogue shelf c n below → Makes shelf o p below made objects
-      → Makes shelf o p c (naming c n.path made) (objects ++ as_object (naming c n.path made) ∷ [])
 
 -- The root's catalogue is there, and so is the one that holds the path in the offered tree; this comes of them.
 pub record IsGrafted (shelf : Shelf) (newest offered : List ℕ) (p : Path) (g : Grafted) : Type 0 where
@@ -41,7 +22,7 @@ pub record IsGrafted (shelf : Shelf) (newest offered : List ℕ) (p : Path) (g :
   pub other : Contents
   pub held : IsHolder shelf offered p other
   pub made : Contents
-  pub makes : Makes shelf other p top made g.added
+  pub makes : Makes shelf (λ c k. IsJoined c other p k) p top made g.added
   pub root : g.root ≡ object_id (sha1 (catalogue_bytes made)) Catalogue
   pub size : g.size ≡ length (catalogue_bytes made)
 

@@ -3,9 +3,11 @@ pub mod Faults
 pub mod Graft
 pub mod Joins
 pub mod JoinsInner
+pub mod Makes
+pub mod MakesInner
 pub mod Both
-pub mod BothInner
 pub mod Placed
+pub mod PlacedWay
 pub mod PlacedInner
 pub mod Way
 pub mod WayInner

@@ -11,21 +11,16 @@ use Rattle.cv_ports.specs.Shelf.{Shelf}
 use Rattle.cv_tree.specs.Tree.{Nodes, IsTree}
 use Rattle.cv_tree.specs.declared.node.FileRef.{FileRef}
 use Rattle.cv_tree.specs.declared.node.Node.TheVariants.{File}
-use Rattle.cv_rows.specs.Catalogue.{Contents}
-use Rattle.cv_rows.specs.declared.nested.Nested.{Nested}
 use Rattle.cv_cut.specs.Above.{cuts_above}
 use Rattle.cv_cut.specs.Cuts.{is_cut}
 use Rattle.cv_cut.specs.Catalogues.{cat, root_of}
 use Rattle.cv_cut.specs.Cut.{catalogue_object}
 use Rattle.cv_cut.specs.Means.{HasContentOf}
-use Rattle.cv_cut.specs.Opening.{IsNestedCatalogue}
 use Rattle.cv_cut.specs.Piece.{cuts_within, HasOnly, SharesWithin}
-use Rattle.cv_cut.specs.Reached.{HasCatalogue, root_place}
 use Rattle.cv_cut.specs.Region.{FitsAtCut}
 use Rattle.cv_cut.specs.Replaced.{FitsOver, SharesOver, IsFullOver}
 use Rattle.cv_cut.specs.declared.cut_fault.CutFault.{CutFault}
 use Rattle.cv_cut.specs.declared.cut_fault.CutFault.TheVariants as cut
-use Rattle.cv_graft.specs.Way.{HasNone, IsNext}
 use Rattle.cv_graft.specs.declared.grafted.Grafted.{Grafted}
 use Rattle.cv_graft.specs.declared.graft_fault.GraftFault.{GraftFault}
 use Rattle.cv_graft.specs.declared.graft_fault.GraftFault.TheVariants as fault
@@ -83,16 +78,3 @@ abbrev pub of_cut : CutFault → GraftFault
 of_cut (cut.PathCollision a b) = fault.PathCollision a b
 of_cut (cut.CatalogueFull c) = fault.CatalogueFull c
 of_cut cut.NoMemory = fault.NoMemory
-
--- ---- the catalogues above
-
--- each catalogue that leads from this one to the last above the path is there, and decodes at its place
-pub data LeadsTo (shelf : Shelf) (p : Path) : Contents → Type 0 where
-  holds : {c : Contents} → HasNone c p → LeadsTo shelf p c
-  passes : {c below : Contents} {n : Nested} → IsNext c p n → IsNestedCatalogue shelf c n below → LeadsTo shelf p below → LeadsTo shelf p c
-
--- the first of them is that of the root
-pub record HasLead (shelf : Shelf) (hash : List ℕ) (p : Path) : Type 0 where
-  pub top : Contents
-  pub there : HasCatalogue shelf hash root_place top
-  pub leads : LeadsTo shelf p top

@@ -12,7 +12,6 @@ ghost use Rattle.cv_rows.specs.Made.{AreApart, keys_of, texts_of};
 ghost use Rattle.cv_rows.specs.Nested.{IsNested};
 ghost use Rattle.cv_rows.specs.Row.{IsRow};
 ghost use Rattle.std.specs.List.{AllByRecursion};
-ghost use Rattle.cv_tree.specs.Changes.{has_place};
 ghost use Rattle.cv_tree.specs.Tree.{Nodes, IsTree, at};
 ghost use Rattle.cv_cut.specs.Above.{cuts_above, replaced, OnWay};
 ghost use Rattle.cv_cut.specs.Catalogues.{contents_of};
@@ -20,9 +19,10 @@ ghost use Rattle.cv_cut.specs.Cut.{catalogue_object};
 ghost use Rattle.cv_cut.specs.Cuts.{is_cut};
 ghost use Rattle.cv_cut.specs.Piece.{IsPiece};
 ghost use Rattle.cv_graft.specs.Graft.{HasOwnIds};
-ghost use Rattle.cv_graft.specs.Placed.{HasCuts, LeadsTo};
-ghost use Rattle.cv_graft.specs.PlacedInner.{ArePathsCrossed, IsAskedPart, IsMeeting, JoinsLists, JoinsPart, Sets, WhereMade};
-ghost use Rattle.cv_graft.specs.Places.{HasPlace};
+ghost use Rattle.cv_graft.specs.MakesInner.{Rejoins, Remakes};
+ghost use Rattle.cv_graft.specs.Placed.{HasCuts};
+ghost use Rattle.cv_graft.specs.PlacedInner.{IsAskedPart, IsMeeting, JoinsLists, JoinsPart, Sets};
+ghost use Rattle.cv_graft.specs.PlacedWay.{ArePathsCrossed};
 ghost use Rattle.cv_graft.specs.Way.{TellsDamage};
 ghost use Rattle.cv_graft.specs.WayInner.{IsOfWayOf};
 ghost use Rattle.cv_graft.specs.declared.graft_fault.GraftFault.TheVariants as faults;
@@ -108,7 +108,6 @@ fn joined_part(
     requires piece { IsPiece piece.now piece.now.tree path.now }
     requires only { (d : List (List ℕ)) → is_cut piece.now.tree d ≡ true → d ≢ [] → covers path.now d ≡ true }
     ensures joins { JoinsPart catalogue path.now piece.now.tree result }
-    ensures place { WhereMade (HasPlace catalogue path.now) result }
     ensures added { OnOk result (added.new.items ≡ added.old.items ++ map (catalogue_object piece.now.tree) piece.now.cuts) }
 {
     let rest = without(alloc, catalogue, path)?;
@@ -139,7 +138,7 @@ fn rejoined_part(
     requires piece { IsPiece piece.now piece.now.tree path.now }
     requires only { (d : List (List ℕ)) → is_cut piece.now.tree d ≡ true → d ≢ [] → covers path.now d ≡ true }
     ensures made { (t : Nodes) (r : List (List ℕ)) → IsAskedPart t piece.now.tree path.now catalogue.at r → catalogue ≡ contents_of t catalogue.at → Sets t piece.now.tree path.now catalogue.at r added.old.items added.new.items result }
-    ensures place { WhereMade (HasPlace catalogue path.now) result }
+    ensures rejoins { Rejoins (λ c r. JoinsPart c path.now piece.now.tree r) catalogue (map (catalogue_object piece.now.tree) piece.now.cuts) added.old.items added.new.items result }
     ensures unread { IsErrOf result faults.Failed → ⊥ }
     ensures undamaged { (standing : Shelf_) → TellsDamage standing (λ id. ⊥) result }
     ensures digest { IfOk result (λ made. IsDigest made.hash) }
@@ -169,9 +168,7 @@ pub(crate) fn rebuilt_with<S: Shelf>(
     requires only { (d : List (List ℕ)) → is_cut piece.now.tree d ≡ true → d ≢ [] → covers path.now d ≡ true }
     ensures told { WhereTold (S.shelf shelf.old) (λ standing. (hash : List ℕ) (t : Nodes) (r : List (List ℕ)) → HasCuts standing hash t path.now → IsTree (replaced t piece.now.tree path.now)
         → OnWay t path.now catalogue.at r → catalogue ≡ contents_of t catalogue.at → Sets t piece.now.tree path.now catalogue.at r added.old.items added.new.items result) }
-    ensures place { WhereTold (S.shelf shelf.old) (λ standing. (hash : List ℕ) (t : Nodes) (r : List (List ℕ)) → HasCuts standing hash t path.now → OnWay t path.now catalogue.at r → catalogue ≡ contents_of t catalogue.at
-        → WhereMade (has_place t path.now ≡ true) result) }
-    ensures lead { WhereTold (S.shelf shelf.old) (λ standing. OnOk result (LeadsTo standing path.now catalogue)) }
+    ensures way { WhereTold (S.shelf shelf.old) (λ standing. Remakes standing (λ c r. JoinsPart c path.now piece.now.tree r) path.now id.now catalogue (map (catalogue_object piece.now.tree) piece.now.cuts) added.old.items added.new.items result) }
     ensures digest { IfOk result (λ made. IsDigest made.hash) }
     ensures own { OnOk result (HasOwnIds added.old.items → HasOwnIds added.new.items) }
     ensures damaged { WhereTold (S.shelf shelf.old) (λ standing. TellsDamage standing (IsOfWayOf standing id.now catalogue path.now) result) }

@@ -14,8 +14,9 @@ ghost use Rattle.cv_rows.specs.Renewed.{renewed};
 ghost use Rattle.cv_tree.specs.Tree.{Nodes, IsTree, at};
 ghost use Rattle.cv_ports.specs.Calls.{raised_by};
 ghost use Rattle.cv_cut.specs.Above.{cuts_above, replaced, OnWay};
-ghost use Rattle.cv_graft.specs.BothInner.{Rejoins, Remakes};
 ghost use Rattle.cv_graft.specs.Graft.{HasOwnIds};
+ghost use Rattle.cv_graft.specs.JoinsInner.{Joins};
+ghost use Rattle.cv_graft.specs.MakesInner.{Rejoins, Remakes};
 ghost use Rattle.cv_graft.specs.Placed.{HasCuts};
 ghost use Rattle.cv_graft.specs.Way.{TellsDamage};
 ghost use Rattle.cv_graft.specs.WayInner.{IsAsked, IsOffered, IsOfWayOf, Rebuilds};
@@ -84,7 +85,7 @@ fn rejoined(
     requires other_apart { path.now ≢ other.now.at }
     requires unmarked { ends_in marker path.now ≡ false }
     ensures made { (t n : Nodes) (r d v : List (List ℕ)) → IsAsked t n path.now catalogue.at r d v → catalogue ≡ contents_of t catalogue.at → other.now ≡ contents_of n d → Rebuilds (replaced t n path.now) catalogue.at r added.old.items added.new.items result }
-    ensures rejoins { Rejoins catalogue other.now path.now added.old.items added.new.items result }
+    ensures rejoins { Rejoins (λ c r. Joins c other.now path.now r) catalogue [] added.old.items added.new.items result }
     ensures unread { IsErrOf result faults.Failed → ⊥ }
     ensures undamaged { (standing : Shelf_) → TellsDamage standing (λ id. ⊥) result }
     ensures digest { IfOk result (λ made. IsDigest made.hash) }
@@ -116,7 +117,7 @@ pub(crate) fn rebuilt<S: Shelf>(
     requires unmarked { ends_in marker path.now ≡ false }
     ensures told { WhereTold (S.shelf shelf.old) (λ standing. (hash : List ℕ) (t n : Nodes) (r : List (List ℕ)) → HasCuts standing hash t path.now → Fits t → IsOffered n path.now other.now → IsTree (replaced t n path.now)
         → OnWay t path.now catalogue.at r → catalogue ≡ contents_of t catalogue.at → Rebuilds (replaced t n path.now) catalogue.at r added.old.items added.new.items result) }
-    ensures way { WhereTold (S.shelf shelf.old) (λ standing. Remakes standing id.now catalogue other.now path.now added.old.items added.new.items result) }
+    ensures way { WhereTold (S.shelf shelf.old) (λ standing. Remakes standing (λ c r. Joins c other.now path.now r) path.now id.now catalogue [] added.old.items added.new.items result) }
     ensures digest { IfOk result (λ made. IsDigest made.hash) }
     ensures own { OnOk result (HasOwnIds added.old.items → HasOwnIds added.new.items) }
     ensures damaged { WhereTold (S.shelf shelf.old) (λ standing. TellsDamage standing (IsOfWayOf standing id.now catalogue path.now) result) }

@@ -1,5 +1,5 @@
 //! Setting a part at a path of a published tree.
-ghost use Rattle.std.specs.Prelude.{◌≡◌, ◌≢◌, [], false, length, IfOk, IsTrue, IsErrOf, OnOk};
+ghost use Rattle.std.specs.Prelude.{◌≡◌, ◌≢◌, [], false, length, IfOk, IsTrue, IsErrOf};
 ghost use Rattle.std.specs.FinMap as map;
 ghost use Rattle.std.specs.Option.{option_copied};
 ghost use Rattle.cv_base.specs.Counts.{HasCause};
@@ -12,7 +12,8 @@ ghost use Rattle.cv_tree.specs.Tree.{Nodes, is_directory, put};
 ghost use Rattle.cv_ports.specs.Shelf.{Shelf as Shelf_};
 ghost use Rattle.cv_cut.specs.Above.{cuts_above};
 ghost use Rattle.cv_graft.specs.Graft.{HasOwnIds};
-ghost use Rattle.cv_graft.specs.Placed.{HasCuts, HasLead, Places, PlacesNothing};
+ghost use Rattle.cv_graft.specs.Placed.{HasCuts, Places, PlacesNothing};
+ghost use Rattle.cv_graft.specs.PlacedWay.{PlacesOnWay};
 ghost use Rattle.cv_graft.specs.Way.{IsOfWay, TellsDamage};
 ghost use Rattle.cv_graft.specs.declared.graft_fault.GraftFault.TheVariants as faults;
 
@@ -72,8 +73,7 @@ fn below_root_with<S: Shelf>(
     requires unmarked { ends_in marker path.now ≡ false }
     requires limits { FitsUnder path.now (nodes_of (option_copied part)) }
     ensures told { WhereTold (S.shelf shelf.old) (λ standing. (t : Nodes) → HasCuts standing base.now.hash t path.now → IsTrue (has_place t path.now) → Places (put t path.now (nodes_of (option_copied part.entry))) path.now result) }
-    ensures parentless { WhereTold (S.shelf shelf.old) (λ standing. (t : Nodes) → HasCuts standing base.now.hash t path.now → has_place t path.now ≡ false → PlacesNothing (nodes_of (option_copied part.entry)) path.now result) }
-    ensures lead { WhereTold (S.shelf shelf.old) (λ standing. OnOk result (HasLead standing base.now.hash path.now)) }
+    ensures way { WhereTold (S.shelf shelf.old) (λ standing. PlacesOnWay standing base.now.hash path.now (nodes_of (option_copied part.entry)) result) }
     ensures own { IfOk result (λ g. HasOwnIds g.added) }
     ensures damaged { WhereTold (S.shelf shelf.old) (λ standing. TellsDamage standing (IsOfWay standing base.now.hash path.now) result) }
     ensures reads { S.reads shelf.old shelf.new }
@@ -103,11 +103,11 @@ fn below_root_with<S: Shelf>(
 /// there goes like a directory with all below it, and the part may begin with any of the three; at the root alone it begins
 /// with a directory. Made are the catalogues of the cuts properly above the path, and the part's own. Below the root only the
 /// former are read, as the tree has them, and at most as many as the path has names; at the root nothing is, and the part is
-/// the tree.
+/// the tree. What is answered below the root is so by the part and these catalogues alone, whatever else there is, and whether or
+/// not the root means a tree.
 ///
-/// A catalogue on the way that isn't there or doesn't decode is answered as want of memory: below the root an answer says that
-/// each catalogue on the way was there. So is a path whose parent is no directory, but for a part of which two paths share a key:
-/// that is looked for first.
+/// A catalogue on the way that isn't there or doesn't decode is answered as want of memory. So is a path whose parent is no
+/// directory, but for a part of which two paths share a key: that is looked for first.
 pub fn place<S: Shelf>(
     alloc: Global,
     shelf: &mut S,
@@ -120,9 +120,9 @@ pub fn place<S: Shelf>(
     requires root { IsTreeAtRoot path.now (nodes_of (option_copied part)) }
     requires limits { FitsUnder path.now (nodes_of (option_copied part)) }
     ensures told { WhereTold (S.shelf shelf.old) (λ standing. (t : Nodes) → HasCuts standing base.now.hash t path.now → IsTrue (has_place t path.now) → Places (put t path.now (nodes_of (option_copied part.entry))) path.now result) }
+    ensures way { WhereTold (S.shelf shelf.old) (λ standing. path.now ≢ [] → PlacesOnWay standing base.now.hash path.now (nodes_of (option_copied part.entry)) result) }
     ensures whole { path.now ≡ [] → Places (nodes_of (option_copied part.entry)) [] result }
     ensures parentless { WhereTold (S.shelf shelf.old) (λ standing. (t : Nodes) → HasCuts standing base.now.hash t path.now → has_place t path.now ≡ false → PlacesNothing (nodes_of (option_copied part.entry)) path.now result) }
-    ensures lead { WhereTold (S.shelf shelf.old) (λ standing. OnOk result (path.now ≢ [] → HasLead standing base.now.hash path.now)) }
     ensures own { IfOk result (λ g. HasOwnIds g.added) }
     ensures damaged { WhereTold (S.shelf shelf.old) (λ standing. TellsDamage standing (IsOfWay standing base.now.hash path.now) result) }
     ensures reads { S.reads shelf.old shelf.new }

@@ -1,12 +1,13 @@
 -- What is offered for what was fetched.
-use Rattle.std.specs.Prelude.{◌≡◌, ◌≢◌, ℕ, Bool, true, false, not, List, [], ◌++◌, is_some, IsTrue, OnOk, Result, Ok, Err}
+use Rattle.std.specs.Prelude.{◌≡◌, ◌≢◌, ℕ, Bool, true, false, not, List, [], ◌++◌, is_some, IsTrue, Result, Ok, Err}
 use Rattle.std.specs.List.{filter}
 use Rattle.cv_base.specs.Path.{Path}
 use Rattle.cv_base.specs.declared.object.Object.{Object}
 use Rattle.cv_ports.specs.Shelf.{Shelf}
 use Rattle.cv_tree.specs.Changes.{has_place}
 use Rattle.cv_tree.specs.Tree.{Nodes, put}
-use Rattle.cv_graft.specs.Placed.{HasCuts, HasLead, Places}
+use Rattle.cv_graft.specs.Placed.{HasCuts, Places}
+use Rattle.cv_graft.specs.PlacedWay.{PlacesOnWay}
 use Rattle.cv_graft.specs.declared.grafted.Grafted.{Grafted}
 use Rattle.cv_graft.specs.declared.graft_fault.GraftFault.{GraftFault}
 use Rattle.cv_graft.specs.declared.graft_fault.GraftFault.TheVariants as graft
@@ -31,11 +32,11 @@ pub record Delivers (contents : List Object) (fetched : Shelf) (g : Grafted) (d 
   pub sendable : AreSendable (contents ++ d.catalogues) d.places
 
 -- What is answered of the part set at the path: so it is in each tree whose root is the base and whose catalogues on the way were
--- fetched; at the root in any case; and below it a root was made only where the catalogues on the way were there.
+-- fetched; below the root it is so by the part and these catalogues, whether or not the base means a tree; and at the root by the part.
 pub record IsSet (plan : Plan) (base : List ℕ) (fetched : Shelf) (part : Nodes) (r : Result Grafted GraftFault) : Type 0 where
   pub told : (t : Nodes) → HasCuts fetched base t plan.path → IsTrue (has_place t plan.path) → Places (put t plan.path part) plan.path r
+  pub way : plan.path ≢ [] → PlacesOnWay fetched base plan.path part r
   pub whole : plan.path ≡ [] → Places part [] r
-  pub lead : OnOk r (plan.path ≢ [] → HasLead fetched base plan.path)
 
 -- the part is set at the path, and what is made so is offered; or two paths of one catalogue share a key, or a catalogue is full
 pub data Sets (plan : Plan) (base : List ℕ) (fetched : Shelf) (part : Nodes) (r : Result Delivery PublishFault) : Type 0 where

@@ -1,8 +1,8 @@
-use Rattle.std.proofs.Common.{◌≡◌, true, refl, Result, subst, ◌∙◌, arith}
+use Rattle.std.proofs.Common.{refl, map, Result, subst, ◌∙◌, arith}
 use Rattle.cv_rows.specs.Catalogue.{Contents}
-use Rattle.cv_tree.specs.Changes.{has_place}
-use Rattle.cv_graft.specs.Placed.{LeadsTo, holds, passes}
-use Rattle.cv_graft.specs.PlacedInner.{Sets, WhereMade}
+use Rattle.cv_cut.specs.Cut.{catalogue_object}
+use Rattle.cv_graft.specs.MakesInner.{Remakes}
+use Rattle.cv_graft.specs.PlacedInner.{JoinsPart, Sets}
 use Rattle.cv_graft.specs.Way.{HasNone, IsNext, TellsDamage}
 use Rattle.cv_graft.specs.WayInner.{IsOfWayOf}
 use Rattle.cv_graft.specs.declared.made.Made.{Made}
@@ -10,9 +10,8 @@ use Rattle.cv_graft.specs.declared.graft_fault.GraftFault.{GraftFault}
 use Rattle.cv_graft.proofs.Holders.{tells_next, tells_below, tells_none}
 use Rattle.cv_graft.proofs.Nexts.{above_shorter, next_shorter}
 use Rattle.cv_graft.proofs.Finding.{none_or_one, one_more, none_holds, step_unread, step_down, step_taken, more_than_one, at_most_below}
-use Rattle.cv_graft.proofs.Parentless.{held_there}
-use Rattle.cv_graft.proofs.Unplaced.{unread_there, where_made}
-use Rattle.cv_graft.proofs.PlacedAbove.{asked_part, if_ok, passed_part, set_above, set_fault, unread_set}
+use Rattle.cv_graft.proofs.Makes.{fault_remakes, remade_above, remade_here, unread_remakes}
+use Rattle.cv_graft.proofs.PlacedAbove.{asked_part, passed_part, set_above, set_fault, unread_set}
 use Rattle.cv_graft.proofs.placing.+rebuilt_with.Goals as goal
 use Rattle.cv_cut.proofs.Lemmas.{left_by}
 
@@ -109,16 +108,6 @@ nested_catalogue-requires-clause-entry g m c =
     let next : IsNext c.args.catalogue c.args.path.now c.in-Some.entry = rw c.in-Some.is at c.in_ok-entry.ensures.found in
     next.has
 
-pub returns-in_default-clause-lead : goal.returns-in_default-clause-lead
-returns-in_default-clause-lead g m c = λ standing told.
-    let none : HasNone c.args.catalogue c.args.path.now = rw c.in_default.is at c.in_ok-entry.ensures.found in
-    if_ok _ (LeadsTo standing c.args.path.now c.args.catalogue) (holds none)
-
-pub returns-clause-lead : goal.returns-clause-lead
-returns-clause-lead g m c = λ standing told.
-    let next : IsNext c.args.catalogue c.args.path.now c.in-Some.entry = rw c.in-Some.is at c.in_ok-entry.ensures.found in
-    passes next (c.in_ok-below.ensures.told standing told) (c.in_ok-made.ensures.lead standing (c.nested_catalogue.ensures.unchanged ∙ told))
-
 pub returns-in_err-entry-clause-most : goal.returns-in_err-entry-clause-most
 returns-in_err-entry-clause-most g m c = (0, omega (arith, above_shorter c.args.catalogue.at c.args.path.now c.requires.below c.requires.apart), refl)
 
@@ -142,25 +131,49 @@ pub returns-clause-most : goal.returns-clause-most
 returns-clause-most g m c =
     one_more _ _ _ _ _ _ _ c.in_ok-below.ensures.place c.nested_catalogue.ensures.deeper c.in_ok-below.ensures.taken c.rebuilt_with.ensures.most
 
-pub returns-in_default-clause-place : goal.returns-in_default-clause-place
-returns-in_default-clause-place g m c = λ standing told hash t r way w is.
-    where_made (held_there standing hash t c.args.path.now way c.args.catalogue r w is) c.rejoined_part.result c.rejoined_part.ensures.place
-
-pub returns-in_err-below-clause-place : goal.returns-in_err-below-clause-place
-returns-in_err-below-clause-place g m c = λ standing told hash t r way w is.
-    left_by (λ (x : Result Made GraftFault). WhereMade (has_place t c.args.path.now ≡ true) x) _ _ c.from_residual-in_err-below.ensures.1 (unread_there Made (has_place t c.args.path.now ≡ true) _)
-
-pub returns-in_err-made-clause-place : goal.returns-in_err-made-clause-place
-returns-in_err-made-clause-place g m c = λ standing told hash t r way w is.
+pub returns-in_default-clause-way : goal.returns-in_default-clause-way
+returns-in_default-clause-way g m c = λ standing told.
     let p = c.args.path.now in
-    let next : IsNext c.args.catalogue p c.in-Some.entry = rw c.in-Some.is at c.in_ok-entry.ensures.found in
-    let s = step_down standing hash t p r c.args.catalogue c.in-Some.entry way w is next c.in_ok-below.below (c.in_ok-below.ensures.told standing told) in
-    left_by (λ (x : Result Made GraftFault). WhereMade (has_place t p ≡ true) x) _ _ c.from_residual-in_err-made.ensures.1
-    (c.in_err-made.ensures.place standing (c.nested_catalogue.ensures.unchanged ∙ told) hash t s.f way s.on s.is_)
+    let n = c.args.piece.now.tree in
+    let own = map (catalogue_object n) c.args.piece.now.cuts in
+    let none : HasNone c.args.catalogue p = rw c.in_default.is at c.in_ok-entry.ensures.found in
+    remade_here standing (λ k r. JoinsPart k p n r) p c.args.id.now c.args.catalogue own c.args.added.now.items c.rejoined_part.new.added.items c.rejoined_part.result none c.rejoined_part.ensures.rejoins
 
-pub returns-clause-place : goal.returns-clause-place
-returns-clause-place g m c = λ standing told hash t r way w is.
+pub returns-in_err-below-clause-way : goal.returns-in_err-below-clause-way
+returns-in_err-below-clause-way g m c = λ standing told.
     let p = c.args.path.now in
+    let n = c.args.piece.now.tree in
+    let answers = λ (k : Contents) (r : Result Contents GraftFault). JoinsPart k p n r in
+    let own = map (catalogue_object n) c.args.piece.now.cuts in
+    let items = c.args.added.now.items in
+    left_by (Remakes standing answers p c.args.id.now c.args.catalogue own items items) _ _ c.from_residual-in_err-below.ensures.1 (unread_remakes standing answers p c.args.id.now c.args.catalogue own items items _)
+
+pub returns-in_err-made-clause-way : goal.returns-in_err-made-clause-way
+returns-in_err-made-clause-way g m c = λ standing told.
+    let p = c.args.path.now in
+    let n = c.args.piece.now.tree in
+    let answers = λ (k : Contents) (r : Result Contents GraftFault). JoinsPart k p n r in
+    let own = map (catalogue_object n) c.args.piece.now.cuts in
     let next : IsNext c.args.catalogue p c.in-Some.entry = rw c.in-Some.is at c.in_ok-entry.ensures.found in
-    let s = step_down standing hash t p r c.args.catalogue c.in-Some.entry way w is next c.in_ok-below.below (c.in_ok-below.ensures.told standing told) in
-    c.in_ok-made.ensures.place standing (c.nested_catalogue.ensures.unchanged ∙ told) hash t s.f way s.on s.is_
+    let items = c.args.added.now.items in
+    let more = c.rebuilt_with.new.added.items in
+    left_by (Remakes standing answers p c.args.id.now c.args.catalogue own items more) _ _ c.from_residual-in_err-made.ensures.1
+    (fault_remakes standing answers p c.args.id.now c.args.catalogue c.in_ok-below.below c.in-Some.entry own items more _ next (c.in_ok-below.ensures.told standing told)
+    (c.in_err-made.ensures.way standing (c.nested_catalogue.ensures.unchanged ∙ told)))
+
+pub returns-in_err-keep-clause-way : goal.returns-in_err-keep-clause-way
+returns-in_err-keep-clause-way g m c = λ standing told.
+    let p = c.args.path.now in
+    let n = c.args.piece.now.tree in
+    let own = map (catalogue_object n) c.args.piece.now.cuts in
+    left_by (Remakes standing (λ k r. JoinsPart k p n r) p c.args.id.now c.args.catalogue own c.args.added.now.items c.keep.new.added.items) _ _ c.from_residual-in_err-keep.ensures.1 (λ root place on has. tt)
+
+pub returns-clause-way : goal.returns-clause-way
+returns-clause-way g m c = λ standing told.
+    let p = c.args.path.now in
+    let n = c.args.piece.now.tree in
+    let own = map (catalogue_object n) c.args.piece.now.cuts in
+    let next : IsNext c.args.catalogue p c.in-Some.entry = rw c.in-Some.is at c.in_ok-entry.ensures.found in
+    remade_above standing (λ k r. JoinsPart k p n r) p c.args.catalogue c.in_ok-below.below c.with_entry-catalogue.result c.in-Some.entry own c.args.added.now.items c.rebuilt_with.new.added.items c.keep.new.added.items
+    c.in_ok-made.made c.in_ok-keep.field-0 next (c.in_ok-below.ensures.told standing told) (c.in_ok-made.ensures.way standing (c.nested_catalogue.ensures.unchanged ∙ told)) c.with_entry-catalogue.ensures
+    (record { hash = c.in_ok-keep.ensures.hash; size = c.in_ok-keep.ensures.size; added = c.in_ok-keep.ensures.added })

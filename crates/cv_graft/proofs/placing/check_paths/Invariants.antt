@@ -1,5 +1,5 @@
 use Rattle.std.proofs.Common.{take}
-use Rattle.cv_graft.specs.PlacedInner.{ArePathsCrossed}
+use Rattle.cv_graft.specs.PlacedWay.{ArePathsCrossed}
 use Rattle.cv_graft.proofs.placing.check_paths.Given as goal
 
 abbrev pub invariant-loop-entry : goal.invariant-loop-entry

@@ -9,10 +9,10 @@ use Rattle.cv_rows.specs.declared.nested.Nested.{Nested}
 use Rattle.cv_rows.specs.declared.row.Row.{Row}
 use Rattle.cv_cut.specs.Cut.{is_other, nested_in, row_in}
 use Rattle.cv_cut.proofs.Lemmas.{entries_spelled, left_by, rows_spelled}
-use Rattle.cv_graft.specs.PlacedInner.{ArePathsCrossed, JoinsPart, Rests}
+use Rattle.cv_graft.specs.PlacedInner.{JoinsPart}
+use Rattle.cv_graft.specs.PlacedWay.{ArePathsCrossed, Rests}
 use Rattle.cv_graft.proofs.Crossing.{place_before}
 use Rattle.cv_graft.proofs.PlacedParts.{all_keys, all_texts, meets_at, full_at, none_full, lists_join}
-use Rattle.cv_graft.proofs.Unplaced.{made_there}
 use Rattle.cv_graft.proofs.placing.joined_part.Goals as goal
 
 pub cut_piece-requires : goal.cut_piece-requires
@@ -21,14 +21,17 @@ cut_piece-requires c = record { path = c.args.path.now; is = c.requires.piece; o
 pub returns-in_err-check_paths-clause-joins : goal.returns-in_err-check_paths-clause-joins
 returns-in_err-check_paths-clause-joins c =
     left_by (JoinsPart c.args.catalogue c.args.path.now c.args.piece.now.tree) _ _ c.from_residual-in_err-check_paths.ensures.1
-    (meets_at c.args.catalogue c.in_ok-rest.rest c.args.path.now c.args.piece.now.tree c.as_slice.result.now _ c.in_ok-rest.ensures.left (c.as_slice.ensures ∙ c.requires.piece.region_is) c.in_err-check_paths.ensures.err)
+    (meets_at c.args.catalogue c.in_ok-rest.rest c.args.path.now c.args.piece.now.tree c.as_slice.result.now _
+    (place_before c.args.catalogue c.in_ok-rest.rest c.args.path.now c.args.path.now c.in_ok-rest.ensures.left (c.in_ok-has_place.ensures c.if-not-branch.false))
+    c.in_ok-rest.ensures.left (c.as_slice.ensures ∙ c.requires.piece.region_is) c.in_err-check_paths.ensures.err)
 
 pub returns-in_err-made-clause-joins : goal.returns-in_err-made-clause-joins
 returns-in_err-made-clause-joins c =
     let m = c.args.piece.now.tree in
     let p = c.args.path.now in
     let crossed = subst (ArePathsCrossed c.in_ok-rest.rest.rows) (c.as_slice.ensures ∙ c.requires.piece.region_is) c.in_ok-check_paths.ensures.ok in
-    let rests : Rests c.args.catalogue p m = record { rest = c.in_ok-rest.rest; is_ = c.in_ok-rest.ensures.rules; without = c.in_ok-rest.ensures.left; crossed = crossed } in
+    let place = place_before c.args.catalogue c.in_ok-rest.rest p p c.in_ok-rest.ensures.left (c.in_ok-has_place.ensures c.if-not-branch.false) in
+    let rests : Rests c.args.catalogue p m = record { place = place; rest = c.in_ok-rest.rest; is_ = c.in_ok-rest.ensures.rules; without = c.in_ok-rest.ensures.left; crossed = crossed } in
     left_by (JoinsPart c.args.catalogue p m) _ _ c.from_residual-in_err-made.ensures.1
     (full_at c.args.catalogue p m c.args.piece.now.cuts _ rests c.requires.piece.cuts_are c.in_err-made.ensures.fault)
 
@@ -67,15 +70,7 @@ returns-clause-joins c =
     let rows = c.into_vec-rows.ensures ∙ c.in_ok-made.ensures.rows ∙ ap (map (row_in m [])) c.requires.piece.region_is in
     let nested = c.into_vec-nested.ensures ∙ c.in_ok-made.ensures.nested ∙ ap (λ (es : List (Path × Node)). map (λ (e : Path × Node). nested_in m e.0) (filter (λ (e : Path × Node). is_other m [] e.0) es)) c.requires.piece.region_is in
     let crossed = subst (ArePathsCrossed c.in_ok-rest.rest.rows) (c.as_slice.ensures ∙ c.requires.piece.region_is) c.in_ok-check_paths.ensures.ok in
-    let rests : Rests c.args.catalogue p m = record { rest = c.in_ok-rest.rest; is_ = c.in_ok-rest.ensures.rules; without = c.in_ok-rest.ensures.left; crossed = crossed } in
+    let place = place_before c.args.catalogue c.in_ok-rest.rest p p c.in_ok-rest.ensures.left (c.in_ok-has_place.ensures c.if-not-branch.false) in
+    let rests : Rests c.args.catalogue p m = record { place = place; rest = c.in_ok-rest.rest; is_ = c.in_ok-rest.ensures.rules; without = c.in_ok-rest.ensures.left; crossed = crossed } in
     lists_join c.args.catalogue p m c.into_vec-rows.result.items c.into_vec-nested.result.items c.with_part.result rests
     (none_full m p c.args.piece.now.cuts c.requires.piece.whole c.requires.piece.cuts_are c.in_ok-made.ensures.fits) rows nested c.with_part.ensures
-
-pub returns-in_err-check_paths-clause-place : goal.returns-in_err-check_paths-clause-place
-returns-in_err-check_paths-clause-place c = made_there (place_before c.args.catalogue c.in_ok-rest.rest c.args.path.now c.args.path.now c.in_ok-rest.ensures.left (c.in_ok-has_place.ensures c.if-not-branch.false)) _
-
-pub returns-in_err-made-clause-place : goal.returns-in_err-made-clause-place
-returns-in_err-made-clause-place c = made_there (place_before c.args.catalogue c.in_ok-rest.rest c.args.path.now c.args.path.now c.in_ok-rest.ensures.left (c.in_ok-has_place.ensures c.if-not-branch.false)) _
-
-pub returns-clause-place : goal.returns-clause-place
-returns-clause-place c = made_there (place_before c.args.catalogue c.in_ok-rest.rest c.args.path.now c.args.path.now c.in_ok-rest.ensures.left (c.in_ok-has_place.ensures c.if-not-branch.false)) _

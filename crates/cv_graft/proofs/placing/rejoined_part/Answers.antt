@@ -3,19 +3,18 @@ use Rattle.cv_base.specs.Path.{Path}
 use Rattle.cv_cut.specs.Cut.{catalogue_object}
 use Rattle.cv_tree.specs.Tree.{at}
 use Rattle.cv_cut.specs.Catalogues.{contents_of}
-use Rattle.cv_rows.specs.Catalogue.{Contents}
 use Rattle.cv_cut.proofs.Lemmas.{left_by}
 use Rattle.std.proofs.Common.{Result}
 use Rattle.std.specs.Prelude.{IsErrOf}
-use Rattle.cv_graft.specs.PlacedInner.{Sets, WhereMade}
-use Rattle.cv_graft.specs.Places.{HasPlace}
+use Rattle.cv_graft.specs.MakesInner.{Rejoins}
+use Rattle.cv_graft.specs.PlacedInner.{JoinsPart, Sets}
 use Rattle.cv_graft.specs.Way.{TellsDamage}
 use Rattle.cv_graft.specs.declared.made.Made.{Made}
 use Rattle.cv_graft.specs.declared.graft_fault.GraftFault.{GraftFault}
 use Rattle.cv_graft.specs.declared.graft_fault.GraftFault.TheVariants as fault
 use Rattle.cv_graft.proofs.PlacedParts.{own_more, part_not_failed, part_tells}
 use Rattle.cv_graft.proofs.PlacedMade.{part_made, part_fault, part_moved, some_path}
-use Rattle.cv_graft.proofs.Unplaced.{fault_there}
+use Rattle.cv_graft.proofs.PlacedWay.{kept_behind}
 use Rattle.cv_graft.proofs.placing.rejoined_part.Goals as goal
 
 pub returns-in_err-joined-clause-made : goal.returns-in_err-joined-clause-made
@@ -50,6 +49,18 @@ returns-in_err-joined-clause-undamaged c = λ standing.
 pub returns-clause-own : goal.returns-clause-own
 returns-clause-own c = λ own. c.in_ok-keep.ensures.own (own_more c.args.piece.now.tree c.args.piece.now.cuts c.args.added.now.items c.joined_part.new.added.items c.in_ok-joined.ensures.added own)
 
-pub returns-in_err-joined-clause-place : goal.returns-in_err-joined-clause-place
-returns-in_err-joined-clause-place c =
-    left_by (λ (x : Result Made GraftFault). WhereMade (HasPlace c.args.catalogue c.args.path.now) x) _ _ c.from_residual.ensures.1 (fault_there Contents Made (HasPlace c.args.catalogue c.args.path.now) _ c.in_err-joined.ensures.place)
+pub returns-in_err-joined-clause-rejoins : goal.returns-in_err-joined-clause-rejoins
+returns-in_err-joined-clause-rejoins c =
+    let m = c.args.piece.now.tree in
+    let own = map (catalogue_object m) c.args.piece.now.cuts in
+    left_by (Rejoins (λ k r. JoinsPart k c.args.path.now m r) c.args.catalogue own c.args.added.now.items c.joined_part.new.added.items) _ _ c.from_residual.ensures.1 c.in_err-joined.ensures.joins
+
+pub returns-clause-rejoins : goal.returns-clause-rejoins
+returns-clause-rejoins c =
+    let own = map (catalogue_object c.args.piece.now.tree) c.args.piece.now.cuts in
+    record {
+      is = c.in_ok-joined.joined;
+      joined = c.in_ok-joined.ensures.joins;
+      kept = kept_behind c.in_ok-joined.joined own c.args.added.now.items c.joined_part.new.added.items c.keep.new.added.items c.in_ok-keep.field-0 c.in_ok-joined.ensures.added
+          (record { hash = c.in_ok-keep.ensures.hash; size = c.in_ok-keep.ensures.size; added = c.in_ok-keep.ensures.added });
+    }

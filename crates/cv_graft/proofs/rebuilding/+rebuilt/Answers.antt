@@ -1,9 +1,10 @@
-use Rattle.std.proofs.Common.{refl, Result, subst, ◌∙◌, arith}
+use Rattle.std.proofs.Common.{refl, [], Result, subst, ◌∙◌, arith}
 use Rattle.cv_rows.specs.Catalogue.{Contents}
 use Rattle.cv_graft.specs.Way.{HasNone, IsNext, TellsDamage}
-use Rattle.cv_graft.specs.BothInner.{Remakes}
+use Rattle.cv_graft.specs.JoinsInner.{Joins}
+use Rattle.cv_graft.specs.MakesInner.{Remakes}
 use Rattle.cv_graft.specs.WayInner.{IsOfWayOf, Rebuilds}
-use Rattle.cv_graft.proofs.Both.{fault_remakes, remade_above, remade_here, unread_remakes}
+use Rattle.cv_graft.proofs.Makes.{fault_remakes, remade_above, remade_here, unread_remakes}
 use Rattle.cv_graft.specs.declared.made.Made.{Made}
 use Rattle.cv_graft.specs.declared.graft_fault.GraftFault.{GraftFault}
 use Rattle.cv_graft.proofs.Holders.{tells_next, tells_below, tells_none}
@@ -128,31 +129,37 @@ returns-clause-most g m c =
 
 pub returns-in_default-clause-way : goal.returns-in_default-clause-way
 returns-in_default-clause-way g m c = λ standing told.
-    let none : HasNone c.args.catalogue c.args.path.now = rw c.in_default.is at c.in_ok-entry.ensures.found in
-    remade_here standing c.args.id.now c.args.catalogue c.args.other.now c.args.path.now c.args.added.now.items c.rejoined.new.added.items c.rejoined.result none c.rejoined.ensures.rejoins
+    let p = c.args.path.now in
+    let none : HasNone c.args.catalogue p = rw c.in_default.is at c.in_ok-entry.ensures.found in
+    remade_here standing (λ k r. Joins k c.args.other.now p r) p c.args.id.now c.args.catalogue [] c.args.added.now.items c.rejoined.new.added.items c.rejoined.result none c.rejoined.ensures.rejoins
 
 pub returns-in_err-below-clause-way : goal.returns-in_err-below-clause-way
 returns-in_err-below-clause-way g m c = λ standing told.
+    let p = c.args.path.now in
+    let answers = λ (k : Contents) (r : Result Contents GraftFault). Joins k c.args.other.now p r in
     let items = c.args.added.now.items in
-    left_by (Remakes standing c.args.id.now c.args.catalogue c.args.other.now c.args.path.now items items) _ _ c.from_residual-in_err-below.ensures.1
-    (unread_remakes standing c.args.id.now c.args.catalogue c.args.other.now c.args.path.now items items _)
+    left_by (Remakes standing answers p c.args.id.now c.args.catalogue [] items items) _ _ c.from_residual-in_err-below.ensures.1 (unread_remakes standing answers p c.args.id.now c.args.catalogue [] items items _)
 
 pub returns-in_err-made-clause-way : goal.returns-in_err-made-clause-way
 returns-in_err-made-clause-way g m c = λ standing told.
-    let next : IsNext c.args.catalogue c.args.path.now c.in-Some.entry = rw c.in-Some.is at c.in_ok-entry.ensures.found in
+    let p = c.args.path.now in
+    let answers = λ (k : Contents) (r : Result Contents GraftFault). Joins k c.args.other.now p r in
+    let next : IsNext c.args.catalogue p c.in-Some.entry = rw c.in-Some.is at c.in_ok-entry.ensures.found in
     let items = c.args.added.now.items in
     let more = c.rebuilt.new.added.items in
-    left_by (Remakes standing c.args.id.now c.args.catalogue c.args.other.now c.args.path.now items more) _ _ c.from_residual-in_err-made.ensures.1
-    (fault_remakes standing c.args.id.now c.args.catalogue c.in_ok-below.below c.args.other.now c.in-Some.entry c.args.path.now items more _ next (c.in_ok-below.ensures.told standing told)
+    left_by (Remakes standing answers p c.args.id.now c.args.catalogue [] items more) _ _ c.from_residual-in_err-made.ensures.1
+    (fault_remakes standing answers p c.args.id.now c.args.catalogue c.in_ok-below.below c.in-Some.entry [] items more _ next (c.in_ok-below.ensures.told standing told)
     (c.in_err-made.ensures.way standing (c.nested_catalogue.ensures.unchanged ∙ told)))
 
 pub returns-in_err-keep-clause-way : goal.returns-in_err-keep-clause-way
 returns-in_err-keep-clause-way g m c = λ standing told.
-    left_by (Remakes standing c.args.id.now c.args.catalogue c.args.other.now c.args.path.now c.args.added.now.items c.keep.new.added.items) _ _ c.from_residual-in_err-keep.ensures.1 (λ root place on has. tt)
+    let p = c.args.path.now in
+    left_by (Remakes standing (λ k r. Joins k c.args.other.now p r) p c.args.id.now c.args.catalogue [] c.args.added.now.items c.keep.new.added.items) _ _ c.from_residual-in_err-keep.ensures.1 (λ root place on has. tt)
 
 pub returns-clause-way : goal.returns-clause-way
 returns-clause-way g m c = λ standing told.
-    let next : IsNext c.args.catalogue c.args.path.now c.in-Some.entry = rw c.in-Some.is at c.in_ok-entry.ensures.found in
-    remade_above standing c.args.catalogue c.in_ok-below.below c.args.other.now c.with_entry-catalogue.result c.in-Some.entry c.args.path.now c.args.added.now.items c.rebuilt.new.added.items c.keep.new.added.items c.in_ok-made.made c.in_ok-keep.field-0
-    next (c.in_ok-below.ensures.told standing told) (c.in_ok-made.ensures.way standing (c.nested_catalogue.ensures.unchanged ∙ told)) c.with_entry-catalogue.ensures
+    let p = c.args.path.now in
+    let next : IsNext c.args.catalogue p c.in-Some.entry = rw c.in-Some.is at c.in_ok-entry.ensures.found in
+    remade_above standing (λ k r. Joins k c.args.other.now p r) p c.args.catalogue c.in_ok-below.below c.with_entry-catalogue.result c.in-Some.entry [] c.args.added.now.items c.rebuilt.new.added.items c.keep.new.added.items
+    c.in_ok-made.made c.in_ok-keep.field-0 next (c.in_ok-below.ensures.told standing told) (c.in_ok-made.ensures.way standing (c.nested_catalogue.ensures.unchanged ∙ told)) c.with_entry-catalogue.ensures
     (record { hash = c.in_ok-keep.ensures.hash; size = c.in_ok-keep.ensures.size; added = c.in_ok-keep.ensures.added })

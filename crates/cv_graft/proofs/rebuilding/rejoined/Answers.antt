@@ -1,7 +1,7 @@
-use Rattle.std.proofs.Common.{Ok, Err}
-use Rattle.cv_graft.specs.BothInner.{Rejoins}
+use Rattle.std.proofs.Common.{[], Ok, Err}
+use Rattle.cv_graft.specs.JoinsInner.{Joins}
+use Rattle.cv_graft.specs.MakesInner.{Rejoins}
 use Rattle.cv_graft.specs.WayInner.{Rebuilds}
-use Rattle.cv_graft.proofs.Both.{unjoined}
 use Rattle.cv_cut.specs.Catalogues.{contents_of}
 use Rattle.cv_graft.proofs.Rebuilds.{holder_made, holder_fault, joins_moved}
 use Rattle.cv_graft.proofs.rebuilding.rejoined.Goals as goal
@@ -25,7 +25,7 @@ returns-clause-made c = λ t n r d v asked is other.
 pub returns-in_err-joined-clause-rejoins : goal.returns-in_err-joined-clause-rejoins
 returns-in_err-joined-clause-rejoins c =
     let items = c.args.added.now.items in
-    left_by (Rejoins c.args.catalogue c.args.other.now c.args.path.now items items) _ _ c.from_residual.ensures.1 (unjoined c.args.catalogue c.args.other.now c.args.path.now items items _ c.in_err-joined.ensures.joins)
+    left_by (Rejoins (λ k r. Joins k c.args.other.now c.args.path.now r) c.args.catalogue [] items items) _ _ c.from_residual.ensures.1 c.in_err-joined.ensures.joins
 
 pub returns-clause-rejoins : goal.returns-clause-rejoins
 returns-clause-rejoins c = record {

@@ -1,25 +1,25 @@
-use Rattle.std.proofs.Common.{◌≡◌, true, false, length, Result, None, List, [], sym, ap, subst, ◌∙◌, arith}
+use Rattle.std.proofs.Common.{length, map, Result, List, [], ap, subst, ◌∙◌, arith}
 use Rattle.std.specs.Prelude.{IsErrOf}
 use Rattle.std.specs.Option.{option_copied}
 use Rattle.cv_base.specs.declared.id.Kind.TheVariants.{Catalogue}
 use Rattle.cv_base.specs.declared.object.Object.{Object}
 use Rattle.cv_base.specs.Path.{Path}
 use Rattle.cv_tree.specs.Tree.{put}
-use Rattle.cv_tree.specs.Changes.{has_place, nodes_of}
-use Rattle.cv_cut.specs.Reached.{HasCatalogue}
+use Rattle.cv_tree.specs.Changes.{nodes_of}
+use Rattle.cv_cut.specs.Cut.{catalogue_object}
 use Rattle.cv_cut.proofs.Lemmas.{left_by}
-use Rattle.cv_graft.specs.Placed.{Places, PlacesNothing}
+use Rattle.cv_graft.specs.Placed.{Places}
 use Rattle.cv_graft.specs.PlacedInner.{IsSet}
+use Rattle.cv_graft.specs.PlacedWay.{PlacesOnWay}
 use Rattle.cv_graft.specs.Way.{IsOfWay, TellsDamage}
 use Rattle.cv_graft.specs.declared.grafted.Grafted.{Grafted}
-use Rattle.cv_graft.specs.declared.made.Made.{Made}
 use Rattle.cv_graft.specs.declared.graft_fault.GraftFault.{GraftFault}
 use Rattle.cv_graft.specs.declared.graft_fault.GraftFault.TheVariants as fault
 use Rattle.cv_graft.proofs.Finding.{from_top, some_count, some_long, top_unread}
 use Rattle.cv_graft.proofs.Holders.{top_blamed, tells_way, tells_top}
 use Rattle.cv_graft.proofs.Grafts.{tree_after, top_is, top_taken}
 use Rattle.cv_graft.proofs.PlacedAbove.{early_fault, unread_place, cut_tells, cut_not_failed, own_piece, own_only, set_root, set_fault, fault_root}
-use Rattle.cv_graft.proofs.Unplaced.{early_nothing, nothing_placed, unread_nothing}
+use Rattle.cv_graft.proofs.PlacedWay.{early_way, placed_top, stands_alone, unplaced_top, unread_way}
 use Rattle.cv_graft.proofs.setting.below_root_with.Goals as goal
 
 pub rebuilt_with-requires-clause-piece : goal.rebuilt_with-requires-clause-piece
@@ -118,15 +118,6 @@ returns-in_err-made-clause-reads g c = g.met.S.Shelf.reads_then _ _ _ c.catalogu
 pub returns-clause-reads : goal.returns-clause-reads
 returns-clause-reads g c = g.met.S.Shelf.reads_then _ _ _ c.catalogue_at.ensures.reads c.rebuilt_with.ensures.reads
 
-pub returns-clause-lead : goal.returns-clause-lead
-returns-clause-lead g c = λ standing told.
-    let k = c.in_ok-catalogue.catalogue in
-    record {
-      top = k;
-      there = subst (λ (q : Path). HasCatalogue standing c.args.base.now.hash (record { path = q; row = None }) k) c.root-top.ensures (c.in_ok-catalogue.ensures.told standing told);
-      leads = c.in_ok-made.ensures.lead standing (c.catalogue_at.ensures.unchanged ∙ told);
-    }
-
 pub returns-in_err-catalogue-clause-most : goal.returns-in_err-catalogue-clause-most
 returns-in_err-catalogue-clause-most g c = (1, some_long c.args.path.now c.requires.path, c.in_err-catalogue.ensures.taken)
 
@@ -136,28 +127,35 @@ returns-in_err-made-clause-most g c = from_top (length c.in_ok-catalogue.catalog
 pub returns-clause-most : goal.returns-clause-most
 returns-clause-most g c = from_top (length c.in_ok-catalogue.catalogue.at) _ _ _ _ c.catalogue_at.ensures.taken c.rebuilt_with.ensures.most
 
-pub returns-in_err-piece-clause-parentless : goal.returns-in_err-piece-clause-parentless
-returns-in_err-piece-clause-parentless g c = λ standing told t way none.
+pub returns-in_err-piece-clause-way : goal.returns-in_err-piece-clause-way
+returns-in_err-piece-clause-way g c = λ standing told.
     let p = c.args.path.now in
     let s = nodes_of (option_copied c.args.part) in
-    left_by (PlacesNothing s p) _ _ c.from_residual-in_err-piece.ensures.1 (early_nothing c.in_ok-tree.tree s p _ c.in_ok-tree.ensures c.in_err-piece.ensures.fault)
+    left_by (PlacesOnWay standing c.args.base.now.hash p s) _ _ c.from_residual-in_err-piece.ensures.1
+    (early_way standing c.args.base.now.hash p s c.in_ok-tree.tree _ c.in_ok-tree.ensures c.in_err-piece.ensures.fault)
 
-pub returns-in_err-catalogue-clause-parentless : goal.returns-in_err-catalogue-clause-parentless
-returns-in_err-catalogue-clause-parentless g c = λ standing told t way none.
-    left_by (PlacesNothing (nodes_of (option_copied c.args.part)) c.args.path.now) _ _ c.from_residual-in_err-catalogue.ensures.1 (unread_nothing _ _ _)
-
-pub returns-in_err-made-clause-parentless : goal.returns-in_err-made-clause-parentless
-returns-in_err-made-clause-parentless g c = λ standing told t way none.
+pub returns-in_err-catalogue-clause-way : goal.returns-in_err-catalogue-clause-way
+returns-in_err-catalogue-clause-way g c = λ standing told.
     let p = c.args.path.now in
     let s = nodes_of (option_copied c.args.part) in
-    let top = top_is standing c.args.base.now t p c.root-top.result c.in_ok-catalogue.catalogue way c.requires.path (c.in_ok-catalogue.ensures.told standing told) c.root-top.ensures in
-    left_by (PlacesNothing s p) _ _ c.from_residual-in_err-made.ensures.1
-    (nothing_placed Made t s p _ none (c.in_err-made.ensures.place standing (c.catalogue_at.ensures.unchanged ∙ told) c.args.base.now.hash t p way top.on top.is))
+    left_by (PlacesOnWay standing c.args.base.now.hash p s) _ _ c.from_residual-in_err-catalogue.ensures.1 (unread_way standing c.args.base.now.hash p s _)
 
-pub returns-clause-parentless : goal.returns-clause-parentless
-returns-clause-parentless g c = λ standing told t way none.
+pub returns-in_err-made-clause-way : goal.returns-in_err-made-clause-way
+returns-in_err-made-clause-way g c = λ standing told.
     let p = c.args.path.now in
-    let top = top_is standing c.args.base.now t p c.root-top.result c.in_ok-catalogue.catalogue way c.requires.path (c.in_ok-catalogue.ensures.told standing told) c.root-top.ensures in
-    let place : has_place t p ≡ true = c.in_ok-made.ensures.place standing (c.catalogue_at.ensures.unchanged ∙ told) c.args.base.now.hash t p way top.on top.is in
-    let wrong : true ≡ false = sym place ∙ none in
-    cc
+    let s = nodes_of (option_copied c.args.part) in
+    let x = c.in_ok-piece.piece in
+    left_by (PlacesOnWay standing c.args.base.now.hash p s) _ _ c.from_residual-in_err-made.ensures.1
+    (unplaced_top standing c.args.base.now c.root-top.result p s x.tree c.in_ok-catalogue.catalogue (map (catalogue_object x.tree) x.cuts) c.new-added.result.items c.rebuilt_with.new.added.items _ c.requires.path
+    (stands_alone x c.in_ok-tree.tree s p c.in_ok-piece.ensures.piece c.in_ok-tree.ensures) c.root-top.ensures (c.in_ok-catalogue.ensures.told standing told)
+    (c.in_err-made.ensures.way standing (c.catalogue_at.ensures.unchanged ∙ told)))
+
+pub returns-clause-way : goal.returns-clause-way
+returns-clause-way g c = λ standing told.
+    let p = c.args.path.now in
+    let s = nodes_of (option_copied c.args.part) in
+    let x = c.in_ok-piece.piece in
+    placed_top standing c.args.base.now c.root-top.result p s x.tree c.in_ok-catalogue.catalogue x.cuts c.new-added.result.items c.rebuilt_with.new.added.items c.in_ok-made.made _
+    (stands_alone x c.in_ok-tree.tree s p c.in_ok-piece.ensures.piece c.in_ok-tree.ensures) c.root-top.ensures (c.in_ok-catalogue.ensures.told standing told)
+    (own_piece x c.in_ok-tree.tree p c.in_ok-piece.ensures.piece).cuts_are (c.in_ok-made.ensures.way standing (c.catalogue_at.ensures.unchanged ∙ told)) c.new-added.ensures.items
+    (ap (λ (l : List Object). record { root = record { hash = c.in_ok-made.made.hash; kind = Catalogue }; size = c.in_ok-made.made.size; added = l }) c.new.ensures)

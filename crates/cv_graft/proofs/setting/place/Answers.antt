@@ -1,13 +1,11 @@
-use Rattle.std.proofs.Common.{◌≡◌, ◌≢◌, [], length, refl, sym, ◌∙◌, arith}
+use Rattle.std.proofs.Common.{◌≡◌, [], length, refl, sym, ◌∙◌, arith}
 use Rattle.std.proofs.lemmas.Bool.Decides.{Decides-eqb}
 use Rattle.std.proofs.lemmas.List.{nil_from_length}
 use Rattle.std.specs.Option.{option_copied}
 use Rattle.cv_tree.specs.Changes.{nodes_of}
-use Rattle.cv_graft.specs.Placed.{HasLead}
 use Rattle.cv_graft.specs.Way.{IsOfWay}
 use Rattle.cv_graft.proofs.Holders.{tells_none}
-use Rattle.cv_graft.proofs.Parentless.{some_below}
-use Rattle.cv_graft.proofs.PlacedAbove.{if_ok, ok_more}
+use Rattle.cv_graft.proofs.Parentless.{nothing_placed, some_below}
 use Rattle.cv_graft.proofs.PlacedWhole.{placed_root}
 use Rattle.cv_graft.proofs.setting.place.Goals as goal
 
@@ -34,16 +32,19 @@ returns-then-is_empty-clause-taken g c = λ standing told t way. (0, omega arith
 pub returns-then-is_empty-clause-most : goal.returns-then-is_empty-clause-most
 returns-then-is_empty-clause-most g c = (0, omega arith, refl)
 
-pub returns-then-is_empty-clause-lead : goal.returns-then-is_empty-clause-lead
-returns-then-is_empty-clause-lead g c = λ standing told.
+pub returns-then-is_empty-clause-way : goal.returns-then-is_empty-clause-way
+returns-then-is_empty-clause-way g c = λ standing told some.
     let size = (Decides-eqb (length c.names.result.now) 0).0 (sym c.is_empty.ensures ∙ c.if-is_empty.true) in
-    let root : c.args.path.now ≡ [] = sym c.names.ensures.names ∙ nil_from_length c.names.result.now size in
-    if_ok _ (c.args.path.now ≢ [] → HasLead standing c.args.base.now.hash c.args.path.now) (λ some. absurd (some root))
+    absurd (some (sym c.names.ensures.names ∙ nil_from_length c.names.result.now size))
 
-pub returns-clause-lead : goal.returns-clause-lead
-returns-clause-lead g c = λ standing told. ok_more _ (HasLead standing c.args.base.now.hash c.args.path.now) _ (λ lead some. lead) (c.below_root_with.ensures.lead standing told)
+pub returns-clause-way : goal.returns-clause-way
+returns-clause-way g c = λ standing told some. c.below_root_with.ensures.way standing told
 
 pub returns-then-is_empty-clause-parentless : goal.returns-then-is_empty-clause-parentless
 returns-then-is_empty-clause-parentless g c = λ standing told t way none.
     let size = (Decides-eqb (length c.names.result.now) 0).0 (sym c.is_empty.ensures ∙ c.if-is_empty.true) in
     absurd (some_below t c.args.path.now none (sym c.names.ensures.names ∙ nil_from_length c.names.result.now size))
+
+pub returns-clause-parentless : goal.returns-clause-parentless
+returns-clause-parentless g c = λ standing told t way none.
+    nothing_placed standing c.args.base.now.hash t c.args.path.now way (nodes_of (option_copied c.args.part)) c.below_root_with.result none (c.below_root_with.ensures.way standing told)

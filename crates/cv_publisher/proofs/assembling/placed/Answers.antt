@@ -17,8 +17,8 @@ pub returns-in-Ok-delivered : goal.returns-in-Ok-delivered
 returns-in-Ok-delivered c =
     let set : IsSet c.args.plan.now c.args.base (standing c.args.fetched) c.args.part.now c.place.result = record {
       told = c.place.ensures.told (standing c.args.fetched) refl;
+      way = c.place.ensures.way (standing c.args.fetched) refl;
       whole = c.place.ensures.whole;
-      lead = c.place.ensures.lead (standing c.args.fetched) refl;
     } in
     is_set c.in-Ok.grafted c.in-Ok-delivered.delivery (subst (IsSet c.args.plan.now c.args.base (standing c.args.fetched) c.args.part.now) c.in-Ok.is set)
     (subst (λ (s : Shelf). Delivers c.args.plan.now.changes.objects s c.in-Ok.grafted c.in-Ok-delivered.delivery) c.place.ensures.reads c.in-Ok-delivered.ensures) refl
@@ -27,8 +27,8 @@ pub returns-in-Err-PathCollision : goal.returns-in-Err-PathCollision
 returns-in-Err-PathCollision c =
     let set : IsSet c.args.plan.now c.args.base (standing c.args.fetched) c.args.part.now c.place.result = record {
       told = c.place.ensures.told (standing c.args.fetched) refl;
+      way = c.place.ensures.way (standing c.args.fetched) refl;
       whole = c.place.ensures.whole;
-      lead = c.place.ensures.lead (standing c.args.fetched) refl;
     } in
     rw c.in-Err-PathCollision.field-0-is
     (collides c.in-Err-PathCollision.first c.in-Err-PathCollision.second
@@ -38,8 +38,8 @@ pub returns-in-Err-CatalogueFull : goal.returns-in-Err-CatalogueFull
 returns-in-Err-CatalogueFull c =
     let set : IsSet c.args.plan.now c.args.base (standing c.args.fetched) c.args.part.now c.place.result = record {
       told = c.place.ensures.told (standing c.args.fetched) refl;
+      way = c.place.ensures.way (standing c.args.fetched) refl;
       whole = c.place.ensures.whole;
-      lead = c.place.ensures.lead (standing c.args.fetched) refl;
     } in
     rw c.in-Err-CatalogueFull.field-0-is
     (is_full c.in-Err-CatalogueFull.path
