@@ -4,6 +4,7 @@ ghost use Rattle.std.specs.List.{find};
 ghost use Rattle.cv_base.specs.Counts.{HasCause};
 ghost use Rattle.cv_base.specs.Told.{WhereTold};
 ghost use Rattle.cv_base.specs.declared.id.Kind.TheVariants as kinds;
+ghost use Rattle.cv_base.specs.declared.limits.TheConstants.{LAST_REVISION};
 ghost use Rattle.cv_base.specs.Marker.{marker, ends_in};
 ghost use Rattle.cv_history.specs.Record.{IsRecord};
 ghost use Rattle.cv_swap.specs.declared.stage.Stage.TheVariants as stage;
@@ -22,7 +23,7 @@ ghost use Rattle.cv_desk.specs.Committing.{has_base, holder_of, taken_by, opposi
 ghost use Rattle.cv_desk.specs.CommittingInner.{Offers, GraftsOffered};
 
 use crate::answer::Answer;
-use cv_base::{Kind, NoMemory, ObjectId, RepoPath, Target, Text};
+use cv_base::{Kind, LAST_REVISION, NoMemory, ObjectId, RepoPath, Target, Text};
 use cv_gate::Reply;
 use cv_graft::{Grafted, graft};
 use cv_history::Record;
@@ -33,9 +34,6 @@ use cv_seal::Signer;
 use cv_swap::Line;
 use cv_vault::Vault;
 use std::alloc::Global;
-
-/// The most revisions of a repository.
-const REVISION_LIMIT: u64 = 262_144;
 
 /// Whether a root is that of a revision from this one on.
 fn has_base(records: &[Record], from: u64, root: &[u8; 20]) -> bool
@@ -78,7 +76,7 @@ pub(crate) fn opposition<V: Vault + Drop, S: Signer + Drop>(
 ) -> Option<Answer>
     ensures { result ≡ opposition line.now from old_root.now tag.now }
 {
-    if line.head().revision >= REVISION_LIMIT {
+    if line.head().revision >= LAST_REVISION {
         return Some(answer!(Reply::RevisionsFull));
     }
     if !has_base(line.records(), from, old_root) {
@@ -184,7 +182,7 @@ fn next_record(
     offered: [u8; 20],
     tag: &Text,
 ) -> Result<Record, NoMemory>
-    requires { head.now.revision < 262144 }
+    requires { head.now.revision < LAST_REVISION }
     ensures { IfOk result (λ r. r ≡ next_record head.now lease.now key.now moment grafted.now offered tag.now) }
 {
     let previous = head.history;
@@ -213,7 +211,7 @@ pub(crate) fn ready<V: Vault + Drop, S: Signer + Drop>(
     offered: [u8; 20],
     tag: &Text,
 ) -> Result<Head, Answer>
-    requires room { line.old.head.revision < 262144 }
+    requires room { line.old.head.revision < LAST_REVISION }
     requires calm { line.old.stage ≢ stage.Doubtful }
     requires unmarked { ends_in marker lease.now.path ≡ false }
     requires key { is_key_id key.now ≡ true }

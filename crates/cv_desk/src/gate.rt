@@ -20,7 +20,7 @@ use crate::gate_state::GateState;
 use crate::taken::{Course, Readied, Taken};
 use crate::waiting::Waiting;
 use cv_base::{Bytes, Name, NoMemory, ObjectId};
-use cv_gate::{Entry, LeaseLine, Op, Reply};
+use cv_gate::{Entry, JOURNAL_LIMIT, LeaseLine, Op, Reply};
 use cv_manifest::Head;
 use cv_ports::ShelfFault;
 use cv_seal::Signer;
@@ -29,9 +29,6 @@ use cv_swap::{Line, OpenFault};
 use cv_vault::Vault;
 use std::alloc::Global;
 use std::marker::Model;
-
-/// The most entries of a journal.
-pub const JOURNAL_LIMIT: usize = 262_144;
 
 /// The gate of a repository: it grants and ends leases, stores objects and commits trees, one step after another, and keeps
 /// a journal of all that was asked of it. A step may be made in two calls: `begin` makes a commit ready, and `finish` ends it.

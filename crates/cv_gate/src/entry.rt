@@ -4,6 +4,9 @@ use crate::act::Act;
 use crate::reply::Reply;
 use cv_base::Text;
 
+/// The most entries of a journal.
+pub const JOURNAL_LIMIT: usize = 262_144;
+
 /// What the journal keeps of one step.
 #[derive(Debug, Drop)]
 pub struct Entry {

@@ -12,7 +12,7 @@ mod reply;
 
 pub use act::Act;
 pub use desk::Desk;
-pub use entry::Entry;
+pub use entry::{Entry, JOURNAL_LIMIT};
 pub use lease_line::LeaseLine;
 pub use op::Op;
 pub use reply::Reply;

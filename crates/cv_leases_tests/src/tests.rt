@@ -4,8 +4,8 @@ ghost use Rattle.std.specs.Prelude.{◌≡◌, ◌≤◌, ◌<◌, ◌++◌, ◌
 ghost use Rattle.std.specs.List.{AllByRecursion};
 ghost use Rattle.cv_leases.specs.Leases.{lease_of, unexpired};
 
-use cv_leases::{Lease, LeaseFault, LeaseTable};
 use cv_base::{NoMemory, RepoPath, Steps, Text, Token};
+use cv_leases::{Lease, LeaseFault, LeaseTable};
 use std::alloc::Global;
 use std::marker::Brand;
 use std::sync::ledger::{Blank, Ledger};

@@ -14,4 +14,3 @@ pub use chain::Chain;
 pub use facts::{a_new_chain_is_empty, an_id_has_one_list};
 pub use id::Id;
 pub use lane::Lane;
-

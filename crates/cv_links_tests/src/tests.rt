@@ -4,8 +4,8 @@ ghost use Rattle.std.specs.Prelude.{◌≡◌, ◌<◌, Some, None, IfSome, IfOk
 ghost use Rattle.cv_links.specs.Arena.{IsLive, IsFree};
 ghost use Rattle.cv_links.specs.Chains.{IsChain, list_of};
 
-use cv_links::{Arena, Chain, Id, Lane};
 use cv_base::Steps;
+use cv_links::{Arena, Chain, Id, Lane};
 use std::alloc::Global;
 use std::marker::Brand;
 use std::sync::ledger::{Blank, Ledger};

@@ -1,7 +1,7 @@
 //! What the contracts can't say: values from outside, and that calls find memory.
 
-use cv_manifest::{Head, Manifest, ManifestFault};
 use cv_base::Name;
+use cv_manifest::{Head, Manifest, ManifestFault};
 use cv_seal::{KeyedHash, Signer};
 use sha1::Sha1;
 use std::alloc::Global;
