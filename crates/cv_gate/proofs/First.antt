@@ -18,7 +18,7 @@ use Rattle.cv_swap.proofs.Lemmas.{first_sound as first_alone}
 use Rattle.cv_gate.proofs.Effects.{bytes_are}
 
 -- its record and its catalogue
-abbrev first_objects : Revision → List Object
+abbrev pub first_objects : Revision → List Object
 first_objects first = record_object first ∷ catalogue_object first.tree [] ∷ []
 
 pub first_sound : (s : Shelf) (now : ℕ) → now < 2 ^ 62 → IsShelf s → HasAll (first_objects (first_revision now)) s → AreSound s (first_revision now ∷ [])

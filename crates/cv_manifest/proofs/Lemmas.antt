@@ -1,2 +1,2 @@
 -- What this crate proves for those above it: a text is one manifest or has one fault.
-pub use Rattle.cv_manifest.proofs.Exact.{no_fault, one_reading}
+pub use Rattle.cv_manifest.proofs.Exact.{Seals, no_fault, one_reading}

@@ -1,6 +1,6 @@
 -- What this crate proves for those above it: how rows stand, and how row files are spelled and put in order.
 pub use Rattle.cv_rows.proofs.Covers.{covers_below, covers_last, ends_so, not_above}
-pub use Rattle.cv_rows.proofs.FileLaws.{one_file}
+pub use Rattle.cv_rows.proofs.FileLaws.{HasFile, one_file}
 pub use Rattle.cv_rows.proofs.NestedLaws.{fits_there}
 pub use Rattle.cv_rows.proofs.PlaceLaws.{one_place, same_by_key, stands_contained}
 pub use Rattle.cv_rows.proofs.Placed.{each_long, each_stands, row_stands}

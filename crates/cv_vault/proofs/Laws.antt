@@ -12,6 +12,6 @@ pub use Rattle.cv_vault.proofs.Quiet.{quiet_none, quiet_then, quiet_walks, quiet
 pub use Rattle.cv_vault.proofs.Walking.{stand, call, bind, looser, leaves_then, leaves_more, gains_none, gains_then, gains_more, within_image, within_then, within_more, may_before}
 pub use Rattle.cv_vault.proofs.Walking.{gains_wider, within_wider, walks_wider}
 -- syncs as walks, and what is sure behind one
-pub use Rattle.cv_vault.proofs.Replacing.{ok, err, sync_ok, sync_err, calm_then, sure_then, sure_waits}
+pub use Rattle.cv_vault.proofs.Replacing.{Outcome, ok, err, sync_ok, sync_err, calm_then, sure_then, sure_waits}
 -- names that are spared, call by call
 pub use Rattle.cv_vault.proofs.Sparing.{spares_none, spares_then, spares_more, spares_read, spares_write, spares_rename, spares_sync}
