@@ -13,7 +13,10 @@ from vectors import constant, settle, table, text
 TREE = ("/a/ /a/.cvmfscatalog /a/b/ /a/b/.cvmfscatalog /a/b/f /a/d/ /a/d/x "
         "/0/ /0/.cvmfscatalog /0/l=../r /r")
 PATHS = ["/a/b", "/a", "/0", ""]
-CHANGES = 200
+
+# How far apart the bytes are that are changed, and how many changes at least leave a root that isn't whole.
+STEP = 5
+DEFECTS = 200
 
 # The number of a known catalogue, its path, and how many of the first catalogues the shelf lacks.
 KNOWN = [(3, "/other", 0), (2, "/0", 0), (1, "/a", 1), (1, "/other", 1), (3, "", 4)]
@@ -30,7 +33,6 @@ def sha1(data):
 NODES = cut_vectors.read(TREE)
 SHELF = [cut_vectors.catalogues(NODES)[path] for path in PATHS]
 CONTENTS = [content for kind, content in NODES.values() if kind == "file"]
-STEP = sum(len(data) for data in SHELF) // CHANGES
 
 
 def links():
@@ -209,7 +211,8 @@ def pairs(number, path, lacking):
 
 def items():
     assert faults(SHELF) == set()
-    answers = "".join(answer(change * STEP) for change in range(CHANGES))
+    answers = "".join(answer(place) for place in range(0, sum(len(data) for data in SHELF), STEP))
+    assert len(answers) - answers.count(WHOLE) >= DEFECTS
     mode = len(b"".join(SHELF[:3])) + SHELF[3].index(key("/a") + key("")) + 39
     assert answer(mode) == "1"
     yield constant("TREE", "&str", text(TREE))

@@ -31,7 +31,7 @@ use Rattle.cv_base.specs.Target.{is_target}
 use Rattle.cv_load.proofs.Clearing.{directory_some}
 use Rattle.cv_load.proofs.Standing.{root_dir, Standing, so_root, so_below, stands_so, rules_of, same_contents, one_node, last_same, moved, named_by, not_empty, parent_standing}
 use Rattle.cv_load.proofs.Assembly.{IsWhole, all_filled, full}
-use Rattle.cv_load.proofs.Means.{means}
+use Rattle.cv_load.proofs.Means.{measured, measured_means}
 use Rattle.cv_cut.specs.Good.{IsGood, good}
 
 -- ---- the rows of one catalogue
@@ -220,4 +220,4 @@ whole_of_good shelf top is =
     (f.0, record { tree = tree_there f.1.filled f.1.rows; filled = f.1.filled; rows = f.1.rows })
 
 pub a_tree_is_meant : (shelf : Shelf) (top : List ℕ) → IsShelf shelf → IsGood shelf top root_place → (t : Nodes) × Means shelf top t
-a_tree_is_meant shelf top hashes is = let w = whole_of_good shelf top is in (w.0, means w.1 hashes)
+a_tree_is_meant shelf top hashes is = let w = whole_of_good shelf top is in (w.0, measured_means shelf top w.0 hashes (measured w.1))

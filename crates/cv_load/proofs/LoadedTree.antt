@@ -6,13 +6,13 @@ use Rattle.cv_base.specs.Path.{Path, path_cmp}
 use Rattle.cv_base.specs.PathOrder.{path_total, same_path_is}
 use Rattle.cv_base.specs.declared.id.ObjectId.{ObjectId}
 use Rattle.cv_base.specs.declared.id.Kind.TheVariants as id_kind
-use Rattle.cv_ports.specs.Shelf.{Shelf, IsShelf}
+use Rattle.cv_ports.specs.Shelf.{Shelf}
 use Rattle.cv_tree.specs.Tree.{Nodes, IsTree, single}
 use Rattle.cv_tree.specs.declared.node.Node.{Node}
 use Rattle.cv_tree.specs.declared.node.Node.TheVariants.{Dir}
 use Rattle.cv_rows.specs.Catalogue.{Contents}
 use Rattle.cv_rows.specs.Places.{StandsAt, root}
-use Rattle.cv_cut.specs.Means.{Means}
+use Rattle.cv_load.specs.Answers.{IsMeasured}
 use Rattle.cv_cut.specs.Reached.{Place, ReachesCatalogue, itself, root_place, HasCatalogue}
 use Rattle.cv_cut.specs.declared.load_fault.LoadFault.{LoadFault}
 use Rattle.cv_load.specs.Growth.{IsRootOf}
@@ -20,7 +20,7 @@ use Rattle.cv_load.specs.GrowthInner.{IsOfRows, FillsFrom}
 use Rattle.cv_cut.proofs.Lemmas.{unopened}
 use Rattle.cv_load.proofs.Assembly.{IsWhole}
 use Rattle.cv_load.proofs.Standing.{root_dir}
-use Rattle.cv_load.proofs.Means.{means}
+use Rattle.cv_load.proofs.Means.{measured}
 use Rattle.cv_cut.specs.Opening.{MayFail, Opens}
 
 abbrev pub place_at : Path → Place
@@ -68,5 +68,5 @@ loads_whole shelf id p c old new e stands is h tree =
     record { tree = tree; filled = f.filled; rows = f.rows }
 
 pub loads_all : (shelf : Shelf) (id : ObjectId) (p : Path) (c : Contents) (old new : Nodes) → p ≡ [] → HasCatalogue shelf id.hash (place_at p) c → IsRootOf c old
-    → FillsFrom shelf id c old new {X = Unit {0}} (Ok (tt {0})) → IsTree new → IsShelf shelf → Means shelf id.hash new
-loads_all shelf id p c old new e stands is h tree hashes = means (loads_whole shelf id p c old new e stands is h tree) hashes
+    → FillsFrom shelf id c old new {X = Unit {0}} (Ok (tt {0})) → IsTree new → IsMeasured shelf id.hash new
+loads_all shelf id p c old new e stands is h tree = measured (loads_whole shelf id p c old new e stands is h tree)

@@ -39,7 +39,9 @@ use Rattle.cv_base.proofs.Laws.{first_true}
 use Rattle.cv_tree.specs.declared.node.FileRef.{FileRef}
 use Rattle.cv_cut.specs.Cuts.{region}
 use Rattle.cv_cut.specs.Catalogues.{SharesKey, IsFull as PassesLimit}
-use Rattle.cv_cut.specs.Means.{Means, HasContentOf}
+use Rattle.cv_cut.specs.Means.{Means}
+use Rattle.cv_cut.specs.Good.{HasSize}
+use Rattle.cv_load.specs.Answers.{IsMeasured}
 use Rattle.cv_load.proofs.Assembly.{file_row}
 use Rattle.cv_load.proofs.OwnRows.{own_keys, some_hash, row_content}
 use Rattle.cv_load.proofs.OwnCatalogues.{part_open, spelled}
@@ -160,8 +162,8 @@ module _ {shelf : Shelf} {top : List ℕ} {t : Nodes} (whole : IsWhole shelf top
             omega (arith, long, size, limit)
       ]
 
-  files : IsShelf shelf → (q : Path) (attr : Attr) (file : FileRef) → get t q ≡ Some (node.File attr file) → HasContentOf shelf file
-  files hashes q attr file e =
+  files : (q : Path) (attr : Attr) (file : FileRef) → get t q ≡ Some (node.File attr file) → HasSize shelf (object_id file.hash id_kind.Plain) file.size
+  files q attr file e =
       let o = standing_of whole q (node.File attr file) e in
       let s = o.0 in
       let kind = file_row s.row (ap (λ (x : Node). is_file (Some x)) (sym o.1)) in
@@ -170,16 +172,26 @@ module _ {shelf : Shelf} {top : List ℕ} {t : Nodes} (whole : IsWhole shelf top
       let same = same_contents shelf s.hash s.hash s.place s.place s.contents f.contents refl refl s.open_.has f.has in
       let has = subst (λ (c : Contents). Contains c.rows s.row) same (stands_contained s.stands) in
       let sized = f.files s.row has (hash_of s.row.hash) kind (content_hash s.row kind (row_content s.contents s.row (rules_of s.open_) (stands_contained s.stands))) in
-      let id = object_id file.hash id_kind.Plain in
-      hashed_too (shelf id) file.hash file.size (λ bytes there. sym (hashes.hash id bytes there))
-      (subst (λ (h : List ℕ). IsSomeAnd (shelf (object_id h id_kind.Plain)) (λ bytes. length bytes ≡ file.size)) (sym parts.0)
-      (subst (λ (n : ℕ). IsSomeAnd (shelf (object_id (hash_of s.row.hash) id_kind.Plain)) (λ bytes. length bytes ≡ n)) (sym parts.1) sized))
+      subst (λ (h : List ℕ). HasSize shelf (object_id h id_kind.Plain) file.size) (sym parts.0)
+      (subst (λ (n : ℕ). HasSize shelf (object_id (hash_of s.row.hash) id_kind.Plain) n) (sym parts.1) sized)
 
-  pub means : IsShelf shelf → Means shelf top t
-  means hashes = record {
+  pub measured : IsMeasured shelf top t
+  measured = record {
     tree = whole.tree;
     fits = record { apart = apart; limits = limits };
     root = hash_at top_opened;
     catalogues = λ p cut. bytes_at (cut_opened p cut);
-    files = files hashes;
+    files = files;
   }
+
+-- where bytes have the hashes of their ids, contents of the right sizes are the contents
+pub measured_means : (shelf : Shelf) (hash : List ℕ) (t : Nodes) → IsShelf shelf → IsMeasured shelf hash t → Means shelf hash t
+measured_means shelf hash t hashes is = record {
+  tree = is.tree;
+  fits = is.fits;
+  root = is.root;
+  catalogues = is.catalogues;
+  files = λ q attr file e.
+      let id = object_id file.hash id_kind.Plain in
+      hashed_too (shelf id) file.hash file.size (λ bytes there. sym (hashes.hash id bytes there)) (is.files q attr file e);
+}

@@ -7,6 +7,7 @@ ghost use Rattle.cv_ports.specs.Shelf.{Shelf, IsShelf, HasMore};
 ghost use Rattle.cv_tree.specs.Tree.{Nodes};
 ghost use Rattle.cv_cut.specs.Means.{Means};
 ghost use Rattle.cv_cut.specs.Reached.{Lacking, Bad, root_place, Place, HasCatalogue, Reaches, LackingFrom, BadFrom};
+ghost use Rattle.cv_load.specs.Answers.{IsMeasured};
 ghost use Rattle.cv_load.specs.Known.{is_known, with_pair, HasPair, AreKnown, AreWhole};
 ghost use Rattle.cv_load.specs.NewFetches.{FetchesNew};
 ghost use Rattle.cv_load.specs.declared.known_set.KnownSet.{KnownSet};
@@ -29,6 +30,11 @@ pub fn nothing_is_in_the_way()
     ensures lacking { (shelf : Shelf) (hash : List ℕ) (t : Nodes) → Means shelf hash t → (x : ObjectId) → Lacking shelf hash x → ⊥ }
     ensures bad { (shelf : Shelf) (hash : List ℕ) (t : Nodes) → Means shelf hash t → (x : ObjectId) → Bad shelf hash x → ⊥ }
     ensures damaged { (shelf : Shelf) (hash : List ℕ) (t : Nodes) → Means shelf hash t → (id : ObjectId) (found : List ℕ) → IsDamaged shelf hash id found → ⊥ }
+{}
+
+/// On a shelf whose bytes have the hashes of their ids the tree that a load gives is the one that the hash means.
+pub fn a_measured_tree_is_meant()
+    ensures { (shelf : Shelf) (hash : List ℕ) (t : Nodes) → IsShelf shelf → IsMeasured shelf hash t → Means shelf hash t }
 {}
 
 /// A good root means a tree, on a shelf whose bytes have the hashes of their ids.

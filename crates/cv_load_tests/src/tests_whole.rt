@@ -24,12 +24,12 @@ const TREE: &str =
 const LINKS: [(usize, usize, usize); 3] = [(1, 0, 28), (3, 1, 28), (3, 2, 60)];
 
 /// How far apart the bytes are that are changed, of the bytes of all catalogues.
-const STEP: usize = 6;
+const STEP: usize = 5;
 
 /// What is to be answered where one byte is one greater, for each change: the number of the catalogue that is bad, `-` for an
 /// object that is missing, `+` for a whole root.
 const ANSWERS: &str =
-    "000000000+++0----000000000+++0----00000000000011111111111111111111+++11---1111111+++111111111+++1----111111111000111---1122222222+++22---222222222222222222222+++22+3333333311133333333322233333333+++33";
+    "0000000000++++00----00000000000+++00----000000000000000111111111111111111111111++++11----11111111++++1111111111++++11----111111111110001111----112222222222+++22----2222222222222222222222222++++22233333333331111333333333322223333333333++++33----33333333++++333----333----3";
 
 /// The place of a mode of the row that names the catalogue of `/a`.
 const MODE: usize = 1031;
