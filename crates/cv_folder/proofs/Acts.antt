@@ -6,16 +6,16 @@ use Rattle.std.specs.declared.io.ErrorKind.{ErrorKind}
 use Rattle.std.specs.declared.io.ErrorKind.TheVariants.{NotFound}
 use Rattle.cv_folder.specs.declared.folder_vault.FolderVault.{FolderVault}
 use Rattle.cv_folder.specs.declared.hold.Hold.{Hold}
-use Rattle.cv_folder.specs.declared.hold.Hold.TheVariants.{Unasked, Held, Absent, Refused}
-use Rattle.cv_folder.specs.declared.seen.Seen.{Seen}
-use Rattle.cv_folder.specs.Calls.{Log, Removed}
+use Rattle.cv_folder.specs.declared.hold.Hold.TheVariants.{Absent, Held, Refused, Unasked}
+use Rattle.cv_system.specs.declared.seen.Seen.{Seen}
+use Rattle.cv_system.specs.Calls.{Log, Removed}
 use Rattle.cv_folder.specs.FolderVault.{Acts, AsksAlone, IsUncalled}
 use Rattle.cv_folder.specs.FolderVaultInner.{FindsNamed, MovesOn}
-use Rattle.cv_folder.specs.Hold.{Asked, AskedAt, Asks, IsHeld, IsRoot, LocksNot, with_slash}
-use Rattle.cv_folder.specs.Looks.{Finds, IsReading, ReadsFile}
-use Rattle.cv_folder.specs.Names.{is_name, path_of}
+use Rattle.cv_folder.specs.Hold.{Asked, AskedAt, Asks, IsHeld, IsRoot, LocksNot}
+use Rattle.cv_system.specs.Names.{with_slash, is_name, path_of}
+use Rattle.cv_system.specs.Looks.{Finds, IsReading, ReadsFile}
 use Rattle.cv_folder.specs.Reads.{HasFile, LacksFile, LooksInVain, MeasuresNamed, ReadsNamed}
-use Rattle.cv_folder.specs.Steps.{Makes, Quiet, Tries}
+use Rattle.cv_system.specs.Steps.{Makes, Quiet, Tries}
 use Rattle.cv_folder.specs.Writes.{MovesNamed, RemovesNamed}
 
 -- what holds holds where a call is made too

@@ -3,19 +3,20 @@ use Rattle.std.proofs.Common.{◌≡◌, ◌∙◌, ◌+◌, ◌++◌, ◌∷◌
 use Rattle.std.specs.Prelude.{IsOk, IsTrue, OnOk, is_ok}
 use Rattle.cv_folder.specs.declared.folder_vault.FolderVault.{FolderVault}
 use Rattle.cv_folder.specs.declared.hold.Hold.{Hold}
-use Rattle.cv_folder.specs.declared.hold.Hold.TheVariants.{Unasked, Absent}
-use Rattle.cv_folder.specs.Calls.{Log}
-use Rattle.cv_folder.specs.declared.seen.Seen.{Seen}
+use Rattle.cv_folder.specs.declared.hold.Hold.TheVariants.{Absent, Unasked}
+use Rattle.cv_system.specs.Calls.{Log}
+use Rattle.cv_system.specs.declared.seen.Seen.{Seen}
 use Rattle.cv_folder.specs.FolderVault.{Acts, AsksAlone, IsUncalled}
 use Rattle.cv_folder.specs.FolderVaultInner.{MovesOn}
 use Rattle.cv_folder.specs.Hold.{Begins, IsHeld, MakesRoot}
-use Rattle.cv_folder.specs.Names.{folder_of, is_name, next_of, path_of}
-use Rattle.cv_folder.specs.Steps.{Tries}
-use Rattle.cv_folder.specs.Syncs.{SettlesAll, SettlesFirst, SyncsAll, SyncsHeld, syncs}
-use Rattle.cv_folder.specs.Looks.{folders_past}
+use Rattle.cv_system.specs.Names.{folder_of, is_name, next_of, path_of}
+use Rattle.cv_system.specs.Steps.{Tries}
+use Rattle.cv_system.specs.Syncs.{SettlesAll, syncs}
+use Rattle.cv_folder.specs.Syncs.{SettlesFirst, SyncsAll, SyncsHeld}
+use Rattle.cv_system.specs.Looks.{folders_past}
 use Rattle.cv_folder.specs.Writes.{Leads, MovesFile, Prepares, Puts, WritesFile}
 use Rattle.cv_folder.proofs.Acts.{acts_so}
-use Rattle.cv_folder.proofs.Stepping.{no_step}
+use Rattle.cv_system.proofs.Laws.{no_step}
 
 -- a write begins as the folder is asked for
 pub begins_asked : {S F N : Type 0} (log : S → Log) (before after : FolderVault S F N) → AsksAlone log before after

@@ -5,9 +5,10 @@ use Rattle.std.specs.IoError.{error_kind}
 use Rattle.std.specs.declared.io.Error.{Error}
 use Rattle.cv_folder.specs.declared.hold.Hold.{Hold}
 use Rattle.cv_folder.specs.declared.hold.Hold.TheVariants.{Absent}
-use Rattle.cv_folder.specs.Calls.{Log, Made, and_call, Done}
+use Rattle.cv_system.specs.Calls.{Log, Made, and_call, Done}
 use Rattle.cv_folder.specs.FolderVaultInner.{made_hold}
-use Rattle.cv_folder.specs.Hold.{Locks, LocksAndLeaves, MakesRoot, with_slash}
+use Rattle.cv_folder.specs.Hold.{Locks, LocksAndLeaves, MakesRoot}
+use Rattle.cv_system.specs.Names.{with_slash}
 
 -- a folder that was made is held, another vault holds it, or it couldn't be locked
 pub makes_root : {F : Type 0} (root path : List ℕ) (before made after : Log) (result : Result (Option F) Error) → path ≡ with_slash root → made ≡ and_call (Made root Done) before

@@ -1,14 +1,7 @@
 mod Acts
-mod CutNames
+mod Anew
 mod Filing
 mod Holding
-mod LastParts
 mod Listed
-mod Looking
 mod Notes
 mod Preparing
-mod Reading
-mod Seeing
-mod Settling
-mod Stepping
-mod Trying

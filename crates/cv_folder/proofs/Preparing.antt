@@ -1,15 +1,13 @@
 -- Folders that are made on the way of a path.
 use Rattle.std.proofs.Common.{◌≡◌, ◌∙◌, ◌<◌, ◌≤◌, ◌++◌, ◌∷◌, [], suc, List, ℕ, length, take, drop, get_or, None, Some, Ok, Err, refl, sym, ap, subst, inl, inr, arith, take-append-drop, drop-cons, length-take}
 use Rattle.std.specs.Prelude.{◌⊎◌, ◌==◌, if◌then◌else◌, OnOk, Result, slice_index}
-use Rattle.cv_folder.specs.LooksInner.{folders_at}
-use Rattle.cv_folder.specs.Calls.{Log, Looked, Made, Done, Outcome, and_call}
-use Rattle.cv_folder.specs.declared.seen.Seen.{Seen}
-use Rattle.cv_folder.specs.declared.seen.Kind.TheVariants.{Folder}
-use Rattle.cv_folder.specs.LooksInner.{Looks}
-use Rattle.cv_folder.specs.Steps.{IsLook, Makes, Still, Then}
+use Rattle.cv_system.specs.Looks.{folders_at, Looks}
+use Rattle.cv_system.specs.Calls.{Log, Looked, Made, Done, Outcome, and_call}
+use Rattle.cv_system.specs.declared.seen.Seen.{Seen}
+use Rattle.cv_system.specs.declared.seen.Kind.TheVariants.{Folder}
+use Rattle.cv_system.specs.Steps.{IsLook, Makes, Still, Then}
 use Rattle.cv_folder.specs.Writes.{IsOnWay, Leads, LeadsOn, MakesMissing, Prepares}
-use Rattle.cv_folder.proofs.Trying.{two_calls}
-use Rattle.cv_folder.proofs.Stepping.{no_step, steps_then, steps_wider}
+use Rattle.cv_system.proofs.Laws.{two_calls, no_step, steps_then, steps_wider}
 
 -- what is before a slash of a path is on its way
 on_way : (path folder : List ℕ) (end : ℕ) → end < length path → folder ≡ take end path → get_or path end 0 ≡ 47 → IsOnWay end path folder

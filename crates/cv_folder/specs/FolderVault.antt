@@ -4,11 +4,11 @@ use Rattle.cv_vault.specs.Disk.{Disk}
 use Rattle.cv_vault.specs.Moments.{Calls}
 use Rattle.cv_folder.specs.declared.folder_vault.FolderVault.{FolderVault}
 use Rattle.cv_folder.specs.declared.hold.Hold.{Hold}
-use Rattle.cv_folder.specs.declared.hold.Hold.TheVariants.{Unasked, Absent, Refused}
-use Rattle.cv_folder.specs.Calls.{Log}
+use Rattle.cv_folder.specs.declared.hold.Hold.TheVariants.{Absent, Refused, Unasked}
+use Rattle.cv_system.specs.Calls.{Log}
 use Rattle.cv_folder.specs.Hold.{Asks}
-use Rattle.cv_folder.specs.Names.{folder_of, is_name, path_of}
-use Rattle.cv_folder.specs.Noted.{is_noted, Keeps}
+use Rattle.cv_system.specs.Names.{folder_of, is_name, path_of}
+use Rattle.cv_folder.specs.Noted.{Keeps, is_noted}
 use Rattle.cv_folder.specs.Syncs.{SyncsHeld}
 
 -- the folder of a name of the vault is noted

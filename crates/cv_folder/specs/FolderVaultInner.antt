@@ -5,11 +5,11 @@ use Rattle.cv_folder.specs.declared.hold.Hold.{Hold}
 use Rattle.cv_folder.specs.declared.hold.Hold.TheVariants.{Absent, Held, Refused}
 use Rattle.cv_folder.specs.Hold.{IsHeld}
 use Rattle.cv_folder.specs.Reads.{HasFile, LacksFile, LooksInVain}
-use Rattle.cv_folder.specs.Looks.{folders_past}
+use Rattle.cv_system.specs.Looks.{folders_past}
 use Rattle.cv_folder.specs.Writes.{Leads, MovesFile, Prepares}
-use Rattle.cv_folder.specs.declared.seen.Seen.{Seen}
-use Rattle.cv_folder.specs.Calls.{Log}
-use Rattle.cv_folder.specs.Names.{is_name, path_of}
+use Rattle.cv_system.specs.declared.seen.Seen.{Seen}
+use Rattle.cv_system.specs.Calls.{Log}
+use Rattle.cv_system.specs.Names.{is_name, path_of}
 
 -- this is a name of the vault, and its path is set
 abbrev pub IsAt : {S F N : Type 0} → FolderVault S F N → List ℕ → Type 0

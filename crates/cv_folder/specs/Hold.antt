@@ -3,9 +3,9 @@ use Rattle.std.specs.Prelude.{ℕ, ◌≡◌, ◌⊎◌, ◌+◌, ◌<◌, Bool,
 use Rattle.std.specs.declared.io.ErrorKind.{ErrorKind}
 use Rattle.std.specs.declared.io.ErrorKind.TheVariants.{AlreadyExists, NotFound}
 use Rattle.cv_folder.specs.declared.hold.Hold.{Hold}
-use Rattle.cv_folder.specs.declared.hold.Hold.TheVariants.{Unasked, Held, Absent, Refused}
-use Rattle.cv_folder.specs.Calls.{Log, Outcome, and_call, and_calls, Done, Failed, Opened, Locked, Made, Unmade}
-use Rattle.cv_folder.specs.Names.{is_part, last_part}
+use Rattle.cv_folder.specs.declared.hold.Hold.TheVariants.{Absent, Held, Refused, Unasked}
+use Rattle.cv_system.specs.Calls.{Log, Outcome, and_call, and_calls, Done, Failed, Opened, Locked, Made, Unmade}
+use Rattle.cv_system.specs.Names.{is_part, last_part, with_slash}
 
 -- the vault has its folder open and locked
 abbrev pub IsHeld : {F : Type 0} → Hold F → Type 0
@@ -13,10 +13,6 @@ IsHeld Unasked = ⊥
 IsHeld (Held file) = ⊤
 IsHeld Absent = ⊥
 IsHeld Refused = ⊥
-
--- a folder's path with the slash at its end
-abbrev pub with_slash : List ℕ → List ℕ
-with_slash folder = folder ++ 47 ∷ []
 
 -- a path that a vault's folder may have: its last part may be one of a name, and the system takes it with a slash at its end
 abbrev pub IsRoot : List ℕ → Type 0

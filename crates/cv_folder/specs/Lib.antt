@@ -1,17 +1,8 @@
-pub mod Calls
 pub mod FolderVault
 pub mod FolderVaultInner
 pub mod Hold
 pub mod Listed
-pub mod Looks
-pub mod LooksInner
-pub mod Names
-pub mod NamesInner
 pub mod Noted
-pub mod Passed
 pub mod Reads
-pub mod Steps
 pub mod Syncs
-pub mod SyncsInner
-pub mod WalkInner
 pub mod Writes

@@ -2,12 +2,12 @@
 use Rattle.std.specs.Prelude.{ℕ, ◌≡◌, ◌⊎◌, ◌+◌, List, length, Option, Some, None, Result, Ok, Err, IsTrue}
 use Rattle.cv_folder.specs.declared.hold.Hold.{Hold}
 use Rattle.cv_folder.specs.declared.hold.Hold.TheVariants.{Absent}
-use Rattle.cv_folder.specs.declared.seen.Seen.{Seen}
-use Rattle.cv_folder.specs.Calls.{Log}
+use Rattle.cv_system.specs.declared.seen.Seen.{Seen}
+use Rattle.cv_system.specs.Calls.{Log}
 use Rattle.cv_folder.specs.Hold.{IsHeld}
-use Rattle.cv_folder.specs.Looks.{FindsFile, IsReading, MissesFile, ReadsFile}
-use Rattle.cv_folder.specs.Names.{is_name, path_of}
-use Rattle.cv_folder.specs.Steps.{IsLook, Makes}
+use Rattle.cv_system.specs.Looks.{FindsFile, IsReading, MissesFile, ReadsFile}
+use Rattle.cv_system.specs.Names.{is_name, path_of}
+use Rattle.cv_system.specs.Steps.{IsLook, Makes}
 
 -- a regular file is found under a name of a vault that holds its folder
 unfoldable pub HasFile : {F : Type 0} → List ℕ → List ℕ → Hold F → Seen → Log → Log → Type 0

@@ -2,14 +2,14 @@
 use Rattle.std.specs.Prelude.{ℕ, ◌≡◌, ◌⊎◌, ◌≤◌, ◌+◌, Bool, true, false, List, [], ◌∷◌, ◌++◌, length, Result, Ok, Err, IsTrue}
 use Rattle.std.specs.declared.io.ErrorKind.{ErrorKind}
 use Rattle.std.specs.declared.io.ErrorKind.TheVariants.{AlreadyExists}
-use Rattle.cv_folder.specs.Calls.{Call, Log, Outcome, and_call, and_calls, Done, Failed, Looked, Created, Wrote, Synced, Renamed, Removed, Made}
-use Rattle.cv_folder.specs.Steps.{IsLook, Makes, Steps, Tries}
-use Rattle.cv_folder.specs.declared.seen.Seen.{Seen}
-use Rattle.cv_folder.specs.declared.seen.Kind.TheVariants.{Folder}
-use Rattle.cv_folder.specs.Looks.{IsNothing, IsSame, folders_past}
+use Rattle.cv_system.specs.Calls.{Call, Log, Outcome, and_call, and_calls, Done, Failed, Looked, Created, Wrote, Synced, Renamed, Removed, Made}
+use Rattle.cv_system.specs.Steps.{IsLook, Makes, Steps, Tries}
+use Rattle.cv_system.specs.declared.seen.Seen.{Seen}
+use Rattle.cv_system.specs.declared.seen.Kind.TheVariants.{Folder}
+use Rattle.cv_system.specs.Looks.{IsNothing, IsSame, folders_past}
 use Rattle.cv_folder.specs.Reads.{HasFile, LacksFile, LooksInVain}
 use Rattle.cv_folder.specs.Hold.{Begins, IsHeld}
-use Rattle.cv_folder.specs.Names.{is_name, next_of, path_of}
+use Rattle.cv_system.specs.Names.{is_name, next_of, path_of}
 use Rattle.cv_folder.specs.declared.hold.Hold.{Hold}
 
 -- the own file is created anew, also where something stood there and was removed, and then these calls are tried

@@ -5,28 +5,27 @@ ghost use Rattle.cv_base.specs.Counts.{HasCause};
 ghost use Rattle.cv_vault.specs.declared.vault.VaultFault.TheVariants.{Failed, NoMemory};
 ghost use Rattle.cv_folder.specs.FolderVault.{Acts, Adds, AsksAlone, Fails, Holds, IsUncalled, Notes, Serves, Stays, SyncsDone};
 ghost use Rattle.cv_folder.specs.FolderVaultInner.{FindsNamed, HasFolder, IsAt, MovesOn};
-ghost use Rattle.cv_folder.specs.Hold.{Asked, Begins, IsHeld, IsRoot, MakesRoot, with_slash};
+ghost use Rattle.cv_folder.specs.Hold.{Asked, Begins, IsHeld, IsRoot, MakesRoot};
+ghost use Rattle.cv_system.specs.Names.{folder_of, is_name, path_of, with_slash};
 ghost use Rattle.cv_folder.specs.Listed.{IsListed};
-ghost use Rattle.cv_folder.specs.Names.{is_name, folder_of, path_of};
 ghost use Rattle.cv_folder.specs.Noted.{is_noted};
 ghost use Rattle.cv_folder.specs.Reads.{MeasuresNamed, ReadsNamed};
-ghost use Rattle.cv_folder.specs.Calls.{Removed};
-ghost use Rattle.cv_folder.specs.Steps.{Quiet, Tries};
+ghost use Rattle.cv_system.specs.Calls.{Removed};
+ghost use Rattle.cv_system.specs.Steps.{Quiet, Tries};
 ghost use Rattle.cv_folder.specs.Syncs.{SettlesFirst, SyncsAll};
 ghost use Rattle.cv_folder.specs.Writes.{MovesNamed, RemovesNamed, WritesFile};
 
 use crate::folder_vault::FolderVault;
 use crate::hold::{Hold, hold_of, make_held, refused};
 use crate::listing::list_files;
-use crate::looks::{find_file, is_memory, read_found};
 use crate::making::make_folders;
-use crate::names::{NEXT, folder_of, is_name, is_root};
 use crate::noting::{note, note_or_all};
 use crate::putting::{move_file, put_file};
-use crate::seen::Seen;
-use crate::syncing::{Unsynced, sync_folder, sync_folders};
-use crate::system::System;
 use cv_base::{Bytes, Text};
+use cv_system::looks::{find_file, is_memory, read_found};
+use cv_system::{
+    NEXT, Seen, System, Unsynced, folder_of, is_name, is_root, sync_folder, sync_folders,
+};
 use cv_vault::VaultFault;
 use std::io;
 use std::io::ErrorKind;

@@ -6,16 +6,14 @@ ghost use Rattle.cv_vault.specs.declared.vault.VaultFault.TheVariants.{Failed, N
 ghost use Rattle.cv_folder.specs.FolderVault.{Acts, Adds, AsksAlone, Fails, Holds, IsUncalled, Notes, Serves, Stays, SyncsDone, Untold};
 ghost use Rattle.cv_folder.specs.Hold.{IsHeld};
 ghost use Rattle.cv_folder.specs.Listed.{IsListed};
-ghost use Rattle.cv_folder.specs.Names.{is_name};
+ghost use Rattle.cv_system.specs.Names.{is_name};
 ghost use Rattle.cv_folder.specs.Reads.{MeasuresNamed, ReadsNamed};
-ghost use Rattle.cv_folder.specs.Steps.{Quiet};
+ghost use Rattle.cv_system.specs.Steps.{Quiet};
 ghost use Rattle.cv_folder.specs.Writes.{MovesNamed, RemovesNamed, WritesFile};
 
 use crate::hold::Hold;
-use crate::path_buffer::PathBuffer;
-use crate::system::System;
-use crate::walk::Walk;
 use cv_base::{Bytes, Text};
+use cv_system::{PathBuffer, System, Walk};
 use cv_vault::{Vault, VaultFault};
 use std::alloc::{AllocError, Global};
 

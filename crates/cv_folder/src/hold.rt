@@ -2,9 +2,10 @@
 ghost use Rattle.std.specs.Prelude.{◌≡◌, ◌≢◌, ◌↔◌, IfOk, IfErr, IsTrue, is_some};
 ghost use Rattle.std.specs.IoError.{error_kind};
 ghost use Rattle.cv_folder.specs.FolderVaultInner.{made_hold};
-ghost use Rattle.cv_folder.specs.Hold.{AskedAt, Locks, LocksAndLeaves, LocksNot, MakesRoot, with_slash};
+ghost use Rattle.cv_folder.specs.Hold.{AskedAt, Locks, LocksAndLeaves, LocksNot, MakesRoot};
+ghost use Rattle.cv_system.specs.Names.{with_slash};
 
-use crate::system::System;
+use cv_system::System;
 use std::io;
 use std::io::ErrorKind;
 

@@ -4,14 +4,11 @@ ghost use Rattle.std.specs.List.{Contains, starts_with};
 ghost use Rattle.std.specs.List.Sorted.{IsStrictlySortedBy};
 ghost use Rattle.cv_base.specs.Path.{name_cmp, same_name};
 ghost use Rattle.cv_folder.specs.Listed.{AllBegin, IsListed};
-ghost use Rattle.cv_folder.specs.Steps.{Quiet};
+ghost use Rattle.cv_system.specs.Steps.{Quiet};
 
-use crate::cut::{NAMES_ROOM, cut_name};
-use crate::looks::{is_no_name, seen_entry};
-use crate::names::is_part;
-use crate::seen::Seen;
-use crate::system::System;
 use cv_base::Text;
+use cv_system::looks::{is_no_name, seen_entry};
+use cv_system::{NAMES_ROOM, Seen, System, cut_name, is_part};
 use std::alloc::{AllocError, Global};
 use std::cmp::Ordering;
 use std::io;

@@ -1,17 +1,15 @@
 //! The folders that a name stands in, made where they are missing.
 ghost use Rattle.std.specs.Prelude.{◌≡◌, ◌⊎◌, ◌<◌, IsTrue, OnOk, length};
-ghost use Rattle.cv_folder.specs.Calls.{Done, Made, Outcome, and_call};
-ghost use Rattle.cv_folder.specs.Names.{folder_of};
+ghost use Rattle.cv_system.specs.Calls.{Done, Made, Outcome, and_call};
+ghost use Rattle.cv_system.specs.Names.{folder_of};
 ghost use Rattle.cv_folder.specs.Noted.{Keeps, is_noted};
-ghost use Rattle.cv_folder.specs.Steps.{IsLook, Makes};
-ghost use Rattle.cv_folder.specs.Looks.{folders_past};
-ghost use Rattle.cv_folder.specs.LooksInner.{folders_at};
+ghost use Rattle.cv_system.specs.Steps.{IsLook, Makes};
+ghost use Rattle.cv_system.specs.Looks.{folders_at, folders_past};
 ghost use Rattle.cv_folder.specs.Writes.{Leads, LeadsOn, MakesMissing, Prepares};
 
-use crate::looks::{folder_at, seen};
-use crate::names::folder_of;
 use crate::noting::note;
-use crate::system::System;
+use cv_system::looks::{folder_at, seen};
+use cv_system::{System, folder_of};
 use std::io;
 use std::io::ErrorKind;
 

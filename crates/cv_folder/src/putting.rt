@@ -1,12 +1,11 @@
 //! A file that gets its name.
 ghost use Rattle.std.specs.Prelude.{◌≡◌, [], ◌∷◌, IfOk, IsSome, Ok, true, false, is_ok};
-ghost use Rattle.cv_folder.specs.Calls.{Created, Removed};
-ghost use Rattle.cv_folder.specs.Steps.{IsLook, Makes, Tries};
+ghost use Rattle.cv_system.specs.Calls.{Created, Removed};
+ghost use Rattle.cv_system.specs.Steps.{IsLook, Makes, Tries};
 ghost use Rattle.cv_folder.specs.Writes.{MovesFile, Puts, SeesOther, TriesAnew, put};
 
-use crate::looks::seen;
-use crate::seen::Seen;
-use crate::system::System;
+use cv_system::looks::seen;
+use cv_system::{Seen, System};
 use std::io;
 use std::io::ErrorKind;
 

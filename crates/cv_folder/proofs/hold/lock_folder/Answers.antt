@@ -1,7 +1,7 @@
 use Rattle.std.proofs.lemmas.Result.{err_from_is_err_and}
 use Rattle.std.proofs.Common.{inr}
-use Rattle.cv_folder.specs.Calls.{Locked}
-use Rattle.cv_folder.proofs.Trying.{call_at, two_calls}
+use Rattle.cv_system.specs.Calls.{Locked}
+use Rattle.cv_system.proofs.Laws.{call_at, two_calls}
 use Rattle.cv_folder.proofs.hold.lock_folder.Goals as goal
 
 pub returns-in_err-lock-clause-fails : goal.returns-in_err-lock-clause-fails

@@ -2,7 +2,7 @@ use Rattle.std.proofs.Common.{◌≡◌, ◌∙◌, ap, inl, inr, rules}
 use Rattle.std.specs.IoError.{error_kind}
 use Rattle.std.specs.declared.io.ErrorKind.{ErrorKind}
 use Rattle.std.specs.declared.io.ErrorKind.TheVariants.{AlreadyExists}
-use Rattle.cv_folder.specs.Calls.{Failed, Made, and_call}
+use Rattle.cv_system.specs.Calls.{Failed, Made, and_call}
 use Rattle.cv_folder.specs.Hold.{MakesRoot}
 use Rattle.cv_folder.proofs.Holding.{makes_root}
 use Rattle.cv_folder.proofs.hold.make_held.Goals as goal

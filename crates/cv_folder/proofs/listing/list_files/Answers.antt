@@ -1,8 +1,8 @@
 use Rattle.std.proofs.Common.{subst, sym}
 use Rattle.cv_folder.specs.Listed.{IsListed}
-use Rattle.cv_folder.specs.Steps.{Still}
+use Rattle.cv_system.specs.Steps.{Still}
 use Rattle.cv_folder.proofs.Listed.{listed, none_listed}
-use Rattle.cv_folder.proofs.Stepping.{steps_then}
+use Rattle.cv_system.proofs.Laws.{steps_then}
 use Rattle.cv_folder.proofs.listing.list_files.Goals as goal
 
 pub returns-in_default-clause-listed : goal.returns-in_default-clause-listed

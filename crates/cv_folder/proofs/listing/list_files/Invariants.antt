@@ -1,5 +1,5 @@
 use Rattle.cv_folder.specs.Listed.{AllBegin}
-use Rattle.cv_folder.specs.Steps.{Quiet}
+use Rattle.cv_system.specs.Steps.{Quiet}
 use Rattle.cv_folder.proofs.listing.list_files.Given as goal
 
 abbrev pub invariant-loop : goal.invariant-loop

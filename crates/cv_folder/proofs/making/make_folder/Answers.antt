@@ -1,5 +1,5 @@
 use Rattle.std.proofs.Common.{inl}
-use Rattle.cv_folder.proofs.Stepping.{looks_so}
+use Rattle.cv_system.proofs.Laws.{looks_so}
 use Rattle.cv_folder.proofs.Preparing.{leads_if_made, leads_seen, makes_missing}
 use Rattle.cv_folder.proofs.making.make_folder.Goals as goal
 

@@ -1,8 +1,8 @@
 use Rattle.std.proofs.Common.{refl, [], subst, List, ℕ}
-use Rattle.cv_folder.specs.LooksInner.{folders_at}
+use Rattle.cv_system.specs.Looks.{folders_at}
 use Rattle.cv_folder.specs.Writes.{Leads}
 use Rattle.cv_folder.proofs.Preparing.{leads_then, prepares_none, prepares_on}
-use Rattle.cv_folder.proofs.Seeing.{all_seen, one_place_more}
+use Rattle.cv_system.proofs.Laws.{all_seen, one_place_more}
 use Rattle.cv_folder.proofs.making.make_folders.Goals as goal
 
 pub loop-end-init : goal.loop-end-init

@@ -1,5 +1,5 @@
 use Rattle.std.proofs.Common.{◌≡◌, ◌++◌, List, ℕ, take, drop}
-use Rattle.cv_folder.specs.Looks.{folders_behind, folders_past}
+use Rattle.cv_system.specs.Looks.{folders_behind, folders_past}
 use Rattle.cv_folder.specs.Noted.{Keeps}
 use Rattle.cv_folder.specs.Writes.{Leads, Prepares}
 use Rattle.cv_folder.proofs.making.make_folders.Given as goal

@@ -3,8 +3,8 @@ use Rattle.std.specs.Prelude.{is_ok}
 use Rattle.std.specs.IoError.{error_kind}
 use Rattle.std.specs.declared.io.ErrorKind.{ErrorKind}
 use Rattle.std.specs.declared.io.ErrorKind.TheVariants.{AlreadyExists}
-use Rattle.cv_folder.specs.Calls.{Log, Failed, Created, Removed, and_call}
-use Rattle.cv_folder.specs.Steps.{Tries}
+use Rattle.cv_system.specs.Calls.{Log, Failed, Created, Removed, and_call}
+use Rattle.cv_system.specs.Steps.{Tries}
 use Rattle.cv_folder.proofs.putting.create_next.Goals as goal
 
 pub returns-in-Err-clause-calls : goal.returns-in-Err-clause-calls

@@ -1,5 +1,5 @@
-use Rattle.cv_folder.specs.Steps.{Still}
-use Rattle.cv_folder.proofs.Stepping.{looks_so}
+use Rattle.cv_system.specs.Steps.{Still}
+use Rattle.cv_system.proofs.Laws.{looks_so}
 use Rattle.cv_folder.proofs.putting.is_other_name.Goals as goal
 
 pub returns-then-found-le1-clause-looks : goal.returns-then-found-le1-clause-looks

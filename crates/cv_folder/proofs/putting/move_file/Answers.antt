@@ -1,8 +1,8 @@
 use Rattle.std.proofs.lemmas.Result.{err_from_is_err_and}
 use Rattle.std.proofs.Common.{◌∙◌, ap, inl, inr, refl, Ok}
-use Rattle.cv_folder.specs.Calls.{Removed, Renamed}
+use Rattle.cv_system.specs.Calls.{Removed, Renamed}
 use Rattle.cv_folder.specs.Writes.{MovesFile}
-use Rattle.cv_folder.proofs.Trying.{tried_one}
+use Rattle.cv_system.proofs.Laws.{tried_one}
 use Rattle.cv_folder.proofs.putting.move_file.Goals as goal
 
 pub returns-in_err-is_other_name : goal.returns-in_err-is_other_name

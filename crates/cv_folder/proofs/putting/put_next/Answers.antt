@@ -1,8 +1,9 @@
 use Rattle.std.proofs.lemmas.Result.{err_from_is_err_and}
 use Rattle.std.proofs.Common.{◌∙◌, [], ◌∷◌}
-use Rattle.cv_folder.specs.Calls.{Renamed, Synced, Wrote}
+use Rattle.cv_system.specs.Calls.{Renamed, Synced, Wrote}
 use Rattle.cv_folder.specs.Writes.{put}
-use Rattle.cv_folder.proofs.Trying.{anew_then, call_at, failed_so, made_then, not_anew, told_before, tried_one}
+use Rattle.cv_folder.proofs.Anew.{anew_then, not_anew}
+use Rattle.cv_system.proofs.Laws.{call_at, failed_so, made_then, told_before, tried_one}
 use Rattle.cv_folder.proofs.putting.put_next.Goals as goal
 
 pub returns-in_err-file : goal.returns-in_err-file

@@ -1,6 +1,6 @@
 use Rattle.std.proofs.Common.{ap, string_bytes}
 use Rattle.std.specs.Prelude.{IsTrue}
-use Rattle.cv_folder.specs.Names.{is_name}
+use Rattle.cv_system.specs.Names.{is_name}
 use Rattle.cv_folder.proofs.Filing.{begins_asked, begins_made}
 use Rattle.cv_folder.proofs.folder_vault.FolderVault.begin_write.Goals as goal
 

@@ -1,6 +1,6 @@
 use Rattle.std.proofs.lemmas.Result.{err_from_is_err_and}
 use Rattle.std.proofs.Common.{◌∙◌, ◌+◌, ap, length, refl, string_bytes}
-use Rattle.cv_folder.specs.Names.{path_of}
+use Rattle.cv_system.specs.Names.{path_of}
 use Rattle.cv_folder.proofs.Acts.{acts_so, finds_named, finds_no_more, finds_none}
 use Rattle.cv_folder.proofs.folder_vault.FolderVault.find.Goals as goal
 

@@ -1,6 +1,6 @@
 use Rattle.std.proofs.Common.{refl, subst, sym}
 use Rattle.cv_folder.specs.Listed.{IsListed}
-use Rattle.cv_folder.specs.Steps.{Still}
+use Rattle.cv_system.specs.Steps.{Still}
 use Rattle.cv_folder.proofs.Acts.{acts_so}
 use Rattle.cv_folder.proofs.Listed.{none_listed}
 use Rattle.cv_folder.proofs.folder_vault.FolderVault.list_now.Goals as goal

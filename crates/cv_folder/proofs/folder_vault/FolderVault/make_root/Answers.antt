@@ -1,5 +1,5 @@
 use Rattle.std.proofs.Common.{◌∙◌, ap, refl, string_bytes}
-use Rattle.cv_folder.specs.Names.{folder_of}
+use Rattle.cv_system.specs.Names.{folder_of}
 use Rattle.cv_folder.proofs.Holding.{makes_still, makes_then}
 use Rattle.cv_folder.proofs.Notes.{stays_noted}
 use Rattle.cv_folder.proofs.folder_vault.FolderVault.make_root.Goals as goal

@@ -1,6 +1,6 @@
 use Rattle.std.proofs.lemmas.Result.{err_from_is_err_and}
 use Rattle.std.proofs.Common.{◌∙◌, ◌+◌, ap, length, refl, string_bytes}
-use Rattle.cv_folder.specs.Names.{folder_of}
+use Rattle.cv_system.specs.Names.{folder_of}
 use Rattle.cv_folder.proofs.Filing.{moves_no_more, moves_on, moves_on_way}
 use Rattle.cv_folder.proofs.Notes.{stays_noted}
 use Rattle.cv_folder.proofs.Acts.{on_ok}

@@ -1,8 +1,8 @@
 use Rattle.std.proofs.lemmas.Result.{err_from_is_err_and}
 use Rattle.std.proofs.Common.{◌∙◌, List, ℕ, ap, refl, string_bytes, subst}
-use Rattle.cv_folder.specs.Looks.{IsReading, ReadsFile}
-use Rattle.cv_folder.specs.Names.{path_of}
-use Rattle.cv_folder.specs.Steps.{Makes}
+use Rattle.cv_system.specs.Looks.{IsReading, ReadsFile}
+use Rattle.cv_system.specs.Names.{path_of}
+use Rattle.cv_system.specs.Steps.{Makes}
 use Rattle.cv_folder.proofs.Acts.{acts_on, reads_in_vain, reads_lost, reads_named, reads_none}
 use Rattle.cv_folder.proofs.folder_vault.FolderVault.read_now.Goals as goal
 

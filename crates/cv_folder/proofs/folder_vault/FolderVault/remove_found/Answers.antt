@@ -1,7 +1,7 @@
 use Rattle.std.proofs.Common.{◌∙◌, ap}
-use Rattle.cv_folder.specs.Names.{folder_of}
-use Rattle.cv_folder.specs.Calls.{Removed}
-use Rattle.cv_folder.proofs.Trying.{tried_one}
+use Rattle.cv_system.specs.Names.{folder_of}
+use Rattle.cv_system.specs.Calls.{Removed}
+use Rattle.cv_system.proofs.Laws.{tried_one}
 use Rattle.cv_folder.proofs.folder_vault.FolderVault.remove_found.Goals as goal
 
 pub returns-clause-calls : goal.returns-clause-calls

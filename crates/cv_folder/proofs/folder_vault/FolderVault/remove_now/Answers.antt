@@ -1,7 +1,7 @@
 use Rattle.std.proofs.lemmas.Result.{err_from_is_err_and}
 use Rattle.std.proofs.Common.{◌∙◌, Ok, Some, ap, refl, string_bytes, subst, sym}
 use Rattle.std.specs.declared.io.Error.{Error}
-use Rattle.cv_folder.specs.Names.{path_of}
+use Rattle.cv_system.specs.Names.{path_of}
 use Rattle.cv_folder.specs.FolderVaultInner.{FindsNamed}
 use Rattle.cv_folder.proofs.Acts.{acts_on, removes_in_vain, removes_lost, removes_named, removes_none}
 use Rattle.cv_folder.proofs.folder_vault.FolderVault.remove_now.Goals as goal

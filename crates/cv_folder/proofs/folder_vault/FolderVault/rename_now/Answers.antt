@@ -1,7 +1,7 @@
 use Rattle.std.proofs.lemmas.Result.{err_from_is_err_and}
 use Rattle.std.proofs.Common.{◌∙◌, Ok, Some, ap, refl, string_bytes, subst, sym}
 use Rattle.std.specs.declared.io.Error.{Error}
-use Rattle.cv_folder.specs.Names.{path_of}
+use Rattle.cv_system.specs.Names.{path_of}
 use Rattle.cv_folder.specs.FolderVaultInner.{FindsNamed}
 use Rattle.cv_folder.proofs.Acts.{acts_on, moves_in_vain, moves_lost, moves_named, moves_none}
 use Rattle.cv_folder.proofs.folder_vault.FolderVault.rename_now.Goals as goal

@@ -1,6 +1,6 @@
 use Rattle.std.proofs.Common.{◌∙◌, ap, refl, string_bytes}
 use Rattle.std.proofs.lemmas.Result.{on_ok_weaker}
-use Rattle.cv_folder.specs.Names.{folder_of}
+use Rattle.cv_system.specs.Names.{folder_of}
 use Rattle.cv_folder.proofs.Filing.{settles_all, settles_nothing}
 use Rattle.cv_folder.proofs.folder_vault.FolderVault.settle.Goals as goal
 

@@ -1,7 +1,7 @@
 use Rattle.std.proofs.lemmas.Result.{err_from_is_err_and}
 use Rattle.std.proofs.Common.{◌∙◌, ◌+◌, ◌++◌, List, ℕ, ap, codes, length, refl, string_bytes, sym}
 use Rattle.std.specs.Prelude.{IsTrue}
-use Rattle.cv_folder.specs.Names.{folder_of, is_name, path_of}
+use Rattle.cv_system.specs.Names.{folder_of, is_name, path_of}
 use Rattle.cv_folder.proofs.Filing.{writes_no_more, writes_on_way, writes_so}
 use Rattle.cv_folder.proofs.folder_vault.FolderVault.write_now.Goals as goal
 

@@ -1,5 +1,5 @@
-use Rattle.cv_folder.specs.Steps.{Still}
-use Rattle.cv_folder.proofs.Stepping.{looks_quiet}
+use Rattle.cv_system.specs.Steps.{Still}
+use Rattle.cv_system.proofs.Laws.{looks_quiet}
 use Rattle.cv_folder.proofs.listing.Listing.list_entry.Goals as goal
 
 pub returns-in_default-clause-quiet : goal.returns-in_default-clause-quiet

@@ -1,5 +1,5 @@
-use Rattle.cv_folder.specs.Steps.{Still}
-use Rattle.cv_folder.proofs.Stepping.{steps_then}
+use Rattle.cv_system.specs.Steps.{Still}
+use Rattle.cv_system.proofs.Laws.{steps_then}
 use Rattle.cv_folder.proofs.listing.Listing.list_names.Goals as goal
 
 pub loop-name-init : goal.loop-name-init

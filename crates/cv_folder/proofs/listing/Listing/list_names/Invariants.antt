@@ -1,6 +1,6 @@
 use Rattle.std.proofs.Common.{length}
 use Rattle.cv_folder.specs.Listed.{AllBegin}
-use Rattle.cv_folder.specs.Steps.{Quiet}
+use Rattle.cv_system.specs.Steps.{Quiet}
 use Rattle.cv_folder.proofs.listing.Listing.list_names.Given as goal
 
 abbrev pub invariant-loop-name : goal.invariant-loop-name

@@ -1,6 +1,6 @@
-use Rattle.cv_folder.specs.Calls.{Named}
-use Rattle.cv_folder.specs.Steps.{Still}
-use Rattle.cv_folder.proofs.Stepping.{one_call, steps_then}
+use Rattle.cv_system.specs.Calls.{Named}
+use Rattle.cv_system.specs.Steps.{Still}
+use Rattle.cv_system.proofs.Laws.{one_call, steps_then}
 use Rattle.cv_folder.proofs.listing.Listing.list_open.Goals as goal
 
 pub returns-in_err-names-clause-quiet : goal.returns-in_err-names-clause-quiet
