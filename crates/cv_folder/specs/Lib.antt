@@ -2,6 +2,7 @@ pub mod FolderVault
 pub mod FolderVaultInner
 pub mod Hold
 pub mod Listed
+pub mod ListedInner
 pub mod Noted
 pub mod Reads
 pub mod Syncs

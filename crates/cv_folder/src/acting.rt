@@ -3,29 +3,27 @@ ghost use Rattle.std.specs.Prelude.{◌≡◌, ◌≢◌, ◌<◌, ◌+◌, ◌�
 ghost use Rattle.std.specs.IoError.{error_kind, raw_os_error};
 ghost use Rattle.cv_base.specs.Counts.{HasCause};
 ghost use Rattle.cv_vault.specs.declared.vault.VaultFault.TheVariants.{Failed, NoMemory};
-ghost use Rattle.cv_folder.specs.FolderVault.{Acts, Adds, AsksAlone, Fails, Holds, IsUncalled, Notes, Serves, Stays, SyncsDone};
+ghost use Rattle.cv_folder.specs.FolderVault.{Acts, Adds, AsksAlone, Fails, Holds, HoldsFirst, HoldsOrMakes, IsAboveName, IsUncalled, Notes, Rests, Serves, Stays, SyncsDone, with_fault};
 ghost use Rattle.cv_folder.specs.FolderVaultInner.{FindsNamed, HasFolder, IsAt, MovesOn};
 ghost use Rattle.cv_folder.specs.Hold.{Asked, Begins, IsHeld, IsRoot, MakesRoot};
 ghost use Rattle.cv_system.specs.Names.{folder_of, is_name, path_of, with_slash};
-ghost use Rattle.cv_folder.specs.Listed.{IsListed};
+ghost use Rattle.cv_folder.specs.Listed.{IsListed, ListsNamed};
 ghost use Rattle.cv_folder.specs.Noted.{is_noted};
-ghost use Rattle.cv_folder.specs.Reads.{MeasuresNamed, ReadsNamed};
+ghost use Rattle.cv_folder.specs.Reads.{IsUnserved, MeasuresNamed, ReadsNamed};
 ghost use Rattle.cv_system.specs.Calls.{Removed};
-ghost use Rattle.cv_system.specs.Steps.{Quiet, Tries};
+ghost use Rattle.cv_system.specs.Steps.{Tries};
 ghost use Rattle.cv_folder.specs.Syncs.{SettlesFirst, SyncsAll};
 ghost use Rattle.cv_folder.specs.Writes.{MovesNamed, RemovesNamed, WritesFile};
 
 use crate::folder_vault::FolderVault;
 use crate::hold::{Hold, hold_of, make_held, refused};
 use crate::listing::list_files;
+use cv_system::looks::{find_file, is_memory, read_found};
 use crate::making::make_folders;
+use cv_system::{NEXT, Seen, System, Unsynced, folder_of, is_name, is_root, sync_folder, sync_folders};
 use crate::noting::{note, note_or_all};
 use crate::putting::{move_file, put_file};
 use cv_base::{Bytes, Text};
-use cv_system::looks::{find_file, is_memory, read_found};
-use cv_system::{
-    NEXT, Seen, System, Unsynced, folder_of, is_name, is_root, sync_folder, sync_folders,
-};
 use cv_vault::VaultFault;
 use std::io;
 use std::io::ErrorKind;
@@ -68,9 +66,12 @@ impl<S: System + Drop> FolderVault<S> {
     pub(crate) fn make_root(&mut self) -> io::Result<()>
         requires { self.old.hold ≡ Hold.Absent }
         ensures held { OnOk result (IsHeld self.new.hold) }
-        ensures noted { OnOk result
-            (IsTrue (is_noted self.new.folders.items (folder_of (string_bytes self.old.root)))) }
-        ensures adds { Adds self.old self.new }
+        ensures noted { ((self.new.hold ≡ Hold.Absent)
+            × (S.log self.new.system ≡ S.log self.old.system))
+            ⊎ IsTrue (is_noted self.new.folders.items (folder_of (string_bytes self.old.root))) }
+        ensures adds { Adds (λ folder. folder ≡ folder_of (string_bytes self.old.root))
+            self.old self.new }
+        ensures holds { HoldsOrMakes self.old.hold self.new.hold }
         ensures faults { self.new.faults ≡ self.old.faults }
         ensures calls { MakesRoot (string_bytes self.old.root) self.new.hold
             (S.log self.old.system) (S.log self.new.system) }
@@ -149,8 +150,10 @@ impl<S: System + Drop> FolderVault<S> {
     /// Makes the path of a name, and tells whether the vault has a folder.
     pub(crate) fn begin(&mut self, name: &str) -> io::Result<bool>
         ensures held { IfOk result (λ has. HasFolder self.new.hold has) }
+        ensures fails { OnErr result (IsUnserved (string_bytes self.old.root) name.now self.new.hold) }
         ensures path { OnOk result (IsAt self.new name.now × (self.old.hold ≢ Hold.Refused)) }
         ensures stays { Stays self.old self.new }
+        ensures holds { HoldsFirst self.old self.new }
         ensures faults { self.new.faults ≡ self.old.faults }
         ensures asks { AsksAlone S.log self.old self.new }
     {
@@ -161,9 +164,8 @@ impl<S: System + Drop> FolderVault<S> {
 
     /// Asks for the folder, if that wasn't done yet. What was there before it is held is unsettled.
     pub(crate) fn ask(&mut self) -> io::Result<()>
-        ensures unsettled { self.old.hold ≡ Hold.Unasked → IsHeld self.new.hold
-            → IsTrue self.new.is_unsettled }
         ensures stays { Stays self.old self.new }
+        ensures holds { HoldsFirst self.old self.new }
         ensures faults { self.new.faults ≡ self.old.faults }
         ensures asks { AsksAlone S.log self.old self.new }
     {
@@ -178,11 +180,11 @@ impl<S: System + Drop> FolderVault<S> {
 
     /// Whether the vault has a folder. What was there before it was held is unsettled.
     pub(crate) fn is_held(&mut self) -> io::Result<bool>
-        ensures unsettled { self.old.hold ≡ Hold.Unasked → result ≡ Ok true
-            → IsTrue self.new.is_unsettled }
         ensures held { IfOk result (λ has. HasFolder self.new.hold has) }
         ensures refused { OnOk result (self.old.hold ≢ Hold.Refused) }
+        ensures fails { OnErr result ((self.new.hold ≡ Hold.Unasked) ⊎ (self.new.hold ≡ Hold.Refused)) }
         ensures stays { Stays self.old self.new }
+        ensures holds { HoldsFirst self.old self.new }
         ensures faults { self.new.faults ≡ self.old.faults }
         ensures asks { AsksAlone S.log self.old self.new }
     {
@@ -198,6 +200,7 @@ impl<S: System + Drop> FolderVault<S> {
     pub(crate) fn find(&mut self, name: &str) -> io::Result<Option<Seen>>
         ensures path { OnOk result (IsAt self.new name.now × (self.old.hold ≢ Hold.Refused)) }
         ensures stays { Stays self.old self.new }
+        ensures holds { HoldsFirst self.old self.new }
         ensures faults { self.new.faults ≡ self.old.faults }
         ensures calls { Acts S.log (FindsNamed (string_bytes self.old.root) name.now self.new.hold
             result) self.old self.new }
@@ -215,6 +218,7 @@ impl<S: System + Drop> FolderVault<S> {
         ensures stays { Stays self.old self.new }
         ensures calls { IsUncalled S.log self.old self.new }
         ensures hold { self.new.hold ≡ self.old.hold }
+        ensures count { self.new.faults ≡ with_fault Failed self.old.faults }
         ensures cause { HasCause self.old.faults self.new.faults ⊤ }
     {
         self.faults = self.faults.saturating_add(1);
@@ -227,6 +231,7 @@ impl<S: System + Drop> FolderVault<S> {
             ↔ (error_kind error.now ≡ ErrorKind.OutOfMemory) × (raw_os_error error.now ≡ None) }
         ensures calls { IsUncalled S.log self.old self.new }
         ensures hold { self.new.hold ≡ self.old.hold }
+        ensures count { self.new.faults ≡ with_fault result self.old.faults }
         ensures cause { HasCause self.old.faults self.new.faults (result ≡ Failed) }
         ensures stays { Stays self.old self.new }
     {
@@ -240,6 +245,7 @@ impl<S: System + Drop> FolderVault<S> {
     pub(crate) fn read_now(&mut self, name: &str) -> io::Result<Option<Bytes>>
         ensures refused { OnOk result (Serves self.old name.now) }
         ensures stays { Stays self.old self.new }
+        ensures holds { HoldsFirst self.old self.new }
         ensures faults { self.new.faults ≡ self.old.faults }
         ensures calls { Acts S.log (ReadsNamed (string_bytes self.old.root) name.now self.new.hold
             result) self.old self.new }
@@ -257,6 +263,7 @@ impl<S: System + Drop> FolderVault<S> {
     pub(crate) fn length_now(&mut self, name: &str) -> io::Result<Option<u64>>
         ensures refused { OnOk result (Serves self.old name.now) }
         ensures stays { Stays self.old self.new }
+        ensures holds { HoldsFirst self.old self.new }
         ensures faults { self.new.faults ≡ self.old.faults }
         ensures calls { Acts S.log (MeasuresNamed (string_bytes self.old.root) name.now
             self.new.hold result) self.old self.new }
@@ -271,8 +278,10 @@ impl<S: System + Drop> FolderVault<S> {
         ensures listed { IfOk result (λ names. IsListed prefix.now names.items) }
         ensures refused { OnOk result (self.old.hold ≢ Hold.Refused) }
         ensures stays { Stays self.old self.new }
+        ensures holds { HoldsFirst self.old self.new }
         ensures faults { self.new.faults ≡ self.old.faults }
-        ensures calls { Acts S.log Quiet self.old self.new }
+        ensures calls { Acts S.log (ListsNamed (string_bytes self.old.root) self.new.hold result)
+            self.old self.new }
     {
         if !self.is_held()? {
             return Ok(Vec::new(self.alloc));
@@ -284,10 +293,12 @@ impl<S: System + Drop> FolderVault<S> {
     pub(crate) fn begin_write(&mut self, name: &str) -> io::Result<()>
         ensures held { OnOk result (IsHeld self.new.hold × (self.old.hold ≢ Hold.Refused)) }
         ensures path { OnOk result (IsAt self.new name.now) }
-        ensures adds { Adds self.old self.new }
+        ensures adds { Adds (λ folder. folder ≡ folder_of (string_bytes self.old.root))
+            self.old self.new }
+        ensures holds { HoldsOrMakes self.old.hold self.new.hold }
         ensures faults { self.new.faults ≡ self.old.faults }
         ensures begins { Begins (string_bytes self.old.root) self.old.hold self.new.hold
-            (S.log self.old.system) (S.log self.new.system) }
+            self.new.is_unsettled (is_noted self.new.folders.items) (S.log self.old.system) (S.log self.new.system) }
         ensures no_name { is_name name.now ≡ false → AsksAlone S.log self.old self.new }
     {
         if self.begin(name)? {
@@ -300,10 +311,12 @@ impl<S: System + Drop> FolderVault<S> {
     pub(crate) fn write_now(&mut self, name: &str, bytes: &[u8]) -> io::Result<()>
         ensures refused { OnOk result (Serves self.old name.now × IsHeld self.new.hold) }
         ensures noted { OnOk result (Notes self.new name.now) }
-        ensures adds { Adds self.old self.new }
+        ensures adds { Adds (λ folder. (folder ≡ folder_of (string_bytes self.old.root))
+            ⊎ IsAboveName self.old name.now folder) self.old self.new }
+        ensures holds { HoldsOrMakes self.old.hold self.new.hold }
         ensures faults { self.new.faults ≡ self.old.faults }
         ensures calls { WritesFile (string_bytes self.old.root) name.now bytes.now self.old.hold
-            self.new.hold (is_ok result) (S.log self.old.system) (S.log self.new.system) }
+            self.new.hold self.new.is_unsettled (is_noted self.new.folders.items) (is_ok result) (S.log self.old.system) (S.log self.new.system) }
         ensures no_name { is_name name.now ≡ false → AsksAlone S.log self.old self.new }
     {
         self.begin_write(name)?;
@@ -328,11 +341,12 @@ impl<S: System + Drop> FolderVault<S> {
         ensures left { OnOk result (IsTrue
             (is_noted self.new.folders.items (folder_of self.old.path))) }
         ensures noted { OnOk result (Notes self.new to.now) }
-        ensures adds { Adds self.old self.new }
+        ensures adds { Adds (λ folder. (folder ≡ folder_of self.old.path)
+            ⊎ IsAboveName self.old to.now folder) self.old self.new }
         ensures hold { self.new.hold ≡ self.old.hold }
         ensures faults { self.new.faults ≡ self.old.faults }
         ensures calls { MovesOn (string_bytes self.old.root) self.old.path to.now found.now
-            (is_ok result) (S.log self.old.system) (S.log self.new.system) }
+            (is_noted self.new.folders.items) (is_ok result) (S.log self.old.system) (S.log self.new.system) }
     {
         let source = String::from_str(self.alloc, self.path.as_str())?;
         self.set_path(to)?;
@@ -353,11 +367,16 @@ impl<S: System + Drop> FolderVault<S> {
         ensures other { OnOk result (from.now ≢ to.now) }
         ensures left { result ≡ Ok true → Notes self.new from.now }
         ensures noted { result ≡ Ok true → Notes self.new to.now }
-        ensures adds { Adds self.old self.new }
+        ensures adds { Adds (λ folder. (folder
+            ≡ folder_of (path_of (string_bytes self.old.root) from.now))
+            ⊎ IsAboveName self.old to.now folder) self.old self.new }
+        ensures holds { HoldsFirst self.old self.new }
         ensures faults { self.new.faults ≡ self.old.faults }
         ensures calls { from.now ≢ to.now → IsTrue (is_name to.now)
-            → Acts S.log (MovesNamed (string_bytes self.old.root) from.now to.now self.new.hold result) self.old self.new }
-        ensures no_name { is_name to.now ≡ false → IsUncalled S.log self.old self.new }
+            → Acts S.log (MovesNamed (string_bytes self.old.root) from.now to.now self.new.hold
+                (is_noted self.new.folders.items) result) self.old self.new }
+        ensures rests { (from.now ≡ to.now) ⊎ (is_name to.now ≡ false)
+            → Rests S.log self.old self.new }
     {
         if from == to {
             return Err(refused());
@@ -379,7 +398,7 @@ impl<S: System + Drop> FolderVault<S> {
     pub(crate) fn remove_found(&mut self) -> io::Result<()>
         ensures noted { IsTrue (is_noted self.new.folders.items (folder_of self.old.path))
             ⊎ IsTrue self.new.is_unsettled }
-        ensures adds { Adds self.old self.new }
+        ensures adds { Adds (λ folder. folder ≡ folder_of self.old.path) self.old self.new }
         ensures hold { self.new.hold ≡ self.old.hold }
         ensures faults { self.new.faults ≡ self.old.faults }
         ensures calls { Tries (Removed self.old.path ∷ []) (is_ok result)
@@ -394,7 +413,9 @@ impl<S: System + Drop> FolderVault<S> {
     pub(crate) fn remove_now(&mut self, name: &str) -> io::Result<bool>
         ensures refused { OnOk result (Serves self.old name.now) }
         ensures noted { result ≡ Ok true → Notes self.new name.now ⊎ IsTrue self.new.is_unsettled }
-        ensures adds { Adds self.old self.new }
+        ensures adds { Adds (λ folder. folder
+            ≡ folder_of (path_of (string_bytes self.old.root) name.now)) self.old self.new }
+        ensures holds { HoldsFirst self.old self.new }
         ensures faults { self.new.faults ≡ self.old.faults }
         ensures calls { Acts S.log (RemovesNamed (string_bytes self.old.root) name.now self.new.hold
             result) self.old self.new }
@@ -442,7 +463,7 @@ impl<S: System + Drop> FolderVault<S> {
         ensures lost { done ≡ Err Unsynced.Lost → IsTrue self.new.broken }
         ensures whole { done ≢ Err Unsynced.Lost → self.new.broken ≡ self.old.broken }
         ensures fails { OnErr result (Fails self.old self.new) }
-        ensures root { (self.new.root ≡ self.old.root) × Holds self.old.hold self.new.hold }
+        ensures root { self.new.root ≡ self.old.root }
         ensures faults { self.new.faults ≡ self.old.faults }
         ensures hold { self.new.hold ≡ self.old.hold }
         ensures calls { IsUncalled S.log self.old self.new }
@@ -465,7 +486,7 @@ impl<S: System + Drop> FolderVault<S> {
     pub(crate) fn sync_now(&mut self) -> io::Result<()>
         ensures lost { OnOk result ((self.old.broken ≡ false) × (self.new.broken ≡ false)) }
         ensures refused { OnOk result (self.old.hold ≢ Hold.Refused) }
-        ensures fails { OnErr result (Fails self.old self.new) }
+        ensures fails { OnErr result (Fails self.old self.new × HoldsFirst self.old self.new) }
         ensures root { (self.new.root ≡ self.old.root) × Holds self.old.hold self.new.hold }
         ensures faults { self.new.faults ≡ self.old.faults }
         ensures calls { OnOk result (SyncsDone S.log self.old self.new) }

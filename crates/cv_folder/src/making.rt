@@ -2,23 +2,24 @@
 ghost use Rattle.std.specs.Prelude.{◌≡◌, ◌⊎◌, ◌<◌, IsTrue, OnOk, length};
 ghost use Rattle.cv_system.specs.Calls.{Done, Made, Outcome, and_call};
 ghost use Rattle.cv_system.specs.Names.{folder_of};
-ghost use Rattle.cv_folder.specs.Noted.{Keeps, is_noted};
+ghost use Rattle.cv_folder.specs.Noted.{Keeps, NotesOnly, is_noted};
 ghost use Rattle.cv_system.specs.Steps.{IsLook, Makes};
 ghost use Rattle.cv_system.specs.Looks.{folders_at, folders_past};
-ghost use Rattle.cv_folder.specs.Writes.{Leads, LeadsOn, MakesMissing, Prepares};
+ghost use Rattle.cv_folder.specs.Writes.{IsAbove, Leads, LeadsOn, MakesMissing, Prepares};
 
-use crate::noting::note;
 use cv_system::looks::{folder_at, seen};
 use cv_system::{System, folder_of};
+use crate::noting::note;
 use std::io;
 use std::io::ErrorKind;
 
 /// Makes a folder where nothing stands, once the one that it comes into is noted.
 fn make_noted<S: System>(system: &mut S, folder: &str, notes: &mut Vec<String>) -> io::Result<()>
-    ensures noted { OnOk result (IsTrue (is_noted notes.new.items (folder_of folder.now))) }
     ensures kept { Keeps notes.old.items notes.new.items }
+    ensures only { NotesOnly (λ other. other ≡ folder_of folder.now) notes.old.items notes.new.items }
     ensures calls { (S.log system.new ≡ S.log system.old)
-        ⊎ ((made : Outcome) × (S.log system.new ≡ and_call (Made folder.now made) (S.log system.old))) }
+        ⊎ (IsTrue (is_noted notes.new.items (folder_of folder.now))
+        × (made : Outcome) × (S.log system.new ≡ and_call (Made folder.now made) (S.log system.old))) }
     ensures made { OnOk result (S.log system.new ≡ and_call (Made folder.now Done) (S.log system.old)) }
 {
     note(notes, folder_of(folder))?;
@@ -28,8 +29,10 @@ fn make_noted<S: System>(system: &mut S, folder: &str, notes: &mut Vec<String>) 
 /// Makes a folder where nothing stands, and notes the one that it comes into.
 fn make_folder<S: System>(system: &mut S, folder: &str, notes: &mut Vec<String>) -> io::Result<()>
     ensures kept { Keeps notes.old.items notes.new.items }
+    ensures only { NotesOnly (λ other. other ≡ folder_of folder.now) notes.old.items notes.new.items }
     ensures calls { Makes IsLook (S.log system.old) (S.log system.new)
-        ⊎ MakesMissing folder.now (S.log system.old) (S.log system.new) }
+        ⊎ (IsTrue (is_noted notes.new.items (folder_of folder.now))
+        × MakesMissing folder.now (S.log system.old) (S.log system.new)) }
     ensures leads { OnOk result (LeadsOn folder.now (S.log system.old) (S.log system.new)) }
 {
     match seen(system, folder)? {
@@ -48,7 +51,9 @@ fn make_folder_at<S: System>(
 ) -> io::Result<()>
     requires { end < length path.now }
     ensures kept { Keeps notes.old.items notes.new.items }
-    ensures calls { Prepares end path.now (S.log system.old) (S.log system.new) }
+    ensures only { NotesOnly (IsAbove end path.now) notes.old.items notes.new.items }
+    ensures calls { Prepares end path.now (is_noted notes.new.items)
+        (S.log system.old) (S.log system.new) }
     ensures leads { OnOk result
         (Leads (folders_at path.now end) (S.log system.old) (S.log system.new)) }
 {
@@ -68,7 +73,9 @@ pub fn make_folders<S: System>(
 ) -> io::Result<()>
     ensures noted { OnOk result (IsTrue (is_noted notes.new.items (folder_of path.now))) }
     ensures kept { Keeps notes.old.items notes.new.items }
-    ensures calls { Prepares from path.now (S.log system.old) (S.log system.new) }
+    ensures only { NotesOnly (IsAbove from path.now) notes.old.items notes.new.items }
+    ensures calls { Prepares from path.now (is_noted notes.new.items)
+        (S.log system.old) (S.log system.new) }
     ensures leads { OnOk result
         (Leads (folders_past from path.now) (S.log system.old) (S.log system.new)) }
 {

@@ -1,6 +1,6 @@
 //! The folders that were noted, to be synced.
 ghost use Rattle.std.specs.Prelude.{◌≡◌, ◌⊎◌, IsTrue, OnOk};
-ghost use Rattle.cv_folder.specs.Noted.{Keeps, is_noted};
+ghost use Rattle.cv_folder.specs.Noted.{Keeps, NotesOnly, is_noted};
 
 use std::alloc::{AllocError, Global};
 
@@ -15,6 +15,7 @@ fn is_noted(notes: &[String], folder: &str) -> bool
 pub fn note(notes: &mut Vec<String>, folder: &str) -> Result<(), AllocError>
     ensures noted { OnOk result (IsTrue (is_noted notes.new.items folder.now)) }
     ensures kept { Keeps notes.old.items notes.new.items }
+    ensures only { NotesOnly (λ other. other ≡ folder.now) notes.old.items notes.new.items }
 {
     if is_noted(notes.as_slice(), folder) {
         return Ok(());
@@ -28,6 +29,7 @@ pub fn note(notes: &mut Vec<String>, folder: &str) -> Result<(), AllocError>
 pub fn note_or_all(notes: &mut Vec<String>, folder: &str, is_unsettled: &mut bool)
     ensures noted { IsTrue (is_noted notes.new.items folder.now) ⊎ IsTrue is_unsettled.new }
     ensures kept { Keeps notes.old.items notes.new.items }
+    ensures only { NotesOnly (λ other. other ≡ folder.now) notes.old.items notes.new.items }
     ensures unsettled { IsTrue is_unsettled.old → IsTrue is_unsettled.new }
 {
     if note(notes, folder).is_err() {

@@ -1,8 +1,9 @@
 //! A file that gets its name.
-ghost use Rattle.std.specs.Prelude.{◌≡◌, [], ◌∷◌, IfOk, IsSome, Ok, true, false, is_ok};
+ghost use Rattle.std.specs.Prelude.{◌≡◌, [], ◌∷◌, IfOk, IsSome, is_ok};
 ghost use Rattle.cv_system.specs.Calls.{Created, Removed};
-ghost use Rattle.cv_system.specs.Steps.{IsLook, Makes, Tries};
-ghost use Rattle.cv_folder.specs.Writes.{MovesFile, Puts, SeesOther, TriesAnew, put};
+ghost use Rattle.cv_folder.specs.FolderVaultInner.{LooksForOther};
+ghost use Rattle.cv_system.specs.Steps.{Tries};
+ghost use Rattle.cv_folder.specs.Writes.{MovesFile, Puts, TriesAnew, put};
 
 use cv_system::looks::seen;
 use cv_system::{Seen, System};
@@ -57,9 +58,7 @@ pub fn put_file<S: System>(system: &mut S, next: &str, path: &str, bytes: &[u8])
 
 /// Whether a path is another name of a file that was found.
 fn is_other_name<S: System>(system: &mut S, found: &Seen, path: &str) -> io::Result<bool>
-    ensures other { result ≡ Ok true → SeesOther found.now path.now (S.log system.old)
-        (S.log system.new) }
-    ensures looks { Makes IsLook (S.log system.old) (S.log system.new) }
+    ensures { LooksForOther found.now path.now result (S.log system.old) (S.log system.new) }
 {
     if found.links <= 1 {
         return Ok(false);

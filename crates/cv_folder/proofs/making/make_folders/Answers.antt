@@ -1,22 +1,24 @@
 use Rattle.std.proofs.Common.{refl, [], subst, List, ℕ}
 use Rattle.cv_system.specs.Looks.{folders_at}
 use Rattle.cv_folder.specs.Writes.{Leads}
-use Rattle.cv_folder.proofs.Preparing.{leads_then, prepares_none, prepares_on}
+use Rattle.cv_folder.proofs.Preparing.{above_wider, leads_then, prepares_none, prepares_on, prepares_wider}
+use Rattle.cv_folder.proofs.Notes.{notes_none, notes_then, notes_wider}
 use Rattle.cv_system.proofs.Laws.{all_seen, one_place_more}
 use Rattle.cv_folder.proofs.making.make_folders.Goals as goal
 
 pub loop-end-init : goal.loop-end-init
-loop-end-init g c = record { kept = λ folder noted. noted; prepared = prepares_none _ _ _ _ refl; through = ([], refl, refl) }
+loop-end-init g c = record { kept = λ folder noted. noted; only = notes_none _ _ _ refl; prepared = prepares_none _ _ _ _ _ refl; through = ([], refl, refl) }
 
 pub returns-in_err-make_folder_at-clause-calls : goal.returns-in_err-make_folder_at-clause-calls
-returns-in_err-make_folder_at-clause-calls g c = prepares_on _ _ _ _ _ _ c.loop-end.auto.end c.loop-end.invariant.prepared c.make_folder_at.ensures.calls
+returns-in_err-make_folder_at-clause-calls g c = prepares_on _ _ _ _ _ _ _ _ c.loop-end.auto.end c.make_folder_at.ensures.kept c.loop-end.invariant.prepared c.make_folder_at.ensures.calls
 
 pub loop-end-preserved : goal.loop-end-preserved
 loop-end-preserved g c =
     let so_far = c.loop-end.invariant.through in
     record {
       kept = λ folder noted. c.make_folder_at.ensures.kept folder (c.loop-end.invariant.kept folder noted);
-      prepared = prepares_on _ _ _ _ _ _ c.loop-end.auto.end c.loop-end.invariant.prepared c.make_folder_at.ensures.calls;
+      only = notes_then _ _ _ _ c.loop-end.invariant.only (notes_wider _ _ _ _ (above_wider c.args.path.now c.args.from c.loop-end.end c.loop-end.auto.end) c.make_folder_at.ensures.only);
+      prepared = prepares_on _ _ _ _ _ _ _ _ c.loop-end.auto.end c.make_folder_at.ensures.kept c.loop-end.invariant.prepared c.make_folder_at.ensures.calls;
       through = (
         _,
         one_place_more c.args.path.now c.args.from c.loop-end.end so_far.0 c.loop-end-test.true so_far.1,
@@ -29,3 +31,7 @@ returns-clause-leads g c =
     let so_far = c.loop-end.invariant.through in
     subst (λ (folders : List (List ℕ)). Leads folders (g.S.System.log c.args.system.now) (g.S.System.log c.loop-end.system))
     (all_seen c.args.path.now c.args.from c.loop-end.end so_far.0 c.loop-end-test.false so_far.1) so_far.2
+
+pub returns-in_err-make_folder_at-clause-only : goal.returns-in_err-make_folder_at-clause-only
+returns-in_err-make_folder_at-clause-only g c =
+    notes_then _ _ _ _ c.loop-end.invariant.only (notes_wider _ _ _ _ (above_wider c.args.path.now c.args.from c.loop-end.end c.loop-end.auto.end) c.make_folder_at.ensures.only)

@@ -9,13 +9,14 @@ pub returns-in_err-is_other_name : goal.returns-in_err-is_other_name
 unfolding MovesFile
 returns-in_err-is_other_name g c =
     let p = err_from_is_err_and c.from_residual.result c.from_residual.ensures.1 in
-    rw p.1 (inr (inr (refl, c.is_other_name.ensures.looks)))
+    let look = rw c.in_err-is_other_name.was at c.is_other_name.ensures in
+    rw p.1 (inr (inr (refl, look.0, _, look.1)))
 
 pub returns-then-branch : goal.returns-then-branch
 unfolding MovesFile
 returns-then-branch g c =
-    inr (inl (_, c.is_other_name.ensures.other (c.in_ok-is_other_name.was ∙ ap Ok c.if-branch.true), tried_one (Removed c.args.from.now) c.remove_file.result _ _ c.remove_file.ensures))
+    inr (inl (_, rw (c.in_ok-is_other_name.was ∙ ap Ok c.if-branch.true) at c.is_other_name.ensures, tried_one (Removed c.args.from.now) c.remove_file.result _ _ c.remove_file.ensures))
 
 pub returns-else-branch : goal.returns-else-branch
 unfolding MovesFile
-returns-else-branch g c = inl (_, c.is_other_name.ensures.looks, tried_one (Renamed c.args.from.now c.args.to.now) c.rename.result _ _ c.rename.ensures)
+returns-else-branch g c = inl (_, rw (c.in_ok-is_other_name.was ∙ ap Ok c.if-branch.false) at c.is_other_name.ensures, tried_one (Renamed c.args.from.now c.args.to.now) c.rename.result _ _ c.rename.ensures)

@@ -1,24 +1,27 @@
-use Rattle.std.proofs.Common.{ap, string_bytes}
+use Rattle.std.proofs.Common.{ap, refl, string_bytes}
 use Rattle.std.specs.Prelude.{IsTrue}
 use Rattle.cv_system.specs.Names.{is_name}
-use Rattle.cv_folder.proofs.Filing.{begins_asked, begins_made}
+use Rattle.cv_folder.specs.Noted.{is_noted}
+use Rattle.cv_folder.proofs.Notes.{stays_noted}
+use Rattle.cv_folder.proofs.Filing.{begins_asked, begins_made, begins_on}
 use Rattle.cv_folder.proofs.folder_vault.FolderVault.begin_write.Goals as goal
 
 pub returns-in_err-begin-clause-begins : goal.returns-in_err-begin-clause-begins
-returns-in_err-begin-clause-begins g c = begins_asked g.S.System.log c.args.self.now c.begin.new.self c.begin.ensures.asks
+returns-in_err-begin-clause-begins g c = begins_asked g.S.System.log c.args.self.now c.begin.new.self _ c.begin.ensures.asks c.begin.ensures.holds
 
 pub returns-in_err-begin-clause-no_name : goal.returns-in_err-begin-clause-no_name
 returns-in_err-begin-clause-no_name g c = λ never. c.begin.ensures.asks
 
 pub returns-then-branch-clause-begins : goal.returns-then-branch-clause-begins
-returns-then-branch-clause-begins g c = begins_asked g.S.System.log c.args.self.now c.begin.new.self c.begin.ensures.asks
+returns-then-branch-clause-begins g c = begins_asked g.S.System.log c.args.self.now c.begin.new.self _ c.begin.ensures.asks c.begin.ensures.holds
 
 pub returns-then-branch-clause-no_name : goal.returns-then-branch-clause-no_name
 returns-then-branch-clause-no_name g c = λ never. c.begin.ensures.asks
 
 pub returns-in_err-make_root-clause-begins : goal.returns-in_err-make_root-clause-begins
 returns-in_err-make_root-clause-begins g c =
-    begins_made g.S.System.log c.args.self.now c.begin.new.self c.make_root.new.self c.begin.ensures.asks (rw c.if-branch.false at c.in_ok-begin.ensures.held) _ (ap string_bytes c.begin.ensures.stays.0) c.make_root.ensures.calls
+    begins_made g.S.System.log c.args.self.now c.begin.new.self c.make_root.new.self _ c.begin.ensures.asks c.begin.ensures.holds (rw c.if-branch.false at c.in_ok-begin.ensures.held)
+    c.make_root.ensures.adds.3 _ (ap string_bytes c.begin.ensures.stays.0) c.make_root.ensures.calls c.make_root.ensures.noted
 
 pub returns-in_err-make_root-clause-no_name : goal.returns-in_err-make_root-clause-no_name
 returns-in_err-make_root-clause-no_name g c = λ never. let named : IsTrue (is_name c.args.name.now) = c.in_ok-begin.ensures.path.0.0 in cc
@@ -26,7 +29,11 @@ returns-in_err-make_root-clause-no_name g c = λ never. let named : IsTrue (is_n
 pub returns-clause-begins : goal.returns-clause-begins
 returns-clause-begins g c =
     rw (c.set_path.ensures.calls, c.set_path.ensures.hold)
-    (begins_made g.S.System.log c.args.self.now c.begin.new.self c.make_root.new.self c.begin.ensures.asks (rw c.if-branch.false at c.in_ok-begin.ensures.held) _ (ap string_bytes c.begin.ensures.stays.0) c.make_root.ensures.calls)
+    (begins_on (string_bytes c.args.self.now.root) c.args.self.now.hold c.make_root.new.self.hold c.make_root.new.self.is_unsettled c.set_path.new.self.is_unsettled
+    (is_noted c.make_root.new.self.folders.items) (is_noted c.set_path.new.self.folders.items) _ _ c.set_path.ensures.stays.2
+    (λ folder noted. stays_noted c.make_root.new.self.folders c.set_path.new.self.folders folder folder c.set_path.ensures.stays.1 refl noted)
+    (begins_made g.S.System.log c.args.self.now c.begin.new.self c.make_root.new.self _ c.begin.ensures.asks c.begin.ensures.holds (rw c.if-branch.false at c.in_ok-begin.ensures.held)
+    c.make_root.ensures.adds.3 _ (ap string_bytes c.begin.ensures.stays.0) c.make_root.ensures.calls c.make_root.ensures.noted))
 
 pub returns-clause-no_name : goal.returns-clause-no_name
 returns-clause-no_name g c = λ never. let named : IsTrue (is_name c.args.name.now) = c.in_ok-begin.ensures.path.0.0 in cc

@@ -7,7 +7,7 @@ use Rattle.cv_folder.proofs.folder_vault.FolderVault.find.Goals as goal
 pub returns-in_err-begin-clause-calls : goal.returns-in_err-begin-clause-calls
 returns-in_err-begin-clause-calls g c =
     let p = err_from_is_err_and c.from_residual.result c.from_residual.ensures.1 in
-    rw p.1 (acts_so g.S.System.log _ _ _ _ c.begin.ensures.asks refl (finds_no_more (string_bytes c.args.self.now.root) c.args.name.now _ _ _ _ refl))
+    rw p.1 (acts_so g.S.System.log _ _ _ _ c.begin.ensures.asks refl (finds_no_more (string_bytes c.args.self.now.root) c.args.name.now _ _ _ _ c.in_err-begin.ensures.fails refl))
 
 pub returns-then-not-branch-clause-calls : goal.returns-then-not-branch-clause-calls
 returns-then-not-branch-clause-calls g c =

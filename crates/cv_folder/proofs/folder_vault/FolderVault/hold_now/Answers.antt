@@ -12,11 +12,11 @@ returns-then-not-has_root-clause-asked g c =
 pub returns-clause-asked : goal.returns-clause-asked
 returns-clause-asked g c =
     IfOk-weaker c.hold_of.result _ _
-    (λ hold. asked_so (string_bytes c.args.self.now.root) c.as_str.result.now _ _ _ (c.as_str.ensures.path ∙ c.has_root.ensures.path c.if-not-has_root.false) c.has_root.ensures.calls hold)
+    (λ hold. asked_so (string_bytes c.args.self.now.root) c.as_str.result.now _ _ _ (c.as_str.ensures.path ∙ c.has_root.ensures.path c.if-not-has_root.false) c.has_root.ensures.calls hold (c.has_root.ensures.root.0 c.if-not-has_root.false))
     c.hold_of.ensures.asked
 
 pub returns-clause-fails : goal.returns-clause-fails
 returns-clause-fails g c =
     on_err c.hold_of.result
-    (λ error told. unasked_so (string_bytes c.args.self.now.root) c.as_str.result.now _ _ _ (c.as_str.ensures.path ∙ c.has_root.ensures.path c.if-not-has_root.false) c.has_root.ensures.calls c.args.self.now.hold c.requires (error_kind error) told.0 told.1)
+    (λ error told. unasked_so (string_bytes c.args.self.now.root) c.as_str.result.now _ _ _ (c.as_str.ensures.path ∙ c.has_root.ensures.path c.if-not-has_root.false) c.has_root.ensures.calls c.args.self.now.hold c.requires (c.has_root.ensures.root.0 c.if-not-has_root.false) (error_kind error) told)
     c.hold_of.ensures.fails

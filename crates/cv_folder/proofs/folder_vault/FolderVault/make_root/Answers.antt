@@ -1,4 +1,4 @@
-use Rattle.std.proofs.Common.{◌∙◌, ap, refl, string_bytes}
+use Rattle.std.proofs.Common.{◌∙◌, ap, inr, refl, string_bytes}
 use Rattle.cv_system.specs.Names.{folder_of}
 use Rattle.cv_folder.proofs.Holding.{makes_still, makes_then}
 use Rattle.cv_folder.proofs.Notes.{stays_noted}
@@ -6,7 +6,7 @@ use Rattle.cv_folder.proofs.folder_vault.FolderVault.make_root.Goals as goal
 
 pub returns-in-Some-clause-noted : goal.returns-in-Some-clause-noted
 returns-in-Some-clause-noted g c =
-    stays_noted c.note.new.notes c.set_root.new.self.folders _ _ c.in_ok-set_root.ensures.stays.1 (c.folder_of.ensures ∙ ap folder_of c.as_str.ensures.value) c.in_ok-note.ensures.noted
+    inr (stays_noted c.note.new.notes c.set_root.new.self.folders _ _ c.in_ok-set_root.ensures.stays.1 (c.folder_of.ensures ∙ ap folder_of c.as_str.ensures.value) c.in_ok-note.ensures.noted)
 
 pub returns-in_err-note-clause-calls : goal.returns-in_err-note-clause-calls
 returns-in_err-note-clause-calls g c = makes_still _ c.args.self.now.hold _ _ c.requires refl

@@ -14,26 +14,26 @@ returns-clause-left g c =
 pub returns-in_err-source-clause-calls : goal.returns-in_err-source-clause-calls
 returns-in_err-source-clause-calls g c =
     let p = err_from_is_err_and c.from_residual.result c.from_residual.ensures.1 in
-    rw p.1 (moves_no_more (string_bytes c.args.self.now.root) c.args.to.now c.args.found.now _ _ _ refl)
+    rw p.1 (moves_no_more (string_bytes c.args.self.now.root) c.args.to.now c.args.found.now _ _ _ _ refl)
 
 pub returns-in_err-set_path-clause-calls : goal.returns-in_err-set_path-clause-calls
 returns-in_err-set_path-clause-calls g c =
     let p = err_from_is_err_and c.from_residual-in_err-set_path.result c.from_residual-in_err-set_path.ensures.1 in
-    rw p.1 (moves_no_more (string_bytes c.args.self.now.root) c.args.to.now c.args.found.now _ _ _ c.set_path.ensures.calls)
+    rw p.1 (moves_no_more (string_bytes c.args.self.now.root) c.args.to.now c.args.found.now _ _ _ _ c.set_path.ensures.calls)
 
 pub returns-in_err-note-clause-calls : goal.returns-in_err-note-clause-calls
 returns-in_err-note-clause-calls g c =
     let p = err_from_is_err_and c.from_residual-in_err-note.result c.from_residual-in_err-note.ensures.1 in
-    rw p.1 (moves_no_more (string_bytes c.args.self.now.root) c.args.to.now c.args.found.now _ _ _ c.set_path.ensures.calls)
+    rw p.1 (moves_no_more (string_bytes c.args.self.now.root) c.args.to.now c.args.found.now _ _ _ _ c.set_path.ensures.calls)
 
 pub returns-in_err-make_folders-clause-calls : goal.returns-in_err-make_folders-clause-calls
 returns-in_err-make_folders-clause-calls g c =
     let p = err_from_is_err_and c.from_residual-in_err-make_folders.result c.from_residual-in_err-make_folders.ensures.1 in
-    rw p.1 (moves_on_way (string_bytes c.args.self.now.root) c.args.to.now c.args.found.now _ c.args.self.now.path c.set_path.new.self.path c.names_from-from.result c.in_ok-set_path.ensures.path
+    rw p.1 (moves_on_way (string_bytes c.args.self.now.root) c.args.to.now c.args.found.now _ _ c.args.self.now.path c.set_path.new.self.path c.names_from-from.result c.in_ok-set_path.ensures.path
     (c.names_from-from.ensures ∙ ap (λ root. length (string_bytes root) + 1) c.set_path.ensures.stays.0) _ _ c.set_path.ensures.calls (rw c.as_str-3.ensures.path at c.make_folders.ensures.calls))
 
 pub returns-clause-calls : goal.returns-clause-calls
 returns-clause-calls g c =
-    moves_on (string_bytes c.args.self.now.root) c.args.to.now c.args.found.now _ c.args.self.now.path c.set_path.new.self.path c.names_from-from.result c.in_ok-set_path.ensures.path
+    moves_on (string_bytes c.args.self.now.root) c.args.to.now c.args.found.now _ _ c.args.self.now.path c.set_path.new.self.path c.names_from-from.result c.in_ok-set_path.ensures.path
     (c.names_from-from.ensures ∙ ap (λ root. length (string_bytes root) + 1) c.set_path.ensures.stays.0) _ _ c.set_path.ensures.calls (rw c.as_str-3.ensures.path at c.make_folders.ensures.calls)
     _ _ _ (c.as_str-4.ensures.value ∙ c.in_ok-source.ensures.ok ∙ c.as_str.ensures.path) (rw c.as_str-3.ensures.path at c.in_ok-make_folders.ensures.leads) (rw c.as_str-5.ensures.path at c.move_file.ensures)

@@ -9,22 +9,22 @@ use Rattle.cv_folder.proofs.folder_vault.FolderVault.rename_now.Goals as goal
 pub returns-in_err-found-clause-calls : goal.returns-in_err-found-clause-calls
 returns-in_err-found-clause-calls g c = λ differ named.
     let p = err_from_is_err_and c.from_residual.result c.from_residual.ensures.1 in
-    rw p.1 (acts_on g.S.System.log _ _ _ _ _ c.in_err-found.ensures.calls refl (λ asked look. moves_lost (string_bytes c.args.self.now.root) c.args.from.now _ asked _ c.args.to.now _ _ look))
+    rw p.1 (acts_on g.S.System.log _ _ _ _ _ c.in_err-found.ensures.calls refl (λ asked look. moves_lost (string_bytes c.args.self.now.root) c.args.from.now _ asked _ c.args.to.now _ _ _ look))
 
 pub returns-in-None-clause-calls : goal.returns-in-None-clause-calls
 returns-in-None-clause-calls g c = λ differ named.
-    acts_on g.S.System.log _ _ _ _ _ (rw c.in-None.is at c.in_ok-found.ensures.calls) refl (λ asked look. moves_none (string_bytes c.args.self.now.root) c.args.from.now _ asked _ c.args.to.now look)
+    acts_on g.S.System.log _ _ _ _ _ (rw c.in-None.is at c.in_ok-found.ensures.calls) refl (λ asked look. moves_none (string_bytes c.args.self.now.root) c.args.from.now _ asked _ c.args.to.now _ look)
 
 pub returns-in_err-move_found-in-Some-clause-calls : goal.returns-in_err-move_found-in-Some-clause-calls
 returns-in_err-move_found-in-Some-clause-calls g c = λ differ named.
     let p = err_from_is_err_and c.from_residual-in_err-move_found-in-Some.result c.from_residual-in_err-move_found-in-Some.ensures.1 in
     rw p.1 (acts_on g.S.System.log _ _ _ _ _ (rw c.in-Some.is at c.in_ok-found.ensures.calls) c.move_found.ensures.hold
-    (λ asked has. moves_in_vain (string_bytes c.args.self.now.root) c.args.from.now _ asked c.in-Some.found _ (subst (λ hold. FindsNamed {E = Error} (string_bytes c.args.self.now.root) c.args.from.now hold (Ok (Some c.in-Some.found)) asked (g.S.System.log c.find.new.self.system)) (sym c.move_found.ensures.hold) has) c.args.to.now _ _ (ap string_bytes c.find.ensures.stays.0) (c.in_ok-found.ensures.path.0.1 ∙ ap (λ root. path_of (string_bytes root) c.args.from.now) c.find.ensures.stays.0) _ _ c.in_err-move_found-in-Some.ensures.calls))
+    (λ asked has. moves_in_vain (string_bytes c.args.self.now.root) c.args.from.now _ asked c.in-Some.found _ (subst (λ hold. FindsNamed {E = Error} (string_bytes c.args.self.now.root) c.args.from.now hold (Ok (Some c.in-Some.found)) asked (g.S.System.log c.find.new.self.system)) (sym c.move_found.ensures.hold) has) c.args.to.now _ _ _ (ap string_bytes c.find.ensures.stays.0) (c.in_ok-found.ensures.path.0.1 ∙ ap (λ root. path_of (string_bytes root) c.args.from.now) c.find.ensures.stays.0) _ _ c.in_err-move_found-in-Some.ensures.calls))
 
 pub returns-in_ok-move_found-in-Some-clause-calls : goal.returns-in_ok-move_found-in-Some-clause-calls
 returns-in_ok-move_found-in-Some-clause-calls g c = λ differ named.
     acts_on g.S.System.log _ _ _ _ _ (rw c.in-Some.is at c.in_ok-found.ensures.calls) c.move_found.ensures.hold
-    (λ asked has. moves_named (string_bytes c.args.self.now.root) c.args.from.now _ asked c.in-Some.found _ (subst (λ hold. FindsNamed {E = Error} (string_bytes c.args.self.now.root) c.args.from.now hold (Ok (Some c.in-Some.found)) asked (g.S.System.log c.find.new.self.system)) (sym c.move_found.ensures.hold) has) c.args.to.now _ _ (ap string_bytes c.find.ensures.stays.0) (c.in_ok-found.ensures.path.0.1 ∙ ap (λ root. path_of (string_bytes root) c.args.from.now) c.find.ensures.stays.0) _ c.in_ok-move_found-in-Some.ensures.calls)
+    (λ asked has. moves_named (string_bytes c.args.self.now.root) c.args.from.now _ asked c.in-Some.found _ (subst (λ hold. FindsNamed {E = Error} (string_bytes c.args.self.now.root) c.args.from.now hold (Ok (Some c.in-Some.found)) asked (g.S.System.log c.find.new.self.system)) (sym c.move_found.ensures.hold) has) c.args.to.now _ _ _ (ap string_bytes c.find.ensures.stays.0) (c.in_ok-found.ensures.path.0.1 ∙ ap (λ root. path_of (string_bytes root) c.args.from.now) c.find.ensures.stays.0) _ c.in_ok-move_found-in-Some.ensures.calls)
 
 pub returns-in_ok-move_found-in-Some-clause-left : goal.returns-in_ok-move_found-in-Some-clause-left
 returns-in_ok-move_found-in-Some-clause-left g c = λ _.

@@ -1,4 +1,4 @@
-use Rattle.std.proofs.Common.{◌∙◌, Ok, ap, map, refl, string_bytes}
+use Rattle.std.proofs.Common.{◌∙◌, map, refl, string_bytes}
 use Rattle.cv_folder.proofs.Acts.{acts_so}
 use Rattle.cv_folder.proofs.Filing.{sync_done, syncs_nothing}
 use Rattle.cv_folder.proofs.folder_vault.FolderVault.sync_now.Goals as goal
@@ -11,5 +11,5 @@ returns-then-not-branch-clause-calls g c =
 pub returns-clause-calls : goal.returns-clause-calls
 returns-clause-calls g c =
     sync_done g.S.System.log c.args.self.now c.is_held.new.self c.sync_changed-done.new.self c.end_sync.new.self c.sync_changed-done.result c.end_sync.result c.is_held.ensures.asks
-    (rw c.if-not-branch.false at c.in_ok-is_held.ensures.held) c.is_held.ensures.stays.2 (λ was. c.is_held.ensures.unsettled was (c.in_ok-is_held.was ∙ ap Ok c.if-not-branch.false))
+    (rw c.if-not-branch.false at c.in_ok-is_held.ensures.held) c.is_held.ensures.stays.2 (λ was. c.is_held.ensures.holds.1 was (rw c.if-not-branch.false at c.in_ok-is_held.ensures.held))
     c.is_held.ensures.stays.0 c.is_held.ensures.stays.1 c.sync_changed-done.ensures.calls (c.end_sync.ensures.hold ∙ c.sync_changed-done.ensures.hold) c.end_sync.ensures.calls c.end_sync.ensures.ok.0

@@ -2,32 +2,42 @@ use Rattle.std.proofs.lemmas.Result.{err_from_is_err_and}
 use Rattle.std.proofs.Common.{◌∙◌, ◌+◌, ◌++◌, List, ℕ, ap, codes, length, refl, string_bytes, sym}
 use Rattle.std.specs.Prelude.{IsTrue}
 use Rattle.cv_system.specs.Names.{folder_of, is_name, path_of}
-use Rattle.cv_folder.proofs.Filing.{writes_no_more, writes_on_way, writes_so}
+use Rattle.cv_folder.proofs.Filing.{begins_on, writes_no_more, writes_on_way, writes_so}
+use Rattle.cv_folder.proofs.Notes.{stays_noted}
 use Rattle.cv_folder.proofs.folder_vault.FolderVault.write_now.Goals as goal
 
 pub returns-in_err-begin_write-clause-calls : goal.returns-in_err-begin_write-clause-calls
 returns-in_err-begin_write-clause-calls g c =
     let p = err_from_is_err_and c.from_residual.result c.from_residual.ensures.1 in
-    rw p.1 (writes_no_more (string_bytes c.args.self.now.root) c.args.name.now c.args.bytes.now c.args.self.now.hold c.begin_write.new.self.hold _ _ c.begin_write.ensures.begins _ refl)
+    rw p.1 (writes_no_more (string_bytes c.args.self.now.root) c.args.name.now c.args.bytes.now c.args.self.now.hold c.begin_write.new.self.hold _ _ _ _ c.begin_write.ensures.begins _ refl)
 
 pub returns-in_err-set_next-clause-calls : goal.returns-in_err-set_next-clause-calls
 returns-in_err-set_next-clause-calls g c =
     let p = err_from_is_err_and c.from_residual-in_err-set_next.result c.from_residual-in_err-set_next.ensures.1 in
-    rw p.1 (writes_no_more (string_bytes c.args.self.now.root) c.args.name.now c.args.bytes.now c.args.self.now.hold c.set_next.new.self.hold _ _ (rw (← c.set_next.ensures.hold) at c.begin_write.ensures.begins) _ c.set_next.ensures.calls)
+    let begins = begins_on _ _ _ _ _ _ _ _ _ c.set_next.ensures.stays.2
+    (λ folder noted. stays_noted c.begin_write.new.self.folders c.set_next.new.self.folders folder folder c.set_next.ensures.stays.1 refl noted)
+    (rw (← c.set_next.ensures.hold) at c.begin_write.ensures.begins) in
+    rw p.1 (writes_no_more (string_bytes c.args.self.now.root) c.args.name.now c.args.bytes.now c.args.self.now.hold c.set_next.new.self.hold _ _ _ _ begins _ c.set_next.ensures.calls)
 
 pub returns-in_err-make_folders-clause-calls : goal.returns-in_err-make_folders-clause-calls
 returns-in_err-make_folders-clause-calls g c =
     let p = err_from_is_err_and c.from_residual-in_err-make_folders.result c.from_residual-in_err-make_folders.ensures.1 in
     let root = c.set_next.ensures.stays.0 ∙ c.begin_write.ensures.adds.0 in
     let at = c.set_next.ensures.path ∙ c.in_ok-begin_write.ensures.path.1 ∙ ap (λ root. path_of (string_bytes root) c.args.name.now) c.begin_write.ensures.adds.0 in
-    rw p.1 (writes_on_way (string_bytes c.args.self.now.root) c.args.name.now c.args.bytes.now c.args.self.now.hold c.set_next.new.self.hold _ _ (rw (← c.set_next.ensures.hold) at c.begin_write.ensures.begins) (rw (← c.set_next.ensures.hold) at c.in_ok-begin_write.ensures.held.0) c.in_ok-begin_write.ensures.path.0 c.set_next.new.self.path c.set_next.new.self.next c.names_from-from.result
+    let begins = begins_on _ _ _ _ _ _ _ _ _ c.set_next.ensures.stays.2
+    (λ folder noted. c.make_folders.ensures.kept folder (stays_noted c.begin_write.new.self.folders c.set_next.new.self.folders folder folder c.set_next.ensures.stays.1 refl noted))
+    (rw (← c.set_next.ensures.hold) at c.begin_write.ensures.begins) in
+    rw p.1 (writes_on_way (string_bytes c.args.self.now.root) c.args.name.now c.args.bytes.now c.args.self.now.hold c.set_next.new.self.hold _ _ _ _ begins (rw (← c.set_next.ensures.hold) at c.in_ok-begin_write.ensures.held.0) c.in_ok-begin_write.ensures.path.0 c.set_next.new.self.path c.set_next.new.self.next c.names_from-from.result
     at (c.names_from-from.ensures ∙ ap (λ root. length (string_bytes root) + 1) root) _ _ c.set_next.ensures.calls (rw c.as_str.ensures.path at c.make_folders.ensures.calls))
 
 pub returns-clause-calls : goal.returns-clause-calls
 returns-clause-calls g c =
     let root = c.set_next.ensures.stays.0 ∙ c.begin_write.ensures.adds.0 in
     let at = c.set_next.ensures.path ∙ c.in_ok-begin_write.ensures.path.1 ∙ ap (λ root. path_of (string_bytes root) c.args.name.now) c.begin_write.ensures.adds.0 in
-    writes_so (string_bytes c.args.self.now.root) c.args.name.now c.args.bytes.now c.args.self.now.hold c.set_next.new.self.hold _ _ (rw (← c.set_next.ensures.hold) at c.begin_write.ensures.begins) (rw (← c.set_next.ensures.hold) at c.in_ok-begin_write.ensures.held.0) c.in_ok-begin_write.ensures.path.0 c.set_next.new.self.path c.set_next.new.self.next c.names_from-from.result
+    let begins = begins_on _ _ _ _ _ _ _ _ _ c.set_next.ensures.stays.2
+    (λ folder noted. c.make_folders.ensures.kept folder (stays_noted c.begin_write.new.self.folders c.set_next.new.self.folders folder folder c.set_next.ensures.stays.1 refl noted))
+    (rw (← c.set_next.ensures.hold) at c.begin_write.ensures.begins) in
+    writes_so (string_bytes c.args.self.now.root) c.args.name.now c.args.bytes.now c.args.self.now.hold c.set_next.new.self.hold _ _ _ _ begins (rw (← c.set_next.ensures.hold) at c.in_ok-begin_write.ensures.held.0) c.in_ok-begin_write.ensures.path.0 c.set_next.new.self.path c.set_next.new.self.next c.names_from-from.result
     at (c.names_from-from.ensures ∙ ap (λ root. length (string_bytes root) + 1) root) _ _ c.set_next.ensures.calls (rw c.as_str.ensures.path at c.make_folders.ensures.calls) _ _
     (c.in_ok-set_next.ensures.next ∙ ap (λ (path : List ℕ). folder_of path ++ codes ".cvkit-next") (sym c.set_next.ensures.path))
     (rw c.as_str.ensures.path at c.in_ok-make_folders.ensures.leads)
