@@ -23,6 +23,11 @@ pub on_ok : {T E Q : Type 0} (result : Result T E) → Q → OnOk result Q
 on_ok (Ok x) so = so
 on_ok (Err error) so = tt
 
+-- and where it isn't
+pub on_err_only : {T E Q : Type 0} (result : Result T E) → Q → OnErr result Q
+on_err_only (Ok x) so = tt
+on_err_only (Err error) so = so
+
 -- what an error shows
 pub on_err : {T E Q : Type 0} {P : E → Type 0} (result : Result T E) → ((error : E) → P error → Q) → IfErr result P → OnErr result Q
 on_err (Ok x) so h = tt
@@ -212,9 +217,9 @@ module _ {S F N E D : Type 0} (log : S → Log) (before between after : FolderVa
     unfolding MovesNamed
     moves_fault to noted acts = as_called (λ hold. MovesNamed root name to hold noted (Err fault)) acts
 
-  pub lists_fault : {Z : Type 0} (root : List ℕ) → Acts log (ListsNamed {Z = Z} root between.hold (Err error)) before between → Acts log (ListsNamed {Z = Z} root after.hold (Err fault)) before after
+  pub lists_fault : (Z : Type 0) (root : List ℕ) → Acts log (ListsNamed {Z = Z} root between.hold (Err error)) before between → Acts log (ListsNamed {Z = Z} root after.hold (Err fault)) before after
   unfolding ListsNamed
-  lists_fault {Z} root acts = as_called (λ hold. ListsNamed {Z = Z} root hold (Err fault)) acts
+  lists_fault Z root acts = as_called (λ hold. ListsNamed {Z = Z} root hold (Err fault)) acts
 
 -- what is answered well is the same
 module _ {S F N : Type 0} (E D : Type 0) (log : S → Log) (before after : FolderVault S F N) (hold : Hold F) (root name : List ℕ) where

@@ -4,4 +4,6 @@ mod Filing
 mod Holding
 mod Listed
 mod Notes
+mod Others
 mod Preparing
+mod Vain

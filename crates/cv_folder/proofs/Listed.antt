@@ -80,11 +80,13 @@ module _ (root : List ℕ) where
   unfolding ListsOn SawFile
   lists_one found found' name path seen before after at is is_file same =
       let calls : Makes IsListing before after = one_call (Looked path (Ok seen)) tt is in
-      let looked : after ≡ and_call (Looked (path_of root name) (Ok seen)) before = is ∙ ap (λ (p : List ℕ). and_call (Looked p (Ok seen)) before) at in
-      (calls, λ start lists.
-      let all = lists_more found start before after calls lists in
-      subst (λ (names : List (List ℕ)). ListsFiles root names start after) (sym same)
-      (all.0, All-push (λ n. SawFile (path_of root n) start after) found name all.1 (before, seen, is_file, lists.0, no_step looked)))
+      let looked : after ≡ and_call (Looked (path_of root name) (Ok seen)) before = is ∙ ap (λ (p : List ℕ). and_call (Looked p (Ok seen)) before) at in (
+        calls,
+        λ start lists.
+            let all = lists_more found start before after calls lists in
+            subst (λ (names : List (List ℕ)). ListsFiles root names start after) (sym same)
+            (all.0, All-push (λ n. SawFile (path_of root n) start after) found name all.1 (before, seen, is_file, lists.0, no_step looked)),
+      )
 
   -- what was seen is added
   pub lists_seen : (found found' : List (List ℕ)) (name path : List ℕ) (seen : Option Seen) (before after : Log) → path ≡ path_of root name → Looks path (Ok seen) before after
@@ -113,7 +115,7 @@ module _ (root : List ℕ) where
   unfolding ListsOn
   lists_calls found found' before after lists = lists.0
 
-module _ {F Z E : Type 0} (root : List ℕ) (hold : Hold F) (before after : Log) where
+module _ {F : Type 0} (Z E : Type 0) (root : List ℕ) (hold : Hold F) (before after : Log) where
   -- nothing is listed where the vault doesn't have its folder
   pub unlisted : (error : E) → (hold ≡ Unasked) ⊎ (hold ≡ Refused) → after ≡ before → ListsNamed {Z = Z} root hold (Err error) before after
   unfolding ListsNamed

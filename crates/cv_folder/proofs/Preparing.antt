@@ -22,10 +22,10 @@ on_way path folder end within is slash = (
 )
 
 -- where nothing is a folder is made, or nothing more is called
-pub makes_missing : (folder : List ℕ) (before between after : Log) → Looks folder (Ok None) before between
-    → {Noted : Type 0} → (after ≡ between) ⊎ (Noted × (made : Outcome) × (after ≡ and_call (Made folder made) between)) → Makes IsLook before after ⊎ (Noted × MakesMissing folder before after)
-makes_missing folder before between after (kind, nothing, is) (inl same) = inl (Then Still (Looked folder (Err kind), tt, same ∙ is))
-makes_missing folder before between after (kind, nothing, is) (inr (noted, made, next)) = inr (noted, kind, made, nothing, two_calls _ _ _ _ _ is next)
+pub makes_missing : (Noted : Type 0) (folder : List ℕ) (before between after : Log) → Looks folder (Ok None) before between
+    → (after ≡ between) ⊎ (Noted × (made : Outcome) × (after ≡ and_call (Made folder made) between)) → Makes IsLook before after ⊎ (Noted × MakesMissing folder before after)
+makes_missing Noted folder before between after (kind, nothing, is) (inl same) = inl (Then Still (Looked folder (Err kind), tt, same ∙ is))
+makes_missing Noted folder before between after (kind, nothing, is) (inr (noted, made, next)) = inr (noted, (kind, made, nothing, two_calls _ _ _ _ _ is next))
 
 -- such a folder is looked at, and made if it is missing
 pub prepares_one : (path folder : List ℕ) (end : ℕ) (noted : List ℕ → Bool) (before after : Log) → end < length path → folder ≡ take end path → get_or path end 0 ≡ 47
@@ -56,12 +56,16 @@ pub above_wider : (path : List ℕ) (from end : ℕ) → from ≤ end → (folde
 above_wider path from end behind folder (inl at) = inl at
 above_wider path from end behind folder (inr (other, (rest, is, size), at)) = inr (other, (rest, is, omega arith), at)
 
+-- a folder above what stands at a place is above what stands at the same
+pub above_at : (from size : ℕ) (path at folder : List ℕ) → from ≡ size → path ≡ at → IsAbove from path folder → IsAbove size at folder
+above_at from size path at folder same is above = subst (λ (p : List ℕ). IsAbove size p folder) is (subst (λ (n : ℕ). IsAbove n path folder) same above)
+
 -- folders further on, where more is noted by then
 pub prepares_on : (path : List ℕ) (from end : ℕ) (noted more : List ℕ → Bool) (before between after : Log) → from ≤ end → ((folder : List ℕ) → IsTrue (noted folder) → IsTrue (more folder))
     → Prepares from path noted before between → Prepares end path more between after → Prepares from path more before after
 unfolding Prepares
-prepares_on path from end noted more before between after behind kept first then =
-    steps_then (prepares_wider path from from noted more (omega arith) kept before between first) (prepares_wider path from end more more behind (λ folder is. is) between after then)
+prepares_on path from end noted more before between after behind kept first further =
+    steps_then (prepares_wider path from from noted more (omega arith) kept before between first) (prepares_wider path from end more more behind (λ folder is. is) between after further)
 
 -- ---- where a way leads
 

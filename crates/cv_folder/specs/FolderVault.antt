@@ -1,5 +1,5 @@
 -- What a call of a vault over a folder leaves to the next sync, and which calls of the system it makes.
-use Rattle.std.specs.Prelude.{ℕ, ◌≡◌, ◌≢◌, ◌⊎◌, ◌+◌, Bool, List, length, map, min, None, Result, Ok, Err, IsTrue, string_bytes, ⊤}
+use Rattle.std.specs.Prelude.{ℕ, ◌≡◌, ◌≢◌, ◌+◌, List, length, map, min, None, Result, Ok, Err, IsTrue, string_bytes, ⊤}
 use Rattle.cv_base.specs.Counts.{last_count}
 use Rattle.cv_vault.specs.Disk.{Disk}
 use Rattle.cv_vault.specs.Moments.{Calls}

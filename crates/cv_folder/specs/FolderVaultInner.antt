@@ -12,6 +12,8 @@ use Rattle.cv_folder.specs.Reads.{HasFile, LacksFile, LooksInVain}
 use Rattle.cv_system.specs.Looks.{folders_past}
 use Rattle.cv_folder.specs.Writes.{Leads, MovesFile, Prepares, SeesNoOther, SeesOther}
 use Rattle.cv_system.specs.declared.seen.Seen.{Seen}
+use Rattle.cv_system.specs.declared.syncing.Unsynced.{Unsynced}
+use Rattle.cv_system.specs.declared.syncing.Unsynced.TheVariants.{Lost, NotOpened}
 use Rattle.cv_system.specs.Calls.{Done, Failed, Log, Looked, Made, and_call}
 
 -- this is a name of the vault, and its path is set
@@ -50,3 +52,9 @@ abbrev pub LooksForOther : Seen → List ℕ → Result Bool Error → Log → L
 LooksForOther seen path (Ok true) before after = SeesOther seen path before after
 LooksForOther seen path (Ok false) before after = SeesNoOther seen path before after
 LooksForOther seen path (Err error) before after = (1 < seen.links) × (after ≡ and_call (Looked path (Err (error_kind error))) before)
+
+-- whether something is lost behind a sync that ended so, where it was or wasn't before
+abbrev pub broken_by : {T : Type 0} → Result T Unsynced → Bool → Bool
+broken_by (Ok x) broken = broken
+broken_by (Err NotOpened) broken = broken
+broken_by (Err Lost) broken = true

@@ -1,11 +1,11 @@
 -- How a vault comes to hold its folder.
-use Rattle.std.specs.Prelude.{ℕ, ◌≡◌, ◌≢◌, ◌⊎◌, ◌+◌, ◌<◌, Bool, true, false, List, [], ◌∷◌, ◌++◌, length, Ok, Err, IsTrue, ⊤}
+use Rattle.std.specs.Prelude.{ℕ, ◌≡◌, ◌≢◌, ◌⊎◌, ◌+◌, ◌<◌, Bool, true, false, List, [], ◌∷◌, length, Ok, Err, IsTrue, ⊤}
 use Rattle.std.specs.declared.io.ErrorKind.{ErrorKind}
 use Rattle.std.specs.declared.io.ErrorKind.TheVariants.{AlreadyExists, NotFound}
 use Rattle.cv_folder.specs.declared.hold.Hold.{Hold}
 use Rattle.cv_folder.specs.declared.hold.Hold.TheVariants.{Absent, Held, Refused, Unasked}
 use Rattle.cv_system.specs.Calls.{Done, Failed, Locked, Log, Made, Opened, Outcome, Unmade, and_call, and_calls}
-use Rattle.cv_system.specs.Names.{folder_of, is_part, last_part}
+use Rattle.cv_system.specs.Names.{folder_of, is_part, last_part, with_slash}
 
 -- the vault has its folder open and locked
 abbrev pub IsHeld : {F : Type 0} → Hold F → Type 0

@@ -6,4 +6,5 @@ pub mod ListedInner
 pub mod Noted
 pub mod Reads
 pub mod Syncs
+pub mod Unsynced
 pub mod Writes

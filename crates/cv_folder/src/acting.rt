@@ -4,7 +4,7 @@ ghost use Rattle.std.specs.IoError.{error_kind, raw_os_error};
 ghost use Rattle.cv_base.specs.Counts.{HasCause};
 ghost use Rattle.cv_vault.specs.declared.vault.VaultFault.TheVariants.{Failed, NoMemory};
 ghost use Rattle.cv_folder.specs.FolderVault.{Acts, Adds, AsksAlone, Fails, Holds, HoldsFirst, HoldsOrMakes, IsAboveName, IsUncalled, Notes, Rests, Serves, Stays, SyncsDone, with_fault};
-ghost use Rattle.cv_folder.specs.FolderVaultInner.{FindsNamed, HasFolder, IsAt, MovesOn};
+ghost use Rattle.cv_folder.specs.FolderVaultInner.{FindsNamed, HasFolder, IsAt, MovesOn, broken_by};
 ghost use Rattle.cv_folder.specs.Hold.{Asked, Begins, IsHeld, IsRoot, MakesRoot};
 ghost use Rattle.cv_system.specs.Names.{folder_of, is_name, path_of, with_slash};
 ghost use Rattle.cv_folder.specs.Listed.{IsListed, ListsNamed};
@@ -13,17 +13,20 @@ ghost use Rattle.cv_folder.specs.Reads.{IsUnserved, MeasuresNamed, ReadsNamed};
 ghost use Rattle.cv_system.specs.Calls.{Removed};
 ghost use Rattle.cv_system.specs.Steps.{Tries};
 ghost use Rattle.cv_folder.specs.Syncs.{SettlesFirst, SyncsAll};
+ghost use Rattle.cv_folder.specs.Unsynced.{FailsSync};
 ghost use Rattle.cv_folder.specs.Writes.{MovesNamed, RemovesNamed, WritesFile};
 
 use crate::folder_vault::FolderVault;
 use crate::hold::{Hold, hold_of, make_held, refused};
 use crate::listing::list_files;
-use cv_system::looks::{find_file, is_memory, read_found};
 use crate::making::make_folders;
-use cv_system::{NEXT, Seen, System, Unsynced, folder_of, is_name, is_root, sync_folder, sync_folders};
 use crate::noting::{note, note_or_all};
 use crate::putting::{move_file, put_file};
 use cv_base::{Bytes, Text};
+use cv_system::looks::{find_file, is_memory, read_found};
+use cv_system::{
+    NEXT, Seen, System, Unsynced, folder_of, is_name, is_root, sync_folder, sync_folders,
+};
 use cv_vault::VaultFault;
 use std::io;
 use std::io::ErrorKind;
@@ -150,7 +153,8 @@ impl<S: System + Drop> FolderVault<S> {
     /// Makes the path of a name, and tells whether the vault has a folder.
     pub(crate) fn begin(&mut self, name: &str) -> io::Result<bool>
         ensures held { IfOk result (λ has. HasFolder self.new.hold has) }
-        ensures fails { OnErr result (IsUnserved (string_bytes self.old.root) name.now self.new.hold) }
+        ensures fails { OnErr result (IsUnserved (string_bytes self.old.root) name.now
+            self.new.hold) }
         ensures path { OnOk result (IsAt self.new name.now × (self.old.hold ≢ Hold.Refused)) }
         ensures stays { Stays self.old self.new }
         ensures holds { HoldsFirst self.old self.new }
@@ -164,6 +168,7 @@ impl<S: System + Drop> FolderVault<S> {
 
     /// Asks for the folder, if that wasn't done yet. What was there before it is held is unsettled.
     pub(crate) fn ask(&mut self) -> io::Result<()>
+        ensures fails { OnErr result (self.new.hold ≡ Hold.Unasked) }
         ensures stays { Stays self.old self.new }
         ensures holds { HoldsFirst self.old self.new }
         ensures faults { self.new.faults ≡ self.old.faults }
@@ -182,7 +187,8 @@ impl<S: System + Drop> FolderVault<S> {
     pub(crate) fn is_held(&mut self) -> io::Result<bool>
         ensures held { IfOk result (λ has. HasFolder self.new.hold has) }
         ensures refused { OnOk result (self.old.hold ≢ Hold.Refused) }
-        ensures fails { OnErr result ((self.new.hold ≡ Hold.Unasked) ⊎ (self.new.hold ≡ Hold.Refused)) }
+        ensures fails { OnErr result
+            ((self.new.hold ≡ Hold.Unasked) ⊎ (self.new.hold ≡ Hold.Refused)) }
         ensures stays { Stays self.old self.new }
         ensures holds { HoldsFirst self.old self.new }
         ensures faults { self.new.faults ≡ self.old.faults }
@@ -298,7 +304,8 @@ impl<S: System + Drop> FolderVault<S> {
         ensures holds { HoldsOrMakes self.old.hold self.new.hold }
         ensures faults { self.new.faults ≡ self.old.faults }
         ensures begins { Begins (string_bytes self.old.root) self.old.hold self.new.hold
-            self.new.is_unsettled (is_noted self.new.folders.items) (S.log self.old.system) (S.log self.new.system) }
+            self.new.is_unsettled (is_noted self.new.folders.items)
+            (S.log self.old.system) (S.log self.new.system) }
         ensures no_name { is_name name.now ≡ false → AsksAlone S.log self.old self.new }
     {
         if self.begin(name)? {
@@ -316,7 +323,8 @@ impl<S: System + Drop> FolderVault<S> {
         ensures holds { HoldsOrMakes self.old.hold self.new.hold }
         ensures faults { self.new.faults ≡ self.old.faults }
         ensures calls { WritesFile (string_bytes self.old.root) name.now bytes.now self.old.hold
-            self.new.hold self.new.is_unsettled (is_noted self.new.folders.items) (is_ok result) (S.log self.old.system) (S.log self.new.system) }
+            self.new.hold self.new.is_unsettled (is_noted self.new.folders.items) (is_ok result)
+            (S.log self.old.system) (S.log self.new.system) }
         ensures no_name { is_name name.now ≡ false → AsksAlone S.log self.old self.new }
     {
         self.begin_write(name)?;
@@ -346,7 +354,8 @@ impl<S: System + Drop> FolderVault<S> {
         ensures hold { self.new.hold ≡ self.old.hold }
         ensures faults { self.new.faults ≡ self.old.faults }
         ensures calls { MovesOn (string_bytes self.old.root) self.old.path to.now found.now
-            (is_noted self.new.folders.items) (is_ok result) (S.log self.old.system) (S.log self.new.system) }
+            (is_noted self.new.folders.items) (is_ok result)
+            (S.log self.old.system) (S.log self.new.system) }
     {
         let source = String::from_str(self.alloc, self.path.as_str())?;
         self.set_path(to)?;
@@ -374,7 +383,7 @@ impl<S: System + Drop> FolderVault<S> {
         ensures faults { self.new.faults ≡ self.old.faults }
         ensures calls { from.now ≢ to.now → IsTrue (is_name to.now)
             → Acts S.log (MovesNamed (string_bytes self.old.root) from.now to.now self.new.hold
-                (is_noted self.new.folders.items) result) self.old self.new }
+            (is_noted self.new.folders.items) result) self.old self.new }
         ensures rests { (from.now ≡ to.now) ⊎ (is_name to.now ≡ false)
             → Rests S.log self.old self.new }
     {
@@ -460,8 +469,7 @@ impl<S: System + Drop> FolderVault<S> {
     pub(crate) fn end_sync(&mut self, done: Result<(), Unsynced>) -> io::Result<()>
         ensures ok { IsOk result ↔ IsOk done }
         ensures done { OnOk result ((self.new.folders.items ≡ []) × (self.new.is_unsettled ≡ false)) }
-        ensures lost { done ≡ Err Unsynced.Lost → IsTrue self.new.broken }
-        ensures whole { done ≢ Err Unsynced.Lost → self.new.broken ≡ self.old.broken }
+        ensures broken { self.new.broken ≡ broken_by done self.old.broken }
         ensures fails { OnErr result (Fails self.old self.new) }
         ensures root { self.new.root ≡ self.old.root }
         ensures faults { self.new.faults ≡ self.old.faults }
@@ -487,6 +495,7 @@ impl<S: System + Drop> FolderVault<S> {
         ensures lost { OnOk result ((self.old.broken ≡ false) × (self.new.broken ≡ false)) }
         ensures refused { OnOk result (self.old.hold ≢ Hold.Refused) }
         ensures fails { OnErr result (Fails self.old self.new × HoldsFirst self.old self.new) }
+        ensures vain { OnErr result (FailsSync S.log self.old self.new) }
         ensures root { (self.new.root ≡ self.old.root) × Holds self.old.hold self.new.hold }
         ensures faults { self.new.faults ≡ self.old.faults }
         ensures calls { OnOk result (SyncsDone S.log self.old self.new) }

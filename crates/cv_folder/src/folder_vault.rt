@@ -9,11 +9,12 @@ ghost use Rattle.cv_folder.specs.Listed.{IsListed, ListsNamed};
 ghost use Rattle.cv_system.specs.Names.{folder_of, is_name, path_of};
 ghost use Rattle.cv_folder.specs.Noted.{is_noted};
 ghost use Rattle.cv_folder.specs.Reads.{MeasuresNamed, ReadsNamed};
+ghost use Rattle.cv_folder.specs.Unsynced.{FailsSync};
 ghost use Rattle.cv_folder.specs.Writes.{MovesNamed, RemovesNamed, WritesFile};
 
 use crate::hold::Hold;
-use cv_system::{PathBuffer, System, Walk};
 use cv_base::{Bytes, Text};
+use cv_system::{PathBuffer, System, Walk};
 use cv_vault::{Vault, VaultFault};
 use std::alloc::{AllocError, Global};
 
@@ -82,6 +83,13 @@ impl<S: System + Drop> FolderVault<S> {
             broken: false,
             faults: 0,
         })
+    }
+
+    /// The system, once the vault is done with. Its hold of the folder ends.
+    pub fn into_system(self) -> S
+        ensures { result ≡ self.system }
+    {
+        self.system
     }
 }
 
@@ -157,7 +165,8 @@ impl<S: System + Drop> Vault for FolderVault<S> {
             ⊎ IsAboveName self.old name.now folder) self.old self.new }
         ensures holds { HoldsOrMakes self.old.hold self.new.hold }
         ensures calls { WritesFile (string_bytes self.old.root) name.now bytes.now self.old.hold
-            self.new.hold self.new.is_unsettled (is_noted self.new.folders.items) (is_ok result) (S.log self.old.system) (S.log self.new.system) }
+            self.new.hold self.new.is_unsettled (is_noted self.new.folders.items) (is_ok result)
+            (S.log self.old.system) (S.log self.new.system) }
         ensures no_name { is_name name.now ≡ false → AsksAlone S.log self.old self.new }
     {
         match self.write_now(name, bytes) {
@@ -180,7 +189,7 @@ impl<S: System + Drop> Vault for FolderVault<S> {
         ensures holds { HoldsFirst self.old self.new }
         ensures calls { from.now ≢ to.now → IsTrue (is_name to.now)
             → Acts S.log (MovesNamed (string_bytes self.old.root) from.now to.now self.new.hold
-                (is_noted self.new.folders.items) result) self.old self.new }
+            (is_noted self.new.folders.items) result) self.old self.new }
         ensures rests { (from.now ≡ to.now) ⊎ (is_name to.now ≡ false)
             → Rests S.log self.old self.new }
     {
@@ -217,6 +226,7 @@ impl<S: System + Drop> Vault for FolderVault<S> {
         ensures lost { OnOk result ((self.old.broken ≡ false) × (self.new.broken ≡ false)) }
         ensures refused { OnOk result (self.old.hold ≢ Hold.Refused) }
         ensures fails { OnErr result (Fails self.old self.new × HoldsFirst self.old self.new) }
+        ensures vain { OnErr result (FailsSync S.log self.old self.new) }
         ensures root { (self.new.root ≡ self.old.root) × Holds self.old.hold self.new.hold }
         ensures calls { OnOk result (SyncsDone S.log self.old self.new) }
     {

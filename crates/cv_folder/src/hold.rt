@@ -39,6 +39,13 @@ fn is_absent(error: &io::Error) -> bool
     matches!(error.kind(), ErrorKind::NotFound)
 }
 
+/// Whether an error says that something stands at a path.
+fn is_taken(error: &io::Error) -> bool
+    ensures { IsTrue result ↔ (error_kind error.now ≡ ErrorKind.AlreadyExists) }
+{
+    matches!(error.kind(), ErrorKind::AlreadyExists)
+}
+
 /// The error of a call that isn't made.
 pub fn refused() -> io::Error
     ensures { error_kind result ≡ ErrorKind.InvalidInput }
@@ -120,7 +127,7 @@ pub fn make_held<S: System>(
 {
     match system.make_folder(folder) {
         Ok(()) => hold_made(system, folder, slashed),
-        Err(error) if error.kind() == ErrorKind::AlreadyExists => Ok(None),
+        Err(error) if is_taken(&error) => Ok(None),
         Err(error) => Err(error),
     }
 }

@@ -6,12 +6,13 @@ ghost use Rattle.std.specs.List.Sorted.{IsStrictlySortedBy};
 ghost use Rattle.cv_base.specs.Path.{name_cmp, same_name};
 ghost use Rattle.cv_folder.specs.Listed.{AllBegin, IsListed, IsListing, ListsFiles};
 ghost use Rattle.cv_folder.specs.ListedInner.{AddsSeen, ListsOn};
+ghost use Rattle.cv_system.specs.Names.{path_of};
 ghost use Rattle.cv_system.specs.Passed.{IsNoName};
 ghost use Rattle.cv_system.specs.Steps.{Makes};
 
-use cv_system::{NAMES_ROOM, Seen, System, cut_name, is_part};
-use cv_system::looks::{is_no_name, seen};
 use cv_base::Text;
+use cv_system::looks::{is_no_name, seen};
+use cv_system::{NAMES_ROOM, Seen, System, cut_name, is_part};
 use std::alloc::{AllocError, Global};
 use std::cmp::Ordering;
 use std::io;
@@ -49,6 +50,16 @@ fn in_order(found: Vec<Text>) -> Vec<Text>
     texts.sort_unstable_by(text_order);
     texts.dedup_by(is_same_text);
     texts
+}
+
+/// The path of a name below a root.
+fn path_below(alloc: Global, root: &str, name: &str) -> Result<String, AllocError>
+    ensures { IfOk result (λ path. string_bytes path ≡ path_of root.now name.now) }
+{
+    let mut path = String::from_str(alloc, root)?;
+    path.push('/')?;
+    path.push_str(name)?;
+    Ok(path)
 }
 
 /// How what was done ends where no name of the vault is behind the error that ended it: well.
@@ -129,7 +140,8 @@ impl Listing {
     ) -> io::Result<()>
         ensures begin { AllBegin prefix.now self.old.found.items
             → AllBegin prefix.now self.new.found.items }
-        ensures added { AddsSeen found (string_bytes name) self.old.found.items self.new.found.items }
+        ensures added { AddsSeen found (string_bytes name) self.old.found.items
+            self.new.found.items }
     {
         let Some(found) = found else {
             return Ok(());
@@ -170,7 +182,7 @@ impl Listing {
         if !begins(name.as_str(), prefix) && !begins(prefix, below.as_str()) {
             return Ok(());
         }
-        let path = format!(in self.alloc; "{root}/{name}")?;
+        let path = path_below(self.alloc, root, name.as_str())?;
         let found = seen(system, path.as_str())?;
         self.add_found(found, name, below, prefix)
     }

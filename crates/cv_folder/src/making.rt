@@ -7,20 +7,23 @@ ghost use Rattle.cv_system.specs.Steps.{IsLook, Makes};
 ghost use Rattle.cv_system.specs.Looks.{folders_at, folders_past};
 ghost use Rattle.cv_folder.specs.Writes.{IsAbove, Leads, LeadsOn, MakesMissing, Prepares};
 
+use crate::noting::note;
 use cv_system::looks::{folder_at, seen};
 use cv_system::{System, folder_of};
-use crate::noting::note;
 use std::io;
 use std::io::ErrorKind;
 
 /// Makes a folder where nothing stands, once the one that it comes into is noted.
 fn make_noted<S: System>(system: &mut S, folder: &str, notes: &mut Vec<String>) -> io::Result<()>
     ensures kept { Keeps notes.old.items notes.new.items }
-    ensures only { NotesOnly (λ other. other ≡ folder_of folder.now) notes.old.items notes.new.items }
+    ensures only { NotesOnly (λ other. other ≡ folder_of folder.now) notes.old.items
+        notes.new.items }
     ensures calls { (S.log system.new ≡ S.log system.old)
         ⊎ (IsTrue (is_noted notes.new.items (folder_of folder.now))
-        × (made : Outcome) × (S.log system.new ≡ and_call (Made folder.now made) (S.log system.old))) }
-    ensures made { OnOk result (S.log system.new ≡ and_call (Made folder.now Done) (S.log system.old)) }
+        × (made : Outcome)
+        × (S.log system.new ≡ and_call (Made folder.now made) (S.log system.old))) }
+    ensures made { OnOk result
+        (S.log system.new ≡ and_call (Made folder.now Done) (S.log system.old)) }
 {
     note(notes, folder_of(folder))?;
     system.make_folder(folder)
@@ -29,7 +32,8 @@ fn make_noted<S: System>(system: &mut S, folder: &str, notes: &mut Vec<String>) 
 /// Makes a folder where nothing stands, and notes the one that it comes into.
 fn make_folder<S: System>(system: &mut S, folder: &str, notes: &mut Vec<String>) -> io::Result<()>
     ensures kept { Keeps notes.old.items notes.new.items }
-    ensures only { NotesOnly (λ other. other ≡ folder_of folder.now) notes.old.items notes.new.items }
+    ensures only { NotesOnly (λ other. other ≡ folder_of folder.now) notes.old.items
+        notes.new.items }
     ensures calls { Makes IsLook (S.log system.old) (S.log system.new)
         ⊎ (IsTrue (is_noted notes.new.items (folder_of folder.now))
         × MakesMissing folder.now (S.log system.old) (S.log system.new)) }

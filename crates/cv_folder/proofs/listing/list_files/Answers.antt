@@ -1,4 +1,4 @@
-use Rattle.std.proofs.Common.{refl, subst, sym}
+use Rattle.std.proofs.Common.{subst, sym}
 use Rattle.cv_folder.specs.Listed.{IsListed}
 use Rattle.cv_system.specs.Steps.{Still}
 use Rattle.cv_folder.proofs.Listed.{listed, lists_all, lists_calls, lists_no_more, lists_sorted, lists_then, none_listed}
@@ -17,8 +17,8 @@ returns-in_default-clause-saw g c =
 pub returns-in_err-map_err-clause-calls : goal.returns-in_err-map_err-clause-calls
 returns-in_err-map_err-clause-calls g c = Still
 
-pub returns-in_err-passed_over-in_default-clause-calls : goal.returns-in_err-passed_over-in_default-clause-calls
-returns-in_err-passed_over-in_default-clause-calls g c = lists_calls c.args.root.now _ _ _ _ (lists_then _ _ _ _ _ _ _ c.loop.invariant.lists c.list_folder.ensures.lists)
+pub returns-in_err-passed_over-clause-calls : goal.returns-in_err-passed_over-clause-calls
+returns-in_err-passed_over-clause-calls g c = lists_calls c.args.root.now _ _ _ _ (lists_then _ _ _ _ _ _ _ c.loop.invariant.lists c.list_folder.ensures.lists)
 
 pub loop-init : goal.loop-init
 loop-init g c = record {
@@ -31,3 +31,6 @@ loop-preserved g c = record {
   begin = c.list_folder.ensures.begin c.loop.invariant.begin;
   lists = lists_then _ _ _ _ _ _ _ c.loop.invariant.lists c.list_folder.ensures.lists;
 }
+
+pub returns-clause-calls : goal.returns-clause-calls
+returns-clause-calls g c = lists_calls c.args.root.now _ _ _ _ c.loop.invariant.lists

@@ -1,4 +1,4 @@
-use Rattle.std.proofs.Common.{refl, [], subst, List, ℕ}
+use Rattle.std.proofs.Common.{refl, [], arith, subst, List, ℕ}
 use Rattle.cv_system.specs.Looks.{folders_at}
 use Rattle.cv_folder.specs.Writes.{Leads}
 use Rattle.cv_folder.proofs.Preparing.{above_wider, leads_then, prepares_none, prepares_on, prepares_wider}
@@ -35,3 +35,9 @@ returns-clause-leads g c =
 pub returns-in_err-make_folder_at-clause-only : goal.returns-in_err-make_folder_at-clause-only
 returns-in_err-make_folder_at-clause-only g c =
     notes_then _ _ _ _ c.loop-end.invariant.only (notes_wider _ _ _ _ (above_wider c.args.path.now c.args.from c.loop-end.end c.loop-end.auto.end) c.make_folder_at.ensures.only)
+
+pub returns-in_err-note-clause-calls : goal.returns-in_err-note-clause-calls
+returns-in_err-note-clause-calls g c = prepares_wider c.args.path.now c.args.from c.args.from _ _ (omega arith) c.note.ensures.kept _ _ c.loop-end.invariant.prepared
+
+pub returns-clause-calls : goal.returns-clause-calls
+returns-clause-calls g c = prepares_wider c.args.path.now c.args.from c.args.from _ _ (omega arith) c.note.ensures.kept _ _ c.loop-end.invariant.prepared

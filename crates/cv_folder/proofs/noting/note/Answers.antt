@@ -1,5 +1,4 @@
-use Rattle.std.proofs.Common.{refl}
-use Rattle.cv_folder.proofs.Notes.{is_noted_now, noted_alone, notes_none}
+use Rattle.cv_folder.proofs.Notes.{is_noted_now, noted_alone}
 use Rattle.cv_folder.proofs.noting.note.Goals as goal
 
 pub returns-clause-noted : goal.returns-clause-noted

@@ -1,4 +1,4 @@
-use Rattle.std.proofs.Common.{ap, refl, string_bytes}
+use Rattle.std.proofs.Common.{◌∙◌, ap, refl, string_bytes, sym}
 use Rattle.std.specs.Prelude.{IsTrue}
 use Rattle.cv_system.specs.Names.{is_name}
 use Rattle.cv_folder.specs.Noted.{is_noted}
@@ -37,3 +37,21 @@ returns-clause-begins g c =
 
 pub returns-clause-no_name : goal.returns-clause-no_name
 returns-clause-no_name g c = λ never. let named : IsTrue (is_name c.args.name.now) = c.in_ok-begin.ensures.path.0.0 in cc
+
+pub returns-in_err-begin-clause-holds : goal.returns-in_err-begin-clause-holds
+returns-in_err-begin-clause-holds g c =
+    λ there. c.begin.ensures.holds.0
+
+pub returns-then-branch-clause-holds : goal.returns-then-branch-clause-holds
+returns-then-branch-clause-holds g c =
+    λ there. c.begin.ensures.holds.0
+
+pub returns-in_err-make_root-clause-holds : goal.returns-in_err-make_root-clause-holds
+returns-in_err-make_root-clause-holds g c =
+    let absent = rw c.if-branch.false at c.in_ok-begin.ensures.held in
+    λ there asked. absurd (there (sym (c.begin.ensures.holds.0 asked) ∙ absent))
+
+pub returns-clause-holds : goal.returns-clause-holds
+returns-clause-holds g c =
+    let absent = rw c.if-branch.false at c.in_ok-begin.ensures.held in
+    λ there asked. absurd (there (sym (c.begin.ensures.holds.0 asked) ∙ absent))

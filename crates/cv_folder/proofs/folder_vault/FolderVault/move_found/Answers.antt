@@ -1,9 +1,10 @@
 use Rattle.std.proofs.lemmas.Result.{err_from_is_err_and}
-use Rattle.std.proofs.Common.{◌∙◌, ◌+◌, ap, length, refl, string_bytes}
-use Rattle.cv_system.specs.Names.{folder_of}
+use Rattle.std.proofs.Common.{◌∙◌, ◌+◌, ap, inl, inr, length, refl, string_bytes, sym}
+use Rattle.cv_system.specs.Names.{folder_of, path_of}
 use Rattle.cv_folder.proofs.Filing.{moves_no_more, moves_on, moves_on_way}
 use Rattle.cv_folder.proofs.Notes.{stays_noted}
 use Rattle.cv_folder.proofs.Acts.{on_ok}
+use Rattle.cv_folder.proofs.Preparing.{above_at}
 use Rattle.cv_folder.proofs.folder_vault.FolderVault.move_found.Goals as goal
 
 pub returns-clause-left : goal.returns-clause-left
@@ -37,3 +38,43 @@ returns-clause-calls g c =
     moves_on (string_bytes c.args.self.now.root) c.args.to.now c.args.found.now _ _ c.args.self.now.path c.set_path.new.self.path c.names_from-from.result c.in_ok-set_path.ensures.path
     (c.names_from-from.ensures ∙ ap (λ root. length (string_bytes root) + 1) c.set_path.ensures.stays.0) _ _ c.set_path.ensures.calls (rw c.as_str-3.ensures.path at c.make_folders.ensures.calls)
     _ _ _ (c.as_str-4.ensures.value ∙ c.in_ok-source.ensures.ok ∙ c.as_str.ensures.path) (rw c.as_str-3.ensures.path at c.in_ok-make_folders.ensures.leads) (rw c.as_str-5.ensures.path at c.move_file.ensures)
+
+pub returns-in_err-source-clause-adds : goal.returns-in_err-source-clause-adds
+returns-in_err-source-clause-adds g c =
+    (refl, λ folder noted. noted, λ folder noted. inl noted, λ is. is, refl)
+
+pub returns-in_err-make_folders-clause-adds : goal.returns-in_err-make_folders-clause-adds
+returns-in_err-make_folders-clause-adds g c =
+    let noted_at = c.folder_of.ensures ∙ ap folder_of (c.as_str-2.ensures.value ∙ c.in_ok-source.ensures.ok ∙ c.as_str.ensures.path) in
+    let from = c.names_from-from.ensures ∙ ap (λ root. length (string_bytes root) + 1) c.set_path.ensures.stays.0 in
+    let only = rw c.as_str-3.ensures.path at c.make_folders.ensures.only in (
+      c.set_path.ensures.stays.0,
+      λ folder noted. c.make_folders.ensures.kept folder (c.note.ensures.kept folder (stays_noted c.args.self.now.folders c.set_path.new.self.folders folder folder c.set_path.ensures.stays.1 refl noted)),
+      λ folder noted. elim (only folder noted) [
+        | inl was ↦ elim (c.note.ensures.only folder was) [
+          | inl before ↦ inl (stays_noted c.set_path.new.self.folders c.args.self.now.folders folder folder (sym c.set_path.ensures.stays.1) refl before)
+          | inr is ↦ inr (inl (is ∙ noted_at))
+        ]
+        | inr above ↦ inr (inr (above_at _ (length (string_bytes c.args.self.now.root) + 1) _ (path_of (string_bytes c.args.self.now.root) c.args.to.now) folder from c.in_ok-set_path.ensures.path above))
+      ],
+      c.set_path.ensures.stays.2,
+      c.set_path.ensures.stays.3,
+    )
+
+pub returns-clause-adds : goal.returns-clause-adds
+returns-clause-adds g c =
+    let noted_at = c.folder_of.ensures ∙ ap folder_of (c.as_str-2.ensures.value ∙ c.in_ok-source.ensures.ok ∙ c.as_str.ensures.path) in
+    let from = c.names_from-from.ensures ∙ ap (λ root. length (string_bytes root) + 1) c.set_path.ensures.stays.0 in
+    let only = rw c.as_str-3.ensures.path at c.make_folders.ensures.only in (
+      c.set_path.ensures.stays.0,
+      λ folder noted. c.make_folders.ensures.kept folder (c.note.ensures.kept folder (stays_noted c.args.self.now.folders c.set_path.new.self.folders folder folder c.set_path.ensures.stays.1 refl noted)),
+      λ folder noted. elim (only folder noted) [
+        | inl was ↦ elim (c.note.ensures.only folder was) [
+          | inl before ↦ inl (stays_noted c.set_path.new.self.folders c.args.self.now.folders folder folder (sym c.set_path.ensures.stays.1) refl before)
+          | inr is ↦ inr (inl (is ∙ noted_at))
+        ]
+        | inr above ↦ inr (inr (above_at _ (length (string_bytes c.args.self.now.root) + 1) _ (path_of (string_bytes c.args.self.now.root) c.args.to.now) folder from c.in_ok-set_path.ensures.path above))
+      ],
+      c.set_path.ensures.stays.2,
+      c.set_path.ensures.stays.3,
+    )

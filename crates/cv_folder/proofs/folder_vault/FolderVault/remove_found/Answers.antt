@@ -1,7 +1,8 @@
-use Rattle.std.proofs.Common.{◌∙◌, ap}
+use Rattle.std.proofs.Common.{◌∙◌, ap, refl}
 use Rattle.cv_system.specs.Names.{folder_of}
 use Rattle.cv_system.specs.Calls.{Removed}
 use Rattle.cv_system.proofs.Laws.{tried_one}
+use Rattle.cv_folder.proofs.Notes.{notes_wider}
 use Rattle.cv_folder.proofs.folder_vault.FolderVault.remove_found.Goals as goal
 
 pub returns-clause-calls : goal.returns-clause-calls
@@ -9,3 +10,8 @@ returns-clause-calls g c = rw c.as_str-2.ensures.path at (tried_one (Removed c.a
 
 pub returns-clause-noted : goal.returns-clause-noted
 returns-clause-noted g c = rw (c.folder_of-folder.ensures ∙ ap folder_of c.as_str.ensures.path) at c.note_or_all.ensures.noted
+
+pub returns-clause-adds : goal.returns-clause-adds
+returns-clause-adds g c =
+    let above = c.folder_of-folder.ensures ∙ ap folder_of c.as_str.ensures.path in
+    (refl, c.note_or_all.ensures.kept, notes_wider _ _ _ _ (λ folder is. is ∙ above) c.note_or_all.ensures.only, c.note_or_all.ensures.unsettled, refl)

@@ -32,3 +32,11 @@ pub returns-in_ok-remove_found-in-Some-clause-noted : goal.returns-in_ok-remove_
 returns-in_ok-remove_found-in-Some-clause-noted g c = λ _.
     let at = c.in_ok-_found.ensures.path.0.1 ∙ ap (λ root. path_of (string_bytes root) c.args.name.now) (sym c.remove_found.ensures.adds.0) in
     rw at at c.remove_found.ensures.noted
+
+pub returns-in_err-_found-clause-holds : goal.returns-in_err-_found-clause-holds
+returns-in_err-_found-clause-holds g c =
+    c.find.ensures.holds
+
+pub returns-in-None-clause-holds : goal.returns-in-None-clause-holds
+returns-in-None-clause-holds g c =
+    c.find.ensures.holds

@@ -1,9 +1,11 @@
 use Rattle.std.proofs.lemmas.Result.{err_from_is_err_and}
-use Rattle.std.proofs.Common.{◌∙◌, Ok, Some, ap, refl, string_bytes, subst, sym}
+use Rattle.std.proofs.Common.{◌∙◌, ◌+◌, Ok, Some, ap, inl, inr, length, refl, string_bytes, subst, sym}
 use Rattle.std.specs.declared.io.Error.{Error}
-use Rattle.cv_system.specs.Names.{path_of}
+use Rattle.cv_system.specs.Names.{folder_of, path_of}
 use Rattle.cv_folder.specs.FolderVaultInner.{FindsNamed}
 use Rattle.cv_folder.proofs.Acts.{acts_on, moves_in_vain, moves_lost, moves_named, moves_none}
+use Rattle.cv_folder.proofs.Notes.{stays_noted}
+use Rattle.cv_folder.specs.Writes.{IsAbove}
 use Rattle.cv_folder.proofs.folder_vault.FolderVault.rename_now.Goals as goal
 
 pub returns-in_err-found-clause-calls : goal.returns-in_err-found-clause-calls
@@ -30,3 +32,43 @@ pub returns-in_ok-move_found-in-Some-clause-left : goal.returns-in_ok-move_found
 returns-in_ok-move_found-in-Some-clause-left g c = λ _.
     let at = c.in_ok-found.ensures.path.0.1 ∙ ap (λ root. path_of (string_bytes root) c.args.from.now) (sym c.move_found.ensures.adds.0) in
     rw at at c.in_ok-move_found-in-Some.ensures.left
+
+pub returns-in_err-found-clause-holds : goal.returns-in_err-found-clause-holds
+returns-in_err-found-clause-holds g c =
+    c.find.ensures.holds
+
+pub returns-in-None-clause-holds : goal.returns-in-None-clause-holds
+returns-in-None-clause-holds g c =
+    c.find.ensures.holds
+
+pub returns-in_err-move_found-in-Some-clause-adds : goal.returns-in_err-move_found-in-Some-clause-adds
+returns-in_err-move_found-in-Some-clause-adds g c =
+    let at = c.in_ok-found.ensures.path.0.1 ∙ ap (λ root. path_of (string_bytes root) c.args.from.now) c.find.ensures.stays.0 in (
+      c.move_found.ensures.adds.0 ∙ c.find.ensures.stays.0,
+      λ folder noted. c.move_found.ensures.adds.1 folder (stays_noted c.args.self.now.folders c.find.new.self.folders folder folder c.find.ensures.stays.1 refl noted),
+      λ folder noted. elim (c.move_found.ensures.adds.2 folder noted) [
+        | inl was ↦ inl (stays_noted c.find.new.self.folders c.args.self.now.folders folder folder (sym c.find.ensures.stays.1) refl was)
+        | inr above ↦ inr (elim above [
+          | inl is ↦ inl (is ∙ ap folder_of at)
+          | inr on ↦ inr (subst (λ root. IsAbove (length (string_bytes root) + 1) (path_of (string_bytes root) c.args.to.now) folder) c.find.ensures.stays.0 on)
+        ])
+      ],
+      λ is. c.move_found.ensures.adds.3 (c.find.ensures.stays.2 is),
+      c.move_found.ensures.adds.4 ∙ c.find.ensures.stays.3,
+    )
+
+pub returns-in_ok-move_found-in-Some-clause-adds : goal.returns-in_ok-move_found-in-Some-clause-adds
+returns-in_ok-move_found-in-Some-clause-adds g c =
+    let at = c.in_ok-found.ensures.path.0.1 ∙ ap (λ root. path_of (string_bytes root) c.args.from.now) c.find.ensures.stays.0 in (
+      c.move_found.ensures.adds.0 ∙ c.find.ensures.stays.0,
+      λ folder noted. c.move_found.ensures.adds.1 folder (stays_noted c.args.self.now.folders c.find.new.self.folders folder folder c.find.ensures.stays.1 refl noted),
+      λ folder noted. elim (c.move_found.ensures.adds.2 folder noted) [
+        | inl was ↦ inl (stays_noted c.find.new.self.folders c.args.self.now.folders folder folder (sym c.find.ensures.stays.1) refl was)
+        | inr above ↦ inr (elim above [
+          | inl is ↦ inl (is ∙ ap folder_of at)
+          | inr on ↦ inr (subst (λ root. IsAbove (length (string_bytes root) + 1) (path_of (string_bytes root) c.args.to.now) folder) c.find.ensures.stays.0 on)
+        ])
+      ],
+      λ is. c.move_found.ensures.adds.3 (c.find.ensures.stays.2 is),
+      c.move_found.ensures.adds.4 ∙ c.find.ensures.stays.3,
+    )

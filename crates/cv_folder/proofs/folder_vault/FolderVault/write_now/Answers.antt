@@ -1,9 +1,10 @@
 use Rattle.std.proofs.lemmas.Result.{err_from_is_err_and}
-use Rattle.std.proofs.Common.{◌∙◌, ◌+◌, ◌++◌, List, ℕ, ap, codes, length, refl, string_bytes, sym}
+use Rattle.std.proofs.Common.{◌∙◌, ◌+◌, ◌++◌, List, ℕ, ap, codes, inl, inr, length, refl, string_bytes, sym}
 use Rattle.std.specs.Prelude.{IsTrue}
 use Rattle.cv_system.specs.Names.{folder_of, is_name, path_of}
 use Rattle.cv_folder.proofs.Filing.{begins_on, writes_no_more, writes_on_way, writes_so}
 use Rattle.cv_folder.proofs.Notes.{stays_noted}
+use Rattle.cv_folder.proofs.Preparing.{above_at}
 use Rattle.cv_folder.proofs.folder_vault.FolderVault.write_now.Goals as goal
 
 pub returns-in_err-begin_write-clause-calls : goal.returns-in_err-begin_write-clause-calls
@@ -54,3 +55,55 @@ returns-in_err-make_folders-clause-no_name g c = λ never. let named : IsTrue (i
 
 pub returns-clause-no_name : goal.returns-clause-no_name
 returns-clause-no_name g c = λ never. let named : IsTrue (is_name c.args.name.now) = c.in_ok-begin_write.ensures.path.0 in cc
+
+pub returns-in_err-set_next-clause-holds : goal.returns-in_err-set_next-clause-holds
+returns-in_err-set_next-clause-holds g c =
+    λ there asked. c.set_next.ensures.hold ∙ c.begin_write.ensures.holds there asked
+
+pub returns-in_err-make_folders-clause-holds : goal.returns-in_err-make_folders-clause-holds
+returns-in_err-make_folders-clause-holds g c =
+    λ there asked. c.set_next.ensures.hold ∙ c.begin_write.ensures.holds there asked
+
+pub returns-clause-holds : goal.returns-clause-holds
+returns-clause-holds g c =
+    λ there asked. c.set_next.ensures.hold ∙ c.begin_write.ensures.holds there asked
+
+pub returns-in_err-make_folders-clause-adds : goal.returns-in_err-make_folders-clause-adds
+returns-in_err-make_folders-clause-adds g c =
+    let root = c.set_next.ensures.stays.0 ∙ c.begin_write.ensures.adds.0 in
+    let at = c.set_next.ensures.path ∙ c.in_ok-begin_write.ensures.path.1 ∙ ap (λ root. path_of (string_bytes root) c.args.name.now) c.begin_write.ensures.adds.0 in
+    let from = c.names_from-from.ensures ∙ ap (λ root. length (string_bytes root) + 1) root in
+    let only = rw c.as_str.ensures.path at c.make_folders.ensures.only in (
+      root,
+      λ folder noted.
+          c.make_folders.ensures.kept folder (stays_noted c.begin_write.new.self.folders c.set_next.new.self.folders folder folder c.set_next.ensures.stays.1 refl (c.begin_write.ensures.adds.1 folder noted)),
+      λ folder noted. elim (only folder noted) [
+        | inl was ↦ elim (c.begin_write.ensures.adds.2 folder (stays_noted c.set_next.new.self.folders c.begin_write.new.self.folders folder folder (sym c.set_next.ensures.stays.1) refl was)) [
+          | inl before ↦ inl before
+          | inr is ↦ inr (inl is)
+        ]
+        | inr above ↦ inr (inr (above_at _ (length (string_bytes c.args.self.now.root) + 1) _ (path_of (string_bytes c.args.self.now.root) c.args.name.now) folder from at above))
+      ],
+      λ is. c.set_next.ensures.stays.2 (c.begin_write.ensures.adds.3 is),
+      c.set_next.ensures.stays.3 ∙ c.begin_write.ensures.adds.4,
+    )
+
+pub returns-clause-adds : goal.returns-clause-adds
+returns-clause-adds g c =
+    let root = c.set_next.ensures.stays.0 ∙ c.begin_write.ensures.adds.0 in
+    let at = c.set_next.ensures.path ∙ c.in_ok-begin_write.ensures.path.1 ∙ ap (λ root. path_of (string_bytes root) c.args.name.now) c.begin_write.ensures.adds.0 in
+    let from = c.names_from-from.ensures ∙ ap (λ root. length (string_bytes root) + 1) root in
+    let only = rw c.as_str.ensures.path at c.make_folders.ensures.only in (
+      root,
+      λ folder noted.
+          c.make_folders.ensures.kept folder (stays_noted c.begin_write.new.self.folders c.set_next.new.self.folders folder folder c.set_next.ensures.stays.1 refl (c.begin_write.ensures.adds.1 folder noted)),
+      λ folder noted. elim (only folder noted) [
+        | inl was ↦ elim (c.begin_write.ensures.adds.2 folder (stays_noted c.set_next.new.self.folders c.begin_write.new.self.folders folder folder (sym c.set_next.ensures.stays.1) refl was)) [
+          | inl before ↦ inl before
+          | inr is ↦ inr (inl is)
+        ]
+        | inr above ↦ inr (inr (above_at _ (length (string_bytes c.args.self.now.root) + 1) _ (path_of (string_bytes c.args.self.now.root) c.args.name.now) folder from at above))
+      ],
+      λ is. c.set_next.ensures.stays.2 (c.begin_write.ensures.adds.3 is),
+      c.set_next.ensures.stays.3 ∙ c.begin_write.ensures.adds.4,
+    )

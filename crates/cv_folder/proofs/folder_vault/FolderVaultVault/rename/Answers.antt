@@ -9,4 +9,3 @@ pub returns-in-Err-clause-calls : goal.returns-in-Err-clause-calls
 returns-in-Err-clause-calls g c = λ differ named.
     rw c.fault_of.ensures.stays.1
     (moves_fault g.S.System.log _ _ _ c.fault_of.ensures.hold c.fault_of.ensures.calls _ _ (string_bytes c.args.self.now.root) c.args.from.now c.args.to.now _ (c.in-Err.ensures.calls differ named))
-

@@ -14,3 +14,6 @@ loop-name-preserved g c = record {
 
 pub returns-clause-lists : goal.returns-clause-lists
 returns-clause-lists g c = lists_then _ _ _ _ _ _ _ c.loop-name.invariant.lists c.list_entry-2.ensures.lists
+
+pub returns-in_err-passed_over-clause-lists : goal.returns-in_err-passed_over-clause-lists
+returns-in_err-passed_over-clause-lists g c = lists_then _ _ _ _ _ _ _ c.loop-name.invariant.lists c.list_entry.ensures.lists
