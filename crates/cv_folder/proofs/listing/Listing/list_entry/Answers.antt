@@ -1,5 +1,5 @@
 use Rattle.cv_system.specs.Steps.{Still}
-use Rattle.cv_system.proofs.Laws.{looks_quiet}
+use Rattle.cv_system.proofs.Laws.{entry_looks, looks_quiet}
 use Rattle.cv_folder.proofs.listing.Listing.list_entry.Goals as goal
 
 pub returns-in_default-clause-quiet : goal.returns-in_default-clause-quiet
@@ -21,7 +21,7 @@ pub returns-in_err-path-clause-quiet : goal.returns-in_err-path-clause-quiet
 returns-in_err-path-clause-quiet g c = Still
 
 pub returns-in_err-found-clause-quiet : goal.returns-in_err-found-clause-quiet
-returns-in_err-found-clause-quiet g c = looks_quiet c.seen_entry.ensures
+returns-in_err-found-clause-quiet g c = looks_quiet (entry_looks _ _ _ _ c.seen_entry.ensures)
 
 pub returns-clause-quiet : goal.returns-clause-quiet
-returns-clause-quiet g c = looks_quiet c.seen_entry.ensures
+returns-clause-quiet g c = looks_quiet (entry_looks _ _ _ _ c.seen_entry.ensures)

@@ -7,7 +7,7 @@ pub returns-in_err-at-clause-quiet : goal.returns-in_err-at-clause-quiet
 returns-in_err-at-clause-quiet g c = Still
 
 pub returns-in_err-open-clause-quiet : goal.returns-in_err-open-clause-quiet
-returns-in_err-open-clause-quiet g c = one_call (Entered _ _) tt c.open_names.ensures
+returns-in_err-open-clause-quiet g c = one_call (Entered _ _) tt c.open_names.ensures.call
 
 pub returns-clause-quiet : goal.returns-clause-quiet
-returns-clause-quiet g c = steps_then (one_call (Entered _ _) tt c.open_names.ensures) c.list_open.ensures.quiet
+returns-clause-quiet g c = steps_then (one_call (Entered _ _) tt c.open_names.ensures.call) c.list_open.ensures.quiet
