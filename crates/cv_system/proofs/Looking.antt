@@ -1,21 +1,10 @@
 -- Names that a walk looks at, one after another.
 use Rattle.std.proofs.Common.{◌≡◌, ℕ, Bool, true, false, List, [], ◌∷◌, ◌++◌, refl, subst, inl, inr}
-use Rattle.std.specs.Prelude.{IsSome, if◌then◌else◌}
+use Rattle.std.specs.Prelude.{IsSome}
 use Rattle.cv_system.specs.Calls.{Log}
 use Rattle.cv_system.specs.Passed.{IsShut}
-use Rattle.cv_system.specs.Walks.{FailsAmong, FailsToLook, IsNext, LooksAt, LooksAtAll, LooksFor, folder_in, with_path}
+use Rattle.cv_system.specs.Walks.{FailsAmong, FailsToLook, LooksAt, LooksAtAll, LooksFor}
 use Rattle.cv_system.proofs.Trying.{told_before}
-
--- a name that comes next was looked at, and kept if a folder stands there
-pub looks_next : (folder last name : List ℕ) (kept between kept' : List (List ℕ)) (before after : Log) (entry found : List ℕ) (is : Bool) → IsNext folder last name kept → LooksFor folder entry is before after
-    → entry ≡ folder ++ name → found ≡ folder_in folder name → between ≡ kept → kept' ≡ (if is then with_path found between else between) → LooksAt folder last name kept kept' before after
-looks_next folder last name kept between kept' before after entry found is next looks at path same keeps =
-    inr (
-      next,
-      is,
-      subst (λ (e : List ℕ). LooksFor folder e is before after) at looks,
-      subst (λ (p : List ℕ). kept' ≡ (if is then with_path p kept else kept)) path (subst (λ (k : List (List ℕ)). kept' ≡ (if is then with_path found k else k)) same keeps),
-    )
 
 -- some names, and then others
 looks_then : (folder last : List ℕ) (names others : List (List ℕ)) (kept between kept' : List (List ℕ)) (before looked after : Log)

@@ -1,17 +1,15 @@
--- Errors that are passed over, and what is looked for in a folder.
-use Rattle.std.proofs.Common.{◌≡◌, ◌∙◌, ◌++◌, Bool, true, false, List, ℕ, Option, Some, None, Result, Ok, Err, refl, ap, subst, inl, inr, codes}
-use Rattle.std.specs.Prelude.{◌↔◌, IfErr, IfSome, IsErr, IsSome, IsTrue}
+-- Looks into a folder, and at its entries.
+use Rattle.std.proofs.Common.{◌≡◌, ◌∙◌, ◌++◌, List, ℕ, Option, Some, None, Result, Ok, Err, refl, ap, inl, inr, codes}
+use Rattle.std.specs.Prelude.{IfErr, IsErr}
 use Rattle.std.specs.IoError.{error_kind}
 use Rattle.std.specs.declared.io.Error.{Error}
 use Rattle.std.specs.declared.io.ErrorKind.{ErrorKind}
 use Rattle.std.specs.declared.io.ErrorKind.TheVariants.{PermissionDenied}
 use Rattle.cv_system.specs.declared.seen.Seen.{Seen}
-use Rattle.cv_system.specs.declared.seen.Kind.TheVariants.{Folder}
 use Rattle.cv_system.specs.Calls.{Log, Looked, and_call}
 use Rattle.cv_system.specs.Looks.{IsNothing, Looks, LooksAtEntry}
-use Rattle.cv_system.specs.Passed.{IsNoName, IsOpen, IsShut, Passes, StopsAt}
+use Rattle.cv_system.specs.Passed.{IsNoName, IsOpen}
 use Rattle.cv_system.specs.Steps.{IsLook, Makes}
-use Rattle.cv_system.specs.Walks.{FailsToLook, LooksFor}
 use Rattle.cv_system.proofs.Stepping.{one_call}
 
 same_kind : (kind : ErrorKind) {other : ErrorKind} → ◌≡◌ {A = Result Seen ErrorKind} (Err kind) (Err other) → kind ≡ other
@@ -24,39 +22,12 @@ never_nothing kind (inr is) same = let kinds = same_kind kind same in cc
 -- ---- a look into a folder
 
 module _ (folder path : List ℕ) (at : path ≡ folder ++ codes ".") (before after : Log) where
-  -- it was refused
-  pub shut_so : (seen : Result (Option Seen) Error) → IsErr seen → IfErr seen (λ error. error_kind error ≡ PermissionDenied) → Looks path seen before after → IsShut folder before after
-  shut_so (Ok x) refused kind is = absurd (cc)
-  shut_so (Err error) refused kind is =
-      inl (is ∙ ap (λ (k : ErrorKind). and_call (Looked path (Err k)) before) kind ∙ ap (λ (p : List ℕ). and_call (Looked p (Err PermissionDenied)) before) at)
-
-  -- it wasn't
+  -- it wasn't refused
   pub open_so : (seen : Result (Option Seen) Error) → ((IsErr seen × IfErr seen (λ error. error_kind error ≡ PermissionDenied)) → ⊥) → Looks path seen before after → IsOpen folder before after
   open_so (Ok (Some seen)) not is = (Ok seen, λ same. cc, is ∙ ap (λ (p : List ℕ). and_call (Looked p (Ok seen)) before) at)
   open_so (Ok None) not (kind, nothing, is) = (Err kind, λ same. never_nothing kind nothing same, is ∙ ap (λ (p : List ℕ). and_call (Looked p (Err kind)) before) at)
   open_so (Err error) not is =
       (Err (error_kind error), λ same. not (refl, same_kind (error_kind error) same), is ∙ ap (λ (p : List ℕ). and_call (Looked p (Err (error_kind error))) before) at)
-
--- ---- what is looked for in a folder
-
-module _ (folder entry : List ℕ) (before : Log) where
-  -- the look tells whether a folder stands there
-  pub looks_for : (found : Option Seen) (is : Bool) (after : Log) → IsTrue is ↔ (IsSome found × IfSome found (λ seen. seen.kind ≡ Folder)) → LooksAtEntry entry (Ok found) before after → LooksFor folder entry is before after
-  looks_for (Some seen) true after tells look = (seen, (tells.0 refl).1, look)
-  looks_for (Some seen) false after tells look = inl (seen, λ kind. (let never = tells.1 (refl, kind) in cc), look)
-  looks_for None true after tells look = absurd (let never = (tells.0 refl).0 in cc)
-  looks_for None false after tells (kind, nothing, is) = inr (inl (kind, nothing, is))
-
-  module _ (error : Error) (looked after : Log) (look : looked ≡ and_call (Looked entry (Err (error_kind error))) before) where
-    -- an error is passed over
-    pub looks_past : Passes folder (error_kind error) looked after → LooksFor folder entry false before after
-    looks_past (inl (no_name, same)) = inr (inl (error_kind error, inr no_name, same ∙ look))
-    looks_past (inr (kind, shut)) =
-        inr (inr (subst (λ (log : Log). IsShut folder log after) (look ∙ ap (λ (k : ErrorKind). and_call (Looked entry (Err k)) before) kind) shut))
-
-    -- or it isn't
-    pub fails_to_look : StopsAt folder (error_kind error) looked after → FailsToLook folder entry before after
-    fails_to_look stops = (error_kind error, subst (λ (log : Log). StopsAt folder (error_kind error) log after) look stops)
 
 -- ---- a look at an entry
 

@@ -1,75 +1,11 @@
--- Folders that a walk settles, and those that are made durable one after another.
-use Rattle.std.proofs.Common.{◌≡◌, ◌∙◌, ◌+◌, ◌<◌, ◌++◌, ◌∷◌, [], suc, Bool, true, false, List, ℕ, map, take, drop, length, get_or, Result, Ok, Err, refl, sym, ap, subst, inl, inr, add-one, take-append-drop, drop-cons}
+-- Folders that are made durable, one after another.
+use Rattle.std.proofs.Common.{◌≡◌, ◌∙◌, ◌+◌, ◌<◌, ◌++◌, ◌∷◌, [], suc, Bool, true, false, List, ℕ, map, take, drop, length, get_or, refl, sym, ap, subst, add-one, take-append-drop, drop-cons}
 use Rattle.std.proofs.Math.Seq.{take-suc}
 use Rattle.std.proofs.lemmas.List.{map-append}
-use Rattle.std.specs.Prelude.{◌↔◌, ◌⊎◌, IfErr, IsOk, OnErr, OnOk, is_ok}
-use Rattle.std.specs.IoError.{error_kind}
-use Rattle.std.specs.declared.io.Error.{Error}
-use Rattle.cv_system.specs.declared.syncing.Unsynced.{Unsynced}
-use Rattle.cv_system.specs.declared.syncing.Unsynced.TheVariants.{NotOpened, Lost}
-use Rattle.cv_system.specs.Calls.{Call, Log, Outcome, Done, Failed, Opened, Synced, and_call, and_calls, outcome}
-use Rattle.cv_system.specs.Passed.{Passes, StopsAt}
+use Rattle.cv_system.specs.Calls.{Call, Log, Outcome, Opened, Synced}
 use Rattle.cv_system.specs.Steps.{Tries}
-use Rattle.cv_system.specs.Syncs.{ClearsFolder, FailsFolder, FailsToSync, FailsTop, PassesFolder, SettlesFolder, syncs}
-use Rattle.std.proofs.lemmas.Result.{on_err_weaker, on_ok_weaker}
+use Rattle.cv_system.specs.Syncs.{syncs}
 use Rattle.cv_system.proofs.Trying.{tried_in_vain, tried_then}
-
--- a folder was opened, and what its sync told is answered
-module _ {T U : Type 0} (folder : List ℕ) (before after : Log) where
-  pub tries_sync : (synced : Result T Error) (result : Result U Unsynced) → IsOk result ↔ IsOk synced
-      → after ≡ and_calls (Opened folder Done ∷ Synced folder (outcome synced) ∷ []) before → Tries (syncs (folder ∷ [])) (is_ok result) before after
-  tries_sync (Ok x) (Ok y) ok is = inl (inl (refl, is))
-  tries_sync (Ok x) (Err unsynced) ok is = absurd (let never = ok.1 refl in cc)
-  tries_sync (Err error) (Ok y) ok is = absurd (let never = ok.0 refl in cc)
-  tries_sync (Err error) (Err unsynced) ok is = inl (inr (error_kind error, refl, is))
-
-  pub fails_sync : (synced : Result T Error) (result : Result U Unsynced) → IsOk result ↔ IsOk synced → IfErr result (λ unsynced. unsynced ≡ Lost)
-      → after ≡ and_calls (Opened folder Done ∷ Synced folder (outcome synced) ∷ []) before → IfErr result (λ unsynced. FailsToSync folder unsynced before after)
-  fails_sync synced (Ok y) ok lost is = tt
-  fails_sync (Ok x) (Err unsynced) ok lost is = absurd (let never = ok.1 refl in cc)
-  fails_sync (Err error) (Err unsynced) ok lost is = subst (λ u. FailsToSync folder u before after) (sym lost) (error_kind error, is)
-
--- why a folder isn't settled, by what is answered
-lost_so : {T : Type 0} (folder : List ℕ) (before after : Log) (result : Result T Unsynced) → IfErr result (λ unsynced. unsynced ≡ Lost)
-    → IfErr result (λ unsynced. FailsTop folder unsynced before after) → IfErr result (λ unsynced. FailsFolder folder unsynced before after)
-lost_so folder before after (Ok x) lost fails = tt
-lost_so folder before after (Err unsynced) lost fails =
-    subst (λ u. FailsFolder folder u before after) (sym lost) (subst (λ u. FailsTop folder u before after) lost fails)
-
-not_opened_so : {T : Type 0} (folder : List ℕ) (before after : Log) (result : Result T Unsynced) → IfErr result (λ unsynced. unsynced ≡ NotOpened)
-    → OnErr result (FailsFolder folder NotOpened before after) → IfErr result (λ unsynced. FailsFolder folder unsynced before after)
-not_opened_so folder before after (Ok x) ends fails = tt
-not_opened_so folder before after (Err unsynced) ends fails = subst (λ u. FailsFolder folder u before after) (sym ends) fails
-
-module _ {U : Type 0} (folder : List ℕ) (before cleared : Log) (clears : ClearsFolder folder before cleared) (result : Result U Unsynced) (after : Log) where
-  -- a folder is settled as it is made durable behind that
-  pub settles_so : Tries (syncs (folder ∷ [])) (is_ok result) cleared after → OnOk result (SettlesFolder folder before after)
-  settles_so tries = elim result as (λ (r : Result U Unsynced). Tries (syncs (folder ∷ [])) (is_ok r) cleared after → OnOk r (SettlesFolder folder before after)) [
-    | Ok x ↦ λ t. (cleared, clears, t)
-    | Err e ↦ λ t. tt
-  ] tries
-
-  pub fails_top : IfErr result (λ unsynced. FailsToSync folder unsynced cleared after) → IfErr result (λ unsynced. FailsTop folder unsynced before after)
-  fails_top fails = elim result as (λ (r : Result U Unsynced). IfErr r (λ unsynced. FailsToSync folder unsynced cleared after) → IfErr r (λ unsynced. FailsTop folder unsynced before after)) [
-    | Ok x ↦ λ f. tt
-    | Err e ↦ λ f. (cleared, clears, f)
-  ] fails
-
-  -- below the top it may be passed over too
-  pub opened_so : {T : Type 0} (synced : Result T Error) → IsOk result ↔ IsOk synced → after ≡ and_calls (Opened folder Done ∷ Synced folder (outcome synced) ∷ []) cleared
-      → OnOk result (SettlesFolder folder before after ⊎ PassesFolder folder before after)
-  opened_so synced ok is = on_ok_weaker result inl (settles_so (tries_sync folder cleared after synced result ok is))
-
-  pub opened_fails : {T : Type 0} (synced : Result T Error) → IsOk result ↔ IsOk synced → IfErr result (λ unsynced. unsynced ≡ Lost)
-      → after ≡ and_calls (Opened folder Done ∷ Synced folder (outcome synced) ∷ []) cleared → IfErr result (λ unsynced. FailsFolder folder unsynced before after)
-  opened_fails synced ok lost is = lost_so folder before after result lost (fails_top (fails_sync folder cleared after synced result ok lost is))
-
-  module _ (error : Error) (tried : Log) (is : tried ≡ and_call (Opened folder (Failed (error_kind error))) cleared) where
-    pub passed_so : OnOk result (Passes folder (error_kind error) tried after) → OnOk result (SettlesFolder folder before after ⊎ PassesFolder folder before after)
-    passed_so passes = on_ok_weaker result (λ p. inr (cleared, error_kind error, clears, subst (λ (log : Log). Passes folder (error_kind error) log after) is p)) passes
-
-    pub stopped_so : IfErr result (λ unsynced. unsynced ≡ NotOpened) → OnErr result (StopsAt folder (error_kind error) tried after) → IfErr result (λ unsynced. FailsFolder folder unsynced before after)
-    stopped_so ends stops = not_opened_so folder before after result ends (on_err_weaker result (λ s. (cleared, error_kind error, clears, subst (λ (log : Log). StopsAt folder (error_kind error) log after) is s)) stops)
 
 -- the syncs of some folders, and then of others
 pub syncs_append : (folders others : List (List ℕ)) → syncs (folders ++ others) ≡ syncs folders ++ syncs others
