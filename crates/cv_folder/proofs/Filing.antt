@@ -11,7 +11,8 @@ use Rattle.cv_folder.specs.FolderVaultInner.{MovesOn}
 use Rattle.cv_folder.specs.Hold.{Begins, IsHeld, MakesRoot}
 use Rattle.cv_system.specs.Names.{folder_of, is_name, next_of, path_of}
 use Rattle.cv_system.specs.Steps.{Tries}
-use Rattle.cv_system.specs.Syncs.{SettlesAll, syncs}
+use Rattle.cv_system.specs.Syncs.{syncs}
+use Rattle.cv_system.specs.Walks.{SettlesAll}
 use Rattle.cv_folder.specs.Syncs.{SettlesFirst, SyncsAll, SyncsHeld}
 use Rattle.cv_system.specs.Looks.{folders_past}
 use Rattle.cv_folder.specs.Writes.{Leads, MovesFile, Prepares, Puts, WritesFile}

@@ -35,7 +35,7 @@ IsListing (Removed path out) = ⊥
 IsListing (Made folder out) = ⊥
 IsListing (Unmade folder out) = ⊥
 IsListing (Entered folder out) = ⊤
-IsListing (Named out) = ⊤
+IsListing (Named folder names) = ⊤
 
 -- one of the calls of a listing is a look that saw a regular file at this path
 unfoldable pub SawFile : List ℕ → Log → Log → Type 0

@@ -6,7 +6,8 @@ use Rattle.cv_folder.specs.declared.hold.Hold.TheVariants.{Absent, Unasked}
 use Rattle.cv_folder.specs.Hold.{IsHeld}
 use Rattle.cv_system.specs.Names.{folder_of}
 use Rattle.cv_system.specs.Steps.{Tries}
-use Rattle.cv_system.specs.Syncs.{SettlesAll, syncs}
+use Rattle.cv_system.specs.Syncs.{syncs}
+use Rattle.cv_system.specs.Walks.{SettlesAll}
 
 -- where all folders are to be made durable, the folder above the root is first, and then all from the root on
 unfoldable pub SettlesFirst : List ℕ → Bool → Log → Log → Type 0

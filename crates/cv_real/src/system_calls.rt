@@ -67,6 +67,8 @@ impl<R: Files<File = File> + Drop> System for SystemCalls<R> {
 
     ghost place = { λ f. [] };
 
+    ghost folder = { λ n. [] };
+
     fn look(&mut self, path: &str) -> io::Result<Seen> {
         let found = fs::symlink_metadata(&self.rt, path)?;
         Ok(seen_of(&found))

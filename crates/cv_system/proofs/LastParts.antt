@@ -13,9 +13,8 @@ use Rattle.std.proofs.lemmas.Bool.Decides.{Decides-eqb}
 use Rattle.std.proofs.lemmas.Str.Pattern.{NoCharPasses-char, drop_at_char, ends_text}
 use Rattle.cv_base.specs.Path.{Path, last_name_of}
 use Rattle.cv_base.specs.PathText.{parts_of}
-use Rattle.cv_system.specs.Names.{last_part, folder_of}
-use Rattle.cv_system.specs.NamesInner.{above, without_slash}
-use Rattle.cv_system.specs.Syncs.{IsUnder}
+use Rattle.cv_system.specs.Names.{above, last_part, folder_of, without_slash}
+use Rattle.cv_system.specs.Walks.{IsUnder}
 
 -- no byte is a slash
 HasNoSlash : List ℕ → Type 0

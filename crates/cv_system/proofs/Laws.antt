@@ -3,3 +3,4 @@
 pub use Rattle.cv_system.proofs.Stepping.{looks_quiet, looks_so, no_step, one_call, steps_then, steps_wider}
 pub use Rattle.cv_system.proofs.Trying.{call_at, failed_so, made_then, told_before, tried_in_vain, tried_one, tried_then, two_calls}
 pub use Rattle.cv_system.proofs.Seeing.{all_seen, one_place_more}
+pub use Rattle.cv_system.proofs.Passing.{entry_looks}

@@ -2,8 +2,11 @@ mod CutNames
 mod LastParts
 pub mod Laws
 mod Looking
+mod Passing
 mod Reading
+mod Rounds
 mod Seeing
 mod Settling
 mod Stepping
 mod Trying
+mod Walking

@@ -1,56 +1,11 @@
--- Folders that a walk settles.
-use Rattle.std.proofs.Common.{◌≡◌, ◌∙◌, ◌+◌, ◌<◌, ◌++◌, ◌∷◌, [], suc, Bool, true, false, List, ℕ, map, take, drop, length, get_or, Result, Ok, Err, refl, sym, ap, subst, inl, inr, add-one, take-append-drop, drop-cons}
+-- Folders that are made durable, one after another.
+use Rattle.std.proofs.Common.{◌≡◌, ◌∙◌, ◌+◌, ◌<◌, ◌++◌, ◌∷◌, [], suc, Bool, true, false, List, ℕ, map, take, drop, length, get_or, refl, sym, ap, subst, add-one, take-append-drop, drop-cons}
 use Rattle.std.proofs.Math.Seq.{take-suc}
 use Rattle.std.proofs.lemmas.List.{map-append}
-use Rattle.std.specs.Prelude.{IsOk, OnOk}
-use Rattle.std.specs.IoError.{error_kind}
-use Rattle.std.specs.declared.io.Error.{Error}
-use Rattle.cv_system.specs.declared.syncing.Unsynced.{Unsynced}
 use Rattle.cv_system.specs.Calls.{Call, Log, Outcome, Opened, Synced}
-use Rattle.cv_system.specs.Names.{with_slash}
-use Rattle.cv_system.specs.Steps.{IsLook, Makes, Quiet, Still, Then, Tries}
-use Rattle.cv_system.specs.Syncs.{ClearsFolder, GoesOn, IsUnder, SettlesAll, SettlesFolder, syncs}
-use Rattle.cv_system.specs.SyncsInner.{Settles, SyncsAt}
-use Rattle.cv_system.proofs.Stepping.{steps_then}
+use Rattle.cv_system.specs.Steps.{Tries}
+use Rattle.cv_system.specs.Syncs.{syncs}
 use Rattle.cv_system.proofs.Trying.{tried_in_vain, tried_then}
-
--- what a sync of a folder came to
-module _ {T : Type 0} (folder : List ℕ) (before cleared tried after : Log) (clears : ClearsFolder folder before cleared) where
-  pub settles_so : (synced : Result (Result T Error) Error) (result : Result T Unsynced) → SyncsAt folder synced cleared tried → Settles synced result
-      → Makes IsLook tried after → (IsOk synced → after ≡ tried) → OnOk result (SettlesFolder folder before after)
-  unfolding SettlesFolder
-  settles_so (Ok (Ok x)) (Ok y) syncs settles looks same = (cleared, clears, inl (inl (inl (refl, same refl ∙ syncs))))
-  settles_so (Ok (Err lost)) (Ok y) syncs settles looks same = absurd (cc)
-  settles_so (Err error) (Ok y) syncs settles looks same =
-      (cleared, clears, inr (error_kind error, settles, subst (λ (log : Log). Makes IsLook log after) syncs looks))
-  settles_so (Ok (Ok x)) (Err unsynced) syncs settles looks same = tt
-  settles_so (Ok (Err lost)) (Err unsynced) syncs settles looks same = tt
-  settles_so (Err error) (Err unsynced) syncs settles looks same = tt
-
-module _ (top : List ℕ) where
-  -- a walk looks round
-  pub goes_quietly : (before after : Log) → Quiet before after → GoesOn top before after
-  unfolding GoesOn
-  goes_quietly before after quiet = Then Still (inl quiet)
-
-  -- and comes to a folder
-  pub goes_into : (before between after : Log) (folder : List ℕ) → Quiet before between → IsUnder top folder → SettlesFolder folder between after → GoesOn top before after
-  unfolding GoesOn
-  goes_into before between after folder quiet under settles = Then (Then Still (inl quiet)) (inr (folder, under, settles))
-
-  -- it begins at its top
-  pub settles_top : (before after : Log) (folder : List ℕ) → folder ≡ with_slash top → SettlesFolder folder before after → SettlesAll top before after
-  unfolding SettlesAll GoesOn
-  settles_top before after folder is settles = (after, subst (λ (f : List ℕ). SettlesFolder f before after) is settles, Still)
-
-  steps_on : (before between after : Log) → GoesOn top before between → GoesOn top between after → GoesOn top before after
-  unfolding GoesOn
-  steps_on before between after first more = steps_then first more
-
-  -- and goes on
-  pub settles_on : (before between after : Log) → SettlesAll top before between → GoesOn top between after → SettlesAll top before after
-  unfolding SettlesAll
-  settles_on before between after (begun, settles, goes) more = (begun, settles, steps_on begun between after goes more)
 
 -- the syncs of some folders, and then of others
 pub syncs_append : (folders others : List (List ℕ)) → syncs (folders ++ others) ≡ syncs folders ++ syncs others

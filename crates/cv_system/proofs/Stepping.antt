@@ -51,7 +51,7 @@ look_is_quiet (Removed path out) is = absurd is
 look_is_quiet (Made folder out) is = absurd is
 look_is_quiet (Unmade folder out) is = absurd is
 look_is_quiet (Entered folder out) is = absurd is
-look_is_quiet (Named out) is = absurd is
+look_is_quiet (Named folder names) is = absurd is
 
 -- looks change nothing
 pub looks_quiet : {before after : Log} → Makes IsLook before after → Quiet before after

@@ -1,5 +1,5 @@
 -- What a system tells: the calls that were made of it, each with what it was asked and how it came out.
-use Rattle.std.specs.Prelude.{ℕ, Bool, List, [], ◌∷◌, ◌++◌, Option, option_map, Result, Ok, Err}
+use Rattle.std.specs.Prelude.{ℕ, Bool, List, [], ◌∷◌, ◌++◌, take, Option, option_map, Result, Ok, Err}
 use Rattle.std.specs.IoError.{error_kind}
 use Rattle.std.specs.declared.io.Error.{Error}
 use Rattle.std.specs.declared.io.ErrorKind.{ErrorKind}
@@ -26,7 +26,7 @@ pub data Call : Type 0 where
   Made : (folder : List ℕ) → Outcome → Call
   Unmade : (folder : List ℕ) → Outcome → Call
   Entered : (folder : List ℕ) → Outcome → Call
-  Named : Outcome → Call
+  Named : (folder : List ℕ) → Result (List ℕ) ErrorKind → Call
 
 -- the calls that were made, in their order, where they are told
 abbrev pub Log : Type 0
@@ -55,3 +55,8 @@ told (Err error) = Err (error_kind error)
 abbrev pub told_bytes : {Z : Type 0} → Result (Vec ℕ Z) Error → Result (List ℕ) ErrorKind
 told_bytes (Ok bytes) = Ok bytes.items
 told_bytes (Err error) = Err (error_kind error)
+
+-- the names that a call gave in the front of a buffer, or the kind of its error
+abbrev pub told_names : Result ℕ Error → List ℕ → Result (List ℕ) ErrorKind
+told_names (Ok count) buffer = Ok (take count buffer)
+told_names (Err error) buffer = Err (error_kind error)

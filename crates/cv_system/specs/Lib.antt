@@ -2,9 +2,8 @@ pub mod Calls
 pub mod Looks
 pub mod LooksInner
 pub mod Names
-pub mod NamesInner
 pub mod Passed
 pub mod Steps
 pub mod Syncs
 pub mod SyncsInner
-pub mod WalkInner
+pub mod Walks

@@ -7,6 +7,7 @@ use Rattle.std.specs.declared.io.ErrorKind.TheVariants.{NotFound, NotADirectory}
 use Rattle.cv_system.specs.declared.seen.Seen.{Seen}
 use Rattle.cv_system.specs.declared.seen.Kind.TheVariants.{File, Folder}
 use Rattle.cv_system.specs.Calls.{Call, Log, and_call, and_calls, Done, Looked, Opened, Created, Wrote, Synced, Checked, Read, Locked, Renamed, Removed, Made, Unmade, Entered, Named}
+use Rattle.cv_system.specs.Passed.{IsNoName}
 use Rattle.cv_system.specs.Steps.{IsLook, Makes}
 
 -- both tell of the same file
@@ -22,6 +23,12 @@ abbrev pub Looks : List ℕ → Result (Option Seen) Error → Log → Log → T
 Looks path (Ok (Some seen)) before after = after ≡ and_call (Looked path (Ok seen)) before
 Looks path (Ok None) before after = (kind : ErrorKind) × IsNothing kind × (after ≡ and_call (Looked path (Err kind)) before)
 Looks path (Err error) before after = after ≡ and_call (Looked path (Err (error_kind error))) before
+
+-- a look at an entry of a folder: what was seen, or that nothing stands there, also where the entry's path is longer than the system takes
+abbrev pub LooksAtEntry : List ℕ → Result (Option Seen) Error → Log → Log → Type 0
+LooksAtEntry path (Ok (Some seen)) before after = after ≡ and_call (Looked path (Ok seen)) before
+LooksAtEntry path (Ok None) before after = (kind : ErrorKind) × (IsNothing kind ⊎ IsNoName kind) × (after ≡ and_call (Looked path (Err kind)) before)
+LooksAtEntry path (Err error) before after = after ≡ and_call (Looked path (Err (error_kind error))) before
 
 -- the folders of a path behind its front: what comes before each slash of the rest
 unfoldable pub folders_behind : List ℕ → List ℕ → List (List ℕ)
@@ -103,4 +110,4 @@ IsReading path (Removed at out) = ⊥
 IsReading path (Made folder out) = ⊥
 IsReading path (Unmade folder out) = ⊥
 IsReading path (Entered folder out) = ⊥
-IsReading path (Named out) = ⊥
+IsReading path (Named folder names) = ⊥

@@ -1,6 +1,6 @@
 -- Which texts are names of a vault over a folder, and the paths that they stand at.
 use Rattle.std.specs.Prelude.{ℕ, Bool, not, ◌==◌, ◌&&◌, ◌-◌, List, [], ◌∷◌, ◌++◌, length, take, codes, if◌then◌else◌}
-use Rattle.std.specs.List.{starts_with, list_all, slice_split}
+use Rattle.std.specs.List.{ends_with, starts_with, list_all, slice_split}
 use Rattle.cv_base.specs.Path.{is_dots, last_name_of}
 use Rattle.cv_base.specs.PathText.{parts_of}
 
@@ -44,3 +44,11 @@ with_slash folder = folder ++ 47 ∷ []
 -- the names in what the system gives of a folder, between which NULs stand
 abbrev pub names_in : List ℕ → List (List ℕ)
 names_in bytes = slice_split (λ b. b == 0) bytes
+
+-- a folder's path without the slash at its end
+abbrev pub without_slash : List ℕ → List ℕ
+without_slash folder = if ends_with (λ a b. a == b) folder (47 ∷ []) then take (length folder - 1) folder else folder
+
+-- the folder above one
+abbrev pub above : List ℕ → List ℕ
+above folder = folder_of (without_slash folder)

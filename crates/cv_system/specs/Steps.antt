@@ -23,7 +23,7 @@ IsLook (Removed path out) = ⊥
 IsLook (Made folder out) = ⊥
 IsLook (Unmade folder out) = ⊥
 IsLook (Entered folder out) = ⊥
-IsLook (Named out) = ⊥
+IsLook (Named folder names) = ⊥
 
 -- a call that changes nothing: it looks, opens, reads or locks
 abbrev pub IsQuiet : Call → Type 0
@@ -40,7 +40,7 @@ IsQuiet (Removed path out) = ⊥
 IsQuiet (Made folder out) = ⊥
 IsQuiet (Unmade folder out) = ⊥
 IsQuiet (Entered folder out) = ⊤
-IsQuiet (Named out) = ⊤
+IsQuiet (Named folder names) = ⊤
 
 -- calls were made, each of which is such a one
 abbrev pub Makes : (Call → Type 0) → Log → Log → Type 0

@@ -1,6 +1,6 @@
 //! The folders that a walk goes into next.
 ghost use Rattle.std.specs.Prelude.{◌≡◌, ◌<◌, ◌++◌, [], ◌∷◌, All, drop, length, map, IfOk, IfSome};
-ghost use Rattle.cv_system.specs.WalkInner.{place_of, with_path, first_of, end_of};
+ghost use Rattle.cv_system.specs.Walks.{end_of, first_of, place_of, with_path};
 
 use crate::path_buffer::PathBuffer;
 use std::alloc::{AllocError, Global};

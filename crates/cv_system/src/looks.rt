@@ -2,7 +2,7 @@
 //! folder there.
 ghost use Rattle.std.specs.Prelude.{◌≡◌, ◌≢◌, ◌↔◌, ◌<◌, None, Ok, IfOk, OnOk, OnErr, IsSome, IfSome, IfNone, IsTrue, length, slice_index, take, true, false};
 ghost use Rattle.std.specs.IoError.{error_kind, raw_os_error};
-ghost use Rattle.cv_system.specs.Looks.{Finds, IsNothing, IsReading, MissesFolder, OpensFile, ReadsFile, SeesFolders, folders_past, Looks, folders_at};
+ghost use Rattle.cv_system.specs.Looks.{Finds, IsNothing, IsReading, Looks, LooksAtEntry, MissesFolder, OpensFile, ReadsFile, SeesFolders, folders_at, folders_past};
 ghost use Rattle.cv_system.specs.LooksInner.{LooksForFolder};
 ghost use Rattle.cv_system.specs.Passed.{IsNoName};
 ghost use Rattle.cv_system.specs.Steps.{IsLook, Makes};
@@ -52,7 +52,7 @@ pub fn seen<S: System>(system: &mut S, path: &str) -> io::Result<Option<Seen>>
 
 /// What stands at an entry of a folder. Nothing stands at one whose path is longer than the system takes.
 pub fn seen_entry<S: System>(system: &mut S, path: &str) -> io::Result<Option<Seen>>
-    ensures { Makes IsLook (S.log system.old) (S.log system.new) }
+    ensures { LooksAtEntry path.now result (S.log system.old) (S.log system.new) }
 {
     match seen(system, path) {
         Ok(found) => Ok(found),

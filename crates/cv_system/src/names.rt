@@ -3,8 +3,7 @@ ghost use Rattle.std.specs.Prelude.{◌≡◌, ◌==◌, ◌<◌, length, not};
 ghost use Rattle.std.specs.List.{list_all};
 ghost use Rattle.cv_base.specs.Path.{is_dots};
 ghost use Rattle.cv_base.specs.PathText.{parts_of};
-ghost use Rattle.cv_system.specs.Names.{is_own, is_part, is_name, last_part, folder_of};
-ghost use Rattle.cv_system.specs.NamesInner.{above};
+ghost use Rattle.cv_system.specs.Names.{above, is_own, is_part, is_name, last_part, folder_of};
 
 /// The one own file of a folder: the next file of one of its names, as long as it isn't whole.
 pub const NEXT: &str = ".cvkit-next";

@@ -1,19 +1,16 @@
 //! Where a walk over folders is.
-ghost use Rattle.std.specs.Prelude.{◌≡◌, ◌↔◌, ◌==◌, ◌+◌, ◌<◌, ◌++◌, [], ◌∷◌, All, drop, length, map, IfOk, IfErr, IfSome, IsOk, IsErr, IsSome, IsTrue, OnOk, true, false, if◌then◌else◌};
+ghost use Rattle.std.specs.Prelude.{◌≡◌, ◌↔◌, ◌⊎◌, ◌+◌, ◌≤◌, ◌<◌, ◌++◌, [], ◌∷◌, All, drop, length, map, IfOk, IfErr, IfSome, IsOk, IsErr, IsSome, IsTrue, OnErr, OnOk, true, false, if◌then◌else◌};
 ghost use Rattle.std.specs.IoError.{error_kind};
-ghost use Rattle.std.specs.List.{starts_with};
-ghost use Rattle.cv_system.specs.Passed.{IsPassed};
-ghost use Rattle.cv_system.specs.Steps.{IsLook, Makes};
-ghost use Rattle.cv_system.specs.Syncs.{ClearsFolder, SettlesFolder};
-ghost use Rattle.cv_system.specs.SyncsInner.{Settles};
-ghost use Rattle.cv_system.specs.WalkInner.{comes_next, first_of, folder_in, IsNext, Looks, with_path};
+ghost use Rattle.cv_system.specs.Passed.{IsOpen, IsShut, Passes, StopsAt};
+ghost use Rattle.cv_system.specs.Syncs.{ClearsFolder, FailsFolder, FailsTop, PassesFolder, SettlesFolder};
+ghost use Rattle.cv_system.specs.Walks.{FailsToLook, IsNext, LooksAt, LooksFor, comes_next, first_of, folder_in, is_inside, with_path};
 
 use crate::ahead::Ahead;
 use crate::looks::{is_no_name, seen, seen_entry};
 use crate::names::{NEXT, is_part};
 use crate::path_buffer::PathBuffer;
 use crate::seen::{Kind, Seen};
-use crate::syncing::{Unsynced, sync_at, told};
+use crate::syncing::{Unsynced, sync_at, sync_folder, told};
 use crate::system::System;
 use std::alloc::{AllocError, Global};
 use std::io;
@@ -27,7 +24,7 @@ fn is_refused(error: &io::Error) -> bool
 }
 
 /// Whether this process may look nothing up in a folder, by what was seen at the path of `.` in it.
-fn is_shut(seen: &io::Result<Option<Seen>>) -> bool
+fn tells_shut(seen: &io::Result<Option<Seen>>) -> bool
     ensures { IsTrue result ↔ IsErr seen.now
         × IfErr seen.now (λ error. error_kind error ≡ ErrorKind.PermissionDenied) }
 {
@@ -45,14 +42,6 @@ fn is_folder(seen: &Option<Seen>) -> bool
         Some(found) => found.is_folder(),
         None => false,
     }
-}
-
-/// Whether an error in a folder is passed over, since no name of the vault is behind it. In a closed folder no call tells of a
-/// name.
-fn is_passed(error: &io::Error, is_closed: bool) -> bool
-    ensures { IsTrue result ↔ IsPassed (error_kind error.now) is_closed }
-{
-    is_no_name(error) || (is_refused(error) && is_closed)
 }
 
 /// Whether a path comes next: behind the last one, and before the end of what is kept, if there is no room for more.
@@ -97,6 +86,7 @@ impl Place {
     /// Comes to the folder at the top of a walk, whose path has no slash at its end.
     pub fn begin(&mut self, top: &str) -> Result<(), Unsynced>
         ensures fits { IsOk result ↔ (length top.now + 1 < 4096) }
+        ensures long { OnErr result (4096 ≤ length top.now + 1) }
         ensures folder { OnOk result (self.new.folder ≡ top.now ++ 47 ∷ []) }
         ensures last { OnOk result (self.new.last ≡ top.now ++ 47 ∷ []) }
         ensures ahead { self.new.ahead ≡ map (λ _. []) self.old.ahead }
@@ -111,31 +101,18 @@ impl Place {
 
     /// Whether this process may look nothing up in the folder, so that no call of the vault tells of a name there. Nothing
     /// stands at a path that is longer than the system takes.
-    fn is_closed<S: System>(&mut self, system: &mut S) -> bool
+    fn is_shut<S: System>(&mut self, system: &mut S) -> bool
         ensures folder { self.new.folder ≡ self.old.folder }
         ensures last { self.new.last ≡ self.old.last }
         ensures ahead { self.new.ahead ≡ self.old.ahead }
         ensures found { self.new.found ≡ self.old.found }
-        ensures calls { Makes IsLook (S.log system.old) (S.log system.new) }
+        ensures shut { IsTrue result → IsShut self.old.folder (S.log system.old) (S.log system.new) }
+        ensures open { result ≡ false → IsOpen self.old.folder (S.log system.old) (S.log system.new) }
     {
         if !self.entry.set(self.folder.as_str(), ".") {
             return true;
         }
-        is_shut(&seen(system, self.entry.as_str()))
-    }
-
-    /// Whether the folder is closed to this process, which may not do what gave this error.
-    fn is_closed_by<S: System>(&mut self, system: &mut S, error: &io::Error) -> bool
-        ensures folder { self.new.folder ≡ self.old.folder }
-        ensures last { self.new.last ≡ self.old.last }
-        ensures ahead { self.new.ahead ≡ self.old.ahead }
-        ensures found { self.new.found ≡ self.old.found }
-        ensures calls { Makes IsLook (S.log system.old) (S.log system.new) }
-    {
-        if !is_refused(error) {
-            return false;
-        }
-        self.is_closed(system)
+        tells_shut(&seen(system, self.entry.as_str()))
     }
 
     /// Passes over an error in the folder where no name of the vault is behind it. Any other ends the sync.
@@ -148,23 +125,28 @@ impl Place {
         ensures last { self.new.last ≡ self.old.last }
         ensures ahead { self.new.ahead ≡ self.old.ahead }
         ensures found { self.new.found ≡ self.old.found }
-        ensures passed { IsPassed (error_kind error.now) false → IsOk result }
-        ensures refused { IsOk result → IsPassed (error_kind error.now) true }
+        ensures passes { OnOk result (Passes self.old.folder (error_kind error.now) (S.log system.old)
+            (S.log system.new)) }
+        ensures stops { OnErr result (StopsAt self.old.folder (error_kind error.now) (S.log system.old)
+            (S.log system.new)) }
         ensures ends { IfErr result (λ unsynced. unsynced ≡ Unsynced.NotOpened) }
-        ensures calls { Makes IsLook (S.log system.old) (S.log system.new) }
     {
-        let is_closed = self.is_closed_by(system, error);
-        if is_passed(error, is_closed) {
-            Ok(())
-        } else {
-            Err(Unsynced::NotOpened)
+        if is_no_name(error) {
+            return Ok(());
         }
+        if !is_refused(error) {
+            return Err(Unsynced::NotOpened);
+        }
+        if !self.is_shut(system) {
+            return Err(Unsynced::NotOpened);
+        }
+        Ok(())
     }
 
     /// Whether what has this name comes next, if it is a folder. Its paths are then set. Nothing stands in a folder whose path
     /// is longer than the system takes.
     fn is_next(&mut self, name: &str) -> bool
-        ensures next { IsTrue result ↔ IsNext self.old.folder name.now self.old.last self.old.ahead }
+        ensures next { IsTrue result ↔ IsNext self.old.folder self.old.last name.now self.old.ahead }
         ensures folder { self.new.folder ≡ self.old.folder }
         ensures last { self.new.last ≡ self.old.last }
         ensures ahead { self.new.ahead ≡ self.old.ahead }
@@ -187,8 +169,11 @@ impl Place {
         ensures last { self.new.last ≡ self.old.last }
         ensures ahead { self.new.ahead ≡ self.old.ahead }
         ensures found { self.new.found ≡ self.old.found }
+        ensures looks { IfOk result (λ is. LooksFor self.old.folder self.old.entry is
+            (S.log system.old) (S.log system.new)) }
+        ensures fails { OnErr result (FailsToLook self.old.folder self.old.entry
+            (S.log system.old) (S.log system.new)) }
         ensures ends { IfErr result (λ unsynced. unsynced ≡ Unsynced.NotOpened) }
-        ensures calls { Makes IsLook (S.log system.old) (S.log system.new) }
     {
         match seen_entry(system, self.entry.as_str()) {
             Ok(seen) => Ok(is_folder(&seen)),
@@ -216,9 +201,11 @@ impl Place {
     pub fn look<S: System>(&mut self, system: &mut S, bytes: &[u8]) -> Result<(), Unsynced>
         ensures folder { self.new.folder ≡ self.old.folder }
         ensures last { self.new.last ≡ self.old.last }
-        ensures ahead { Looks self.old.folder self.old.last bytes.now self.old.ahead self.new.ahead }
+        ensures looks { OnOk result (LooksAt self.old.folder self.old.last bytes.now self.old.ahead
+            self.new.ahead (S.log system.old) (S.log system.new)) }
+        ensures fails { OnErr result (FailsToLook self.old.folder (self.old.folder ++ bytes.now)
+            (S.log system.old) (S.log system.new)) }
         ensures ends { IfErr result (λ unsynced. unsynced ≡ Unsynced.NotOpened) }
-        ensures calls { Makes IsLook (S.log system.old) (S.log system.new) }
     {
         let Ok(name) = str::from_utf8(bytes) else {
             return Ok(());
@@ -233,7 +220,7 @@ impl Place {
 
     /// Whether the first folder that is kept stands in this one.
     pub fn is_above_next(&self) -> bool
-        ensures { result ≡ starts_with (λ a b. a == b) (first_of self.now.ahead) self.now.folder }
+        ensures { result ≡ is_inside self.now.folder self.now.ahead }
     {
         self.ahead
             .first()
@@ -243,7 +230,7 @@ impl Place {
 
     /// Goes into the folder that comes next, which stands in this one.
     pub fn enter(&mut self)
-        requires { IsTrue (starts_with (λ a b. a == b) (first_of self.old.ahead) self.old.folder) }
+        requires { IsTrue (is_inside self.old.folder self.old.ahead) }
         ensures folder { self.new.folder ≡ first_of self.old.ahead }
         ensures last { self.new.last ≡ first_of self.old.ahead }
         ensures ahead { self.new.ahead ≡ drop 1 self.old.ahead ++ [] ∷ [] }
@@ -265,24 +252,18 @@ impl Place {
         let _ = system.remove_file(self.entry.as_str());
     }
 
-    /// What a sync of the folder comes to, by what the system gave. A folder that couldn't be opened is passed over, if this
-    /// process may look nothing up in it.
-    fn settled<S: System>(
-        &mut self,
-        system: &mut S,
-        synced: &io::Result<io::Result<()>>,
-    ) -> Result<(), Unsynced>
+    /// Removes what an earlier process left in the folder at the top of the walk, and makes it durable. It isn't passed over.
+    pub fn settle_top<S: System>(&mut self, system: &mut S) -> Result<(), Unsynced>
         ensures folder { self.new.folder ≡ self.old.folder }
         ensures last { self.new.last ≡ self.old.last }
         ensures ahead { self.new.ahead ≡ self.old.ahead }
-        ensures settles { Settles synced.now result }
-        ensures calls { Makes IsLook (S.log system.old) (S.log system.new) }
-        ensures synced { IsOk synced.now → S.log system.new ≡ S.log system.old }
+        ensures settles { OnOk result (SettlesFolder self.old.folder (S.log system.old)
+            (S.log system.new)) }
+        ensures fails { IfErr result (λ unsynced. FailsTop self.old.folder unsynced
+            (S.log system.old) (S.log system.new)) }
     {
-        match synced {
-            Ok(synced) => told(synced),
-            Err(error) => self.pass_over(system, error),
-        }
+        self.remove_left(system);
+        sync_folder(system, self.folder.as_str())
     }
 
     /// Removes what an earlier process left in the folder, and makes the folder durable. One in which this process may look
@@ -291,11 +272,15 @@ impl Place {
         ensures folder { self.new.folder ≡ self.old.folder }
         ensures last { self.new.last ≡ self.old.last }
         ensures ahead { self.new.ahead ≡ self.old.ahead }
-        ensures calls { OnOk result (SettlesFolder self.old.folder (S.log system.old)
-            (S.log system.new)) }
+        ensures settles { OnOk result (SettlesFolder self.old.folder (S.log system.old) (S.log system.new)
+            ⊎ PassesFolder self.old.folder (S.log system.old) (S.log system.new)) }
+        ensures fails { IfErr result (λ unsynced. FailsFolder self.old.folder unsynced
+            (S.log system.old) (S.log system.new)) }
     {
         self.remove_left(system);
-        let synced = sync_at(system, self.folder.as_str());
-        self.settled(system, &synced)
+        match sync_at(system, self.folder.as_str()) {
+            Ok(synced) => told(&synced),
+            Err(error) => self.pass_over(system, &error),
+        }
     }
 }

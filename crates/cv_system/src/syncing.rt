@@ -1,8 +1,8 @@
 //! Folders made durable.
 ghost use Rattle.std.specs.Prelude.{◌≡◌, ◌↔◌, [], ◌∷◌, IfErr, IsOk, is_ok, map, string_bytes};
 ghost use Rattle.cv_system.specs.Steps.{Tries};
-ghost use Rattle.cv_system.specs.Syncs.{syncs};
-ghost use Rattle.cv_system.specs.SyncsInner.{Ends, SyncsAt};
+ghost use Rattle.cv_system.specs.Syncs.{EndsBy, FailsToSync, syncs};
+ghost use Rattle.cv_system.specs.SyncsInner.{SyncsAt};
 
 use crate::system::System;
 use std::io;
@@ -38,27 +38,23 @@ pub fn told(synced: &io::Result<()>) -> Result<(), Unsynced>
     }
 }
 
-/// What a sync of a folder that was noted comes to, by what the system gave. It must be opened.
-fn told_of(synced: &io::Result<io::Result<()>>) -> Result<(), Unsynced>
-    ensures { Ends synced.now result }
+/// Makes a folder durable.
+pub fn sync_folder<S: System>(system: &mut S, folder: &str) -> Result<(), Unsynced>
+    ensures tries { Tries (syncs (folder.now ∷ [])) (is_ok result) (S.log system.old) (S.log system.new) }
+    ensures fails { IfErr result (λ unsynced. FailsToSync folder.now unsynced (S.log system.old)
+        (S.log system.new)) }
 {
-    match synced {
-        Ok(synced) => told(synced),
+    match sync_at(system, folder) {
+        Ok(synced) => told(&synced),
         Err(_) => Err(Unsynced::NotOpened),
     }
 }
 
-/// Makes a folder durable.
-pub fn sync_folder<S: System>(system: &mut S, folder: &str) -> Result<(), Unsynced>
-    ensures { Tries (syncs (folder.now ∷ [])) (is_ok result) (S.log system.old) (S.log system.new) }
-{
-    told_of(&sync_at(system, folder))
-}
-
 /// Makes each folder durable.
 pub fn sync_folders<S: System>(system: &mut S, folders: &Vec<String>) -> Result<(), Unsynced>
-    ensures { Tries (syncs (map string_bytes folders.now.items)) (is_ok result) (S.log system.old)
+    ensures tries { Tries (syncs (map string_bytes folders.now.items)) (is_ok result) (S.log system.old)
         (S.log system.new) }
+    ensures fails { IfErr result (λ unsynced. EndsBy unsynced (S.log system.new)) }
 {
     for folder in folders {
         sync_folder(system, folder.as_str())?;

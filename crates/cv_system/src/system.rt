@@ -1,6 +1,6 @@
 //! What a vault over a folder asks of the system.
 ghost use Rattle.std.specs.Prelude.{◌≡◌, ℕ, List, IfOk, IsSome, length, ◌≤◌};
-ghost use Rattle.cv_system.specs.Calls.{Log, and_call, outcome, told, told_bytes, Looked, Opened, Created, Wrote, Synced, Checked, Read, Locked, Renamed, Removed, Made, Unmade, Entered, Named};
+ghost use Rattle.cv_system.specs.Calls.{Log, and_call, outcome, told, told_bytes, told_names, Looked, Opened, Created, Wrote, Synced, Checked, Read, Locked, Renamed, Removed, Made, Unmade, Entered, Named};
 
 use crate::seen::Seen;
 use std::alloc::Global;
@@ -20,6 +20,9 @@ pub trait System {
 
     /// The path that a file was opened at, where the log is told.
     ghost place: { Self.File → List ℕ };
+
+    /// The path that a folder whose names are read was opened at, where the log is told.
+    ghost folder: { Self.Names → List ℕ };
 
     /// What stands at a path. Of a link it tells the link itself.
     fn look(&mut self, path: &str) -> io::Result<Seen>
@@ -75,11 +78,14 @@ pub trait System {
 
     /// Opens a folder to read the names in it.
     fn open_names(&mut self, path: &str) -> io::Result<Self::Names>
-        ensures { log self.new ≡ and_call (Entered path.now (outcome result)) (log self.old) };
+        ensures call { log self.new ≡ and_call (Entered path.now (outcome result)) (log self.old) }
+        ensures folder { IfOk result (λ names. IsSome (log self.new) → folder names ≡ path.now) };
 
     /// Reads more names of a folder into the buffer, with a NUL behind each, and answers how many bytes they are. There are no
     /// more where it answers 0.
     fn read_names(&mut self, names: &mut Self::Names, buffer: &mut [u8]) -> io::Result<usize>
         ensures within { IfOk result (λ count. count ≤ length buffer.new) }
-        ensures call { log self.new ≡ and_call (Named (outcome result)) (log self.old) };
+        ensures call { log self.new
+            ≡ and_call (Named (folder names.old) (told_names result buffer.new)) (log self.old) }
+        ensures folder { folder names.new ≡ folder names.old };
 }

@@ -1,11 +1,8 @@
-use Rattle.cv_system.proofs.Stepping.{looks_so}
+use Rattle.cv_system.proofs.Passing.{entry_so, no_entry}
 use Rattle.cv_system.proofs.looks.seen_entry.Goals as goal
 
 pub returns-in-Ok : goal.returns-in-Ok
-returns-in-Ok g c = looks_so _ _ _ _ c.seen.ensures
+returns-in-Ok g c = entry_so _ _ _ _ c.in-Ok.ensures
 
 pub returns-in-Err : goal.returns-in-Err
-returns-in-Err g c = looks_so _ _ _ _ c.seen.ensures
-
-pub returns-in-Err-2 : goal.returns-in-Err-2
-returns-in-Err-2 g c = looks_so _ _ _ _ c.seen.ensures
+returns-in-Err g c = no_entry _ _ _ c.in-Err.error (c.is_no_name.ensures.0 c.if-is_no_name.true) c.in-Err.ensures

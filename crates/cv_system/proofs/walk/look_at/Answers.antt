@@ -1,50 +1,44 @@
-use Rattle.std.proofs.Common.{◌∙◌, ◌≡◌, ◌∷◌, ◌++◌, [], ap, refl, sym, append_assoc, OnOk, Ok, Err}
-use Rattle.cv_system.specs.WalkInner.{LooksAtAll}
+use Rattle.std.proofs.Common.{◌∙◌, ◌≡◌, ◌∷◌, ◌++◌, [], ap, refl, sym, append_assoc}
 use Rattle.cv_system.specs.Names.{names_in}
-use Rattle.cv_system.specs.Steps.{Still}
-use Rattle.cv_system.proofs.Looking.{looked}
-use Rattle.cv_system.proofs.Stepping.{steps_then}
+use Rattle.std.proofs.lemmas.Result.{err_from_is_err_and, on_err_weaker, on_ok_weaker}
+use Rattle.cv_system.proofs.Looking.{fails_at, looks_at_more}
 use Rattle.cv_system.proofs.walk.look_at.Goals as goal
 
-pub returns-in_err-look-clause-ahead : goal.returns-in_err-look-clause-ahead
-returns-in_err-look-clause-ahead g c =
-    let before = c.loop-name.invariant.ahead in
-    (before.0 ++ c.in-Some.name.now ∷ [], looked c.args.place.now.folder c.args.place.now.last _ _ c.loop-name.invariant.folder c.loop-name.invariant.last before.0 c.in-Some.name.now _ _ _ before.2 c.look.ensures.ahead)
+pub loop-name-init : goal.loop-name-init
+loop-name-init g c = record { folder = refl; last = refl; looks = ([], refl, (refl, refl)) }
+
+pub returns-in_err-look-clause-fails : goal.returns-in_err-look-clause-fails
+returns-in_err-look-clause-fails g c =
+    let so_far = c.loop-name.invariant.looks in
+    let p = err_from_is_err_and c.from_residual.result c.from_residual.ensures.1 in
+    rw p.1 (fails_at c.args.place.now.folder c.args.place.now.last _ _ c.loop-name.invariant.folder c.loop-name.invariant.last (names_in c.args.names.now) so_far.0 c.in-Some.name.now
+    (names_in c.in-Some.others.now) _ _ _ _ _ (so_far.1 ∙ ap (λ names. so_far.0 ++ names) c.in-Some.ensures.cut) so_far.2 c.in_err-look.ensures.fails)
 
 pub loop-name-preserved : goal.loop-name-preserved
 loop-name-preserved g c =
-    let before = c.loop-name.invariant.ahead in
+    let so_far = c.loop-name.invariant.looks in
     record {
       folder = c.look.ensures.folder ∙ c.loop-name.invariant.folder;
       last = c.look.ensures.last ∙ c.loop-name.invariant.last;
-      calls = steps_then c.loop-name.invariant.calls c.look.ensures.calls;
-      ahead = (
-        before.0 ++ c.in-Some.name.now ∷ [],
-        before.1 ∙ ap (λ names. before.0 ++ names) c.in-Some.ensures.cut ∙ sym (append_assoc before.0 (c.in-Some.name.now ∷ []) (names_in c.in-Some.others.now)),
-        looked c.args.place.now.folder c.args.place.now.last _ _ c.loop-name.invariant.folder c.loop-name.invariant.last before.0 c.in-Some.name.now _ _ _ before.2 c.look.ensures.ahead,
+      looks = (
+        so_far.0 ++ c.in-Some.name.now ∷ [],
+        so_far.1 ∙ ap (λ names. so_far.0 ++ names) c.in-Some.ensures.cut ∙ sym (append_assoc so_far.0 (c.in-Some.name.now ∷ []) (names_in c.in-Some.others.now)),
+        looks_at_more c.args.place.now.folder c.args.place.now.last _ _ c.loop-name.invariant.folder c.loop-name.invariant.last so_far.0 c.in-Some.name.now _ _ _ _ _ _ so_far.2 c.in_ok-look.ensures.looks,
       );
     }
 
-pub returns-clause-all : goal.returns-clause-all
-returns-clause-all g c =
-    let before = c.loop-name.invariant.ahead in
-    let all = looked c.args.place.now.folder c.args.place.now.last _ _ c.loop-name.invariant.folder c.loop-name.invariant.last before.0 c.loop-name.rest.now _ _ _ before.2 c.look-2.ensures.ahead in
-    let names : names_in c.args.names.now ≡ before.0 ++ c.loop-name.rest.now ∷ [] = before.1 ∙ ap (λ names. before.0 ++ names) c.in_default.ensures.cut in
-    elim c.look-2.result as (λ r. OnOk r (LooksAtAll c.args.place.now.folder c.args.place.now.last (names_in c.args.names.now) c.args.place.now.ahead c.look-2.new.self.ahead)) [
-      | Ok x ↦ rw names all
-      | Err e ↦ tt
-    ]
+pub returns-clause-looks : goal.returns-clause-looks
+returns-clause-looks g c =
+    let so_far = c.loop-name.invariant.looks in
+    let names : names_in c.args.names.now ≡ so_far.0 ++ c.loop-name.rest.now ∷ [] = so_far.1 ∙ ap (λ names. so_far.0 ++ names) c.in_default.ensures.cut in
+    on_ok_weaker c.look-2.result
+    (λ look. rw names (looks_at_more c.args.place.now.folder c.args.place.now.last _ _ c.loop-name.invariant.folder c.loop-name.invariant.last so_far.0 c.loop-name.rest.now _ _ _ _ _ _ so_far.2 look))
+    c.look-2.ensures.looks
 
-pub returns-clause-ahead : goal.returns-clause-ahead
-returns-clause-ahead g c =
-    let before = c.loop-name.invariant.ahead in
-    (before.0 ++ c.loop-name.rest.now ∷ [], looked c.args.place.now.folder c.args.place.now.last _ _ c.loop-name.invariant.folder c.loop-name.invariant.last before.0 c.loop-name.rest.now _ _ _ before.2 c.look-2.ensures.ahead)
-
-pub returns-in_err-look-clause-calls : goal.returns-in_err-look-clause-calls
-returns-in_err-look-clause-calls g c = steps_then c.loop-name.invariant.calls c.look.ensures.calls
-
-pub returns-clause-calls : goal.returns-clause-calls
-returns-clause-calls g c = steps_then c.loop-name.invariant.calls c.look-2.ensures.calls
-
-pub loop-name-init : goal.loop-name-init
-loop-name-init g c = record { folder = refl; last = refl; calls = Still; ahead = ([], refl, refl) }
+pub returns-clause-fails : goal.returns-clause-fails
+returns-clause-fails g c =
+    let so_far = c.loop-name.invariant.looks in
+    on_err_weaker c.look-2.result
+    (λ fails. fails_at c.args.place.now.folder c.args.place.now.last _ _ c.loop-name.invariant.folder c.loop-name.invariant.last (names_in c.args.names.now) so_far.0 c.loop-name.rest.now [] _ _ _ _ _
+    (so_far.1 ∙ ap (λ names. so_far.0 ++ names) c.in_default.ensures.cut) so_far.2 fails)
+    c.look-2.ensures.fails

@@ -11,5 +11,5 @@ pub returns-clause-calls : goal.returns-clause-calls
 returns-clause-calls g c =
     on_ok_weaker c.sync_all.result
     (λ settles. settles_all (string_bytes c.args.self.now.root) c.args.self.now.is_unsettled _ _ _ c.if-not-self.false
-    (rw (c.folder_of.ensures ∙ ap folder_of c.as_str.ensures.value) at c.in_ok-sync_folder.ensures) (rw c.as_str-2.ensures.value at settles))
-    c.sync_all.ensures.calls
+    (rw (c.folder_of.ensures ∙ ap folder_of c.as_str.ensures.value) at c.in_ok-sync_folder.ensures.tries) (rw c.as_str-2.ensures.value at settles))
+    c.sync_all.ensures.settles

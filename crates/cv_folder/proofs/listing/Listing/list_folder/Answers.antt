@@ -9,7 +9,7 @@ pub returns-in_err-at-clause-lists : goal.returns-in_err-at-clause-lists
 returns-in_err-at-clause-lists g c = lists_no_more c.args.root.now _ _ _ _ refl Still
 
 pub returns-in_err-open-clause-lists : goal.returns-in_err-open-clause-lists
-returns-in_err-open-clause-lists g c = lists_no_more c.args.root.now _ _ _ _ refl (one_call (Entered _ _) tt c.open_names.ensures)
+returns-in_err-open-clause-lists g c = lists_no_more c.args.root.now _ _ _ _ refl (one_call (Entered _ _) tt c.open_names.ensures.call)
 
 pub returns-clause-lists : goal.returns-clause-lists
-returns-clause-lists g c = lists_then _ _ _ _ _ _ _ (lists_no_more c.args.root.now _ _ _ _ refl (one_call (Entered _ _) tt c.open_names.ensures)) c.list_open.ensures.lists
+returns-clause-lists g c = lists_then _ _ _ _ _ _ _ (lists_no_more c.args.root.now _ _ _ _ refl (one_call (Entered _ _) tt c.open_names.ensures.call)) c.list_open.ensures.lists

@@ -1,8 +1,6 @@
-use Rattle.cv_system.specs.Steps.{Still}
+use Rattle.std.proofs.Common.{refl, inl}
+use Rattle.std.proofs.lemmas.Str.{IsUtf8-from_is_utf8}
 use Rattle.cv_system.proofs.place.Place.look.Goals as goal
 
-pub returns-in_default-clause-calls : goal.returns-in_default-clause-calls
-returns-in_default-clause-calls g c = Still
-
-pub returns-then-not-is_next-clause-calls : goal.returns-then-not-is_next-clause-calls
-returns-then-not-is_next-clause-calls g c = Still
+pub returns-in_default-clause-looks : goal.returns-in_default-clause-looks
+returns-in_default-clause-looks g c = inl (λ utf8 next. absurd (c.in_default.ensures.cases.0 (IsUtf8-from_is_utf8 c.args.bytes.now utf8)), refl, refl)
