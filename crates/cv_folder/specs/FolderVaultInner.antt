@@ -1,5 +1,5 @@
 -- Where a call of a vault over a folder stands. What only this crate's own functions say.
-use Rattle.std.specs.Prelude.{ℕ, ◌≡◌, ◌≢◌, ◌⊎◌, ◌<◌, ◌+◌, List, length, IsTrue, string_bytes, Bool, true, false, Option, Some, None, Result, Ok, Err}
+use Rattle.std.specs.Prelude.{ℕ, ◌≡◌, ◌≢◌, ◌⊎◌, ◌<◌, ◌+◌, ◌||◌, List, length, IsTrue, string_bytes, Bool, true, false, Option, Some, None, Result, Ok, Err}
 use Rattle.std.specs.IoError.{error_kind}
 use Rattle.std.specs.declared.io.Error.{Error}
 use Rattle.std.specs.declared.io.ErrorKind.TheVariants.{AlreadyExists}
@@ -13,7 +13,7 @@ use Rattle.cv_system.specs.Looks.{folders_past}
 use Rattle.cv_folder.specs.Writes.{Leads, MovesFile, Prepares, SeesNoOther, SeesOther}
 use Rattle.cv_system.specs.declared.seen.Seen.{Seen}
 use Rattle.cv_system.specs.declared.syncing.Unsynced.{Unsynced}
-use Rattle.cv_system.specs.declared.syncing.Unsynced.TheVariants.{Lost, NotOpened}
+use Rattle.cv_folder.specs.Unsynced.{is_lost}
 use Rattle.cv_system.specs.Calls.{Done, Failed, Log, Looked, Made, and_call}
 
 -- this is a name of the vault, and its path is set
@@ -56,5 +56,4 @@ LooksForOther seen path (Err error) before after = (1 < seen.links) × (after �
 -- whether something is lost behind a sync that ended so, where it was or wasn't before
 abbrev pub broken_by : {T : Type 0} → Result T Unsynced → Bool → Bool
 broken_by (Ok x) broken = broken
-broken_by (Err NotOpened) broken = broken
-broken_by (Err Lost) broken = true
+broken_by (Err unsynced) broken = broken || is_lost unsynced

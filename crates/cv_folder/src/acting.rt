@@ -1,5 +1,5 @@
 //! What a vault over a folder does, and which calls of the system it makes for it.
-ghost use Rattle.std.specs.Prelude.{◌≡◌, ◌≢◌, ◌<◌, ◌+◌, ◌↔◌, ◌⊎◌, ◌++◌, [], ◌∷◌, length, map, true, false, Ok, Err, None, IfOk, IsOk, IsTrue, OnErr, OnOk, codes, is_ok, string_bytes, ⊤};
+ghost use Rattle.std.specs.Prelude.{◌≡◌, ◌≢◌, ◌<◌, ◌+◌, ◌↔◌, ◌⊎◌, ◌++◌, [], ◌∷◌, length, map, true, false, Ok, Err, None, IfErr, IfOk, IsOk, IsTrue, OnErr, OnOk, codes, is_ok, string_bytes, ⊤};
 ghost use Rattle.std.specs.IoError.{error_kind, raw_os_error};
 ghost use Rattle.cv_base.specs.Counts.{HasCause};
 ghost use Rattle.cv_vault.specs.declared.vault.VaultFault.TheVariants.{Failed, NoMemory};
@@ -13,7 +13,7 @@ ghost use Rattle.cv_folder.specs.Reads.{IsUnserved, MeasuresNamed, ReadsNamed};
 ghost use Rattle.cv_system.specs.Calls.{Removed};
 ghost use Rattle.cv_system.specs.Steps.{Tries};
 ghost use Rattle.cv_folder.specs.Syncs.{SettlesFirst, SyncsAll};
-ghost use Rattle.cv_folder.specs.Unsynced.{FailsSync};
+ghost use Rattle.cv_folder.specs.Unsynced.{FailsFirst, FailsSync, SyncsNotAll};
 ghost use Rattle.cv_folder.specs.Writes.{MovesNamed, RemovesNamed, WritesFile};
 
 use crate::folder_vault::FolderVault;
@@ -444,6 +444,8 @@ impl<S: System + Drop> FolderVault<S> {
         ensures faults { self.new.faults ≡ self.old.faults }
         ensures calls { OnOk result (SettlesFirst (string_bytes self.old.root) self.old.is_unsettled
             (S.log self.old.system) (S.log self.new.system)) }
+        ensures fails { IfErr result (λ unsynced. FailsFirst (string_bytes self.old.root)
+            self.old.is_unsettled unsynced (S.log self.old.system) (S.log self.new.system)) }
         ensures hold { self.new.hold ≡ self.old.hold }
     {
         if !self.is_unsettled {
@@ -459,6 +461,9 @@ impl<S: System + Drop> FolderVault<S> {
         ensures faults { self.new.faults ≡ self.old.faults }
         ensures calls { OnOk result (SyncsAll (string_bytes self.old.root) self.old.is_unsettled
             (map string_bytes self.old.folders.items) (S.log self.old.system) (S.log self.new.system)) }
+        ensures fails { IfErr result (λ unsynced. SyncsNotAll (string_bytes self.old.root)
+            self.old.is_unsettled (map string_bytes self.old.folders.items) unsynced
+            (S.log self.old.system) (S.log self.new.system)) }
         ensures hold { self.new.hold ≡ self.old.hold }
     {
         self.settle()?;
