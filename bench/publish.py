@@ -13,9 +13,13 @@ Then the folder has 10,000 such files, and `cvkit publish` takes the client's pl
 is one `cvkit stdio` behind a small listener in Python (`tools/cvkit_gateway.py`), and it has the most memory that its process had.
 Ten files are changed, and published again: by cvkit as a folder of these ten, by the others as the whole folder.
 
+No repository is removed before the last run has ended: ext4 takes no inode again that was removed in the last minutes, and looks
+all of these through for each new file.
+
 The short form has five files, and prints no time. Each repository must have the files then.
 """
 import collections
+import contextlib
 import os
 import shutil
 import statistics
@@ -119,21 +123,21 @@ class Cvkit:
     def lacks(self):
         return False
 
-    def publish(self, folder):
-        with repository(self.program) as place:
-            head, begin = whole_head(place), time.perf_counter()
-            with Session(self.program, place) as session:
-                asked, root = requests_of(folder, head)
-                client, answers = time.perf_counter() - begin, []
-                for one in asked:
-                    session.send(one)
-                    answers.append(session.reply(PATIENCE).json())
-                session.close()
-            seconds = time.perf_counter() - begin
-            expect(answers[-1] == {"final_revision": 2, "root_hash": root, "status": "ok"}, "the answer to a commit", answers[-1])
-            expect(whole_head(place).root == root, "the newest root", root)
-            names = {name: object_path(place, digest_of(content)) for name, content in contents_of(folder).items()}
-            look({name: read_file(path) for name, path in names.items()}, folder)
+    def publish(self, folder, kept):
+        place = kept.enter_context(repository(self.program))
+        head, begin = whole_head(place), time.perf_counter()
+        with Session(self.program, place) as session:
+            asked, root = requests_of(folder, head)
+            client, answers = time.perf_counter() - begin, []
+            for one in asked:
+                session.send(one)
+                answers.append(session.reply(PATIENCE).json())
+            session.close()
+        seconds = time.perf_counter() - begin
+        expect(answers[-1] == {"final_revision": 2, "root_hash": root, "status": "ok"}, "the answer to a commit", answers[-1])
+        expect(whole_head(place).root == root, "the newest root", root)
+        names = {name: object_path(place, digest_of(content)) for name, content in contents_of(folder).items()}
+        look({name: read_file(path) for name, path in names.items()}, folder)
         return Taken(seconds, client)
 
     def syncs(self, folder):
@@ -159,16 +163,17 @@ class Publisher:
         expect(output == b"revision %d\n" % revision, "what a publication printed", output)
         return seconds, peak
 
-    def publish(self, folder):
-        with repository(self.program) as place, gateway(self.program, place) as (port, _):
+    def publish(self, folder, kept):
+        place = kept.enter_context(repository(self.program))
+        with gateway(self.program, place) as (port, _):
             seconds, peak = self.run(place, port, folder, 2)
             changes = os.path.join(place, "changes")
             os.mkdir(changes)
             for name in change(folder):
                 shutil.copy2(os.path.join(folder, name), changes)
             again, second_peak = self.run(place, port, changes, 3)
-            names = {name: object_path(place, digest_of(content)) for name, content in contents_of(folder).items()}
-            look({name: read_file(path) for name, path in names.items()}, folder)
+        names = {name: object_path(place, digest_of(content)) for name, content in contents_of(folder).items()}
+        look({name: read_file(path) for name, path in names.items()}, folder)
         return Taken(seconds, 0, again, max(peak, second_peak))
 
     def syncs(self, _folder):
@@ -193,16 +198,16 @@ class Tool:
         _, seconds, peak = run_measured(self.words(words, place, folder), place, around(place))
         return seconds, peak
 
-    def publish(self, folder):
-        with tempfile.TemporaryDirectory(prefix="cvkit-") as place:
-            self.run(self.made, place, folder)
-            seconds, peak = self.run(self.published, place, folder)
-            change(folder)
-            again, second_peak = self.run(self.published, place, folder)
-            self.run(self.given_back, place, folder)
-            out = os.path.join(place, "out")
-            below = out + folder
-            look(contents_of(below if os.path.isdir(below) else out), folder)
+    def publish(self, folder, kept):
+        place = kept.enter_context(tempfile.TemporaryDirectory(prefix="cvkit-"))
+        self.run(self.made, place, folder)
+        seconds, peak = self.run(self.published, place, folder)
+        change(folder)
+        again, second_peak = self.run(self.published, place, folder)
+        self.run(self.given_back, place, folder)
+        out = os.path.join(place, "out")
+        below = out + folder
+        look(contents_of(below if os.path.isdir(below) else out), folder)
         return Taken(seconds, 0, again, max(peak, second_peak))
 
     def syncs(self, folder):
@@ -245,30 +250,30 @@ def tell(tool, runs, folder):
     return seconds, again
 
 
-def measure(tools, count, times, short):
-    """Has each tool publish so many files so often, one tool after the other."""
+def measure(tools, count, times, short, kept):
+    """Has each tool publish so many files so often, one tool after the other, and keeps what was made."""
     for tool in tools:
         if tool.lacks():
             print(f"skipped: {tool.name}: it isn't on this machine")
     tools = [tool for tool in tools if not tool.lacks()]
-    with tempfile.TemporaryDirectory(prefix="cvkit-") as top:
-        folder = os.path.join(top, "files")
-        make_files(folder, count)
-        runs = list(zip(*([tool.publish(folder) for tool in tools] for _ in range(times))))
-        if short:
-            print(f"{count} files were published by {', '.join(tool.name for tool in tools)}")
-            return
-        print(f"{count:,} files of 10 KiB, the middle one of {times} runs:")
-        own, *others = [tell(tool, one, folder) for tool, one in zip(tools, runs)]
-        for tool, (seconds, again) in zip(tools[1:], others):
-            changed = f", {CHANGED} changed files {own[1] / again:.2f}" if own[1] else ""
-            print(f"{tools[0].name} to {tool.name}: {own[0] / seconds:.2f}{changed}")
+    folder = os.path.join(kept.enter_context(tempfile.TemporaryDirectory(prefix="cvkit-")), "files")
+    make_files(folder, count)
+    runs = list(zip(*([tool.publish(folder, kept) for tool in tools] for _ in range(times))))
+    if short:
+        print(f"{count} files were published by {', '.join(tool.name for tool in tools)}")
+        return
+    print(f"{count:,} files of 10 KiB, the middle one of {times} runs:")
+    own, *others = [tell(tool, one, folder) for tool, one in zip(tools, runs)]
+    for tool, (seconds, again) in zip(tools[1:], others):
+        changed = f", {CHANGED} changed files {own[1] / again:.2f}" if own[1] else ""
+        print(f"{tools[0].name} to {tool.name}: {own[0] / seconds:.2f}{changed}")
 
 
 def script(program, short):
     times = 1 if short else 5
-    measure([Cvkit(program), OSTREE, RESTIC], 5 if short else 1_000, times, short)
-    measure([Publisher(program), OSTREE, RESTIC], 5 if short else 10_000, times, short)
+    with contextlib.ExitStack() as kept:
+        measure([Cvkit(program), OSTREE, RESTIC], 5 if short else 1_000, times, short, kept)
+        measure([Publisher(program), OSTREE, RESTIC], 5 if short else 10_000, times, short, kept)
 
 
 main(script)

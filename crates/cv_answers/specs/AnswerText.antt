@@ -1,4 +1,6 @@
 -- The answer that a text says, or its first fault. The status is judged first. The members of each kind are judged in
+-- the order in which they are written, but the reason of a refusal before those that it asks for, and the elements of
+-- a list one after another.
 use Rattle.std.specs.Prelude.{◌∷◌, ℕ, Bool, true, List, [], codes, Option, Some, None, is_some, Result, Ok, Err, if◌then◌else◌}
 use Rattle.std.specs.Str.{bytes_eq}
 use Rattle.serde_json.specs.Data.{Data, Items}

@@ -1,4 +1,6 @@
--- The answer that a text says, or its first fault. The status is judged first. The members of each kind are judged in What only this crate's own functions say.
+-- The answer that a text says, or its first fault. The status is judged first. The members of each kind are judged in
+-- the order in which they are written, but the reason of a refusal before those that it asks for, and the elements of
+-- a list one after another. What only this crate's own functions say.
 use Rattle.cv_base.specs.Digest.{IsDigest}
 use Rattle.cv_messages.specs.Spelling.{IsToken}
 use Rattle.cv_answers.specs.RefusalInner.{IsWholeRefusal}

@@ -1,23 +1,21 @@
 -- How many cuts are left.
 use Rattle.std.proofs.Common.{◌≡◌, ◌≢◌, ℕ, ◌<◌, ◌≤◌, Bool, true, false, cond, List, [], ◌∷◌, ◌++◌, length, refl, sym, ap, subst, ◌∙◌, arith, inl, inr}
 use Rattle.std.specs.Prelude.{Contains, filter}
-use Rattle.std.specs.FinMap.{keys, contains_key-keys}
-use Rattle.std.proofs.lemmas.Bool.{and_from, and_parts}
+use Rattle.std.proofs.lemmas.Bool.{and_from, and_parts, false_from_ne_true}
 use Rattle.std.proofs.lemmas.List.Elements.{Contains-append_cases}
-use Rattle.std.proofs.lemmas.Map.Made.{is_member-Decides}
 use Rattle.cv_base.specs.Path.{Path, covers, overlap}
-use Rattle.cv_tree.specs.Tree.{Nodes, IsTree}
-use Rattle.cv_cut.specs.Cuts.{is_cut, cuts_of}
+use Rattle.cv_tree.specs.Tree.{Nodes}
+use Rattle.cv_cut.specs.Cuts.{cuts_of}
 use Rattle.cv_cut.specs.Catalogues.{contents_of}
 use Rattle.cv_cut.specs.Own.{AreOwn}
-use Rattle.cv_cut.proofs.Lemmas.{cut_some, first_or_later, none_there, passing}
-use Rattle.cv_load.proofs.Lemmas.{covers_itself, same_place}
+use Rattle.cv_cut.proofs.Lemmas.{first_or_later, none_there, cut_of_tree}
+use Rattle.cv_load.proofs.Lemmas.{covers_itself}
 use Rattle.cv_checkout.specs.Wanting.{is_covered}
 use Rattle.cv_checkout.specs.Progress.{Progress}
 use Rattle.cv_checkout.specs.Giving.{Takes}
 use Rattle.cv_checkout.specs.InTree.{AreApart, IsOn, cuts_toward, is_left, left_in}
 use Rattle.cv_checkout.specs.declared.wanted.Wanted.{Wanted}
-use Rattle.cv_checkout.proofs.Covering.{below_place, coverer, covered_by, named_of, not_so, or_left, or_right}
+use Rattle.cv_checkout.proofs.Covering.{below_place, coverer, covered_by, named_of, or_left, or_right}
 use Rattle.cv_checkout.proofs.Coming.{TakenIn, taken_in}
 
 -- ---- tests that fewer pass
@@ -49,11 +47,6 @@ module _ {X : Type 0} (f g : X → Bool) (weaker : (x : X) → f x ≡ true → 
       ])
 
 -- ---- cuts
-
-cut_there : (t : Nodes) (c : Path) → IsTree t → is_cut t c ≡ true → Contains (cuts_of t) c
-cut_there t c tree cut =
-    let key = (is_member-Decides same_place (keys t) c).0 (sym (contains_key-keys t c) ∙ cut_some t c tree cut) in
-    passing (is_cut t) (keys t) c key cut
 
 -- at most all of them are left
 pub most : (t : Nodes) (s : Progress) → left_in t s ≤ length (cuts_toward t s.path)
@@ -99,9 +92,9 @@ module _ (t : Nodes) (s new : Progress) (bytes : List ℕ) (on : IsOn t s) (take
 
   pub falls : left_in t new < left_in t s
   falls =
-      fewer (is_left new) (is_left s) weaker (cuts_of t) c (cut_there t c on.tree i.wanted.toward.cut)
+      fewer (is_left new) (is_left s) weaker (cuts_of t) c (cut_of_tree t c on.tree i.wanted.toward.cut)
       (and_from (overlap s.path c) (is_covered s.wanted c) i.wanted.toward.near (before_covered c (or_left (covers c c) (is_covered takes.rest c) (covers_itself c))))
-      (not_so (is_left new c) (λ h. gone (and_parts (overlap new.path c) (is_covered new.wanted c) h).1))
+      (false_from_ne_true (is_left new c) (λ h. gone (and_parts (overlap new.path c) (is_covered new.wanted c) h).1))
 
 -- a catalogue that is taken leaves fewer
 pub leaves_fewer : (t : Nodes) (s new : Progress) (bytes : List ℕ) → IsOn t s → AreOwn t (bytes ∷ []) → Takes s bytes new → left_in t new < left_in t s
@@ -109,8 +102,8 @@ leaves_fewer t s new bytes on own takes = falls t s new bytes on takes (taken_in
 
 -- it is never wanted again
 pub wanted_once : (t : Nodes) (s new : Progress) (bytes : List ℕ) → IsOn t s → AreOwn t (bytes ∷ []) → (takes : Takes s bytes new) → is_covered new.wanted takes.first.path ≡ false
-wanted_once t s new bytes on own takes = not_so (is_covered new.wanted takes.first.path) (gone t s new bytes on takes (taken_in t s new bytes on own takes))
+wanted_once t s new bytes on own takes = false_from_ne_true (is_covered new.wanted takes.first.path) (gone t s new bytes on takes (taken_in t s new bytes on own takes))
 
 pub not_again : (t : Nodes) (s new : Progress) (bytes : List ℕ) (q : Path) → IsOn t s → AreOwn t (bytes ∷ []) → Takes s bytes new → is_covered s.wanted q ≡ false → is_covered new.wanted q ≡ false
 not_again t s new bytes q on own takes free =
-    not_so (is_covered new.wanted q) (λ h. let wrong : true ≡ false = sym (still_covered t s new bytes on takes (taken_in t s new bytes on own takes) q h) ∙ free in cc)
+    false_from_ne_true (is_covered new.wanted q) (λ h. let wrong : true ≡ false = sym (still_covered t s new bytes on takes (taken_in t s new bytes on own takes) q h) ∙ free in cc)

@@ -27,10 +27,6 @@ pub or_right : (a b : Bool) → b ≡ true → (a || b) ≡ true
 or_right true b h = refl
 or_right false b h = h
 
-pub not_so : (b : Bool) → (b ≡ true → ⊥) → b ≡ false
-not_so true h = absurd (h refl)
-not_so false h = refl
-
 pub overlap_sym : (p q : Path) → overlap p q ≡ true → overlap q p ≡ true
 overlap_sym p q h = elim (or_cases (covers p q) (covers q p) h) [
   | inl over ↦ or_right (covers q p) (covers p q) over

@@ -25,7 +25,7 @@ use Rattle.cv_cut.specs.Cuts.{is_cut}
 use Rattle.cv_cut.specs.Cut.{catalogue_object}
 use Rattle.cv_cut.specs.Catalogues.{Fits, cat, root_of}
 use Rattle.cv_cut.specs.Own.{AreOwn}
-use Rattle.cv_cut.proofs.Lemmas.{covers_append, first_or_later, first_there, fits_at_cut, later_there, none_there, root_decodes}
+use Rattle.cv_cut.proofs.Lemmas.{covers_append, first_or_later, first_there, fits_at_cut, later_there, none_there, root_decodes, fits_subtree}
 use Rattle.cv_graft.specs.Placed.{HasCuts}
 use Rattle.cv_checkout.specs.Wanting.{id_of, is_covered, next_of, root_wanted}
 use Rattle.cv_checkout.specs.Progress.{Progress, begun}
@@ -90,16 +90,9 @@ no_place o p names b none same test h = subst (λ (x : Option Nodes). false ≡ 
 pub empty_fits : (p : Path) → FitsUnder p (nodes_of None)
 empty_fits p q some = absurd (let wrong : false ≡ true = ap is_some (sym (get-empty path_cmp q)) ∙ some in cc)
 
-part_fits : (t : Nodes) (p : Path) → IsTree t → FitsUnder p (nodes_of (subtree_of t p))
-part_fits t p tree =
-    elim (is_some (get t p)) as (λ b. FitsUnder p (nodes_of (cond b (Some (at t p)) None))) [
-      | true ↦ λ q some. tree.part.paths (p ++ q) (rw (get-at t p q) at some)
-      | false ↦ empty_fits p
-    ]
-
 pub found_fits : {E : Type 0} (t : Nodes) (p : Path) (r : Result (Option Nodes) E) → IsTree t → IfOk r (λ found. found ≡ subtree_of t p)
     → IfOk r (λ found. FitsUnder p (nodes_of found))
-found_fits t p (Ok found) tree is = subst (λ (o : Option Nodes). FitsUnder p (nodes_of o)) (sym is) (part_fits t p tree)
+found_fits t p (Ok found) tree is = subst (λ (o : Option Nodes). FitsUnder p (nodes_of o)) (sym is) (fits_subtree t p tree)
 found_fits t p (Err lack) tree is = tt
 
 -- ---- the end

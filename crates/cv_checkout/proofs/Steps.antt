@@ -1,5 +1,5 @@
 -- What single steps of a gift come to.
-use Rattle.std.proofs.Common.{◌≡◌, ℕ, zero, suc, ◌+◌, ◌<◌, ◌≤◌, Bool, true, false, cond, not, List, [], ◌∷◌, ◌++◌, length, take, get_or, refl, sym, ap, subst, ◌∙◌, append-nil, ◌⊎◌, inl, inr, None, Some, IsSome, is_some, arith}
+use Rattle.std.proofs.Common.{◌≡◌, ℕ, ◌+◌, ◌<◌, ◌≤◌, Bool, true, false, cond, not, List, [], ◌∷◌, ◌++◌, length, take, get_or, refl, sym, ap, subst, ◌∙◌, append-nil, ◌⊎◌, inl, inr, None, Some, IsSome, is_some, arith}
 use Rattle.std.specs.Prelude.{Contains, filter}
 use Rattle.std.specs.List.{AllZip}
 use Rattle.std.specs.declared.option.Option.{Option}
@@ -17,7 +17,7 @@ use Rattle.cv_tree.specs.Node.{IsNode}
 use Rattle.cv_tree.specs.Tree.{Nodes}
 use Rattle.cv_tree.specs.declared.node.Node.{Node}
 use Rattle.cv_rows.specs.Catalogue.{Contents, IsCatalogue}
-use Rattle.cv_rows.specs.Places.{StandsAt, StandEach}
+use Rattle.cv_rows.specs.Places.{StandsAt}
 use Rattle.cv_rows.specs.declared.row.Row.{Row}
 use Rattle.cv_rows.specs.declared.nested.Nested.{Nested}
 use Rattle.cv_cut.specs.Opening.{IsTransitionOf}
@@ -53,19 +53,6 @@ module _ {X Y : Type 0} (R : X → Y → Type 0) (p : X → Bool) (xs : List X) 
   zip_passed pass zip = subst (λ (l : List X). AllZip R l ys) (sym (one_more false pass ∙ append-nil (filter p (take i xs)))) zip
 
 -- ---- nodes of rows
-
--- each row stands at the path in its place, of which there are as many
-pub each_long : (at : Path) (all rows : List Row) (qs : List Path) → StandEach at all rows qs → length qs ≡ length rows
-each_long at all [] [] each = refl
-each_long at all [] (q ∷ qs) each = absurd each
-each_long at all (r ∷ rs) [] each = absurd each
-each_long at all (r ∷ rs) (q ∷ qs) each = ap suc (each_long at all rs qs each.1)
-
-pub each_stands : (at : Path) (all rows : List Row) (qs : List Path) (i : ℕ) (r : Row) (q : Path) → StandEach at all rows qs → i < length rows → r ≡ get_or rows i r → q ≡ get_or qs i q → StandsAt at all r q
-each_stands at all [] qs i r q each lt row path = absurd (omega arith)
-each_stands at all (x ∷ rs) [] i r q each lt row path = absurd each
-each_stands at all (x ∷ rs) (y ∷ qs) zero r q each lt row path = subst (λ (z : Row). StandsAt at all z q) (sym row) (subst (StandsAt at all x) (sym path) each.0)
-each_stands at all (x ∷ rs) (y ∷ qs) (suc i) r q each lt row path = each_stands at all rs qs i r q each.1 (omega arith) row path
 
 abbrev HasNodes : Path → Contents → List (Path × Node) → Row → Type 0
 HasNodes p c nodes r = (q : Path) → StandsAt c.at c.rows r q → overlap p q ≡ true → Contains nodes (q, node_of r)

@@ -1,13 +1,9 @@
 -- Tests, and what they tell.
-use Rattle.std.proofs.Common.{◌≡◌, Bool, true, false, not, ◌&&◌, Option, None, Some, IsSome, refl}
+use Rattle.std.proofs.Common.{◌≡◌, Bool, true, false, not, Option, None, Some, IsSome, refl}
 use Rattle.std.specs.Prelude.{T}
 use Rattle.std.specs.declared.cmp.Ordering.{Ordering}
 use Rattle.std.specs.declared.cmp.Ordering.TheVariants.{Less, Equal, Greater}
 use Rattle.std.specs.Ordering.{is_lt}
-
-pub both_true : (a b : Bool) → a ≡ true → b ≡ true → (a && b) ≡ true
-both_true true b ha hb = hb
-both_true false b ha hb = cc
 
 pub so : (b : Bool) → T b → b ≡ true
 so true h = refl
@@ -16,14 +12,6 @@ so false h = absurd h
 pub false_not : (b : Bool) → (b ≡ true → ⊥) → not b ≡ true
 false_not true h = absurd (h refl)
 false_not false h = refl
-
-pub not_true : (b : Bool) → not b ≡ true → b ≡ false
-not_true true h = cc
-not_true false h = refl
-
-pub not_false : (b : Bool) → not b ≡ false → b ≡ true
-not_false true h = refl
-not_false false h = cc
 
 pub none_some : {X : Type 0} (o : Option X) → o ≡ None → IsSome o → ⊥
 none_some None h some = cc

@@ -1,8 +1,7 @@
 -- The canonical catalogue of a cut is a catalogue, where the tree fits.
-use Rattle.std.proofs.Common.{◌≡◌, ℕ, ◌+◌, ◌<◌, ◌≤◌, ◌^◌, Bool, true, false, ◌&&◌, Option, None, Some, List, [], ◌∷◌, ◌++◌, length, codes, refl, sym, ap, subst, ◌∙◌, append_assoc, arith, length-append, IsSome, is_some, inl, inr}
+use Rattle.std.proofs.Common.{◌≡◌, ℕ, ◌+◌, ◌<◌, ◌≤◌, ◌^◌, Bool, true, false, ◌&&◌, Option, None, Some, List, [], ◌∷◌, ◌++◌, length, refl, sym, ap, subst, ◌∙◌, append_assoc, arith, IsSome, is_some, inl, inr}
 use Rattle.std.specs.Ordering.{is_eq}
 use Rattle.std.specs.Cmp.{tied_itself}
-use Rattle.std.specs.Int.{w32, to_be_bytes}
 use Rattle.std.specs.List.{flat_map}
 use Rattle.std.specs.List.Sorted.{IsPermutation}
 use Rattle.std.specs.FinMap.{get}
@@ -23,6 +22,7 @@ use Rattle.cv_rows.specs.Catalogue.{IsCatalogue, catalogue_bytes, file_of}
 use Rattle.cv_rows.specs.Made.{AreApart, keys_of, texts_of, by_key, by_text, in_order}
 use Rattle.cv_rows.specs.declared.row.Row.{Row}
 use Rattle.cv_rows.specs.declared.nested.Nested.{Nested}
+use Rattle.cv_rows.proofs.Lemmas.{file_len}
 use Rattle.cv_cut.specs.Cuts.{is_file, is_cut, region}
 use Rattle.cv_cut.specs.Catalogues.{nested_of, cat, SharesKey, Fits, contents_of}
 use Rattle.cv_cut.proofs.Canonical.{cat_is}
@@ -50,20 +50,12 @@ entries_moved c u file xs ys moved are = record {
 fields_length : {X : Type 0} (f : X → List ℕ) (xs ys : List X) → IsPermutation xs ys → length (flat_map f ys) ≡ length (flat_map f xs)
 fields_length f xs ys moved = length-flat_map f ys ∙ sum_by-IsPermutation (λ x. length (f x)) xs ys moved ∙ sym (length-flat_map f xs)
 
-file_length : (rows : List Row) (nested : List Nested) → length (file_of rows nested) ≡ 12 + length (flat_map row_bytes rows) + length (flat_map nested_bytes nested)
-file_length rows nested =
-    omega (
-      arith,
-      length-append (codes "CVR1" ++ to_be_bytes w32 (length rows) ++ to_be_bytes w32 (length nested) ++ flat_map row_bytes rows) (flat_map nested_bytes nested),
-      length-append (codes "CVR1" ++ to_be_bytes w32 (length rows) ++ to_be_bytes w32 (length nested)) (flat_map row_bytes rows),
-    )
-
 -- in order they have as many bytes
 pub order_length : (c : Path) (rows : List Row) (nested : List Nested) → AreApart (keys_of rows) → AreApart (texts_of nested) → length (catalogue_bytes (in_order c rows nested)) ≡ length (file_of rows nested)
 order_length c rows nested keys texts =
     let r = fields_length row_bytes rows (by_key rows) (order_moves (λ r. r.key.0) rows keys) in
     let n = fields_length nested_bytes nested (by_text nested) (order_moves (λ n. text_of n.path) nested texts) in
-    omega (arith, r, n, file_length rows nested, file_length (by_key rows) (by_text nested))
+    omega (arith, r, n, file_len rows nested, file_len (by_key rows) (by_text nested))
 
 pub order_count : (rows : List Row) → AreApart (keys_of rows) → length (by_key rows) ≡ length rows
 order_count rows keys = length_permutation rows (by_key rows) (order_moves (λ r. r.key.0) rows keys)

@@ -8,6 +8,7 @@ use Rattle.std.specs.Cmp.{tied_itself}
 use Rattle.std.specs.List.{filter}
 use Rattle.std.specs.FinMap.{get, entries, is_sorted, entries_sorted}
 use Rattle.std.specs.FinMap.Entries.{below_all}
+use Rattle.std.proofs.lemmas.Bool.{not-false}
 use Rattle.std.proofs.lemmas.List.{nil_from_length}
 use Rattle.std.proofs.lemmas.List.Elements.{All-contains, Contains-append_left, Contains-append_right, Contains-get_or}
 use Rattle.std.proofs.lemmas.List.Filters.{length-filter_both}
@@ -24,7 +25,7 @@ use Rattle.cv_cut.proofs.Between.{below_covered, other_stands, not_in_region, in
 use Rattle.cv_cut.proofs.RegionPaths.{is_in_region, region_is}
 use Rattle.cv_cut.proofs.Standing.{region_stands}
 use Rattle.cv_cut.proofs.Sides.{covers_before, covers_through, filter_within, sorted_filter}
-use Rattle.cv_cut.proofs.Bools.{false_not, not_false, so}
+use Rattle.cv_cut.proofs.Bools.{false_not, so}
 
 -- what was found, and what is left of the entries that the cut covers: each other cut that covers one of those is still
 -- among them
@@ -108,7 +109,7 @@ module _ (t : Nodes) (c : Path) (found : List (Path × Node)) (e : Path × Node)
   without_all : is_other t c e.0 ≡ true → Collects t c (found ++ e ∷ []) (filter (λ x. not (covers e.0 x.0)) more)
   without_all other_one = record {
     all = one_more (filter (λ x. not (covers e.0 x.0)) more) (filter_within (λ x. is_in_region t c x.0) (λ x. not (covers e.0 x.0)) more (λ x there below.
-        not_in_region t c e.0 x.0 (has.covered x (later_there e more x there)) other_one (not_false (covers e.0 x.0) below) (λ same. not_same _ (behind x there) (ap (path_cmp e.0) (sym same) ∙ tied_itself path_total e.0))));
+        not_in_region t c e.0 x.0 (has.covered x (later_there e more x there)) other_one (not-false (covers e.0 x.0) below) (λ same. not_same _ (behind x there) (ap (path_cmp e.0) (sym same) ∙ tied_itself path_total e.0))));
     covered = λ x there. has.covered x (later_there e more x (passes (λ x. not (covers e.0 x.0)) more x there).0);
     rises = sorted_filter (λ q. not (covers e.0 q)) more stands_first.rises;
     others = λ x there d other covered.

@@ -7,7 +7,7 @@ use Rattle.std.specs.FinMap.{get, entries, keys}
 use Rattle.std.proofs.lemmas.List.{length-map, take_all}
 use Rattle.std.proofs.lemmas.List.Elements.{All-more, All-contains}
 use Rattle.std.proofs.lemmas.List.Sorted.{IsPermutation-reverse, IsPermutation-sym, Contains-permutation}
-use Rattle.std.proofs.lemmas.Option.{slice_get-get_or, slice_get_within}
+use Rattle.std.proofs.lemmas.Option.{slice_get-get_or, slice_get_within, same_Some}
 use Rattle.cv_base.specs.Path.{Path, covers, key_of}
 use Rattle.cv_base.specs.PathOrder.{path_exact}
 use Rattle.cv_tree.specs.Tree.{Nodes, IsTree, at}
@@ -35,9 +35,6 @@ use Rattle.cv_cut.proofs.Regions.{some_node}
 pub key_there : (region : List (Path × Node)) (i : ℕ) (d : Path × Node) (key : List ℕ) → i < length region → key ≡ key_of (get_or region i d).0 → slice_get (keys_at region) i ≡ Some key
 key_there region i d key lt key-is = image_there (λ e. key_of e.0) region i (get_or region i d) (slice_get-get_or region i d lt) ∙ ap Some (sym key-is)
 
-some_same : {X : Type 0} (x y : X) → Some x ≡ Some y → x ≡ y
-some_same x y h = cc
-
 -- two places of one key, with the paths that were read there
 pub shares : (region : List (Path × Node)) (i j : ℕ) (a b : Path × Node) (p q : Path) → AreSame (keys_at region) i j → p ≡ (get_or region i a).0 → q ≡ (get_or region j b).0 → ShareKey region p q
 shares region i j a b p q same p-is q-is =
@@ -53,7 +50,7 @@ shares region i j a b p q same p-is q-is =
       order = same.order;
       one = image_there (λ e. e.0) region i (get_or region i a) one ∙ ap Some (sym p-is);
       other = image_there (λ e. e.0) region j (get_or region j b) other ∙ ap Some (sym q-is);
-      keys = ap key_of p-is ∙ some_same (key_of (get_or region i a).0) (key_of (get_or region j b).0) (keys ∙ sym more) ∙ ap key_of (sym q-is);
+      keys = ap key_of p-is ∙ same_Some (key_of (get_or region i a).0) (key_of (get_or region j b).0) (keys ∙ sym more) ∙ ap key_of (sym q-is);
     }
   where
     inside : (region : List (Path × Node)) (i : ℕ) (key : List ℕ) → slice_get (keys_at region) i ≡ Some key → i < length region
@@ -117,7 +114,7 @@ region_paths_once t c = once_image (λ e. e.0) (region_at t c)
     same_entry a b has had is =
         let one = (region_near (at t c) a.0 a.1 has).there in
         let two = (region_near (at t c) b.0 b.1 had).there in
-        let value : a.1 ≡ b.1 = some_same a.1 b.1 (sym one ∙ ap (get (at t c)) is ∙ two) in
+        let value : a.1 ≡ b.1 = same_Some a.1 b.1 (sym one ∙ ap (get (at t c)) is ∙ two) in
         λ i. (is i, value i)
 
 -- all of a list that was gone through

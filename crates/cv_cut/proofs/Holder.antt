@@ -1,6 +1,7 @@
 -- The catalogue that directly holds the path of a replacement, by the catalogues of both trees that hold it.
 use Rattle.std.proofs.Common.{◌≡◌, ◌≢◌, ℕ, ◌<◌, Bool, true, false, not, List, [], ◌++◌, filter, length, refl, sym, ap, subst, ◌∙◌, append-nil, append_assoc, inl, inr}
 use Rattle.std.specs.Prelude.{Contains}
+use Rattle.std.proofs.lemmas.Bool.{not-true}
 use Rattle.std.proofs.lemmas.List.Folds.{list_all_at}
 use Rattle.std.proofs.lemmas.List.{map-append}
 use Rattle.cv_base.specs.Marker.{marker, ends_in}
@@ -188,11 +189,7 @@ module _ (t n : Nodes) (p c r d v : Path) (g : Grafting t n p c r d v) where
     left_path x has =
         let was = passes (λ (m : Nested). not (covers p m.path)) (nested_of c (at t c) (λ q. cat t (c ++ q))) x (subst (λ (ns : List Nested). Contains ns x) without.nested has) in
         let e = (entries_are c (at t c) (λ q. cat t (c ++ q)) here).each x was.0 in
-        (subst IsPath (sym (ap (λ (m : Nested). m.path) e.2)) (path_there c (at t c) here e.0 e.1.node_ e.1.there), not_so (covers p x.path) was.1)
-      where
-        not_so : (b : Bool) → not b ≡ true → b ≡ false
-        not_so true h = absurd cc
-        not_so false h = refl
+        (subst IsPath (sym (ap (λ (m : Nested). m.path) e.2)) (path_there c (at t c) here e.0 e.1.node_ e.1.there), not-true (covers p x.path) was.1)
 
     right_path : (x : Nested) → Contains nested x → IsPath x.path × (covers p x.path ≡ true)
     right_path x has =

@@ -7,6 +7,7 @@ use Rattle.std.proofs.Common.{◌≡◌, ◌≢◌, Bool, true, false, cond, not
 use Rattle.std.specs.Prelude.{Contains}
 use Rattle.std.specs.declared.option.Option.{Option}
 use Rattle.std.specs.FinMap.{get}
+use Rattle.std.proofs.lemmas.Bool.{not-true}
 use Rattle.std.proofs.lemmas.List.Elements.{Contains-append_left, Contains-append_right, Contains-append_cases}
 use Rattle.cv_base.specs.Marker.{marker, ends_in}
 use Rattle.cv_base.specs.Path.{Path, covers, behind}
@@ -24,10 +25,6 @@ use Rattle.cv_cut.specs.Catalogues.{kind_of, row_of, entry_of}
 use Rattle.cv_cut.proofs.Members.{passes, passing}
 use Rattle.cv_cut.proofs.MarkLaws.{covers_append, get-in, marked-at, marked-out, marked-in, near-out, near-in, near-at}
 use Rattle.cv_cut.specs.Region.{row_at, IsNear, IsOther, AreRowsOf, AreEntriesOf}
-
-not_true : (b : Bool) → not b ≡ true → b ≡ false
-not_true true h = absurd cc
-not_true false h = refl
 
 -- ---- paths
 
@@ -142,7 +139,7 @@ module _ (c : Path) (u : Nodes) (r d : Path) (w : Nodes) (v : Path) (h : AreHold
       | inl left ↦
           let p = passes stays rows x left in
           let e = are.each x p.0 in
-          let out : covers r e.0 ≡ false = not_true (covers r e.0) (sym (stays_is e.0 e.1 e.2) ∙ ap stays (sym e.3) ∙ p.1) in
+          let out : covers r e.0 ≡ false = not-true (covers r e.0) (sym (stays_is e.0 e.1 e.2) ∙ ap stays (sym e.3) ∙ p.1) in
           (e.0, e.1, is_near-out c u r (at w v) h.unmarked e.0 e.1 out e.2, e.3 ∙ row-out c u r (at w v) h.unmarked e.0 e.1 out)
       | inr right ↦
           let p = passes goes others x right in
@@ -182,7 +179,7 @@ module _ (c : Path) (u : Nodes) (r d : Path) (w : Nodes) (v : Path) (h : AreHold
           | inl left ↦
               let p = passes stays nested x left in
               let e = are.each x p.0 in
-              let out : covers r e.0 ≡ false = not_true (covers r e.0) (ap not (sym (covers-shift c r e.0) ∙ ap (λ (y : Nested). covers (c ++ r) y.path) (sym e.2)) ∙ p.1) in
+              let out : covers r e.0 ≡ false = not-true (covers r e.0) (ap not (sym (covers-shift c r e.0) ∙ ap (λ (y : Nested). covers (c ++ r) y.path) (sym e.2)) ∙ p.1) in
               (e.0, other-out c u r (at w v) h.unmarked e.0 out e.1, e.2 ∙ ap (entry_of (c ++ e.0)) (sym (outside e.0 e.1 out)))
           | inr right ↦
               let p = passes goes others x right in

@@ -1,7 +1,7 @@
 -- What this crate proves for those above it: the catalogues of a tree, how they are opened, and what becomes of them where a
 -- subtree is replaced.
 pub use Rattle.cv_cut.proofs.Behind.{is_behind}
-pub use Rattle.cv_cut.proofs.Bools.{not_false, not_true, so}
+pub use Rattle.cv_cut.proofs.Bools.{so}
 pub use Rattle.cv_cut.proofs.Canonical.{cat_is}
 pub use Rattle.cv_cut.proofs.CanonicalRules.{canonical, canonical_at, cut_some, fits_at_cut, order_count, other_cut, region_apart}
 pub use Rattle.cv_cut.proofs.Collisions.{among_within, cut_of_tree, within_among, within_root}

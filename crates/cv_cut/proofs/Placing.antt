@@ -2,6 +2,7 @@
 -- but the root's is above p. No catalogue of m's root is made, and keys of its region may be shared.
 use Rattle.std.proofs.Common.{◌≡◌, ◌≢◌, ℕ, ◌<◌, Bool, true, false, not, List, [], ◌∷◌, ◌++◌, filter, map, length, refl, sym, ap, subst, ◌∙◌, append_assoc, inl, inr}
 use Rattle.std.specs.Prelude.{Contains}
+use Rattle.std.proofs.lemmas.Bool.{not-true}
 use Rattle.std.proofs.lemmas.List.Elements.{Contains-append_left, Contains-append_right, Contains-append_cases}
 use Rattle.cv_base.specs.Marker.{marker, ends_in}
 use Rattle.cv_base.specs.Path.{Path, covers, key_of}
@@ -71,10 +72,6 @@ inner_some : (u : Nodes) (x : Path) → is_inner u x ≡ true → x ≢ []
 inner_some u [] h = cc
 inner_some u (a ∷ x) h = λ e. cc
 
-not_so : (b : Bool) → not b ≡ true → b ≡ false
-not_so true h = absurd cc
-not_so false h = refl
-
 module _ (t m : Nodes) (p c r : Path) (g : Placing t m p c r) where
   pub holders : AreHolders c (at t c) r [] (at m []) p
   holders = record {
@@ -123,7 +120,7 @@ module _ (t m : Nodes) (p c r : Path) (g : Placing t m p c r) where
         | inl left ↦
             let was = passes without.stays (rows_of c (at t c)) x (subst (λ (l : List Row). Contains l x) without.rows left) in
             let e = (rows_are c (at t c) g.apart).each x was.0 in
-            let out : covers r e.0 ≡ false = not_so (covers r e.0) (sym (stays_at e.0 e.1 e.2) ∙ ap without.stays (sym e.3) ∙ was.1) in
+            let out : covers r e.0 ≡ false = not-true (covers r e.0) (sym (stays_at e.0 e.1 e.2) ∙ ap without.stays (sym e.3) ∙ was.1) in
             (e.0, e.1, is_near-out c (at t c) r (at (at m []) p) holders.unmarked e.0 e.1 out e.2, e.3 ∙ row-out c (at t c) r (at (at m []) p) holders.unmarked e.0 e.1 out)
         | inr right ↦
             let e = comes_from (row_in m []) (region_within m p) x right in
@@ -198,7 +195,7 @@ module _ (t m : Nodes) (p c r : Path) (g : Placing t m p c r) where
             | inl left ↦
                 let was = passes stays (nested_of c (at t c) file) x (subst (λ (l : List Nested). Contains l x) without.nested left) in
                 let e = (entries_are c (at t c) file here).each x was.0 in
-                let out : covers r e.0 ≡ false = not_so (covers r e.0) (ap not (sym (covers_p e.0) ∙ ap (λ (y : Nested). covers p y.path) (sym e.2)) ∙ was.1) in
+                let out : covers r e.0 ≡ false = not-true (covers r e.0) (ap not (sym (covers_p e.0) ∙ ap (λ (y : Nested). covers p y.path) (sym e.2)) ∙ was.1) in
                 (e.0, other-out c (at t c) r (at (at m []) p) holders.unmarked e.0 out e.1, e.2 ∙ ap (entry_of (c ++ e.0)) (sym (outside e.0 e.1 out)))
             | inr right ↦
                 let w = entry_from x right in

@@ -1,5 +1,6 @@
 -- The region of a cut, by the entries of the tree.
 use Rattle.std.proofs.Common.{◌≡◌, Bool, true, false, cond, Option, None, Some, List, [], ◌∷◌, ◌++◌, map, refl, sym, ap, ◌∙◌}
+use Rattle.std.proofs.lemmas.Bool.{and_from}
 use Rattle.std.specs.declared.cmp.Ordering.TheVariants.{Less}
 use Rattle.std.specs.Ordering.{is_lt, ordering_then}
 use Rattle.std.specs.List.{filter, AllByRecursion}
@@ -17,7 +18,7 @@ use Rattle.cv_tree.specs.declared.node.Node.{Node}
 use Rattle.cv_tree.proofs.Laws.{entries-from_entries}
 use Rattle.cv_cut.specs.Cuts.{is_near}
 use Rattle.cv_cut.specs.Cut.{region_at}
-use Rattle.cv_cut.proofs.Bools.{both_true, so, is_less}
+use Rattle.cv_cut.proofs.Bools.{so, is_less}
 
 -- whether a path is in the region of the cut at c
 abbrev pub near_rest : Nodes → Option Path → Bool
@@ -38,7 +39,7 @@ module _ {X : Type 0} where
   below_behind c q (e ∷ es) below =
       elim (behind c e.0) as (λ o. behind c e.0 ≡ o → below_all path_cmp q (cons_behind o e.1 (entries_behind c es)) ≡ true) [
         | None ↦ λ is. below_behind c q es (second_true (is_lt (path_cmp (c ++ q) e.0)) (below_all path_cmp (c ++ q) es) below)
-        | Some r ↦ λ is. both_true (is_lt (path_cmp q r)) (below_all path_cmp q (entries_behind c es))
+        | Some r ↦ λ is. and_from (is_lt (path_cmp q r)) (below_all path_cmp q (entries_behind c es))
             (ap is_lt (sym (ap (path_cmp (c ++ q)) (behind-Some c e.0 r is) ∙ cmp-behind c q r)) ∙ first_true (is_lt (path_cmp (c ++ q) e.0)) (below_all path_cmp (c ++ q) es) below)
             (below_behind c q es (second_true (is_lt (path_cmp (c ++ q) e.0)) (below_all path_cmp (c ++ q) es) below))
       ] refl
@@ -48,7 +49,7 @@ module _ {X : Type 0} where
   rises_behind c (e ∷ es) rises =
       elim (behind c e.0) as (λ o. behind c e.0 ≡ o → is_sorted path_cmp (cons_behind o e.1 (entries_behind c es)) ≡ true) [
         | None ↦ λ is. rises_behind c es (second_true (below_all path_cmp e.0 es) (is_sorted path_cmp es) rises)
-        | Some r ↦ λ is. both_true (below_all path_cmp r (entries_behind c es)) (is_sorted path_cmp (entries_behind c es))
+        | Some r ↦ λ is. and_from (below_all path_cmp r (entries_behind c es)) (is_sorted path_cmp (entries_behind c es))
             (below_behind c r es (ap (λ (k : Path). below_all path_cmp k es) (sym (behind-Some c e.0 r is)) ∙ first_true (below_all path_cmp e.0 es) (is_sorted path_cmp es) rises))
             (rises_behind c es (second_true (below_all path_cmp e.0 es) (is_sorted path_cmp es) rises))
       ] refl

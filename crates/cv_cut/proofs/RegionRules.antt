@@ -1,8 +1,9 @@
 -- The rows and the nested entries of a region, in any order, keep the rules of a catalogue.
-use Rattle.std.proofs.Common.{◌≡◌, ◌≢◌, ℕ, ◌<◌, ◌^◌, Bool, true, false, ◌&&◌, Option, None, Some, List, [], ◌∷◌, ◌++◌, length, get_or, refl, sym, ap, subst, ◌∙◌, append-nil, IsSome, is_some}
+use Rattle.std.proofs.Common.{◌≡◌, ◌≢◌, ℕ, ◌<◌, ◌^◌, true, false, ◌&&◌, Option, None, Some, List, [], ◌∷◌, ◌++◌, length, get_or, refl, sym, ap, subst, ◌∙◌, append-nil, IsSome, is_some}
 use Rattle.std.specs.Prelude.{Contains, bytes_eq}
 use Rattle.std.specs.List.{All}
 use Rattle.std.specs.FinMap.{get}
+use Rattle.std.proofs.lemmas.Bool.{false_from_ne_true, and_from}
 use Rattle.std.proofs.lemmas.List.Elements.{Contains-get_or, recursion_from_All}
 use Rattle.std.proofs.lemmas.List.Folds.{Any-from_list_any, list_any-from_Any}
 use Rattle.std.proofs.lemmas.Slice.Eq.{bytes_eq-Decides}
@@ -138,23 +139,14 @@ own_marker c u rows cut are some =
     let keys : bytes_eq row.parent.0 (key_of c) ≡ true = (bytes_eq-Decides row.parent.0 (key_of c)).1 (parent_at c u [] marker f.0 ∙ ap key_of (append-nil c)) in
     list_any-from_Any (λ f. is_marker f && bytes_eq f.parent.0 (key_of c)) rows (has.0, row, has.1, has.2, rw (kinds, names, keys) refl)
 
-both : (a b : Bool) → a ≡ true → b ≡ true → (a && b) ≡ true
-both true true ha hb = refl
-both true false ha hb = absurd cc
-both false b ha hb = absurd cc
-
-not_true : (b : Bool) → (b ≡ true → ⊥) → b ≡ false
-not_true true h = absurd (h refl)
-not_true false h = refl
-
 -- the row of a directory is marked as it may be
 marked_well : (c : Path) (u : Nodes) (rows : List Row) → StandsAtCut c u → KeysApart c u → AreRowsOf c u rows → (q : Path) (n : Node) → IsNear u q n → IsMarkedWell c rows (row_at c u q n)
 marked_well c u rows cut apart are q n has = (
-  λ kind other. not_true _ (λ marked.
+  λ kind other. false_from_ne_true _ (λ marked.
       let some : q ≢ [] = λ none. other (subst (λ (x : Path). IsRoot c (row_at c u x n)) (sym none) (root_row c u n)) in
       let d = directory_unmarked c u q n some (sym (row_kind _ (c ++ q) n) ∙ kind) in
       let file = marker_there c u rows cut apart are q n has (ap (has_marker rows) (sym (row_key _ (c ++ q) n)) ∙ marked) in
-      let is : is_marked u q ≡ true = both (is_directory (get u q)) (is_file (get u (q ++ marker ∷ []))) (ap is_directory has.there ∙ d.0) file in
+      let is : is_marked u q ≡ true = and_from (is_directory (get u q)) (is_file (get u (q ++ marker ∷ []))) (ap is_directory has.there ∙ d.0) file in
       let no : false ≡ true = sym d.1 ∙ is in
       cc),
   λ kind.

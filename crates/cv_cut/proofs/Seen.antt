@@ -8,7 +8,7 @@ use Rattle.std.specs.BTreeMap.{BTreeMap, get, Updates}
 use Rattle.std.proofs.lemmas.Bool.{cases_lt}
 use Rattle.std.proofs.lemmas.Map.Text.{is_eq-slice_cmp}
 use Rattle.std.proofs.lemmas.Slice.Eq.{bytes_eq-Decides}
-use Rattle.std.proofs.lemmas.Option.{slice_get_within}
+use Rattle.std.proofs.lemmas.Option.{slice_get_within, same_Some}
 use Rattle.cv_rows.specs.Made.{AreApart}
 use Rattle.cv_cut.specs.CutInner.{AreSame}
 use Rattle.cv_cut.proofs.Bools.{none_some}
@@ -42,7 +42,7 @@ one_seen keys n seen more key has here new u = record {
       | inl below ↦ has.all j k below there
       | inr last ↦
           let j-is : n ≡ j = omega (arith, lt, last) in
-          let key-is : key ≡ k = some_same key k (sym here ∙ ap (slice_get keys) j-is ∙ there) in
+          let key-is : key ≡ k = same_Some key k (sym here ∙ ap (slice_get keys) j-is ∙ there) in
           let same : is_eq (slice_cmp nat_cmp key k) ≡ true = ap (λ x. is_eq (slice_cmp nat_cmp key x)) (sym key-is) ∙ ap is_eq (tied_itself nat_list_cmp_total key) in
           let no_way : true ≡ false = sym same ∙ other in
           cc
@@ -52,15 +52,12 @@ one_seen keys n seen more key has here new u = record {
     | inl earlier ↦ has.apart i j k lt earlier one other
     | inr last ↦
         let j-is : n ≡ j = omega (arith, below, last) in
-        let key-is : key ≡ k = some_same key k (sym here ∙ ap (slice_get keys) j-is ∙ other) in
+        let key-is : key ≡ k = same_Some key k (sym here ∙ ap (slice_get keys) j-is ∙ other) in
         let there = has.all i k (omega (arith, lt, j-is)) one in
         let none = ap (at_key seen) (sym key-is) ∙ new in
         none_some (at_key seen k) none there
   ];
 }
-  where
-    some_same : (a b : List ℕ) → Some a ≡ Some b → a ≡ b
-    some_same a b h = cc
 
 -- all keys were seen
 pub all_seen : (keys : List (List ℕ)) (n : ℕ) (seen : BTreeMap (List ℕ) ℕ) → HasSeen keys n seen → length keys ≤ n → AreApart keys

@@ -12,7 +12,7 @@ use Rattle.std.specs.FinMap.{is_sorted}
 use Rattle.std.specs.FinMap.Entries.{is_sorted-where_key}
 use Rattle.std.proofs.Math.ListN.{get_or-map}
 use Rattle.std.proofs.Math.Seq.{take-nil, drop-nil}
-use Rattle.std.proofs.lemmas.Bool.{cases_lt}
+use Rattle.std.proofs.lemmas.Bool.{cases_lt, not-true}
 use Rattle.std.proofs.lemmas.List.{length-map}
 use Rattle.std.proofs.lemmas.List.Elements.{All-from_recursion, filter_passes}
 use Rattle.cv_base.specs.Path.{Path, name_cmp, path_cmp, same_name, behind, covers}
@@ -23,7 +23,7 @@ use Rattle.cv_cut.specs.CutInner.{StandFrom}
 use Rattle.cv_cut.proofs.Members.{first_there, later_there}
 use Rattle.cv_cut.proofs.Between.{behind_it}
 use Rattle.cv_cut.proofs.RegionPaths.{keys_rise}
-use Rattle.cv_cut.proofs.Bools.{not_true, so, is_less}
+use Rattle.cv_cut.proofs.Bools.{so, is_less}
 
 -- ---- two paths
 
@@ -100,7 +100,7 @@ module _ {X : Type 0} where
 pub covered_parted : (p : Path) (es : List (Path × Node)) → StandFrom p es → IsPartitionedBy (λ e. covers p e.0) es
 covered_parted p es stand i j d le within h =
     elim (cases_lt i j) [
-      | inl lt ↦ covers_between p (get_or es i d).0 (get_or es j d).0 (not_true _ (stand.from i d (omega (arith, lt, within)))) (entries_rise es stand.rises i j d lt within) h
+      | inl lt ↦ covers_between p (get_or es i d).0 (get_or es j d).0 (not-true _ (stand.from i d (omega (arith, lt, within)))) (entries_rise es stand.rises i j d lt within) h
       | inr ge ↦ let same : j ≡ i = omega (arith, le, ge) in subst (λ k. covers p (get_or es k d).0 ≡ true) same h
     ]
 

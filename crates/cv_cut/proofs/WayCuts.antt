@@ -3,6 +3,7 @@ use Rattle.std.proofs.Common.{◌≡◌, ◌≢◌, Bool, true, false, cond, not
 use Rattle.std.specs.Prelude.{Contains}
 use Rattle.std.specs.List.{list_all}
 use Rattle.std.specs.FinMap.{same_map}
+use Rattle.std.proofs.lemmas.Bool.{not-true}
 use Rattle.std.proofs.lemmas.List.{map-append}
 use mathlib.Core.List.{reverse-cons}
 use Rattle.cv_base.specs.Path.{Path}
@@ -29,11 +30,7 @@ filter_same f g (x ∷ xs) h =
 
 filter_none : {X : Type 0} (f : X → Bool) (xs : List X) → list_all (λ x. not (f x)) xs ≡ true → filter f xs ≡ []
 filter_none f [] h = refl
-filter_none f (x ∷ xs) h = rw (not_true (f x) (first_true (not (f x)) (list_all (λ y. not (f y)) xs) h)) (filter_none f xs (second_true (not (f x)) (list_all (λ y. not (f y)) xs) h))
-  where
-    not_true : (b : Bool) → not b ≡ true → b ≡ false
-    not_true true h = absurd cc
-    not_true false h = refl
+filter_none f (x ∷ xs) h = rw (not-true (f x) (first_true (not (f x)) (list_all (λ y. not (f y)) xs) h)) (filter_none f xs (second_true (not (f x)) (list_all (λ y. not (f y)) xs) h))
 
 filter_append : {X : Type 0} (f : X → Bool) (xs ys : List X) → filter f (xs ++ ys) ≡ filter f xs ++ filter f ys
 filter_append f [] ys = refl

@@ -1,6 +1,7 @@
 -- Where no refusal's condition holds the op is done, unless a fault comes.
 use Rattle.std.proofs.Common.{◌≡◌, ◌⊎◌, ℕ, Bool, true, false, List, refl, sym, ap, subst, ◌∙◌, inl, inr, arith}
 use Rattle.std.specs.Prelude.{bytes_eq}
+use Rattle.std.proofs.lemmas.Option.{same_Some}
 use Rattle.std.specs.declared.option.Option.TheVariants.{Some}
 use Rattle.cv_base.specs.Path.{Path}
 use Rattle.cv_base.specs.declared.token.Token.{Token}
@@ -26,9 +27,6 @@ use Rattle.cv_gate.specs.declared.entry.Entry.{Entry}
 abbrev Done : Reply → Reply → Type 0
 Done r wanted = (r ≡ wanted) ⊎ IsFault r
 
-same_some : {X : Type 0} {x y : X} → Some x ≡ Some y → x ≡ y
-same_some e = cc
-
 no : {b c : Bool} {X : Type 0} → b ≡ c → b ≡ true → c ≡ false → X
 no e t f = absurd cc
 
@@ -37,7 +35,7 @@ no e t f = absurd cc
 of_grants : (st : State) (key : List ℕ) (p : Path) (r : Reply) (st' : State) (head : Revision) → newest st.history ≡ Some head → Grants st key p r st'
     → r ≡ reply.Granted (record { epoch = st.epoch; number = st.next }) head.record_.revision head.record_.root
 of_grants st key p r st' head is_newest (adds other free is e) =
-    let same : other ≡ head = same_some (sym free.is_newest ∙ is_newest) in
+    let same : other ≡ head = same_Some _ _ (sym free.is_newest ∙ is_newest) in
     is ∙ ap (λ (x : Revision). reply.Granted (record { epoch = st.epoch; number = st.next }) x.record_.revision x.record_.root) same
 
 of_lease : (st : State) (key : List ℕ) (p : Path) (r : Reply) (st' : State) (head : Revision) → IsFree st p head → LeaseStep st key p r st'
@@ -54,7 +52,7 @@ of_lease st key p r st' head free h =
             | inl fault ↦ inr fault.0
             | inr w4 ↦ elim w4.2 [
               | inl astray ↦
-                  let same : w4.0 ≡ head = same_some (sym w4.1 ∙ free.is_newest) in
+                  let same : w4.0 ≡ head = same_Some _ _ (sym w4.1 ∙ free.is_newest) in
                   no (ap (λ (x : Revision). has_place x.tree p) (sym same)) free.place astray.0
               | inr w5 ↦ inl (of_grants st key p r st' head free.is_newest w5.1)
             ]
@@ -71,7 +69,7 @@ of_own st key token r st' does own h =
     elim h [
       | inl unknown ↦ (let none = unknown.0 in absurd cc)
       | inr w ↦
-          let same : w.1.0 ≡ own.lease = same_some (sym w.1.1 ∙ live) in
+          let same : w.1.0 ≡ own.lease = same_Some _ _ (sym w.1.1 ∙ live) in
           elim w.1.2 [
             | inl foreign ↦ no (ap (λ (x : Lease). bytes_eq x.key key) (sym same)) own.own foreign.0
             | inr w2 ↦ subst does same w2.1
@@ -93,7 +91,7 @@ module _ (st : State) (key : List ℕ) (token : Token) (old_root new_root tag : 
   of_commits : ((shelf : Shelf) (root : List ℕ) (t u : Nodes) → Means shelf root t → Means shelf root u → t ≡ u) → Commits st key token old_root new_root tag r st' p.lease
       → Done r (reply.Committed new.record_.revision new.record_.root)
   of_commits one d =
-      let head_is : d.0 ≡ p.head = same_some (sym d.1 ∙ p.is_newest) in
+      let head_is : d.0 ≡ p.head = same_Some _ _ (sym d.1 ∙ p.is_newest) in
       elim d.2 [
         | inl full ↦
             let room = p.room in

@@ -1,5 +1,6 @@
 -- What a crash leaves.
 use Rattle.std.proofs.Common.{◌≡◌, ◌⊎◌, ◌<◌, ◌^◌, true, false, cond, ℕ, List, [], ◌∷◌, ◌++◌, refl, sym, ap, subst, ◌∙◌, inl, inr, arith}
+use Rattle.std.proofs.lemmas.Option.{same_Some}
 use Rattle.std.specs.declared.option.Option.{Option}
 use Rattle.std.specs.declared.option.Option.TheVariants.{None, Some}
 use Rattle.sha1.specs.Sha1.{sha1}
@@ -97,13 +98,10 @@ left_hashes st objects s hashed h left = record {
     | goes lo gone ↦ absurd cc
     | comes gained ↦ (
         let own = hashed.each gained.object gained.among in
-        let bytes_are : gained.object.bytes ≡ bytes = same_some (sym gained.file ∙ is) in
+        let bytes_are : gained.object.bytes ≡ bytes = same_Some _ _ (sym gained.file ∙ is) in
         ap (λ (x : ObjectId). x.hash) gained.is ∙ own ∙ ap sha1 bytes_are)
   ];
 }
-  where
-    same_some : {X : Type 0} {x y : X} → Some x ≡ Some y → x ≡ y
-    same_some e = cc
 
 -- so the revisions of a settled state stand on what is left
 pub left_sound : (st settled : State) (objects : List Object) (s : Shelf) → Sound st → Settled st settled → AreNamed objects → ((id : ObjectId) → Left st objects id (s id)) → AreSound s settled.history

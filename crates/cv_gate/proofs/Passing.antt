@@ -1,5 +1,6 @@
 -- What passes: on a shelf that has its objects, and as a step.
 use Rattle.std.proofs.Common.{◌≡◌, ℕ, Bool, List, sym, subst, ◌∙◌, inl, inr, arith}
+use Rattle.std.proofs.lemmas.Option.{same_Some}
 use Rattle.std.specs.declared.option.Option.{Option}
 use Rattle.std.specs.declared.option.Option.TheVariants.{Some}
 use Rattle.cv_base.specs.declared.id.ObjectId.{ObjectId}
@@ -18,12 +19,9 @@ use Rattle.cv_gate.specs.declared.reply.Reply.{Reply}
 
 -- ---- on another shelf
 
-same_some : {X : Type 0} {x y : X} → Some x ≡ Some y → x ≡ y
-same_some e = cc
-
 -- objects that are all on the shelf don't clash there
 pub none_clashes : (shelf : Shelf) (objects : List Object) (id : ObjectId) → HasAll objects shelf → ClashesOn shelf objects id → ⊥
-none_clashes shelf objects id has c = c.other (same_some (sym there ∙ own))
+none_clashes shelf objects id has c = c.other (same_Some _ _ (sym there ∙ own))
   where
     own : shelf id ≡ Some c.object.bytes
     own = subst (λ (x : ObjectId). shelf x ≡ Some c.object.bytes) c.is (has.each c.object c.among)

@@ -1,5 +1,6 @@
 -- Shelves that gain objects.
 use Rattle.std.proofs.Common.{◌≡◌, ◌⊎◌, is_some, IsSome, true, false, cond, List, ℕ, refl, sym, ap, ◌∙◌, inl, inr}
+use Rattle.std.proofs.lemmas.Option.{same_Some}
 use Rattle.std.specs.declared.option.Option.TheVariants.{None, Some}
 use Rattle.sha1.specs.Sha1.{sha1}
 use Rattle.cv_base.specs.declared.id.ObjectId.{ObjectId}
@@ -63,10 +64,7 @@ shelf_more objects st st' hashed g h = record {
     | inl same ↦ h.hash id bytes (sym same ∙ is)
     | inr gained ↦ (
         let own = hashed.each gained.object gained.among in
-        let bytes_are : gained.object.bytes ≡ bytes = same_some (sym gained.file ∙ is) in
+        let bytes_are : gained.object.bytes ≡ bytes = same_Some _ _ (sym gained.file ∙ is) in
         ap (λ (x : ObjectId). x.hash) gained.is ∙ own ∙ ap sha1 bytes_are)
   ];
 }
-  where
-    same_some : {X : Type 0} {x y : X} → Some x ≡ Some y → x ≡ y
-    same_some e = cc

@@ -6,12 +6,9 @@ use Rattle.std.proofs.lemmas.List.Elements.{All-contains, Contains-append_cases}
 use Rattle.cv_base.specs.Path.{Path, covers, same_path}
 use Rattle.cv_base.specs.PathOrder.{same_path_is}
 use Rattle.cv_rows.specs.Catalogue.{Contents, IsCatalogue, IsTransitionAt}
-use Rattle.cv_rows.specs.Places.{StandsAt, root, below, root_kind}
-use Rattle.cv_rows.specs.declared.row.Row.{Row}
 use Rattle.cv_rows.specs.declared.nested.Nested.{Nested}
-use Rattle.cv_rows.specs.declared.row_kind.RowKind.TheVariants.{Transition}
 use Rattle.cv_graft.specs.Way.{IsNext, HasNone}
-use Rattle.cv_cut.proofs.Lemmas.{first_or_later, none_there, rest_behind, differs}
+use Rattle.cv_cut.proofs.Lemmas.{first_or_later, none_there, rest_behind, differs, transition_long}
 
 -- ---- the test
 
@@ -47,18 +44,6 @@ pub next_is : (c : Contents) (items : List Nested) (p : Path) (i : ℕ) (x : Nes
 next_is c items p i x same lt is h = record { has = subst (λ (l : List Nested). Contains l x) same (i, lt, sym is); covered = h.0; apart = h.1 }
 
 -- ---- lengths
-
-stands_long : {at : Path} {rows : List Row} {r : Row} {q : Path} → StandsAt at rows r q → length at ≤ length q
-stands_long (root has is) = omega arith
-stands_long {at} {rows} {r} (below {q = q} has other s child) = let l = stands_long s in omega (arith, l, length-append q (r.name ∷ []))
-
-root_not : (c : Path) → root_kind c ≢ Transition
-root_not [] h = cc
-root_not (a ∷ c) h = cc
-
-transition_long : {at : Path} {rows : List Row} {r : Row} {q : Path} → StandsAt at rows r q → r.kind ≡ Transition → length at < length q
-transition_long {at} (root has is) kind = absurd (root_not at (sym is.kind ∙ kind))
-transition_long {at} {rows} {r} (below {q = q} has other s child) kind = let l = stands_long s in omega (arith, l, length-append q (r.name ∷ []))
 
 pub next_deeper : (c : Contents) (p : Path) (n : Nested) → IsCatalogue c → IsNext c p n → length c.at < length n.path
 next_deeper c p n is next =

@@ -3,6 +3,7 @@
 use Rattle.std.proofs.Common.{◌≡◌, ◌≢◌, ℕ, Bool, true, false, not, ◌&&◌, List, [], ◌∷◌, ◌++◌, refl, sym, ap, subst, ◌∙◌, inl, inr, ◌⊎◌}
 use Rattle.std.specs.Prelude.{Contains, bytes_eq}
 use Rattle.std.specs.List.{All}
+use Rattle.std.proofs.lemmas.Bool.{false_from_ne_true}
 use Rattle.std.proofs.lemmas.List.{map-append}
 use Rattle.std.proofs.lemmas.List.Elements.{All-from_recursion, recursion_from_All, All-filter, All-append, All-contains, Contains-append_left, Contains-append_right, Contains-append_cases, Contains-get_or}
 use Rattle.std.proofs.lemmas.List.Folds.{Any-from_list_any, list_any-from_Any}
@@ -162,10 +163,6 @@ module _ (c o rest : Contents) (p : Path) (rows : List Row) (nested : List Neste
       let a = marker_stayed any.1 b.key.0 (any.0, any.2, any.3) (first_true (is_marker any.1) (bytes_eq any.1.parent.0 b.key.0) any.4) ((bytes_eq-Decides any.1.parent.0 b.key.0).0 (second_true (is_marker any.1) (bytes_eq any.1.parent.0 b.key.0) any.4)) in
       j.cross a.0 b a.1 has a.2
 
-  not_so : (b : Bool) → (b ≡ true → ⊥) → b ≡ false
-  not_so true h = absurd (h refl)
-  not_so false h = refl
-
   marker_in_left : (key : List ℕ) → has_marker rest.rows key ≡ true → has_marker (rest.rows ++ rows) key ≡ true
   marker_in_left key h =
       let test = λ (f : Row). is_marker f && bytes_eq f.parent.0 key in
@@ -175,7 +172,7 @@ module _ (c o rest : Contents) (p : Path) (rows : List Row) (nested : List Neste
 
   stays_marked : (a : Row) → Contains rest.rows a → IsMarkedWell rest.at rest.rows a → IsMarkedWell rest.at (rest.rows ++ rows) a
   stays_marked a has h = (
-    λ kind other. not_so (has_marker (rest.rows ++ rows) a.key.0) (λ yes. elim (marked_either a.key.0 yes) [
+    λ kind other. false_from_ne_true (has_marker (rest.rows ++ rows) a.key.0) (λ yes. elim (marked_either a.key.0 yes) [
       | inl left ↦ (let no = h.0 kind other in let wrong : true ≡ false = sym left ∙ no in cc)
       | inr right ↦ no_marker_came a has right
     ]),
@@ -194,7 +191,7 @@ module _ (c o rest : Contents) (p : Path) (rows : List Row) (nested : List Neste
       let s = came b has in
       let h : IsMarkedWell o.at o.rows b = All-contains (IsMarkedWell o.at o.rows) o.rows b j.other.region.marked (stands_contained s.stands) in
       let not_top : IsRoot o.at b → ⊥ = λ is. not_root_place (subst (λ (q : Path). covers p q ≡ true) (one_place j.other.ordered s.stands (root (stands_contained s.stands) is)) s.covered) in (
-        λ kind other. not_so (has_marker (rest.rows ++ rows) b.key.0) (λ yes. elim (marked_either b.key.0 yes) [
+        λ kind other. false_from_ne_true (has_marker (rest.rows ++ rows) b.key.0) (λ yes. elim (marked_either b.key.0 yes) [
           | inl left ↦ no_marker_stayed b has left
           | inr right ↦ (let no = h.0 kind not_top in let wrong : true ≡ false = sym (was_marked b right) ∙ no in cc)
         ]),

@@ -1,6 +1,7 @@
 -- What is made of the catalogues on the way, from the one that directly holds the path upwards.
-use Rattle.std.proofs.Common.{◌≡◌, ℕ, Bool, true, false, not, List, [], ◌∷◌, ◌++◌, map, length, Result, Err, refl, sym, ap, subst, ◌∙◌, append_assoc, is_some}
+use Rattle.std.proofs.Common.{◌≡◌, ℕ, true, false, List, [], ◌∷◌, ◌++◌, map, length, Result, Err, sym, ap, subst, ◌∙◌, append_assoc, is_some}
 use Rattle.std.specs.Prelude.{Contains}
+use Rattle.std.proofs.lemmas.Bool.{not-true}
 use Rattle.sha1.specs.Sha1.{sha1}
 use Rattle.cv_base.specs.Marker.{marker, ends_in}
 use Rattle.cv_base.specs.Path.{Path, covers, key_of}
@@ -97,14 +98,10 @@ module _ (t n : Nodes) (p c r d v : Path) (a : IsAsked t n p c r d v) where
         rest = w.rest;
         node_ = w.node_;
         near = w.there;
-        out = not_so (covers r w.rest) (sym stays ∙ ap x.without.stays (sym w.row) ∙ was.1);
+        out = not-true (covers r w.rest) (sym stays ∙ ap x.without.stays (sym w.row) ∙ was.1);
         path = w.place;
         key = ap (λ (y : Row). y.key.0) w.row ∙ row_key _ (c ++ w.rest) w.node_ ∙ ap key_of (sym w.place);
       }
-    where
-      not_so : (b : Bool) → not b ≡ true → b ≡ false
-      not_so true h = absurd cc
-      not_so false h = refl
 
   -- and one that comes inside
   record ComesAt (second : Row) (x : Path) : Type 0 where

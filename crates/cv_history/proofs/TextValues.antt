@@ -5,6 +5,7 @@ use Rattle.std.specs.Str.{IsUtf8, is_utf8, bytes_eq}
 use Rattle.std.specs.List.{list_all}
 use Rattle.std.proofs.lemmas.Str.{IsUtf8-from_is_utf8, is_utf8-from_IsUtf8, IsUtf8-nil, IsUtf8-append, IsUtf8-from_ascii}
 use Rattle.std.proofs.lemmas.Bool.{and_parts}
+use Rattle.std.proofs.lemmas.Option.{same_Some}
 use Rattle.std.proofs.lemmas.Slice.Eq.{bytes_eq-Decides}
 use Rattle.cv_base.specs.Path.{Path, IsPath, is_path_name, text_of}
 use Rattle.cv_base.specs.PathText.{path_of, only_path, path_named}
@@ -46,14 +47,11 @@ chosen : {A : Type 0} (test : Bool) (found : Option A) (x : A) → cond test fou
 chosen true found x e = (refl, e)
 chosen false found x e = absurd cc
 
-some_is : {A : Type 0} (x y : A) → Some x ≡ Some y → x ≡ y
-some_is x y e = cc
-
 only_named : (text : List ℕ) (read : Result Path PathFault) (path : Path) → path_of text ≡ read → only_path text read ≡ Some path → IsNamed text path
 only_named text (Ok q) path reads e =
     let c = chosen (bytes_eq (text_of q) text) (Some q) path e in
     let own : IsNamed text q = record { text_is = sym ((bytes_eq-Decides (text_of q) text).0 c.0); is_path = (Spells-path_of text q reads).0 } in
-    subst (λ (p : Path). IsNamed text p) (some_is q path c.1) own
+    subst (λ (p : Path). IsNamed text p) (same_Some q path c.1) own
 only_named text (Err fault) path reads e = absurd cc
 
 pub named : (text : List ℕ) (path : Path) → path_named text ≡ Some path → IsNamed text path
@@ -64,7 +62,7 @@ named text path e = only_named text (path_of text) path refl (chosen (is_utf8 te
 pub target_is : (text target : List ℕ) → target_of text ≡ Some target → (text ≡ target) × (is_target target ≡ true)
 target_is text target e =
     let c = chosen (is_target text) (Some text) target e in
-    let same = some_is text target c.1 in
+    let same = same_Some text target c.1 in
     (same, ap is_target (sym same) ∙ c.0)
 
 pub target_again : (target : List ℕ) → is_target target ≡ true → target_of target ≡ Some target

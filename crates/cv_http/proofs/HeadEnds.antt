@@ -1,7 +1,8 @@
 -- Where no head is yet.
 use Rattle.std.proofs.Common.{◌≡◌, ◌<◌, ◌≤◌, ◌+◌, ◌-◌, ◌++◌, ◌∷◌, ◌||◌, nat_le, ℕ, List, [], length, take, drop, Bool, true, false, refl, ap, sym, subst, ◌∙◌, append_assoc, length-append, arith, inl, inr}
-use Rattle.std.proofs.lemmas.Bool.{cases_lt, le-leb}
+use Rattle.std.proofs.lemmas.Bool.{cases_lt, le-leb, or_parts}
 use Rattle.std.proofs.lemmas.List.{take_all, take-append-le, take-append-drop, drop-append-le, take_at}
+use Rattle.std.proofs.Math.Bool.{or-true}
 use Rattle.httparse.specs.Grammar.{LineEnd, crlf, lf, print_end}
 use Rattle.cv_http.specs.Forms.{Form, HasNone, UnfinishedAs, AwaitedAs, head_limit}
 use Rattle.cv_http.specs.FormsInner.{EndsEmpty}
@@ -11,10 +12,6 @@ use Rattle.cv_http.specs.declared.head_end.Line.TheVariants.{Empty, Returned, Te
 
 -- ---- an empty line is found
 
-or_true : (a : Bool) → (a || true) ≡ true
-or_true true = refl
-or_true false = refl
-
 closing : (line : Line) (e : LineEnd) (later : List ℕ) → has_empty_line line (10 ∷ (print_end e ++ later)) ≡ true
 closing Empty e later = refl
 closing Returned e later = refl
@@ -23,7 +20,7 @@ closing Text lf later = refl
 
 found : (line : Line) (front : List ℕ) (e : LineEnd) (later : List ℕ) → has_empty_line line (front ++ 10 ∷ (print_end e ++ later)) ≡ true
 found line [] e later = closing line e later
-found line (b ∷ front) e later = ap (λ (t : Bool). closes line b || t) (found (after line b) front e later) ∙ or_true (closes line b)
+found line (b ∷ front) e later = ap (λ (t : Bool). closes line b || t) (found (after line b) front e later) ∙ or-true (closes line b)
 
 -- ---- what is known of the bytes held
 
@@ -33,10 +30,6 @@ end_size lf = (omega arith, omega arith)
 
 head_size : (text : List ℕ) (is : EndsEmpty text) → length text ≡ length is.0 + 1 + length (print_end is.1)
 head_size text is = ap length is.2 ∙ length-append is.0 (10 ∷ print_end is.1) ∙ omega arith
-
-not_there : (a b : Bool) → (a || b) ≡ false → (a ≡ false) × (b ≡ false)
-not_there true b is = cc
-not_there false b is = (refl, is)
 
 module _ {P H : Type 0} (form : Form P H) (ends : (head : P) → EndsEmpty (form.print head)) where
   -- a head has bytes
@@ -62,7 +55,7 @@ module _ {P H : Type 0} (form : Form P H) (ends : (head : P) → EndsEmpty (form
   -- no head may end behind the bytes that were seen: none is there
   pub none_there : (seen : ℕ) (held : List ℕ) → NoneWithin form seen held → may_end seen held ≡ false → AwaitedAs form held
   none_there seen held none stops =
-      let parts = not_there (nat_le head_limit (length held)) (has_empty_line Text (drop (seen - 2) held)) stops in
+      let parts = or_parts (nat_le head_limit (length held)) (has_empty_line Text (drop (seen - 2) held)) stops in
       record {
         short = elim (cases_lt (length held) head_limit) [
           | inl below ↦ below

@@ -1,4 +1,5 @@
 -- A reply as a client reads it (RFC 9112, section 6): up to 16 interim heads, of code 100, then a head of another code, and its
+-- body, which is as long as the head says, or else the rest of the input.
 use Rattle.std.specs.Prelude.{◌≡◌, ◌≢◌, ◌<◌, ◌≤◌, ◌+◌, ◌++◌, ℕ, List, [], length, Option, Some, None, Result, Ok, Err}
 use Rattle.cv_http.specs.Forms.{BeginsAs, RefusedAs, AwaitedAs, CutAs}
 use Rattle.cv_http.specs.ReplyHeads.{reply_form}

@@ -1,4 +1,5 @@
--- A reply as a client reads it (RFC 9112, section 6): up to 16 interim heads, of code 100, then a head of another code, and its What only this crate's own functions say.
+-- A reply as a client reads it (RFC 9112, section 6): up to 16 interim heads, of code 100, then a head of another code, and its
+-- body, which is as long as the head says, or else the rest of the input. What only this crate's own functions say.
 use Rattle.std.specs.Prelude.{ℕ, List, Option, Result, Ok, Err}
 use Rattle.cv_http.specs.declared.reply_head.ReplyHead.{ReplyHead}
 use Rattle.cv_http.specs.declared.fault.HttpFault.{HttpFault}

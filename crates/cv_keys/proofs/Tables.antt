@@ -1,9 +1,9 @@
 -- What is read of a keys text is a table, in which each key is found by its id.
-use Rattle.std.proofs.Common.{◌≡◌, ◌≢◌, ℕ, zero, suc, ◌+◌, ◌==◌, nat_lt, Bool, true, false, not, cond, ◌||◌, List, [], ◌∷◌, ◌++◌, length, Option, Some, None, Result, Ok, Err, is_some, codes, refl, sym, ap, subst, ◌∙◌, arith, length-append, Vec, Global}
+use Rattle.std.proofs.Common.{◌≡◌, ◌≢◌, ℕ, zero, suc, ◌+◌, ◌==◌, nat_lt, Bool, true, false, cond, ◌||◌, List, [], ◌∷◌, ◌++◌, length, Option, Some, None, Result, Ok, Err, is_some, codes, refl, sym, ap, subst, ◌∙◌, arith, length-append, Vec, Global}
 use Rattle.std.specs.Prelude.{slice_get, IfOk, MatchResult}
 use Rattle.std.specs.List.{list_all, position_from, position_or_len}
 use Rattle.std.specs.Str.{bytes_eq}
-use Rattle.std.proofs.lemmas.Bool.{eq-eqb, ltb-false}
+use Rattle.std.proofs.lemmas.Bool.{eq-eqb, ltb-false, not-true}
 use Rattle.std.proofs.lemmas.List.Folds.{list_any-append, list_all-append, find_at}
 use Rattle.std.proofs.lemmas.Option.{slice_get_past}
 use Rattle.std.proofs.lemmas.Slice.Eq.{bytes_eq-Decides}
@@ -27,10 +27,6 @@ second_false : (a b : Bool) → (a || b) ≡ false → b ≡ false
 second_false true b h = cc
 second_false false b h = h
 
-not_true : (a : Bool) → not a ≡ true → a ≡ false
-not_true true h = cc
-not_true false h = refl
-
 -- bytes are equal both ways round
 unequal : (a b : List ℕ) → bytes_eq a b ≡ false → bytes_eq b a ≡ false
 unequal a b h =
@@ -44,7 +40,7 @@ is_distinct-append : (keys : List Key) (key : Key) → is_distinct keys ≡ true
 is_distinct-append [] key apart fresh = refl
 is_distinct-append (first ∷ keys) key apart fresh =
     let other : bytes_eq key.id first.id ≡ false = unequal first.id key.id (first_false _ _ fresh) in
-    let before : has_id keys first.id ≡ false = not_true _ (first_true _ _ apart) in
+    let before : has_id keys first.id ≡ false = not-true _ (first_true _ _ apart) in
     let after : is_distinct (keys ++ key ∷ []) ≡ true = is_distinct-append keys key (second_true _ _ apart) (second_false _ _ fresh) in
     rw (list_any-append (λ (k : Key). bytes_eq k.id first.id) keys (key ∷ []), before, other, after) refl
 
@@ -64,7 +60,7 @@ place_from (first ∷ keys) n zero key apart is =
     let found : bytes_eq first.id key.id ≡ true = (bytes_eq-Decides first.id key.id).1 (ap (λ (k : Key). k.id) same) in
     rw found (ap Some (omega arith))
 place_from (first ∷ keys) n (suc i) key apart is =
-    let absent : has_id keys first.id ≡ false = not_true _ (first_true _ _ apart) in
+    let absent : has_id keys first.id ≡ false = not-true _ (first_true _ _ apart) in
     let other : bytes_eq first.id key.id ≡ false = unequal key.id first.id (not_among keys i key first.id absent is) in
     rw other (place_from keys (n + 1) i key (second_true _ _ apart) is ∙ ap Some (omega arith))
 

@@ -1,8 +1,9 @@
 -- The tree that all rows of reached catalogues make.
-use Rattle.std.proofs.Common.{◌≡◌, ◌≢◌, ℕ, Bool, true, false, ◌&&◌, List, [], ◌∷◌, ◌++◌, None, Some, refl, sym, ap, subst, ◌∙◌}
+use Rattle.std.proofs.Common.{◌≡◌, ◌≢◌, ℕ, true, false, ◌&&◌, List, [], ◌∷◌, ◌++◌, None, Some, refl, sym, ap, subst, ◌∙◌}
 use Rattle.std.specs.Prelude.{Contains, bytes_eq}
 use Rattle.std.specs.declared.option.Option.{Option}
 use Rattle.std.specs.FinMap.{get}
+use Rattle.std.proofs.lemmas.Bool.{false_from_ne_true, and_from}
 use Rattle.std.proofs.lemmas.List.Elements.{All-contains}
 use Rattle.std.proofs.lemmas.List.Folds.{Any-from_list_any, list_any-from_Any}
 use Rattle.std.proofs.lemmas.Slice.Eq.{bytes_eq-Decides}
@@ -73,15 +74,6 @@ marker_row f h = (
 file_there : (o : Option Node) → is_file o ≡ true → (n : Node) × (o ≡ Some n) × (is_file (Some n) ≡ true)
 file_there None h = absurd cc
 file_there (Some n) h = (n, refl, h)
-
-both : (a b : Bool) → a ≡ true → b ≡ true → (a && b) ≡ true
-both true true ha hb = refl
-both true false ha hb = absurd cc
-both false b ha hb = absurd cc
-
-pub not_true : (b : Bool) → (b ≡ true → ⊥) → b ≡ false
-not_true true h = absurd (h refl)
-not_true false h = refl
 
 -- ---- all rows
 
@@ -155,11 +147,11 @@ module _ {shelf : Shelf} {top : List ℕ} {t : Nodes} (whole : IsWhole shelf top
       ] in
       let directory = node_there c.at (record { hash = hash; place = place; contents = c; open_ = o; row = top_row.0; stands = at_top }) in
       let file = node_there (c.at ++ marker ∷ []) (record { hash = hash; place = place; contents = c; open_ = o; row = f; stands = subst (StandsAt c.at c.rows f) path p.1 }) in
-      both _ _ (ap is_directory directory ∙ row_directory c.at top_row.0 top_row.2.kind) (ap is_file file ∙ row_file f is.0)
+      and_from _ _ (ap is_directory directory ∙ row_directory c.at top_row.0 top_row.2.kind) (ap is_file file ∙ row_file f is.0)
 
   -- a directory in a catalogue isn't marked
   pub directory_unmarked : (q : Path) (s : Standing shelf top q) → s.row.kind ≡ Directory → (IsRoot s.contents.at s.row → ⊥) → is_marked t q ≡ false
-  directory_unmarked q s kind other = not_true (is_marked t q) (λ marked.
+  directory_unmarked q s kind other = false_from_ne_true (is_marked t q) (λ marked.
       let n = file_there (get t (q ++ marker ∷ [])) (second_true (is_directory (get t q)) (is_file (get t (q ++ marker ∷ []))) marked) in
       let o = standing_of (q ++ marker ∷ []) n.0 n.1 in
       let f = o.0 in
@@ -175,7 +167,7 @@ module _ {shelf : Shelf} {top : List ℕ} {t : Nodes} (whole : IsWhole shelf top
             let kinds : same_kind f.row.kind File ≡ true = ap (λ (k : RowKind). same_kind k File) is_f in
             let names : bytes_eq f.row.name marker ≡ true = (bytes_eq-Decides f.row.name marker).1 ends.1 in
             let keys : bytes_eq f.row.parent.0 s.row.key.0 ≡ true = (bytes_eq-Decides f.row.parent.0 s.row.key.0).1 (child.parent ∙ ap (λ (r : Row). r.key.0) row) in
-            let has_one : has_marker s.contents.rows s.row.key.0 ≡ true = list_any-from_Any (λ g. is_marker g && bytes_eq g.parent.0 s.row.key.0) s.contents.rows (has.0, f.row, has.1, has.2, both _ _ (both _ _ kinds names) keys) in
+            let has_one : has_marker s.contents.rows s.row.key.0 ≡ true = list_any-from_Any (λ g. is_marker g && bytes_eq g.parent.0 s.row.key.0) s.contents.rows (has.0, f.row, has.1, has.2, and_from _ _ (and_from _ _ kinds names) keys) in
             let none = (All-contains (IsMarkedWell s.contents.at s.contents.rows) s.contents.rows s.row (rules_of s.open_).region.marked (stands_contained s.stands)).0 kind other in
             let wrong : true ≡ false = sym has_one ∙ none in
             absurd cc

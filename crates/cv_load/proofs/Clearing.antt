@@ -1,6 +1,7 @@
 -- What a catalogue's rows find in the tree, and leave to the catalogues below.
 use Rattle.std.proofs.Common.{◌≡◌, ◌≢◌, ℕ, ◌+◌, ◌<◌, ◌≤◌, Bool, true, false, cond, not, List, [], ◌∷◌, length, get_or, Option, None, Some, IsSome, is_some, refl, sym, ap, subst, ◌∙◌, arith, length-append, inl, inr}
 use Rattle.std.specs.Prelude.{Contains, Result, Ok, Err}
+use Rattle.std.proofs.lemmas.Bool.{false_from_ne_true}
 use Rattle.std.specs.FinMap.{get, empty, get-insert}
 use Rattle.cv_base.specs.PathOrder.{path_total}
 use Rattle.cv_base.specs.Path.{Path, covers}
@@ -25,7 +26,6 @@ use Rattle.cv_cut.specs.Told.{node_of, node_as}
 use Rattle.cv_load.proofs.Growing.{StandsBelow, some_there}
 use Rattle.cv_load.proofs.Filling.{one_row}
 use Rattle.cv_load.proofs.Standing.{dir_of, so_root, so_below, stands_so}
-use Rattle.cv_load.proofs.Assembly.{not_true}
 use Rattle.cv_load.proofs.LoadedTree.{single_entry}
 use Rattle.cv_load.proofs.Below.{covers_itself, covers_long, stands_covered, nothing_below, entries_apart, entry_below}
 use Rattle.cv_cut.proofs.Lemmas.{transition_of}
@@ -153,7 +153,7 @@ entry_clear c n t u is has clear grown there =
 -- what is clear stays so where nothing changes but elsewhere
 clear_kept : (p r : Path) (t u : Nodes) → ((q : Path) → covers p q ≡ true → covers r q ≡ true → ⊥) → ChangesBelow p t u → IsClear r t → IsClear r u
 clear_kept p r t u apart changes clear =
-    let same : (q : Path) → covers r q ≡ true → get u q ≡ get t q = λ q under. changes q (not_true (covers p q) (λ over. apart q over under)) in
+    let same : (q : Path) → covers r q ≡ true → get u q ≡ get t q = λ q under. changes q (false_from_ne_true (covers p q) (λ over. apart q over under)) in
     record {
       directory = ap is_directory (same r (covers_itself r)) ∙ clear.directory;
       alone = λ q some under. clear.alone q (subst IsSome (same q under) some) under;
@@ -173,7 +173,7 @@ clear_more c n i t u is lt item changes clear k m le inside at =
 -- nothing has changed but at the catalogue's place and below it
 pub changes_more : (c : Contents) (n : Nested) (t u v : Nodes) → IsCatalogue c → Contains c.nested n → ChangesBelow c.at t u → ChangesBelow n.path u v → ChangesBelow c.at t v
 changes_more c n t u v is has first later q outside =
-    later q (not_true (covers n.path q) (λ under. let over = (entry_below c n q is has under).0 in let wrong : true ≡ false = sym over ∙ outside in cc)) ∙ first q outside
+    later q (false_from_ne_true (covers n.path q) (λ under. let over = (entry_below c n q is has under).0 in let wrong : true ≡ false = sym over ∙ outside in cc)) ∙ first q outside
 
 -- ---- the root
 

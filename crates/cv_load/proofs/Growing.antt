@@ -1,5 +1,5 @@
 -- How a tree grows by rows.
-use Rattle.std.proofs.Common.{◌≡◌, ◌≢◌, ℕ, zero, suc, ◌+◌, ◌<◌, Bool, true, false, cond, List, [], ◌∷◌, ◌++◌, length, get_or, None, Some, IsSome, is_some, refl, sym, ap, subst, ◌∙◌, arith, length-append, ◌⊎◌, inl, inr}
+use Rattle.std.proofs.Common.{◌≡◌, ◌≢◌, ℕ, ◌+◌, ◌<◌, Bool, true, false, cond, List, [], ◌∷◌, ◌++◌, length, get_or, IfSome, None, Some, IsSome, is_some, refl, sym, ap, subst, ◌∙◌, arith, length-append, ◌⊎◌, inl, inr}
 use Rattle.std.specs.Prelude.{Contains}
 use Rattle.std.specs.declared.option.Option.{Option}
 use Rattle.std.specs.Ordering.{is_eq, eq_by_cmp}
@@ -12,7 +12,7 @@ use Rattle.cv_base.specs.PathOrder.{path_total, same_path_is}
 use Rattle.cv_tree.specs.Tree.{Nodes}
 use Rattle.cv_tree.specs.declared.node.Node.{Node}
 use Rattle.cv_rows.specs.Catalogue.{Contents, IsCatalogue}
-use Rattle.cv_rows.specs.Places.{IsChild, StandsAt, StandEach, root, below}
+use Rattle.cv_rows.specs.Places.{IsChild, StandsAt, root, below}
 use Rattle.cv_rows.specs.declared.row.Row.{Row}
 use Rattle.cv_rows.proofs.Lemmas.{stands_contained, same_by_key, one_place}
 use Rattle.cv_load.specs.Growth.{Grows, GrowsBy}
@@ -30,12 +30,12 @@ some_there (Some n) some = (n, refl)
 pub still_there : (old new : Nodes) (q : Path) → Grows old new → IsSome (get old q) → IsSome (get new q)
 still_there old new q grows some = let n = some_there (get old q) some in ap is_some (grows q n.0 n.1)
 
-pub added_by_insert : (path : Path) (r : Row) (old new : Nodes) → get old path ≡ None → new ≡ insert old path (node_of r) → IsAdded path r old new
-added_by_insert path r old new absent is =
+pub added_alone : (path : Path) (r : Row) (old new : Nodes) → IfSome (get old path) (λ there. there ≡ node_of r) → new ≡ insert old path (node_of r) → IsAdded path r old new
+added_alone path r old new alone is =
     let there : (q : Path) → get new q ≡ cond (eq_by_cmp path_cmp q path) (Some (node_of r)) (get old q) = λ q. ap (λ (t : Nodes). get t q) is ∙ get-insert path_total old path (node_of r) q in
     record {
       grows = λ q n e. there q ∙ elim (eq_by_cmp path_cmp q path) as (λ b. eq_by_cmp path_cmp q path ≡ b → cond b (Some (node_of r)) (get old q) ≡ Some n) [
-        | true ↦ λ same. let none : get old q ≡ None = ap (get old) (same_path_is q path same) ∙ absent in absurd (let f : None ≡ Some n = sym none ∙ e in cc)
+        | true ↦ λ same. ap Some (sym (subst (λ (o : Option Node). IfSome o (λ m. m ≡ node_of r)) (sym (ap (get old) (same_path_is q path same)) ∙ e) alone))
         | false ↦ λ other. e
       ] refl;
       comes = λ q n e. elim (eq_by_cmp path_cmp q path) as (λ b. eq_by_cmp path_cmp q path ≡ b → cond b (Some (node_of r)) (get old q) ≡ Some n → (get old q ≡ Some n) ⊎ ((q ≡ path) × (n ≡ node_of r))) [
@@ -44,11 +44,17 @@ added_by_insert path r old new absent is =
       ] refl (sym (there q) ∙ e);
     }
 
+pub added_by_insert : (path : Path) (r : Row) (old new : Nodes) → get old path ≡ None → new ≡ insert old path (node_of r) → IsAdded path r old new
+added_by_insert path r old new absent is = added_alone path r old new (subst (λ (o : Option Node). IfSome o (λ there. there ≡ node_of r)) (sym absent) tt) is
+
 pub inserted_there : (path : Path) (n : Node) (old new : Nodes) → new ≡ insert old path n → IsSome (get new path)
 inserted_there path n old new is =
     ap (λ (t : Nodes). is_some (get t path)) is ∙ ap is_some (get-insert path_total old path n path) ∙ ap (λ (b : Bool). is_some (cond b (Some n) (get old path))) (ap is_eq (tied_itself path_total path))
 
 -- ---- growth by the rows of a catalogue
+
+pub grows_none : (at : Path) (rows : List Row) (t : Nodes) → GrowsBy at rows t t
+grows_none at rows t = record { grows = λ q n e. e; comes = λ q n e. inl e }
 
 pub grows_more : (at : Path) (rows : List Row) (a b c : Nodes) → GrowsBy at rows a b → GrowsBy at rows b c → GrowsBy at rows a c
 grows_more at rows a b c first then = record {
@@ -109,25 +115,6 @@ stands_at_place c r path (below {q = q} has other s child) same = absurd (let lo
 -- a row's path is there, where it was found
 pub row_there : (c : Contents) (r : Row) (path q : Path) (t : Nodes) → IsCatalogue c → StandsAt c.at c.rows r path → IsSome (get t path) → StandsAt c.at c.rows r q → IsSome (get t q)
 row_there c r path q t is found some s = subst (λ (p : Path). IsSome (get t p)) (one_place is.ordered found s) some
-
--- ---- the paths of all rows
-
--- they are as many as the rows
-pub each_long : (at : Path) (rows rs : List Row) (qs : List Path) → StandEach at rows rs qs → length qs ≡ length rs
-each_long at rows [] [] each = refl
-each_long at rows [] (q ∷ qs) each = absurd each
-each_long at rows (r ∷ rs) [] each = absurd each
-each_long at rows (r ∷ rs) (q ∷ qs) each = ap suc (each_long at rows rs qs each.1)
-
--- and each row stands at the path in its place
-each_stands : (at : Path) (rows rs : List Row) (qs : List Path) (i : ℕ) (d : Row) (e : Path) → StandEach at rows rs qs → i < length rs → StandsAt at rows (get_or rs i d) (get_or qs i e)
-each_stands at rows [] qs i d e each lt = absurd (omega arith)
-each_stands at rows (r ∷ rs) [] i d e each lt = absurd each
-each_stands at rows (r ∷ rs) (q ∷ qs) zero d e each lt = each.0
-each_stands at rows (r ∷ rs) (q ∷ qs) (suc i) d e each lt = each_stands at rows rs qs i d e each.1 (omega arith)
-
-pub row_stands : (at : Path) (rows : List Row) (qs : List Path) (i : ℕ) (r : Row) (q : Path) → StandEach at rows rows qs → i < length rows → r ≡ get_or rows i r → q ≡ get_or qs i q → StandsAt at rows r q
-row_stands at rows qs i r q each lt row path = subst (λ (x : Row). StandsAt at rows x q) (sym row) (subst (StandsAt at rows (get_or rows i r)) (sym path) (each_stands at rows rows qs i r q each lt))
 
 -- ---- loops over a list
 

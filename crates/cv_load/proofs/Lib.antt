@@ -15,6 +15,7 @@ mod LoadedTree
 mod Fetching
 mod CutFetches
 mod Clearing
+mod Holders
 mod InTheWay
 mod GoodTree
 mod GoodLaws

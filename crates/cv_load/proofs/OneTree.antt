@@ -17,7 +17,7 @@ use Rattle.cv_rows.proofs.Lemmas.{one_file, has_file}
 use Rattle.cv_cut.specs.Cuts.{is_file, is_marked, is_near, is_inner, is_cut}
 use Rattle.cv_cut.specs.Catalogues.{cat}
 use Rattle.cv_cut.specs.Means.{Means}
-use Rattle.cv_cut.proofs.Lemmas.{cat_is, is_behind}
+use Rattle.cv_cut.proofs.Lemmas.{cat_is, is_behind, at-root}
 use Rattle.cv_load.proofs.Kept.{AreKept, kept}
 use Rattle.cv_load.proofs.CutRows.{shared, one_hash, contents_at, transition_of_inner, inner_of_transition}
 use Rattle.cv_cut.specs.Region.{IsNear}
@@ -69,13 +69,10 @@ same_nodes u v over back = same_map path_total path_exact u v (λ q.
 
 -- ---- cuts of a tree
 
-at_root : (t : Nodes) → at t [] ≡ t
-at_root t = same_map path_total path_exact (at t []) t (λ q. get-at t [] q)
-
 -- another cut of what stands at a place is a cut of the tree
 pub inner_cut : (t : Nodes) (c d : Path) → IsTrue (is_inner (at t c) d) → IsTrue (is_cut t (c ++ d))
 inner_cut t c [] h = absurd cc
-inner_cut t [] (a ∷ p) h = subst (λ (w : Nodes). IsTrue (is_marked w (a ∷ p))) (at_root t) h
+inner_cut t [] (a ∷ p) h = subst (λ (w : Nodes). IsTrue (is_marked w (a ∷ p))) (at-root t) h
 inner_cut t (b ∷ c) (a ∷ p) h =
     let there = get-at t (b ∷ c) (a ∷ p) in
     let file = get-at t (b ∷ c) ((a ∷ p) ++ marker ∷ []) ∙ sym (ap (get t) (append_assoc (b ∷ c) (a ∷ p) (marker ∷ []))) in
@@ -131,4 +128,4 @@ one_tree shelf hash t u is was =
     let mine = kept t is.tree is.fits in
     let other = kept u was.tree was.fits in
     let roots = by_hash shelf hash t u is was mine other [] refl refl (sym is.root ∙ was.root) in
-    sym (at_root t) ∙ same_at shelf hash t u is was mine other 65 [] (omega arith) refl refl roots ∙ at_root u
+    sym (at-root t) ∙ same_at shelf hash t u is was mine other 65 [] (omega arith) refl refl roots ∙ at-root u

@@ -1,5 +1,5 @@
 -- How a tree grows by the rows of catalogues. What only this crate's own functions say.
-use Rattle.std.specs.Prelude.{◌≡◌, ◌≢◌, ◌⊎◌, ℕ, true, false, List, Some, Result, Ok, Err, IsSome, Contains}
+use Rattle.std.specs.Prelude.{◌≡◌, ◌≢◌, ◌⊎◌, ℕ, true, false, List, Some, Result, Ok, Err, IsSome, IsTrue, Contains}
 use Rattle.std.specs.FinMap.{get}
 use Rattle.cv_base.specs.Path.{Path, covers}
 use Rattle.cv_base.specs.ObjectId.{object_id}
@@ -8,6 +8,7 @@ use Rattle.cv_base.specs.declared.id.ObjectId.{ObjectId}
 use Rattle.cv_ports.specs.Shelf.{Shelf}
 use Rattle.cv_tree.specs.Tree.{Nodes, is_directory}
 use Rattle.cv_tree.specs.declared.node.Node.{Node}
+use Rattle.cv_rows.specs.Row.{holds_rows}
 use Rattle.cv_rows.specs.Catalogue.{Contents}
 use Rattle.cv_rows.specs.Places.{StandsAt}
 use Rattle.cv_rows.specs.declared.row.Row.{Row}
@@ -38,6 +39,10 @@ pub record IsReady (at : Path) (rows : List Row) (t : Nodes) : Type 0 where
 -- nothing has changed but at the path and below it
 abbrev pub ChangesBelow : Path → Nodes → Nodes → Type 0
 ChangesBelow p old new = (q : Path) → covers p q ≡ false → get new q ≡ get old q
+
+-- the path of each row of the catalogue below which rows may stand is in the tree
+abbrev pub HasHolders : Contents → Nodes → Type 0
+HasHolders c t = (r : Row) (q : Path) → IsTrue (holds_rows r.kind) → StandsAt c.at c.rows r q → IsSome (get t q)
 
 -- the path of each row of the catalogue is in the tree
 abbrev pub HasRows : Contents → Nodes → Type 0

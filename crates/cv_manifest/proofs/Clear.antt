@@ -2,7 +2,7 @@
 use Rattle.std.proofs.Common.{◌≡◌, ℕ, suc, ◌+◌, ◌/◌, ◌%◌, ◌<◌, ◌^◌, Bool, true, false, not, eqb, List, [], ◌∷◌, length, slice_index, decimal, refl, ap, arith}
 use Rattle.std.specs.Prelude.{IsTrue, IsUtf8}
 use Rattle.std.specs.List.{list_all}
-use Rattle.std.proofs.lemmas.Bool.{and_parts, or_from, ne_eqb}
+use Rattle.std.proofs.lemmas.Bool.{and_parts, or_from, ne_eqb, not-true}
 use Rattle.std.proofs.lemmas.Bool.Decides.{nat_tests}
 use Rattle.std.proofs.lemmas.Fmt.{decimal_by_steps}
 use Rattle.std.proofs.lemmas.List.Folds.{list_any-append}
@@ -42,14 +42,10 @@ name_utf8 name is =
 abbrev is_other : ℕ → Bool
 is_other c = not (eqb c 10)
 
-other_is : (b : Bool) → not b ≡ true → b ≡ false
-other_is true e = absurd cc
-other_is false e = refl
-
 digit_clear : (v : ℕ) → v < 16 → eqb (slice_index lower_digits v) 10 ≡ false
 digit_clear v below =
     let all = AllPass-from_list_all is_other lower_digits refl in
-    other_is _ (all v 0 below)
+    not-true _ (all v 0 below)
 
 digits_clear : (hash : List ℕ) → IsBytes hash → has_newline (encode_lower hash) ≡ false
 unfolding encode_with

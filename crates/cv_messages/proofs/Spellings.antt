@@ -5,7 +5,7 @@ use Rattle.std.specs.List.{before_first, after_first, position_or_len}
 use Rattle.std.specs.Result.{result_ok}
 use Rattle.std.specs.Str.{bytes_eq}
 use Rattle.std.specs.Str.Parse.{digits_value}
-use Rattle.std.proofs.lemmas.Bool.{and_parts, cases_lt, eqb-true, lt-ltb, ltb-true}
+use Rattle.std.proofs.lemmas.Bool.{and_parts, cases_lt, eqb-true, lt-ltb, ltb-true, not-false}
 use Rattle.std.proofs.lemmas.Fmt.{decimal_is_IsNumeral, decimal_nonempty}
 use Rattle.std.proofs.lemmas.List.{take_at, drop_at, drop_more}
 use Rattle.std.proofs.lemmas.List.Sums.{prefix_len_stops, split_at_first}
@@ -95,14 +95,10 @@ token_of-Some text token h =
           let none : after_first is_dash text ≡ [] = drop_of_length-le text (omega arith) in
           absurd (omega (arith, some, ap length (sym none ∙ back.1)))
     ] in
-    let dash : get_or text at 0 ≡ 45 = eqb-true (get_or text at 0) 45 (is_not (is_dash (get_or text at 0)) (prefix_len_stops (λ b. not (is_dash b)) text 0 within)) in (
+    let dash : get_or text at 0 ≡ 45 = eqb-true (get_or text at 0) 45 (not-false (is_dash (get_or text at 0)) (prefix_len_stops (λ b. not (is_dash b)) text 0 within)) in (
       record { epoch = front.0; number = back.0 },
       split_at_first is_dash text 0 within ∙ rw (dash, ← front.1, ← back.1) refl,
     )
-  where
-    is_not : (b : Bool) → not b ≡ false → b ≡ true
-    is_not true h = refl
-    is_not false h = cc
 
 -- a text that is no token's says none
 pub token_of-None : (text : List ℕ) → ((token : Token) → IsToken token → text ≡ token_text token → ⊥) → token_of text ≡ None

@@ -1,5 +1,6 @@
 -- What a refusal shows, and what a store leaves, over the shelf of what stands on a disk.
 use Rattle.std.proofs.Common.{◌≡◌, ◌⊎◌, ℕ, List, sym, ap, subst, ◌∙◌, inl, inr}
+use Rattle.std.proofs.lemmas.Option.{same_Some}
 use Rattle.std.specs.List.{Contains}
 use Rattle.std.specs.declared.option.Option.TheVariants.{None, Some}
 use Rattle.cv_base.specs.ObjectId.{file_name}
@@ -16,9 +17,6 @@ use Rattle.cv_objects.specs.declared.store_fault.StoreFault.TheVariants.{Collisi
 use Rattle.cv_objects.proofs.Batching.{is_digest_of}
 use Rattle.cv_objects.proofs.Meaning.{adds_batch}
 use Rattle.cv_objects.proofs.Telling.{standing_is}
-
-some_is : {a b : List ℕ} → Some a ≡ Some b → a ≡ b
-some_is e = cc
 
 -- under the id of an object of the batch stands what its file has
 stands_as : (d : Disk) (batch : List Object) (o : Object) → AreNamed batch → Contains batch o → standing_on d o.id ≡ (d (file_name o.id)).now
@@ -65,11 +63,11 @@ stored_agrees : (d d' : Disk) (batch : List Object) → AreNamed batch → Gains
 stored_agrees d d' batch named g s = record { each = λ o h bytes e. by o h bytes e (adds_batch d d' batch o.id named g) }
   where
     by : (o : Object) → Contains batch o → (bytes : List ℕ) → standing_on d o.id ≡ Some bytes → (standing_on d' o.id ≡ standing_on d o.id) ⊎ IsGained batch (standing_on d) o.id (standing_on d' o.id) → bytes ≡ o.bytes
-    by o h bytes e (inl same) = some_is (sym e ∙ sym same ∙ (has_all d' batch named s).each o h)
+    by o h bytes e (inl same) = same_Some _ _ (sym e ∙ sym same ∙ (has_all d' batch named s).each o h)
     by o h bytes e (inr gained) = absurd (let k : None ≡ Some bytes = sym gained.absent ∙ e in cc)
 
 stored_one : (d' : Disk) (batch : List Object) → AreNamed batch → AreStored batch d' → IsOne batch
-stored_one d' batch named s = record { each = λ a b x y e. some_is (sym ((has_all d' batch named s).each a x) ∙ ap (standing_on d') e ∙ (has_all d' batch named s).each b y) }
+stored_one d' batch named s = record { each = λ a b x y e. same_Some _ _ (sym ((has_all d' batch named s).each a x) ∙ ap (standing_on d') e ∙ (has_all d' batch named s).each b y) }
 
 pub stored_clash : (d d' : Disk) (batch : List Object) (id : ObjectId) → AreNamed batch → Gains on_way (Brings d batch) d d' → AreStored batch d' → ClashesOn (standing_on d) batch id → ⊥
 stored_clash d d' batch id named g s c = agreeing_clash (standing_on d) batch id (stored_one d' batch named s) (stored_agrees d d' batch named g s) c

@@ -1,7 +1,8 @@
 -- What a store means for the objects that stand on a disk.
-use Rattle.std.proofs.Common.{◌≡◌, ◌⊎◌, ℕ, Bool, true, false, List, refl, sym, ap, ◌∙◌, inl, inr}
+use Rattle.std.proofs.Common.{◌≡◌, ◌⊎◌, Bool, true, false, List, refl, sym, ap, ◌∙◌, inl, inr}
 use Rattle.std.specs.Prelude.{if◌then◌else◌}
-use Rattle.std.specs.declared.option.Option.TheVariants.{None, Some}
+use Rattle.std.proofs.lemmas.Option.{same_Some}
+use Rattle.std.specs.declared.option.Option.TheVariants.{None}
 use Rattle.sha1.specs.Sha1.{sha1}
 use Rattle.cv_base.specs.ObjectId.{file_name}
 use Rattle.cv_base.specs.declared.id.ObjectId.{ObjectId}
@@ -15,16 +16,13 @@ use Rattle.cv_base.proofs.Laws.{one_file_name}
 use Rattle.cv_objects.proofs.Naming.{digest_back}
 use Rattle.cv_objects.proofs.Batching.{is_digest_of}
 
-some_is : {a b : List ℕ} → Some a ≡ Some b → a ≡ b
-some_is e = cc
-
 pub keep_hashes : (d : Disk) (batch : List Object) (f : Files) → AreNamed batch → AreHashed d → Within on_way (Brings d batch) d f → HaveHashes f
 keep_hashes d batch f named hashed w = record {
   each = λ id digest bytes e. elim (w.each (file_name id) refl) [
     | inl m ↦ hashed.each id digest (f (file_name id)) m bytes e
     | inr b ↦
         let is : id ≡ b.object.id = one_file_name id b.object.id digest (is_digest_of batch b.object named b.among) b.one.name in
-        ap sha1 (some_is (sym e ∙ b.one.file)) ∙ sym (named.each b.object b.among) ∙ ap (λ (x : ObjectId). x.hash) (sym is)
+        ap sha1 (same_Some _ _ (sym e ∙ b.one.file)) ∙ sym (named.each b.object b.among) ∙ ap (λ (x : ObjectId). x.hash) (sym is)
   ];
 }
 

@@ -8,7 +8,8 @@ use Rattle.std.specs.Str.{bytes_eq}
 use Rattle.std.specs.BTreeMap.{BTreeMap, get, Updates}
 use Rattle.std.proofs.lemmas.Map.Text.{is_eq-slice_cmp}
 use Rattle.std.proofs.lemmas.Slice.Eq.{bytes_eq-Decides}
-use Rattle.std.proofs.lemmas.Option.{slice_get_read}
+use Rattle.std.proofs.lemmas.Option.{slice_get_read, same_Some}
+use Rattle.std.proofs.Math.Bool.{and-true, and-false}
 use Rattle.cv_base.specs.declared.id.Kind.{Kind}
 use Rattle.cv_base.specs.declared.id.Kind.TheVariants.{Plain, Catalogue, History}
 use Rattle.cv_base.specs.declared.id.ObjectId.{ObjectId}
@@ -20,19 +21,11 @@ use Rattle.cv_objects.specs.Batches.{IsOne}
 use Rattle.cv_objects.specs.declared.places.Places.{Places}
 use Rattle.cv_objects.proofs.Lists.{last_or_earlier}
 
-and_true : (a : Bool) → (a && true) ≡ a
-and_true true = refl
-and_true false = refl
-
-and_false : (a : Bool) → (a && false) ≡ false
-and_false true = refl
-and_false false = refl
-
 own : (m n : BTreeMap (List ℕ) ℕ) (hash q : List ℕ) (p : ℕ) → Updates (slice_cmp nat_cmp) m n hash (Some p) → get (slice_cmp nat_cmp) n q ≡ cond (bytes_eq hash q && true) (Some p) (get (slice_cmp nat_cmp) m q)
-own m n hash q p u = u.0 q ∙ ap (λ (b : Bool). cond b (Some p) (get (slice_cmp nat_cmp) m q)) (is_eq-slice_cmp hash q ∙ sym (and_true (bytes_eq hash q)))
+own m n hash q p u = u.0 q ∙ ap (λ (b : Bool). cond b (Some p) (get (slice_cmp nat_cmp) m q)) (is_eq-slice_cmp hash q ∙ sym (and-true (bytes_eq hash q)))
 
 apart : {X : Type 0} (b : Bool) (x y : X) → y ≡ cond (b && false) x y
-apart b x y = sym (ap (λ (a : Bool). cond a x y) (and_false b))
+apart b x y = sym (ap (λ (a : Bool). cond a x y) (and-false b))
 
 other : (m n : BTreeMap (List ℕ) ℕ) (hash q : List ℕ) (p : ℕ) → n ≡ m → get (slice_cmp nat_cmp) n q ≡ cond (bytes_eq hash q && false) (Some p) (get (slice_cmp nat_cmp) m q)
 other m n hash q p same = ap (λ (x : BTreeMap (List ℕ) ℕ). get (slice_cmp nat_cmp) x q) same ∙ apart (bytes_eq hash q) (Some p) (get (slice_cmp nat_cmp) m q)
@@ -135,11 +128,8 @@ here_anew batch n places more o here lt is none put = record {
 pub here_one : (batch : List Object) (places : Places) → ((o : Object) → Contains batch o → IsHere batch places o) → IsOne batch
 here_one batch places all = record { each = λ a b x y e. one a b (all a x) (all b y) e }
   where
-    some_is : {X : Type 0} {x y : X} → Some x ≡ Some y → x ≡ y
-    some_is e = cc
-
     one : (a b : Object) → IsHere batch places a → IsHere batch places b → a.id ≡ b.id → a.bytes ≡ b.bytes
     one a b x y e =
-        let place : x.place ≡ y.place = some_is (sym x.noted ∙ ap (place_of places) e ∙ y.noted) in
-        let first : x.first ≡ y.first = some_is (sym x.there ∙ ap (slice_get batch) place ∙ y.there) in
+        let place : x.place ≡ y.place = same_Some _ _ (sym x.noted ∙ ap (place_of places) e ∙ y.noted) in
+        let first : x.first ≡ y.first = same_Some _ _ (sym x.there ∙ ap (slice_get batch) place ∙ y.there) in
         sym x.same ∙ ap (λ (o : Object). o.bytes) first ∙ y.same

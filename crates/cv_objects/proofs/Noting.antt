@@ -1,6 +1,7 @@
 -- Ids that are noted.
 use Rattle.std.proofs.Common.{◌≡◌, ℕ, true, false, List, take, length, ◌<◌, ◌+◌, get_or, refl, sym, subst, ap, ◌∙◌, inl, inr}
 use Rattle.std.specs.Prelude.{Vec, is_none}
+use Rattle.std.proofs.lemmas.Option.{same_Some}
 use Rattle.std.specs.declared.option.Option.{Option}
 use Rattle.std.specs.declared.option.Option.TheVariants.{None, Some}
 use Rattle.std.specs.declared.result.Result.{Result}
@@ -32,9 +33,6 @@ fresh_more d batch i o ids new was are lt is once (has_file there same kept) = r
 fresh_more d batch i o ids new was are lt is once (has_none absent (again noted same kept)) = rw (same, kept) (once_again (standing_on d) batch i o ids (is_noted was) lt is (ap is_none absent) noted once)
 fresh_more d batch i o ids new was are lt is once (has_none absent (anew other end more)) = rw end (once_anew (standing_on d) batch i o ids (is_noted was) (is_noted are) lt is (ap is_none absent) other more once)
 
-some_is : {a b : List ℕ} → Some a ≡ Some b → a ≡ b
-some_is e = cc
-
 -- what stands under its id is its own
 pub agrees_more : (d : Disk) (batch : List Object) (i : ℕ) (o : Object) (ids new : List ObjectId) (was are : Places) → i < length batch → o ≡ get_or batch i o
     → Agrees (take i batch) (standing_on d) → Noted d o ids was new are → Agrees (take (i + 1) batch) (standing_on d)
@@ -46,7 +44,7 @@ agrees_more d batch i o ids new was are lt is agrees noted = record {
 }
   where
     own : Noted d o ids was new are → (bytes : List ℕ) → standing_on d o.id ≡ Some bytes → bytes ≡ o.bytes
-    own (has_file there same kept) bytes e = some_is (sym e ∙ there)
+    own (has_file there same kept) bytes e = same_Some _ _ (sym e ∙ there)
     own (has_none absent notes) bytes e = absurd (let k : None ≡ Some bytes = sym absent ∙ e in cc)
 
 module _ {V : Type 0} {disk : V → Option Disk} {count : V → ℕ} {left : V → ℕ → Files → Type 0} {d : Disk} {v v1 : V} (o : Object) (ids : List ObjectId) (was : Places) where

@@ -4,6 +4,7 @@ use Rattle.std.specs.Prelude.{bytes_eq}
 use Rattle.std.specs.Ordering.{nat_cmp, is_eq}
 use Rattle.std.specs.Cmp.Lexicographic.{slice_cmp}
 use Rattle.std.specs.BTreeSet.{BTreeSet, contains, Updates}
+use Rattle.std.proofs.lemmas.Bool.{not-true, not-false}
 use Rattle.std.proofs.lemmas.Map.Text.{is_eq-slice_cmp}
 use Rattle.sha1.specs.Sha1.{sha1}
 use Rattle.cv_base.specs.declared.object.Object.{Object}
@@ -35,24 +36,16 @@ pub known_more : (os : List Object) (o : Object) (s n : BTreeSet (List ℕ)) →
     → Updates (slice_cmp nat_cmp) s n o.id.hash true → (h : List ℕ) → contains (slice_cmp nat_cmp) n h ≡ has_hash (os ++ o ∷ []) h
 known_more os o s n known put h = one_more s n o.id.hash put h ∙ ap (λ (b : Bool). b || bytes_eq o.id.hash h) (known h) ∙ sym (has_hash-push os o h)
 
-not_false : (b : Bool) → not b ≡ false → b ≡ true
-not_false true h = refl
-not_false false h = cc
-
-not_true : (b : Bool) → not b ≡ true → b ≡ false
-not_true true h = cc
-not_true false h = refl
-
 -- the content is there, or it is added
 pub content_same : (os : List Object) (content hash : List ℕ) (s : BTreeSet (List ℕ)) (added : Bool) → hash ≡ sha1 content
     → ((h : List ℕ) → contains (slice_cmp nat_cmp) s h ≡ has_hash os h) → added ≡ not (contains (slice_cmp nat_cmp) s hash) → added ≡ false → os ≡ with_content os content
 content_same os content hash s added is known new old =
-    let there : has_hash os (sha1 content) ≡ true = sym (known (sha1 content)) ∙ ap (contains (slice_cmp nat_cmp) s) (sym is) ∙ not_false _ (sym new ∙ old) in
+    let there : has_hash os (sha1 content) ≡ true = sym (known (sha1 content)) ∙ ap (contains (slice_cmp nat_cmp) s) (sym is) ∙ not-false _ (sym new ∙ old) in
     rw there refl
 
 pub content_more : (os : List Object) (content hash : List ℕ) (s : BTreeSet (List ℕ)) (added : Bool) → hash ≡ sha1 content
     → ((h : List ℕ) → contains (slice_cmp nat_cmp) s h ≡ has_hash os h) → added ≡ not (contains (slice_cmp nat_cmp) s hash) → added ≡ true
     → os ++ record { id = object_id hash Plain; bytes = content } ∷ [] ≡ with_content os content
 content_more os content hash s added is known new is_new =
-    let lacks : has_hash os (sha1 content) ≡ false = sym (known (sha1 content)) ∙ ap (contains (slice_cmp nat_cmp) s) (sym is) ∙ not_true _ (sym new ∙ is_new) in
+    let lacks : has_hash os (sha1 content) ≡ false = sym (known (sha1 content)) ∙ ap (contains (slice_cmp nat_cmp) s) (sym is) ∙ not-true _ (sym new ∙ is_new) in
     rw (lacks, is) refl

@@ -6,6 +6,7 @@ use Rattle.std.proofs.lemmas.List.Folds.{list_all-append}
 use Rattle.cv_base.specs.Path.{Path, IsPath, text_of, is_path_name}
 use Rattle.cv_base.specs.PathText.{within_limits, of_names}
 use Rattle.cv_base.specs.declared.path_fault.PathFault.TheVariants.{TooLong, TooDeep}
+use Rattle.cv_base.proofs.Laws.{first_true, second_true}
 use Rattle.cv_overlay.specs.Walk.{takes}
 
 pub size_with : (p : Path) (name : List ℕ) → length (text_of (p ++ name ∷ [])) ≡ length (text_of p) + 1 + length name
@@ -45,27 +46,19 @@ takes_is p name depth size long d s l =
     rw (d, s, l) (taken (length (text_of (p ++ name ∷ []))) (length p) (p ++ name ∷ []) (is_path_name name) (depth_with p name)
     ∙ ap (λ (k : ℕ). nat_lt (length p) 64 && nat_le k 4095 && is_path_name name) (size_with p name))
 
-pub first_of : (a b : Bool) → (a && b) ≡ true → a ≡ true
-first_of true b h = refl
-first_of false b h = cc
-
-pub second_of : (a b : Bool) → (a && b) ≡ true → b ≡ true
-second_of true b h = h
-second_of false b h = cc
-
 tested : (p : Path) (name : List ℕ) → takes p name ≡ true → (nat_lt (length p) 64 && nat_le (length (text_of (p ++ name ∷ []))) 4095 && is_path_name name) ≡ true
 tested p name h = sym (taken (length (text_of (p ++ name ∷ []))) (length p) (p ++ name ∷ []) (is_path_name name) (depth_with p name)) ∙ h
 
 -- a path that takes a name has fewer than 64
 pub takes_depth : (p : Path) (name : List ℕ) → takes p name ≡ true → length p < 64
-takes_depth p name h = let t = first_of (nat_lt (length p) 64) _ (first_of _ (is_path_name name) (tested p name h)) in grind (arith)
+takes_depth p name h = let t = first_true (nat_lt (length p) 64) _ (first_true _ (is_path_name name) (tested p name h)) in grind (arith)
 
 -- with the name it keeps the limits
 pub takes_path : (p : Path) (name : List ℕ) → IsPath p → takes p name ≡ true → IsPath (p ++ name ∷ [])
 takes_path p name is h =
-    let front = first_of (nat_lt (length p) 64 && nat_le (length (text_of (p ++ name ∷ []))) 4095) (is_path_name name) (tested p name h) in
-    let good = second_of (nat_lt (length p) 64 && nat_le (length (text_of (p ++ name ∷ []))) 4095) (is_path_name name) (tested p name h) in
-    let size = second_of (nat_lt (length p) 64) (nat_le (length (text_of (p ++ name ∷ []))) 4095) front in
+    let front = first_true (nat_lt (length p) 64 && nat_le (length (text_of (p ++ name ∷ []))) 4095) (is_path_name name) (tested p name h) in
+    let good = second_true (nat_lt (length p) 64 && nat_le (length (text_of (p ++ name ∷ []))) 4095) (is_path_name name) (tested p name h) in
+    let size = second_true (nat_lt (length p) 64) (nat_le (length (text_of (p ++ name ∷ []))) 4095) front in
     let depth = takes_depth p name h in
     record {
       names = list_all-append is_path_name p (name ∷ []) ∙ rw (is.names, good) refl;

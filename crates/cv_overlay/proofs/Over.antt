@@ -13,6 +13,8 @@ use Rattle.cv_tree.specs.declared.node.Node.TheVariants.{Dir, File, Link}
 use Rattle.cv_tree.specs.Node.{IsNode}
 use Rattle.cv_tree.specs.Tree.{Nodes, is_directory, HasParents, IsPart, IsTree}
 use Rattle.std.proofs.Common.{◌<◌, ◌^◌, arith}
+use Rattle.std.proofs.lemmas.Bool.{or_parts}
+use Rattle.std.proofs.Math.Bool.{or-true}
 use Rattle.cv_tree.proofs.Laws.{find-append}
 use Rattle.cv_overlay.specs.Whiteout.{whiteout, opaque, is_whiteout, is_bad_at}
 use Rattle.cv_overlay.specs.Overlay.{named, hidden, or_else, root_of, over_at, is_leaf, hides, hidden_from, named_entries, kept_entries, over_entries, over}
@@ -62,9 +64,6 @@ get-over b c now (name ∷ names) = get-from_entries path_total (over_entries b 
     ∙ rw (find-named c (name ∷ names), find-kept c b (name ∷ names)) refl
 
 -- ---- hidden along a path
-or_both : (a b : Bool) → (a || b) ≡ false → (a ≡ false) × (b ≡ false)
-or_both true b h = cc
-or_both false b h = (refl, h)
 
 pub hidden-append : (c : Nodes) (p q : Path) (a : List ℕ) → hidden_from c p (q ++ a ∷ []) ≡ (hidden_from c p q || hides c (p ++ q) a)
 hidden-append c p [] a = elim (hides c p a) as (λ (b : Bool). (b || false) ≡ b) [ true ↦ refl | false ↦ refl ] ∙ ap (λ (w : Path). hides c w a) (sym (append-nil p))
@@ -74,11 +73,11 @@ hidden-append c p (n ∷ q) a =
 
 -- a file or link of the folder hides its own path
 leaf_hides : (c : Nodes) (p : Path) (n : List ℕ) → hides c p n ≡ false → is_leaf (named c (p ++ n ∷ [])) ≡ false
-leaf_hides c p n h = (or_both _ _ ((or_both _ _ h).1)).1
+leaf_hides c p n h = (or_parts _ _ ((or_parts _ _ h).1)).1
 
 pub not_leaf : (c : Nodes) (p : Path) (n : List ℕ) (q : Path) → hidden_from c p (n ∷ q) ≡ false → is_leaf (named c (p ++ n ∷ q)) ≡ false
-not_leaf c p n [] h = leaf_hides c p n ((or_both _ _ h).0)
-not_leaf c p n (m ∷ q) h = subst (λ (w : Path). is_leaf (named c w) ≡ false) (append_assoc p (n ∷ []) (m ∷ q)) (not_leaf c (p ++ n ∷ []) m q ((or_both _ _ h).1))
+not_leaf c p n [] h = leaf_hides c p n ((or_parts _ _ h).0)
+not_leaf c p n (m ∷ q) h = subst (λ (w : Path). is_leaf (named c w) ≡ false) (append_assoc p (n ∷ []) (m ∷ q)) (not_leaf c (p ++ n ∷ []) m q ((or_parts _ _ h).1))
 
 -- ---- the overlay is a part
 root_is_directory : (o : Option Node) (now : ℕ) → is_directory (Some (root_of o now)) ≡ true
@@ -145,7 +144,7 @@ over_parents b c now hb hc good (n ∷ q) a some =
       | Some node ↦ λ is _. elim (from b c x node is) [
         | by_name there ↦ named_first _ _ (directory_named c (n ∷ q) (good (n ∷ q)) (hc (n ∷ q) a (ap is_some there)))
         | by_base _ seen there ↦
-            let both = or_both _ _ (sym (hidden-append c [] (n ∷ q) a) ∙ seen) in
+            let both = or_parts _ _ (sym (hidden-append c [] (n ∷ q) a) ∙ seen) in
             stays (named c (n ∷ q)) _ (not_leaf c [] n q both.0) (rw both.0 (hb (n ∷ q) a (ap is_some there)))
       ]
     ] refl some
@@ -199,23 +198,19 @@ pub at_kept : (b c : Nodes) (now : ℕ) (name : List ℕ) (names : Path) → nam
 at_kept b c now name names = base_at b c now name names false
 
 -- what hides a name of a directory hides all below it
-or_true : (a : Bool) → (a || true) ≡ true
-or_true true = refl
-or_true false = refl
-
 pub hidden_below : (c : Nodes) (p : Path) (name : List ℕ) (names : Path) → hides c p name ≡ true → hidden c (p ++ name ∷ names) ≡ true
 hidden_below c p name names is =
-    hidden-split c [] p (name ∷ names) ∙ ap (λ (h : Bool). hidden_from c [] p || (h || hidden_from c (p ++ name ∷ []) names)) is ∙ or_true (hidden_from c [] p)
+    hidden-split c [] p (name ∷ names) ∙ ap (λ (h : Bool). hidden_from c [] p || (h || hidden_from c (p ++ name ∷ []) names)) is ∙ or-true (hidden_from c [] p)
 
 pub hides_all : (c : Nodes) (p : Path) (name : List ℕ) → is_some (get c (p ++ opaque ∷ [])) ≡ true → hides c p name ≡ true
 hides_all c p name is = ap (λ (h : Bool). h || (is_some (get c (p ++ (whiteout ++ name) ∷ [])) || is_leaf (named c (p ++ name ∷ [])))) is
 
 pub hides_removed : (c : Nodes) (p : Path) (name : List ℕ) → is_some (get c (p ++ (whiteout ++ name) ∷ [])) ≡ true → hides c p name ≡ true
 hides_removed c p name is =
-    ap (λ (h : Bool). is_some (get c (p ++ opaque ∷ [])) || (h || is_leaf (named c (p ++ name ∷ [])))) is ∙ or_true (is_some (get c (p ++ opaque ∷ [])))
+    ap (λ (h : Bool). is_some (get c (p ++ opaque ∷ [])) || (h || is_leaf (named c (p ++ name ∷ [])))) is ∙ or-true (is_some (get c (p ++ opaque ∷ [])))
 
 pub hides_replaced : (c : Nodes) (p : Path) (name : List ℕ) → is_leaf (named c (p ++ name ∷ [])) ≡ true → hides c p name ≡ true
 hides_replaced c p name is =
     ap (λ (h : Bool). is_some (get c (p ++ opaque ∷ [])) || (is_some (get c (p ++ (whiteout ++ name) ∷ [])) || h)) is
-    ∙ ap (λ (h : Bool). is_some (get c (p ++ opaque ∷ [])) || h) (or_true (is_some (get c (p ++ (whiteout ++ name) ∷ []))))
-    ∙ or_true (is_some (get c (p ++ opaque ∷ [])))
+    ∙ ap (λ (h : Bool). is_some (get c (p ++ opaque ∷ [])) || h) (or-true (is_some (get c (p ++ (whiteout ++ name) ∷ []))))
+    ∙ or-true (is_some (get c (p ++ opaque ∷ [])))

@@ -6,6 +6,7 @@ use Rattle.std.specs.Cmp.Lexicographic.{slice_cmp}
 use Rattle.std.specs.BTreeSet.{BTreeSet, contains, Updates}
 use Rattle.std.proofs.lemmas.Map.Text.{is_eq-slice_cmp}
 use Rattle.std.proofs.lemmas.List.Folds.{list_any-append}
+use Rattle.std.proofs.Math.Bool.{and-true, and-false}
 use Rattle.cv_base.specs.ObjectId.{object_id, same_kind}
 use Rattle.cv_base.specs.declared.id.Kind.{Kind}
 use Rattle.cv_base.specs.declared.id.Kind.TheVariants.{Plain, Catalogue, History}
@@ -27,14 +28,6 @@ is_named-more : (es : List Entry) (e : Entry) (id : ObjectId)
 is_named-more es e id =
     list_any-append (λ (x : Entry). bytes_eq x.id.hash id.hash && same_kind x.id.kind id.kind) es (e ∷ []) ∙ or_last (is_named es id) (bytes_eq e.id.hash id.hash && same_kind e.id.kind id.kind)
 
-and_true : (a : Bool) → (a && true) ≡ a
-and_true true = refl
-and_true false = refl
-
-and_false : (a : Bool) → (a && false) ≡ false
-and_false true = refl
-and_false false = refl
-
 -- the set of the entry's own kind has its hash
 with_hash : (kind : Kind) (es : List Entry) (e : Entry) (s n : BTreeSet (List ℕ)) → e.id.kind ≡ kind → HasHashes kind es s
     → Updates (slice_cmp nat_cmp) s n e.id.hash true → HasHashes kind (es ++ e ∷ []) n
@@ -42,7 +35,7 @@ with_hash kind es e s n k h u hash =
     let named = is_named-more es e (object_id hash kind) in
     let own : same_kind e.id.kind kind ≡ true = ap (λ (x : Kind). same_kind x kind) k ∙ same_kind-own kind in
     let test : (bytes_eq e.id.hash hash && same_kind e.id.kind kind) ≡ is_eq (slice_cmp nat_cmp e.id.hash hash) =
-    ap (λ (b : Bool). bytes_eq e.id.hash hash && b) own ∙ and_true (bytes_eq e.id.hash hash) ∙ sym (is_eq-slice_cmp e.id.hash hash) in
+    ap (λ (b : Bool). bytes_eq e.id.hash hash && b) own ∙ and-true (bytes_eq e.id.hash hash) ∙ sym (is_eq-slice_cmp e.id.hash hash) in
     u.0 hash ∙ sym (named ∙ ap (λ (b : Bool). cond b true (is_named es (object_id hash kind))) test
     ∙ ap (λ (b : Bool). cond (is_eq (slice_cmp nat_cmp e.id.hash hash)) true b) (sym (h hash)))
 
@@ -51,7 +44,7 @@ without_hash : (kind : Kind) (es : List Entry) (e : Entry) (s : BTreeSet (List �
 without_hash kind es e s k h hash =
     let named = is_named-more es e (object_id hash kind) in
     let test : (bytes_eq e.id.hash hash && same_kind e.id.kind kind) ≡ false =
-    ap (λ (b : Bool). bytes_eq e.id.hash hash && b) k ∙ and_false (bytes_eq e.id.hash hash) in
+    ap (λ (b : Bool). bytes_eq e.id.hash hash && b) k ∙ and-false (bytes_eq e.id.hash hash) in
     h hash ∙ sym (named ∙ ap (λ (b : Bool). cond b true (is_named es (object_id hash kind))) test)
 
 not_plain : (kind : Kind) → (kind ≡ Plain → ⊥) → (kind ≡ History → ⊥) → kind ≡ Catalogue

@@ -1,6 +1,6 @@
 -- Fixed bytes and decimals, written and read.
 use Rattle.std.proofs.Common.{◌≡◌, ℕ, zero, suc, ◌+◌, ◌-◌, ◌*◌, ◌/◌, ◌%◌, ◌^◌, ◌<◌, ◌≤◌, Bool, true, false, cond, not, ◌&&◌, ltb, leb, eqb, List, [], ◌∷◌, ◌++◌, length, Result, Ok, Err, Option, Some, None, refl, sym, ap, subst, ◌∙◌, inl, inr, ◌⊎◌, arith, append_assoc, length-append, decimal, add-zero}
-use Rattle.std.proofs.lemmas.Bool.{lt-ltb, eq-eqb, eqb-true, leb-true, le-leb, ne_eqb}
+use Rattle.std.proofs.lemmas.Bool.{lt-ltb, eq-eqb, eqb-true, leb-true, le-leb, ne_eqb, and_parts}
 use Rattle.std.proofs.lemmas.List.{append-nil}
 use Rattle.std.proofs.lemmas.Fmt.{decimal_digit, decimal_step, decimal_by_steps}
 use Rattle.std.specs.Char.{is_ascii_digit}
@@ -50,14 +50,9 @@ text_again line (x ∷ xs) at rest room =
 
 -- ---- decimals
 
-pub both_true : (a b : Bool) → (a && b) ≡ true → (a ≡ true) × (b ≡ true)
-both_true true true e = (refl, refl)
-both_true true false e = absurd cc
-both_true false b e = absurd cc
-
 -- the code of a digit, and its value
 pub digit_range : (b : ℕ) → is_ascii_digit b ≡ true → (48 ≤ b) × (b ≤ 57)
-digit_range b is = let both = both_true (leb 48 b) (leb b 57) is in (leb-true _ _ both.0, leb-true _ _ both.1)
+digit_range b is = let both = and_parts (leb 48 b) (leb b 57) is in (leb-true _ _ both.0, leb-true _ _ both.1)
 
 pub digit_is : (b : ℕ) → 48 ≤ b → b ≤ 57 → is_ascii_digit b ≡ true
 digit_is b low high = let l : leb 48 b ≡ true = le-leb _ _ low in let h : leb b 57 ≡ true = le-leb _ _ high in rw (l, h) refl
@@ -81,7 +76,7 @@ some_is m n e = cc
 digit_more : (v b w : ℕ) → with_digit (Some v) b ≡ Some w → (0 < v) × (48 ≤ b) × (b ≤ 57) × (w ≡ v * 10 + (b - 48))
 digit_more v b w e = elim (either (is_ascii_digit b && not (eqb v 0)) (Some (v * 10 + (b - 48))) None (Some w) e) [
   | inl does ↦
-      let both = both_true (is_ascii_digit b) (not (eqb v 0)) does.0 in
+      let both = and_parts (is_ascii_digit b) (not (eqb v 0)) does.0 in
       let range = digit_range b both.0 in
       (not_zero v both.1, range.0, range.1, sym (some_is _ _ does.1))
   | inr doesnt ↦ absurd (let wrong = doesnt.1 in cc)

@@ -4,7 +4,7 @@ use Rattle.std.specs.Prelude.{bytes_eq, AllPairs, Contains}
 use Rattle.std.proofs.lemmas.List.Quantifiers.{all_pairs_push}
 use Rattle.std.specs.Bool.{Decides}
 use Rattle.std.specs.List.{AllByRecursion, IsDistinct}
-use Rattle.std.proofs.lemmas.Bool.{ltb-false, le-ltb}
+use Rattle.std.proofs.lemmas.Bool.{ltb-false, le-ltb, and_parts}
 use Rattle.std.proofs.lemmas.List.{take_at, drop_at, length-take-le, map-append, length-map, get_or-map, take_more}
 use Rattle.std.proofs.lemmas.List.Sums.{sum_by-append}
 use Rattle.std.proofs.lemmas.List.Elements.{Contains-get_or, Contains-push_cases}
@@ -25,7 +25,7 @@ use Rattle.cv_pack.specs.declared.pack_fault.PackFault.TheVariants.{HashDiffers,
 use Rattle.cv_pack.specs.Pack.{entry, entry_of, ids, total_size, header_of, header_bytes, contents, contents_size, pack_bytes, IsPacked, IsPack}
 use Rattle.cv_base.specs.Sequence.{◌>>=◌}
 use Rattle.cv_pack.specs.Reading.{Header, object, is_named, header_at, contents_at, reading}
-use Rattle.cv_pack.proofs.Numbers.{bind_ok, chosen, either, ok_is, both_true}
+use Rattle.cv_pack.proofs.Numbers.{bind_ok, chosen, either, ok_is}
 use Rattle.cv_pack.proofs.Lines.{IsLine, AreLines, IsHeader, header_takes, header_again}
 
 -- ---- the same id
@@ -36,7 +36,7 @@ self_same a = rw ((bytes_eq-Decides a.hash a.hash).1 refl, same_kind-own a.kind)
 pub same_id-Decides : (a b : ObjectId) → Decides (same_id a b) (a ≡ b)
 same_id-Decides a b = (
   λ e.
-      let parts = both_true (bytes_eq a.hash b.hash) (same_kind a.kind b.kind) e in
+      let parts = and_parts (bytes_eq a.hash b.hash) (same_kind a.kind b.kind) e in
       ap (λ (h : List ℕ). object_id h a.kind) ((bytes_eq-Decides a.hash b.hash).0 parts.0) ∙ ap (λ (k : Kind). object_id b.hash k) (same_kind-eq a.kind b.kind parts.1),
   λ e. ap (λ (x : ObjectId). same_id a x) (sym e) ∙ self_same a,
 )

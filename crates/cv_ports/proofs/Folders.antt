@@ -1,6 +1,7 @@
 -- What a folder in memory holds, and the test of its order.
-use Rattle.std.proofs.Common.{◌≡◌, ℕ, ◌-◌, ◌≤◌, ◌<◌, Bool, true, false, ◌&&◌, List, [], ◌∷◌, drop, length, get_or, length-drop, cond, Some, drop-cons, suc, refl, sym, ap, ◌∙◌, arith}
+use Rattle.std.proofs.Common.{◌≡◌, ℕ, ◌-◌, ◌≤◌, ◌<◌, true, false, ◌&&◌, List, [], ◌∷◌, drop, length, get_or, length-drop, cond, Some, drop-cons, suc, refl, sym, ap, ◌∙◌, arith}
 use Rattle.std.specs.Prelude.{unwrap_or}
+use Rattle.std.proofs.lemmas.Bool.{and_parts}
 use Rattle.std.specs.declared.cmp.Ordering.{Ordering}
 use Rattle.std.specs.declared.cmp.Ordering.TheVariants.{Less, Equal, Greater}
 use Rattle.std.specs.Ordering.{is_lt, eq_by_cmp}
@@ -14,10 +15,6 @@ use Rattle.cv_ports.specs.declared.folder.FolderItem.{FolderItem}
 use Rattle.cv_ports.specs.Folder.{Ascend, IsOrdered, ascends, names_of}
 use Rattle.cv_ports.specs.MemoryFolder.{MemoryFolderView, AllAscend, holding}
 use Rattle.cv_ports.specs.MemoryFolderInner.{all_ascend}
-
-both_true : (a b : Bool) → (a && b) ≡ true → (a ≡ true) × (b ≡ true)
-both_true true b h = (refl, h)
-both_true false b h = cc
 
 less_is : (r : Ordering) → is_lt r ≡ true → r ≡ Less
 less_is Less h = refl
@@ -36,7 +33,7 @@ unfolding IsStrictlySortedBy
 passed [] h = tt
 passed (last ∷ []) h = (tt, tt)
 passed (item ∷ next ∷ items) h =
-    let both = both_true (is_lt (name_cmp item.name next.name)) (ascends (next ∷ items)) h in
+    let both = and_parts (is_lt (name_cmp item.name next.name)) (ascends (next ∷ items)) h in
     let rest = passed (next ∷ items) both.1 in
     let first = less_is (name_cmp item.name next.name) both.0 in
     ((first, below_all item.name items next first rest.0), rest)
@@ -49,7 +46,7 @@ passes (item ∷ next ∷ items) h = rw ((h.0).0, passes (next ∷ items) h.1) r
 
 pub all_passed : (ds : List (Path × List FolderItem)) → all_ascend ds ≡ true → AllAscend ds
 all_passed [] h = tt
-all_passed (d ∷ ds) h = let both = both_true (ascends d.1) (all_ascend ds) h in (passed d.1 both.0, all_passed ds both.1)
+all_passed (d ∷ ds) h = let both = and_parts (ascends d.1) (all_ascend ds) h in (passed d.1 both.0, all_passed ds both.1)
 
 pub all_pass : (ds : List (Path × List FolderItem)) → AllAscend ds → all_ascend ds ≡ true
 all_pass [] h = refl

@@ -1,5 +1,5 @@
 -- A shelf in memory with one object more.
-use Rattle.std.proofs.Common.{◌≡◌, ℕ, Bool, true, false, cond, ◌&&◌, List, [], ◌∷◌, ◌++◌, refl, sym, ap, ◌∙◌, append_assoc}
+use Rattle.std.proofs.Common.{◌≡◌, ℕ, Bool, true, false, cond, ◌&&◌, List, [], ◌∷◌, ◌++◌, sym, ap, ◌∙◌, append_assoc}
 use Rattle.std.specs.Prelude.{Option, Some, Result, Ok, Err, OnOk}
 use Rattle.std.specs.Ordering.{nat_cmp, is_eq}
 use Rattle.std.specs.Cmp.Lexicographic.{slice_cmp}
@@ -7,6 +7,7 @@ use Rattle.std.specs.Str.{bytes_eq}
 use Rattle.std.specs.BTreeMap.{BTreeMap, Updates, is_at}
 use Rattle.std.specs.Map.{lookup}
 use Rattle.std.proofs.lemmas.Map.Text.{is_eq-slice_cmp}
+use Rattle.std.proofs.Math.Bool.{and-true, and-false}
 use Rattle.cv_base.specs.declared.id.Kind.{Kind}
 use Rattle.cv_base.specs.declared.id.Kind.TheVariants.{Plain, Catalogue, History}
 use Rattle.cv_base.specs.declared.id.ObjectId.{ObjectId}
@@ -27,25 +28,17 @@ with_kind s History es = record s { history = es }
 abbrev under : List ℕ → Entries → Option (List ℕ)
 under hash es = lookup (is_at (slice_cmp nat_cmp hash)) es
 
-and_true : (a : Bool) → (a && true) ≡ a
-and_true true = refl
-and_true false = refl
-
-and_false : (a : Bool) → (a && false) ≡ false
-and_false true = refl
-and_false false = refl
-
 -- under the hashes of the kind of what was put
 own : (es : Entries) (m n : BTreeMap (List ℕ) (List ℕ)) (hash bytes q : List ℕ) → es ≡ m.entries → Updates (slice_cmp nat_cmp) m n hash (Some bytes)
     → under q n.entries ≡ cond (bytes_eq hash q && true) (Some bytes) (under q es)
 own es m n hash bytes q was put =
-    let test : is_eq (slice_cmp nat_cmp hash q) ≡ (bytes_eq hash q && true) = is_eq-slice_cmp hash q ∙ sym (and_true (bytes_eq hash q)) in
+    let test : is_eq (slice_cmp nat_cmp hash q) ≡ (bytes_eq hash q && true) = is_eq-slice_cmp hash q ∙ sym (and-true (bytes_eq hash q)) in
     put.0 q ∙ ap (λ (b : Bool). cond b (Some bytes) (under q m.entries)) test
     ∙ ap (λ (l : Entries). cond (bytes_eq hash q && true) (Some bytes) (under q l)) (sym was)
 
 -- under those of another kind
 apart : {X : Type 0} → (b : Bool) (x y : X) → y ≡ cond (b && false) x y
-apart b x y = sym (ap (λ (a : Bool). cond a x y) (and_false b))
+apart b x y = sym (ap (λ (a : Bool). cond a x y) (and-false b))
 
 put_kind : (s : ShelfView) (k j : Kind) (m n : BTreeMap (List ℕ) (List ℕ)) (hash bytes q : List ℕ) → of_kind s k ≡ m.entries
     → Updates (slice_cmp nat_cmp) m n hash (Some bytes)

@@ -4,6 +4,7 @@ use Rattle.std.specs.Prelude.{All, IsSome, Result, Err, not, is_some, get_or}
 use Rattle.std.specs.FinMap.{get}
 use Rattle.std.proofs.lemmas.List.Elements.{All-append, All-filter, Contains-get_or}
 use Rattle.std.proofs.lemmas.Option.{slice_get-get_or}
+use Rattle.cv_pack.specs.Pack.{IsPacked}
 use Rattle.cv_base.specs.Path.{Path, IsPath, last_name_of}
 use Rattle.cv_base.specs.declared.object.Object.{Object}
 use Rattle.cv_ports.specs.Shelf.{Shelf}
@@ -23,18 +24,18 @@ use Rattle.cv_publisher.specs.declared.assembling.Delivery.{Delivery}
 use Rattle.cv_publisher.specs.declared.fault.PublishFault.{PublishFault}
 use Rattle.cv_publisher.specs.FaultsInner.{of_overlay}
 use Rattle.cv_graft.specs.declared.grafted.Grafted.{Grafted}
-use Rattle.cv_publisher.specs.Packing.{AreInOrder, AreSendable, IsOwn, objects_at}
+use Rattle.cv_publisher.specs.Packing.{AreInOrder, AreSendable, objects_at}
 use Rattle.cv_publisher.specs.PackingInner.{IsCatalogueObject}
 use Rattle.cv_publisher.proofs.Orders.{sendable}
 use Rattle.cv_publisher.specs.declared.plan.Plan.{Plan}
 
 -- the contents of changes have the ids of their bytes
-pub contents_own : (c : Nodes) (os : List Object) → AreContents c os → All IsOwn os
+pub contents_own : (c : Nodes) (os : List Object) → AreContents c os → All IsPacked os
 contents_own c os are = λ k d within.
     let own = are.own k (get_or os k d) (slice_get-get_or os k d within) in
     record { hash = ap (λ i. i.hash) own; kind = λ history. let plain = ap (λ i. i.kind) own in cc; size = are.sizes k (get_or os k d) (slice_get-get_or os k d within) }
 
-made_own : (os : List Object) → HasOwnIds os → All IsCatalogueObject os → All IsOwn os
+made_own : (os : List Object) → HasOwnIds os → All IsCatalogueObject os → All IsPacked os
 made_own os has are = λ k d within.
     let one : IsCatalogueObject (get_or os k d) = are k d within in
     record {
@@ -44,9 +45,9 @@ made_own os has are = λ k d within.
     }
 
 pub sent_own : (c : Nodes) (contents made : List Object) (fetched : Shelf) → AreContents c contents → HasOwnIds made → All IsCatalogueObject made
-    → All IsOwn (contents ++ unfetched fetched made)
+    → All IsPacked (contents ++ unfetched fetched made)
 sent_own c contents made fetched are has kinds =
-    All-append IsOwn contents (unfetched fetched made) (contents_own c contents are) (All-filter (λ (o : Object). not (is_some (fetched o.id))) IsOwn made (made_own made has kinds))
+    All-append IsPacked contents (unfetched fetched made) (contents_own c contents are) (All-filter (λ (o : Object). not (is_some (fetched o.id))) IsPacked made (made_own made has kinds))
 
 -- what is sent, by what was put in order
 pub delivers : (c : Nodes) (contents os cs xs catalogues : List Object) (ps places : List ℕ) (fetched : Shelf) (g : Grafted) (root : List ℕ) → root ≡ g.root.hash
@@ -57,7 +58,7 @@ delivers c contents os cs xs catalogues ps places fetched g root is made whole s
     let all : os ++ xs ≡ contents ++ cs = ap (λ (a : List Object). a ++ xs) whole ∙ ap (λ (b : List Object). contents ++ b) same in
     let order : AreInOrder (contents ++ cs) (objects_at (contents ++ cs) ps) = subst (λ (x : List Object). AreInOrder x (objects_at x ps)) all ordered in
     let below : All (λ p. p < length (contents ++ cs)) ps = subst (λ (x : List Object). All (λ p. p < length x) ps) all within in
-    let owned : All IsOwn (contents ++ cs) = subst (λ (x : List Object). All IsOwn (contents ++ x)) (sym made) (sent_own c contents g.added fetched are own kinds) in
+    let owned : All IsPacked (contents ++ cs) = subst (λ (x : List Object). All IsPacked (contents ++ x)) (sym made) (sent_own c contents g.added fetched are own kinds) in
     record {
       root = is;
       catalogues = kept ∙ made;

@@ -4,10 +4,9 @@ use Rattle.std.specs.Prelude.{Contains, ◌&&◌, if◌then◌else◌, not}
 use Rattle.std.proofs.lemmas.Bool.{and_parts}
 use Rattle.std.proofs.lemmas.Slice.Eq.{bytes_eq-Decides}
 use Rattle.std.specs.Str.{bytes_eq}
-use Rattle.cv_base.specs.declared.id.Kind.{Kind}
-use Rattle.cv_base.specs.declared.id.Kind.TheVariants.{Plain, Catalogue, History}
 use Rattle.cv_base.specs.declared.id.ObjectId.{ObjectId}
 use Rattle.cv_base.specs.declared.object.Object.{Object}
+use Rattle.cv_base.proofs.Laws.{same_kind-eq, same_kind-own}
 use Rattle.cv_ports.specs.Objects.{same_id, same_kind, shelf_of}
 use Rattle.cv_cut.proofs.Lemmas.{first_or_later, first_there, later_there, none_there, passes, passing}
 use Rattle.cv_publisher.specs.Assembling.{unfetched}
@@ -15,26 +14,15 @@ use Rattle.cv_publisher.specs.Assembling.{unfetched}
 abbrev pub ids_of : List Object → List ObjectId
 ids_of os = map (λ o. o.id) os
 
-same_kinds : (a b : Kind) → same_kind a b ≡ true → a ≡ b
-same_kinds Plain Plain is = refl
-same_kinds Catalogue Catalogue is = refl
-same_kinds History History is = refl
-same_kinds a b is = absurd cc
-
 same_ids : (a b : ObjectId) → same_id a b ≡ true → a ≡ b
 same_ids a b is =
     let both : (bytes_eq a.hash b.hash ≡ true) × (same_kind a.kind b.kind ≡ true) = and_parts (bytes_eq a.hash b.hash) (same_kind a.kind b.kind) is in
     let hash : a.hash ≡ b.hash = (bytes_eq-Decides a.hash b.hash).0 both.0 in
-    let kind : a.kind ≡ b.kind = same_kinds a.kind b.kind both.1 in
+    let kind : a.kind ≡ b.kind = same_kind-eq a.kind b.kind both.1 in
     λ i. record { hash = hash i; kind = kind i }
 
-own_kind : (k : Kind) → same_kind k k ≡ true
-own_kind Plain = refl
-own_kind Catalogue = refl
-own_kind History = refl
-
 own_id : (id : ObjectId) → same_id id id ≡ true
-own_id id = ap (λ (b : Bool). b && same_kind id.kind id.kind) ((bytes_eq-Decides id.hash id.hash).1 refl) ∙ own_kind id.kind
+own_id id = ap (λ (b : Bool). b && same_kind id.kind id.kind) ((bytes_eq-Decides id.hash id.hash).1 refl) ∙ same_kind-own id.kind
 
 -- what stands under an id is one of the objects
 on_shelf : (os : List Object) (id : ObjectId) → is_some (shelf_of os id) ≡ true → Contains (ids_of os) id

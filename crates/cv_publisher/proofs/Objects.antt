@@ -8,11 +8,11 @@ use Rattle.std.proofs.lemmas.List.Sums.{sum_by-append}
 use Rattle.std.proofs.lemmas.Option.{slice_get_cases, slice_get_read}
 use Rattle.cv_base.specs.declared.id.ObjectId.{ObjectId}
 use Rattle.cv_base.specs.declared.object.Object.{Object}
-use Rattle.cv_pack.specs.Pack.{contents_size, entry_of, has_room, ids}
+use Rattle.cv_pack.specs.Pack.{contents_size, entry_of, has_room, ids, IsPacked}
 use Rattle.cv_pack.specs.declared.entry.Entry.{Entry}
 use Rattle.cv_pack.specs.Reading.{object}
 use Rattle.cv_pack.specs.declared.add_fault.AddFault.{AddFault}
-use Rattle.cv_publisher.specs.Packing.{AreSendable, IsFront, IsOwn, objects_at}
+use Rattle.cv_publisher.specs.Packing.{AreSendable, IsFront, objects_at}
 
 -- an element of the first list, and one of the second, in both
 pub at_left : {X : Type 0} (xs ys : List X) (i : ℕ) (x : X) → i < length xs → x ≡ get_or xs i x → slice_get (xs ++ ys) i ≡ Some x
@@ -99,7 +99,7 @@ ids-append os more = map-append (λ (o : Object). o.id) os more
 pub sendable_take : (all : List Object) (n : ℕ) (ps : List ℕ) → AreSendable all ps → AreSendable all (take n ps)
 sendable_take all n ps are = record {
   there = All-take (λ (p : ℕ). p < length all) n ps are.there;
-  own = all_left IsOwn (objects_at all (take n ps)) (objects_at all (drop n ps)) (subst (All IsOwn) (objects_split all n ps) are.own);
+  own = all_left IsPacked (objects_at all (take n ps)) (objects_at all (drop n ps)) (subst (All IsPacked) (objects_split all n ps) are.own);
   apart =
       pairs_left Differ (ids (objects_at all (take n ps))) (ids (objects_at all (drop n ps)))
       (subst (AllPairs Differ) (ap ids (objects_split all n ps) ∙ ids-append (objects_at all (take n ps)) (objects_at all (drop n ps))) are.apart);
@@ -108,7 +108,7 @@ sendable_take all n ps are = record {
 pub sendable_drop : (all : List Object) (n : ℕ) (ps : List ℕ) → AreSendable all ps → AreSendable all (drop n ps)
 sendable_drop all n ps are = record {
   there = All-drop (λ (p : ℕ). p < length all) n ps are.there;
-  own = all_right IsOwn (objects_at all (take n ps)) (objects_at all (drop n ps)) (subst (All IsOwn) (objects_split all n ps) are.own);
+  own = all_right IsPacked (objects_at all (take n ps)) (objects_at all (drop n ps)) (subst (All IsPacked) (objects_split all n ps) are.own);
   apart =
       pairs_right Differ (ids (objects_at all (take n ps))) (ids (objects_at all (drop n ps)))
       (subst (AllPairs Differ) (ap ids (objects_split all n ps) ∙ ids-append (objects_at all (take n ps)) (objects_at all (drop n ps))) are.apart);
@@ -120,10 +120,10 @@ around : (all : List Object) (ps : List ℕ) (i : ℕ) (o : Object) → i < leng
 around all ps i o within is =
     objects_split all i ps ∙ ap (λ (x : List Object). objects_at all (take i ps) ++ x) (objects_next all ps i o within is)
 
-pub own_at : (all : List Object) (ps : List ℕ) (i : ℕ) (o : Object) → i < length ps → slice_get all (get_or ps i 0) ≡ Some o → AreSendable all ps → IsOwn o
+pub own_at : (all : List Object) (ps : List ℕ) (i : ℕ) (o : Object) → i < length ps → slice_get all (get_or ps i 0) ≡ Some o → AreSendable all ps → IsPacked o
 own_at all ps i o within is are =
-    All-head IsOwn o (objects_at all (drop (i + 1) ps))
-    (all_right IsOwn (objects_at all (take i ps)) (o ∷ objects_at all (drop (i + 1) ps)) (subst (All IsOwn) (around all ps i o within is) are.own))
+    All-head IsPacked o (objects_at all (drop (i + 1) ps))
+    (all_right IsPacked (objects_at all (take i ps)) (o ∷ objects_at all (drop (i + 1) ps)) (subst (All IsPacked) (around all ps i o within is) are.own))
 
 pub new_at : (all : List Object) (ps : List ℕ) (i : ℕ) (o : Object) → i < length ps → slice_get all (get_or ps i 0) ≡ Some o → AreSendable all ps
     → Contains (ids (objects_at all (take i ps))) o.id → ⊥

@@ -22,8 +22,8 @@ use Rattle.cv_base.specs.Path.{name_cmp}
 use Rattle.cv_base.specs.ObjectId.{id_text}
 use Rattle.cv_base.specs.declared.id.ObjectId.{ObjectId}
 use Rattle.cv_base.specs.declared.object.Object.{Object}
-use Rattle.cv_pack.specs.Pack.{ids}
-use Rattle.cv_publisher.specs.Packing.{AreInOrder, AreSendable, IsOwn, id_texts, objects_at}
+use Rattle.cv_pack.specs.Pack.{ids, IsPacked}
+use Rattle.cv_publisher.specs.Packing.{AreInOrder, AreSendable, id_texts, objects_at}
 use Rattle.cv_publisher.specs.PackingInner.{FindsFirst}
 
 abbrev Found : Type 0
@@ -234,9 +234,9 @@ ids_apart os ascend = λ i j d below within same.
       | inr past ↦ absurd (let long = past.0 in omega arith)
     ]
 
-pub sendable : (all : List Object) (ps : List ℕ) → All (λ p. p < length all) ps → All IsOwn all → AreInOrder all (objects_at all ps) → AreSendable all ps
+pub sendable : (all : List Object) (ps : List ℕ) → All (λ p. p < length all) ps → All IsPacked all → AreInOrder all (objects_at all ps) → AreSendable all ps
 sendable all ps there own order = record {
   there = there;
-  own = λ k d within. All-contains IsOwn all (get_or (objects_at all ps) k d) own (only_those all ps (get_or (objects_at all ps) k d) (Contains-get_or (objects_at all ps) k d within));
+  own = λ k d within. All-contains IsPacked all (get_or (objects_at all ps) k d) own (only_those all ps (get_or (objects_at all ps) k d) (Contains-get_or (objects_at all ps) k d within));
   apart = ids_apart (objects_at all ps) order.ascend;
 }

@@ -1,13 +1,11 @@
 -- What is sent in packs, and in which order.
 use Rattle.std.specs.Prelude.{◌≡◌, ◌≢◌, ◌≤◌, ◌<◌, ℕ, false, List, [], ◌∷◌, ◌++◌, length, map, All, AllPairs, Contains, slice_get, option_to_list}
 use Rattle.std.specs.List.Sorted.{IsStrictlySortedBy}
-use Rattle.sha1.specs.Sha1.{sha1}
 use Rattle.cv_base.specs.Path.{name_cmp}
 use Rattle.cv_base.specs.ObjectId.{id_text}
-use Rattle.cv_base.specs.declared.id.Kind.TheVariants.{History}
 use Rattle.cv_base.specs.declared.limits.TheConstants.{OBJECT_LIMIT}
 use Rattle.cv_base.specs.declared.object.Object.{Object}
-use Rattle.cv_pack.specs.Pack.{contents_size, has_room, ids}
+use Rattle.cv_pack.specs.Pack.{contents_size, has_room, ids, IsPacked}
 use Rattle.cv_pack.specs.declared.header_reader.TheConstants.{COUNT_LIMIT, TOTAL_LIMIT}
 
 -- the texts of the ids of objects
@@ -25,16 +23,10 @@ pub record AreInOrder (all os : List Object) : Type 0 where
   pub only : (o : Object) → Contains os o → Contains all o
   pub each : (o : Object) → Contains all o → Contains (id_texts os) (id_text o.id)
 
--- an object that a pack may have: its id is that of its bytes, it is no record of the history, and it has no more bytes than one may
-pub record IsOwn (o : Object) : Type 0 where
-  pub hash : o.id.hash ≡ sha1 o.bytes
-  pub kind : o.id.kind ≢ History
-  pub size : length o.bytes ≤ OBJECT_LIMIT
-
 -- these places are there, and have objects of different ids that packs may have
 pub record AreSendable (all : List Object) (places : List ℕ) : Type 0 where
   pub there : All (λ place. place < length all) places
-  pub own : All IsOwn (objects_at all places)
+  pub own : All IsPacked (objects_at all places)
   pub apart : AllPairs (λ a b. a ≢ b) (ids (objects_at all places))
 
 -- the front of these objects that one pack takes: it keeps the limits of a pack, and no longer front does

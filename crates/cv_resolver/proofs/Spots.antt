@@ -6,6 +6,7 @@ use Rattle.std.specs.declared.result.Result.TheVariants.{Ok, Err}
 use Rattle.std.specs.declared.option.Option.{Option}
 use Rattle.std.specs.declared.option.Option.TheVariants.{None, Some}
 use Rattle.std.specs.FinMap.{get}
+use Rattle.std.proofs.lemmas.Bool.{false_from_ne_true}
 use Rattle.std.proofs.lemmas.List.{map-append, length-map}
 use Rattle.std.proofs.lemmas.List.Elements.{Contains-push, Contains-push_cases, Contains-append_left}
 use Rattle.sha1.specs.Sha1.{sha1}
@@ -144,15 +145,11 @@ at_last_level t p a d front l s =
       | true ↦ λ cut.
           let both : map (λ x. x.path) front ++ l.path ∷ [] ≡ cuts_over t p ++ (p ++ a ∷ []) ∷ [] = sym (map-append (λ (x : Level). x.path) front (l ∷ [])) ∙ s.paths ∙ more_over t p a cut in
           ap (λ w. same_path w (p ++ a ∷ [])) (same_ends _ _ _ _ both).1 ∙ ap is_eq (tied_itself path_total (p ++ a ∷ []))
-      | false ↦ λ plain. different (same_path l.path (p ++ a ∷ [])) (λ same.
+      | false ↦ λ plain. false_from_ne_true (same_path l.path (p ++ a ∷ [])) (λ same.
           let here : l.path ≡ p ++ a ∷ [] = same_path_is l.path (p ++ a ∷ []) same in
           let no_cut : true ≡ false = sym ((nearest_level t (p ++ a ∷ []) d front l s).1.cut) ∙ ap (is_cut t) here ∙ plain in
           cc)
     ] refl
-  where
-    different : (b : Bool) → (b ≡ true → ⊥) → b ≡ false
-    different true h = absurd (h refl)
-    different false h = refl
 
 first_over : (t : Nodes) (p : Path) → take 1 (cuts_over t p) ≡ [] ∷ []
 first_over t [] = refl

@@ -3,6 +3,7 @@ use Rattle.std.proofs.Common.{◌≡◌, ◌≢◌, ℕ, Bool, true, false, not,
 use Rattle.std.specs.Prelude.{IsSomeAnd, MatchOption, option_to_list}
 use Rattle.std.specs.declared.option.Option.TheVariants.{None, Some}
 use Rattle.std.specs.declared.result.Result.TheVariants.{Ok, Err}
+use Rattle.std.proofs.lemmas.Bool.{not-false}
 use Rattle.std.proofs.lemmas.Slice.Eq.{bytes_eq-Decides}
 use Rattle.sha1.specs.Sha1.{sha1}
 use Rattle.cv_base.specs.ObjectId.{object_id}
@@ -11,7 +12,6 @@ use Rattle.cv_base.specs.declared.id.Kind.TheVariants as id_kind
 use Rattle.cv_tree.specs.Tree.{Nodes}
 use Rattle.cv_rows.specs.Catalogue.{Contents}
 use Rattle.cv_cut.specs.Reached.{Decodes}
-use Rattle.cv_cut.proofs.Lemmas.{not_false}
 use Rattle.cv_resolver.specs.Spot.{place_of}
 use Rattle.cv_resolver.specs.Kept.{Kept, AreOwn, kept_bytes, with_catalogue}
 use Rattle.cv_resolver.specs.Progress.{Leads}
@@ -57,7 +57,7 @@ differ a b r is differs same =
     cc
 
 pub agree : (a b : List ℕ) (r : Bool) → r ≡ not (bytes_eq a b) → r ≡ false → a ≡ b
-agree a b r is same = (bytes_eq-Decides a b).0 (not_false (bytes_eq a b) (sym is ∙ same))
+agree a b r is same = (bytes_eq-Decides a b).0 (not-false (bytes_eq a b) (sym is ∙ same))
 
 pub takes_other : (repository : List ℕ) (q : Question) (k : Kept) (was : Stage) (given : Option (List ℕ)) (id : ObjectId) (bytes found : List ℕ) (r : Bool) → wanted_by was ≡ Some id → given ≡ Some bytes → found ≡ sha1 bytes → r ≡ not (bytes_eq found id.hash) → r ≡ true
     → Takes repository q k was given k (Ends (Err (BadObject id found)))

@@ -3,6 +3,7 @@ use Rattle.std.proofs.Common.{◌≡◌, ℕ, zero, suc, ◌≤◌, Bool, true, 
 use Rattle.std.specs.Prelude.{Contains, bytes_eq}
 use Rattle.std.specs.List.{All, flat_map}
 use Rattle.std.specs.List.Sorted.{IsStrictlySortedBy}
+use Rattle.std.proofs.lemmas.Bool.{not-true}
 use Rattle.std.proofs.lemmas.List.Concat.{flat_map-cons}
 use Rattle.std.proofs.lemmas.List.Elements.{All-from_recursion, recursion_from_All, All-filter, All-contains, All-contains_itself, filter_passes, Contains-append_right}
 use Rattle.std.proofs.lemmas.List.Folds.{Any-from_list_any, list_any-from_Any}
@@ -57,10 +58,6 @@ module _ {X : Type 0} (p : X → Bool) where
         | false ↦ omega (arith, rest, whole)
       ]
 
-not_covered : (b : Bool) → not b ≡ true → b ≡ false
-not_covered true h = absurd cc
-not_covered false h = refl
-
 -- ---- markers
 
 no_root : (at : Path) (kind : RowKind) → same_kind kind File ≡ true → kind ≡ root_kind at → ⊥
@@ -90,7 +87,7 @@ module _ (c : Contents) (path : Path) (is : IsCatalogue c) (outside : covers pat
 
   -- one that stays stands outside
   stays_outside : (r : Row) (q : Path) → StandsAt c.at c.rows r q → stays r ≡ true → covers path q ≡ false
-  stays_outside r q s here = not_covered (covers path q) (sym (stays_is r q s) ∙ here)
+  stays_outside r q s here = not-true (covers path q) (sym (stays_is r q s) ∙ here)
 
   still_stands : {r : Row} {q : Path} → StandsAt c.at c.rows r q → covers path q ≡ false → StandsAt c.at left_rows r q
   still_stands {r} (root has top) out = root (kept stays c.rows r has (outside_stays r c.at (root has top) out)) top
@@ -136,7 +133,7 @@ module _ (c : Contents) (path : Path) (is : IsCatalogue c) (outside : covers pat
       placed = all_kept stays (λ r. (q : Path) × StandsAt c.at c.rows r q × FitsAt c.at r q) (λ r. (q : Path) × StandsAt c.at left_rows r q × FitsAt c.at r q) c.rows is.region.placed (λ r has here h. (h.0, still_stands h.1 (stays_outside r h.0 h.1 here), h.2));
       marked = all_kept stays (λ r. (q : Path) × StandsAt c.at c.rows r q × FitsAt c.at r q) (IsMarkedWell c.at left_rows) c.rows is.region.placed (λ r has here h.
           subst (λ (b : Bool). IsMarkedSo c.at r b) (markers_left r h.0 h.1 (stays_outside r h.0 h.1 here)) (All-contains (IsMarkedWell c.at c.rows) c.rows r is.region.marked has));
-      named = all_kept _ (λ n. IsTransitionAt c.at c.rows n.path) (λ n. IsTransitionAt c.at left_rows n.path) c.nested is.region.named (λ n has here h. record { row = h.row; kind = h.kind; stands = still_stands h.stands (not_covered (covers path n.path) here) });
+      named = all_kept _ (λ n. IsTransitionAt c.at c.rows n.path) (λ n. IsTransitionAt c.at left_rows n.path) c.nested is.region.named (λ n has here h. record { row = h.row; kind = h.kind; stands = still_stands h.stands (not-true (covers path n.path) here) });
       listed = all_kept stays (IsListed c.at c.rows c.nested) (IsListed c.at left_rows left_nested) c.rows is.region.listed (λ r has here h kind.
           let n = h kind in
           let out = stays_outside r n.0.path n.2 here in

@@ -13,6 +13,7 @@ mod ParentLaws
 mod Steps
 mod Reach
 mod PlaceLaws
+mod Placed
 mod Walks
 mod Spelled
 mod MarkerLaws

@@ -2,7 +2,7 @@
 use Rattle.std.proofs.Common.{◌≡◌, ℕ, suc, ◌+◌, ◌-◌, ◌^◌, ◌<◌, ◌⊎◌, Bool, true, false, not, cond, ltb, leb, eqb, ◌&&◌, List, [], ◌∷◌, ◌++◌, length, Option, Some, None, Result, Ok, Err, refl, sym, ap, subst, ◌∙◌, append_assoc, arith, inl, inr}
 use Rattle.std.specs.Prelude.{IsSomeAnd}
 use Rattle.std.specs.Int.{w16, w32, w64, to_be_bytes}
-use Rattle.std.proofs.lemmas.Bool.{eqb-true}
+use Rattle.std.proofs.lemmas.Bool.{eqb-true, not-false}
 use Rattle.std.proofs.lemmas.Bool.Decides.{nat_tests}
 use Rattle.hex.specs.Hex.{IsBytes}
 use Rattle.cv_base.specs.Attr.{IsAttr}
@@ -287,12 +287,8 @@ target_takes all kind size sized text target rest fits e =
     let g = guard_ended (is_target b.0.0) (bad all a.0.1) b.0 (target, rest) p.1 in
     let len = length_takes all (target_limit kind) text a.0.0 a.0.1 fits a.1 in
     let t = bytes_take Short a.0.0 a.0.1 b.0.0 b.0.1 len.0.rest_fits b.1 in
-    let fit : TargetFits kind size b.0.0 = record { limit = rw t.size len.1; size_is = not_false (is_size_of kind size b.0.0) p.0; text = g.0 } in
+    let fit : TargetFits kind size b.0.0 = record { limit = rw t.size len.1; size_is = not-false (is_size_of kind size b.0.0) p.0; text = g.0 } in
     subst (λ (x : List ℕ × List ℕ). Takes text (text_field x.0) x.1 × TargetFits kind size x.0) g.1 (text_takes text a.0.0 a.0.1 b.0.0 b.0.1 len.0 t, fit)
-  where
-    not_false : (b : Bool) → not b ≡ false → b ≡ true
-    not_false true h = refl
-    not_false false h = cc
 
 target_short : (kind : RowKind) (n : ℕ) → leb n (target_limit kind) ≡ true → n < 2 ^ 16
 target_short Directory n h = grind (arith, nat_tests)

@@ -1,4 +1,4 @@
--- The first fault of bytes that are no row file: that of a field, or else the first rule that rows and
+-- The first fault of bytes that are no row file: that of a field, or else the first rule that rows and nested entries break.
 use Rattle.std.specs.Prelude.{◌≡◌, ◌≢◌, ℕ, ◌+◌, ◌-◌, ◌<◌, ◌⊎◌, List, length, slice_index_or, Contains, Result, Ok, Err}
 use Rattle.std.specs.declared.cmp.Ordering.{Ordering}
 use Rattle.std.specs.declared.cmp.Ordering.TheVariants.{Less}

@@ -1,4 +1,4 @@
--- The first fault of bytes that are no row file: that of a field, or else the first rule that rows and What only this crate's own functions say.
+-- The first fault of bytes that are no row file: that of a field, or else the first rule that rows and nested entries break. What only this crate's own functions say.
 use Rattle.std.specs.Prelude.{ℕ, Bool, true, false, List, slice_index_or, Result, Ok, Err}
 use Rattle.std.specs.List.{All}
 use Rattle.cv_base.specs.Path.{Path}

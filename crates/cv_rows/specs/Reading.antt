@@ -1,4 +1,7 @@
--- Reading the fields of a row file, one after another from its first byte on: its rows and nested
+-- Reading the fields of a row file, one after another from its first byte on: its rows and nested entries, or the first fault.
+-- Bytes that are a row file's are read so, and no others are (`file_of` spells them). Where a value isn't as it has to be the fault
+-- is the offset of its field; that of a text is the offset of the length where it passes its limit, and of the bytes otherwise. The
+-- size of a link is judged at once where no target has that size, and once the target is there otherwise.
 use Rattle.std.specs.Prelude.{ℕ, zero, suc, ◌+◌, ◌-◌, Bool, true, not, ◌&&◌, ◌==◌, nat_le, nat_lt, bytes_eq, if◌then◌else◌, List, [], ◌∷◌, length, take, drop, codes, Option, Some, None, Result, Ok, Err}
 use Rattle.std.specs.Int.{w16, w32, w64, from_be_bytes}
 use Rattle.cv_base.specs.Fields.{accepted, number_at, bytes_at}

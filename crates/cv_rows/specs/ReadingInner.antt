@@ -1,4 +1,4 @@
--- Reading the fields of a row file, one after another from its first byte on: its rows and nested What only this crate's own functions say.
+-- Reading the fields of a row file, one after another from its first byte on: its rows and nested entries, or the first fault. What only this crate's own functions say.
 use Rattle.std.specs.Prelude.{◌≡◌, ℕ, if◌then◌else◌, List, Option, Some, None, Result, Ok, Err}
 use Rattle.cv_rows.specs.Row.{is_row_name}
 use Rattle.cv_rows.specs.declared.row_fault.RowFault.{RowFault}

@@ -1,15 +1,11 @@
 -- Bytes are the same where no bit of them differs.
-use Rattle.std.proofs.Common.{◌≡◌, ℕ, zero, suc, Bool, true, false, ◌&&◌, ◌==◌, ◌+◌, ◌*◌, ◌≤◌, List, ◌∷◌, length, take, drop, slice_index_or, bit_and, bit_or, refl, sym, subst, ◌∙◌, ◌<◌, arith, inl, inr}
-use Rattle.std.specs.Int.Bits.{bit_xor, xor_self, xor_add_and, or_zero_l}
+use Rattle.std.proofs.Common.{◌≡◌, ℕ, zero, suc, ◌&&◌, ◌==◌, ◌+◌, ◌≤◌, List, length, drop, slice_index_or, bit_or, sym, subst, ◌∙◌, ◌<◌, arith, inl, inr}
+use Rattle.std.specs.Int.Bits.{bit_xor, xor_self, xor_add_and}
 use Rattle.std.specs.Str.{bytes_eq}
 use Rattle.std.proofs.lemmas.Bool.{eq-eqb, ne_eqb, cases_eq, and_left}
 use Rattle.std.proofs.lemmas.Nat.{and_le_l, and_le_r, le_or_l}
 use Rattle.std.proofs.lemmas.List.{drop_more, drop_all}
-use Rattle.std.proofs.Math.Bool.{and_assoc}
-
-and_true : (b : Bool) → (b && true) ≡ b
-and_true true = refl
-and_true false = refl
+use Rattle.std.proofs.Math.Bool.{and_assoc, and-true}
 
 same_if_none : (a b : ℕ) → bit_xor a b ≡ 0 → a ≡ b
 same_if_none a b none = omega (arith, xor_add_and a b, and_le_l a b, and_le_r a b, none)
@@ -42,4 +38,4 @@ next_place found place one other in_one in_other =
 pub last_place : (found place : ℕ) (one other : List ℕ) → length one ≤ place → length other ≤ place →
     ((found == 0) && bytes_eq (drop place one) (drop place other)) ≡ (found == 0)
 last_place found place one other past_one past_other =
-    rw (drop_all place one past_one, drop_all place other past_other) (and_true (found == 0))
+    rw (drop_all place one past_one, drop_all place other past_other) (and-true (found == 0))

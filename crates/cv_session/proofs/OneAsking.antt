@@ -1,15 +1,9 @@
 -- What a request asks for is one thing.
-use Rattle.std.proofs.Common.{◌≡◌, ◌++◌, ℕ, List, length, take, drop, codes, refl, ap, sym, ◌∙◌, arith, append_assoc}
+use Rattle.std.proofs.Common.{◌≡◌, ℕ, List, codes, refl, ap, sym, ◌∙◌, arith}
 use Rattle.std.specs.Prelude.{slice_index_or}
-use Rattle.std.proofs.lemmas.List.{take-append-drop, length-take, length-drop, append_cancel_left}
-use Rattle.hex.specs.Hex.{encode_lower, lower_digits, decode_of}
-use Rattle.hex.proofs.HexLemmas.{length-encode_with, decode_of-encode_lower, decode_of-same}
-use Rattle.cv_base.specs.Digest.{IsDigest}
-use Rattle.cv_base.specs.ObjectId.{object_id, file_name, suffix_of}
-use Rattle.cv_base.specs.declared.id.Kind.{Kind}
-use Rattle.cv_base.specs.declared.id.Kind.TheVariants.{Plain, Catalogue, History}
-use Rattle.cv_base.specs.declared.id.ObjectId.{ObjectId}
-use Rattle.cv_base.proofs.Laws.{same_parts}
+use Rattle.std.proofs.lemmas.List.{append_cancel_left}
+use Rattle.cv_base.specs.ObjectId.{file_name}
+use Rattle.cv_base.proofs.Laws.{one_file_name}
 use Rattle.cv_http.specs.declared.head.RequestHead.{RequestHead}
 use Rattle.cv_http.specs.declared.method.Method.{Method}
 use Rattle.cv_http.specs.declared.method.Method.TheVariants.{Get, Post, Delete, Other}
@@ -24,41 +18,6 @@ use Rattle.cv_session.specs.declared.turn.Turn.{Turn}
 use Rattle.cv_session.specs.declared.turn.Turn.TheVariants.{Serve}
 use Rattle.cv_session.proofs.Targeting.{same_file}
 
-one_hash : (h h' : List ℕ) → IsDigest h → IsDigest h' → encode_lower h ≡ encode_lower h' → h ≡ h'
-one_hash h h' is is' e =
-    decode_of-same (encode_lower h) h h' (decode_of-encode_lower h is.bytes) (ap decode_of e ∙ decode_of-encode_lower h' is'.bytes)
-
-one_kind : (k k' : Kind) → suffix_of k ≡ suffix_of k' → k ≡ k'
-one_kind Plain Plain e = refl
-one_kind Plain Catalogue e = cc
-one_kind Plain History e = cc
-one_kind Catalogue Plain e = cc
-one_kind Catalogue Catalogue e = refl
-one_kind Catalogue History e = let first : 67 ≡ 72 = ap (λ l. slice_index_or l 0 0) e in absurd (omega (arith, first))
-one_kind History Plain e = cc
-one_kind History Catalogue e = let first : 72 ≡ 67 = ap (λ l. slice_index_or l 0 0) e in absurd (omega (arith, first))
-one_kind History History e = refl
-
-of_parts : {h h' : List ℕ} {k k' : Kind} → h ≡ h' → k ≡ k' → object_id h k ≡ object_id h' k'
-of_parts hash kind = rw (hash, kind) refl
-
-file_name_is : (id : ObjectId) → file_name id ≡ codes "data/" ++ (take 2 (encode_lower id.hash) ++ (codes "/" ++ (drop 2 (encode_lower id.hash) ++ suffix_of id.kind)))
-file_name_is id = simp append_assoc
-
--- files of one name are those of one object
-one_object : (id id' : ObjectId) → IsDigest id.hash → IsDigest id'.hash → file_name id ≡ file_name id' → id ≡ id'
-one_object id id' is is' e =
-    let d : List ℕ = encode_lower id.hash in
-    let d' : List ℕ = encode_lower id'.hash in
-    let size : length d ≡ 40 = omega (arith, length-encode_with lower_digits id.hash, is.size) in
-    let size' : length d' ≡ 40 = omega (arith, length-encode_with lower_digits id'.hash, is'.size) in
-    let one = append_cancel_left (codes "data/") _ _ (sym (file_name_is id) ∙ e ∙ file_name_is id') in
-    let two = same_parts 2 (take 2 d) (take 2 d') _ _ (rw (length-take, size) refl) (rw (length-take, size') refl) one in
-    let three = append_cancel_left (codes "/") _ _ two.1 in
-    let four = same_parts 38 (drop 2 d) (drop 2 d') _ _ (rw (length-drop, size) refl) (rw (length-drop, size') refl) three in
-    let digits : d ≡ d' = sym (take-append-drop 2 d) ∙ rw (two.0, four.0) (take-append-drop 2 d') in
-    of_parts (one_hash id.hash id'.hash is is' digits) (one_kind id.kind id'.kind four.1)
-
 one_resource : (repository target : List ℕ) (r r' : Resource) → Names repository target r → Names repository target r' → r ≡ r'
 one_resource repository target _ _ (manifest e) (manifest e') = refl
 one_resource repository target _ _ (manifest e) (object id is e') =
@@ -66,7 +25,7 @@ one_resource repository target _ _ (manifest e) (object id is e') =
 one_resource repository target _ _ (object id is e) (manifest e') =
     let first : 46 ≡ 100 = ap (λ l. slice_index_or l 0 0) (same_file repository target manifest_name e' (file_name id) e) in absurd (omega (arith, first))
 one_resource repository target _ _ (object id is e) (object id' is' e') =
-    ap Object (one_object id id' is is' (same_file repository target (file_name id) e (file_name id') e'))
+    ap Object (one_file_name id id' is is' (same_file repository target (file_name id) e (file_name id') e'))
 
 -- the targets of resources begin apart from those of the interface
 second_byte : (repository target : List ℕ) (r : Resource) → Names repository target r → slice_index_or target 1 0 ≡ 99

@@ -1,4 +1,5 @@
 -- What a payload asks: its message size is judged first, then the authorization, the message, the digest of the pack's header,
+-- the pack, and the header's length.
 use Rattle.std.specs.Prelude.{◌==◌, ℕ, Bool, true, false, List, Option, Some, None, Result, Ok, Err, bytes_eq, take, drop, length, nat_le, ◌&&◌, if◌then◌else◌}
 use Rattle.sha1.specs.Sha1.{sha1}
 use Rattle.cv_base.specs.declared.object.Object.{Object}

@@ -1,4 +1,5 @@
--- What a payload asks: its message size is judged first, then the authorization, the message, the digest of the pack's header, What only this crate's own functions say.
+-- What a payload asks: its message size is judged first, then the authorization, the message, the digest of the pack's header,
+-- the pack, and the header's length. What only this crate's own functions say.
 use Rattle.std.specs.Prelude.{◌≡◌, ◌++◌, ◌<◌, ℕ, List, Option, Result, Ok, Err, length}
 use Rattle.cv_ports.specs.Streams.{Look}
 use Rattle.cv_http.specs.Wires.{WireView, Reads, Looks, Beside, BodyRead}

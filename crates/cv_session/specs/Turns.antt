@@ -1,4 +1,5 @@
 -- What a request asks: for a lease, a commit and a lease's end the authorization is judged first, then the message, the
+-- repository and the path.
 use Rattle.std.specs.Prelude.{◌≡◌, ◌≢◌, ◌==◌, ℕ, List, Option, Some, None, Result, Ok, Err, bytes_eq, drop, length, if◌then◌else◌}
 use Rattle.std.specs.List.{before_first}
 use Rattle.cv_base.specs.Path.{Path}

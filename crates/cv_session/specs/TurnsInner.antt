@@ -1,4 +1,5 @@
--- What a request asks: for a lease, a commit and a lease's end the authorization is judged first, then the message, the What only this crate's own functions say.
+-- What a request asks: for a lease, a commit and a lease's end the authorization is judged first, then the message, the
+-- repository and the path. What only this crate's own functions say.
 use Rattle.std.specs.Prelude.{◌≡◌, true}
 use Rattle.cv_answers.specs.Refusal.{is_refusal}
 use Rattle.cv_gate.specs.Step.{IsOp}

@@ -2,6 +2,7 @@
 use Rattle.std.proofs.Common.{◌≡◌, suc, List, [], ◌∷◌, ◌++◌, refl, sym, ap, subst, ◌∙◌, arith, append_assoc}
 use Rattle.std.specs.declared.option.Option.TheVariants.{Some}
 use Rattle.std.proofs.lemmas.List.{append-nil}
+use Rattle.std.proofs.lemmas.Option.{same_Some}
 use Rattle.sha1.specs.Sha1.{sha1}
 use Rattle.cv_base.specs.ObjectId.{object_id}
 use Rattle.cv_base.specs.declared.id.Kind.TheVariants.{History}
@@ -58,14 +59,11 @@ first_chain shelf r is one = subst (λ n. Chain (StandsAt shelf) n (record_id r.
   chain = refl;
 })
 
-some_revision : {a b : Revision} → Some a ≡ Some b → a ≡ b
-some_revision e = cc
-
 -- the chain of a line, from its newest record back
 pub line_chain : (shelf : Shelf) (history : List Revision) (last : Revision) → IsLine shelf history → newest history ≡ Some last
     → Chain (StandsAt shelf) last.record_.revision (record_id last.record_) (records_of history)
 line_chain shelf [] last h e = absurd h
 line_chain shelf (r ∷ rest) last h e =
-    let same : last_of r rest ≡ last = some_revision (sym (newest_is r rest) ∙ e) in
+    let same : last_of r rest ≡ last = same_Some _ _ (sym (newest_is r rest) ∙ e) in
     subst (λ (x : Revision). Chain (StandsAt shelf) x.record_.revision (record_id x.record_) (records_of (r ∷ rest))) same
     (grow shelf r rest (r.record_ ∷ []) h.2 (first_chain shelf r h.0 h.1))

@@ -1,6 +1,7 @@
 -- A repository is made, call by call.
 use Rattle.std.proofs.Common.{◌≡◌, ◌≢◌, ◌⊎◌, ◌<◌, ◌^◌, ℕ, Bool, true, false, List, [], ◌∷◌, refl, sym, ap, subst, ◌∙◌, inl, inr, arith}
 use Rattle.std.specs.Prelude.{IsErrAnd, if◌then◌else◌}
+use Rattle.std.proofs.lemmas.Option.{same_Some}
 use Rattle.std.specs.List.{Contains}
 use Rattle.std.specs.declared.option.Option.{Option}
 use Rattle.std.specs.declared.option.Option.TheVariants.{None, Some}
@@ -34,7 +35,7 @@ use Rattle.cv_swap.specs.Faults.{init_fault_of, init_fault_in}
 use Rattle.cv_swap.specs.Init.{StandsFirst, HasFirst, BringsRevision, before_it, the_head, WhileInit, InitLeaves, not_yet, whole, Answers, Makes, MakesFirst}
 use Rattle.cv_swap.specs.declared.init_fault.InitFault.{InitFault}
 use Rattle.cv_swap.specs.declared.init_fault.InitFault.TheVariants as init_fault
-use Rattle.cv_swap.proofs.Names.{head_not_data, epoch_not_data, epoch_not_head, some_is}
+use Rattle.cv_swap.proofs.Names.{head_not_data, epoch_not_data, epoch_not_head}
 use Rattle.cv_swap.proofs.Named.{first_named}
 use Rattle.cv_swap.proofs.Begins.{within_beside, gains_beside, first_before, first_between, first_leaves, first_makes}
 use Rattle.cv_swap.proofs.FirstSound.{first_sound, first_batch_is}
@@ -61,7 +62,7 @@ built_shelf d d1 now hashed g = record { hash = λ id bytes e. by id bytes (is_d
     changed id bytes digest (Stays s l) e = sym (hashed.each id (digest_back id.hash digest) bytes (sym s ∙ e))
     changed id bytes digest (Comes (an_object b) l) e =
         let is : id ≡ b.object.id = one_file_name id b.object.id (digest_back id.hash digest) (is_digest_of (first_batch now) b.object (first_named now) b.among) b.one.name in
-        ap (λ (x : ObjectId). x.hash) is ∙ (first_named now).each b.object b.among ∙ ap sha1 (some_is (sym b.one.file ∙ e))
+        ap (λ (x : ObjectId). x.hash) is ∙ (first_named now).each b.object b.among ∙ ap sha1 (same_Some _ _ (sym b.one.file ∙ e))
     changed id bytes digest (Comes (the_epoch c) l) e = absurd (epoch_not_data id (sym c.0))
 
     by : (id : ObjectId) (bytes : List ℕ) (b : Bool) → is_digest id.hash ≡ b → standing_on d1 id ≡ Some bytes → id.hash ≡ sha1 bytes

@@ -1,6 +1,6 @@
 -- The names of the line's files, which are none of objects.
 use Rattle.std.proofs.Common.{◌≡◌, ◌≢◌, ◌<◌, ◌^◌, ℕ, Bool, true, false, List, [], ◌∷◌, nat_eq, codes, length, ◌+◌, length-append, refl, ap, ◌∙◌, arith}
-use Rattle.std.specs.Prelude.{decimal, None, Some, if◌then◌else◌}
+use Rattle.std.specs.Prelude.{decimal, None, if◌then◌else◌}
 use Rattle.std.specs.List.{starts_with}
 use Rattle.std.proofs.lemmas.List.{append_cancel_right}
 use Rattle.std.proofs.lemmas.Fmt.{decimal_injective}
@@ -38,9 +38,6 @@ epoch_not_head = tested is_head epoch_name head_name refl refl
 
 pub same_epoch : (m n : ℕ) → m < 2 ^ 64 → n < 2 ^ 64 → epoch_text m ≡ epoch_text n → m ≡ n
 same_epoch m n a b e = decimal_injective m n a b (append_cancel_right (decimal m) (decimal n) (10 ∷ []) e)
-
-pub some_is : {a b : List ℕ} → Some a ≡ Some b → a ≡ b
-some_is e = cc
 
 -- the same files, the same objects
 pub same_object : (f g : Files) (id : ObjectId) → f (file_name id) ≡ g (file_name id) → objects_of f id ≡ objects_of g id

@@ -1,6 +1,7 @@
 -- What is kept stands on while objects come.
 use Rattle.std.proofs.Common.{◌≡◌, ◌≢◌, ◌⊎◌, ℕ, Bool, true, false, List, refl, sym, ap, subst, ◌∙◌, inl, inr}
 use Rattle.std.specs.Prelude.{if◌then◌else◌}
+use Rattle.std.proofs.lemmas.Option.{same_Some}
 use Rattle.std.specs.declared.option.Option.TheVariants.{None, Some}
 use Rattle.sha1.specs.Sha1.{sha1}
 use Rattle.cv_base.specs.ObjectId.{file_name}
@@ -19,7 +20,7 @@ use Rattle.cv_objects.proofs.Lemmas.{digest_back, is_digest_of, gains_some}
 use Rattle.cv_swap.specs.Kept.{Kept, Revision}
 use Rattle.cv_swap.specs.Stands.{Stands, HasRevisions, AddObjects, Publishes, head_name, epoch_name, head_of}
 use Rattle.cv_swap.proofs.Growing.{sound_more}
-use Rattle.cv_swap.proofs.Names.{head_not_data, epoch_not_data, same_object, some_is}
+use Rattle.cv_swap.proofs.Names.{head_not_data, epoch_not_data, same_object}
 
 -- a crash may leave what is there now
 pub may_now : (m : Mark) (x : File) → LeftAt x m x
@@ -88,7 +89,7 @@ hashed_more : (batch : List Object) (s s' : Shelf) → AreNamed batch → ShelfG
 hashed_more batch s s' named g h = record {
   hash = λ id bytes e. elim (g.each id) [
     | inl same ↦ h.hash id bytes (sym same ∙ e)
-    | inr gained ↦ ap (λ (x : ObjectId). x.hash) gained.is ∙ named.each gained.object gained.among ∙ ap sha1 (some_is (sym gained.file ∙ e))
+    | inr gained ↦ ap (λ (x : ObjectId). x.hash) gained.is ∙ named.each gained.object gained.among ∙ ap sha1 (same_Some _ _ (sym gained.file ∙ e))
   ];
 }
 

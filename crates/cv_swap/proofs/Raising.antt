@@ -1,5 +1,6 @@
 -- The epoch is raised, and what the files stand for.
 use Rattle.std.proofs.Common.{◌≡◌, ◌≢◌, ◌⊎◌, ◌<◌, ◌^◌, ◌+◌, ℕ, Bool, false, List, refl, sym, ap, subst, ◌∙◌, inl, inr, arith}
+use Rattle.std.proofs.lemmas.Option.{same_Some}
 use Rattle.std.specs.declared.option.Option.TheVariants.{Some}
 use Rattle.cv_base.specs.ObjectId.{file_name}
 use Rattle.cv_base.specs.declared.id.ObjectId.{ObjectId}
@@ -11,7 +12,7 @@ use Rattle.cv_vault.proofs.Laws.{may_settled, calm_image}
 use Rattle.cv_swap.specs.Kept.{Kept, raised}
 use Rattle.cv_swap.specs.Stands.{Stands, Publishes, head_name, epoch_name, epoch_text, head_of}
 use Rattle.cv_swap.specs.Opening.{AsRaised, IsRaised}
-use Rattle.cv_swap.proofs.Names.{epoch_not_data, epoch_not_head, same_epoch, same_object, some_is}
+use Rattle.cv_swap.proofs.Names.{epoch_not_data, epoch_not_head, same_epoch, same_object}
 
 -- files that are as those that stand for what is kept, but for the epoch
 stands_with : (name : List ℕ) (is_seal : List ℕ → List ℕ → Bool) (f g : Files) (k : Kept) (epoch : ℕ) → Stands name is_seal f k → epoch < 2 ^ 64
@@ -35,7 +36,7 @@ stands_while name is_seal d f k s a = by (a.each epoch_name refl)
     by : (f epoch_name ≡ (d epoch_name).now) ⊎ IsRaised d epoch_name (f epoch_name) → Stands name is_seal f k ⊎ Stands name is_seal f (raised k)
     by (inl same) = inl (stands_with name is_seal (files_now d) f k k.epoch s s.kept.epoch (other head_name refl epoch_not_head) (λ id. other (file_name id) refl (epoch_not_data id)) (same ∙ s.epoch))
     by (inr r) =
-        let is : r.epoch ≡ k.epoch = same_epoch r.epoch k.epoch (let x = r.room in omega arith) s.kept.epoch (some_is (sym r.before ∙ s.epoch)) in
+        let is : r.epoch ≡ k.epoch = same_epoch r.epoch k.epoch (let x = r.room in omega arith) s.kept.epoch (same_Some _ _ (sym r.before ∙ s.epoch)) in
         let room : k.epoch + 1 < 2 ^ 64 = (let x = r.room in omega (arith, is)) in
         inr (stands_with name is_seal (files_now d) f k (k.epoch + 1) s room (other head_name refl epoch_not_head) (λ id. other (file_name id) refl (epoch_not_data id)) (r.after ∙ ap (λ n. Some (epoch_text (n + 1))) is))
 
@@ -54,7 +55,7 @@ stands_raised name is_seal d d' k epoch s before room g sure f i =
     stands_with name is_seal (files_now d) f k (k.epoch + 1) s limit (same head_name refl epoch_not_head) (λ id. same (file_name id) refl (epoch_not_data id)) (calm_image d' sure.calm f i epoch_name ∙ sure.there ∙ ap (λ n. Some (epoch_text (n + 1))) is)
   where
     is : epoch ≡ k.epoch
-    is = same_epoch epoch k.epoch (omega (arith, room)) s.kept.epoch (some_is (sym before ∙ s.epoch))
+    is = same_epoch epoch k.epoch (omega (arith, room)) s.kept.epoch (same_Some _ _ (sym before ∙ s.epoch))
 
     limit : k.epoch + 1 < 2 ^ 64
     limit = omega (arith, room, is)

@@ -1,5 +1,6 @@
 -- Files that stand for what is kept are refused by the last epoch alone.
 use Rattle.std.proofs.Common.{◌≡◌, ℕ, Bool, List, sym, ap, subst, ◌∙◌}
+use Rattle.std.proofs.lemmas.Option.{same_Some}
 use Rattle.std.specs.declared.option.Option.TheVariants.{None, Some}
 use Rattle.cv_vault.specs.Disk.{File, Files}
 use Rattle.cv_ports.specs.Shelf.{Shelf}
@@ -15,7 +16,6 @@ use Rattle.cv_swap.specs.Stands.{Stands, Publishes, head_name, head_of, history_
 use Rattle.cv_swap.specs.Opening.{Refuses, IsNoManifest, IsOthers, MayRefuse}
 use Rattle.cv_swap.specs.declared.open_fault.OpenFault.{OpenFault}
 use Rattle.cv_swap.specs.declared.open_fault.OpenFault.TheVariants.{NoRepository, BadManifest, OtherName, BadHistory, BadEpoch, EpochsSpent, Failed, NoMemory}
-use Rattle.cv_swap.proofs.Names.{some_is}
 use Rattle.cv_swap.proofs.Chains.{line_chain, record_id}
 use Rattle.cv_swap.proofs.Reopened.{one_head}
 
@@ -25,7 +25,7 @@ no_file e n = cc
 -- the bytes that are there
 module _ (name : List ℕ) (is_seal : List ℕ → List ℕ → Bool) (file : File) (head : Head) (p : Publishes name is_seal file head) where
   says_at : (text : List ℕ) → file ≡ Some text → Says is_seal text p.manifest
-  says_at text e = subst (λ t. Says is_seal t p.manifest) (some_is (sym p.present ∙ e)) p.says
+  says_at text e = subst (λ t. Says is_seal t p.manifest) (same_Some _ _ (sym p.present ∙ e)) p.says
 
   pub is_manifest : (fault : _) → IsNoManifest is_seal file fault → ⊥
   is_manifest fault h = h.said (no_fault is_seal h.text p.manifest (says_at h.text h.present) fault h.shows)

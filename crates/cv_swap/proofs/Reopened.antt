@@ -1,5 +1,6 @@
 -- What files that stand for what is kept are opened with.
 use Rattle.std.proofs.Common.{◌≡◌, ℕ, Bool, List, sym, ap, subst, ◌∙◌, arith}
+use Rattle.std.proofs.lemmas.Option.{same_Some}
 use Rattle.cv_vault.specs.Disk.{Files}
 use Rattle.cv_ports.specs.Shelf.{Shelf}
 use Rattle.cv_history.specs.Chain.{Chain, StandsAt}
@@ -13,13 +14,13 @@ use Rattle.cv_swap.specs.Kept.{Kept, records_of}
 use Rattle.cv_swap.specs.Stands.{Stands, Publishes, head_name, head_of, history_id}
 use Rattle.cv_swap.specs.Opening.{IsFound, IsOf}
 use Rattle.cv_swap.specs.declared.found.Found.{Found}
-use Rattle.cv_swap.proofs.Names.{some_is, same_epoch}
+use Rattle.cv_swap.proofs.Names.{same_epoch}
 use Rattle.cv_swap.proofs.Chains.{line_chain, record_id}
 
 -- a file publishes one head
 pub one_head : (name : List ℕ) (is_seal : List ℕ → List ℕ → Bool) (file : _) (a b : Head) → Publishes name is_seal file a → Publishes name is_seal file b → a ≡ b
 one_head name is_seal file a b x y =
-    let text : x.text ≡ y.text = some_is (sym x.present ∙ y.present) in
+    let text : x.text ≡ y.text = same_Some _ _ (sym x.present ∙ y.present) in
     let same : x.manifest ≡ y.manifest = one_reading is_seal y.text x.manifest y.manifest (subst (λ t. Says is_seal t x.manifest) text x.says) y.says in
     sym x.is ∙ ap (λ (m : Manifest). m.head) same ∙ y.is
 
@@ -29,7 +30,7 @@ found_of name is_seal f k found s is = record {
   is_newest = s.is_newest;
   head = heads;
   records = one_chain (objects_of f) (head_of s.newest_).revision (history_id (head_of s.newest_)) found.records (records_of k.history) given own;
-  epoch = same_epoch found.epoch k.epoch (let r = is.room in omega arith) s.kept.epoch (some_is (sym is.epoch ∙ s.epoch));
+  epoch = same_epoch found.epoch k.epoch (let r = is.room in omega arith) s.kept.epoch (same_Some _ _ (sym is.epoch ∙ s.epoch));
 }
   where
     heads : found.head ≡ head_of s.newest_

@@ -1,4 +1,5 @@
 -- What this crate proves for those above it: laws of what stands at a path and of what is set there.
+pub use Rattle.cv_tree.proofs.Fits.{FitsUnder-insert, FitsUnder-subtree_of}
 pub use Rattle.cv_tree.proofs.Grafts.{IsTree-put_at, has_place-put_apart}
 pub use Rattle.cv_tree.proofs.Maps.{entries-from_entries}
 pub use Rattle.cv_tree.proofs.PathLimits.{joined-Ok}

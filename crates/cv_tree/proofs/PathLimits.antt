@@ -1,7 +1,8 @@
 -- Parts of a path, and paths with more names, within the limits of a path.
-use Rattle.std.proofs.Common.{◌≡◌, ℕ, ◌+◌, Bool, true, false, cond, ◌&&◌, List, [], ◌∷◌, ◌++◌, length, take, drop, get_or, drop-cons, add-one, suc, ◌<◌, Option, Some, None, refl, sym, ap, subst, ◌∙◌, append_assoc, length-append, arith}
+use Rattle.std.proofs.Common.{◌≡◌, ℕ, ◌+◌, true, false, cond, ◌&&◌, List, [], ◌∷◌, ◌++◌, length, take, drop, get_or, drop-cons, add-one, suc, ◌<◌, Option, Some, None, refl, sym, ap, subst, ◌∙◌, append_assoc, length-append, arith}
 use Rattle.std.specs.Prelude.{Ok, Err, nat_lt}
 use Rattle.std.specs.List.{list_all}
+use Rattle.std.proofs.lemmas.Bool.{and_parts}
 use Rattle.std.proofs.lemmas.List.Folds.{list_all-append}
 use Rattle.std.proofs.lemmas.List.Concat.{flat_map-append}
 use Rattle.std.specs.Cmp.{eq_by_cmp_equiv}
@@ -11,15 +12,11 @@ use Rattle.cv_base.proofs.Laws.{behind-Some}
 use Rattle.cv_base.specs.declared.path_fault.PathFault.TheVariants.{TooLong, TooDeep}
 use Rattle.cv_base.specs.PathText.{joined, within_limits, of_names}
 
-both_true : (a b : Bool) → (a && b) ≡ true → (a ≡ true) × (b ≡ true)
-both_true true b h = (refl, h)
-both_true false b h = cc
-
 text_of-append : (p q : Path) → text_of (p ++ q) ≡ text_of p ++ text_of q
 text_of-append p q = flat_map-append (λ name. 47 ∷ name) p q
 
 names_of_both : (p q : Path) → IsPath (p ++ q) → (list_all is_path_name p ≡ true) × (list_all is_path_name q ≡ true)
-names_of_both p q h = both_true _ _ (sym (list_all-append is_path_name p q) ∙ h.names)
+names_of_both p q h = and_parts _ _ (sym (list_all-append is_path_name p q) ∙ h.names)
 
 size_of_both : (p q : Path) → length (text_of (p ++ q)) ≡ length (text_of p) + length (text_of q)
 size_of_both p q = ap length (text_of-append p q) ∙ length-append (text_of p) (text_of q)

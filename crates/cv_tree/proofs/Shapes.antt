@@ -4,10 +4,11 @@ use Rattle.std.specs.Prelude.{Result, Ok, Err, IfSome, OnOk, OnErr}
 use Rattle.std.specs.declared.option.Option.{Option}
 use Rattle.std.specs.declared.option.Option.TheVariants.{None, Some}
 use Rattle.std.specs.Ordering.{eq_by_cmp}
-use Rattle.std.specs.FinMap.{empty, insert, get, get-empty, get-insert}
+use Rattle.std.specs.FinMap.{empty, insert, get, get-empty, get-insert, same_map}
 use Rattle.cv_base.specs.Path.{Path, path_cmp, same_name, behind, parent, IsPath}
 use Rattle.cv_base.specs.Unless.{IsUnless}
-use Rattle.cv_base.specs.PathOrder.{path_total, same_name_is, same_path_is}
+use Rattle.cv_base.specs.PathOrder.{path_total, path_exact, same_name_is, same_path_is}
+use Rattle.cv_base.specs.declared.memory.NoMemory.{NoMemory as Lack}
 use Rattle.cv_base.proofs.Laws.{behind-Some}
 use Rattle.cv_tree.specs.declared.node.Node.{Node}
 use Rattle.cv_tree.specs.declared.node.Node.TheVariants.{Dir}
@@ -126,6 +127,25 @@ IsTree-insert t p node h is path good = record {
   root = still_directory t p [] node ((free t p is).absent) h.root;
   part = IsPart-insert t p node h.part is path good;
 }
+
+-- ---- a node that is set where no other stands
+same_again : (t : Nodes) (p : Path) (node : Node) → get t p ≡ Some node → insert t p node ≡ t
+same_again t p node there = same_map path_total path_exact (insert t p node) t (λ q. get-insert path_total t p node q
+    ∙ elim (eq_by_cmp path_cmp q p) as (λ b. eq_by_cmp path_cmp q p ≡ b → cond b (Some node) (get t q) ≡ get t q) [
+      | true ↦ λ same. sym (ap (get t) (same_path_is q p same) ∙ there)
+      | false ↦ λ _. refl
+    ] refl)
+
+IsTree-set : (t : Nodes) (p : Path) (node : Node) → IsTree t → has_place t p ≡ true → IfSome (get t p) (λ there. there ≡ node) → IsPath p → IsNode node → IsTree (insert t p node)
+IsTree-set t p node h place alone path good = elim (get t p) as (λ o. get t p ≡ o → IfSome o (λ there. there ≡ node) → IsTree (insert t p node)) [
+  | None ↦ λ absent _. IsTree-insert t p node h (rw place (rw absent refl)) path good
+  | Some there ↦ λ is same. rw (same_again t p node (is ∙ ap Some same)) h
+] refl alone
+
+pub IsTree-placed : (r : Result (Unit {0}) Lack) (old new : Nodes) (p : Path) (node : Node) → IsTree old → has_place old p ≡ true → IfSome (get old p) (λ there. there ≡ node)
+    → OnOk r (new ≡ insert old p node) → OnErr r (new ≡ old) → IsPath p → IsNode node → IsTree new
+IsTree-placed (Ok x) old new p node h place alone ok err path good = rw ok (IsTree-set old p node h place alone path good)
+IsTree-placed (Err lack) old new p node h place alone ok err path good = rw err h
 
 -- ---- single nodes
 single_at : (node : Node) (q : Path) → get (single node) q ≡ cond (eq_by_cmp path_cmp q []) (Some node) None

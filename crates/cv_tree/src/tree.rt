@@ -1,5 +1,5 @@
 //! Trees.
-ghost use Rattle.std.specs.Prelude.{◌≡◌, IfOk, IfSome, OnOk, OnErr};
+ghost use Rattle.std.specs.Prelude.{◌≡◌, IfOk, IfSome, IsTrue, OnOk, OnErr};
 ghost use Rattle.std.specs.Option.{option_copied};
 ghost use Rattle.std.specs.FinMap as map;
 ghost use Rattle.cv_base.specs.Unless.{IsUnless};
@@ -8,7 +8,7 @@ ghost use Rattle.cv_tree.specs.declared.tree_fault.TreeFault.TheVariants as faul
 ghost use Rattle.cv_base.specs.Attr.{IsAttr};
 ghost use Rattle.cv_tree.specs.Node.{IsNode};
 ghost use Rattle.cv_tree.specs.Tree.{IsPart, IsTree, single, put};
-ghost use Rattle.cv_tree.specs.Changes.{insertion, replacement, subtree_of, nodes_of, FitsUnder, IsTreeAtRoot};
+ghost use Rattle.cv_tree.specs.Changes.{has_place, insertion, replacement, subtree_of, nodes_of, FitsUnder, IsTreeAtRoot};
 
 use crate::node::Node;
 use crate::node_map::NodeMap;
@@ -88,6 +88,20 @@ impl Tree {
         ensures err { OnErr result (self.new ≡ self.old) }
     {
         self.nodes.add(path, node)
+    }
+
+    /// Sets a node at a path at which a node may stand, and no other one does. The path is looked up once,
+    /// and not copied. Where there is no memory, nothing changes.
+    pub fn place(&mut self, path: RepoPath, node: Node) -> Result<(), NoMemory>
+        requires node { IsNode node }
+        requires place { IsTrue (has_place self.old path) }
+        requires alone { IfSome (map.get self.old path) (λ there. there ≡ node) }
+        ensures ok { OnOk result (self.new ≡ map.insert self.old path node) }
+        ensures err { OnErr result (self.new ≡ self.old) }
+    {
+        // The names keep the limits of a path.
+        let _names = path.names();
+        self.nodes.set(path, node)
     }
 
     /// Takes out all that stands at a path and below it, and sets the part there, if there is one. It

@@ -3,8 +3,8 @@ ghost use Rattle.std.specs.Prelude.{IfOk};
 ghost use Rattle.cv_tree.specs.Node.{IsNode};
 ghost use Rattle.cv_tree.specs.Changes.{FitsUnder};
 
-use cv_tree::{FileRef, Node, Part, Tree, TreeFault};
 use cv_base::{Attr, RepoPath, Target};
+use cv_tree::{FileRef, Node, Part, Tree, TreeFault};
 use std::alloc::Global;
 use std::process::Abort;
 use std::test::Fail;

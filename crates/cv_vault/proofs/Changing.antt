@@ -12,6 +12,7 @@ use Rattle.std.specs.declared.option.Option.TheVariants.{None, Some}
 use Rattle.std.proofs.lemmas.List.Elements.{All-set, All-push}
 use Rattle.std.proofs.lemmas.List.{append-nil, map-set, map-append, length-map}
 use Rattle.std.proofs.lemmas.List.Sums.{sum_by-set, sum_by-append}
+use Rattle.std.proofs.lemmas.Option.{same_Some}
 use Rattle.std.proofs.Math.Seq.{map-set_same, get_or-append_seam}
 use Rattle.cv_vault.specs.Names.{Name, same_name}
 use Rattle.cv_vault.specs.Disk as disk
@@ -123,13 +124,10 @@ numbers_pushed f f' ns n h lacks put q i = (forward, backward)
     at_end : get_or (ns ++ n ∷ []) (length ns) [] ≡ n
     at_end = get_or-append_seam ns n [] []
 
-    same : {k l : ℕ} → Some k ≡ Some l → k ≡ l
-    same e = cc
-
     forward : f' q ≡ Some i → (i < length (ns ++ n ∷ [])) × (get_or (ns ++ n ∷ []) i [] ≡ q)
     forward e = elim (same_or_not n q) [
       | inl is ↦
-          let i_is : length ns ≡ i = same (sym (put q ∙ rw (bytes_eq_same n q is) refl) ∙ e) in
+          let i_is : length ns ≡ i = same_Some _ _ (sym (put q ∙ rw (bytes_eq_same n q is) refl) ∙ e) in
           (omega (arith, more), ap (λ k. get_or (ns ++ n ∷ []) k []) (sym i_is) ∙ at_end ∙ is)
       | inr ne ↦
           let old = (h q i).0 (sym (put q ∙ rw (bytes_eq_other n q ne) refl) ∙ e) in

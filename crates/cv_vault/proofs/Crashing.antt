@@ -6,6 +6,7 @@ use Rattle.std.specs.List.Sorted.{IsStrictlySortedBy}
 use Rattle.std.specs.String.{string_bytes}
 use Rattle.std.specs.declared.cmp.Ordering.TheVariants.{Less}
 use Rattle.std.proofs.Math.Seq.{map-set_same}
+use Rattle.std.proofs.lemmas.Bool.{not-true}
 use Rattle.std.proofs.lemmas.List.{get_or-set_same}
 use Rattle.std.proofs.lemmas.List.Kept.{IsStrictlySortedBy-filter}
 use Rattle.std.proofs.lemmas.List.Elements.{All-nil, All-head, All-tail, All-cons, All-set, All-filter, All-weaker, All-from_get_or, All-from_recursion}
@@ -284,10 +285,6 @@ picks_image pick (m ∷ ms) d n = elim (same_or_not n m) [
 settled_there : true ≡ false → ⊥
 settled_there e = cc
 
-unturned : (b : Bool) → not b ≡ true → b ≡ false
-unturned true h = cc
-unturned false h = refl
-
 -- t' is t after a crash
 pub record IsCrashed (pick : ℕ) (t t' : Inside) : Type 0 where
   pub names : t'.names.items ≡ t.names.items
@@ -333,7 +330,7 @@ module _ (pick : ℕ) (t t' : Inside) (is : IsIndexed t) (h : IsCrashed pick t t
   crashes = record {
     unsettled = open_names;
     ascending = IsStrictlySortedBy-filter name_cmp (λ m. not (is_settled (table_disk (rows_of t) m).mark)) (all_names t) (ascending t is);
-    exact = λ n. (λ c. unturned (is_settled (table_disk (rows_of t) n).mark) (passed (λ m. not (is_settled (table_disk (rows_of t) m).mark)) (all_names t) n c), is_among n);
+    exact = λ n. (λ c. not-true (is_settled (table_disk (rows_of t) n).mark) (passed (λ m. not (is_settled (table_disk (rows_of t) m).mark)) (all_names t) n c), is_among n);
     left = rw (h.names, h.contents, h.entries) (λ i n. crashed_at string_bytes t.names.items t.contents.items (table_disk (rows_of t)) pick t.numbers.entries t.entries.items n (ascending t is) is.table.apart agree (missing n) i);
     image = picks_image pick open_names (table_disk (rows_of t));
   }

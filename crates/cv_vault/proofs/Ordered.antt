@@ -13,6 +13,7 @@ use Rattle.std.specs.declared.option.Option.TheVariants.{None, Some}
 use Rattle.std.specs.declared.cmp.Ordering.TheVariants.{Less}
 use Rattle.std.proofs.lemmas.List.Elements.{All-contains, All-weaker, filter_passes}
 use Rattle.std.proofs.lemmas.Map.Views.{All-found}
+use Rattle.std.proofs.lemmas.Option.{same_Some}
 use Rattle.cv_vault.specs.Names.{Name, name_cmp, same_name}
 use Rattle.cv_vault.specs.Disk as disk
 use Rattle.cv_vault.specs.Disk.{slot}
@@ -50,13 +51,10 @@ at_key : {Y : Type 0} (es : List (String Y × ℕ)) (n : Name) (i : ℕ) → loo
 at_key [] n i e = cc
 at_key {Y} (p ∷ es) n i e = by (same_name n (string_bytes p.0)) refl e (at_key es n i)
   where
-    value : {k l : ℕ} → Some k ≡ Some l → k ≡ l
-    value e = cc
-
     by : (b : Bool) → same_name n (string_bytes p.0) ≡ b → cond b (Some p.1) (lookup (is_at (λ (k : String Y). slice_cmp nat_cmp n (string_bytes k))) es) ≡ Some i
         → (lookup (is_at (λ (k : String Y). slice_cmp nat_cmp n (string_bytes k))) es ≡ Some i → Contains (names_of string_bytes es) n × Contains (map (λ (p : String Y × ℕ). p.1) es) i)
         → Contains (names_of string_bytes (p ∷ es)) n × Contains (map (λ (p : String Y × ℕ). p.1) (p ∷ es)) i
-    by true same e later = ((0, omega arith, sym (same_name_is n (string_bytes p.0) same)), (0, omega arith, value e))
+    by true same e later = ((0, omega arith, sym (same_name_is n (string_bytes p.0) same)), (0, omega arith, same_Some _ _ e))
     by false other e later =
         let rest = later e in
         (contains_later (string_bytes p.0) n (names_of string_bytes es) rest.0, contains_later p.1 i (map (λ (p : String Y × ℕ). p.1) es) rest.1)

@@ -5,6 +5,7 @@ use Rattle.std.specs.declared.option.Option.{Option}
 use Rattle.std.specs.declared.option.Option.TheVariants.{None, Some}
 use Rattle.std.proofs.lemmas.List.Elements.{All-head, All-tail}
 use Rattle.std.proofs.lemmas.List.{length-map, get_or_default, get_or-map}
+use Rattle.std.proofs.lemmas.Option.{same_Some}
 use Rattle.cv_vault.specs.Names.{Name}
 use Rattle.cv_vault.specs.Disk as disk
 use Rattle.cv_vault.specs.Disk.{Slot, slot}
@@ -19,10 +20,7 @@ use Rattle.cv_vault.proofs.Values.{LacksPair, firsts, value_at-get, value_at-lac
 
 -- names that have numbers differ
 pub numbers_apart : (f : Name → Option ℕ) (ns : List Name) → AreNumbers f ns → AreApart ns
-numbers_apart f ns h i j li lj e = same (sym ((h (get_or ns j []) i).1 (li, e)) ∙ (h (get_or ns j []) j).1 (lj, refl))
-  where
-    same : {k l : ℕ} → Some k ≡ Some l → k ≡ l
-    same e = cc
+numbers_apart f ns h i j li lj e = same_Some _ _ (sym ((h (get_or ns j []) i).1 (li, e)) ∙ (h (get_or ns j []) j).1 (lj, refl))
 
 -- a name without a number isn't there
 pub numbers_lack : (f : Name → Option ℕ) (ns : List Name) (n : Name) → AreNumbers f ns → f n ≡ None → Lacks n ns

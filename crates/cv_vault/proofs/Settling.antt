@@ -3,6 +3,7 @@ use Rattle.std.proofs.Common.{◌≡◌, ◌≢◌, ◌⊎◌, inl, inr, ℕ, su
 use Rattle.std.specs.Vec.{vec_capacity}
 use Rattle.std.specs.List.{All, Contains, list_all}
 use Rattle.std.specs.Prelude.{sum, count_by}
+use Rattle.std.proofs.lemmas.Bool.{or_parts}
 use Rattle.std.proofs.lemmas.List.{get_or-set_same, length-map}
 use Rattle.std.proofs.Math.Seq.{map-set_same}
 use Rattle.std.proofs.lemmas.List.Sums.{sum-map, sum_by-cons}
@@ -30,10 +31,6 @@ use Rattle.cv_vault.proofs.Steps.{settled_in, slot_at}
 use Rattle.cv_vault.proofs.Unsettled.{is_open, as_one, unsettled_none, Contains-rest}
 use Rattle.cv_vault.proofs.Changing.{Records}
 
-or_false : (a b : Bool) → (a || b) ≡ false → (a ≡ false) × (b ≡ false)
-or_false true b h = cc
-or_false false b h = (refl, h)
-
 calm_slot : (s : Slot) → not (is_settled s.mark) ≡ false → s ≡ slot s.now disk.Settled
 calm_slot s h = by s.mark h
   where
@@ -45,7 +42,7 @@ calm_slot s h = by s.mark h
 pub calm_at : (es : List NamedSlot) → any_unsettled es ≡ false → (n : Name) → disk_of es n ≡ slot (disk_of es n).now disk.Settled
 calm_at [] h n = refl
 calm_at (e ∷ es) h n =
-    let u = or_false (not (is_settled e.stands.mark)) (any_unsettled es) h in
+    let u = or_parts (not (is_settled e.stands.mark)) (any_unsettled es) h in
     elim (same_name n e.name) as (λ b. cond b e.stands (disk_of es n) ≡ slot (cond b e.stands (disk_of es n)).now disk.Settled) [ true ↦ calm_slot e.stands u.0 | false ↦ calm_at es u.1 n ]
 
 pub calm_disk : (es : List NamedSlot) → any_unsettled es ≡ false → disk_of es ≡ synced (disk_of es)

@@ -4,7 +4,7 @@ use Rattle.std.specs.Prelude.{fold, find, option_map, slice_get}
 use Rattle.std.specs.List.{list_all}
 use Rattle.std.specs.Option.{option_map_or}
 use Rattle.std.specs.Str.{chars}
-use Rattle.std.proofs.lemmas.Bool.{cases_Bool}
+use Rattle.std.proofs.lemmas.Bool.{cases_Bool, not-true}
 use Rattle.clap.specs.Walk.{Held, Rule, Text, Walk, idle, arg_by_index, arg_by_long, arg_by_short, is_multiple, next_position, positional_held, rows_after, finished, walked, nothing_held, to_positional, is_pending, takes_several, settled}
 use Rattle.clap.specs.Simple.{Shape}
 use Rattle.clap.specs.Kinds.{Kinds, or_else}
@@ -17,10 +17,6 @@ use Rattle.cv_words.proofs.Forms.{IsPlain, IsFlag, AreTexts, plain, flag, long, 
 -- an argument that takes one value in its place
 abbrev pub is_placed : Rule → Bool
 is_placed a = is_some a.index && (not (is_multiple a) && not a.trailing_var_arg)
-
-is_false : (b : Bool) → not b ≡ true → b ≡ false
-is_false true e = sym e
-is_false false e = refl
 
 -- no option has a name
 no_long : (c : List Rule) (name : Text) → list_all is_placed c ≡ true → arg_by_long c name ≡ None
@@ -64,12 +60,12 @@ goes : (c : List Rule) (o : Option Rule) (word : Text) (h : Held) (position : �
 goes c None word h position trailing placed = refl
 goes c (Some a) word h position true placed =
     let here = both (not (is_multiple a)) _ (both (is_some a.index) _ placed).1 in
-    let one : is_multiple a ≡ false = is_false _ here.0 in
+    let one : is_multiple a ≡ false = not-true _ here.0 in
     rw one refl
 goes c (Some a) word h position false placed =
     let here = both (not (is_multiple a)) _ (both (is_some a.index) _ placed).1 in
-    let one : is_multiple a ≡ false = is_false _ here.0 in
-    let no_more : a.trailing_var_arg ≡ false = is_false _ here.1 in
+    let one : is_multiple a ≡ false = not-true _ here.0 in
+    let no_more : a.trailing_var_arg ≡ false = not-true _ here.1 in
     rw (one, no_more) refl
 
 -- ---- one word

@@ -3,7 +3,8 @@ use Rattle.cv_base.specs.Path.{Path}
 use Rattle.cv_tree.specs.declared.node.Node.{Node}
 use Rattle.cv_rows.specs.Places.{StandsAt}
 use Rattle.cv_rows.specs.declared.row.Row.{Row}
-use Rattle.cv_checkout.proofs.Steps.{AreNodesOf, all_nodes, each_long, each_stands, node_passed, node_pushed}
+use Rattle.cv_rows.proofs.Lemmas.{each_long, row_stands}
+use Rattle.cv_checkout.proofs.Steps.{AreNodesOf, all_nodes, node_passed, node_pushed}
 use Rattle.cv_checkout.proofs.growing.nodes_toward.Goals.{then-overlaps+in_ok-copy+in_ok-node_of+in_ok-push, else-overlaps}
 use Rattle.cv_checkout.proofs.growing.nodes_toward.Goals as goal
 
@@ -20,7 +21,7 @@ loop-number-preserved c =
     let lt : c.loop-number.number < length rows = subst (λ (rs : List Row). c.loop-number.number < length rs) c.rows-rows.ensures.rows c.loop-number-test.true in
     let item : r ≡ get_or rows c.loop-number.number r = c.index-rows-number.is ∙ ap (λ (rs : List Row). get_or rs c.loop-number.number r) c.rows-rows.ensures.rows in
     let stands : StandsAt at rows r c.index-place.result.now =
-    each_stands at rows rows c.in_ok-places.places.items c.loop-number.number r c.index-place.result.now c.in_ok-places.ensures lt item c.index-place.ensures in
+    row_stands at rows rows c.in_ok-places.places.items c.loop-number.number r c.index-place.result.now c.in_ok-places.ensures lt item c.index-place.ensures in
     let Are : List (Path × Node) → Type 0 = AreNodesOf c.args.path.now c.args.catalogue.now (c.loop-number.number + 1) in
     elim c.if-overlaps.branch [
       | then-overlaps+in_ok-copy+in_ok-node_of+in_ok-push w ↦

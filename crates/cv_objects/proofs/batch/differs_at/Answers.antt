@@ -1,15 +1,12 @@
 use Rattle.std.proofs.Common.{◌≡◌, ◌≢◌, ◌≤◌, Some, List, length, get_or, ℕ, refl, sym, subst, ◌∙◌, arith}
 use Rattle.std.specs.Prelude.{slice_get}
-use Rattle.std.proofs.lemmas.Option.{slice_get_read, slice_get_within}
+use Rattle.std.proofs.lemmas.Option.{slice_get_read, slice_get_within, same_Some}
 use Rattle.cv_base.specs.declared.object.Object.{Object}
 use Rattle.cv_objects.proofs.batch.differs_at.Goals as goal
 
-some_is : {X : Type 0} {x y : X} → Some x ≡ Some y → x ≡ y
-some_is e = cc
-
 -- what was found at a place stands there
 found_is : (batch : List Object) (place : ℕ) (found other : Object) → found ≡ get_or batch place found → slice_get batch place ≡ Some other → found ≡ other
-found_is batch place found other is at = some_is (sym (slice_get_read batch (length batch) place found refl (slice_get_within batch place other at) is) ∙ at)
+found_is batch place found other is at = same_Some _ _ (sym (slice_get_read batch (length batch) place found refl (slice_get_within batch place other at) is) ∙ at)
 
 past : (batch : List Object) (place : ℕ) (other : Object) → length batch ≤ place → slice_get batch place ≡ Some other → ⊥
 past batch place other over at = let lt = slice_get_within batch place other at in omega (arith, lt, over)

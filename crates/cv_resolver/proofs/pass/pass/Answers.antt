@@ -1,5 +1,5 @@
 use Rattle.std.proofs.Common.{refl, sym, subst, ◌∙◌}
-use Rattle.cv_cut.proofs.Lemmas.{not_false, not_true}
+use Rattle.std.proofs.lemmas.Bool.{not-true, not-false}
 use Rattle.cv_resolver.specs.EnterInner.{IsEntered, entered_levels}
 use Rattle.cv_resolver.specs.declared.enter.Entered.{Entered}
 use Rattle.cv_resolver.specs.declared.enter.Entered.TheVariants.{Nothing, Stands, Link}
@@ -15,25 +15,25 @@ pub returns-then-is_idle-clause-passed : goal.returns-then-is_idle-clause-passed
 returns-then-is_idle-clause-passed c = λ t tree fits is own. idle t c.args.spot c.args.name.now (sym c.is_idle.ensures ∙ c.if-is_idle.true) is
 
 pub returns-then-not-spot-clause-passed : goal.returns-then-not-spot-clause-passed
-returns-then-not-spot-clause-passed c = λ t tree fits is own. below_file t c.args.spot c.args.name.now (sym c.is_idle.ensures ∙ c.if-is_idle.false) (not_true c.args.spot.is_directory c.if-not-spot.true) is
+returns-then-not-spot-clause-passed c = λ t tree fits is own. below_file t c.args.spot c.args.name.now (sym c.is_idle.ensures ∙ c.if-is_idle.false) (not-true c.args.spot.is_directory c.if-not-spot.true) is
 
 pub returns-then-is_up-clause-passed : goal.returns-then-is_up-clause-passed
 returns-then-is_up-clause-passed c = λ t tree fits is own.
-    up t c.args.spot c.args.name.now (sym c.is_idle.ensures ∙ c.if-is_idle.false) (not_false c.args.spot.is_directory c.if-not-spot.false) c.above.result (sym c.is_up.ensures ∙ c.if-is_up.true) is (c.above.ensures.stands t tree is) c.above.ensures.at.place
+    up t c.args.spot c.args.name.now (sym c.is_idle.ensures ∙ c.if-is_idle.false) (not-false c.args.spot.is_directory c.if-not-spot.false) c.above.result (sym c.is_up.ensures ∙ c.if-is_up.true) is (c.above.ensures.stands t tree is) c.above.ensures.at.place
 
 pub returns-in-Nothing-clause-passed : goal.returns-in-Nothing-clause-passed
 returns-in-Nothing-clause-passed c = λ t tree fits is own.
-    nothing t c.args.spot c.args.name.now (sym c.is_idle.ensures ∙ c.if-is_idle.false) (not_false c.args.spot.is_directory c.if-not-spot.false) (sym c.is_up.ensures ∙ c.if-is_up.false) is
+    nothing t c.args.spot c.args.name.now (sym c.is_idle.ensures ∙ c.if-is_idle.false) (not-false c.args.spot.is_directory c.if-not-spot.false) (sym c.is_up.ensures ∙ c.if-is_up.false) is
     (subst (λ (e : Entered). IsEntered t c.args.spot c.args.name.now e) c.in-Nothing.is (let e = c.in_ok-enter.ensures in e.entered t tree fits is own))
 
 pub returns-in-Stands-clause-passed : goal.returns-in-Stands-clause-passed
 returns-in-Stands-clause-passed c = λ t tree fits is own.
-    stands t c.args.spot c.args.name.now (sym c.is_idle.ensures ∙ c.if-is_idle.false) (not_false c.args.spot.is_directory c.if-not-spot.false) (sym c.is_up.ensures ∙ c.if-is_up.false) c.in-Stands.spot is
+    stands t c.args.spot c.args.name.now (sym c.is_idle.ensures ∙ c.if-is_idle.false) (not-false c.args.spot.is_directory c.if-not-spot.false) (sym c.is_up.ensures ∙ c.if-is_up.false) c.in-Stands.spot is
     (subst (λ (e : Entered). IsEntered t c.args.spot c.args.name.now e) c.in-Stands.is (let e = c.in_ok-enter.ensures in e.entered t tree fits is own))
 
 pub returns-in-Link-clause-passed : goal.returns-in-Link-clause-passed
 returns-in-Link-clause-passed c = λ t tree fits is own.
-    link t c.args.spot c.args.name.now (sym c.is_idle.ensures ∙ c.if-is_idle.false) (not_false c.args.spot.is_directory c.if-not-spot.false) (sym c.is_up.ensures ∙ c.if-is_up.false) c.in-Link.spot c.in-Link.path c.in-Link.target is
+    link t c.args.spot c.args.name.now (sym c.is_idle.ensures ∙ c.if-is_idle.false) (not-false c.args.spot.is_directory c.if-not-spot.false) (sym c.is_up.ensures ∙ c.if-is_up.false) c.in-Link.spot c.in-Link.path c.in-Link.target is
     (subst (λ (e : Entered). IsEntered t c.args.spot c.args.name.now e) c.in-Link.is (let e = c.in_ok-enter.ensures in e.entered t tree fits is own))
 
 pub returns-then-is_idle-clause-levels : goal.returns-then-is_idle-clause-levels
@@ -62,23 +62,23 @@ pub returns-then-is_idle-clause-told : goal.returns-then-is_idle-clause-told
 returns-then-is_idle-clause-told c = λ rules. passed_over (sym c.is_idle.ensures ∙ c.if-is_idle.true) refl
 
 pub returns-then-not-spot-clause-told : goal.returns-then-not-spot-clause-told
-returns-then-not-spot-clause-told c = λ rules. passed_file (sym c.is_idle.ensures ∙ c.if-is_idle.false) (not_true c.args.spot.is_directory c.if-not-spot.true) refl
+returns-then-not-spot-clause-told c = λ rules. passed_file (sym c.is_idle.ensures ∙ c.if-is_idle.false) (not-true c.args.spot.is_directory c.if-not-spot.true) refl
 
 pub returns-then-is_up-clause-told : goal.returns-then-is_up-clause-told
 returns-then-is_up-clause-told c = λ rules.
-    passed_up (sym c.is_idle.ensures ∙ c.if-is_idle.false) (not_false c.args.spot.is_directory c.if-not-spot.false) (sym c.is_up.ensures ∙ c.if-is_up.true) c.above.result c.above.ensures.at refl
+    passed_up (sym c.is_idle.ensures ∙ c.if-is_idle.false) (not-false c.args.spot.is_directory c.if-not-spot.false) (sym c.is_up.ensures ∙ c.if-is_up.true) c.above.result c.above.ensures.at refl
 
 pub returns-in-Nothing-clause-told : goal.returns-in-Nothing-clause-told
 returns-in-Nothing-clause-told c = λ rules.
-    down (record { some = sym c.is_idle.ensures ∙ c.if-is_idle.false; directory = not_false c.args.spot.is_directory c.if-not-spot.false; down = sym c.is_up.ensures ∙ c.if-is_up.false }) Nothing
+    down (record { some = sym c.is_idle.ensures ∙ c.if-is_idle.false; directory = not-false c.args.spot.is_directory c.if-not-spot.false; down = sym c.is_up.ensures ∙ c.if-is_up.false }) Nothing
     (subst (λ (e : Entered). IsToldBy c.args.catalogue.now c.args.spot c.args.name.now e) c.in-Nothing.is (let e = c.in_ok-enter.ensures in e.told rules)) refl
 
 pub returns-in-Stands-clause-told : goal.returns-in-Stands-clause-told
 returns-in-Stands-clause-told c = λ rules.
-    down (record { some = sym c.is_idle.ensures ∙ c.if-is_idle.false; directory = not_false c.args.spot.is_directory c.if-not-spot.false; down = sym c.is_up.ensures ∙ c.if-is_up.false }) (Stands c.in-Stands.spot)
+    down (record { some = sym c.is_idle.ensures ∙ c.if-is_idle.false; directory = not-false c.args.spot.is_directory c.if-not-spot.false; down = sym c.is_up.ensures ∙ c.if-is_up.false }) (Stands c.in-Stands.spot)
     (subst (λ (e : Entered). IsToldBy c.args.catalogue.now c.args.spot c.args.name.now e) c.in-Stands.is (let e = c.in_ok-enter.ensures in e.told rules)) refl
 
 pub returns-in-Link-clause-told : goal.returns-in-Link-clause-told
 returns-in-Link-clause-told c = λ rules.
-    down (record { some = sym c.is_idle.ensures ∙ c.if-is_idle.false; directory = not_false c.args.spot.is_directory c.if-not-spot.false; down = sym c.is_up.ensures ∙ c.if-is_up.false }) (Link c.in-Link.spot c.in-Link.path c.in-Link.target)
+    down (record { some = sym c.is_idle.ensures ∙ c.if-is_idle.false; directory = not-false c.args.spot.is_directory c.if-not-spot.false; down = sym c.is_up.ensures ∙ c.if-is_up.false }) (Link c.in-Link.spot c.in-Link.path c.in-Link.target)
     (subst (λ (e : Entered). IsToldBy c.args.catalogue.now c.args.spot c.args.name.now e) c.in-Link.is (let e = c.in_ok-enter.ensures in e.told rules)) refl

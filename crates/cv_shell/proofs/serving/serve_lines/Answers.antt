@@ -1,12 +1,13 @@
 use Rattle.std.proofs.Common.{◌≡◌, refl, rules, arith, inl}
+use Rattle.cv_http.proofs.Lemmas.{gets_same, draws_of, draws_as}
 use Rattle.cv_client.proofs.Lemmas.{asks_none, asks_then}
-use Rattle.cv_shell.proofs.Streams.{gets_none, draws_of, draws_then, draws_as}
+use Rattle.cv_shell.proofs.Streams.{draws_then}
 use Rattle.cv_shell.proofs.Running.{at_first, one_more, one_last, none_more, not_read, tired, up_to_date_grows, up_to_date_on}
 use Rattle.cv_shell.proofs.serving.serve_lines.Goals as goal
 
 pub turns-init : goal.turns-init
 turns-init g c = record {
-  so_far = draws_of g.R.Source.left g.R.Source.given c.args.lines.now c.args.lines.now c.args.lines.now _ (gets_none g.R.Source.left g.R.Source.given c.args.lines.now c.args.lines.now refl refl) refl
+  so_far = draws_of g.R.Source.left g.R.Source.given c.args.lines.now c.args.lines.now c.args.lines.now _ (gets_same g.R.Source.left g.R.Source.given c.args.lines.now c.args.lines.now refl refl refl) refl
       (at_first (g.S.Signer.is_seal c.args.signer.now) c.args.url.now _ (g.N.Dial.came c.args.dial.now) c.args.resolver.now (g.W.Sink.taken c.args.output.now) (g.R.Source.left c.args.lines.now.source) c.args.lines.now.held
       (λ was look is. inl is));
   flushed = λ was. was;

@@ -1,14 +1,14 @@
 use Rattle.std.proofs.Common.{◌≡◌, ◌≤◌, ◌∙◌, sym, subst, refl, arith, inl, Err}
 use Rattle.cv_http.specs.Wires.{Draws}
+use Rattle.cv_http.proofs.Lemmas.{gets_same, gets_moved, gets_on, draws_of}
 use Rattle.cv_shell.specs.Lines.{IsLine, LineRead}
 use Rattle.cv_shell.specs.declared.lines.LineFault.TheVariants.{ReadFault}
-use Rattle.cv_shell.proofs.Streams.{gets_none, gets_moved, gets_on, draws_of}
 use Rattle.cv_shell.proofs.Reading.{by_fault, found_none, unfound, not_unread, unfilled, looks_still, looks_on}
 use Rattle.cv_shell.proofs.lines.Lines.next_line.Goals as goal
 
 pub pieces-init : goal.pieces-init
 pieces-init g c = record {
-  gets = gets_none g.R.Source.left g.R.Source.given c.args.self.now c.args.self.now refl refl;
+  gets = gets_same g.R.Source.left g.R.Source.given c.args.self.now c.args.self.now refl refl refl;
   looks = λ look is. inl is;
   later = omega arith;
 }

@@ -1,7 +1,7 @@
 use Rattle.std.proofs.Common.{◌≡◌, Some, sym, ◌∙◌}
 use Rattle.cv_tree.specs.Changes.{subtree_of}
-use Rattle.cv_tree.proofs.Fits.{FitsUnder-subtree_of}
-use Rattle.cv_tree.proofs.tests.replace_with_file.Goals as goal
+use Rattle.cv_tree.proofs.Laws.{FitsUnder-subtree_of}
+use Rattle.cv_tree_tests.proofs.tests.replace_with_file.Goals as goal
 
 pub add_file-requires : goal.add_file-requires
 add_file-requires c =

@@ -1,8 +1,7 @@
 use Rattle.std.proofs.Common.{◌≡◌, ◌++◌, ◌∷◌, [], sym, ap, subst, ◌∙◌}
 use Rattle.cv_base.specs.Path.{IsPath}
-use Rattle.cv_tree.proofs.Fits.{FitsUnder-insert}
-use Rattle.cv_tree.proofs.PathLimits.{joined-Ok}
-use Rattle.cv_tree.proofs.tests.add_file.Goals as goal
+use Rattle.cv_tree.proofs.Laws.{FitsUnder-insert, joined-Ok}
+use Rattle.cv_tree_tests.proofs.tests.add_file.Goals as goal
 
 pub returns : goal.returns
 returns c =
