@@ -1,6 +1,6 @@
 -- Syncs that fail.
 use Rattle.std.proofs.Common.{◌≡◌, ◌∙◌, ◌||◌, Bool, true, false, List, ℕ, Result, Ok, Err, ap, map, refl, sym, subst, inl, inr, string_bytes}
-use Rattle.std.specs.Prelude.{◌⊎◌, IfErr, IsOk, IsTrue, OnErr, is_ok, []}
+use Rattle.std.specs.Prelude.{◌⊎◌, IfErr, IsOk, IsTrue, OnErr, is_ok, [], ◌∷◌}
 use Rattle.cv_folder.specs.declared.folder_vault.FolderVault.{FolderVault}
 use Rattle.cv_folder.specs.declared.hold.Hold.TheVariants.{Refused, Unasked}
 use Rattle.cv_folder.specs.FolderVault.{Acts, AsksAlone, IsUncalled, Rests, Stays}
