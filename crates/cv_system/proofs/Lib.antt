@@ -1,4 +1,5 @@
 mod CutNames
+mod Failing
 mod LastParts
 pub mod Laws
 mod Looking

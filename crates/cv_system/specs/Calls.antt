@@ -60,3 +60,25 @@ told_bytes (Err error) = Err (error_kind error)
 abbrev pub told_names : Result ℕ Error → List ℕ → Result (List ℕ) ErrorKind
 told_names (Ok count) buffer = Ok (take count buffer)
 told_names (Err error) buffer = Err (error_kind error)
+
+-- how a call came out that told so
+abbrev pub outcome_of : {A : Type 0} → Result A ErrorKind → Outcome
+outcome_of (Ok x) = Done
+outcome_of (Err kind) = Failed kind
+
+-- how a call came out
+abbrev pub came_out : Call → Outcome
+came_out (Looked path seen) = outcome_of seen
+came_out (Opened path out) = out
+came_out (Created path out) = out
+came_out (Wrote path bytes out) = out
+came_out (Synced path out) = out
+came_out (Checked path seen) = outcome_of seen
+came_out (Read path bytes) = outcome_of bytes
+came_out (Locked path held) = outcome_of held
+came_out (Renamed from to out) = out
+came_out (Removed path out) = out
+came_out (Made folder out) = out
+came_out (Unmade folder out) = out
+came_out (Entered folder out) = out
+came_out (Named folder names) = outcome_of names

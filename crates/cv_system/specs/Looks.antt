@@ -3,12 +3,12 @@ use Rattle.std.specs.Prelude.{◌≡◌, ◌⊎◌, ◌==◌, ℕ, List, [], ◌
 use Rattle.std.specs.IoError.{error_kind}
 use Rattle.std.specs.declared.io.Error.{Error}
 use Rattle.std.specs.declared.io.ErrorKind.{ErrorKind}
-use Rattle.std.specs.declared.io.ErrorKind.TheVariants.{NotFound, NotADirectory}
+use Rattle.std.specs.declared.io.ErrorKind.TheVariants.{InvalidData, NotFound, NotADirectory}
 use Rattle.cv_system.specs.declared.seen.Seen.{Seen}
 use Rattle.cv_system.specs.declared.seen.Kind.TheVariants.{File, Folder}
 use Rattle.cv_system.specs.Calls.{Call, Log, and_call, and_calls, Done, Looked, Opened, Created, Wrote, Synced, Checked, Read, Locked, Renamed, Removed, Made, Unmade, Entered, Named}
 use Rattle.cv_system.specs.Passed.{IsNoName}
-use Rattle.cv_system.specs.Steps.{IsLook, Makes}
+use Rattle.cv_system.specs.Steps.{EndsFailed, IsLook, Makes}
 
 -- both tell of the same file
 abbrev pub IsSame : Seen → Seen → Type 0
@@ -88,6 +88,15 @@ Finds from path (Err error) before after = Makes IsLook before after
 abbrev pub OpensFile : List ℕ → Seen → Log → Log → Type 0
 OpensFile path seen before after =
     (opened : Seen) × (opened.kind ≡ File) × IsSame seen opened × (after ≡ and_calls (Opened path Done ∷ Checked path (Ok opened) ∷ []) before)
+
+-- what was opened at a path is another file than the one that was seen there, or none
+abbrev pub OpensOther : List ℕ → Seen → Log → Log → Type 0
+OpensOther path seen before after =
+    (opened : Seen) × (opened.kind ≡ File → IsSame seen opened → ⊥) × (after ≡ and_calls (Opened path Done ∷ Checked path (Ok opened) ∷ []) before)
+
+-- a file that was seen isn't opened, or not read, by an error of this kind: a call failed so, or what was opened isn't that file
+abbrev pub FailsToOpen : List ℕ → Seen → ErrorKind → Log → Log → Type 0
+FailsToOpen path seen kind before after = EndsFailed kind before after ⊎ ((kind ≡ InvalidData) × OpensOther path seen before after)
 
 -- it is opened so, and read to its end, where these bytes are
 abbrev pub ReadsFile : List ℕ → Seen → List ℕ → Log → Log → Type 0

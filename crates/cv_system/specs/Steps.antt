@@ -1,7 +1,7 @@
 -- What calls lead from one log to a later one.
 use Rattle.std.specs.Prelude.{◌≡◌, ◌⊎◌, Bool, false, List, [], ◌∷◌, IsTrue, ⊤}
 use Rattle.std.specs.declared.io.ErrorKind.{ErrorKind}
-use Rattle.cv_system.specs.Calls.{Call, Log, Outcome, and_call, Done, Failed, Looked, Opened, Created, Wrote, Synced, Checked, Read, Locked, Renamed, Removed, Made, Unmade, Entered, Named}
+use Rattle.cv_system.specs.Calls.{Call, Log, Outcome, and_call, came_out, Done, Failed, Looked, Opened, Created, Wrote, Synced, Checked, Read, Locked, Renamed, Removed, Made, Unmade, Entered, Named}
 
 -- one after another, steps that are each so lead from one log to a later one
 pub data Steps (IsStep : Log → Log → Type 0) (before : Log) : Log → Type 0 where
@@ -49,6 +49,14 @@ Makes IsSuch before after = Steps (λ one other. (call : Call) × IsSuch call ×
 -- nothing was changed
 abbrev pub Quiet : Log → Log → Type 0
 Quiet before after = Makes IsQuiet before after
+
+-- calls were made, or none
+abbrev pub Grows : Log → Log → Type 0
+Grows before after = Makes (λ _. ⊤) before after
+
+-- calls were made, the last of which failed by an error of this kind
+abbrev pub EndsFailed : ErrorKind → Log → Log → Type 0
+EndsFailed kind before after = (between : Log) × (call : Call) × Grows before between × (came_out call ≡ Failed kind) × (after ≡ and_call call between)
 
 -- these calls were tried in their order, up to the first that failed. Whether each was made
 abbrev pub Tries : List (Outcome → Call) → Bool → Log → Log → Type 0

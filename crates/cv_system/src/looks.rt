@@ -1,11 +1,11 @@
 //! What stands at a path, without going through a link. A folder's path ends in a slash: the system then opens nothing but a
 //! folder there.
-ghost use Rattle.std.specs.Prelude.{◌≡◌, ◌≢◌, ◌↔◌, ◌<◌, None, Ok, IfOk, OnOk, OnErr, IsSome, IfSome, IfNone, IsTrue, length, slice_index, take, true, false};
+ghost use Rattle.std.specs.Prelude.{◌≡◌, ◌≢◌, ◌↔◌, ◌<◌, None, Ok, IfErr, IfOk, OnOk, OnErr, IsSome, IfSome, IfNone, IsTrue, length, slice_index, take, true, false};
 ghost use Rattle.std.specs.IoError.{error_kind, raw_os_error};
-ghost use Rattle.cv_system.specs.Looks.{Finds, IsNothing, IsReading, Looks, LooksAtEntry, MissesFolder, OpensFile, ReadsFile, SeesFolders, folders_at, folders_past};
+ghost use Rattle.cv_system.specs.Looks.{FailsToOpen, Finds, IsNothing, IsReading, Looks, LooksAtEntry, MissesFolder, OpensFile, ReadsFile, SeesFolders, folders_at, folders_past};
 ghost use Rattle.cv_system.specs.LooksInner.{LooksForFolder};
 ghost use Rattle.cv_system.specs.Passed.{IsNoName};
-ghost use Rattle.cv_system.specs.Steps.{IsLook, Makes};
+ghost use Rattle.cv_system.specs.Steps.{EndsFailed, IsLook, Makes};
 
 use crate::seen::Seen;
 use crate::system::System;
@@ -93,6 +93,8 @@ fn leads_on<S: System>(system: &mut S, path: &str, end: usize) -> io::Result<boo
         → SeesFolders (folders_at path.now end) (S.log system.old) (S.log system.new) }
     ensures ends { result ≡ Ok false
         → MissesFolder (folders_at path.now end) (S.log system.old) (S.log system.new) }
+    ensures fails { IfErr result (λ error. EndsFailed (error_kind error) (S.log system.old)
+        (S.log system.new)) }
 {
     match folder_at(path, end) {
         Some(folder) => is_folder(system, folder),
@@ -107,6 +109,8 @@ pub fn has_folders<S: System>(system: &mut S, path: &str, from: usize) -> io::Re
         → SeesFolders (folders_past from path.now) (S.log system.old) (S.log system.new) }
     ensures ends { result ≡ Ok false
         → MissesFolder (folders_past from path.now) (S.log system.old) (S.log system.new) }
+    ensures fails { IfErr result (λ error. EndsFailed (error_kind error) (S.log system.old)
+        (S.log system.new)) }
 {
     for end in from..path.len() {
         if !leads_on(system, path, end)? {
@@ -118,7 +122,9 @@ pub fn has_folders<S: System>(system: &mut S, path: &str, from: usize) -> io::Re
 
 /// The regular file at a path, if one is there. The first `from` bytes of the path aren't looked at.
 pub fn find_file<S: System>(system: &mut S, path: &str, from: usize) -> io::Result<Option<Seen>>
-    ensures { Finds from path.now result (S.log system.old) (S.log system.new) }
+    ensures finds { Finds from path.now result (S.log system.old) (S.log system.new) }
+    ensures fails { IfErr result (λ error. EndsFailed (error_kind error) (S.log system.old)
+        (S.log system.new)) }
 {
     if !has_folders(system, path, from)? {
         return Ok(None);
@@ -131,6 +137,8 @@ pub fn open_found<S: System>(system: &mut S, path: &str, found: &Seen) -> io::Re
     ensures place { IfOk result (λ file. IsSome (S.log system.new) → S.place file ≡ path.now) }
     ensures opens { OnOk result (OpensFile path.now found.now (S.log system.old) (S.log system.new)) }
     ensures reads { OnErr result (Makes (IsReading path.now) (S.log system.old) (S.log system.new)) }
+    ensures fails { IfErr result (λ error. FailsToOpen path.now found.now (error_kind error)
+        (S.log system.old) (S.log system.new)) }
 {
     let file = system.open(path)?;
     let opened = system.check(&file)?;
@@ -150,6 +158,8 @@ pub fn read_found<S: System>(
     ensures whole { IfOk result (λ bytes. ReadsFile path.now found.now bytes.items
         (S.log system.old) (S.log system.new)) }
     ensures reads { OnErr result (Makes (IsReading path.now) (S.log system.old) (S.log system.new)) }
+    ensures fails { IfErr result (λ error. FailsToOpen path.now found.now (error_kind error)
+        (S.log system.old) (S.log system.new)) }
 {
     let file = open_found(system, path, found)?;
     let length = system.check(&file)?.length;

@@ -1,6 +1,8 @@
 use Rattle.std.proofs.Common.{◌∙◌, [], ap, refl, subst, Ok, List, ℕ}
 use Rattle.cv_system.specs.Looks.{SeesFolders, folders_at}
 use Rattle.cv_system.specs.Steps.{Still}
+use Rattle.std.proofs.lemmas.Result.{err_from_is_err_and}
+use Rattle.cv_system.proofs.Failing.{fails_then, grows}
 use Rattle.cv_system.proofs.Seeing.{all_seen, ends_here, one_place_more, sees_then}
 use Rattle.cv_system.proofs.Stepping.{steps_then}
 use Rattle.cv_system.proofs.looks.has_folders.Goals as goal
@@ -36,3 +38,8 @@ returns-clause-through g c = λ _.
     let so_far = c.loop-end.invariant.through in
     subst (λ (folders : List (List ℕ)). SeesFolders folders (g.S.System.log c.args.system.now) (g.S.System.log c.loop-end.system))
     (all_seen c.args.path.now c.args.from c.loop-end.end so_far.0 c.loop-end-test.false so_far.1) so_far.2
+
+pub returns-in_err-leads_on-clause-fails : goal.returns-in_err-leads_on-clause-fails
+returns-in_err-leads_on-clause-fails g c =
+    let p = err_from_is_err_and c.from_residual.result c.from_residual.ensures.1 in
+    rw (p.1, p.2) (fails_then (grows c.loop-end.invariant.looks) c.in_err-leads_on.ensures.fails)
