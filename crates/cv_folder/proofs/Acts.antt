@@ -1,27 +1,32 @@
 -- The calls of a vault over a folder, put together.
-use Rattle.std.proofs.Common.{◌≡◌, ◌+◌, ◌∷◌, [], Bool, true, false, List, ℕ, length, Option, Some, None, Result, Ok, Err, refl, sym, subst, inl, inr, string_bytes}
+use Rattle.std.proofs.Common.{◌≡◌, ◌+◌, ◌∷◌, [], Bool, true, false, List, ℕ, length, Option, Some, None, Result, Ok, Err, Vec, refl, sym, subst, inl, inr, string_bytes}
 use Rattle.std.specs.Prelude.{IsTrue, IfErr, OnErr, OnOk}
 use Rattle.std.specs.declared.io.Error.{Error}
 use Rattle.std.specs.declared.io.ErrorKind.{ErrorKind}
-use Rattle.std.specs.declared.io.ErrorKind.TheVariants.{NotFound}
 use Rattle.cv_folder.specs.declared.folder_vault.FolderVault.{FolderVault}
 use Rattle.cv_folder.specs.declared.hold.Hold.{Hold}
-use Rattle.cv_folder.specs.declared.hold.Hold.TheVariants.{Unasked, Held, Absent, Refused}
-use Rattle.cv_folder.specs.declared.seen.Seen.{Seen}
-use Rattle.cv_folder.specs.Calls.{Log, Removed}
+use Rattle.cv_folder.specs.declared.hold.Hold.TheVariants.{Absent, Held, Refused, Unasked}
+use Rattle.cv_system.specs.declared.seen.Seen.{Seen}
+use Rattle.cv_system.specs.Calls.{Log, Removed}
 use Rattle.cv_folder.specs.FolderVault.{Acts, AsksAlone, IsUncalled}
 use Rattle.cv_folder.specs.FolderVaultInner.{FindsNamed, MovesOn}
-use Rattle.cv_folder.specs.Hold.{Asked, AskedAt, Asks, IsHeld, IsRoot, LocksNot, with_slash}
-use Rattle.cv_folder.specs.Looks.{Finds, IsReading, ReadsFile}
-use Rattle.cv_folder.specs.Names.{is_name, path_of}
-use Rattle.cv_folder.specs.Reads.{HasFile, LacksFile, LooksInVain, MeasuresNamed, ReadsNamed}
-use Rattle.cv_folder.specs.Steps.{Makes, Quiet, Tries}
+use Rattle.cv_folder.specs.Hold.{Asked, AskedAt, Asks, AsksInVain, IsHeld, IsRoot}
+use Rattle.cv_system.specs.Names.{is_name, path_of, with_slash}
+use Rattle.cv_folder.specs.Listed.{ListsNamed}
+use Rattle.cv_system.specs.Looks.{Finds, IsReading, ReadsFile}
+use Rattle.cv_folder.specs.Reads.{HasFile, IsUnserved, LacksFile, LooksInVain, MeasuresNamed, ReadsNamed}
+use Rattle.cv_system.specs.Steps.{Makes, Tries}
 use Rattle.cv_folder.specs.Writes.{MovesNamed, RemovesNamed}
 
 -- what holds holds where a call is made too
 pub on_ok : {T E Q : Type 0} (result : Result T E) → Q → OnOk result Q
 on_ok (Ok x) so = so
 on_ok (Err error) so = tt
+
+-- and where it isn't
+pub on_err_only : {T E Q : Type 0} (result : Result T E) → Q → OnErr result Q
+on_err_only (Ok x) so = tt
+on_err_only (Err error) so = so
 
 -- what an error shows
 pub on_err : {T E Q : Type 0} {P : E → Type 0} (result : Result T E) → ((error : E) → P error → Q) → IfErr result P → OnErr result Q
@@ -38,15 +43,15 @@ asks_nothing root Refused log not = (refl, refl)
 
 module _ {F : Type 0} (root path : List ℕ) (before between after : Log) (at : path ≡ with_slash root) (same : between ≡ before) where
   -- the folder was asked for at its path
-  pub asked_so : (hold : Hold F) → AskedAt path hold between after → Asked root hold before after
+  pub asked_so : (hold : Hold F) → IsRoot root → AskedAt path hold between after → Asked root hold before after
   unfolding Asked
-  asked_so hold so = inl (subst (λ (log : Log). AskedAt (with_slash root) hold log after) same (subst (λ (p : List ℕ). AskedAt p hold between after) at so))
+  asked_so hold is_root so = inl (is_root, subst (λ (log : Log). AskedAt (with_slash root) hold log after) same (subst (λ (p : List ℕ). AskedAt p hold between after) at so))
 
   -- it can't be told what is there
-  pub unasked_so : (hold : Hold F) → hold ≡ Unasked → (kind : ErrorKind) → ((kind ≡ NotFound) → ⊥) → LocksNot path kind between after → Asked root hold before after
+  pub unasked_so : (hold : Hold F) → hold ≡ Unasked → IsRoot root → (kind : ErrorKind) → AsksInVain path kind between after → Asked root hold before after
   unfolding AskedAt
-  unasked_so hold is kind never so =
-      subst (λ (h : Hold F). Asked root h before after) (sym is) (asked_so Unasked (kind, never, so))
+  unasked_so hold is is_root kind so =
+      subst (λ (h : Hold F). Asked root h before after) (sym is) (asked_so Unasked is_root (kind, so))
 
 -- a path that may be none of a vault's folder is refused
 pub refused_so : (F : Type 0) (root : List ℕ) (before after : Log) → (IsRoot root → ⊥) → after ≡ before → Asked {F = F} root Refused before after
@@ -100,9 +105,9 @@ module _ {F : Type 0} (root name : List ℕ) (hold : Hold F) (before : Log) wher
   finds_none E after absent same = inl (absent, same)
 
   -- nor where a call ends before
-  pub finds_no_more : (after : Log) {E : Type 0} (error : E) → after ≡ before → FindsNamed root name hold (Err error) before after
+  pub finds_no_more : (after : Log) {E : Type 0} (error : E) → IsUnserved root name hold → after ≡ before → FindsNamed root name hold (Err error) before after
   unfolding FindsNamed LooksInVain
-  finds_no_more after error same = inl same
+  finds_no_more after error unserved same = inl (unserved, same)
 
   module _ (seen : Seen) (found : Log) (has : FindsNamed {F = F} {E = Error} root name hold (Ok (Some seen)) before found) where
     -- a file that was found is read
@@ -130,25 +135,25 @@ module _ {F : Type 0} (root name : List ℕ) (hold : Hold F) (before : Log) wher
     removes_in_vain after error tried = inr (seen, found, has, tried)
 
     -- it is moved, once folders are made on the way to its other name
-    module _ (to home path : List ℕ) (in_root : home ≡ root) (at : path ≡ path_of root name) where
-      moved_on : (done : Bool) (after : Log) → MovesOn home path to seen done found after → MovesOn root (path_of root name) to seen done found after
+    module _ (to home path : List ℕ) (noted : List ℕ → Bool) (in_root : home ≡ root) (at : path ≡ path_of root name) where
+      moved_on : (done : Bool) (after : Log) → MovesOn home path to seen noted done found after → MovesOn root (path_of root name) to seen noted done found after
       moved_on done after moves =
-          subst (λ (h : List ℕ). MovesOn h (path_of root name) to seen done found after) in_root (subst (λ (p : List ℕ). MovesOn home p to seen done found after) at moves)
+          subst (λ (h : List ℕ). MovesOn h (path_of root name) to seen noted done found after) in_root (subst (λ (p : List ℕ). MovesOn home p to seen noted done found after) at moves)
 
-      named_so : (after : Log) → MovesOn root (path_of root name) to seen true found after → MovesNamed {F = F} {E = Error} root name to hold (Ok true) before after
+      named_so : (after : Log) → MovesOn root (path_of root name) to seen noted true found after → MovesNamed {F = F} {E = Error} root name to hold noted (Ok true) before after
       unfolding FindsNamed MovesNamed MovesOn
       named_so after (ready, prepared, inl (never, same)) = absurd (cc)
       named_so after (ready, prepared, inr (leads, moved)) = (seen, found, ready, has, prepared, leads, moved)
 
-      pub moves_named : (after : Log) → MovesOn home path to seen true found after → MovesNamed {F = F} {E = Error} root name to hold (Ok true) before after
+      pub moves_named : (after : Log) → MovesOn home path to seen noted true found after → MovesNamed {F = F} {E = Error} root name to hold noted (Ok true) before after
       moves_named after moves = named_so after (moved_on true after moves)
 
-      in_vain_so : (after : Log) (error : Error) → MovesOn root (path_of root name) to seen false found after → MovesNamed root name to hold (Err error) before after
+      in_vain_so : (after : Log) (error : Error) → MovesOn root (path_of root name) to seen noted false found after → MovesNamed root name to hold noted (Err error) before after
       unfolding FindsNamed MovesNamed MovesOn
       in_vain_so after error (ready, prepared, inl (never, same)) = inr (seen, found, ready, has, prepared, inl same)
       in_vain_so after error (ready, prepared, inr moved) = inr (seen, found, ready, has, prepared, inr moved)
 
-      pub moves_in_vain : (after : Log) (error : Error) → MovesOn home path to seen false found after → MovesNamed root name to hold (Err error) before after
+      pub moves_in_vain : (after : Log) (error : Error) → MovesOn home path to seen noted false found after → MovesNamed root name to hold noted (Err error) before after
       moves_in_vain after error moves = in_vain_so after error (moved_on false after moves)
 
   -- no file is there, or the look for it failed
@@ -177,13 +182,13 @@ module _ {F : Type 0} (root name : List ℕ) (hold : Hold F) (before : Log) wher
     unfolding FindsNamed RemovesNamed
     removes_lost error other h = inl h
 
-    pub moves_none : (to : List ℕ) → FindsNamed {F = F} {E = Error} root name hold (Ok None) before after → MovesNamed {F = F} {E = Error} root name to hold (Ok false) before after
+    pub moves_none : (to : List ℕ) (noted : List ℕ → Bool) → FindsNamed {F = F} {E = Error} root name hold (Ok None) before after → MovesNamed {F = F} {E = Error} root name to hold noted (Ok false) before after
     unfolding FindsNamed MovesNamed
-    moves_none to h = h
+    moves_none to noted h = h
 
-    pub moves_lost : (to : List ℕ) (error other : Error) → FindsNamed root name hold (Err error) before after → MovesNamed root name to hold (Err other) before after
+    pub moves_lost : (to : List ℕ) (noted : List ℕ → Bool) (error other : Error) → FindsNamed root name hold (Err error) before after → MovesNamed root name to hold noted (Err other) before after
     unfolding FindsNamed MovesNamed
-    moves_lost to error other h = inl h
+    moves_lost to noted error other h = inl h
 
 -- the public calls answer by a fault of their own
 module _ {S F N E D : Type 0} (log : S → Log) (before between after : FolderVault S F N) (same : after.hold ≡ between.hold) (uncalled : IsUncalled log between after) (error : E) (fault : D) where
@@ -208,12 +213,13 @@ module _ {S F N E D : Type 0} (log : S → Log) (before between after : FolderVa
     unfolding RemovesNamed
     removes_fault acts = as_called (λ hold. RemovesNamed root name hold (Err fault)) acts
 
-    pub moves_fault : (to : List ℕ) → Acts log (MovesNamed root name to between.hold (Err error)) before between → Acts log (MovesNamed root name to after.hold (Err fault)) before after
+    pub moves_fault : (to : List ℕ) (noted : List ℕ → Bool) → Acts log (MovesNamed root name to between.hold noted (Err error)) before between → Acts log (MovesNamed root name to after.hold noted (Err fault)) before after
     unfolding MovesNamed
-    moves_fault to acts = as_called (λ hold. MovesNamed root name to hold (Err fault)) acts
+    moves_fault to noted acts = as_called (λ hold. MovesNamed root name to hold noted (Err fault)) acts
 
-  pub lists_fault : Acts log Quiet before between → Acts log Quiet before after
-  lists_fault acts = as_called (λ hold. Quiet) acts
+  pub lists_fault : (Z : Type 0) (root : List ℕ) → Acts log (ListsNamed {Z = Z} root between.hold (Err error)) before between → Acts log (ListsNamed {Z = Z} root after.hold (Err fault)) before after
+  unfolding ListsNamed
+  lists_fault Z root acts = as_called (λ hold. ListsNamed {Z = Z} root hold (Err fault)) acts
 
 -- what is answered well is the same
 module _ {S F N : Type 0} (E D : Type 0) (log : S → Log) (before after : FolderVault S F N) (hold : Hold F) (root name : List ℕ) where
@@ -232,7 +238,13 @@ module _ {S F N : Type 0} (E D : Type 0) (log : S → Log) (before after : Folde
   removes_done true acts = acts
   removes_done false acts = acts
 
-  pub moves_done : (to : List ℕ) (found : Bool) → Acts log (MovesNamed {E = E} root name to hold (Ok found)) before after → Acts log (MovesNamed {E = D} root name to hold (Ok found)) before after
+  pub moves_done : (to : List ℕ) (noted : List ℕ → Bool) (found : Bool) → Acts log (MovesNamed {E = E} root name to hold noted (Ok found)) before after → Acts log (MovesNamed {E = D} root name to hold noted (Ok found)) before after
   unfolding MovesNamed
-  moves_done to true acts = acts
-  moves_done to false acts = acts
+  moves_done to noted true acts = acts
+  moves_done to noted false acts = acts
+
+-- names that were listed are so
+pub lists_done : {S F N Z : Type 0} (E D : Type 0) (log : S → Log) (before after : FolderVault S F N) (hold : Hold F) (root : List ℕ) (names : Vec (List ℕ) Z)
+    → Acts log (ListsNamed {E = E} root hold (Ok names)) before after → Acts log (ListsNamed {E = D} root hold (Ok names)) before after
+unfolding ListsNamed
+lists_done E D log before after hold root names acts = acts

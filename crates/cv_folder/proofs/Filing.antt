@@ -1,48 +1,72 @@
 -- A write and a sync of a vault over a folder, put together.
-use Rattle.std.proofs.Common.{◌≡◌, ◌∙◌, ◌+◌, ◌++◌, ◌∷◌, [], Bool, true, false, List, ℕ, length, map, Result, Ok, Err, refl, sym, ap, subst, inl, inr, string_bytes, codes}
-use Rattle.std.specs.Prelude.{IsOk, IsTrue, OnOk, is_ok}
+use Rattle.std.proofs.Common.{◌≡◌, ◌∙◌, ◌+◌, ◌++◌, ◌∷◌, [], Bool, true, false, List, ℕ, length, map, Result, Ok, Err, refl, sym, ap, subst, inl, inr, string_bytes, codes, arith}
+use Rattle.std.specs.Prelude.{◌⊎◌, IsOk, IsTrue, OnOk, is_ok}
 use Rattle.cv_folder.specs.declared.folder_vault.FolderVault.{FolderVault}
 use Rattle.cv_folder.specs.declared.hold.Hold.{Hold}
-use Rattle.cv_folder.specs.declared.hold.Hold.TheVariants.{Unasked, Absent}
-use Rattle.cv_folder.specs.Calls.{Log}
-use Rattle.cv_folder.specs.declared.seen.Seen.{Seen}
-use Rattle.cv_folder.specs.FolderVault.{Acts, AsksAlone, IsUncalled}
+use Rattle.cv_folder.specs.declared.hold.Hold.TheVariants.{Absent, Unasked}
+use Rattle.cv_system.specs.Calls.{Log}
+use Rattle.cv_system.specs.declared.seen.Seen.{Seen}
+use Rattle.cv_folder.specs.FolderVault.{Acts, AsksAlone, HoldsFirst, IsUncalled}
 use Rattle.cv_folder.specs.FolderVaultInner.{MovesOn}
 use Rattle.cv_folder.specs.Hold.{Begins, IsHeld, MakesRoot}
-use Rattle.cv_folder.specs.Names.{folder_of, is_name, next_of, path_of}
-use Rattle.cv_folder.specs.Steps.{Tries}
-use Rattle.cv_folder.specs.Syncs.{SettlesAll, SettlesFirst, SyncsAll, SyncsHeld, syncs}
-use Rattle.cv_folder.specs.Looks.{folders_past}
+use Rattle.cv_system.specs.Names.{folder_of, is_name, next_of, path_of}
+use Rattle.cv_system.specs.Steps.{Tries}
+use Rattle.cv_system.specs.Syncs.{syncs}
+use Rattle.cv_system.specs.Walks.{SettlesAll}
+use Rattle.cv_folder.specs.Syncs.{SettlesFirst, SyncsAll, SyncsHeld}
+use Rattle.cv_system.specs.Looks.{folders_past}
 use Rattle.cv_folder.specs.Writes.{Leads, MovesFile, Prepares, Puts, WritesFile}
 use Rattle.cv_folder.proofs.Acts.{acts_so}
-use Rattle.cv_folder.proofs.Stepping.{no_step}
+use Rattle.cv_folder.proofs.Preparing.{prepares_wider}
+use Rattle.cv_system.proofs.Laws.{no_step}
 
 -- a write begins as the folder is asked for
-pub begins_asked : {S F N : Type 0} (log : S → Log) (before after : FolderVault S F N) → AsksAlone log before after
-    → Begins (string_bytes before.root) before.hold after.hold (log before.system) (log after.system)
+pub begins_asked : {S F N : Type 0} (log : S → Log) (before after : FolderVault S F N) (noted : List ℕ → Bool) → AsksAlone log before after → HoldsFirst before after
+    → Begins (string_bytes before.root) before.hold after.hold after.is_unsettled noted (log before.system) (log after.system)
 unfolding AsksAlone Begins
-begins_asked log before after asks = (after.hold, log after.system, asks, inl (refl, refl))
+begins_asked log before after noted asks first = (after.hold, log after.system, asks, first.1, inl (refl, refl))
 
 -- where it is absent it is made
-pub begins_made : {S F N : Type 0} (log : S → Log) (before between after : FolderVault S F N) → AsksAlone log before between → between.hold ≡ Absent
-    → (root : List ℕ) → root ≡ string_bytes before.root → MakesRoot root after.hold (log between.system) (log after.system)
-    → Begins (string_bytes before.root) before.hold after.hold (log before.system) (log after.system)
+pub begins_made : {S F N : Type 0} (log : S → Log) (before between after : FolderVault S F N) (noted : List ℕ → Bool) → AsksAlone log before between → HoldsFirst before between → between.hold ≡ Absent
+    → (IsTrue between.is_unsettled → IsTrue after.is_unsettled) → (root : List ℕ) → root ≡ string_bytes before.root → MakesRoot root after.hold (log between.system) (log after.system)
+    → ((after.hold ≡ Absent) × (log after.system ≡ log between.system)) ⊎ IsTrue (noted (folder_of root))
+    → Begins (string_bytes before.root) before.hold after.hold after.is_unsettled noted (log before.system) (log after.system)
 unfolding AsksAlone Begins
-begins_made log before between after asks absent root same makes =
-    (between.hold, log between.system, asks, inr (absent, subst (λ (r : List ℕ). MakesRoot r after.hold (log between.system) (log after.system)) same makes))
+begins_made log before between after noted asks first absent kept root same makes above = (
+  between.hold,
+  log between.system,
+  asks,
+  λ was held. kept (first.1 was held),
+  inr (
+    absent,
+    subst (λ (r : List ℕ). MakesRoot r after.hold (log between.system) (log after.system)) same makes,
+    subst (λ (r : List ℕ). ((after.hold ≡ Absent) × (log after.system ≡ log between.system)) ⊎ IsTrue (noted (folder_of r))) same above,
+  ),
+)
 
-module _ {F : Type 0} (root name bytes : List ℕ) (was hold : Hold F) (before begun : Log) (begins : Begins root was hold before begun) where
+-- it has begun also where more is unsettled by then, and more is noted
+pub begins_on : {F : Type 0} (root : List ℕ) (was hold : Hold F) (is_unsettled by_then : Bool) (noted more : List ℕ → Bool) (before after : Log)
+    → (IsTrue is_unsettled → IsTrue by_then) → ((folder : List ℕ) → IsTrue (noted folder) → IsTrue (more folder))
+    → Begins root was hold is_unsettled noted before after → Begins root was hold by_then more before after
+unfolding Begins
+begins_on root was hold is_unsettled by_then noted more before after still kept (found, asked, asks, first, inl no_more) = (found, asked, asks, λ is held. still (first is held), inl no_more)
+begins_on root was hold is_unsettled by_then noted more before after still kept (found, asked, asks, first, inr (absent, makes, inl none)) =
+    (found, asked, asks, λ is held. still (first is held), inr (absent, makes, inl none))
+begins_on root was hold is_unsettled by_then noted more before after still kept (found, asked, asks, first, inr (absent, makes, inr above)) =
+    (found, asked, asks, λ is held. still (first is held), inr (absent, makes, inr (kept (folder_of root) above)))
+
+module _ {F : Type 0} (root name bytes : List ℕ) (was hold : Hold F) (is_unsettled : Bool) (noted : List ℕ → Bool) (before begun : Log) (begins : Begins root was hold is_unsettled noted before begun) where
   -- a write ends as it has begun
-  pub writes_no_more : (after : Log) → after ≡ begun → WritesFile root name bytes was hold false before after
+  pub writes_no_more : (after : Log) → after ≡ begun → WritesFile root name bytes was hold is_unsettled noted false before after
   unfolding WritesFile
   writes_no_more after same = (begun, begins, inl (refl, same))
 
   module _ (held : IsHeld hold) (named : IsTrue (is_name name)) (path next : List ℕ) (from : ℕ) (at : path ≡ path_of root name) (size : from ≡ length root + 1)
-      (set ready : Log) (same : set ≡ begun) (prepares : Prepares from path set ready) where
-    prepared : Prepares (length root + 1) (path_of root name) begun ready
+      (set ready : Log) (same : set ≡ begun) (prepares : Prepares from path noted set ready) where
+    prepared : Prepares (length root + 1) (path_of root name) noted begun ready
     prepared =
-        subst (λ (log : Log). Prepares (length root + 1) (path_of root name) log ready) same
-        (subst (λ (p : List ℕ). Prepares (length root + 1) p set ready) at (subst (λ (n : ℕ). Prepares n path set ready) size prepares))
+        subst (λ (log : Log). Prepares (length root + 1) (path_of root name) noted log ready) same
+        (subst (λ (p : List ℕ). Prepares (length root + 1) p noted set ready) at (subst (λ (n : ℕ). Prepares n path noted set ready) size prepares))
 
     led : Leads (folders_past from path) set ready → Leads (folders_past (length root + 1) (path_of root name)) begun ready
     led leads =
@@ -50,16 +74,29 @@ module _ {F : Type 0} (root name bytes : List ℕ) (was hold : Hold F) (before b
         (subst (λ (p : List ℕ). Leads (folders_past (length root + 1) p) set ready) at (subst (λ (n : ℕ). Leads (folders_past n path) set ready) size leads))
 
     -- a folder on the way couldn't be made
-    pub writes_on_way : WritesFile root name bytes was hold false before ready
+    pub writes_on_way : WritesFile root name bytes was hold is_unsettled noted false before ready
     unfolding WritesFile
     writes_on_way = (begun, begins, inr (held, named, ready, prepared, inr (refl, refl)))
 
     -- the file is put, or that fails
-    pub writes_so : (done : Bool) (after : Log) → next ≡ folder_of path ++ codes ".cvkit-next" → Leads (folders_past from path) set ready → Puts next path bytes done ready after → WritesFile root name bytes was hold done before after
+    pub writes_so : (done : Bool) (after : Log) → next ≡ folder_of path ++ codes ".cvkit-next" → Leads (folders_past from path) set ready → Puts next path bytes done ready after → WritesFile root name bytes was hold is_unsettled noted done before after
     unfolding WritesFile
     writes_so done after beside leads puts =
         let own : next ≡ next_of root name = beside ∙ ap (λ (p : List ℕ). folder_of p ++ codes ".cvkit-next") at in
         (begun, begins, inr (held, named, ready, prepared, inl (led leads, subst (λ (n : List ℕ). Puts n (path_of root name) bytes done ready after) own (subst (λ (p : List ℕ). Puts next p bytes done ready after) at puts))))
+
+-- a write is what it was where more is unsettled by then, and more is noted
+pub writes_by_then : {F : Type 0} (root name bytes : List ℕ) (was hold : Hold F) (is_unsettled by_then : Bool) (noted more : List ℕ → Bool) (done : Bool) (before after : Log)
+    → (IsTrue is_unsettled → IsTrue by_then) → ((folder : List ℕ) → IsTrue (noted folder) → IsTrue (more folder))
+    → WritesFile root name bytes was hold is_unsettled noted done before after → WritesFile root name bytes was hold by_then more done before after
+unfolding WritesFile
+writes_by_then root name bytes was hold is_unsettled by_then noted more done before after still kept (begun, begins, inl no_more) =
+    (begun, begins_on root was hold is_unsettled by_then noted more before begun still kept begins, inl no_more)
+writes_by_then root name bytes was hold is_unsettled by_then noted more done before after still kept (begun, begins, inr (held, named, ready, prepares, rest)) = (
+  begun,
+  begins_on root was hold is_unsettled by_then noted more before begun still kept begins,
+  inr (held, named, ready, prepares_wider (path_of root name) (length root + 1) (length root + 1) noted more (omega arith) kept begun ready prepares, rest),
+)
 
 -- nothing is settled first
 pub settles_nothing : (root : List ℕ) (is_unsettled : Bool) (before after : Log) → is_unsettled ≡ false → after ≡ before → SettlesFirst root is_unsettled before after
@@ -112,20 +149,20 @@ sync_done log before between synced after (Ok y) (Ok x) asks held kept first roo
     acts_so log before between after _ asks same
     (syncs_held _ _ _ _ _ _ _ (subst IsHeld (sym same) held) between.is_unsettled kept first (synced_so log before between synced after root folders uncalled syncs))
 
-module _ (root to : List ℕ) (seen : Seen) (before : Log) where
+module _ (root to : List ℕ) (seen : Seen) (noted : List ℕ → Bool) (before : Log) where
   -- a move ends before it made a folder
-  pub moves_no_more : (path : List ℕ) (after : Log) → after ≡ before → MovesOn root path to seen false before after
+  pub moves_no_more : (path : List ℕ) (after : Log) → after ≡ before → MovesOn root path to seen noted false before after
   unfolding MovesOn Prepares
   moves_no_more path after same = (after, no_step same, inl (refl, refl))
 
-  module _ (path target : List ℕ) (from : ℕ) (at : target ≡ path_of root to) (size : from ≡ length root + 1) (set ready : Log) (same : set ≡ before) (prepares : Prepares from target set ready) where
-    on_way : Prepares (length root + 1) (path_of root to) before ready
+  module _ (path target : List ℕ) (from : ℕ) (at : target ≡ path_of root to) (size : from ≡ length root + 1) (set ready : Log) (same : set ≡ before) (prepares : Prepares from target noted set ready) where
+    on_way : Prepares (length root + 1) (path_of root to) noted before ready
     on_way =
-        subst (λ (log : Log). Prepares (length root + 1) (path_of root to) log ready) same
-        (subst (λ (p : List ℕ). Prepares (length root + 1) p set ready) at (subst (λ (n : ℕ). Prepares n target set ready) size prepares))
+        subst (λ (log : Log). Prepares (length root + 1) (path_of root to) noted log ready) same
+        (subst (λ (p : List ℕ). Prepares (length root + 1) p noted set ready) at (subst (λ (n : ℕ). Prepares n target noted set ready) size prepares))
 
     -- a folder on the way couldn't be made
-    pub moves_on_way : MovesOn root path to seen false before ready
+    pub moves_on_way : MovesOn root path to seen noted false before ready
     unfolding MovesOn
     moves_on_way = (ready, on_way, inl (refl, refl))
 
@@ -135,7 +172,7 @@ module _ (root to : List ℕ) (seen : Seen) (before : Log) where
         (subst (λ (p : List ℕ). Leads (folders_past (length root + 1) p) set ready) at (subst (λ (n : ℕ). Leads (folders_past n target) set ready) size leads))
 
     -- the file is moved, or that fails
-    pub moves_on : (source : List ℕ) (done : Bool) (after : Log) → source ≡ path → Leads (folders_past from target) set ready → MovesFile source target seen done ready after → MovesOn root path to seen done before after
+    pub moves_on : (source : List ℕ) (done : Bool) (after : Log) → source ≡ path → Leads (folders_past from target) set ready → MovesFile source target seen done ready after → MovesOn root path to seen noted done before after
     unfolding MovesOn
     moves_on source done after is leads moves =
         (ready, on_way, inr (led_on leads, subst (λ (p : List ℕ). MovesFile p (path_of root to) seen done ready after) is (subst (λ (t : List ℕ). MovesFile source t seen done ready after) at moves)))

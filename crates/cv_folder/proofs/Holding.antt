@@ -4,26 +4,37 @@ use Rattle.std.specs.Prelude.{IfOk, IfErr, is_some}
 use Rattle.std.specs.IoError.{error_kind}
 use Rattle.std.specs.declared.io.Error.{Error}
 use Rattle.cv_folder.specs.declared.hold.Hold.{Hold}
-use Rattle.cv_folder.specs.declared.hold.Hold.TheVariants.{Absent}
-use Rattle.cv_folder.specs.Calls.{Log, Made, and_call, Done}
-use Rattle.cv_folder.specs.FolderVaultInner.{made_hold}
-use Rattle.cv_folder.specs.Hold.{Locks, LocksAndLeaves, MakesRoot, with_slash}
+use Rattle.cv_folder.specs.declared.hold.Hold.TheVariants.{Absent, Held, Refused}
+use Rattle.cv_system.specs.Calls.{Done, Log, Made, and_call}
+use Rattle.cv_folder.specs.FolderVaultInner.{MakesHeld}
+use Rattle.cv_folder.specs.Hold.{Locks, LocksAndLeaves, MakesRoot}
+use Rattle.cv_system.specs.Names.{with_slash}
 
 -- a folder that was made is held, another vault holds it, or it couldn't be locked
-pub makes_root : {F : Type 0} (root path : List ℕ) (before made after : Log) (result : Result (Option F) Error) → path ≡ with_slash root → made ≡ and_call (Made root Done) before
+pub makes_held : {F : Type 0} (root path : List ℕ) (before made after : Log) (result : Result (Option F) Error) → path ≡ with_slash root → made ≡ and_call (Made root Done) before
     → IfOk result (λ held. Locks path (is_some held) made after) → IfErr result (λ error. LocksAndLeaves root path (error_kind error) made after)
-    → MakesRoot root (made_hold result) before after
-unfolding MakesRoot
-makes_root root path before made after (Ok (Some file)) at is locks leaves =
+    → MakesHeld root result before after
+unfolding MakesHeld
+makes_held root path before made after (Ok (Some file)) at is locks leaves =
     subst (λ (log : Log). Locks (with_slash root) true log after) is (subst (λ (p : List ℕ). Locks p true made after) at locks)
-makes_root root path before made after (Ok None) at is locks leaves =
+makes_held root path before made after (Ok None) at is locks leaves =
     inr (subst (λ (log : Log). Locks (with_slash root) false log after) is (subst (λ (p : List ℕ). Locks p false made after) at locks))
-makes_root root path before made after (Err error) at is locks leaves =
-    inr (inr (
-      error_kind error,
-      subst (λ (log : Log). LocksAndLeaves root (with_slash root) (error_kind error) log after) is
-          (subst (λ (p : List ℕ). LocksAndLeaves root p (error_kind error) made after) at leaves),
-    ))
+makes_held root path before made after (Err error) at is locks leaves =
+    inr (subst (λ (log : Log). LocksAndLeaves root (with_slash root) (error_kind error) log after) is
+    (subst (λ (p : List ℕ). LocksAndLeaves root p (error_kind error) made after) at leaves))
+
+-- what a vault has of a folder whose making and locking answered so
+abbrev pub made_hold : {F : Type 0} → Result (Option F) Error → Hold F
+made_hold (Ok (Some file)) = Held file
+made_hold (Ok None) = Refused
+made_hold (Err error) = Absent
+
+pub makes_root : {F : Type 0} (root : List ℕ) (before after : Log) (result : Result (Option F) Error) → MakesHeld root result before after → MakesRoot root (made_hold result) before after
+unfolding MakesHeld MakesRoot
+makes_root root before after (Ok (Some file)) makes = makes
+makes_root root before after (Ok None) makes = makes
+makes_root root before after (Err error) (inl (never, made)) = inr (inl (error_kind error, never, made))
+makes_root root before after (Err error) (inr leaves) = inr (inr (error_kind error, leaves))
 
 module _ {F : Type 0} (root : List ℕ) (hold : Hold F) where
   -- no folder was made
@@ -32,7 +43,9 @@ module _ {F : Type 0} (root : List ℕ) (hold : Hold F) where
   makes_still before after absent same = subst (λ (h : Hold F). MakesRoot root h before after) (sym absent) (inl same)
 
   -- one was, by the path of the vault's folder
-  pub makes_then : (path : List ℕ) (made : Hold F) (before between after : Log) → hold ≡ made → path ≡ root → between ≡ before → MakesRoot path made between after → MakesRoot root hold before after
-  makes_then path made before between after is at same makes =
+  pub makes_then : (path : List ℕ) (result : Result (Option F) Error) (before between after : Log) → hold ≡ made_hold result → path ≡ root → between ≡ before
+      → MakesHeld path result between after → MakesRoot root hold before after
+  makes_then path result before between after is at same makes =
       subst (λ (h : Hold F). MakesRoot root h before after) (sym is)
-      (subst (λ (log : Log). MakesRoot root made log after) same (subst (λ (p : List ℕ). MakesRoot p made between after) at makes))
+      (subst (λ (log : Log). MakesRoot root (made_hold result) log after) same
+      (subst (λ (p : List ℕ). MakesRoot p (made_hold result) between after) at (makes_root path between after result makes)))

@@ -1,18 +1,17 @@
 -- Folders that are made on the way of a path.
 use Rattle.std.proofs.Common.{◌≡◌, ◌∙◌, ◌<◌, ◌≤◌, ◌++◌, ◌∷◌, [], suc, List, ℕ, length, take, drop, get_or, None, Some, Ok, Err, refl, sym, ap, subst, inl, inr, arith, take-append-drop, drop-cons, length-take}
-use Rattle.std.specs.Prelude.{◌⊎◌, ◌==◌, if◌then◌else◌, OnOk, Result, slice_index}
-use Rattle.cv_folder.specs.LooksInner.{folders_at}
-use Rattle.cv_folder.specs.Calls.{Log, Looked, Made, Done, Outcome, and_call}
-use Rattle.cv_folder.specs.declared.seen.Seen.{Seen}
-use Rattle.cv_folder.specs.declared.seen.Kind.TheVariants.{Folder}
-use Rattle.cv_folder.specs.LooksInner.{Looks}
-use Rattle.cv_folder.specs.Steps.{IsLook, Makes, Still, Then}
-use Rattle.cv_folder.specs.Writes.{IsOnWay, Leads, LeadsOn, MakesMissing, Prepares}
-use Rattle.cv_folder.proofs.Trying.{two_calls}
-use Rattle.cv_folder.proofs.Stepping.{no_step, steps_then, steps_wider}
+use Rattle.std.specs.Prelude.{◌⊎◌, ◌==◌, Bool, IsTrue, if◌then◌else◌, OnOk, Result, slice_index}
+use Rattle.cv_system.specs.Looks.{Looks, folders_at}
+use Rattle.cv_system.specs.Calls.{Done, Log, Looked, Made, Outcome, and_call}
+use Rattle.cv_system.specs.declared.seen.Seen.{Seen}
+use Rattle.cv_system.specs.declared.seen.Kind.TheVariants.{Folder}
+use Rattle.cv_system.specs.Names.{folder_of}
+use Rattle.cv_system.specs.Steps.{IsLook, Makes, Still, Then}
+use Rattle.cv_folder.specs.Writes.{IsAbove, IsOnWay, Leads, LeadsOn, MakesMissing, Prepares}
+use Rattle.cv_system.proofs.Laws.{no_step, steps_then, steps_wider, two_calls}
 
 -- what is before a slash of a path is on its way
-on_way : (path folder : List ℕ) (end : ℕ) → end < length path → folder ≡ take end path → get_or path end 0 ≡ 47 → IsOnWay end path folder
+pub on_way : (path folder : List ℕ) (end : ℕ) → end < length path → folder ≡ take end path → get_or path end 0 ≡ 47 → IsOnWay end path folder
 on_way path folder end within is slash = (
   drop (suc end) path,
   sym (take-append-drop end path)
@@ -23,33 +22,50 @@ on_way path folder end within is slash = (
 )
 
 -- where nothing is a folder is made, or nothing more is called
-pub makes_missing : (folder : List ℕ) (before between after : Log) → Looks folder (Ok None) before between
-    → (after ≡ between) ⊎ ((made : Outcome) × (after ≡ and_call (Made folder made) between)) → Makes IsLook before after ⊎ MakesMissing folder before after
-makes_missing folder before between after (kind, nothing, is) (inl same) = inl (Then Still (Looked folder (Err kind), tt, same ∙ is))
-makes_missing folder before between after (kind, nothing, is) (inr (made, next)) = inr (kind, made, nothing, two_calls _ _ _ _ _ is next)
+pub makes_missing : (Noted : Type 0) (folder : List ℕ) (before between after : Log) → Looks folder (Ok None) before between
+    → (after ≡ between) ⊎ (Noted × (made : Outcome) × (after ≡ and_call (Made folder made) between)) → Makes IsLook before after ⊎ (Noted × MakesMissing folder before after)
+makes_missing Noted folder before between after (kind, nothing, is) (inl same) = inl (Then Still (Looked folder (Err kind), tt, same ∙ is))
+makes_missing Noted folder before between after (kind, nothing, is) (inr (noted, made, next)) = inr (noted, (kind, made, nothing, two_calls _ _ _ _ _ is next))
 
 -- such a folder is looked at, and made if it is missing
-pub prepares_one : (path folder : List ℕ) (end : ℕ) (before after : Log) → end < length path → folder ≡ take end path → get_or path end 0 ≡ 47
-    → Makes IsLook before after ⊎ MakesMissing folder before after → Prepares end path before after
+pub prepares_one : (path folder : List ℕ) (end : ℕ) (noted : List ℕ → Bool) (before after : Log) → end < length path → folder ≡ take end path → get_or path end 0 ≡ 47
+    → Makes IsLook before after ⊎ (IsTrue (noted (folder_of folder)) × MakesMissing folder before after) → Prepares end path noted before after
 unfolding Prepares
-prepares_one path folder end before after within is slash (inl looks) = Then Still (inl looks)
-prepares_one path folder end before after within is slash (inr makes) = Then Still (inr (folder, on_way path folder end within is slash, makes))
+prepares_one path folder end noted before after within is slash (inl looks) = Then Still (inl looks)
+prepares_one path folder end noted before after within is slash (inr (above, makes)) = Then Still (inr (folder, on_way path folder end within is slash, above, makes))
 
 -- nothing is made
-pub prepares_none : (path : List ℕ) (from : ℕ) (before after : Log) → after ≡ before → Prepares from path before after
+pub prepares_none : (path : List ℕ) (from : ℕ) (noted : List ℕ → Bool) (before after : Log) → after ≡ before → Prepares from path noted before after
 unfolding Prepares
-prepares_none path from before after same = no_step same
+prepares_none path from noted before after same = no_step same
 
-widen_way : (path : List ℕ) (from end : ℕ) → from ≤ end → (one other : Log)
-    → Makes IsLook one other ⊎ ((folder : List ℕ) × IsOnWay end path folder × MakesMissing folder one other)
-    → Makes IsLook one other ⊎ ((folder : List ℕ) × IsOnWay from path folder × MakesMissing folder one other)
-widen_way path from end behind one other (inl looks) = inl looks
-widen_way path from end behind one other (inr (folder, (rest, is, size), makes)) = inr (folder, (rest, is, omega arith), makes)
+module _ (path : List ℕ) (from end : ℕ) (noted more : List ℕ → Bool) (behind : from ≤ end) (kept : (folder : List ℕ) → IsTrue (noted folder) → IsTrue (more folder)) where
+  widen_way : (one other : Log)
+      → Makes IsLook one other ⊎ ((folder : List ℕ) × IsOnWay end path folder × IsTrue (noted (folder_of folder)) × MakesMissing folder one other)
+      → Makes IsLook one other ⊎ ((folder : List ℕ) × IsOnWay from path folder × IsTrue (more (folder_of folder)) × MakesMissing folder one other)
+  widen_way one other (inl looks) = inl looks
+  widen_way one other (inr (folder, (rest, is, size), above, makes)) = inr (folder, (rest, is, omega arith), kept (folder_of folder) above, makes)
 
--- folders further on
-pub prepares_on : (path : List ℕ) (from end : ℕ) (before between after : Log) → from ≤ end → Prepares from path before between → Prepares end path between after → Prepares from path before after
+  -- what is further on, and where more is noted by then
+  pub prepares_wider : (before after : Log) → Prepares end path noted before after → Prepares from path more before after
+  unfolding Prepares
+  prepares_wider before after prepares = steps_wider widen_way prepares
+
+-- a folder above what is further on is above the path
+pub above_wider : (path : List ℕ) (from end : ℕ) → from ≤ end → (folder : List ℕ) → IsAbove end path folder → IsAbove from path folder
+above_wider path from end behind folder (inl at) = inl at
+above_wider path from end behind folder (inr (other, (rest, is, size), at)) = inr (other, (rest, is, omega arith), at)
+
+-- a folder above what stands at a place is above what stands at the same
+pub above_at : (from size : ℕ) (path at folder : List ℕ) → from ≡ size → path ≡ at → IsAbove from path folder → IsAbove size at folder
+above_at from size path at folder same is above = subst (λ (p : List ℕ). IsAbove size p folder) is (subst (λ (n : ℕ). IsAbove n path folder) same above)
+
+-- folders further on, where more is noted by then
+pub prepares_on : (path : List ℕ) (from end : ℕ) (noted more : List ℕ → Bool) (before between after : Log) → from ≤ end → ((folder : List ℕ) → IsTrue (noted folder) → IsTrue (more folder))
+    → Prepares from path noted before between → Prepares end path more between after → Prepares from path more before after
 unfolding Prepares
-prepares_on path from end before between after behind first more = steps_then first (steps_wider (widen_way path from end behind) more)
+prepares_on path from end noted more before between after behind kept first further =
+    steps_then (prepares_wider path from from noted more (omega arith) kept before between first) (prepares_wider path from end more more behind (λ folder is. is) between after further)
 
 -- ---- where a way leads
 

@@ -1,11 +1,11 @@
 -- How a vault comes to hold its folder.
-use Rattle.std.specs.Prelude.{ℕ, ◌≡◌, ◌⊎◌, ◌+◌, ◌<◌, Bool, true, false, List, [], ◌∷◌, ◌++◌, length, Ok, Err, IsTrue, ⊤}
+use Rattle.std.specs.Prelude.{ℕ, ◌≡◌, ◌≢◌, ◌⊎◌, ◌+◌, ◌<◌, Bool, true, false, List, [], ◌∷◌, length, Ok, Err, IsTrue, ⊤}
 use Rattle.std.specs.declared.io.ErrorKind.{ErrorKind}
 use Rattle.std.specs.declared.io.ErrorKind.TheVariants.{AlreadyExists, NotFound}
 use Rattle.cv_folder.specs.declared.hold.Hold.{Hold}
-use Rattle.cv_folder.specs.declared.hold.Hold.TheVariants.{Unasked, Held, Absent, Refused}
-use Rattle.cv_folder.specs.Calls.{Log, Outcome, and_call, and_calls, Done, Failed, Opened, Locked, Made, Unmade}
-use Rattle.cv_folder.specs.Names.{is_part, last_part}
+use Rattle.cv_folder.specs.declared.hold.Hold.TheVariants.{Absent, Held, Refused, Unasked}
+use Rattle.cv_system.specs.Calls.{Done, Failed, Locked, Log, Made, Opened, Outcome, Unmade, and_call, and_calls}
+use Rattle.cv_system.specs.Names.{folder_of, is_part, last_part, with_slash}
 
 -- the vault has its folder open and locked
 abbrev pub IsHeld : {F : Type 0} → Hold F → Type 0
@@ -14,36 +14,38 @@ IsHeld (Held file) = ⊤
 IsHeld Absent = ⊥
 IsHeld Refused = ⊥
 
--- a folder's path with the slash at its end
-abbrev pub with_slash : List ℕ → List ℕ
-with_slash folder = folder ++ 47 ∷ []
-
 -- a path that a vault's folder may have: its last part may be one of a name, and the system takes it with a slash at its end
 abbrev pub IsRoot : List ℕ → Type 0
 IsRoot path = IsTrue (is_part (last_part path)) × (length path + 1 < 4096)
 
--- a folder was opened, or it wasn't by an error of this kind, or it was and couldn't be locked
+-- a folder couldn't be opened, by an error of this kind
+abbrev pub OpensNot : List ℕ → ErrorKind → Log → Log → Type 0
+OpensNot folder kind before after = after ≡ and_call (Opened folder (Failed kind)) before
+
+-- a folder was opened and couldn't be locked, by an error of this kind
 abbrev pub LocksNot : List ℕ → ErrorKind → Log → Log → Type 0
-LocksNot folder kind before after =
-    (after ≡ and_call (Opened folder (Failed kind)) before)
-    ⊎ (after ≡ and_calls (Opened folder Done ∷ Locked folder (Err kind) ∷ []) before)
+LocksNot folder kind before after = after ≡ and_calls (Opened folder Done ∷ Locked folder (Err kind) ∷ []) before
 
 -- a folder was opened and the system was asked for its lock: whether it gave it
 abbrev pub Locks : List ℕ → Bool → Log → Log → Type 0
 Locks folder given before after = after ≡ and_calls (Opened folder Done ∷ Locked folder (Ok given) ∷ []) before
 
+-- a folder is asked for in vain: it couldn't be opened, by an error of this kind by which something may be there, or it was and couldn't be locked
+abbrev pub AsksInVain : List ℕ → ErrorKind → Log → Log → Type 0
+AsksInVain folder kind before after = ((kind ≢ NotFound) × OpensNot folder kind before after) ⊎ LocksNot folder kind before after
+
 -- what is found of a folder as it is asked for: it is held exactly where it was opened and locked now, refused where another holds it,
--- and absent where nothing was there
+-- absent where it couldn't be opened since nothing was there, and still unasked where it couldn't be for another cause, or not be locked
 unfoldable pub AskedAt : {F : Type 0} → List ℕ → Hold F → Log → Log → Type 0
 AskedAt folder (Held file) before after = Locks folder true before after
 AskedAt folder Refused before after = Locks folder false before after
-AskedAt folder Absent before after = LocksNot folder NotFound before after
-AskedAt folder Unasked before after = (kind : ErrorKind) × ((kind ≡ NotFound) → ⊥) × LocksNot folder kind before after
+AskedAt folder Absent before after = OpensNot folder NotFound before after
+AskedAt folder Unasked before after = (kind : ErrorKind) × AsksInVain folder kind before after
 
 -- the same of the folder of a vault, by its path without the slash; a path that may be none is refused unasked
 unfoldable pub Asked : {F : Type 0} → List ℕ → Hold F → Log → Log → Type 0
 Asked root hold before after =
-    AskedAt (with_slash root) hold before after ⊎ ((IsRoot root → ⊥) × (hold ≡ Refused) × (after ≡ before))
+    (IsRoot root × AskedAt (with_slash root) hold before after) ⊎ ((IsRoot root → ⊥) × (hold ≡ Refused) × (after ≡ before))
 
 -- a call begins: a vault that hadn't asked for its folder does so now, any other asks nothing
 unfoldable pub Asks : {F : Type 0} → List ℕ → Hold F → Hold F → Log → Log → Type 0
@@ -55,7 +57,7 @@ Asks root Refused hold before after = (hold ≡ Refused) × (after ≡ before)
 -- a folder that was made couldn't be opened or locked, by an error of this kind, and was removed again, if it could be
 abbrev pub LocksAndLeaves : List ℕ → List ℕ → ErrorKind → Log → Log → Type 0
 LocksAndLeaves folder slashed kind before after =
-    (gone : Outcome) × (tried : Log) × LocksNot slashed kind before tried × (after ≡ and_call (Unmade folder gone) tried)
+    (gone : Outcome) × (tried : Log) × (OpensNot slashed kind before tried ⊎ LocksNot slashed kind before tried) × (after ≡ and_call (Unmade folder gone) tried)
 
 -- a vault's folder, which wasn't there, is made, and what the vault has of it then: it holds it exactly where it was made, opened and locked;
 -- it is refused where something stood there by now or another vault holds it; else it is absent still, and where it couldn't be locked it goes again
@@ -65,12 +67,20 @@ MakesRoot root Refused before after =
     (after ≡ and_call (Made root (Failed AlreadyExists)) before) ⊎ Locks (with_slash root) false (and_call (Made root Done) before) after
 MakesRoot root Absent before after =
     (after ≡ before)
-    ⊎ ((kind : ErrorKind) × (after ≡ and_call (Made root (Failed kind)) before))
+    ⊎ ((kind : ErrorKind) × (kind ≢ AlreadyExists) × (after ≡ and_call (Made root (Failed kind)) before))
     ⊎ ((kind : ErrorKind) × LocksAndLeaves root (with_slash root) kind (and_call (Made root Done) before) after)
 MakesRoot root Unasked before after = ⊥
 
--- a write begins: the folder is asked for, and where it is absent it is made. What the vault had of it, and has by then
-unfoldable pub Begins : {F : Type 0} → List ℕ → Hold F → Hold F → Log → Log → Type 0
-Begins {F} root was hold before after =
-    (found : Hold F) × (asked : Log) × Asks root was found before asked
-    × (((hold ≡ found) × (after ≡ asked)) ⊎ ((found ≡ Absent) × MakesRoot root hold asked after))
+-- where a vault holds its folder for the first time, all in it is unsettled: others may have changed it before. What the vault had of it and has,
+-- and whether all is unsettled by then
+abbrev pub Unsettles : {F : Type 0} → Hold F → Hold F → Bool → Type 0
+Unsettles was hold is_unsettled = was ≡ Unasked → IsHeld hold → IsTrue is_unsettled
+
+-- a write begins: the folder is asked for, and where it is absent it is made, once the folder above is noted. What the vault had of it and has by
+-- then, whether all is unsettled, and which folders are noted
+unfoldable pub Begins : {F : Type 0} → List ℕ → Hold F → Hold F → Bool → (List ℕ → Bool) → Log → Log → Type 0
+Begins {F} root was hold is_unsettled noted before after =
+    (found : Hold F) × (asked : Log) × Asks root was found before asked × Unsettles was found is_unsettled
+    × (((hold ≡ found) × (after ≡ asked))
+    ⊎ ((found ≡ Absent) × MakesRoot root hold asked after
+    × (((hold ≡ Absent) × (after ≡ asked)) ⊎ IsTrue (noted (folder_of root)))))

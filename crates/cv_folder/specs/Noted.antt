@@ -1,5 +1,5 @@
 -- Which folders are noted.
-use Rattle.std.specs.Prelude.{ℕ, Bool, List, IsTrue, bytes_eq, string_bytes}
+use Rattle.std.specs.Prelude.{ℕ, ◌⊎◌, Bool, List, IsTrue, bytes_eq, string_bytes}
 use Rattle.std.specs.List.{list_any}
 use Rattle.std.specs.declared.string.String.{String}
 
@@ -10,3 +10,7 @@ is_noted notes folder = list_any (λ note. bytes_eq (string_bytes note) folder) 
 -- a folder that was noted is noted still
 abbrev pub Keeps : {A : Type 0} → List (String A) → List (String A) → Type 0
 Keeps before after = (folder : List ℕ) → IsTrue (is_noted before folder) → IsTrue (is_noted after folder)
+
+-- no folder is noted anew but such ones
+abbrev pub NotesOnly : {A : Type 0} → (List ℕ → Type 0) → List (String A) → List (String A) → Type 0
+NotesOnly IsSuch before after = (folder : List ℕ) → IsTrue (is_noted after folder) → IsTrue (is_noted before folder) ⊎ IsSuch folder

@@ -1,15 +1,15 @@
 -- How a file gets its name, and the folders that it stands in.
-use Rattle.std.specs.Prelude.{ℕ, ◌≡◌, ◌⊎◌, ◌≤◌, ◌+◌, Bool, true, false, List, [], ◌∷◌, ◌++◌, length, Result, Ok, Err, IsTrue}
+use Rattle.std.specs.Prelude.{ℕ, ◌≡◌, ◌⊎◌, ◌<◌, ◌≤◌, ◌+◌, Bool, true, false, List, [], ◌∷◌, ◌++◌, length, Result, Ok, Err, IsTrue}
 use Rattle.std.specs.declared.io.ErrorKind.{ErrorKind}
 use Rattle.std.specs.declared.io.ErrorKind.TheVariants.{AlreadyExists}
-use Rattle.cv_folder.specs.Calls.{Call, Log, Outcome, and_call, and_calls, Done, Failed, Looked, Created, Wrote, Synced, Renamed, Removed, Made}
-use Rattle.cv_folder.specs.Steps.{IsLook, Makes, Steps, Tries}
-use Rattle.cv_folder.specs.declared.seen.Seen.{Seen}
-use Rattle.cv_folder.specs.declared.seen.Kind.TheVariants.{Folder}
-use Rattle.cv_folder.specs.Looks.{IsNothing, IsSame, folders_past}
+use Rattle.cv_system.specs.Calls.{Call, Created, Done, Failed, Log, Looked, Made, Outcome, Removed, Renamed, Synced, Wrote, and_call, and_calls}
+use Rattle.cv_system.specs.Steps.{IsLook, Makes, Steps, Tries}
+use Rattle.cv_system.specs.declared.seen.Seen.{Seen}
+use Rattle.cv_system.specs.declared.seen.Kind.TheVariants.{Folder}
+use Rattle.cv_system.specs.Looks.{IsNothing, IsSame, folders_past}
 use Rattle.cv_folder.specs.Reads.{HasFile, LacksFile, LooksInVain}
 use Rattle.cv_folder.specs.Hold.{Begins, IsHeld}
-use Rattle.cv_folder.specs.Names.{is_name, next_of, path_of}
+use Rattle.cv_system.specs.Names.{folder_of, is_name, next_of, path_of}
 use Rattle.cv_folder.specs.declared.hold.Hold.{Hold}
 
 -- the own file is created anew, also where something stood there and was removed, and then these calls are tried
@@ -37,9 +37,14 @@ abbrev pub MakesMissing : List ℕ → Log → Log → Type 0
 MakesMissing folder before after =
     (kind : ErrorKind) × (made : Outcome) × IsNothing kind × (after ≡ and_calls (Looked folder (Err kind) ∷ Made folder made ∷ []) before)
 
--- there are looks, and folders on the way of a path are made where nothing is
-unfoldable pub Prepares : ℕ → List ℕ → Log → Log → Type 0
-Prepares from path before after = Steps (λ one other. Makes IsLook one other ⊎ ((folder : List ℕ) × IsOnWay from path folder × MakesMissing folder one other)) before after
+-- there are looks, and folders on the way of a path are made where nothing is, each of which stands in one that is noted
+unfoldable pub Prepares : ℕ → List ℕ → (List ℕ → Bool) → Log → Log → Type 0
+Prepares from path noted before after =
+    Steps (λ one other. Makes IsLook one other ⊎ ((folder : List ℕ) × IsOnWay from path folder × IsTrue (noted (folder_of folder)) × MakesMissing folder one other)) before after
+
+-- a folder that a path or a folder on its way stands in
+abbrev pub IsAbove : ℕ → List ℕ → List ℕ → Type 0
+IsAbove from path folder = (folder ≡ folder_of path) ⊎ ((other : List ℕ) × IsOnWay from path other × (folder ≡ folder_of other))
 
 -- a folder on a way was seen as a folder, or nothing was there and it was made
 abbrev pub LeadsOn : List ℕ → Log → Log → Type 0
@@ -54,36 +59,48 @@ Leads (folder ∷ folders) before after = (between : Log) × LeadsOn folder befo
 
 -- a write: it begins, and nothing more is called where it fails by then; where this is a name and the folder is held, folders are made
 -- on the way to it, and then, where the way leads to it by folders alone, the file is put, once, or the write has failed before. What the
--- vault had of its folder and has, and whether the write is done
-unfoldable pub WritesFile : {F : Type 0} → List ℕ → List ℕ → List ℕ → Hold F → Hold F → Bool → Log → Log → Type 0
-WritesFile root name bytes was hold done before after =
-    (begun : Log) × Begins root was hold before begun
+-- vault had of its folder and has, whether all is unsettled, which folders are noted, and whether the write is done
+unfoldable pub WritesFile : {F : Type 0} → List ℕ → List ℕ → List ℕ → Hold F → Hold F → Bool → (List ℕ → Bool) → Bool → Log → Log → Type 0
+WritesFile root name bytes was hold is_unsettled noted done before after =
+    (begun : Log) × Begins root was hold is_unsettled noted before begun
     × (((done ≡ false) × (after ≡ begun))
-    ⊎ (IsHeld hold × IsTrue (is_name name) × (ready : Log) × Prepares (length root + 1) (path_of root name) begun ready
+    ⊎ (IsHeld hold × IsTrue (is_name name) × (ready : Log) × Prepares (length root + 1) (path_of root name) noted begun ready
     × ((Leads (folders_past (length root + 1) (path_of root name)) begun ready × Puts (next_of root name) (path_of root name) bytes done ready after)
     ⊎ ((done ≡ false) × (after ≡ ready)))))
 
--- a look sees that a path is another name of a file
+-- a file has more names than one, and a look sees that a path is another of them
 abbrev pub SeesOther : Seen → List ℕ → Log → Log → Type 0
-SeesOther seen path before after = (other : Seen) × IsSame seen other × (after ≡ and_call (Looked path (Ok other)) before)
+SeesOther seen path before after = (1 < seen.links) × (other : Seen) × IsSame seen other × (after ≡ and_call (Looked path (Ok other)) before)
 
--- a file gets another name, or of two names of one file the first goes. That is the last call, whether it is made or fails
+-- what a look told isn't that file
+abbrev pub IsOther : Seen → Result Seen ErrorKind → Type 0
+IsOther seen (Ok other) = IsSame seen other → ⊥
+IsOther seen (Err kind) = IsNothing kind
+
+-- a path is no other name of a file: the file has one name, or a look sees another file there, or nothing
+abbrev pub SeesNoOther : Seen → List ℕ → Log → Log → Type 0
+SeesNoOther seen path before after =
+    ((seen.links ≤ 1) × (after ≡ before))
+    ⊎ ((1 < seen.links) × (other : Result Seen ErrorKind) × IsOther seen other × (after ≡ and_call (Looked path other) before))
+
+-- a file gets another name, or of two names of one file the first goes: the call that does so is the last, whether it is made or fails. Or the look
+-- for whether they are names of one file failed
 unfoldable pub MovesFile : List ℕ → List ℕ → Seen → Bool → Log → Log → Type 0
 MovesFile from to seen done before after =
-    ((looked : Log) × Makes IsLook before looked × Tries (Renamed from to ∷ []) done looked after)
+    ((looked : Log) × SeesNoOther seen to before looked × Tries (Renamed from to ∷ []) done looked after)
     ⊎ ((looked : Log) × SeesOther seen to before looked × Tries (Removed from ∷ []) done looked after)
-    ⊎ ((done ≡ false) × Makes IsLook before after)
+    ⊎ ((done ≡ false) × (1 < seen.links) × (kind : ErrorKind) × (after ≡ and_call (Looked to (Err kind)) before))
 
 -- a file is moved from a name to another: it is found, folders are made on the way to the other, and where that leads there by folders
 -- alone it is moved; or none is there
-unfoldable pub MovesNamed : {F E : Type 0} → List ℕ → List ℕ → List ℕ → Hold F → Result Bool E → Log → Log → Type 0
-MovesNamed root from to hold (Ok true) before after =
-    (seen : Seen) × (found ready : Log) × HasFile root from hold seen before found × Prepares (length root + 1) (path_of root to) found ready
+unfoldable pub MovesNamed : {F E : Type 0} → List ℕ → List ℕ → List ℕ → Hold F → (List ℕ → Bool) → Result Bool E → Log → Log → Type 0
+MovesNamed root from to hold noted (Ok true) before after =
+    (seen : Seen) × (found ready : Log) × HasFile root from hold seen before found × Prepares (length root + 1) (path_of root to) noted found ready
     × Leads (folders_past (length root + 1) (path_of root to)) found ready × MovesFile (path_of root from) (path_of root to) seen true ready after
-MovesNamed root from to hold (Ok false) before after = LacksFile root from hold before after
-MovesNamed root from to hold (Err error) before after =
-    LooksInVain from hold before after
-    ⊎ ((seen : Seen) × (found ready : Log) × HasFile root from hold seen before found × Prepares (length root + 1) (path_of root to) found ready
+MovesNamed root from to hold noted (Ok false) before after = LacksFile root from hold before after
+MovesNamed root from to hold noted (Err error) before after =
+    LooksInVain root from hold before after
+    ⊎ ((seen : Seen) × (found ready : Log) × HasFile root from hold seen before found × Prepares (length root + 1) (path_of root to) noted found ready
     × ((after ≡ ready)
     ⊎ (Leads (folders_past (length root + 1) (path_of root to)) found ready × MovesFile (path_of root from) (path_of root to) seen false ready after)))
 
@@ -93,5 +110,5 @@ RemovesNamed root name hold (Ok true) before after =
     (seen : Seen) × (found : Log) × HasFile root name hold seen before found × Tries (Removed (path_of root name) ∷ []) true found after
 RemovesNamed root name hold (Ok false) before after = LacksFile root name hold before after
 RemovesNamed root name hold (Err error) before after =
-    LooksInVain name hold before after
+    LooksInVain root name hold before after
     ⊎ ((seen : Seen) × (found : Log) × HasFile root name hold seen before found × Tries (Removed (path_of root name) ∷ []) false found after)

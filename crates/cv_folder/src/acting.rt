@@ -1,32 +1,29 @@
 //! What a vault over a folder does, and which calls of the system it makes for it.
-ghost use Rattle.std.specs.Prelude.{◌≡◌, ◌≢◌, ◌<◌, ◌+◌, ◌↔◌, ◌⊎◌, ◌++◌, [], ◌∷◌, length, map, true, false, Ok, Err, None, IfOk, IsOk, IsTrue, OnErr, OnOk, codes, is_ok, string_bytes, ⊤};
+ghost use Rattle.std.specs.Prelude.{◌≡◌, ◌≢◌, ◌<◌, ◌+◌, ◌↔◌, ◌⊎◌, ◌++◌, [], ◌∷◌, length, true, false, Ok, Err, None, IfErr, IfOk, IsOk, IsTrue, OnErr, OnOk, codes, is_ok, string_bytes, ⊤};
 ghost use Rattle.std.specs.IoError.{error_kind, raw_os_error};
 ghost use Rattle.cv_base.specs.Counts.{HasCause};
+ghost use Rattle.cv_folder.specs.Causes.{FailsBy, FailsToMove, FailsToRead, FailsToWrite};
 ghost use Rattle.cv_vault.specs.declared.vault.VaultFault.TheVariants.{Failed, NoMemory};
-ghost use Rattle.cv_folder.specs.FolderVault.{Acts, Adds, AsksAlone, Fails, Holds, IsUncalled, Notes, Serves, Stays, SyncsDone};
-ghost use Rattle.cv_folder.specs.FolderVaultInner.{FindsNamed, HasFolder, IsAt, MovesOn};
-ghost use Rattle.cv_folder.specs.Hold.{Asked, Begins, IsHeld, IsRoot, MakesRoot, with_slash};
-ghost use Rattle.cv_folder.specs.Listed.{IsListed};
-ghost use Rattle.cv_folder.specs.Names.{is_name, folder_of, path_of};
+ghost use Rattle.cv_folder.specs.FolderVault.{Acts, Adds, AsksAlone, HoldsFirst, HoldsOrMakes, IsAboveName, IsUncalled, Notes, Rests, Serves, Stays, with_fault};
+ghost use Rattle.cv_folder.specs.FolderVaultInner.{FailsToMake, FailsToMoveOn, FindsNamed, HasFolder, IsAt, IsMemory, MovesOn};
+ghost use Rattle.cv_folder.specs.Hold.{Asked, Begins, IsHeld, IsRoot, MakesRoot};
+ghost use Rattle.cv_system.specs.Names.{folder_of, is_name, path_of, with_slash};
+ghost use Rattle.cv_folder.specs.Listed.{IsListed, ListsNamed};
 ghost use Rattle.cv_folder.specs.Noted.{is_noted};
-ghost use Rattle.cv_folder.specs.Reads.{MeasuresNamed, ReadsNamed};
-ghost use Rattle.cv_folder.specs.Calls.{Removed};
-ghost use Rattle.cv_folder.specs.Steps.{Quiet, Tries};
-ghost use Rattle.cv_folder.specs.Syncs.{SettlesFirst, SyncsAll};
+ghost use Rattle.cv_folder.specs.Reads.{IsUnserved, MeasuresNamed, ReadsNamed};
+ghost use Rattle.cv_system.specs.Calls.{Removed};
+ghost use Rattle.cv_system.specs.Steps.{EndsFailed, Tries};
 ghost use Rattle.cv_folder.specs.Writes.{MovesNamed, RemovesNamed, WritesFile};
 
 use crate::folder_vault::FolderVault;
 use crate::hold::{Hold, hold_of, make_held, refused};
 use crate::listing::list_files;
-use crate::looks::{find_file, is_memory, read_found};
 use crate::making::make_folders;
-use crate::names::{NEXT, folder_of, is_name, is_root};
-use crate::noting::{note, note_or_all};
+use crate::noting::{note, note_or_all, own_text};
 use crate::putting::{move_file, put_file};
-use crate::seen::Seen;
-use crate::syncing::{Unsynced, sync_folder, sync_folders};
-use crate::system::System;
 use cv_base::{Bytes, Text};
+use cv_system::looks::{find_file, is_memory, read_found};
+use cv_system::{NEXT, Seen, System, folder_of, is_name, is_root};
 use cv_vault::VaultFault;
 use std::io;
 use std::io::ErrorKind;
@@ -52,7 +49,10 @@ impl<S: System + Drop> FolderVault<S> {
         requires { self.old.hold ≡ Hold.Unasked }
         ensures asked { IfOk result (λ hold. Asked (string_bytes self.old.root) hold
             (S.log self.old.system) (S.log self.new.system)) }
+        ensures known { IfOk result (λ hold. hold ≢ Hold.Unasked) }
         ensures fails { OnErr result (Asked (string_bytes self.old.root) self.old.hold
+            (S.log self.old.system) (S.log self.new.system)) }
+        ensures why { IfErr result (λ error. EndsFailed (error_kind error)
             (S.log self.old.system) (S.log self.new.system)) }
         ensures hold { self.new.hold ≡ self.old.hold }
         ensures stays { Stays self.old self.new }
@@ -69,12 +69,18 @@ impl<S: System + Drop> FolderVault<S> {
     pub(crate) fn make_root(&mut self) -> io::Result<()>
         requires { self.old.hold ≡ Hold.Absent }
         ensures held { OnOk result (IsHeld self.new.hold) }
-        ensures noted { OnOk result
-            (IsTrue (is_noted self.new.folders.items (folder_of (string_bytes self.old.root)))) }
-        ensures adds { Adds self.old self.new }
+        ensures noted { ((self.new.hold ≡ Hold.Absent)
+            × (S.log self.new.system ≡ S.log self.old.system))
+            ⊎ IsTrue (is_noted self.new.folders.items (folder_of (string_bytes self.old.root))) }
+        ensures adds { Adds (λ folder. folder ≡ folder_of (string_bytes self.old.root))
+            self.old self.new }
+        ensures holds { HoldsOrMakes self.old.hold self.new.hold }
         ensures faults { self.new.faults ≡ self.old.faults }
         ensures calls { MakesRoot (string_bytes self.old.root) self.new.hold
             (S.log self.old.system) (S.log self.new.system) }
+        ensures why { IfErr result (λ error. IsMemory error
+            ⊎ FailsToMake (string_bytes self.old.root) self.new.hold (error_kind error)
+            (S.log self.old.system) (S.log self.new.system)) }
     {
         note(&mut self.folders, folder_of(self.root.as_str()))?;
         self.set_root()?;
@@ -93,6 +99,7 @@ impl<S: System + Drop> FolderVault<S> {
     /// Sets the path of the folder, with a slash at its end.
     pub(crate) fn set_root(&mut self) -> io::Result<()>
         ensures ok { IsOk result ↔ (length (string_bytes self.old.root) + 1 < 4096) }
+        ensures kind { IfErr result (λ error. error_kind error ≡ ErrorKind.InvalidInput) }
         ensures path { OnOk result (self.new.path ≡ string_bytes self.old.root ++ 47 ∷ []) }
         ensures stays { Stays self.old self.new }
         ensures faults { self.new.faults ≡ self.old.faults }
@@ -110,6 +117,7 @@ impl<S: System + Drop> FolderVault<S> {
     pub(crate) fn set_path(&mut self, name: &str) -> io::Result<()>
         ensures ok { IsOk result ↔ IsTrue (is_name name.now) × (length (string_bytes self.old.root)
             + length name.now + 1 < 4096) }
+        ensures kind { IfErr result (λ error. error_kind error ≡ ErrorKind.InvalidInput) }
         ensures path { OnOk result (self.new.path ≡ path_of (string_bytes self.old.root) name.now) }
         ensures stays { Stays self.old self.new }
         ensures faults { self.new.faults ≡ self.old.faults }
@@ -126,6 +134,7 @@ impl<S: System + Drop> FolderVault<S> {
     /// Sets the path of the own file beside the path that is set.
     pub(crate) fn set_next(&mut self) -> io::Result<()>
         ensures ok { IsOk result ↔ (length (folder_of self.old.path) + 11 < 4096) }
+        ensures kind { IfErr result (λ error. error_kind error ≡ ErrorKind.InvalidInput) }
         ensures next { OnOk result (self.new.next ≡ folder_of self.old.path ++ codes ".cvkit-next") }
         ensures path { self.new.path ≡ self.old.path }
         ensures stays { Stays self.old self.new }
@@ -150,8 +159,13 @@ impl<S: System + Drop> FolderVault<S> {
     /// Makes the path of a name, and tells whether the vault has a folder.
     pub(crate) fn begin(&mut self, name: &str) -> io::Result<bool>
         ensures held { IfOk result (λ has. HasFolder self.new.hold has) }
+        ensures fails { OnErr result (IsUnserved (string_bytes self.old.root) name.now
+            self.new.hold) }
+        ensures why { IfErr result (λ error. FailsBy (string_bytes self.old.root) name.now
+            self.new.hold (error_kind error) (S.log self.old.system) (S.log self.new.system)) }
         ensures path { OnOk result (IsAt self.new name.now × (self.old.hold ≢ Hold.Refused)) }
         ensures stays { Stays self.old self.new }
+        ensures holds { HoldsFirst self.old self.new }
         ensures faults { self.new.faults ≡ self.old.faults }
         ensures asks { AsksAlone S.log self.old self.new }
     {
@@ -162,9 +176,12 @@ impl<S: System + Drop> FolderVault<S> {
 
     /// Asks for the folder, if that wasn't done yet. What was there before it is held is unsettled.
     pub(crate) fn ask(&mut self) -> io::Result<()>
-        ensures unsettled { self.old.hold ≡ Hold.Unasked → IsHeld self.new.hold
-            → IsTrue self.new.is_unsettled }
+        ensures known { OnOk result (self.new.hold ≢ Hold.Unasked) }
+        ensures fails { OnErr result (self.new.hold ≡ Hold.Unasked) }
+        ensures why { IfErr result (λ error. EndsFailed (error_kind error)
+            (S.log self.old.system) (S.log self.new.system)) }
         ensures stays { Stays self.old self.new }
+        ensures holds { HoldsFirst self.old self.new }
         ensures faults { self.new.faults ≡ self.old.faults }
         ensures asks { AsksAlone S.log self.old self.new }
     {
@@ -179,11 +196,15 @@ impl<S: System + Drop> FolderVault<S> {
 
     /// Whether the vault has a folder. What was there before it was held is unsettled.
     pub(crate) fn is_held(&mut self) -> io::Result<bool>
-        ensures unsettled { self.old.hold ≡ Hold.Unasked → result ≡ Ok true
-            → IsTrue self.new.is_unsettled }
         ensures held { IfOk result (λ has. HasFolder self.new.hold has) }
         ensures refused { OnOk result (self.old.hold ≢ Hold.Refused) }
+        ensures fails { OnErr result
+            ((self.new.hold ≡ Hold.Unasked) ⊎ (self.new.hold ≡ Hold.Refused)) }
+        ensures why { IfErr result (λ error.
+            ((error_kind error ≡ ErrorKind.InvalidInput) × (self.new.hold ≡ Hold.Refused))
+            ⊎ EndsFailed (error_kind error) (S.log self.old.system) (S.log self.new.system)) }
         ensures stays { Stays self.old self.new }
+        ensures holds { HoldsFirst self.old self.new }
         ensures faults { self.new.faults ≡ self.old.faults }
         ensures asks { AsksAlone S.log self.old self.new }
     {
@@ -199,9 +220,12 @@ impl<S: System + Drop> FolderVault<S> {
     pub(crate) fn find(&mut self, name: &str) -> io::Result<Option<Seen>>
         ensures path { OnOk result (IsAt self.new name.now × (self.old.hold ≢ Hold.Refused)) }
         ensures stays { Stays self.old self.new }
+        ensures holds { HoldsFirst self.old self.new }
         ensures faults { self.new.faults ≡ self.old.faults }
         ensures calls { Acts S.log (FindsNamed (string_bytes self.old.root) name.now self.new.hold
             result) self.old self.new }
+        ensures why { IfErr result (λ error. FailsBy (string_bytes self.old.root) name.now
+            self.new.hold (error_kind error) (S.log self.old.system) (S.log self.new.system)) }
     {
         if !self.begin(name)? {
             return Ok(None);
@@ -216,6 +240,7 @@ impl<S: System + Drop> FolderVault<S> {
         ensures stays { Stays self.old self.new }
         ensures calls { IsUncalled S.log self.old self.new }
         ensures hold { self.new.hold ≡ self.old.hold }
+        ensures count { self.new.faults ≡ with_fault Failed self.old.faults }
         ensures cause { HasCause self.old.faults self.new.faults ⊤ }
     {
         self.faults = self.faults.saturating_add(1);
@@ -228,6 +253,7 @@ impl<S: System + Drop> FolderVault<S> {
             ↔ (error_kind error.now ≡ ErrorKind.OutOfMemory) × (raw_os_error error.now ≡ None) }
         ensures calls { IsUncalled S.log self.old self.new }
         ensures hold { self.new.hold ≡ self.old.hold }
+        ensures count { self.new.faults ≡ with_fault result self.old.faults }
         ensures cause { HasCause self.old.faults self.new.faults (result ≡ Failed) }
         ensures stays { Stays self.old self.new }
     {
@@ -241,9 +267,12 @@ impl<S: System + Drop> FolderVault<S> {
     pub(crate) fn read_now(&mut self, name: &str) -> io::Result<Option<Bytes>>
         ensures refused { OnOk result (Serves self.old name.now) }
         ensures stays { Stays self.old self.new }
+        ensures holds { HoldsFirst self.old self.new }
         ensures faults { self.new.faults ≡ self.old.faults }
         ensures calls { Acts S.log (ReadsNamed (string_bytes self.old.root) name.now self.new.hold
             result) self.old self.new }
+        ensures why { IfErr result (λ error. FailsToRead (string_bytes self.old.root) name.now
+            self.new.hold (error_kind error) (S.log self.old.system) (S.log self.new.system)) }
     {
         match self.find(name)? {
             Some(found) => {
@@ -258,9 +287,12 @@ impl<S: System + Drop> FolderVault<S> {
     pub(crate) fn length_now(&mut self, name: &str) -> io::Result<Option<u64>>
         ensures refused { OnOk result (Serves self.old name.now) }
         ensures stays { Stays self.old self.new }
+        ensures holds { HoldsFirst self.old self.new }
         ensures faults { self.new.faults ≡ self.old.faults }
         ensures calls { Acts S.log (MeasuresNamed (string_bytes self.old.root) name.now
             self.new.hold result) self.old self.new }
+        ensures why { IfErr result (λ error. FailsBy (string_bytes self.old.root) name.now
+            self.new.hold (error_kind error) (S.log self.old.system) (S.log self.new.system)) }
     {
         match self.find(name)? {
             Some(found) => Ok(Some(found.length)),
@@ -272,8 +304,10 @@ impl<S: System + Drop> FolderVault<S> {
         ensures listed { IfOk result (λ names. IsListed prefix.now names.items) }
         ensures refused { OnOk result (self.old.hold ≢ Hold.Refused) }
         ensures stays { Stays self.old self.new }
+        ensures holds { HoldsFirst self.old self.new }
         ensures faults { self.new.faults ≡ self.old.faults }
-        ensures calls { Acts S.log Quiet self.old self.new }
+        ensures calls { Acts S.log (ListsNamed (string_bytes self.old.root) self.new.hold result)
+            self.old self.new }
     {
         if !self.is_held()? {
             return Ok(Vec::new(self.alloc));
@@ -285,10 +319,16 @@ impl<S: System + Drop> FolderVault<S> {
     pub(crate) fn begin_write(&mut self, name: &str) -> io::Result<()>
         ensures held { OnOk result (IsHeld self.new.hold × (self.old.hold ≢ Hold.Refused)) }
         ensures path { OnOk result (IsAt self.new name.now) }
-        ensures adds { Adds self.old self.new }
+        ensures adds { Adds (λ folder. folder ≡ folder_of (string_bytes self.old.root))
+            self.old self.new }
+        ensures holds { HoldsOrMakes self.old.hold self.new.hold }
         ensures faults { self.new.faults ≡ self.old.faults }
         ensures begins { Begins (string_bytes self.old.root) self.old.hold self.new.hold
+            self.new.is_unsettled (is_noted self.new.folders.items)
             (S.log self.old.system) (S.log self.new.system) }
+        ensures why { IfErr result (λ error. IsMemory error
+            ⊎ FailsToWrite (string_bytes self.old.root) name.now self.new.hold (error_kind error)
+            (S.log self.old.system) (S.log self.new.system)) }
         ensures no_name { is_name name.now ≡ false → AsksAlone S.log self.old self.new }
     {
         if self.begin(name)? {
@@ -301,10 +341,16 @@ impl<S: System + Drop> FolderVault<S> {
     pub(crate) fn write_now(&mut self, name: &str, bytes: &[u8]) -> io::Result<()>
         ensures refused { OnOk result (Serves self.old name.now × IsHeld self.new.hold) }
         ensures noted { OnOk result (Notes self.new name.now) }
-        ensures adds { Adds self.old self.new }
+        ensures adds { Adds (λ folder. (folder ≡ folder_of (string_bytes self.old.root))
+            ⊎ IsAboveName self.old name.now folder) self.old self.new }
+        ensures holds { HoldsOrMakes self.old.hold self.new.hold }
         ensures faults { self.new.faults ≡ self.old.faults }
         ensures calls { WritesFile (string_bytes self.old.root) name.now bytes.now self.old.hold
-            self.new.hold (is_ok result) (S.log self.old.system) (S.log self.new.system) }
+            self.new.hold self.new.is_unsettled (is_noted self.new.folders.items) (is_ok result)
+            (S.log self.old.system) (S.log self.new.system) }
+        ensures why { IfErr result (λ error. IsMemory error
+            ⊎ FailsToWrite (string_bytes self.old.root) name.now self.new.hold (error_kind error)
+            (S.log self.old.system) (S.log self.new.system)) }
         ensures no_name { is_name name.now ≡ false → AsksAlone S.log self.old self.new }
     {
         self.begin_write(name)?;
@@ -329,13 +375,18 @@ impl<S: System + Drop> FolderVault<S> {
         ensures left { OnOk result (IsTrue
             (is_noted self.new.folders.items (folder_of self.old.path))) }
         ensures noted { OnOk result (Notes self.new to.now) }
-        ensures adds { Adds self.old self.new }
+        ensures adds { Adds (λ folder. (folder ≡ folder_of self.old.path)
+            ⊎ IsAboveName self.old to.now folder) self.old self.new }
         ensures hold { self.new.hold ≡ self.old.hold }
         ensures faults { self.new.faults ≡ self.old.faults }
         ensures calls { MovesOn (string_bytes self.old.root) self.old.path to.now found.now
-            (is_ok result) (S.log self.old.system) (S.log self.new.system) }
+            (is_noted self.new.folders.items) (is_ok result)
+            (S.log self.old.system) (S.log self.new.system) }
+        ensures why { IfErr result (λ error. IsMemory error
+            ⊎ FailsToMoveOn (string_bytes self.old.root) to.now self.new.hold (error_kind error)
+            (S.log self.old.system) (S.log self.new.system)) }
     {
-        let source = String::from_str(self.alloc, self.path.as_str())?;
+        let source = own_text(self.alloc, self.path.as_str())?;
         self.set_path(to)?;
         note(&mut self.folders, folder_of(source.as_str()))?;
         let from = self.names_from();
@@ -354,11 +405,19 @@ impl<S: System + Drop> FolderVault<S> {
         ensures other { OnOk result (from.now ≢ to.now) }
         ensures left { result ≡ Ok true → Notes self.new from.now }
         ensures noted { result ≡ Ok true → Notes self.new to.now }
-        ensures adds { Adds self.old self.new }
+        ensures adds { Adds (λ folder. (folder
+            ≡ folder_of (path_of (string_bytes self.old.root) from.now))
+            ⊎ IsAboveName self.old to.now folder) self.old self.new }
+        ensures holds { HoldsFirst self.old self.new }
         ensures faults { self.new.faults ≡ self.old.faults }
         ensures calls { from.now ≢ to.now → IsTrue (is_name to.now)
-            → Acts S.log (MovesNamed (string_bytes self.old.root) from.now to.now self.new.hold result) self.old self.new }
-        ensures no_name { is_name to.now ≡ false → IsUncalled S.log self.old self.new }
+            → Acts S.log (MovesNamed (string_bytes self.old.root) from.now to.now self.new.hold
+            (is_noted self.new.folders.items) result) self.old self.new }
+        ensures rests { (from.now ≡ to.now) ⊎ (is_name to.now ≡ false)
+            → Rests S.log self.old self.new }
+        ensures why { IfErr result (λ error. IsMemory error
+            ⊎ FailsToMove (string_bytes self.old.root) from.now to.now self.new.hold (error_kind error)
+            (S.log self.old.system) (S.log self.new.system)) }
     {
         if from == to {
             return Err(refused());
@@ -380,11 +439,13 @@ impl<S: System + Drop> FolderVault<S> {
     pub(crate) fn remove_found(&mut self) -> io::Result<()>
         ensures noted { IsTrue (is_noted self.new.folders.items (folder_of self.old.path))
             ⊎ IsTrue self.new.is_unsettled }
-        ensures adds { Adds self.old self.new }
+        ensures adds { Adds (λ folder. folder ≡ folder_of self.old.path) self.old self.new }
         ensures hold { self.new.hold ≡ self.old.hold }
         ensures faults { self.new.faults ≡ self.old.faults }
         ensures calls { Tries (Removed self.old.path ∷ []) (is_ok result)
             (S.log self.old.system) (S.log self.new.system) }
+        ensures why { IfErr result (λ error. EndsFailed (error_kind error)
+            (S.log self.old.system) (S.log self.new.system)) }
     {
         let folder = folder_of(self.path.as_str());
         note_or_all(&mut self.folders, folder, &mut self.is_unsettled);
@@ -395,10 +456,14 @@ impl<S: System + Drop> FolderVault<S> {
     pub(crate) fn remove_now(&mut self, name: &str) -> io::Result<bool>
         ensures refused { OnOk result (Serves self.old name.now) }
         ensures noted { result ≡ Ok true → Notes self.new name.now ⊎ IsTrue self.new.is_unsettled }
-        ensures adds { Adds self.old self.new }
+        ensures adds { Adds (λ folder. folder
+            ≡ folder_of (path_of (string_bytes self.old.root) name.now)) self.old self.new }
+        ensures holds { HoldsFirst self.old self.new }
         ensures faults { self.new.faults ≡ self.old.faults }
         ensures calls { Acts S.log (RemovesNamed (string_bytes self.old.root) name.now self.new.hold
             result) self.old self.new }
+        ensures why { IfErr result (λ error. FailsBy (string_bytes self.old.root) name.now
+            self.new.hold (error_kind error) (S.log self.old.system) (S.log self.new.system)) }
     {
         match self.find(name)? {
             Some(_found) => {
@@ -407,77 +472,5 @@ impl<S: System + Drop> FolderVault<S> {
             }
             None => Ok(false),
         }
-    }
-
-    /// Makes all folders durable where an earlier process may have changed some, and the one above the root first.
-    pub(crate) fn settle(&mut self) -> Result<(), Unsynced>
-        ensures stays { Stays self.old self.new }
-        ensures faults { self.new.faults ≡ self.old.faults }
-        ensures calls { OnOk result (SettlesFirst (string_bytes self.old.root) self.old.is_unsettled
-            (S.log self.old.system) (S.log self.new.system)) }
-        ensures hold { self.new.hold ≡ self.old.hold }
-    {
-        if !self.is_unsettled {
-            return Ok(());
-        }
-        sync_folder(&mut self.system, folder_of(self.root.as_str()))?;
-        self.walk.sync_all(&mut self.system, self.root.as_str())
-    }
-
-    /// Makes the folders durable that changed, or all of them where an earlier process may have changed some.
-    pub(crate) fn sync_changed(&mut self) -> Result<(), Unsynced>
-        ensures stays { Stays self.old self.new }
-        ensures faults { self.new.faults ≡ self.old.faults }
-        ensures calls { OnOk result (SyncsAll (string_bytes self.old.root) self.old.is_unsettled
-            (map string_bytes self.old.folders.items) (S.log self.old.system) (S.log self.new.system)) }
-        ensures hold { self.new.hold ≡ self.old.hold }
-    {
-        self.settle()?;
-        sync_folders(&mut self.system, &self.folders)
-    }
-
-    /// Ends a sync: what it made durable is done, and what the system lost is so from now on.
-    pub(crate) fn end_sync(&mut self, done: Result<(), Unsynced>) -> io::Result<()>
-        ensures ok { IsOk result ↔ IsOk done }
-        ensures done { OnOk result ((self.new.folders.items ≡ []) × (self.new.is_unsettled ≡ false)) }
-        ensures lost { done ≡ Err Unsynced.Lost → IsTrue self.new.broken }
-        ensures whole { done ≢ Err Unsynced.Lost → self.new.broken ≡ self.old.broken }
-        ensures fails { OnErr result (Fails self.old self.new) }
-        ensures root { (self.new.root ≡ self.old.root) × Holds self.old.hold self.new.hold }
-        ensures faults { self.new.faults ≡ self.old.faults }
-        ensures hold { self.new.hold ≡ self.old.hold }
-        ensures calls { IsUncalled S.log self.old self.new }
-    {
-        match done {
-            Ok(()) => {
-                self.is_unsettled = false;
-                self.folders.clear();
-                Ok(())
-            }
-            Err(Unsynced::NotOpened) => Err(refused()),
-            Err(Unsynced::Lost) => {
-                self.broken = true;
-                Err(refused())
-            }
-        }
-    }
-
-    /// Nothing is to be synced where no folder is there.
-    pub(crate) fn sync_now(&mut self) -> io::Result<()>
-        ensures lost { OnOk result ((self.old.broken ≡ false) × (self.new.broken ≡ false)) }
-        ensures refused { OnOk result (self.old.hold ≢ Hold.Refused) }
-        ensures fails { OnErr result (Fails self.old self.new) }
-        ensures root { (self.new.root ≡ self.old.root) × Holds self.old.hold self.new.hold }
-        ensures faults { self.new.faults ≡ self.old.faults }
-        ensures calls { OnOk result (SyncsDone S.log self.old self.new) }
-    {
-        if self.broken {
-            return Err(refused());
-        }
-        if !self.is_held()? {
-            return Ok(());
-        }
-        let done = self.sync_changed();
-        self.end_sync(done)
     }
 }

@@ -1,21 +1,21 @@
 //! A vault over a folder.
-ghost use Rattle.std.specs.Prelude.{◌≡◌, ◌≢◌, ◌⊎◌, [], true, false, None, Ok, Err, IfOk, IsErrOf, IsTrue, OnErr, OnOk, is_ok, string_bytes, ⊤};
+ghost use Rattle.std.specs.Prelude.{◌≡◌, ◌≢◌, ◌⊎◌, [], true, false, None, Ok, Err, IfErr, IfOk, IsErrOf, IsTrue, OnErr, OnOk, is_ok, string_bytes, ⊤};
 ghost use Rattle.cv_base.specs.Counts.{HasCause};
 ghost use Rattle.cv_vault.specs.Disk.{Reads, Measures, Lists, Writes, Renames, Removes, Syncs};
 ghost use Rattle.cv_vault.specs.declared.vault.VaultFault.TheVariants.{Failed, NoMemory};
-ghost use Rattle.cv_folder.specs.FolderVault.{Acts, Adds, AsksAlone, Fails, Holds, IsUncalled, Notes, Serves, Stays, SyncsDone, Untold};
+ghost use Rattle.cv_folder.specs.Causes.{FailsBy, FailsToMove, FailsToRead, FailsToWrite, Tells};
+ghost use Rattle.cv_folder.specs.FolderVault.{Acts, Adds, AsksAlone, Fails, Holds, HoldsFirst, HoldsOrMakes, IsAboveName, Notes, Rests, Serves, Stays, SyncsDone, Untold, faults_after};
 ghost use Rattle.cv_folder.specs.Hold.{IsHeld};
-ghost use Rattle.cv_folder.specs.Listed.{IsListed};
-ghost use Rattle.cv_folder.specs.Names.{is_name};
+ghost use Rattle.cv_folder.specs.Listed.{IsListed, ListsNamed};
+ghost use Rattle.cv_system.specs.Names.{folder_of, is_name, path_of};
+ghost use Rattle.cv_folder.specs.Noted.{is_noted};
 ghost use Rattle.cv_folder.specs.Reads.{MeasuresNamed, ReadsNamed};
-ghost use Rattle.cv_folder.specs.Steps.{Quiet};
+ghost use Rattle.cv_folder.specs.Unsynced.{FailsSync};
 ghost use Rattle.cv_folder.specs.Writes.{MovesNamed, RemovesNamed, WritesFile};
 
 use crate::hold::Hold;
-use crate::path_buffer::PathBuffer;
-use crate::system::System;
-use crate::walk::Walk;
 use cv_base::{Bytes, Text};
+use cv_system::{PathBuffer, System, Walk};
 use cv_vault::{Vault, VaultFault};
 use std::alloc::{AllocError, Global};
 
@@ -85,6 +85,13 @@ impl<S: System + Drop> FolderVault<S> {
             faults: 0,
         })
     }
+
+    /// The system, once the vault is done with. Its hold of the folder ends.
+    pub fn into_system(self) -> S
+        ensures { result ≡ self.system }
+    {
+        self.system
+    }
 }
 
 impl<S: System + Drop> Vault for FolderVault<S> {
@@ -103,10 +110,15 @@ impl<S: System + Drop> Vault for FolderVault<S> {
     fn read(&mut self, name: &str) -> Result<Option<Bytes>, VaultFault>
         ensures call { Untold (Reads name.now result) self.old self.new }
         ensures cause { HasCause self.old.faults self.new.faults (IsErrOf result Failed) }
+        ensures faults { self.new.faults ≡ faults_after result self.old.faults }
         ensures refused { OnOk result (Serves self.old name.now) }
         ensures stays { Stays self.old self.new }
+        ensures holds { HoldsFirst self.old self.new }
         ensures calls { Acts S.log (ReadsNamed (string_bytes self.old.root) name.now self.new.hold
             result) self.old self.new }
+        ensures why { IfErr result (λ fault. Tells fault (λ kind. FailsToRead
+            (string_bytes self.old.root) name.now self.new.hold kind
+            (S.log self.old.system) (S.log self.new.system))) }
     {
         match self.read_now(name) {
             Ok(bytes) => Ok(bytes),
@@ -117,10 +129,15 @@ impl<S: System + Drop> Vault for FolderVault<S> {
     fn length(&mut self, name: &str) -> Result<Option<u64>, VaultFault>
         ensures call { Untold (Measures name.now result) self.old self.new }
         ensures cause { HasCause self.old.faults self.new.faults (IsErrOf result Failed) }
+        ensures faults { self.new.faults ≡ faults_after result self.old.faults }
         ensures refused { OnOk result (Serves self.old name.now) }
         ensures stays { Stays self.old self.new }
+        ensures holds { HoldsFirst self.old self.new }
         ensures calls { Acts S.log (MeasuresNamed (string_bytes self.old.root) name.now
             self.new.hold result) self.old self.new }
+        ensures why { IfErr result (λ fault. Tells fault (λ kind. FailsBy
+            (string_bytes self.old.root) name.now self.new.hold kind
+            (S.log self.old.system) (S.log self.new.system))) }
     {
         match self.length_now(name) {
             Ok(length) => Ok(length),
@@ -133,8 +150,11 @@ impl<S: System + Drop> Vault for FolderVault<S> {
         ensures listed { IfOk result (λ names. IsListed prefix.now names.items) }
         ensures refused { OnOk result (self.old.hold ≢ Hold.Refused) }
         ensures cause { HasCause self.old.faults self.new.faults (IsErrOf result Failed) }
+        ensures faults { self.new.faults ≡ faults_after result self.old.faults }
         ensures stays { Stays self.old self.new }
-        ensures calls { Acts S.log Quiet self.old self.new }
+        ensures holds { HoldsFirst self.old self.new }
+        ensures calls { Acts S.log (ListsNamed (string_bytes self.old.root) self.new.hold result)
+            self.old self.new }
     {
         match self.list_now(prefix) {
             Ok(names) => Ok(names),
@@ -145,11 +165,18 @@ impl<S: System + Drop> Vault for FolderVault<S> {
     fn write(&mut self, name: &str, bytes: &[u8]) -> Result<(), VaultFault>
         ensures call { Untold (Writes name.now bytes.now result) self.old self.new }
         ensures cause { HasCause self.old.faults self.new.faults (IsErrOf result Failed) }
+        ensures faults { self.new.faults ≡ faults_after result self.old.faults }
         ensures refused { OnOk result (Serves self.old name.now × IsHeld self.new.hold) }
         ensures noted { OnOk result (Notes self.new name.now) }
-        ensures adds { Adds self.old self.new }
+        ensures adds { Adds (λ folder. (folder ≡ folder_of (string_bytes self.old.root))
+            ⊎ IsAboveName self.old name.now folder) self.old self.new }
+        ensures holds { HoldsOrMakes self.old.hold self.new.hold }
         ensures calls { WritesFile (string_bytes self.old.root) name.now bytes.now self.old.hold
-            self.new.hold (is_ok result) (S.log self.old.system) (S.log self.new.system) }
+            self.new.hold self.new.is_unsettled (is_noted self.new.folders.items) (is_ok result)
+            (S.log self.old.system) (S.log self.new.system) }
+        ensures why { result ≡ Err Failed → Tells Failed (λ kind. FailsToWrite
+            (string_bytes self.old.root) name.now self.new.hold kind
+            (S.log self.old.system) (S.log self.new.system)) }
         ensures no_name { is_name name.now ≡ false → AsksAlone S.log self.old self.new }
     {
         match self.write_now(name, bytes) {
@@ -161,14 +188,23 @@ impl<S: System + Drop> Vault for FolderVault<S> {
     fn rename(&mut self, from: &str, to: &str) -> Result<bool, VaultFault>
         ensures call { Untold (Renames from.now to.now result) self.old self.new }
         ensures cause { HasCause self.old.faults self.new.faults (IsErrOf result Failed) }
+        ensures faults { self.new.faults ≡ faults_after result self.old.faults }
         ensures refused { OnOk result (Serves self.old from.now × Serves self.old to.now) }
         ensures other { OnOk result (from.now ≢ to.now) }
         ensures left { result ≡ Ok true → Notes self.new from.now }
         ensures noted { result ≡ Ok true → Notes self.new to.now }
-        ensures adds { Adds self.old self.new }
+        ensures adds { Adds (λ folder. (folder
+            ≡ folder_of (path_of (string_bytes self.old.root) from.now))
+            ⊎ IsAboveName self.old to.now folder) self.old self.new }
+        ensures holds { HoldsFirst self.old self.new }
         ensures calls { from.now ≢ to.now → IsTrue (is_name to.now)
-            → Acts S.log (MovesNamed (string_bytes self.old.root) from.now to.now self.new.hold result) self.old self.new }
-        ensures no_name { is_name to.now ≡ false → IsUncalled S.log self.old self.new }
+            → Acts S.log (MovesNamed (string_bytes self.old.root) from.now to.now self.new.hold
+            (is_noted self.new.folders.items) result) self.old self.new }
+        ensures rests { (from.now ≡ to.now) ⊎ (is_name to.now ≡ false)
+            → Rests S.log self.old self.new }
+        ensures why { result ≡ Err Failed → Tells Failed (λ kind. FailsToMove
+            (string_bytes self.old.root) from.now to.now self.new.hold kind
+            (S.log self.old.system) (S.log self.new.system)) }
     {
         match self.rename_now(from, to) {
             Ok(found) => Ok(found),
@@ -179,12 +215,18 @@ impl<S: System + Drop> Vault for FolderVault<S> {
     fn remove(&mut self, name: &str) -> Result<bool, VaultFault>
         ensures call { Untold (Removes name.now result) self.old self.new }
         ensures cause { HasCause self.old.faults self.new.faults (IsErrOf result Failed) }
+        ensures faults { self.new.faults ≡ faults_after result self.old.faults }
         ensures memory { result ≢ Err NoMemory }
         ensures refused { OnOk result (Serves self.old name.now) }
         ensures noted { result ≡ Ok true → Notes self.new name.now ⊎ IsTrue self.new.is_unsettled }
-        ensures adds { Adds self.old self.new }
+        ensures adds { Adds (λ folder. folder
+            ≡ folder_of (path_of (string_bytes self.old.root) name.now)) self.old self.new }
+        ensures holds { HoldsFirst self.old self.new }
         ensures calls { Acts S.log (RemovesNamed (string_bytes self.old.root) name.now self.new.hold
             result) self.old self.new }
+        ensures why { IfErr result (λ fault. Tells fault (λ kind. FailsBy
+            (string_bytes self.old.root) name.now self.new.hold kind
+            (S.log self.old.system) (S.log self.new.system))) }
     {
         match self.remove_now(name) {
             Ok(found) => Ok(found),
@@ -195,10 +237,12 @@ impl<S: System + Drop> Vault for FolderVault<S> {
     fn sync(&mut self) -> Result<(), VaultFault>
         ensures call { Untold (Syncs result) self.old self.new }
         ensures cause { HasCause self.old.faults self.new.faults (IsErrOf result Failed) }
+        ensures faults { self.new.faults ≡ faults_after result self.old.faults }
         ensures memory { result ≢ Err NoMemory }
         ensures lost { OnOk result ((self.old.broken ≡ false) × (self.new.broken ≡ false)) }
         ensures refused { OnOk result (self.old.hold ≢ Hold.Refused) }
-        ensures fails { OnErr result (Fails self.old self.new) }
+        ensures fails { OnErr result (Fails self.old self.new × HoldsFirst self.old self.new) }
+        ensures vain { OnErr result (FailsSync S.log self.old self.new) }
         ensures root { (self.new.root ≡ self.old.root) × Holds self.old.hold self.new.hold }
         ensures calls { OnOk result (SyncsDone S.log self.old self.new) }
     {

@@ -1,10 +1,12 @@
 //! The hold that a vault has of its folder.
-ghost use Rattle.std.specs.Prelude.{◌≡◌, ◌≢◌, ◌↔◌, IfOk, IfErr, IsTrue, is_some};
+ghost use Rattle.std.specs.Prelude.{◌≡◌, ◌≢◌, ◌⊎◌, ◌↔◌, Ok, Err, IfOk, IfErr, IfSome, IsTrue, is_some};
 ghost use Rattle.std.specs.IoError.{error_kind};
-ghost use Rattle.cv_folder.specs.FolderVaultInner.{made_hold};
-ghost use Rattle.cv_folder.specs.Hold.{AskedAt, Locks, LocksAndLeaves, LocksNot, MakesRoot, with_slash};
+ghost use Rattle.cv_system.specs.Calls.{Locked, and_call};
+ghost use Rattle.cv_folder.specs.FolderVaultInner.{MakesHeld};
+ghost use Rattle.cv_folder.specs.Hold.{AskedAt, AsksInVain, Locks, LocksAndLeaves, LocksNot, OpensNot};
+ghost use Rattle.cv_system.specs.Names.{with_slash};
 
-use crate::system::System;
+use cv_system::System;
 use std::io;
 use std::io::ErrorKind;
 
@@ -37,6 +39,13 @@ fn is_absent(error: &io::Error) -> bool
     matches!(error.kind(), ErrorKind::NotFound)
 }
 
+/// Whether an error says that something stands at a path.
+fn is_taken(error: &io::Error) -> bool
+    ensures { IsTrue result ↔ (error_kind error.now ≡ ErrorKind.AlreadyExists) }
+{
+    matches!(error.kind(), ErrorKind::AlreadyExists)
+}
+
 /// The error of a call that isn't made.
 pub fn refused() -> io::Error
     ensures { error_kind result ≡ ErrorKind.InvalidInput }
@@ -44,33 +53,49 @@ pub fn refused() -> io::Error
     io::Error::from(ErrorKind::InvalidInput)
 }
 
+/// Locks a folder that is open. None where another vault holds it.
+fn lock_open<S: System>(system: &mut S, file: S::File) -> io::Result<Option<S::File>>
+    ensures given { IfOk result (λ held. S.log system.new
+        ≡ and_call (Locked (S.place file) (Ok (is_some held))) (S.log system.old)) }
+    ensures same { IfOk result (λ held. IfSome held (λ held. held ≡ file)) }
+    ensures fails { IfErr result (λ error. S.log system.new
+        ≡ and_call (Locked (S.place file) (Err (error_kind error))) (S.log system.old)) }
+{
+    if system.lock(&file)? {
+        Ok(Some(file))
+    } else {
+        Ok(None)
+    }
+}
+
 /// Opens and locks a folder whose path ends in a slash. None where another vault holds it.
 fn lock_folder<S: System>(system: &mut S, folder: &str) -> io::Result<Option<S::File>>
     ensures given { IfOk result (λ held. Locks folder.now (is_some held) (S.log system.old)
         (S.log system.new)) }
-    ensures fails { IfErr result (λ error. LocksNot folder.now (error_kind error) (S.log system.old)
-        (S.log system.new)) }
+    ensures fails { IfErr result (λ error.
+        OpensNot folder.now (error_kind error) (S.log system.old) (S.log system.new)
+        ⊎ LocksNot folder.now (error_kind error) (S.log system.old) (S.log system.new)) }
 {
     let open = system.open(folder)?;
-    if system.lock(&open)? {
-        Ok(Some(open))
-    } else {
-        Ok(None)
-    }
+    lock_open(system, open)
 }
 
 /// What a vault has of the folder at this path, which ends in a slash: it holds it, if it is there.
 pub fn hold_of<S: System>(system: &mut S, folder: &str) -> io::Result<Hold<S::File>>
     ensures asked { IfOk result (λ hold. AskedAt folder.now hold (S.log system.old)
         (S.log system.new)) }
-    ensures fails { IfErr result (λ error. (error_kind error ≢ ErrorKind.NotFound)
-        × LocksNot folder.now (error_kind error) (S.log system.old) (S.log system.new)) }
+    ensures known { IfOk result (λ hold. hold ≢ Hold.Unasked) }
+    ensures fails { IfErr result (λ error. AsksInVain folder.now (error_kind error)
+        (S.log system.old) (S.log system.new)) }
 {
-    match lock_folder(system, folder) {
-        Ok(Some(open)) => Ok(Hold::Held(open)),
-        Ok(None) => Ok(Hold::Refused),
-        Err(error) if is_absent(&error) => Ok(Hold::Absent),
-        Err(error) => Err(error),
+    let open = match system.open(folder) {
+        Ok(open) => open,
+        Err(error) if is_absent(&error) => return Ok(Hold::Absent),
+        Err(error) => return Err(error),
+    };
+    match lock_open(system, open)? {
+        Some(held) => Ok(Hold::Held(held)),
+        None => Ok(Hold::Refused),
     }
 }
 
@@ -99,11 +124,11 @@ pub fn make_held<S: System>(
     slashed: &str,
 ) -> io::Result<Option<S::File>>
     requires { slashed.now ≡ with_slash folder.now }
-    ensures { MakesRoot folder.now (made_hold result) (S.log system.old) (S.log system.new) }
+    ensures { MakesHeld folder.now result (S.log system.old) (S.log system.new) }
 {
     match system.make_folder(folder) {
         Ok(()) => hold_made(system, folder, slashed),
-        Err(error) if error.kind() == ErrorKind::AlreadyExists => Ok(None),
+        Err(error) if is_taken(&error) => Ok(None),
         Err(error) => Err(error),
     }
 }

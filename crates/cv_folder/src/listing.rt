@@ -1,17 +1,18 @@
 //! The names below a folder.
-ghost use Rattle.std.specs.Prelude.{◌≡◌, ◌==◌, ◌↔◌, ℕ, List, IfOk};
+ghost use Rattle.std.specs.Prelude.{◌≡◌, ◌==◌, ◌↔◌, ◌⊎◌, ◌++◌, ◌∷◌, [], ℕ, List, IfOk, IfErr, IsOk, string_bytes};
+ghost use Rattle.std.specs.IoError.{error_kind};
 ghost use Rattle.std.specs.List.{Contains, starts_with};
 ghost use Rattle.std.specs.List.Sorted.{IsStrictlySortedBy};
 ghost use Rattle.cv_base.specs.Path.{name_cmp, same_name};
-ghost use Rattle.cv_folder.specs.Listed.{AllBegin, IsListed};
-ghost use Rattle.cv_folder.specs.Steps.{Quiet};
+ghost use Rattle.cv_folder.specs.Listed.{AllBegin, IsListed, IsListing, ListsFiles};
+ghost use Rattle.cv_folder.specs.ListedInner.{AddsSeen, ListsOn};
+ghost use Rattle.cv_system.specs.Names.{path_of};
+ghost use Rattle.cv_system.specs.Passed.{IsNoName};
+ghost use Rattle.cv_system.specs.Steps.{Makes};
 
-use crate::cut::{NAMES_ROOM, cut_name};
-use crate::looks::{is_no_name, seen_entry};
-use crate::names::is_part;
-use crate::seen::Seen;
-use crate::system::System;
 use cv_base::Text;
+use cv_system::looks::{is_no_name, seen};
+use cv_system::{NAMES_ROOM, Seen, System, cut_name, is_part};
 use std::alloc::{AllocError, Global};
 use std::cmp::Ordering;
 use std::io;
@@ -51,6 +52,27 @@ fn in_order(found: Vec<Text>) -> Vec<Text>
     texts
 }
 
+/// The path of a name below a root.
+fn path_below(alloc: Global, root: &str, name: &str) -> Result<String, AllocError>
+    ensures { IfOk result (λ path. string_bytes path ≡ path_of root.now name.now) }
+{
+    let mut path = String::from_str(alloc, root)?;
+    path.push('/')?;
+    path.push_str(name)?;
+    Ok(path)
+}
+
+/// How what was done ends where no name of the vault is behind the error that ended it: well.
+fn passed_over(done: io::Result<()>) -> io::Result<()>
+    ensures ok { IsOk done → IsOk result }
+    ensures passed { IfErr done (λ error. IsOk result ↔ IsNoName (error_kind error)) }
+{
+    match done {
+        Err(error) if is_no_name(&error) => Ok(()),
+        done => done,
+    }
+}
+
 /// A listing as it goes on.
 #[derive(Drop)]
 struct Listing {
@@ -69,7 +91,9 @@ pub fn list_files<S: System>(
     prefix: &str,
 ) -> io::Result<Vec<Text>>
     ensures listed { IfOk result (λ names. IsListed prefix.now names.items) }
-    ensures quiet { Quiet (S.log system.old) (S.log system.new) }
+    ensures calls { Makes IsListing (S.log system.old) (S.log system.new) }
+    ensures saw { IfOk result (λ names. ListsFiles root.now names.items (S.log system.old)
+        (S.log system.new)) }
 {
     let mut listing = Listing {
         alloc,
@@ -85,10 +109,7 @@ pub fn list_files<S: System>(
         let Some(folder) = listing.todo.pop() else {
             return Ok(in_order(listing.found));
         };
-        match listing.list_folder(system, root, folder.as_str(), prefix) {
-            Err(error) if is_no_name(&error) => {}
-            done => done?,
-        }
+        passed_over(listing.list_folder(system, root, folder.as_str(), prefix))?;
     }
     Err(io::Error::from(ErrorKind::TimedOut))
 }
@@ -97,8 +118,10 @@ impl Listing {
     /// Adds a name, if it begins with the prefix.
     #[tactic(auto, using(crate::proofs::Listed::one_more))]
     fn add(&mut self, name: String, prefix: &str) -> Result<(), AllocError>
-        ensures { AllBegin prefix.now self.old.found.items
+        ensures begin { AllBegin prefix.now self.old.found.items
             → AllBegin prefix.now self.new.found.items }
+        ensures added { (self.new.found.items ≡ self.old.found.items)
+            ⊎ (self.new.found.items ≡ self.old.found.items ++ string_bytes name ∷ []) }
     {
         if !begins(name.as_str(), prefix) {
             return Ok(());
@@ -115,8 +138,10 @@ impl Listing {
         below: String,
         prefix: &str,
     ) -> io::Result<()>
-        ensures { AllBegin prefix.now self.old.found.items
+        ensures begin { AllBegin prefix.now self.old.found.items
             → AllBegin prefix.now self.new.found.items }
+        ensures added { AddsSeen found (string_bytes name) self.old.found.items
+            self.new.found.items }
     {
         let Some(found) = found else {
             return Ok(());
@@ -143,7 +168,8 @@ impl Listing {
     ) -> io::Result<()>
         ensures begin { AllBegin prefix.now self.old.found.items
             → AllBegin prefix.now self.new.found.items }
-        ensures quiet { Quiet (S.log system.old) (S.log system.new) }
+        ensures lists { ListsOn root.now self.old.found.items self.new.found.items
+            (S.log system.old) (S.log system.new) }
     {
         let Ok(last) = str::from_utf8(bytes) else {
             return Ok(());
@@ -156,8 +182,8 @@ impl Listing {
         if !begins(name.as_str(), prefix) && !begins(prefix, below.as_str()) {
             return Ok(());
         }
-        let path = format!(in self.alloc; "{root}/{name}")?;
-        let found = seen_entry(system, path.as_str())?;
+        let path = path_below(self.alloc, root, name.as_str())?;
+        let found = seen(system, path.as_str())?;
         self.add_found(found, name, below, prefix)
     }
 
@@ -172,14 +198,15 @@ impl Listing {
     ) -> io::Result<()>
         ensures begin { AllBegin prefix.now self.old.found.items
             → AllBegin prefix.now self.new.found.items }
-        ensures quiet { Quiet (S.log system.old) (S.log system.new) }
+        ensures lists { ListsOn root.now self.old.found.items self.new.found.items
+            (S.log system.old) (S.log system.new) }
     {
         let mut rest = names;
         while let Some((name, others)) = cut_name(rest) {
-            self.list_entry(system, root, folder, name, prefix)?;
+            passed_over(self.list_entry(system, root, folder, name, prefix))?;
             rest = others;
         }
-        self.list_entry(system, root, folder, rest, prefix)
+        passed_over(self.list_entry(system, root, folder, rest, prefix))
     }
 
     /// Adds the files of a folder that is open whose names begin with the prefix, and the folders that may hold others.
@@ -193,7 +220,8 @@ impl Listing {
     ) -> io::Result<()>
         ensures begin { AllBegin prefix.now self.old.found.items
             → AllBegin prefix.now self.new.found.items }
-        ensures quiet { Quiet (S.log system.old) (S.log system.new) }
+        ensures lists { ListsOn root.now self.old.found.items self.new.found.items
+            (S.log system.old) (S.log system.new) }
     {
         let mut open = open;
         let mut names = vec![in self.alloc; 0u8; NAMES_ROOM]?;
@@ -218,7 +246,8 @@ impl Listing {
     ) -> io::Result<()>
         ensures begin { AllBegin prefix.now self.old.found.items
             → AllBegin prefix.now self.new.found.items }
-        ensures quiet { Quiet (S.log system.old) (S.log system.new) }
+        ensures lists { ListsOn root.now self.old.found.items self.new.found.items
+            (S.log system.old) (S.log system.new) }
     {
         let at = format!(in self.alloc; "{root}/{folder}")?;
         let open = system.open_names(at.as_str())?;

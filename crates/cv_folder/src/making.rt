@@ -1,27 +1,34 @@
 //! The folders that a name stands in, made where they are missing.
-ghost use Rattle.std.specs.Prelude.{◌≡◌, ◌⊎◌, ◌<◌, IsTrue, OnOk, length};
-ghost use Rattle.cv_folder.specs.Calls.{Done, Made, Outcome, and_call};
-ghost use Rattle.cv_folder.specs.Names.{folder_of};
-ghost use Rattle.cv_folder.specs.Noted.{Keeps, is_noted};
-ghost use Rattle.cv_folder.specs.Steps.{IsLook, Makes};
-ghost use Rattle.cv_folder.specs.Looks.{folders_past};
-ghost use Rattle.cv_folder.specs.LooksInner.{folders_at};
-ghost use Rattle.cv_folder.specs.Writes.{Leads, LeadsOn, MakesMissing, Prepares};
+ghost use Rattle.std.specs.Prelude.{◌≡◌, ◌⊎◌, ◌<◌, IfErr, IsTrue, OnOk, length};
+ghost use Rattle.std.specs.IoError.{error_kind};
+ghost use Rattle.cv_system.specs.Calls.{Done, Made, Outcome, and_call};
+ghost use Rattle.cv_system.specs.Names.{folder_of};
+ghost use Rattle.cv_folder.specs.Causes.{FailsOnWay};
+ghost use Rattle.cv_folder.specs.FolderVaultInner.{IsMemory};
+ghost use Rattle.cv_folder.specs.Noted.{Keeps, NotesOnly, is_noted};
+ghost use Rattle.cv_system.specs.Steps.{EndsFailed, IsLook, Makes};
+ghost use Rattle.cv_system.specs.Looks.{folders_at, folders_past};
+ghost use Rattle.cv_folder.specs.Writes.{IsAbove, Leads, LeadsOn, MakesMissing, Prepares};
 
-use crate::looks::{folder_at, seen};
-use crate::names::folder_of;
 use crate::noting::note;
-use crate::system::System;
+use cv_system::looks::{folder_at, seen};
+use cv_system::{System, folder_of};
 use std::io;
 use std::io::ErrorKind;
 
 /// Makes a folder where nothing stands, once the one that it comes into is noted.
 fn make_noted<S: System>(system: &mut S, folder: &str, notes: &mut Vec<String>) -> io::Result<()>
-    ensures noted { OnOk result (IsTrue (is_noted notes.new.items (folder_of folder.now))) }
     ensures kept { Keeps notes.old.items notes.new.items }
+    ensures only { NotesOnly (λ other. other ≡ folder_of folder.now) notes.old.items
+        notes.new.items }
     ensures calls { (S.log system.new ≡ S.log system.old)
-        ⊎ ((made : Outcome) × (S.log system.new ≡ and_call (Made folder.now made) (S.log system.old))) }
-    ensures made { OnOk result (S.log system.new ≡ and_call (Made folder.now Done) (S.log system.old)) }
+        ⊎ (IsTrue (is_noted notes.new.items (folder_of folder.now))
+        × (made : Outcome)
+        × (S.log system.new ≡ and_call (Made folder.now made) (S.log system.old))) }
+    ensures made { OnOk result
+        (S.log system.new ≡ and_call (Made folder.now Done) (S.log system.old)) }
+    ensures why { IfErr result (λ error. IsMemory error
+        ⊎ EndsFailed (error_kind error) (S.log system.old) (S.log system.new)) }
 {
     note(notes, folder_of(folder))?;
     system.make_folder(folder)
@@ -30,9 +37,14 @@ fn make_noted<S: System>(system: &mut S, folder: &str, notes: &mut Vec<String>) 
 /// Makes a folder where nothing stands, and notes the one that it comes into.
 fn make_folder<S: System>(system: &mut S, folder: &str, notes: &mut Vec<String>) -> io::Result<()>
     ensures kept { Keeps notes.old.items notes.new.items }
+    ensures only { NotesOnly (λ other. other ≡ folder_of folder.now) notes.old.items
+        notes.new.items }
     ensures calls { Makes IsLook (S.log system.old) (S.log system.new)
-        ⊎ MakesMissing folder.now (S.log system.old) (S.log system.new) }
+        ⊎ (IsTrue (is_noted notes.new.items (folder_of folder.now))
+        × MakesMissing folder.now (S.log system.old) (S.log system.new)) }
     ensures leads { OnOk result (LeadsOn folder.now (S.log system.old) (S.log system.new)) }
+    ensures why { IfErr result (λ error. IsMemory error
+        ⊎ FailsOnWay (error_kind error) (S.log system.old) (S.log system.new)) }
 {
     match seen(system, folder)? {
         Some(found) if found.is_folder() => Ok(()),
@@ -50,9 +62,13 @@ fn make_folder_at<S: System>(
 ) -> io::Result<()>
     requires { end < length path.now }
     ensures kept { Keeps notes.old.items notes.new.items }
-    ensures calls { Prepares end path.now (S.log system.old) (S.log system.new) }
+    ensures only { NotesOnly (IsAbove end path.now) notes.old.items notes.new.items }
+    ensures calls { Prepares end path.now (is_noted notes.new.items)
+        (S.log system.old) (S.log system.new) }
     ensures leads { OnOk result
         (Leads (folders_at path.now end) (S.log system.old) (S.log system.new)) }
+    ensures why { IfErr result (λ error. IsMemory error
+        ⊎ FailsOnWay (error_kind error) (S.log system.old) (S.log system.new)) }
 {
     match folder_at(path, end) {
         Some(folder) => make_folder(system, folder, notes),
@@ -70,12 +86,16 @@ pub fn make_folders<S: System>(
 ) -> io::Result<()>
     ensures noted { OnOk result (IsTrue (is_noted notes.new.items (folder_of path.now))) }
     ensures kept { Keeps notes.old.items notes.new.items }
-    ensures calls { Prepares from path.now (S.log system.old) (S.log system.new) }
+    ensures only { NotesOnly (IsAbove from path.now) notes.old.items notes.new.items }
+    ensures calls { Prepares from path.now (is_noted notes.new.items)
+        (S.log system.old) (S.log system.new) }
     ensures leads { OnOk result
         (Leads (folders_past from path.now) (S.log system.old) (S.log system.new)) }
+    ensures why { IfErr result (λ error. IsMemory error
+        ⊎ FailsOnWay (error_kind error) (S.log system.old) (S.log system.new)) }
 {
     for end in from..path.len() {
         make_folder_at(system, path, end, notes)?;
     }
-    Ok(note(notes, folder_of(path))?)
+    note(notes, folder_of(path))
 }

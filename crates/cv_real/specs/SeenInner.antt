@@ -1,8 +1,8 @@
 -- What is seen of what has a type.
 use Rattle.std.specs.Fs.{IsDir, IsFile}
 use Rattle.std.specs.declared.fs.FileType.{FileType}
-use Rattle.cv_folder.specs.declared.seen.Kind.{Kind}
-use Rattle.cv_folder.specs.declared.seen.Kind.TheVariants.{File, Folder, Other}
+use Rattle.cv_system.specs.declared.seen.Kind.{Kind}
+use Rattle.cv_system.specs.declared.seen.Kind.TheVariants.{File, Folder, Other}
 
 -- what has this type is of this kind
 abbrev pub IsKind : FileType → Kind → Type 0

@@ -2,7 +2,8 @@
 ghost use Rattle.std.specs.Prelude.{◌≤◌, length, IfOk};
 
 use crate::system_calls::SystemCalls;
-use cv_folder::{Seen, open_found};
+use cv_system::Seen;
+use cv_system::looks::open_found;
 use std::alloc::Global;
 use std::fs::File;
 use std::io;

@@ -1,11 +1,11 @@
 //! The system's own calls, as a vault over a folder asks for them.
-#![tactic(auto, unfolding(cv_folder::specs::Calls::and_call))]
+#![tactic(auto, unfolding(cv_system::specs::Calls::and_call))]
 
 ghost use Rattle.std.specs.Prelude.{◌≡◌, [], None};
 ghost use Rattle.std.specs.Fs.{file_type, metadata_len};
 ghost use Rattle.cv_real.specs.SeenInner.{IsKind};
 
-use cv_folder::{Kind, Seen, System};
+use cv_system::{Kind, Seen, System};
 use std::alloc::Global;
 use std::fs::{File, Metadata, TryLockError};
 use std::io::{Read, Write};
@@ -66,6 +66,8 @@ impl<R: Files<File = File> + Drop> System for SystemCalls<R> {
     ghost log = { λ s. None };
 
     ghost place = { λ f. [] };
+
+    ghost folder = { λ n. [] };
 
     fn look(&mut self, path: &str) -> io::Result<Seen> {
         let found = fs::symlink_metadata(&self.rt, path)?;

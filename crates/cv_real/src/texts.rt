@@ -3,7 +3,7 @@
 use crate::front::read_front;
 use crate::system_calls::{SystemCalls, seen_of};
 use cv_base::NoMemory;
-use cv_folder::is_memory;
+use cv_system::looks::is_memory;
 use std::alloc::AllocError;
 use std::fs::File;
 use std::rt::{Env, Files};

@@ -1,21 +1,34 @@
-use Rattle.std.proofs.Common.{subst}
-use Rattle.std.specs.Prelude.{is_some}
-use Rattle.std.proofs.lemmas.Result.{IfOk-at_ok}
+use Rattle.std.proofs.lemmas.Result.{err_from_is_err_and}
+use Rattle.std.proofs.Common.{◌∙◌, ap, inr}
 use Rattle.std.specs.declared.io.ErrorKind.{ErrorKind}
-use Rattle.cv_folder.specs.Hold.{AskedAt, Locks, LocksNot}
+use Rattle.cv_folder.specs.Hold.{AskedAt}
+use Rattle.cv_system.specs.Calls.{Failed, Locked, Opened, and_call}
+use Rattle.cv_system.proofs.Laws.{call_at, two_calls}
 use Rattle.cv_folder.proofs.hold.hold_of.Goals as goal
-
-pub returns-in-Ok-Some-clause-asked : goal.returns-in-Ok-Some-clause-asked
-unfolding AskedAt
-returns-in-Ok-Some-clause-asked g c =
-    rw c.in-Ok-Some.field-0-is at (IfOk-at_ok (λ held. Locks c.args.folder.now (is_some held) _ _) c.in-Ok-Some.is c.lock_folder.ensures.given)
-
-pub returns-in-Ok-None-clause-asked : goal.returns-in-Ok-None-clause-asked
-unfolding AskedAt
-returns-in-Ok-None-clause-asked g c =
-    rw c.in-Ok-None.field-0-is at (IfOk-at_ok (λ held. Locks c.args.folder.now (is_some held) _ _) c.in-Ok-None.is c.lock_folder.ensures.given)
 
 pub returns-in-Err-clause-asked : goal.returns-in-Err-clause-asked
 unfolding AskedAt
 returns-in-Err-clause-asked g c =
-    subst (λ (kind : ErrorKind). LocksNot c.args.folder.now kind (g.S.System.log c.args.system.now) (g.S.System.log c.lock_folder.new.system)) (c.is_absent.ensures.0 c.if-is_absent.true) c.in-Err.ensures.fails
+    c.in-Err.ensures.call ∙ ap (λ (kind : ErrorKind). and_call (Opened c.args.folder.now (Failed kind)) (g.S.System.log c.args.system.now)) (c.is_absent.ensures.0 c.if-is_absent.true)
+
+pub returns-in_err-held-clause-fails : goal.returns-in_err-held-clause-fails
+returns-in_err-held-clause-fails g c =
+    let p = err_from_is_err_and c.from_residual.result c.from_residual.ensures.1 in
+    rw (p.1, p.2) (inr (two_calls _ _ _ _ _ c.in-Ok.ensures.call (call_at Locked _ _ _ _ _ c.in-Ok.ensures.place c.in_err-held.ensures.fails)))
+
+pub returns-in-Some-clause-asked : goal.returns-in-Some-clause-asked
+unfolding AskedAt
+returns-in-Some-clause-asked g c = two_calls _ _ _ _ _ c.in-Ok.ensures.call (call_at Locked _ _ _ _ _ c.in-Ok.ensures.place (rw c.in-Some.is at c.in_ok-held.ensures.given))
+
+pub returns-in-None-clause-asked : goal.returns-in-None-clause-asked
+unfolding AskedAt
+returns-in-None-clause-asked g c = two_calls _ _ _ _ _ c.in-Ok.ensures.call (call_at Locked _ _ _ _ _ c.in-Ok.ensures.place (rw c.in-None.is at c.in_ok-held.ensures.given))
+
+pub returns-in-Err-clause-known : goal.returns-in-Err-clause-known
+returns-in-Err-clause-known g c = λ is. cc
+
+pub returns-in-Some-clause-known : goal.returns-in-Some-clause-known
+returns-in-Some-clause-known g c = λ is. cc
+
+pub returns-in-None-clause-known : goal.returns-in-None-clause-known
+returns-in-None-clause-known g c = λ is. cc

@@ -1,18 +1,24 @@
-use Rattle.std.proofs.Common.{refl, subst, sym}
+use Rattle.std.proofs.lemmas.Result.{err_from_is_err_and}
+use Rattle.std.proofs.Common.{◌∙◌, ap, refl, string_bytes, subst, sym}
 use Rattle.cv_folder.specs.Listed.{IsListed}
-use Rattle.cv_folder.specs.Steps.{Still}
 use Rattle.cv_folder.proofs.Acts.{acts_so}
-use Rattle.cv_folder.proofs.Listed.{none_listed}
+use Rattle.cv_folder.proofs.Listed.{listed_none, listed_so, none_listed, unlisted}
 use Rattle.cv_folder.proofs.folder_vault.FolderVault.list_now.Goals as goal
 
 pub returns-then-not-branch-clause-listed : goal.returns-then-not-branch-clause-listed
 returns-then-not-branch-clause-listed g c = subst (IsListed c.args.prefix.now) (sym c.new.ensures.items) (none_listed c.args.prefix.now)
 
 pub returns-in_err-is_held-clause-calls : goal.returns-in_err-is_held-clause-calls
-returns-in_err-is_held-clause-calls g c = acts_so g.S.System.log _ _ _ _ c.is_held.ensures.asks refl Still
+returns-in_err-is_held-clause-calls g c =
+    let p = err_from_is_err_and c.from_residual.result c.from_residual.ensures.1 in
+    rw p.1 (acts_so g.S.System.log _ _ _ _ c.is_held.ensures.asks refl (unlisted _ _ _ _ _ _ _ c.in_err-is_held.ensures.fails refl))
 
 pub returns-then-not-branch-clause-calls : goal.returns-then-not-branch-clause-calls
-returns-then-not-branch-clause-calls g c = acts_so g.S.System.log _ _ _ _ c.is_held.ensures.asks refl Still
+returns-then-not-branch-clause-calls g c =
+    acts_so g.S.System.log _ _ _ _ c.is_held.ensures.asks refl (listed_none _ _ _ _ _ _ _ (rw c.if-not-branch.true at c.in_ok-is_held.ensures.held) c.new.ensures.items refl)
 
 pub returns-clause-calls : goal.returns-clause-calls
-returns-clause-calls g c = acts_so g.S.System.log _ _ _ _ c.is_held.ensures.asks refl c.list_files.ensures.quiet
+returns-clause-calls g c =
+    let root = c.as_str.ensures.value ∙ ap string_bytes c.is_held.ensures.stays.0 in
+    acts_so g.S.System.log _ _ _ _ c.is_held.ensures.asks refl
+    (listed_so _ _ (string_bytes c.args.self.now.root) _ _ _ c.list_files.result (rw c.if-not-branch.false at c.in_ok-is_held.ensures.held) c.list_files.ensures.calls (rw root at c.list_files.ensures.saw))

@@ -1,13 +1,15 @@
-use Rattle.cv_folder.specs.Calls.{Entered}
-use Rattle.cv_folder.specs.Steps.{Still}
-use Rattle.cv_folder.proofs.Stepping.{one_call, steps_then}
+use Rattle.std.proofs.Common.{refl}
+use Rattle.cv_system.specs.Calls.{Entered}
+use Rattle.cv_system.specs.Steps.{Still}
+use Rattle.cv_folder.proofs.Listed.{lists_no_more, lists_then}
+use Rattle.cv_system.proofs.Laws.{one_call}
 use Rattle.cv_folder.proofs.listing.Listing.list_folder.Goals as goal
 
-pub returns-in_err-at-clause-quiet : goal.returns-in_err-at-clause-quiet
-returns-in_err-at-clause-quiet g c = Still
+pub returns-in_err-at-clause-lists : goal.returns-in_err-at-clause-lists
+returns-in_err-at-clause-lists g c = lists_no_more c.args.root.now _ _ _ _ refl Still
 
-pub returns-in_err-open-clause-quiet : goal.returns-in_err-open-clause-quiet
-returns-in_err-open-clause-quiet g c = one_call (Entered _ _) tt c.open_names.ensures
+pub returns-in_err-open-clause-lists : goal.returns-in_err-open-clause-lists
+returns-in_err-open-clause-lists g c = lists_no_more c.args.root.now _ _ _ _ refl (one_call (Entered _ _) tt c.open_names.ensures.call)
 
-pub returns-clause-quiet : goal.returns-clause-quiet
-returns-clause-quiet g c = steps_then (one_call (Entered _ _) tt c.open_names.ensures) c.list_open.ensures.quiet
+pub returns-clause-lists : goal.returns-clause-lists
+returns-clause-lists g c = lists_then _ _ _ _ _ _ _ (lists_no_more c.args.root.now _ _ _ _ refl (one_call (Entered _ _) tt c.open_names.ensures.call)) c.list_open.ensures.lists

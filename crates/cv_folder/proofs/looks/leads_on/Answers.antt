@@ -1,9 +1,0 @@
-use Rattle.cv_folder.specs.Steps.{Still}
-use Rattle.cv_folder.proofs.Stepping.{looks_for_folder}
-use Rattle.cv_folder.proofs.looks.leads_on.Goals as goal
-
-pub returns-in-Some-clause-looks : goal.returns-in-Some-clause-looks
-returns-in-Some-clause-looks g c = looks_for_folder _ _ _ _ c.is_folder.ensures
-
-pub returns-in-None-clause-looks : goal.returns-in-None-clause-looks
-returns-in-None-clause-looks g c = Still

@@ -1,9 +1,0 @@
-use Rattle.cv_folder.specs.Steps.{Still}
-use Rattle.cv_folder.proofs.Stepping.{looks_so}
-use Rattle.cv_folder.proofs.place.Place.is_closed.Goals as goal
-
-pub returns-then-not-set-clause-calls : goal.returns-then-not-set-clause-calls
-returns-then-not-set-clause-calls g c = Still
-
-pub returns-clause-calls : goal.returns-clause-calls
-returns-clause-calls g c = looks_so _ _ _ _ c.seen.ensures

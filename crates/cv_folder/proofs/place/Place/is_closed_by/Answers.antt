@@ -1,5 +1,0 @@
-use Rattle.cv_folder.specs.Steps.{Still}
-use Rattle.cv_folder.proofs.place.Place.is_closed_by.Goals as goal
-
-pub returns-then-not-is_refused-clause-calls : goal.returns-then-not-is_refused-clause-calls
-returns-then-not-is_refused-clause-calls g c = Still

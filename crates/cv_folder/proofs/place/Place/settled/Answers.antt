@@ -1,5 +1,0 @@
-use Rattle.cv_folder.specs.Steps.{Still}
-use Rattle.cv_folder.proofs.place.Place.settled.Goals as goal
-
-pub returns-in-Ok-clause-calls : goal.returns-in-Ok-clause-calls
-returns-in-Ok-clause-calls g c = Still

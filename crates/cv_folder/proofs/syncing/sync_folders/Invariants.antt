@@ -1,7 +1,0 @@
-use Rattle.std.proofs.Common.{true, map, take, string_bytes}
-use Rattle.cv_folder.specs.Steps.{Tries}
-use Rattle.cv_folder.specs.Syncs.{syncs}
-use Rattle.cv_folder.proofs.syncing.sync_folders.Given as goal
-
-abbrev pub invariant-loop-folder : goal.invariant-loop-folder
-invariant-loop-folder g l = Tries (syncs (map string_bytes (take l.folder-index l.folders.items))) true (g.S.System.log l.fn.system) (g.S.System.log l.system)

@@ -1,5 +1,0 @@
-use Rattle.cv_folder.specs.Steps.{Still}
-use Rattle.cv_folder.proofs.walk.Walk.has_next.Goals as goal
-
-pub returns-then-is_above_next-clause-calls : goal.returns-then-is_above_next-clause-calls
-returns-then-is_above_next-clause-calls g c = Still

@@ -1,0 +1,13 @@
+mod CutNames
+mod Failing
+mod LastParts
+pub mod Laws
+mod Looking
+mod Passing
+mod Reading
+mod Rounds
+mod Seeing
+mod Settling
+mod Stepping
+mod Trying
+mod Walking

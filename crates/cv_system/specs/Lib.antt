@@ -1,0 +1,9 @@
+pub mod Calls
+pub mod Looks
+pub mod LooksInner
+pub mod Names
+pub mod Passed
+pub mod Steps
+pub mod Syncs
+pub mod SyncsInner
+pub mod Walks

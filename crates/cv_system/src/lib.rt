@@ -1,0 +1,21 @@
+//! What a vault over a folder asks of the system, and how names and folders are looked at, gone through and made durable.
+#![tactic(auto)]
+
+mod ahead;
+mod cut;
+pub mod looks;
+mod names;
+mod path_buffer;
+mod place;
+mod seen;
+mod syncing;
+mod system;
+mod walk;
+
+pub use cut::{NAMES_ROOM, cut_name};
+pub use names::{NEXT, folder_of, is_name, is_part, is_root};
+pub use path_buffer::PathBuffer;
+pub use seen::{Kind, Seen};
+pub use syncing::{Unsynced, sync_folder, sync_folders};
+pub use system::System;
+pub use walk::Walk;
