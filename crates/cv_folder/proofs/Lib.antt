@@ -1,9 +1,12 @@
 mod Acts
 mod Anew
+mod Faults
 mod Filing
+mod Growing
 mod Holding
 mod Listed
 mod Notes
 mod Others
 mod Preparing
+mod Reasons
 mod Vain

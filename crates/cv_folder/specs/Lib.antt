@@ -1,3 +1,4 @@
+pub mod Causes
 pub mod FolderVault
 pub mod FolderVaultInner
 pub mod Hold

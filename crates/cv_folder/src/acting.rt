@@ -1,32 +1,29 @@
 //! What a vault over a folder does, and which calls of the system it makes for it.
-ghost use Rattle.std.specs.Prelude.{◌≡◌, ◌≢◌, ◌<◌, ◌+◌, ◌↔◌, ◌⊎◌, ◌++◌, [], ◌∷◌, length, map, true, false, Ok, Err, None, IfErr, IfOk, IsOk, IsTrue, OnErr, OnOk, codes, is_ok, string_bytes, ⊤};
+ghost use Rattle.std.specs.Prelude.{◌≡◌, ◌≢◌, ◌<◌, ◌+◌, ◌↔◌, ◌⊎◌, ◌++◌, [], ◌∷◌, length, true, false, Ok, Err, None, IfErr, IfOk, IsOk, IsTrue, OnErr, OnOk, codes, is_ok, string_bytes, ⊤};
 ghost use Rattle.std.specs.IoError.{error_kind, raw_os_error};
 ghost use Rattle.cv_base.specs.Counts.{HasCause};
+ghost use Rattle.cv_folder.specs.Causes.{FailsBy, FailsToMove, FailsToRead, FailsToWrite};
 ghost use Rattle.cv_vault.specs.declared.vault.VaultFault.TheVariants.{Failed, NoMemory};
-ghost use Rattle.cv_folder.specs.FolderVault.{Acts, Adds, AsksAlone, Fails, Holds, HoldsFirst, HoldsOrMakes, IsAboveName, IsUncalled, Notes, Rests, Serves, Stays, SyncsDone, with_fault};
-ghost use Rattle.cv_folder.specs.FolderVaultInner.{FindsNamed, HasFolder, IsAt, MovesOn, broken_by};
+ghost use Rattle.cv_folder.specs.FolderVault.{Acts, Adds, AsksAlone, HoldsFirst, HoldsOrMakes, IsAboveName, IsUncalled, Notes, Rests, Serves, Stays, with_fault};
+ghost use Rattle.cv_folder.specs.FolderVaultInner.{FailsToMake, FailsToMoveOn, FindsNamed, HasFolder, IsAt, IsMemory, MovesOn};
 ghost use Rattle.cv_folder.specs.Hold.{Asked, Begins, IsHeld, IsRoot, MakesRoot};
 ghost use Rattle.cv_system.specs.Names.{folder_of, is_name, path_of, with_slash};
 ghost use Rattle.cv_folder.specs.Listed.{IsListed, ListsNamed};
 ghost use Rattle.cv_folder.specs.Noted.{is_noted};
 ghost use Rattle.cv_folder.specs.Reads.{IsUnserved, MeasuresNamed, ReadsNamed};
 ghost use Rattle.cv_system.specs.Calls.{Removed};
-ghost use Rattle.cv_system.specs.Steps.{Tries};
-ghost use Rattle.cv_folder.specs.Syncs.{SettlesFirst, SyncsAll};
-ghost use Rattle.cv_folder.specs.Unsynced.{FailsFirst, FailsSync, SyncsNotAll};
+ghost use Rattle.cv_system.specs.Steps.{EndsFailed, Tries};
 ghost use Rattle.cv_folder.specs.Writes.{MovesNamed, RemovesNamed, WritesFile};
 
 use crate::folder_vault::FolderVault;
 use crate::hold::{Hold, hold_of, make_held, refused};
 use crate::listing::list_files;
 use crate::making::make_folders;
-use crate::noting::{note, note_or_all};
+use crate::noting::{note, note_or_all, own_text};
 use crate::putting::{move_file, put_file};
 use cv_base::{Bytes, Text};
 use cv_system::looks::{find_file, is_memory, read_found};
-use cv_system::{
-    NEXT, Seen, System, Unsynced, folder_of, is_name, is_root, sync_folder, sync_folders,
-};
+use cv_system::{NEXT, Seen, System, folder_of, is_name, is_root};
 use cv_vault::VaultFault;
 use std::io;
 use std::io::ErrorKind;
@@ -52,7 +49,10 @@ impl<S: System + Drop> FolderVault<S> {
         requires { self.old.hold ≡ Hold.Unasked }
         ensures asked { IfOk result (λ hold. Asked (string_bytes self.old.root) hold
             (S.log self.old.system) (S.log self.new.system)) }
+        ensures known { IfOk result (λ hold. hold ≢ Hold.Unasked) }
         ensures fails { OnErr result (Asked (string_bytes self.old.root) self.old.hold
+            (S.log self.old.system) (S.log self.new.system)) }
+        ensures why { IfErr result (λ error. EndsFailed (error_kind error)
             (S.log self.old.system) (S.log self.new.system)) }
         ensures hold { self.new.hold ≡ self.old.hold }
         ensures stays { Stays self.old self.new }
@@ -78,6 +78,9 @@ impl<S: System + Drop> FolderVault<S> {
         ensures faults { self.new.faults ≡ self.old.faults }
         ensures calls { MakesRoot (string_bytes self.old.root) self.new.hold
             (S.log self.old.system) (S.log self.new.system) }
+        ensures why { IfErr result (λ error. IsMemory error
+            ⊎ FailsToMake (string_bytes self.old.root) self.new.hold (error_kind error)
+            (S.log self.old.system) (S.log self.new.system)) }
     {
         note(&mut self.folders, folder_of(self.root.as_str()))?;
         self.set_root()?;
@@ -96,6 +99,7 @@ impl<S: System + Drop> FolderVault<S> {
     /// Sets the path of the folder, with a slash at its end.
     pub(crate) fn set_root(&mut self) -> io::Result<()>
         ensures ok { IsOk result ↔ (length (string_bytes self.old.root) + 1 < 4096) }
+        ensures kind { IfErr result (λ error. error_kind error ≡ ErrorKind.InvalidInput) }
         ensures path { OnOk result (self.new.path ≡ string_bytes self.old.root ++ 47 ∷ []) }
         ensures stays { Stays self.old self.new }
         ensures faults { self.new.faults ≡ self.old.faults }
@@ -113,6 +117,7 @@ impl<S: System + Drop> FolderVault<S> {
     pub(crate) fn set_path(&mut self, name: &str) -> io::Result<()>
         ensures ok { IsOk result ↔ IsTrue (is_name name.now) × (length (string_bytes self.old.root)
             + length name.now + 1 < 4096) }
+        ensures kind { IfErr result (λ error. error_kind error ≡ ErrorKind.InvalidInput) }
         ensures path { OnOk result (self.new.path ≡ path_of (string_bytes self.old.root) name.now) }
         ensures stays { Stays self.old self.new }
         ensures faults { self.new.faults ≡ self.old.faults }
@@ -129,6 +134,7 @@ impl<S: System + Drop> FolderVault<S> {
     /// Sets the path of the own file beside the path that is set.
     pub(crate) fn set_next(&mut self) -> io::Result<()>
         ensures ok { IsOk result ↔ (length (folder_of self.old.path) + 11 < 4096) }
+        ensures kind { IfErr result (λ error. error_kind error ≡ ErrorKind.InvalidInput) }
         ensures next { OnOk result (self.new.next ≡ folder_of self.old.path ++ codes ".cvkit-next") }
         ensures path { self.new.path ≡ self.old.path }
         ensures stays { Stays self.old self.new }
@@ -155,6 +161,8 @@ impl<S: System + Drop> FolderVault<S> {
         ensures held { IfOk result (λ has. HasFolder self.new.hold has) }
         ensures fails { OnErr result (IsUnserved (string_bytes self.old.root) name.now
             self.new.hold) }
+        ensures why { IfErr result (λ error. FailsBy (string_bytes self.old.root) name.now
+            self.new.hold (error_kind error) (S.log self.old.system) (S.log self.new.system)) }
         ensures path { OnOk result (IsAt self.new name.now × (self.old.hold ≢ Hold.Refused)) }
         ensures stays { Stays self.old self.new }
         ensures holds { HoldsFirst self.old self.new }
@@ -168,7 +176,10 @@ impl<S: System + Drop> FolderVault<S> {
 
     /// Asks for the folder, if that wasn't done yet. What was there before it is held is unsettled.
     pub(crate) fn ask(&mut self) -> io::Result<()>
+        ensures known { OnOk result (self.new.hold ≢ Hold.Unasked) }
         ensures fails { OnErr result (self.new.hold ≡ Hold.Unasked) }
+        ensures why { IfErr result (λ error. EndsFailed (error_kind error)
+            (S.log self.old.system) (S.log self.new.system)) }
         ensures stays { Stays self.old self.new }
         ensures holds { HoldsFirst self.old self.new }
         ensures faults { self.new.faults ≡ self.old.faults }
@@ -189,6 +200,9 @@ impl<S: System + Drop> FolderVault<S> {
         ensures refused { OnOk result (self.old.hold ≢ Hold.Refused) }
         ensures fails { OnErr result
             ((self.new.hold ≡ Hold.Unasked) ⊎ (self.new.hold ≡ Hold.Refused)) }
+        ensures why { IfErr result (λ error.
+            ((error_kind error ≡ ErrorKind.InvalidInput) × (self.new.hold ≡ Hold.Refused))
+            ⊎ EndsFailed (error_kind error) (S.log self.old.system) (S.log self.new.system)) }
         ensures stays { Stays self.old self.new }
         ensures holds { HoldsFirst self.old self.new }
         ensures faults { self.new.faults ≡ self.old.faults }
@@ -210,6 +224,8 @@ impl<S: System + Drop> FolderVault<S> {
         ensures faults { self.new.faults ≡ self.old.faults }
         ensures calls { Acts S.log (FindsNamed (string_bytes self.old.root) name.now self.new.hold
             result) self.old self.new }
+        ensures why { IfErr result (λ error. FailsBy (string_bytes self.old.root) name.now
+            self.new.hold (error_kind error) (S.log self.old.system) (S.log self.new.system)) }
     {
         if !self.begin(name)? {
             return Ok(None);
@@ -255,6 +271,8 @@ impl<S: System + Drop> FolderVault<S> {
         ensures faults { self.new.faults ≡ self.old.faults }
         ensures calls { Acts S.log (ReadsNamed (string_bytes self.old.root) name.now self.new.hold
             result) self.old self.new }
+        ensures why { IfErr result (λ error. FailsToRead (string_bytes self.old.root) name.now
+            self.new.hold (error_kind error) (S.log self.old.system) (S.log self.new.system)) }
     {
         match self.find(name)? {
             Some(found) => {
@@ -273,6 +291,8 @@ impl<S: System + Drop> FolderVault<S> {
         ensures faults { self.new.faults ≡ self.old.faults }
         ensures calls { Acts S.log (MeasuresNamed (string_bytes self.old.root) name.now
             self.new.hold result) self.old self.new }
+        ensures why { IfErr result (λ error. FailsBy (string_bytes self.old.root) name.now
+            self.new.hold (error_kind error) (S.log self.old.system) (S.log self.new.system)) }
     {
         match self.find(name)? {
             Some(found) => Ok(Some(found.length)),
@@ -306,6 +326,9 @@ impl<S: System + Drop> FolderVault<S> {
         ensures begins { Begins (string_bytes self.old.root) self.old.hold self.new.hold
             self.new.is_unsettled (is_noted self.new.folders.items)
             (S.log self.old.system) (S.log self.new.system) }
+        ensures why { IfErr result (λ error. IsMemory error
+            ⊎ FailsToWrite (string_bytes self.old.root) name.now self.new.hold (error_kind error)
+            (S.log self.old.system) (S.log self.new.system)) }
         ensures no_name { is_name name.now ≡ false → AsksAlone S.log self.old self.new }
     {
         if self.begin(name)? {
@@ -325,6 +348,9 @@ impl<S: System + Drop> FolderVault<S> {
         ensures calls { WritesFile (string_bytes self.old.root) name.now bytes.now self.old.hold
             self.new.hold self.new.is_unsettled (is_noted self.new.folders.items) (is_ok result)
             (S.log self.old.system) (S.log self.new.system) }
+        ensures why { IfErr result (λ error. IsMemory error
+            ⊎ FailsToWrite (string_bytes self.old.root) name.now self.new.hold (error_kind error)
+            (S.log self.old.system) (S.log self.new.system)) }
         ensures no_name { is_name name.now ≡ false → AsksAlone S.log self.old self.new }
     {
         self.begin_write(name)?;
@@ -356,8 +382,11 @@ impl<S: System + Drop> FolderVault<S> {
         ensures calls { MovesOn (string_bytes self.old.root) self.old.path to.now found.now
             (is_noted self.new.folders.items) (is_ok result)
             (S.log self.old.system) (S.log self.new.system) }
+        ensures why { IfErr result (λ error. IsMemory error
+            ⊎ FailsToMoveOn (string_bytes self.old.root) to.now self.new.hold (error_kind error)
+            (S.log self.old.system) (S.log self.new.system)) }
     {
-        let source = String::from_str(self.alloc, self.path.as_str())?;
+        let source = own_text(self.alloc, self.path.as_str())?;
         self.set_path(to)?;
         note(&mut self.folders, folder_of(source.as_str()))?;
         let from = self.names_from();
@@ -386,6 +415,9 @@ impl<S: System + Drop> FolderVault<S> {
             (is_noted self.new.folders.items) result) self.old self.new }
         ensures rests { (from.now ≡ to.now) ⊎ (is_name to.now ≡ false)
             → Rests S.log self.old self.new }
+        ensures why { IfErr result (λ error. IsMemory error
+            ⊎ FailsToMove (string_bytes self.old.root) from.now to.now self.new.hold (error_kind error)
+            (S.log self.old.system) (S.log self.new.system)) }
     {
         if from == to {
             return Err(refused());
@@ -412,6 +444,8 @@ impl<S: System + Drop> FolderVault<S> {
         ensures faults { self.new.faults ≡ self.old.faults }
         ensures calls { Tries (Removed self.old.path ∷ []) (is_ok result)
             (S.log self.old.system) (S.log self.new.system) }
+        ensures why { IfErr result (λ error. EndsFailed (error_kind error)
+            (S.log self.old.system) (S.log self.new.system)) }
     {
         let folder = folder_of(self.path.as_str());
         note_or_all(&mut self.folders, folder, &mut self.is_unsettled);
@@ -428,6 +462,8 @@ impl<S: System + Drop> FolderVault<S> {
         ensures faults { self.new.faults ≡ self.old.faults }
         ensures calls { Acts S.log (RemovesNamed (string_bytes self.old.root) name.now self.new.hold
             result) self.old self.new }
+        ensures why { IfErr result (λ error. FailsBy (string_bytes self.old.root) name.now
+            self.new.hold (error_kind error) (S.log self.old.system) (S.log self.new.system)) }
     {
         match self.find(name)? {
             Some(_found) => {
@@ -436,82 +472,5 @@ impl<S: System + Drop> FolderVault<S> {
             }
             None => Ok(false),
         }
-    }
-
-    /// Makes all folders durable where an earlier process may have changed some, and the one above the root first.
-    pub(crate) fn settle(&mut self) -> Result<(), Unsynced>
-        ensures stays { Stays self.old self.new }
-        ensures faults { self.new.faults ≡ self.old.faults }
-        ensures calls { OnOk result (SettlesFirst (string_bytes self.old.root) self.old.is_unsettled
-            (S.log self.old.system) (S.log self.new.system)) }
-        ensures fails { IfErr result (λ unsynced. FailsFirst (string_bytes self.old.root)
-            self.old.is_unsettled unsynced (S.log self.old.system) (S.log self.new.system)) }
-        ensures hold { self.new.hold ≡ self.old.hold }
-    {
-        if !self.is_unsettled {
-            return Ok(());
-        }
-        sync_folder(&mut self.system, folder_of(self.root.as_str()))?;
-        self.walk.sync_all(&mut self.system, self.root.as_str())
-    }
-
-    /// Makes the folders durable that changed, or all of them where an earlier process may have changed some.
-    pub(crate) fn sync_changed(&mut self) -> Result<(), Unsynced>
-        ensures stays { Stays self.old self.new }
-        ensures faults { self.new.faults ≡ self.old.faults }
-        ensures calls { OnOk result (SyncsAll (string_bytes self.old.root) self.old.is_unsettled
-            (map string_bytes self.old.folders.items) (S.log self.old.system) (S.log self.new.system)) }
-        ensures fails { IfErr result (λ unsynced. SyncsNotAll (string_bytes self.old.root)
-            self.old.is_unsettled (map string_bytes self.old.folders.items) unsynced
-            (S.log self.old.system) (S.log self.new.system)) }
-        ensures hold { self.new.hold ≡ self.old.hold }
-    {
-        self.settle()?;
-        sync_folders(&mut self.system, &self.folders)
-    }
-
-    /// Ends a sync: what it made durable is done, and what the system lost is so from now on.
-    pub(crate) fn end_sync(&mut self, done: Result<(), Unsynced>) -> io::Result<()>
-        ensures ok { IsOk result ↔ IsOk done }
-        ensures done { OnOk result ((self.new.folders.items ≡ []) × (self.new.is_unsettled ≡ false)) }
-        ensures broken { self.new.broken ≡ broken_by done self.old.broken }
-        ensures fails { OnErr result (Fails self.old self.new) }
-        ensures root { self.new.root ≡ self.old.root }
-        ensures faults { self.new.faults ≡ self.old.faults }
-        ensures hold { self.new.hold ≡ self.old.hold }
-        ensures calls { IsUncalled S.log self.old self.new }
-    {
-        match done {
-            Ok(()) => {
-                self.is_unsettled = false;
-                self.folders.clear();
-                Ok(())
-            }
-            Err(Unsynced::NotOpened) => Err(refused()),
-            Err(Unsynced::Lost) => {
-                self.broken = true;
-                Err(refused())
-            }
-        }
-    }
-
-    /// Nothing is to be synced where no folder is there.
-    pub(crate) fn sync_now(&mut self) -> io::Result<()>
-        ensures lost { OnOk result ((self.old.broken ≡ false) × (self.new.broken ≡ false)) }
-        ensures refused { OnOk result (self.old.hold ≢ Hold.Refused) }
-        ensures fails { OnErr result (Fails self.old self.new × HoldsFirst self.old self.new) }
-        ensures vain { OnErr result (FailsSync S.log self.old self.new) }
-        ensures root { (self.new.root ≡ self.old.root) × Holds self.old.hold self.new.hold }
-        ensures faults { self.new.faults ≡ self.old.faults }
-        ensures calls { OnOk result (SyncsDone S.log self.old self.new) }
-    {
-        if self.broken {
-            return Err(refused());
-        }
-        if !self.is_held()? {
-            return Ok(());
-        }
-        let done = self.sync_changed();
-        self.end_sync(done)
     }
 }

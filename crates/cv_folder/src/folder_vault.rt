@@ -1,8 +1,9 @@
 //! A vault over a folder.
-ghost use Rattle.std.specs.Prelude.{◌≡◌, ◌≢◌, ◌⊎◌, [], true, false, None, Ok, Err, IfOk, IsErrOf, IsTrue, OnErr, OnOk, is_ok, string_bytes, ⊤};
+ghost use Rattle.std.specs.Prelude.{◌≡◌, ◌≢◌, ◌⊎◌, [], true, false, None, Ok, Err, IfErr, IfOk, IsErrOf, IsTrue, OnErr, OnOk, is_ok, string_bytes, ⊤};
 ghost use Rattle.cv_base.specs.Counts.{HasCause};
 ghost use Rattle.cv_vault.specs.Disk.{Reads, Measures, Lists, Writes, Renames, Removes, Syncs};
 ghost use Rattle.cv_vault.specs.declared.vault.VaultFault.TheVariants.{Failed, NoMemory};
+ghost use Rattle.cv_folder.specs.Causes.{FailsBy, FailsToMove, FailsToRead, FailsToWrite, Tells};
 ghost use Rattle.cv_folder.specs.FolderVault.{Acts, Adds, AsksAlone, Fails, Holds, HoldsFirst, HoldsOrMakes, IsAboveName, Notes, Rests, Serves, Stays, SyncsDone, Untold, faults_after};
 ghost use Rattle.cv_folder.specs.Hold.{IsHeld};
 ghost use Rattle.cv_folder.specs.Listed.{IsListed, ListsNamed};
@@ -115,6 +116,9 @@ impl<S: System + Drop> Vault for FolderVault<S> {
         ensures holds { HoldsFirst self.old self.new }
         ensures calls { Acts S.log (ReadsNamed (string_bytes self.old.root) name.now self.new.hold
             result) self.old self.new }
+        ensures why { IfErr result (λ fault. Tells fault (λ kind. FailsToRead
+            (string_bytes self.old.root) name.now self.new.hold kind
+            (S.log self.old.system) (S.log self.new.system))) }
     {
         match self.read_now(name) {
             Ok(bytes) => Ok(bytes),
@@ -131,6 +135,9 @@ impl<S: System + Drop> Vault for FolderVault<S> {
         ensures holds { HoldsFirst self.old self.new }
         ensures calls { Acts S.log (MeasuresNamed (string_bytes self.old.root) name.now
             self.new.hold result) self.old self.new }
+        ensures why { IfErr result (λ fault. Tells fault (λ kind. FailsBy
+            (string_bytes self.old.root) name.now self.new.hold kind
+            (S.log self.old.system) (S.log self.new.system))) }
     {
         match self.length_now(name) {
             Ok(length) => Ok(length),
@@ -167,6 +174,9 @@ impl<S: System + Drop> Vault for FolderVault<S> {
         ensures calls { WritesFile (string_bytes self.old.root) name.now bytes.now self.old.hold
             self.new.hold self.new.is_unsettled (is_noted self.new.folders.items) (is_ok result)
             (S.log self.old.system) (S.log self.new.system) }
+        ensures why { result ≡ Err Failed → Tells Failed (λ kind. FailsToWrite
+            (string_bytes self.old.root) name.now self.new.hold kind
+            (S.log self.old.system) (S.log self.new.system)) }
         ensures no_name { is_name name.now ≡ false → AsksAlone S.log self.old self.new }
     {
         match self.write_now(name, bytes) {
@@ -192,6 +202,9 @@ impl<S: System + Drop> Vault for FolderVault<S> {
             (is_noted self.new.folders.items) result) self.old self.new }
         ensures rests { (from.now ≡ to.now) ⊎ (is_name to.now ≡ false)
             → Rests S.log self.old self.new }
+        ensures why { result ≡ Err Failed → Tells Failed (λ kind. FailsToMove
+            (string_bytes self.old.root) from.now to.now self.new.hold kind
+            (S.log self.old.system) (S.log self.new.system)) }
     {
         match self.rename_now(from, to) {
             Ok(found) => Ok(found),
@@ -211,6 +224,9 @@ impl<S: System + Drop> Vault for FolderVault<S> {
         ensures holds { HoldsFirst self.old self.new }
         ensures calls { Acts S.log (RemovesNamed (string_bytes self.old.root) name.now self.new.hold
             result) self.old self.new }
+        ensures why { IfErr result (λ fault. Tells fault (λ kind. FailsBy
+            (string_bytes self.old.root) name.now self.new.hold kind
+            (S.log self.old.system) (S.log self.new.system))) }
     {
         match self.remove_now(name) {
             Ok(found) => Ok(found),

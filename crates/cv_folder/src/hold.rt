@@ -1,5 +1,5 @@
 //! The hold that a vault has of its folder.
-ghost use Rattle.std.specs.Prelude.{◌≡◌, ◌⊎◌, ◌↔◌, Ok, Err, IfOk, IfErr, IfSome, IsTrue, is_some};
+ghost use Rattle.std.specs.Prelude.{◌≡◌, ◌≢◌, ◌⊎◌, ◌↔◌, Ok, Err, IfOk, IfErr, IfSome, IsTrue, is_some};
 ghost use Rattle.std.specs.IoError.{error_kind};
 ghost use Rattle.cv_system.specs.Calls.{Locked, and_call};
 ghost use Rattle.cv_folder.specs.FolderVaultInner.{MakesHeld};
@@ -84,6 +84,7 @@ fn lock_folder<S: System>(system: &mut S, folder: &str) -> io::Result<Option<S::
 pub fn hold_of<S: System>(system: &mut S, folder: &str) -> io::Result<Hold<S::File>>
     ensures asked { IfOk result (λ hold. AskedAt folder.now hold (S.log system.old)
         (S.log system.new)) }
+    ensures known { IfOk result (λ hold. hold ≢ Hold.Unasked) }
     ensures fails { IfErr result (λ error. AsksInVain folder.now (error_kind error)
         (S.log system.old) (S.log system.new)) }
 {

@@ -8,5 +8,6 @@ mod listing;
 mod making;
 mod noting;
 mod putting;
+mod settling;
 
 pub use folder_vault::FolderVault;

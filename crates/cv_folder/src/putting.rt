@@ -1,8 +1,9 @@
 //! A file that gets its name.
-ghost use Rattle.std.specs.Prelude.{◌≡◌, [], ◌∷◌, IfOk, IsSome, is_ok};
+ghost use Rattle.std.specs.Prelude.{◌≡◌, [], ◌∷◌, IfErr, IfOk, IsSome, is_ok};
+ghost use Rattle.std.specs.IoError.{error_kind};
 ghost use Rattle.cv_system.specs.Calls.{Created, Removed};
-ghost use Rattle.cv_folder.specs.FolderVaultInner.{LooksForOther};
-ghost use Rattle.cv_system.specs.Steps.{Tries};
+ghost use Rattle.cv_folder.specs.FolderVaultInner.{LooksForOther, RemovesOwn};
+ghost use Rattle.cv_system.specs.Steps.{EndsFailed, Tries};
 ghost use Rattle.cv_folder.specs.Writes.{MovesFile, Puts, TriesAnew, put};
 
 use cv_system::looks::seen;
@@ -15,6 +16,8 @@ fn create_again<S: System>(system: &mut S, path: &str) -> io::Result<S::File>
     ensures calls { Tries (Removed path.now ∷ Created path.now ∷ []) (is_ok result)
         (S.log system.old) (S.log system.new) }
     ensures place { IfOk result (λ file. IsSome (S.log system.new) → S.place file ≡ path.now) }
+    ensures fails { IfErr result (λ error. EndsFailed (error_kind error) (S.log system.old)
+        (S.log system.new)) }
 {
     system.remove_file(path)?;
     system.create_new(path)
@@ -24,6 +27,8 @@ fn create_again<S: System>(system: &mut S, path: &str) -> io::Result<S::File>
 fn create_next<S: System>(system: &mut S, path: &str) -> io::Result<S::File>
     ensures calls { TriesAnew path.now [] (is_ok result) (S.log system.old) (S.log system.new) }
     ensures place { IfOk result (λ file. IsSome (S.log system.new) → S.place file ≡ path.now) }
+    ensures fails { IfErr result (λ error. EndsFailed (error_kind error) (S.log system.old)
+        (S.log system.new)) }
 {
     match system.create_new(path) {
         Err(error) if error.kind() == ErrorKind::AlreadyExists => create_again(system, path),
@@ -33,8 +38,10 @@ fn create_next<S: System>(system: &mut S, path: &str) -> io::Result<S::File>
 
 /// Makes a new file with these bytes, durable before it has the name.
 fn put_next<S: System>(system: &mut S, next: &str, path: &str, bytes: &[u8]) -> io::Result<()>
-    ensures { TriesAnew next.now (put next.now path.now bytes.now) (is_ok result)
+    ensures tries { TriesAnew next.now (put next.now path.now bytes.now) (is_ok result)
         (S.log system.old) (S.log system.new) }
+    ensures fails { IfErr result (λ error. EndsFailed (error_kind error) (S.log system.old)
+        (S.log system.new)) }
 {
     let mut file = create_next(system, next)?;
     system.write_all(&mut file, bytes)?;
@@ -45,7 +52,10 @@ fn put_next<S: System>(system: &mut S, next: &str, path: &str, bytes: &[u8]) -> 
 /// Makes a new file with these bytes under `next`, and gives it its name once they are durable. Where that fails the file
 /// goes again.
 pub fn put_file<S: System>(system: &mut S, next: &str, path: &str, bytes: &[u8]) -> io::Result<()>
-    ensures { Puts next.now path.now bytes.now (is_ok result) (S.log system.old) (S.log system.new) }
+    ensures puts { Puts next.now path.now bytes.now (is_ok result) (S.log system.old)
+        (S.log system.new) }
+    ensures fails { IfErr result (λ error. RemovesOwn next.now (error_kind error)
+        (S.log system.old) (S.log system.new)) }
 {
     match put_next(system, next, path, bytes) {
         Ok(()) => Ok(()),
@@ -71,8 +81,10 @@ fn is_other_name<S: System>(system: &mut S, found: &Seen, path: &str) -> io::Res
 
 /// Gives a file another name. Of two names of one file the system's own rename leaves both.
 pub fn move_file<S: System>(system: &mut S, from: &str, found: &Seen, to: &str) -> io::Result<()>
-    ensures { MovesFile from.now to.now found.now (is_ok result) (S.log system.old)
+    ensures moves { MovesFile from.now to.now found.now (is_ok result) (S.log system.old)
         (S.log system.new) }
+    ensures fails { IfErr result (λ error. EndsFailed (error_kind error) (S.log system.old)
+        (S.log system.new)) }
 {
     if is_other_name(system, found, to)? {
         system.remove_file(from)

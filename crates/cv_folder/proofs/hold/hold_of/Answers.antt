@@ -23,3 +23,12 @@ returns-in-Some-clause-asked g c = two_calls _ _ _ _ _ c.in-Ok.ensures.call (cal
 pub returns-in-None-clause-asked : goal.returns-in-None-clause-asked
 unfolding AskedAt
 returns-in-None-clause-asked g c = two_calls _ _ _ _ _ c.in-Ok.ensures.call (call_at Locked _ _ _ _ _ c.in-Ok.ensures.place (rw c.in-None.is at c.in_ok-held.ensures.given))
+
+pub returns-in-Err-clause-known : goal.returns-in-Err-clause-known
+returns-in-Err-clause-known g c = λ is. cc
+
+pub returns-in-Some-clause-known : goal.returns-in-Some-clause-known
+returns-in-Some-clause-known g c = λ is. cc
+
+pub returns-in-None-clause-known : goal.returns-in-None-clause-known
+returns-in-None-clause-known g c = λ is. cc

@@ -1,6 +1,10 @@
-use Rattle.std.proofs.Common.{inl}
-use Rattle.cv_system.proofs.Laws.{looks_so}
+use Rattle.std.proofs.Common.{inl, inr, refl, Err}
+use Rattle.cv_system.proofs.Laws.{looks_so, fails_now, fails_then, grows}
 use Rattle.cv_folder.proofs.Preparing.{leads_if_made, leads_seen, makes_missing}
+use Rattle.std.proofs.lemmas.Result.{err_from_is_err_and, IfErr-weaker}
+use Rattle.cv_system.specs.Calls.{Looked}
+use Rattle.cv_folder.proofs.Reasons.{way_fails, way_sees}
+use Rattle.std.specs.Prelude.{IsTrue}
 use Rattle.cv_folder.proofs.making.make_folder.Goals as goal
 
 pub returns-in_err-found-clause-calls : goal.returns-in_err-found-clause-calls
@@ -20,3 +24,20 @@ returns-in-Some-clause-leads g c = leads_seen _ _ _ _ (rw c.in-Some.is at c.in_o
 
 pub returns-in-None-clause-leads : goal.returns-in-None-clause-leads
 returns-in-None-clause-leads g c = leads_if_made _ _ _ _ _ (rw c.in-None.is at c.in_ok-found.ensures) c.make_noted.ensures.made
+
+pub returns-in_err-found-clause-why : goal.returns-in_err-found-clause-why
+returns-in_err-found-clause-why g c =
+    let p = err_from_is_err_and c.from_residual.result c.from_residual.ensures.1 in
+    rw (p.1, p.2) (inr (way_fails _ _ _ (fails_now (Looked c.args.folder.now (Err _)) refl c.in_err-found.ensures)))
+
+pub returns-in-Some-2-clause-why : goal.returns-in-Some-2-clause-why
+returns-in-Some-2-clause-why g c = inr (way_sees _ c.args.folder.now c.in-Some.found _ _ c.from.ensures (λ is. let yes : IsTrue c.is_folder.result = c.is_folder.ensures.1 is in cc) (rw c.in-Some.is at c.in_ok-found.ensures))
+
+pub returns-in-None-clause-why : goal.returns-in-None-clause-why
+returns-in-None-clause-why g c =
+    IfErr-weaker c.make_noted.result _ _
+    (λ error why. elim why [
+      | inl memory ↦ inl memory
+      | inr fails ↦ inr (way_fails _ _ _ (fails_then (grows (looks_so _ _ _ _ c.seen.ensures)) fails))
+    ])
+    c.make_noted.ensures.why

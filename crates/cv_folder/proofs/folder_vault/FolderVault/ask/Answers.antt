@@ -20,3 +20,9 @@ pub returns-clause-asks : goal.returns-clause-asks
 unfolding AsksAlone
 returns-clause-asks g c =
     asks_now (string_bytes c.args.self.now.root) c.args.self.now.hold _ _ _ (c.is_unasked.ensures.0 c.if-not-is_unasked.false) c.in_ok-hold.ensures.asked
+
+pub returns-then-not-is_unasked-clause-known : goal.returns-then-not-is_unasked-clause-known
+returns-then-not-is_unasked-clause-known g c = λ is. let yes : IsTrue c.is_unasked.result = c.is_unasked.ensures.1 is in cc
+
+pub returns-clause-known : goal.returns-clause-known
+returns-clause-known g c = c.in_ok-hold.ensures.known

@@ -1,9 +1,12 @@
-use Rattle.std.proofs.Common.{◌∙◌, ap, refl, string_bytes, sym}
+use Rattle.std.proofs.Common.{◌∙◌, ap, refl, string_bytes, sym, inl, inr, subst}
 use Rattle.std.specs.Prelude.{IsTrue}
 use Rattle.cv_system.specs.Names.{is_name}
 use Rattle.cv_folder.specs.Noted.{is_noted}
 use Rattle.cv_folder.proofs.Notes.{stays_noted}
 use Rattle.cv_folder.proofs.Filing.{begins_asked, begins_made, begins_on}
+use Rattle.std.proofs.lemmas.Result.{err_from_is_err_and, IfErr-weaker}
+use Rattle.cv_folder.proofs.Growing.{alone_grows}
+use Rattle.cv_folder.proofs.Reasons.{set_fails, write_so, write_unmade}
 use Rattle.cv_folder.proofs.folder_vault.FolderVault.begin_write.Goals as goal
 
 pub returns-in_err-begin-clause-begins : goal.returns-in_err-begin-clause-begins
@@ -55,3 +58,20 @@ pub returns-clause-holds : goal.returns-clause-holds
 returns-clause-holds g c =
     let absent = rw c.if-branch.false at c.in_ok-begin.ensures.held in
     λ there asked. absurd (there (sym (c.begin.ensures.holds.0 asked) ∙ absent))
+
+pub returns-in_err-begin-clause-why : goal.returns-in_err-begin-clause-why
+returns-in_err-begin-clause-why g c =
+    let p = err_from_is_err_and c.from_residual.result c.from_residual.ensures.1 in
+    rw (p.1, p.2) (inr (write_so (string_bytes c.args.self.now.root) c.args.name.now _ _ _ _ c.in_err-begin.ensures.why))
+
+pub returns-in_err-make_root-clause-why : goal.returns-in_err-make_root-clause-why
+returns-in_err-make_root-clause-why g c =
+    let p = err_from_is_err_and c.from_residual-in_err-make_root.result c.from_residual-in_err-make_root.ensures.1 in
+    rw (p.1, p.2) (elim c.in_err-make_root.ensures.why [
+      | inl memory ↦ inl memory
+      | inr fails ↦ inr (write_unmade (string_bytes c.args.self.now.root) c.args.name.now _ _ _ _ _ (alone_grows g.S.System.log _ _ c.begin.ensures.asks) (string_bytes c.begin.new.self.root) (ap string_bytes c.begin.ensures.stays.0) fails)
+    ])
+
+pub returns-clause-why : goal.returns-clause-why
+returns-clause-why g c =
+    set_fails (string_bytes c.args.self.now.root) c.args.name.now _ (string_bytes c.make_root.new.self.root) c.set_path.result _ _ (ap string_bytes (c.make_root.ensures.adds.0 ∙ c.begin.ensures.stays.0)) c.set_path.ensures.ok c.set_path.ensures.kind

@@ -1,8 +1,10 @@
-use Rattle.std.proofs.Common.{◌∙◌, ap, inr, refl, string_bytes}
+use Rattle.std.proofs.Common.{◌∙◌, ap, inr, refl, string_bytes, inl, ◌+◌, length}
 use Rattle.cv_system.specs.Names.{folder_of}
 use Rattle.cv_folder.proofs.Holding.{makes_still, makes_then}
 use Rattle.cv_folder.proofs.Notes.{stays_noted}
 use Rattle.cv_folder.proofs.Notes.{notes_wider}
+use Rattle.std.proofs.lemmas.Result.{err_from_is_err_and}
+use Rattle.cv_folder.proofs.Reasons.{long_path, make_fails, make_long, make_refused}
 use Rattle.cv_folder.proofs.folder_vault.FolderVault.make_root.Goals as goal
 
 pub returns-in-Some-clause-noted : goal.returns-in-Some-clause-noted
@@ -59,3 +61,21 @@ returns-in_err-open-clause-noted g c =
 pub returns-in-None-clause-noted : goal.returns-in-None-clause-noted
 returns-in-None-clause-noted g c =
     inr (stays_noted c.note.new.notes c.set_root.new.self.folders _ _ c.in_ok-set_root.ensures.stays.1 (c.folder_of.ensures ∙ ap folder_of c.as_str.ensures.value) c.in_ok-note.ensures.noted)
+
+pub returns-in_err-note-clause-why : goal.returns-in_err-note-clause-why
+returns-in_err-note-clause-why g c =
+    let p = err_from_is_err_and c.from_residual.result c.from_residual.ensures.1 in
+    rw (p.1, p.2) (inl c.in_err-note.ensures.memory)
+
+pub returns-in_err-set_root-clause-why : goal.returns-in_err-set_root-clause-why
+returns-in_err-set_root-clause-why g c =
+    let p = err_from_is_err_and c.from_residual-in_err-set_root.result c.from_residual-in_err-set_root.ensures.1 in
+    rw (p.1, p.2) (inr (make_long (string_bytes c.args.self.now.root) _ _ _ _ c.in_err-set_root.ensures.kind (long_path (length (string_bytes c.args.self.now.root) + 1) c.set_root.result c.set_root.ensures.ok _ c.in_err-set_root.was)))
+
+pub returns-in_err-open-clause-why : goal.returns-in_err-open-clause-why
+returns-in_err-open-clause-why g c =
+    let p = err_from_is_err_and c.from_residual-in_err-open.result c.from_residual-in_err-open.ensures.1 in
+    rw (p.1, p.2) (inr (make_fails (string_bytes c.args.self.now.root) _ _ _ _ _ _ (c.as_str-2.ensures.value ∙ ap string_bytes c.set_root.ensures.stays.0) c.set_root.ensures.calls c.in_err-open.ensures))
+
+pub returns-in-None-clause-why : goal.returns-in-None-clause-why
+returns-in-None-clause-why g c = inr (make_refused (string_bytes c.args.self.now.root) _ _ _ _ c.refused.ensures refl)

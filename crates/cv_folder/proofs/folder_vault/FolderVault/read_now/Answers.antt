@@ -4,6 +4,7 @@ use Rattle.cv_system.specs.Looks.{IsReading, ReadsFile}
 use Rattle.cv_system.specs.Names.{path_of}
 use Rattle.cv_system.specs.Steps.{Makes}
 use Rattle.cv_folder.proofs.Acts.{acts_on, reads_in_vain, reads_lost, reads_named, reads_none}
+use Rattle.cv_folder.proofs.Reasons.{read_so, reads_fail}
 use Rattle.cv_folder.proofs.folder_vault.FolderVault.read_now.Goals as goal
 
 pub returns-in_err-found-clause-calls : goal.returns-in_err-found-clause-calls
@@ -29,3 +30,15 @@ returns-in_ok-bytes-in-Some-clause-calls g c =
     rw c.new.ensures (acts_on g.S.System.log _ _ _ _ _ (rw c.in-Some.is at c.in_ok-found.ensures.calls) refl
     (λ asked has. reads_named (string_bytes c.args.self.now.root) c.args.name.now _ asked _ _ has _ _
     (subst (λ (path : List ℕ). ReadsFile path c.in-Some.found c.in_ok-bytes-in-Some.bytes.items (g.S.System.log c.find.new.self.system) (g.S.System.log c.read_found.new.system)) at c.in_ok-bytes-in-Some.ensures.whole)))
+
+pub returns-in_err-found-clause-why : goal.returns-in_err-found-clause-why
+returns-in_err-found-clause-why g c =
+    let p = err_from_is_err_and c.from_residual.result c.from_residual.ensures.1 in
+    rw (p.1, p.2) (read_so (string_bytes c.args.self.now.root) c.args.name.now _ _ _ _ c.in_err-found.ensures.why)
+
+pub returns-in_err-bytes-in-Some-clause-why : goal.returns-in_err-bytes-in-Some-clause-why
+returns-in_err-bytes-in-Some-clause-why g c =
+    let p = err_from_is_err_and c.from_residual-in_err-bytes-in-Some.result c.from_residual-in_err-bytes-in-Some.ensures.1 in
+    let at = c.as_str-path.ensures.path ∙ c.in_ok-found.ensures.path.0.1 ∙ ap (λ root. path_of (string_bytes root) c.args.name.now) c.find.ensures.stays.0 in
+    rw (p.1, p.2) (reads_fail g.S.System.log c.args.self.now c.find.new.self (string_bytes c.args.self.now.root) c.args.name.now c.as_str-path.result.now c.find.new.self.hold c.in-Some.found _ _ at
+    (rw c.in-Some.is at c.in_ok-found.ensures.calls) c.in_err-bytes-in-Some.ensures.fails)

@@ -1,7 +1,7 @@
 use Rattle.std.proofs.Common.{◌∙◌, ap, refl}
 use Rattle.cv_system.specs.Names.{folder_of}
 use Rattle.cv_system.specs.Calls.{Removed}
-use Rattle.cv_system.proofs.Laws.{tried_one}
+use Rattle.cv_system.proofs.Laws.{tried_one, one_fails}
 use Rattle.cv_folder.proofs.Notes.{notes_wider}
 use Rattle.cv_folder.proofs.folder_vault.FolderVault.remove_found.Goals as goal
 
@@ -15,3 +15,6 @@ pub returns-clause-adds : goal.returns-clause-adds
 returns-clause-adds g c =
     let above = c.folder_of-folder.ensures ∙ ap folder_of c.as_str.ensures.path in
     (refl, c.note_or_all.ensures.kept, notes_wider _ _ _ _ (λ folder is. is ∙ above) c.note_or_all.ensures.only, c.note_or_all.ensures.unsettled, refl)
+
+pub returns-clause-why : goal.returns-clause-why
+returns-clause-why g c = one_fails (Removed c.as_str-2.result.now) (λ out. refl) c.remove_file.result _ _ c.remove_file.ensures

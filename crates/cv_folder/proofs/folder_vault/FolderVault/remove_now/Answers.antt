@@ -1,9 +1,11 @@
 use Rattle.std.proofs.lemmas.Result.{err_from_is_err_and}
-use Rattle.std.proofs.Common.{◌∙◌, Ok, Some, ap, refl, string_bytes, subst, sym}
+use Rattle.std.proofs.Common.{◌∙◌, Ok, Some, ap, refl, string_bytes, subst, sym, inr}
 use Rattle.std.specs.declared.io.Error.{Error}
 use Rattle.cv_system.specs.Names.{path_of}
 use Rattle.cv_folder.specs.FolderVaultInner.{FindsNamed}
 use Rattle.cv_folder.proofs.Acts.{acts_on, removes_in_vain, removes_lost, removes_named, removes_none}
+use Rattle.cv_system.proofs.Laws.{fails_then}
+use Rattle.cv_folder.proofs.Growing.{found_grows}
 use Rattle.cv_folder.proofs.folder_vault.FolderVault.remove_now.Goals as goal
 
 pub returns-in_err-_found-clause-calls : goal.returns-in_err-_found-clause-calls
@@ -40,3 +42,14 @@ returns-in_err-_found-clause-holds g c =
 pub returns-in-None-clause-holds : goal.returns-in-None-clause-holds
 returns-in-None-clause-holds g c =
     c.find.ensures.holds
+
+pub returns-in_err-_found-clause-why : goal.returns-in_err-_found-clause-why
+returns-in_err-_found-clause-why g c =
+    let p = err_from_is_err_and c.from_residual.result c.from_residual.ensures.1 in
+    rw (p.1, p.2) (c.in_err-_found.ensures.why)
+
+pub returns-in_err-remove_found-in-Some-clause-why : goal.returns-in_err-remove_found-in-Some-clause-why
+returns-in_err-remove_found-in-Some-clause-why g c =
+    let p = err_from_is_err_and c.from_residual-in_err-remove_found-in-Some.result c.from_residual-in_err-remove_found-in-Some.ensures.1 in
+    rw (p.1, p.2) (inr (fails_then (found_grows g.S.System.log c.args.self.now c.find.new.self (string_bytes c.args.self.now.root) c.args.name.now c.find.new.self.hold c.in-Some._found (rw c.in-Some.is at c.in_ok-_found.ensures.calls))
+    c.in_err-remove_found-in-Some.ensures.why))

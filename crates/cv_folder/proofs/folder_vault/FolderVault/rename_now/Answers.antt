@@ -1,4 +1,5 @@
 use Rattle.std.proofs.lemmas.Result.{err_from_is_err_and}
+use Rattle.std.proofs.lemmas.Slice.Eq.{bytes_eq-Decides}
 use Rattle.std.proofs.Common.{◌∙◌, ◌+◌, Ok, Some, ap, inl, inr, length, refl, string_bytes, subst, sym}
 use Rattle.std.specs.declared.io.Error.{Error}
 use Rattle.cv_system.specs.Names.{folder_of, path_of}
@@ -6,6 +7,8 @@ use Rattle.cv_folder.specs.FolderVaultInner.{FindsNamed}
 use Rattle.cv_folder.proofs.Acts.{acts_on, moves_in_vain, moves_lost, moves_named, moves_none}
 use Rattle.cv_folder.proofs.Notes.{stays_noted}
 use Rattle.cv_folder.specs.Writes.{IsAbove}
+use Rattle.cv_folder.proofs.Growing.{found_grows}
+use Rattle.cv_folder.proofs.Reasons.{move_so, rename_fails, rename_no_name, rename_same}
 use Rattle.cv_folder.proofs.folder_vault.FolderVault.rename_now.Goals as goal
 
 pub returns-in_err-found-clause-calls : goal.returns-in_err-found-clause-calls
@@ -72,3 +75,23 @@ returns-in_ok-move_found-in-Some-clause-adds g c =
       λ is. c.move_found.ensures.adds.3 (c.find.ensures.stays.2 is),
       c.move_found.ensures.adds.4 ∙ c.find.ensures.stays.3,
     )
+
+pub returns-then-eq-clause-why : goal.returns-then-eq-clause-why
+returns-then-eq-clause-why g c = inr (rename_same (string_bytes c.args.self.now.root) c.args.from.now c.args.to.now _ _ _ _ c.refused.ensures ((bytes_eq-Decides c.args.from.now c.args.to.now).0 (sym c.eq.ensures ∙ c.if-eq.true)))
+
+pub returns-then-not-is_name-clause-why : goal.returns-then-not-is_name-clause-why
+returns-then-not-is_name-clause-why g c = inr (rename_no_name (string_bytes c.args.self.now.root) c.args.from.now c.args.to.now _ _ _ _ c.refused-then-not-is_name.ensures (sym c.is_name.ensures ∙ c.if-not-is_name.true))
+
+pub returns-in_err-found-clause-why : goal.returns-in_err-found-clause-why
+returns-in_err-found-clause-why g c =
+    let p = err_from_is_err_and c.from_residual.result c.from_residual.ensures.1 in
+    rw (p.1, p.2) (inr (move_so (string_bytes c.args.self.now.root) c.args.from.now _ _ _ _ c.args.to.now c.in_err-found.ensures.why))
+
+pub returns-in_err-move_found-in-Some-clause-why : goal.returns-in_err-move_found-in-Some-clause-why
+returns-in_err-move_found-in-Some-clause-why g c =
+    let p = err_from_is_err_and c.from_residual-in_err-move_found-in-Some.result c.from_residual-in_err-move_found-in-Some.ensures.1 in
+    rw (p.1, p.2) (elim c.in_err-move_found-in-Some.ensures.why [
+      | inl memory ↦ inl memory
+      | inr fails ↦ inr (rename_fails (string_bytes c.args.self.now.root) (string_bytes c.find.new.self.root) c.args.from.now c.args.to.now _ _ _ _ _ (ap string_bytes c.find.ensures.stays.0)
+          (found_grows g.S.System.log c.args.self.now c.find.new.self (string_bytes c.args.self.now.root) c.args.from.now c.find.new.self.hold c.in-Some.found (rw c.in-Some.is at c.in_ok-found.ensures.calls)) fails)
+    ])

@@ -1,10 +1,13 @@
-use Rattle.std.proofs.lemmas.Result.{err_from_is_err_and}
+use Rattle.std.proofs.lemmas.Result.{err_from_is_err_and, IfErr-weaker}
 use Rattle.std.proofs.Common.{◌∙◌, ◌+◌, ◌++◌, List, ℕ, ap, codes, inl, inr, length, refl, string_bytes, sym}
 use Rattle.std.specs.Prelude.{IsTrue}
 use Rattle.cv_system.specs.Names.{folder_of, is_name, path_of}
 use Rattle.cv_folder.proofs.Filing.{begins_on, writes_no_more, writes_on_way, writes_so}
 use Rattle.cv_folder.proofs.Notes.{stays_noted}
 use Rattle.cv_folder.proofs.Preparing.{above_at}
+use Rattle.cv_system.proofs.Laws.{no_step, steps_then}
+use Rattle.cv_folder.proofs.Growing.{begins_grow, prepares_grow}
+use Rattle.cv_folder.proofs.Reasons.{long_path, next_long, write_long, write_no_way, write_not_put}
 use Rattle.cv_folder.proofs.folder_vault.FolderVault.write_now.Goals as goal
 
 pub returns-in_err-begin_write-clause-calls : goal.returns-in_err-begin_write-clause-calls
@@ -42,7 +45,7 @@ returns-clause-calls g c =
     at (c.names_from-from.ensures ∙ ap (λ root. length (string_bytes root) + 1) root) _ _ c.set_next.ensures.calls (rw c.as_str.ensures.path at c.make_folders.ensures.calls) _ _
     (c.in_ok-set_next.ensures.next ∙ ap (λ (path : List ℕ). folder_of path ++ codes ".cvkit-next") (sym c.set_next.ensures.path))
     (rw c.as_str.ensures.path at c.in_ok-make_folders.ensures.leads)
-    (rw (c.as_str-2.ensures.path, c.as_str-3.ensures.path) at c.put_file.ensures)
+    (rw (c.as_str-2.ensures.path, c.as_str-3.ensures.path) at c.put_file.ensures.puts)
 
 pub returns-in_err-begin_write-clause-no_name : goal.returns-in_err-begin_write-clause-no_name
 returns-in_err-begin_write-clause-no_name g c = c.begin_write.ensures.no_name
@@ -107,3 +110,31 @@ returns-clause-adds g c =
       λ is. c.set_next.ensures.stays.2 (c.begin_write.ensures.adds.3 is),
       c.set_next.ensures.stays.3 ∙ c.begin_write.ensures.adds.4,
     )
+
+pub returns-in_err-begin_write-clause-why : goal.returns-in_err-begin_write-clause-why
+returns-in_err-begin_write-clause-why g c =
+    let p = err_from_is_err_and c.from_residual.result c.from_residual.ensures.1 in
+    rw (p.1, p.2) (c.in_err-begin_write.ensures.why)
+
+pub returns-in_err-set_next-clause-why : goal.returns-in_err-set_next-clause-why
+returns-in_err-set_next-clause-why g c =
+    let p = err_from_is_err_and c.from_residual-in_err-set_next.result c.from_residual-in_err-set_next.ensures.1 in
+    let at = c.in_ok-begin_write.ensures.path.1 ∙ ap (λ root. path_of (string_bytes root) c.args.name.now) c.begin_write.ensures.adds.0 in
+    rw (p.1, p.2) (inr (write_long (string_bytes c.args.self.now.root) c.args.name.now _ _ _ _ c.in_err-set_next.ensures.kind
+    (next_long (string_bytes c.args.self.now.root) c.args.name.now c.begin_write.new.self.path at (long_path (length (folder_of c.begin_write.new.self.path) + 11) c.set_next.result c.set_next.ensures.ok _ c.in_err-set_next.was))))
+
+pub returns-in_err-make_folders-clause-why : goal.returns-in_err-make_folders-clause-why
+returns-in_err-make_folders-clause-why g c =
+    let p = err_from_is_err_and c.from_residual-in_err-make_folders.result c.from_residual-in_err-make_folders.ensures.1 in
+    rw (p.1, p.2) (elim c.in_err-make_folders.ensures.why [
+      | inl memory ↦ inl memory
+      | inr fails ↦ inr (write_no_way (string_bytes c.args.self.now.root) c.args.name.now _ _ _ _ _ (steps_then (begins_grow _ _ _ _ _ _ _ c.begin_write.ensures.begins) (no_step c.set_next.ensures.calls)) fails)
+    ])
+
+pub returns-clause-why : goal.returns-clause-why
+returns-clause-why g c =
+    let at = c.set_next.ensures.path ∙ c.in_ok-begin_write.ensures.path.1 ∙ ap (λ root. path_of (string_bytes root) c.args.name.now) c.begin_write.ensures.adds.0 in
+    IfErr-weaker c.put_file.result _ _
+    (λ error fails. inr (write_not_put (string_bytes c.args.self.now.root) c.args.name.now _ _ _ _ _ (steps_then (steps_then (begins_grow _ _ _ _ _ _ _ c.begin_write.ensures.begins) (no_step c.set_next.ensures.calls)) (prepares_grow _ _ _ _ _ c.make_folders.ensures.calls)) _
+    (c.as_str-2.ensures.path ∙ c.in_ok-set_next.ensures.next ∙ ap (λ (path : List ℕ). folder_of path ++ codes ".cvkit-next") (sym c.set_next.ensures.path ∙ at)) fails))
+    c.put_file.ensures.fails

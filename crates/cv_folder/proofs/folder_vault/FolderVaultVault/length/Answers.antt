@@ -1,5 +1,6 @@
 use Rattle.std.proofs.Common.{string_bytes}
 use Rattle.cv_folder.proofs.Acts.{measures_done, measures_fault}
+use Rattle.cv_folder.proofs.Faults.{told_so}
 use Rattle.cv_folder.proofs.folder_vault.FolderVaultVault.length.Goals as goal
 
 pub returns-in-Err-clause-calls : goal.returns-in-Err-clause-calls
@@ -8,3 +9,6 @@ returns-in-Err-clause-calls g c =
 
 pub returns-in-Ok-clause-calls : goal.returns-in-Ok-clause-calls
 returns-in-Ok-clause-calls g c = measures_done _ _ g.S.System.log _ _ _ _ _ _ c.in-Ok.ensures.calls
+
+pub returns-in-Err-clause-why : goal.returns-in-Err-clause-why
+returns-in-Err-clause-why g c = rw (c.fault_of.ensures.calls, c.fault_of.ensures.hold) (told_so _ c.fault_of.result c.in-Err.error c.fault_of.ensures.memory c.in-Err.ensures.why)

@@ -1,5 +1,6 @@
 use Rattle.std.proofs.Common.{string_bytes}
 use Rattle.cv_folder.proofs.Acts.{removes_done, removes_fault}
+use Rattle.cv_folder.proofs.Faults.{told_failed}
 use Rattle.cv_folder.proofs.folder_vault.FolderVaultVault.remove.Goals as goal
 
 pub returns-in-Err-clause-calls : goal.returns-in-Err-clause-calls
@@ -8,3 +9,6 @@ returns-in-Err-clause-calls g c =
 
 pub returns-in-Ok-clause-calls : goal.returns-in-Ok-clause-calls
 returns-in-Ok-clause-calls g c = removes_done _ _ g.S.System.log _ _ _ _ _ _ c.in-Ok.ensures.calls
+
+pub returns-in-Err-clause-why : goal.returns-in-Err-clause-why
+returns-in-Err-clause-why g c = rw (c.fault.ensures.calls, c.fault.ensures.hold) (told_failed _ _ _ c.fault.ensures.fault c.in-Err.ensures.why)

@@ -2,6 +2,7 @@ use Rattle.std.proofs.Common.{◌∙◌, refl}
 use Rattle.cv_folder.proofs.Acts.{asks_still}
 use Rattle.cv_folder.proofs.Filing.{writes_by_then}
 use Rattle.cv_folder.proofs.Notes.{stays_noted}
+use Rattle.cv_folder.proofs.Faults.{failed_so}
 use Rattle.cv_folder.proofs.folder_vault.FolderVaultVault.write.Goals as goal
 
 pub returns-in-Err-clause-calls : goal.returns-in-Err-clause-calls
@@ -15,3 +16,6 @@ returns-in-Err-clause-no_name g c = λ never. asks_still g.S.System.log _ _ _ (c
 pub returns-in-Err-clause-holds : goal.returns-in-Err-clause-holds
 returns-in-Err-clause-holds g c =
     λ there asked. c.fault_of.ensures.hold ∙ c.in-Err.ensures.holds there asked
+
+pub returns-in-Err-clause-why : goal.returns-in-Err-clause-why
+returns-in-Err-clause-why g c = λ is. rw (c.fault_of.ensures.calls, c.fault_of.ensures.hold) (failed_so _ c.fault_of.result c.in-Err.error c.fault_of.ensures.memory is c.in-Err.ensures.why)

@@ -1,0 +1,109 @@
+-- What lets the log of a system grow.
+use Rattle.std.proofs.Common.{◌≡◌, ◌∷◌, [], Bool, true, false, List, ℕ, Some, Ok, Err, refl, inl, inr, string_bytes}
+use Rattle.std.specs.Prelude.{◌⊎◌}
+use Rattle.std.specs.declared.io.Error.{Error}
+use Rattle.std.specs.declared.io.ErrorKind.{ErrorKind}
+use Rattle.std.specs.declared.io.ErrorKind.TheVariants.{AlreadyExists, NotFound}
+use Rattle.cv_system.specs.declared.seen.Seen.{Seen}
+use Rattle.cv_system.specs.Calls.{Call, Created, Done, Failed, Locked, Log, Looked, Made, Opened, Outcome, Removed, Unmade, and_call}
+use Rattle.cv_system.specs.Looks.{SeesFolders}
+use Rattle.cv_system.specs.Names.{folder_of, path_of, with_slash}
+use Rattle.cv_system.specs.Steps.{EndsFailed, Grows, Still, Then, Tries}
+use Rattle.cv_system.proofs.Laws.{fails_now, fails_then, grows, no_step, one_call, steps_then}
+use Rattle.cv_folder.specs.declared.folder_vault.FolderVault.{FolderVault}
+use Rattle.cv_folder.specs.declared.hold.Hold.{Hold}
+use Rattle.cv_folder.specs.declared.hold.Hold.TheVariants.{Absent, Held, Refused, Unasked}
+use Rattle.cv_folder.specs.FolderVault.{Acts, AsksAlone}
+use Rattle.cv_folder.specs.FolderVaultInner.{FindsNamed}
+use Rattle.cv_folder.specs.Hold.{Asked, AskedAt, Asks, AsksInVain, Begins, LocksNot, MakesRoot, OpensNot}
+use Rattle.cv_folder.specs.Reads.{HasFile}
+use Rattle.cv_folder.specs.Writes.{Prepares, SeesNoOther, SeesOther, TriesAnew}
+
+ends_grow : {kind : ErrorKind} {before after : Log} → EndsFailed kind before after → Grows before after
+ends_grow (between, call, made, out, is) = Then made (call, tt, is)
+
+-- a folder that is opened can't be locked, or isn't opened
+pub opens_fail : (folder : List ℕ) (kind : ErrorKind) (before after : Log) → OpensNot folder kind before after ⊎ LocksNot folder kind before after → EndsFailed kind before after
+opens_fail folder kind before after (inl is) = fails_now (Opened folder (Failed kind)) refl is
+opens_fail folder kind before after (inr is) = fails_then (one_call (Opened folder Done) tt refl) (fails_now (Locked folder (Err kind)) refl is)
+
+pub asks_fail : (folder : List ℕ) (kind : ErrorKind) (before after : Log) → AsksInVain folder kind before after → EndsFailed kind before after
+asks_fail folder kind before after (inl (never, is)) = opens_fail folder kind before after (inl is)
+asks_fail folder kind before after (inr is) = opens_fail folder kind before after (inr is)
+
+locks_grow : (folder : List ℕ) (given : Bool) (before after : Log) → after ≡ and_call (Locked folder (Ok given)) (and_call (Opened folder Done) before) → Grows before after
+locks_grow folder given before after is = Then (one_call (Opened folder Done) tt refl) (Locked folder (Ok given), tt, is)
+
+asked_at_grows : {F : Type 0} (folder : List ℕ) (hold : Hold F) (before after : Log) → AskedAt folder hold before after → Grows before after
+unfolding AskedAt
+asked_at_grows folder (Held file) before after is = locks_grow folder true before after is
+asked_at_grows folder Refused before after is = locks_grow folder false before after is
+asked_at_grows folder Absent before after is = one_call (Opened folder (Failed NotFound)) tt is
+asked_at_grows folder Unasked before after (kind, vain) = ends_grow (asks_fail folder kind before after vain)
+
+asked_grows : {F : Type 0} (root : List ℕ) (hold : Hold F) (before after : Log) → Asked root hold before after → Grows before after
+unfolding Asked
+asked_grows root hold before after (inl (is_root, at)) = asked_at_grows (with_slash root) hold before after at
+asked_grows root hold before after (inr (never, refused, same)) = no_step same
+
+pub asks_grow : {F : Type 0} (root : List ℕ) (was hold : Hold F) (before after : Log) → Asks root was hold before after → Grows before after
+unfolding Asks
+asks_grow root Unasked hold before after asked = asked_grows root hold before after asked
+asks_grow root (Held file) hold before after (is, same) = no_step same
+asks_grow root Absent hold before after (is, same) = no_step same
+asks_grow root Refused hold before after (is, same) = no_step same
+
+makes_grow : {F : Type 0} (root : List ℕ) (hold : Hold F) (before after : Log) → MakesRoot root hold before after → Grows before after
+unfolding MakesRoot
+makes_grow root (Held file) before after is = steps_then (one_call (Made root Done) tt refl) (locks_grow (with_slash root) true _ after is)
+makes_grow root Refused before after (inl is) = one_call (Made root (Failed AlreadyExists)) tt is
+makes_grow root Refused before after (inr is) = steps_then (one_call (Made root Done) tt refl) (locks_grow (with_slash root) false _ after is)
+makes_grow root Absent before after (inl same) = no_step same
+makes_grow root Absent before after (inr (inl (kind, never, is))) = one_call (Made root (Failed kind)) tt is
+makes_grow root Absent before after (inr (inr (kind, (gone, tried, fails, is)))) =
+    Then (steps_then (one_call (Made root Done) tt refl) (ends_grow (opens_fail (with_slash root) kind _ tried fails))) (Unmade root gone, tt, is)
+makes_grow root Unasked before after never = absurd never
+
+pub begins_grow : {F : Type 0} (root : List ℕ) (was hold : Hold F) (is_unsettled : Bool) (noted : List ℕ → Bool) (before after : Log) → Begins root was hold is_unsettled noted before after → Grows before after
+unfolding Begins
+begins_grow root was hold is_unsettled noted before after (found, asked, asks, first, inl (is, same)) = steps_then (asks_grow root was found before asked asks) (no_step same)
+begins_grow root was hold is_unsettled noted before after (found, asked, asks, first, inr (absent, makes, above)) =
+    steps_then (asks_grow root was found before asked asks) (makes_grow root hold asked after makes)
+
+pub prepares_grow : (from : ℕ) (path : List ℕ) (noted : List ℕ → Bool) (before after : Log) → Prepares from path noted before after → Grows before after
+unfolding Prepares
+prepares_grow from path noted before after Still = Still
+prepares_grow from path noted before after (Then {between} steps (inl looks)) = steps_then (prepares_grow from path noted before between steps) (grows looks)
+prepares_grow from path noted before after (Then {between} steps (inr (folder, on, above, (kind, made, nothing, is)))) =
+    steps_then (prepares_grow from path noted before between steps) (Then (one_call (Looked folder (Err kind)) tt refl) (Made folder made, tt, is))
+
+sees_grow : (folders : List (List ℕ)) (before after : Log) → SeesFolders folders before after → Grows before after
+sees_grow [] before after same = no_step same
+sees_grow (folder ∷ folders) before after (seen, is_folder, rest) = steps_then (one_call (Looked folder (Ok seen)) tt refl) (sees_grow folders _ after rest)
+
+pub others_grow : (seen : Seen) (path : List ℕ) (before after : Log) → SeesNoOther seen path before after → Grows before after
+others_grow seen path before after (inl (one, same)) = no_step same
+others_grow seen path before after (inr (more, other, is_other, is)) = one_call (Looked path other) tt is
+
+pub other_grows : (seen : Seen) (path : List ℕ) (before after : Log) → SeesOther seen path before after → Grows before after
+other_grows seen path before after (more, other, same, is) = one_call (Looked path (Ok other)) tt is
+
+module _ {S F N : Type 0} (log : S → Log) (before after : FolderVault S F N) where
+  pub alone_grows : AsksAlone log before after → Grows (log before.system) (log after.system)
+  unfolding AsksAlone
+  alone_grows asks = asks_grow (string_bytes before.root) before.hold after.hold _ _ asks
+
+  -- a file was found
+  pub found_grows : (root name : List ℕ) (hold : Hold F) (seen : Seen) → Acts log (FindsNamed {E = Error} root name hold (Ok (Some seen))) before after → Grows (log before.system) (log after.system)
+  unfolding Acts FindsNamed HasFile
+  found_grows root name hold seen (asked, asks, (held, named, (through, folders, is_file, is))) =
+      steps_then (asks_grow (string_bytes before.root) before.hold after.hold _ asked asks) (Then (sees_grow _ asked through folders) (Looked (path_of root name) (Ok seen), tt, is))
+
+tries_grow : (calls : List (Outcome → Call)) (all : Bool) (before after : Log) → Tries calls all before after → Grows before after
+tries_grow [] all before after (made, same) = no_step same
+tries_grow (call ∷ calls) all before after (inl tried) = steps_then (one_call (call Done) tt refl) (tries_grow calls all _ after tried)
+tries_grow (call ∷ calls) all before after (inr (kind, never, is)) = one_call (call (Failed kind)) tt is
+
+pub anew_grows : (next : List ℕ) (calls : List (Outcome → Call)) (all : Bool) (before after : Log) → TriesAnew next calls all before after → Grows before after
+anew_grows next calls all before after (inl tried) = tries_grow (Created next ∷ calls) all before after tried
+anew_grows next calls all before after (inr tried) = steps_then (one_call (Created next (Failed AlreadyExists)) tt refl) (tries_grow (Removed next ∷ Created next ∷ calls) all _ after tried)
