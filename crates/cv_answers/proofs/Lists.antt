@@ -1,7 +1,6 @@
 -- Values that are read one after another.
-use Rattle.std.proofs.Common.{◌≡◌, ℕ, ◌+◌, ◌<◌, List, [], ◌∷◌, ◌++◌, length, map, get_or, take, drop, Option, Some, Result, Ok, Err, refl, sym, ap, subst, ◌∙◌, append_assoc}
-use Rattle.std.specs.Prelude.{MatchResult}
-use Rattle.std.specs.Result.{IsErrAnd}
+use Rattle.std.proofs.Common.{◌≡◌, ℕ, ◌+◌, ◌<◌, List, [], ◌∷◌, ◌++◌, length, map, get_or, take, drop, Option, Some, Result, Ok, Err, inl, inr, refl, sym, ap, ◌∙◌, append_assoc}
+use Rattle.std.specs.Result.{IsErrAnd, result_map_both}
 use Rattle.std.proofs.lemmas.List.{map-append, take_more, drop_more}
 use Rattle.serde_json.specs.Data.{Data}
 use Rattle.serde_json.specs.Find.{as_array}
@@ -9,10 +8,10 @@ use Rattle.serde_json.specs.View.{view, items_of}
 use Rattle.serde_json.specs.declared.value.Value.{Value}
 use Rattle.cv_json.proofs.Laws.{elements-items_of}
 use Rattle.cv_base.specs.Sequence.{◌>>=◌}
-use Rattle.cv_messages.specs.Member.{IsSaid}
+use Rattle.cv_base.specs.Unless.{IsUnless}
 use Rattle.cv_answers.specs.AnswerText.{each_of, array_member}
 use Rattle.cv_messages.specs.declared.message_fault.MessageFault.{MessageFault}
-use Rattle.cv_messages.specs.declared.message_fault.MessageFault.TheVariants.{NotJson, Missing, WrongType, BadValue, NoMemory}
+use Rattle.cv_messages.specs.declared.message_fault.MessageFault.TheVariants.{NoMemory}
 
 -- the values behind others
 abbrev pub behind : {A : Type 0} → List A → Result (List A) MessageFault → Result (List A) MessageFault
@@ -27,33 +26,27 @@ behind-one before x (Err fault) = refl
 drop_is : (vs : List Value) (i : ℕ) (v : Value) → i < length vs → v ≡ get_or vs i v → drop i vs ≡ v ∷ drop (i + 1) vs
 drop_is vs i v below is = drop_more vs i v below ∙ ap (λ w. w ∷ drop (i + 1) vs) (sym is)
 
--- what is said of a fault, and what follows from it
-IsSaid-map : {P Q : Type 0} (fault : MessageFault) → (P → Q) → IsSaid fault P → IsSaid fault Q
-IsSaid-map NotJson f h = f h
-IsSaid-map (Missing name) f h = f h
-IsSaid-map (WrongType name) f h = f h
-IsSaid-map (BadValue name) f h = f h
-IsSaid-map NoMemory f h = tt
-
 -- one value more was read
 pub behind-more : {A : Type 0} (says : Data → Result A MessageFault) (vs : List Value) (i : ℕ) (v : Value) (x : A) (before after : List A) (all : Result (List A) MessageFault)
-    → i < length vs → v ≡ get_or vs i v → says (view v) ≡ Ok x → after ≡ before ++ x ∷ []
+    → i < length vs → v ≡ get_or vs i v → Ok x ≡ says (view v) → after ≡ before ++ x ∷ []
     → all ≡ behind before (each_of says (map view (drop i vs))) → all ≡ behind after (each_of says (map view (drop (i + 1) vs)))
 behind-more says vs i v x before after all below is told pushed so_far =
     let later = each_of says (map view (drop (i + 1) vs)) in
     let cut = drop_is vs i v below is in
-    let here : each_of says (map view (drop i vs)) ≡ (later >>= λ xs. Ok (x ∷ xs)) = rw (cut, told) refl in
+    let here : each_of says (map view (drop i vs)) ≡ (later >>= λ xs. Ok (x ∷ xs)) = rw (cut, ← told) refl in
     so_far ∙ ap (behind before) here ∙ behind-one before x later ∙ ap (λ w. behind w later) (sym pushed)
 
 -- a fault of a value is that of all
 pub behind-fault : {A T : Type 0} (says : Data → Result A MessageFault) (vs : List Value) (i : ℕ) (v : Value) (fault : MessageFault) (before : List A) (all : Result (List A) MessageFault)
-    (r : Result T MessageFault) (P : T → Type 0) → i < length vs → v ≡ get_or vs i v → IsSaid fault (says (view v) ≡ Err fault)
-    → all ≡ behind before (each_of says (map view (drop i vs))) → IsErrAnd r (λ given. given ≡ fault) → MatchResult r P (λ given. IsSaid given (all ≡ Err given))
-behind-fault says vs i v fault before all (Ok x) P below is told so_far given = absurd given
-behind-fault says vs i v fault before all (Err other) P below is told so_far given =
+    (r : Result T MessageFault) (seen : T → List A) → i < length vs → v ≡ get_or vs i v → IsUnless NoMemory (Err fault) (says (view v))
+    → all ≡ behind before (each_of says (map view (drop i vs))) → IsErrAnd r (λ given. given ≡ fault) → IsUnless NoMemory (result_map_both seen (λ f. f) r) all
+behind-fault says vs i v fault before all (Ok x) seen below is told so_far given = absurd given
+behind-fault says vs i v fault before all (Err other) seen below is told so_far given =
     let cut = drop_is vs i v below is in
-    let first : says (view v) ≡ Err fault → all ≡ Err fault = λ e. so_far ∙ rw (cut, e) refl in
-    subst (λ w. IsSaid w (all ≡ Err w)) (sym given) (IsSaid-map fault first told)
+    elim told [
+      | inl lacking ↦ inl (given ∙ lacking)
+      | inr first ↦ let whole : all ≡ Err fault = so_far ∙ rw (cut, ← first) refl in inr (ap Err given ∙ sym whole)
+    ]
 
 -- one value more was made
 pub seen-more : {A : Type 0} (data_of : A → Data) (xs : List A) (i : ℕ) (x : A) (before after : List Value) (v : Value)

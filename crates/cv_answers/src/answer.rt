@@ -1,7 +1,8 @@
 //! Answers of the gateway.
-ghost use Rattle.std.specs.Prelude.{◌≡◌, true, Ok, Err, IfOk, MatchResult};
+ghost use Rattle.std.specs.Prelude.{◌≡◌, true, Ok, IfOk};
 ghost use Rattle.serde_json.specs.Written.{compact_text};
-ghost use Rattle.cv_messages.specs.Member.{IsSaid};
+ghost use Rattle.cv_base.specs.Unless.{IsUnless};
+ghost use Rattle.cv_messages.specs.declared.message_fault.MessageFault.TheVariants as faults;
 
 use crate::answer_value::answer_value;
 use crate::lease_item::LeaseItem;
@@ -48,7 +49,7 @@ impl Answer {
     /// The answer that bytes say: a JSON object. Other members are passed over, and of a member that
     /// stands twice the last counts.
     pub fn read(alloc: Global, bytes: &[u8]) -> Result<Answer, MessageFault>
-        ensures answer { MatchResult result (λ answer. answer_of bytes.now ≡ Ok answer) (λ fault. IsSaid fault (answer_of bytes.now ≡ Err fault)) }
+        ensures answer { IsUnless faults.NoMemory result (answer_of bytes.now) }
 
         // What was read can be written.
         ensures writable { IfOk result (λ answer. is_answer answer ≡ true) }

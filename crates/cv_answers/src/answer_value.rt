@@ -90,9 +90,7 @@ fn lease_item_values(alloc: Global, items: &[LeaseItem]) -> Result<Vec<Value>, N
     let mut values = Vec::new(alloc);
     for item in items {
         let value = lease_item_value(alloc, item)?;
-        if values.push(value).is_err() {
-            return Err(NoMemory);
-        }
+        values.push(value)?;
     }
     Ok(values)
 }
@@ -104,9 +102,7 @@ fn text_values(alloc: Global, texts: &[Text]) -> Result<Vec<Value>, NoMemory>
     let mut values = Vec::new(alloc);
     for text in texts {
         let value = Value::try_from_str(alloc, text.as_str())?;
-        if values.push(value).is_err() {
-            return Err(NoMemory);
-        }
+        values.push(value)?;
     }
     Ok(values)
 }

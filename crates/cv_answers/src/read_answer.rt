@@ -1,8 +1,10 @@
 //! Reading answers.
 ghost use Rattle.std.specs.Prelude.{◌≡◌, true, Ok, Err, map, is_some, IfOk, MatchResult};
+ghost use Rattle.std.specs.Result.{result_map_both};
 ghost use Rattle.serde_json.specs.Find.{get};
 ghost use Rattle.serde_json.specs.View.{view};
-ghost use Rattle.cv_messages.specs.Member.{IsSaid};
+ghost use Rattle.cv_base.specs.Unless.{IsUnless};
+ghost use Rattle.cv_messages.specs.declared.message_fault.MessageFault.TheVariants as faults;
 ghost use Rattle.cv_answers.specs.AnswerText.{is_answer, granted_in, committed_in, each_of, array_member, lease_item_in, leases_in, repo_in, repos_in, path_busy_in, ok_in, answer_in};
 
 use crate::answer::Answer;
@@ -15,8 +17,7 @@ use std::alloc::Global;
 
 /// The answer that an object says.
 pub(crate) fn read_answer(alloc: Global, value: &Value) -> Result<Answer, MessageFault>
-    ensures says { MatchResult result (λ answer. answer_in (view value.now) ≡ Ok answer)
-        (λ fault. IsSaid fault (answer_in (view value.now) ≡ Err fault)) }
+    ensures says { IsUnless faults.NoMemory result (answer_in (view value.now)) }
     ensures writable { IfOk result (λ answer. is_answer answer ≡ true) }
 {
     match text_member(value, "status", Member::Status)? {
@@ -36,8 +37,7 @@ fn has_member(value: &Value, key: &str) -> bool
 
 /// The ok answer that an object says.
 fn read_ok(alloc: Global, value: &Value) -> Result<Answer, MessageFault>
-    ensures says { MatchResult result (λ answer. ok_in (view value.now) ≡ Ok answer)
-        (λ fault. IsSaid fault (ok_in (view value.now) ≡ Err fault)) }
+    ensures says { IsUnless faults.NoMemory result (ok_in (view value.now)) }
     ensures writable { IfOk result (λ answer. is_answer answer ≡ true) }
 {
     if has_member(value, "session_token") {
@@ -80,8 +80,7 @@ fn read_committed(value: &Value) -> Result<Answer, MessageFault>
 
 /// The live leases.
 fn read_leases(alloc: Global, value: &Value) -> Result<Answer, MessageFault>
-    ensures says { MatchResult result (λ answer. leases_in (view value.now) ≡ Ok answer)
-        (λ fault. IsSaid fault (leases_in (view value.now) ≡ Err fault)) }
+    ensures says { IsUnless faults.NoMemory result (leases_in (view value.now)) }
     ensures writable { IfOk result (λ answer. is_answer answer ≡ true) }
 {
     let list = array_member(value, "data")?;
@@ -105,23 +104,21 @@ fn array_member<'a>(value: &'a Value, key: &str) -> Result<&'a [Value], MessageF
 
 /// The leases that values say.
 fn read_lease_items(alloc: Global, values: &[Value]) -> Result<Vec<LeaseItem>, MessageFault>
-    ensures { MatchResult result (λ items. each_of lease_item_in (map view values.now) ≡ Ok items.items)
-        (λ fault. IsSaid fault (each_of lease_item_in (map view values.now) ≡ Err fault)) }
+    ensures { IsUnless faults.NoMemory
+        (result_map_both (λ items. items.items) (λ fault. fault) result)
+        (each_of lease_item_in (map view values.now)) }
 {
     let mut items = Vec::new(alloc);
     for value in values {
         let item = read_lease_item(alloc, value)?;
-        if items.push(item).is_err() {
-            return Err(MessageFault::NoMemory);
-        }
+        items.push(item).map_err(NoMemory::from)?;
     }
     Ok(items)
 }
 
 /// The lease that a value says.
 fn read_lease_item(alloc: Global, value: &Value) -> Result<LeaseItem, MessageFault>
-    ensures { MatchResult result (λ item. lease_item_in (view value.now) ≡ Ok item)
-        (λ fault. IsSaid fault (lease_item_in (view value.now) ≡ Err fault)) }
+    ensures { IsUnless faults.NoMemory result (lease_item_in (view value.now)) }
 {
     if !value.is_object() {
         return Err(MessageFault::WrongType(Member::Other));
@@ -148,8 +145,7 @@ fn lease_item(alloc: Global, key: &str, path: &str, remaining: u64) -> Result<Le
 
 /// The names of the repositories.
 fn read_repos(alloc: Global, value: &Value) -> Result<Answer, MessageFault>
-    ensures says { MatchResult result (λ answer. repos_in (view value.now) ≡ Ok answer)
-        (λ fault. IsSaid fault (repos_in (view value.now) ≡ Err fault)) }
+    ensures says { IsUnless faults.NoMemory result (repos_in (view value.now)) }
     ensures writable { IfOk result (λ answer. is_answer answer ≡ true) }
 {
     let list = array_member(value, "repos")?;
@@ -159,23 +155,21 @@ fn read_repos(alloc: Global, value: &Value) -> Result<Answer, MessageFault>
 
 /// The names that values say.
 fn read_names(alloc: Global, values: &[Value]) -> Result<Vec<Text>, MessageFault>
-    ensures { MatchResult result (λ names. each_of repo_in (map view values.now) ≡ Ok names.items)
-        (λ fault. IsSaid fault (each_of repo_in (map view values.now) ≡ Err fault)) }
+    ensures { IsUnless faults.NoMemory
+        (result_map_both (λ names. names.items) (λ fault. fault) result)
+        (each_of repo_in (map view values.now)) }
 {
     let mut names = Vec::new(alloc);
     for value in values {
         let name = read_name(alloc, value)?;
-        if names.push(name).is_err() {
-            return Err(MessageFault::NoMemory);
-        }
+        names.push(name).map_err(NoMemory::from)?;
     }
     Ok(names)
 }
 
 /// The name that a value says.
 fn read_name(alloc: Global, value: &Value) -> Result<Text, MessageFault>
-    ensures { MatchResult result (λ name. repo_in (view value.now) ≡ Ok name)
-        (λ fault. IsSaid fault (repo_in (view value.now) ≡ Err fault)) }
+    ensures { IsUnless faults.NoMemory result (repo_in (view value.now)) }
 {
     let Some(name) = value.as_str() else {
         return Err(MessageFault::WrongType(Member::Other));

@@ -1,9 +1,10 @@
 //! Reading refusals.
-ghost use Rattle.std.specs.Prelude.{◌≡◌, true, codes, Ok, Err, IfOk, MatchResult};
+ghost use Rattle.std.specs.Prelude.{◌≡◌, true, codes, IfOk};
 ghost use Rattle.serde_json.specs.Find.{get};
 ghost use Rattle.serde_json.specs.View.{view};
-ghost use Rattle.cv_messages.specs.Member.{IsSaid};
+ghost use Rattle.cv_base.specs.Unless.{IsUnless};
 ghost use Rattle.cv_messages.specs.MemberName.{is_named};
+ghost use Rattle.cv_messages.specs.declared.message_fault.MessageFault.TheVariants as faults;
 ghost use Rattle.cv_answers.specs.Refusal.{id_of, name_member, object_member, path_member, path_collision_in, damaged_in, plain_of, is_refusal, refusal_by, refusal_in};
 
 use crate::reason::Reason;
@@ -15,8 +16,7 @@ use std::alloc::Global;
 
 /// The refusal that an object says.
 pub(crate) fn read_refusal(alloc: Global, value: &Value) -> Result<Refusal, MessageFault>
-    ensures says { MatchResult result (λ refusal. refusal_in (view value.now) ≡ Ok refusal)
-        (λ fault. IsSaid fault (refusal_in (view value.now) ≡ Err fault)) }
+    ensures says { IsUnless faults.NoMemory result (refusal_in (view value.now)) }
     ensures writable { IfOk result (λ refusal. is_refusal refusal ≡ true) }
 {
     let reason = text_member(value, "reason", Member::Reason)?;
@@ -25,8 +25,7 @@ pub(crate) fn read_refusal(alloc: Global, value: &Value) -> Result<Refusal, Mess
 
 /// The refusal for this reason that an object says.
 fn read_reason(alloc: Global, reason: &str, value: &Value) -> Result<Refusal, MessageFault>
-    ensures says { MatchResult result (λ refusal. refusal_by reason.now (view value.now) ≡ Ok refusal)
-        (λ fault. IsSaid fault (refusal_by reason.now (view value.now) ≡ Err fault)) }
+    ensures says { IsUnless faults.NoMemory result (refusal_by reason.now (view value.now)) }
     ensures writable { IfOk result (λ refusal. is_refusal refusal ≡ true) }
 {
     match reason {
@@ -56,8 +55,7 @@ fn read_reason(alloc: Global, reason: &str, value: &Value) -> Result<Refusal, Me
 
 /// The refusal that is all said by the text of its reason.
 fn read_plain(reason: &str) -> Result<Refusal, MessageFault>
-    ensures says { MatchResult result (λ refusal. plain_of reason.now ≡ Ok refusal)
-        (λ fault. IsSaid fault (plain_of reason.now ≡ Err fault)) }
+    ensures says { IsUnless faults.NoMemory result (plain_of reason.now) }
     ensures writable { IfOk result (λ refusal. is_refusal refusal ≡ true) }
 {
     match Reason::read(reason) {
@@ -68,8 +66,7 @@ fn read_plain(reason: &str) -> Result<Refusal, MessageFault>
 
 /// The two paths that have one key.
 fn read_path_collision(alloc: Global, value: &Value) -> Result<Refusal, MessageFault>
-    ensures says { MatchResult result (λ refusal. path_collision_in (view value.now) ≡ Ok refusal)
-        (λ fault. IsSaid fault (path_collision_in (view value.now) ≡ Err fault)) }
+    ensures says { IsUnless faults.NoMemory result (path_collision_in (view value.now)) }
     ensures writable { IfOk result (λ refusal. is_refusal refusal ≡ true) }
 {
     let path = path_member(alloc, value, "path", Member::Path)?;
@@ -124,8 +121,7 @@ fn path_member(
     key: &str,
     name: Member,
 ) -> Result<RepoPath, MessageFault>
-    ensures { MatchResult result (λ path. path_member name (get key.now (view value.now)) ≡ Ok path)
-        (λ fault. IsSaid fault (path_member name (get key.now (view value.now)) ≡ Err fault)) }
+    ensures { IsUnless faults.NoMemory result (path_member name (get key.now (view value.now))) }
 {
     let text = text_member(value, key, name)?;
     match RepoPath::read(alloc, text) {

@@ -1,6 +1,7 @@
 -- What this crate proves for those above it: the text and the file name of an id tell the id, and the text of a path the path; a SHA-1 is
--- a digest; kinds that compare as the same are one; a path is the one of its text; what a path covers, and what is behind it; facts of booleans and of the parts of a list; and a field
--- that is read is the field that was written, and what was written is read again.
+-- a digest; kinds that compare as the same are one; a path is the one of its text; what a path covers, and what is behind it; facts of
+-- booleans, of the parts of a list and of sets of texts; and a field that is read is the field that was written, and what was written is
+-- read again.
 pub use Rattle.cv_base.proofs.Digests.{digest_sha1}
 pub use Rattle.cv_base.proofs.FileNames.{one_id_text, one_file_name}
 pub use Rattle.cv_base.proofs.SameKinds.{same_kind-eq, same_kind-own}
@@ -10,3 +11,5 @@ pub use Rattle.cv_base.proofs.Decimals.{decimal-no_dash}
 pub use Rattle.cv_base.proofs.Parts.{same_parts}
 pub use Rattle.cv_base.proofs.PathPrefixes.{behind-Some, behind-append, eq_by_cmp-append, is_behind, overlap-from_covers}
 pub use Rattle.cv_base.proofs.FieldLaws.{bind_ok, guard_ok, guard_ended, passes, accepted_ok, IsBytes-drop, IsBytes-take, Takes-then, wide16, wide32, wide64, number_takes, number_again, bytes_take, bytes_again}
+pub use Rattle.cv_base.proofs.NamedPaths.{IsNamed, path_named-own, path_named-is}
+pub use Rattle.cv_base.proofs.Sets.{contains-more}

@@ -13,5 +13,7 @@ mod Parts
 mod PathGrammar
 mod PathPrefixes
 mod PathTexts
+mod NamedPaths
+mod Sets
 mod NotText
 mod TextOrder

@@ -1,4 +1,5 @@
 pub mod Attr
+pub mod BytesOrder
 pub mod Counts
 pub mod Digest
 pub mod Fields

@@ -1,6 +1,7 @@
 -- The name of a repository.
 use Rattle.std.specs.Prelude.{ℕ, Bool, ◌&&◌, ◌||◌, ◌==◌, nat_le, List, length, Option, Some, None, if◌then◌else◌}
 use Rattle.std.specs.List.{list_all}
+use Rattle.cv_base.specs.declared.name.TheConstants.{NAME_LIMIT}
 
 -- an ASCII letter or digit, '.', '-' or '_'
 abbrev pub is_name_byte : ℕ → Bool
@@ -9,7 +10,7 @@ is_name_byte c =
 
 -- 1 to 255 such bytes
 abbrev pub is_name : List ℕ → Bool
-is_name text = nat_le 1 (length text) && nat_le (length text) 255 && list_all is_name_byte text
+is_name text = nat_le 1 (length text) && nat_le (length text) NAME_LIMIT && list_all is_name_byte text
 
 -- the name that a text is, if it is one
 abbrev pub name_of : List ℕ → Option (List ℕ)

@@ -1,11 +1,14 @@
 -- Paths of a repository: a path is the list of its names, from the root on, and a name is the list of its bytes.
 use Rattle.std.specs.Prelude.{ℕ, ◌≤◌, ◌≡◌, Bool, true, false, not, ◌==◌, ◌||◌, ◌&&◌, nat_le, List, [], ◌∷◌, length, replicate, Option, Some, None, is_some, if◌then◌else◌}
 use Rattle.std.specs.declared.cmp.Ordering.{Ordering}
-use Rattle.std.specs.Ordering.{nat_cmp, is_eq}
+use Rattle.std.specs.Ordering.{is_eq}
 use Rattle.std.specs.Cmp.Lexicographic.{slice_cmp}
 use Rattle.std.specs.List.{flat_map, list_all}
 use Rattle.std.specs.Str.{is_utf8}
 use Rattle.md5.specs.Md5.{md5}
+use Rattle.cv_base.specs.BytesOrder.{bytes_cmp}
+use Rattle.cv_base.specs.declared.path_name.TheConstants.{PATH_NAME_LIMIT}
+use Rattle.cv_base.specs.declared.repo_path.TheConstants.{NAMES_LIMIT, PATH_LIMIT}
 
 abbrev pub Path : Type 0
 Path = List (List ℕ)
@@ -53,18 +56,18 @@ is_path_byte b = not (b == 47) && not (b == 0)
 -- a name in a path: 1 to 255 bytes of UTF-8 without `/` and NUL, and neither `.` nor `..`
 abbrev pub is_path_name : List ℕ → Bool
 is_path_name name =
-    is_utf8 name && nat_le 1 (length name) && nat_le (length name) 255
+    is_utf8 name && nat_le 1 (length name) && nat_le (length name) PATH_NAME_LIMIT
     && list_all is_path_byte name && not (is_dots name)
 
 -- the limits of a path: at most 64 names, and at most 4,095 bytes of text
 pub record IsPath (path : Path) : Type 0 where
   pub names : list_all is_path_name path ≡ true
-  pub depth : length path ≤ 64
-  pub size : length (text_of path) ≤ 4095
+  pub depth : length path ≤ NAMES_LIMIT
+  pub size : length (text_of path) ≤ PATH_LIMIT
 
 -- the order of names and of paths: by bytes, and then name by name
 abbrev pub name_cmp : List ℕ → List ℕ → Ordering
-name_cmp = slice_cmp nat_cmp
+name_cmp = bytes_cmp
 
 abbrev pub path_cmp : Path → Path → Ordering
 path_cmp = slice_cmp name_cmp

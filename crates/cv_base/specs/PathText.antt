@@ -5,6 +5,7 @@ use Rattle.std.specs.Str.{is_utf8}
 use Rattle.cv_base.specs.Path.{Path, text_of, is_path_name}
 use Rattle.cv_base.specs.declared.path_fault.PathFault.{PathFault}
 use Rattle.cv_base.specs.declared.path_fault.PathFault.TheVariants.{BadName, TooLong, TooDeep}
+use Rattle.cv_base.specs.declared.repo_path.TheConstants.{NAMES_LIMIT, PATH_LIMIT}
 
 -- the text is that of the path, with or without one slash at its end
 abbrev pub Spells : List ℕ → Path → Type 0
@@ -38,8 +39,8 @@ of_names path (Some place) = Err (BadName place)
 -- the same under the limits of size and depth, which are judged first
 abbrev pub within_limits : ℕ → Path → Option ℕ → Result Path PathFault
 within_limits size path bad =
-    if nat_lt 4095 size then Err TooLong
-    else if nat_lt 64 (length path) then Err TooDeep
+    if nat_lt PATH_LIMIT size then Err TooLong
+    else if nat_lt NAMES_LIMIT (length path) then Err TooDeep
     else of_names path bad
 
 -- the path that a text without a slash at its end says, or its first fault

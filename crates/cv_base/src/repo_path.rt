@@ -6,6 +6,7 @@ ghost use Rattle.cv_base.specs.PathText.{Spells, path_of, path_of_bare, only_pat
 ghost use Rattle.cv_base.specs.PathTextInner.{Joins};
 ghost use Rattle.cv_base.specs.Unless.{IsUnless};
 ghost use Rattle.cv_base.specs.declared.path_fault.PathFault.TheVariants as faults;
+ghost use Rattle.cv_base.specs.declared.repo_path.TheConstants.{PATH_LIMIT};
 ghost use Rattle.cv_base.specs.PathOrder.{path_total, paths_ordered};
 
 use crate::memory::NoMemory;
@@ -90,7 +91,7 @@ impl RepoPath {
     /// How many bytes the path's text has.
     pub fn text_len(&self) -> usize
         ensures value { result ≡ length (text_of self.now) }
-        ensures bound { result ≤ 4095 }
+        ensures bound { result ≤ PATH_LIMIT }
     {
         let mut len = 0;
         for name in &self.names {

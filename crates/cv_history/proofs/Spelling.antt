@@ -1,5 +1,5 @@
 -- Bytes are read as a record exactly where they spell it.
-use Rattle.std.proofs.Common.{◌≡◌, ℕ, ◌≤◌, ◌==◌, Bool, true, false, cond, List, [], ◌∷◌, ◌++◌, length, codes, Result, Ok, Err, inl, refl, sym, ap, subst, ◌∙◌, append_assoc, append-nil, arith}
+use Rattle.std.proofs.Common.{◌≡◌, ℕ, ◌≤◌, ◌==◌, Bool, true, false, cond, List, [], ◌∷◌, ◌++◌, length, codes, Result, Ok, Err, refl, sym, ap, subst, ◌∙◌, append_assoc, append-nil, arith}
 use Rattle.std.specs.Prelude.{bytes_eq, IfOk, nat_le}
 use Rattle.std.specs.Int.{w16, w64, to_be_bytes}
 use Rattle.std.specs.List.{concat, list_all}
@@ -15,16 +15,16 @@ use Rattle.cv_base.specs.Sequence.{◌>>=◌}
 use Rattle.cv_base.specs.Target.{is_target, target_of}
 use Rattle.cv_base.specs.Unless.{IsUnless}
 use Rattle.cv_base.specs.declared.limits.TheConstants.{KEY_ID_LIMIT, LAST_REVISION, LAST_TIME, TAG_LIMIT}
+use Rattle.cv_base.specs.declared.repo_path.TheConstants.{PATH_LIMIT}
 use Rattle.cv_base.specs.declared.token.Token.{Token}
-use Rattle.cv_base.proofs.Laws.{guard_ended, bytes_again}
+use Rattle.cv_base.proofs.Laws.{guard_ended, bytes_again, path_named-own, path_named-is}
 use Rattle.cv_history.specs.Record.{IsFirst, IsRecord, IsTyped, Spells, no_hash, is_tag_byte}
 use Rattle.cv_history.specs.Reading.{bad, where_first, limit_of, is_revision, revision_at, hash_at, token_at, time_at, path_at, key_at, tag_of, tag_at, record_of}
-use Rattle.cv_history.specs.ReadingInner.{Gives}
 use Rattle.cv_history.specs.declared.record.Record.{Record}
 use Rattle.cv_history.specs.declared.record_fault.RecordFault.{RecordFault}
 use Rattle.cv_history.specs.declared.record_fault.RecordFault.TheVariants.{BadRecord, NoMemory}
 use Rattle.cv_history.proofs.FieldLaws.{ok_is, bind_then, revision_takes, revision_again, root_takes, hash_takes, hash_again, IsToken, token_takes, token_again, time_takes, time_again, text_takes, text_again}
-use Rattle.cv_history.proofs.TextValues.{bytes_eq_self, path_text, named, target_is, target_again, tag_is, tag_again}
+use Rattle.cv_history.proofs.TextValues.{bytes_eq_self, target_is, target_again, tag_is, tag_again}
 
 -- a record as its fields may stand
 record HasFields (first : Bool) (r : Record) : Type 0 where
@@ -36,7 +36,7 @@ record HasFields (first : Bool) (r : Record) : Type 0 where
   same_root : where_first first (bytes_eq r.offered r.root) ≡ true
   token : IsToken first r.token
   path : IsPath r.path
-  short_path : length (text_of r.path) ≤ limit_of first 4095
+  short_path : length (text_of r.path) ≤ limit_of first PATH_LIMIT
   key : is_target r.key ≡ true
   short_key : length r.key ≤ limit_of first KEY_ID_LIMIT
   time : r.time ≤ LAST_TIME
@@ -93,7 +93,7 @@ fields_of r t h =
         no_number = where_right first (r.token.number == 0) (λ e. eq-eqb r.token.number 0 (is_first r h e).number);
       };
       path = t.path;
-      short_path = limit_right first 4095 (length (text_of r.path)) (λ e. ap (λ (p : Path). length (text_of p)) (is_first r h e).path) t.path.size;
+      short_path = limit_right first PATH_LIMIT (length (text_of r.path)) (λ e. ap (λ (p : Path). length (text_of p)) (is_first r h e).path) t.path.size;
       key = t.key;
       short_key = limit_right first KEY_ID_LIMIT (length r.key) (λ e. ap length (is_first r h e).key) h.key;
       time = h.time;
@@ -120,7 +120,7 @@ first_is first r f e = record {
   offered = (bytes_eq-Decides r.offered r.root).0 (right_where first (bytes_eq r.offered r.root) f.same_root e);
   epoch = eqb-true r.token.epoch 0 (right_where first (r.token.epoch == 0) f.token.no_epoch e);
   number = eqb-true r.token.number 0 (right_where first (r.token.number == 0) f.token.no_number e);
-  path = no_names r.path (limit_none first 4095 (length (text_of r.path)) e f.short_path);
+  path = no_names r.path (limit_none first PATH_LIMIT (length (text_of r.path)) e f.short_path);
   key = nil_from_length r.key (limit_none first KEY_ID_LIMIT (length r.key) e f.short_key);
   tag = nil_from_length r.tag (limit_none first TAG_LIMIT (length r.tag) e f.short_tag);
 }
@@ -163,7 +163,7 @@ record_again text r s =
       bytes_again (BadRecord all) 20 r.root offered f.root.size,
       hash_again all first r.root r.offered token f.offered.size f.same_root,
       token_again all first r.token named f.token,
-      text_again all (limit_of first 4095) path_named path r.path key (omega (arith, f.path.size)) f.short_path (path_text r.path f.path),
+      text_again all (limit_of first PATH_LIMIT) path_named path r.path key (omega (arith, f.path.size)) f.short_path (path_named-own r.path f.path),
       text_again all (limit_of first KEY_ID_LIMIT) target_of r.key r.key time (omega (arith, s.limits.key)) f.short_key (target_again r.key f.key),
       time_again all r.time tag f.time,
       text_again all (limit_of first TAG_LIMIT) tag_of r.tag r.tag [] (omega (arith, s.limits.tag)) f.short_tag (tag_again r.tag f.tag f.tag_bytes),
@@ -284,7 +284,7 @@ record_takes text r fits e =
     let root = root_takes all by.behind_previous r.root by.behind_root previous.0.takes.rest_fits by.root in
     let offered = hash_takes all first r.root by.behind_root r.offered by.behind_offered root.takes.rest_fits by.offered in
     let token = token_takes all first by.behind_offered r.token by.behind_token offered.0.takes.rest_fits by.token in
-    let path = text_takes all (limit_of first 4095) path_named text_of (λ bytes x says. (named bytes x says).text_is) by.behind_token r.path by.behind_path token.0.rest_fits by.path in
+    let path = text_takes all (limit_of first PATH_LIMIT) path_named text_of (λ bytes x says. (path_named-is bytes x says).text_is) by.behind_token r.path by.behind_path token.0.rest_fits by.path in
     let key = text_takes all (limit_of first KEY_ID_LIMIT) target_of (λ x. x) (λ bytes x says. (target_is bytes x says).0) by.behind_path r.key by.behind_key path.takes.rest_fits by.key in
     let time = time_takes all by.behind_key r.time by.behind_time key.takes.rest_fits by.time in
     let tag = text_takes all (limit_of first TAG_LIMIT) tag_of (λ x. x) (λ bytes x says. (tag_is bytes x says).text_is) by.behind_time r.tag by.behind_tag time.0.rest_fits by.tag in
@@ -297,7 +297,7 @@ record_takes text r fits e =
       offered = offered.0.digest;
       same_root = offered.1;
       token = token.1;
-      path = (named (text_of r.path) r.path path.says).is_path;
+      path = (path_named-is (text_of r.path) r.path path.says).is_path;
       short_path = path.short;
       key = (target_is r.key r.key key.says).1;
       short_key = key.short;
@@ -317,13 +317,9 @@ record_takes text r fits e =
 
 -- ---- so an answer is the record that is spelled
 
-pub read_spells : (text : List ℕ) (answer : Result Record RecordFault) → IsBytes text → Gives (λ r. r) answer (record_of text) → IfOk answer (Spells text)
-read_spells text (Ok r) fits read = record_takes text r fits read
+pub read_spells : (text : List ℕ) (answer : Result Record RecordFault) → IsBytes text → IsUnless NoMemory answer (record_of text) → IfOk answer (Spells text)
+read_spells text (Ok r) fits read = record_takes text r fits (sym read)
 read_spells text (Err fault) fits read = tt
 
-pub spelled_read : (text : List ℕ) (answer : Result Record RecordFault) (r : Record) → Gives (λ r. r) answer (record_of text) → Spells text r → IsUnless NoMemory answer (Ok r)
-spelled_read text (Ok a) r read s = sym read ∙ record_again text r s
-spelled_read text (Err NoMemory) r read s = inl refl
-spelled_read text (Err (BadRecord at)) r read s =
-    let again = record_again text r s in
-    absurd cc
+pub spelled_read : (text : List ℕ) (answer : Result Record RecordFault) (r : Record) → IsUnless NoMemory answer (record_of text) → Spells text r → IsUnless NoMemory answer (Ok r)
+spelled_read text answer r read s = rw (← record_again text r s) read

@@ -8,6 +8,7 @@ use Rattle.cv_base.specs.PathText.{path_named}
 use Rattle.cv_base.specs.Sequence.{◌>>=◌}
 use Rattle.cv_base.specs.Target.{target_of}
 use Rattle.cv_base.specs.declared.limits.TheConstants.{KEY_ID_LIMIT, LAST_REVISION, LAST_TIME, TAG_LIMIT}
+use Rattle.cv_base.specs.declared.repo_path.TheConstants.{PATH_LIMIT}
 use Rattle.cv_base.specs.declared.token.Token.{Token}
 use Rattle.cv_history.specs.Record.{no_hash, is_tag_byte}
 use Rattle.cv_history.specs.declared.record.Record.{Record}
@@ -81,7 +82,7 @@ text_at all limit said text = do
   Ok (value, after)
 
 abbrev pub path_at : ℕ → Bool → List ℕ → Read Path
-path_at all first text = text_at all (limit_of first 4095) path_named text
+path_at all first text = text_at all (limit_of first PATH_LIMIT) path_named text
 
 abbrev pub key_at : ℕ → Bool → List ℕ → Read (List ℕ)
 key_at all first text = text_at all (limit_of first KEY_ID_LIMIT) target_of text

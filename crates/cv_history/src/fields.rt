@@ -2,9 +2,10 @@
 //! which a fault names the offset of a field. Each function gives what follows its field too.
 ghost use Rattle.std.specs.Prelude.{◌≡◌};
 ghost use Rattle.std.specs.Int.{w16, w64};
+ghost use Rattle.std.specs.Result.{result_map_both};
 ghost use Rattle.cv_base.specs.Fields.{number_at, bytes_at};
 ghost use Rattle.cv_history.specs.Reading.{bad};
-ghost use Rattle.cv_history.specs.ReadingInner.{Gives};
+ghost use Rattle.cv_history.specs.ReadingInner.{seen};
 ghost use Rattle.cv_history.specs.declared.record_fault.RecordFault.TheVariants.{BadRecord};
 
 use crate::record_fault::RecordFault;
@@ -19,21 +20,22 @@ pub fn bad(all: usize, text: &[u8]) -> RecordFault
 
 /// A number of two bytes.
 pub fn read_u16(all: usize, text: &[u8]) -> Result<(u16, &[u8]), RecordFault>
-    ensures { Gives (λ x. (x.0, x.1.now)) result (number_at (BadRecord all) w16 text.now) }
+    ensures { seen result ≡ number_at (BadRecord all) w16 text.now }
 {
     split_u16(text).ok_or(RecordFault::BadRecord(all))
 }
 
 /// A number of eight bytes.
 pub fn read_u64(all: usize, text: &[u8]) -> Result<(u64, &[u8]), RecordFault>
-    ensures { Gives (λ x. (x.0, x.1.now)) result (number_at (BadRecord all) w64 text.now) }
+    ensures { seen result ≡ number_at (BadRecord all) w64 text.now }
 {
     split_u64(text).ok_or(RecordFault::BadRecord(all))
 }
 
 /// So many bytes.
 pub fn read_bytes(all: usize, size: usize, text: &[u8]) -> Result<(&[u8], &[u8]), RecordFault>
-    ensures { Gives (λ x. (x.0.now, x.1.now)) result (bytes_at (BadRecord all) size text.now) }
+    ensures { result_map_both (λ x. (x.0.now, x.1.now)) (λ fault. fault) result
+        ≡ bytes_at (BadRecord all) size text.now }
 {
     if text.len() < size {
         return Err(RecordFault::BadRecord(all));
@@ -43,7 +45,7 @@ pub fn read_bytes(all: usize, size: usize, text: &[u8]) -> Result<(&[u8], &[u8])
 
 /// A hash.
 pub fn read_hash(all: usize, text: &[u8]) -> Result<([u8; 20], &[u8]), RecordFault>
-    ensures { Gives (λ x. (x.0, x.1.now)) result (bytes_at (BadRecord all) 20 text.now) }
+    ensures { seen result ≡ bytes_at (BadRecord all) 20 text.now }
 {
     match text.split_first_chunk::<DIGEST_SIZE>() {
         Some((hash, rest)) => Ok((*hash, rest)),

@@ -1,7 +1,7 @@
 //! The fields of a record that are numbers and hashes.
 ghost use Rattle.std.specs.Prelude.{◌≡◌};
 ghost use Rattle.cv_history.specs.Reading.{where_first, is_revision, revision_at, hash_at, count_at, token_at, time_at};
-ghost use Rattle.cv_history.specs.ReadingInner.{Gives};
+ghost use Rattle.cv_history.specs.ReadingInner.{seen};
 
 use crate::fields::{bad, read_bytes, read_hash, read_u64};
 use crate::record_fault::RecordFault;
@@ -24,7 +24,7 @@ fn is_revision(revision: u64) -> bool
 /// The revision, behind the name of the format.
 #[tactic(auto, unfolding(crate::specs::Reading::revision_at))]
 pub fn read_revision(all: usize, text: &[u8]) -> Result<(u64, &[u8]), RecordFault>
-    ensures { Gives (λ x. (x.0, x.1.now)) result (revision_at all text.now) }
+    ensures { seen result ≡ revision_at all text.now }
 {
     let (format, rest) = read_bytes(all, 4, text)?;
     if format != b"CVH1".as_slice() {
@@ -45,7 +45,7 @@ pub fn read_hash_of<'a>(
     wanted: &[u8; 20],
     text: &'a [u8],
 ) -> Result<([u8; 20], &'a [u8]), RecordFault>
-    ensures { Gives (λ x. (x.0, x.1.now)) result (hash_at all first wanted.now text.now) }
+    ensures { seen result ≡ hash_at all first wanted.now text.now }
 {
     let (hash, rest) = read_hash(all, text)?;
     if !where_first(first, hash == *wanted) {
@@ -57,7 +57,7 @@ pub fn read_hash_of<'a>(
 /// A number of a token, which in the first record is zero.
 #[tactic(auto, unfolding(crate::specs::Reading::count_at))]
 fn read_count(all: usize, first: bool, text: &[u8]) -> Result<(u64, &[u8]), RecordFault>
-    ensures { Gives (λ x. (x.0, x.1.now)) result (count_at all first text.now) }
+    ensures { seen result ≡ count_at all first text.now }
 {
     let (count, rest) = read_u64(all, text)?;
     if !where_first(first, count == 0) {
@@ -69,7 +69,7 @@ fn read_count(all: usize, first: bool, text: &[u8]) -> Result<(u64, &[u8]), Reco
 /// The token of the lease.
 #[tactic(auto, unfolding(crate::specs::Reading::token_at))]
 pub fn read_token(all: usize, first: bool, text: &[u8]) -> Result<(Token, &[u8]), RecordFault>
-    ensures { Gives (λ x. (x.0, x.1.now)) result (token_at all first text.now) }
+    ensures { seen result ≡ token_at all first text.now }
 {
     let (epoch, rest) = read_count(all, first, text)?;
     let (number, rest) = read_count(all, first, rest)?;
@@ -79,7 +79,7 @@ pub fn read_token(all: usize, first: bool, text: &[u8]) -> Result<(Token, &[u8])
 /// The time.
 #[tactic(auto, unfolding(crate::specs::Reading::time_at))]
 pub fn read_time(all: usize, text: &[u8]) -> Result<(u64, &[u8]), RecordFault>
-    ensures { Gives (λ x. (x.0, x.1.now)) result (time_at all text.now) }
+    ensures { seen result ≡ time_at all text.now }
 {
     let (time, rest) = read_u64(all, text)?;
     if time > LAST_TIME {

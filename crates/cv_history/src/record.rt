@@ -2,9 +2,11 @@
 ghost use Rattle.std.specs.Prelude.{◌≡◌, ◌≤◌, ◌<◌, ◌^◌, ◌++◌, length, Ok, IfOk, OnOk};
 ghost use Rattle.std.specs.Int.{w16, w64, to_be_bytes};
 ghost use Rattle.cv_base.specs.Digest.{IsDigest};
+ghost use Rattle.cv_base.specs.Unless.{IsUnless};
+ghost use Rattle.cv_base.specs.declared.repo_path.TheConstants.{PATH_LIMIT};
 ghost use Rattle.cv_history.specs.Reading.{record_of};
-ghost use Rattle.cv_history.specs.ReadingInner.{Gives};
 ghost use Rattle.cv_history.specs.declared.record.Record.{Record as Value};
+ghost use Rattle.cv_history.specs.declared.record_fault.RecordFault.TheVariants as fault;
 
 use crate::fields::{bad, read_hash};
 use crate::front::{read_hash_of, read_revision, read_time, read_token};
@@ -55,7 +57,7 @@ fn push_hash(bytes: &mut Vec<u8>, hash: [u8; 20]) -> Result<(), AllocError>
 
 /// Writes a text behind its length.
 fn push_text(bytes: &mut Vec<u8>, text: &[u8]) -> Result<(), AllocError>
-    requires { length text.now ≤ 4095 }
+    requires { length text.now ≤ PATH_LIMIT }
     ensures { OnOk result (bytes.new.items ≡ bytes.old.items ++ to_be_bytes w16 (length text.now) ++ text.now) }
 {
     let size = text.len() as u16;
@@ -67,7 +69,7 @@ fn push_text(bytes: &mut Vec<u8>, text: &[u8]) -> Result<(), AllocError>
 /// The record that bytes are, or their first fault.
 #[tactic(auto, unfolding(crate::specs::Reading::record_of))]
 fn read_record(alloc: Global, bytes: &[u8]) -> Result<Record, RecordFault>
-    ensures { Gives (λ r. r) result (record_of bytes.now) }
+    ensures { IsUnless fault.NoMemory result (record_of bytes.now) }
 {
     let all = bytes.len();
     let (revision, rest) = read_revision(all, bytes)?;
@@ -97,10 +99,8 @@ fn read_record(alloc: Global, bytes: &[u8]) -> Result<Record, RecordFault>
 }
 
 impl Record {
-    ghost use Rattle.cv_base.specs.Unless.{IsUnless};
     ghost use Rattle.cv_history.specs.Record.{IsRecord, Spells};
     ghost use Rattle.cv_history.specs.ReadingInner.{front_bytes};
-    ghost use Rattle.cv_history.specs.declared.record_fault.RecordFault.TheVariants as fault;
 
     /// The record that bytes spell.
     pub fn read(alloc: Global, bytes: &[u8]) -> Result<Record, RecordFault>

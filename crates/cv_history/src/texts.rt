@@ -1,9 +1,11 @@
 //! The texts of a record, each behind its length.
 ghost use Rattle.std.specs.Prelude.{◌≡◌, IfOk};
 ghost use Rattle.std.specs.List.{list_all};
+ghost use Rattle.cv_base.specs.Unless.{IsUnless};
 ghost use Rattle.cv_history.specs.Record.{is_tag_byte};
 ghost use Rattle.cv_history.specs.Reading.{limit_of, size_at, path_at, key_at, tag_of, tag_at};
-ghost use Rattle.cv_history.specs.ReadingInner.{Gives};
+ghost use Rattle.cv_history.specs.ReadingInner.{seen};
+ghost use Rattle.cv_history.specs.declared.record_fault.RecordFault.TheVariants as fault;
 
 use crate::fields::{bad, read_bytes, read_u16};
 use crate::record_fault::RecordFault;
@@ -20,7 +22,7 @@ fn limit_of(first: bool, limit: usize) -> usize
 /// The length of a text of at most `limit` bytes.
 #[tactic(auto, unfolding(crate::specs::Reading::size_at))]
 fn read_size(all: usize, limit: usize, text: &[u8]) -> Result<(usize, &[u8]), RecordFault>
-    ensures { Gives (λ x. (x.0, x.1.now)) result (size_at all limit text.now) }
+    ensures { seen result ≡ size_at all limit text.now }
 {
     let (size, rest) = read_u16(all, text)?;
     let size = usize::from(size);
@@ -38,7 +40,7 @@ pub fn read_path(
     first: bool,
     text: &[u8],
 ) -> Result<(RepoPath, &[u8]), RecordFault>
-    ensures { Gives (λ x. (x.0, x.1.now)) result (path_at all first text.now) }
+    ensures { IsUnless fault.NoMemory (seen result) (path_at all first text.now) }
 {
     let (size, rest) = read_size(all, limit_of(first, PATH_LIMIT), text)?;
     let (bytes, after) = read_bytes(all, size, rest)?;
@@ -56,7 +58,7 @@ pub fn read_key(
     first: bool,
     text: &[u8],
 ) -> Result<(Target, &[u8]), RecordFault>
-    ensures { Gives (λ x. (x.0, x.1.now)) result (key_at all first text.now) }
+    ensures { IsUnless fault.NoMemory (seen result) (key_at all first text.now) }
 {
     let (size, rest) = read_size(all, limit_of(first, KEY_ID_LIMIT), text)?;
     let (bytes, after) = read_bytes(all, size, rest)?;
@@ -92,7 +94,7 @@ pub fn read_tag(
     first: bool,
     text: &[u8],
 ) -> Result<(Target, &[u8]), RecordFault>
-    ensures { Gives (λ x. (x.0, x.1.now)) result (tag_at all first text.now) }
+    ensures { IsUnless fault.NoMemory (seen result) (tag_at all first text.now) }
 {
     let (size, rest) = read_size(all, limit_of(first, TAG_LIMIT), text)?;
     let (bytes, after) = read_bytes(all, size, rest)?;

@@ -1,17 +1,17 @@
 -- Keys that are read of them one after another.
-use Rattle.std.proofs.Common.{◌≡◌, ℕ, ◌+◌, ◌<◌, List, [], ◌∷◌, ◌++◌, length, map, get_or, drop, codes, Some, Result, Ok, Err, refl, sym, ap, subst, ◌∙◌}
-use Rattle.std.specs.Prelude.{MatchResult}
-use Rattle.std.specs.Result.{IsErrAnd}
+use Rattle.std.proofs.Common.{◌≡◌, ℕ, ◌+◌, ◌<◌, List, [], ◌∷◌, ◌++◌, length, map, get_or, drop, codes, Some, Result, Ok, Err, inl, inr, refl, sym, ap, ◌∙◌}
+use Rattle.std.specs.Result.{IsErrAnd, result_map_both}
 use Rattle.std.proofs.lemmas.List.{drop_more}
 use Rattle.serde_json.specs.Data.{Data}
 use Rattle.serde_json.specs.Find.{get, as_array}
 use Rattle.serde_json.specs.View.{view, items_of}
 use Rattle.serde_json.specs.declared.value.Value.{Value}
+use Rattle.cv_base.specs.Unless.{IsUnless}
 use Rattle.cv_json.proofs.Laws.{elements-items_of}
-use Rattle.cv_keys.specs.KeysText.{IsSaid, new_key, keys_behind, array_keys, keys_in_object}
+use Rattle.cv_keys.specs.KeysText.{new_key, keys_behind, array_keys, keys_in_object}
 use Rattle.cv_keys.specs.declared.key.Key.{Key}
 use Rattle.cv_keys.specs.declared.key_fault.KeyFault.{KeyFault}
-use Rattle.cv_keys.specs.declared.key_fault.KeyFault.TheVariants.{NotJson, Missing, WrongType, BadValue, Repeated, TooMany, NoKey, NoMemory}
+use Rattle.cv_keys.specs.declared.key_fault.KeyFault.TheVariants.{NoMemory}
 
 -- the keys of an object whose member `keys` is an array of these
 pub keys_in_object-array : (d e : Data) (ds : List Data) → get (codes "keys") d ≡ Some e → as_array e ≡ Some (items_of ds) → keys_in_object (Some d) ≡ array_keys ds
@@ -21,31 +21,22 @@ keys_in_object-array d e ds member is_array = rw (member, is_array, elements-ite
 drop_is : (vs : List Value) (i : ℕ) (v : Value) → i < length vs → v ≡ get_or vs i v → drop i vs ≡ v ∷ drop (i + 1) vs
 drop_is vs i v below is = drop_more vs i v below ∙ ap (λ w. w ∷ drop (i + 1) vs) (sym is)
 
--- what is said of a fault, and what follows from it
-IsSaid-map : {P Q : Type 0} (fault : KeyFault) → (P → Q) → IsSaid fault P → IsSaid fault Q
-IsSaid-map NotJson f h = f h
-IsSaid-map (Missing place) f h = f h
-IsSaid-map (WrongType place) f h = f h
-IsSaid-map (BadValue place) f h = f h
-IsSaid-map (Repeated place) f h = f h
-IsSaid-map TooMany f h = f h
-IsSaid-map NoKey f h = f h
-IsSaid-map NoMemory f h = tt
-
 -- one key more was read
 pub keys_behind-more : (vs : List Value) (i : ℕ) (v : Value) (key : Key) (before after : List Key) (all : Result (List Key) KeyFault)
-    → i < length vs → v ≡ get_or vs i v → new_key before (i + 1) (view v) ≡ Ok key → after ≡ before ++ key ∷ []
+    → i < length vs → v ≡ get_or vs i v → Ok key ≡ new_key before (i + 1) (view v) → after ≡ before ++ key ∷ []
     → all ≡ keys_behind before (i + 1) (map view (drop i vs)) → all ≡ keys_behind after (i + 1 + 1) (map view (drop (i + 1) vs))
 keys_behind-more vs i v key before after all below is told pushed so_far =
     let cut = drop_is vs i v below is in
-    so_far ∙ rw (pushed, cut, told) refl
+    so_far ∙ rw (pushed, cut, ← told) refl
 
 -- a fault of an element is that of all
-pub keys_behind-fault : {T : Type 0} (vs : List Value) (i : ℕ) (v : Value) (fault : KeyFault) (before : List Key) (all : Result (List Key) KeyFault) (r : Result T KeyFault) (P : T → Type 0)
-    → i < length vs → v ≡ get_or vs i v → IsSaid fault (new_key before (i + 1) (view v) ≡ Err fault)
-    → all ≡ keys_behind before (i + 1) (map view (drop i vs)) → IsErrAnd r (λ given. given ≡ fault) → MatchResult r P (λ given. IsSaid given (all ≡ Err given))
-keys_behind-fault vs i v fault before all (Ok x) P below is told so_far given = absurd given
-keys_behind-fault vs i v fault before all (Err other) P below is told so_far given =
+pub keys_behind-fault : {T : Type 0} (vs : List Value) (i : ℕ) (v : Value) (fault : KeyFault) (before : List Key) (all : Result (List Key) KeyFault) (r : Result T KeyFault)
+    (seen : T → List Key) → i < length vs → v ≡ get_or vs i v → IsUnless NoMemory (Err fault) (new_key before (i + 1) (view v))
+    → all ≡ keys_behind before (i + 1) (map view (drop i vs)) → IsErrAnd r (λ given. given ≡ fault) → IsUnless NoMemory (result_map_both seen (λ f. f) r) all
+keys_behind-fault vs i v fault before all (Ok x) seen below is told so_far given = absurd given
+keys_behind-fault vs i v fault before all (Err other) seen below is told so_far given =
     let cut = drop_is vs i v below is in
-    let first : new_key before (i + 1) (view v) ≡ Err fault → all ≡ Err fault = λ e. so_far ∙ rw (cut, e) refl in
-    subst (λ w. IsSaid w (all ≡ Err w)) (sym given) (IsSaid-map fault first told)
+    elim told [
+      | inl lacking ↦ inl (given ∙ lacking)
+      | inr first ↦ let whole : all ≡ Err fault = so_far ∙ rw (cut, ← first) refl in inr (ap Err given ∙ sym whole)
+    ]

@@ -1,7 +1,8 @@
 -- What is read of a keys text is a table, in which each key is found by its id.
 use Rattle.std.proofs.Common.{◌≡◌, ◌≢◌, ℕ, zero, suc, ◌+◌, ◌==◌, nat_lt, Bool, true, false, cond, ◌||◌, List, [], ◌∷◌, ◌++◌, length, Option, Some, None, Result, Ok, Err, is_some, codes, refl, sym, ap, subst, ◌∙◌, arith, length-append, Vec, Global}
-use Rattle.std.specs.Prelude.{slice_get, IfOk, MatchResult}
+use Rattle.std.specs.Prelude.{slice_get, IfOk}
 use Rattle.std.specs.List.{list_all, position_from, position_or_len}
+use Rattle.std.specs.Result.{result_map_both}
 use Rattle.std.specs.Str.{bytes_eq}
 use Rattle.std.proofs.lemmas.Bool.{eq-eqb, ltb-false, not-true}
 use Rattle.std.proofs.lemmas.List.Folds.{list_any-append, list_all-append, find_at}
@@ -9,6 +10,7 @@ use Rattle.std.proofs.lemmas.Option.{slice_get_past}
 use Rattle.std.proofs.lemmas.Slice.Eq.{bytes_eq-Decides}
 use Rattle.std.proofs.lemmas.Iterator.Adapters.{position_from-zero}
 use Rattle.cv_base.specs.Sequence.{◌>>=◌}
+use Rattle.cv_base.specs.Unless.{IsUnless}
 use Rattle.cv_base.proofs.Laws.{first_true, second_true}
 use Rattle.serde_json.specs.Data.{Data}
 use Rattle.serde_json.specs.Find.{get, as_str, as_object}
@@ -17,7 +19,7 @@ use Rattle.cv_keys.specs.KeyInner.{place_of}
 use Rattle.cv_keys.specs.KeysText.{tested_text, member_text, key_in, new_key, keys_behind, array_keys}
 use Rattle.cv_keys.specs.declared.key.Key.{Key}
 use Rattle.cv_keys.specs.declared.key_fault.KeyFault.{KeyFault}
-use Rattle.cv_keys.specs.declared.key_fault.KeyFault.TheVariants.{WrongType, BadValue, Repeated, TooMany, NoKey}
+use Rattle.cv_keys.specs.declared.key_fault.KeyFault.TheVariants.{WrongType, BadValue, Repeated, TooMany, NoKey, NoMemory}
 
 first_false : (a b : Bool) → (a || b) ≡ false → a ≡ false
 first_false true b h = cc
@@ -175,7 +177,7 @@ IsTable-array_keys ds keys h =
     ] refl h
 
 -- what is read of an array is a table
-pub IsTable-read : {E : Type 0} (ds : List Data) (r : Result (Vec Key Global) E) (Q : E → Type 0) → MatchResult r (λ keys. array_keys ds ≡ Ok keys.items) Q
+pub IsTable-read : (ds : List Data) (r : Result (Vec Key Global) KeyFault) → IsUnless NoMemory (result_map_both (λ keys. keys.items) (λ fault. fault) r) (array_keys ds)
     → IfOk r (λ keys. IsTable keys.items)
-IsTable-read ds (Ok keys) Q h = IsTable-array_keys ds keys.items h
-IsTable-read ds (Err e) Q h = tt
+IsTable-read ds (Ok keys) h = IsTable-array_keys ds keys.items (sym h)
+IsTable-read ds (Err e) h = tt

@@ -6,6 +6,7 @@ use Rattle.hex.specs.Hex.{encode_lower}
 use Rattle.base64.specs.Engines.{standard}
 use Rattle.base64.specs.GeneralPurpose.{encode_of, decode_of}
 use Rattle.base64.specs.declared.decode.DecodeError.{DecodeError}
+use Rattle.cv_base.specs.Unless.{IsUnless}
 use Rattle.cv_seal.specs.Hmac.{hmac_sha1}
 use Rattle.cv_keys.specs.Key.{key_of}
 use Rattle.cv_keys.specs.declared.key.Key.{Key}
@@ -24,8 +25,7 @@ header_of key message = key.id ++ 32 ∷ encode_of standard (mac_of key message)
 -- the call gives the place of the key that is the answer, or the answer's fault, unless it wanted memory
 abbrev pub IsPlaceOf : List Key → Result KeyNo AuthFault → Result Key AuthFault → Type 0
 IsPlaceOf keys (Ok place) answer = IsSomeAnd (slice_get keys place.0) (λ key. answer ≡ Ok key)
-IsPlaceOf keys (Err NoMemory) answer = Unit {0}
-IsPlaceOf keys (Err fault) answer = answer ≡ Err fault
+IsPlaceOf keys (Err fault) answer = IsUnless NoMemory (Err fault) answer
 
 -- 40 bytes, where it is so many
 abbrev pub of_forty : Result (List ℕ) DecodeError → Option (List ℕ)

@@ -3,11 +3,12 @@ use Rattle.std.specs.Prelude.{ℕ, ◌≡◌, ◌≤◌, Bool, true, not, ◌&&�
 use Rattle.std.specs.List.{list_all, list_any, find}
 use Rattle.std.specs.Str.{bytes_eq}
 use Rattle.cv_keys.specs.declared.key.Key.{Key}
+use Rattle.cv_keys.specs.declared.read_keys.TheConstants.{SECRET_LIMIT}
 pub use Rattle.cv_base.specs.KeyId.{is_visible, is_key_id}
 
 -- a secret: 1 to 255 bytes
 abbrev pub is_secret : List ℕ → Bool
-is_secret secret = nat_le 1 (length secret) && nat_le (length secret) 255
+is_secret secret = nat_le 1 (length secret) && nat_le (length secret) SECRET_LIMIT
 
 -- one of the keys has this id
 abbrev pub has_id : List Key → List ℕ → Bool

@@ -8,12 +8,7 @@ use Rattle.cv_json.specs.ObjectText.{object_in}
 use Rattle.cv_keys.specs.Key.{is_key_id, is_secret, has_id}
 use Rattle.cv_keys.specs.declared.key.Key.{Key}
 use Rattle.cv_keys.specs.declared.key_fault.KeyFault.{KeyFault}
-use Rattle.cv_keys.specs.declared.key_fault.KeyFault.TheVariants.{NotJson, Missing, WrongType, BadValue, Repeated, TooMany, NoKey, NoMemory}
-
--- a fault that is said by the text, unless it is want of memory
-abbrev pub IsSaid : KeyFault → Type 0 → Type 0
-IsSaid NoMemory said = Unit {0}
-IsSaid fault said = said
+use Rattle.cv_keys.specs.declared.key_fault.KeyFault.TheVariants.{NotJson, Missing, WrongType, BadValue, Repeated, TooMany, NoKey}
 
 -- a text that has to pass a test
 abbrev pub tested_text : ℕ → (List ℕ → Bool) → Option (List ℕ) → Result (List ℕ) KeyFault

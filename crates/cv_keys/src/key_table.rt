@@ -1,9 +1,11 @@
 //! The table of a gateway's keys.
-ghost use Rattle.std.specs.Prelude.{◌≡◌, ◌<◌, List, true, Ok, Err, Some, None, length, slice_get, option_map, IfOk, IsSomeAnd, MatchResult, string_bytes};
+ghost use Rattle.std.specs.Prelude.{◌≡◌, ◌<◌, List, true, Ok, Some, None, length, slice_get, option_map, IfOk, IsSomeAnd, string_bytes};
+ghost use Rattle.cv_base.specs.Unless.{IsUnless};
 ghost use Rattle.cv_keys.specs.Key.{is_key_id};
 ghost use Rattle.cv_keys.specs.KeyInner.{place_of};
-ghost use Rattle.cv_keys.specs.KeysText.{IsSaid, keys_of};
+ghost use Rattle.cv_keys.specs.KeysText.{keys_of};
 ghost use Rattle.cv_keys.specs.Header.{header_of, is_mac, decoded, checked, checked_parts, IsPlaceOf};
+ghost use Rattle.cv_keys.specs.declared.key_fault.KeyFault.TheVariants as faults;
 
 use crate::auth_fault::AuthFault;
 use crate::key::Key;
@@ -41,7 +43,7 @@ impl KeyTable {
     /// The table that a keys text says: `{"keys":[{"id":"K","secret":"S"}]}` with an element for each
     /// key. Other members are passed over, and of a member that stands twice the last counts.
     pub fn read(alloc: Global, json: &[u8]) -> Result<KeyTable, KeyFault>
-        ensures { MatchResult result (λ table. keys_of json.now ≡ Ok table) (λ fault. IsSaid fault (keys_of json.now ≡ Err fault)) }
+        ensures { IsUnless faults.NoMemory result (keys_of json.now) }
     {
         let Some(value) = read_object(alloc, json)? else {
             return Err(KeyFault::NotJson);

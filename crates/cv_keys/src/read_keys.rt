@@ -1,19 +1,25 @@
 //! Reading the keys text.
 ghost use Rattle.std.specs.Prelude.{◌≡◌, ◌+◌, ◌≤◌, ◌<◌, [], Ok, Err, Some, IfOk, codes, map, length, MatchResult};
 ghost use Rattle.std.specs.List.{list_all};
+ghost use Rattle.std.specs.Result.{result_map_both};
 ghost use Rattle.serde_json.specs.Find.{get};
 ghost use Rattle.serde_json.specs.View.{view};
+ghost use Rattle.cv_base.specs.Unless.{IsUnless};
 ghost use Rattle.cv_keys.specs.Key.{is_visible, is_key_id, is_secret, has_id, IsTable};
-ghost use Rattle.cv_keys.specs.KeysText.{IsSaid, member_text, key_in, new_key, keys_behind, array_keys, keys_in_object};
+ghost use Rattle.cv_keys.specs.KeysText.{member_text, key_in, new_key, keys_behind, array_keys, keys_in_object};
+ghost use Rattle.cv_keys.specs.declared.key_fault.KeyFault.TheVariants as faults;
 
 use crate::key::Key;
 use crate::key_fault::KeyFault;
-use cv_base::{KEY_ID_LIMIT, Text};
+use cv_base::{KEY_ID_LIMIT, NoMemory, Text};
 use serde_json::Value;
 use std::alloc::Global;
 
 /// The most keys of a table.
 const KEY_LIMIT: usize = 256;
+
+/// The most bytes of a key's secret.
+const SECRET_LIMIT: usize = 255;
 
 /// Whether each byte is a visible ASCII character.
 fn is_visible(text: &str) -> bool
@@ -33,7 +39,7 @@ fn is_key_id(text: &str) -> bool
 fn is_secret(text: &str) -> bool
     ensures { result ≡ is_secret text.now }
 {
-    !text.is_empty() && text.len() <= 255
+    !text.is_empty() && text.len() <= SECRET_LIMIT
 }
 
 /// The id of an element.
@@ -74,8 +80,7 @@ fn read_secret(value: &Value, place: u32) -> Result<&str, KeyFault>
 
 /// The key that an element is.
 fn read_key(alloc: Global, value: &Value, place: u32) -> Result<Key, KeyFault>
-    ensures { MatchResult result (λ key. key_in place (view value.now) ≡ Ok key)
-        (λ fault. IsSaid fault (key_in place (view value.now) ≡ Err fault)) }
+    ensures { IsUnless faults.NoMemory result (key_in place (view value.now)) }
 {
     if !value.is_object() {
         return Err(KeyFault::WrongType(place));
@@ -96,8 +101,7 @@ fn has_id(keys: &[Key], id: &str) -> bool
 
 /// The key that an element is, behind others.
 fn read_new_key(alloc: Global, before: &[Key], value: &Value, place: u32) -> Result<Key, KeyFault>
-    ensures { MatchResult result (λ key. new_key before.now place (view value.now) ≡ Ok key)
-        (λ fault. IsSaid fault (new_key before.now place (view value.now) ≡ Err fault)) }
+    ensures { IsUnless faults.NoMemory result (new_key before.now place (view value.now)) }
 {
     let key = read_key(alloc, value, place)?;
     if has_id(before, key.id.as_str()) {
@@ -108,8 +112,9 @@ fn read_new_key(alloc: Global, before: &[Key], value: &Value, place: u32) -> Res
 
 /// The keys of the member `keys` of an object.
 pub(crate) fn read_keys(alloc: Global, value: &Value) -> Result<Vec<Key>, KeyFault>
-    ensures answer { MatchResult result (λ keys. keys_in_object (Some (view value.now)) ≡ Ok keys.items)
-        (λ fault. IsSaid fault (keys_in_object (Some (view value.now)) ≡ Err fault)) }
+    ensures answer { IsUnless faults.NoMemory
+        (result_map_both (λ keys. keys.items) (λ fault. fault) result)
+        (keys_in_object (Some (view value.now))) }
     ensures table { IfOk result (λ keys. IsTable keys.items) }
 {
     let Some(list) = value.get("keys") else {
@@ -123,8 +128,9 @@ pub(crate) fn read_keys(alloc: Global, value: &Value) -> Result<Vec<Key>, KeyFau
 
 /// The keys of an array.
 fn read_array(alloc: Global, list: &[Value]) -> Result<Vec<Key>, KeyFault>
-    ensures { MatchResult result (λ keys. array_keys (map view list.now) ≡ Ok keys.items)
-        (λ fault. IsSaid fault (array_keys (map view list.now) ≡ Err fault)) }
+    ensures { IsUnless faults.NoMemory
+        (result_map_both (λ keys. keys.items) (λ fault. fault) result)
+        (array_keys (map view list.now)) }
 {
     if list.len() > KEY_LIMIT {
         return Err(KeyFault::TooMany);
@@ -138,15 +144,14 @@ fn read_array(alloc: Global, list: &[Value]) -> Result<Vec<Key>, KeyFault>
 /// The keys of the elements of an array.
 fn read_elements(alloc: Global, list: &[Value]) -> Result<Vec<Key>, KeyFault>
     requires { length list.now ≤ 256 }
-    ensures { MatchResult result (λ keys. keys_behind [] 1 (map view list.now) ≡ Ok keys.items)
-        (λ fault. IsSaid fault (keys_behind [] 1 (map view list.now) ≡ Err fault)) }
+    ensures { IsUnless faults.NoMemory
+        (result_map_both (λ keys. keys.items) (λ fault. fault) result)
+        (keys_behind [] 1 (map view list.now)) }
 {
     let mut keys = Vec::new(alloc);
     for i in 0..list.len() {
         let key = read_new_key(alloc, &keys, &list[i], i as u32 + 1)?;
-        if keys.push(key).is_err() {
-            return Err(KeyFault::NoMemory);
-        }
+        keys.push(key).map_err(NoMemory::from)?;
     }
     Ok(keys)
 }

@@ -11,7 +11,7 @@ use Rattle.std.proofs.Math.Seq.{drop-cons}
 use Rattle.std.proofs.Math.Bool.{or-true}
 use Rattle.cv_manifest.specs.Lines.{has_newline, ended}
 
-abbrev is_newline : ℕ → Bool
+abbrev pub is_newline : ℕ → Bool
 is_newline b = eqb b 10
 
 -- ---- the first newline

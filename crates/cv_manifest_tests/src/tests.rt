@@ -23,6 +23,9 @@ const HISTORY: [u8; 20] = [
 const WHOLE: &[u8] =
     b"C307aac20fe5391faacd0ea38f9589fb797a3685c\nB81\nRd41d8cd98f00b204e9800998ecf8427e\nD240\nS1\nNsw.example.org\nHaa6425aab18cc717b24c90d0a3e5aacbbdc01916\nT1700000000\n--\n3d103c065861638cbe1a3f5580ea0d71ef0cbfd2\n\x1c\x9d&s>8\xf0\xac4a\xfb\xc0W\xe3\xd7G\xea\x0fhi";
 
+/// Where its seal begins.
+const SEAL_AT: usize = 202;
+
 const IN_ANY_ORDER: &[u8] =
     b"Xpassed over\nT1700000000\nHaa6425aab18cc717b24c90d0a3e5aacbbdc01916\nNsw.example.org\nS1\nD240\nRd41d8cd98f00b204e9800998ecf8427e\nB81\nC307aac20fe5391faacd0ea38f9589fb797a3685c\n- \n--\n141bf55816b7ab9bf035b59b3a57671cdbcad594\n\x09f\xb3\xd4y\x01\xc7O\xa2\x9fYe\xeb9d4r\x84\x9c\xf6";
 
@@ -216,6 +219,19 @@ fn each_fault_is_told(rt: HostRuntime) -> Result<(), Fail> {
     for (number, bytes, fault) in &CHANGES {
         let text = sealed(rt.alloc(), &changed(rt.alloc(), *number, bytes)?)?;
         assert_eq!(rt; fault_of(rt.alloc(), &text)?, Some(*fault));
+    }
+    Ok(())
+}
+
+#[test]
+fn a_manifest_that_is_cut_at_any_byte_is_none(rt: HostRuntime) -> Result<(), Fail> {
+    for size in 0..WHOLE.len() {
+        let fault = if size < SEAL_AT {
+            ManifestFault::NoEnd
+        } else {
+            ManifestFault::BadSeal
+        };
+        assert_eq!(rt; fault_of(rt.alloc(), &WHOLE[..size])?, Some(fault));
     }
     Ok(())
 }

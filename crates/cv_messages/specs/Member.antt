@@ -6,13 +6,8 @@ use Rattle.cv_base.specs.Sequence.{◌>>=◌}
 use Rattle.cv_base.specs.declared.token.Token.{Token}
 use Rattle.cv_messages.specs.Spelling.{decimal_of, token_of, digest_of}
 use Rattle.cv_messages.specs.declared.message_fault.MessageFault.{MessageFault}
-use Rattle.cv_messages.specs.declared.message_fault.MessageFault.TheVariants.{Missing, WrongType, BadValue, NoMemory}
+use Rattle.cv_messages.specs.declared.message_fault.MessageFault.TheVariants.{Missing, WrongType, BadValue}
 use Rattle.cv_messages.specs.declared.member.Member.{Member}
-
--- a fault that is said by the text, unless it is want of memory
-abbrev pub IsSaid : MessageFault → Type 0 → Type 0
-IsSaid NoMemory said = Unit {0}
-IsSaid fault said = said
 
 -- a value that has to be a text
 abbrev pub text_of : Member → Option (List ℕ) → Result (List ℕ) MessageFault

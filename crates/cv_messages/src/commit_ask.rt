@@ -6,8 +6,9 @@ ghost use Rattle.serde_json.specs.View.{view};
 ghost use Rattle.serde_json.specs.Written.{compact_text};
 ghost use Rattle.cv_base.specs.Digest.{IsDigest};
 ghost use Rattle.cv_base.specs.Tag.{is_tag_byte};
+ghost use Rattle.cv_base.specs.Unless.{IsUnless};
 ghost use Rattle.cv_messages.specs.CommitAsk.{is_tag, root_digits, root_member, tag_member, commit_ask_data, commit_ask_members};
-ghost use Rattle.cv_messages.specs.Member.{IsSaid};
+ghost use Rattle.cv_messages.specs.declared.message_fault.MessageFault.TheVariants as faults;
 
 use crate::member::Member;
 use crate::members::{digest_in, text_member};
@@ -79,7 +80,7 @@ fn tag_member(value: &Value) -> Result<&str, MessageFault>
 
 /// The message that an object is.
 fn read_members(alloc: Global, value: &Value) -> Result<CommitAsk, MessageFault>
-    ensures reads { MatchResult result (λ ask. commit_ask_members (view value.now) ≡ Ok ask) (λ fault. IsSaid fault (commit_ask_members (view value.now) ≡ Err fault)) }
+    ensures reads { IsUnless faults.NoMemory result (commit_ask_members (view value.now)) }
     ensures tag { IfOk result (λ ask. is_tag ask.tag ≡ true) }
 {
     let old_root = root_member(value, "old_root_hash", Member::OldRoot)?;
@@ -110,7 +111,7 @@ impl CommitAsk {
     /// The message that bytes are: a JSON object with the texts `old_root_hash` and `new_root_hash`, 40 hex digits that a
     /// `C` may follow, and `tag_name`, which may be lacking.
     pub fn read(alloc: Global, bytes: &[u8]) -> Result<CommitAsk, MessageFault>
-        ensures reads { MatchResult result (λ ask. commit_ask_of bytes.now ≡ Ok ask) (λ fault. IsSaid fault (commit_ask_of bytes.now ≡ Err fault)) }
+        ensures reads { IsUnless faults.NoMemory result (commit_ask_of bytes.now) }
         ensures tag { IfOk result (λ ask. is_tag ask.tag ≡ true) }
     {
         let Some(value) = read_object(alloc, bytes)? else {

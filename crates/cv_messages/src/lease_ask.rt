@@ -1,9 +1,10 @@
 //! The message that asks for a lease.
-ghost use Rattle.std.specs.Prelude.{◌≡◌, Ok, Err, codes, IfOk, MatchResult};
+ghost use Rattle.std.specs.Prelude.{◌≡◌, Ok, codes, IfOk};
 ghost use Rattle.serde_json.specs.Data.{string, object, member, no_members};
 ghost use Rattle.serde_json.specs.View.{view};
 ghost use Rattle.serde_json.specs.Written.{compact_text};
-ghost use Rattle.cv_messages.specs.Member.{IsSaid};
+ghost use Rattle.cv_base.specs.Unless.{IsUnless};
+ghost use Rattle.cv_messages.specs.declared.message_fault.MessageFault.TheVariants as faults;
 
 use crate::member::Member;
 use crate::members::text_member;
@@ -26,7 +27,7 @@ impl LeaseAsk {
     /// The message that bytes are: a JSON object with the text `path`. Other members are passed over,
     /// and of a member that stands twice the last counts.
     pub fn read(alloc: Global, bytes: &[u8]) -> Result<LeaseAsk, MessageFault>
-        ensures { MatchResult result (λ ask. lease_ask_of bytes.now ≡ Ok ask) (λ fault. IsSaid fault (lease_ask_of bytes.now ≡ Err fault)) }
+        ensures { IsUnless faults.NoMemory result (lease_ask_of bytes.now) }
     {
         let Some(value) = read_object(alloc, bytes)? else {
             return Err(MessageFault::NotJson);

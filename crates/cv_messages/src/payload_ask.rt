@@ -1,10 +1,11 @@
 //! The message of a payload.
-ghost use Rattle.std.specs.Prelude.{◌≡◌, Ok, Err, IfOk, MatchResult};
+ghost use Rattle.std.specs.Prelude.{◌≡◌, Ok, IfOk};
 ghost use Rattle.serde_json.specs.View.{view};
 ghost use Rattle.serde_json.specs.Written.{compact_text};
 ghost use Rattle.cv_base.specs.Digest.{IsDigest};
-ghost use Rattle.cv_messages.specs.Member.{IsSaid};
+ghost use Rattle.cv_base.specs.Unless.{IsUnless};
 ghost use Rattle.cv_messages.specs.PayloadAsk.{payload_ask_data, payload_ask_members};
+ghost use Rattle.cv_messages.specs.declared.message_fault.MessageFault.TheVariants as faults;
 
 use crate::member::Member;
 use crate::members::{digest_member, size_member, text_member};
@@ -28,7 +29,7 @@ pub struct PayloadAsk {
 
 /// The message that an object is.
 fn read_members(alloc: Global, value: &Value) -> Result<PayloadAsk, MessageFault>
-    ensures { MatchResult result (λ ask. payload_ask_members (view value.now) ≡ Ok ask) (λ fault. IsSaid fault (payload_ask_members (view value.now) ≡ Err fault)) }
+    ensures { IsUnless faults.NoMemory result (payload_ask_members (view value.now)) }
 {
     let token = text_member(value, "session_token", Member::SessionToken)?;
     let digest = digest_member(value, "payload_digest", Member::Digest)?;
@@ -57,7 +58,7 @@ impl PayloadAsk {
 
     /// The message that bytes are: a JSON object with the texts `session_token` and `payload_digest`, and `header_size`.
     pub fn read(alloc: Global, bytes: &[u8]) -> Result<PayloadAsk, MessageFault>
-        ensures { MatchResult result (λ ask. payload_ask_of bytes.now ≡ Ok ask) (λ fault. IsSaid fault (payload_ask_of bytes.now ≡ Err fault)) }
+        ensures { IsUnless faults.NoMemory result (payload_ask_of bytes.now) }
     {
         let Some(value) = read_object(alloc, bytes)? else {
             return Err(MessageFault::NotJson);

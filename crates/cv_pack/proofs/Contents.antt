@@ -137,7 +137,7 @@ pub fault_reads : (old mid new : ContentsReader) (es : List Entry) (k n missing 
 fault_reads old mid new es k n missing d rest front after text fault is missing-is front-is n-is k-is within parts objects begun closes =
     let size : length old.begun.items + length front ≡ (get_or es k d).size = omega (arith, within_content old es k d is k-is within) in
     elim (closes_fault mid new (get_or es k d) fault closes) [
-      | inl no_memory ↦ subst (λ (f : PackFault). Faults f (contents_on old es (rest ++ text))) (sym no_memory) tt
+      | inl no_memory ↦ subst (λ (f : PackFault). Faults f (contents_on old es (rest ++ text))) (sym no_memory) (inl refl)
       | inr differs ↦
           let e : Entry = get_or es k d in
           let whole : List ℕ = old.begun.items ++ front in
@@ -150,7 +150,7 @@ fault_reads old mid new es k n missing d rest front after text fault is missing-
           ∙ ap (λ (x : List ℕ). with_front old.objects.items (contents_at k (drop k es) x)) text-is
           ∙ ap (λ (x : List Entry). with_front old.objects.items (contents_at k x (whole ++ (after ++ text)))) (entries_from es k d within)
           ∙ content_differs k e (drop (k + 1) es) whole (after ++ text) old.objects.items (length-append old.begun.items front ∙ size) other in
-          subst (λ (f : PackFault). Faults f (contents_on old es (rest ++ text))) (sym fault-is) one
+          subst (λ (f : PackFault). Faults f (contents_on old es (rest ++ text))) (sym fault-is) (inr (sym one))
     ]
 
 -- the content that was begun isn't there whole

@@ -13,13 +13,14 @@ use Rattle.cv_pack.specs.declared.field.Mark.TheVariants.{FormatLetter, FormatDi
 use Rattle.cv_pack.specs.declared.header_reader.HeaderReader.{HeaderReader}
 use Rattle.cv_pack.specs.declared.pack.Pack.{Pack}
 use Rattle.cv_pack.specs.declared.pack_fault.PackFault.{PackFault}
-use Rattle.cv_pack.specs.declared.pack_fault.PackFault.TheVariants.{BadHeader, TooLarge, TooMany, HashDiffers, Short, Trailing, Duplicate, NoMemory}
+use Rattle.cv_pack.specs.declared.pack_fault.PackFault.TheVariants.{Short, NoMemory}
 use Rattle.cv_pack.specs.declared.pack_reader.PackReader.{PackReader}
 use Rattle.cv_pack.specs.Pack.{IsPack, header_of, header_bytes, pack_bytes}
 use Rattle.cv_pack.proofs.Numbers.{ok_is}
 use Rattle.cv_pack.proofs.Lines.{header_takes}
 use Rattle.cv_pack.proofs.Packs.{contents_take, pack_takes, pack_again}
 use Rattle.cv_base.specs.Sequence.{◌>>=◌}
+use Rattle.cv_base.specs.Unless.{IsUnless}
 use Rattle.cv_pack.specs.Reading.{Header, hash_from, header_at, contents_at, reading, shown, fault_in}
 use Rattle.cv_pack.specs.HeaderState.{Progress, progress, after_line, from_field, header_on, Faults}
 use Rattle.cv_pack.specs.HeaderStateInner.{TakesPart}
@@ -64,16 +65,18 @@ short_field p fields.Whole line at other = absurd (other refl)
 whole_header : (h : HeaderReader) (text : List ℕ) → h.field ≡ fields.Whole → header_on h text ≡ Ok (h.entries, h.at, text)
 whole_header h text is = ap (λ (f : Field). from_field (progress h) f h.line h.at text) is
 
--- a fault of what is read first
+-- a fault of what is read first, but for want of memory
+unless_first : {A B : Type 0} (read : Result A PackFault) (k : A → Result B PackFault) (fault : PackFault) → IsUnless NoMemory (Err fault) read → IsUnless NoMemory (Err fault) (read >>= k)
+unless_first read k fault h = elim h [ inl lacking ↦ inl lacking | inr is ↦ inr (rw (← is) refl) ]
+
+-- and but for that bytes are lacking
 fault_first : {A B : Type 0} (read : Result A PackFault) (k : A → Result B PackFault) (fault : PackFault) → Faults fault read → Faults fault (read >>= k)
-fault_first read k (BadHeader n) h = rw h refl
-fault_first read k TooLarge h = rw h refl
-fault_first read k TooMany h = rw h refl
-fault_first read k (HashDiffers n) h = rw h refl
 fault_first read k Short h = h
-fault_first read k Trailing h = rw h refl
-fault_first read k (Duplicate n) h = rw h refl
-fault_first read k NoMemory h = tt
+fault_first read k fault h = unless_first read k fault h
+
+-- a fault that isn't want of memory is that of reading
+fault_read : {A : Type 0} (read : Result A PackFault) (fault : PackFault) → (fault ≡ NoMemory → ⊥) → IsUnless NoMemory (Err fault) read → read ≡ Err fault
+fault_read read fault never h = elim h [ inl lacking ↦ absurd (never lacking) | inr is ↦ sym is ]
 
 -- what reading is where the header was read
 read_header : (header contents text : List ℕ) (hasher : Sha1) (h : HeaderReader) (c : ContentsReader) → HasTaken hasher h c header contents → h.field ≡ fields.Whole
@@ -118,14 +121,9 @@ fault_of_header header contents piece text hasher old new c result fault taken s
     fault_first (header_at (((header ++ contents) ++ piece) ++ text)) (λ r. contents_at 0 r.0 r.2) fault first
 
 fault_shown : (bytes : List ℕ) (fault : PackFault) → Faults fault (reading bytes) → Shows bytes (Err fault)
-fault_shown bytes (BadHeader n) h = ap fault_in h
-fault_shown bytes TooLarge h = ap fault_in h
-fault_shown bytes TooMany h = ap fault_in h
-fault_shown bytes (HashDiffers n) h = ap fault_in h
 fault_shown bytes Short h = absurd h
-fault_shown bytes Trailing h = ap fault_in h
-fault_shown bytes (Duplicate n) h = ap fault_in h
 fault_shown bytes NoMemory h = tt
+fault_shown bytes fault h = ap fault_in (fault_read (reading bytes) fault (λ e. cc) h)
 
 -- what stays of a header that was read to its end
 entries_stay : (old new : HeaderReader) (es : List Entry) → new ≡ old → (new.field ≡ fields.Whole → es ≡ new.entries) → old.field ≡ fields.Whole → es ≡ old.entries
@@ -196,14 +194,9 @@ shown_fault bytes fault faults = fault_shown bytes fault (subst (λ (x : List �
 -- ---- the end
 
 end_of_fault : (bytes : List ℕ) (fault : PackFault) → Faults fault (reading bytes) → Finishes bytes (Err fault)
-end_of_fault bytes (BadHeader n) h = h
-end_of_fault bytes TooLarge h = h
-end_of_fault bytes TooMany h = h
-end_of_fault bytes (HashDiffers n) h = h
 end_of_fault bytes Short h = absurd h
-end_of_fault bytes Trailing h = h
-end_of_fault bytes (Duplicate n) h = h
 end_of_fault bytes NoMemory h = tt
+end_of_fault bytes fault h = fault_read (reading bytes) fault (λ e. cc) h
 
 not_read : (os : List Object) (fault : PackFault) → IsPack os → reading (pack_bytes os) ≡ Err fault → ⊥
 not_read os fault is e = let ok = pack_again os is in cc
@@ -250,11 +243,5 @@ finish_found bytes pack f = let t = pack_takes bytes pack.objects f.0 in record 
 
 pub finish_only : (os : List Object) (result : Result Pack PackFault) → IsPack os → Finishes (pack_bytes os) result → GivesPack os result
 finish_only os (Ok pack) is f = f.1 ∙ ap pack_of (ok_is pack.objects os (sym f.0 ∙ pack_again os is))
-finish_only os (Err (BadHeader n)) is f = not_read os (BadHeader n) is f
-finish_only os (Err TooLarge) is f = not_read os TooLarge is f
-finish_only os (Err TooMany) is f = not_read os TooMany is f
-finish_only os (Err (HashDiffers n)) is f = not_read os (HashDiffers n) is f
-finish_only os (Err Short) is f = not_read os Short is f
-finish_only os (Err Trailing) is f = not_read os Trailing is f
-finish_only os (Err (Duplicate n)) is f = not_read os (Duplicate n) is f
 finish_only os (Err NoMemory) is f = tt
+finish_only os (Err fault) is f = not_read os fault is f

@@ -1,12 +1,12 @@
 -- The sets of hashes, with one more.
 use Rattle.std.proofs.Common.{◌≡◌, ℕ, Bool, true, false, cond, ◌||◌, ◌&&◌, List, [], ◌∷◌, ◌++◌, refl, sym, ap, ◌∙◌}
-use Rattle.std.specs.Ordering.{nat_cmp, is_eq}
+use Rattle.std.specs.Ordering.{is_eq}
 use Rattle.std.specs.Str.{bytes_eq}
-use Rattle.std.specs.Cmp.Lexicographic.{slice_cmp}
 use Rattle.std.specs.BTreeSet.{BTreeSet, contains, Updates}
 use Rattle.std.proofs.lemmas.Map.Text.{is_eq-slice_cmp}
 use Rattle.std.proofs.lemmas.List.Folds.{list_any-append}
 use Rattle.std.proofs.Math.Bool.{and-true, and-false}
+use Rattle.cv_base.specs.BytesOrder.{bytes_cmp}
 use Rattle.cv_base.specs.ObjectId.{object_id, same_kind}
 use Rattle.cv_base.specs.declared.id.Kind.{Kind}
 use Rattle.cv_base.specs.declared.id.Kind.TheVariants.{Plain, Catalogue, History}
@@ -30,14 +30,14 @@ is_named-more es e id =
 
 -- the set of the entry's own kind has its hash
 with_hash : (kind : Kind) (es : List Entry) (e : Entry) (s n : BTreeSet (List ℕ)) → e.id.kind ≡ kind → HasHashes kind es s
-    → Updates (slice_cmp nat_cmp) s n e.id.hash true → HasHashes kind (es ++ e ∷ []) n
+    → Updates bytes_cmp s n e.id.hash true → HasHashes kind (es ++ e ∷ []) n
 with_hash kind es e s n k h u hash =
     let named = is_named-more es e (object_id hash kind) in
     let own : same_kind e.id.kind kind ≡ true = ap (λ (x : Kind). same_kind x kind) k ∙ same_kind-own kind in
-    let test : (bytes_eq e.id.hash hash && same_kind e.id.kind kind) ≡ is_eq (slice_cmp nat_cmp e.id.hash hash) =
+    let test : (bytes_eq e.id.hash hash && same_kind e.id.kind kind) ≡ is_eq (bytes_cmp e.id.hash hash) =
     ap (λ (b : Bool). bytes_eq e.id.hash hash && b) own ∙ and-true (bytes_eq e.id.hash hash) ∙ sym (is_eq-slice_cmp e.id.hash hash) in
     u.0 hash ∙ sym (named ∙ ap (λ (b : Bool). cond b true (is_named es (object_id hash kind))) test
-    ∙ ap (λ (b : Bool). cond (is_eq (slice_cmp nat_cmp e.id.hash hash)) true b) (sym (h hash)))
+    ∙ ap (λ (b : Bool). cond (is_eq (bytes_cmp e.id.hash hash)) true b) (sym (h hash)))
 
 -- another kind's set stays
 without_hash : (kind : Kind) (es : List Entry) (e : Entry) (s : BTreeSet (List ℕ)) → same_kind e.id.kind kind ≡ false → HasHashes kind es s → HasHashes kind (es ++ e ∷ []) s
@@ -53,14 +53,14 @@ not_plain Catalogue p h = refl
 not_plain History p h = absurd (h refl)
 
 pub push_plain : (es : List Entry) (e : Entry) (s n c : BTreeSet (List ℕ)) → e.id.kind ≡ Plain → AreHashes es s c
-    → Updates (slice_cmp nat_cmp) s n e.id.hash true → AreHashes (es ++ e ∷ []) n c
+    → Updates bytes_cmp s n e.id.hash true → AreHashes (es ++ e ∷ []) n c
 push_plain es e s n c k h u = record {
   of_plain = with_hash Plain es e s n k h.of_plain u;
   of_catalogues = without_hash Catalogue es e c (ap (λ (x : Kind). same_kind x Catalogue) k) h.of_catalogues;
 }
 
 pub push_catalogue : (es : List Entry) (e : Entry) (p s n : BTreeSet (List ℕ)) → e.id.kind ≡ Catalogue → AreHashes es p s
-    → Updates (slice_cmp nat_cmp) s n e.id.hash true → AreHashes (es ++ e ∷ []) p n
+    → Updates bytes_cmp s n e.id.hash true → AreHashes (es ++ e ∷ []) p n
 push_catalogue es e p s n k h u = record {
   of_plain = without_hash Plain es e p (ap (λ (x : Kind). same_kind x Plain) k) h.of_plain;
   of_catalogues = with_hash Catalogue es e s n k h.of_catalogues u;
@@ -73,9 +73,9 @@ push_history es e p c k h = record {
 }
 
 -- the sets tell of an id whether it is named
-pub has_plain : (es : List Entry) (id : ObjectId) (p c : BTreeSet (List ℕ)) → AreHashes es p c → id.kind ≡ Plain → contains (slice_cmp nat_cmp) p id.hash ≡ is_named es id
+pub has_plain : (es : List Entry) (id : ObjectId) (p c : BTreeSet (List ℕ)) → AreHashes es p c → id.kind ≡ Plain → contains bytes_cmp p id.hash ≡ is_named es id
 has_plain es id p c h k = h.of_plain id.hash ∙ ap (λ (x : Kind). is_named es (object_id id.hash x)) (sym k)
 
 pub has_catalogue : (es : List Entry) (id : ObjectId) (p c : BTreeSet (List ℕ)) → AreHashes es p c → (id.kind ≡ Plain → ⊥) → (id.kind ≡ History → ⊥)
-    → contains (slice_cmp nat_cmp) c id.hash ≡ is_named es id
+    → contains bytes_cmp c id.hash ≡ is_named es id
 has_catalogue es id p c h not_p not_h = h.of_catalogues id.hash ∙ ap (λ (x : Kind). is_named es (object_id id.hash x)) (sym (not_plain id.kind not_p not_h))

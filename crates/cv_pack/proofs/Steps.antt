@@ -125,7 +125,7 @@ mark_leads r m b result is = elim (cases_Bool (eqb b (mark_byte m))) [
       rw (to, byte) (λ at text within. mark_taken (progress r) m r.line at text within)
   | inr other ↦
       let to : result ≡ Err (BadHeader r.line) = is ∙ rw other refl in
-      rw to (λ at text within. mark_refused (progress r) m r.line at b text within other)
+      rw to (λ at text within. inr (sym (mark_refused (progress r) m r.line at b text within other)))
 ]
 
 -- the state after a byte that ends a line, and after another

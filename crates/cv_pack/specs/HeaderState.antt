@@ -1,5 +1,5 @@
 -- A header that was begun: what reading it on from there gives.
-use Rattle.std.specs.Prelude.{◌≡◌, ℕ, ◌+◌, ◌-◌, List, [], ◌∷◌, ◌++◌, length, codes, Result, Ok, Err}
+use Rattle.std.specs.Prelude.{ℕ, ◌-◌, List, [], ◌∷◌, ◌++◌, length, codes, Result, Ok, Err}
 use Rattle.cv_pack.specs.declared.entry.Entry.{Entry}
 use Rattle.cv_pack.specs.declared.field.Field.{Field}
 use Rattle.cv_pack.specs.declared.field.Field.TheVariants as fields
@@ -8,6 +8,7 @@ use Rattle.cv_pack.specs.declared.field.Mark.TheVariants.{FormatLetter, FormatDi
 use Rattle.cv_pack.specs.declared.pack_fault.PackFault.{PackFault}
 use Rattle.cv_pack.specs.declared.pack_fault.PackFault.TheVariants.{Short, NoMemory}
 use Rattle.cv_base.specs.Sequence.{◌>>=◌}
+use Rattle.cv_base.specs.Unless.{IsUnless}
 use Rattle.cv_pack.specs.Reading.{Header, text_at, size_from, blank_from, hash_from, lines_from, dashes_from, count_from, count_line_from, total_from, total_line_from, format_from}
 
 -- a header as far as it was read: what comes next, the total that it says, how many lines are still to come after the one that was
@@ -66,6 +67,5 @@ header_on r text = from_field (progress r) r.field r.line r.at text
 
 -- the fault is that of reading on, unless it is want of memory, and not that bytes are lacking
 abbrev pub Faults : {A : Type 0} → PackFault → Result A PackFault → Type 0
-Faults NoMemory read = Unit {0}
 Faults Short read = ⊥
-Faults fault read = read ≡ Err fault
+Faults fault read = IsUnless NoMemory (Err fault) read

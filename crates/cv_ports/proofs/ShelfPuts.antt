@@ -1,13 +1,13 @@
 -- A shelf in memory with one object more.
 use Rattle.std.proofs.Common.{◌≡◌, ℕ, Bool, true, false, cond, ◌&&◌, List, [], ◌∷◌, ◌++◌, sym, ap, ◌∙◌, append_assoc}
 use Rattle.std.specs.Prelude.{Option, Some, Result, Ok, Err, OnOk}
-use Rattle.std.specs.Ordering.{nat_cmp, is_eq}
-use Rattle.std.specs.Cmp.Lexicographic.{slice_cmp}
+use Rattle.std.specs.Ordering.{is_eq}
 use Rattle.std.specs.Str.{bytes_eq}
 use Rattle.std.specs.BTreeMap.{BTreeMap, Updates, is_at}
 use Rattle.std.specs.Map.{lookup}
 use Rattle.std.proofs.lemmas.Map.Text.{is_eq-slice_cmp}
 use Rattle.std.proofs.Math.Bool.{and-true, and-false}
+use Rattle.cv_base.specs.BytesOrder.{bytes_cmp}
 use Rattle.cv_base.specs.declared.id.Kind.{Kind}
 use Rattle.cv_base.specs.declared.id.Kind.TheVariants.{Plain, Catalogue, History}
 use Rattle.cv_base.specs.declared.id.ObjectId.{ObjectId}
@@ -26,13 +26,13 @@ with_kind s History es = record s { history = es }
 
 -- the bytes under a hash
 abbrev under : List ℕ → Entries → Option (List ℕ)
-under hash es = lookup (is_at (slice_cmp nat_cmp hash)) es
+under hash es = lookup (is_at (bytes_cmp hash)) es
 
 -- under the hashes of the kind of what was put
-own : (es : Entries) (m n : BTreeMap (List ℕ) (List ℕ)) (hash bytes q : List ℕ) → es ≡ m.entries → Updates (slice_cmp nat_cmp) m n hash (Some bytes)
+own : (es : Entries) (m n : BTreeMap (List ℕ) (List ℕ)) (hash bytes q : List ℕ) → es ≡ m.entries → Updates bytes_cmp m n hash (Some bytes)
     → under q n.entries ≡ cond (bytes_eq hash q && true) (Some bytes) (under q es)
 own es m n hash bytes q was put =
-    let test : is_eq (slice_cmp nat_cmp hash q) ≡ (bytes_eq hash q && true) = is_eq-slice_cmp hash q ∙ sym (and-true (bytes_eq hash q)) in
+    let test : is_eq (bytes_cmp hash q) ≡ (bytes_eq hash q && true) = is_eq-slice_cmp hash q ∙ sym (and-true (bytes_eq hash q)) in
     put.0 q ∙ ap (λ (b : Bool). cond b (Some bytes) (under q m.entries)) test
     ∙ ap (λ (l : Entries). cond (bytes_eq hash q && true) (Some bytes) (under q l)) (sym was)
 
@@ -41,7 +41,7 @@ apart : {X : Type 0} → (b : Bool) (x y : X) → y ≡ cond (b && false) x y
 apart b x y = sym (ap (λ (a : Bool). cond a x y) (and-false b))
 
 put_kind : (s : ShelfView) (k j : Kind) (m n : BTreeMap (List ℕ) (List ℕ)) (hash bytes q : List ℕ) → of_kind s k ≡ m.entries
-    → Updates (slice_cmp nat_cmp) m n hash (Some bytes)
+    → Updates bytes_cmp m n hash (Some bytes)
     → under q (of_kind (with_kind s k n.entries) j) ≡ cond (bytes_eq hash q && same_kind k j) (Some bytes) (under q (of_kind s j))
 put_kind s Plain Plain m n hash bytes q was put = own s.plain m n hash bytes q was put
 put_kind s Plain Catalogue m n hash bytes q was put = apart (bytes_eq hash q) (Some bytes) (under q s.catalogues)
@@ -55,7 +55,7 @@ put_kind s History History m n hash bytes q was put = own s.history m n hash byt
 
 -- an object was put among those of its kind
 pub put_object : (s t : ShelfView) (o : Object) (k : Kind) (m n : BTreeMap (List ℕ) (List ℕ)) {E : Type 0} (r : Result Unit E) → o.id.kind ≡ k → s ≡ t
-    → of_kind s k ≡ m.entries → OnOk r (Updates (slice_cmp nat_cmp) m n o.id.hash (Some o.bytes))
+    → of_kind s k ≡ m.entries → OnOk r (Updates bytes_cmp m n o.id.hash (Some o.bytes))
     → OnOk r ((id : ObjectId) → standing (with_kind s k n.entries) id ≡ cond (same_id o.id id) (Some o.bytes) (standing t id))
 put_object s t o k m n (Ok x) kind same was put = λ (id : ObjectId).
     put_kind s k id.kind m n o.id.hash o.bytes id.hash was put

@@ -4,6 +4,7 @@ use Rattle.std.specs.Ordering.{is_lt}
 use Rattle.std.specs.List.Sorted.{IsStrictlySortedBy}
 use Rattle.cv_base.specs.Path.{Path, name_cmp}
 use Rattle.cv_ports.specs.declared.folder.FolderItem.{FolderItem}
+use Rattle.cv_ports.specs.declared.folder.TheConstants.{FOLDER_READ_LIMIT}
 
 -- the items of the directory at a path, and the content of the file at one, by the paths from the folder on
 pub record FolderView : Type 0 where
@@ -21,7 +22,7 @@ names_of (item ∷ items) = item.name ∷ names_of items
 
 -- what is read of a content: the first bytes of it, one more than a file may have
 abbrev pub read_front : List ℕ → List ℕ
-read_front content = take 16777217 content
+read_front content = take FOLDER_READ_LIMIT content
 
 -- the names of a listing ascend by their bytes, so that none stands twice
 abbrev pub Ascend : List FolderItem → Type 0

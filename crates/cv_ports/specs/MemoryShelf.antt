@@ -1,9 +1,8 @@
 -- What a shelf in memory holds.
 use Rattle.std.specs.Prelude.{ℕ, List}
-use Rattle.std.specs.Ordering.{nat_cmp}
-use Rattle.std.specs.Cmp.Lexicographic.{slice_cmp}
 use Rattle.std.specs.BTreeMap.{is_at}
 use Rattle.std.specs.Map.{lookup}
+use Rattle.cv_base.specs.BytesOrder.{bytes_cmp}
 use Rattle.cv_base.specs.declared.id.Kind.{Kind}
 use Rattle.cv_base.specs.declared.id.Kind.TheVariants.{Plain, Catalogue, History}
 use Rattle.cv_ports.specs.Calls.{Calls}
@@ -25,4 +24,4 @@ of_kind s History = s.history
 
 -- what stands under each id
 abbrev pub standing : ShelfView → Shelf
-standing s id = lookup (is_at (slice_cmp nat_cmp id.hash)) (of_kind s id.kind)
+standing s id = lookup (is_at (bytes_cmp id.hash)) (of_kind s id.kind)

@@ -4,9 +4,13 @@ ghost use Rattle.cv_base.specs.Counts.{HasCause};
 ghost use Rattle.cv_base.specs.Told.{WhereTold};
 ghost use Rattle.cv_ports.specs.Folder.{FolderView, Folders, Ascend, IsOrdered, read_front};
 ghost use Rattle.cv_ports.specs.declared.folder.FolderFault.TheVariants as fault;
+ghost use Rattle.cv_ports.specs.declared.folder.TheConstants.{FOLDER_READ_LIMIT};
 
-use cv_base::{Bytes, Items, NoMemory, RepoPath, Text};
+use cv_base::{Bytes, Items, NoMemory, OBJECT_LIMIT, RepoPath, Text};
 use std::alloc::Global;
+
+/// The most bytes that are read of a file: one more than an object may have, so that a longer file shows.
+pub const FOLDER_READ_LIMIT: usize = OBJECT_LIMIT + 1;
 
 /// What stands under a name.
 #[derive(Debug, Drop)]
@@ -115,10 +119,10 @@ pub trait Folder {
         ensures lasts { holds self.new ≡ holds self.old }
         ensures cause { HasCause (faults self.old) (faults self.new) (IsErrOf result fault.Failed) };
 
-    /// The content of the file at a path, of which it gives at most the first 16,777,217 bytes.
+    /// The content of the file at a path, of which it gives at most the first `FOLDER_READ_LIMIT` bytes.
     fn read(&mut self, alloc: Global, path: &RepoPath) -> Result<Bytes, FolderFault>
         ensures told { WhereTold (folder self.old) (λ holds. IfOk result (λ bytes. bytes ≡ read_front (holds.content path.now))) }
-        ensures limit { IfOk result (λ bytes. length bytes ≤ 16777217) }
+        ensures limit { IfOk result (λ bytes. length bytes ≤ FOLDER_READ_LIMIT) }
         ensures unchanged { folder self.new ≡ folder self.old }
         ensures stays { named self.new ≡ named self.old }
         ensures lasts { holds self.new ≡ holds self.old }

@@ -6,6 +6,7 @@ ghost use Rattle.cv_ports.specs.Calls.{fails, raised};
 ghost use Rattle.cv_ports.specs.Dial.{and_failed, and_opened, and_back, after_back};
 ghost use Rattle.cv_ports.specs.Streams.{Look};
 ghost use Rattle.cv_ports.specs.MemoryDial.{came_in_memory, backs_of, told_of, GivesFirst};
+ghost use Rattle.cv_ports.specs.declared.host_name.TheConstants.{HOST_LIMIT};
 
 use crate::came_back::{CameBack, put_links};
 use crate::dial::Dial;
@@ -23,7 +24,7 @@ use std::marker::Model;
 use std::mem;
 
 /// Gives stated links in their order, and keeps which were opened and those that come back. The dials of stated numbers fail, from 1 on, and so do
-/// a dial for which no link is left and one of a host of more than 253 bytes.
+/// a dial for which no link is left and one of a host of more than `HOST_LIMIT` bytes.
 #[derive(Drop)]
 pub struct MemoryDial {
     waiting: Vec<MemoryLink>,
@@ -107,7 +108,7 @@ impl Dial for MemoryDial {
         ensures cause { HasCause self.old.calls.faults self.new.calls.faults (IsErr result) }
         ensures gives { IfOk result (λ link. GivesFirst link.reads link.writes self.old.waiting self.new.waiting) }
         ensures waiting { OnErr result (self.new.waiting ≡ self.old.waiting) }
-        ensures failing { IsErr result ↔ (IsTrue (fails self.old.calls) ⊎ (253 < length host.now) ⊎ (self.old.waiting ≡ [])) }
+        ensures failing { IsErr result ↔ (IsTrue (fails self.old.calls) ⊎ (HOST_LIMIT < length host.now) ⊎ (self.old.waiting ≡ [])) }
         ensures calls { self.new.calls ≡ record self.old.calls { count = raised self.old.calls.count; faults = if is_err result then raised self.old.calls.faults else self.old.calls.faults } }
         ensures unchanged { self.new.came ≡ self.old.came }
     {

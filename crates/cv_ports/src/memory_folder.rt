@@ -9,16 +9,14 @@ ghost use Rattle.cv_ports.specs.Folder.{Ascend, IsOrdered, read_front};
 ghost use Rattle.cv_ports.specs.MemoryFolder.{AllAscend, holding, under_each};
 ghost use Rattle.cv_ports.specs.MemoryFolderInner.{all_ascend};
 ghost use Rattle.cv_ports.specs.declared.folder.FolderFault.TheVariants as fault;
+ghost use Rattle.cv_ports.specs.declared.folder.TheConstants.{FOLDER_READ_LIMIT};
 
 use crate::ascending::ascend;
 use crate::failing_calls::FailingCalls;
-use crate::folder::{Folder, FolderFault, FolderItem};
+use crate::folder::{FOLDER_READ_LIMIT, Folder, FolderFault, FolderItem};
 use cv_base::{Bytes, Items, NoMemory, RepoPath, Text};
 use std::alloc::Global;
 use std::marker::Model;
-
-/// The most bytes that are read of a file.
-const READ_LIMIT: usize = 16_777_217;
 
 /// Holds stated directories and files. A directory or a file that isn't among them is empty.
 #[derive(Drop)]
@@ -116,16 +114,16 @@ fn listing(
 #[tactic(auto, using(std::proofs::lemmas::List::take_min))]
 fn front(alloc: Global, bytes: &[u8]) -> Result<Bytes, NoMemory>
     ensures front { IfOk result (λ made. made ≡ read_front bytes.now) }
-    ensures limit { IfOk result (λ made. length made ≤ 16777217) }
+    ensures limit { IfOk result (λ made. length made ≤ FOLDER_READ_LIMIT) }
 {
-    let count = READ_LIMIT.min(bytes.len());
+    let count = FOLDER_READ_LIMIT.min(bytes.len());
     Bytes::from_slice(alloc, &bytes[..count])
 }
 
 /// What is read of the content of the file at a path.
 fn content(alloc: Global, files: &[(RepoPath, Bytes)], path: &RepoPath) -> Result<Bytes, NoMemory>
     ensures front { IfOk result (λ bytes. bytes ≡ read_front (unwrap_or (find path_cmp path.now files.now) [])) }
-    ensures limit { IfOk result (λ bytes. length bytes ≤ 16777217) }
+    ensures limit { IfOk result (λ bytes. length bytes ≤ FOLDER_READ_LIMIT) }
 {
     match first_at(files, path) {
         Some(bytes) => front(alloc, bytes.as_slice()),
@@ -182,7 +180,7 @@ impl Folder for MemoryFolder {
 
     fn read(&mut self, alloc: Global, path: &RepoPath) -> Result<Bytes, FolderFault>
         ensures told { WhereTold (Some (holding self.old)) (λ holds. IfOk result (λ bytes. bytes ≡ read_front (holds.content path.now))) }
-        ensures limit { IfOk result (λ bytes. length bytes ≤ 16777217) }
+        ensures limit { IfOk result (λ bytes. length bytes ≤ FOLDER_READ_LIMIT) }
         ensures unchanged { Some (holding self.new) ≡ Some (holding self.old) }
         ensures stays { self.new.named ≡ self.old.named }
         ensures lasts { Some (under_each self.new) ≡ Some (under_each self.old) }

@@ -2,8 +2,7 @@
 ghost use Rattle.std.proofs.Common.{◌∙◌};
 ghost use Rattle.std.specs.Prelude.{◌≡◌, refl, ◌↔◌, IfErr, IfOk, IsErrOf, IsTrue, OnOk, Some, option_copied, if◌then◌else◌};
 ghost use Rattle.std.specs.BTreeMap.{Updates};
-ghost use Rattle.std.specs.Cmp.Lexicographic.{slice_cmp};
-ghost use Rattle.std.specs.Ordering.{nat_cmp};
+ghost use Rattle.cv_base.specs.BytesOrder.{bytes_cmp};
 ghost use Rattle.cv_base.specs.Counts.{HasCause};
 ghost use Rattle.cv_base.specs.Told.{WhereTold};
 ghost use Rattle.cv_base.specs.declared.id.ObjectId.{ObjectId as Id};
@@ -93,7 +92,7 @@ impl MemoryShelf {
 
 /// Puts bytes in place of what stood under a hash.
 fn put_in(map: &mut BTreeMap<[u8; 20], Bytes>, hash: [u8; 20], bytes: Bytes) -> Result<(), NoMemory>
-    ensures { OnOk result (Updates (slice_cmp nat_cmp) map.old map.new hash (Some bytes)) }
+    ensures { OnOk result (Updates bytes_cmp map.old map.new hash (Some bytes)) }
 {
     match map.insert(hash, bytes) {
         Ok(_) => Ok(()),

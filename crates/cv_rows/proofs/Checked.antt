@@ -1,5 +1,5 @@
 -- Rows and nested entries in any order, put in order and checked.
-use Rattle.std.proofs.Common.{◌≢◌, ◌≤◌, List, ◌++◌, length, refl, inl, inr, arith}
+use Rattle.std.proofs.Common.{◌≤◌, List, ◌++◌, length, inl, inr, arith}
 use Rattle.std.specs.List.{AllByRecursion}
 use Rattle.std.specs.List.Sorted.{IsPermutation, IsStrictlySortedBy}
 use Rattle.std.proofs.lemmas.Bool.{cases_lt}
@@ -10,13 +10,12 @@ use Rattle.cv_rows.specs.Row.{IsRow}
 use Rattle.cv_rows.specs.Nested.{IsNested}
 use Rattle.cv_rows.specs.Places.{root}
 use Rattle.cv_rows.specs.Catalogue.{IsCatalogue, IsRegion, file_of, row_cmp, nested_cmp}
-use Rattle.cv_rows.specs.Faults.{IsRuleFault, IsSaid}
+use Rattle.cv_rows.specs.Faults.{IsRuleFault}
 use Rattle.cv_rows.specs.FaultsInner.{KeepsRules}
 use Rattle.cv_rows.specs.Made.{PassesLimit}
 use Rattle.cv_rows.specs.declared.row.Row.{Row}
 use Rattle.cv_rows.specs.declared.nested.Nested.{Nested}
 use Rattle.cv_rows.specs.declared.row_fault.RowFault.{RowFault}
-use Rattle.cv_rows.specs.declared.row_fault.RowFault.TheVariants.{BadField, BadKey, BadMagic, Marker, NestedList, NoMemory, Order, Orphan, Short, TooLarge, TrailingBytes}
 use Rattle.cv_rows.proofs.NestedLaws.{fits_there}
 use Rattle.cv_rows.proofs.RuleLaws.{contents, no_fault}
 use Rattle.cv_rows.proofs.Regions.{catalogue_made, region_moved}
@@ -72,17 +71,3 @@ pub region_unbroken : (at : Path) (rows rows' : List Row) (nested nested' : List
     → IsStrictlySortedBy row_cmp rows' → IsStrictlySortedBy nested_cmp nested' → IsRuleFault at rows' nested' fault → IsRegion at rows nested → ⊥
 region_unbroken at rows rows' nested nested' fault fits moved nested_moved ordered nested_ordered broken region =
     no_fault (contents at rows' nested') fault (catalogue_made at rows rows' nested nested' region fits moved nested_moved ordered nested_ordered) broken
-
--- what is said of a fault but want of memory is so
-pub is_so : (fault : RowFault) (said : Type 0) → fault ≢ NoMemory → IsSaid fault said → said
-is_so NoMemory said other so = absurd (other refl)
-is_so Short said other so = so
-is_so BadMagic said other so = so
-is_so (BadField i) said other so = so
-is_so (Order i) said other so = so
-is_so (BadKey i) said other so = so
-is_so (Orphan i) said other so = so
-is_so (Marker i) said other so = so
-is_so (NestedList i) said other so = so
-is_so TrailingBytes said other so = so
-is_so TooLarge said other so = so

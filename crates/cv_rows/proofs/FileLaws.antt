@@ -1,20 +1,17 @@
 -- What is read of a row file is spelled so, and what is spelled so is read.
-use Rattle.std.proofs.Common.{◌≡◌, ℕ, zero, suc, ◌^◌, ◌<◌, ◌≤◌, Bool, true, false, not, cond, ltb, leb, eqb, ◌&&◌, List, [], ◌∷◌, ◌++◌, length, get_or, take, drop, codes, Some, None, Result, Ok, Err, refl, sym, ap, subst, ◌∙◌, append_assoc, append-nil, length-append, arith, inl, inr}
+use Rattle.std.proofs.Common.{◌≡◌, ℕ, zero, suc, ◌^◌, ◌<◌, ◌≤◌, Bool, true, false, not, cond, ltb, leb, eqb, ◌&&◌, List, [], ◌∷◌, ◌++◌, length, take, drop, codes, Result, Ok, Err, refl, sym, ap, subst, ◌∙◌, append_assoc, append-nil, length-append, arith}
 use Rattle.std.specs.Prelude.{bytes_eq}
 use Rattle.std.specs.Int.{w16, w32, w64, to_be_bytes}
-use Rattle.std.specs.List.{flat_map, list_all, AllByRecursion}
-use Rattle.std.specs.Str.{is_utf8, IsUtf8}
+use Rattle.std.specs.List.{flat_map, AllByRecursion}
 use Rattle.std.proofs.lemmas.Bool.{eqb-true, le-leb, ltb-false, le-ltb}
 use Rattle.std.proofs.lemmas.Bool.Decides.{nat_tests}
 use Rattle.std.proofs.lemmas.List.{nil_from_length, take-append-drop, length-take, length-drop, drop-drop}
 use Rattle.std.proofs.lemmas.List.Concat.{flat_map-cons}
 use Rattle.std.proofs.lemmas.Slice.Eq.{bytes_eq-Decides}
-use Rattle.std.proofs.lemmas.Str.{IsUtf8-append, IsUtf8-from_ascii, IsUtf8-from_is_utf8, IsUtf8-nil, is_utf8-from_IsUtf8}
 use Rattle.hex.specs.Hex.{IsBytes}
 use Rattle.cv_base.specs.Sequence.{◌>>=◌}
-use Rattle.cv_base.specs.Path.{Path, IsPath, text_of, is_path_name, is_path_byte, is_dots}
-use Rattle.cv_base.specs.PathText.{path_of, only_path, path_named}
-use Rattle.cv_base.specs.declared.path_fault.PathFault.{PathFault}
+use Rattle.cv_base.specs.Path.{Path, IsPath, text_of}
+use Rattle.cv_base.specs.PathText.{path_named}
 use Rattle.cv_rows.specs.declared.row.Row.{Row}
 use Rattle.cv_rows.specs.declared.nested.Nested.{Nested}
 use Rattle.cv_rows.specs.declared.row_fault.RowFault.{RowFault}
@@ -24,67 +21,13 @@ use Rattle.cv_rows.specs.Nested.{IsNested, nested_bytes}
 use Rattle.cv_rows.specs.Catalogue.{file_of}
 use Rattle.cv_base.specs.Fields.{accepted, number_at, bytes_at, Takes}
 use Rattle.cv_rows.specs.Reading.{bad, length_at, row_at, path_at, nested_at, many_at, Entries, entries_at, number_in, is_too_large, entries_of}
-use Rattle.cv_base.proofs.Laws.{path_of-Spells, Spells-path_of, first_true, second_true, bind_ok, guard_ended, passes, accepted_ok, IsBytes-drop, IsBytes-take, Takes-then, wide32, wide64, number_takes, number_again, bytes_take, bytes_again}
+use Rattle.cv_base.proofs.Laws.{path_named-own, path_named-is, bind_ok, guard_ended, passes, accepted_ok, IsBytes-drop, IsBytes-take, Takes-then, wide32, wide64, number_takes, number_again, bytes_take, bytes_again}
 use Rattle.cv_rows.proofs.FieldLaws.{ok_is}
-use Rattle.cv_rows.proofs.RowFields.{either, some_is, length_takes, length_reads, text_takes}
+use Rattle.cv_rows.proofs.RowFields.{length_takes, length_reads, text_takes}
 use Rattle.cv_rows.proofs.RowLaws.{row_takes, row_reads}
 use Rattle.cv_rows.proofs.Sizes.{nested_le}
 
 -- ---- a nested entry
-
--- a name in a path is UTF-8
-name_utf8 : (name : List ℕ) → is_path_name name ≡ true → IsUtf8 name
-name_utf8 name h =
-    let four = first_true (is_utf8 name && leb 1 (length name) && leb (length name) 255 && list_all is_path_byte name) (not (is_dots name)) h in
-    let three = first_true (is_utf8 name && leb 1 (length name) && leb (length name) 255) (list_all is_path_byte name) four in
-    let two = first_true (is_utf8 name && leb 1 (length name)) (leb (length name) 255) three in
-    IsUtf8-from_is_utf8 name (first_true (is_utf8 name) (leb 1 (length name)) two)
-
-slash_utf8 : IsUtf8 (47 ∷ [])
-slash_utf8 = IsUtf8-from_ascii (47 ∷ []) small
-  where
-    small : (i : ℕ) → get_or (47 ∷ []) i 0 < 128
-    small zero = omega arith
-    small (suc i) = omega arith
-
-text_utf8 : (path : Path) → list_all is_path_name path ≡ true → IsUtf8 (text_of path)
-text_utf8 [] h = IsUtf8-nil
-text_utf8 (name ∷ names) h =
-    let first = name_utf8 name (first_true (is_path_name name) (list_all is_path_name names) h) in
-    let others = text_utf8 names (second_true (is_path_name name) (list_all is_path_name names) h) in
-    subst (λ (x : List ℕ). IsUtf8 x) (append_assoc (47 ∷ []) name (text_of names)) (IsUtf8-append ((47 ∷ []) ++ name) (text_of names) (IsUtf8-append (47 ∷ []) name slash_utf8 first) others)
-
-same_bytes : (xs ys : List ℕ) → bytes_eq xs ys ≡ true → xs ≡ ys
-same_bytes xs ys h = (bytes_eq-Decides xs ys).0 h
-
-bytes_same : (xs : List ℕ) → bytes_eq xs xs ≡ true
-bytes_same xs = (bytes_eq-Decides xs xs).1 refl
-
--- the path that a text names
-record IsNamed (text : List ℕ) (path : Path) : Type 0 where
-  spelled : text_of path ≡ text
-  limits : IsPath path
-
-only_named : (text : List ℕ) (read : Result Path PathFault) (path : Path) → path_of text ≡ read → only_path text read ≡ Some path → IsNamed text path
-only_named text (Ok q) path reads e =
-    elim (either (bytes_eq (text_of q) text) (Some q) None (Some path) e) [
-      | inl same ↦
-          let path-is : q ≡ path = some_is q path same.1 in
-          subst (λ (p : Path). IsNamed text p) path-is (record { spelled = same_bytes (text_of q) text same.0; limits = (Spells-path_of text q reads).0 })
-      | inr other ↦ absurd (let wrong = other.1 in cc)
-    ]
-only_named text (Err fault) path reads e = absurd cc
-
-named : (text : List ℕ) (path : Path) → path_named text ≡ Some path → IsNamed text path
-named text path e =
-    elim (either (is_utf8 text) (only_path text (path_of text)) None (Some path) e) [
-      | inl utf8 ↦ only_named text (path_of text) path refl utf8.1
-      | inr other ↦ absurd (let wrong = other.1 in cc)
-    ]
-
-named_again : (path : Path) → IsPath path → path_named (text_of path) ≡ Some path
-named_again path is =
-    rw (is_utf8-from_IsUtf8 (text_of path) (text_utf8 path is.names), path_of-Spells (text_of path) path is (inl refl), bytes_same (text_of path)) refl
 
 path_takes : (all : ℕ) (text : List ℕ) (path : Path) (rest : List ℕ) → IsBytes text → path_at all text ≡ Ok (path, rest) → Takes text (text_field (text_of path)) rest × IsPath path
 unfolding path_at
@@ -93,12 +36,12 @@ path_takes all text path rest fits e =
     let a = bind_ok (length_at all 4095 text) (λ len. bytes_at Short len.0 len.1 >>= λ name. accepted (bad all len.1) (path_named name.0) >>= λ path. Ok (path, name.1)) x e in
     let b = bind_ok (bytes_at Short a.0.0 a.0.1) (λ name. accepted (bad all a.0.1) (path_named name.0) >>= λ path. Ok (path, name.1)) x a.2 in
     let p = bind_ok (accepted (bad all a.0.1) (path_named b.0.0)) (λ path. Ok (path, b.0.1)) x b.2 in
-    let is = named b.0.0 p.0 (accepted_ok (bad all a.0.1) (path_named b.0.0) p.0 p.1) in
+    let is = path_named-is b.0.0 p.0 (accepted_ok (bad all a.0.1) (path_named b.0.0) p.0 p.1) in
     let len = length_takes all 4095 text a.0.0 a.0.1 fits a.1 in
     let t = bytes_take Short a.0.0 a.0.1 b.0.0 b.0.1 len.0.rest_fits b.1 in
-    let whole : Takes text (text_field (text_of p.0)) b.0.1 = subst (λ (w : List ℕ). Takes text (text_field w) b.0.1) (sym is.spelled) (text_takes text a.0.0 a.0.1 b.0.0 b.0.1 len.0 t) in
+    let whole : Takes text (text_field (text_of p.0)) b.0.1 = subst (λ (w : List ℕ). Takes text (text_field w) b.0.1) is.text_is (text_takes text a.0.0 a.0.1 b.0.0 b.0.1 len.0 t) in
     let y : Path × List ℕ = (p.0, b.0.1) in
-    subst (λ (z : Path × List ℕ). Takes text (text_field (text_of z.0)) z.1 × IsPath z.0) (ok_is y x p.2) (whole, is.limits)
+    subst (λ (z : Path × List ℕ). Takes text (text_field (text_of z.0)) z.1 × IsPath z.0) (ok_is y x p.2) (whole, is.is_path)
 
 path_reads : (all : ℕ) (path : Path) (rest : List ℕ) → IsPath path → path_at all (text_field (text_of path) ++ rest) ≡ Ok (path, rest)
 unfolding path_at
@@ -107,7 +50,7 @@ path_reads all path rest is =
     let short : leb (length name) 4095 ≡ true = le-leb (length name) 4095 is.size in
     let fits : length name < 2 ^ 16 = omega (arith, is.size) in
     let regrouped : text_field name ++ rest ≡ to_be_bytes w16 (length name) ++ (name ++ rest) = append_assoc (to_be_bytes w16 (length name)) name rest in
-    ap (path_at all) regrouped ∙ rw (length_reads all 4095 (length name) (name ++ rest) fits short, bytes_again Short (length name) name rest refl, named_again path is) refl
+    ap (path_at all) regrouped ∙ rw (length_reads all 4095 (length name) (name ++ rest) fits short, bytes_again Short (length name) name rest refl, path_named-own path is) refl
 
 -- a nested entry with its parts to the right
 nested_parts : (n : Nested) (rest : List ℕ) → nested_bytes n ++ rest ≡ text_field (text_of n.path) ++ (n.hash ++ (to_be_bytes w64 n.size ++ rest))
@@ -247,7 +190,7 @@ file_takes bytes rows nested fits e =
     let c = passes (ltb (length bytes) 12) Short after_short x b.1 in
     let long : 12 ≤ length bytes = ltb-false (length bytes) 12 c.0 in
     let t = entries_take (length bytes) (number_in 4 bytes) (number_in 8 bytes) (drop 12 bytes) rows nested (IsBytes-drop 12 bytes fits) c.1 in
-    let magic : take 4 bytes ≡ codes "CVR1" = same_bytes (take 4 bytes) (codes "CVR1") (is_magic (leb 4 (length bytes)) (bytes_eq (take 4 bytes) (codes "CVR1")) (le-leb 4 (length bytes) (omega arith)) b.0) in
+    let magic : take 4 bytes ≡ codes "CVR1" = (bytes_eq-Decides (take 4 bytes) (codes "CVR1")).0 (is_magic (leb 4 (length bytes)) (bytes_eq (take 4 bytes) (codes "CVR1")) (le-leb 4 (length bytes) (omega arith)) b.0) in
     let rows_field : to_be_bytes w32 (length rows) ≡ take 4 (drop 4 bytes) = rw t.rows_are (wide32.back (take 4 (drop 4 bytes)) (omega (arith, length-take 4 (drop 4 bytes), length-drop 4 bytes)) (IsBytes-take 4 (drop 4 bytes) (IsBytes-drop 4 bytes fits))) in
     let nested_field : to_be_bytes w32 (length nested) ≡ take 4 (drop 8 bytes) = rw t.nested_are (wide32.back (take 4 (drop 8 bytes)) (omega (arith, length-take 4 (drop 8 bytes), length-drop 8 bytes)) (IsBytes-take 4 (drop 8 bytes) (IsBytes-drop 8 bytes fits))) in
     let limits = not_large (length bytes) (number_in 4 bytes) (leb 8 (length bytes)) (le-leb 8 (length bytes) (omega arith)) a.0 in
@@ -278,7 +221,7 @@ file_reads rows nested has =
     let rows_are : number_in 4 bytes ≡ length rows = wide32.again (length rows) (omega (arith, has.count)) in
     let nested_are : number_in 8 bytes ≡ length nested = wide32.again (length nested) (omega (arith, nested_le rows nested, has.size)) in
     let small : is_too_large bytes ≡ false = small_file (length bytes) (number_in 4 bytes) (leb 8 (length bytes)) has.size (omega (arith, rows_are, has.count)) in
-    let magic : (leb 4 (length bytes) && not (bytes_eq (take 4 bytes) (codes "CVR1"))) ≡ false = and_not (leb 4 (length bytes)) (bytes_eq (take 4 bytes) (codes "CVR1")) (bytes_same (codes "CVR1")) in
+    let magic : (leb 4 (length bytes) && not (bytes_eq (take 4 bytes) (codes "CVR1"))) ≡ false = and_not (leb 4 (length bytes)) (bytes_eq (take 4 bytes) (codes "CVR1")) ((bytes_eq-Decides (codes "CVR1") (codes "CVR1")).1 refl) in
     let long : ltb (length bytes) 12 ≡ false = le-ltb (length bytes) 12 (omega (arith, length-append (codes "CVR1" ++ to_be_bytes w32 (length rows) ++ to_be_bytes w32 (length nested) ++ flat_map row_bytes rows) (flat_map nested_bytes nested), length-append (codes "CVR1" ++ to_be_bytes w32 (length rows) ++ to_be_bytes w32 (length nested)) (flat_map row_bytes rows))) in
     pass (is_too_large bytes) (leb 4 (length bytes) && not (bytes_eq (take 4 bytes) (codes "CVR1"))) (ltb (length bytes) 12) TooLarge BadMagic Short (entries_at (length bytes) (number_in 4 bytes) (number_in 8 bytes) (drop 12 bytes)) small magic long
     ∙ ap (λ (k : ℕ). entries_at (length bytes) k (number_in 8 bytes) (drop 12 bytes)) rows_are

@@ -16,9 +16,9 @@ use Rattle.std.proofs.lemmas.Map.Entries.{place_from_lookup, lookup_from_place}
 use Rattle.std.proofs.lemmas.Map.Keys as keys
 use Rattle.std.proofs.lemmas.Map.Keys.{IsDistinct-from_apart, IsDistinct-IsPermutation}
 use Rattle.std.proofs.lemmas.Option.{slice_get_within, get_or_from_slice_get, slice_get-get_or}
+use Rattle.cv_base.specs.BytesOrder.{bytes_cmp}
 use Rattle.cv_base.specs.Path.{same_name}
 use Rattle.cv_base.specs.PathOrder.{name_exact, same_name_is}
-use Rattle.cv_rows.specs.Catalogue.{bytes_cmp}
 use Rattle.cv_rows.specs.Made.{AreApart}
 use Rattle.cv_rows.proofs.Sorting.{sorted_all}
 use Rattle.cv_rows.proofs.Apart.{distinct_from_apart, distinct_moved}

@@ -16,7 +16,6 @@ mod PlaceLaws
 mod Placed
 mod Walks
 mod Spelled
-mod MarkerLaws
 mod NestedLaws
 mod Standing
 mod RuleLaws

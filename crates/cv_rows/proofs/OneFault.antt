@@ -1,10 +1,10 @@
 -- Bytes have one first fault.
-use Rattle.std.proofs.Common.{◌≡◌, ◌≢◌, ℕ, ◌+◌, ◌-◌, ◌<◌, List, length, get_or, Result, Ok, Err, sym, ap, subst, ◌∙◌, arith, inl, inr}
+use Rattle.std.proofs.Common.{◌≡◌, ◌≢◌, ℕ, ◌+◌, ◌-◌, ◌<◌, ◌⊎◌, List, length, get_or, Result, Ok, Err, sym, ap, subst, ◌∙◌, arith, inl, inr}
 use Rattle.std.specs.declared.cmp.Ordering.{Ordering}
 use Rattle.std.specs.declared.cmp.Ordering.TheVariants.{Less}
 use Rattle.std.proofs.lemmas.Bool.{cases_lt}
 use Rattle.cv_base.specs.Path.{Path}
-use Rattle.cv_rows.specs.Faults.{IsFirst, IsFirstDisorder, IsFirstOrphan, IsFirstUnlisted, IsRuleFault, IsFaultOf, IsSaid}
+use Rattle.cv_rows.specs.Faults.{IsFirst, IsFirstDisorder, IsFirstOrphan, IsFirstUnlisted, IsRuleFault, IsFaultOf}
 use Rattle.cv_rows.specs.Reading.{Entries}
 use Rattle.cv_rows.specs.declared.row.Row.{Row}
 use Rattle.cv_rows.specs.declared.nested.Nested.{Nested}
@@ -88,6 +88,7 @@ pub one_of : (at : Path) (read : Result Entries RowFault) (f g : RowFault) → I
 one_of at (Err first) f g a b = a ∙ sym b
 one_of at (Ok entries) f g a b = one_rule at entries.0 entries.1 f g a b
 
-pub said : (fault : RowFault) (is : Type 0) → fault ≢ NoMemory → IsSaid fault is → is
-said NoMemory is apart h = absurd (apart cc)
-said fault is apart h = h
+-- what is said of a fault but want of memory is so
+pub said : (fault : RowFault) (is : Type 0) → fault ≢ NoMemory → (fault ≡ NoMemory) ⊎ is → is
+said fault is apart (inl lack) = absurd (apart lack)
+said fault is apart (inr h) = h

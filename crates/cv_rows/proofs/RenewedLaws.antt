@@ -7,12 +7,13 @@ use Rattle.std.specs.List.Sorted.{IsStrictlySortedBy}
 use Rattle.std.specs.declared.cmp.Ordering.TheVariants.{Less}
 use Rattle.std.proofs.lemmas.List.Concat.{flat_map-cons}
 use Rattle.std.proofs.lemmas.List.Elements.{All-from_recursion, recursion_from_All, All-map, All-weaker, Contains-append_right}
+use Rattle.cv_base.specs.BytesOrder.{bytes_cmp}
 use Rattle.cv_base.specs.Digest.{IsDigest}
 use Rattle.cv_base.specs.Path.{Path, same_path, text_of}
 use Rattle.cv_rows.specs.Row.{text_field}
 use Rattle.cv_rows.specs.Nested.{IsNested, nested_bytes}
 use Rattle.cv_rows.specs.Places.{StandsAt}
-use Rattle.cv_rows.specs.Catalogue.{Contents, IsCatalogue, IsTransitionAt, IsListed, bytes_cmp, nested_cmp}
+use Rattle.cv_rows.specs.Catalogue.{Contents, IsCatalogue, IsTransitionAt, IsListed, nested_cmp}
 use Rattle.cv_rows.specs.Renewed.{renewed}
 use Rattle.cv_rows.specs.declared.nested.Nested.{Nested}
 use Rattle.cv_rows.proofs.Regions.{file_len}

@@ -25,14 +25,14 @@ use Rattle.cv_base.proofs.Laws.{bind_ok, guard_ended, passes, accepted_ok, Takes
 use Rattle.cv_rows.proofs.FieldLaws.{ok_is}
 
 -- which way a test went
-pub either : {A : Type 0} (b : Bool) (x y z : A) → cond b x y ≡ z → ((b ≡ true) × (x ≡ z)) ⊎ ((b ≡ false) × (y ≡ z))
+either : {A : Type 0} (b : Bool) (x y z : A) → cond b x y ≡ z → ((b ≡ true) × (x ≡ z)) ⊎ ((b ≡ false) × (y ≡ z))
 either true x y z e = inl (refl, e)
 either false x y z e = inr (refl, e)
 
-abbrev pub some : {A : Type 0} → A → Option A
+abbrev some : {A : Type 0} → A → Option A
 some x = Some x
 
-pub some_is : {A : Type 0} (x y : A) → some x ≡ some y → x ≡ y
+some_is : {A : Type 0} (x y : A) → some x ≡ some y → x ≡ y
 some_is x y e = cc
 
 -- ---- flags

@@ -1,5 +1,5 @@
 -- A catalogue breaks no rule, and what breaks none is one.
-use Rattle.std.proofs.Common.{◌≡◌, ℕ, ◌-◌, ◌<◌, ◌≤◌, List, [], ◌∷◌, length, get_or, Result, Ok, Err, refl, sym, ap, subst, ◌∙◌, arith, inl, inr}
+use Rattle.std.proofs.Common.{◌≡◌, ℕ, ◌-◌, ◌<◌, ◌≤◌, List, [], ◌∷◌, length, get_or, Result, Ok, Err, sym, ap, subst, ◌∙◌, arith, inl, inr}
 use Rattle.std.specs.Prelude.{Contains}
 use Rattle.std.specs.declared.cmp.Ordering.{Ordering}
 use Rattle.std.specs.List.{HoldsAt, All}
@@ -94,17 +94,8 @@ fault_of_catalogue c bytes at fault is place spelled f =
 
 -- the bytes of a catalogue have no fault but want of memory
 pub no_first_fault : (c : Contents) (bytes : List ℕ) (at : Path) (fault : RowFault) → IsFirstFault bytes at fault → IsCatalogue c → c.at ≡ at → bytes ≡ catalogue_bytes c → IsUnless NoMemory (Err fault) (Ok c)
-no_first_fault c bytes at NoMemory f is place spelled = inl refl
-no_first_fault c bytes at Short f is place spelled = absurd (fault_of_catalogue c bytes at Short is place spelled f)
-no_first_fault c bytes at BadMagic f is place spelled = absurd (fault_of_catalogue c bytes at BadMagic is place spelled f)
-no_first_fault c bytes at (BadField i) f is place spelled = absurd (fault_of_catalogue c bytes at (BadField i) is place spelled f)
-no_first_fault c bytes at (Order i) f is place spelled = absurd (fault_of_catalogue c bytes at (Order i) is place spelled f)
-no_first_fault c bytes at (BadKey i) f is place spelled = absurd (fault_of_catalogue c bytes at (BadKey i) is place spelled f)
-no_first_fault c bytes at (Orphan i) f is place spelled = absurd (fault_of_catalogue c bytes at (Orphan i) is place spelled f)
-no_first_fault c bytes at (Marker i) f is place spelled = absurd (fault_of_catalogue c bytes at (Marker i) is place spelled f)
-no_first_fault c bytes at (NestedList i) f is place spelled = absurd (fault_of_catalogue c bytes at (NestedList i) is place spelled f)
-no_first_fault c bytes at TrailingBytes f is place spelled = absurd (fault_of_catalogue c bytes at TrailingBytes is place spelled f)
-no_first_fault c bytes at TooLarge f is place spelled = absurd (fault_of_catalogue c bytes at TooLarge is place spelled f)
+no_first_fault c bytes at fault (inl lack) is place spelled = inl lack
+no_first_fault c bytes at fault (inr f) is place spelled = absurd (fault_of_catalogue c bytes at fault is place spelled f)
 
 -- the catalogue of these rows and nested entries
 abbrev pub contents : Path → List Row → List Nested → Contents

@@ -12,9 +12,10 @@ use Rattle.std.specs.List.Sorted.{IsStrictlySortedBy, IsBinarySearchResult, IsNo
 use Rattle.std.proofs.lemmas.Bool.{cases_lt}
 use Rattle.std.proofs.lemmas.List.{get_or_default}
 use Rattle.std.proofs.lemmas.Map.Keys.{Less-from_sorted, sorted_from_all_adjacent}
+use Rattle.cv_base.specs.BytesOrder.{bytes_cmp}
 use Rattle.cv_base.specs.Path.{text_of}
 use Rattle.cv_base.specs.PathOrder.{name_exact}
-use Rattle.cv_rows.specs.Catalogue.{bytes_cmp, row_cmp, nested_cmp}
+use Rattle.cv_rows.specs.Catalogue.{row_cmp, nested_cmp}
 use Rattle.cv_rows.specs.declared.row.Row.{Row}
 
 pub row_total : IsTotalOrder row_cmp

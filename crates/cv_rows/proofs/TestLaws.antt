@@ -9,8 +9,9 @@ use Rattle.std.proofs.lemmas.List.Folds.{Any-from_list_any, list_any_at, list_an
 use Rattle.std.proofs.lemmas.List.Sorted.{IsPermutation-map, IsPermutation-refl, IsPermutation-sym, IsPermutation-filter_both, Contains-permutation}
 use Rattle.std.proofs.lemmas.Map.Keys.{IsDistinct-from_sorted}
 use Rattle.std.proofs.lemmas.Slice.Eq.{bytes_eq-Decides}
+use Rattle.cv_base.specs.BytesOrder.{bytes_cmp}
 use Rattle.cv_base.specs.Path.{Path, text_of, covers}
-use Rattle.cv_rows.specs.Catalogue.{Contents, IsCatalogue, bytes_cmp, row_cmp, nested_cmp}
+use Rattle.cv_rows.specs.Catalogue.{Contents, IsCatalogue, row_cmp, nested_cmp}
 use Rattle.cv_rows.specs.Made.{AreApart, AreParts, texts_of}
 use Rattle.cv_rows.specs.Without.{IsWithout}
 use Rattle.cv_rows.specs.declared.row.Row.{Row}

@@ -1,11 +1,10 @@
 -- The catalogue of a place, and its bytes.
 use Rattle.std.specs.Prelude.{◌≡◌, ℕ, ◌≤◌, Bool, true, false, not, ◌&&◌, bytes_eq, List, ◌++◌, length, codes, Contains}
 use Rattle.std.specs.declared.cmp.Ordering.{Ordering}
-use Rattle.std.specs.Ordering.{nat_cmp}
-use Rattle.std.specs.Cmp.Lexicographic.{slice_cmp}
 use Rattle.std.specs.Int.{w32, to_be_bytes}
 use Rattle.std.specs.List.{flat_map, list_any, All, AllByRecursion}
 use Rattle.std.specs.List.Sorted.{IsStrictlySortedBy}
+use Rattle.cv_base.specs.BytesOrder.{bytes_cmp}
 use Rattle.cv_base.specs.Marker.{marker}
 use Rattle.cv_base.specs.declared.limits.TheConstants.{OBJECT_LIMIT}
 use Rattle.cv_base.specs.Path.{Path, IsPath, text_of, key_of, last_name_of}
@@ -36,10 +35,6 @@ abbrev pub catalogue_bytes : Contents → List ℕ
 catalogue_bytes c = file_of c.rows c.nested
 
 -- ---- the order
-
--- keys, and texts of paths, are in order of their bytes
-abbrev pub bytes_cmp : List ℕ → List ℕ → Ordering
-bytes_cmp = slice_cmp nat_cmp
 
 -- rows by key, and nested entries by the text of their path
 abbrev pub row_cmp : Row → Row → Ordering

@@ -77,11 +77,6 @@ abbrev pub IsFaultOf : Path → Result Entries RowFault → RowFault → Type 0
 IsFaultOf at (Err first) fault = fault ≡ first
 IsFaultOf at (Ok entries) fault = IsRuleFault at entries.0 entries.1 fault
 
--- the fault says so, unless it is want of memory
-abbrev pub IsSaid : RowFault → Type 0 → Type 0
-IsSaid NoMemory said = Unit {0}
-IsSaid fault said = said
-
--- the fault of these bytes as a row file at this place
+-- the fault of these bytes as a row file at this place, or want of memory
 abbrev pub IsFirstFault : List ℕ → Path → RowFault → Type 0
-IsFirstFault bytes at fault = IsSaid fault (IsFaultOf at (entries_of bytes) fault)
+IsFirstFault bytes at fault = (fault ≡ NoMemory) ⊎ IsFaultOf at (entries_of bytes) fault

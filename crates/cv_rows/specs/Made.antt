@@ -1,9 +1,10 @@
 -- Catalogues that are made of rows and nested entries in any order.
 use Rattle.std.specs.Prelude.{◌≡◌, ℕ, ◌<◌, ◌⊎◌, List, length, map, Some, slice_get}
 use Rattle.std.specs.FinMap.{from_entries, values}
+use Rattle.cv_base.specs.BytesOrder.{bytes_cmp}
 use Rattle.cv_base.specs.declared.limits.TheConstants.{OBJECT_LIMIT}
 use Rattle.cv_base.specs.Path.{Path, text_of}
-use Rattle.cv_rows.specs.Catalogue.{Contents, IsRegion, bytes_cmp, file_of}
+use Rattle.cv_rows.specs.Catalogue.{Contents, IsRegion, file_of}
 use Rattle.cv_rows.specs.declared.limits.TheConstants.{ROW_LIMIT}
 use Rattle.cv_rows.specs.declared.row.Row.{Row}
 use Rattle.cv_rows.specs.declared.nested.Nested.{Nested}

@@ -1,9 +1,8 @@
 -- What the check of nested entries says.
 use Rattle.std.specs.Prelude.{◌≡◌, ℕ, Bool, true, false, ◌&&◌, bytes_eq, List, Option, Some, None}
-use Rattle.std.specs.Ordering.{nat_cmp}
-use Rattle.std.specs.Cmp.Lexicographic.{slice_cmp}
 use Rattle.std.specs.BTreeSet.{BTreeSet, contains}
 use Rattle.std.specs.List.{list_any}
+use Rattle.cv_base.specs.BytesOrder.{bytes_cmp}
 use Rattle.cv_base.specs.Path.{Path, key_of, same_path}
 use Rattle.cv_rows.specs.Row.{same_kind}
 use Rattle.cv_rows.specs.declared.row.Row.{Row}
@@ -25,5 +24,5 @@ HasNested nested r = r.kind ≡ Transition → has_key nested r.key.0 ≡ true
 
 -- the row is a Transition with another key, or not
 abbrev pub IsListedBy : BTreeSet (List ℕ) → Row → Bool → Type 0
-IsListedBy keys r true = r.kind ≡ Transition → contains (slice_cmp nat_cmp) keys r.key.0 ≡ true
-IsListedBy keys r false = (r.kind ≡ Transition) × (contains (slice_cmp nat_cmp) keys r.key.0 ≡ false)
+IsListedBy keys r true = r.kind ≡ Transition → contains bytes_cmp keys r.key.0 ≡ true
+IsListedBy keys r false = (r.kind ≡ Transition) × (contains bytes_cmp keys r.key.0 ≡ false)

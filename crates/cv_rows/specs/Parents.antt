@@ -1,5 +1,5 @@
 -- The parents of rows, by index.
-use Rattle.std.specs.Prelude.{◌≡◌, ℕ, ◌+◌, List, [], ◌∷◌, ◌++◌, Option, Some, None}
+use Rattle.std.specs.Prelude.{◌≡◌, ℕ, List, [], ◌∷◌, ◌++◌, Option, Some, None}
 use Rattle.cv_base.specs.Path.{Path, IsPath}
 
 -- a path with one more name, unless that passes a limit

@@ -11,6 +11,9 @@ use Rattle.cv_base.specs.Target.{is_target}
 use Rattle.cv_base.specs.Sequence.{◌>>=◌}
 use Rattle.cv_base.specs.declared.attr.Attr.{Attr}
 use Rattle.cv_base.specs.declared.limits.TheConstants.{MODE_LIMIT, OBJECT_LIMIT}
+use Rattle.cv_base.specs.declared.path_name.TheConstants.{PATH_NAME_LIMIT}
+use Rattle.cv_base.specs.declared.repo_path.TheConstants.{PATH_LIMIT}
+use Rattle.cv_base.specs.declared.target.TheConstants.{TARGET_LIMIT}
 use Rattle.cv_rows.specs.Row.{type_bits, is_row_name}
 use Rattle.cv_rows.specs.declared.limits.TheConstants.{ROW_LIMIT}
 use Rattle.cv_rows.specs.declared.row.Row.{Row}
@@ -63,7 +66,7 @@ is_size Directory size = size == 0
 is_size Transition size = size == 0
 is_size NestedRoot size = size == 0
 is_size File size = nat_le size OBJECT_LIMIT
-is_size Link size = nat_le 1 size && nat_le size 4095
+is_size Link size = nat_le 1 size && nat_le size TARGET_LIMIT
 
 unfoldable pub size_at : ℕ → RowKind → List ℕ → Result (ℕ × List ℕ) RowFault
 size_at all kind text = do
@@ -87,13 +90,13 @@ length_at all limit text = do
 
 unfoldable pub name_at : ℕ → List ℕ → List ℕ → Result (List ℕ × List ℕ) RowFault
 name_at all parent text = do
-  len ← length_at all 255 text
+  len ← length_at all PATH_NAME_LIMIT text
   name ← bytes_at Short len.0 len.1
   if is_row_name parent name.0 then Ok name else Err (bad all len.1)
 
 -- the most bytes of a target
 abbrev pub target_limit : RowKind → ℕ
-target_limit Link = 4095
+target_limit Link = TARGET_LIMIT
 target_limit kind = 0
 
 -- the size of a link is the length of its target
@@ -131,7 +134,7 @@ row_at all text = do
 
 unfoldable pub path_at : ℕ → List ℕ → Result (Path × List ℕ) RowFault
 path_at all text = do
-  len ← length_at all 4095 text
+  len ← length_at all PATH_LIMIT text
   name ← bytes_at Short len.0 len.1
   path ← accepted (bad all len.1) (path_named name.0)
   Ok (path, name.1)

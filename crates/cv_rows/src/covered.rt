@@ -1,9 +1,8 @@
 //! The rows and nested entries that a path covers.
 ghost use Rattle.std.specs.Prelude.{◌≡◌, ◌≤◌, ℕ, List, not, length, filter, IfOk, Contains};
-ghost use Rattle.std.specs.Ordering.{nat_cmp};
-ghost use Rattle.std.specs.Cmp.Lexicographic.{slice_cmp};
 ghost use Rattle.std.specs.BTreeSet.{contains};
 ghost use Rattle.std.specs.List.Sorted.{IsStrictlySortedBy};
+ghost use Rattle.cv_base.specs.BytesOrder.{bytes_cmp};
 ghost use Rattle.cv_base.specs.Path.{IsPath, covers};
 ghost use Rattle.cv_rows.specs.Catalogue.{row_cmp};
 ghost use Rattle.cv_rows.specs.Faults.{AllStand, AllFit};
@@ -42,7 +41,7 @@ pub fn covered_keys(
     requires ordered { IsStrictlySortedBy row_cmp rows.now }
     requires stand { AllStand at.now rows.now }
     requires fit { AllFit at.now rows.now }
-    ensures { IfOk result (λ keys. (r : TheRow) (q : List (List ℕ)) → StandsAt at.now rows.now r q → contains (slice_cmp nat_cmp) keys r.key.0 ≡ covers path.now q) }
+    ensures { IfOk result (λ keys. (r : TheRow) (q : List (List ℕ)) → StandsAt at.now rows.now r q → contains bytes_cmp keys r.key.0 ≡ covers path.now q) }
 {
     let Some(root) = root_position(at, rows) else {
         unreachable!("a catalogue has a root row");
@@ -60,7 +59,7 @@ pub fn covered_keys(
 
 /// Drops the rows with these keys.
 pub fn drop_rows(rows: &mut Vec<Row>, keys: &BTreeSet<[u8; 16]>)
-    ensures { rows.new.items ≡ filter (λ r. not (contains (slice_cmp nat_cmp) keys.now r.key.0)) rows.old.items }
+    ensures { rows.new.items ≡ filter (λ r. not (contains bytes_cmp keys.now r.key.0)) rows.old.items }
 {
     rows.retain(|row| !keys.contains(&row.key.0));
 }
@@ -74,7 +73,7 @@ pub fn drop_nested(nested: &mut Vec<Nested>, path: &RepoPath)
 
 /// Whether the key of a row is among these.
 fn is_among(keys: &BTreeSet<[u8; 16]>, row: &Row) -> bool
-    ensures { result ≡ contains (slice_cmp nat_cmp) keys.now row.now.key.0 }
+    ensures { result ≡ contains bytes_cmp keys.now row.now.key.0 }
 {
     keys.contains(&row.key.0)
 }
@@ -85,7 +84,7 @@ pub fn copy_rows(
     rows: &[Row],
     keys: &BTreeSet<[u8; 16]>,
 ) -> Result<Vec<Row>, NoMemory>
-    ensures { IfOk result (λ found. found.items ≡ filter (λ r. contains (slice_cmp nat_cmp) keys.now r.key.0) rows.now) }
+    ensures { IfOk result (λ found. found.items ≡ filter (λ r. contains bytes_cmp keys.now r.key.0) rows.now) }
 {
     let mut found = Vec::new(alloc);
     for row in rows {

@@ -130,7 +130,7 @@ fn is_size(kind: RowKind, size: u64) -> bool
     match kind {
         RowKind::Directory | RowKind::Transition | RowKind::NestedRoot => size == 0,
         RowKind::File => size <= OBJECT_LIMIT as u64,
-        RowKind::Link => 1 <= size && size <= 4095,
+        RowKind::Link => 1 <= size && size <= TARGET_LIMIT as u64,
     }
 }
 

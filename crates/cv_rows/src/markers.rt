@@ -1,9 +1,8 @@
 //! Markers of nested catalogues.
 ghost use Rattle.std.specs.Prelude.{◌≡◌, ℕ, List, ◌&&◌, ◌||◌, bytes_eq, IfOk, OnOk, MatchOption};
-ghost use Rattle.std.specs.Ordering.{nat_cmp};
-ghost use Rattle.std.specs.Cmp.Lexicographic.{slice_cmp};
 ghost use Rattle.std.specs.BTreeSet.{contains};
 ghost use Rattle.std.specs.List.{All};
+ghost use Rattle.cv_base.specs.BytesOrder.{bytes_cmp};
 ghost use Rattle.cv_rows.specs.Catalogue.{is_marker, has_marker, IsMarkedWell};
 ghost use Rattle.cv_rows.specs.Faults.{IsFirst};
 ghost use Rattle.cv_rows.specs.MarkersInner.{MarksWell};
@@ -28,7 +27,7 @@ fn is_marker(row: &Row) -> bool
 
 /// Adds the parent key of a row that is a marker.
 fn mark(keys: &mut BTreeSet<[u8; 16]>, row: &Row) -> Result<(), NoMemory>
-    ensures { OnOk result ((key : List ℕ) → contains (slice_cmp nat_cmp) keys.new key ≡ (contains (slice_cmp nat_cmp) keys.old key || is_marker row.now && bytes_eq row.now.parent.0 key)) }
+    ensures { OnOk result ((key : List ℕ) → contains bytes_cmp keys.new key ≡ (contains bytes_cmp keys.old key || is_marker row.now && bytes_eq row.now.parent.0 key)) }
 {
     if !is_marker(row) {
         return Ok(());
@@ -39,7 +38,7 @@ fn mark(keys: &mut BTreeSet<[u8; 16]>, row: &Row) -> Result<(), NoMemory>
 
 /// The keys of the directories that have a marker.
 fn marked(alloc: Global, rows: &[Row]) -> Result<BTreeSet<[u8; 16]>, NoMemory>
-    ensures { IfOk result (λ set. (key : List ℕ) → contains (slice_cmp nat_cmp) set key ≡ has_marker rows.now key) }
+    ensures { IfOk result (λ set. (key : List ℕ) → contains bytes_cmp set key ≡ has_marker rows.now key) }
 {
     let mut keys = BTreeSet::new(alloc);
     for row in rows {

@@ -1,10 +1,9 @@
 //! The list of nested entries.
 ghost use Rattle.std.specs.Prelude.{◌≡◌, ◌≢◌, ◌<◌, ℕ, List, length, Contains, IfOk, MatchBool, MatchOption};
 ghost use Rattle.cv_rows.specs.declared.nested.Nested.{Nested as TheNested};
-ghost use Rattle.std.specs.Ordering.{nat_cmp};
-ghost use Rattle.std.specs.Cmp.Lexicographic.{slice_cmp};
 ghost use Rattle.std.specs.BTreeSet.{contains};
 ghost use Rattle.std.specs.List.{All, HoldsAt};
+ghost use Rattle.cv_base.specs.BytesOrder.{bytes_cmp};
 ghost use Rattle.cv_rows.specs.Places.{StandsAt};
 ghost use Rattle.cv_rows.specs.ParentsInner.{IsPlacing};
 ghost use Rattle.cv_rows.specs.Catalogue.{IsTransitionAt};
@@ -76,7 +75,7 @@ pub fn first_unnamed(
 
 /// The keys of the paths of nested entries.
 fn nested_keys(alloc: Global, nested: &[Nested]) -> Result<BTreeSet<[u8; 16]>, NoMemory>
-    ensures { IfOk result (λ set. (key : List ℕ) → contains (slice_cmp nat_cmp) set key ≡ has_key nested.now key) }
+    ensures { IfOk result (λ set. (key : List ℕ) → contains bytes_cmp set key ≡ has_key nested.now key) }
 {
     let mut keys = BTreeSet::new(alloc);
     for entry in nested {

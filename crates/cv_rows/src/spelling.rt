@@ -3,6 +3,7 @@
 ghost use Rattle.std.specs.Prelude.{◌≡◌, ℕ, ◌+◌, ◌<◌, List, length, map, IfOk, MatchOption};
 ghost use Rattle.std.specs.List.{All};
 ghost use Rattle.cv_base.specs.Path.{IsPath, is_path_name};
+ghost use Rattle.cv_base.specs.declared.repo_path.TheConstants.{NAMES_LIMIT};
 ghost use Rattle.cv_rows.specs.Places.{StandsAt};
 ghost use Rattle.cv_rows.specs.ParentsInner.{IsPlacing};
 ghost use Rattle.cv_rows.specs.DigestsInner.{AreKept, IsFound};
@@ -91,7 +92,7 @@ fn is_placed(
     left: usize,
 ) -> Result<bool, NoMemory>
     requires place { IsPath at.now }
-    requires left { length at.now + left ≡ 64 }
+    requires left { length at.now + left ≡ NAMES_LIMIT }
     requires placing { IsPlacing at.now rows.now root parents.now }
     requires stand { All (λ r. (q : List (List ℕ)) × StandsAt at.now rows.now r q) rows.now }
     requires row { row < length rows.now }

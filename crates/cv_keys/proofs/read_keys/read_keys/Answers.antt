@@ -11,4 +11,4 @@ returns-clause-answer c =
     rw (same, ← c.deref.ensures.value) c.read_array.ensures
 
 pub returns-clause-table : goal.returns-clause-table
-returns-clause-table c = IsTable-read (map view c.deref.result.now) c.read_array.result _ c.read_array.ensures
+returns-clause-table c = IsTable-read (map view c.deref.result.now) c.read_array.result c.read_array.ensures

@@ -1,8 +1,7 @@
 use Rattle.std.proofs.Common.{◌≡◌, ℕ, List, get_or, ap, sym, ◌∙◌, ◌||◌, true, false, bytes_eq}
-use Rattle.std.specs.Ordering.{nat_cmp}
-use Rattle.std.specs.Cmp.Lexicographic.{slice_cmp}
 use Rattle.std.specs.BTreeSet.{BTreeSet, contains}
 use Rattle.std.proofs.lemmas.List.{get_or_default}
+use Rattle.cv_base.specs.BytesOrder.{bytes_cmp}
 use Rattle.cv_base.specs.Path.{Path, covers}
 use Rattle.cv_rows.specs.Places.{StandsAt}
 use Rattle.cv_rows.specs.declared.row.Row.{Row}
@@ -17,7 +16,7 @@ pub loop-row-preserved : goal.loop-row-preserved
 loop-row-preserved c =
     let i = c.loop-row.row in
     let rows = c.args.rows.now in
-    let knows = λ (keys : BTreeSet (List ℕ)). contains (slice_cmp nat_cmp) keys in
+    let knows = λ (keys : BTreeSet (List ℕ)). contains bytes_cmp keys in
     let so : (d : Row) (q : Path) → StandsAt c.args.at.now rows (get_or rows i d) q → c.is_covered.result ≡ covers c.args.path.now q = λ d q s.
     c.is_covered.ensures ∙ covered_is c.args.at.now rows c.args.path.now i c.in_ok-found.found c.requires.ordered c.requires.fit c.in_ok-found.ensures d q s in
     elim c.if-is_covered.branch [

@@ -1,4 +1,4 @@
-use Rattle.std.proofs.Common.{◌≡◌, [], eqb, true, false, length, ◌++◌, ◌∙◌, sym, subst, arith, rules, take-append-drop}
+use Rattle.std.proofs.Common.{◌≡◌, [], eqb, true, false, length, ◌++◌, ◌∙◌, inr, sym, subst, arith, rules, take-append-drop}
 use Rattle.std.proofs.lemmas.Bool.{eqb-true}
 use Rattle.std.proofs.lemmas.List.{nil_from_length}
 use Rattle.std.proofs.lemmas.Result.{err_from_is_err_and}
@@ -56,4 +56,4 @@ pub returns-else-is_empty : goal.returns-else-is_empty
 returns-else-is_empty c = λ is text.
     let some : eqb (length c.contents.rest.now) 0 ≡ false = search rules in
     let so_far = c.contents.invariant is in
-    so_far.reads text ∙ past_end c.contents.self _ _ text so_far.is_open (omega arith) some
+    inr (sym (so_far.reads text ∙ past_end c.contents.self _ _ text so_far.is_open (omega arith) some))

@@ -1,4 +1,4 @@
-use Rattle.std.proofs.Common.{arith, ◌∙◌}
+use Rattle.std.proofs.Common.{arith, inr, sym, ◌∙◌}
 use Rattle.std.proofs.lemmas.Result.{err_from_is_err_and}
 use Rattle.cv_pack.proofs.Steps.{past_limit, after_newline, after_other}
 use Rattle.cv_pack.specs.HeaderReaderInner.{begun_of}
@@ -7,7 +7,7 @@ use Rattle.cv_pack.proofs.header_reader.HeaderReader.take.Goals as goal
 
 pub returns-then-self-ge-HEADER_LIMIT-clause-takes :
     goal.returns-then-self-ge-HEADER_LIMIT-clause-takes
-returns-then-self-ge-HEADER_LIMIT-clause-takes c = rw (← c.self.view_is) (λ text. past_limit _ _ _ _ _ text (rw (← c.self.view_is) at c.requires) (omega arith))
+returns-then-self-ge-HEADER_LIMIT-clause-takes c = rw (← c.self.view_is) (λ text. inr (sym (past_limit _ _ _ _ _ text (rw (← c.self.view_is) at c.requires) (omega arith))))
 
 pub returns-in_err-self-inside-clause-takes : goal.returns-in_err-self-inside-clause-takes
 returns-in_err-self-inside-clause-takes c =

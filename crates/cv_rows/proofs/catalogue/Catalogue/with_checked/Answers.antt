@@ -10,7 +10,8 @@ use Rattle.cv_rows.specs.declared.nested.Nested.{Nested}
 use Rattle.cv_rows.specs.declared.with_fault.WithFault.{WithFault}
 use Rattle.cv_rows.specs.declared.with_fault.WithFault.TheVariants as fault
 use Rattle.cv_rows.proofs.Regions.{full_is}
-use Rattle.cv_rows.proofs.Checked.{spelled_both, few, few_entries, checked_is, is_so, region_unbroken}
+use Rattle.cv_rows.proofs.Checked.{spelled_both, few, few_entries, checked_is, region_unbroken}
+use Rattle.cv_rows.proofs.OneFault.{said}
 use Rattle.cv_rows.proofs.catalogue.Catalogue.with_checked.Goals as goal
 
 pub extend-requires-clause-spelled : goal.extend-requires-clause-spelled
@@ -73,7 +74,7 @@ returns-in_ok-unless_memory-in-Err-clause-none c = λ is region.
     subst (λ (x : Contents). IsRegion x.at (x.rows ++ c.args.rows.items) (x.nested ++ c.args.nested.items)) (sym c.self.view_is) region in
     region_unbroken c.self.inside.at c.extend.new.rows.items c.rows_by_key-rows.result.items c.extend.new.nested.items c.nested_by_text-nested.result.items c.in-Err.fault
     (rw (e.rows, e.nested) e.judges.1) c.rows_by_key-rows.ensures.permutation c.nested_by_text-nested.ensures.permutation c.rows_by_key-rows.ensures.sorted c.nested_by_text-nested.ensures.sorted
-    (rw (sym c.deref.ensures.value, sym c.deref-2.ensures.value) (is_so c.in-Err.fault _ c.in_ok-unless_memory-in-Err.ensures c.in-Err.ensures)) (rw (e.rows, e.nested) was)
+    (rw (sym c.deref.ensures.value, sym c.deref-2.ensures.value) (said c.in-Err.fault _ c.in_ok-unless_memory-in-Err.ensures c.in-Err.ensures)) (rw (e.rows, e.nested) was)
 
 pub returns-in_ok-unless_memory-in-Err-clause-apart : goal.returns-in_ok-unless_memory-in-Err-clause-apart
 returns-in_ok-unless_memory-in-Err-clause-apart c = subst (λ (x : Contents). AreApart (keys_of (x.rows ++ c.args.rows.items))) c.self.view_is c.in_ok-extend.ensures.judges.0

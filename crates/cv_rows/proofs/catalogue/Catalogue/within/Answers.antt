@@ -1,8 +1,7 @@
 use Rattle.std.proofs.Common.{List, ◌≡◌, sym, ap, subst, ◌∙◌, filter, Bool}
-use Rattle.std.specs.Ordering.{nat_cmp}
-use Rattle.std.specs.Cmp.Lexicographic.{slice_cmp}
 use Rattle.std.specs.BTreeSet.{contains}
 use Rattle.std.proofs.lemmas.List.Elements.{All-weaker}
+use Rattle.cv_base.specs.BytesOrder.{bytes_cmp}
 use Rattle.cv_base.specs.Path.{Path, covers}
 use Rattle.cv_rows.specs.Catalogue.{Contents, FitsAt}
 use Rattle.cv_rows.specs.Faults.{AllFit}
@@ -36,5 +35,5 @@ returns c =
     let whole = contents c.self.inside.at c.self.inside.rows.items c.self.inside.nested.items in
     let path = c.args.path.now in
     subst (λ (x : Contents). IsWithin x path c.in_ok-rows.rows.items c.in_ok-nested.nested.items) c.self.view_is
-    (within_so whole path (contains (slice_cmp nat_cmp) c.in_ok-covered.covered) c.deref.result.now c.deref-2.result.now c.in_ok-rows.rows.items c.deref-3.result.now c.in_ok-nested.nested.items
+    (within_so whole path (contains bytes_cmp c.in_ok-covered.covered) c.deref.result.now c.deref-2.result.now c.in_ok-rows.rows.items c.deref-3.result.now c.in_ok-nested.nested.items
     c.deref.ensures.value c.in_ok-covered.ensures c.deref-2.ensures.value c.in_ok-rows.ensures c.deref-3.ensures.value c.in_ok-nested.ensures)

@@ -1,8 +1,7 @@
 use Rattle.std.proofs.Common.{◌≡◌, ◌≢◌, true, List, sym, subst}
-use Rattle.std.specs.Ordering.{nat_cmp}
-use Rattle.std.specs.Cmp.Lexicographic.{slice_cmp}
 use Rattle.std.specs.BTreeSet.{contains}
 use Rattle.std.proofs.lemmas.List.Elements.{All-weaker}
+use Rattle.cv_base.specs.BytesOrder.{bytes_cmp}
 use Rattle.cv_base.specs.Path.{Path, covers}
 use Rattle.cv_rows.specs.Catalogue.{Contents, FitsAt}
 use Rattle.cv_rows.specs.Faults.{AllFit}
@@ -30,14 +29,14 @@ invariant_of-result c =
     let below : covers whole.at path ≡ true = subst (λ (x : Contents). covers x.at path ≡ true) (sym c.self.view_is) c.requires.below in
     let apart : path ≢ whole.at = subst (λ (x : Contents). path ≢ x.at) (sym c.self.view_is) c.requires.apart in
     without_is whole (contents whole.at c.drop_rows.new.rows.items c.drop_nested.new.nested.items) path c.self.invariant (not_above whole.at path below apart) c.requires.unmarked
-    (leaves whole path (contains (slice_cmp nat_cmp) c.in-Ok.covered) c.drop_rows.new.rows.items c.deref.result.now c.drop_nested.new.nested.items c.deref.ensures.value c.in-Ok.ensures c.drop_rows.ensures c.drop_nested.ensures)
+    (leaves whole path (contains bytes_cmp c.in-Ok.covered) c.drop_rows.new.rows.items c.deref.result.now c.drop_nested.new.nested.items c.deref.ensures.value c.in-Ok.ensures c.drop_rows.ensures c.drop_nested.ensures)
 
 pub returns-in-Ok-clause-left : goal.returns-in-Ok-clause-left
 returns-in-Ok-clause-left c =
     let whole = contents c.self.inside.at c.self.inside.rows.items c.self.inside.nested.items in
     let path = c.args.path.now in
     subst (λ (x : Contents). IsWithout x path (contents whole.at c.drop_rows.new.rows.items c.drop_nested.new.nested.items)) c.self.view_is
-    (leaves whole path (contains (slice_cmp nat_cmp) c.in-Ok.covered) c.drop_rows.new.rows.items c.deref.result.now c.drop_nested.new.nested.items c.deref.ensures.value c.in-Ok.ensures c.drop_rows.ensures c.drop_nested.ensures)
+    (leaves whole path (contains bytes_cmp c.in-Ok.covered) c.drop_rows.new.rows.items c.deref.result.now c.drop_nested.new.nested.items c.deref.ensures.value c.in-Ok.ensures c.drop_rows.ensures c.drop_nested.ensures)
 
 pub returns-in-Ok-clause-rules : goal.returns-in-Ok-clause-rules
 returns-in-Ok-clause-rules c =
@@ -46,4 +45,4 @@ returns-in-Ok-clause-rules c =
     let below : covers whole.at path ≡ true = subst (λ (x : Contents). covers x.at path ≡ true) (sym c.self.view_is) c.requires.below in
     let apart : path ≢ whole.at = subst (λ (x : Contents). path ≢ x.at) (sym c.self.view_is) c.requires.apart in
     without_is whole (contents whole.at c.drop_rows.new.rows.items c.drop_nested.new.nested.items) path c.self.invariant (not_above whole.at path below apart) c.requires.unmarked
-    (leaves whole path (contains (slice_cmp nat_cmp) c.in-Ok.covered) c.drop_rows.new.rows.items c.deref.result.now c.drop_nested.new.nested.items c.deref.ensures.value c.in-Ok.ensures c.drop_rows.ensures c.drop_nested.ensures)
+    (leaves whole path (contains bytes_cmp c.in-Ok.covered) c.drop_rows.new.rows.items c.deref.result.now c.drop_nested.new.nested.items c.deref.ensures.value c.in-Ok.ensures c.drop_rows.ensures c.drop_nested.ensures)

@@ -1,0 +1,8 @@
+-- The order of texts and of bytes: byte by byte, and a front before what it is a front of.
+use Rattle.std.specs.Prelude.{ℕ, List}
+use Rattle.std.specs.declared.cmp.Ordering.{Ordering}
+use Rattle.std.specs.Ordering.{nat_cmp}
+use Rattle.std.specs.Cmp.Lexicographic.{slice_cmp}
+
+abbrev pub bytes_cmp : List ℕ → List ℕ → Ordering
+bytes_cmp = slice_cmp nat_cmp
