@@ -13,7 +13,7 @@ use Rattle.cv_base.specs.Marker.{marker}
 use Rattle.cv_base.specs.ObjectId.{object_id}
 use Rattle.cv_base.specs.declared.id.Kind.TheVariants.{Catalogue}
 use Rattle.cv_base.specs.declared.object.Object.{Object}
-use Rattle.cv_tree.specs.Tree.{Nodes, at, is_directory}
+use Rattle.cv_tree.specs.Tree.{Nodes, at, is_directory, is_file}
 use Rattle.cv_tree.specs.Changes.{nodes_of}
 use Rattle.cv_tree.specs.declared.node.Node.{Node}
 use Rattle.cv_tree.specs.declared.node.Node.TheVariants.{Dir}
@@ -23,7 +23,7 @@ use Rattle.cv_rows.specs.Places.{StandsAt, root, root_kind}
 use Rattle.cv_rows.specs.declared.row.Row.{Row}
 use Rattle.cv_rows.specs.declared.nested.Nested.{Nested}
 use Rattle.cv_rows.specs.declared.row_kind.RowKind.{RowKind}
-use Rattle.cv_cut.specs.Cuts.{is_cut, is_marked, is_near, is_file}
+use Rattle.cv_cut.specs.Cuts.{is_cut, is_marked, is_near}
 use Rattle.cv_cut.specs.Cut.{catalogue_object}
 use Rattle.cv_cut.specs.Catalogues.{cat, contents_of, entry_of, rows_of}
 use Rattle.cv_cut.specs.Own.{AreOwn}

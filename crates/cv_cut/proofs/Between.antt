@@ -8,10 +8,10 @@ use Rattle.cv_base.specs.Marker.{marker}
 use Rattle.cv_base.specs.Path.{Path, covers, behind}
 use Rattle.cv_base.specs.PathOrder.{path_exact}
 use Rattle.cv_base.proofs.Laws.{behind-Some, behind-append}
-use Rattle.cv_tree.specs.Tree.{Nodes, at, is_directory}
+use Rattle.cv_tree.specs.Tree.{Nodes, at, is_directory, is_file}
 use Rattle.cv_tree.specs.declared.node.Node.{Node}
 use Rattle.cv_tree.proofs.Laws.{get-at}
-use Rattle.cv_cut.specs.Cuts.{is_file, is_marked, is_cut, is_inner, is_near, cuts_of, between}
+use Rattle.cv_cut.specs.Cuts.{is_marked, is_cut, is_inner, is_near, cuts_of, between}
 use Rattle.cv_cut.specs.Cut.{is_other}
 use Rattle.cv_cut.proofs.Members.{none_there, first_there, later_there, first_or_later, comes_from, goes_to, passing}
 use Rattle.cv_cut.proofs.Entries.{has_entry}
@@ -54,10 +54,12 @@ between_is (a ∷ b ∷ q) r has =
 
 -- ---- other cuts
 
-pub marked-at : (t : Nodes) (c r : Path) → is_marked (at t c) r ≡ is_marked t (c ++ r)
-marked-at t c r =
-    ap (λ o. is_directory o && is_file (get (at t c) (r ++ marker ∷ []))) (get-at t c r)
-    ∙ ap (λ o. is_directory (get t (c ++ r)) && is_file o) (get-at t c (r ++ marker ∷ []) ∙ ap (get t) (sym (append_assoc c r (marker ∷ []))))
+-- what is marked below a path
+pub marked-at : (u : Nodes) (r q : Path) → is_marked u (r ++ q) ≡ is_marked (at u r) q
+marked-at u r q =
+    let there = sym (get-at u r q) in
+    let file = ap (get u) (append_assoc r q (marker ∷ [])) ∙ sym (get-at u r (q ++ marker ∷ [])) in
+    λ i. is_directory (there i) && is_file (file i)
 
 -- what is behind a path that covers another
 pub behind_it : (p q : Path) → covers p q ≡ true → (r : Path) × (behind p q ≡ Some r)
@@ -82,7 +84,7 @@ stands_below t c d other = by_rest (behind c d) refl other
     by_rest (Some r) e h =
         let is = behind-Some c d r e in
         let inner = inner_is (at t c) r h in
-        record { rest = r; is = is; some = inner.0; marked = ap (is_marked t) is ∙ sym (marked-at t c r) ∙ inner.1 }
+        record { rest = r; is = is; some = inner.0; marked = ap (is_marked t) is ∙ marked-at t c r ∙ inner.1 }
 
 -- the cut covers it
 pub below_covered : (t : Nodes) (c d : Path) → is_other t c d ≡ true → covers c d ≡ true
@@ -131,7 +133,7 @@ not_near t c d q other covered differs =
     let q-is : q ≡ o.rest ++ s.0 = back c q (o.rest ++ s.0) (p-is ∙ ap (λ (x : Path). x ++ s.0) o.is ∙ append_assoc c o.rest s.0) in
     let more : s.0 ≢ [] = λ none. differs (sym (p-is ∙ ap (λ (x : Path). d ++ x) none ∙ append-nil d)) in
     let here : Contains (between q) o.rest = subst (λ (x : Path). Contains (between x) o.rest) (sym q-is) (between_has o.rest s.0 o.some more) in
-    let marked : is_marked (at t c) o.rest ≡ true = marked-at t c o.rest ∙ ap (is_marked t) (sym o.is) ∙ o.marked in
+    let marked : is_marked (at t c) o.rest ≡ true = sym (marked-at t c o.rest) ∙ ap (is_marked t) (sym o.is) ∙ o.marked in
     list_all_at (λ x. not (is_marked (at t c) x)) (between q) here.0 o.rest here.1 (ap (λ x. not (is_marked (at t c) x)) here.2 ∙ ap not marked)
 
 -- and all others are

@@ -4,14 +4,15 @@ use Rattle.std.specs.declared.option.Option.{Option}
 use Rattle.std.specs.declared.option.Option.TheVariants.{None, Some}
 use Rattle.std.specs.List.{AllByRecursion, filter}
 use Rattle.std.specs.FinMap.{get, from_entries, values}
+use Rattle.cv_base.specs.BytesOrder.{bytes_cmp}
 use Rattle.cv_base.specs.Path.{Path, overlap, text_of}
-use Rattle.cv_tree.specs.Tree.{Nodes, IsTree, at, put, is_directory}
+use Rattle.cv_tree.specs.Tree.{Nodes, IsTree, at, put, is_directory, is_file}
 use Rattle.cv_tree.specs.declared.node.Node.{Node}
 use Rattle.cv_tree.proofs.Laws.{get-at, at-put, at-put_apart, at-at}
 use Rattle.cv_base.specs.Marker.{marker}
-use Rattle.cv_rows.specs.Catalogue.{bytes_cmp, catalogue_bytes}
-use Rattle.cv_cut.specs.Cuts.{is_file, is_inner, inner, region}
-use Rattle.cv_cut.specs.Catalogues.{row_file, rows_of, entry_of, catalogue, cat}
+use Rattle.cv_rows.specs.Catalogue.{catalogue_bytes}
+use Rattle.cv_cut.specs.Cuts.{is_inner, inner, region}
+use Rattle.cv_cut.specs.Catalogues.{row_file, rows_of, entry_of, catalogue, catalogue_of, cat}
 
 all_pass : {X : Type 0} (f : X → Bool) (xs : List X) → AllByRecursion (λ x. f x ≡ true) (filter f xs)
 all_pass f [] = tt
@@ -70,12 +71,12 @@ unfolding catalogue
 cat_is t c tree some = row_file_same c (at t c) _ _ (λ d i.
     let s = inner_some (at t c) d i in
     let there : IsSome (get (at (at t c) d) []) = subst IsSome (sym (get-at (at t c) d [] ∙ ap (get (at t c)) (append-nil d))) s.0 in
-    catalogue_more 64 (c ++ d) (at (at t c) d) there (below_at 64 (at t c) d s.1 (below_tree t c tree)) ∙ ap (catalogue 65 (c ++ d)) (at-at t c d))
+    catalogue_more 64 (c ++ d) (at (at t c) d) there (below_at 64 (at t c) d s.1 (below_tree t c tree)) ∙ ap (catalogue_of (c ++ d)) (at-at t c d))
 
 -- what a replacement leaves: each catalogue at a place apart
 pub cat-put_apart : (t s : Nodes) (p c : Path) → overlap p c ≡ false → cat (put t p s) c ≡ cat t c
-cat-put_apart t s p c h = ap (catalogue 65 c) (at-put_apart t p c s h)
+cat-put_apart t s p c h = ap (catalogue_of c) (at-put_apart t p c s h)
 
 -- each catalogue at the place or below it is that of the tree from which the part came
 pub cat-put_below : (t n : Nodes) (p d : Path) → cat (put t p (at n p)) (p ++ d) ≡ cat n (p ++ d)
-cat-put_below t n p d = ap (catalogue 65 (p ++ d)) (sym (at-at (put t p (at n p)) p d) ∙ ap (λ u. at u d) (at-put t p (at n p)) ∙ at-at n p d)
+cat-put_below t n p d = ap (catalogue_of (p ++ d)) (sym (at-at (put t p (at n p)) p d) ∙ ap (λ u. at u d) (at-put t p (at n p)) ∙ at-at n p d)

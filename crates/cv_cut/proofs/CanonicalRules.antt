@@ -1,5 +1,5 @@
 -- The canonical catalogue of a cut is a catalogue, where the tree fits.
-use Rattle.std.proofs.Common.{◌≡◌, ℕ, ◌+◌, ◌<◌, ◌≤◌, ◌^◌, Bool, true, false, ◌&&◌, Option, None, Some, List, [], ◌∷◌, ◌++◌, length, refl, sym, ap, subst, ◌∙◌, append_assoc, arith, IsSome, is_some, inl, inr}
+use Rattle.std.proofs.Common.{◌≡◌, ℕ, ◌<◌, ◌≤◌, ◌^◌, Bool, true, false, ◌&&◌, Option, None, Some, List, [], ◌∷◌, ◌++◌, length, refl, sym, ap, subst, ◌∙◌, append_assoc, arith, IsSome, is_some, inl, inr}
 use Rattle.std.specs.Ordering.{is_eq}
 use Rattle.std.specs.Cmp.{tied_itself}
 use Rattle.std.specs.List.{flat_map}
@@ -13,7 +13,7 @@ use Rattle.cv_base.specs.Marker.{marker}
 use Rattle.cv_base.specs.Path.{Path, same_path, text_of}
 use Rattle.cv_base.specs.PathOrder.{path_total, same_path_is}
 use Rattle.cv_base.proofs.Laws.{first_true, second_true}
-use Rattle.cv_tree.specs.Tree.{Nodes, IsTree, at, is_directory}
+use Rattle.cv_tree.specs.Tree.{Nodes, IsTree, at, is_directory, is_file}
 use Rattle.cv_tree.proofs.Laws.{get-at}
 use Rattle.cv_tree.specs.declared.node.Node.{Node}
 use Rattle.cv_rows.specs.Row.{row_bytes}
@@ -23,7 +23,7 @@ use Rattle.cv_rows.specs.Made.{AreApart, keys_of, texts_of, by_key, by_text, in_
 use Rattle.cv_rows.specs.declared.row.Row.{Row}
 use Rattle.cv_rows.specs.declared.nested.Nested.{Nested}
 use Rattle.cv_rows.proofs.Lemmas.{file_len}
-use Rattle.cv_cut.specs.Cuts.{is_file, is_cut, region}
+use Rattle.cv_cut.specs.Cuts.{is_cut, region}
 use Rattle.cv_cut.specs.Catalogues.{nested_of, cat, SharesKey, Fits, contents_of}
 use Rattle.cv_cut.proofs.Canonical.{cat_is}
 use Rattle.cv_cut.proofs.RegionRules.{stands_at_cut, region_rules}

@@ -13,6 +13,7 @@ use Rattle.std.proofs.lemmas.List.Kept.{IsStrictlySortedBy-filter}
 use Rattle.std.proofs.lemmas.List.Sorted.{IsPermutation-reverse, Contains-permutation}
 use Rattle.cv_base.specs.Path.{Path, path_cmp, covers}
 use Rattle.cv_base.specs.PathOrder.{path_total, path_exact}
+use Rattle.cv_tree.proofs.Laws.{covers_before}
 use Rattle.cv_tree.specs.Tree.{Nodes}
 use Rattle.cv_cut.specs.Cuts.{cuts_of, is_cut}
 use Rattle.cv_cut.specs.Cut.{is_other}
@@ -21,7 +22,7 @@ use Rattle.cv_rows.proofs.Lemmas.{covers_below}
 use Rattle.cv_cut.proofs.Members.{passing}
 use Rattle.cv_cut.proofs.RegionPaths.{keys_rise}
 use Rattle.cv_cut.proofs.Between.{stands_below, below_covered, other_cut}
-use Rattle.cv_cut.proofs.Sides.{covers_before, rises_at}
+use Rattle.cv_cut.proofs.Sides.{rises_at}
 use Rattle.cv_cut.proofs.Ends.{back}
 use Rattle.cv_cut.proofs.Bools.{so}
 

@@ -6,11 +6,12 @@ use Rattle.cv_base.specs.PathOrder.{path_total, path_exact}
 use Rattle.cv_tree.specs.Tree.{Nodes, at, put}
 use Rattle.cv_tree.proofs.Laws.{get-at, get-put, at-put, at-at, at-put_apart}
 use Rattle.cv_cut.specs.Cuts.{is_cut, is_marked, is_near, region}
-use Rattle.cv_cut.specs.Catalogues.{catalogue, Fits, SharesKey}
+use Rattle.cv_cut.specs.Catalogues.{catalogue_of, Fits, SharesKey}
 use Rattle.cv_cut.proofs.CanonicalRules.{region_apart}
 use Rattle.cv_cut.proofs.Regions.{some_node}
 use Rattle.cv_cut.proofs.RegionLists.{inner_is}
-use Rattle.cv_cut.proofs.MarkLaws.{marked-at, covers_append}
+use Rattle.cv_cut.proofs.Between.{marked-at}
+use Rattle.cv_cut.proofs.MarkLaws.{covers_append}
 use Rattle.cv_cut.proofs.Joined.{rest_behind}
 use Rattle.cv_cut.proofs.Behind.{is_behind}
 use Rattle.cv_cut.proofs.Trees.{cut-out, cut-in}
@@ -78,7 +79,7 @@ moved_sound P t u c same cut s = record {
     is_cut_ = was;
     passes = elim full.passes [
       | inl many ↦ inl (subst (λ (w : Nodes). 50000 < length (region w)) (sym same) many)
-      | inr long ↦ inr (subst (λ (w : Nodes). 2 ^ 24 < length (catalogue 65 c w)) (sym same) long)
+      | inr long ↦ inr (subst (λ (w : Nodes). 2 ^ 24 < length (catalogue_of c w)) (sym same) long)
     ];
   });
 }

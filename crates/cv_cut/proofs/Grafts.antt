@@ -10,13 +10,13 @@ use Rattle.cv_base.specs.ObjectId.{object_id}
 use Rattle.cv_base.specs.declared.id.Kind.TheVariants.{Plain, Catalogue}
 use Rattle.cv_base.proofs.Laws.{behind-Some}
 use Rattle.cv_ports.specs.Shelf.{Shelf, HasMore}
-use Rattle.cv_tree.specs.Tree.{Nodes, is_directory, at, put}
+use Rattle.cv_tree.specs.Tree.{Nodes, is_directory, at, put, is_file}
 use Rattle.cv_tree.specs.Changes.{has_place}
 use Rattle.cv_tree.specs.declared.node.Node.TheVariants.{File}
 use Rattle.cv_tree.proofs.Laws.{at_rest, get-at, get-put, at-put, at-put_apart, at-at, IsTree-put_at}
-use Rattle.cv_cut.specs.Cuts.{is_cut, is_marked, is_file, between}
+use Rattle.cv_cut.specs.Cuts.{is_cut, is_marked, between}
 use Rattle.cv_cut.specs.Above.{above, cuts_above}
-use Rattle.cv_cut.specs.Catalogues.{catalogue, cat, root_of, Fits}
+use Rattle.cv_cut.specs.Catalogues.{catalogue_of, cat, root_of, Fits}
 use Rattle.cv_cut.specs.Means.{Means, HasContentOf}
 use Rattle.cv_cut.proofs.Members.{first_there, later_there, passing}
 use Rattle.cv_cut.proofs.Between.{between_has, behind_it}
@@ -54,7 +54,7 @@ cut_same t n [] same = refl
 cut_same t n (name ∷ names) same = marked_same t n (name ∷ names) same
 
 pub cat_same : (t n : Nodes) (c : Path) → at t c ≡ at n c → cat t c ≡ cat n c
-cat_same t n c same = ap (catalogue 65 c) same
+cat_same t n c same = ap (catalogue_of c) same
 
 -- ---- where a part was replaced
 

@@ -23,7 +23,8 @@ use Rattle.cv_rows.specs.declared.row_kind.RowKind.TheVariants.{Directory, Trans
 use Rattle.cv_cut.specs.Cuts.{is_marked, is_near}
 use Rattle.cv_cut.specs.Catalogues.{kind_of, row_of, entry_of}
 use Rattle.cv_cut.proofs.Members.{passes, passing}
-use Rattle.cv_cut.proofs.MarkLaws.{covers_append, get-in, marked-at, marked-out, marked-in, near-out, near-in, near-at}
+use Rattle.cv_cut.proofs.Between.{marked-at}
+use Rattle.cv_cut.proofs.MarkLaws.{covers_append, get-in, marked-out, marked-in, near-out, near-in, near-at}
 use Rattle.cv_cut.specs.Region.{row_at, IsNear, IsOther, AreRowsOf, AreEntriesOf}
 
 -- ---- paths

@@ -47,7 +47,7 @@ pub record HasKinds (t : Nodes) (c p q : Path) : Type 0 where
 has_kinds : (t : Nodes) (c p q : Path) → p ≡ c ++ q → q ≢ [] → HasKinds t c p q
 has_kinds t c p [] is some = absurd (some refl)
 has_kinds t c p (a ∷ q) is some = record {
-  directory = λ attr. ap (λ b. cond b Transition Directory) (marked-at t c (a ∷ q) ∙ ap (is_marked t) (sym is));
+  directory = λ attr. ap (λ b. cond b Transition Directory) (sym (marked-at t c (a ∷ q)) ∙ ap (is_marked t) (sym is));
   file = λ attr file. refl;
   link = λ attr target. refl;
 }

@@ -12,12 +12,13 @@ pub use Rattle.cv_cut.proofs.Holder.{at_cut, cat_after, covers_p, cut_after, ful
 pub use Rattle.cv_cut.proofs.Joined.{AreHolders, covers-shift, is_near-in, is_near-out, path-in, rest_behind}
 pub use Rattle.cv_cut.proofs.KindLaws.{rest_is}
 pub use Rattle.cv_cut.proofs.Lists.{apart_append, kept_apart, sorted_apart}
-pub use Rattle.cv_cut.proofs.MarkLaws.{covers_append, longer_covers_not, marked-at, marked-out, near-here, near-out, same_rest}
+pub use Rattle.cv_cut.proofs.Between.{marked-at}
+pub use Rattle.cv_cut.proofs.MarkLaws.{covers_append, longer_covers_not, marked-out, near-here, near-out, same_rest}
 pub use Rattle.cv_cut.proofs.MeansAfter.{means_after, part_means}
 pub use Rattle.cv_cut.proofs.Members.{comes_from, first_or_later, first_there, goes_to, later_there, none_there, passes, passing}
-pub use Rattle.cv_cut.proofs.Opening.{IsThere, Unsized, left_by, misstating_bad, nested_long, nested_there, nested_unopened, opens_there, root_by_key, root_found, stands_long, transition_long, transition_of, unopened}
+pub use Rattle.cv_cut.proofs.Opening.{IsThere, Unsized, left_by, misstating_bad, nested_long, nested_there, nested_unopened, opens_there, stands_long, transition_long, transition_of, unopened}
 pub use Rattle.cv_cut.proofs.Over.{more_over, nearest, same_ends, same_over}
-pub use Rattle.cv_cut.proofs.PieceLaws.{fits_subtree, put_whole, ready_of}
+pub use Rattle.cv_cut.proofs.PieceLaws.{fits_subtree, own_only, own_piece, put_whole, ready_of}
 pub use Rattle.cv_cut.proofs.PieceRows.{entries_spelled, entry_there, keys_are, rows_spelled, texts_apart_within}
 pub use Rattle.cv_cut.proofs.PlacedCuts.{come_apart, full_below, part_objects, shares_over}
 pub use Rattle.cv_cut.proofs.PlacedLaws.{alone_holds, fits_over, holder_of, keys_over}
@@ -26,7 +27,7 @@ pub use Rattle.cv_cut.proofs.RegionLists.{keys_apart, keys_once, nested_list, ne
 pub use Rattle.cv_cut.proofs.RegionRules.{StandsAtCut, stands_at_cut}
 pub use Rattle.cv_cut.proofs.Regions.{IsAbove, IsRowThere, above, root_node, stands, stands_only}
 pub use Rattle.cv_cut.proofs.Renewed.{differs, renewed}
-pub use Rattle.cv_cut.proofs.RowFacts.{marked_transition, root_row, row_key, row_kind, transition_marked}
+pub use Rattle.cv_cut.proofs.RowFacts.{marked_transition, root_not, root_row, row_key, row_kind, transition_marked}
 pub use Rattle.cv_cut.proofs.Sameness.{same_list}
 pub use Rattle.cv_cut.proofs.Single.{Fits-single, cut_single}
 pub use Rattle.cv_cut.proofs.Sorted.{order_rises}

@@ -36,7 +36,7 @@ other_here t c p cs ps h ps-is cs-is same =
 
 inner_marked : (t : Nodes) (c p q : Path) → p ≡ c ++ q → q ≢ [] → is_marked t p ≡ is_inner (at t c) q
 inner_marked t c p [] is some = absurd (some refl)
-inner_marked t c p (a ∷ q) is some = ap (is_marked t) is ∙ sym (marked-at t c (a ∷ q))
+inner_marked t c p (a ∷ q) is some = ap (is_marked t) is ∙ marked-at t c (a ∷ q)
 
 pub other_below : {E : Type 0} (t : Nodes) (c p cs ps : Path) (r : Result Bool E) → covers c p ≡ true → ps ≡ p → cs ≡ c → length ps ≢ length cs → IfOk r (λ b. b ≡ is_marked t p) → IfOk r (λ b. b ≡ is_other t c p)
 other_below t c p cs ps (Ok b) h ps-is cs-is other is =

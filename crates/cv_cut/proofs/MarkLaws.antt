@@ -11,9 +11,9 @@ use Rattle.cv_base.specs.Marker.{marker, ends_in}
 use Rattle.cv_base.specs.Path.{Path, covers}
 use Rattle.cv_base.proofs.Laws.{behind-append}
 use Rattle.cv_rows.proofs.Lemmas.{covers_below, covers_last, ends_so, not_above}
-use Rattle.cv_tree.specs.Tree.{Nodes, at, put, is_directory}
-use Rattle.cv_tree.proofs.Laws.{at_rest, get-at, get-put, kept-put, put-at}
-use Rattle.cv_cut.specs.Cuts.{is_file, is_marked, is_near, between}
+use Rattle.cv_tree.specs.Tree.{Nodes, at, put, is_directory, is_file}
+use Rattle.cv_tree.proofs.Laws.{at_rest, get-put, kept-put, put-at}
+use Rattle.cv_cut.specs.Cuts.{is_marked, is_near, between}
 use Rattle.cv_cut.proofs.Between.{between_is}
 use Rattle.cv_cut.proofs.Members.{first_there, later_there}
 
@@ -71,12 +71,6 @@ pub get-in : (u : Nodes) (r : Path) (s : Nodes) (q : Path) → get (put u r s) (
 get-in u r s q = get-put u r s (r ++ q) ∙ ap (λ o. at_rest o (get s) (get u (r ++ q))) (behind-append r q)
 
 -- ---- marks
-
-pub marked-at : (u : Nodes) (r q : Path) → is_marked u (r ++ q) ≡ is_marked (at u r) q
-marked-at u r q =
-    let there = sym (get-at u r q) in
-    let file = ap (get u) (append_assoc r q (marker ∷ [])) ∙ sym (get-at u r (q ++ marker ∷ [])) in
-    λ i. is_directory (there i) && is_file (file i)
 
 -- a path that r doesn't cover keeps its mark, where r isn't the path of a marker
 pub marked-out : (u : Nodes) (r : Path) (s : Nodes) (q : Path) → ends_in marker r ≡ false → covers r q ≡ false → is_marked (put u r s) q ≡ is_marked u q

@@ -8,10 +8,9 @@ use Rattle.cv_base.specs.PathText.{joined}
 use Rattle.cv_base.specs.Unless.{IsUnless}
 use Rattle.cv_base.specs.declared.path_fault.PathFault.{PathFault}
 use Rattle.cv_base.specs.declared.path_fault.PathFault.TheVariants.{NoMemory}
-use Rattle.cv_tree.specs.Tree.{Nodes, IsTree}
+use Rattle.cv_tree.specs.Tree.{Nodes, IsTree, is_file}
 use Rattle.cv_tree.specs.declared.node.Node.{Node}
 use Rattle.cv_rows.proofs.Lemmas.{no_longer}
-use Rattle.cv_cut.specs.Cuts.{is_file}
 
 nothing_there : (o : Option Node) → (IsSome o → ⊥) → false ≡ is_file o
 nothing_there None none = refl

@@ -1,19 +1,21 @@
 -- Catalogues that are opened at their places.
 use Rattle.std.proofs.Common.{◌≡◌, ◌≢◌, ◌↔◌, ℕ, ◌<◌, ◌≤◌, Bool, true, false, List, [], ◌∷◌, length, Ok, Err, Result, None, Some, IsTrue, refl, sym, ap, subst, ◌∙◌, arith, length-append, inl, inr}
-use Rattle.std.specs.Prelude.{Contains, IfSome, IsSomeAnd, IsErrAnd}
+use Rattle.std.specs.Prelude.{Contains, IfSome, IsSomeAnd, IsErrAnd, MatchOption}
+use Rattle.std.specs.Borrow.{Bor}
+use Rattle.std.specs.Option.{option_copied}
 use Rattle.std.specs.Cmp.{tied_itself}
 use Rattle.std.specs.Ordering.{is_eq}
 use Rattle.std.specs.declared.option.Option.{Option}
 use Rattle.std.proofs.lemmas.List.Elements.{All-contains}
 use Rattle.sha1.specs.Sha1.{sha1}
-use Rattle.cv_base.specs.Path.{Path, key_of, same_path}
+use Rattle.cv_base.specs.Path.{Path, same_path}
 use Rattle.cv_base.specs.PathOrder.{path_total, same_path_is}
 use Rattle.cv_base.specs.ObjectId.{object_id}
 use Rattle.cv_base.specs.declared.id.ObjectId.{ObjectId}
 use Rattle.cv_base.specs.declared.id.Kind.TheVariants as id_kind
 use Rattle.cv_ports.specs.Shelf.{Shelf}
 use Rattle.cv_rows.specs.Catalogue.{Contents, IsCatalogue, IsTransitionAt}
-use Rattle.cv_rows.specs.Places.{IsRoot, StandsAt, root, below, root_kind}
+use Rattle.cv_rows.specs.Places.{IsRoot, StandsAt, root, below}
 use Rattle.cv_rows.specs.declared.row.Row.{Row}
 use Rattle.cv_rows.specs.declared.nested.Nested.{Nested}
 use Rattle.cv_rows.specs.declared.row_kind.RowKind.TheVariants.{Transition}
@@ -25,6 +27,7 @@ use Rattle.cv_cut.specs.Opening.{MayFailFrom, IsUnread, Sizes, Opens, OpensNeste
 use Rattle.cv_cut.specs.OpeningInner.{Decoded, Fetched}
 use Rattle.cv_cut.specs.declared.load_fault.LoadFault.{LoadFault}
 use Rattle.cv_cut.specs.declared.load_fault.LoadFault.TheVariants as fault
+use Rattle.cv_cut.proofs.RowFacts.{root_not}
 
 -- ---- the answer of a `?` that leaves
 
@@ -34,41 +37,24 @@ left_by P (Err e) f is h = subst (λ x. P (Err x)) (sym is) h
 
 -- ---- rows of a catalogue
 
--- the row with the key of the place is the root row
-pub root_by_key : (c : Contents) (at : Path) (r : Row) → IsCatalogue c → c.at ≡ at → Contains c.rows r → r.key.0 ≡ key_of at → IsRoot c.at r
-root_by_key c at r is place has key =
-    let top = is.region.root in
-    subst (IsRoot c.at) (same_by_key c.rows top.0 r is.ordered top.1 has (top.2.key ∙ ap key_of place ∙ sym key)) top.2
-
--- it is there
-pub root_found : (c : Contents) (at : Path) → IsCatalogue c → c.at ≡ at → ((r : Row) → Contains c.rows r → r.key.0 ≢ key_of at) → ⊥
-root_found c at is place none = let top = is.region.root in none top.0 top.1 (top.2.key ∙ ap key_of place)
-
--- the row with the key of a nested entry's path is its Transition row
+-- a nested entry has its Transition row
 pub transition_of : (c : Contents) (n : Nested) → IsCatalogue c → Contains c.nested n → (r : Row) × IsTransitionOf c n r
 transition_of c n is has =
     let t = All-contains (λ (m : Nested). IsTransitionAt c.at c.rows m.path) c.nested n is.region.named has in
     (t.row, record { kind = t.kind; stands = t.stands })
 
-pub transition_row : (c : Contents) (n : Nested) → IsCatalogue c → Contains c.nested n → (r : Row) × Contains c.rows r × (r.key.0 ≡ key_of n.path)
-transition_row c n is has =
+-- it is the row that stands at the entry's path
+transition_at : (c : Contents) (n : Nested) (r : Row) → IsCatalogue c → Contains c.nested n → StandsAt c.at c.rows r n.path → IsTransitionOf c n r
+transition_at c n r is has stands =
     let t = transition_of c n is has in
-    (t.0, stands_contained t.1.stands, (fits_there c.at c.rows t.0 n.path is.ordered is.region.placed t.1.stands).key)
-
-pub transition_by_key : (c : Contents) (n : Nested) (r : Row) → IsCatalogue c → Contains c.nested n → Contains c.rows r → r.key.0 ≡ key_of n.path → IsTransitionOf c n r
-transition_by_key c n r is has there key =
-    let t = transition_of c n is has in
-    let fits = fits_there c.at c.rows t.0 n.path is.ordered is.region.placed t.1.stands in
-    subst (IsTransitionOf c n) (same_by_key c.rows t.0 r is.ordered (stands_contained t.1.stands) there (fits.key ∙ sym key)) t.1
+    let one = fits_there c.at c.rows t.0 n.path is.ordered is.region.placed t.1.stands in
+    let other = fits_there c.at c.rows r n.path is.ordered is.region.placed stands in
+    subst (IsTransitionOf c n) (same_by_key c.rows t.0 r is.ordered (stands_contained t.1.stands) (stands_contained stands) (one.key ∙ sym other.key)) t.1
 
 -- rows stand at the catalogue's place or deeper
 pub stands_long : {at : Path} {rows : List Row} {r : Row} {q : Path} → StandsAt at rows r q → length at ≤ length q
 stands_long (root has is) = omega arith
 stands_long {at} {rows} {r} (below {q = q} has other s child) = let l = stands_long s in omega (arith, l, length-append q (r.name ∷ []))
-
-root_not : (c : Path) → root_kind c ≢ Transition
-root_not [] h = cc
-root_not (a ∷ c) h = cc
 
 pub transition_long : {at : Path} {rows : List Row} {r : Row} {q : Path} → StandsAt at rows r q → r.kind ≡ Transition → length at < length q
 transition_long {at} (root has is) kind = absurd (root_not at (sym is.kind ∙ kind))
@@ -79,15 +65,12 @@ nested_long c n is has = let t = transition_of c n is has in transition_long t.1
 
 -- ---- decoding
 
-pub fits_found : (c : Contents) (at : Path) (top transition : Row) (b : Bool) → IsCatalogue c → c.at ≡ at → Contains c.rows top → top.key.0 ≡ key_of at
+pub fits_root : (c : Contents) (top transition : Row) (b : Bool) → IsCatalogue c → Contains c.rows top × IsRoot c.at top
     → IsTrue b ↔ (top ≡ record transition { kind = top.kind }) → IsTrue b ↔ FitsRow c transition
-fits_found c at top transition b is place has key same = (
-  λ yes. (top, has, root_by_key c at top is place has key, same.0 yes),
-  λ fits. same.1 (let one = same_by_key c.rows fits.0 top is.ordered fits.1 has (fits.2.key ∙ ap key_of place ∙ sym key) in subst (λ (r : Row). r ≡ record transition { kind = r.kind }) one fits.3),
+fits_root c top transition b is own same = (
+  λ yes. (top, own.0, own.1, same.0 yes),
+  λ fits. same.1 (let one = same_by_key c.rows fits.0 top is.ordered fits.1 own.0 (fits.2.key ∙ sym own.1.key) in subst (λ (r : Row). r ≡ record transition { kind = r.kind }) one fits.3),
 )
-
-pub fits_nothing : (c : Contents) (at : Path) (transition : Row) → c.at ≡ at → ((r : Row) → Contains c.rows r → r.key.0 ≢ key_of at) → FitsRow c transition → ⊥
-fits_nothing c at transition place none fits = none fits.0 fits.1 (fits.2.key ∙ ap key_of place)
 
 -- ---- opening
 
@@ -123,7 +106,7 @@ nested_unsized shelf id c n (fault.Damaged x found) h = absurd h
 nested_unsized shelf id c n fault.NoMemory h = tt
 
 -- the catalogue that a nested entry names, or why not
-pub opens_nested : (shelf : Shelf) (id : ObjectId) (c : Contents) (n : Nested) (r : Row) (answer : Result Contents LoadFault) → IsTransitionOf c n r
+opens_nested : (shelf : Shelf) (id : ObjectId) (c : Contents) (n : Nested) (r : Row) (answer : Result Contents LoadFault) → IsTransitionOf c n r
     → HasSize shelf (below_id n) n.size → Opens shelf (below_id n) (record { path = n.path; row = Some r }) answer → OpensNested shelf id c n answer
 opens_nested shelf id c n r (Ok opened) t size h = record { row = r; kind_ = t.kind; stands = t.stands; size = size; opened = h }
 opens_nested shelf id c n r (Err (fault.Missing x)) t size h = h
@@ -131,6 +114,13 @@ opens_nested shelf id c n r (Err (fault.Bad x)) t size h = subst (IsBadNested sh
 opens_nested shelf id c n r (Err fault.Failed) t size h = tt
 opens_nested shelf id c n r (Err (fault.Damaged x found)) t size h = h
 opens_nested shelf id c n r (Err fault.NoMemory) t size h = tt
+
+-- it is opened with the row that is found at the entry's path
+pub opens_found : (shelf : Shelf) (id : ObjectId) (c : Contents) (n : Nested) (found : Option (Bor Row)) (answer : Result Contents LoadFault) → IsCatalogue c → Contains c.nested n
+    → MatchOption found ((r : Row) → StandsAt c.at c.rows r n.path → ⊥) (λ row. StandsAt c.at c.rows row.now n.path)
+    → HasSize shelf (below_id n) n.size → Opens shelf (below_id n) (record { path = n.path; row = option_copied found }) answer → OpensNested shelf id c n answer
+opens_found shelf id c n None answer is has none size h = absurd (let t = transition_of c n is has in none t.0 t.1.stands)
+opens_found shelf id c n (Some row) answer is has stands size h = opens_nested shelf id c n row.now answer (transition_at c n row.now is has stands) size h
 
 -- ---- what is there and decodes is opened, unless the shelf fails or memory is wanted
 

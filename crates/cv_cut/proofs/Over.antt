@@ -58,7 +58,7 @@ nearest_below t c p a n plain =
       rest = n.rest ++ a ∷ [];
       is = place;
       near = near_below (at t c) n.rest a n.near n.free;
-      free = λ some. marked-at t c (n.rest ++ a ∷ []) ∙ ap (is_marked t) (sym place) ∙ sym (cut_marked t (p ++ a ∷ []) (last_some p a)) ∙ plain;
+      free = λ some. sym (marked-at t c (n.rest ++ a ∷ [])) ∙ ap (is_marked t) (sym place) ∙ sym (cut_marked t (p ++ a ∷ []) (last_some p a)) ∙ plain;
     }
 
 at_root : (t : Nodes) (p : Path) (front : List Path) (c : Path) → p ≡ [] → cuts_over t p ≡ front ++ c ∷ [] → IsNearest t c p

@@ -13,14 +13,14 @@ use Rattle.cv_base.specs.Marker.{marker, ends_in}
 use Rattle.cv_base.specs.Path.{Path, IsPath, covers, key_of, path_cmp}
 use Rattle.cv_base.specs.PathOrder.{path_total, path_exact}
 use Rattle.cv_base.specs.declared.attr.Attr.{Attr}
-use Rattle.cv_tree.specs.Tree.{Nodes, IsTree, at, put, is_directory, single}
+use Rattle.cv_tree.specs.Tree.{Nodes, IsTree, at, put, is_directory, single, is_file}
 use Rattle.cv_tree.specs.Changes.{FitsUnder, nodes_of, subtree_of}
 use Rattle.cv_tree.specs.declared.node.Node.{Node}
 use Rattle.cv_tree.specs.declared.node.Node.TheVariants as node
 use Rattle.cv_tree.proofs.Laws.{at-put, get-at}
 use Rattle.cv_rows.specs.declared.nested.Nested.{Nested}
 use Rattle.cv_rows.proofs.Lemmas.{covers_below}
-use Rattle.cv_cut.specs.Cuts.{is_cut, is_file, is_marked, cuts_of, region}
+use Rattle.cv_cut.specs.Cuts.{is_cut, is_marked, cuts_of, region}
 use Rattle.cv_cut.specs.Catalogues.{SharesKey, IsInRegion}
 use Rattle.cv_cut.specs.Cut.{is_other, region_at}
 use Rattle.cv_cut.specs.CutInner.{HasMade, IsCollision, cuts_below}

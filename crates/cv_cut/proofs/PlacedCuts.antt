@@ -14,7 +14,7 @@ use Rattle.cv_tree.specs.declared.node.Node.{Node}
 use Rattle.cv_tree.proofs.Laws.{at-at, at-put}
 use Rattle.cv_rows.specs.Made.{AreApart}
 use Rattle.cv_cut.specs.Cuts.{is_cut, is_near, cuts_of, region}
-use Rattle.cv_cut.specs.Catalogues.{cat, catalogue, IsFull, IsInRegion}
+use Rattle.cv_cut.specs.Catalogues.{cat, catalogue_of, IsFull, IsInRegion}
 use Rattle.cv_cut.specs.Cut.{catalogue_object, keys_at}
 use Rattle.cv_cut.specs.Piece.{HasOnly, SharesWithin, cuts_within, region_within}
 use Rattle.cv_cut.specs.Region.{IsNear}
@@ -74,7 +74,7 @@ full_below t m p d tree after inside full =
       is_cut_ = subst (λ x. is_cut (put t p (at m p)) x ≡ true) (sym b.1) (cut-in t m p b.0 ∙ subst (λ x. is_cut m x ≡ true) b.1 full.is_cut_);
       passes = elim full.passes [
         | inl many ↦ inl (subst (λ (w : Nodes). 50000 < length (region w)) same many)
-        | inr long ↦ inr (subst (λ (w : Nodes). 2 ^ 24 < length (catalogue 65 d w)) same long)
+        | inr long ↦ inr (subst (λ (w : Nodes). 2 ^ 24 < length (catalogue_of d w)) same long)
       ];
     }
   where

@@ -12,7 +12,8 @@ use Rattle.cv_cut.specs.Region.{FitsAtCut, KeysApart}
 use Rattle.cv_cut.specs.Replaced.{AreKeysApart, FitsOver, IsPassed, IsSound}
 use Rattle.cv_cut.proofs.Fitting.{moved_sound, one_holder, passes_of}
 use Rattle.cv_cut.proofs.Joined.{rest_behind}
-use Rattle.cv_cut.proofs.MarkLaws.{covers_append, longer_covers_not, marked-at}
+use Rattle.cv_cut.proofs.Between.{marked-at}
+use Rattle.cv_cut.proofs.MarkLaws.{covers_append, longer_covers_not}
 use Rattle.cv_cut.proofs.Trees.{cut-in, cut-out}
 use Rattle.cv_cut.proofs.Upper.{above_keys, above_full}
 

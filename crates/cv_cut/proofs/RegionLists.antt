@@ -5,12 +5,12 @@ use Rattle.std.specs.List.{filter}
 use Rattle.std.specs.FinMap.{get, entries, is_sorted, entries_sorted, from_entries, values}
 use Rattle.std.specs.FinMap.Entries.{is_sorted-where_key}
 use Rattle.std.proofs.lemmas.Option.{slice_get-get_or}
+use Rattle.cv_base.specs.BytesOrder.{bytes_cmp}
 use Rattle.cv_base.specs.Path.{Path, path_cmp, text_of, key_of}
 use Rattle.cv_base.specs.PathOrder.{path_total, path_exact}
 use Rattle.cv_base.proofs.Laws.{text_of-injective}
 use Rattle.cv_tree.specs.Tree.{Nodes, at}
 use Rattle.cv_tree.specs.declared.node.Node.{Node}
-use Rattle.cv_rows.specs.Catalogue.{bytes_cmp}
 use Rattle.cv_rows.specs.Made.{AreParts, AreApart, keys_of, texts_of, by_key, by_text}
 use Rattle.cv_rows.specs.declared.row.Row.{Row}
 use Rattle.cv_rows.specs.declared.nested.Nested.{Nested}

@@ -10,7 +10,7 @@ use Rattle.std.proofs.lemmas.Slice.Eq.{bytes_eq-Decides}
 use Rattle.cv_base.specs.Marker.{marker}
 use Rattle.cv_base.specs.Path.{Path, IsPath, key_of, last_name_of}
 use Rattle.cv_base.proofs.Laws.{digest_sha1, first_true, second_true}
-use Rattle.cv_tree.specs.Tree.{Nodes, is_directory, IsPart, IsTree, at}
+use Rattle.cv_tree.specs.Tree.{Nodes, is_directory, IsPart, IsTree, at, is_file}
 use Rattle.cv_tree.specs.declared.node.Node.{Node}
 use Rattle.cv_tree.proofs.Laws.{get-at, IsPart-at}
 use Rattle.cv_rows.specs.Row.{IsRow, same_kind}
@@ -21,7 +21,7 @@ use Rattle.cv_rows.specs.declared.row.Row.{Row}
 use Rattle.cv_rows.specs.declared.nested.Nested.{Nested}
 use Rattle.cv_rows.specs.declared.row_kind.RowKind.{RowKind}
 use Rattle.cv_rows.specs.declared.row_kind.RowKind.TheVariants.{Directory, Transition, NestedRoot, File, Link}
-use Rattle.cv_cut.specs.Cuts.{is_file, is_marked, is_cut}
+use Rattle.cv_cut.specs.Cuts.{is_marked, is_cut}
 use Rattle.cv_cut.specs.Catalogues.{entry_of, kind_of}
 use Rattle.cv_cut.proofs.Ends.{HasLast, some_last}
 use Rattle.cv_cut.proofs.RowFacts.{row_key, row_kind, row_name, parent_at, name_at, root_row, transition_marked, marked_transition, directory_unmarked, file_node, node_file, nested_root_at}

@@ -6,14 +6,14 @@ use Rattle.std.proofs.lemmas.Str.{IsUtf8-nil, is_utf8-from_IsUtf8}
 use Rattle.cv_base.specs.Path.{Path, key_of, is_path_name, parent_key_of, last_name_of}
 use Rattle.cv_base.specs.Target.{is_target}
 use Rattle.cv_base.proofs.Laws.{first_true, second_true}
-use Rattle.cv_tree.specs.Tree.{Nodes, is_directory}
+use Rattle.cv_tree.specs.Tree.{Nodes, is_directory, is_file}
 use Rattle.cv_tree.specs.declared.node.Node.{Node}
 use Rattle.cv_tree.specs.declared.node.Node.TheVariants as node
 use Rattle.cv_rows.specs.Row.{holds_rows}
 use Rattle.cv_rows.specs.Places.{IsRoot, root_kind}
 use Rattle.cv_rows.specs.declared.row_kind.RowKind.{RowKind}
 use Rattle.cv_rows.specs.declared.row_kind.RowKind.TheVariants.{Directory, Transition, NestedRoot, File}
-use Rattle.cv_cut.specs.Cuts.{is_file, is_marked}
+use Rattle.cv_cut.specs.Cuts.{is_marked}
 use Rattle.cv_cut.specs.Catalogues.{kind_of, row_of}
 use Rattle.cv_rows.proofs.Lemmas.{path_name-target}
 use Rattle.cv_cut.proofs.Ends.{parent_key-append, last_name-append}
@@ -69,7 +69,8 @@ root_row c u n = record {
 
 -- ---- kinds
 
-root_not : (c : Path) → root_kind c ≢ Transition
+-- a root row is no Transition
+pub root_not : (c : Path) → root_kind c ≢ Transition
 root_not [] h = cc
 root_not (a ∷ c) h = cc
 

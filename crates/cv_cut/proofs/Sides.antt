@@ -1,10 +1,8 @@
 -- Sorted paths: which of them stand before a path, and which of them it covers.
-use Rattle.std.proofs.Common.{◌≡◌, ℕ, zero, suc, ◌<◌, ◌≤◌, Bool, true, false, cond, not, None, List, [], ◌∷◌, ◌++◌, take, drop, length, get_or, refl, sym, ap, subst, ◌∙◌, append_assoc, arith, is_some, inl, inr}
+use Rattle.std.proofs.Common.{◌≡◌, ℕ, zero, suc, ◌<◌, ◌≤◌, Bool, true, false, cond, not, List, [], ◌∷◌, ◌++◌, take, drop, length, get_or, refl, sym, ap, subst, ◌∙◌, append_assoc, arith, is_some, inl, inr}
 use Rattle.std.specs.Prelude.{Contains}
-use Rattle.std.specs.declared.cmp.Ordering.TheVariants.{Less, Equal, Greater}
-use Rattle.std.specs.Ordering.{is_lt, ordering_then}
-use Rattle.std.specs.Cmp.{tied_itself}
-use Rattle.std.specs.Cmp.Lexicographic.{nat_list_cmp_total}
+use Rattle.std.specs.declared.cmp.Ordering.TheVariants.{Less}
+use Rattle.std.specs.Ordering.{is_lt}
 use Rattle.std.specs.List.{filter}
 use Rattle.std.specs.List.Sorted.{IsStrictlySortedBy, IsPartitionedBy, IsPartitionPoint}
 use Rattle.std.specs.Map.{keys_of}
@@ -15,47 +13,16 @@ use Rattle.std.proofs.Math.Seq.{take-nil, drop-nil}
 use Rattle.std.proofs.lemmas.Bool.{cases_lt, not-true}
 use Rattle.std.proofs.lemmas.List.{length-map}
 use Rattle.std.proofs.lemmas.List.Elements.{All-from_recursion, filter_passes}
-use Rattle.cv_base.specs.Path.{Path, name_cmp, path_cmp, same_name, behind, covers}
-use Rattle.cv_base.specs.PathOrder.{path_total, name_exact, same_name_is, same_name_itself}
+use Rattle.cv_base.specs.Path.{Path, path_cmp, covers}
+use Rattle.cv_base.specs.PathOrder.{path_total}
 use Rattle.cv_base.proofs.Laws.{behind-Some, behind-append}
 use Rattle.cv_tree.specs.declared.node.Node.{Node}
+use Rattle.cv_tree.proofs.Laws.{covers_before, covers_between}
 use Rattle.cv_cut.specs.CutInner.{StandFrom}
 use Rattle.cv_cut.proofs.Members.{first_there, later_there}
 use Rattle.cv_cut.proofs.Between.{behind_it}
 use Rattle.cv_cut.proofs.RegionPaths.{keys_rise}
 use Rattle.cv_cut.proofs.Bools.{so, is_less}
-
--- ---- two paths
-
--- a path doesn't stand before one that covers it
-pub covers_before : (d p : Path) → covers d p ≡ true → is_lt (path_cmp p d) ≡ false
-covers_before [] [] h = refl
-covers_before [] (b ∷ p) h = refl
-covers_before (a ∷ d) [] h = cc
-covers_before (a ∷ d) (b ∷ p) h =
-    elim (same_name a b) as (λ s. same_name a b ≡ s → is_some (cond s (behind d p) None) ≡ true → is_lt (ordering_then (name_cmp b a) (path_cmp p d)) ≡ false) [
-      | true ↦ λ e more.
-          subst (λ (x : List ℕ). is_lt (ordering_then (name_cmp x a) (path_cmp p d)) ≡ false) (same_name_is a b e)
-          (ap (λ o. is_lt (ordering_then o (path_cmp p d))) (tied_itself nat_list_cmp_total a) ∙ covers_before d p more)
-      | false ↦ λ e more. cc
-    ] refl h
-
--- between a path and one that it covers stand only paths that it covers
-covers_between : (p q r : Path) → is_lt (path_cmp q p) ≡ false → path_cmp q r ≡ Less → covers p r ≡ true → covers p q ≡ true
-covers_between [] q r from before h = refl
-covers_between (a ∷ p) q [] from before h = cc
-covers_between (a ∷ p) [] (c ∷ r) from before h = cc
-covers_between (a ∷ p) (b ∷ q) (c ∷ r) from before h =
-    elim (same_name a c) as (λ s. same_name a c ≡ s → is_some (cond s (behind p r) None) ≡ true → is_some (cond (same_name a b) (behind p q) None) ≡ true) [
-      | true ↦ λ e more.
-          let here : ordering_then (name_cmp b a) (path_cmp q r) ≡ Less = ap (λ (x : List ℕ). ordering_then (name_cmp b x) (path_cmp q r)) (same_name_is a c e) ∙ before in
-          elim (name_cmp b a) as (λ o. name_cmp b a ≡ o → is_lt (ordering_then o (path_cmp q p)) ≡ false → ordering_then o (path_cmp q r) ≡ Less → is_some (cond (same_name a b) (behind p q) None) ≡ true) [
-            | Less ↦ λ f g k. cc
-            | Equal ↦ λ f g k. subst (λ (x : List ℕ). is_some (cond (same_name a x) (behind p q) None) ≡ true) (sym (name_exact b a f)) (rw (same_name_itself a) (covers_between p q r g k more))
-            | Greater ↦ λ f g k. cc
-          ] refl from here
-      | false ↦ λ e more. cc
-    ] refl h
 
 pub covers_through : (p q r : Path) → covers p q ≡ true → covers q r ≡ true → covers p r ≡ true
 covers_through p q r h k =

@@ -7,6 +7,7 @@ use Rattle.std.specs.Int.{w32, w64, to_be_bytes}
 use Rattle.std.specs.List.{filter}
 use Rattle.std.specs.List.Sorted.{IsStrictlySortedBy}
 use Rattle.std.specs.FinMap.{empty, get, entries, values, from_entries, get-insert, get-empty, same_map}
+use Rattle.cv_base.specs.BytesOrder.{bytes_cmp}
 use Rattle.cv_base.specs.Path.{Path, path_cmp, text_of, key_of, no_key}
 use Rattle.cv_base.specs.PathOrder.{path_total, path_exact, same_path_is}
 use Rattle.cv_base.specs.declared.attr.Attr.{Attr}
@@ -15,7 +16,7 @@ use Rattle.cv_tree.specs.declared.node.Node.TheVariants.{Dir}
 use Rattle.cv_base.specs.Attr.{IsAttr}
 use Rattle.cv_tree.specs.Tree.{Nodes, IsTree, single, at}
 use Rattle.cv_tree.proofs.Laws.{entries-from_entries, get-at, IsTree-single}
-use Rattle.cv_rows.specs.Catalogue.{bytes_cmp, file_of}
+use Rattle.cv_rows.specs.Catalogue.{file_of}
 use Rattle.cv_rows.specs.Row.{row_bytes, text_field}
 use Rattle.cv_rows.specs.declared.row.Row.{Row}
 use Rattle.cv_rows.specs.declared.nested.Nested.{Nested}

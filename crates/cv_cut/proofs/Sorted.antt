@@ -11,9 +11,9 @@ use Rattle.std.specs.FinMap.{IsAntisymmetric, slice_cmp-IsAntisymmetric, nat_cmp
 use Rattle.std.specs.FinMap.Entries.{below_all, by_order}
 use Rattle.std.proofs.lemmas.List.{nil_from_length}
 use Rattle.std.proofs.lemmas.List.Sorted.{IsPermutation-refl, IsPermutation-sym, IsPermutation-cons, IsPermutation-trans, IsPermutation-middle, IsPermutation-map, Contains-permutation}
-use Rattle.cv_rows.specs.Catalogue.{bytes_cmp}
 use Rattle.cv_rows.specs.Made.{AreApart}
 use Rattle.std.proofs.lemmas.Option.{slice_get-get_or}
+use Rattle.cv_base.specs.BytesOrder.{bytes_cmp}
 use Rattle.cv_base.proofs.Laws.{first_true, second_true}
 use Rattle.cv_cut.proofs.Members.{first_there, later_there, comes_from}
 use Rattle.cv_cut.proofs.Entries.{found_there}

@@ -1,6 +1,6 @@
 -- Entries of a tree have the nodes that stand at their paths.
 use Rattle.std.proofs.Common.{◌≡◌, Some, List, [], refl, sym, subst, ◌∙◌, get_or}
-use Rattle.std.specs.List.{All, filter}
+use Rattle.std.specs.List.{All}
 use Rattle.std.specs.FinMap.{get, entries}
 use Rattle.std.proofs.lemmas.List.Elements.{All-filter, Contains-get_or}
 use Rattle.cv_base.specs.Path.{Path, covers}

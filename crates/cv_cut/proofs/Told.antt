@@ -7,7 +7,7 @@ use Rattle.std.proofs.lemmas.List.Sorted.{IsPermutation-sym, Contains-permutatio
 use Rattle.cv_base.specs.Marker.{marker}
 use Rattle.cv_base.specs.Path.{Path, text_of}
 use Rattle.cv_base.proofs.Laws.{first_true}
-use Rattle.cv_tree.specs.Tree.{Nodes, IsTree, at, is_directory}
+use Rattle.cv_tree.specs.Tree.{Nodes, IsTree, at, is_directory, is_file}
 use Rattle.cv_tree.specs.declared.node.Node.{Node}
 use Rattle.cv_tree.specs.declared.node.Node.TheVariants as node
 use Rattle.cv_tree.proofs.Laws.{get-at}
@@ -20,7 +20,7 @@ use Rattle.cv_rows.specs.declared.nested.Nested.{Nested}
 use Rattle.cv_rows.specs.declared.row_kind.RowKind.{RowKind}
 use Rattle.cv_rows.specs.declared.row_kind.RowKind.TheVariants as kind
 use Rattle.cv_rows.proofs.Lemmas.{one_file, has_file}
-use Rattle.cv_cut.specs.Cuts.{is_cut, is_marked, is_file}
+use Rattle.cv_cut.specs.Cuts.{is_cut, is_marked}
 use Rattle.cv_cut.specs.Catalogues.{kind_of, row_of, entry_of, rows_of, nested_of, cat, Fits}
 use Rattle.cv_cut.specs.Reached.{Place, root_place, Decodes}
 use Rattle.cv_cut.specs.Over.{IsNearest}
@@ -130,12 +130,12 @@ module _ (t : Nodes) (tree : IsTree t) (c : Path) (cut : is_cut t c ≡ true) (a
   transition_cut : {r : Row} {q : Path} → IsRowThere c (at t c) r q → r.kind ≡ kind.Transition → is_cut t q ≡ true
   transition_cut {q = q} s is =
       let m = transition_marked c (at t c) s.rest s.node_ (sym (row_kind_is s) ∙ is) in
-      marked_cut t q (ap (is_marked t) s.place ∙ sym (marked-at t c s.rest) ∙ m.1)
+      marked_cut t q (ap (is_marked t) s.place ∙ marked-at t c s.rest ∙ m.1)
 
   cut_transition : {r : Row} {q : Path} → IsRowThere c (at t c) r q → q ≢ c → is_cut t q ≡ true → r.kind ≡ kind.Transition
   cut_transition {q = q} s other is =
       let some : s.rest ≢ [] = λ none. other (s.place ∙ ap (λ (w : Path). c ++ w) none ∙ append-nil c) in
-      let marked : is_marked (at t c) s.rest ≡ true = marked-at t c s.rest ∙ ap (is_marked t) (sym s.place) ∙ cut_marked t q (λ none. append_some c s.rest some (sym s.place ∙ none)) is in
+      let marked : is_marked (at t c) s.rest ≡ true = sym (marked-at t c s.rest) ∙ ap (is_marked t) (sym s.place) ∙ cut_marked t q (λ none. append_some c s.rest some (sym s.place ∙ none)) is in
       let directory : is_directory (Some s.node_) ≡ true = ap is_directory (sym s.there.there) ∙ first_true (is_directory (get (at t c) s.rest)) (is_file (get (at t c) (s.rest ++ marker ∷ []))) marked in
       row_kind_is s ∙ marked_transition c (at t c) s.rest s.node_ some directory marked
 

@@ -7,7 +7,8 @@ use Rattle.cv_base.specs.PathOrder.{path_total, path_exact}
 use Rattle.cv_tree.specs.Tree.{Nodes, at, put}
 use Rattle.cv_tree.proofs.Laws.{at_rest, get-at, get-put}
 use Rattle.cv_cut.specs.Cuts.{is_marked, is_cut}
-use Rattle.cv_cut.proofs.MarkLaws.{marked-at, marked-out, marked-in}
+use Rattle.cv_cut.proofs.Between.{marked-at}
+use Rattle.cv_cut.proofs.MarkLaws.{marked-out, marked-in}
 use Rattle.cv_cut.proofs.Joined.{behind-shift}
 
 -- a replacement below a place, seen from the place

@@ -7,11 +7,12 @@ use Rattle.std.specs.declared.cmp.Ordering.TheVariants.{Less}
 use Rattle.std.proofs.lemmas.List.Concat.{flat_map-cons}
 use Rattle.std.specs.List.Sorted.{IsStrictlySortedBy}
 use Rattle.std.proofs.lemmas.List.Folds.{list_all_at}
+use Rattle.cv_base.specs.BytesOrder.{bytes_cmp}
 use Rattle.cv_base.specs.Marker.{marker, ends_in}
 use Rattle.cv_base.specs.Path.{Path, covers, same_path, text_of}
 use Rattle.cv_base.proofs.Laws.{digest_sha1}
 use Rattle.cv_tree.specs.Tree.{Nodes, at, put}
-use Rattle.cv_rows.specs.Catalogue.{Contents, catalogue_bytes, bytes_cmp, nested_cmp}
+use Rattle.cv_rows.specs.Catalogue.{Contents, catalogue_bytes, nested_cmp}
 use Rattle.cv_rows.specs.Row.{text_field}
 use Rattle.cv_rows.specs.Nested.{nested_bytes}
 use Rattle.cv_rows.specs.declared.row.Row.{Row}

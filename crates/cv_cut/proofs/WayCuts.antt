@@ -15,8 +15,8 @@ use Rattle.cv_cut.specs.Cuts.{is_cut, is_marked, is_near, between}
 use Rattle.cv_cut.specs.Cut.{catalogue_object}
 use Rattle.cv_cut.proofs.Members.{first_there, later_there}
 use Rattle.cv_cut.specs.Above.{above, cuts_above, made_from}
-use Rattle.cv_cut.proofs.MarkLaws.{between-behind, marked-at}
-use Rattle.cv_cut.proofs.Between.{between_is}
+use Rattle.cv_cut.proofs.MarkLaws.{between-behind}
+use Rattle.cv_cut.proofs.Between.{between_is, marked-at}
 use Rattle.cv_cut.specs.Region.{StandsOnWay}
 
 -- ---- filters

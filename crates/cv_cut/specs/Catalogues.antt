@@ -1,13 +1,15 @@
 -- The canonical catalogue of a cut, and the root of a tree.
-use Rattle.std.specs.Prelude.{◌≡◌, ◌≢◌, ◌<◌, ◌⊎◌, ℕ, zero, suc, List, [], ◌∷◌, ◌++◌, map, length, Some, None, IsTrue, IsSome, if◌then◌else◌}
+use Rattle.std.specs.Prelude.{◌≡◌, ◌≢◌, ◌<◌, ◌⊎◌, ◌+◌, ℕ, zero, suc, List, [], ◌∷◌, ◌++◌, map, length, Some, None, IsTrue, IsSome, if◌then◌else◌}
 use Rattle.std.specs.FinMap.{get, from_entries, values}
 use Rattle.sha1.specs.Sha1.{sha1}
+use Rattle.cv_base.specs.BytesOrder.{bytes_cmp}
 use Rattle.cv_base.specs.declared.limits.TheConstants.{OBJECT_LIMIT}
+use Rattle.cv_base.specs.declared.repo_path.TheConstants.{NAMES_LIMIT}
 use Rattle.cv_base.specs.Path.{Path, text_of, key_of, parent_key_of, last_name_of}
 use Rattle.cv_tree.specs.Tree.{Nodes, at}
 use Rattle.cv_tree.specs.declared.node.Node.{Node}
 use Rattle.cv_tree.specs.declared.node.Node.TheVariants as node
-use Rattle.cv_rows.specs.Catalogue.{Contents, bytes_cmp, catalogue_bytes}
+use Rattle.cv_rows.specs.Catalogue.{Contents, catalogue_bytes}
 use Rattle.cv_rows.specs.Places.{root_kind}
 use Rattle.cv_rows.specs.declared.limits.TheConstants.{ROW_LIMIT}
 use Rattle.cv_rows.specs.declared.row.Row.{Row}
@@ -82,9 +84,13 @@ unfoldable pub catalogue : ℕ → Path → Nodes → List ℕ
 catalogue zero c u = []
 catalogue (suc n) c u = row_file c u (λ d. catalogue n (c ++ d) (at u d))
 
+-- the same where u is what stands at c in a tree, whose paths have at most NAMES_LIMIT names
+abbrev pub catalogue_of : Path → Nodes → List ℕ
+catalogue_of c u = catalogue (NAMES_LIMIT + 1) c u
+
 -- the canonical catalogue of a cut of a tree
 abbrev pub cat : Nodes → Path → List ℕ
-cat t c = catalogue 65 c (at t c)
+cat t c = catalogue_of c (at t c)
 
 -- and the same, decoded
 abbrev pub contents_of : Nodes → Path → Contents

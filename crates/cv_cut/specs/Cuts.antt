@@ -1,18 +1,11 @@
 -- The cuts of a tree, and the regions between them.
-use Rattle.std.specs.Prelude.{Bool, true, false, not, ◌&&◌, List, [], ◌∷◌, ◌++◌, map, Option, Some, None}
+use Rattle.std.specs.Prelude.{Bool, true, false, not, ◌&&◌, List, [], ◌∷◌, ◌++◌, map}
 use Rattle.std.specs.List.{filter, list_all}
 use Rattle.std.specs.FinMap.{get, entries, keys}
 use Rattle.cv_base.specs.Path.{Path}
 use Rattle.cv_base.specs.Marker.{marker}
-use Rattle.cv_tree.specs.Tree.{Nodes, is_directory}
+use Rattle.cv_tree.specs.Tree.{Nodes, is_directory, is_file}
 use Rattle.cv_tree.specs.declared.node.Node.{Node}
-use Rattle.cv_tree.specs.declared.node.Node.TheVariants.{Dir, File, Link}
-
-abbrev pub is_file : Option Node → Bool
-is_file None = false
-is_file (Some (Dir attr)) = false
-is_file (Some (File attr file)) = true
-is_file (Some (Link attr target)) = false
 
 -- a directory that holds a regular file of the marker's name
 abbrev pub is_marked : Nodes → Path → Bool

@@ -2,8 +2,7 @@
 use Rattle.std.specs.Prelude.{◌≡◌, false, List, Contains, reverse}
 use Rattle.std.specs.FinMap.{get}
 use Rattle.cv_base.specs.Path.{Path}
-use Rattle.cv_tree.specs.Tree.{Nodes}
-use Rattle.cv_cut.specs.Cuts.{is_file}
+use Rattle.cv_tree.specs.Tree.{Nodes, is_file}
 use Rattle.cv_cut.specs.Catalogues.{SharesKey, IsFull}
 use Rattle.cv_cut.specs.declared.cut_fault.CutFault.{CutFault}
 use Rattle.cv_cut.specs.declared.cut_fault.CutFault.TheVariants.{PathCollision, CatalogueFull, NoMemory}

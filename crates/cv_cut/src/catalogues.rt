@@ -83,8 +83,6 @@ pub fn nested_catalogue<S: Shelf>(
         kind: Kind::Catalogue,
     };
     check_size(alloc, shelf, &below, nested.size, id)?;
-    let Some(row) = catalogue.find(nested.path.key()) else {
-        unreachable!();
-    };
-    catalogue_at(alloc, shelf, &below, &nested.path, Some(row))
+    let row = catalogue.row_at(&nested.path);
+    catalogue_at(alloc, shelf, &below, &nested.path, row)
 }

@@ -2,9 +2,8 @@
 ghost use Rattle.std.specs.Prelude.{◌≡◌, Some, IfOk, OnOk, IfErr, MatchOption};
 ghost use Rattle.std.specs.List.{All};
 ghost use Rattle.std.specs.BTreeMap.{Updates};
-ghost use Rattle.std.specs.Cmp.Lexicographic.{slice_cmp};
 ghost use Rattle.std.specs.FinMap as map;
-ghost use Rattle.std.specs.Ordering.{nat_cmp};
+ghost use Rattle.cv_base.specs.BytesOrder.{bytes_cmp};
 ghost use Rattle.cv_rows.specs.Made.{AreApart};
 ghost use Rattle.cv_tree.specs.Tree.{IsTree, at};
 ghost use Rattle.cv_cut.specs.Cut.{keys_at};
@@ -21,7 +20,7 @@ use std::collections::BTreeMap;
 
 /// Keeps the place of a key.
 fn note(seen: &mut BTreeMap<[u8; 16], usize>, key: [u8; 16], place: usize) -> Result<(), NoMemory>
-    ensures { OnOk result (Updates (slice_cmp nat_cmp) seen.old seen.new key (Some place)) }
+    ensures { OnOk result (Updates bytes_cmp seen.old seen.new key (Some place)) }
 {
     seen.insert(key, place)?;
     Ok(())

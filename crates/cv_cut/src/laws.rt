@@ -22,7 +22,7 @@ ghost use Rattle.cv_rows.specs.declared.row.Row.{Row as TheRow};
 ghost use Rattle.cv_rows.specs.declared.nested.Nested.{Nested as TheNested};
 ghost use Rattle.cv_rows.specs.declared.row_kind.RowKind.TheVariants as kind;
 ghost use Rattle.cv_cut.specs.Cuts.{is_cut, is_near};
-ghost use Rattle.cv_cut.specs.Catalogues.{row_file, entry_of, cat, catalogue, root_of, Fits, IsFull};
+ghost use Rattle.cv_cut.specs.Catalogues.{row_file, entry_of, cat, catalogue_of, root_of, Fits, IsFull};
 ghost use Rattle.cv_cut.specs.Reached.{Place, root_place, Decodes};
 ghost use Rattle.cv_cut.specs.Told.{node_of, IsEntryOfCut};
 ghost use Rattle.cv_cut.specs.Catalogues.{contents_of};
@@ -104,7 +104,7 @@ pub fn cuts_stay_and_come()
 
 /// A subtree is replaced by a part: the catalogues at its path and below are those of the part.
 pub fn parts_come()
-    ensures { (t s : Nodes) (p d : Path) → cat (put t p s) (p ++ d) ≡ catalogue 65 (p ++ d) (at s d) }
+    ensures { (t s : Nodes) (p d : Path) → cat (put t p s) (p ++ d) ≡ catalogue_of (p ++ d) (at s d) }
 {}
 
 /// A subtree is replaced by that of another tree: the catalogue that holds its path is the old one without the path, with the

@@ -4,8 +4,8 @@ ghost use Rattle.std.specs.FinMap as map;
 ghost use Rattle.cv_base.specs.Marker.{marker};
 ghost use Rattle.cv_base.specs.Path.{covers};
 ghost use Rattle.cv_base.specs.declared.path_fault.PathFault.TheVariants as faults;
-ghost use Rattle.cv_tree.specs.Tree.{IsTree};
-ghost use Rattle.cv_cut.specs.Cuts.{is_file, is_marked};
+ghost use Rattle.cv_tree.specs.Tree.{IsTree, is_file};
+ghost use Rattle.cv_cut.specs.Cuts.{is_marked};
 ghost use Rattle.cv_cut.specs.Cut.{is_other};
 
 use cv_base::{MARKER, NoMemory, PathFault, RepoPath};

@@ -22,16 +22,12 @@ fn same_fields(root: &Row, transition: &Row) -> bool
         && root.target.text() == transition.target.text()
 }
 
-/// Whether the root row of the catalogue at a place has the fields of the Transition row that names it.
-fn fits_row(catalogue: &Catalogue, at: &RepoPath, transition: &Row) -> bool
-    requires rules { IsCatalogue catalogue.now }
-    requires place { catalogue.now.at ≡ at.now }
+/// Whether the root row of a catalogue has the fields of the Transition row that names it.
+fn fits_row(catalogue: &Catalogue, transition: &Row) -> bool
+    requires { IsCatalogue catalogue.now }
     ensures { IsTrue result ↔ FitsRow catalogue.now transition.now }
 {
-    match catalogue.find(at.key()) {
-        Some(root) => same_fields(root, transition),
-        None => false,
-    }
+    same_fields(catalogue.root(), transition)
 }
 
 /// Whether a catalogue stands at a place: at a path, and with the fields of the Transition row that names it, if one does.
@@ -44,7 +40,7 @@ pub fn fits_place(catalogue: &Catalogue, at: &RepoPath, row: Option<&Row>) -> bo
         return false;
     }
     match row {
-        Some(transition) => fits_row(catalogue, at, transition),
+        Some(transition) => fits_row(catalogue, transition),
         None => true,
     }
 }

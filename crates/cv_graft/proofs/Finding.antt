@@ -12,12 +12,12 @@ use Rattle.cv_base.specs.declared.id.ObjectId.{ObjectId}
 use Rattle.cv_base.proofs.Laws.{first_true}
 use Rattle.cv_ports.specs.Calls.{raised, raised_by, RaisedAtMost}
 use Rattle.cv_ports.specs.Shelf.{Shelf}
-use Rattle.cv_tree.specs.Tree.{Nodes, at, is_directory, IsTree}
+use Rattle.cv_tree.specs.Tree.{Nodes, at, is_directory, IsTree, is_file}
 use Rattle.cv_tree.specs.declared.node.Node.{Node}
 use Rattle.cv_rows.specs.Catalogue.{Contents, catalogue_bytes}
 use Rattle.cv_rows.specs.declared.nested.Nested.{Nested}
 use Rattle.cv_rows.specs.declared.row.Row.{Row}
-use Rattle.cv_cut.specs.Cuts.{is_cut, is_file, is_marked, is_near}
+use Rattle.cv_cut.specs.Cuts.{is_cut, is_marked, is_near}
 use Rattle.cv_cut.specs.Catalogues.{entry_of, cat}
 use Rattle.cv_cut.specs.Above.{cuts_above, OnWay, Holds}
 use Rattle.cv_graft.specs.Graft.{HasWay}

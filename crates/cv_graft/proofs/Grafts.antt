@@ -33,44 +33,6 @@ use Rattle.cv_graft.specs.declared.graft_fault.GraftFault.TheVariants as fault
 use Rattle.cv_tree.proofs.Laws.{get-at, IsPart-at, IsTree-put}
 use Rattle.cv_cut.proofs.Lemmas.{some_last, made_all, at-root}
 
--- ---- the tree afterwards
-
-directory_some : (o : Option Node) → is_directory o ≡ true → IsSome o
-directory_some None h = cc
-directory_some (Some n) h = refl
-
--- what stands at a longer path stands at the path
-front_some : (n : Nodes) (p : Path) → IsPart n → (k : ℕ) (q : Path) → length q ≤ k → IsSome (get n (p ++ q)) → IsSome (get n p)
-front_some n p part k [] le some = subst (λ (x : Path). IsSome (get n x)) (append-nil p) some
-front_some n p part zero (a ∷ q) le some = absurd (omega arith)
-front_some n p part (suc k) (a ∷ q) le some =
-    let l = some_last (a ∷ q) (λ e. cc) in
-    let there : IsSome (get n ((p ++ l.front) ++ l.name ∷ [])) = subst (λ (x : Path). IsSome (get n x)) (ap (λ (x : Path). p ++ x) l.is ∙ sym (append_assoc p l.front (l.name ∷ []))) some in
-    front_some n p part k l.front (omega (arith, ap (λ (x : Path). length x) l.is, length-append l.front (l.name ∷ []))) (directory_some _ (part.parents (p ++ l.front) l.name there))
-
-none_of : (o : Option Node) → (IsSome o → ⊥) → o ≡ None
-none_of None h = refl
-none_of (Some x) h = absurd (h refl)
-
-nothing_at : (n : Nodes) (p : Path) → IsPart n → get n p ≡ None → at n p ≡ empty
-nothing_at n p part none = same_map path_total path_exact _ _ (λ q.
-    none_of (get (at n p) q) (λ some. (let there = front_some n p part (length q) q (omega arith) (subst IsSome (get-at n p q) some) in let wrong : is_some (get n p) ≡ false = ap is_some none in cc))
-    ∙ sym (get-empty path_cmp q))
-
-pub tree_after : (t n : Nodes) (p : Path) → IsTree t → IsTree n → has_place t p ≡ true → IsTree (put t p (at n p))
-tree_after t n p tree other place = of (get n p) refl
-  where
-    fits : (q : Path) → IsSome (get (at n p) q) → IsPath (p ++ q)
-    fits q some = other.part.paths (p ++ q) (subst IsSome (get-at n p q) some)
-
-    top : p ≡ [] → IsTrue (is_directory (get (at n p) []))
-    top none = ap is_directory (get-at n p [] ∙ ap (λ (x : Path). get n (x ++ [])) none) ∙ other.root
-
-    of : (o : Option Node) → get n p ≡ o → IsTree (put t p (at n p))
-    of None e = subst (λ (s : Nodes). IsTree (put t p s)) (sym (nothing_at n p other.part e))
-        (IsTree-put t p None tree tt place (subst (FitsUnder p) (nothing_at n p other.part e) fits) (λ none. subst (λ (s : Nodes). IsTrue (is_directory (get s []))) (nothing_at n p other.part e) (top none)))
-    of (Some x) e = IsTree-put t p (Some (at n p)) tree (IsPart-at n p other.part (ap is_some e)) place fits top
-
 -- ---- below it
 
 pub root_way : (t : Nodes) (p : Path) → p ≢ [] → OnWay t p [] p

@@ -142,11 +142,3 @@ pub cut_not_failed : (X : Type 0) (f : CutFault) → Fails {X = X} (Err (of_cut 
 cut_not_failed X (cut.PathCollision a b) is = cc
 cut_not_failed X (cut.CatalogueFull c) is = cc
 cut_not_failed X cut.NoMemory is = cc
-
--- ---- what is ready
-
-pub own_piece : (x : Piece) (t : Nodes) (p : Path) → IsPiece x t p → IsPiece x x.tree p
-own_piece x t p h = subst (λ (u : Nodes). IsPiece x u p) (sym h.tree) h
-
-pub own_only : (x : Piece) (t : Nodes) (p : Path) (s : Nodes) → IsPiece x t p → HasOnly t p s → HasOnly x.tree p s
-own_only x t p s h only = subst (λ (u : Nodes). HasOnly u p s) (sym h.tree) only

@@ -1,6 +1,7 @@
 -- What is made of the catalogues on the way where a part is set at a path, by a tree m that has the part there.
 use Rattle.std.proofs.Common.{◌≡◌, ◌≢◌, true, false, not, Bool, List, [], ◌∷◌, ◌++◌, map, reverse, length, Result, Err, is_some, refl, sym, ap, subst, ◌∙◌, append_assoc}
 use Rattle.std.specs.Prelude.{Contains}
+use Rattle.std.proofs.lemmas.Bool.{not-true}
 use Rattle.sha1.specs.Sha1.{sha1}
 use Rattle.cv_base.specs.Marker.{marker, ends_in}
 use Rattle.cv_base.specs.Path.{Path, covers, overlap, key_of}
@@ -93,7 +94,7 @@ module _ (t m : Nodes) (p c r : Path) (s : Nodes) (some : p ≢ []) (only : HasO
       let moved : StandsAt c (rows_of c (at t c)) w.row x = stands_among (λ z had. (was z had).0) (subst (λ (q : Path). StandsAt q h.rest.rows w.row x) h.without.at w.stands) in
       let cut = stands_at_cut t c a.tree a.holds.cut in
       let own = stands_only c (at t c) (rows_of c (at t c)) cut.part a.fits.apart (rows_are c (at t c) a.fits.apart) moved in
-      let out : covers r own.rest ≡ false = not_so (covers r own.rest) (sym (stays_at t m p c r placing h.rest h.without own.rest own.node_ own.there) ∙ ap h.without.stays (sym own.row) ∙ (was w.row top).1) in
+      let out : covers r own.rest ≡ false = not-true (covers r own.rest) (sym (stays_at t m p c r placing h.rest h.without own.rest own.node_ own.there) ∙ ap h.without.stays (sym own.row) ∙ (was w.row top).1) in
       let e = inside_each m p (y, w.node_) w.comes in
       let one = stays_there own.rest own.node_ own.there out in
       let other = subst (λ (u : Nodes). IsNear u (r ++ e.rest) w.node_) (sym (at_cut t m p c r placing)) (is_near-in c (at t c) r [] (at m []) p (holders t m p c r placing) e.rest w.node_ e.near) in
@@ -111,10 +112,6 @@ module _ (t m : Nodes) (p c r : Path) (s : Nodes) (some : p ≢ []) (only : HasO
         };
         over = over;
       }
-    where
-      not_so : (b : Bool) → not b ≡ true → b ≡ false
-      not_so true h = absurd cc
-      not_so false h = refl
 
   full_of : (d : Path) → IsFullThere (contents_of t c) p m d → FullOf t m p d
   full_of d (of_part x full inside) = record { full = full_below t m p d a.tree a.after inside full; over = rw inside refl; cut = c; rest = r; holds = a.holds; keys = rests_keys x }

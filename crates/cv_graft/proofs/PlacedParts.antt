@@ -4,6 +4,7 @@ use Rattle.std.specs.Prelude.{Contains, IsErrOf}
 use Rattle.std.specs.List.{All}
 use Rattle.std.proofs.lemmas.List.{map-append, take_more, take_all}
 use Rattle.std.proofs.lemmas.List.Elements.{All-contains, All-from_recursion, Contains-append_cases}
+use Rattle.std.proofs.lemmas.Bool.{not-true}
 use Rattle.cv_base.specs.Path.{Path, covers, key_of, text_of}
 use Rattle.cv_base.proofs.Laws.{text_of-injective}
 use Rattle.cv_ports.specs.Shelf.{Shelf}
@@ -33,10 +34,6 @@ use Rattle.cv_graft.specs.Way.{TellsDamage}
 use Rattle.cv_graft.specs.declared.graft_fault.GraftFault.{GraftFault}
 use Rattle.cv_graft.specs.declared.graft_fault.GraftFault.TheVariants as fault
 
-not_so : (b : Bool) → not b ≡ true → b ≡ false
-not_so true h = absurd cc
-not_so false h = refl
-
 -- no key stands twice
 pub all_keys : (rest : Contents) (m : Nodes) (p : Path) → IsTree m → IsCatalogue rest → ArePathsCrossed rest.rows (region_within m p) → AreApart (keys_at (region_within m p)) → AreApart (keys_of (rest.rows ++ rows_within m p))
 all_keys rest m p whole is crossed apart =
@@ -60,7 +57,7 @@ all_texts c rest m p whole is without =
     let w = entry_there m p whole b.0 b.1 in
     let own = All-contains IsNested rest.nested a.0 (All-from_recursion IsNested rest.nested is.region.nested_spelled) a.1 in
     let same = text_of-injective a.0.path b.0.path own.path w.0 (a.2 ∙ sym b.2) in
-    let wrong : true ≡ false = sym w.1 ∙ ap (covers p) (sym same) ∙ not_so (covers p a.0.path) was.1 in
+    let wrong : true ≡ false = sym w.1 ∙ ap (covers p) (sym same) ∙ not-true (covers p a.0.path) was.1 in
     cc))
 
 -- ---- a search for a key in both

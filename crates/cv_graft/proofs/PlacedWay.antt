@@ -16,6 +16,7 @@ use Rattle.cv_cut.specs.declared.cut_fault.CutFault.{CutFault}
 use Rattle.cv_cut.specs.declared.cut_fault.CutFault.TheVariants as cut
 use Rattle.cv_cut.specs.declared.load_fault.LoadFault.{LoadFault}
 use Rattle.cv_cut.specs.declared.load_fault.LoadFault.TheVariants as load
+use Rattle.cv_cut.proofs.Lemmas.{own_only, own_piece}
 use Rattle.cv_graft.specs.Faults.{of_load}
 use Rattle.cv_graft.specs.Makes.{as_object}
 use Rattle.cv_graft.specs.MakesInner.{IsKept, IsRemade, RefusesOn, Remakes}
@@ -28,7 +29,6 @@ use Rattle.cv_graft.specs.declared.made.Made.{Made}
 use Rattle.cv_graft.specs.declared.graft_fault.GraftFault.{GraftFault}
 use Rattle.cv_graft.specs.declared.graft_fault.GraftFault.TheVariants as fault
 use Rattle.cv_graft.proofs.Holders.{top_at}
-use Rattle.cv_graft.proofs.PlacedAbove.{own_only, own_piece}
 
 pub stands_alone : (x : Piece) (t s : Nodes) (p : Path) → IsPiece x t p → HasOnly t p s → StandsAlone s p x.tree
 stands_alone x t s p is only =

@@ -10,7 +10,7 @@ use Rattle.std.proofs.lemmas.Slice.Eq.{bytes_eq-Decides}
 use Rattle.cv_base.specs.Marker.{marker}
 use Rattle.cv_base.specs.Path.{Path}
 use Rattle.cv_ports.specs.Shelf.{Shelf}
-use Rattle.cv_tree.specs.Tree.{Nodes, IsTree, is_directory}
+use Rattle.cv_tree.specs.Tree.{Nodes, IsTree, is_directory, is_file}
 use Rattle.cv_tree.specs.declared.node.Node.{Node}
 use Rattle.cv_rows.specs.Row.{holds_rows, same_kind}
 use Rattle.cv_rows.specs.Catalogue.{Contents, IsMarkedWell, is_marker, has_marker}
@@ -21,7 +21,7 @@ use Rattle.cv_rows.specs.declared.row_kind.RowKind.{RowKind}
 use Rattle.cv_rows.specs.declared.row_kind.RowKind.TheVariants.{Directory, Transition, NestedRoot, File, Link}
 use Rattle.cv_rows.proofs.Lemmas.{stands_contained, same_by_key, one_place}
 use Rattle.cv_cut.specs.Reached.{Place, HasCatalogue, ReachesCatalogue, itself, nested, root_place}
-use Rattle.cv_cut.specs.Cuts.{is_file, is_marked}
+use Rattle.cv_cut.specs.Cuts.{is_marked}
 use Rattle.cv_base.specs.ObjectId.{object_id}
 use Rattle.cv_base.specs.declared.id.Kind.TheVariants as id_kind
 use Rattle.cv_base.proofs.Laws.{first_true, second_true}

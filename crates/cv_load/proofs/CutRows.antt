@@ -9,7 +9,7 @@ use Rattle.sha1.specs.Sha1.{sha1}
 use Rattle.cv_base.specs.Path.{Path}
 use Rattle.cv_base.specs.Marker.{marker}
 use Rattle.cv_tree.specs.Node.{IsNode}
-use Rattle.cv_tree.specs.Tree.{Nodes, is_directory}
+use Rattle.cv_tree.specs.Tree.{Nodes, is_directory, is_file}
 use Rattle.cv_tree.specs.declared.node.Node.{Node}
 use Rattle.cv_tree.specs.declared.node.Node.TheVariants.{Dir, File, Link}
 use Rattle.cv_rows.specs.Catalogue.{Contents, IsCatalogue, IsListed}
@@ -19,7 +19,7 @@ use Rattle.cv_rows.specs.declared.nested.Nested.{Nested}
 use Rattle.cv_rows.specs.declared.row_kind.RowKind.{RowKind}
 use Rattle.cv_rows.specs.declared.row_kind.RowKind.TheVariants as kind
 use Rattle.cv_rows.proofs.Lemmas.{stands_contained, one_place}
-use Rattle.cv_cut.specs.Cuts.{is_file, is_inner}
+use Rattle.cv_cut.specs.Cuts.{is_inner}
 use Rattle.cv_cut.specs.Catalogues.{kind_of, row_of, rows_of, nested_of}
 use Rattle.cv_cut.proofs.Lemmas.{row_kind, transition_marked, marked_transition}
 use Rattle.cv_cut.specs.Region.{IsNear, row_at, AreRowsOf, AreEntriesOf}

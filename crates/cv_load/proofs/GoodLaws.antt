@@ -14,15 +14,16 @@ use Rattle.cv_rows.specs.Places.{StandsAt}
 use Rattle.cv_rows.specs.declared.row.Row.{Row}
 use Rattle.cv_rows.specs.declared.nested.Nested.{Nested}
 use Rattle.cv_rows.specs.declared.row_kind.RowKind.TheVariants as kind
-use Rattle.cv_cut.specs.Reached.{Place, Decodes, HasCatalogue, Reaches, ReachedFrom, BadFrom, Misstates, root_place}
+use Rattle.cv_cut.specs.Reached.{Place, Decodes, HasCatalogue, Reaches, ReachedFrom, BadFrom, Misstates, root_place, Lacking, Bad}
 use Rattle.cv_cut.specs.Cuts.{is_cut}
 use Rattle.cv_cut.specs.Catalogues.{cat}
 use Rattle.cv_cut.specs.Means.{Means}
 use Rattle.cv_cut.specs.Catalogues.{contents_of}
 use Rattle.cv_load.proofs.OneTree.{cut_there}
 use Rattle.cv_load.proofs.Standing.{same_contents}
-use Rattle.cv_load.proofs.InTheWay.{IsCanonical, there_is, decodes_at, own_entry, canonical_entry, content_there, canonical_reached}
+use Rattle.cv_load.proofs.ReachedCuts.{IsCanonical, there_is, decodes_at, own_entry, canonical_entry, content_there, canonical_reached}
 use Rattle.cv_cut.specs.Good.{HasFile, HasSize, IsGood, good, IsWholeAt}
+use Rattle.cv_cut.specs.Opening.{HasOtherDigest, IsDamaged}
 use Rattle.cv_cut.proofs.Lemmas.{transition_long, one_decoding}
 
 -- ---- what is good, opened
@@ -117,6 +118,15 @@ good_is_not_bad {shelf} x is bad =
       | inr some ↦ states_rightly o.1 (subst (Misstates shelf) (one_decoding bad.place bad.bytes some.0 o.0 some.1 decodes) some.2)
     ]
 
+-- the bytes of a catalogue that is reached have its hash
+pub good_is_not_damaged : {shelf : Shelf} {from : List ℕ} {start : Place} {id : ObjectId} {found : List ℕ} → IsGood shelf from start → id.kind ≡ id_kind.Catalogue → ReachedFrom shelf from start id → HasOtherDigest shelf id found → ⊥
+good_is_not_damaged is kind (ReachedFrom.catalogue_ reached) damage =
+    let o = opened_good (good_below is reached) in
+    let one : Some damage.bytes ≡ Some o.1.has.bytes = sym damage.there ∙ o.1.has.there in
+    let same : damage.bytes ≡ o.1.has.bytes = cc in
+    damage.other (damage.digest ∙ ap sha1 same ∙ o.1.has.digest)
+good_is_not_damaged is kind (ReachedFrom.file reached has own is_file content) damage = absurd cc
+
 -- ---- what a meant tree has is good
 
 module _ {shelf : Shelf} {top : List ℕ} {t : Nodes} (is : Means shelf top t) where
@@ -141,3 +151,14 @@ module _ {shelf : Shelf} {top : List ℕ} {t : Nodes} (is : Means shelf top t) w
   -- and so is the catalogue of each cut
   pub good_cut : (p : Path) → is_cut t p ≡ true → IsWholeAt shelf (sha1 (cat t p)) p
   good_cut p cut = good_by 65 (record { cut = cut; named = refl; decodes = decodes_at is p None cut tt }) (omega arith)
+
+  -- ---- so nothing is in the way
+
+  pub none_lacking : (x : ObjectId) → Lacking shelf top x → ⊥
+  none_lacking x h = good_lacks_nothing good_root h.0 h.1
+
+  pub none_bad : (x : ObjectId) → Bad shelf top x → ⊥
+  none_bad x h = good_is_not_bad x good_root h
+
+  pub none_damaged : (id : ObjectId) (found : List ℕ) → IsDamaged shelf top id found → ⊥
+  none_damaged id found h = good_is_not_damaged good_root h.kind h.reached h.damage

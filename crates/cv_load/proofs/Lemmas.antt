@@ -3,7 +3,7 @@
 -- a good root means a tree
 pub use Rattle.cv_load.proofs.GoodTree.{a_tree_is_meant}
 -- where a hash means a tree nothing that is reached is lacking, bad or damaged
-pub use Rattle.cv_load.proofs.InTheWay.{none_lacking, none_bad, none_damaged}
+pub use Rattle.cv_load.proofs.GoodLaws.{none_lacking, none_bad, none_damaged}
 -- where rows and nested entries of a catalogue stand, and what is below them
 pub use Rattle.cv_load.proofs.Below.{covers_deeper, covers_itself, entries_apart, entry_below}
 -- the only node of a single node's tree

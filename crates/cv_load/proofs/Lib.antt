@@ -16,11 +16,12 @@ mod Fetching
 mod CutFetches
 mod Clearing
 mod Holders
-mod InTheWay
+mod ReachedCuts
 mod GoodTree
 mod GoodLaws
 mod Checks
 mod NewFetching
+mod NewPairs
 mod Listing
 mod Knowing
 pub mod Lemmas

@@ -7,7 +7,7 @@ use Rattle.sha1.specs.Sha1.{sha1}
 use Rattle.cv_base.specs.Marker.{marker}
 use Rattle.cv_base.specs.Path.{Path, key_of}
 use Rattle.cv_ports.specs.Shelf.{Shelf, IsShelf}
-use Rattle.cv_tree.specs.Tree.{Nodes, at, is_directory}
+use Rattle.cv_tree.specs.Tree.{Nodes, at, is_directory, is_file}
 use Rattle.cv_tree.specs.declared.node.Node.{Node}
 use Rattle.cv_tree.specs.declared.node.Node.TheVariants as node
 use Rattle.cv_rows.specs.Catalogue.{Contents, catalogue_bytes}
@@ -16,7 +16,6 @@ use Rattle.cv_rows.specs.declared.row_kind.RowKind.{RowKind}
 use Rattle.cv_rows.specs.declared.row_kind.RowKind.TheVariants.{Directory, Transition, NestedRoot, File, Link}
 use Rattle.cv_rows.proofs.Lemmas.{stands_contained}
 use Rattle.cv_cut.specs.Reached.{Place, ReachesCatalogue, itself, root_place}
-use Rattle.cv_cut.specs.Cuts.{is_file}
 use Rattle.cv_base.specs.ObjectId.{object_id}
 use Rattle.cv_base.specs.declared.id.Kind.TheVariants as id_kind
 use Rattle.cv_cut.specs.Told.{node_of, node_as}

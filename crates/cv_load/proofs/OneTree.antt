@@ -1,5 +1,5 @@
 -- On a shelf a hash means one tree at most.
-use Rattle.std.proofs.Common.{◌≡◌, ℕ, zero, suc, ◌+◌, ◌<◌, ◌≤◌, Bool, true, false, ◌&&◌, List, [], ◌∷◌, ◌++◌, length, Some, None, IsTrue, IsSome, is_some, refl, sym, ap, subst, ◌∙◌, arith, append_assoc, length-append}
+use Rattle.std.proofs.Common.{◌≡◌, ℕ, zero, suc, ◌+◌, ◌<◌, ◌≤◌, Bool, true, false, ◌&&◌, List, [], ◌∷◌, ◌++◌, length, Some, None, IsTrue, IsSome, is_some, refl, sym, ap, ◌∙◌, arith, length-append}
 use Rattle.std.specs.declared.option.Option.{Option}
 use Rattle.std.specs.FinMap.{get, same_map}
 use Rattle.sha1.specs.Sha1.{sha1}
@@ -9,15 +9,15 @@ use Rattle.cv_base.specs.Marker.{marker}
 use Rattle.cv_base.specs.ObjectId.{object_id}
 use Rattle.cv_base.specs.declared.id.Kind.TheVariants.{Catalogue}
 use Rattle.cv_ports.specs.Shelf.{Shelf}
-use Rattle.cv_tree.specs.Tree.{Nodes, IsTree, is_directory, at}
+use Rattle.cv_tree.specs.Tree.{Nodes, IsTree, is_directory, at, is_file}
 use Rattle.cv_tree.specs.declared.node.Node.{Node}
 use Rattle.cv_tree.proofs.Laws.{get-at, at-at}
 use Rattle.cv_rows.specs.Catalogue.{catalogue_bytes}
 use Rattle.cv_rows.proofs.Lemmas.{one_file, has_file}
-use Rattle.cv_cut.specs.Cuts.{is_file, is_marked, is_near, is_inner, is_cut}
+use Rattle.cv_cut.specs.Cuts.{is_near, is_inner, is_cut}
 use Rattle.cv_cut.specs.Catalogues.{cat}
 use Rattle.cv_cut.specs.Means.{Means}
-use Rattle.cv_cut.proofs.Lemmas.{cat_is, is_behind, at-root}
+use Rattle.cv_cut.proofs.Lemmas.{cat_is, is_behind, at-root, marked-at}
 use Rattle.cv_load.proofs.Kept.{AreKept, kept}
 use Rattle.cv_load.proofs.CutRows.{shared, one_hash, contents_at, transition_of_inner, inner_of_transition}
 use Rattle.cv_cut.specs.Region.{IsNear}
@@ -72,11 +72,8 @@ same_nodes u v over back = same_map path_total path_exact u v (λ q.
 -- another cut of what stands at a place is a cut of the tree
 pub inner_cut : (t : Nodes) (c d : Path) → IsTrue (is_inner (at t c) d) → IsTrue (is_cut t (c ++ d))
 inner_cut t c [] h = absurd cc
-inner_cut t [] (a ∷ p) h = subst (λ (w : Nodes). IsTrue (is_marked w (a ∷ p))) (at-root t) h
-inner_cut t (b ∷ c) (a ∷ p) h =
-    let there = get-at t (b ∷ c) (a ∷ p) in
-    let file = get-at t (b ∷ c) ((a ∷ p) ++ marker ∷ []) ∙ sym (ap (get t) (append_assoc (b ∷ c) (a ∷ p) (marker ∷ []))) in
-    sym (λ i. is_directory (there i) && is_file (file i)) ∙ h
+inner_cut t [] (a ∷ p) h = marked-at t [] (a ∷ p) ∙ h
+inner_cut t (b ∷ c) (a ∷ p) h = marked-at t (b ∷ c) (a ∷ p) ∙ h
 
 pub cut_there : (t : Nodes) (c : Path) → IsTree t → IsTrue (is_cut t c) → IsSome (get t c)
 cut_there t [] tree h = tree.part.root

@@ -9,13 +9,13 @@ use Rattle.sha1.specs.Sha1.{sha1}
 use Rattle.cv_base.specs.Marker.{marker}
 use Rattle.cv_base.specs.Path.{Path}
 use Rattle.cv_ports.specs.Shelf.{Shelf}
-use Rattle.cv_tree.specs.Tree.{Nodes, at, is_directory}
+use Rattle.cv_tree.specs.Tree.{Nodes, at, is_directory, is_file}
 use Rattle.cv_rows.specs.Catalogue.{Contents, catalogue_bytes}
 use Rattle.cv_rows.specs.Places.{root}
 use Rattle.cv_rows.specs.declared.nested.Nested.{Nested}
 use Rattle.cv_rows.specs.declared.row_kind.RowKind.TheVariants.{Transition}
 use Rattle.cv_cut.specs.Reached.{Place, ReachesCatalogue, nested}
-use Rattle.cv_cut.specs.Cuts.{is_file, is_marked}
+use Rattle.cv_cut.specs.Cuts.{is_marked}
 use Rattle.cv_base.specs.ObjectId.{object_id}
 use Rattle.cv_base.specs.declared.id.Kind.TheVariants as id_kind
 use Rattle.cv_cut.specs.Told.{node_of}
@@ -24,8 +24,8 @@ use Rattle.cv_load.proofs.Assembly.{IsWhole, full_of, node_there, open_marked}
 use Rattle.cv_load.proofs.Standing.{IsOpen, Standing, rules_of, same_contents}
 use Rattle.std.specs.Prelude.{IsSomeAnd}
 use Rattle.cv_cut.specs.Catalogues.{kind_of}
-use Rattle.cv_cut.proofs.Lemmas.{order_rises, same_list, cat_is, stands_at_cut, nested_list, texts_apart, nested_of-by_text, marked_transition, entries_are, transition_long, transition_of}
-use Rattle.cv_load.proofs.WholeRegions.{marked_at, transition_marked, row_near}
+use Rattle.cv_cut.proofs.Lemmas.{order_rises, same_list, cat_is, stands_at_cut, nested_list, texts_apart, nested_of-by_text, marked_transition, entries_are, transition_long, transition_of, marked-at}
+use Rattle.cv_load.proofs.WholeRegions.{transition_marked, row_near}
 use Rattle.cv_base.specs.Path.{text_of}
 use Rattle.cv_base.proofs.Laws.{first_true}
 use Rattle.cv_rows.specs.Catalogue.{nested_cmp, file_of}
@@ -90,7 +90,7 @@ module _ {shelf : Shelf} {top : List ℕ} {t : Nodes} (whole : IsWhole shelf top
           node_ = node_of tr.0;
           there = near.2;
           below = λ none. (let size = ap (λ (p : Path). length p) (near.1 ∙ ap (λ (x : Path). c.at ++ x) none ∙ append-nil c.at) in omega (arith, long, size));
-          marked = marked_at t c.at near.0 ∙ ap (is_marked t) (sym near.1) ∙ transition_marked whole n.path s tr.1.kind;
+          marked = sym (marked-at t c.at near.0) ∙ ap (is_marked t) (sym near.1) ∙ transition_marked whole n.path s tr.1.kind;
         },
         entry ∙ ap (λ (p : Path). entry_of p (cat t p)) near.1,
       )

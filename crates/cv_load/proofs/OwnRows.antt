@@ -30,9 +30,9 @@ use Rattle.cv_base.specs.Digest.{IsDigest}
 use Rattle.cv_rows.specs.Row.{IsRow, HasContent}
 use Rattle.cv_rows.specs.Catalogue.{row_cmp}
 use Rattle.cv_cut.specs.Catalogues.{kind_of, row_of, rows_of}
-use Rattle.cv_cut.proofs.Lemmas.{parent_key-append, last_name-append, row_list, keys_apart, rows_of-by_key, order_rises, rows_are, same_list}
+use Rattle.cv_cut.proofs.Lemmas.{parent_key-append, last_name-append, row_list, keys_apart, rows_of-by_key, order_rises, rows_are, same_list, marked-at}
 use Rattle.cv_cut.specs.Told.{hash_of}
-use Rattle.cv_load.proofs.WholeRegions.{marked_at, near_by, transition_marked, row_near}
+use Rattle.cv_load.proofs.WholeRegions.{near_by, transition_marked, row_near}
 use Rattle.cv_cut.specs.Region.{IsNear, row_at, KeysApart, AreRowsOf}
 
 -- ---- the row of a node
@@ -99,8 +99,8 @@ module _ {shelf : Shelf} {top : List ℕ} {t : Nodes} (whole : IsWhole shelf top
     | so_root has is_r at_r ↦ absurd (nothing_behind c.at a s at_r)
     | so_below p front has other up child way ↦
         let here : Standing shelf top (c.at ++ a ∷ s) = record { hash = hash; place = place; contents = c; open_ = o; row = r; stands = stands } in
-        kind_below c.at (at t c.at) a s r (λ kind. marked_at t c.at (a ∷ s) ∙ directory_unmarked whole (c.at ++ a ∷ s) here kind other)
-        (λ kind. marked_at t c.at (a ∷ s) ∙ transition_marked whole (c.at ++ a ∷ s) here kind) child.kind
+        kind_below c.at (at t c.at) a s r (λ kind. sym (marked-at t c.at (a ∷ s)) ∙ directory_unmarked whole (c.at ++ a ∷ s) here kind other)
+        (λ kind. sym (marked-at t c.at (a ∷ s)) ∙ transition_marked whole (c.at ++ a ∷ s) here kind) child.kind
   ]
 
   pub row_is : {hash : List ℕ} {place : Place} {c : Contents} → IsOpen shelf top hash place c → (s : Path) (r : Row) → StandsAt c.at c.rows r (c.at ++ s) → r ≡ row_at c.at (at t c.at) s (node_of r)

@@ -13,7 +13,8 @@ use Rattle.std.specs.Cmp.Lexicographic.{nat_list_cmp_total}
 use Rattle.std.proofs.lemmas.Bool.{cases_lt}
 use Rattle.std.proofs.lemmas.List.{get_or_default}
 use Rattle.std.proofs.lemmas.Map.Keys.{Less-from_sorted}
-use Rattle.cv_rows.specs.Catalogue.{Contents, IsCatalogue, bytes_cmp, nested_cmp}
+use Rattle.cv_base.specs.BytesOrder.{bytes_cmp}
+use Rattle.cv_rows.specs.Catalogue.{Contents, IsCatalogue, nested_cmp}
 use Rattle.cv_rows.specs.Places.{IsRoot, IsChild, StandsAt, root, below, root_kind}
 use Rattle.cv_rows.specs.declared.row.Row.{Row}
 use Rattle.cv_rows.specs.declared.nested.Nested.{Nested}
@@ -24,7 +25,7 @@ use Rattle.cv_cut.specs.Reached.{Place, Decodes, HasCatalogue, ReachesCatalogue,
 use Rattle.cv_cut.specs.Told.{node_of, node_as}
 use Rattle.cv_load.proofs.Filling.{one_row}
 use Rattle.cv_cut.specs.Open.{FitsRow}
-use Rattle.cv_cut.proofs.Lemmas.{one_decoding, transition_long}
+use Rattle.cv_cut.proofs.Lemmas.{one_decoding, transition_long, root_not}
 
 -- ---- by equations
 
@@ -139,10 +140,6 @@ one_entry c m n is has had same =
             sym has.2 ∙ ap (λ (k : ℕ). get_or c.nested k m) one ∙ get_or_default c.nested j m n had.1 ∙ had.2
       ]
     ]
-
-root_not : (c : Path) → root_kind c ≢ Transition
-root_not [] h = cc
-root_not (a ∷ c) h = cc
 
 pub holds_not : (k : RowKind) → k ≡ Transition → holds_rows k ≡ true → ⊥
 holds_not k is h = let f : false ≡ true = ap holds_rows (sym is) ∙ h in cc

@@ -1,10 +1,9 @@
 -- The regions of a tree that all rows of reached catalogues make.
-use Rattle.std.proofs.Common.{◌≡◌, ◌≢◌, ℕ, zero, suc, ◌≤◌, true, false, ◌&&◌, List, [], ◌∷◌, ◌++◌, length, Some, refl, sym, ap, subst, ◌∙◌, arith, append-nil, append_assoc, length-append}
+use Rattle.std.proofs.Common.{◌≡◌, ◌≢◌, ℕ, zero, suc, ◌≤◌, true, false, List, [], ◌∷◌, ◌++◌, length, Some, refl, sym, ap, subst, ◌∙◌, arith, append-nil, append_assoc, length-append}
 use Rattle.std.specs.Prelude.{Contains}
 use Rattle.std.specs.FinMap.{get}
 use Rattle.std.proofs.lemmas.List.{append_cancel_left}
 use Rattle.std.proofs.lemmas.List.Elements.{All-contains}
-use Rattle.cv_base.specs.Marker.{marker}
 use Rattle.cv_base.specs.Path.{Path}
 use Rattle.cv_ports.specs.Shelf.{Shelf}
 use Rattle.cv_tree.specs.Tree.{Nodes, at, is_directory}
@@ -19,10 +18,10 @@ use Rattle.cv_rows.specs.declared.row_kind.RowKind.{RowKind}
 use Rattle.cv_rows.specs.declared.row_kind.RowKind.TheVariants.{Directory, Transition, NestedRoot, File, Link}
 use Rattle.cv_rows.proofs.Lemmas.{stands_contained, one_place}
 use Rattle.cv_cut.specs.Reached.{Place, ReachesCatalogue, nested}
-use Rattle.cv_cut.specs.Cuts.{is_file, is_marked, is_near}
+use Rattle.cv_cut.specs.Cuts.{is_marked, is_near}
 use Rattle.cv_cut.specs.Told.{node_of, node_as}
 use Rattle.cv_tree.specs.Tree.{IsPart}
-use Rattle.cv_cut.proofs.Lemmas.{some_last, near_below, above, transition_long}
+use Rattle.cv_cut.proofs.Lemmas.{some_last, near_below, above, marked-at, transition_long}
 use Rattle.cv_load.proofs.Assembly.{IsWhole, full_of, standing_of, node_there, open_marked, directory_unmarked}
 use Rattle.cv_load.proofs.Standing.{named_by, IsOpen, Standing, Holds, AreTogether, so_root, so_below, stands_so, rules_of, contents_same, one_holder, one_node, last_same, moved, not_empty, parent_standing}
 use Rattle.cv_cut.specs.Region.{IsNear}
@@ -43,13 +42,6 @@ directory_holds r = go r.kind
     go NestedRoot h other = refl
     go File h other = absurd cc
     go Link h other = absurd cc
-
--- what is marked below a place
-pub marked_at : (t : Nodes) (p s : Path) → is_marked (at t p) s ≡ is_marked t (p ++ s)
-marked_at t p s =
-    let there = get-at t p s in
-    let file = get-at t p (s ++ marker ∷ []) ∙ sym (ap (get t) (append_assoc p s (marker ∷ []))) in
-    λ i. is_directory (there i) && is_file (file i)
 
 rest_none : (p s : Path) → p ++ s ≡ p → s ≡ []
 rest_none p s h = append_cancel_left p s [] (h ∙ sym (append-nil p))
@@ -74,7 +66,7 @@ module _ {shelf : Shelf} {top : List ℕ} {t : Nodes} (whole : IsWhole shelf top
       let free : up.rest ≢ [] → is_marked (at t c.at) up.rest ≡ false = λ some. elim (stands_so s) [
         | so_root has_p is_p at_p ↦ absurd (some (rest_none c.at up.rest (sym up.is ∙ at_p)))
         | so_below over front has_p away rise kid way ↦
-            marked_at t c.at up.rest ∙ ap (is_marked t) (sym up.is) ∙ directory_unmarked whole q (record { hash = hash; place = place; contents = c; open_ = o; row = p; stands = s }) (holder_kind p.kind child.holds kid.kind) away
+            sym (marked-at t c.at up.rest) ∙ ap (is_marked t) (sym up.is) ∙ directory_unmarked whole q (record { hash = hash; place = place; contents = c; open_ = o; row = p; stands = s }) (holder_kind p.kind child.holds kid.kind) away
       ] in
       record { rest = up.rest ++ r.name ∷ []; is = ap (λ (w : Path). w ++ r.name ∷ []) up.is ∙ append_assoc c.at up.rest (r.name ∷ []); near = near_below (at t c.at) up.rest r.name up.near free }
 
@@ -120,7 +112,7 @@ module _ {shelf : Shelf} {top : List ℕ} {t : Nodes} (whole : IsWhole shelf top
       let here : Standing shelf top (c.at ++ l.front) = record { hash = hash; place = place; contents = c; open_ = o; row = p.row; stands = p.stands } in
       let not_named : p.row.kind ≢ Transition = λ kind.
       let some : l.front ≢ [] = λ none. root_not_transition o p.row (subst (StandsAt c.at c.rows p.row) (ap (λ (x : Path). c.at ++ x) none ∙ append-nil c.at) p.stands) kind in
-      let wrong : true ≡ false = sym (transition_marked (c.at ++ l.front) here kind) ∙ sym (marked_at t c.at l.front) ∙ a.free some in
+      let wrong : true ≡ false = sym (transition_marked (c.at ++ l.front) here kind) ∙ marked-at t c.at l.front ∙ a.free some in
       cc in
       let holds = directory_holds p.row (ap (λ (x : Node). is_directory (Some x)) (sym p.is) ∙ a.directory) not_named in
       let path = sym (append_assoc c.at l.front (l.name ∷ [])) in

@@ -15,6 +15,6 @@ pub record Visited (shelf : Shelf) (root : List ℕ) (visits : List Visit) (befo
   pub apart : AllPairs (λ v w. v.place.path ≢ w.place.path) visits
   pub taken : after ≡ raised_by (length visits) before
 
--- all fetches were such visits: of catalogues that are reached, at each path one at most
+-- there were as many fetches as such visits: to catalogues that are reached, at each path one at most
 abbrev pub FetchesOnce : Shelf → List ℕ → ℕ → ℕ → Type 0
 FetchesOnce shelf root before after = (visits : List Visit) × Visited shelf root visits before after

@@ -1,11 +1,11 @@
 -- Known pairs of a catalogue's hash and a path.
 use Rattle.std.specs.Prelude.{◌≡◌, ℕ, Bool, true, false, if◌then◌else◌, List, Option, None, Some}
 use Rattle.std.specs.List.{All, Contains}
-use Rattle.std.specs.Ordering.{nat_cmp, eq_by_cmp}
-use Rattle.std.specs.Cmp.Lexicographic.{slice_cmp}
+use Rattle.std.specs.Ordering.{eq_by_cmp}
 use Rattle.std.specs.BTreeSet.{BTreeSet}
 use Rattle.std.specs.BTreeSet as set
 use Rattle.std.specs.BTreeMap as tree
+use Rattle.cv_base.specs.BytesOrder.{bytes_cmp}
 use Rattle.cv_base.specs.Path.{Path, path_cmp}
 use Rattle.cv_base.specs.declared.id.ObjectId.{ObjectId}
 use Rattle.cv_base.specs.declared.id.Kind.TheVariants.{Catalogue}
@@ -15,7 +15,7 @@ use Rattle.cv_cut.specs.Good.{IsWholeAt}
 
 abbrev pub knows : Option (BTreeSet (List ℕ)) → List ℕ → Bool
 knows None hash = false
-knows (Some hashes) hash = set.contains (slice_cmp nat_cmp) hashes hash
+knows (Some hashes) hash = set.contains bytes_cmp hashes hash
 
 -- the pair is in the set
 abbrev pub is_known : KnownSet → List ℕ → Path → Bool
@@ -23,7 +23,7 @@ is_known known hash path = knows (tree.get path_cmp known.paths path) hash
 
 -- whether a pair is in a set to which another was added
 abbrev pub with_pair : List ℕ → Path → List ℕ → Path → Bool → Bool
-with_pair hash path h p was = if eq_by_cmp path_cmp path p then (if eq_by_cmp (slice_cmp nat_cmp) hash h then true else was) else was
+with_pair hash path h p was = if eq_by_cmp path_cmp path p then (if eq_by_cmp bytes_cmp hash h then true else was) else was
 
 -- the hash of an id and its path are among the pairs
 pub record HasPair (pairs : List (ObjectId × Path)) (hash : List ℕ) (path : Path) : Type 0 where

@@ -28,10 +28,23 @@ pub record VisitedNew (shelf : Shelf) (known : KnownSet) (top : List ℕ) (visit
   pub apart : AllPairs (λ v w. v.place.path ≢ w.place.path) visits
   pub taken : after ≡ raised_by (length visits) before
 
--- all fetches were such visits; where the root is known there was none
+-- there were as many fetches as such visits; where the root is known there was none
 abbrev pub FetchesNew : Shelf → KnownSet → List ℕ → ℕ → ℕ → Type 0
 FetchesNew shelf known root before after = (visits : List Visit) × VisitedNew shelf known root visits before after × (is_known known root [] ≡ true → visits ≡ [])
 
 -- each catalogue that is reached through catalogues that aren't known, and isn't known itself, is among the pairs
 abbrev pub HasNew : Shelf → KnownSet → List ℕ → List (ObjectId × Path) → Type 0
 HasNew shelf known root pairs = (hash : List ℕ) (place : Place) → ReachesNew shelf known root hash place → is_known known hash place.path ≡ false → Contains pairs (object_id hash Catalogue, place.path)
+
+-- a pair of such a catalogue's id and its path
+pub record IsNewPair (shelf : Shelf) (known : KnownSet) (root : List ℕ) (pair : ObjectId × Path) : Type 0 where
+  pub kind : pair.0.kind ≡ Catalogue
+  pub place : Place
+  pub reached : ReachesNew shelf known root pair.0.hash place
+  pub path : place.path ≡ pair.1
+  pub fresh : is_known known pair.0.hash pair.1 ≡ false
+
+-- each pair is one of such a catalogue, and no two have one path
+pub record IsNewList (shelf : Shelf) (known : KnownSet) (root : List ℕ) (pairs : List (ObjectId × Path)) : Type 0 where
+  pub each : All (IsNewPair shelf known root) pairs
+  pub apart : AllPairs (λ p q. p.1 ≢ q.1) pairs

@@ -1,6 +1,6 @@
 -- What is fetched where known pairs are the ends. What only this crate's own functions say.
-use Rattle.std.specs.Prelude.{◌≡◌, ℕ, true, false, List, Some, All, Contains}
-use Rattle.cv_base.specs.Path.{Path}
+use Rattle.std.specs.Prelude.{◌≡◌, ℕ, true, false, List, ◌++◌, Some, All, Contains}
+use Rattle.cv_base.specs.Path.{Path, covers}
 use Rattle.cv_base.specs.ObjectId.{object_id}
 use Rattle.cv_base.specs.declared.id.ObjectId.{ObjectId}
 use Rattle.cv_base.specs.declared.id.Kind.TheVariants.{Catalogue}
@@ -15,7 +15,7 @@ use Rattle.cv_load.specs.declared.known_set.KnownSet.{KnownSet}
 use Rattle.cv_load.specs.Fetches.{Visit}
 use Rattle.cv_load.specs.FetchesInner.{IsInside}
 use Rattle.cv_load.specs.Known.{is_known}
-use Rattle.cv_load.specs.NewFetches.{ReachesNew, VisitedNew}
+use Rattle.cv_load.specs.NewFetches.{ReachesNew, VisitedNew, IsNewList}
 
 -- what was fetched is inside the catalogue
 pub record ChecksInside (shelf : Shelf) (known : KnownSet) (top : List ℕ) (c : Contents) (before after : ℕ) : Type 0 where
@@ -42,3 +42,15 @@ HasAll old new = (p : ObjectId × Path) → Contains old p → Contains new p
 -- of the catalogue that stands under an id, at each place where it is
 abbrev pub ListsFrom : Shelf → KnownSet → ObjectId → Contents → List (ObjectId × Path) → Type 0
 ListsFrom shelf known id c pairs = (place : Place) → HasCatalogue shelf id.hash place c → IsListed shelf known pairs id.hash place
+
+-- what was added to a list: pairs of such catalogues, at or below a path
+pub record AddsNew (shelf : Shelf) (known : KnownSet) (top : List ℕ) (p : Path) (old new : List (ObjectId × Path)) : Type 0 where
+  pub added : List (ObjectId × Path)
+  pub is : new ≡ old ++ added
+  pub list : IsNewList shelf known top added
+  pub under : All (λ pair. covers p pair.1 ≡ true) added
+
+-- of the catalogue that stands under an id, at each place at which it is reached and isn't known
+abbrev pub AddsBelow : Shelf → KnownSet → ObjectId → Contents → List (ObjectId × Path) → List (ObjectId × Path) → Type 0
+AddsBelow shelf known id c old new = (top : List ℕ) (place : Place) → ReachesNew shelf known top id.hash place → is_known known id.hash place.path ≡ false → HasCatalogue shelf id.hash place c
+    → AddsNew shelf known top place.path old new

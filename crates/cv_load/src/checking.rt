@@ -4,8 +4,8 @@ ghost use Rattle.cv_base.specs.Counts.{HasCause};
 ghost use Rattle.cv_base.specs.Told.{WhereTold};
 ghost use Rattle.cv_base.specs.declared.id.Kind.TheVariants as id_kind;
 ghost use Rattle.cv_rows.specs.Catalogue.{IsCatalogue};
-ghost use Rattle.cv_load.specs.NewFetches.{FetchesNew, HasNew};
-ghost use Rattle.cv_load.specs.NewFetchesInner.{ChecksBelow, HasAll, ListsFrom};
+ghost use Rattle.cv_load.specs.NewFetches.{FetchesNew, HasNew, IsNewList};
+ghost use Rattle.cv_load.specs.NewFetchesInner.{AddsBelow, ChecksBelow, HasAll, ListsFrom};
 ghost use Rattle.cv_load.specs.Known.{AreKnown, AreWhole};
 ghost use Rattle.cv_load.specs.KnownInner.{ChecksFrom};
 ghost use Rattle.cv_cut.specs.Reached.{root_place};
@@ -27,13 +27,11 @@ fn check<S: Shelf>(
     shelf: &mut S,
     known: &KnownSet,
     id: &ObjectId,
-    at: &RepoPath,
     catalogue: &Catalogue,
     pairs: &mut Vec<(ObjectId, RepoPath)>,
 ) -> Result<(), LoadFault>
     requires kind { id.now.kind ≡ id_kind.Catalogue }
     requires rules { IsCatalogue catalogue.now }
-    requires place { catalogue.now.at ≡ at.now }
     ensures told { WhereTold (S.shelf shelf.old) (λ standing. AreKnown standing known.now → ChecksFrom standing id.now catalogue.now pairs.old.items pairs.new.items result) }
     ensures reads { S.reads shelf.old shelf.new }
     ensures unchanged { S.shelf shelf.new ≡ S.shelf shelf.old }
@@ -41,6 +39,7 @@ fn check<S: Shelf>(
     ensures fetches { WhereTold (S.shelf shelf.old) (λ standing. ChecksBelow standing known.now id.now catalogue.now (S.taken shelf.old) (S.taken shelf.new)) }
     ensures keeps { OnOk result (HasAll pairs.old.items pairs.new.items) }
     ensures given { WhereTold (S.shelf shelf.old) (λ standing. OnOk result (ListsFrom standing known.now id.now catalogue.now pairs.new.items)) }
+    ensures only { WhereTold (S.shelf shelf.old) (λ standing. OnOk result (AddsBelow standing known.now id.now catalogue.now pairs.old.items pairs.new.items)) }
 {
     check_files(alloc, shelf, id, catalogue)?;
     for nested in catalogue.nested() {
@@ -52,9 +51,9 @@ fn check<S: Shelf>(
             hash: nested.hash,
             kind: Kind::Catalogue,
         };
-        check(alloc, shelf, known, &below_id, &nested.path, &below, pairs)?;
+        check(alloc, shelf, known, &below_id, &below, pairs)?;
     }
-    let path = at.copy(alloc)?;
+    let path = catalogue.at().copy(alloc)?;
     add_pair(pairs, id, path)?;
     Ok(())
 }
@@ -71,7 +70,8 @@ fn add_pair(
     Ok(())
 }
 
-/// The catalogues that are reached from a root, where each is as it should be. What stands below known pairs isn't fetched.
+/// The catalogues that are reached from a root, where each is as it should be. There are at most as many fetches as catalogues
+/// that are reached without passing a known pair.
 pub fn whole<S: Shelf>(
     alloc: Global,
     shelf: &mut S,
@@ -85,6 +85,7 @@ pub fn whole<S: Shelf>(
     ensures cause { HasCause (S.faults shelf.old) (S.faults shelf.new) (IsErrOf result faults.Failed) }
     ensures fetches { WhereTold (S.shelf shelf.old) (λ standing. FetchesNew standing known.now root.now.hash (S.taken shelf.old) (S.taken shelf.new)) }
     ensures given { WhereTold (S.shelf shelf.old) (λ standing. IfOk result (λ pairs. HasNew standing known.now root.now.hash pairs.items)) }
+    ensures only { WhereTold (S.shelf shelf.old) (λ standing. IfOk result (λ pairs. IsNewList standing known.now root.now.hash pairs.items)) }
 {
     let mut pairs = Vec::new(alloc);
     let at = RepoPath::root(alloc);
@@ -92,6 +93,6 @@ pub fn whole<S: Shelf>(
         return Ok(pairs);
     }
     let catalogue = catalogue_at(alloc, shelf, root, &at, None)?;
-    check(alloc, shelf, known, root, &at, &catalogue, &mut pairs)?;
+    check(alloc, shelf, known, root, &catalogue, &mut pairs)?;
     Ok(pairs)
 }

@@ -1,8 +1,8 @@
 //! Sets of known catalogues.
 ghost use Rattle.std.specs.Prelude.{◌≡◌, ◌⊎◌, ℕ, List, true, false, OnOk, OnErr, if◌then◌else◌};
-ghost use Rattle.std.specs.Ordering.{nat_cmp, eq_by_cmp};
-ghost use Rattle.std.specs.Cmp.Lexicographic.{slice_cmp};
+ghost use Rattle.std.specs.Ordering.{eq_by_cmp};
 ghost use Rattle.std.specs.BTreeSet.{contains};
+ghost use Rattle.cv_base.specs.BytesOrder.{bytes_cmp};
 ghost use Rattle.cv_base.specs.Path.{Path};
 ghost use Rattle.cv_load.specs.Known.{is_known, with_pair, HasPair};
 
@@ -66,8 +66,8 @@ impl KnownSet {
 
 /// Adds a hash. Where there is no memory, the set stays as it was.
 fn add_hash(hashes: &mut BTreeSet<[u8; 20]>, hash: [u8; 20]) -> Result<(), NoMemory>
-    ensures added { OnOk result ((h : List ℕ) → contains (slice_cmp nat_cmp) hashes.new h ≡ (if eq_by_cmp (slice_cmp nat_cmp) hash h then true else contains (slice_cmp nat_cmp) hashes.old h)) }
-    ensures kept { OnErr result ((h : List ℕ) → contains (slice_cmp nat_cmp) hashes.new h ≡ contains (slice_cmp nat_cmp) hashes.old h) }
+    ensures added { OnOk result ((h : List ℕ) → contains bytes_cmp hashes.new h ≡ (if eq_by_cmp bytes_cmp hash h then true else contains bytes_cmp hashes.old h)) }
+    ensures kept { OnErr result ((h : List ℕ) → contains bytes_cmp hashes.new h ≡ contains bytes_cmp hashes.old h) }
 {
     hashes.insert(hash)?;
     Ok(())

@@ -14,7 +14,7 @@ ghost use Rattle.cv_load.specs.declared.known_set.KnownSet.{KnownSet};
 ghost use Rattle.cv_cut.specs.Cuts.{is_cut};
 ghost use Rattle.cv_cut.specs.Catalogues.{cat};
 ghost use Rattle.cv_rows.specs.Catalogue.{Contents};
-ghost use Rattle.cv_cut.specs.Opening.{IsDamaged};
+ghost use Rattle.cv_cut.specs.Opening.{IsDamaged, IsDamagedFrom};
 ghost use Rattle.cv_cut.specs.Good.{IsGood, IsWholeAt};
 
 /// On a shelf a hash means one tree at most.
@@ -53,11 +53,15 @@ pub fn a_good_catalogue_stays_good()
     ensures { (old new : Shelf) (hash : List ℕ) (place : Place) → HasMore old new → IsGood old hash place → IsGood new hash place }
 {}
 
-/// What a good catalogue reaches is good; nothing of it is lacking, and none of it is bad.
+/// What a good catalogue reaches is good; nothing of it is lacking, and none of its catalogues is bad or damaged.
+///
+/// So on any shelf that tells what it holds, [`whole`](crate::whole) answers Ok, Failed or NoMemory where the root is good
+/// and the known pairs are whole; and each other fault shows that the root isn't good.
 pub fn a_good_catalogue_reaches_good_ones()
     ensures below { (shelf : Shelf) (from hash : List ℕ) (start place : Place) → IsGood shelf from start → Reaches shelf from start hash place → IsGood shelf hash place }
     ensures lacking { (shelf : Shelf) (from : List ℕ) (start : Place) (x : ObjectId) → IsGood shelf from start → LackingFrom shelf from start x → ⊥ }
     ensures bad { (shelf : Shelf) (from : List ℕ) (start : Place) (x : ObjectId) → IsGood shelf from start → BadFrom shelf from start x → ⊥ }
+    ensures damaged { (shelf : Shelf) (from : List ℕ) (start : Place) (id : ObjectId) (found : List ℕ) → IsGood shelf from start → IsDamagedFrom shelf from start id found → ⊥ }
 {}
 
 /// A whole pair is good at each place of its path that it fits, and what is good is whole at its path.

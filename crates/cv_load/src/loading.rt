@@ -23,15 +23,11 @@ use cv_tree::Tree;
 use std::alloc::Global;
 
 /// The tree of the root row of a catalogue alone.
-fn root_of(alloc: Global, at: &RepoPath, catalogue: &Catalogue) -> Result<Tree, NoMemory>
-    requires rules { IsCatalogue catalogue.now }
-    requires place { catalogue.now.at ≡ at.now }
+fn root_of(alloc: Global, catalogue: &Catalogue) -> Result<Tree, NoMemory>
+    requires { IsCatalogue catalogue.now }
     ensures { IfOk result (IsRootOf catalogue.now) }
 {
-    let Some(root) = catalogue.find(at.key()) else {
-        unreachable!();
-    };
-    Tree::new(alloc, root.attr)
+    Tree::new(alloc, catalogue.root().attr)
 }
 
 /// Adds to a tree what is reached from the catalogue under an id.
@@ -39,13 +35,11 @@ fn fill<S: Shelf>(
     alloc: Global,
     shelf: &mut S,
     id: &ObjectId,
-    at: &RepoPath,
     catalogue: &Catalogue,
     tree: &mut Tree,
 ) -> Result<(), LoadFault>
     requires kind { id.now.kind ≡ id_kind.Catalogue }
     requires rules { IsCatalogue catalogue.now }
-    requires place { catalogue.now.at ≡ at.now }
     requires clear { IsClear catalogue.now.at tree.old }
     ensures told { WhereTold (S.shelf shelf.old) (λ standing. FillsFrom standing id.now catalogue.now tree.old tree.new result) }
     ensures reads { S.reads shelf.old shelf.new }
@@ -55,14 +49,14 @@ fn fill<S: Shelf>(
     ensures within { ChangesBelow catalogue.now.at tree.old tree.new }
 {
     check_files(alloc, shelf, id, catalogue)?;
-    place_rows(alloc, at, catalogue, tree)?;
+    place_rows(alloc, catalogue, tree)?;
     for nested in catalogue.nested() {
         let below = nested_catalogue(alloc, shelf, id, catalogue, nested)?;
         let below_id = ObjectId {
             hash: nested.hash,
             kind: Kind::Catalogue,
         };
-        fill(alloc, shelf, &below_id, &nested.path, &below, tree)?;
+        fill(alloc, shelf, &below_id, &below, tree)?;
     }
     Ok(())
 }
@@ -87,7 +81,7 @@ pub fn load<S: Shelf>(alloc: Global, shelf: &mut S, root: &ObjectId) -> Result<T
 {
     let at = RepoPath::root(alloc);
     let catalogue = catalogue_at(alloc, shelf, root, &at, None)?;
-    let mut tree = root_of(alloc, &at, &catalogue)?;
-    fill(alloc, shelf, root, &at, &catalogue, &mut tree)?;
+    let mut tree = root_of(alloc, &catalogue)?;
+    fill(alloc, shelf, root, &catalogue, &mut tree)?;
     Ok(tree)
 }

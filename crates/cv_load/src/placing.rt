@@ -53,21 +53,19 @@ fn add(alloc: Global, tree: &mut Tree, path: &RepoPath, row: &Row) -> Result<boo
 /// Sees to it that the path at which a row stands is in the tree, with those of all rows above it.
 fn place(
     alloc: Global,
-    at: &RepoPath,
     catalogue: &Catalogue,
     tree: &mut Tree,
     row: &Row,
     path: &RepoPath,
 ) -> Result<(), NoMemory>
     requires rules { IsCatalogue catalogue.now }
-    requires place { catalogue.now.at ≡ at.now }
     requires row { Contains catalogue.now.rows row.now }
     requires stands { StandsAt catalogue.now.at catalogue.now.rows row.now path.now }
     requires ready { IsReady catalogue.now.at catalogue.now.rows tree.old }
     ensures there { OnOk result (IsSome (get tree.new path.now)) }
     ensures grows { GrowsBy catalogue.now.at catalogue.now.rows tree.old tree.new }
 {
-    if path.names().len() == at.names().len() {
+    if path.names().len() == catalogue.at().names().len() {
         return Ok(());
     }
     if add(alloc, tree, path, row)? {
@@ -77,7 +75,7 @@ fn place(
         unreachable!();
     };
     let above = path.copy(alloc)?.into_parent();
-    place(alloc, at, catalogue, tree, parent, &above)?;
+    place(alloc, catalogue, tree, parent, &above)?;
     add(alloc, tree, path, row)?;
     Ok(())
 }
@@ -85,14 +83,12 @@ fn place(
 /// Sees to it that the path at which a row stands is in the tree, if rows may stand below it.
 fn place_holder(
     alloc: Global,
-    at: &RepoPath,
     catalogue: &Catalogue,
     tree: &mut Tree,
     row: &Row,
     path: &RepoPath,
 ) -> Result<(), NoMemory>
     requires rules { IsCatalogue catalogue.now }
-    requires place { catalogue.now.at ≡ at.now }
     requires row { Contains catalogue.now.rows row.now }
     requires stands { StandsAt catalogue.now.at catalogue.now.rows row.now path.now }
     requires ready { IsReady catalogue.now.at catalogue.now.rows tree.old }
@@ -100,7 +96,7 @@ fn place_holder(
     ensures grows { GrowsBy catalogue.now.at catalogue.now.rows tree.old tree.new }
 {
     if row.kind.holds_rows() {
-        place(alloc, at, catalogue, tree, row, path)
+        place(alloc, catalogue, tree, row, path)
     } else {
         Ok(())
     }
@@ -109,13 +105,11 @@ fn place_holder(
 /// Sees to it that the path of each row below which rows may stand is in the tree.
 fn place_holders(
     alloc: Global,
-    at: &RepoPath,
     catalogue: &Catalogue,
     tree: &mut Tree,
     paths: &[RepoPath],
 ) -> Result<(), NoMemory>
     requires rules { IsCatalogue catalogue.now }
-    requires place { catalogue.now.at ≡ at.now }
     requires paths { StandEach catalogue.now.at catalogue.now.rows catalogue.now.rows paths.now }
     requires ready { IsReady catalogue.now.at catalogue.now.rows tree.old }
     ensures there { OnOk result (HasHolders catalogue.now tree.new) }
@@ -123,7 +117,7 @@ fn place_holders(
 {
     let rows = catalogue.rows();
     for row in 0..rows.len() {
-        place_holder(alloc, at, catalogue, tree, &rows[row], &paths[row])?;
+        place_holder(alloc, catalogue, tree, &rows[row], &paths[row])?;
     }
     Ok(())
 }
@@ -175,19 +169,13 @@ fn place_all_held(
 
 /// Sees to it that the path of each row of a catalogue is in the tree. First come the rows below which others may stand, so
 /// that those others are each looked up but once.
-pub fn place_rows(
-    alloc: Global,
-    at: &RepoPath,
-    catalogue: &Catalogue,
-    tree: &mut Tree,
-) -> Result<(), NoMemory>
+pub fn place_rows(alloc: Global, catalogue: &Catalogue, tree: &mut Tree) -> Result<(), NoMemory>
     requires rules { IsCatalogue catalogue.now }
-    requires place { catalogue.now.at ≡ at.now }
     requires clear { IsClear catalogue.now.at tree.old }
     ensures there { OnOk result (HasRows catalogue.now tree.new) }
     ensures grows { GrowsBy catalogue.now.at catalogue.now.rows tree.old tree.new }
 {
     let paths = catalogue.places(alloc)?;
-    place_holders(alloc, at, catalogue, tree, &paths)?;
+    place_holders(alloc, catalogue, tree, &paths)?;
     place_all_held(alloc, catalogue, tree, paths)
 }

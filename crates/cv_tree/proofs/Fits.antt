@@ -14,7 +14,7 @@ use Rattle.cv_tree.proofs.Replacements.{get-at}
 use Rattle.cv_tree.proofs.Shapes.{nothing_at}
 
 -- nothing fits everywhere
-FitsUnder-empty : (p : Path) → FitsUnder p empty
+pub FitsUnder-empty : (p : Path) → FitsUnder p empty
 FitsUnder-empty p q some = absurd (nothing_at q some)
 
 pub FitsUnder-nodes_of : (p : Path) (part : Option Nodes) → IfSome part (FitsUnder p) → FitsUnder p (nodes_of part)

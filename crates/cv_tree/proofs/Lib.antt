@@ -4,6 +4,7 @@ mod Grafts
 mod Made
 mod Maps
 mod PathLimits
+mod PathRuns
 mod Replacements
 mod Shapes
 pub mod Laws

@@ -1,6 +1,5 @@
 -- The limits of a node's fields: those in which a catalogue can write it.
-use Rattle.std.specs.Prelude.{ℕ, List, length, ◌<◌, ◌≤◌, IsTrue}
-use Rattle.cv_base.specs.declared.attr.Attr.{Attr}
+use Rattle.std.specs.Prelude.{ℕ, List, length, ◌≤◌, IsTrue}
 use Rattle.cv_base.specs.declared.limits.TheConstants.{OBJECT_LIMIT}
 use Rattle.cv_base.specs.Attr.{IsAttr}
 use Rattle.cv_base.specs.Digest.{IsDigest}

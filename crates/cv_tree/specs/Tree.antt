@@ -16,6 +16,12 @@ is_directory (Some (Dir attr)) = true
 is_directory (Some (File attr file)) = false
 is_directory (Some (Link attr target)) = false
 
+abbrev pub is_file : Option Node → Bool
+is_file None = false
+is_file (Some (Dir attr)) = false
+is_file (Some (File attr file)) = true
+is_file (Some (Link attr target)) = false
+
 -- what stands below another path stands in a directory
 abbrev pub HasParents : Nodes → Type 0
 HasParents t = (q : Path) (name : List _) → IsSome (get t (q ++ name ∷ [])) → IsTrue (is_directory (get t q))

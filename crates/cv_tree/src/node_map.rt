@@ -73,11 +73,6 @@ impl NodeMap {
         Ok(made)
     }
 
-    /// What the map takes its memory from.
-    pub(crate) fn alloc(&self) -> Global {
-        self.alloc
-    }
-
     /// The node at a path.
     pub(crate) fn get(&self, path: &RepoPath) -> Option<&Node>
         ensures { option_copied result ≡ map.get self.now path.now }
@@ -159,10 +154,12 @@ impl NodeMap {
         ensures { IfOk result (λ found. found ≡ at self.now path.now) }
     {
         let mut found = NodeMap::new(alloc);
-        for (place, node) in &self.nodes {
-            if let Some(rest) = behind(alloc, path, place)? {
-                found.set(rest, node.copy(alloc)?)?;
-            }
+        // In the order of paths what a path covers is one run, from the path on.
+        for (place, node) in self.nodes.range(path..) {
+            let Some(rest) = behind(alloc, path, place)? else {
+                break;
+            };
+            found.set(rest, node.copy(alloc)?)?;
         }
         Ok(found)
     }
@@ -190,6 +187,27 @@ impl NodeMap {
             }
         }
         Ok(all)
+    }
+
+    /// Takes out all that a path covers, in place.
+    pub(crate) fn remove(&mut self, path: &RepoPath) -> Result<(), TreeFault>
+        ensures answer { IsUnless faults.NoMemory result (replacement self.old path.now) }
+        ensures ok { OnOk result (self.new ≡ put self.old path.now map.empty) }
+        ensures err { OnErr result (self.new ≡ self.old) }
+    {
+        if self.has_place(path)? {
+            self.remove_covered(path);
+            Ok(())
+        } else {
+            Err(TreeFault::NoParent)
+        }
+    }
+
+    /// The same, whatever may stand at the path.
+    fn remove_covered(&mut self, path: &RepoPath)
+        ensures { self.new ≡ put self.old path.now map.empty }
+    {
+        self.nodes.retain(|place, _| !path.covers(place));
     }
 
     /// Takes out all that a path covers, and sets other nodes there.

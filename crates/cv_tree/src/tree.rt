@@ -105,8 +105,9 @@ impl Tree {
     }
 
     /// Takes out all that stands at a path and below it, and sets the part there, if there is one. It
-    /// never answers that the path exists. A refusal changes nothing: the new map is made beside the old
-    /// one, so that it takes memory for both.
+    /// never answers that the path exists. A refusal changes nothing: where there is a part, the new map is
+    /// made beside the old one, so that it takes memory for both. With none, what stands there is taken out
+    /// in place.
     pub fn replace(&mut self, path: &RepoPath, part: Option<Part>) -> Result<(), TreeFault>
         // At the root there has to be a part, whose root is a directory.
         requires root { IsTreeAtRoot path.now (nodes_of part) }
@@ -116,18 +117,9 @@ impl Tree {
         ensures ok { OnOk result (self.new ≡ put self.old path.now (nodes_of part)) }
         ensures err { OnErr result (self.new ≡ self.old) }
     {
-        let nodes = nodes_of(self.nodes.alloc(), part);
-        self.nodes.replace(path, nodes)
-    }
-}
-
-/// The nodes of a part, or none.
-fn nodes_of(alloc: Global, part: Option<Part>) -> NodeMap
-    ensures nodes { result ≡ nodes_of part }
-    ensures part { IfSome part IsPart }
-{
-    match part {
-        Some(part) => part.nodes,
-        None => NodeMap::new(alloc),
+        match part {
+            Some(part) => self.nodes.replace(path, part.nodes),
+            None => self.nodes.remove(path),
+        }
     }
 }

@@ -11,10 +11,6 @@ returns-then-ne c = (
   λ fits. absurd (elsewhere c.args.catalogue.now c.at.result.now c.args.at.now _ c.at.ensures (not-true (same_path c.at.result.now c.args.at.now) (sym c.ne.ensures ∙ c.if-ne.true)) fits),
 )
 
-pub fits_row-requires-clause-place : goal.fits_row-requires-clause-place
-fits_row-requires-clause-place c =
-    of_path c.args.catalogue.now c.at.result.now c.args.at.now c.at.ensures (not-false (same_path c.at.result.now c.args.at.now) (sym c.ne.ensures ∙ c.if-ne.false))
-
 pub returns-in-Some : goal.returns-in-Some
 returns-in-Some c =
     by_row c.args.catalogue.now c.args.at.now c.in-Some.transition.now _ c.fits_row.result

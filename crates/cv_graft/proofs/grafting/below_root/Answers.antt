@@ -1,4 +1,5 @@
 use Rattle.std.proofs.Common.{length, Result, List, [], Ok, Err, ap, subst, ◌∙◌, arith}
+use Rattle.cv_tree.proofs.Laws.{IsTree-put_at}
 use Rattle.cv_base.specs.declared.id.Kind.TheVariants.{Catalogue}
 use Rattle.cv_base.specs.declared.object.Object.{Object}
 use Rattle.cv_graft.specs.Both.{GraftsBoth}
@@ -6,7 +7,7 @@ use Rattle.cv_graft.specs.Graft.{Grafts}
 use Rattle.cv_graft.proofs.Both.{grafted_top, refused_top, unread_both}
 use Rattle.cv_graft.proofs.Finding.{cuts_way, from_top, some_count, some_long, top_unread}
 use Rattle.cv_graft.proofs.Holders.{top_blamed, tells_way, tells_top, tells_left, tells_right}
-use Rattle.cv_graft.proofs.Grafts.{tree_after, offered_of, top_is, top_taken, rebuilt_at, made_graft, fault_graft, unread_graft}
+use Rattle.cv_graft.proofs.Grafts.{offered_of, top_is, top_taken, rebuilt_at, made_graft, fault_graft, unread_graft}
 use Rattle.cv_graft.specs.Way.{IsOfEither, TellsDamage}
 use Rattle.cv_graft.specs.WayInner.{IsMade}
 use Rattle.cv_graft.specs.declared.grafted.Grafted.{Grafted}
@@ -36,7 +37,7 @@ returns-in_err-made-clause-told g c = λ standing told t n ways place.
     let way = cuts_way ways.way in
     let top = top_is standing c.args.newest.now t p c.root-top.result c.in_ok-catalogue.catalogue way c.requires.path (c.in_ok-catalogue.ensures.told standing there) c.root-top.ensures in
     let offered = offered_of n p c.in_ok-other.other ways.other.tree ways.other.fits (c.in_ok-other.ensures.told standing told n (cuts_way ways.other)) in
-    let after = tree_after t n p ways.way.tree ways.other.tree place in
+    let after = IsTree-put_at t n p ways.way.tree ways.other.tree place in
     left_by (Grafts (replaced t n p) p) _ _ c.from_residual-in_err-made.ensures.1
     (fault_graft (replaced t n p) p c.new-added.result.items c.rebuilt.new.added.items c.in_err-made.field-0.0
     (rebuilt_at (replaced t n p) p c.in_ok-catalogue.catalogue t c.new-added.result.items c.rebuilt.new.added.items (Err c.in_err-made.field-0.0) top
@@ -59,7 +60,7 @@ returns-clause-told g c = λ standing told t n ways place.
     let way = cuts_way ways.way in
     let top = top_is standing c.args.newest.now t p c.root-top.result c.in_ok-catalogue.catalogue way c.requires.path (c.in_ok-catalogue.ensures.told standing there) c.root-top.ensures in
     let offered = offered_of n p c.in_ok-other.other ways.other.tree ways.other.fits (c.in_ok-other.ensures.told standing told n (cuts_way ways.other)) in
-    let after = tree_after t n p ways.way.tree ways.other.tree place in
+    let after = IsTree-put_at t n p ways.way.tree ways.other.tree place in
     let made = rebuilt_at (replaced t n p) p c.in_ok-catalogue.catalogue t c.new-added.result.items c.rebuilt.new.added.items (Ok c.in_ok-made.made) top
     (c.in_ok-made.ensures.told standing (c.catalogue_at.ensures.unchanged ∙ there) c.args.newest.now.hash t n p way ways.way.fits offered after top.on top.is) in
     made_graft (replaced t n p) p c.rebuilt.new.added.items c.in_ok-made.made _ (subst (λ (l : List Object). IsMade (replaced t n p) [] p l c.rebuilt.new.added.items c.in_ok-made.made) c.new-added.ensures.items made)

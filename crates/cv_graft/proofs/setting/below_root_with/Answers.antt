@@ -1,13 +1,14 @@
 use Rattle.std.proofs.Common.{length, map, Result, List, [], ap, subst, ◌∙◌, arith}
 use Rattle.std.specs.Prelude.{IsErrOf}
 use Rattle.std.specs.Option.{option_copied}
+use Rattle.cv_tree.proofs.Laws.{IsTree-put_at}
 use Rattle.cv_base.specs.declared.id.Kind.TheVariants.{Catalogue}
 use Rattle.cv_base.specs.declared.object.Object.{Object}
 use Rattle.cv_base.specs.Path.{Path}
 use Rattle.cv_tree.specs.Tree.{put}
 use Rattle.cv_tree.specs.Changes.{nodes_of}
 use Rattle.cv_cut.specs.Cut.{catalogue_object}
-use Rattle.cv_cut.proofs.Lemmas.{left_by}
+use Rattle.cv_cut.proofs.Lemmas.{left_by, own_only, own_piece}
 use Rattle.cv_graft.specs.Placed.{Places}
 use Rattle.cv_graft.specs.PlacedInner.{IsSet}
 use Rattle.cv_graft.specs.PlacedWay.{PlacesOnWay}
@@ -17,8 +18,8 @@ use Rattle.cv_graft.specs.declared.graft_fault.GraftFault.{GraftFault}
 use Rattle.cv_graft.specs.declared.graft_fault.GraftFault.TheVariants as fault
 use Rattle.cv_graft.proofs.Finding.{from_top, some_count, some_long, top_unread}
 use Rattle.cv_graft.proofs.Holders.{top_blamed, tells_way, tells_top}
-use Rattle.cv_graft.proofs.Grafts.{tree_after, top_is, top_taken}
-use Rattle.cv_graft.proofs.PlacedAbove.{early_fault, unread_place, cut_tells, cut_not_failed, own_piece, own_only, set_root, set_fault, fault_root}
+use Rattle.cv_graft.proofs.Grafts.{top_is, top_taken}
+use Rattle.cv_graft.proofs.PlacedAbove.{early_fault, unread_place, cut_tells, cut_not_failed, set_root, set_fault, fault_root}
 use Rattle.cv_graft.proofs.PlacedWay.{early_way, placed_top, stands_alone, unplaced_top, unread_way}
 use Rattle.cv_graft.proofs.setting.below_root_with.Goals as goal
 
@@ -34,7 +35,7 @@ returns-in_err-piece-clause-told g c = λ standing told t way place.
     let s = nodes_of (option_copied c.args.part) in
     let whole = c.piece_at.ensures.whole in
     left_by (Places (put t p s) p) _ _ c.from_residual-in_err-piece.ensures.1
-    (early_fault standing c.args.base.now.hash t c.in_ok-tree.tree p s way c.requires.path c.in_ok-tree.ensures whole (tree_after t c.in_ok-tree.tree p way.tree whole place) c.requires.unmarked _ c.in_err-piece.ensures.fault)
+    (early_fault standing c.args.base.now.hash t c.in_ok-tree.tree p s way c.requires.path c.in_ok-tree.ensures whole (IsTree-put_at t c.in_ok-tree.tree p way.tree whole place) c.requires.unmarked _ c.in_err-piece.ensures.fault)
 
 pub returns-in_err-piece-clause-damaged : goal.returns-in_err-piece-clause-damaged
 returns-in_err-piece-clause-damaged g c = λ standing told.
@@ -75,7 +76,7 @@ returns-in_err-made-clause-told g c = λ standing told t way place.
     let m = x.tree in
     let ready = own_piece x c.in_ok-tree.tree p c.in_ok-piece.ensures.piece in
     let only = own_only x c.in_ok-tree.tree p s c.in_ok-piece.ensures.piece c.in_ok-tree.ensures in
-    let after = tree_after t m p way.tree ready.whole place in
+    let after = IsTree-put_at t m p way.tree ready.whole place in
     let k = c.in_ok-catalogue.catalogue in
     let top = top_is standing c.args.base.now t p c.root-top.result k way c.requires.path (c.in_ok-catalogue.ensures.told standing told) c.root-top.ensures in
     left_by (Places (put t p s) p) _ _ c.from_residual-in_err-made.ensures.1
@@ -97,7 +98,7 @@ returns-clause-told g c = λ standing told t way place.
     let m = x.tree in
     let ready = own_piece x c.in_ok-tree.tree p c.in_ok-piece.ensures.piece in
     let only = own_only x c.in_ok-tree.tree p s c.in_ok-piece.ensures.piece c.in_ok-tree.ensures in
-    let after = tree_after t m p way.tree ready.whole place in
+    let after = IsTree-put_at t m p way.tree ready.whole place in
     let k = c.in_ok-catalogue.catalogue in
     let top = top_is standing c.args.base.now t p c.root-top.result k way c.requires.path (c.in_ok-catalogue.ensures.told standing told) c.root-top.ensures in
     let made = c.in_ok-made.ensures.told standing (c.catalogue_at.ensures.unchanged ∙ told) c.args.base.now.hash t p way after top.on top.is in

@@ -4,6 +4,7 @@ use Rattle.cv_load.proofs.Checks.{left_match, wholes_broken, wholes_all}
 use Rattle.cv_load.specs.Known.{is_known}
 use Rattle.cv_load.proofs.Listing.{root_known, root_listed}
 use Rattle.cv_load.proofs.NewFetching.{once_known, once_alone, once_with}
+use Rattle.cv_load.proofs.NewPairs.{root_alone, root_added}
 use Rattle.cv_load.proofs.checking.whole.Goals as goal
 
 pub returns-in_err-catalogue-clause-told : goal.returns-in_err-catalogue-clause-told
@@ -50,3 +51,13 @@ pub returns-clause-given : goal.returns-clause-given
 returns-clause-given g c = λ standing told.
     root_listed standing c.args.known.now c.args.root.now c.root-at.result c.in_ok-catalogue.catalogue c.check.new.pairs.items c.root-at.ensures (c.in_ok-catalogue.ensures.told standing told)
     (c.in_ok-check.ensures.given standing (c.catalogue_at.ensures.unchanged ∙ told))
+
+pub returns-then-is_known-clause-only : goal.returns-then-is_known-clause-only
+returns-then-is_known-clause-only g c = λ standing told. root_alone standing c.args.known.now c.args.root.now.hash c.new-pairs.result.items c.new-pairs.ensures.items
+
+pub returns-clause-only : goal.returns-clause-only
+returns-clause-only g c =
+    let fresh : is_known c.args.known.now c.args.root.now.hash [] ≡ false = ap (is_known c.args.known.now c.args.root.now.hash) (sym c.root-at.ensures) ∙ sym c.is_known.ensures ∙ c.if-is_known.false in
+    λ standing told.
+    root_added standing c.args.known.now c.args.root.now c.root-at.result c.in_ok-catalogue.catalogue c.new-pairs.result.items c.check.new.pairs.items c.root-at.ensures fresh (c.in_ok-catalogue.ensures.told standing told) c.new-pairs.ensures.items
+    (c.in_ok-check.ensures.only standing (c.catalogue_at.ensures.unchanged ∙ told))

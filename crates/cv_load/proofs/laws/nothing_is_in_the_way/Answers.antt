@@ -1,4 +1,4 @@
-use Rattle.cv_load.proofs.InTheWay.{none_lacking, none_bad, none_damaged}
+use Rattle.cv_load.proofs.GoodLaws.{none_lacking, none_bad, none_damaged}
 use Rattle.cv_load.proofs.laws.nothing_is_in_the_way.Goals as goal
 
 pub returns-clause-lacking : goal.returns-clause-lacking

@@ -7,7 +7,7 @@ use Rattle.cv_load.proofs.Clearing.{AreClear}
 use Rattle.cv_load.proofs.loading.+fill.Given as goal
 
 abbrev pub decreases-fill : goal.decreases-fill
-decreases-fill g l = 64 - length l.at.now
+decreases-fill g l = 64 - length l.catalogue.now.at
 
 abbrev pub invariant-loop-nested : goal.invariant-loop-nested
 invariant-loop-nested g l = record {

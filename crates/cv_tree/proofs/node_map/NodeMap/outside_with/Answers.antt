@@ -18,4 +18,4 @@ loop-place-preserved c =
     outside-left c.args.path.now c.in-Some.place.now c.in-Some.node.now _ _ _ _ c.in-Some.ensures.steps (sym c.covers.ensures ∙ c.if-not-covers.false) c.loop-place.invariant
 
 pub returns : goal.returns
-returns c = gathered (entries_outside c.args.path.now) _ _ refl (rw c.in-None.ensures.steps.0 at c.loop-place.invariant)
+returns c = gathered (entries_outside c.args.path.now) c.loop-place.invariant (rw c.in-None.ensures.steps.0 refl)

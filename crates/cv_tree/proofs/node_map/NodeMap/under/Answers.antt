@@ -18,4 +18,4 @@ loop-rest-preserved c =
     (tt, tt, rw (c.in_ok-set.ensures.ok, c.in_ok-below.ensures) (under-taken c.args.path.now c.in-Some.rest c.in-Some.node _ _ _ _ c.in-Some.ensures.steps c.loop-rest.invariant.2))
 
 pub returns : goal.returns
-returns c = gathered (entries_under c.args.path.now) _ _ refl (rw c.in-None.ensures.steps.0 at c.loop-rest.invariant.2)
+returns c = gathered (entries_under c.args.path.now) c.loop-rest.invariant.2 (rw c.in-None.ensures.steps.0 refl)

@@ -1,5 +1,5 @@
--- Where a hash means a tree, no object that is reached is lacking, and no catalogue bad or damaged.
-use Rattle.std.proofs.Common.{◌≡◌, ℕ, true, List, [], ◌++◌, length, None, Some, refl, sym, ap, subst, ◌∙◌, append-nil, inl, inr}
+-- Where a hash means a tree, a catalogue that is reached is that of a cut.
+use Rattle.std.proofs.Common.{◌≡◌, ℕ, true, List, [], ◌++◌, length, None, Some, refl, sym, ap, subst, ◌∙◌, append-nil}
 use Rattle.std.specs.Prelude.{Contains, IsSomeAnd, IfSome}
 use Rattle.std.specs.declared.option.Option.{Option}
 use Rattle.std.specs.FinMap.{get}
@@ -7,7 +7,6 @@ use Rattle.sha1.specs.Sha1.{sha1}
 use Rattle.cv_base.specs.Path.{Path}
 use Rattle.cv_base.specs.ObjectId.{object_id}
 use Rattle.cv_base.specs.declared.attr.Attr.{Attr}
-use Rattle.cv_base.specs.declared.id.ObjectId.{ObjectId}
 use Rattle.cv_base.specs.declared.id.Kind.TheVariants as id_kind
 use Rattle.cv_ports.specs.Shelf.{Shelf}
 use Rattle.cv_tree.specs.Tree.{Nodes, at}
@@ -23,17 +22,13 @@ use Rattle.cv_rows.specs.declared.row_kind.RowKind.{RowKind}
 use Rattle.cv_cut.specs.Cuts.{is_cut}
 use Rattle.cv_cut.specs.Catalogues.{kind_of, row_of, cat}
 use Rattle.cv_cut.specs.Means.{Means}
-use Rattle.cv_cut.specs.Reached.{ReachedFrom, Reaches, Place, Decodes, HasCatalogue, ReachesCatalogue, itself, Lacking, Misstates, Bad, Reached}
+use Rattle.cv_cut.specs.Reached.{Reaches, Place, Decodes, HasCatalogue, ReachesCatalogue, itself}
 use Rattle.cv_cut.proofs.Lemmas.{cat_is, IsRowThere, root_node, stands_only, stands_at_cut, root_row, canonical, other_cut, region_apart, one_decoding}
 use Rattle.cv_cut.specs.Catalogues.{contents_of}
 use Rattle.cv_load.proofs.CutRows.{IsKept}
 use Rattle.cv_load.proofs.Kept.{kept}
 use Rattle.cv_load.proofs.OneTree.{cut_there}
-use Rattle.cv_cut.specs.Opening.{IsDamaged}
 use Rattle.cv_cut.specs.Region.{row_at}
-
-not_none : {X : Type 0} (o : Option X) (x : X) → o ≡ Some x → o ≡ None → ⊥
-not_none o x some none = let e : Some x ≡ None = sym some ∙ none in cc
 
 -- the root row has the fields of the Transition row but for its kind
 other_kind : (k l : RowKind) (p : Path) (n : Node) → row_of k p n ≡ record (row_of l p n) { kind = (row_of k p n).kind }
@@ -50,10 +45,6 @@ file_parts : (k : RowKind) (p : Path) (n : Node) (hash : List ℕ) → (row_of k
 file_parts k p (node.Dir attr) hash e = absurd cc
 file_parts k p (node.File attr file) hash e = (attr, file, refl, sym cc, refl)
 file_parts k p (node.Link attr target) hash e = absurd cc
-
-sized : (o : Option (List ℕ)) (size : ℕ) → IsSomeAnd o (λ bytes. length bytes ≡ size) → (bytes : List ℕ) × (o ≡ Some bytes) × (length bytes ≡ size)
-sized None size h = absurd h
-sized (Some bytes) size h = (bytes, refl, h)
 
 size_alone : (o : Option (List ℕ)) (hash : List ℕ) (size : ℕ) → IsSomeAnd o (λ bytes. (sha1 bytes ≡ hash) × (length bytes ≡ size)) → IsSomeAnd o (λ bytes. length bytes ≡ size)
 size_alone None hash size h = absurd h
@@ -131,43 +122,3 @@ module _ {shelf : Shelf} {top : List ℕ} {t : Nodes} (is : Means shelf top t) w
       let size : r.size ≡ parts.1.size = ap (λ (x : Row). x.size) f.3 ∙ parts.4 in
       subst (λ (h : List ℕ). IsSomeAnd (shelf (object_id h id_kind.Plain)) (λ bytes. length bytes ≡ r.size)) (sym parts.3)
       (subst (λ (n : ℕ). IsSomeAnd (shelf (object_id parts.1.hash id_kind.Plain)) (λ bytes. length bytes ≡ n)) (sym size) there)
-
-  reached_there : {x : ObjectId} → Reached shelf top x → shelf x ≡ None → ⊥
-  reached_there (ReachedFrom.catalogue_ reached) none = let known = canonical_reached reached in not_none _ _ (there_is known) none
-  reached_there (ReachedFrom.file {hash = hash} {content = content} {place = place} {c = c} {r = r} reached has there kind e) none =
-      let known = canonical_reached reached in
-      let s = sized (shelf (object_id content id_kind.Plain)) r.size (content_there known c (subst (λ (b : List ℕ). Decodes place b c) (same_bytes known has.bytes has.there) has.decodes) r there content e) in
-      not_none _ _ s.1 none
-
-  pub none_lacking : (x : ObjectId) → Lacking shelf top x → ⊥
-  none_lacking x h = reached_there h.0 h.1
-
-  no_misstatement : {hash : List ℕ} {place : Place} → IsCanonical hash place → (c : Contents) → Decodes place (cat t place.path) c → Misstates shelf c → ⊥
-  no_misstatement {place = place} known c decodes (Misstates.nested {n = n} {bytes = bytes} has there differs) =
-      let same = one_decoding place (cat t place.path) c (contents_of t place.path) decodes known.decodes in
-      let e = own_entry place.path n known.cut (subst (λ (x : Contents). Contains x.nested n) same has) in
-      let own : Some bytes ≡ Some (cat t n.path) = sym there ∙ ap (λ (h : List ℕ). shelf (object_id h id_kind.Catalogue)) e.hash ∙ is.catalogues n.path e.cut in
-      let bytes_are : bytes ≡ cat t n.path = cc in
-      differs (ap (λ (b : List ℕ). length b) bytes_are ∙ sym e.size)
-  no_misstatement known c decodes (Misstates.file {r = r} {hash = content} {bytes = bytes} has kind e there differs) =
-      let s = sized (shelf (object_id content id_kind.Plain)) r.size (content_there known c decodes r has content e) in
-      let one : Some bytes ≡ Some s.0 = sym there ∙ s.1 in
-      let same : bytes ≡ s.0 = cc in
-      differs (ap (λ (b : List ℕ). length b) same ∙ s.2)
-
-  pub none_bad : (x : ObjectId) → Bad shelf top x → ⊥
-  none_bad x bad =
-      let known = canonical_reached bad.reached in
-      let bytes = same_bytes known bad.bytes (ap shelf (sym bad.is) ∙ bad.there) in
-      elim bad.wrong [
-        | inl none ↦ none (contents_of t bad.place.path) (subst (λ (b : List ℕ). Decodes bad.place b (contents_of t bad.place.path)) (sym bytes) known.decodes)
-        | inr some ↦ no_misstatement known some.0 (subst (λ (b : List ℕ). Decodes bad.place b some.0) bytes some.1) some.2
-      ]
-
-  -- the bytes of a reached catalogue have its hash
-  same_digest : {x : ObjectId} → Reached shelf top x → x.kind ≡ id_kind.Catalogue → (bytes : List ℕ) → shelf x ≡ Some bytes → sha1 bytes ≡ x.hash
-  same_digest (ReachedFrom.catalogue_ reached) kind bytes there = let known = canonical_reached reached in ap sha1 (same_bytes known bytes there) ∙ sym known.named
-  same_digest (ReachedFrom.file reached has own is content) kind bytes there = absurd cc
-
-  pub none_damaged : (id : ObjectId) (found : List ℕ) → IsDamaged shelf top id found → ⊥
-  none_damaged id found h = h.damage.other (h.damage.digest ∙ same_digest h.reached h.kind h.damage.bytes h.damage.there)
