@@ -21,10 +21,10 @@ use cv_ports::{Folder, FolderItem, FoundKind};
 use cv_real::{SystemCalls, SystemFolder, program_words};
 use cv_vault::{MemoryVault, Vault, VaultFault};
 use std::alloc::AllocError;
-use std::io;
 use std::io::Read;
 use std::process::ExitCode;
 use std::time::Instant;
+use std::{env, io};
 
 type Vaulted = FolderVault<SystemCalls<HostRuntime>>;
 
@@ -293,7 +293,7 @@ fn make_calls(rt: &HostRuntime, words: &Vec<String>) -> io::Result<()> {
 }
 
 fn main(rt: HostRuntime) -> ExitCode {
-    match program_words(&rt) {
+    match program_words(rt.alloc(), env::args(&rt)) {
         Ok(Some(words)) => match make_calls(&rt, &words) {
             Ok(()) => ExitCode::from(0),
             Err(_) => ExitCode::from(1),

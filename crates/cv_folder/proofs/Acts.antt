@@ -1,22 +1,21 @@
 -- The calls of a vault over a folder, put together.
-use Rattle.std.proofs.Common.{◌≡◌, ◌+◌, ◌∷◌, [], Bool, true, false, List, ℕ, length, Option, Some, None, Result, Ok, Err, Vec, refl, sym, subst, inl, inr, string_bytes}
+use Rattle.std.proofs.Common.{◌≡◌, ◌||◌, ◌+◌, ◌∷◌, [], Bool, true, false, List, ℕ, length, Option, Some, None, Result, Ok, Err, Vec, refl, sym, subst, inl, inr, string_bytes}
 use Rattle.std.specs.Prelude.{IsTrue, IfErr, OnErr, OnOk}
 use Rattle.std.specs.declared.io.Error.{Error}
-use Rattle.std.specs.declared.io.ErrorKind.{ErrorKind}
 use Rattle.cv_folder.specs.declared.folder_vault.FolderVault.{FolderVault}
 use Rattle.cv_folder.specs.declared.hold.Hold.{Hold}
 use Rattle.cv_folder.specs.declared.hold.Hold.TheVariants.{Absent, Held, Refused, Unasked}
 use Rattle.cv_system.specs.declared.seen.Seen.{Seen}
-use Rattle.cv_system.specs.Calls.{Log, Removed}
+use Rattle.cv_system.specs.Calls.{Cause, Log, Removed}
 use Rattle.cv_folder.specs.FolderVault.{Acts, AsksAlone, IsUncalled}
 use Rattle.cv_folder.specs.FolderVaultInner.{FindsNamed, MovesOn}
-use Rattle.cv_folder.specs.Hold.{Asked, AskedAt, Asks, AsksInVain, IsHeld, IsRoot}
+use Rattle.cv_folder.specs.Hold.{Asked, AskedAt, Asks, AsksInVain, IsHeld, IsRoot, is_unasked}
 use Rattle.cv_system.specs.Names.{is_name, path_of, with_slash}
 use Rattle.cv_folder.specs.Listed.{ListsNamed}
-use Rattle.cv_system.specs.Looks.{Finds, IsReading, ReadsFile}
+use Rattle.cv_system.specs.Looks.{FailsToReadFile, Finds, ReadsFile}
 use Rattle.cv_folder.specs.Reads.{HasFile, IsUnserved, LacksFile, LooksInVain, MeasuresNamed, ReadsNamed}
-use Rattle.cv_system.specs.Steps.{Makes, Tries}
-use Rattle.cv_folder.specs.Writes.{MovesNamed, RemovesNamed}
+use Rattle.cv_system.specs.Steps.{Tries}
+use Rattle.cv_folder.specs.Writes.{IsLeft, MovesNamed, RemovesNamed}
 
 -- what holds holds where a call is made too
 pub on_ok : {T E Q : Type 0} (result : Result T E) → Q → OnOk result Q
@@ -48,15 +47,25 @@ module _ {F : Type 0} (root path : List ℕ) (before between after : Log) (at : 
   asked_so hold is_root so = inl (is_root, subst (λ (log : Log). AskedAt (with_slash root) hold log after) same (subst (λ (p : List ℕ). AskedAt p hold between after) at so))
 
   -- it can't be told what is there
-  pub unasked_so : (hold : Hold F) → hold ≡ Unasked → IsRoot root → (kind : ErrorKind) → AsksInVain path kind between after → Asked root hold before after
+  pub unasked_so : (hold : Hold F) → hold ≡ Unasked → IsRoot root → (cause : Cause) → AsksInVain path cause between after → Asked root hold before after
   unfolding AskedAt
-  unasked_so hold is is_root kind so =
-      subst (λ (h : Hold F). Asked root h before after) (sym is) (asked_so Unasked is_root (kind, so))
+  unasked_so hold is is_root cause so =
+      subst (λ (h : Hold F). Asked root h before after) (sym is) (asked_so Unasked is_root (cause, so))
 
 -- a path that may be none of a vault's folder is refused
 pub refused_so : (F : Type 0) (root : List ℕ) (before after : Log) → (IsRoot root → ⊥) → after ≡ before → Asked {F = F} root Refused before after
 unfolding Asked
 refused_so F root before after never same = inr (never, refl, same)
+
+-- where it was asked for before, as much is unsettled as before
+pub unsettled_still : {F : Type 0} (hold : Hold F) (is_unsettled : Bool) → (hold ≡ Unasked → ⊥) → is_unsettled ≡ (is_unsettled || is_unasked hold)
+unsettled_still Unasked is_unsettled not = absurd (not refl)
+unsettled_still (Held file) true not = refl
+unsettled_still (Held file) false not = refl
+unsettled_still Absent true not = refl
+unsettled_still Absent false not = refl
+unsettled_still Refused true not = refl
+unsettled_still Refused false not = refl
 
 -- it is asked for now
 pub asks_now : {F : Type 0} (root : List ℕ) (was hold : Hold F) (before after : Log) → was ≡ Unasked → Asked root hold before after → Asks root was hold before after
@@ -116,9 +125,9 @@ module _ {F : Type 0} (root name : List ℕ) (hold : Hold F) (before : Log) wher
     reads_named after bytes reads = (seen, found, has, reads)
 
     -- or it isn't
-    pub reads_in_vain : (after : Log) (error : Error) → Makes (IsReading (path_of root name)) found after → ReadsNamed root name hold (Err error) before after
+    pub reads_in_vain : (after : Log) (error : Error) (cause : Cause) → FailsToReadFile (path_of root name) seen cause found after → ReadsNamed root name hold (Err error) before after
     unfolding FindsNamed ReadsNamed
-    reads_in_vain after error reads = inr (seen, found, has, reads)
+    reads_in_vain after error cause reads = inr (seen, found, has, cause, reads)
 
     -- it tells its length
     pub measures_named : MeasuresNamed {F = F} {E = Error} root name hold (Ok (Some seen.length)) before found
@@ -126,13 +135,13 @@ module _ {F : Type 0} (root name : List ℕ) (hold : Hold F) (before : Log) wher
     measures_named = (seen, has, refl)
 
     -- it is removed
-    pub removes_named : (after : Log) → Tries (Removed (path_of root name) ∷ []) true found after → RemovesNamed {F = F} {E = Error} root name hold (Ok true) before after
+    pub removes_named : (noted : List ℕ → Bool) (is_unsettled : Bool) (after : Log) → IsLeft (path_of root name) noted is_unsettled → Tries (Removed (path_of root name) ∷ []) true found after → RemovesNamed {F = F} {E = Error} root name hold noted is_unsettled (Ok true) before after
     unfolding FindsNamed RemovesNamed
-    removes_named after tried = (seen, found, has, tried)
+    removes_named noted is_unsettled after left tried = (seen, found, has, left, tried)
 
-    pub removes_in_vain : (after : Log) (error : Error) → Tries (Removed (path_of root name) ∷ []) false found after → RemovesNamed root name hold (Err error) before after
+    pub removes_in_vain : (noted : List ℕ → Bool) (is_unsettled : Bool) (after : Log) (error : Error) → IsLeft (path_of root name) noted is_unsettled → Tries (Removed (path_of root name) ∷ []) false found after → RemovesNamed root name hold noted is_unsettled (Err error) before after
     unfolding FindsNamed RemovesNamed
-    removes_in_vain after error tried = inr (seen, found, has, tried)
+    removes_in_vain noted is_unsettled after error left tried = inr (seen, found, has, left, tried)
 
     -- it is moved, once folders are made on the way to its other name
     module _ (to home path : List ℕ) (noted : List ℕ → Bool) (in_root : home ≡ root) (at : path ≡ path_of root name) where
@@ -142,16 +151,18 @@ module _ {F : Type 0} (root name : List ℕ) (hold : Hold F) (before : Log) wher
 
       named_so : (after : Log) → MovesOn root (path_of root name) to seen noted true found after → MovesNamed {F = F} {E = Error} root name to hold noted (Ok true) before after
       unfolding FindsNamed MovesNamed MovesOn
-      named_so after (ready, prepared, inl (never, same)) = absurd (cc)
-      named_so after (ready, prepared, inr (leads, moved)) = (seen, found, ready, has, prepared, leads, moved)
+      named_so after (inl (never, same)) = absurd (cc)
+      named_so after (inr (ready, prepared, inl (never, ends, same))) = absurd (cc)
+      named_so after (inr (ready, prepared, inr (leads, left, moved))) = (seen, found, ready, has, prepared, leads, left, moved)
 
       pub moves_named : (after : Log) → MovesOn home path to seen noted true found after → MovesNamed {F = F} {E = Error} root name to hold noted (Ok true) before after
       moves_named after moves = named_so after (moved_on true after moves)
 
       in_vain_so : (after : Log) (error : Error) → MovesOn root (path_of root name) to seen noted false found after → MovesNamed root name to hold noted (Err error) before after
       unfolding FindsNamed MovesNamed MovesOn
-      in_vain_so after error (ready, prepared, inl (never, same)) = inr (seen, found, ready, has, prepared, inl same)
-      in_vain_so after error (ready, prepared, inr moved) = inr (seen, found, ready, has, prepared, inr moved)
+      in_vain_so after error (inl (never, same)) = inr (seen, found, has, inl same)
+      in_vain_so after error (inr (ready, prepared, inl (never, ends, same))) = inr (seen, found, has, inr (ready, prepared, inl (ends, same)))
+      in_vain_so after error (inr (ready, prepared, inr moved)) = inr (seen, found, has, inr (ready, prepared, inr moved))
 
       pub moves_in_vain : (after : Log) (error : Error) → MovesOn home path to seen noted false found after → MovesNamed root name to hold noted (Err error) before after
       moves_in_vain after error moves = in_vain_so after error (moved_on false after moves)
@@ -174,13 +185,13 @@ module _ {F : Type 0} (root name : List ℕ) (hold : Hold F) (before : Log) wher
     unfolding FindsNamed MeasuresNamed
     measures_lost error other h = h
 
-    pub removes_none : FindsNamed {F = F} {E = Error} root name hold (Ok None) before after → RemovesNamed {F = F} {E = Error} root name hold (Ok false) before after
+    pub removes_none : (noted : List ℕ → Bool) (is_unsettled : Bool) → FindsNamed {F = F} {E = Error} root name hold (Ok None) before after → RemovesNamed {F = F} {E = Error} root name hold noted is_unsettled (Ok false) before after
     unfolding FindsNamed RemovesNamed
-    removes_none h = h
+    removes_none noted is_unsettled h = h
 
-    pub removes_lost : (error other : Error) → FindsNamed root name hold (Err error) before after → RemovesNamed root name hold (Err other) before after
+    pub removes_lost : (noted : List ℕ → Bool) (is_unsettled : Bool) (error other : Error) → FindsNamed root name hold (Err error) before after → RemovesNamed root name hold noted is_unsettled (Err other) before after
     unfolding FindsNamed RemovesNamed
-    removes_lost error other h = inl h
+    removes_lost noted is_unsettled error other h = inl h
 
     pub moves_none : (to : List ℕ) (noted : List ℕ → Bool) → FindsNamed {F = F} {E = Error} root name hold (Ok None) before after → MovesNamed {F = F} {E = Error} root name to hold noted (Ok false) before after
     unfolding FindsNamed MovesNamed
@@ -209,9 +220,18 @@ module _ {S F N E D : Type 0} (log : S → Log) (before between after : FolderVa
     unfolding MeasuresNamed
     measures_fault acts = as_called (λ hold. MeasuresNamed root name hold (Err fault)) acts
 
-    pub removes_fault : Acts log (RemovesNamed root name between.hold (Err error)) before between → Acts log (RemovesNamed root name after.hold (Err fault)) before after
+    -- more may be unsettled by then
+    removed_by_then : (noted : List ℕ → Bool) (is_unsettled by_then : Bool) → (IsTrue is_unsettled → IsTrue by_then) → (asked so : Log)
+        → RemovesNamed root name between.hold noted is_unsettled (Err error) asked so → RemovesNamed root name between.hold noted by_then (Err fault) asked so
     unfolding RemovesNamed
-    removes_fault acts = as_called (λ hold. RemovesNamed root name hold (Err fault)) acts
+    removed_by_then noted is_unsettled by_then still asked so (inl vain) = inl vain
+    removed_by_then noted is_unsettled by_then still asked so (inr (seen, found, has, inl above, tried)) = inr (seen, found, has, inl above, tried)
+    removed_by_then noted is_unsettled by_then still asked so (inr (seen, found, has, inr all, tried)) = inr (seen, found, has, inr (still all), tried)
+
+    pub removes_fault : (noted : List ℕ → Bool) (is_unsettled by_then : Bool) → (IsTrue is_unsettled → IsTrue by_then)
+        → Acts log (RemovesNamed root name between.hold noted is_unsettled (Err error)) before between → Acts log (RemovesNamed root name after.hold noted by_then (Err fault)) before after
+    removes_fault noted is_unsettled by_then still acts =
+        as_called (λ hold. RemovesNamed root name hold noted by_then (Err fault)) (acts_on log before between between _ _ acts refl (λ asked. removed_by_then noted is_unsettled by_then still asked (log between.system)))
 
     pub moves_fault : (to : List ℕ) (noted : List ℕ → Bool) → Acts log (MovesNamed root name to between.hold noted (Err error)) before between → Acts log (MovesNamed root name to after.hold noted (Err fault)) before after
     unfolding MovesNamed
@@ -233,10 +253,10 @@ module _ {S F N : Type 0} (E D : Type 0) (log : S → Log) (before after : Folde
   measures_done (Some size) acts = acts
   measures_done None acts = acts
 
-  pub removes_done : (found : Bool) → Acts log (RemovesNamed {E = E} root name hold (Ok found)) before after → Acts log (RemovesNamed {E = D} root name hold (Ok found)) before after
+  pub removes_done : (noted : List ℕ → Bool) (is_unsettled found : Bool) → Acts log (RemovesNamed {E = E} root name hold noted is_unsettled (Ok found)) before after → Acts log (RemovesNamed {E = D} root name hold noted is_unsettled (Ok found)) before after
   unfolding RemovesNamed
-  removes_done true acts = acts
-  removes_done false acts = acts
+  removes_done noted is_unsettled true acts = acts
+  removes_done noted is_unsettled false acts = acts
 
   pub moves_done : (to : List ℕ) (noted : List ℕ → Bool) (found : Bool) → Acts log (MovesNamed {E = E} root name to hold noted (Ok found)) before after → Acts log (MovesNamed {E = D} root name to hold noted (Ok found)) before after
   unfolding MovesNamed

@@ -1,24 +1,23 @@
 -- A write and a sync of a vault over a folder, put together.
-use Rattle.std.proofs.Common.{◌≡◌, ◌∙◌, ◌+◌, ◌++◌, ◌∷◌, [], Bool, true, false, List, ℕ, length, map, Result, Ok, Err, refl, sym, ap, subst, inl, inr, string_bytes, codes, arith}
+use Rattle.std.proofs.Common.{◌||◌, ◌≡◌, ◌∙◌, ◌+◌, ◌++◌, ◌∷◌, [], Bool, true, false, List, ℕ, length, map, Result, Ok, Err, refl, sym, ap, subst, inl, inr, string_bytes, codes, arith}
 use Rattle.std.specs.Prelude.{◌⊎◌, IsOk, IsTrue, OnOk, is_ok}
 use Rattle.cv_folder.specs.declared.folder_vault.FolderVault.{FolderVault}
 use Rattle.cv_folder.specs.declared.hold.Hold.{Hold}
-use Rattle.cv_folder.specs.declared.hold.Hold.TheVariants.{Absent, Unasked}
+use Rattle.cv_folder.specs.declared.hold.Hold.TheVariants.{Absent}
 use Rattle.cv_system.specs.Calls.{Log}
 use Rattle.cv_system.specs.declared.seen.Seen.{Seen}
 use Rattle.cv_folder.specs.FolderVault.{Acts, AsksAlone, HoldsFirst, IsUncalled}
 use Rattle.cv_folder.specs.FolderVaultInner.{MovesOn}
-use Rattle.cv_folder.specs.Hold.{Begins, IsHeld, MakesRoot}
+use Rattle.cv_folder.specs.Hold.{Begins, IsHeld, MakesRoot, is_unasked}
 use Rattle.cv_system.specs.Names.{folder_of, is_name, next_of, path_of}
 use Rattle.cv_system.specs.Steps.{Tries}
 use Rattle.cv_system.specs.Syncs.{syncs}
 use Rattle.cv_system.specs.Walks.{SettlesAll}
 use Rattle.cv_folder.specs.Syncs.{SettlesFirst, SyncsAll, SyncsHeld}
 use Rattle.cv_system.specs.Looks.{folders_past}
-use Rattle.cv_folder.specs.Writes.{Leads, MovesFile, Prepares, Puts, WritesFile}
+use Rattle.cv_folder.specs.Writes.{EndsOnWay, Leads, LeadsTo, MovesFile, Prepares, Puts, WritesFile}
 use Rattle.cv_folder.proofs.Acts.{acts_so}
 use Rattle.cv_folder.proofs.Preparing.{prepares_wider}
-use Rattle.cv_system.proofs.Laws.{no_step}
 
 -- a write begins as the folder is asked for
 pub begins_asked : {S F N : Type 0} (log : S → Log) (before after : FolderVault S F N) (noted : List ℕ → Bool) → AsksAlone log before after → HoldsFirst before after
@@ -55,6 +54,11 @@ begins_on root was hold is_unsettled by_then noted more before after still kept 
 begins_on root was hold is_unsettled by_then noted more before after still kept (found, asked, asks, first, inr (absent, makes, inr above)) =
     (found, asked, asks, λ is held. still (first is held), inr (absent, makes, inr (kept (folder_of root) above)))
 
+-- what is said of a way, by the place that it begins at, its path and the log before it, is said at the same ones
+way_so : (So : ℕ → List ℕ → Log → Type 0) (from size : ℕ) (path at : List ℕ) (set before : Log) → from ≡ size → path ≡ at → set ≡ before → So from path set → So size at before
+way_so So from size path at set before same_place same_path same_log so =
+    subst (λ (log : Log). So size at log) same_log (subst (λ (p : List ℕ). So size p set) same_path (subst (λ (n : ℕ). So n path set) same_place so))
+
 module _ {F : Type 0} (root name bytes : List ℕ) (was hold : Hold F) (is_unsettled : Bool) (noted : List ℕ → Bool) (before begun : Log) (begins : Begins root was hold is_unsettled noted before begun) where
   -- a write ends as it has begun
   pub writes_no_more : (after : Log) → after ≡ begun → WritesFile root name bytes was hold is_unsettled noted false before after
@@ -74,16 +78,16 @@ module _ {F : Type 0} (root name bytes : List ℕ) (was hold : Hold F) (is_unset
         (subst (λ (p : List ℕ). Leads (folders_past (length root + 1) p) set ready) at (subst (λ (n : ℕ). Leads (folders_past n path) set ready) size leads))
 
     -- a folder on the way couldn't be made
-    pub writes_on_way : WritesFile root name bytes was hold is_unsettled noted false before ready
+    pub writes_on_way : EndsOnWay from path set ready → WritesFile root name bytes was hold is_unsettled noted false before ready
     unfolding WritesFile
-    writes_on_way = (begun, begins, inr (held, named, ready, prepared, inr (refl, refl)))
+    writes_on_way ends = (begun, begins, inr (held, named, ready, prepared, inr (refl, way_so (λ n p log. EndsOnWay n p log ready) _ _ _ _ _ _ size at same ends, refl)))
 
     -- the file is put, or that fails
-    pub writes_so : (done : Bool) (after : Log) → next ≡ folder_of path ++ codes ".cvkit-next" → Leads (folders_past from path) set ready → Puts next path bytes done ready after → WritesFile root name bytes was hold is_unsettled noted done before after
+    pub writes_so : (done : Bool) (after : Log) → next ≡ folder_of path ++ codes ".cvkit-next" → LeadsTo from path noted set ready → Puts next path bytes done ready after → WritesFile root name bytes was hold is_unsettled noted done before after
     unfolding WritesFile
-    writes_so done after beside leads puts =
+    writes_so done after beside (leads, above) puts =
         let own : next ≡ next_of root name = beside ∙ ap (λ (p : List ℕ). folder_of p ++ codes ".cvkit-next") at in
-        (begun, begins, inr (held, named, ready, prepared, inl (led leads, subst (λ (n : List ℕ). Puts n (path_of root name) bytes done ready after) own (subst (λ (p : List ℕ). Puts next p bytes done ready after) at puts))))
+        (begun, begins, inr (held, named, ready, prepared, inl ((led leads, subst (λ (p : List ℕ). IsTrue (noted (folder_of p))) at above), subst (λ (n : List ℕ). Puts n (path_of root name) bytes done ready after) own (subst (λ (p : List ℕ). Puts next p bytes done ready after) at puts))))
 
 -- a write is what it was where more is unsettled by then, and more is noted
 pub writes_by_then : {F : Type 0} (root name bytes : List ℕ) (was hold : Hold F) (is_unsettled by_then : Bool) (noted more : List ℕ → Bool) (done : Bool) (before after : Log)
@@ -95,7 +99,16 @@ writes_by_then root name bytes was hold is_unsettled by_then noted more done bef
 writes_by_then root name bytes was hold is_unsettled by_then noted more done before after still kept (begun, begins, inr (held, named, ready, prepares, rest)) = (
   begun,
   begins_on root was hold is_unsettled by_then noted more before begun still kept begins,
-  inr (held, named, ready, prepares_wider (path_of root name) (length root + 1) (length root + 1) noted more (omega arith) kept begun ready prepares, rest),
+  inr (
+    held,
+    named,
+    ready,
+    prepares_wider (path_of root name) (length root + 1) (length root + 1) noted more (omega arith) kept begun ready prepares,
+    elim rest [
+      | inl put ↦ inl ((put.0.0, kept (folder_of (path_of root name)) put.0.1), put.1)
+      | inr stopped ↦ inr stopped
+    ],
+  ),
 )
 
 -- nothing is settled first
@@ -124,9 +137,9 @@ module _ {F : Type 0} (root : List ℕ) (was hold : Hold F) (is_unsettled : Bool
   unfolding SyncsHeld
   syncs_nothing absent same = inl (absent, same)
 
-  pub syncs_held : IsHeld hold → (all : Bool) → (IsTrue is_unsettled → IsTrue all) → (was ≡ Unasked → IsTrue all) → SyncsAll root all noted before after → SyncsHeld root was hold is_unsettled noted before after
+  pub syncs_held : IsHeld hold → (all : Bool) → all ≡ (is_unsettled || is_unasked was) → SyncsAll root all noted before after → SyncsHeld root was hold is_unsettled noted before after
   unfolding SyncsHeld
-  syncs_held held all kept first syncs = inr (held, all, kept, first, syncs)
+  syncs_held held all is syncs = inr (held, subst (λ (b : Bool). SyncsAll root b noted before after) is syncs)
 
 synced_so : {S F N : Type 0} (log : S → Log) (before between synced after : FolderVault S F N) → between.root ≡ before.root → between.folders ≡ before.folders → IsUncalled log synced after
     → SyncsAll (string_bytes between.root) between.is_unsettled (map string_bytes between.folders.items) (log between.system) (log synced.system)
@@ -138,22 +151,26 @@ synced_so log before between synced after root folders uncalled syncs =
 
 -- a sync that is done has asked for the folder and made all durable
 pub sync_done : {S F N T E D : Type 0} (log : S → Log) (before between synced after : FolderVault S F N) (done : Result (Unit {0}) D) (result : Result T E)
-    → AsksAlone log before between → IsHeld between.hold → (IsTrue before.is_unsettled → IsTrue between.is_unsettled) → (before.hold ≡ Unasked → IsTrue between.is_unsettled)
+    → AsksAlone log before between → IsHeld between.hold → between.is_unsettled ≡ (before.is_unsettled || is_unasked before.hold)
     → between.root ≡ before.root → between.folders ≡ before.folders
     → OnOk done (SyncsAll (string_bytes between.root) between.is_unsettled (map string_bytes between.folders.items) (log between.system) (log synced.system))
     → after.hold ≡ between.hold → IsUncalled log synced after → (IsOk result → IsOk done)
     → OnOk result (Acts log (SyncsHeld (string_bytes before.root) before.hold after.hold before.is_unsettled (map string_bytes before.folders.items)) before after)
-sync_done log before between synced after (Err fault) (Ok x) asks held kept first root folders syncs same uncalled ok = absurd (let never = ok refl in cc)
-sync_done log before between synced after done (Err error) asks held kept first root folders syncs same uncalled ok = tt
-sync_done log before between synced after (Ok y) (Ok x) asks held kept first root folders syncs same uncalled ok =
+sync_done log before between synced after (Err fault) (Ok x) asks held all root folders syncs same uncalled ok = absurd (let never = ok refl in cc)
+sync_done log before between synced after done (Err error) asks held all root folders syncs same uncalled ok = tt
+sync_done log before between synced after (Ok y) (Ok x) asks held all root folders syncs same uncalled ok =
     acts_so log before between after _ asks same
-    (syncs_held _ _ _ _ _ _ _ (subst IsHeld (sym same) held) between.is_unsettled kept first (synced_so log before between synced after root folders uncalled syncs))
+    (syncs_held _ _ _ _ _ _ _ (subst IsHeld (sym same) held) between.is_unsettled all (synced_so log before between synced after root folders uncalled syncs))
+
+-- a folder isn't both held and absent
+pub not_both : {F : Type 0} (hold : Hold F) → IsHeld hold → hold ≡ Absent → ⊥
+not_both hold held absent = subst IsHeld absent held
 
 module _ (root to : List ℕ) (seen : Seen) (noted : List ℕ → Bool) (before : Log) where
   -- a move ends before it made a folder
   pub moves_no_more : (path : List ℕ) (after : Log) → after ≡ before → MovesOn root path to seen noted false before after
-  unfolding MovesOn Prepares
-  moves_no_more path after same = (after, no_step same, inl (refl, refl))
+  unfolding MovesOn
+  moves_no_more path after same = inl (refl, same)
 
   module _ (path target : List ℕ) (from : ℕ) (at : target ≡ path_of root to) (size : from ≡ length root + 1) (set ready : Log) (same : set ≡ before) (prepares : Prepares from target noted set ready) where
     on_way : Prepares (length root + 1) (path_of root to) noted before ready
@@ -162,9 +179,9 @@ module _ (root to : List ℕ) (seen : Seen) (noted : List ℕ → Bool) (before 
         (subst (λ (p : List ℕ). Prepares (length root + 1) p noted set ready) at (subst (λ (n : ℕ). Prepares n target noted set ready) size prepares))
 
     -- a folder on the way couldn't be made
-    pub moves_on_way : MovesOn root path to seen noted false before ready
+    pub moves_on_way : EndsOnWay from target set ready → MovesOn root path to seen noted false before ready
     unfolding MovesOn
-    moves_on_way = (ready, on_way, inl (refl, refl))
+    moves_on_way ends = inr (ready, on_way, inl (refl, way_so (λ n p log. EndsOnWay n p log ready) _ _ _ _ _ _ size at same ends, refl))
 
     led_on : Leads (folders_past from target) set ready → Leads (folders_past (length root + 1) (path_of root to)) before ready
     led_on leads =
@@ -172,7 +189,7 @@ module _ (root to : List ℕ) (seen : Seen) (noted : List ℕ → Bool) (before 
         (subst (λ (p : List ℕ). Leads (folders_past (length root + 1) p) set ready) at (subst (λ (n : ℕ). Leads (folders_past n target) set ready) size leads))
 
     -- the file is moved, or that fails
-    pub moves_on : (source : List ℕ) (done : Bool) (after : Log) → source ≡ path → Leads (folders_past from target) set ready → MovesFile source target seen done ready after → MovesOn root path to seen noted done before after
+    pub moves_on : (source : List ℕ) (done : Bool) (after : Log) → source ≡ path → LeadsTo from target noted set ready → IsTrue (noted (folder_of path)) → MovesFile source target seen done ready after → MovesOn root path to seen noted done before after
     unfolding MovesOn
-    moves_on source done after is leads moves =
-        (ready, on_way, inr (led_on leads, subst (λ (p : List ℕ). MovesFile p (path_of root to) seen done ready after) is (subst (λ (t : List ℕ). MovesFile source t seen done ready after) at moves)))
+    moves_on source done after is (leads, above) left moves =
+        inr (ready, on_way, inr ((led_on leads, subst (λ (t : List ℕ). IsTrue (noted (folder_of t))) at above), left, subst (λ (p : List ℕ). MovesFile p (path_of root to) seen done ready after) is (subst (λ (t : List ℕ). MovesFile source t seen done ready after) at moves)))

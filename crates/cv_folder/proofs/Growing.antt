@@ -2,12 +2,10 @@
 use Rattle.std.proofs.Common.{◌≡◌, ◌∷◌, [], Bool, true, false, List, ℕ, Some, Ok, Err, refl, inl, inr, string_bytes}
 use Rattle.std.specs.Prelude.{◌⊎◌}
 use Rattle.std.specs.declared.io.Error.{Error}
-use Rattle.std.specs.declared.io.ErrorKind.{ErrorKind}
-use Rattle.std.specs.declared.io.ErrorKind.TheVariants.{AlreadyExists, NotFound}
 use Rattle.cv_system.specs.declared.seen.Seen.{Seen}
-use Rattle.cv_system.specs.Calls.{Call, Created, Done, Failed, Locked, Log, Looked, Made, Opened, Outcome, Removed, Unmade, and_call}
+use Rattle.cv_system.specs.Calls.{Cause, Call, Created, Done, Failed, Locked, Log, Looked, Made, Opened, Outcome, Removed, Unmade, and_call}
 use Rattle.cv_system.specs.Looks.{SeesFolders}
-use Rattle.cv_system.specs.Names.{folder_of, path_of, with_slash}
+use Rattle.cv_system.specs.Names.{path_of, with_slash}
 use Rattle.cv_system.specs.Steps.{EndsFailed, Grows, Still, Then, Tries}
 use Rattle.cv_system.proofs.Laws.{fails_now, fails_then, grows, no_step, one_call, steps_then}
 use Rattle.cv_folder.specs.declared.folder_vault.FolderVault.{FolderVault}
@@ -19,17 +17,17 @@ use Rattle.cv_folder.specs.Hold.{Asked, AskedAt, Asks, AsksInVain, Begins, Locks
 use Rattle.cv_folder.specs.Reads.{HasFile}
 use Rattle.cv_folder.specs.Writes.{Prepares, SeesNoOther, SeesOther, TriesAnew}
 
-ends_grow : {kind : ErrorKind} {before after : Log} → EndsFailed kind before after → Grows before after
+ends_grow : {cause : Cause} {before after : Log} → EndsFailed cause before after → Grows before after
 ends_grow (between, call, made, out, is) = Then made (call, tt, is)
 
 -- a folder that is opened can't be locked, or isn't opened
-pub opens_fail : (folder : List ℕ) (kind : ErrorKind) (before after : Log) → OpensNot folder kind before after ⊎ LocksNot folder kind before after → EndsFailed kind before after
-opens_fail folder kind before after (inl is) = fails_now (Opened folder (Failed kind)) refl is
-opens_fail folder kind before after (inr is) = fails_then (one_call (Opened folder Done) tt refl) (fails_now (Locked folder (Err kind)) refl is)
+pub opens_fail : (folder : List ℕ) (cause : Cause) (before after : Log) → OpensNot folder cause before after ⊎ LocksNot folder cause before after → EndsFailed cause before after
+opens_fail folder cause before after (inl is) = fails_now (Opened folder (Failed cause)) refl (λ look nothing. look) is
+opens_fail folder cause before after (inr is) = fails_then (one_call (Opened folder Done) tt refl) (fails_now (Locked folder (Err cause)) refl (λ look nothing. look) is)
 
-pub asks_fail : (folder : List ℕ) (kind : ErrorKind) (before after : Log) → AsksInVain folder kind before after → EndsFailed kind before after
-asks_fail folder kind before after (inl (never, is)) = opens_fail folder kind before after (inl is)
-asks_fail folder kind before after (inr is) = opens_fail folder kind before after (inr is)
+pub asks_fail : (folder : List ℕ) (cause : Cause) (before after : Log) → AsksInVain folder cause before after → EndsFailed cause before after
+asks_fail folder cause before after (inl (never, is)) = opens_fail folder cause before after (inl is)
+asks_fail folder cause before after (inr is) = opens_fail folder cause before after (inr is)
 
 locks_grow : (folder : List ℕ) (given : Bool) (before after : Log) → after ≡ and_call (Locked folder (Ok given)) (and_call (Opened folder Done) before) → Grows before after
 locks_grow folder given before after is = Then (one_call (Opened folder Done) tt refl) (Locked folder (Ok given), tt, is)
@@ -38,8 +36,8 @@ asked_at_grows : {F : Type 0} (folder : List ℕ) (hold : Hold F) (before after 
 unfolding AskedAt
 asked_at_grows folder (Held file) before after is = locks_grow folder true before after is
 asked_at_grows folder Refused before after is = locks_grow folder false before after is
-asked_at_grows folder Absent before after is = one_call (Opened folder (Failed NotFound)) tt is
-asked_at_grows folder Unasked before after (kind, vain) = ends_grow (asks_fail folder kind before after vain)
+asked_at_grows folder Absent before after (cause, absent, is) = one_call (Opened folder (Failed cause)) tt is
+asked_at_grows folder Unasked before after (cause, vain) = ends_grow (asks_fail folder cause before after vain)
 
 asked_grows : {F : Type 0} (root : List ℕ) (hold : Hold F) (before after : Log) → Asked root hold before after → Grows before after
 unfolding Asked
@@ -56,12 +54,12 @@ asks_grow root Refused hold before after (is, same) = no_step same
 makes_grow : {F : Type 0} (root : List ℕ) (hold : Hold F) (before after : Log) → MakesRoot root hold before after → Grows before after
 unfolding MakesRoot
 makes_grow root (Held file) before after is = steps_then (one_call (Made root Done) tt refl) (locks_grow (with_slash root) true _ after is)
-makes_grow root Refused before after (inl is) = one_call (Made root (Failed AlreadyExists)) tt is
+makes_grow root Refused before after (inl (cause, taken, is)) = one_call (Made root (Failed cause)) tt is
 makes_grow root Refused before after (inr is) = steps_then (one_call (Made root Done) tt refl) (locks_grow (with_slash root) false _ after is)
 makes_grow root Absent before after (inl same) = no_step same
-makes_grow root Absent before after (inr (inl (kind, never, is))) = one_call (Made root (Failed kind)) tt is
-makes_grow root Absent before after (inr (inr (kind, (gone, tried, fails, is)))) =
-    Then (steps_then (one_call (Made root Done) tt refl) (ends_grow (opens_fail (with_slash root) kind _ tried fails))) (Unmade root gone, tt, is)
+makes_grow root Absent before after (inr (inl (cause, never, is))) = one_call (Made root (Failed cause)) tt is
+makes_grow root Absent before after (inr (inr (cause, (gone, tried, fails, is)))) =
+    Then (steps_then (one_call (Made root Done) tt refl) (ends_grow (opens_fail (with_slash root) cause _ tried fails))) (Unmade root gone, tt, is)
 makes_grow root Unasked before after never = absurd never
 
 pub begins_grow : {F : Type 0} (root : List ℕ) (was hold : Hold F) (is_unsettled : Bool) (noted : List ℕ → Bool) (before after : Log) → Begins root was hold is_unsettled noted before after → Grows before after
@@ -74,8 +72,8 @@ pub prepares_grow : (from : ℕ) (path : List ℕ) (noted : List ℕ → Bool) (
 unfolding Prepares
 prepares_grow from path noted before after Still = Still
 prepares_grow from path noted before after (Then {between} steps (inl looks)) = steps_then (prepares_grow from path noted before between steps) (grows looks)
-prepares_grow from path noted before after (Then {between} steps (inr (folder, on, above, (kind, made, nothing, is)))) =
-    steps_then (prepares_grow from path noted before between steps) (Then (one_call (Looked folder (Err kind)) tt refl) (Made folder made, tt, is))
+prepares_grow from path noted before after (Then {between} steps (inr (folder, on, above, (cause, made, nothing, is)))) =
+    steps_then (prepares_grow from path noted before between steps) (Then (one_call (Looked folder (Err cause)) tt refl) (Made folder made, tt, is))
 
 sees_grow : (folders : List (List ℕ)) (before after : Log) → SeesFolders folders before after → Grows before after
 sees_grow [] before after same = no_step same
@@ -102,8 +100,9 @@ module _ {S F N : Type 0} (log : S → Log) (before after : FolderVault S F N) w
 tries_grow : (calls : List (Outcome → Call)) (all : Bool) (before after : Log) → Tries calls all before after → Grows before after
 tries_grow [] all before after (made, same) = no_step same
 tries_grow (call ∷ calls) all before after (inl tried) = steps_then (one_call (call Done) tt refl) (tries_grow calls all _ after tried)
-tries_grow (call ∷ calls) all before after (inr (kind, never, is)) = one_call (call (Failed kind)) tt is
+tries_grow (call ∷ calls) all before after (inr (cause, never, is)) = one_call (call (Failed cause)) tt is
 
 pub anew_grows : (next : List ℕ) (calls : List (Outcome → Call)) (all : Bool) (before after : Log) → TriesAnew next calls all before after → Grows before after
-anew_grows next calls all before after (inl tried) = tries_grow (Created next ∷ calls) all before after tried
-anew_grows next calls all before after (inr tried) = steps_then (one_call (Created next (Failed AlreadyExists)) tt refl) (tries_grow (Removed next ∷ Created next ∷ calls) all _ after tried)
+anew_grows next calls all before after (inl tried) = steps_then (one_call (Created next Done) tt refl) (tries_grow calls all _ after tried)
+anew_grows next calls all before after (inr (inl (never, cause, other, is))) = one_call (Created next (Failed cause)) tt is
+anew_grows next calls all before after (inr (inr (cause, taken, tried))) = steps_then (one_call (Created next (Failed cause)) tt refl) (tries_grow (Removed next ∷ Created next ∷ calls) all _ after tried)

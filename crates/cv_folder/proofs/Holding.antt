@@ -1,18 +1,17 @@
 -- How a vault's folder is made and held.
 use Rattle.std.proofs.Common.{◌≡◌, true, false, List, ℕ, Option, Some, None, Result, Ok, Err, subst, sym, inl, inr}
 use Rattle.std.specs.Prelude.{IfOk, IfErr, is_some}
-use Rattle.std.specs.IoError.{error_kind}
 use Rattle.std.specs.declared.io.Error.{Error}
 use Rattle.cv_folder.specs.declared.hold.Hold.{Hold}
 use Rattle.cv_folder.specs.declared.hold.Hold.TheVariants.{Absent, Held, Refused}
-use Rattle.cv_system.specs.Calls.{Done, Log, Made, and_call}
+use Rattle.cv_system.specs.Calls.{cause_of, Done, Log, Made, and_call}
 use Rattle.cv_folder.specs.FolderVaultInner.{MakesHeld}
 use Rattle.cv_folder.specs.Hold.{Locks, LocksAndLeaves, MakesRoot}
 use Rattle.cv_system.specs.Names.{with_slash}
 
 -- a folder that was made is held, another vault holds it, or it couldn't be locked
 pub makes_held : {F : Type 0} (root path : List ℕ) (before made after : Log) (result : Result (Option F) Error) → path ≡ with_slash root → made ≡ and_call (Made root Done) before
-    → IfOk result (λ held. Locks path (is_some held) made after) → IfErr result (λ error. LocksAndLeaves root path (error_kind error) made after)
+    → IfOk result (λ held. Locks path (is_some held) made after) → IfErr result (λ error. LocksAndLeaves root path (cause_of error) made after)
     → MakesHeld root result before after
 unfolding MakesHeld
 makes_held root path before made after (Ok (Some file)) at is locks leaves =
@@ -20,8 +19,8 @@ makes_held root path before made after (Ok (Some file)) at is locks leaves =
 makes_held root path before made after (Ok None) at is locks leaves =
     inr (subst (λ (log : Log). Locks (with_slash root) false log after) is (subst (λ (p : List ℕ). Locks p false made after) at locks))
 makes_held root path before made after (Err error) at is locks leaves =
-    inr (subst (λ (log : Log). LocksAndLeaves root (with_slash root) (error_kind error) log after) is
-    (subst (λ (p : List ℕ). LocksAndLeaves root p (error_kind error) made after) at leaves))
+    inr (subst (λ (log : Log). LocksAndLeaves root (with_slash root) (cause_of error) log after) is
+    (subst (λ (p : List ℕ). LocksAndLeaves root p (cause_of error) made after) at leaves))
 
 -- what a vault has of a folder whose making and locking answered so
 abbrev pub made_hold : {F : Type 0} → Result (Option F) Error → Hold F
@@ -33,8 +32,8 @@ pub makes_root : {F : Type 0} (root : List ℕ) (before after : Log) (result : R
 unfolding MakesHeld MakesRoot
 makes_root root before after (Ok (Some file)) makes = makes
 makes_root root before after (Ok None) makes = makes
-makes_root root before after (Err error) (inl (never, made)) = inr (inl (error_kind error, never, made))
-makes_root root before after (Err error) (inr leaves) = inr (inr (error_kind error, leaves))
+makes_root root before after (Err error) (inl (never, made)) = inr (inl (cause_of error, never, made))
+makes_root root before after (Err error) (inr leaves) = inr (inr (cause_of error, leaves))
 
 module _ {F : Type 0} (root : List ℕ) (hold : Hold F) where
   -- no folder was made

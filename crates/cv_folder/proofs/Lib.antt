@@ -1,5 +1,6 @@
 mod Acts
 mod Anew
+mod Ending
 mod Faults
 mod Filing
 mod Growing
@@ -8,5 +9,9 @@ mod Listed
 mod Notes
 mod Others
 mod Preparing
+mod Quiet
 mod Reasons
+mod Seeing
 mod Vain
+mod Well
+mod Within

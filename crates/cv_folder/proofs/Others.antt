@@ -14,4 +14,4 @@ other_seen seen other false path before after tells more is = inr (more, Ok othe
 
 -- or nothing
 pub other_none : (seen : Seen) (path : List ℕ) (before after : Log) → 1 < seen.links → Looks path (Ok None) before after → LooksForOther seen path (Ok false) before after
-other_none seen path before after more (kind, nothing, is) = inr (more, Err kind, nothing, is)
+other_none seen path before after more (cause, nothing, is) = inr (more, Err cause, nothing, is)

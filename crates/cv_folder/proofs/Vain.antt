@@ -5,7 +5,7 @@ use Rattle.cv_folder.specs.declared.folder_vault.FolderVault.{FolderVault}
 use Rattle.cv_folder.specs.declared.hold.Hold.TheVariants.{Refused, Unasked}
 use Rattle.cv_folder.specs.FolderVault.{Acts, AsksAlone, IsUncalled, Rests, Stays}
 use Rattle.cv_folder.specs.FolderVaultInner.{broken_by}
-use Rattle.cv_folder.specs.Hold.{Asks, IsHeld}
+use Rattle.cv_folder.specs.Hold.{Asks, IsHeld, is_unasked}
 use Rattle.cv_folder.specs.Syncs.{SettlesFirst}
 use Rattle.cv_folder.specs.Unsynced.{FailsFirst, FailsSync, SyncsInVain, SyncsNotAll, is_lost}
 use Rattle.cv_folder.proofs.Acts.{acts_so}
@@ -54,12 +54,19 @@ module _ {S F N : Type 0} (log : S → Log) (before between after : FolderVault 
   fails_unheld whole asks never still = inr (whole, acts_so log before between between _ asks refl (inl (never, still, refl)))
 
   -- and where it is, it ends in vain
-  pub fails_held : before.broken ≡ false → AsksAlone log before between → IsHeld between.hold → (all : Bool) → (IsTrue before.is_unsettled → IsTrue all) → (before.hold ≡ Unasked → IsTrue all)
+  pub fails_held : before.broken ≡ false → AsksAlone log before between → IsHeld between.hold → (all : Bool) → all ≡ (before.is_unsettled || is_unasked before.hold)
       → (unsynced : Unsynced) → after.broken ≡ is_lost unsynced → SyncsNotAll (string_bytes before.root) all (map string_bytes before.folders.items) unsynced (log between.system) (log after.system)
       → after.hold ≡ between.hold → FailsSync log before after
   unfolding FailsSync SyncsInVain
-  fails_held whole asks held all kept first unsynced is fails same =
-      inr (whole, acts_so log before between after _ asks same (inr (subst IsHeld (sym same) held, all, unsynced, kept, first, is, fails)))
+  fails_held whole asks held all settles unsynced is fails same = inr (
+    whole,
+    acts_so log before between after _ asks same (inr (
+      subst IsHeld (sym same) held,
+      unsynced,
+      is,
+      subst (λ (b : Bool). SyncsNotAll (string_bytes before.root) b (map string_bytes before.folders.items) unsynced (log between.system) (log after.system)) settles fails,
+    )),
+  )
 
 -- a fault that is counted changes nothing of it
 pub fails_counted : {S F N : Type 0} (log : S → Log) (before between after : FolderVault S F N) → Stays between after → after.hold ≡ between.hold → IsUncalled log between after
@@ -82,16 +89,16 @@ fails_counted log before between after stays same uncalled (inr (whole, (asked, 
 
 -- a sync in vain ends so
 pub fails_ended : {S F N T X E : Type 0} (log : S → Log) (before between synced after : FolderVault S F N) (done : Result T Unsynced) (result : Result X E) → before.broken ≡ false
-    → AsksAlone log before between → IsHeld between.hold → (IsTrue before.is_unsettled → IsTrue between.is_unsettled) → (before.hold ≡ Unasked → IsTrue between.is_unsettled)
+    → AsksAlone log before between → IsHeld between.hold → between.is_unsettled ≡ (before.is_unsettled || is_unasked before.hold)
     → between.root ≡ before.root → between.folders ≡ before.folders
     → IfErr done (λ unsynced. SyncsNotAll (string_bytes between.root) between.is_unsettled (map string_bytes between.folders.items) unsynced (log between.system) (log synced.system))
     → after.hold ≡ between.hold → IsUncalled log synced after → after.broken ≡ broken_by done synced.broken → synced.broken ≡ false → (IsOk done → IsOk result)
     → OnErr result (FailsSync log before after)
-fails_ended log before between synced after (Ok x) (Ok y) whole asks held kept first root folders fails same uncalled is still ok = tt
-fails_ended log before between synced after (Ok x) (Err error) whole asks held kept first root folders fails same uncalled is still ok = absurd (let never = ok refl in cc)
-fails_ended log before between synced after (Err unsynced) (Ok y) whole asks held kept first root folders fails same uncalled is still ok = tt
-fails_ended log before between synced after (Err unsynced) (Err error) whole asks held kept first root folders fails same uncalled is still ok =
-    fails_held log before between after whole asks held between.is_unsettled kept first unsynced (is ∙ ap (λ (broken : Bool). broken || is_lost unsynced) still)
+fails_ended log before between synced after (Ok x) (Ok y) whole asks held all root folders fails same uncalled is still ok = tt
+fails_ended log before between synced after (Ok x) (Err error) whole asks held all root folders fails same uncalled is still ok = absurd (let never = ok refl in cc)
+fails_ended log before between synced after (Err unsynced) (Ok y) whole asks held all root folders fails same uncalled is still ok = tt
+fails_ended log before between synced after (Err unsynced) (Err error) whole asks held all root folders fails same uncalled is still ok =
+    fails_held log before between after whole asks held between.is_unsettled all unsynced (is ∙ ap (λ (broken : Bool). broken || is_lost unsynced) still)
     (subst (λ r. SyncsNotAll (string_bytes r) between.is_unsettled (map string_bytes before.folders.items) unsynced (log between.system) (log after.system)) root
     (subst (λ f. SyncsNotAll (string_bytes between.root) between.is_unsettled (map string_bytes f.items) unsynced (log between.system) (log after.system)) folders
     (subst (λ (l : Log). SyncsNotAll (string_bytes between.root) between.is_unsettled (map string_bytes between.folders.items) unsynced (log between.system) l) (sym uncalled) fails)))

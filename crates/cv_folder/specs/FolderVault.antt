@@ -1,5 +1,5 @@
 -- What a call of a vault over a folder leaves to the next sync, and which calls of the system it makes.
-use Rattle.std.specs.Prelude.{ℕ, ◌≡◌, ◌≢◌, ◌+◌, List, length, map, min, None, Result, Ok, Err, IsTrue, string_bytes, ⊤}
+use Rattle.std.specs.Prelude.{ℕ, ◌≡◌, ◌≢◌, ◌+◌, false, List, [], length, map, min, None, Result, Ok, Err, IsTrue, string_bytes, ⊤}
 use Rattle.cv_base.specs.Counts.{last_count}
 use Rattle.cv_vault.specs.Disk.{Disk}
 use Rattle.cv_vault.specs.Moments.{Calls}
@@ -9,7 +9,7 @@ use Rattle.cv_folder.specs.declared.folder_vault.FolderVault.{FolderVault}
 use Rattle.cv_folder.specs.declared.hold.Hold.{Hold}
 use Rattle.cv_folder.specs.declared.hold.Hold.TheVariants.{Absent, Refused, Unasked}
 use Rattle.cv_system.specs.Calls.{Log}
-use Rattle.cv_folder.specs.Hold.{Asks, Unsettles}
+use Rattle.cv_folder.specs.Hold.{Asks, IsHeld, Unsettles}
 use Rattle.cv_system.specs.Names.{folder_of, is_name, path_of}
 use Rattle.cv_folder.specs.Noted.{Keeps, NotesOnly, is_noted}
 use Rattle.cv_folder.specs.Syncs.{SyncsHeld}
@@ -85,6 +85,11 @@ AsksAlone log before after = Asks (string_bytes before.root) before.hold after.h
 unfoldable pub Acts : {S F N : Type 0} → (S → Log) → (Log → Log → Type 0) → FolderVault S F N → FolderVault S F N → Type 0
 Acts log Act before after =
     (asked : Log) × Asks (string_bytes before.root) before.hold after.hold (log before.system) asked × Act asked (log after.system)
+
+-- what a sync that is done leaves to the next: nothing where the folder is held, and all that there was where none is there
+abbrev pub Clears : {S F N : Type 0} → FolderVault S F N → FolderVault S F N → Type 0
+Clears before after =
+    (IsHeld after.hold → (after.folders.items ≡ []) × (after.is_unsettled ≡ false)) × (after.hold ≡ Absent → Stays before after)
 
 -- a sync that is done: the vault asks for its folder, if it hadn't yet, and makes durable what was noted, or all
 abbrev pub SyncsDone : {S F N : Type 0} → (S → Log) → FolderVault S F N → FolderVault S F N → Type 0

@@ -1,6 +1,7 @@
 pub mod Causes
 pub mod FolderVault
 pub mod FolderVaultInner
+pub mod GoingOn
 pub mod Hold
 pub mod Listed
 pub mod ListedInner
@@ -8,4 +9,5 @@ pub mod Noted
 pub mod Reads
 pub mod Syncs
 pub mod Unsynced
+pub mod Within
 pub mod Writes

@@ -2,10 +2,11 @@
 use Rattle.std.specs.Prelude.{ℕ, ◌≡◌, ◌⊎◌, ◌≤◌, ◌+◌, false, List, length, Option, Some, None, Result, Ok, Err, IsTrue}
 use Rattle.cv_folder.specs.declared.hold.Hold.{Hold}
 use Rattle.cv_folder.specs.declared.hold.Hold.TheVariants.{Absent, Refused, Unasked}
+use Rattle.cv_system.specs.declared.path_buffer.TheConstants.{PATH_ROOM}
 use Rattle.cv_system.specs.declared.seen.Seen.{Seen}
-use Rattle.cv_system.specs.Calls.{Log}
+use Rattle.cv_system.specs.Calls.{Cause, Log}
 use Rattle.cv_folder.specs.Hold.{IsHeld}
-use Rattle.cv_system.specs.Looks.{FindsFile, IsReading, MissesFile, ReadsFile}
+use Rattle.cv_system.specs.Looks.{FailsToReadFile, FindsFile, MissesFile, ReadsFile}
 use Rattle.cv_system.specs.Names.{is_name, path_of}
 use Rattle.cv_system.specs.Steps.{IsLook, Makes}
 
@@ -20,7 +21,7 @@ LacksFile root name hold before after =
 
 -- no call looks for a file under this name: the vault doesn't have its folder, or this is no name, or its path is longer than the system takes
 abbrev pub IsUnserved : {F : Type 0} → List ℕ → List ℕ → Hold F → Type 0
-IsUnserved root name hold = (hold ≡ Unasked) ⊎ (hold ≡ Refused) ⊎ (is_name name ≡ false) ⊎ (4096 ≤ length (path_of root name))
+IsUnserved root name hold = (hold ≡ Unasked) ⊎ (hold ≡ Refused) ⊎ (is_name name ≡ false) ⊎ (PATH_ROOM ≤ length (path_of root name))
 
 -- a file was looked for under a name in vain: there were looks alone, and none where no call looks for it
 unfoldable pub LooksInVain : {F : Type 0} → List ℕ → List ℕ → Hold F → Log → Log → Type 0
@@ -34,7 +35,7 @@ ReadsNamed root name hold (Ok (Some bytes)) before after =
 ReadsNamed root name hold (Ok None) before after = LacksFile root name hold before after
 ReadsNamed root name hold (Err error) before after =
     LooksInVain root name hold before after
-    ⊎ ((seen : Seen) × (found : Log) × HasFile root name hold seen before found × Makes (IsReading (path_of root name)) found after)
+    ⊎ ((seen : Seen) × (found : Log) × HasFile root name hold seen before found × (cause : Cause) × FailsToReadFile (path_of root name) seen cause found after)
 
 -- a file's length is asked under a name
 unfoldable pub MeasuresNamed : {F E : Type 0} → List ℕ → List ℕ → Hold F → Result (Option ℕ) E → Log → Log → Type 0

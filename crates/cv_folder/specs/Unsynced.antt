@@ -1,10 +1,10 @@
 -- How a sync fails.
-use Rattle.std.specs.Prelude.{ℕ, Bool, true, false, ◌≡◌, ◌⊎◌, List, [], ◌∷◌, IsTrue, map, string_bytes}
+use Rattle.std.specs.Prelude.{ℕ, Bool, true, false, ◌≡◌, ◌⊎◌, ◌||◌, List, [], ◌∷◌, IsTrue, map, string_bytes}
 use Rattle.cv_folder.specs.declared.folder_vault.FolderVault.{FolderVault}
 use Rattle.cv_folder.specs.declared.hold.Hold.{Hold}
 use Rattle.cv_folder.specs.declared.hold.Hold.TheVariants.{Refused, Unasked}
 use Rattle.cv_folder.specs.FolderVault.{Acts, Rests}
-use Rattle.cv_folder.specs.Hold.{IsHeld}
+use Rattle.cv_folder.specs.Hold.{IsHeld, is_unasked}
 use Rattle.cv_folder.specs.Syncs.{SettlesFirst}
 use Rattle.cv_system.specs.Calls.{Log}
 use Rattle.cv_system.specs.Names.{folder_of}
@@ -37,8 +37,7 @@ is_lost Lost = true
 unfoldable pub SyncsInVain : {F : Type 0} → List ℕ → Hold F → Hold F → Bool → List (List ℕ) → Bool → Log → Log → Type 0
 SyncsInVain root was hold is_unsettled noted lost before after =
     (((hold ≡ Unasked) ⊎ (hold ≡ Refused)) × (lost ≡ false) × (after ≡ before))
-    ⊎ (IsHeld hold × (all : Bool) × (unsynced : Unsynced) × (IsTrue is_unsettled → IsTrue all) × (was ≡ Unasked → IsTrue all) × (lost ≡ is_lost unsynced)
-    × SyncsNotAll root all noted unsynced before after)
+    ⊎ (IsHeld hold × (unsynced : Unsynced) × (lost ≡ is_lost unsynced) × SyncsNotAll root (is_unsettled || is_unasked was) noted unsynced before after)
 
 -- a sync that failed: where something was lost before it does nothing; else the vault asks for its folder, if it hadn't yet, and the sync ends in vain
 unfoldable pub FailsSync : {S F N : Type 0} → (S → Log) → FolderVault S F N → FolderVault S F N → Type 0

@@ -1,17 +1,18 @@
 //! What a vault over a folder does, and which calls of the system it makes for it.
-ghost use Rattle.std.specs.Prelude.{◌≡◌, ◌≢◌, ◌<◌, ◌+◌, ◌↔◌, ◌⊎◌, ◌++◌, [], ◌∷◌, length, true, false, Ok, Err, None, IfErr, IfOk, IsOk, IsTrue, OnErr, OnOk, codes, is_ok, string_bytes, ⊤};
-ghost use Rattle.std.specs.IoError.{error_kind, raw_os_error};
+ghost use Rattle.std.specs.Prelude.{◌≡◌, ◌≢◌, ◌<◌, ◌+◌, ◌↔◌, ◌⊎◌, ◌||◌, ◌++◌, [], ◌∷◌, length, true, false, Ok, Err, None, IfErr, IfOk, IsOk, IsTrue, OnErr, OnOk, codes, is_ok, string_bytes, ⊤};
+ghost use Rattle.std.specs.IoError.{error_kind};
 ghost use Rattle.cv_base.specs.Counts.{HasCause};
-ghost use Rattle.cv_folder.specs.Causes.{FailsBy, FailsToMove, FailsToRead, FailsToWrite};
+ghost use Rattle.cv_folder.specs.Causes.{FailsBy, FailsToMove, FailsToRead, FailsToWrite, WantsMemory};
 ghost use Rattle.cv_vault.specs.declared.vault.VaultFault.TheVariants.{Failed, NoMemory};
 ghost use Rattle.cv_folder.specs.FolderVault.{Acts, Adds, AsksAlone, HoldsFirst, HoldsOrMakes, IsAboveName, IsUncalled, Notes, Rests, Serves, Stays, with_fault};
-ghost use Rattle.cv_folder.specs.FolderVaultInner.{FailsToMake, FailsToMoveOn, FindsNamed, HasFolder, IsAt, IsMemory, MovesOn};
-ghost use Rattle.cv_folder.specs.Hold.{Asked, Begins, IsHeld, IsRoot, MakesRoot};
+ghost use Rattle.cv_folder.specs.FolderVaultInner.{FailsToMake, FailsToMoveOn, FindsNamed, HasFolder, IsAt, MovesOn};
+ghost use Rattle.cv_folder.specs.Hold.{Asked, Begins, IsHeld, IsRoot, MakesRoot, is_unasked};
+ghost use Rattle.cv_system.specs.declared.path_buffer.TheConstants.{PATH_ROOM};
 ghost use Rattle.cv_system.specs.Names.{folder_of, is_name, path_of, with_slash};
-ghost use Rattle.cv_folder.specs.Listed.{IsListed, ListsNamed};
+ghost use Rattle.cv_folder.specs.Listed.{FailsToList, IsListed, ListsNamed};
 ghost use Rattle.cv_folder.specs.Noted.{is_noted};
 ghost use Rattle.cv_folder.specs.Reads.{IsUnserved, MeasuresNamed, ReadsNamed};
-ghost use Rattle.cv_system.specs.Calls.{Removed};
+ghost use Rattle.cv_system.specs.Calls.{IsWant, Removed, cause_of};
 ghost use Rattle.cv_system.specs.Steps.{EndsFailed, Tries};
 ghost use Rattle.cv_folder.specs.Writes.{MovesNamed, RemovesNamed, WritesFile};
 
@@ -52,7 +53,7 @@ impl<S: System + Drop> FolderVault<S> {
         ensures known { IfOk result (λ hold. hold ≢ Hold.Unasked) }
         ensures fails { OnErr result (Asked (string_bytes self.old.root) self.old.hold
             (S.log self.old.system) (S.log self.new.system)) }
-        ensures why { IfErr result (λ error. EndsFailed (error_kind error)
+        ensures why { IfErr result (λ error. EndsFailed (cause_of error)
             (S.log self.old.system) (S.log self.new.system)) }
         ensures hold { self.new.hold ≡ self.old.hold }
         ensures stays { Stays self.old self.new }
@@ -78,8 +79,9 @@ impl<S: System + Drop> FolderVault<S> {
         ensures faults { self.new.faults ≡ self.old.faults }
         ensures calls { MakesRoot (string_bytes self.old.root) self.new.hold
             (S.log self.old.system) (S.log self.new.system) }
-        ensures why { IfErr result (λ error. IsMemory error
-            ⊎ FailsToMake (string_bytes self.old.root) self.new.hold (error_kind error)
+        ensures why { IfErr result (λ error. WantsMemory (cause_of error)
+            (S.log self.old.system) (S.log self.new.system)
+            ⊎ FailsToMake (string_bytes self.old.root) self.new.hold (cause_of error)
             (S.log self.old.system) (S.log self.new.system)) }
     {
         note(&mut self.folders, folder_of(self.root.as_str()))?;
@@ -98,7 +100,7 @@ impl<S: System + Drop> FolderVault<S> {
 
     /// Sets the path of the folder, with a slash at its end.
     pub(crate) fn set_root(&mut self) -> io::Result<()>
-        ensures ok { IsOk result ↔ (length (string_bytes self.old.root) + 1 < 4096) }
+        ensures ok { IsOk result ↔ (length (string_bytes self.old.root) + 1 < PATH_ROOM) }
         ensures kind { IfErr result (λ error. error_kind error ≡ ErrorKind.InvalidInput) }
         ensures path { OnOk result (self.new.path ≡ string_bytes self.old.root ++ 47 ∷ []) }
         ensures stays { Stays self.old self.new }
@@ -116,7 +118,7 @@ impl<S: System + Drop> FolderVault<S> {
     /// Sets the path of a name. A text that is none is refused, and one whose path is longer than the system takes.
     pub(crate) fn set_path(&mut self, name: &str) -> io::Result<()>
         ensures ok { IsOk result ↔ IsTrue (is_name name.now) × (length (string_bytes self.old.root)
-            + length name.now + 1 < 4096) }
+            + length name.now + 1 < PATH_ROOM) }
         ensures kind { IfErr result (λ error. error_kind error ≡ ErrorKind.InvalidInput) }
         ensures path { OnOk result (self.new.path ≡ path_of (string_bytes self.old.root) name.now) }
         ensures stays { Stays self.old self.new }
@@ -133,7 +135,7 @@ impl<S: System + Drop> FolderVault<S> {
 
     /// Sets the path of the own file beside the path that is set.
     pub(crate) fn set_next(&mut self) -> io::Result<()>
-        ensures ok { IsOk result ↔ (length (folder_of self.old.path) + 11 < 4096) }
+        ensures ok { IsOk result ↔ (length (folder_of self.old.path) + 11 < PATH_ROOM) }
         ensures kind { IfErr result (λ error. error_kind error ≡ ErrorKind.InvalidInput) }
         ensures next { OnOk result (self.new.next ≡ folder_of self.old.path ++ codes ".cvkit-next") }
         ensures path { self.new.path ≡ self.old.path }
@@ -162,7 +164,7 @@ impl<S: System + Drop> FolderVault<S> {
         ensures fails { OnErr result (IsUnserved (string_bytes self.old.root) name.now
             self.new.hold) }
         ensures why { IfErr result (λ error. FailsBy (string_bytes self.old.root) name.now
-            self.new.hold (error_kind error) (S.log self.old.system) (S.log self.new.system)) }
+            self.new.hold (cause_of error) (S.log self.old.system) (S.log self.new.system)) }
         ensures path { OnOk result (IsAt self.new name.now × (self.old.hold ≢ Hold.Refused)) }
         ensures stays { Stays self.old self.new }
         ensures holds { HoldsFirst self.old self.new }
@@ -178,7 +180,9 @@ impl<S: System + Drop> FolderVault<S> {
     pub(crate) fn ask(&mut self) -> io::Result<()>
         ensures known { OnOk result (self.new.hold ≢ Hold.Unasked) }
         ensures fails { OnErr result (self.new.hold ≡ Hold.Unasked) }
-        ensures why { IfErr result (λ error. EndsFailed (error_kind error)
+        ensures all { IsHeld self.new.hold
+            → self.new.is_unsettled ≡ (self.old.is_unsettled || is_unasked self.old.hold) }
+        ensures why { IfErr result (λ error. EndsFailed (cause_of error)
             (S.log self.old.system) (S.log self.new.system)) }
         ensures stays { Stays self.old self.new }
         ensures holds { HoldsFirst self.old self.new }
@@ -200,9 +204,11 @@ impl<S: System + Drop> FolderVault<S> {
         ensures refused { OnOk result (self.old.hold ≢ Hold.Refused) }
         ensures fails { OnErr result
             ((self.new.hold ≡ Hold.Unasked) ⊎ (self.new.hold ≡ Hold.Refused)) }
+        ensures all { IsHeld self.new.hold
+            → self.new.is_unsettled ≡ (self.old.is_unsettled || is_unasked self.old.hold) }
         ensures why { IfErr result (λ error.
             ((error_kind error ≡ ErrorKind.InvalidInput) × (self.new.hold ≡ Hold.Refused))
-            ⊎ EndsFailed (error_kind error) (S.log self.old.system) (S.log self.new.system)) }
+            ⊎ EndsFailed (cause_of error) (S.log self.old.system) (S.log self.new.system)) }
         ensures stays { Stays self.old self.new }
         ensures holds { HoldsFirst self.old self.new }
         ensures faults { self.new.faults ≡ self.old.faults }
@@ -225,7 +231,7 @@ impl<S: System + Drop> FolderVault<S> {
         ensures calls { Acts S.log (FindsNamed (string_bytes self.old.root) name.now self.new.hold
             result) self.old self.new }
         ensures why { IfErr result (λ error. FailsBy (string_bytes self.old.root) name.now
-            self.new.hold (error_kind error) (S.log self.old.system) (S.log self.new.system)) }
+            self.new.hold (cause_of error) (S.log self.old.system) (S.log self.new.system)) }
     {
         if !self.begin(name)? {
             return Ok(None);
@@ -249,8 +255,7 @@ impl<S: System + Drop> FolderVault<S> {
 
     /// Want of memory, or one more fault.
     pub(crate) fn fault_of(&mut self, error: &io::Error) -> VaultFault
-        ensures memory { (result ≡ NoMemory)
-            ↔ (error_kind error.now ≡ ErrorKind.OutOfMemory) × (raw_os_error error.now ≡ None) }
+        ensures memory { (result ≡ NoMemory) ↔ IsWant (cause_of error.now) }
         ensures calls { IsUncalled S.log self.old self.new }
         ensures hold { self.new.hold ≡ self.old.hold }
         ensures count { self.new.faults ≡ with_fault result self.old.faults }
@@ -272,7 +277,7 @@ impl<S: System + Drop> FolderVault<S> {
         ensures calls { Acts S.log (ReadsNamed (string_bytes self.old.root) name.now self.new.hold
             result) self.old self.new }
         ensures why { IfErr result (λ error. FailsToRead (string_bytes self.old.root) name.now
-            self.new.hold (error_kind error) (S.log self.old.system) (S.log self.new.system)) }
+            self.new.hold (cause_of error) (S.log self.old.system) (S.log self.new.system)) }
     {
         match self.find(name)? {
             Some(found) => {
@@ -292,7 +297,7 @@ impl<S: System + Drop> FolderVault<S> {
         ensures calls { Acts S.log (MeasuresNamed (string_bytes self.old.root) name.now
             self.new.hold result) self.old self.new }
         ensures why { IfErr result (λ error. FailsBy (string_bytes self.old.root) name.now
-            self.new.hold (error_kind error) (S.log self.old.system) (S.log self.new.system)) }
+            self.new.hold (cause_of error) (S.log self.old.system) (S.log self.new.system)) }
     {
         match self.find(name)? {
             Some(found) => Ok(Some(found.length)),
@@ -308,6 +313,8 @@ impl<S: System + Drop> FolderVault<S> {
         ensures faults { self.new.faults ≡ self.old.faults }
         ensures calls { Acts S.log (ListsNamed (string_bytes self.old.root) self.new.hold result)
             self.old self.new }
+        ensures why { IfErr result (λ error. FailsToList self.new.hold (cause_of error)
+            (S.log self.old.system) (S.log self.new.system)) }
     {
         if !self.is_held()? {
             return Ok(Vec::new(self.alloc));
@@ -326,8 +333,9 @@ impl<S: System + Drop> FolderVault<S> {
         ensures begins { Begins (string_bytes self.old.root) self.old.hold self.new.hold
             self.new.is_unsettled (is_noted self.new.folders.items)
             (S.log self.old.system) (S.log self.new.system) }
-        ensures why { IfErr result (λ error. IsMemory error
-            ⊎ FailsToWrite (string_bytes self.old.root) name.now self.new.hold (error_kind error)
+        ensures why { IfErr result (λ error. WantsMemory (cause_of error)
+            (S.log self.old.system) (S.log self.new.system)
+            ⊎ FailsToWrite (string_bytes self.old.root) name.now self.new.hold (cause_of error)
             (S.log self.old.system) (S.log self.new.system)) }
         ensures no_name { is_name name.now ≡ false → AsksAlone S.log self.old self.new }
     {
@@ -348,8 +356,9 @@ impl<S: System + Drop> FolderVault<S> {
         ensures calls { WritesFile (string_bytes self.old.root) name.now bytes.now self.old.hold
             self.new.hold self.new.is_unsettled (is_noted self.new.folders.items) (is_ok result)
             (S.log self.old.system) (S.log self.new.system) }
-        ensures why { IfErr result (λ error. IsMemory error
-            ⊎ FailsToWrite (string_bytes self.old.root) name.now self.new.hold (error_kind error)
+        ensures why { IfErr result (λ error. WantsMemory (cause_of error)
+            (S.log self.old.system) (S.log self.new.system)
+            ⊎ FailsToWrite (string_bytes self.old.root) name.now self.new.hold (cause_of error)
             (S.log self.old.system) (S.log self.new.system)) }
         ensures no_name { is_name name.now ≡ false → AsksAlone S.log self.old self.new }
     {
@@ -382,8 +391,9 @@ impl<S: System + Drop> FolderVault<S> {
         ensures calls { MovesOn (string_bytes self.old.root) self.old.path to.now found.now
             (is_noted self.new.folders.items) (is_ok result)
             (S.log self.old.system) (S.log self.new.system) }
-        ensures why { IfErr result (λ error. IsMemory error
-            ⊎ FailsToMoveOn (string_bytes self.old.root) to.now self.new.hold (error_kind error)
+        ensures why { IfErr result (λ error. WantsMemory (cause_of error)
+            (S.log self.old.system) (S.log self.new.system)
+            ⊎ FailsToMoveOn (string_bytes self.old.root) to.now self.new.hold (cause_of error)
             (S.log self.old.system) (S.log self.new.system)) }
     {
         let source = own_text(self.alloc, self.path.as_str())?;
@@ -415,9 +425,10 @@ impl<S: System + Drop> FolderVault<S> {
             (is_noted self.new.folders.items) result) self.old self.new }
         ensures rests { (from.now ≡ to.now) ⊎ (is_name to.now ≡ false)
             → Rests S.log self.old self.new }
-        ensures why { IfErr result (λ error. IsMemory error
-            ⊎ FailsToMove (string_bytes self.old.root) from.now to.now self.new.hold (error_kind error)
-            (S.log self.old.system) (S.log self.new.system)) }
+        ensures why { IfErr result (λ error. WantsMemory (cause_of error)
+            (S.log self.old.system) (S.log self.new.system)
+            ⊎ FailsToMove (string_bytes self.old.root) from.now to.now self.new.hold
+            (cause_of error) (S.log self.old.system) (S.log self.new.system)) }
     {
         if from == to {
             return Err(refused());
@@ -444,7 +455,7 @@ impl<S: System + Drop> FolderVault<S> {
         ensures faults { self.new.faults ≡ self.old.faults }
         ensures calls { Tries (Removed self.old.path ∷ []) (is_ok result)
             (S.log self.old.system) (S.log self.new.system) }
-        ensures why { IfErr result (λ error. EndsFailed (error_kind error)
+        ensures why { IfErr result (λ error. EndsFailed (cause_of error)
             (S.log self.old.system) (S.log self.new.system)) }
     {
         let folder = folder_of(self.path.as_str());
@@ -461,9 +472,9 @@ impl<S: System + Drop> FolderVault<S> {
         ensures holds { HoldsFirst self.old self.new }
         ensures faults { self.new.faults ≡ self.old.faults }
         ensures calls { Acts S.log (RemovesNamed (string_bytes self.old.root) name.now self.new.hold
-            result) self.old self.new }
+            (is_noted self.new.folders.items) self.new.is_unsettled result) self.old self.new }
         ensures why { IfErr result (λ error. FailsBy (string_bytes self.old.root) name.now
-            self.new.hold (error_kind error) (S.log self.old.system) (S.log self.new.system)) }
+            self.new.hold (cause_of error) (S.log self.old.system) (S.log self.new.system)) }
     {
         match self.find(name)? {
             Some(_found) => {

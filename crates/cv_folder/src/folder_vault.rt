@@ -3,14 +3,16 @@ ghost use Rattle.std.specs.Prelude.{◌≡◌, ◌≢◌, ◌⊎◌, [], true, f
 ghost use Rattle.cv_base.specs.Counts.{HasCause};
 ghost use Rattle.cv_vault.specs.Disk.{Reads, Measures, Lists, Writes, Renames, Removes, Syncs};
 ghost use Rattle.cv_vault.specs.declared.vault.VaultFault.TheVariants.{Failed, NoMemory};
-ghost use Rattle.cv_folder.specs.Causes.{FailsBy, FailsToMove, FailsToRead, FailsToWrite, Tells};
-ghost use Rattle.cv_folder.specs.FolderVault.{Acts, Adds, AsksAlone, Fails, Holds, HoldsFirst, HoldsOrMakes, IsAboveName, Notes, Rests, Serves, Stays, SyncsDone, Untold, faults_after};
+ghost use Rattle.cv_folder.specs.Causes.{FailsBy, FailsToMove, FailsToRead, FailsToWrite, Tells, WantsMemory};
+ghost use Rattle.cv_folder.specs.FolderVault.{Acts, Adds, AsksAlone, Clears, Fails, Holds, HoldsFirst, HoldsOrMakes, IsAboveName, Notes, Rests, Serves, Stays, SyncsDone, Untold, faults_after};
 ghost use Rattle.cv_folder.specs.Hold.{IsHeld};
-ghost use Rattle.cv_folder.specs.Listed.{IsListed, ListsNamed};
-ghost use Rattle.cv_system.specs.Names.{folder_of, is_name, path_of};
+ghost use Rattle.cv_folder.specs.Listed.{FailsToList, IsListed, ListsNamed};
+ghost use Rattle.cv_system.specs.Calls.{Cause};
+ghost use Rattle.cv_system.specs.Names.{folder_of, is_name, next_of, path_of};
 ghost use Rattle.cv_folder.specs.Noted.{is_noted};
 ghost use Rattle.cv_folder.specs.Reads.{MeasuresNamed, ReadsNamed};
 ghost use Rattle.cv_folder.specs.Unsynced.{FailsSync};
+ghost use Rattle.cv_folder.specs.Within.{NamesWhole, StaysWithin};
 ghost use Rattle.cv_folder.specs.Writes.{MovesNamed, RemovesNamed, WritesFile};
 
 use crate::hold::Hold;
@@ -116,9 +118,11 @@ impl<S: System + Drop> Vault for FolderVault<S> {
         ensures holds { HoldsFirst self.old self.new }
         ensures calls { Acts S.log (ReadsNamed (string_bytes self.old.root) name.now self.new.hold
             result) self.old self.new }
-        ensures why { IfErr result (λ fault. Tells fault (λ kind. FailsToRead
-            (string_bytes self.old.root) name.now self.new.hold kind
+        ensures why { IfErr result (λ fault. Tells fault (λ cause. FailsToRead
+            (string_bytes self.old.root) name.now self.new.hold cause
             (S.log self.old.system) (S.log self.new.system))) }
+        ensures within { StaysWithin (string_bytes self.old.root)
+            (S.log self.old.system) (S.log self.new.system) }
     {
         match self.read_now(name) {
             Ok(bytes) => Ok(bytes),
@@ -135,9 +139,11 @@ impl<S: System + Drop> Vault for FolderVault<S> {
         ensures holds { HoldsFirst self.old self.new }
         ensures calls { Acts S.log (MeasuresNamed (string_bytes self.old.root) name.now
             self.new.hold result) self.old self.new }
-        ensures why { IfErr result (λ fault. Tells fault (λ kind. FailsBy
-            (string_bytes self.old.root) name.now self.new.hold kind
+        ensures why { IfErr result (λ fault. Tells fault (λ cause. FailsBy
+            (string_bytes self.old.root) name.now self.new.hold cause
             (S.log self.old.system) (S.log self.new.system))) }
+        ensures within { StaysWithin (string_bytes self.old.root)
+            (S.log self.old.system) (S.log self.new.system) }
     {
         match self.length_now(name) {
             Ok(length) => Ok(length),
@@ -155,6 +161,10 @@ impl<S: System + Drop> Vault for FolderVault<S> {
         ensures holds { HoldsFirst self.old self.new }
         ensures calls { Acts S.log (ListsNamed (string_bytes self.old.root) self.new.hold result)
             self.old self.new }
+        ensures within { StaysWithin (string_bytes self.old.root)
+            (S.log self.old.system) (S.log self.new.system) }
+        ensures why { IfErr result (λ fault. Tells fault (λ cause. FailsToList self.new.hold cause
+            (S.log self.old.system) (S.log self.new.system))) }
     {
         match self.list_now(prefix) {
             Ok(names) => Ok(names),
@@ -174,10 +184,16 @@ impl<S: System + Drop> Vault for FolderVault<S> {
         ensures calls { WritesFile (string_bytes self.old.root) name.now bytes.now self.old.hold
             self.new.hold self.new.is_unsettled (is_noted self.new.folders.items) (is_ok result)
             (S.log self.old.system) (S.log self.new.system) }
-        ensures why { result ≡ Err Failed → Tells Failed (λ kind. FailsToWrite
-            (string_bytes self.old.root) name.now self.new.hold kind
-            (S.log self.old.system) (S.log self.new.system)) }
+        ensures why { IfErr result (λ fault. Tells fault (λ cause. WantsMemory cause
+            (S.log self.old.system) (S.log self.new.system)
+            ⊎ FailsToWrite (string_bytes self.old.root) name.now self.new.hold cause
+            (S.log self.old.system) (S.log self.new.system))) }
         ensures no_name { is_name name.now ≡ false → AsksAlone S.log self.old self.new }
+        ensures within { StaysWithin (string_bytes self.old.root)
+            (S.log self.old.system) (S.log self.new.system) }
+        ensures whole { NamesWhole (next_of (string_bytes self.old.root) name.now)
+            (path_of (string_bytes self.old.root) name.now) bytes.now
+            (S.log self.old.system) (S.log self.new.system) }
     {
         match self.write_now(name, bytes) {
             Ok(()) => Ok(()),
@@ -202,9 +218,12 @@ impl<S: System + Drop> Vault for FolderVault<S> {
             (is_noted self.new.folders.items) result) self.old self.new }
         ensures rests { (from.now ≡ to.now) ⊎ (is_name to.now ≡ false)
             → Rests S.log self.old self.new }
-        ensures why { result ≡ Err Failed → Tells Failed (λ kind. FailsToMove
-            (string_bytes self.old.root) from.now to.now self.new.hold kind
-            (S.log self.old.system) (S.log self.new.system)) }
+        ensures why { IfErr result (λ fault. Tells fault (λ cause. WantsMemory cause
+            (S.log self.old.system) (S.log self.new.system)
+            ⊎ FailsToMove (string_bytes self.old.root) from.now to.now self.new.hold cause
+            (S.log self.old.system) (S.log self.new.system))) }
+        ensures within { StaysWithin (string_bytes self.old.root)
+            (S.log self.old.system) (S.log self.new.system) }
     {
         match self.rename_now(from, to) {
             Ok(found) => Ok(found),
@@ -223,10 +242,12 @@ impl<S: System + Drop> Vault for FolderVault<S> {
             ≡ folder_of (path_of (string_bytes self.old.root) name.now)) self.old self.new }
         ensures holds { HoldsFirst self.old self.new }
         ensures calls { Acts S.log (RemovesNamed (string_bytes self.old.root) name.now self.new.hold
-            result) self.old self.new }
-        ensures why { IfErr result (λ fault. Tells fault (λ kind. FailsBy
-            (string_bytes self.old.root) name.now self.new.hold kind
-            (S.log self.old.system) (S.log self.new.system))) }
+            (is_noted self.new.folders.items) self.new.is_unsettled result) self.old self.new }
+        ensures why { OnErr result ((cause : Cause) × FailsBy
+            (string_bytes self.old.root) name.now self.new.hold cause
+            (S.log self.old.system) (S.log self.new.system)) }
+        ensures within { StaysWithin (string_bytes self.old.root)
+            (S.log self.old.system) (S.log self.new.system) }
     {
         match self.remove_now(name) {
             Ok(found) => Ok(found),
@@ -245,6 +266,9 @@ impl<S: System + Drop> Vault for FolderVault<S> {
         ensures vain { OnErr result (FailsSync S.log self.old self.new) }
         ensures root { (self.new.root ≡ self.old.root) × Holds self.old.hold self.new.hold }
         ensures calls { OnOk result (SyncsDone S.log self.old self.new) }
+        ensures cleared { OnOk result (Clears self.old self.new) }
+        ensures within { StaysWithin (string_bytes self.old.root)
+            (S.log self.old.system) (S.log self.new.system) }
     {
         match self.sync_now() {
             Ok(()) => Ok(()),

@@ -1,7 +1,7 @@
 //! The hold that a vault has of its folder.
 ghost use Rattle.std.specs.Prelude.{◌≡◌, ◌≢◌, ◌⊎◌, ◌↔◌, Ok, Err, IfOk, IfErr, IfSome, IsTrue, is_some};
 ghost use Rattle.std.specs.IoError.{error_kind};
-ghost use Rattle.cv_system.specs.Calls.{Locked, and_call};
+ghost use Rattle.cv_system.specs.Calls.{Locked, and_call, cause_of};
 ghost use Rattle.cv_folder.specs.FolderVaultInner.{MakesHeld};
 ghost use Rattle.cv_folder.specs.Hold.{AskedAt, AsksInVain, Locks, LocksAndLeaves, LocksNot, OpensNot};
 ghost use Rattle.cv_system.specs.Names.{with_slash};
@@ -59,7 +59,7 @@ fn lock_open<S: System>(system: &mut S, file: S::File) -> io::Result<Option<S::F
         ≡ and_call (Locked (S.place file) (Ok (is_some held))) (S.log system.old)) }
     ensures same { IfOk result (λ held. IfSome held (λ held. held ≡ file)) }
     ensures fails { IfErr result (λ error. S.log system.new
-        ≡ and_call (Locked (S.place file) (Err (error_kind error))) (S.log system.old)) }
+        ≡ and_call (Locked (S.place file) (Err (cause_of error))) (S.log system.old)) }
 {
     if system.lock(&file)? {
         Ok(Some(file))
@@ -73,8 +73,8 @@ fn lock_folder<S: System>(system: &mut S, folder: &str) -> io::Result<Option<S::
     ensures given { IfOk result (λ held. Locks folder.now (is_some held) (S.log system.old)
         (S.log system.new)) }
     ensures fails { IfErr result (λ error.
-        OpensNot folder.now (error_kind error) (S.log system.old) (S.log system.new)
-        ⊎ LocksNot folder.now (error_kind error) (S.log system.old) (S.log system.new)) }
+        OpensNot folder.now (cause_of error) (S.log system.old) (S.log system.new)
+        ⊎ LocksNot folder.now (cause_of error) (S.log system.old) (S.log system.new)) }
 {
     let open = system.open(folder)?;
     lock_open(system, open)
@@ -85,7 +85,7 @@ pub fn hold_of<S: System>(system: &mut S, folder: &str) -> io::Result<Hold<S::Fi
     ensures asked { IfOk result (λ hold. AskedAt folder.now hold (S.log system.old)
         (S.log system.new)) }
     ensures known { IfOk result (λ hold. hold ≢ Hold.Unasked) }
-    ensures fails { IfErr result (λ error. AsksInVain folder.now (error_kind error)
+    ensures fails { IfErr result (λ error. AsksInVain folder.now (cause_of error)
         (S.log system.old) (S.log system.new)) }
 {
     let open = match system.open(folder) {
@@ -104,7 +104,7 @@ pub fn hold_of<S: System>(system: &mut S, folder: &str) -> io::Result<Hold<S::Fi
 fn hold_made<S: System>(system: &mut S, folder: &str, slashed: &str) -> io::Result<Option<S::File>>
     ensures given { IfOk result (λ held. Locks slashed.now (is_some held) (S.log system.old)
         (S.log system.new)) }
-    ensures fails { IfErr result (λ error. LocksAndLeaves folder.now slashed.now (error_kind error)
+    ensures fails { IfErr result (λ error. LocksAndLeaves folder.now slashed.now (cause_of error)
         (S.log system.old) (S.log system.new)) }
 {
     match lock_folder(system, slashed) {

@@ -1,19 +1,20 @@
 //! The names below a folder.
-ghost use Rattle.std.specs.Prelude.{◌≡◌, ◌==◌, ◌↔◌, ◌⊎◌, ◌++◌, ◌∷◌, [], ℕ, List, IfOk, IfErr, IsOk, string_bytes};
-ghost use Rattle.std.specs.IoError.{error_kind};
-ghost use Rattle.std.specs.List.{Contains, starts_with};
+ghost use Rattle.std.specs.Prelude.{◌≡◌, ◌==◌, ◌↔◌, ◌⊎◌, ◌++◌, ◌∷◌, [], ℕ, List, IfOk, IfErr, IsOk, IsSome, Err, not, string_bytes};
+ghost use Rattle.std.specs.List.{All, Contains, list_all, starts_with};
 ghost use Rattle.std.specs.List.Sorted.{IsStrictlySortedBy};
 ghost use Rattle.cv_base.specs.Path.{name_cmp, same_name};
-ghost use Rattle.cv_folder.specs.Listed.{AllBegin, IsListed, IsListing, ListsFiles};
-ghost use Rattle.cv_folder.specs.ListedInner.{AddsSeen, ListsOn};
-ghost use Rattle.cv_system.specs.Names.{path_of};
-ghost use Rattle.cv_system.specs.Passed.{IsNoName};
+ghost use Rattle.cv_folder.specs.Listed.{AllBegin, FailsListing, IsListed, IsListing, ListsFiles};
+ghost use Rattle.cv_folder.specs.ListedInner.{AddsSeen, GoesOrEnds, ListsOn};
+ghost use Rattle.cv_system.specs.Calls.{IsWant, cause_of};
+ghost use Rattle.cv_system.specs.Names.{with_slash};
+ghost use Rattle.cv_system.specs.Passed.{HidesNoName};
 ghost use Rattle.cv_system.specs.Steps.{Makes};
 
+use crate::noting::{no_memory, own_text};
 use cv_base::Text;
-use cv_system::looks::{is_no_name, seen};
-use cv_system::{NAMES_ROOM, Seen, System, cut_name, is_part};
-use std::alloc::{AllocError, Global};
+use cv_system::looks::{hides_no_name, seen};
+use cv_system::{NAMES_ROOM, Seen, System, cut_name, is_name};
+use std::alloc::Global;
 use std::cmp::Ordering;
 use std::io;
 use std::io::ErrorKind;
@@ -23,6 +24,13 @@ fn begins(name: &str, prefix: &str) -> bool
     ensures { result ≡ starts_with (λ a b. a == b) name.now prefix.now }
 {
     name.as_bytes().starts_with(prefix.as_bytes())
+}
+
+/// Whether no byte of a text is a slash.
+fn has_no_slash(text: &str) -> bool
+    ensures { result ≡ list_all (λ b. not (b == 47)) text.now }
+{
+    text.bytes().all(|byte| byte != b'/')
 }
 
 /// How two texts are ordered by their bytes.
@@ -52,23 +60,36 @@ fn in_order(found: Vec<Text>) -> Vec<Text>
     texts
 }
 
-/// The path of a name below a root.
-fn path_below(alloc: Global, root: &str, name: &str) -> Result<String, AllocError>
-    ensures { IfOk result (λ path. string_bytes path ≡ path_of root.now name.now) }
+/// One text and another behind it.
+fn joined(alloc: Global, one: &str, other: &str) -> io::Result<String>
+    ensures text { IfOk result (λ text. string_bytes text ≡ one.now ++ other.now) }
+    ensures memory { IfErr result (λ error. IsWant (cause_of error)) }
 {
-    let mut path = String::from_str(alloc, root)?;
-    path.push('/')?;
-    path.push_str(name)?;
-    Ok(path)
+    let mut text = own_text(alloc, one)?;
+    match text.push_str(other) {
+        Ok(()) => Ok(text),
+        Err(_) => Err(no_memory()),
+    }
+}
+
+/// The room for the names of a folder.
+fn names_room(alloc: Global) -> io::Result<Vec<u8>>
+    ensures { IfErr result (λ error. IsWant (cause_of error)) }
+{
+    match vec![in alloc; 0u8; NAMES_ROOM] {
+        Ok(names) => Ok(names),
+        Err(_) => Err(no_memory()),
+    }
 }
 
 /// How what was done ends where no name of the vault is behind the error that ended it: well.
 fn passed_over(done: io::Result<()>) -> io::Result<()>
     ensures ok { IsOk done → IsOk result }
-    ensures passed { IfErr done (λ error. IsOk result ↔ IsNoName (error_kind error)) }
+    ensures passed { IfErr done (λ error. IsOk result ↔ HidesNoName (cause_of error)) }
+    ensures fails { IfErr result (λ error. done ≡ Err error) }
 {
     match done {
-        Err(error) if is_no_name(&error) => Ok(()),
+        Err(error) if hides_no_name(&error) => Ok(()),
         done => done,
     }
 }
@@ -91,43 +112,70 @@ pub fn list_files<S: System>(
     prefix: &str,
 ) -> io::Result<Vec<Text>>
     ensures listed { IfOk result (λ names. IsListed prefix.now names.items) }
-    ensures calls { Makes IsListing (S.log system.old) (S.log system.new) }
+    ensures calls { Makes (IsListing (with_slash root.now)) (S.log system.old) (S.log system.new) }
     ensures saw { IfOk result (λ names. ListsFiles root.now names.items (S.log system.old)
         (S.log system.new)) }
+    ensures why { IfErr result (λ error. FailsListing (cause_of error) (S.log system.old)
+        (S.log system.new)) }
 {
-    let mut listing = Listing {
-        alloc,
-        found: Vec::new(alloc),
-        todo: Vec::new(alloc),
-    };
-    listing
-        .todo
-        .push(String::new(alloc))
-        .map_err(AllocError::from)?;
+    let top = joined(alloc, root, "/")?;
+    let mut listing = Listing::new(alloc)?;
     // Each turn takes one folder of the disk; the bound is never met.
     for _ in 0..u64::MAX {
         let Some(folder) = listing.todo.pop() else {
             return Ok(in_order(listing.found));
         };
-        passed_over(listing.list_folder(system, root, folder.as_str(), prefix))?;
+        passed_over(listing.list_folder(system, top.as_str(), folder.as_str(), prefix))?;
     }
     Err(io::Error::from(ErrorKind::TimedOut))
 }
 
 impl Listing {
+    /// A listing that begins with the folder at the front.
+    fn new(alloc: Global) -> io::Result<Listing>
+        ensures found { IfOk result (λ listing. listing.found.items ≡ []) }
+        ensures todo { IfOk result (λ listing. All (λ way. string_bytes way ≡ [])
+            listing.todo.items) }
+        ensures memory { IfErr result (λ error. IsWant (cause_of error)) }
+    {
+        let mut todo = Vec::new(alloc);
+        let found = Vec::new(alloc);
+        match todo.push(String::new(alloc)) {
+            Ok(()) => Ok(Listing { alloc, found, todo }),
+            Err(_) => Err(no_memory()),
+        }
+    }
+
     /// Adds a name, if it begins with the prefix.
     #[tactic(auto, using(crate::proofs::Listed::one_more))]
-    fn add(&mut self, name: String, prefix: &str) -> Result<(), AllocError>
+    fn add(&mut self, name: String, prefix: &str) -> io::Result<()>
         ensures begin { AllBegin prefix.now self.old.found.items
             → AllBegin prefix.now self.new.found.items }
         ensures added { (self.new.found.items ≡ self.old.found.items)
             ⊎ (self.new.found.items ≡ self.old.found.items ++ string_bytes name ∷ []) }
+        ensures todo { self.new.todo.items ≡ self.old.todo.items }
+        ensures memory { IfErr result (λ error. IsWant (cause_of error)) }
     {
         if !begins(name.as_str(), prefix) {
             return Ok(());
         }
-        self.found.push(Text::new(name))?;
-        Ok(())
+        match self.found.push(Text::new(name)) {
+            Ok(()) => Ok(()),
+            Err(_) => Err(no_memory()),
+        }
+    }
+
+    /// Adds a folder that may hold others, by its name with a slash behind it.
+    fn add_folder(&mut self, below: String) -> io::Result<()>
+        ensures added { (self.new.todo.items ≡ self.old.todo.items)
+            ⊎ (self.new.todo.items ≡ self.old.todo.items ++ below ∷ []) }
+        ensures found { self.new.found.items ≡ self.old.found.items }
+        ensures memory { IfErr result (λ error. IsWant (cause_of error)) }
+    {
+        match self.todo.push(below) {
+            Ok(()) => Ok(()),
+            Err(_) => Err(no_memory()),
+        }
     }
 
     /// Adds what was seen at a name: a file whose name begins with the prefix, or a folder that may hold others.
@@ -140,18 +188,18 @@ impl Listing {
     ) -> io::Result<()>
         ensures begin { AllBegin prefix.now self.old.found.items
             → AllBegin prefix.now self.new.found.items }
-        ensures added { AddsSeen found (string_bytes name) self.old.found.items
-            self.new.found.items }
+        ensures added { AddsSeen found (string_bytes name) below self.old.found.items
+            self.new.found.items self.old.todo.items self.new.todo.items }
+        ensures memory { IfErr result (λ error. IsWant (cause_of error)) }
     {
         let Some(found) = found else {
             return Ok(());
         };
         if found.is_folder() {
-            self.todo.push(below).map_err(AllocError::from)?;
-            return Ok(());
+            return self.add_folder(below);
         }
         if found.is_file() {
-            self.add(name, prefix)?;
+            return self.add(name, prefix);
         }
         Ok(())
     }
@@ -161,28 +209,32 @@ impl Listing {
     fn list_entry<S: System>(
         &mut self,
         system: &mut S,
-        root: &str,
+        front: &str,
         folder: &str,
         bytes: &[u8],
         prefix: &str,
     ) -> io::Result<()>
         ensures begin { AllBegin prefix.now self.old.found.items
             → AllBegin prefix.now self.new.found.items }
-        ensures lists { ListsOn root.now self.old.found.items self.new.found.items
-            (S.log system.old) (S.log system.new) }
+        ensures lists { ListsOn front.now folder.now self.old self.new (S.log system.old)
+            (S.log system.new) }
+        ensures ends { GoesOrEnds result (S.log system.old) (S.log system.new) }
     {
         let Ok(last) = str::from_utf8(bytes) else {
             return Ok(());
         };
-        if !is_part(last) {
+        if !has_no_slash(last) {
             return Ok(());
         }
-        let name = format!(in self.alloc; "{folder}{last}")?;
-        let below = format!(in self.alloc; "{name}/")?;
+        let name = joined(self.alloc, folder, last)?;
+        if !is_name(name.as_str()) {
+            return Ok(());
+        }
+        let below = joined(self.alloc, name.as_str(), "/")?;
         if !begins(name.as_str(), prefix) && !begins(prefix, below.as_str()) {
             return Ok(());
         }
-        let path = path_below(self.alloc, root, name.as_str())?;
+        let path = joined(self.alloc, front, name.as_str())?;
         let found = seen(system, path.as_str())?;
         self.add_found(found, name, below, prefix)
     }
@@ -191,47 +243,50 @@ impl Listing {
     fn list_names<S: System>(
         &mut self,
         system: &mut S,
-        root: &str,
+        front: &str,
         folder: &str,
         names: &[u8],
         prefix: &str,
     ) -> io::Result<()>
         ensures begin { AllBegin prefix.now self.old.found.items
             → AllBegin prefix.now self.new.found.items }
-        ensures lists { ListsOn root.now self.old.found.items self.new.found.items
-            (S.log system.old) (S.log system.new) }
+        ensures lists { ListsOn front.now folder.now self.old self.new (S.log system.old)
+            (S.log system.new) }
+        ensures ends { GoesOrEnds result (S.log system.old) (S.log system.new) }
     {
         let mut rest = names;
         while let Some((name, others)) = cut_name(rest) {
-            passed_over(self.list_entry(system, root, folder, name, prefix))?;
+            passed_over(self.list_entry(system, front, folder, name, prefix))?;
             rest = others;
         }
-        passed_over(self.list_entry(system, root, folder, rest, prefix))
+        passed_over(self.list_entry(system, front, folder, rest, prefix))
     }
 
     /// Adds the files of a folder that is open whose names begin with the prefix, and the folders that may hold others.
     fn list_open<S: System>(
         &mut self,
         system: &mut S,
-        root: &str,
+        front: &str,
         folder: &str,
-        open: S::Names,
+        entered: S::Names,
         prefix: &str,
     ) -> io::Result<()>
+        requires { IsSome (S.log system.old) → S.folder entered ≡ front.now ++ folder.now }
         ensures begin { AllBegin prefix.now self.old.found.items
             → AllBegin prefix.now self.new.found.items }
-        ensures lists { ListsOn root.now self.old.found.items self.new.found.items
-            (S.log system.old) (S.log system.new) }
+        ensures lists { ListsOn front.now folder.now self.old self.new (S.log system.old)
+            (S.log system.new) }
+        ensures ends { GoesOrEnds result (S.log system.old) (S.log system.new) }
     {
-        let mut open = open;
-        let mut names = vec![in self.alloc; 0u8; NAMES_ROOM]?;
+        let mut entered = entered;
+        let mut names = names_room(self.alloc)?;
         // Each turn but the last takes names of the disk; the bound is never met.
         for _ in 0..u64::MAX {
-            let count = system.read_names(&mut open, &mut names)?;
+            let count = system.read_names(&mut entered, &mut names)?;
             if count == 0 {
                 return Ok(());
             }
-            self.list_names(system, root, folder, &names[..count], prefix)?;
+            self.list_names(system, front, folder, &names[..count], prefix)?;
         }
         Err(io::Error::from(ErrorKind::TimedOut))
     }
@@ -240,17 +295,18 @@ impl Listing {
     fn list_folder<S: System>(
         &mut self,
         system: &mut S,
-        root: &str,
+        front: &str,
         folder: &str,
         prefix: &str,
     ) -> io::Result<()>
         ensures begin { AllBegin prefix.now self.old.found.items
             → AllBegin prefix.now self.new.found.items }
-        ensures lists { ListsOn root.now self.old.found.items self.new.found.items
-            (S.log system.old) (S.log system.new) }
+        ensures lists { ListsOn front.now folder.now self.old self.new (S.log system.old)
+            (S.log system.new) }
+        ensures ends { GoesOrEnds result (S.log system.old) (S.log system.new) }
     {
-        let at = format!(in self.alloc; "{root}/{folder}")?;
-        let open = system.open_names(at.as_str())?;
-        self.list_open(system, root, folder, open, prefix)
+        let at = joined(self.alloc, front, folder)?;
+        let entered = system.open_names(at.as_str())?;
+        self.list_open(system, front, folder, entered, prefix)
     }
 }

@@ -1,14 +1,13 @@
 //! The folders that a name stands in, made where they are missing.
-ghost use Rattle.std.specs.Prelude.{◌≡◌, ◌⊎◌, ◌<◌, IfErr, IsTrue, OnOk, length};
-ghost use Rattle.std.specs.IoError.{error_kind};
-ghost use Rattle.cv_system.specs.Calls.{Done, Made, Outcome, and_call};
+ghost use Rattle.std.specs.Prelude.{◌≡◌, ◌⊎◌, ◌<◌, IfErr, IsTrue, OnErr, OnOk, length};
+ghost use Rattle.cv_system.specs.Calls.{Done, Made, Outcome, and_call, cause_of};
 ghost use Rattle.cv_system.specs.Names.{folder_of};
-ghost use Rattle.cv_folder.specs.Causes.{FailsOnWay};
-ghost use Rattle.cv_folder.specs.FolderVaultInner.{IsMemory};
+ghost use Rattle.cv_folder.specs.Causes.{FailsOnWay, WantsMemory};
+ghost use Rattle.cv_folder.specs.FolderVaultInner.{MakesNot};
 ghost use Rattle.cv_folder.specs.Noted.{Keeps, NotesOnly, is_noted};
 ghost use Rattle.cv_system.specs.Steps.{EndsFailed, IsLook, Makes};
 ghost use Rattle.cv_system.specs.Looks.{folders_at, folders_past};
-ghost use Rattle.cv_folder.specs.Writes.{IsAbove, Leads, LeadsOn, MakesMissing, Prepares};
+ghost use Rattle.cv_folder.specs.Writes.{EndsOnWay, FailsToLead, IsAbove, Leads, LeadsOn, MakesMissing, Prepares, StopsOn};
 
 use crate::noting::note;
 use cv_system::looks::{folder_at, seen};
@@ -27,8 +26,10 @@ fn make_noted<S: System>(system: &mut S, folder: &str, notes: &mut Vec<String>) 
         × (S.log system.new ≡ and_call (Made folder.now made) (S.log system.old))) }
     ensures made { OnOk result
         (S.log system.new ≡ and_call (Made folder.now Done) (S.log system.old)) }
-    ensures why { IfErr result (λ error. IsMemory error
-        ⊎ EndsFailed (error_kind error) (S.log system.old) (S.log system.new)) }
+    ensures stops { OnErr result (MakesNot folder.now (S.log system.old) (S.log system.new)) }
+    ensures why { IfErr result (λ error. WantsMemory (cause_of error)
+        (S.log system.old) (S.log system.new)
+        ⊎ EndsFailed (cause_of error) (S.log system.old) (S.log system.new)) }
 {
     note(notes, folder_of(folder))?;
     system.make_folder(folder)
@@ -43,8 +44,10 @@ fn make_folder<S: System>(system: &mut S, folder: &str, notes: &mut Vec<String>)
         ⊎ (IsTrue (is_noted notes.new.items (folder_of folder.now))
         × MakesMissing folder.now (S.log system.old) (S.log system.new)) }
     ensures leads { OnOk result (LeadsOn folder.now (S.log system.old) (S.log system.new)) }
-    ensures why { IfErr result (λ error. IsMemory error
-        ⊎ FailsOnWay (error_kind error) (S.log system.old) (S.log system.new)) }
+    ensures stops { OnErr result (StopsOn folder.now (S.log system.old) (S.log system.new)) }
+    ensures why { IfErr result (λ error. WantsMemory (cause_of error)
+        (S.log system.old) (S.log system.new)
+        ⊎ FailsOnWay (cause_of error) (S.log system.old) (S.log system.new)) }
 {
     match seen(system, folder)? {
         Some(found) if found.is_folder() => Ok(()),
@@ -67,8 +70,11 @@ fn make_folder_at<S: System>(
         (S.log system.old) (S.log system.new) }
     ensures leads { OnOk result
         (Leads (folders_at path.now end) (S.log system.old) (S.log system.new)) }
-    ensures why { IfErr result (λ error. IsMemory error
-        ⊎ FailsOnWay (error_kind error) (S.log system.old) (S.log system.new)) }
+    ensures stops { OnErr result
+        (FailsToLead (folders_at path.now end) (S.log system.old) (S.log system.new)) }
+    ensures why { IfErr result (λ error. WantsMemory (cause_of error)
+        (S.log system.old) (S.log system.new)
+        ⊎ FailsOnWay (cause_of error) (S.log system.old) (S.log system.new)) }
 {
     match folder_at(path, end) {
         Some(folder) => make_folder(system, folder, notes),
@@ -91,8 +97,11 @@ pub fn make_folders<S: System>(
         (S.log system.old) (S.log system.new) }
     ensures leads { OnOk result
         (Leads (folders_past from path.now) (S.log system.old) (S.log system.new)) }
-    ensures why { IfErr result (λ error. IsMemory error
-        ⊎ FailsOnWay (error_kind error) (S.log system.old) (S.log system.new)) }
+    ensures stops { OnErr result
+        (EndsOnWay from path.now (S.log system.old) (S.log system.new)) }
+    ensures why { IfErr result (λ error. WantsMemory (cause_of error)
+        (S.log system.old) (S.log system.new)
+        ⊎ FailsOnWay (cause_of error) (S.log system.old) (S.log system.new)) }
 {
     for end in from..path.len() {
         make_folder_at(system, path, end, notes)?;

@@ -1,6 +1,6 @@
 //! The folders that were noted, to be synced.
 ghost use Rattle.std.specs.Prelude.{◌≡◌, ◌⊎◌, IfErr, IfOk, IsTrue, OnOk, string_bytes};
-ghost use Rattle.cv_folder.specs.FolderVaultInner.{IsMemory};
+ghost use Rattle.cv_system.specs.Calls.{IsWant, cause_of};
 ghost use Rattle.cv_folder.specs.Noted.{Keeps, NotesOnly, is_noted};
 
 use std::alloc::{AllocError, Global};
@@ -15,8 +15,8 @@ fn is_noted(notes: &[String], folder: &str) -> bool
 }
 
 /// Want of memory in this process.
-fn no_memory() -> io::Error
-    ensures { IsMemory result }
+pub fn no_memory() -> io::Error
+    ensures { IsWant (cause_of result) }
 {
     io::Error::new(ErrorKind::OutOfMemory, "no memory in this process")
 }
@@ -24,7 +24,7 @@ fn no_memory() -> io::Error
 /// A text of its own.
 pub fn own_text(alloc: Global, text: &str) -> io::Result<String>
     ensures ok { IfOk result (λ own. string_bytes own ≡ text.now) }
-    ensures memory { IfErr result (λ error. IsMemory error) }
+    ensures memory { IfErr result (λ error. IsWant (cause_of error)) }
 {
     match String::from_str(alloc, text) {
         Ok(own) => Ok(own),
@@ -51,7 +51,7 @@ pub fn note(notes: &mut Vec<String>, folder: &str) -> io::Result<()>
     ensures noted { OnOk result (IsTrue (is_noted notes.new.items folder.now)) }
     ensures kept { Keeps notes.old.items notes.new.items }
     ensures only { NotesOnly (λ other. other ≡ folder.now) notes.old.items notes.new.items }
-    ensures memory { IfErr result (λ error. IsMemory error) }
+    ensures memory { IfErr result (λ error. IsWant (cause_of error)) }
 {
     match add_note(notes, folder) {
         Ok(()) => Ok(()),

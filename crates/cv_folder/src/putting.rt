@@ -1,7 +1,6 @@
 //! A file that gets its name.
 ghost use Rattle.std.specs.Prelude.{◌≡◌, [], ◌∷◌, IfErr, IfOk, IsSome, is_ok};
-ghost use Rattle.std.specs.IoError.{error_kind};
-ghost use Rattle.cv_system.specs.Calls.{Created, Removed};
+ghost use Rattle.cv_system.specs.Calls.{Created, Removed, cause_of};
 ghost use Rattle.cv_folder.specs.FolderVaultInner.{LooksForOther, RemovesOwn};
 ghost use Rattle.cv_system.specs.Steps.{EndsFailed, Tries};
 ghost use Rattle.cv_folder.specs.Writes.{MovesFile, Puts, TriesAnew, put};
@@ -16,7 +15,7 @@ fn create_again<S: System>(system: &mut S, path: &str) -> io::Result<S::File>
     ensures calls { Tries (Removed path.now ∷ Created path.now ∷ []) (is_ok result)
         (S.log system.old) (S.log system.new) }
     ensures place { IfOk result (λ file. IsSome (S.log system.new) → S.place file ≡ path.now) }
-    ensures fails { IfErr result (λ error. EndsFailed (error_kind error) (S.log system.old)
+    ensures fails { IfErr result (λ error. EndsFailed (cause_of error) (S.log system.old)
         (S.log system.new)) }
 {
     system.remove_file(path)?;
@@ -27,7 +26,7 @@ fn create_again<S: System>(system: &mut S, path: &str) -> io::Result<S::File>
 fn create_next<S: System>(system: &mut S, path: &str) -> io::Result<S::File>
     ensures calls { TriesAnew path.now [] (is_ok result) (S.log system.old) (S.log system.new) }
     ensures place { IfOk result (λ file. IsSome (S.log system.new) → S.place file ≡ path.now) }
-    ensures fails { IfErr result (λ error. EndsFailed (error_kind error) (S.log system.old)
+    ensures fails { IfErr result (λ error. EndsFailed (cause_of error) (S.log system.old)
         (S.log system.new)) }
 {
     match system.create_new(path) {
@@ -40,7 +39,7 @@ fn create_next<S: System>(system: &mut S, path: &str) -> io::Result<S::File>
 fn put_next<S: System>(system: &mut S, next: &str, path: &str, bytes: &[u8]) -> io::Result<()>
     ensures tries { TriesAnew next.now (put next.now path.now bytes.now) (is_ok result)
         (S.log system.old) (S.log system.new) }
-    ensures fails { IfErr result (λ error. EndsFailed (error_kind error) (S.log system.old)
+    ensures fails { IfErr result (λ error. EndsFailed (cause_of error) (S.log system.old)
         (S.log system.new)) }
 {
     let mut file = create_next(system, next)?;
@@ -54,7 +53,7 @@ fn put_next<S: System>(system: &mut S, next: &str, path: &str, bytes: &[u8]) -> 
 pub fn put_file<S: System>(system: &mut S, next: &str, path: &str, bytes: &[u8]) -> io::Result<()>
     ensures puts { Puts next.now path.now bytes.now (is_ok result) (S.log system.old)
         (S.log system.new) }
-    ensures fails { IfErr result (λ error. RemovesOwn next.now (error_kind error)
+    ensures fails { IfErr result (λ error. RemovesOwn next.now (cause_of error)
         (S.log system.old) (S.log system.new)) }
 {
     match put_next(system, next, path, bytes) {
@@ -83,7 +82,7 @@ fn is_other_name<S: System>(system: &mut S, found: &Seen, path: &str) -> io::Res
 pub fn move_file<S: System>(system: &mut S, from: &str, found: &Seen, to: &str) -> io::Result<()>
     ensures moves { MovesFile from.now to.now found.now (is_ok result) (S.log system.old)
         (S.log system.new) }
-    ensures fails { IfErr result (λ error. EndsFailed (error_kind error) (S.log system.old)
+    ensures fails { IfErr result (λ error. EndsFailed (cause_of error) (S.log system.old)
         (S.log system.new)) }
 {
     if is_other_name(system, found, to)? {

@@ -1,6 +1,6 @@
 //! How a vault over a folder makes durable what it changed, and what was there before it.
 ghost use Rattle.std.specs.Prelude.{◌≡◌, ◌≢◌, ◌↔◌, [], false, IfErr, IsOk, OnErr, OnOk, map, string_bytes};
-ghost use Rattle.cv_folder.specs.FolderVault.{Fails, Holds, HoldsFirst, IsUncalled, Stays, SyncsDone};
+ghost use Rattle.cv_folder.specs.FolderVault.{Clears, Fails, Holds, HoldsFirst, IsUncalled, Stays, SyncsDone};
 ghost use Rattle.cv_folder.specs.FolderVaultInner.{broken_by};
 ghost use Rattle.cv_folder.specs.Syncs.{SettlesFirst, SyncsAll};
 ghost use Rattle.cv_folder.specs.Unsynced.{FailsFirst, FailsSync, SyncsNotAll};
@@ -77,6 +77,7 @@ impl<S: System + Drop> FolderVault<S> {
         ensures root { (self.new.root ≡ self.old.root) × Holds self.old.hold self.new.hold }
         ensures faults { self.new.faults ≡ self.old.faults }
         ensures calls { OnOk result (SyncsDone S.log self.old self.new) }
+        ensures cleared { OnOk result (Clears self.old self.new) }
     {
         if self.broken {
             return Err(refused());

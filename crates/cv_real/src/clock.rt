@@ -1,5 +1,5 @@
 //! The system's clock, in whole seconds.
-ghost use Rattle.std.specs.Prelude.{None};
+ghost use Rattle.std.specs.Prelude.{◌≡◌, None};
 
 use cv_base::LAST_TIME;
 use cv_ports::Clock;
@@ -15,7 +15,9 @@ pub struct SystemClock<R: SystemTimes> {
 
 impl<R: SystemTimes> SystemClock<R> {
     /// The clock of this runtime.
-    pub fn new(rt: R) -> SystemClock<R> {
+    pub fn new(rt: R) -> SystemClock<R>
+        ensures { result.rt ≡ rt }
+    {
         SystemClock { rt }
     }
 }

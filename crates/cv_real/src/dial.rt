@@ -96,7 +96,8 @@ fn open<R: Net<Listener = TcpListener, Stream = TcpStream>>(
 impl<R: Net<Listener = TcpListener, Stream = TcpStream> + Drop> TcpDial<R> {
     /// No dial failed yet.
     pub fn new(rt: R) -> TcpDial<R>
-        ensures { result.faults.number ≡ 0 }
+        ensures faults { result.faults.number ≡ 0 }
+        ensures runtime { result.rt ≡ rt }
     {
         TcpDial {
             rt,

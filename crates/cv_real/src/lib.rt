@@ -16,4 +16,4 @@ pub use dial::TcpDial;
 pub use streams::{StreamSink, StreamSource};
 pub use system_calls::SystemCalls;
 pub use system_folder::SystemFolder;
-pub use texts::{program_words, text_or_empty};
+pub use texts::{TEXT_LIMIT, program_words, text_or_empty};

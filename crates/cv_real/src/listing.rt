@@ -1,10 +1,11 @@
 //! The items of a real folder.
 ghost use Rattle.std.specs.Prelude.{◌≡◌, ◌<◌, IfOk};
 ghost use Rattle.std.specs.Fs.{dir_entry_name, file_type};
+ghost use Rattle.cv_base.specs.declared.limits.TheConstants.{MODE_LIMIT};
 ghost use Rattle.cv_ports.specs.Folder.{Ascend};
 ghost use Rattle.cv_real.specs.ListingInner.{Tells, seconds_since_1970};
 
-use cv_base::{Items, Text};
+use cv_base::{Items, MODE_LIMIT, Text};
 use cv_ports::{FolderItem, FoundKind, ascend};
 use std::alloc::{AllocError, Global};
 use std::fs::{DirEntry, Metadata};
@@ -14,7 +15,7 @@ use std::rt::Files;
 use std::{fs, io};
 
 /// The permission bits of a mode.
-const PERMISSIONS: u32 = 0o7777;
+const PERMISSIONS: u32 = MODE_LIMIT - 1;
 
 /// What stands at a path, of which this was seen. Of a link its text is read.
 fn kind_of<R: Files + AllocGlobal>(rt: &R, path: &str, seen: &Metadata) -> io::Result<FoundKind>
@@ -47,7 +48,7 @@ fn item_of<R: Files + AllocGlobal + Clone + Drop>(
     entry: &DirEntry<R>,
 ) -> io::Result<FolderItem>
     ensures name { IfOk result (λ item. item.name ≡ dir_entry_name entry.now) }
-    ensures mode { IfOk result (λ item. item.mode < 4096) }
+    ensures mode { IfOk result (λ item. item.mode < MODE_LIMIT) }
 {
     let seen = entry.metadata()?;
     Ok(FolderItem {

@@ -1,6 +1,8 @@
 //! Any reader of std as a source, and any writer as a sink.
-ghost use Rattle.std.specs.Prelude.{◌≡◌, ◌≤◌, ◌<◌, None, IfOk, length};
+ghost use Rattle.std.specs.Prelude.{◌≡◌, ◌≤◌, ◌<◌, None, IfOk, IsErr, length};
 ghost use Rattle.std.specs.Io.{ReadsAtMost};
+ghost use Rattle.std.specs.Io.KnownBytes.{Keeps, ReadConsumes, WriteAppends};
+ghost use Rattle.cv_base.specs.Counts.{HasCause};
 
 use crate::count::FaultCount;
 use cv_ports::{Failed, Sink, Source};
@@ -10,7 +12,8 @@ use std::marker::PhantomData;
 
 /// Reads, and begins again where a signal interrupted the call.
 fn read_retrying<T: Read>(inner: &mut T, buf: &mut [u8]) -> io::Result<usize>
-    ensures { ReadsAtMost result buf.new }
+    ensures fits { ReadsAtMost result buf.new }
+    ensures consumes { ReadConsumes (T.remaining inner.old) (T.remaining inner.new) result buf.new }
 {
     // Each turn but the last is a signal; the bound is never met.
     for _ in 0..u64::MAX {
@@ -24,7 +27,8 @@ fn read_retrying<T: Read>(inner: &mut T, buf: &mut [u8]) -> io::Result<usize>
 
 /// Writes some of the bytes. A write that takes nothing is an error.
 fn write_retrying<T: Write>(inner: &mut T, bytes: &[u8]) -> io::Result<usize>
-    ensures { IfOk result (λ count. (count ≤ length bytes.now) × (0 < count)) }
+    ensures fits { IfOk result (λ count. (count ≤ length bytes.now) × (0 < count)) }
+    ensures appends { WriteAppends (T.contents inner.old) (T.contents inner.new) result bytes.now }
 {
     // Each turn but the last is a signal; the bound is never met.
     for _ in 0..u64::MAX {
@@ -49,7 +53,8 @@ pub struct StreamSource<T: Read, W: Sink> {
 impl<T: Read, W: Sink> StreamSource<T, W> {
     /// A source over this reader. No call failed yet.
     pub fn new(inner: T) -> StreamSource<T, W>
-        ensures { result.faults.number ≡ 0 }
+        ensures faults { result.faults.number ≡ 0 }
+        ensures inner { result.inner ≡ inner }
     {
         StreamSource {
             inner,
@@ -77,7 +82,12 @@ impl<T: Read, W: Sink> Source for StreamSource<T, W> {
 
     ghost looks = { λ s look. ⊥ };
 
-    fn read(&mut self, buf: &mut [u8], _beside: &W) -> Result<usize, Failed> {
+    fn read(&mut self, buf: &mut [u8], _beside: &W) -> Result<usize, Failed>
+        ensures fits { IfOk result (λ count. count ≤ length buf.old) }
+        ensures consumes { ReadConsumes (T.remaining self.old.inner) (T.remaining self.new.inner)
+            result buf.new }
+        ensures cause { HasCause self.old.faults.number self.new.faults.number (IsErr result) }
+    {
         if let Ok(count) = read_retrying(&mut self.inner, buf) {
             return Ok(count);
         }
@@ -96,7 +106,8 @@ pub struct StreamSink<T: Write> {
 impl<T: Write> StreamSink<T> {
     /// A sink over this writer. No call failed yet.
     pub fn new(inner: T) -> StreamSink<T>
-        ensures { result.faults.number ≡ 0 }
+        ensures faults { result.faults.number ≡ 0 }
+        ensures inner { result.inner ≡ inner }
     {
         StreamSink {
             inner,
@@ -112,7 +123,9 @@ impl<T: Write> StreamSink<T> {
     }
 
     /// The writer.
-    pub(crate) fn inner(&self) -> &T {
+    pub(crate) fn inner(&self) -> &T
+        ensures { result.now ≡ self.now.inner }
+    {
         &self.inner
     }
 }
@@ -124,7 +137,13 @@ impl<T: Write> Sink for StreamSink<T> {
 
     ghost faults = { λ s. s.faults.number };
 
-    fn write(&mut self, bytes: &[u8]) -> Result<usize, Failed> {
+    fn write(&mut self, bytes: &[u8]) -> Result<usize, Failed>
+        ensures fits { IfOk result (λ count. count ≤ length bytes.now) }
+        ensures some { IfOk result (λ count. 0 < length bytes.now → 0 < count) }
+        ensures appends { WriteAppends (T.contents self.old.inner) (T.contents self.new.inner)
+            result bytes.now }
+        ensures cause { HasCause self.old.faults.number self.new.faults.number (IsErr result) }
+    {
         if bytes.is_empty() {
             return Ok(0);
         }
@@ -135,7 +154,10 @@ impl<T: Write> Sink for StreamSink<T> {
         Err(Failed)
     }
 
-    fn flush(&mut self) -> Result<(), Failed> {
+    fn flush(&mut self) -> Result<(), Failed>
+        ensures keeps { Keeps (T.contents self.old.inner) (T.contents self.new.inner) }
+        ensures cause { HasCause self.old.faults.number self.new.faults.number (IsErr result) }
+    {
         match self.inner.flush() {
             Ok(()) => Ok(()),
             Err(_) => {

@@ -48,12 +48,16 @@ pub fn seen_of(found: &Metadata) -> Seen
 
 impl<R: Files<File = File> + Drop> SystemCalls<R> {
     /// The calls of this runtime.
-    pub fn new(rt: R) -> SystemCalls<R> {
+    pub fn new(rt: R) -> SystemCalls<R>
+        ensures { result.rt ≡ rt }
+    {
         SystemCalls { rt }
     }
 
     /// The runtime.
-    pub(crate) fn rt(&self) -> &R {
+    pub(crate) fn rt(&self) -> &R
+        ensures { result.now ≡ self.now.rt }
+    {
         &self.rt
     }
 }

@@ -4,6 +4,7 @@ ghost use Rattle.std.specs.IoError.{error_kind, raw_os_error};
 ghost use Rattle.cv_base.specs.Counts.{HasCause};
 ghost use Rattle.cv_ports.specs.Folder.{Ascend};
 ghost use Rattle.cv_ports.specs.declared.folder.FolderFault.TheVariants.{Failed, NoMemory};
+ghost use Rattle.cv_ports.specs.declared.folder.TheConstants.{FOLDER_READ_LIMIT};
 ghost use Rattle.cv_real.specs.ListingInner.{below};
 
 use crate::count::FaultCount;
@@ -11,16 +12,13 @@ use crate::front::read_front;
 use crate::listing::items_of;
 use crate::system_calls::SystemCalls;
 use cv_base::{Bytes, Items, PathName, RepoPath, Text};
-use cv_ports::{Folder, FolderFault, FolderItem};
+use cv_ports::{FOLDER_READ_LIMIT, Folder, FolderFault, FolderItem};
 use cv_system::looks::{find_file, has_folders, is_memory};
 use std::alloc::Global;
 use std::fs::File;
 use std::io;
 use std::io::ErrorKind;
 use std::rt::Files;
-
-/// The most bytes that are read of a file: one more than a file may have.
-const READ_LIMIT: usize = 16_777_217;
 
 /// A real folder, which may be given by a link. Below it no link is followed, and nothing but folders and regular files is
 /// opened. It tells the name, and nothing of content.
@@ -65,6 +63,7 @@ impl<R: Files<File = File> + AllocGlobal + Clone + Drop> SystemFolder<R> {
     pub fn new(rt: R) -> SystemFolder<R>
         ensures faults { result.faults.number ≡ 0 }
         ensures name { result.name ≡ None }
+        ensures runtime { result.system.rt ≡ rt }
     {
         SystemFolder {
             system: SystemCalls::new(rt),
@@ -99,7 +98,7 @@ impl<R: Files<File = File> + AllocGlobal + Clone + Drop> SystemFolder<R> {
     }
 
     fn read_now(&mut self, alloc: Global, path: &RepoPath) -> io::Result<Vec<u8>>
-        ensures length { IfOk result (λ bytes. length bytes.items ≤ 16777217) }
+        ensures length { IfOk result (λ bytes. length bytes.items ≤ FOLDER_READ_LIMIT) }
         ensures name { self.new.name ≡ self.old.name }
         ensures faults { self.new.faults ≡ self.old.faults }
     {
@@ -110,7 +109,10 @@ impl<R: Files<File = File> + AllocGlobal + Clone + Drop> SystemFolder<R> {
         let mut file = folder_path(alloc, root.as_str(), above)?;
         file.push_str(last.as_str())?;
         match find_file(&mut self.system, file.as_str(), root.len())? {
-            Some(found) => read_front(&mut self.system, alloc, file.as_str(), &found, READ_LIMIT),
+            Some(found) => {
+                let system = &mut self.system;
+                read_front(system, alloc, file.as_str(), &found, FOLDER_READ_LIMIT)
+            }
             None => Err(io::Error::from(ErrorKind::NotFound)),
         }
     }

@@ -1,14 +1,12 @@
 -- Calls of which the last failed.
-use Rattle.std.proofs.Common.{◌≡◌, true, false, Bool, List, ℕ, Option, Some, None, Result, Ok, Err, refl}
+use Rattle.std.proofs.Common.{◌≡◌, Bool, List, ℕ, Option, Result, Ok, Err, refl}
 use Rattle.std.specs.Prelude.{IfErr}
-use Rattle.std.specs.IoError.{error_kind}
 use Rattle.std.specs.declared.io.Error.{Error}
-use Rattle.std.specs.declared.io.ErrorKind.{ErrorKind}
 use Rattle.cv_system.specs.declared.seen.Seen.{Seen}
-use Rattle.cv_system.specs.Calls.{Call, Log, Outcome, Failed, Looked, and_call, came_out, outcome}
+use Rattle.cv_system.specs.Calls.{Cause, cause_of, Call, Log, Outcome, Failed, Looked, and_call, came_out, outcome}
 use Rattle.cv_system.specs.Looks.{Looks}
 use Rattle.cv_system.specs.LooksInner.{LooksForFolder}
-use Rattle.cv_system.specs.Steps.{EndsFailed, Grows, Makes, Still}
+use Rattle.cv_system.specs.Steps.{EndsFailed, Grows, IsLook, IsNothing, Makes, Still}
 use Rattle.cv_system.proofs.Stepping.{steps_then, steps_wider}
 
 -- whatever calls were made, the log has grown by them
@@ -16,24 +14,24 @@ pub grows : {IsSuch : Call → Type 0} {before after : Log} → Makes IsSuch bef
 grows made = steps_wider (λ one other (call, such, is). (call, tt, is)) made
 
 -- one call failed
-pub fails_now : {kind : ErrorKind} {before after : Log} (call : Call) → came_out call ≡ Failed kind → after ≡ and_call call before → EndsFailed kind before after
-fails_now {before} call out is = (before, call, Still, out, is)
+pub fails_now : {cause : Cause} {before after : Log} (call : Call) → came_out call ≡ Failed cause → (IsLook call → IsNothing cause → ⊥) → after ≡ and_call call before → EndsFailed cause before after
+fails_now {before} call out there is = (before, call, Still, (out, there), is)
 
 -- a call that was made failed, if it answered so
-pub one_fails : {A : Type 0} (call : Outcome → Call) → ((out : Outcome) → came_out (call out) ≡ out) → (result : Result A Error) (before after : Log)
-    → after ≡ and_call (call (outcome result)) before → IfErr result (λ error. EndsFailed (error_kind error) before after)
-one_fails call so (Ok x) before after is = tt
-one_fails call so (Err error) before after is = fails_now (call (Failed (error_kind error))) (so (Failed (error_kind error))) is
+pub one_fails : {A : Type 0} (call : Outcome → Call) → ((out : Outcome) → came_out (call out) ≡ out) → ((out : Outcome) → IsLook (call out) → ⊥) → (result : Result A Error) (before after : Log)
+    → after ≡ and_call (call (outcome result)) before → IfErr result (λ error. EndsFailed (cause_of error) before after)
+one_fails call so not (Ok x) before after is = tt
+one_fails call so not (Err error) before after is = fails_now (call (Failed (cause_of error))) (so (Failed (cause_of error))) (λ look nothing. not (Failed (cause_of error)) look) is
 
 -- calls were made before
-pub fails_then : {kind : ErrorKind} {before between after : Log} → Grows before between → EndsFailed kind between after → EndsFailed kind before after
+pub fails_then : {cause : Cause} {before between after : Log} → Grows before between → EndsFailed cause between after → EndsFailed cause before after
 fails_then made (last, call, more, out, is) = (last, call, steps_then made more, out, is)
 
 -- a look failed
-pub look_fails : (path : List ℕ) (result : Result (Option Seen) Error) (before after : Log) → Looks path result before after → IfErr result (λ error. EndsFailed (error_kind error) before after)
+pub look_fails : (path : List ℕ) (result : Result (Option Seen) Error) (before after : Log) → Looks path result before after → IfErr result (λ error. EndsFailed (cause_of error) before after)
 look_fails path (Ok found) before after is = tt
-look_fails path (Err error) before after is = fails_now (Looked path (Err (error_kind error))) refl is
+look_fails path (Err error) before after (there, is) = fails_now (Looked path (Err (cause_of error))) refl (λ look. there) is
 
-pub look_for_folder_fails : (path : List ℕ) (result : Result Bool Error) (before after : Log) → LooksForFolder path result before after → IfErr result (λ error. EndsFailed (error_kind error) before after)
+pub look_for_folder_fails : (path : List ℕ) (result : Result Bool Error) (before after : Log) → LooksForFolder path result before after → IfErr result (λ error. EndsFailed (cause_of error) before after)
 look_for_folder_fails path (Ok is_folder) before after is = tt
-look_for_folder_fails path (Err error) before after is = fails_now (Looked path (Err (error_kind error))) refl is
+look_for_folder_fails path (Err error) before after (there, is) = fails_now (Looked path (Err (cause_of error))) refl (λ look. there) is

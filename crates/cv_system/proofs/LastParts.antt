@@ -132,14 +132,20 @@ pub top_under : (top : List ℕ) → IsUnder top (top ++ 47 ∷ [])
 unfolding IsUnder
 top_under top = ([], sym (append-nil (top ++ 47 ∷ [])))
 
-under : (top rest : List ℕ) (size : ℕ) → length top + 1 ≤ size → IsUnder top (take size ((top ++ 47 ∷ []) ++ rest))
+-- a front of a path under a top is under it, where it is long enough
+pub under : (top rest : List ℕ) (size : ℕ) → length top + 1 ≤ size → IsUnder top (take size ((top ++ 47 ∷ []) ++ rest))
 unfolding IsUnder
 under top rest size h =
     let is : length (top ++ 47 ∷ []) + (size - (length top + 1)) ≡ size = omega (arith, length-append top (47 ∷ [])) in
     (take (size - (length top + 1)) rest, subst (λ n. take n ((top ++ 47 ∷ []) ++ rest) ≡ (top ++ 47 ∷ []) ++ take (size - (length top + 1)) rest) is (take-append-add (top ++ 47 ∷ []) rest (size - (length top + 1))))
 
+-- what begins with a path under a top is under it
+pub more_under : (top path more : List ℕ) → IsUnder top path → IsUnder top (path ++ more)
+unfolding IsUnder
+more_under top path more (rest, is) = (rest ++ more, ap (λ l. l ++ more) is ∙ append_assoc (top ++ 47 ∷ []) rest more)
+
 -- the folder of a path under another is that one, or under it
-folder_under : (top path : List ℕ) → IsUnder top path → IsUnder top (folder_of path)
+pub folder_under : (top path : List ℕ) → IsUnder top path → IsUnder top (folder_of path)
 unfolding IsUnder
 folder_under top path (rest, is) =
     let behind : (top ++ 47 ∷ []) ++ rest ≡ top ++ 47 ∷ rest = append_assoc top (47 ∷ []) rest in

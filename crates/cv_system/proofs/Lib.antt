@@ -10,4 +10,5 @@ mod Seeing
 mod Settling
 mod Stepping
 mod Trying
+mod WalkCalls
 mod Walking

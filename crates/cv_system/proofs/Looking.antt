@@ -32,14 +32,14 @@ module _ (folder last folder' last' : List ℕ) (same_folder : folder' ≡ folde
 -- ---- what is told behind such looks was told before
 
 shut_told : (folder : List ℕ) (before after : Log) → IsShut folder before after → IsSome after → IsSome before
-shut_told folder before after (inl is) some = told_before _ _ _ is some
+shut_told folder before after (inl (told, shut, is)) some = told_before _ _ _ is some
 shut_told folder before after (inr (long, same)) some = subst (λ (log : Log). IsSome log) same some
 
 look_told : (folder entry : List ℕ) (is : Bool) (before after : Log) → LooksFor folder entry is before after → IsSome after → IsSome before
 look_told folder entry true before after (seen, is_folder, is) some = told_before _ _ _ is some
 look_told folder entry false before after (inl (seen, not, is)) some = told_before _ _ _ is some
-look_told folder entry false before after (inr (inl (kind, nothing, is))) some = told_before _ _ _ is some
-look_told folder entry false before after (inr (inr shut)) some = told_before _ _ _ refl (shut_told folder _ after shut some)
+look_told folder entry false before after (inr (inl (cause, nothing, is))) some = told_before _ _ _ is some
+look_told folder entry false before after (inr (inr (cause, refused, shut))) some = told_before _ _ _ refl (shut_told folder _ after shut some)
 
 name_told : (folder last name : List ℕ) (kept kept' : List (List ℕ)) (before after : Log) → LooksAt folder last name kept kept' before after → IsSome after → IsSome before
 name_told folder last name kept kept' before after (inl (never, same, still)) some = subst (λ (log : Log). IsSome log) still some

@@ -1,20 +1,18 @@
 -- A file that was seen is read.
-use Rattle.std.proofs.Common.{◌≡◌, List, ℕ, Result, Ok, Err, Vec, inl, refl, subst, sym}
-use Rattle.std.specs.Prelude.{IfErr, IfOk, OnErr}
-use Rattle.std.specs.IoError.{error_kind}
+use Rattle.std.proofs.Common.{◌≡◌, List, ℕ, Result, Ok, Err, Vec, inl, inr, refl, subst, sym}
+use Rattle.std.specs.Prelude.{◌⊎◌, IfErr, IfOk}
 use Rattle.std.specs.declared.io.Error.{Error}
+use Rattle.std.specs.declared.io.ErrorKind.TheVariants.{InvalidData}
 use Rattle.cv_system.specs.declared.seen.Seen.{Seen}
-use Rattle.cv_system.specs.Calls.{Log, Checked, Done, Opened, Read, and_call, told_bytes}
-use Rattle.cv_system.specs.Looks.{FailsToOpen, IsReading, OpensFile, ReadsFile}
-use Rattle.cv_system.specs.Steps.{Makes, Still, Then}
-use Rattle.cv_system.proofs.Failing.{fails_now, fails_then, grows}
-use Rattle.cv_system.proofs.Stepping.{one_call}
+use Rattle.cv_system.specs.Calls.{Cause, Checked, Done, Failed, Log, Opened, Read, and_call, cause_of, told_bytes}
+use Rattle.cv_system.specs.Looks.{FailsToReadFile, OpensFile, OpensOther, ReadsFile}
+use Rattle.cv_system.specs.Steps.{EndsFailed, Grows, Still, Then}
+use Rattle.cv_system.proofs.Failing.{fails_now, fails_then}
+use Rattle.cv_system.proofs.Stepping.{one_call, steps_then}
 use Rattle.cv_system.proofs.Trying.{two_calls}
 
--- what opens it reads at its path alone
-pub opens_reading : (path : List ℕ) (seen : Seen) (before after : Log) → OpensFile path seen before after → Makes (IsReading path) before after
-opens_reading path seen before after (opened, is_file, same, is) =
-    subst (Makes (IsReading path) before) (sym is) (Then (Then Still (Opened path Done, refl, refl)) (Checked path (Ok opened), refl, refl))
+opens_grow : (path : List ℕ) (seen : Seen) (before after : Log) → OpensFile path seen before after → Grows before after
+opens_grow path seen before after (opened, is_file, same, is) = subst (Grows before) (sym is) (Then (Then Still (Opened path Done, tt, refl)) (Checked path (Ok opened), tt, refl))
 
 module _ {Z : Type 0} (path : List ℕ) (seen : Seen) (before opened checked after : Log) where
   -- all of it is read
@@ -24,14 +22,19 @@ module _ {Z : Type 0} (path : List ℕ) (seen : Seen) (before opened checked aft
   reads_all (Err error) opens again check read = tt
 
   -- or it isn't
-  pub reads_some : (result : Result (Vec ℕ Z) Error) → OpensFile path seen before opened → (again : Seen) → checked ≡ and_call (Checked path (Ok again)) opened
-      → after ≡ and_call (Read path (told_bytes result)) checked → OnErr result (Makes (IsReading path) before after)
-  reads_some (Ok bytes) opens again check read = tt
-  reads_some (Err error) opens again check read = Then (Then (opens_reading path seen before opened opens) (_, refl, check)) (_, refl, read)
-
-  -- since a call failed
   pub read_fails : (result : Result (Vec ℕ Z) Error) → OpensFile path seen before opened → (again : Seen) → checked ≡ and_call (Checked path (Ok again)) opened
-      → after ≡ and_call (Read path (told_bytes result)) checked → IfErr result (λ error. FailsToOpen path seen (error_kind error) before after)
+      → after ≡ and_call (Read path (told_bytes result)) checked → IfErr result (λ error. FailsToReadFile path seen (cause_of error) before after)
   read_fails (Ok bytes) opens again check read = tt
-  read_fails (Err error) opens again check read =
-      inl (fails_then (grows (opens_reading path seen before opened opens)) (fails_then (one_call (Checked path (Ok again)) tt check) (fails_now (Read path (Err (error_kind error))) refl read)))
+  read_fails (Err error) opens again check read = inr (opened, opens, inr (again, two_calls _ _ _ _ _ check read))
+
+-- a read that fails ends with the call that failed, or with what was opened in place of the file
+pub reading_fails : (path : List ℕ) (seen : Seen) (cause : Cause) (before after : Log) → FailsToReadFile path seen cause before after
+    → EndsFailed cause before after ⊎ ((cause.kind ≡ InvalidData) × OpensOther path seen before after)
+reading_fails path seen cause before after (inl (inl is)) = inl (fails_now (Opened path (Failed cause)) refl (λ look nothing. look) is)
+reading_fails path seen cause before after (inl (inr (inl is))) =
+    inl (fails_then (one_call (Opened path Done) tt refl) (fails_now (Checked path (Err cause)) refl (λ look nothing. look) is))
+reading_fails path seen cause before after (inl (inr (inr other))) = inr other
+reading_fails path seen cause before after (inr (opened, opens, inl is)) =
+    inl (fails_then (opens_grow path seen before opened opens) (fails_now (Checked path (Err cause)) refl (λ look nothing. look) is))
+reading_fails path seen cause before after (inr (opened, opens, inr (again, is))) =
+    inl (fails_then (steps_then (opens_grow path seen before opened opens) (one_call (Checked path (Ok again)) tt refl)) (fails_now (Read path (Err cause)) refl (λ look nothing. look) is))

@@ -1,10 +1,9 @@
 -- Folders that a walk goes round.
 use Rattle.std.proofs.Common.{◌≡◌, ◌∙◌, ◌+◌, ◌≤◌, ◌++◌, ℕ, List, Ok, Err, ap, subst, inl, inr, length, take, take-take}
 use Rattle.std.proofs.lemmas.List.{take-append-le}
-use Rattle.std.specs.declared.io.ErrorKind.{ErrorKind}
-use Rattle.cv_system.specs.Calls.{Log, Named, and_call}
+use Rattle.cv_system.specs.Calls.{Cause, Log, Named, and_call}
 use Rattle.cv_system.specs.Names.{names_in}
-use Rattle.cv_system.specs.Walks.{FailsAmong, FailsToRead, LooksAtAll, Reads, ReadsMore, ReadsAll}
+use Rattle.cv_system.specs.Walks.{FailsAmong, FailsToReadAll, LooksAtAll, Reads, ReadsMore, ReadsAll}
 
 module _ (folder last : List ℕ) (kept : List (List ℕ)) (before : Log) (count : ℕ) (between : List (List ℕ)) (read : Log) (reads : Reads folder last kept before count between read) (named : Log) where
   module _ (bytes folder' last' : List ℕ) (same_folder : folder' ≡ folder) (same_last : last' ≡ last) (is : named ≡ and_call (Named folder (Ok bytes)) read) where
@@ -17,7 +16,7 @@ module _ (folder last : List ℕ) (kept : List (List ℕ)) (before : Log) (count
         (subst (λ (l : List ℕ). LooksAtAll folder' l (names_in bytes) between kept' named after) same_last looks)))
 
     -- or the look at one fails
-    pub fails_among : (after : Log) → FailsAmong folder' last' (names_in bytes) between named after → FailsToRead folder last kept before after
+    pub fails_among : (after : Log) → FailsAmong folder' last' (names_in bytes) between named after → FailsToReadAll folder last kept before after
     fails_among after fails = (
       count,
       between,
@@ -36,8 +35,8 @@ module _ (folder last : List ℕ) (kept : List (List ℕ)) (before : Log) (count
   reads_all size names is none = (count, read, reads, is ∙ ap (λ (n : ℕ). and_call (Named folder (Ok (take n names))) read) none)
 
   -- no more are given
-  pub reads_no_more : (kind : ErrorKind) → named ≡ and_call (Named folder (Err kind)) read → FailsToRead folder last kept before named
-  reads_no_more kind is = (count, between, read, reads, inl (kind, is))
+  pub reads_no_more : (cause : Cause) → named ≡ and_call (Named folder (Err cause)) read → FailsToReadAll folder last kept before named
+  reads_no_more cause is = (count, between, read, reads, inl (cause, is))
 
 -- the names that were read stand in the front of the buffer, whatever is behind it
 pub front_of : (count size : ℕ) (buffer rest : List ℕ) → count ≤ length buffer → count ≤ size → take count (take size (buffer ++ rest)) ≡ take count buffer

@@ -31,7 +31,7 @@ next_place path i h =
 
 -- where a path leads: so far these folders were seen, and those at its next place too
 module _ (path : List ℕ) (from i : ℕ) (front : List (List ℕ)) (within : i < length path) (so_far : front ++ folders_behind (take i path) (drop i path) ≡ folders_past from path) where
-  rest_is : front ++ (folders_at path i ++ folders_behind (take (i + 1) path) (drop (i + 1) path)) ≡ folders_past from path
+  pub rest_is : front ++ (folders_at path i ++ folders_behind (take (i + 1) path) (drop (i + 1) path)) ≡ folders_past from path
   rest_is = ap (λ (folders : List (List ℕ)). front ++ folders) (sym (next_place path i within)) ∙ so_far
 
   pub one_place_more : (front ++ folders_at path i) ++ folders_behind (take (i + 1) path) (drop (i + 1) path) ≡ folders_past from path

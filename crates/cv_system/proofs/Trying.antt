@@ -1,9 +1,8 @@
 -- Calls that are tried, one after another.
 use Rattle.std.proofs.Common.{◌≡◌, ◌∙◌, ◌++◌, ◌∷◌, [], Bool, true, false, List, ℕ, Some, None, Result, Ok, Err, refl, ap, subst, inl, inr}
 use Rattle.std.specs.Prelude.{IsSome, is_ok}
-use Rattle.std.specs.IoError.{error_kind}
 use Rattle.std.specs.declared.io.Error.{Error}
-use Rattle.cv_system.specs.Calls.{Call, Log, Outcome, Done, and_call, outcome}
+use Rattle.cv_system.specs.Calls.{cause_of, Call, Log, Outcome, Done, and_call, outcome}
 use Rattle.cv_system.specs.Steps.{Tries}
 
 -- these were made, and then others were tried
@@ -12,7 +11,7 @@ pub tried_then : (calls more : List (Outcome → Call)) (all : Bool) (before bet
 tried_then [] more all before between after (made, same) then = subst (λ (log : Log). Tries more all log after) same then
 tried_then (call ∷ calls) more all before between after (inl made) then =
     inl (tried_then calls more all (and_call (call Done) before) between after made then)
-tried_then (call ∷ calls) more all before between after (inr (kind, never, is)) then = absurd (cc)
+tried_then (call ∷ calls) more all before between after (inr (cause, never, is)) then = absurd (cc)
 
 -- one of these failed, and no other is tried behind it
 pub tried_in_vain : (calls more : List (Outcome → Call)) (before after : Log) → Tries calls false before after → Tries (calls ++ more) false before after
@@ -29,13 +28,13 @@ module _ {A : Type 0} (call : Outcome → Call) (more : List (Outcome → Call))
 
   -- it failed
   pub failed_so : (error : Error) → result ≡ Err error → Tries (call ∷ more) false before between
-  failed_so error was = inr (error_kind error, refl, is ∙ ap (λ (r : Result A Error). and_call (call (outcome r)) before) was)
+  failed_so error was = inr (cause_of error, refl, is ∙ ap (λ (r : Result A Error). and_call (call (outcome r)) before) was)
 
 -- one call was tried
 pub tried_one : {A : Type 0} (call : Outcome → Call) (result : Result A Error) (before after : Log)
     → after ≡ and_call (call (outcome result)) before → Tries (call ∷ []) (is_ok result) before after
 tried_one call (Ok x) before after is = inl (refl, is)
-tried_one call (Err error) before after is = inr (error_kind error, refl, is)
+tried_one call (Err error) before after is = inr (cause_of error, refl, is)
 
 told_at : (call : List ℕ → Call) (log : Log) (place path : List ℕ) → (IsSome log → place ≡ path) → and_call (call place) log ≡ and_call (call path) log
 unfolding and_call

@@ -1,34 +1,29 @@
 -- What is seen at a path.
 use Rattle.std.specs.Prelude.{◌≡◌, ◌⊎◌, ◌==◌, ℕ, List, [], ◌∷◌, ◌++◌, take, drop, if◌then◌else◌, slice_index, Option, Some, None, Result, Ok, Err}
-use Rattle.std.specs.IoError.{error_kind}
 use Rattle.std.specs.declared.io.Error.{Error}
-use Rattle.std.specs.declared.io.ErrorKind.{ErrorKind}
-use Rattle.std.specs.declared.io.ErrorKind.TheVariants.{InvalidData, NotFound, NotADirectory}
+use Rattle.std.specs.declared.io.ErrorKind.TheVariants.{InvalidData}
 use Rattle.cv_system.specs.declared.seen.Seen.{Seen}
 use Rattle.cv_system.specs.declared.seen.Kind.TheVariants.{File, Folder}
-use Rattle.cv_system.specs.Calls.{Call, Log, and_call, and_calls, Done, Looked, Opened, Created, Wrote, Synced, Checked, Read, Locked, Renamed, Removed, Made, Unmade, Entered, Named}
-use Rattle.cv_system.specs.Passed.{IsNoName}
-use Rattle.cv_system.specs.Steps.{EndsFailed, IsLook, Makes}
+use Rattle.cv_system.specs.Calls.{Cause, cause_of, Log, and_call, and_calls, Done, Failed, Looked, Opened, Checked, Read}
+use Rattle.cv_system.specs.Passed.{HidesNoName}
+use Rattle.cv_system.specs.Steps.{IsLook, IsNothing, Makes}
 
 -- both tell of the same file
 abbrev pub IsSame : Seen → Seen → Type 0
 IsSame one other = (one.device ≡ other.device) × (one.inode ≡ other.inode)
 
--- a look that fails so says that nothing stands at the path
-abbrev pub IsNothing : ErrorKind → Type 0
-IsNothing kind = (kind ≡ NotFound) ⊎ (kind ≡ NotADirectory)
-
 -- a look at a path: what was seen, or that nothing stands there
 abbrev pub Looks : List ℕ → Result (Option Seen) Error → Log → Log → Type 0
 Looks path (Ok (Some seen)) before after = after ≡ and_call (Looked path (Ok seen)) before
-Looks path (Ok None) before after = (kind : ErrorKind) × IsNothing kind × (after ≡ and_call (Looked path (Err kind)) before)
-Looks path (Err error) before after = after ≡ and_call (Looked path (Err (error_kind error))) before
+Looks path (Ok None) before after = (cause : Cause) × IsNothing cause × (after ≡ and_call (Looked path (Err cause)) before)
+Looks path (Err error) before after = (IsNothing (cause_of error) → ⊥) × (after ≡ and_call (Looked path (Err (cause_of error))) before)
 
 -- a look at an entry of a folder: what was seen, or that nothing stands there, also where the entry's path is longer than the system takes
 abbrev pub LooksAtEntry : List ℕ → Result (Option Seen) Error → Log → Log → Type 0
 LooksAtEntry path (Ok (Some seen)) before after = after ≡ and_call (Looked path (Ok seen)) before
-LooksAtEntry path (Ok None) before after = (kind : ErrorKind) × (IsNothing kind ⊎ IsNoName kind) × (after ≡ and_call (Looked path (Err kind)) before)
-LooksAtEntry path (Err error) before after = after ≡ and_call (Looked path (Err (error_kind error))) before
+LooksAtEntry path (Ok None) before after = (cause : Cause) × (IsNothing cause ⊎ HidesNoName cause) × (after ≡ and_call (Looked path (Err cause)) before)
+LooksAtEntry path (Err error) before after =
+    (IsNothing (cause_of error) ⊎ HidesNoName (cause_of error) → ⊥) × (after ≡ and_call (Looked path (Err (cause_of error))) before)
 
 -- the folders of a path behind its front: what comes before each slash of the rest
 unfoldable pub folders_behind : List ℕ → List ℕ → List (List ℕ)
@@ -50,20 +45,20 @@ SeesFolders (folder ∷ folders) before after =
     (seen : Seen) × (seen.kind ≡ Folder) × SeesFolders folders (and_call (Looked folder (Ok seen)) before) after
 
 -- what a look told is no folder
-abbrev pub IsNoFolder : Result Seen ErrorKind → Type 0
+abbrev pub IsNoFolder : Result Seen Cause → Type 0
 IsNoFolder (Ok seen) = seen.kind ≡ Folder → ⊥
-IsNoFolder (Err kind) = IsNothing kind
+IsNoFolder (Err cause) = IsNothing cause
 
 -- what a look told is no regular file
-abbrev pub IsNoFile : Result Seen ErrorKind → Type 0
+abbrev pub IsNoFile : Result Seen Cause → Type 0
 IsNoFile (Ok seen) = seen.kind ≡ File → ⊥
-IsNoFile (Err kind) = IsNothing kind
+IsNoFile (Err cause) = IsNothing cause
 
 -- these paths were looked at in their order, up to the first that is no folder
 abbrev pub MissesFolder : List (List ℕ) → Log → Log → Type 0
 MissesFolder [] before after = ⊥
 MissesFolder (folder ∷ folders) before after =
-    ((seen : Result Seen ErrorKind) × IsNoFolder seen × (after ≡ and_call (Looked folder seen) before))
+    ((seen : Result Seen Cause) × IsNoFolder seen × (after ≡ and_call (Looked folder seen) before))
     ⊎ ((seen : Seen) × (seen.kind ≡ Folder) × MissesFolder folders (and_call (Looked folder (Ok seen)) before) after)
 
 -- a regular file is found at a path: folders stand on the way to it, and then it was seen
@@ -75,7 +70,7 @@ FindsFile from path seen before after =
 abbrev pub MissesFile : ℕ → List ℕ → Log → Log → Type 0
 MissesFile from path before after =
     MissesFolder (folders_past from path) before after
-    ⊎ ((through : Log) × (seen : Result Seen ErrorKind) × SeesFolders (folders_past from path) before through × IsNoFile seen
+    ⊎ ((through : Log) × (seen : Result Seen Cause) × SeesFolders (folders_past from path) before through × IsNoFile seen
     × (after ≡ and_call (Looked path seen) through))
 
 -- a regular file is looked for at a path
@@ -94,9 +89,12 @@ abbrev pub OpensOther : List ℕ → Seen → Log → Log → Type 0
 OpensOther path seen before after =
     (opened : Seen) × (opened.kind ≡ File → IsSame seen opened → ⊥) × (after ≡ and_calls (Opened path Done ∷ Checked path (Ok opened) ∷ []) before)
 
--- a file that was seen isn't opened, or not read, by an error of this kind: a call failed so, or what was opened isn't that file
-abbrev pub FailsToOpen : List ℕ → Seen → ErrorKind → Log → Log → Type 0
-FailsToOpen path seen kind before after = EndsFailed kind before after ⊎ ((kind ≡ InvalidData) × OpensOther path seen before after)
+-- a file that was seen isn't opened, for this cause: a call failed so, or what was opened isn't that file
+abbrev pub FailsToOpen : List ℕ → Seen → Cause → Log → Log → Type 0
+FailsToOpen path seen cause before after =
+    (after ≡ and_call (Opened path (Failed cause)) before)
+    ⊎ (after ≡ and_calls (Opened path Done ∷ Checked path (Err cause) ∷ []) before)
+    ⊎ ((cause.kind ≡ InvalidData) × OpensOther path seen before after)
 
 -- it is opened so, and read to its end, where these bytes are
 abbrev pub ReadsFile : List ℕ → Seen → List ℕ → Log → Log → Type 0
@@ -104,19 +102,10 @@ ReadsFile path seen bytes before after =
     (opened : Log) × (again : Seen) × OpensFile path seen before opened
     × (after ≡ and_calls (Checked path (Ok again) ∷ Read path (Ok bytes) ∷ []) opened)
 
--- a call that opens or reads what stands at a path
-abbrev pub IsReading : List ℕ → Call → Type 0
-IsReading path (Looked at seen) = ⊥
-IsReading path (Opened at out) = at ≡ path
-IsReading path (Created at out) = ⊥
-IsReading path (Wrote at bytes out) = ⊥
-IsReading path (Synced at out) = ⊥
-IsReading path (Checked at seen) = at ≡ path
-IsReading path (Read at bytes) = at ≡ path
-IsReading path (Locked at held) = ⊥
-IsReading path (Renamed from to out) = ⊥
-IsReading path (Removed at out) = ⊥
-IsReading path (Made folder out) = ⊥
-IsReading path (Unmade folder out) = ⊥
-IsReading path (Entered folder out) = ⊥
-IsReading path (Named folder names) = ⊥
+-- it isn't read, for this cause: it isn't opened, or a call failed so behind that
+abbrev pub FailsToReadFile : List ℕ → Seen → Cause → Log → Log → Type 0
+FailsToReadFile path seen cause before after =
+    FailsToOpen path seen cause before after
+    ⊎ ((opened : Log) × OpensFile path seen before opened
+    × ((after ≡ and_call (Checked path (Err cause)) opened)
+    ⊎ ((again : Seen) × (after ≡ and_calls (Checked path (Ok again) ∷ Read path (Err cause) ∷ []) opened))))

@@ -5,17 +5,17 @@ use Rattle.std.specs.List.{starts_with}
 use Rattle.std.specs.Ordering.{is_lt}
 use Rattle.std.specs.Option.{option_map_or}
 use Rattle.std.specs.Str.{is_utf8}
-use Rattle.std.specs.declared.io.ErrorKind.{ErrorKind}
 use Rattle.std.specs.declared.io.ErrorKind.TheVariants.{PermissionDenied}
 use Rattle.cv_base.specs.Path.{name_cmp}
+use Rattle.cv_system.specs.declared.path_buffer.TheConstants.{PATH_ROOM}
 use Rattle.cv_system.specs.declared.seen.Seen.{Seen}
 use Rattle.cv_system.specs.declared.seen.Kind.TheVariants.{Folder}
 use Rattle.cv_system.specs.declared.syncing.Unsynced.{Unsynced}
 use Rattle.cv_system.specs.declared.syncing.Unsynced.TheVariants.{NotOpened}
-use Rattle.cv_system.specs.Calls.{Log, Done, Failed, Looked, Entered, Named, and_call}
-use Rattle.cv_system.specs.Looks.{IsNothing}
+use Rattle.cv_system.specs.Calls.{Cause, Log, Done, Failed, Looked, Entered, Named, and_call}
 use Rattle.cv_system.specs.Names.{above, is_part, names_in, with_slash}
-use Rattle.cv_system.specs.Passed.{IsNoName, IsShut, Passes, StopsAt}
+use Rattle.cv_system.specs.Passed.{HidesNoName, IsShut, Passes, StopsAt}
+use Rattle.cv_system.specs.Steps.{IsNothing}
 use Rattle.cv_system.specs.Syncs.{FailsFolder, FailsTop, PassesFolder, SettlesFolder}
 
 -- a path comes next: behind the last one, and before the end of what is kept, if there is no room for more
@@ -45,7 +45,7 @@ folder_in folder name = (folder ++ name) ++ 47 ∷ []
 -- what has this name comes next, if it is a folder: the name may be a part of one, and the system takes the folder's path
 abbrev pub IsNext : List ℕ → List ℕ → List ℕ → List (List ℕ) → Type 0
 IsNext folder last name kept =
-    IsTrue (is_part name) × (length folder + length name + 1 < 4096) × IsTrue (comes_next (folder_in folder name) last (end_of kept))
+    IsTrue (is_part name) × (length folder + length name + 1 < PATH_ROOM) × IsTrue (comes_next (folder_in folder name) last (end_of kept))
 
 -- the first folder that is kept stands in this one
 abbrev pub is_inside : List ℕ → List (List ℕ) → Bool
@@ -56,12 +56,12 @@ abbrev pub LooksFor : List ℕ → List ℕ → Bool → Log → Log → Type 0
 LooksFor folder entry true before after = (seen : Seen) × (seen.kind ≡ Folder) × (after ≡ and_call (Looked entry (Ok seen)) before)
 LooksFor folder entry false before after =
     ((seen : Seen) × (seen.kind ≡ Folder → ⊥) × (after ≡ and_call (Looked entry (Ok seen)) before))
-    ⊎ ((kind : ErrorKind) × (IsNothing kind ⊎ IsNoName kind) × (after ≡ and_call (Looked entry (Err kind)) before))
-    ⊎ IsShut folder (and_call (Looked entry (Err PermissionDenied)) before) after
+    ⊎ ((cause : Cause) × (IsNothing cause ⊎ HidesNoName cause) × (after ≡ and_call (Looked entry (Err cause)) before))
+    ⊎ ((cause : Cause) × (cause.kind ≡ PermissionDenied) × IsShut folder (and_call (Looked entry (Err cause)) before) after)
 
 -- it can't be told whether one does
 abbrev pub FailsToLook : List ℕ → List ℕ → Log → Log → Type 0
-FailsToLook folder entry before after = (kind : ErrorKind) × StopsAt folder kind (and_call (Looked entry (Err kind)) before) after
+FailsToLook folder entry before after = (cause : Cause) × StopsAt folder cause (and_call (Looked entry (Err cause)) before) after
 
 -- a name that the system gave of a folder: where it is a text that comes next it is looked at, and kept if a folder stands there
 abbrev pub LooksAt : List ℕ → List ℕ → List ℕ → List (List ℕ) → List (List ℕ) → Log → Log → Type 0
@@ -94,10 +94,10 @@ ReadsAll folder last kept kept' before after =
     (count : ℕ) × (read : Log) × Reads folder last kept before count kept' read × (after ≡ and_call (Named folder (Ok [])) read)
 
 -- they weren't: no more are given, a look at one fails, or there is no end of them
-abbrev pub FailsToRead : List ℕ → List ℕ → List (List ℕ) → Log → Log → Type 0
-FailsToRead folder last kept before after =
+abbrev pub FailsToReadAll : List ℕ → List ℕ → List (List ℕ) → Log → Log → Type 0
+FailsToReadAll folder last kept before after =
     (count : ℕ) × (between : List (List ℕ)) × (read : Log) × Reads folder last kept before count between read
-    × (((kind : ErrorKind) × (after ≡ and_call (Named folder (Err kind)) read))
+    × (((cause : Cause) × (after ≡ and_call (Named folder (Err cause)) read))
     ⊎ ((bytes : List ℕ) × FailsAmong folder last (names_in bytes) between (and_call (Named folder (Ok bytes)) read) after)
     ⊎ ((18446744073709551615 ≤ count) × (after ≡ read)))
 
@@ -105,14 +105,14 @@ FailsToRead folder last kept before after =
 abbrev pub GoesRound : List ℕ → List ℕ → List ℕ → List (List ℕ) → List (List ℕ) → Log → Log → Type 0
 GoesRound top folder last kept kept' before after =
     ReadsAll folder last kept kept' (and_call (Entered folder Done) before) after
-    ⊎ ((length top + 1 < length folder) × (kept' ≡ kept) × (kind : ErrorKind) × Passes folder kind (and_call (Entered folder (Failed kind)) before) after)
+    ⊎ ((length top + 1 < length folder) × (kept' ≡ kept) × (cause : Cause) × Passes folder cause (and_call (Entered folder (Failed cause)) before) after)
 
 -- it isn't: it can't be entered, or not all its names are read
 abbrev pub FailsRound : List ℕ → List ℕ → List ℕ → List (List ℕ) → Log → Log → Type 0
 FailsRound top folder last kept before after =
-    FailsToRead folder last kept (and_call (Entered folder Done) before) after
-    ⊎ ((length folder ≤ length top + 1) × (kind : ErrorKind) × (after ≡ and_call (Entered folder (Failed kind)) before))
-    ⊎ ((kind : ErrorKind) × StopsAt folder kind (and_call (Entered folder (Failed kind)) before) after)
+    FailsToReadAll folder last kept (and_call (Entered folder Done) before) after
+    ⊎ ((length folder ≤ length top + 1) × (cause : Cause) × (after ≡ and_call (Entered folder (Failed cause)) before))
+    ⊎ ((cause : Cause) × StopsAt folder cause (and_call (Entered folder (Failed cause)) before) after)
 
 -- it is known whether a folder comes next that stands in this one: one is kept, or this one was gone round now
 abbrev pub FindsNext : List ℕ → List ℕ → List ℕ → List (List ℕ) → List (List ℕ) → Log → Log → Type 0
@@ -154,7 +154,7 @@ SettlesAll top before after =
 -- it doesn't come to its end: the top's path is too long, the top isn't settled, a turn fails, or there is no end of them
 unfoldable pub FailsAll : List ℕ → Unsynced → Log → Log → Type 0
 FailsAll top unsynced before after =
-    ((4096 ≤ length top + 1) × (unsynced ≡ NotOpened) × (after ≡ before))
+    ((PATH_ROOM ≤ length top + 1) × (unsynced ≡ NotOpened) × (after ≡ before))
     ⊎ FailsTop (with_slash top) unsynced before after
     ⊎ ((turns : ℕ) × (folder last : List ℕ) × (kept : List (List ℕ)) × (between : Log) × Walks top before turns folder last kept between
     × (FailsTurn top folder last kept unsynced between after ⊎ ((18446744073709551615 ≤ turns) × (unsynced ≡ NotOpened) × (after ≡ between))))

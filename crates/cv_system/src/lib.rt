@@ -3,6 +3,7 @@
 
 mod ahead;
 mod cut;
+/// Looks at paths, which go through no link; opening and reading what was seen.
 pub mod looks;
 mod names;
 mod path_buffer;
@@ -14,7 +15,7 @@ mod walk;
 
 pub use cut::{NAMES_ROOM, cut_name};
 pub use names::{NEXT, folder_of, is_name, is_part, is_root};
-pub use path_buffer::PathBuffer;
+pub use path_buffer::{PATH_ROOM, PathBuffer};
 pub use seen::{Kind, Seen};
 pub use syncing::{Unsynced, sync_folder, sync_folders};
 pub use system::System;

@@ -1,11 +1,11 @@
 //! What stands at a path, without going through a link. A folder's path ends in a slash: the system then opens nothing but a
 //! folder there.
-ghost use Rattle.std.specs.Prelude.{◌≡◌, ◌≢◌, ◌↔◌, ◌<◌, None, Ok, IfErr, IfOk, OnOk, OnErr, IsSome, IfSome, IfNone, IsTrue, length, slice_index, take, true, false};
-ghost use Rattle.std.specs.IoError.{error_kind, raw_os_error};
-ghost use Rattle.cv_system.specs.Looks.{FailsToOpen, Finds, IsNothing, IsReading, Looks, LooksAtEntry, MissesFolder, OpensFile, ReadsFile, SeesFolders, folders_at, folders_past};
+ghost use Rattle.std.specs.Prelude.{◌≡◌, ◌≢◌, ◌↔◌, ◌<◌, Ok, IfErr, IfOk, OnOk, IsSome, IfSome, IfNone, IsTrue, length, slice_index, take, true, false};
+ghost use Rattle.cv_system.specs.Calls.{IsWant, cause_of};
+ghost use Rattle.cv_system.specs.Looks.{FailsToOpen, FailsToReadFile, Finds, Looks, LooksAtEntry, MissesFolder, OpensFile, ReadsFile, SeesFolders, folders_at, folders_past};
 ghost use Rattle.cv_system.specs.LooksInner.{LooksForFolder};
-ghost use Rattle.cv_system.specs.Passed.{IsNoName};
-ghost use Rattle.cv_system.specs.Steps.{EndsFailed, IsLook, Makes};
+ghost use Rattle.cv_system.specs.Passed.{HidesNoName};
+ghost use Rattle.cv_system.specs.Steps.{EndsFailed, IsLook, IsNothing, Makes};
 
 use crate::seen::Seen;
 use crate::system::System;
@@ -15,16 +15,14 @@ use std::io::ErrorKind;
 
 /// Whether the error is want of memory in this process, and not an error that the system gave.
 pub fn is_memory(error: &io::Error) -> bool
-    ensures { IsTrue result ↔ (error_kind error.now ≡ ErrorKind.OutOfMemory)
-        × (raw_os_error error.now ≡ None) }
+    ensures { IsTrue result ↔ IsWant (cause_of error.now) }
 {
     matches!(error.kind(), ErrorKind::OutOfMemory) && error.raw_os_error().is_none()
 }
 
-/// Whether a listing goes on without what this error hides: a path that is longer than the system takes, or nothing at all. No
-/// name of a vault is behind it.
-pub fn is_no_name(error: &io::Error) -> bool
-    ensures { IsTrue result ↔ IsNoName (error_kind error.now) }
+/// Whether no name of a vault is behind an error: a path is longer than the system takes, or nothing is there.
+pub fn hides_no_name(error: &io::Error) -> bool
+    ensures { IsTrue result ↔ HidesNoName (cause_of error.now) }
 {
     matches!(
         error.kind(),
@@ -34,7 +32,7 @@ pub fn is_no_name(error: &io::Error) -> bool
 
 /// Whether an error says that nothing stands at a path.
 fn is_nothing(error: &io::Error) -> bool
-    ensures { IsTrue result ↔ IsNothing (error_kind error.now) }
+    ensures { IsTrue result ↔ IsNothing (cause_of error.now) }
 {
     matches!(error.kind(), ErrorKind::NotFound | ErrorKind::NotADirectory)
 }
@@ -56,7 +54,7 @@ pub fn seen_entry<S: System>(system: &mut S, path: &str) -> io::Result<Option<Se
 {
     match seen(system, path) {
         Ok(found) => Ok(found),
-        Err(error) if is_no_name(&error) => Ok(None),
+        Err(error) if hides_no_name(&error) => Ok(None),
         Err(error) => Err(error),
     }
 }
@@ -93,7 +91,7 @@ fn leads_on<S: System>(system: &mut S, path: &str, end: usize) -> io::Result<boo
         → SeesFolders (folders_at path.now end) (S.log system.old) (S.log system.new) }
     ensures ends { result ≡ Ok false
         → MissesFolder (folders_at path.now end) (S.log system.old) (S.log system.new) }
-    ensures fails { IfErr result (λ error. EndsFailed (error_kind error) (S.log system.old)
+    ensures fails { IfErr result (λ error. EndsFailed (cause_of error) (S.log system.old)
         (S.log system.new)) }
 {
     match folder_at(path, end) {
@@ -109,7 +107,7 @@ pub fn has_folders<S: System>(system: &mut S, path: &str, from: usize) -> io::Re
         → SeesFolders (folders_past from path.now) (S.log system.old) (S.log system.new) }
     ensures ends { result ≡ Ok false
         → MissesFolder (folders_past from path.now) (S.log system.old) (S.log system.new) }
-    ensures fails { IfErr result (λ error. EndsFailed (error_kind error) (S.log system.old)
+    ensures fails { IfErr result (λ error. EndsFailed (cause_of error) (S.log system.old)
         (S.log system.new)) }
 {
     for end in from..path.len() {
@@ -123,7 +121,7 @@ pub fn has_folders<S: System>(system: &mut S, path: &str, from: usize) -> io::Re
 /// The regular file at a path, if one is there. The first `from` bytes of the path aren't looked at.
 pub fn find_file<S: System>(system: &mut S, path: &str, from: usize) -> io::Result<Option<Seen>>
     ensures finds { Finds from path.now result (S.log system.old) (S.log system.new) }
-    ensures fails { IfErr result (λ error. EndsFailed (error_kind error) (S.log system.old)
+    ensures fails { IfErr result (λ error. EndsFailed (cause_of error) (S.log system.old)
         (S.log system.new)) }
 {
     if !has_folders(system, path, from)? {
@@ -136,8 +134,7 @@ pub fn find_file<S: System>(system: &mut S, path: &str, from: usize) -> io::Resu
 pub fn open_found<S: System>(system: &mut S, path: &str, found: &Seen) -> io::Result<S::File>
     ensures place { IfOk result (λ file. IsSome (S.log system.new) → S.place file ≡ path.now) }
     ensures opens { OnOk result (OpensFile path.now found.now (S.log system.old) (S.log system.new)) }
-    ensures reads { OnErr result (Makes (IsReading path.now) (S.log system.old) (S.log system.new)) }
-    ensures fails { IfErr result (λ error. FailsToOpen path.now found.now (error_kind error)
+    ensures fails { IfErr result (λ error. FailsToOpen path.now found.now (cause_of error)
         (S.log system.old) (S.log system.new)) }
 {
     let file = system.open(path)?;
@@ -157,8 +154,7 @@ pub fn read_found<S: System>(
 ) -> io::Result<Vec<u8>>
     ensures whole { IfOk result (λ bytes. ReadsFile path.now found.now bytes.items
         (S.log system.old) (S.log system.new)) }
-    ensures reads { OnErr result (Makes (IsReading path.now) (S.log system.old) (S.log system.new)) }
-    ensures fails { IfErr result (λ error. FailsToOpen path.now found.now (error_kind error)
+    ensures fails { IfErr result (λ error. FailsToReadFile path.now found.now (cause_of error)
         (S.log system.old) (S.log system.new)) }
 {
     let file = open_found(system, path, found)?;

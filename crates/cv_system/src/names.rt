@@ -3,6 +3,7 @@ ghost use Rattle.std.specs.Prelude.{◌≡◌, ◌==◌, ◌<◌, length, not};
 ghost use Rattle.std.specs.List.{list_all};
 ghost use Rattle.cv_base.specs.Path.{is_dots};
 ghost use Rattle.cv_base.specs.PathText.{parts_of};
+ghost use Rattle.cv_system.specs.declared.path_buffer.TheConstants.{PATH_ROOM};
 ghost use Rattle.cv_system.specs.Names.{above, is_own, is_part, is_name, last_part, folder_of};
 
 /// The one own file of a folder: the next file of one of its names, as long as it isn't whole.
@@ -80,7 +81,7 @@ pub fn folder_of(path: &str) -> &str
 /// The folder above one, of which each path ends in a slash.
 pub fn above(folder: &str) -> &str
     ensures above { result.now ≡ above folder.now }
-    ensures fits { length folder.now < 4096 → length result.now < 4096 }
+    ensures fits { length folder.now < PATH_ROOM → length result.now < PATH_ROOM }
 {
     folder_of(folder.strip_suffix("/").unwrap_or(folder))
 }

@@ -5,9 +5,9 @@ use std::alloc::{AllocError, Global};
 use std::marker::Model;
 
 /// The room for a path. The system takes no longer one.
-const PATH_ROOM: usize = 4_096;
+pub const PATH_ROOM: usize = 4_096;
 
-/// A path of less than 4,096 bytes. Its constructor takes the memory for each; no other call takes any.
+/// A path of less than `PATH_ROOM` bytes. Its constructor takes the memory for each; no other call takes any.
 #[derive(Drop)]
 pub struct PathBuffer {
     text: String,
@@ -16,12 +16,13 @@ pub struct PathBuffer {
 impl Model for PathBuffer {
     ghost use Rattle.std.specs.Prelude.{List, ℕ, ◌≤◌, ◌<◌, length};
     ghost use Rattle.std.specs.String.{string_bytes, string_capacity};
+    ghost use Rattle.cv_system.specs.declared.path_buffer.TheConstants.{PATH_ROOM};
 
     ghost Value = { List ℕ };
 
     ghost view = { λ path. string_bytes path.text };
 
-    ghost invariant = { λ path. (4096 ≤ string_capacity path.text) × (length (string_bytes path.text) < 4096) };
+    ghost invariant = { λ path. (PATH_ROOM ≤ string_capacity path.text) × (length (string_bytes path.text) < PATH_ROOM) };
 }
 
 impl PathBuffer {
@@ -37,7 +38,7 @@ impl PathBuffer {
     /// The path.
     pub fn as_str(&self) -> &str
         ensures path { result.now ≡ self.now }
-        ensures fits { length result.now < 4096 }
+        ensures fits { length result.now < PATH_ROOM }
     {
         self.text.as_str()
     }
@@ -51,7 +52,7 @@ impl PathBuffer {
 
     /// Sets a path that the system takes.
     pub fn copy(&mut self, path: &str)
-        requires { length path.now < 4096 }
+        requires { length path.now < PATH_ROOM }
         ensures { self.new ≡ path.now }
     {
         self.text.clear();
@@ -61,7 +62,7 @@ impl PathBuffer {
     /// Sets the path of what stands so in a folder, and answers whether the system takes a path of that length. If not, it is
     /// what it was.
     pub fn set(&mut self, folder: &str, rest: &str) -> bool
-        ensures fits { IsTrue result ↔ (length folder.now + length rest.now < 4096) }
+        ensures fits { IsTrue result ↔ (length folder.now + length rest.now < PATH_ROOM) }
         ensures path { self.new ≡ (if result then folder.now ++ rest.now else self.old) }
     {
         if folder.len() + rest.len() >= PATH_ROOM {
@@ -73,7 +74,7 @@ impl PathBuffer {
 
     /// Sets the path of a name below a folder, whose path has no slash at its end, and answers as `set` does.
     pub fn set_below(&mut self, folder: &str, name: &str) -> bool
-        ensures fits { IsTrue result ↔ (length folder.now + length name.now + 1 < 4096) }
+        ensures fits { IsTrue result ↔ (length folder.now + length name.now + 1 < PATH_ROOM) }
         ensures path { self.new ≡ (if result then folder.now ++ 47 ∷ name.now else self.old) }
     {
         if folder.len() + name.len() + 1 >= PATH_ROOM {

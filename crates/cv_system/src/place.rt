@@ -1,12 +1,14 @@
 //! Where a walk over folders is.
 ghost use Rattle.std.specs.Prelude.{◌≡◌, ◌↔◌, ◌⊎◌, ◌+◌, ◌≤◌, ◌<◌, ◌++◌, [], ◌∷◌, All, drop, length, map, IfOk, IfErr, IfSome, IsOk, IsErr, IsSome, IsTrue, OnErr, OnOk, true, false, if◌then◌else◌};
 ghost use Rattle.std.specs.IoError.{error_kind};
+ghost use Rattle.cv_system.specs.Calls.{cause_of};
+ghost use Rattle.cv_system.specs.declared.path_buffer.TheConstants.{PATH_ROOM};
 ghost use Rattle.cv_system.specs.Passed.{IsOpen, IsShut, Passes, StopsAt};
 ghost use Rattle.cv_system.specs.Syncs.{ClearsFolder, FailsFolder, FailsTop, PassesFolder, SettlesFolder};
 ghost use Rattle.cv_system.specs.Walks.{FailsToLook, IsNext, LooksAt, LooksFor, comes_next, first_of, folder_in, is_inside, with_path};
 
 use crate::ahead::Ahead;
-use crate::looks::{is_no_name, seen, seen_entry};
+use crate::looks::{hides_no_name, seen, seen_entry};
 use crate::names::{NEXT, is_part};
 use crate::path_buffer::PathBuffer;
 use crate::seen::{Kind, Seen};
@@ -85,8 +87,8 @@ impl Place {
 
     /// Comes to the folder at the top of a walk, whose path has no slash at its end.
     pub fn begin(&mut self, top: &str) -> Result<(), Unsynced>
-        ensures fits { IsOk result ↔ (length top.now + 1 < 4096) }
-        ensures long { OnErr result (4096 ≤ length top.now + 1) }
+        ensures fits { IsOk result ↔ (length top.now + 1 < PATH_ROOM) }
+        ensures long { OnErr result (PATH_ROOM ≤ length top.now + 1) }
         ensures folder { OnOk result (self.new.folder ≡ top.now ++ 47 ∷ []) }
         ensures last { OnOk result (self.new.last ≡ top.now ++ 47 ∷ []) }
         ensures ahead { self.new.ahead ≡ map (λ _. []) self.old.ahead }
@@ -125,13 +127,13 @@ impl Place {
         ensures last { self.new.last ≡ self.old.last }
         ensures ahead { self.new.ahead ≡ self.old.ahead }
         ensures found { self.new.found ≡ self.old.found }
-        ensures passes { OnOk result (Passes self.old.folder (error_kind error.now) (S.log system.old)
+        ensures passes { OnOk result (Passes self.old.folder (cause_of error.now) (S.log system.old)
             (S.log system.new)) }
-        ensures stops { OnErr result (StopsAt self.old.folder (error_kind error.now) (S.log system.old)
+        ensures stops { OnErr result (StopsAt self.old.folder (cause_of error.now) (S.log system.old)
             (S.log system.new)) }
         ensures ends { IfErr result (λ unsynced. unsynced ≡ Unsynced.NotOpened) }
     {
-        if is_no_name(error) {
+        if hides_no_name(error) {
             return Ok(());
         }
         if !is_refused(error) {

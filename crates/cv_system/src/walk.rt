@@ -1,9 +1,10 @@
 //! All folders from one on, made durable without a list of them.
 ghost use Rattle.std.specs.Prelude.{◌≡◌, ◌⊎◌, ◌↔◌, ◌+◌, ◌++◌, [], ◌∷◌, All, length, IfOk, IfErr, IsSome, IsTrue, Ok, Err, OnErr, OnOk, true, false, ◌≤◌, ◌<◌};
-ghost use Rattle.std.specs.IoError.{error_kind};
+ghost use Rattle.cv_system.specs.Calls.{cause_of};
+ghost use Rattle.cv_system.specs.declared.path_buffer.TheConstants.{PATH_ROOM};
 ghost use Rattle.cv_system.specs.Names.{above, names_in};
 ghost use Rattle.cv_system.specs.Passed.{Passes, StopsAt};
-ghost use Rattle.cv_system.specs.Walks.{FailsAll, FailsAmong, FailsRound, FailsToRead, FailsTurn, FindsNext, GoesRound, IsUnder, LooksAtAll, ReadsAll, SettlesAll, Turns, is_inside};
+ghost use Rattle.cv_system.specs.Walks.{FailsAll, FailsAmong, FailsRound, FailsToReadAll, FailsTurn, FindsNext, GoesRound, IsUnder, LooksAtAll, ReadsAll, SettlesAll, Turns, is_inside};
 
 use crate::cut::{NAMES_ROOM, cut_name};
 use crate::names::above;
@@ -58,7 +59,7 @@ impl Walk {
         ensures last { self.new.place.last ≡ self.old.place.last }
         ensures reads { OnOk result (ReadsAll self.old.place.folder self.old.place.last
             self.old.place.ahead self.new.place.ahead (S.log system.old) (S.log system.new)) }
-        ensures fails { OnErr result (FailsToRead self.old.place.folder self.old.place.last
+        ensures fails { OnErr result (FailsToReadAll self.old.place.folder self.old.place.last
             self.old.place.ahead (S.log system.old) (S.log system.new)) }
         ensures ends { IfErr result (λ unsynced. unsynced ≡ Unsynced.NotOpened) }
     {
@@ -87,10 +88,10 @@ impl Walk {
         ensures last { self.new.place.last ≡ self.old.place.last }
         ensures ahead { self.new.place.ahead ≡ self.old.place.ahead }
         ensures passes { OnOk result ((length top.now + 1 < length self.old.place.folder)
-            × Passes self.old.place.folder (error_kind error.now) (S.log system.old) (S.log system.new)) }
+            × Passes self.old.place.folder (cause_of error.now) (S.log system.old) (S.log system.new)) }
         ensures stops { OnErr result (((length self.old.place.folder ≤ length top.now + 1)
             × (S.log system.new ≡ S.log system.old)) ⊎ StopsAt self.old.place.folder
-            (error_kind error.now) (S.log system.old) (S.log system.new)) }
+            (cause_of error.now) (S.log system.old) (S.log system.new)) }
         ensures ends { IfErr result (λ unsynced. unsynced ≡ Unsynced.NotOpened) }
     {
         if self.is_at(top) {
@@ -184,7 +185,7 @@ impl Walk {
     /// it in which this process may look nothing up are passed over, if it may not read them.
     #[tactic(auto, using(crate::proofs::LastParts::top_under))]
     pub fn sync_all<S: System>(&mut self, system: &mut S, top: &str) -> Result<(), Unsynced>
-        ensures long { 4096 ≤ length top.now + 1 → result ≡ Err Unsynced.NotOpened }
+        ensures long { PATH_ROOM ≤ length top.now + 1 → result ≡ Err Unsynced.NotOpened }
         ensures settles { OnOk result (SettlesAll top.now (S.log system.old) (S.log system.new)) }
         ensures fails { IfErr result (λ unsynced. FailsAll top.now unsynced (S.log system.old)
             (S.log system.new)) }

@@ -9,6 +9,7 @@ use cv_real::{
     text_or_empty,
 };
 use cv_top::{Parts, Status, run};
+use std::env;
 use std::process::ExitCode;
 
 /// The folder of the repository's files, under the current folder.
@@ -16,7 +17,7 @@ const VAULT: &str = "srv";
 
 /// Runs the program on the real outside.
 fn run_here(rt: HostRuntime) -> Result<Status, NoMemory> {
-    let words = match program_words(&rt)? {
+    let words = match program_words(rt.alloc(), env::args(&rt))? {
         Some(words) => words,
         None => Vec::new(rt.alloc()),
     };

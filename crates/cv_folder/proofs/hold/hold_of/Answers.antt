@@ -1,15 +1,14 @@
 use Rattle.std.proofs.lemmas.Result.{err_from_is_err_and}
-use Rattle.std.proofs.Common.{◌∙◌, ap, inr}
-use Rattle.std.specs.declared.io.ErrorKind.{ErrorKind}
+use Rattle.std.proofs.Common.{inr}
 use Rattle.cv_folder.specs.Hold.{AskedAt}
-use Rattle.cv_system.specs.Calls.{Failed, Locked, Opened, and_call}
+use Rattle.cv_system.specs.Calls.{Locked, cause_of}
 use Rattle.cv_system.proofs.Laws.{call_at, two_calls}
 use Rattle.cv_folder.proofs.hold.hold_of.Goals as goal
 
 pub returns-in-Err-clause-asked : goal.returns-in-Err-clause-asked
 unfolding AskedAt
 returns-in-Err-clause-asked g c =
-    c.in-Err.ensures.call ∙ ap (λ (kind : ErrorKind). and_call (Opened c.args.folder.now (Failed kind)) (g.S.System.log c.args.system.now)) (c.is_absent.ensures.0 c.if-is_absent.true)
+    (cause_of c.in-Err.error, c.is_absent.ensures.0 c.if-is_absent.true, c.in-Err.ensures.call)
 
 pub returns-in_err-held-clause-fails : goal.returns-in_err-held-clause-fails
 returns-in_err-held-clause-fails g c =

@@ -1,9 +1,8 @@
-use Rattle.std.proofs.Common.{◌∙◌, ap, inl}
+use Rattle.std.proofs.Common.{inl}
 use Rattle.std.specs.Prelude.{IsTrue}
-use Rattle.std.specs.declared.io.ErrorKind.{ErrorKind}
 use Rattle.cv_folder.specs.FolderVaultInner.{MakesHeld}
 use Rattle.cv_folder.proofs.Holding.{makes_held}
-use Rattle.cv_system.specs.Calls.{Failed, Made, and_call}
+use Rattle.cv_system.specs.Calls.{cause_of}
 use Rattle.cv_folder.proofs.hold.make_held.Goals as goal
 
 pub returns-in-Ok : goal.returns-in-Ok
@@ -12,7 +11,7 @@ returns-in-Ok g c = makes_held _ _ _ _ _ _ c.requires c.in-Ok.ensures c.hold_mad
 pub returns-in-Err : goal.returns-in-Err
 unfolding MakesHeld
 returns-in-Err g c =
-    inl (c.in-Err.ensures ∙ ap (λ (k : ErrorKind). and_call (Made c.args.folder.now (Failed k)) (g.S.System.log c.args.system.now)) (c.is_taken.ensures.0 c.if-is_taken.true))
+    inl (cause_of c.in-Err.error, c.is_taken.ensures.0 c.if-is_taken.true, c.in-Err.ensures)
 
 pub returns-in-Err-2 : goal.returns-in-Err-2
 unfolding MakesHeld

@@ -1,11 +1,12 @@
-use Rattle.std.proofs.Common.{[]}
-use Rattle.cv_folder.specs.Listed.{AllBegin}
-use Rattle.std.proofs.Common.{[]}
-use Rattle.cv_folder.specs.ListedInner.{ListsOn}
+use Rattle.cv_folder.specs.GoingOn.{GoesOn}
+use Rattle.cv_folder.specs.Listed.{AllBegin, IsSkipped}
+use Rattle.cv_folder.specs.ListedInner.{Stands}
+use Rattle.cv_system.specs.Names.{with_slash}
 use Rattle.cv_folder.proofs.listing.list_files.Given as goal
 
 abbrev pub invariant-loop : goal.invariant-loop
 invariant-loop g l = record {
   begin : AllBegin l.prefix l.listing.found.items;
-  lists : ListsOn l.root [] l.listing.found.items (g.S.System.log l.fn.system) (g.S.System.log l.system);
+  stands : Stands (with_slash l.root) l.listing (g.S.System.log l.fn.system) (g.S.System.log l.system);
+  goes : GoesOn IsSkipped (g.S.System.log l.fn.system) (g.S.System.log l.system);
 }

@@ -1,13 +1,14 @@
 use Rattle.std.proofs.Common.{refl, [], arith, subst, List, ℕ, inl, inr}
 use Rattle.cv_system.specs.Looks.{folders_at}
 use Rattle.cv_folder.specs.Writes.{Leads}
-use Rattle.cv_folder.proofs.Acts.{on_ok}
-use Rattle.cv_folder.proofs.Preparing.{above_wider, leads_then, prepares_none, prepares_on, prepares_wider}
+use Rattle.cv_folder.proofs.Acts.{on_err_only, on_ok}
+use Rattle.cv_folder.proofs.Preparing.{above_wider, leads_then, prepares_none, prepares_on, prepares_wider, stops_here}
 use Rattle.cv_folder.proofs.Notes.{notes_none, notes_then, notes_wider}
-use Rattle.cv_system.proofs.Laws.{all_seen, one_place_more}
+use Rattle.cv_system.proofs.Laws.{all_seen, one_place_more, steps_then}
 use Rattle.std.proofs.lemmas.Result.{err_from_is_err_and, IfErr-weaker}
 use Rattle.cv_folder.proofs.Growing.{prepares_grow}
 use Rattle.cv_folder.proofs.Reasons.{way_then}
+use Rattle.cv_folder.proofs.Well.{leads_well}
 use Rattle.cv_folder.proofs.making.make_folders.Goals as goal
 
 pub loop-end-init : goal.loop-end-init
@@ -47,9 +48,22 @@ pub returns-in_err-make_folder_at-clause-why : goal.returns-in_err-make_folder_a
 returns-in_err-make_folder_at-clause-why g c =
     let p = err_from_is_err_and c.from_residual.result c.from_residual.ensures.1 in
     rw (p.1, p.2) (elim c.in_err-make_folder_at.ensures.why [
-      | inl memory ↦ inl memory
+      | inl memory ↦ inl (memory.0, steps_then (leads_well _ _ _ c.loop-end.invariant.through.2) memory.1)
       | inr fails ↦ inr (way_then _ _ _ _ (prepares_grow _ _ _ _ _ c.loop-end.invariant.prepared) fails)
     ])
 
 pub returns-clause-why : goal.returns-clause-why
-returns-clause-why g c = IfErr-weaker c.note.result _ _ (λ error memory. inl memory) c.note.ensures.memory
+returns-clause-why g c = IfErr-weaker c.note.result _ _ (λ error want. inl (want, leads_well _ _ _ c.loop-end.invariant.through.2)) c.note.ensures.memory
+
+pub returns-in_err-make_folder_at-clause-stops : goal.returns-in_err-make_folder_at-clause-stops
+returns-in_err-make_folder_at-clause-stops g c =
+    let so_far = c.loop-end.invariant.through in
+    on_err_only c.from_residual.result
+    (inl (stops_here c.args.path.now c.args.from c.loop-end.end so_far.0 c.loop-end-test.true so_far.1 _ _ _ so_far.2 c.in_err-make_folder_at.ensures.stops))
+
+pub returns-clause-stops : goal.returns-clause-stops
+returns-clause-stops g c =
+    let so_far = c.loop-end.invariant.through in
+    on_err_only c.note.result
+    (inr (subst (λ (folders : List (List ℕ)). Leads folders (g.S.System.log c.args.system.now) (g.S.System.log c.loop-end.system))
+    (all_seen c.args.path.now c.args.from c.loop-end.end so_far.0 c.loop-end-test.false so_far.1) so_far.2))

@@ -9,7 +9,7 @@ returns-then-found-le1 g c = inl (omega (arith, c.if-found-le1.true), refl)
 pub returns-in_err-other : goal.returns-in_err-other
 returns-in_err-other g c =
     let p = err_from_is_err_and c.from_residual.result c.from_residual.ensures.1 in
-    rw (p.1, p.2) (omega (arith, c.if-found-le1.false), c.in_err-other.ensures)
+    rw (p.1, p.2) (omega (arith, c.if-found-le1.false), c.in_err-other.ensures.0, c.in_err-other.ensures.1)
 
 pub returns-in-Some : goal.returns-in-Some
 returns-in-Some g c =

@@ -11,7 +11,7 @@ unfolding MovesFile
 returns-in_err-is_other_name-clause-moves g c =
     let p = err_from_is_err_and c.from_residual.result c.from_residual.ensures.1 in
     let look = rw c.in_err-is_other_name.was at c.is_other_name.ensures in
-    rw p.1 (inr (inr (refl, look.0, _, look.1)))
+    rw p.1 (inr (inr (refl, look.0, _, look.1, look.2)))
 
 pub returns-then-branch-clause-moves : goal.returns-then-branch-clause-moves
 unfolding MovesFile
@@ -26,16 +26,16 @@ pub returns-in_err-is_other_name-clause-fails : goal.returns-in_err-is_other_nam
 returns-in_err-is_other_name-clause-fails g c =
     let p = err_from_is_err_and c.from_residual.result c.from_residual.ensures.1 in
     let look = rw c.in_err-is_other_name.was at c.is_other_name.ensures in
-    rw (p.1, p.2) (fails_now (Looked c.args.to.now (Err _)) refl look.1)
+    rw (p.1, p.2) (fails_now (Looked c.args.to.now (Err _)) refl (λ is. look.1) look.2)
 
 pub returns-then-branch-clause-fails : goal.returns-then-branch-clause-fails
 returns-then-branch-clause-fails g c =
     IfErr-weaker c.remove_file.result _ _
     (λ error fails. fails_then (other_grows c.args.found.now c.args.to.now _ _ (rw (c.in_ok-is_other_name.was ∙ ap Ok c.if-branch.true) at c.is_other_name.ensures)) fails)
-    (one_fails (Removed c.args.from.now) (λ out. refl) c.remove_file.result _ _ c.remove_file.ensures)
+    (one_fails (Removed c.args.from.now) (λ out. refl) (λ out look. look) c.remove_file.result _ _ c.remove_file.ensures)
 
 pub returns-else-branch-clause-fails : goal.returns-else-branch-clause-fails
 returns-else-branch-clause-fails g c =
     IfErr-weaker c.rename.result _ _
     (λ error fails. fails_then (others_grow c.args.found.now c.args.to.now _ _ (rw (c.in_ok-is_other_name.was ∙ ap Ok c.if-branch.false) at c.is_other_name.ensures)) fails)
-    (one_fails (Renamed c.args.from.now c.args.to.now) (λ out. refl) c.rename.result _ _ c.rename.ensures)
+    (one_fails (Renamed c.args.from.now c.args.to.now) (λ out. refl) (λ out look. look) c.rename.result _ _ c.rename.ensures)

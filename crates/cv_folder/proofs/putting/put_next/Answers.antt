@@ -3,7 +3,7 @@ use Rattle.std.proofs.Common.{◌∙◌, [], ◌∷◌, refl}
 use Rattle.cv_system.specs.Calls.{Renamed, Synced, Wrote}
 use Rattle.cv_folder.specs.Writes.{put}
 use Rattle.cv_folder.proofs.Anew.{anew_then, not_anew}
-use Rattle.cv_system.proofs.Laws.{call_at, failed_so, made_then, told_before, tried_one, fails_then, grows, one_fails, one_call, steps_then}
+use Rattle.cv_system.proofs.Laws.{call_at, failed_so, made_then, told_before, tried_one, fails_then, one_fails, one_call, steps_then}
 use Rattle.cv_folder.proofs.Growing.{anew_grows}
 use Rattle.cv_folder.proofs.putting.put_next.Goals as goal
 
@@ -46,7 +46,7 @@ returns-in_err-write_all-clause-fails g c =
     let p = err_from_is_err_and c.from_residual-in_err-write_all.result c.from_residual-in_err-write_all.ensures.1 in
     let wrote = call_at (λ path out. Wrote path c.args.bytes.now out) _ _ c.args.next.now _ _ c.in_ok-file.ensures.place c.write_all.ensures.call in
     rw (p.1, p.2) (fails_then (anew_grows c.args.next.now [] _ _ _ c.in_ok-file.ensures.calls)
-    (IfErr-at_err _ c.in_err-write_all.was (one_fails (Wrote c.args.next.now c.args.bytes.now) (λ out. refl) c.write_all.result _ _ wrote)))
+    (IfErr-at_err _ c.in_err-write_all.was (one_fails (Wrote c.args.next.now c.args.bytes.now) (λ out. refl) (λ out look. look) c.write_all.result _ _ wrote)))
 
 pub returns-in_err-sync-clause-fails : goal.returns-in_err-sync-clause-fails
 returns-in_err-sync-clause-fails g c =
@@ -54,7 +54,7 @@ returns-in_err-sync-clause-fails g c =
     let wrote = call_at (λ path out. Wrote path c.args.bytes.now out) _ _ c.args.next.now _ _ c.in_ok-file.ensures.place c.write_all.ensures.call in
     let synced = call_at Synced _ _ c.args.next.now _ _ (λ some. c.write_all.ensures.place ∙ c.in_ok-file.ensures.place (told_before _ _ _ c.write_all.ensures.call some)) c.sync.ensures in
     rw (p.1, p.2) (fails_then (steps_then (anew_grows c.args.next.now [] _ _ _ c.in_ok-file.ensures.calls) (one_call (Wrote c.args.next.now c.args.bytes.now _) tt wrote))
-    (IfErr-at_err _ c.in_err-sync.was (one_fails (Synced c.args.next.now) (λ out. refl) c.sync.result _ _ synced)))
+    (IfErr-at_err _ c.in_err-sync.was (one_fails (Synced c.args.next.now) (λ out. refl) (λ out look. look) c.sync.result _ _ synced)))
 
 pub returns-clause-fails : goal.returns-clause-fails
 returns-clause-fails g c =
@@ -63,4 +63,4 @@ returns-clause-fails g c =
     IfErr-weaker c.rename.result _ _
     (λ error fails.
     fails_then (steps_then (anew_grows c.args.next.now [] _ _ _ c.in_ok-file.ensures.calls) (steps_then (one_call (Wrote c.args.next.now c.args.bytes.now _) tt wrote) (one_call (Synced c.args.next.now _) tt synced))) fails)
-    (one_fails (Renamed c.args.next.now c.args.path.now) (λ out. refl) c.rename.result _ _ c.rename.ensures)
+    (one_fails (Renamed c.args.next.now c.args.path.now) (λ out. refl) (λ out look. look) c.rename.result _ _ c.rename.ensures)

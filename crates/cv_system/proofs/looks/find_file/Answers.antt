@@ -14,4 +14,4 @@ returns-in_err-seen-clause-finds g c =
 pub returns-in_err-seen-clause-fails : goal.returns-in_err-seen-clause-fails
 returns-in_err-seen-clause-fails g c =
     let p = err_from_is_err_and c.from_residual-in_err-seen.result c.from_residual-in_err-seen.ensures.1 in
-    rw (p.1, p.2) (fails_then (grows c.has_folders.ensures.looks) (fails_now (Looked c.args.path.now (Err _)) refl c.in_err-seen.ensures))
+    rw (p.1, p.2) (fails_then (grows c.has_folders.ensures.looks) (fails_now (Looked c.args.path.now (Err _)) refl (λ look. c.in_err-seen.ensures.0) c.in_err-seen.ensures.1))

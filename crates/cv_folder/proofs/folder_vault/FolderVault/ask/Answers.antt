@@ -2,7 +2,7 @@ use Rattle.std.proofs.Common.{subst, string_bytes, sym}
 use Rattle.std.specs.Prelude.{IsTrue}
 use Rattle.cv_folder.specs.FolderVault.{AsksAlone}
 use Rattle.cv_folder.specs.Hold.{Asked}
-use Rattle.cv_folder.proofs.Acts.{asks_nothing, asks_now}
+use Rattle.cv_folder.proofs.Acts.{asks_nothing, asks_now, unsettled_still}
 use Rattle.cv_folder.proofs.folder_vault.FolderVault.ask.Goals as goal
 
 pub returns-then-not-is_unasked-clause-asks : goal.returns-then-not-is_unasked-clause-asks
@@ -26,3 +26,7 @@ returns-then-not-is_unasked-clause-known g c = λ is. let yes : IsTrue c.is_unas
 
 pub returns-clause-known : goal.returns-clause-known
 returns-clause-known g c = c.in_ok-hold.ensures.known
+
+pub returns-then-not-is_unasked-clause-all : goal.returns-then-not-is_unasked-clause-all
+returns-then-not-is_unasked-clause-all g c = λ held.
+    unsettled_still c.args.self.now.hold c.args.self.now.is_unsettled (λ is. let yes : IsTrue c.is_unasked.result = c.is_unasked.ensures.1 is in cc)

@@ -1,11 +1,13 @@
-use Rattle.std.proofs.Common.{◌∙◌, ap, refl, string_bytes, sym, inl, inr, subst}
+use Rattle.std.proofs.Common.{◌∙◌, ap, refl, string_bytes, sym, inl, inr}
 use Rattle.std.specs.Prelude.{IsTrue}
 use Rattle.cv_system.specs.Names.{is_name}
 use Rattle.cv_folder.specs.Noted.{is_noted}
 use Rattle.cv_folder.proofs.Notes.{stays_noted}
 use Rattle.cv_folder.proofs.Filing.{begins_asked, begins_made, begins_on}
-use Rattle.std.proofs.lemmas.Result.{err_from_is_err_and, IfErr-weaker}
+use Rattle.std.proofs.lemmas.Result.{err_from_is_err_and}
+use Rattle.cv_system.proofs.Laws.{steps_then}
 use Rattle.cv_folder.proofs.Growing.{alone_grows}
+use Rattle.cv_folder.proofs.Well.{alone_well}
 use Rattle.cv_folder.proofs.Reasons.{set_fails, write_so, write_unmade}
 use Rattle.cv_folder.proofs.folder_vault.FolderVault.begin_write.Goals as goal
 
@@ -68,7 +70,7 @@ pub returns-in_err-make_root-clause-why : goal.returns-in_err-make_root-clause-w
 returns-in_err-make_root-clause-why g c =
     let p = err_from_is_err_and c.from_residual-in_err-make_root.result c.from_residual-in_err-make_root.ensures.1 in
     rw (p.1, p.2) (elim c.in_err-make_root.ensures.why [
-      | inl memory ↦ inl memory
+      | inl memory ↦ inl (memory.0, steps_then (alone_well g.S.System.log _ _ (λ never. let absent = rw c.if-branch.false at c.in_ok-begin.ensures.held in cc) c.begin.ensures.asks) memory.1)
       | inr fails ↦ inr (write_unmade (string_bytes c.args.self.now.root) c.args.name.now _ _ _ _ _ (alone_grows g.S.System.log _ _ c.begin.ensures.asks) (string_bytes c.begin.new.self.root) (ap string_bytes c.begin.ensures.stays.0) fails)
     ])
 

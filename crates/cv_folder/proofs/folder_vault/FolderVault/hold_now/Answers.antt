@@ -1,7 +1,7 @@
 use Rattle.std.proofs.Common.{◌∙◌, string_bytes}
 use Rattle.std.specs.Prelude.{IsTrue}
-use Rattle.std.specs.IoError.{error_kind}
 use Rattle.std.proofs.lemmas.Result.{IfOk-weaker, IfErr-weaker}
+use Rattle.cv_system.specs.Calls.{cause_of}
 use Rattle.cv_folder.proofs.Acts.{asked_so, on_err, refused_so, unasked_so}
 use Rattle.cv_system.proofs.Laws.{fails_then, no_step}
 use Rattle.cv_folder.proofs.Growing.{asks_fail}
@@ -20,12 +20,12 @@ returns-clause-asked g c =
 pub returns-clause-fails : goal.returns-clause-fails
 returns-clause-fails g c =
     on_err c.hold_of.result
-    (λ error told. unasked_so (string_bytes c.args.self.now.root) c.as_str.result.now _ _ _ (c.as_str.ensures.path ∙ c.has_root.ensures.path c.if-not-has_root.false) c.has_root.ensures.calls c.args.self.now.hold c.requires (c.has_root.ensures.root.0 c.if-not-has_root.false) (error_kind error) told)
+    (λ error told. unasked_so (string_bytes c.args.self.now.root) c.as_str.result.now _ _ _ (c.as_str.ensures.path ∙ c.has_root.ensures.path c.if-not-has_root.false) c.has_root.ensures.calls c.args.self.now.hold c.requires (c.has_root.ensures.root.0 c.if-not-has_root.false) (cause_of error) told)
     c.hold_of.ensures.fails
 
 pub returns-clause-why : goal.returns-clause-why
 returns-clause-why g c =
-    IfErr-weaker c.hold_of.result _ _ (λ error fails. fails_then (no_step c.has_root.ensures.calls) (asks_fail c.as_str.result.now (error_kind error) _ _ fails)) c.hold_of.ensures.fails
+    IfErr-weaker c.hold_of.result _ _ (λ error fails. fails_then (no_step c.has_root.ensures.calls) (asks_fail c.as_str.result.now (cause_of error) _ _ fails)) c.hold_of.ensures.fails
 
 pub returns-then-not-has_root-clause-known : goal.returns-then-not-has_root-clause-known
 returns-then-not-has_root-clause-known g c = λ is. cc

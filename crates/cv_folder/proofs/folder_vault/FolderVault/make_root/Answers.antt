@@ -1,5 +1,6 @@
 use Rattle.std.proofs.Common.{◌∙◌, ap, inr, refl, string_bytes, inl, ◌+◌, length}
 use Rattle.cv_system.specs.Names.{folder_of}
+use Rattle.cv_system.specs.Steps.{Still}
 use Rattle.cv_folder.proofs.Holding.{makes_still, makes_then}
 use Rattle.cv_folder.proofs.Notes.{stays_noted}
 use Rattle.cv_folder.proofs.Notes.{notes_wider}
@@ -65,7 +66,7 @@ returns-in-None-clause-noted g c =
 pub returns-in_err-note-clause-why : goal.returns-in_err-note-clause-why
 returns-in_err-note-clause-why g c =
     let p = err_from_is_err_and c.from_residual.result c.from_residual.ensures.1 in
-    rw (p.1, p.2) (inl c.in_err-note.ensures.memory)
+    rw (p.1, p.2) (inl (c.in_err-note.ensures.memory, Still))
 
 pub returns-in_err-set_root-clause-why : goal.returns-in_err-set_root-clause-why
 returns-in_err-set_root-clause-why g c =

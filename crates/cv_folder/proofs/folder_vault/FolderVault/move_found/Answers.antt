@@ -1,6 +1,7 @@
 use Rattle.std.proofs.lemmas.Result.{err_from_is_err_and, IfErr-weaker}
-use Rattle.std.proofs.Common.{◌∙◌, ◌+◌, ap, inl, inr, length, refl, string_bytes, sym, subst}
+use Rattle.std.proofs.Common.{◌∙◌, ◌+◌, ap, inl, inr, length, refl, string_bytes, sym}
 use Rattle.cv_system.specs.Names.{folder_of, path_of}
+use Rattle.cv_system.specs.Steps.{Still}
 use Rattle.cv_folder.proofs.Filing.{moves_no_more, moves_on, moves_on_way}
 use Rattle.cv_folder.proofs.Notes.{stays_noted}
 use Rattle.cv_folder.proofs.Acts.{on_ok}
@@ -34,13 +35,14 @@ pub returns-in_err-make_folders-clause-calls : goal.returns-in_err-make_folders-
 returns-in_err-make_folders-clause-calls g c =
     let p = err_from_is_err_and c.from_residual-in_err-make_folders.result c.from_residual-in_err-make_folders.ensures.1 in
     rw p.1 (moves_on_way (string_bytes c.args.self.now.root) c.args.to.now c.args.found.now _ _ c.args.self.now.path c.set_path.new.self.path c.names_from-from.result c.in_ok-set_path.ensures.path
-    (c.names_from-from.ensures ∙ ap (λ root. length (string_bytes root) + 1) c.set_path.ensures.stays.0) _ _ c.set_path.ensures.calls (rw c.as_str-3.ensures.path at c.make_folders.ensures.calls))
+    (c.names_from-from.ensures ∙ ap (λ root. length (string_bytes root) + 1) c.set_path.ensures.stays.0) _ _ c.set_path.ensures.calls (rw c.as_str-3.ensures.path at c.make_folders.ensures.calls) (rw c.as_str-3.ensures.path at c.in_err-make_folders.ensures.stops))
 
 pub returns-clause-calls : goal.returns-clause-calls
 returns-clause-calls g c =
+    let noted_at = c.folder_of.ensures ∙ ap folder_of (c.as_str-2.ensures.value ∙ c.in_ok-source.ensures.ok ∙ c.as_str.ensures.path) in
     moves_on (string_bytes c.args.self.now.root) c.args.to.now c.args.found.now _ _ c.args.self.now.path c.set_path.new.self.path c.names_from-from.result c.in_ok-set_path.ensures.path
     (c.names_from-from.ensures ∙ ap (λ root. length (string_bytes root) + 1) c.set_path.ensures.stays.0) _ _ c.set_path.ensures.calls (rw c.as_str-3.ensures.path at c.make_folders.ensures.calls)
-    _ _ _ (c.as_str-4.ensures.value ∙ c.in_ok-source.ensures.ok ∙ c.as_str.ensures.path) (rw c.as_str-3.ensures.path at c.in_ok-make_folders.ensures.leads) (rw c.as_str-5.ensures.path at c.move_file.ensures.moves)
+    _ _ _ (c.as_str-4.ensures.value ∙ c.in_ok-source.ensures.ok ∙ c.as_str.ensures.path) (rw c.as_str-3.ensures.path at c.in_ok-make_folders.ensures.leads, rw c.as_str-3.ensures.path at c.in_ok-make_folders.ensures.noted) (c.in_ok-make_folders.ensures.kept _ (stays_noted c.note.new.notes c.note.new.notes _ _ refl noted_at c.in_ok-note.ensures.noted)) (rw c.as_str-5.ensures.path at c.move_file.ensures.moves)
 
 pub returns-in_err-source-clause-adds : goal.returns-in_err-source-clause-adds
 returns-in_err-source-clause-adds g c =
@@ -85,7 +87,7 @@ returns-clause-adds g c =
 pub returns-in_err-source-clause-why : goal.returns-in_err-source-clause-why
 returns-in_err-source-clause-why g c =
     let p = err_from_is_err_and c.from_residual.result c.from_residual.ensures.1 in
-    rw (p.1, p.2) (inl c.in_err-source.ensures.memory)
+    rw (p.1, p.2) (inl (c.in_err-source.ensures.memory, Still))
 
 pub returns-in_err-set_path-clause-why : goal.returns-in_err-set_path-clause-why
 returns-in_err-set_path-clause-why g c =
@@ -95,13 +97,13 @@ returns-in_err-set_path-clause-why g c =
 pub returns-in_err-note-clause-why : goal.returns-in_err-note-clause-why
 returns-in_err-note-clause-why g c =
     let p = err_from_is_err_and c.from_residual-in_err-note.result c.from_residual-in_err-note.ensures.1 in
-    rw (p.1, p.2) (inl c.in_err-note.ensures.memory)
+    rw (p.1, p.2) (inl (c.in_err-note.ensures.memory, no_step c.set_path.ensures.calls))
 
 pub returns-in_err-make_folders-clause-why : goal.returns-in_err-make_folders-clause-why
 returns-in_err-make_folders-clause-why g c =
     let p = err_from_is_err_and c.from_residual-in_err-make_folders.result c.from_residual-in_err-make_folders.ensures.1 in
     rw (p.1, p.2) (elim c.in_err-make_folders.ensures.why [
-      | inl memory ↦ inl memory
+      | inl memory ↦ inl (memory.0, steps_then (no_step c.set_path.ensures.calls) memory.1)
       | inr fails ↦ inr (moves_no_way (string_bytes c.args.self.now.root) c.args.to.now _ _ _ _ _ (no_step c.set_path.ensures.calls) fails)
     ])
 

@@ -17,4 +17,4 @@ returns-clause-adds g c =
     (refl, c.note_or_all.ensures.kept, notes_wider _ _ _ _ (λ folder is. is ∙ above) c.note_or_all.ensures.only, c.note_or_all.ensures.unsettled, refl)
 
 pub returns-clause-why : goal.returns-clause-why
-returns-clause-why g c = one_fails (Removed c.as_str-2.result.now) (λ out. refl) c.remove_file.result _ _ c.remove_file.ensures
+returns-clause-why g c = one_fails (Removed c.as_str-2.result.now) (λ out. refl) (λ out look. look) c.remove_file.result _ _ c.remove_file.ensures

@@ -11,24 +11,24 @@ use Rattle.cv_folder.proofs.folder_vault.FolderVault.remove_now.Goals as goal
 pub returns-in_err-_found-clause-calls : goal.returns-in_err-_found-clause-calls
 returns-in_err-_found-clause-calls g c =
     let p = err_from_is_err_and c.from_residual.result c.from_residual.ensures.1 in
-    rw p.1 (acts_on g.S.System.log _ _ _ _ _ c.in_err-_found.ensures.calls refl (λ asked look. removes_lost (string_bytes c.args.self.now.root) c.args.name.now _ asked _ _ _ look))
+    rw p.1 (acts_on g.S.System.log _ _ _ _ _ c.in_err-_found.ensures.calls refl (λ asked look. removes_lost (string_bytes c.args.self.now.root) c.args.name.now _ asked _ _ _ _ _ look))
 
 pub returns-in-None-clause-calls : goal.returns-in-None-clause-calls
 returns-in-None-clause-calls g c =
-    acts_on g.S.System.log _ _ _ _ _ (rw c.in-None.is at c.in_ok-_found.ensures.calls) refl (λ asked look. removes_none (string_bytes c.args.self.now.root) c.args.name.now _ asked _ look)
+    acts_on g.S.System.log _ _ _ _ _ (rw c.in-None.is at c.in_ok-_found.ensures.calls) refl (λ asked look. removes_none (string_bytes c.args.self.now.root) c.args.name.now _ asked _ _ _ look)
 
 pub returns-in_err-remove_found-in-Some-clause-calls : goal.returns-in_err-remove_found-in-Some-clause-calls
 returns-in_err-remove_found-in-Some-clause-calls g c =
     let p = err_from_is_err_and c.from_residual-in_err-remove_found-in-Some.result c.from_residual-in_err-remove_found-in-Some.ensures.1 in
     let at = (c.in_ok-_found.ensures.path.0.1 ∙ ap (λ root. path_of (string_bytes root) c.args.name.now) c.find.ensures.stays.0) in
     rw p.1 (acts_on g.S.System.log _ _ _ _ _ (rw c.in-Some.is at c.in_ok-_found.ensures.calls) c.remove_found.ensures.hold
-    (λ asked has. removes_in_vain (string_bytes c.args.self.now.root) c.args.name.now _ asked c.in-Some._found _ (subst (λ hold. FindsNamed {E = Error} (string_bytes c.args.self.now.root) c.args.name.now hold (Ok (Some c.in-Some._found)) asked (g.S.System.log c.find.new.self.system)) (sym c.remove_found.ensures.hold) has) _ _ (rw at at c.in_err-remove_found-in-Some.ensures.calls)))
+    (λ asked has. removes_in_vain (string_bytes c.args.self.now.root) c.args.name.now _ asked c.in-Some._found _ (subst (λ hold. FindsNamed {E = Error} (string_bytes c.args.self.now.root) c.args.name.now hold (Ok (Some c.in-Some._found)) asked (g.S.System.log c.find.new.self.system)) (sym c.remove_found.ensures.hold) has) _ _ _ _ (rw at at c.remove_found.ensures.noted) (rw at at c.in_err-remove_found-in-Some.ensures.calls)))
 
 pub returns-in_ok-remove_found-in-Some-clause-calls : goal.returns-in_ok-remove_found-in-Some-clause-calls
 returns-in_ok-remove_found-in-Some-clause-calls g c =
     let at = (c.in_ok-_found.ensures.path.0.1 ∙ ap (λ root. path_of (string_bytes root) c.args.name.now) c.find.ensures.stays.0) in
     acts_on g.S.System.log _ _ _ _ _ (rw c.in-Some.is at c.in_ok-_found.ensures.calls) c.remove_found.ensures.hold
-    (λ asked has. removes_named (string_bytes c.args.self.now.root) c.args.name.now _ asked c.in-Some._found _ (subst (λ hold. FindsNamed {E = Error} (string_bytes c.args.self.now.root) c.args.name.now hold (Ok (Some c.in-Some._found)) asked (g.S.System.log c.find.new.self.system)) (sym c.remove_found.ensures.hold) has) _ (rw at at c.in_ok-remove_found-in-Some.ensures.calls))
+    (λ asked has. removes_named (string_bytes c.args.self.now.root) c.args.name.now _ asked c.in-Some._found _ (subst (λ hold. FindsNamed {E = Error} (string_bytes c.args.self.now.root) c.args.name.now hold (Ok (Some c.in-Some._found)) asked (g.S.System.log c.find.new.self.system)) (sym c.remove_found.ensures.hold) has) _ _ _ (rw at at c.remove_found.ensures.noted) (rw at at c.in_ok-remove_found-in-Some.ensures.calls))
 
 pub returns-in_ok-remove_found-in-Some-clause-noted : goal.returns-in_ok-remove_found-in-Some-clause-noted
 returns-in_ok-remove_found-in-Some-clause-noted g c = λ _.

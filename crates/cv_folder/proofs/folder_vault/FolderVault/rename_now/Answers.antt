@@ -7,7 +7,9 @@ use Rattle.cv_folder.specs.FolderVaultInner.{FindsNamed}
 use Rattle.cv_folder.proofs.Acts.{acts_on, moves_in_vain, moves_lost, moves_named, moves_none}
 use Rattle.cv_folder.proofs.Notes.{stays_noted}
 use Rattle.cv_folder.specs.Writes.{IsAbove}
+use Rattle.cv_system.proofs.Laws.{steps_then}
 use Rattle.cv_folder.proofs.Growing.{found_grows}
+use Rattle.cv_folder.proofs.Well.{found_well}
 use Rattle.cv_folder.proofs.Reasons.{move_so, rename_fails, rename_no_name, rename_same}
 use Rattle.cv_folder.proofs.folder_vault.FolderVault.rename_now.Goals as goal
 
@@ -91,7 +93,7 @@ pub returns-in_err-move_found-in-Some-clause-why : goal.returns-in_err-move_foun
 returns-in_err-move_found-in-Some-clause-why g c =
     let p = err_from_is_err_and c.from_residual-in_err-move_found-in-Some.result c.from_residual-in_err-move_found-in-Some.ensures.1 in
     rw (p.1, p.2) (elim c.in_err-move_found-in-Some.ensures.why [
-      | inl memory ↦ inl memory
+      | inl memory ↦ inl (memory.0, steps_then (found_well g.S.System.log c.args.self.now c.find.new.self (string_bytes c.args.self.now.root) c.args.from.now c.in-Some.found (rw c.in-Some.is at c.in_ok-found.ensures.calls)) memory.1)
       | inr fails ↦ inr (rename_fails (string_bytes c.args.self.now.root) (string_bytes c.find.new.self.root) c.args.from.now c.args.to.now _ _ _ _ _ (ap string_bytes c.find.ensures.stays.0)
           (found_grows g.S.System.log c.args.self.now c.find.new.self (string_bytes c.args.self.now.root) c.args.from.now c.find.new.self.hold c.in-Some.found (rw c.in-Some.is at c.in_ok-found.ensures.calls)) fails)
     ])

@@ -7,6 +7,7 @@ use Rattle.cv_folder.proofs.Notes.{stays_noted}
 use Rattle.cv_folder.proofs.Preparing.{above_at}
 use Rattle.cv_system.proofs.Laws.{no_step, steps_then}
 use Rattle.cv_folder.proofs.Growing.{begins_grow, prepares_grow}
+use Rattle.cv_folder.proofs.Well.{begins_well}
 use Rattle.cv_folder.proofs.Reasons.{long_path, next_long, write_long, write_no_way, write_not_put}
 use Rattle.cv_folder.proofs.folder_vault.FolderVault.write_now.Goals as goal
 
@@ -32,7 +33,7 @@ returns-in_err-make_folders-clause-calls g c =
     (λ folder noted. c.make_folders.ensures.kept folder (stays_noted c.begin_write.new.self.folders c.set_next.new.self.folders folder folder c.set_next.ensures.stays.1 refl noted))
     (rw (← c.set_next.ensures.hold) at c.begin_write.ensures.begins) in
     rw p.1 (writes_on_way (string_bytes c.args.self.now.root) c.args.name.now c.args.bytes.now c.args.self.now.hold c.set_next.new.self.hold _ _ _ _ begins (rw (← c.set_next.ensures.hold) at c.in_ok-begin_write.ensures.held.0) c.in_ok-begin_write.ensures.path.0 c.set_next.new.self.path c.set_next.new.self.next c.names_from-from.result
-    at (c.names_from-from.ensures ∙ ap (λ root. length (string_bytes root) + 1) root) _ _ c.set_next.ensures.calls (rw c.as_str.ensures.path at c.make_folders.ensures.calls))
+    at (c.names_from-from.ensures ∙ ap (λ root. length (string_bytes root) + 1) root) _ _ c.set_next.ensures.calls (rw c.as_str.ensures.path at c.make_folders.ensures.calls) (rw c.as_str.ensures.path at c.in_err-make_folders.ensures.stops))
 
 pub returns-clause-calls : goal.returns-clause-calls
 returns-clause-calls g c =
@@ -44,7 +45,7 @@ returns-clause-calls g c =
     writes_so (string_bytes c.args.self.now.root) c.args.name.now c.args.bytes.now c.args.self.now.hold c.set_next.new.self.hold _ _ _ _ begins (rw (← c.set_next.ensures.hold) at c.in_ok-begin_write.ensures.held.0) c.in_ok-begin_write.ensures.path.0 c.set_next.new.self.path c.set_next.new.self.next c.names_from-from.result
     at (c.names_from-from.ensures ∙ ap (λ root. length (string_bytes root) + 1) root) _ _ c.set_next.ensures.calls (rw c.as_str.ensures.path at c.make_folders.ensures.calls) _ _
     (c.in_ok-set_next.ensures.next ∙ ap (λ (path : List ℕ). folder_of path ++ codes ".cvkit-next") (sym c.set_next.ensures.path))
-    (rw c.as_str.ensures.path at c.in_ok-make_folders.ensures.leads)
+    (rw c.as_str.ensures.path at c.in_ok-make_folders.ensures.leads, rw c.as_str.ensures.path at c.in_ok-make_folders.ensures.noted)
     (rw (c.as_str-2.ensures.path, c.as_str-3.ensures.path) at c.put_file.ensures.puts)
 
 pub returns-in_err-begin_write-clause-no_name : goal.returns-in_err-begin_write-clause-no_name
@@ -127,7 +128,7 @@ pub returns-in_err-make_folders-clause-why : goal.returns-in_err-make_folders-cl
 returns-in_err-make_folders-clause-why g c =
     let p = err_from_is_err_and c.from_residual-in_err-make_folders.result c.from_residual-in_err-make_folders.ensures.1 in
     rw (p.1, p.2) (elim c.in_err-make_folders.ensures.why [
-      | inl memory ↦ inl memory
+      | inl memory ↦ inl (memory.0, steps_then (steps_then (begins_well _ _ _ _ _ _ _ c.in_ok-begin_write.ensures.held.0 c.begin_write.ensures.begins) (no_step c.set_next.ensures.calls)) memory.1)
       | inr fails ↦ inr (write_no_way (string_bytes c.args.self.now.root) c.args.name.now _ _ _ _ _ (steps_then (begins_grow _ _ _ _ _ _ _ c.begin_write.ensures.begins) (no_step c.set_next.ensures.calls)) fails)
     ])
 

@@ -1,5 +1,7 @@
 use Rattle.std.proofs.Common.{string_bytes}
 use Rattle.cv_folder.proofs.Acts.{lists_done, lists_fault}
+use Rattle.cv_folder.proofs.Faults.{told_so}
+use Rattle.cv_folder.proofs.Within.{acts_within, lists_within}
 use Rattle.cv_folder.proofs.folder_vault.FolderVaultVault.list.Goals as goal
 
 pub returns-in-Err-clause-calls : goal.returns-in-Err-clause-calls
@@ -7,3 +9,12 @@ returns-in-Err-clause-calls g c = lists_fault g.S.System.log _ _ _ c.fault_of.en
 
 pub returns-in-Ok-clause-calls : goal.returns-in-Ok-clause-calls
 returns-in-Ok-clause-calls g c = lists_done _ _ g.S.System.log _ _ _ _ _ c.in-Ok.ensures.calls
+
+pub returns-in-Ok-clause-within : goal.returns-in-Ok-clause-within
+returns-in-Ok-clause-within g c = acts_within g.S.System.log _ _ _ (λ asked act. lists_within (string_bytes c.args.self.now.root) _ _ asked _ act) c.in-Ok.ensures.calls
+
+pub returns-in-Err-clause-within : goal.returns-in-Err-clause-within
+returns-in-Err-clause-within g c = rw c.fault_of.ensures.calls (acts_within g.S.System.log _ _ _ (λ asked act. lists_within (string_bytes c.args.self.now.root) _ _ asked _ act) c.in-Err.ensures.calls)
+
+pub returns-in-Err-clause-why : goal.returns-in-Err-clause-why
+returns-in-Err-clause-why g c = rw (c.fault_of.ensures.calls, c.fault_of.ensures.hold) (told_so _ c.fault_of.result c.in-Err.error c.fault_of.ensures.memory c.in-Err.ensures.why)
