@@ -2,14 +2,13 @@
 use Rattle.std.proofs.Common.{◌≡◌, ◌&&◌, ℕ, Bool, true, false, cond, None, Some, List, length, take, get_or, ◌<◌, ◌+◌, refl, sym, ap, subst, ◌∙◌, inl, inr}
 use Rattle.std.specs.Prelude.{slice_get, OnOk, Result, Ok, Err}
 use Rattle.std.specs.List.{Contains}
-use Rattle.std.specs.Ordering.{nat_cmp}
-use Rattle.std.specs.Cmp.Lexicographic.{slice_cmp}
 use Rattle.std.specs.Str.{bytes_eq}
 use Rattle.std.specs.BTreeMap.{BTreeMap, get, Updates}
 use Rattle.std.proofs.lemmas.Map.Text.{is_eq-slice_cmp}
 use Rattle.std.proofs.lemmas.Slice.Eq.{bytes_eq-Decides}
 use Rattle.std.proofs.lemmas.Option.{slice_get_read, same_Some}
 use Rattle.std.proofs.Math.Bool.{and-true, and-false}
+use Rattle.cv_base.specs.BytesOrder.{bytes_cmp}
 use Rattle.cv_base.specs.declared.id.Kind.{Kind}
 use Rattle.cv_base.specs.declared.id.Kind.TheVariants.{Plain, Catalogue, History}
 use Rattle.cv_base.specs.declared.id.ObjectId.{ObjectId}
@@ -21,47 +20,47 @@ use Rattle.cv_objects.specs.Batches.{IsOne}
 use Rattle.cv_objects.specs.declared.places.Places.{Places}
 use Rattle.cv_objects.proofs.Lists.{last_or_earlier}
 
-own : (m n : BTreeMap (List ℕ) ℕ) (hash q : List ℕ) (p : ℕ) → Updates (slice_cmp nat_cmp) m n hash (Some p) → get (slice_cmp nat_cmp) n q ≡ cond (bytes_eq hash q && true) (Some p) (get (slice_cmp nat_cmp) m q)
-own m n hash q p u = u.0 q ∙ ap (λ (b : Bool). cond b (Some p) (get (slice_cmp nat_cmp) m q)) (is_eq-slice_cmp hash q ∙ sym (and-true (bytes_eq hash q)))
+own : (m n : BTreeMap (List ℕ) ℕ) (hash q : List ℕ) (p : ℕ) → Updates bytes_cmp m n hash (Some p) → get bytes_cmp n q ≡ cond (bytes_eq hash q && true) (Some p) (get bytes_cmp m q)
+own m n hash q p u = u.0 q ∙ ap (λ (b : Bool). cond b (Some p) (get bytes_cmp m q)) (is_eq-slice_cmp hash q ∙ sym (and-true (bytes_eq hash q)))
 
 apart : {X : Type 0} (b : Bool) (x y : X) → y ≡ cond (b && false) x y
 apart b x y = sym (ap (λ (a : Bool). cond a x y) (and-false b))
 
-other : (m n : BTreeMap (List ℕ) ℕ) (hash q : List ℕ) (p : ℕ) → n ≡ m → get (slice_cmp nat_cmp) n q ≡ cond (bytes_eq hash q && false) (Some p) (get (slice_cmp nat_cmp) m q)
-other m n hash q p same = ap (λ (x : BTreeMap (List ℕ) ℕ). get (slice_cmp nat_cmp) x q) same ∙ apart (bytes_eq hash q) (Some p) (get (slice_cmp nat_cmp) m q)
+other : (m n : BTreeMap (List ℕ) ℕ) (hash q : List ℕ) (p : ℕ) → n ≡ m → get bytes_cmp n q ≡ cond (bytes_eq hash q && false) (Some p) (get bytes_cmp m q)
+other m n hash q p same = ap (λ (x : BTreeMap (List ℕ) ℕ). get bytes_cmp x q) same ∙ apart (bytes_eq hash q) (Some p) (get bytes_cmp m q)
 
 pub on_ok : {X E A B : Type 0} (r : Result X E) → (A → B) → OnOk r A → OnOk r B
 on_ok (Ok x) f h = f h
 on_ok (Err e) f h = tt
 
 -- one place more, under its kind
-plain_at : (was are : Places) (hash q : List ℕ) (p : ℕ) → Updates (slice_cmp nat_cmp) was.plain are.plain hash (Some p) → are.catalogues ≡ was.catalogues → are.records ≡ was.records
-    → (j : Kind) → get (slice_cmp nat_cmp) (of_kind are j) q ≡ cond (bytes_eq hash q && same_kind Plain j) (Some p) (get (slice_cmp nat_cmp) (of_kind was j) q)
+plain_at : (was are : Places) (hash q : List ℕ) (p : ℕ) → Updates bytes_cmp was.plain are.plain hash (Some p) → are.catalogues ≡ was.catalogues → are.records ≡ was.records
+    → (j : Kind) → get bytes_cmp (of_kind are j) q ≡ cond (bytes_eq hash q && same_kind Plain j) (Some p) (get bytes_cmp (of_kind was j) q)
 plain_at was are hash q p u a b Plain = own was.plain are.plain hash q p u
 plain_at was are hash q p u a b Catalogue = other was.catalogues are.catalogues hash q p a
 plain_at was are hash q p u a b History = other was.records are.records hash q p b
 
-pub put_plain : (was are : Places) (id : ObjectId) (p : ℕ) → id.kind ≡ Plain → Updates (slice_cmp nat_cmp) was.plain are.plain id.hash (Some p) → are.catalogues ≡ was.catalogues → are.records ≡ was.records
+pub put_plain : (was are : Places) (id : ObjectId) (p : ℕ) → id.kind ≡ Plain → Updates bytes_cmp was.plain are.plain id.hash (Some p) → are.catalogues ≡ was.catalogues → are.records ≡ was.records
     → (x : ObjectId) → place_of are x ≡ cond (same_id id x) (Some p) (place_of was x)
 put_plain was are id p is u a b x = rw is (plain_at was are id.hash x.hash p u a b x.kind)
 
-catalogue_at : (was are : Places) (hash q : List ℕ) (p : ℕ) → Updates (slice_cmp nat_cmp) was.catalogues are.catalogues hash (Some p) → are.plain ≡ was.plain → are.records ≡ was.records
-    → (j : Kind) → get (slice_cmp nat_cmp) (of_kind are j) q ≡ cond (bytes_eq hash q && same_kind Catalogue j) (Some p) (get (slice_cmp nat_cmp) (of_kind was j) q)
+catalogue_at : (was are : Places) (hash q : List ℕ) (p : ℕ) → Updates bytes_cmp was.catalogues are.catalogues hash (Some p) → are.plain ≡ was.plain → are.records ≡ was.records
+    → (j : Kind) → get bytes_cmp (of_kind are j) q ≡ cond (bytes_eq hash q && same_kind Catalogue j) (Some p) (get bytes_cmp (of_kind was j) q)
 catalogue_at was are hash q p u a b Plain = other was.plain are.plain hash q p a
 catalogue_at was are hash q p u a b Catalogue = own was.catalogues are.catalogues hash q p u
 catalogue_at was are hash q p u a b History = other was.records are.records hash q p b
 
-pub put_catalogue : (was are : Places) (id : ObjectId) (p : ℕ) → id.kind ≡ Catalogue → Updates (slice_cmp nat_cmp) was.catalogues are.catalogues id.hash (Some p) → are.plain ≡ was.plain → are.records ≡ was.records
+pub put_catalogue : (was are : Places) (id : ObjectId) (p : ℕ) → id.kind ≡ Catalogue → Updates bytes_cmp was.catalogues are.catalogues id.hash (Some p) → are.plain ≡ was.plain → are.records ≡ was.records
     → (x : ObjectId) → place_of are x ≡ cond (same_id id x) (Some p) (place_of was x)
 put_catalogue was are id p is u a b x = rw is (catalogue_at was are id.hash x.hash p u a b x.kind)
 
-record_at : (was are : Places) (hash q : List ℕ) (p : ℕ) → Updates (slice_cmp nat_cmp) was.records are.records hash (Some p) → are.plain ≡ was.plain → are.catalogues ≡ was.catalogues
-    → (j : Kind) → get (slice_cmp nat_cmp) (of_kind are j) q ≡ cond (bytes_eq hash q && same_kind History j) (Some p) (get (slice_cmp nat_cmp) (of_kind was j) q)
+record_at : (was are : Places) (hash q : List ℕ) (p : ℕ) → Updates bytes_cmp was.records are.records hash (Some p) → are.plain ≡ was.plain → are.catalogues ≡ was.catalogues
+    → (j : Kind) → get bytes_cmp (of_kind are j) q ≡ cond (bytes_eq hash q && same_kind History j) (Some p) (get bytes_cmp (of_kind was j) q)
 record_at was are hash q p u a b Plain = other was.plain are.plain hash q p a
 record_at was are hash q p u a b Catalogue = other was.catalogues are.catalogues hash q p b
 record_at was are hash q p u a b History = own was.records are.records hash q p u
 
-pub put_record : (was are : Places) (id : ObjectId) (p : ℕ) → id.kind ≡ History → Updates (slice_cmp nat_cmp) was.records are.records id.hash (Some p) → are.plain ≡ was.plain → are.catalogues ≡ was.catalogues
+pub put_record : (was are : Places) (id : ObjectId) (p : ℕ) → id.kind ≡ History → Updates bytes_cmp was.records are.records id.hash (Some p) → are.plain ≡ was.plain → are.catalogues ≡ was.catalogues
     → (x : ObjectId) → place_of are x ≡ cond (same_id id x) (Some p) (place_of was x)
 put_record was are id p is u a b x = rw is (record_at was are id.hash x.hash p u a b x.kind)
 

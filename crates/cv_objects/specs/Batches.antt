@@ -110,10 +110,6 @@ pub record IsApart (batch : List Object) (n : Name) : Type 0 where
   pub way : (o : Object) → Contains batch o → n ≢ way_name o.id
   pub name : (o : Object) → Contains batch o → n ≢ file_name o.id
 
-abbrev pub WroteAll : Disk → List Object → {X : Type 0} → Result X StoreFault → Disk → Type 0
-WroteAll d batch (Ok x) d' = AreReady d' batch
-WroteAll d batch (Err fault) d' = ShownIn d batch fault
-
 -- the names apart from the batch are as they were, marks included
 pub record SparesOthers (d : Disk) (batch : List Object) (d' : Disk) : Type 0 where
   pub each : (n : Name) → IsApart batch n → d' n ≡ d n
@@ -135,6 +131,19 @@ IsRefusal (Err (Collision id)) = Unit {0}
 IsRefusal (Err Failed) = ⊥
 IsRefusal (Err (Damaged id found)) = Unit {0}
 IsRefusal (Err NoMemory) = ⊥
+
+-- all is settled as it stood, but for what is on its way
+abbrev pub IsSettledFirst : Disk → Disk → Type 0
+IsSettledFirst d d' = Gains on_way Nothing (synced d) d'
+
+-- a batch that doesn't clash in itself is refused by what stands there, and all was settled before that was looked at
+abbrev pub RefusesSettled : Disk → List Object → {X : Type 0} → Result X StoreFault → Disk → Type 0
+RefusesSettled d batch r d' = IsRefusal r → IsOne batch → IsSettledFirst d d'
+
+-- what the first half of a store leaves: all is settled as it stood, and the batch is on its way or there
+abbrev pub WroteAll : Disk → List Object → {X : Type 0} → Result X StoreFault → Disk → Type 0
+WroteAll d batch (Ok x) d' = AreReady d' batch × IsSettledFirst d d'
+WroteAll d batch (Err fault) d' = ShownIn d batch fault × RefusesSettled d batch {X = Unit {0}} (Err fault) d'
 
 -- a store is refused, and nothing came
 pub record IsRefused (d : Disk) (batch : List Object) (fault : StoreFault) (d' : Disk) : Type 0 where

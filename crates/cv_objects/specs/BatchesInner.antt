@@ -16,7 +16,7 @@ use Rattle.cv_objects.specs.PlacesInner.{is_noted}
 use Rattle.cv_objects.specs.declared.places.Places.{Places}
 use Rattle.cv_objects.specs.declared.store_fault.StoreFault.{StoreFault}
 use Rattle.cv_objects.specs.declared.store_fault.StoreFault.TheVariants.{Collision, Damaged}
-use Rattle.cv_objects.specs.Batches.{Has, IsOutside, IsReady, Shows, SparesOthers}
+use Rattle.cv_objects.specs.Batches.{AreReady, Has, IsOutside, IsReady, Shows, ShownIn, SparesOthers}
 
 -- ---- one object
 
@@ -51,6 +51,11 @@ Placed d o (Err fault) d' = IsOutside fault
 
 pub record AllWait (d : Disk) (batch : List Object) : Type 0 where
   pub each : (o : Object) → Contains batch o → Waits d o
+
+-- what putting the absent objects of a batch on their way leaves
+abbrev pub WroteAbsent : Disk → List Object → {X : Type 0} → Result X StoreFault → Disk → Type 0
+WroteAbsent d batch (Ok x) d' = AreReady d' batch
+WroteAbsent d batch (Err fault) d' = ShownIn d batch fault
 
 -- no name by which the object comes, or to which
 pub record IsApartFrom (o : Object) (n : Name) : Type 0 where

@@ -1,8 +1,7 @@
 -- The places of ids in a list.
 use Rattle.std.specs.Prelude.{ℕ, Bool, List, Option, is_some}
-use Rattle.std.specs.Ordering.{nat_cmp}
-use Rattle.std.specs.Cmp.Lexicographic.{slice_cmp}
 use Rattle.std.specs.BTreeMap.{BTreeMap, get}
+use Rattle.cv_base.specs.BytesOrder.{bytes_cmp}
 use Rattle.cv_base.specs.declared.id.Kind.{Kind}
 use Rattle.cv_base.specs.declared.id.Kind.TheVariants.{Plain, Catalogue, History}
 use Rattle.cv_base.specs.declared.id.ObjectId.{ObjectId}
@@ -16,7 +15,7 @@ of_kind places History = places.records
 
 -- the place of an id, if it is noted
 abbrev pub place_of : Places → ObjectId → Option ℕ
-place_of places id = get (slice_cmp nat_cmp) (of_kind places id.kind) id.hash
+place_of places id = get bytes_cmp (of_kind places id.kind) id.hash
 
 abbrev pub is_noted : Places → ObjectId → Bool
 is_noted places id = is_some (place_of places id)

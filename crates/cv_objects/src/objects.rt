@@ -11,7 +11,7 @@ ghost use Rattle.cv_vault.specs.Walks.{Walks, Nothing, BringsNothing, SparesIn};
 ghost use Rattle.cv_vault.specs.declared.vault.VaultFault.TheVariants as vault_fault;
 ghost use Rattle.cv_vault.proofs.Laws.{quiet_none, quiet_then, quiet_same};
 ghost use Rattle.cv_objects.specs.Names.{standing_on};
-ghost use Rattle.cv_objects.specs.Batches.{AreNamed, AreReady, Brings, Brought, GivesFresh, IsApart, IsOne, IsRefusal, Stored, WroteAll};
+ghost use Rattle.cv_objects.specs.Batches.{AreNamed, AreReady, Brings, Brought, GivesFresh, IsApart, IsOne, IsRefusal, RefusesSettled, Stored, WroteAll};
 ghost use Rattle.cv_objects.specs.declared.store_fault.StoreFault.TheVariants as fault;
 
 use crate::batch::clash_in;
@@ -75,7 +75,7 @@ impl<V: Vault + Drop> Objects<V> {
         fresh_ids(&mut self.vault, alloc, batch)
     }
 
-    /// Stores the objects of a batch that the shelf lacks: all of them, or, where it fails, some, whole.
+    /// Stores the objects of a batch that the shelf lacks: all of them, or, where it fails, some, whole. It settles first.
     ///
     /// A crash at any moment leaves under each name what it might have left before, or the object of the batch that comes
     /// to a name without a file. After `Collision` and `Damaged` nothing came. Whatever it answers, every other name, also one
@@ -85,6 +85,7 @@ impl<V: Vault + Drop> Objects<V> {
         ensures walks { WhereTold (V.disk self.old.vault) (λ d.
             Walks V.disk V.count V.left on_way (Brings d batch.now) (Stored d batch.now result) d self.old.vault self.new.vault) }
         ensures refused { IsRefusal result → BringsNothing V.disk V.count V.left self.old.vault self.new.vault }
+        ensures settled { WhereTold (V.disk self.old.vault) (λ d. WhereTold (V.disk self.new.vault) (RefusesSettled d batch.now result)) }
         ensures others { SparesIn V.disk (IsApart batch.now) self.old.vault self.new.vault }
         ensures cause { HasCause (V.faults self.old.vault) (V.faults self.new.vault) (IsErrOf result fault.Failed) }
         ensures taken { self.new.taken ≡ self.old.taken }
@@ -120,7 +121,8 @@ impl<V: Vault + Drop> Objects<V> {
     pub fn bring(&mut self, alloc: Global, batch: &[Object]) -> Result<(), StoreFault>
         requires named { AreNamed batch.now }
         requires one { IsOne batch.now }
-        ensures walks { WhereTold (V.disk self.old.vault) (λ d. AreReady d batch.now →
+        requires ready { WhereTold (V.disk self.old.vault) (λ d. AreReady d batch.now) }
+        ensures walks { WhereTold (V.disk self.old.vault) (λ d.
             Walks V.disk V.count V.left on_way (Brings d batch.now) (Brought d batch.now result) d self.old.vault self.new.vault) }
         ensures others { SparesIn V.disk (IsApart batch.now) self.old.vault self.new.vault }
         ensures cause { HasCause (V.faults self.old.vault) (V.faults self.new.vault) (IsErrOf result fault.Failed) }

@@ -1,8 +1,7 @@
 //! The places of ids in a list.
 ghost use Rattle.std.specs.Prelude.{◌≡◌, None, Some, IfOk, OnOk, if◌then◌else◌};
-ghost use Rattle.std.specs.Ordering.{nat_cmp};
-ghost use Rattle.std.specs.Cmp.Lexicographic.{slice_cmp};
 ghost use Rattle.std.specs.BTreeMap.{Updates};
+ghost use Rattle.cv_base.specs.BytesOrder.{bytes_cmp};
 ghost use Rattle.cv_base.specs.declared.id.ObjectId.{ObjectId as Id};
 ghost use Rattle.cv_ports.specs.Objects.{same_id};
 ghost use Rattle.cv_objects.specs.PlacesInner.{place_of};
@@ -51,7 +50,7 @@ fn note_hash(
     hash: [u8; 20],
     place: usize,
 ) -> Result<(), NoMemory>
-    ensures { OnOk result (Updates (slice_cmp nat_cmp) places.old places.new hash (Some place)) }
+    ensures { OnOk result (Updates bytes_cmp places.old places.new hash (Some place)) }
 {
     match places.insert(hash, place) {
         Ok(_) => Ok(()),

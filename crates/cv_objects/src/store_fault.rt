@@ -10,7 +10,7 @@ use std::alloc::AllocError;
 /// Why a batch wasn't stored.
 #[derive(Clone, Copy, Debug, PartialEq, Eq)]
 pub enum StoreFault {
-    /// The shelf, or another object of the batch, has other bytes under this id, which have its hash too.
+    /// The shelf, or another object of the batch, has other bytes under this id. Those of the shelf have its hash too.
     Collision(ObjectId),
     /// The vault failed. Its count of faults rose in this call.
     Failed,

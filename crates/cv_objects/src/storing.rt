@@ -7,8 +7,8 @@ ghost use Rattle.cv_base.specs.Told.{WhereTold};
 ghost use Rattle.cv_vault.specs.Names.{on_way};
 ghost use Rattle.cv_vault.specs.Moments.{OnlyReads};
 ghost use Rattle.cv_vault.specs.Walks.{Walks, Nothing, SparesIn, BringsNothing};
-ghost use Rattle.cv_objects.specs.Batches.{IsApart, WroteAll, Brought, Stored, Brings, BringsOne, IsRefusal, AreNamed, AreReady, IsOne};
-ghost use Rattle.cv_objects.specs.BatchesInner.{Compares, IsApartFrom, Looked, Wrote, Placed, PlacedAll, Waits, AllWait};
+ghost use Rattle.cv_objects.specs.Batches.{IsApart, WroteAll, Brought, Stored, Brings, BringsOne, IsRefusal, RefusesSettled, AreNamed, AreReady, IsOne};
+ghost use Rattle.cv_objects.specs.BatchesInner.{Compares, IsApartFrom, Looked, Wrote, WroteAbsent, Placed, PlacedAll, Waits, AllWait};
 ghost use Rattle.cv_objects.specs.declared.store_fault.StoreFault.TheVariants as fault;
 
 use crate::names::{name_of, way_of};
@@ -87,7 +87,7 @@ fn place_one<V: Vault>(vault: &mut V, alloc: Global, object: &Object) -> Result<
 fn write_absent<V: Vault>(vault: &mut V, alloc: Global, batch: &[Object]) -> Result<(), StoreFault>
     requires named { AreNamed batch.now }
     requires one { IsOne batch.now }
-    ensures walks { WhereTold (V.disk vault.old) (λ d. Walks V.disk V.count V.left on_way Nothing (WroteAll d batch.now result) d vault.old vault.new) }
+    ensures walks { WhereTold (V.disk vault.old) (λ d. Walks V.disk V.count V.left on_way Nothing (WroteAbsent d batch.now result) d vault.old vault.new) }
     ensures others { SparesIn V.disk (IsApart batch.now) vault.old vault.new }
     ensures cause { HasCause (V.faults vault.old) (V.faults vault.new) (IsErrOf result fault.Failed) }
 {
@@ -141,6 +141,7 @@ pub fn store_all<V: Vault>(vault: &mut V, alloc: Global, batch: &[Object]) -> Re
     requires one { IsOne batch.now }
     ensures walks { WhereTold (V.disk vault.old) (λ d. Walks V.disk V.count V.left on_way (Brings d batch.now) (Stored d batch.now result) d vault.old vault.new) }
     ensures refused { IsRefusal result → BringsNothing V.disk V.count V.left vault.old vault.new }
+    ensures settled { WhereTold (V.disk vault.old) (λ d. WhereTold (V.disk vault.new) (RefusesSettled d batch.now result)) }
     ensures others { SparesIn V.disk (IsApart batch.now) vault.old vault.new }
     ensures cause { HasCause (V.faults vault.old) (V.faults vault.new) (IsErrOf result fault.Failed) }
 {

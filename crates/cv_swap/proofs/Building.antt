@@ -110,7 +110,7 @@ module _ {V : Type 0} {disk : V → Option Disk} {count : V → ℕ} {left : V �
     ready = ready_beside batch d1 d2 (λ o k. (
       p.others (file_name o.id) (λ e. epoch_apart_.name o k (sym e)) (λ e. head_apart_.name o k (sym e)),
       p.others (way_name o.id) (λ e. epoch_apart_.way o k (sym e)) (λ e. head_apart_.way o k (sym e)),
-    )) put;
+    )) put.0;
     epoch = p.epoch;
     head = p.head;
   }))
@@ -121,9 +121,9 @@ module _ {V : Type 0} {disk : V → Option Disk} {count : V → ℕ} {left : V �
       head_apart_ : IsApart batch head_way
       head_apart_ = head_apart batch named
 
-  pub then_objects : {u : Unit {0}} → Walks disk count left on_way Nothing (AreUnderWay batch manifest) d v0 v → WhereTold (disk v) (λ d1. AreReady d1 batch → Walks disk count left on_way (Brings d1 batch) (Brought d1 batch {X = Unit {0}} (Ok u)) d1 v v')
+  pub then_objects : {u : Unit {0}} → Walks disk count left on_way Nothing (AreUnderWay batch manifest) d v0 v → WhereTold (disk v) (λ d1. Walks disk count left on_way (Brings d1 batch) (Brought d1 batch {X = Unit {0}} (Ok u)) d1 v v')
       → Walks disk count left on_way (BringsFirst d batch) (AreWaiting batch manifest) d v0 v'
-  then_objects w h = bind w (λ n f b. absurd b) (λ d1 told g under. looser (h d1 told under.ready) (λ n f b. an_object (brings_later g n f b)) (λ d2 g2 k. record {
+  then_objects w h = bind w (λ n f b. absurd b) (λ d1 told g under. looser (h d1 told) (λ n f b. an_object (brings_later g n f b)) (λ d2 g2 k. record {
     has = k.0;
     epoch = record {
       on_its_way = k.1.each epoch_way (epoch_way_apart batch named) ∙ ap (λ (x : File). slot x Settled) under.epoch;
@@ -162,6 +162,6 @@ module _ {V : Type 0} {disk : V → Option Disk} {count : V → ℕ} {left : V �
 
   -- the objects don't all come
   pub then_unbrought : {X : Type 0} (r : Result X StoreFault) (e : StoreFault) → r ≡ Err e → Walks disk count left on_way Nothing (AreUnderWay batch manifest) d v0 v
-      → WhereTold (disk v) (λ d1. AreReady d1 batch → Walks disk count left on_way (Brings d1 batch) (Brought d1 batch {X = Unit {0}} (Err e)) d1 v v')
+      → WhereTold (disk v) (λ d1. Walks disk count left on_way (Brings d1 batch) (Brought d1 batch {X = Unit {0}} (Err e)) d1 v v')
       → Walks disk count left on_way (BringsFirst d batch) (Built d batch manifest r) d v0 v'
-  then_unbrought r e is w h = bind w (λ n f b. absurd b) (λ d1 told g under. looser (h d1 told under.ready) (λ n f b. an_object (brings_later g n f b)) (λ d2 g2 out. built_outside d batch manifest d2 r e is out))
+  then_unbrought r e is w h = bind w (λ n f b. absurd b) (λ d1 told g under. looser (h d1 told) (λ n f b. an_object (brings_later g n f b)) (λ d2 g2 out. built_outside d batch manifest d2 r e is out))

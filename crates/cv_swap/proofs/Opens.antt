@@ -82,7 +82,7 @@ module _ {V : Type 0} {disk : V → Option Disk} {count : V → ℕ} {left : V �
       → Opens disk count left name is_seal d r v v1
   opens_not x r never is only e c =
       let w : Walks disk count left on_way Nothing (λ d'. d' ≡ d) d v v1 = sync_err x only e c in
-      rw is (record { end = w.end; told = w.told; finds = refuses_vault name is_seal (files_now d) x; leaves = leaves_more w.leaves (λ f i. leaves_before d (open_fault_of x) f i); opened = unsettled x never w.end w.gains })
+      rw is (record { end = w.end; told = w.told; finds = refuses_vault name is_seal (files_now d) x; leaves = leaves_more w.leaves (λ f i. leaves_before d (open_fault_of x) f i); opened = unsettled x never w.end w.gains; unraised = λ none. looser w (λ n f b. b) (λ d' g h. tt) })
     where
       unsettled : (x : VaultFault) → err x ≢ err vault.NoMemory → (d' : Disk) → Gains on_way Nothing d d' → Opened d (Err (open_fault_of x)) d'
       unsettled vault.Failed never d' g = gains_more (λ n f b. absurd b) g
@@ -99,7 +99,7 @@ module _ {V : Type 0} {disk : V → Option Disk} {count : V → ℕ} {left : V �
 
     -- nothing was found to open
     pub opens_none : (r : Result Found OpenFault) (x : OpenFault) → r ≡ Err x → WhereTold (disk v1) (λ d1. Finds name is_seal (files_now d1) (Err x)) → Opens disk count left name is_seal d r v v2
-    opens_none r x is h = rw is (record { end = read.end; told = read.told; finds = found_first (Err x) h; leaves = leaves_more read.leaves (λ f i. leaves_before d x f i); opened = opened_before d x read.end read.gains read.is })
+    opens_none r x is h = rw is (record { end = read.end; told = read.told; finds = found_first (Err x) h; leaves = leaves_more read.leaves (λ f i. leaves_before d x f i); opened = opened_before d x read.end read.gains read.is; unraised = λ none. looser read (λ n f b. b) (λ d' g h. tt) })
 
     module _ (found : Found) (h : WhereTold (disk v1) (λ d1. Finds name is_seal (files_now d1) (Ok found))) where
       is_found : IsFound name is_seal (files_now d) found
@@ -117,6 +117,7 @@ module _ {V : Type 0} {disk : V → Option Disk} {count : V → ℕ} {left : V �
               finds = is_found;
               leaves = leaves_then read.leaves u.leaves (λ f i. before i) (λ f i. after (as_raised d read.end found.epoch f read.is is_found.epoch is_found.room i));
               opened = record { sure = u.is; gains = gains_then (gains_more (λ n f b. absurd b) read.gains) u.gains };
+              unraised = λ none. absurd (none found is_found);
             }
 
         -- it may have come or not; where memory was wanted it didn't, and no crash leaves it
@@ -131,6 +132,7 @@ module _ {V : Type 0} {disk : V → Option Disk} {count : V → ℕ} {left : V �
               finds = tt;
               leaves = leaves_then read.leaves u.leaves (λ f i. before i) (λ f i. after (as_raised d read.end found.epoch f read.is is_found.epoch is_found.room i));
               opened = opened_raised d read.end found.epoch vault.Failed u.end is_found.epoch is_found.room read.gains read.is u.gains u.is;
+              unraised = λ none. absurd (none found is_found);
             })
         opens_or_not vault.NoMemory r is raise quiet =
             let u = raise read.end read.told in
@@ -141,4 +143,5 @@ module _ {V : Type 0} {disk : V → Option Disk} {count : V → ℕ} {left : V �
               finds = tt;
               leaves = leaves_then read.leaves q.leaves (λ f i. i) (λ f i. within_then read.gains f i);
               opened = opened_raised d read.end found.epoch vault.NoMemory u.end is_found.epoch is_found.room read.gains read.is u.gains u.is;
+              unraised = λ none. absurd (none found is_found);
             })

@@ -70,7 +70,7 @@ module _ {V : Type 0} {disk : V → Option Disk} {count : V → ℕ} {left : V �
       ready = ready_beside batch d1 (written d1 head_way (Some manifest)) (λ o k. (
         elsewhere d1 head_way (slot (Some manifest) Torn) (file_name o.id) (λ e. apart.name o k (sym e)),
         elsewhere d1 head_way (slot (Some manifest) Torn) (way_name o.id) (λ e. apart.way o k (sym e)),
-      )) put;
+      )) put.0;
       head = ap (λ (s : Slot). s.now) (here d1 head_way (slot (Some manifest) Torn));
     }),
   )))
@@ -78,9 +78,9 @@ module _ {V : Type 0} {disk : V → Option Disk} {count : V → ℕ} {left : V �
       apart : IsApart batch head_way
       apart = head_apart batch named
 
-  pub then_batch : {u : Unit {0}} → Walks disk count left on_way Nothing (AreUnderWay batch manifest) d v0 v → WhereTold (disk v) (λ d1. AreReady d1 batch → Walks disk count left on_way (Brings d1 batch) (Brought d1 batch {X = Unit {0}} (Ok u)) d1 v v')
+  pub then_batch : {u : Unit {0}} → Walks disk count left on_way Nothing (AreUnderWay batch manifest) d v0 v → WhereTold (disk v) (λ d1. Walks disk count left on_way (Brings d1 batch) (Brought d1 batch {X = Unit {0}} (Ok u)) d1 v v')
       → Walks disk count left on_way (Brings d batch) (AreThere batch manifest) d v0 v'
-  then_batch w h = bind w brings_nothing (λ d1 told g under. looser (h d1 told under.ready) (brings_later g) (λ d2 g2 k. record { has = k.0; head = ap (λ (s : Slot). s.now) (k.1.each head_way (head_apart batch named)) ∙ under.head }))
+  then_batch w h = bind w brings_nothing (λ d1 told g under. looser (h d1 told) (brings_later g) (λ d2 g2 k. record { has = k.0; head = ap (λ (s : Slot). s.now) (k.1.each head_way (head_apart batch named)) ∙ under.head }))
 
 module _ {V : Type 0} {disk : V → Option Disk} {count : V → ℕ} {left : V → ℕ → Files → Type 0} (batch : List Object) (manifest : List ℕ) {d : Disk} {v0 v v' : V} where
   pub then_prepared : {u : Unit {0}} → ((f : Files) → left v (count v) f → ImageOf (disk v) f) → Walks disk count left on_way (Brings d batch) (AreThere batch manifest) d v0 v → Calls disk count left (Syncs ok) v v'
@@ -94,9 +94,9 @@ module _ {V : Type 0} {disk : V → Option Disk} {count : V → ℕ} {left : V �
 
   -- the objects don't all come
   pub then_unbrought : {X : Type 0} (r : Result X StoreFault) (e : StoreFault) → r ≡ Err e → IsOne batch → Walks disk count left on_way Nothing (AreUnderWay batch manifest) d v0 v
-      → WhereTold (disk v) (λ d1. AreReady d1 batch → Walks disk count left on_way (Brings d1 batch) (Brought d1 batch {X = Unit {0}} (Err e)) d1 v v')
+      → WhereTold (disk v) (λ d1. Walks disk count left on_way (Brings d1 batch) (Brought d1 batch {X = Unit {0}} (Err e)) d1 v v')
       → Walks disk count left on_way (Brings d batch) (Prepared d batch manifest r) d v0 v'
-  then_unbrought r e is one w h = bind w brings_nothing (λ d1 told g under. looser (h d1 told under.ready) (brings_later g) (λ d2 g2 out. prepared_outside d batch manifest d2 r e is one out))
+  then_unbrought r e is one w h = bind w brings_nothing (λ d1 told g under. looser (h d1 told) (brings_later g) (λ d2 g2 out. prepared_outside d batch manifest d2 r e is one out))
 
   -- the last sync fails
   pub then_unsettled : {X : Type 0} (r : Result X StoreFault) (x : VaultFault) → r ≡ Err (fault_of x) → IsOne batch → ((f : Files) → left v (count v) f → ImageOf (disk v) f)

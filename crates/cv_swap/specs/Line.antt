@@ -54,12 +54,13 @@ swapped l vault = record l { vault = vault; made = l.made + 1; head = l.next_hea
 abbrev pub LineReads : {V S : Type 0} (disk : V → Option Disk) (count : V → ℕ) (left : V → ℕ → Files → Type 0) → LineView V S → LineView V S → Type 0
 LineReads disk count left old new = OnlyReads disk count left old.vault new.vault × (new ≡ record old { vault = new.vault; taken = new.taken })
 
--- a line that was opened: nothing is prepared
+-- a line that was opened: nothing is prepared, and no object was taken since
 pub record IsOpenedLine {V S : Type 0} (name : List ℕ) (signer : S) (l : LineView V S) : Type 0 where
   pub named : l.name ≡ name
   pub signed : l.signer ≡ signer
   pub made : l.made ≡ length l.all
   pub stage : l.stage ≡ Calm
+  pub taken : l.taken ≡ 0
 
 -- a line was opened with what was found, or the vault is handed back
 abbrev pub LineOpens : {V S : Type 0} (disk : V → Option Disk) (count : V → ℕ) (left : V → ℕ → Files → Type 0) → List ℕ → (List ℕ → List ℕ → Bool) → Disk → V → Result (LineView V S) (OpenFault × V) → Type 0

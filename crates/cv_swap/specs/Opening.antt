@@ -1,11 +1,11 @@
 -- What opening finds, and what a crash in it leaves.
-use Rattle.std.specs.Prelude.{◌≡◌, ◌≢◌, ◌⊎◌, ℕ, ◌+◌, ◌<◌, ◌^◌, Bool, false, List, Option, None, Some}
+use Rattle.std.specs.Prelude.{◌≡◌, ◌≢◌, ◌⊎◌, ⊤, ℕ, ◌+◌, ◌<◌, ◌^◌, Bool, false, List, Option, None, Some}
 use Rattle.std.specs.declared.result.Result.{Result}
 use Rattle.std.specs.declared.result.Result.TheVariants.{Ok, Err}
 use Rattle.cv_vault.specs.Names.{Name, on_way}
 use Rattle.cv_vault.specs.Disk.{Disk, File, Files, files_now, synced}
 use Rattle.cv_vault.specs.Moments.{LeavesOnly}
-use Rattle.cv_vault.specs.Walks.{Gains, Within, Nothing, ComesTo}
+use Rattle.cv_vault.specs.Walks.{Gains, Within, Walks, Nothing, ComesTo}
 use Rattle.cv_vault.specs.Replace.{IsSure}
 use Rattle.cv_history.specs.Chain.{Chain, StandsAt, Breaks}
 use Rattle.cv_history.specs.declared.chain_fault.ChainFault.{ChainFault}
@@ -140,6 +140,8 @@ pub record Opens {V : Type 0} (disk : V → Option Disk) (count : V → ℕ) (le
   pub finds : Finds name is_seal (files_now d) r
   pub leaves : LeavesOnly count left (OpeningLeaves d r) v v'
   pub opened : Opened d r end
+  -- the epoch of files that are none to be opened isn't raised, whatever it answers, and no crash leaves it raised
+  pub unraised : ((found : Found) → IsFound name is_seal (files_now d) found → ⊥) → Walks disk count left on_way Nothing (λ end. ⊤) d v v'
 
 -- it is what is kept that is found
 pub record IsOf (k : Kept) (found : Found) : Type 0 where

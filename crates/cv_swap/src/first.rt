@@ -3,9 +3,8 @@ ghost use Rattle.std.specs.Prelude.{◌≡◌, ◌<◌, ◌^◌, [], Some, IfOk}
 ghost use Rattle.cv_history.specs.Record.{IsRecord};
 ghost use Rattle.cv_cut.specs.Cut.{cut_of};
 ghost use Rattle.cv_objects.specs.Batches.{AreNamed};
-ghost use Rattle.cv_swap.specs.First.{first_record, first_tree, first_size, first_batch};
-ghost use Rattle.cv_swap.specs.Stands.{head_with, head_text, Publishes};
-ghost use Rattle.cv_cut.specs.Catalogues.{root_of};
+ghost use Rattle.cv_swap.specs.First.{first_record, first_revision, first_tree, first_batch};
+ghost use Rattle.cv_swap.specs.Stands.{head_of, head_text, Publishes};
 
 use crate::making::{Parts, make_parts};
 use cv_base::{Attr, Name, NoMemory, RepoPath, Target, Token};
@@ -75,7 +74,7 @@ pub fn first_parts<S: Signer>(
     requires { now < 2 ^ 62 }
     ensures batch { IfOk result (λ parts. parts.batch ≡ first_batch now) }
     ensures named { IfOk result (λ parts. AreNamed parts.batch) }
-    ensures head { IfOk result (λ parts. parts.head ≡ head_with (first_record (root_of (first_tree now)) now) (first_size now)) }
+    ensures head { IfOk result (λ parts. parts.head ≡ head_of (first_revision now)) }
     ensures text { IfOk result (λ parts. parts.manifest ≡ head_text (S.seal_of signer.now) name.now parts.head) }
     ensures says { IfOk result (λ parts. Publishes name.now (S.is_seal signer.now) (Some parts.manifest) parts.head) }
 {

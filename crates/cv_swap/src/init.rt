@@ -1,5 +1,5 @@
 //! A repository is made: its first revision.
-ghost use Rattle.std.specs.Prelude.{◌<◌, ◌^◌, IsErrOf};
+ghost use Rattle.std.specs.Prelude.{◌≡◌, ◌<◌, ◌^◌, None, IsErrOf};
 ghost use Rattle.cv_base.specs.Counts.{HasCause};
 ghost use Rattle.cv_base.specs.Told.{WhereTold};
 ghost use Rattle.cv_vault.specs.Moments.{OnlyReads};
@@ -41,6 +41,7 @@ pub fn init_in<V: Vault + Drop, S: Signer>(
     ensures makes { WhereTold (V.disk objects.old.vault) (λ d. MakesFirst V.disk V.count V.left name.now (S.is_seal signer.now) now d result objects.old.vault objects.new.vault) }
     ensures text { WhereTold (V.disk objects.old.vault) (λ d.
         WritesHead V.disk V.count V.left (head_text (S.seal_of signer.now) name.now (head_of (first_revision now))) d objects.old.vault objects.new.vault) }
+    ensures silent { V.disk objects.old.vault ≡ None → V.disk objects.new.vault ≡ None }
     ensures cause { HasCause (V.faults objects.old.vault) (V.faults objects.new.vault) (IsErrOf result fault.Failed) }
 {
     if has_head(&mut objects.vault)? {

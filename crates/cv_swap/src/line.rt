@@ -13,7 +13,7 @@ ghost use Rattle.cv_vault.proofs.Laws.{quiet_none, quiet_then, quiet_same};
 ghost use Rattle.cv_history.specs.Record.{IsRecord};
 ghost use Rattle.cv_manifest.specs.Manifest.{IsHead};
 ghost use Rattle.cv_objects.specs.Names.{standing_on};
-ghost use Rattle.cv_objects.specs.Batches.{AreNamed, Brings, GivesFresh, IsApart, IsRefusal, Stored};
+ghost use Rattle.cv_objects.specs.Batches.{AreNamed, Brings, GivesFresh, IsApart, IsRefusal, RefusesSettled, Stored};
 ghost use Rattle.cv_objects.specs.declared.store_fault.StoreFault.TheVariants as fault;
 ghost use Rattle.cv_swap.specs.Kept.{object_of};
 ghost use Rattle.cv_swap.specs.Publishing.{Prepared};
@@ -129,6 +129,7 @@ impl<V: Vault + Drop, S: Signer + Drop> Line<V, S> {
         ensures walks { WhereTold (V.disk self.old.vault) (λ d.
             Walks V.disk V.count V.left on_way (Brings d batch.now) (Stored d batch.now result) d self.old.vault self.new.vault) }
         ensures refused { IsRefusal result → BringsNothing V.disk V.count V.left self.old.vault self.new.vault }
+        ensures settled { WhereTold (V.disk self.old.vault) (λ d. WhereTold (V.disk self.new.vault) (RefusesSettled d batch.now result)) }
         ensures names { SparesIn V.disk (IsApart batch.now) self.old.vault self.new.vault }
         ensures others { self.new ≡ record self.old { vault = self.new.vault } }
         ensures cause { HasCause (V.faults self.old.vault) (V.faults self.new.vault) (IsErrOf result fault.Failed) }
@@ -204,6 +205,7 @@ impl<V: Vault + Drop, S: Signer + Drop> Line<V, S> {
         ensures inits { WhereTold (V.disk vault) (λ d. InitsIn V.disk V.count V.left name.now (S.is_seal signer.now) now d vault result) }
         ensures text { WhereTold (V.disk vault) (λ d.
             WritesHead V.disk V.count V.left (head_text (S.seal_of signer.now) name.now (head_of (first_revision now))) d vault (vault_in result)) }
+        ensures silent { V.disk vault ≡ None → V.disk (vault_in result) ≡ None }
         ensures cause { HasCause (V.faults vault) (V.faults (vault_in result)) (IsVaults result) }
     {
         let mut objects = Objects::new(vault);
@@ -226,6 +228,7 @@ impl<V: Vault + Drop, S: Signer + Drop> Line<V, S> {
     ) -> Result<Line<V, S>, (OpenFault, V)>
         ensures opens { WhereTold (V.disk vault) (λ d. LineOpens V.disk V.count V.left name (S.is_seal signer) d vault result) }
         ensures line { IfOk result (IsOpenedLine name signer) }
+        ensures silent { V.disk vault ≡ None → V.disk (vault_of result) ≡ None }
         ensures cause { HasCause (V.faults vault) (V.faults (vault_of result)) (IsFailed result) }
     {
         let mut objects = Objects::new(vault);
@@ -240,7 +243,7 @@ impl<V: Vault + Drop, S: Signer + Drop> Line<V, S> {
                 let records = records.into_vec();
                 let made = records.len();
                 Ok(Line {
-                    objects,
+                    objects: Objects::new(objects.into_vault()),
                     name,
                     signer,
                     records,

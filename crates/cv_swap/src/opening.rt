@@ -1,5 +1,5 @@
 //! What stands in the vault of a repository is read, and its epoch is raised.
-ghost use Rattle.std.specs.Prelude.{◌≡◌, ◌+◌, ◌<◌, ◌^◌, ℕ, Some, Err, IfOk, IfSome, IsErrOf, string_bytes};
+ghost use Rattle.std.specs.Prelude.{◌≡◌, ◌+◌, ◌<◌, ◌^◌, ℕ, None, Some, Err, IfOk, IfSome, IsErrOf, string_bytes};
 ghost use Rattle.cv_base.specs.Counts.{HasCause};
 ghost use Rattle.cv_base.specs.Told.{WhereTold};
 ghost use Rattle.cv_vault.specs.Disk.{files_now};
@@ -163,6 +163,7 @@ pub fn set_epoch<V: Vault>(vault: &mut V, alloc: Global, epoch: u64) -> Result<(
     ensures walks { WhereTold (V.disk vault.old) (λ d.
         Walks V.disk V.count V.left on_way (ComesTo epoch_name (Some (epoch_text epoch))) (Replaced d epoch_name (epoch_text epoch) result) d vault.old vault.new) }
     ensures memory { result ≡ Err vault_fault.NoMemory → BringsNothing V.disk V.count V.left vault.old vault.new }
+    ensures silent { V.disk vault.old ≡ None → V.disk vault.new ≡ None }
     ensures cause { HasCause (V.faults vault.old) (V.faults vault.new) (IsErrOf result vault_fault.Failed) }
 {
     let text = epoch_text_of(alloc, epoch)?;
@@ -177,6 +178,7 @@ pub fn open_on<V: Vault + Drop, S: Signer>(
     signer: &S,
 ) -> Result<Found, OpenFault>
     ensures opens { WhereTold (V.disk objects.old.vault) (λ d. Opens V.disk V.count V.left name.now (S.is_seal signer.now) d result objects.old.vault objects.new.vault) }
+    ensures silent { V.disk objects.old.vault ≡ None → V.disk objects.new.vault ≡ None }
     ensures cause { HasCause (V.faults objects.old.vault) (V.faults objects.new.vault) (IsErrOf result fault.Failed) }
     ensures room { IfOk result (λ found. found.epoch < 18446744073709551615) }
     ensures head { IfOk result (λ found. IsHead found.head) }

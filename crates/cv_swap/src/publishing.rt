@@ -67,6 +67,7 @@ pub fn was_swapped<V: Vault>(vault: &mut V, manifest: &[u8]) -> Result<bool, Vau
 /// Puts the first epoch and a manifest on their way, where the next sync settles them.
 fn put_beside<V: Vault>(vault: &mut V, alloc: Global, manifest: &[u8]) -> Result<(), VaultFault>
     ensures walks { WhereTold (V.disk vault.old) (λ d. Walks V.disk V.count V.left on_way Nothing (PutBeside d manifest.now result) d vault.old vault.new) }
+    ensures silent { V.disk vault.old ≡ None → V.disk vault.new ≡ None }
     ensures cause { HasCause (V.faults vault.old) (V.faults vault.new) (IsErrOf result vault_fault.Failed) }
 {
     let text = epoch_text_of(alloc, 0)?;
@@ -86,6 +87,7 @@ pub fn build_first<V: Vault + Drop>(
     ensures walks { WhereTold (V.disk objects.old.vault) (λ d.
         Walks V.disk V.count V.left on_way (BringsFirst d batch.now) (Built d batch.now manifest.now result) d objects.old.vault objects.new.vault) }
     ensures refused { IsRefusal result → BringsNothing V.disk V.count V.left objects.old.vault objects.new.vault }
+    ensures silent { V.disk objects.old.vault ≡ None → V.disk objects.new.vault ≡ None }
     ensures cause { HasCause (V.faults objects.old.vault) (V.faults objects.new.vault) (IsErrOf result fault.Failed) }
 {
     objects.put(alloc, batch)?;
@@ -104,6 +106,7 @@ pub fn init_on<V: Vault + Drop>(
 ) -> Result<(), StoreFault>
     requires named { AreNamed batch.now }
     ensures inits { WhereTold (V.disk objects.old.vault) (λ d. Inits V.disk V.count V.left d batch.now manifest.now result objects.old.vault objects.new.vault) }
+    ensures silent { V.disk objects.old.vault ≡ None → V.disk objects.new.vault ≡ None }
     ensures cause { HasCause (V.faults objects.old.vault) (V.faults objects.new.vault) (IsErrOf result fault.Failed) }
 {
     build_first(objects, alloc, batch, manifest)?;

@@ -11,7 +11,13 @@ use std::test::Fail;
 const AHEAD: &[u8] =
     b"Cc461d32667895d085fa62849e32f450269470f8f\nB81\nRd41d8cd98f00b204e9800998ecf8427e\nD240\nS3\nNsw.example.org\nH2fc7b0681803c8a7bc7e2be3797028805217769f\nT1700000000\n--\n30556600026c996f1dae1810a86726abc46da536\n0\x1e\x82P\x8b\xd0\xc3\x13X\x1d\xdd\xa9\xa8\x95\x8ft\xda\x9erL";
 
-/// The names of objects.
+/// A manifest of revision 2 that names bytes as its record that are none.
+const NAMES_HELLO: &[u8] =
+    b"Cc461d32667895d085fa62849e32f450269470f8f\nB81\nRd41d8cd98f00b204e9800998ecf8427e\nD240\nS2\nNsw.example.org\nHf572d396fae9206628714fb2ce00f72e94f2258f\nT1700000000\n--\n3c83df5905c0218b20f553bf6df79d19c9fad5f9\n,M\xd9\x92$\xff7, |\xfb\x05\xd6\x1d\xd4\x9e9p\x9f\xca";
+
+/// The names of objects: of these bytes, and of the repository's.
+const HELLO: &str = "data/f5/72d396fae9206628714fb2ce00f72e94f2258fH";
+
 const FIRST_RECORD: &str = "data/aa/6425aab18cc717b24c90d0a3e5aacbbdc01916H";
 
 const SECOND_RECORD: &str = "data/2f/c7b0681803c8a7bc7e2be3797028805217769fH";
@@ -31,7 +37,7 @@ type Opening = (
 );
 
 /// The answers in their order; what is on its way, and catalogues, are not read; and texts that are no epoch.
-static OPENINGS: [Opening; 20] = [
+static OPENINGS: [Opening; 21] = [
     (HEAD, None, None, "other.org", "other", "no repository"),
     (HEAD, Some(b""), None, "other.org", "seal", "bad manifest"),
     (
@@ -58,6 +64,14 @@ static OPENINGS: [Opening; 20] = [
         "sw.example.org",
         "seal",
         "damaged",
+    ),
+    (
+        HEAD,
+        Some(NAMES_HELLO),
+        None,
+        "sw.example.org",
+        "seal",
+        "bad record",
     ),
     (
         HEAD,
@@ -191,6 +205,7 @@ fn said(fault: OpenFault) -> &'static str {
         OpenFault::OtherName => "other name",
         OpenFault::BadHistory(ChainFault::Missing(_)) => "missing",
         OpenFault::BadHistory(ChainFault::Damaged { .. }) => "damaged",
+        OpenFault::BadHistory(ChainFault::BadRecord(_)) => "bad record",
         OpenFault::BadHistory(ChainFault::BadLink { .. }) => "bad link",
         OpenFault::BadEpoch => "bad epoch",
         OpenFault::EpochsSpent => "spent",
@@ -198,10 +213,11 @@ fn said(fault: OpenFault) -> &'static str {
     }
 }
 
-/// Whether opening answers so.
+/// Whether opening answers so, where an object that is no record stands beside those of the repository.
 fn answers(alloc: Global, opening: &Opening) -> Result<bool, Fail> {
     let (path, bytes, epoch, repository, secret, answer) = opening;
     let (_, mut vault) = live(alloc, Vec::new(alloc))?;
+    vault.write(HELLO, b"hello\n")?;
     set(&mut vault, path, bytes)?;
     set(&mut vault, EPOCH, epoch)?;
     let (name, signer) = (name(alloc, repository)?, signer(alloc, secret)?);

@@ -10,9 +10,8 @@ use Rattle.std.specs.Map.{lookup}
 use Rattle.std.specs.Prelude.{String}
 use Rattle.std.specs.List.Sorted.{IsStrictlySortedBy}
 use Rattle.std.specs.String.{string_bytes, string_cmp}
-use Rattle.std.specs.Ordering.{nat_cmp}
-use Rattle.std.specs.Cmp.Lexicographic.{slice_cmp}
 use Rattle.std.specs.Vec.{vec_capacity}
+use Rattle.cv_base.specs.BytesOrder.{bytes_cmp}
 use Rattle.cv_vault.specs.Disk as disk
 use Rattle.cv_vault.specs.Names.{Name}
 use Rattle.cv_vault.specs.Events.{file_count, any_unsettled}
@@ -113,7 +112,7 @@ pub record Grows (t t' : Inside) : Type 0 where
 -- a map with the same entries gives the same numbers
 pub numbers_same : {Y : Type 0} (m m' : BTreeMap (String Y) ℕ) → m'.entries ≡ m.entries → get_by_text m' ≡ get_by_text m
 numbers_same {Y} m m' e =
-    let find : List (String Y × ℕ) → Name → Option ℕ = λ es n. lookup (is_at (λ (k : String Y). slice_cmp nat_cmp n (string_bytes k))) es in
+    let find : List (String Y × ℕ) → Name → Option ℕ = λ es n. lookup (is_at (λ (k : String Y). bytes_cmp n (string_bytes k))) es in
     ap find e
 
 unsettled_grown : (t t' : Inside) → AreUnsettled t.unsettled t.entries.items → Grows t t' → AreUnsettled t'.unsettled t'.entries.items

@@ -1,5 +1,5 @@
 -- The calls of a vault in memory, by what it holds.
-use Rattle.std.proofs.Common.{◌≡◌, ◌≢◌, ℕ, ◌+◌, ◌<◌, ◌≤◌, Bool, true, false, cond, ◌⊎◌, inl, inr, List, [], ◌∷◌, ◌++◌, is_some, min, nat_lt, refl, ap, sym, subst, ◌∙◌, arith, length}
+use Rattle.std.proofs.Common.{◌≡◌, ◌≢◌, ℕ, ◌+◌, ◌<◌, ◌≤◌, Bool, true, false, cond, ◌⊎◌, inl, inr, List, [], ◌∷◌, ◌++◌, min, nat_lt, refl, ap, sym, subst, ◌∙◌, arith, length}
 use Rattle.std.specs.Prelude.{IsSome, IfOk, IsErrAnd, Vec}
 use Rattle.std.specs.Bool.{OnTrue, OnFalse}
 use Rattle.std.specs.declared.option.Option.{Option}
@@ -25,6 +25,7 @@ use Rattle.cv_vault.specs.declared.fate.Fate.TheVariants.{Works, FailsUnmade, Fa
 use Rattle.cv_vault.specs.declared.schedule.Schedule.{Schedule}
 use Rattle.cv_vault.specs.declared.vault.VaultFault.{VaultFault}
 use Rattle.cv_vault.specs.declared.vault.VaultFault.TheVariants.{Failed, NoMemory}
+use Rattle.cv_vault.proofs.Names.{none_there}
 use Rattle.cv_vault.proofs.Remembering.{memory_disk-kept, calls_kept, calls_changed, calls_makes, counted_kept, counted_changed, counted_makes, numbered_by, makes_if_twice}
 use Rattle.cv_vault.proofs.Settling.{unsettled_differs}
 
@@ -124,9 +125,6 @@ makes_failed {X} v s' fate r x n is failed = makes_if_twice (times (memory_of v)
 pub answered : {X : Type 0} (b : Bool) (x : X) (r : Result X VaultFault) → r ≡ cond b (Err Failed) (Ok x) → r ≢ Err NoMemory
 answered true x r e h = cc
 answered false x r e h = cc
-
-none_there : {X : Type 0} {o : Option X} → o ≡ None → IsSome o → ⊥
-none_there {X} e h = let k : is_some {T = X} None ≡ true = subst (λ x. is_some x ≡ true) e h in cc
 
 -- the parts of what a table says of a name that is there or not
 pub there_parts : {A B : Type 0} (there : Bool) → OnTrue there A → OnFalse there B → ((there ≡ true) × A) ⊎ ((there ≡ false) × B)

@@ -7,18 +7,18 @@ use Rattle.std.specs.List.Sorted.{IsStrictlySortedBy}
 use Rattle.std.specs.BTreeMap.Range.{entries_between, range_contains}
 use Rattle.std.specs.String.{string_bytes, string_cmp}
 use Rattle.std.specs.declared.ops.Bound.TheVariants.{Included, Unbounded}
-use Rattle.std.specs.declared.option.Option.TheVariants.{None}
 use Rattle.std.proofs.lemmas.Bool.{and_parts}
 use Rattle.std.proofs.lemmas.List.Elements.{All-filter, All-head, All-tail, filter_passes}
 use Rattle.std.proofs.lemmas.List.{append-nil}
 use Rattle.std.proofs.lemmas.List.Kept.{IsStrictlySortedBy-filter}
 use Rattle.cv_vault.specs.Names.{Name, name_cmp}
 use Rattle.cv_vault.specs.Disk as disk
-use Rattle.cv_vault.specs.Disk.{Slot, slot, IsListing}
+use Rattle.cv_vault.specs.Disk.{Slot, IsListing}
 use Rattle.cv_vault.specs.Table.{Rows}
 use Rattle.cv_vault.specs.TableInner.{entry_at, is_listed, IsEntryOf, table_disk, IsTable}
 use Rattle.cv_vault.specs.IndexedInner.{rows_of, IsIndexed}
 use Rattle.cv_vault.specs.declared.table.Table.TheInside.{Inside}
+use Rattle.cv_vault.proofs.Names.{none_there}
 use Rattle.cv_vault.proofs.Ordered.{names_of, all_names, ascending, among_or_none, passes, passed, placed}
 use Rattle.cv_vault.proofs.Steps.{slot_at, present, missing}
 use Rattle.cv_vault.proofs.Prefixes.{is_from, names_from, none_before, none_past}
@@ -35,11 +35,8 @@ module _ (t : Inside) (is : IsIndexed t) (prefix : Name) where
   is_there : (n : Name) → IsTrue (starts_with nat_eq n prefix) × IsSome (table_disk (rows_of t) n).now → Contains listed n
   is_there n h = elim (among_or_none t is n) [
     | inl c ↦ passes (is_listed (table_disk (rows_of t)) prefix) (all_names t) n c (rw (h.1, h.0) refl)
-    | inr none ↦ absurd (none_there none h.1)
+    | inr none ↦ absurd (none_there (ap (λ (s : Slot). s.now) none) h.1)
   ]
-    where
-      none_there : table_disk (rows_of t) n ≡ slot None disk.Settled → IsSome (table_disk (rows_of t) n).now → ⊥
-      none_there e h = let k : is_some {T = List ℕ} None ≡ true = subst (λ (s : Slot). IsSome s.now) e h in cc
 
   pub listing : IsListing (table_disk (rows_of t)) prefix listed
   listing = record { ascending = IsStrictlySortedBy-filter name_cmp (is_listed (table_disk (rows_of t)) prefix) (all_names t) (ascending t is); exact = λ n. (listed_is n, is_there n) }

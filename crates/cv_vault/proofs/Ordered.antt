@@ -6,14 +6,13 @@ use Rattle.std.specs.BTreeMap.{get_by_text, is_at}
 use Rattle.std.specs.Map.{lookup}
 use Rattle.std.specs.Prelude.{String}
 use Rattle.std.specs.String.{string_bytes, string_cmp, string_cmp_total}
-use Rattle.std.specs.Ordering.{nat_cmp}
-use Rattle.std.specs.Cmp.Lexicographic.{slice_cmp}
 use Rattle.std.specs.declared.option.Option.{Option}
 use Rattle.std.specs.declared.option.Option.TheVariants.{None, Some}
 use Rattle.std.specs.declared.cmp.Ordering.TheVariants.{Less}
 use Rattle.std.proofs.lemmas.List.Elements.{All-contains, All-weaker, filter_passes}
 use Rattle.std.proofs.lemmas.Map.Views.{All-found}
 use Rattle.std.proofs.lemmas.Option.{same_Some}
+use Rattle.cv_base.specs.BytesOrder.{bytes_cmp}
 use Rattle.cv_vault.specs.Names.{Name, name_cmp, same_name}
 use Rattle.cv_vault.specs.Disk as disk
 use Rattle.cv_vault.specs.Disk.{slot}
@@ -46,13 +45,13 @@ passes p ns n c h = subst (λ m. Contains (filter p ns) m) c.2 (kept p ns c.0 n 
 pub passed : (p : Name → Bool) (ns : List Name) (n : Name) → Contains (filter p ns) n → p n ≡ true
 passed p ns n c = All-contains (λ m. p m ≡ true) (filter p ns) n (filter_passes p ns) c
 
-at_key : {Y : Type 0} (es : List (String Y × ℕ)) (n : Name) (i : ℕ) → lookup (is_at (λ (k : String Y). slice_cmp nat_cmp n (string_bytes k))) es ≡ Some i
+at_key : {Y : Type 0} (es : List (String Y × ℕ)) (n : Name) (i : ℕ) → lookup (is_at (λ (k : String Y). bytes_cmp n (string_bytes k))) es ≡ Some i
     → Contains (names_of string_bytes es) n × Contains (map (λ (p : String Y × ℕ). p.1) es) i
 at_key [] n i e = cc
 at_key {Y} (p ∷ es) n i e = by (same_name n (string_bytes p.0)) refl e (at_key es n i)
   where
-    by : (b : Bool) → same_name n (string_bytes p.0) ≡ b → cond b (Some p.1) (lookup (is_at (λ (k : String Y). slice_cmp nat_cmp n (string_bytes k))) es) ≡ Some i
-        → (lookup (is_at (λ (k : String Y). slice_cmp nat_cmp n (string_bytes k))) es ≡ Some i → Contains (names_of string_bytes es) n × Contains (map (λ (p : String Y × ℕ). p.1) es) i)
+    by : (b : Bool) → same_name n (string_bytes p.0) ≡ b → cond b (Some p.1) (lookup (is_at (λ (k : String Y). bytes_cmp n (string_bytes k))) es) ≡ Some i
+        → (lookup (is_at (λ (k : String Y). bytes_cmp n (string_bytes k))) es ≡ Some i → Contains (names_of string_bytes es) n × Contains (map (λ (p : String Y × ℕ). p.1) es) i)
         → Contains (names_of string_bytes (p ∷ es)) n × Contains (map (λ (p : String Y × ℕ). p.1) (p ∷ es)) i
     by true same e later = ((0, omega arith, sym (same_name_is n (string_bytes p.0) same)), (0, omega arith, same_Some _ _ e))
     by false other e later =

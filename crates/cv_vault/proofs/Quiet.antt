@@ -50,13 +50,18 @@ quiet_same {V} {disk} {count} {left} {a} {b} c = by (disk a) refl
     by None e = c.silent e ∙ sym e
     by (Some d) e = let t = c.tells d e in t.1 ∙ ap Some t.2 ∙ sym e
 
--- a call that left the disk as it was
-pub quiet_call : {V : Type 0} {disk : V → Option Disk} {count : V → ℕ} {left : V → ℕ → Files → Type 0} {R : Disk → Disk → Type 0} {a b : V}
-    → ((d d' : Disk) → R d d' → d' ≡ d) → Calls disk count left R a b → OnlyReads disk count left a b
-quiet_call same c = record {
-  tells = λ d e. let t = c.tells d e in (t.0, t.1, same d t.0 t.2);
+-- a call that left the disk as it was, where it is told
+pub quiet_told : {V : Type 0} {disk : V → Option Disk} {count : V → ℕ} {left : V → ℕ → Files → Type 0} {R : Disk → Disk → Type 0} {a b : V}
+    → ((d d' : Disk) → disk a ≡ Some d → R d d' → d' ≡ d) → Calls disk count left R a b → OnlyReads disk count left a b
+quiet_told same c = record {
+  tells = λ d e. let t = c.tells d e in (t.0, t.1, same d t.0 e t.2);
   silent = c.silent;
   later = c.later;
   kept = c.kept;
   nothing_else = c.nothing_else;
 }
+
+-- and any disk
+pub quiet_call : {V : Type 0} {disk : V → Option Disk} {count : V → ℕ} {left : V → ℕ → Files → Type 0} {R : Disk → Disk → Type 0} {a b : V}
+    → ((d d' : Disk) → R d d' → d' ≡ d) → Calls disk count left R a b → OnlyReads disk count left a b
+quiet_call same c = quiet_told (λ d d' told h. same d d' h) c

@@ -6,18 +6,19 @@ use Rattle.std.specs.declared.option.Option.{Option}
 use Rattle.std.specs.declared.option.Option.TheVariants.{None, Some}
 use Rattle.std.specs.declared.result.Result.{Result}
 use Rattle.std.specs.declared.result.Result.TheVariants.{Ok, Err}
+use Rattle.std.proofs.lemmas.Option.{same_Some}
 use Rattle.std.proofs.lemmas.Slice.Eq.{bytes_eq-Decides}
 use Rattle.cv_vault.specs.Names.{Name, on_way}
-use Rattle.cv_vault.specs.Disk.{Disk, Slot, File, Files, ImageOf, IsCalm, Mark, Settled, Torn, Reads, Writes, Renames, Syncs, slot, written, synced, renamed}
+use Rattle.cv_vault.specs.Disk.{Disk, Slot, File, Files, ImageOf, IsCalm, Mark, Settled, Torn, MayChange, Absent, Made, Unmade, Reads, Writes, Renames, Syncs, slot, written, synced, renamed, unrenamed}
 use Rattle.cv_vault.specs.Moments.{Calls, OnlyReads}
 use Rattle.cv_vault.specs.Walks.{Gains, Walks, Nothing, ComesTo}
 use Rattle.cv_vault.specs.Replace.{IsSure, IsWaiting, IsBrought, PutOnWay, Came, MovedIn, Replaced, Found}
 use Rattle.cv_vault.specs.declared.vault.VaultFault.{VaultFault}
 use Rattle.cv_vault.specs.declared.vault.VaultFault.TheVariants.{Failed, NoMemory}
-use Rattle.cv_vault.proofs.Names.{here}
+use Rattle.cv_vault.proofs.Names.{here, none_there}
 use Rattle.cv_vault.proofs.Walking.{call, bind, looser}
 use Rattle.cv_vault.proofs.Calling.{apart, writes, syncs, renames, renamed_to, renamed_from, renamed_elsewhere, reads}
-use Rattle.cv_vault.proofs.Quiet.{quiet_call}
+use Rattle.cv_vault.proofs.Quiet.{quiet_call, quiet_told}
 
 abbrev pub Outcome : Type 0
 Outcome = Result (Unit {0}) VaultFault
@@ -124,6 +125,22 @@ module _ {V : Type 0} {disk : V → Option Disk} {count : V → ℕ} {left : V �
 
   pub quiet_absent : Calls disk count left (Renames way name (Ok false)) v v1 → OnlyReads disk count left v v1
   quiet_absent c = quiet_call (λ d d' h. h.1) c
+
+-- a rename of a file that isn't there
+missing_stays : (way name : Name) (r : Result Bool VaultFault) (d d' : Disk) → (d way).now ≡ None → Renames way name r d d' → d' ≡ d
+missing_stays way name (Ok true) d d' none h = absurd (none_there none h.0)
+missing_stays way name (Ok false) d d' none h = h.1
+missing_stays way name (Err Failed) d d' none h = by h
+  where
+    by : MayChange (d way).now d (renamed d way name) (unrenamed d way name) d' → d' ≡ d
+    by (Absent absent same) = same
+    by (Made present is) = absurd (none_there none present)
+    by (Unmade present is) = absurd (none_there none present)
+missing_stays way name (Err NoMemory) d d' none h = h
+
+pub quiet_missing : {V : Type 0} {disk : V → Option Disk} {count : V → ℕ} {left : V → ℕ → Files → Type 0} {v v1 : V} (way name : Name) (r : Result Bool VaultFault) {d : Disk} → disk v ≡ Some d → (d way).now ≡ None
+    → Calls disk count left (Renames way name r) v v1 → OnlyReads disk count left v v1
+quiet_missing way name r e none c = quiet_told (λ d0 d' told h. missing_stays way name r d0 d' (ap (λ (x : Disk). (x way).now) (same_Some _ _ (sym told ∙ e)) ∙ none) h) c
 
 -- a rename that found a file
 pub found_there : {V : Type 0} {disk : V → Option Disk} {count : V → ℕ} {left : V → ℕ → Files → Type 0} {v v1 : V} (way name : Name) → Calls disk count left (Renames way name (Ok true)) v v1 → (d : Disk) → disk v ≡ Some d → IsSome (d way).now

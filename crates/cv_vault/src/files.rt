@@ -1,5 +1,5 @@
 //! Single files that come whole to their names.
-ghost use Rattle.std.specs.Prelude.{◌≡◌, ◌≢◌, ⊤, ℕ, List, Some, Err, true, false, IsErrOf, IsSome, OnOk};
+ghost use Rattle.std.specs.Prelude.{◌≡◌, ◌≢◌, ⊤, ℕ, List, None, Some, Err, true, false, IsErrOf, IsSome, OnOk};
 ghost use Rattle.cv_base.specs.Counts.{HasCause};
 ghost use Rattle.cv_base.specs.Told.{WhereTold};
 ghost use Rattle.cv_vault.specs.Names.{on_way};
@@ -23,13 +23,15 @@ pub fn put_on_way<V: Vault>(vault: &mut V, way: &str, bytes: &[u8]) -> Result<()
     Ok(())
 }
 
-/// Brings a file that waits on its way to its name, where the next sync settles it. Where none stands there it isn't `Ok`.
+/// Brings a file that waits on its way to its name, where the next sync settles it. Where none stands there it isn't `Ok`,
+/// and it only reads.
 pub fn bring_file<V: Vault>(vault: &mut V, way: &str, name: &str) -> Result<(), VaultFault>
     requires way { on_way way.now ≡ true }
     requires name { on_way name.now ≡ false }
     ensures walks { WhereTold (V.disk vault.old) (λ d. (bytes : List ℕ) → IsWaiting way.now name.now bytes d
         → Walks V.disk V.count V.left on_way (ComesTo name.now (Some bytes)) (Came d way.now name.now bytes result) d vault.old vault.new) }
     ensures there { WhereTold (V.disk vault.old) (λ d. OnOk result (IsSome (d way.now).now)) }
+    ensures absent { WhereTold (V.disk vault.old) (λ d. (d way.now).now ≡ None → OnlyReads V.disk V.count V.left vault.old vault.new) }
     ensures memory { result ≡ Err fault.NoMemory → OnlyReads V.disk V.count V.left vault.old vault.new }
     ensures others { SparesIn V.disk (IsNeither way.now name.now) vault.old vault.new }
     ensures cause { HasCause (V.faults vault.old) (V.faults vault.new) (IsErrOf result fault.Failed) }
@@ -43,13 +45,14 @@ pub fn bring_file<V: Vault>(vault: &mut V, way: &str, name: &str) -> Result<(), 
 }
 
 /// Brings a file that waits on its way to its name, for sure. After `Failed` it may be there or not. After `NoMemory` it
-/// isn't, and no crash leaves it. Where none stands on the way it isn't `Ok`.
+/// isn't, and no crash leaves it. Where none stands on the way it isn't `Ok`, and it only reads.
 pub fn move_in<V: Vault>(vault: &mut V, way: &str, name: &str) -> Result<(), VaultFault>
     requires way { on_way way.now ≡ true }
     requires name { on_way name.now ≡ false }
     ensures walks { WhereTold (V.disk vault.old) (λ d. (bytes : List ℕ) → IsWaiting way.now name.now bytes d
         → Walks V.disk V.count V.left on_way (ComesTo name.now (Some bytes)) (MovedIn d name.now bytes result) d vault.old vault.new) }
     ensures there { WhereTold (V.disk vault.old) (λ d. OnOk result (IsSome (d way.now).now)) }
+    ensures absent { WhereTold (V.disk vault.old) (λ d. (d way.now).now ≡ None → OnlyReads V.disk V.count V.left vault.old vault.new) }
     ensures memory { result ≡ Err fault.NoMemory → OnlyReads V.disk V.count V.left vault.old vault.new }
     ensures others { SparesIn V.disk (IsNeither way.now name.now) vault.old vault.new }
     ensures cause { HasCause (V.faults vault.old) (V.faults vault.new) (IsErrOf result fault.Failed) }

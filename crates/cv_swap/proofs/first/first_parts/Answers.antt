@@ -1,9 +1,9 @@
-use Rattle.std.proofs.Common.{rules, ◌≡◌, [], ◌∷◌, ◌++◌, ap, ◌∙◌, sym, subst}
-use Rattle.cv_cut.specs.Catalogues.{root_of}
+use Rattle.std.proofs.Common.{rules, ◌≡◌, length, [], ◌∷◌, ◌++◌, ap, ◌∙◌, sym, subst}
+use Rattle.cv_cut.specs.Catalogues.{cat, root_of}
 use Rattle.cv_cut.specs.Cut.{cut_of}
 use Rattle.cv_swap.specs.Kept.{object_of}
 use Rattle.cv_swap.specs.Stands.{head_with}
-use Rattle.cv_swap.specs.First.{first_tree, first_size, first_record, first_batch}
+use Rattle.cv_swap.specs.First.{first_tree, first_record, first_batch}
 use Rattle.cv_objects.specs.Batches.{AreNamed}
 use Rattle.cv_swap.proofs.Made.{if_ok_more}
 use Rattle.cv_swap.proofs.Named.{first_named}
@@ -20,7 +20,7 @@ returns-clause-batch g c =
 pub returns-clause-head : goal.returns-clause-head
 returns-clause-head g c =
     let h : c.in_ok-root.field-0.root.hash ≡ root_of (first_tree c.args.now) = search rules in
-    let z : c.in_ok-root.field-0.size ≡ first_size c.args.now = search rules in
+    let z : c.in_ok-root.field-0.size ≡ length (cat (first_tree c.args.now) []) = search rules in
     let n : c.in_ok-next.next ≡ first_record (root_of (first_tree c.args.now)) c.args.now = c.in_ok-next.ensures.value ∙ ap (λ r. first_record r c.args.now) h in
     if_ok_more c.make_parts.result (λ parts b. b ∙ (λ i. head_with (n i) (z i))) c.make_parts.ensures.head
 

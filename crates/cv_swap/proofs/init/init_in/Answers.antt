@@ -49,3 +49,18 @@ returns-in_err-init_on-clause-text g c = λ d e. text_writes (g.met.V.Vault.only
 pub returns-clause-text : goal.returns-clause-text
 returns-clause-text g c = λ d e. text_writes (g.met.V.Vault.only_now c.args.objects.now.vault) e c.in_ok-has_head.ensures.reads c.as_slice.result.now _ c.as_slice-2.result.now _
     (c.as_slice-2.ensures ∙ c.in_ok-parts.ensures.text ∙ ap (head_text (g.S.Signer.seal_of c.args.signer.now) c.args.name.now) c.in_ok-parts.ensures.head) c.in_ok-init_on.ensures.inits
+
+pub returns-in_err-has_head-clause-silent : goal.returns-in_err-has_head-clause-silent
+returns-in_err-has_head-clause-silent g c = λ e. c.in_err-has_head.ensures.reads.silent e
+
+pub returns-then-branch-clause-silent : goal.returns-then-branch-clause-silent
+returns-then-branch-clause-silent g c = λ e. c.in_ok-has_head.ensures.reads.silent e
+
+pub returns-in_err-parts-clause-silent : goal.returns-in_err-parts-clause-silent
+returns-in_err-parts-clause-silent g c = λ e. c.in_ok-has_head.ensures.reads.silent e
+
+pub returns-in_err-init_on-clause-silent : goal.returns-in_err-init_on-clause-silent
+returns-in_err-init_on-clause-silent g c = λ e. c.in_err-init_on.ensures.silent (c.in_ok-has_head.ensures.reads.silent e)
+
+pub returns-clause-silent : goal.returns-clause-silent
+returns-clause-silent g c = λ e. c.in_ok-init_on.ensures.silent (c.in_ok-has_head.ensures.reads.silent e)

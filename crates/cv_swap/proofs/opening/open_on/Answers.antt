@@ -12,3 +12,15 @@ returns-in_err-set_epoch-clause-opens g c = λ d e. opens_or_not c.args.name.now
 
 pub returns-clause-opens : goal.returns-clause-opens
 returns-clause-opens g c = λ d e. opens_now c.args.name.now (g.S.Signer.is_seal c.args.signer.now) (g.met.V.Vault.only_now c.args.objects.now.vault) (g.met.V.Vault.only_now c.settle.new.self.vault) e c.in_ok-settle.ensures.call c.in_ok-found.ensures.reads c.in_ok-found.found c.in_ok-found.ensures.told c.in_ok-set_epoch.ensures.walks
+
+pub returns-in_err-settle-clause-silent : goal.returns-in_err-settle-clause-silent
+returns-in_err-settle-clause-silent g c = λ e. c.in_err-settle.ensures.call.silent e
+
+pub returns-in_err-found-clause-silent : goal.returns-in_err-found-clause-silent
+returns-in_err-found-clause-silent g c = λ e. c.in_err-found.ensures.reads.silent (c.in_ok-settle.ensures.call.silent e)
+
+pub returns-in_err-set_epoch-clause-silent : goal.returns-in_err-set_epoch-clause-silent
+returns-in_err-set_epoch-clause-silent g c = λ e. c.in_err-set_epoch.ensures.silent (c.in_ok-found.ensures.reads.silent (c.in_ok-settle.ensures.call.silent e))
+
+pub returns-clause-silent : goal.returns-clause-silent
+returns-clause-silent g c = λ e. c.in_ok-set_epoch.ensures.silent (c.in_ok-found.ensures.reads.silent (c.in_ok-settle.ensures.call.silent e))

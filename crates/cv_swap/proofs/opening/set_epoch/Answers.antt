@@ -14,3 +14,6 @@ returns-clause-walks g c = λ d e.
 
 pub returns-in_err-text-clause-memory : goal.returns-in_err-text-clause-memory
 returns-in_err-text-clause-memory g c = λ none d e. stand (g.met.V.Vault.only_now c.args.vault.now) e tt
+
+pub returns-clause-silent : goal.returns-clause-silent
+returns-clause-silent g c = λ e. c.replace.ensures.others.silent e

@@ -13,3 +13,12 @@ returns-in_err-swap_on-clause-inits g c = λ d e. inits_or_not c.args.batch.now 
 
 pub returns-clause-inits : goal.returns-clause-inits
 returns-clause-inits g c = λ d e. inits_now c.args.batch.now c.args.manifest.now (c.in_ok-build_first.ensures.walks d e) c.in_ok-swap_on.ensures.walks
+
+pub returns-in_err-build_first-clause-silent : goal.returns-in_err-build_first-clause-silent
+returns-in_err-build_first-clause-silent g c = λ e. c.in_err-build_first.ensures.silent e
+
+pub returns-in_err-swap_on-clause-silent : goal.returns-in_err-swap_on-clause-silent
+returns-in_err-swap_on-clause-silent g c = λ e. c.in_err-swap_on.ensures.silent (c.in_ok-build_first.ensures.silent e)
+
+pub returns-clause-silent : goal.returns-clause-silent
+returns-clause-silent g c = λ e. c.in_ok-swap_on.ensures.silent (c.in_ok-build_first.ensures.silent e)

@@ -3,13 +3,19 @@ use Rattle.std.specs.declared.result.Result.TheVariants.{Err}
 use Rattle.cv_vault.proofs.Laws.{looser}
 use Rattle.cv_objects.proofs.Lemmas.{handed_on, outside, same_fault, brings_nothing, refusal_inside}
 use Rattle.cv_swap.proofs.Publish.{prepared_refused, then_manifest, then_batch, then_prepared, then_unwritten, then_unbrought, then_unsettled}
+use Rattle.cv_swap.proofs.Bringing.{told_end}
 use Rattle.cv_swap.proofs.publishing.prepare_on.Goals as goal
 
 pub returns-in_err-put-clause-walks : goal.returns-in_err-put-clause-walks
-returns-in_err-put-clause-walks g c = λ d e. looser (c.in_err-put.ensures.walks d e) brings_nothing (λ d1 gains s. prepared_refused d c.args.batch.now c.args.manifest.now d1 _ _ (same_fault _ _ c.from_residual.ensures.1) (λ k. c.in_err-put.ensures.failed (ap Err k)) s gains)
+returns-in_err-put-clause-walks g c = λ d e. looser (c.in_err-put.ensures.walks d e) brings_nothing (λ d1 gains s. prepared_refused d c.args.batch.now c.args.manifest.now d1 _ _ (same_fault _ _ c.from_residual.ensures.1) (λ k. c.in_err-put.ensures.failed (ap Err k)) s.0 gains)
 
 pub returns-in_err-write-clause-walks : goal.returns-in_err-write-clause-walks
 returns-in_err-write-clause-walks g c = λ d e. then_unwritten c.args.batch.now c.args.manifest.now _ c.in_err-write.field-0.0 (handed_on _ _ c.from_residual-in_err-write.ensures.1) c.in_ok-put.ensures.one (g.met.V.Vault.only_now c.put.new.self.vault) (c.in_ok-put.ensures.walks d e) c.in_err-write.ensures.call
+
+pub bring-requires-clause-ready : goal.bring-requires-clause-ready
+bring-requires-clause-ready g c = λ d' told.
+    (told_end (λ e. c.in_ok-write.ensures.call.silent (c.in_ok-put.ensures.others.silent e))
+    (λ d e. then_manifest c.args.batch.now c.args.manifest.now c.requires.named (g.met.V.Vault.only_now c.put.new.self.vault) (c.in_ok-put.ensures.walks d e) c.in_ok-write.ensures.call) d' told).ready
 
 pub returns-in_err-bring-clause-walks : goal.returns-in_err-bring-clause-walks
 returns-in_err-bring-clause-walks g c = λ d e.
@@ -40,7 +46,7 @@ returns-in_err-settle-clause-refused g c = λ refusal. absurd (refusal_inside _ 
 pub returns-in_err-bring-clause-refused : goal.returns-in_err-bring-clause-refused
 returns-in_err-bring-clause-refused g c = λ refusal d e.
     let w = then_manifest c.args.batch.now c.args.manifest.now c.requires.named (g.met.V.Vault.only_now c.put.new.self.vault) (c.in_ok-put.ensures.walks d e) c.in_ok-write.ensures.call in
-    absurd (refusal_inside _ _ (same_fault _ _ c.from_residual-in_err-bring.ensures.1) (c.in_err-bring.ensures.walks w.end w.told w.is.ready).is refusal)
+    absurd (refusal_inside _ _ (same_fault _ _ c.from_residual-in_err-bring.ensures.1) (c.in_err-bring.ensures.walks w.end w.told).is refusal)
 
 pub returns-clause-refused : goal.returns-clause-refused
 returns-clause-refused g c = λ refusal. absurd refusal

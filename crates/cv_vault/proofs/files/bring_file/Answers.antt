@@ -2,7 +2,7 @@ use Rattle.std.proofs.Common.{true, false}
 use Rattle.cv_vault.specs.Names.{on_way}
 use Rattle.std.specs.declared.result.Result.TheVariants.{Ok, Err}
 use Rattle.cv_vault.proofs.Calling.{apart}
-use Rattle.cv_vault.proofs.Replacing.{brings, brings_not, brings_none, found_there, handed_on, one_fault, quiet_unmade, quiet_absent}
+use Rattle.cv_vault.proofs.Replacing.{brings, brings_not, brings_none, found_there, handed_on, one_fault, quiet_unmade, quiet_absent, quiet_missing}
 use Rattle.cv_vault.proofs.Sparing.{spares_rename}
 use Rattle.cv_vault.proofs.files.bring_file.Goals as goal
 
@@ -35,3 +35,12 @@ returns-else-branch-clause-others g c = spares_rename _ _ (Ok false) (λ n p. p.
 
 pub returns-then-branch-clause-there : goal.returns-then-branch-clause-there
 returns-then-branch-clause-there g c = found_there c.args.way.now c.args.name.now (rw c.if-branch.true at c.in_ok-rename.ensures.call)
+
+pub returns-in_err-rename-clause-absent : goal.returns-in_err-rename-clause-absent
+returns-in_err-rename-clause-absent g c = λ d e none. quiet_missing c.args.way.now c.args.name.now (Err c.in_err-rename.field-0.0) e none c.in_err-rename.ensures.call
+
+pub returns-then-branch-clause-absent : goal.returns-then-branch-clause-absent
+returns-then-branch-clause-absent g c = λ d e none. quiet_missing c.args.way.now c.args.name.now (Ok true) e none (rw c.if-branch.true at c.in_ok-rename.ensures.call)
+
+pub returns-else-branch-clause-absent : goal.returns-else-branch-clause-absent
+returns-else-branch-clause-absent g c = λ d e none. quiet_absent c.args.way.now c.args.name.now (rw c.if-branch.false at c.in_ok-rename.ensures.call)

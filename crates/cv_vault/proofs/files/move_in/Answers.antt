@@ -1,5 +1,6 @@
 use Rattle.std.proofs.Common.{sym, ap, ◌∙◌}
 use Rattle.std.specs.declared.result.Result.TheVariants.{Err}
+use Rattle.cv_vault.proofs.Names.{none_there}
 use Rattle.cv_vault.proofs.Replacing.{moves, moves_not, moves_unsure, ok, err, handed_on}
 use Rattle.cv_vault.proofs.Sparing.{spares_then, spares_sync}
 use Rattle.cv_vault.proofs.files.move_in.Goals as goal
@@ -25,3 +26,12 @@ returns-in_err-sync-clause-others g c = spares_then c.in_ok-bring_file.ensures.o
 
 pub returns-clause-others : goal.returns-clause-others
 returns-clause-others g c = spares_then c.in_ok-bring_file.ensures.others (spares_sync ok c.in_ok-sync.ensures.call)
+
+pub returns-in_err-bring_file-clause-absent : goal.returns-in_err-bring_file-clause-absent
+returns-in_err-bring_file-clause-absent g c = λ d e none. c.in_err-bring_file.ensures.absent d e none
+
+pub returns-in_err-sync-clause-absent : goal.returns-in_err-sync-clause-absent
+returns-in_err-sync-clause-absent g c = λ d e none. absurd (none_there none (c.in_ok-bring_file.ensures.there d e))
+
+pub returns-clause-absent : goal.returns-clause-absent
+returns-clause-absent g c = λ d e none. absurd (none_there none (c.in_ok-bring_file.ensures.there d e))
