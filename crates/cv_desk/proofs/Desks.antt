@@ -285,13 +285,12 @@ module _ {V S : Type 0} (disk : V → Option Disk) (count : V → ℕ) (left : V
   -- the newest head
   pub tells_does : DoesCalls disk count left is_seal d (told d.head ∷ []) d
   tells_does = reads_does disk count left is_seal d (told d.head) d.gate.state only (looks_none disk count left d.gate.state) (λ v s learns. record {
-    entries = v.seen;
+    others = [];
     state = v.state;
-    run = s.run;
+    between = none_between v s.run;
     view = ap (λ (l : List Head). record v { heads = l }) s.heads;
     heads = front_self v.heads;
     last = s.last;
-    alone = λ a. refl;
   }) (refl, refl)
 
   -- an object

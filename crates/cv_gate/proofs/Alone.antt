@@ -82,7 +82,7 @@ one_call v (fetched id r) v' does a =
     quiet v v' (fetched id r) (fetches id r (subst (λ (st : State). Finds id st.shelf r) same.state does.1)) same
 one_call v (told head) v' does a =
     let heads : v'.heads ≡ heads_since v.start v.state =
-    ap (λ (x : DeskView). x.heads) does.view ∙ ap (heads_since v.start) (does.alone a.alone) in
+    ap (λ (x : DeskView). x.heads) does.view ∙ ap (heads_since v.start) (does.between.alone a.alone).1 in
     let start : v'.start ≡ v.start = ap (λ (x : DeskView). x.start) does.view in
     let seen : v'.seen ≡ v.seen = ap (λ (x : DeskView). x.seen) does.view in
     let state : v'.state ≡ v.state = ap (λ (x : DeskView). x.state) does.view in

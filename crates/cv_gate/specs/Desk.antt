@@ -12,7 +12,6 @@ use Rattle.cv_gate.specs.Lines.{lines_of}
 use Rattle.cv_gate.specs.State.{State}
 use Rattle.cv_gate.specs.Step.{Step, Run}
 use Rattle.cv_gate.specs.declared.entry.Entry.{Entry}
-use Rattle.cv_gate.specs.declared.entry.TheConstants.{JOURNAL_LIMIT}
 use Rattle.cv_gate.specs.declared.lease_line.LeaseLine.{LeaseLine}
 use Rattle.cv_gate.specs.declared.op.Op.{Op}
 use Rattle.cv_gate.specs.declared.reply.Reply.{Reply}
@@ -21,7 +20,7 @@ use Rattle.cv_gate.specs.Heads.{IsFront, heads_since, last_head}
 
 -- the most entries of a journal
 abbrev pub journal_limit : ℕ
-journal_limit = JOURNAL_LIMIT
+journal_limit = 262144
 
 -- How a desk may be seen: the state with which its gate was opened, the number of its seat, whether it asks the gate alone,
 -- the entries of the journal that it has seen, a state to which they run, and the heads that stood published, as far as it knows
@@ -112,16 +111,15 @@ Finds id shelf (Err Failed) = Unit {0}
 Finds id shelf (Err (Damaged named digest)) = ⊥
 Finds id shelf (Err NoMemory) = Unit {0}
 
--- the heads are those that stood published in a state to which entries lead from the start, and the one that is told is the newest of
--- them; where the desk is alone the state is the one that it knows
+-- the heads are those that stood published in a state behind what the desk has seen and entries of other seats, and the one that
+-- is told is the newest of them
 pub record Tells (head : Head) (v v' : DeskView) : Type 0 where
-  pub entries : List Entry
+  pub others : List Entry
   pub state : State
-  pub run : Run v.start entries state
+  pub between : Between v others state
   pub view : v' ≡ record v { heads = heads_since v.start state }
   pub heads : IsFront v.heads v'.heads
   pub last : last_head v'.heads ≡ Some head
-  pub alone : v.alone ≡ true → state ≡ v.state
 
 abbrev pub Does : Call → DeskView → DeskView → Type 0
 Does (asked o now r) v v' = Takes o now r v v'

@@ -115,24 +115,6 @@ module _ {R : Type 0} (left given : R → Option (List ℕ)) where
 pub parted : (body body' held held' : List ℕ) (n : ℕ) → body' ≡ body ++ take n held → held' ≡ drop n held → body' ++ held' ≡ body ++ held
 parted body body' held held' n is then_ = rw (is, then_) (append_assoc body (take n held) (drop n held) ∙ ap (λ x. body ++ x) (take-append-drop n held))
 
-module _ {R : Type 0} (left : R → Option (List ℕ)) where
-  -- what was read, and then more of it was got
-  pub reads_then : (w0 w w' : WireView R) (P Q S : List ℕ → Type 0) → Reads left w0 w P → Reads left w w' Q
-      → ((b more : List ℕ) → P b → Q (w.held ++ more) → S (b ++ more)) → Reads left w0 w' S
-  reads_then w0 w w' P Q S r q joins = record {
-    got = r.got ++ q.got;
-    told = r.told ∙ ap (front r.got) q.told ∙ front_twice (left w'.source) r.got q.got;
-    are = subst S (append_assoc w0.held r.got q.got) (joins (w0.held ++ r.got) q.got r.are q.are);
-  }
-
-  -- what was read, in other words
-  pub reads_as : (w w' : WireView R) (P Q : List ℕ → Type 0) → Reads left w w' P → ((b : List ℕ) → P b → Q b) → Reads left w w' Q
-  reads_as w w' P Q r as_ = record { got = r.got; told = r.told; are = as_ (w.held ++ r.got) r.are }
-
-  -- nothing was read
-  pub reads_none : (w : WireView R) (P : List ℕ → Type 0) → P w.held → Reads left w w P
-  reads_none w P are = record { got = []; told = front_none (left w.source); are = subst P (sym (append-nil w.held)) are }
-
 -- a fault that is handed on
 pub by_fault : {A : Type 0} (r : Result A HttpFault) (fault : HttpFault) (P : Result A HttpFault → Type 0) → IsErrAnd r (λ d. d ≡ fault) → P (Err fault) → P r
 by_fault (Ok made) fault P h p = absurd h

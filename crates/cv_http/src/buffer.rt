@@ -73,9 +73,7 @@ fn read_piece<R: Source>(
     ensures looks { (look : Look) → R.looks source.new look
         → R.looks source.old look ⊎ (look ≡ record { left = R.left source.old; passed = R.Beside.passed beside.now }) }
 {
-    if held.reserve(piece.len()).is_err() {
-        return Err(FillFault::NoMemory);
-    }
+    held.reserve(piece.len()).map_err(NoMemory::from)?;
     let Ok(count) = source.read(piece, beside) else {
         return Err(FillFault::ReadFault);
     };
@@ -133,9 +131,7 @@ impl<R: Source + Drop> Buffer<R> {
     {
         self.held.drain(..self.used);
         self.used = 0;
-        if self.piece.resize(PIECE, 0).is_err() {
-            return Err(FillFault::NoMemory);
-        }
+        self.piece.resize(PIECE, 0).map_err(NoMemory::from)?;
         read_piece(
             &mut self.source,
             self.piece.as_mut_slice(),

@@ -1,5 +1,5 @@
 //! Replies.
-ghost use Rattle.std.specs.Prelude.{◌≡◌, ◌≢◌, ◌++◌, OnOk, OnErr, IfOk, IsErr, string_bytes};
+ghost use Rattle.std.specs.Prelude.{◌≡◌, ◌≢◌, ◌<◌, ◌^◌, ◌++◌, length, OnOk, OnErr, IfOk, IsErr, string_bytes};
 ghost use Rattle.cv_base.specs.Counts.{HasCause};
 ghost use Rattle.cv_ports.specs.Streams.{onto, Wrote};
 ghost use Rattle.cv_http.specs.Replies.{close_line, reply_head, reply, continue_line};
@@ -83,6 +83,7 @@ pub fn write_reply<W: Sink>(
     last: bool,
     body: &[u8],
 ) -> Result<(), SendFault>
+    ensures size { OnOk result (length body.now < 2 ^ 64) }
     ensures whole { OnOk result (W.taken sink.new ≡ onto (W.taken sink.old) (reply code kind last body.now)) }
     ensures part { Wrote (W.taken sink.old) (W.taken sink.new) (reply code kind last body.now) }
     ensures nothing { result ≡ Err send_fault.NoMemory → W.taken sink.new ≡ W.taken sink.old }

@@ -205,14 +205,14 @@ impl<R: Source + Drop> Wire<R> {
 
     /// Reads the next head (RFC 9112, sections 2 and 3). `None` is the end of the input where a head might begin. A whole
     /// head is answered before more is read: where the source fails, none is there. Bytes that begin no head are refused
-    /// once an empty line ends in them, they fill the room for a head, or the input ends. A fault takes nothing of what is
-    /// left.
+    /// once an empty line ends in them, which tests show and no clause, they fill the room for a head, or the input ends. A
+    /// fault takes nothing of what is left.
     pub fn read_head(
         &mut self,
         alloc: Global,
         beside: &R::Beside,
     ) -> Result<Option<RequestHead>, HttpFault>
-        ensures reads { Reads R.left self.old self.new (λ b. HeadRead b self.new.held result) }
+        ensures reads { Draws R.left R.given self.old self.new (λ b. HeadRead b self.new.held result) }
         ensures nothing_left { result ≡ Ok None → WhereTold (rest R.left self.new) (λ b. b ≡ []) }
         ensures cut { result ≡ Err Short → WhereTold (R.left self.new.source) (λ left. left ≡ []) }
         ensures faults { IfErr result IsHeadFault }
@@ -261,9 +261,10 @@ impl<R: Source + Drop> Wire<R> {
         beside: &R::Beside,
     ) -> Result<Bytes, HttpFault>
         requires { 0 < left }
-        ensures reads { Reads R.left self.old self.new (λ b. PieceRead b self.new.held result) }
+        ensures reads { Draws R.left R.given self.old self.new (λ b. PieceRead b self.new.held result) }
         ensures some { IfOk result (λ piece. 0 < length piece) }
         ensures most { IfOk result (λ piece. length piece ≤ left) }
+        ensures piece { IfOk result (λ piece. length piece ≤ 65536) }
         ensures cut { result ≡ Err Short → WhereTold (R.left self.new.source) (λ left. left ≡ []) }
         ensures faults { IfErr result IsBodyFault }
         ensures cause { HasCause (R.faults self.old.source) (R.faults self.new.source) (result ≡ Err ReadFault) }
@@ -274,9 +275,7 @@ impl<R: Source + Drop> Wire<R> {
         }
         let most = left.min(PIECE as u64) as usize;
         let mut piece = Vec::new(alloc);
-        if self.take_part(&mut piece, most).is_err() {
-            return Err(HttpFault::NoMemory);
-        }
+        self.take_part(&mut piece, most)?;
         Ok(Bytes::new(piece))
     }
 
@@ -306,9 +305,7 @@ impl<R: Source + Drop> Wire<R> {
                 return Err(HttpFault::Short);
             }
             let most = size - body.len();
-            if self.take_part(&mut body, most).is_err() {
-                return Err(HttpFault::NoMemory);
-            }
+            self.take_part(&mut body, most)?;
         }
         Ok(Bytes::new(body))
     }
@@ -326,9 +323,7 @@ impl<R: Source + Drop> Wire<R> {
             if self.bytes().len() > most {
                 return Err(HttpFault::BodyTooLarge);
             }
-            if self.take_part(&mut body, most).is_err() {
-                return Err(HttpFault::NoMemory);
-            }
+            self.take_part(&mut body, most)?;
         }
         Ok(Bytes::new(body))
     }

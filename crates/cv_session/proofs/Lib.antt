@@ -6,5 +6,9 @@ mod Payloads
 mod Mades
 mod TurnsDone
 mod Readings
+mod Endings
 mod Sessioning
 mod OneAsked
+mod ReplyTexts
+mod SaidOnce
+mod Writing

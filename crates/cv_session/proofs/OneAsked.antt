@@ -8,6 +8,7 @@ use Rattle.cv_http.specs.declared.fault.HttpFault.{HttpFault}
 use Rattle.cv_http.specs.declared.code.Code.{Code}
 use Rattle.cv_http.proofs.Lemmas.{one_head, not_refused, not_cut, empty_begun, empty_refused, one_refusal, refused_in_target}
 use Rattle.cv_keys.specs.declared.key.Key.{Key}
+use Rattle.cv_gate.specs.Heads.{IsFront}
 use Rattle.cv_session.specs.Asking.{Turned, refusing, IsNext, Opens, EndsWith, clean, closed, refused, cut, IsAsked}
 use Rattle.cv_session.specs.OneAsked.{IsOpen, IsOpenBehind, IsOne}
 use Rattle.cv_session.specs.Exchanges.{ends}
@@ -162,6 +163,53 @@ module _ (repository : List ℕ) (keys : List Key) where
         | inl one ↦ inl (rw (same.0, one.0) refl, one.1, one.2)
         | inr open_ ↦ inr (record { turns_ = t ∷ open_.turns_; rest = open_.rest; opens = (o.0, o.1, o.2, open_.opens); open_ = open_.open_ })
       ]
+
+  -- ---- the turns that bytes ask first
+
+  front_one : (t t' : Turned) (ts ts' : List Turned) → t ≡ t' → IsFront ts ts' → IsFront (t ∷ ts) (t' ∷ ts')
+  front_one t t' ts ts' same front = record { more = front.more; split = ap (λ l. t' ∷ l) front.split ∙ ap (λ (x : Turned). x ∷ (ts ++ front.more)) (sym same) }
+
+  -- of two lists of them one begins the other, and two of one length leave the same bytes
+  pub one_opening : (n : ℕ) (b : List ℕ) (ts ts' : List Turned) (rest rest' : List ℕ) → Opens repository keys n b ts rest → Opens repository keys n b ts' rest' → IsFront ts ts' ⊎ IsFront ts' ts
+  one_opening n b [] ts' rest rest' o o' = inl (record { more = ts'; split = refl })
+  one_opening n b (t ∷ ts) [] rest rest' o o' = inr (record { more = t ∷ ts; split = refl })
+  one_opening n b (t ∷ ts) (t' ∷ ts') rest rest' o o' =
+      let same = next_one (n + 1) b t t' o.0 o'.0 o.1 o'.1 in
+      elim (one_opening (n + 1) o.0 ts ts' rest rest' o.3 (subst (λ (x : List ℕ). Opens repository keys (n + 1) x ts' rest') (sym same.1) o'.3)) [
+        | inl front ↦ inl (front_one t t' ts ts' same.0 front)
+        | inr front ↦ inr (front_one t' t ts' ts (sym same.0) front)
+      ]
+
+  pub one_rest : (n : ℕ) (b : List ℕ) (ts ts' : List Turned) (rest rest' : List ℕ) → Opens repository keys n b ts rest → Opens repository keys n b ts' rest' → length ts ≡ length ts' → rest ≡ rest'
+  one_rest n b [] [] rest rest' o o' size = o ∙ sym o'
+  one_rest n b [] (t' ∷ ts') rest rest' o o' size = absurd (omega (arith, size))
+  one_rest n b (t ∷ ts) [] rest rest' o o' size = absurd (omega (arith, size))
+  one_rest n b (t ∷ ts) (t' ∷ ts') rest rest' o o' size =
+      let same = next_one (n + 1) b t t' o.0 o'.0 o.1 o'.1 in
+      one_rest (n + 1) o.0 ts ts' rest rest' o.3 (subst (λ (x : List ℕ). Opens repository keys (n + 1) x ts' rest') (sym same.1) o'.3) (omega (arith, size))
+
+  -- they begin those by which the bytes end the session
+  fronts : (n : ℕ) (b : List ℕ) (ts first : List Turned) (later rest : List ℕ) (final : List Turned) (line : Bool) (end : SessionEnd) → Opens repository keys n b ts later → Opens repository keys n b first rest
+      → EndsWith repository keys (n + length first) rest final line end → IsFront ts (first ++ final)
+  fronts n b [] first later rest final line end o o' e = record { more = first ++ final; split = refl }
+  fronts n b (t ∷ ts) [] later rest final line end o o' e =
+      let zero_ : n + 0 ≡ n = omega arith in
+      let here : EndsWith repository keys n b final line end = subst (λ k. EndsWith repository keys k b final line end) zero_ (subst (λ (x : List ℕ). EndsWith repository keys (n + 0) x final line end) o' e) in
+      absurd (no_end n b t o.0 final line end o.1 o.2 here)
+  fronts n b (t ∷ ts) (t' ∷ first) later rest final line end o o' e =
+      let same = next_one (n + 1) b t t' o.0 o'.0 o.1 o'.1 in
+      let count : n + length (t' ∷ first) ≡ n + 1 + length first = omega arith in
+      let front = fronts (n + 1) o.0 ts first later rest final line end o.3 (subst (λ (x : List ℕ). Opens repository keys (n + 1) x first rest) (sym same.1) o'.3)
+      (subst (λ k. EndsWith repository keys k rest final line end) count e) in
+      front_one t t' ts (first ++ final) same.0 front
+
+  pub front_of_asked : (b : List ℕ) (ts all : List Turned) (later : List ℕ) (line : Bool) (end : SessionEnd) → Opens repository keys 0 b ts later → IsAsked repository keys b all line end → IsFront ts all
+  front_of_asked b ts all later line end o a =
+      let zero_ : 0 + length a.first ≡ length a.first = omega arith in
+      subst (IsFront ts) (sym a.split)
+      (fronts 0 b ts a.first later a.rest a.final line end o a.opens (subst (λ k. EndsWith repository keys k a.rest a.final line end) (sym zero_) a.ends_))
+
+  -- ---- all that bytes ask
 
   pub one_asking : (b : List ℕ) (ts ts' : List Turned) (line line' : Bool) (end end' : SessionEnd) → IsAsked repository keys b ts line end → IsAsked repository keys b ts' line' end'
       → IsOne ts line end ts' line' end' ⊎ IsOpenBehind repository keys 0 b

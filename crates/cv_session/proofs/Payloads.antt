@@ -11,10 +11,10 @@ use Rattle.sha1.specs.Sha1.{sha1, Holds}
 use Rattle.sha1.specs.declared.Sha1.{Sha1}
 use Rattle.cv_base.specs.declared.object.Object.{Object}
 use Rattle.cv_ports.specs.Streams.{Look}
-use Rattle.cv_http.specs.Wires.{WireView, Reads, Looks, Beside, BodyRead, PieceRead}
+use Rattle.cv_http.specs.Wires.{WireView, Draws, Looks, Beside, BodyRead, PieceRead}
 use Rattle.cv_http.specs.declared.fault.HttpFault.{HttpFault}
 use Rattle.cv_http.specs.declared.fault.HttpFault.TheVariants as http
-use Rattle.cv_http.proofs.Lemmas.{reads_then, reads_none, looks_as, looks_then, body_looks}
+use Rattle.cv_http.proofs.Lemmas.{draws_then, draws_none, draws_reads, looks_as, looks_then, body_looks}
 use Rattle.cv_keys.specs.declared.key.Key.{Key}
 use Rattle.cv_answers.specs.declared.reason.Reason.TheVariants as reason
 use Rattle.cv_answers.specs.declared.refusal.Refusal.{Refusal}
@@ -91,16 +91,16 @@ pieceless P b b' held held' size http.Coding less none = tt
 pieceless P b b' held held' size http.ReadFault less none = less none
 pieceless P b b' held held' size http.NoMemory less none = tt
 
-module _ {R : Type 0} (left : R → Option (List ℕ)) where
-  pub came_none : (w : WireView R) (So : List ℕ → Type 0) → So [] → Reads left w w (λ b. Came 0 So b w.held)
-  came_none w So so = reads_none left w (λ b. Came 0 So b w.held) (record { body = []; split = refl; size = refl; so = so })
+module _ {R : Type 0} (left given : R → Option (List ℕ)) where
+  pub came_none : (w : WireView R) (So : List ℕ → Type 0) → So [] → Draws left given w w (λ b. Came 0 So b w.held)
+  came_none w So so = draws_none left given w (λ b. Came 0 So b w.held) (record { body = []; split = refl; size = refl; so = so })
 
   -- a piece more
-  pub came_on : (w0 w w' : WireView R) (count : ℕ) (piece : List ℕ) (So So' : List ℕ → Type 0) → Reads left w0 w (λ b. Came count So b w.held)
-      → Reads left w w' (λ b. b ≡ piece ++ w'.held) → ((body : List ℕ) → length body ≡ count → So body → So' (body ++ piece))
-      → Reads left w0 w' (λ b. Came (count + length piece) So' b w'.held)
+  pub came_on : (w0 w w' : WireView R) (count : ℕ) (piece : List ℕ) (So So' : List ℕ → Type 0) → Draws left given w0 w (λ b. Came count So b w.held)
+      → Draws left given w w' (λ b. b ≡ piece ++ w'.held) → ((body : List ℕ) → length body ≡ count → So body → So' (body ++ piece))
+      → Draws left given w0 w' (λ b. Came (count + length piece) So' b w'.held)
   came_on w0 w w' count piece So So' came is so =
-      reads_then left w0 w w' (λ b. Came count So b w.held) (λ b. b ≡ piece ++ w'.held) (λ b. Came (count + length piece) So' b w'.held) came is (λ b more was now. record {
+      draws_then left given w0 w w' (λ b. Came count So b w.held) (λ b. b ≡ piece ++ w'.held) (λ b. Came (count + length piece) So' b w'.held) came is (λ b more was now. record {
         body = was.body ++ piece;
         split = ap (λ x. x ++ more) was.split ∙ append_assoc was.body w.held more ∙ ap (λ x. was.body ++ x) now ∙ sym (append_assoc was.body piece w'.held);
         size = length-append was.body piece ∙ ap (λ k. k + length piece) was.size;
@@ -108,10 +108,10 @@ module _ {R : Type 0} (left : R → Option (List ℕ)) where
       })
 
   -- no piece more
-  pub came_short : {A : Type 0} (P : List ℕ → A → Type 0) (w0 w w' : WireView R) (count size : ℕ) (So : List ℕ → Type 0) (fault : HttpFault) → Reads left w0 w (λ b. Came count So b w.held)
-      → Reads left w w' (λ b. PieceRead b w'.held (Err fault)) → count < size → ReadsBody left w0 w' size P (Err fault)
+  pub came_short : {A : Type 0} (P : List ℕ → A → Type 0) (w0 w w' : WireView R) (count size : ℕ) (So : List ℕ → Type 0) (fault : HttpFault) → Draws left given w0 w (λ b. Came count So b w.held)
+      → Draws left given w w' (λ b. PieceRead b w'.held (Err fault)) → count < size → ReadsBody left given w0 w' size P (Err fault)
   came_short P w0 w w' count size So fault came is below =
-      reads_then left w0 w w' (λ b. Came count So b w.held) (λ b. PieceRead b w'.held (Err fault)) (λ b. BodyRead size P b w'.held (Err fault)) came is (λ b more was now.
+      draws_then left given w0 w w' (λ b. Came count So b w.held) (λ b. PieceRead b w'.held (Err fault)) (λ b. BodyRead size P b w'.held (Err fault)) came is (λ b more was now.
       pieceless P (w.held ++ more) (b ++ more) w'.held w'.held size fault (λ none.
       let all : length (b ++ more) ≡ length was.body + length (w.held ++ more) =
       ap length (ap (λ x. x ++ more) was.split ∙ append_assoc was.body w.held more) ∙ length-append was.body (w.held ++ more) in
@@ -119,19 +119,20 @@ module _ {R : Type 0} (left : R → Option (List ℕ)) where
       let count_is = was.size in omega (arith, all, rest, count_is, below)) now)
 
   -- all came
-  pub came_all : {A : Type 0} (P : List ℕ → A → Type 0) (w0 w : WireView R) (count size : ℕ) (So : List ℕ → Type 0) (made : A) → Reads left w0 w (λ b. Came count So b w.held)
-      → count ≡ size → ((body : List ℕ) → So body → P body made) → ReadsBody left w0 w size P (Ok made)
+  pub came_all : {A : Type 0} (P : List ℕ → A → Type 0) (w0 w : WireView R) (count size : ℕ) (So : List ℕ → Type 0) (made : A) → Draws left given w0 w (λ b. Came count So b w.held)
+      → count ≡ size → ((body : List ℕ) → So body → P body made) → ReadsBody left given w0 w size P (Ok made)
   came_all P w0 w count size So made came is makes = record {
     got = came.got;
     told = came.told;
+    gave = came.gave;
     are = (came.are.body, came.are.split, came.are.size ∙ is, makes came.are.body came.are.so);
   }
 
 -- ---- when the source is read
 
-module _ {R : Type 0} (left : R → Option (List ℕ)) (looks : R → Look → Type 0) where
+module _ {R : Type 0} (left given : R → Option (List ℕ)) (looks : R → Look → Type 0) where
   -- one more read began where fewer bytes had come
-  pub came_looks : (w0 w w' : WireView R) (passed : Option (List ℕ)) (count size : ℕ) (So : List ℕ → Type 0) → LooksWithin left looks w0 w passed size → Reads left w0 w (λ b. Came count So b w.held) → count < size
+  pub came_looks : (w0 w w' : WireView R) (passed : Option (List ℕ)) (count size : ℕ) (So : List ℕ → Type 0) → LooksWithin left looks w0 w passed size → Draws left given w0 w (λ b. Came count So b w.held) → count < size
       → Looks left looks w w' (Beside passed (λ b. b ≡ [])) → LooksWithin left looks w0 w' passed size
   came_looks w0 w w' passed count size So first came below then_ =
       let so_many = came.are.size in
@@ -139,10 +140,10 @@ module _ {R : Type 0} (left : R → Option (List ℕ)) (looks : R → Look → T
 
   -- the reads of a message, and those of what follows it
   pub message_looks : (w0 w w' : WireView R) (passed : Option (List ℕ)) (size n : ℕ) (message : List ℕ) → n ≤ size → Looks left looks w0 w (Beside passed (λ b. length b < n))
-      → Reads left w0 w (λ b. BodyRead n (λ body made. made ≡ body) b w.held (Ok message)) → LooksWithin left looks w w' passed (size - n) → LooksWithin left looks w0 w' passed size
+      → Draws left given w0 w (λ b. BodyRead n (λ body made. made ≡ body) b w.held (Ok message)) → LooksWithin left looks w w' passed (size - n) → LooksWithin left looks w0 w' passed size
   message_looks w0 w w' passed size n message within first reads then_ =
       looks_then left looks w0 w w' (λ b. BodyRead n (λ body made. made ≡ body) b w.held (Ok message)) (Beside passed (λ b. length b < size - n)) (Beside passed (λ b. length b < size))
-      (looks_as left looks w0 w (Beside passed (λ b. length b < n)) (Beside passed (λ b. length b < size)) first (λ b passed' was. let below = was.0 in (omega (arith, below, within), was.1))) reads then_ (λ b more passed' was now.
+      (looks_as left looks w0 w (Beside passed (λ b. length b < n)) (Beside passed (λ b. length b < size)) first (λ b passed' was. let below = was.0 in (omega (arith, below, within), was.1))) (draws_reads left given w0 w _ reads) then_ (λ b more passed' was now.
       let all : length (b ++ more) ≡ length was.0 + length (w.held ++ more) = ap length (ap (λ x. x ++ more) was.1 ∙ append_assoc was.0 w.held more) ∙ length-append was.0 (w.held ++ more) in
       let count = was.2 in
       let below = now.0 in
@@ -181,22 +182,24 @@ pub announces_none : (says : Turn) (P : Announced → Type 0) (r : Result Announ
 announces_none says P (Ok a) denial h denies = absurd h
 announces_none says P (Err d) denial h denies = subst (Denies says) (sym h) denies
 
-module _ {R : Type 0} (left : R → Option (List ℕ)) where
+module _ {R : Type 0} (left given : R → Option (List ℕ)) where
   -- what was passed over says the refusal
-  pub turn_denied : (w w' : WireView R) (size : ℕ) (says : List ℕ → Turn) (refusal : Refusal) (P : List ℕ → Unit {0} → Type 0) (made : Unit {0}) → ReadsBody left w w' size P (Ok made)
-      → ((pack : List ℕ) → Denies (says pack) (Refused refusal)) → ReadsBody left w w' size (Says says) (Ok (Deny refusal))
+  pub turn_denied : (w w' : WireView R) (size : ℕ) (says : List ℕ → Turn) (refusal : Refusal) (P : List ℕ → Unit {0} → Type 0) (made : Unit {0}) → ReadsBody left given w w' size P (Ok made)
+      → ((pack : List ℕ) → Denies (says pack) (Refused refusal)) → ReadsBody left given w w' size (Says says) (Ok (Deny refusal))
   turn_denied w w' size says refusal P made p denies = record {
     got = p.got;
     told = p.told;
+    gave = p.gave;
     are = (p.are.0, p.are.1, p.are.2, (sym (denies p.are.0).0, (denies []).1));
   }
 
   -- what was passed over has no message
   pub sizeless : (keys : List Key) (header text : Option (List ℕ)) (w w' : WireView R) (size : ℕ) (P : List ℕ → Unit {0} → Type 0) (made : Unit {0}) → message_size text size ≡ None
-      → ReadsBody left w w' size P (Ok made) → ReadsBody left w w' size (Says (payload_turn keys header text)) (Ok (denied reason.BadMessageSize))
+      → ReadsBody left given w w' size P (Ok made) → ReadsBody left given w w' size (Says (payload_turn keys header text)) (Ok (denied reason.BadMessageSize))
   sizeless keys header text w w' size P made none p = record {
     got = p.got;
     told = p.told;
+    gave = p.gave;
     are = (
       p.are.0,
       p.are.1,
@@ -207,23 +210,25 @@ module _ {R : Type 0} (left : R → Option (List ℕ)) where
 
   -- where fewer bytes were there, nothing was made
   pub not_passed : {A B : Type 0} (P : List ℕ → A → Type 0) (Q : List ℕ → B → Type 0) (w w' : WireView R) (size size' : ℕ) (fault : HttpFault) → size ≤ size'
-      → ReadsBody left w w' size P (Err fault) → ReadsBody left w w' size' Q (Err fault)
+      → ReadsBody left given w w' size P (Err fault) → ReadsBody left given w w' size' Q (Err fault)
   not_passed P Q w w' size size' fault within p = record {
     got = p.got;
     told = p.told;
+    gave = p.gave;
     are = shorter P Q (w.held ++ p.got) (w.held ++ p.got) w'.held w'.held size size' fault (λ less. omega (arith, less, within)) p.are;
   }
 
   -- nothing was read
-  pub no_memory : {A : Type 0} (P : List ℕ → A → Type 0) (w : WireView R) (size : ℕ) → ReadsBody left w w size P (Err http.NoMemory)
-  no_memory P w size = reads_none left w (λ b. BodyRead size P b w.held (Err http.NoMemory)) tt
+  pub no_memory : {A : Type 0} (P : List ℕ → A → Type 0) (w : WireView R) (size : ℕ) → ReadsBody left given w w size P (Err http.NoMemory)
+  no_memory P w size = draws_none left given w (λ b. BodyRead size P b w.held (Err http.NoMemory)) tt
 
   -- what a pack says is what was announced
-  pub turn_announced : (w w' : WireView R) (size : ℕ) (says : List ℕ → Turn) (a : Announced) (r : Result Turn HttpFault) → ReadsBody left w w' size (Says (payload_on a.key a.ask)) r
-      → ((pack : List ℕ) → says pack ≡ payload_on a.key a.ask pack) → ReadsBody left w w' size (Says says) r
+  pub turn_announced : (w w' : WireView R) (size : ℕ) (says : List ℕ → Turn) (a : Announced) (r : Result Turn HttpFault) → ReadsBody left given w w' size (Says (payload_on a.key a.ask)) r
+      → ((pack : List ℕ) → says pack ≡ payload_on a.key a.ask pack) → ReadsBody left given w w' size (Says says) r
   turn_announced w w' size says a (Ok turn) p same = record {
     got = p.got;
     told = p.told;
+    gave = p.gave;
     are = (p.are.0, p.are.1, p.are.2, (p.are.3.0 ∙ sym (same p.are.0), p.are.3.1));
   }
   turn_announced w w' size says a (Err fault) p same = not_passed (Says (payload_on a.key a.ask)) (Says says) w w' size size fault (omega arith) p
@@ -254,12 +259,12 @@ says_payload keys header text size n message pack counted is all =
     ∙ ap (λ p. signed keys header message (payload_by_ask (payload_ask_of message) p)) (drop_message message pack n is)
 
 -- a message was read, and then the rest
-pub payload_read : {R : Type 0} (left : R → Option (List ℕ)) (keys : List Key) (header text : Option (List ℕ)) (w0 w w' : WireView R) (size n : ℕ) (message : List ℕ) (r : Result Turn HttpFault)
-    → message_size text size ≡ Some n → ReadsBody left w0 w n (λ body made. made ≡ body) (Ok message)
-    → ReadsBody left w w' (size - n) (Says (λ pack. signed keys header message (payload_by_ask (payload_ask_of message) pack))) r
-    → ReadsBody left w0 w' size (Says (payload_turn keys header text)) r
-payload_read left keys header text w0 w w' size n message (Ok turn) counted first then_ =
-    reads_then left w0 w w' (λ b. BodyRead n (λ body made. made ≡ body) b w.held (Ok message))
+pub payload_read : {R : Type 0} (left given : R → Option (List ℕ)) (keys : List Key) (header text : Option (List ℕ)) (w0 w w' : WireView R) (size n : ℕ) (message : List ℕ) (r : Result Turn HttpFault)
+    → message_size text size ≡ Some n → ReadsBody left given w0 w n (λ body made. made ≡ body) (Ok message)
+    → ReadsBody left given w w' (size - n) (Says (λ pack. signed keys header message (payload_by_ask (payload_ask_of message) pack))) r
+    → ReadsBody left given w0 w' size (Says (payload_turn keys header text)) r
+payload_read left given keys header text w0 w w' size n message (Ok turn) counted first then_ =
+    draws_then left given w0 w w' (λ b. BodyRead n (λ body made. made ≡ body) b w.held (Ok message))
     (λ b. BodyRead (size - n) (Says (λ pack. signed keys header message (payload_by_ask (payload_ask_of message) pack))) b w'.held (Ok turn))
     (λ b. BodyRead size (Says (payload_turn keys header text)) b w'.held (Ok turn)) first then_ (λ b more was now.
     let within = message_within text size n counted in
@@ -271,8 +276,8 @@ payload_read left keys header text w0 w w' size n message (Ok turn) counted firs
       all,
       (now.3.0 ∙ sym (says_payload keys header text size n message now.0 counted is all), now.3.1),
     ))
-payload_read left keys header text w0 w w' size n message (Err fault) counted first then_ =
-    reads_then left w0 w w' (λ b. BodyRead n (λ body made. made ≡ body) b w.held (Ok message))
+payload_read left given keys header text w0 w w' size n message (Err fault) counted first then_ =
+    draws_then left given w0 w w' (λ b. BodyRead n (λ body made. made ≡ body) b w.held (Ok message))
     (λ b. BodyRead (size - n) (Says (λ pack. signed keys header message (payload_by_ask (payload_ask_of message) pack))) b w'.held (Err fault))
     (λ b. BodyRead size (Says (payload_turn keys header text)) b w'.held (Err fault)) first then_ (λ b more was now.
     let within = message_within text size n counted in

@@ -5,11 +5,11 @@ use Rattle.std.specs.declared.option.Option.TheVariants.{Some, None}
 use Rattle.cv_ports.specs.Streams.{Look, onto}
 use Rattle.cv_http.specs.Faults.{IsBodyFault, IsHeadFault}
 use Rattle.cv_http.specs.Heads.{Begins, IsAwaited}
-use Rattle.cv_http.specs.Wires.{WireView, Reads, Looks, Beside, HeadRead, BodyRead}
+use Rattle.cv_http.specs.Wires.{WireView, Draws, Looks, Beside, HeadRead, BodyRead}
 use Rattle.cv_http.specs.declared.head.RequestHead.{RequestHead}
 use Rattle.cv_http.specs.declared.fault.HttpFault.{HttpFault}
 use Rattle.cv_http.specs.declared.fault.HttpFault.TheVariants.{BadHead, HeadTooLarge, BodyTooLarge, NoLength, Coding, Short, ReadFault, NoMemory}
-use Rattle.cv_http.proofs.Lemmas.{begins_on, reads_as, reads_then, looks_as, looks_then}
+use Rattle.cv_http.proofs.Lemmas.{begins_on, draws_as, draws_then, draws_reads, looks_as, looks_then}
 use Rattle.cv_keys.specs.declared.key.Key.{Key}
 use Rattle.cv_session.specs.Payloads.{is_payload, payload_turn}
 use Rattle.cv_session.specs.PayloadsInner.{ReadsBody, LooksWithin, Says}
@@ -83,57 +83,57 @@ short_body P b held size Coding is read some = absurd is
 short_body P b held size ReadFault is read some = read
 short_body P b held size NoMemory is read some = absurd (some refl)
 
-module _ {R : Type 0} (left : R → Option (List ℕ)) (repository : List ℕ) (keys : List Key) where
+module _ {R : Type 0} (left given : R → Option (List ℕ)) (repository : List ℕ) (keys : List Key) where
   -- the turn of a body
   pub turn_of_payload : (w w' : WireView R) (head : RequestHead) (r : Result Turn HttpFault) → is_payload head ≡ true
-      → ReadsBody left w w' (body_size head) (Says (payload_turn keys head.authorization head.message_size)) r → ReadsBody left w w' (body_size head) (Asks repository keys head) r
-  turn_of_payload w w' head (Ok turn) is read = reads_as left w w' _ _ read (λ b said. (
+      → ReadsBody left given w w' (body_size head) (Says (payload_turn keys head.authorization head.message_size)) r → ReadsBody left given w w' (body_size head) (Asks repository keys head) r
+  turn_of_payload w w' head (Ok turn) is read = draws_as left given w w' _ _ read (λ b said. (
     said.0,
     said.1,
     said.2,
     (subst (WantsAny repository keys head said.0) (sym said.3.0) (payload_wants is), said.3.1),
   ))
-  turn_of_payload w w' head (Err why) is read = reads_as left w w' _ _ read (λ b. same_fault (Says (payload_turn keys head.authorization head.message_size)) (Asks repository keys head) b w'.held (body_size head) why)
+  turn_of_payload w w' head (Err why) is read = draws_as left given w w' _ _ read (λ b. same_fault (Says (payload_turn keys head.authorization head.message_size)) (Asks repository keys head) b w'.held (body_size head) why)
 
   pub turn_of_other : (w w' : WireView R) (head : RequestHead) (body : List ℕ) (turn : Turn) → is_payload head ≡ false
-      → Reads left w w' (λ b. BodyRead (body_size head) (λ text made. made ≡ text) b w'.held (Ok body)) → Wants repository keys head body turn → IsGood turn
-      → ReadsBody left w w' (body_size head) (Asks repository keys head) (Ok turn)
-  turn_of_other w w' head body turn is read wants good = reads_as left w w' _ _ read (λ b said. (
+      → Draws left given w w' (λ b. BodyRead (body_size head) (λ text made. made ≡ text) b w'.held (Ok body)) → Wants repository keys head body turn → IsGood turn
+      → ReadsBody left given w w' (body_size head) (Asks repository keys head) (Ok turn)
+  turn_of_other w w' head body turn is read wants good = draws_as left given w w' _ _ read (λ b said. (
     said.0,
     said.1,
     said.2,
     (other_wants turn is (subst (λ (x : List ℕ). Wants repository keys head x turn) said.3 wants), good),
   ))
 
-  pub no_turn : {A B : Type 0} (P : List ℕ → A → Type 0) (Q : List ℕ → B → Type 0) (w w' : WireView R) (size : ℕ) (r : Result A HttpFault) → ReadsBody left w w' size P r → ReadsBody left w w' size Q (Err NoMemory)
-  no_turn P Q w w' size r read = reads_as left w w' _ _ read (λ b said. tt)
+  pub no_turn : {A B : Type 0} (P : List ℕ → A → Type 0) (Q : List ℕ → B → Type 0) (w w' : WireView R) (size : ℕ) (r : Result A HttpFault) → ReadsBody left given w w' size P r → ReadsBody left given w w' size Q (Err NoMemory)
+  no_turn P Q w w' size r read = draws_as left given w w' _ _ read (λ b said. tt)
 
-  pub fault_of_body : {A B : Type 0} (P : List ℕ → A → Type 0) (Q : List ℕ → B → Type 0) (w w' : WireView R) (size : ℕ) (why : HttpFault) → ReadsBody left w w' size P (Err why) → ReadsBody left w w' size Q (Err why)
-  fault_of_body P Q w w' size why read = reads_as left w w' _ _ read (λ b. same_fault P Q b w'.held size why)
+  pub fault_of_body : {A B : Type 0} (P : List ℕ → A → Type 0) (Q : List ℕ → B → Type 0) (w w' : WireView R) (size : ℕ) (why : HttpFault) → ReadsBody left given w w' size P (Err why) → ReadsBody left given w w' size Q (Err why)
+  fault_of_body P Q w w' size why read = draws_as left given w w' _ _ read (λ b. same_fault P Q b w'.held size why)
 
   -- what was read behind a head
-  pub behind_whole : (w w' : WireView R) (taken taken' : Option (List ℕ)) (head : RequestHead) (turn : Turn) → body_size head ≤ body_limit head → ReadsBody left w w' (body_size head) (Asks repository keys head) (Ok turn)
-      → taken' ≡ onto taken (line_text (waits head)) → Reads left w w' (λ b. GetsBehind repository keys head b w'.held taken taken' (Ok (record { turn = turn; last = head.last })))
-  behind_whole w w' taken taken' head turn limit read took = reads_as left w w' _ _ read (λ b said. behind (record { turn = turn; last = head.last }) said.0 limit said.1 said.2 said.3 refl took)
+  pub behind_whole : (w w' : WireView R) (taken taken' : Option (List ℕ)) (head : RequestHead) (turn : Turn) → body_size head ≤ body_limit head → ReadsBody left given w w' (body_size head) (Asks repository keys head) (Ok turn)
+      → taken' ≡ onto taken (line_text (waits head)) → Draws left given w w' (λ b. GetsBehind repository keys head b w'.held taken taken' (Ok (record { turn = turn; last = head.last })))
+  behind_whole w w' taken taken' head turn limit read took = draws_as left given w w' _ _ read (λ b said. behind (record { turn = turn; last = head.last }) said.0 limit said.1 said.2 said.3 refl took)
 
-  pub behind_fault : (w w' : WireView R) (taken taken' : Option (List ℕ)) (head : RequestHead) (why : HttpFault) → body_size head ≤ body_limit head → IsBodyFault why → ReadsBody left w w' (body_size head) (Asks repository keys head) (Err why)
-      → taken' ≡ onto taken (line_text (waits head)) → Reads left w w' (λ b. GetsBehind repository keys head b w'.held taken taken' (Err (Fault why)))
-  behind_fault w w' taken taken' head why limit is read took = reads_as left w w' _ _ read (λ b said. breaks why limit is (short_body (Asks repository keys head) b w'.held (body_size head) why is said) took)
+  pub behind_fault : (w w' : WireView R) (taken taken' : Option (List ℕ)) (head : RequestHead) (why : HttpFault) → body_size head ≤ body_limit head → IsBodyFault why → ReadsBody left given w w' (body_size head) (Asks repository keys head) (Err why)
+      → taken' ≡ onto taken (line_text (waits head)) → Draws left given w w' (λ b. GetsBehind repository keys head b w'.held taken taken' (Err (Fault why)))
+  behind_fault w w' taken taken' head why limit is read took = draws_as left given w w' _ _ read (λ b said. breaks why limit is (short_body (Asks repository keys head) b w'.held (body_size head) why is said) took)
 
   -- a head was read, and then what follows it
-  pub read_whole : (w0 w w' : WireView R) (taken taken' : Option (List ℕ)) (head : RequestHead) (asked : Asked) → Reads left w0 w (λ b. HeadRead b w.held (Ok (Some head)))
-      → Reads left w w' (λ b. GetsBehind repository keys head b w'.held taken taken' (Ok asked)) → Reads left w0 w' (λ b. Gets repository keys b w'.held taken taken' (Ok (Some asked)))
-  read_whole w0 w w' taken taken' head asked first then_ = reads_then left w0 w w' _ _ _ first then_ (λ b more begins gets. gets_asked (begins_on more begins) gets)
+  pub read_whole : (w0 w w' : WireView R) (taken taken' : Option (List ℕ)) (head : RequestHead) (asked : Asked) → Draws left given w0 w (λ b. HeadRead b w.held (Ok (Some head)))
+      → Draws left given w w' (λ b. GetsBehind repository keys head b w'.held taken taken' (Ok asked)) → Draws left given w0 w' (λ b. Gets repository keys b w'.held taken taken' (Ok (Some asked)))
+  read_whole w0 w w' taken taken' head asked first then_ = draws_then left given w0 w w' _ _ _ first then_ (λ b more begins gets. gets_asked (begins_on more begins) gets)
 
-  pub read_unread : (w0 w w' : WireView R) (taken taken' : Option (List ℕ)) (head : RequestHead) (why : Unread) → Reads left w0 w (λ b. HeadRead b w.held (Ok (Some head)))
-      → Reads left w w' (λ b. GetsBehind repository keys head b w'.held taken taken' (Err why)) → Reads left w0 w' (λ b. Gets repository keys b w'.held taken taken' (Err why))
-  read_unread w0 w w' taken taken' head why first then_ = reads_then left w0 w w' _ _ _ first then_ (λ b more begins gets. gets_unread (begins_on more begins) gets)
+  pub read_unread : (w0 w w' : WireView R) (taken taken' : Option (List ℕ)) (head : RequestHead) (why : Unread) → Draws left given w0 w (λ b. HeadRead b w.held (Ok (Some head)))
+      → Draws left given w w' (λ b. GetsBehind repository keys head b w'.held taken taken' (Err why)) → Draws left given w0 w' (λ b. Gets repository keys b w'.held taken taken' (Err why))
+  read_unread w0 w w' taken taken' head why first then_ = draws_then left given w0 w w' _ _ _ first then_ (λ b more begins gets. gets_unread (begins_on more begins) gets)
 
-  pub read_fault : (w w' : WireView R) (taken : Option (List ℕ)) (why : HttpFault) → IsHeadFault why → Reads left w w' (λ b. HeadRead b w'.held (Err why)) → Reads left w w' (λ b. Gets repository keys b w'.held taken taken (Err (Fault why)))
-  read_fault w w' taken why is read = reads_as left w w' _ _ read (λ b said. head_fault why is said)
+  pub read_fault : (w w' : WireView R) (taken : Option (List ℕ)) (why : HttpFault) → IsHeadFault why → Draws left given w w' (λ b. HeadRead b w'.held (Err why)) → Draws left given w w' (λ b. Gets repository keys b w'.held taken taken (Err (Fault why)))
+  read_fault w w' taken why is read = draws_as left given w w' _ _ read (λ b said. head_fault why is said)
 
-  pub read_end : (w w' : WireView R) (taken : Option (List ℕ)) → Reads left w w' (λ b. HeadRead b w'.held (Ok None)) → Reads left w w' (λ b. Gets repository keys b w'.held taken taken (Ok None))
-  read_end w w' taken read = reads_as left w w' _ _ read (λ b said. ended said.0 said.1 refl)
+  pub read_end : (w w' : WireView R) (taken : Option (List ℕ)) → Draws left given w w' (λ b. HeadRead b w'.held (Ok None)) → Draws left given w w' (λ b. Gets repository keys b w'.held taken taken (Ok None))
+  read_end w w' taken read = draws_as left given w w' _ _ read (λ b said. ended said.0 said.1 refl)
 
 -- ---- when the source is read
 
@@ -150,10 +150,10 @@ module _ {R : Type 0} (left : R → Option (List ℕ)) (looks : R → Look → T
       looks_as left looks w w' (Beside passed (λ b. length b < body_size head)) (IsAskingBehind head taken) first (λ b passed' is. record { limit = limit; short = is.0; said = is.1 ∙ said })
 
   -- for a head, and then for what follows it
-  pub asks_behind : (w0 w w' : WireView R) (taken : Option (List ℕ)) (head : RequestHead) → Looks left looks w0 w (IsAsking taken) → Reads left w0 w (λ b. HeadRead b w.held (Ok (Some head)))
+  pub asks_behind : (given : R → Option (List ℕ)) (w0 w w' : WireView R) (taken : Option (List ℕ)) (head : RequestHead) → Looks left looks w0 w (IsAsking taken) → Draws left given w0 w (λ b. HeadRead b w.held (Ok (Some head)))
       → Looks left looks w w' (IsAskingBehind head taken) → Looks left looks w0 w' (IsAsking taken)
-  asks_behind w0 w w' taken head first reads then_ =
-      looks_then left looks w0 w w' (λ b. HeadRead b w.held (Ok (Some head))) (IsAskingBehind head taken) (IsAsking taken) first reads then_ (λ b more passed' begins is. record {
+  asks_behind given w0 w w' taken head first reads then_ =
+      looks_then left looks w0 w w' (λ b. HeadRead b w.held (Ok (Some head))) (IsAskingBehind head taken) (IsAsking taken) first (draws_reads left given w0 w _ reads) then_ (λ b more passed' begins is. record {
         line = waits head;
         awaits = awaits_body head (w.held ++ more) (begins_on more begins) is.limit is.short;
         said = is.said;

@@ -1,16 +1,15 @@
 -- A session, exchange after exchange.
 use Rattle.std.proofs.Common.{◌≡◌, ◌+◌, ◌++◌, ◌∷◌, ℕ, suc, List, [], length, refl, ap, sym, subst, ◌∙◌, append-nil, append_assoc, arith, true, false, inl, inr, Ok, Err}
-use Rattle.std.specs.Prelude.{Option, Bool, ◌≢◌, ◌⊎◌, ◌||◌, is_some, if◌then◌else◌}
+use Rattle.std.specs.Prelude.{Option, Bool, ◌||◌, is_some}
 use Rattle.std.specs.declared.option.Option.TheVariants.{Some, None}
 use Rattle.std.specs.List.{AllByRecursion}
-use Rattle.std.proofs.lemmas.Bool.Decides.{nat_tests}
 use Rattle.std.proofs.lemmas.List.{length-append, map-append}
 use Rattle.std.proofs.lemmas.Grind.{flat_map-append}
 use Rattle.cv_ports.specs.Streams.{Look, onto, Wrote}
 use Rattle.cv_ports.proofs.Laws.{onto_twice}
 use Rattle.cv_http.specs.Heads.{Begins}
 use Rattle.cv_http.specs.Replies.{continue_line}
-use Rattle.cv_http.specs.Wires.{WireView, Reads, Looks}
+use Rattle.cv_http.specs.Wires.{WireView, Draws, Looks}
 use Rattle.cv_http.specs.declared.fault.HttpFault.{HttpFault}
 use Rattle.cv_http.specs.declared.fault.HttpFault.TheVariants.{BadHead, HeadTooLarge, BodyTooLarge, NoLength, Coding, Short, ReadFault as Unread_, NoMemory as Lacking}
 use Rattle.cv_http.specs.declared.code.Code.{Code}
@@ -19,14 +18,15 @@ use Rattle.cv_keys.specs.declared.key.Key.{Key}
 use Rattle.cv_gate.specs.Desk.{Call}
 use Rattle.cv_session.specs.Asking.{Turned, refusing, IsNext, Opens, clean, closed, cut}
 use Rattle.cv_session.specs.Asking.EndsWith.{refused as asked_refused}
-use Rattle.cv_session.specs.Exchanges.{request_limit, ends, is_full}
+use Rattle.cv_session.specs.Exchanges.{ends, is_full}
 use Rattle.cv_session.specs.ExchangesInner.{IsWhy, IsAsking, Gets, end_after, Handles, EndsBy, fault, whole, front, nothing, answered, unanswered, refused, broken_off, cut_short, not_read, no_memory, not_said}
 use Rattle.cv_session.specs.ExchangesInner.Gets.{whole as read_whole, ended as read_end, unsaid as line_unsaid}
 use Rattle.cv_session.specs.Requests.{Request, IsRequest, IsBad, Reached, waits, line_text, code_of_fault}
 use Rattle.cv_session.specs.Responses.{unsaid, reply_of}
 use Rattle.cv_session.specs.ResponsesInner.{Does}
+use Rattle.cv_session.specs.Said.{IsLegible}
 use Rattle.cv_session.specs.Responses.{refused as refusal}
-use Rattle.cv_session.specs.Sessions.{Exchange, turns, calls_of, is_last, saying, sayings, IsAnswered, Opened, IsLast, Ended, by_bytes, full, unread, broken, broken_line, forgotten, silent, IsUpToDate, ReadsUpToDate, Session}
+use Rattle.cv_session.specs.Sessions.{Exchange, turns, calls_of, is_last, saying, sayings, IsWritten, IsAnswered, Opened, IsLast, Ended, by_bytes, full, unread, broken, broken_line, forgotten, silent, IsUpToDate, ReadsUpToDate, Session}
 use Rattle.cv_session.specs.Sessions.Comes.{request as next_request, fault as next_fault}
 use Rattle.cv_session.specs.Standing.{Standing, Made}
 use Rattle.cv_session.specs.declared.response.Response.{Response}
@@ -35,10 +35,11 @@ use Rattle.cv_session.specs.declared.request.Asked.{Asked}
 use Rattle.cv_session.specs.declared.request.Unread.{Unread}
 use Rattle.cv_session.specs.declared.request.Unread.TheVariants.{Fault, Unsaid}
 use Rattle.cv_session.specs.declared.session_end.SessionEnd.{SessionEnd}
-use Rattle.cv_session.specs.declared.session_end.SessionEnd.TheVariants.{Clean, Closed, Bad, ReadFault, WriteFault, JournalFull, NoMemory}
-use Rattle.cv_session.specs.declared.turn.Turn.{Turn}
+use Rattle.cv_session.specs.declared.session_end.SessionEnd.TheVariants.{Clean, Closed, Bad, WriteFault, NoMemory}
+use Rattle.cv_session.proofs.Endings.{end_of, goes_of, last_of}
 use Rattle.cv_session.proofs.Mades.{HasNone, HasMore, made_none, made_on}
 use Rattle.cv_session.proofs.Readings.{onto_nothing}
+use Rattle.cv_session.proofs.Writing.{code_legible}
 
 -- ---- one exchange more
 
@@ -89,33 +90,13 @@ opened_more {repository} {keys} {b = b} {es} {rest} more o = record { opens = op
 refusing_one : Code → Exchange
 refusing_one code = record { asked = refusing code; calls = []; answer = Fixed code }
 
+code_written : (code : Code) → IsWritten (refusing_one code)
+unfolding refusing_one
+code_written code = code_legible code
+
 -- the answer ends no session
 abbrev IsGoing : Exchange → Type 0
 IsGoing e = is_full e.answer ≡ false
-
--- ---- how a reply ends a session
-
-end_of : (full_ last : Bool) (end : SessionEnd) → Some end ≡ (if full_ then Some JournalFull else if last then Some Closed else None)
-    → ((full_ ≡ true) × (end ≡ JournalFull)) ⊎ ((full_ ≡ false) × (last ≡ true) × (end ≡ Closed))
-end_of true last end is = inl (refl, cc)
-end_of false true end is = inr (refl, refl, cc)
-end_of false false end is = cc
-
-goes_of : (full_ last : Bool) → None ≡ (if full_ then Some JournalFull else if last then Some Closed else None) → (full_ ≡ false) × (last ≡ false)
-goes_of true last is = cc
-goes_of false true is = cc
-goes_of false false is = (refl, refl)
-
-last_of : (full_ last : Bool) → (full_ || last) ≡ is_some (if full_ then Some JournalFull else if last then Some Closed else None)
-last_of true last = refl
-last_of false true = refl
-last_of false false = refl
-
-end_kind : (answer : Response) (last : Bool) (end : SessionEnd) → Some end ≡ end_after answer last → (end ≡ Closed) ⊎ (end ≡ JournalFull)
-end_kind answer last end is = elim (end_of (is_full answer) last end is) [ inl whole_ ↦ inr whole_.1 | inr goes ↦ inl goes.2 ]
-
-not_ended : (answer : Response) (last : Bool) (n : ℕ) → end_after answer (ends last n) ≡ None → n ≢ request_limit
-not_ended answer last n h = grind (arith, nat_tests)
 
 -- ---- the session so far
 
@@ -128,6 +109,7 @@ pub record SoFar {K : Type 0} (does : K → List Call → K → Type 0) (reposit
     (taken' : Option (List ℕ)) (after : Standing K) : Type 0 where
   pub exchanges : List Exchange
   pub answered_ : AllByRecursion (IsAnswered repository keys seal) exchanges
+  pub written_ : AllByRecursion IsWritten exchanges
   pub opened : Opened repository keys seal b exchanges held
   pub number : length exchanges ≡ count
   pub said : taken' ≡ onto taken (sayings exchanges)
@@ -146,6 +128,7 @@ pub begin : {K : Type 0} (does : K → List Call → K → Type 0) → HasNone d
 begin does none repository keys seal Fit fits b o s = record {
   exchanges = [];
   answered_ = tt;
+  written_ = tt;
   opened = record { opens = refl; open_ = tt };
   number = refl;
   said = onto_nothing o;
@@ -171,6 +154,7 @@ module _ {K : Type 0} {does : K → List Call → K → Type 0} {repository : Li
   so_more {b} {held} more s = record {
     exchanges = s.exchanges;
     answered_ = s.answered_;
+    written_ = s.written_;
     opened = opened_more more s.opened;
     number = s.number;
     said = s.said;
@@ -201,18 +185,19 @@ module _ {K : Type 0} {does : K → List Call → K → Type 0} {repository : Li
 
     -- the session ends with these exchanges
     ends_here : {held : List ℕ} {taken'' : Option (List ℕ)} {end : SessionEnd} → Ended repository keys seal b held taken s.exchanges [] taken'' end → Session does repository keys seal Fit b held taken taken'' before after end
-    ends_here ended_ = record { exchanges = s.exchanges; answered = s.answered_; others = []; ended = ended_; made = made_same; reads = s.reads }
+    ends_here ended_ = record { exchanges = s.exchanges; answered = s.answered_; legible = s.written_; others = []; ended = ended_; made = made_same; reads = s.reads }
 
     ends_beside : {held : List ℕ} {taken'' : Option (List ℕ)} {after' : Standing K} {end : SessionEnd} (calls : List Call) → Made does after calls after' → Ended repository keys seal b held taken s.exchanges calls taken'' end
         → Session does repository keys seal Fit b held taken taken'' before after' end
-    ends_beside calls made ended_ = record { exchanges = s.exchanges; answered = s.answered_; others = calls; ended = ended_; made = made_more calls made; reads = s.reads }
+    ends_beside calls made ended_ = record { exchanges = s.exchanges; answered = s.answered_; legible = s.written_; others = calls; ended = ended_; made = made_more calls made; reads = s.reads }
 
     -- the session ends with one exchange more
-    ends_with_one : {held : List ℕ} {taken'' : Option (List ℕ)} {after' : Standing K} {end : SessionEnd} (e : Exchange) → IsAnswered repository keys seal e → Made does after e.calls after'
+    ends_with_one : {held : List ℕ} {taken'' : Option (List ℕ)} {after' : Standing K} {end : SessionEnd} (e : Exchange) → IsAnswered repository keys seal e → IsWritten e → Made does after e.calls after'
         → Ended repository keys seal b held taken (s.exchanges ++ e ∷ []) [] taken'' end → Session does repository keys seal Fit b held taken taken'' before after' end
-    ends_with_one e is made ended_ = record {
+    ends_with_one e is written made ended_ = record {
       exchanges = s.exchanges ++ e ∷ [];
       answered = all_push (IsAnswered repository keys seal) s.exchanges e s.answered_ is;
+      legible = all_push IsWritten s.exchanges e s.written_ written;
       others = [];
       ended = ended_;
       made = made_last e made;
@@ -234,7 +219,7 @@ module _ {K : Type 0} {does : K → List Call → K → Type 0} {repository : Li
       ends_bad : {held : List ℕ} (taken'' : Option (List ℕ)) → taken'' ≡ onto taken' (reply_of (Fixed code) true) → Session does repository keys seal Fit b held taken taken'' before after (Bad why)
       unfolding refusing_one
       ends_bad taken'' took =
-          ends_with_one (refusing_one code) (refusal code) (made_none does none after)
+          ends_with_one (refusing_one code) (refusal code) (code_written code) (made_none does none after)
           (by_bytes false (Bad why) taken''
           (record {
             first = turns s.exchanges;
@@ -331,10 +316,10 @@ module _ {K : Type 0} {does : K → List Call → K → Type 0} {repository : Li
         takes_both taken2 took = took ∙ ap (λ o. onto o (reply_of answer (is_full answer || t.last))) took_line ∙ onto_twice taken' (line_text t.waited) (reply_of answer (is_full answer || t.last))
 
         -- the reply was said
-        pub whole_comes : (end : Option SessionEnd) (taken2 : Option (List ℕ)) → end ≡ end_after answer t.last
+        pub whole_comes : (end : Option SessionEnd) (taken2 : Option (List ℕ)) → end ≡ end_after answer t.last → IsLegible answer
             → taken2 ≡ onto taken1 (reply_of answer (is_some end)) → ComesOut does repository keys seal Fit b held taken before (count + 1) taken2 after' end
         unfolding one last_one
-        whole_comes None taken2 end_is took =
+        whole_comes None taken2 end_is legible took =
             let goes = goes_of (is_full answer) t.last end_is in
             let count = turns_count s.exchanges in
             let at : length s.exchanges + 1 ≡ 0 + length (turns s.exchanges) + 1 = omega (arith, count) in
@@ -343,6 +328,7 @@ module _ {K : Type 0} {does : K → List Call → K → Type 0} {repository : Li
             record {
               exchanges = s.exchanges ++ one ∷ [];
               answered_ = all_push (IsAnswered repository keys seal) s.exchanges one s.answered_ d.answers;
+              written_ = all_push IsWritten s.exchanges one s.written_ legible;
               opened = record {
                 opens =
                     subst (λ (ts : List Turned). Opens repository keys 0 b ts held) (sym (turns_more s.exchanges one))
@@ -354,16 +340,16 @@ module _ {K : Type 0} {does : K → List Call → K → Type 0} {repository : Li
               made = made_one one d.made;
               reads = grows s.exchanges one s.reads;
             }
-        whole_comes (Some end) taken2 end_is took =
+        whole_comes (Some end) taken2 end_is legible took =
             let closes : is_some (end_after answer t.last) ≡ is_last one = sym (last_of (is_full answer) t.last) in
             let said = takes_both taken2 (took ∙ ap (λ l. onto taken1 (reply_of answer l)) (ap is_some end_is ∙ closes)) in
             elim (end_of (is_full answer) t.last end end_is) [
               | inl is ↦
                   subst (λ (x : SessionEnd). Session does repository keys seal Fit b held taken taken2 before after' x) (sym is.1)
-                  (ends_with_one one d.answers d.made (full (last_one t next one refl) taken2 is.0 (said_one one taken2 said)))
+                  (ends_with_one one d.answers legible d.made (full (last_one t next one refl) taken2 is.0 (said_one one taken2 said)))
               | inr is ↦
                   subst (λ (x : SessionEnd). Session does repository keys seal Fit b held taken taken2 before after' x) (sym is.2)
-                  (ends_with_one one d.answers d.made
+                  (ends_with_one one d.answers legible d.made
                   (by_bytes false Closed taken2
                   (record {
                     first = turns s.exchanges;
@@ -390,7 +376,7 @@ module _ {K : Type 0} {does : K → List Call → K → Type 0} {repository : Li
       -- what comes of the request
       pub comes : {end : Option SessionEnd} {taken2 : Option (List ℕ)} → Handles does repository seal t.what t.last taken1 taken2 after after' end
           → ComesOut does repository keys seal Fit b held taken before (count + 1) taken2 after' end
-      comes {taken2 = taken2} (answered answer _ d (whole end end_is took)) = whole_comes answer d end taken2 end_is took
+      comes {taken2 = taken2} (answered answer _ d (whole end end_is legible took)) = whole_comes answer d end taken2 end_is legible took
       comes {taken2 = taken2} (answered answer _ d (front took)) = front_comes answer d taken2 took
       comes (answered answer _ d (nothing same)) = nothing_said (record { calls = d.calls; answers = unsaid answer d.answers; made = d.made }) same
       comes (unanswered d same) = nothing_said d same
@@ -415,18 +401,20 @@ module _ {R : Type 0} (left : R → Option (List ℕ)) (looks : R → Look → T
   up_to_date_none = λ was. looks_none left looks w0 w0 (IsUpToDate repository keys seal taken []) refl
 
   -- what was read for the next request was read where all before it was said
-  pub up_to_date_on : {K : Type 0} {does : K → List Call → K → Type 0} {before after : Standing K} {count : ℕ} {taken' passed' : Option (List ℕ)} (w w' : WireView R)
-      → Reads left w0 w (λ b. SoFar does repository keys seal (ReadsUpToDate repository keys seal left looks w0 w taken passed) b w.held taken before count taken' after)
+  pub up_to_date_on : {K : Type 0} {does : K → List Call → K → Type 0} {before after : Standing K} {count : ℕ} {taken' passed' : Option (List ℕ)} (given : R → Option (List ℕ)) (w w' : WireView R)
+      → Draws left given w0 w (λ b. SoFar does repository keys seal (ReadsUpToDate repository keys seal left looks w0 w taken passed) b w.held taken before count taken' after)
       → (passed ≡ taken → passed' ≡ taken') → (passed' ≡ taken' → Looks left looks w w' (IsAsking taken'))
-      → Reads left w0 w (λ b. SoFar does repository keys seal (ReadsUpToDate repository keys seal left looks w0 w' taken passed) b w.held taken before count taken' after)
-  up_to_date_on {taken' = taken'} w w' so flushed asks =
+      → Draws left given w0 w (λ b. SoFar does repository keys seal (ReadsUpToDate repository keys seal left looks w0 w' taken passed) b w.held taken before count taken' after)
+  up_to_date_on {taken' = taken'} given w w' so flushed asks =
       let s = so.are in
       record {
         got = so.got;
         told = so.told;
+        gave = so.gave;
         are = record {
           exchanges = s.exchanges;
           answered_ = s.answered_;
+          written_ = s.written_;
           opened = s.opened;
           number = s.number;
           said = s.said;
@@ -470,61 +458,3 @@ module _ {K : Type 0} {does : K → List Call → K → Type 0} {repository name
           comes follows grows s (record { what = asked.turn; waited = waits request.head; last = last })
           (record { request = request; is = is; wants = wants; waited = refl; last = last_is ∙ ap (λ l. ends l (count + 1)) asks ∙ ap (λ n. ends request.head.last (n + 1)) (sym s.number) })
           took done
-
--- the answer to a request ends a session by none of the ends of reading
-abbrev is_behind_request : SessionEnd → Bool
-is_behind_request Closed = true
-is_behind_request JournalFull = true
-is_behind_request WriteFault = true
-is_behind_request NoMemory = true
-is_behind_request _ = false
-
-module _ {K : Type 0} {does : K → List Call → K → Type 0} {repository : List ℕ} {seal : List ℕ → List ℕ} {turn : Turn} {last : Bool} {taken taken' : Option (List ℕ)} {before after : Standing K} where
-  behind_request : (end : SessionEnd) → Handles does repository seal turn last taken taken' before after (Some end) → is_behind_request end ≡ true
-  behind_request end (answered answer _ d (whole _ end_is took)) =
-      elim (end_kind answer last end end_is) [ inl closed_ ↦ ap is_behind_request closed_ | inr full_ ↦ ap is_behind_request full_ ]
-  behind_request _ (answered answer _ d (front took)) = refl
-  behind_request _ (answered answer _ d (nothing same)) = refl
-  behind_request _ (unanswered d same) = refl
-
-  pub not_by_reading : {end : SessionEnd} (other : SessionEnd) → is_behind_request other ≡ false → Handles does repository seal turn last taken taken' before after (Some end) → end ≢ other
-  not_by_reading {end} other none handles same =
-      let is = behind_request end handles in let both : is_behind_request other ≡ true = ap is_behind_request (sym same) ∙ is in cc
-
-  -- the next request may still be answered
-  pub goes_below : (asks : Bool) (n : ℕ) → last ≡ ends asks n → Handles does repository seal turn last taken taken' before after None → n ≢ request_limit
-  goes_below asks n is (answered answer _ d (whole _ end_is took)) = not_ended answer asks n (sym (ap (end_after answer) is) ∙ sym end_is)
-
--- ---- how a session ends where no turn was read
-
-pub not_clean : {why : Unread} {taken taken' : Option (List ℕ)} {end : SessionEnd} → EndsBy why taken taken' end → end ≢ Clean
-not_clean (refused other code same has said) is = cc
-not_clean (broken_off other code same has said) is = cc
-not_clean (cut_short same stays) is = cc
-not_clean (not_read same stays) is = cc
-not_clean (no_memory other same stays) is = cc
-not_clean (not_said same stays) is = cc
-
-pub by_short : {why : Unread} {taken taken' : Option (List ℕ)} {end : SessionEnd} → EndsBy why taken taken' end → end ≡ Bad Short → why ≡ Fault Short
-by_short (refused other code same has said) is = let e : other ≡ Short = cc in let none : None ≡ Some code = sym (ap code_of_fault e) ∙ has in cc
-by_short (broken_off other code same has said) is = cc
-by_short (cut_short same stays) is = same
-by_short (not_read same stays) is = cc
-by_short (no_memory other same stays) is = cc
-by_short (not_said same stays) is = cc
-
-pub by_read_fault : {why : Unread} {taken taken' : Option (List ℕ)} {end : SessionEnd} → EndsBy why taken taken' end → end ≡ ReadFault → why ≡ Fault Unread_
-by_read_fault (refused other code same has said) is = cc
-by_read_fault (broken_off other code same has said) is = cc
-by_read_fault (cut_short same stays) is = cc
-by_read_fault (not_read same stays) is = same
-by_read_fault (no_memory other same stays) is = cc
-by_read_fault (not_said same stays) is = cc
-
-pub by_unsaid : {why : Unread} {taken taken' : Option (List ℕ)} {end : SessionEnd} → EndsBy why taken taken' end → why ≡ Unsaid → end ≡ WriteFault
-by_unsaid (refused other code same has said) is = let both : Unsaid ≡ Fault other = sym is ∙ same in cc
-by_unsaid (broken_off other code same has said) is = refl
-by_unsaid (cut_short same stays) is = let both : Unsaid ≡ Fault Short = sym is ∙ same in cc
-by_unsaid (not_read same stays) is = let both : Unsaid ≡ Fault Unread_ = sym is ∙ same in cc
-by_unsaid (no_memory other same stays) is = let both : Unsaid ≡ Fault other = sym is ∙ same in cc
-by_unsaid (not_said same stays) is = refl

@@ -84,9 +84,10 @@ module _ {repository : List ℕ} {seal : List ℕ → List ℕ} (id : ObjectId) 
   pub gives_none : r ≡ Ok None → Answers repository seal (Serve (Object id)) (fetched id r ∷ []) (Some (Fixed NotFound))
   gives_none is = subst (λ (x : Result (Option (List ℕ)) ShelfFault). Answers repository seal (Serve (Object id)) (fetched id x ∷ []) (Some (Fixed NotFound))) (sym is) (absent id)
 
-  pub gives_failed : (fault : ShelfFault) → r ≡ Err fault → fault ≢ NoMemory → Answers repository seal (Serve (Object id)) (fetched id r ∷ []) (Some (Fixed ServerError))
-  gives_failed fault is other =
-      subst (λ (x : Result (Option (List ℕ)) ShelfFault). Answers repository seal (Serve (Object id)) (fetched id x ∷ []) (Some (Fixed ServerError))) (sym is) (failed id fault other)
+  pub gives_failed : (fault : ShelfFault) → r ≡ Err fault → fault ≢ NoMemory → Suits id r → Answers repository seal (Serve (Object id)) (fetched id r ∷ []) (Some (Fixed ServerError))
+  gives_failed fault is other suits =
+      subst (λ (x : Result (Option (List ℕ)) ShelfFault). Answers repository seal (Serve (Object id)) (fetched id x ∷ []) (Some (Fixed ServerError))) (sym is)
+      (failed id fault other (subst (Suits id) is suits))
 
   pub gives_nothing : r ≡ Err NoMemory → Answers repository seal (Serve (Object id)) (fetched id r ∷ []) None
   gives_nothing is = subst (λ (x : Result (Option (List ℕ)) ShelfFault). Answers repository seal (Serve (Object id)) (fetched id x ∷ []) None) (sym is) (unfetched id)

@@ -16,6 +16,7 @@ use Rattle.cv_session.specs.Requests.{Request, IsRequest, IsBad, EndsInside, Rea
 use Rattle.cv_session.specs.RequestsInner.{Asks}
 use Rattle.cv_session.specs.Responses.{reply_of}
 use Rattle.cv_session.specs.ResponsesInner.{Does}
+use Rattle.cv_session.specs.Said.{IsLegible}
 use Rattle.cv_session.specs.declared.response.Response.{Response}
 use Rattle.cv_session.specs.declared.response.Response.TheVariants.{Fixed}
 use Rattle.cv_session.specs.declared.request.Asked.{Asked}
@@ -69,7 +70,7 @@ end_after answer last = if is_full answer then Some JournalFull else if last the
 
 -- what the sink takes of the reply with an answer, and how the session ends with it, if it does
 pub data Sends (answer : Response) (last : Bool) (taken taken' : Option (List ℕ)) : Option SessionEnd → Type 0 where
-  whole : (end : Option SessionEnd) → end ≡ end_after answer last → taken' ≡ onto taken (reply_of answer (is_some end)) → Sends answer last taken taken' end
+  whole : (end : Option SessionEnd) → end ≡ end_after answer last → IsLegible answer → taken' ≡ onto taken (reply_of answer (is_some end)) → Sends answer last taken taken' end
   front : Wrote taken taken' (reply_of answer (is_some (end_after answer last))) → Sends answer last taken taken' (Some WriteFault)
   nothing : taken' ≡ taken → Sends answer last taken taken' (Some NoMemory)
 

@@ -14,4 +14,5 @@ pub mod Exchanges
 pub mod ExchangesInner
 pub mod Asking
 pub mod OneAsked
+pub mod Said
 pub mod Sessions

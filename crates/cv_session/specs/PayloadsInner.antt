@@ -2,7 +2,7 @@
 -- the pack, and the header's length. What only this crate's own functions say.
 use Rattle.std.specs.Prelude.{◌≡◌, ◌++◌, ◌<◌, ℕ, List, Option, Result, Ok, Err, length}
 use Rattle.cv_ports.specs.Streams.{Look}
-use Rattle.cv_http.specs.Wires.{WireView, Reads, Looks, Beside, BodyRead}
+use Rattle.cv_http.specs.Wires.{WireView, Draws, Looks, Beside, BodyRead}
 use Rattle.cv_http.specs.declared.fault.HttpFault.{HttpFault}
 use Rattle.cv_http.specs.declared.fault.HttpFault.TheVariants as http
 use Rattle.cv_answers.specs.declared.reason.Reason.TheVariants as reason
@@ -19,8 +19,8 @@ Says says body turn = (turn ≡ says body) × IsGood turn
 -- ---- inside the reading of a payload
 
 -- a body of so many bytes was read, of which this was made, or not for a fault
-abbrev pub ReadsBody : {R A : Type 0} → (R → Option (List ℕ)) → WireView R → WireView R → ℕ → (List ℕ → A → Type 0) → Result A HttpFault → Type 0
-ReadsBody left wire wire' size Made result = Reads left wire wire' (λ b. BodyRead size Made b wire'.held result)
+abbrev pub ReadsBody : {R A : Type 0} → (R → Option (List ℕ)) → (R → Option (List ℕ)) → WireView R → WireView R → ℕ → (List ℕ → A → Type 0) → Result A HttpFault → Type 0
+ReadsBody left given wire wire' size Made result = Draws left given wire wire' (λ b. BodyRead size Made b wire'.held result)
 
 -- each read of the source began where this was passed on and fewer bytes were there
 abbrev pub LooksWithin : {R : Type 0} → (R → Option (List ℕ)) → (R → Look → Type 0) → WireView R → WireView R → Option (List ℕ) → ℕ → Type 0

@@ -4,6 +4,7 @@ use Rattle.std.specs.declared.option.Option.TheVariants.{Some, None}
 use Rattle.sha1.specs.Sha1.{sha1}
 use Rattle.serde_json.specs.Written.{compact_text}
 use Rattle.cv_base.specs.declared.id.ObjectId.{ObjectId}
+use Rattle.cv_ports.specs.Shelf.{Suits}
 use Rattle.cv_ports.specs.declared.shelf.ShelfFault.{ShelfFault}
 use Rattle.cv_ports.specs.declared.shelf.ShelfFault.TheVariants.{NoMemory as no_memory}
 use Rattle.cv_http.specs.Replies.{reply, text_of}
@@ -52,7 +53,7 @@ pub data Answers (repository : List ℕ) (seal : List ℕ → List ℕ) : Turn �
   newest : (head : Head) → Answers repository seal (turn.Serve Manifest) (told head ∷ []) (Some (Content (manifest_text seal (manifest repository TIME_TO_LIVE head))))
   object : (id : ObjectId) (bytes : List ℕ) → sha1 bytes ≡ id.hash → Answers repository seal (turn.Serve (Object id)) (fetched id (Ok (Some bytes)) ∷ []) (Some (Content bytes))
   absent : (id : ObjectId) → Answers repository seal (turn.Serve (Object id)) (fetched id (Ok None) ∷ []) (Some (Fixed NotFound))
-  failed : (id : ObjectId) (fault : ShelfFault) → fault ≢ no_memory → Answers repository seal (turn.Serve (Object id)) (fetched id (Err fault) ∷ []) (Some (Fixed ServerError))
+  failed : (id : ObjectId) (fault : ShelfFault) → fault ≢ no_memory → Suits id (Err fault) → Answers repository seal (turn.Serve (Object id)) (fetched id (Err fault) ∷ []) (Some (Fixed ServerError))
   repositories : Answers repository seal turn.Repositories [] (Some (Message (repositories_answer repository)))
   leases : (now : ℕ) (lines : List LeaseLine) → Answers repository seal turn.Leases (listed now (Some lines) ∷ []) (Some (Message (leases_answer repository lines)))
   step : (o : Op) (now : ℕ) (r : ReplyData) → Answers repository seal (turn.Step o) (asked o now r ∷ []) (Some (Reply r))

@@ -13,6 +13,7 @@ use Rattle.cv_session.specs.Asking.{Turned, refusing, IsNext, Opens, IsAsked}
 use Rattle.cv_session.specs.Exchanges.{is_full}
 use Rattle.cv_session.specs.Requests.{IsBad, Reached, Awaits, line_text, code_of_fault}
 use Rattle.cv_session.specs.Responses.{Answers, reply_of}
+use Rattle.cv_session.specs.Said.{IsLegible}
 use Rattle.cv_session.specs.Standing.{Standing, Made}
 use Rattle.cv_session.specs.declared.response.Response.{Response}
 use Rattle.cv_session.specs.declared.session_end.SessionEnd.{SessionEnd}
@@ -40,6 +41,10 @@ saying e = line_text e.asked.waited ++ reply_of e.answer (is_last e)
 
 abbrev pub sayings : List Exchange → List ℕ
 sayings = flat_map saying
+
+-- the answer is one as the program writes it
+abbrev pub IsWritten : Exchange → Type 0
+IsWritten e = IsLegible e.answer
 
 module _ (repository : List ℕ) (keys : List Key) (seal : List ℕ → List ℕ) where
   -- the answer is one to what was asked, by what the desk answered
@@ -114,6 +119,7 @@ pub record Session {K : Type 0} (does : K → List Call → K → Type 0) (repos
     (before after : Standing K) (end : SessionEnd) : Type 0 where
   pub exchanges : List Exchange
   pub answered : AllByRecursion (IsAnswered repository keys seal) exchanges
+  pub legible : AllByRecursion IsWritten exchanges
   pub others : List Call
   pub ended : Ended repository keys seal b held taken exchanges others taken' end
   pub made : Made does before (calls_of exchanges ++ others) after

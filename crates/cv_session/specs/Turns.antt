@@ -109,7 +109,7 @@ end_turn keys header text = signed keys header text (λ key. Step (op.Cancel key
 abbrev pub IsUnknown : List ℕ → List ℕ → Type 0
 IsUnknown repository target = (target ≢ repositories_target) × (target ≢ leases_target) × NamesNothing repository target
 
--- what the request with this head and body asks
+-- what the request with this head and body asks, if it is no payload
 pub data Wants (repository : List ℕ) (keys : List Key) (head : RequestHead) (body : List ℕ) : Turn → Type 0 where
   unknown_method : head.method ≡ Other → Wants repository keys head body (Refuse NotImplemented)
   resource : (resource : Resource) → head.method ≡ Get → Names repository head.target resource → Wants repository keys head body (Serve resource)

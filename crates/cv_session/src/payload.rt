@@ -88,7 +88,7 @@ fn pass_over<R: Source<Beside = W> + Drop, W: Sink>(
     size: u64,
     beside: &W,
 ) -> Result<(), HttpFault>
-    ensures reads { ReadsBody R.left wire.old wire.new size (λ body made. Unit {0}) result }
+    ensures reads { ReadsBody R.left R.given wire.old wire.new size (λ body made. Unit {0}) result }
     ensures cut { result ≡ Err Short → WhereTold (R.left wire.new.source) (λ left. left ≡ []) }
     ensures faults { IfErr result IsBodyFault }
     ensures cause { HasCause (R.faults wire.old.source) (R.faults wire.new.source) (result ≡ Err ReadFault) }
@@ -180,7 +180,7 @@ fn read_pack<R: Source<Beside = W> + Drop, W: Sink>(
     beside: &W,
 ) -> Result<Turn, HttpFault>
     requires { is_key_id announced.key ≡ true }
-    ensures reads { ReadsBody R.left wire.old wire.new size (Says (payload_on announced.key announced.ask)) result }
+    ensures reads { ReadsBody R.left R.given wire.old wire.new size (Says (payload_on announced.key announced.ask)) result }
     ensures cut { result ≡ Err Short → WhereTold (R.left wire.new.source) (λ left. left ≡ []) }
     ensures faults { IfErr result IsBodyFault }
     ensures cause { HasCause (R.faults wire.old.source) (R.faults wire.new.source) (result ≡ Err ReadFault) }
@@ -212,7 +212,7 @@ fn pass_denied<R: Source<Beside = W> + Drop, W: Sink>(
     beside: &W,
 ) -> Result<Turn, HttpFault>
     ensures reads { (says : List ℕ → TurnData) → ((pack : List ℕ) → Denies (says pack) denial)
-        → ReadsBody R.left wire.old wire.new size (Says says) result }
+        → ReadsBody R.left R.given wire.old wire.new size (Says says) result }
     ensures cut { result ≡ Err Short → WhereTold (R.left wire.new.source) (λ left. left ≡ []) }
     ensures faults { IfErr result IsBodyFault }
     ensures cause { HasCause (R.faults wire.old.source) (R.faults wire.new.source) (result ≡ Err ReadFault) }
@@ -237,7 +237,7 @@ fn read_rest<R: Source<Beside = W> + Drop, W: Sink>(
 ) -> Result<Turn, HttpFault>
     requires { IfOk announced (λ a. is_key_id a.key ≡ true) }
     ensures reads { (says : List ℕ → TurnData) → ((pack : List ℕ) → MatchResult announced (λ a. says pack ≡ payload_on a.key a.ask pack) (Denies (says pack)))
-        → ReadsBody R.left wire.old wire.new size (Says says) result }
+        → ReadsBody R.left R.given wire.old wire.new size (Says says) result }
     ensures cut { result ≡ Err Short → WhereTold (R.left wire.new.source) (λ left. left ≡ []) }
     ensures faults { IfErr result IsBodyFault }
     ensures cause { HasCause (R.faults wire.old.source) (R.faults wire.new.source) (result ≡ Err ReadFault) }
@@ -266,7 +266,7 @@ pub(crate) fn read_payload<R: Source<Beside = W> + Drop, W: Sink>(
     beside: &W,
 ) -> Result<Turn, HttpFault>
     ensures reads { let says = payload_turn keys.now head.now.authorization head.now.message_size in
-        ReadsBody R.left wire.old wire.new size (Says says) result }
+        ReadsBody R.left R.given wire.old wire.new size (Says says) result }
     ensures cut { result ≡ Err Short → WhereTold (R.left wire.new.source) (λ left. left ≡ []) }
     ensures faults { IfErr result IsBodyFault }
     ensures cause { HasCause (R.faults wire.old.source) (R.faults wire.new.source) (result ≡ Err ReadFault) }

@@ -3,7 +3,7 @@ ghost use Rattle.std.specs.Prelude.{◌≡◌, ◌≢◌, [], None, Ok, Err, IfO
 ghost use Rattle.cv_base.specs.Counts.{HasCause};
 ghost use Rattle.cv_base.specs.Told.{WhereTold};
 ghost use Rattle.cv_ports.specs.Streams.{onto, Wrote};
-ghost use Rattle.cv_http.specs.Wires.{Reads, Looks};
+ghost use Rattle.cv_http.specs.Wires.{Draws, Looks};
 ghost use Rattle.cv_http.specs.Faults.{IsBodyFault};
 ghost use Rattle.cv_http.specs.declared.fault.HttpFault.TheVariants.{Short, ReadFault};
 ghost use Rattle.cv_session.specs.TurnsInner.{IsGood};
@@ -104,7 +104,7 @@ fn read_turn<R: Source<Beside = W> + Drop, W: Sink>(
     head: &RequestHead,
     beside: &W,
 ) -> Result<Turn, HttpFault>
-    ensures reads { ReadsBody R.left wire.old wire.new (body_size head.now) (Asks repository.now keys.now head.now) result }
+    ensures reads { ReadsBody R.left R.given wire.old wire.new (body_size head.now) (Asks repository.now keys.now head.now) result }
     ensures cut { result ≡ Err Short → WhereTold (R.left wire.new.source) (λ left. left ≡ []) }
     ensures faults { IfErr result IsBodyFault }
     ensures cause { HasCause (R.faults wire.old.source) (R.faults wire.new.source) (result ≡ Err ReadFault) }
@@ -114,13 +114,8 @@ fn read_turn<R: Source<Beside = W> + Drop, W: Sink>(
     if is_payload(head) {
         return read_payload(alloc, keys, wire, head, size, beside);
     }
-    match wire.read_body(alloc, size, beside) {
-        Ok(body) => match request_turn(alloc, repository, keys, head, body.as_slice()) {
-            Ok(turn) => Ok(turn),
-            Err(NoMemory) => Err(HttpFault::NoMemory),
-        },
-        Err(fault) => Err(fault),
-    }
+    let body = wire.read_body(alloc, size, beside)?;
+    Ok(request_turn(alloc, repository, keys, head, body.as_slice())?)
 }
 
 /// Reads what the request with this head asks.
@@ -132,7 +127,7 @@ fn read_asked<R: Source<Beside = W> + Drop, W: Sink>(
     sink: &mut W,
     head: &RequestHead,
 ) -> Result<Asked, Unread>
-    ensures gets { Reads R.left wire.old wire.new (λ b.
+    ensures gets { Draws R.left R.given wire.old wire.new (λ b.
         GetsBehind repository.now keys.now head.now b wire.new.held (W.taken sink.old) (W.taken sink.new) result) }
     ensures cut { result ≡ Err (Fault Short) → WhereTold (R.left wire.new.source) (λ left. left ≡ []) }
     ensures reads { HasCause (R.faults wire.old.source) (R.faults wire.new.source) (result ≡ Err (Fault ReadFault)) }
@@ -163,7 +158,7 @@ pub(crate) fn next_asked<R: Source<Beside = W> + Drop, W: Sink>(
     wire: &mut Wire<R>,
     sink: &mut W,
 ) -> Result<Option<Asked>, Unread>
-    ensures gets { Reads R.left wire.old wire.new (λ b.
+    ensures gets { Draws R.left R.given wire.old wire.new (λ b.
         Gets repository.now keys.now b wire.new.held (W.taken sink.old) (W.taken sink.new) result) }
     ensures good { IfOk result (λ found. IfSome found (λ asked. IsGood asked.turn)) }
     ensures nothing_left { result ≡ Ok None → WhereTold (R.left wire.new.source) (λ left. left ≡ []) }

@@ -1,14 +1,17 @@
 //! Answers, and their replies.
-ghost use Rattle.std.specs.Prelude.{◌≡◌, ◌≢◌, Err, OnOk, true};
+ghost use Rattle.std.specs.Prelude.{◌≡◌, ◌≢◌, ◌<◌, ◌^◌, length, Err, OnOk, true};
 ghost use Rattle.cv_base.specs.Counts.{HasCause};
 ghost use Rattle.cv_ports.specs.Streams.{onto, Wrote};
 ghost use Rattle.cv_http.specs.Replies.{reply};
 ghost use Rattle.cv_http.specs.declared.body_kind.BodyKind.TheVariants.{Json};
 ghost use Rattle.cv_http.specs.declared.code.Code.TheVariants.{Success};
 ghost use Rattle.cv_http.specs.declared.reply.SendFault.TheVariants.{WriteFault, NoMemory};
+ghost use Rattle.serde_json.specs.Written.{compact_text};
+ghost use Rattle.cv_answers.specs.Answer.{answer_data};
 ghost use Rattle.cv_answers.specs.AnswerText.{is_answer};
 ghost use Rattle.cv_session.specs.Responses.{message_reply, code_reply, reply_of};
 ghost use Rattle.cv_session.specs.ResponsesInner.{is_writable};
+ghost use Rattle.cv_session.specs.Said.{IsLegible, ReadsBack};
 
 use crate::answering::answer_reply;
 use cv_answers::Answer as MessageData;
@@ -39,23 +42,22 @@ fn write_message<W: Sink>(
     last: bool,
 ) -> Result<(), SendFault>
     requires { is_answer message.now ≡ true }
+    ensures legible { OnOk result ((length (compact_text (answer_data message.now)) < 2 ^ 64) × ReadsBack message.now) }
     ensures whole { OnOk result (W.taken sink.new ≡ onto (W.taken sink.old) (message_reply message.now last)) }
     ensures part { Wrote (W.taken sink.old) (W.taken sink.new) (message_reply message.now last) }
     ensures nothing { result ≡ Err NoMemory → W.taken sink.new ≡ W.taken sink.old }
     ensures flushed { result ≢ Err WriteFault → W.passed sink.old ≡ W.taken sink.old → W.passed sink.new ≡ W.taken sink.new }
     ensures cause { HasCause (W.faults sink.old) (W.faults sink.new) (result ≡ Err WriteFault) }
 {
-    match message.write(alloc) {
-        Ok(text) => write_reply(
-            alloc,
-            sink,
-            Code::Success,
-            BodyKind::Json,
-            last,
-            text.as_slice(),
-        ),
-        Err(_) => Err(SendFault::NoMemory),
-    }
+    let text = message.write(alloc)?;
+    write_reply(
+        alloc,
+        sink,
+        Code::Success,
+        BodyKind::Json,
+        last,
+        text.as_slice(),
+    )
 }
 
 /// Writes the reply with a code alone.
@@ -84,6 +86,7 @@ pub(crate) fn write_answer<W: Sink>(
     last: bool,
 ) -> Result<(), SendFault>
     requires { is_writable answer ≡ true }
+    ensures legible { OnOk result (IsLegible answer) }
     ensures whole { OnOk result (W.taken sink.new ≡ onto (W.taken sink.old) (reply_of answer last)) }
     ensures part { Wrote (W.taken sink.old) (W.taken sink.new) (reply_of answer last) }
     ensures nothing { result ≡ Err NoMemory → W.taken sink.new ≡ W.taken sink.old }

@@ -2,7 +2,7 @@
 ghost use Rattle.std.specs.Prelude.{◌≡◌, ◌≢◌, ◌≤◌, Some, []};
 ghost use Rattle.cv_base.specs.Counts.{HasCause};
 ghost use Rattle.cv_base.specs.Told.{WhereTold};
-ghost use Rattle.cv_http.specs.Wires.{Reads};
+ghost use Rattle.cv_http.specs.Wires.{Draws};
 ghost use Rattle.cv_http.specs.declared.fault.HttpFault.TheVariants.{Short};
 ghost use Rattle.cv_session.specs.ExchangesInner.{EndsBy};
 ghost use Rattle.cv_session.specs.Sessions.{Session, ReadsUpToDate};
@@ -69,7 +69,7 @@ pub fn session<K: Desk, S: Signer, C: Clock, H: Hold, R: Source<Beside = W> + Dr
     wire: &mut Wire<R>,
     sink: &mut W,
 ) -> SessionEnd
-    ensures session { Reads R.left wire.old wire.new (λ b.
+    ensures session { Draws R.left R.given wire.old wire.new (λ b.
         Session K.does (K.named desk.old) keys.now (S.seal_of signer.now)
         (ReadsUpToDate (K.named desk.old) keys.now (S.seal_of signer.now) R.left R.looks wire.old wire.new (W.taken sink.old) (W.passed sink.old))
         b wire.new.held (W.taken sink.old) (W.taken sink.new)

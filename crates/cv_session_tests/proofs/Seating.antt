@@ -1,20 +1,32 @@
 -- A seat of a gate that other seats ask too, for the tests.
-use Rattle.std.proofs.Common.{◌≡◌, ◌<◌, ◌^◌, ◌++◌, ◌∷◌, ℕ, List, [], refl, ap, sym, subst, ◌∙◌, inl, inr, true, false}
+use Rattle.std.proofs.Common.{◌≡◌, ◌<◌, ◌^◌, ◌++◌, ◌∷◌, ℕ, List, [], refl, ap, sym, subst, ◌∙◌, inl, inr, true, false, arith}
 use Rattle.std.specs.Prelude.{Some, None, Err}
 use Rattle.cv_base.specs.declared.id.ObjectId.{ObjectId}
 use Rattle.cv_ports.specs.declared.shelf.ShelfFault.TheVariants.{NoMemory}
 use Rattle.cv_manifest.specs.declared.head.Head.{Head}
 use Rattle.cv_gate.specs.State.{State, aged, certain}
 use Rattle.cv_gate.specs.Step.{Step, Run, Acts, IsOp, HasTypes, IsValid, Records, last_number}
-use Rattle.cv_gate.specs.Heads.{IsFront, heads_since, last_head}
-use Rattle.cv_gate.specs.Desk.{DeskView, asked, listed, fetched, told, made, Learns}
+use Rattle.cv_gate.specs.Heads.{IsFront, head_of, heads_since, last_head}
+use Rattle.cv_gate.specs.Desk.{DeskView, asked, listed, fetched, told, made, Between, Learns}
 use Rattle.cv_gate.specs.declared.entry.Entry.{Entry}
 use Rattle.cv_gate.specs.declared.lease_line.LeaseLine.{LeaseLine}
 use Rattle.cv_gate.specs.declared.op.Op.{Op}
 use Rattle.cv_gate.specs.declared.op.Op.TheVariants as op
 use Rattle.cv_gate.specs.declared.reply.Reply.{Reply}
 use Rattle.cv_gate.proofs.Lemmas.{run_on, front_self}
+use Rattle.cv_swap.specs.Kept.{Revision}
 use Rattle.cv_session_tests.specs.Seats.{own_seat, other_seat, other_op, refusal_of, entry_of, IsSeat, SeatDoes}
+
+-- a gate with one revision, which was asked nothing yet
+abbrev opened : Revision → State
+opened r = record { history = r ∷ []; leases = []; doubt = None; shelf = λ id. None; loose = λ id. false; moment = 0; epoch = 1; next = 1 }
+
+-- by the head of a revision the seat may be seen
+pub a_seat_is_seen : (r : Revision) → (v : DeskView) × IsSeat (head_of r) v
+a_seat_is_seen r = (
+  record { start = opened r; seat = own_seat; alone = false; seen = []; state = opened r; heads = head_of r ∷ [] },
+  record { seat = refl; shared = refl; run = refl; free = refl; certain = refl; room = omega arith; heads = refl; last = refl },
+)
 
 -- an op is refused at a moment where no lease is live, and nothing changes but the moment
 module _ (st : State) (now : ℕ) (below : now < 2 ^ 62) (room : st.next < last_number) (sure : st.doubt ≡ None) (free : st.leases ≡ []) where
@@ -72,10 +84,13 @@ asks head o now r is_op types below is v seen =
 abbrev learned : DeskView → DeskView
 learned v = record v { seen = v.seen ++ []; heads = heads_since v.start v.state }
 
+none_between : (head : Head) (v : DeskView) → IsSeat head v → Between v [] v.state
+none_between head v seen = record { run = run_on v.seen [] v.start v.state v.state seen.run refl; theirs = refl; alone = λ is. absurd (not_alone head v seen is) }
+
 learns : (head : Head) (v : DeskView) → IsSeat head v → Learns v (learned v)
 learns head v seen = record {
   others = [];
-  between = record { run = run_on v.seen [] v.start v.state v.state seen.run refl; theirs = refl; alone = λ is. absurd (not_alone head v seen is) };
+  between = none_between head v seen;
   knows = record { view = refl; heads = subst (λ (heads : List Head). IsFront v.heads heads) seen.heads (front_self v.heads) };
 }
 
@@ -104,13 +119,12 @@ tells head v seen = (
   (
     v,
     record {
-      entries = v.seen;
+      others = [];
       state = v.state;
-      run = seen.run;
+      between = none_between head v seen;
       view = ap (λ (l : List Head). record v { heads = l }) seen.heads;
       heads = front_self v.heads;
       last = seen.last;
-      alone = λ is. refl;
     },
     refl,
   ),

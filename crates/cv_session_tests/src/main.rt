@@ -26,7 +26,7 @@ use told_desk::ToldDesk;
 const KEYS: &[u8] = br#"{"keys":[{"id":"k1","secret":"s1"},{"id":"k2","secret":"s2"}]}"#;
 
 /// The room of a sink.
-const ROOM: &str = "2000";
+const ROOM: &str = "200000";
 
 /// What came of a session, but what was asked of the desk.
 #[derive(Drop)]

@@ -1,13 +1,16 @@
 //! A seat of a gate that others ask too, whose journal has entries of theirs between its own.
-ghost use Rattle.std.specs.Prelude.{◌≡◌};
+ghost use Rattle.std.specs.Prelude.{◌≡◌, IfOk};
+ghost use Rattle.cv_gate.specs.Desk.{DeskView};
 ghost use Rattle.cv_gate.specs.Step.{HasTypes};
 ghost use Rattle.cv_manifest.specs.Manifest.{IsHead};
-ghost use Rattle.cv_session_tests.specs.Seats.{refusal_of};
+ghost use Rattle.cv_session_tests.specs.Seats.{IsSeat, refusal_of};
 
 use cv_base::{Bytes, Name, NoMemory, ObjectId};
 use cv_gate::{Desk, LeaseLine, Op, Reply};
 use cv_manifest::Head;
 use cv_ports::ShelfFault;
+use cv_seal::KeyedHash;
+use cv_swap::first_parts;
 use std::alloc::Global;
 use std::test::Fail;
 
@@ -87,16 +90,15 @@ impl Desk for SeatDesk {
     ghost does_more = { λ a b c calls more first then. seat_more a.head b.head c.head calls more first then };
 }
 
-/// The seat, over a gate with this newest head.
-pub(crate) fn seat(alloc: Global) -> Result<SeatDesk, Fail> {
+/// The seat, over a gate whose newest revision is the first one. It may be seen.
+pub(crate) fn seat(alloc: Global) -> Result<SeatDesk, Fail>
+    ensures { IfOk result (λ desk. (v : DeskView) × IsSeat desk.head v) }
+{
+    let name = Name::read(alloc, "sw.example.org")?.ok_or("no name")?;
+    let signer = KeyedHash::new(String::from_str(alloc, "seal")?);
+    let parts = first_parts(alloc, &name, &signer, 1_700_000_000)?;
     Ok(SeatDesk {
-        name: Name::read(alloc, "sw.example.org")?.ok_or("no name")?,
-        head: Head {
-            revision: 1,
-            root: [0; 20],
-            size: 0,
-            history: [0; 20],
-            time: 0,
-        },
+        name,
+        head: parts.head,
     })
 }

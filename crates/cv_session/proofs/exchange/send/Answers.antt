@@ -7,7 +7,7 @@ use Rattle.cv_session.proofs.exchange.send.Goals as goal
 
 pub returns-in-Ok-clause-sends : goal.returns-in-Ok-clause-sends
 returns-in-Ok-clause-sends g c =
-    whole c.end_after-end.result c.end_after-end.ensures
+    whole c.end_after-end.result c.end_after-end.ensures c.in-Ok.ensures.legible
     (c.in-Ok.ensures.whole ∙ ap (λ last. onto (g.W.Sink.taken c.args.sink.now) (reply_of c.args.answer last)) c.is_some.ensures)
 
 pub returns-in-Err-WriteFault-clause-sends : goal.returns-in-Err-WriteFault-clause-sends

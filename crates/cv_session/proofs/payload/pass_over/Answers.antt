@@ -5,7 +5,7 @@ use Rattle.cv_session.proofs.Payloads.{came_none, came_on, came_short, came_look
 use Rattle.cv_session.proofs.payload.pass_over.Goals as goal
 
 pub pieces-init : goal.pieces-init
-pieces-init g c = record { came = came_none g.R.Source.left _ (λ body. Unit {0}) tt; looks = looks_none g.R.Source.left g.R.Source.looks c.args.wire.now c.args.wire.now _ refl; below = omega arith; reads = omega arith }
+pieces-init g c = record { came = came_none g.R.Source.left g.R.Source.given _ (λ body. Unit {0}) tt; looks = looks_none g.R.Source.left g.R.Source.looks c.args.wire.now c.args.wire.now _ refl; below = omega arith; reads = omega arith }
 
 pub pieces-preserved : goal.pieces-preserved
 pieces-preserved g c =
@@ -16,17 +16,17 @@ pieces-preserved g c =
     let read = c.in_ok-piece.ensures.cause.later in
     record {
       came = rw c.as_slice.ensures
-          (came_on g.R.Source.left _ _ _ c.pieces.count c.in_ok-piece.piece (λ body. Unit {0}) (λ body. Unit {0}) c.pieces.invariant.came c.in_ok-piece.ensures.reads (λ body size so. tt));
-      looks = came_looks g.R.Source.left g.R.Source.looks c.args.wire.now c.pieces.wire c.read_some.new.self _ c.pieces.count c.args.size (λ body. Unit {0}) c.pieces.invariant.looks c.pieces.invariant.came (omega (arith, c.pieces-test.true)) c.in_ok-piece.ensures.looks;
+          (came_on g.R.Source.left g.R.Source.given _ _ _ c.pieces.count c.in_ok-piece.piece (λ body. Unit {0}) (λ body. Unit {0}) c.pieces.invariant.came c.in_ok-piece.ensures.reads (λ body size so. tt));
+      looks = came_looks g.R.Source.left g.R.Source.given g.R.Source.looks c.args.wire.now c.pieces.wire c.read_some.new.self _ c.pieces.count c.args.size (λ body. Unit {0}) c.pieces.invariant.looks c.pieces.invariant.came (omega (arith, c.pieces-test.true)) c.in_ok-piece.ensures.looks;
       below = omega (arith, same, most, below);
       reads = omega (arith, was, read);
     }
 
 pub returns-in_err-piece-clause-reads : goal.returns-in_err-piece-clause-reads
 returns-in_err-piece-clause-reads g c =
-    by_fault c.from_residual.result _ (λ r. ReadsBody g.R.Source.left c.args.wire.now c.read_some.new.self c.args.size (λ body made. Unit {0}) r) c.from_residual.ensures.1
-    (came_short g.R.Source.left {A = Unit {0}} (λ body made. Unit {0}) _ _ _ c.pieces.count c.args.size (λ body. Unit {0}) _ c.pieces.invariant.came c.in_err-piece.ensures.reads (omega (arith, c.pieces-test.true)))
+    by_fault c.from_residual.result _ (λ r. ReadsBody g.R.Source.left g.R.Source.given c.args.wire.now c.read_some.new.self c.args.size (λ body made. Unit {0}) r) c.from_residual.ensures.1
+    (came_short g.R.Source.left g.R.Source.given {A = Unit {0}} (λ body made. Unit {0}) _ _ _ c.pieces.count c.args.size (λ body. Unit {0}) _ c.pieces.invariant.came c.in_err-piece.ensures.reads (omega (arith, c.pieces-test.true)))
 
 pub returns-in_err-piece-clause-looks : goal.returns-in_err-piece-clause-looks
 returns-in_err-piece-clause-looks g c =
-    came_looks g.R.Source.left g.R.Source.looks c.args.wire.now c.pieces.wire c.read_some.new.self _ c.pieces.count c.args.size (λ body. Unit {0}) c.pieces.invariant.looks c.pieces.invariant.came (omega (arith, c.pieces-test.true)) c.in_err-piece.ensures.looks
+    came_looks g.R.Source.left g.R.Source.given g.R.Source.looks c.args.wire.now c.pieces.wire c.read_some.new.self _ c.pieces.count c.args.size (λ body. Unit {0}) c.pieces.invariant.looks c.pieces.invariant.came (omega (arith, c.pieces-test.true)) c.in_err-piece.ensures.looks

@@ -13,11 +13,13 @@ returns-in-Ok-None-clause-does g c = λ seal moments.
 
 pub returns-in-Err-Failed-clause-does : goal.returns-in-Err-Failed-clause-does
 returns-in-Err-Failed-clause-does g c = λ seal moments.
-    at_fetch c.args.id _ c.in-Err-Failed.ensures.does c.in-Err-Failed.ensures.cause (gives_failed c.args.id _ (ap (λ fault. Err fault) c.in-Err-Failed.field-0-is) (λ is. cc))
+    at_fetch c.args.id _ c.in-Err-Failed.ensures.does c.in-Err-Failed.ensures.cause
+    (gives_failed c.args.id _ (ap (λ fault. Err fault) c.in-Err-Failed.field-0-is) (λ is. cc) c.in-Err-Failed.ensures.suits)
 
 pub returns-in-Err-Damaged-clause-does : goal.returns-in-Err-Damaged-clause-does
 returns-in-Err-Damaged-clause-does g c = λ seal moments.
-    at_fetch c.args.id _ c.in-Err-Damaged.ensures.does c.in-Err-Damaged.ensures.cause (gives_failed c.args.id _ (ap (λ fault. Err fault) c.in-Err-Damaged.field-0-is) (λ is. cc))
+    at_fetch c.args.id _ c.in-Err-Damaged.ensures.does c.in-Err-Damaged.ensures.cause
+    (gives_failed c.args.id _ (ap (λ fault. Err fault) c.in-Err-Damaged.field-0-is) (λ is. cc) c.in-Err-Damaged.ensures.suits)
 
 pub returns-in-Err-NoMemory-clause-does : goal.returns-in-Err-NoMemory-clause-does
 returns-in-Err-NoMemory-clause-does g c = λ seal moments.

@@ -1,15 +1,16 @@
 use Rattle.std.proofs.Common.{◌≡◌, ◌∙◌, ◌+◌, refl, ap, Err, arith}
 use Rattle.cv_http.specs.declared.fault.HttpFault.TheVariants.{Short}
-use Rattle.cv_http.proofs.Lemmas.{reads_none, reads_then}
+use Rattle.cv_http.proofs.Lemmas.{draws_none, draws_then}
 use Rattle.cv_session.specs.declared.request.Unread.TheVariants.{Unsaid}
 use Rattle.cv_session.specs.declared.session_end.SessionEnd.TheVariants.{Clean, Bad, ReadFault, WriteFault}
 use Rattle.cv_session.specs.Sessions.{ReadsUpToDate}
-use Rattle.cv_session.proofs.Sessioning.{not_clean, by_short, by_read_fault, by_unsaid, begin, so_more, up_to_date_none, up_to_date_on, up_to_date_grows, clean_end, other_end, answered_one, goes_below, not_by_reading}
+use Rattle.cv_session.proofs.Endings.{not_clean, by_short, by_read_fault, by_unsaid, goes_below, not_by_reading}
+use Rattle.cv_session.proofs.Sessioning.{begin, so_more, up_to_date_none, up_to_date_on, up_to_date_grows, clean_end, other_end, answered_one}
 use Rattle.cv_session.proofs.serving.session.Goals as goal
 
 pub requests-init : goal.requests-init
 requests-init g c = record {
-  so_far = reads_none g.R.Source.left c.args.wire.now _ (begin g.K.Desk.does g.met.K.Desk.does_none (g.K.Desk.named c.args.desk.now) c.args.keys.now (g.S.Signer.seal_of c.args.signer.now)
+  so_far = draws_none g.R.Source.left g.R.Source.given c.args.wire.now _ (begin g.K.Desk.does g.met.K.Desk.does_none (g.K.Desk.named c.args.desk.now) c.args.keys.now (g.S.Signer.seal_of c.args.signer.now)
       (ReadsUpToDate (g.K.Desk.named c.args.desk.now) c.args.keys.now (g.S.Signer.seal_of c.args.signer.now) g.R.Source.left g.R.Source.looks c.args.wire.now c.args.wire.now (g.W.Sink.taken c.args.sink.now) (g.W.Sink.passed c.args.sink.now)) (up_to_date_none g.R.Source.left g.R.Source.looks c.args.wire.now) c.args.wire.now.held (g.W.Sink.taken c.args.sink.now) _);
   below = omega arith;
   named = refl;
@@ -21,17 +22,17 @@ requests-init g c = record {
 
 pub returns-in-Ok-None-clause-session : goal.returns-in-Ok-None-clause-session
 returns-in-Ok-None-clause-session g c =
-    reads_then g.R.Source.left _ _ _ _ _ _ (up_to_date_on g.R.Source.left g.R.Source.looks c.args.wire.now c.requests.wire c.next_asked.new.wire c.requests.invariant.so_far c.requests.invariant.flushed c.next_asked.ensures.looks) (rw c.in-Ok-None.field-0-is at c.in-Ok-None.ensures.gets) (λ b more s gets.
+    draws_then g.R.Source.left g.R.Source.given _ _ _ _ _ _ (up_to_date_on g.R.Source.left g.R.Source.looks c.args.wire.now g.R.Source.given c.requests.wire c.next_asked.new.wire c.requests.invariant.so_far c.requests.invariant.flushed c.next_asked.ensures.looks) (rw c.in-Ok-None.field-0-is at c.in-Ok-None.ensures.gets) (λ b more s gets.
     clean_end g.met.K.Desk.does_none g.met.K.Desk.does_more (up_to_date_grows g.R.Source.left g.R.Source.looks c.args.wire.now c.next_asked.new.wire) (so_more more s) (c.name.ensures ∙ c.requests.invariant.named) gets)
 
 pub returns-in-Err-clause-session : goal.returns-in-Err-clause-session
 returns-in-Err-clause-session g c =
-    reads_then g.R.Source.left _ _ _ _ _ _ (up_to_date_on g.R.Source.left g.R.Source.looks c.args.wire.now c.requests.wire c.next_asked.new.wire c.requests.invariant.so_far c.requests.invariant.flushed c.next_asked.ensures.looks) c.in-Err.ensures.gets (λ b more s gets.
+    draws_then g.R.Source.left g.R.Source.given _ _ _ _ _ _ (up_to_date_on g.R.Source.left g.R.Source.looks c.args.wire.now g.R.Source.given c.requests.wire c.next_asked.new.wire c.requests.invariant.so_far c.requests.invariant.flushed c.next_asked.ensures.looks) c.in-Err.ensures.gets (λ b more s gets.
     other_end g.met.K.Desk.does_none g.met.K.Desk.does_more (up_to_date_grows g.R.Source.left g.R.Source.looks c.args.wire.now c.next_asked.new.wire) (so_more more s) (c.name.ensures ∙ c.requests.invariant.named) gets c.refuse.ensures.ends)
 
 pub returns-in-Some-clause-session : goal.returns-in-Some-clause-session
 returns-in-Some-clause-session g c =
-    reads_then g.R.Source.left _ _ _ _ _ _ (up_to_date_on g.R.Source.left g.R.Source.looks c.args.wire.now c.requests.wire c.next_asked.new.wire c.requests.invariant.so_far c.requests.invariant.flushed c.next_asked.ensures.looks) (rw c.in-Ok-Some.field-0-is at c.in-Ok-Some.ensures.gets) (λ b more s gets.
+    draws_then g.R.Source.left g.R.Source.given _ _ _ _ _ _ (up_to_date_on g.R.Source.left g.R.Source.looks c.args.wire.now g.R.Source.given c.requests.wire c.next_asked.new.wire c.requests.invariant.so_far c.requests.invariant.flushed c.next_asked.ensures.looks) (rw c.in-Ok-Some.field-0-is at c.in-Ok-Some.ensures.gets) (λ b more s gets.
     answered_one g.met.K.Desk.does_none g.met.K.Desk.does_more (up_to_date_grows g.R.Source.left g.R.Source.looks c.args.wire.now c.next_asked.new.wire) (so_more more s) (c.name.ensures ∙ c.requests.invariant.named) c.requests.invariant.named gets c.ends_with-last.ensures c.in-Some.ensures.handles)
 
 pub returns-in-Some-clause-nothing_left : goal.returns-in-Some-clause-nothing_left
@@ -48,7 +49,7 @@ returns-in-Some-clause-reads g c = record {
 
 pub requests-preserved : goal.requests-preserved
 requests-preserved g c = record {
-  so_far = reads_then g.R.Source.left _ _ _ _ _ _ (up_to_date_on g.R.Source.left g.R.Source.looks c.args.wire.now c.requests.wire c.next_asked.new.wire c.requests.invariant.so_far c.requests.invariant.flushed c.next_asked.ensures.looks) (rw c.in-Ok-Some.field-0-is at c.in-Ok-Some.ensures.gets) (λ b more s gets.
+  so_far = draws_then g.R.Source.left g.R.Source.given _ _ _ _ _ _ (up_to_date_on g.R.Source.left g.R.Source.looks c.args.wire.now g.R.Source.given c.requests.wire c.next_asked.new.wire c.requests.invariant.so_far c.requests.invariant.flushed c.next_asked.ensures.looks) (rw c.in-Ok-Some.field-0-is at c.in-Ok-Some.ensures.gets) (λ b more s gets.
       answered_one g.met.K.Desk.does_none g.met.K.Desk.does_more (up_to_date_grows g.R.Source.left g.R.Source.looks c.args.wire.now c.next_asked.new.wire) (so_more more s) (c.name.ensures ∙ c.requests.invariant.named) c.requests.invariant.named gets c.ends_with-last.ensures c.in-None.ensures.handles);
   below = let not = goes_below c.in-Ok-Some.asked.last (c.requests.count + 1) c.ends_with-last.ensures c.in-None.ensures.handles in omega (arith, not);
   named = c.in-None.ensures.named ∙ c.requests.invariant.named;

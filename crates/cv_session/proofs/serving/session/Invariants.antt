@@ -1,5 +1,5 @@
 use Rattle.std.proofs.Common.{◌≡◌, ◌<◌, ◌≤◌, ◌-◌}
-use Rattle.cv_http.specs.Wires.{Reads}
+use Rattle.cv_http.specs.Wires.{Draws}
 use Rattle.cv_session.specs.Sessions.{ReadsUpToDate}
 use Rattle.cv_session.specs.Standing.{standing}
 use Rattle.cv_session.proofs.Sessioning.{SoFar}
@@ -7,7 +7,7 @@ use Rattle.cv_session.proofs.serving.session.Given as goal
 
 abbrev pub invariant-requests : goal.invariant-requests
 invariant-requests g l = record {
-  so_far : Reads g.R.Source.left l.fn.wire l.wire (λ b.
+  so_far : Draws g.R.Source.left g.R.Source.given l.fn.wire l.wire (λ b.
       SoFar g.K.Desk.does (g.K.Desk.named l.fn.desk) l.fn.keys (g.S.Signer.seal_of l.fn.signer)
       (ReadsUpToDate (g.K.Desk.named l.fn.desk) l.fn.keys (g.S.Signer.seal_of l.fn.signer) g.R.Source.left g.R.Source.looks l.fn.wire l.wire (g.W.Sink.taken l.fn.sink) (g.W.Sink.passed l.fn.sink)) b l.wire.held (g.W.Sink.taken l.fn.sink)
       (standing l.fn.desk (g.C.Clock.moments l.fn.clock) (g.K.Desk.faults l.fn.desk)) l.count (g.W.Sink.taken l.sink)

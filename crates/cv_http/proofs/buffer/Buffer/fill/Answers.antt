@@ -2,8 +2,8 @@ use Rattle.std.proofs.Common.{rules, ◌≡◌, [], ap}
 use Rattle.cv_http.proofs.Streams.{gets_same, looks_one}
 use Rattle.cv_http.proofs.buffer.Buffer.fill.Goals as goal
 
-pub returns-then-is_err-clause-gets : goal.returns-then-is_err-clause-gets
-returns-then-is_err-clause-gets g c =
+pub returns-in_err-map_err-clause-gets : goal.returns-in_err-map_err-clause-gets
+returns-in_err-map_err-clause-gets g c =
     let same : c.drop-drain.new.self.0.items ≡ c.args.self.now.held = search (rules, c.drop-drain.ensures.items, c.self.view_is) in
     let source : c.self.inside.source ≡ c.args.self.now.source = search (rules, c.self.view_is) in
     gets_same g.R.Source.left g.R.Source.given c.args.self.now (record { source = c.self.inside.source; held = c.drop-drain.new.self.0.items })

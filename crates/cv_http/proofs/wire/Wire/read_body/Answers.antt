@@ -30,12 +30,13 @@ returns-then-not-branch-clause-draws g c =
 pub returns-then-not-branch-clause-reads : goal.returns-then-not-branch-clause-reads
 returns-then-not-branch-clause-reads g c = draws_reads g.R.Source.left g.R.Source.given c.args.self.now c.has_some.new.self _ (returns-then-not-branch-clause-draws g c)
 
-pub returns-then-is_err-clause-draws : goal.returns-then-is_err-clause-draws
-returns-then-is_err-clause-draws g c =
-    draws_lost g.R.Source.left g.R.Source.given c.args.self.now c.parts.self c.has_some.new.self c.take_part.new.self _ c.parts.invariant.draws c.has_some.ensures.gets c.take_part.ensures.source
+pub returns-in_err-take_part-clause-draws : goal.returns-in_err-take_part-clause-draws
+returns-in_err-take_part-clause-draws g c =
+    by_fault c.from_residual-in_err-take_part.result _ (λ r. Draws g.R.Source.left g.R.Source.given c.args.self.now c.take_part.new.self (λ b. BodyRead c.args.size (λ text body. body ≡ text) b c.take_part.new.self.held r)) c.from_residual-in_err-take_part.ensures.1
+    (draws_lost g.R.Source.left g.R.Source.given c.args.self.now c.parts.self c.has_some.new.self c.take_part.new.self _ c.parts.invariant.draws c.has_some.ensures.gets c.take_part.ensures.source)
 
-pub returns-then-is_err-clause-reads : goal.returns-then-is_err-clause-reads
-returns-then-is_err-clause-reads g c = draws_reads g.R.Source.left g.R.Source.given c.args.self.now c.take_part.new.self _ (returns-then-is_err-clause-draws g c)
+pub returns-in_err-take_part-clause-reads : goal.returns-in_err-take_part-clause-reads
+returns-in_err-take_part-clause-reads g c = draws_reads g.R.Source.left g.R.Source.given c.args.self.now c.take_part.new.self _ (returns-in_err-take_part-clause-draws g c)
 
 pub returns-clause-draws : goal.returns-clause-draws
 returns-clause-draws g c =

@@ -1,5 +1,7 @@
-use Rattle.std.proofs.Common.{rules, ◌≡◌, ◌+◌, ◌-◌, ◌++◌, ◌∙◌, length, length-append, min, ap, refl, arith}
-use Rattle.cv_http.proofs.Streams.{body_on, draws_as, draws_lost, draws_reads, looks_still, body_looks}
+use Rattle.std.proofs.Common.{rules, ◌≡◌, ◌+◌, ◌-◌, ◌++◌, ◌∙◌, length, length-append, min, None, ap, refl, arith}
+use Rattle.cv_http.specs.ReplyTextsInner.{ReplyBodyRead}
+use Rattle.cv_http.specs.Wires.{Draws, HasEnded}
+use Rattle.cv_http.proofs.Streams.{body_on, by_fault, draws_as, draws_lost, draws_reads, looks_still, body_looks}
 use Rattle.cv_http.proofs.wire.Wire.read_rest.Goals as goal
 
 pub returns-then-bytes-most-clause-reads : goal.returns-then-bytes-most-clause-reads
@@ -13,9 +15,10 @@ returns-then-bytes-most-clause-reads g c =
     let within = c.parts.invariant.within in
     omega (arith, size, held, above, within, c.len-most.ensures))
 
-pub returns-then-is_err-clause-reads : goal.returns-then-is_err-clause-reads
-returns-then-is_err-clause-reads g c =
-    draws_lost g.R.Source.left g.R.Source.given c.args.self.now c.parts.self c.has_some.new.self c.take_part.new.self _ c.parts.invariant.draws c.has_some.ensures.gets c.take_part.ensures.source
+pub returns-in_err-take_part-clause-reads : goal.returns-in_err-take_part-clause-reads
+returns-in_err-take_part-clause-reads g c =
+    by_fault c.from_residual-in_err-take_part.result _ (λ r. Draws g.R.Source.left g.R.Source.given c.args.self.now c.take_part.new.self (λ b. ReplyBodyRead (HasEnded (g.R.Source.left c.take_part.new.self.source)) None b c.take_part.new.self.held r)) c.from_residual-in_err-take_part.ensures.1
+    (draws_lost g.R.Source.left g.R.Source.given c.args.self.now c.parts.self c.has_some.new.self c.take_part.new.self _ c.parts.invariant.draws c.has_some.ensures.gets c.take_part.ensures.source)
 
 pub parts-preserved : goal.parts-preserved
 parts-preserved g c =
