@@ -3,14 +3,15 @@ use Rattle.std.specs.Prelude.{◌≡◌, ◌≤◌, ◌++◌, ◌&&◌, ◌||◌
 use Rattle.std.specs.List.{list_all}
 use Rattle.cv_base.specs.Name.{is_name}
 use Rattle.cv_client.specs.declared.url.Url.{Url}
+use Rattle.cv_ports.specs.declared.host_name.TheConstants.{HOST_LIMIT}
 
 -- an ASCII letter or digit, '.' or '-'
 abbrev pub is_host_byte : ℕ → Bool
 is_host_byte c = (nat_le 97 c && nat_le c 122) || (nat_le 65 c && nat_le c 90) || (nat_le 48 c && nat_le c 57) || c == 46 || c == 45
 
--- 1 to 253 such bytes
+-- such bytes, from 1 to as many as a host's name may have
 abbrev pub is_host : List ℕ → Bool
-is_host text = nat_le 1 (length text) && nat_le (length text) 253 && list_all is_host_byte text
+is_host text = nat_le 1 (length text) && nat_le (length text) HOST_LIMIT && list_all is_host_byte text
 
 -- the host, and the port behind a colon where one stands
 abbrev pub authority_text : List ℕ → Option ℕ → List ℕ

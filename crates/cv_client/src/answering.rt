@@ -37,10 +37,8 @@ fn fetch_object<N: Dial>(
     ensures asks { AsksFirst N.came N.looks dial.old dial.new }
     ensures cause { HasCause (N.faults dial.old) (N.faults dial.new) (result ≡ Err LinkLost) }
 {
-    match id.file_name(alloc) {
-        Ok(file) => fetch(alloc, dial, url, file.as_str()),
-        Err(_) => Err(ExchangeFault::NoMemory),
-    }
+    let file = id.file_name(alloc)?;
+    fetch(alloc, dial, url, file.as_str())
 }
 
 /// The bytes as a vector, where there are any.

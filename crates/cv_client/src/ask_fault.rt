@@ -1,8 +1,10 @@
 //! Why a question has no answer.
 ghost use Rattle.std.specs.Prelude.{◌≡◌};
 ghost use Rattle.cv_client.specs.Faults.{lost_by, bad_by, refused_by};
+ghost use Rattle.cv_client.specs.declared.ask_fault.AskFault.TheVariants as faults;
 
 use crate::exchanging::ExchangeFault;
+use cv_base::NoMemory;
 use cv_manifest::ManifestFault;
 use cv_resolver::ClientFault;
 
@@ -19,6 +21,14 @@ pub enum AskFault {
     Refused(ClientFault),
     /// There was no memory.
     NoMemory,
+}
+
+impl From<NoMemory> for AskFault {
+    ghost from_gives = { λ _ fault. fault ≡ faults.NoMemory };
+
+    fn from(_error: NoMemory) -> AskFault {
+        AskFault::NoMemory
+    }
 }
 
 impl AskFault {

@@ -8,8 +8,10 @@ ghost use Rattle.cv_client.specs.Asking.{IsBehind, IsRead};
 ghost use Rattle.cv_client.specs.Exchange.{Converses, Exchanges, IsTold};
 ghost use Rattle.cv_client.specs.FaultsInner.{of_send, of_read};
 ghost use Rattle.cv_client.specs.declared.exchanging.ExchangeFault.TheVariants.{LinkFailed};
+ghost use Rattle.cv_client.specs.declared.exchanging.ExchangeFault.TheVariants as faults;
 
 use crate::url::Url;
+use cv_base::NoMemory;
 use cv_http::{HttpFault, HttpReply, Outgoing, SendFault, Wire, write_request};
 use cv_ports::{Dial, Link, Sink, Source};
 use std::alloc::Global;
@@ -23,6 +25,14 @@ pub enum ExchangeFault {
     BadReply,
     /// There was no memory.
     NoMemory,
+}
+
+impl From<NoMemory> for ExchangeFault {
+    ghost from_gives = { λ _ fault. fault ≡ faults.NoMemory };
+
+    fn from(_error: NoMemory) -> ExchangeFault {
+        ExchangeFault::NoMemory
+    }
 }
 
 impl ExchangeFault {

@@ -72,11 +72,6 @@ pub fn fetch<N: Dial>(
     one_reply();
     reply_or_fault();
     more_behind_a_reply();
-    let Ok(request) = request(alloc, url, file) else {
-        return Err(ExchangeFault::NoMemory);
-    };
-    match exchange(alloc, dial, url, &request) {
-        Ok(reply) => file_in(reply),
-        Err(fault) => Err(fault),
-    }
+    let request = request(alloc, url, file)?;
+    file_in(exchange(alloc, dial, url, &request)?)
 }

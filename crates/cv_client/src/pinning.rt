@@ -65,11 +65,6 @@ pub fn pin<N: Dial, S: Signer>(
         → ServedBy url.now files (N.came dial.old) (N.came dial.new) → (text : List ℕ) (m : TheManifest) → files manifest_name ≡ Some text
         → Says (S.is_seal signer.now) text m → IsPinned m result }
 {
-    match fetch_manifest(alloc, dial, url, signer) {
-        Ok(manifest) => match Resolver::new(alloc, manifest, CATALOGUES) {
-            Ok(resolver) => Ok(resolver),
-            Err(_) => Err(AskFault::NoMemory),
-        },
-        Err(fault) => Err(fault),
-    }
+    let manifest = fetch_manifest(alloc, dial, url, signer)?;
+    Ok(Resolver::new(alloc, manifest, CATALOGUES)?)
 }

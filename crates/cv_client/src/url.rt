@@ -5,10 +5,8 @@ ghost use Rattle.std.specs.Str.Iter.{LacksByte};
 ghost use Rattle.cv_client.specs.Url.{is_host_byte, is_host, IsAuthority, url_text};
 
 use cv_base::{Name, NoMemory, Text, read_decimal};
+use cv_ports::HOST_LIMIT;
 use std::alloc::Global;
-
-/// The most bytes of a host, as of a name of DNS (RFC 1035, section 2.3.4) without its last dot.
-const HOST_LIMIT: usize = 253;
 
 /// The port of HTTP (RFC 9110, section 4.2.1).
 const HTTP_PORT: u16 = 80;
@@ -17,7 +15,7 @@ const HTTP_PORT: u16 = 80;
 /// lower case, the port a decimal from 1 to 65535 without a leading zero, and nothing stands behind the repository's name.
 #[derive(Debug, Drop)]
 pub struct Url {
-    /// The host, as it is dialled: 1 to 253 letters, digits, dots and dashes of ASCII.
+    /// The host, as it is dialled: 1 to `HOST_LIMIT` letters, digits, dots and dashes of ASCII.
     pub host: Text,
     /// The port, 80 where none stands.
     pub port: u16,

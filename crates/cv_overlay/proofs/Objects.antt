@@ -15,11 +15,11 @@ use Rattle.cv_base.specs.ObjectId.{object_id}
 use Rattle.cv_tree.specs.declared.node.FileRef.{FileRef}
 use Rattle.cv_tree.specs.declared.node.Node.{Node}
 use Rattle.cv_tree.specs.declared.node.Node.TheVariants.{Dir, File, Link}
-use Rattle.cv_tree.specs.Tree.{Nodes, single}
+use Rattle.cv_tree.specs.Tree.{Nodes, is_file, single}
 use Rattle.cv_overlay.specs.Whiteout.{is_whiteout}
 use Rattle.cv_overlay.specs.Overlay.{named}
 use Rattle.cv_overlay.specs.Changes.{AreContents, IsFileOf}
-use Rattle.cv_overlay.specs.FoundInner.{has_hash, with_content, kept_content, is_file_node}
+use Rattle.cv_overlay.specs.FoundInner.{has_hash, with_content, kept_content}
 
 -- ---- the files of nodes
 record IsNamed (c : Nodes) (p : Path) (node : Node) : Type 0 where
@@ -116,12 +116,12 @@ plain_added c os q node h free other = record {
   all = λ hash f. elim (split_file c q node hash f) [ inl old ↦ h.all hash old | inr new ↦ absurd (other hash new) ];
 }
 
-not_file : (node : Node) (attr : Attr) (file : FileRef) → is_file_node node ≡ false → node ≡ File attr file → ⊥
+not_file : (node : Node) (attr : Attr) (file : FileRef) → is_file (Some node) ≡ false → node ≡ File attr file → ⊥
 not_file (Dir a) attr file h e = cc
 not_file (File a f) attr file h e = cc
 not_file (Link a t) attr file h e = cc
 
-pub node_added : (c new : Nodes) (os : List Object) (q : Path) (node : Node) → AreContents c os → new ≡ insert c q node → get c q ≡ None → is_file_node node ≡ false → AreContents new os
+pub node_added : (c new : Nodes) (os : List Object) (q : Path) (node : Node) → AreContents c os → new ≡ insert c q node → get c q ≡ None → is_file (Some node) ≡ false → AreContents new os
 node_added c new os q node h is free other = subst (λ (m : Nodes). AreContents m os) (sym is) (plain_added c os q node h free (λ hash n. not_file node n.attr n.file other n.is))
 
 same_id : (o : Object) (hash : List ℕ) (bytes : List ℕ) → o.id ≡ object_id (sha1 bytes) Plain → o.id.hash ≡ hash → o.id ≡ object_id hash Plain

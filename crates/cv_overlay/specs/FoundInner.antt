@@ -1,5 +1,5 @@
 -- What is found of a folder, visit by visit.
-use Rattle.std.specs.Prelude.{◌≡◌, ◌⊎◌, IsSome, ℕ, ◌+◌, Bool, true, false, List, [], ◌∷◌, ◌++◌, length, Option, Some, None, Result, Ok, Err, bytes_eq, if◌then◌else◌}
+use Rattle.std.specs.Prelude.{◌≡◌, ◌⊎◌, IsSome, ℕ, ◌+◌, Bool, List, [], ◌∷◌, ◌++◌, length, Option, Some, None, Result, Ok, Err, bytes_eq, if◌then◌else◌}
 use Rattle.std.specs.List.{list_any}
 use Rattle.std.specs.FinMap.{insert, get}
 use Rattle.sha1.specs.Sha1.{sha1}
@@ -38,11 +38,6 @@ with_content objects content =
 -- the same, unless the file is a whiteout
 abbrev pub kept_content : List Object → Path → List ℕ → List Object
 kept_content objects q content = if is_whiteout (last_name_of q) then objects else with_content objects content
-
-abbrev pub is_file_node : Node → Bool
-is_file_node (Dir attr) = false
-is_file_node (File attr file) = true
-is_file_node (Link attr target) = false
 
 abbrev pub with_node : FoundView → Path → Node → FoundView
 with_node s q node = record s { nodes = insert s.nodes q node }

@@ -1,12 +1,11 @@
 -- The names by which a folder of changes removes entries, and those that are bad.
-use Rattle.std.specs.Prelude.{◌≡◌, ◌≢◌, ◌==◌, ℕ, Bool, true, false, not, ◌||◌, ◌&&◌, List, [], ◌∷◌, ◌++◌, Option, Some, None, is_some, drop, codes, bytes_eq}
+use Rattle.std.specs.Prelude.{◌≡◌, ◌≢◌, ◌==◌, ℕ, Bool, true, not, ◌||◌, ◌&&◌, List, [], ◌∷◌, ◌++◌, Option, is_some, drop, codes, bytes_eq}
 use Rattle.std.specs.declared.cmp.Ordering.TheVariants.{Greater}
 use Rattle.std.specs.List.{starts_with}
 use Rattle.std.specs.FinMap.{get}
 use Rattle.cv_base.specs.Path.{Path, parent, last_name_of, text_of, name_cmp, is_dots}
 use Rattle.cv_tree.specs.declared.node.Node.{Node}
-use Rattle.cv_tree.specs.declared.node.Node.TheVariants.{Dir, File, Link}
-use Rattle.cv_tree.specs.Tree.{Nodes}
+use Rattle.cv_tree.specs.Tree.{Nodes, is_file}
 
 -- what the names of whiteouts begin with
 abbrev pub whiteout : List ℕ
@@ -27,12 +26,6 @@ removed name = drop 4 name
 abbrev pub is_no_name : List ℕ → Bool
 is_no_name [] = true
 is_no_name (a ∷ name) = is_dots (a ∷ name)
-
-abbrev pub is_file : Option Node → Bool
-is_file None = false
-is_file (Some (Dir attr)) = false
-is_file (Some (File attr file)) = true
-is_file (Some (Link attr target)) = false
 
 -- a whiteout that is no regular file, or that removes no name, or one that stands beside it
 abbrev pub is_bad : Nodes → Path → List ℕ → Option Node → Bool

@@ -1,8 +1,11 @@
 //! Contents of files, each once.
 ghost use Rattle.std.specs.Prelude.{◌≡◌, [], IfOk};
+ghost use Rattle.sha1.specs.Sha1.{sha1};
+ghost use Rattle.cv_base.specs.ObjectId.{object_id};
+ghost use Rattle.cv_base.specs.declared.id.Kind.TheVariants.{Plain};
 ghost use Rattle.cv_overlay.specs.FoundInner.{with_content};
 
-use cv_base::{Bytes, Items, Kind, NoMemory, Object, ObjectId};
+use cv_base::{Items, NoMemory, Object};
 use std::alloc::Global;
 use std::collections::BTreeSet;
 use std::marker::Model;
@@ -16,9 +19,8 @@ pub(crate) struct Contents {
 
 impl Model for Contents {
     ghost use Rattle.std.specs.Prelude.{◌≡◌, List, ℕ};
-    ghost use Rattle.std.specs.Ordering.{nat_cmp};
-    ghost use Rattle.std.specs.Cmp.Lexicographic.{slice_cmp};
     ghost use Rattle.std.specs.BTreeSet.{contains};
+    ghost use Rattle.cv_base.specs.BytesOrder.{bytes_cmp};
     ghost use Rattle.cv_base.specs.declared.object.Object.{Object};
     ghost use Rattle.cv_overlay.specs.FoundInner.{has_hash};
 
@@ -26,7 +28,7 @@ impl Model for Contents {
 
     ghost view = { λ c. c.objects.items };
 
-    ghost invariant = { λ c. (hash : List ℕ) → contains (slice_cmp nat_cmp) c.known hash ≡ has_hash c.objects.items hash };
+    ghost invariant = { λ c. (hash : List ℕ) → contains bytes_cmp c.known hash ≡ has_hash c.objects.items hash };
 }
 
 impl Contents {
@@ -40,19 +42,19 @@ impl Contents {
         }
     }
 
-    /// One content more, unless one of its hash is there.
-    #[tactic(auto, using(crate::proofs::Kept::known_more, crate::proofs::Kept::content_more, crate::proofs::Kept::content_same))]
-    pub(crate) fn with(self, bytes: Bytes) -> Result<Contents, NoMemory>
-        ensures { IfOk result (λ made. made ≡ with_content self bytes) }
+    /// One content more, of which the id is given, unless one of its hash is there.
+    #[tactic(auto, using(crate::proofs::Kept::known_more, crate::proofs::Kept::content_same))]
+    pub(crate) fn with(self, object: Object) -> Result<Contents, NoMemory>
+        requires { object.id ≡ object_id (sha1 object.bytes) Plain }
+        ensures { IfOk result (λ made. made ≡ with_content self object.bytes) }
     {
-        let id = ObjectId::of(Kind::Plain, bytes.as_slice());
         let Contents { objects, known } = self;
         let mut objects = objects;
         let mut known = known;
-        if !known.insert(id.hash)? {
+        if !known.insert(object.id.hash)? {
             return Ok(Contents { objects, known });
         }
-        objects.push(Object { id, bytes })?;
+        objects.push(object)?;
         Ok(Contents { objects, known })
     }
 

@@ -1,20 +1,23 @@
 //! What is found of a folder.
-ghost use Rattle.std.specs.Prelude.{◌≡◌, ◌≤◌, ◌+◌, [], false, length, IfOk, None};
+ghost use Rattle.std.specs.Prelude.{◌≡◌, ◌≤◌, ◌+◌, [], false, length, IfOk, None, Some};
 ghost use Rattle.std.specs.FinMap as map;
 ghost use Rattle.cv_base.specs.declared.limits.TheConstants.{OBJECT_LIMIT};
+ghost use Rattle.sha1.specs.Sha1.{sha1};
 ghost use Rattle.cv_base.specs.Attr.{IsAttr};
+ghost use Rattle.cv_base.specs.ObjectId.{object_id};
+ghost use Rattle.cv_base.specs.declared.id.Kind.TheVariants.{Plain};
 ghost use Rattle.cv_tree.specs.Node.{IsNode};
-ghost use Rattle.cv_tree.specs.Tree.{single};
+ghost use Rattle.cv_tree.specs.Tree.{is_file, single};
 ghost use Rattle.cv_tree.specs.declared.node.Node.TheVariants.{Dir};
 ghost use Rattle.cv_overlay.specs.Changes.{AreContents};
 ghost use Rattle.cv_overlay.specs.Walk.{root_attr};
 ghost use Rattle.cv_overlay.specs.declared.bounds.TheConstants.{SUM_LIMIT};
-ghost use Rattle.cv_overlay.specs.FoundInner.{is_file_node, with_node, with_file, kept_content};
+ghost use Rattle.cv_overlay.specs.FoundInner.{with_node, with_file, kept_content};
 
 use crate::changes::Changes;
 use crate::contents::Contents;
 use crate::whiteout::is_whiteout;
-use cv_base::{Attr, Bytes, Kind, NoMemory, ObjectId, RepoPath};
+use cv_base::{Attr, Bytes, Kind, NoMemory, Object, ObjectId, RepoPath};
 use cv_tree::{FileRef, Node, Tree};
 use std::alloc::Global;
 use std::marker::Model;
@@ -93,7 +96,7 @@ impl Found {
     /// One directory or link more.
     pub(crate) fn with_node(self, path: &RepoPath, node: Node) -> Result<Found, NoMemory>
         requires limits { IsNode node }
-        requires other { is_file_node node ≡ false }
+        requires other { is_file (Some node) ≡ false }
         ensures { IfOk result (λ made. made ≡ with_node self path.now node) }
     {
         let Found {
@@ -127,11 +130,12 @@ impl Found {
             contents,
             sum,
         } = self;
-        let hash = ObjectId::of(Kind::Plain, bytes.as_slice()).hash;
+        let id = ObjectId::of(Kind::Plain, bytes.as_slice());
         let size = bytes.as_slice().len() as u64;
+        let hash = id.hash;
         let content = FileRef { hash, size };
         let tree = inserted(tree, path, Node::File(attr, content))?;
-        let contents = with_content(contents, path, bytes)?;
+        let contents = with_content(contents, path, Object { id, bytes })?;
         Ok(Found {
             tree,
             contents,
@@ -154,11 +158,12 @@ impl Found {
 }
 
 /// The contents with that of one file more, unless it is a whiteout.
-fn with_content(contents: Contents, path: &RepoPath, bytes: Bytes) -> Result<Contents, NoMemory>
-    ensures { IfOk result (λ made. made ≡ kept_content contents path.now bytes) }
+fn with_content(contents: Contents, path: &RepoPath, object: Object) -> Result<Contents, NoMemory>
+    requires { object.id ≡ object_id (sha1 object.bytes) Plain }
+    ensures { IfOk result (λ made. made ≡ kept_content contents path.now object.bytes) }
 {
     if is_whiteout(path.last_name()) {
         return Ok(contents);
     }
-    contents.with(bytes)
+    contents.with(object)
 }

@@ -1,11 +1,11 @@
 //! The names of whiteouts.
 ghost use Rattle.std.specs.Prelude.{◌≡◌, ◌++◌, ◌∷◌, [], true, false, Some, None, IfOk, MatchOption, string_bytes};
-ghost use Rattle.cv_overlay.specs.Whiteout.{whiteout, opaque, is_whiteout, removed, is_no_name, is_file, is_bad, is_bad_at};
+ghost use Rattle.cv_overlay.specs.Whiteout.{whiteout, opaque, is_whiteout, removed, is_no_name, is_bad, is_bad_at};
 ghost use Rattle.cv_overlay.specs.LeastInner.{lesser, least_from, IsLeast};
 ghost use Rattle.std.specs.Option.{option_copied};
 ghost use Rattle.std.specs.FinMap as map;
 ghost use Rattle.cv_base.specs.Path.{parent, last_name_of};
-ghost use Rattle.cv_tree.specs.Tree.{IsTree};
+ghost use Rattle.cv_tree.specs.Tree.{IsTree, is_file};
 
 use crate::hidden::child;
 use cv_base::{NoMemory, RepoPath, cmp_texts};

@@ -5,8 +5,7 @@ use Rattle.std.specs.declared.cmp.Ordering.TheVariants.{Less}
 use Rattle.std.specs.declared.alloc.Global.{Global}
 use Rattle.std.specs.List.{AllByRecursion}
 use Rattle.std.specs.List.Sorted.{IsStrictlySortedBy}
-use Rattle.std.specs.Ordering.{is_eq, nat_cmp}
-use Rattle.std.specs.Cmp.Lexicographic.{slice_cmp}
+use Rattle.std.specs.Ordering.{is_eq}
 use Rattle.std.specs.BTreeMap.{BTreeMap, IsOrdered, get_by_text, values}
 use Rattle.std.specs.Map.{keys_of, values_of, update}
 use Rattle.std.specs.String.{string_bytes, string_cmp, string_cmp_total}
@@ -18,6 +17,7 @@ use Rattle.std.proofs.lemmas.Map.Keys.{Less-from_sorted}
 use Rattle.std.proofs.lemmas.Map.Text.{is_eq-slice_cmp}
 use Rattle.std.proofs.lemmas.Option.{slice_get-map, slice_get-get_or, slice_get_within, slice_get_cases, get_or_from_slice_get}
 use Rattle.std.proofs.lemmas.Slice.Eq.{bytes_eq-Decides}
+use Rattle.cv_base.specs.BytesOrder.{bytes_cmp}
 use Rattle.cv_base.specs.Path.{name_cmp}
 use Rattle.cv_base.specs.ObjectId.{id_text}
 use Rattle.cv_base.specs.declared.id.ObjectId.{ObjectId}
@@ -164,7 +164,7 @@ each_text all m finds o has =
     let at_k : slice_get all has.0 ≡ Some o = slice_get-get_or all has.0 o has.1 ∙ ap (λ (x : Object). Some x) has.2 in
     let text_k : slice_get (id_texts all) has.0 ≡ Some (text_of_id o) = slice_get-map text_of_id all has.0 ∙ ap (option_map text_of_id) at_k in
     let v = is_the_option (get_by_text m (text_of_id o)) (finds.known (text_of_id o) has.0 (slice_get_within (id_texts all) has.0 (text_of_id o) text_k) text_k) in
-    let place = place_from_lookup (λ (k : String Global). is_eq (slice_cmp nat_cmp (text_of_id o) (string_bytes k))) m.entries v.0 v.1 in
+    let place = place_from_lookup (λ (k : String Global). is_eq (bytes_cmp (text_of_id o) (string_bytes k))) m.entries v.0 v.1 in
     let same : text_of_id o ≡ string_bytes place.1 =
     (bytes_eq-Decides (text_of_id o) (string_bytes place.1)).0 (sym (is_eq-slice_cmp (text_of_id o) (string_bytes place.1)) ∙ place.3) in
     text_contains (map text_at m.entries) place.0 (text_of_id o)
@@ -208,8 +208,8 @@ there_of (Err e) items all m n are whole ordered finds = tt
 
 not_below_itself : (t : List ℕ) → name_cmp t t ≡ Less → ⊥
 not_below_itself t less =
-    let equal : is_eq (slice_cmp nat_cmp t t) ≡ true = is_eq-slice_cmp t t ∙ (bytes_eq-Decides t t).1 refl in
-    let wrong : is_eq (slice_cmp nat_cmp t t) ≡ false = ap is_eq less in
+    let equal : is_eq (bytes_cmp t t) ≡ true = is_eq-slice_cmp t t ∙ (bytes_eq-Decides t t).1 refl in
+    let wrong : is_eq (bytes_cmp t t) ≡ false = ap is_eq less in
     absurd cc
 
 id_at : (os : List Object) (i : ℕ) (a : Object) (d : ObjectId) → i < length os → get_or (ids os) i d ≡ (get_or os i a).id

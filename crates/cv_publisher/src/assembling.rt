@@ -105,10 +105,7 @@ fn placed(
         kind: Kind::Catalogue,
     };
     match place(alloc, &mut shelf, &root, &plan.path, Some(part)) {
-        Ok(grafted) => match delivered(alloc, plan, grafted, &mut shelf) {
-            Ok(delivery) => Ok(delivery),
-            Err(NoMemory) => Err(PublishFault::NoMemory),
-        },
+        Ok(grafted) => Ok(delivered(alloc, plan, grafted, &mut shelf)?),
         Err(GraftFault::PathCollision { first, second }) => {
             Err(PublishFault::PathCollision { first, second })
         }

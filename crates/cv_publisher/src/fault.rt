@@ -2,6 +2,7 @@
 ghost use Rattle.std.specs.Prelude.{◌≡◌, IfOk};
 ghost use Rattle.cv_publisher.specs.Faults.{of_checkout, of_manifest};
 ghost use Rattle.cv_publisher.specs.FaultsInner.{of_overlay};
+ghost use Rattle.cv_publisher.specs.declared.fault.PublishFault.TheVariants as faults;
 
 use crate::copying::copy_answer;
 use cv_answers::Answer;
@@ -47,6 +48,14 @@ pub enum PublishFault {
     NoParent,
     /// There was no memory.
     NoMemory,
+}
+
+impl From<NoMemory> for PublishFault {
+    ghost from_gives = { λ _ fault. fault ≡ faults.NoMemory };
+
+    fn from(_error: NoMemory) -> PublishFault {
+        PublishFault::NoMemory
+    }
 }
 
 impl PublishFault {

@@ -21,12 +21,13 @@ use Rattle.std.proofs.lemmas.List.Kept.{IsStrictlySortedBy-filter}
 use Rattle.std.proofs.lemmas.List.Sorted.{Contains-permutation, IsPermutation-map, IsPermutation-sym}
 use Rattle.std.proofs.lemmas.Map.Keys as by_keys
 use Rattle.std.proofs.lemmas.Map.Keys.{IsDistinct-from_apart, IsDistinct-IsPermutation, Less-from_sorted, sorted_from_all_adjacent}
+use Rattle.cv_base.specs.BytesOrder.{bytes_cmp}
 use Rattle.cv_base.specs.Path.{Path, key_of, last_name_of, name_cmp, path_cmp, same_name, same_path}
 use Rattle.cv_base.specs.PathOrder.{path_total, same_name_is, same_path_is}
 use Rattle.cv_tree.specs.Tree.{Nodes, IsTree, at}
 use Rattle.cv_tree.specs.declared.node.Node.{Node}
 use Rattle.cv_tree.proofs.Laws.{get-at}
-use Rattle.cv_rows.specs.Catalogue.{Contents, IsCatalogue, row_cmp, bytes_cmp, FitsAt}
+use Rattle.cv_rows.specs.Catalogue.{Contents, IsCatalogue, row_cmp, FitsAt}
 use Rattle.cv_rows.specs.Listing.{IsListing}
 use Rattle.cv_rows.specs.Places.{IsRoot, StandsAt, root, below}
 use Rattle.cv_rows.specs.declared.row.Row.{Row}

@@ -5,8 +5,9 @@ ghost use Rattle.cv_http.specs.Wires.{Draws, Looks, Beside, HasEnded, Gets};
 ghost use Rattle.cv_shell.specs.Lines.{IsLine, LineRead, filling};
 ghost use Rattle.cv_shell.specs.LinesInner.{LineFound, IsPieceFault};
 ghost use Rattle.cv_shell.specs.declared.lines.LineFault.TheVariants.{ReadFault};
+ghost use Rattle.cv_shell.specs.declared.lines.LineFault.TheVariants as faults;
 
-use cv_base::{Bytes, newline_at};
+use cv_base::{Bytes, NoMemory, newline_at};
 use cv_http::{Buffer, FillFault};
 use cv_ports::Source;
 use std::alloc::Global;
@@ -34,6 +35,14 @@ impl From<FillFault> for LineFault {
             FillFault::ReadFault => LineFault::ReadFault,
             FillFault::NoMemory => LineFault::NoMemory,
         }
+    }
+}
+
+impl From<NoMemory> for LineFault {
+    ghost from_gives = { λ _ fault. fault ≡ faults.NoMemory };
+
+    fn from(_error: NoMemory) -> LineFault {
+        LineFault::NoMemory
     }
 }
 
@@ -105,9 +114,7 @@ impl<R: Source + Drop> Lines<R> {
         let room = bytes.len().min(LINE_LIMIT + 1);
         match newline_at(&bytes[..room]) {
             Some(size) => {
-                let Ok(line) = Bytes::from_slice(alloc, &bytes[..size]) else {
-                    return Err(LineFault::NoMemory);
-                };
+                let line = Bytes::from_slice(alloc, &bytes[..size])?;
                 self.skip(size + 1);
                 Ok(Some(line))
             }
@@ -129,9 +136,7 @@ impl<R: Source + Drop> Lines<R> {
         if size == 0 {
             return Ok(None);
         }
-        let Ok(line) = Bytes::from_slice(alloc, bytes) else {
-            return Err(LineFault::NoMemory);
-        };
+        let line = Bytes::from_slice(alloc, bytes)?;
         self.skip(size);
         Ok(Some(line))
     }

@@ -27,14 +27,19 @@ pub(crate) enum Stop {
     NoMemory,
 }
 
+impl From<NoMemory> for Stop {
+    ghost from_gives = { λ _ stop. stop ≡ MemoryStop };
+
+    fn from(_error: NoMemory) -> Stop {
+        Stop::NoMemory
+    }
+}
+
 /// A text that is printed, if there was memory for it.
 fn printed(text: Result<Vec<u8>, NoMemory>) -> Result<Bytes, Stop>
     ensures { MatchResult text (λ text. result ≡ Ok text.items) (λ _. result ≡ Err MemoryStop) }
 {
-    match text {
-        Ok(text) => Ok(Bytes::new(text)),
-        Err(NoMemory) => Err(Stop::NoMemory),
-    }
+    Ok(Bytes::new(text?))
 }
 
 /// The line that tells why nothing was found.
@@ -106,13 +111,12 @@ pub(crate) fn answer_line<N: Dial, S: Signer>(
     ensures asks { AsksFirst N.came N.looks dial.old dial.new }
     ensures cause { HasCause (N.faults dial.old) (N.faults dial.new) (result ≡ Err LinkFailed) }
 {
-    match read_line(alloc, line) {
-        Ok(Some(Line::Ask(question))) => {
+    match read_line(alloc, line)? {
+        Some(Line::Ask(question)) => {
             let answer = answer(alloc, dial, url, resolver, question);
             say(alloc, answer)
         }
-        Ok(Some(Line::Renew)) => renew(alloc, dial, url, signer, resolver),
-        Ok(None) => printed(refusal(alloc, "bad line")),
-        Err(NoMemory) => Err(Stop::NoMemory),
+        Some(Line::Renew) => renew(alloc, dial, url, signer, resolver),
+        None => printed(refusal(alloc, "bad line")),
     }
 }

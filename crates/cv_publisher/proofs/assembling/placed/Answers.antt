@@ -13,15 +13,15 @@ unset_by : (plan : Plan) (base : List ℕ) (fetched : Shelf) (part : Nodes) (r :
     → IsSet plan base fetched part (Err g)
 unset_by plan base fetched part r f g set is same = subst (λ (x : GraftFault). IsSet plan base fetched part (Err x)) same (subst (IsSet plan base fetched part) is set)
 
-pub returns-in-Ok-delivered : goal.returns-in-Ok-delivered
-returns-in-Ok-delivered c =
+pub returns-in-Ok : goal.returns-in-Ok
+returns-in-Ok c =
     let set : IsSet c.args.plan.now c.args.base (standing c.args.fetched) c.args.part.now c.place.result = record {
       told = c.place.ensures.told (standing c.args.fetched) refl;
       way = c.place.ensures.way (standing c.args.fetched) refl;
       whole = c.place.ensures.whole;
     } in
-    is_set c.in-Ok.grafted c.in-Ok-delivered.delivery (subst (IsSet c.args.plan.now c.args.base (standing c.args.fetched) c.args.part.now) c.in-Ok.is set)
-    (subst (λ (s : Shelf). Delivers c.args.plan.now.changes.objects s c.in-Ok.grafted c.in-Ok-delivered.delivery) c.place.ensures.reads c.in-Ok-delivered.ensures) refl
+    is_set c.in-Ok.grafted c.in_ok-delivered-in-Ok.field-0 (subst (IsSet c.args.plan.now c.args.base (standing c.args.fetched) c.args.part.now) c.in-Ok.is set)
+    (subst (λ (s : Shelf). Delivers c.args.plan.now.changes.objects s c.in-Ok.grafted c.in_ok-delivered-in-Ok.field-0) c.place.ensures.reads c.in_ok-delivered-in-Ok.ensures) refl
 
 pub returns-in-Err-PathCollision : goal.returns-in-Err-PathCollision
 returns-in-Err-PathCollision c =

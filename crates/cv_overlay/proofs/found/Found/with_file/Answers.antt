@@ -7,6 +7,6 @@ use Rattle.cv_overlay.proofs.found.Found.with_file.Goals as goal
 pub invariant_of-result : goal.invariant_of-result
 invariant_of-result c = (
   file_added c.self.inside.tree c.in_ok-tree.tree c.self.inside.contents c.in_ok-contents.contents c.args.path.now c.args.attr _ c.args.bytes c.self.invariant.0 c.in_ok-tree.ensures.made c.in_ok-tree.ensures.free
-      (c.of.ensures.hash ∙ ap sha1 c.as_slice.ensures) c.in_ok-contents.ensures c.requires.size,
+      (c.of-id.ensures.hash ∙ ap sha1 c.as_slice.ensures) c.in_ok-contents.ensures c.requires.size,
   omega (arith, c.requires.sum, ap length c.as_slice-2.ensures, ap (λ (v : FoundView). v.sum) c.self.view_is),
 )

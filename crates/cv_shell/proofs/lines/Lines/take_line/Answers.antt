@@ -21,10 +21,10 @@ returns-in-None-2-clause-found g c =
       refl,
     )
 
-pub returns-in-Ok-clause-found : goal.returns-in-Ok-clause-found
-returns-in-Ok-clause-found g c =
+pub returns-in_ok-line-in-Some-clause-found : goal.returns-in_ok-line-in-Some-clause-found
+returns-in_ok-line-in-Some-clause-found g c =
     let room = c.min-room.ensures in
     let at = found c.bytes-bytes.result.now c.min-room.result c.in-Some.size (omega (arith, room)) (sym c.newline_at.ensures ∙ c.in-Some.is) in
-    let line : c.in-Ok.line ≡ take c.in-Some.size c.bytes-bytes.result.now = c.in-Ok.ensures in
+    let line : c.in_ok-line-in-Some.line ≡ take c.in-Some.size c.bytes-bytes.result.now = c.in_ok-line-in-Some.ensures in
     let later : c.skip.new.self.held ≡ drop (c.in-Some.size + 1) c.args.self.now.held = ap (λ w. w.held) c.skip.ensures in
     (subst IsLine (sym line) at.0, rw (line, later, ← c.bytes-bytes.ensures) at.1)
