@@ -1,5 +1,6 @@
 pub mod Complete
 pub mod Headline
+pub mod Limits
 pub mod Lines
 pub mod Looks
 pub mod Publication

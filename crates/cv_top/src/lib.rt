@@ -3,6 +3,7 @@
 
 mod client_fault;
 mod init;
+mod limits;
 mod look;
 mod parts;
 mod print;

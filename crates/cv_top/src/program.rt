@@ -5,6 +5,7 @@ ghost use Rattle.cv_base.specs.Marker.{marker, ends_in};
 ghost use Rattle.cv_ports.specs.Streams.{onto, Wrote};
 ghost use Rattle.cv_client.specs.Asking.{AsksFirst};
 ghost use Rattle.cv_top.specs.Complete.{IsSteady, Completes};
+ghost use Rattle.cv_top.specs.Limits.{AreLimits};
 ghost use Rattle.cv_top.specs.Lines.{IsShell, AnswersLines, TellsLines};
 ghost use Rattle.cv_top.specs.Looks.{Looks};
 ghost use Rattle.cv_top.specs.Publishes.{IsPublisher, Publishes, PublishesAsked};
@@ -16,6 +17,7 @@ ghost use Rattle.cv_top.specs.Wholes.{Answered, Answers};
 ghost use Rattle.cv_top.specs.declared.status.Status.TheVariants.{InputFailed, OutputFailed, StoreFailed, LinkFailed, FolderFailed};
 
 use crate::init::init;
+use crate::limits::limits_are;
 use crate::look::look;
 use crate::parts::Parts;
 use crate::publish::publish_sealed;
@@ -328,11 +330,15 @@ pub fn run<
     // The line of the status is written whole, unless the sink failed. That changes no status.
     ensures line { (E.taken result.1.errors ≡ onto (E.taken parts.errors) (line_of result.0)) ⊎ Rose 1 (E.faults parts.errors) (E.faults result.1.errors) }
     ensures errors { Wrote (E.taken parts.errors) (E.taken result.1.errors) (line_of result.0) }
+
+    // The limits of the definitions are these numbers.
+    ensures limits { AreLimits }
 {
     opening_keeps_what_is_kept();
     opening_finds_what_is_kept();
     a_revision_is_published_in_order();
     a_lease_is_ended_once_after_a_fault();
+    limits_are();
     let Parts {
         vault,
         input,

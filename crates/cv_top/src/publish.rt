@@ -75,16 +75,13 @@ fn exchange_once<N: Dial>(
     ensures asks { AsksFirst N.came N.looks dial.old dial.new }
     ensures cause { HasCause (N.faults dial.old) (N.faults dial.new) (result ≡ Err exchange_fault.LinkFailed) }
 {
-    match publisher.want(alloc, keys) {
-        Ok(Want::Exchange(request)) => match exchange(alloc, dial, url, &request) {
-            Ok(reply) => {
-                publisher.take(alloc, reply, signer);
-                Ok(None)
-            }
-            Err(fault) => Err(fault),
-        },
-        Ok(Want::Done(end)) => Ok(Some(end)),
-        Err(NoMemory) => Err(ExchangeFault::NoMemory),
+    match publisher.want(alloc, keys)? {
+        Want::Exchange(request) => {
+            let reply = exchange(alloc, dial, url, &request)?;
+            publisher.take(alloc, reply, signer);
+            Ok(None)
+        }
+        Want::Done(end) => Ok(Some(end)),
     }
 }
 

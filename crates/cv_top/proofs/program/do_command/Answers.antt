@@ -20,7 +20,7 @@ pub returns-in-Ok-clause-runs : goal.returns-in-Ok-clause-runs
 returns-in-Ok-clause-runs g c =
     runs_stdio g.V.Vault.disk g.V.Vault.count g.V.Vault.left g.V.Vault.faults g.R.Source.left g.R.Source.looks g.W.Sink.taken g.W.Sink.passed g.C.Clock.moments g.F.Folder.holds g.F.Folder.named g.N.Dial.came
     (map string_bytes c.args.words.now) c.args.keys.now c.args.seal.now _ _ _ _ _ _ _ _ _ _ _ _ (subst (Asks (map string_bytes c.args.words.now)) c.in-Ok-Stdio.field-0-is c.in-Ok-Stdio.ensures.command)
-    _ (ap keys_of (sym c.as_bytes.ensures.value) ∙ c.in-Ok.ensures) c.do_stdio.ensures.does
+    _ (ap keys_of (sym c.as_bytes.ensures.value) ∙ sym c.in-Ok.ensures) c.do_stdio.ensures.does
 
 pub returns-in-Ok-Look-clause-runs : goal.returns-in-Ok-Look-clause-runs
 returns-in-Ok-Look-clause-runs g c =
@@ -48,7 +48,7 @@ returns-in-Err-Usage-clause-runs g c = usage (c.read_words.ensures.usage (c.in-E
 
 pub returns-in-Ok-Stdio-clause-runs : goal.returns-in-Ok-Stdio-clause-runs
 returns-in-Ok-Stdio-clause-runs g c =
-    elim (fault_or_memory c.in-Err.fault c.in-Err.ensures) [
+    elim (fault_or_memory c.in-Err.fault _ c.in-Err.ensures) [
       | inl both ↦ rw (c.of_keys.ensures ∙ both.1) (bad_keys c.in-Ok-Stdio.name (subst (Asks (map string_bytes c.args.words.now)) c.in-Ok-Stdio.field-0-is c.in-Ok-Stdio.ensures.command)
           (record { fault = c.in-Err.fault; is = ap keys_of (sym c.as_bytes.ensures.value) ∙ both.0 }) refl)
       | inr lacks ↦ rw (c.of_keys.ensures ∙ lacks) (unbegun refl)

@@ -6,11 +6,11 @@ use Rattle.cv_top.proofs.KeyFaults.{fault_or_memory}
 use Rattle.cv_top.proofs.program.do_publish.Goals as goal
 
 pub returns-in-Ok-clause-does : goal.returns-in-Ok-clause-does
-returns-in-Ok-clause-does g c = keyed _ c.publish_sealed.result (ap keys_of (sym c.as_bytes.ensures.value) ∙ c.in-Ok.ensures) c.publish_sealed.ensures.does
+returns-in-Ok-clause-does g c = keyed _ c.publish_sealed.result (ap keys_of (sym c.as_bytes.ensures.value) ∙ sym c.in-Ok.ensures) c.publish_sealed.ensures.does
 
 pub returns-in-Err-clause-does : goal.returns-in-Err-clause-does
 returns-in-Err-clause-does g c =
-    elim (fault_or_memory c.in-Err.fault c.in-Err.ensures) [
+    elim (fault_or_memory c.in-Err.fault _ c.in-Err.ensures) [
       | inl both ↦ rw (c.of_keys.ensures ∙ both.1) (faulty (record { fault = c.in-Err.fault; is = ap keys_of (sym c.as_bytes.ensures.value) ∙ both.0 }) (refl, refl, refl, refl))
       | inr lacks ↦ rw (c.of_keys.ensures ∙ lacks) (unread (refl, refl, refl, refl))
     ]
