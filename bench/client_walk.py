@@ -28,6 +28,7 @@ use cv_resolver::{Found, Question, Resolver};
 use cv_rows::Catalogue;
 use cv_tree::{FileRef, Node, Tree};
 use std::alloc::Global;
+use std::env;
 use std::time::Instant;
 
 const ATTR: Attr = Attr {
@@ -206,7 +207,7 @@ fn asked(alloc: Global, words: &[String]) -> Option<Asking> {
 }
 
 fn main(rt: HostRuntime) {
-    let Ok(Some(words)) = program_words(&rt) else {
+    let Ok(Some(words)) = program_words(rt.alloc(), env::args(&rt)) else {
         return;
     };
     let Some(asking) = asked(rt.alloc(), words.as_slice()) else {

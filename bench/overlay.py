@@ -27,6 +27,7 @@ use cv_ports::Folder;
 use cv_real::{SystemFolder, program_words};
 use cv_tree::{FileRef, Node, Part, Tree};
 use std::alloc::Global;
+use std::env;
 use std::time::Instant;
 
 const ATTR: Attr = Attr {
@@ -95,7 +96,7 @@ fn best(rt: &HostRuntime, name: &str, directories: u32) -> Option<(usize, u128, 
 }
 
 fn main(rt: HostRuntime) {
-    let Ok(Some(words)) = program_words(&rt) else {
+    let Ok(Some(words)) = program_words(rt.alloc(), env::args(&rt)) else {
         return;
     };
     if let (Some(name), Some(directories)) = (words.first(), words.get(1)) {

@@ -3,8 +3,9 @@
 
     bench/payload.py [--short] [PROGRAM]
 
-A payload of 32 MiB comes in 100 objects and in 10,000, the most that the interface takes, and the best of three runs stands. The
-short form sends a few kilobytes and prints no time.
+A payload of 32 MiB comes in 100 objects and in 10,000, the most that the interface takes, and the best of three runs stands. It
+fails where that run had more than 72 MiB of memory, which are 40 MiB and what is stored. The short form sends a few kilobytes and
+prints no time.
 """
 import os
 import subprocess
@@ -17,6 +18,8 @@ from cvkit_client import Session, expect, lease, main, payload, plain, repositor
 MIB = 1 << 20
 # The seconds in which a payload has to be stored.
 PATIENCE = 600
+# The most memory of the program, in MiB: what is stored is held, and no body beside it.
+MOST = 40 + 32
 
 
 def store_by(session, asked):
@@ -58,9 +61,10 @@ def measure(stored, count, size, times):
 
 
 def tell(count, took, peak, beside):
-    """Prints what a payload of 32 MiB took."""
+    """Prints what a payload of 32 MiB took, which mustn't be too much memory."""
     speed = f"{32 / took:.1f} MiB/s, {beside / took:.2f} of sha1sum"
     print(f"32 MiB in {count} objects: {took:.3f} s, {speed}, {peak:.0f} MiB of memory at most")
+    expect(peak <= MOST, f"at most {MOST} MiB of memory", f"{peak:.0f} MiB")
 
 
 def script(program, short):
