@@ -6,14 +6,16 @@
 The gateway is one `cvkit stdio` behind a small listener (`tools/cvkit_gateway.py`). The first folder has the package's files, a
 catalogue of their own, and some that the second takes away: by whiteouts, by a changed file, and by an opaque directory. What is
 published is read from a plain web server by `cvkit ls` and `cvkit cat`, in the full form by a shell's lines, and each file is
-compared with what `sha1sum` says of it. The package is one in apt's cache: the smallest that has from 20 to 300 files of 256 KiB in
-all, or in the full form the first that has from 1,000 to 20,000; or else one that `apt-get download` brings. Without either
+compared with what `sha1sum` says of it; and of the first hundred links and files `cvkit stat` tells what the system tells of
+them. The package is one in apt's cache: the smallest that has from 20 to 300 files of 256 KiB in all, or in the full form the
+first that has from 1,000 to 20,000; or else one that `apt-get download` brings. Without either
 nothing is done.
 """
 import glob
 import hashlib
 import os
 import shutil
+import stat
 import subprocess
 import sys
 import tempfile
@@ -76,13 +78,15 @@ def write(path, content):
         file.write(content)
 
 
+def paths_below(folder, which):
+    """The paths below a folder, from there, of which this is so."""
+    paths = (os.path.join(above, name) for above, folders, names in os.walk(folder) for name in folders + names)
+    return sorted(os.path.relpath(path, folder) for path in paths if which(path))
+
+
 def files_below(folder):
     """The paths of the regular files below a folder, from there."""
-    found = []
-    for above, _, names in os.walk(folder):
-        paths = [os.path.join(above, name) for name in names]
-        found += [os.path.relpath(path, folder) for path in paths if os.path.isfile(path) and not os.path.islink(path)]
-    return sorted(found)
+    return paths_below(folder, lambda path: os.path.isfile(path) and not os.path.islink(path))
 
 
 def make_folders(package, first, second, wanted):
@@ -105,7 +109,15 @@ def make_folders(package, first, second, wanted):
     for path in (gone, "old", "hidden/a", "hidden/b", "hidden/c"):
         os.remove(os.path.join(wanted, path))
     write(os.path.join(wanted, "hidden", "new"), b"new\n")
-    return gone
+    return gone, changed
+
+
+def told_of(path):
+    """What `cvkit stat` tells of a file or a link that was published from here."""
+    found = os.lstat(path)
+    kind, target = ("link", f" -> {os.readlink(path)}") if stat.S_ISLNK(found.st_mode) else ("file", "")
+    time = max(0, int(found.st_mtime // 1))
+    return f"{kind} {stat.S_IMODE(found.st_mode):04o} {found.st_uid} {found.st_gid} {found.st_size} {time}{target}\n"
 
 
 def digests_of(folder):
@@ -157,6 +169,17 @@ def contents_by_shell(place, files):
     expect(output == b"", "the shell's last answer", output[:80])
 
 
+def look_at_entries(place, first, taken):
+    """What is told of the entries of the first release that the second leaves as they are."""
+    links = paths_below(first, os.path.islink)
+    files = [path for path in files_below(first) if path not in taken and not path.startswith("hidden/")]
+    links, files = links[:100], files[:100]
+    for path in links + files:
+        found = place.look("stat", f"{AT}/{path}")
+        expect(found == (0, os.fsencode(told_of(os.path.join(first, path))), ""), f"what is told of {path}", found)
+    print(f"of {len(links)} links and {len(files)} files the kind, permissions, owners, size, time and target are those of the package")
+
+
 def read_back(place, wanted, gone):
     digests = digests_of(wanted)
     contents = contents_by_shell if FULL else contents_one_by_one
@@ -195,7 +218,7 @@ def script(program, _short):
             print("skipped: there is no package of Debian here, and none can be had")
             return
         first, second, wanted = (os.path.join(top, name) for name in ("first", "second", "wanted"))
-        gone = make_folders(package, first, second, wanted)
+        gone, changed = make_folders(package, first, second, wanted)
         with gateway(program, folder) as (port, asked):
             place = Place(program, folder, port)
             place.publish(first, 2)
@@ -204,7 +227,9 @@ def script(program, _short):
             refuse(place, top)
         expect(whole_head(folder).revision == 3, "the head", whole_head(folder))
         with web_server(folder) as (port, _):
-            read_back(Place(program, folder, port), wanted, gone)
+            place = Place(program, folder, port)
+            read_back(place, wanted, gone)
+            look_at_entries(place, first, (gone, changed, "old"))
 
 
 sys.argv = [word for word in sys.argv if word != "--full"]

@@ -5,7 +5,8 @@ They are the files of a repository `sw.example.org` that was made at time 170000
 manifest), and those of its second revision: the same directory with the mode 0700, published under the lease 1-1 on `/`
 with the key `k1`. Seals are by the `hmac` of Python under the secret `seal`. The tests have the catalogue, the record and
 the manifest of the second revision as they are, and of each file its length and the name that a plain object of its bytes
-would have, which tells their SHA-1; and a manifest of revision 3 that names the record of revision 2.
+would have, which tells their SHA-1; and a manifest of revision 3 that names the record of revision 2, and one of revision 2
+that names bytes as its record that are none.
 """
 import hashlib
 import hmac
@@ -104,6 +105,8 @@ if __name__ == "__main__":
         "crates/cv_swap_tests/src/opening_tests.rt",
         [
             constant("AHEAD", "&[u8]", literal(manifest(3, trees[1], second))),
+            constant("NAMES_HELLO", "&[u8]", literal(manifest(2, trees[1], b"hello\n"))),
+            constant("HELLO", "&str", f'"{name(b"hello" + bytes([10]), "H")}"'),
             constant("FIRST_RECORD", "&str", f'"{name(first, "H")}"'),
             constant("SECOND_RECORD", "&str", f'"{name(second, "H")}"'),
             constant("SECOND_CATALOGUE", "&str", f'"{name(trees[1], "C")}"'),

@@ -136,6 +136,7 @@ settle(
         digest("ROOT", root),
         digest("HISTORY", history),
         constant("WHOLE", "&[u8]", literal(WHOLE)),
+        constant("SEAL_AT", "usize", str(len(WHOLE) - 20)),
         constant("IN_ANY_ORDER", "&[u8]", literal(IN_ANY_ORDER)),
         table("LINES", "&[u8]", [literal(line) for line in lines().splitlines(True) + [b""]]),
         table(
