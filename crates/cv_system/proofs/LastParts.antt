@@ -47,7 +47,7 @@ one_byte_more byte true (a ∷ b ∷ more) last h = h
 one_byte_more byte false (a ∷ b ∷ more) last h = h
 
 -- a text has one part at least
-some_part : (text : List ℕ) → (first : List ℕ) × (more : Path) × (parts_of text ≡ first ∷ more)
+pub some_part : (text : List ℕ) → (first : List ℕ) × (more : Path) × (parts_of text ≡ first ∷ more)
 some_part [] = ([], [], refl)
 some_part (b ∷ text) =
     let parts = some_part text in
@@ -66,6 +66,9 @@ parts_behind (b ∷ front) rest = one_byte_more b (b == 47) (parts_of (front ++ 
 
 parts_end : (front last : List ℕ) → HasNoSlash last → Ends (parts_of (front ++ 47 ∷ last)) last
 parts_end front last h = subst (λ l. Ends (parts_of (front ++ 47 ∷ last)) l) (ap last_name_of (one_part last h)) (parts_behind front last)
+
+pub last_behind : (front rest : List ℕ) → last_part (front ++ 47 ∷ rest) ≡ last_part rest
+last_behind front rest = ends_so (parts_of (front ++ 47 ∷ rest)) (last_part rest) (parts_behind front rest)
 
 -- the last part, and what comes before it, as `rsplit_once` finds it
 pub last_part_is : (path : List ℕ) (r : Option (Bor (List ℕ) × Bor (List ℕ)))

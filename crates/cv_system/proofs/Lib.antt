@@ -4,6 +4,7 @@ mod LastParts
 pub mod Laws
 mod Looking
 mod Passing
+mod Places
 mod Reading
 mod Rounds
 mod Seeing

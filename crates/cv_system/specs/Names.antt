@@ -1,5 +1,5 @@
 -- Which texts are names of a vault over a folder, and the paths that they stand at.
-use Rattle.std.specs.Prelude.{ℕ, Bool, not, ◌==◌, ◌&&◌, ◌-◌, List, [], ◌∷◌, ◌++◌, length, take, codes, if◌then◌else◌}
+use Rattle.std.specs.Prelude.{ℕ, Bool, not, ◌==◌, ◌&&◌, ◌-◌, List, [], ◌∷◌, ◌++◌, length, take, drop, codes, if◌then◌else◌}
 use Rattle.std.specs.List.{ends_with, starts_with, list_all, slice_split}
 use Rattle.cv_base.specs.Path.{is_dots, last_name_of}
 use Rattle.cv_base.specs.PathText.{parts_of}
@@ -19,9 +19,17 @@ is_part part = not (length part == 0) && not (is_dots part) && not (is_own part)
 abbrev pub is_name : List ℕ → Bool
 is_name name = list_all (λ b. not (b == 0)) name && list_all is_part (parts_of name)
 
+-- a way: a name of one part below `txn/`
+abbrev pub is_way : List ℕ → Bool
+is_way name = starts_with (λ a b. a == b) name (codes "txn/") && list_all (λ b. not (b == 47)) (drop 4 name)
+
+-- where a name stands below the vault's folder: a way at an own file of that folder, and any other name at itself
+unfoldable pub stands_at : List ℕ → List ℕ
+stands_at name = if is_way name then codes ".cvkit-txn-" ++ drop 4 name else name
+
 -- the path of a name below a folder, on whose path no slash ends
 abbrev pub path_of : List ℕ → List ℕ → List ℕ
-path_of root name = root ++ 47 ∷ name
+path_of root name = root ++ 47 ∷ stands_at name
 
 -- what follows the last slash of a path, or all of a path without one
 abbrev pub last_part : List ℕ → List ℕ

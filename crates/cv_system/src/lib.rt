@@ -14,7 +14,9 @@ mod system;
 mod walk;
 
 pub use cut::{NAMES_ROOM, cut_name};
-pub use names::{NEXT, folder_of, is_name, is_part, is_root};
+pub use names::{
+    NEXT, folder_of, has_no_slash, is_name, is_part, is_root, names_stand_apart, way_at, way_part,
+};
 pub use path_buffer::{PATH_ROOM, PathBuffer};
 pub use seen::{Kind, Seen};
 pub use syncing::{Unsynced, sync_folder, sync_folders};

@@ -1,10 +1,10 @@
 //! Which texts are names of a vault over a folder, and the paths of their folders.
-ghost use Rattle.std.specs.Prelude.{◌≡◌, ◌==◌, ◌<◌, length, not};
+ghost use Rattle.std.specs.Prelude.{◌≡◌, ◌≢◌, ◌==◌, ◌<◌, ◌++◌, ℕ, List, IfSome, IsTrue, MatchOption, codes, length, not};
 ghost use Rattle.std.specs.List.{list_all};
 ghost use Rattle.cv_base.specs.Path.{is_dots};
 ghost use Rattle.cv_base.specs.PathText.{parts_of};
 ghost use Rattle.cv_system.specs.declared.path_buffer.TheConstants.{PATH_ROOM};
-ghost use Rattle.cv_system.specs.Names.{above, is_own, is_part, is_name, last_part, folder_of};
+ghost use Rattle.cv_system.specs.Names.{above, is_own, is_part, is_name, last_part, folder_of, path_of, stands_at};
 
 /// The one own file of a folder: the next file of one of its names, as long as it isn't whole.
 pub const NEXT: &str = ".cvkit-next";
@@ -50,6 +50,38 @@ pub fn is_name(name: &str) -> bool
 {
     has_no_nul(name) && has_parts(name)
 }
+
+/// Whether no byte of a text is a slash.
+pub fn has_no_slash(text: &str) -> bool
+    ensures { result ≡ list_all (λ b. not (b == 47)) text.now }
+{
+    text.bytes().all(|byte| byte != b'/')
+}
+
+/// What a way has behind `txn/`, if a name is one.
+pub fn way_part(name: &str) -> Option<&str>
+    ensures { MatchOption result (stands_at name.now ≡ name.now)
+        (λ part. stands_at name.now ≡ codes ".cvkit-txn-" ++ part.now) }
+{
+    let part = name.strip_prefix("txn/")?;
+    if has_no_slash(part) { Some(part) } else { None }
+}
+
+/// What the way has behind `txn/` that stands at this place below the vault's folder, if one stands there.
+pub fn way_at(place: &str) -> Option<&str>
+    ensures { IfSome result (λ part. stands_at (codes "txn/" ++ part.now) ≡ place.now) }
+{
+    let part = place.strip_prefix(".cvkit-txn-")?;
+    if has_no_slash(part) { Some(part) } else { None }
+}
+
+/// Two names of the vault never stand at one path, and none at the next file of a folder.
+pub fn names_stand_apart()
+    ensures names { (root one other : List ℕ) → IsTrue (is_name one) → IsTrue (is_name other)
+        → path_of root one ≡ path_of root other → one ≡ other }
+    ensures next { (root name : List ℕ) → IsTrue (is_name name)
+        → last_part (path_of root name) ≢ codes ".cvkit-next" }
+{}
 
 /// What follows the last slash of a path, or all of a path without one.
 fn last_part(path: &str) -> &str

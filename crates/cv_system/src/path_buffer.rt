@@ -1,6 +1,8 @@
 //! Paths in room that was taken once.
-ghost use Rattle.std.specs.Prelude.{◌≡◌, ◌++◌, ◌∷◌, ◌+◌, ◌<◌, ◌↔◌, [], length, IfOk, IsTrue, if◌then◌else◌};
+ghost use Rattle.std.specs.Prelude.{◌≡◌, ◌++◌, ◌+◌, ◌<◌, ◌↔◌, [], length, IfOk, IsTrue, if◌then◌else◌};
+ghost use Rattle.cv_system.specs.Names.{path_of};
 
+use crate::names::way_part;
 use std::alloc::{AllocError, Global};
 use std::marker::Model;
 
@@ -72,17 +74,31 @@ impl PathBuffer {
         self.text.push_str(folder).is_ok() && self.text.push_str(rest).is_ok()
     }
 
-    /// Sets the path of a name below a folder, whose path has no slash at its end, and answers as `set` does.
-    pub fn set_below(&mut self, folder: &str, name: &str) -> bool
-        ensures fits { IsTrue result ↔ (length folder.now + length name.now + 1 < PATH_ROOM) }
-        ensures path { self.new ≡ (if result then folder.now ++ 47 ∷ name.now else self.old) }
+    /// Sets a path of three parts, and answers as `set` does.
+    fn set_three(&mut self, folder: &str, between: &str, rest: &str) -> bool
+        ensures fits { IsTrue result
+            ↔ (length folder.now + length between.now + length rest.now < PATH_ROOM) }
+        ensures path { self.new
+            ≡ (if result then folder.now ++ (between.now ++ rest.now) else self.old) }
     {
-        if folder.len() + name.len() + 1 >= PATH_ROOM {
+        let front = folder.len() + between.len();
+        if front >= PATH_ROOM || front + rest.len() >= PATH_ROOM {
             return false;
         }
         self.text.clear();
         self.text.push_str(folder).is_ok()
-            && self.text.push('/').is_ok()
-            && self.text.push_str(name).is_ok()
+            && self.text.push_str(between).is_ok()
+            && self.text.push_str(rest).is_ok()
+    }
+
+    /// Sets the path of a name below a folder, whose path has no slash at its end, and answers as `set` does.
+    pub fn set_below(&mut self, folder: &str, name: &str) -> bool
+        ensures fits { IsTrue result ↔ (length (path_of folder.now name.now) < PATH_ROOM) }
+        ensures path { self.new ≡ (if result then path_of folder.now name.now else self.old) }
+    {
+        match way_part(name) {
+            Some(part) => self.set_three(folder, "/.cvkit-txn-", part),
+            None => self.set_three(folder, "/", name),
+        }
     }
 }
