@@ -5,7 +5,7 @@ use Rattle.std.proofs.Math.Seq.{take-append_seam}
 use Rattle.cv_system.specs.declared.seen.Seen.{Seen}
 use Rattle.cv_system.specs.Calls.{Call, Cause, Checked, Done, Entered, Failed, Locked, Log, Looked, Made, Named, Opened, Outcome, Read, Removed, Unmade}
 use Rattle.cv_system.specs.Looks.{FailsToReadFile, MissesFolder, OpensFile, ReadsFile, SeesFolders, folders_past}
-use Rattle.cv_system.specs.Names.{folder_of, next_of, path_of, with_slash}
+use Rattle.cv_system.specs.Names.{folder_of, next_of, path_of, stands_at, with_slash}
 use Rattle.cv_system.specs.Steps.{IsLook, Makes, Still, Then, Tries}
 use Rattle.cv_system.specs.Walks.{IsUnder}
 use Rattle.cv_system.proofs.Laws.{folder_under, more_under, no_step, one_call, steps_then, steps_wider, under}
@@ -95,7 +95,7 @@ module _ (root : List ℕ) where
   -- the path of a name
   pub path_within : (name : List ℕ) → IsUnder root (path_of root name)
   unfolding IsUnder
-  path_within name = (name, sym (append_assoc root (47 ∷ []) name))
+  path_within name = (stands_at name, sym (append_assoc root (47 ∷ []) (stands_at name)))
 
   -- that of the own file beside it
   pub next_within : (name : List ℕ) → IsUnder root (next_of root name)
@@ -104,7 +104,7 @@ module _ (root : List ℕ) where
   -- a folder on its way
   on_way_within : (name folder : List ℕ) → IsOnWay (length root + 1) (path_of root name) folder → IsUnder root folder
   on_way_within name folder (rest, is, size) =
-      subst (IsUnder root) (ap (take (length folder)) (append_assoc root (47 ∷ []) name ∙ is) ∙ take-append_seam folder (47 ∷ rest)) (under root name (length folder) size)
+      subst (IsUnder root) (ap (take (length folder)) (append_assoc root (47 ∷ []) (stands_at name) ∙ is) ∙ take-append_seam folder (47 ∷ rest)) (under root (stands_at name) (length folder) size)
 
   -- folders that are made on it
   pub prepares_quiet : (name : List ℕ) (noted : List ℕ → Bool) (before after : Log) → Prepares (length root + 1) (path_of root name) noted before after → Makes (Quiet root) before after

@@ -9,7 +9,7 @@ use Rattle.cv_system.specs.declared.seen.Seen.{Seen}
 use Rattle.cv_system.specs.declared.seen.Kind.TheVariants.{Folder}
 use Rattle.cv_system.specs.Calls.{Cause, cause_of, Done, Failed, Log, Looked, Made, Removed, Unmade, and_call}
 use Rattle.cv_system.specs.Looks.{FailsToReadFile, OpensOther}
-use Rattle.cv_system.specs.Names.{folder_of, is_name, next_of, path_of, with_slash}
+use Rattle.cv_system.specs.Names.{folder_of, is_name, next_of, path_of, stands_at, with_slash}
 use Rattle.cv_system.specs.Steps.{EndsFailed, Grows, Still}
 use Rattle.cv_system.proofs.Laws.{fails_now, fails_then, one_call, reading_fails, steps_then}
 use Rattle.cv_folder.proofs.Growing.{asks_grow, found_grows, opens_fail}
@@ -47,12 +47,12 @@ long_so : (size : ℕ) → (size < 4096 → ⊥) → 4096 ≤ size
 long_so size not = let past : 4096 < size + 1 = lt_of_not-le (λ fits. not (omega (arith, fits))) in omega (arith, past)
 
 module _ {F : Type 0} (root name : List ℕ) (hold : Hold F) where
-  not_served : (named : Bool) → is_name name ≡ named → ((IsTrue (is_name name) × (length root + length name + 1 < 4096)) → ⊥) → IsRefused root name hold
+  not_served : (named : Bool) → is_name name ≡ named → ((IsTrue (is_name name) × (length (path_of root name) < 4096)) → ⊥) → IsRefused root name hold
   not_served false is not = inr (inl is)
-  not_served true is not = inr (inr (omega (arith, long_so (length root + length name + 1) (λ fits. not (is, fits)), length-append root (47 ∷ name))))
+  not_served true is not = inr (inr (long_so (length (path_of root name)) (λ fits. not (is, fits))))
 
   -- a text whose path isn't set
-  pub unset_so : {T E : Type 0} (result : Result T E) → (IsOk result ↔ IsTrue (is_name name) × (length root + length name + 1 < 4096)) → (error : E) → result ≡ Err error → IsRefused root name hold
+  pub unset_so : {T E : Type 0} (result : Result T E) → (IsOk result ↔ IsTrue (is_name name) × (length (path_of root name) < 4096)) → (error : E) → result ≡ Err error → IsRefused root name hold
   unset_so (Ok x) ok error is = absurd (cc)
   unset_so (Err fault) ok error is = not_served (is_name name) refl (λ both. let no = ok.1 both in absurd (cc))
 
@@ -125,7 +125,7 @@ module _ {F : Type 0} (root name : List ℕ) (hold : Hold F) (cause : Cause) (be
   unmade_then : FailsToMake root hold cause between after → FailsToWrite root name hold cause before after
   unfolding FailsToMake FailsToWrite FailsOnWay
   unmade_then (inl (is, inl refused)) = inl (is, inl (inl refused))
-  unmade_then (inl (is, inr long)) = inl (is, inl (inr (inr (omega (arith, long, length-append root (47 ∷ name))))))
+  unmade_then (inl (is, inr long)) = inl (is, inl (inr (inr (omega (arith, long, length-append root (47 ∷ stands_at name))))))
   unmade_then (inr (inl fails)) = inr (inl (inl (fails_then made fails)))
   unmade_then (inr (inr (failed, gone, fails, is))) = inr (inr (failed, gone, fails_then made fails, inr is))
 
@@ -187,7 +187,7 @@ rename_fails root home from to hold cause before between after at made fails =
 
 -- a path that isn't set ends a write
 pub set_fails : {F T : Type 0} (root name : List ℕ) (hold : Hold F) (home : List ℕ) (result : Result T Error) (before after : Log) → home ≡ root
-    → (IsOk result ↔ IsTrue (is_name name) × (length home + length name + 1 < 4096)) → IfErr result (λ error. error_kind error ≡ InvalidInput)
+    → (IsOk result ↔ IsTrue (is_name name) × (length (path_of home name) < 4096)) → IfErr result (λ error. error_kind error ≡ InvalidInput)
     → IfErr result (λ error. WantsMemory (cause_of error) before after ⊎ FailsToWrite root name hold (cause_of error) before after)
 set_fails root name hold home (Ok x) before after at ok cause = tt
 set_fails {T} root name hold home (Err error) before after at ok cause =

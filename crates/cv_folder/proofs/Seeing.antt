@@ -1,6 +1,6 @@
 -- What a listing sees as it goes on.
 use Rattle.std.proofs.Common.{◌≡◌, ◌==◌, ◌∙◌, ◌+◌, ◌-◌, ◌<◌, ◌++◌, ℕ, Bool, true, false, not, List, [], ◌∷◌, Option, Some, None, Ok, Err, String, Global, cond, get_or, take, drop, length, ap, inl, inr, refl, subst, sym, append_assoc, arith, length-append, string_bytes, vec_len}
-use Rattle.std.specs.Prelude.{◌&&◌, IsSome, IsTrue}
+use Rattle.std.specs.Prelude.{◌&&◌, IfSome, IsSome, IsTrue}
 use Rattle.std.specs.List.{All, list_all}
 use Rattle.std.proofs.Math.Seq.{drop-append_seam, take-append_seam}
 use Rattle.std.proofs.lemmas.List.{append-nil}
@@ -10,12 +10,12 @@ use Rattle.cv_system.specs.declared.seen.Kind.TheVariants.{File, Folder}
 use Rattle.cv_system.specs.declared.seen.Seen.{Seen}
 use Rattle.cv_system.specs.Calls.{Log, Looked, and_call}
 use Rattle.cv_system.specs.Looks.{Looks, folders_behind, folders_past}
-use Rattle.cv_system.specs.Names.{is_name, path_of, with_slash}
+use Rattle.cv_system.specs.Names.{stands_at, with_slash}
 use Rattle.cv_system.specs.Steps.{Makes, Still, Then}
 use Rattle.cv_system.proofs.Laws.{no_step, one_call, steps_then, told_before}
 use Rattle.cv_folder.specs.declared.listing.Listing.{Listing}
 use Rattle.cv_folder.specs.Listed.{FindsName, IsListing, ListsFiles, Saw}
-use Rattle.cv_folder.specs.ListedInner.{AddsSeen, FindsBelow, ListsOn, SeesWay, Stands}
+use Rattle.cv_folder.specs.ListedInner.{AddsFolder, AddsName, AddsSeen, FindsBelow, ListsOn, SeesWay, Stands, StandsHere}
 
 -- ---- the folders of a path
 
@@ -49,14 +49,14 @@ unfolding folders_behind
 below_way front name = folders_append front name (47 ∷ [])
 
 -- those of a name's path, past that of the root
-way_is : (root name : List ℕ) → folders_past (length root + 1) (path_of root name) ≡ folders_behind (with_slash root) name
-way_is root name =
+way_is : (root place : List ℕ) → folders_past (length root + 1) (root ++ 47 ∷ place) ≡ folders_behind (with_slash root) place
+way_is root place =
     let size : length root + 1 ≡ length (with_slash root) = omega (arith, length-append root (47 ∷ [])) in
-    let whole : path_of root name ≡ with_slash root ++ name = sym (append_assoc root (47 ∷ []) name) in
-    ap (λ (n : ℕ). folders_past n (path_of root name)) size
+    let whole : root ++ 47 ∷ place ≡ with_slash root ++ place = sym (append_assoc root (47 ∷ []) place) in
+    ap (λ (n : ℕ). folders_past n (root ++ 47 ∷ place)) size
     ∙ ap (λ (p : List ℕ). folders_past (length (with_slash root)) p) whole
-    ∙ ap (λ (front : List ℕ). folders_behind front (drop (length (with_slash root)) (with_slash root ++ name))) (take-append_seam (with_slash root) name)
-    ∙ ap (λ (rest : List ℕ). folders_behind (with_slash root) rest) (drop-append_seam (with_slash root) name)
+    ∙ ap (λ (front : List ℕ). folders_behind front (drop (length (with_slash root)) (with_slash root ++ place))) (take-append_seam (with_slash root) place)
+    ∙ ap (λ (rest : List ℕ). folders_behind (with_slash root) rest) (drop-append_seam (with_slash root) place)
 
 -- ---- what was seen is seen still
 
@@ -70,7 +70,7 @@ module _ (front : List ℕ) where
       All-weaker (λ folder. Saw front Folder folder start before) (λ folder. Saw front Folder folder start after) (λ folder. saw_still Folder folder start before after more) (folders_behind front way) saw
 
   name_still : (name : List ℕ) (start before after : Log) → Makes (IsListing front) before after → FindsBelow front name start before → FindsBelow front name start after
-  name_still name start before after more (named, file, way) = (named, saw_still File (front ++ name) start before after more file, way_still name start before after more way)
+  name_still name start before after more (named, file, way) = (named, saw_still File (front ++ stands_at name) start before after more file, way_still (stands_at name) start before after more way)
 
   stands_still : (listing : Listing) (start before after : Log) → Makes (IsListing front) before after → Stands front listing start before → Stands front listing start after
   stands_still listing start before after more (calls, names, ways) = (
@@ -135,33 +135,53 @@ module _ (front : List ℕ) where
     unfolding ListsOn
     lists_told listing listing' before after lists some = makes_told before after lists.0 some
 
-    module _ (listing listing' : Listing) (last name : List ℕ) (below : String Global) (path : List ℕ) (before after : Log)
-        (plain : IsTrue (list_all (λ b. not (b == 47)) last)) (is : name ≡ folder ++ last) (named : IsTrue (is_name name)) (in_it : string_bytes below ≡ name ++ 47 ∷ []) (at : path ≡ front ++ name) where
-      -- it sees something at a name
+    module _ (listing listing' : Listing) (last place : List ℕ) (name below : Option (String Global)) (path : List ℕ) (before after : Log)
+        (plain : IsTrue (list_all (λ b. not (b == 47)) last)) (is : place ≡ folder ++ last) (named : IfSome name (λ own. StandsHere (string_bytes own) place))
+        (in_it : IfSome below (λ own. string_bytes own ≡ place ++ 47 ∷ [])) (at : path ≡ front ++ place) where
+      names_then : (start : Log) (found found' : List (List ℕ)) (own : Option (String Global)) → IfSome own (λ text. StandsHere (string_bytes text) place) → AddsName own found found'
+          → All (λ n. FindsBelow front n start after) found → Saw front File (front ++ place) start after → SeesWay front place start after → All (λ n. FindsBelow front n start after) found'
+      names_then start found found' (Some own) here (inl same) all saw way = subst (λ (names : List (List ℕ)). All (λ n. FindsBelow front n start after) names) (sym same) all
+      names_then start found found' (Some own) here (inr more) all saw way =
+          subst (λ (names : List (List ℕ)). All (λ n. FindsBelow front n start after) names) (sym more)
+          (All-push (λ n. FindsBelow front n start after) found (string_bytes own) all (
+            here.0,
+            subst (λ (p : List ℕ). Saw front File (front ++ p) start after) (sym here.1) saw,
+            subst (λ (p : List ℕ). SeesWay front p start after) (sym here.1) way,
+          ))
+      names_then start found found' None here same all saw way = subst (λ (names : List (List ℕ)). All (λ n. FindsBelow front n start after) names) (sym same) all
+
+      ways_then : (start : Log) (todo todo' : List (String Global)) (own : Option (String Global)) → IfSome own (λ text. string_bytes text ≡ place ++ 47 ∷ []) → AddsFolder own todo todo'
+          → All (λ w. SeesWay front (string_bytes w) start after) todo → Saw front Folder (front ++ place) start after → SeesWay front place start after
+          → All (λ w. SeesWay front (string_bytes w) start after) todo'
+      ways_then start todo todo' (Some own) front_of (inl same) all saw way = subst (λ (ways : List (String Global)). All (λ w. SeesWay front (string_bytes w) start after) ways) (sym same) all
+      ways_then start todo todo' (Some own) front_of (inr more) all saw way =
+          subst (λ (ways : List (String Global)). All (λ w. SeesWay front (string_bytes w) start after) ways) (sym more)
+          (All-push (λ w. SeesWay front (string_bytes w) start after) todo own all
+          (subst (λ (folders : List (List ℕ)). All (λ f. Saw front Folder f start after) folders) (sym (ap (folders_behind front) front_of ∙ below_way front place))
+          (All-push (λ f. Saw front Folder f start after) (folders_behind front place) (front ++ place) way saw)))
+      ways_then start todo todo' None front_of same all saw way = subst (λ (ways : List (String Global)). All (λ w. SeesWay front (string_bytes w) start after) ways) (sym same) all
+
+      -- it sees something at a place
       lists_one : (seen : Seen) → after ≡ and_call (Looked path (Ok seen)) before → AddsSeen (Some seen) name below listing.found.items listing'.found.items listing.todo.items listing'.todo.items
           → ListsOn front folder listing listing' before after
       unfolding ListsOn Saw
       lists_one seen look (adds_name, adds_folder) =
-          let more : Makes (IsListing front) before after = one_call (Looked path (Ok seen)) (name, at) look in (
+          let more : Makes (IsListing front) before after = one_call (Looked path (Ok seen)) (place, at) look in (
             more,
             λ start stands way.
                 let still = stands_still listing start before after more stands in
-                let on_way : SeesWay front name start after =
+                let on_way : SeesWay front place start after =
                 subst (λ (folders : List (List ℕ)). All (λ f. Saw front Folder f start after) folders) (sym (ap (folders_behind front) is ∙ entry_way front folder last plain)) (way_still folder start before after more way) in
-                let saw : (kind : Kind) → seen.kind ≡ kind → Saw front kind (front ++ name) start after =
+                let saw : (kind : Kind) → seen.kind ≡ kind → Saw front kind (front ++ place) start after =
                 λ (kind : Kind) such. (before, seen, such, stands.0, no_step (look ∙ ap (λ (p : List ℕ). and_call (Looked p (Ok seen)) before) at)) in (
                   still.0,
                   elim adds_name [
                     | inl same ↦ subst (λ (all : List (List ℕ)). All (λ n. FindsBelow front n start after) all) (sym same) still.1
-                    | inr file ↦ subst (λ (all : List (List ℕ)). All (λ n. FindsBelow front n start after) all) (sym file.1)
-                        (All-push (λ n. FindsBelow front n start after) listing.found.items name still.1 (named, saw File file.0, on_way))
+                    | inr file ↦ names_then start listing.found.items listing'.found.items name named file.1 still.1 (saw File file.0) on_way
                   ],
                   elim adds_folder [
                     | inl same ↦ subst (λ (all : List (String Global)). All (λ w. SeesWay front (string_bytes w) start after) all) (sym same) still.2
-                    | inr one ↦ subst (λ (all : List (String Global)). All (λ w. SeesWay front (string_bytes w) start after) all) (sym one.1)
-                        (All-push (λ w. SeesWay front (string_bytes w) start after) listing.todo.items below still.2
-                        (subst (λ (folders : List (List ℕ)). All (λ f. Saw front Folder f start after) folders) (sym (ap (folders_behind front) in_it ∙ below_way front name))
-                        (All-push (λ f. Saw front Folder f start after) (folders_behind front name) (front ++ name) on_way (saw Folder one.0))))
+                    | inr one ↦ ways_then start listing.todo.items listing'.todo.items below in_it one.1 still.2 (saw Folder one.0) on_way
                   ],
                 ),
           )
@@ -169,15 +189,15 @@ module _ (front : List ℕ) where
       pub lists_seen : (found : Option Seen) → Looks path (Ok found) before after → AddsSeen found name below listing.found.items listing'.found.items listing.todo.items listing'.todo.items
           → ListsOn front folder listing listing' before after
       lists_seen (Some seen) look adds = lists_one seen look adds
-      lists_seen None (cause, nothing, look) (found, todo) = lists_no_more listing listing' before after found todo (one_call (Looked path (Err cause)) (name, at) look)
+      lists_seen None (cause, nothing, look) (found, todo) = lists_no_more listing listing' before after found todo (one_call (Looked path (Err cause)) (place, at) look)
 
 -- ---- what was found
 
 finds_so : (root name : List ℕ) (before after : Log) → FindsBelow (with_slash root) name before after → FindsName root name before after
 finds_so root name before after (named, file, way) = (
   named,
-  subst (λ (p : List ℕ). Saw (with_slash root) File p before after) (append_assoc root (47 ∷ []) name) file,
-  subst (λ (folders : List (List ℕ)). All (λ f. Saw (with_slash root) Folder f before after) folders) (sym (way_is root name)) way,
+  subst (λ (p : List ℕ). Saw (with_slash root) File p before after) (append_assoc root (47 ∷ []) (stands_at name)) file,
+  subst (λ (folders : List (List ℕ)). All (λ f. Saw (with_slash root) Folder f before after) folders) (sym (way_is root (stands_at name))) way,
 )
 
 pub stands_found : (root : List ℕ) (listing : Listing) (before after : Log) → Stands (with_slash root) listing before after → ListsFiles root listing.found.items before after

@@ -2,6 +2,7 @@
 use Rattle.std.specs.Prelude.{ℕ, ◌≡◌, ◌⊎◌, ◌++◌, List, [], ◌∷◌, Option, Some, None, Result, Ok, Err, IsTrue, string_bytes}
 use Rattle.std.specs.List.{All}
 use Rattle.std.specs.declared.io.Error.{Error}
+use Rattle.std.specs.declared.string.String.{String}
 use Rattle.std.specs.declared.io.ErrorKind.TheVariants.{TimedOut}
 use Rattle.cv_folder.specs.declared.listing.Listing.{Listing}
 use Rattle.cv_system.specs.declared.seen.Seen.{Seen}
@@ -10,13 +11,27 @@ use Rattle.cv_system.specs.Calls.{Call, IsWant, Log, and_call, cause_of}
 use Rattle.cv_folder.specs.GoingOn.{GoesOn}
 use Rattle.cv_folder.specs.Listed.{IsListing, IsSkipped, Saw}
 use Rattle.cv_system.specs.Looks.{folders_behind}
-use Rattle.cv_system.specs.Names.{is_name}
+use Rattle.cv_system.specs.Names.{is_name, stands_at}
 use Rattle.cv_system.specs.Steps.{HasFailed, Makes}
 
--- what was seen at a name is added: a regular file to the names that were found, if its name begins so, and a folder to those that may hold others
-abbrev pub AddsSeen : {A : Type 0} → Option Seen → List ℕ → A → List (List ℕ) → List (List ℕ) → List A → List A → Type 0
+-- a name of the vault stands at this place below its folder
+abbrev pub StandsHere : List ℕ → List ℕ → Type 0
+StandsHere name place = IsTrue (is_name name) × (stands_at name ≡ place)
+
+-- a name, if there is one, may be one more of those that were found
+abbrev pub AddsName : {A : Type 0} → Option (String A) → List (List ℕ) → List (List ℕ) → Type 0
+AddsName (Some name) found found' = (found' ≡ found) ⊎ (found' ≡ found ++ string_bytes name ∷ [])
+AddsName None found found' = found' ≡ found
+
+-- what the names in a folder begin with, if it may hold some, may be one more of what is still to be gone through
+abbrev pub AddsFolder : {A : Type 0} → Option (String A) → List (String A) → List (String A) → Type 0
+AddsFolder (Some below) todo todo' = (todo' ≡ todo) ⊎ (todo' ≡ todo ++ below ∷ [])
+AddsFolder None todo todo' = todo' ≡ todo
+
+-- what was seen is added: a regular file by its name, and a folder by what the names in it begin with
+abbrev pub AddsSeen : {A : Type 0} → Option Seen → Option (String A) → Option (String A) → List (List ℕ) → List (List ℕ) → List (String A) → List (String A) → Type 0
 AddsSeen (Some seen) name below found found' todo todo' =
-    ((found' ≡ found) ⊎ ((seen.kind ≡ File) × (found' ≡ found ++ name ∷ []))) × ((todo' ≡ todo) ⊎ ((seen.kind ≡ Folder) × (todo' ≡ todo ++ below ∷ [])))
+    ((found' ≡ found) ⊎ ((seen.kind ≡ File) × AddsName name found found')) × ((todo' ≡ todo) ⊎ ((seen.kind ≡ Folder) × AddsFolder below todo todo'))
 AddsSeen None name below found found' todo todo' = (found' ≡ found) × (todo' ≡ todo)
 
 -- folders were seen on the way to what has this name below a front, and at it, where a slash ends it
@@ -25,7 +40,8 @@ SeesWay front way before after = All (λ folder. Saw front Folder folder before 
 
 -- a name was found below a front
 abbrev pub FindsBelow : List ℕ → List ℕ → Log → Log → Type 0
-FindsBelow front name before after = IsTrue (is_name name) × Saw front File (front ++ name) before after × SeesWay front name before after
+FindsBelow front name before after =
+    IsTrue (is_name name) × Saw front File (front ++ stands_at name) before after × SeesWay front (stands_at name) before after
 
 -- where a listing is: it has found each name, and seen the way to each folder that may hold others
 abbrev pub Stands : List ℕ → Listing → Log → Log → Type 0

@@ -117,8 +117,8 @@ impl<S: System + Drop> FolderVault<S> {
 
     /// Sets the path of a name. A text that is none is refused, and one whose path is longer than the system takes.
     pub(crate) fn set_path(&mut self, name: &str) -> io::Result<()>
-        ensures ok { IsOk result ↔ IsTrue (is_name name.now) × (length (string_bytes self.old.root)
-            + length name.now + 1 < PATH_ROOM) }
+        ensures ok { IsOk result ↔ IsTrue (is_name name.now)
+            × (length (path_of (string_bytes self.old.root) name.now) < PATH_ROOM) }
         ensures kind { IfErr result (λ error. error_kind error ≡ ErrorKind.InvalidInput) }
         ensures path { OnOk result (self.new.path ≡ path_of (string_bytes self.old.root) name.now) }
         ensures stays { Stays self.old self.new }

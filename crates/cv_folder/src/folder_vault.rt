@@ -21,7 +21,8 @@ use cv_system::{PathBuffer, System, Walk};
 use cv_vault::{Vault, VaultFault};
 use std::alloc::{AllocError, Global};
 
-/// A vault over a folder of regular files, in which each name is the path below the folder.
+/// A vault over a folder of regular files, in which each name is the path below the folder, but for a way: a name `txn/<part>`
+/// of one part stands at the file `.cvkit-txn-<part>` of the folder itself.
 ///
 /// A name has parts between slashes, none of which is empty, `.`, `..` or begins with `.cvkit-`, and no byte of it is NUL.
 /// Each call with another text fails. A name is there exactly where a regular file stands at it and folders stand above it

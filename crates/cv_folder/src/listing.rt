@@ -1,19 +1,19 @@
 //! The names below a folder.
-ghost use Rattle.std.specs.Prelude.{◌≡◌, ◌==◌, ◌↔◌, ◌⊎◌, ◌++◌, ◌∷◌, [], ℕ, List, IfOk, IfErr, IsOk, IsSome, Err, not, string_bytes};
-ghost use Rattle.std.specs.List.{All, Contains, list_all, starts_with};
+ghost use Rattle.std.specs.Prelude.{◌≡◌, ◌==◌, ◌↔◌, ◌⊎◌, ◌++◌, ◌∷◌, [], ℕ, List, IfOk, IfErr, IfSome, IsOk, IsSome, Err, string_bytes};
+ghost use Rattle.std.specs.List.{All, Contains, starts_with};
 ghost use Rattle.std.specs.List.Sorted.{IsStrictlySortedBy};
 ghost use Rattle.cv_base.specs.Path.{name_cmp, same_name};
 ghost use Rattle.cv_folder.specs.Listed.{AllBegin, FailsListing, IsListed, IsListing, ListsFiles};
-ghost use Rattle.cv_folder.specs.ListedInner.{AddsSeen, GoesOrEnds, ListsOn};
+ghost use Rattle.cv_folder.specs.ListedInner.{AddsFolder, AddsName, AddsSeen, GoesOrEnds, ListsOn, StandsHere};
 ghost use Rattle.cv_system.specs.Calls.{IsWant, cause_of};
-ghost use Rattle.cv_system.specs.Names.{with_slash};
+ghost use Rattle.cv_system.specs.Names.{stands_at, with_slash};
 ghost use Rattle.cv_system.specs.Passed.{HidesNoName};
 ghost use Rattle.cv_system.specs.Steps.{Makes};
 
 use crate::noting::{no_memory, own_text};
 use cv_base::Text;
 use cv_system::looks::{hides_no_name, seen};
-use cv_system::{NAMES_ROOM, Seen, System, cut_name, is_name};
+use cv_system::{NAMES_ROOM, Seen, System, cut_name, has_no_slash, is_name, way_at, way_part};
 use std::alloc::Global;
 use std::cmp::Ordering;
 use std::io;
@@ -24,13 +24,6 @@ fn begins(name: &str, prefix: &str) -> bool
     ensures { result ≡ starts_with (λ a b. a == b) name.now prefix.now }
 {
     name.as_bytes().starts_with(prefix.as_bytes())
-}
-
-/// Whether no byte of a text is a slash.
-fn has_no_slash(text: &str) -> bool
-    ensures { result ≡ list_all (λ b. not (b == 47)) text.now }
-{
-    text.bytes().all(|byte| byte != b'/')
 }
 
 /// How two texts are ordered by their bytes.
@@ -70,6 +63,46 @@ fn joined(alloc: Global, one: &str, other: &str) -> io::Result<String>
         Ok(()) => Ok(text),
         Err(_) => Err(no_memory()),
     }
+}
+
+/// The text that stands at this place below the vault's folder, if one does.
+fn text_at(alloc: Global, place: &str) -> io::Result<Option<String>>
+    ensures text { IfOk result
+        (λ found. IfSome found (λ text. stands_at (string_bytes text) ≡ place.now)) }
+    ensures memory { IfErr result (λ error. IsWant (cause_of error)) }
+{
+    if let Some(part) = way_at(place) {
+        return Ok(Some(joined(alloc, "txn/", part)?));
+    }
+    match way_part(place) {
+        Some(_) => Ok(None),
+        None => Ok(Some(own_text(alloc, place)?)),
+    }
+}
+
+/// The name that stands at this place below the vault's folder, if one does that begins with the prefix.
+fn name_at(alloc: Global, place: &str, prefix: &str) -> io::Result<Option<String>>
+    ensures name { IfOk result
+        (λ found. IfSome found (λ name. StandsHere (string_bytes name) place.now)) }
+    ensures memory { IfErr result (λ error. IsWant (cause_of error)) }
+{
+    match text_at(alloc, place)? {
+        Some(name) if is_name(name.as_str()) && begins(name.as_str(), prefix) => Ok(Some(name)),
+        _ => Ok(None),
+    }
+}
+
+/// What the names below this place begin with, if names may stand there that begin with the prefix.
+fn front_at(alloc: Global, place: &str, prefix: &str) -> io::Result<Option<String>>
+    ensures front { IfOk result
+        (λ found. IfSome found (λ front. string_bytes front ≡ place.now ++ 47 ∷ [])) }
+    ensures memory { IfErr result (λ error. IsWant (cause_of error)) }
+{
+    let front = joined(alloc, place, "/")?;
+    if !is_name(place) || !(begins(place, prefix) || begins(prefix, front.as_str())) {
+        return Ok(None);
+    }
+    Ok(Some(front))
 }
 
 /// The room for the names of a folder.
@@ -146,16 +179,18 @@ impl Listing {
         }
     }
 
-    /// Adds a name, if it begins with the prefix.
+    /// Adds a name, if there is one that begins with the prefix.
     #[tactic(auto, using(crate::proofs::Listed::one_more))]
-    fn add(&mut self, name: String, prefix: &str) -> io::Result<()>
+    fn add(&mut self, name: Option<String>, prefix: &str) -> io::Result<()>
         ensures begin { AllBegin prefix.now self.old.found.items
             → AllBegin prefix.now self.new.found.items }
-        ensures added { (self.new.found.items ≡ self.old.found.items)
-            ⊎ (self.new.found.items ≡ self.old.found.items ++ string_bytes name ∷ []) }
+        ensures added { AddsName name self.old.found.items self.new.found.items }
         ensures todo { self.new.todo.items ≡ self.old.todo.items }
         ensures memory { IfErr result (λ error. IsWant (cause_of error)) }
     {
+        let Some(name) = name else {
+            return Ok(());
+        };
         if !begins(name.as_str(), prefix) {
             return Ok(());
         }
@@ -165,30 +200,33 @@ impl Listing {
         }
     }
 
-    /// Adds a folder that may hold others, by its name with a slash behind it.
-    fn add_folder(&mut self, below: String) -> io::Result<()>
-        ensures added { (self.new.todo.items ≡ self.old.todo.items)
-            ⊎ (self.new.todo.items ≡ self.old.todo.items ++ below ∷ []) }
+    /// Adds a folder that may hold others, by what their names begin with.
+    fn add_folder(&mut self, below: Option<String>) -> io::Result<()>
+        ensures added { AddsFolder below self.old.todo.items self.new.todo.items }
         ensures found { self.new.found.items ≡ self.old.found.items }
         ensures memory { IfErr result (λ error. IsWant (cause_of error)) }
     {
+        let Some(below) = below else {
+            return Ok(());
+        };
         match self.todo.push(below) {
             Ok(()) => Ok(()),
             Err(_) => Err(no_memory()),
         }
     }
 
-    /// Adds what was seen at a name: a file whose name begins with the prefix, or a folder that may hold others.
+    /// Adds what was seen at a place: a file by the name that stands there, or a folder that may hold others by what their names
+    /// begin with.
     fn add_found(
         &mut self,
         found: Option<Seen>,
-        name: String,
-        below: String,
+        name: Option<String>,
+        below: Option<String>,
         prefix: &str,
     ) -> io::Result<()>
         ensures begin { AllBegin prefix.now self.old.found.items
             → AllBegin prefix.now self.new.found.items }
-        ensures added { AddsSeen found (string_bytes name) below self.old.found.items
+        ensures added { AddsSeen found name below self.old.found.items
             self.new.found.items self.old.todo.items self.new.todo.items }
         ensures memory { IfErr result (λ error. IsWant (cause_of error)) }
     {
@@ -226,15 +264,13 @@ impl Listing {
         if !has_no_slash(last) {
             return Ok(());
         }
-        let name = joined(self.alloc, folder, last)?;
-        if !is_name(name.as_str()) {
+        let place = joined(self.alloc, folder, last)?;
+        let name = name_at(self.alloc, place.as_str(), prefix)?;
+        let below = front_at(self.alloc, place.as_str(), prefix)?;
+        if name.is_none() && below.is_none() {
             return Ok(());
         }
-        let below = joined(self.alloc, name.as_str(), "/")?;
-        if !begins(name.as_str(), prefix) && !begins(prefix, below.as_str()) {
-            return Ok(());
-        }
-        let path = joined(self.alloc, front, name.as_str())?;
+        let path = joined(self.alloc, front, place.as_str())?;
         let found = seen(system, path.as_str())?;
         self.add_found(found, name, below, prefix)
     }
