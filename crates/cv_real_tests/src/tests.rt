@@ -54,7 +54,8 @@ fn begin(rt: &HostRuntime, folder: &str) -> io::Result<()> {
     fs::create_dir(rt, folder)
 }
 
-// A folder `outside` with a file, and a vault's folder `srv` with one of each kind at a name.
+// A folder `outside` with a file, and a vault's folder `srv` with one of each kind at a name, one on its way, and a file in a real
+// folder `txn`, at which no name stands.
 fn make_all(rt: &HostRuntime) -> io::Result<()> {
     begin(rt, "kinds")?;
     fs::create_dir(rt, "kinds/outside")?;
@@ -62,6 +63,9 @@ fn make_all(rt: &HostRuntime) -> io::Result<()> {
     fs::create_dir_all(rt, "kinds/srv/folder/below")?;
     fs::write(rt, "kinds/srv/file", b"file".as_slice())?;
     fs::write(rt, "kinds/srv/folder/inside", b"inside".as_slice())?;
+    fs::write(rt, "kinds/srv/.cvkit-txn-left", b"left".as_slice())?;
+    fs::create_dir(rt, "kinds/srv/txn")?;
+    fs::write(rt, "kinds/srv/txn/old", b"old".as_slice())?;
     symlink(rt, "../outside/victim", "kinds/srv/link")?;
     symlink(rt, "../outside", "kinds/srv/linked")?;
     symlink(rt, "nowhere", "kinds/srv/dangling")?;
@@ -92,10 +96,12 @@ fn told(alloc: Global, vault: &mut Vaulted, name: &str) -> Result<String, Fail> 
 }
 
 // Read, length, list, rename, remove, write, and whether the write stands.
-const ROWS: [(&str, &str); 17] = [
+const ROWS: [(&str, &str); 20] = [
     ("file", "yes yes yes yes no yes yes"),
     ("folder/inside", "yes yes yes yes no yes yes"),
     ("hard", "yes yes yes yes no yes yes"),
+    ("txn/left", "yes yes yes yes no yes yes"),
+    ("txn/old", "no no no no no yes yes"),
     ("absent", "no no no no no yes yes"),
     ("new/folder/absent", "no no no no no yes yes"),
     ("link", "no no no no no yes yes"),
@@ -119,6 +125,10 @@ const ROWS: [(&str, &str); 17] = [
         "folder/.cvkit-next",
         "failed failed no failed failed failed failed",
     ),
+    (
+        ".cvkit-txn-left",
+        "failed failed no failed failed failed failed",
+    ),
 ];
 
 #[test]
@@ -136,6 +146,10 @@ fn each_call_agrees_on_what_is_a_name(rt: HostRuntime) -> Result<(), Fail> {
     assert_eq!(rt;
         fs::read(&rt, "kinds/outside/victim")?.as_slice(),
         b"victim".as_slice()
+    );
+    assert_eq!(rt;
+        fs::read(&rt, "kinds/srv/txn/old")?.as_slice(),
+        b"old".as_slice()
     );
     assert!(rt; vault.sync().is_ok());
     Ok(())
@@ -172,10 +186,11 @@ fn a_vault_keeps_what_was_written(rt: HostRuntime) -> Result<(), Fail> {
     assert!(rt; other.sync().is_err());
     drop(vault);
     fs::write(&rt, "kept/srv/a/.cvkit-next", b"half of a fi".as_slice())?;
+    fs::write(&rt, "kept/srv/.cvkit-txn-left", b"a file".as_slice())?;
     let mut third = vault_at(rt, "kept/srv")?;
     assert!(rt; third.sync().is_ok());
     assert!(rt; fs::symlink_metadata(&rt, "kept/srv/a/.cvkit-next").is_err());
-    assert_eq!(rt; names(alloc, &mut third, "")?.as_str(), "a/é b- ");
+    assert_eq!(rt; names(alloc, &mut third, "")?.as_str(), "a/é b- txn/left ");
     Ok(())
 }
 
