@@ -3,7 +3,7 @@
 
     bench/gate.py [--short] [PROGRAM]
 
-Payloads are of 100 objects of 10 KiB. Python writes the same bytes in the same order: each under `txn/`, a sync of each file and of
+Payloads are of 100 objects of 10 KiB. Python writes the same bytes in the same order: each on its way, a sync of each file and of
 the folder, then each to its name, and a sync of the folders. The best of five runs stands, and may take 1.3 times as long as
 Python's. Leases are granted, 999 over one connection once it is open, in a repository of one revision and in one of 10,000: the
 middle one of five runs each may take 1.5 times as long. The short form stores five objects and grants 20 leases, at 1 and 40
@@ -35,24 +35,28 @@ def sync(path):
     os.close(handle)
 
 
+def way_of(folder, id_):
+    """Where an object is on its way."""
+    return os.path.join(folder, ".cvkit-txn-" + id_)
+
+
 def by_python(folder, objects):
     """The seconds in which Python puts the objects into a folder."""
     begin = time.perf_counter()
-    way = os.path.join(folder, "txn")
-    os.makedirs(way, exist_ok=True)
+    os.makedirs(folder, exist_ok=True)
     for id_, content in objects:
-        with open(os.path.join(way, id_), "wb") as file:
+        with open(way_of(folder, id_), "wb") as file:
             file.write(content)
             file.flush()
             os.fsync(file.fileno())
-    sync(way)
+    sync(folder)
     folders = set()
     for id_, _ in objects:
         path = os.path.join(folder, object_name(id_))
         os.makedirs(os.path.dirname(path), exist_ok=True)
-        os.rename(os.path.join(way, id_), path)
+        os.rename(way_of(folder, id_), path)
         folders.add(os.path.dirname(path))
-    for path in sorted(folders) + [os.path.join(folder, "data"), folder, way]:
+    for path in sorted(folders) + [os.path.join(folder, "data"), folder]:
         sync(path)
     return time.perf_counter() - begin
 

@@ -5,7 +5,7 @@
 
 The records of 10,000 revisions of the empty tree are made here, each with the hash of the one before, and the manifest of the
 newest. `cvkit stdio` opens them without input, `sha1sum` goes over the files of the records, and the best of five runs counts:
-opening may take 3 times as long. By `strace -c -f` a first `init` may make 15 fsyncs. The short form has 40 revisions, and
+opening may take 3 times as long. By `strace -c -f` a first `init` may make 12 fsyncs. The short form has 40 revisions, and
 prints no time. Both see that the newest revision is served, in the next epoch, and that a record less is noticed.
 """
 import os
@@ -36,8 +36,8 @@ from cvkit_files import epoch_of
 from line_vectors import catalogue, manifest, record, sha1
 
 STDIO = ["stdio", REPOSITORY]
-# The fsyncs of `init` on an empty folder: 4 of files and 11 of folders. The aim is 12.
-FSYNCS, RATIO = 15, 3
+# The fsyncs of `init` on an empty folder: 4 of files and 8 of folders.
+FSYNCS, RATIO = 12, 3
 BAD_HISTORY = (3, b"", "cvkit: repository: bad history\n")
 
 
