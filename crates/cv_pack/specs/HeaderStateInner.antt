@@ -2,6 +2,7 @@
 use Rattle.std.specs.Prelude.{◌≡◌, ℕ, ◌+◌, ◌<◌, ◌≤◌, ◌==◌, List, ◌∷◌, ◌++◌, length, take, Result, Ok, Err, if◌then◌else◌}
 use Rattle.cv_pack.specs.declared.field.Field.{Field}
 use Rattle.cv_pack.specs.declared.field.Field.TheVariants as fields
+use Rattle.cv_pack.specs.declared.header_reader.TheConstants.{HEADER_LIMIT}
 use Rattle.cv_pack.specs.declared.pack_fault.PackFault.{PackFault}
 use Rattle.cv_pack.specs.Reading.{suffix_from, lines_from}
 use Rattle.cv_pack.specs.HeaderState.{Begun, Faults, after_line, from_field, header_on, progress}
@@ -12,16 +13,16 @@ line_after line b at = if b == 10 then at else line
 
 -- a byte in place of the old field leads to this new field
 abbrev pub Leads : Begun → Begun → Field → ℕ → Result Field PackFault → Type 0
-Leads old new from b (Ok to) = (at : ℕ) (text : List ℕ) → at < 1048576
+Leads old new from b (Ok to) = (at : ℕ) (text : List ℕ) → at < HEADER_LIMIT
     → from_field (progress old) from old.line at (b ∷ text) ≡ from_field (progress new) to (line_after old.line b (at + 1)) (at + 1) text
-Leads old new from b (Err fault) = (at : ℕ) (text : List ℕ) → at < 1048576
+Leads old new from b (Err fault) = (at : ℕ) (text : List ℕ) → at < HEADER_LIMIT
     → Faults fault (from_field (progress old) from old.line at (b ∷ text))
 
 -- the same of the byte after the digits of a hash
 abbrev pub LeadsAfterHash : Begun → ℕ → Result Field PackFault → Type 0
-LeadsAfterHash r b (Ok to) = (at : ℕ) (text : List ℕ) → at < 1048576
+LeadsAfterHash r b (Ok to) = (at : ℕ) (text : List ℕ) → at < HEADER_LIMIT
     → suffix_from (after_line (progress r)) r.entries r.line r.digits at (b ∷ text) ≡ from_field (progress r) to (line_after r.line b (at + 1)) (at + 1) text
-LeadsAfterHash r b (Err fault) = (at : ℕ) (text : List ℕ) → at < 1048576
+LeadsAfterHash r b (Err fault) = (at : ℕ) (text : List ℕ) → at < HEADER_LIMIT
     → Faults fault (suffix_from (after_line (progress r)) r.entries r.line r.digits at (b ∷ text))
 
 -- where a line ended, the next begins with this field

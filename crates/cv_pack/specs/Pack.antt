@@ -8,6 +8,7 @@ use Rattle.cv_base.specs.declared.id.ObjectId.{ObjectId}
 use Rattle.cv_base.specs.declared.limits.TheConstants.{OBJECT_LIMIT}
 use Rattle.cv_base.specs.declared.object.Object.{Object}
 use Rattle.cv_pack.specs.declared.entry.Entry.{Entry}
+use Rattle.cv_pack.specs.declared.header_reader.TheConstants.{COUNT_LIMIT, TOTAL_LIMIT}
 
 abbrev pub entry : ObjectId → ℕ → Entry
 entry id size = record { id = id; size = size }
@@ -53,8 +54,8 @@ pub record IsPacked (o : Object) : Type 0 where
 pub record IsPack (os : List Object) : Type 0 where
   pub each : AllByRecursion IsPacked os
   pub distinct : AllPairs (λ a b. a ≢ b) (ids os)
-  pub count : length os ≤ 10000
-  pub total : total_size (map entry_of os) ≤ 33554432
+  pub count : length os ≤ COUNT_LIMIT
+  pub total : total_size (map entry_of os) ≤ TOTAL_LIMIT
 
 -- the bytes of all contents
 abbrev pub contents_size : List Object → ℕ
@@ -62,4 +63,4 @@ contents_size os = total_size (map entry_of os)
 
 -- one more object with these bytes passes no limit
 abbrev pub has_room : List Object → List ℕ → Bool
-has_room os bytes = nat_lt (length os) 10000 && nat_le (length bytes) OBJECT_LIMIT && nat_le (contents_size os + length bytes) 33554432
+has_room os bytes = nat_lt (length os) COUNT_LIMIT && nat_le (length bytes) OBJECT_LIMIT && nat_le (contents_size os + length bytes) TOTAL_LIMIT

@@ -23,6 +23,7 @@ use Rattle.cv_base.specs.declared.id.Kind.TheVariants.{Plain, Catalogue}
 use Rattle.cv_base.specs.declared.id.ObjectId.{ObjectId}
 use Rattle.cv_base.specs.declared.object.Object.{Object}
 use Rattle.cv_pack.specs.declared.entry.Entry.{Entry}
+use Rattle.cv_pack.specs.declared.header_reader.TheConstants.{COUNT_LIMIT, HEADER_LIMIT, TOTAL_LIMIT}
 use Rattle.cv_pack.specs.declared.pack_fault.PackFault.{PackFault}
 use Rattle.cv_pack.specs.declared.pack_fault.PackFault.TheVariants.{BadHeader, TooLarge, TooMany, HashDiffers, Short, Trailing, Duplicate}
 use Rattle.cv_pack.specs.Pack.{entry, total_size}
@@ -36,7 +37,7 @@ Header = List Entry × ℕ × List ℕ
 
 -- a byte of the header, which has at most 1 MiB
 abbrev pub header_byte : {A : Type 0} → ℕ → Result A PackFault → Result A PackFault
-header_byte at read = if nat_lt at 1048576 then read else Err (BadHeader 0)
+header_byte at read = if nat_lt at HEADER_LIMIT then read else Err (BadHeader 0)
 
 -- these very bytes
 abbrev pub text_at : ℕ → List ℕ → ℕ → List ℕ → Result (ℕ × List ℕ) PackFault
@@ -133,7 +134,7 @@ dashes_from total n before line xs at text = text_at line xs at text >>= λ a. l
 -- the count
 abbrev pub count_from : ℕ → List Entry → ℕ → Option ℕ → ℕ → List ℕ → Result Header PackFault
 count_from total before line so_far at text =
-    number_at line 10000 TooMany so_far at text >>= λ n. dashes_from total n.0 before n.1 (codes "--\n") n.1 n.2
+    number_at line COUNT_LIMIT TooMany so_far at text >>= λ n. dashes_from total n.0 before n.1 (codes "--\n") n.1 n.2
 
 -- its letter
 abbrev pub count_line_from : ℕ → List Entry → ℕ → ℕ → List ℕ → Result Header PackFault
@@ -142,7 +143,7 @@ count_line_from total before line at text = text_at line (codes "N") at text >>=
 -- the total
 abbrev pub total_from : List Entry → ℕ → Option ℕ → ℕ → List ℕ → Result Header PackFault
 total_from before line so_far at text =
-    number_at line 33554432 TooLarge so_far at text >>= λ t. count_line_from t.0 before t.1 t.1 t.2
+    number_at line TOTAL_LIMIT TooLarge so_far at text >>= λ t. count_line_from t.0 before t.1 t.1 t.2
 
 -- its letter
 abbrev pub total_line_from : List Entry → ℕ → ℕ → List ℕ → Result Header PackFault

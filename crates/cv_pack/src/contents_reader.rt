@@ -2,6 +2,7 @@
 ghost use Rattle.std.specs.Prelude.{◌≡◌, ◌+◌, ◌≤◌, ◌<◌, ◌++◌, [], List, length, OnOk};
 ghost use Rattle.sha1.specs.Sha1.{Holds};
 ghost use Rattle.cv_pack.specs.declared.entry.Entry.{Entry as Line};
+ghost use Rattle.cv_pack.specs.declared.header_reader.TheConstants.{HEADER_LIMIT};
 ghost use Rattle.cv_pack.specs.ContentsState.{IsOpen};
 ghost use Rattle.cv_pack.specs.ContentsStateInner.{Closes, Reads};
 
@@ -52,7 +53,7 @@ impl ContentsReader {
 
     /// Ends the content that was read, which is that of this entry.
     fn close(&mut self, alloc: Global, entry: &Entry) -> Result<(), PackFault>
-        requires { length self.old.objects.items < 1048576 }
+        requires { length self.old.objects.items < HEADER_LIMIT }
         ensures closes { Holds self.old.hasher self.old.begun.items → Closes self.old self.new entry.now result }
         ensures count { OnOk result (length self.new.objects.items ≡ length self.old.objects.items + 1) }
     {
@@ -71,7 +72,7 @@ impl ContentsReader {
     /// Takes the next bytes after the header of these entries. After an error nothing is said of what
     /// is left.
     pub fn read(&mut self, alloc: Global, entries: &[Entry], piece: &[u8]) -> Result<(), PackFault>
-        requires { length entries.now ≤ 1048576 }
+        requires { length entries.now ≤ HEADER_LIMIT }
         ensures { IsOpen self.old entries.now → Reads self.old self.new entries.now piece.now result }
     {
         let mut rest = piece;

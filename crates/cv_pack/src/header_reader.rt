@@ -3,6 +3,7 @@ ghost use Rattle.std.specs.Prelude.{◌≡◌, ◌≢◌, ◌↔◌, ◌+◌, �
 ghost use Rattle.cv_base.specs.declared.id.Kind.TheVariants.{History};
 ghost use Rattle.cv_pack.specs.declared.field.Field.TheVariants as fields;
 ghost use Rattle.cv_pack.specs.declared.field.Mark.TheVariants.{FormatLetter};
+ghost use Rattle.cv_pack.specs.declared.header_reader.TheConstants.{HEADER_LIMIT};
 ghost use Rattle.cv_pack.specs.declared.pack_fault.PackFault.TheVariants.{BadHeader};
 ghost use Rattle.cv_pack.specs.Pack.{total_size};
 ghost use Rattle.cv_pack.specs.Reading.{id_from};
@@ -18,7 +19,7 @@ use std::alloc::Global;
 use std::marker::Model;
 
 /// The most bytes of a header.
-const HEADER_LIMIT: u64 = 1_048_576;
+pub const HEADER_LIMIT: u64 = 1_048_576;
 
 /// The most bytes of all contents of a pack.
 pub const TOTAL_LIMIT: u32 = 33_554_432;
@@ -62,7 +63,7 @@ impl Model for HeaderReader {
 
 /// The sum of the sizes.
 fn sum_of_sizes(entries: &[Entry]) -> u64
-    requires { length entries.now ≤ 1048576 }
+    requires { length entries.now ≤ HEADER_LIMIT }
     ensures { result ≡ total_size entries.now }
 {
     let mut sum = 0;
@@ -103,7 +104,7 @@ impl HeaderReader {
     /// The lines that were read, of which there is at most one a byte of a header.
     pub fn entries(&self) -> &[Entry]
         ensures entries { result.now ≡ self.now.entries }
-        ensures few { length result.now ≤ 1048576 }
+        ensures few { length result.now ≤ HEADER_LIMIT }
     {
         self.entries.as_slice()
     }

@@ -14,7 +14,7 @@ mod pack_reader;
 mod pack_writer;
 
 pub use add_fault::AddFault;
-pub use header_reader::{COUNT_LIMIT, TOTAL_LIMIT};
+pub use header_reader::{COUNT_LIMIT, HEADER_LIMIT, TOTAL_LIMIT};
 pub use pack::Pack;
 pub use pack_fault::PackFault;
 pub use pack_reader::PackReader;
