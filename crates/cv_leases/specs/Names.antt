@@ -1,6 +1,7 @@
 -- The tree of the names on the way to leases: where a path leads to, and what stands on its way.
 use Rattle.std.specs.Prelude.{◌≡◌, ◌≤◌, ◌⊎◌, ℕ, Bool, true, false, cond, List, [], ◌∷◌, length, Option, None, Some, IfSome, Contains}
 use Rattle.cv_base.specs.Path.{Path, same_name}
+use Rattle.cv_base.specs.declared.repo_path.TheConstants.{NAMES_LIMIT}
 use Rattle.cv_links.specs.declared.id.Id.{Id}
 use Rattle.cv_links.specs.declared.lane.Lane.TheVariants.{Tree, Time}
 use Rattle.cv_links.specs.declared.arena.Arena.{Arena}
@@ -80,7 +81,7 @@ pub record IsWithin (names : Names) (depth : ℕ) (id : Id) : Type 0 where
 pub record IsNames (names : Names) : Type 0 where
   pub tree : IsTree names.places
   pub root : IfSome names.root (λ id. IsLive names.places id × (above_of (value_at names.places id) ≡ None))
-  pub rooted : (id : Id) → IsLive names.places id → IsWithin names 64 id
+  pub rooted : (id : Id) → IsLive names.places id → IsWithin names NAMES_LIMIT id
 
 -- a lease ends at the place or below it
 pub record IsNeeded (places : Arena Place) (id : Id) : Type 0 where

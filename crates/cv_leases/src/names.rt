@@ -3,6 +3,7 @@ ghost use Rattle.std.specs.Prelude.{◌≡◌, ◌≤◌, ◌+◌, [], Some, Non
 ghost use Rattle.cv_leases.specs.Names.{IsNames, IsWithin, IsPruned, below_of, above_of, is_leased, named, place_of};
 ghost use Rattle.cv_leases.specs.NamesInner.{IsBare, IsPrunedBut, IsPrunedTo, SameLeased, SamePlaces, Begins, Ends, meets};
 ghost use Rattle.cv_base.specs.Path.{same_name};
+ghost use Rattle.cv_base.specs.declared.repo_path.TheConstants.{NAMES_LIMIT};
 ghost use Rattle.cv_links.specs.Arena.{value_at, IsLive};
 
 use cv_base::{NAMES_LIMIT, NoMemory, RepoPath, Steps, Text};
@@ -249,7 +250,7 @@ impl Names {
         self.places.get_mut(id).leased = false;
     }
 
-    /// No lease ends at a place any more, and the places go that no lease needs. It is at most 64 steps.
+    /// No lease ends at a place any more, and the places go that no lease needs. It is at most `NAMES_LIMIT` steps.
     #[tactic(auto, using(crate::proofs::Places::ends_on))]
     pub(crate) fn end<L: Ledger>(&mut self, id: Id, steps: &mut Steps<L>)
         requires whole { IsNames self.old }
@@ -258,13 +259,13 @@ impl Names {
         ensures whole { IsNames self.new }
         ensures leases { Ends self.old self.new id }
         ensures pruned { IsPruned self.new }
-        ensures steps { steps.new ≤ steps.old + 64 }
+        ensures steps { steps.new ≤ steps.old + NAMES_LIMIT }
     {
         self.unlease(id);
         self.prune(id, steps);
     }
 
-    /// Takes out a place, and those above it, as long as no lease ends there and none is below. It is at most 64 steps.
+    /// Takes out a place, and those above it, as long as no lease ends there and none is below. It is at most `NAMES_LIMIT` steps.
     #[tactic(auto, using(crate::proofs::Places::leased_on, crate::proofs::Places::leased_same))]
     pub(crate) fn prune<L: Ledger>(&mut self, from: Id, steps: &mut Steps<L>)
         requires whole { IsNames self.old }
@@ -273,7 +274,7 @@ impl Names {
         ensures whole { IsNames self.new }
         ensures leases { SameLeased self.old self.new }
         ensures pruned { IsPruned self.new }
-        ensures steps { steps.new ≤ steps.old + 64 }
+        ensures steps { steps.new ≤ steps.old + NAMES_LIMIT }
     {
         let mut at = Some(from);
         let mut left = NAMES_LIMIT;
