@@ -20,6 +20,7 @@ use Rattle.cv_keys.specs.KeysText.{tested_text, member_text, key_in, new_key, ke
 use Rattle.cv_keys.specs.declared.key.Key.{Key}
 use Rattle.cv_keys.specs.declared.key_fault.KeyFault.{KeyFault}
 use Rattle.cv_keys.specs.declared.key_fault.KeyFault.TheVariants.{WrongType, BadValue, Repeated, TooMany, NoKey, NoMemory}
+use Rattle.cv_keys.specs.declared.read_keys.TheConstants.{KEY_LIMIT}
 
 first_false : (a b : Bool) → (a || b) ≡ false → a ≡ false
 first_false true b h = cc
@@ -164,13 +165,13 @@ keys_behind-Ok before place (d ∷ ds) keys good h =
 -- the keys of an array are a table
 pub IsTable-array_keys : (ds : List Data) (keys : List Key) → array_keys ds ≡ Ok keys → IsTable keys
 IsTable-array_keys ds keys h =
-    elim (nat_lt 256 (length ds)) as (λ t. nat_lt 256 (length ds) ≡ t → cond t (Err TooMany) (cond (length ds == 0) (Err NoKey) (keys_behind [] 1 ds)) ≡ Ok keys → IsTable keys) [
+    elim (nat_lt KEY_LIMIT (length ds)) as (λ t. nat_lt KEY_LIMIT (length ds) ≡ t → cond t (Err TooMany) (cond (length ds == 0) (Err NoKey) (keys_behind [] 1 ds)) ≡ Ok keys → IsTable keys) [
       | true ↦ λ e k. cc
       | false ↦ λ few k. elim (length ds == 0) as (λ t. length ds == 0 ≡ t → cond t (Err NoKey) (keys_behind [] 1 ds) ≡ Ok keys → IsTable keys) [
         | true ↦ λ e m. cc
         | false ↦ λ some m.
             let all = keys_behind-Ok [] 1 ds keys (record { ids = refl; distinct = refl }) m in
-            let count = ltb-false 256 (length ds) few in
+            let count = ltb-false KEY_LIMIT (length ds) few in
             let nonzero : length ds ≢ 0 = λ e. let zero_tells : length ds == 0 ≡ true = eq-eqb (length ds) 0 e in cc in
             record { some = omega (arith, all.1, nonzero); few = omega (arith, all.1, count); ids = all.0.ids; distinct = all.0.distinct }
       ] refl k

@@ -3,7 +3,7 @@ use Rattle.std.specs.Prelude.{ℕ, ◌≡◌, ◌≤◌, Bool, true, not, ◌&&�
 use Rattle.std.specs.List.{list_all, list_any, find}
 use Rattle.std.specs.Str.{bytes_eq}
 use Rattle.cv_keys.specs.declared.key.Key.{Key}
-use Rattle.cv_keys.specs.declared.read_keys.TheConstants.{SECRET_LIMIT}
+use Rattle.cv_keys.specs.declared.read_keys.TheConstants.{KEY_LIMIT, SECRET_LIMIT}
 pub use Rattle.cv_base.specs.KeyId.{is_visible, is_key_id}
 
 -- a secret: 1 to 255 bytes
@@ -26,6 +26,6 @@ key_of keys id = find (λ key. bytes_eq key.id id) keys
 -- a table: 1 to 256 keys, each with an id of its own
 pub record IsTable (keys : List Key) : Type 0 where
   pub some : 1 ≤ length keys
-  pub few : length keys ≤ 256
+  pub few : length keys ≤ KEY_LIMIT
   pub ids : list_all (λ key. is_key_id key.id) keys ≡ true
   pub distinct : is_distinct keys ≡ true

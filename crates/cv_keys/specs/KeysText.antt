@@ -8,6 +8,7 @@ use Rattle.cv_json.specs.ObjectText.{object_in}
 use Rattle.cv_keys.specs.Key.{is_key_id, is_secret, has_id}
 use Rattle.cv_keys.specs.declared.key.Key.{Key}
 use Rattle.cv_keys.specs.declared.key_fault.KeyFault.{KeyFault}
+use Rattle.cv_keys.specs.declared.read_keys.TheConstants.{KEY_LIMIT}
 use Rattle.cv_keys.specs.declared.key_fault.KeyFault.TheVariants.{NotJson, Missing, WrongType, BadValue, Repeated, TooMany, NoKey}
 
 -- a text that has to pass a test
@@ -47,7 +48,7 @@ keys_behind before place (d ∷ ds) =
 -- the keys of an array, whose length is judged before them
 abbrev pub array_keys : List Data → Result (List Key) KeyFault
 array_keys ds =
-    if nat_lt 256 (length ds) then Err TooMany
+    if nat_lt KEY_LIMIT (length ds) then Err TooMany
     else if length ds == 0 then Err NoKey
     else keys_behind [] 1 ds
 

@@ -13,3 +13,4 @@ pub use key::Key;
 pub use key_fault::KeyFault;
 pub use key_no::KeyNo;
 pub use key_table::KeyTable;
+pub use read_keys::{KEY_LIMIT, SECRET_LIMIT};

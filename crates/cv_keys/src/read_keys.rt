@@ -8,6 +8,7 @@ ghost use Rattle.cv_base.specs.Unless.{IsUnless};
 ghost use Rattle.cv_keys.specs.Key.{is_visible, is_key_id, is_secret, has_id, IsTable};
 ghost use Rattle.cv_keys.specs.KeysText.{member_text, key_in, new_key, keys_behind, array_keys, keys_in_object};
 ghost use Rattle.cv_keys.specs.declared.key_fault.KeyFault.TheVariants as faults;
+ghost use Rattle.cv_keys.specs.declared.read_keys.TheConstants.{KEY_LIMIT};
 
 use crate::key::Key;
 use crate::key_fault::KeyFault;
@@ -16,10 +17,10 @@ use serde_json::Value;
 use std::alloc::Global;
 
 /// The most keys of a table.
-const KEY_LIMIT: usize = 256;
+pub const KEY_LIMIT: usize = 256;
 
 /// The most bytes of a key's secret.
-const SECRET_LIMIT: usize = 255;
+pub const SECRET_LIMIT: usize = 255;
 
 /// Whether each byte is a visible ASCII character.
 fn is_visible(text: &str) -> bool
@@ -143,7 +144,7 @@ fn read_array(alloc: Global, list: &[Value]) -> Result<Vec<Key>, KeyFault>
 
 /// The keys of the elements of an array.
 fn read_elements(alloc: Global, list: &[Value]) -> Result<Vec<Key>, KeyFault>
-    requires { length list.now ≤ 256 }
+    requires { length list.now ≤ KEY_LIMIT }
     ensures { IsUnless faults.NoMemory
         (result_map_both (λ keys. keys.items) (λ fault. fault) result)
         (keys_behind [] 1 (map view list.now)) }
