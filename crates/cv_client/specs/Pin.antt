@@ -10,13 +10,14 @@ use Rattle.cv_client.specs.Exchange.{Links}
 use Rattle.cv_client.specs.Fetch.{Fetches}
 use Rattle.cv_client.specs.declared.url.Url.{Url}
 use Rattle.cv_client.specs.declared.exchanging.ExchangeFault.{ExchangeFault}
+use Rattle.cv_client.specs.declared.pinning.TheConstants.{CATALOGUES}
 use Rattle.cv_client.specs.declared.ask_fault.AskFault.{AskFault}
 use Rattle.cv_client.specs.declared.ask_fault.AskFault.TheVariants.{BadReply, NoMemory}
 use Rattle.cv_client.specs.Faults.{lost_by, bad_by}
 
 -- a client that was pinned at the head of a manifest, and knows nothing else yet; it keeps up to 64 catalogues
 abbrev pub client_at : Manifest → Client
-client_at m = record { name = m.name; revision = m.head.revision; root = m.head.root; cache = lru_cache [] 64; asked = None }
+client_at m = record { name = m.name; revision = m.head.revision; root = m.head.root; cache = lru_cache [] CATALOGUES; asked = None }
 
 -- the manifest was fetched and says this under a signer, whose seals are these; or it shows a fault; or it wasn't fetched
 pub data FetchesManifest (is_seal : List ℕ → List ℕ → Bool) (u : Url) (before after : Links) : Result Manifest AskFault → Type 0 where

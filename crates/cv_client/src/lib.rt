@@ -16,6 +16,6 @@ pub use ask_fault::AskFault;
 pub use asking::ask;
 pub use exchanging::{ExchangeFault, exchange};
 pub use fetching::fetch;
-pub use pinning::{fetch_manifest, pin};
+pub use pinning::{CATALOGUES, fetch_manifest, pin};
 pub use printing::found_text;
 pub use url::Url;

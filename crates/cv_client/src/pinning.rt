@@ -19,7 +19,7 @@ use cv_seal::Signer;
 use std::alloc::Global;
 
 /// The most catalogues that a client keeps.
-const CATALOGUES: usize = 64;
+pub const CATALOGUES: usize = 64;
 
 /// Fetches the manifest of a repository, and reads it under a signer.
 pub fn fetch_manifest<N: Dial, S: Signer>(

@@ -1,4 +1,4 @@
 //! What bounds a folder of changes.
 
 /// The most bytes of all files.
-pub(crate) const SUM_LIMIT: u64 = 1_073_741_824;
+pub const SUM_LIMIT: u64 = 1_073_741_824;

@@ -15,6 +15,7 @@ mod reading;
 mod visiting;
 mod whiteout;
 
+pub use bounds::SUM_LIMIT;
 pub use changes::Changes;
 pub use overlay_fault::OverlayFault;
 pub use overlaying::overlay;

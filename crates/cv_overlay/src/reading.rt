@@ -4,6 +4,7 @@ ghost use Rattle.std.specs.List.{list_all};
 ghost use Rattle.cv_base.specs.Counts.{HasCause};
 ghost use Rattle.cv_base.specs.Path.{Path, text_of, name_cmp};
 ghost use Rattle.cv_base.specs.Told.{WhereTold};
+ghost use Rattle.cv_base.specs.declared.repo_path.TheConstants.{NAMES_LIMIT};
 ghost use Rattle.cv_ports.specs.Folder.{IsOrdered};
 ghost use Rattle.cv_tree.specs.Changes.{FitsUnder};
 ghost use Rattle.cv_overlay.specs.Changes.{AreContents};
@@ -30,7 +31,7 @@ fn walk<F: Folder>(
     left: usize,
     found: Found,
 ) -> Result<Found, ReadFault>
-    requires { left + length published.now ≡ 64 }
+    requires { left + length published.now ≡ NAMES_LIMIT }
     ensures told { WhereTold (F.folder folder.old) (λ holds. (at : Path) → published.now ≡ at ++ above.now → Ends result (run holds at (visits_deep (left + 1) holds at above.now) found)) }
     ensures ordered { WhereTold (F.folder folder.old) IsOrdered }
     ensures unchanged { F.folder folder.new ≡ F.folder folder.old }

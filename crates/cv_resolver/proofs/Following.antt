@@ -12,6 +12,7 @@ use Rattle.std.proofs.lemmas.Bool.Decides.{nat_tests}
 use Rattle.cv_base.specs.Path.{Path}
 use Rattle.cv_base.specs.Target.{is_target, is_target_byte}
 use Rattle.cv_base.specs.PathText.{parts_of}
+use Rattle.cv_base.specs.declared.target.TheConstants.{TARGET_LIMIT}
 use Rattle.cv_tree.specs.Tree.{Nodes}
 use Rattle.cv_resolver.specs.Walk.{Name, Trail, arrives, from, is_last, lead_of, trail_along, walk}
 use Rattle.cv_resolver.specs.Spot.{StandsIn, IsSpot, levels_of}
@@ -81,20 +82,20 @@ parts_size (x ∷ xs) = by_slash (x == 47) (parts_of xs) (parts_size xs)
     by_slash true parts le = omega arith
     by_slash false parts le = longer parts le
 
-within : (n : ℕ) → nat_le n 4095 ≡ true → n ≤ 4095
+within : (n : ℕ) → nat_le n TARGET_LIMIT ≡ true → n ≤ TARGET_LIMIT
 within n h = grind (arith, nat_tests)
 
-target_size : (text : List ℕ) → is_target text ≡ true → length text ≤ 4095
+target_size : (text : List ℕ) → is_target text ≡ true → length text ≤ TARGET_LIMIT
 target_size text is =
-    let fits : nat_le (length text) 4095 ≡ true = (and_parts (is_utf8 text) (nat_le (length text) 4095) ((and_parts (is_utf8 text && nat_le (length text) 4095) (list_all is_target_byte text) is).0)).1 in
+    let fits : nat_le (length text) TARGET_LIMIT ≡ true = (and_parts (is_utf8 text) (nat_le (length text) TARGET_LIMIT) ((and_parts (is_utf8 text && nat_le (length text) TARGET_LIMIT) (list_all is_target_byte text) is).0)).1 in
     within (length text) fits
 
-pub few_names : {E : Type 0} (r : Result Lead E) (n : ℕ) (parts : List Name) (text target : List ℕ) → IfOk r (HasNames n) → n ≡ length parts → parts ≡ parts_of text → text ≡ target → is_target target ≡ true → IfOk r (HasNames 4096)
+pub few_names : {E : Type 0} (r : Result Lead E) (n : ℕ) (parts : List Name) (text target : List ℕ) → IfOk r (HasNames n) → n ≡ length parts → parts ≡ parts_of text → text ≡ target → is_target target ≡ true → IfOk r (HasNames (TARGET_LIMIT + 1))
 few_names (Err e) n parts text target h count are same is = tt
 few_names (Ok Nowhere) n parts text target h count are same is = tt
 few_names (Ok (Root names)) n parts text target h count are same is = omega (arith, h, count, ap length are, parts_size text, ap length same, target_size target is)
 few_names (Ok (Here names)) n parts text target h count are same is = omega (arith, h, count, ap length are, parts_size text, ap length same, target_size target is)
 
 -- a followed link takes a step more than its names can be
-pub fewer : (w next : Walk) (names : List Name) → length names ≤ 4096 → w.links ≢ 0 → next.names.items ≡ names ++ w.names.items → next.links ≡ w.links - 1 → steps_left next ≤ steps_left w
+pub fewer : (w next : Walk) (names : List Name) → length names ≤ TARGET_LIMIT + 1 → w.links ≢ 0 → next.names.items ≡ names ++ w.names.items → next.links ≡ w.links - 1 → steps_left next ≤ steps_left w
 fewer w next names few some names-are links-are = omega (arith, ap length names-are, length-append names w.names.items)

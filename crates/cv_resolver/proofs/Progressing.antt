@@ -1,10 +1,11 @@
 -- How the walk of a question goes on by the catalogues that are kept.
-use Rattle.std.proofs.Common.{◌≡◌, ◌≤◌, ◌<◌, ◌+◌, ℕ, List, Option, sym, ap, subst, arith, bytes_eq, length}
+use Rattle.std.proofs.Common.{◌≡◌, ◌≤◌, ◌<◌, ◌+◌, ◌*◌, ℕ, List, Option, sym, ap, subst, arith, bytes_eq, length}
 use Rattle.std.specs.declared.option.Option.TheVariants.{Some}
 use Rattle.std.specs.declared.result.Result.{Result}
 use Rattle.std.proofs.lemmas.Cmp.{nat_list_eq_equiv}
 use Rattle.lru.proofs.CallerLemmas.{lookup-put_entries}
 use Rattle.cv_base.specs.declared.id.ObjectId.{ObjectId}
+use Rattle.cv_base.specs.declared.target.TheConstants.{TARGET_LIMIT}
 use Rattle.cv_tree.specs.Tree.{Nodes}
 use Rattle.cv_rows.specs.Catalogue.{Contents}
 use Rattle.cv_cut.specs.Reached.{Decodes}
@@ -22,6 +23,7 @@ use Rattle.cv_resolver.specs.declared.found.Found.{Found}
 use Rattle.cv_resolver.specs.declared.found.ClientFault.{ClientFault}
 use Rattle.cv_resolver.specs.declared.stage.Stage.{Stage}
 use Rattle.cv_resolver.specs.declared.stage.Stage.TheVariants.{Walks, Reads, Ends}
+use Rattle.cv_resolver.specs.declared.start.TheConstants.{LINKS}
 use Rattle.cv_resolver.proofs.Keeping.{own_used}
 
 -- a catalogue that is put in is there
@@ -95,7 +97,7 @@ pub begun_uncached : (repository root : List ℕ) (q : Question) (k after : Kept
 begun_uncached repository root q k after s (starts w is goes) = uncached goes
 begun_uncached repository root q k after s (no_memory same is) = subst (IsUncached after) (sym is) tt
 
-pub begun_wants : (repository root : List ℕ) (q : Question) (k after : Kept) (s : Stage) → Begins repository root q k after s → wants_left s ≤ 131106 + length (path_of_question q)
+pub begun_wants : (repository root : List ℕ) (q : Question) (k after : Kept) (s : Stage) → Begins repository root q k after s → wants_left s ≤ (TARGET_LIMIT + 2) * LINKS + length (path_of_question q) + 2
 begun_wants repository root q k after s (starts w is goes) = omega (arith, wants_at_most goes, is.links, ap length is.names)
 begun_wants repository root q k after s (no_memory same is) = omega (arith, ap wants_left is)
 

@@ -17,6 +17,7 @@ use Rattle.cv_resolver.specs.Asking.{path_of_question, is_stat}
 use Rattle.cv_resolver.specs.Walk.{Trail, End, Arrives, NotFound, NotDirectory, TooManyLinks, walk}
 use Rattle.cv_resolver.specs.declared.question.Question.{Question}
 use Rattle.cv_resolver.specs.declared.question.Question.TheVariants.{List as Lists, Stat as Stats, Read as Reads}
+use Rattle.cv_resolver.specs.declared.start.TheConstants.{LINKS}
 use Rattle.cv_resolver.specs.declared.stat_line.StatLine.{StatLine}
 use Rattle.cv_resolver.specs.declared.found.Found.{Found}
 use Rattle.cv_resolver.specs.declared.found.Found.TheVariants as found
@@ -74,7 +75,7 @@ finding_of t q TooManyLinks = Err fault.TooManyLinks
 
 -- from the root, with at most 32 links
 abbrev pub trail : (repository : List ℕ) → Nodes → Question → Trail
-trail repository t q = walk repository t (is_stat q) 32 (path_of_question q) []
+trail repository t q = walk repository t (is_stat q) LINKS (path_of_question q) []
 
 -- the answer to a question in a whole tree
 abbrev pub look : (repository : List ℕ) → Nodes → Question → Result Finding ClientFault

@@ -1,9 +1,10 @@
 //! What follows from the definitions of a client's answer.
-ghost use Rattle.std.specs.Prelude.{◌≡◌, ◌≤◌, ◌<◌, ◌+◌, ◌&&◌, ◌⊎◌, ◌↔◌, ℕ, Bool, true, false, suc, List, [], ◌∷◌, ◌++◌, length, codes, Option, Some, None, Ok};
+ghost use Rattle.std.specs.Prelude.{◌≡◌, ◌≤◌, ◌<◌, ◌+◌, ◌*◌, ◌&&◌, ◌⊎◌, ◌↔◌, ℕ, Bool, true, false, suc, List, [], ◌∷◌, ◌++◌, length, codes, Option, Some, None, Ok};
 ghost use Rattle.std.specs.FinMap.{get};
 ghost use Rattle.cv_base.specs.Path.{Path, parent};
 ghost use Rattle.cv_base.specs.PathText.{parts_of};
 ghost use Rattle.cv_base.specs.declared.attr.Attr.{Attr as TheAttr};
+ghost use Rattle.cv_base.specs.declared.target.TheConstants.{TARGET_LIMIT};
 ghost use Rattle.cv_tree.specs.Tree.{Nodes, is_directory};
 ghost use Rattle.cv_tree.specs.declared.node.Node.TheVariants as node;
 ghost use Rattle.cv_tree.specs.declared.node.FileRef.{FileRef as TheFile};
@@ -16,6 +17,7 @@ ghost use Rattle.cv_resolver.specs.Giving.{Blames, EndsBy, IsOther, IsUndecoded,
 ghost use Rattle.cv_resolver.specs.declared.found.ClientFault.{ClientFault as TheFault};
 ghost use Rattle.cv_resolver.specs.Asking.{path_of_question};
 ghost use Rattle.cv_resolver.specs.declared.question.Question.{Question as TheQuestion};
+ghost use Rattle.cv_resolver.specs.declared.start.TheConstants.{LINKS};
 ghost use Rattle.sha1.specs.Sha1.{sha1};
 ghost use Rattle.cv_resolver.specs.declared.walk.Walk.{Walk as TheWalk};
 ghost use Rattle.cv_resolver.specs.declared.stage.Stage.{Stage as TheStage};
@@ -94,7 +96,7 @@ pub fn faults_tell_what_was_given()
 /// its walk may make and for the place at which it arrives, and the content of a file; and each that is given leaves fewer.
 pub fn questions_come_to_answers()
     ensures first { (r root : List ℕ) (q : TheQuestion) (k after : Kept) (s : TheStage) → Begins r root q k after s
-        → wants_left s ≤ 131106 + length (path_of_question q) }
+        → wants_left s ≤ (TARGET_LIMIT + 2) * LINKS + length (path_of_question q) + 2 }
     ensures fewer { (r : List ℕ) (q : TheQuestion) (k after : Kept) (was s : TheStage) (given : Option (List ℕ)) → Takes r q k was given after s
         → wants_left s < wants_left was }
 {}

@@ -24,4 +24,5 @@ mod walk;
 pub use found::{ClientFault, Found, RenewFault};
 pub use question::Question;
 pub use resolver::Resolver;
+pub use start::LINKS;
 pub use stat_line::StatLine;

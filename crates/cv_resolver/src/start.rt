@@ -9,7 +9,7 @@ use std::alloc::Global;
 use std::collections::VecDeque;
 
 /// How many links a walk follows.
-const LINKS: u32 = 32;
+pub const LINKS: u32 = 32;
 
 /// The texts of names.
 fn texts(alloc: Global, names: &[PathName]) -> Result<VecDeque<Text>, NoMemory>

@@ -1,7 +1,8 @@
 //! Where targets of links lead.
-ghost use Rattle.std.specs.Prelude.{◌≡◌, ℕ, List, map, length, IfOk};
+ghost use Rattle.std.specs.Prelude.{◌≡◌, ◌+◌, ℕ, List, map, length, IfOk};
 ghost use Rattle.cv_base.specs.Path.{Path};
 ghost use Rattle.cv_base.specs.PathText.{parts_of};
+ghost use Rattle.cv_base.specs.declared.target.TheConstants.{TARGET_LIMIT};
 ghost use Rattle.cv_resolver.specs.Walk.{is_absolute, lead_of};
 ghost use Rattle.cv_resolver.specs.TargetInner.{is_own, start_of, HasNames, IsFrom};
 
@@ -86,7 +87,7 @@ fn lead_of_pieces(alloc: Global, repository: &str, pieces: &[&str]) -> Result<Le
 /// Where the target of a link leads, in the repository of this name.
 pub fn lead_of_target(alloc: Global, repository: &str, target: &Target) -> Result<Lead, NoMemory>
     ensures lead { (p : Path) → IfOk result (λ lead. lead_of repository.now p (parts_of target.now) ≡ start_of p lead) }
-    ensures names { IfOk result (HasNames 4096) }
+    ensures names { IfOk result (HasNames (TARGET_LIMIT + 1)) }
     ensures from { IfOk result (IsFrom (parts_of target.now)) }
 {
     let pieces = pieces(alloc, target.text())?;
