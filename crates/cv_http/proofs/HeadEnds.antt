@@ -4,11 +4,12 @@ use Rattle.std.proofs.lemmas.Bool.{cases_lt, le-leb, or_parts}
 use Rattle.std.proofs.lemmas.List.{take_all, take-append-le, take-append-drop, drop-append-le, take_at}
 use Rattle.std.proofs.Math.Bool.{or-true}
 use Rattle.httparse.specs.Grammar.{LineEnd, crlf, lf, print_end}
-use Rattle.cv_http.specs.Forms.{Form, HasNone, UnfinishedAs, AwaitedAs, head_limit}
+use Rattle.cv_http.specs.Forms.{Form, HasNone, UnfinishedAs, AwaitedAs}
 use Rattle.cv_http.specs.FormsInner.{EndsEmpty}
 use Rattle.cv_http.specs.HeadEndsInner.{closes, after, has_empty_line, may_end, NoneWithin}
 use Rattle.cv_http.specs.declared.head_end.Line.{Line}
 use Rattle.cv_http.specs.declared.head_end.Line.TheVariants.{Empty, Returned, Text}
+use Rattle.cv_http.specs.declared.judge.TheConstants.{HEAD_LIMIT}
 
 -- ---- an empty line is found
 
@@ -55,11 +56,11 @@ module _ {P H : Type 0} (form : Form P H) (ends : (head : P) → EndsEmpty (form
   -- no head may end behind the bytes that were seen: none is there
   pub none_there : (seen : ℕ) (held : List ℕ) → NoneWithin form seen held → may_end seen held ≡ false → AwaitedAs form held
   none_there seen held none stops =
-      let parts = or_parts (nat_le head_limit (length held)) (has_empty_line Text (drop (seen - 2) held)) stops in
+      let parts = or_parts (nat_le HEAD_LIMIT (length held)) (has_empty_line Text (drop (seen - 2) held)) stops in
       record {
-        short = elim (cases_lt (length held) head_limit) [
+        short = elim (cases_lt (length held) HEAD_LIMIT) [
           | inl below ↦ below
-          | inr above ↦ let long : true ≡ false = sym (le-leb head_limit (length held) above) ∙ parts.0 in cc
+          | inr above ↦ let long : true ≡ false = sym (le-leb HEAD_LIMIT (length held) above) ∙ parts.0 in cc
         ];
         none = λ h later reads.
             let e = ends h in
@@ -77,5 +78,5 @@ module _ {P H : Type 0} (form : Form P H) (ends : (head : P) → EndsEmpty (form
       }
 
 -- bytes that begin no head, and have room for more of one
-pub awaited : {P H : Type 0} (form : Form P H) (held : List ℕ) → length held < head_limit → UnfinishedAs form held → AwaitedAs form held
-awaited form held short u = record { short = short; none = subst (HasNone form) (take_all head_limit held (omega (arith, short))) u.not_yet }
+pub awaited : {P H : Type 0} (form : Form P H) (held : List ℕ) → length held < HEAD_LIMIT → UnfinishedAs form held → AwaitedAs form held
+awaited form held short u = record { short = short; none = subst (HasNone form) (take_all HEAD_LIMIT held (omega (arith, short))) u.not_yet }

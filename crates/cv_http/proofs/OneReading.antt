@@ -10,12 +10,13 @@ use Rattle.std.proofs.lemmas.Str.{IsUtf8-from_ascii}
 use Rattle.std.proofs.lemmas.Str.Ascii.{IsAscii-cons, IsAscii-nil}
 use Rattle.std.specs.Prelude.{IsTrue}
 use Rattle.cv_http.proofs.Streams.{seen_more}
-use Rattle.cv_http.specs.Forms.{Form, ReadsAs, HasNone, HasHeadAs, BeginsAs, NeverAs, RefusedAs, CutAs, head_limit, window, never, large, judged}
+use Rattle.cv_http.specs.Forms.{Form, ReadsAs, HasNone, HasHeadAs, BeginsAs, NeverAs, RefusedAs, CutAs, window, never, large, judged}
 use Rattle.cv_http.specs.Heads.{request_form, fault_of_head, Begins, Never, Refused, IsCut}
 use Rattle.cv_http.specs.HeadsInner.{Unfinished}
 use Rattle.cv_http.specs.declared.head.RequestHead.{RequestHead}
 use Rattle.cv_http.specs.declared.fault.HttpFault.{HttpFault}
 use Rattle.cv_http.specs.declared.fault.HttpFault.TheVariants.{BadHead}
+use Rattle.cv_http.specs.declared.judge.TheConstants.{HEAD_LIMIT}
 
 -- bytes are one head of the form at most
 abbrev pub IsUnique : {P H : Type 0} → Form P H → Type 0
@@ -26,10 +27,10 @@ module _ {P H : Type 0} (form : Form P H) where
   in_window : {b later : List ℕ} {parsed : P} → HasHeadAs form b parsed later → HasNone form (window b) → ⊥
   in_window {b} {later} {parsed} has none =
       let text = form.print parsed in
-      let seen : window b ≡ form.print parsed ++ take (16384 - length (form.print parsed)) later =
-      ap window has.reads.1 ∙ seen_more 16384 (form.print parsed) later
-      ∙ ap (λ x. x ++ take (16384 - length (form.print parsed)) later) (take_all 16384 (form.print parsed) has.limit) in
-      none parsed (take (16384 - length (form.print parsed)) later) (has.reads.0, seen)
+      let seen : window b ≡ form.print parsed ++ take (HEAD_LIMIT - length (form.print parsed)) later =
+      ap window has.reads.1 ∙ seen_more HEAD_LIMIT (form.print parsed) later
+      ∙ ap (λ x. x ++ take (HEAD_LIMIT - length (form.print parsed)) later) (take_all HEAD_LIMIT (form.print parsed) has.limit) in
+      none parsed (take (HEAD_LIMIT - length (form.print parsed)) later) (has.reads.0, seen)
 
   not_never : {b later : List ℕ} {parsed : P} → HasHeadAs form b parsed later → NeverAs form b → ⊥
   not_never {b} has h = in_window has (subst (HasNone form) (append-nil (window b)) (h.never []))
@@ -69,7 +70,7 @@ not_refused b later head fault = begun_unrefused request_form request_unique
 pub not_cut : (b later : List ℕ) (head : RequestHead) → Begins b head later → IsCut b → ⊥
 not_cut b later head = begun_uncut request_form
 
-pub one_refusal : (b : List ℕ) (fault fault' : HttpFault) → Refused b fault → Refused b fault' → (fault ≡ fault') ⊎ ((head_limit ≤ length b) × Never b × EndsInTarget (window b))
+pub one_refusal : (b : List ℕ) (fault fault' : HttpFault) → Refused b fault → Refused b fault' → (fault ≡ fault') ⊎ ((HEAD_LIMIT ≤ length b) × Never b × EndsInTarget (window b))
 one_refusal b _ _ (never h) (never h') = inl refl
 one_refusal b _ _ (never h) (large long open_) = inr (long, h, in_target h open_)
 one_refusal b _ _ (never h) (judged parsed later fault has is) = absurd (not_never request_form has h)

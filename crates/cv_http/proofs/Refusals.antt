@@ -1,12 +1,13 @@
 -- By which faults bytes are refused.
 use Rattle.std.proofs.Common.{◌≡◌, List, ℕ, Bool, true, false, subst}
 use Rattle.std.specs.Prelude.{Option, Some, None, IfSome, if◌then◌else◌, nat_lt, length}
-use Rattle.cv_http.specs.FieldFaults.{is_length_wrong, field_limit, is_coded}
+use Rattle.cv_http.specs.FieldFaults.{is_length_wrong, is_coded}
 use Rattle.cv_http.specs.Forms.{Form, RefusedAs, never, large, judged}
 use Rattle.cv_http.specs.ReplyHeads.{fields_of, reply_form}
 use Rattle.cv_http.specs.FaultsInner.{IsRefusal}
 use Rattle.cv_http.specs.declared.fault.HttpFault.{HttpFault}
 use Rattle.cv_http.specs.declared.fault.HttpFault.TheVariants.{BadHead, HeadTooLarge, NoLength, Coding}
+use Rattle.cv_http.specs.declared.field_faults.TheConstants.{FIELD_LIMIT}
 
 -- where a head has no other faults, bytes are refused by no others
 pub refusal : {P H : Type 0} (form : Form P H) → ((head : P) → IfSome (form.fault head) IsRefusal) → (b : List ℕ) (fault : HttpFault) → RefusedAs form b fault → IsRefusal fault
@@ -25,5 +26,5 @@ pub reply_needs_none : (b : List ℕ) (fault : HttpFault) → RefusedAs reply_fo
 reply_needs_none b _ (never h) = λ same. cc
 reply_needs_none b _ (large long h) = λ same. cc
 reply_needs_none b _ (judged parsed later fault has is) = λ same.
-    no_length_of_fields (is_length_wrong (fields_of parsed)) (nat_lt field_limit (length (fields_of parsed))) (is_coded (fields_of parsed))
+    no_length_of_fields (is_length_wrong (fields_of parsed)) (nat_lt FIELD_LIMIT (length (fields_of parsed))) (is_coded (fields_of parsed))
     (subst (λ (f : HttpFault). reply_form.fault parsed ≡ Some f) same is)

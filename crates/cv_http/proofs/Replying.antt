@@ -4,12 +4,13 @@ use Rattle.std.specs.Prelude.{Option, Some, None, Ok, Err}
 use Rattle.cv_ports.specs.Streams.{Look}
 use Rattle.cv_http.specs.Forms.{BeginsAs, AwaitedAs}
 use Rattle.cv_http.specs.ReplyHeads.{reply_form}
-use Rattle.cv_http.specs.ReplyTexts.{interim_code, interim_limit, Passes, no_more, one_more, Reaches, HasFinal, IsBody, IsOpen, IsReply, bad_head, too_large, IsCutReply, before_head, inside_head, inside_body, IsAwaitedReply, awaits_head, awaits_body, ReplyLost}
+use Rattle.cv_http.specs.ReplyTexts.{interim_code, Passes, no_more, one_more, Reaches, HasFinal, IsBody, IsOpen, IsReply, bad_head, too_large, IsCutReply, before_head, inside_head, inside_body, IsAwaitedReply, awaits_head, awaits_body, ReplyLost}
 use Rattle.cv_http.specs.ReplyTextsInner.{ReplyBodyRead}
 use Rattle.cv_http.specs.Wires.{WireView, Draws, Looks, Beside, HeadReadAs}
 use Rattle.cv_http.specs.declared.reply_head.ReplyHead.{ReplyHead}
 use Rattle.cv_http.specs.declared.fault.HttpFault.{HttpFault}
 use Rattle.cv_http.specs.declared.fault.HttpFault.TheVariants.{BadHead, HeadTooLarge, BodyTooLarge, NoLength, Coding, Short, ReadFault, NoMemory}
+use Rattle.cv_http.specs.declared.wire.TheConstants.{INTERIM_LIMIT}
 use Rattle.cv_http.proofs.Refusals.{reply_needs_none}
 use Rattle.cv_http.proofs.Streams.{begins_on, draws_reads, looks_then}
 
@@ -24,7 +25,7 @@ passes_then : {n : ℕ} {b at : List ℕ} (later : List ℕ) (head : ReplyHead) 
 passes_then later head (no_more b) begins code = one_more 0 b later later head begins code (no_more later)
 passes_then later head (one_more n b next at first is was more) begins code = one_more (n + 1) b next later first is was (passes_then later head more begins code)
 
-pub reaches_on : {n : ℕ} {b at : List ℕ} (l : List ℕ) → n ≤ interim_limit → Passes n b at → Reaches (b ++ l) (at ++ l)
+pub reaches_on : {n : ℕ} {b at : List ℕ} (l : List ℕ) → n ≤ INTERIM_LIMIT → Passes n b at → Reaches (b ++ l) (at ++ l)
 reaches_on {n} l within passes = record { count = n; limit = within; passes = passes_on l passes }
 
 pub final_on : {b later : List ℕ} {head : ReplyHead} (l : List ℕ) → HasFinal b head later → HasFinal (b ++ l) head (later ++ l)
@@ -35,7 +36,7 @@ module _ {n : ℕ} {b held : List ℕ} (more held' : List ℕ) (passes : Passes 
   pub one_passed : (head : ReplyHead) → head.code ≡ interim_code → BeginsAs reply_form (held ++ more) head held' → Passes (n + 1) (b ++ more) held'
   one_passed head code begins = passes_then held' head (passes_on more passes) begins code
 
-  module _ (within : n ≤ interim_limit) where
+  module _ (within : n ≤ INTERIM_LIMIT) where
     -- a head of another code
     pub final_found : (head : ReplyHead) → head.code ≢ interim_code → BeginsAs reply_form (held ++ more) head held' → HasFinal (b ++ more) head held'
     final_found head final begins = record { at = held ++ more; reaches = reaches_on more within passes; begins = begins; final = final }
@@ -58,7 +59,7 @@ module _ {n : ℕ} {b held : List ℕ} (more held' : List ℕ) (passes : Passes 
 
 module _ {R : Type 0} (left given : R → Option (List ℕ)) (looks : R → Look → Type 0) (w0 w w' : WireView R) (passed : Option (List ℕ)) where
   -- a read began before a head, or inside one, behind interim heads
-  pub interim_looks : {n : ℕ} → n ≤ interim_limit → Draws left given w0 w (λ b. Passes n b w.held) → Looks left looks w0 w (Beside passed IsAwaitedReply)
+  pub interim_looks : {n : ℕ} → n ≤ INTERIM_LIMIT → Draws left given w0 w (λ b. Passes n b w.held) → Looks left looks w0 w (Beside passed IsAwaitedReply)
       → Looks left looks w w' (Beside passed (AwaitedAs reply_form)) → Looks left looks w0 w' (Beside passed IsAwaitedReply)
   interim_looks {n} within draws first then_ =
       looks_then left looks w0 w w' (λ b. Passes n b w.held) (Beside passed (AwaitedAs reply_form)) (Beside passed IsAwaitedReply) first (draws_reads left given w0 w _ draws) then_

@@ -15,6 +15,7 @@ use Rattle.cv_http.specs.FaultsInner.{IsRefusal, IsPieceFault}
 use Rattle.cv_http.proofs.Refusals.{refusal}
 use Rattle.cv_http.specs.declared.fault.HttpFault.{HttpFault}
 use Rattle.cv_http.specs.declared.fault.HttpFault.TheVariants.{BadHead, HeadTooLarge, BodyTooLarge, NoLength, Coding, Short, ReadFault, NoMemory}
+use Rattle.cv_http.specs.declared.judge.TheConstants.{HEAD_LIMIT}
 
 -- ---- where a source tells
 
@@ -168,12 +169,12 @@ seen_more n held l = elim (cases_lt (length held) n) [
 module _ {P H : Type 0} {form : Form P H} where
   never_on : {held : List ℕ} (l : List ℕ) → NeverAs form held → NeverAs form (held ++ l)
   never_on {held} l h = record {
-    never = λ more. subst (HasNone form) (sym (append_assoc (take 16384 held) (take (16384 - length held) l) more) ∙ ap (λ x. x ++ more) (sym (seen_more 16384 held l))) (h.never (take (16384 - length held) l ++ more));
+    never = λ more. subst (HasNone form) (sym (append_assoc (take HEAD_LIMIT held) (take (HEAD_LIMIT - length held) l) more) ∙ ap (λ x. x ++ more) (sym (seen_more HEAD_LIMIT held l))) (h.never (take (HEAD_LIMIT - length held) l ++ more));
   }
 
-  unfinished_on : {held : List ℕ} (l : List ℕ) → 16384 ≤ length held → UnfinishedAs form held → UnfinishedAs form (held ++ l)
+  unfinished_on : {held : List ℕ} (l : List ℕ) → HEAD_LIMIT ≤ length held → UnfinishedAs form held → UnfinishedAs form (held ++ l)
   unfinished_on {held} l long h =
-      let same : window (held ++ l) ≡ window held = take-append-le 16384 held l long in
+      let same : window (held ++ l) ≡ window held = take-append-le HEAD_LIMIT held l long in
       record { not_yet = subst (HasNone form) (sym same) h.not_yet; may = subst form.MayBecome (sym same) h.may }
 
   pub refused_on : {held : List ℕ} {fault : HttpFault} (l : List ℕ) → RefusedAs form held fault → RefusedAs form (held ++ l) fault

@@ -3,6 +3,7 @@ use Rattle.std.specs.Prelude.{◌&&◌, nat_lt, ℕ, List, length, Bool, Option,
 use Rattle.cv_http.specs.Fields.{values_of, length_of}
 use Rattle.cv_http.specs.declared.fault.HttpFault.{HttpFault}
 use Rattle.cv_http.specs.declared.fault.HttpFault.TheVariants.{BadHead, HeadTooLarge, Coding}
+use Rattle.cv_http.specs.declared.field_faults.TheConstants.{FIELD_LIMIT}
 
 -- the values of Content-Length
 abbrev pub lengths_of : List (List ℕ × List ℕ) → List (List ℕ)
@@ -12,10 +13,6 @@ lengths_of fields = values_of (codes "content-length") fields
 abbrev pub is_length_wrong : List (List ℕ × List ℕ) → Bool
 is_length_wrong fields = nat_lt 0 (length (lengths_of fields)) && is_none (length_of (lengths_of fields))
 
--- the most fields of a head
-abbrev pub field_limit : ℕ
-field_limit = 64
-
 -- a head that is coded in another way than by its length
 abbrev pub is_coded : List (List ℕ × List ℕ) → Bool
 is_coded fields = nat_lt 0 (length (values_of (codes "transfer-encoding") fields))
@@ -24,6 +21,6 @@ is_coded fields = nat_lt 0 (length (values_of (codes "transfer-encoding") fields
 abbrev pub fields_fault : List (List ℕ × List ℕ) → Option HttpFault
 fields_fault fields =
     if is_length_wrong fields then Some BadHead
-    else if nat_lt field_limit (length fields) then Some HeadTooLarge
+    else if nat_lt FIELD_LIMIT (length fields) then Some HeadTooLarge
     else if is_coded fields then Some Coding
     else None

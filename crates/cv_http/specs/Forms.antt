@@ -2,14 +2,11 @@
 use Rattle.std.specs.Prelude.{◌≡◌, ◌≢◌, ◌<◌, ◌≤◌, ◌++◌, ℕ, List, [], length, take, Option, Some, None}
 use Rattle.cv_http.specs.declared.fault.HttpFault.{HttpFault}
 use Rattle.cv_http.specs.declared.fault.HttpFault.TheVariants.{BadHead, HeadTooLarge}
-
--- the most bytes of a head
-abbrev pub head_limit : ℕ
-head_limit = 16384
+use Rattle.cv_http.specs.declared.judge.TheConstants.{HEAD_LIMIT}
 
 -- the bytes that a head may have
 abbrev pub window : List ℕ → List ℕ
-window = take head_limit
+window = take HEAD_LIMIT
 
 -- a form of heads: the bytes of a head, what makes it one, which bytes may become one, by which fault it is refused, and what
 -- it says
@@ -31,7 +28,7 @@ HasNone {P} form b = (head : P) (later : List ℕ) → ¬ (ReadsAs form b head l
 -- the bytes are this head, within the limit, and then these
 pub record HasHeadAs {P H : Type 0} (form : Form P H) (b : List ℕ) (head : P) (later : List ℕ) : Type 0 where
   pub reads : ReadsAs form b head later
-  pub limit : length (form.print head) ≤ head_limit
+  pub limit : length (form.print head) ≤ HEAD_LIMIT
 
 -- the bytes are a whole head without fault, which says this, and then these
 pub record BeginsAs {P H : Type 0} (form : Form P H) (b : List ℕ) (head : H) (later : List ℕ) : Type 0 where
@@ -52,16 +49,16 @@ pub record UnfinishedAs {P H : Type 0} (form : Form P H) (b : List ℕ) : Type 0
 -- the bytes begin with something that is refused by this fault
 pub data RefusedAs {P H : Type 0} (form : Form P H) (b : List ℕ) : HttpFault → Type 0 where
   never : NeverAs form b → RefusedAs form b BadHead
-  large : head_limit ≤ length b → UnfinishedAs form b → RefusedAs form b HeadTooLarge
+  large : HEAD_LIMIT ≤ length b → UnfinishedAs form b → RefusedAs form b HeadTooLarge
   judged : (parsed : P) (later : List ℕ) (fault : HttpFault) → HasHeadAs form b parsed later → form.fault parsed ≡ Some fault → RefusedAs form b fault
 
 -- the bytes begin with no whole head, and have room for more of one
 pub record AwaitedAs {P H : Type 0} (form : Form P H) (b : List ℕ) : Type 0 where
-  pub short : length b < head_limit
+  pub short : length b < HEAD_LIMIT
   pub none : HasNone form b
 
 -- the bytes end inside a head
 pub record CutAs {P H : Type 0} (form : Form P H) (b : List ℕ) : Type 0 where
   pub some : b ≢ []
-  pub short : length b < head_limit
+  pub short : length b < HEAD_LIMIT
   pub unfinished : UnfinishedAs form b

@@ -1,8 +1,9 @@
 -- Where a head may end: an empty line ends it.
 use Rattle.std.specs.Prelude.{ℕ, ◌<◌, ◌-◌, ◌==◌, ◌||◌, nat_le, List, [], ◌∷◌, length, drop, Bool, false, if◌then◌else◌}
-use Rattle.cv_http.specs.Forms.{Form, ReadsAs, head_limit}
+use Rattle.cv_http.specs.Forms.{Form, ReadsAs}
 use Rattle.cv_http.specs.declared.head_end.Line.{Line}
 use Rattle.cv_http.specs.declared.head_end.Line.TheVariants.{Empty, Returned, Text}
+use Rattle.cv_http.specs.declared.judge.TheConstants.{HEAD_LIMIT}
 
 -- the line is empty and ends with this byte
 abbrev pub closes : Line → ℕ → Bool
@@ -27,7 +28,7 @@ has_empty_line line (byte ∷ more) = closes line byte || has_empty_line (after 
 
 -- behind the first bytes, so many, a head may end, or there is no room for more of one
 abbrev pub may_end : ℕ → List ℕ → Bool
-may_end seen held = nat_le head_limit (length held) || has_empty_line Text (drop (seen - 2) held)
+may_end seen held = nat_le HEAD_LIMIT (length held) || has_empty_line Text (drop (seen - 2) held)
 
 -- each head with which the bytes begin has more bytes than these
 abbrev pub NoneWithin : {P H : Type 0} → Form P H → ℕ → List ℕ → Type 0

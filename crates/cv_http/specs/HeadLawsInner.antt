@@ -4,13 +4,14 @@ use Rattle.std.specs.List.{flat_map}
 use Rattle.httparse.specs.Grammar.{LineEnd, crlf, lf, print_end, Field, print_field, RequestHead as ParsedHead, ResponseHead as ParsedReply, print_blank, print_version, print_reason, print_request, print_response}
 use Rattle.std.specs.Prelude.{Bool, true, false, Option, Some, None, IfSome, if◌then◌else◌, nat_lt, length}
 use Rattle.std.specs.Option.{option_or}
-use Rattle.cv_http.specs.FieldFaults.{is_length_wrong, field_limit, is_coded, fields_fault}
+use Rattle.cv_http.specs.FieldFaults.{is_length_wrong, is_coded, fields_fault}
 use Rattle.cv_http.specs.FaultsInner.{IsRefusal}
 use Rattle.cv_http.specs.FormsInner.{EndsEmpty}
 use Rattle.cv_http.specs.Heads.{parts_of, is_host_wrong, is_length_lacking, fault_of_head}
 use Rattle.cv_http.specs.ReplyHeads.{fields_of, fault_of_reply}
 use Rattle.cv_http.specs.declared.fault.HttpFault.{HttpFault}
 use Rattle.cv_http.specs.declared.fault.HttpFault.TheVariants.{BadHead, HeadTooLarge, NoLength, Coding}
+use Rattle.cv_http.specs.declared.field_faults.TheConstants.{FIELD_LIMIT}
 
 -- ---- how a head ends
 
@@ -60,7 +61,7 @@ first_of_fields false false true = tt
 first_of_fields false false false = tt
 
 of_fields : (fields : List (List ℕ × List ℕ)) → IfSome (fields_fault fields) IsRefusal
-of_fields fields = first_of_fields (is_length_wrong fields) (nat_lt field_limit (length fields)) (is_coded fields)
+of_fields fields = first_of_fields (is_length_wrong fields) (nat_lt FIELD_LIMIT (length fields)) (is_coded fields)
 
 first_of_head : (host lacking : Bool) (found : Option HttpFault) → IfSome found IsRefusal
     → IfSome (if host then Some BadHead else option_or found (if lacking then Some NoLength else None)) IsRefusal

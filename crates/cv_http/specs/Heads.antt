@@ -13,7 +13,7 @@ use Rattle.cv_http.specs.declared.method.Method.{Method}
 use Rattle.cv_http.specs.declared.method.Method.TheVariants.{Get, Post, Delete, Other}
 use Rattle.cv_http.specs.declared.fault.HttpFault.{HttpFault}
 use Rattle.cv_http.specs.declared.fault.HttpFault.TheVariants.{BadHead, NoLength}
-pub use Rattle.cv_http.specs.Forms.{head_limit, window}
+pub use Rattle.cv_http.specs.Forms.{window}
 
 -- the parts of a head that count: the minor version, and the names and values of its fields
 pub record HeadParts : Type 0 where

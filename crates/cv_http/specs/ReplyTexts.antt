@@ -7,16 +7,13 @@ use Rattle.cv_http.specs.declared.reply_head.ReplyHead.{ReplyHead}
 use Rattle.cv_http.specs.declared.http_reply.HttpReply.{HttpReply}
 use Rattle.cv_http.specs.declared.fault.HttpFault.{HttpFault}
 use Rattle.cv_http.specs.declared.fault.HttpFault.TheVariants.{BadHead, HeadTooLarge, BodyTooLarge, NoLength, Coding, Short, ReadFault, NoMemory}
+use Rattle.cv_http.specs.declared.wire.TheConstants.{BODY_LIMIT, INTERIM_LIMIT}
 
 -- ---- heads
 
 -- the code of an interim head: 100 Continue
 abbrev pub interim_code : ℕ
 interim_code = 100
-
--- the most interim heads
-abbrev pub interim_limit : ℕ
-interim_limit = 16
 
 -- the bytes are so many interim heads, and then these
 pub data Passes : ℕ → List ℕ → List ℕ → Type 0 where
@@ -27,7 +24,7 @@ pub data Passes : ℕ → List ℕ → List ℕ → Type 0 where
 -- the bytes are interim heads within the limit, and then these
 pub record Reaches (b at : List ℕ) : Type 0 where
   pub count : ℕ
-  pub limit : count ≤ interim_limit
+  pub limit : count ≤ INTERIM_LIMIT
   pub passes : Passes count b at
 
 -- the bytes are interim heads within the limit, this head of another code, and then these
@@ -39,29 +36,25 @@ pub record HasFinal (b : List ℕ) (head : ReplyHead) (later : List ℕ) : Type 
 
 -- ---- bodies
 
--- the most bytes of a body
-abbrev pub body_limit : ℕ
-body_limit = 33554432
-
 -- the bytes are a body of the stated length, and then these; or else they are all the body, and the input ends behind them
 abbrev pub IsBody : Type 0 → Option ℕ → List ℕ → List ℕ → List ℕ → Type 0
-IsBody Ends (Some size) b body later = (b ≡ body ++ later) × (length body ≡ size) × (size ≤ body_limit)
-IsBody Ends None b body later = (b ≡ body) × (later ≡ []) × (length body ≤ body_limit) × Ends
+IsBody Ends (Some size) b body later = (b ≡ body ++ later) × (length body ≡ size) × (size ≤ BODY_LIMIT)
+IsBody Ends None b body later = (b ≡ body) × (later ≡ []) × (length body ≤ BODY_LIMIT) × Ends
 
 -- the stated length passes the limit, or else the bytes do
 abbrev pub IsTooLarge : Option ℕ → List ℕ → Type 0
-IsTooLarge (Some size) b = body_limit < size
-IsTooLarge None b = body_limit < length b
+IsTooLarge (Some size) b = BODY_LIMIT < size
+IsTooLarge None b = BODY_LIMIT < length b
 
 -- the bytes are fewer than the stated length
 abbrev pub IsShort : Option ℕ → List ℕ → Type 0
-IsShort (Some size) b = (size ≤ body_limit) × (length b < size)
+IsShort (Some size) b = (size ≤ BODY_LIMIT) × (length b < size)
 IsShort None b = ⊥
 
 -- of the body more may come
 abbrev pub IsOpen : Option ℕ → List ℕ → Type 0
-IsOpen (Some size) b = (size ≤ body_limit) × (length b < size)
-IsOpen None b = length b ≤ body_limit
+IsOpen (Some size) b = (size ≤ BODY_LIMIT) × (length b < size)
+IsOpen None b = length b ≤ BODY_LIMIT
 
 -- ---- replies
 
@@ -76,7 +69,7 @@ pub record IsReply (Ends : Type 0) (b : List ℕ) (reply : HttpReply) (later : L
 -- the bytes begin with something that is refused by this fault: a head, an interim head past the limit, or a body
 pub data IsRefusedReply (b : List ℕ) : HttpFault → Type 0 where
   bad_head : (at : List ℕ) (fault : HttpFault) → Reaches b at → RefusedAs reply_form at fault → IsRefusedReply b fault
-  many : (at : List ℕ) → Passes (interim_limit + 1) b at → IsRefusedReply b BadHead
+  many : (at : List ℕ) → Passes (INTERIM_LIMIT + 1) b at → IsRefusedReply b BadHead
   too_large : (head : ReplyHead) (later : List ℕ) → HasFinal b head later → IsTooLarge head.length later → IsRefusedReply b BodyTooLarge
 
 -- the bytes end before a reply does: before a head, inside one, or inside a body

@@ -9,7 +9,7 @@ use crate::values::length_of;
 use std::alloc::{AllocError, Global};
 
 /// The most fields of a head.
-const FIELD_LIMIT: usize = 64;
+pub const FIELD_LIMIT: usize = 64;
 
 fn is_length_wrong(alloc: Global, fields: &Fields) -> Result<bool, AllocError>
     ensures { IfOk result (λ wrong. wrong ≡ is_length_wrong fields.now) }

@@ -1,9 +1,10 @@
 //! What bytes begin.
 ghost use Rattle.std.specs.Prelude.{◌≤◌, length, IfOk, IfSome};
-ghost use Rattle.cv_http.specs.Forms.{Form, head_limit};
+ghost use Rattle.cv_http.specs.Forms.{Form};
 ghost use Rattle.cv_http.specs.FormsInner.{EndsEmpty};
 ghost use Rattle.cv_http.specs.FaultsInner.{IsRefusal};
 ghost use Rattle.cv_http.specs.JudgementsInner.{Judges};
+ghost use Rattle.cv_http.specs.declared.judge.TheConstants.{HEAD_LIMIT};
 
 use crate::fault::HttpFault;
 use cv_base::NoMemory;
@@ -34,7 +35,7 @@ pub trait Head: Drop {
 
     /// Judges what the bytes begin. Bytes of the limit hold no more fields than there is room for.
     fn parse(alloc: Global, bytes: &[u8], room: &mut [HeaderSpan]) -> Result<Judged<Self>, NoMemory>
-        requires limit { length bytes.now ≤ head_limit }
+        requires limit { length bytes.now ≤ HEAD_LIMIT }
         requires room { 5462 ≤ length room.old }
         ensures { IfOk result (Judges form bytes.now) };
 

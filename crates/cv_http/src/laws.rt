@@ -3,12 +3,13 @@
 //! The functions do nothing. Their contracts hold of all bytes.
 ghost use Rattle.std.specs.Prelude.{◌≡◌, ◌≤◌, ◌++◌, ◌⊎◌, ⊤, ℕ, List, [], length};
 ghost use Rattle.httparse.specs.Grammar.{EndsInTarget};
-ghost use Rattle.cv_http.specs.Heads.{head_limit, window, Begins, Never, Refused, IsCut};
+ghost use Rattle.cv_http.specs.Heads.{window, Begins, Never, Refused, IsCut};
 ghost use Rattle.cv_http.specs.ReplyTexts.{IsReply, IsRefusedReply, IsCutReply};
 ghost use Rattle.cv_http.specs.declared.head.RequestHead.{RequestHead};
 ghost use Rattle.cv_http.specs.declared.http_reply.HttpReply.{HttpReply};
 ghost use Rattle.cv_http.specs.declared.fault.HttpFault.{HttpFault};
 ghost use Rattle.cv_http.specs.declared.fault.HttpFault.TheVariants.{BadHead};
+ghost use Rattle.cv_http.specs.declared.judge.TheConstants.{HEAD_LIMIT};
 
 /// Bytes begin with at most one head, which ends at one place.
 pub fn one_head()
@@ -26,7 +27,7 @@ pub fn head_or_fault()
 /// since nothing completes them, or be too long or cut, since a target is judged at its end.
 pub fn one_fault()
     ensures refused { (b : List ℕ) (fault fault' : HttpFault) → Refused b fault → Refused b fault'
-        → (fault ≡ fault') ⊎ ((head_limit ≤ length b) × Never b × EndsInTarget (window b)) }
+        → (fault ≡ fault') ⊎ ((HEAD_LIMIT ≤ length b) × Never b × EndsInTarget (window b)) }
     ensures cut { (b : List ℕ) (fault : HttpFault) → Refused b fault → IsCut b
         → (fault ≡ BadHead) × Never b × EndsInTarget (window b) }
 {}

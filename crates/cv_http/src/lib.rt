@@ -25,13 +25,15 @@ mod verb;
 mod wire;
 
 pub use body_kind::BodyKind;
-pub use buffer::{Buffer, FillFault};
+pub use buffer::{Buffer, FillFault, PIECE};
 pub use code::{Code, NOT_FOUND, OK};
 pub use fault::HttpFault;
+pub use field_faults::FIELD_LIMIT;
 pub use head::RequestHead;
 pub use http_reply::HttpReply;
+pub use judge::HEAD_LIMIT;
 pub use method::Method;
 pub use outgoing::{Outgoing, write_request};
 pub use reply::{SendFault, write_continue, write_reply};
 pub use verb::Verb;
-pub use wire::Wire;
+pub use wire::{BODY_LIMIT, INTERIM_LIMIT, Wire};

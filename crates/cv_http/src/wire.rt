@@ -13,7 +13,9 @@ ghost use Rattle.cv_http.specs.ReplyTextsInner.{FinalRead, ReplyBodyRead};
 ghost use Rattle.cv_http.specs.JudgementsInner.{Judges};
 ghost use Rattle.cv_http.specs.Faults.{IsHeadFault, IsBodyFault, IsReplyFault};
 ghost use Rattle.cv_http.specs.FaultsInner.{IsPieceFault};
+ghost use Rattle.cv_http.specs.declared.buffer.TheConstants.{PIECE};
 ghost use Rattle.cv_http.specs.declared.fault.HttpFault.TheVariants.{Short, ReadFault};
+ghost use Rattle.cv_http.specs.declared.judge.TheConstants.{HEAD_LIMIT};
 
 use crate::buffer::{Buffer, PIECE};
 use crate::fault::HttpFault;
@@ -35,10 +37,10 @@ const ROOM: usize = 5_462;
 const INTERIM_CODE: u16 = 100;
 
 /// The most interim heads of a reply.
-const INTERIM_LIMIT: usize = 16;
+pub const INTERIM_LIMIT: usize = 16;
 
 /// The most bytes of a reply's body.
-const BODY_LIMIT: usize = 33_554_432;
+pub const BODY_LIMIT: usize = 33_554_432;
 
 /// A source of requests or replies, with the bytes that it gave and that weren't used yet. It holds at most 16,384 bytes and a
 /// piece of 65,536, and from the first head on room for the fields of a head.
@@ -166,7 +168,7 @@ impl<R: Source + Drop> Wire<R> {
 
     /// Takes the head with which the input ends. `None` where it ended before one.
     fn end_head<H: Head>(&mut self, alloc: Global) -> Result<Option<H>, HttpFault>
-        requires { length self.old.held < 16384 }
+        requires { length self.old.held < HEAD_LIMIT }
         ensures read { HeadReadAs H.form self.old.held self.new.held result }
         ensures source { self.new.source ≡ self.old.source }
         ensures faults { result ≢ Err ReadFault }
@@ -264,7 +266,7 @@ impl<R: Source + Drop> Wire<R> {
         ensures reads { Draws R.left R.given self.old self.new (λ b. PieceRead b self.new.held result) }
         ensures some { IfOk result (λ piece. 0 < length piece) }
         ensures most { IfOk result (λ piece. length piece ≤ left) }
-        ensures piece { IfOk result (λ piece. length piece ≤ 65536) }
+        ensures piece { IfOk result (λ piece. length piece ≤ PIECE) }
         ensures cut { result ≡ Err Short → WhereTold (R.left self.new.source) (λ left. left ≡ []) }
         ensures faults { IfErr result IsBodyFault }
         ensures cause { HasCause (R.faults self.old.source) (R.faults self.new.source) (result ≡ Err ReadFault) }

@@ -5,10 +5,11 @@ use Rattle.std.specs.declared.option.Option.TheVariants.{Some, None}
 use Rattle.std.proofs.lemmas.Bool.Decides.{nat_tests}
 use Rattle.cv_http.specs.declared.fault.HttpFault.TheVariants.{Short, ReadFault as Unread_}
 use Rattle.cv_gate.specs.Desk.{Call}
-use Rattle.cv_session.specs.Exchanges.{request_limit, ends, is_full}
+use Rattle.cv_session.specs.Exchanges.{ends, is_full}
 use Rattle.cv_session.specs.ExchangesInner.{end_after, Handles, EndsBy, whole, front, nothing, answered, unanswered, refused, broken_off, cut_short, not_read, no_memory, not_said}
 use Rattle.cv_session.specs.Requests.{code_of_fault}
 use Rattle.cv_session.specs.Standing.{Standing}
+use Rattle.cv_session.specs.declared.exchange.TheConstants.{REQUEST_LIMIT}
 use Rattle.cv_session.specs.declared.response.Response.{Response}
 use Rattle.cv_session.specs.declared.request.Unread.{Unread}
 use Rattle.cv_session.specs.declared.request.Unread.TheVariants.{Fault, Unsaid}
@@ -37,7 +38,7 @@ last_of false false = refl
 end_kind : (answer : Response) (last : Bool) (end : SessionEnd) → Some end ≡ end_after answer last → (end ≡ Closed) ⊎ (end ≡ JournalFull)
 end_kind answer last end is = elim (end_of (is_full answer) last end is) [ inl whole_ ↦ inr whole_.1 | inr goes ↦ inl goes.2 ]
 
-not_ended : (answer : Response) (last : Bool) (n : ℕ) → end_after answer (ends last n) ≡ None → n ≢ request_limit
+not_ended : (answer : Response) (last : Bool) (n : ℕ) → end_after answer (ends last n) ≡ None → n ≢ REQUEST_LIMIT
 not_ended answer last n h = grind (arith, nat_tests)
 
 -- the answer to a request ends a session by none of the ends of reading
@@ -61,7 +62,7 @@ module _ {K : Type 0} {does : K → List Call → K → Type 0} {repository : Li
       let is = behind_request end handles in let both : is_behind_request other ≡ true = ap is_behind_request (sym same) ∙ is in cc
 
   -- the next request may still be answered
-  pub goes_below : (asks : Bool) (n : ℕ) → last ≡ ends asks n → Handles does repository seal turn last taken taken' before after None → n ≢ request_limit
+  pub goes_below : (asks : Bool) (n : ℕ) → last ≡ ends asks n → Handles does repository seal turn last taken taken' before after None → n ≢ REQUEST_LIMIT
   goes_below asks n is (answered answer _ d (whole _ end_is legible took)) = not_ended answer asks n (sym (ap (end_after answer) is) ∙ sym end_is)
 
 -- ---- how a session ends where no turn was read

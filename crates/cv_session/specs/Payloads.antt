@@ -18,6 +18,7 @@ use Rattle.cv_pack.specs.Reading.{reading}
 use Rattle.cv_pack.specs.declared.pack_fault.PackFault.{PackFault}
 use Rattle.cv_messages.specs.Targets.{payloads_target}
 use Rattle.cv_session.specs.Turns.{denied, denied_message, signed, token_by}
+use Rattle.cv_session.specs.declared.payload.TheConstants.{MESSAGE_LIMIT}
 use Rattle.cv_session.specs.declared.turn.Turn.{Turn}
 use Rattle.cv_session.specs.declared.turn.Turn.TheVariants.{Step}
 
@@ -31,13 +32,9 @@ is_post Other = false
 abbrev pub is_payload : RequestHead → Bool
 is_payload head = is_post head.method && bytes_eq head.target payloads_target
 
--- the most bytes of a payload's message
-abbrev pub message_limit : ℕ
-message_limit = 65536
-
 abbrev pub fitting : ℕ → Option ℕ → Option ℕ
 fitting size None = None
-fitting size (Some n) = if nat_le n message_limit && nat_le n size then Some n else None
+fitting size (Some n) = if nat_le n MESSAGE_LIMIT && nat_le n size then Some n else None
 
 -- the bytes of the message at the front of a body of so many bytes, by the value of Message-Size
 abbrev pub message_size : Option (List ℕ) → ℕ → Option ℕ

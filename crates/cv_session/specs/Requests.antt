@@ -1,5 +1,5 @@
 -- Requests on a connection (RFC 9112): a head, and a body as long as the head says.
-use Rattle.std.specs.Prelude.{◌≡◌, ◌<◌, ◌≤◌, ◌++◌, ◌&&◌, nat_lt, ℕ, List, [], length, unwrap_or, Bool, true, false, Option, if◌then◌else◌}
+use Rattle.std.specs.Prelude.{◌≡◌, ◌<◌, ◌≤◌, ◌+◌, ◌++◌, ◌&&◌, nat_lt, ℕ, List, [], length, unwrap_or, Bool, true, false, Option, if◌then◌else◌}
 use Rattle.std.specs.declared.option.Option.TheVariants.{Some, None}
 use Rattle.cv_http.specs.Heads.{Begins, Refused, IsAwaited, IsCut}
 use Rattle.cv_http.specs.Replies.{continue_line}
@@ -9,8 +9,10 @@ use Rattle.cv_http.specs.declared.fault.HttpFault.TheVariants.{BadHead, HeadTooL
 use Rattle.cv_http.specs.declared.code.Code.{Code}
 use Rattle.cv_http.specs.declared.code.Code.TheVariants.{BadRequest, FieldsTooLarge, ContentTooLarge, LengthRequired, NotImplemented}
 use Rattle.cv_keys.specs.declared.key.Key.{Key}
+use Rattle.cv_pack.specs.declared.header_reader.TheConstants.{HEADER_LIMIT, TOTAL_LIMIT}
 use Rattle.cv_session.specs.Turns.{Wants}
 use Rattle.cv_session.specs.Payloads.{is_payload, payload_turn}
+use Rattle.cv_session.specs.declared.payload.TheConstants.{MESSAGE_LIMIT}
 use Rattle.cv_session.specs.declared.turn.Turn.{Turn}
 
 -- a request as it stands: its body is a text, however it is read
@@ -20,7 +22,7 @@ pub record Request : Type 0 where
 
 -- the most bytes of the body behind a head
 abbrev pub body_limit : RequestHead → ℕ
-body_limit head = if is_payload head then 34668544 else 65536
+body_limit head = if is_payload head then TOTAL_LIMIT + HEADER_LIMIT + MESSAGE_LIMIT else MESSAGE_LIMIT
 
 -- the bytes of the body that follows a head
 abbrev pub body_size : RequestHead → ℕ

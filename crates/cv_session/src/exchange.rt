@@ -20,7 +20,7 @@ use cv_seal::Signer;
 use std::alloc::Global;
 
 /// The most requests of a connection.
-const REQUEST_LIMIT: u64 = 1_000;
+pub const REQUEST_LIMIT: u64 = 1_000;
 
 /// Whether the request of this number is to be the last.
 pub(crate) fn ends_with(last: bool, number: u64) -> bool

@@ -16,5 +16,7 @@ mod session_end;
 mod target;
 mod turn;
 
+pub use exchange::REQUEST_LIMIT;
+pub use payload::MESSAGE_LIMIT;
 pub use serving::session;
 pub use session_end::SessionEnd;

@@ -31,8 +31,8 @@ use cv_ports::{Sink, Source};
 use sha1::Sha1;
 use std::alloc::Global;
 
-/// The most bytes of a payload's message.
-const MESSAGE_LIMIT: u64 = 65_536;
+/// The most bytes of a payload's message, and of the body of another request.
+pub const MESSAGE_LIMIT: u64 = 65_536;
 
 /// A payload's message under the id of the key that signed it.
 #[derive(Drop)]

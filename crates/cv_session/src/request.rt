@@ -15,12 +15,13 @@ ghost use Rattle.cv_session.specs.ExchangesInner.{Gets, GetsBehind, IsAsking, Is
 ghost use Rattle.cv_session.specs.declared.request.Unread.TheVariants.{Fault, Unsaid};
 
 use crate::find_turn::request_turn;
-use crate::payload::read_payload;
+use crate::payload::{MESSAGE_LIMIT, read_payload};
 use crate::turn::Turn;
 use cv_base::{Name, NoMemory};
 use cv_http::{Code, HttpFault, Method, RequestHead, Wire, write_continue};
 use cv_keys::KeyTable;
 use cv_messages::PAYLOADS;
+use cv_pack::{HEADER_LIMIT, TOTAL_LIMIT};
 use cv_ports::{Failed, Sink, Source};
 use std::alloc::Global;
 
@@ -70,7 +71,11 @@ fn is_payload(head: &RequestHead) -> bool
 pub(crate) fn body_limit(head: &RequestHead) -> u64
     ensures { result ≡ body_limit head.now }
 {
-    if is_payload(head) { 34_668_544 } else { 65_536 }
+    if is_payload(head) {
+        u64::from(TOTAL_LIMIT) + HEADER_LIMIT + MESSAGE_LIMIT
+    } else {
+        MESSAGE_LIMIT
+    }
 }
 
 /// The bytes of the body behind a head.

@@ -2,6 +2,7 @@ use Rattle.std.proofs.Common.{◌≤◌, length, ◌-◌}
 use Rattle.cv_http.specs.Wires.{Looks, Beside, Gets}
 use Rattle.cv_http.specs.Forms.{AwaitedAs}
 use Rattle.cv_http.specs.HeadEndsInner.{NoneWithin}
+use Rattle.cv_http.specs.declared.judge.TheConstants.{HEAD_LIMIT}
 use Rattle.cv_http.proofs.wire.Wire.next_head.Given as goal
 
 abbrev pub invariant-pieces : goal.invariant-pieces
@@ -14,4 +15,4 @@ invariant-pieces g l = record {
 }
 
 abbrev pub decreases-pieces : goal.decreases-pieces
-decreases-pieces g l = 16384 - length l.self.held
+decreases-pieces g l = HEAD_LIMIT - length l.self.held
