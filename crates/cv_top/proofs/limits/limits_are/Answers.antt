@@ -4,7 +4,20 @@ use Rattle.cv_top.proofs.limits.limits_are.Goals as goal
 pub returns : goal.returns
 returns c =
     record {
-      texts = record { repository = refl; key = refl; tag = refl; host = refl };
+      texts = record { repository = refl; key = refl; secret = refl; tag = refl; host = refl; room = refl };
       tree = record { name = refl; path = refl; names = refl; target = refl; mode = refl; rows = refl; object = refl; read = refl };
-      gate = record { revision = refl; time = refl; lasts = refl; leases = refl; journal = refl; count = refl; total = refl };
+      client = record { sum = refl; links = refl; catalogues = refl };
+      gate =
+          record {
+            revision = refl;
+            time = refl;
+            lasts = refl;
+            keys = refl;
+            leases = refl;
+            journal = refl;
+            count = refl;
+            total = refl;
+            header = refl;
+          };
+      wire = record { head = refl; fields = refl; interim = refl; body = refl; piece = refl; message = refl; requests = refl };
     }
