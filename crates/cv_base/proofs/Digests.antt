@@ -8,10 +8,10 @@ use Rattle.std.proofs.lemmas.List.{get_or_past}
 use Rattle.sha1.specs.Sha1.{sha1, digest_bytes}
 use Rattle.cv_base.specs.Digest.{IsDigest}
 
-abbrev IsByte : ℕ → Type 0
+abbrev pub IsByte : ℕ → Type 0
 IsByte b = b < 256
 
-byte_small : (k x : ℕ) → byte_at k x < 256
+pub byte_small : (k x : ℕ) → byte_at k x < 256
 byte_small zero x = omega arith
 byte_small (suc i) x = omega arith
 
@@ -33,7 +33,7 @@ digest_facts h (suc n) =
     )
 
 -- All of a list at every index, 0 past its end
-bytes_at : (xs : List ℕ) → All IsByte xs → (i : ℕ) → slice_index xs i < 256
+pub bytes_at : (xs : List ℕ) → All IsByte xs → (i : ℕ) → slice_index xs i < 256
 bytes_at xs all i = elim (cases_lt i (length xs)) [
   | inl below ↦ all i 0 below
   | inr above ↦ rw (get_or_past xs i 0 above) (omega arith)

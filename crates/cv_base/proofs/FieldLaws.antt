@@ -37,6 +37,9 @@ pub passes : {F A : Type 0} (b : Bool) (d : F) (r : Result A F) (y : A) → cond
 passes true d r y e = absurd cc
 passes false d r y e = (refl, e)
 
+pub ok_is : {A F : Type 0} (x y : A) → ◌≡◌ {A = Result A F} (Ok x) (Ok y) → x ≡ y
+ok_is x y e = cc
+
 pub accepted_ok : {F A : Type 0} (d : F) (o : Option A) (x : A) → accepted d o ≡ Ok x → o ≡ Some x
 accepted_ok d None x e = absurd cc
 accepted_ok {F} {A} d (Some y) x e = let same : y ≡ x = cc in ap (λ (z : A). Some z) same

@@ -6,14 +6,19 @@ mod Fields
 mod FileNames
 mod IdTexts
 mod LastNames
+mod Lists
+mod SameIds
 mod SameKinds
 pub mod Laws
 mod Parents
 mod Parts
+mod PathFacts
 mod PathGrammar
 mod PathPrefixes
 mod PathTexts
 mod NamedPaths
 mod Sets
 mod NotText
+mod Targets
 mod TextOrder
+mod Values

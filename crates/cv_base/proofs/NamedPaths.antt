@@ -1,6 +1,6 @@
 -- The path that a text is the own text of.
-use Rattle.std.proofs.Common.{◌≡◌, ◌<◌, arith, slice_index, ℕ, zero, suc, true, false, Bool, cond, List, [], ◌∷◌, inl, refl, sym, subst}
-use Rattle.std.specs.Prelude.{Option, Some, None, Result, Ok, Err}
+use Rattle.std.proofs.Common.{◌≡◌, ◌<◌, arith, slice_index, ℕ, zero, suc, true, List, [], ◌∷◌, inl, refl, sym, subst}
+use Rattle.std.specs.Prelude.{Some, Result, Ok, Err}
 use Rattle.std.specs.Str.{IsUtf8, is_utf8, bytes_eq}
 use Rattle.std.specs.List.{list_all}
 use Rattle.std.proofs.lemmas.Str.{IsUtf8-from_is_utf8, is_utf8-from_IsUtf8, IsUtf8-nil, IsUtf8-append, IsUtf8-from_ascii}
@@ -11,6 +11,7 @@ use Rattle.cv_base.specs.Path.{Path, IsPath, is_path_name, text_of}
 use Rattle.cv_base.specs.PathText.{path_of, only_path, path_named}
 use Rattle.cv_base.specs.declared.path_fault.PathFault.{PathFault}
 use Rattle.cv_base.proofs.PathGrammar.{path_of-Spells, Spells-path_of}
+use Rattle.cv_base.proofs.Values.{chosen}
 
 slash_ascii : (i : ℕ) → slice_index (47 ∷ []) i < 128
 slash_ascii zero = omega arith
@@ -33,11 +34,6 @@ path_named-own path h =
 pub record IsNamed (text : List ℕ) (path : Path) : Type 0 where
   pub text_is : text ≡ text_of path
   pub is_path : IsPath path
-
--- where there is something, the test went this way
-chosen : {A : Type 0} (test : Bool) (found : Option A) (x : A) → cond test found None ≡ Some x → (test ≡ true) × (found ≡ Some x)
-chosen true found x e = (refl, e)
-chosen false found x e = absurd cc
 
 only_named : (text : List ℕ) (read : Result Path PathFault) (path : Path) → path_of text ≡ read → only_path text read ≡ Some path → IsNamed text path
 only_named text (Ok q) path reads e =

@@ -18,7 +18,7 @@ no_slash : (b : ℕ) → is_path_byte b ≡ true → (b == 47) ≡ false
 no_slash b h = elim (b == 47) as (λ t. (not t && not (b == 0)) ≡ true → t ≡ false) [ true ↦ λ k. cc | false ↦ λ k. refl ] h
 
 -- the bytes of a name have no slash, and there are some
-name_bytes : (name : List ℕ) → is_path_name name ≡ true → list_all is_path_byte name ≡ true
+pub name_bytes : (name : List ℕ) → is_path_name name ≡ true → list_all is_path_byte name ≡ true
 name_bytes name h = second_true _ _ (first_true _ _ h)
 
 some_bytes : (name : List ℕ) → is_path_name name ≡ true → name ≢ []

@@ -5,8 +5,9 @@ use Rattle.std.specs.declared.option.Option.{Option}
 use Rattle.std.specs.declared.option.Option.TheVariants.{None, Some}
 use Rattle.std.specs.Ordering.{is_eq, eq_by_cmp, ordering_then}
 use Rattle.std.specs.List.{starts_with}
-use Rattle.cv_base.specs.Path.{Path, name_cmp, path_cmp, same_name, behind, covers, overlap}
+use Rattle.cv_base.specs.Path.{Path, path_cmp, same_name, behind, covers, overlap}
 use Rattle.cv_base.specs.PathOrder.{name_exact, same_name_is, same_name_itself}
+use Rattle.cv_base.specs.BytesOrder.{bytes_cmp}
 
 -- covers, as the code tests it
 pub starts_with-covers : (p q : Path) → starts_with same_name q p ≡ covers p q
@@ -38,7 +39,7 @@ overlap-from_covers [] [] r h = refl
 overlap-from_covers [] (b ∷ q) r h = refl
 overlap-from_covers (a ∷ p) [] r h = refl
 overlap-from_covers (a ∷ p) (b ∷ q) r h =
-    elim (name_cmp b a) as (λ t. name_cmp b a ≡ t → is_some (cond (is_eq t) (behind q (p ++ r)) None) ≡ true → (is_some (cond (is_eq t) (behind q p) None) || is_some (cond (same_name a b) (behind p q) None)) ≡ true) [
+    elim (bytes_cmp b a) as (λ t. bytes_cmp b a ≡ t → is_some (cond (is_eq t) (behind q (p ++ r)) None) ≡ true → (is_some (cond (is_eq t) (behind q p) None) || is_some (cond (same_name a b) (behind p q) None)) ≡ true) [
       | Less ↦ λ e is. cc
       | Equal ↦ λ e is. let name : b ≡ a = name_exact b a e in subst (λ (c : _). (is_some (behind q p) || is_some (cond (same_name a c) (behind p q) None)) ≡ true) (sym name) (rw (same_name_itself a) (overlap-from_covers p q r is))
       | Greater ↦ λ e is. cc
@@ -55,7 +56,7 @@ unfolding is_behind
 eq_by_cmp-append [] q k = refl
 eq_by_cmp-append (a ∷ p) q [] = refl
 eq_by_cmp-append (a ∷ p) q (b ∷ k) =
-    elim (name_cmp a b) as (λ r. is_eq (ordering_then r (path_cmp (p ++ q) k)) ≡ is_behind (cond (is_eq r) (behind p k) None) q) [
+    elim (bytes_cmp a b) as (λ r. is_eq (ordering_then r (path_cmp (p ++ q) k)) ≡ is_behind (cond (is_eq r) (behind p k) None) q) [
       | Less ↦ refl
       | Equal ↦ eq_by_cmp-append p q k
       | Greater ↦ refl

@@ -13,22 +13,24 @@ use Rattle.std.proofs.lemmas.Bool.Decides.{Decides-eqb}
 use Rattle.std.proofs.lemmas.List.{drop_all, length-drop}
 use Rattle.std.proofs.lemmas.List.Folds.{list_all-append}
 use Rattle.std.proofs.lemmas.Slice.Eq.{starts_is}
-use Rattle.cv_base.specs.Path.{Path, IsPath, text_of, is_path_name, is_path_byte, is_dots, same_name, name_cmp}
+use Rattle.cv_base.specs.Path.{Path, IsPath, text_of, is_path_name, is_path_byte, is_dots, same_name}
 use Rattle.cv_base.specs.PathOrder.{same_name_is, same_name_itself}
 use Rattle.cv_base.specs.TextOrderInner.{Follows}
 use Rattle.cv_base.proofs.Bools.{first_true, second_true}
+use Rattle.cv_base.specs.BytesOrder.{bytes_cmp}
+use Rattle.cv_base.proofs.PathGrammar.{name_bytes}
 
 -- ---- two names
 
 -- a front that both have doesn't count
-same_front : (x s t : List ℕ) → name_cmp (x ++ s) (x ++ t) ≡ name_cmp s t
+same_front : (x s t : List ℕ) → bytes_cmp (x ++ s) (x ++ t) ≡ bytes_cmp s t
 same_front [] s t = refl
 same_front (a ∷ x) s t = rw (tied_itself nat_cmp_total a) (same_front x s t)
 
 -- a slash and another byte decide
-slash_decides : (c : ℕ) (s t : List ℕ) → is_path_byte c ≡ true → nat_cmp 47 c ≡ name_cmp (47 ∷ s) (c ∷ t)
+slash_decides : (c : ℕ) (s t : List ℕ) → is_path_byte c ≡ true → nat_cmp 47 c ≡ bytes_cmp (47 ∷ s) (c ∷ t)
 slash_decides c s t is =
-    elim (nat_cmp 47 c) as (λ o. nat_cmp 47 c ≡ o → nat_cmp 47 c ≡ name_cmp (47 ∷ s) (c ∷ t)) [
+    elim (nat_cmp 47 c) as (λ o. nat_cmp 47 c ≡ o → nat_cmp 47 c ≡ bytes_cmp (47 ∷ s) (c ∷ t)) [
       | Less ↦ λ e. rw e refl
       | Equal ↦ λ e. absurd (not_slash c is (sym (nat_cmp-IsAntisymmetric 47 c e)))
       | Greater ↦ λ e. rw e refl
@@ -53,29 +55,29 @@ front_shorter a b h apart = longer (drop (length a) b) (behind_front a b h)
     longer (c ∷ r) e = omega (arith, ap length e, length-append a (c ∷ r))
 
 -- a name is followed by a slash where another goes on
-pub slash_first : (a b s t : List ℕ) → starts_with nat_eq b a ≡ true → a ≢ b → list_all is_path_byte b ≡ true → Follows true s → nat_cmp 47 (get_or b (length a) 0) ≡ name_cmp (a ++ s) (b ++ t)
+pub slash_first : (a b s t : List ℕ) → starts_with nat_eq b a ≡ true → a ≢ b → list_all is_path_byte b ≡ true → Follows true s → nat_cmp 47 (get_or b (length a) 0) ≡ bytes_cmp (a ++ s) (b ++ t)
 slash_first a b s t h apart bytes (more, slash) = longer (drop (length a) b) (behind_front a b h)
   where
-    longer : (r : List ℕ) → b ≡ a ++ r → nat_cmp 47 (get_or b (length a) 0) ≡ name_cmp (a ++ s) (b ++ t)
+    longer : (r : List ℕ) → b ≡ a ++ r → nat_cmp 47 (get_or b (length a) 0) ≡ bytes_cmp (a ++ s) (b ++ t)
     longer [] e = absurd (apart (sym (e ∙ append-nil a)))
     longer (c ∷ r) e =
         let good : is_path_byte c ≡ true = first_true (is_path_byte c) (list_all is_path_byte r) (second_true (list_all is_path_byte a) (list_all is_path_byte (c ∷ r)) (sym (list_all-append is_path_byte a (c ∷ r)) ∙ ap (list_all is_path_byte) (sym e) ∙ bytes)) in
         ap (λ (x : List ℕ). nat_cmp 47 (get_or x (length a) 0)) e ∙ ap (nat_cmp 47) (at_end a r c) ∙ slash_decides c more (r ++ t) good
-        ∙ sym (same_front a (47 ∷ more) (c ∷ r ++ t)) ∙ (λ i. name_cmp (a ++ sym slash i) (sym (append_assoc a (c ∷ r) t) i)) ∙ ap (λ (x : List ℕ). name_cmp (a ++ s) (x ++ t)) (sym e)
+        ∙ sym (same_front a (47 ∷ more) (c ∷ r ++ t)) ∙ (λ i. bytes_cmp (a ++ sym slash i) (sym (append_assoc a (c ∷ r) t) i)) ∙ ap (λ (x : List ℕ). bytes_cmp (a ++ s) (x ++ t)) (sym e)
 
-pub slash_second : (a b s t : List ℕ) → starts_with nat_eq a b ≡ true → a ≢ b → list_all is_path_byte a ≡ true → Follows true t → nat_cmp (get_or a (length b) 0) 47 ≡ name_cmp (a ++ s) (b ++ t)
+pub slash_second : (a b s t : List ℕ) → starts_with nat_eq a b ≡ true → a ≢ b → list_all is_path_byte a ≡ true → Follows true t → nat_cmp (get_or a (length b) 0) 47 ≡ bytes_cmp (a ++ s) (b ++ t)
 slash_second a b s t h apart bytes slash =
     nat_cmp_total.antisymm (get_or a (length b) 0) 47
     ∙ ap ordering_reverse (slash_first b a t s h (λ same. apart (sym same)) bytes slash)
     ∙ sym (nat_list_cmp_total.antisymm (a ++ s) (b ++ t))
 
 -- what follows doesn't count where neither name goes on as the other's front
-decided : (a b s t : List ℕ) → a ≢ b → (starts_with nat_eq b a ≡ true → s ≡ []) → (starts_with nat_eq a b ≡ true → t ≡ []) → name_cmp a b ≡ name_cmp (a ++ s) (b ++ t)
+decided : (a b s t : List ℕ) → a ≢ b → (starts_with nat_eq b a ≡ true → s ≡ []) → (starts_with nat_eq a b ≡ true → t ≡ []) → bytes_cmp a b ≡ bytes_cmp (a ++ s) (b ++ t)
 decided [] [] s t apart left right = absurd (apart refl)
 decided [] (y ∷ b) s t apart left right = rw (left refl) refl
 decided (x ∷ a) [] s t apart left right = rw (right refl) refl
 decided (x ∷ a) (y ∷ b) s t apart left right =
-    elim (nat_cmp x y) as (λ o. nat_cmp x y ≡ o → name_cmp (x ∷ a) (y ∷ b) ≡ name_cmp ((x ∷ a) ++ s) ((y ∷ b) ++ t)) [
+    elim (nat_cmp x y) as (λ o. nat_cmp x y ≡ o → bytes_cmp (x ∷ a) (y ∷ b) ≡ bytes_cmp ((x ∷ a) ++ s) ((y ∷ b) ++ t)) [
       | Less ↦ λ e. rw e refl
       | Greater ↦ λ e. rw e refl
       | Equal ↦ λ e.
@@ -86,7 +88,7 @@ decided (x ∷ a) (y ∷ b) s t apart left right =
     ] refl
 
 -- the names decide where neither goes on behind the other's front
-pub names_decide : (a b : List ℕ) (a_goes_on b_goes_on : Bool) (s t : List ℕ) → a ≢ b → (a_goes_on ≡ true → starts_with nat_eq b a ≡ false) → (b_goes_on ≡ true → starts_with nat_eq a b ≡ false) → Follows a_goes_on s → Follows b_goes_on t → name_cmp a b ≡ name_cmp (a ++ s) (b ++ t)
+pub names_decide : (a b : List ℕ) (a_goes_on b_goes_on : Bool) (s t : List ℕ) → a ≢ b → (a_goes_on ≡ true → starts_with nat_eq b a ≡ false) → (b_goes_on ≡ true → starts_with nat_eq a b ≡ false) → Follows a_goes_on s → Follows b_goes_on t → bytes_cmp a b ≡ bytes_cmp (a ++ s) (b ++ t)
 names_decide a b a_goes_on b_goes_on s t apart left right follows_a follows_b =
     decided a b s t apart (ends a_goes_on (starts_with nat_eq b a) s left follows_a) (ends b_goes_on (starts_with nat_eq a b) t right follows_b)
   where
@@ -123,36 +125,31 @@ follows_at p i =
     ]
 
 -- the same name at an index doesn't count
-pub same_name_at : (p q : Path) (i : ℕ) (a b : List ℕ) → i < length p → i < length q → a ≡ get_or p i a → b ≡ get_or q i b → a ≡ b → name_cmp (text_of (drop i p)) (text_of (drop i q)) ≡ name_cmp (text_of (drop (i + 1) p)) (text_of (drop (i + 1) q))
+pub same_name_at : (p q : Path) (i : ℕ) (a b : List ℕ) → i < length p → i < length q → a ≡ get_or p i a → b ≡ get_or q i b → a ≡ b → bytes_cmp (text_of (drop i p)) (text_of (drop i q)) ≡ bytes_cmp (text_of (drop (i + 1) p)) (text_of (drop (i + 1) q))
 same_name_at p q i a b lp lq a-is b-is same =
-    (λ j. name_cmp (text_at p i a lp a-is j) (text_at q i b lq b-is j))
-    ∙ ap (λ (x : List ℕ). name_cmp (47 ∷ (a ++ text_of (drop (i + 1) p))) (47 ∷ (x ++ text_of (drop (i + 1) q)))) (sym same)
+    (λ j. bytes_cmp (text_at p i a lp a-is j) (text_at q i b lq b-is j))
+    ∙ ap (λ (x : List ℕ). bytes_cmp (47 ∷ (a ++ text_of (drop (i + 1) p))) (47 ∷ (x ++ text_of (drop (i + 1) q)))) (sym same)
     ∙ same_front (47 ∷ a) (text_of (drop (i + 1) p)) (text_of (drop (i + 1) q))
 
 -- other names at an index decide
-pub other_name_at : (p q : Path) (i : ℕ) (a b x y : List ℕ) → i < length p → i < length q → a ≡ get_or p i a → b ≡ get_or q i b → x ≡ a → y ≡ b → name_cmp (x ++ text_of (drop (i + 1) p)) (y ++ text_of (drop (i + 1) q)) ≡ name_cmp (text_of (drop i p)) (text_of (drop i q))
+pub other_name_at : (p q : Path) (i : ℕ) (a b x y : List ℕ) → i < length p → i < length q → a ≡ get_or p i a → b ≡ get_or q i b → x ≡ a → y ≡ b → bytes_cmp (x ++ text_of (drop (i + 1) p)) (y ++ text_of (drop (i + 1) q)) ≡ bytes_cmp (text_of (drop i p)) (text_of (drop i q))
 other_name_at p q i a b x y lp lq a-is b-is x-is y-is =
-    (λ j. name_cmp (x-is j ++ text_of (drop (i + 1) p)) (y-is j ++ text_of (drop (i + 1) q)))
+    (λ j. bytes_cmp (x-is j ++ text_of (drop (i + 1) p)) (y-is j ++ text_of (drop (i + 1) q)))
     ∙ sym (same_front (47 ∷ []) (a ++ text_of (drop (i + 1) p)) (b ++ text_of (drop (i + 1) q)))
-    ∙ (λ j. name_cmp (sym (text_at p i a lp a-is) j) (sym (text_at q i b lq b-is) j))
+    ∙ (λ j. bytes_cmp (sym (text_at p i a lp a-is) j) (sym (text_at q i b lq b-is) j))
 
-ended : (u v : Path) (m n : ℕ) → m + length v ≡ n + length u → (length u ≡ 0) ⊎ (length v ≡ 0) → nat_cmp m n ≡ name_cmp (text_of u) (text_of v)
+ended : (u v : Path) (m n : ℕ) → m + length v ≡ n + length u → (length u ≡ 0) ⊎ (length v ≡ 0) → nat_cmp m n ≡ bytes_cmp (text_of u) (text_of v)
 ended [] [] m n e h = sym (nat_cmp_is m n Equal (omega (arith, e)))
 ended [] (y ∷ v) m n e h = sym (nat_cmp_is m n Less (omega (arith, e)))
 ended (x ∷ u) [] m n e h = sym (nat_cmp_is m n Greater (omega (arith, e)))
 ended (x ∷ u) (y ∷ v) m n e h = absurd (elim h [ inl none ↦ omega arith | inr none ↦ omega arith ])
 
 -- where a path is at its end, the lengths decide
-pub lengths_decide : (p q : Path) (i : ℕ) → i ≤ length p → i ≤ length q → min (length p) (length q) ≤ i → nat_cmp (length p) (length q) ≡ name_cmp (text_of (drop i p)) (text_of (drop i q))
+pub lengths_decide : (p q : Path) (i : ℕ) → i ≤ length p → i ≤ length q → min (length p) (length q) ≤ i → nat_cmp (length p) (length q) ≡ bytes_cmp (text_of (drop i p)) (text_of (drop i q))
 lengths_decide p q i lp lq end =
     let left : length (drop i p) ≡ length p - i = length-drop i p in
     let right : length (drop i q) ≡ length q - i = length-drop i q in
     ended (drop i p) (drop i q) (length p) (length q) (omega arith) (elim (cases_lt (length p) (length q)) [ inl less ↦ inl (omega arith) | inr ge ↦ inr (omega arith) ])
-
-name_bytes : (name : List ℕ) → is_path_name name ≡ true → list_all is_path_byte name ≡ true
-name_bytes name h =
-    second_true (is_utf8 name && leb 1 (length name) && leb (length name) 255) (list_all is_path_byte name)
-    (first_true (is_utf8 name && leb 1 (length name) && leb (length name) 255 && list_all is_path_byte name) (not (is_dots name)) h)
 
 name_at : (p : Path) (i : ℕ) (name : List ℕ) → list_all is_path_name p ≡ true → i < length p → name ≡ get_or p i name → list_all is_path_byte name ≡ true
 name_at [] i name all lt is = absurd (omega arith)

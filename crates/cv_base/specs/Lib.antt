@@ -5,6 +5,7 @@ pub mod Digest
 pub mod Fields
 pub mod KeyId
 pub mod Marker
+pub mod Moment
 pub mod Name
 pub mod ObjectId
 pub mod Told

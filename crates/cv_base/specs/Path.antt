@@ -65,15 +65,12 @@ pub record IsPath (path : Path) : Type 0 where
   pub depth : length path ≤ NAMES_LIMIT
   pub size : length (text_of path) ≤ PATH_LIMIT
 
--- the order of names and of paths: by bytes, and then name by name
-abbrev pub name_cmp : List ℕ → List ℕ → Ordering
-name_cmp = bytes_cmp
-
+-- the order of paths: name by name, and names by their bytes
 abbrev pub path_cmp : Path → Path → Ordering
-path_cmp = slice_cmp name_cmp
+path_cmp = slice_cmp bytes_cmp
 
 abbrev pub same_name : List ℕ → List ℕ → Bool
-same_name a b = is_eq (name_cmp a b)
+same_name a b = is_eq (bytes_cmp a b)
 
 abbrev pub same_path : Path → Path → Bool
 same_path p q = is_eq (path_cmp p q)

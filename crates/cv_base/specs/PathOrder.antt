@@ -6,19 +6,20 @@ use Rattle.std.specs.Ordering.{is_eq}
 use Rattle.std.specs.Cmp.{IsTotalOrder, IsPartialOrder, tied_itself, po}
 use Rattle.std.specs.Cmp.Lexicographic.{lists_total, nat_list_cmp_total}
 use Rattle.std.specs.FinMap.{IsAntisymmetric, slice_cmp-IsAntisymmetric, nat_cmp-IsAntisymmetric}
-use Rattle.cv_base.specs.Path.{Path, name_cmp, path_cmp, same_name, same_path}
+use Rattle.cv_base.specs.Path.{Path, path_cmp, same_name, same_path}
+use Rattle.cv_base.specs.BytesOrder.{bytes_cmp}
 
 pub path_total : IsTotalOrder path_cmp
 path_total = lists_total nat_list_cmp_total
 
-pub names_ordered : IsPartialOrder same_name (λ a b. Some (name_cmp a b))
+pub names_ordered : IsPartialOrder same_name (λ a b. Some (bytes_cmp a b))
 names_ordered = po nat_list_cmp_total (λ a b. refl)
 
 pub paths_ordered : IsPartialOrder same_path (λ p q. Some (path_cmp p q))
 paths_ordered = po path_total (λ p q. refl)
 
 -- names that tie are equal, and so are paths
-pub name_exact : IsAntisymmetric name_cmp
+pub name_exact : IsAntisymmetric bytes_cmp
 name_exact = slice_cmp-IsAntisymmetric nat_cmp-IsAntisymmetric
 
 pub path_exact : IsAntisymmetric path_cmp

@@ -26,7 +26,7 @@ pub enum Kind {
 
 impl Kind {
     /// The suffix of the texts of such ids.
-    fn suffix(self) -> &'static str
+    pub fn suffix(self) -> &'static str
         ensures { result.now ≡ suffix_of self }
     {
         match self {

@@ -1,5 +1,5 @@
 //! Why a text is no path.
-ghost use Rattle.std.specs.Prelude.{◌≡◌};
+ghost use Rattle.std.specs.Prelude.{◌≡◌, ◌≢◌, MatchResult};
 ghost use Rattle.cv_base.specs.declared.path_fault.PathFault.TheVariants as faults;
 
 use crate::memory::NoMemory;
@@ -21,6 +21,18 @@ pub enum PathFault {
     /// There was no memory.
     #[error("no memory")]
     NoMemory,
+}
+
+impl PathFault {
+    /// Tells want of memory, by which nothing is known of a text, from a text that is no path.
+    pub fn unless_memory(self) -> Result<(), NoMemory>
+        ensures { MatchResult result (λ _. self ≢ faults.NoMemory) (λ _. self ≡ faults.NoMemory) }
+    {
+        match self {
+            PathFault::NoMemory => Err(NoMemory),
+            PathFault::BadName(_) | PathFault::TooLong | PathFault::TooDeep => Ok(()),
+        }
+    }
 }
 
 impl From<NoMemory> for PathFault {

@@ -3,8 +3,9 @@ ghost use Rattle.std.specs.Prelude.{◌≡◌, IfOk, Some, refl};
 ghost use Rattle.std.specs.Cmp.{eq_by_cmp_equiv, partial_equiv_from_equiv};
 ghost use Rattle.std.specs.Cmp.Lexicographic.{nat_list_cmp_total};
 ghost use Rattle.std.specs.List.{list_all};
-ghost use Rattle.cv_base.specs.Path.{name_cmp, same_name, is_path_name, is_path_byte, is_dots};
+ghost use Rattle.cv_base.specs.Path.{same_name, is_path_name, is_path_byte, is_dots};
 ghost use Rattle.cv_base.specs.PathOrder.{names_ordered};
+ghost use Rattle.cv_base.specs.BytesOrder.{bytes_cmp};
 
 use crate::memory::NoMemory;
 use std::alloc::Global;
@@ -86,7 +87,7 @@ impl Eq for PathName {
 }
 
 impl PartialOrd for PathName {
-    ghost partial_cmp = { λ a b. Some (name_cmp a b) };
+    ghost partial_cmp = { λ a b. Some (bytes_cmp a b) };
 
     ghost laws = { names_ordered };
 
@@ -96,7 +97,7 @@ impl PartialOrd for PathName {
 }
 
 impl Ord for PathName {
-    ghost cmp = { λ a b. name_cmp a b };
+    ghost cmp = { λ a b. bytes_cmp a b };
 
     ghost total = { nat_list_cmp_total };
 

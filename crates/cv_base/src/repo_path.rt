@@ -281,8 +281,10 @@ fn own_path(alloc: Global, text: &str) -> Result<Option<RepoPath>, NoMemory>
                 None
             })
         }
-        Err(PathFault::NoMemory) => Err(NoMemory),
-        Err(_) => Ok(None),
+        Err(fault) => {
+            fault.unless_memory()?;
+            Ok(None)
+        }
     }
 }
 

@@ -1,8 +1,9 @@
 //! The order of the texts of paths.
 ghost use Rattle.std.specs.Prelude.{◌≡◌, ◌≢◌, ◌++◌, List, ℕ, true};
 ghost use Rattle.std.specs.List.{list_all};
-ghost use Rattle.cv_base.specs.Path.{text_of, is_path_byte, name_cmp};
+ghost use Rattle.cv_base.specs.Path.{text_of, is_path_byte};
 ghost use Rattle.cv_base.specs.TextOrderInner.{Follows};
+ghost use Rattle.cv_base.specs.BytesOrder.{bytes_cmp};
 
 use crate::repo_path::RepoPath;
 use std::cmp::Ordering;
@@ -12,7 +13,7 @@ fn name_order(a: &str, a_goes_on: bool, b: &str, b_goes_on: bool) -> Ordering
     requires apart { a.now ≢ b.now }
     requires a_has_no_slash { list_all is_path_byte a.now ≡ true }
     requires b_has_no_slash { list_all is_path_byte b.now ≡ true }
-    ensures { (s t : List ℕ) → Follows a_goes_on s → Follows b_goes_on t → result ≡ name_cmp (a.now ++ s) (b.now ++ t) }
+    ensures { (s t : List ℕ) → Follows a_goes_on s → Follows b_goes_on t → result ≡ bytes_cmp (a.now ++ s) (b.now ++ t) }
 {
     let a = a.as_bytes();
     let b = b.as_bytes();
@@ -27,7 +28,7 @@ fn name_order(a: &str, a_goes_on: bool, b: &str, b_goes_on: bool) -> Ordering
 
 /// How the texts of two paths are ordered. `/a-b` stands below `/a/x`, since `-` is below `/`.
 pub fn cmp_texts(a: &RepoPath, b: &RepoPath) -> Ordering
-    ensures { result ≡ name_cmp (text_of a.now) (text_of b.now) }
+    ensures { result ≡ bytes_cmp (text_of a.now) (text_of b.now) }
 {
     let a = a.names();
     let b = b.names();
