@@ -13,11 +13,12 @@ use Rattle.cv_base.specs.Marker.{marker}
 use Rattle.cv_base.specs.ObjectId.{object_id}
 use Rattle.cv_base.specs.declared.id.Kind.TheVariants.{Catalogue}
 use Rattle.cv_base.specs.declared.object.Object.{Object}
+use Rattle.cv_base.proofs.Laws.{some_there}
 use Rattle.cv_tree.specs.Tree.{Nodes, at, is_directory, is_file}
 use Rattle.cv_tree.specs.Changes.{nodes_of}
 use Rattle.cv_tree.specs.declared.node.Node.{Node}
 use Rattle.cv_tree.specs.declared.node.Node.TheVariants.{Dir}
-use Rattle.cv_tree.proofs.Laws.{get-at}
+use Rattle.cv_tree.proofs.Laws.{get-at, some_directory}
 use Rattle.cv_rows.specs.Catalogue.{Contents, IsCatalogue}
 use Rattle.cv_rows.specs.Places.{StandsAt, root, root_kind}
 use Rattle.cv_rows.specs.declared.row.Row.{Row}
@@ -30,7 +31,7 @@ use Rattle.cv_cut.specs.Own.{AreOwn}
 use Rattle.cv_cut.specs.Region.{IsNear, IsOther, KeysApart, row_at}
 use Rattle.cv_cut.specs.Told.{node_as, node_of}
 use Rattle.cv_cut.proofs.Lemmas.{comes_from, covers_append, cut_some, entries_are, entry_tells, first_there, goes_to, later_there, marked-at, nested_decodes, one_decoding, passes_of, passing, region_apart, rest_behind, row_tells, rows_are, stands, stands_at_cut}
-use Rattle.cv_load.proofs.Lemmas.{covers_itself, directory_some, single_entry, some_there}
+use Rattle.cv_load.proofs.Lemmas.{covers_itself, single_entry}
 use Rattle.cv_checkout.specs.Wanting.{IsNamed, Suits, id_of, is_covered, place_of, toward}
 use Rattle.cv_checkout.specs.Progress.{Progress, ComesTo, StartsFrom}
 use Rattle.cv_checkout.specs.Giving.{Takes}
@@ -140,7 +141,7 @@ module _ (t : Nodes) (s : Progress) (on : IsOn t s) (first : Wanted) (rest : Lis
         by_way true h = inl (record { there = get-at t c r ∙ there; near = h })
         by_way false h =
             let w = passes_of t (c ++ r) c r refl cut h in
-            let m = some_there (get (at t c) w.0) (directory_some (get (at t c) w.0) (and_parts (is_directory (get (at t c) w.0)) (is_file (get (at t c) (w.0 ++ marker ∷ []))) w.2.way.marked).0) in
+            let m = some_there (get (at t c) w.0) (some_directory (get (at t c) w.0) (and_parts (is_directory (get (at t c) w.0)) (is_file (get (at t c) (w.0 ++ marker ∷ []))) w.2.way.marked).0) in
             let other : IsOther (at t c) w.0 = record { node_ = m.0; there = record { there = m.1; near = w.2.near }; below = w.2.way.some; marked = w.2.way.marked } in
             inr (under_other w.0 (c ++ r) other (subst (λ (x : Path). covers (c ++ w.0) x ≡ true) (append_assoc c w.0 w.1 ∙ ap (λ (x : Path). c ++ x) (sym w.2.way.is)) (covers_append (c ++ w.0) w.1)) near)
 

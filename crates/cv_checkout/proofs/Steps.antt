@@ -13,6 +13,7 @@ use Rattle.std.proofs.lemmas.List.Elements.{Contains-append_left, Contains-push,
 use Rattle.std.proofs.lemmas.List.Sorted.{IsPermutation-sym, Contains-permutation}
 use Rattle.cv_base.specs.Path.{Path, path_cmp, overlap}
 use Rattle.cv_base.specs.PathOrder.{path_total, same_path_is}
+use Rattle.cv_base.proofs.Laws.{some_there}
 use Rattle.cv_tree.specs.Node.{IsNode}
 use Rattle.cv_tree.specs.Tree.{Nodes}
 use Rattle.cv_tree.specs.declared.node.Node.{Node}
@@ -20,19 +21,14 @@ use Rattle.cv_rows.specs.Catalogue.{Contents, IsCatalogue}
 use Rattle.cv_rows.specs.Places.{StandsAt}
 use Rattle.cv_rows.specs.declared.row.Row.{Row}
 use Rattle.cv_rows.specs.declared.nested.Nested.{Nested}
-use Rattle.cv_cut.specs.Opening.{IsTransitionOf}
 use Rattle.cv_cut.proofs.Lemmas.{none_there, transition_of}
 use Rattle.cv_cut.specs.Told.{node_of}
 use Rattle.cv_rows.proofs.Lemmas.{one_place, stands_contained}
 use Rattle.cv_load.specs.Growth.{IsRootOf, IsRowNode}
-use Rattle.cv_load.proofs.Lemmas.{each_all, each_more, one_row, some_there}
+use Rattle.cv_load.proofs.Lemmas.{each_all, each_more}
 use Rattle.cv_checkout.specs.GrowingInner.{AreNodes, AreThere, IsGrown, KeepLimits}
 use Rattle.cv_checkout.specs.Progress.{ComesTo, StartsFrom}
 use Rattle.cv_checkout.proofs.Zips.{zip_push}
-
--- the row at the path of a nested entry is its Transition row
-pub transition_at : (c : Contents) (n : Nested) (r : Row) → IsCatalogue c → Contains c.nested n → StandsAt c.at c.rows r n.path → IsTransitionOf c n r
-transition_at c n r is has stands = let t = transition_of c n is has in subst (IsTransitionOf c n) (one_row c t.0 r n.path is t.1.stands stands) t.1
 
 pub transition_there : (c : Contents) (n : Nested) → IsCatalogue c → Contains c.nested n → ((r : Row) → StandsAt c.at c.rows r n.path → ⊥) → ⊥
 transition_there c n is has none = let t = transition_of c n is has in none t.0 t.1.stands

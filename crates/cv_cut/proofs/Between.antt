@@ -15,10 +15,10 @@ use Rattle.cv_cut.specs.Cuts.{is_marked, is_cut, is_inner, is_near, cuts_of, bet
 use Rattle.cv_cut.specs.Cut.{is_other}
 use Rattle.cv_cut.proofs.Members.{none_there, first_there, later_there, first_or_later, comes_from, goes_to, passing}
 use Rattle.cv_cut.proofs.Entries.{has_entry}
-use Rattle.cv_cut.proofs.Ends.{back}
 use Rattle.cv_cut.proofs.RegionLists.{inner_is, is_inner_}
 use Rattle.cv_cut.proofs.RegionPaths.{is_in_region, near_rest}
 use Rattle.cv_cut.proofs.Bools.{false_not}
+use Rattle.cv_cut.proofs.Ends.{same_rest}
 
 -- ---- the paths between
 
@@ -93,7 +93,7 @@ below_covered t c d other = let o = stands_below t c d other in ap (covers c) o.
 other_there : (t : Nodes) (c r : Path) → r ≢ [] → is_marked (at t c) r ≡ true → is_other t c (c ++ r) ≡ true
 other_there t c r some marked = ap (λ o. is_inner (at t c) (unwrap_or o [])) (behind-append c r) ∙ is_inner_ (at t c) r some marked
 
-cut_marked : (t : Nodes) (d : Path) → d ≢ [] → is_cut t d ≡ is_marked t d
+pub cut_marked : (t : Nodes) (d : Path) → d ≢ [] → is_cut t d ≡ is_marked t d
 cut_marked t [] some = absurd (some refl)
 cut_marked t (a ∷ d) some = refl
 
@@ -130,7 +130,7 @@ not_near t c d q other covered differs =
     let o = stands_below t c d other in
     let s = behind_it d (c ++ q) covered in
     let p-is : c ++ q ≡ d ++ s.0 = behind-Some d (c ++ q) s.0 s.1 in
-    let q-is : q ≡ o.rest ++ s.0 = back c q (o.rest ++ s.0) (p-is ∙ ap (λ (x : Path). x ++ s.0) o.is ∙ append_assoc c o.rest s.0) in
+    let q-is : q ≡ o.rest ++ s.0 = same_rest c q (o.rest ++ s.0) (p-is ∙ ap (λ (x : Path). x ++ s.0) o.is ∙ append_assoc c o.rest s.0) in
     let more : s.0 ≢ [] = λ none. differs (sym (p-is ∙ ap (λ (x : Path). d ++ x) none ∙ append-nil d)) in
     let here : Contains (between q) o.rest = subst (λ (x : Path). Contains (between x) o.rest) (sym q-is) (between_has o.rest s.0 o.some more) in
     let marked : is_marked (at t c) o.rest ≡ true = sym (marked-at t c o.rest) ∙ ap (is_marked t) (sym o.is) ∙ o.marked in
@@ -141,7 +141,7 @@ near : (t : Nodes) (c q : Path) → ((d : Path) → is_other t c d ≡ true → 
 near t c q none = each_pass (λ r. not (is_marked (at t c) r)) (between q) (λ r has. false_not (is_marked (at t c) r) (λ marked.
     let s = between_is q r has in
     let p-is : c ++ q ≡ (c ++ r) ++ s.rest = ap (λ (x : Path). c ++ x) s.is ∙ sym (append_assoc c r s.rest) in
-    none (c ++ r) (other_there t c r s.some marked) (ap (covers (c ++ r)) p-is ∙ ap is_some (behind-append (c ++ r) s.rest)) (λ same. s.more (sym (back r [] s.rest (append-nil r ∙ back c r q same ∙ s.is))))))
+    none (c ++ r) (other_there t c r s.some marked) (ap (covers (c ++ r)) p-is ∙ ap is_some (behind-append (c ++ r) s.rest)) (λ same. s.more (sym (same_rest r [] s.rest (append-nil r ∙ same_rest c r q same ∙ s.is))))))
 
 pub not_in_region : (t : Nodes) (c d p : Path) → covers c p ≡ true → is_other t c d ≡ true → covers d p ≡ true → d ≢ p → is_in_region t c p ≡ false
 not_in_region t c d p below other covered differs =

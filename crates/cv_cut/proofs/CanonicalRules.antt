@@ -2,17 +2,15 @@
 use Rattle.std.proofs.Common.{◌≡◌, ℕ, ◌<◌, ◌≤◌, ◌^◌, Bool, true, false, ◌&&◌, Option, None, Some, List, [], ◌∷◌, ◌++◌, length, refl, sym, ap, subst, ◌∙◌, append_assoc, arith, IsSome, is_some, inl, inr}
 use Rattle.std.specs.Ordering.{is_eq}
 use Rattle.std.specs.Cmp.{tied_itself}
-use Rattle.std.specs.List.{flat_map}
 use Rattle.std.specs.List.Sorted.{IsPermutation}
 use Rattle.std.specs.FinMap.{get}
 use Rattle.std.proofs.lemmas.Bool.{cases_lt}
 use Rattle.std.proofs.lemmas.List.{length-map}
-use Rattle.std.proofs.lemmas.List.Sorted.{IsPermutation-sym, length_permutation, Contains-permutation, sum_by-IsPermutation}
-use Rattle.std.proofs.lemmas.List.Concat.{length-flat_map}
+use Rattle.std.proofs.lemmas.List.Sorted.{IsPermutation-sym, length_permutation, Contains-permutation}
 use Rattle.cv_base.specs.Marker.{marker}
 use Rattle.cv_base.specs.Path.{Path, same_path, text_of}
 use Rattle.cv_base.specs.PathOrder.{path_total, same_path_is}
-use Rattle.cv_base.proofs.Laws.{first_true, second_true}
+use Rattle.cv_base.proofs.Laws.{first_true, second_true, fields_length}
 use Rattle.cv_tree.specs.Tree.{Nodes, IsTree, at, is_directory, is_file}
 use Rattle.cv_tree.proofs.Laws.{get-at}
 use Rattle.cv_tree.specs.declared.node.Node.{Node}
@@ -29,8 +27,8 @@ use Rattle.cv_cut.proofs.Canonical.{cat_is}
 use Rattle.cv_cut.proofs.RegionRules.{stands_at_cut, region_rules}
 use Rattle.cv_cut.proofs.RegionLists.{row_list, nested_list, row_list_are, nested_list_are, keys_apart, texts_apart, rows_of-by_key, nested_of-by_text}
 use Rattle.cv_cut.proofs.Sorted.{order_moves, order_rises}
-use Rattle.cv_cut.proofs.Ends.{back}
 use Rattle.cv_cut.specs.Region.{KeysApart, IsOther, FitsAtCut, row_at, AreRowsOf, AreEntriesOf}
+use Rattle.cv_cut.proofs.Ends.{same_rest}
 
 -- ---- lists in another order
 
@@ -45,10 +43,6 @@ entries_moved c u file xs ys moved are = record {
   each = λ n has. are.each n (Contains-permutation ys xs n (IsPermutation-sym xs ys moved) has);
   all = λ d o. Contains-permutation xs ys _ moved (are.all d o);
 }
-
--- the bytes of a list of fields
-fields_length : {X : Type 0} (f : X → List ℕ) (xs ys : List X) → IsPermutation xs ys → length (flat_map f ys) ≡ length (flat_map f xs)
-fields_length f xs ys moved = length-flat_map f ys ∙ sum_by-IsPermutation (λ x. length (f x)) xs ys moved ∙ sym (length-flat_map f xs)
 
 -- in order they have as many bytes
 pub order_length : (c : Path) (rows : List Row) (nested : List Nested) → AreApart (keys_of rows) → AreApart (texts_of nested) → length (catalogue_bytes (in_order c rows nested)) ≡ length (file_of rows nested)
@@ -73,7 +67,7 @@ region_apart t c cut apart = record {
           is_cut_ = cut;
           first = (q, refl, ap is_some has.there, has.near);
           second = (r, refl, ap is_some had.there, had.near);
-          differ = λ e. differs q r (back c q r e) other;
+          differ = λ e. differs q r (same_rest c q r e) other;
           keys = keys;
         }))
       ] refl;

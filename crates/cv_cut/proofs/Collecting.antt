@@ -14,7 +14,7 @@ use Rattle.std.proofs.lemmas.List.Elements.{All-contains, Contains-append_left, 
 use Rattle.std.proofs.lemmas.List.Filters.{length-filter_both}
 use Rattle.cv_base.specs.Path.{Path, path_cmp, covers}
 use Rattle.cv_base.specs.PathOrder.{path_total}
-use Rattle.cv_base.proofs.Laws.{first_true, second_true}
+use Rattle.cv_base.proofs.Laws.{first_true, second_true, covers_through}
 use Rattle.cv_tree.proofs.Laws.{covers_before}
 use Rattle.cv_tree.specs.Tree.{Nodes}
 use Rattle.cv_tree.specs.declared.node.Node.{Node}
@@ -25,7 +25,7 @@ use Rattle.cv_cut.proofs.Entries.{below_each}
 use Rattle.cv_cut.proofs.Between.{below_covered, other_stands, not_in_region, in_region, outside}
 use Rattle.cv_cut.proofs.RegionPaths.{is_in_region, region_is}
 use Rattle.cv_cut.proofs.Standing.{region_stands}
-use Rattle.cv_cut.proofs.Sides.{covers_through, filter_within, sorted_filter}
+use Rattle.cv_cut.proofs.Sides.{filter_within, sorted_filter}
 use Rattle.cv_cut.proofs.Bools.{false_not, so}
 
 -- what was found, and what is left of the entries that the cut covers: each other cut that covers one of those is still

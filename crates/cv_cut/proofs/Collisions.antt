@@ -10,6 +10,7 @@ use Rattle.std.proofs.lemmas.List.Sorted.{IsPermutation-reverse, IsPermutation-s
 use Rattle.std.proofs.lemmas.Option.{slice_get-get_or, slice_get_within, same_Some}
 use Rattle.cv_base.specs.Path.{Path, covers, key_of}
 use Rattle.cv_base.specs.PathOrder.{path_exact}
+use Rattle.cv_base.proofs.Laws.{some_there, image_at, stands_there}
 use Rattle.cv_tree.specs.Tree.{Nodes, IsTree, at}
 use Rattle.cv_tree.specs.declared.node.Node.{Node}
 use Rattle.cv_rows.specs.Made.{AreApart}
@@ -25,11 +26,10 @@ use Rattle.cv_cut.specs.declared.cut_fault.CutFault.TheVariants.{PathCollision, 
 use Rattle.cv_cut.proofs.Members.{comes_from, first_or_later, first_there, goes_to, none_there, passes, passing}
 use Rattle.cv_cut.proofs.Entries.{has_entry}
 use Rattle.cv_cut.proofs.Seen.{HasSeen, all_seen}
-use Rattle.cv_cut.proofs.Twice.{image_at, image_there, stands_there, StandOnce, once_image}
+use Rattle.cv_cut.proofs.Twice.{image_there, StandOnce, once_image}
 use Rattle.cv_cut.proofs.CanonicalRules.{cut_some}
 use Rattle.cv_cut.proofs.RegionLists.{region_near, region_once, rows_tell_keys, keys_at_are}
-use Rattle.cv_cut.proofs.Ends.{back}
-use Rattle.cv_cut.proofs.Regions.{some_node}
+use Rattle.cv_cut.proofs.Ends.{same_rest}
 
 -- the key of the entry that was read
 pub key_there : (region : List (Path × Node)) (i : ℕ) (d : Path × Node) (key : List ℕ) → i < length region → key ≡ key_of (get_or region i d).0 → slice_get (keys_at region) i ≡ Some key
@@ -71,7 +71,7 @@ among_within t p cuts c is has =
 
 pub cut_of_tree : (t : Nodes) (c : Path) → IsTree t → is_cut t c ≡ true → Contains (cuts_of t) c
 cut_of_tree t c tree cut =
-    let n = some_node (get t c) (cut_some t c tree cut) in
+    let n = some_there (get t c) (cut_some t c tree cut) in
     passing (is_cut t) (keys t) c (goes_to (λ e. e.0) (entries t) (c, n.0) (has_entry path_exact t c n.0 n.1)) cut
 
 pub within_among : (t : Nodes) (p : Path) (cuts : List Path) (c : Path) → IsTree t → cuts ≡ reverse (cuts_within t p) → is_cut t c ≡ true → covers p c ≡ true → Contains cuts c
@@ -103,11 +103,11 @@ place_of t c p i h =
 
 region_paths_once : (t : Nodes) (c : Path) → StandOnce (map (λ e. e.0) (region_at t c))
 region_paths_once t c = once_image (λ e. e.0) (region_at t c)
-    (once_image (λ e. (c ++ e.0, e.1)) (region (at t c)) (region_once (at t c)) (λ a b has had is. same_entry a b has had (back c a.0 b.0 (ap (λ x. x.0) is))))
+    (once_image (λ e. (c ++ e.0, e.1)) (region (at t c)) (region_once (at t c)) (λ a b has had is. same_entry a b has had (same_rest c a.0 b.0 (ap (λ x. x.0) is))))
     (λ a b has had is.
     let e = comes_from (λ e. (c ++ e.0, e.1)) (region (at t c)) a has in
     let f = comes_from (λ e. (c ++ e.0, e.1)) (region (at t c)) b had in
-    let pair = same_entry e.0 f.0 e.1 f.1 (back c e.0.0 f.0.0 (ap (λ x. x.0) e.2 ∙ is ∙ sym (ap (λ x. x.0) f.2))) in
+    let pair = same_entry e.0 f.0 e.1 f.1 (same_rest c e.0.0 f.0.0 (ap (λ x. x.0) e.2 ∙ is ∙ sym (ap (λ x. x.0) f.2))) in
     sym e.2 ∙ ap (λ (x : Path × Node). (c ++ x.0, x.1)) pair ∙ f.2)
   where
     same_entry : (a b : Path × Node) → Contains (region (at t c)) a → Contains (region (at t c)) b → a.0 ≡ b.0 → a ≡ b
@@ -140,8 +140,8 @@ sharing t c NoMemory cut same = tt
 -- where the keys of each region are apart no two paths share one
 pub no_sharing : (t : Nodes) → ((c : Path) → is_cut t c ≡ true → KeysApart c (at t c)) → (p q : Path) → SharesKey t p q → ⊥
 no_sharing t apart p q s =
-    let m = some_node (get (at t s.cut) s.first.0) s.first.2 in
-    let n = some_node (get (at t s.cut) s.second.0) s.second.2 in
+    let m = some_there (get (at t s.cut) s.first.0) s.first.2 in
+    let n = some_there (get (at t s.cut) s.second.0) s.second.2 in
     let same = (apart s.cut s.is_cut_).each s.first.0 s.second.0 m.0 n.0 (record { there = m.1; near = s.first.3 }) (record { there = n.1; near = s.second.3 }) (ap key_of (sym s.first.1) ∙ s.keys ∙ ap key_of s.second.1) in
     s.differ (s.first.1 ∙ ap (λ (x : Path). s.cut ++ x) same ∙ sym s.second.1)
 

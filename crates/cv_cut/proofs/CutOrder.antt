@@ -13,18 +13,18 @@ use Rattle.std.proofs.lemmas.List.Kept.{IsStrictlySortedBy-filter}
 use Rattle.std.proofs.lemmas.List.Sorted.{IsPermutation-reverse, Contains-permutation}
 use Rattle.cv_base.specs.Path.{Path, path_cmp, covers}
 use Rattle.cv_base.specs.PathOrder.{path_total, path_exact}
+use Rattle.cv_base.proofs.Laws.{covers_below}
 use Rattle.cv_tree.proofs.Laws.{covers_before}
 use Rattle.cv_tree.specs.Tree.{Nodes}
 use Rattle.cv_cut.specs.Cuts.{cuts_of, is_cut}
 use Rattle.cv_cut.specs.Cut.{is_other}
 use Rattle.cv_cut.specs.Piece.{cuts_within}
-use Rattle.cv_rows.proofs.Lemmas.{covers_below}
 use Rattle.cv_cut.proofs.Members.{passing}
 use Rattle.cv_cut.proofs.RegionPaths.{keys_rise}
 use Rattle.cv_cut.proofs.Between.{stands_below, below_covered, other_cut}
 use Rattle.cv_cut.proofs.Sides.{rises_at}
-use Rattle.cv_cut.proofs.Ends.{back}
 use Rattle.cv_cut.proofs.Bools.{so}
+use Rattle.cv_cut.proofs.Ends.{same_rest}
 
 -- a path below another stands behind it
 below_after : (c d : Path) → covers c d ≡ true → d ≢ c → path_cmp c d ≡ Less
@@ -77,4 +77,4 @@ taken_before t p cuts i c d is inside lt c-is other =
     (has.0, omega (arith, before, length-take-le i cuts (omega (arith, lt))), get_or-take i cuts has.0 d before ∙ has.2)
   where
     nothing_behind : (c r : Path) → c ≡ c ++ r → r ≡ []
-    nothing_behind c r h = sym (back c [] r (append-nil c ∙ h))
+    nothing_behind c r h = sym (same_rest c [] r (append-nil c ∙ h))

@@ -4,7 +4,7 @@ use Rattle.std.proofs.lemmas.List.{map-append}
 use Rattle.std.proofs.lemmas.List.Folds.{list_all-append}
 use Rattle.std.specs.List.{list_all}
 use Rattle.cv_base.specs.Path.{Path, parent, key_of, parent_key_of, last_name_of}
-use Rattle.cv_base.proofs.Laws.{first_true, second_true}
+use Rattle.cv_base.proofs.Laws.{first_true, second_true, parent-append}
 use Rattle.cv_tree.specs.Tree.{Nodes}
 use Rattle.cv_cut.specs.Cuts.{between, is_near, is_marked}
 
@@ -28,11 +28,6 @@ some_last q some = elim (root_or_last q) [ inl none ↦ absurd (some none) | inr
 pub last_some : (q : Path) (a : List _) → q ++ a ∷ [] ≢ []
 last_some [] a h = cc
 last_some (b ∷ q) a h = cc
-
-parent-append : (q : Path) (a : List _) → parent (q ++ a ∷ []) ≡ q
-parent-append [] a = refl
-parent-append (b ∷ []) a = refl
-parent-append (b ∷ c ∷ q) a = ap (λ (w : Path). b ∷ w) (parent-append (c ∷ q) a)
 
 -- the parent key and the name of a path with one more name
 pub parent_key-append : (q : Path) (a : List _) → parent_key_of (q ++ a ∷ []) ≡ key_of q
@@ -74,6 +69,6 @@ near_below u [] a h free = refl
 near_below u (b ∷ q) a h free = near-append u b q a ∙ rw (h, free (λ e. cc)) refl
 
 -- what is behind one path is one path
-pub back : (c a b : Path) → c ++ a ≡ c ++ b → a ≡ b
-back [] a b h = h
-back (x ∷ c) a b h = back c a b cc
+pub same_rest : (p a b : Path) → p ++ a ≡ p ++ b → a ≡ b
+same_rest [] a b h = h
+same_rest (x ∷ p) a b h = same_rest p a b cc

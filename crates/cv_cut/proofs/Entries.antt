@@ -2,20 +2,15 @@
 use Rattle.std.proofs.Common.{◌≡◌, true, false, cond, List, [], ◌∷◌, refl, sym, ap, subst, ◌∙◌, inl, inr}
 use Rattle.std.specs.Prelude.{Contains}
 use Rattle.std.specs.declared.cmp.Ordering.{Ordering}
-use Rattle.std.specs.declared.cmp.Ordering.TheVariants.{Less, Equal, Greater}
+use Rattle.std.specs.declared.cmp.Ordering.TheVariants.{Less}
 use Rattle.std.specs.declared.option.Option.TheVariants.{Some}
 use Rattle.std.specs.Ordering.{is_eq, is_lt, eq_by_cmp}
 use Rattle.std.specs.Cmp.{IsTotalOrder, tied_itself, eq_by_cmp_equiv}
 use Rattle.std.specs.FinMap.{FinMap, IsAntisymmetric, find, get, entries, is_sorted, entries_sorted, get-entries}
 use Rattle.std.specs.FinMap.Entries.{below_all}
-use Rattle.cv_base.proofs.Laws.{first_true, second_true}
+use Rattle.cv_base.proofs.Laws.{first_true, second_true, is_less, is_equal}
 use Rattle.cv_cut.proofs.Members.{none_there, first_there, later_there, first_or_later}
-use Rattle.cv_cut.proofs.Bools.{so, is_less}
-
-is_equal : (r : Ordering) → is_eq r ≡ true → r ≡ Equal
-is_equal Less h = cc
-is_equal Equal h = refl
-is_equal Greater h = cc
+use Rattle.cv_cut.proofs.Bools.{so}
 
 pub below_each : {K X : Type 0} (R : K → K → Ordering) (k : K) (es : List (K × X)) (q : K) (v : X) → below_all R k es ≡ true → Contains es (q, v) → R k q ≡ Less
 below_each {K} {X} R k [] q v h has = absurd (none_there (q, v) has)

@@ -3,12 +3,12 @@ use Rattle.std.proofs.Common.{◌≡◌, ◌≢◌, ◌<◌, ◌^◌, true, fals
 use Rattle.std.specs.FinMap.{get, same_map}
 use Rattle.cv_base.specs.Path.{Path, covers, key_of}
 use Rattle.cv_base.specs.PathOrder.{path_total, path_exact}
+use Rattle.cv_base.proofs.Laws.{some_there}
 use Rattle.cv_tree.specs.Tree.{Nodes, at, put}
 use Rattle.cv_tree.proofs.Laws.{get-at, get-put, at-put, at-at, at-put_apart}
 use Rattle.cv_cut.specs.Cuts.{is_cut, is_marked, is_near, region}
 use Rattle.cv_cut.specs.Catalogues.{catalogue_of, Fits, SharesKey}
 use Rattle.cv_cut.proofs.CanonicalRules.{region_apart}
-use Rattle.cv_cut.proofs.Regions.{some_node}
 use Rattle.cv_cut.proofs.RegionLists.{inner_is}
 use Rattle.cv_cut.proofs.Between.{marked-at}
 use Rattle.cv_cut.proofs.MarkLaws.{covers_append}
@@ -59,8 +59,8 @@ one_holder t p c r d v h g =
 sound_apart_ : (P : Type 0) (t : Nodes) → ((c : Path) → is_cut t c ≡ true → IsSound P t c) → (p q : Path) → SharesKey t p q → ⊥
 sound_apart_ P t sound p q s =
     let keys = (sound s.cut s.is_cut_).keys in
-    let one = some_node (get (at t s.cut) s.first.0) s.first.2 in
-    let other = some_node (get (at t s.cut) s.second.0) s.second.2 in
+    let one = some_there (get (at t s.cut) s.first.0) s.first.2 in
+    let other = some_there (get (at t s.cut) s.second.0) s.second.2 in
     let same = keys.each s.first.0 s.second.0 one.0 other.0 (record { there = one.1; near = s.first.3 }) (record { there = other.1; near = s.second.3 })
     (ap key_of (sym s.first.1) ∙ s.keys ∙ ap key_of s.second.1) in
     s.differ (s.first.1 ∙ ap (λ (x : Path). s.cut ++ x) same ∙ sym s.second.1)

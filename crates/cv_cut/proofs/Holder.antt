@@ -26,7 +26,7 @@ use Rattle.cv_cut.proofs.Regions.{stands}
 use Rattle.cv_cut.proofs.RegionRules.{StandsAtCut, stands_at_cut, path_there}
 use Rattle.cv_rows.specs.Within.{IsWithin}
 use Rattle.cv_cut.proofs.Between.{between_has}
-use Rattle.cv_cut.proofs.MarkLaws.{covers_append, same_rest, longer_covers_not}
+use Rattle.cv_cut.proofs.MarkLaws.{covers_append, longer_covers_not}
 use Rattle.cv_cut.proofs.Joined.{covers-shift, rest_behind, AreHolders, joined, path-in, was_near-out, was_near-in, rows_joined, entries_joined}
 use Rattle.cv_cut.proofs.Lists.{kept_apart, apart_append}
 use Rattle.cv_cut.proofs.Contents.{rows_rise, entries_rise, rows_in_order, entries_in_order, rows_count}
@@ -34,6 +34,7 @@ use Rattle.cv_cut.proofs.Told.{rows_are, entries_are}
 use Rattle.cv_cut.proofs.Trees.{at-put_below, cut-out, ends-behind}
 use Rattle.cv_cut.specs.Region.{row_at, IsNear, KeysApart, IsOther, AreRowsOf, AreEntriesOf}
 use Rattle.cv_cut.specs.Replaced.{Grafting}
+use Rattle.cv_cut.proofs.Ends.{same_rest}
 
 -- another cut doesn't stand above a path that is near
 pub not_on_way : (u : Nodes) (q r : Path) → IsOther u q → is_near u r ≡ true → covers r q ≡ false → covers q r ≡ false

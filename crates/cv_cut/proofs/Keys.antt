@@ -1,20 +1,12 @@
 -- The keys of rows have their size.
-use Rattle.std.proofs.Common.{ℕ, zero, suc, ◌<◌, List, [], ◌∷◌, length, slice_index, All, refl, arith, inl, inr}
+use Rattle.std.proofs.Common.{ℕ, zero, suc, List, [], ◌∷◌, All, refl, arith}
 use Rattle.std.specs.Int.{w32, to_le_bytes, byte_at}
 use Rattle.std.proofs.lemmas.List.Elements.{All-nil, All-cons, All-append, All-replicate}
-use Rattle.std.proofs.lemmas.Bool.{cases_lt}
-use Rattle.std.proofs.lemmas.List.{get_or_past}
 use Rattle.md5.specs.Md5.{md5, digest_bytes}
 use Rattle.md5.proofs.StandardFacts.{length-md5}
 use Rattle.cv_base.specs.Path.{Path, key_of, no_key, parent_key_of}
+use Rattle.cv_base.proofs.Laws.{IsByte, bytes_at, byte_small}
 use Rattle.cv_rows.specs.Row.{IsKey}
-
-abbrev IsByte : ℕ → Type 0
-IsByte b = b < 256
-
-byte_small : (k x : ℕ) → byte_at k x < 256
-byte_small zero x = omega arith
-byte_small (suc i) x = omega arith
 
 word_bytes : (x : ℕ) → All IsByte (to_le_bytes w32 x)
 word_bytes x =
@@ -27,13 +19,6 @@ digest_are_bytes : (h : List ℕ) (n : ℕ) → All IsByte (digest_bytes h n)
 unfolding digest_bytes
 digest_are_bytes h zero = All-nil IsByte
 digest_are_bytes h (suc n) = All-append IsByte _ _ (digest_are_bytes h n) (word_bytes _)
-
--- All of a list at every index, 0 past its end
-bytes_at : (xs : List ℕ) → All IsByte xs → (i : ℕ) → slice_index xs i < 256
-bytes_at xs all i = elim (cases_lt i (length xs)) [
-  | inl below ↦ all i 0 below
-  | inr above ↦ rw (get_or_past xs i 0 above) (omega arith)
-]
 
 md5_key : (m : List ℕ) → IsKey (md5 m)
 unfolding md5

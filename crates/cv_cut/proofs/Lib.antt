@@ -29,6 +29,7 @@ mod Grafts
 mod Single
 mod Over
 mod Told
+mod ToldNodes
 mod Opening
 mod Sameness
 mod Behind

@@ -6,25 +6,9 @@ use Rattle.std.proofs.lemmas.List.Elements.{Contains-append_cases}
 use Rattle.std.proofs.lemmas.List.Kept.{IsStrictlySortedBy-filter}
 use Rattle.std.proofs.lemmas.Map.Keys.{Less-from_sorted}
 use Rattle.std.proofs.lemmas.Option.{slice_get_within, get_or_from_slice_get, slice_get-get_or}
-use Rattle.std.specs.declared.cmp.Ordering.TheVariants.{Less, Equal}
-use Rattle.std.specs.Cmp.{tied_itself}
-use Rattle.std.specs.Cmp.Lexicographic.{nat_list_cmp_total}
 use Rattle.cv_base.specs.BytesOrder.{bytes_cmp}
+use Rattle.cv_base.proofs.Laws.{not_less, image_at, stands_there}
 use Rattle.cv_rows.specs.Made.{AreApart}
-
-pub stands_there : {X : Type 0} (xs : List X) (i : ℕ) (x : X) → slice_get xs i ≡ Some x → Contains xs x
-stands_there xs i x h = (i, slice_get_within xs i x h, get_or_from_slice_get xs i x x h)
-
-image_at : {X Y : Type 0} (f : X → Y) (xs : List X) (i : ℕ) (y : Y) → slice_get (map f xs) i ≡ Some y → (x : X) × (slice_get xs i ≡ Some x) × (f x ≡ y)
-image_at f [] i y h = absurd cc
-image_at f (x ∷ xs) zero y h = (x, refl, cc)
-image_at f (x ∷ xs) (suc i) y h = image_at f xs i y h
-
-not_itself : (a b : List ℕ) → bytes_cmp a b ≡ Less → a ≡ b → ⊥
-not_itself a b less same =
-    let tied : bytes_cmp a a ≡ Equal = tied_itself nat_list_cmp_total a in
-    let wrong : bytes_cmp a a ≡ Less = subst (λ (c : List ℕ). bytes_cmp a c ≡ Less) (sym same) less in
-    cc
 
 -- what rises by a key has no key twice
 pub sorted_apart : {X : Type 0} (key : X → List ℕ) (xs : List X) → IsStrictlySortedBy (λ a b. bytes_cmp (key a) (key b)) xs → AreApart (map key xs)
@@ -34,12 +18,12 @@ sorted_apart key xs sorted = λ x t.
     let less = Less-from_sorted (λ a b. bytes_cmp (key a) (key b)) xs t.first t.second a.0 sorted t.order (slice_get_within xs t.second b.0 b.1) in
     let first : get_or xs t.first a.0 ≡ a.0 = get_or_from_slice_get xs t.first a.0 a.0 a.1 in
     let second : get_or xs t.second a.0 ≡ b.0 = get_or_from_slice_get xs t.second b.0 a.0 b.1 in
-    not_itself (key (get_or xs t.first a.0)) (key (get_or xs t.second a.0)) less (ap key first ∙ a.2 ∙ sym b.2 ∙ ap key (sym second))
+    not_less (key (get_or xs t.first a.0)) (key (get_or xs t.second a.0)) less (ap key first ∙ a.2 ∙ sym b.2 ∙ ap key (sym second))
 
 pub kept_apart : {X : Type 0} (key : X → List ℕ) (p : X → Bool) (xs : List X) → IsStrictlySortedBy (λ a b. bytes_cmp (key a) (key b)) xs → AreApart (map key (filter p xs))
 kept_apart key p xs sorted = sorted_apart key (filter p xs) (IsStrictlySortedBy-filter (λ a b. bytes_cmp (key a) (key b)) p xs sorted)
 
-tail_apart : (x : List ℕ) (xs : List (List ℕ)) → AreApart (x ∷ xs) → AreApart xs
+pub tail_apart : (x : List ℕ) (xs : List (List ℕ)) → AreApart (x ∷ xs) → AreApart xs
 tail_apart x xs apart = λ y t. apart y (record { first = suc t.first; second = suc t.second; order = (let lt = t.order in omega arith); one = t.one; other = t.other })
 
 not_again : (x : List ℕ) (xs : List (List ℕ)) → AreApart (x ∷ xs) → Contains xs x → ⊥

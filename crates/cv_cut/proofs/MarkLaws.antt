@@ -9,13 +9,14 @@ use Rattle.std.proofs.lemmas.List.{map-append}
 use Rattle.std.proofs.lemmas.List.Folds.{list_all-append, list_all-map}
 use Rattle.cv_base.specs.Marker.{marker, ends_in}
 use Rattle.cv_base.specs.Path.{Path, covers}
-use Rattle.cv_base.proofs.Laws.{behind-append}
-use Rattle.cv_rows.proofs.Lemmas.{covers_below, covers_last, ends_so, not_above}
+use Rattle.cv_base.proofs.Laws.{behind-append, not_before}
+use Rattle.cv_rows.proofs.Lemmas.{covers_last, ends_so, not_above}
 use Rattle.cv_tree.specs.Tree.{Nodes, at, put, is_directory, is_file}
 use Rattle.cv_tree.proofs.Laws.{at_rest, get-put, kept-put, put-at}
 use Rattle.cv_cut.specs.Cuts.{is_marked, is_near, between}
 use Rattle.cv_cut.proofs.Between.{between_is}
 use Rattle.cv_cut.proofs.Members.{first_there, later_there}
+use Rattle.cv_cut.proofs.Ends.{same_rest}
 
 -- ---- paths
 
@@ -30,17 +31,6 @@ not_last r q name other out =
       | true ↦ λ e. absurd (let wrong : true ≡ false = sym (ends_so q name) ∙ sym (ap (ends_in name) (covers_last r q name out e)) ∙ other in cc)
       | false ↦ λ e. refl
     ] refl
-
-pub not_before : (r q s : Path) → covers r (q ++ s) ≡ false → covers r q ≡ false
-not_before r q s out =
-    elim (covers r q) as (λ t. covers r q ≡ t → t ≡ false) [
-      | true ↦ λ e. absurd (let wrong : true ≡ false = sym (covers_below r q s e) ∙ out in cc)
-      | false ↦ λ e. refl
-    ] refl
-
-pub same_rest : (p a b : Path) → p ++ a ≡ p ++ b → a ≡ b
-same_rest [] a b h = h
-same_rest (x ∷ p) a b h = same_rest p a b cc
 
 -- a path with some more names doesn't cover it
 pub longer_covers_not : (q : Path) (s : Path) → s ≢ [] → covers (q ++ s) q ≡ false

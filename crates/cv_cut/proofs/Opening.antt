@@ -1,6 +1,6 @@
 -- Catalogues that are opened at their places.
-use Rattle.std.proofs.Common.{◌≡◌, ◌≢◌, ◌↔◌, ℕ, ◌<◌, ◌≤◌, Bool, true, false, List, [], ◌∷◌, length, Ok, Err, Result, None, Some, IsTrue, refl, sym, ap, subst, ◌∙◌, arith, length-append, inl, inr}
-use Rattle.std.specs.Prelude.{Contains, IfSome, IsSomeAnd, IsErrAnd, MatchOption}
+use Rattle.std.proofs.Common.{◌≡◌, ◌≢◌, ◌↔◌, ℕ, ◌<◌, Bool, true, false, List, [], ◌∷◌, length, Ok, Err, Result, None, Some, IsTrue, refl, sym, ap, subst, ◌∙◌, arith, length-append, inl, inr}
+use Rattle.std.specs.Prelude.{Contains, IfSome, IsSomeAnd, MatchOption}
 use Rattle.std.specs.Borrow.{Bor}
 use Rattle.std.specs.Option.{option_copied}
 use Rattle.std.specs.Cmp.{tied_itself}
@@ -13,13 +13,14 @@ use Rattle.cv_base.specs.PathOrder.{path_total, same_path_is}
 use Rattle.cv_base.specs.ObjectId.{object_id}
 use Rattle.cv_base.specs.declared.id.ObjectId.{ObjectId}
 use Rattle.cv_base.specs.declared.id.Kind.TheVariants as id_kind
+use Rattle.cv_base.proofs.Laws.{some_same, not_both}
 use Rattle.cv_ports.specs.Shelf.{Shelf}
 use Rattle.cv_rows.specs.Catalogue.{Contents, IsCatalogue, IsTransitionAt}
 use Rattle.cv_rows.specs.Places.{IsRoot, StandsAt, root, below}
 use Rattle.cv_rows.specs.declared.row.Row.{Row}
 use Rattle.cv_rows.specs.declared.nested.Nested.{Nested}
 use Rattle.cv_rows.specs.declared.row_kind.RowKind.TheVariants.{Transition}
-use Rattle.cv_rows.proofs.Lemmas.{stands_contained, same_by_key, fits_there}
+use Rattle.cv_rows.proofs.Lemmas.{stands_contained, same_by_key, fits_there, stands_long}
 use Rattle.cv_cut.specs.Open.{FitsRow}
 use Rattle.cv_cut.specs.Reached.{ReachedFrom, Reaches, Place, Decodes, FitsPlace, HasCatalogue, Misstates, BadFrom}
 use Rattle.cv_cut.specs.Good.{HasSize}
@@ -28,12 +29,6 @@ use Rattle.cv_cut.specs.OpeningInner.{Decoded, Fetched}
 use Rattle.cv_cut.specs.declared.load_fault.LoadFault.{LoadFault}
 use Rattle.cv_cut.specs.declared.load_fault.LoadFault.TheVariants as fault
 use Rattle.cv_cut.proofs.RowFacts.{root_not}
-
--- ---- the answer of a `?` that leaves
-
-pub left_by : {X E : Type 0} (P : Result X E → Type 0) (answer : Result X E) (f : E) → IsErrAnd answer (λ e. e ≡ f) → P (Err f) → P answer
-left_by P (Ok x) f is h = absurd is
-left_by P (Err e) f is h = subst (λ x. P (Err x)) (sym is) h
 
 -- ---- rows of a catalogue
 
@@ -44,17 +39,12 @@ transition_of c n is has =
     (t.row, record { kind = t.kind; stands = t.stands })
 
 -- it is the row that stands at the entry's path
-transition_at : (c : Contents) (n : Nested) (r : Row) → IsCatalogue c → Contains c.nested n → StandsAt c.at c.rows r n.path → IsTransitionOf c n r
+pub transition_at : (c : Contents) (n : Nested) (r : Row) → IsCatalogue c → Contains c.nested n → StandsAt c.at c.rows r n.path → IsTransitionOf c n r
 transition_at c n r is has stands =
     let t = transition_of c n is has in
     let one = fits_there c.at c.rows t.0 n.path is.ordered is.region.placed t.1.stands in
     let other = fits_there c.at c.rows r n.path is.ordered is.region.placed stands in
     subst (IsTransitionOf c n) (same_by_key c.rows t.0 r is.ordered (stands_contained t.1.stands) (stands_contained stands) (one.key ∙ sym other.key)) t.1
-
--- rows stand at the catalogue's place or deeper
-pub stands_long : {at : Path} {rows : List Row} {r : Row} {q : Path} → StandsAt at rows r q → length at ≤ length q
-stands_long (root has is) = omega arith
-stands_long {at} {rows} {r} (below {q = q} has other s child) = let l = stands_long s in omega (arith, l, length-append q (r.name ∷ []))
 
 pub transition_long : {at : Path} {rows : List Row} {r : Row} {q : Path} → StandsAt at rows r q → r.kind ≡ Transition → length at < length q
 transition_long {at} (root has is) kind = absurd (root_not at (sym is.kind ∙ kind))
@@ -124,21 +114,15 @@ opens_found shelf id c n (Some row) answer is has stands size h = opens_nested s
 
 -- ---- what is there and decodes is opened, unless the shelf fails or memory is wanted
 
-there_not : (o : Option (List ℕ)) (bytes : List ℕ) → o ≡ Some bytes → o ≡ None → ⊥
-there_not o bytes some none = let e : Some bytes ≡ None = sym some ∙ none in cc
-
-same_there : (o : Option (List ℕ)) (a b : List ℕ) → o ≡ Some a → o ≡ Some b → a ≡ b
-same_there o a b is was = let e : Some a ≡ Some b = sym is ∙ was in cc
-
 undamaged : (shelf : Shelf) (id : ObjectId) (found bytes : List ℕ) → shelf id ≡ Some bytes → sha1 bytes ≡ id.hash → HasOtherDigest shelf id found → ⊥
-undamaged shelf id found bytes there hash h = h.other (h.digest ∙ ap sha1 (same_there (shelf id) h.bytes bytes h.there there) ∙ hash)
+undamaged shelf id found bytes there hash h = h.other (h.digest ∙ ap sha1 (some_same (shelf id) h.bytes bytes h.there there) ∙ hash)
 
 decodable : (shelf : Shelf) (id : ObjectId) (place : Place) (bytes : List ℕ) (c : Contents) → shelf id ≡ Some bytes → Decodes place bytes c → IsUndecodable shelf id place → ⊥
-decodable shelf id place bytes c there decodes u = u.none c (subst (λ (b : List ℕ). Decodes place b c) (sym (same_there (shelf id) u.bytes bytes u.there there)) decodes)
+decodable shelf id place bytes c there decodes u = u.none c (subst (λ (b : List ℕ). Decodes place b c) (sym (some_same (shelf id) u.bytes bytes u.there there)) decodes)
 
 pub opens_there : (shelf : Shelf) (id : ObjectId) (place : Place) (bytes : List ℕ) (c : Contents) (f : LoadFault) → shelf id ≡ Some bytes → sha1 bytes ≡ id.hash → Decodes place bytes c
     → Opens shelf id place (Err f) → IsUnread f
-opens_there shelf id place bytes c (fault.Missing x) there hash decodes h = there_not (shelf id) bytes there h.1
+opens_there shelf id place bytes c (fault.Missing x) there hash decodes h = not_both (shelf id) bytes there h.1
 opens_there shelf id place bytes c (fault.Bad x) there hash decodes h = decodable shelf id place bytes c there decodes h.1
 opens_there shelf id place bytes c fault.Failed there hash decodes h = tt
 opens_there shelf id place bytes c (fault.Damaged x found) there hash decodes h = undamaged shelf id found bytes there hash h.1
@@ -160,7 +144,7 @@ good_nested shelf id c n x is (of_size h) = sized_there (shelf (below_id n)) is.
 good_nested shelf id c n x is (undecodable r t u) = let d = is.decodes r t in decodable shelf (below_id n) (record { path = n.path; row = Some r }) is.bytes d.0 is.there d.1 u
 
 pub nested_there : (shelf : Shelf) (id : ObjectId) (c : Contents) (n : Nested) (f : LoadFault) → IsThere shelf c n → OpensNested shelf id c n (Err f) → IsUnread f
-nested_there shelf id c n (fault.Missing x) is h = there_not (shelf (below_id n)) is.bytes is.there h.1
+nested_there shelf id c n (fault.Missing x) is h = not_both (shelf (below_id n)) is.bytes is.there h.1
 nested_there shelf id c n (fault.Bad x) is h = good_nested shelf id c n x is h
 nested_there shelf id c n fault.Failed is h = tt
 nested_there shelf id c n (fault.Damaged x found) is h = undamaged shelf (below_id n) found is.bytes is.there is.hash h.1

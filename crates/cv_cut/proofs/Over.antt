@@ -1,5 +1,5 @@
 -- The cuts that cover a path, and the nearest of them.
-use Rattle.std.proofs.Common.{◌≡◌, ◌≢◌, ℕ, zero, suc, ◌≤◌, Bool, true, false, List, [], ◌∷◌, ◌++◌, length, map, refl, sym, ap, subst, ◌∙◌, append-nil, append_assoc, length-append, arith, inl, inr}
+use Rattle.std.proofs.Common.{◌≡◌, ℕ, zero, suc, ◌≤◌, Bool, true, false, List, [], ◌∷◌, ◌++◌, length, map, refl, sym, ap, subst, ◌∙◌, append-nil, append_assoc, length-append, arith, inl, inr}
 use Rattle.std.specs.List.{filter}
 use Rattle.std.proofs.lemmas.List.{map-append}
 use Rattle.std.proofs.lemmas.List.Elements.{filter-append}
@@ -9,7 +9,7 @@ use Rattle.cv_tree.specs.Tree.{Nodes, at}
 use Rattle.cv_cut.specs.Cuts.{is_cut, is_marked}
 use Rattle.cv_cut.specs.Over.{beginnings, cuts_over, IsNearest}
 use Rattle.cv_cut.proofs.Ends.{root_or_last, last_some, near_below}
-use Rattle.cv_cut.proofs.Between.{marked-at}
+use Rattle.cv_cut.proofs.Between.{marked-at, cut_marked}
 
 -- ---- one name more
 
@@ -35,10 +35,6 @@ pub more_over : (t : Nodes) (p : Path) (a : List _) → is_cut t (p ++ a ∷ [])
 more_over t p a cut = over-append t p a ∙ ap (λ (w : List Path). cuts_over t p ++ w) ((filter_one (is_cut t) (p ++ a ∷ []) true cut).0 refl)
 
 -- ---- the nearest cut
-
-cut_marked : (t : Nodes) (p : Path) → p ≢ [] → is_cut t p ≡ is_marked t p
-cut_marked t [] some = absurd (some refl)
-cut_marked t (a ∷ p) some = refl
 
 pub same_ends : {X : Type 0} (a b : List X) (x y : X) → a ++ x ∷ [] ≡ b ++ y ∷ [] → (a ≡ b) × (x ≡ y)
 same_ends a b x y h =

@@ -8,18 +8,18 @@ use Rattle.std.specs.BTreeMap.{BTreeMap}
 use Rattle.std.specs.BTreeMap as tree
 use Rattle.std.specs.FinMap.{get, empty, insert, entries, from_entries, is_sorted, get-empty, get-insert, get-from_entries, get-entries, same_map}
 use Rattle.std.specs.Ordering.{eq_by_cmp}
-use Rattle.std.proofs.lemmas.List.Elements.{All-contains, Contains-get_or}
+use Rattle.std.proofs.lemmas.List.Elements.{All-contains, Contains-get_or, filter-append}
 use Rattle.cv_base.specs.Marker.{marker, ends_in}
 use Rattle.cv_base.specs.Path.{Path, IsPath, covers, key_of, path_cmp}
 use Rattle.cv_base.specs.PathOrder.{path_total, path_exact}
 use Rattle.cv_base.specs.declared.attr.Attr.{Attr}
+use Rattle.cv_base.proofs.Laws.{some_there, image_at, stands_there, covers_below}
 use Rattle.cv_tree.specs.Tree.{Nodes, IsTree, at, put, is_directory, single, is_file}
 use Rattle.cv_tree.specs.Changes.{FitsUnder, nodes_of, subtree_of}
 use Rattle.cv_tree.specs.declared.node.Node.{Node}
 use Rattle.cv_tree.specs.declared.node.Node.TheVariants as node
 use Rattle.cv_tree.proofs.Laws.{at-put, get-at}
 use Rattle.cv_rows.specs.declared.nested.Nested.{Nested}
-use Rattle.cv_rows.proofs.Lemmas.{covers_below}
 use Rattle.cv_cut.specs.Cuts.{is_cut, is_marked, cuts_of, region}
 use Rattle.cv_cut.specs.Catalogues.{SharesKey, IsInRegion}
 use Rattle.cv_cut.specs.Cut.{is_other, region_at}
@@ -36,8 +36,6 @@ use Rattle.cv_cut.proofs.MarkLaws.{marked-out}
 use Rattle.cv_cut.proofs.Members.{comes_from, passes}
 use Rattle.cv_cut.proofs.RegionLists.{region_near, region_rises, keys_once}
 use Rattle.cv_cut.proofs.Sides.{sorted_filter}
-use Rattle.cv_cut.proofs.Regions.{some_node}
-use Rattle.cv_cut.proofs.Twice.{image_at, stands_there}
 use Rattle.cv_cut.proofs.Fitting.{put-root}
 use Rattle.cv_cut.proofs.WayCuts.{at-root}
 
@@ -51,19 +49,11 @@ pub same_ok : {X E : Type 0} (r : Result X E) (a b : X) → IfOk r (λ m. m ≡ 
 same_ok (Ok x) a b h is = h ∙ is
 same_ok (Err e) a b h is = tt
 
-filter_append : {X : Type 0} (f : X → Bool) (xs ys : List X) → filter f (xs ++ ys) ≡ filter f xs ++ filter f ys
-filter_append f [] ys = refl
-filter_append f (x ∷ xs) ys =
-    elim (f x) as (λ b. cond b (x ∷ filter f (xs ++ ys)) (filter f (xs ++ ys)) ≡ cond b (x ∷ filter f xs) (filter f xs) ++ filter f ys) [
-      | true ↦ ap (λ l. x ∷ l) (filter_append f xs ys)
-      | false ↦ filter_append f xs ys
-    ]
-
 -- what a test keeps of a list in reverse
 pub filter_reverse : {X : Type 0} (f : X → Bool) (xs : List X) → filter f (reverse xs) ≡ reverse (filter f xs)
 filter_reverse f [] = refl
 filter_reverse f (x ∷ xs) =
-    ap (filter f) (reverse-append (x ∷ []) xs) ∙ filter_append f (reverse xs) (x ∷ []) ∙ ap (λ l. l ++ filter f (x ∷ [])) (filter_reverse f xs)
+    ap (filter f) (reverse-append (x ∷ []) xs) ∙ filter-append f (reverse xs) (x ∷ []) ∙ ap (λ l. l ++ filter f (x ∷ [])) (filter_reverse f xs)
     ∙ elim (f x) as (λ b. reverse (filter f xs) ++ cond b (x ∷ []) [] ≡ reverse (cond b (x ∷ filter f xs) (filter f xs))) [
       | true ↦ sym (reverse-append (x ∷ []) (filter f xs))
       | false ↦ append-nil (reverse (filter f xs))
@@ -192,8 +182,8 @@ made_below piece root made ready none has = record {
 -- where the keys of its region are apart, no two of its paths share one
 not_sharing : (t : Nodes) (a b : Path) (s : SharesKey t a b) → KeysApart s.cut (at t s.cut) → ⊥
 not_sharing t a b s keys =
-    let m = some_node (get (at t s.cut) s.first.0) s.first.2 in
-    let n = some_node (get (at t s.cut) s.second.0) s.second.2 in
+    let m = some_there (get (at t s.cut) s.first.0) s.first.2 in
+    let n = some_there (get (at t s.cut) s.second.0) s.second.2 in
     let same = keys.each s.first.0 s.second.0 m.0 n.0 (record { there = m.1; near = s.first.3 }) (record { there = n.1; near = s.second.3 }) (ap key_of (sym s.first.1) ∙ s.keys ∙ ap key_of s.second.1) in
     s.differ (s.first.1 ∙ ap (λ (x : Path). s.cut ++ x) same ∙ sym s.second.1)
 

@@ -9,6 +9,7 @@ use Rattle.cv_base.specs.Path.{Path, covers, overlap, key_of}
 use Rattle.cv_base.specs.PathOrder.{path_total}
 use Rattle.cv_base.specs.ObjectId.{object_id}
 use Rattle.cv_base.specs.declared.id.Kind.TheVariants.{Catalogue}
+use Rattle.cv_base.proofs.Laws.{some_there}
 use Rattle.cv_tree.specs.Tree.{Nodes, IsTree, at, put}
 use Rattle.cv_tree.specs.declared.node.Node.{Node}
 use Rattle.cv_tree.proofs.Laws.{at-at, at-put}
@@ -26,11 +27,11 @@ use Rattle.cv_cut.proofs.Joined.{rest_behind, is_near-in, path-in}
 use Rattle.cv_cut.proofs.Members.{first_there, later_there, passes, passing}
 use Rattle.cv_cut.proofs.PlacedLaws.{same_below}
 use Rattle.cv_cut.proofs.Placing.{Placing, holders, at_cut, inside_all}
-use Rattle.cv_cut.proofs.Regions.{some_node}
 use Rattle.cv_cut.proofs.Sameness.{same_list}
 use Rattle.cv_cut.proofs.Trees.{cut-in, cut-out}
 use Rattle.cv_cut.proofs.MarkLaws.{covers_append, longer_covers_not}
 use Rattle.cv_cut.proofs.Twice.{one_place}
+use Rattle.cv_cut.proofs.Ends.{same_rest}
 
 -- ---- the cuts
 
@@ -91,14 +92,10 @@ one_entry es a b apart has had keys =
     let place : has.0 ≡ had.0 = one_place (keys_at es) (key_of a.0) has.0 had.0 apart one other in
     sym has.2 ∙ get_or_default es has.0 a b has.1 ∙ ap (λ k. get_or es k b) place ∙ had.2
 
-back : (p a b : Path) → p ++ a ≡ p ++ b → a ≡ b
-back [] a b h = h
-back (x ∷ p) a b h = back p a b cc
-
 pub come_apart : (m : Nodes) (p : Path) → AreApart (keys_at (region_within m p)) → (q x : Path) (n k : Node) → IsNear (at m []) (p ++ q) n → IsNear (at m []) (p ++ x) k → key_of (p ++ q) ≡ key_of (p ++ x) → q ≡ x
 come_apart m p apart q x n k near other keys =
     let same = one_entry (region_within m p) (p ++ q, n) (p ++ x, k) apart (inside_all m p q n near) (inside_all m p x k other) keys in
-    back p q x (ap (λ (e : Path × Node). e.0) same)
+    same_rest p q x (ap (λ (e : Path × Node). e.0) same)
 
 -- ---- paths that share one
 
@@ -106,7 +103,7 @@ module _ (t m : Nodes) (p c r : Path) (g : Placing t m p c r) where
   region_above : (a : Path) → IsInRegion m [] a → covers p a ≡ true → IsInRegion (put t p (at m p)) c a
   region_above a h inside =
       let b = rest_behind p a inside in
-      let n = some_node (get (at m []) h.0) h.2 in
+      let n = some_there (get (at m []) h.0) h.2 in
       let near : IsNear (at m []) (p ++ b.0) n.0 = subst (λ (x : Path). IsNear (at m []) x n.0) (sym h.1 ∙ b.1) (record { there = n.1; near = h.3 }) in
       let after = subst (λ (u : Nodes). IsNear u (r ++ b.0) n.0) (sym (at_cut t m p c r g)) (is_near-in c (at t c) r [] (at m []) p (holders t m p c r g) b.0 n.0 near) in
       (r ++ b.0, b.1 ∙ path-in c (at t c) r [] (at m []) p (holders t m p c r g) b.0, ap is_some after.there, after.near)

@@ -23,8 +23,8 @@ use Rattle.cv_cut.proofs.Twice.{StandOnce, image_there, one_place, once_image, s
 use Rattle.cv_cut.proofs.RowFacts.{row_key}
 use Rattle.cv_cut.proofs.RegionRules.{StandsAtCut, path_there, region_rules}
 use Rattle.cv_cut.proofs.Bools.{so}
-use Rattle.cv_cut.proofs.Ends.{back}
 use Rattle.cv_cut.specs.Region.{row_at, IsNear, KeysApart, IsOther, AreRowsOf, AreEntriesOf}
+use Rattle.cv_cut.proofs.Ends.{same_rest}
 
 abbrev pub row_list : Path → Nodes → List Row
 row_list c u = map (λ e. row_at c u e.0 e.1) (region u)
@@ -132,7 +132,7 @@ texts_apart c u file cut =
     let entry = λ (d : Path). entry_of (c ++ d) (file d) in
     let same = λ (a b : Path) (has : Contains (inner u) a) (had : Contains (inner u) b) (t : text_of (c ++ a) ≡ text_of (c ++ b)).
     (let o = inner_other u a has in let p = inner_other u b had in
-    back c a b (text_of-injective (c ++ a) (c ++ b) (path_there c u cut a o.node_ o.there) (path_there c u cut b p.node_ p.there) t)) in
+    same_rest c a b (text_of-injective (c ++ a) (c ++ b) (path_there c u cut a o.node_ o.there) (path_there c u cut b p.node_ p.there) t)) in
     apart (texts_of (nested_list c u file)) (once_image (λ n. text_of n.path) (nested_list c u file)
     (once_image entry (inner u) (inner_once u) (λ a b has had is. same a b has had (ap (λ (n : Nested). text_of n.path) is)))
     (λ m n has had t.

@@ -2,23 +2,21 @@
 use Rattle.std.proofs.Common.{◌≡◌, Bool, true, false, cond, Option, None, Some, List, [], ◌∷◌, ◌++◌, map, refl, sym, ap, ◌∙◌}
 use Rattle.std.proofs.lemmas.Bool.{and_from}
 use Rattle.std.specs.declared.cmp.Ordering.TheVariants.{Less}
-use Rattle.std.specs.Ordering.{is_lt, ordering_then}
+use Rattle.std.specs.Ordering.{is_lt}
 use Rattle.std.specs.List.{filter, AllByRecursion}
 use Rattle.std.specs.List.Sorted.{IsStrictlySortedBy}
 use Rattle.std.specs.Map.{keys_of}
-use Rattle.std.specs.Cmp.{tied_itself}
-use Rattle.std.specs.Cmp.Lexicographic.{nat_list_cmp_total}
 use Rattle.std.specs.FinMap.{entries, is_sorted, entries_sorted}
 use Rattle.std.specs.FinMap.Entries.{below_all}
 use Rattle.cv_base.specs.Path.{Path, path_cmp, behind}
 use Rattle.cv_base.specs.PathOrder.{path_total}
-use Rattle.cv_base.proofs.Laws.{behind-Some, first_true, second_true}
+use Rattle.cv_base.proofs.Laws.{behind-Some, first_true, second_true, is_less, cmp-behind}
 use Rattle.cv_tree.specs.Tree.{Nodes, at, cons_behind, entries_behind}
 use Rattle.cv_tree.specs.declared.node.Node.{Node}
 use Rattle.cv_tree.proofs.Laws.{entries-from_entries}
 use Rattle.cv_cut.specs.Cuts.{is_near}
 use Rattle.cv_cut.specs.Cut.{region_at}
-use Rattle.cv_cut.proofs.Bools.{so, is_less}
+use Rattle.cv_cut.proofs.Bools.{so}
 
 -- whether a path is in the region of the cut at c
 abbrev pub near_rest : Nodes → Option Path → Bool
@@ -27,11 +25,6 @@ near_rest u (Some q) = is_near u q
 
 abbrev pub is_in_region : Nodes → Path → Path → Bool
 is_in_region t c p = near_rest (at t c) (behind c p)
-
--- paths behind one path are in the order of what is behind it
-cmp-behind : (c q r : Path) → path_cmp (c ++ q) (c ++ r) ≡ path_cmp q r
-cmp-behind [] q r = refl
-cmp-behind (a ∷ c) q r = ap (λ o. ordering_then o (path_cmp (c ++ q) (c ++ r))) (tied_itself nat_list_cmp_total a) ∙ cmp-behind c q r
 
 module _ {X : Type 0} where
   below_behind : (c q : Path) (es : List (Path × X)) → below_all path_cmp (c ++ q) es ≡ true → below_all path_cmp q (entries_behind c es) ≡ true

@@ -1,18 +1,17 @@
 -- The rows and the nested entries of a region, in any order, keep the rules of a catalogue.
-use Rattle.std.proofs.Common.{◌≡◌, ◌≢◌, ℕ, ◌<◌, ◌^◌, true, false, ◌&&◌, Option, None, Some, List, [], ◌∷◌, ◌++◌, length, get_or, refl, sym, ap, subst, ◌∙◌, append-nil, IsSome, is_some}
+use Rattle.std.proofs.Common.{◌≡◌, ◌≢◌, ℕ, ◌<◌, ◌^◌, true, false, ◌&&◌, Option, None, Some, List, [], ◌∷◌, ◌++◌, length, refl, sym, ap, subst, ◌∙◌, append-nil, IsSome, is_some}
 use Rattle.std.specs.Prelude.{Contains, bytes_eq}
-use Rattle.std.specs.List.{All}
 use Rattle.std.specs.FinMap.{get}
 use Rattle.std.proofs.lemmas.Bool.{false_from_ne_true, and_from}
-use Rattle.std.proofs.lemmas.List.Elements.{Contains-get_or, recursion_from_All}
+use Rattle.std.proofs.lemmas.List.Elements.{recursion_from_All}
 use Rattle.std.proofs.lemmas.List.Folds.{Any-from_list_any, list_any-from_Any}
 use Rattle.std.proofs.lemmas.Slice.Eq.{bytes_eq-Decides}
 use Rattle.cv_base.specs.Marker.{marker}
 use Rattle.cv_base.specs.Path.{Path, IsPath, key_of, last_name_of}
-use Rattle.cv_base.proofs.Laws.{digest_sha1, first_true, second_true}
+use Rattle.cv_base.proofs.Laws.{digest_sha1, first_true, second_true, each_all}
 use Rattle.cv_tree.specs.Tree.{Nodes, is_directory, IsPart, IsTree, at, is_file}
 use Rattle.cv_tree.specs.declared.node.Node.{Node}
-use Rattle.cv_tree.proofs.Laws.{get-at, IsPart-at}
+use Rattle.cv_tree.proofs.Laws.{get-at, IsPart-at, some_directory}
 use Rattle.cv_rows.specs.Row.{IsRow, same_kind}
 use Rattle.cv_rows.specs.Nested.{IsNested}
 use Rattle.cv_rows.specs.Places.{IsRoot, StandsAt}
@@ -46,31 +45,22 @@ marked_at : (t : Nodes) (c : Path) → is_cut t c ≡ true → c ≢ [] → is_f
 marked_at t [] cut some = absurd (some refl)
 marked_at t (a ∷ c) cut some = second_true (is_directory (get t (a ∷ c))) (is_file (get t ((a ∷ c) ++ marker ∷ []))) cut
 
-directory_some : (o : Option Node) → is_directory o ≡ true → IsSome o
-directory_some None directory = absurd cc
-directory_some (Some n) directory = refl
-
 pub stands_at_cut : (t : Nodes) (c : Path) → IsTree t → is_cut t c ≡ true → StandsAtCut c (at t c)
 stands_at_cut t c tree cut =
     let directory = directory_at t c tree cut in
     record {
-      part = IsPart-at t c tree.part (directory_some (get t c) directory);
+      part = IsPart-at t c tree.part (some_directory (get t c) directory);
       directory = ap is_directory (get-at t c [] ∙ ap (get t) (append-nil c)) ∙ directory;
       paths = λ q some. tree.part.paths (c ++ q) (ap is_some (sym (get-at t c q)) ∙ some);
       marked = λ some. ap is_file (get-at t c (marker ∷ [])) ∙ marked_at t c cut some;
     }
 
--- ---- nested entries
-
 -- ---- the rules of rows
-
-each_all : {X : Type 0} (P : X → Type 0) (xs : List X) → ((x : X) → Contains xs x → P x) → All P xs
-each_all P xs h = λ k d lt. h (get_or xs k d) (Contains-get_or xs k d lt)
 
 node_there : (u : Nodes) (q : Path) (n : Node) → IsNear u q n → IsSome (get u q)
 node_there u q n has = ap is_some has.there
 
-file_kind : (kind : RowKind) → same_kind kind File ≡ true → kind ≡ File
+pub file_kind : (kind : RowKind) → same_kind kind File ≡ true → kind ≡ File
 file_kind Directory h = absurd cc
 file_kind Transition h = absurd cc
 file_kind NestedRoot h = absurd cc
@@ -122,7 +112,7 @@ marker_there c u rows cut apart are q n has h =
     (second_true (same_kind found.1.kind File) (bytes_eq found.1.name marker) is)
     (second_true (is_marker found.1) (bytes_eq found.1.parent.0 (key_of (c ++ q))) found.4)
 
-file_some : (o : Option Node) → is_file o ≡ true → (n : Node) × (o ≡ Some n) × (is_file (Some n) ≡ true)
+pub file_some : (o : Option Node) → is_file o ≡ true → (n : Node) × (o ≡ Some n) × (is_file (Some n) ≡ true)
 file_some None file = absurd cc
 file_some (Some n) file = (n, refl, file)
 

@@ -4,6 +4,7 @@ use Rattle.std.specs.declared.option.Option.{Option}
 use Rattle.std.specs.declared.option.Option.TheVariants.{None, Some}
 use Rattle.std.specs.FinMap.{get}
 use Rattle.cv_base.specs.Path.{Path, key_of}
+use Rattle.cv_base.proofs.Laws.{some_there}
 use Rattle.cv_tree.specs.Tree.{Nodes, is_directory, IsPart}
 use Rattle.cv_tree.specs.declared.node.Node.{Node}
 use Rattle.cv_rows.specs.Row.{holds_rows}
@@ -16,15 +17,11 @@ use Rattle.cv_cut.specs.Region.{row_at, IsNear, KeysApart, AreRowsOf}
 
 -- In what follows u is what stands at a cut c, and its paths begin there.
 
-pub some_node : (o : Option Node) → IsSome o → (n : Node) × (o ≡ Some n)
-some_node None some = absurd cc
-some_node (Some n) some = (n, refl)
-
 -- the root of what stands at the cut
 pub root_node : (u : Nodes) → IsPart u → (n : Node) × IsNear u [] n
-root_node u part = let found = some_node (get u []) part.root in (found.0, record { there = found.1; near = refl })
+root_node u part = let found = some_there (get u []) part.root in (found.0, record { there = found.1; near = refl })
 
-directory_node : (o : Option Node) → is_directory o ≡ true → (n : Node) × (o ≡ Some n) × (is_directory (Some n) ≡ true)
+pub directory_node : (o : Option Node) → is_directory o ≡ true → (n : Node) × (o ≡ Some n) × (is_directory (Some n) ≡ true)
 directory_node None directory = absurd cc
 directory_node (Some n) directory = (n, refl, directory)
 

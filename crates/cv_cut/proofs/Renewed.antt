@@ -6,9 +6,8 @@ use Rattle.std.specs.Prelude.{Contains}
 use Rattle.std.proofs.lemmas.List.Folds.{list_all_at}
 use Rattle.cv_base.specs.Marker.{marker, ends_in}
 use Rattle.cv_base.specs.Path.{Path, covers, same_path}
-use Rattle.std.specs.Ordering.{is_eq}
-use Rattle.std.specs.Cmp.{tied_itself}
-use Rattle.cv_base.specs.PathOrder.{path_total, same_path_is}
+use Rattle.cv_base.specs.PathOrder.{same_path_is}
+use Rattle.cv_base.proofs.Laws.{same_path-itself}
 use Rattle.cv_tree.specs.Tree.{Nodes, put}
 use Rattle.sha1.specs.Sha1.{sha1}
 use Rattle.cv_rows.specs.Renewed as rows
@@ -17,20 +16,18 @@ use Rattle.cv_rows.specs.declared.nested.Nested.{Nested}
 use Rattle.cv_cut.specs.Cuts.{is_marked, is_near, between}
 use Rattle.cv_cut.specs.Catalogues.{entry_of}
 use Rattle.cv_cut.proofs.Members.{comes_from, goes_to}
-use Rattle.cv_cut.proofs.MarkLaws.{marked-out, longer_covers_not, same_rest}
+use Rattle.cv_cut.proofs.MarkLaws.{marked-out, longer_covers_not}
 use Rattle.cv_cut.proofs.Between.{between_has}
 use Rattle.cv_cut.proofs.Joined.{rest_behind, row-out, is_near-out, was_near-out, other-out, was_other-out}
 use Rattle.cv_cut.specs.Region.{IsOther, StandsOnWay, AreRowsOf, AreEntriesOf}
+use Rattle.cv_cut.proofs.Ends.{same_rest}
 
 -- the nested entry of a path is another one, and the others stay
 abbrev pub renewed : Path → List ℕ → Nested → Nested
 renewed p bytes n = rows.renewed p (sha1 bytes) (length bytes) n
 
-itself : (a : Path) → same_path a a ≡ true
-itself a = ap is_eq (tied_itself path_total a)
-
 pub differs : (a b : Path) → a ≡ b → same_path a b ≡ false → ⊥
-differs a b is h = let yes : same_path a b ≡ true = ap (same_path a) (sym is) ∙ itself a in let wrong : true ≡ false = sym yes ∙ h in cc
+differs a b is h = let yes : same_path a b ≡ true = ap (same_path a) (sym is) ∙ same_path-itself a in let wrong : true ≡ false = sym yes ∙ h in cc
 
 module _ (c : Path) (u : Nodes) (r : Path) (s : Nodes) (e f : Path) (way : StandsOnWay u r e f) (unmarked : ends_in marker r ≡ false) where
   -- r doesn't cover the cut between

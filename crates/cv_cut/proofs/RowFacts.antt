@@ -2,10 +2,9 @@
 use Rattle.std.proofs.Common.{◌≡◌, ◌≢◌, true, false, cond, List, [], ◌∷◌, ◌++◌, refl, sym, ap, ◌∙◌, append-nil, append_assoc}
 use Rattle.std.specs.declared.option.Option.TheVariants.{Some}
 use Rattle.std.specs.List.{list_all}
-use Rattle.std.proofs.lemmas.Str.{IsUtf8-nil, is_utf8-from_IsUtf8}
 use Rattle.cv_base.specs.Path.{Path, key_of, is_path_name, parent_key_of, last_name_of}
 use Rattle.cv_base.specs.Target.{is_target}
-use Rattle.cv_base.proofs.Laws.{first_true, second_true}
+use Rattle.cv_base.proofs.Laws.{first_true, second_true, no_target}
 use Rattle.cv_tree.specs.Tree.{Nodes, is_directory, is_file}
 use Rattle.cv_tree.specs.declared.node.Node.{Node}
 use Rattle.cv_tree.specs.declared.node.Node.TheVariants as node
@@ -21,12 +20,9 @@ use Rattle.cv_cut.specs.Region.{row_at}
 
 -- ---- names
 
-pub empty_target : is_target [] ≡ true
-empty_target = rw (is_utf8-from_IsUtf8 [] IsUtf8-nil) refl
-
 -- the name of a row is a target
 pub name_target : (p : Path) → list_all is_path_name p ≡ true → is_target (last_name_of p) ≡ true
-name_target [] h = empty_target
+name_target [] h = no_target
 name_target (a ∷ []) h = path_name-target a (first_true (is_path_name a) true h)
 name_target (a ∷ b ∷ p) h = name_target (b ∷ p) (second_true (is_path_name a) (list_all is_path_name (b ∷ p)) h)
 
@@ -107,7 +103,7 @@ directory_unmarked c u (a ∷ q) (node.Dir attr) some h = (
 directory_unmarked c u (a ∷ q) (node.File attr file) some h = cc
 directory_unmarked c u (a ∷ q) (node.Link attr target) some h = cc
 
-root_holds : (c : Path) → holds_rows (root_kind c) ≡ true
+pub root_holds : (c : Path) → holds_rows (root_kind c) ≡ true
 root_holds [] = refl
 root_holds (a ∷ c) = refl
 
@@ -118,7 +114,7 @@ directory_holds c u (a ∷ q) (node.Dir attr) directory free = rw (free (λ e. c
 directory_holds c u (a ∷ q) (node.File attr file) directory free = cc
 directory_holds c u (a ∷ q) (node.Link attr target) directory free = cc
 
-root_no_file : (c : Path) → root_kind c ≢ File
+pub root_no_file : (c : Path) → root_kind c ≢ File
 root_no_file [] h = cc
 root_no_file (a ∷ c) h = cc
 

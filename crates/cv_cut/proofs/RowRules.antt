@@ -1,12 +1,11 @@
 -- The row of a path keeps the limits of a row.
 use Rattle.std.proofs.Common.{◌≡◌, ℕ, true, false, cond, ◌&&◌, Some, nat_le, List, [], ◌∷◌, ◌++◌, length, refl, sym, ap, ◌∙◌}
 use Rattle.std.specs.List.{list_all}
-use Rattle.std.proofs.lemmas.List.Folds.{list_all-append}
 use Rattle.std.proofs.lemmas.Bool.{le-leb}
 use Rattle.std.proofs.lemmas.Slice.Eq.{bytes_eq-Decides}
 use Rattle.std.specs.Str.{is_utf8}
 use Rattle.cv_base.specs.Path.{Path, IsPath, is_path_name, no_key, parent_key_of, last_name_of}
-use Rattle.cv_base.proofs.Laws.{first_true, second_true}
+use Rattle.cv_base.proofs.Laws.{first_true, second_true, all_last}
 use Rattle.cv_tree.specs.Node.{IsNode}
 use Rattle.cv_tree.specs.Tree.{Nodes, is_directory}
 use Rattle.cv_tree.specs.declared.node.Node.{Node}
@@ -28,17 +27,13 @@ name_here parent [] h =
     cc
 name_here parent (b ∷ name) h = h
 
-last_name : (front : Path) (name : List ℕ) → list_all is_path_name (front ++ name ∷ []) ≡ true → is_path_name name ≡ true
-last_name front name h =
-    first_true (is_path_name name) true (second_true (list_all is_path_name front) _ (sym (list_all-append is_path_name front (name ∷ [])) ∙ h))
-
 -- the last name of a path is the name of a row
 pub named : (p : Path) → IsPath p → is_row_name (parent_key_of p) (last_name_of p) ≡ true
 named [] path = (bytes_eq-Decides no_key no_key).1 refl
 named (a ∷ p) path =
     let l = some_last (a ∷ p) (λ e. cc) in
     let whole : list_all is_path_name (l.front ++ l.name ∷ []) ≡ true = ap (list_all is_path_name) (sym l.is) ∙ path.names in
-    name_here (parent_key_of (a ∷ p)) (last_name_of (a ∷ p)) (ap is_path_name (ap last_name_of l.is ∙ last_name-append l.front l.name) ∙ last_name l.front l.name whole)
+    name_here (parent_key_of (a ∷ p)) (last_name_of (a ∷ p)) (ap is_path_name (ap last_name_of l.is ∙ last_name-append l.front l.name) ∙ all_last l.front l.name whole)
 
 -- the kinds that the row of a node may have
 abbrev pub Suits : RowKind → Node → Type 0

@@ -1,5 +1,5 @@
 -- Sorted paths: which of them stand before a path, and which of them it covers.
-use Rattle.std.proofs.Common.{◌≡◌, ℕ, zero, suc, ◌<◌, ◌≤◌, Bool, true, false, cond, not, List, [], ◌∷◌, ◌++◌, take, drop, length, get_or, refl, sym, ap, subst, ◌∙◌, append_assoc, arith, is_some, inl, inr}
+use Rattle.std.proofs.Common.{◌≡◌, ℕ, zero, suc, ◌<◌, ◌≤◌, Bool, true, false, cond, not, List, [], ◌∷◌, take, drop, length, get_or, refl, sym, ap, subst, ◌∙◌, arith, inl, inr}
 use Rattle.std.specs.Prelude.{Contains}
 use Rattle.std.specs.declared.cmp.Ordering.TheVariants.{Less}
 use Rattle.std.specs.Ordering.{is_lt}
@@ -15,20 +15,13 @@ use Rattle.std.proofs.lemmas.List.{length-map}
 use Rattle.std.proofs.lemmas.List.Elements.{All-from_recursion, filter_passes}
 use Rattle.cv_base.specs.Path.{Path, path_cmp, covers}
 use Rattle.cv_base.specs.PathOrder.{path_total}
-use Rattle.cv_base.proofs.Laws.{behind-Some, behind-append}
+use Rattle.cv_base.proofs.Laws.{is_less}
 use Rattle.cv_tree.specs.declared.node.Node.{Node}
 use Rattle.cv_tree.proofs.Laws.{covers_before, covers_between}
 use Rattle.cv_cut.specs.CutInner.{StandFrom}
 use Rattle.cv_cut.proofs.Members.{first_there, later_there}
-use Rattle.cv_cut.proofs.Between.{behind_it}
 use Rattle.cv_cut.proofs.RegionPaths.{keys_rise}
-use Rattle.cv_cut.proofs.Bools.{so, is_less}
-
-pub covers_through : (p q r : Path) → covers p q ≡ true → covers q r ≡ true → covers p r ≡ true
-covers_through p q r h k =
-    let a = behind_it p q h in
-    let b = behind_it q r k in
-    ap (covers p) (behind-Some q r b.0 b.1 ∙ ap (λ (x : Path). x ++ b.0) (behind-Some p q a.0 a.1) ∙ append_assoc p a.0 b.0) ∙ ap is_some (behind-append p (a.0 ++ b.0))
+use Rattle.cv_cut.proofs.Bools.{so}
 
 -- ---- sorted paths
 

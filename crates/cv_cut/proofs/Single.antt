@@ -26,7 +26,7 @@ use Rattle.cv_cut.proofs.Canonical.{cat_is}
 use Rattle.cv_cut.proofs.CanonicalRules.{cut_some}
 use Rattle.cv_cut.proofs.Keys.{key_is}
 
-entries_single : (m : Node) → entries (single m) ≡ ([], m) ∷ []
+pub entries_single : (m : Node) → entries (single m) ≡ ([], m) ∷ []
 unfolding IsStrictlySortedBy
 entries_single m = entries-from_entries path_total (([], m) ∷ []) (tt, tt)
 

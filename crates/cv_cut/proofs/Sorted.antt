@@ -14,10 +14,11 @@ use Rattle.std.proofs.lemmas.List.Sorted.{IsPermutation-refl, IsPermutation-sym,
 use Rattle.cv_rows.specs.Made.{AreApart}
 use Rattle.std.proofs.lemmas.Option.{slice_get-get_or}
 use Rattle.cv_base.specs.BytesOrder.{bytes_cmp}
-use Rattle.cv_base.proofs.Laws.{first_true, second_true}
+use Rattle.cv_base.proofs.Laws.{first_true, second_true, is_less}
 use Rattle.cv_cut.proofs.Members.{first_there, later_there, comes_from}
 use Rattle.cv_cut.proofs.Entries.{found_there}
-use Rattle.cv_cut.proofs.Bools.{so, is_less}
+use Rattle.cv_cut.proofs.Bools.{so}
+use Rattle.cv_cut.proofs.Lists.{tail_apart}
 
 -- ---- an entry with a new key is put among the others
 module _ {K X : Type 0} (R : K → K → Ordering) where
@@ -42,9 +43,6 @@ module _ {X : Type 0} where
   key_place (e ∷ es) zero k v h = cc
   key_place (e ∷ es) (suc i) k v h = key_place es i k v h
 
-apart_tail : (x : List ℕ) (xs : List (List ℕ)) → AreApart (x ∷ xs) → AreApart xs
-apart_tail x xs apart = λ y t. apart y (record { first = suc t.first; second = suc t.second; order = (let lt = t.order in omega arith); one = t.one; other = t.other })
-
 module _ {X : Type 0} where
   new_key : (k : List ℕ) (es : List (List ℕ × X)) → AreApart (k ∷ map (λ e. e.0) es) → find bytes_cmp k es ≡ None
   new_key k es apart =
@@ -62,7 +60,7 @@ module _ {X : Type 0} where
       let none : entries (from_entries {R = bytes_cmp} []) ≡ [] = nil_from_length (entries (empty {X = X} {R = bytes_cmp})) (sym (len-entries (empty {X = X} {R = bytes_cmp})) ∙ len-empty bytes_cmp X) in
       subst (IsPermutation []) (sym none) (IsPermutation-refl [])
   moved (e ∷ es) apart =
-      let rest = moved es (apart_tail e.0 (map (λ e. e.0) es) apart) in
+      let rest = moved es (tail_apart e.0 (map (λ e. e.0) es) apart) in
       let made = from_entries {R = bytes_cmp} es in
       let new : find bytes_cmp e.0 (entries made) ≡ None = sym (get-entries made e.0) ∙ get-from_entries nat_list_cmp_total es e.0 ∙ new_key e.0 es apart in
       subst (IsPermutation (e ∷ es)) (sym (entries-insert nat_list_cmp_total made e.0 e.1))

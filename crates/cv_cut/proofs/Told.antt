@@ -172,12 +172,12 @@ module _ (t : Nodes) (tree : IsTree t) (c : Path) (cut : is_cut t c ≡ true) (a
 
 -- ---- decoding
 
-other_kind : (k l : RowKind) (p : Path) (n : Node) → row_of k p n ≡ record (row_of l p n) { kind = (row_of k p n).kind }
+pub other_kind : (k l : RowKind) (p : Path) (n : Node) → row_of k p n ≡ record (row_of l p n) { kind = (row_of k p n).kind }
 other_kind k l p (node.Dir attr) = refl
 other_kind k l p (node.File attr file) = refl
 other_kind k l p (node.Link attr target) = refl
 
-same_fields : (k l : RowKind) (p q : Path) (m n : Node) (r : Row) → p ≡ q → m ≡ n → r ≡ row_of l q n → row_of k p m ≡ record r { kind = (row_of k p m).kind }
+pub same_fields : (k l : RowKind) (p q : Path) (m n : Node) (r : Row) → p ≡ q → m ≡ n → r ≡ row_of l q n → row_of k p m ≡ record r { kind = (row_of k p m).kind }
 same_fields k l p q m n r places nodes is =
     let same : row_of l p m ≡ r = (λ i. row_of l (places i) (nodes i)) ∙ sym is in
     other_kind k l p m ∙ ap (λ (x : Row). record x { kind = (row_of k p m).kind }) same

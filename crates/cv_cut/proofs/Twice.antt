@@ -1,5 +1,5 @@
 -- Lists in which nothing stands twice.
-use Rattle.std.proofs.Common.{◌≡◌, ℕ, zero, suc, ◌<◌, true, Some, List, [], ◌∷◌, map, refl, sym, ap, ◌∙◌, arith, inl, inr}
+use Rattle.std.proofs.Common.{◌≡◌, ℕ, zero, suc, ◌<◌, true, Some, List, [], ◌∷◌, map, sym, ap, ◌∙◌, arith, inl, inr}
 use Rattle.std.specs.Prelude.{Contains, slice_get}
 use Rattle.std.specs.declared.cmp.Ordering.{Ordering}
 use Rattle.std.specs.declared.cmp.Ordering.TheVariants.{Less, Equal}
@@ -8,20 +8,9 @@ use Rattle.std.specs.Option.{option_map}
 use Rattle.std.specs.FinMap.{is_sorted}
 use Rattle.std.specs.FinMap.Entries.{below_all}
 use Rattle.std.proofs.lemmas.Bool.{cases_lt}
-use Rattle.std.proofs.lemmas.Option.{slice_get_within, get_or_from_slice_get}
-use Rattle.cv_base.proofs.Laws.{first_true, second_true}
+use Rattle.cv_base.proofs.Laws.{first_true, second_true, image_at, stands_there}
 use Rattle.cv_rows.specs.Made.{AreApart}
 use Rattle.cv_cut.proofs.Entries.{below_each}
-
--- what stands at an index is there
-pub stands_there : {X : Type 0} (xs : List X) (i : ℕ) (x : X) → slice_get xs i ≡ Some x → Contains xs x
-stands_there xs i x h = (i, slice_get_within xs i x h, get_or_from_slice_get xs i x x h)
-
--- an element of an image, by its index
-pub image_at : {X Y : Type 0} (f : X → Y) (xs : List X) (i : ℕ) (y : Y) → slice_get (map f xs) i ≡ Some y → (x : X) × (slice_get xs i ≡ Some x) × (f x ≡ y)
-image_at f [] i y h = absurd cc
-image_at f (x ∷ xs) zero y h = (x, refl, cc)
-image_at f (x ∷ xs) (suc i) y h = image_at f xs i y h
 
 pub image_there : {X Y : Type 0} (f : X → Y) (xs : List X) (i : ℕ) (x : X) → slice_get xs i ≡ Some x → slice_get (map f xs) i ≡ Some (f x)
 image_there f [] i x h = absurd cc

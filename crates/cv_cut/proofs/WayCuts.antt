@@ -5,6 +5,7 @@ use Rattle.std.specs.List.{list_all}
 use Rattle.std.specs.FinMap.{same_map}
 use Rattle.std.proofs.lemmas.Bool.{not-true}
 use Rattle.std.proofs.lemmas.List.{map-append}
+use Rattle.std.proofs.lemmas.List.Elements.{filter-append}
 use mathlib.Core.List.{reverse-cons}
 use Rattle.cv_base.specs.Path.{Path}
 use Rattle.cv_base.specs.PathOrder.{path_total, path_exact}
@@ -16,7 +17,7 @@ use Rattle.cv_cut.specs.Cut.{catalogue_object}
 use Rattle.cv_cut.proofs.Members.{first_there, later_there}
 use Rattle.cv_cut.specs.Above.{above, cuts_above, made_from}
 use Rattle.cv_cut.proofs.MarkLaws.{between-behind}
-use Rattle.cv_cut.proofs.Between.{between_is, marked-at}
+use Rattle.cv_cut.proofs.Between.{between_is, marked-at, cut_marked}
 use Rattle.cv_cut.specs.Region.{StandsOnWay}
 
 -- ---- filters
@@ -31,13 +32,6 @@ filter_same f g (x ∷ xs) h =
 filter_none : {X : Type 0} (f : X → Bool) (xs : List X) → list_all (λ x. not (f x)) xs ≡ true → filter f xs ≡ []
 filter_none f [] h = refl
 filter_none f (x ∷ xs) h = rw (not-true (f x) (first_true (not (f x)) (list_all (λ y. not (f y)) xs) h)) (filter_none f xs (second_true (not (f x)) (list_all (λ y. not (f y)) xs) h))
-
-filter_append : {X : Type 0} (f : X → Bool) (xs ys : List X) → filter f (xs ++ ys) ≡ filter f xs ++ filter f ys
-filter_append f [] ys = refl
-filter_append f (x ∷ xs) ys = elim (f x) as (λ b. cond b (x ∷ filter f (xs ++ ys)) (filter f (xs ++ ys)) ≡ cond b (x ∷ filter f xs) (filter f xs) ++ filter f ys) [
-  | true ↦ ap (λ w. x ∷ w) (filter_append f xs ys)
-  | false ↦ filter_append f xs ys
-]
 
 filter_image : {X Y : Type 0} (f : Y → Bool) (g : X → Y) (xs : List X) → filter f (map g xs) ≡ map g (filter (λ x. f (g x)) xs)
 filter_image f g [] = refl
@@ -60,16 +54,12 @@ map_itself (x ∷ xs) = ap (λ (w : List Path). x ∷ w) (map_itself xs)
 
 -- ---- cuts
 
-some_cut : (t : Nodes) (p : Path) → p ≢ [] → is_cut t p ≡ is_marked t p
-some_cut t [] some = absurd (some refl)
-some_cut t (a ∷ p) some = refl
-
 above_some : (p : Path) → p ≢ [] → above p ≡ [] ∷ between p
 above_some [] some = absurd (some refl)
 above_some (a ∷ p) some = refl
 
 between_cuts : (u : Nodes) (r : Path) → filter (is_cut u) (between r) ≡ filter (is_marked u) (between r)
-between_cuts u r = filter_same (is_cut u) (is_marked u) (between r) (λ x has. some_cut u x (between_is r x has).some)
+between_cuts u r = filter_same (is_cut u) (is_marked u) (between r) (λ x has. cut_marked u x (between_is r x has).some)
 
 pub cuts_some : (u : Nodes) (r : Path) → r ≢ [] → cuts_above u r ≡ [] ∷ filter (is_marked u) (between r)
 cuts_some u r some = ap (filter (is_cut u)) (above_some r some) ∙ ap (λ (w : List Path). [] ∷ w) (between_cuts u r)
@@ -94,7 +84,7 @@ pass_way u r e f way near = go f way.is way.more
         let rest : filter (is_marked u) (e ∷ map (λ x. e ++ x) (between (a ∷ f))) ≡ e ∷ map (λ x. e ++ x) (filter (is_marked (at u e)) (between (a ∷ f))) = rw way.marked (ap (λ (w : List Path). e ∷ w) deeper) in
         ap (cuts_above u) is ∙ cuts_some u (e ++ a ∷ f) (some_front e (a ∷ f) way.some)
         ∙ ap (λ (w : List Path). [] ∷ filter (is_marked u) w) (between-behind e a f way.some)
-        ∙ ap (λ (w : List Path). [] ∷ w) (filter_append (is_marked u) (between e) (e ∷ map (λ x. e ++ x) (between (a ∷ f))) ∙ (λ i. filter_none (is_marked u) (between e) near i ++ rest i))
+        ∙ ap (λ (w : List Path). [] ∷ w) (filter-append (is_marked u) (between e) (e ∷ map (λ x. e ++ x) (between (a ∷ f))) ∙ (λ i. filter_none (is_marked u) (between e) near i ++ rest i))
         ∙ (λ i. [] ∷ sym (append-nil e) i ∷ map (λ x. e ++ x) (filter (is_marked (at u e)) (between (a ∷ f))))
         ∙ ap (λ (w : List Path). [] ∷ map (λ x. e ++ x) w) (sym (cuts_some (at u e) (a ∷ f) (λ h. cc)))
 

@@ -1,26 +1,15 @@
 //! Directories that are marked as roots of nested catalogues.
-ghost use Rattle.std.specs.Prelude.{◌≡◌, ◌≢◌, ◌∷◌, ◌++◌, [], true, false, Some, IfOk};
+ghost use Rattle.std.specs.Prelude.{◌≡◌, ◌∷◌, ◌++◌, [], true, false, Some, IfOk};
 ghost use Rattle.std.specs.FinMap as map;
 ghost use Rattle.cv_base.specs.Marker.{marker};
 ghost use Rattle.cv_base.specs.Path.{covers};
-ghost use Rattle.cv_base.specs.declared.path_fault.PathFault.TheVariants as faults;
 ghost use Rattle.cv_tree.specs.Tree.{IsTree, is_file};
 ghost use Rattle.cv_cut.specs.Cuts.{is_marked};
 ghost use Rattle.cv_cut.specs.Cut.{is_other};
 
-use cv_base::{MARKER, NoMemory, PathFault, RepoPath};
+use cv_base::{MARKER, NoMemory, RepoPath};
 use cv_tree::{Node, Tree};
 use std::alloc::Global;
-
-/// No file where a name breaks the limits of a path.
-fn no_file(fault: PathFault) -> Result<bool, NoMemory>
-    ensures { IfOk result (λ holds. (holds ≡ false) × (fault ≢ faults.NoMemory)) }
-{
-    match fault {
-        PathFault::NoMemory => Err(NoMemory),
-        _ => Ok(false),
-    }
-}
 
 /// Whether a directory of this path holds a marker.
 fn holds_marker(alloc: Global, tree: &Tree, path: &RepoPath) -> Result<bool, NoMemory>
@@ -29,7 +18,10 @@ fn holds_marker(alloc: Global, tree: &Tree, path: &RepoPath) -> Result<bool, NoM
 {
     match path.join(alloc, MARKER) {
         Ok(file) => Ok(matches!(tree.get(&file), Some(Node::File(_, _)))),
-        Err(fault) => no_file(fault),
+        Err(fault) => {
+            fault.unless_memory()?;
+            Ok(false)
+        }
     }
 }
 

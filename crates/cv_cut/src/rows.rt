@@ -91,7 +91,7 @@ fn name(alloc: Global, path: &RepoPath) -> Result<Target, NoMemory>
 }
 
 /// The row of this kind for a node at a path.
-#[tactic(auto, using(crate::proofs::RowFacts::empty_target))]
+#[tactic(auto, using(cv_base::proofs::Laws::no_target))]
 fn row(alloc: Global, kind: RowKind, path: &RepoPath, node: &Node) -> Result<Row, NoMemory>
     ensures { IfOk result (λ row. row ≡ row_of kind path.now node.now) }
 {

@@ -96,7 +96,7 @@ next_passes t p c r n tree w next =
       entry = o.2;
     }
 
-directory_node : (o : Option Node) → is_directory o ≡ true → (n : Node) × (o ≡ Some n)
+pub directory_node : (o : Option Node) → is_directory o ≡ true → (n : Node) × (o ≡ Some n)
 directory_node None directory = absurd cc
 directory_node (Some n) directory = (n, refl)
 

@@ -1,5 +1,5 @@
 -- Where a tree lacks the directory in which a path stands, nothing is made.
-use Rattle.std.proofs.Common.{◌≡◌, ◌≢◌, true, false, List, ℕ, [], Some, Result, Ok, Err, inl, inr, refl, sym, ap, subst, ◌∙◌}
+use Rattle.std.proofs.Common.{◌≡◌, ◌≢◌, true, false, List, ℕ, [], Result, Ok, Err, inl, inr, refl, sym, ap, subst, ◌∙◌}
 use Rattle.cv_base.specs.Path.{Path}
 use Rattle.cv_base.specs.ObjectId.{object_id}
 use Rattle.cv_base.specs.declared.id.Kind.TheVariants.{Catalogue}
@@ -10,8 +10,6 @@ use Rattle.cv_tree.specs.Changes.{has_place}
 use Rattle.cv_tree.proofs.Laws.{has_place-append}
 use Rattle.cv_rows.specs.Catalogue.{Contents}
 use Rattle.cv_rows.specs.Places.{StandsAt}
-use Rattle.cv_rows.specs.Row.{holds_rows}
-use Rattle.cv_rows.specs.declared.row.Row.{Row}
 use Rattle.cv_rows.specs.declared.row_kind.RowKind.{RowKind}
 use Rattle.cv_rows.specs.declared.row_kind.RowKind.TheVariants as kind
 use Rattle.cv_cut.specs.Above.{OnWay}
@@ -19,8 +17,7 @@ use Rattle.cv_cut.specs.Catalogues.{contents_of}
 use Rattle.cv_cut.specs.Cuts.{is_cut}
 use Rattle.cv_cut.specs.Reached.{Place, HasCatalogue}
 use Rattle.cv_cut.specs.Region.{KeysApart}
-use Rattle.cv_cut.specs.Told.{node_as}
-use Rattle.cv_cut.proofs.Lemmas.{row_tells}
+use Rattle.cv_cut.proofs.Lemmas.{row_tells, holder_directory}
 use Rattle.cv_graft.specs.Both.{GraftsBoth, MakesNothing}
 use Rattle.cv_graft.specs.Directories.{IsHolder}
 use Rattle.cv_graft.specs.Joins.{IsJoined}
@@ -35,18 +32,11 @@ use Rattle.cv_graft.specs.declared.graft_fault.GraftFault.TheVariants as fault
 use Rattle.cv_graft.proofs.Finding.{some_of, step_down, step_to, way_covers}
 use Rattle.cv_graft.proofs.Grafts.{top_is}
 
-holds_directory : (k : RowKind) (r : Row) → holds_rows k ≡ true → is_directory (Some (node_as k r)) ≡ true
-holds_directory kind.Directory r h = refl
-holds_directory kind.Transition r h = refl
-holds_directory kind.NestedRoot r h = refl
-holds_directory kind.File r h = absurd cc
-holds_directory kind.Link r h = absurd cc
-
 -- a path with a place in the catalogue of a cut has one in the tree
 place_there : (t : Nodes) (p c : Path) (k : Contents) → IsTree t → is_cut t c ≡ true → KeysApart c (at t c) → k ≡ contents_of t c → HasPlace k p → has_place t p ≡ true
 place_there t p c k tree cut apart is h =
     let stands : StandsAt c (contents_of t c).rows h.row h.front = subst (λ (x : Contents). StandsAt x.at x.rows h.row h.front) is h.stands in
-    ap (has_place t) h.is ∙ has_place-append t h.front h.name ∙ ap is_directory (row_tells t tree c cut apart h.row h.front stands) ∙ holds_directory h.row.kind h.row h.holds
+    ap (has_place t) h.is ∙ has_place-append t h.front h.name ∙ ap is_directory (row_tells t tree c cut apart h.row h.front stands) ∙ holder_directory h.row.kind h.row h.holds
 
 -- the catalogue is that of a cut on the way
 record IsOfCut (t : Nodes) (p : Path) (c : Contents) : Type 0 where

@@ -5,26 +5,25 @@ use Rattle.std.specs.Prelude.{Contains, bytes_eq}
 use Rattle.std.specs.List.{All}
 use Rattle.std.proofs.lemmas.Bool.{false_from_ne_true}
 use Rattle.std.proofs.lemmas.List.{map-append}
-use Rattle.std.proofs.lemmas.List.Elements.{All-from_recursion, recursion_from_All, All-filter, All-append, All-contains, Contains-append_left, Contains-append_right, Contains-append_cases, Contains-get_or}
+use Rattle.std.proofs.lemmas.List.Elements.{All-from_recursion, recursion_from_All, All-filter, All-append, All-contains, Contains-append_left, Contains-append_right, Contains-append_cases}
 use Rattle.std.proofs.lemmas.List.Folds.{Any-from_list_any, list_any-from_Any}
 use Rattle.std.proofs.lemmas.Slice.Eq.{bytes_eq-Decides}
 use Rattle.cv_base.specs.Marker.{marker, ends_in}
 use Rattle.cv_base.specs.Path.{Path, covers, key_of, text_of}
-use Rattle.cv_base.proofs.Laws.{first_true, second_true, text_of-injective}
+use Rattle.cv_base.proofs.Laws.{first_true, second_true, text_of-injective, each_all}
 use Rattle.cv_rows.specs.Row.{IsRow, same_kind}
 use Rattle.cv_rows.specs.Nested.{IsNested}
-use Rattle.cv_rows.specs.Places.{IsRoot, StandsAt, root, below, root_kind}
+use Rattle.cv_rows.specs.Places.{IsRoot, StandsAt, root, below}
 use Rattle.cv_rows.specs.Catalogue.{Contents, IsCatalogue, IsRegion, FitsAt, IsMarkedWell, IsTransitionAt, IsListed, is_marker, has_marker}
 use Rattle.cv_rows.specs.Made.{AreParts, AreApart, keys_of, texts_of}
 use Rattle.cv_rows.specs.Without.{IsWithout}
 use Rattle.cv_rows.specs.declared.row.Row.{Row}
 use Rattle.cv_rows.specs.declared.nested.Nested.{Nested}
-use Rattle.cv_rows.specs.declared.row_kind.RowKind.{RowKind}
-use Rattle.cv_rows.specs.declared.row_kind.RowKind.TheVariants.{Directory, NestedRoot, File}
+use Rattle.cv_rows.specs.declared.row_kind.RowKind.TheVariants.{NestedRoot, File}
 use Rattle.cv_rows.specs.Within.{IsWithin}
 use Rattle.cv_graft.specs.Places.{HasPlace}
 use Rattle.cv_cut.proofs.Lemmas.{passes, passing, comes_from, kept_apart, sorted_apart, apart_append}
-use Rattle.cv_rows.proofs.Lemmas.{covers_last, ends_so, not_above, stands_contained, one_place, fits_there, stands_among}
+use Rattle.cv_rows.proofs.Lemmas.{covers_last, ends_so, not_above, stands_contained, one_place, fits_there, stands_among, no_root}
 
 -- ---- paths with one more name
 
@@ -35,13 +34,6 @@ same_front [] (c ∷ d ∷ q) a b h = cc
 same_front (c ∷ []) [] a b h = cc
 same_front (c ∷ d ∷ p) [] a b h = cc
 same_front (c ∷ p) (d ∷ q) a b h = let head : c ≡ d = cc in let rest = same_front p q a b cc in λ i. head i ∷ rest i
-
-no_root : (at : Path) (kind : RowKind) → same_kind kind File ≡ true → kind ≡ root_kind at → ⊥
-no_root [] kind is same = let wrong : same_kind Directory File ≡ true = subst (λ (k : RowKind). same_kind k File ≡ true) same is in cc
-no_root (a ∷ at) kind is same = let wrong : same_kind NestedRoot File ≡ true = subst (λ (k : RowKind). same_kind k File ≡ true) same is in cc
-
-each_all : {X : Type 0} (P : X → Type 0) (xs : List X) → ((x : X) → Contains xs x → P x) → All P xs
-each_all P xs h = λ k d lt. h _ (Contains-get_or xs k d lt)
 
 -- what is asked
 pub record AreJoinable (c o rest : Contents) (p : Path) (rows : List Row) (nested : List Nested) : Type 0 where

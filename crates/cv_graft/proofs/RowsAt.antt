@@ -1,6 +1,5 @@
 -- The row at a path, and the node for which it stands.
-use Rattle.std.proofs.Common.{◌≡◌, ◌≢◌, true, false, cond, [], ◌∷◌, ◌++◌, Some, None, refl, sym, ap, subst, ◌∙◌}
-use Rattle.std.specs.declared.option.Option.{Option}
+use Rattle.std.proofs.Common.{◌≡◌, ◌≢◌, true, false, cond, [], ◌∷◌, ◌++◌, Some, refl, sym, ap, subst, ◌∙◌}
 use Rattle.std.specs.FinMap.{get}
 use Rattle.cv_base.specs.Path.{Path}
 use Rattle.cv_tree.specs.Tree.{Nodes, IsTree, at, is_directory}
@@ -13,6 +12,7 @@ use Rattle.cv_rows.specs.declared.row_kind.RowKind.TheVariants.{Directory, Trans
 use Rattle.cv_cut.specs.Cuts.{is_marked}
 use Rattle.cv_cut.specs.Catalogues.{rows_of, kind_of, Fits}
 use Rattle.cv_graft.specs.Places.{stands_for_directory}
+use Rattle.cv_graft.proofs.Finding.{directory_node}
 use Rattle.cv_cut.specs.Catalogues.{contents_of}
 use Rattle.cv_cut.specs.Above.{Holds}
 use Rattle.cv_cut.specs.Region.{row_at, IsNear}
@@ -38,16 +38,12 @@ row_tells t p c r k row tree fits h is s =
     ap (λ (x : Row). stands_for_directory x.kind) w.row ∙ ap stands_for_directory (row_kind _ (c ++ w.rest) w.node_)
     ∙ kind_directory c (at t c) w.rest w.node_ (λ none. h.some (sym rest ∙ none)) ∙ ap is_directory (sym there)
 
-some_directory : (o : Option Node) → is_directory o ≡ true → (n : Node) × (o ≡ Some n)
-some_directory None h = absurd cc
-some_directory (Some n) h = (n, refl)
-
 -- where none stands there, it is none
 pub none_tells : (t : Nodes) (p c r : Path) (k : Contents) → IsTree t → Fits t → Holds t p c r → k ≡ contents_of t c → ((row : Row) → StandsAt k.at k.rows row p → ⊥) → false ≡ is_directory (get t p)
 none_tells t p c r k tree fits h is none =
     elim (is_directory (get t p)) as (λ b. is_directory (get t p) ≡ b → false ≡ b) [
       | true ↦ λ e.
-          let n = some_directory (get t p) e in
+          let n = directory_node (get t p) e in
           let keys = region_apart t c h.cut fits.apart in
           let near : IsNear (at t c) r n.0 = record { there = get-at t c r ∙ ap (get t) (sym h.is) ∙ n.1; near = h.near } in
           let s = stands c (at t c) (rows_of c (at t c)) (stands_at_cut t c tree h.cut).part keys (rows_are c (at t c) keys) r n.0 near in

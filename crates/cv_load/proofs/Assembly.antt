@@ -1,7 +1,6 @@
 -- The tree that all rows of reached catalogues make.
-use Rattle.std.proofs.Common.{◌≡◌, ◌≢◌, ℕ, true, false, ◌&&◌, List, [], ◌∷◌, ◌++◌, None, Some, refl, sym, ap, subst, ◌∙◌}
+use Rattle.std.proofs.Common.{◌≡◌, ◌≢◌, ℕ, true, false, ◌&&◌, List, [], ◌∷◌, ◌++◌, Some, refl, sym, ap, subst, ◌∙◌}
 use Rattle.std.specs.Prelude.{Contains, bytes_eq}
-use Rattle.std.specs.declared.option.Option.{Option}
 use Rattle.std.specs.FinMap.{get}
 use Rattle.std.proofs.lemmas.Bool.{false_from_ne_true, and_from}
 use Rattle.std.proofs.lemmas.List.Elements.{All-contains}
@@ -24,29 +23,19 @@ use Rattle.cv_cut.specs.Reached.{Place, HasCatalogue, ReachesCatalogue, itself, 
 use Rattle.cv_cut.specs.Cuts.{is_marked}
 use Rattle.cv_base.specs.ObjectId.{object_id}
 use Rattle.cv_base.specs.declared.id.Kind.TheVariants as id_kind
-use Rattle.cv_base.proofs.Laws.{first_true, second_true}
+use Rattle.cv_base.proofs.Laws.{first_true, second_true, last_same, some_there}
 use Rattle.cv_load.specs.GrowthInner.{HasRows, IsOfRows, IsFilled, filled}
 use Rattle.cv_cut.specs.Told.{node_of, node_as}
-use Rattle.cv_load.proofs.Growing.{place_of, some_there}
-use Rattle.cv_load.proofs.Standing.{IsOpen, Standing, so_root, so_below, stands_so, rules_of, same_contents, contents_same, row_same, one_holder, one_node, last_same, moved, parent_standing}
+use Rattle.cv_load.proofs.Growing.{place_of}
+use Rattle.cv_load.proofs.Standing.{IsOpen, Standing, so_root, so_below, stands_so, rules_of, same_contents, contents_same, row_same, one_holder, one_node, moved, parent_standing}
 use Rattle.cv_cut.specs.Good.{HasFile, HasSize}
+use Rattle.cv_cut.proofs.Lemmas.{root_no_file, file_kind, file_some}
 
 -- ---- kinds of rows
 
 nested_kind : (c : Path) → c ≢ [] → root_kind c ≡ NestedRoot
 nested_kind [] some = absurd (some refl)
 nested_kind (a ∷ c) some = refl
-
-pub root_no_file : (c : Path) → root_kind c ≢ File
-root_no_file [] h = cc
-root_no_file (a ∷ c) h = cc
-
-file_kind : (k : RowKind) → same_kind k File ≡ true → k ≡ File
-file_kind Directory h = absurd cc
-file_kind Transition h = absurd cc
-file_kind NestedRoot h = absurd cc
-file_kind File h = refl
-file_kind Link h = absurd cc
 
 pub file_row : (r : Row) → is_file (Some (node_of r)) ≡ true → r.kind ≡ File
 file_row r = go r.kind
@@ -70,10 +59,6 @@ marker_row f h = (
   file_kind f.kind (first_true (same_kind f.kind File) (bytes_eq f.name marker) h),
   (bytes_eq-Decides f.name marker).0 (second_true (same_kind f.kind File) (bytes_eq f.name marker) h),
 )
-
-file_there : (o : Option Node) → is_file o ≡ true → (n : Node) × (o ≡ Some n) × (is_file (Some n) ≡ true)
-file_there None h = absurd cc
-file_there (Some n) h = (n, refl, h)
 
 -- ---- all rows
 
@@ -152,7 +137,7 @@ module _ {shelf : Shelf} {top : List ℕ} {t : Nodes} (whole : IsWhole shelf top
   -- a directory in a catalogue isn't marked
   pub directory_unmarked : (q : Path) (s : Standing shelf top q) → s.row.kind ≡ Directory → (IsRoot s.contents.at s.row → ⊥) → is_marked t q ≡ false
   directory_unmarked q s kind other = false_from_ne_true (is_marked t q) (λ marked.
-      let n = file_there (get t (q ++ marker ∷ [])) (second_true (is_directory (get t q)) (is_file (get t (q ++ marker ∷ []))) marked) in
+      let n = file_some (get t (q ++ marker ∷ [])) (second_true (is_directory (get t q)) (is_file (get t (q ++ marker ∷ []))) marked) in
       let o = standing_of (q ++ marker ∷ []) n.0 n.1 in
       let f = o.0 in
       let is_f = file_row f.row (ap (λ (x : Node). is_file (Some x)) (sym o.1) ∙ n.2) in

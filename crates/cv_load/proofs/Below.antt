@@ -2,14 +2,14 @@
 use Rattle.std.proofs.Common.{◌≡◌, ◌≢◌, ℕ, ◌<◌, ◌≤◌, true, false, List, ◌∷◌, [], ◌++◌, length, get_or, is_some, refl, sym, ap, subst, arith, length-append, append-nil, inl, inr}
 use Rattle.std.proofs.lemmas.Bool.{or_cases}
 use Rattle.cv_base.specs.Path.{Path, covers, overlap}
-use Rattle.cv_base.proofs.Laws.{behind-append, overlap-from_covers}
+use Rattle.cv_base.proofs.Laws.{behind-append, overlap-from_covers, covers_through, covers_below}
 use Rattle.cv_rows.specs.Row.{holds_rows}
 use Rattle.cv_rows.specs.Catalogue.{Contents, IsCatalogue}
 use Rattle.cv_rows.specs.Places.{StandsAt, root, below}
 use Rattle.cv_rows.specs.declared.row.Row.{Row}
 use Rattle.cv_rows.specs.declared.nested.Nested.{Nested}
 use Rattle.cv_rows.specs.declared.row_kind.RowKind.TheVariants.{Transition}
-use Rattle.cv_rows.proofs.Lemmas.{covers_below, covers_last}
+use Rattle.cv_rows.proofs.Lemmas.{covers_last}
 use Rattle.cv_cut.specs.Cut.{rest_of}
 use Rattle.cv_cut.proofs.Lemmas.{rest_is, transition_of, transition_long, nested_long}
 use Rattle.std.specs.Prelude.{Contains}
@@ -21,9 +21,6 @@ covers_itself p = subst (λ (q : Path). covers p q ≡ true) (append-nil p) (ap 
 
 pub covers_long : (p q : Path) → covers p q ≡ true → length p ≤ length q
 covers_long p q h = omega (arith, ap (λ (x : Path). length x) (rest_is p q h), length-append p (rest_of p q))
-
-pub covers_deeper : (p q r : Path) → covers p q ≡ true → covers q r ≡ true → covers p r ≡ true
-covers_deeper p q r above deeper = subst (λ (x : Path). covers p x ≡ true) (sym (rest_is q r deeper)) (covers_below p q (rest_of q r) above)
 
 -- rows stand at or below the catalogue's place
 pub stands_covered : {at : Path} {rows : List Row} {r : Row} {q : Path} → StandsAt at rows r q → covers at q ≡ true
@@ -60,6 +57,6 @@ pub entry_below : (c : Contents) (n : Nested) (q : Path) → IsCatalogue c → C
 entry_below c n q is has under =
     let t = transition_of c n is has in
     let long = nested_long c n is has in (
-      covers_deeper c.at n.path q (stands_covered t.1.stands) under,
+      covers_through c.at n.path q (stands_covered t.1.stands) under,
       λ same. omega (arith, long, covers_long n.path q under, ap (λ (x : Path). length x) same),
     )

@@ -6,6 +6,7 @@ use Rattle.std.specs.FinMap.{get, empty, get-insert}
 use Rattle.cv_base.specs.PathOrder.{path_total}
 use Rattle.cv_base.specs.Path.{Path, covers}
 use Rattle.cv_base.specs.Unless.{IsUnless}
+use Rattle.cv_base.proofs.Laws.{some_there}
 use Rattle.cv_tree.specs.Changes.{has_place, insertion}
 use Rattle.cv_tree.specs.Tree.{Nodes, single, is_directory}
 use Rattle.cv_tree.specs.declared.node.Node.{Node}
@@ -18,17 +19,15 @@ use Rattle.cv_rows.specs.Catalogue.{Contents, IsCatalogue}
 use Rattle.cv_rows.specs.Places.{StandsAt}
 use Rattle.cv_rows.specs.declared.row.Row.{Row}
 use Rattle.cv_rows.specs.declared.nested.Nested.{Nested}
-use Rattle.cv_rows.specs.declared.row_kind.RowKind.{RowKind}
-use Rattle.cv_rows.specs.declared.row_kind.RowKind.TheVariants.{Directory, Transition, NestedRoot, File, Link}
 use Rattle.cv_load.specs.Growth.{GrowsBy, IsRootOf}
 use Rattle.cv_load.specs.GrowthInner.{IsClear, IsReady, ChangesBelow, HasRows}
-use Rattle.cv_cut.specs.Told.{node_of, node_as}
-use Rattle.cv_load.proofs.Growing.{StandsBelow, some_there}
+use Rattle.cv_cut.specs.Told.{node_of}
+use Rattle.cv_load.proofs.Growing.{StandsBelow}
 use Rattle.cv_load.proofs.Filling.{one_row}
 use Rattle.cv_load.proofs.Standing.{dir_of, so_root, so_below, stands_so}
 use Rattle.cv_load.proofs.LoadedTree.{single_entry}
 use Rattle.cv_load.proofs.Below.{covers_itself, covers_long, stands_covered, nothing_below, entries_apart, entry_below}
-use Rattle.cv_cut.proofs.Lemmas.{transition_of}
+use Rattle.cv_cut.proofs.Lemmas.{transition_of, directory_node, holder_directory}
 
 -- ---- what an insertion tells
 
@@ -68,24 +67,6 @@ told_no_place t p (inr told) = by_answer (has_place t p) (get t p) told
     by_answer true (Some n) h = absurd cc
     by_answer false o h = refl
 
--- ---- directories
-
-directory_there : (o : Option Node) → is_directory o ≡ true → (n : Node) × (o ≡ Some n) × (is_directory (Some n) ≡ true)
-directory_there None h = absurd cc
-directory_there (Some n) h = (n, refl, h)
-
-pub directory_some : (o : Option Node) → is_directory o ≡ true → IsSome o
-directory_some None h = absurd cc
-directory_some (Some n) h = refl
-
--- a row below which rows may stand is a directory
-holder_directory : (k : RowKind) (r : Row) → holds_rows k ≡ true → is_directory (Some (node_as k r)) ≡ true
-holder_directory Directory r h = refl
-holder_directory Transition r h = absurd cc
-holder_directory NestedRoot r h = refl
-holder_directory File r h = absurd cc
-holder_directory Link r h = absurd cc
-
 -- ---- the rows of a catalogue
 
 pub ready_clear : (at : Path) (rows : List Row) (t : Nodes) → IsClear at t → IsReady at rows t
@@ -96,7 +77,7 @@ ready_clear at rows t clear = record {
 
 pub ready_grown : (at : Path) (rows : List Row) (t u : Nodes) → IsReady at rows t → GrowsBy at rows t u → IsReady at rows u
 ready_grown at rows t u ready grown = record {
-  directory = (let d = directory_there (get t at) ready.directory in ap is_directory (grown.grows at d.0 d.1) ∙ d.2);
+  directory = (let d = directory_node (get t at) ready.directory in ap is_directory (grown.grows at d.0 d.1) ∙ d.2);
   below = λ q n e under other. elim (grown.comes q n e) [ inl was ↦ ready.below q n was under other | inr new ↦ new ];
 }
 

@@ -7,6 +7,7 @@ use Rattle.cv_base.specs.Path.{Path}
 use Rattle.cv_base.specs.ObjectId.{object_id}
 use Rattle.cv_base.specs.declared.id.ObjectId.{ObjectId}
 use Rattle.cv_base.specs.declared.id.Kind.TheVariants as id_kind
+use Rattle.cv_base.proofs.Laws.{not_both}
 use Rattle.cv_ports.specs.Shelf.{Shelf, HasMore}
 use Rattle.cv_tree.specs.Tree.{Nodes}
 use Rattle.cv_rows.specs.Catalogue.{Contents}
@@ -90,15 +91,12 @@ some_sized : (o : Option (List ℕ)) (size : ℕ) → IsSomeAnd o (λ bytes. len
 some_sized None size h = absurd h
 some_sized (Some bytes) size h = (bytes, refl, h)
 
-there_not : {X : Type 0} (o : Option X) (x : X) → o ≡ Some x → o ≡ None → ⊥
-there_not o x some none = let e : Some x ≡ None = sym some ∙ none in cc
-
 pub good_lacks_nothing : {shelf : Shelf} {from : List ℕ} {start : Place} {x : ObjectId} → IsGood shelf from start → ReachedFrom shelf from start x → shelf x ≡ None → ⊥
-good_lacks_nothing is (ReachedFrom.catalogue_ reached) none = let o = opened_good (good_below is reached) in there_not _ _ o.1.has.there none
+good_lacks_nothing is (ReachedFrom.catalogue_ reached) none = let o = opened_good (good_below is reached) in not_both _ _ o.1.has.there none
 good_lacks_nothing {shelf} is (ReachedFrom.file {content = content} {c = c} {r = r} reached has there is_file e) none =
     let o = opened_as c (good_below is reached) has in
     let s = some_sized (shelf (object_id content id_kind.Plain)) r.size (o.files r there content is_file e) in
-    there_not _ _ s.1 none
+    not_both _ _ s.1 none
 
 same_length : (o : Option (List ℕ)) (size : ℕ) (bytes : List ℕ) → IsSomeAnd o (λ b. length b ≡ size) → o ≡ Some bytes → length bytes ≡ size
 same_length o size bytes sized there = let h : IsSomeAnd (Some bytes) (λ b. length b ≡ size) = subst (λ (x : Option (List ℕ)). IsSomeAnd x (λ b. length b ≡ size)) there sized in h

@@ -10,6 +10,7 @@ use Rattle.cv_ports.specs.Shelf.{Shelf, IsShelf}
 use Rattle.cv_tree.specs.Tree.{Nodes, IsTree, HasParents, is_directory}
 use Rattle.cv_tree.specs.Node.{IsNode}
 use Rattle.cv_tree.specs.declared.node.Node.{Node}
+use Rattle.cv_tree.proofs.Laws.{some_directory}
 use Rattle.cv_rows.specs.Row.{IsRow, HasContent, holds_rows, is_link_target}
 use Rattle.cv_rows.specs.Catalogue.{Contents, IsCatalogue}
 use Rattle.cv_rows.specs.Places.{StandsAt, root}
@@ -20,16 +21,15 @@ use Rattle.cv_rows.specs.declared.row_kind.RowKind.TheVariants.{Directory, Trans
 use Rattle.cv_rows.proofs.Lemmas.{stands_contained, one_place, fits_there}
 use Rattle.cv_cut.specs.Reached.{Place, ReachesCatalogue, Reaches, root_place}
 use Rattle.cv_cut.specs.Means.{Means}
-use Rattle.cv_cut.proofs.Lemmas.{none_there, first_there, later_there, first_or_later, transition_of}
+use Rattle.cv_cut.proofs.Lemmas.{none_there, first_there, later_there, first_or_later, transition_of, holder_directory}
 use Rattle.cv_load.specs.Growth.{Grows, GrowsBy}
 use Rattle.cv_load.specs.GrowthInner.{IsOfRows, IsFilled, FillsIn, filled}
 use Rattle.cv_cut.specs.Told.{node_of, node_as, hash_of}
-use Rattle.cv_load.proofs.Growing.{place_of, some_there, still_there, added_by_insert, inserted_there, grows_more, grows_added}
+use Rattle.cv_load.proofs.Growing.{place_of, still_there, added_by_insert, inserted_there, grows_more, grows_added}
 use Rattle.cv_load.proofs.Filling.{filled_more, one_row}
-use Rattle.cv_base.proofs.Laws.{second_true}
+use Rattle.cv_base.proofs.Laws.{second_true, last_same, some_there}
 use Rattle.cv_base.specs.Target.{is_target}
-use Rattle.cv_load.proofs.Clearing.{directory_some}
-use Rattle.cv_load.proofs.Standing.{root_dir, Standing, so_root, so_below, stands_so, rules_of, same_contents, one_node, last_same, moved, named_by, not_empty, parent_standing}
+use Rattle.cv_load.proofs.Standing.{root_dir, Standing, so_root, so_below, stands_so, rules_of, same_contents, one_node, moved, named_by, not_empty, parent_standing}
 use Rattle.cv_load.proofs.Assembly.{IsWhole, all_filled, full}
 use Rattle.cv_load.proofs.Means.{measured, measured_means}
 use Rattle.cv_cut.specs.Good.{IsGood, good}
@@ -127,13 +127,6 @@ fill_good {shelf} {hash} {place} top (good {c = c} has files sizes deeper) reach
 
 -- ---- what comes of it is a tree
 
-holder_directory : (k : RowKind) (r : Row) → holds_rows k ≡ true → is_directory (Some (node_as k r)) ≡ true
-holder_directory Directory r h = refl
-holder_directory Transition r h = absurd cc
-holder_directory NestedRoot r h = refl
-holder_directory File r h = absurd cc
-holder_directory Link r h = absurd cc
-
 digest_of : (h : Option (List ℕ)) → IsSomeAnd h IsDigest → IsDigest (hash_of h)
 digest_of None is = absurd is
 digest_of (Some hash) is = is
@@ -211,7 +204,7 @@ module _ {shelf : Shelf} {top : List ℕ} {t : Nodes} (fills : IsFilled shelf t 
   tree_there : IsTree t
   tree_there = record {
     root = root_there;
-    part = record { root = directory_some (get t []) root_there; parents = parents; paths = path_there; nodes = node_keeps };
+    part = record { root = some_directory (get t []) root_there; parents = parents; paths = path_there; nodes = node_keeps };
   }
 
 pub whole_of_good : (shelf : Shelf) (top : List ℕ) → IsGood shelf top root_place → (t : Nodes) × IsWhole shelf top t

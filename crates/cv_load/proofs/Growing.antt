@@ -9,22 +9,18 @@ use Rattle.std.proofs.lemmas.Bool.{cases_lt}
 use Rattle.std.proofs.lemmas.List.{get_or_default}
 use Rattle.cv_base.specs.Path.{Path, path_cmp, parent}
 use Rattle.cv_base.specs.PathOrder.{path_total, same_path_is}
+use Rattle.cv_base.proofs.Laws.{parent-append, some_there}
 use Rattle.cv_tree.specs.Tree.{Nodes}
 use Rattle.cv_tree.specs.declared.node.Node.{Node}
 use Rattle.cv_rows.specs.Catalogue.{Contents, IsCatalogue}
 use Rattle.cv_rows.specs.Places.{IsChild, StandsAt, root, below}
 use Rattle.cv_rows.specs.declared.row.Row.{Row}
-use Rattle.cv_rows.proofs.Lemmas.{stands_contained, same_by_key, one_place}
+use Rattle.cv_rows.proofs.Lemmas.{stands_contained, same_by_key, one_place, stands_long}
 use Rattle.cv_load.specs.Growth.{Grows, GrowsBy}
 use Rattle.cv_load.specs.GrowthInner.{IsAdded}
 use Rattle.cv_cut.specs.Told.{node_of}
-use Rattle.cv_cut.proofs.Lemmas.{stands_long}
 
 -- ---- growth
-
-pub some_there : (o : Option Node) → IsSome o → (n : Node) × (o ≡ Some n)
-some_there None some = absurd cc
-some_there (Some n) some = (n, refl)
 
 -- what was there is still there
 pub still_there : (old new : Nodes) (q : Path) → Grows old new → IsSome (get old q) → IsSome (get new q)
@@ -92,17 +88,12 @@ parent_of c r path (root has is) deeper = absurd (deeper refl)
 parent_of c r path (below {p = p} {q = q} has other s child) deeper =
     (p, q, record { there = stands_contained s; child = child; stands = s; way = refl })
 
-parent_below : (q : Path) (name : List ℕ) → parent (q ++ name ∷ []) ≡ q
-parent_below [] name = refl
-parent_below (a ∷ []) name = refl
-parent_below (a ∷ b ∷ q) name = ap (λ (p : Path). a ∷ p) (parent_below (b ∷ q) name)
-
 -- the row with the parent's key is the parent, and stands at the path above
 pub parent_by_key : (c : Contents) (r p : Row) (path front : Path) → IsCatalogue c → StandsAt c.at c.rows r path → length path ≢ length c.at → Contains c.rows p → p.key.0 ≡ r.parent.0 → front ≡ parent path → StandsBelow c r p path front
 parent_by_key c r p path front is stands deeper has key up =
     let o = parent_of c r path stands deeper in
     let row : o.0 ≡ p = same_by_key c.rows o.0 p is.ordered o.2.there has (sym o.2.child.parent ∙ sym key) in
-    let place : o.1 ≡ front = sym (parent_below o.1 r.name) ∙ ap parent (sym o.2.way) ∙ sym up in
+    let place : o.1 ≡ front = sym (parent-append o.1 r.name) ∙ ap parent (sym o.2.way) ∙ sym up in
     subst (λ (q : Path). StandsBelow c r p path q) place (subst (λ (x : Row). StandsBelow c r x path o.1) row o.2)
 
 -- and the others stand at the place itself
@@ -135,6 +126,3 @@ each_all P xs each x has = subst P has.2 (each has.0 x has.1)
 -- the element of a loop, in the list that the loop goes over
 pub item_of : {X : Type 0} (xs ys : List X) (i : ℕ) (x : X) → ys ≡ xs → i < length ys → x ≡ get_or ys i x → (i < length xs) × (x ≡ get_or xs i x)
 item_of {X} xs ys i x same lt is = (subst (λ (zs : List X). i < length zs) same lt, is ∙ ap (λ (zs : List X). get_or zs i x) same)
-
-pub item_there : {X : Type 0} (xs : List X) (i : ℕ) (x : X) → i < length xs → x ≡ get_or xs i x → Contains xs x
-item_there xs i x lt is = (i, lt, sym is)

@@ -11,10 +11,11 @@ use Rattle.cv_tree.specs.Tree.{Nodes}
 use Rattle.cv_tree.specs.declared.node.Node.{Node}
 use Rattle.cv_rows.specs.Row.{holds_rows}
 use Rattle.cv_rows.specs.Catalogue.{Contents, IsCatalogue}
-use Rattle.cv_rows.specs.Places.{IsRoot, StandsAt, StandEach, root_kind}
+use Rattle.cv_rows.specs.Places.{IsRoot, StandsAt, StandEach}
 use Rattle.cv_rows.specs.declared.row.Row.{Row}
 use Rattle.cv_rows.proofs.Lemmas.{each_long, each_stands, stands_contained}
 use Rattle.cv_cut.specs.Told.{node_of}
+use Rattle.cv_cut.proofs.Lemmas.{root_holds}
 use Rattle.cv_load.specs.Growth.{Grows, GrowsBy}
 use Rattle.cv_load.specs.GrowthInner.{IsReady, HasHolders, HasRows}
 use Rattle.cv_load.proofs.Below.{covers_long, stands_covered}
@@ -26,11 +27,6 @@ use Rattle.cv_load.proofs.Standing.{so_root, so_below, stands_so}
 -- what rows may stand below is still there in a tree that has grown
 pub holders_grown : (c : Contents) (t u : Nodes) → Grows t u → HasHolders c t → HasHolders c u
 holders_grown c t u grows there r q holds stands = still_there t u q grows (there r q holds stands)
-
--- rows may stand below a root row
-root_holds : (at : Path) → holds_rows (root_kind at) ≡ true
-root_holds [] = refl
-root_holds (a ∷ at) = refl
 
 no_root : (at : Path) (r : Row) → holds_rows r.kind ≡ false → IsRoot at r → ⊥
 no_root at r held top = (let wrong : true ≡ false = sym (ap holds_rows top.kind ∙ root_holds at) ∙ held in cc)

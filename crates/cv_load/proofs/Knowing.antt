@@ -1,6 +1,6 @@
 -- A pair is added to a known set.
 use Rattle.std.proofs.Common.{◌≡◌, ℕ, Bool, true, false, cond, List, [], Option, Some, Ok, Err, Result, refl, sym, ap, subst, ◌∙◌, inl, inr}
-use Rattle.std.specs.Prelude.{◌⊎◌, OnOk, OnErr}
+use Rattle.std.specs.Prelude.{◌⊎◌, OnErr}
 use Rattle.std.specs.Ordering.{eq_by_cmp, is_eq}
 use Rattle.std.specs.Cmp.{tied_itself}
 use Rattle.std.specs.BTreeSet.{BTreeSet, contains}
@@ -19,11 +19,6 @@ use Rattle.cv_cut.specs.Good.{IsWholeAt}
 
 abbrev pub Paths : Type 0
 Paths = BTreeMap Path (BTreeSet (List ℕ))
-
--- what holds after Ok, or after an error, comes of what did
-pub on_ok : {X E A B : Type 0} (r : Result X E) → (A → B) → OnOk r A → OnOk r B
-on_ok (Ok x) f a = f a
-on_ok (Err e) f a = tt
 
 pub on_err : {X E A B : Type 0} (r : Result X E) → (A → B) → OnErr r A → OnErr r B
 on_err (Ok x) f a = tt

@@ -19,7 +19,6 @@ use Rattle.cv_cut.specs.Reached.{Place, ReachesCatalogue, itself, root_place}
 use Rattle.cv_base.specs.ObjectId.{object_id}
 use Rattle.cv_base.specs.declared.id.Kind.TheVariants as id_kind
 use Rattle.cv_cut.specs.Told.{node_of, node_as}
-use Rattle.cv_load.proofs.Growing.{some_there}
 use Rattle.cv_load.proofs.Assembly.{IsWhole, IsFull, full_of, standing_of, directory_unmarked}
 use Rattle.cv_load.proofs.Standing.{IsOpen, Standing, so_root, so_below, stands_so, rules_of, same_contents}
 use Rattle.std.specs.Prelude.{IsSomeAnd}
@@ -34,7 +33,7 @@ use Rattle.cv_load.proofs.OwnRows.{same_rows}
 use Rattle.std.proofs.Common.{◌⊎◌}
 use Rattle.std.proofs.lemmas.List.{length-map}
 use Rattle.cv_base.specs.declared.attr.Attr.{Attr}
-use Rattle.cv_base.proofs.Laws.{first_true}
+use Rattle.cv_base.proofs.Laws.{first_true, some_there}
 use Rattle.cv_tree.specs.declared.node.FileRef.{FileRef}
 use Rattle.cv_cut.specs.Cuts.{region}
 use Rattle.cv_cut.specs.Catalogues.{SharesKey, IsFull as PassesLimit}

@@ -68,11 +68,8 @@ fields_at c r q is s =
       }
     ]
 
-content_of : (c : Contents) (r : Row) → IsCatalogue c → Contains c.rows r → HasContent r.kind r.size r.hash r.target
-content_of c r is has = (All-contains IsRow c.rows r (All-from_recursion IsRow c.rows is.region.spelled) has).content
-
 pub row_content : (c : Contents) (r : Row) → IsCatalogue c → Contains c.rows r → HasContent r.kind r.size r.hash r.target
-row_content c r is has = content_of c r is has
+row_content c r is has = (All-contains IsRow c.rows r (All-from_recursion IsRow c.rows is.region.spelled) has).content
 
 nothing_behind : (p : Path) (a : List ℕ) (s : Path) → p ++ a ∷ s ≢ p
 nothing_behind p a s h = omega (arith, ap (λ (x : Path). length x) h, length-append p (a ∷ s))
@@ -106,7 +103,7 @@ module _ {shelf : Shelf} {top : List ℕ} {t : Nodes} (whole : IsWhole shelf top
   pub row_is : {hash : List ℕ} {place : Place} {c : Contents} → IsOpen shelf top hash place c → (s : Path) (r : Row) → StandsAt c.at c.rows r (c.at ++ s) → r ≡ row_at c.at (at t c.at) s (node_of r)
   row_is {c = c} o s r stands =
       let f = fields_at c r (c.at ++ s) (rules_of o) stands in
-      row_back (kind_of c.at (at t c.at) s (node_of r)) (c.at ++ s) r (kind_is o s r stands) f.key f.parent f.name (content_of c r (rules_of o) (stands_contained stands))
+      row_back (kind_of c.at (at t c.at) s (node_of r)) (c.at ++ s) r (kind_is o s r stands) f.key f.parent f.name (row_content c r (rules_of o) (stands_contained stands))
 
   pub near_of : {hash : List ℕ} {place : Place} {c : Contents} → IsOpen shelf top hash place c → (r : Row) (q : Path) → StandsAt c.at c.rows r q → (s : Path) × (q ≡ c.at ++ s) × IsNear (at t c.at) s (node_of r)
   near_of {hash} {place} {c} o r q stands =

@@ -23,23 +23,12 @@ use Rattle.cv_cut.specs.Cuts.{is_cut}
 use Rattle.cv_cut.specs.Catalogues.{kind_of, row_of, cat}
 use Rattle.cv_cut.specs.Means.{Means}
 use Rattle.cv_cut.specs.Reached.{Reaches, Place, Decodes, HasCatalogue, ReachesCatalogue, itself}
-use Rattle.cv_cut.proofs.Lemmas.{cat_is, IsRowThere, root_node, stands_only, stands_at_cut, root_row, canonical, other_cut, region_apart, one_decoding}
+use Rattle.cv_cut.proofs.Lemmas.{cat_is, IsRowThere, root_node, stands_only, stands_at_cut, root_row, canonical, other_cut, region_apart, one_decoding, same_fields}
 use Rattle.cv_cut.specs.Catalogues.{contents_of}
 use Rattle.cv_load.proofs.CutRows.{IsKept}
 use Rattle.cv_load.proofs.Kept.{kept}
 use Rattle.cv_load.proofs.OneTree.{cut_there}
 use Rattle.cv_cut.specs.Region.{row_at}
-
--- the root row has the fields of the Transition row but for its kind
-other_kind : (k l : RowKind) (p : Path) (n : Node) → row_of k p n ≡ record (row_of l p n) { kind = (row_of k p n).kind }
-other_kind k l p (node.Dir attr) = refl
-other_kind k l p (node.File attr file) = refl
-other_kind k l p (node.Link attr target) = refl
-
-same_fields : (k l : RowKind) (p q : Path) (m n : Node) (r : Row) → p ≡ q → m ≡ n → r ≡ row_of l q n → row_of k p m ≡ record r { kind = (row_of k p m).kind }
-same_fields k l p q m n r places nodes is =
-    let same : row_of l p m ≡ r = (λ i. row_of l (places i) (nodes i)) ∙ sym is in
-    other_kind k l p m ∙ ap (λ (x : Row). record x { kind = (row_of k p m).kind }) same
 
 file_parts : (k : RowKind) (p : Path) (n : Node) (hash : List ℕ) → (row_of k p n).hash ≡ Some hash → (attr : Attr) × (file : FileRef) × (n ≡ node.File attr file) × (hash ≡ file.hash) × ((row_of k p n).size ≡ file.size)
 file_parts k p (node.Dir attr) hash e = absurd cc

@@ -7,13 +7,10 @@ use Rattle.cv_base.specs.declared.id.Kind.TheVariants as id_kind
 use Rattle.cv_ports.specs.Shelf.{Shelf}
 use Rattle.cv_tree.specs.declared.node.Node.TheVariants.{Dir}
 use Rattle.cv_rows.specs.Row.{holds_rows}
-use Rattle.std.specs.declared.cmp.Ordering.TheVariants.{Less, Equal}
-use Rattle.std.specs.Cmp.{tied_itself}
-use Rattle.std.specs.Cmp.Lexicographic.{nat_list_cmp_total}
 use Rattle.std.proofs.lemmas.Bool.{cases_lt}
 use Rattle.std.proofs.lemmas.List.{get_or_default}
 use Rattle.std.proofs.lemmas.Map.Keys.{Less-from_sorted}
-use Rattle.cv_base.specs.BytesOrder.{bytes_cmp}
+use Rattle.cv_base.proofs.Laws.{not_less, last_same}
 use Rattle.cv_rows.specs.Catalogue.{Contents, IsCatalogue, nested_cmp}
 use Rattle.cv_rows.specs.Places.{IsRoot, IsChild, StandsAt, root, below, root_kind}
 use Rattle.cv_rows.specs.declared.row.Row.{Row}
@@ -99,25 +96,8 @@ parent_standing {hash = hash} {place = place} {c = c} o p front s = record { has
 
 -- ---- paths
 
-pub last_same : (p q : Path) (a b : List ℕ) → p ++ a ∷ [] ≡ q ++ b ∷ [] → (p ≡ q) × (a ≡ b)
-last_same [] [] a b h = (refl, cc)
-last_same [] (c ∷ q) a b h = absurd (omega (arith, ap (λ (x : Path). length x) h, length-append q (b ∷ [])))
-last_same (c ∷ p) [] a b h = absurd (omega (arith, ap (λ (x : Path). length x) h, length-append p (a ∷ [])))
-last_same (c ∷ p) (d ∷ q) a b h =
-    let head : c ≡ d = cc in
-    let tail : p ++ a ∷ [] ≡ q ++ b ∷ [] = cc in
-    let rest = last_same p q a b tail in
-    ((λ i. head i ∷ rest.0 i), rest.1)
-
 pub not_empty : (q : Path) (a : List ℕ) → q ++ a ∷ [] ≢ []
 not_empty q a h = omega (arith, ap (λ (x : Path). length x) h, length-append q (a ∷ []))
-
-not_less : (a b : List ℕ) → bytes_cmp a b ≡ Less → a ≡ b → ⊥
-not_less a b less same =
-    let tied : bytes_cmp a a ≡ Equal = tied_itself nat_list_cmp_total a in
-    let wrong : bytes_cmp a a ≡ Less = subst (λ (c : List ℕ). bytes_cmp a c ≡ Less) (sym same) less in
-    let apart : Equal ≡ Less = sym tied ∙ wrong in
-    cc
 
 -- an entry that stands before another has another path
 pub entry_before : (c : Contents) (i j : ℕ) (m n : Nested) → IsCatalogue c → i < j → i < length c.nested → j < length c.nested → get_or c.nested i m ≡ m → get_or c.nested j n ≡ n → m.path ≡ n.path → ⊥

@@ -5,6 +5,7 @@ use Rattle.std.specs.FinMap.{get}
 use Rattle.std.proofs.lemmas.List.{append_cancel_left}
 use Rattle.std.proofs.lemmas.List.Elements.{All-contains}
 use Rattle.cv_base.specs.Path.{Path}
+use Rattle.cv_base.proofs.Laws.{last_same}
 use Rattle.cv_ports.specs.Shelf.{Shelf}
 use Rattle.cv_tree.specs.Tree.{Nodes, at, is_directory}
 use Rattle.cv_tree.specs.declared.node.Node.{Node}
@@ -23,7 +24,7 @@ use Rattle.cv_cut.specs.Told.{node_of, node_as}
 use Rattle.cv_tree.specs.Tree.{IsPart}
 use Rattle.cv_cut.proofs.Lemmas.{some_last, near_below, above, marked-at, transition_long}
 use Rattle.cv_load.proofs.Assembly.{IsWhole, full_of, standing_of, node_there, open_marked, directory_unmarked}
-use Rattle.cv_load.proofs.Standing.{named_by, IsOpen, Standing, Holds, AreTogether, so_root, so_below, stands_so, rules_of, contents_same, one_holder, one_node, last_same, moved, not_empty, parent_standing}
+use Rattle.cv_load.proofs.Standing.{named_by, IsOpen, Standing, Holds, AreTogether, so_root, so_below, stands_so, rules_of, contents_same, one_holder, one_node, moved, not_empty, parent_standing}
 use Rattle.cv_cut.specs.Region.{IsNear}
 
 holder_kind : (k : RowKind) → holds_rows k ≡ true → k ≢ NestedRoot → k ≡ Directory

@@ -1,5 +1,5 @@
 -- What the crates above may cite of counts that are raised, and of pieces one after another.
-pub use Rattle.cv_ports.proofs.Streams.{front_twice, onto_twice, wrote_back, wrote_front}
+pub use Rattle.cv_ports.proofs.Streams.{front_twice, onto_twice, wrote_back, wrote_front, onto_none}
 use Rattle.std.proofs.Common.{◌≡◌, ◌+◌, ℕ, zero, suc, ap, ◌∙◌, arith}
 use Rattle.cv_ports.specs.Calls.{raised, raised_by, RaisedAtMost}
 

@@ -1,5 +1,5 @@
 -- What is left and what was taken, piece after piece.
-use Rattle.std.proofs.Common.{◌≡◌, ◌++◌, ℕ, List, refl, ap, sym, ◌∙◌, append_assoc}
+use Rattle.std.proofs.Common.{◌≡◌, ◌++◌, [], ℕ, List, refl, ap, sym, ◌∙◌, append_assoc, append-nil}
 use Rattle.std.specs.Prelude.{Option, Some, None}
 use Rattle.cv_ports.specs.Streams.{front, onto, Wrote}
 
@@ -28,3 +28,7 @@ wrote_back old {mid} {new} a {b} first wrote = record {
   split = ap (λ l. a ++ l) wrote.split ∙ sym (append_assoc a wrote.written wrote.unwritten);
   taken = wrote.taken ∙ ap (λ o. onto o wrote.written) first ∙ onto_twice old a wrote.written;
 }
+
+pub onto_none : (given : Option (List ℕ)) → given ≡ onto given []
+onto_none None = refl
+onto_none (Some l) = ap (λ x. Some x) (sym (append-nil l))

@@ -2,7 +2,8 @@
 use Rattle.std.specs.Prelude.{ℕ, Bool, true, ◌&&◌, List, [], ◌∷◌, take}
 use Rattle.std.specs.Ordering.{is_lt}
 use Rattle.std.specs.List.Sorted.{IsStrictlySortedBy}
-use Rattle.cv_base.specs.Path.{Path, name_cmp}
+use Rattle.cv_base.specs.Path.{Path}
+use Rattle.cv_base.specs.BytesOrder.{bytes_cmp}
 use Rattle.cv_ports.specs.declared.folder.FolderItem.{FolderItem}
 use Rattle.cv_ports.specs.declared.folder.TheConstants.{FOLDER_READ_LIMIT}
 
@@ -26,13 +27,13 @@ read_front content = take FOLDER_READ_LIMIT content
 
 -- the names of a listing ascend by their bytes, so that none stands twice
 abbrev pub Ascend : List FolderItem → Type 0
-Ascend items = IsStrictlySortedBy name_cmp (names_of items)
+Ascend items = IsStrictlySortedBy bytes_cmp (names_of items)
 
 -- the same, as a test: each name is below the next
 abbrev pub ascends : List FolderItem → Bool
 ascends [] = true
 ascends (last ∷ []) = true
-ascends (item ∷ next ∷ items) = is_lt (name_cmp item.name next.name) && ascends (next ∷ items)
+ascends (item ∷ next ∷ items) = is_lt (bytes_cmp item.name next.name) && ascends (next ∷ items)
 
 -- the names of each directory of a folder ascend
 abbrev pub IsOrdered : FolderView → Type 0

@@ -14,6 +14,7 @@ use Rattle.std.proofs.lemmas.Option.{slice_get_within, get_or_from_slice_get, sl
 use Rattle.std.proofs.lemmas.Slice.Eq.{bytes_eq-Decides}
 use Rattle.cv_base.specs.Path.{same_name}
 use Rattle.cv_base.specs.PathOrder.{same_name_is, same_name_itself}
+use Rattle.cv_base.proofs.Laws.{same_name-symm}
 use Rattle.cv_rows.specs.Made.{IsTwice, AreApart}
 
 -- no two are the same just where the test tells all apart
@@ -37,17 +38,14 @@ apart_from_distinct xs distinct x twice =
     let tied = same_name_itself x in
     cc
 
-flips : (x y : List ℕ) → same_name x y ≡ same_name y x
-flips x y = (eq_by_cmp_equiv nat_list_cmp_total).symm x y
-
 pub distinct_moved : (xs ys : List (List ℕ)) → IsPermutation xs ys → AreApart xs → IsDistinct same_name ys
-distinct_moved xs ys moved apart = IsDistinct-IsPermutation same_name flips xs ys moved (distinct_from_apart xs apart)
+distinct_moved xs ys moved apart = IsDistinct-IsPermutation same_name same_name-symm xs ys moved (distinct_from_apart xs apart)
 
 -- ---- one key more
 
 same_any : (y : List ℕ) (xs : List (List ℕ)) → list_any (same_name y) xs ≡ list_any (λ x. bytes_eq x y) xs
 same_any y [] = refl
-same_any y (x ∷ xs) = (λ i. (flips y x ∙ is_eq-slice_cmp x y) i || same_any y xs i)
+same_any y (x ∷ xs) = (λ i. (same_name-symm y x ∙ is_eq-slice_cmp x y) i || same_any y xs i)
 
 pub apart_more : (xs : List (List ℕ)) (i : ℕ) (x : List ℕ) → i < length xs → get_or xs i [] ≡ x → AreApart (take i xs) → list_any (λ y. bytes_eq y x) (take i xs) ≡ false → AreApart (take (i + 1) xs)
 apart_more xs i x lt is apart new =

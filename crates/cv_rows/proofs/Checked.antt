@@ -1,9 +1,9 @@
 -- Rows and nested entries in any order, put in order and checked.
-use Rattle.std.proofs.Common.{◌≤◌, List, ◌++◌, length, inl, inr, arith}
+use Rattle.std.proofs.Common.{◌≤◌, List, length, inl, inr, arith}
 use Rattle.std.specs.List.{AllByRecursion}
 use Rattle.std.specs.List.Sorted.{IsPermutation, IsStrictlySortedBy}
 use Rattle.std.proofs.lemmas.Bool.{cases_lt}
-use Rattle.std.proofs.lemmas.List.Elements.{All-from_recursion, recursion_from_All, All-append, All-contains, Contains-get_or}
+use Rattle.std.proofs.lemmas.List.Elements.{All-from_recursion, recursion_from_All, All-contains, Contains-get_or}
 use Rattle.std.proofs.lemmas.List.Sorted.{IsPermutation-sym, Contains-permutation, length_permutation}
 use Rattle.cv_base.specs.Path.{Path}
 use Rattle.cv_rows.specs.Row.{IsRow}
@@ -25,9 +25,6 @@ use Rattle.cv_rows.proofs.Sizes.{nested_le}
 pub spelled_moved : {X : Type 0} (P : X → Type 0) (xs ys : List X) → IsPermutation xs ys → AllByRecursion P xs → AllByRecursion P ys
 spelled_moved P xs ys moved all =
     recursion_from_All P ys (λ k d lt. All-contains P xs _ (All-from_recursion P xs all) (Contains-permutation ys xs _ (IsPermutation-sym xs ys moved) (Contains-get_or ys k d lt)))
-
-pub spelled_both : {X : Type 0} (P : X → Type 0) (xs ys : List X) → AllByRecursion P xs → AllByRecursion P ys → AllByRecursion P (xs ++ ys)
-spelled_both P xs ys one other = recursion_from_All P (xs ++ ys) (All-append P xs ys (All-from_recursion P xs one) (All-from_recursion P ys other))
 
 -- ---- counts
 

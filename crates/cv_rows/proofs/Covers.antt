@@ -4,16 +4,6 @@ use Rattle.cv_base.specs.Path.{Path, behind, covers, same_name}
 use Rattle.cv_base.specs.PathOrder.{same_name_is, same_name_itself}
 use Rattle.cv_base.specs.Marker.{ends_in}
 
--- what covers a path covers what is below it
-pub covers_below : (p q r : Path) → covers p q ≡ true → covers p (q ++ r) ≡ true
-covers_below [] q r h = refl
-covers_below (a ∷ p) [] r h = absurd cc
-covers_below (a ∷ p) (b ∷ q) r h =
-    elim (same_name a b) as (λ t. is_some (cond t (behind p q) None) ≡ true → is_some (cond t (behind p (q ++ r)) None) ≡ true) [
-      | true ↦ λ is. covers_below p q r is
-      | false ↦ λ is. absurd cc
-    ] h
-
 only_root : (p : Path) → covers p [] ≡ true → p ≡ []
 only_root [] h = refl
 only_root (a ∷ p) h = absurd cc

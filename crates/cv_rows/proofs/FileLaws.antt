@@ -21,8 +21,7 @@ use Rattle.cv_rows.specs.Nested.{IsNested, nested_bytes}
 use Rattle.cv_rows.specs.Catalogue.{file_of}
 use Rattle.cv_base.specs.Fields.{accepted, number_at, bytes_at, Takes}
 use Rattle.cv_rows.specs.Reading.{bad, length_at, row_at, path_at, nested_at, many_at, Entries, entries_at, number_in, is_too_large, entries_of}
-use Rattle.cv_base.proofs.Laws.{path_named-own, path_named-is, bind_ok, guard_ended, passes, accepted_ok, IsBytes-drop, IsBytes-take, Takes-then, wide32, wide64, number_takes, number_again, bytes_take, bytes_again}
-use Rattle.cv_rows.proofs.FieldLaws.{ok_is}
+use Rattle.cv_base.proofs.Laws.{path_named-own, path_named-is, bind_ok, guard_ended, passes, accepted_ok, IsBytes-drop, IsBytes-take, Takes-then, wide32, wide64, number_takes, number_again, bytes_take, bytes_again, ok_is}
 use Rattle.cv_rows.proofs.RowFields.{length_takes, length_reads, text_takes}
 use Rattle.cv_rows.proofs.RowLaws.{row_takes, row_reads}
 use Rattle.cv_rows.proofs.Sizes.{nested_le}

@@ -1,8 +1,7 @@
 -- A list in order of keys that differ is what a map of its elements by key has.
-use Rattle.std.proofs.Common.{◌≡◌, ℕ, ◌+◌, ◌<◌, true, false, T, List, [], ◌∷◌, map, length, get_or, Option, Some, None, refl, sym, ap, subst, ◌∙◌, arith}
+use Rattle.std.proofs.Common.{◌≡◌, ℕ, ◌+◌, ◌<◌, true, T, List, [], ◌∷◌, map, length, get_or, Option, Some, None, refl, sym, ap, subst, ◌∙◌, arith}
 use Rattle.std.specs.Prelude.{slice_get, Contains}
-use Rattle.std.specs.declared.cmp.Ordering.TheVariants.{Less, Equal, Greater}
-use Rattle.std.specs.Ordering.{is_lt, is_eq, ordering_reverse}
+use Rattle.std.specs.declared.cmp.Ordering.TheVariants.{Less}
 use Rattle.std.specs.Cmp.{on_total, eq_by_cmp_equiv}
 use Rattle.std.specs.Cmp.Lexicographic.{nat_list_cmp_total}
 use Rattle.std.specs.FinMap.{from_entries, from_sorted, values, find, same_map, get-from_entries, get-from_sorted, entries-from_sorted}
@@ -14,23 +13,14 @@ use Rattle.std.proofs.lemmas.List.{get_or-map, length-map}
 use Rattle.std.proofs.lemmas.List.Sorted.{IsPermutation-map, IsPermutation-sym, Contains-permutation}
 use Rattle.std.proofs.lemmas.Map.Entries.{place_from_lookup, lookup_from_place}
 use Rattle.std.proofs.lemmas.Map.Keys as keys
-use Rattle.std.proofs.lemmas.Map.Keys.{IsDistinct-from_apart, IsDistinct-IsPermutation}
 use Rattle.std.proofs.lemmas.Option.{slice_get_within, get_or_from_slice_get, slice_get-get_or}
 use Rattle.cv_base.specs.BytesOrder.{bytes_cmp}
 use Rattle.cv_base.specs.Path.{same_name}
 use Rattle.cv_base.specs.PathOrder.{name_exact, same_name_is}
+use Rattle.cv_base.proofs.Laws.{rising}
 use Rattle.cv_rows.specs.Made.{AreApart}
 use Rattle.cv_rows.proofs.Sorting.{sorted_all}
 use Rattle.cv_rows.proofs.Apart.{distinct_from_apart, distinct_moved}
-
--- what isn't above and isn't the same is below
-rising : (x y : List ℕ) → is_lt (bytes_cmp y x) ≡ false → same_name x y ≡ false → bytes_cmp x y ≡ Less
-rising x y not_below apart =
-    elim (bytes_cmp x y) as (λ o. bytes_cmp x y ≡ o → bytes_cmp x y ≡ Less) [
-      | Less ↦ λ e. e
-      | Equal ↦ λ e. let wrong : true ≡ false = sym (ap is_eq e) ∙ apart in cc
-      | Greater ↦ λ e. let wrong : true ≡ false = sym (ap is_lt (nat_list_cmp_total.antisymm y x ∙ ap ordering_reverse e)) ∙ not_below in cc
-    ] refl
 
 -- ---- the same entries
 

@@ -11,7 +11,7 @@ use Rattle.std.proofs.lemmas.List.Kept.{IsStrictlySortedBy-filter}
 use Rattle.std.proofs.lemmas.Slice.Eq.{bytes_eq-Decides}
 use Rattle.cv_base.specs.Path.{Path, covers}
 use Rattle.cv_base.specs.Marker.{marker, ends_in}
-use Rattle.cv_base.proofs.Laws.{first_true, second_true}
+use Rattle.cv_base.proofs.Laws.{first_true, second_true, covers_below}
 use Rattle.cv_rows.specs.Row.{IsRow, row_bytes, same_kind}
 use Rattle.cv_rows.specs.Nested.{IsNested, nested_bytes}
 use Rattle.cv_rows.specs.Places.{StandsAt, root, below, root_kind}
@@ -21,7 +21,7 @@ use Rattle.cv_rows.specs.declared.row.Row.{Row}
 use Rattle.cv_rows.specs.declared.nested.Nested.{Nested}
 use Rattle.cv_rows.specs.declared.row_kind.RowKind.{RowKind}
 use Rattle.cv_rows.specs.declared.row_kind.RowKind.TheVariants.{Directory, NestedRoot, File}
-use Rattle.cv_rows.proofs.Covers.{covers_below, covers_last, ends_so}
+use Rattle.cv_rows.proofs.Covers.{covers_last, ends_so}
 use Rattle.cv_rows.proofs.PlaceLaws.{stands_contained, one_place, same_by_key}
 use Rattle.cv_rows.proofs.Regions.{same_test, file_len}
 use Rattle.cv_rows.proofs.RuleLaws.{contents}
@@ -60,7 +60,7 @@ module _ {X : Type 0} (p : X → Bool) where
 
 -- ---- markers
 
-no_root : (at : Path) (kind : RowKind) → same_kind kind File ≡ true → kind ≡ root_kind at → ⊥
+pub no_root : (at : Path) (kind : RowKind) → same_kind kind File ≡ true → kind ≡ root_kind at → ⊥
 no_root [] kind is same = let wrong : same_kind Directory File ≡ true = subst (λ (k : RowKind). same_kind k File ≡ true) same is in cc
 no_root (a ∷ at) kind is same = let wrong : same_kind NestedRoot File ≡ true = subst (λ (k : RowKind). same_kind k File ≡ true) same is in cc
 

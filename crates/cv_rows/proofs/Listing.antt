@@ -7,6 +7,7 @@ use Rattle.std.proofs.lemmas.Bool.{and_parts}
 use Rattle.std.proofs.lemmas.List.{take_more, take_all, get_or_default}
 use Rattle.cv_base.specs.Path.{Path, key_of, covers, same_path}
 use Rattle.cv_base.specs.PathOrder.{same_path_is, path_total}
+use Rattle.cv_base.proofs.Laws.{last_same}
 use Rattle.cv_rows.specs.Catalogue.{Contents, IsCatalogue, is_below}
 use Rattle.cv_rows.specs.Listing.{IsListing}
 use Rattle.cv_rows.specs.ListingInner.{is_in}
@@ -14,7 +15,6 @@ use Rattle.cv_rows.specs.Places.{IsRoot, StandsAt, StandEach, root, below}
 use Rattle.cv_rows.specs.declared.row.Row.{Row}
 use Rattle.cv_rows.proofs.PlaceLaws.{stands_contained, same_by_key, one_place}
 use Rattle.cv_rows.proofs.NestedLaws.{fits_there}
-use Rattle.cv_rows.proofs.Standing.{same_ends}
 use Rattle.cv_rows.specs.Toward.{IsAbove}
 use Rattle.cv_rows.specs.declared.nested.Nested.{Nested}
 use Rattle.std.proofs.lemmas.Slice.Eq.{bytes_eq-Decides}
@@ -77,7 +77,7 @@ module _ (c : Contents) (is : IsCatalogue c) where
       back : {x : Path} → StandsAt c.at c.rows r x → (IsRoot c.at r → ⊥) × (name : List ℕ) × (x ≡ p ++ name ∷ []) → is_in (key_of c.at) directory.key.0 r ≡ true
       back (root has top) h = absurd (h.0 top)
       back (below {p = above} {q = front} has apart up child) h =
-          let same : front ≡ p = (same_ends front p r.name h.1 h.2).0 in
+          let same : front ≡ p = (last_same front p r.name h.1 h.2).0 in
           let one : above ≡ directory = one_there above directory p (subst (StandsAt c.at c.rows above) same up) here in
           let key : r.parent.0 ≡ directory.key.0 = child.parent ∙ ap (λ (x : Row). x.key.0) one in
           let other : r.key.0 ≢ directory.key.0 = λ e. child.other (e ∙ sym (ap (λ (x : Row). x.key.0) one)) in
@@ -89,7 +89,7 @@ module _ (c : Contents) (is : IsCatalogue c) where
     where
       back : {x : Path} → StandsAt c.at c.rows r x → (IsRoot c.at r → ⊥) × (name : List ℕ) × (x ≡ p ++ name ∷ []) → ⊥
       back (root has top) h = h.0 top
-      back (below {p = above} {q = front} has apart up child) h = none above (subst (StandsAt c.at c.rows above) (same_ends front p r.name h.1 h.2).0 up)
+      back (below {p = above} {q = front} has apart up child) h = none above (subst (StandsAt c.at c.rows above) (last_same front p r.name h.1 h.2).0 up)
 
 pub no_rows : (rows : List Row) → [] ≡ filter (λ (r : Row). false) rows
 no_rows [] = refl

@@ -5,10 +5,8 @@ use Rattle.std.specs.List.{HoldsAt, All, list_any}
 use Rattle.std.specs.List.Sorted.{IsStrictlySortedBy}
 use Rattle.std.proofs.lemmas.Slice.Eq.{bytes_eq-Decides}
 use Rattle.cv_base.specs.Path.{Path, IsPath, key_of, same_path}
-use Rattle.cv_base.specs.PathOrder.{path_total, same_path_is}
-use Rattle.std.specs.Cmp.{tied_itself}
-use Rattle.std.specs.Ordering.{is_eq}
-use Rattle.cv_base.proofs.Laws.{first_true, second_true}
+use Rattle.cv_base.specs.PathOrder.{same_path_is}
+use Rattle.cv_base.proofs.Laws.{first_true, second_true, same_path-itself}
 use Rattle.cv_rows.specs.Row.{same_kind}
 use Rattle.cv_rows.specs.Places.{StandsAt}
 use Rattle.cv_rows.specs.ParentsInner.{IsPlacing, HasPath}
@@ -36,9 +34,6 @@ transition_kind Transition h = refl
 transition_kind NestedRoot h = absurd cc
 transition_kind File h = absurd cc
 transition_kind Link h = absurd cc
-
-same_path_itself : (p : Path) → same_path p p ≡ true
-same_path_itself p = ap is_eq (tied_itself path_total p)
 
 and_false_ : (a b : Bool) → a ≡ true → b ≡ true → (a && b) ≡ false → ⊥
 and_false_ true true ha hb h = cc
@@ -73,7 +68,7 @@ transition_is at rows top parents i r path key found placing fit lt r-is key-is 
     not_one (Some q) has stands is_path kind is =
         let same : path ≡ q = one_place placing.ordered stands (has.1 r) in
         let first : same_kind r.kind Transition ≡ true = ap (λ (k : RowKind). same_kind k Transition) kind in
-        let second : same_path q path ≡ true = subst (λ (p : Path). same_path q p ≡ true) (sym same) (same_path_itself q) in
+        let second : same_path q path ≡ true = subst (λ (p : Path). same_path q p ≡ true) (sym same) (same_path-itself q) in
         and_false_ (same_kind r.kind Transition) (same_path q path) first second (sym is)
 
 -- an element that passes a test is there

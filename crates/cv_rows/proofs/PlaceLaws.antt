@@ -6,12 +6,13 @@ use Rattle.std.specs.List.Sorted.{IsStrictlySortedBy}
 use Rattle.std.proofs.lemmas.Bool.{cases_lt}
 use Rattle.std.proofs.lemmas.List.Elements.{Contains-get_or}
 use Rattle.cv_base.specs.Path.{Path, key_of}
+use Rattle.cv_base.proofs.Laws.{same_or_other}
 use Rattle.cv_rows.specs.Catalogue.{row_cmp}
 use Rattle.cv_rows.specs.Places.{IsRoot, IsChild, StandsAt, root, below}
 use Rattle.cv_rows.specs.ParentsInner.{step, times, AreParents, AreInside}
 use Rattle.cv_rows.specs.declared.row.Row.{Row}
 use Rattle.cv_rows.proofs.Sorting.{same_index, same_row}
-use Rattle.cv_rows.proofs.Reach.{same_or_not, hit_by}
+use Rattle.cv_rows.proofs.Reach.{hit_by, last_stays}
 
 -- a row that stands somewhere is one of the rows
 pub stands_contained : {at : Path} {rows : List Row} {r : Row} {q : Path} → StandsAt at rows r q → Contains rows r
@@ -37,12 +38,6 @@ one_place {at} {rows} {r} sorted (below {p = p} {q = q} has apart s child) (belo
 pub root_index : (at : Path) (rows : List Row) (i j : ℕ) (d : Row) → IsStrictlySortedBy row_cmp rows → i < length rows → j < length rows → IsRoot at (get_or rows i d) → IsRoot at (get_or rows j d) → i ≡ j
 root_index at rows i j d sorted li lj is was = same_index rows i j d sorted li lj (is.key ∙ sym was.key)
 
--- what leads nowhere leads nowhere
-last_stays : (parents : List ℕ) (n k : ℕ) → step parents n ≡ n → times parents k n ≡ n
-unfolding times
-last_stays parents n zero fixed = refl
-last_stays parents n (suc k) fixed = ap (λ (j : ℕ). times parents k j) fixed ∙ last_stays parents n k fixed
-
 -- a row whose parents lead to the root row stands somewhere
 pub stands_above : (at : Path) (rows : List Row) (top : ℕ) (parents : List ℕ) → IsStrictlySortedBy row_cmp rows → top < length rows → HoldsAt (IsRoot at) rows top → AreParents rows top parents
     → (k i : ℕ) (d : Row) → i < length rows → times parents k i ≡ top → (q : Path) × StandsAt at rows (get_or rows i d) q
@@ -50,7 +45,7 @@ unfolding times
 stands_above at rows top parents sorted inside is_root are zero i d lt h =
     (at, root (Contains-get_or rows i d lt) (subst (λ (j : ℕ). IsRoot at (get_or rows j d)) (sym h) (is_root d)))
 stands_above at rows top parents sorted inside is_root are (suc k) i d lt h =
-    elim (same_or_not i top) [
+    elim (same_or_other i top) [
       | inl same ↦ (at, root (Contains-get_or rows i d lt) (subst (λ (j : ℕ). IsRoot at (get_or rows j d)) (sym same) (is_root d)))
       | inr apart ↦
           let j = step parents i in

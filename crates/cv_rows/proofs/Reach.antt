@@ -1,23 +1,16 @@
 -- A walk that comes to an index comes to it in as many steps as there are indices.
-use Rattle.std.proofs.Common.{◌≡◌, ◌≢◌, ℕ, zero, suc, ◌+◌, ◌-◌, ◌<◌, ◌≤◌, ◌⊎◌, true, false, eqb, List, [], ◌∷◌, length, get_or, refl, sym, ap, subst, ◌∙◌, arith, inl, inr}
+use Rattle.std.proofs.Common.{◌≡◌, ◌≢◌, ℕ, zero, suc, ◌+◌, ◌-◌, ◌<◌, ◌≤◌, true, false, eqb, List, [], ◌∷◌, length, get_or, refl, sym, ap, subst, ◌∙◌, arith, inl, inr}
 use Rattle.std.specs.Prelude.{nat_eq}
 use Rattle.std.specs.List.{AllByRecursion, IsDistinct, range_with_len}
 use Rattle.std.specs.Set.{is_member}
-use Rattle.std.proofs.lemmas.Bool.{cases_lt, eqb-true}
+use Rattle.std.proofs.lemmas.Bool.{eqb-true}
 use Rattle.std.proofs.lemmas.Bool.Decides.{Decides-eqb}
 use Rattle.std.proofs.lemmas.Cmp.{nat_eq_equiv}
 use Rattle.std.proofs.lemmas.List.FromFn.{length-range_with_len, get_or-range_with_len}
 use Rattle.std.proofs.lemmas.Map.Made.{is_member-Decides, length-le_from_is_member}
+use Rattle.cv_base.proofs.Laws.{same_or_other}
 use Rattle.cv_rows.specs.ParentsInner.{step, times, AreInside}
 use Rattle.cv_rows.proofs.Steps.{times_sum}
-
--- two indices are the same or not
-pub same_or_not : (i j : ℕ) → (i ≡ j) ⊎ (i ≢ j)
-same_or_not i j =
-    elim (cases_lt i j) [
-      | inl less ↦ inr (λ e. omega arith)
-      | inr ge ↦ elim (cases_lt j i) [ inl more ↦ inr (λ e. omega arith) | inr le ↦ inl (omega arith) ]
-    ]
 
 -- the walk comes to the root first after so many steps
 record IsFirstHit (parents : List ℕ) (root n i : ℕ) : Type 0 where
@@ -40,7 +33,7 @@ first_hit : (parents : List ℕ) (root n i : ℕ) → times parents n i ≡ root
 unfolding times
 first_hit parents root zero i h = (0, hit_at_once parents root i h)
 first_hit parents root (suc n) i h =
-    elim (same_or_not i root) [
+    elim (same_or_other i root) [
       | inl same ↦ (0, hit_at_once parents root i same)
       | inr apart ↦ let later = first_hit parents root n (step parents i) h in (suc later.0, hit_later parents root later.0 i apart later.1)
     ]
@@ -101,11 +94,11 @@ hit_soon parents root n i inside lt h =
     (is_member-Decides Decides-eqb numbers q).1 (q, omega (arith, small, length-range_with_len 0 (length parents)), get_or-range_with_len 0 (length parents) q q small ∙ (let e : 0 + q ≡ q = omega arith in e)) in
     omega (arith, length-le_from_is_member nat_eq_equiv places numbers (distinct parents root n i h) inside_numbers, length-orbit parents n i, length-range_with_len 0 (length parents))
 
--- from the root the walk stays there
-root_stays : (parents : List ℕ) (root n : ℕ) → step parents root ≡ root → times parents n root ≡ root
+-- what leads nowhere leads nowhere
+pub last_stays : (parents : List ℕ) (n k : ℕ) → step parents n ≡ n → times parents k n ≡ n
 unfolding times
-root_stays parents root zero fixed = refl
-root_stays parents root (suc n) fixed = ap (λ (j : ℕ). times parents n j) fixed ∙ root_stays parents root n fixed
+last_stays parents n zero fixed = refl
+last_stays parents n (suc k) fixed = ap (λ (j : ℕ). times parents k j) fixed ∙ last_stays parents n k fixed
 
 -- a walk that comes to the root is there after so many steps
 pub hit_by : (parents : List ℕ) (root k i n : ℕ) → AreInside parents → step parents root ≡ root → i < length parents → times parents k i ≡ root → length parents ≤ n → times parents n i ≡ root
@@ -114,4 +107,4 @@ hit_by parents root k i n inside fixed lt h enough =
     let soon = hit_soon parents root first.0 i inside lt first.1 in
     let rest = n - first.0 in
     let e : n ≡ first.0 + rest = omega arith in
-    ap (λ (m : ℕ). times parents m i) e ∙ times_sum parents first.0 rest i ∙ ap (λ (j : ℕ). times parents rest j) first.1.here ∙ root_stays parents root rest fixed
+    ap (λ (m : ℕ). times parents m i) e ∙ times_sum parents first.0 rest i ∙ ap (λ (j : ℕ). times parents rest j) first.1.here ∙ last_stays parents root rest fixed

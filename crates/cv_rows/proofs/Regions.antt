@@ -1,15 +1,15 @@
 -- The rules of a catalogue don't speak of the order of its rows and nested entries.
-use Rattle.std.proofs.Common.{◌≡◌, ℕ, ◌+◌, Bool, true, false, List, get_or, refl, ◌++◌, length, codes, Result, Err, sym, subst, ◌∙◌, arith, inl, inr, length-append}
+use Rattle.std.proofs.Common.{◌≡◌, ◌+◌, Bool, true, false, List, get_or, refl, ◌++◌, length, codes, Result, Err, sym, subst, arith, inl, inr, length-append}
 use Rattle.std.specs.Prelude.{Contains}
 use Rattle.std.specs.Int.{w32, to_be_bytes}
 use Rattle.std.specs.List.{All, flat_map, list_any}
 use Rattle.std.specs.List.Sorted.{IsPermutation, IsStrictlySortedBy}
 use Rattle.std.proofs.lemmas.Bool.{cases_lt}
-use Rattle.std.proofs.lemmas.List.Concat.{length-flat_map}
 use Rattle.std.proofs.lemmas.List.Elements.{All-from_recursion, recursion_from_All, All-contains, Contains-get_or}
 use Rattle.std.proofs.lemmas.List.Folds.{Any-from_list_any, list_any-from_Any}
-use Rattle.std.proofs.lemmas.List.Sorted.{IsPermutation-sym, Contains-permutation, length_permutation, sum_by-IsPermutation}
+use Rattle.std.proofs.lemmas.List.Sorted.{IsPermutation-sym, Contains-permutation, length_permutation}
 use Rattle.cv_base.specs.Path.{Path}
+use Rattle.cv_base.proofs.Laws.{fields_length}
 use Rattle.cv_rows.specs.Row.{IsRow, row_bytes}
 use Rattle.cv_rows.specs.Nested.{IsNested, nested_bytes}
 use Rattle.cv_rows.specs.Places.{StandsAt, root, below}
@@ -71,9 +71,6 @@ pub file_len : (rows : List Row) (nested : List Nested) → length (file_of rows
 file_len rows nested =
     omega (arith, length-append (codes "CVR1" ++ to_be_bytes w32 (length rows) ++ to_be_bytes w32 (length nested) ++ flat_map row_bytes rows) (flat_map nested_bytes nested), length-append (codes "CVR1" ++ to_be_bytes w32 (length rows) ++ to_be_bytes w32 (length nested)) (flat_map row_bytes rows))
 
-len_moved : {X : Type 0} (f : X → List ℕ) (xs ys : List X) → IsPermutation xs ys → length (flat_map f ys) ≡ length (flat_map f xs)
-len_moved f xs ys moved = length-flat_map f ys ∙ sum_by-IsPermutation (λ x. length (f x)) xs ys moved ∙ sym (length-flat_map f xs)
-
 -- in order, and within the limits, they are a catalogue's
 pub catalogue_made : (at : Path) (rows rows' : List Row) (nested nested' : List Nested) → IsRegion at rows nested → (PassesLimit rows nested → ⊥) → IsPermutation rows rows' → IsPermutation nested nested' → IsStrictlySortedBy row_cmp rows' → IsStrictlySortedBy nested_cmp nested'
     → IsCatalogue (contents at rows' nested')
@@ -84,6 +81,6 @@ catalogue_made at rows rows' nested nested' region fits moved nested_moved order
   count = elim (cases_lt 50000 (length rows)) [ inl more ↦ absurd (fits (inl more)) | inr le ↦ omega (arith, length_permutation rows rows' moved) ];
   size = elim (cases_lt 16777216 (length (file_of rows nested))) [
     | inl more ↦ absurd (fits (inr more))
-    | inr le ↦ omega (arith, file_len rows nested, file_len rows' nested', len_moved row_bytes rows rows' moved, len_moved nested_bytes nested nested' nested_moved)
+    | inr le ↦ omega (arith, file_len rows nested, file_len rows' nested', fields_length row_bytes rows rows' moved, fields_length nested_bytes nested nested' nested_moved)
   ];
 }

@@ -13,7 +13,7 @@ use Rattle.cv_base.specs.Target.{is_target}
 use Rattle.cv_base.specs.declared.attr.Attr.{Attr}
 use Rattle.std.specs.List.{list_all}
 use Rattle.std.specs.Str.{is_utf8}
-use Rattle.cv_base.proofs.Laws.{first_true, second_true}
+use Rattle.cv_base.proofs.Laws.{first_true, second_true, ok_is}
 use Rattle.cv_rows.specs.declared.row_kind.RowKind.{RowKind}
 use Rattle.cv_rows.specs.declared.row_kind.RowKind.TheVariants.{Directory, Transition, NestedRoot, File, Link}
 use Rattle.cv_rows.specs.declared.row_fault.RowFault.{RowFault}
@@ -22,7 +22,6 @@ use Rattle.cv_rows.specs.Row.{flags_of, type_bits, is_row_name, hash_field, text
 use Rattle.cv_base.specs.Fields.{accepted, number_at, bytes_at, Takes, TakesBytes}
 use Rattle.cv_rows.specs.Reading.{bad, kind_of, kind_at, permissions, attr_at, is_size, size_at, hash_at, length_at, name_at, target_limit, is_size_of, target_at}
 use Rattle.cv_base.proofs.Laws.{bind_ok, guard_ended, passes, accepted_ok, Takes-then, wide16, wide32, wide64, number_takes, number_again, bytes_take, bytes_again}
-use Rattle.cv_rows.proofs.FieldLaws.{ok_is}
 
 -- which way a test went
 either : {A : Type 0} (b : Bool) (x y z : A) → cond b x y ≡ z → ((b ≡ true) × (x ≡ z)) ⊎ ((b ≡ false) × (y ≡ z))

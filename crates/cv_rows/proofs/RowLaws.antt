@@ -5,12 +5,11 @@ use Rattle.std.specs.List.{list_all}
 use Rattle.std.specs.Str.{is_utf8}
 use Rattle.std.proofs.lemmas.Bool.{eqb-true, eq-eqb, leb-true, le-leb}
 use Rattle.std.proofs.lemmas.List.{nil_from_length}
-use Rattle.std.proofs.lemmas.Str.{IsUtf8-nil, is_utf8-from_IsUtf8}
 use Rattle.hex.specs.Hex.{IsBytes}
 use Rattle.cv_base.specs.Sequence.{◌>>=◌}
 use Rattle.cv_base.specs.Target.{is_target, is_target_byte}
 use Rattle.cv_base.specs.declared.attr.Attr.{Attr}
-use Rattle.cv_base.proofs.Laws.{first_true, second_true}
+use Rattle.cv_base.proofs.Laws.{first_true, second_true, no_target, ok_is}
 use Rattle.cv_rows.specs.declared.row.Row.{Row}
 use Rattle.cv_rows.specs.declared.row_kind.RowKind.{RowKind}
 use Rattle.cv_rows.specs.declared.row_kind.RowKind.TheVariants.{Directory, Transition, NestedRoot, File, Link}
@@ -20,7 +19,6 @@ use Rattle.cv_rows.specs.Row.{flags_of, is_row_name, IsKey, IsRow, HasContent, h
 use Rattle.cv_base.specs.Fields.{bytes_at, Takes}
 use Rattle.cv_rows.specs.Reading.{kind_at, attr_at, is_size, size_at, hash_at, name_at, target_limit, is_size_of, target_at, row_behind, row_at}
 use Rattle.cv_base.proofs.Laws.{bind_ok, bytes_take, bytes_again}
-use Rattle.cv_rows.proofs.FieldLaws.{ok_is}
 use Rattle.cv_base.specs.Attr.{IsAttr}
 use Rattle.cv_rows.proofs.RowFields.{kind_takes, kind_reads, attr_bytes, attr_takes, attr_reads, size_takes, size_reads, HashFits, hash_takes, hash_reads, name_takes, name_reads, TargetFits, target_takes, target_reads}
 
@@ -45,9 +43,6 @@ record Parts (kind : RowKind) (size : ℕ) (hash : Option (List ℕ)) (target : 
   size_fits : size < 2 ^ 64
   hash_is : HashFits kind hash
   target_is : TargetFits kind size target
-
-no_target : is_target [] ≡ true
-no_target = rw (is_utf8-from_IsUtf8 [] IsUtf8-nil) refl
 
 target_size : (target : List ℕ) → is_target target ≡ true → leb (length target) 4095 ≡ true
 target_size target h = second_true (is_utf8 target) (leb (length target) 4095) (first_true (is_utf8 target && leb (length target) 4095) (list_all is_target_byte target) h)

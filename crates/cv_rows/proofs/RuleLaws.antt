@@ -9,6 +9,7 @@ use Rattle.std.proofs.lemmas.Map.Keys.{Less-from_sorted}
 use Rattle.hex.specs.Hex.{IsBytes}
 use Rattle.cv_base.specs.Path.{Path, IsPath}
 use Rattle.cv_base.specs.Unless.{IsUnless}
+use Rattle.cv_base.proofs.Laws.{ok_is}
 use Rattle.cv_rows.specs.Places.{IsRoot, StandsAt, root}
 use Rattle.cv_rows.specs.Catalogue.{Contents, IsCatalogue, IsMarkedWell, IsTransitionAt, IsListed, row_cmp, nested_cmp, file_of, catalogue_bytes}
 use Rattle.cv_rows.specs.Faults.{IsFirst, IsFirstDisorder, IsFirstOrphan, IsMisplaced, AreOrdered, AllStand, AllFit, IsRuleFault, IsFaultOf, IsFirstFault}
@@ -22,7 +23,6 @@ use Rattle.cv_rows.specs.ParentsInner.{AreParents, IsPlacing}
 use Rattle.cv_rows.specs.NestedListInner.{HasNested}
 use Rattle.cv_rows.proofs.Sizes.{nested_le}
 use Rattle.cv_rows.proofs.NestedLaws.{fits_there, listed_is, listed_has}
-use Rattle.cv_rows.proofs.FieldLaws.{ok_is}
 use Rattle.cv_rows.proofs.FileLaws.{HasFile, file_takes, file_reads}
 
 -- an element at an index

@@ -15,6 +15,7 @@ use Rattle.std.proofs.lemmas.Map.Keys.{Less-from_sorted, sorted_from_all_adjacen
 use Rattle.cv_base.specs.BytesOrder.{bytes_cmp}
 use Rattle.cv_base.specs.Path.{text_of}
 use Rattle.cv_base.specs.PathOrder.{name_exact}
+use Rattle.cv_base.proofs.Laws.{not_less}
 use Rattle.cv_rows.specs.Catalogue.{row_cmp, nested_cmp}
 use Rattle.cv_rows.specs.declared.row.Row.{Row}
 
@@ -40,13 +41,6 @@ sorted_none cmp = tt
 pub sorted_all : {X : Type 0} {cmp : X → X → Ordering} → IsTotalOrder cmp → (xs : List X) (i : ℕ) → length xs ≤ i → AllAdjacentBelow (λ x y. cmp x y ≡ Less) xs i → IsStrictlySortedBy cmp xs
 sorted_all {X} {cmp} total [] i all h = sorted_none cmp
 sorted_all {X} {cmp} total (x ∷ xs) i all h = sorted_from_all_adjacent total (x ∷ xs) x (λ k lt. h k x (omega arith))
-
--- a key isn't below itself
-not_less : (a b : List ℕ) → bytes_cmp a b ≡ Less → a ≡ b → ⊥
-not_less a b less same =
-    let tied : bytes_cmp a a ≡ Equal = tied_itself nat_list_cmp_total a in
-    let wrong : bytes_cmp a a ≡ Less = subst (λ (c : List ℕ). bytes_cmp a c ≡ Less) (sym same) less in
-    cc
 
 -- an index has its key for itself
 pub same_index : (rows : List Row) (i j : ℕ) (d : Row) → IsStrictlySortedBy row_cmp rows → i < length rows → j < length rows → (get_or rows i d).key.0 ≡ (get_or rows j d).key.0 → i ≡ j

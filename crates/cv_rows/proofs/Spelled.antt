@@ -8,13 +8,14 @@ use Rattle.std.proofs.lemmas.List.Concat.{flat_map-append}
 use Rattle.std.proofs.lemmas.List.Folds.{list_all-append}
 use Rattle.md5.specs.Md5.{Holds}
 use Rattle.cv_base.specs.Path.{Path, IsPath, text_of, is_path_name}
+use Rattle.cv_base.proofs.Laws.{all_last}
 use Rattle.cv_rows.specs.FaultsInner.{IsPlaced}
 use Rattle.cv_rows.specs.Places.{StandsAt}
 use Rattle.cv_rows.specs.ParentsInner.{step, IsPlacing, IsPathOf}
 use Rattle.cv_rows.specs.DigestsInner.{IsDigestOf, IsDigestBelow, IsKept, AreKept, IsFound}
 use Rattle.cv_rows.specs.declared.path_digest.PathDigest.{PathDigest}
 use Rattle.cv_rows.specs.declared.row.Row.{Row}
-use Rattle.cv_rows.proofs.Walks.{all_last, above_some, has_path}
+use Rattle.cv_rows.proofs.Walks.{above_some, has_path}
 
 -- the text of a path with one more name
 text_more : (p : Path) (name : List ℕ) → text_of (p ++ name ∷ []) ≡ text_of p ++ 47 ∷ name

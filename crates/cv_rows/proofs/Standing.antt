@@ -12,7 +12,7 @@ use Rattle.std.proofs.lemmas.List.Elements.{Contains-get_or}
 use Rattle.std.proofs.lemmas.Slice.Eq.{bytes_eq-Decides}
 use Rattle.cv_base.specs.Path.{Path, same_name, key_of, same_path}
 use Rattle.cv_base.specs.PathOrder.{path_total, same_name_is, same_name_itself, same_path_is}
-use Rattle.cv_base.proofs.Laws.{same_parts}
+use Rattle.cv_base.proofs.Laws.{last_same}
 use Rattle.cv_rows.specs.Catalogue.{Contents, IsCatalogue, row_cmp}
 use Rattle.cv_rows.specs.Places.{IsRoot, IsChild, StandsAt, root, below}
 use Rattle.cv_rows.specs.ParentsInner.{IsParentOf}
@@ -30,12 +30,6 @@ front_and_last names last some is =
     let i = length names - 1 in
     let next : i + 1 ≡ length names = omega arith in
     sym (take-length names) ∙ ap (λ (n : ℕ). take n names) (sym next) ∙ take_more names i last (omega arith) ∙ ap (λ (x : List ℕ). take i names ++ x ∷ []) (sym is)
-
-pub same_ends : (a b : Path) (x y : List ℕ) → a ++ x ∷ [] ≡ b ++ y ∷ [] → (a ≡ b) × (x ≡ y)
-same_ends a b x y h =
-    let size : length a ≡ length b = omega (arith, ap length h, length-append a (x ∷ []), length-append b (y ∷ [])) in
-    let parts = same_parts (length b) a b (x ∷ []) (y ∷ []) size refl h in
-    (parts.0, let e : x ∷ [] ≡ y ∷ [] = parts.1 in cc)
 
 pub same_names : (a b : List ℕ) → Decides (same_name a b) (a ≡ b)
 same_names a b = (same_name_is a b, λ e. ap (same_name a) (sym e) ∙ same_name_itself a)
@@ -113,7 +107,7 @@ other_name at rows top row names last name text r sorted inside is_root here apa
     not_there : {s : Row} {q : Path} → StandsAt at rows s q → s ≡ get_or rows row d → q ≡ names → ⊥
     not_there (root has is) same place = apart (root_index at rows row top d sorted here inside (subst (λ (x : Row). IsRoot at x) same is) (is_root d))
     not_there {s = s} (below {q = q} has more st child) same place =
-        let ends = same_ends q (take (length names - 1) names) s.name last (place ∙ front_and_last names last some is) in
+        let ends = last_same q (take (length names - 1) names) s.name last (place ∙ front_and_last names last some is) in
         let one : r ≡ s = r-is ∙ same_default rows row r d here sorted ∙ sym same in
         let names-are : name ≡ text = name-is ∙ ap (λ (x : Row). x.name) (sym r-is ∙ one) ∙ ends.1 ∙ sym text-is in
         let yes : bytes_eq name text ≡ true = (bytes_eq-Decides name text).1 names-are in
@@ -147,7 +141,7 @@ goes_up at rows top row parent names last name text r is sorted inside is_root h
           subst (λ (p : Path). StandsAt at rows own p) (ap (λ (x : List ℕ). front ++ x ∷ []) named ∙ sym names-are) stands,
       λ s.
           let u = under top row parent o d refl s in
-          let ends = same_ends front u.above last own.name (sym names-are ∙ u.is) in
+          let ends = last_same front u.above last own.name (sym names-are ∙ u.is) in
           (decides d).1 (subst (λ (p : Path). StandsAt at rows (get_or rows parent d) p) (sym ends.0) (u.stands d)),
     )
   where

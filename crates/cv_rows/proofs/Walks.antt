@@ -1,16 +1,16 @@
 -- The path of a row, found step by step.
-use Rattle.std.proofs.Common.{◌≡◌, ◌≢◌, ℕ, ◌+◌, ◌-◌, ◌<◌, ◌≤◌, true, false, ltb, List, [], ◌∷◌, ◌++◌, length, get_or, Option, Some, None, Result, Ok, Err, refl, sym, ap, subst, ◌∙◌, arith, inl, inr, length-append}
+use Rattle.std.proofs.Common.{◌≡◌, ◌≢◌, ℕ, ◌+◌, ◌-◌, ◌<◌, ◌≤◌, true, List, [], ◌∷◌, ◌++◌, length, get_or, Option, Some, None, Result, Ok, Err, refl, sym, ap, subst, ◌∙◌, arith, inl, inr, length-append}
 use Rattle.std.specs.Prelude.{IfOk}
 use Rattle.std.specs.List.{All, list_all}
 use Rattle.std.specs.List.Sorted.{IsStrictlySortedBy}
-use Rattle.std.proofs.lemmas.Bool.{cases_lt, le-ltb}
+use Rattle.std.proofs.lemmas.Bool.{cases_lt}
 use Rattle.std.proofs.lemmas.List.{get_or_default}
 use Rattle.cv_base.specs.Path.{Path, IsPath, text_of, is_path_name}
 use Rattle.cv_base.specs.PathText.{joined}
 use Rattle.cv_base.specs.Unless.{IsUnless}
 use Rattle.cv_base.specs.declared.path_fault.PathFault.{PathFault}
 use Rattle.cv_base.specs.declared.path_fault.PathFault.TheVariants.{NoMemory}
-use Rattle.cv_base.proofs.Laws.{first_true, second_true}
+use Rattle.cv_base.proofs.Laws.{first_true, second_true, joined_path}
 use Rattle.cv_rows.specs.Catalogue.{row_cmp, FitsAt}
 use Rattle.cv_rows.specs.Faults.{IsFirst, IsOrphan, IsMisplaced}
 use Rattle.cv_rows.specs.Places.{IsRoot, IsChild, StandsAt, root, below}
@@ -26,10 +26,6 @@ all_front : (p : Path) (name : List ℕ) → list_all is_path_name (p ++ name �
 all_front [] name h = refl
 all_front (a ∷ p) name h = rw (first_true (is_path_name a) (list_all is_path_name (p ++ name ∷ [])) h) (all_front p name (second_true (is_path_name a) (list_all is_path_name (p ++ name ∷ [])) h))
 
-pub all_last : (p : Path) (name : List ℕ) → list_all is_path_name (p ++ name ∷ []) ≡ true → is_path_name name ≡ true
-all_last [] name h = first_true (is_path_name name) true h
-all_last (a ∷ p) name h = all_last p name (second_true (is_path_name a) (list_all is_path_name (p ++ name ∷ [])) h)
-
 text_front : (p : Path) (name : List ℕ) → length (text_of p) ≤ length (text_of (p ++ name ∷ []))
 text_front [] name = omega arith
 text_front (a ∷ p) name = omega (arith, length-append (47 ∷ a) (text_of p), length-append (47 ∷ a) (text_of (p ++ name ∷ [])), text_front p name)
@@ -42,22 +38,12 @@ front_path p name is = record {
   size = omega (arith, is.size, text_front p name);
 }
 
--- joining gives a longer path just where it is one
-joined_path : (p : Path) (name : List ℕ) → IsPath (p ++ name ∷ []) → joined p name ≡ Ok (p ++ name ∷ [])
-joined_path p name is =
-    let longer = p ++ name ∷ [] in
-    let short : ltb 4095 (length (text_of longer)) ≡ false = le-ltb 4095 (length (text_of longer)) is.size in
-    let shallow : ltb 64 (length longer) ≡ false = le-ltb 64 (length longer) is.depth in
-    rw (short, shallow, all_last p name is.names) refl
-
 other_fault : (fault : PathFault) (answer : Result Path PathFault) (path : Path) → IsUnless NoMemory (Err fault) answer → fault ≢ NoMemory → answer ≡ Ok path → ⊥
 other_fault fault answer path (inl lack) apart ok = apart lack
 other_fault fault answer path (inr is) apart ok = let wrong : Err fault ≡ Ok path = is ∙ ok in cc
 
-pub no_longer : {E : Type 0} (above : Path) (name : List ℕ) (fault : PathFault) (r : Result (Option Path) E) → IsUnless NoMemory (Err fault) (joined above name) → IfOk r (λ found. (found ≡ None) × (fault ≢ NoMemory)) → IfOk r (IsBelow above name)
-no_longer above name fault (Ok found) is none =
-    subst (λ (o : Option Path). IsBelow above name o) (sym none.0) (λ path. other_fault fault (joined above name) (above ++ name ∷ []) is none.1 (joined_path above name path))
-no_longer above name fault (Err e) is none = tt
+pub no_longer : (above : Path) (name : List ℕ) (fault : PathFault) → IsUnless NoMemory (Err fault) (joined above name) → fault ≢ NoMemory → IsBelow above name None
+no_longer above name fault is other = λ path. other_fault fault (joined above name) (above ++ name ∷ []) is other (joined_path above name path)
 
 -- ---- one step
 
@@ -92,9 +78,9 @@ pub stands_under : (at : Path) (rows : List Row) (top : ℕ) (parents : List ℕ
 stands_under at rows top parents placing i d q lt apart s = under top parents placing s i d lt apart refl
 
 -- a row stands nowhere above the place
-pub not_above : {at : Path} {rows : List Row} {r : Row} {q : Path} → StandsAt at rows r q → length at ≤ length q
-not_above (root has is) = omega arith
-not_above {r = r} (below {q = q} has other s child) = omega (arith, not_above s, length-append q (r.name ∷ []))
+pub stands_long : {at : Path} {rows : List Row} {r : Row} {q : Path} → StandsAt at rows r q → length at ≤ length q
+stands_long (root has is) = omega arith
+stands_long {r = r} (below {q = q} has other s child) = omega (arith, stands_long s, length-append q (r.name ∷ []))
 
 -- the root row stands at the place
 pub root_stands : (at : Path) (rows : List Row) (top : ℕ) (parents : List ℕ) (i left : ℕ) → IsPath at → IsPlacing at rows top parents → i ≡ top → (path : Path) → path ≡ at → IsPathOf at rows i left (Some path)
@@ -110,7 +96,7 @@ root_stands at rows top parents i left place placing same path is = (
 pub none_left : (at : Path) (rows : List Row) (top : ℕ) (parents : List ℕ) (i left : ℕ) → IsPlacing at rows top parents → i < length rows → i ≢ top → left ≡ 0 → IsPathOf at rows i left None
 none_left at rows top parents i left placing lt apart none d q s is =
     let u = stands_under at rows top parents placing i d q lt apart s in
-    omega (arith, not_above (u.stands d), ap length (u.is d), length-append u.above ((get_or rows i d).name ∷ []))
+    omega (arith, stands_long (u.stands d), ap length (u.is d), length-append u.above ((get_or rows i d).name ∷ []))
 
 some_row : (rows : List Row) (i : ℕ) → i < length rows → Row
 some_row [] i lt = absurd (omega arith)

@@ -12,7 +12,7 @@ use crate::row_fault::RowFault;
 use crate::row_kind::RowKind;
 use cv_base::{
     Attr, MODE_LIMIT, NoMemory, OBJECT_LIMIT, PATH_LIMIT, PATH_NAME_LIMIT, PathKey, RepoPath,
-    TARGET_LIMIT, Target, is_path_name, split_u16, split_u32, split_u64,
+    TARGET_LIMIT, Target, is_path_name, split_bytes, split_u16, split_u32, split_u64,
 };
 use std::alloc::Global;
 
@@ -48,10 +48,7 @@ pub fn read_u64(text: &[u8]) -> Result<(u64, &[u8]), RowFault>
 pub fn read_bytes(text: &[u8], len: usize) -> Result<(&[u8], &[u8]), RowFault>
     ensures { Gives (λ x. (x.0.now, x.1.now)) result (bytes_at Short len text.now) }
 {
-    if text.len() < len {
-        return Err(RowFault::Short);
-    }
-    Ok(text.split_at(len))
+    split_bytes(text, len).ok_or(RowFault::Short)
 }
 
 /// An array of bytes.

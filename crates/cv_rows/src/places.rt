@@ -9,12 +9,11 @@ ghost use Rattle.cv_rows.specs.Parents.{IsBelow};
 ghost use Rattle.cv_rows.specs.ParentsInner.{IsParentOf, AreParents, AreAbove, AreInside, IsPlacing, IsPathOf, HasPath};
 ghost use Rattle.cv_rows.specs.Faults.{IsFirst, IsOrphan, AllStand, AllFit};
 ghost use Rattle.cv_rows.specs.declared.limits.TheConstants.{ROW_LIMIT};
-ghost use Rattle.cv_base.specs.declared.path_fault.PathFault.TheVariants as faults;
 ghost use Rattle.cv_rows.specs.declared.row.Row.{Row as TheRow};
 
 use crate::row::Row;
 use crate::row_kind::RowKind;
-use cv_base::{NAMES_LIMIT, NoMemory, PathFault, PathName, RepoPath};
+use cv_base::{NAMES_LIMIT, NoMemory, PathName, RepoPath};
 use std::alloc::Global;
 
 /// So many doublings make 65,536 steps, which are more than there are rows.
@@ -256,16 +255,6 @@ pub fn places_of(alloc: Global, at: &RepoPath, rows: &[Row]) -> Result<Vec<RepoP
     Ok(paths)
 }
 
-/// No path where a name breaks the limits of a path.
-fn none_unless_memory(fault: PathFault) -> Result<Option<RepoPath>, NoMemory>
-    ensures { IfOk result (λ found. (found ≡ None) × (fault ≢ faults.NoMemory)) }
-{
-    match fault {
-        PathFault::NoMemory => Err(NoMemory),
-        _ => Ok(None),
-    }
-}
-
 /// A path with one more name, unless that passes the limits of a path.
 pub fn below(alloc: Global, above: &RepoPath, name: &str) -> Result<Option<RepoPath>, NoMemory>
     ensures { IfOk result (IsBelow above.now name.now) }
@@ -279,7 +268,10 @@ fn further(alloc: Global, above: RepoPath, name: &str) -> Result<Option<RepoPath
 {
     match above.with_name(alloc, name) {
         Ok(path) => Ok(Some(path)),
-        Err(fault) => none_unless_memory(fault),
+        Err(fault) => {
+            fault.unless_memory()?;
+            Ok(None)
+        }
     }
 }
 

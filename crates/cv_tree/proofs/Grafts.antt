@@ -3,9 +3,9 @@ use Rattle.std.proofs.Common.{◌≡◌, ◌||◌, true, false, cond, List, ℕ,
 use Rattle.std.specs.Prelude.{IfSome}
 use Rattle.std.specs.declared.option.Option.TheVariants.{None, Some}
 use Rattle.std.specs.FinMap.{empty, get, get-empty, same_map}
-use Rattle.cv_base.specs.Path.{Path, path_cmp, behind, covers, overlap}
+use Rattle.cv_base.specs.Path.{Path, path_cmp, covers, overlap}
 use Rattle.cv_base.specs.PathOrder.{path_total, path_exact}
-use Rattle.cv_base.proofs.Laws.{behind-append, behind-Some}
+use Rattle.cv_base.proofs.Laws.{not_before}
 use Rattle.cv_tree.specs.Tree.{Nodes, is_directory, HasParents, IsPart, IsTree, at, put}
 use Rattle.cv_tree.specs.Changes.{has_place, nodes_of, subtree_of}
 use Rattle.cv_tree.proofs.Replacements.{get-at, kept-put}
@@ -68,16 +68,6 @@ ends (b ∷ q) = elim (ends q) [
   | below r a is ↦ below (b ∷ r) a (ap (λ (x : Path). b ∷ x) is)
 ]
 
--- what is covered stays so with more names
-pub covers-longer : (p q r : Path) → covers p q ≡ true → covers p (q ++ r) ≡ true
-covers-longer p q r h =
-    elim (behind p q) as (λ o. behind p q ≡ o → is_some o ≡ true → covers p (q ++ r) ≡ true) [
-      | None ↦ λ _ some. cc
-      | Some rest ↦ λ is _.
-          let longer : q ++ r ≡ p ++ (rest ++ r) = ap (λ (x : Path). x ++ r) (behind-Some p q rest is) ∙ append_assoc p rest r in
-          ap (covers p) longer ∙ ap is_some (behind-append p (rest ++ r))
-    ] refl h
-
 pub not_overlap : (p q : Path) → overlap p q ≡ false → (covers p q ≡ false) × (covers q p ≡ false)
 not_overlap p q h =
     elim (covers p q) as (λ b. (b || covers q p) ≡ false → (b ≡ false) × (covers q p ≡ false)) [
@@ -85,19 +75,12 @@ not_overlap p q h =
       | false ↦ λ e. (refl, e)
     ] h
 
-not_above : (p r s : Path) → covers p (r ++ s) ≡ false → covers p r ≡ false
-not_above p r s h =
-    elim (covers p r) as (λ b. covers p r ≡ b → b ≡ false) [
-      | true ↦ λ e. let longer = covers-longer p r s e in cc
-      | false ↦ λ _. refl
-    ] refl
-
 -- a replacement at p leaves a place to each path that doesn't overlap it
 pub has_place-put_apart : (t : Nodes) (p q : Path) (s : Nodes) → overlap p q ≡ false → has_place t q ≡ true → has_place (put t p s) q ≡ true
 has_place-put_apart t p q s apart place =
     elim (ends q) [
       | top is ↦ ap (has_place (put t p s)) is
       | below r a is ↦
-          let outside : covers p r ≡ false = not_above p r (a ∷ []) (ap (covers p) (sym is) ∙ (not_overlap p q apart).0) in
+          let outside : covers p r ≡ false = not_before p r (a ∷ []) (ap (covers p) (sym is) ∙ (not_overlap p q apart).0) in
           ap (has_place (put t p s)) is ∙ has_place-append (put t p s) r a ∙ ap is_directory (kept-put t p s r outside) ∙ sym (has_place-append t r a) ∙ ap (has_place t) (sym is) ∙ place
     ]

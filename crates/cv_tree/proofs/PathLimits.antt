@@ -5,10 +5,9 @@ use Rattle.std.specs.List.{list_all}
 use Rattle.std.proofs.lemmas.Bool.{and_parts}
 use Rattle.std.proofs.lemmas.List.Folds.{list_all-append}
 use Rattle.std.proofs.lemmas.List.Concat.{flat_map-append}
-use Rattle.std.specs.Cmp.{eq_by_cmp_equiv}
-use Rattle.std.specs.Cmp.Lexicographic.{pointwise, nat_list_cmp_total}
+use Rattle.std.specs.Cmp.Lexicographic.{pointwise}
 use Rattle.cv_base.specs.Path.{Path, text_of, is_path_name, behind, same_name, IsPath}
-use Rattle.cv_base.proofs.Laws.{behind-Some}
+use Rattle.cv_base.proofs.Laws.{behind-Some, same_name-symm}
 use Rattle.cv_base.specs.declared.path_fault.PathFault.TheVariants.{TooLong, TooDeep}
 use Rattle.cv_base.specs.PathText.{joined, within_limits, of_names}
 
@@ -29,15 +28,12 @@ IsPath-back p q h = record {
   size = let d = h.size in let e = size_of_both p q in omega arith;
 }
 
-symm : (a b : List ℕ) → same_name a b ≡ same_name b a
-symm a b = (eq_by_cmp_equiv nat_list_cmp_total).symm a b
-
 -- what is behind a path, as the code takes it from the names
 behind-names : (p q : Path) → behind p q ≡ cond (pointwise same_name (take (length p) q) p) (Some (drop (length p) q)) None
 behind-names [] q = refl
 behind-names (a ∷ p) [] = refl
 behind-names (a ∷ p) (b ∷ q) =
-    rw (symm a b) (elim (same_name b a) as (λ t. cond t (behind p q) None ≡ cond (t && pointwise same_name (take (length p) q) p) (Some (drop (length p) q)) None) [
+    rw (same_name-symm a b) (elim (same_name b a) as (λ t. cond t (behind p q) None ≡ cond (t && pointwise same_name (take (length p) q) p) (Some (drop (length p) q)) None) [
       | true ↦ behind-names p q
       | false ↦ refl
     ])

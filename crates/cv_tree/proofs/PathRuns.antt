@@ -9,8 +9,9 @@ use Rattle.std.specs.Cmp.{tied_itself}
 use Rattle.std.specs.Cmp.Lexicographic.{nat_list_cmp_total}
 use Rattle.std.specs.List.{AllByRecursion, filter}
 use Rattle.std.specs.Map.{keys_of}
-use Rattle.cv_base.specs.Path.{Path, name_cmp, path_cmp, same_name, behind, covers}
+use Rattle.cv_base.specs.Path.{Path, path_cmp, same_name, behind, covers}
 use Rattle.cv_base.specs.PathOrder.{path_total, name_exact, same_name_is, same_name_itself}
+use Rattle.cv_base.specs.BytesOrder.{bytes_cmp}
 use Rattle.cv_tree.specs.Tree.{entries_behind, cons_behind}
 
 -- ---- two paths
@@ -21,9 +22,9 @@ covers_before [] [] h = refl
 covers_before [] (b ∷ p) h = refl
 covers_before (a ∷ d) [] h = cc
 covers_before (a ∷ d) (b ∷ p) h =
-    elim (same_name a b) as (λ s. same_name a b ≡ s → is_some (cond s (behind d p) None) ≡ true → is_lt (ordering_then (name_cmp b a) (path_cmp p d)) ≡ false) [
+    elim (same_name a b) as (λ s. same_name a b ≡ s → is_some (cond s (behind d p) None) ≡ true → is_lt (ordering_then (bytes_cmp b a) (path_cmp p d)) ≡ false) [
       | true ↦ λ e more.
-          subst (λ (x : List ℕ). is_lt (ordering_then (name_cmp x a) (path_cmp p d)) ≡ false) (same_name_is a b e)
+          subst (λ (x : List ℕ). is_lt (ordering_then (bytes_cmp x a) (path_cmp p d)) ≡ false) (same_name_is a b e)
           (ap (λ o. is_lt (ordering_then o (path_cmp p d))) (tied_itself nat_list_cmp_total a) ∙ covers_before d p more)
       | false ↦ λ e more. cc
     ] refl h
@@ -36,8 +37,8 @@ covers_between (a ∷ p) [] (c ∷ r) from before h = cc
 covers_between (a ∷ p) (b ∷ q) (c ∷ r) from before h =
     elim (same_name a c) as (λ s. same_name a c ≡ s → is_some (cond s (behind p r) None) ≡ true → is_some (cond (same_name a b) (behind p q) None) ≡ true) [
       | true ↦ λ e more.
-          let here : ordering_then (name_cmp b a) (path_cmp q r) ≡ Less = ap (λ (x : List ℕ). ordering_then (name_cmp b x) (path_cmp q r)) (same_name_is a c e) ∙ before in
-          elim (name_cmp b a) as (λ o. name_cmp b a ≡ o → is_lt (ordering_then o (path_cmp q p)) ≡ false → ordering_then o (path_cmp q r) ≡ Less → is_some (cond (same_name a b) (behind p q) None) ≡ true) [
+          let here : ordering_then (bytes_cmp b a) (path_cmp q r) ≡ Less = ap (λ (x : List ℕ). ordering_then (bytes_cmp b x) (path_cmp q r)) (same_name_is a c e) ∙ before in
+          elim (bytes_cmp b a) as (λ o. bytes_cmp b a ≡ o → is_lt (ordering_then o (path_cmp q p)) ≡ false → ordering_then o (path_cmp q r) ≡ Less → is_some (cond (same_name a b) (behind p q) None) ≡ true) [
             | Less ↦ λ f g k. cc
             | Equal ↦ λ f g k. subst (λ (x : List ℕ). is_some (cond (same_name a x) (behind p q) None) ≡ true) (sym (name_exact b a f)) (rw (same_name_itself a) (covers_between p q r g k more))
             | Greater ↦ λ f g k. cc

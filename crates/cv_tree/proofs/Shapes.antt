@@ -9,7 +9,7 @@ use Rattle.cv_base.specs.Path.{Path, path_cmp, same_name, behind, parent, IsPath
 use Rattle.cv_base.specs.Unless.{IsUnless}
 use Rattle.cv_base.specs.PathOrder.{path_total, path_exact, same_name_is, same_path_is}
 use Rattle.cv_base.specs.declared.memory.NoMemory.{NoMemory as Lack}
-use Rattle.cv_base.proofs.Laws.{behind-Some}
+use Rattle.cv_base.proofs.Laws.{behind-Some, parent-append}
 use Rattle.cv_tree.specs.declared.node.Node.{Node}
 use Rattle.cv_tree.specs.declared.node.Node.TheVariants.{Dir}
 use Rattle.cv_tree.specs.declared.tree_fault.TreeFault.{TreeFault}
@@ -65,11 +65,6 @@ HasParents-put t p s ht hs parent q a some =
     ]
 
 -- ---- the parent of a path with one more name
-parent-append : (q : Path) (a : List ℕ) → parent (q ++ a ∷ []) ≡ q
-parent-append [] a = refl
-parent-append (b ∷ []) a = refl
-parent-append (b ∷ c ∷ q) a = ap (λ w. b ∷ w) (parent-append (c ∷ q) a)
-
 pub has_place-append : (t : Nodes) (q : Path) (a : List ℕ) → has_place t (q ++ a ∷ []) ≡ is_directory (get t q)
 has_place-append t [] a = refl
 has_place-append t (b ∷ q) a = ap (λ w. is_directory (get t w)) (parent-append (b ∷ q) a)
@@ -148,7 +143,7 @@ IsTree-placed (Ok x) old new p node h place alone ok err path good = rw ok (IsTr
 IsTree-placed (Err lack) old new p node h place alone ok err path good = rw err h
 
 -- ---- single nodes
-single_at : (node : Node) (q : Path) → get (single node) q ≡ cond (eq_by_cmp path_cmp q []) (Some node) None
+pub single_at : (node : Node) (q : Path) → get (single node) q ≡ cond (eq_by_cmp path_cmp q []) (Some node) None
 single_at node q = get-insert path_total empty [] node q ∙ ap (cond (eq_by_cmp path_cmp q []) (Some node)) (get-empty path_cmp q)
 
 pub IsPart-single : (node : Node) → IsNode node → IsPart (single node)
@@ -195,7 +190,7 @@ settable None h = record {
 }
 settable (Some s) h = record { parents = h.parents; nodes = h.nodes }
 
-some_directory : (o : Option Node) → is_directory o ≡ true → IsSome o
+pub some_directory : (o : Option Node) → is_directory o ≡ true → IsSome o
 some_directory None h = cc
 some_directory (Some node) h = refl
 

@@ -1,6 +1,6 @@
 use Rattle.std.proofs.Common.{refl, sym, subst}
 use Rattle.cv_cut.specs.Opening.{IsTransitionOf}
-use Rattle.cv_checkout.proofs.Steps.{transition_at}
+use Rattle.cv_cut.proofs.Lemmas.{transition_at}
 use Rattle.cv_checkout.proofs.naming.named.Goals as goal
 
 pub returns : goal.returns

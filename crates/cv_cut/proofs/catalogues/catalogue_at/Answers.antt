@@ -1,9 +1,10 @@
 use Rattle.std.proofs.Common.{ℕ, List, subst}
 use Rattle.std.specs.Option.{option_copied}
+use Rattle.cv_base.proofs.Laws.{left_by}
 use Rattle.cv_cut.specs.Reached.{Place}
 use Rattle.cv_cut.specs.Opening.{Opens}
 use Rattle.cv_cut.specs.OpeningInner.{Decoded}
-use Rattle.cv_cut.proofs.Opening.{left_by, opens_unread, opens}
+use Rattle.cv_cut.proofs.Opening.{opens_unread, opens}
 use Rattle.cv_cut.proofs.catalogues.catalogue_at.Goals as goal
 
 pub returns-in_err-bytes-clause-told : goal.returns-in_err-bytes-clause-told

@@ -1,6 +1,7 @@
 use Rattle.std.proofs.Common.{◌∙◌}
+use Rattle.cv_base.proofs.Laws.{left_by}
 use Rattle.cv_cut.specs.Opening.{OpensNested}
-use Rattle.cv_cut.proofs.Opening.{left_by, nested_unsized, opens_found, nested_long}
+use Rattle.cv_cut.proofs.Opening.{nested_unsized, opens_found, nested_long}
 use Rattle.cv_cut.proofs.catalogues.nested_catalogue.Goals as goal
 
 pub returns-in_err-check_size-clause-told : goal.returns-in_err-check_size-clause-told

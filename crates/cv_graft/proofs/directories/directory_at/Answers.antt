@@ -1,5 +1,5 @@
 use Rattle.std.proofs.Common.{inr}
-use Rattle.cv_cut.proofs.Lemmas.{left_by}
+use Rattle.cv_base.proofs.Laws.{left_by}
 use Rattle.cv_graft.specs.Way.{Tells}
 use Rattle.cv_graft.proofs.Finding.{cuts_way}
 use Rattle.cv_graft.proofs.directories.directory_at.Goals as goal

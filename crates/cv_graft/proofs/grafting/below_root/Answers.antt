@@ -2,6 +2,7 @@ use Rattle.std.proofs.Common.{length, Result, List, [], Ok, Err, ap, subst, ◌�
 use Rattle.cv_tree.proofs.Laws.{IsTree-put_at}
 use Rattle.cv_base.specs.declared.id.Kind.TheVariants.{Catalogue}
 use Rattle.cv_base.specs.declared.object.Object.{Object}
+use Rattle.cv_base.proofs.Laws.{left_by}
 use Rattle.cv_graft.specs.Both.{GraftsBoth}
 use Rattle.cv_graft.specs.Graft.{Grafts}
 use Rattle.cv_graft.proofs.Both.{grafted_top, refused_top, unread_both}
@@ -15,7 +16,6 @@ use Rattle.cv_graft.specs.declared.graft_fault.GraftFault.{GraftFault}
 use Rattle.cv_graft.proofs.grafting.below_root.Goals as goal
 use Rattle.cv_ports.proofs.Laws.{raised_both}
 use Rattle.cv_cut.specs.Above.{replaced}
-use Rattle.cv_cut.proofs.Lemmas.{left_by}
 
 pub returns-in_err-other-clause-taken : goal.returns-in_err-other-clause-taken
 returns-in_err-other-clause-taken g c = λ standing told t n way other.

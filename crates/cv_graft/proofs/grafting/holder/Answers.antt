@@ -1,6 +1,7 @@
 use Rattle.std.proofs.Common.{suc, length, Result, ap, ◌∙◌, arith}
 use Rattle.cv_graft.proofs.Finding.{from_top, some_count, some_long, raised_more, top_unread}
 use Rattle.std.specs.Prelude.{IfOk, IfErr}
+use Rattle.cv_base.proofs.Laws.{left_by}
 use Rattle.cv_rows.specs.Catalogue.{Contents}
 use Rattle.cv_cut.specs.declared.load_fault.LoadFault.{LoadFault}
 use Rattle.cv_graft.specs.Directories.{IsHolder}
@@ -10,7 +11,6 @@ use Rattle.cv_graft.proofs.Holders.{fails_top, holds_top, top_blamed}
 use Rattle.cv_graft.proofs.Grafts.{top_is, top_count}
 use Rattle.cv_graft.proofs.grafting.holder.Goals as goal
 use Rattle.cv_ports.specs.Calls.{raised_by}
-use Rattle.cv_cut.proofs.Lemmas.{left_by}
 
 pub returns-in_err-catalogue-clause-taken : goal.returns-in_err-catalogue-clause-taken
 returns-in_err-catalogue-clause-taken g c = λ standing told n way. (1, some_count n c.args.path.now c.requires.path, c.in_err-catalogue.ensures.taken)

@@ -1,4 +1,5 @@
 use Rattle.std.proofs.Common.{refl, map, Result, subst, ◌∙◌, arith}
+use Rattle.cv_base.proofs.Laws.{left_by}
 use Rattle.cv_rows.specs.Catalogue.{Contents}
 use Rattle.cv_cut.specs.Cut.{catalogue_object}
 use Rattle.cv_graft.specs.MakesInner.{Remakes}
@@ -13,7 +14,6 @@ use Rattle.cv_graft.proofs.Finding.{none_or_one, one_more, none_holds, step_unre
 use Rattle.cv_graft.proofs.Makes.{fault_remakes, remade_above, remade_here, unread_remakes}
 use Rattle.cv_graft.proofs.PlacedAbove.{asked_part, passed_part, set_above, set_fault, unread_set}
 use Rattle.cv_graft.proofs.placing.+rebuilt_with.Goals as goal
-use Rattle.cv_cut.proofs.Lemmas.{left_by}
 
 pub returns-in_default-clause-told : goal.returns-in_default-clause-told
 returns-in_default-clause-told g m c = λ standing told hash t r way after w is.

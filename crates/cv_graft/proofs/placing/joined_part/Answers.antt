@@ -1,6 +1,7 @@
 use Rattle.std.proofs.Common.{◌≤◌, List, [], ◌++◌, map, ap, sym, subst, ◌∙◌}
 use Rattle.std.specs.List.{All, AllByRecursion, filter}
 use Rattle.cv_base.specs.Path.{Path}
+use Rattle.cv_base.proofs.Laws.{left_by}
 use Rattle.cv_tree.specs.declared.node.Node.{Node}
 use Rattle.cv_rows.specs.Made.{AreApart, keys_of, texts_of}
 use Rattle.cv_rows.specs.Nested.{IsNested}
@@ -8,7 +9,7 @@ use Rattle.cv_rows.specs.Row.{IsRow}
 use Rattle.cv_rows.specs.declared.nested.Nested.{Nested}
 use Rattle.cv_rows.specs.declared.row.Row.{Row}
 use Rattle.cv_cut.specs.Cut.{is_other, nested_in, row_in}
-use Rattle.cv_cut.proofs.Lemmas.{entries_spelled, left_by, rows_spelled}
+use Rattle.cv_cut.proofs.Lemmas.{entries_spelled, rows_spelled}
 use Rattle.cv_graft.specs.PlacedInner.{JoinsPart}
 use Rattle.cv_graft.specs.PlacedWay.{ArePathsCrossed, Rests}
 use Rattle.cv_graft.proofs.Crossing.{place_before}

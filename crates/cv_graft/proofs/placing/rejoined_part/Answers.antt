@@ -1,9 +1,9 @@
 use Rattle.std.proofs.Common.{Ok, Err, List, ◌++◌, map, refl, ap, ◌∙◌}
 use Rattle.cv_base.specs.Path.{Path}
+use Rattle.cv_base.proofs.Laws.{left_by}
 use Rattle.cv_cut.specs.Cut.{catalogue_object}
 use Rattle.cv_tree.specs.Tree.{at}
 use Rattle.cv_cut.specs.Catalogues.{contents_of}
-use Rattle.cv_cut.proofs.Lemmas.{left_by}
 use Rattle.std.proofs.Common.{Result}
 use Rattle.std.specs.Prelude.{IsErrOf}
 use Rattle.cv_graft.specs.MakesInner.{Rejoins}

@@ -1,4 +1,5 @@
 use Rattle.std.proofs.Common.{refl, [], Result, subst, ◌∙◌, arith}
+use Rattle.cv_base.proofs.Laws.{left_by}
 use Rattle.cv_rows.specs.Catalogue.{Contents}
 use Rattle.cv_graft.specs.Way.{HasNone, IsNext, TellsDamage}
 use Rattle.cv_graft.specs.JoinsInner.{Joins}
@@ -13,7 +14,6 @@ use Rattle.cv_graft.proofs.Finding.{none_or_one, one_more, none_holds, step_unre
 use Rattle.cv_graft.proofs.Rebuilds.{asked_of, above_of, above_made, upper_fault, unread_fault}
 use Rattle.cv_graft.proofs.rebuilding.+rebuilt.Goals as goal
 use Rattle.cv_cut.specs.Above.{replaced}
-use Rattle.cv_cut.proofs.Lemmas.{left_by}
 
 pub returns-in_default-clause-told : goal.returns-in_default-clause-told
 returns-in_default-clause-told g m c = λ standing told hash t n r way fits offered after w is.

@@ -1,4 +1,5 @@
 use Rattle.std.proofs.Common.{[], Ok, Err}
+use Rattle.cv_base.proofs.Laws.{left_by}
 use Rattle.cv_graft.specs.JoinsInner.{Joins}
 use Rattle.cv_graft.specs.MakesInner.{Rejoins}
 use Rattle.cv_graft.specs.WayInner.{Rebuilds}
@@ -6,7 +7,6 @@ use Rattle.cv_cut.specs.Catalogues.{contents_of}
 use Rattle.cv_graft.proofs.Rebuilds.{holder_made, holder_fault, joins_moved}
 use Rattle.cv_graft.proofs.rebuilding.rejoined.Goals as goal
 use Rattle.cv_cut.specs.Above.{replaced}
-use Rattle.cv_cut.proofs.Lemmas.{left_by}
 
 pub returns-in_err-joined-clause-made : goal.returns-in_err-joined-clause-made
 returns-in_err-joined-clause-made c = λ t n r d v asked is other.

@@ -5,10 +5,11 @@ use Rattle.cv_tree.proofs.Laws.{IsTree-put_at}
 use Rattle.cv_base.specs.declared.id.Kind.TheVariants.{Catalogue}
 use Rattle.cv_base.specs.declared.object.Object.{Object}
 use Rattle.cv_base.specs.Path.{Path}
+use Rattle.cv_base.proofs.Laws.{left_by}
 use Rattle.cv_tree.specs.Tree.{put}
 use Rattle.cv_tree.specs.Changes.{nodes_of}
 use Rattle.cv_cut.specs.Cut.{catalogue_object}
-use Rattle.cv_cut.proofs.Lemmas.{left_by, own_only, own_piece}
+use Rattle.cv_cut.proofs.Lemmas.{own_only, own_piece}
 use Rattle.cv_graft.specs.Placed.{Places}
 use Rattle.cv_graft.specs.PlacedInner.{IsSet}
 use Rattle.cv_graft.specs.PlacedWay.{PlacesOnWay}

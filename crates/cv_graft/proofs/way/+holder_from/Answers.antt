@@ -1,4 +1,5 @@
 use Rattle.std.proofs.Common.{refl, Result, subst, ◌∙◌, arith}
+use Rattle.cv_base.proofs.Laws.{left_by}
 use Rattle.cv_rows.specs.Catalogue.{Contents}
 use Rattle.cv_graft.specs.DirectoriesInner.{HoldsFrom}
 use Rattle.cv_graft.specs.Way.{HasNone, IsNext}
@@ -8,7 +9,6 @@ use Rattle.cv_cut.specs.declared.load_fault.LoadFault.{LoadFault}
 use Rattle.cv_graft.proofs.Nexts.{above_shorter, next_shorter}
 use Rattle.cv_graft.proofs.Finding.{none_or_one, one_more, none_holds, step_unread, step_down, step_taken, more_than_one, at_most_below}
 use Rattle.cv_graft.proofs.way.+holder_from.Goals as goal
-use Rattle.cv_cut.proofs.Lemmas.{left_by}
 
 pub returns-in_default-clause-told : goal.returns-in_default-clause-told
 returns-in_default-clause-told g t c = λ standing told hash n r way w is.

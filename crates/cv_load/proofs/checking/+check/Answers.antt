@@ -1,5 +1,6 @@
 use Rattle.std.proofs.Common.{List, [], ◌∷◌, ◌++◌, length, sym, ap, ◌∙◌, arith, inr}
 use Rattle.cv_base.specs.Path.{Path}
+use Rattle.cv_base.proofs.Laws.{left_by}
 use Rattle.cv_rows.specs.declared.nested.Nested.{Nested}
 use Rattle.cv_load.specs.KnownInner.{ChecksFrom}
 use Rattle.cv_load.proofs.Growing.{item_of}
@@ -8,7 +9,6 @@ use Rattle.cv_load.proofs.Listing.{lists_none, lists_known, lists_more, lists_al
 use Rattle.cv_load.proofs.NewFetching.{new_none, new_ended, new_opened, new_all}
 use Rattle.cv_load.proofs.NewPairs.{added_none, added_known, added_more, added_all}
 use Rattle.cv_load.proofs.checking.+check.Goals as goal
-use Rattle.cv_cut.proofs.Lemmas.{left_by}
 
 pub loop-nested-preserved-then-is_known : goal.loop-nested-preserved-then-is_known
 loop-nested-preserved-then-is_known g t c =

@@ -1,10 +1,9 @@
 use Rattle.std.proofs.Common.{List, ◌∙◌, subst}
 use Rattle.std.specs.Prelude.{Contains}
+use Rattle.cv_base.proofs.Laws.{item_there, left_by}
 use Rattle.cv_rows.specs.declared.row.Row.{Row}
 use Rattle.cv_load.specs.GrowthInner.{HasFiles}
-use Rattle.cv_load.proofs.Growing.{item_there}
 use Rattle.cv_load.proofs.files.check_files.Goals as goal
-use Rattle.cv_cut.proofs.Lemmas.{left_by}
 use Rattle.cv_load.proofs.Sizing.{file_unsized}
 
 pub returns-in_err-check_file-clause-told : goal.returns-in_err-check_file-clause-told

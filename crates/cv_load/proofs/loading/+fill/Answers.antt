@@ -1,6 +1,7 @@
 use Rattle.std.proofs.Common.{List, length, Ok, Err, Result, sym, ap, subst, ◌∙◌, arith, rules}
 use Rattle.std.specs.Prelude.{Contains}
 use Rattle.cv_base.specs.Path.{Path}
+use Rattle.cv_base.proofs.Laws.{left_by}
 use Rattle.cv_rows.specs.declared.nested.Nested.{Nested}
 use Rattle.cv_cut.specs.declared.load_fault.LoadFault.{LoadFault}
 use Rattle.cv_load.specs.GrowthInner.{FillsFrom, IsClear, ChangesBelow}
@@ -10,7 +11,6 @@ use Rattle.cv_load.proofs.Filling.{fills_none, fills_unopened, fills_more, fills
 use Rattle.cv_load.proofs.Clearing.{clear_first, clear_more, grows_within, changes_more}
 use Rattle.cv_load.proofs.Fetching.{first_none, first_unopened, first_opened, first_all}
 use Rattle.cv_load.proofs.loading.+fill.Goals as goal
-use Rattle.cv_cut.proofs.Lemmas.{left_by}
 
 pub returns-in_err-check_files-clause-fetches : goal.returns-in_err-check_files-clause-fetches
 returns-in_err-check_files-clause-fetches g t c = λ standing told.

@@ -1,4 +1,5 @@
 use Rattle.std.proofs.Common.{Ok, ◌∙◌, subst}
+use Rattle.cv_base.proofs.Laws.{left_by}
 use Rattle.cv_tree.specs.Tree.{IsTree}
 use Rattle.cv_load.specs.Answers.{Loads}
 use Rattle.cv_load.proofs.LoadedTree.{loads_unopened, loads_unfilled, loads_whole, loads_all}
@@ -6,7 +7,6 @@ use Rattle.cv_load.proofs.Clearing.{root_clear}
 use Rattle.cv_load.proofs.Fetching.{once_unopened, once_opened, root_opened}
 use Rattle.cv_load.proofs.CutFetches.{cuts_fetched}
 use Rattle.cv_load.proofs.loading.load.Goals as goal
-use Rattle.cv_cut.proofs.Lemmas.{left_by}
 
 pub returns-in_err-catalogue-clause-told : goal.returns-in_err-catalogue-clause-told
 returns-in_err-catalogue-clause-told g c = λ standing told.

@@ -1,14 +1,15 @@
 use Rattle.std.proofs.Common.{◌≡◌, ◌∷◌, [], length, length-append, IsSome, sym, ap, subst, ◌∙◌, arith, rules}
 use Rattle.std.specs.FinMap.{get}
 use Rattle.cv_base.specs.Path.{Path, parent}
+use Rattle.cv_tree.proofs.Laws.{some_directory}
 use Rattle.cv_load.proofs.Growing.{grows_added, grows_more, parent_of, parent_by_key, stands_at_place}
-use Rattle.cv_load.proofs.Clearing.{directory_some, ready_grown, place_below}
+use Rattle.cv_load.proofs.Clearing.{ready_grown, place_below}
 use Rattle.cv_load.proofs.placing.+place.Goals as goal
 
 pub returns-then-names-clause-there : goal.returns-then-names-clause-there
 returns-then-names-clause-there t c =
     let same = ap length (sym c.names.ensures.names) ∙ c.if-names.true ∙ ap length (c.names-2.ensures.names ∙ c.at.ensures) in
-    subst (λ (p : Path). IsSome (get c.args.tree.now p)) (sym (stands_at_place c.args.catalogue.now c.args.row.now c.args.path.now c.requires.stands same)) (directory_some _ c.requires.ready.directory)
+    subst (λ (p : Path). IsSome (get c.args.tree.now p)) (sym (stands_at_place c.args.catalogue.now c.args.row.now c.args.path.now c.requires.stands same)) (some_directory _ c.requires.ready.directory)
 
 pub returns-in_err-add-clause-grows : goal.returns-in_err-add-clause-grows
 returns-in_err-add-clause-grows t c =

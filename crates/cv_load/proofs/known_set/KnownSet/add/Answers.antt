@@ -1,11 +1,12 @@
 use Rattle.std.proofs.Common.{None, Some, subst, rules}
 use Rattle.std.specs.BTreeMap as tree
 use Rattle.cv_base.specs.Path.{Path, path_cmp}
-use Rattle.cv_load.proofs.Knowing.{Paths, on_ok, on_err, first_hash, pair_added, pair_kept}
+use Rattle.cv_base.proofs.Laws.{OnOk-map}
+use Rattle.cv_load.proofs.Knowing.{Paths, on_err, first_hash, pair_added, pair_kept}
 use Rattle.cv_load.proofs.known_set.KnownSet.add.Goals as goal
 
 pub returns-in-Some-clause-added : goal.returns-in-Some-clause-added
-returns-in-Some-clause-added c = on_ok c.add_hash.result
+returns-in-Some-clause-added c = OnOk-map c.add_hash.result
     (pair_added c.args.self.now.paths (c.get_mut.follows.lender c.add_hash.new.hashes) c.args.path.now (Some c.in-Some.hashes.now) c.add_hash.new.hashes c.in-Some.ensures.value ((c.get_mut.follows.holds c.add_hash.new.hashes).3 (search rules)) c.args.hash)
     c.add_hash.ensures.added
 

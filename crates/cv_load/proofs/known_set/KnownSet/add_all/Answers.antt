@@ -1,8 +1,9 @@
 use Rattle.std.proofs.Common.{◌≡◌, ◌<◌, ℕ, true, List, get_or, sym, subst, ◌∙◌, inl, inr, arith}
 use Rattle.cv_base.specs.Path.{Path}
 use Rattle.cv_base.specs.declared.id.ObjectId.{ObjectId}
+use Rattle.cv_base.proofs.Laws.{item_there}
 use Rattle.cv_load.specs.Known.{is_known}
-use Rattle.cv_load.proofs.Growing.{each_more, each_all, item_there}
+use Rattle.cv_load.proofs.Growing.{each_more, each_all}
 use Rattle.cv_load.proofs.Knowing.{with_pair_is, with_pair_itself, with_pair_kept}
 use Rattle.cv_load.proofs.known_set.KnownSet.add_all.Goals as goal
 

@@ -1,13 +1,14 @@
 use Rattle.std.proofs.Common.{arith, ap, length, length-drop, ◌∙◌, ◌≤◌, ◌-◌, sym}
 use Rattle.std.specs.Prelude.{Some}
+use Rattle.cv_base.proofs.Laws.{rest_all}
 use Rattle.cv_ports.specs.Memory.{SourceView}
-use Rattle.cv_ports.proofs.Pieces.{given, given_more, rest_of}
+use Rattle.cv_ports.proofs.Pieces.{given, given_more}
 use Rattle.cv_ports.proofs.memory_source.MemorySourceSource.read.Goals as goal
 
 pub returns-clause-gives : goal.returns-clause-gives
 returns-clause-gives c =
     let bytes = c.self.inside.bytes.items in
-    let size = ap length (rest_of bytes c.self.inside.given) ∙ length-drop c.self.inside.given bytes in
+    let size = ap length (rest_all bytes c.self.inside.given) ∙ length-drop c.self.inside.given bytes in
     let first = rw c.deref.ensures.value at c.min.ensures in
     let fits : c.min-count.result ≤ length c.self.inside.bytes.items - c.self.inside.given = omega (arith, size, first) in
     rw (c.copy_from_slice.ensures.after, c.deref.ensures.value)
@@ -16,7 +17,7 @@ returns-clause-gives c =
 pub returns-clause-given : goal.returns-clause-given
 returns-clause-given c =
     let bytes = c.self.inside.bytes.items in
-    let size = ap length (rest_of bytes c.self.inside.given) ∙ length-drop c.self.inside.given bytes in
+    let size = ap length (rest_all bytes c.self.inside.given) ∙ length-drop c.self.inside.given bytes in
     let first = rw c.deref.ensures.value at c.min.ensures in
     let fits : c.min-count.result ≤ length c.self.inside.bytes.items - c.self.inside.given = omega (arith, size, first) in
     rw (c.copy_from_slice.ensures.after, c.deref.ensures.value, ← c.self.view_is)

@@ -1,5 +1,6 @@
 use Rattle.std.specs.Prelude.{IsErrAnd}
 use Rattle.std.proofs.Common.{List, ◌++◌, Result, Ok, Err, sym, ap, subst, ◌∙◌, ◌≡◌, arith, length}
+use Rattle.cv_base.proofs.Laws.{all_append}
 use Rattle.cv_rows.specs.Row.{IsRow}
 use Rattle.cv_rows.specs.Nested.{IsNested}
 use Rattle.cv_rows.specs.Catalogue.{Contents, IsRegion}
@@ -10,15 +11,15 @@ use Rattle.cv_rows.specs.declared.nested.Nested.{Nested}
 use Rattle.cv_rows.specs.declared.with_fault.WithFault.{WithFault}
 use Rattle.cv_rows.specs.declared.with_fault.WithFault.TheVariants as fault
 use Rattle.cv_rows.proofs.Regions.{full_is}
-use Rattle.cv_rows.proofs.Checked.{spelled_both, few, few_entries, checked_is, region_unbroken}
+use Rattle.cv_rows.proofs.Checked.{few, few_entries, checked_is, region_unbroken}
 use Rattle.cv_rows.proofs.OneFault.{said}
 use Rattle.cv_rows.proofs.catalogue.Catalogue.with_checked.Goals as goal
 
 pub extend-requires-clause-spelled : goal.extend-requires-clause-spelled
-extend-requires-clause-spelled c = λ apart. spelled_both IsRow _ _ c.self.invariant.region.spelled c.requires.spelled
+extend-requires-clause-spelled c = λ apart. all_append IsRow _ _ c.self.invariant.region.spelled c.requires.spelled
 
 pub extend-requires-clause-nested_spelled : goal.extend-requires-clause-nested_spelled
-extend-requires-clause-nested_spelled c = λ apart. spelled_both IsNested _ _ c.self.invariant.region.nested_spelled c.requires.nested_spelled
+extend-requires-clause-nested_spelled c = λ apart. all_append IsNested _ _ c.self.invariant.region.nested_spelled c.requires.nested_spelled
 
 full_left : {X : Type 0} (rows : List Row) (nested : List Nested) (r : Result X WithFault) (f : WithFault) → IsErrAnd r (λ e. e ≡ f) → Judges rows nested (Err f) → r ≡ Err fault.Full → AreApart (keys_of rows) × PassesLimit rows nested
 full_left rows nested (Ok x) f same judged is = absurd same
@@ -52,7 +53,7 @@ pub invariant_of-result : goal.invariant_of-result
 invariant_of-result c =
     let e = c.in_ok-extend.ensures in
     checked_is c.self.inside.at c.extend.new.rows.items c.rows_by_key-rows.result.items c.extend.new.nested.items c.nested_by_text-nested.result.items
-    (rw e.rows (spelled_both IsRow _ _ c.self.invariant.region.spelled c.requires.spelled)) (rw e.nested (spelled_both IsNested _ _ c.self.invariant.region.nested_spelled c.requires.nested_spelled))
+    (rw e.rows (all_append IsRow _ _ c.self.invariant.region.spelled c.requires.spelled)) (rw e.nested (all_append IsNested _ _ c.self.invariant.region.nested_spelled c.requires.nested_spelled))
     (rw (e.rows, e.nested) e.judges.1) c.rows_by_key-rows.ensures.permutation c.nested_by_text-nested.ensures.permutation
     (rw (sym c.deref.ensures.value, sym c.deref-2.ensures.value) c.in-Ok.ensures)
 
@@ -60,7 +61,7 @@ pub returns-in-Ok-clause-rules : goal.returns-in-Ok-clause-rules
 returns-in-Ok-clause-rules c =
     let e = c.in_ok-extend.ensures in
     checked_is c.self.inside.at c.extend.new.rows.items c.rows_by_key-rows.result.items c.extend.new.nested.items c.nested_by_text-nested.result.items
-    (rw e.rows (spelled_both IsRow _ _ c.self.invariant.region.spelled c.requires.spelled)) (rw e.nested (spelled_both IsNested _ _ c.self.invariant.region.nested_spelled c.requires.nested_spelled))
+    (rw e.rows (all_append IsRow _ _ c.self.invariant.region.spelled c.requires.spelled)) (rw e.nested (all_append IsNested _ _ c.self.invariant.region.nested_spelled c.requires.nested_spelled))
     (rw (e.rows, e.nested) e.judges.1) c.rows_by_key-rows.ensures.permutation c.nested_by_text-nested.ensures.permutation
     (rw (sym c.deref.ensures.value, sym c.deref-2.ensures.value) c.in-Ok.ensures)
 
