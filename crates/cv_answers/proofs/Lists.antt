@@ -1,7 +1,7 @@
 -- Values that are read one after another.
 use Rattle.std.proofs.Common.{◌≡◌, ℕ, ◌+◌, ◌<◌, List, [], ◌∷◌, ◌++◌, length, map, get_or, take, drop, Option, Some, Result, Ok, Err, inl, inr, refl, sym, ap, ◌∙◌, append_assoc}
 use Rattle.std.specs.Result.{IsErrAnd, result_map_both}
-use Rattle.std.proofs.lemmas.List.{map-append, take_more, drop_more}
+use Rattle.std.proofs.lemmas.List.{map-append, take_more}
 use Rattle.serde_json.specs.Data.{Data}
 use Rattle.serde_json.specs.Find.{as_array}
 use Rattle.serde_json.specs.View.{view, items_of}
@@ -9,6 +9,7 @@ use Rattle.serde_json.specs.declared.value.Value.{Value}
 use Rattle.cv_json.proofs.Laws.{elements-items_of}
 use Rattle.cv_base.specs.Sequence.{◌>>=◌}
 use Rattle.cv_base.specs.Unless.{IsUnless}
+use Rattle.cv_base.proofs.Laws.{drop_is}
 use Rattle.cv_answers.specs.AnswerText.{each_of, array_member}
 use Rattle.cv_messages.specs.declared.message_fault.MessageFault.{MessageFault}
 use Rattle.cv_messages.specs.declared.message_fault.MessageFault.TheVariants.{NoMemory}
@@ -21,10 +22,6 @@ behind before later = later >>= λ xs. Ok (before ++ xs)
 behind-one : {A : Type 0} (before : List A) (x : A) (later : Result (List A) MessageFault) → behind before (later >>= λ xs. Ok (x ∷ xs)) ≡ behind (before ++ x ∷ []) later
 behind-one before x (Ok xs) = ap Ok (sym (append_assoc before (x ∷ []) xs))
 behind-one before x (Err fault) = refl
-
--- what is left of a list begins with the element of its place
-drop_is : (vs : List Value) (i : ℕ) (v : Value) → i < length vs → v ≡ get_or vs i v → drop i vs ≡ v ∷ drop (i + 1) vs
-drop_is vs i v below is = drop_more vs i v below ∙ ap (λ w. w ∷ drop (i + 1) vs) (sym is)
 
 -- one value more was read
 pub behind-more : {A : Type 0} (says : Data → Result A MessageFault) (vs : List Value) (i : ℕ) (v : Value) (x : A) (before after : List A) (all : Result (List A) MessageFault)

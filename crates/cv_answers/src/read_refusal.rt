@@ -9,7 +9,7 @@ ghost use Rattle.cv_answers.specs.Refusal.{id_of, name_member, object_member, pa
 
 use crate::reason::Reason;
 use crate::refusal::Refusal;
-use cv_base::{ObjectId, PathFault, RepoPath};
+use cv_base::{ObjectId, RepoPath};
 use cv_messages::{Member, MessageFault, digest_member, number_member, text_member};
 use serde_json::Value;
 use std::alloc::Global;
@@ -126,7 +126,9 @@ fn path_member(
     let text = text_member(value, key, name)?;
     match RepoPath::read(alloc, text) {
         Ok(path) => Ok(path),
-        Err(PathFault::NoMemory) => Err(MessageFault::NoMemory),
-        Err(_) => Err(MessageFault::BadValue(name)),
+        Err(fault) => {
+            fault.unless_memory()?;
+            Err(MessageFault::BadValue(name))
+        }
     }
 }

@@ -3,6 +3,7 @@ use Rattle.std.proofs.Common.{◌≡◌, ℕ, zero, suc, List, [], ◌∷◌, �
 use Rattle.std.specs.Prelude.{Vec, Option, Some, None, Result, Ok, Err}
 use Rattle.sha1.specs.Sha1.{sha1}
 use Rattle.cv_base.specs.declared.id.ObjectId.{ObjectId}
+use Rattle.cv_base.proofs.Laws.{some_same}
 use Rattle.cv_ports.specs.Shelf.{Shelf}
 use Rattle.cv_history.specs.Record.{Spells, record_bytes}
 use Rattle.cv_history.specs.Chain.{id_before, StandsAt, Chain, IsAmiss, Breaks, Gives, IsList, IsBroken}
@@ -10,9 +11,6 @@ use Rattle.cv_history.specs.declared.chain_fault.ChainFault.{ChainFault}
 use Rattle.cv_history.specs.declared.chain_fault.ChainFault.TheVariants.{Missing, BadRecord, BadLink, Failed, Damaged, NoMemory}
 use Rattle.cv_history.specs.declared.record.Record.{Record}
 use Rattle.cv_history.proofs.Spelling.{one_record}
-
-some_same : (o : Option (List ℕ)) (x y : List ℕ) → o ≡ Some x → o ≡ Some y → x ≡ y
-some_same o x y h k = cc
 
 none_some : (o : Option (List ℕ)) (x : List ℕ) → o ≡ None → o ≡ Some x → ⊥
 none_some o x h k = cc

@@ -10,18 +10,13 @@ use Rattle.cv_base.specs.Digest.{IsDigest}
 use Rattle.cv_base.specs.Fields.{accepted, number_at, bytes_at, Takes}
 use Rattle.cv_base.specs.declared.limits.TheConstants.{LAST_TIME}
 use Rattle.cv_base.specs.declared.token.Token.{Token}
-use Rattle.cv_base.proofs.Laws.{bind_ok, guard_ended, accepted_ok, Takes-then, wide16, wide64, number_takes, number_again, bytes_take, bytes_again}
+use Rattle.cv_base.proofs.Laws.{bind_ok, guard_ended, accepted_ok, Takes-then, wide16, wide64, number_takes, number_again, bytes_take, bytes_again, bytes_eq-own, ok_is}
 use Rattle.cv_history.specs.Reading.{Read, bad, right_at, where_first, is_format, is_revision, revision_at, hash_at, count_at, token_at, time_at, size_at, text_at}
 use Rattle.cv_history.specs.declared.record_fault.RecordFault.{RecordFault}
 use Rattle.cv_history.specs.declared.record_fault.RecordFault.TheVariants.{BadRecord}
-use Rattle.cv_history.proofs.TextValues.{bytes_eq_self}
 
 abbrev pub done : {A : Type 0} → A → Result A RecordFault
 done x = Ok x
-
--- an answer that is no fault tells its value
-pub ok_is : {A : Type 0} (x y : A) → done x ≡ done y → x ≡ y
-ok_is x y e = cc
 
 -- the value of a step that did not fail, for what follows
 pub bind_then : {A B : Type 0} (read : Result A RecordFault) (next : A → Result B RecordFault) (y : B) (Found : Type 0) → (read >>= next) ≡ Ok y → ((x : A) → read ≡ Ok x → next x ≡ Ok y → Found) → Found
@@ -60,7 +55,7 @@ revision_again all n rest small is =
     let after : List ℕ = to_be_bytes w64 n ++ rest in
     let text : List ℕ = codes "CVH1" ++ after in
     rw (
-      right_again all text is_format (bytes_at (BadRecord all) 4 text) (codes "CVH1") after (bytes_again (BadRecord all) 4 (codes "CVH1") after refl) (bytes_eq_self (codes "CVH1")),
+      right_again all text is_format (bytes_at (BadRecord all) 4 text) (codes "CVH1") after (bytes_again (BadRecord all) 4 (codes "CVH1") after refl) (bytes_eq-own (codes "CVH1")),
       right_again all after is_revision (number_at (BadRecord all) w64 after) n rest (number_again (BadRecord all) w64 (2 ^ 64) wide64 n rest small) is,
     ) refl
 

@@ -17,14 +17,14 @@ use Rattle.cv_base.specs.Unless.{IsUnless}
 use Rattle.cv_base.specs.declared.limits.TheConstants.{KEY_ID_LIMIT, LAST_REVISION, LAST_TIME, TAG_LIMIT}
 use Rattle.cv_base.specs.declared.repo_path.TheConstants.{PATH_LIMIT}
 use Rattle.cv_base.specs.declared.token.Token.{Token}
-use Rattle.cv_base.proofs.Laws.{guard_ended, bytes_again, path_named-own, path_named-is}
+use Rattle.cv_base.proofs.Laws.{guard_ended, bytes_again, path_named-own, path_named-is, bytes_itself, ok_is}
 use Rattle.cv_history.specs.Record.{IsFirst, IsRecord, IsTyped, Spells, no_hash, is_tag_byte}
 use Rattle.cv_history.specs.Reading.{bad, where_first, limit_of, is_revision, revision_at, hash_at, token_at, time_at, path_at, key_at, tag_of, tag_at, record_of}
 use Rattle.cv_history.specs.declared.record.Record.{Record}
 use Rattle.cv_history.specs.declared.record_fault.RecordFault.{RecordFault}
 use Rattle.cv_history.specs.declared.record_fault.RecordFault.TheVariants.{BadRecord, NoMemory}
-use Rattle.cv_history.proofs.FieldLaws.{ok_is, bind_then, revision_takes, revision_again, root_takes, hash_takes, hash_again, IsToken, token_takes, token_again, time_takes, time_again, text_takes, text_again}
-use Rattle.cv_history.proofs.TextValues.{bytes_eq_self, target_is, target_again, tag_is, tag_again}
+use Rattle.cv_history.proofs.FieldLaws.{bind_then, revision_takes, revision_again, root_takes, hash_takes, hash_again, IsToken, token_takes, token_again, time_takes, time_again, text_takes, text_again}
+use Rattle.cv_history.proofs.TextValues.{target_is, target_again, tag_is, tag_again}
 
 -- a record as its fields may stand
 record HasFields (first : Bool) (r : Record) : Type 0 where
@@ -70,9 +70,6 @@ no_names : (path : Path) → length (text_of path) ≡ 0 → path ≡ []
 no_names [] h = refl
 no_names (name ∷ path) h = absurd (omega arith)
 
-same_test : (a b : List ℕ) → a ≡ b → bytes_eq a b ≡ true
-same_test a b e = ap (λ (l : List ℕ). bytes_eq l b) e ∙ bytes_eq_self b
-
 is_first : (r : Record) → IsRecord r → (r.revision == 1) ≡ true → IsFirst r
 is_first r h e = h.first (eqb-true r.revision 1 e)
 
@@ -82,10 +79,10 @@ fields_of r t h =
     record {
       revision = rw (le-leb 1 r.revision h.from_one, le-leb r.revision LAST_REVISION h.revision) refl;
       previous = t.previous;
-      no_previous = where_right first (bytes_eq r.previous no_hash) (λ e. same_test r.previous no_hash (is_first r h e).previous);
+      no_previous = where_right first (bytes_eq r.previous no_hash) (λ e. bytes_itself r.previous no_hash (is_first r h e).previous);
       root = t.root;
       offered = t.offered;
-      same_root = where_right first (bytes_eq r.offered r.root) (λ e. same_test r.offered r.root (is_first r h e).offered);
+      same_root = where_right first (bytes_eq r.offered r.root) (λ e. bytes_itself r.offered r.root (is_first r h e).offered);
       token = record {
         epoch = t.epoch;
         number = t.number;

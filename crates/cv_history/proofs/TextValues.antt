@@ -1,21 +1,12 @@
 -- Targets, tags and their texts.
-use Rattle.std.proofs.Common.{◌≡◌, ℕ, true, false, Bool, cond, List, refl, sym, ap, ◌∙◌}
-use Rattle.std.specs.Prelude.{Option, Some, None}
-use Rattle.std.specs.Str.{bytes_eq}
+use Rattle.std.proofs.Common.{◌≡◌, ℕ, true, List, refl, sym, ap, ◌∙◌}
+use Rattle.std.specs.Prelude.{Some}
 use Rattle.std.specs.List.{list_all}
 use Rattle.std.proofs.lemmas.Option.{same_Some}
-use Rattle.std.proofs.lemmas.Slice.Eq.{bytes_eq-Decides}
 use Rattle.cv_base.specs.Target.{is_target, target_of}
+use Rattle.cv_base.proofs.Laws.{chosen}
 use Rattle.cv_history.specs.Record.{is_tag_byte}
 use Rattle.cv_history.specs.Reading.{tag_of}
-
-pub bytes_eq_self : (a : List ℕ) → bytes_eq a a ≡ true
-bytes_eq_self a = (bytes_eq-Decides a a).1 refl
-
--- where there is something, the test went this way
-chosen : {A : Type 0} (test : Bool) (found : Option A) (x : A) → cond test found None ≡ Some x → (test ≡ true) × (found ≡ Some x)
-chosen true found x e = (refl, e)
-chosen false found x e = absurd cc
 
 pub target_is : (text target : List ℕ) → target_of text ≡ Some target → (text ≡ target) × (is_target target ≡ true)
 target_is text target e =

@@ -9,7 +9,7 @@ ghost use Rattle.cv_history.specs.ReadingInner.{seen};
 ghost use Rattle.cv_history.specs.declared.record_fault.RecordFault.TheVariants.{BadRecord};
 
 use crate::record_fault::RecordFault;
-use cv_base::{DIGEST_SIZE, split_u16, split_u64};
+use cv_base::{DIGEST_SIZE, split_array, split_bytes, split_u16, split_u64};
 
 /// The fault that the field which begins with this text isn't as it has to be.
 pub fn bad(all: usize, text: &[u8]) -> RecordFault
@@ -37,18 +37,12 @@ pub fn read_bytes(all: usize, size: usize, text: &[u8]) -> Result<(&[u8], &[u8])
     ensures { result_map_both (λ x. (x.0.now, x.1.now)) (λ fault. fault) result
         ≡ bytes_at (BadRecord all) size text.now }
 {
-    if text.len() < size {
-        return Err(RecordFault::BadRecord(all));
-    }
-    Ok(text.split_at(size))
+    split_bytes(text, size).ok_or(RecordFault::BadRecord(all))
 }
 
 /// A hash.
 pub fn read_hash(all: usize, text: &[u8]) -> Result<([u8; 20], &[u8]), RecordFault>
     ensures { seen result ≡ bytes_at (BadRecord all) 20 text.now }
 {
-    match text.split_first_chunk::<DIGEST_SIZE>() {
-        Some((hash, rest)) => Ok((*hash, rest)),
-        None => Err(RecordFault::BadRecord(all)),
-    }
+    split_array::<DIGEST_SIZE>(text).ok_or(RecordFault::BadRecord(all))
 }

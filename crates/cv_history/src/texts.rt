@@ -1,15 +1,13 @@
 //! The texts of a record, each behind its length.
 ghost use Rattle.std.specs.Prelude.{◌≡◌, IfOk};
-ghost use Rattle.std.specs.List.{list_all};
 ghost use Rattle.cv_base.specs.Unless.{IsUnless};
-ghost use Rattle.cv_history.specs.Record.{is_tag_byte};
 ghost use Rattle.cv_history.specs.Reading.{limit_of, size_at, path_at, key_at, tag_of, tag_at};
 ghost use Rattle.cv_history.specs.ReadingInner.{seen};
 ghost use Rattle.cv_history.specs.declared.record_fault.RecordFault.TheVariants as fault;
 
 use crate::fields::{bad, read_bytes, read_u16};
 use crate::record_fault::RecordFault;
-use cv_base::{KEY_ID_LIMIT, NoMemory, PATH_LIMIT, RepoPath, TAG_LIMIT, Target};
+use cv_base::{KEY_ID_LIMIT, NoMemory, PATH_LIMIT, RepoPath, TAG_LIMIT, Target, are_tag_bytes};
 use std::alloc::Global;
 
 /// The most bytes of a text, of which the first record has none.
@@ -66,13 +64,6 @@ pub fn read_key(
         Some(key) => Ok((key, after)),
         None => Err(bad(all, rest)),
     }
-}
-
-/// Whether bytes have no control byte.
-fn are_tag_bytes(bytes: &[u8]) -> bool
-    ensures { result ≡ list_all is_tag_byte bytes.now }
-{
-    bytes.iter().all(|byte| *byte >= 32)
 }
 
 /// The tag that these bytes are.

@@ -6,7 +6,7 @@ use Rattle.std.proofs.lemmas.Bool.{cases_lt}
 use Rattle.std.proofs.Math.Seq.{take-append-add}
 use Rattle.std.proofs.Common.{◌+◌}
 use Rattle.cv_ports.specs.Streams.{Look, front, onto}
-use Rattle.cv_ports.proofs.Laws.{front_twice, onto_twice}
+use Rattle.cv_ports.proofs.Laws.{front_twice, onto_twice, onto_none}
 use Rattle.cv_http.specs.Forms.{Form, HasNone, window, HasHeadAs, BeginsAs, NeverAs, UnfinishedAs, RefusedAs, AwaitedAs, never, large, judged}
 use Rattle.cv_http.specs.Wires.{WireView, Reads, Draws, LookedAt, Looks, Beside, HeadReadAs, BodyRead, Gets}
 use Rattle.cv_http.specs.WiresInner.{HeadLost, HeadFound}
@@ -36,10 +36,6 @@ parts_on body body' held left all n is was =
 front_none : (left : Option (List ℕ)) → left ≡ front [] left
 front_none None = refl
 front_none (Some l) = refl
-
-onto_none : (given : Option (List ℕ)) → given ≡ onto given []
-onto_none None = refl
-onto_none (Some l) = ap (λ x. Some x) (sym (append-nil l))
 
 module _ {R : Type 0} (left given : R → Option (List ℕ)) where
   -- nothing was got

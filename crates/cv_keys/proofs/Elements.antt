@@ -1,12 +1,12 @@
 -- Keys that are read of them one after another.
 use Rattle.std.proofs.Common.{◌≡◌, ℕ, ◌+◌, ◌<◌, List, [], ◌∷◌, ◌++◌, length, map, get_or, drop, codes, Some, Result, Ok, Err, inl, inr, refl, sym, ap, ◌∙◌}
 use Rattle.std.specs.Result.{IsErrAnd, result_map_both}
-use Rattle.std.proofs.lemmas.List.{drop_more}
 use Rattle.serde_json.specs.Data.{Data}
 use Rattle.serde_json.specs.Find.{get, as_array}
 use Rattle.serde_json.specs.View.{view, items_of}
 use Rattle.serde_json.specs.declared.value.Value.{Value}
 use Rattle.cv_base.specs.Unless.{IsUnless}
+use Rattle.cv_base.proofs.Laws.{drop_is}
 use Rattle.cv_json.proofs.Laws.{elements-items_of}
 use Rattle.cv_keys.specs.KeysText.{new_key, keys_behind, array_keys, keys_in_object}
 use Rattle.cv_keys.specs.declared.key.Key.{Key}
@@ -16,10 +16,6 @@ use Rattle.cv_keys.specs.declared.key_fault.KeyFault.TheVariants.{NoMemory}
 -- the keys of an object whose member `keys` is an array of these
 pub keys_in_object-array : (d e : Data) (ds : List Data) → get (codes "keys") d ≡ Some e → as_array e ≡ Some (items_of ds) → keys_in_object (Some d) ≡ array_keys ds
 keys_in_object-array d e ds member is_array = rw (member, is_array, elements-items_of ds) refl
-
--- what is left of a list begins with the element of its place
-drop_is : (vs : List Value) (i : ℕ) (v : Value) → i < length vs → v ≡ get_or vs i v → drop i vs ≡ v ∷ drop (i + 1) vs
-drop_is vs i v below is = drop_more vs i v below ∙ ap (λ w. w ∷ drop (i + 1) vs) (sym is)
 
 -- one key more was read
 pub keys_behind-more : (vs : List Value) (i : ℕ) (v : Value) (key : Key) (before after : List Key) (all : Result (List Key) KeyFault)

@@ -11,7 +11,7 @@ use Rattle.std.proofs.lemmas.Slice.Eq.{bytes_eq-Decides}
 use Rattle.std.proofs.lemmas.Iterator.Adapters.{position_from-zero}
 use Rattle.cv_base.specs.Sequence.{◌>>=◌}
 use Rattle.cv_base.specs.Unless.{IsUnless}
-use Rattle.cv_base.proofs.Laws.{first_true, second_true}
+use Rattle.cv_base.proofs.Laws.{first_true, second_true, first_false}
 use Rattle.serde_json.specs.Data.{Data}
 use Rattle.serde_json.specs.Find.{get, as_str, as_object}
 use Rattle.cv_keys.specs.Key.{is_key_id, is_secret, has_id, is_distinct, key_of, IsTable}
@@ -21,10 +21,6 @@ use Rattle.cv_keys.specs.declared.key.Key.{Key}
 use Rattle.cv_keys.specs.declared.key_fault.KeyFault.{KeyFault}
 use Rattle.cv_keys.specs.declared.key_fault.KeyFault.TheVariants.{WrongType, BadValue, Repeated, TooMany, NoKey, NoMemory}
 use Rattle.cv_keys.specs.declared.read_keys.TheConstants.{KEY_LIMIT}
-
-first_false : (a b : Bool) → (a || b) ≡ false → a ≡ false
-first_false true b h = cc
-first_false false b h = refl
 
 second_false : (a b : Bool) → (a || b) ≡ false → b ≡ false
 second_false true b h = cc

@@ -9,6 +9,7 @@ use Rattle.std.proofs.lemmas.List.Quantifiers.{all_pairs_push}
 use Rattle.cv_base.specs.Path.{Path, overlap}
 use Rattle.cv_base.specs.Marker.{marker, ends_in}
 use Rattle.cv_base.specs.declared.token.Token.{Token}
+use Rattle.cv_base.proofs.Laws.{all_push}
 use Rattle.cv_leases.specs.declared.lease.Lease.{Lease}
 use Rattle.cv_leases.specs.declared.lease_fault.LeaseFault.TheVariants.{BadPath, TooManyLeases}
 use Rattle.cv_leases.specs.declared.limits.TheConstants.{LEASE_LIMIT}
@@ -73,10 +74,6 @@ not_refused leases path h =
         ] refl none2
       ] refl none
     ] refl h
-
-pub all_push : {X : Type 0} (P : X → Type 0) (xs : List X) (x : X) → AllByRecursion P xs → P x → AllByRecursion P (xs ++ x ∷ [])
-all_push P [] x h p = (p, tt)
-all_push P (y ∷ ys) x h p = (h.0, all_push P ys x h.1 p)
 
 last_or_some : {X : Type 0} (x : X) (xs : List X) → last_or (Some x) xs ≡ None → ⊥
 last_or_some x [] h = cc

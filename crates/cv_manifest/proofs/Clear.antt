@@ -1,5 +1,5 @@
 -- Values that have no newline.
-use Rattle.std.proofs.Common.{◌≡◌, ℕ, suc, ◌+◌, ◌/◌, ◌%◌, ◌<◌, ◌^◌, Bool, true, false, not, eqb, List, [], ◌∷◌, length, slice_index, decimal, refl, ap, arith}
+use Rattle.std.proofs.Common.{◌≡◌, ℕ, suc, ◌+◌, ◌/◌, ◌%◌, ◌<◌, ◌^◌, Bool, true, false, not, eqb, List, [], ◌∷◌, slice_index, decimal, refl, arith}
 use Rattle.std.specs.Prelude.{IsTrue, IsUtf8}
 use Rattle.std.specs.List.{list_all}
 use Rattle.std.proofs.lemmas.Bool.{and_parts, or_from, ne_eqb, not-true}
@@ -9,8 +9,7 @@ use Rattle.std.proofs.lemmas.List.Folds.{list_any-append}
 use Rattle.std.proofs.lemmas.List.Sums.{AllPass-from_list_all}
 use Rattle.std.proofs.lemmas.Str.{IsUtf8-from_ascii}
 use Rattle.std.proofs.lemmas.Str.Ascii.{IsAscii-from_all}
-use Rattle.hex.specs.Hex.{IsBytes, encode_lower, encode_with, lower_digits, decode_sized}
-use Rattle.hex.proofs.HexLemmas.{decode_sized-encode_lower, length-encode_with}
+use Rattle.hex.specs.Hex.{IsBytes, encode_lower, encode_with, lower_digits}
 use Rattle.cv_base.specs.Digest.{IsDigest}
 use Rattle.cv_base.specs.Name.{is_name, is_name_byte}
 use Rattle.cv_manifest.specs.Lines.{has_newline}
@@ -58,16 +57,6 @@ digits_clear (b ∷ rest) is =
 
 pub hash_clear : (hash : List ℕ) → IsDigest hash → has_newline (encode_lower hash) ≡ false
 hash_clear hash is = digits_clear hash is.bytes
-
-pub hash_size : (hash : List ℕ) → IsDigest hash → length (encode_lower hash) ≡ 40
-hash_size hash is = let size = is.size in omega (arith, length-encode_with lower_digits hash, size)
-
-pub same_hash : (a b : List ℕ) → IsDigest a → IsDigest b → encode_lower a ≡ encode_lower b → a ≡ b
-same_hash a b a-is b-is e =
-    let a-back = decode_sized-encode_lower a 20 a-is.size a-is.bytes in
-    let b-back = decode_sized-encode_lower b 20 b-is.size b-is.bytes in
-    let same : decode_sized (encode_lower a) 20 ≡ decode_sized (encode_lower b) 20 = ap (λ (t : List ℕ). decode_sized t 20) e in
-    cc
 
 -- ---- decimals
 

@@ -1,9 +1,9 @@
 -- Lines, cut at newlines.
-use Rattle.std.proofs.Common.{◌≡◌, ℕ, ◌+◌, ◌<◌, Bool, true, false, cond, eqb, ◌||◌, List, [], ◌∷◌, ◌++◌, length, get_or, take, drop, Option, Some, None, refl, sym, ap, ◌∙◌, arith, ◌-◌, append_assoc, add-one}
+use Rattle.std.proofs.Common.{◌≡◌, ℕ, ◌+◌, ◌<◌, Bool, true, false, cond, eqb, ◌||◌, List, [], ◌∷◌, ◌++◌, get_or, take, drop, Option, Some, None, refl, sym, ap, ◌∙◌, arith, ◌-◌, append_assoc, add-one}
 use Rattle.std.specs.Prelude.{MatchOption, position}
 use Rattle.std.specs.List.{position_from}
 use Rattle.std.proofs.lemmas.Bool.{or_parts, eqb-true, eq-eqb}
-use Rattle.std.proofs.lemmas.List.{take-append-drop, take_all, length-take, length-drop, get_or-take}
+use Rattle.std.proofs.lemmas.List.{take-append-drop, length-take, get_or-take}
 use Rattle.std.proofs.lemmas.List.Folds.{list_any_none}
 use Rattle.std.proofs.lemmas.List.Quantifiers.{position-Some}
 use Rattle.std.proofs.lemmas.Iterator.Adapters.{position_from-zero}
@@ -41,10 +41,6 @@ pub cut_at : (xs : List ℕ) (found : Option ℕ) → position is_newline xs ≡
     → MatchOption found (has_newline xs ≡ false) (λ i. (has_newline (take i xs) ≡ false) × (xs ≡ take i xs ++ 10 ∷ drop (i + 1) xs))
 cut_at xs None e = none_from xs 0 (sym (position_from-zero is_newline xs) ∙ e)
 cut_at xs (Some i) e = (front_clear xs i e, sym (take-append-drop i xs) ∙ ap (λ (t : List ℕ). take i xs ++ t) (first_is xs i e))
-
--- all bytes from a place on
-pub rest_all : (xs : List ℕ) (n : ℕ) → take (length xs - n) (drop n xs) ≡ drop n xs
-rest_all xs n = take_all (length xs - n) (drop n xs) (omega (arith, length-drop n xs))
 
 -- ---- lines of a text
 

@@ -11,10 +11,6 @@ pub all_weaker : {X : Type 0} (P Q : X → Type 0) → ((x : X) → P x → Q x)
 all_weaker P Q h [] all = tt
 all_weaker P Q h (x ∷ xs) all = (h x all.0, all_weaker P Q h xs all.1)
 
-pub all_push : {X : Type 0} (P : X → Type 0) (xs : List X) (x : X) → AllByRecursion P xs → P x → AllByRecursion P (xs ++ x ∷ [])
-all_push P [] x all last = (last, tt)
-all_push P (y ∷ xs) x all last = (all.0, all_push P xs x all.1 last)
-
 pub are_whole : (lines : List (List ℕ)) → AllByRecursion IsLine lines → AllByRecursion IsWhole lines
 are_whole lines = all_weaker IsLine IsWhole (λ line is. is.whole) lines
 

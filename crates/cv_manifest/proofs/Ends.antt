@@ -2,10 +2,11 @@
 use Rattle.std.proofs.Common.{◌≡◌, ℕ, ◌-◌, ◌+◌, false, List, [], ◌∷◌, ◌++◌, length, take, codes, sym, ap, ◌∙◌, arith, length-append}
 use Rattle.std.specs.List.{AllByRecursion}
 use Rattle.std.proofs.lemmas.List.{take_at}
+use Rattle.cv_base.proofs.Laws.{all_push}
 use Rattle.cv_manifest.specs.Lines.{has_newline, ended, IsLine}
 use Rattle.cv_manifest.specs.SplitInner.{EndsAt, HasNoEnd}
 use Rattle.cv_manifest.proofs.Cuts.{ended-push}
-use Rattle.cv_manifest.proofs.Endings.{all_push, end_line, no_end}
+use Rattle.cv_manifest.proofs.Endings.{end_line, no_end}
 
 -- the lines before the rest, none of which is `--`
 pub record Before (bytes rest : List ℕ) : Type 0 where

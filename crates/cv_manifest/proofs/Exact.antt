@@ -6,6 +6,7 @@ use Rattle.std.proofs.lemmas.Bool.{eq-eqb, cases_Bool}
 use Rattle.std.proofs.lemmas.Fmt.{decimal_injective}
 use Rattle.std.proofs.lemmas.Grind.{flat_map-append}
 use Rattle.cv_base.specs.Unless.{IsUnless}
+use Rattle.cv_base.proofs.Laws.{same_digits}
 use Rattle.cv_manifest.specs.declared.field.Field.{Field}
 use Rattle.cv_manifest.specs.declared.field.Field.TheVariants.{Root, Size, RootKey, TimeToLive, Revision, Name, History, Time}
 use Rattle.cv_manifest.specs.declared.manifest.Manifest.{Manifest}
@@ -16,7 +17,6 @@ use Rattle.cv_manifest.specs.Lines.{value_in, values}
 use Rattle.cv_manifest.specs.Parts.{Parts, HasParts, IsSealed}
 use Rattle.cv_manifest.specs.Manifest.{value_of, IsManifest, LinesSay, Says}
 use Rattle.cv_manifest.specs.Fault.{IsOf, IsGood, is_none_of, Comes, ShownBy, Shows}
-use Rattle.cv_manifest.proofs.Clear.{same_hash}
 use Rattle.cv_manifest.proofs.Splits.{one_parts}
 
 abbrev pub Seals : Type 0
@@ -42,9 +42,9 @@ one_said lines a b a-say b-say =
     let name : a.name ≡ b.name = same Name in
     let ttl : a.ttl ≡ b.ttl = decimal_injective _ _ ar.ttl br.ttl (same TimeToLive) in
     let revision : a.head.revision ≡ b.head.revision = decimal_injective _ _ ar.revision br.revision (same Revision) in
-    let root : a.head.root ≡ b.head.root = same_hash _ _ ar.root br.root (same Root) in
+    let root : a.head.root ≡ b.head.root = same_digits _ _ ar.root br.root (same Root) in
     let size : a.head.size ≡ b.head.size = decimal_injective _ _ ar.size br.size (same Size) in
-    let history : a.head.history ≡ b.head.history = same_hash _ _ ar.history br.history (same History) in
+    let history : a.head.history ≡ b.head.history = same_digits _ _ ar.history br.history (same History) in
     let time : a.head.time ≡ b.head.time = decimal_injective _ _ ar.time br.time (same Time) in
     ap (λ (x : List ℕ). made x a.ttl a.head.revision a.head.root a.head.size a.head.history a.head.time) name
     ∙ ap (λ (x : ℕ). made b.name x a.head.revision a.head.root a.head.size a.head.history a.head.time) ttl

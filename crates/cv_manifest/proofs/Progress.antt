@@ -3,6 +3,7 @@ use Rattle.std.proofs.Common.{◌≡◌, ℕ, ◌+◌, ◌≤◌, true, false, L
 use Rattle.std.specs.List.{AllByRecursion}
 use Rattle.std.proofs.lemmas.List.{append-nil}
 use Rattle.std.proofs.lemmas.Grind.{flat_map-append}
+use Rattle.cv_base.proofs.Laws.{all_push}
 use Rattle.cv_manifest.specs.declared.field.Field.{Field}
 use Rattle.cv_manifest.specs.declared.field.Field.TheVariants.{Root, Size, RootKey, TimeToLive, Revision, Name, History, Time}
 use Rattle.cv_manifest.specs.declared.fields.Fields.{Fields}
@@ -13,7 +14,7 @@ use Rattle.cv_manifest.specs.Lines.{has_newline, ended, IsLine, value_in, values
 use Rattle.cv_manifest.specs.Fault.{IsGood, IsFaultless, Comes}
 use Rattle.cv_manifest.specs.FieldsInner.{spelled, texts, TakesLine, RefusesLine, HaveFields, ShowFault}
 use Rattle.cv_manifest.proofs.Cuts.{one_cut, newline_in, not_nil, ended-push, ended-first}
-use Rattle.cv_manifest.proofs.Endings.{IsWhole, all_push, are_whole, Follow, follow}
+use Rattle.cv_manifest.proofs.Endings.{IsWhole, are_whole, Follow, follow}
 
 -- the lines before the rest were read, and gave these fields
 pub record Progress (bytes rest : List ℕ) (number : ℕ) (fields : Fields) : Type 0 where

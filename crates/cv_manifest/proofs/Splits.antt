@@ -2,23 +2,24 @@
 use Rattle.std.proofs.Common.{◌≡◌, ℕ, ◌<◌, List, ◌∷◌, ◌++◌, length, take, drop, codes, refl, sym, ap, ◌∙◌, arith, append_assoc, length-append}
 use Rattle.std.proofs.lemmas.List.{take_at, drop_at}
 use Rattle.hex.specs.Hex.{encode_lower}
+use Rattle.cv_base.proofs.Laws.{length-digits, same_digits}
 use Rattle.cv_manifest.specs.Lines.{ended}
 use Rattle.cv_manifest.specs.Parts.{Parts, HasParts}
 use Rattle.cv_manifest.specs.SplitInner.{EndsAt, BeginsWith, HasNoDigest}
 use Rattle.cv_manifest.proofs.Cuts.{one_cut}
 use Rattle.cv_manifest.proofs.Endings.{end_line, one_end}
-use Rattle.cv_manifest.proofs.Clear.{hash_clear, hash_size, same_hash}
+use Rattle.cv_manifest.proofs.Clear.{hash_clear}
 
 -- ---- the line of the digest
 
 pub digest_size : (text stated rest : List ℕ) → BeginsWith text stated rest → 40 < length text
 digest_size text stated rest begins =
-    omega (arith, ap length begins.text_is, length-append (encode_lower stated) (10 ∷ rest), hash_size stated begins.digest)
+    omega (arith, ap length begins.text_is, length-append (encode_lower stated) (10 ∷ rest), length-digits stated begins.digest)
 
 pub digest_parts : (text stated rest : List ℕ) → BeginsWith text stated rest → (take 40 text ≡ encode_lower stated) × (drop 40 text ≡ 10 ∷ rest)
 digest_parts text stated rest begins = (
-  ap (take 40) begins.text_is ∙ take_at (encode_lower stated) (10 ∷ rest) 40 (hash_size stated begins.digest),
-  ap (drop 40) begins.text_is ∙ drop_at (encode_lower stated) (10 ∷ rest) 40 (hash_size stated begins.digest),
+  ap (take 40) begins.text_is ∙ take_at (encode_lower stated) (10 ∷ rest) 40 (length-digits stated begins.digest),
+  ap (drop 40) begins.text_is ∙ drop_at (encode_lower stated) (10 ∷ rest) 40 (length-digits stated begins.digest),
 )
 
 -- ---- all parts
@@ -50,5 +51,5 @@ one_parts text a b a-has b-has =
     let cut = one_cut (encode_lower a.stated) (encode_lower b.stated) a.seal b.seal (hash_clear a.stated a-has.digest) (hash_clear b.stated b-has.digest) fronts.1 in
     let of : List (List ℕ) → List ℕ → List ℕ → Parts = λ lines stated seal. record { lines = lines; stated = stated; seal = seal } in
     ap (λ (lines : List (List ℕ)). of lines a.stated a.seal) fronts.0
-    ∙ ap (λ (stated : List ℕ). of b.lines stated a.seal) (same_hash a.stated b.stated a-has.digest b-has.digest cut.0)
+    ∙ ap (λ (stated : List ℕ). of b.lines stated a.seal) (same_digits a.stated b.stated a-has.digest b-has.digest cut.0)
     ∙ ap (λ (seal : List ℕ). of b.lines b.stated seal) cut.1

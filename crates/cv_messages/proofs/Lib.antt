@@ -3,4 +3,3 @@ mod Spellings
 mod MemberReads
 mod PayloadAsks
 mod CommitAsks
-mod Written

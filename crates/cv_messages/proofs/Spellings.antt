@@ -17,7 +17,7 @@ use Rattle.hex.proofs.HexLemmas.{decode_of-ok, decode_sized-ok, decode_sized-twi
 use Rattle.cv_base.specs.Digest.{IsDigest}
 use Rattle.cv_base.specs.Token.{token_text}
 use Rattle.cv_base.specs.declared.token.Token.{Token}
-use Rattle.cv_base.proofs.Laws.{decimal-no_dash}
+use Rattle.cv_base.proofs.Laws.{decimal-no_dash, bytes_eq-own}
 use Rattle.cv_messages.specs.Spelling.{IsToken, decimal_of, is_dash, token_by, token_of, digest_of}
 
 -- what is kept under a test
@@ -30,13 +30,10 @@ none : {A : Type 0} (read : Option A) → ((x : A) → read ≡ Some x → ⊥) 
 none None never = refl
 none (Some x) never = absurd (never x refl)
 
-same_bytes : (text : List ℕ) → bytes_eq text text ≡ true
-same_bytes text = (bytes_eq-Decides text text).1 refl
-
 pub decimal_of-decimal : (n : ℕ) → n < 2 ^ 64 → decimal_of (decimal n) ≡ Some n
 decimal_of-decimal n small =
     let value : digits_value 10 (decimal n) ≡ n = (decimal_is_IsNumeral n small).1 in
-    rw (value, lt-ltb n (2 ^ 64) small, same_bytes (decimal n)) refl
+    rw (value, lt-ltb n (2 ^ 64) small, bytes_eq-own (decimal n)) refl
 
 decimal_of-Some : (text : List ℕ) (n : ℕ) → decimal_of text ≡ Some n → (n < 2 ^ 64) × (text ≡ decimal n)
 decimal_of-Some text n h =
@@ -106,7 +103,7 @@ token_of-None text never = none (token_of text) (λ token is. let known = token_
 
 -- what was written of a digest says it
 pub digest_of-encode_lower : (hash : List ℕ) → IsDigest hash → digest_of (encode_lower hash) ≡ Some hash
-digest_of-encode_lower hash is = rw (decode_sized-encode_lower hash 20 is.size is.bytes, same_bytes (encode_lower hash)) refl
+digest_of-encode_lower hash is = rw (decode_sized-encode_lower hash 20 is.size is.bytes, bytes_eq-own (encode_lower hash)) refl
 
 -- and a text says no digest but that
 pub digest_of-Some : (text hash : List ℕ) → digest_of text ≡ Some hash → IsDigest hash × (text ≡ encode_lower hash)

@@ -1,11 +1,9 @@
 //! The message of a commit.
 ghost use Rattle.std.specs.Prelude.{◌≡◌, true, codes, Ok, Err, IfOk, MatchResult};
-ghost use Rattle.std.specs.List.{list_all};
 ghost use Rattle.serde_json.specs.Find.{get};
 ghost use Rattle.serde_json.specs.View.{view};
 ghost use Rattle.serde_json.specs.Written.{compact_text};
 ghost use Rattle.cv_base.specs.Digest.{IsDigest};
-ghost use Rattle.cv_base.specs.Tag.{is_tag_byte};
 ghost use Rattle.cv_base.specs.Unless.{IsUnless};
 ghost use Rattle.cv_messages.specs.CommitAsk.{is_tag, root_digits, root_member, tag_member, commit_ask_data, commit_ask_members};
 ghost use Rattle.cv_messages.specs.declared.message_fault.MessageFault.TheVariants as faults;
@@ -14,7 +12,7 @@ use crate::member::Member;
 use crate::members::{digest_in, text_member};
 use crate::message_fault::MessageFault;
 use crate::spelled_members::with_digest;
-use cv_base::{DIGEST_DIGITS, NoMemory, TAG_LIMIT, Text};
+use cv_base::{DIGEST_DIGITS, NoMemory, TAG_LIMIT, Text, are_tag_bytes};
 use cv_json::{read_object, with_text, write_object};
 use serde_json::{Map, Value};
 use std::alloc::Global;
@@ -48,18 +46,11 @@ fn root_member(value: &Value, key: &str, name: Member) -> Result<[u8; 20], Messa
     digest_in(root_digits(text.as_bytes())).ok_or(MessageFault::BadValue(name))
 }
 
-/// Whether a text has no control bytes.
-fn has_no_control(text: &str) -> bool
-    ensures { result ≡ list_all is_tag_byte text.now }
-{
-    text.bytes().all(|byte| byte >= 0x20)
-}
-
 /// Whether a text is a tag's, or nothing.
 fn is_tag(text: &str) -> bool
     ensures { result ≡ is_tag text.now }
 {
-    text.len() <= TAG_LIMIT && has_no_control(text)
+    text.len() <= TAG_LIMIT && are_tag_bytes(text.as_bytes())
 }
 
 /// The tag. It is nothing where the member is lacking.

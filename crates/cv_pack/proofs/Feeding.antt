@@ -16,11 +16,11 @@ use Rattle.cv_pack.specs.declared.pack_fault.PackFault.{PackFault}
 use Rattle.cv_pack.specs.declared.pack_fault.PackFault.TheVariants.{Short, NoMemory}
 use Rattle.cv_pack.specs.declared.pack_reader.PackReader.{PackReader}
 use Rattle.cv_pack.specs.Pack.{IsPack, header_of, header_bytes, pack_bytes}
-use Rattle.cv_pack.proofs.Numbers.{ok_is}
 use Rattle.cv_pack.proofs.Lines.{header_takes}
 use Rattle.cv_pack.proofs.Packs.{contents_take, pack_takes, pack_again}
 use Rattle.cv_base.specs.Sequence.{◌>>=◌}
 use Rattle.cv_base.specs.Unless.{IsUnless}
+use Rattle.cv_base.proofs.Laws.{ok_is}
 use Rattle.cv_pack.specs.Reading.{Header, hash_from, header_at, contents_at, reading, shown, fault_in}
 use Rattle.cv_pack.specs.HeaderState.{Progress, progress, after_line, from_field, header_on, Faults}
 use Rattle.cv_pack.specs.HeaderStateInner.{TakesPart}

@@ -8,9 +8,10 @@ use Rattle.hex.specs.Hex.{IsBytes, encode_lower, encode_with, lower_digits, hex_
 use Rattle.hex.specs.declared.error.FromHexError.{FromHexError}
 use Rattle.hex.proofs.HexLemmas.{decode_pairs-ok, decode_sized-ok, decode_sized-twice, decode_of-even}
 use Rattle.cv_base.specs.Digest.{IsDigest}
+use Rattle.cv_base.proofs.Laws.{ok_is}
 use Rattle.cv_pack.specs.declared.pack_fault.PackFault.TheVariants.{BadHeader}
 use Rattle.cv_pack.specs.Reading.{is_hash_digit, digits_at}
-use Rattle.cv_pack.proofs.Numbers.{chosen, ok_is, digit_range, some_is}
+use Rattle.cv_pack.proofs.Numbers.{chosen, digit_range, some_is}
 
 -- the digit of a value, which is one of a hash
 digit_at : (v : ℕ) → v < 16 → (slice_index lower_digits v ≡ cond (ltb v 10) (48 + v) (87 + v)) × (is_hash_digit (slice_index lower_digits v) ≡ true)

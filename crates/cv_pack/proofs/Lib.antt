@@ -6,3 +6,4 @@ mod NamedIds
 mod Packs
 mod Steps
 mod Numbers
+pub mod Laws

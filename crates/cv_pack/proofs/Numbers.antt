@@ -7,6 +7,7 @@ use Rattle.std.specs.Char.{is_ascii_digit}
 use Rattle.cv_pack.specs.declared.pack_fault.PackFault.{PackFault}
 use Rattle.cv_pack.specs.declared.pack_fault.PackFault.TheVariants.{BadHeader}
 use Rattle.cv_base.specs.Sequence.{◌>>=◌}
+use Rattle.cv_base.proofs.Laws.{ok_is}
 use Rattle.cv_pack.specs.Reading.{text_at, with_digit, limited, ended, number_at}
 
 -- the value of a step that did not fail
@@ -25,9 +26,6 @@ either false x y z e = inr (refl, e)
 
 abbrev pub done : {A : Type 0} → A → Result A PackFault
 done x = Ok x
-
-pub ok_is : {A : Type 0} (x y : A) → done x ≡ done y → x ≡ y
-ok_is x y e = cc
 
 -- ---- fixed bytes
 

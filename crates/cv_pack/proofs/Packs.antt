@@ -18,27 +18,24 @@ use Rattle.cv_base.specs.ObjectId.{object_id, same_kind, same_id}
 use Rattle.cv_base.specs.declared.id.Kind.{Kind}
 use Rattle.cv_base.specs.declared.id.ObjectId.{ObjectId}
 use Rattle.cv_base.specs.declared.object.Object.{Object}
-use Rattle.cv_base.proofs.Laws.{digest_sha1, same_kind-eq, same_kind-own}
+use Rattle.cv_base.proofs.Laws.{digest_sha1, same_kind-eq, same_id-own, ok_is}
 use Rattle.cv_pack.specs.declared.entry.Entry.{Entry}
 use Rattle.cv_pack.specs.declared.pack_fault.PackFault.{PackFault}
 use Rattle.cv_pack.specs.declared.pack_fault.PackFault.TheVariants.{HashDiffers, Short}
 use Rattle.cv_pack.specs.Pack.{entry, entry_of, ids, total_size, header_of, header_bytes, contents, contents_size, pack_bytes, IsPacked, IsPack}
 use Rattle.cv_base.specs.Sequence.{◌>>=◌}
 use Rattle.cv_pack.specs.Reading.{Header, object, is_named, header_at, contents_at, reading}
-use Rattle.cv_pack.proofs.Numbers.{bind_ok, chosen, either, ok_is}
+use Rattle.cv_pack.proofs.Numbers.{bind_ok, chosen, either}
 use Rattle.cv_pack.proofs.Lines.{IsLine, AreLines, IsHeader, header_takes, header_again}
 
 -- ---- the same id
-
-self_same : (a : ObjectId) → same_id a a ≡ true
-self_same a = rw ((bytes_eq-Decides a.hash a.hash).1 refl, same_kind-own a.kind) refl
 
 pub same_id-Decides : (a b : ObjectId) → Decides (same_id a b) (a ≡ b)
 same_id-Decides a b = (
   λ e.
       let parts = and_parts (bytes_eq a.hash b.hash) (same_kind a.kind b.kind) e in
       ap (λ (h : List ℕ). object_id h a.kind) ((bytes_eq-Decides a.hash b.hash).0 parts.0) ∙ ap (λ (k : Kind). object_id b.hash k) (same_kind-eq a.kind b.kind parts.1),
-  λ e. ap (λ (x : ObjectId). same_id a x) (sym e) ∙ self_same a,
+  λ e. ap (λ (x : ObjectId). same_id a x) (sym e) ∙ same_id-own a,
 )
 
 -- ---- ids that are named once

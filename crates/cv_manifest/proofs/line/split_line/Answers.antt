@@ -1,6 +1,7 @@
 use Rattle.std.proofs.Common.{◌+◌, ◌∙◌, sym}
 use Rattle.std.specs.Prelude.{Some, None}
-use Rattle.cv_manifest.proofs.Cuts.{cut_at, rest_all}
+use Rattle.cv_base.proofs.Laws.{rest_all}
+use Rattle.cv_manifest.proofs.Cuts.{cut_at}
 use Rattle.cv_manifest.proofs.line.split_line.Goals as goal
 
 pub returns-in_err-end : goal.returns-in_err-end

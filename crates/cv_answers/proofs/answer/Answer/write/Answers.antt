@@ -1,13 +1,10 @@
 use Rattle.std.proofs.Common.{Result, Ok, Err}
 use Rattle.std.specs.Prelude.{IfOk}
+use Rattle.std.proofs.lemmas.Result.{IfOk-weaker}
 use Rattle.serde_json.specs.View.{view}
 use Rattle.cv_answers.proofs.AnswerData.{is_object, no_float, shallow}
 use Rattle.cv_answers.proofs.ReadBack.{answer_of-object}
 use Rattle.cv_answers.proofs.answer.Answer.write.Goals as goal
-
-IfOk-map : {A E : Type 0} (r : Result A E) {P Q : A → Type 0} → ((x : A) → P x → Q x) → IfOk r P → IfOk r Q
-IfOk-map (Ok x) f h = f x h
-IfOk-map (Err e) f h = tt
 
 pub write_object-requires-clause-object : goal.write_object-requires-clause-object
 write_object-requires-clause-object c = rw c.in_ok-value.ensures.json (is_object c.args.self.now)
@@ -20,6 +17,6 @@ write_object-requires-clause-shallow c = rw c.in_ok-value.ensures.json (shallow 
 
 pub returns-clause-reads_back : goal.returns-clause-reads_back
 returns-clause-reads_back c =
-    IfOk-map c.write_object.result
+    IfOk-weaker c.write_object.result _ _
     (λ bytes object. answer_of-object bytes.items (view c.in_ok-value.value) c.args.self.now object c.in_ok-value.ensures.json c.requires c.in_ok-value.ensures.whole)
     c.write_object.ensures.reads_back

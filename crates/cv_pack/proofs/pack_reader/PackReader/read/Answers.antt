@@ -1,13 +1,13 @@
 use Rattle.std.proofs.Common.{◌≡◌, List, ℕ, Err, Ok, ◌++◌, ◌∙◌, sym, ap, subst, refl, rules}
 use Rattle.std.proofs.lemmas.List.{append-nil}
 use Rattle.std.proofs.lemmas.Result.{err_from_is_err_and}
+use Rattle.cv_base.proofs.Laws.{ok_is}
 use Rattle.cv_pack.specs.declared.entry.Entry.{Entry}
 use Rattle.cv_pack.specs.declared.field.Field.TheVariants as fields
 use Rattle.cv_pack.specs.ContentsState.{IsOpen}
 use Rattle.cv_pack.specs.ContentsStateInner.{Reads}
 use Rattle.cv_pack.specs.HeaderState.{Faults}
 use Rattle.cv_pack.specs.Reading.{reading}
-use Rattle.cv_pack.proofs.Numbers.{ok_is}
 use Rattle.cv_pack.proofs.Feeding.{ends_taken, fault_of_header, header_taken, parts_taken, contents_taken, fault_of_contents, nothing_after}
 use Rattle.cv_pack.proofs.pack_reader.PackReader.read.Goals as goal
 
