@@ -240,8 +240,9 @@ class Gate:
         line, data = second_line(self.line, key, token)
         batch = "tree", line[-1].record
         put(self.vault, batch)
-        self.vault.write(HEAD_WAY, data)
         bring(self.vault, batch)
+        assert self.vault.read(path_of(line[-1].record)) is not None
+        self.vault.write(HEAD_WAY, data)
         self.vault.sync()
         self.doubt = data
         self.vault.rename(HEAD_WAY, HEAD)

@@ -11,6 +11,7 @@ use Rattle.cv_base.specs.Marker.{marker, ends_in}
 use Rattle.cv_base.specs.declared.id.ObjectId.{ObjectId}
 use Rattle.cv_base.specs.declared.object.Object.{Object}
 use Rattle.cv_base.specs.declared.token.Token.{Token}
+use Rattle.cv_base.specs.Token.{last_number}
 use Rattle.cv_vault.specs.Names.{on_way}
 use Rattle.cv_vault.specs.Disk.{Disk, Files, ImageOf}
 use Rattle.cv_vault.specs.Walks.{Walks, Nothing}
@@ -26,7 +27,7 @@ use Rattle.cv_swap.specs.Kept.{Revision, newest, head_of}
 use Rattle.cv_swap.specs.Line.{LineView}
 use Rattle.cv_gate.specs.State.{State, aged}
 use Rattle.cv_gate.specs.Passing.{granted as granted_to}
-use Rattle.cv_gate.specs.Step.{IsNoted, Acts as ActsAs, LeaseStep, OnLease, Grants as GrantsAs, adds, Cancels, takes, MayFail, StoreStep, Stores, FreshIs, last_number}
+use Rattle.cv_gate.specs.Step.{IsNoted, Acts as ActsAs, LeaseStep, OnLease, Grants as GrantsAs, adds, Cancels, takes, MayFail, StoreStep, Stores, FreshIs}
 use Rattle.cv_gate.specs.declared.op.Op.{Op}
 use Rattle.cv_gate.specs.declared.op.Op.TheVariants as op
 use Rattle.cv_gate.specs.declared.act.Act.TheVariants as act

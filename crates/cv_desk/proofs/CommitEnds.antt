@@ -1,11 +1,13 @@
 -- A commit whose checks passed: its objects weren't brought, or it is ready.
-use Rattle.std.proofs.Common.{◌≡◌, ◌≢◌, ◌<◌, ◌^◌, max, Bool, ℕ, List, [], ◌∷◌, ◌++◌, refl, sym, ap, subst, ◌∙◌, inr}
+use Rattle.std.proofs.Common.{◌≡◌, ◌≢◌, ◌<◌, max, Bool, ℕ, List, [], ◌∷◌, ◌++◌, refl, sym, ap, subst, ◌∙◌, inr}
 use Rattle.std.specs.Prelude.{IfSome}
 use Rattle.std.specs.declared.option.Option.{Option}
 use Rattle.std.specs.declared.option.Option.TheVariants.{None, Some}
 use Rattle.std.specs.declared.result.Result.TheVariants.{Err}
 use Rattle.cv_base.specs.declared.id.ObjectId.{ObjectId}
 use Rattle.cv_base.specs.declared.token.Token.{Token}
+use Rattle.cv_base.specs.Token.{last_number}
+use Rattle.cv_base.specs.Moment.{IsMoment}
 use Rattle.cv_ports.specs.Shelf.{Shelf}
 use Rattle.cv_vault.specs.Names.{on_way}
 use Rattle.cv_vault.specs.Disk.{Disk, Files, ImageOf}
@@ -29,7 +31,7 @@ use Rattle.cv_gate.specs.Objects.{GainsAll}
 use Rattle.cv_gate.specs.Passing.{MakesNew}
 use Rattle.cv_gate.specs.Ready.{IsReady, stays as ends_fault}
 use Rattle.cv_gate.specs.Sound.{Sound}
-use Rattle.cv_gate.specs.Step.{Step, Records, IsValid, last_number}
+use Rattle.cv_gate.specs.Step.{Step, Records, IsValid}
 use Rattle.cv_gate.specs.declared.op.Op.{Op}
 use Rattle.cv_gate.specs.declared.entry.Entry.{Entry}
 use Rattle.cv_gate.specs.declared.reply.Reply.TheVariants as reply
@@ -47,7 +49,7 @@ use Rattle.cv_desk.proofs.Imaging.{quiet_survives, bringing_survives, settled_it
 
 module _ {V S : Type 0} (disk : V → Option Disk) (count : V → ℕ) (left : V → ℕ → Files → Type 0) (is_seal : S → List ℕ → List ℕ → Bool) (before : StateView V S)
     (only : (f : Files) → left before.line.vault (count before.line.vault) f → ImageOf (disk before.line.vault) f) (st : State) (none : st.doubt ≡ None) (stands : StandsFor disk is_seal before st)
-    (o : Op) (e : Entry) (valid : IsValid o) (limit : e.now < 2 ^ 62) (records : Records e o) (room : st.next < last_number) (new : Revision) (brings : BringsObjects (aged st e.now) o (made new))
+    (o : Op) (e : Entry) (valid : IsValid o) (limit : IsMoment e.now) (records : Records e o) (room : st.next < last_number) (new : Revision) (brings : BringsObjects (aged st e.now) o (made new))
     (read l : LineView V S) (reads : LineReads disk count left before.line read) where
   abbrev pending : Pending
   pending = record { op = o; now = e.now }

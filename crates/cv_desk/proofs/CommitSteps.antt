@@ -1,5 +1,5 @@
 -- A commit that is asked is the gate's step, or gets ready.
-use Rattle.std.proofs.Common.{◌≡◌, ◌<◌, ◌^◌, Bool, true, false, cond, ℕ, List, [], ◌∷◌, refl, sym, ap, subst, ◌∙◌, inr}
+use Rattle.std.proofs.Common.{◌≡◌, ◌<◌, Bool, true, false, cond, ℕ, List, [], ◌∷◌, refl, sym, ap, subst, ◌∙◌, inr}
 use Rattle.std.specs.Prelude.{bytes_eq, IfSome}
 use Rattle.std.specs.List.{AllByRecursion}
 use Rattle.std.proofs.lemmas.Slice.Eq.{bytes_eq-Decides}
@@ -8,6 +8,8 @@ use Rattle.std.specs.declared.option.Option.TheVariants.{None, Some}
 use Rattle.std.specs.declared.result.Result.{Result}
 use Rattle.std.specs.declared.result.Result.TheVariants.{Ok, Err}
 use Rattle.cv_base.specs.declared.token.Token.{Token}
+use Rattle.cv_base.specs.Token.{last_number}
+use Rattle.cv_base.specs.Moment.{IsMoment}
 use Rattle.cv_ports.specs.Shelf.{Shelf}
 use Rattle.cv_vault.specs.Names.{on_way}
 use Rattle.cv_vault.specs.Disk.{Disk, Files, ImageOf}
@@ -33,7 +35,7 @@ use Rattle.cv_gate.specs.Commits.{made}
 use Rattle.cv_gate.specs.Kept.{Pending, BringsObjects, makes as makes_objects}
 use Rattle.cv_gate.specs.Objects.{GainsSome}
 use Rattle.cv_gate.specs.Sound.{IsUndisturbed}
-use Rattle.cv_gate.specs.Step.{Step, IsNoted, IsValid, Commits, CommitStep, Publishes as PublishesAs, collides, fails as fails_so, last_number}
+use Rattle.cv_gate.specs.Step.{Step, IsNoted, IsValid, Commits, CommitStep, Publishes as PublishesAs, collides, fails as fails_so}
 use Rattle.cv_gate.specs.declared.op.Op.{Op}
 use Rattle.cv_gate.specs.declared.op.Op.TheVariants as op
 use Rattle.cv_gate.specs.declared.act.Act.TheVariants as act
@@ -264,7 +266,7 @@ module _ {V S : Type 0} (disk : V → Option Disk) (count : V → ℕ) (left : V
   abbrev asked_entry : Entry
   asked_entry = record { seat = 0; now = now; key = key; act = act.Commit token old_root offered tag; reply = reply.NoMemory }
 
-  pub commit_readied : (h : Head) → AsksCommit disk count left is_seal key token old_root offered tag aged_ (Ok h) after → IsValid (op.Commit key token old_root offered tag) → now < 2 ^ 62 → (st : State) → st.doubt ≡ None
+  pub commit_readied : (h : Head) → AsksCommit disk count left is_seal key token old_root offered tag aged_ (Ok h) after → IsValid (op.Commit key token old_root offered tag) → IsMoment now → (st : State) → st.doubt ≡ None
       → StandsFor disk is_seal before st → GetsReady disk count left is_seal (op.Commit key token old_root offered tag) now token before after st
   commit_readied h asks valid moment st none stands =
       commit_gets disk count left is_seal before after only room st none stands asked_entry key token old_root offered tag (record { op = valid; now = moment; records = (refl, refl) }) h

@@ -9,6 +9,7 @@ use Rattle.std.specs.declared.option.Option.{Option}
 use Rattle.std.specs.declared.option.Option.TheVariants.{None, Some}
 use Rattle.cv_base.specs.Told.{WhereTold}
 use Rattle.cv_base.specs.declared.id.ObjectId.{ObjectId}
+use Rattle.cv_base.proofs.Laws.{last_map}
 use Rattle.cv_ports.specs.Shelf.{Shelf, IsShelf, Gives, Fetches}
 use Rattle.cv_ports.specs.declared.shelf.ShelfFault.{ShelfFault}
 use Rattle.cv_ports.specs.declared.shelf.ShelfFault.TheVariants.{Failed, Damaged, NoMemory}
@@ -89,14 +90,10 @@ part_grows f zero xs ys h some = map_on f xs ys
 part_grows f (suc k) [] ys h some = cc
 part_grows f (suc k) (x ∷ xs) ys h some = part_grows f k xs ys h some
 
-last_mapped : {A B : Type 0} (f : A → B) (o : Option A) (xs : List A) → last_or (option_map f o) (map f xs) ≡ option_map f (last_or o xs)
-last_mapped f o [] = refl
-last_mapped f o (x ∷ xs) = last_mapped f (Some x) xs
-
 -- and then its last is that of all
 last_grows : {A B : Type 0} (f : A → B) (k : ℕ) (o : Option A) (xs ys : List A) (h : B) → last_or None (map f (drop k xs)) ≡ Some h → last_or None (map f (drop k (xs ++ ys))) ≡ option_map f (last_or o (xs ++ ys))
 last_grows f zero o [] ys h some = cc
-last_grows f zero o (x ∷ xs) ys h some = last_mapped f (Some x) (xs ++ ys)
+last_grows f zero o (x ∷ xs) ys h some = last_map f (Some x) (xs ++ ys)
 last_grows f (suc k) o [] ys h some = cc
 last_grows f (suc k) o (x ∷ xs) ys h some = last_grows f k (Some x) xs ys h some
 
@@ -317,7 +314,7 @@ module _ {V S : Type 0} (disk : V → Option Disk) (count : V → ℕ) (left : V
 -- the last of a part at the end that isn't empty is the last of all
 last_of_part : {A B : Type 0} (f : A → B) (k : ℕ) (xs : List A) (o : Option A) (x : A) → k < length xs → last_or o xs ≡ Some x → last_or None (map f (drop k xs)) ≡ Some (f x)
 last_of_part f k [] o x below is = absurd (omega (arith, below))
-last_of_part f zero (a ∷ xs) o x below is = last_mapped f (Some a) xs ∙ ap (option_map f) is
+last_of_part f zero (a ∷ xs) o x below is = last_map f (Some a) xs ∙ ap (option_map f) is
 last_of_part f (suc k) (a ∷ xs) o x below is = last_of_part f k xs (Some a) x (omega (arith, below)) is
 
 some_long : {T : Type 0} (xs : List T) (x : T) → last_or None xs ≡ Some x → 0 < length xs

@@ -18,12 +18,13 @@ use Rattle.cv_objects.specs.Coming.{ShelfGains}
 use Rattle.cv_objects.proofs.Lemmas.{digest_back, is_digest_of, gains_some, has_all}
 use Rattle.cv_swap.specs.Kept.{newest}
 use Rattle.cv_swap.specs.Stands.{head_name, epoch_name, epoch_text}
+use Rattle.cv_swap.proofs.Lemmas.{epoch_not_data, head_not_data}
 use Rattle.cv_gate.specs.State.{State, Settled, certain, unmade, published}
 use Rattle.cv_gate.specs.Objects.{GainsSome, GainsAll}
 use Rattle.cv_leases.specs.declared.lease.Lease.{Lease}
 use Rattle.cv_desk.specs.Holds.{SaysNewest, Holds}
 use Rattle.cv_desk.specs.HoldsInner.{after_failure, after_store}
-use Rattle.cv_desk.proofs.Names.{no_head, no_epoch, none_under, at_digest, settled_at}
+use Rattle.cv_desk.proofs.Names.{none_under, at_digest, settled_at}
 use Rattle.cv_desk.proofs.Imaging.{settled_itself, settled_same}
 
 -- where nothing came the disk holds the state that it held
@@ -97,13 +98,13 @@ module _ (name : List ℕ) (is_seal : List ℕ → List ℕ → Bool) (objects :
   head_held : (f : File) → May (d' head_name) f → SaysNewest name is_seal st f
   head_held f may = elim (g.each head_name refl) [
     | Stays same less ↦ h.head f (less f may)
-    | Comes came less ↦ absurd (no_head came.object.id came.one.name)
+    | Comes came less ↦ absurd (head_not_data came.object.id came.one.name)
   ]
 
   epoch_held : (f : File) → May (d' epoch_name) f → f ≡ Some (epoch_text st.epoch)
   epoch_held f may = elim (g.each epoch_name refl) [
     | Stays same less ↦ h.epoch f (less f may)
-    | Comes came less ↦ absurd (no_epoch came.object.id came.one.name)
+    | Comes came less ↦ absurd (epoch_not_data came.object.id came.one.name)
   ]
 
   -- ---- the store failed

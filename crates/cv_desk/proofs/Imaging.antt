@@ -15,12 +15,13 @@ use Rattle.cv_objects.specs.Batches.{AreNamed, Brings}
 use Rattle.cv_objects.proofs.Lemmas.{digest_back, is_digest_of, named_none}
 use Rattle.cv_swap.specs.Kept.{AreSound, Kept}
 use Rattle.cv_swap.specs.Stands.{head_name, epoch_name, epoch_text}
+use Rattle.cv_swap.proofs.Lemmas.{epoch_not_data, head_not_data}
 use Rattle.cv_gate.specs.State.{State, aged, Settled, certain, unmade, published}
 use Rattle.cv_gate.specs.Sound.{Sound}
 use Rattle.cv_gate.specs.Kept.{Pending, BringsObjects, nothing, Left, stays, goes, comes, Crash}
 use Rattle.cv_gate.proofs.Lemmas.{left_sound}
 use Rattle.cv_desk.specs.Holds.{SaysNewest, Holds, Survives}
-use Rattle.cv_desk.proofs.Names.{no_head, no_epoch, none_under}
+use Rattle.cv_desk.proofs.Names.{none_under}
 
 pub settled_itself : (st : State) → st.doubt ≡ None → Settled st st
 settled_itself st none = certain none refl
@@ -57,10 +58,10 @@ module _ (name : List ℕ) (is_seal : List ℕ → List ℕ → Bool) (objects :
       ] refl
 
   head : SaysNewest name is_seal st (f head_name)
-  head = elim (within.each head_name refl) [ inl may ↦ h.head (f head_name) may | inr b ↦ absurd (no_head b.object.id b.one.name) ]
+  head = elim (within.each head_name refl) [ inl may ↦ h.head (f head_name) may | inr b ↦ absurd (head_not_data b.object.id b.one.name) ]
 
   epoch : f epoch_name ≡ Some (epoch_text st.epoch)
-  epoch = elim (within.each epoch_name refl) [ inl may ↦ h.epoch (f epoch_name) may | inr b ↦ absurd (no_epoch b.object.id b.one.name) ]
+  epoch = elim (within.each epoch_name refl) [ inl may ↦ h.epoch (f epoch_name) may | inr b ↦ absurd (epoch_not_data b.object.id b.one.name) ]
 
   sound : AreSound (objects_of f) head.settled.history
   sound = left_sound st head.settled objects (objects_of f) s head.settles named left

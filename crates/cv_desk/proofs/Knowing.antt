@@ -30,6 +30,7 @@ use Rattle.cv_objects.specs.Batches.{Brings}
 use Rattle.cv_objects.proofs.Lemmas.{digest_back}
 use Rattle.cv_swap.specs.Line.{LineView, LineReads}
 use Rattle.cv_swap.specs.Stands.{head_name}
+use Rattle.cv_swap.proofs.Lemmas.{head_not_data}
 use Rattle.cv_gate.specs.declared.reply.Reply.{Reply}
 use Rattle.cv_gate.specs.declared.reply.Reply.TheVariants as reply
 use Rattle.cv_desk.specs.Committing.{reply_at}
@@ -37,7 +38,7 @@ use Rattle.cv_desk.specs.CommittingInner.{Offers}
 use Rattle.cv_desk.specs.Known.{Remembers, Learns, LearnsWhole, refuses_new, KnowsOn}
 use Rattle.cv_desk.specs.KnownInner.{KnowsWhole}
 use Rattle.cv_desk.specs.Refusals.{is_unmade}
-use Rattle.cv_desk.proofs.Names.{no_head, at_digest}
+use Rattle.cv_desk.proofs.Names.{at_digest}
 
 -- where what comes to the name of an object comes to no file, no object is lost or changed
 grown : (B : Name → File → Type 0) (d d' : Disk) → ((id : ObjectId) (f : File) → B (file_name id) f → (d (file_name id)).now ≡ None) → Gains on_way B d d' → HasMore (standing_on d) (standing_on d')
@@ -80,7 +81,7 @@ module _ {V : Type 0} (disk : V → Option Disk) (count : V → ℕ) (left : V �
     known_brought batch = known_walked (λ d. Brings d batch) (λ d id f b. b.one.absent)
 
     pub known_swapped : (manifest : List ℕ) → WhereTold (disk v) (λ d. Walks disk count left on_way (ComesTo head_name (Some manifest)) (E d) d v v') → KnowsWhole disk v known → KnowsWhole disk v' known
-    known_swapped manifest = known_walked (λ d. ComesTo head_name (Some manifest)) (λ d id f came. absurd (no_head id (sym came.0)))
+    known_swapped manifest = known_walked (λ d. ComesTo head_name (Some manifest)) (λ d id f came. absurd (head_not_data id (sym came.0)))
 
     pub known_settled : WhereTold (disk v) (λ d. Walks disk count left on_way Nothing (E d) d v v') → KnowsWhole disk v known → KnowsWhole disk v' known
     known_settled = known_walked (λ d. Nothing) (λ d id f never. absurd never)

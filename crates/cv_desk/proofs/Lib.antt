@@ -27,5 +27,6 @@ mod Finishing
 mod CommitEnds
 mod Readied
 mod CommitSteps
+mod Preparing
 mod CommitCalls
 mod CommitExact

@@ -1,5 +1,5 @@
 -- Names of a repository's files, and what stands under what is no digest.
-use Rattle.std.proofs.Common.{◌≡◌, ◌≢◌, ◌==◌, true, false, Bool, ℕ, [], ◌∷◌, refl, sym, ap, subst, ◌∙◌, arith}
+use Rattle.std.proofs.Common.{◌≡◌, ◌==◌, false, Bool, ℕ, [], ◌∷◌, refl, sym, subst, ◌∙◌, arith}
 use Rattle.std.specs.declared.option.Option.TheVariants.{None, Some}
 use Rattle.cv_base.specs.Digest.{IsDigest}
 use Rattle.cv_base.specs.ObjectId.{file_name}
@@ -10,17 +10,10 @@ use Rattle.cv_vault.specs.Names.{Name}
 use Rattle.cv_vault.specs.Disk.{Disk, File, Files, May, IsCalm, settled}
 use Rattle.cv_objects.specs.Names.{is_digest, objects_of}
 use Rattle.cv_objects.proofs.Lemmas.{is_digest_of, named_none, named_more, standing_is}
-use Rattle.cv_swap.specs.Stands.{head_name, epoch_name}
 
 abbrev begins : Name → ℕ → Bool
 begins [] c = false
 begins (b ∷ bs) c = b == c
-
-pub no_head : (id : ObjectId) → head_name ≢ file_name id
-no_head id e = let told : false ≡ true = ap (λ (n : Name). begins n 100) e in cc
-
-pub no_epoch : (id : ObjectId) → epoch_name ≢ file_name id
-no_epoch id e = let told : false ≡ true = ap (λ (n : Name). begins n 100) e in cc
 
 -- what stands at the name of a digest
 pub at_digest : (f : Files) (id : ObjectId) → IsDigest id.hash → objects_of f id ≡ f (file_name id)

@@ -2,6 +2,7 @@
 use Rattle.std.proofs.Common.{◌≡◌, ◌<◌, max, Bool, ℕ, List, refl, sym, ap, subst, ◌∙◌, inr}
 use Rattle.std.specs.declared.option.Option.{Option}
 use Rattle.std.specs.declared.option.Option.TheVariants.{None, Some}
+use Rattle.cv_base.specs.Token.{last_number}
 use Rattle.cv_vault.specs.Names.{on_way}
 use Rattle.cv_vault.specs.Disk.{Disk, Files}
 use Rattle.cv_vault.specs.Walks.{Walks, Nothing}
@@ -11,7 +12,7 @@ use Rattle.cv_swap.specs.Kept.{Revision}
 use Rattle.cv_swap.specs.Line.{LineView}
 use Rattle.cv_gate.specs.State.{State, aged}
 use Rattle.cv_gate.specs.Kept.{Pending}
-use Rattle.cv_gate.specs.Step.{Step, IsNoted, Acts, last_number}
+use Rattle.cv_gate.specs.Step.{Step, IsNoted, Acts}
 use Rattle.cv_gate.specs.declared.op.Op.{Op}
 use Rattle.cv_gate.specs.declared.entry.Entry.{Entry}
 use Rattle.cv_gate.proofs.Lemmas.{by_step}

@@ -3,6 +3,7 @@ use Rattle.std.proofs.Common.{◌≡◌, ◌<◌, Bool, true, false, ℕ, List, 
 use Rattle.std.specs.declared.option.Option.{Option}
 use Rattle.std.specs.declared.option.Option.TheVariants.{None, Some}
 use Rattle.cv_base.specs.declared.token.Token.{Token}
+use Rattle.cv_base.specs.Token.{last_number}
 use Rattle.cv_vault.specs.Names.{on_way}
 use Rattle.cv_vault.specs.Disk.{Disk, Files, ImageOf}
 use Rattle.cv_vault.specs.Moments.{LeavesOnly}
@@ -19,12 +20,12 @@ use Rattle.cv_gate.specs.Objects.{GainsAll}
 use Rattle.cv_gate.specs.Passing.{MakesNew}
 use Rattle.cv_gate.specs.Ready.{Ends, swaps as ends_swapped, wavers as ends_doubtful, stays as ends_fault}
 use Rattle.cv_gate.specs.Sound.{Sound}
-use Rattle.cv_gate.specs.Step.{Records, last_number}
+use Rattle.cv_gate.specs.Step.{Records}
 use Rattle.cv_gate.specs.declared.op.Op.{Op}
 use Rattle.cv_gate.specs.declared.op.Op.TheVariants as op
 use Rattle.cv_gate.specs.declared.reply.Reply.{Reply}
 use Rattle.cv_gate.specs.declared.reply.Reply.TheVariants as reply
-use Rattle.cv_gate.proofs.Lemmas.{by_settling, ready_ends}
+use Rattle.cv_gate.proofs.Lemmas.{by_settling, ready_ends, none_left}
 use Rattle.cv_desk.specs.Holds.{Survives}
 use Rattle.cv_desk.specs.Gate.{StateView, StandsFor, IsSameRepository}
 use Rattle.cv_desk.specs.ActingInner.{ComesTo as ComesToBe}
@@ -33,7 +34,7 @@ use Rattle.cv_desk.specs.Begin.{entry_of, IsReadyIn, GetsReady, EndsStep, EndsBy
 use Rattle.cv_desk.specs.declared.waiting.Waiting.{Waiting}
 use Rattle.cv_desk.proofs.Finishing.{IsPrepared, swapped_stands, doubted_stands, stayed_stands, finishing_leaves}
 use Rattle.cv_desk.proofs.Imaging.{settled_itself, settled_same}
-use Rattle.cv_desk.proofs.Settling.{none_left, next_same, survives_same, survives_before}
+use Rattle.cv_desk.proofs.Settling.{next_same, survives_same, survives_before}
 
 -- what a commit that passes brings
 brought : (a : State) (o : Op) (new : Revision) → MakesNew a o new → BringsObjects a o (made new)

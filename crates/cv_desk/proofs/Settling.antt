@@ -10,6 +10,7 @@ use Rattle.std.specs.declared.option.Option.{Option}
 use Rattle.std.specs.declared.option.Option.TheVariants.{None, Some}
 use Rattle.cv_vault.specs.Names.{on_way}
 use Rattle.cv_base.specs.Told.{WhereTold}
+use Rattle.cv_base.specs.Token.{last_number}
 use Rattle.cv_vault.specs.Disk.{Disk, File, Files, May, ImageOf}
 use Rattle.cv_vault.specs.declared.vault.VaultFault.{VaultFault}
 use Rattle.cv_vault.specs.Moments.{LeavesOnly}
@@ -24,10 +25,10 @@ use Rattle.cv_swap.specs.Stands.{Stands, head_name}
 use Rattle.cv_swap.specs.declared.stage.Stage.TheVariants as stage
 use Rattle.cv_gate.specs.State.{State, aged, Settled, certain, unmade, published as published_too, with_revision}
 use Rattle.cv_gate.specs.Kept.{Pending}
-use Rattle.cv_gate.specs.Step.{Step, IsNoted, Acts, Goes, IsFault, HasNoFresh, last_number}
+use Rattle.cv_gate.specs.Step.{Step, IsNoted, Acts, Goes, IsFault, HasNoFresh}
 use Rattle.cv_gate.specs.declared.op.Op.{Op}
 use Rattle.cv_gate.specs.declared.entry.Entry.{Entry}
-use Rattle.cv_gate.proofs.Lemmas.{newest_push, some_newest, by_settling, crash_before}
+use Rattle.cv_gate.proofs.Lemmas.{newest_push, some_newest, by_settling, crash_before, none_left}
 use Rattle.cv_desk.specs.Holds.{IsHeadOf, Holds, Survives}
 use Rattle.cv_desk.specs.Gate.{StateView, StandsFor, KnowsDoubt, Does, IsInDoubt, IsSameRepository}
 use Rattle.cv_desk.specs.ActingInner.{at_vault, ComesTo, Settles}
@@ -240,11 +241,6 @@ pub next_same : (st settled : State) → Settled st settled → settled.next ≡
 next_same st settled (certain calm e) = ap (λ (x : State). x.next) e
 next_same st settled (unmade new is e) = ap (λ (x : State). x.next) e
 next_same st settled (published_too new is e) = ap (λ (x : State). x.next) e
-
-pub none_left : (st settled : State) → Settled st settled → settled.doubt ≡ None
-none_left st settled (certain calm e) = ap (λ (x : State). x.doubt) e ∙ calm
-none_left st settled (unmade new is e) = ap (λ (x : State). x.doubt) e
-none_left st settled (published_too new is e) = ap (λ (x : State). x.doubt) e
 
 -- what is left of a repository is left of it as it was before
 pub survives_same : {V S : Type 0} (is_seal : S → List ℕ → List ℕ → Bool) (before mid : LineView V S) (st : State) (p : Option Pending) (f : Files) → IsSameRepository before mid

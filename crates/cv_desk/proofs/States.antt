@@ -1,9 +1,10 @@
 -- What holds of the state of a gate, after each thing that is done to it.
-use Rattle.std.proofs.Common.{◌≡◌, ◌<◌, ◌≤◌, ◌+◌, ◌^◌, false, ℕ, List, [], refl, sym, subst, ◌∙◌, arith}
+use Rattle.std.proofs.Common.{◌≡◌, ◌≤◌, ◌+◌, false, ℕ, List, [], refl, sym, subst, ◌∙◌, arith}
 use Rattle.std.specs.declared.option.Option.TheVariants.{None}
 use Rattle.std.specs.List.{AllByRecursion}
 use Rattle.cv_base.specs.Path.{Path}
 use Rattle.cv_base.specs.declared.token.Token.{Token}
+use Rattle.cv_base.specs.Moment.{IsMoment}
 use Rattle.cv_tree.specs.Tree.{single}
 use Rattle.cv_tree.specs.declared.node.Node.TheVariants.{Dir}
 use Rattle.cv_history.specs.Record.{no_hash}
@@ -37,7 +38,7 @@ numbered revision root = record {
 }
 
 module _ {V S : Type 0} (s s' : StateView V S) (h : IsState s) where
-  pub state_aged : (now : ℕ) → now < 2 ^ 62 → s' ≡ aged_view s now → IsState s'
+  pub state_aged : (now : ℕ) → IsMoment now → s' ≡ aged_view s now → IsState s'
   state_aged now limit e = subst IsState (sym e) (record {
     leases = by_ageing (state_of s) now h.leases;
     moment = (let before = h.moment in omega (arith, before, limit));
@@ -53,7 +54,7 @@ module _ {V S : Type 0} (s s' : StateView V S) (h : IsState s) where
   pub state_same : s'.leases ≡ s.leases → s'.moment ≡ s.moment → s'.next ≡ s.next → s'.line.epoch ≡ s.line.epoch → IsState s'
   state_same leases moment next epoch = record {
     leases = subst AreLeases (λ i. record { history = []; leases = sym leases i; doubt = None; shelf = λ id. None; loose = λ id. false; moment = sym moment i; epoch = sym epoch i; next = sym next i }) h.leases;
-    moment = subst (λ m. m < 2 ^ 62) (sym moment) h.moment;
+    moment = subst IsMoment (sym moment) h.moment;
   }
 
   pub state_granted : (key : List ℕ) (path : Path) → refusal_of s.leases s.moment path ≡ None → s' ≡ with_lease s key path → IsState s'

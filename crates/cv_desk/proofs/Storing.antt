@@ -6,6 +6,7 @@ use Rattle.std.specs.declared.option.Option.TheVariants.{None, Some}
 use Rattle.cv_base.specs.declared.id.ObjectId.{ObjectId}
 use Rattle.cv_base.specs.declared.object.Object.{Object}
 use Rattle.cv_base.specs.declared.token.Token.{Token}
+use Rattle.cv_base.specs.Token.{last_number}
 use Rattle.cv_ports.specs.Shelf.{Shelf}
 use Rattle.cv_vault.specs.Names.{on_way}
 use Rattle.cv_vault.specs.Disk.{Disk, Files}
@@ -17,7 +18,7 @@ use Rattle.cv_objects.specs.Batches.{AreNamed, Brings}
 use Rattle.cv_gate.specs.State.{State, aged}
 use Rattle.cv_gate.specs.Kept.{Pending, whole as sends_whole}
 use Rattle.cv_gate.specs.Sound.{Sound}
-use Rattle.cv_gate.specs.Step.{Step, IsNoted, Stores, FreshIs, OnLease, last_number}
+use Rattle.cv_gate.specs.Step.{Step, IsNoted, Stores, FreshIs, OnLease}
 use Rattle.cv_gate.specs.declared.op.Op.{Op}
 use Rattle.cv_gate.specs.declared.op.Op.TheVariants as op
 use Rattle.cv_gate.specs.declared.act.Act.TheVariants as act

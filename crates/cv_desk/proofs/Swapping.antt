@@ -11,6 +11,7 @@ use Rattle.cv_objects.specs.Names.{is_digest, objects_of}
 use Rattle.cv_objects.proofs.Lemmas.{digest_back}
 use Rattle.cv_swap.specs.Kept.{Revision, newest, AreSound, Kept}
 use Rattle.cv_swap.specs.Stands.{head_name, epoch_name, epoch_text}
+use Rattle.cv_swap.proofs.Lemmas.{head_not_data}
 use Rattle.cv_gate.specs.State.{State, aged, unmade, published, with_revision}
 use Rattle.cv_gate.specs.Commits.{made}
 use Rattle.cv_gate.specs.Objects.{GainsAll}
@@ -18,7 +19,7 @@ use Rattle.cv_gate.specs.Sound.{Sound}
 use Rattle.cv_gate.specs.Kept.{Pending, BringsObjects, WouldCommit, Left, stays}
 use Rattle.cv_gate.proofs.Lemmas.{newest_push, some_of_all, left_sound, left_same, left_gain, hashed_made}
 use Rattle.cv_desk.specs.Holds.{IsHeadOf, SaysNewest, Holds, Survives}
-use Rattle.cv_desk.proofs.Names.{no_head, none_under}
+use Rattle.cv_desk.proofs.Names.{none_under}
 use Rattle.cv_desk.proofs.Imaging.{settled_itself, settled_same}
 
 abbrev begins_with_dot : Name → Bool
@@ -33,10 +34,10 @@ epoch_not_head e = let told : false ≡ true = ap begins_with_dot e in cc
 module _ (name : List ℕ) (is_seal : List ℕ → List ℕ → Bool) (new : Revision) (manifest : List ℕ) (d d' : Disk) (st : State) (says : IsHeadOf name is_seal new (Some manifest)) (h : Holds name is_seal d st)
     (none : st.doubt ≡ None) (g : Gains on_way (ComesTo head_name (Some manifest)) d d') where
   kept_may : (id : ObjectId) (f : File) → May (d' (file_name id)) f → May (d (file_name id)) f
-  kept_may id f may = elim (g.each (file_name id) refl) [ Stays same less ↦ less f may | Comes came less ↦ absurd (no_head id (sym came.0)) ]
+  kept_may id f may = elim (g.each (file_name id) refl) [ Stays same less ↦ less f may | Comes came less ↦ absurd (head_not_data id (sym came.0)) ]
 
   kept_now : (id : ObjectId) → (d' (file_name id)).now ≡ (d (file_name id)).now
-  kept_now id = elim (g.each (file_name id) refl) [ Stays same less ↦ same | Comes came less ↦ absurd (no_head id (sym came.0)) ]
+  kept_now id = elim (g.each (file_name id) refl) [ Stays same less ↦ same | Comes came less ↦ absurd (head_not_data id (sym came.0)) ]
 
   kept_epoch : (f : File) → May (d' epoch_name) f → f ≡ Some (epoch_text st.epoch)
   kept_epoch f may = elim (g.each epoch_name refl) [ Stays same less ↦ h.epoch f (less f may) | Comes came less ↦ absurd (epoch_not_head came.0) ]
@@ -96,7 +97,7 @@ module _ (name : List ℕ) (is_seal : List ℕ → List ℕ → Bool) (manifest 
             | inl same ↦ same
             | inr gone ↦ (let tight : stored.loose id ≡ false = g.loose id in let lo = gone.1 in absurd cc)
           ]
-          | inr head ↦ absurd (no_head id (sym head.0))
+          | inr head ↦ absurd (head_not_data id (sym head.0))
         ]
         | false ↦ λ e. sym (none_under stored.shelf id after.hashes e)
       ] refl

@@ -1,5 +1,5 @@
 -- What is done inside a step.
-use Rattle.std.specs.Prelude.{◌≡◌, ◌≢◌, ◌+◌, ◌<◌, ◌^◌, ◌≤◌, ℕ, Bool, true, false, IsSome, List, []}
+use Rattle.std.specs.Prelude.{◌≡◌, ◌≢◌, ◌+◌, ◌≤◌, ℕ, Bool, true, false, IsSome, List, []}
 use Rattle.std.specs.declared.option.Option.{Option}
 use Rattle.std.specs.declared.option.Option.TheVariants.{None, Some}
 use Rattle.std.specs.declared.result.Result.{Result}
@@ -9,6 +9,7 @@ use Rattle.cv_base.specs.Told.{WhereTold}
 use Rattle.cv_base.specs.declared.id.ObjectId.{ObjectId}
 use Rattle.cv_base.specs.declared.object.Object.{Object}
 use Rattle.cv_base.specs.declared.token.Token.{Token}
+use Rattle.cv_base.specs.Moment.{IsMoment}
 use Rattle.cv_vault.specs.Disk.{Disk, Files}
 use Rattle.cv_vault.specs.Moments.{LeavesOnly}
 use Rattle.cv_vault.specs.declared.vault.VaultFault.{VaultFault}
@@ -126,7 +127,7 @@ pub record IsReadied {V S : Type 0} (disk : V → Option Disk) (count : V → �
   pub types : HasTypes o
   pub keeps : (e : Entry) → e.key ≡ w.key → e.act ≡ w.act → Records e o
   pub commit : IsCommit o
-  pub gets : IsOp o → now < 2 ^ 62 → (st : State) → st.doubt ≡ None → StandsFor disk is_seal before st → GetsReady disk count left is_seal o now w.token before after st
+  pub gets : IsOp o → IsMoment now → (st : State) → st.doubt ≡ None → StandsFor disk is_seal before st → GetsReady disk count left is_seal o now w.token before after st
   pub waits : WaitsSo disk count left is_seal o now w.token before after
   pub head : w.head ≡ after.line.next_head
   pub stage : after.line.stage ≡ stage.Ready
@@ -174,7 +175,7 @@ pub record TakesReady {V S : Type 0} (disk : V → Option Disk) (count : V → �
   pub types : HasTypes o
   pub keeps : (e : Entry) → e.key ≡ w.key → e.act ≡ w.act → Records e o
   pub commit : IsCommit o
-  pub gets : IsOp o → now < 2 ^ 62 → (st : State) → StandsFor disk is_seal before st → GetsReady disk count left is_seal o now w.token before after st
+  pub gets : IsOp o → IsMoment now → (st : State) → StandsFor disk is_seal before st → GetsReady disk count left is_seal o now w.token before after st
   pub from : StateView V S
   pub resumes : Resumes disk count left before from
   pub waits : WaitsSo disk count left is_seal o now w.token from after

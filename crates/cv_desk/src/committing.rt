@@ -1,5 +1,5 @@
 //! Commits.
-ghost use Rattle.std.specs.Prelude.{◌≡◌, ◌≢◌, ◌⊎◌, ◌<◌, ◌^◌, ℕ, List, true, false, IfOk, IfErr, OnOk, Err, bytes_eq, option_copied};
+ghost use Rattle.std.specs.Prelude.{◌≡◌, ◌≢◌, ◌⊎◌, ◌<◌, ◌++◌, ◌∷◌, [], ℕ, List, None, Some, true, false, IfOk, IfErr, OnOk, OnErr, Err, IsErrOf, bytes_eq, option_copied};
 ghost use Rattle.std.specs.List.{find};
 ghost use Rattle.cv_base.specs.Counts.{HasCause};
 ghost use Rattle.cv_base.specs.Told.{WhereTold};
@@ -7,14 +7,22 @@ ghost use Rattle.cv_base.specs.declared.id.Kind.TheVariants as kinds;
 ghost use Rattle.cv_base.specs.declared.limits.TheConstants.{LAST_REVISION};
 ghost use Rattle.cv_base.specs.Marker.{marker, ends_in};
 ghost use Rattle.cv_history.specs.Record.{IsRecord};
+ghost use Rattle.cv_vault.specs.Names.{on_way};
+ghost use Rattle.cv_vault.specs.Walks.{Walks};
 ghost use Rattle.cv_swap.specs.declared.stage.Stage.TheVariants as stage;
+ghost use Rattle.cv_swap.specs.Kept.{object_of};
+ghost use Rattle.cv_swap.specs.Publishing.{Prepared};
+ghost use Rattle.cv_swap.specs.Stands.{head_with, Publishes};
 ghost use Rattle.cv_objects.specs.Names.{standing_on};
+ghost use Rattle.cv_objects.specs.Batches.{AreNamed, Brings};
+ghost use Rattle.cv_objects.specs.declared.store_fault.StoreFault.TheVariants as fault;
 ghost use Rattle.cv_graft.specs.Graft.{HasOwnIds};
 ghost use Rattle.cv_gate.specs.Step.{is_key_id, is_tag};
 ghost use Rattle.cv_gate.specs.declared.reply.Reply.TheVariants as replies;
-ghost use Rattle.cv_swap.specs.Line.{published, LineReads};
+ghost use Rattle.cv_swap.specs.Line.{published, LineReads, IsReady, IsDropped};
 ghost use Rattle.cv_desk.specs.Refusals.{is_unmade};
 ghost use Rattle.cv_base.specs.Path.{Path};
+ghost use Rattle.cv_base.specs.Moment.{IsMoment};
 ghost use Rattle.cv_load.specs.Known.{is_known, HasPair};
 ghost use Rattle.cv_load.specs.NewFetches.{FetchesNew};
 ghost use Rattle.cv_desk.specs.Known.{KnowsOn, Remembers, Learns, LearnsWhole};
@@ -23,13 +31,14 @@ ghost use Rattle.cv_desk.specs.Committing.{has_base, holder_of, taken_by, opposi
 ghost use Rattle.cv_desk.specs.CommittingInner.{Offers, GraftsOffered};
 
 use crate::answer::Answer;
-use cv_base::{Kind, LAST_REVISION, NoMemory, ObjectId, RepoPath, Target, Text};
+use cv_base::{Kind, LAST_REVISION, NoMemory, Object, ObjectId, RepoPath, Target, Text};
 use cv_gate::Reply;
 use cv_graft::{Grafted, graft};
 use cv_history::Record;
 use cv_leases::Lease;
 use cv_load::{KnownSet, whole};
 use cv_manifest::Head;
+use cv_objects::StoreFault;
 use cv_seal::Signer;
 use cv_swap::Line;
 use cv_vault::Vault;
@@ -200,6 +209,32 @@ fn next_record(
     })
 }
 
+/// Brings all of a revision into the vault but its head, whose file is put on its way: its record in one batch with the objects
+/// that its commit made, and then its manifest, whose sync settles them all.
+fn make_ready<V: Vault + Drop, S: Signer + Drop>(
+    alloc: Global,
+    line: &mut Line<V, S>,
+    next: Record,
+    size: u64,
+    others: Vec<Object>,
+) -> Result<Head, StoreFault>
+    requires limits { IsRecord next }
+    requires named { AreNamed others.items }
+    requires doubt { line.old.stage ≢ stage.Doubtful }
+    ensures walks { WhereTold (V.disk line.old.vault) (λ d.
+        Walks V.disk V.count V.left on_way (Brings d (others.items ++ object_of next ∷ [])) (Prepared d (others.items ++ object_of next ∷ []) line.new.manifest result) d line.old.vault line.new.vault) }
+    ensures silent { V.disk line.old.vault ≡ None → V.disk line.new.vault ≡ None }
+    ensures head { IfOk result (λ head. head ≡ head_with next size) }
+    ensures ready { IfOk result (λ head. IsReady line.old next head line.new) }
+    ensures published { IfOk result (λ head. published line.new ≡ published line.old) }
+    ensures says { IfOk result (λ head. Publishes line.old.name (S.is_seal line.old.signer) (Some line.new.manifest) head) }
+    ensures dropped { OnErr result (IsDropped line.old line.new) }
+    ensures cause { HasCause (V.faults line.old.vault) (V.faults line.new.vault) (IsErrOf result fault.Failed) }
+{
+    line.shelve(alloc, &next, others)?;
+    line.prepare(alloc, next, size)
+}
+
 /// Brings all of a commit's revision into the vault but its head, or says why not.
 pub(crate) fn ready<V: Vault + Drop, S: Signer + Drop>(
     alloc: Global,
@@ -216,7 +251,7 @@ pub(crate) fn ready<V: Vault + Drop, S: Signer + Drop>(
     requires unmarked { ends_in marker lease.now.path ≡ false }
     requires key { is_key_id key.now ≡ true }
     requires tag { is_tag tag.now ≡ true }
-    requires moment { moment < 2 ^ 62 }
+    requires moment { IsMoment moment }
     requires known { KnowsWhole V.disk line.old.vault known.old }
     ensures known { KnowsWhole V.disk line.new.vault known.new }
     ensures knows { KnowsOn V.disk line.old.vault known.old offered result known.new }
@@ -240,7 +275,7 @@ pub(crate) fn ready<V: Vault + Drop, S: Signer + Drop>(
         size,
         added,
     } = grafted;
-    match line.prepare(alloc, next, size, added.into_vec()) {
+    match make_ready(alloc, line, next, size, added.into_vec()) {
         Ok(head) => Ok(head),
         Err(fault) => Err(Answer::of_store(fault)),
     }

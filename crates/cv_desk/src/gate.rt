@@ -1,7 +1,8 @@
 //! The gate.
-ghost use Rattle.std.specs.Prelude.{◌≡◌, ◌≤◌, ◌<◌, ◌++◌, ◌∷◌, ◌^◌, [], max, None, Some, IfOk, IsErrOf, IsSome, ◌≢◌, vec_len, vec_capacity};
+ghost use Rattle.std.specs.Prelude.{◌≡◌, ◌≤◌, ◌<◌, ◌++◌, ◌∷◌, [], max, None, Some, IfOk, IsErrOf, IsSome, ◌≢◌, vec_len, vec_capacity};
 ghost use Rattle.cv_base.specs.Counts.{HasCause};
 ghost use Rattle.cv_base.specs.Told.{WhereTold};
+ghost use Rattle.cv_base.specs.Moment.{IsMoment};
 ghost use Rattle.cv_ports.specs.Calls.{raised};
 ghost use Rattle.cv_ports.specs.Shelf.{Fetches, Suits};
 ghost use Rattle.cv_ports.specs.declared.shelf.ShelfFault.TheVariants as shelf_fault;
@@ -95,7 +96,7 @@ impl<V: Vault + Drop, S: Signer + Drop> Gate<V, S> {
     ///
     /// A crash at any moment leaves what a crash within the op may leave of the state.
     pub fn begin(&mut self, seat: u32, now: u64, op: Op) -> Begun
-        requires moment { now < 2 ^ 62 }
+        requires moment { IsMoment now }
         requires op { IsOp op }
         requires idle { self.old.ready ≡ None }
         ensures begins { Begins V.disk V.count V.left S.is_seal op seat now self.old self.new result }
@@ -155,7 +156,7 @@ impl<V: Vault + Drop, S: Signer + Drop> Gate<V, S> {
     /// A crash at any moment leaves what a crash within the op may leave of the state. After `StoreFailed` some of the
     /// objects that were sent may be there. Over a vault that stands for a state `Damaged` doesn't come.
     pub fn step(&mut self, seat: u32, now: u64, op: Op) -> Reply
-        requires moment { now < 2 ^ 62 }
+        requires moment { IsMoment now }
         requires op { IsOp op }
         requires idle { self.old.ready ≡ None }
         ensures steps { Steps V.disk V.count V.left S.is_seal op seat now self.old self.new result }

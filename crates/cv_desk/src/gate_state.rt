@@ -1,8 +1,10 @@
 //! The state of the gate: all but its journal.
-ghost use Rattle.std.specs.Prelude.{◌≡◌, ◌≢◌, ◌≤◌, ◌<◌, ◌+◌, ◌^◌, ℕ, List, [], true, false, max, None, Some, Err, Ok, IfOk, IfErr, IsErrOf, OnOk};
+ghost use Rattle.std.specs.Prelude.{◌≡◌, ◌≢◌, ◌≤◌, ◌<◌, ◌+◌, ℕ, List, [], true, false, max, None, Some, Err, Ok, IfOk, IfErr, IsErrOf, OnOk};
 ghost use Rattle.cv_base.specs.Counts.{HasCause};
 ghost use Rattle.cv_base.specs.Path.{Path, IsPath};
 ghost use Rattle.cv_base.specs.Told.{WhereTold};
+ghost use Rattle.cv_base.specs.Moment.{IsMoment};
+ghost use Rattle.cv_base.specs.Token.{last_number};
 ghost use Rattle.cv_ports.specs.Calls.{raised};
 ghost use Rattle.cv_ports.specs.Shelf.{Fetches, Suits};
 ghost use Rattle.cv_ports.specs.declared.shelf.ShelfFault.TheVariants as shelf_fault;
@@ -126,7 +128,7 @@ impl<V: Vault + Drop, S: Signer + Drop> GateState<V, S> {
 
     /// Comes to a moment: leases whose deadline has come are gone.
     pub(crate) fn age(&mut self, now: u64)
-        requires { now < 2 ^ 62 }
+        requires { IsMoment now }
         ensures { self.new ≡ aged_view self.old now }
     {
         self.moment = self.moment.max(now);
@@ -190,7 +192,7 @@ impl<V: Vault + Drop, S: Signer + Drop> GateState<V, S> {
 
     /// Grants a lease that nothing refuses.
     fn grant(&mut self, alloc: Global, key: &Text, path: &RepoPath) -> Answer
-        requires next { self.old.next < 18446744073709551615 }
+        requires next { self.old.next < last_number }
         requires free { refusal_of self.old.leases self.old.moment path.now ≡ None }
         ensures { Grants key.now path.now self.old result self.new }
     {
@@ -215,7 +217,7 @@ impl<V: Vault + Drop, S: Signer + Drop> GateState<V, S> {
 
     /// Grants a lease on the path, or says why not.
     fn ask_lease(&mut self, alloc: Global, key: &Text, path: &RepoPath) -> Answer
-        requires next { self.old.next < 18446744073709551615 }
+        requires next { self.old.next < last_number }
         ensures asks { AsksLease V.disk V.count V.left key.now path.now self.old result self.new }
         ensures damage { ShowsDamage V.disk self.old.line.vault result }
         ensures cause { HasCause (V.faults self.old.line.vault) (V.faults self.new.line.vault) (result ≡ replies.StoreFailed) }
@@ -232,8 +234,8 @@ impl<V: Vault + Drop, S: Signer + Drop> GateState<V, S> {
 
     /// Grants a lease on the path at a moment, or says why not. The path's parent must be a directory of the newest tree.
     pub(crate) fn lease(&mut self, alloc: Global, now: u64, key: &Text, path: &RepoPath) -> Answer
-        requires now { now < 2 ^ 62 }
-        requires next { self.old.next < 18446744073709551615 }
+        requires now { IsMoment now }
+        requires next { self.old.next < last_number }
         ensures acts { Acts V.disk V.count V.left S.is_seal (ops.Lease key.now path.now) now (acts.Lease path.now) result self.old self.new }
         ensures answered { IsAnswered V.disk V.count V.left S.is_seal (ops.Lease key.now path.now) now (acts.Lease path.now) result self.old self.new }
         ensures same { IsSameRepository self.old.line self.new.line }
@@ -275,8 +277,8 @@ impl<V: Vault + Drop, S: Signer + Drop> GateState<V, S> {
 
     /// Ends the lease with the token at a moment, if it is the key's. Nothing is done to the vault.
     pub(crate) fn cancel(&mut self, now: u64, key: &Text, token: Token) -> Answer
-        requires now { now < 2 ^ 62 }
-        requires next { self.old.next < 18446744073709551615 }
+        requires now { IsMoment now }
+        requires next { self.old.next < last_number }
         ensures acts { Acts V.disk V.count V.left S.is_seal (ops.Cancel key.now token) now (acts.Cancel token) result self.old self.new }
         ensures answered { IsAnswered V.disk V.count V.left S.is_seal (ops.Cancel key.now token) now (acts.Cancel token) result self.old self.new }
         ensures failed { result ≢ replies.StoreFailed }
@@ -325,8 +327,8 @@ impl<V: Vault + Drop, S: Signer + Drop> GateState<V, S> {
         token: Token,
         batch: &[Object],
     ) -> Sent
-        requires now { now < 2 ^ 62 }
-        requires next { self.old.next < 18446744073709551615 }
+        requires now { IsMoment now }
+        requires next { self.old.next < last_number }
         requires named { AreNamed batch.now }
         ensures acts { (digest : _) → Acts V.disk V.count V.left S.is_seal (ops.Store key.now token digest batch.now) now (acts.Store token digest result.fresh) result.answer self.old self.new }
         ensures answered { (digest : _) → IsAnswered V.disk V.count V.left S.is_seal (ops.Store key.now token digest batch.now) now (acts.Store token digest result.fresh) result.answer self.old self.new }
@@ -371,8 +373,8 @@ impl<V: Vault + Drop, S: Signer + Drop> GateState<V, S> {
         new_root: [u8; 20],
         tag: Text,
     ) -> Course
-        requires now { now < 2 ^ 62 }
-        requires next { self.old.next < 18446744073709551615 }
+        requires now { IsMoment now }
+        requires next { self.old.next < last_number }
         requires calm { self.old.line.stage ≢ stage.Doubtful }
         requires key { is_key_id key ≡ true }
         requires tag { is_tag tag ≡ true }
@@ -394,8 +396,8 @@ impl<V: Vault + Drop, S: Signer + Drop> GateState<V, S> {
 
     /// Does an op at a moment, or makes it ready where it is a commit that nothing refuses.
     fn do_op(&mut self, alloc: Global, now: u64, op: Op) -> Course
-        requires now { now < 2 ^ 62 }
-        requires next { self.old.next < 18446744073709551615 }
+        requires now { IsMoment now }
+        requires next { self.old.next < last_number }
         requires op { IsOp op }
         requires calm { self.old.line.stage ≢ stage.Doubtful }
         ensures course { Courses V.disk V.count V.left S.is_seal op now result self.old self.new }
@@ -444,8 +446,8 @@ impl<V: Vault + Drop, S: Signer + Drop> GateState<V, S> {
     /// Takes an op at a moment: a commit in doubt is settled, and then it is done, or made ready; or it waits, and the fault is
     /// answered.
     pub(crate) fn take(&mut self, alloc: Global, now: u64, op: Op) -> Course
-        requires now { now < 2 ^ 62 }
-        requires next { self.old.next < 18446744073709551615 }
+        requires now { IsMoment now }
+        requires next { self.old.next < last_number }
         requires op { IsOp op }
         ensures takes { TakesCourse V.disk V.count V.left S.is_seal op now result self.old self.new }
         ensures cause { HasCause (V.faults self.old.line.vault) (V.faults self.new.line.vault) (HasFailed result) }

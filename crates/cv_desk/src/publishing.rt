@@ -1,6 +1,8 @@
 //! What the state of the gate does of a commit.
-ghost use Rattle.std.specs.Prelude.{◌≡◌, ◌≢◌, ◌<◌, ◌^◌, true, Some, Err};
+ghost use Rattle.std.specs.Prelude.{◌≡◌, ◌≢◌, ◌<◌, true, Some, Err};
 ghost use Rattle.cv_base.specs.Counts.{HasCause};
+ghost use Rattle.cv_base.specs.Moment.{IsMoment};
+ghost use Rattle.cv_base.specs.Token.{last_number};
 ghost use Rattle.cv_gate.specs.Step.{is_key_id, is_tag, HasTypes};
 ghost use Rattle.cv_gate.specs.declared.op.Op.TheVariants as ops;
 ghost use Rattle.cv_gate.specs.declared.reply.Reply.TheVariants as replies;
@@ -135,8 +137,8 @@ impl<V: Vault + Drop, S: Signer + Drop> GateState<V, S> {
         offered: [u8; 20],
         tag: &Text,
     ) -> Result<Head, Answer>
-        requires now { now < 2 ^ 62 }
-        requires next { self.old.next < 18446744073709551615 }
+        requires now { IsMoment now }
+        requires next { self.old.next < last_number }
         requires calm { self.old.line.stage ≢ stage.Doubtful }
         requires key { is_key_id key.now ≡ true }
         requires tag { is_tag tag.now ≡ true }

@@ -1,6 +1,6 @@
 -- A first revision but its head, call by call.
 use Rattle.std.proofs.Common.{◌≡◌, ℕ, List, refl, sym, ap, subst, ◌∙◌}
-use Rattle.std.specs.Prelude.{IsErrAnd}
+use Rattle.std.specs.List.{Contains}
 use Rattle.std.specs.declared.option.Option.{Option}
 use Rattle.std.specs.declared.option.Option.TheVariants.{Some}
 use Rattle.std.specs.declared.result.Result.{Result}
@@ -17,7 +17,7 @@ use Rattle.cv_vault.specs.Replace.{IsSure, IsWaiting, Came}
 use Rattle.cv_vault.proofs.Laws.{here, elsewhere, call, bind, looser, writes, ok, err, sync_ok, sync_err, sure_then}
 use Rattle.cv_objects.specs.Faults.{fault_of}
 use Rattle.cv_objects.specs.Names.{way_name}
-use Rattle.cv_objects.specs.Batches.{AreNamed, AreReady, IsApart, Has, Brings, Brought, WroteAll, ShownIn, IsOutside}
+use Rattle.cv_objects.specs.Batches.{AreNamed, AreReady, IsReady, is_there, is_coming, IsApart, Has, Brings, Brought, WroteAll, ShownIn, IsOutside}
 use Rattle.cv_objects.specs.declared.store_fault.StoreFault.{StoreFault}
 use Rattle.cv_objects.specs.declared.store_fault.StoreFault.TheVariants.{Collision, Failed, Damaged, NoMemory}
 use Rattle.cv_objects.proofs.Lemmas.{data_off_way, outside, brings_later, has_then}
@@ -26,12 +26,15 @@ use Rattle.cv_swap.specs.StandsInner.{epoch_way}
 use Rattle.cv_swap.specs.Publishing.{BringsFirst, an_object, the_epoch}
 use Rattle.cv_swap.specs.PublishingInner.{AreBeside, PutBeside, Built, AreBuilt}
 use Rattle.cv_swap.proofs.Names.{head_apart, epoch_way_apart, epoch_apart, epoch_not_data, epoch_not_manifest, manifest_not_epoch}
-use Rattle.cv_swap.proofs.Publish.{ready_beside}
 
--- a fault, as it is handed on
-pub handed_on : {T : Type 0} (r : Result T VaultFault) (e : VaultFault) → IsErrAnd r (λ x. x ≡ e) → r ≡ Err e
-handed_on (Ok x) e h = absurd h
-handed_on (Err x) e h = ap Err h
+-- ---- a batch that stays where it is on its way, while other names change
+
+ready_beside : (batch : List Object) (d d' : Disk) → ((o : Object) → Contains batch o → (d' (file_name o.id) ≡ d (file_name o.id)) × (d' (way_name o.id) ≡ d (way_name o.id))) → AreReady d batch → AreReady d' batch
+ready_beside batch d d' same r = record { each = λ o h. by o (same o h) (r.each o h) }
+  where
+    by : (o : Object) → (d' (file_name o.id) ≡ d (file_name o.id)) × (d' (way_name o.id) ≡ d (way_name o.id)) → IsReady d o → IsReady d' o
+    by o e (is_there t) = is_there (ap (λ (s : Slot). s.now) e.0 ∙ t)
+    by o e (is_coming s t) = is_coming (ap (λ (s : Slot). s.now) e.0 ∙ s) (ap (λ (s : Slot). s.now) e.1 ∙ t)
 
 -- ---- the epoch and the manifest are put on their way
 

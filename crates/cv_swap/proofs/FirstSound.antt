@@ -1,30 +1,28 @@
 -- A first revision alone is sound, on a shelf with its objects.
-use Rattle.std.proofs.Common.{◌≡◌, ◌<◌, ◌^◌, ◌++◌, ℕ, zero, suc, true, false, cond, slice_index, replicate, List, [], ◌∷◌, map, reverse, refl, sym, ap, subst, ◌∙◌, arith}
+use Rattle.std.proofs.Common.{◌≡◌, ◌<◌, ◌++◌, ℕ, zero, suc, true, false, cond, slice_index, replicate, List, [], ◌∷◌, map, reverse, refl, sym, ap, subst, ◌∙◌, arith}
 use Rattle.std.specs.declared.option.Option.TheVariants.{None, Some}
 use Rattle.std.specs.Ordering.{eq_by_cmp}
 use Rattle.std.specs.List.{filter}
-use Rattle.std.specs.List.Sorted.{IsStrictlySortedBy}
-use Rattle.std.specs.FinMap.{empty, get, entries, get-insert, get-empty}
-use Rattle.std.proofs.lemmas.Str.{is_utf8-from_IsUtf8, IsUtf8-nil}
+use Rattle.std.specs.FinMap.{empty, get, get-insert, get-empty}
 use Rattle.sha1.specs.Sha1.{sha1}
 use Rattle.cv_base.specs.Path.{Path, path_cmp}
 use Rattle.cv_base.specs.PathOrder.{path_total}
-use Rattle.cv_base.specs.Target.{is_target}
 use Rattle.cv_base.specs.ObjectId.{object_id}
 use Rattle.cv_base.specs.declared.attr.Attr.{Attr}
 use Rattle.cv_base.specs.declared.id.Kind.TheVariants.{Catalogue}
-use Rattle.cv_base.proofs.Laws.{digest_sha1}
+use Rattle.cv_base.proofs.Laws.{digest_sha1, no_target}
 use Rattle.cv_ports.specs.Shelf.{Shelf, IsShelf}
 use Rattle.cv_base.specs.Attr.{IsAttr}
+use Rattle.cv_base.specs.Moment.{IsMoment}
 use Rattle.cv_tree.specs.Tree.{single}
 use Rattle.cv_tree.specs.declared.node.Node.{Node}
 use Rattle.cv_tree.specs.declared.node.Node.TheVariants.{Dir, File}
-use Rattle.cv_tree.proofs.Laws.{entries-from_entries, IsTree-single}
+use Rattle.cv_tree.proofs.Laws.{IsTree-single}
 use Rattle.cv_cut.specs.Catalogues.{cat, root_of}
 use Rattle.cv_cut.specs.Cut.{catalogue_object}
 use Rattle.cv_cut.specs.Cuts.{is_cut, cuts_of}
 use Rattle.cv_cut.specs.Means.{Means}
-use Rattle.cv_cut.proofs.Lemmas.{Fits-single, cut_single}
+use Rattle.cv_cut.proofs.Lemmas.{Fits-single, cut_single, entries_single}
 use Rattle.cv_swap.specs.First.{first_tree, first_revision, first_batch}
 use Rattle.cv_swap.specs.Kept.{record_object, AreSound}
 
@@ -33,7 +31,7 @@ use Rattle.cv_swap.specs.Kept.{record_object, AreSound}
 abbrev first_attr : ℕ → Attr
 first_attr now = record { mode = 493; mtime = now; uid = 0; gid = 0 }
 
-good_attr : (now : ℕ) → now < 2 ^ 62 → IsAttr (first_attr now)
+good_attr : (now : ℕ) → IsMoment now → IsAttr (first_attr now)
 good_attr now limit = record { mode = omega arith; mtime = omega (arith, limit); uid = omega arith; gid = omega arith }
 
 no_file : (m : Node) (q : Path) (n : Node) → get (single m) q ≡ Some n → n ≡ m
@@ -43,7 +41,7 @@ no_file m q n e =
       | false ↦ λ f. absurd cc
     ] (sym (get-insert path_total empty [] m q ∙ ap (cond (eq_by_cmp path_cmp q []) (Some m)) (get-empty path_cmp q)) ∙ e)
 
-first_means : (s : Shelf) (now : ℕ) → now < 2 ^ 62 → s (catalogue_object (first_tree now) []).id ≡ Some (cat (first_tree now) []) → Means s (root_of (first_tree now)) (first_tree now)
+first_means : (s : Shelf) (now : ℕ) → IsMoment now → s (catalogue_object (first_tree now) []).id ≡ Some (cat (first_tree now) []) → Means s (root_of (first_tree now)) (first_tree now)
 first_means s now limit there = record {
   tree = IsTree-single (first_attr now) (good_attr now limit);
   fits = Fits-single (first_attr now) (good_attr now limit);
@@ -54,10 +52,6 @@ first_means s now limit there = record {
 
 -- ---- its objects
 
-entries_single : (m : Node) → entries (single m) ≡ ([], m) ∷ []
-unfolding IsStrictlySortedBy
-entries_single m = entries-from_entries path_total (([], m) ∷ []) (tt, tt)
-
 cuts_single : (m : Node) → cuts_of (single m) ≡ [] ∷ []
 cuts_single m = ap (λ (es : List (Path × Node)). filter (is_cut (single m)) (map (λ e. e.0) es)) (entries_single m)
 
@@ -66,15 +60,12 @@ first_batch_is now = ap (λ (cs : List Path). map (catalogue_object (first_tree 
 
 -- ---- its record
 
-empty_text : is_target [] ≡ true
-empty_text = rw (is_utf8-from_IsUtf8 [] IsUtf8-nil) refl
-
 zeros : (n i : ℕ) → slice_index (replicate n 0) i < 256
 zeros zero i = omega arith
 zeros (suc n) zero = omega arith
 zeros (suc n) (suc i) = zeros n i
 
-pub first_sound : (s : Shelf) (now : ℕ) → now < 2 ^ 62 → IsShelf s → s (catalogue_object (first_tree now) []).id ≡ Some (cat (first_tree now) [])
+pub first_sound : (s : Shelf) (now : ℕ) → IsMoment now → IsShelf s → s (catalogue_object (first_tree now) []).id ≡ Some (cat (first_tree now) [])
     → s (record_object (first_revision now)).id ≡ Some (record_object (first_revision now)).bytes → AreSound s (first_revision now ∷ [])
 first_sound s now limit hashes catalogue there = record {
   hashes = hashes;
@@ -87,8 +78,8 @@ first_sound s now limit hashes catalogue there = record {
         epoch = omega arith;
         number = omega arith;
         path = record { names = refl; depth = omega arith; size = omega arith };
-        key = empty_text;
-        tag = empty_text;
+        key = no_target;
+        tag = no_target;
       };
       limits = record {
         from_one = omega arith;

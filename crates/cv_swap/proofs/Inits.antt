@@ -1,5 +1,5 @@
 -- A repository is made, call by call.
-use Rattle.std.proofs.Common.{◌≡◌, ◌≢◌, ◌⊎◌, ◌<◌, ◌^◌, ℕ, Bool, true, false, List, [], ◌∷◌, refl, sym, ap, subst, ◌∙◌, inl, inr, arith}
+use Rattle.std.proofs.Common.{◌≡◌, ◌≢◌, ◌⊎◌, ℕ, Bool, true, false, List, [], ◌∷◌, refl, sym, ap, subst, ◌∙◌, inl, inr, arith}
 use Rattle.std.specs.Prelude.{IsErrAnd, if◌then◌else◌}
 use Rattle.std.proofs.lemmas.Option.{same_Some}
 use Rattle.std.specs.List.{Contains}
@@ -13,6 +13,7 @@ use Rattle.cv_base.specs.ObjectId.{file_name}
 use Rattle.cv_base.specs.declared.id.ObjectId.{ObjectId}
 use Rattle.cv_base.specs.declared.object.Object.{Object}
 use Rattle.cv_base.proofs.Laws.{one_file_name}
+use Rattle.cv_base.specs.Moment.{IsMoment}
 use Rattle.cv_ports.specs.Shelf.{Shelf, IsShelf}
 use Rattle.cv_vault.specs.declared.vault.VaultFault.{VaultFault}
 use Rattle.cv_vault.specs.declared.vault.VaultFault.TheVariants as vault
@@ -69,7 +70,7 @@ built_shelf d d1 now hashed g = record { hash = λ id bytes e. by id bytes (is_d
     by id bytes true digest e = changed id bytes digest (g.each (file_name id) refl) (sym (standing_is d1 id (digest_back id.hash digest)) ∙ e)
     by id bytes false digest e = absurd (let k : None ≡ Some bytes = sym (ap (λ (b : Bool). if b then (d1 (file_name id)).now else None) digest) ∙ e in cc)
 
-first_can : (name : List ℕ) (is_seal : List ℕ → List ℕ → Bool) (d d1 : Disk) (now : ℕ) (manifest : List ℕ) → now < 2 ^ 62 → HaveHashes (files_now d) → Gains on_way (BringsFirst d (first_batch now)) d d1 → AreBuilt (first_batch now) d1
+first_can : (name : List ℕ) (is_seal : List ℕ → List ℕ → Bool) (d d1 : Disk) (now : ℕ) (manifest : List ℕ) → IsMoment now → HaveHashes (files_now d) → Gains on_way (BringsFirst d (first_batch now)) d d1 → AreBuilt (first_batch now) d1
     → Publishes name is_seal (Some manifest) (head_of (first_revision now)) → CanBegin name is_seal d1 (first_revision now) manifest
 first_can name is_seal d d1 now manifest limit hashed g are says = record {
   sound = first_sound (standing_on d1) now limit (built_shelf d d1 now hashed g) (on_shelf catalogue (there catalogue (0, omega arith, refl))) (on_shelf (record_object (first_revision now)) (there (record_object (first_revision now)) (1, omega arith, refl)));
@@ -115,7 +116,7 @@ while_before manifest d built batch f gains within old = record {
   ];
 }
 
-first_while : (name : List ℕ) (is_seal : List ℕ → List ℕ → Bool) (now : ℕ) (manifest : List ℕ) (d : Disk) (f : Files) → now < 2 ^ 62 → (d head_name).now ≡ None
+first_while : (name : List ℕ) (is_seal : List ℕ → List ℕ → Bool) (now : ℕ) (manifest : List ℕ) (d : Disk) (f : Files) → IsMoment now → (d head_name).now ≡ None
     → Publishes name is_seal (Some manifest) (head_of (first_revision now)) → WhileFirst d (first_batch now) manifest f → WhileInit name is_seal now d f
 first_while name is_seal now manifest d f limit none says (before_head within) = not_yet within
 first_while name is_seal now manifest d f limit none says (with_head built are gains within) = elim (within.each head_name refl) [
@@ -182,7 +183,7 @@ vault_makes name is_seal now d vault.Failed = gains_none refl
 vault_makes name is_seal now d vault.NoMemory = gains_none refl
 
 -- what is left with a fault of the store
-refused_left : (name : List ℕ) (is_seal : List ℕ → List ℕ → Bool) (now : ℕ) (manifest : List ℕ) (d : Disk) (e : StoreFault) (f : Files) → now < 2 ^ 62 → (d head_name).now ≡ None → Publishes name is_seal (Some manifest) (head_of (first_revision now))
+refused_left : (name : List ℕ) (is_seal : List ℕ → List ℕ → Bool) (now : ℕ) (manifest : List ℕ) (d : Disk) (e : StoreFault) (f : Files) → IsMoment now → (d head_name).now ≡ None → Publishes name is_seal (Some manifest) (head_of (first_revision now))
     → FirstLeaves d (first_batch now) manifest {X = Unit {0}} (Err e) f → InitLeaves name is_seal now d (Err (init_fault_of e)) f
 refused_left name is_seal now manifest d (store.Collision id) f limit none says w = w
 refused_left name is_seal now manifest d store.Failed f limit none says w = first_while name is_seal now manifest d f limit none says w
@@ -202,7 +203,7 @@ module _ {V : Type 0} {disk : V → Option Disk} {count : V → ℕ} {left : V �
     leaves = leaves_more (quiet_walks only told reads).leaves (λ f w. nothing_left name is_seal now d e f w);
   })
 
-  module _ {v2 : V} (manifest : List ℕ) (limit : now < 2 ^ 62) (none : (d head_name).now ≡ None) (says : Publishes name is_seal (Some manifest) (head_of (first_revision now))) where
+  module _ {v2 : V} (manifest : List ℕ) (limit : IsMoment now) (none : (d head_name).now ≡ None) (says : Publishes name is_seal (Some manifest) (head_of (first_revision now))) where
     leaves : {P : Files → Type 0} → LeavesOnly count left P v1 v2 → (R : Files → Type 0) → ((f : Files) → Within on_way Nothing d f → R f) → ((f : Files) → P f → R f) → LeavesOnly count left R v v2
     leaves l R before after = leaves_then (quiet_walks only told reads).leaves l before after
 

@@ -11,3 +11,4 @@ pub use Rattle.cv_swap.proofs.Opens.{leaves_while}
 pub use Rattle.cv_swap.proofs.Failed.{failed_stands, unraised_stands}
 -- what is left while a repository is made
 pub use Rattle.cv_swap.proofs.Inits.{leaves_settled}
+pub use Rattle.cv_swap.proofs.Names.{epoch_not_data, head_not_data}

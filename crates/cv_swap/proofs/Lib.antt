@@ -3,6 +3,7 @@ mod Raising
 mod Finding
 mod Opens
 mod Views
+mod Shelving
 mod Publish
 mod Bringing
 mod Building

@@ -6,6 +6,7 @@ use Rattle.std.specs.declared.option.Option.TheVariants.{Some}
 use Rattle.std.specs.declared.result.Result.{Result}
 use Rattle.std.specs.declared.result.Result.TheVariants.{Ok, Err}
 use Rattle.cv_base.specs.Told.{WhereTold}
+use Rattle.cv_base.specs.Token.{last_number}
 use Rattle.cv_vault.specs.declared.vault.VaultFault.{VaultFault}
 use Rattle.cv_vault.specs.declared.vault.VaultFault.TheVariants as vault
 use Rattle.cv_vault.specs.Names.{Name, on_way}
@@ -68,10 +69,10 @@ leaves_while d (Err EpochsSpent) f w = before w
 leaves_while d (Err Failed) f w = w
 leaves_while d (Err NoMemory) f w = before w
 
-raises : {d : Disk} (epoch : ℕ) → (d epoch_name).now ≡ Some (epoch_text epoch) → epoch < 18446744073709551615 → (n : Name) (f : File) → ComesTo epoch_name (Some (epoch_text (epoch + 1))) n f → IsRaised d n f
+raises : {d : Disk} (epoch : ℕ) → (d epoch_name).now ≡ Some (epoch_text epoch) → epoch < last_number → (n : Name) (f : File) → ComesTo epoch_name (Some (epoch_text (epoch + 1))) n f → IsRaised d n f
 raises epoch there room n f c = record { name = c.0; epoch = epoch; room = room; before = there; after = c.1 }
 
-opened_raised : (d d2 : Disk) (epoch : ℕ) (x : VaultFault) (d' : Disk) → (d epoch_name).now ≡ Some (epoch_text epoch) → epoch < 18446744073709551615 → Gains on_way Nothing d d2 → d2 ≡ synced d
+opened_raised : (d d2 : Disk) (epoch : ℕ) (x : VaultFault) (d' : Disk) → (d epoch_name).now ≡ Some (epoch_text epoch) → epoch < last_number → Gains on_way Nothing d d2 → d2 ≡ synced d
     → Gains on_way (ComesTo epoch_name (Some (epoch_text (epoch + 1)))) d2 d' → Replaced d2 epoch_name (epoch_text (epoch + 1)) {X = Unit {0}} (Err x) d' → Opened d (Err (open_fault_of x)) d'
 opened_raised d d2 epoch vault.Failed d' there room quiet same g h = gains_then (gains_more (λ n f b. absurd b) quiet) (gains_more (raises epoch there room) g)
 opened_raised d d2 epoch vault.NoMemory d' there room quiet same g h = subst (λ (x : Disk). Gains on_way Nothing x d') same h

@@ -1,7 +1,6 @@
 -- Revisions that come, call by call.
-use Rattle.std.proofs.Common.{◌≡◌, ℕ, List, refl, sym, ap, subst, ◌∙◌, inl, inr}
+use Rattle.std.proofs.Common.{◌≡◌, ℕ, List, refl, sym, ap, subst, ◌∙◌}
 use Rattle.std.specs.Prelude.{⊤}
-use Rattle.std.specs.List.{Contains}
 use Rattle.std.specs.declared.option.Option.{Option}
 use Rattle.std.specs.declared.option.Option.TheVariants.{Some}
 use Rattle.std.specs.declared.result.Result.{Result}
@@ -12,96 +11,58 @@ use Rattle.cv_base.specs.declared.object.Object.{Object}
 use Rattle.cv_vault.specs.declared.vault.VaultFault.{VaultFault}
 use Rattle.cv_vault.specs.declared.vault.VaultFault.TheVariants as vault
 use Rattle.cv_vault.specs.Names.{on_way}
-use Rattle.cv_vault.specs.Disk.{Disk, Slot, Files, ImageOf, Syncs, Writes, Torn, slot, written}
+use Rattle.cv_vault.specs.Disk.{Disk, Slot, Files, ImageOf, Syncs, Writes, Torn, slot}
 use Rattle.cv_vault.specs.Moments.{Calls, LeavesOnly, OnlyReads}
 use Rattle.cv_vault.specs.Walks.{Gains, Within, Walks, Nothing, ComesTo}
 use Rattle.cv_vault.specs.Replace.{IsSure, MovedIn, IsWaiting}
 use Rattle.cv_vault.proofs.Laws.{here, elsewhere, call, bind, looser, leaves_more, leaves_then, gains_then, gains_more, gains_none, within_then, within_more, quiet_walks, writes, ok, err, sync_ok, sync_err, sure_then, sure_waits}
 use Rattle.cv_objects.specs.Faults.{fault_of}
-use Rattle.cv_objects.specs.Names.{way_name}
-use Rattle.cv_objects.specs.Batches.{AreNamed, AreReady, IsReady, is_there, is_coming, IsApart, Has, Brings, Brought, WroteAll, IsOne, ShownIn, IsOutside, IsRefusal}
+use Rattle.cv_objects.specs.Batches.{AreNamed, Has, Brings, IsOne, IsRefusal, Stored}
 use Rattle.cv_objects.specs.declared.store_fault.StoreFault.{StoreFault}
 use Rattle.cv_objects.specs.declared.store_fault.StoreFault.TheVariants.{Collision, Failed, Damaged, NoMemory}
-use Rattle.cv_objects.proofs.Lemmas.{outside, brings_nothing, brings_later, has_then}
+use Rattle.cv_objects.proofs.Lemmas.{outside, has_then}
 use Rattle.cv_swap.specs.Stands.{head_name, head_way}
-use Rattle.cv_swap.specs.Publishing.{Prepared, BringsFirst}
+use Rattle.cv_swap.specs.Publishing.{Prepared, Shelved, BringsFirst}
 use Rattle.cv_swap.specs.PublishingInner.{Built, AreBuilt, WhileFirst, FirstLeaves, Inited, Inits, before_head, with_head, comes_before, comes_last}
 use Rattle.cv_swap.proofs.Names.{head_apart}
-
--- ---- a batch that stays where it is on its way, while other names change
-
-pub ready_beside : (batch : List Object) (d d' : Disk) → ((o : Object) → Contains batch o → (d' (file_name o.id) ≡ d (file_name o.id)) × (d' (way_name o.id) ≡ d (way_name o.id))) → AreReady d batch → AreReady d' batch
-ready_beside batch d d' same r = record { each = λ o h. by o (same o h) (r.each o h) }
-  where
-    by : (o : Object) → (d' (file_name o.id) ≡ d (file_name o.id)) × (d' (way_name o.id) ≡ d (way_name o.id)) → IsReady d o → IsReady d' o
-    by o e (is_there t) = is_there (ap (λ (s : Slot). s.now) e.0 ∙ t)
-    by o e (is_coming s t) = is_coming (ap (λ (s : Slot). s.now) e.0 ∙ s) (ap (λ (s : Slot). s.now) e.1 ∙ t)
+use Rattle.cv_swap.proofs.Shelving.{failed_outside}
 
 -- ---- a revision is prepared
 
-pub prepared_refused : {X : Type 0} (d : Disk) (batch : List Object) (manifest : List ℕ) (d' : Disk) (r : Result X StoreFault) (e : StoreFault) → r ≡ Err e → (e ≡ Failed → IsOne batch) → ShownIn d batch e → Gains on_way Nothing d d' → Prepared d batch manifest r d'
-prepared_refused d batch manifest d' r (Collision id) is one h g = rw is (record { shown = h; same = g })
-prepared_refused d batch manifest d' r Failed is one h g = rw is (one refl)
-prepared_refused d batch manifest d' r (Damaged id found) is one h g = rw is (record { shown = h; same = g })
-prepared_refused d batch manifest d' r NoMemory is one h g = rw is (inr g)
-
-prepared_outside : {X : Type 0} (d : Disk) (batch : List Object) (manifest : List ℕ) (d' : Disk) (r : Result X StoreFault) (e : StoreFault) → r ≡ Err e → IsOne batch → IsOutside e → Prepared d batch manifest r d'
-prepared_outside d batch manifest d' r (Collision id) is one h = absurd h
-prepared_outside d batch manifest d' r Failed is one h = rw is one
-prepared_outside d batch manifest d' r (Damaged id found) is one h = absurd h
-prepared_outside d batch manifest d' r NoMemory is one h = rw is (inl one)
-
--- the batch is on its way or there, and so is the manifest
-pub record AreUnderWay (batch : List Object) (manifest : List ℕ) (d : Disk) : Type 0 where
-  pub ready : AreReady d batch
-  pub head : (d head_way).now ≡ Some manifest
+pub prepared_failed : {X : Type 0} (d : Disk) (batch : List Object) (manifest : List ℕ) (d' : Disk) (r : Result X StoreFault) (e : StoreFault) → r ≡ Err e → Stored d batch {X = Unit {0}} (Err e) d' → Prepared d batch manifest r d'
+prepared_failed d batch manifest d' r e is h = rw is h
 
 -- the batch is there, and the manifest is on its way
 pub record AreThere (batch : List Object) (manifest : List ℕ) (d : Disk) : Type 0 where
+  pub one : IsOne batch
   pub has : Has d batch
   pub head : (d head_way).now ≡ Some manifest
 
-module _ {V : Type 0} {disk : V → Option Disk} {count : V → ℕ} {left : V → ℕ → Files → Type 0} (batch : List Object) (manifest : List ℕ) (named : AreNamed batch) {d : Disk} {v0 v v' : V} where
-  pub then_manifest : {u : Unit {0}} → ((f : Files) → left v (count v) f → ImageOf (disk v) f) → Walks disk count left on_way Nothing (WroteAll d batch {X = Unit {0}} (Ok u)) d v0 v → Calls disk count left (Writes head_way manifest ok) v v'
-      → Walks disk count left on_way Nothing (AreUnderWay batch manifest) d v0 v'
-  then_manifest only w c = bind w (λ n f b. b) (λ d1 told g put. call only told c (λ d2 h. (
+module _ {V : Type 0} {disk : V → Option Disk} {count : V → ℕ} {left : V → ℕ → Files → Type 0} (batch : List Object) (manifest : List ℕ) {d : Disk} {v0 v v' : V} where
+  pub then_manifest : {u : Unit {0}} → AreNamed batch → ((f : Files) → left v (count v) f → ImageOf (disk v) f) → Walks disk count left on_way (Brings d batch) (Shelved d batch {X = Unit {0}} (Ok u)) d v0 v → Calls disk count left (Writes head_way manifest ok) v v'
+      → Walks disk count left on_way (Brings d batch) (AreThere batch manifest) d v0 v'
+  then_manifest named only w c = bind w (λ n f b. b) (λ d1 told g are. call only told c (λ d2 h. (
     writes head_way manifest ok d1 d2 refl h,
-    subst (AreUnderWay batch manifest) (sym h) (record {
-      ready = ready_beside batch d1 (written d1 head_way (Some manifest)) (λ o k. (
-        elsewhere d1 head_way (slot (Some manifest) Torn) (file_name o.id) (λ e. apart.name o k (sym e)),
-        elsewhere d1 head_way (slot (Some manifest) Torn) (way_name o.id) (λ e. apart.way o k (sym e)),
-      )) put.0;
+    subst (AreThere batch manifest) (sym h) (record {
+      one = are.0;
+      has = record { each = λ o k. ap (λ (s : Slot). s.now) (elsewhere d1 head_way (slot (Some manifest) Torn) (file_name o.id) (λ e. (head_apart batch named).name o k (sym e))) ∙ are.1.each o k };
       head = ap (λ (s : Slot). s.now) (here d1 head_way (slot (Some manifest) Torn));
     }),
   )))
-    where
-      apart : IsApart batch head_way
-      apart = head_apart batch named
 
-  pub then_batch : {u : Unit {0}} → Walks disk count left on_way Nothing (AreUnderWay batch manifest) d v0 v → WhereTold (disk v) (λ d1. Walks disk count left on_way (Brings d1 batch) (Brought d1 batch {X = Unit {0}} (Ok u)) d1 v v')
-      → Walks disk count left on_way (Brings d batch) (AreThere batch manifest) d v0 v'
-  then_batch w h = bind w brings_nothing (λ d1 told g under. looser (h d1 told) (brings_later g) (λ d2 g2 k. record { has = k.0; head = ap (λ (s : Slot). s.now) (k.1.each head_way (head_apart batch named)) ∙ under.head }))
-
-module _ {V : Type 0} {disk : V → Option Disk} {count : V → ℕ} {left : V → ℕ → Files → Type 0} (batch : List Object) (manifest : List ℕ) {d : Disk} {v0 v v' : V} where
   pub then_prepared : {u : Unit {0}} → ((f : Files) → left v (count v) f → ImageOf (disk v) f) → Walks disk count left on_way (Brings d batch) (AreThere batch manifest) d v0 v → Calls disk count left (Syncs ok) v v'
       → Walks disk count left on_way (Brings d batch) (Prepared d batch manifest {X = Unit {0}} (Ok u)) d v0 v'
   then_prepared only w c = bind w (λ n f b. b) (λ d1 told g are. looser (sync_ok only told c) (λ n f b. b) (λ d2 g2 is. record { sure = sure_then head_way manifest d1 d2 is are.head; has = has_then batch d1 d2 is are.has }))
 
   -- the manifest can't be put on its way
-  pub then_unwritten : {X : Type 0} {u : Unit {0}} (r : Result X StoreFault) (x : VaultFault) → r ≡ Err (fault_of x) → IsOne batch → ((f : Files) → left v (count v) f → ImageOf (disk v) f)
-      → Walks disk count left on_way Nothing (WroteAll d batch {X = Unit {0}} (Ok u)) d v0 v → Calls disk count left (Writes head_way manifest (err x)) v v' → Walks disk count left on_way (Brings d batch) (Prepared d batch manifest r) d v0 v'
-  then_unwritten r x is one only w c = bind w brings_nothing (λ d1 told g k. call only told c (λ d2 h. (writes head_way manifest (err x) d1 d2 refl h, prepared_outside d batch manifest d2 r (fault_of x) is one (outside x))))
-
-  -- the objects don't all come
-  pub then_unbrought : {X : Type 0} (r : Result X StoreFault) (e : StoreFault) → r ≡ Err e → IsOne batch → Walks disk count left on_way Nothing (AreUnderWay batch manifest) d v0 v
-      → WhereTold (disk v) (λ d1. Walks disk count left on_way (Brings d1 batch) (Brought d1 batch {X = Unit {0}} (Err e)) d1 v v')
-      → Walks disk count left on_way (Brings d batch) (Prepared d batch manifest r) d v0 v'
-  then_unbrought r e is one w h = bind w brings_nothing (λ d1 told g under. looser (h d1 told) (brings_later g) (λ d2 g2 out. prepared_outside d batch manifest d2 r e is one out))
+  pub then_unwritten : {X : Type 0} {u : Unit {0}} (r : Result X StoreFault) (x : VaultFault) → r ≡ Err (fault_of x) → ((f : Files) → left v (count v) f → ImageOf (disk v) f)
+      → Walks disk count left on_way (Brings d batch) (Shelved d batch {X = Unit {0}} (Ok u)) d v0 v → Calls disk count left (Writes head_way manifest (err x)) v v' → Walks disk count left on_way (Brings d batch) (Prepared d batch manifest r) d v0 v'
+  then_unwritten r x is only w c = bind w (λ n f b. b) (λ d1 told g are. call only told c (λ d2 h. (writes head_way manifest (err x) d1 d2 refl h, prepared_failed d batch manifest d2 r (fault_of x) is (failed_outside d batch d2 (fault_of x) are.0 (outside x)))))
 
   -- the last sync fails
-  pub then_unsettled : {X : Type 0} (r : Result X StoreFault) (x : VaultFault) → r ≡ Err (fault_of x) → IsOne batch → ((f : Files) → left v (count v) f → ImageOf (disk v) f)
+  pub then_unsettled : {X : Type 0} (r : Result X StoreFault) (x : VaultFault) → r ≡ Err (fault_of x) → ((f : Files) → left v (count v) f → ImageOf (disk v) f)
       → Walks disk count left on_way (Brings d batch) (AreThere batch manifest) d v0 v → Calls disk count left (Syncs (err x)) v v' → Walks disk count left on_way (Brings d batch) (Prepared d batch manifest r) d v0 v'
-  then_unsettled r x is one only w c = bind w (λ n f b. b) (λ d1 told g are. looser (sync_err x only told c) (λ n f b. b) (λ d2 g2 s. prepared_outside d batch manifest d2 r (fault_of x) is one (outside x)))
+  then_unsettled r x is only w c = bind w (λ n f b. b) (λ d1 told g are. looser (sync_err x only told c) (λ n f b. b) (λ d2 g2 s. prepared_failed d batch manifest d2 r (fault_of x) is (failed_outside d batch d2 (fault_of x) are.one (outside x))))
 
 -- not all came that the head reaches
 inited_not : {X : Type 0} (d : Disk) (batch : List Object) (manifest : List ℕ) (d' : Disk) (r : Result X StoreFault) (e : StoreFault) → r ≡ Err e → Gains on_way (BringsFirst d batch) d d' → Built d batch manifest {X = Unit {0}} (Err e) d' → Inited d batch manifest r d'

@@ -4,6 +4,7 @@ use Rattle.std.proofs.lemmas.Option.{same_Some}
 use Rattle.std.specs.declared.option.Option.TheVariants.{Some}
 use Rattle.cv_base.specs.ObjectId.{file_name}
 use Rattle.cv_base.specs.declared.id.ObjectId.{ObjectId}
+use Rattle.cv_base.specs.Token.{last_number}
 use Rattle.cv_vault.specs.Names.{Name, on_way}
 use Rattle.cv_vault.specs.Disk.{Disk, File, Files, Image, files_now, synced}
 use Rattle.cv_vault.specs.Walks.{Change, Stays, Comes, Gains, Within, ComesTo}
@@ -49,7 +50,7 @@ not_raised d d' text n g w apart = by (g.each n w)
     by (Comes b l) = absurd (apart (sym b.0))
 
 -- where the raised epoch is sure, each image stands for what was kept, opened once more
-pub stands_raised : (name : List ℕ) (is_seal : List ℕ → List ℕ → Bool) (d d' : Disk) (k : Kept) (epoch : ℕ) → Stands name is_seal (files_now d) k → (d epoch_name).now ≡ Some (epoch_text epoch) → epoch < 18446744073709551615
+pub stands_raised : (name : List ℕ) (is_seal : List ℕ → List ℕ → Bool) (d d' : Disk) (k : Kept) (epoch : ℕ) → Stands name is_seal (files_now d) k → (d epoch_name).now ≡ Some (epoch_text epoch) → epoch < last_number
     → Gains on_way (ComesTo epoch_name (Some (epoch_text (epoch + 1)))) d d' → IsSure epoch_name (epoch_text (epoch + 1)) d' → (f : Files) → Image d' f → Stands name is_seal f (raised k)
 stands_raised name is_seal d d' k epoch s before room g sure f i =
     stands_with name is_seal (files_now d) f k (k.epoch + 1) s limit (same head_name refl epoch_not_head) (λ id. same (file_name id) refl (epoch_not_data id)) (calm_image d' sure.calm f i epoch_name ∙ sure.there ∙ ap (λ n. Some (epoch_text (n + 1))) is)
@@ -64,7 +65,7 @@ stands_raised name is_seal d d' k epoch s before room g sure f i =
     same n w apart = calm_image d' sure.calm f i n ∙ not_raised d d' _ n g w apart
 
 -- what a crash leaves while the epoch's file comes is each file as it stood, or the raised one
-pub as_raised : (d d1 : Disk) (epoch : ℕ) (f : Files) → d1 ≡ synced d → (d epoch_name).now ≡ Some (epoch_text epoch) → epoch < 18446744073709551615 → Within on_way (ComesTo epoch_name (Some (epoch_text (epoch + 1)))) d1 f → AsRaised d f
+pub as_raised : (d d1 : Disk) (epoch : ℕ) (f : Files) → d1 ≡ synced d → (d epoch_name).now ≡ Some (epoch_text epoch) → epoch < last_number → Within on_way (ComesTo epoch_name (Some (epoch_text (epoch + 1)))) d1 f → AsRaised d f
 as_raised d d1 epoch f e before room w = record {
   each = λ n o. elim (w.each n o) [
     | inl m ↦ inl (may_settled d1 n (f n) (ap (λ (x : Disk). (x n).mark) e) m ∙ ap (λ (x : Disk). (x n).now) e)

@@ -1,10 +1,9 @@
 -- What the files stand for while a head is swapped in.
-use Rattle.std.proofs.Common.{◌≡◌, ◌≢◌, ◌⊎◌, ℕ, Bool, false, List, [], ◌∷◌, ◌++◌, refl, sym, subst, ◌∙◌, inl, inr}
-use Rattle.std.specs.List.{last_or}
-use Rattle.std.specs.declared.option.Option.{Option}
+use Rattle.std.proofs.Common.{◌≡◌, ◌≢◌, ◌⊎◌, ℕ, Bool, false, List, refl, sym, subst, ◌∙◌, inl, inr}
 use Rattle.std.specs.declared.option.Option.TheVariants.{None, Some}
 use Rattle.cv_base.specs.ObjectId.{file_name}
 use Rattle.cv_base.specs.declared.id.ObjectId.{ObjectId}
+use Rattle.cv_base.proofs.Laws.{last_push}
 use Rattle.cv_vault.specs.Names.{Name, on_way}
 use Rattle.cv_vault.specs.Disk.{Disk, File, Files, Image, IsCalm, files_now}
 use Rattle.cv_vault.specs.Walks.{Change, Stays, Comes, Gains, Within, ComesTo}
@@ -13,10 +12,6 @@ use Rattle.cv_vault.proofs.Laws.{may_settled, calm_image}
 use Rattle.cv_swap.specs.Kept.{Kept, Revision, with_new}
 use Rattle.cv_swap.specs.Stands.{Stands, CanCome, Publishes, head_name, epoch_name, head_of}
 use Rattle.cv_swap.proofs.Names.{head_not_data, epoch_not_head, same_object}
-
-last_is : {X : Type 0} (start : Option X) (xs : List X) (x : X) → last_or start (xs ++ x ∷ []) ≡ Some x
-last_is start [] x = refl
-last_is start (y ∷ xs) x = last_is (Some y) xs x
 
 -- files that are as those that stand for what is kept, with a head
 pub stands_on : (name : List ℕ) (is_seal : List ℕ → List ℕ → Bool) (f g : Files) (k : Kept) → Stands name is_seal f k
@@ -34,7 +29,7 @@ pub stands_new : (name : List ℕ) (is_seal : List ℕ → List ℕ → Bool) (f
     → g head_name ≡ Some manifest → ((id : ObjectId) → g (file_name id) ≡ f (file_name id)) → g epoch_name ≡ f epoch_name → Stands name is_seal g (with_new k new)
 stands_new name is_seal f g k new manifest s can head data_same epoch = record {
   newest_ = new;
-  is_newest = last_is None k.history new;
+  is_newest = last_push None k.history new;
   head = subst (λ (x : File). Publishes name is_seal x (head_of new)) (sym head) can.says;
   shelf = λ id. s.shelf id ∙ sym (same_object g f id (data_same id));
   epoch = epoch ∙ s.epoch;

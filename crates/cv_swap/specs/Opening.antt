@@ -2,6 +2,7 @@
 use Rattle.std.specs.Prelude.{◌≡◌, ◌≢◌, ◌⊎◌, ⊤, ℕ, ◌+◌, ◌<◌, ◌^◌, Bool, false, List, Option, None, Some}
 use Rattle.std.specs.declared.result.Result.{Result}
 use Rattle.std.specs.declared.result.Result.TheVariants.{Ok, Err}
+use Rattle.cv_base.specs.Token.{last_number}
 use Rattle.cv_vault.specs.Names.{Name, on_way}
 use Rattle.cv_vault.specs.Disk.{Disk, File, Files, files_now, synced}
 use Rattle.cv_vault.specs.Moments.{LeavesOnly}
@@ -61,7 +62,7 @@ pub record IsSpent (name : List ℕ) (is_seal : List ℕ → List ℕ → Bool) 
   pub head : Head
   pub records : List Record
   pub history : HasHistory name is_seal f head records
-  pub last : f epoch_name ≡ Some (epoch_text 18446744073709551615)
+  pub last : f epoch_name ≡ Some (epoch_text last_number)
 
 -- why the files aren't opened
 abbrev pub Refuses : List ℕ → (List ℕ → List ℕ → Bool) → Files → OpenFault → Type 0
@@ -78,7 +79,7 @@ Refuses name is_seal f NoMemory = Unit {0}
 pub record IsFound (name : List ℕ) (is_seal : List ℕ → List ℕ → Bool) (f : Files) (found : Found) : Type 0 where
   pub history : HasHistory name is_seal f found.head found.records
   pub epoch : f epoch_name ≡ Some (epoch_text found.epoch)
-  pub room : found.epoch < 18446744073709551615
+  pub room : found.epoch < last_number
 
 -- what is found, or why nothing is
 abbrev pub Finds : List ℕ → (List ℕ → List ℕ → Bool) → Files → Result Found OpenFault → Type 0
@@ -89,7 +90,7 @@ Finds name is_seal f (Err fault) = Refuses name is_seal f fault
 pub record IsRaised (d : Disk) (n : Name) (f : File) : Type 0 where
   pub name : n ≡ epoch_name
   pub epoch : ℕ
-  pub room : epoch < 18446744073709551615
+  pub room : epoch < last_number
   pub before : (d epoch_name).now ≡ Some (epoch_text epoch)
   pub after : f ≡ Some (epoch_text (epoch + 1))
 

@@ -1,5 +1,6 @@
 //! The first revision: the tree of one directory.
-ghost use Rattle.std.specs.Prelude.{◌≡◌, ◌<◌, ◌^◌, [], Some, IfOk};
+ghost use Rattle.std.specs.Prelude.{◌≡◌, [], Some, IfOk};
+ghost use Rattle.cv_base.specs.Moment.{IsMoment};
 ghost use Rattle.cv_history.specs.Record.{IsRecord};
 ghost use Rattle.cv_cut.specs.Cut.{cut_of};
 ghost use Rattle.cv_objects.specs.Batches.{AreNamed};
@@ -44,7 +45,7 @@ fn no_target(alloc: Global) -> Result<Target, NoMemory>
 
 /// The record of the first revision.
 fn record_of(alloc: Global, root: [u8; 20], now: u64) -> Result<Record, NoMemory>
-    requires { now < 2 ^ 62 }
+    requires { IsMoment now }
     ensures value { IfOk result (λ made. made ≡ first_record root now) }
     ensures limits { IfOk result IsRecord }
 {
@@ -71,7 +72,7 @@ pub fn first_parts<S: Signer>(
     signer: &S,
     now: u64,
 ) -> Result<Parts, NoMemory>
-    requires { now < 2 ^ 62 }
+    requires { IsMoment now }
     ensures batch { IfOk result (λ parts. parts.batch ≡ first_batch now) }
     ensures named { IfOk result (λ parts. AreNamed parts.batch) }
     ensures head { IfOk result (λ parts. parts.head ≡ head_of (first_revision now)) }

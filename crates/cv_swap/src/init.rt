@@ -1,7 +1,8 @@
 //! A repository is made: its first revision.
-ghost use Rattle.std.specs.Prelude.{◌≡◌, ◌<◌, ◌^◌, None, IsErrOf};
+ghost use Rattle.std.specs.Prelude.{◌≡◌, None, IsErrOf};
 ghost use Rattle.cv_base.specs.Counts.{HasCause};
 ghost use Rattle.cv_base.specs.Told.{WhereTold};
+ghost use Rattle.cv_base.specs.Moment.{IsMoment};
 ghost use Rattle.cv_vault.specs.Moments.{OnlyReads};
 ghost use Rattle.cv_vault.specs.declared.vault.VaultFault.TheVariants as vault_fault;
 ghost use Rattle.cv_swap.specs.First.{first_revision};
@@ -37,7 +38,7 @@ pub fn init_in<V: Vault + Drop, S: Signer>(
     signer: &S,
     now: u64,
 ) -> Result<(), InitFault>
-    requires { now < 2 ^ 62 }
+    requires { IsMoment now }
     ensures makes { WhereTold (V.disk objects.old.vault) (λ d. MakesFirst V.disk V.count V.left name.now (S.is_seal signer.now) now d result objects.old.vault objects.new.vault) }
     ensures text { WhereTold (V.disk objects.old.vault) (λ d.
         WritesHead V.disk V.count V.left (head_text (S.seal_of signer.now) name.now (head_of (first_revision now))) d objects.old.vault objects.new.vault) }

@@ -1,6 +1,7 @@
 //! What files stand for while a repository is made, opened and published in.
-ghost use Rattle.std.specs.Prelude.{◌≡◌, ◌≢◌, ◌++◌, ◌∷◌, [], ◌⊎◌, ◌<◌, ◌+◌, ◌^◌, ℕ, Bool, List, Result, None, Some, Err};
+ghost use Rattle.std.specs.Prelude.{◌≡◌, ◌≢◌, ◌++◌, ◌∷◌, [], ◌⊎◌, ◌+◌, ℕ, Bool, List, Result, None, Some, Err};
 ghost use Rattle.cv_base.specs.declared.object.Object.{Object};
+ghost use Rattle.cv_base.specs.Moment.{IsMoment};
 ghost use Rattle.cv_ports.specs.Shelf.{Shelf, IsShelf};
 ghost use Rattle.cv_cut.specs.Catalogues.{cat};
 ghost use Rattle.cv_cut.specs.Cut.{catalogue_object};
@@ -71,7 +72,7 @@ pub fn making_leaves_none_or_the_whole()
 
 /// The first revision is sound on each shelf with its catalogue and its record.
 pub fn first_revisions_are_sound()
-    ensures { (shelf : Shelf) (now : ℕ) → now < 2 ^ 62 → IsShelf shelf → shelf (catalogue_object (first_tree now) []).id ≡ Some (cat (first_tree now) [])
+    ensures { (shelf : Shelf) (now : ℕ) → IsMoment now → IsShelf shelf → shelf (catalogue_object (first_tree now) []).id ≡ Some (cat (first_tree now) [])
         → shelf (record_object (first_revision now)).id ≡ Some (record_object (first_revision now)).bytes → AreSound shelf (first_revision now ∷ []) }
 {}
 

@@ -1,9 +1,10 @@
 //! The line of revisions.
 ghost use Rattle.std.proofs.Common.{refl, ap, ◌∙◌};
-ghost use Rattle.std.specs.Prelude.{◌≡◌, ◌≢◌, ◌<◌, ◌^◌, ◌++◌, ◌∷◌, [], None, Some, Ok, Err, true, false, OnOk, OnErr, IfOk, IsErrOf};
+ghost use Rattle.std.specs.Prelude.{◌≡◌, ◌≢◌, ◌++◌, ◌∷◌, [], None, Some, Ok, Err, true, false, OnOk, OnErr, IfOk, IsErrOf};
 ghost use Rattle.std.specs.Option.{option_map};
 ghost use Rattle.cv_base.specs.Counts.{HasCause};
 ghost use Rattle.cv_base.specs.Told.{WhereTold};
+ghost use Rattle.cv_base.specs.Moment.{IsMoment};
 ghost use Rattle.cv_vault.specs.Names.{on_way};
 ghost use Rattle.cv_vault.specs.Moments.{OnlyReads};
 ghost use Rattle.cv_vault.specs.Walks.{Walks, Nothing, ComesTo, BringsNothing, SparesIn};
@@ -13,10 +14,10 @@ ghost use Rattle.cv_vault.proofs.Laws.{quiet_none, quiet_then, quiet_same};
 ghost use Rattle.cv_history.specs.Record.{IsRecord};
 ghost use Rattle.cv_manifest.specs.Manifest.{IsHead};
 ghost use Rattle.cv_objects.specs.Names.{standing_on};
-ghost use Rattle.cv_objects.specs.Batches.{AreNamed, Brings, GivesFresh, IsApart, IsRefusal, RefusesSettled, Stored};
+ghost use Rattle.cv_objects.specs.Batches.{AreNamed, Brings, GivesFresh, Has, IsApart, IsRefusal, RefusesSettled, Stored};
 ghost use Rattle.cv_objects.specs.declared.store_fault.StoreFault.TheVariants as fault;
 ghost use Rattle.cv_swap.specs.Kept.{object_of};
-ghost use Rattle.cv_swap.specs.Publishing.{Prepared};
+ghost use Rattle.cv_swap.specs.Publishing.{Prepared, Shelved, OnlyPutsHead};
 ghost use Rattle.cv_swap.specs.Stands.{head_name, head_with, head_of, head_text, Publishes};
 ghost use Rattle.cv_swap.specs.First.{first_revision};
 ghost use Rattle.cv_swap.specs.Init.{InitsIn, WritesHead, vault_in, IsVaults};
@@ -26,10 +27,10 @@ ghost use Rattle.cv_swap.specs.declared.stage.Stage.TheVariants as stage;
 use crate::found::Found;
 use crate::init::init_in;
 use crate::init_fault::InitFault;
-use crate::making::{Parts, make_parts};
+use crate::making::{Parts, make_parts, record_object, with_object};
 use crate::open_fault::OpenFault;
 use crate::opening::open_on;
-use crate::publishing::{prepare_on, swap_on, was_swapped};
+use crate::publishing::{prepare_on, shelve_on, swap_on, was_swapped};
 use crate::stage::Stage;
 use cv_base::{Bytes, Name, Object, ObjectId};
 use cv_history::Record;
@@ -201,7 +202,7 @@ impl<V: Vault + Drop, S: Signer + Drop> Line<V, S> {
         signer: &S,
         now: u64,
     ) -> Result<V, (InitFault, V)>
-        requires { now < 2 ^ 62 }
+        requires { IsMoment now }
         ensures inits { WhereTold (V.disk vault) (λ d. InitsIn V.disk V.count V.left name.now (S.is_seal signer.now) now d vault result) }
         ensures text { WhereTold (V.disk vault) (λ d.
             WritesHead V.disk V.count V.left (head_text (S.seal_of signer.now) name.now (head_of (first_revision now))) d vault (vault_in result)) }
@@ -258,20 +259,40 @@ impl<V: Vault + Drop, S: Signer + Drop> Line<V, S> {
         }
     }
 
-    /// Brings all of a revision into the vault but its head, whose file is put on its way: its record, with the other
-    /// objects that it reaches. A revision that was prepared before and not swapped is dropped.
-    pub fn prepare(
+    /// Brings a revision's record to the shelf, in one batch with the objects that its commit made; the next sync settles what
+    /// came. A revision that was prepared before and not swapped is dropped.
+    pub fn shelve(
         &mut self,
         alloc: Global,
-        next: Record,
-        size: u64,
+        next: &Record,
         others: Vec<Object>,
-    ) -> Result<Head, StoreFault>
-        requires limits { IsRecord next }
+    ) -> Result<(), StoreFault>
+        requires limits { IsRecord next.now }
         requires named { AreNamed others.items }
         requires doubt { self.old.stage ≢ stage.Doubtful }
         ensures walks { WhereTold (V.disk self.old.vault) (λ d.
-            Walks V.disk V.count V.left on_way (Brings d (others.items ++ object_of next ∷ [])) (Prepared d (others.items ++ object_of next ∷ []) self.new.manifest result) d self.old.vault self.new.vault) }
+            Walks V.disk V.count V.left on_way (Brings d (others.items ++ object_of next.now ∷ [])) (Shelved d (others.items ++ object_of next.now ∷ []) result) d self.old.vault self.new.vault) }
+        ensures refused { IsRefusal result → BringsNothing V.disk V.count V.left self.old.vault self.new.vault }
+        ensures silent { V.disk self.old.vault ≡ None → V.disk self.new.vault ≡ None }
+        ensures dropped { IsDropped self.old self.new }
+        ensures cause { HasCause (V.faults self.old.vault) (V.faults self.new.vault) (IsErrOf result fault.Failed) }
+    {
+        self.stage = Stage::Calm;
+        let object = record_object(alloc, next)?;
+        let batch = with_object(others, object)?;
+        shelve_on(&mut self.objects, alloc, batch.as_slice())
+    }
+
+    /// Brings a revision's record to the shelf, where it doesn't stand there, and puts the file of its head on its way, for
+    /// sure. Where the record stands, as behind `shelve`, that is reads, one write and a sync, which settles the record too. A
+    /// revision that was prepared before and not swapped is dropped.
+    pub fn prepare(&mut self, alloc: Global, next: Record, size: u64) -> Result<Head, StoreFault>
+        requires limits { IsRecord next }
+        requires doubt { self.old.stage ≢ stage.Doubtful }
+        ensures walks { WhereTold (V.disk self.old.vault) (λ d.
+            Walks V.disk V.count V.left on_way (Brings d (object_of next ∷ [])) (Prepared d (object_of next ∷ []) self.new.manifest result) d self.old.vault self.new.vault) }
+        ensures free { IfOk result (λ head. WhereTold (V.disk self.old.vault) (λ d.
+            Has d (object_of next ∷ []) → OnlyPutsHead V.disk V.count V.left self.new.manifest self.old.vault self.new.vault)) }
         ensures refused { IsRefusal result → BringsNothing V.disk V.count V.left self.old.vault self.new.vault }
         ensures silent { V.disk self.old.vault ≡ None → V.disk self.new.vault ≡ None }
         ensures head { IfOk result (λ head. head ≡ head_with next size) }
@@ -283,7 +304,8 @@ impl<V: Vault + Drop, S: Signer + Drop> Line<V, S> {
         ensures cause { HasCause (V.faults self.old.vault) (V.faults self.new.vault) (IsErrOf result fault.Failed) }
     {
         self.stage = Stage::Calm;
-        let parts = make_parts(alloc, &self.name, &self.signer, &next, size, others)?;
+        let none = Vec::new(alloc);
+        let parts = make_parts(alloc, &self.name, &self.signer, &next, size, none)?;
         self.records.truncate(self.made);
         if self.records.push(next).is_err() {
             return Err(StoreFault::NoMemory);

@@ -26,6 +26,17 @@ pub fn record_object(alloc: Global, next: &Record) -> Result<Object, NoMemory>
     })
 }
 
+/// A batch of objects with one behind them.
+pub fn with_object(others: Vec<Object>, object: Object) -> Result<Items<Object>, NoMemory>
+    ensures { IfOk result (λ batch. batch ≡ others.items ++ object ∷ []) }
+{
+    let mut batch = others;
+    if batch.push(object).is_err() {
+        return Err(NoMemory);
+    }
+    Ok(Items::new(batch))
+}
+
 /// The head of a record whose root catalogue has this size, by the hash of its bytes.
 pub fn head_of(next: &Record, size: u64, history: [u8; 20]) -> Head
     ensures { history ≡ sha1 (record_bytes next.now) → result ≡ head_with next.now size }
@@ -91,12 +102,9 @@ pub fn make_parts<S: Signer>(
     let hash = object.id.hash;
     let head = head_of(next, size, hash);
     let manifest = write_manifest(alloc, name, head, signer)?;
-    let mut batch = others;
-    if batch.push(object).is_err() {
-        return Err(NoMemory);
-    }
+    let batch = with_object(others, object)?;
     Ok(Parts {
-        batch: Items::new(batch),
+        batch,
         head,
         manifest,
     })

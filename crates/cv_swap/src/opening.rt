@@ -2,6 +2,7 @@
 ghost use Rattle.std.specs.Prelude.{◌≡◌, ◌+◌, ◌<◌, ◌^◌, ℕ, None, Some, Err, IfOk, IfSome, IsErrOf, string_bytes};
 ghost use Rattle.cv_base.specs.Counts.{HasCause};
 ghost use Rattle.cv_base.specs.Told.{WhereTold};
+ghost use Rattle.cv_base.specs.Token.{last_number};
 ghost use Rattle.cv_vault.specs.Disk.{files_now};
 ghost use Rattle.cv_vault.specs.Names.{on_way};
 ghost use Rattle.cv_vault.specs.Moments.{OnlyReads};
@@ -135,7 +136,7 @@ pub fn read_line<V: Vault + Drop, S: Signer>(
     ensures told { WhereTold (V.disk objects.old.vault) (λ d. Finds name.now (S.is_seal signer.now) (files_now d) result) }
     ensures reads { OnlyReads V.disk V.count V.left objects.old.vault objects.new.vault }
     ensures cause { HasCause (V.faults objects.old.vault) (V.faults objects.new.vault) (IsErrOf result fault.Failed) }
-    ensures room { IfOk result (λ found. found.epoch < 18446744073709551615) }
+    ensures room { IfOk result (λ found. found.epoch < last_number) }
     ensures head { IfOk result (λ found. IsHead found.head) }
 {
     let head = read_head(&mut objects.vault, alloc, name, signer)?;
@@ -180,7 +181,7 @@ pub fn open_on<V: Vault + Drop, S: Signer>(
     ensures opens { WhereTold (V.disk objects.old.vault) (λ d. Opens V.disk V.count V.left name.now (S.is_seal signer.now) d result objects.old.vault objects.new.vault) }
     ensures silent { V.disk objects.old.vault ≡ None → V.disk objects.new.vault ≡ None }
     ensures cause { HasCause (V.faults objects.old.vault) (V.faults objects.new.vault) (IsErrOf result fault.Failed) }
-    ensures room { IfOk result (λ found. found.epoch < 18446744073709551615) }
+    ensures room { IfOk result (λ found. found.epoch < last_number) }
     ensures head { IfOk result (λ found. IsHead found.head) }
 {
     objects.settle()?;

@@ -1,5 +1,5 @@
 //! Revisions that come to the vault: first what they reach, then their head.
-ghost use Rattle.std.specs.Prelude.{◌≡◌, ℕ, List, None, Some, Err, IsErrOf};
+ghost use Rattle.std.specs.Prelude.{◌≡◌, ℕ, List, None, Some, Err, OnOk, IsErrOf};
 ghost use Rattle.cv_base.specs.Counts.{HasCause};
 ghost use Rattle.cv_base.specs.Told.{WhereTold};
 ghost use Rattle.cv_vault.specs.Names.{on_way};
@@ -7,10 +7,10 @@ ghost use Rattle.cv_vault.specs.Moments.{OnlyReads};
 ghost use Rattle.cv_vault.specs.Walks.{Walks, Nothing, ComesTo, BringsNothing};
 ghost use Rattle.cv_vault.specs.Replace.{MovedIn, Found, IsWaiting};
 ghost use Rattle.cv_vault.specs.declared.vault.VaultFault.TheVariants as vault_fault;
-ghost use Rattle.cv_objects.specs.Batches.{AreNamed, Brings, IsRefusal};
+ghost use Rattle.cv_objects.specs.Batches.{AreNamed, Brings, Has, IsOne, IsRefusal};
 ghost use Rattle.cv_objects.specs.declared.store_fault.StoreFault.TheVariants as fault;
 ghost use Rattle.cv_swap.specs.Stands.{head_name, head_way};
-ghost use Rattle.cv_swap.specs.Publishing.{Prepared, BringsFirst};
+ghost use Rattle.cv_swap.specs.Publishing.{Prepared, Shelved, OnlyPutsHead, BringsFirst};
 ghost use Rattle.cv_swap.specs.PublishingInner.{PutBeside, Built, Inits};
 
 use crate::opening::{EPOCH_NAME, EPOCH_WAY, epoch_text_of};
@@ -23,7 +23,49 @@ use std::alloc::Global;
 /// The name by which a manifest comes.
 const HEAD_WAY: &str = "txn/manifest";
 
-/// Stores a batch, and puts a manifest on its way, for sure.
+/// Brings the objects of a batch that the shelf lacks, where the next sync settles them.
+pub fn shelve_on<V: Vault + Drop>(
+    objects: &mut Objects<V>,
+    alloc: Global,
+    batch: &[Object],
+) -> Result<(), StoreFault>
+    requires named { AreNamed batch.now }
+    ensures walks { WhereTold (V.disk objects.old.vault) (λ d.
+        Walks V.disk V.count V.left on_way (Brings d batch.now) (Shelved d batch.now result) d objects.old.vault objects.new.vault) }
+    ensures refused { IsRefusal result → BringsNothing V.disk V.count V.left objects.old.vault objects.new.vault }
+    ensures silent { V.disk objects.old.vault ≡ None → V.disk objects.new.vault ≡ None }
+    ensures cause { HasCause (V.faults objects.old.vault) (V.faults objects.new.vault) (IsErrOf result fault.Failed) }
+    ensures taken { objects.new.taken ≡ objects.old.taken }
+{
+    objects.put(alloc, batch)?;
+    objects.bring(alloc, batch)
+}
+
+/// The same where not all of the batch stands on the shelf. Where all does, the vault is only read.
+fn shelve_absent<V: Vault + Drop>(
+    objects: &mut Objects<V>,
+    alloc: Global,
+    batch: &[Object],
+) -> Result<(), StoreFault>
+    requires named { AreNamed batch.now }
+    requires one { IsOne batch.now }
+    ensures walks { WhereTold (V.disk objects.old.vault) (λ d.
+        Walks V.disk V.count V.left on_way (Brings d batch.now) (Shelved d batch.now result) d objects.old.vault objects.new.vault) }
+    ensures reads { WhereTold (V.disk objects.old.vault) (λ d.
+        Has d batch.now → OnlyReads V.disk V.count V.left objects.old.vault objects.new.vault) }
+    ensures refused { IsRefusal result → BringsNothing V.disk V.count V.left objects.old.vault objects.new.vault }
+    ensures silent { V.disk objects.old.vault ≡ None → V.disk objects.new.vault ≡ None }
+    ensures cause { HasCause (V.faults objects.old.vault) (V.faults objects.new.vault) (IsErrOf result fault.Failed) }
+    ensures taken { objects.new.taken ≡ objects.old.taken }
+{
+    if objects.fresh(alloc, batch)?.is_empty() {
+        return Ok(());
+    }
+    shelve_on(objects, alloc, batch)
+}
+
+/// Puts a manifest on its way, for sure, with a batch on the shelf, which costs no write and no sync more where all of it
+/// stands there.
 pub fn prepare_on<V: Vault + Drop>(
     objects: &mut Objects<V>,
     alloc: Global,
@@ -31,16 +73,18 @@ pub fn prepare_on<V: Vault + Drop>(
     manifest: &[u8],
 ) -> Result<(), StoreFault>
     requires named { AreNamed batch.now }
+    requires one { IsOne batch.now }
     ensures walks { WhereTold (V.disk objects.old.vault) (λ d.
         Walks V.disk V.count V.left on_way (Brings d batch.now) (Prepared d batch.now manifest.now result) d objects.old.vault objects.new.vault) }
+    ensures free { OnOk result (WhereTold (V.disk objects.old.vault) (λ d.
+        Has d batch.now → OnlyPutsHead V.disk V.count V.left manifest.now objects.old.vault objects.new.vault)) }
     ensures refused { IsRefusal result → BringsNothing V.disk V.count V.left objects.old.vault objects.new.vault }
     ensures silent { V.disk objects.old.vault ≡ None → V.disk objects.new.vault ≡ None }
     ensures cause { HasCause (V.faults objects.old.vault) (V.faults objects.new.vault) (IsErrOf result fault.Failed) }
     ensures taken { objects.new.taken ≡ objects.old.taken }
 {
-    objects.put(alloc, batch)?;
+    shelve_absent(objects, alloc, batch)?;
     objects.vault.write(HEAD_WAY, manifest)?;
-    objects.bring(alloc, batch)?;
     Ok(objects.settle()?)
 }
 

@@ -117,13 +117,16 @@ fn others(alloc: Global) -> Result<Vec<Object>, Fail>
     Ok(batch)
 }
 
-/// Publishes the second revision, and how far that came: 2 to its preparing, 3 to its swap, 4 to the end.
+/// Publishes the second revision, and how far that came: 2 to its bringing or preparing, 3 to its swap, 4 to the end.
 fn publish(alloc: Global, line: &mut TestLine) -> Result<u64, Fail>
     requires { line.old.stage ≡ stage.Calm }
 {
     let record = second(alloc)?;
     let others = others(alloc)?;
-    if line.prepare(alloc, record, 81, others).is_err() {
+    if line.shelve(alloc, &record, others).is_err() {
+        return Ok(2);
+    }
+    if line.prepare(alloc, record, 81).is_err() {
         return Ok(2);
     }
     Ok(if line.swap().is_ok() { 4 } else { 3 })
@@ -156,7 +159,7 @@ fn has_revision(alloc: Global, vault: &mut MemoryVault, revision: u64) -> Result
 }
 
 /// A life of a repository: it is made, opened and published in, up to the first call that fails. How far it came: 0 while it
-/// was made, 1 while it was opened, 2 while the revision was prepared, 3 while it was swapped in, 4 at the end.
+/// was made, 1 while it was opened, 2 while the revision was brought or prepared, 3 while it was swapped in, 4 at the end.
 pub(crate) fn live(alloc: Global, failing: Vec<u64>) -> Result<(u64, MemoryVault), Fail> {
     let vault = match init(alloc, MemoryVault::new(alloc, failing)?)? {
         Ok(vault) => vault,
@@ -210,17 +213,17 @@ fn survives(alloc: Global, call: u64, made: bool, pick: u64) -> Result<(u64, boo
     Ok((came, whole && may(came, revision, epoch)))
 }
 
-/// Seventeen calls make the repository, eight open it and fourteen publish a revision.
+/// Seventeen calls make the repository, eight open it and fifteen publish a revision.
 #[test]
 fn a_crash_at_any_call_leaves_a_whole_revision(rt: HostRuntime) -> Result<(), Fail> {
     let alloc = rt.alloc();
-    for call in 1..40u64 {
+    for call in 1..41u64 {
         for pick in 0..16u64 {
             assert!(rt; survives(alloc, call, false, pick)?.1);
             assert!(rt; survives(alloc, call, true, pick)?.1);
         }
     }
-    assert!(rt; survives(alloc, 39, false, 0)? == (3, true));
+    assert!(rt; survives(alloc, 40, false, 0)? == (3, true));
     assert!(rt; survives(alloc, 1000, false, 0)? == (4, true));
     Ok(())
 }
@@ -245,10 +248,10 @@ fn a_repository_is_made_opened_and_published_in(rt: HostRuntime) -> Result<(), F
 
 /// A swap whose rename fails, made or not, and a look that settles it: whether it came, and the revision of the head then.
 fn settles(alloc: Global, made: bool) -> Result<(bool, u64), Fail> {
-    // The rename is the thirteenth call of publishing.
-    let mut failing = vec![in alloc; 38]?;
+    // The rename is the fourteenth call of publishing.
+    let mut failing = vec![in alloc; 39]?;
     if made {
-        failing.push(38)?;
+        failing.push(39)?;
     }
     let Ok(vault) = init(alloc, MemoryVault::new(alloc, failing)?)? else {
         return Err(Fail::new("not made"));
@@ -268,6 +271,42 @@ fn settles(alloc: Global, made: bool) -> Result<(bool, u64), Fail> {
 fn a_failed_swap_is_settled_as_it_was_made(rt: HostRuntime) -> Result<(), Fail> {
     assert!(rt; settles(rt.alloc(), false)? == (false, 1));
     assert!(rt; settles(rt.alloc(), true)? == (true, 2));
+    Ok(())
+}
+
+/// Whether the second revision is prepared where the call of this number fails, with its record brought before or not.
+fn prepares(alloc: Global, brought: bool, call: u64) -> Result<bool, Fail> {
+    let failing = vec![in alloc; call]?;
+    let Ok(vault) = init(alloc, MemoryVault::new(alloc, failing)?)? else {
+        return Err(Fail::new("not made"));
+    };
+    let Ok(mut line) = open(alloc, vault)? else {
+        return Err(Fail::new("not opened"));
+    };
+    let record = second(alloc)?;
+    if brought {
+        let others = others(alloc)?;
+        if line.shelve(alloc, &record, others).is_err() {
+            return Err(Fail::new("not brought"));
+        }
+    }
+    Ok(line.prepare(alloc, record, 81).is_ok())
+}
+
+/// Behind the 25 calls that make and open the repository, ten bring the record with a catalogue: two syncs, and a read and a write
+/// or a rename of each. Then it's prepared by a read, a write and a sync. Where it wasn't brought, that takes two syncs more, and
+/// of the record two reads, a write and a rename.
+#[test]
+fn a_record_that_stands_is_prepared_by_three_calls(rt: HostRuntime) -> Result<(), Fail> {
+    let alloc = rt.alloc();
+    for call in 36..39u64 {
+        assert!(rt; !prepares(alloc, true, call)?);
+    }
+    assert!(rt; prepares(alloc, true, 39)?);
+    for call in 26..35u64 {
+        assert!(rt; !prepares(alloc, false, call)?);
+    }
+    assert!(rt; prepares(alloc, false, 35)?);
     Ok(())
 }
 

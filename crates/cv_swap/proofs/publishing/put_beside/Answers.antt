@@ -1,5 +1,6 @@
 use Rattle.std.proofs.Common.{◌∙◌}
-use Rattle.cv_swap.proofs.Building.{beside, beside_not, handed_on}
+use Rattle.cv_base.proofs.Laws.{handed_on}
+use Rattle.cv_swap.proofs.Building.{beside, beside_not}
 use Rattle.cv_swap.proofs.publishing.put_beside.Goals as goal
 
 pub returns-in_err-write-clause-walks : goal.returns-in_err-write-clause-walks

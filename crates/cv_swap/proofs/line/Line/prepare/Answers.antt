@@ -3,24 +3,42 @@ use Rattle.std.proofs.lemmas.List.{length-take-le}
 use Rattle.std.specs.declared.result.Result.TheVariants.{Err}
 use Rattle.cv_manifest.specs.declared.head.Head.{Head}
 use Rattle.cv_vault.specs.Walks.{BringsNothing}
-use Rattle.cv_objects.specs.Batches.{AreNamed}
+use Rattle.cv_objects.specs.Batches.{AreNamed, IsOne}
 use Rattle.cv_objects.specs.declared.store_fault.StoreFault.TheVariants.{NoMemory}
-use Rattle.cv_objects.proofs.Lemmas.{same_fault, refusal_inside}
+use Rattle.cv_objects.proofs.Lemmas.{same_fault, refusal_inside, named_none}
 use Rattle.cv_base.specs.Told.{WhereTold}
+use Rattle.cv_swap.specs.Kept.{object_of}
 use Rattle.cv_swap.specs.Stands.{head_name, head_way}
 use Rattle.cv_vault.specs.Replace.{IsWaiting}
 use Rattle.cv_swap.proofs.Bringing.{prepared_waits}
-use Rattle.cv_swap.proofs.Views.{vault_seen, prepare_stands, named_push, on_err, dropped_seen, refusal_as}
+use Rattle.cv_swap.proofs.Views.{vault_seen, prepare_stands, prepared_seen, unprepared_seen, free_seen, named_push, one_alone, on_err, dropped_seen, refusal_as}
 use Rattle.cv_swap.proofs.line.Line.prepare.Goals as goal
 
 pub returns-in_err-parts-clause-walks : goal.returns-in_err-parts-clause-walks
-returns-in_err-parts-clause-walks g c = prepare_stands _ _ _ (same_fault _ NoMemory c.from_residual.ensures.1) _ _ (vault_seen _ _ c.self.view_is) (g.met.V.Vault.only_now c.self.inside.objects.vault)
+returns-in_err-parts-clause-walks g c = prepare_stands _ _ (same_fault _ NoMemory c.from_residual.ensures.1) _ _ (vault_seen _ _ c.self.view_is) (g.met.V.Vault.only_now c.self.inside.objects.vault) _
 
 pub returns-then-is_err-clause-walks : goal.returns-then-is_err-clause-walks
-returns-then-is_err-clause-walks g c = prepare_stands {X = Head} _ c.self.inside.manifest (Err NoMemory) refl _ _ (vault_seen _ _ c.self.view_is) (g.met.V.Vault.only_now c.self.inside.objects.vault)
+returns-then-is_err-clause-walks g c = prepare_stands {X = Head} _ (Err NoMemory) refl _ _ (vault_seen _ _ c.self.view_is) (g.met.V.Vault.only_now c.self.inside.objects.vault) c.self.inside.manifest
+
+pub returns-in_err-prepare_on-clause-walks : goal.returns-in_err-prepare_on-clause-walks
+returns-in_err-prepare_on-clause-walks g c =
+    let e : c.as_slice.result.now ≡ object_of c.args.next ∷ [] = search rules in
+    unprepared_seen e (vault_seen _ _ c.self.view_is) c.as_slice-2.result.now c.self.inside.manifest _ _ (same_fault _ _ c.from_residual-in_err-prepare_on.ensures.1) c.in_err-prepare_on.ensures.walks
+
+pub returns-clause-walks : goal.returns-clause-walks
+returns-clause-walks g c =
+    let e : c.as_slice.result.now ≡ object_of c.args.next ∷ [] = search rules in
+    prepared_seen e (vault_seen _ _ c.self.view_is) c.as_slice-2.ensures c.in_ok-prepare_on.ensures.walks
+
+pub returns-clause-free : goal.returns-clause-free
+returns-clause-free g c =
+    let e : c.as_slice.result.now ≡ object_of c.args.next ∷ [] = search rules in
+    free_seen e (vault_seen _ _ c.self.view_is) c.as_slice-2.ensures c.in_ok-prepare_on.ensures.free
 
 pub prepare_on-requires : goal.prepare_on-requires
-prepare_on-requires g c = record { named = subst AreNamed (sym (c.as_slice.ensures ∙ c.in_ok-parts.ensures.batch)) (named_push c.args.others.items c.args.next c.requires.named) }
+prepare_on-requires g c =
+    let e : c.as_slice.result.now ≡ object_of c.args.next ∷ [] = search rules in
+    record { named = subst AreNamed (sym e) (named_push [] c.args.next named_none); one = subst IsOne (sym e) (one_alone (object_of c.args.next)) }
 
 pub returns-in_err-prepare_on-clause-dropped : goal.returns-in_err-prepare_on-clause-dropped
 returns-in_err-prepare_on-clause-dropped g c =
