@@ -1,5 +1,6 @@
 //! A gate over a vault in memory, as the tests ask it.
-ghost use Rattle.std.specs.Prelude.{◌≡◌, ◌<◌, ◌^◌, None, IfOk, IfSome};
+ghost use Rattle.std.specs.Prelude.{◌≡◌, None, IfOk, IfSome};
+ghost use Rattle.cv_base.specs.Moment.{IsMoment};
 ghost use Rattle.cv_gate.specs.Step.{IsOp};
 
 use cv_base::{Name, RepoPath, Text, Token};
@@ -92,7 +93,7 @@ pub(crate) fn over_root(alloc: Global, bytes: Option<&[u8]>) -> Result<TestGate,
 
 /// What a gate says to an op.
 pub(crate) fn ask(gate: &mut TestGate, seat: u32, now: u64, op: Op) -> Reply
-    requires moment { now < 2 ^ 62 }
+    requires moment { IsMoment now }
     requires op { IsOp op }
     requires idle { gate.old.ready ≡ None }
     ensures { gate.new.ready ≡ None }

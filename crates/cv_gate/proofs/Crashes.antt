@@ -1,5 +1,5 @@
 -- What a crash leaves.
-use Rattle.std.proofs.Common.{◌≡◌, ◌⊎◌, ◌<◌, ◌^◌, true, false, cond, ℕ, List, [], ◌∷◌, ◌++◌, refl, sym, ap, subst, ◌∙◌, inl, inr, arith}
+use Rattle.std.proofs.Common.{◌≡◌, ◌⊎◌, ◌<◌, true, false, cond, ℕ, List, [], ◌∷◌, ◌++◌, refl, sym, ap, subst, ◌∙◌, inl, inr, arith}
 use Rattle.std.proofs.lemmas.Option.{same_Some}
 use Rattle.std.specs.declared.option.Option.{Option}
 use Rattle.std.specs.declared.option.Option.TheVariants.{None, Some}
@@ -8,6 +8,8 @@ use Rattle.cv_base.specs.Path.{Path}
 use Rattle.cv_base.specs.declared.id.ObjectId.{ObjectId}
 use Rattle.cv_base.specs.declared.object.Object.{Object}
 use Rattle.cv_base.specs.declared.token.Token.{Token}
+use Rattle.cv_base.specs.Token.{last_number}
+use Rattle.cv_base.specs.Moment.{IsMoment}
 use Rattle.cv_ports.specs.Shelf.{Shelf, IsShelf, HasMore}
 use Rattle.cv_cut.proofs.Lemmas.{none_there}
 use Rattle.cv_objects.specs.Batches.{AreNamed, IsGained}
@@ -15,7 +17,7 @@ use Rattle.cv_swap.specs.Kept.{AreSound, Kept, IsKept}
 use Rattle.cv_gate.specs.State.{State, aged, Settled, certain, unmade, published}
 use Rattle.cv_gate.specs.Objects.{GainsSome, GainsAll}
 use Rattle.cv_gate.specs.Commits.{made}
-use Rattle.cv_gate.specs.Step.{last_number, IsFault, StoreStep, IsValid, Step}
+use Rattle.cv_gate.specs.Step.{IsFault, StoreStep, IsValid, Step}
 use Rattle.cv_gate.specs.Sound.{sure, Sound}
 use Rattle.cv_gate.specs.Kept.{kept, reopened, Pending, WouldCommit, BringsObjects, nothing as brings_nothing, Left, stays, goes, comes, Crash}
 use Rattle.cv_gate.specs.Laws.{is_committed, Numbers}
@@ -173,7 +175,7 @@ module _ (settled : State) (o : Op) (e : Entry) (st' : State) (k : Kept) where
       left_same objects settled before id (k.shelf id) refl refl
       (left_gain objects before stored id (k.shelf id) (some_of_all objects before stored g) (left_same [] stored st' id (k.shelf id) shelf loose (left id)))
 
-  leaves : IsValid o → e.now < 2 ^ 62 → settled.doubt ≡ None → (end : State) → Ends end → Effect (IsPublished before o e) (IsWanted e) (AreSent before o) before e.reply st' → LeavesOf settled pending k
+  leaves : IsValid o → IsMoment e.now → settled.doubt ≡ None → (end : State) → Ends end → Effect (IsPublished before o e) (IsWanted e) (AreSent before o) before e.reply st' → LeavesOf settled pending k
   leaves valid limit none end ends (nothing q s) =
       unchanged (ap history_of s) (ap doubt_of s ∙ none) (ap (λ (x : State). x.shelf) s) (ap (λ (x : State). x.loose) s) end ends
   leaves valid limit none end ends (gains objects sent q g) = gained_some objects sent.brings g none end ends

@@ -1,22 +1,20 @@
 -- What an op does in a settled, aged state, whatever was asked.
 use Rattle.std.proofs.Common.{◌≡◌, ◌⊎◌, ◌+◌, ℕ, true, false, List, [], ◌∷◌, ◌++◌, refl, sym, ap, subst, ◌∙◌, inl, inr}
 use Rattle.std.specs.declared.option.Option.TheVariants.{None, Some}
-use Rattle.std.specs.Prelude.{bytes_eq, reverse}
+use Rattle.std.specs.Prelude.{reverse}
 use Rattle.std.specs.List.{AllByRecursion, Contains}
-use Rattle.std.proofs.lemmas.Map.Text.{is_eq-slice_cmp}
 use Rattle.sha1.specs.Sha1.{sha1}
-use Rattle.cv_base.specs.PathOrder.{same_name_is}
 use Rattle.cv_base.specs.Path.{Path, IsPath}
 use Rattle.cv_base.specs.declared.id.ObjectId.{ObjectId}
 use Rattle.cv_base.specs.declared.object.Object.{Object}
 use Rattle.cv_base.specs.declared.token.Token.{Token}
+use Rattle.cv_base.proofs.Laws.{bytes_are, bytes_eq-own}
 use Rattle.cv_tree.specs.Tree.{Nodes}
 use Rattle.cv_cut.specs.Above.{cuts_above}
 use Rattle.cv_cut.specs.Catalogues.{Fits}
 use Rattle.cv_cut.specs.Cut.{catalogue_object}
 use Rattle.cv_cut.specs.Means.{Means}
 use Rattle.cv_cut.proofs.Lemmas.{none_there, first_or_later, comes_from}
-use Rattle.cv_history.proofs.Lemmas.{bytes_eq_self}
 use Rattle.cv_leases.specs.Leases.{lease_of, without}
 use Rattle.cv_leases.specs.declared.lease.Lease.{Lease}
 use Rattle.cv_leases.proofs.Laws.{lease_of_token}
@@ -111,10 +109,6 @@ of_lease st key p r st' wants id path h =
         ]
       ]
     ]
-
--- lists that compare equal are
-pub bytes_are : (a b : List ℕ) → bytes_eq a b ≡ true → a ≡ b
-bytes_are a b h = same_name_is a b (is_eq-slice_cmp a b ∙ h)
 
 on_lease : {Asked : Revision → Type 0} {Wants : List ℕ → Path → Type 0} {Sends : List Object → Type 0} (st : State) (key : List ℕ) (token : Token) (r : Reply) (st' : State) (does : Lease → Type 0)
     → ((lease : Lease) → lease_of token st.leases ≡ Some lease → does lease → Effect Asked Wants Sends st r st') → OnLease st key token r st' does → Effect Asked Wants Sends st r st'
@@ -218,7 +212,7 @@ own st (op.Commit key token old_root new_root tag) new p =
       passes = record {
         lease = p.lease;
         live = ap (λ x. lease_of x st.leases) token_is ∙ p.live;
-        own = bytes_eq_self p.lease.key;
+        own = bytes_eq-own p.lease.key;
         head = p.head;
         is_newest = p.is_newest;
         room = p.room;

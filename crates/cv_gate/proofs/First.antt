@@ -1,27 +1,27 @@
 -- A repository with its first revision alone is sound.
-use Rattle.std.proofs.Common.{◌≡◌, ◌<◌, ◌^◌, ◌&&◌, ℕ, Bool, true, false, cond, List, [], ◌∷◌, refl, sym, ap, subst, ◌∙◌, inl, inr, arith}
+use Rattle.std.proofs.Common.{◌≡◌, ◌&&◌, ℕ, Bool, true, false, cond, List, [], ◌∷◌, refl, sym, ap, subst, ◌∙◌, inl, inr, arith}
 use Rattle.std.specs.declared.option.Option.TheVariants.{Some}
 use Rattle.std.specs.Str.{bytes_eq}
 use Rattle.sha1.specs.Sha1.{sha1}
 use Rattle.cv_base.specs.declared.id.ObjectId.{ObjectId}
 use Rattle.cv_base.specs.declared.object.Object.{Object}
+use Rattle.cv_base.proofs.Laws.{bytes_are, bytes_eq-own}
+use Rattle.cv_base.specs.Moment.{IsMoment}
 use Rattle.cv_ports.specs.Shelf.{Shelf, IsShelf}
 use Rattle.cv_ports.specs.Objects.{same_kind, same_id, shelf_of}
 use Rattle.cv_cut.proofs.Lemmas.{first_there, later_there, none_there, first_or_later}
-use Rattle.cv_history.proofs.Lemmas.{bytes_eq_self}
 use Rattle.cv_swap.specs.Kept.{Revision, record_object, AreSound, IsKept}
 use Rattle.cv_cut.specs.Cut.{catalogue_object}
 use Rattle.cv_objects.specs.Batches.{AreNamed}
 use Rattle.cv_objects.specs.Coming.{HasAll}
 use Rattle.cv_swap.specs.First.{first_revision}
 use Rattle.cv_swap.proofs.Lemmas.{first_sound as first_alone}
-use Rattle.cv_gate.proofs.Effects.{bytes_are}
 
 -- its record and its catalogue
 abbrev pub first_objects : Revision → List Object
 first_objects first = record_object first ∷ catalogue_object first.tree [] ∷ []
 
-pub first_sound : (s : Shelf) (now : ℕ) → now < 2 ^ 62 → IsShelf s → HasAll (first_objects (first_revision now)) s → AreSound s (first_revision now ∷ [])
+pub first_sound : (s : Shelf) (now : ℕ) → IsMoment now → IsShelf s → HasAll (first_objects (first_revision now)) s → AreSound s (first_revision now ∷ [])
 first_sound s now limit hashes has =
     let first : Revision = first_revision now in
     let catalogue : Object = catalogue_object first.tree [] in
@@ -63,13 +63,13 @@ first_shelf first = record {
     either false = refl
 
     record_there : shelf_of (first_objects first) (record_object first).id ≡ Some (record_object first).bytes
-    record_there = rw (bytes_eq_self (sha1 (record_object first).bytes)) refl
+    record_there = rw (bytes_eq-own (sha1 (record_object first).bytes)) refl
 
     catalogue_there : shelf_of (first_objects first) (catalogue_object first.tree []).id ≡ Some (catalogue_object first.tree []).bytes
-    catalogue_there = rw (either (bytes_eq (sha1 (record_object first).bytes) (sha1 (catalogue_object first.tree []).bytes)), bytes_eq_self (sha1 (catalogue_object first.tree []).bytes)) refl
+    catalogue_there = rw (either (bytes_eq (sha1 (record_object first).bytes) (sha1 (catalogue_object first.tree []).bytes)), bytes_eq-own (sha1 (catalogue_object first.tree []).bytes)) refl
 
 -- so there is something sound
-pub first_kept : (now : ℕ) → now < 2 ^ 62 → IsKept (record { history = first_revision now ∷ []; shelf = shelf_of (first_objects (first_revision now)); epoch = 0 })
+pub first_kept : (now : ℕ) → IsMoment now → IsKept (record { history = first_revision now ∷ []; shelf = shelf_of (first_objects (first_revision now)); epoch = 0 })
 first_kept now limit =
     let first : Revision = first_revision now in
     let hashed : AreNamed (first_objects first) = record {

@@ -6,8 +6,9 @@ use Rattle.std.specs.Prelude.{IfSome, ⊤}
 use Rattle.std.specs.List.{cons_option, AllByRecursion, Contains}
 use Rattle.cv_cut.proofs.Lemmas.{first_there, later_there}
 use Rattle.cv_base.specs.declared.object.Object.{Object}
+use Rattle.cv_base.proofs.Laws.{all_push}
 use Rattle.cv_leases.specs.declared.lease.Lease.{Lease}
-use Rattle.cv_leases.proofs.Laws.{all_filter, all_push, found_all}
+use Rattle.cv_leases.proofs.Laws.{all_filter, found_all}
 use Rattle.cv_gate.specs.State.{State, aged, with_revision, Settled, certain, unmade, published}
 use Rattle.cv_swap.specs.Kept.{Revision}
 use Rattle.cv_gate.specs.Passing.{granted, MakesNew}

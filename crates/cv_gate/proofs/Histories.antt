@@ -1,10 +1,9 @@
 -- The line of revisions: with a revision more, and how its revisions are numbered.
 use Rattle.std.proofs.Common.{◌≡◌, ◌≢◌, ◌≤◌, ◌<◌, ◌+◌, List, [], ◌∷◌, ◌++◌, length, refl, sym, ap, subst, ◌∙◌, inl, inr, arith}
-use Rattle.std.specs.declared.option.Option.{Option}
 use Rattle.std.specs.declared.option.Option.TheVariants.{None, Some}
 use Rattle.std.specs.List.{last_or, Contains}
+use Rattle.cv_base.proofs.Laws.{all_push, last_push}
 use Rattle.cv_ports.specs.Shelf.{Shelf}
-use Rattle.cv_leases.proofs.Laws.{all_push}
 use Rattle.cv_cut.proofs.Lemmas.{none_there, first_there, later_there, first_or_later}
 use Rattle.cv_swap.specs.Kept.{Revision, newest, IsRevision, Follows, FollowEachOther, IsLine, TagsDiffer}
 
@@ -18,10 +17,6 @@ follow_push s before head new (r ∷ history) h last f = (h.0, follow_push s r h
 pub line_push : (s : Shelf) (history : List Revision) (head new : Revision) → IsLine s history → newest history ≡ Some head → Follows s head new → IsLine s (history ++ new ∷ [])
 line_push s [] head new h last f = absurd h
 line_push s (r ∷ history) head new h last f = (h.0, h.1, follow_push s r head new history h.2 last f)
-
-last_push : {X : Type 0} (o : Option X) (xs : List X) (x : X) → last_or o (xs ++ x ∷ []) ≡ Some x
-last_push o [] x = refl
-last_push o (y ∷ ys) x = last_push (Some y) ys x
 
 pub newest_push : (history : List Revision) (new : Revision) → newest (history ++ new ∷ []) ≡ Some new
 newest_push history new = last_push None history new

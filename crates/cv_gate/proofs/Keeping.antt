@@ -1,5 +1,5 @@
 -- Each step keeps what holds of a state at any time.
-use Rattle.std.proofs.Common.{◌≡◌, ◌≤◌, ◌<◌, ◌+◌, ◌^◌, max, ℕ, Bool, true, false, List, [], ◌∷◌, ◌++◌, length-append, refl, sym, ap, subst, ◌∙◌, inl, inr, arith}
+use Rattle.std.proofs.Common.{◌≡◌, ◌≤◌, ◌<◌, ◌+◌, max, ℕ, Bool, true, false, List, [], ◌∷◌, ◌++◌, length-append, refl, sym, ap, subst, ◌∙◌, inl, inr, arith}
 use Rattle.std.specs.Prelude.{IfSome}
 use Rattle.std.specs.declared.option.Option.{Option}
 use Rattle.std.specs.declared.option.Option.TheVariants.{None, Some}
@@ -9,6 +9,9 @@ use Rattle.cv_base.specs.Path.{Path, overlap}
 use Rattle.cv_base.specs.declared.id.ObjectId.{ObjectId}
 use Rattle.cv_base.specs.declared.object.Object.{Object}
 use Rattle.cv_base.specs.declared.token.Token.{Token}
+use Rattle.cv_base.specs.Token.{last_number}
+use Rattle.cv_base.proofs.Laws.{all_push}
+use Rattle.cv_base.specs.Moment.{IsMoment}
 use Rattle.cv_ports.specs.Shelf.{Shelf}
 use Rattle.cv_tree.specs.Tree.{Nodes, at, put}
 use Rattle.cv_tree.specs.Changes.{has_place}
@@ -16,7 +19,7 @@ use Rattle.cv_tree.proofs.Laws.{at-put_apart, has_place-put_apart}
 use Rattle.cv_cut.proofs.Lemmas.{none_there, first_or_later}
 use Rattle.cv_leases.specs.Leases.{without}
 use Rattle.cv_leases.specs.declared.lease.Lease.{Lease}
-use Rattle.cv_leases.proofs.Laws.{all_filter, all_push, found_all, apart}
+use Rattle.cv_leases.proofs.Laws.{all_filter, found_all, apart}
 use Rattle.cv_objects.specs.Batches.{AreNamed}
 use Rattle.cv_objects.specs.Coming.{HasAll}
 use Rattle.cv_gate.specs.State.{State, aged, with_revision, Settled, certain, unmade, published}
@@ -24,15 +27,14 @@ use Rattle.cv_swap.specs.Kept.{Revision, newest, IsLine}
 use Rattle.cv_gate.specs.Objects.{GainsSome, GainsAll}
 use Rattle.cv_gate.specs.Commits.{made}
 use Rattle.cv_gate.specs.Passing.{granted, IsFree, Passes}
-use Rattle.cv_gate.specs.Step.{last_number, is_tag, IsValid, Step, Run}
+use Rattle.cv_gate.specs.Step.{is_tag, IsValid, Step, Run}
 use Rattle.cv_gate.specs.Sound.{sure, AreLeases, IsHeld, IsUndisturbed, IsDoubt, IsGranted, Sound}
 use Rattle.cv_gate.specs.declared.op.Op.{Op}
 use Rattle.cv_gate.specs.declared.op.Op.TheVariants as op
 use Rattle.cv_gate.specs.declared.entry.Entry.{Entry}
 use Rattle.cv_gate.proofs.Effects.{IsPublished, IsWanted, AreSent, Effect, nothing, gains, stores, grants, cancels, publishes, wavers, of_act, IsItsOwn, own}
-use Rattle.cv_gate.proofs.Leases.{Later, filtered, unchanged, by_ageing}
+use Rattle.cv_gate.proofs.Leases.{filtered, unchanged}
 use Rattle.cv_gate.proofs.Leases as leases
-use Rattle.cv_gate.proofs.Tokens.{IsSame}
 use Rattle.cv_gate.proofs.Tokens as tokens
 use Rattle.cv_swap.proofs.Lemmas.{line_more}
 use Rattle.cv_gate.proofs.Histories.{line_push, newest_push, newest_is_head, tags_push, IsHead}
@@ -85,7 +87,7 @@ sound_gain objects st st' hashed g none h = record {
 
 -- ---- leases that end
 
-sound_filter : (test : Lease → Bool) (st : State) (moment : ℕ) → st.moment ≤ moment → moment < 2 ^ 62 → st.doubt ≡ None → Sound st → Sound (record st { leases = filter test st.leases; moment = moment })
+sound_filter : (test : Lease → Bool) (st : State) (moment : ℕ) → st.moment ≤ moment → IsMoment moment → st.doubt ≡ None → Sound st → Sound (record st { leases = filter test st.leases; moment = moment })
 sound_filter test st moment goes limit none h = record {
   kept = h.kept;
   sure_line = h.sure_line;
@@ -265,7 +267,7 @@ by_settling st settled h (published new is e) =
       none = ap (λ (x : State). x.doubt) e;
     }
 
-pub sound_aged : (st : State) (now : ℕ) → now < 2 ^ 62 → st.doubt ≡ None → Sound st → Sound (aged st now)
+pub sound_aged : (st : State) (now : ℕ) → IsMoment now → st.doubt ≡ None → Sound st → Sound (aged st now)
 sound_aged st now limit none h = let before = h.moment in sound_filter _ st (max st.moment now) (omega arith) (omega (arith, before, limit)) none h
 
 pub by_step : (st : State) (o : Op) (e : Entry) (st' : State) → Sound st → Step st o e st' → Sound st'

@@ -10,9 +10,10 @@ use Rattle.cv_base.specs.Marker.{marker, ends_in}
 use Rattle.cv_leases.specs.declared.limits.TheConstants.{LEASE_LIMIT}
 use Rattle.cv_leases.specs.Leases.{lease_of, busy, IsTable}
 use Rattle.cv_leases.specs.declared.lease.Lease.{Lease}
-use Rattle.cv_leases.proofs.Laws.{all_filter, all_push, table_filter, table_push}
+use Rattle.cv_leases.proofs.Laws.{all_filter, table_filter, table_push}
 use Rattle.cv_base.specs.Path.{Path}
 use Rattle.cv_base.specs.declared.object.Object.{Object}
+use Rattle.cv_base.proofs.Laws.{all_push}
 use Rattle.cv_gate.specs.State.{State, aged, Settled, certain, unmade, published}
 use Rattle.cv_swap.specs.Kept.{Revision}
 use Rattle.cv_gate.specs.Passing.{lease_time, granted}

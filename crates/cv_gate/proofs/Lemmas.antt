@@ -5,7 +5,7 @@ pub use Rattle.cv_gate.proofs.Keeping.{IsSettled, by_settling, by_step, by_run a
 pub use Rattle.cv_gate.proofs.Keeping.{lease_place, lease_same}
 pub use Rattle.cv_gate.proofs.Leases.{Later, by_run as leases_by_run}
 -- the history grows by the journal's commits, and tokens are numbered
-pub use Rattle.cv_gate.proofs.Growth.{from_any, from_certain}
+pub use Rattle.cv_gate.proofs.Growth.{from_any, from_certain, none_left}
 pub use Rattle.cv_gate.proofs.Tokens.{by_run as numbers_by_run}
 -- what nothing opposes is done, and a commit that is ready ends its step
 pub use Rattle.cv_gate.proofs.Completing.{completes}

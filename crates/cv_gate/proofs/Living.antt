@@ -8,10 +8,10 @@ use Rattle.std.specs.Prelude.{⊤}
 use Rattle.std.proofs.lemmas.List.Elements.{All-from_recursion}
 use Rattle.std.proofs.lemmas.List.Kept.{AllPairs-cons}
 use Rattle.cv_base.specs.declared.token.Token.{Token}
+use Rattle.cv_base.proofs.Laws.{all_push, all_append}
 use Rattle.cv_ports.specs.Shelf.{Shelf}
 use Rattle.cv_tree.specs.Tree.{Nodes, at}
 use Rattle.cv_tree.proofs.Laws.{kept-put}
-use Rattle.cv_leases.proofs.Laws.{all_push}
 use Rattle.cv_gate.specs.State.{State, aged}
 use Rattle.cv_swap.specs.Kept.{Revision, newest, FollowEachOther, IsLine, Kept, IsKept}
 use Rattle.cv_gate.specs.Step.{Run}
@@ -156,10 +156,6 @@ tokens_differ epoch next (t ∷ ts) = (
       omega (arith, later, is))) (tokens_rise epoch (next + 1) ts),
   tokens_differ epoch (next + 1) ts,
 )
-
-all_append : {X : Type 0} (P : X → Type 0) (xs ys : List X) → AllByRecursion P xs → AllByRecursion P ys → AllByRecursion P (xs ++ ys)
-all_append P [] ys h k = k
-all_append P (x ∷ xs) ys h k = (h.0, all_append P xs ys h.1 k)
 
 -- tokens of one epoch, and later ones
 differ_append : (epoch : ℕ) (xs ys : List Token) → AllDiffer xs → AllDiffer ys → AllByRecursion (λ t. t.epoch ≡ epoch) xs → AllByRecursion (λ t. epoch < t.epoch) ys → AllDiffer (xs ++ ys)

@@ -10,7 +10,8 @@ use Rattle.cv_base.specs.Path.{Path}
 use Rattle.cv_base.specs.Digest.{IsDigest}
 use Rattle.cv_base.specs.Target.{is_target, is_target_byte}
 use Rattle.cv_base.specs.declared.token.Token.{Token}
-use Rattle.cv_base.proofs.Laws.{first_true, second_true, digest_sha1}
+use Rattle.cv_base.proofs.Laws.{first_true, second_true, digest_sha1, bytes_eq-own}
+use Rattle.cv_base.specs.Moment.{IsMoment}
 use Rattle.cv_ports.specs.Shelf.{Shelf}
 use Rattle.cv_tree.specs.Tree.{Nodes, at, put}
 use Rattle.cv_tree.specs.Changes.{has_place}
@@ -19,7 +20,6 @@ use Rattle.cv_cut.specs.Means.{Means}
 use Rattle.cv_cut.proofs.Lemmas.{goes_to, first_there, later_there, none_there, first_or_later, Means-put, cut_covers}
 use Rattle.std.proofs.lemmas.List.Sorted.{IsPermutation-reverse, Contains-permutation}
 use Rattle.cv_history.specs.Record.{is_tag_byte}
-use Rattle.cv_history.proofs.Lemmas.{bytes_eq_self}
 use Rattle.cv_leases.specs.declared.lease.Lease.{Lease}
 use Rattle.cv_swap.specs.Kept.{Revision, revision_limit, record_object, IsRevision, Follows}
 use Rattle.cv_cut.specs.Above.{cuts_above}
@@ -104,7 +104,7 @@ committed_means s now head lease n root tag ht hn place fits has =
 
 -- what is known of a lease and its record, beside what the commit says
 pub record IsWritten (now : ℕ) (lease : Lease) : Type 0 where
-  pub now_ : now < 2 ^ 62
+  pub now_ : IsMoment now
   pub epoch : lease.token.epoch < 2 ^ 64
   pub number : lease.token.number < 2 ^ 64
   pub held : IsHeld lease
@@ -170,5 +170,5 @@ found p (y ∷ xs) x has pass =
 pub commit_tag : (st : State) (key : List ℕ) (token : Token) (old_root root : List ℕ) (new : Revision) → Passes st key token old_root root new.record_.tag new
     → (r : Revision) → Contains st.history r → r.record_.tag ≢ [] → r.record_.tag ≢ new.record_.tag
 commit_tag st key token old_root root new p r has some same =
-    let taken = found (λ x. bytes_eq x.record_.tag new.record_.tag) st.history r has (subst (λ (t : List ℕ). bytes_eq r.record_.tag t ≡ true) same (bytes_eq_self r.record_.tag)) in
+    let taken = found (λ x. bytes_eq x.record_.tag new.record_.tag) st.history r has (subst (λ (t : List ℕ). bytes_eq r.record_.tag t ≡ true) same (bytes_eq-own r.record_.tag)) in
     p.free taken.0 ((λ none. some (same ∙ none)), taken.1)

@@ -1,6 +1,7 @@
 -- Each end of a commit that is ready is a step.
-use Rattle.std.proofs.Common.{◌≡◌, ◌<◌, ◌^◌, ℕ, List, sym, subst, inr}
+use Rattle.std.proofs.Common.{◌≡◌, ℕ, List, sym, subst, inr}
 use Rattle.cv_base.specs.declared.token.Token.{Token}
+use Rattle.cv_base.specs.Moment.{IsMoment}
 use Rattle.cv_swap.specs.Kept.{Revision}
 use Rattle.cv_gate.specs.State.{State, aged}
 use Rattle.cv_gate.specs.Objects.{GainsAll, GainsSome}
@@ -30,7 +31,7 @@ acts_so st (op.Cancel key token) new stored e st' m g ends = absurd m
 
 pub ready_ends : (before : State) (o : Op) (now : ℕ) (new : Revision) (stored : State) (e : Entry) (st' : State) → IsReady before o now new stored → e.now ≡ now → Records e o → Ends new stored e.reply st' → Step before o e st'
 ready_ends before o now new stored e st' h at recorded ends = record {
-  noted = record { op = h.op; now = subst (λ n. n < 2 ^ 62) (sym at) h.limit; records = recorded };
+  noted = record { op = h.op; now = subst IsMoment (sym at) h.limit; records = recorded };
   next = h.next;
   does = inr (record {
     settled = h.settled;

@@ -3,6 +3,7 @@ use Rattle.std.proofs.Common.{◌≡◌, ◌++◌, ◌∷◌, ℕ, zero, suc, Li
 use Rattle.std.specs.Prelude.{Option, drop, map, option_map}
 use Rattle.std.specs.List.{last_or}
 use Rattle.std.specs.declared.option.Option.TheVariants.{None, Some}
+use Rattle.cv_base.proofs.Laws.{last_map}
 use Rattle.cv_gate.specs.State.{State}
 use Rattle.cv_gate.specs.Step.{Run}
 use Rattle.cv_gate.specs.Desk.{DeskView, Call, Calls}
@@ -27,10 +28,6 @@ last_drop : {T : Type 0} (k : ℕ) (o : Option T) (xs : List T) (h : T) → last
 last_drop zero o xs h is = last_any o xs h is
 last_drop (suc k) o [] h is = cc
 last_drop (suc k) o (x ∷ xs) h is = last_drop k (Some x) xs h is
-
-last_map : {A B : Type 0} (f : A → B) (o : Option A) (xs : List A) → last_or (option_map f o) (map f xs) ≡ option_map f (last_or o xs)
-last_map f o [] = refl
-last_map f o (x ∷ xs) = last_map f (Some x) xs
 
 map_drop : {A B : Type 0} (f : A → B) (k : ℕ) (xs : List A) → map f (drop k xs) ≡ drop k (map f xs)
 map_drop f zero xs = refl

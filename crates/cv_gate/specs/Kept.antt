@@ -1,8 +1,9 @@
 -- What outlives a crash, and what a crash leaves of a state.
-use Rattle.std.specs.Prelude.{◌≡◌, ◌⊎◌, ℕ, ◌+◌, ◌<◌, ◌^◌, true, false, List, [], ◌∷◌, ◌++◌, Option, None, Some}
+use Rattle.std.specs.Prelude.{◌≡◌, ◌⊎◌, ℕ, ◌+◌, true, false, List, [], ◌∷◌, ◌++◌, Option, None, Some}
 use Rattle.cv_base.specs.declared.id.ObjectId.{ObjectId}
 use Rattle.cv_base.specs.declared.object.Object.{Object}
 use Rattle.cv_base.specs.declared.token.Token.{Token}
+use Rattle.cv_base.specs.Moment.{IsMoment}
 use Rattle.cv_tree.specs.Tree.{Nodes}
 use Rattle.cv_cut.specs.Means.{Means}
 use Rattle.cv_leases.specs.Leases.{lease_of}
@@ -45,7 +46,7 @@ pub record Pending : Type 0 where
 -- in a settled state the op would make one revision more, and the history has it
 pub record WouldCommit (settled : State) (p : Pending) (history : List Revision) : Type 0 where
   pub op : IsValid p.op
-  pub limit : p.now < 2 ^ 62
+  pub limit : IsMoment p.now
   pub new : Revision
   pub makes : MakesNew (aged settled p.now) p.op new
   pub is : history ≡ settled.history ++ new ∷ []

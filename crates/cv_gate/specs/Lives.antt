@@ -4,9 +4,10 @@ use Rattle.std.specs.List.{filter_map, AllByRecursion, Contains}
 use Rattle.std.specs.FinMap.{get}
 use Rattle.cv_base.specs.Path.{Path, covers}
 use Rattle.cv_base.specs.declared.token.Token.{Token}
+use Rattle.cv_base.specs.Token.{last_number}
 use Rattle.cv_gate.specs.State.{State}
 use Rattle.cv_swap.specs.Kept.{Revision, newest, Kept, IsKept}
-use Rattle.cv_gate.specs.Step.{last_number, Run}
+use Rattle.cv_gate.specs.Step.{Run}
 use Rattle.cv_gate.specs.Kept.{reopened, Pending, Crash}
 use Rattle.cv_gate.specs.Laws.{Makes, tokens_given}
 use Rattle.cv_gate.specs.declared.op.Op.TheVariants as op

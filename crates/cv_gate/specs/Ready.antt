@@ -1,11 +1,13 @@
 -- A commit that is ready: its objects are stored, and only the swap of the head is left.
-use Rattle.std.specs.Prelude.{◌≡◌, ℕ, ◌<◌, ◌^◌, Some}
+use Rattle.std.specs.Prelude.{◌≡◌, ℕ, ◌<◌, Some}
+use Rattle.cv_base.specs.Token.{last_number}
+use Rattle.cv_base.specs.Moment.{IsMoment}
 use Rattle.cv_swap.specs.Kept.{Revision}
 use Rattle.cv_gate.specs.State.{State, aged, with_revision, Settled}
 use Rattle.cv_gate.specs.Objects.{GainsAll}
 use Rattle.cv_gate.specs.Commits.{made}
 use Rattle.cv_gate.specs.Passing.{MakesNew}
-use Rattle.cv_gate.specs.Step.{IsFault, IsValid, last_number}
+use Rattle.cv_gate.specs.Step.{IsFault, IsValid}
 use Rattle.cv_gate.specs.declared.op.Op.{Op}
 use Rattle.cv_gate.specs.declared.reply.Reply.{Reply}
 use Rattle.cv_gate.specs.declared.reply.Reply.TheVariants as reply
@@ -13,7 +15,7 @@ use Rattle.cv_gate.specs.declared.reply.Reply.TheVariants as reply
 -- a state is settled and aged, the op is a commit that passes there and makes this revision, and its objects are stored
 pub record IsReady (before : State) (o : Op) (now : ℕ) (new : Revision) (stored : State) : Type 0 where
   pub op : IsValid o
-  pub limit : now < 2 ^ 62
+  pub limit : IsMoment now
   pub next : before.next < last_number
   pub settled : State
   pub settles : Settled before settled

@@ -3,6 +3,7 @@ use Rattle.std.specs.Prelude.{◌≡◌, ℕ, ◌+◌, ◌<◌, ◌≤◌, ◌^�
 use Rattle.std.specs.List.{AllByRecursion, Contains}
 use Rattle.cv_base.specs.Path.{Path, IsPath}
 use Rattle.cv_base.specs.declared.id.ObjectId.{ObjectId}
+use Rattle.cv_base.specs.Moment.{IsMoment}
 use Rattle.cv_ports.specs.Shelf.{Shelf}
 use Rattle.cv_tree.specs.Tree.{at}
 use Rattle.cv_tree.specs.Changes.{has_place}
@@ -65,7 +66,7 @@ pub record Sound (st : State) : Type 0 where
   pub open kept use *
   pub sure_line : IsLine (sure st) st.history
   pub loose : (id : ObjectId) → st.loose id ≡ true → IsSome (st.shelf id)
-  pub moment : st.moment < 2 ^ 62
+  pub moment : IsMoment st.moment
   pub epoch : st.epoch < 2 ^ 64
   pub next : st.next < 2 ^ 64
   pub leases : AreLeases st

@@ -1,5 +1,5 @@
 -- One step of the gate, as an entry of its journal records it.
-use Rattle.std.specs.Prelude.{◌≡◌, ◌≢◌, ◌⊎◌, ℕ, ◌+◌, ◌-◌, ◌<◌, ◌≤◌, ◌^◌, Bool, true, false, ◌&&◌, nat_le, bytes_eq, List, [], ◌∷◌, ◌++◌, length, None, Some, IsSome}
+use Rattle.std.specs.Prelude.{◌≡◌, ◌≢◌, ◌⊎◌, ℕ, ◌+◌, ◌-◌, ◌<◌, ◌≤◌, Bool, true, false, ◌&&◌, nat_le, bytes_eq, List, [], ◌∷◌, ◌++◌, length, None, Some, IsSome}
 use Rattle.std.specs.List.{list_all, AllByRecursion}
 use Rattle.std.specs.Str.{is_utf8}
 use Rattle.sha1.specs.Sha1.{sha1}
@@ -11,6 +11,8 @@ use Rattle.cv_base.specs.declared.id.ObjectId.{ObjectId}
 use Rattle.cv_base.specs.declared.id.Kind.TheVariants.{History}
 use Rattle.cv_base.specs.declared.object.Object.{Object}
 use Rattle.cv_base.specs.declared.token.Token.{Token}
+use Rattle.cv_base.specs.Token.{last_number}
+use Rattle.cv_base.specs.Moment.{IsMoment}
 use Rattle.cv_tree.specs.Tree.{Nodes}
 use Rattle.cv_tree.specs.Changes.{has_place}
 use Rattle.cv_cut.specs.Catalogues.{SharesKey, IsFull}
@@ -182,7 +184,7 @@ Records e (op.Cancel key token) = (e.key ≡ key) × (e.act ≡ act.Cancel token
 -- the entry notes an op that may be asked, at a moment that may be
 pub record IsNoted (o : Op) (e : Entry) : Type 0 where
   pub op : IsValid o
-  pub now : e.now < 2 ^ 62
+  pub now : IsMoment e.now
   pub records : Records e o
 
 -- memory was wanted before the ids were known, or they are noted
@@ -215,10 +217,6 @@ pub record Goes (st : State) (o : Op) (e : Entry) (st' : State) : Type 0 where
   pub settled : State
   pub settles : Settled st settled
   pub acts : Acts (aged settled e.now) o e st'
-
--- the number that no lease is given: the last below 2 to the 64th
-abbrev pub last_number : ℕ
-last_number = 18446744073709551615
 
 pub record Step (st : State) (o : Op) (e : Entry) (st' : State) : Type 0 where
   pub noted : IsNoted o e

@@ -1,6 +1,7 @@
 //! What stands between a connection and the gate.
-ghost use Rattle.std.specs.Prelude.{◌≡◌, ◌≤◌, ◌<◌, ◌∷◌, ◌++◌, ◌^◌, ℕ, List, [], None, Some, Err, IsErrOf, MatchResult};
+ghost use Rattle.std.specs.Prelude.{◌≡◌, ◌≤◌, ◌∷◌, ◌++◌, ℕ, List, [], None, Some, Err, IsErrOf, MatchResult};
 ghost use Rattle.cv_base.specs.Counts.{HasCause};
+ghost use Rattle.cv_base.specs.Moment.{IsMoment};
 ghost use Rattle.cv_ports.specs.Shelf.{Suits};
 ghost use Rattle.cv_ports.specs.declared.shelf.ShelfFault.TheVariants.{Failed};
 ghost use Rattle.cv_gate.specs.Step.{IsOp};
@@ -38,7 +39,7 @@ pub trait Desk {
 
     /// Has the gate do what is asked at a moment, below 2 to the 62nd.
     fn ask(&mut self, alloc: Global, now: u64, op: Op) -> Reply
-        requires moment { now < 2 ^ 62 }
+        requires moment { IsMoment now }
         requires op { IsOp op }
         ensures does { does self.old (asked op now result ∷ []) self.new }
         ensures named { named self.new ≡ named self.old }
@@ -46,7 +47,7 @@ pub trait Desk {
 
     /// The leases that are live at a moment, below 2 to the 62nd, in the order of grant.
     fn live(&mut self, alloc: Global, now: u64) -> Result<Vec<LeaseLine>, NoMemory>
-        requires moment { now < 2 ^ 62 }
+        requires moment { IsMoment now }
         ensures does { MatchResult result (λ lines. does self.old (listed now (Some lines.items) ∷ []) self.new) (λ _. does self.old (listed now None ∷ []) self.new) }
         ensures named { named self.new ≡ named self.old }
         ensures later { faults self.old ≤ faults self.new };

@@ -1,9 +1,11 @@
 //! Laws over the definitions alone, for every run of the gate and every list of its lives.
-ghost use Rattle.std.specs.Prelude.{◌≡◌, ◌⊎◌, ◌<◌, ◌≤◌, ◌^◌, true, ◌++◌, ℕ, List, [], ◌∷◌, Option, None, Some};
+ghost use Rattle.std.specs.Prelude.{◌≡◌, ◌⊎◌, ◌<◌, ◌≤◌, true, ◌++◌, ℕ, List, [], ◌∷◌, Option, None, Some};
 ghost use Rattle.std.specs.List.{Contains};
 ghost use Rattle.cv_base.specs.declared.id.ObjectId.{ObjectId as IdData};
 ghost use Rattle.cv_base.specs.declared.object.Object.{Object as ObjectData};
 ghost use Rattle.cv_base.specs.declared.token.Token.{Token as TokenData};
+ghost use Rattle.cv_base.specs.Token.{last_number};
+ghost use Rattle.cv_base.specs.Moment.{IsMoment};
 ghost use Rattle.cv_ports.specs.Objects.{shelf_of};
 ghost use Rattle.cv_ports.specs.Shelf.{IsShelf, Shelf as ObjectShelf};
 ghost use Rattle.cv_leases.specs.declared.lease.Lease.{Lease as LeaseData};
@@ -16,7 +18,7 @@ ghost use Rattle.cv_objects.specs.Coming.{HasAll};
 ghost use Rattle.cv_swap.specs.Kept.{Revision, newest, record_object, AreSound, Kept, IsKept};
 ghost use Rattle.cv_swap.specs.First.{first_revision};
 ghost use Rattle.cv_gate.specs.State.{State, aged, Settled};
-ghost use Rattle.cv_gate.specs.Step.{last_number, Records, Waits, Goes, Step, Run};
+ghost use Rattle.cv_gate.specs.Step.{Records, Waits, Goes, Step, Run};
 ghost use Rattle.cv_gate.specs.Sound.{AreLeases, Sound};
 ghost use Rattle.cv_gate.specs.Completeness.{Unopposed, IsDone};
 ghost use Rattle.cv_gate.specs.Ready.{IsReady, Ends};
@@ -91,9 +93,9 @@ pub fn a_ready_commit_ends_its_step()
 /// A repository of its first revision alone is sound on each shelf that has its record and its catalogue; and there is such a
 /// shelf.
 pub fn first_revisions_are_sound()
-    ensures anywhere { (s : ObjectShelf) (now : ℕ) → now < 2 ^ 62 → IsShelf s
+    ensures anywhere { (s : ObjectShelf) (now : ℕ) → IsMoment now → IsShelf s
         → HasAll (record_object (first_revision now) ∷ catalogue_object (first_revision now).tree [] ∷ []) s → AreSound s (first_revision now ∷ []) }
-    ensures somewhere { (now : ℕ) → now < 2 ^ 62
+    ensures somewhere { (now : ℕ) → IsMoment now
         → IsKept (record { history = first_revision now ∷ []; shelf = shelf_of (record_object (first_revision now) ∷ catalogue_object (first_revision now).tree [] ∷ []); epoch = 0 }) }
 {}
 

@@ -7,7 +7,7 @@ use Rattle.std.specs.declared.option.Option.TheVariants.{None, Some}
 use Rattle.cv_base.specs.Digest.{IsDigest}
 use Rattle.cv_base.specs.ObjectId.{file_name}
 use Rattle.cv_base.specs.declared.object.Object.{Object}
-use Rattle.cv_base.proofs.Laws.{digest_sha1, one_file_name}
+use Rattle.cv_base.proofs.Laws.{digest_sha1, one_file_name, item_there}
 use Rattle.cv_vault.specs.Names.{Name, on_way}
 use Rattle.cv_vault.specs.Disk.{Disk, Slot, File, Settled, IsCalm, slot}
 use Rattle.cv_vault.specs.Walks.{Nothing, Gains, Change, Stays, Comes}
@@ -18,7 +18,7 @@ use Rattle.cv_objects.specs.BatchesInner.{Waits, IsWritten, IsPlaced, IsApartFro
 use Rattle.cv_objects.specs.declared.store_fault.StoreFault.{StoreFault}
 use Rattle.cv_objects.specs.declared.store_fault.StoreFault.TheVariants.{Collision, Failed, Damaged, NoMemory}
 use Rattle.cv_objects.proofs.Naming.{way_is, data_not_way, data_off_way}
-use Rattle.cv_objects.proofs.Lists.{earlier, last_or_earlier, among}
+use Rattle.cv_objects.proofs.Lists.{earlier, last_or_earlier}
 
 -- nothing came
 pub kept : {d d' : Disk} → Gains on_way Nothing d d' → (n : Name) → on_way n ≡ false → (d' n).now ≡ (d n).now
@@ -46,7 +46,7 @@ pub ready_more : (batch : List Object) (i : ℕ) (o : Object) (d d' : Disk) → 
 ready_more batch i o d d' named one lt is r w = record {
   each = λ a h. elim (last_or_earlier batch i o a lt is h) [
     | inl old ↦ elim (same_or_not (way_name a.id) (way_name o.id)) [
-      | inl e ↦ let n : o.id ≡ a.id = sym (way_is a.id o.id (is_digest_of batch a named (earlier batch i a old)) (is_digest_of batch o named (among batch i o lt is)) e) in same_ready d' o a n (one.each o a (among batch i o lt is) (earlier batch i a old) n) w.ready
+      | inl e ↦ let n : o.id ≡ a.id = sym (way_is a.id o.id (is_digest_of batch a named (earlier batch i a old)) (is_digest_of batch o named (item_there batch i o lt is)) e) in same_ready d' o a n (one.each o a (item_there batch i o lt is) (earlier batch i a old) n) w.ready
       | inr ne ↦ ready_on d d' o a ne w.others (r.each a old)
     ]
     | inr e ↦ subst (IsReady d') e w.ready
@@ -96,7 +96,7 @@ half_more batch i o d d' named one lt is half p = record {
 }
   where
     has : Contains batch o
-    has = among batch i o lt is
+    has = item_there batch i o lt is
 
     same : (a : Object) → Contains batch a → file_name a.id ≡ file_name o.id → o.id ≡ a.id
     same a h e = sym (one_file_name a.id o.id (is_digest_of batch a named h) (is_digest_of batch o named has) e)

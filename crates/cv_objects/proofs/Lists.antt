@@ -2,7 +2,7 @@
 use Rattle.std.proofs.Common.{◌≡◌, ◌⊎◌, ℕ, zero, suc, List, take, length, ◌<◌, ◌+◌, get_or, [], ◌∷◌, ◌++◌, sym, ap, subst, ◌∙◌, refl, arith}
 use Rattle.std.specs.List.{Contains}
 use Rattle.std.proofs.lemmas.List.{take_more}
-use Rattle.std.proofs.lemmas.List.Elements.{Contains-push_cases, Contains-get_or, All-take, All-contains, All-contains_itself}
+use Rattle.std.proofs.lemmas.List.Elements.{Contains-push_cases, All-take, All-contains, All-contains_itself}
 
 pub earlier : {X : Type 0} (xs : List X) (i : ℕ) (x : X) → Contains (take i xs) x → Contains xs x
 earlier xs i x h = All-contains (Contains xs) (take i xs) x (All-take (Contains xs) i xs (All-contains_itself xs)) h
@@ -22,6 +22,3 @@ pub later_push : {X : Type 0} (xs : List X) (x y : X) → Contains xs y → Cont
 later_push [] x y c = absurd (let lt = c.1 in omega arith)
 later_push (z ∷ zs) x y (zero, lt, e) = (0, omega arith, e)
 later_push (z ∷ zs) x y (suc k, lt, e) = later_of z (zs ++ x ∷ []) y (later_push zs x y (k, omega arith, e))
-
-pub among : {X : Type 0} (xs : List X) (i : ℕ) (x : X) → i < length xs → x ≡ get_or xs i x → Contains xs x
-among xs i x lt is = subst (Contains xs) (sym is) (Contains-get_or xs i x lt)

@@ -1,11 +1,10 @@
 -- Places that are noted.
 use Rattle.std.proofs.Common.{◌≡◌, ◌&&◌, ℕ, Bool, true, false, cond, None, Some, List, length, take, get_or, ◌<◌, ◌+◌, refl, sym, ap, subst, ◌∙◌, inl, inr}
-use Rattle.std.specs.Prelude.{slice_get, OnOk, Result, Ok, Err}
+use Rattle.std.specs.Prelude.{slice_get}
 use Rattle.std.specs.List.{Contains}
 use Rattle.std.specs.Str.{bytes_eq}
 use Rattle.std.specs.BTreeMap.{BTreeMap, get, Updates}
 use Rattle.std.proofs.lemmas.Map.Text.{is_eq-slice_cmp}
-use Rattle.std.proofs.lemmas.Slice.Eq.{bytes_eq-Decides}
 use Rattle.std.proofs.lemmas.Option.{slice_get_read, same_Some}
 use Rattle.std.proofs.Math.Bool.{and-true, and-false}
 use Rattle.cv_base.specs.BytesOrder.{bytes_cmp}
@@ -14,7 +13,7 @@ use Rattle.cv_base.specs.declared.id.Kind.TheVariants.{Plain, Catalogue, History
 use Rattle.cv_base.specs.declared.id.ObjectId.{ObjectId}
 use Rattle.cv_base.specs.declared.object.Object.{Object}
 use Rattle.cv_base.specs.ObjectId.{same_id, same_kind}
-use Rattle.cv_base.proofs.Laws.{first_true, second_true, same_kind-eq, same_kind-own}
+use Rattle.cv_base.proofs.Laws.{same_id-own, same_id-eq}
 use Rattle.cv_objects.specs.PlacesInner.{of_kind, place_of}
 use Rattle.cv_objects.specs.Batches.{IsOne}
 use Rattle.cv_objects.specs.declared.places.Places.{Places}
@@ -28,10 +27,6 @@ apart b x y = sym (ap (λ (a : Bool). cond a x y) (and-false b))
 
 other : (m n : BTreeMap (List ℕ) ℕ) (hash q : List ℕ) (p : ℕ) → n ≡ m → get bytes_cmp n q ≡ cond (bytes_eq hash q && false) (Some p) (get bytes_cmp m q)
 other m n hash q p same = ap (λ (x : BTreeMap (List ℕ) ℕ). get bytes_cmp x q) same ∙ apart (bytes_eq hash q) (Some p) (get bytes_cmp m q)
-
-pub on_ok : {X E A B : Type 0} (r : Result X E) → (A → B) → OnOk r A → OnOk r B
-on_ok (Ok x) f h = f h
-on_ok (Err e) f h = tt
 
 -- one place more, under its kind
 plain_at : (was are : Places) (hash q : List ℕ) (p : ℕ) → Updates bytes_cmp was.plain are.plain hash (Some p) → are.catalogues ≡ was.catalogues → are.records ≡ was.records
@@ -63,17 +58,6 @@ record_at was are hash q p u a b History = own was.records are.records hash q p 
 pub put_record : (was are : Places) (id : ObjectId) (p : ℕ) → id.kind ≡ History → Updates bytes_cmp was.records are.records id.hash (Some p) → are.plain ≡ was.plain → are.catalogues ≡ was.catalogues
     → (x : ObjectId) → place_of are x ≡ cond (same_id id x) (Some p) (place_of was x)
 put_record was are id p is u a b x = rw is (record_at was are id.hash x.hash p u a b x.kind)
-
--- ---- ids that are the same
-
-pub same_is : (a b : ObjectId) → same_id a b ≡ true → a ≡ b
-same_is a b e =
-    let hash : a.hash ≡ b.hash = (bytes_eq-Decides a.hash b.hash).0 (first_true (bytes_eq a.hash b.hash) (same_kind a.kind b.kind) e) in
-    let kind : a.kind ≡ b.kind = same_kind-eq a.kind b.kind (second_true (bytes_eq a.hash b.hash) (same_kind a.kind b.kind) e) in
-    λ i. record { hash = hash i; kind = kind i }
-
-pub same_itself : (a : ObjectId) → same_id a a ≡ true
-same_itself a = rw ((bytes_eq-Decides a.hash a.hash).1 refl, same_kind-own a.kind) refl
 
 -- ---- a batch whose objects are noted
 
@@ -108,7 +92,7 @@ here_anew batch n places more o here lt is none put = record {
   found = λ id p e. found id p (same_id o.id id) refl (sym (put id) ∙ e);
   all = λ a h. elim (last_or_earlier batch n o a lt is h) [
     | inl old ↦ (let k = here.all a old in earlier a k (same_id o.id a.id) refl)
-    | inr e ↦ subst (IsHere batch more) e (record { place = n; first = o; noted = put o.id ∙ rw (same_itself o.id) refl; there = at; same = refl })
+    | inr e ↦ subst (IsHere batch more) e (record { place = n; first = o; noted = put o.id ∙ rw (same_id-own o.id) refl; there = at; same = refl })
   ];
 }
   where
@@ -116,11 +100,11 @@ here_anew batch n places more o here lt is none put = record {
     at = slice_get_read batch (length batch) n o refl lt is
 
     found : (id : ObjectId) (p : ℕ) (b : Bool) → same_id o.id id ≡ b → cond b (Some n) (place_of places id) ≡ Some p → (a : Object) × (slice_get batch p ≡ Some a) × (a.id ≡ id)
-    found id p true same e = (o, (let j : n ≡ p = cc in ap (slice_get batch) (sym j) ∙ at), same_is o.id id same)
+    found id p true same e = (o, (let j : n ≡ p = cc in ap (slice_get batch) (sym j) ∙ at), same_id-eq o.id id same)
     found id p false same e = here.found id p e
 
     earlier : (a : Object) → IsHere batch places a → (b : Bool) → same_id o.id a.id ≡ b → IsHere batch more a
-    earlier a k true same = absurd (let e : o.id ≡ a.id = same_is o.id a.id same in let w : None ≡ Some k.place = sym none ∙ ap (place_of places) e ∙ k.noted in cc)
+    earlier a k true same = absurd (let e : o.id ≡ a.id = same_id-eq o.id a.id same in let w : None ≡ Some k.place = sym none ∙ ap (place_of places) e ∙ k.noted in cc)
     earlier a k false same = record { place = k.place; first = k.first; noted = put a.id ∙ ap (λ (b : Bool). cond b (Some n) (place_of places a.id)) same ∙ k.noted; there = k.there; same = k.same }
 
 -- where all are, objects of one id have the same bytes

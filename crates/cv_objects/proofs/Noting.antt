@@ -9,6 +9,7 @@ use Rattle.std.specs.declared.result.Result.TheVariants.{Ok, Err}
 use Rattle.cv_base.specs.Digest.{IsDigest}
 use Rattle.cv_base.specs.declared.id.ObjectId.{ObjectId}
 use Rattle.cv_base.specs.declared.object.Object.{Object}
+use Rattle.cv_base.proofs.Laws.{item_there}
 use Rattle.cv_vault.specs.Names.{on_way}
 use Rattle.cv_vault.specs.Disk.{Disk, Files}
 use Rattle.cv_vault.specs.Walks.{Walks, Nothing}
@@ -21,7 +22,7 @@ use Rattle.cv_objects.specs.BatchesInner.{Notes, Noted, NotesOne, Looked, again,
 use Rattle.cv_objects.specs.declared.places.Places.{Places}
 use Rattle.cv_objects.specs.declared.store_fault.StoreFault.{StoreFault}
 use Rattle.cv_objects.specs.declared.store_fault.StoreFault.TheVariants.{NoMemory}
-use Rattle.cv_objects.proofs.Lists.{among, last_or_earlier}
+use Rattle.cv_objects.proofs.Lists.{last_or_earlier}
 use Rattle.cv_objects.proofs.Looking.{shows_outside}
 use Rattle.cv_objects.proofs.Once.{AreOnce, once_there, once_again, once_anew}
 use Rattle.cv_objects.proofs.Telling.{standing_is}
@@ -62,7 +63,7 @@ module _ {V : Type 0} {disk : V → Option Disk} {count : V → ℕ} {left : V �
 
 -- an object that shows a fault, after others
 pub fresh_shows : {Z : Type 0} (d : Disk) (batch : List Object) (i : ℕ) (o : Object) (r : Result (Vec ObjectId Z) StoreFault) (e : StoreFault) (d' : Disk) → i < length batch → o ≡ get_or batch i o → r ≡ Err e → (d' ≡ d) → Shows d o e → GivesFresh d batch r d'
-fresh_shows d batch i o r e d' lt is fails same h = rw fails (same, by_one (record { object = o; among = among batch i o lt is; shows = h }))
+fresh_shows d batch i o r e d' lt is fails same h = rw fails (same, by_one (record { object = o; among = item_there batch i o lt is; shows = h }))
 
 -- there was no memory to look at all
 pub fresh_wants : {Z : Type 0} (d : Disk) (batch : List Object) (r : Result (Vec ObjectId Z) StoreFault) → r ≡ Err NoMemory → GivesFresh d batch r d

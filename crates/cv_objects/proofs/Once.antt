@@ -5,10 +5,10 @@ use Rattle.std.specs.List.{filter, list_any}
 use Rattle.std.proofs.lemmas.List.{take_more}
 use Rattle.cv_base.specs.declared.id.ObjectId.{ObjectId}
 use Rattle.cv_base.specs.declared.object.Object.{Object}
+use Rattle.cv_base.proofs.Laws.{same_id-eq}
 use Rattle.cv_ports.specs.Objects.{same_id}
 use Rattle.cv_ports.specs.Shelf.{Shelf}
 use Rattle.cv_objects.specs.Fresh.{each_once, lacking}
-use Rattle.cv_objects.proofs.Noted.{same_is}
 
 abbrev pub has : List ObjectId → ObjectId → Bool
 has xs x = list_any (λ y. same_id y x) xs
@@ -82,7 +82,7 @@ once_again shelf batch i o ids noted lt is none again once =
     })
   where
     same : (xs : List ObjectId) (x : ObjectId) → has xs o.id ≡ true → (b : Bool) → same_id o.id x ≡ b → (same_id o.id x || has xs x) ≡ has xs x
-    same xs x there true e = rw (e, sym (ap (has xs) (same_is o.id x e)) ∙ there) refl
+    same xs x there true e = rw (e, sym (ap (has xs) (same_id-eq o.id x e)) ∙ there) refl
     same xs x there false e = rw e refl
 
 -- it doesn't, and its id is noted now

@@ -24,9 +24,7 @@ pub fn read_object<V: Vault>(
     ensures reads { OnlyReads V.disk V.count V.left vault.old vault.new }
     ensures cause { HasCause (V.faults vault.old) (V.faults vault.new) (IsErrOf result fault.Failed) }
 {
-    let Ok(name) = name_of(alloc, *id) else {
-        return Err(ShelfFault::NoMemory);
-    };
+    let name = name_of(alloc, *id)?;
     match vault.read(name.as_str()) {
         Ok(found) => check(id, found),
         Err(VaultFault::Failed) => Err(ShelfFault::Failed),
@@ -64,9 +62,7 @@ pub fn measure_object<V: Vault>(
     ensures reads { OnlyReads V.disk V.count V.left vault.old vault.new }
     ensures cause { HasCause (V.faults vault.old) (V.faults vault.new) (IsErrOf result fault.Failed) }
 {
-    let Ok(name) = name_of(alloc, *id) else {
-        return Err(ShelfFault::NoMemory);
-    };
+    let name = name_of(alloc, *id)?;
     match vault.length(name.as_str()) {
         Ok(len) => Ok(len),
         Err(VaultFault::Failed) => Err(ShelfFault::Failed),

@@ -1,11 +1,13 @@
 -- A seat of a gate that other seats ask too, for the tests.
-use Rattle.std.proofs.Common.{◌≡◌, ◌<◌, ◌^◌, ◌++◌, ◌∷◌, ℕ, List, [], refl, ap, sym, subst, ◌∙◌, inl, inr, true, false, arith}
+use Rattle.std.proofs.Common.{◌≡◌, ◌<◌, ◌++◌, ◌∷◌, ℕ, List, [], refl, ap, sym, subst, ◌∙◌, inl, inr, true, false, arith}
 use Rattle.std.specs.Prelude.{Some, None, Err}
 use Rattle.cv_base.specs.declared.id.ObjectId.{ObjectId}
+use Rattle.cv_base.specs.Token.{last_number}
+use Rattle.cv_base.specs.Moment.{IsMoment}
 use Rattle.cv_ports.specs.declared.shelf.ShelfFault.TheVariants.{NoMemory}
 use Rattle.cv_manifest.specs.declared.head.Head.{Head}
 use Rattle.cv_gate.specs.State.{State, aged, certain}
-use Rattle.cv_gate.specs.Step.{Step, Run, Acts, IsOp, HasTypes, IsValid, Records, last_number}
+use Rattle.cv_gate.specs.Step.{Step, Run, Acts, IsOp, HasTypes, IsValid, Records}
 use Rattle.cv_gate.specs.Heads.{IsFront, head_of, heads_since, last_head}
 use Rattle.cv_gate.specs.Desk.{DeskView, asked, listed, fetched, told, made, Between, Learns}
 use Rattle.cv_gate.specs.declared.entry.Entry.{Entry}
@@ -29,7 +31,7 @@ a_seat_is_seen r = (
 )
 
 -- an op is refused at a moment where no lease is live, and nothing changes but the moment
-module _ (st : State) (now : ℕ) (below : now < 2 ^ 62) (room : st.next < last_number) (sure : st.doubt ≡ None) (free : st.leases ≡ []) where
+module _ (st : State) (now : ℕ) (below : IsMoment now) (room : st.next < last_number) (sure : st.doubt ≡ None) (free : st.leases ≡ []) where
   acts : (seat : ℕ) (o : Op) → Acts (aged st now) o (entry_of seat o now) (aged st now)
   acts seat (op.Lease key path) = inl (refl, refl)
   acts seat (op.Store key token digest batch) = ([], refl, inr (inr (refl, λ e. cc, refl), inl (rw free refl, refl, refl)))
@@ -57,7 +59,7 @@ module _ (head : Head) (v : DeskView) (seen : IsSeat head v) where
   known = ap last_head (sym seen.heads) ∙ seen.last
 
 -- an op is asked behind one of the other seat
-pub asks : (head : Head) (o : Op) (now : ℕ) (r : Reply) → IsOp o → HasTypes o → now < 2 ^ 62 → r ≡ refusal_of o → SeatDoes head (asked o now r ∷ []) head
+pub asks : (head : Head) (o : Op) (now : ℕ) (r : Reply) → IsOp o → HasTypes o → IsMoment now → r ≡ refusal_of o → SeatDoes head (asked o now r ∷ []) head
 asks head o now r is_op types below is v seen =
     let mid : State = aged v.state now in
     let after : State = aged mid now in

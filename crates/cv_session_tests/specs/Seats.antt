@@ -3,10 +3,11 @@
 use Rattle.std.specs.Prelude.{◌≡◌, ◌<◌, false}
 use Rattle.std.proofs.Common.{◌++◌, ◌∷◌, ℕ, List, [], refl}
 use Rattle.std.specs.declared.option.Option.TheVariants.{None, Some}
+use Rattle.cv_base.specs.Token.{last_number}
 use Rattle.cv_manifest.specs.declared.head.Head.{Head}
 use Rattle.cv_gate.specs.Desk.{DeskView, Call, Leads}
 use Rattle.cv_gate.specs.Heads.{heads_since, last_head}
-use Rattle.cv_gate.specs.Step.{Run, last_number}
+use Rattle.cv_gate.specs.Step.{Run}
 use Rattle.cv_gate.proofs.Lemmas.{calls_on}
 use Rattle.cv_gate.specs.declared.act.Act.{Act}
 use Rattle.cv_gate.specs.declared.act.Act.TheVariants as act

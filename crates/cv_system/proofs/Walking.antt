@@ -2,6 +2,7 @@
 use Rattle.std.proofs.Common.{◌≡◌, ◌∙◌, ◌+◌, ◌≤◌, ◌++◌, ◌∷◌, [], ℕ, List, true, false, refl, sym, subst, inl, inr, length, map, drop}
 use Rattle.std.specs.Prelude.{◌⊎◌, All, IsTrue}
 use Rattle.std.proofs.lemmas.List.Elements.{All-map}
+use Rattle.cv_base.specs.Counts.{last_count}
 use Rattle.cv_system.specs.declared.syncing.Unsynced.{Unsynced}
 use Rattle.cv_system.specs.declared.syncing.Unsynced.TheVariants.{NotOpened}
 use Rattle.cv_system.specs.Calls.{Log}
@@ -70,6 +71,6 @@ module _ (top : List ℕ) (before : Log) where
     unfolding FailsAll
     turn_fails unsynced told after same fails = inr (inr (turns, folder, last, kept, between, walks, inl (subst (λ u. FailsTurn top folder last kept u between after) (sym same) fails)))
 
-    pub no_end : 18446744073709551615 ≤ turns → FailsAll top NotOpened before between
+    pub no_end : last_count ≤ turns → FailsAll top NotOpened before between
     unfolding FailsAll
     no_end many = inr (inr (turns, folder, last, kept, between, walks, inr (many, refl, refl)))

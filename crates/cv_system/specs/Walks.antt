@@ -6,7 +6,8 @@ use Rattle.std.specs.Ordering.{is_lt}
 use Rattle.std.specs.Option.{option_map_or}
 use Rattle.std.specs.Str.{is_utf8}
 use Rattle.std.specs.declared.io.ErrorKind.TheVariants.{PermissionDenied}
-use Rattle.cv_base.specs.Path.{name_cmp}
+use Rattle.cv_base.specs.BytesOrder.{bytes_cmp}
+use Rattle.cv_base.specs.Counts.{last_count}
 use Rattle.cv_system.specs.declared.path_buffer.TheConstants.{PATH_ROOM}
 use Rattle.cv_system.specs.declared.seen.Seen.{Seen}
 use Rattle.cv_system.specs.declared.seen.Kind.TheVariants.{Folder}
@@ -20,11 +21,11 @@ use Rattle.cv_system.specs.Syncs.{FailsFolder, FailsTop, PassesFolder, SettlesFo
 
 -- a path comes next: behind the last one, and before the end of what is kept, if there is no room for more
 abbrev pub comes_next : List ℕ → List ℕ → List ℕ → Bool
-comes_next path last end = is_lt (name_cmp last path) && (length end == 0 || is_lt (name_cmp path end))
+comes_next path last end = is_lt (bytes_cmp last path) && (length end == 0 || is_lt (bytes_cmp path end))
 
 -- the place of a path among those that are kept, if there is one: at free room, or before the first that is behind it
 abbrev pub place_of : List ℕ → List (List ℕ) → Option ℕ
-place_of path kept = position (λ other. length other == 0 || is_lt (name_cmp path other)) kept
+place_of path kept = position (λ other. length other == 0 || is_lt (bytes_cmp path other)) kept
 
 -- what is kept with one path more: where there is a place for it, it stands there, and the last one has given its room
 abbrev pub with_path : List ℕ → List (List ℕ) → List (List ℕ)
@@ -99,7 +100,7 @@ FailsToReadAll folder last kept before after =
     (count : ℕ) × (between : List (List ℕ)) × (read : Log) × Reads folder last kept before count between read
     × (((cause : Cause) × (after ≡ and_call (Named folder (Err cause)) read))
     ⊎ ((bytes : List ℕ) × FailsAmong folder last (names_in bytes) between (and_call (Named folder (Ok bytes)) read) after)
-    ⊎ ((18446744073709551615 ≤ count) × (after ≡ read)))
+    ⊎ ((last_count ≤ count) × (after ≡ read)))
 
 -- a folder is gone round: it is entered and all its names are read, or it is below the top, can't be entered and is passed over
 abbrev pub GoesRound : List ℕ → List ℕ → List ℕ → List (List ℕ) → List (List ℕ) → Log → Log → Type 0
@@ -157,4 +158,4 @@ FailsAll top unsynced before after =
     ((PATH_ROOM ≤ length top + 1) × (unsynced ≡ NotOpened) × (after ≡ before))
     ⊎ FailsTop (with_slash top) unsynced before after
     ⊎ ((turns : ℕ) × (folder last : List ℕ) × (kept : List (List ℕ)) × (between : Log) × Walks top before turns folder last kept between
-    × (FailsTurn top folder last kept unsynced between after ⊎ ((18446744073709551615 ≤ turns) × (unsynced ≡ NotOpened) × (after ≡ between))))
+    × (FailsTurn top folder last kept unsynced between after ⊎ ((last_count ≤ turns) × (unsynced ≡ NotOpened) × (after ≡ between))))

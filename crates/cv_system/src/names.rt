@@ -6,10 +6,10 @@ ghost use Rattle.cv_base.specs.PathText.{parts_of};
 ghost use Rattle.cv_system.specs.declared.path_buffer.TheConstants.{PATH_ROOM};
 ghost use Rattle.cv_system.specs.Names.{above, is_own, is_part, is_name, last_part, folder_of, path_of, stands_at};
 
-/// The one own file of a folder: the next file of one of its names, as long as it isn't whole.
+/// The own file of a folder at which the next file of one of its names is written, until it is whole.
 pub const NEXT: &str = ".cvkit-next";
 
-/// Whether a file or folder of this name is the adapter's own, and never the vault's.
+/// Whether a file or folder of this name is the adapter's own, and no part of a name of the vault.
 pub fn is_own(name: &str) -> bool
     ensures { result ≡ is_own name.now }
 {

@@ -10,7 +10,9 @@ use Rattle.std.proofs.lemmas.Bool.{not-true}
 use Rattle.std.proofs.lemmas.List.{get_or-set_same}
 use Rattle.std.proofs.lemmas.List.Kept.{IsStrictlySortedBy-filter}
 use Rattle.std.proofs.lemmas.List.Elements.{All-nil, All-head, All-tail, All-cons, All-set, All-filter, All-weaker, All-from_get_or, All-from_recursion}
-use Rattle.cv_vault.specs.Names.{Name, name_cmp, same_name}
+use Rattle.cv_base.specs.BytesOrder.{bytes_cmp}
+use Rattle.cv_base.proofs.Laws.{same_or_other}
+use Rattle.cv_vault.specs.Names.{Name, same_name}
 use Rattle.cv_vault.specs.Disk as disk
 use Rattle.cv_vault.specs.Disk.{Disk, Slot, May, Image, LeftAt, slot, with_slot, is_settled}
 use Rattle.cv_vault.specs.Crash.{Crashes, file_before, left_by, picks}
@@ -32,6 +34,7 @@ use Rattle.cv_vault.proofs.Unsettled.{Contains-rest, unsettled_none}
 use Rattle.cv_vault.proofs.Changing.{set_disk}
 use Rattle.cv_vault.proofs.Steps.{slot_at, settled_in}
 use Rattle.cv_vault.proofs.Ordered.{names_of, all_names, ascending, placed, numbers_in_range, covered, among_or_none, passes, passed}
+use Rattle.cv_vault.proofs.Calling.{now_may}
 
 -- Each entry is settled with its file, which is its first as well.
 
@@ -58,9 +61,6 @@ pick_after pick es k = next_pick pick (get_or es k any_entry).place
 -- the entry is settled with its first file
 abbrev pub IsFresh : Entry → Type 0
 IsFresh e = e.place ≡ record { now = e.first; mark = mark.Settled }
-
-same_or_other : (k i : ℕ) → (k ≡ i) ⊎ (k ≢ i)
-same_or_other k i = grind arith
 
 module _ {K : Type 0} where
   pub length-crashed : (pick : ℕ) (ps : List (K × ℕ)) (es : List Entry) → length (crashed pick ps es) ≡ length es
@@ -134,11 +134,11 @@ picks_lacks pick [] d n h = refl
 picks_lacks pick (m ∷ ms) d n h = rw (other_name n m (All-head (λ m. n ≢ m) m ms h)) (picks_lacks (pick / 2) ms d n (All-tail (λ m. n ≢ m) m ms h))
 
 -- the names that follow in an ascending list differ
-later_names : (m : Name) (ns : List Name) → IsStrictlySortedBy name_cmp (m ∷ ns) → Lacks m ns
+later_names : (m : Name) (ns : List Name) → IsStrictlySortedBy bytes_cmp (m ∷ ns) → Lacks m ns
 unfolding IsStrictlySortedBy
-later_names m ns h i d lt = below_differs m (get_or ns i d) (All-from_recursion (λ k. name_cmp m k ≡ Less) ns h.0 i d lt)
+later_names m ns h i d lt = below_differs m (get_or ns i d) (All-from_recursion (λ k. bytes_cmp m k ≡ Less) ns h.0 i d lt)
 
-sorted_tail : (m : Name) (ns : List Name) → IsStrictlySortedBy name_cmp (m ∷ ns) → IsStrictlySortedBy name_cmp ns
+sorted_tail : (m : Name) (ns : List Name) → IsStrictlySortedBy bytes_cmp (m ∷ ns) → IsStrictlySortedBy bytes_cmp ns
 unfolding IsStrictlySortedBy
 sorted_tail m ns h = h.1
 
@@ -177,7 +177,7 @@ module _ {K : Type 0} (key : K → Name) (names : List Name) (contents : List (L
   apart_one pick es k h = rw (names_one names contents pick es k) h
 
   -- the names that aren't among them
-  untouched : (pick : ℕ) (ps : List (K × ℕ)) (es : List Entry) (n : Name) → IsStrictlySortedBy name_cmp (names_of key ps) → AreApart (names_in names es) → All (Agrees es) ps → Lacks n (names_of key ps)
+  untouched : (pick : ℕ) (ps : List (K × ℕ)) (es : List Entry) (n : Name) → IsStrictlySortedBy bytes_cmp (names_of key ps) → AreApart (names_in names es) → All (Agrees es) ps → Lacks n (names_of key ps)
       → disk_of (resolved names contents (crashed pick ps es)) n ≡ disk_of (resolved names contents es) n
   untouched pick [] es n sorted differ all h = refl
   untouched pick (p ∷ ps) es n sorted differ all h =
@@ -233,7 +233,7 @@ module _ {K : Type 0} (key : K → Name) (names : List Name) (contents : List (L
           ∙ ap (λ ms. picks pick ms d n) (sym (first_if_open p ps (sym (settled_by (get_or es p.1 any_entry).place (key p.0) a.stands) ∙ h)))
 
   -- the files that the pick leaves
-  pub crashed_at : (pick : ℕ) (ps : List (K × ℕ)) (es : List Entry) (n : Name) → IsStrictlySortedBy name_cmp (names_of key ps) → AreApart (names_in names es) → All (Agrees es) ps
+  pub crashed_at : (pick : ℕ) (ps : List (K × ℕ)) (es : List Entry) (n : Name) → IsStrictlySortedBy bytes_cmp (names_of key ps) → AreApart (names_in names es) → All (Agrees es) ps
       → (Lacks n (names_of key ps) → disk_of (resolved names contents es) n ≡ slot (d n).now disk.Settled)
       → disk_of (resolved names contents (crashed pick ps es)) n ≡ slot (picks pick (unsettled_in ps) d n) disk.Settled
   crashed_at pick [] es n sorted differ all missing = missing (λ k d lt. absurd (omega arith))
@@ -267,16 +267,8 @@ left_may pick s = by (pick % 2 == 0) s.mark
     by false disk.Torn = tt
     by false (disk.Moved f) = inr refl
 
-now_left : (s : Slot) → May s s.now
-now_left s = by s.mark
-  where
-    by : (m : disk.Mark) → LeftAt s.now m s.now
-    by disk.Settled = refl
-    by disk.Torn = tt
-    by (disk.Moved f) = inr refl
-
 pub picks_image : (pick : ℕ) (ms : List Name) (d : Disk) → Image d (picks pick ms d)
-picks_image pick [] d n = now_left (d n)
+picks_image pick [] d n = now_may (d n)
 picks_image pick (m ∷ ms) d n = elim (same_or_not n m) [
   | inl same ↦ let yes : same_name n m ≡ true = rw same (same_name_itself m) in rw yes (subst (λ (k : Name). May (d n) (left_by pick (d k))) same (left_may pick (d n)))
   | inr other ↦ let no : same_name n m ≡ false = other_name n m other in rw no (picks_image (pick / 2) ms d n)
@@ -329,7 +321,7 @@ module _ (pick : ℕ) (t t' : Inside) (is : IsIndexed t) (h : IsCrashed pick t t
   pub crashes : Crashes pick (table_disk (rows_of t)) (table_disk (rows_of t'))
   crashes = record {
     unsettled = open_names;
-    ascending = IsStrictlySortedBy-filter name_cmp (λ m. not (is_settled (table_disk (rows_of t) m).mark)) (all_names t) (ascending t is);
+    ascending = IsStrictlySortedBy-filter bytes_cmp (λ m. not (is_settled (table_disk (rows_of t) m).mark)) (all_names t) (ascending t is);
     exact = λ n. (λ c. not-true (is_settled (table_disk (rows_of t) n).mark) (passed (λ m. not (is_settled (table_disk (rows_of t) m).mark)) (all_names t) n c), is_among n);
     left = rw (h.names, h.contents, h.entries) (λ i n. crashed_at string_bytes t.names.items t.contents.items (table_disk (rows_of t)) pick t.numbers.entries t.entries.items n (ascending t is) is.table.apart agree (missing n) i);
     image = picks_image pick open_names (table_disk (rows_of t));

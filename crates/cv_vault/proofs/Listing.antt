@@ -11,7 +11,8 @@ use Rattle.std.proofs.lemmas.Bool.{and_parts}
 use Rattle.std.proofs.lemmas.List.Elements.{All-filter, All-head, All-tail, filter_passes}
 use Rattle.std.proofs.lemmas.List.{append-nil}
 use Rattle.std.proofs.lemmas.List.Kept.{IsStrictlySortedBy-filter}
-use Rattle.cv_vault.specs.Names.{Name, name_cmp}
+use Rattle.cv_base.specs.BytesOrder.{bytes_cmp}
+use Rattle.cv_vault.specs.Names.{Name}
 use Rattle.cv_vault.specs.Disk as disk
 use Rattle.cv_vault.specs.Disk.{Slot, IsListing}
 use Rattle.cv_vault.specs.Table.{Rows}
@@ -39,13 +40,13 @@ module _ (t : Inside) (is : IsIndexed t) (prefix : Name) where
   ]
 
   pub listing : IsListing (table_disk (rows_of t)) prefix listed
-  listing = record { ascending = IsStrictlySortedBy-filter name_cmp (is_listed (table_disk (rows_of t)) prefix) (all_names t) (ascending t is); exact = λ n. (listed_is n, is_there n) }
+  listing = record { ascending = IsStrictlySortedBy-filter bytes_cmp (is_listed (table_disk (rows_of t)) prefix) (all_names t) (ascending t is); exact = λ n. (listed_is n, is_there n) }
 
 -- the names that a loop still goes over: in ascending order, none before the prefix, each with the number of its entry
 pub record AreLeft (t : Rows) (prefix : Name) {Y : Type 0} (ps : List (String Y × ℕ)) : Type 0 where
   pub placed : All (λ p. IsEntryOf t (string_bytes p.0) p.1) ps
   pub from : All (λ n. is_from prefix n ≡ true) (names_of string_bytes ps)
-  pub ascending : IsStrictlySortedBy name_cmp (names_of string_bytes ps)
+  pub ascending : IsStrictlySortedBy bytes_cmp (names_of string_bytes ps)
 
 -- a name that doesn't begin so isn't listed
 not_listed : (d : disk.Disk) (prefix n : Name) → starts_with nat_eq n prefix ≡ false → is_listed d prefix n ≡ false
@@ -90,7 +91,7 @@ module _ (t : Inside) (is : IsIndexed t) where
     left_first = record {
       placed = rw from (All-filter (λ e. range_contains string_cmp (Included first) Unbounded e.0) (λ p. IsEntryOf (rows_of t) (string_bytes p.0) p.1) t.numbers.entries (placed t is));
       from = rw names_are (filter_passes (is_from prefix) (all_names t));
-      ascending = rw names_are (IsStrictlySortedBy-filter name_cmp (is_from prefix) (all_names t) (ascending t is));
+      ascending = rw names_are (IsStrictlySortedBy-filter bytes_cmp (is_from prefix) (all_names t) (ascending t is));
     }
 
     -- all that are listed are among them

@@ -3,28 +3,24 @@ use Rattle.std.proofs.Common.{◌≡◌, ◌≢◌, ◌⊎◌, inl, inr, ap, sub
 use Rattle.std.specs.Prelude.{IsSome}
 use Rattle.std.specs.declared.option.Option.{Option}
 use Rattle.std.specs.declared.option.Option.TheVariants.{None}
-use Rattle.std.specs.declared.cmp.Ordering.{Ordering}
-use Rattle.std.specs.declared.cmp.Ordering.TheVariants.{Less, Equal, Greater}
+use Rattle.std.specs.declared.cmp.Ordering.TheVariants.{Less}
 use Rattle.std.specs.Ordering.{is_eq}
 use Rattle.std.specs.Cmp.{tied_itself}
 use Rattle.std.specs.Str.{bytes_eq}
 use Rattle.std.proofs.lemmas.Slice.Eq.{bytes_eq-Decides}
 use Rattle.std.specs.Cmp.Lexicographic.{nat_list_cmp_total}
 use Rattle.std.specs.FinMap.{IsAntisymmetric, slice_cmp-IsAntisymmetric, nat_cmp-IsAntisymmetric}
-use Rattle.cv_vault.specs.Names.{Name, name_cmp, same_name}
+use Rattle.cv_base.specs.BytesOrder.{bytes_cmp}
+use Rattle.cv_base.proofs.Laws.{is_equal}
+use Rattle.cv_vault.specs.Names.{Name, same_name}
 use Rattle.cv_vault.specs.Disk.{Disk, Slot, with_slot}
 
 -- nothing isn't something
 pub none_there : {X : Type 0} {o : Option X} → o ≡ None → IsSome o → ⊥
 none_there {X} e h = let k : is_some {T = X} None ≡ true = subst (λ x. is_some x ≡ true) e h in cc
 
-pub name_exact : IsAntisymmetric name_cmp
+pub name_exact : IsAntisymmetric bytes_cmp
 name_exact = slice_cmp-IsAntisymmetric nat_cmp-IsAntisymmetric
-
-is_equal : (r : Ordering) → is_eq r ≡ true → r ≡ Equal
-is_equal Less h = cc
-is_equal Equal h = refl
-is_equal Greater h = cc
 
 pub same_name_is : (a b : Name) → same_name a b ≡ true → a ≡ b
 same_name_is a b h = name_exact a b (is_equal _ h)
@@ -47,8 +43,8 @@ same_or_not a b = by (same_name a b) refl
     by true e = inl (same_name_is a b e)
     by false e = inr (λ s. let t : same_name b b ≡ false = subst (λ x. same_name x b ≡ false) s e in let u = same_name_itself b in cc)
 
-pub below_differs : (a b : Name) → name_cmp a b ≡ Less → a ≢ b
-below_differs a b h e = let t : name_cmp b b ≡ Less = subst (λ x. name_cmp x b ≡ Less) e h in let u = tied_itself nat_list_cmp_total b in cc
+pub below_differs : (a b : Name) → bytes_cmp a b ≡ Less → a ≢ b
+below_differs a b h e = let t : bytes_cmp b b ≡ Less = subst (λ x. bytes_cmp x b ≡ Less) e h in let u = tied_itself nat_list_cmp_total b in cc
 
 -- a test on bytes tells whether names are the same
 pub bytes_eq_same : (a b : Name) → a ≡ b → bytes_eq a b ≡ true

@@ -13,7 +13,7 @@ use Rattle.std.proofs.lemmas.List.Elements.{All-contains, All-weaker, filter_pas
 use Rattle.std.proofs.lemmas.Map.Views.{All-found}
 use Rattle.std.proofs.lemmas.Option.{same_Some}
 use Rattle.cv_base.specs.BytesOrder.{bytes_cmp}
-use Rattle.cv_vault.specs.Names.{Name, name_cmp, same_name}
+use Rattle.cv_vault.specs.Names.{Name, same_name}
 use Rattle.cv_vault.specs.Disk as disk
 use Rattle.cv_vault.specs.Disk.{slot}
 use Rattle.cv_vault.specs.Table.{name_in}
@@ -59,11 +59,11 @@ at_key {Y} (p ∷ es) n i e = by (same_name n (string_bytes p.0)) refl e (at_key
         (contains_later (string_bytes p.0) n (names_of string_bytes es) rest.0, contains_later p.1 i (map (λ (p : String Y × ℕ). p.1) es) rest.1)
 
 all_bytes : {Y : Type 0} (k : String Y) (es : List (String Y × ℕ)) → AllByRecursion (λ (x : String Y). string_cmp k x ≡ Less) (map (λ (p : String Y × ℕ). p.0) es)
-    → AllByRecursion (λ m. name_cmp (string_bytes k) m ≡ Less) (names_of string_bytes es)
+    → AllByRecursion (λ m. bytes_cmp (string_bytes k) m ≡ Less) (names_of string_bytes es)
 all_bytes k [] h = tt
 all_bytes k (p ∷ es) h = (h.0, all_bytes k es h.1)
 
-sorted_bytes : {Y : Type 0} (es : List (String Y × ℕ)) → IsStrictlySortedBy string_cmp (map (λ (p : String Y × ℕ). p.0) es) → IsStrictlySortedBy name_cmp (names_of string_bytes es)
+sorted_bytes : {Y : Type 0} (es : List (String Y × ℕ)) → IsStrictlySortedBy string_cmp (map (λ (p : String Y × ℕ). p.0) es) → IsStrictlySortedBy bytes_cmp (names_of string_bytes es)
 unfolding IsStrictlySortedBy
 sorted_bytes [] h = tt
 sorted_bytes (p ∷ es) h = (all_bytes p.0 es h.0, sorted_bytes es h.1)
@@ -73,7 +73,7 @@ module _ (t : Inside) where
   all_names = names_of string_bytes t.numbers.entries
 
 module _ (t : Inside) (is : IsIndexed t) where
-  pub ascending : IsStrictlySortedBy name_cmp (all_names t)
+  pub ascending : IsStrictlySortedBy bytes_cmp (all_names t)
   ascending = sorted_bytes t.numbers.entries is.ordered
 
   -- each name stands with the number of its entry

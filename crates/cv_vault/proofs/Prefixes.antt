@@ -8,12 +8,13 @@ use Rattle.std.specs.declared.ops.Bound.TheVariants.{Included, Unbounded}
 use Rattle.std.specs.declared.cmp.Ordering.TheVariants.{Less}
 use Rattle.std.specs.Ordering.{is_le}
 use Rattle.std.proofs.lemmas.Bool.Decides.{nat_tests}
-use Rattle.cv_vault.specs.Names.{Name, name_cmp}
+use Rattle.cv_base.specs.BytesOrder.{bytes_cmp}
+use Rattle.cv_vault.specs.Names.{Name}
 use Rattle.cv_vault.proofs.Ordered.{names_of}
 
 -- a name isn't before the prefix
 abbrev pub is_from : Name → Name → Bool
-is_from p n = is_le (name_cmp p n)
+is_from p n = is_le (bytes_cmp p n)
 
 -- a name that begins with the prefix isn't before it
 not_before : (p n : Name) → starts_with nat_eq n p ≡ true → is_from p n ≡ true
@@ -23,7 +24,7 @@ not_before (k ∷ p) [] h = cc
 not_before (k ∷ p) (m ∷ n) h = let later = not_before p n in grind (arith, nat_tests)
 
 -- a name behind one that isn't before the prefix, and doesn't begin with it, doesn't either
-past : (p n m : Name) → is_from p n ≡ true → starts_with nat_eq n p ≡ false → name_cmp n m ≡ Less → starts_with nat_eq m p ≡ false
+past : (p n m : Name) → is_from p n ≡ true → starts_with nat_eq n p ≡ false → bytes_cmp n m ≡ Less → starts_with nat_eq m p ≡ false
 past [] n m from other below = cc
 past (k ∷ p) [] m from other below = cc
 past (k ∷ p) (l ∷ n) [] from other below = refl
@@ -31,10 +32,10 @@ past (k ∷ p) (l ∷ n) (j ∷ m) from other below = let later = past p n m in 
 
 module _ (p : Name) (f : Name → Bool) (others : (n : Name) → starts_with nat_eq n p ≡ false → f n ≡ false) where
   -- none of the names from one on passes, which is past those that begin with the prefix
-  pub none_past : (n : Name) (ns : List Name) → is_from p n ≡ true → starts_with nat_eq n p ≡ false → AllByRecursion (λ m. name_cmp n m ≡ Less) ns → filter f (n ∷ ns) ≡ []
+  pub none_past : (n : Name) (ns : List Name) → is_from p n ≡ true → starts_with nat_eq n p ≡ false → AllByRecursion (λ m. bytes_cmp n m ≡ Less) ns → filter f (n ∷ ns) ≡ []
   none_past n ns from other below = rw (others n other) (behind ns below)
     where
-      behind : (ms : List Name) → AllByRecursion (λ m. name_cmp n m ≡ Less) ms → filter f ms ≡ []
+      behind : (ms : List Name) → AllByRecursion (λ m. bytes_cmp n m ≡ Less) ms → filter f ms ≡ []
       behind [] below = refl
       behind (m ∷ ms) below = rw (others m (past p n m from other below.0)) (behind ms below.1)
 

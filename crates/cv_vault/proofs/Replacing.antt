@@ -1,6 +1,6 @@
 -- Files that come to their names, call by call.
 use Rattle.std.proofs.Common.{◌≡◌, ◌≢◌, ℕ, Bool, true, false, List, refl, sym, ap, subst, ◌∙◌}
-use Rattle.std.specs.Prelude.{IsErrAnd, IsSome}
+use Rattle.std.specs.Prelude.{IsSome}
 use Rattle.std.specs.Str.{bytes_eq}
 use Rattle.std.specs.declared.option.Option.{Option}
 use Rattle.std.specs.declared.option.Option.TheVariants.{None, Some}
@@ -28,11 +28,6 @@ ok = Ok tt
 
 abbrev pub err : VaultFault → Outcome
 err e = Err e
-
--- a fault, as it is handed on
-pub handed_on : {T : Type 0} (r : Result T VaultFault) (e : VaultFault) → IsErrAnd r (λ x. x ≡ e) → r ≡ Err e
-handed_on (Ok x) e h = absurd h
-handed_on (Err x) e h = ap Err h
 
 pub calm_then : (d d' : Disk) → d' ≡ synced d → IsCalm d'
 calm_then d d' e = subst IsCalm (sym e) (λ n. refl)

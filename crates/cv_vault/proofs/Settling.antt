@@ -9,6 +9,7 @@ use Rattle.std.proofs.Math.Seq.{map-set_same}
 use Rattle.std.proofs.lemmas.List.Sums.{sum-map, sum_by-cons}
 use Rattle.std.proofs.lemmas.Bool.Decides.{nat_tests}
 use Rattle.std.proofs.lemmas.List.Elements.{All-head, All-tail, All-map, All-weaker, All-from_get_or}
+use Rattle.cv_base.proofs.Laws.{same_or_other}
 use Rattle.cv_vault.specs.Names.{Name, same_name}
 use Rattle.cv_vault.specs.Disk as disk
 use Rattle.cv_vault.specs.Disk.{Slot, slot, is_settled, synced}
@@ -105,9 +106,6 @@ calm_entries (e ∷ es) h = let a = calm_entry e (All-head IsCalmEntry e es h) i
 
 abbrev pub settled_one : ℕ → List Entry → List Entry
 settled_one k es = set es k (settled_entry (get_or es k any_entry))
-
-same_or_other : (k i : ℕ) → (k ≡ i) ⊎ (k ≢ i)
-same_or_other k i = grind arith
 
 pub length-settled : (ks : List ℕ) (es : List Entry) → length (settled_each ks es) ≡ length es
 length-settled [] es = refl

@@ -8,6 +8,7 @@ use Rattle.std.proofs.lemmas.List.Elements.{All-head, All-tail, All-weaker, All-
 use Rattle.std.proofs.lemmas.List.Sums.{sum_by-set, sum_by-append, sum_by-cons, count_by-le-length}
 use Rattle.std.proofs.Math.ListN.{get_or-append}
 use Rattle.std.proofs.Math.Seq.{get_or-append_seam}
+use Rattle.cv_base.proofs.Laws.{same_or_other}
 use Rattle.cv_vault.specs.PlacesInner.{is_settled_place}
 use Rattle.cv_vault.specs.TableInner.{any_entry}
 use Rattle.cv_vault.specs.IndexedInner.{AreUnsettled}
@@ -24,9 +25,6 @@ as_one e = cond (is_open e) 1 0
 
 before_or_after : (k i : ℕ) → (k < i) ⊎ (i ≤ k)
 before_or_after k i = grind arith
-
-same_or_other : (k i : ℕ) → (k ≡ i) ⊎ (k ≢ i)
-same_or_other k i = grind arith
 
 -- a number that is another than the first of a list is in its rest
 pub Contains-rest : (k : ℕ) (ks : List ℕ) (i : ℕ) → k ≢ i → Contains (k ∷ ks) i → Contains ks i

@@ -4,7 +4,8 @@ use Rattle.std.specs.List.{Contains}
 use Rattle.std.specs.List.Sorted.{IsStrictlySortedBy}
 use Rattle.std.specs.declared.option.Option.{Option}
 use Rattle.std.specs.declared.option.Option.TheVariants.{None, Some}
-use Rattle.cv_vault.specs.Names.{Name, name_cmp, same_name}
+use Rattle.cv_base.specs.BytesOrder.{bytes_cmp}
+use Rattle.cv_vault.specs.Names.{Name, same_name}
 use Rattle.cv_vault.specs.Disk.{Disk, File, Files, Slot, Mark, Settled, Torn, Moved, Image, is_settled, settled}
 
 -- the file as it was before: none for a torn name
@@ -25,7 +26,7 @@ picks pick (m ∷ ms) d n = if same_name n m then left_by pick (d m) else picks 
 -- what a crash leaves of the disk d by the bits of a pick, which goes over the names that aren't settled in ascending order. All names are settled afterwards
 pub record Crashes (pick : ℕ) (d d' : Disk) : Type 0 where
   pub unsettled : List Name
-  pub ascending : IsStrictlySortedBy name_cmp unsettled
+  pub ascending : IsStrictlySortedBy bytes_cmp unsettled
   pub exact : (n : Name) → Contains unsettled n ↔ (is_settled (d n).mark ≡ false)
   pub left : d' ≡ settled (picks pick unsettled d)
   pub image : Image d (picks pick unsettled d)

@@ -7,7 +7,8 @@ use Rattle.std.specs.declared.option.Option.{Option}
 use Rattle.std.specs.declared.option.Option.TheVariants.{None, Some}
 use Rattle.std.specs.declared.result.Result.{Result}
 use Rattle.std.specs.declared.result.Result.TheVariants.{Ok, Err}
-use Rattle.cv_vault.specs.Names.{Name, name_cmp, same_name}
+use Rattle.cv_base.specs.BytesOrder.{bytes_cmp}
+use Rattle.cv_vault.specs.Names.{Name, same_name}
 use Rattle.cv_vault.specs.declared.vault.VaultFault.{VaultFault}
 use Rattle.cv_vault.specs.declared.vault.VaultFault.TheVariants.{Failed, NoMemory}
 
@@ -131,7 +132,7 @@ Measures n (Err e) d d' = d' ≡ d
 
 -- the names that have a file and begin so, in ascending order, each once
 pub record IsListing (d : Disk) (prefix : Name) (names : List Name) : Type 0 where
-  pub ascending : IsStrictlySortedBy name_cmp names
+  pub ascending : IsStrictlySortedBy bytes_cmp names
   pub exact : (n : Name) → Contains names n ↔ (IsTrue (starts_with nat_eq n prefix) × IsSome (d n).now)
 
 abbrev pub Lists : Name → {Z : Type 0} → Result (Vec Name Z) VaultFault → Disk → Disk → Type 0

@@ -1,8 +1,9 @@
 use Rattle.std.proofs.Common.{true, false}
 use Rattle.cv_vault.specs.Names.{on_way}
 use Rattle.std.specs.declared.result.Result.TheVariants.{Ok, Err}
+use Rattle.cv_base.proofs.Laws.{handed_on}
 use Rattle.cv_vault.proofs.Calling.{apart}
-use Rattle.cv_vault.proofs.Replacing.{brings, brings_not, brings_none, found_there, handed_on, one_fault, quiet_unmade, quiet_absent, quiet_missing}
+use Rattle.cv_vault.proofs.Replacing.{brings, brings_not, brings_none, found_there, one_fault, quiet_unmade, quiet_absent, quiet_missing}
 use Rattle.cv_vault.proofs.Sparing.{spares_rename}
 use Rattle.cv_vault.proofs.files.bring_file.Goals as goal
 

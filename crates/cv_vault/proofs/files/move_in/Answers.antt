@@ -1,7 +1,8 @@
 use Rattle.std.proofs.Common.{sym, ap, ◌∙◌}
 use Rattle.std.specs.declared.result.Result.TheVariants.{Err}
+use Rattle.cv_base.proofs.Laws.{handed_on}
 use Rattle.cv_vault.proofs.Names.{none_there}
-use Rattle.cv_vault.proofs.Replacing.{moves, moves_not, moves_unsure, ok, err, handed_on}
+use Rattle.cv_vault.proofs.Replacing.{moves, moves_not, moves_unsure, ok, err}
 use Rattle.cv_vault.proofs.Sparing.{spares_then, spares_sync}
 use Rattle.cv_vault.proofs.files.move_in.Goals as goal
 

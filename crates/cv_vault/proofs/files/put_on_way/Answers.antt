@@ -1,6 +1,7 @@
 use Rattle.std.proofs.Common.{ap}
 use Rattle.std.specs.declared.result.Result.TheVariants.{Err}
-use Rattle.cv_vault.proofs.Replacing.{put, put_not, put_unsure, ok, err, handed_on}
+use Rattle.cv_base.proofs.Laws.{handed_on}
+use Rattle.cv_vault.proofs.Replacing.{put, put_not, put_unsure, ok, err}
 use Rattle.cv_vault.proofs.Sparing.{spares_then, spares_write, spares_sync}
 use Rattle.cv_vault.proofs.files.put_on_way.Goals as goal
 

@@ -1,6 +1,7 @@
+use Rattle.cv_base.proofs.Laws.{handed_on}
 use Rattle.cv_vault.proofs.Walking.{bind, looser}
 use Rattle.cv_vault.proofs.Quiet.{quiet_walks}
-use Rattle.cv_vault.proofs.Replacing.{unreplaced, replaced_then, handed_on, sure_waits}
+use Rattle.cv_vault.proofs.Replacing.{unreplaced, replaced_then, sure_waits}
 use Rattle.cv_vault.proofs.Sparing.{spares_then, spares_more}
 use Rattle.cv_vault.proofs.files.replace.Goals as goal
 
