@@ -1,4 +1,5 @@
 -- What the crates above may cite of links that are read behind their requests.
+pub use Rattle.cv_client.proofs.Supplying.{ended_at}
 use Rattle.std.proofs.Common.{◌≡◌, List, [], ◌∷◌, refl, sym, subst, inl, inr, ◌∙◌}
 use Rattle.std.proofs.lemmas.List.Elements.{Contains-append_left, Contains-append_right, Contains-push}
 use Rattle.std.proofs.lemmas.Option.{none-some}

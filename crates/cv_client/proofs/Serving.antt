@@ -3,6 +3,7 @@ use Rattle.std.proofs.Common.{◌≡◌, ◌++◌, ℕ, List, [], ◌∷◌, app
 use Rattle.std.specs.Prelude.{⊤, Option, Some, None, IsSome, Result, Ok, Err}
 use Rattle.std.proofs.lemmas.List.Elements.{Contains-push}
 use Rattle.cv_base.specs.Told.{WhereTold}
+use Rattle.cv_base.proofs.Laws.{some_there}
 use Rattle.cv_ports.specs.Dial.{Came, Opened, Back}
 use Rattle.cv_http.specs.ReplyTexts.{IsBody, IsReply, IsRefusedReply, IsCutReply}
 use Rattle.cv_http.specs.Wires.{HasEnded}
@@ -16,10 +17,6 @@ use Rattle.cv_client.specs.declared.url.Url.{Url}
 use Rattle.cv_client.specs.declared.exchanging.ExchangeFault.{ExchangeFault}
 use Rattle.cv_client.specs.declared.exchanging.ExchangeFault.TheVariants as exchange_fault
 use Rattle.cv_client.proofs.Telling.{told_behind}
-
-some_of : {X : Type 0} (o : Option X) → IsSome o → (x : X) × (o ≡ Some x)
-some_of None is = absurd cc
-some_of (Some x) is = (x, refl)
 
 is_some_of : {X : Type 0} {o : Option X} (x : X) → o ≡ Some x → IsSome o
 is_some_of x is = rw is refl
@@ -66,7 +63,7 @@ module _ (one : (b later later' : List ℕ) (reply reply' : HttpReply) → IsRep
   module _ {u : Url} {file : List ℕ} {before after : Links} (files : Files) (content : List ℕ) (has : files file ≡ Some content) (s : ServedBy u files before after) where
     sent : (c : Came) → after ≡ linked_by u c before → (IsSome before → IsTold c) → TookAll (file_request u file) c → SendsFile content c
     sent c by told took =
-        let t = some_of c.taken (told (is_some_of s.start s.was)).taken in
+        let t = some_there c.taken (told (is_some_of s.start s.was)).taken in
         s.each (Opened u.host u.port ∷ Back c ∷ []) c (told_behind u c before after s.start s.end s.was by s.is) (Contains-push (Opened u.host u.port ∷ []) (Back c))
         file content has (t.1 ∙ ap (λ (b : List ℕ). Some b) (took.taken t.0 t.1))
 

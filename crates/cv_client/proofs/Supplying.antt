@@ -1,6 +1,6 @@
 -- A client that is given what a server has of a tree.
 use Rattle.std.proofs.Common.{◌≡◌, ◌↔◌, ℕ, List, [], ◌∷◌, refl, sym, ap, subst, ◌∙◌}
-use Rattle.std.specs.Prelude.{Option, Some, None, option_to_list, Result, Ok, Err, IsErrAnd}
+use Rattle.std.specs.Prelude.{Option, Some, None, option_to_list, Result, Ok, Err}
 use Rattle.sha1.specs.Sha1.{sha1}
 use Rattle.cv_base.specs.declared.id.ObjectId.{ObjectId}
 use Rattle.cv_tree.specs.Tree.{Nodes}
@@ -113,7 +113,7 @@ by_stage : (finding : Result Finding ClientFault) (s : Stage) (a : Result Found 
 by_stage finding s (Ok found) is unblamed answer = answer
 by_stage finding s (Err f) is unblamed answer = whole_by finding f answer (subst IsBlameless is unblamed)
 
-ended_at : (s : Stage) (a : Result Found ClientFault) → answer_by s ≡ Some a → s ≡ Ends a
+pub ended_at : (s : Stage) (a : Result Found ClientFault) → answer_by s ≡ Some a → s ≡ Ends a
 ended_at (Walks w) a is = absurd cc
 ended_at (Reads hash) a is = absurd cc
 ended_at (Ends b) a is = cc
@@ -135,10 +135,6 @@ unfetched m content exchange_fault.NoMemory is = tt
 
 pub no_memory_for : (m : Manifest) (f : ManifestFault) → f ≡ manifest_fault.NoMemory → IsManifestOr m (Err (bad_by f))
 no_memory_for m f is = subst (λ (x : ManifestFault). IsManifestOr m (Err (bad_by x))) (sym is) tt
-
-pub one_fault : {A E : Type 0} (r : Result A E) (f other : E) → IsErrAnd r (λ e. e ≡ f) → r ≡ Err other → f ≡ other
-one_fault (Ok x) f other is same = absurd is
-one_fault (Err e) f other is same = let there : e ≡ other = cc in sym is ∙ there
 
 pub unsupplied : (t : Nodes) (r : Client) (content : List ℕ) (f : ExchangeFault) → IsFetched content (Err f) → IsSupplied t r (Err f)
 unsupplied t r content exchange_fault.LinkFailed is = tt

@@ -1,12 +1,12 @@
 -- The children of a directory by their names.
-use Rattle.std.proofs.Common.{◌≡◌, Bool, true, false, List, ℕ, [], ◌∷◌, ◌++◌, ◌&&◌, is_some, refl, sym, ap, ◌∙◌, length, ◌≤◌, ◌<◌, ◌+◌, suc, drop, get_or, add-one, drop-cons, arith}
+use Rattle.std.proofs.Common.{◌≡◌, true, false, List, ℕ, [], ◌∷◌, ◌++◌, is_some, refl, sym, ap, ◌∙◌, length, ◌≤◌, ◌<◌, ◌+◌, suc, drop, get_or, add-one, drop-cons, arith}
 use Rattle.std.specs.Prelude.{Result, Ok, Err, nat_lt}
-use Rattle.std.specs.List.{list_all}
 use Rattle.std.specs.declared.option.Option.TheVariants.{None, Some}
 use Rattle.std.specs.FinMap.{get}
-use Rattle.cv_base.specs.Path.{Path, text_of, last_name_of, is_path_name, IsPath}
+use Rattle.cv_base.specs.Path.{Path, last_name_of}
 use Rattle.cv_base.specs.PathText.{joined}
 use Rattle.cv_base.specs.declared.path_fault.PathFault.{PathFault}
+use Rattle.cv_base.proofs.Laws.{joined_path}
 use Rattle.cv_tree.specs.Tree.{Nodes, IsTree}
 use Rattle.cv_overlay.specs.Whiteout.{is_whiteout}
 use Rattle.cv_overlay.specs.Overlay.{named, is_leaf, hides, hidden_from, hidden}
@@ -17,24 +17,15 @@ last_of [] a = refl
 last_of (b ∷ []) a = refl
 last_of (b ∷ c ∷ p) a = last_of (c ∷ p) a
 
-all_last : (p : Path) (a : List ℕ) → list_all is_path_name (p ++ a ∷ []) ≡ true → is_path_name a ≡ true
-all_last [] a h = elim (is_path_name a) as (λ (b : Bool). (b && true) ≡ true → b ≡ true) [ true ↦ λ _. refl | false ↦ λ e. e ] h
-all_last (b ∷ p) a h = all_last p a (elim (is_path_name b) as (λ (t : Bool). (t && list_all is_path_name (p ++ a ∷ [])) ≡ true → list_all is_path_name (p ++ a ∷ []) ≡ true) [ true ↦ λ e. e | false ↦ λ e. cc ] h)
-
 not_lt : (a b : ℕ) → b ≤ a → nat_lt a b ≡ false
 not_lt a b h = grind arith
-
--- what keeps the limits is joined
-pub joins : (p : Path) (name : List ℕ) → IsPath (p ++ name ∷ []) → joined p name ≡ Ok (p ++ name ∷ [])
-joins p name h =
-    rw (not_lt 4095 (length (text_of (p ++ name ∷ []))) h.size, not_lt 64 (length (p ++ name ∷ [])) h.depth, all_last p name h.names) refl
 
 -- no node has a path that isn't joined
 pub none_joined : (t : Nodes) (p : Path) (name : List ℕ) (fault : PathFault) → IsTree t → joined p name ≡ Err fault → get t (p ++ name ∷ []) ≡ None
 none_joined t p name fault h refused =
     elim (get t (p ++ name ∷ [])) as (λ o. get t (p ++ name ∷ []) ≡ o → o ≡ None) [
       | None ↦ λ _. refl
-      | Some node ↦ λ there. let ok = joins p name (h.part.paths (p ++ name ∷ []) (ap is_some there)) in
+      | Some node ↦ λ there. let ok = joined_path p name (h.part.paths (p ++ name ∷ []) (ap is_some there)) in
           let no : ◌≡◌ {A = Result Path PathFault} (Ok (p ++ name ∷ [])) (Err fault) = sym ok ∙ refused in cc
     ] refl
 

@@ -10,27 +10,28 @@ use Rattle.std.specs.Cmp.{IsTotalOrder}
 use Rattle.std.specs.Cmp.Lexicographic.{nat_list_cmp_total}
 use Rattle.std.specs.List.{AllByRecursion}
 use Rattle.std.specs.FinMap.{find, get, entries, get-entries}
-use Rattle.cv_base.specs.Path.{Path, path_cmp, text_of, name_cmp, parent, last_name_of}
+use Rattle.cv_base.specs.Path.{Path, path_cmp, text_of, parent, last_name_of}
 use Rattle.cv_base.specs.PathOrder.{same_path_is}
+use Rattle.cv_base.specs.BytesOrder.{bytes_cmp}
 use Rattle.cv_tree.specs.declared.node.Node.{Node}
 use Rattle.cv_tree.specs.Tree.{Nodes}
 use Rattle.cv_overlay.specs.Whiteout.{is_bad_at, is_bad}
 use Rattle.cv_overlay.specs.LeastInner.{lesser, least_from, IsLeast}
 
 abbrev Le : List ℕ → List ℕ → Type 0
-Le a b = name_cmp a b ≢ Greater
+Le a b = bytes_cmp a b ≢ Greater
 
 le_trans : (a b c : List ℕ) → Le a b → Le b c → Le a c
 le_trans a b c ab bc =
-    let o : IsTotalOrder name_cmp = nat_list_cmp_total in
-    elim (name_cmp a b) as (λ r. name_cmp a b ≡ r → r ≢ Greater → Le a c) [
+    let o : IsTotalOrder bytes_cmp = nat_list_cmp_total in
+    elim (bytes_cmp a b) as (λ r. bytes_cmp a b ≡ r → r ≢ Greater → Le a c) [
       | Greater ↦ λ _ no. absurd (no refl)
       | Equal ↦ λ e _ g. bc (sym (o.congr a b c e) ∙ g)
-      | Less ↦ λ e _. elim (name_cmp b c) as (λ r. name_cmp b c ≡ r → r ≢ Greater → Le a c) [
+      | Less ↦ λ e _. elim (bytes_cmp b c) as (λ r. bytes_cmp b c ≡ r → r ≢ Greater → Le a c) [
         | Greater ↦ λ _ no. absurd (no refl)
         | Less ↦ λ f _ g. let h : Less ≡ Greater = sym (o.trans a b c e f) ∙ g in cc
         | Equal ↦ λ f _ g.
-            let back : name_cmp c b ≡ Equal = o.antisymm c b ∙ ap ordering_reverse f in
+            let back : bytes_cmp c b ≡ Equal = o.antisymm c b ∙ ap ordering_reverse f in
             let h : Less ≡ Greater = sym e ∙ o.antisymm a b ∙ ap ordering_reverse (sym (o.congr c b a back)) ∙ sym (o.antisymm a c) ∙ g in cc
       ] refl bc
     ] refl ab
@@ -46,11 +47,11 @@ less_le Equal h g = cc
 less_le Greater h g = cc
 
 le_self : (a : List ℕ) → Le a a
-le_self a g = let o : IsTotalOrder name_cmp = nat_list_cmp_total in let h : Greater ≡ Less = sym g ∙ o.antisymm a a ∙ ap ordering_reverse g in cc
+le_self a g = let o : IsTotalOrder bytes_cmp = nat_list_cmp_total in let h : Greater ≡ Less = sym g ∙ o.antisymm a a ∙ ap ordering_reverse g in cc
 
 bad_lesser : (c : Nodes) (best : Option Path) (q : Path) → IfSome best (λ p. is_bad_at c p ≡ true) → is_bad_at c q ≡ true → IfSome (lesser best q) (λ p. is_bad_at c p ≡ true)
 bad_lesser c None q h bad = bad
-bad_lesser c (Some p) q h bad = elim (is_lt (name_cmp (text_of q) (text_of p))) as (λ b. IfSome (cond b (Some q) (Some p)) (λ r. is_bad_at c r ≡ true)) [ true ↦ bad | false ↦ h ]
+bad_lesser c (Some p) q h bad = elim (is_lt (bytes_cmp (text_of q) (text_of p))) as (λ b. IfSome (cond b (Some q) (Some p)) (λ r. is_bad_at c r ≡ true)) [ true ↦ bad | false ↦ h ]
 
 bad_from : (c : Nodes) (best : Option Path) (es : List (Path × Node)) → IfSome best (λ p. is_bad_at c p ≡ true) → IfSome (least_from c best es) (λ p. is_bad_at c p ≡ true)
 bad_from c best [] h = h
@@ -64,10 +65,10 @@ bad_from c best (e ∷ es) h = bad_from c (cond (is_bad_at c e.0) (lesser best e
 lesser_le : (best : Option Path) (p q : Path) → IfSome (lesser best q) (λ r. Le (text_of p) (text_of r)) → IfSome best (λ r. Le (text_of p) (text_of r)) × Le (text_of p) (text_of q)
 lesser_le None p q h = (tt, h)
 lesser_le (Some r) p q h =
-    let o : IsTotalOrder name_cmp = nat_list_cmp_total in
-    elim (is_lt (name_cmp (text_of q) (text_of r))) as (λ b. is_lt (name_cmp (text_of q) (text_of r)) ≡ b → IfSome (cond b (Some q) (Some r)) (λ x. Le (text_of p) (text_of x)) → Le (text_of p) (text_of r) × Le (text_of p) (text_of q)) [
-      | true ↦ λ e k. (le_trans (text_of p) (text_of q) (text_of r) k (less_le (name_cmp (text_of q) (text_of r)) e), k)
-      | false ↦ λ e k. (k, le_trans (text_of p) (text_of r) (text_of q) k (λ g. not_less (name_cmp (text_of q) (text_of r)) e (sym (o.antisymm (text_of r) (text_of q)) ∙ g)))
+    let o : IsTotalOrder bytes_cmp = nat_list_cmp_total in
+    elim (is_lt (bytes_cmp (text_of q) (text_of r))) as (λ b. is_lt (bytes_cmp (text_of q) (text_of r)) ≡ b → IfSome (cond b (Some q) (Some r)) (λ x. Le (text_of p) (text_of x)) → Le (text_of p) (text_of r) × Le (text_of p) (text_of q)) [
+      | true ↦ λ e k. (le_trans (text_of p) (text_of q) (text_of r) k (less_le (bytes_cmp (text_of q) (text_of r)) e), k)
+      | false ↦ λ e k. (k, le_trans (text_of p) (text_of r) (text_of q) k (λ g. not_less (bytes_cmp (text_of q) (text_of r)) e (sym (o.antisymm (text_of r) (text_of q)) ∙ g)))
     ] refl h
 
 below_from : (c : Nodes) (best : Option Path) (es : List (Path × Node)) (p : Path) → least_from c best es ≡ Some p
@@ -84,7 +85,7 @@ below_from c best (e ∷ es) p h =
 
 some_lesser : (best : Option Path) (q : Path) → lesser best q ≢ None
 some_lesser None q h = cc
-some_lesser (Some p) q h = elim (is_lt (name_cmp (text_of q) (text_of p))) as (λ b. cond b (Some q) (Some p) ≡ None → ⊥) [ true ↦ λ e. cc | false ↦ λ e. cc ] h
+some_lesser (Some p) q h = elim (is_lt (bytes_cmp (text_of q) (text_of p))) as (λ b. cond b (Some q) (Some p) ≡ None → ⊥) [ true ↦ λ e. cc | false ↦ λ e. cc ] h
 
 none_from : (c : Nodes) (best : Option Path) (es : List (Path × Node)) → least_from c best es ≡ None → (best ≡ None) × AllByRecursion (λ e. is_bad_at c e.0 ≡ false) es
 none_from c best [] h = (h, tt)

@@ -4,7 +4,6 @@ use Rattle.std.specs.Prelude.{Some, None, bytes_eq, slice_get}
 use Rattle.std.specs.Ordering.{eq_by_cmp}
 use Rattle.std.specs.Cmp.{tied_itself}
 use Rattle.std.specs.FinMap.{get, insert, empty, get-insert, get-empty}
-use Rattle.std.proofs.lemmas.Slice.Eq.{bytes_eq-Decides}
 use Rattle.sha1.specs.Sha1.{sha1}
 use Rattle.cv_base.specs.Path.{Path, path_cmp, last_name_of}
 use Rattle.cv_base.specs.PathOrder.{path_total, same_path_is}
@@ -12,6 +11,7 @@ use Rattle.cv_base.specs.declared.attr.Attr.{Attr}
 use Rattle.cv_base.specs.declared.object.Object.{Object}
 use Rattle.cv_base.specs.declared.id.Kind.TheVariants.{Plain}
 use Rattle.cv_base.specs.ObjectId.{object_id}
+use Rattle.cv_base.proofs.Laws.{bytes_itself, bytes_are}
 use Rattle.cv_tree.specs.declared.node.FileRef.{FileRef}
 use Rattle.cv_tree.specs.declared.node.Node.{Node}
 use Rattle.cv_tree.specs.declared.node.Node.TheVariants.{Dir, File, Link}
@@ -83,12 +83,6 @@ push_old (y ∷ os) o x (suc i) h = push_old os o x i h
 push_own : (os : List Object) (o : Object) → slice_get (os ++ o ∷ []) (length os) ≡ Some o
 push_own [] o = refl
 push_own (y ∷ os) o = push_own os o
-
-bytes_itself : (a b : List ℕ) → a ≡ b → bytes_eq a b ≡ true
-bytes_itself a b h = (bytes_eq-Decides a b).1 h
-
-bytes_are : (a b : List ℕ) → bytes_eq a b ≡ true → a ≡ b
-bytes_are a b h = (bytes_eq-Decides a b).0 h
 
 has_from : (os : List Object) (i : ℕ) (x : Object) (h : List ℕ) → slice_get os i ≡ Some x → x.id.hash ≡ h → has_hash os h ≡ true
 has_from [] i x h e k = cc

@@ -5,7 +5,7 @@ use Rattle.std.specs.declared.cmp.Ordering.TheVariants.{Less, Equal}
 use Rattle.std.specs.Option.{option_or}
 use Rattle.std.specs.Ordering.{eq_by_cmp}
 use Rattle.std.specs.Cmp.{tied_itself}
-use Rattle.std.specs.FinMap.{get, empty, get-insert, get-empty}
+use Rattle.std.specs.FinMap.{get, get-insert}
 use Rattle.std.specs.List.{AllByRecursion}
 use Rattle.std.specs.List.Sorted.{IsStrictlySortedBy}
 use Rattle.sha1.specs.Sha1.{sha1}
@@ -23,6 +23,7 @@ use Rattle.cv_tree.specs.declared.node.Node.{Node}
 use Rattle.cv_tree.specs.declared.node.Node.TheVariants.{Dir}
 use Rattle.cv_tree.specs.Tree.{single}
 use Rattle.cv_tree.specs.Changes.{FitsUnder}
+use Rattle.cv_tree.proofs.Laws.{single_at}
 use Rattle.cv_overlay.specs.Whiteout.{is_whiteout}
 use Rattle.cv_overlay.specs.Walk.{Visit, path_of, paths_of, walk_cmp, with_slashes, takes, has_target, is_file, size_of, attr_of, node_of, node_at, fault_of, kind_fault, first_fault, found_at, item_from, root_attr, IsContent, IsWalk, AreChanges, Reads}
 use Rattle.cv_overlay.specs.Changes.{ChangesView}
@@ -194,9 +195,6 @@ all_at P (x ∷ os) zero o h e = let same : x ≡ o = cc in subst P same h.0
 all_at P (x ∷ os) (suc i) o h e = all_at P os i o h.1 e
 
 -- ---- the changes
-single_get : (node : Node) (q : Path) → get (single node) q ≡ cond (eq_by_cmp path_cmp q []) (Some node) None
-single_get node q = get-insert path_total empty [] node q ∙ ap (cond (eq_by_cmp path_cmp q []) (Some node)) (get-empty path_cmp q)
-
 node_or-None : (o : Option FolderItem) (content : List ℕ) → node_or o content None ≡ node_at o content
 node_or-None None content = refl
 node_or-None (Some item) content = refl
@@ -207,10 +205,10 @@ nothing_found = record { nodes = single (Dir root_attr); objects = []; sum = 0 }
 
 pub run_changes : (f : FolderView) (at : Path) (vs : List Visit) (t : FoundView) → IsWalk f at vs → run f at vs nothing_found ≡ Ok t → AreChanges f at (record { nodes = t.nodes; objects = t.objects })
 run_changes f at vs t walk h = record {
-  root = run_nodes f at vs nothing_found t [] walk.ascend h ∙ ap (λ (o : Option FolderItem). node_or o (f.content []) (get (single (Dir root_attr)) [])) (walk.items []) ∙ single_get (Dir root_attr) [];
+  root = run_nodes f at vs nothing_found t [] walk.ascend h ∙ ap (λ (o : Option FolderItem). node_or o (f.content []) (get (single (Dir root_attr)) [])) (walk.items []) ∙ single_at (Dir root_attr) [];
   nodes = λ name names.
       run_nodes f at vs nothing_found t (name ∷ names) walk.ascend h
-      ∙ (λ i. node_or (walk.items (name ∷ names) i) (f.content (name ∷ names)) (single_get (Dir root_attr) (name ∷ names) i))
+      ∙ (λ i. node_or (walk.items (name ∷ names) i) (f.content (name ∷ names)) (single_at (Dir root_attr) (name ∷ names) i))
       ∙ node_or-None (item_from f at [] (name ∷ names)) (f.content (name ∷ names));
   contents = λ i o there. all_at (λ (x : Object). IsContent f at x.bytes) t.objects i o
       (run_objects f at (IsContent f at) vs nothing_found t
@@ -243,4 +241,4 @@ fits_first at s is start = subst (λ (v : FoundView). FitsUnder at v.nodes) (sym
     elim (eq_by_cmp path_cmp q []) as (λ b. eq_by_cmp path_cmp q [] ≡ b → IsSome (cond b (Some (Dir root_attr)) None) → IsPath (at ++ q)) [
       | true ↦ λ e _. let root : q ≡ [] = same_path_is q [] e in subst IsPath (sym (append-nil at) ∙ ap (λ (w : Path). at ++ w) (sym root)) is
       | false ↦ λ _ k. cc
-    ] refl (subst IsSome (single_get (Dir root_attr) q) some))
+    ] refl (subst IsSome (single_at (Dir root_attr) q) some))

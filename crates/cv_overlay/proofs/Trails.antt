@@ -1,17 +1,13 @@
 -- What one hidden path, and one that isn't, tell of the next.
-use Rattle.std.proofs.Common.{◌≡◌, ◌≢◌, Bool, true, false, ◌||◌, List, ℕ, [], ◌∷◌, ◌++◌, refl, sym, ap, ◌∙◌}
+use Rattle.std.proofs.Common.{◌≡◌, ◌≢◌, Bool, true, false, List, ℕ, [], ◌∷◌, ◌++◌, refl, sym, ap, ◌∙◌}
 use Rattle.std.specs.declared.option.Option.{Option}
 use Rattle.std.specs.declared.option.Option.TheVariants.{None, Some}
 use Rattle.std.specs.Prelude.{is_some, ◌==◌, length, Result, Ok, Err, IfOk}
 use Rattle.cv_base.specs.Path.{Path, parent, last_name_of, behind, covers}
-use Rattle.cv_base.proofs.Laws.{behind-Some}
+use Rattle.cv_base.proofs.Laws.{behind-Some, first_false}
 use Rattle.cv_tree.specs.Tree.{Nodes}
 use Rattle.cv_overlay.specs.Overlay.{hidden, hides}
 use Rattle.cv_overlay.proofs.Over.{hidden-append, hidden-split}
-
-first_false : (a b : Bool) → (a || b) ≡ false → a ≡ false
-first_false true b h = cc
-first_false false b h = refl
 
 pub behind_hidden : (c : Nodes) (p q : Path) → hidden c p ≡ true → covers p q ≡ true → true ≡ hidden c q
 behind_hidden c p q h covered =

@@ -8,8 +8,10 @@ use Rattle.std.specs.Ordering.{is_eq, ordering_then}
 use Rattle.std.specs.Cmp.Lexicographic.{nat_list_cmp_total}
 use Rattle.std.specs.List.{AllByRecursion}
 use Rattle.std.specs.List.Sorted.{IsStrictlySortedBy}
-use Rattle.cv_base.specs.Path.{Path, IsPath, name_cmp, same_name, same_path}
+use Rattle.cv_base.specs.Path.{Path, IsPath, same_name, same_path}
 use Rattle.cv_base.specs.PathOrder.{same_path_is, same_name_is, same_name_itself}
+use Rattle.cv_base.specs.BytesOrder.{bytes_cmp}
+use Rattle.cv_base.proofs.Laws.{cmp-behind}
 use Rattle.cv_ports.specs.declared.folder.FolderItem.{FolderItem}
 use Rattle.cv_ports.specs.Folder.{FolderView, Ascend, IsOrdered, names_of}
 use Rattle.cv_overlay.specs.declared.event.Event.{Event}
@@ -17,7 +19,7 @@ use Rattle.cv_overlay.specs.declared.event.Event.TheVariants.{Item, Below}
 use Rattle.cv_overlay.specs.Walk.{Visit, path_of, paths_of, takes, is_dir, is_way, item_named, item_from, found_at, IsWalk}
 use Rattle.cv_overlay.specs.EventsInner.{slashed, goes_before, put_below, placed_all, visits_of, visits_deep}
 use Rattle.cv_overlay.proofs.Limits.{takes_depth, takes_path, depth_with}
-use Rattle.cv_overlay.proofs.WalkOrder.{AreDeeper, are_deeper, ascend_deep, IsBehind, IsOf, all_map, of_below, same_front}
+use Rattle.cv_overlay.proofs.WalkOrder.{AreDeeper, are_deeper, ascend_deep, IsBehind, IsOf, all_map, of_below}
 
 -- ---- paths that are others
 no_path : (p : Path) (b : List ℕ) (r : Path) → p ≡ p ++ b ∷ r → ⊥
@@ -40,10 +42,10 @@ eq_first Equal = refl
 eq_first Greater = refl
 
 same_last : (p : Path) (a n : List ℕ) → same_path (p ++ a ∷ []) (p ++ n ∷ []) ≡ same_name a n
-same_last p a n = ap is_eq (same_front p (a ∷ []) (n ∷ [])) ∙ eq_first (name_cmp a n)
+same_last p a n = ap is_eq (cmp-behind p (a ∷ []) (n ∷ [])) ∙ eq_first (bytes_cmp a n)
 
 apart_front : (p s t : Path) → (s ≡ t → ⊥) → same_path (p ++ s) (p ++ t) ≡ false
-apart_front p s t differs = ap is_eq (same_front p s t) ∙ other t s differs
+apart_front p s t differs = ap is_eq (cmp-behind p s t) ∙ other t s differs
 
 -- ---- one name
 -- the item of a name among events
@@ -104,10 +106,10 @@ has_below-put n name (Below m ∷ es) = elim (goes_before (slashed name) (Below 
   | false ↦ ap (λ (t : Bool). same_name m n || t) (has_below-put n name es) ∙ or_swap (same_name m n) (same_name name n) (has_below n es)
 ]
 
-less_apart : (a b : List ℕ) → name_cmp a b ≡ Less → same_name b a ≡ false
+less_apart : (a b : List ℕ) → bytes_cmp a b ≡ Less → same_name b a ≡ false
 less_apart a b h = rw (nat_list_cmp_total.antisymm b a, h) refl
 
-none_named : (n : List ℕ) (items : List FolderItem) → AllByRecursion (λ m. name_cmp n m ≡ Less) (names_of items) → item_named n items ≡ None
+none_named : (n : List ℕ) (items : List FolderItem) → AllByRecursion (λ m. bytes_cmp n m ≡ Less) (names_of items) → item_named n items ≡ None
 none_named n [] h = refl
 none_named n (item ∷ items) h = rw (less_apart n item.name h.0) (none_named n items h.1)
 
@@ -118,7 +120,7 @@ has_below-placed n (item ∷ items) h =
     let es = placed_all items [] in
     let rest : has_below n es ≡ is_way (item_named n items) = has_below-placed n items h.1 in
     elim (same_name item.name n) as (λ s. same_name item.name n ≡ s → has_below n (cond (is_dir item.kind) (put_below item.name es) es) ≡ is_way (cond s (Some item) (item_named n items))) [
-      | true ↦ λ same. let none : item_named n items ≡ None = none_named n items (subst (λ (m : List ℕ). AllByRecursion (λ k. name_cmp m k ≡ Less) (names_of items)) (same_name_is item.name n same) h.0) in
+      | true ↦ λ same. let none : item_named n items ≡ None = none_named n items (subst (λ (m : List ℕ). AllByRecursion (λ k. bytes_cmp m k ≡ Less) (names_of items)) (same_name_is item.name n same) h.0) in
           elim (is_dir item.kind) as (λ d. has_below n (cond d (put_below item.name es) es) ≡ d) [
             | true ↦ has_below-put n item.name es ∙ rw same refl
             | false ↦ rest ∙ ap is_way none

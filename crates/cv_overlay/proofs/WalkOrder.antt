@@ -7,8 +7,10 @@ use Rattle.std.specs.Cmp.{IsTotalOrder, tied_itself}
 use Rattle.std.specs.Cmp.Lexicographic.{nat_list_cmp_total}
 use Rattle.std.specs.List.{AllByRecursion}
 use Rattle.std.specs.List.Sorted.{IsStrictlySortedBy}
-use Rattle.cv_base.specs.Path.{Path, name_cmp, path_cmp}
+use Rattle.cv_base.specs.Path.{Path, path_cmp}
 use Rattle.cv_base.specs.PathOrder.{path_total, name_exact}
+use Rattle.cv_base.specs.BytesOrder.{bytes_cmp}
+use Rattle.cv_base.proofs.Laws.{cmp-behind}
 use Rattle.cv_ports.specs.declared.folder.FolderItem.{FolderItem}
 use Rattle.cv_ports.specs.Folder.{FolderView, Ascend, IsOrdered, names_of}
 use Rattle.cv_overlay.specs.declared.event.Event.{Event}
@@ -37,12 +39,12 @@ all_earlier a b [] ab all = tt
 all_earlier a b (e ∷ es) ab all = (earlier_trans a b e ab all.0, all_earlier a b es ab all.1)
 
 -- a name is below itself with a slash, and below each greater name with one
-less_longer : (a b : List ℕ) (c : ℕ) → name_cmp a b ≢ Greater → name_cmp a (b ++ c ∷ []) ≡ Less
+less_longer : (a b : List ℕ) (c : ℕ) → bytes_cmp a b ≢ Greater → bytes_cmp a (b ++ c ∷ []) ≡ Less
 less_longer [] [] c h = refl
 less_longer [] (y ∷ b) c h = refl
 less_longer (x ∷ a) [] c h = absurd (h refl)
 less_longer (x ∷ a) (y ∷ b) c h =
-    elim (nat_cmp x y) as (λ r. ordering_then r (name_cmp a b) ≢ Greater → ordering_then r (name_cmp a (b ++ c ∷ [])) ≡ Less) [
+    elim (nat_cmp x y) as (λ r. ordering_then r (bytes_cmp a b) ≢ Greater → ordering_then r (bytes_cmp a (b ++ c ∷ [])) ≡ Less) [
       | Less ↦ λ k. refl
       | Equal ↦ λ k. less_longer a b c k
       | Greater ↦ λ k. absurd (k refl)
@@ -51,7 +53,7 @@ less_longer (x ∷ a) (y ∷ b) c h =
 not_greater : (r : Ordering) → r ≡ Less → r ≢ Greater
 not_greater r h g = let no : Less ≡ Greater = sym h ∙ g in cc
 
-itself : (a : List ℕ) → name_cmp a a ≢ Greater
+itself : (a : List ℕ) → bytes_cmp a a ≢ Greater
 itself a g = let no : Equal ≡ Greater = sym (tied_itself nat_list_cmp_total a) ∙ g in cc
 
 -- the name of an event's item
@@ -60,9 +62,9 @@ name_of (Item item) = item.name
 name_of (Below name) = name
 
 abbrev AreAbove : List ℕ → List Event → Type 0
-AreAbove name es = AllByRecursion (λ e. name_cmp name (name_of e) ≡ Less) es
+AreAbove name es = AllByRecursion (λ e. bytes_cmp name (name_of e) ≡ Less) es
 
-item_earlier : (item : FolderItem) (e : Event) → name_cmp item.name (name_of e) ≡ Less → Earlier (Item item) e
+item_earlier : (item : FolderItem) (e : Event) → bytes_cmp item.name (name_of e) ≡ Less → Earlier (Item item) e
 item_earlier item (Item other) h = rw h refl
 item_earlier item (Below name) h = rw (less_longer item.name name 47 (not_greater _ h)) refl
 
@@ -71,8 +73,8 @@ own_earlier item = rw (less_longer item.name item.name 47 (itself item.name)) re
 
 -- where a directory's walk doesn't go before an event, the event is earlier
 goes_is : (name : List ℕ) (e : Event) → goes_before (slashed name) e ≡ true → Earlier (Below name) e
-goes_is name (Item item) h = elim (name_cmp (slashed name) item.name) as (λ r. is_lt r ≡ true → ordering_then r Greater ≡ Less) [ Less ↦ λ _. refl | Equal ↦ λ k. cc | Greater ↦ λ k. cc ] h
-goes_is name (Below other) h = elim (name_cmp (slashed name) (slashed other)) as (λ r. is_lt r ≡ true → ordering_then r Equal ≡ Less) [ Less ↦ λ _. refl | Equal ↦ λ k. cc | Greater ↦ λ k. cc ] h
+goes_is name (Item item) h = elim (bytes_cmp (slashed name) item.name) as (λ r. is_lt r ≡ true → ordering_then r Greater ≡ Less) [ Less ↦ λ _. refl | Equal ↦ λ k. cc | Greater ↦ λ k. cc ] h
+goes_is name (Below other) h = elim (bytes_cmp (slashed name) (slashed other)) as (λ r. is_lt r ≡ true → ordering_then r Equal ≡ Less) [ Less ↦ λ _. refl | Equal ↦ λ k. cc | Greater ↦ λ k. cc ] h
 
 slash_apart : (a b : List ℕ) → slashed a ≡ slashed b → a ≡ b
 slash_apart [] [] h = refl
@@ -82,25 +84,25 @@ slash_apart (x ∷ []) [] h = cc
 slash_apart (x ∷ z ∷ a) [] h = cc
 slash_apart (x ∷ a) (y ∷ b) h = let first : x ≡ y = cc in let rest : slashed a ≡ slashed b = cc in λ i. first i ∷ slash_apart a b rest i
 
-stays_is : (name : List ℕ) (e : Event) → name_cmp name (name_of e) ≡ Less → goes_before (slashed name) e ≡ false → Earlier e (Below name)
+stays_is : (name : List ℕ) (e : Event) → bytes_cmp name (name_of e) ≡ Less → goes_before (slashed name) e ≡ false → Earlier e (Below name)
 stays_is name (Item item) above h =
-    let o : IsTotalOrder name_cmp = nat_list_cmp_total in
-    elim (name_cmp (slashed name) item.name) as (λ r. name_cmp (slashed name) item.name ≡ r → is_lt r ≡ false → Earlier (Item item) (Below name)) [
+    let o : IsTotalOrder bytes_cmp = nat_list_cmp_total in
+    elim (bytes_cmp (slashed name) item.name) as (λ r. bytes_cmp (slashed name) item.name ≡ r → is_lt r ≡ false → Earlier (Item item) (Below name)) [
       | Less ↦ λ _ k. cc
       | Equal ↦ λ e _. rw (o.antisymm item.name (slashed name), e) refl
       | Greater ↦ λ e _. rw (o.antisymm item.name (slashed name), e) refl
     ] refl h
 stays_is name (Below other) above h =
-    let o : IsTotalOrder name_cmp = nat_list_cmp_total in
-    elim (name_cmp (slashed name) (slashed other)) as (λ r. name_cmp (slashed name) (slashed other) ≡ r → is_lt r ≡ false → Earlier (Below other) (Below name)) [
+    let o : IsTotalOrder bytes_cmp = nat_list_cmp_total in
+    elim (bytes_cmp (slashed name) (slashed other)) as (λ r. bytes_cmp (slashed name) (slashed other) ≡ r → is_lt r ≡ false → Earlier (Below other) (Below name)) [
       | Less ↦ λ _ k. cc
       | Equal ↦ λ e _. absurd (same e)
       | Greater ↦ λ e _. rw (o.antisymm (slashed other) (slashed name), e) refl
     ] refl h
   where
-    same : name_cmp (slashed name) (slashed other) ≡ Equal → ⊥
+    same : bytes_cmp (slashed name) (slashed other) ≡ Equal → ⊥
     same e = let is : name ≡ other = slash_apart name other (name_exact (slashed name) (slashed other) e) in
-        let no : Equal ≡ Less = sym (tied_itself nat_list_cmp_total name) ∙ ap (name_cmp name) is ∙ above in cc
+        let no : Equal ≡ Less = sym (tied_itself nat_list_cmp_total name) ∙ ap (bytes_cmp name) is ∙ above in cc
 
 -- ---- events stay in order
 put_all : (P : Event → Type 0) (name : List ℕ) (es : List Event) → P (Below name) → AllByRecursion P es → AllByRecursion P (put_below name es)
@@ -118,11 +120,11 @@ put_in_order name (e ∷ es) above order =
       | false ↦ λ is. (put_all (λ x. Earlier e x) name es (stays_is name e above.0 is) order.0, put_in_order name es above.1 order.1)
     ] refl
 
-above_placed : (name : List ℕ) (items : List FolderItem) → AllByRecursion (λ n. name_cmp name n ≡ Less) (names_of items) → AreAbove name (placed_all items [])
+above_placed : (name : List ℕ) (items : List FolderItem) → AllByRecursion (λ n. bytes_cmp name n ≡ Less) (names_of items) → AreAbove name (placed_all items [])
 above_placed name [] h = tt
 above_placed name (item ∷ items) h =
     elim (is_dir item.kind) as (λ b. AreAbove name (Item item ∷ cond b (put_below item.name (placed_all items [])) (placed_all items []))) [
-      | true ↦ (h.0, put_all (λ e. name_cmp name (name_of e) ≡ Less) item.name (placed_all items []) h.0 (above_placed name items h.1))
+      | true ↦ (h.0, put_all (λ e. bytes_cmp name (name_of e) ≡ Less) item.name (placed_all items []) h.0 (above_placed name items h.1))
       | false ↦ (h.0, above_placed name items h.1)
     ]
 
@@ -143,17 +145,13 @@ placed_in_order (item ∷ items) h =
     ]
 
 -- ---- paths of visits
-pub same_front : (x s t : Path) → path_cmp (x ++ s) (x ++ t) ≡ path_cmp s t
-same_front [] s t = refl
-same_front (a ∷ x) s t = rw (tied_itself nat_list_cmp_total a) (same_front x s t)
-
 with_slashes-append : (p : Path) (a : List ℕ) (r : Path) → with_slashes (p ++ a ∷ r) ≡ map slashed p ++ with_slashes (a ∷ r)
 with_slashes-append [] a r = refl
 with_slashes-append (b ∷ []) a r = refl
 with_slashes-append (b ∷ c ∷ p) a r = ap (λ (w : Path). slashed b ∷ w) (with_slashes-append (c ∷ p) a r)
 
 walk_cmp-append : (p : Path) (a : List ℕ) (r : Path) (b : List ℕ) (s : Path) → walk_cmp (p ++ a ∷ r) (p ++ b ∷ s) ≡ path_cmp (with_slashes (a ∷ r)) (with_slashes (b ∷ s))
-walk_cmp-append p a r b s = (λ i. path_cmp (with_slashes-append p a r i) (with_slashes-append p b s i)) ∙ same_front (map slashed p) (with_slashes (a ∷ r)) (with_slashes (b ∷ s))
+walk_cmp-append p a r b s = (λ i. path_cmp (with_slashes-append p a r i) (with_slashes-append p b s i)) ∙ cmp-behind (map slashed p) (with_slashes (a ∷ r)) (with_slashes (b ∷ s))
 
 -- a path behind another
 abbrev pub IsBehind : Path → Path → Type 0
@@ -183,7 +181,7 @@ apart p (Item a) (Item b) q r h qs rs = rw (qs, rs) (walk_cmp-append p a.name []
 apart p (Item a) (Below n) q r h qs (b, more, rs) = rw (qs, rs) (walk_cmp-append p a.name [] n (b ∷ more) ∙ rw (none_less b more) h)
 apart p (Below n) (Item a) q r h (b, more, qs) rs = rw (qs, rs) (walk_cmp-append p n (b ∷ more) a.name [] ∙ rw (some_greater b more) h)
 apart p (Below n) (Below m) q r h (b, more, qs) (c, others, rs) =
-    rw (qs, rs) (walk_cmp-append p n (b ∷ more) m (c ∷ others) ∙ less_first (name_cmp (slashed n) (slashed m)) (path_cmp (with_slashes (b ∷ more)) (with_slashes (c ∷ others))) h)
+    rw (qs, rs) (walk_cmp-append p n (b ∷ more) m (c ∷ others) ∙ less_first (bytes_cmp (slashed n) (slashed m)) (path_cmp (with_slashes (b ∷ more)) (with_slashes (c ∷ others))) h)
 
 paths_of-append : (vs ws : List Visit) → paths_of (vs ++ ws) ≡ paths_of vs ++ paths_of ws
 paths_of-append [] ws = refl

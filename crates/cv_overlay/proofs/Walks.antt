@@ -1,6 +1,6 @@
 -- The walk of a directory, event by event.
 use Rattle.std.proofs.Common.{◌≡◌, ℕ, suc, ◌+◌, ◌-◌, ◌≤◌, Bool, true, cond, inl, inr, List, [], ◌∷◌, ◌++◌, length, sym, ap, subst, ◌∙◌, append-nil, append_assoc, arith}
-use Rattle.std.specs.Prelude.{Result, Ok, Err, IsErrAnd}
+use Rattle.std.specs.Prelude.{Result, Ok, Err}
 use Rattle.cv_base.specs.Path.{Path, IsPath}
 use Rattle.cv_base.specs.Sequence.{◌>>=◌}
 use Rattle.cv_ports.specs.declared.folder.FolderItem.{FolderItem}
@@ -81,11 +81,6 @@ some_left published name left e taken = omega (arith, e, takes_depth published n
 
 pub takes_so : (published : Path) (text name : List ℕ) (b : Bool) → b ≡ takes published text → text ≡ name → b ≡ true → takes published name ≡ true
 takes_so published text name b is same so = ap (takes published) (sym same) ∙ sym is ∙ so
-
--- an error that was handed on
-pub left_by : {X E : Type 0} (P : Result X E → Type 0) (answer : Result X E) (f : E) → IsErrAnd answer (λ e. e ≡ f) → P (Err f) → P answer
-left_by P (Ok x) f is h = absurd is
-left_by P (Err e) f is h = subst (λ x. P (Err x)) (sym is) h
 
 -- the walk from the folder on
 pub from_root : (left : ℕ) (f : FolderView) (at root : Path) (s : FoundView) (r : Result FoundView ReadFault) → root ≡ [] → Ends r (run f at (visits_deep (left + 1) f at root) s) → Ends r (run f at (visits_deep (suc left) f at []) s)

@@ -1,7 +1,8 @@
 -- The walk of a directory as a list of events: its items, and the walks of the directories among them.
 use Rattle.std.specs.Prelude.{ℕ, ◌+◌, Bool, List, [], ◌∷◌, ◌++◌, if◌then◌else◌, zero, suc}
 use Rattle.std.specs.Ordering.{is_lt}
-use Rattle.cv_base.specs.Path.{Path, name_cmp}
+use Rattle.cv_base.specs.Path.{Path}
+use Rattle.cv_base.specs.BytesOrder.{bytes_cmp}
 use Rattle.cv_ports.specs.declared.folder.FolderItem.{FolderItem}
 use Rattle.cv_ports.specs.Folder.{FolderView}
 use Rattle.cv_overlay.specs.declared.event.Event.{Event}
@@ -19,7 +20,7 @@ key_of (Below name) = slashed name
 
 -- the walk of a directory comes before an event
 abbrev pub goes_before : List ℕ → Event → Bool
-goes_before key e = is_lt (name_cmp key (key_of e))
+goes_before key e = is_lt (bytes_cmp key (key_of e))
 
 -- how many of the events come before that walk
 abbrev pub place_in : List ℕ → List Event → ℕ

@@ -3,7 +3,8 @@ use Rattle.std.specs.Prelude.{◌≡◌, ◌≢◌, ◌==◌, ℕ, Bool, true, n
 use Rattle.std.specs.declared.cmp.Ordering.TheVariants.{Greater}
 use Rattle.std.specs.List.{starts_with}
 use Rattle.std.specs.FinMap.{get}
-use Rattle.cv_base.specs.Path.{Path, parent, last_name_of, text_of, name_cmp, is_dots}
+use Rattle.cv_base.specs.Path.{Path, parent, last_name_of, text_of, is_dots}
+use Rattle.cv_base.specs.BytesOrder.{bytes_cmp}
 use Rattle.cv_tree.specs.declared.node.Node.{Node}
 use Rattle.cv_tree.specs.Tree.{Nodes, is_file}
 
@@ -39,4 +40,4 @@ is_bad_at c q = is_some (get c q) && is_bad c (parent q) (last_name_of q) (get c
 -- the least of the bad whiteouts, by the bytes of their paths' texts
 pub record IsLeastBad (c : Nodes) (q : Path) : Type 0 where
   pub bad : is_bad_at c q ≡ true
-  pub least : (r : Path) → is_bad_at c r ≡ true → name_cmp (text_of q) (text_of r) ≢ Greater
+  pub least : (r : Path) → is_bad_at c r ≡ true → bytes_cmp (text_of q) (text_of r) ≢ Greater

@@ -6,7 +6,7 @@ ghost use Rattle.cv_tree.specs.Tree.{IsTree};
 ghost use Rattle.cv_overlay.specs.Overlay.{is_leaf, named, hides, hidden};
 
 use crate::whiteout::{OPAQUE, is_whiteout, whiteout_of};
-use cv_base::{NoMemory, PathFault, RepoPath};
+use cv_base::{NoMemory, RepoPath};
 use cv_tree::{Node, Tree, parent};
 use std::alloc::Global;
 
@@ -23,10 +23,10 @@ pub(crate) fn child<'a>(
 {
     match above.join(alloc, name) {
         Ok(path) => Ok(tree.get(&path)),
-        Err(PathFault::NoMemory) => Err(NoMemory),
-        Err(PathFault::TooLong) => Ok(None),
-        Err(PathFault::TooDeep) => Ok(None),
-        Err(PathFault::BadName(_)) => Ok(None),
+        Err(fault) => {
+            fault.unless_memory()?;
+            Ok(None)
+        }
     }
 }
 

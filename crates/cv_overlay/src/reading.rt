@@ -2,8 +2,9 @@
 ghost use Rattle.std.specs.Prelude.{◌≡◌, ◌+◌, ◌++◌, true, length, IfOk, IsErrOf};
 ghost use Rattle.std.specs.List.{list_all};
 ghost use Rattle.cv_base.specs.Counts.{HasCause};
-ghost use Rattle.cv_base.specs.Path.{Path, text_of, name_cmp};
+ghost use Rattle.cv_base.specs.Path.{Path, text_of};
 ghost use Rattle.cv_base.specs.Told.{WhereTold};
+ghost use Rattle.cv_base.specs.BytesOrder.{bytes_cmp};
 ghost use Rattle.cv_base.specs.declared.repo_path.TheConstants.{NAMES_LIMIT};
 ghost use Rattle.cv_ports.specs.Folder.{IsOrdered};
 ghost use Rattle.cv_tree.specs.Changes.{FitsUnder};
@@ -86,7 +87,7 @@ pub fn read_folder<F: Folder>(
 
     // The walk goes by the bytes of the paths' texts, also where names are bad, as long as none has a slash.
     ensures order { (p q : Path) → list_all has_no_slash p ≡ true → list_all has_no_slash q ≡ true
-        → walk_cmp p q ≡ name_cmp (text_of p) (text_of q) }
+        → walk_cmp p q ≡ bytes_cmp (text_of p) (text_of q) }
 
     // Each path of the changes, those of whiteouts too, keeps the limits of a path behind the published one.
     ensures limits { IfOk result (λ changes. FitsUnder at.now changes.nodes) }

@@ -1,28 +1,15 @@
 -- Which of the catalogues that were made are sent.
-use Rattle.std.proofs.Common.{◌≡◌, ◌∙◌, ◌⊎◌, Bool, true, false, List, [], ◌∷◌, Some, is_some, map, refl, sym, ap, subst, inl, inr}
-use Rattle.std.specs.Prelude.{Contains, ◌&&◌, if◌then◌else◌, not}
-use Rattle.std.proofs.lemmas.Bool.{and_parts}
-use Rattle.std.proofs.lemmas.Slice.Eq.{bytes_eq-Decides}
-use Rattle.std.specs.Str.{bytes_eq}
+use Rattle.std.proofs.Common.{◌≡◌, ◌⊎◌, Bool, true, false, List, [], ◌∷◌, Some, is_some, map, refl, sym, ap, subst, inl, inr}
+use Rattle.std.specs.Prelude.{Contains, if◌then◌else◌, not}
 use Rattle.cv_base.specs.declared.id.ObjectId.{ObjectId}
 use Rattle.cv_base.specs.declared.object.Object.{Object}
-use Rattle.cv_base.proofs.Laws.{same_kind-eq, same_kind-own}
-use Rattle.cv_ports.specs.Objects.{same_id, same_kind, shelf_of}
+use Rattle.cv_base.proofs.Laws.{same_id-own, same_id-eq}
+use Rattle.cv_ports.specs.Objects.{same_id, shelf_of}
 use Rattle.cv_cut.proofs.Lemmas.{first_or_later, first_there, later_there, none_there, passes, passing}
 use Rattle.cv_publisher.specs.Assembling.{unfetched}
 
 abbrev pub ids_of : List Object → List ObjectId
 ids_of os = map (λ o. o.id) os
-
-same_ids : (a b : ObjectId) → same_id a b ≡ true → a ≡ b
-same_ids a b is =
-    let both : (bytes_eq a.hash b.hash ≡ true) × (same_kind a.kind b.kind ≡ true) = and_parts (bytes_eq a.hash b.hash) (same_kind a.kind b.kind) is in
-    let hash : a.hash ≡ b.hash = (bytes_eq-Decides a.hash b.hash).0 both.0 in
-    let kind : a.kind ≡ b.kind = same_kind-eq a.kind b.kind both.1 in
-    λ i. record { hash = hash i; kind = kind i }
-
-own_id : (id : ObjectId) → same_id id id ≡ true
-own_id id = ap (λ (b : Bool). b && same_kind id.kind id.kind) ((bytes_eq-Decides id.hash id.hash).1 refl) ∙ same_kind-own id.kind
 
 -- what stands under an id is one of the objects
 on_shelf : (os : List Object) (id : ObjectId) → is_some (shelf_of os id) ≡ true → Contains (ids_of os) id
@@ -30,7 +17,7 @@ on_shelf [] id is = absurd cc
 on_shelf (o ∷ os) id is = by (same_id o.id id) refl (λ there. on_shelf os id there)
   where
     by : (b : Bool) → same_id o.id id ≡ b → (is_some (shelf_of os id) ≡ true → Contains (ids_of os) id) → Contains (o.id ∷ ids_of os) id
-    by true h later = subst (λ (x : ObjectId). Contains (o.id ∷ ids_of os) x) (same_ids o.id id h) (first_there o.id (ids_of os))
+    by true h later = subst (λ (x : ObjectId). Contains (o.id ∷ ids_of os) x) (same_id-eq o.id id h) (first_there o.id (ids_of os))
     by false h later =
         later_there o.id (ids_of os) id (later (subst (λ (b : Bool). is_some (if b then Some o.bytes else shelf_of os id) ≡ true) h is))
 
@@ -50,7 +37,7 @@ stands (o ∷ os) id has = by (same_id o.id id) refl (λ later. stands os id lat
     by : (b : Bool) → same_id o.id id ≡ b → (Contains (ids_of os) id → is_some (shelf_of os id) ≡ true) → is_some (if b then Some o.bytes else shelf_of os id) ≡ true
     by true h later = refl
     by false h later = elim (first_or_later o.id (ids_of os) id has) [
-      | inl is ↦ let own : same_id o.id id ≡ true = subst (λ (x : ObjectId). same_id x id ≡ true) (sym is) (own_id id) in absurd cc
+      | inl is ↦ let own : same_id o.id id ≡ true = subst (λ (x : ObjectId). same_id x id ≡ true) (sym is) (same_id-own id) in absurd cc
       | inr more ↦ later more
     ]
 

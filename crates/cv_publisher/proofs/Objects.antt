@@ -1,17 +1,16 @@
 -- Objects at places.
-use Rattle.std.proofs.Common.{◌≡◌, ◌≢◌, ℕ, zero, suc, ◌+◌, ◌-◌, ◌<◌, ◌≤◌, Bool, List, [], ◌∷◌, ◌++◌, Option, Some, length, map, take, drop, get_or, refl, sym, ◌∙◌, ◌⊎◌, ap, subst, append_assoc, zero-add, arith, length-append, inl, inr}
-use Rattle.std.specs.Prelude.{All, AllPairs, Contains, slice_get, option_to_list, sum_by, false, true, ◌&&◌, nat_lt, nat_le, Result, Ok, Err, OnOk, is_err}
+use Rattle.std.proofs.Common.{◌≡◌, ◌≢◌, ℕ, zero, suc, ◌+◌, ◌-◌, ◌<◌, ◌≤◌, Bool, List, [], ◌∷◌, ◌++◌, Option, Some, length, take, drop, get_or, refl, sym, ◌∙◌, ◌⊎◌, ap, subst, append_assoc, arith, length-append, inl, inr}
+use Rattle.std.specs.Prelude.{All, AllPairs, Contains, slice_get, option_to_list, false, true, ◌&&◌, nat_lt, nat_le, Result, Ok, Err, OnOk, is_err}
 use Rattle.std.proofs.lemmas.Bool.{le-ltb, lt-leb}
 use Rattle.std.proofs.lemmas.List.{length-take-le, take_more, drop_more, drop_all, take_all, map-append, take-append-drop, get_or_append_left, get_or-append_right, get_or-append-add, get_or_at}
 use Rattle.std.proofs.lemmas.List.Elements.{All-head, All-tail, All-take, All-drop, All-push}
-use Rattle.std.proofs.lemmas.List.Sums.{sum_by-append}
 use Rattle.std.proofs.lemmas.Option.{slice_get_cases, slice_get_read}
 use Rattle.cv_base.specs.declared.id.ObjectId.{ObjectId}
 use Rattle.cv_base.specs.declared.object.Object.{Object}
-use Rattle.cv_pack.specs.Pack.{contents_size, entry_of, has_room, ids, IsPacked}
-use Rattle.cv_pack.specs.declared.entry.Entry.{Entry}
+use Rattle.cv_pack.specs.Pack.{contents_size, has_room, ids, IsPacked}
 use Rattle.cv_pack.specs.Reading.{object}
 use Rattle.cv_pack.specs.declared.add_fault.AddFault.{AddFault}
+use Rattle.cv_pack.proofs.Laws.{size_more}
 use Rattle.cv_publisher.specs.Packing.{AreSendable, IsFront, objects_at}
 
 -- an element of the first list, and one of the second, in both
@@ -62,12 +61,6 @@ length-objects_at all (p ∷ ps) there =
           omega (arith, length-append (option_to_list (slice_get all p)) (objects_at all ps))
       | inr past ↦ absurd (let long = past.0 in omega arith)
     ]
-
--- an object more has its bytes
-pub size_more : (os : List Object) (o : Object) → contents_size (os ++ o ∷ []) ≡ contents_size os + length o.bytes
-size_more os o =
-    ap (λ (x : List Entry). sum_by (λ e. e.size) x) (map-append entry_of os (o ∷ [])) ∙ sum_by-append (λ (e : Entry). e.size) (map entry_of os) (entry_of o ∷ [])
-    ∙ ap (λ (n : ℕ). contents_size os + n) (zero-add (length o.bytes))
 
 -- ---- parts of lists
 

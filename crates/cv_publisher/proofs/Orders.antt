@@ -18,7 +18,6 @@ use Rattle.std.proofs.lemmas.Map.Text.{is_eq-slice_cmp}
 use Rattle.std.proofs.lemmas.Option.{slice_get-map, slice_get-get_or, slice_get_within, slice_get_cases, get_or_from_slice_get}
 use Rattle.std.proofs.lemmas.Slice.Eq.{bytes_eq-Decides}
 use Rattle.cv_base.specs.BytesOrder.{bytes_cmp}
-use Rattle.cv_base.specs.Path.{name_cmp}
 use Rattle.cv_base.specs.ObjectId.{id_text}
 use Rattle.cv_base.specs.declared.id.ObjectId.{ObjectId}
 use Rattle.cv_base.specs.declared.object.Object.{Object}
@@ -123,11 +122,11 @@ texts_found all (e ∷ es) placed =
     ∙ ap (λ (t : List ℕ). t ∷ id_texts (objects_at all (values_of es))) o.2 ∙ ap (λ (ts : List (List ℕ)). text_at e ∷ ts) rest
 
 all_texts : (k : String Global) (es : List Found) → AllByRecursion (λ (x : String Global). string_cmp k x ≡ Less) (keys_of es)
-    → AllByRecursion (λ (t : List ℕ). name_cmp (string_bytes k) t ≡ Less) (map text_at es)
+    → AllByRecursion (λ (t : List ℕ). bytes_cmp (string_bytes k) t ≡ Less) (map text_at es)
 all_texts k [] below = tt
 all_texts k (e ∷ es) below = (below.0, all_texts k es below.1)
 
-texts_ascend : (es : List Found) → IsStrictlySortedBy string_cmp (keys_of es) → IsStrictlySortedBy name_cmp (map text_at es)
+texts_ascend : (es : List Found) → IsStrictlySortedBy string_cmp (keys_of es) → IsStrictlySortedBy bytes_cmp (map text_at es)
 unfolding IsStrictlySortedBy
 texts_ascend [] sorted = tt
 texts_ascend (e ∷ es) sorted = (all_texts e.0 es sorted.0, texts_ascend es sorted.1)
@@ -177,7 +176,7 @@ in_order all m n whole ordered first =
     let finds = subst (λ (x : ℕ). FindsFirst (id_texts all) x (get_by_text m)) (whole ∙ sym (length-map all text_of_id)) first in
     let texts = texts_found all m.entries (are_placed (id_texts all) m ordered finds) in
     record {
-      ascend = subst (IsStrictlySortedBy name_cmp) (sym texts) (texts_ascend m.entries ordered);
+      ascend = subst (IsStrictlySortedBy bytes_cmp) (sym texts) (texts_ascend m.entries ordered);
       only = only_those all (values m);
       each = λ o has. subst (λ (ts : List (List ℕ)). Contains ts (id_text o.id)) (sym texts) (each_text all m finds o has);
     }
@@ -206,7 +205,7 @@ there_of (Err e) items all m n are whole ordered finds = tt
 
 -- ---- what is in order can be sent
 
-not_below_itself : (t : List ℕ) → name_cmp t t ≡ Less → ⊥
+not_below_itself : (t : List ℕ) → bytes_cmp t t ≡ Less → ⊥
 not_below_itself t less =
     let equal : is_eq (bytes_cmp t t) ≡ true = is_eq-slice_cmp t t ∙ (bytes_eq-Decides t t).1 refl in
     let wrong : is_eq (bytes_cmp t t) ≡ false = ap is_eq less in
@@ -218,7 +217,7 @@ id_at os i a d within = get_or-map (λ (o : Object). o.id) os i a d within
 text_at_place : (os : List Object) (i : ℕ) (a : Object) (d : List ℕ) → i < length os → get_or (id_texts os) i d ≡ id_text (get_or os i a).id
 text_at_place os i a d within = get_or-map text_of_id os i a d within
 
-ids_apart : (os : List Object) → IsStrictlySortedBy name_cmp (id_texts os) → AllPairs (λ a b. a ≢ b) (ids os)
+ids_apart : (os : List Object) → IsStrictlySortedBy bytes_cmp (id_texts os) → AllPairs (λ a b. a ≢ b) (ids os)
 ids_apart os ascend = λ i j d below within same.
     let short : j < length os = subst (λ (n : ℕ). j < n) (length-map os (λ (o : Object). o.id)) within in
     elim (slice_get_cases os j).1 [
@@ -226,11 +225,11 @@ ids_apart os ascend = λ i j d below within same.
           let a = found.0 in
           let equal : (get_or os i a).id ≡ (get_or os j a).id = sym (id_at os i a d (omega arith)) ∙ same ∙ id_at os j a d short in
           let t = id_text (get_or os j a).id in
-          let less : name_cmp (get_or (id_texts os) i t) (get_or (id_texts os) j t) ≡ Less =
-          Less-from_sorted name_cmp (id_texts os) i j t ascend below (omega (arith, length-map os text_of_id)) in
+          let less : bytes_cmp (get_or (id_texts os) i t) (get_or (id_texts os) j t) ≡ Less =
+          Less-from_sorted bytes_cmp (id_texts os) i j t ascend below (omega (arith, length-map os text_of_id)) in
           let first : get_or (id_texts os) i t ≡ t = text_at_place os i a t (omega arith) ∙ ap id_text equal in
           let second : get_or (id_texts os) j t ≡ t = text_at_place os j a t short in
-          not_below_itself t (subst (λ (y : List ℕ). name_cmp t y ≡ Less) second (subst (λ (x : List ℕ). name_cmp x (get_or (id_texts os) j t) ≡ Less) first less))
+          not_below_itself t (subst (λ (y : List ℕ). bytes_cmp t y ≡ Less) second (subst (λ (x : List ℕ). bytes_cmp x (get_or (id_texts os) j t) ≡ Less) first less))
       | inr past ↦ absurd (let long = past.0 in omega arith)
     ]
 

@@ -1,10 +1,10 @@
 -- What is sent in packs, and in which order.
 use Rattle.std.specs.Prelude.{◌≡◌, ◌≢◌, ◌≤◌, ◌<◌, ℕ, false, List, [], ◌∷◌, ◌++◌, length, map, All, AllPairs, Contains, slice_get, option_to_list}
 use Rattle.std.specs.List.Sorted.{IsStrictlySortedBy}
-use Rattle.cv_base.specs.Path.{name_cmp}
 use Rattle.cv_base.specs.ObjectId.{id_text}
 use Rattle.cv_base.specs.declared.limits.TheConstants.{OBJECT_LIMIT}
 use Rattle.cv_base.specs.declared.object.Object.{Object}
+use Rattle.cv_base.specs.BytesOrder.{bytes_cmp}
 use Rattle.cv_pack.specs.Pack.{contents_size, has_room, ids, IsPacked}
 use Rattle.cv_pack.specs.declared.header_reader.TheConstants.{COUNT_LIMIT, TOTAL_LIMIT}
 
@@ -19,7 +19,7 @@ objects_at all (place ∷ places) = option_to_list (slice_get all place) ++ obje
 
 -- objects in ascending order of the texts of their ids: each is one of all, and of each id that one of all has there is one
 pub record AreInOrder (all os : List Object) : Type 0 where
-  pub ascend : IsStrictlySortedBy name_cmp (id_texts os)
+  pub ascend : IsStrictlySortedBy bytes_cmp (id_texts os)
   pub only : (o : Object) → Contains os o → Contains all o
   pub each : (o : Object) → Contains all o → Contains (id_texts os) (id_text o.id)
 

@@ -6,6 +6,7 @@ use Rattle.sha1.specs.Sha1.{sha1}
 use Rattle.cv_base.specs.ObjectId.{object_id}
 use Rattle.cv_base.specs.declared.id.ObjectId.{ObjectId}
 use Rattle.cv_base.specs.declared.id.Kind.TheVariants as id_kind
+use Rattle.cv_base.proofs.Laws.{some_same, not_both}
 use Rattle.cv_cut.specs.Reached.{Decodes}
 use Rattle.cv_resolver.specs.Spot.{place_of}
 use Rattle.cv_resolver.specs.Kept.{Kept}
@@ -29,15 +30,6 @@ by f = Ends (Err f)
 clash : {X : Type 0} (s t u : Stage) → s ≡ t → s ≡ u → (t ≡ u → X) → X
 clash s t u a b no_way = no_way (sym a ∙ b)
 
-same_id : (o : Option ObjectId) (x id : ObjectId) → o ≡ Some x → o ≡ Some id → x ≡ id
-same_id o x id a b = let e : Some x ≡ Some id = sym a ∙ b in cc
-
-same_bytes : (o : Option (List ℕ)) (a b : List ℕ) → o ≡ Some a → o ≡ Some b → a ≡ b
-same_bytes o a b x y = let e : Some a ≡ Some b = sym x ∙ y in cc
-
-not_both : (o : Option (List ℕ)) (bytes : List ℕ) → o ≡ Some bytes → o ≡ None → ⊥
-not_both o bytes a b = let e : Some bytes ≡ None = sym a ∙ b in cc
-
 blameless_not : (s : Stage) (f : ClientFault) → IsOfPeer f → IsBlameless s → EndsBy s f → ⊥
 blameless_not s f peer blameless ends = (subst IsBlameless ends blameless) peer
 
@@ -57,7 +49,7 @@ module _ (repository : List ℕ) (q : Question) (k after : Kept) (was s : Stage)
   only_unserved (catalogue w bytes walks is digest takes) h = absurd (taken_not repository q k after w bytes s (NotServed id) tt (λ e. cc) (λ e. cc) takes h)
 
   unserved : Takes repository q k was given after s → given ≡ None → EndsBy s (NotServed id)
-  unserved (nothing x wanted none same ends) h = ends ∙ ap (λ (y : ObjectId). by (NotServed y)) (same_id (wanted_by was) x id wanted wants)
+  unserved (nothing x wanted none same ends) h = ends ∙ ap (λ (y : ObjectId). by (NotServed y)) (some_same (wanted_by was) x id wanted wants)
   unserved (other x bytes wanted is differs same ends) h = absurd (not_both given bytes is h)
   unserved (content hash bytes reads is digest same ends) h = absurd (not_both given bytes is h)
   unserved (catalogue w bytes walks is digest takes) h = absurd (not_both given bytes is h)
@@ -80,11 +72,11 @@ module _ (repository : List ℕ) (q : Question) (k after : Kept) (was s : Stage)
   differing : (found : List ℕ) → Takes repository q k was given after s → IsOther given id found → EndsBy s (BadObject id found)
   differing found (nothing x wanted none same ends) o = absurd (not_both given o.bytes o.is none)
   differing found (other x bytes wanted is differs same ends) o =
-      ends ∙ (λ i. by (BadObject (same_id (wanted_by was) x id wanted wants i) ((ap sha1 (same_bytes given bytes o.bytes is o.is) ∙ sym o.digest) i)))
+      ends ∙ (λ i. by (BadObject (some_same (wanted_by was) x id wanted wants i) ((ap sha1 (some_same given bytes o.bytes is o.is) ∙ sym o.digest) i)))
   differing found (content hash bytes reads is digest same ends) o =
-      absurd (o.differs (o.digest ∙ ap sha1 (same_bytes given o.bytes bytes o.is is) ∙ digest ∙ file_hash hash was id reads wants))
+      absurd (o.differs (o.digest ∙ ap sha1 (some_same given o.bytes bytes o.is is) ∙ digest ∙ file_hash hash was id reads wants))
   differing found (catalogue w bytes walks is digest takes) o =
-      absurd (o.differs (o.digest ∙ ap sha1 (same_bytes given o.bytes bytes o.is is) ∙ digest ∙ walk_hash w was id walks wants))
+      absurd (o.differs (o.digest ∙ ap sha1 (some_same given o.bytes bytes o.is is) ∙ digest ∙ walk_hash w was id walks wants))
 
   pub bad_object : (found : List ℕ) → Takes repository q k was given after s → EndsBy s (BadObject id found) ↔ IsOther given id found
   bad_object found takes = (only_other found takes, differing found takes)
@@ -111,13 +103,13 @@ module _ (repository : List ℕ) (q : Question) (k after : Kept) (was s : Stage)
   pub bad_catalogue : Takes repository q k was given after s → IsUndecoded was given → EndsBy s (BadCatalogue id) ⊎ EndsBy s NoMemory
   bad_catalogue (nothing x wanted none same ends) u = absurd (not_both given u.bytes u.is none)
   bad_catalogue (other x bytes wanted is differs same ends) u =
-      absurd (differs (ap sha1 (same_bytes given bytes u.bytes is u.is) ∙ u.digest ∙ walk_hash u.walk was x u.walks wanted))
+      absurd (differs (ap sha1 (some_same given bytes u.bytes is u.is) ∙ u.digest ∙ walk_hash u.walk was x u.walks wanted))
   bad_catalogue (content hash bytes reads is digest same ends) u = absurd (let e : Reads hash ≡ Walks u.walk = sym reads ∙ u.walks in cc)
   bad_catalogue (catalogue w bytes walks is digest takes) u =
       let e : Walks w ≡ Walks u.walk = sym walks ∙ u.walks in
       let one : w ≡ u.walk = cc in
       let named : Some (object_id w.spot.level.hash id_kind.Catalogue) ≡ Some id = ap wanted_by (sym walks) ∙ wants in
-      judged w bytes u one (same_bytes given bytes u.bytes is u.is) (let n : object_id w.spot.level.hash id_kind.Catalogue ≡ id = cc in n) takes
+      judged w bytes u one (some_same given bytes u.bytes is u.is) (let n : object_id w.spot.level.hash id_kind.Catalogue ≡ id = cc in n) takes
 
 -- ---- which object is named
 

@@ -1,18 +1,17 @@
 -- The names in a directory.
 use Rattle.std.proofs.Common.{◌≡◌, ◌≢◌, ℕ, ◌+◌, ◌<◌, true, false, List, [], ◌∷◌, ◌++◌, length, map, filter, get_or, Option, refl, sym, ap, subst, ◌∙◌, arith, append_assoc, length-append, is_some}
 use Rattle.std.specs.Prelude.{Contains, IfOk}
-use Rattle.std.specs.declared.cmp.Ordering.{Ordering}
-use Rattle.std.specs.declared.cmp.Ordering.TheVariants.{Less, Equal, Greater}
+use Rattle.std.specs.declared.cmp.Ordering.TheVariants.{Less, Equal}
 use Rattle.std.specs.declared.option.Option.TheVariants.{None, Some}
 use Rattle.std.specs.declared.result.Result.{Result}
 use Rattle.std.specs.declared.result.Result.TheVariants.{Ok, Err}
-use Rattle.std.specs.Cmp.{tied_itself, eq_by_cmp_equiv}
+use Rattle.std.specs.Cmp.{tied_itself}
 use Rattle.std.specs.Cmp.Lexicographic.{nat_list_cmp_total}
 use Rattle.std.specs.FinMap.{FinMap, get, keys, entries, entries_sorted, is_sorted, contains_key-keys}
 use Rattle.std.specs.FinMap.Entries.{below_all}
 use Rattle.std.specs.List.{AllByRecursion, IsDistinct}
 use Rattle.std.specs.List.Sorted.{IsPermutation, IsSortedByKey, IsStrictlySortedBy}
-use Rattle.std.specs.Ordering.{is_lt, is_eq, ordering_reverse, ordering_then}
+use Rattle.std.specs.Ordering.{is_lt, is_eq}
 use Rattle.std.proofs.lemmas.Bool.{and_parts}
 use Rattle.std.proofs.lemmas.List.{get_or-map, length-map}
 use Rattle.std.proofs.lemmas.List.Elements.{All-contains, Contains-get_or}
@@ -22,8 +21,9 @@ use Rattle.std.proofs.lemmas.List.Sorted.{Contains-permutation, IsPermutation-ma
 use Rattle.std.proofs.lemmas.Map.Keys as by_keys
 use Rattle.std.proofs.lemmas.Map.Keys.{IsDistinct-from_apart, IsDistinct-IsPermutation, Less-from_sorted, sorted_from_all_adjacent}
 use Rattle.cv_base.specs.BytesOrder.{bytes_cmp}
-use Rattle.cv_base.specs.Path.{Path, key_of, last_name_of, name_cmp, path_cmp, same_name, same_path}
+use Rattle.cv_base.specs.Path.{Path, key_of, last_name_of, path_cmp, same_name, same_path}
 use Rattle.cv_base.specs.PathOrder.{path_total, same_name_is, same_path_is}
+use Rattle.cv_base.proofs.Laws.{same_name-symm, is_less, then_equal, rising}
 use Rattle.cv_tree.specs.Tree.{Nodes, IsTree, at}
 use Rattle.cv_tree.specs.declared.node.Node.{Node}
 use Rattle.cv_tree.proofs.Laws.{get-at}
@@ -42,18 +42,6 @@ use Rattle.cv_resolver.specs.Look.{is_single, names_in}
 use Rattle.cv_resolver.specs.Listing.{IsNameAt, AreNames}
 
 -- ---- by the rows of a catalogue
-
--- what isn't above and isn't the same is below
-rising : (x y : List ℕ) → is_lt (name_cmp y x) ≡ false → same_name x y ≡ false → name_cmp x y ≡ Less
-rising x y not_below apart =
-    elim (name_cmp x y) as (λ o. name_cmp x y ≡ o → o ≡ Less) [
-      | Less ↦ λ e. refl
-      | Equal ↦ λ e. let wrong : true ≡ false = sym (ap is_eq e) ∙ apart in cc
-      | Greater ↦ λ e. let wrong : true ≡ false = sym (ap is_lt (nat_list_cmp_total.antisymm y x ∙ ap ordering_reverse e)) ∙ not_below in cc
-    ] refl
-
-flips : (x y : List ℕ) → same_name x y ≡ same_name y x
-flips x y = (eq_by_cmp_equiv nat_list_cmp_total).symm x y
 
 abbrev name : Row → List ℕ
 name r = r.name
@@ -101,13 +89,13 @@ module _ (c : Contents) (is : IsCatalogue c) (p : Path) (rows : List Row) (list 
               let b = get_or rows j r in
               let names : a.name ≡ b.name = sym (get_or-map name rows i r d here_i) ∙ same ∙ get_or-map name rows j r d here_j in
               let keys_are : a.key.0 ≡ b.key.0 = key_of_name a (Contains-get_or rows i r here_i) ∙ ap (λ (x : List ℕ). key_of (p ++ x ∷ [])) names ∙ sym (key_of_name b (Contains-get_or rows j r here_j)) in
-              let less_is : bytes_cmp a.key.0 b.key.0 ≡ Less = Less-from_sorted row_cmp rows i j r ordered less here_j in
+              let is_less : bytes_cmp a.key.0 b.key.0 ≡ Less = Less-from_sorted row_cmp rows i j r ordered less here_j in
               let tied : bytes_cmp a.key.0 b.key.0 ≡ Equal = ap (λ (k : List ℕ). bytes_cmp a.key.0 k) (sym keys_are) ∙ tied_itself nat_list_cmp_total a.key.0 in
-              let wrong : Less ≡ Equal = sym less_is ∙ tied in
+              let wrong : Less ≡ Equal = sym is_less ∙ tied in
               cc
 
   -- the names of rows in the order of their names
-  pub are_names : (ys : List Row) (names : List (List ℕ)) → IsPermutation rows ys → IsSortedByKey name name_cmp ys → names ≡ map name ys → AreNames c p names
+  pub are_names : (ys : List Row) (names : List (List ℕ)) → IsPermutation rows ys → IsSortedByKey name bytes_cmp ys → names ≡ map name ys → AreNames c p names
   are_names ys names moved up is_names = subst (AreNames c p) (sym is_names) (record {
     sorted = sorted_from_all_adjacent nat_list_cmp_total (map name ys) [] (λ k lt.
         let next : k + 1 < length ys = omega (arith, length-map ys name) in
@@ -125,46 +113,36 @@ module _ (c : Contents) (is : IsCatalogue c) (p : Path) (rows : List Row) (list 
   })
     where
       distinct : IsDistinct same_name (map name ys)
-      distinct = IsDistinct-IsPermutation same_name flips (map name rows) (map name ys) (IsPermutation-map name rows ys moved) apart
+      distinct = IsDistinct-IsPermutation same_name same_name-symm (map name rows) (map name ys) (IsPermutation-map name rows ys moved) apart
 
       name_at : (xs : List Row) (k : ℕ) → k < length xs → Row
       name_at [] k lt = absurd (omega arith)
       name_at (x ∷ xs) k lt = x
 
-      rise : (k : ℕ) → k + 1 < length ys → Row → is_lt (name_cmp (get_or (map name ys) (k + 1) []) (get_or (map name ys) k [])) ≡ false
+      rise : (k : ℕ) → k + 1 < length ys → Row → is_lt (bytes_cmp (get_or (map name ys) (k + 1) []) (get_or (map name ys) k [])) ≡ false
       rise k next r =
-          (λ i. is_lt (name_cmp (get_or-map name ys (k + 1) r [] next i) (get_or-map name ys k r [] (omega arith) i))) ∙ up k r (omega arith) next
+          (λ i. is_lt (bytes_cmp (get_or-map name ys (k + 1) r [] next i) (get_or-map name ys k r [] (omega arith) i))) ∙ up k r (omega arith) next
 
-  pub are_names_if : {X E : Type 0} (items : X → List (List ℕ)) (r : Result X E) (ys view : List Row) → IsPermutation rows ys → IsSortedByKey name name_cmp ys → view ≡ ys → IfOk r (λ v. items v ≡ map name view) → IfOk r (λ v. AreNames c p (items v))
+  pub are_names_if : {X E : Type 0} (items : X → List (List ℕ)) (r : Result X E) (ys view : List Row) → IsPermutation rows ys → IsSortedByKey name bytes_cmp ys → view ≡ ys → IfOk r (λ v. items v ≡ map name view) → IfOk r (λ v. AreNames c p (items v))
   are_names_if items (Err e) ys view moved up same h = tt
   are_names_if items (Ok v) ys view moved up same h = are_names ys (items v) moved up (h ∙ ap (map name) same)
 
 -- ---- by the tree
 
-less_is : (o : Ordering) → is_lt o ≡ true → o ≡ Less
-less_is Less h = refl
-less_is Equal h = cc
-less_is Greater h = cc
-
-then_equal : (o : Ordering) → ordering_then o Equal ≡ o
-then_equal Less = refl
-then_equal Equal = refl
-then_equal Greater = refl
-
 module _ {X : Type 0} where
   abbrev singles : List (Path × X) → List (List ℕ)
   singles es = map last_name_of (filter is_single (map (λ e. e.0) es))
 
-  lower : (a : List ℕ) (es : List (Path × X)) → below_all path_cmp (a ∷ []) es ≡ true → AllByRecursion (λ y. name_cmp a y ≡ Less) (singles es)
+  lower : (a : List ℕ) (es : List (Path × X)) → below_all path_cmp (a ∷ []) es ≡ true → AllByRecursion (λ y. bytes_cmp a y ≡ Less) (singles es)
   lower a [] h = tt
   lower a (([], x) ∷ es) h = lower a es ((and_parts (is_lt (path_cmp (a ∷ []) [])) (below_all path_cmp (a ∷ []) es) h).1)
   lower a ((b ∷ [], x) ∷ es) h = (
-    less_is (name_cmp a b) (ap is_lt (sym (then_equal (name_cmp a b))) ∙ (and_parts (is_lt (path_cmp (a ∷ []) (b ∷ []))) (below_all path_cmp (a ∷ []) es) h).0),
+    is_less (bytes_cmp a b) (ap is_lt (sym (then_equal (bytes_cmp a b))) ∙ (and_parts (is_lt (path_cmp (a ∷ []) (b ∷ []))) (below_all path_cmp (a ∷ []) es) h).0),
     lower a es ((and_parts (is_lt (path_cmp (a ∷ []) (b ∷ []))) (below_all path_cmp (a ∷ []) es) h).1),
   )
   lower a ((b ∷ d ∷ q, x) ∷ es) h = lower a es ((and_parts (is_lt (path_cmp (a ∷ []) (b ∷ d ∷ q))) (below_all path_cmp (a ∷ []) es) h).1)
 
-  rises : (es : List (Path × X)) → is_sorted path_cmp es ≡ true → IsStrictlySortedBy name_cmp (singles es)
+  rises : (es : List (Path × X)) → is_sorted path_cmp es ≡ true → IsStrictlySortedBy bytes_cmp (singles es)
   unfolding IsStrictlySortedBy
   rises [] h = tt
   rises (([], x) ∷ es) h = rises es ((and_parts (below_all path_cmp [] es) (is_sorted path_cmp es) h).1)

@@ -20,6 +20,7 @@ use Rattle.cv_rows.specs.Places.{StandsAt}
 use Rattle.cv_rows.specs.Catalogue.{Contents, catalogue_bytes}
 use Rattle.cv_tree.specs.declared.node.Node.TheVariants.{Dir, Link}
 use Rattle.cv_base.specs.declared.attr.Attr.{Attr}
+use Rattle.cv_base.proofs.Laws.{parent-append}
 use Rattle.cv_rows.specs.declared.row.Row.{Row}
 use Rattle.cv_rows.specs.declared.nested.Nested.{Nested}
 use Rattle.cv_rows.specs.declared.row_kind.RowKind.TheVariants as kind
@@ -161,11 +162,6 @@ some_cut t p none = let wrong : [] ≡ [] ∷ [] = sym (ap (take 1) none) ∙ fi
 top_or_below : (p : Path) → (p ≡ []) ⊎ (p ≢ [])
 top_or_below [] = inl refl
 top_or_below (a ∷ p) = inr (λ e. cc)
-
-parent-append : (p : Path) (a : List ℕ) → parent (p ++ a ∷ []) ≡ p
-parent-append [] a = refl
-parent-append (b ∷ []) a = refl
-parent-append (b ∷ c ∷ p) a = ap (λ (w : Path). b ∷ w) (parent-append (c ∷ p) a)
 
 -- the root stays where it is
 top_stays : (t : Nodes) (d : Bool) (levels : List Level) → IsTree t → StandsIn t [] d levels → StandsIn t [] true levels

@@ -1,7 +1,7 @@
 //! The names in a directory.
 ghost use Rattle.std.specs.Prelude.{◌≡◌, map, IfOk};
 ghost use Rattle.std.specs.List.Sorted.{IsPermutation, IsSortedByKey};
-ghost use Rattle.cv_base.specs.Path.{name_cmp};
+ghost use Rattle.cv_base.specs.BytesOrder.{bytes_cmp};
 ghost use Rattle.cv_rows.specs.Catalogue.{IsCatalogue};
 ghost use Rattle.cv_resolver.specs.Listing.{AreNames};
 
@@ -12,7 +12,7 @@ use std::cmp::Ordering;
 
 /// How two rows are ordered by their names.
 fn name_order(a: &Row, b: &Row) -> Ordering
-    ensures { result ≡ name_cmp a.now.name b.now.name }
+    ensures { result ≡ bytes_cmp a.now.name b.now.name }
 {
     a.name.text().cmp(b.name.text())
 }
@@ -20,7 +20,7 @@ fn name_order(a: &Row, b: &Row) -> Ordering
 /// Rows in ascending order of their names.
 fn by_name(rows: Vec<Row>) -> Vec<Row>
     ensures permutation { IsPermutation rows.items result.items }
-    ensures sorted { IsSortedByKey (λ r. r.name) name_cmp result.items }
+    ensures sorted { IsSortedByKey (λ r. r.name) bytes_cmp result.items }
 {
     let mut sorted = rows;
     sorted.sort_unstable_by(name_order);

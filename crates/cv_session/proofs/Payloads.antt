@@ -1,15 +1,15 @@
 -- Reading a payload.
-use Rattle.std.proofs.Common.{◌≡◌, ◌≤◌, ◌<◌, ◌+◌, ◌-◌, ◌++◌, ◌∷◌, ℕ, zero, suc, List, [], length, take, drop, refl, ap, sym, subst, ◌∙◌, arith, true, Ok, Err, append_assoc, length-append}
-use Rattle.std.specs.Prelude.{Option, Result, IfOk, bytes_eq, min, IsErrAnd, MatchResult}
+use Rattle.std.proofs.Common.{◌≡◌, ◌≤◌, ◌<◌, ◌+◌, ◌-◌, ◌++◌, ◌∷◌, ℕ, zero, suc, List, [], length, take, drop, refl, ap, sym, subst, ◌∙◌, arith, Ok, Err, append_assoc, length-append}
+use Rattle.std.specs.Prelude.{Option, Result, IfOk, min, IsErrAnd, MatchResult}
 use Rattle.std.specs.declared.option.Option.TheVariants.{Some, None}
 use Rattle.std.specs.List.{AllByRecursion}
-use Rattle.std.proofs.lemmas.Slice.Eq.{bytes_eq-Decides}
 use Rattle.std.proofs.lemmas.Bool.Decides.{nat_tests}
 use Rattle.std.proofs.lemmas.List.{take_min}
 use Rattle.std.proofs.Math.Seq.{take-append_seam, drop-append_seam}
 use Rattle.sha1.specs.Sha1.{sha1, Holds}
 use Rattle.sha1.specs.declared.Sha1.{Sha1}
 use Rattle.cv_base.specs.declared.object.Object.{Object}
+use Rattle.cv_base.proofs.Laws.{bytes_itself}
 use Rattle.cv_ports.specs.Streams.{Look}
 use Rattle.cv_http.specs.Wires.{WireView, Draws, Looks, Beside, BodyRead, PieceRead}
 use Rattle.cv_http.specs.declared.fault.HttpFault.{HttpFault}
@@ -158,13 +158,10 @@ fed_none reader hasher most fed holds = (fed, subst (Holds hasher) (sym (take_no
 
 -- ---- at the end
 
-same_bytes : (xs ys : List ℕ) → xs ≡ ys → bytes_eq xs ys ≡ true
-same_bytes xs ys is = (bytes_eq-Decides xs ys).1 is
-
 faulty : (key : List ℕ) (ask : PayloadAsk) (pack digest : List ℕ) (fault : PackFault) → digest ≡ ask.digest → digest ≡ sha1 (take ask.header_size pack) → reading pack ≡ Err fault
     → (denied reason.BadPack ≡ payload_on key ask pack) × IsGood (denied reason.BadPack)
 faulty key ask pack digest fault same is reads =
-    (rw (same_bytes (sha1 (take ask.header_size pack)) ask.digest (sym is ∙ same), reads) refl, refl)
+    (rw (bytes_itself (sha1 (take ask.header_size pack)) ask.digest (sym is ∙ same), reads) refl, refl)
 
 pub refuses : (key : List ℕ) (ask : PayloadAsk) (pack digest : List ℕ) (fault : PackFault) → digest ≡ ask.digest → digest ≡ sha1 (take ask.header_size pack) → Finishes pack (Err fault)
     → IfOk (refused_pack fault) (λ turn. (turn ≡ payload_on key ask pack) × IsGood turn)

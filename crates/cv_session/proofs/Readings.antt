@@ -1,8 +1,9 @@
 -- Reading a request.
-use Rattle.std.proofs.Common.{◌≡◌, ◌≢◌, ◌<◌, ◌≤◌, ◌++◌, ℕ, List, [], length, refl, ap, sym, subst, ◌∙◌, append-nil, true, false, Ok, Err}
+use Rattle.std.proofs.Common.{◌≡◌, ◌≢◌, ◌<◌, ◌≤◌, ◌++◌, ℕ, List, length, refl, sym, subst, ◌∙◌, true, false, Ok, Err}
 use Rattle.std.specs.Prelude.{Option, Result}
 use Rattle.std.specs.declared.option.Option.TheVariants.{Some, None}
 use Rattle.cv_ports.specs.Streams.{Look, onto}
+use Rattle.cv_ports.proofs.Laws.{onto_none}
 use Rattle.cv_http.specs.Faults.{IsBodyFault, IsHeadFault}
 use Rattle.cv_http.specs.Heads.{Begins, IsAwaited}
 use Rattle.cv_http.specs.Wires.{WireView, Draws, Looks, Beside, HeadRead, BodyRead}
@@ -24,10 +25,6 @@ use Rattle.cv_session.specs.declared.request.Asked.{Asked}
 use Rattle.cv_session.specs.declared.request.Unread.{Unread}
 use Rattle.cv_session.specs.declared.request.Unread.TheVariants.{Fault}
 
-pub onto_nothing : (o : Option (List ℕ)) → o ≡ onto o []
-onto_nothing None = refl
-onto_nothing (Some t) = ap (λ l. Some l) (sym (append-nil t))
-
 inside_why : {b later : List ℕ} {head : RequestHead} → Begins b head later → (why : HttpFault) → IsBodyFault why → body_size head ≤ body_limit head → (why ≢ NoMemory → length later < body_size head) → IsWhy b (waits head) why
 inside_why {later = later} {head = head} begins Short is limit short = inside_body head later begins limit (short (λ e. cc))
 inside_why {later = later} {head = head} begins ReadFault is limit short = awaits_body head later begins limit (short (λ e. cc))
@@ -45,21 +42,21 @@ module _ {repository : List ℕ} {keys : List Key} {b later : List ℕ} {head : 
       whole (record { head = head; body = body }) asked (record { begins = subst (λ (l : List ℕ). Begins b head l) split begins; size = size; limit = limit }) asks.0 last took
 
   pub gets_unread : {why : Unread} → GetsBehind repository keys head later held taken taken' (Err why) → Gets repository keys b held taken taken' (Err why)
-  gets_unread (large is same) = fault BodyTooLarge false before_head (body_refused head later begins is, refl) (same ∙ onto_nothing taken)
+  gets_unread (large is same) = fault BodyTooLarge false before_head (body_refused head later begins is, refl) (same ∙ onto_none taken)
   gets_unread (breaks why limit is short took) = fault why (waits head) (behind_head head later begins limit) (inside_why begins why is limit short) took
   gets_unread (unsaid_behind limit waits_is took) = unsaid (subst (Reached b) waits_is (behind_head head later begins limit)) took
 
 -- no head was read
 module _ {repository : List ℕ} {keys : List Key} {b held : List ℕ} {taken : Option (List ℕ)} where
   pub head_fault : (why : HttpFault) → IsHeadFault why → HeadRead b held (Err why) → Gets repository keys b held taken taken (Err (Fault why))
-  head_fault Short is read = fault Short false before_head (inside_head read.0) (onto_nothing taken)
-  head_fault ReadFault is read = fault ReadFault false before_head (awaits_head read.0) (onto_nothing taken)
-  head_fault NoMemory is read = fault NoMemory false before_head tt (onto_nothing taken)
-  head_fault BadHead is read = fault BadHead false before_head (head_refused BadHead read.0, refl) (onto_nothing taken)
-  head_fault HeadTooLarge is read = fault HeadTooLarge false before_head (head_refused HeadTooLarge read.0, refl) (onto_nothing taken)
+  head_fault Short is read = fault Short false before_head (inside_head read.0) (onto_none taken)
+  head_fault ReadFault is read = fault ReadFault false before_head (awaits_head read.0) (onto_none taken)
+  head_fault NoMemory is read = fault NoMemory false before_head tt (onto_none taken)
+  head_fault BadHead is read = fault BadHead false before_head (head_refused BadHead read.0, refl) (onto_none taken)
+  head_fault HeadTooLarge is read = fault HeadTooLarge false before_head (head_refused HeadTooLarge read.0, refl) (onto_none taken)
   head_fault BodyTooLarge is read = absurd is
-  head_fault NoLength is read = fault NoLength false before_head (head_refused NoLength read.0, refl) (onto_nothing taken)
-  head_fault Coding is read = fault Coding false before_head (head_refused Coding read.0, refl) (onto_nothing taken)
+  head_fault NoLength is read = fault NoLength false before_head (head_refused NoLength read.0, refl) (onto_none taken)
+  head_fault Coding is read = fault Coding false before_head (head_refused Coding read.0, refl) (onto_none taken)
 
 -- a fault says the same whatever was to be made
 same_fault : {A B : Type 0} (P : List ℕ → A → Type 0) (Q : List ℕ → B → Type 0) (b held : List ℕ) (size : ℕ) (why : HttpFault) → BodyRead size P b held (Err why) → BodyRead size Q b held (Err why)
@@ -141,7 +138,7 @@ module _ {R : Type 0} (left : R → Option (List ℕ)) (looks : R → Look → T
   -- for a head
   pub asks_head : (w w' : WireView R) (taken passed : Option (List ℕ)) → passed ≡ taken → Looks left looks w w' (Beside passed IsAwaited) → Looks left looks w w' (IsAsking taken)
   asks_head w w' taken passed was first =
-      looks_as left looks w w' (Beside passed IsAwaited) (IsAsking taken) first (λ b passed' is. record { line = false; awaits = awaits_head is.0; said = is.1 ∙ was ∙ onto_nothing taken })
+      looks_as left looks w w' (Beside passed IsAwaited) (IsAsking taken) first (λ b passed' is. record { line = false; awaits = awaits_head is.0; said = is.1 ∙ was ∙ onto_none taken })
 
   -- for a body, where the line was said
   pub asks_body : (w w' : WireView R) (head : RequestHead) (taken passed : Option (List ℕ)) → body_size head ≤ body_limit head → passed ≡ onto taken (line_text (waits head))

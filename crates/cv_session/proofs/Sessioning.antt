@@ -5,8 +5,9 @@ use Rattle.std.specs.declared.option.Option.TheVariants.{Some, None}
 use Rattle.std.specs.List.{AllByRecursion}
 use Rattle.std.proofs.lemmas.List.{length-append, map-append}
 use Rattle.std.proofs.lemmas.Grind.{flat_map-append}
+use Rattle.cv_base.proofs.Laws.{all_push}
 use Rattle.cv_ports.specs.Streams.{Look, onto, Wrote}
-use Rattle.cv_ports.proofs.Laws.{onto_twice}
+use Rattle.cv_ports.proofs.Laws.{onto_twice, onto_none}
 use Rattle.cv_http.specs.Heads.{Begins}
 use Rattle.cv_http.specs.Replies.{continue_line}
 use Rattle.cv_http.specs.Wires.{WireView, Draws, Looks}
@@ -38,7 +39,6 @@ use Rattle.cv_session.specs.declared.session_end.SessionEnd.{SessionEnd}
 use Rattle.cv_session.specs.declared.session_end.SessionEnd.TheVariants.{Clean, Closed, Bad, WriteFault, NoMemory}
 use Rattle.cv_session.proofs.Endings.{end_of, goes_of, last_of}
 use Rattle.cv_session.proofs.Mades.{HasNone, HasMore, made_none, made_on}
-use Rattle.cv_session.proofs.Readings.{onto_nothing}
 use Rattle.cv_session.proofs.Writing.{code_legible}
 
 -- ---- one exchange more
@@ -55,10 +55,6 @@ turns_more es e = map-append (λ (x : Exchange). x.asked) es (e ∷ [])
 turns_count : (es : List Exchange) → length (turns es) ≡ length es
 turns_count [] = refl
 turns_count (e ∷ es) = ap suc (turns_count es)
-
-all_push : {T : Type 0} (P : T → Type 0) (xs : List T) (x : T) → AllByRecursion P xs → P x → AllByRecursion P (xs ++ x ∷ [])
-all_push P [] x all is = (is, tt)
-all_push P (y ∷ xs) x all is = (all.0, all_push P xs x all.1 is)
 
 -- ---- more bytes behind those that were read
 
@@ -131,7 +127,7 @@ begin does none repository keys seal Fit fits b o s = record {
   written_ = tt;
   opened = record { opens = refl; open_ = tt };
   number = refl;
-  said = onto_nothing o;
+  said = onto_none o;
   made = made_none does none s;
   reads = fits;
 }
@@ -212,7 +208,7 @@ module _ {K : Type 0} {does : K → List Call → K → Type 0} {repository : Li
         ends_here
         (by_bytes false Clean taken''
         (record { first = turns s.exchanges; rest = later; final = []; split = sym (append-nil (turns s.exchanges)); opens = s.opened.opens; ends_ = clean none })
-        (still ∙ none) s.opened.open_ (said_line false taken'' (same ∙ onto_nothing taken')))
+        (still ∙ none) s.opened.open_ (said_line false taken'' (same ∙ onto_none taken')))
 
     -- a fault is answered
     module _ (none : HasNone does) (why : HttpFault) (code : Code) (is_bad : IsBad later why) (has_code : code_of_fault why ≡ Some code) where
@@ -237,11 +233,11 @@ module _ {K : Type 0} {does : K → List Call → K → Type 0} {repository : Li
       breaks_refusing taken'' took =
           ends_beside [] (made_none does none after)
           (broken (refusing_one code) later taken'' s.opened (next_fault why code is_bad has_code refl) (refusal code)
-          (subst (λ (o : Option (List ℕ)). Wrote o taken'' (reply_of (Fixed code) true)) (said_line false taken' (onto_nothing taken')) took))
+          (subst (λ (o : Option (List ℕ)). Wrote o taken'' (reply_of (Fixed code) true)) (said_line false taken' (onto_none taken')) took))
 
     -- without the line nothing was taken
     no_line : {line : Bool} {taken1 : Option (List ℕ)} → line ≡ false → taken1 ≡ onto taken' (line_text line) → taken1 ≡ taken'
-    no_line {line} {taken1} is took = took ∙ ap (λ l. onto taken' (line_text l)) is ∙ sym (onto_nothing taken')
+    no_line {line} {taken1} is took = took ∙ ap (λ l. onto taken' (line_text l)) is ∙ sym (onto_none taken')
 
     -- the session ends where no turn was read
     by_fault_end : (none : HasNone does) {held : List ℕ} (why : HttpFault) (line : Bool) (taken1 taken2 : Option (List ℕ)) (end : SessionEnd) → Reached later line → IsWhy later line why → taken1 ≡ onto taken' (line_text line)

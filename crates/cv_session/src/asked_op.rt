@@ -13,7 +13,7 @@ ghost use Rattle.cv_session.specs.declared.turn.Turn.TheVariants.{Step};
 
 use crate::denial::Denial;
 use cv_answers::Reason;
-use cv_base::{Name, PathFault, RepoPath, Token};
+use cv_base::{Name, RepoPath, Token};
 use cv_gate::Op;
 use cv_keys::{Key, KeyTable};
 use cv_messages::{CommitAsk, LeaseAsk};
@@ -111,8 +111,10 @@ fn read_leased(alloc: Global, repository: &Name, text: &str) -> Result<RepoPath,
     };
     match RepoPath::read(alloc, path) {
         Ok(path) => Ok(path),
-        Err(PathFault::NoMemory) => Err(Denial::NoMemory),
-        Err(_) => Err(Denial::new(Reason::BadPath)),
+        Err(fault) => {
+            fault.unless_memory()?;
+            Err(Denial::new(Reason::BadPath))
+        }
     }
 }
 

@@ -1,6 +1,6 @@
 -- What was given for a question: what a client keeps of it, and why the question ended.
 use Rattle.std.proofs.Common.{◌≡◌, ◌⊎◌, ◌∷◌, ℕ, List, [], refl, sym, ap, subst, ◌∙◌, inl, inr, bytes_eq}
-use Rattle.std.specs.Prelude.{Option, Some, None, Result, Ok, Err, Contains}
+use Rattle.std.specs.Prelude.{Option, Some, None, Ok, Err, Contains}
 use Rattle.std.proofs.lemmas.List.Elements.{Contains-append_left, Contains-append_right, Contains-push}
 use Rattle.lru.specs.LruCache.{promoted, put_entries}
 use Rattle.lru.proofs.CallerLemmas.{Contains-promoted, Contains-put_entries}
@@ -13,13 +13,12 @@ use Rattle.cv_cut.proofs.Lemmas.{comes_from, goes_to}
 use Rattle.cv_resolver.specs.Giving.{Takes, TakesCatalogue, nothing, other, content, catalogue, opened, bad as undecoded, no_memory as no_room}
 use Rattle.cv_resolver.specs.Kept.{Kept, kept_bytes, used, with_catalogue}
 use Rattle.cv_resolver.specs.Progress.{Leads, Begins, StepsTo, waits, halts, goes_further, starts, no_memory as unbegun}
-use Rattle.cv_resolver.specs.Resolver.{Client, Asks, answer_by, answer_in, wanted_in}
+use Rattle.cv_resolver.specs.Resolver.{Client, Asks, answer_in, wanted_in}
 use Rattle.cv_resolver.specs.Stage.{IsBlameless, IsOfPeer, wanted_by}
 use Rattle.cv_resolver.specs.declared.question.Question.{Question}
 use Rattle.cv_resolver.specs.declared.stage.Stage.{Stage}
 use Rattle.cv_resolver.specs.declared.stage.Stage.TheVariants.{Walks, Reads, Ends}
 use Rattle.cv_resolver.specs.declared.walk.Walk.{Walk}
-use Rattle.cv_resolver.specs.declared.found.Found.{Found}
 use Rattle.cv_resolver.specs.declared.found.Found.TheVariants.{Bytes}
 use Rattle.cv_resolver.specs.declared.found.ClientFault.{ClientFault}
 use Rattle.cv_resolver.specs.declared.found.ClientFault.TheVariants as fault
@@ -27,6 +26,7 @@ use Rattle.cv_client.specs.Answer.{Given, Comes, stays, goes, bytes_in}
 use Rattle.cv_client.specs.Exchange.{Links}
 use Rattle.cv_client.specs.Fetch.{Fetches}
 use Rattle.cv_client.specs.declared.url.Url.{Url}
+use Rattle.cv_client.proofs.Lemmas.{ended_at}
 use Rattle.cv_shell.specs.Tells.{IsWhy, IsBlamed}
 
 -- ---- what is kept was given
@@ -135,12 +135,6 @@ begins_blameless (unbegun same is) = subst IsBlameless (sym is) (λ x. x)
 not_blameless : (stage : Stage) (f : ClientFault) → IsBlameless stage → stage ≡ Ends (Err f) → IsOfPeer f → ⊥
 not_blameless stage f quiet is of = subst IsBlameless is quiet of
 
--- the answer of a question is at its stage
-stage_of : (stage : Stage) (answer : Result Found ClientFault) → answer_by stage ≡ Some answer → stage ≡ Ends answer
-stage_of (Walks w) answer is = absurd cc
-stage_of (Reads hash) answer is = absurd cc
-stage_of (Ends given) answer is = (let e : given ≡ answer = cc in ap Ends e)
-
 why_opened : {repository : List ℕ} {q : Question} {k after : Kept} {w : Walk} {was stage : Stage} {bytes : List ℕ} {given : Option (List ℕ)} (id : ObjectId) (f : ClientFault) → TakesCatalogue repository q k w bytes after stage
     → was ≡ Walks w → given ≡ Some bytes → sha1 bytes ≡ w.spot.level.hash → wanted_by was ≡ Some id → stage ≡ Ends (Err f) → IsOfPeer f → IsWhy id was given f
 why_opened id f (opened c decodes leads) walks is digest wants ends of = absurd (not_blameless _ f (leads_blameless leads) ends of)
@@ -176,7 +170,7 @@ module _ {u : Url} where
   comes_blamed {l} {l'} {r} {r'} f of says (goes {mid = mid} a id given has wants fetched gives comes) =
       elim (comes_blamed f of says comes) [
         | inl same ↦
-            let ends : gives.stage ≡ Ends (Err f) = stage_of gives.stage (Err f) (sym (ap (λ (c : Client). answer_in c.asked) (same.0 ∙ gives.is)) ∙ says) in
+            let ends : gives.stage ≡ Ends (Err f) = ended_at gives.stage (Err f) (sym (ap (λ (c : Client). answer_in c.asked) (same.0 ∙ gives.is)) ∙ says) in
             inr (record {
               earlier = [];
               mid = l;
@@ -210,7 +204,7 @@ module _ {u : Url} where
   blamed_by {start = start} f of says asked comes =
       elim (comes_blamed f of says comes) [
         | inl same ↦
-            let ends : asked.stage ≡ Ends (Err f) = stage_of asked.stage (Err f) (sym (ap (λ (c : Client). answer_in c.asked) (same.0 ∙ asked.is)) ∙ says) in
+            let ends : asked.stage ≡ Ends (Err f) = ended_at asked.stage (Err f) (sym (ap (λ (c : Client). answer_in c.asked) (same.0 ∙ asked.is)) ∙ says) in
             absurd (not_blameless asked.stage f (begins_blameless asked.begins) ends of)
         | inr b ↦ b
       ]

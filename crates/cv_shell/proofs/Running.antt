@@ -3,7 +3,7 @@ use Rattle.std.proofs.Common.{◌≡◌, ◌++◌, ◌∷◌, ℕ, Bool, List, [
 use Rattle.std.proofs.lemmas.List.{flat_map_more}
 use Rattle.std.specs.Prelude.{Option, Some, None, Ok, Err}
 use Rattle.cv_ports.specs.Streams.{Look, front, onto}
-use Rattle.cv_ports.proofs.Laws.{front_twice, onto_twice}
+use Rattle.cv_ports.proofs.Laws.{front_twice, onto_twice, onto_none}
 use Rattle.cv_http.specs.Wires.{WireView, HasEnded, Draws, Looks, Beside}
 use Rattle.cv_resolver.specs.Resolver.{Client}
 use Rattle.cv_client.specs.Exchange.{Links}
@@ -23,11 +23,6 @@ next_more : {left left' : Option (List ℕ)} {rest line later : List ℕ} (more 
 next_more {left} {left'} {rest} {line} {later} more told (closed is split) = closed is (ap (λ (x : List ℕ). x ++ more) split ∙ append_assoc line (10 ∷ later) more)
 next_more {left} {left'} {rest} {line} {later} more told (last is some split none) =
     last is some (ap (λ (x : List ℕ). x ++ more) split ∙ append_assoc line later more) (subst HasEnded (ap (front later) told ∙ front_twice left' later more) none)
-
--- what was taken of a text and of nothing
-onto_nothing : (taken : Option (List ℕ)) → taken ≡ onto taken []
-onto_nothing None = refl
-onto_nothing (Some l) = ap (λ x. Some x) (sym (append-nil l))
 
 -- an end by a line isn't one by the input
 pub not_by_input : {is_seal : List ℕ → List ℕ → Bool} {u : Url} {line : List ℕ} {before after : Links} {c c' : Client} {taken taken' : Option (List ℕ)} {end : ShellEnd}
@@ -63,7 +58,7 @@ module _ (is_seal : List ℕ → List ℕ → Bool) (u : Url) (Fit : List Turn �
     pub reads : Fit turns
 
   pub at_first : (left : Option (List ℕ)) (b : List ℕ) → Fit [] → SoFar left b b l r taken
-  at_first left b reads = record { turns = []; runs = begins; took = onto_nothing taken; reads = reads }
+  at_first left b reads = record { turns = []; runs = begins; took = onto_none taken; reads = reads }
 
 module _ {is_seal : List ℕ → List ℕ → Bool} {u : Url} {l : Links} {r : Client} {left left' : Option (List ℕ)} {b : List ℕ} (more : List ℕ) (told : left ≡ front more left') where
   -- the same lines, where more is read behind them

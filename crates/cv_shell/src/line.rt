@@ -4,7 +4,7 @@ ghost use Rattle.cv_shell.specs.Line.{word_of, question_of, PathIn, Says};
 ghost use Rattle.cv_shell.specs.LineInner.{NoPathIn};
 ghost use Rattle.cv_shell.specs.declared.line.Line.{Line as TheLine};
 
-use cv_base::{NoMemory, PathFault, RepoPath};
+use cv_base::{NoMemory, RepoPath};
 use cv_resolver::Question;
 use std::alloc::Global;
 
@@ -72,8 +72,10 @@ fn read_path(alloc: Global, bytes: &[u8]) -> Result<Option<RepoPath>, NoMemory>
     };
     match RepoPath::read(alloc, text) {
         Ok(path) => Ok(Some(path)),
-        Err(PathFault::NoMemory) => Err(NoMemory),
-        Err(_) => Ok(None),
+        Err(fault) => {
+            fault.unless_memory()?;
+            Ok(None)
+        }
     }
 }
 

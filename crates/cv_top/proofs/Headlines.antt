@@ -2,6 +2,7 @@
 use Rattle.std.proofs.Common.{◌≡◌, ◌⊎◌, ◌<◌, ◌++◌, Bool, ℕ, List, [], ◌∷◌, refl, sym, ap, subst, ◌∙◌, inl, inr, arith, append_assoc}
 use Rattle.std.specs.declared.option.Option.{Option}
 use Rattle.std.specs.declared.option.Option.TheVariants.{None, Some}
+use Rattle.cv_base.specs.Token.{last_number}
 use Rattle.cv_vault.specs.Disk.{Disk, Files, Image, LeftAt, Mark, Settled, Torn, Moved, files_now}
 use Rattle.cv_vault.specs.Walks.{Within, Nothing}
 use Rattle.cv_vault.specs.Names.{on_way}
@@ -11,7 +12,6 @@ use Rattle.cv_swap.specs.Kept.{Kept, IsKept, raised}
 use Rattle.cv_swap.specs.Stands.{Stands as StandsKept}
 use Rattle.cv_swap.specs.Opening.{AsRaised, WhileOpening, before, after}
 use Rattle.cv_swap.proofs.Lemmas.{objects_added}
-use Rattle.cv_gate.specs.Step.{last_number}
 use Rattle.cv_gate.specs.Kept.{reopened}
 use Rattle.cv_gate.specs.Lives.{Life, ran, cut, Lives, Lived}
 use Rattle.cv_gate.specs.Desk.{DeskView, Call, Calls, asked}

@@ -2,6 +2,7 @@
 use Rattle.std.proofs.Common.{◌≡◌, ◌<◌, ◌≤◌, ◌++◌, ℕ, List, [], ◌∷◌, refl, sym, subst, ◌∙◌, arith, append-nil}
 use Rattle.std.specs.Prelude.{Option}
 use Rattle.cv_base.specs.Told.{WhereTold}
+use Rattle.cv_base.specs.Token.{last_number}
 use Rattle.cv_ports.specs.Streams.{Look}
 use Rattle.cv_keys.specs.declared.key.Key.{Key}
 use Rattle.cv_vault.specs.Disk.{Disk, Files, ImageOf, files_now}
@@ -12,7 +13,7 @@ use Rattle.cv_gate.specs.Desk.{DeskView, Call}
 use Rattle.cv_gate.specs.Kept.{reopened}
 use Rattle.cv_gate.specs.Solo.{AnswersAll}
 use Rattle.cv_gate.specs.State.{State}
-use Rattle.cv_gate.specs.Step.{last_number, Run}
+use Rattle.cv_gate.specs.Step.{Run}
 use Rattle.cv_gate.specs.Sound.{AreLeases}
 use Rattle.cv_gate.specs.declared.entry.Entry.{Entry}
 use Rattle.cv_desk.specs.Gate.{GateView, StandsFor, IsSameRepository, IsOpened, IsNew}

@@ -1,11 +1,11 @@
 //! Why a client prints nothing.
 ghost use Rattle.std.specs.Prelude.{◌≡◌, OnOk, IsErr};
 ghost use Rattle.cv_base.specs.Counts.{HasCause};
-ghost use Rattle.cv_base.specs.ObjectId.{suffix_of, id_text};
+ghost use Rattle.cv_base.specs.ObjectId.{id_text};
 ghost use Rattle.cv_ports.specs.Streams.{onto, Wrote};
 ghost use Rattle.cv_top.specs.Status.{look_text_of, served_text_of, object_text_of};
 
-use cv_base::{Kind, ObjectId, digest_digits};
+use cv_base::{ObjectId, digest_digits};
 use cv_ports::{Failed, Sink, write_all};
 
 /// Why there is no answer to a question about a path.
@@ -76,17 +76,6 @@ impl ServedFault {
     }
 }
 
-/// What follows the digits of an id.
-fn suffix(kind: Kind) -> &'static str
-    ensures { result.now ≡ suffix_of kind }
-{
-    match kind {
-        Kind::Plain => "",
-        Kind::Catalogue => "C",
-        Kind::History => "H",
-    }
-}
-
 /// Writes the text of an id: forty digits and its suffix.
 fn write_id<E: Sink>(errors: &mut E, id: ObjectId) -> Result<(), Failed>
     ensures whole { OnOk result (E.taken errors.new ≡ onto (E.taken errors.old) (id_text id)) }
@@ -94,5 +83,5 @@ fn write_id<E: Sink>(errors: &mut E, id: ObjectId) -> Result<(), Failed>
     ensures cause { HasCause (E.faults errors.old) (E.faults errors.new) (IsErr result) }
 {
     write_all(errors, digest_digits(&id.hash).as_slice())?;
-    write_all(errors, suffix(id.kind).as_bytes())
+    write_all(errors, id.kind.suffix().as_bytes())
 }

@@ -1,6 +1,6 @@
 -- The command line by what clap finds in it.
 use Rattle.std.proofs.Common.{◌≡◌, List, [], ◌∷◌, Option, Some, None, refl, sym, ap, subst, ◌∙◌}
-use Rattle.std.specs.Prelude.{Box, IsErrAnd, Result, Ok, Err, option_map}
+use Rattle.std.specs.Prelude.{Box, option_map}
 use Rattle.std.specs.Box.{box_value}
 use Rattle.clap.specs.Walk.{Row, Text}
 use Rattle.clap.specs.Simple.{subcommand_of, subcommand_rows}
@@ -87,8 +87,3 @@ pub takes_commands : (words : List Text) → IsCommand words → fault_of progra
 takes_commands words is =
     let a = is.asks in
     ap (fault_of program) a.split ∙ takes_means a.verb a.rest a.values a.are is.command a.means
-
--- `?` passes a fault on as it is
-pub one_fault : {A E : Type 0} (r : Result A E) (fault other : E) → IsErrAnd r (λ e. e ≡ fault) → r ≡ Err other → fault ≡ other
-one_fault (Ok x) fault other is same = absurd is
-one_fault (Err e) fault other is same = let there : e ≡ other = cc in sym is ∙ there

@@ -11,7 +11,7 @@ ghost use Rattle.cv_words.specs.declared.words.WordsFault.TheVariants as faults;
 ghost use Rattle.cv_words.specs.declared.words.WordsFault.TheVariants.{Usage};
 
 use crate::program::{match_words, read_given};
-use cv_base::{Name, NoMemory, PathFault, RepoPath, Text, ends_in_marker};
+use cv_base::{Name, NoMemory, RepoPath, Text, ends_in_marker};
 use cv_client::Url;
 use cv_resolver::Question;
 use std::alloc::Global;
@@ -72,8 +72,10 @@ fn read_path(alloc: Global, word: &str) -> Result<RepoPath, WordsFault>
 {
     match RepoPath::read(alloc, word) {
         Ok(path) => Ok(path),
-        Err(PathFault::NoMemory) => Err(WordsFault::NoMemory),
-        Err(_) => Err(WordsFault::Usage),
+        Err(fault) => {
+            fault.unless_memory()?;
+            Err(WordsFault::Usage)
+        }
     }
 }
 

@@ -1,12 +1,12 @@
 use Rattle.std.proofs.Common.{◌≡◌, sym, ap, subst, ◌∙◌, arith}
 use Rattle.std.specs.Prelude.{Option, List, ℕ, Some, Err, option_to_list}
 use Rattle.cv_base.specs.Counts.{Rose}
+use Rattle.cv_base.proofs.Laws.{one_fault, left_by}
 use Rattle.cv_resolver.specs.Look.{OnWay}
 use Rattle.cv_resolver.specs.Resolver.{Gives, IsOn}
 use Rattle.cv_tree.specs.Tree.{Nodes}
 use Rattle.cv_resolver.specs.Kept.{AreOwn}
 use Rattle.cv_resolver.specs.declared.resolver.Asked.{Asked}
-use Rattle.cv_cut.proofs.Lemmas.{left_by}
 use Rattle.cv_client.specs.GivingInner.{GivesAll, all, cut}
 use Rattle.cv_client.specs.Served.{HasObject}
 use Rattle.cv_client.specs.ServedInner.{IsSupplied}
@@ -14,7 +14,7 @@ use Rattle.cv_client.specs.declared.exchanging.ExchangeFault.{ExchangeFault}
 use Rattle.cv_client.specs.declared.exchanging.ExchangeFault.TheVariants.{LinkFailed}
 use Rattle.cv_client.proofs.Coming.{begins, goes_on, fewer_left, asked_still, named_still}
 use Rattle.cv_client.proofs.Lemmas.{asks_none, asks_then}
-use Rattle.cv_client.proofs.Supplying.{one_supplied, one_fault, unsupplied}
+use Rattle.cv_client.proofs.Supplying.{one_supplied, unsupplied}
 use Rattle.cv_client.proofs.Telling.{extends_none, extends_then, fetch_extends, served_first, served_next}
 use Rattle.cv_client.proofs.answering.give_all.Goals as goal
 

@@ -1,5 +1,6 @@
 use Rattle.std.proofs.Common.{ℕ, ◌+◌, List, [], ◌∷◌, ◌++◌, Result, Ok, Err, ap, sym, subst, ◌∙◌, arith}
 use Rattle.cv_base.specs.Path.{Path}
+use Rattle.cv_base.proofs.Laws.{left_by}
 use Rattle.cv_ports.specs.declared.folder.FolderItem.{FolderItem}
 use Rattle.cv_tree.specs.Changes.{FitsUnder}
 use Rattle.cv_overlay.specs.declared.event.Event.{Event}
@@ -7,7 +8,7 @@ use Rattle.cv_overlay.specs.EventsInner.{placed_all, visits_of, visits_deep}
 use Rattle.cv_overlay.specs.Walk.{takes}
 use Rattle.cv_overlay.specs.FoundInner.{FoundView, run, Ends}
 use Rattle.cv_overlay.specs.declared.read_fault.ReadFault.{ReadFault}
-use Rattle.cv_overlay.proofs.Walks.{listed, item_visited, fits_more, below_walked, below_refused, as_deeper, place_below, some_left, takes_so, left_by}
+use Rattle.cv_overlay.proofs.Walks.{listed, item_visited, fits_more, below_walked, below_refused, as_deeper, place_below, some_left, takes_so}
 use Rattle.cv_overlay.proofs.reading.+walk.Goals as goal
 
 pub events-init : goal.events-init

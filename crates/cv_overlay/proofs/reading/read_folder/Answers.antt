@@ -1,11 +1,12 @@
 use Rattle.std.proofs.Common.{Result, sym, subst}
+use Rattle.cv_base.proofs.Laws.{left_by}
 use Rattle.cv_tree.specs.Changes.{FitsUnder}
 use Rattle.cv_tree.specs.Tree.{Nodes}
 use Rattle.cv_overlay.specs.Changes.{ChangesView}
 use Rattle.cv_overlay.specs.Walk.{Reads}
 use Rattle.cv_overlay.specs.declared.read_fault.ReadFault.{ReadFault}
 use Rattle.cv_overlay.proofs.Runs.{fits_first}
-use Rattle.cv_overlay.proofs.Walks.{left_by, root_place, read_whole, read_first}
+use Rattle.cv_overlay.proofs.Walks.{root_place, read_whole, read_first}
 use Rattle.cv_overlay.proofs.reading.read_folder.Goals as goal
 
 pub returns-in_err-found-clause-told : goal.returns-in_err-found-clause-told

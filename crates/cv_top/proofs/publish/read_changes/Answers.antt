@@ -1,5 +1,5 @@
 use Rattle.std.proofs.Common.{◌∙◌}
-use Rattle.cv_cut.proofs.Lemmas.{left_by}
+use Rattle.cv_base.proofs.Laws.{left_by}
 use Rattle.cv_top.specs.Publishes.{ReadsRoot, rooted, unrooted}
 use Rattle.cv_top.proofs.publish.read_changes.Goals as goal
 

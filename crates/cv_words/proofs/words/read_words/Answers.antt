@@ -3,11 +3,12 @@ use Rattle.std.specs.Prelude.{string_bytes}
 use Rattle.std.proofs.lemmas.Result.{IfOk-weaker}
 use Rattle.clap.specs.Walk.{Text, texts}
 use Rattle.clap.specs.Words.{subcommand_rows_of}
+use Rattle.cv_base.proofs.Laws.{one_fault}
 use Rattle.cv_words.specs.Words.{Means, Asks}
 use Rattle.cv_words.specs.declared.words.WordsFault.{WordsFault}
 use Rattle.cv_words.specs.declared.words.WordsFault.TheVariants.{Usage}
 use Rattle.cv_words.proofs.Forms.{strings_are_texts}
-use Rattle.cv_words.proofs.Reading.{asks_by, means_by, one_fault, some_found, takes_commands}
+use Rattle.cv_words.proofs.Reading.{asks_by, means_by, some_found, takes_commands}
 use Rattle.cv_words.proofs.words.read_words.Goals as goal
 
 pub returns-in_err-matches-clause-usage : goal.returns-in_err-matches-clause-usage
