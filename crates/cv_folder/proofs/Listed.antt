@@ -8,8 +8,9 @@ use Rattle.std.proofs.lemmas.Cmp.{eq_by_cmp_equiv}
 use Rattle.std.proofs.lemmas.List.Elements.{All-contains, All-contains_itself, All-nil, All-push}
 use Rattle.std.proofs.lemmas.List.Kept.{Contains-dedup, Contains-from_dedup, IsStrictlySortedBy-dedup}
 use Rattle.std.proofs.lemmas.List.Sorted.{Contains-permutation, IsPermutation-sym}
-use Rattle.cv_base.specs.Path.{name_cmp, same_name}
+use Rattle.cv_base.specs.Path.{same_name}
 use Rattle.cv_base.specs.PathOrder.{same_name_is}
+use Rattle.cv_base.specs.BytesOrder.{bytes_cmp}
 use Rattle.cv_folder.specs.declared.hold.Hold.{Hold}
 use Rattle.cv_folder.specs.declared.hold.Hold.TheVariants.{Absent, Refused, Unasked}
 use Rattle.cv_system.specs.Calls.{Log}
@@ -26,7 +27,7 @@ module _ (found sorted : List (List ℕ)) (moved : IsPermutation found sorted) w
     λ has. Contains-dedup (eq_by_cmp_equiv nat_list_cmp_total) same_name_is sorted text (Contains-permutation found sorted text moved has),
   )
 
-pub ascending : (sorted : List (List ℕ)) → IsSorted name_cmp sorted → IsStrictlySortedBy name_cmp (dedup same_name sorted)
+pub ascending : (sorted : List (List ℕ)) → IsSorted bytes_cmp sorted → IsStrictlySortedBy bytes_cmp (dedup same_name sorted)
 ascending sorted h = IsStrictlySortedBy-dedup nat_list_cmp_total (λ x y. refl) sorted h
 
 -- with one name more that begins with the prefix, each of them does
@@ -39,7 +40,7 @@ all_begin prefix found texts same begin k d within =
     All-contains (λ name. IsTrue (starts_with (λ a b. a == b) name prefix)) found (get_or texts k d) begin ((same (get_or texts k d)).0 (All-contains_itself texts k d within))
 
 -- what was found, in its order, is a listing
-pub listed : (prefix : List ℕ) (found texts : List (List ℕ)) → IsStrictlySortedBy name_cmp texts → ((text : List ℕ) → Contains texts text ↔ Contains found text) → AllBegin prefix found → IsListed prefix texts
+pub listed : (prefix : List ℕ) (found texts : List (List ℕ)) → IsStrictlySortedBy bytes_cmp texts → ((text : List ℕ) → Contains texts text ↔ Contains found text) → AllBegin prefix found → IsListed prefix texts
 listed prefix found texts ascend same begin = (ascend, all_begin prefix found texts same begin)
 
 -- without a name nothing is listed

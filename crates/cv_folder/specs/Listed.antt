@@ -3,7 +3,7 @@ use Rattle.std.specs.Prelude.{ℕ, ◌≡◌, ◌⊎◌, ◌==◌, ◌+◌, ◌+
 use Rattle.std.specs.List.{All, starts_with}
 use Rattle.std.specs.List.Sorted.{IsStrictlySortedBy}
 use Rattle.std.specs.declared.io.ErrorKind.TheVariants.{InvalidInput, TimedOut}
-use Rattle.cv_base.specs.Path.{name_cmp}
+use Rattle.cv_base.specs.BytesOrder.{bytes_cmp}
 use Rattle.cv_folder.specs.declared.hold.Hold.{Hold}
 use Rattle.cv_folder.specs.declared.hold.Hold.TheVariants.{Absent, Refused, Unasked}
 use Rattle.cv_system.specs.declared.seen.Kind.{Kind}
@@ -23,7 +23,7 @@ AllBegin prefix names = All (λ name. IsTrue (starts_with (λ a b. a == b) name 
 
 -- a listing: names that begin with the prefix, in ascending order of their bytes, each once
 abbrev pub IsListed : List ℕ → List (List ℕ) → Type 0
-IsListed prefix names = IsStrictlySortedBy name_cmp names × AllBegin prefix names
+IsListed prefix names = IsStrictlySortedBy bytes_cmp names × AllBegin prefix names
 
 -- a path begins so
 abbrev pub IsBehind : List ℕ → List ℕ → Type 0

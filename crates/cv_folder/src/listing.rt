@@ -2,7 +2,8 @@
 ghost use Rattle.std.specs.Prelude.{◌≡◌, ◌==◌, ◌↔◌, ◌⊎◌, ◌++◌, ◌∷◌, [], ℕ, List, IfOk, IfErr, IfSome, IsOk, IsSome, Err, string_bytes};
 ghost use Rattle.std.specs.List.{All, Contains, starts_with};
 ghost use Rattle.std.specs.List.Sorted.{IsStrictlySortedBy};
-ghost use Rattle.cv_base.specs.Path.{name_cmp, same_name};
+ghost use Rattle.cv_base.specs.Path.{same_name};
+ghost use Rattle.cv_base.specs.BytesOrder.{bytes_cmp};
 ghost use Rattle.cv_folder.specs.Listed.{AllBegin, FailsListing, IsListed, IsListing, ListsFiles};
 ghost use Rattle.cv_folder.specs.ListedInner.{AddsFolder, AddsName, AddsSeen, GoesOrEnds, ListsOn, StandsHere};
 ghost use Rattle.cv_system.specs.Calls.{IsWant, cause_of};
@@ -28,7 +29,7 @@ fn begins(name: &str, prefix: &str) -> bool
 
 /// How two texts are ordered by their bytes.
 fn text_order(one: &Text, other: &Text) -> Ordering
-    ensures { result ≡ name_cmp one.now other.now }
+    ensures { result ≡ bytes_cmp one.now other.now }
 {
     one.as_str().cmp(other.as_str())
 }
@@ -44,7 +45,7 @@ fn is_same_text(one: &mut Text, other: &mut Text) -> bool
 
 /// These texts in ascending order of their bytes, each once.
 fn in_order(found: Vec<Text>) -> Vec<Text>
-    ensures ascending { IsStrictlySortedBy name_cmp result.items }
+    ensures ascending { IsStrictlySortedBy bytes_cmp result.items }
     ensures same { (text : List ℕ) → Contains result.items text ↔ Contains found.items text }
 {
     let mut texts = found;
