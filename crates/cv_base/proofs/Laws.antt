@@ -6,12 +6,12 @@ pub use Rattle.cv_base.proofs.Digests.{IsByte, digest_sha1, byte_small, bytes_at
 pub use Rattle.cv_base.proofs.FileNames.{one_id_text, one_file_name, same_digits}
 pub use Rattle.cv_base.proofs.IdTexts.{length-digits}
 pub use Rattle.cv_base.proofs.SameKinds.{same_kind-eq, same_kind-own}
-pub use Rattle.cv_base.proofs.PathGrammar.{text_of-injective, Spells-path_of, path_of-Spells}
+pub use Rattle.cv_base.proofs.PathGrammar.{text_of-injective, Spells-path_of}
 pub use Rattle.cv_base.proofs.Bools.{first_true, second_true}
 pub use Rattle.cv_base.proofs.Decimals.{decimal-no_dash}
 pub use Rattle.cv_base.proofs.Parts.{same_parts}
 pub use Rattle.cv_base.proofs.PathPrefixes.{behind-Some, behind-append, eq_by_cmp-append, is_behind, overlap-from_covers}
-pub use Rattle.cv_base.proofs.FieldLaws.{bind_ok, guard_ok, guard_ended, passes, ok_is, accepted_ok, IsBytes-drop, IsBytes-take, Takes-then, wide16, wide32, wide64, number_takes, number_again, bytes_take, bytes_again}
+pub use Rattle.cv_base.proofs.FieldLaws.{bind_ok, guard_ended, passes, ok_is, accepted_ok, IsBytes-drop, IsBytes-take, Takes-then, wide16, wide32, wide64, number_takes, number_again, bytes_take, bytes_again}
 pub use Rattle.cv_base.proofs.NamedPaths.{IsNamed, path_named-own, path_named-is}
 pub use Rattle.cv_base.proofs.Sets.{contains-more}
 pub use Rattle.cv_base.proofs.SameIds.{same_id-eq, same_id-own}

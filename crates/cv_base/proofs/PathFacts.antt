@@ -1,5 +1,5 @@
 -- Facts of paths: the last name, the path above it, and paths that begin with others.
-use Rattle.std.proofs.Common.{◌≡◌, ℕ, ltb, Bool, true, false, cond, List, [], ◌∷◌, ◌++◌, length, Option, Some, None, Ok, is_some, refl, sym, ap, subst, ◌∙◌, arith, length-append, append_assoc}
+use Rattle.std.proofs.Common.{◌≡◌, ℕ, ltb, true, false, cond, List, [], ◌∷◌, ◌++◌, length, Some, None, Ok, is_some, refl, sym, ap, ◌∙◌, arith, length-append}
 use Rattle.std.specs.List.{list_all}
 use Rattle.std.specs.declared.cmp.Ordering.TheVariants.{Less, Equal, Greater}
 use Rattle.std.specs.Ordering.{is_eq, is_lt, ordering_reverse, ordering_then}
@@ -12,7 +12,7 @@ use Rattle.cv_base.specs.PathText.{joined}
 use Rattle.cv_base.specs.PathOrder.{path_total}
 use Rattle.cv_base.proofs.Bools.{first_true, second_true}
 use Rattle.cv_base.proofs.Parts.{same_parts}
-use Rattle.cv_base.proofs.PathPrefixes.{behind-Some, behind-append}
+use Rattle.cv_base.proofs.PathPrefixes.{behind-Some}
 
 -- ---- the last name
 

@@ -20,8 +20,6 @@ use Rattle.cv_tree.specs.declared.node.Node.{Node}
 use Rattle.cv_rows.specs.Catalogue.{Contents, IsCatalogue}
 use Rattle.cv_rows.specs.Places.{StandsAt}
 use Rattle.cv_rows.specs.declared.row.Row.{Row}
-use Rattle.cv_rows.specs.declared.nested.Nested.{Nested}
-use Rattle.cv_cut.proofs.Lemmas.{none_there, transition_of}
 use Rattle.cv_cut.specs.Told.{node_of}
 use Rattle.cv_rows.proofs.Lemmas.{one_place, stands_contained}
 use Rattle.cv_load.specs.Growth.{IsRootOf, IsRowNode}
@@ -29,9 +27,6 @@ use Rattle.cv_load.proofs.Lemmas.{each_all, each_more}
 use Rattle.cv_checkout.specs.GrowingInner.{AreNodes, AreThere, IsGrown, KeepLimits}
 use Rattle.cv_checkout.specs.Progress.{ComesTo, StartsFrom}
 use Rattle.cv_checkout.proofs.Zips.{zip_push}
-
-pub transition_there : (c : Contents) (n : Nested) → IsCatalogue c → Contains c.nested n → ((r : Row) → StandsAt c.at c.rows r n.path → ⊥) → ⊥
-transition_there c n is has none = let t = transition_of c n is has in none t.0 t.1.stands
 
 -- ---- the elements that pass, as far as a loop has come
 
@@ -58,13 +53,6 @@ pub record AreNodesOf (p : Path) (c : Contents) (i : ℕ) (nodes : List (Path ×
   pub each : (e : Path × Node) → Contains nodes e → IsRowNode c.at c.rows e.0 e.1
   pub all : (k : ℕ) (d : Row) → k < i → HasNodes p c nodes (get_or c.rows k d)
   pub limits : KeepLimits nodes
-
-pub no_nodes : (p : Path) (c : Contents) → AreNodesOf p c 0 []
-no_nodes p c = record {
-  each = λ e has. absurd (none_there e has);
-  all = λ k d lt. absurd (omega arith);
-  limits = λ e has. absurd (none_there e has);
-}
 
 module _ (p : Path) (c : Contents) (i : ℕ) (nodes : List (Path × Node)) (r : Row) (q : Path) (is : IsCatalogue c) (lt : i < length c.rows) (item : r ≡ get_or c.rows i r) (stands : StandsAt c.at c.rows r q) (before : AreNodesOf p c i nodes) where
   pub node_pushed : (n : Node) → n ≡ node_of r → IsNode n → AreNodesOf p c (i + 1) (nodes ++ (q, n) ∷ [])
@@ -103,12 +91,6 @@ pub record Adds (nodes : List (Path × Node)) (old new : Nodes) (i : ℕ) : Type
   pub grown : IsGrown nodes old new
   pub there : (k : ℕ) (d : Path × Node) → k < i → IsThere new (get_or nodes k d)
 
-pub adds_none : (nodes : List (Path × Node)) (t : Nodes) → Adds nodes t t 0
-adds_none nodes t = record {
-  grown = record { grows = λ q n e. e; comes = λ q n e. inl e };
-  there = λ k d lt. absurd (omega arith);
-}
-
 pub absent : (found : Option (Bor Node)) (o : Option Node) (b : Bool) → option_copied found ≡ o → is_some found ≡ not b → b ≡ true → o ≡ None
 absent None o b copied test h = sym copied
 absent (Some n) o b copied test h = absurd (let wrong : true ≡ false = test ∙ ap not h in cc)
@@ -140,9 +122,6 @@ module _ (nodes : List (Path × Node)) (old t : Nodes) (i : ℕ) (e : Path × No
             (λ k d less. (let m = some_there (get t (get_or nodes k d).0) (before.there k d less) in ap is_some (kept (get_or nodes k d).0 m.0 m.1)))
             lt item (ap is_some (at_q e.0) ∙ ap (λ (b : Bool). is_some (cond b (Some e.1) (get t e.0))) (ap is_eq (tied_itself path_total e.0)));
       }
-
-pub adds_all : (nodes : List (Path × Node)) (old new : Nodes) (i : ℕ) → length nodes ≤ i → Adds nodes old new i → AreThere nodes new
-adds_all nodes old new i le adds e has = each_all (IsThere new) nodes (λ k d lt. adds.there k d (omega (arith, lt, le))) e has
 
 -- ---- where they come to
 

@@ -118,10 +118,6 @@ unread request c NoMemory took lost ended = no_memory (whole_front request c too
 
 -- a count that may have been raised when a link came back
 module _ (before mid : ℕ) (later : before ≤ mid) where
-  same_or_raised : (b : Bool) → Rose 0 before (if b then raised mid else mid)
-  same_or_raised true = omega (arith, later)
-  same_or_raised false = omega (arith, later)
-
   raised_by_one : (a b : Bool) → (a ≡ true) ⊎ (b ≡ true) → Rose 1 before (if a || b then raised mid else mid)
   raised_by_one true b some = omega (arith, later)
   raised_by_one false true some = omega (arith, later)
@@ -131,10 +127,6 @@ module _ (before mid : ℕ) (later : before ≤ mid) where
   some_fault : {reads writes : ℕ} → Rose 1 0 reads ⊎ Rose 1 0 writes → (nat_lt 0 reads ≡ true) ⊎ (nat_lt 0 writes ≡ true)
   some_fault {reads} (inl rose) = inl (lt-ltb 0 reads (omega (arith, rose)))
   some_fault {reads} {writes} (inr rose) = inr (lt-ltb 0 writes (omega (arith, rose)))
-
--- it didn't fall
-pub back_later : (before mid after reads writes : ℕ) → before ≤ mid → after ≡ after_back reads writes mid → Rose 0 before after
-back_later before mid after reads writes later counted = subst (λ (x : ℕ). Rose 0 before x) (sym counted) (same_or_raised before mid later (nat_lt 0 reads || nat_lt 0 writes))
 
 -- and rose where one of the link's halves counted a fault
 pub back_rose : (before mid after reads writes : ℕ) → before ≤ mid → Rose 1 0 reads ⊎ Rose 1 0 writes → after ≡ after_back reads writes mid → Rose 1 before after

@@ -17,7 +17,7 @@ use Rattle.cv_rows.specs.Made.{AreApart}
 use Rattle.cv_cut.specs.Cuts.{cuts_of, is_cut, region}
 use Rattle.cv_cut.specs.Catalogues.{IsInRegion, SharesKey}
 use Rattle.cv_cut.specs.Cut.{keys_at, region_at}
-use Rattle.cv_cut.specs.CutInner.{AreSame, ShareKey, IsCollision, IsCutFault, IsFirstFault}
+use Rattle.cv_cut.specs.CutInner.{AreSame, ShareKey, IsCollision, IsCutFault}
 use Rattle.cv_cut.specs.Piece.{cuts_within}
 use Rattle.cv_cut.specs.PieceInner.{AreCutsWithin, IsFaultAmong, IsSharedAmong}
 use Rattle.cv_cut.specs.Region.{KeysApart}
@@ -194,11 +194,6 @@ pub cut_fault : (t : Nodes) (cuts : List Path) (fault : CutFault) → IsFaultAmo
 cut_fault t cuts (PathCollision p q) h = h.0
 cut_fault t cuts (CatalogueFull d) h = h.0
 cut_fault t cuts NoMemory h = tt
-
-pub shared_first : (t : Nodes) (cuts : List Path) (fault : CutFault) → IsSharedAmong t cuts fault → IsFirstFault t fault
-shared_first t cuts (PathCollision p q) h = h.0
-shared_first t cuts (CatalogueFull d) h = absurd h
-shared_first t cuts NoMemory h = tt
 
 -- a fault that is handed on
 pub handed_on : {X : Type 0} (P : CutFault → Type 0) (r : Result X CutFault) (fault : CutFault) → IsErrAnd r (λ f. f ≡ fault) → P fault → IfErr r P

@@ -3,7 +3,7 @@ use Rattle.std.proofs.Common.{◌≡◌, ◌≢◌, Bool, true, false, not, ◌&
 use Rattle.std.proofs.lemmas.List.{map-append}
 use Rattle.std.proofs.lemmas.List.Folds.{list_all-append}
 use Rattle.std.specs.List.{list_all}
-use Rattle.cv_base.specs.Path.{Path, parent, key_of, parent_key_of, last_name_of}
+use Rattle.cv_base.specs.Path.{Path, key_of, parent_key_of, last_name_of}
 use Rattle.cv_base.proofs.Laws.{first_true, second_true, parent-append}
 use Rattle.cv_tree.specs.Tree.{Nodes}
 use Rattle.cv_cut.specs.Cuts.{between, is_near, is_marked}

@@ -60,12 +60,6 @@ module _ (t n : Nodes) (p c r d v : Path) (g : Grafting t n p c r d v) where
   abbrev pub grafted : Nodes
   grafted = put t p (at n p)
 
-  abbrev cut_nodes : Nodes
-  cut_nodes = at t c
-
-  abbrev other_nodes : Nodes
-  other_nodes = at n d
-
   pub holders : AreHolders c (at t c) r d (at n d) v
   holders = record {
     path = sym g.holds.is ∙ g.held.is;

@@ -4,12 +4,10 @@ use Rattle.std.specs.Prelude.{IfSome, max}
 use Rattle.cv_gate.specs.State.{State}
 use Rattle.cv_gate.specs.Step.{Step, Run}
 use Rattle.cv_gate.specs.declared.entry.Entry.{Entry}
-use Rattle.cv_gate.specs.declared.op.Op.{Op}
 use Rattle.cv_gate.specs.declared.reply.Reply.{Reply}
-use Rattle.cv_gate.specs.declared.reply.Reply.TheVariants.{JournalFull}
 use Rattle.cv_gate.specs.Lines.{lines_of}
 use Rattle.cv_gate.specs.Heads.{head_of, heads_since, last_head}
-use Rattle.cv_gate.specs.Desk.{DeskView, Call, asked, listed, fetched, told, Between, Knows, Learns, Takes, made, full, Finds, Tells, Does, Calls, journal_limit}
+use Rattle.cv_gate.specs.Desk.{DeskView, Call, asked, listed, fetched, told, Knows, Learns, made, full, Finds, Does, Calls, journal_limit}
 use Rattle.cv_gate.specs.Solo.{IsAlone, Answers, AnswersAll, Makes, steps, lists, fetches, tells}
 use Rattle.cv_gate.specs.Solo.{full as answers_full}
 use Rattle.cv_gate.proofs.Runs.{run_on, last_of_part}

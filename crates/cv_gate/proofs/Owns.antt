@@ -1,18 +1,14 @@
 -- The entries of a desk's own calls.
-use Rattle.std.proofs.Common.{◌≡◌, ◌++◌, ◌∷◌, ℕ, List, [], refl, ap, sym, subst, ◌∙◌, append_assoc, append-nil, rules, true, cond}
+use Rattle.std.proofs.Common.{◌≡◌, ◌++◌, ◌∷◌, ℕ, List, [], ap, sym, subst, ◌∙◌, append_assoc, append-nil, rules, true, cond}
 use Rattle.std.specs.Prelude.{◌==◌}
-use Rattle.std.specs.List.{filter}
 use Rattle.std.proofs.lemmas.List.Elements.{filter-append}
-use Rattle.cv_gate.specs.Step.{Records}
 use Rattle.cv_gate.specs.declared.entry.Entry.{Entry}
-use Rattle.cv_gate.specs.declared.op.Op.{Op}
 use Rattle.cv_gate.specs.declared.reply.Reply.{Reply}
-use Rattle.cv_gate.specs.declared.reply.Reply.TheVariants.{JournalFull}
 use Rattle.cv_gate.specs.Heads.{IsFront}
-use Rattle.cv_gate.specs.Desk.{DeskView, Call, asked, listed, fetched, told, by_seat, own, Between, Knows, Learns, Takes, made, full, Does, Calls}
+use Rattle.cv_gate.specs.Desk.{DeskView, Call, asked, listed, fetched, told, by_seat, own, Knows, Learns, made, full, Does, Calls}
 use Rattle.cv_gate.specs.Own.{AreOf, nothing, entered, listing, fetching, telling, Adds}
 use Rattle.cv_gate.specs.Own.{full as none_for}
-use Rattle.cv_gate.proofs.Runs.{front_self, front_trans}
+use Rattle.cv_gate.proofs.Runs.{front_trans}
 
 -- what one call adds
 record AddsOne (v : DeskView) (c : Call) (v' : DeskView) : Type 0 where

@@ -1,7 +1,7 @@
 -- What a desk is asked, what it answers, and how it comes to know the journal meanwhile.
 use Rattle.std.specs.Prelude.{◌≡◌, ◌++◌, ◌∷◌, ◌==◌, ◌≤◌, ◌<◌, ◌^◌, ℕ, List, [], length, max, Bool, true, Option, IfSome, Result, Ok, Err}
 use Rattle.std.specs.List.{filter, flat_map, sum_by}
-use Rattle.std.specs.declared.option.Option.TheVariants.{None, Some}
+use Rattle.std.specs.declared.option.Option.TheVariants.{Some}
 use Rattle.cv_base.specs.declared.id.ObjectId.{ObjectId}
 use Rattle.cv_ports.specs.Shelf.{Shelf}
 use Rattle.cv_ports.specs.declared.shelf.ShelfFault.{ShelfFault}

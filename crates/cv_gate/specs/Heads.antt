@@ -1,7 +1,7 @@
 -- The heads of revisions.
-use Rattle.std.specs.Prelude.{◌≡◌, ◌++◌, ◌-◌, ℕ, List, [], length, drop, map, Option}
+use Rattle.std.specs.Prelude.{◌≡◌, ◌++◌, ◌-◌, List, length, drop, map, Option}
 use Rattle.std.specs.List.{last_or}
-use Rattle.std.specs.declared.option.Option.TheVariants.{None, Some}
+use Rattle.std.specs.declared.option.Option.TheVariants.{None}
 use Rattle.cv_manifest.specs.declared.head.Head.{Head}
 use Rattle.cv_gate.specs.State.{State}
 pub use Rattle.cv_swap.specs.Kept.{head_of}

@@ -3,7 +3,6 @@ use Rattle.std.specs.Prelude.{◌≡◌, ◌++◌, ◌∷◌, ℕ, List, [], ◌
 use Rattle.cv_gate.specs.Step.{Records}
 use Rattle.cv_gate.specs.declared.entry.Entry.{Entry}
 use Rattle.cv_gate.specs.declared.op.Op.{Op}
-use Rattle.cv_gate.specs.declared.reply.Reply.{Reply}
 use Rattle.cv_gate.specs.declared.reply.Reply.TheVariants.{JournalFull}
 use Rattle.cv_gate.specs.Heads.{IsFront}
 use Rattle.cv_gate.specs.Desk.{DeskView, Call, asked, listed, fetched, told, own}

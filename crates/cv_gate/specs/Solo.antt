@@ -7,7 +7,6 @@ use Rattle.cv_swap.specs.Kept.{newest}
 use Rattle.cv_gate.specs.Step.{Step, Run}
 use Rattle.cv_gate.specs.declared.entry.Entry.{Entry}
 use Rattle.cv_gate.specs.declared.op.Op.{Op}
-use Rattle.cv_gate.specs.declared.reply.Reply.{Reply}
 use Rattle.cv_gate.specs.declared.reply.Reply.TheVariants.{JournalFull}
 use Rattle.cv_gate.specs.Heads.{head_of, heads_since}
 use Rattle.cv_gate.specs.Desk.{DeskView, Call, asked, listed, fetched, told, Finds, journal_limit}

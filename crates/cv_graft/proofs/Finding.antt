@@ -31,7 +31,7 @@ use Rattle.cv_cut.specs.declared.load_fault.LoadFault.{LoadFault}
 use Rattle.cv_rows.specs.Places.{StandsAt}
 use Rattle.cv_cut.specs.Region.{FitsAtCut, IsOther, Passes}
 use Rattle.cv_tree.proofs.Laws.{at-at}
-use Rattle.cv_cut.proofs.Lemmas.{cat_is, canonical_at, fits_at_cut, cut_some, stands_at_cut, IsThere, opens_there, nested_there, root_decodes_at, nested_decodes_at, covers_append, same_rest, marked-at, covers-shift, rest_behind, entries_are, passes_of, pass_way, holder_way, cuts_some}
+use Rattle.cv_cut.proofs.Lemmas.{cat_is, canonical_at, fits_at_cut, cut_some, stands_at_cut, IsThere, opens_there, nested_there, root_decodes_at, nested_decodes_at, covers_append, same_rest, marked-at, covers-shift, rest_behind, entries_are, passes_of, pass_way, cuts_some}
 use Rattle.cv_rows.proofs.Lemmas.{has_file, one_file}
 
 -- a tree that fits does so at the cuts on the way
@@ -180,9 +180,6 @@ pass_count t p c r e f w =
     let rest = length-map (cuts_above (at (at t c) e) f) (λ (q : Path). e ++ q) in
     let one : length ([] ∷ map (λ (q : Path). e ++ q) (cuts_above (at (at t c) e) f)) ≡ length (map (λ (q : Path). e ++ q) (cuts_above (at (at t c) e) f)) + 1 = omega arith in
     ap (λ (l : List Path). length l) (pass_way (at t c) r e f w.way w.near) ∙ one ∙ ap (λ (k : ℕ). k + 1) rest ∙ ap (λ (u : Nodes). length (cuts_above u f) + 1) (at-at t c e)
-
-pub hold_count : (t : Nodes) (p c r : Path) → Holds t p c r → length (cuts_above (at t c) r) ≡ 1
-hold_count t p c r h = ap (λ (l : List Path). length l) (holder_way (at t c) r h.some h.near)
 
 pub some_count : (u : Nodes) (r : Path) → r ≢ [] → 1 ≤ length (cuts_above u r)
 some_count u r some = omega (arith, ap (λ (l : List Path). length l) (cuts_some u r some))

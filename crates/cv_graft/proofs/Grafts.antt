@@ -1,17 +1,12 @@
 -- What a graft answers of the trees that both roots mean.
-use Rattle.std.proofs.Common.{◌≡◌, ◌≢◌, ℕ, zero, suc, ◌+◌, ◌≤◌, true, false, List, [], ◌∷◌, ◌++◌, length, Some, None, Result, Ok, Err, IsSome, IsTrue, is_some, refl, sym, ap, subst, ◌∙◌, append-nil, append_assoc, arith, length-append}
-use Rattle.std.specs.declared.option.Option.{Option}
-use Rattle.std.specs.FinMap.{empty, get, same_map, get-empty}
-use Rattle.cv_base.specs.Path.{Path, IsPath, path_cmp}
-use Rattle.cv_base.specs.PathOrder.{path_total, path_exact}
+use Rattle.std.proofs.Common.{◌≡◌, ◌≢◌, ℕ, suc, ◌+◌, ◌≤◌, List, [], ◌∷◌, ◌++◌, length, None, Result, Ok, Err, refl, sym, ap, subst, ◌∙◌, arith}
+use Rattle.cv_base.specs.Path.{Path}
 use Rattle.cv_base.specs.ObjectId.{object_id}
 use Rattle.cv_base.specs.declared.id.ObjectId.{ObjectId}
 use Rattle.cv_base.specs.declared.id.Kind.TheVariants.{Catalogue}
 use Rattle.cv_base.specs.declared.object.Object.{Object}
 use Rattle.cv_ports.specs.Shelf.{Shelf}
-use Rattle.cv_tree.specs.Tree.{Nodes, IsTree, IsPart, at, put, is_directory}
-use Rattle.cv_tree.specs.Changes.{has_place, FitsUnder}
-use Rattle.cv_tree.specs.declared.node.Node.{Node}
+use Rattle.cv_tree.specs.Tree.{Nodes, IsTree, at}
 use Rattle.cv_cut.specs.Catalogues.{Fits}
 use Rattle.cv_cut.specs.Above.{cuts_above, OnWay}
 use Rattle.cv_graft.specs.Graft.{Grafts}
@@ -30,8 +25,7 @@ use Rattle.cv_graft.specs.declared.grafted.Grafted.{Grafted}
 use Rattle.cv_graft.specs.declared.made.Made.{Made}
 use Rattle.cv_graft.specs.declared.graft_fault.GraftFault.{GraftFault}
 use Rattle.cv_graft.specs.declared.graft_fault.GraftFault.TheVariants as fault
-use Rattle.cv_tree.proofs.Laws.{get-at, IsPart-at, IsTree-put}
-use Rattle.cv_cut.proofs.Lemmas.{some_last, made_all, at-root}
+use Rattle.cv_cut.proofs.Lemmas.{made_all, at-root}
 
 -- ---- below it
 

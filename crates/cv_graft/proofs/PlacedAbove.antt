@@ -16,8 +16,7 @@ use Rattle.cv_cut.specs.Cuts.{is_cut}
 use Rattle.cv_cut.specs.Catalogues.{cat, contents_of}
 use Rattle.cv_cut.specs.Cut.{catalogue_object}
 use Rattle.cv_cut.specs.Opening.{IsUnread}
-use Rattle.cv_cut.specs.Piece.{HasOnly, IsPiece, IsSharedWithin, cuts_within}
-use Rattle.cv_cut.specs.declared.pieces.Piece.{Piece}
+use Rattle.cv_cut.specs.Piece.{HasOnly, IsSharedWithin, cuts_within}
 use Rattle.cv_cut.specs.declared.cut_fault.CutFault.{CutFault}
 use Rattle.cv_cut.specs.declared.cut_fault.CutFault.TheVariants as cut
 use Rattle.cv_cut.specs.Region.{KeysApart, Passes}

@@ -1,5 +1,5 @@
 -- What is made of the catalogues on the way where a part is set at a path, by a tree m that has the part there.
-use Rattle.std.proofs.Common.{◌≡◌, ◌≢◌, true, false, not, Bool, List, [], ◌∷◌, ◌++◌, map, reverse, length, Result, Err, is_some, refl, sym, ap, subst, ◌∙◌, append_assoc}
+use Rattle.std.proofs.Common.{◌≡◌, ◌≢◌, true, false, List, [], ◌∷◌, ◌++◌, map, reverse, length, Result, Err, is_some, refl, sym, ap, subst, ◌∙◌, append_assoc}
 use Rattle.std.specs.Prelude.{Contains}
 use Rattle.std.proofs.lemmas.Bool.{not-true}
 use Rattle.sha1.specs.Sha1.{sha1}

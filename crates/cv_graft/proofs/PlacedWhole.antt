@@ -4,7 +4,7 @@ use Rattle.std.specs.declared.option.Option.{Option}
 use Rattle.std.specs.FinMap.{get, get-empty}
 use Rattle.cv_base.specs.Path.{Path, path_cmp}
 use Rattle.cv_base.specs.declared.object.Object.{Object}
-use Rattle.cv_tree.specs.Tree.{Nodes, is_directory, at, put}
+use Rattle.cv_tree.specs.Tree.{Nodes, is_directory, put}
 use Rattle.cv_tree.specs.Changes.{IsTreeAtRoot, nodes_of}
 use Rattle.cv_cut.specs.Catalogues.{Fits, SharesKey, IsFull}
 use Rattle.cv_cut.specs.Cut.{catalogue_object, cut_of}

@@ -25,10 +25,6 @@ names_live (Some place) up e = refl
 pub root_top : (names : Names) (root : Id) → IsNames names → names.root ≡ Some root → above_of (value_at names.places root) ≡ None
 root_top names root whole e = (subst (λ o. IfSome o (λ i. IsLive names.places i × (above_of (value_at names.places i) ≡ None))) e whole.root).1
 
--- where nothing is left bare, nothing is but for a place
-pub pruned_more : (names : Names) (at : Id) → IsPruned names → IsPrunedBut names at
-pruned_more names at all id live = elim (all id live) [ inl root ↦ inl root | inr need ↦ inr (inl need) ]
-
 -- ---- a place that is needed, or the root
 
 module _ (names : Names) (id : Id) (whole : IsNames names) (but : IsPrunedBut names id) where

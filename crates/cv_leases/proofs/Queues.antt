@@ -182,14 +182,6 @@ stayed_whole q after whole lists values links = record {
   count = whole.count ∙ sym (ap length (stayed_leases q after whole lists values));
 }
 
--- a place of the queue has a lease
-pub has_lease : (q : Queue) (id : Id) → IsQueue q → Contains (ids_of q) id → (entry : Entry) × (value_at q.entries id ≡ Some entry)
-has_lease q id whole within = each (value_at q.entries id) refl (live_in q.entries q.order (ids_of q) id whole.chain within)
-  where
-    each : (o : Option Entry) → value_at q.entries id ≡ o → IsSome o → (entry : Entry) × (value_at q.entries id ≡ Some entry)
-    each None e live = absurd cc
-    each (Some entry) e live = (entry, e)
-
 -- the lease that is found by a token
 pub seek_found : (q : Queue) (id : Id) (token : Token) (entry : Entry) → IsQueue q → Contains (ids_of q) id → value_at q.entries id ≡ Some entry → same_token entry.lease.token token ≡ true
     → lease_of token (leases_by (value_at q.entries) (rest_of q.entries q.order (Some id))) ≡ Some entry.lease

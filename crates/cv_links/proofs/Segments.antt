@@ -33,14 +33,6 @@ pub last_within : (xs : List Id) (x : Id) → last_or xs None ≡ Some x → Con
 last_within [] x e = absurd (cc)
 last_within (y ∷ ys) x e = last_in ys y x e
 
-pub last_none : (xs : List Id) → last_or xs None ≡ None → xs ≡ []
-last_none [] e = refl
-last_none (y ∷ ys) e = absurd (never ys y e)
-  where
-    never : (ys : List Id) (y : Id) → last_or ys (Some y) ≡ None → ⊥
-    never [] y e = cc
-    never (z ∷ zs) y e = never zs z e
-
 pub head_or-append : (xs ys : List Id) (n : Option Id) → head_or (xs ++ ys) n ≡ head_or xs (head_or ys n)
 head_or-append [] ys n = refl
 head_or-append (x ∷ xs) ys n = refl

@@ -44,9 +44,6 @@ module _ {V : Type 0} {disk : V → Option Disk} {count : V → ℕ} {left : V �
   pub looked : (x : File) (r : Result Bool StoreFault) → Calls disk count left (Reads n (Ok x)) v v' → ((d' : Disk) → d' ≡ d → x ≡ (d (file_name o.id)).now → Looked d o r d') → Walks disk count left on_way Nothing (Looked d o r) d v v'
   looked x r c ends = call only e c (λ d' h. (reads n (Ok x) d d' h, ends d' h.0 (h.1 ∙ ap (λ (n : Name). (d n).now) at)))
 
-  pub looked_fails : (x : VaultFault) (r : Result Bool StoreFault) → r ≡ Err (fault_of x) → Calls disk count left (Reads n (Err x)) v v' → Walks disk count left on_way Nothing (Looked d o r) d v v'
-  looked_fails x r is c = rw is (call only e c (λ d' h. (reads n (Err x) d d' h, (h, shows_outside d o (fault_of x) (outside x)))))
-
 pub looked_some : (d : Disk) (o : Object) (bytes : List ℕ) (x : File) (r : Result Bool StoreFault) → x ≡ Some bytes → Compares o bytes r → (d' : Disk) → d' ≡ d → x ≡ (d (file_name o.id)).now → Looked d o r d'
 looked_some d o bytes x (Ok true) is h d' same there = (same, sym there ∙ is ∙ ap Some h)
 looked_some d o bytes x (Ok false) is h d' same there = absurd h

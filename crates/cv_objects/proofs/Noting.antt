@@ -1,5 +1,5 @@
 -- Ids that are noted.
-use Rattle.std.proofs.Common.{◌≡◌, ℕ, true, false, List, take, length, ◌<◌, ◌+◌, get_or, refl, sym, subst, ap, ◌∙◌, inl, inr}
+use Rattle.std.proofs.Common.{◌≡◌, ℕ, true, List, take, length, ◌<◌, ◌+◌, get_or, refl, sym, subst, ap, ◌∙◌, inl, inr}
 use Rattle.std.specs.Prelude.{Vec, is_none}
 use Rattle.std.proofs.lemmas.Option.{same_Some}
 use Rattle.std.specs.declared.option.Option.{Option}
@@ -17,13 +17,12 @@ use Rattle.cv_vault.proofs.Laws.{looser}
 use Rattle.cv_objects.specs.Names.{standing_on}
 use Rattle.cv_objects.specs.Fresh.{lacking}
 use Rattle.cv_objects.specs.PlacesInner.{is_noted}
-use Rattle.cv_objects.specs.Batches.{GivesFresh, Agrees, Shows, by_one, by_itself, IsOutside}
-use Rattle.cv_objects.specs.BatchesInner.{Notes, Noted, NotesOne, Looked, again, anew, has_file, has_none}
+use Rattle.cv_objects.specs.Batches.{GivesFresh, Agrees, Shows, by_one, by_itself}
+use Rattle.cv_objects.specs.BatchesInner.{Noted, Looked, again, anew, has_file, has_none}
 use Rattle.cv_objects.specs.declared.places.Places.{Places}
 use Rattle.cv_objects.specs.declared.store_fault.StoreFault.{StoreFault}
 use Rattle.cv_objects.specs.declared.store_fault.StoreFault.TheVariants.{NoMemory}
 use Rattle.cv_objects.proofs.Lists.{last_or_earlier}
-use Rattle.cv_objects.proofs.Looking.{shows_outside}
 use Rattle.cv_objects.proofs.Once.{AreOnce, once_there, once_again, once_anew}
 use Rattle.cv_objects.proofs.Telling.{standing_is}
 
@@ -49,17 +48,8 @@ agrees_more d batch i o ids new was are lt is agrees noted = record {
     own (has_none absent notes) bytes e = absurd (let k : None ≡ Some bytes = sym absent ∙ e in cc)
 
 module _ {V : Type 0} {disk : V → Option Disk} {count : V → ℕ} {left : V → ℕ → Files → Type 0} {d : Disk} {v v1 : V} (o : Object) (ids : List ObjectId) (was : Places) where
-  pub notes_not : {X : Type 0} (new : List ObjectId) (are : Places) (r : Result X StoreFault) (e : StoreFault) → r ≡ Err e → Walks disk count left on_way Nothing (Looked d o (Err e)) d v v1 → Walks disk count left on_way Nothing (NotesOne d o ids was new are r) d v v1
-  notes_not new are r e is w = rw is (looser w (λ n f b. b) (λ d' g l. l))
-
   pub notes_there : IsDigest o.id.hash → Walks disk count left on_way Nothing (Looked d o (Ok true)) d v v1 → Walks disk count left on_way Nothing (λ d'. (d' ≡ d) × Noted d o ids was ids was) d v v1
   notes_there digest w = looser w (λ n f b. b) (λ d' g l. (l.0, has_file (standing_is d o.id digest ∙ l.1) refl refl))
-
-  pub notes_new : (new : List ObjectId) (are : Places) → IsDigest o.id.hash → Notes ids was o.id new are → Walks disk count left on_way Nothing (Looked d o (Ok false)) d v v1 → Walks disk count left on_way Nothing (λ d'. (d' ≡ d) × Noted d o ids was new are) d v v1
-  notes_new new are digest h w = looser w (λ n f b. b) (λ d' g l. (l.0, has_none (standing_is d o.id digest ∙ l.1) h))
-
-  pub notes_wants : {X : Type 0} (new : List ObjectId) (are : Places) (r : Result X StoreFault) (e : StoreFault) → r ≡ Err e → IsOutside e → Walks disk count left on_way Nothing (Looked d o (Ok false)) d v v1 → Walks disk count left on_way Nothing (NotesOne d o ids was new are r) d v v1
-  notes_wants new are r e is out w = rw is (looser w (λ n f b. b) (λ d' g l. (l.0, shows_outside d o e out)))
 
 -- an object that shows a fault, after others
 pub fresh_shows : {Z : Type 0} (d : Disk) (batch : List Object) (i : ℕ) (o : Object) (r : Result (Vec ObjectId Z) StoreFault) (e : StoreFault) (d' : Disk) → i < length batch → o ≡ get_or batch i o → r ≡ Err e → (d' ≡ d) → Shows d o e → GivesFresh d batch r d'

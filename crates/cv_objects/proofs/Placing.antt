@@ -56,12 +56,6 @@ shows_waits d o (Damaged id found) named (stands s) h = h.1.other (h.1.digest �
 shows_waits d o (Damaged id found) named (can a b) h = none_is (sym (ap (λ (s : Slot). s.now) a) ∙ h.1.present)
 
 module _ {V : Type 0} {disk : V → Option Disk} {count : V → ℕ} {left : V → ℕ → Files → Type 0} {d : Disk} {v v1 : V} (o : Object) where
-  pub placed_there : Walks disk count left on_way Nothing (Looked d o (Ok true)) d v v1 → Walks disk count left on_way (BringsOne d o) (IsPlaced d o) d v v1
-  placed_there w = looser w (λ n f b. absurd b) (λ d' g l. record { there = ap (λ (x : Disk). (x (file_name o.id)).now) l.0 ∙ l.1; others = λ n a b. ap (λ (x : Disk). x n) l.0 })
-
-  pub placed_wants : {X : Type 0} (s : Result Bool StoreFault) (r : Result X StoreFault) (e : StoreFault) → r ≡ Err e → IsOutside e → Walks disk count left on_way Nothing (Looked d o s) d v v1 → Walks disk count left on_way (BringsOne d o) (Placed d o r) d v v1
-  placed_wants s r e is out w = rw is (looser w (λ n f b. absurd b) (λ d' g l. out))
-
   -- what stands there isn't the object's
   pub placed_shows : {X : Type 0} (r : Result X StoreFault) (e : StoreFault) → r ≡ Err e → o.id.hash ≡ sha1 o.bytes → Waits d o → Walks disk count left on_way Nothing (Looked d o (Err e)) d v v1 → Walks disk count left on_way (BringsOne d o) (Placed d o r) d v v1
   placed_shows r e is named waits w = rw is (looser w (λ n f b. absurd b) (λ d' g l. shows_waits d o e named waits l.1))

@@ -1,5 +1,5 @@
 -- Objects that are put on their way.
-use Rattle.std.proofs.Common.{◌≡◌, ℕ, true, false, refl, sym, ap, subst, ◌∙◌}
+use Rattle.std.proofs.Common.{◌≡◌, ℕ, false, refl, sym, ap, subst, ◌∙◌}
 use Rattle.std.specs.declared.option.Option.{Option}
 use Rattle.std.specs.declared.option.Option.TheVariants.{None, Some}
 use Rattle.std.specs.declared.result.Result.{Result}
@@ -11,18 +11,14 @@ use Rattle.cv_vault.specs.Names.{Name, on_way}
 use Rattle.cv_vault.specs.Disk.{Disk, Slot, Files, ImageOf, Writes, Torn, slot, written}
 use Rattle.cv_vault.specs.Moments.{Calls}
 use Rattle.cv_vault.specs.Walks.{Walks, Nothing}
-use Rattle.cv_vault.proofs.Laws.{here, elsewhere, call, bind, looser, writes, ok, err}
+use Rattle.cv_vault.proofs.Laws.{here, elsewhere, call, bind, writes, ok, err}
 use Rattle.cv_objects.specs.Names.{way_name}
 use Rattle.cv_objects.specs.Faults.{fault_of}
-use Rattle.cv_objects.specs.Batches.{is_there, is_coming, IsOutside}
+use Rattle.cv_objects.specs.Batches.{is_coming}
 use Rattle.cv_objects.specs.BatchesInner.{Looked, IsWritten, Wrote}
 use Rattle.cv_objects.specs.declared.store_fault.StoreFault.{StoreFault}
 use Rattle.cv_objects.proofs.Naming.{data_not_way, way_on_way}
 use Rattle.cv_objects.proofs.Looking.{outside, shows_outside}
-
--- the object is there already
-pub there_written : (d : Disk) (o : Object) (d' : Disk) → Looked d o (Ok true) d' → IsWritten d o d'
-there_written d o d' l = record { ready = is_there (ap (λ (x : Disk). (x (file_name o.id)).now) l.0 ∙ l.1); others = λ n a. ap (λ (x : Disk). x n) l.0 }
 
 new_written : (d : Disk) (o : Object) (d' : Disk) → (d (file_name o.id)).now ≡ None → d' ≡ written d (way_name o.id) (Some o.bytes) → IsWritten d o d'
 new_written d o d' absent e = subst (IsWritten d o) (sym e) (record {
@@ -31,17 +27,6 @@ new_written d o d' absent e = subst (IsWritten d o) (sym e) (record {
       (ap (λ (s : Slot). s.now) (here d (way_name o.id) (slot (Some o.bytes) Torn)));
   others = λ n a. elsewhere d (way_name o.id) (slot (Some o.bytes) Torn) n a;
 })
-
-module _ {V : Type 0} {disk : V → Option Disk} {count : V → ℕ} {left : V → ℕ → Files → Type 0} {d : Disk} {v v1 : V} (o : Object) where
-  pub wrote_there : Walks disk count left on_way Nothing (Looked d o (Ok true)) d v v1 → Walks disk count left on_way Nothing (IsWritten d o) d v v1
-  wrote_there w = looser w (λ n f b. b) (λ d' g l. there_written d o d' l)
-
-  -- nothing was written
-  pub wrote_not : {X : Type 0} (r : Result X StoreFault) (e : StoreFault) → r ≡ Err e → Walks disk count left on_way Nothing (Looked d o (Err e)) d v v1 → Walks disk count left on_way Nothing (Wrote d o r) d v v1
-  wrote_not r e is w = rw is (looser w (λ n f b. b) (λ d' g l. l.1))
-
-  pub wrote_wants : {X : Type 0} (r : Result X StoreFault) (e : StoreFault) → r ≡ Err e → IsOutside e → Walks disk count left on_way Nothing (Looked d o (Ok false)) d v v1 → Walks disk count left on_way Nothing (Wrote d o r) d v v1
-  wrote_wants r e is out w = rw is (looser w (λ n f b. b) (λ d' g l. shows_outside d o e out))
 
 module _ {V : Type 0} {disk : V → Option Disk} {count : V → ℕ} {left : V → ℕ → Files → Type 0} {d : Disk} {v v1 v2 : V} (o : Object) (way bytes : Name) (is : way ≡ way_name o.id) (same : bytes ≡ o.bytes)
     (only : (f : Files) → left v1 (count v1) f → ImageOf (disk v1) f) (w : Walks disk count left on_way Nothing (Looked d o (Ok false)) d v v1) where

@@ -1,6 +1,6 @@
 -- The children of a directory by their names.
-use Rattle.std.proofs.Common.{◌≡◌, true, false, List, ℕ, [], ◌∷◌, ◌++◌, is_some, refl, sym, ap, ◌∙◌, length, ◌≤◌, ◌<◌, ◌+◌, suc, drop, get_or, add-one, drop-cons, arith}
-use Rattle.std.specs.Prelude.{Result, Ok, Err, nat_lt}
+use Rattle.std.proofs.Common.{◌≡◌, true, false, List, ℕ, [], ◌∷◌, ◌++◌, is_some, refl, sym, ap, ◌∙◌, length, ◌≤◌, ◌<◌, ◌+◌, suc, drop, get_or, add-one, drop-cons}
+use Rattle.std.specs.Prelude.{Result, Ok, Err}
 use Rattle.std.specs.declared.option.Option.TheVariants.{None, Some}
 use Rattle.std.specs.FinMap.{get}
 use Rattle.cv_base.specs.Path.{Path, last_name_of}
@@ -16,9 +16,6 @@ pub last_of : (p : Path) (a : List ℕ) → last_name_of (p ++ a ∷ []) ≡ a
 last_of [] a = refl
 last_of (b ∷ []) a = refl
 last_of (b ∷ c ∷ p) a = last_of (c ∷ p) a
-
-not_lt : (a b : ℕ) → b ≤ a → nat_lt a b ≡ false
-not_lt a b h = grind arith
 
 -- no node has a path that isn't joined
 pub none_joined : (t : Nodes) (p : Path) (name : List ℕ) (fault : PathFault) → IsTree t → joined p name ≡ Err fault → get t (p ++ name ∷ []) ≡ None

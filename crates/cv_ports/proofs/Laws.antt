@@ -4,7 +4,7 @@ use Rattle.std.proofs.Common.{◌≡◌, ◌+◌, ℕ, zero, suc, ap, ◌∙◌,
 use Rattle.cv_ports.specs.Calls.{raised, raised_by, RaisedAtMost}
 
 -- so many more, and then so many more
-pub raised_sum : (k m n : ℕ) → raised_by k (raised_by m n) ≡ raised_by (k + m) n
+raised_sum : (k m n : ℕ) → raised_by k (raised_by m n) ≡ raised_by (k + m) n
 raised_sum zero m n = ap (λ (x : ℕ). raised_by x n) (let e : m ≡ 0 + m = omega arith in e)
 raised_sum (suc k) m n = ap raised (raised_sum k m n) ∙ ap (λ (x : ℕ). raised_by x n) (let e : suc (k + m) ≡ suc k + m = omega arith in e)
 

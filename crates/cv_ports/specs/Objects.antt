@@ -1,9 +1,5 @@
 -- Lists of objects, as what stands under their ids.
-use Rattle.std.specs.Prelude.{Bool, true, false, ◌&&◌, List, [], ◌∷◌, Some, None, if◌then◌else◌}
-use Rattle.std.specs.Str.{bytes_eq}
-use Rattle.cv_base.specs.declared.id.Kind.{Kind}
-use Rattle.cv_base.specs.declared.id.Kind.TheVariants.{Plain, Catalogue, History}
-use Rattle.cv_base.specs.declared.id.ObjectId.{ObjectId}
+use Rattle.std.specs.Prelude.{◌&&◌, List, [], ◌∷◌, Some, None, if◌then◌else◌}
 use Rattle.cv_base.specs.declared.object.Object.{Object}
 use Rattle.cv_ports.specs.Shelf.{Shelf}
 pub use Rattle.cv_base.specs.ObjectId.{same_kind, same_id}

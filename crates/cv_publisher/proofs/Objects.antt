@@ -2,9 +2,9 @@
 use Rattle.std.proofs.Common.{◌≡◌, ◌≢◌, ℕ, zero, suc, ◌+◌, ◌-◌, ◌<◌, ◌≤◌, Bool, List, [], ◌∷◌, ◌++◌, Option, Some, length, take, drop, get_or, refl, sym, ◌∙◌, ◌⊎◌, ap, subst, append_assoc, arith, length-append, inl, inr}
 use Rattle.std.specs.Prelude.{All, AllPairs, Contains, slice_get, option_to_list, false, true, ◌&&◌, nat_lt, nat_le, Result, Ok, Err, OnOk, is_err}
 use Rattle.std.proofs.lemmas.Bool.{le-ltb, lt-leb}
-use Rattle.std.proofs.lemmas.List.{length-take-le, take_more, drop_more, drop_all, take_all, map-append, take-append-drop, get_or_append_left, get_or-append_right, get_or-append-add, get_or_at}
+use Rattle.std.proofs.lemmas.List.{length-take-le, take_more, drop_more, drop_all, take_all, map-append, take-append-drop, get_or_append_left, get_or-append-add, get_or_at}
 use Rattle.std.proofs.lemmas.List.Elements.{All-head, All-tail, All-take, All-drop, All-push}
-use Rattle.std.proofs.lemmas.Option.{slice_get_cases, slice_get_read}
+use Rattle.std.proofs.lemmas.Option.{slice_get_cases}
 use Rattle.cv_base.specs.declared.id.ObjectId.{ObjectId}
 use Rattle.cv_base.specs.declared.object.Object.{Object}
 use Rattle.cv_pack.specs.Pack.{contents_size, has_room, ids, IsPacked}
@@ -12,15 +12,6 @@ use Rattle.cv_pack.specs.Reading.{object}
 use Rattle.cv_pack.specs.declared.add_fault.AddFault.{AddFault}
 use Rattle.cv_pack.proofs.Laws.{size_more}
 use Rattle.cv_publisher.specs.Packing.{AreSendable, IsFront, objects_at}
-
--- an element of the first list, and one of the second, in both
-pub at_left : {X : Type 0} (xs ys : List X) (i : ℕ) (x : X) → i < length xs → x ≡ get_or xs i x → slice_get (xs ++ ys) i ≡ Some x
-at_left xs ys i x within is =
-    slice_get_read (xs ++ ys) (length (xs ++ ys)) i x refl (omega (arith, length-append xs ys)) (is ∙ sym (get_or_append_left xs ys x i within))
-
-pub at_right : {X : Type 0} (xs ys : List X) (i : ℕ) (x : X) → length xs ≤ i → i < length xs + length ys → x ≡ get_or ys (i - length xs) x → slice_get (xs ++ ys) i ≡ Some x
-at_right xs ys i x past within is =
-    slice_get_read (xs ++ ys) (length (xs ++ ys)) i x refl (omega (arith, length-append xs ys)) (is ∙ sym (get_or-append_right xs ys (length xs) i x refl past))
 
 -- ---- places one after another
 

@@ -156,13 +156,6 @@ first_over : (t : Nodes) (p : Path) → take 1 (cuts_over t p) ≡ [] ∷ []
 first_over t [] = refl
 first_over t (a ∷ p) = refl
 
-some_cut : (t : Nodes) (p : Path) → cuts_over t p ≡ [] → ⊥
-some_cut t p none = let wrong : [] ≡ [] ∷ [] = sym (ap (take 1) none) ∙ first_over t p in cc
-
-top_or_below : (p : Path) → (p ≡ []) ⊎ (p ≢ [])
-top_or_below [] = inl refl
-top_or_below (a ∷ p) = inr (λ e. cc)
-
 -- the root stays where it is
 top_stays : (t : Nodes) (d : Bool) (levels : List Level) → IsTree t → StandsIn t [] d levels → StandsIn t [] true levels
 top_stays t d levels tree s = record { there = s.there; is_dir = sym tree.root; paths = s.paths; each = s.each }
@@ -192,15 +185,6 @@ module _ (t : Nodes) (d : Bool) (outer : List Level) (l : Level) (tree : IsTree 
       let long : length outer ≡ length front + 1 = ap length is ∙ length-append front (more ∷ []) in
       absurd (omega (arith, length-map (outer ++ l ∷ []) (λ (x : Level). x.path), length-append outer (l ∷ [])))
   above_cut (b ∷ q) front more is s same = subst (λ (w : List Level). StandsIn t (parent (b ∷ q)) true w) is (left (b ∷ q) (λ e. cc) s same)
-
-  -- where there is none it is the root's
-  pub above_root : (p : Path) → outer ≡ [] → StandsIn t p d (outer ++ l ∷ []) → same_path l.path p ≡ true → StandsIn t (parent p) true (outer ++ l ∷ [])
-  above_root p none s same =
-      elim (top_or_below p) [
-        | inl top ↦
-            subst (λ (w : Path). StandsIn t (parent w) true (outer ++ l ∷ [])) (sym top) (top_stays t d (outer ++ l ∷ []) tree (subst (λ (w : Path). StandsIn t w d (outer ++ l ∷ [])) top s))
-        | inr some ↦ absurd (some_cut t (parent p) (sym (left p some s same).paths ∙ ap (map (λ (x : Level). x.path)) none))
-      ]
 
 -- back to the root
 first_of : (ls : List Level) → take 1 (map (λ l. l.path) ls) ≡ map (λ l. l.path) (take 1 ls)

@@ -2,7 +2,6 @@
 use Rattle.std.proofs.Common.{◌≡◌, ℕ, Bool, true, false, ◌&&◌, cond, List, [], ◌∷◌, ◌++◌, refl, sym, ap, subst, ◌∙◌}
 use Rattle.std.specs.Prelude.{Contains, IfSome}
 use Rattle.std.specs.Option.{option_map}
-use Rattle.std.specs.declared.result.Result.{Result}
 use Rattle.std.specs.declared.option.Option.{Option}
 use Rattle.std.specs.declared.option.Option.TheVariants.{None, Some}
 use Rattle.std.specs.FinMap.{get}
@@ -24,8 +23,6 @@ use Rattle.cv_resolver.specs.Step.{trail_from}
 use Rattle.cv_resolver.specs.Look.{trail, look, IsAnswer, OnWay, catalogue, file as file_way}
 use Rattle.cv_resolver.specs.Stage.{IsStage, wanted_by}
 use Rattle.cv_resolver.specs.Resolver.{Client, IsOn, IsAskedOn, answer_by, answer_in, question_of, wanted_in}
-use Rattle.cv_resolver.specs.declared.found.Found.{Found}
-use Rattle.cv_resolver.specs.declared.found.ClientFault.{ClientFault}
 use Rattle.cv_resolver.specs.declared.stage.Stage.{Stage}
 use Rattle.cv_resolver.specs.declared.stage.Stage.TheVariants.{Walks, Reads, Ends}
 use Rattle.cv_resolver.specs.declared.resolver.Asked.{Asked}
@@ -92,15 +89,6 @@ wanted_way r t q id is on asks = subst (λ (o : Option ObjectId). IfSome o (OnWa
     by (Some a) there same =
         let one : a.question ≡ q = cc in
         subst (λ (x : Question). IfSome (wanted_by a.stage) (OnWay r.name t x)) one (way_of r.name t a.question a.stage there)
-
--- and its answer is that in the tree
-pub answer_there : (r : Client) (t : Nodes) (q : Question) (answer : Option (Result Found ClientFault)) → answer ≡ answer_in r.asked → IsOn t r → question_of r ≡ Some q → IfSome answer (IsAnswer (look r.name t q))
-answer_there r t q answer is on asks = subst (λ (o : Option (Result Found ClientFault)). IfSome o (IsAnswer (look r.name t q))) (sym is) (by r.asked on.asked asks)
-  where
-    in_stage : (a : Question) (s : Stage) → IsStage r.name t a s → IfSome (answer_by s) (IsAnswer (look r.name t a))
-    in_stage a (Walks w) there = tt
-    in_stage a (Reads hash) there = tt
-    in_stage a (Ends answer) there = there
 
     by : (a : Option Asked) → IsAskedOn r.name t a → option_map (λ x. x.question) a ≡ Some q → IfSome (answer_in a) (IsAnswer (look r.name t q))
     by None there same = tt

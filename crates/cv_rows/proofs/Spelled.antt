@@ -1,46 +1,17 @@
 -- The text of a row's path, written name by name.
-use Rattle.std.proofs.Common.{◌≡◌, ◌≢◌, ℕ, ◌+◌, ◌<◌, ◌≤◌, Bool, true, false, List, [], ◌∷◌, ◌++◌, length, get_or, Option, None, Some, refl, sym, ap, subst, ◌∙◌, arith, length-append, length-set, append-nil, set, inl, inr}
+use Rattle.std.proofs.Common.{◌≡◌, ◌≢◌, ℕ, ◌+◌, ◌<◌, ◌≤◌, Bool, true, false, List, [], ◌∷◌, ◌++◌, length, get_or, Option, None, Some, refl, sym, subst, ◌∙◌, arith, length-set, set, inl, inr}
 use Rattle.std.proofs.lemmas.Bool.{cases_eq}
-use Rattle.std.proofs.lemmas.List.{append_assoc, get_or-set_same, get_or-set_other}
+use Rattle.std.proofs.lemmas.List.{get_or-set_same, get_or-set_other}
 use Rattle.std.specs.Prelude.{is_some}
 use Rattle.std.specs.List.{All}
-use Rattle.std.proofs.lemmas.List.Concat.{flat_map-append}
-use Rattle.std.proofs.lemmas.List.Folds.{list_all-append}
-use Rattle.md5.specs.Md5.{Holds}
-use Rattle.cv_base.specs.Path.{Path, IsPath, text_of, is_path_name}
-use Rattle.cv_base.proofs.Laws.{all_last}
+use Rattle.cv_base.specs.Path.{Path}
 use Rattle.cv_rows.specs.FaultsInner.{IsPlaced}
 use Rattle.cv_rows.specs.Places.{StandsAt}
 use Rattle.cv_rows.specs.ParentsInner.{step, IsPlacing, IsPathOf}
-use Rattle.cv_rows.specs.DigestsInner.{IsDigestOf, IsDigestBelow, IsKept, AreKept, IsFound}
+use Rattle.cv_rows.specs.DigestsInner.{IsDigestBelow, IsKept, AreKept, IsFound}
 use Rattle.cv_rows.specs.declared.path_digest.PathDigest.{PathDigest}
 use Rattle.cv_rows.specs.declared.row.Row.{Row}
 use Rattle.cv_rows.proofs.Walks.{above_some, has_path}
-
--- the text of a path with one more name
-text_more : (p : Path) (name : List ℕ) → text_of (p ++ name ∷ []) ≡ text_of p ++ 47 ∷ name
-text_more p name = flat_map-append (λ (n : List ℕ). 47 ∷ n) p (name ∷ []) ∙ ap (λ (w : List ℕ). text_of p ++ w) (append-nil (47 ∷ name))
-
-longer_path : (p : Path) (name : List ℕ) → IsPath p → is_path_name name ≡ true → length p < 64 → length (text_of p ++ 47 ∷ name) ≤ 4095 → IsPath (p ++ name ∷ [])
-longer_path p name is named short fits = record {
-  names = list_all-append is_path_name p (name ∷ []) ∙ rw (is.names, named) refl;
-  depth = omega (arith, short, length-append p (name ∷ []));
-  size = subst (λ (t : List ℕ). length t ≤ 4095) (sym (text_more p name)) fits;
-}
-
--- with one more name the path passes a limit
-pub passes_below : (path : Path) (name : List ℕ) (s : PathDigest) → IsDigestOf path s → (is_path_name name ≡ true → s.names < 64 → 4095 ≤ s.size + length name) → IsDigestBelow path name None
-passes_below path name s is passes longer =
-    let few : s.names < 64 = omega (arith, is.count, longer.depth, length-append path (name ∷ [])) in
-    omega (arith, passes (all_last path name longer.names) few, is.size, longer.size, ap length (text_more path name), length-append (text_of path) (47 ∷ name))
-
--- what is kept of the path with one more name
-pub digest_below : (path : Path) (name : List ℕ) (s more : PathDigest) → IsPath path → IsDigestOf path s → is_path_name name ≡ true → s.names < 64 → s.size + length name < 4095
-    → Holds more.hasher ((text_of path ++ 47 ∷ []) ++ name) → more.size ≡ s.size + 1 + length name → more.names ≡ s.names + 1 → IsDigestBelow path name (Some more)
-digest_below path name s more is_path is named few fits held size names =
-    let text : (text_of path ++ 47 ∷ []) ++ name ≡ text_of (path ++ name ∷ []) = append_assoc (text_of path) (47 ∷ []) name ∙ sym (text_more path name) in
-    let longer = longer_path path name is_path named (omega (arith, is.count)) (omega (arith, is.size, length-append (text_of path) (47 ∷ name))) in
-    (longer, record { text = subst (Holds more.hasher) text held; size = omega (arith, size, is.size, ap length (text_more path name), length-append (text_of path) (47 ∷ name)); count = omega (arith, names, is.count, length-append path (name ∷ [])) })
 
 -- ---- what is kept of each row
 

@@ -118,16 +118,6 @@ module _ {R : Type 0} (left given : R → Option (List ℕ)) where
       let rest : length (w.held ++ more) ≡ 0 = ap length none in
       let count_is = was.size in omega (arith, all, rest, count_is, below)) now)
 
-  -- all came
-  pub came_all : {A : Type 0} (P : List ℕ → A → Type 0) (w0 w : WireView R) (count size : ℕ) (So : List ℕ → Type 0) (made : A) → Draws left given w0 w (λ b. Came count So b w.held)
-      → count ≡ size → ((body : List ℕ) → So body → P body made) → ReadsBody left given w0 w size P (Ok made)
-  came_all P w0 w count size So made came is makes = record {
-    got = came.got;
-    told = came.told;
-    gave = came.gave;
-    are = (came.are.body, came.are.split, came.are.size ∙ is, makes came.are.body came.are.so);
-  }
-
 -- ---- when the source is read
 
 module _ {R : Type 0} (left given : R → Option (List ℕ)) (looks : R → Look → Type 0) where
@@ -188,21 +178,6 @@ module _ {R : Type 0} (left given : R → Option (List ℕ)) where
     told = p.told;
     gave = p.gave;
     are = (p.are.0, p.are.1, p.are.2, (sym (denies p.are.0).0, (denies []).1));
-  }
-
-  -- what was passed over has no message
-  pub sizeless : (keys : List Key) (header text : Option (List ℕ)) (w w' : WireView R) (size : ℕ) (P : List ℕ → Unit {0} → Type 0) (made : Unit {0}) → message_size text size ≡ None
-      → ReadsBody left given w w' size P (Ok made) → ReadsBody left given w w' size (Says (payload_turn keys header text)) (Ok (denied reason.BadMessageSize))
-  sizeless keys header text w w' size P made none p = record {
-    got = p.got;
-    told = p.told;
-    gave = p.gave;
-    are = (
-      p.are.0,
-      p.are.1,
-      p.are.2,
-      (sym (ap (λ k. payload_from keys header (message_size text k) p.are.0) p.are.2 ∙ ap (λ o. payload_from keys header o p.are.0) none), refl),
-    );
   }
 
   -- where fewer bytes were there, nothing was made

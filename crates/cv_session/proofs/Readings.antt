@@ -102,12 +102,6 @@ module _ {R : Type 0} (left given : R → Option (List ℕ)) (repository : List 
     (other_wants turn is (subst (λ (x : List ℕ). Wants repository keys head x turn) said.3 wants), good),
   ))
 
-  pub no_turn : {A B : Type 0} (P : List ℕ → A → Type 0) (Q : List ℕ → B → Type 0) (w w' : WireView R) (size : ℕ) (r : Result A HttpFault) → ReadsBody left given w w' size P r → ReadsBody left given w w' size Q (Err NoMemory)
-  no_turn P Q w w' size r read = draws_as left given w w' _ _ read (λ b said. tt)
-
-  pub fault_of_body : {A B : Type 0} (P : List ℕ → A → Type 0) (Q : List ℕ → B → Type 0) (w w' : WireView R) (size : ℕ) (why : HttpFault) → ReadsBody left given w w' size P (Err why) → ReadsBody left given w w' size Q (Err why)
-  fault_of_body P Q w w' size why read = draws_as left given w w' _ _ read (λ b. same_fault P Q b w'.held size why)
-
   -- what was read behind a head
   pub behind_whole : (w w' : WireView R) (taken taken' : Option (List ℕ)) (head : RequestHead) (turn : Turn) → body_size head ≤ body_limit head → ReadsBody left given w w' (body_size head) (Asks repository keys head) (Ok turn)
       → taken' ≡ onto taken (line_text (waits head)) → Draws left given w w' (λ b. GetsBehind repository keys head b w'.held taken taken' (Ok (record { turn = turn; last = head.last })))

@@ -1,15 +1,13 @@
 -- Answers that are written can be read.
-use Rattle.std.proofs.Common.{◌≡◌, ◌<◌, ◌^◌, ℕ, List, length, subst, arith}
+use Rattle.std.proofs.Common.{◌≡◌, ◌<◌, ◌^◌, length, arith}
 use Rattle.serde_json.specs.Written.{compact_text}
 use Rattle.cv_http.specs.Replies.{text_of}
 use Rattle.cv_http.specs.declared.code.Code.{Code}
 use Rattle.cv_http.specs.declared.code.Code.TheVariants.{Success, BadRequest, NotFound, LengthRequired, ContentTooLarge, FieldsTooLarge, ServerError, NotImplemented}
 use Rattle.cv_answers.specs.Answer.{answer_data}
 use Rattle.cv_answers.specs.declared.answer.Answer.{Answer as MessageData}
-use Rattle.cv_gate.specs.declared.reply.Reply.{Reply as ReplyData}
-use Rattle.cv_session.specs.Answers.{answer_of}
 use Rattle.cv_session.specs.Said.{ReadsBack, IsLegible}
-use Rattle.cv_session.specs.declared.response.Response.TheVariants.{Content, Fixed, Message, Reply}
+use Rattle.cv_session.specs.declared.response.Response.TheVariants.{Fixed}
 
 text_small : (code : Code) → length (text_of code) < 2 ^ 64
 text_small Success = omega arith
@@ -24,15 +22,6 @@ text_small NotImplemented = omega arith
 pub code_legible : (code : Code) → IsLegible (Fixed code)
 code_legible code = record { size = text_small code; read = tt }
 
-pub content_legible : (bytes : List ℕ) → length bytes < 2 ^ 64 → IsLegible (Content bytes)
-content_legible bytes small = record { size = small; read = tt }
-
 -- what is known of a message that was written
 abbrev pub IsWhole : MessageData → Type 0
 IsWhole message = (length (compact_text (answer_data message)) < 2 ^ 64) × ReadsBack message
-
-pub message_legible : (message : MessageData) → IsWhole message → IsLegible (Message message)
-message_legible message is = record { size = is.0; read = is.1 }
-
-pub reply_legible : (reply : ReplyData) (message : MessageData) → message ≡ answer_of reply → IsWhole message → IsLegible (Reply reply)
-reply_legible reply message same is = let whole = subst IsWhole same is in record { size = whole.0; read = whole.1 }

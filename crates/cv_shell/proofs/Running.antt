@@ -10,12 +10,12 @@ use Rattle.cv_client.specs.Exchange.{Links}
 use Rattle.cv_client.specs.declared.url.Url.{Url}
 use Rattle.cv_shell.specs.EndsInner.{end_of_fault}
 use Rattle.cv_shell.specs.Lines.{IsLine, IsNext, LineRead, closed, last}
-use Rattle.cv_shell.specs.Shells.{Turn, printed, Answered, Runs, Ends, Shells, ReadsUpToDate, begins, goes, written, unwritten, stopped, ended, too_long, unread, by_line, no_memory}
+use Rattle.cv_shell.specs.Shells.{Turn, printed, Answered, Runs, Ends, Shells, ReadsUpToDate, begins, goes, written, ended, too_long, unread, by_line, no_memory}
 use Rattle.cv_shell.specs.declared.lines.LineFault.{LineFault}
 use Rattle.cv_shell.specs.declared.lines.LineFault.TheVariants.{TooLong, ReadFault, NoMemory}
 use Rattle.cv_shell.specs.declared.turn.Stop.TheVariants as stop
 use Rattle.cv_shell.specs.declared.shell_end.ShellEnd.{ShellEnd}
-use Rattle.cv_shell.specs.declared.shell_end.ShellEnd.TheVariants.{Ended, InputFailed, LinkFailed}
+use Rattle.cv_shell.specs.declared.shell_end.ShellEnd.TheVariants.{Ended}
 use Rattle.cv_shell.specs.declared.shell_end.ShellEnd.TheVariants as shell_end
 
 -- the next line, where more is read behind it
@@ -23,26 +23,6 @@ next_more : {left left' : Option (List ℕ)} {rest line later : List ℕ} (more 
 next_more {left} {left'} {rest} {line} {later} more told (closed is split) = closed is (ap (λ (x : List ℕ). x ++ more) split ∙ append_assoc line (10 ∷ later) more)
 next_more {left} {left'} {rest} {line} {later} more told (last is some split none) =
     last is some (ap (λ (x : List ℕ). x ++ more) split ∙ append_assoc line later more) (subst HasEnded (ap (front later) told ∙ front_twice left' later more) none)
-
--- an end by a line isn't one by the input
-pub not_by_input : {is_seal : List ℕ → List ℕ → Bool} {u : Url} {line : List ℕ} {before after : Links} {c c' : Client} {taken taken' : Option (List ℕ)} {end : ShellEnd}
-    → Answered is_seal u line before after c c' taken taken' (Some end) → end ≡ InputFailed → ⊥
-not_by_input (unwritten text turns wrote) is = cc
-not_by_input (stopped stop.LinkFailed turns same) is = cc
-not_by_input (stopped stop.BadReply turns same) is = cc
-not_by_input (stopped stop.NoMemory turns same) is = cc
-
--- where no line was read, no link failed
-pub not_by_link : (fault : LineFault) → end_of_fault fault ≡ LinkFailed → ⊥
-not_by_link TooLong is = cc
-not_by_link ReadFault is = cc
-not_by_link NoMemory is = cc
-
--- the input failed only where it was read
-pub by_input : (fault : LineFault) → end_of_fault fault ≡ InputFailed → fault ≡ ReadFault
-by_input TooLong is = cc
-by_input ReadFault is = refl
-by_input NoMemory is = cc
 
 -- one turn more
 turns_more : (taken : Option (List ℕ)) {now now' : Option (List ℕ)} (turns : List Turn) (t : Turn) → now ≡ onto taken (printed turns) → now' ≡ onto now t.text → now' ≡ onto taken (printed (turns ++ t ∷ []))

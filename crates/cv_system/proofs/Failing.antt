@@ -1,10 +1,8 @@
 -- Calls of which the last failed.
-use Rattle.std.proofs.Common.{◌≡◌, Bool, List, ℕ, Option, Result, Ok, Err, refl}
+use Rattle.std.proofs.Common.{◌≡◌, Bool, List, ℕ, Result, Ok, Err, refl}
 use Rattle.std.specs.Prelude.{IfErr}
 use Rattle.std.specs.declared.io.Error.{Error}
-use Rattle.cv_system.specs.declared.seen.Seen.{Seen}
 use Rattle.cv_system.specs.Calls.{Cause, cause_of, Call, Log, Outcome, Failed, Looked, and_call, came_out, outcome}
-use Rattle.cv_system.specs.Looks.{Looks}
 use Rattle.cv_system.specs.LooksInner.{LooksForFolder}
 use Rattle.cv_system.specs.Steps.{EndsFailed, Grows, IsLook, IsNothing, Makes, Still}
 use Rattle.cv_system.proofs.Stepping.{steps_then, steps_wider}
@@ -26,11 +24,6 @@ one_fails call so not (Err error) before after is = fails_now (call (Failed (cau
 -- calls were made before
 pub fails_then : {cause : Cause} {before between after : Log} → Grows before between → EndsFailed cause between after → EndsFailed cause before after
 fails_then made (last, call, more, out, is) = (last, call, steps_then made more, out, is)
-
--- a look failed
-pub look_fails : (path : List ℕ) (result : Result (Option Seen) Error) (before after : Log) → Looks path result before after → IfErr result (λ error. EndsFailed (cause_of error) before after)
-look_fails path (Ok found) before after is = tt
-look_fails path (Err error) before after (there, is) = fails_now (Looked path (Err (cause_of error))) refl (λ look. there) is
 
 pub look_for_folder_fails : (path : List ℕ) (result : Result Bool Error) (before after : Log) → LooksForFolder path result before after → IfErr result (λ error. EndsFailed (cause_of error) before after)
 look_for_folder_fails path (Ok is_folder) before after is = tt

@@ -8,8 +8,7 @@ use Rattle.cv_system.specs.declared.seen.Seen.{Seen}
 use Rattle.cv_system.specs.Calls.{Cause, cause_of, Log, Looked, and_call}
 use Rattle.cv_system.specs.Looks.{Looks, LooksAtEntry}
 use Rattle.cv_system.specs.Passed.{HidesNoName, IsOpen, IsShut}
-use Rattle.cv_system.specs.Steps.{IsLook, IsNothing, Makes}
-use Rattle.cv_system.proofs.Stepping.{one_call}
+use Rattle.cv_system.specs.Steps.{IsNothing}
 
 never_nothing : (cause : Cause) → IsNothing cause → cause.kind ≡ PermissionDenied → ⊥
 never_nothing cause (inl is) refused = cc
@@ -40,9 +39,3 @@ module _ (path : List ℕ) (before after : Log) where
   -- nothing has a path that is too long
   pub no_entry : (error : Error) → HidesNoName (cause_of error) → Looks path (Err error) before after → LooksAtEntry path (Ok None) before after
   no_entry error no_name (there, is) = (cause_of error, inr no_name, is)
-
-  -- it is a look
-  pub entry_looks : (result : Result (Option Seen) Error) → LooksAtEntry path result before after → Makes IsLook before after
-  entry_looks (Ok (Some seen)) is = one_call (Looked path (Ok seen)) tt is
-  entry_looks (Ok None) (cause, nothing, is) = one_call (Looked path (Err cause)) tt is
-  entry_looks (Err error) (there, is) = one_call (Looked path (Err (cause_of error))) tt is

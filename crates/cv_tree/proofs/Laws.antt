@@ -6,4 +6,4 @@ pub use Rattle.cv_tree.proofs.Maps.{entries-from_entries}
 pub use Rattle.cv_tree.proofs.PathLimits.{joined-Ok}
 pub use Rattle.cv_tree.proofs.PathRuns.{covers_before, covers_between}
 pub use Rattle.cv_tree.proofs.Replacements.{at-at, at-put, at-put_apart, at_rest, find-append, get-at, get-put, kept-put, put-at}
-pub use Rattle.cv_tree.proofs.Shapes.{IsPart-at, IsTree-put, IsTree-single, has_place-append, nothing_at, some_directory, single_at}
+pub use Rattle.cv_tree.proofs.Shapes.{IsPart-at, IsTree-single, has_place-append, nothing_at, some_directory, single_at}

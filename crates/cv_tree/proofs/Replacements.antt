@@ -125,12 +125,6 @@ module _ {X : Type 0} where
         | Some r ↦ λ e. get-at t p r ∙ ap (get t) (sym (behind-Some p q r e))
       ] refl)
 
-  -- of two replacements at one path the later counts
-  pub put-put : (t : FinMap path_cmp X) (p : Path) (a b : FinMap path_cmp X) → put (put t p a) p b ≡ put t p b
-  put-put t p a b = same_map path_total path_exact _ _ (λ q. get-put (put t p a) p b q ∙ ap (at_rest (behind p q) (get b)) (get-put t p a q)
-      ∙ elim (behind p q) as (λ o. at_rest o (get b) (at_rest o (get a) (get t q)) ≡ at_rest o (get b) (get t q)) [ None ↦ refl | Some r ↦ refl ]
-      ∙ sym (get-put t p b q))
-
   -- every path that p doesn't cover keeps its node
   pub kept-put : (t : FinMap path_cmp X) (p : Path) (s : FinMap path_cmp X) (q : Path) → covers p q ≡ false → get (put t p s) q ≡ get t q
   kept-put t p s q h = get-put t p s q ∙ elim (behind p q) as (λ o. is_some o ≡ false → at_rest o (get s) (get t q) ≡ get t q) [ None ↦ λ _. refl | Some r ↦ λ e. cc ] h

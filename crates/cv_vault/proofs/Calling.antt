@@ -1,12 +1,11 @@
 -- What each call of a vault changes, outside the names that are left out of account.
 use Rattle.std.proofs.Common.{◌≡◌, ◌≢◌, ◌⊎◌, ℕ, Bool, true, false, List, refl, sym, ap, subst, ◌∙◌, inl, inr}
-use Rattle.std.specs.Prelude.{Vec}
 use Rattle.std.specs.declared.option.Option.{Option}
 use Rattle.std.specs.declared.option.Option.TheVariants.{None}
 use Rattle.std.specs.declared.result.Result.{Result}
 use Rattle.std.specs.declared.result.Result.TheVariants.{Ok, Err}
 use Rattle.cv_vault.specs.Names.{Name}
-use Rattle.cv_vault.specs.Disk.{Disk, Slot, File, Files, Image, IsCalm, Mark, Settled, Torn, Moved, LeftAt, May, Absent, Made, Unmade, Reads, Measures, Lists, Writes, Renames, Removes, Syncs, slot, with_slot, moved, both_settled, renamed, unrenamed, removed, unremoved}
+use Rattle.cv_vault.specs.Disk.{Disk, Slot, File, Files, Image, IsCalm, Mark, Settled, Torn, Moved, LeftAt, May, Absent, Made, Unmade, Reads, Writes, Renames, Syncs, slot, with_slot, moved, both_settled, renamed, unrenamed}
 use Rattle.cv_vault.specs.Walks.{Change, Stays, Comes, Gains}
 use Rattle.cv_vault.specs.declared.vault.VaultFault.{VaultFault}
 use Rattle.cv_vault.specs.declared.vault.VaultFault.TheVariants.{Failed, NoMemory}
@@ -44,14 +43,6 @@ gains_away {away} d n s w = record { each = λ q x. same_slot (d q) (with_slot d
 pub reads : {away : Name → Bool} {B : Name → File → Type 0} (n : Name) (r : Result (Option (List ℕ)) VaultFault) (d d' : Disk) → Reads n r d d' → Gains away B d d'
 reads n (Ok x) d d' h = gains_none h.0
 reads n (Err e) d d' h = gains_none h
-
-pub measures : {away : Name → Bool} {B : Name → File → Type 0} (n : Name) (r : Result (Option ℕ) VaultFault) (d d' : Disk) → Measures n r d d' → Gains away B d d'
-measures n (Ok x) d d' h = gains_none h.0
-measures n (Err e) d d' h = gains_none h
-
-pub lists : {away : Name → Bool} {B : Name → File → Type 0} (prefix : Name) {Z : Type 0} (r : Result (Vec Name Z) VaultFault) (d d' : Disk) → Lists prefix r d d' → Gains away B d d'
-lists prefix (Ok x) d d' h = gains_none h.0
-lists prefix (Err e) d d' h = gains_none h
 
 -- a write to a name that is left out of account
 pub writes : {away : Name → Bool} {B : Name → File → Type 0} {X : Type 0} (n bytes : Name) (r : Result X VaultFault) (d d' : Disk) → away n ≡ true → Writes n bytes r d d' → Gains away B d d'
@@ -99,50 +90,6 @@ module _ {away : Name → Bool} {B : Name → File → Type 0} (from to : Name) 
   renames (Err Failed) d' (Made a e) = subst (Gains away B d) (sym e) gains_renamed
   renames (Err Failed) d' (Unmade a e) = subst (Gains away B d) (sym e) gains_unrenamed
   renames (Err NoMemory) d' h = gains_none h
-
--- a removal of a settled name, where no file may come to it
-module _ {away : Name → Bool} {B : Name → File → Type 0} (n : Name) (d : Disk) (settled : (d n).mark ≡ Settled) (comes : B n None) where
-  gains_one : (t : Slot) → ((x : Slot) → x ≡ t → Change (B n) (d n) x) → Gains away B d (with_slot d n t)
-  gains_one t k = record {
-    each = λ q w. elim (same_or_not q n) [
-      | inl e ↦ subst (λ (q : Name). Change (B q) (d q) (with_slot d n t q)) (sym e) (k _ (here d n t))
-      | inr ne ↦ same_slot (d q) _ (elsewhere d n t q ne)
-    ];
-  }
-
-  gains_removed : Gains away B d (removed d n)
-  gains_removed = gains_one _ (λ x e. arrives (d n) None x settled comes (e ∙ rw settled refl))
-
-  gains_unremoved : Gains away B d (unremoved d n)
-  gains_unremoved = gains_one _ (λ x e. waits (d n) x settled (e ∙ rw settled refl))
-
-  pub removes : (r : Result Bool VaultFault) (d' : Disk) → Removes n r d d' → Gains away B d d'
-  removes (Ok true) d' h = subst (Gains away B d) (sym h.1) gains_removed
-  removes (Ok false) d' h = gains_none h.1
-  removes (Err Failed) d' (Absent a e) = gains_none e
-  removes (Err Failed) d' (Made a e) = subst (Gains away B d) (sym e) gains_removed
-  removes (Err Failed) d' (Unmade a e) = subst (Gains away B d) (sym e) gains_unremoved
-  removes (Err NoMemory) d' h = gains_none h
-
--- a removal of a name that is left out of account
-pub removes_away : {away : Name → Bool} {B : Name → File → Type 0} (n : Name) (r : Result Bool VaultFault) (d d' : Disk) → away n ≡ true → Removes n r d d' → Gains away B d d'
-removes_away {away} {B} n (Ok true) d d' w h = subst (Gains away B d) (sym h.1) (gains_away d n _ w)
-removes_away n (Ok false) d d' w h = gains_none h.1
-removes_away n (Err Failed) d d' w (Absent a e) = gains_none e
-removes_away {away} {B} n (Err Failed) d d' w (Made a e) = subst (Gains away B d) (sym e) (gains_away d n _ w)
-removes_away {away} {B} n (Err Failed) d d' w (Unmade a e) = subst (Gains away B d) (sym e) (gains_away d n _ w)
-removes_away n (Err NoMemory) d d' w h = gains_none h
-
--- a settled name to which one file may come has its file or that one, and a crash leaves one of them
-pub settled_change : (file : File) (s s' : Slot) → s.mark ≡ Settled → Change (λ f. f ≡ file) s s' → ((s'.now ≡ s.now) ⊎ (s'.now ≡ file)) × ((f : File) → May s' f → (f ≡ s.now) ⊎ (f ≡ file))
-settled_change file s s' e (Stays same less) = (inl same, λ f m. inl (subst (λ (k : Mark). LeftAt s.now k f) e (less f m)))
-settled_change file s s' e (Comes came less) = (
-  inr came,
-  λ f m. elim (less f m) [
-    | inl x ↦ inl (subst (λ (k : Mark). LeftAt s.now k f) e x)
-    | inr x ↦ inr x
-  ],
-)
 
 -- what stands at each name after a rename that was made
 pub renamed_to : (d : Disk) (from to : Name) → renamed d from to to ≡ slot (d from).now (moved (both_settled d from to) (d to).now)

@@ -180,6 +180,3 @@ module _ {V : Type 0} {disk : V → Option Disk} {count : V → ℕ} {left : V �
   pub finds : (x : File) (there : Bool) → Calls disk count left (Reads name (Ok x)) v1 v2 → ((d' : Disk) → IsCalm d' → x ≡ (d' name).now → Found name bytes (Ok there) d') → Walks disk count left on_way Nothing (Found name bytes (Ok there)) d v v2
   finds x there c2 ends = bind (sync_ok only e c) (λ n f b. b) (λ d1 told g is.
       call only1 told c2 (λ d2 y. (reads name (Ok x) d1 d2 y, ends d2 (subst IsCalm (sym y.0) (calm_then d d1 is)) (y.1 ∙ ap (λ (z : Disk). (z name).now) (sym y.0)))))
-
-  pub finds_not : (x : VaultFault) → Calls disk count left (Reads name (Err x)) v1 v2 → Walks disk count left on_way Nothing (λ d'. Unit {0}) d v v2
-  finds_not x c2 = bind (sync_ok only e c) (λ n f b. b) (λ d1 told g is. call only1 told c2 (λ d2 y. (reads name (Err x) d1 d2 y, tt)))

@@ -1,7 +1,6 @@
 -- Names of files are lists of bytes, in the order of their bytes.
 use Rattle.std.specs.Prelude.{ℕ, Bool, List, codes, nat_eq}
 use Rattle.std.specs.List.{starts_with}
-use Rattle.cv_base.specs.BytesOrder.{bytes_cmp}
 pub use Rattle.cv_base.specs.Path.{same_name}
 
 abbrev pub Name : Type 0

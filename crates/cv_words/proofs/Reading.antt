@@ -1,11 +1,9 @@
 -- The command line by what clap finds in it.
 use Rattle.std.proofs.Common.{◌≡◌, List, [], ◌∷◌, Option, Some, None, refl, sym, ap, subst, ◌∙◌}
 use Rattle.std.specs.Prelude.{Box, option_map}
-use Rattle.std.specs.Box.{box_value}
 use Rattle.clap.specs.Walk.{Row, Text}
 use Rattle.clap.specs.Simple.{subcommand_of, subcommand_rows}
 use Rattle.clap.specs.Faults.{fault_of}
-use Rattle.clap.specs.declared.parser.matches.ArgMatches.TheViews.{out-SubCommand}
 use Rattle.clap.specs.declared.parser.matches.SubCommand.{SubCommand}
 use Rattle.cv_words.specs.Words.{values_of, Means, Asks, IsCommand, init, stdio, ls, stat, cat, shell, publish}
 use Rattle.cv_words.specs.ProgramInner.{program, all_ids, values_at, IsGiven}
@@ -17,13 +15,6 @@ use Rattle.cv_words.proofs.Entering as entering
 -- ---- the subcommand of a parse
 
 module _ {Z : Type 0} where
-  pub named_rows : (o : Option (Box SubCommand Z)) (verb : Text) (rows : List Row) → Some verb ≡ option_map (λ b. (out-SubCommand (box_value b)).name.now) o
-      → Some rows ≡ option_map (λ p. p.1) (subcommand_rows o) → subcommand_rows o ≡ Some (verb, rows)
-  named_rows None verb rows named has = absurd cc
-  named_rows (Some b) verb rows named has =
-      let name : verb ≡ (out-SubCommand (box_value b)).name.now = cc in
-      ap (λ (n : Text). option_map (λ (r : List Row). (n, r)) (option_map (λ p. p.1) (subcommand_rows (Some b)))) (sym name) ∙ ap (option_map (λ (r : List Row). (verb, r))) (sym has)
-
   pub no_rows : (o : Option (Box SubCommand Z)) → None ≡ option_map (λ p. p.1) (subcommand_rows o) → subcommand_rows o ≡ None
   no_rows None has = refl
   no_rows (Some b) has = absurd cc
