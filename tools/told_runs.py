@@ -134,8 +134,9 @@ FIRST, FIRST_MANIFEST = line_with((), "head-1", "tree-1", "record-1")
 BELOW, BELOW_MANIFEST = line_with((), "head-below", "tree-below", "record-below")
 
 
-def put(vault, batch):
-    vault.sync()
+def put(vault, batch, settled=False):
+    if not settled:
+        vault.sync()
     for what in batch:
         if vault.read(path_of(what)) is None:
             vault.write("txn/" + id_of(what), OBJECTS[what][0])
@@ -161,7 +162,8 @@ def refused(reason, called=None, **members):
 
 class Gate:
     """What a gateway over a vault knows: the line, and one that came or didn't, as its manifest; the live lease, as its token,
-    key and revision; how many leases were granted; and whether the offered tree was found whole."""
+    key and revision; how many leases were granted; whether the offered tree was found whole; and whether nothing waits for a
+    sync."""
 
     def __init__(self, vault):
         self.vault, self.doubt, self.lease, self.granted, self.known = vault, None, None, 0, False
@@ -177,14 +179,16 @@ class Gate:
         vault.sync()
         vault.rename(EPOCH_WAY, EPOCH)
         vault.sync()
+        self.settled = True
 
     def settle(self):
         """Finds out whether a commit in doubt came, whose lease then ends."""
         if self.doubt is not None:
+            self.settled = False
             self.vault.sync()
             if self.vault.read(HEAD) == self.doubt:
                 self.line, self.lease = LINES[self.doubt], None
-            self.doubt = None
+            self.doubt, self.settled = None, True
 
     def refusal(self, key, token):
         if self.lease is None or self.lease[0] != token:
@@ -208,14 +212,20 @@ class Gate:
             self.lease = None
         return why or replied("done", status="ok")
 
+    def put(self, batch):
+        """Puts a batch on its way, behind a sync where something may wait for one."""
+        settled, self.settled = self.settled, False
+        put(self.vault, batch, settled)
+
     def store(self, key, token):
         why = self.refusal(key, token)
         if why is None:
             for what in SENT:
                 self.vault.read(path_of(what))
-            put(self.vault, SENT)
+            self.put(SENT)
             bring(self.vault, SENT)
             self.vault.sync()
+            self.settled = True
         return why or replied("done", status="ok")
 
     def judge(self):
@@ -239,7 +249,7 @@ class Gate:
             self.vault.read(path_of(what))
         line, data = second_line(self.line, key, token)
         batch = "tree", line[-1].record
-        put(self.vault, batch)
+        self.put(batch)
         bring(self.vault, batch)
         assert self.vault.read(path_of(line[-1].record)) is not None
         self.vault.write(HEAD_WAY, data)
@@ -247,7 +257,7 @@ class Gate:
         self.doubt = data
         self.vault.rename(HEAD_WAY, HEAD)
         self.vault.sync()
-        self.line, self.doubt, self.lease = line, None, None
+        self.line, self.doubt, self.lease, self.settled = line, None, None, True
         return replied("committed", final_revision=len(line), root_hash=told.NEW, status="ok")
 
     def answer(self, asked):

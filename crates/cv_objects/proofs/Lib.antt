@@ -2,6 +2,7 @@ mod Naming
 mod Lists
 mod Noted
 mod Looking
+mod Seen
 mod Writing
 mod Placing
 mod Batching

@@ -1,3 +1,4 @@
+pub mod Objects
 pub mod Names
 pub mod Fresh
 pub mod PlacesInner

@@ -1,13 +1,14 @@
 //! Objects over a vault.
 ghost use Rattle.std.proofs.Common.{ap};
-ghost use Rattle.std.specs.Prelude.{◌≡◌, ◌≢◌, Option, Err, IsErrOf, OnOk};
+ghost use Rattle.std.specs.Prelude.{◌≡◌, ◌≢◌, ⊤, ℕ, List, Option, Some, Err, true, false, IsErrOf, OnOk};
 ghost use Rattle.std.specs.Option.{option_map};
 ghost use Rattle.cv_base.specs.Counts.{HasCause};
 ghost use Rattle.cv_base.specs.Told.{WhereTold};
 ghost use Rattle.cv_vault.specs.Names.{on_way};
-ghost use Rattle.cv_vault.specs.Disk.{Syncs};
+ghost use Rattle.cv_vault.specs.Disk.{Reads, Measures, Writes, Syncs};
 ghost use Rattle.cv_vault.specs.Moments.{Calls, OnlyReads};
-ghost use Rattle.cv_vault.specs.Walks.{Walks, Nothing, BringsNothing, SparesIn};
+ghost use Rattle.cv_vault.specs.Walks.{Walks, Nothing, ComesTo, BringsNothing, SparesIn, IsNeither};
+ghost use Rattle.cv_vault.specs.Replace.{IsWaiting, Came, MovedIn, Replaced, Found};
 ghost use Rattle.cv_vault.specs.declared.vault.VaultFault.TheVariants as vault_fault;
 ghost use Rattle.cv_vault.proofs.Laws.{quiet_none, quiet_then, quiet_same};
 ghost use Rattle.cv_objects.specs.Names.{standing_on};
@@ -21,25 +22,45 @@ use crate::store_fault::StoreFault;
 use crate::storing::{bring_all, put_all, store_all};
 use cv_base::{Bytes, Object, ObjectId};
 use cv_ports::{Shelf, ShelfFault};
-use cv_vault::{Vault, VaultFault};
+use cv_vault::{Vault, VaultFault, bring_file, is_sure, move_in, replace};
 use std::alloc::Global;
+use std::marker::Model;
 
-/// The objects that stand under the names of their ids in a vault.
+/// The objects that stand under the names of their ids in a vault, and the files beside them that are no objects.
+///
+/// It keeps whether its last call that changed anything left all of the vault settled, so that a store begins with a sync only
+/// where something may wait for one.
 #[derive(Drop)]
 pub struct Objects<V: Vault + Drop> {
-    /// The vault, also for the files that are no objects.
-    pub vault: V,
-    /// How many objects were fetched, or asked for in vain, so far as 64 bits can count.
-    pub taken: u64,
+    vault: V,
+    taken: u64,
+    settled: bool,
+}
+
+impl<V: Vault + Drop> Model for Objects<V> {
+    ghost use Rattle.std.specs.Prelude.{◌≡◌, true};
+    ghost use Rattle.cv_base.specs.Told.{WhereTold};
+    ghost use Rattle.cv_vault.specs.Disk.{IsCalm};
+    ghost use Rattle.cv_objects.specs.Objects.{ObjectsView};
+
+    ghost Value = { ObjectsView V };
+
+    ghost view = { λ o. record { vault = o.vault; taken = o.taken } };
+
+    ghost invariant = { λ o. o.settled ≡ true → WhereTold (V.disk o.vault) IsCalm };
 }
 
 impl<V: Vault + Drop> Objects<V> {
-    /// The objects of a vault.
+    /// The objects of a vault, of which it isn't known whether it is settled.
     pub fn new(vault: V) -> Objects<V>
         ensures vault { result.vault ≡ vault }
         ensures taken { result.taken ≡ 0 }
     {
-        Objects { vault, taken: 0 }
+        Objects {
+            vault,
+            taken: 0,
+            settled: false,
+        }
     }
 
     /// The vault, given back.
@@ -49,6 +70,13 @@ impl<V: Vault + Drop> Objects<V> {
         self.vault
     }
 
+    /// Counts the objects that are fetched from now on.
+    pub fn count_anew(&mut self)
+        ensures { self.new ≡ record self.old { taken = 0 } }
+    {
+        self.taken = 0;
+    }
+
     /// Settles every name of the vault, and answers what its sync answers.
     pub fn settle(&mut self) -> Result<(), VaultFault>
         ensures call { Calls V.disk V.count V.left (Syncs result) self.old.vault self.new.vault }
@@ -56,7 +84,97 @@ impl<V: Vault + Drop> Objects<V> {
         ensures memory { result ≢ Err vault_fault.NoMemory }
         ensures taken { self.new.taken ≡ self.old.taken }
     {
-        self.vault.sync()
+        let result = self.vault.sync();
+        self.settled = result.is_ok();
+        result
+    }
+
+    /// The file under a name of the vault, if there is one.
+    pub fn read_file(&mut self, name: &str) -> Result<Option<Bytes>, VaultFault>
+        ensures call { Calls V.disk V.count V.left (Reads name.now result) self.old.vault self.new.vault }
+        ensures cause { HasCause (V.faults self.old.vault) (V.faults self.new.vault) (IsErrOf result vault_fault.Failed) }
+        ensures taken { self.new.taken ≡ self.old.taken }
+    {
+        self.vault.read(name)
+    }
+
+    /// How many bytes the file under a name of the vault has, if there is one.
+    pub fn measure_file(&mut self, name: &str) -> Result<Option<u64>, VaultFault>
+        ensures call { Calls V.disk V.count V.left (Measures name.now result) self.old.vault self.new.vault }
+        ensures cause { HasCause (V.faults self.old.vault) (V.faults self.new.vault) (IsErrOf result vault_fault.Failed) }
+        ensures taken { self.new.taken ≡ self.old.taken }
+    {
+        self.vault.length(name)
+    }
+
+    /// Sets a whole file of the vault, whose name is torn until the next sync.
+    pub fn write_file(&mut self, name: &str, bytes: &[u8]) -> Result<(), VaultFault>
+        ensures call { Calls V.disk V.count V.left (Writes name.now bytes.now result) self.old.vault self.new.vault }
+        ensures cause { HasCause (V.faults self.old.vault) (V.faults self.new.vault) (IsErrOf result vault_fault.Failed) }
+        ensures taken { self.new.taken ≡ self.old.taken }
+    {
+        self.settled = false;
+        self.vault.write(name, bytes)
+    }
+
+    /// Brings a file that waits on its way to its name, where the next sync settles it.
+    pub fn bring_file(&mut self, way: &str, name: &str) -> Result<(), VaultFault>
+        requires way { on_way way.now ≡ true }
+        requires name { on_way name.now ≡ false }
+        ensures walks { WhereTold (V.disk self.old.vault) (λ d. (bytes : List ℕ) → IsWaiting way.now name.now bytes d
+            → Walks V.disk V.count V.left on_way (ComesTo name.now (Some bytes)) (Came d way.now name.now bytes result) d self.old.vault self.new.vault) }
+        ensures memory { result ≡ Err vault_fault.NoMemory → OnlyReads V.disk V.count V.left self.old.vault self.new.vault }
+        ensures others { SparesIn V.disk (IsNeither way.now name.now) self.old.vault self.new.vault }
+        ensures cause { HasCause (V.faults self.old.vault) (V.faults self.new.vault) (IsErrOf result vault_fault.Failed) }
+        ensures taken { self.new.taken ≡ self.old.taken }
+    {
+        self.settled = false;
+        bring_file(&mut self.vault, way, name)
+    }
+
+    /// Brings a file that waits on its way to its name, for sure, as the vault's `move_in` does.
+    pub fn move_in(&mut self, way: &str, name: &str) -> Result<(), VaultFault>
+        requires way { on_way way.now ≡ true }
+        requires name { on_way name.now ≡ false }
+        ensures walks { WhereTold (V.disk self.old.vault) (λ d. (bytes : List ℕ) → IsWaiting way.now name.now bytes d
+            → Walks V.disk V.count V.left on_way (ComesTo name.now (Some bytes)) (MovedIn d name.now bytes result) d self.old.vault self.new.vault) }
+        ensures memory { result ≡ Err vault_fault.NoMemory → OnlyReads V.disk V.count V.left self.old.vault self.new.vault }
+        ensures others { SparesIn V.disk (IsNeither way.now name.now) self.old.vault self.new.vault }
+        ensures cause { HasCause (V.faults self.old.vault) (V.faults self.new.vault) (IsErrOf result vault_fault.Failed) }
+        ensures taken { self.new.taken ≡ self.old.taken }
+    {
+        let result = move_in(&mut self.vault, way, name);
+        self.settled = result.is_ok();
+        result
+    }
+
+    /// Brings a file whole to its name, by way of another name, for sure, as the vault's `replace` does.
+    pub fn replace(&mut self, way: &str, name: &str, bytes: &[u8]) -> Result<(), VaultFault>
+        requires way { on_way way.now ≡ true }
+        requires name { on_way name.now ≡ false }
+        ensures walks { WhereTold (V.disk self.old.vault) (λ d.
+            Walks V.disk V.count V.left on_way (ComesTo name.now (Some bytes.now)) (Replaced d name.now bytes.now result) d self.old.vault self.new.vault) }
+        ensures memory { result ≡ Err vault_fault.NoMemory → BringsNothing V.disk V.count V.left self.old.vault self.new.vault }
+        ensures others { SparesIn V.disk (IsNeither way.now name.now) self.old.vault self.new.vault }
+        ensures cause { HasCause (V.faults self.old.vault) (V.faults self.new.vault) (IsErrOf result vault_fault.Failed) }
+        ensures taken { self.new.taken ≡ self.old.taken }
+    {
+        let result = replace(&mut self.vault, way, name, bytes);
+        self.settled = result.is_ok();
+        result
+    }
+
+    /// Whether a file stands under a name for sure, as the vault's `is_sure` says. It settles first.
+    pub fn is_sure(&mut self, name: &str, bytes: &[u8]) -> Result<bool, VaultFault>
+        ensures walks { WhereTold (V.disk self.old.vault) (λ d.
+            Walks V.disk V.count V.left on_way Nothing (Found name.now bytes.now result) d self.old.vault self.new.vault) }
+        ensures others { SparesIn V.disk (λ n. ⊤) self.old.vault self.new.vault }
+        ensures cause { HasCause (V.faults self.old.vault) (V.faults self.new.vault) (IsErrOf result vault_fault.Failed) }
+        ensures taken { self.new.taken ≡ self.old.taken }
+    {
+        let result = is_sure(&mut self.vault, name, bytes);
+        self.settled = result.is_ok();
+        result
     }
 
     /// The ids of the batch that the shelf lacks, each once, in the order of the batch. Nothing changes in the vault.
@@ -75,7 +193,8 @@ impl<V: Vault + Drop> Objects<V> {
         fresh_ids(&mut self.vault, alloc, batch)
     }
 
-    /// Stores the objects of a batch that the shelf lacks: all of them, or, where it fails, some, whole. It settles first.
+    /// Stores the objects of a batch that the shelf lacks: all of them, or, where it fails, some, whole. It settles
+    /// first what may wait for a sync.
     ///
     /// A crash at any moment leaves under each name what it might have left before, or the object of the batch that comes
     /// to a name without a file. After `Collision` and `Damaged` nothing came. Whatever it answers, every other name, also one
@@ -93,11 +212,14 @@ impl<V: Vault + Drop> Objects<V> {
         if let Some(id) = clash_in(alloc, batch)? {
             return Err(StoreFault::Collision(id));
         }
-        store_all(&mut self.vault, alloc, batch)
+        let settled = self.settled;
+        let result = store_all(&mut self.vault, alloc, batch, settled);
+        self.settled = result.is_ok();
+        result
     }
 
     /// Puts the objects of a batch that the shelf lacks on their way, where the next sync settles them: the first half of a
-    /// store. It settles first. Nothing comes to any name of an object.
+    /// store. It settles first what may wait for a sync. Nothing comes to any name of an object.
     ///
     /// `Collision` and `Damaged` come where a store of the batch would be refused so.
     pub fn put(&mut self, alloc: Global, batch: &[Object]) -> Result<(), StoreFault>
@@ -113,7 +235,9 @@ impl<V: Vault + Drop> Objects<V> {
         if let Some(id) = clash_in(alloc, batch)? {
             return Err(StoreFault::Collision(id));
         }
-        put_all(&mut self.vault, alloc, batch)
+        let settled = self.settled;
+        self.settled = false;
+        put_all(&mut self.vault, alloc, batch, settled)
     }
 
     /// Settles what is on its way, and brings the objects of a batch to their names, where the next sync settles them: the
@@ -128,6 +252,7 @@ impl<V: Vault + Drop> Objects<V> {
         ensures cause { HasCause (V.faults self.old.vault) (V.faults self.new.vault) (IsErrOf result fault.Failed) }
         ensures taken { self.new.taken ≡ self.old.taken }
     {
+        self.settled = false;
         bring_all(&mut self.vault, alloc, batch)
     }
 }

@@ -1,11 +1,13 @@
 //! Objects are stored whole or not at all.
-ghost use Rattle.std.specs.Prelude.{◌≡◌, IsErrOf};
+ghost use Rattle.std.specs.Prelude.{◌≡◌, true, IsErrOf, OnOk};
 ghost use Rattle.sha1.specs.Sha1.{sha1};
 ghost use Rattle.cv_base.specs.Counts.{HasCause};
 ghost use Rattle.cv_base.specs.Digest.{IsDigest};
 ghost use Rattle.cv_base.specs.Told.{WhereTold};
 ghost use Rattle.cv_vault.specs.Names.{on_way};
-ghost use Rattle.cv_vault.specs.Moments.{OnlyReads};
+ghost use Rattle.cv_vault.specs.Disk.{IsCalm, Syncs};
+ghost use Rattle.cv_vault.specs.Moments.{Calls, OnlyReads};
+ghost use Rattle.cv_vault.specs.declared.vault.VaultFault.TheVariants as vault_fault;
 ghost use Rattle.cv_vault.specs.Walks.{Walks, Nothing, SparesIn, BringsNothing};
 ghost use Rattle.cv_objects.specs.Batches.{IsApart, WroteAll, Brought, Stored, Brings, BringsOne, IsRefusal, RefusesSettled, AreNamed, AreReady, IsOne};
 ghost use Rattle.cv_objects.specs.BatchesInner.{Compares, IsApartFrom, Looked, Wrote, WroteAbsent, Placed, PlacedAll, Waits, AllWait};
@@ -14,7 +16,7 @@ ghost use Rattle.cv_objects.specs.declared.store_fault.StoreFault.TheVariants as
 use crate::names::{name_of, way_of};
 use crate::store_fault::StoreFault;
 use cv_base::{Bytes, Object, ObjectId};
-use cv_vault::Vault;
+use cv_vault::{Vault, VaultFault};
 use std::alloc::Global;
 
 /// What bytes that stand under an object's name are against it.
@@ -111,15 +113,30 @@ fn place_absent<V: Vault>(vault: &mut V, alloc: Global, batch: &[Object]) -> Res
     Ok(())
 }
 
+/// Settles every name, where it isn't known that all is settled.
+fn settle_unless<V: Vault>(vault: &mut V, settled: bool) -> Result<(), VaultFault>
+    requires calm { settled ≡ true → WhereTold (V.disk vault.old) IsCalm }
+    ensures call { Calls V.disk V.count V.left (Syncs result) vault.old vault.new }
+    ensures cause { HasCause (V.faults vault.old) (V.faults vault.new) (IsErrOf result vault_fault.Failed) }
+{
+    if settled { Ok(()) } else { vault.sync() }
+}
+
 /// Puts the objects of a batch that the vault lacks on their way, where the next sync settles them. It settles first.
-pub fn put_all<V: Vault>(vault: &mut V, alloc: Global, batch: &[Object]) -> Result<(), StoreFault>
+pub fn put_all<V: Vault>(
+    vault: &mut V,
+    alloc: Global,
+    batch: &[Object],
+    settled: bool,
+) -> Result<(), StoreFault>
     requires named { AreNamed batch.now }
     requires one { IsOne batch.now }
+    requires calm { settled ≡ true → WhereTold (V.disk vault.old) IsCalm }
     ensures walks { WhereTold (V.disk vault.old) (λ d. Walks V.disk V.count V.left on_way Nothing (WroteAll d batch.now result) d vault.old vault.new) }
     ensures others { SparesIn V.disk (IsApart batch.now) vault.old vault.new }
     ensures cause { HasCause (V.faults vault.old) (V.faults vault.new) (IsErrOf result fault.Failed) }
 {
-    vault.sync()?;
+    settle_unless(vault, settled)?;
     write_absent(vault, alloc, batch)
 }
 
@@ -136,16 +153,23 @@ pub fn bring_all<V: Vault>(vault: &mut V, alloc: Global, batch: &[Object]) -> Re
 }
 
 /// Stores the objects of a batch that the vault lacks. It settles first.
-pub fn store_all<V: Vault>(vault: &mut V, alloc: Global, batch: &[Object]) -> Result<(), StoreFault>
+pub fn store_all<V: Vault>(
+    vault: &mut V,
+    alloc: Global,
+    batch: &[Object],
+    settled: bool,
+) -> Result<(), StoreFault>
     requires named { AreNamed batch.now }
     requires one { IsOne batch.now }
+    requires calm { settled ≡ true → WhereTold (V.disk vault.old) IsCalm }
     ensures walks { WhereTold (V.disk vault.old) (λ d. Walks V.disk V.count V.left on_way (Brings d batch.now) (Stored d batch.now result) d vault.old vault.new) }
     ensures refused { IsRefusal result → BringsNothing V.disk V.count V.left vault.old vault.new }
     ensures settled { WhereTold (V.disk vault.old) (λ d. WhereTold (V.disk vault.new) (RefusesSettled d batch.now result)) }
     ensures others { SparesIn V.disk (IsApart batch.now) vault.old vault.new }
+    ensures calm { OnOk result (WhereTold (V.disk vault.new) IsCalm) }
     ensures cause { HasCause (V.faults vault.old) (V.faults vault.new) (IsErrOf result fault.Failed) }
 {
-    put_all(vault, alloc, batch)?;
+    put_all(vault, alloc, batch, settled)?;
     bring_all(vault, alloc, batch)?;
     Ok(vault.sync()?)
 }

@@ -110,6 +110,28 @@ fn a_store_goes_on_where_an_earlier_one_failed(rt: HostRuntime) -> Result<(), Fa
     Ok(())
 }
 
+// Two stores, the second of a batch that the first brought in part: whether it ends well where the call of this number fails.
+fn stores_more(alloc: Global, call: u64) -> Result<bool, Fail> {
+    let failing = vec![in alloc; call]?;
+    let mut objects = Objects::new(MemoryVault::new(alloc, failing)?);
+    let mut batch = Vec::new(alloc);
+    add(alloc, &mut batch, Kind::Catalogue, b"world\n")?;
+    objects.store(alloc, batch.as_slice())?;
+    add(alloc, &mut batch, Kind::Plain, b"hello\n")?;
+    Ok(objects.store(alloc, batch.as_slice()).is_ok())
+}
+
+#[test]
+fn a_store_behind_one_that_ended_well_begins_without_a_sync(rt: HostRuntime) -> Result<(), Fail> {
+    let alloc = rt.alloc();
+    // Behind the seven calls of the first one a look at both objects, twice, a write, a rename and two syncs.
+    for call in 8..16 {
+        assert!(rt; !stores_more(alloc, call)?);
+    }
+    assert!(rt; stores_more(alloc, 16)?);
+    Ok(())
+}
+
 #[test]
 fn other_bytes_under_an_id_are_refused(rt: HostRuntime) -> Result<(), Fail> {
     let alloc = rt.alloc();

@@ -8,9 +8,12 @@ use Rattle.std.specs.declared.result.Result.TheVariants.{Ok, Err}
 use Rattle.cv_vault.specs.Names.{Name}
 use Rattle.cv_vault.specs.Disk.{Disk, File, Files, Reads, files_now}
 use Rattle.cv_vault.specs.Moments.{Calls}
+use Rattle.cv_vault.specs.declared.vault.VaultFault.{VaultFault}
+use Rattle.cv_vault.specs.declared.vault.VaultFault.TheVariants as vault
 use Rattle.cv_manifest.specs.declared.head.Head.{Head}
 use Rattle.cv_manifest.specs.Manifest.{IsHead}
 use Rattle.cv_swap.specs.Stands.{head_name}
+use Rattle.cv_swap.specs.Faults.{open_fault_of}
 use Rattle.cv_swap.specs.OpeningInner.{FindsHead, IsRead}
 use Rattle.cv_swap.specs.declared.open_fault.OpenFault.{OpenFault}
 use Rattle.cv_swap.specs.declared.open_fault.OpenFault.TheVariants.{NoRepository, BadManifest, OtherName, BadHistory, BadEpoch, EpochsSpent, Failed, NoMemory}
@@ -30,6 +33,11 @@ finds_head name is_seal f bytes (Err BadEpoch) e h = absurd h
 finds_head name is_seal f bytes (Err EpochsSpent) e h = absurd h
 finds_head name is_seal f bytes (Err Failed) e h = absurd h
 finds_head name is_seal f bytes (Err NoMemory) e h = tt
+
+-- where it can't be read nothing is said of it
+pub unread_head : (name : List ℕ) (is_seal : List ℕ → List ℕ → Bool) (f : Files) (r : Result Head OpenFault) (x : VaultFault) → r ≡ Err (open_fault_of x) → FindsHead name is_seal f r
+unread_head name is_seal f r vault.Failed is = rw is tt
+unread_head name is_seal f r vault.NoMemory is = rw is tt
 
 -- a head that was read can be written
 pub head_read : (name : List ℕ) (is_seal : List ℕ → List ℕ → Bool) (bytes : List ℕ) (r : Result Head OpenFault) → IsRead name is_seal bytes r → IfOk r IsHead

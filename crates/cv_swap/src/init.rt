@@ -22,12 +22,12 @@ use cv_vault::{Vault, VaultFault};
 use std::alloc::Global;
 
 /// Whether there is a manifest.
-fn has_head<V: Vault>(vault: &mut V) -> Result<bool, VaultFault>
-    ensures told { WhereTold (V.disk vault.old) (HasHead result) }
-    ensures reads { OnlyReads V.disk V.count V.left vault.old vault.new }
-    ensures cause { HasCause (V.faults vault.old) (V.faults vault.new) (IsErrOf result vault_fault.Failed) }
+fn has_head<V: Vault + Drop>(objects: &mut Objects<V>) -> Result<bool, VaultFault>
+    ensures told { WhereTold (V.disk objects.old.vault) (HasHead result) }
+    ensures reads { OnlyReads V.disk V.count V.left objects.old.vault objects.new.vault }
+    ensures cause { HasCause (V.faults objects.old.vault) (V.faults objects.new.vault) (IsErrOf result vault_fault.Failed) }
 {
-    Ok(vault.length(MANIFEST_NAME)?.is_some())
+    Ok(objects.measure_file(MANIFEST_NAME)?.is_some())
 }
 
 /// Makes the first revision of a repository in a vault without one.
@@ -45,7 +45,7 @@ pub fn init_in<V: Vault + Drop, S: Signer>(
     ensures silent { V.disk objects.old.vault ≡ None → V.disk objects.new.vault ≡ None }
     ensures cause { HasCause (V.faults objects.old.vault) (V.faults objects.new.vault) (IsErrOf result fault.Failed) }
 {
-    if has_head(&mut objects.vault)? {
+    if has_head(objects)? {
         return Err(InitFault::Exists);
     }
     let parts = first_parts(alloc, name, signer, now)?;

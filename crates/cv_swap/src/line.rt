@@ -153,7 +153,7 @@ impl<V: Vault + Drop, S: Signer + Drop> Line<V, S> {
         ensures no_memory { result ≡ Err vault_fault.NoMemory → self.new ≡ record self.old { vault = self.new.vault } }
         ensures cause { HasCause (V.faults self.old.vault) (V.faults self.new.vault) (IsErrOf result vault_fault.Failed) }
     {
-        match swap_on(&mut self.objects.vault) {
+        match swap_on(&mut self.objects) {
             Ok(()) => {
                 self.made += 1;
                 self.head = self.next_head;
@@ -179,7 +179,7 @@ impl<V: Vault + Drop, S: Signer + Drop> Line<V, S> {
         ensures failed { OnErr result (self.new ≡ record self.old { vault = self.new.vault }) }
         ensures cause { HasCause (V.faults self.old.vault) (V.faults self.new.vault) (IsErrOf result vault_fault.Failed) }
     {
-        let came = was_swapped(&mut self.objects.vault, self.manifest.as_slice())?;
+        let came = was_swapped(&mut self.objects, self.manifest.as_slice())?;
         if came {
             self.made += 1;
             self.head = self.next_head;
@@ -242,9 +242,10 @@ impl<V: Vault + Drop, S: Signer + Drop> Line<V, S> {
                     epoch,
                 } = found;
                 let records = records.into_vec();
+                objects.count_anew();
                 let made = records.len();
                 Ok(Line {
-                    objects: Objects::new(objects.into_vault()),
+                    objects,
                     name,
                     signer,
                     records,

@@ -2,7 +2,9 @@
 
 ghost use Rattle.std.specs.Prelude.{◌≡◌};
 ghost use Rattle.cv_swap.specs.Faults.{open_fault_of};
+ghost use Rattle.cv_swap.specs.declared.open_fault.OpenFault.TheVariants as fault;
 
+use cv_base::NoMemory;
 use cv_history::ChainFault;
 use cv_manifest::ManifestFault;
 use cv_vault::VaultFault;
@@ -36,5 +38,13 @@ impl From<VaultFault> for OpenFault {
             VaultFault::Failed => OpenFault::Failed,
             VaultFault::NoMemory => OpenFault::NoMemory,
         }
+    }
+}
+
+impl From<NoMemory> for OpenFault {
+    ghost from_gives = { λ _ e. e ≡ fault.NoMemory };
+
+    fn from(_fault: NoMemory) -> OpenFault {
+        OpenFault::NoMemory
     }
 }

@@ -22,7 +22,7 @@ use cv_history::{ChainFault, Record, chain};
 use cv_manifest::{Head, MANIFEST_NAME, Manifest, ManifestFault};
 use cv_objects::Objects;
 use cv_seal::Signer;
-use cv_vault::{Vault, VaultFault, replace};
+use cv_vault::{Vault, VaultFault};
 use std::alloc::Global;
 
 /// The name of the epoch's file.
@@ -52,24 +52,20 @@ fn read_manifest<S: Signer>(
 }
 
 /// The head that stands in the vault.
-fn read_head<V: Vault, S: Signer>(
-    vault: &mut V,
+fn read_head<V: Vault + Drop, S: Signer>(
+    objects: &mut Objects<V>,
     alloc: Global,
     name: &Name,
     signer: &S,
 ) -> Result<Head, OpenFault>
-    ensures told { WhereTold (V.disk vault.old) (λ d. FindsHead name.now (S.is_seal signer.now) (files_now d) result) }
+    ensures told { WhereTold (V.disk objects.old.vault) (λ d. FindsHead name.now (S.is_seal signer.now) (files_now d) result) }
     ensures head { IfOk result IsHead }
-    ensures reads { OnlyReads V.disk V.count V.left vault.old vault.new }
-    ensures cause { HasCause (V.faults vault.old) (V.faults vault.new) (IsErrOf result fault.Failed) }
+    ensures reads { OnlyReads V.disk V.count V.left objects.old.vault objects.new.vault }
+    ensures cause { HasCause (V.faults objects.old.vault) (V.faults objects.new.vault) (IsErrOf result fault.Failed) }
 {
-    match vault.read(MANIFEST_NAME) {
-        Ok(file) => match file {
-            Some(bytes) => read_manifest(alloc, &bytes, name, signer),
-            None => Err(OpenFault::NoRepository),
-        },
-        Err(VaultFault::Failed) => Err(OpenFault::Failed),
-        Err(VaultFault::NoMemory) => Err(OpenFault::NoMemory),
+    match objects.read_file(MANIFEST_NAME)? {
+        Some(bytes) => read_manifest(alloc, &bytes, name, signer),
+        None => Err(OpenFault::NoRepository),
     }
 }
 
@@ -87,19 +83,17 @@ fn parse_epoch(bytes: &[u8]) -> Option<u64>
 }
 
 /// The epoch that stands in the vault.
-fn read_epoch<V: Vault>(vault: &mut V) -> Result<u64, OpenFault>
-    ensures told { WhereTold (V.disk vault.old) (λ d. FindsEpoch (files_now d epoch_name) result) }
-    ensures reads { OnlyReads V.disk V.count V.left vault.old vault.new }
-    ensures cause { HasCause (V.faults vault.old) (V.faults vault.new) (IsErrOf result fault.Failed) }
+fn read_epoch<V: Vault + Drop>(objects: &mut Objects<V>) -> Result<u64, OpenFault>
+    ensures told { WhereTold (V.disk objects.old.vault) (λ d. FindsEpoch (files_now d epoch_name) result) }
+    ensures reads { OnlyReads V.disk V.count V.left objects.old.vault objects.new.vault }
+    ensures cause { HasCause (V.faults objects.old.vault) (V.faults objects.new.vault) (IsErrOf result fault.Failed) }
 {
-    match vault.read(EPOCH_NAME) {
-        Ok(Some(bytes)) => match parse_epoch(bytes.as_slice()) {
-            Some(epoch) => Ok(epoch),
-            None => Err(OpenFault::BadEpoch),
-        },
-        Ok(None) => Err(OpenFault::BadEpoch),
-        Err(VaultFault::Failed) => Err(OpenFault::Failed),
-        Err(VaultFault::NoMemory) => Err(OpenFault::NoMemory),
+    let Some(bytes) = objects.read_file(EPOCH_NAME)? else {
+        return Err(OpenFault::BadEpoch);
+    };
+    match parse_epoch(bytes.as_slice()) {
+        Some(epoch) => Ok(epoch),
+        None => Err(OpenFault::BadEpoch),
     }
 }
 
@@ -139,9 +133,9 @@ pub fn read_line<V: Vault + Drop, S: Signer>(
     ensures room { IfOk result (λ found. found.epoch < last_number) }
     ensures head { IfOk result (λ found. IsHead found.head) }
 {
-    let head = read_head(&mut objects.vault, alloc, name, signer)?;
+    let head = read_head(objects, alloc, name, signer)?;
     let records = read_records(objects, alloc, head)?;
-    let epoch = read_epoch(&mut objects.vault)?;
+    let epoch = read_epoch(objects)?;
     if epoch == u64::MAX {
         return Err(OpenFault::EpochsSpent);
     }
@@ -160,15 +154,19 @@ pub fn epoch_text_of(alloc: Global, epoch: u64) -> Result<String, NoMemory>
 }
 
 /// Sets the epoch, for sure. After `NoMemory` it isn't set, and no crash leaves it.
-pub fn set_epoch<V: Vault>(vault: &mut V, alloc: Global, epoch: u64) -> Result<(), VaultFault>
-    ensures walks { WhereTold (V.disk vault.old) (λ d.
-        Walks V.disk V.count V.left on_way (ComesTo epoch_name (Some (epoch_text epoch))) (Replaced d epoch_name (epoch_text epoch) result) d vault.old vault.new) }
-    ensures memory { result ≡ Err vault_fault.NoMemory → BringsNothing V.disk V.count V.left vault.old vault.new }
-    ensures silent { V.disk vault.old ≡ None → V.disk vault.new ≡ None }
-    ensures cause { HasCause (V.faults vault.old) (V.faults vault.new) (IsErrOf result vault_fault.Failed) }
+fn set_epoch<V: Vault + Drop>(
+    objects: &mut Objects<V>,
+    alloc: Global,
+    epoch: u64,
+) -> Result<(), VaultFault>
+    ensures walks { WhereTold (V.disk objects.old.vault) (λ d.
+        Walks V.disk V.count V.left on_way (ComesTo epoch_name (Some (epoch_text epoch))) (Replaced d epoch_name (epoch_text epoch) result) d objects.old.vault objects.new.vault) }
+    ensures memory { result ≡ Err vault_fault.NoMemory → BringsNothing V.disk V.count V.left objects.old.vault objects.new.vault }
+    ensures silent { V.disk objects.old.vault ≡ None → V.disk objects.new.vault ≡ None }
+    ensures cause { HasCause (V.faults objects.old.vault) (V.faults objects.new.vault) (IsErrOf result vault_fault.Failed) }
 {
     let text = epoch_text_of(alloc, epoch)?;
-    replace(vault, EPOCH_WAY, EPOCH_NAME, text.as_bytes())
+    objects.replace(EPOCH_WAY, EPOCH_NAME, text.as_bytes())
 }
 
 /// Reads what stands in the vault of a repository, for sure, and raises its epoch by one, for sure.
@@ -186,6 +184,6 @@ pub fn open_on<V: Vault + Drop, S: Signer>(
 {
     objects.settle()?;
     let found = read_line(objects, alloc, name, signer)?;
-    set_epoch(&mut objects.vault, alloc, found.epoch + 1)?;
+    set_epoch(objects, alloc, found.epoch + 1)?;
     Ok(found)
 }

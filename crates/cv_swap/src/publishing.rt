@@ -17,7 +17,7 @@ use crate::opening::{EPOCH_NAME, EPOCH_WAY, epoch_text_of};
 use cv_base::Object;
 use cv_manifest::MANIFEST_NAME;
 use cv_objects::{Objects, StoreFault};
-use cv_vault::{Vault, VaultFault, bring_file, is_sure, move_in};
+use cv_vault::{Vault, VaultFault};
 use std::alloc::Global;
 
 /// The name by which a manifest comes.
@@ -84,39 +84,50 @@ pub fn prepare_on<V: Vault + Drop>(
     ensures taken { objects.new.taken ≡ objects.old.taken }
 {
     shelve_absent(objects, alloc, batch)?;
-    objects.vault.write(HEAD_WAY, manifest)?;
+    objects.write_file(HEAD_WAY, manifest)?;
     Ok(objects.settle()?)
 }
 
 /// Brings the manifest that waits on its way to its name, for sure.
-pub fn swap_on<V: Vault>(vault: &mut V) -> Result<(), VaultFault>
-    ensures walks { WhereTold (V.disk vault.old) (λ d. (manifest : List ℕ) → IsWaiting head_way head_name manifest d
-        → Walks V.disk V.count V.left on_way (ComesTo head_name (Some manifest)) (MovedIn d head_name manifest result) d vault.old vault.new) }
-    ensures memory { result ≡ Err vault_fault.NoMemory → OnlyReads V.disk V.count V.left vault.old vault.new }
-    ensures silent { V.disk vault.old ≡ None → V.disk vault.new ≡ None }
-    ensures cause { HasCause (V.faults vault.old) (V.faults vault.new) (IsErrOf result vault_fault.Failed) }
+pub fn swap_on<V: Vault + Drop>(objects: &mut Objects<V>) -> Result<(), VaultFault>
+    ensures walks { WhereTold (V.disk objects.old.vault) (λ d. (manifest : List ℕ) → IsWaiting head_way head_name manifest d
+        → Walks V.disk V.count V.left on_way (ComesTo head_name (Some manifest)) (MovedIn d head_name manifest result) d objects.old.vault objects.new.vault) }
+    ensures memory { result ≡ Err vault_fault.NoMemory → OnlyReads V.disk V.count V.left objects.old.vault objects.new.vault }
+    ensures silent { V.disk objects.old.vault ≡ None → V.disk objects.new.vault ≡ None }
+    ensures cause { HasCause (V.faults objects.old.vault) (V.faults objects.new.vault) (IsErrOf result vault_fault.Failed) }
+    ensures taken { objects.new.taken ≡ objects.old.taken }
 {
-    move_in(vault, HEAD_WAY, MANIFEST_NAME)
+    objects.move_in(HEAD_WAY, MANIFEST_NAME)
 }
 
 /// Whether the manifest came to its name. It settles first.
-pub fn was_swapped<V: Vault>(vault: &mut V, manifest: &[u8]) -> Result<bool, VaultFault>
-    ensures walks { WhereTold (V.disk vault.old) (λ d. Walks V.disk V.count V.left on_way Nothing (Found head_name manifest.now result) d vault.old vault.new) }
-    ensures silent { V.disk vault.old ≡ None → V.disk vault.new ≡ None }
-    ensures cause { HasCause (V.faults vault.old) (V.faults vault.new) (IsErrOf result vault_fault.Failed) }
+pub fn was_swapped<V: Vault + Drop>(
+    objects: &mut Objects<V>,
+    manifest: &[u8],
+) -> Result<bool, VaultFault>
+    ensures walks { WhereTold (V.disk objects.old.vault) (λ d.
+        Walks V.disk V.count V.left on_way Nothing (Found head_name manifest.now result) d objects.old.vault objects.new.vault) }
+    ensures silent { V.disk objects.old.vault ≡ None → V.disk objects.new.vault ≡ None }
+    ensures cause { HasCause (V.faults objects.old.vault) (V.faults objects.new.vault) (IsErrOf result vault_fault.Failed) }
+    ensures taken { objects.new.taken ≡ objects.old.taken }
 {
-    is_sure(vault, MANIFEST_NAME, manifest)
+    objects.is_sure(MANIFEST_NAME, manifest)
 }
 
 /// Puts the first epoch and a manifest on their way, where the next sync settles them.
-fn put_beside<V: Vault>(vault: &mut V, alloc: Global, manifest: &[u8]) -> Result<(), VaultFault>
-    ensures walks { WhereTold (V.disk vault.old) (λ d. Walks V.disk V.count V.left on_way Nothing (PutBeside d manifest.now result) d vault.old vault.new) }
-    ensures silent { V.disk vault.old ≡ None → V.disk vault.new ≡ None }
-    ensures cause { HasCause (V.faults vault.old) (V.faults vault.new) (IsErrOf result vault_fault.Failed) }
+fn put_beside<V: Vault + Drop>(
+    objects: &mut Objects<V>,
+    alloc: Global,
+    manifest: &[u8],
+) -> Result<(), VaultFault>
+    ensures walks { WhereTold (V.disk objects.old.vault) (λ d.
+        Walks V.disk V.count V.left on_way Nothing (PutBeside d manifest.now result) d objects.old.vault objects.new.vault) }
+    ensures silent { V.disk objects.old.vault ≡ None → V.disk objects.new.vault ≡ None }
+    ensures cause { HasCause (V.faults objects.old.vault) (V.faults objects.new.vault) (IsErrOf result vault_fault.Failed) }
 {
     let text = epoch_text_of(alloc, 0)?;
-    vault.write(EPOCH_WAY, text.as_bytes())?;
-    vault.write(HEAD_WAY, manifest)
+    objects.write_file(EPOCH_WAY, text.as_bytes())?;
+    objects.write_file(HEAD_WAY, manifest)
 }
 
 /// Brings all of a first revision but its head, whose manifest is put on its way: its objects, and the first epoch. Each of
@@ -135,9 +146,9 @@ pub fn build_first<V: Vault + Drop>(
     ensures cause { HasCause (V.faults objects.old.vault) (V.faults objects.new.vault) (IsErrOf result fault.Failed) }
 {
     objects.put(alloc, batch)?;
-    put_beside(&mut objects.vault, alloc, manifest)?;
+    put_beside(objects, alloc, manifest)?;
     objects.bring(alloc, batch)?;
-    bring_file(&mut objects.vault, EPOCH_WAY, EPOCH_NAME)?;
+    objects.bring_file(EPOCH_WAY, EPOCH_NAME)?;
     Ok(objects.settle()?)
 }
 
@@ -154,6 +165,6 @@ pub fn init_on<V: Vault + Drop>(
     ensures cause { HasCause (V.faults objects.old.vault) (V.faults objects.new.vault) (IsErrOf result fault.Failed) }
 {
     build_first(objects, alloc, batch, manifest)?;
-    swap_on(&mut objects.vault)?;
+    swap_on(objects)?;
     Ok(())
 }

@@ -16,6 +16,7 @@ mod Walking
 mod Calling
 mod Quiet
 mod Replacing
+mod Calming
 mod Sparing
 mod Crashing
 pub mod Laws

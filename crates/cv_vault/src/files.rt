@@ -2,6 +2,7 @@
 ghost use Rattle.std.specs.Prelude.{◌≡◌, ◌≢◌, ⊤, ℕ, List, None, Some, Err, true, false, IsErrOf, IsSome, OnOk};
 ghost use Rattle.cv_base.specs.Counts.{HasCause};
 ghost use Rattle.cv_base.specs.Told.{WhereTold};
+ghost use Rattle.cv_vault.specs.Disk.{IsCalm};
 ghost use Rattle.cv_vault.specs.Names.{on_way};
 ghost use Rattle.cv_vault.specs.Moments.{OnlyReads};
 ghost use Rattle.cv_vault.specs.Walks.{Walks, Nothing, ComesTo, BringsNothing, SparesIn, IsNeither};
@@ -45,7 +46,7 @@ pub fn bring_file<V: Vault>(vault: &mut V, way: &str, name: &str) -> Result<(), 
 }
 
 /// Brings a file that waits on its way to its name, for sure. After `Failed` it may be there or not. After `NoMemory` it
-/// isn't, and no crash leaves it. Where none stands on the way it isn't `Ok`, and it only reads.
+/// isn't, and no crash leaves it. Where none stands on the way it isn't `Ok`, and it only reads. After `Ok` all is settled.
 pub fn move_in<V: Vault>(vault: &mut V, way: &str, name: &str) -> Result<(), VaultFault>
     requires way { on_way way.now ≡ true }
     requires name { on_way name.now ≡ false }
@@ -55,6 +56,7 @@ pub fn move_in<V: Vault>(vault: &mut V, way: &str, name: &str) -> Result<(), Vau
     ensures absent { WhereTold (V.disk vault.old) (λ d. (d way.now).now ≡ None → OnlyReads V.disk V.count V.left vault.old vault.new) }
     ensures memory { result ≡ Err fault.NoMemory → OnlyReads V.disk V.count V.left vault.old vault.new }
     ensures others { SparesIn V.disk (IsNeither way.now name.now) vault.old vault.new }
+    ensures calm { OnOk result (WhereTold (V.disk vault.new) IsCalm) }
     ensures cause { HasCause (V.faults vault.old) (V.faults vault.new) (IsErrOf result fault.Failed) }
 {
     bring_file(vault, way, name)?;
@@ -67,7 +69,7 @@ pub fn move_in<V: Vault>(vault: &mut V, way: &str, name: &str) -> Result<(), Vau
 ///
 /// A crash at any moment leaves under the name the file that it might have left before, or the new one, and under every
 /// other name that isn't on the way what it might have left. After `Failed` the new file may have come to its name.
-/// After `NoMemory` it hasn't, and no crash leaves it.
+/// After `NoMemory` it hasn't, and no crash leaves it. After `Ok` all is settled.
 pub fn replace<V: Vault>(
     vault: &mut V,
     way: &str,
@@ -80,16 +82,18 @@ pub fn replace<V: Vault>(
         Walks V.disk V.count V.left on_way (ComesTo name.now (Some bytes.now)) (Replaced d name.now bytes.now result) d vault.old vault.new) }
     ensures memory { result ≡ Err fault.NoMemory → BringsNothing V.disk V.count V.left vault.old vault.new }
     ensures others { SparesIn V.disk (IsNeither way.now name.now) vault.old vault.new }
+    ensures calm { OnOk result (WhereTold (V.disk vault.new) IsCalm) }
     ensures cause { HasCause (V.faults vault.old) (V.faults vault.new) (IsErrOf result fault.Failed) }
 {
     put_on_way(vault, way, bytes)?;
     move_in(vault, way, name)
 }
 
-/// Whether a file stands under a name for sure. It settles first.
+/// Whether a file stands under a name for sure. It settles first, so after `Ok` all is settled.
 pub fn is_sure<V: Vault>(vault: &mut V, name: &str, bytes: &[u8]) -> Result<bool, VaultFault>
     ensures walks { WhereTold (V.disk vault.old) (λ d. Walks V.disk V.count V.left on_way Nothing (Found name.now bytes.now result) d vault.old vault.new) }
     ensures others { SparesIn V.disk (λ n. ⊤) vault.old vault.new }
+    ensures calm { OnOk result (WhereTold (V.disk vault.new) IsCalm) }
     ensures cause { HasCause (V.faults vault.old) (V.faults vault.new) (IsErrOf result fault.Failed) }
 {
     vault.sync()?;

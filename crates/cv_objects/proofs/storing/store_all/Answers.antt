@@ -1,4 +1,4 @@
-use Rattle.cv_vault.proofs.Laws.{looser}
+use Rattle.cv_vault.proofs.Laws.{looser, calm_sync}
 use Rattle.cv_objects.proofs.Looking.{handed_on, outside, same_fault}
 use Rattle.cv_objects.proofs.Stores.{refusal_inside, refused_settled, then_refused, then_unplaced, then_unrefused, then_brought, then_stored, then_fails}
 use Rattle.cv_objects.proofs.storing.store_all.Goals as goal
@@ -42,3 +42,6 @@ returns-in_err-sync-clause-settled g c = λ d e d' told refusal. absurd (refusal
 
 pub returns-clause-settled : goal.returns-clause-settled
 returns-clause-settled g c = λ d e d' told refusal. absurd refusal
+
+pub returns-clause-calm : goal.returns-clause-calm
+returns-clause-calm g c = calm_sync c.in_ok-sync.ensures.call

@@ -10,10 +10,10 @@ use Rattle.cv_swap.proofs.opening.set_epoch.Goals as goal
 pub returns-clause-walks : goal.returns-clause-walks
 returns-clause-walks g c = λ d e.
     let text : c.as_bytes.result.now ≡ epoch_text c.args.epoch = search rules in
-    subst (λ (b : List ℕ). Walks g.V.Vault.disk g.V.Vault.count g.V.Vault.left on_way (ComesTo epoch_name (Some b)) (Replaced d epoch_name b c.replace.result) d c.args.vault.now c.replace.new.vault) text (c.replace.ensures.walks d e)
+    subst (λ (b : List ℕ). Walks g.V.Vault.disk g.V.Vault.count g.V.Vault.left on_way (ComesTo epoch_name (Some b)) (Replaced d epoch_name b c.replace.result) d c.args.objects.now.vault c.replace.new.self.vault) text (c.replace.ensures.walks d e)
 
 pub returns-in_err-text-clause-memory : goal.returns-in_err-text-clause-memory
-returns-in_err-text-clause-memory g c = λ none d e. stand (g.met.V.Vault.only_now c.args.vault.now) e tt
+returns-in_err-text-clause-memory g c = λ none d e. stand (g.met.V.Vault.only_now c.args.objects.now.vault) e tt
 
 pub returns-clause-silent : goal.returns-clause-silent
 returns-clause-silent g c = λ e. c.replace.ensures.others.silent e

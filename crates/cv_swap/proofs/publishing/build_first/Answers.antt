@@ -35,14 +35,14 @@ returns-in_err-settle-clause-walks g c = λ d e.
     let w1 = then_beside c.args.batch.now c.args.manifest.now c.requires.named (c.in_ok-put.ensures.walks d e) c.in_ok-put_beside.ensures.walks in
     let w2 = then_objects c.args.batch.now c.args.manifest.now c.requires.named w1 c.in_ok-bring.ensures.walks in
     let w3 = then_epoch c.args.batch.now c.args.manifest.now w2 c.in_ok-bring_file.ensures.walks in
-    then_unsettled c.args.batch.now c.args.manifest.now _ c.in_err-settle.field-0.0 (handed_on _ _ c.from_residual-in_err-settle.ensures.1) (g.met.V.Vault.only_now c.bring_file.new.vault) w3 c.in_err-settle.ensures.call
+    then_unsettled c.args.batch.now c.args.manifest.now _ c.in_err-settle.field-0.0 (handed_on _ _ c.from_residual-in_err-settle.ensures.1) (g.met.V.Vault.only_now c.bring_file.new.self.vault) w3 c.in_err-settle.ensures.call
 
 pub returns-clause-walks : goal.returns-clause-walks
 returns-clause-walks g c = λ d e.
     let w1 = then_beside c.args.batch.now c.args.manifest.now c.requires.named (c.in_ok-put.ensures.walks d e) c.in_ok-put_beside.ensures.walks in
     let w2 = then_objects c.args.batch.now c.args.manifest.now c.requires.named w1 c.in_ok-bring.ensures.walks in
     let w3 = then_epoch c.args.batch.now c.args.manifest.now w2 c.in_ok-bring_file.ensures.walks in
-    then_built c.args.batch.now c.args.manifest.now (g.met.V.Vault.only_now c.bring_file.new.vault) w3 c.in_ok-settle.ensures.call
+    then_built c.args.batch.now c.args.manifest.now (g.met.V.Vault.only_now c.bring_file.new.self.vault) w3 c.in_ok-settle.ensures.call
 
 pub returns-in_err-put-clause-refused : goal.returns-in_err-put-clause-refused
 returns-in_err-put-clause-refused g c = λ refusal d e. looser (c.in_err-put.ensures.walks d e) (λ n f b. b) (λ d1 gains shown. tt)

@@ -1,6 +1,7 @@
 use Rattle.std.proofs.Common.{sym, ap, ◌∙◌}
 use Rattle.std.specs.declared.result.Result.TheVariants.{Err}
 use Rattle.cv_base.proofs.Laws.{handed_on}
+use Rattle.cv_vault.proofs.Calming.{calm_sync}
 use Rattle.cv_vault.proofs.Names.{none_there}
 use Rattle.cv_vault.proofs.Replacing.{moves, moves_not, moves_unsure, ok, err}
 use Rattle.cv_vault.proofs.Sparing.{spares_then, spares_sync}
@@ -36,3 +37,6 @@ returns-in_err-sync-clause-absent g c = λ d e none. absurd (none_there none (c.
 
 pub returns-clause-absent : goal.returns-clause-absent
 returns-clause-absent g c = λ d e none. absurd (none_there none (c.in_ok-bring_file.ensures.there d e))
+
+pub returns-clause-calm : goal.returns-clause-calm
+returns-clause-calm g c = calm_sync c.in_ok-sync.ensures.call

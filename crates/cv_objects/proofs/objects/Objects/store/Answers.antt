@@ -4,6 +4,7 @@ use Rattle.cv_objects.specs.Batches.{by_two}
 use Rattle.cv_objects.specs.declared.store_fault.StoreFault.TheVariants.{NoMemory}
 use Rattle.cv_objects.proofs.Looking.{same_fault}
 use Rattle.cv_objects.proofs.Stores.{refusal_inside, clash_twice}
+use Rattle.cv_objects.proofs.Seen.{where_ok}
 use Rattle.cv_objects.proofs.objects.Objects.store.Goals as goal
 
 pub returns-in-Some-clause-walks : goal.returns-in-Some-clause-walks
@@ -20,3 +21,6 @@ returns-in_err-id-clause-settled g c = λ d e d' told refusal one. absurd (refus
 
 pub returns-in-Some-clause-settled : goal.returns-in-Some-clause-settled
 returns-in-Some-clause-settled g c = λ d e d' told refusal one. absurd (clash_twice (rw c.in-Some.is at c.in_ok-id.ensures) one)
+
+pub invariant_of-self : goal.invariant_of-self
+invariant_of-self g c = where_ok c.store_all-result.result _ c.is_ok-self-inside.ensures.value c.store_all-result.ensures.calm

@@ -15,4 +15,4 @@ pub returns-in-Err-NoMemory-clause-walks : goal.returns-in-Err-NoMemory-clause-w
 returns-in-Err-NoMemory-clause-walks g c = swap_walks (Err NoMemory) _ _ c.self.view_is c.requires.ready c.self.invariant.waits (rw c.in-Err-NoMemory.field-0-is at (rw c.in-Err-NoMemory.is at c.swap_on.ensures.walks))
 
 pub returns-in-Err-NoMemory-clause-memory : goal.returns-in-Err-NoMemory-clause-memory
-returns-in-Err-NoMemory-clause-memory g c = λ e. subst (λ v. OnlyReads g.V.Vault.disk g.V.Vault.count g.V.Vault.left v c.swap_on.new.vault) (vault_seen _ _ c.self.view_is) (c.swap_on.ensures.memory (c.in-Err-NoMemory.is ∙ ap Err c.in-Err-NoMemory.field-0-is))
+returns-in-Err-NoMemory-clause-memory g c = λ e. subst (λ v. OnlyReads g.V.Vault.disk g.V.Vault.count g.V.Vault.left v c.swap_on.new.objects.vault) (vault_seen _ _ c.self.view_is) (c.swap_on.ensures.memory (c.in-Err-NoMemory.is ∙ ap Err c.in-Err-NoMemory.field-0-is))
