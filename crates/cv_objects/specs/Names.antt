@@ -1,14 +1,19 @@
 -- Where objects stand.
-use Rattle.std.specs.Prelude.{◌++◌, ℕ, Bool, ◌&&◌, List, length, codes, nat_eq, nat_lt, None, if◌then◌else◌}
+use Rattle.std.specs.Prelude.{◌≢◌, ◌++◌, ℕ, Bool, ◌&&◌, List, length, codes, nat_eq, nat_lt, None, if◌then◌else◌}
 use Rattle.std.specs.List.{list_all}
 use Rattle.cv_base.specs.ObjectId.{id_text, file_name}
 use Rattle.cv_base.specs.declared.id.ObjectId.{ObjectId}
 use Rattle.cv_ports.specs.Shelf.{Shelf}
 use Rattle.cv_vault.specs.Disk.{Disk, Files, files_now}
+use Rattle.cv_vault.specs.Names.{Name}
 
 -- the name of an object that is on its way
 abbrev pub way_name : ObjectId → List ℕ
 way_name id = codes "txn/" ++ id_text id
+
+-- the name of a file that is no object, whatever its bytes
+abbrev pub IsNoObject : Name → Type 0
+IsNoObject n = (id : ObjectId) → n ≢ file_name id
 
 abbrev pub is_byte : ℕ → Bool
 is_byte b = nat_lt b 256

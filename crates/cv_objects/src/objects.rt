@@ -1,6 +1,6 @@
 //! Objects over a vault.
 ghost use Rattle.std.proofs.Common.{ap};
-ghost use Rattle.std.specs.Prelude.{◌≡◌, ◌≢◌, ⊤, ℕ, List, Option, Some, Err, true, false, IsErrOf, OnOk};
+ghost use Rattle.std.specs.Prelude.{◌≡◌, ◌≢◌, ⊤, ℕ, List, Option, None, Some, IsSome, Err, true, false, IsErrOf, OnOk};
 ghost use Rattle.std.specs.Option.{option_map};
 ghost use Rattle.cv_base.specs.Counts.{HasCause};
 ghost use Rattle.cv_base.specs.Told.{WhereTold};
@@ -11,7 +11,7 @@ ghost use Rattle.cv_vault.specs.Walks.{Walks, Nothing, ComesTo, BringsNothing, S
 ghost use Rattle.cv_vault.specs.Replace.{IsWaiting, Came, MovedIn, Replaced, Found};
 ghost use Rattle.cv_vault.specs.declared.vault.VaultFault.TheVariants as vault_fault;
 ghost use Rattle.cv_vault.proofs.Laws.{quiet_none, quiet_then, quiet_same};
-ghost use Rattle.cv_objects.specs.Names.{standing_on};
+ghost use Rattle.cv_objects.specs.Names.{IsNoObject, standing_on};
 ghost use Rattle.cv_objects.specs.Batches.{AreNamed, AreReady, Brings, Brought, GivesFresh, IsApart, IsOne, IsRefusal, RefusesSettled, Stored, WroteAll};
 ghost use Rattle.cv_objects.specs.declared.store_fault.StoreFault.TheVariants as fault;
 
@@ -28,8 +28,8 @@ use std::marker::Model;
 
 /// The objects that stand under the names of their ids in a vault, and the files beside them that are no objects.
 ///
-/// It keeps whether its last call that changed anything left all of the vault settled, so that a store begins with a sync only
-/// where something may wait for one.
+/// It keeps where it knows that all of the vault is settled, so that a store begins with a sync only where something may wait
+/// for one.
 #[derive(Drop)]
 pub struct Objects<V: Vault + Drop> {
     vault: V,
@@ -107,8 +107,9 @@ impl<V: Vault + Drop> Objects<V> {
         self.vault.length(name)
     }
 
-    /// Sets a whole file of the vault, whose name is torn until the next sync.
+    /// Sets a whole file of the vault that is no object, whose name is torn until the next sync.
     pub fn write_file(&mut self, name: &str, bytes: &[u8]) -> Result<(), VaultFault>
+        requires plain { IsNoObject name.now }
         ensures call { Calls V.disk V.count V.left (Writes name.now bytes.now result) self.old.vault self.new.vault }
         ensures cause { HasCause (V.faults self.old.vault) (V.faults self.new.vault) (IsErrOf result vault_fault.Failed) }
         ensures taken { self.new.taken ≡ self.old.taken }
@@ -117,12 +118,15 @@ impl<V: Vault + Drop> Objects<V> {
         self.vault.write(name, bytes)
     }
 
-    /// Brings a file that waits on its way to its name, where the next sync settles it.
+    /// Brings a file that waits on its way to its name, where the next sync settles it, as the vault's `bring_file` does.
     pub fn bring_file(&mut self, way: &str, name: &str) -> Result<(), VaultFault>
         requires way { on_way way.now ≡ true }
         requires name { on_way name.now ≡ false }
+        requires plain { IsNoObject name.now }
         ensures walks { WhereTold (V.disk self.old.vault) (λ d. (bytes : List ℕ) → IsWaiting way.now name.now bytes d
             → Walks V.disk V.count V.left on_way (ComesTo name.now (Some bytes)) (Came d way.now name.now bytes result) d self.old.vault self.new.vault) }
+        ensures there { WhereTold (V.disk self.old.vault) (λ d. OnOk result (IsSome (d way.now).now)) }
+        ensures absent { WhereTold (V.disk self.old.vault) (λ d. (d way.now).now ≡ None → OnlyReads V.disk V.count V.left self.old.vault self.new.vault) }
         ensures memory { result ≡ Err vault_fault.NoMemory → OnlyReads V.disk V.count V.left self.old.vault self.new.vault }
         ensures others { SparesIn V.disk (IsNeither way.now name.now) self.old.vault self.new.vault }
         ensures cause { HasCause (V.faults self.old.vault) (V.faults self.new.vault) (IsErrOf result vault_fault.Failed) }
@@ -136,8 +140,11 @@ impl<V: Vault + Drop> Objects<V> {
     pub fn move_in(&mut self, way: &str, name: &str) -> Result<(), VaultFault>
         requires way { on_way way.now ≡ true }
         requires name { on_way name.now ≡ false }
+        requires plain { IsNoObject name.now }
         ensures walks { WhereTold (V.disk self.old.vault) (λ d. (bytes : List ℕ) → IsWaiting way.now name.now bytes d
             → Walks V.disk V.count V.left on_way (ComesTo name.now (Some bytes)) (MovedIn d name.now bytes result) d self.old.vault self.new.vault) }
+        ensures there { WhereTold (V.disk self.old.vault) (λ d. OnOk result (IsSome (d way.now).now)) }
+        ensures absent { WhereTold (V.disk self.old.vault) (λ d. (d way.now).now ≡ None → OnlyReads V.disk V.count V.left self.old.vault self.new.vault) }
         ensures memory { result ≡ Err vault_fault.NoMemory → OnlyReads V.disk V.count V.left self.old.vault self.new.vault }
         ensures others { SparesIn V.disk (IsNeither way.now name.now) self.old.vault self.new.vault }
         ensures cause { HasCause (V.faults self.old.vault) (V.faults self.new.vault) (IsErrOf result vault_fault.Failed) }
@@ -152,6 +159,7 @@ impl<V: Vault + Drop> Objects<V> {
     pub fn replace(&mut self, way: &str, name: &str, bytes: &[u8]) -> Result<(), VaultFault>
         requires way { on_way way.now ≡ true }
         requires name { on_way name.now ≡ false }
+        requires plain { IsNoObject name.now }
         ensures walks { WhereTold (V.disk self.old.vault) (λ d.
             Walks V.disk V.count V.left on_way (ComesTo name.now (Some bytes.now)) (Replaced d name.now bytes.now result) d self.old.vault self.new.vault) }
         ensures memory { result ≡ Err vault_fault.NoMemory → BringsNothing V.disk V.count V.left self.old.vault self.new.vault }

@@ -33,6 +33,12 @@ head_not_data id = tested is_data head_name (file_name id) refl refl
 pub epoch_not_data : (id : ObjectId) → epoch_name ≢ file_name id
 epoch_not_data id = tested is_data epoch_name (file_name id) refl refl
 
+pub head_way_not_data : (id : ObjectId) → head_way ≢ file_name id
+head_way_not_data id = tested is_data head_way (file_name id) refl refl
+
+pub epoch_way_not_data : (id : ObjectId) → epoch_way ≢ file_name id
+epoch_way_not_data id = tested is_data epoch_way (file_name id) refl refl
+
 pub epoch_not_head : epoch_name ≢ head_name
 epoch_not_head = tested is_head epoch_name head_name refl refl
 
@@ -66,13 +72,13 @@ short_not_object way size id long short is e =
 pub head_apart : (batch : List Object) → AreNamed batch → IsApart batch head_way
 head_apart batch named = record {
   way = λ o h. short_not_object head_way 12 o.id refl (omega arith) (is_digest_of batch o named h);
-  name = λ o h. tested is_data head_way (file_name o.id) refl refl;
+  name = λ o h. head_way_not_data o.id;
 }
 
 pub epoch_way_apart : (batch : List Object) → AreNamed batch → IsApart batch epoch_way
 epoch_way_apart batch named = record {
   way = λ o h. short_not_object epoch_way 9 o.id refl (omega arith) (is_digest_of batch o named h);
-  name = λ o h. tested is_data epoch_way (file_name o.id) refl refl;
+  name = λ o h. epoch_way_not_data o.id;
 }
 
 pub epoch_apart : (batch : List Object) → IsApart batch epoch_name

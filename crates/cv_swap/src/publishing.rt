@@ -130,8 +130,8 @@ fn put_beside<V: Vault + Drop>(
     objects.write_file(HEAD_WAY, manifest)
 }
 
-/// Brings all of a first revision but its head, whose manifest is put on its way: its objects, and the first epoch. Each of
-/// three syncs settles what all four files need of it.
+/// Brings all of a first revision but its head, whose manifest is put on its way: its objects, and the first epoch. One sync
+/// settles the four texts on their way, and one the three names.
 pub fn build_first<V: Vault + Drop>(
     objects: &mut Objects<V>,
     alloc: Global,

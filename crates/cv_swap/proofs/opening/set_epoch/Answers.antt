@@ -5,6 +5,7 @@ use Rattle.cv_vault.specs.Walks.{Walks, ComesTo}
 use Rattle.cv_vault.specs.Replace.{Replaced}
 use Rattle.cv_vault.proofs.Laws.{stand}
 use Rattle.cv_swap.specs.Stands.{epoch_name, epoch_text}
+use Rattle.cv_swap.proofs.Names.{epoch_not_data}
 use Rattle.cv_swap.proofs.opening.set_epoch.Goals as goal
 
 pub returns-clause-walks : goal.returns-clause-walks
@@ -17,3 +18,6 @@ returns-in_err-text-clause-memory g c = λ none d e. stand (g.met.V.Vault.only_n
 
 pub returns-clause-silent : goal.returns-clause-silent
 returns-clause-silent g c = λ e. c.replace.ensures.others.silent e
+
+pub replace-requires-clause-plain : goal.replace-requires-clause-plain
+replace-requires-clause-plain g c = epoch_not_data

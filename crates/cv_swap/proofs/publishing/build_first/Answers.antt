@@ -4,6 +4,7 @@ use Rattle.cv_swap.specs.Stands.{epoch_text}
 use Rattle.cv_swap.specs.Publishing.{the_epoch}
 use Rattle.cv_swap.proofs.Building.{built_refused, then_beside, then_objects, then_epoch, then_built, then_unbuilt, then_unbrought, then_unsettled}
 use Rattle.cv_swap.proofs.Bringing.{told_end}
+use Rattle.cv_swap.proofs.Names.{epoch_not_data}
 use Rattle.cv_swap.proofs.publishing.build_first.Goals as goal
 
 pub returns-in_err-put-clause-walks : goal.returns-in_err-put-clause-walks
@@ -81,3 +82,6 @@ returns-in_err-settle-clause-silent g c = λ e. c.in_err-settle.ensures.call.sil
 
 pub returns-clause-silent : goal.returns-clause-silent
 returns-clause-silent g c = λ e. c.in_ok-settle.ensures.call.silent (c.in_ok-bring_file.ensures.others.silent (c.in_ok-bring.ensures.others.silent (c.in_ok-put_beside.ensures.silent (c.in_ok-put.ensures.others.silent e))))
+
+pub bring_file-requires-clause-plain : goal.bring_file-requires-clause-plain
+bring_file-requires-clause-plain g c = epoch_not_data

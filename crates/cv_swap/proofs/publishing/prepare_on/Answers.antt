@@ -2,6 +2,7 @@ use Rattle.cv_vault.proofs.Laws.{looser}
 use Rattle.cv_objects.proofs.Lemmas.{handed_on, outside, same_fault, refusal_inside}
 use Rattle.cv_swap.proofs.Publish.{prepared_failed, then_manifest, then_prepared, then_unwritten, then_unsettled}
 use Rattle.cv_swap.proofs.Views.{refusal_as}
+use Rattle.cv_swap.proofs.Names.{head_way_not_data}
 use Rattle.cv_swap.proofs.publishing.prepare_on.Goals as goal
 
 pub returns-in_err-shelve_absent-clause-walks : goal.returns-in_err-shelve_absent-clause-walks
@@ -49,3 +50,6 @@ returns-in_err-settle-clause-silent g c = λ e. c.in_err-settle.ensures.call.sil
 
 pub returns-clause-silent : goal.returns-clause-silent
 returns-clause-silent g c = λ e. c.in_ok-settle.ensures.call.silent (c.in_ok-write_file.ensures.call.silent (c.in_ok-shelve_absent.ensures.silent e))
+
+pub write_file-requires : goal.write_file-requires
+write_file-requires g c = record { plain = head_way_not_data }

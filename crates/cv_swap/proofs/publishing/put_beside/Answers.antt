@@ -1,6 +1,7 @@
 use Rattle.std.proofs.Common.{◌∙◌}
 use Rattle.cv_base.proofs.Laws.{handed_on}
 use Rattle.cv_swap.proofs.Building.{beside, beside_not}
+use Rattle.cv_swap.proofs.Names.{epoch_way_not_data, head_way_not_data}
 use Rattle.cv_swap.proofs.publishing.put_beside.Goals as goal
 
 pub returns-in_err-write_file-clause-walks : goal.returns-in_err-write_file-clause-walks
@@ -14,3 +15,9 @@ returns-in_err-write_file-clause-silent g c = λ e. c.in_err-write_file.ensures.
 
 pub returns-clause-silent : goal.returns-clause-silent
 returns-clause-silent g c = λ e. c.write_file-2.ensures.call.silent (c.in_ok-write_file.ensures.call.silent e)
+
+pub write_file-requires : goal.write_file-requires
+write_file-requires g c = record { plain = epoch_way_not_data }
+
+pub write_file-2-requires : goal.write_file-2-requires
+write_file-2-requires g c = record { plain = head_way_not_data }
