@@ -1,5 +1,5 @@
 -- A reader that is fed bytes, more and more.
-use Rattle.std.proofs.Common.{◌≡◌, ℕ, zero, suc, ◌+◌, ◌-◌, ◌<◌, ◌≤◌, true, false, List, [], ◌++◌, length, take, drop, Result, Ok, Err, None, refl, nat_lt, sym, ap, subst, ◌∙◌, inl, inr, ◌⊎◌, arith, append_assoc, length-append, length-take, take-append-drop}
+use Rattle.std.proofs.Common.{◌≡◌, ℕ, zero, suc, ◌+◌, ◌-◌, ◌<◌, ◌≤◌, true, false, List, [], ◌++◌, length, take, drop, Result, Ok, Err, refl, nat_lt, sym, ap, subst, ◌∙◌, inl, inr, ◌⊎◌, arith, append_assoc, length-append, length-take, take-append-drop}
 use Rattle.std.proofs.lemmas.List.{append-nil, nil_from_length, length-drop}
 use Rattle.std.proofs.lemmas.Bool.{cases_lt, cases_Bool, lt-ltb, le-ltb}
 use Rattle.sha1.specs.declared.Sha1.{Sha1}
@@ -20,13 +20,13 @@ use Rattle.cv_pack.proofs.Lines.{header_takes}
 use Rattle.cv_pack.proofs.Packs.{contents_take, pack_takes, pack_again}
 use Rattle.cv_base.specs.Sequence.{◌>>=◌}
 use Rattle.cv_base.specs.Unless.{IsUnless}
-use Rattle.cv_base.proofs.Laws.{ok_is}
-use Rattle.cv_pack.specs.Reading.{Header, hash_from, header_at, contents_at, reading, shown, fault_in}
+use Rattle.cv_base.proofs.Laws.{bind_ok, ok_is}
+use Rattle.cv_pack.specs.Reading.{Header, hash_from, header_at, contents_at, reading, shown, unless_short}
 use Rattle.cv_pack.specs.HeaderState.{Progress, progress, after_line, from_field, header_on, Faults}
 use Rattle.cv_pack.specs.HeaderStateInner.{TakesPart}
 use Rattle.cv_pack.specs.ContentsState.{contents_on, so_far, IsOpen}
 use Rattle.cv_pack.specs.ContentsStateInner.{Goes}
-use Rattle.cv_pack.specs.PackReader.{HasTaken, IsFed, Shows, Finishes, IsFoundIn, GivesPack, pack_of}
+use Rattle.cv_pack.specs.PackReader.{HasTaken, IsFed, IsFoundIn, pack_of, pack_in}
 
 pub whole_or_not : (f : Field) → (f ≡ fields.Whole) ⊎ (f ≡ fields.Whole → ⊥)
 whole_or_not (fields.Mark m) = inr (λ e. cc)
@@ -74,10 +74,6 @@ fault_first : {A B : Type 0} (read : Result A PackFault) (k : A → Result B Pac
 fault_first read k Short h = h
 fault_first read k fault h = unless_first read k fault h
 
--- a fault that isn't want of memory is that of reading
-fault_read : {A : Type 0} (read : Result A PackFault) (fault : PackFault) → (fault ≡ NoMemory → ⊥) → IsUnless NoMemory (Err fault) read → read ≡ Err fault
-fault_read read fault never h = elim h [ inl lacking ↦ absurd (never lacking) | inr is ↦ sym is ]
-
 -- what reading is where the header was read
 read_header : (header contents text : List ℕ) (hasher : Sha1) (h : HeaderReader) (c : ContentsReader) → HasTaken hasher h c header contents → h.field ≡ fields.Whole
     → reading (header ++ (contents ++ text)) ≡ contents_on c h.entries text
@@ -97,16 +93,16 @@ pub ends_taken : (header contents : List ℕ) (hasher : Sha1) (h : HeaderReader)
 ends_taken header contents hasher h c taken whole ends = ap (λ (x : List ℕ). reading (header ++ x)) (sym (append-nil contents)) ∙ read_header header contents [] hasher h c taken whole ∙ ends
 
 -- a reader without a fault was fed bytes that show none
-quiet_end : (c : ContentsReader) (es : List Entry) → fault_in (so_far c es) ≡ None
+quiet_end : (c : ContentsReader) (es : List Entry) → Ok tt ≡ unless_short (so_far c es)
 quiet_end c es = elim (cases_Bool (nat_lt (length c.objects.items) (length es))) [
   | inl short ↦ rw short refl
   | inr whole ↦ rw whole refl
 ]
 
-pub quiet_fed : (r : PackReader) (bytes : List ℕ) → IsFed r bytes → shown bytes ≡ None
+pub quiet_fed : (r : PackReader) (bytes : List ℕ) → IsFed r bytes → Ok tt ≡ shown bytes
 quiet_fed r bytes fed = elim (whole_or_not r.header.field) [
-  | inl whole ↦ ap fault_in (fed.ends whole) ∙ quiet_end r.contents r.header.entries
-  | inr other ↦ ap shown fed.parts ∙ ap fault_in (short_taken fed.header fed.contents r.header_hash r.header r.contents fed.taken other)
+  | inl whole ↦ quiet_end r.contents r.header.entries ∙ ap unless_short (sym (fed.ends whole))
+  | inr other ↦ ap unless_short (sym (ap reading fed.parts ∙ short_taken fed.header fed.contents r.header_hash r.header r.contents fed.taken other))
 ]
 
 -- a fault of the header
@@ -120,10 +116,9 @@ fault_of_header header contents piece text hasher old new c result fault taken s
     subst (λ (x : Result Header PackFault). Faults fault x) (sym (ap header_at all ∙ taken.header_reads (piece ++ text))) (takes text) in
     fault_first (header_at (((header ++ contents) ++ piece) ++ text)) (λ r. contents_at 0 r.0 r.2) fault first
 
-fault_shown : (bytes : List ℕ) (fault : PackFault) → Faults fault (reading bytes) → Shows bytes (Err fault)
+fault_shown : (bytes : List ℕ) (fault : PackFault) → Faults fault (reading bytes) → IsUnless NoMemory (Err fault) (shown bytes)
 fault_shown bytes Short h = absurd h
-fault_shown bytes NoMemory h = tt
-fault_shown bytes fault h = ap fault_in (fault_read (reading bytes) fault (λ e. cc) h)
+fault_shown bytes fault h = elim h [ inl lacking ↦ inl lacking | inr is ↦ inr (ap unless_short is) ]
 
 -- what stays of a header that was read to its end
 entries_stay : (old new : HeaderReader) (es : List Entry) → new ≡ old → (new.field ≡ fields.Whole → es ≡ new.entries) → old.field ≡ fields.Whole → es ≡ old.entries
@@ -188,24 +183,24 @@ nothing_after old new piece after used takes other after-is = elim (cases_lt use
 ]
 
 -- the fault of reading on is the one that is shown
-pub shown_fault : (bytes : List ℕ) (fault : PackFault) → ((text : List ℕ) → Faults fault (reading (bytes ++ text))) → Shows bytes (Err fault)
+pub shown_fault : (bytes : List ℕ) (fault : PackFault) → ((text : List ℕ) → Faults fault (reading (bytes ++ text))) → IsUnless NoMemory (Err fault) (shown bytes)
 shown_fault bytes fault faults = fault_shown bytes fault (subst (λ (x : List ℕ). Faults fault (reading x)) (append-nil bytes) (faults []))
 
 -- ---- the end
 
-end_of_fault : (bytes : List ℕ) (fault : PackFault) → Faults fault (reading bytes) → Finishes bytes (Err fault)
+end_of_fault : (bytes : List ℕ) (fault : PackFault) → Faults fault (reading bytes) → IsUnless NoMemory (Err fault) (pack_in bytes)
 end_of_fault bytes Short h = absurd h
-end_of_fault bytes NoMemory h = tt
-end_of_fault bytes fault h = fault_read (reading bytes) fault (λ e. cc) h
+end_of_fault bytes fault h = unless_first (reading bytes) (λ os. Ok (pack_of os)) fault h
 
-not_read : (os : List Object) (fault : PackFault) → IsPack os → reading (pack_bytes os) ≡ Err fault → ⊥
-not_read os fault is e = let ok = pack_again os is in cc
-
-pub fault_ends : (bytes : List ℕ) (fault : PackFault) → ((text : List ℕ) → Faults fault (reading (bytes ++ text))) → Finishes bytes (Err fault)
+pub fault_ends : (bytes : List ℕ) (fault : PackFault) → ((text : List ℕ) → Faults fault (reading (bytes ++ text))) → IsUnless NoMemory (Err fault) (pack_in bytes)
 fault_ends bytes fault faults = end_of_fault bytes fault (subst (λ (x : List ℕ). Faults fault (reading x)) (append-nil bytes) (faults []))
 
-pub short_fed : (r : PackReader) (bytes : List ℕ) → IsFed r bytes → (r.header.field ≡ fields.Whole → ⊥) → reading bytes ≡ Err Short
-short_fed r bytes fed other = ap reading fed.parts ∙ short_taken fed.header fed.contents r.header_hash r.header r.contents fed.taken other
+-- bytes are lacking
+short_ends : (bytes : List ℕ) → reading bytes ≡ Err Short → IsUnless NoMemory (Err Short) (pack_in bytes)
+short_ends bytes short = inr (ap (λ (read : Result (List Object) PackFault). read >>= λ os. Ok (pack_of os)) (sym short))
+
+pub short_fed : (r : PackReader) (bytes : List ℕ) → IsFed r bytes → (r.header.field ≡ fields.Whole → ⊥) → IsUnless NoMemory (Err Short) (pack_in bytes)
+short_fed r bytes fed other = short_ends bytes (ap reading fed.parts ∙ short_taken fed.header fed.contents r.header_hash r.header r.contents fed.taken other)
 
 -- the header of the pack that was read
 header_fed : (r : PackReader) (bytes : List ℕ) (os : List Object) (fed : IsFed r bytes) → r.header.field ≡ fields.Whole → reading bytes ≡ Ok os → fed.header ≡ header_bytes os
@@ -224,24 +219,25 @@ pack_fed r bytes os fed whole read =
     (fed.taken.at ∙ ap length header, subst (λ (x : List ℕ). Holds r.header_hash x) header fed.taken.hash)
 
 -- a content is lacking
-pub short_contents : (r : PackReader) (bytes : List ℕ) → IsFed r bytes → r.header.field ≡ fields.Whole → length r.contents.objects.items < length r.header.entries → reading bytes ≡ Err Short
+pub short_contents : (r : PackReader) (bytes : List ℕ) → IsFed r bytes → r.header.field ≡ fields.Whole → length r.contents.objects.items < length r.header.entries → IsUnless NoMemory (Err Short) (pack_in bytes)
 short_contents r bytes fed whole short =
     let test : nat_lt (length r.contents.objects.items) (length r.header.entries) ≡ true = lt-ltb _ _ short in
-    fed.ends whole ∙ rw test refl
+    short_ends bytes (fed.ends whole ∙ rw test refl)
 
 -- the pack is there
 pub whole_pack : (r : PackReader) (bytes digest : List ℕ) (os : List Object) → IsFed r bytes → r.header.field ≡ fields.Whole → length r.header.entries ≤ length r.contents.objects.items → os ≡ r.contents.objects.items
-    → ((m : List ℕ) → Holds r.header_hash m → digest ≡ sha1 m) → Finishes bytes (Ok (record { objects = os; header = r.header.at; digest = digest }))
+    → ((m : List ℕ) → Holds r.header_hash m → digest ≡ sha1 m) → IsUnless NoMemory (Ok (record { objects = os; header = r.header.at; digest = digest })) (pack_in bytes)
 whole_pack r bytes digest os fed whole long os-is finalized =
     let test : nat_lt (length r.contents.objects.items) (length r.header.entries) ≡ false = le-ltb _ _ long in
     let read : reading bytes ≡ Ok os = fed.ends whole ∙ rw (test, os-is) refl in
     let facts = pack_fed r bytes os fed whole read in
-    (read, rw (facts.0, finalized (header_bytes os) facts.1) refl)
+    rw (facts.0, finalized (header_bytes os) facts.1) (ap (λ (r : Result (List Object) PackFault). r >>= λ o. Ok (pack_of o)) (sym read))
 
-pub finish_found : (bytes : List ℕ) (pack : Pack) → Finishes bytes (Ok pack) → IsFoundIn bytes pack
-finish_found bytes pack f = let t = pack_takes bytes pack.objects f.0 in record { is_pack = t.0; spelled = t.1; whole = f.1 }
+pub finish_found : (bytes : List ℕ) (pack : Pack) → Ok pack ≡ pack_in bytes → IsFoundIn bytes pack
+finish_found bytes pack f =
+    let read = bind_ok (reading bytes) (λ os. Ok (pack_of os)) pack (sym f) in
+    let t = pack_takes bytes read.0 read.1 in
+    subst (IsFoundIn bytes) (ok_is (pack_of read.0) pack read.2) (record { is_pack = t.0; spelled = t.1; whole = refl })
 
-pub finish_only : (os : List Object) (result : Result Pack PackFault) → IsPack os → Finishes (pack_bytes os) result → GivesPack os result
-finish_only os (Ok pack) is f = f.1 ∙ ap pack_of (ok_is pack.objects os (sym f.0 ∙ pack_again os is))
-finish_only os (Err NoMemory) is f = tt
-finish_only os (Err fault) is f = not_read os fault is f
+pub finish_only : (os : List Object) (result : Result Pack PackFault) → IsPack os → IsUnless NoMemory result (pack_in (pack_bytes os)) → IsUnless NoMemory result (Ok (pack_of os))
+finish_only os result is f = subst (IsUnless NoMemory result) (ap (λ (read : Result (List Object) PackFault). read >>= λ o. Ok (pack_of o)) (pack_again os is)) f

@@ -1,6 +1,7 @@
 -- A reader of packs, and the bytes that it was fed.
 use Rattle.std.specs.Prelude.{◌≡◌, ◌≢◌, ℕ, List, [], ◌++◌, length, Option, Some, None, Result, Ok, Err}
 use Rattle.sha1.specs.Sha1.{sha1, Holds}
+use Rattle.cv_base.specs.Sequence.{◌>>=◌}
 use Rattle.cv_base.specs.declared.object.Object.{Object}
 use Rattle.cv_pack.specs.declared.contents_reader.ContentsReader.{ContentsReader}
 use Rattle.cv_pack.specs.declared.entry.Entry.{Entry}
@@ -9,12 +10,11 @@ use Rattle.sha1.specs.declared.Sha1.{Sha1}
 use Rattle.cv_pack.specs.declared.field.Field.TheVariants as fields
 use Rattle.cv_pack.specs.declared.pack.Pack.{Pack}
 use Rattle.cv_pack.specs.declared.pack_fault.PackFault.{PackFault}
-use Rattle.cv_pack.specs.declared.pack_fault.PackFault.TheVariants.{NoMemory}
 use Rattle.cv_pack.specs.declared.pack_reader.PackReader.{PackReader}
 use Rattle.cv_pack.specs.ContentsState.{IsOpen, contents_on, so_far}
 use Rattle.cv_pack.specs.HeaderState.{Faults, header_on}
 use Rattle.cv_pack.specs.Pack.{IsPack, header_bytes, pack_bytes}
-use Rattle.cv_pack.specs.Reading.{header_at, contents_at, reading, shown}
+use Rattle.cv_pack.specs.Reading.{header_at, contents_at, reading}
 
 -- the readers of the header and of the contents have taken these bytes, each its own
 pub record HasTaken (hasher : Sha1) (h : HeaderReader) (c : ContentsReader) (header contents : List ℕ) : Type 0 where
@@ -50,30 +50,16 @@ abbrev pub answer_of : Result Unit PackFault → Option PackFault
 answer_of (Ok _) = None
 answer_of (Err fault) = Some fault
 
--- the answer is the fault that these bytes show, but for want of memory
-abbrev pub Shows : List ℕ → Result Unit PackFault → Type 0
-Shows bytes (Ok _) = shown bytes ≡ None
-Shows bytes (Err NoMemory) = Unit {0}
-Shows bytes (Err fault) = shown bytes ≡ Some fault
-
 -- the pack of these objects, as it is given
 abbrev pub pack_of : List Object → Pack
 pack_of os = record { objects = os; header = length (header_bytes os); digest = sha1 (header_bytes os) }
 
--- what all the bytes read as, but for want of memory
-abbrev pub Finishes : List ℕ → Result Pack PackFault → Type 0
-Finishes bytes (Ok pack) = (reading bytes ≡ Ok pack.objects) × (pack ≡ pack_of pack.objects)
-Finishes bytes (Err NoMemory) = Unit {0}
-Finishes bytes (Err fault) = reading bytes ≡ Err fault
+-- the pack that all the bytes are, or their fault
+abbrev pub pack_in : List ℕ → Result Pack PackFault
+pack_in bytes = reading bytes >>= λ os. Ok (pack_of os)
 
 -- these bytes are those of this pack, and no others
 pub record IsFoundIn (bytes : List ℕ) (pack : Pack) : Type 0 where
   pub is_pack : IsPack pack.objects
   pub spelled : bytes ≡ pack_bytes pack.objects
   pub whole : pack ≡ pack_of pack.objects
-
--- this pack, but for want of memory
-abbrev pub GivesPack : List Object → Result Pack PackFault → Type 0
-GivesPack os (Ok pack) = pack ≡ pack_of os
-GivesPack os (Err NoMemory) = Unit {0}
-GivesPack os (Err fault) = ⊥

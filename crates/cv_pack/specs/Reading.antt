@@ -173,11 +173,12 @@ contents_at k (e ∷ es) text =
 abbrev pub reading : List ℕ → Result (List Object) PackFault
 reading text = header_at text >>= λ h. contents_at 0 h.0 h.2
 
--- the fault that bytes show, whatever follows them
-abbrev pub fault_in : Result (List Object) PackFault → Option PackFault
-fault_in (Ok os) = None
-fault_in (Err Short) = None
-fault_in (Err fault) = Some fault
+-- the fault of a reading, unless more bytes may mend it
+abbrev pub unless_short : Result (List Object) PackFault → Result (Unit {0}) PackFault
+unless_short (Ok os) = Ok tt
+unless_short (Err Short) = Ok tt
+unless_short (Err fault) = Err fault
 
-abbrev pub shown : List ℕ → Option PackFault
-shown text = fault_in (reading text)
+-- the fault that bytes show, whatever follows them
+abbrev pub shown : List ℕ → Result (Unit {0}) PackFault
+shown text = unless_short (reading text)

@@ -1,10 +1,12 @@
 //! The reader of packs.
 ghost use Rattle.std.specs.Prelude.{◌≡◌, ◌++◌, ◌∷◌, [], List, ℕ, None, Some, IfSome, IfOk};
+ghost use Rattle.cv_base.specs.Unless.{IsUnless};
 ghost use Rattle.cv_base.specs.declared.object.Object.{Object as Packed};
 ghost use Rattle.cv_pack.specs.declared.pack_fault.PackFault.TheVariants as faults;
 ghost use Rattle.cv_pack.specs.Pack.{IsPack, pack_bytes};
-ghost use Rattle.cv_pack.specs.PackReader.{Fed, IsFed, fault_of, answer_of, Shows, Finishes, IsFoundIn, GivesPack};
+ghost use Rattle.cv_pack.specs.PackReader.{Fed, IsFed, fault_of, answer_of, pack_of, pack_in, IsFoundIn};
 ghost use Rattle.cv_pack.specs.PackReaderInner.{Feeds};
+ghost use Rattle.cv_pack.specs.Reading.{shown};
 
 use crate::contents_reader::ContentsReader;
 use crate::header_reader::HeaderReader;
@@ -61,7 +63,8 @@ impl PackReader {
     /// answers the same fault.
     pub fn feed(&mut self, piece: &[u8]) -> Result<(), PackFault>
         ensures fed { (bytes : List ℕ) → Fed self.old bytes → Fed self.new (bytes ++ piece.now) }
-        ensures shows { (bytes : List ℕ) → Fed self.old bytes → Shows (bytes ++ piece.now) result }
+        ensures shows { (bytes : List ℕ) → Fed self.old bytes
+            → IsUnless faults.NoMemory result (shown (bytes ++ piece.now)) }
 
         // A fault stays.
         ensures again { IfSome (fault_of self.old) (λ fault. result ≡ Err fault) }
@@ -82,11 +85,13 @@ impl PackReader {
     /// reader has answered it before.
     pub fn finish(self) -> Result<Pack, PackFault>
         // What all the bytes read as, and which fault it is.
-        ensures reads { (bytes : List ℕ) → Fed self bytes → Finishes bytes result }
+        ensures reads { (bytes : List ℕ) → Fed self bytes
+            → IsUnless faults.NoMemory result (pack_in bytes) }
 
         // What is given is the pack whose bytes all of these are, and every pack's bytes give it.
         ensures found { IfOk result (λ pack. (bytes : List ℕ) → Fed self bytes → IsFoundIn bytes pack) }
-        ensures only { (objects : List Packed) → IsPack objects → Fed self (pack_bytes objects) → GivesPack objects result }
+        ensures only { (objects : List Packed) → IsPack objects → Fed self (pack_bytes objects)
+            → IsUnless faults.NoMemory result (Ok (pack_of objects)) }
 
         ensures again { IfSome (fault_of self) (λ fault. result ≡ Err fault) }
         ensures no_memory { result ≡ Err faults.NoMemory → fault_of self ≡ Some faults.NoMemory }

@@ -8,6 +8,8 @@ use Rattle.std.proofs.lemmas.List.{take_min}
 use Rattle.std.proofs.Math.Seq.{take-append_seam, drop-append_seam}
 use Rattle.sha1.specs.Sha1.{sha1, Holds}
 use Rattle.sha1.specs.declared.Sha1.{Sha1}
+use Rattle.cv_base.specs.Sequence.{◌>>=◌}
+use Rattle.cv_base.specs.Unless.{IsUnless}
 use Rattle.cv_base.specs.declared.object.Object.{Object}
 use Rattle.cv_base.proofs.Laws.{bytes_itself}
 use Rattle.cv_ports.specs.Streams.{Look}
@@ -23,10 +25,10 @@ use Rattle.cv_messages.specs.Spelling.{decimal_of}
 use Rattle.cv_messages.specs.declared.payload_ask.PayloadAsk.{PayloadAsk}
 use Rattle.cv_gate.specs.Step.{IsSent}
 use Rattle.cv_pack.specs.Pack.{IsPacked}
-use Rattle.cv_pack.specs.PackReader.{Fed, Finishes}
+use Rattle.cv_pack.specs.PackReader.{Fed, pack_of, pack_in}
 use Rattle.cv_pack.specs.Reading.{reading}
 use Rattle.cv_pack.specs.declared.pack_fault.PackFault.{PackFault}
-use Rattle.cv_pack.specs.declared.pack_fault.PackFault.TheVariants.{BadHeader, TooLarge, TooMany, HashDiffers, Short, Trailing, Duplicate, NoMemory}
+use Rattle.cv_pack.specs.declared.pack_fault.PackFault.TheVariants.{NoMemory}
 use Rattle.cv_pack.specs.declared.pack_reader.PackReader.{PackReader}
 use Rattle.cv_session.specs.DenialsInner.{Denies}
 use Rattle.cv_session.specs.Payloads.{fitting, message_size, payload_by_ask, payload_on, payload_from, payload_turn}
@@ -153,16 +155,18 @@ faulty : (key : List ℕ) (ask : PayloadAsk) (pack digest : List ℕ) (fault : P
 faulty key ask pack digest fault same is reads =
     (rw (bytes_itself (sha1 (take ask.header_size pack)) ask.digest (sym is ∙ same), reads) refl, refl)
 
-pub refuses : (key : List ℕ) (ask : PayloadAsk) (pack digest : List ℕ) (fault : PackFault) → digest ≡ ask.digest → digest ≡ sha1 (take ask.header_size pack) → Finishes pack (Err fault)
+-- a fault of a pack is that of its bytes
+read_fault : (read : Result (List Object) PackFault) (fault : PackFault) → Err fault ≡ (read >>= λ os. Ok (pack_of os)) → read ≡ Err fault
+read_fault (Ok os) fault is = cc
+read_fault (Err other) fault is = cc
+
+known_fault : (pack : List ℕ) (fault : PackFault) → (fault ≡ NoMemory → ⊥) → IsUnless NoMemory (Err fault) (pack_in pack) → reading pack ≡ Err fault
+known_fault pack fault known is = elim is [ inl lacking ↦ absurd (known lacking) | inr at ↦ read_fault (reading pack) fault at ]
+
+pub refuses : (key : List ℕ) (ask : PayloadAsk) (pack digest : List ℕ) (fault : PackFault) → digest ≡ ask.digest → digest ≡ sha1 (take ask.header_size pack) → IsUnless NoMemory (Err fault) (pack_in pack)
     → IfOk (refused_pack fault) (λ turn. (turn ≡ payload_on key ask pack) × IsGood turn)
-refuses key ask pack digest (BadHeader at) same is reads = faulty key ask pack digest (BadHeader at) same is reads
-refuses key ask pack digest TooLarge same is reads = faulty key ask pack digest TooLarge same is reads
-refuses key ask pack digest TooMany same is reads = faulty key ask pack digest TooMany same is reads
-refuses key ask pack digest (HashDiffers index) same is reads = faulty key ask pack digest (HashDiffers index) same is reads
-refuses key ask pack digest Short same is reads = faulty key ask pack digest Short same is reads
-refuses key ask pack digest Trailing same is reads = faulty key ask pack digest Trailing same is reads
-refuses key ask pack digest (Duplicate index) same is reads = faulty key ask pack digest (Duplicate index) same is reads
 refuses key ask pack digest NoMemory same is reads = tt
+refuses key ask pack digest fault same is reads = faulty key ask pack digest fault same is (known_fault pack fault (λ e. cc) reads)
 
 -- what was denied announces nothing
 pub announces_none : (says : Turn) (P : Announced → Type 0) (r : Result Announced Denial) (denial : Denial) → IsErrAnd r (λ d. d ≡ denial) → Denies says denial → MatchResult r P (Denies says)
