@@ -3,6 +3,7 @@ ghost use Rattle.std.specs.Prelude.{◌≡◌};
 ghost use Rattle.cv_history.specs.declared.chain_fault.ChainFault.TheVariants as fault;
 
 use cv_base::{NoMemory, ObjectId};
+use std::alloc::AllocFailed;
 
 /// Why a chain of records wasn't given. What it says of an id is the first that isn't so, from the last record back.
 #[derive(Clone, Copy, Debug, PartialEq, Eq)]
@@ -31,6 +32,14 @@ pub enum ChainFault {
     },
     /// There was no memory.
     NoMemory,
+}
+
+impl<T: Drop> From<AllocFailed<T>> for ChainFault {
+    ghost from_gives = { λ _ e. e ≡ fault.NoMemory };
+
+    fn from(_error: AllocFailed<T>) -> ChainFault {
+        ChainFault::NoMemory
+    }
 }
 
 impl From<NoMemory> for ChainFault {

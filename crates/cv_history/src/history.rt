@@ -76,10 +76,8 @@ fn records_back<S: Shelf>(
             hash,
             kind: Kind::History,
         };
-        match records.push(record) {
-            Ok(()) => wanted -= 1,
-            Err(_) => return Err(ChainFault::NoMemory),
-        }
+        records.push(record)?;
+        wanted -= 1;
     }
     Ok(records)
 }

@@ -27,13 +27,13 @@ pub records-preserved : goal.records-preserved
 records-preserved g c =
     let some : c.records.wanted ≡ suc (c.records.wanted - 1) = omega arith in
     record {
-      chain = λ standing told. rw c.in-Ok.ensures.items
+      chain = λ standing told. rw c.in_ok-push.ensures.items
           (leads_more (StandsAt standing) _ _ _ c.records.wanted (c.records.wanted - 1) c.records.id c.in_ok-record.record some
           (c.records.invariant.chain standing told) (c.in_ok-record.ensures.told standing (c.records.invariant.unchanged ∙ told)) c.if-record-wanted.false);
       breaks = λ standing told.
           hangs_more standing _ _ c.records.wanted (c.records.wanted - 1) c.records.id c.in_ok-record.record some
           (c.records.invariant.breaks standing told) (c.in_ok-record.ensures.told standing (c.records.invariant.unchanged ∙ told)) c.if-record-wanted.false;
-      linked = rw c.in-Ok.ensures.items
+      linked = rw c.in_ok-push.ensures.items
           (leads_more Names _ _ _ c.records.wanted (c.records.wanted - 1) c.records.id c.in_ok-record.record some
           c.records.invariant.linked c.in_ok-record.ensures.named c.if-record-wanted.false);
       reads = g.met.S.Shelf.reads_then _ _ _ c.records.invariant.reads c.in_ok-record.ensures.reads;
