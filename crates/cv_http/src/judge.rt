@@ -4,7 +4,7 @@ ghost use Rattle.cv_http.specs.Forms.{Form};
 ghost use Rattle.cv_http.specs.FormsInner.{EndsEmpty};
 ghost use Rattle.cv_http.specs.FaultsInner.{IsRefusal};
 ghost use Rattle.cv_http.specs.JudgementsInner.{Judges};
-ghost use Rattle.cv_http.specs.declared.judge.TheConstants.{HEAD_LIMIT};
+ghost use Rattle.cv_http.specs.declared.judge.TheConstants.{HEAD_LIMIT, FIELDS_ROOM};
 
 use crate::fault::HttpFault;
 use cv_base::NoMemory;
@@ -13,6 +13,9 @@ use std::alloc::Global;
 
 /// The most bytes of a head.
 pub const HEAD_LIMIT: usize = 16_384;
+
+/// Room for the fields of a head: each takes three bytes at least, a name, a colon and the end of its line.
+pub(crate) const FIELDS_ROOM: usize = HEAD_LIMIT / 3 + 1;
 
 /// What some bytes begin.
 #[derive(Debug, Drop)]
@@ -36,7 +39,7 @@ pub trait Head: Drop {
     /// Judges what the bytes begin. Bytes of the limit hold no more fields than there is room for.
     fn parse(alloc: Global, bytes: &[u8], room: &mut [HeaderSpan]) -> Result<Judged<Self>, NoMemory>
         requires limit { length bytes.now ≤ HEAD_LIMIT }
-        requires room { 5462 ≤ length room.old }
+        requires room { FIELDS_ROOM ≤ length room.old }
         ensures { IfOk result (Judges form bytes.now) };
 
     /// A head ends with an empty line.
@@ -52,7 +55,7 @@ pub fn judge<H: Head>(
     held: &[u8],
     room: &mut [HeaderSpan],
 ) -> Result<Judged<H>, NoMemory>
-    requires { 5462 ≤ length room.old }
+    requires { FIELDS_ROOM ≤ length room.old }
     ensures { IfOk result (Judges H.form held.now) }
 {
     let count = held.len().min(HEAD_LIMIT);

@@ -15,23 +15,20 @@ ghost use Rattle.cv_http.specs.Faults.{IsHeadFault, IsBodyFault, IsReplyFault};
 ghost use Rattle.cv_http.specs.FaultsInner.{IsPieceFault};
 ghost use Rattle.cv_http.specs.declared.buffer.TheConstants.{PIECE};
 ghost use Rattle.cv_http.specs.declared.fault.HttpFault.TheVariants.{Short, ReadFault};
-ghost use Rattle.cv_http.specs.declared.judge.TheConstants.{HEAD_LIMIT};
+ghost use Rattle.cv_http.specs.declared.judge.TheConstants.{HEAD_LIMIT, FIELDS_ROOM};
 
 use crate::buffer::{Buffer, PIECE};
 use crate::fault::HttpFault;
 use crate::head::RequestHead;
 use crate::head_end::has_empty_line;
 use crate::http_reply::HttpReply;
-use crate::judge::{HEAD_LIMIT, Head, Judged, judge};
+use crate::judge::{FIELDS_ROOM, HEAD_LIMIT, Head, Judged, judge};
 use crate::reply_head::ReplyHead;
 use cv_base::{Bytes, NoMemory};
 use cv_ports::Source;
 use httparse::spans::{EMPTY_HEADER_SPAN, HeaderSpan};
 use std::alloc::Global;
 use std::marker::Model;
-
-/// The most header fields that 16,384 bytes can hold: each takes three bytes at least.
-const ROOM: usize = 5_462;
 
 /// The code of an interim head, 100 Continue (RFC 9110, section 15.2.1).
 const INTERIM_CODE: u16 = 100;
@@ -60,10 +57,10 @@ impl<R: Source + Drop> Model for Wire<R> {
 
 /// Makes room for each field of a head.
 fn make_room(alloc: Global, room: &mut Vec<HeaderSpan>) -> Result<(), NoMemory>
-    ensures { OnOk result (5462 ≤ length room.new.items) }
+    ensures { OnOk result (FIELDS_ROOM ≤ length room.new.items) }
 {
-    if room.len() < ROOM {
-        *room = vec![in alloc; EMPTY_HEADER_SPAN; ROOM]?;
+    if room.len() < FIELDS_ROOM {
+        *room = vec![in alloc; EMPTY_HEADER_SPAN; FIELDS_ROOM]?;
     }
     Ok(())
 }
