@@ -1,5 +1,5 @@
 //! The names on the way to leases, linked by index.
-ghost use Rattle.std.specs.Prelude.{◌≡◌, ◌≤◌, ◌+◌, [], Some, None, true, false, ℕ, IfOk, IfSome, OnErr, length};
+ghost use Rattle.std.specs.Prelude.{◌≡◌, ◌≤◌, ◌+◌, ◌-◌, [], Some, None, true, false, ℕ, IfOk, IfSome, OnErr, length};
 ghost use Rattle.cv_leases.specs.Names.{IsNames, IsWithin, IsPruned, below_of, above_of, is_leased, named, place_of};
 ghost use Rattle.cv_leases.specs.NamesInner.{IsBare, IsPrunedBut, IsPrunedTo, SameLeased, SamePlaces, Begins, Ends, meets};
 ghost use Rattle.cv_base.specs.Path.{same_name};
@@ -169,7 +169,7 @@ impl Names {
     ) -> Result<Id, NoMemory>
         requires whole { IsNames self.old }
         requires live { IsLive self.old.places above }
-        requires near { IsWithin self.old 63 above }
+        requires near { IsWithin self.old (NAMES_LIMIT - 1) above }
         requires pruned { IsPrunedBut self.old above }
         ensures whole { IsNames self.new }
         ensures places { SamePlaces self.old self.new }
@@ -198,7 +198,7 @@ impl Names {
         requires whole { IsNames self.old }
         requires live { IsLive self.old.places above }
         requires none { named (value_at self.old.places) name (below_of self.old.places above) ≡ None }
-        requires near { IsWithin self.old 63 above }
+        requires near { IsWithin self.old (NAMES_LIMIT - 1) above }
         requires pruned { IsPrunedBut self.old above }
         ensures whole { IsNames self.new }
         ensures places { SamePlaces self.old self.new }
