@@ -19,5 +19,5 @@ returns-clause-silent g c = λ e. c.write_file-2.ensures.call.silent (c.in_ok-wr
 pub write_file-requires : goal.write_file-requires
 write_file-requires g c = record { plain = epoch_way_not_data }
 
-pub write_file-2-requires : goal.write_file-2-requires
-write_file-2-requires g c = record { plain = head_way_not_data }
+pub write_file-requires-2 : goal.write_file-requires-2
+write_file-requires-2 g c = record { plain = head_way_not_data }
