@@ -1,5 +1,5 @@
 -- Reading a payload.
-use Rattle.std.proofs.Common.{◌≡◌, ◌≤◌, ◌<◌, ◌+◌, ◌-◌, ◌++◌, ◌∷◌, ℕ, zero, suc, List, [], length, take, drop, refl, ap, sym, subst, ◌∙◌, arith, Ok, Err, append_assoc, length-append}
+use Rattle.std.proofs.Common.{◌≡◌, ◌≤◌, ◌<◌, ◌+◌, ◌-◌, ◌++◌, ◌∷◌, ℕ, zero, suc, List, [], length, take, drop, refl, ap, sym, subst, ◌∙◌, arith, Ok, Err, inl, inr, append_assoc, length-append}
 use Rattle.std.specs.Prelude.{Option, Result, IfOk, min, IsErrAnd, MatchResult}
 use Rattle.std.specs.declared.option.Option.TheVariants.{Some, None}
 use Rattle.std.specs.List.{AllByRecursion}
