@@ -143,9 +143,7 @@ impl Checkout {
             &mut self.wanted,
             named_toward(alloc, &catalogue, &self.path)?,
         )?;
-        let Ok(()) = self.objects.push(Object { id, bytes }) else {
-            return Err(CheckoutFault::NoMemory);
-        };
+        self.objects.push(Object { id, bytes })?;
         Ok(())
     }
 

@@ -3,6 +3,7 @@ ghost use Rattle.std.specs.Prelude.{◌≡◌};
 ghost use Rattle.cv_checkout.specs.declared.fault.CheckoutFault.TheVariants as faults;
 
 use cv_base::{NoMemory, ObjectId};
+use std::alloc::AllocFailed;
 
 /// Why a catalogue isn't taken.
 #[derive(Clone, Copy, Debug, PartialEq, Eq)]
@@ -20,6 +21,14 @@ pub enum CheckoutFault {
     BadCatalogue(ObjectId),
     /// There was no memory.
     NoMemory,
+}
+
+impl<T: Drop> From<AllocFailed<T>> for CheckoutFault {
+    ghost from_gives = { λ _ e. e ≡ faults.NoMemory };
+
+    fn from(_error: AllocFailed<T>) -> CheckoutFault {
+        CheckoutFault::NoMemory
+    }
 }
 
 impl From<NoMemory> for CheckoutFault {
