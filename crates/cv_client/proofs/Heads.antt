@@ -1,7 +1,8 @@
 -- A question at the head that is served.
-use Rattle.std.proofs.Common.{◌≡◌, ◌≢◌, refl, arith}
+use Rattle.std.proofs.Common.{◌≡◌, ◌≢◌, refl, sym, subst, inl, inr, arith}
 use Rattle.std.specs.declared.result.Result.{Result}
 use Rattle.std.specs.declared.result.Result.TheVariants.{Ok, Err}
+use Rattle.cv_base.specs.Unless.{IsUnless}
 use Rattle.cv_tree.specs.Tree.{Nodes, IsTree}
 use Rattle.cv_cut.specs.Catalogues.{root_of, Fits}
 use Rattle.cv_manifest.specs.declared.manifest.Manifest.{Manifest}
@@ -10,7 +11,7 @@ use Rattle.cv_resolver.specs.Resolver.{IsOn}
 use Rattle.cv_resolver.specs.declared.found.Found.{Found}
 use Rattle.cv_resolver.specs.declared.found.ClientFault.{ClientFault}
 use Rattle.cv_client.specs.Pin.{client_at}
-use Rattle.cv_client.specs.Served.{IsManifestOr, IsPinned, IsWholeOr, IsWhole}
+use Rattle.cv_client.specs.Served.{IsManifestOr, IsWholeOr, IsWhole}
 use Rattle.cv_client.specs.declared.ask_fault.AskFault.{AskFault}
 use Rattle.cv_client.specs.declared.ask_fault.AskFault.TheVariants.{LinkFailed, BadReply, BadManifest, Refused, NoMemory}
 
@@ -25,20 +26,19 @@ on_head m tree fits root = record {
 }
 
 -- where none was pinned, memory was wanted
-pub unpinned_whole : (m : Manifest) (fault : AskFault) (finding : Result Finding ClientFault) → IsPinned m (Err fault) → IsWhole finding (Err fault)
-unpinned_whole m LinkFailed finding is = absurd is
-unpinned_whole m BadReply finding is = absurd is
-unpinned_whole m BadManifest finding is = absurd is
-unpinned_whole m (Refused why) finding is = absurd is
-unpinned_whole m NoMemory finding is = tt
+pub unpinned_whole : (m : Manifest) (fault : AskFault) (finding : Result Finding ClientFault) → IsUnless NoMemory (Err fault) (Ok (client_at m)) → IsWhole finding (Err fault)
+unpinned_whole m fault finding is = elim is [
+  | inl lacking ↦ subst (λ (f : AskFault). IsWhole finding (Err f)) (sym lacking) tt
+  | inr other ↦ absurd cc
+]
 
 -- where the link didn't fail
-pub unfailed_pin : (m : Manifest) (fault : AskFault) → fault ≢ LinkFailed → IsManifestOr m (Err fault) → IsPinned m (Err fault)
+pub unfailed_pin : (m : Manifest) (fault : AskFault) → fault ≢ LinkFailed → IsManifestOr m (Err fault) → IsUnless NoMemory (Err fault) (Ok (client_at m))
 unfailed_pin m LinkFailed steady is = absurd (steady refl)
-unfailed_pin m BadReply steady is = is
-unfailed_pin m BadManifest steady is = is
-unfailed_pin m (Refused why) steady is = is
-unfailed_pin m NoMemory steady is = tt
+unfailed_pin m BadReply steady is = absurd is
+unfailed_pin m BadManifest steady is = absurd is
+unfailed_pin m (Refused why) steady is = absurd is
+unfailed_pin m NoMemory steady is = inl refl
 
 pub unfailed : (finding : Result Finding ClientFault) (answer : Result Found AskFault) → (answer ≡ Err LinkFailed → ⊥) → IsWholeOr finding answer → IsWhole finding answer
 unfailed finding (Ok found) steady is = is

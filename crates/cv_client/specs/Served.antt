@@ -20,7 +20,6 @@ use Rattle.cv_resolver.specs.declared.found.Found.{Found}
 use Rattle.cv_resolver.specs.declared.found.ClientFault.{ClientFault}
 use Rattle.cv_client.specs.Exchange.{Links}
 use Rattle.cv_client.specs.Requests.{file_request}
-use Rattle.cv_client.specs.Pin.{client_at}
 use Rattle.cv_client.specs.declared.url.Url.{Url}
 use Rattle.cv_client.specs.declared.exchanging.ExchangeFault.{ExchangeFault}
 use Rattle.cv_client.specs.declared.exchanging.ExchangeFault.TheVariants as exchange_fault
@@ -98,15 +97,6 @@ IsManifestOr m (Err LinkFailed) = Unit {0}
 IsManifestOr m (Err BadReply) = ⊥
 IsManifestOr m (Err BadManifest) = ⊥
 IsManifestOr m (Err (Refused fault)) = ⊥
-
--- a client was pinned at the manifest, unless memory was wanted
-abbrev pub IsPinned : Manifest → Result Client AskFault → Type 0
-IsPinned m (Ok r) = r ≡ client_at m
-IsPinned m (Err NoMemory) = Unit {0}
-IsPinned m (Err LinkFailed) = ⊥
-IsPinned m (Err BadReply) = ⊥
-IsPinned m (Err BadManifest) = ⊥
-IsPinned m (Err (Refused fault)) = ⊥
 
 -- the answer is that of the tree, unless the link failed or memory was wanted
 abbrev pub IsWholeOr : Result Finding ClientFault → Result Found AskFault → Type 0

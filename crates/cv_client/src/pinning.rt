@@ -1,12 +1,13 @@
 //! The manifest of a served repository.
-ghost use Rattle.std.specs.Prelude.{◌≡◌, ℕ, List, Some};
+ghost use Rattle.std.specs.Prelude.{◌≡◌, ℕ, List, Some, Ok};
 ghost use Rattle.cv_base.specs.Counts.{HasCause, Rose};
+ghost use Rattle.cv_base.specs.Unless.{IsUnless};
 ghost use Rattle.cv_manifest.specs.Manifest.{Says, manifest_name};
 ghost use Rattle.cv_manifest.specs.declared.manifest.Manifest.{Manifest as TheManifest};
 ghost use Rattle.cv_client.specs.Asking.{AsksFirst};
-ghost use Rattle.cv_client.specs.Pin.{FetchesManifest, Pins};
-ghost use Rattle.cv_client.specs.Served.{Files, ServedBy, FetchesServed, IsPinned};
-ghost use Rattle.cv_client.specs.declared.ask_fault.AskFault.TheVariants.{LinkFailed};
+ghost use Rattle.cv_client.specs.Pin.{FetchesManifest, Pins, client_at};
+ghost use Rattle.cv_client.specs.Served.{Files, ServedBy, FetchesServed};
+ghost use Rattle.cv_client.specs.declared.ask_fault.AskFault.TheVariants.{LinkFailed, NoMemory};
 
 use crate::ask_fault::AskFault;
 use crate::fetching::fetch;
@@ -63,7 +64,7 @@ pub fn pin<N: Dial, S: Signer>(
     // where the client is pinned.
     ensures completes { (Rose 1 (N.faults dial.old) (N.faults dial.new) → ⊥) → (files : Files)
         → ServedBy url.now files (N.came dial.old) (N.came dial.new) → (text : List ℕ) (m : TheManifest) → files manifest_name ≡ Some text
-        → Says (S.is_seal signer.now) text m → IsPinned m result }
+        → Says (S.is_seal signer.now) text m → IsUnless NoMemory result (Ok (client_at m)) }
 {
     let manifest = fetch_manifest(alloc, dial, url, signer)?;
     Ok(Resolver::new(alloc, manifest, CATALOGUES)?)

@@ -1,4 +1,4 @@
-use Rattle.std.proofs.Common.{sym, ap, subst, ◌∙◌}
+use Rattle.std.proofs.Common.{refl, sym, ap, subst, inl, ◌∙◌}
 use Rattle.std.specs.declared.result.Result.TheVariants.{Ok, Err}
 use Rattle.std.proofs.lemmas.Result.{err_from_is_err_and}
 use Rattle.cv_resolver.specs.Resolver.{Client}
@@ -28,7 +28,13 @@ returns-in_err-manifest-clause-pins g c =
 pub returns-clause-completes : goal.returns-clause-completes
 returns-clause-completes g c = λ steady files s text m has says.
     let e = c.in_ok-new.ensures in
-    same_client c.in_ok-new.field-0 (client_at c.in_ok-manifest.manifest) e.name e.revision e.root e.empty e.idle ∙ ap client_at (c.in_ok-manifest.ensures.completes files s text m has says)
+    let same = same_client c.in_ok-new.field-0 (client_at c.in_ok-manifest.manifest) e.name e.revision e.root e.empty e.idle in
+    ap (λ (r : Client). Ok r) (same ∙ ap client_at (c.in_ok-manifest.ensures.completes files s text m has says))
+
+pub returns-in_err-new-clause-completes : goal.returns-in_err-new-clause-completes
+returns-in_err-new-clause-completes g c = λ steady files s text m has says.
+    let p = err_from_is_err_and c.from_residual-in_err-new.result c.from_residual-in_err-new.ensures.1 in
+    rw (p.1, p.2) (inl refl)
 
 pub returns-in_err-manifest-clause-completes : goal.returns-in_err-manifest-clause-completes
 returns-in_err-manifest-clause-completes g c = λ steady files s text m has says.
