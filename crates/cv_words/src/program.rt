@@ -107,9 +107,7 @@ pub fn match_words<'a>(alloc: Global, words: &'a [String]) -> Result<ArgMatches<
     ensures taken { IfOk result (λ m. fault_of program (map string_bytes words.entry.now) ≡ []) }
     ensures usage { result ≡ Err Usage → fault_of program (map string_bytes words.entry.now) ≢ [] }
 {
-    let Ok(program) = whole_program(alloc) else {
-        return Err(WordsFault::NoMemory);
-    };
+    let program = whole_program(alloc)?;
     match program.try_get_matches_from(words) {
         Ok(matches) => Ok(matches),
         Err(error) => match error.kind() {
@@ -138,10 +136,8 @@ fn push_value<'a>(
     let Some(value) = matches.get_str(id) else {
         return Ok(());
     };
-    match values.push(value) {
-        Ok(()) => Ok(()),
-        Err(_) => Err(WordsFault::NoMemory),
-    }
+    values.push(value)?;
+    Ok(())
 }
 
 /// The values of a command, in their order.

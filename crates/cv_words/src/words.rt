@@ -14,7 +14,7 @@ use crate::program::{match_words, read_given};
 use cv_base::{Name, NoMemory, RepoPath, Text, ends_in_marker};
 use cv_client::Url;
 use cv_resolver::Question;
-use std::alloc::Global;
+use std::alloc::{AllocError, AllocFailed, Global};
 
 /// What the words ask for.
 #[derive(Debug, Drop)]
@@ -38,6 +38,22 @@ pub enum WordsFault {
     Usage,
     /// There was no memory.
     NoMemory,
+}
+
+impl From<AllocError> for WordsFault {
+    ghost from_gives = { λ _ e. e ≡ faults.NoMemory };
+
+    fn from(_error: AllocError) -> WordsFault {
+        WordsFault::NoMemory
+    }
+}
+
+impl<T: Drop> From<AllocFailed<T>> for WordsFault {
+    ghost from_gives = { λ _ e. e ≡ faults.NoMemory };
+
+    fn from(_error: AllocFailed<T>) -> WordsFault {
+        WordsFault::NoMemory
+    }
 }
 
 impl From<NoMemory> for WordsFault {
@@ -149,10 +165,8 @@ fn read_publish(
             if ends_in_marker(&path) {
                 return Err(WordsFault::Usage);
             }
-            match Text::from_str(alloc, folder) {
-                Ok(folder) => Ok(Command::Publish(url, path, folder)),
-                Err(_) => Err(WordsFault::NoMemory),
-            }
+            let folder = Text::from_str(alloc, folder)?;
+            Ok(Command::Publish(url, path, folder))
         }
         _ => Err(WordsFault::Usage),
     }

@@ -6,19 +6,19 @@ use Rattle.clap.specs.Words.{App, fault_of, is_simple, is_simple_and_free, subco
 use Rattle.cv_words.proofs.Entering.{program_is_simple, program_is_free}
 use Rattle.cv_words.proofs.program.match_words.Goals as goal
 
-pub returns-in-Ok-try_get_matches_from-clause-found : goal.returns-in-Ok-try_get_matches_from-clause-found
-returns-in-Ok-try_get_matches_from-clause-found c =
-    let is = c.in-Ok.ensures.shape in
-    (c.in-Ok-try_get_matches_from.ensures.matches (ap is_simple is ∙ program_is_simple)).1 ∙ ap (λ (a : App). subcommand_of a (map string_bytes c.args.words.now)) is
+pub returns-in-Ok-clause-found : goal.returns-in-Ok-clause-found
+returns-in-Ok-clause-found c =
+    let is = c.in_ok-program.ensures.shape in
+    (c.in-Ok.ensures.matches (ap is_simple is ∙ program_is_simple)).1 ∙ ap (λ (a : App). subcommand_of a (map string_bytes c.args.words.now)) is
 
-pub returns-in-Ok-try_get_matches_from-clause-taken : goal.returns-in-Ok-try_get_matches_from-clause-taken
-returns-in-Ok-try_get_matches_from-clause-taken c =
-    let is = c.in-Ok.ensures.shape in
-    sym (ap (λ (a : App). fault_of a (map string_bytes c.args.words.now)) is) ∙ c.in-Ok-try_get_matches_from.ensures.kinds (ap is_simple_and_free is ∙ program_is_free)
+pub returns-in-Ok-clause-taken : goal.returns-in-Ok-clause-taken
+returns-in-Ok-clause-taken c =
+    let is = c.in_ok-program.ensures.shape in
+    sym (ap (λ (a : App). fault_of a (map string_bytes c.args.words.now)) is) ∙ c.in-Ok.ensures.kinds (ap is_simple_and_free is ∙ program_is_free)
 
 pub returns : goal.returns
 returns c =
-    let is = c.in-Ok.ensures.shape in
+    let is = c.in_ok-program.ensures.shape in
     record {
       found = tt;
       taken = tt;

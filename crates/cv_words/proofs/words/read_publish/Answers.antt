@@ -22,12 +22,12 @@ marked url path folder at b command same only is marks (publish url' path' folde
     let wrong : true ≡ false = sym marks ∙ is ∙ ap (ends_in marker) here ∙ unmarked in
     absurd cc
 
-pub returns-in-Ok-clause-command : goal.returns-in-Ok-clause-command
-returns-in-Ok-clause-command c =
+pub returns-in_ok-folder-in-publish-clause-command : goal.returns-in_ok-folder-in-publish-clause-command
+returns-in_ok-folder-in-publish-clause-command c =
     let word : c.args.verb.now ≡ codes "publish" = search rules in
     let unmarked : c.ends_in_marker.result ≡ false = search rules in
-    let same : c.args.url.now ∷ c.args.path.now ∷ c.args.folder.now ∷ [] ≡ c.args.url.now ∷ c.args.path.now ∷ c.in-Ok.folder ∷ [] = λ i. c.args.url.now ∷ c.args.path.now ∷ sym c.in-Ok.ensures i ∷ [] in
-    publish c.args.url.now c.args.path.now c.in-Ok.folder _ _ word same c.in_ok-url-in-publish.ensures.place (sym c.ends_in_marker.ensures ∙ unmarked)
+    let same : c.args.url.now ∷ c.args.path.now ∷ c.args.folder.now ∷ [] ≡ c.args.url.now ∷ c.args.path.now ∷ c.in_ok-folder-in-publish.folder ∷ [] = λ i. c.args.url.now ∷ c.args.path.now ∷ sym c.in_ok-folder-in-publish.ensures i ∷ [] in
+    publish c.args.url.now c.args.path.now c.in_ok-folder-in-publish.folder _ _ word same c.in_ok-url-in-publish.ensures.place (sym c.ends_in_marker.ensures ∙ unmarked)
 
 pub returns-then-ends_in_marker-clause-usage : goal.returns-then-ends_in_marker-clause-usage
 returns-then-ends_in_marker-clause-usage c = λ is command means.
