@@ -19,12 +19,13 @@ pub struct Ahead {
 
 impl Model for Ahead {
     ghost use Rattle.std.specs.Prelude.{List, ℕ, ◌≡◌, vec_len};
+    ghost use Rattle.cv_system.specs.declared.ahead.TheConstants.{ROOM};
 
     ghost Value = { List (List ℕ) };
 
     ghost view = { λ ahead. ahead.paths.items };
 
-    ghost invariant = { λ ahead. vec_len ahead.paths ≡ 128 };
+    ghost invariant = { λ ahead. vec_len ahead.paths ≡ ROOM };
 }
 
 /// The place of a path among those that are kept, if there is one for it.
