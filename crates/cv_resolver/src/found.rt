@@ -1,6 +1,9 @@
 //! What a client finds.
+ghost use Rattle.std.specs.Prelude.{◌≡◌};
+ghost use Rattle.cv_resolver.specs.declared.found.ClientFault.TheVariants as faults;
+
 use crate::stat_line::StatLine;
-use cv_base::{Bytes, Items, ObjectId, Text};
+use cv_base::{Bytes, Items, NoMemory, ObjectId, Text};
 
 /// What a question finds.
 #[derive(Debug, Drop)]
@@ -39,6 +42,14 @@ pub enum ClientFault {
     NoMemory,
 }
 
+impl From<NoMemory> for ClientFault {
+    ghost from_gives = { λ _ e. e ≡ faults.NoMemory };
+
+    fn from(_fault: NoMemory) -> ClientFault {
+        ClientFault::NoMemory
+    }
+}
+
 /// Why a manifest isn't taken. After it the resolver is as before.
 #[derive(Clone, Copy, Debug, PartialEq, Eq)]
 pub enum RenewFault {
@@ -58,6 +69,4 @@ pub enum RenewFault {
         /// That of the manifest.
         offered: [u8; 20],
     },
-    /// There was no memory.
-    NoMemory,
 }

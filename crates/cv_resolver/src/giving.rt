@@ -54,13 +54,13 @@ fn take_catalogue(
     match open_level(alloc, &walk.spot.level, bytes) {
         Ok(Some(catalogue)) => match cache.put(walk.spot.level.hash, catalogue) {
             Ok(()) => walk_on(alloc, cache, repository, question, walk),
-            Err(NoMemory) => Stage::Ends(Err(ClientFault::NoMemory)),
+            Err(fault) => Stage::from(fault),
         },
         Ok(None) => Stage::Ends(Err(ClientFault::BadCatalogue(ObjectId {
             hash: walk.spot.level.hash,
             kind: Kind::Catalogue,
         }))),
-        Err(NoMemory) => Stage::Ends(Err(ClientFault::NoMemory)),
+        Err(fault) => Stage::from(fault),
     }
 }
 

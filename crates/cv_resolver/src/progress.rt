@@ -72,7 +72,7 @@ fn go_by_cache(
     let catalogue = cache.get(&walk.spot.level);
     match go(alloc, repository, question, walk, catalogue) {
         Ok(stage) => stage,
-        Err(NoMemory) => Stage::Ends(Err(ClientFault::NoMemory)),
+        Err(fault) => Stage::from(fault),
     }
 }
 

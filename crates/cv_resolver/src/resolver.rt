@@ -67,7 +67,7 @@ fn first_stage(
 {
     match start(alloc, root, question.path()) {
         Ok(walk) => walk_on(alloc, cache, repository, question, walk),
-        Err(NoMemory) => Stage::Ends(Err(ClientFault::NoMemory)),
+        Err(fault) => Stage::from(fault),
     }
 }
 

@@ -1,10 +1,12 @@
 //! How far a question has come.
-ghost use Rattle.std.specs.Prelude.{◌≡◌};
+ghost use Rattle.std.specs.Prelude.{◌≡◌, Err};
 ghost use Rattle.cv_resolver.specs.Stage.{wanted_by};
+ghost use Rattle.cv_resolver.specs.declared.found.ClientFault.TheVariants as faults;
+ghost use Rattle.cv_resolver.specs.declared.stage.Stage.TheVariants as stage;
 
 use crate::found::{ClientFault, Found};
 use crate::walk::Walk;
-use cv_base::{Kind, ObjectId};
+use cv_base::{Kind, NoMemory, ObjectId};
 
 /// How far a question has come.
 #[derive(Debug, Drop)]
@@ -15,6 +17,15 @@ pub enum Stage {
     Reads([u8; 20]),
     /// It is answered.
     Ends(Result<Found, ClientFault>),
+}
+
+// Without memory the question is answered so.
+impl From<NoMemory> for Stage {
+    ghost from_gives = { λ _ s. s ≡ stage.Ends (Err faults.NoMemory) };
+
+    fn from(fault: NoMemory) -> Stage {
+        Stage::Ends(Err(ClientFault::from(fault)))
+    }
 }
 
 /// The id of the object that is wanted.

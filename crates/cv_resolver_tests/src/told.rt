@@ -105,6 +105,5 @@ pub(crate) fn renewal_text(alloc: Global, answer: Result<(), RenewFault>) -> Res
         Err(RenewFault::Forked { pinned, offered }) => {
             digests_text(alloc, "forked", &pinned, &offered)
         }
-        Err(RenewFault::NoMemory) => Ok(String::from_str(alloc, "no memory")?),
     }
 }

@@ -39,7 +39,6 @@ abbrev pub renewal_text : RenewFault → List ℕ
 renewal_text (renew.Older pinned offered) = codes "older"
 renewal_text renew.OtherRepository = codes "other repository"
 renewal_text (renew.Forked pinned offered) = codes "forked"
-renewal_text renew.NoMemory = codes "out of memory"
 
 -- a line that refuses for this cause
 abbrev pub refusal : List ℕ → List ℕ

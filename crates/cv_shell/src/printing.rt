@@ -73,7 +73,6 @@ pub(crate) fn renewal_text(fault: RenewFault) -> &'static str
         RenewFault::Older { .. } => "older",
         RenewFault::OtherRepository => "other repository",
         RenewFault::Forked { .. } => "forked",
-        RenewFault::NoMemory => "out of memory",
     }
 }
 

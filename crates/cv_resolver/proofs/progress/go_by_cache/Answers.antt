@@ -19,4 +19,4 @@ returns-in-Ok-clause-steps c =
 pub returns-in-Err-clause-steps : goal.returns-in-Err-clause-steps
 returns-in-Err-clause-steps c =
     let k = c.get-catalogue.ensures in
-    record { holds = record { found = c.get-catalogue.result.now; there = k.there; place = k.place }; told = no_memory refl; steps = λ peer. peer; on = λ t tree fits own on. tt }
+    rw c.from.ensures (record { holds = record { found = c.get-catalogue.result.now; there = k.there; place = k.place }; told = no_memory refl; steps = λ peer. peer; on = λ t tree fits own on. tt })

@@ -11,4 +11,4 @@ pub returns-in-Ok-clause-begins : goal.returns-in-Ok-clause-begins
 returns-in-Ok-clause-begins c = starts c.in-Ok.walk (begins_at c.args.root c.path.result.now _ c.in-Ok.walk c.path.ensures c.in-Ok.ensures) c.walk_on.ensures.goes
 
 pub returns-in-Err-clause-begins : goal.returns-in-Err-clause-begins
-returns-in-Err-clause-begins c = no_memory refl refl
+returns-in-Err-clause-begins c = no_memory refl c.from.ensures
