@@ -1,23 +1,24 @@
 -- Lines, and what was read where one was asked for.
-use Rattle.std.specs.Prelude.{◌≡◌, ◌<◌, ◌≤◌, ◌++◌, ◌∷◌, ℕ, List, [], length, take, false, Option, Result, Ok, Err}
+use Rattle.std.specs.Prelude.{◌≡◌, ◌<◌, ◌≤◌, ◌+◌, ◌++◌, ◌∷◌, ℕ, List, [], length, take, false, Option, Result, Ok, Err}
 use Rattle.std.specs.declared.option.Option.TheVariants.{Some, None}
 use Rattle.cv_ports.specs.Streams.{front}
 use Rattle.cv_http.specs.Wires.{HasEnded}
 use Rattle.cv_http.specs.declared.buffer.FillFault.{FillFault}
 use Rattle.cv_http.specs.declared.buffer.FillFault.TheVariants as fill_fault
 use Rattle.cv_manifest.specs.Lines.{has_newline}
+use Rattle.cv_shell.specs.declared.lines.TheConstants.{LINE_LIMIT}
 use Rattle.cv_shell.specs.declared.lines.LineFault.{LineFault}
 use Rattle.cv_shell.specs.declared.lines.LineFault.TheVariants.{TooLong, ReadFault, NoMemory}
 
--- a line, or a part of one: at most 8,192 bytes, of which none is a newline
+-- a line, or a part of one: no more bytes than the limit, of which none is a newline
 pub record IsLine (line : List ℕ) : Type 0 where
-  pub size : length line ≤ 8192
+  pub size : length line ≤ LINE_LIMIT
   pub whole : has_newline line ≡ false
 
--- no newline stands in the first 8,193 bytes
+-- no newline stands in the first bytes, one more than the limit
 pub record IsTooLong (b : List ℕ) : Type 0 where
-  pub size : 8193 ≤ length b
-  pub whole : has_newline (take 8193 b) ≡ false
+  pub size : LINE_LIMIT < length b
+  pub whole : has_newline (take (LINE_LIMIT + 1) b) ≡ false
 
 -- the bytes begin with this line, behind which these come: with its newline; or it is the last, which has none, and where the source
 -- tells what it has left, nothing comes behind it

@@ -19,6 +19,7 @@ use Rattle.cv_rows.specs.declared.limits.TheConstants.{ROW_LIMIT}
 use Rattle.cv_overlay.specs.declared.bounds.TheConstants.{SUM_LIMIT}
 use Rattle.cv_resolver.specs.declared.start.TheConstants.{LINKS}
 use Rattle.cv_client.specs.declared.pinning.TheConstants.{CATALOGUES}
+use Rattle.cv_shell.specs.declared.lines.TheConstants.{LINE_LIMIT}
 use Rattle.cv_leases.specs.declared.limits.TheConstants.{LEASE_LIMIT}
 use Rattle.cv_gate.specs.declared.entry.TheConstants.{JOURNAL_LIMIT}
 use Rattle.cv_session.specs.declared.exchange.TheConstants.{REQUEST_LIMIT}
@@ -45,11 +46,13 @@ pub record AreTreeLimits : Type 0 where
   pub object : OBJECT_LIMIT ≡ 16777216
   pub read : FOLDER_READ_LIMIT ≡ 16777217
 
--- of a client: bytes of all contents of a folder of changes, links that a walk follows, and catalogues that are kept
+-- of a client: bytes of all contents of a folder of changes, links that a walk follows, catalogues that are kept, and bytes of a line of
+-- the shell
 pub record AreClientLimits : Type 0 where
   pub sum : SUM_LIMIT ≡ 1073741824
   pub links : LINKS ≡ 32
   pub catalogues : CATALOGUES ≡ 64
+  pub line : LINE_LIMIT ≡ 8192
 
 -- of a gateway: revisions, seconds since 1970, seconds that a manifest says it lasts, keys, live leases, entries of the journal, and
 -- objects and bytes of a pack, and bytes of its header

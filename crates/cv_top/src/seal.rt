@@ -5,7 +5,7 @@ ghost use Rattle.cv_top.specs.declared.seal.SealFault.TheVariants.{Empty};
 
 use cv_base::{Name, NoMemory};
 use cv_seal::KeyedHash;
-use std::alloc::Global;
+use std::alloc::{AllocError, Global};
 
 /// Why there is no seal.
 #[derive(Clone, Copy, Debug, PartialEq, Eq)]
@@ -14,6 +14,14 @@ pub enum SealFault {
     Empty,
     /// There was no memory.
     NoMemory,
+}
+
+impl From<AllocError> for SealFault {
+    ghost from_gives = { λ _ e. e ≡ faults.NoMemory };
+
+    fn from(_error: AllocError) -> SealFault {
+        SealFault::NoMemory
+    }
 }
 
 impl From<NoMemory> for SealFault {
@@ -32,10 +40,7 @@ pub(crate) fn read_seal(alloc: Global, seal: &str) -> Result<KeyedHash, SealFaul
     if seal.is_empty() {
         return Err(SealFault::Empty);
     }
-    match String::from_str(alloc, seal) {
-        Ok(secret) => Ok(KeyedHash::new(secret)),
-        Err(_) => Err(SealFault::NoMemory),
-    }
+    Ok(KeyedHash::new(String::from_str(alloc, seal)?))
 }
 
 /// A repository's name, and what signs its manifests.

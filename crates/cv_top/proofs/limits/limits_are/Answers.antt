@@ -6,7 +6,7 @@ returns c =
     record {
       texts = record { repository = refl; key = refl; secret = refl; tag = refl; host = refl; room = refl };
       tree = record { name = refl; path = refl; names = refl; target = refl; mode = refl; rows = refl; object = refl; read = refl };
-      client = record { sum = refl; links = refl; catalogues = refl };
+      client = record { sum = refl; links = refl; catalogues = refl; line = refl };
       gate =
           record {
             revision = refl;
