@@ -20,9 +20,9 @@ use Rattle.cv_resolver.specs.Spot.{IsSpot}
 use Rattle.cv_resolver.specs.Pass.{Continues}
 use Rattle.cv_resolver.specs.PassInner.{behind_link}
 use Rattle.cv_resolver.specs.Step.{trail_from}
-use Rattle.cv_resolver.specs.Look.{trail, look, IsAnswer, OnWay, catalogue, file as file_way}
+use Rattle.cv_resolver.specs.Look.{trail, OnWay, catalogue, file as file_way}
 use Rattle.cv_resolver.specs.Stage.{IsStage, wanted_by}
-use Rattle.cv_resolver.specs.Resolver.{Client, IsOn, IsAskedOn, answer_by, answer_in, question_of, wanted_in}
+use Rattle.cv_resolver.specs.Resolver.{Client, IsOn, IsAskedOn, question_of, wanted_in}
 use Rattle.cv_resolver.specs.declared.stage.Stage.{Stage}
 use Rattle.cv_resolver.specs.declared.stage.Stage.TheVariants.{Walks, Reads, Ends}
 use Rattle.cv_resolver.specs.declared.resolver.Asked.{Asked}
@@ -89,9 +89,3 @@ wanted_way r t q id is on asks = subst (λ (o : Option ObjectId). IfSome o (OnWa
     by (Some a) there same =
         let one : a.question ≡ q = cc in
         subst (λ (x : Question). IfSome (wanted_by a.stage) (OnWay r.name t x)) one (way_of r.name t a.question a.stage there)
-
-    by : (a : Option Asked) → IsAskedOn r.name t a → option_map (λ x. x.question) a ≡ Some q → IfSome (answer_in a) (IsAnswer (look r.name t q))
-    by None there same = tt
-    by (Some a) there same =
-        let one : a.question ≡ q = cc in
-        subst (λ (x : Question). IfSome (answer_by a.stage) (IsAnswer (look r.name t x))) one (in_stage a.question a.stage there)
