@@ -1,5 +1,6 @@
 use Rattle.std.proofs.Common.{◌≡◌, subst, arith}
 use Rattle.cv_base.specs.Counts.{Rose}
+use Rattle.cv_base.proofs.Laws.{ok_is}
 use Rattle.cv_resolver.specs.Look.{look}
 use Rattle.cv_resolver.specs.Resolver.{Client, IsOn}
 use Rattle.cv_client.specs.Pin.{client_at}
@@ -22,7 +23,7 @@ returns-in-Ok-clause-completes g c = λ steady files s t m has.
     let next = answer_extends c.answer.ensures.answers in
     let sooner = c.in-Ok.ensures.cause.later in
     let later = c.answer.ensures.cause.later in
-    let at : c.in-Ok.resolver ≡ client_at m = c.in-Ok.ensures.completes (λ rose. steady (omega (arith, rose, later))) files (served_first first next s) has.text m has.there has.says in
+    let at : c.in-Ok.resolver ≡ client_at m = ok_is _ _ (c.in-Ok.ensures.completes (λ rose. steady (omega (arith, rose, later))) files (served_first first next s) has.text m has.there has.says) in
     let quiet : Rose 1 (g.N.Dial.faults c.pin.new.dial) (g.N.Dial.faults c.answer.new.dial) → ⊥ = λ rose. steady (omega (arith, rose, sooner)) in
     let whole : IsOn t c.in-Ok.resolver → HasWay files c.in-Ok.resolver.name t c.args.question → IsWhole (look c.in-Ok.resolver.name t c.args.question) c.answer.result
     = λ on way. unfailed (look c.in-Ok.resolver.name t c.args.question) c.answer.result (λ is. quiet (c.answer.ensures.cause.failed is)) (c.answer.ensures.completes files (served_next first next s) t on way) in
