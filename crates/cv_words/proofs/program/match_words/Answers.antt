@@ -22,7 +22,7 @@ returns c =
     record {
       found = tt;
       taken = tt;
-      usage = λ same none. ⊎_elim (λ memory. absurd (c.in_default-kind.not-OutOfMemory (c.kind.ensures ∙ memory)))
+      usage = λ same none. ⊎_elim (λ memory. absurd (c.in_default.not-OutOfMemory (c.kind.ensures ∙ memory)))
           (λ among. subst (IsAmong (kind_of c.in-Err.error)) (ap (λ (a : App). fault_of a (map string_bytes c.args.words.now)) is ∙ none) among)
           (c.in-Err.ensures.kinds (ap is_simple_and_free is ∙ program_is_free));
     }
