@@ -122,7 +122,8 @@ fn settle_unless<V: Vault>(vault: &mut V, settled: bool) -> Result<(), VaultFaul
     if settled { Ok(()) } else { vault.sync() }
 }
 
-/// Puts the objects of a batch that the vault lacks on their way, where the next sync settles them. It settles first.
+/// Puts the objects of a batch that the vault lacks on their way, where the next sync settles them. It settles first,
+/// unless it is known that all is settled.
 pub fn put_all<V: Vault>(
     vault: &mut V,
     alloc: Global,
@@ -152,7 +153,7 @@ pub fn bring_all<V: Vault>(vault: &mut V, alloc: Global, batch: &[Object]) -> Re
     place_absent(vault, alloc, batch)
 }
 
-/// Stores the objects of a batch that the vault lacks. It settles first.
+/// Stores the objects of a batch that the vault lacks. It settles first, unless it is known that all is settled.
 pub fn store_all<V: Vault>(
     vault: &mut V,
     alloc: Global,
