@@ -15,7 +15,7 @@ use crate::path_key::PathKey;
 use crate::path_name::{PathName, is_path_name};
 use crate::utf8::as_text;
 use md5::{Digest, Md5};
-use std::alloc::{AllocError, Global};
+use std::alloc::Global;
 use std::cmp::Ordering;
 use std::marker::Model;
 
@@ -295,9 +295,7 @@ fn read_bare(alloc: Global, bare: &str) -> Result<RepoPath, PathFault>
     if bare.len() > PATH_LIMIT {
         return Err(PathFault::TooLong);
     }
-    let Ok(parts) = parts_of(alloc, bare) else {
-        return Err(PathFault::NoMemory);
-    };
+    let parts = parts_of(alloc, bare)?;
     let names = names_of(&parts);
     if names.len() > NAMES_LIMIT {
         return Err(PathFault::TooDeep);
@@ -317,10 +315,10 @@ fn without_last_slash(text: &str) -> &str
 }
 
 /// The parts of a text between its slashes.
-fn parts_of(alloc: Global, text: &str) -> Result<Vec<&str>, AllocError>
+fn parts_of(alloc: Global, text: &str) -> Result<Vec<&str>, NoMemory>
     ensures { IfOk result (λ parts. map (λ part. part.now) parts.items ≡ parts_of text.now) }
 {
-    text.split('/').collect(alloc)
+    Ok(text.split('/').collect(alloc)?)
 }
 
 /// The names among the parts: all but the empty part before a leading slash.
