@@ -24,7 +24,7 @@ use Rattle.cv_links.specs.Lends.{with_value, revalued}
 use Rattle.cv_links.specs.RawStepsInner.{end_of, Joins, Parts, Touches}
 use Rattle.cv_links.proofs.Segments.{here, later, cons_cases, none_within, runs_held, runs_live, runs_kept, runs_cut, apart_cat, apart_left, apart_right, apart_between, last_or-append, last_within, head_within}
 
-pub lane_cases : (a b : Lane) → (a ≡ b) ⊎ (a ≢ b)
+lane_cases : (a b : Lane) → (a ≡ b) ⊎ (a ≢ b)
 lane_cases Tree Tree = inl refl
 lane_cases Tree Time = inr (λ e. absurd (cc))
 lane_cases Time Tree = inr (λ e. absurd (cc))
