@@ -1,17 +1,18 @@
 -- A shelf in memory with one object more.
-use Rattle.std.proofs.Common.{◌≡◌, ℕ, Bool, true, false, cond, ◌&&◌, List, [], ◌∷◌, ◌++◌, sym, ap, ◌∙◌, append_assoc}
+use Rattle.std.proofs.Common.{◌≡◌, ℕ, Bool, true, cond, ◌&&◌, List, [], ◌∷◌, ◌++◌, sym, ap, ◌∙◌, append_assoc}
 use Rattle.std.specs.Prelude.{Option, Some, Result, Ok, Err, OnOk}
 use Rattle.std.specs.Ordering.{is_eq}
 use Rattle.std.specs.Str.{bytes_eq}
 use Rattle.std.specs.BTreeMap.{BTreeMap, Updates, is_at}
 use Rattle.std.specs.Map.{lookup}
 use Rattle.std.proofs.lemmas.Map.Text.{is_eq-slice_cmp}
-use Rattle.std.proofs.Math.Bool.{and-true, and-false}
+use Rattle.std.proofs.Math.Bool.{and-true}
 use Rattle.cv_base.specs.BytesOrder.{bytes_cmp}
 use Rattle.cv_base.specs.declared.id.Kind.{Kind}
 use Rattle.cv_base.specs.declared.id.Kind.TheVariants.{Plain, Catalogue, History}
 use Rattle.cv_base.specs.declared.id.ObjectId.{ObjectId}
 use Rattle.cv_base.specs.declared.object.Object.{Object}
+use Rattle.cv_base.proofs.Laws.{unchosen}
 use Rattle.cv_ports.specs.Objects.{shelf_of, same_id, same_kind}
 use Rattle.cv_ports.specs.MemoryShelf.{ShelfView, standing, of_kind}
 
@@ -36,21 +37,17 @@ own es m n hash bytes q was put =
     put.0 q ∙ ap (λ (b : Bool). cond b (Some bytes) (under q m.entries)) test
     ∙ ap (λ (l : Entries). cond (bytes_eq hash q && true) (Some bytes) (under q l)) (sym was)
 
--- under those of another kind
-apart : {X : Type 0} → (b : Bool) (x y : X) → y ≡ cond (b && false) x y
-apart b x y = sym (ap (λ (a : Bool). cond a x y) (and-false b))
-
 put_kind : (s : ShelfView) (k j : Kind) (m n : BTreeMap (List ℕ) (List ℕ)) (hash bytes q : List ℕ) → of_kind s k ≡ m.entries
     → Updates bytes_cmp m n hash (Some bytes)
     → under q (of_kind (with_kind s k n.entries) j) ≡ cond (bytes_eq hash q && same_kind k j) (Some bytes) (under q (of_kind s j))
 put_kind s Plain Plain m n hash bytes q was put = own s.plain m n hash bytes q was put
-put_kind s Plain Catalogue m n hash bytes q was put = apart (bytes_eq hash q) (Some bytes) (under q s.catalogues)
-put_kind s Plain History m n hash bytes q was put = apart (bytes_eq hash q) (Some bytes) (under q s.history)
-put_kind s Catalogue Plain m n hash bytes q was put = apart (bytes_eq hash q) (Some bytes) (under q s.plain)
+put_kind s Plain Catalogue m n hash bytes q was put = unchosen (bytes_eq hash q) (Some bytes) (under q s.catalogues)
+put_kind s Plain History m n hash bytes q was put = unchosen (bytes_eq hash q) (Some bytes) (under q s.history)
+put_kind s Catalogue Plain m n hash bytes q was put = unchosen (bytes_eq hash q) (Some bytes) (under q s.plain)
 put_kind s Catalogue Catalogue m n hash bytes q was put = own s.catalogues m n hash bytes q was put
-put_kind s Catalogue History m n hash bytes q was put = apart (bytes_eq hash q) (Some bytes) (under q s.history)
-put_kind s History Plain m n hash bytes q was put = apart (bytes_eq hash q) (Some bytes) (under q s.plain)
-put_kind s History Catalogue m n hash bytes q was put = apart (bytes_eq hash q) (Some bytes) (under q s.catalogues)
+put_kind s Catalogue History m n hash bytes q was put = unchosen (bytes_eq hash q) (Some bytes) (under q s.history)
+put_kind s History Plain m n hash bytes q was put = unchosen (bytes_eq hash q) (Some bytes) (under q s.plain)
+put_kind s History Catalogue m n hash bytes q was put = unchosen (bytes_eq hash q) (Some bytes) (under q s.catalogues)
 put_kind s History History m n hash bytes q was put = own s.history m n hash bytes q was put
 
 -- an object was put among those of its kind

@@ -1,5 +1,5 @@
 -- Lists of objects, as what stands under their ids.
-use Rattle.std.specs.Prelude.{◌&&◌, List, [], ◌∷◌, Some, None, if◌then◌else◌}
+use Rattle.std.specs.Prelude.{List, [], ◌∷◌, Some, None, if◌then◌else◌}
 use Rattle.cv_base.specs.declared.object.Object.{Object}
 use Rattle.cv_ports.specs.Shelf.{Shelf}
 pub use Rattle.cv_base.specs.ObjectId.{same_kind, same_id}
