@@ -7,6 +7,7 @@ use Rattle.std.specs.declared.option.Option.TheVariants.{Some, None}
 use Rattle.std.specs.declared.result.Result.{Result}
 use Rattle.std.specs.declared.result.Result.TheVariants.{Ok, Err}
 use Rattle.cv_base.specs.Counts.{last_count}
+use Rattle.cv_base.proofs.Laws.{not_there}
 use Rattle.std.proofs.lemmas.List.Sums.{sum_by-cons}
 use Rattle.cv_vault.specs.Names.{Name, same_name}
 use Rattle.cv_vault.specs.Disk.{Disk, File, Reads, Lists, Writes, Renames, Removes, Syncs, Absent, Made, Unmade, synced}
@@ -25,7 +26,6 @@ use Rattle.cv_vault.specs.declared.fate.Fate.TheVariants.{Works, FailsUnmade, Fa
 use Rattle.cv_vault.specs.declared.schedule.Schedule.{Schedule}
 use Rattle.cv_vault.specs.declared.vault.VaultFault.{VaultFault}
 use Rattle.cv_vault.specs.declared.vault.VaultFault.TheVariants.{Failed, NoMemory}
-use Rattle.cv_vault.proofs.Names.{none_there}
 use Rattle.cv_vault.proofs.Remembering.{memory_disk-kept, calls_kept, calls_changed, calls_makes, counted_kept, counted_changed, counted_makes, numbered_by, makes_if_twice}
 use Rattle.cv_vault.proofs.Settling.{unsettled_differs}
 
@@ -185,7 +185,7 @@ module _ (v v' : Inside) (n : Name) (fate : Fate) (there : Bool) (r : Result Boo
   remove_failed a b next failed some = elim (there_parts there a b) [
     | inl h ↦ subst (λ made. Makes (removal_of (memory_disk (memory_of v)) n made) (memory_of v) (memory_of v')) (makes_failed v v'.schedule fate r there next answer failed)
         (makes_then (λ d. removal_of d n (fate_makes fate)) v v v' is (kept_same v v refl) h.1.1)
-    | inr h ↦ absurd (none_there (ap (λ (d : Disk). (d n).now) (disk_is v is) ∙ h.1.0) some)
+    | inr h ↦ absurd (not_there _ (ap (λ (d : Disk). (d n).now) (disk_is v is) ∙ h.1.0) some)
   ]
 
 module _ (v v1 v' : Inside) (from to : Name) (fate : Fate) (there : Bool) (r : Result Bool VaultFault) (is : IsTable v1.table) (k : Kept (memory_of v) (memory_of v1)) (answer : r ≡ cond (fate_fails fate) (Err Failed) (Ok there)) where
@@ -195,7 +195,7 @@ module _ (v v1 v' : Inside) (from to : Name) (fate : Fate) (there : Bool) (r : R
   rename_failed a b next failed some = elim (there_parts there a b) [
     | inl h ↦ subst (λ made. Makes (rename_of (memory_disk (memory_of v)) from to made) (memory_of v) (memory_of v')) (makes_failed v v'.schedule fate r there next answer failed)
         (makes_then (λ d. rename_of d from to (fate_makes fate)) v v1 v' is k h.1.1)
-    | inr h ↦ absurd (none_there (ap (λ (d : Disk). (d from).now) (sym (kept_disk v v1 is k)) ∙ h.1.0) some)
+    | inr h ↦ absurd (not_there _ (ap (λ (d : Disk). (d from).now) (sym (kept_disk v v1 is k)) ∙ h.1.0) some)
   ]
 
 pub write_calls : (v v1 v' : Inside) (n bytes : Name) (fate : Fate) (r : Result (Unit {0}) VaultFault) → IsTable v1.table → Kept (memory_of v) (memory_of v1) → r ≡ cond (fate_fails fate) (Err Failed) (Ok tt)
@@ -258,7 +258,7 @@ wants R v v' fate r next kept none same =
 -- Room.
 
 file_there : (es : List NamedSlot) (n : Name) → IsSome (disk_of es n).now → 1 ≤ file_count es
-file_there [] n h = absurd (none_there {X = List ℕ} {o = None} refl h)
+file_there [] n h = absurd (not_there {A = List ℕ} None refl h)
 file_there (e ∷ es) n h = by (same_name n e.name) h (file_there es n)
   where
     counted : file_count (e ∷ es) ≡ has_file e.stands + file_count es

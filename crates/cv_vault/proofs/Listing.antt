@@ -12,6 +12,7 @@ use Rattle.std.proofs.lemmas.List.Elements.{All-filter, All-head, All-tail, filt
 use Rattle.std.proofs.lemmas.List.{append-nil}
 use Rattle.std.proofs.lemmas.List.Kept.{IsStrictlySortedBy-filter}
 use Rattle.cv_base.specs.BytesOrder.{bytes_cmp}
+use Rattle.cv_base.proofs.Laws.{not_there}
 use Rattle.cv_vault.specs.Names.{Name}
 use Rattle.cv_vault.specs.Disk as disk
 use Rattle.cv_vault.specs.Disk.{Slot, IsListing}
@@ -19,7 +20,6 @@ use Rattle.cv_vault.specs.Table.{Rows}
 use Rattle.cv_vault.specs.TableInner.{entry_at, is_listed, IsEntryOf, table_disk, IsTable}
 use Rattle.cv_vault.specs.IndexedInner.{rows_of, IsIndexed}
 use Rattle.cv_vault.specs.declared.table.Table.TheInside.{Inside}
-use Rattle.cv_vault.proofs.Names.{none_there}
 use Rattle.cv_vault.proofs.Ordered.{names_of, all_names, ascending, among_or_none, passes, passed, placed}
 use Rattle.cv_vault.proofs.Steps.{slot_at, present, missing}
 use Rattle.cv_vault.proofs.Prefixes.{is_from, names_from, none_before, none_past}
@@ -36,7 +36,7 @@ module _ (t : Inside) (is : IsIndexed t) (prefix : Name) where
   is_there : (n : Name) → IsTrue (starts_with nat_eq n prefix) × IsSome (table_disk (rows_of t) n).now → Contains listed n
   is_there n h = elim (among_or_none t is n) [
     | inl c ↦ passes (is_listed (table_disk (rows_of t)) prefix) (all_names t) n c (rw (h.1, h.0) refl)
-    | inr none ↦ absurd (none_there (ap (λ (s : Slot). s.now) none) h.1)
+    | inr none ↦ absurd (not_there _ (ap (λ (s : Slot). s.now) none) h.1)
   ]
 
   pub listing : IsListing (table_disk (rows_of t)) prefix listed

@@ -1,26 +1,16 @@
 -- Names that are the same or differ, and disks with another slot at a name.
-use Rattle.std.proofs.Common.{◌≡◌, ◌≢◌, ◌⊎◌, inl, inr, ap, subst, sym, ◌∙◌, Bool, true, false, is_some, refl}
-use Rattle.std.specs.Prelude.{IsSome}
-use Rattle.std.specs.declared.option.Option.{Option}
-use Rattle.std.specs.declared.option.Option.TheVariants.{None}
+use Rattle.std.proofs.Common.{◌≡◌, ◌≢◌, ◌⊎◌, inl, inr, ap, subst, sym, ◌∙◌, Bool, true, false, refl}
 use Rattle.std.specs.declared.cmp.Ordering.TheVariants.{Less}
 use Rattle.std.specs.Ordering.{is_eq}
 use Rattle.std.specs.Cmp.{tied_itself}
 use Rattle.std.specs.Str.{bytes_eq}
 use Rattle.std.proofs.lemmas.Slice.Eq.{bytes_eq-Decides}
 use Rattle.std.specs.Cmp.Lexicographic.{nat_list_cmp_total}
-use Rattle.std.specs.FinMap.{IsAntisymmetric, slice_cmp-IsAntisymmetric, nat_cmp-IsAntisymmetric}
 use Rattle.cv_base.specs.BytesOrder.{bytes_cmp}
+use Rattle.cv_base.specs.PathOrder.{name_exact}
 use Rattle.cv_base.proofs.Laws.{is_equal}
 use Rattle.cv_vault.specs.Names.{Name, same_name}
 use Rattle.cv_vault.specs.Disk.{Disk, Slot, with_slot}
-
--- nothing isn't something
-pub none_there : {X : Type 0} {o : Option X} → o ≡ None → IsSome o → ⊥
-none_there {X} e h = let k : is_some {T = X} None ≡ true = subst (λ x. is_some x ≡ true) e h in cc
-
-pub name_exact : IsAntisymmetric bytes_cmp
-name_exact = slice_cmp-IsAntisymmetric nat_cmp-IsAntisymmetric
 
 pub same_name_is : (a b : Name) → same_name a b ≡ true → a ≡ b
 same_name_is a b h = name_exact a b (is_equal _ h)

@@ -8,6 +8,7 @@ use Rattle.std.specs.declared.result.Result.{Result}
 use Rattle.std.specs.declared.result.Result.TheVariants.{Ok, Err}
 use Rattle.std.proofs.lemmas.Option.{same_Some}
 use Rattle.std.proofs.lemmas.Slice.Eq.{bytes_eq-Decides}
+use Rattle.cv_base.proofs.Laws.{not_there}
 use Rattle.cv_vault.specs.Names.{Name, on_way}
 use Rattle.cv_vault.specs.Disk.{Disk, Slot, File, Files, ImageOf, IsCalm, Mark, Settled, Torn, MayChange, Absent, Made, Unmade, Reads, Writes, Renames, Syncs, slot, written, synced, renamed, unrenamed}
 use Rattle.cv_vault.specs.Moments.{Calls, OnlyReads}
@@ -15,7 +16,7 @@ use Rattle.cv_vault.specs.Walks.{Gains, Walks, Nothing, ComesTo}
 use Rattle.cv_vault.specs.Replace.{IsSure, IsWaiting, IsBrought, PutOnWay, Came, MovedIn, Replaced, Found}
 use Rattle.cv_vault.specs.declared.vault.VaultFault.{VaultFault}
 use Rattle.cv_vault.specs.declared.vault.VaultFault.TheVariants.{Failed, NoMemory}
-use Rattle.cv_vault.proofs.Names.{here, none_there}
+use Rattle.cv_vault.proofs.Names.{here}
 use Rattle.cv_vault.proofs.Walking.{call, bind, looser}
 use Rattle.cv_vault.proofs.Calling.{apart, writes, syncs, renames, renamed_to, renamed_from, renamed_elsewhere, reads}
 use Rattle.cv_vault.proofs.Quiet.{quiet_call, quiet_told}
@@ -123,14 +124,14 @@ module _ {V : Type 0} {disk : V → Option Disk} {count : V → ℕ} {left : V �
 
 -- a rename of a file that isn't there
 missing_stays : (way name : Name) (r : Result Bool VaultFault) (d d' : Disk) → (d way).now ≡ None → Renames way name r d d' → d' ≡ d
-missing_stays way name (Ok true) d d' none h = absurd (none_there none h.0)
+missing_stays way name (Ok true) d d' none h = absurd (not_there _ none h.0)
 missing_stays way name (Ok false) d d' none h = h.1
 missing_stays way name (Err Failed) d d' none h = by h
   where
     by : MayChange (d way).now d (renamed d way name) (unrenamed d way name) d' → d' ≡ d
     by (Absent absent same) = same
-    by (Made present is) = absurd (none_there none present)
-    by (Unmade present is) = absurd (none_there none present)
+    by (Made present is) = absurd (not_there _ none present)
+    by (Unmade present is) = absurd (not_there _ none present)
 missing_stays way name (Err NoMemory) d d' none h = h
 
 pub quiet_missing : {V : Type 0} {disk : V → Option Disk} {count : V → ℕ} {left : V → ℕ → Files → Type 0} {v v1 : V} (way name : Name) (r : Result Bool VaultFault) {d : Disk} → disk v ≡ Some d → (d way).now ≡ None

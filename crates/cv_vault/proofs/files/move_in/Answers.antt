@@ -1,8 +1,7 @@
 use Rattle.std.proofs.Common.{sym, ap, ◌∙◌}
 use Rattle.std.specs.declared.result.Result.TheVariants.{Err}
-use Rattle.cv_base.proofs.Laws.{handed_on}
+use Rattle.cv_base.proofs.Laws.{not_there, handed_on}
 use Rattle.cv_vault.proofs.Calming.{calm_sync}
-use Rattle.cv_vault.proofs.Names.{none_there}
 use Rattle.cv_vault.proofs.Replacing.{moves, moves_not, moves_unsure, ok, err}
 use Rattle.cv_vault.proofs.Sparing.{spares_then, spares_sync}
 use Rattle.cv_vault.proofs.files.move_in.Goals as goal
@@ -33,10 +32,10 @@ pub returns-in_err-bring_file-clause-absent : goal.returns-in_err-bring_file-cla
 returns-in_err-bring_file-clause-absent g c = λ d e none. c.in_err-bring_file.ensures.absent d e none
 
 pub returns-in_err-sync-clause-absent : goal.returns-in_err-sync-clause-absent
-returns-in_err-sync-clause-absent g c = λ d e none. absurd (none_there none (c.in_ok-bring_file.ensures.there d e))
+returns-in_err-sync-clause-absent g c = λ d e none. absurd (not_there _ none (c.in_ok-bring_file.ensures.there d e))
 
 pub returns-clause-absent : goal.returns-clause-absent
-returns-clause-absent g c = λ d e none. absurd (none_there none (c.in_ok-bring_file.ensures.there d e))
+returns-clause-absent g c = λ d e none. absurd (not_there _ none (c.in_ok-bring_file.ensures.there d e))
 
 pub returns-clause-calm : goal.returns-clause-calm
 returns-clause-calm g c = calm_sync c.in_ok-sync.ensures.call
