@@ -12,6 +12,7 @@ use Rattle.std.proofs.lemmas.Bool.Decides.{Decides-eqb}
 use Rattle.std.proofs.lemmas.Str.Pattern.{starts_text}
 use Rattle.cv_base.specs.Path.{Path, is_dots, last_name_of}
 use Rattle.cv_base.specs.PathText.{parts_of}
+use Rattle.cv_base.proofs.Laws.{first_true, second_true}
 use Rattle.cv_system.specs.Names.{is_name, is_own, is_part, is_way, last_part, path_of, stands_at}
 use Rattle.cv_system.proofs.LastParts.{last_behind, some_part}
 
@@ -44,14 +45,6 @@ pub another_front : (name : List ℕ) → FindsTextPrefix (codes "txn/") name No
 unfolding stands_at
 another_front name none = ap (λ b. cond (b && list_all (λ b. not (b == 47)) (drop 4 name)) (codes ".cvkit-txn-" ++ drop 4 name) name) (sym (starts_text false (codes "txn/") name none))
 
-first_holds : (a b : Bool) → (a && b) ≡ true → a ≡ true
-first_holds false b h = absurd (cc)
-first_holds true b h = refl
-
-last_holds : (a b : Bool) → (a && b) ≡ true → b ≡ true
-last_holds false b h = absurd (cc)
-last_holds true b h = h
-
 is_false : (a : Bool) → not a ≡ true → a ≡ false
 is_false false h = refl
 is_false true h = absurd (cc)
@@ -75,17 +68,17 @@ differ h = absurd (cc)
 no_name : (part : List ℕ) → list_all (λ b. not (b == 47)) part ≡ true → IsTrue (is_name (on_disk part)) → ⊥
 unfolding on_disk
 no_name part free named =
-    let parts : list_all is_part (parts_of (on_disk part)) ≡ true = last_holds (list_all (λ b. not (b == 0)) (on_disk part)) (list_all is_part (parts_of (on_disk part))) named in
+    let parts : list_all is_part (parts_of (on_disk part)) ≡ true = second_true (list_all (λ b. not (b == 0)) (on_disk part)) (list_all is_part (parts_of (on_disk part))) named in
     let sole : list_all is_part (on_disk part ∷ []) ≡ true = subst (λ (all : List (List ℕ)). list_all is_part all ≡ true) (sole_part (on_disk part) free) parts in
-    let is : is_part (on_disk part) ≡ true = first_holds (is_part (on_disk part)) true sole in
+    let is : is_part (on_disk part) ≡ true = first_true (is_part (on_disk part)) true sole in
     differ (not_own (not (length (on_disk part) == 0)) (not (is_dots (on_disk part))) (is_own (on_disk part)) is)
 
 -- a way is its part behind `txn/`, which has no slash
 way_is : (name : List ℕ) → is_way name ≡ true → name ≡ codes "txn/" ++ drop 4 name
-way_is name h = (starts_is Decides-eqb name (codes "txn/") _ refl).0 (first_holds (starts_with (λ a b. a == b) name (codes "txn/")) (list_all (λ b. not (b == 47)) (drop 4 name)) h)
+way_is name h = (starts_is Decides-eqb name (codes "txn/") _ refl).0 (first_true (starts_with (λ a b. a == b) name (codes "txn/")) (list_all (λ b. not (b == 47)) (drop 4 name)) h)
 
 way_free : (name : List ℕ) → is_way name ≡ true → list_all (λ b. not (b == 47)) (drop 4 name) ≡ true
-way_free name h = last_holds (starts_with (λ a b. a == b) name (codes "txn/")) (list_all (λ b. not (b == 47)) (drop 4 name)) h
+way_free name h = second_true (starts_with (λ a b. a == b) name (codes "txn/")) (list_all (λ b. not (b == 47)) (drop 4 name)) h
 
 apart : (one other : List ℕ) → IsTrue (is_name one) → IsTrue (is_name other) → (way way' : Bool) → is_way one ≡ way → is_way other ≡ way'
     → cond way (on_disk (drop 4 one)) one ≡ cond way' (on_disk (drop 4 other)) other → one ≡ other
@@ -97,13 +90,13 @@ apart one other named named' false false is is' same = same
 
 -- the last of a name's parts is one of a name
 last_passes : (first : List ℕ) (more : Path) → list_all is_part (first ∷ more) ≡ true → is_part (last_name_of (first ∷ more)) ≡ true
-last_passes first [] h = first_holds (is_part first) true h
-last_passes first (second ∷ more) h = last_passes second more (last_holds (is_part first) (list_all is_part (second ∷ more)) h)
+last_passes first [] h = first_true (is_part first) true h
+last_passes first (second ∷ more) h = last_passes second more (second_true (is_part first) (list_all is_part (second ∷ more)) h)
 
 last_of_name : (name : List ℕ) → IsTrue (is_name name) → is_part (last_part name) ≡ true
 last_of_name name named =
     let parts = some_part name in
-    let all : list_all is_part (parts_of name) ≡ true = last_holds (list_all (λ b. not (b == 0)) name) (list_all is_part (parts_of name)) named in
+    let all : list_all is_part (parts_of name) ≡ true = second_true (list_all (λ b. not (b == 0)) name) (list_all is_part (parts_of name)) named in
     subst (λ (p : Path). is_part (last_name_of p) ≡ true) (sym parts.2) (last_passes parts.0 parts.1 (subst (λ (p : Path). list_all is_part p ≡ true) parts.2 all))
 
 no_next : (name : List ℕ) → IsTrue (is_name name) → (way : Bool) → is_way name ≡ way → last_part (cond way (on_disk (drop 4 name)) name) ≡ codes ".cvkit-next" → ⊥
