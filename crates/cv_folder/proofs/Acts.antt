@@ -22,11 +22,6 @@ pub on_ok : {T E Q : Type 0} (result : Result T E) → Q → OnOk result Q
 on_ok (Ok x) so = so
 on_ok (Err error) so = tt
 
--- and where it isn't
-pub on_err_only : {T E Q : Type 0} (result : Result T E) → Q → OnErr result Q
-on_err_only (Ok x) so = tt
-on_err_only (Err error) so = so
-
 -- what an error shows
 pub on_err : {T E Q : Type 0} {P : E → Type 0} (result : Result T E) → ((error : E) → P error → Q) → IfErr result P → OnErr result Q
 on_err (Ok x) so h = tt

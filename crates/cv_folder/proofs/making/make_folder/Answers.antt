@@ -1,7 +1,7 @@
 use Rattle.std.proofs.Common.{inl, inr, refl, None, Ok, Err}
+use Rattle.cv_base.proofs.Laws.{on_err_only}
 use Rattle.cv_system.proofs.Laws.{looks_so, fails_now, fails_then, grows, steps_then}
 use Rattle.cv_folder.proofs.Preparing.{leads_if_made, leads_seen, makes_missing, stops_at_error, stops_unmade}
-use Rattle.cv_folder.proofs.Acts.{on_err_only}
 use Rattle.std.proofs.lemmas.Result.{err_from_is_err_and, IfErr-weaker}
 use Rattle.cv_system.specs.Calls.{Looked}
 use Rattle.cv_folder.proofs.Reasons.{way_fails, way_sees}

@@ -1,7 +1,8 @@
 use Rattle.std.proofs.Common.{refl, [], arith, subst, List, ℕ, inl, inr}
+use Rattle.cv_base.proofs.Laws.{on_err_only}
 use Rattle.cv_system.specs.Looks.{folders_at}
 use Rattle.cv_folder.specs.Writes.{Leads}
-use Rattle.cv_folder.proofs.Acts.{on_err_only, on_ok}
+use Rattle.cv_folder.proofs.Acts.{on_ok}
 use Rattle.cv_folder.proofs.Preparing.{above_wider, leads_then, prepares_none, prepares_on, prepares_wider, stops_here}
 use Rattle.cv_folder.proofs.Notes.{notes_none, notes_then, notes_wider}
 use Rattle.cv_system.proofs.Laws.{all_seen, one_place_more, steps_then}

@@ -1,9 +1,9 @@
 use Rattle.std.proofs.lemmas.Result.{err_from_is_err_and, IfErr-weaker}
 use Rattle.std.proofs.Common.{inl, inr, refl}
+use Rattle.cv_base.proofs.Laws.{on_err_only}
 use Rattle.cv_system.specs.Calls.{Made}
 use Rattle.cv_system.specs.Steps.{Still}
 use Rattle.cv_system.proofs.Laws.{one_fails}
-use Rattle.cv_folder.proofs.Acts.{on_err_only}
 use Rattle.cv_folder.proofs.Preparing.{not_made}
 use Rattle.cv_folder.proofs.making.make_noted.Goals as goal
 

@@ -1,6 +1,6 @@
 use Rattle.std.proofs.Common.{inl, inr}
-use Rattle.cv_folder.proofs.Acts.{on_err_only}
 use Rattle.std.proofs.lemmas.Result.{err_from_is_err_and}
+use Rattle.cv_base.proofs.Laws.{on_err_only}
 use Rattle.cv_folder.proofs.folder_vault.FolderVault.is_held.Goals as goal
 
 pub returns-in_err-ask-clause-fails : goal.returns-in_err-ask-clause-fails

@@ -1,7 +1,8 @@
 use Rattle.std.proofs.Common.{◌∙◌, map, refl, string_bytes, subst, sym}
 use Rattle.std.proofs.lemmas.Result.{on_ok_weaker}
+use Rattle.cv_base.proofs.Laws.{on_err_only}
 use Rattle.cv_folder.specs.Hold.{IsHeld}
-use Rattle.cv_folder.proofs.Acts.{acts_so, on_err_only}
+use Rattle.cv_folder.proofs.Acts.{acts_so}
 use Rattle.cv_folder.proofs.Filing.{not_both, sync_done, syncs_nothing}
 use Rattle.cv_folder.proofs.Vain.{fails_broken, fails_ended, fails_unheld}
 use Rattle.cv_folder.proofs.folder_vault.FolderVault.sync_now.Goals as goal
