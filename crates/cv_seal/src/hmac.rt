@@ -21,7 +21,7 @@ pub fn hmac_sha1(key: &[u8], text: &[u8]) -> [u8; 20]
 }
 
 /// The key as a block: hashed if it is longer, with zeros behind it if it is shorter.
-fn block_key(key: &[u8]) -> [u8; 64]
+fn block_key(key: &[u8]) -> [u8; BLOCK_SIZE]
     ensures { result ≡ block_key key.now }
 {
     if key.len() > BLOCK_SIZE {
@@ -32,9 +32,9 @@ fn block_key(key: &[u8]) -> [u8; 64]
 }
 
 /// The bytes, and zeros up to a block.
-fn zero_padded(bytes: &[u8]) -> [u8; 64]
-    requires { length bytes.now ≤ 64 }
-    ensures { result ≡ bytes.now ++ replicate (64 - length bytes.now) 0 }
+fn zero_padded(bytes: &[u8]) -> [u8; BLOCK_SIZE]
+    requires { length bytes.now ≤ BLOCK_SIZE }
+    ensures { result ≡ bytes.now ++ replicate (BLOCK_SIZE - length bytes.now) 0 }
 {
     let mut block = [0u8; BLOCK_SIZE];
     block[..bytes.len()].copy_from_slice(bytes);
@@ -42,7 +42,7 @@ fn zero_padded(bytes: &[u8]) -> [u8; 64]
 }
 
 /// A hasher that was given the block with a pad.
-fn masked_hasher(block: &[u8; 64], pad: u8) -> Sha1
+fn masked_hasher(block: &[u8; BLOCK_SIZE], pad: u8) -> Sha1
     ensures { Holds result (masked pad block.now) }
 {
     let mut hasher = Sha1::new();

@@ -1,4 +1,4 @@
-use Rattle.std.proofs.Common.{◌∙◌, ◌≤◌, refl, ◌<◌, arith}
+use Rattle.std.proofs.Common.{◌∙◌, refl, arith}
 use Rattle.cv_seal.proofs.Comparing.{next_place, last_place}
 use Rattle.cv_seal.proofs.compare.differing.Goals as goal
 

@@ -1,4 +1,4 @@
-use Rattle.std.proofs.Common.{◌≡◌, ◌==◌, ◌+◌, ◌-◌, ◌*◌, ◌<◌, ◌≤◌, ◌&&◌, drop}
+use Rattle.std.proofs.Common.{◌≡◌, ◌==◌, ◌-◌, ◌&&◌, drop}
 use Rattle.std.specs.Str.{bytes_eq}
 use Rattle.cv_seal.proofs.compare.differing.Given as goal
 
