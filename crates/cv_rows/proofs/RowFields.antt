@@ -1,5 +1,5 @@
 -- The fields of a row, written and read.
-use Rattle.std.proofs.Common.{◌≡◌, ℕ, suc, ◌+◌, ◌-◌, ◌^◌, ◌<◌, ◌⊎◌, Bool, true, false, not, cond, ltb, leb, eqb, ◌&&◌, List, [], ◌∷◌, ◌++◌, length, Option, Some, None, Result, Ok, Err, refl, sym, ap, subst, ◌∙◌, append_assoc, arith, inl, inr}
+use Rattle.std.proofs.Common.{◌≡◌, ℕ, suc, ◌+◌, ◌-◌, ◌^◌, ◌<◌, true, not, cond, ltb, leb, eqb, ◌&&◌, List, [], ◌∷◌, ◌++◌, length, Option, Some, None, Result, Ok, Err, refl, sym, ap, subst, ◌∙◌, append_assoc, arith, inl, inr}
 use Rattle.std.specs.Prelude.{IsSomeAnd}
 use Rattle.std.specs.Int.{w16, w32, w64, to_be_bytes}
 use Rattle.std.proofs.lemmas.Bool.{eqb-true, not-false}
@@ -21,12 +21,7 @@ use Rattle.cv_rows.specs.declared.row_fault.RowFault.TheVariants.{Short}
 use Rattle.cv_rows.specs.Row.{flags_of, type_bits, is_row_name, hash_field, text_field}
 use Rattle.cv_base.specs.Fields.{accepted, number_at, bytes_at, Takes, TakesBytes}
 use Rattle.cv_rows.specs.Reading.{bad, kind_of, kind_at, permissions, attr_at, is_size, size_at, hash_at, length_at, name_at, target_limit, is_size_of, target_at}
-use Rattle.cv_base.proofs.Laws.{bind_ok, guard_ended, passes, accepted_ok, Takes-then, wide16, wide32, wide64, number_takes, number_again, bytes_take, bytes_again}
-
--- which way a test went
-either : {A : Type 0} (b : Bool) (x y z : A) → cond b x y ≡ z → ((b ≡ true) × (x ≡ z)) ⊎ ((b ≡ false) × (y ≡ z))
-either true x y z e = inl (refl, e)
-either false x y z e = inr (refl, e)
+use Rattle.cv_base.proofs.Laws.{either, bind_ok, guard_ended, passes, accepted_ok, Takes-then, wide16, wide32, wide64, number_takes, number_again, bytes_take, bytes_again}
 
 abbrev some : {A : Type 0} → A → Option A
 some x = Some x

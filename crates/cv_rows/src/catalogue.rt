@@ -32,16 +32,6 @@ pub struct Catalogue {
     nested: Vec<Nested>,
 }
 
-/// Tells want of memory from a rule that is broken.
-fn unless_memory(fault: RowFault) -> Result<(), NoMemory>
-    ensures { OnOk result (fault ≢ row_fault.NoMemory) }
-{
-    match fault {
-        RowFault::NoMemory => Err(NoMemory),
-        _ => Ok(()),
-    }
-}
-
 impl Model for Catalogue {
     ghost use Rattle.cv_rows.specs.Catalogue.{Contents, IsCatalogue};
 
@@ -192,7 +182,7 @@ impl Catalogue {
         match rules::check(alloc, &at, &rows, &nested) {
             Ok(()) => Ok(Some(Catalogue { at, rows, nested })),
             Err(fault) => {
-                unless_memory(fault)?;
+                fault.unless_memory()?;
                 Ok(None)
             }
         }

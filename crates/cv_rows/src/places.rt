@@ -1,5 +1,5 @@
 //! Where the rows of a catalogue stand.
-ghost use Rattle.std.specs.Prelude.{◌≡◌, ◌≢◌, ℕ, ◌+◌, ◌<◌, ◌≤◌, ◌↔◌, false, None, List, length, IsTrue, IfOk, MatchOption, Contains, slice_index_or};
+ghost use Rattle.std.specs.Prelude.{◌≡◌, ◌≢◌, ℕ, ◌+◌, ◌^◌, ◌<◌, ◌≤◌, ◌↔◌, false, None, List, length, IsTrue, IfOk, MatchOption, Contains, slice_index_or};
 ghost use Rattle.std.specs.List.{HoldsAt, All};
 ghost use Rattle.std.specs.List.Sorted.{IsStrictlySortedBy};
 ghost use Rattle.cv_base.specs.Path.{IsPath};
@@ -115,10 +115,10 @@ fn doubled(alloc: Global, far: &[usize]) -> Result<Vec<usize>, NoMemory>
     Ok(farther)
 }
 
-/// What stands 65,536 steps above each, which is more steps than there are rows.
+/// What stands `2 ^ DOUBLINGS` steps above each, which is more steps than there are rows.
 pub fn far_above(alloc: Global, parents: &[usize]) -> Result<Vec<usize>, NoMemory>
     requires { AreInside parents.now }
-    ensures { IfOk result (λ far. AreAbove 65536 parents.now far.items) }
+    ensures { IfOk result (λ far. AreAbove (2 ^ DOUBLINGS) parents.now far.items) }
 {
     let mut far = Vec::from_slice(alloc, parents)?;
     for _ in 0..DOUBLINGS {

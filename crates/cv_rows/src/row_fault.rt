@@ -1,5 +1,5 @@
 //! Why bytes are no row file of a catalogue.
-ghost use Rattle.std.specs.Prelude.{◌≡◌};
+ghost use Rattle.std.specs.Prelude.{◌≡◌, ◌≢◌, MatchResult};
 ghost use Rattle.cv_rows.specs.declared.row_fault.RowFault.TheVariants as faults;
 
 use cv_base::NoMemory;
@@ -35,6 +35,18 @@ pub enum RowFault {
     TooLarge,
     /// There was no memory.
     NoMemory,
+}
+
+impl RowFault {
+    /// Tells want of memory, by which nothing is known of bytes or of rows, from a fault that they have.
+    pub fn unless_memory(self) -> Result<(), NoMemory>
+        ensures { MatchResult result (λ _. self ≢ faults.NoMemory) (λ _. self ≡ faults.NoMemory) }
+    {
+        match self {
+            RowFault::NoMemory => Err(NoMemory),
+            _ => Ok(()),
+        }
+    }
 }
 
 impl From<AllocError> for RowFault {
