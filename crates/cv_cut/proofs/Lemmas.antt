@@ -31,7 +31,7 @@ pub use Rattle.cv_cut.proofs.RowFacts.{marked_transition, root_not, root_row, ro
 pub use Rattle.cv_cut.proofs.Sameness.{same_list}
 pub use Rattle.cv_cut.proofs.Single.{Fits-single, cut_single, entries_single}
 pub use Rattle.cv_cut.proofs.Sorted.{order_rises}
-pub use Rattle.cv_cut.proofs.Told.{entries_are, entry_tells, nested_decodes, nested_decodes_at, no_row_tells, one_decoding, root_decodes, root_decodes_at, row_tells, row_tells_cut, rows_are, other_kind, same_fields}
+pub use Rattle.cv_cut.proofs.Told.{entries_are, entry_tells, nested_decodes, nested_decodes_at, no_row_tells, one_decoding, root_decodes, root_decodes_at, row_tells, row_tells_cut, rows_are, same_fields}
 pub use Rattle.cv_cut.proofs.Twice.{StandOnce}
 pub use Rattle.cv_cut.proofs.Upper.{above_contents, above_cut, at_cut as upper_at_cut, unmarked_r as upper_unmarked_r}
 pub use Rattle.cv_cut.proofs.WayCuts.{at-root, cuts_some, holder_way, made_all, made_deeper, made_here, pass_way}

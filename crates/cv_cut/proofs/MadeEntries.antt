@@ -9,7 +9,7 @@ use Rattle.std.specs.BTreeMap as tree
 use Rattle.std.proofs.lemmas.List.Elements.{All-contains, All-more, All-weaker}
 use Rattle.cv_base.specs.Path.{Path, path_cmp, covers}
 use Rattle.cv_base.specs.PathOrder.{path_total, same_path_is}
-use Rattle.cv_base.proofs.Laws.{behind-append}
+use Rattle.cv_base.proofs.Laws.{not_there, behind-append}
 use Rattle.cv_tree.specs.Tree.{Nodes, at}
 use Rattle.cv_tree.specs.declared.node.Node.{Node}
 use Rattle.cv_rows.specs.declared.nested.Nested.{Nested}
@@ -19,7 +19,6 @@ use Rattle.cv_cut.specs.Cut.{rest_of, is_other, nested_in, region_at}
 use Rattle.cv_cut.specs.CutInner.{HasMade, IsOtherEntry, cuts_below}
 use Rattle.cv_cut.proofs.Members.{passing}
 use Rattle.cv_cut.proofs.Between.{marked-at, other_cut}
-use Rattle.cv_cut.proofs.Bools.{none_some}
 use Rattle.cv_cut.proofs.KindLaws.{rest_is}
 use Rattle.cv_cut.proofs.RegionLists.{nested_list, nested_list_are}
 use Rattle.cv_cut.specs.Region.{IsOther}
@@ -57,7 +56,7 @@ entry_made t cuts made c p n m has is same other = record {
 pub not_unmade : (t : Nodes) (made : BTreeMap Path Nested) (c p : Path) → HasMade t (cuts_below t c) made → tree.get path_cmp made p ≡ None → is_other t c p ≡ true → ⊥
 not_unmade t made c p has none other =
     let there = All-contains (λ d. IsSome (tree.get path_cmp made d)) (cuts_below t c) p has.all (passing (is_other t c) (cuts_of t) p (other_cut t c p other) other) in
-    none_some (tree.get path_cmp made p) none there
+    not_there (tree.get path_cmp made p) none there
 
 -- one more entry was made, of the next cut
 pub one_made : (t : Nodes) (cuts : List Path) (i : ℕ) (old new : BTreeMap Path Nested) (c : Path) (n : Nested) → HasMade t (take i cuts) old → i < length cuts → c ≡ get_or cuts i c

@@ -10,9 +10,9 @@ use Rattle.std.proofs.lemmas.Map.Text.{is_eq-slice_cmp}
 use Rattle.std.proofs.lemmas.Slice.Eq.{bytes_eq-Decides}
 use Rattle.std.proofs.lemmas.Option.{slice_get_within, same_Some}
 use Rattle.cv_base.specs.BytesOrder.{bytes_cmp}
+use Rattle.cv_base.proofs.Laws.{not_there}
 use Rattle.cv_rows.specs.Made.{AreApart}
 use Rattle.cv_cut.specs.CutInner.{AreSame}
-use Rattle.cv_cut.proofs.Bools.{none_some}
 
 abbrev Map : Type 0
 Map = BTreeMap (List ℕ) ℕ
@@ -56,7 +56,7 @@ one_seen keys n seen more key has here new u = record {
         let key-is : key ≡ k = same_Some key k (sym here ∙ ap (slice_get keys) j-is ∙ other) in
         let there = has.all i k (omega (arith, lt, j-is)) one in
         let none = ap (at_key seen) (sym key-is) ∙ new in
-        none_some (at_key seen k) none there
+        not_there (at_key seen k) none there
   ];
 }
 

@@ -7,13 +7,14 @@ use Rattle.std.specs.Ordering.{is_eq, is_lt}
 use Rattle.std.specs.Cmp.Lexicographic.{nat_list_cmp_total}
 use Rattle.std.specs.List.{AllByRecursion}
 use Rattle.std.specs.List.Sorted.{IsPermutation, IsStrictlySortedBy}
-use Rattle.std.specs.FinMap.{IsAntisymmetric, slice_cmp-IsAntisymmetric, nat_cmp-IsAntisymmetric, find, put, entries, entries_sorted, is_sorted, from_entries, values, get-entries, get-from_entries, entries-insert, empty, len-entries, len-empty}
+use Rattle.std.specs.FinMap.{find, put, entries, entries_sorted, is_sorted, from_entries, values, get-entries, get-from_entries, entries-insert, empty, len-entries, len-empty}
 use Rattle.std.specs.FinMap.Entries.{below_all, by_order}
 use Rattle.std.proofs.lemmas.List.{nil_from_length}
 use Rattle.std.proofs.lemmas.List.Sorted.{IsPermutation-refl, IsPermutation-sym, IsPermutation-cons, IsPermutation-trans, IsPermutation-middle, IsPermutation-map, Contains-permutation}
 use Rattle.cv_rows.specs.Made.{AreApart}
 use Rattle.std.proofs.lemmas.Option.{slice_get-get_or}
 use Rattle.cv_base.specs.BytesOrder.{bytes_cmp}
+use Rattle.cv_base.specs.PathOrder.{name_exact}
 use Rattle.cv_base.proofs.Laws.{first_true, second_true, is_less}
 use Rattle.cv_cut.proofs.Members.{first_there, later_there, comes_from}
 use Rattle.cv_cut.proofs.Entries.{found_there}
@@ -34,9 +35,6 @@ module _ {K X : Type 0} (R : K → K → Ordering) where
             (IsPermutation-cons e ((k, v) ∷ es) (put R k v es) (put_moves k v es h))
       ] new
 
-bytes_exact : IsAntisymmetric bytes_cmp
-bytes_exact = slice_cmp-IsAntisymmetric nat_cmp-IsAntisymmetric
-
 module _ {X : Type 0} where
   key_place : (es : List (List ℕ × X)) (i : ℕ) (k : List ℕ) (v : X) → slice_get es i ≡ Some (k, v) → slice_get (map (λ e. e.0) es) i ≡ Some k
   key_place [] i k v h = absurd cc
@@ -49,7 +47,7 @@ module _ {X : Type 0} where
       elim (find bytes_cmp k es) as (λ o. find bytes_cmp k es ≡ o → o ≡ None) [
         | None ↦ λ e. refl
         | Some w ↦ λ e.
-            let has = found_there bytes_exact es k w e in
+            let has = found_there name_exact es k w e in
             let at : slice_get es has.0 ≡ Some (k, w) = slice_get-get_or es has.0 (k, w) has.1 ∙ ap Some has.2 in
             absurd (apart k (record { first = 0; second = suc has.0; order = omega arith; one = refl; other = key_place es has.0 k w at }))
       ] refl

@@ -172,7 +172,7 @@ module _ (t : Nodes) (tree : IsTree t) (c : Path) (cut : is_cut t c ≡ true) (a
 
 -- ---- decoding
 
-pub other_kind : (k l : RowKind) (p : Path) (n : Node) → row_of k p n ≡ record (row_of l p n) { kind = (row_of k p n).kind }
+other_kind : (k l : RowKind) (p : Path) (n : Node) → row_of k p n ≡ record (row_of l p n) { kind = (row_of k p n).kind }
 other_kind k l p (node.Dir attr) = refl
 other_kind k l p (node.File attr file) = refl
 other_kind k l p (node.Link attr target) = refl

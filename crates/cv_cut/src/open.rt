@@ -6,7 +6,7 @@ ghost use Rattle.cv_cut.specs.Reached.{Decodes, FitsPlace};
 ghost use Rattle.cv_cut.specs.Open.{FitsRow};
 
 use cv_base::{NoMemory, RepoPath};
-use cv_rows::{Catalogue, Row, RowFault};
+use cv_rows::{Catalogue, Row};
 use std::alloc::Global;
 
 /// Whether two rows have the same fields but for their kinds.
@@ -60,7 +60,9 @@ pub fn opened(
     match Catalogue::decode(alloc, bytes, at) {
         Ok(catalogue) if fits_place(&catalogue, at, row) => Ok(Some(catalogue)),
         Ok(_) => Ok(None),
-        Err(RowFault::NoMemory) => Err(NoMemory),
-        Err(_) => Ok(None),
+        Err(fault) => {
+            fault.unless_memory()?;
+            Ok(None)
+        }
     }
 }
