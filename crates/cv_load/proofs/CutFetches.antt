@@ -34,7 +34,7 @@ pairs_map {Y = Y} f (x ∷ xs) apart =
     (All-map (λ (z : Y). f x ≢ z) f xs (λ j d lt. apart 0 (suc j) d (omega arith) (omega (arith, lt))))
     (pairs_map f xs (λ i j d lt within. apart (suc i) (suc j) d (omega arith) (omega arith)))
 
-pub same_place : (p q : Path) → Decides (eq_by_cmp path_cmp p q) (p ≡ q)
+same_place : (p q : Path) → Decides (eq_by_cmp path_cmp p q) (p ≡ q)
 same_place p q = (same_path_is p q, λ e. subst (λ (x : Path). eq_by_cmp path_cmp p x ≡ true) e (ap is_eq (tied_itself path_total p)))
 
 module _ {shelf : Shelf} {top : List ℕ} {t : Nodes} (whole : IsWhole shelf top t) (visits : List Visit) (all : AreUnder shelf top root_place visits) (reached_ : All (λ v. ReachesCatalogue shelf top v.hash v.place) visits) (apart : AllPairs (λ v w. v.place.path ≢ w.place.path) visits) where

@@ -2,17 +2,13 @@
 
 -- a good root means a tree
 pub use Rattle.cv_load.proofs.GoodTree.{a_tree_is_meant}
--- where a hash means a tree nothing that is reached is lacking, bad or damaged
-pub use Rattle.cv_load.proofs.GoodLaws.{none_lacking, none_bad, none_damaged}
+-- where a hash means a tree nothing that is reached is lacking or bad
+pub use Rattle.cv_load.proofs.GoodLaws.{none_lacking, none_bad}
 -- where rows and nested entries of a catalogue stand, and what is below them
 pub use Rattle.cv_load.proofs.Below.{covers_itself, entries_apart, entry_below}
 -- the only node of a single node's tree
 pub use Rattle.cv_load.proofs.LoadedTree.{single_entry}
--- where two rows of a catalogue stand at one path they are one
-pub use Rattle.cv_load.proofs.Filling.{one_row}
 -- a loop over a list has come to one element more, and to all
 pub use Rattle.cv_load.proofs.Growing.{each_all, each_more}
--- a node that is there; whether two paths are one is decided
-pub use Rattle.cv_load.proofs.CutFetches.{same_place}
--- known pairs stay whole while the shelf grows, and where whole pairs are added
-pub use Rattle.cv_load.proofs.Knowing.{known_more, known_with_all}
+-- known pairs stay whole while the shelf grows
+pub use Rattle.cv_load.proofs.Knowing.{known_more}
