@@ -1,5 +1,5 @@
 -- What a graft answers of the trees that both roots mean.
-use Rattle.std.proofs.Common.{◌≡◌, ◌≢◌, ℕ, suc, ◌+◌, ◌≤◌, List, [], ◌∷◌, ◌++◌, length, None, Result, Ok, Err, refl, sym, ap, subst, ◌∙◌, arith}
+use Rattle.std.proofs.Common.{◌≡◌, ◌≢◌, ℕ, suc, ◌+◌, ◌≤◌, List, [], length, None, Result, Ok, Err, refl, sym, ap, subst, ◌∙◌, arith}
 use Rattle.cv_base.specs.Path.{Path}
 use Rattle.cv_base.specs.ObjectId.{object_id}
 use Rattle.cv_base.specs.declared.id.ObjectId.{ObjectId}

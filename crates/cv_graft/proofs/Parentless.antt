@@ -10,7 +10,6 @@ use Rattle.cv_tree.specs.Changes.{has_place}
 use Rattle.cv_tree.proofs.Laws.{has_place-append}
 use Rattle.cv_rows.specs.Catalogue.{Contents}
 use Rattle.cv_rows.specs.Places.{StandsAt}
-use Rattle.cv_rows.specs.declared.row_kind.RowKind.TheVariants as kind
 use Rattle.cv_cut.specs.Above.{OnWay}
 use Rattle.cv_cut.specs.Catalogues.{contents_of}
 use Rattle.cv_cut.specs.Cuts.{is_cut}
