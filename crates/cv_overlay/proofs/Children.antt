@@ -1,5 +1,5 @@
 -- The children of a directory by their names.
-use Rattle.std.proofs.Common.{◌≡◌, true, false, List, ℕ, [], ◌∷◌, ◌++◌, is_some, refl, sym, ap, ◌∙◌, length, ◌≤◌, ◌<◌, ◌+◌, suc, drop, get_or, add-one, drop-cons}
+use Rattle.std.proofs.Common.{◌≡◌, true, false, List, ℕ, [], ◌∷◌, ◌++◌, is_some, refl, sym, ap, ◌∙◌, length, ◌<◌, ◌+◌, suc, drop, get_or, add-one, drop-cons}
 use Rattle.std.specs.Prelude.{Result, Ok, Err}
 use Rattle.std.specs.declared.option.Option.TheVariants.{None, Some}
 use Rattle.std.specs.FinMap.{get}

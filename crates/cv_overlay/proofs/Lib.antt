@@ -14,4 +14,3 @@ mod Visits
 mod Walks
 mod WalkTexts
 mod Cases
-pub mod Lemmas
