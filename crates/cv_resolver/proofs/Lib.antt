@@ -16,3 +16,4 @@ mod Resolving
 mod Blames
 mod Telling
 mod Grounds
+pub mod Lemmas
