@@ -1,18 +1,17 @@
 -- What the crates above may cite of links that are read behind their requests.
 pub use Rattle.cv_client.proofs.Supplying.{ended_at}
-use Rattle.std.proofs.Common.{◌≡◌, List, [], ◌∷◌, refl, sym, subst, inl, inr, ◌∙◌}
-use Rattle.std.proofs.lemmas.List.Elements.{Contains-append_left, Contains-append_right, Contains-push}
+use Rattle.std.proofs.Common.{◌≡◌, [], ◌∷◌, refl, sym, subst, inl, inr, ◌∙◌}
+use Rattle.std.proofs.lemmas.List.Elements.{Contains-append_left}
 use Rattle.std.proofs.lemmas.Option.{none-some}
 use Rattle.std.specs.Prelude.{◌⊎◌, Option, Some, None, IsSome, Contains, Result, option_map}
-use Rattle.cv_ports.specs.Dial.{Came, Event, Opened, Back, Story, and_failed, and_opened, and_back}
+use Rattle.cv_ports.specs.Dial.{Came, Opened, Back, Story, and_failed, and_opened, and_back}
 use Rattle.cv_ports.specs.Streams.{Look}
 use Rattle.cv_http.specs.declared.outgoing.Outgoing.{Outgoing}
 use Rattle.cv_http.specs.declared.http_reply.HttpReply.{HttpReply}
 use Rattle.cv_client.specs.Asking.{CameBack, IsRead, AsksFirst}
-use Rattle.cv_client.specs.Exchange.{Links, linked_by, Exchanges, linked, undialled}
+use Rattle.cv_client.specs.Exchange.{Links, Exchanges, linked, undialled}
 use Rattle.cv_client.specs.declared.exchanging.ExchangeFault.{ExchangeFault}
 use Rattle.cv_client.specs.declared.url.Url.{Url}
-use Rattle.cv_client.proofs.Telling.{told_behind}
 
 map_told : {X Y : Type 0} (f : X → Y) (o : Option X) → IsSome o → IsSome (option_map f o)
 map_told f None is = is
@@ -22,14 +21,7 @@ exchange_told : {u : Url} {request : Outgoing} {before after : Links} {r : Resul
 exchange_told {before = before} (linked c r by host port told converses) is = subst IsSome (sym by) (map_told _ before is)
 exchange_told {before = before} (undialled by) is = subst IsSome (sym by) (map_told _ before is)
 
--- the link of an exchange comes back
-pub came_back : (u : Url) (link : Came) (before after : Links) → after ≡ linked_by u link before → CameBack link after
-came_back u link None after by = λ s told. absurd (none-some s (sym by ∙ told))
-came_back u link (Some start) after by = λ s told.
-    subst (λ (events : List Event). Contains events (Back link)) (sym (told_behind u link (Some start) after start s refl by told))
-    (Contains-append_right start.events (Opened u.host u.port ∷ Back link ∷ []) (Back link) (Contains-push (Opened u.host u.port ∷ []) (Back link)))
-
--- and those that came back before are told still
+-- those links that came back before an exchange are told still
 map_keeps : (f : Story → Story) (link : Came) (before after : Links) → ((s : Story) → Contains s.events (Back link) → Contains (f s).events (Back link)) → after ≡ option_map f before
     → CameBack link before → CameBack link after
 map_keeps f link None after grows by was = λ s told. absurd (none-some s (sym by ∙ told))

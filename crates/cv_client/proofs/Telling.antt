@@ -1,7 +1,8 @@
 -- What a dial tells goes on, exchange by exchange.
-use Rattle.std.proofs.Common.{◌≡◌, ◌++◌, ℕ, Bool, List, [], ◌∷◌, append_assoc, append-nil, refl, sym, ap, ◌∙◌}
-use Rattle.std.specs.Prelude.{Option, Some, None, Result, option_map}
-use Rattle.std.proofs.lemmas.List.Elements.{Contains-append_left, Contains-append_right}
+use Rattle.std.proofs.Common.{◌≡◌, ◌++◌, ℕ, Bool, List, [], ◌∷◌, append_assoc, append-nil, refl, sym, ap, subst, ◌∙◌}
+use Rattle.std.specs.Prelude.{Option, Some, None, Contains, Result, option_map}
+use Rattle.std.proofs.lemmas.List.Elements.{Contains-append_left, Contains-append_right, Contains-push}
+use Rattle.std.proofs.lemmas.Option.{none-some}
 use Rattle.cv_ports.specs.Dial.{Came, Event, Opened, Back, Story, and_opened, and_back}
 use Rattle.cv_http.specs.declared.outgoing.Outgoing.{Outgoing}
 use Rattle.cv_http.specs.declared.http_reply.HttpReply.{HttpReply}
@@ -10,6 +11,7 @@ use Rattle.cv_resolver.specs.Resolver.{Client}
 use Rattle.cv_resolver.specs.declared.found.Found.{Found}
 use Rattle.cv_resolver.specs.declared.question.Question.{Question}
 use Rattle.cv_client.specs.Answer.{Given, Comes, stays, goes, Answers, answered, cut}
+use Rattle.cv_client.specs.Asking.{CameBack}
 use Rattle.cv_client.specs.Exchange.{Links, linked_by, unlinked, Exchanges, linked, undialled}
 use Rattle.cv_client.specs.Fetch.{Fetches, said, lost, unasked}
 use Rattle.cv_client.specs.Pin.{FetchesManifest, good, bad, absent, lost as manifest_lost, Pins, pinned, unpinned, no_room}
@@ -59,6 +61,13 @@ told_behind u c before after start end was by is =
     let e : Some end ≡ linked_by u c (Some start) = sym is ∙ by ∙ ap (linked_by u c) was in
     let same : end ≡ and_back c (and_opened u.host u.port start) = cc in
     ap (λ (s : Story). s.events) same ∙ append_assoc start.events (Opened u.host u.port ∷ []) (Back c ∷ [])
+
+-- the link of an exchange comes back
+pub came_back : (u : Url) (link : Came) (before after : Links) → after ≡ linked_by u link before → CameBack link after
+came_back u link None after by = λ s told. absurd (none-some s (sym by ∙ told))
+came_back u link (Some start) after by = λ s told.
+    subst (λ (events : List Event). Contains events (Back link)) (sym (told_behind u link (Some start) after start s refl by told))
+    (Contains-append_right start.events (Opened u.host u.port ∷ Back link ∷ []) (Back link) (Contains-push (Opened u.host u.port ∷ []) (Back link)))
 
 exchange_extends : {u : Url} {request : Outgoing} {before after : Links} {r : Result HttpReply ExchangeFault} → Exchanges u request before after r → Extends before after
 exchange_extends {u} {request} {before} {after} (linked c r by host port told converses) = λ start was.

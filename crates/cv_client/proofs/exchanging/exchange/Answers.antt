@@ -3,8 +3,7 @@ use Rattle.std.specs.Prelude.{IsSome}
 use Rattle.cv_ports.specs.Dial.{Came, came_of}
 use Rattle.cv_client.specs.Exchange.{linked, undialled}
 use Rattle.cv_client.proofs.Conversing.{back_rose}
-use Rattle.cv_client.proofs.Lemmas.{came_back}
-use Rattle.cv_client.proofs.Telling.{linked_once}
+use Rattle.cv_client.proofs.Telling.{came_back, linked_once}
 use Rattle.cv_client.proofs.exchanging.exchange.Goals as goal
 
 pub returns-in_default-clause-exchanges : goal.returns-in_default-clause-exchanges
