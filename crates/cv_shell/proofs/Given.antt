@@ -12,16 +12,17 @@ use Rattle.cv_rows.specs.Catalogue.{Contents, catalogue_bytes}
 use Rattle.cv_cut.proofs.Lemmas.{comes_from, goes_to}
 use Rattle.cv_resolver.specs.Giving.{Takes, TakesCatalogue, nothing, other, content, catalogue, opened, bad as undecoded, no_memory as no_room}
 use Rattle.cv_resolver.specs.Kept.{Kept, kept_bytes, used, with_catalogue}
-use Rattle.cv_resolver.specs.Progress.{Leads, Begins, StepsTo, waits, halts, goes_further, starts, no_memory as unbegun}
+use Rattle.cv_resolver.specs.Progress.{Leads, Begins, waits, halts, goes_further, starts, no_memory as unbegun}
 use Rattle.cv_resolver.specs.Resolver.{Client, Asks, answer_in, wanted_in}
 use Rattle.cv_resolver.specs.Stage.{IsBlameless, IsOfPeer, wanted_by}
 use Rattle.cv_resolver.specs.declared.question.Question.{Question}
 use Rattle.cv_resolver.specs.declared.stage.Stage.{Stage}
-use Rattle.cv_resolver.specs.declared.stage.Stage.TheVariants.{Walks, Reads, Ends}
+use Rattle.cv_resolver.specs.declared.stage.Stage.TheVariants.{Walks, Ends}
 use Rattle.cv_resolver.specs.declared.walk.Walk.{Walk}
 use Rattle.cv_resolver.specs.declared.found.Found.TheVariants.{Bytes}
 use Rattle.cv_resolver.specs.declared.found.ClientFault.{ClientFault}
 use Rattle.cv_resolver.specs.declared.found.ClientFault.TheVariants as fault
+use Rattle.cv_resolver.proofs.Lemmas.{blameless, begun_blameless}
 use Rattle.cv_client.specs.Answer.{Given, Comes, stays, goes, bytes_in}
 use Rattle.cv_client.specs.Exchange.{Links}
 use Rattle.cv_client.specs.Fetch.{Fetches}
@@ -118,26 +119,12 @@ module _ {u : Url} where
 
 -- ---- why a question ended by what was given
 
-stepped_blameless : (c : Contents) (w : Walk) (stage : Stage) → StepsTo c w stage → IsBlameless stage
-stepped_blameless c w (Walks next) steps = tt
-stepped_blameless c w (Reads hash) steps = tt
-stepped_blameless c w (Ends answer) steps = steps
-
-leads_blameless : {repository : List ℕ} {q : Question} {k after : Kept} {w : Walk} {stage : Stage} → Leads repository q k w after stage → IsBlameless stage
-leads_blameless (waits lacks same is) = subst IsBlameless (sym is) tt
-leads_blameless {w = w} {stage = stage} (halts steps over same) = stepped_blameless steps.holds.found w stage steps.steps
-leads_blameless (goes_further next steps leads) = leads_blameless leads
-
-begins_blameless : {repository root : List ℕ} {q : Question} {k after : Kept} {stage : Stage} → Begins repository root q k after stage → IsBlameless stage
-begins_blameless (starts w is leads) = leads_blameless leads
-begins_blameless (unbegun same is) = subst IsBlameless (sym is) (λ x. x)
-
 not_blameless : (stage : Stage) (f : ClientFault) → IsBlameless stage → stage ≡ Ends (Err f) → IsOfPeer f → ⊥
 not_blameless stage f quiet is of = subst IsBlameless is quiet of
 
 why_opened : {repository : List ℕ} {q : Question} {k after : Kept} {w : Walk} {was stage : Stage} {bytes : List ℕ} {given : Option (List ℕ)} (id : ObjectId) (f : ClientFault) → TakesCatalogue repository q k w bytes after stage
     → was ≡ Walks w → given ≡ Some bytes → sha1 bytes ≡ w.spot.level.hash → wanted_by was ≡ Some id → stage ≡ Ends (Err f) → IsOfPeer f → IsWhy id was given f
-why_opened id f (opened c decodes leads) walks is digest wants ends of = absurd (not_blameless _ f (leads_blameless leads) ends of)
+why_opened id f (opened c decodes leads) walks is digest wants ends of = absurd (not_blameless _ f (blameless leads) ends of)
 why_opened {w = w} {was = was} {bytes = bytes} {given = given} id f (undecoded never same at) walks is digest wants ends of =
     let one : Some (object_id w.spot.level.hash Catalogue) ≡ Some id = sym (ap wanted_by walks) ∙ wants in
     let named : object_id w.spot.level.hash Catalogue ≡ id = cc in
@@ -205,6 +192,6 @@ module _ {u : Url} where
       elim (comes_blamed f of says comes) [
         | inl same ↦
             let ends : asked.stage ≡ Ends (Err f) = ended_at asked.stage (Err f) (sym (ap (λ (c : Client). answer_in c.asked) (same.0 ∙ asked.is)) ∙ says) in
-            absurd (not_blameless asked.stage f (begins_blameless asked.begins) ends of)
+            absurd (not_blameless asked.stage f (begun_blameless _ _ _ _ _ asked.begins) ends of)
         | inr b ↦ b
       ]

@@ -13,7 +13,6 @@ use Rattle.cv_shell.specs.Lines.{IsLine, IsNext, LineRead, closed, last}
 use Rattle.cv_shell.specs.Shells.{Turn, printed, Answered, Runs, Ends, Shells, ReadsUpToDate, begins, goes, written, ended, too_long, unread, by_line, no_memory}
 use Rattle.cv_shell.specs.declared.lines.LineFault.{LineFault}
 use Rattle.cv_shell.specs.declared.lines.LineFault.TheVariants.{TooLong, ReadFault, NoMemory}
-use Rattle.cv_shell.specs.declared.turn.Stop.TheVariants as stop
 use Rattle.cv_shell.specs.declared.shell_end.ShellEnd.{ShellEnd}
 use Rattle.cv_shell.specs.declared.shell_end.ShellEnd.TheVariants.{Ended}
 use Rattle.cv_shell.specs.declared.shell_end.ShellEnd.TheVariants as shell_end
