@@ -1,6 +1,7 @@
 //! The table of leases.
 ghost use Rattle.std.specs.Prelude.{◌≡◌, ◌≤◌, ◌+◌, ◌-◌, ◌*◌, ◌++◌, ◌∷◌, [], length, None, is_ok, is_some, slice_get, option_copied, if◌then◌else◌, IfOk, map};
 ghost use Rattle.std.specs.List.{AllByRecursion};
+ghost use Rattle.cv_base.specs.declared.repo_path.TheConstants.{NAMES_LIMIT};
 ghost use Rattle.cv_leases.specs.Leases.{lease_of, without, unexpired, refusal};
 
 use crate::lease::Lease;
@@ -88,11 +89,11 @@ impl LeaseTable {
         self.linked.end::<Brand>(token, Blank::new(1))
     }
 
-    /// Takes out the leases whose deadline is at this moment or before it. Each costs at most 66 steps.
+    /// Takes out the leases whose deadline is at this moment or before it. Each costs at most `NAMES_LIMIT + 2` steps.
     #[tactic(auto, using(crate::proofs::Tables::table_filter))]
     pub fn expire<L: Ledger>(&mut self, moment: u64, steps: &mut Steps<L>)
         ensures leases { self.new ≡ unexpired moment self.old }
-        ensures steps { steps.new ≤ steps.old + 66 * (length self.old - length self.new) + 1 }
+        ensures steps { steps.new ≤ steps.old + (NAMES_LIMIT + 2) * (length self.old - length self.new) + 1 }
     {
         while self.linked.drop_due(moment, steps) {}
     }

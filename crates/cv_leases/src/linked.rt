@@ -1,5 +1,6 @@
 //! Leases in the order of grant, and the tree of the names on the way to them.
 ghost use Rattle.std.specs.Prelude.{◌≡◌, ◌<◌, ◌≤◌, ◌+◌, ◌*◌, ◌++◌, ◌∷◌, [], length, Some, None, false, is_ok, is_some, if◌then◌else◌, Contains, List, option_copied, IfOk, map};
+ghost use Rattle.cv_base.specs.declared.repo_path.TheConstants.{NAMES_LIMIT};
 ghost use Rattle.cv_leases.specs.Leases.{lease_of, busy, without, unexpired, TokensDiffer, DeadlinesRise};
 ghost use Rattle.cv_leases.specs.Linked.{IsLinked};
 ghost use Rattle.cv_leases.specs.LinkedInner.{IsReady};
@@ -102,7 +103,7 @@ impl Linked {
         Ok(())
     }
 
-    /// Takes out the lease at a place, and the names that no other lease needs. It is at most 65 steps.
+    /// Takes out the lease at a place, and the names that no other lease needs. It is at most `NAMES_LIMIT + 1` steps.
     fn take<L: Ledger>(&mut self, id: Id, steps: &mut Steps<L>) -> Lease
         requires whole { IsLinked self.old }
         requires stands { Contains (ids_of self.old.queue) id }
@@ -110,7 +111,7 @@ impl Linked {
         ensures value { lease_at self.old.queue (Some id) ≡ Some result }
         ensures leases { (front back : List NodeId) → ids_of self.old.queue ≡ front ++ id ∷ back
             → IsParted self.old.queue self.new.queue front back result }
-        ensures steps { steps.new ≤ steps.old + 65 }
+        ensures steps { steps.new ≤ steps.old + NAMES_LIMIT + 1 }
     {
         let Entry { lease, place } = self.queue.take(id, steps);
         self.names.end(place, steps);
@@ -144,7 +145,7 @@ impl Linked {
         ensures rise { DeadlinesRise (leases_in self.new.queue) }
         ensures leases { unexpired moment (leases_in self.new.queue) ≡ unexpired moment (leases_in self.old.queue) }
         ensures dropped { IsDropped moment result (leases_in self.old.queue) (leases_in self.new.queue) }
-        ensures steps { steps.new + 66 * length (leases_in self.new.queue) ≤ steps.old + 66 * length (leases_in self.old.queue) }
+        ensures steps { steps.new + (NAMES_LIMIT + 2) * length (leases_in self.new.queue) ≤ steps.old + (NAMES_LIMIT + 2) * length (leases_in self.old.queue) }
     {
         let Some(id) = self.queue.first() else {
             return false;

@@ -1,4 +1,5 @@
 use Rattle.std.proofs.Common.{◌≡◌, ◌≤◌, ◌+◌, ◌*◌, length}
+use Rattle.cv_base.specs.declared.repo_path.TheConstants.{NAMES_LIMIT}
 use Rattle.cv_leases.specs.Leases.{unexpired, DeadlinesRise}
 use Rattle.cv_leases.specs.Queue.{leases_in}
 use Rattle.cv_leases.specs.Linked.{IsLinked}
@@ -9,7 +10,7 @@ invariant-loop-self g l = record {
   whole : IsLinked l.self-inside.linked;
   rise : DeadlinesRise (leases_in l.self-inside.linked.queue);
   leases : unexpired l.moment (leases_in l.self-inside.linked.queue) ≡ unexpired l.moment l.fn.self;
-  steps : l.steps + 66 * length (leases_in l.self-inside.linked.queue) ≤ l.fn.steps + 66 * length l.fn.self;
+  steps : l.steps + (NAMES_LIMIT + 2) * length (leases_in l.self-inside.linked.queue) ≤ l.fn.steps + (NAMES_LIMIT + 2) * length l.fn.self;
 }
 
 abbrev pub decreases-loop-self : goal.decreases-loop-self
