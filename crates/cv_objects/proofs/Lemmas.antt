@@ -1,11 +1,10 @@
 -- What this crate proves for those above it, which cite it from here.
 
--- what its laws say
-pub use Rattle.cv_objects.proofs.Meaning.{keep_hashes, adds_batch}
-pub use Rattle.cv_objects.proofs.Clashing.{collision_clashes, damage_is_none, agreeing_clash, stored_clash, gains_some, has_all}
+-- what a fault shows of a shelf, and what a shelf has behind a store
+pub use Rattle.cv_objects.proofs.Clashing.{collision_clashes, damage_is_none, stored_clash, gains_some, has_all}
 -- the names of objects, and the digests of their ids
 pub use Rattle.cv_objects.proofs.Naming.{data_off_way, digest_back}
-pub use Rattle.cv_objects.proofs.Telling.{told_of, standing_is}
+pub use Rattle.cv_objects.proofs.Telling.{standing_is}
 pub use Rattle.cv_objects.proofs.Batching.{is_digest_of, named_none, named_more}
 -- where nothing came, and where objects of the batch may
 pub use Rattle.cv_objects.proofs.Batching.{kept, brings_nothing, brings_later}

@@ -6,14 +6,14 @@ use Rattle.std.specs.Str.{bytes_eq}
 use Rattle.std.specs.BTreeMap.{BTreeMap, get, Updates}
 use Rattle.std.proofs.lemmas.Map.Text.{is_eq-slice_cmp}
 use Rattle.std.proofs.lemmas.Option.{slice_get_read, same_Some}
-use Rattle.std.proofs.Math.Bool.{and-true, and-false}
+use Rattle.std.proofs.Math.Bool.{and-true}
 use Rattle.cv_base.specs.BytesOrder.{bytes_cmp}
 use Rattle.cv_base.specs.declared.id.Kind.{Kind}
 use Rattle.cv_base.specs.declared.id.Kind.TheVariants.{Plain, Catalogue, History}
 use Rattle.cv_base.specs.declared.id.ObjectId.{ObjectId}
 use Rattle.cv_base.specs.declared.object.Object.{Object}
 use Rattle.cv_base.specs.ObjectId.{same_id, same_kind}
-use Rattle.cv_base.proofs.Laws.{same_id-own, same_id-eq}
+use Rattle.cv_base.proofs.Laws.{unchosen, same_id-own, same_id-eq}
 use Rattle.cv_objects.specs.PlacesInner.{of_kind, place_of}
 use Rattle.cv_objects.specs.Batches.{IsOne}
 use Rattle.cv_objects.specs.declared.places.Places.{Places}
@@ -22,11 +22,8 @@ use Rattle.cv_objects.proofs.Lists.{last_or_earlier}
 own : (m n : BTreeMap (List ℕ) ℕ) (hash q : List ℕ) (p : ℕ) → Updates bytes_cmp m n hash (Some p) → get bytes_cmp n q ≡ cond (bytes_eq hash q && true) (Some p) (get bytes_cmp m q)
 own m n hash q p u = u.0 q ∙ ap (λ (b : Bool). cond b (Some p) (get bytes_cmp m q)) (is_eq-slice_cmp hash q ∙ sym (and-true (bytes_eq hash q)))
 
-apart : {X : Type 0} (b : Bool) (x y : X) → y ≡ cond (b && false) x y
-apart b x y = sym (ap (λ (a : Bool). cond a x y) (and-false b))
-
 other : (m n : BTreeMap (List ℕ) ℕ) (hash q : List ℕ) (p : ℕ) → n ≡ m → get bytes_cmp n q ≡ cond (bytes_eq hash q && false) (Some p) (get bytes_cmp m q)
-other m n hash q p same = ap (λ (x : BTreeMap (List ℕ) ℕ). get bytes_cmp x q) same ∙ apart (bytes_eq hash q) (Some p) (get bytes_cmp m q)
+other m n hash q p same = ap (λ (x : BTreeMap (List ℕ) ℕ). get bytes_cmp x q) same ∙ unchosen (bytes_eq hash q) (Some p) (get bytes_cmp m q)
 
 -- one place more, under its kind
 plain_at : (was are : Places) (hash q : List ℕ) (p : ℕ) → Updates bytes_cmp was.plain are.plain hash (Some p) → are.catalogues ≡ was.catalogues → are.records ≡ was.records

@@ -25,9 +25,7 @@ fn note_once(ids: &mut Vec<ObjectId>, noted: &mut Places, id: ObjectId) -> Resul
         return Ok(());
     }
     note_place(noted, id, ids.len())?;
-    if ids.push(id).is_err() {
-        return Err(StoreFault::NoMemory);
-    }
+    ids.push(id)?;
     Ok(())
 }
 

@@ -5,7 +5,7 @@ ghost use Rattle.cv_objects.specs.declared.store_fault.StoreFault.TheVariants as
 
 use cv_base::{NoMemory, ObjectId};
 use cv_vault::VaultFault;
-use std::alloc::AllocError;
+use std::alloc::{AllocError, AllocFailed};
 
 /// Why a batch wasn't stored.
 #[derive(Clone, Copy, Debug, PartialEq, Eq)]
@@ -40,6 +40,14 @@ impl From<NoMemory> for StoreFault {
     ghost from_gives = { λ _ e. e ≡ fault.NoMemory };
 
     fn from(_fault: NoMemory) -> StoreFault {
+        StoreFault::NoMemory
+    }
+}
+
+impl<T: Drop> From<AllocFailed<T>> for StoreFault {
+    ghost from_gives = { λ _ e. e ≡ fault.NoMemory };
+
+    fn from(_error: AllocFailed<T>) -> StoreFault {
         StoreFault::NoMemory
     }
 }
