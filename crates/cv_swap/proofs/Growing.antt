@@ -12,7 +12,7 @@ revision_more s s' r k h = record {
   tree = Means-more s s' r.record_.root r.tree k h.tree;
 }
 
-pub follows_more : (s s' : Shelf) (before r : Revision) → HasMore s s' → Follows s before r → Follows s' before r
+follows_more : (s s' : Shelf) (before r : Revision) → HasMore s s' → Follows s before r → Follows s' before r
 follows_more s s' before r k h = record {
   is = revision_more s s' r k h.is;
   revision = h.revision;

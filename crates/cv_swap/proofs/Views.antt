@@ -5,7 +5,6 @@ use Rattle.std.specs.declared.option.Option.{Option}
 use Rattle.std.specs.declared.option.Option.TheVariants.{Some}
 use Rattle.std.specs.declared.result.Result.{Result}
 use Rattle.std.specs.declared.result.Result.TheVariants.{Ok, Err}
-use Rattle.std.specs.Prelude.{OnErr}
 use Rattle.std.proofs.lemmas.List.{take_at, length-take-le}
 use Rattle.cv_base.specs.declared.object.Object.{Object}
 use Rattle.cv_history.specs.declared.record.Record.{Record}
@@ -85,10 +84,6 @@ one_alone o = record { each = λ a b ha hb same. ap (λ (x : Object). x.bytes) (
     is : (a : Object) → Contains (o ∷ []) a → o ≡ a
     is a (zero, lt, e) = e
     is a (suc k, lt, e) = absurd (omega arith)
-
-pub on_err : {T E : Type 0} {P : Type 0} (r : Result T E) → P → OnErr r P
-on_err (Ok x) p = tt
-on_err (Err x) p = p
 
 -- what is published stays so with a record behind it
 pub published_seen : {V S : Type 0} (inside seen new : LineView V S) (next : Record) → inside ≡ seen → inside.made ≤ length inside.all → new.all ≡ take inside.made inside.all ++ next ∷ [] → new.made ≡ inside.made → published new ≡ published seen

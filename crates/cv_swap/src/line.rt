@@ -308,9 +308,7 @@ impl<V: Vault + Drop, S: Signer + Drop> Line<V, S> {
         let none = Vec::new(alloc);
         let parts = make_parts(alloc, &self.name, &self.signer, &next, size, none)?;
         self.records.truncate(self.made);
-        if self.records.push(next).is_err() {
-            return Err(StoreFault::NoMemory);
-        }
+        self.records.push(next)?;
         prepare_on(
             &mut self.objects,
             alloc,

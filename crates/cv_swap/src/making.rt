@@ -31,9 +31,7 @@ pub fn with_object(others: Vec<Object>, object: Object) -> Result<Items<Object>,
     ensures { IfOk result (λ batch. batch ≡ others.items ++ object ∷ []) }
 {
     let mut batch = others;
-    if batch.push(object).is_err() {
-        return Err(NoMemory);
-    }
+    batch.push(object)?;
     Ok(Items::new(batch))
 }
 

@@ -1,24 +1,23 @@
 use Rattle.std.proofs.Common.{rules, ◌≡◌, ℕ, ◌+◌, List, [], ◌∷◌, ◌++◌, take, length, length-append, refl, sym, ap, subst, ◌∙◌, arith}
 use Rattle.std.proofs.lemmas.List.{length-take-le}
-use Rattle.std.specs.declared.result.Result.TheVariants.{Err}
-use Rattle.cv_manifest.specs.declared.head.Head.{Head}
 use Rattle.cv_vault.specs.Walks.{BringsNothing}
 use Rattle.cv_objects.specs.Batches.{AreNamed, IsOne}
 use Rattle.cv_objects.specs.declared.store_fault.StoreFault.TheVariants.{NoMemory}
 use Rattle.cv_objects.proofs.Lemmas.{same_fault, refusal_inside, named_none}
 use Rattle.cv_base.specs.Told.{WhereTold}
+use Rattle.cv_base.proofs.Laws.{on_err_only}
 use Rattle.cv_swap.specs.Kept.{object_of}
 use Rattle.cv_swap.specs.Stands.{head_name, head_way}
 use Rattle.cv_vault.specs.Replace.{IsWaiting}
 use Rattle.cv_swap.proofs.Bringing.{prepared_waits}
-use Rattle.cv_swap.proofs.Views.{vault_seen, prepare_stands, prepared_seen, unprepared_seen, free_seen, named_push, one_alone, on_err, dropped_seen, refusal_as}
+use Rattle.cv_swap.proofs.Views.{vault_seen, prepare_stands, prepared_seen, unprepared_seen, free_seen, named_push, one_alone, dropped_seen, refusal_as}
 use Rattle.cv_swap.proofs.line.Line.prepare.Goals as goal
 
 pub returns-in_err-parts-clause-walks : goal.returns-in_err-parts-clause-walks
 returns-in_err-parts-clause-walks g c = prepare_stands _ _ (same_fault _ NoMemory c.from_residual.ensures.1) _ _ (vault_seen _ _ c.self.view_is) (g.met.V.Vault.only_now c.self.inside.objects.vault) _
 
-pub returns-then-is_err-clause-walks : goal.returns-then-is_err-clause-walks
-returns-then-is_err-clause-walks g c = prepare_stands {X = Head} _ (Err NoMemory) refl _ _ (vault_seen _ _ c.self.view_is) (g.met.V.Vault.only_now c.self.inside.objects.vault) c.self.inside.manifest
+pub returns-in_err-push-clause-walks : goal.returns-in_err-push-clause-walks
+returns-in_err-push-clause-walks g c = prepare_stands _ _ (same_fault _ NoMemory c.from_residual-in_err-push.ensures.1) _ _ (vault_seen _ _ c.self.view_is) (g.met.V.Vault.only_now c.self.inside.objects.vault) c.self.inside.manifest
 
 pub returns-in_err-prepare_on-clause-walks : goal.returns-in_err-prepare_on-clause-walks
 returns-in_err-prepare_on-clause-walks g c =
@@ -43,10 +42,13 @@ prepare_on-requires g c =
 pub returns-in_err-prepare_on-clause-dropped : goal.returns-in_err-prepare_on-clause-dropped
 returns-in_err-prepare_on-clause-dropped g c =
     let e : c.push.new.self.items ≡ take c.self.inside.made c.self.inside.records.items ++ c.args.next ∷ [] = search rules in
-    on_err _ (dropped_seen _ _ _ c.args.next c.self.view_is c.self.invariant.published_ e refl (record { name_ = refl; signer_ = refl; made_ = refl; head_ = refl; epoch_ = refl; taken_ = c.in_err-prepare_on.ensures.taken }))
+    on_err_only _ (dropped_seen _ _ _ c.args.next c.self.view_is c.self.invariant.published_ e refl (record { name_ = refl; signer_ = refl; made_ = refl; head_ = refl; epoch_ = refl; taken_ = c.in_err-prepare_on.ensures.taken }))
 
 pub returns-in_err-parts-clause-refused : goal.returns-in_err-parts-clause-refused
 returns-in_err-parts-clause-refused g c = λ refusal. absurd (refusal_inside _ NoMemory (same_fault _ NoMemory c.from_residual.ensures.1) tt refusal)
+
+pub returns-in_err-push-clause-refused : goal.returns-in_err-push-clause-refused
+returns-in_err-push-clause-refused g c = λ refusal. absurd (refusal_inside _ NoMemory (same_fault _ NoMemory c.from_residual-in_err-push.ensures.1) tt refusal)
 
 pub returns-in_err-prepare_on-clause-refused : goal.returns-in_err-prepare_on-clause-refused
 returns-in_err-prepare_on-clause-refused g c = λ refusal.
