@@ -1,5 +1,5 @@
 -- What a desk is asked, what it answers, and how it comes to know the journal meanwhile.
-use Rattle.std.specs.Prelude.{◌≡◌, ◌++◌, ◌∷◌, ◌==◌, ◌≤◌, ◌<◌, ◌^◌, ℕ, List, [], length, max, Bool, true, Option, IfSome, Result, Ok, Err}
+use Rattle.std.specs.Prelude.{◌≡◌, ◌++◌, ◌∷◌, ◌==◌, ◌<◌, ℕ, List, [], length, max, Bool, true, Option, IfSome, Result, Ok, Err}
 use Rattle.std.specs.List.{filter, flat_map, sum_by}
 use Rattle.std.specs.declared.option.Option.TheVariants.{Some}
 use Rattle.cv_base.specs.declared.id.ObjectId.{ObjectId}
@@ -12,6 +12,7 @@ use Rattle.cv_gate.specs.Lines.{lines_of}
 use Rattle.cv_gate.specs.State.{State}
 use Rattle.cv_gate.specs.Step.{Step, Run}
 use Rattle.cv_gate.specs.declared.entry.Entry.{Entry}
+use Rattle.cv_gate.specs.declared.entry.TheConstants.{JOURNAL_LIMIT}
 use Rattle.cv_gate.specs.declared.lease_line.LeaseLine.{LeaseLine}
 use Rattle.cv_gate.specs.declared.op.Op.{Op}
 use Rattle.cv_gate.specs.declared.reply.Reply.{Reply}
@@ -20,7 +21,7 @@ use Rattle.cv_gate.specs.Heads.{IsFront, heads_since, last_head}
 
 -- the most entries of a journal
 abbrev pub journal_limit : ℕ
-journal_limit = 262144
+journal_limit = JOURNAL_LIMIT
 
 -- How a desk may be seen: the state with which its gate was opened, the number of its seat, whether it asks the gate alone,
 -- the entries of the journal that it has seen, a state to which they run, and the heads that stood published, as far as it knows

@@ -1,5 +1,5 @@
 -- The entries that a desk's own calls made.
-use Rattle.std.specs.Prelude.{◌≡◌, ◌++◌, ◌∷◌, ℕ, List, [], ◌⊎◌}
+use Rattle.std.specs.Prelude.{◌≡◌, ◌++◌, ◌∷◌, ℕ, List, []}
 use Rattle.cv_gate.specs.Step.{Records}
 use Rattle.cv_gate.specs.declared.entry.Entry.{Entry}
 use Rattle.cv_gate.specs.declared.op.Op.{Op}

@@ -1,5 +1,5 @@
 -- A desk that asks the gate alone.
-use Rattle.std.specs.Prelude.{◌≡◌, ◌<◌, ◌⊎◌, ◌++◌, ◌∷◌, ◌+◌, ℕ, List, [], length, max, true, Option, IfSome, option_map}
+use Rattle.std.specs.Prelude.{◌≡◌, ◌<◌, ◌++◌, ◌∷◌, ◌+◌, ℕ, List, [], length, max, true, Option, IfSome, option_map}
 use Rattle.std.specs.declared.option.Option.TheVariants.{Some}
 use Rattle.cv_gate.specs.Lines.{lines_of}
 use Rattle.cv_gate.specs.State.{State}

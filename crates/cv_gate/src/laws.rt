@@ -25,18 +25,11 @@ ghost use Rattle.cv_gate.specs.Ready.{IsReady, Ends};
 ghost use Rattle.cv_gate.specs.Laws.{is_committed, Makes, GrowsBy, Numbers};
 ghost use Rattle.cv_gate.specs.Kept.{kept, reopened, Pending, Left, Crash};
 ghost use Rattle.cv_gate.specs.Lives.{Life, Lives, Prolongs};
-ghost use Rattle.cv_gate.specs.Desk.{journal_limit};
 ghost use Rattle.cv_gate.specs.declared.entry.Entry.{Entry as EntryData};
-ghost use Rattle.cv_gate.specs.declared.entry.TheConstants.{JOURNAL_LIMIT};
 ghost use Rattle.cv_gate.specs.declared.op.Op.{Op as OpData};
 ghost use Rattle.cv_gate.specs.declared.op.Op.TheVariants as op;
 ghost use Rattle.cv_gate.specs.declared.reply.Reply.{Reply as ReplyData};
 ghost use Rattle.cv_gate.specs.declared.reply.Reply.TheVariants as reply;
-
-/// The journal has as many entries as the interface says, at most.
-pub fn the_journal_has_its_limit()
-    ensures { JOURNAL_LIMIT ≡ journal_limit }
-{}
 
 /// What holds of a state at any time holds after each step, and so after every run; and however a commit in doubt is settled.
 pub fn steps_keep_sound()
