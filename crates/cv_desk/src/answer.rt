@@ -7,7 +7,7 @@ ghost use Rattle.cv_desk.specs.Refusals.{reply_then};
 ghost use Rattle.cv_desk.specs.Sending.{reply_of, reply_in};
 ghost use Rattle.cv_desk.specs.SendingInner.{reply_from};
 
-use cv_base::RepoPath;
+use cv_base::{NoMemory, RepoPath};
 use cv_cut::LoadFault;
 use cv_gate::Reply;
 use cv_graft::GraftFault;
@@ -156,5 +156,13 @@ impl Answer {
         ensures never { self ≢ replies.JournalFull }
     {
         (self.noted, self.told)
+    }
+}
+
+impl From<NoMemory> for Answer {
+    ghost from_gives = { λ _ a. a ≡ replies.NoMemory };
+
+    fn from(_fault: NoMemory) -> Answer {
+        answer!(Reply::NoMemory)
     }
 }

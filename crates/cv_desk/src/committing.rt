@@ -102,10 +102,8 @@ fn learn(alloc: Global, known: &mut KnownSet, pairs: &[(ObjectId, RepoPath)]) ->
     ensures memory { IfErr result (λ r. r ≡ replies.NoMemory) }
     ensures failed { result ≢ Err replies.StoreFailed }
 {
-    match known.add_all(alloc, pairs) {
-        Ok(()) => Ok(()),
-        Err(NoMemory) => Err(answer!(Reply::NoMemory)),
-    }
+    known.add_all(alloc, pairs)?;
+    Ok(())
 }
 
 /// Judges the offered root: all that it reaches is there, and each catalogue is one. What stands below known catalogues
@@ -267,9 +265,7 @@ pub(crate) fn ready<V: Vault + Drop, S: Signer + Drop>(
         Err(answer) => return Err(answer),
     };
     let head = line.head();
-    let Ok(next) = next_record(alloc, &head, lease, key, moment, &grafted, offered, tag) else {
-        return Err(answer!(Reply::NoMemory));
-    };
+    let next = next_record(alloc, &head, lease, key, moment, &grafted, offered, tag)?;
     let Grafted {
         root: _,
         size,

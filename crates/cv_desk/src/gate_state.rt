@@ -159,9 +159,7 @@ impl<V: Vault + Drop, S: Signer + Drop> GateState<V, S> {
         if path.names().is_empty() {
             return Ok(true);
         }
-        let Ok(path) = path.copy(alloc) else {
-            return Err(answer!(Reply::NoMemory));
-        };
+        let path = path.copy(alloc)?;
         let parent = path.into_parent();
         let hash = self.line.head().root;
         let root = ObjectId {

@@ -55,8 +55,6 @@ fn push_live(
         path: lease.path.copy(alloc)?,
         remaining: lease.deadline.saturating_sub(moment),
     };
-    match lines.push(line) {
-        Ok(()) => Ok(()),
-        Err(_) => Err(NoMemory),
-    }
+    lines.push(line)?;
+    Ok(())
 }

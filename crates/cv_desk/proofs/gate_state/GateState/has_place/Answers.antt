@@ -21,15 +21,15 @@ invariant_of-self g c = (
   known_read g.V.Vault.disk g.V.Vault.count g.V.Vault.left c.self.inside.known c.self.inside.line.vault c.directory_at.new.shelf.vault c.directory_at.ensures.reads.0 c.self.invariant.1,
 )
 
-pub returns-in-Ok-directory_at-clause-place : goal.returns-in-Ok-directory_at-clause-place
-returns-in-Ok-directory_at-clause-place g c =
+pub returns-in-Ok-clause-place : goal.returns-in-Ok-clause-place
+returns-in-Ok-clause-place g c =
     let some : c.args.path.now ≢ [] = search rules in
     let above : c.into_parent-parent.result ≡ parent c.args.path.now = search rules in
     let root : c.head.result.root ≡ c.args.self.now.line.head.root = search rules in
     let vaults : c.self.inside.line.vault ≡ c.args.self.now.line.vault = search rules in
-    place_found g.V.Vault.disk c.args.self.now c.args.path.now c.into_parent-parent.result c.head.result.root some above root c.in-Ok-directory_at.there
-    (subst (λ v. WhereTold (option_map standing_on (g.V.Vault.disk v)) (λ standing. (t : Nodes) → HasWay standing c.head.result.root t c.into_parent-parent.result → Tells t c.into_parent-parent.result (Ok c.in-Ok-directory_at.there))) vaults
-    (subst (λ r. WhereTold (option_map standing_on (g.V.Vault.disk c.self.inside.line.vault)) (λ standing. (t : Nodes) → HasWay standing c.head.result.root t c.into_parent-parent.result → Tells t c.into_parent-parent.result r)) c.in-Ok-directory_at.is c.directory_at.ensures.told))
+    place_found g.V.Vault.disk c.args.self.now c.args.path.now c.into_parent-parent.result c.head.result.root some above root c.in-Ok.there
+    (subst (λ v. WhereTold (option_map standing_on (g.V.Vault.disk v)) (λ standing. (t : Nodes) → HasWay standing c.head.result.root t c.into_parent-parent.result → Tells t c.into_parent-parent.result (Ok c.in-Ok.there))) vaults
+    (subst (λ r. WhereTold (option_map standing_on (g.V.Vault.disk c.self.inside.line.vault)) (λ standing. (t : Nodes) → HasWay standing c.head.result.root t c.into_parent-parent.result → Tells t c.into_parent-parent.result r)) c.in-Ok.is c.directory_at.ensures.told))
 
 pub returns-clause-unread : goal.returns-clause-unread
 returns-clause-unread g c = ap is_unread c.of_load.ensures ∙ unread_from c.in-Err.fault
@@ -47,19 +47,19 @@ returns-then-is_empty-clause-sees g c =
     let none : length c.args.path.now ≡ 0 = search rules in
     λ d told. placed_root (standing_on d) c.args.self.now.line.head.root c.args.path.now none
 
-pub returns-in-Ok-directory_at-clause-sees : goal.returns-in-Ok-directory_at-clause-sees
-returns-in-Ok-directory_at-clause-sees g c =
+pub returns-in-Ok-clause-sees : goal.returns-in-Ok-clause-sees
+returns-in-Ok-clause-sees g c =
     let some : c.args.path.now ≢ [] = search rules in
     let above : c.into_parent-parent.result ≡ parent c.args.path.now = search rules in
     let root : c.head.result.root ≡ c.args.self.now.line.head.root = search rules in
     let vaults : c.self.inside.line.vault ≡ c.args.self.now.line.vault = search rules in
-    placed_below g.V.Vault.disk c.args.self.now c.self.inside.line.vault c.args.path.now c.into_parent-parent.result c.head.result.root some above root vaults c.directory_at.result c.in-Ok-directory_at.there c.in-Ok-directory_at.is c.directory_at.ensures.found
+    placed_below g.V.Vault.disk c.args.self.now c.self.inside.line.vault c.args.path.now c.into_parent-parent.result c.head.result.root some above root vaults c.directory_at.result c.in-Ok.there c.in-Ok.is c.directory_at.ensures.found
 
 pub returns-then-is_empty-clause-fetches : goal.returns-then-is_empty-clause-fetches
 returns-then-is_empty-clause-fetches g c = fetched_none g.V.Vault.disk c.args.self.now c.args.self.now c.args.path.now refl
 
-pub returns-in-Ok-directory_at-clause-fetches : goal.returns-in-Ok-directory_at-clause-fetches
-returns-in-Ok-directory_at-clause-fetches g c =
+pub returns-in-Ok-clause-fetches : goal.returns-in-Ok-clause-fetches
+returns-in-Ok-clause-fetches g c =
     let some : c.args.path.now ≢ [] = search rules in
     let above : c.into_parent-parent.result ≡ parent c.args.path.now = search rules in
     let root : c.head.result.root ≡ c.args.self.now.line.head.root = search rules in
