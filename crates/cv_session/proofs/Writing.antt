@@ -1,5 +1,5 @@
 -- Answers that are written can be read.
-use Rattle.std.proofs.Common.{◌≡◌, ◌<◌, ◌^◌, length, arith}
+use Rattle.std.proofs.Common.{◌<◌, ◌^◌, length, arith}
 use Rattle.serde_json.specs.Written.{compact_text}
 use Rattle.cv_http.specs.Replies.{text_of}
 use Rattle.cv_http.specs.declared.code.Code.{Code}
