@@ -7,7 +7,7 @@ pub use Rattle.cv_base.proofs.FileNames.{one_id_text, one_file_name, same_digits
 pub use Rattle.cv_base.proofs.IdTexts.{length-digits}
 pub use Rattle.cv_base.proofs.SameKinds.{same_kind-eq, same_kind-own}
 pub use Rattle.cv_base.proofs.PathGrammar.{text_of-injective, Spells-path_of}
-pub use Rattle.cv_base.proofs.Bools.{first_true, second_true}
+pub use Rattle.cv_base.proofs.Bools.{first_true, second_true, or_swap}
 pub use Rattle.cv_base.proofs.Decimals.{decimal-no_dash}
 pub use Rattle.cv_base.proofs.Parts.{same_parts}
 pub use Rattle.cv_base.proofs.PathPrefixes.{behind-Some, behind-append, eq_by_cmp-append, is_behind, overlap-from_covers}
@@ -17,5 +17,5 @@ pub use Rattle.cv_base.proofs.Sets.{contains-more}
 pub use Rattle.cv_base.proofs.SameIds.{same_id-eq, same_id-own}
 pub use Rattle.cv_base.proofs.Values.{some_same, not_both, some_there, not_there, chosen, OnOk-map, on_err_only, handed_on, one_fault, left_by, first_false, either, unchosen, same_or_other, is_less, is_equal, then_equal}
 pub use Rattle.cv_base.proofs.Lists.{all_push, all_append, each_all, item_there, stands_there, image_at, last_push, last_map, fields_length, drop_is, rest_all, bytes_itself, bytes_eq-own, bytes_are, not_less}
-pub use Rattle.cv_base.proofs.PathFacts.{parent-append, last_same, all_last, joined_path, same_name-symm, rising, same_path-itself, cmp-behind, covers_below, not_before, covers_through}
+pub use Rattle.cv_base.proofs.PathFacts.{parent-append, last_same, all_last, joined_path, same_name-symm, rising, same_path-itself, cmp-behind, covers_below, covers_itself, not_before, covers_through}
 pub use Rattle.cv_base.proofs.Targets.{no_target}

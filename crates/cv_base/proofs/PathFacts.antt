@@ -1,5 +1,6 @@
 -- Facts of paths: the last name, the path above it, and paths that begin with others.
-use Rattle.std.proofs.Common.{◌≡◌, ℕ, ltb, true, false, cond, List, [], ◌∷◌, ◌++◌, length, Some, None, Ok, is_some, refl, sym, ap, ◌∙◌, arith, length-append}
+use Rattle.std.proofs.Common.{◌≡◌, ℕ, ltb, true, false, cond, List, [], ◌∷◌, ◌++◌, length, Some, None, Ok, is_some, refl, sym, ap, subst, ◌∙◌, arith, length-append}
+use Rattle.std.proofs.lemmas.List.{append-nil}
 use Rattle.std.specs.List.{list_all}
 use Rattle.std.specs.declared.cmp.Ordering.TheVariants.{Less, Equal, Greater}
 use Rattle.std.specs.Ordering.{is_eq, is_lt, ordering_reverse, ordering_then}
@@ -12,7 +13,7 @@ use Rattle.cv_base.specs.PathText.{joined}
 use Rattle.cv_base.specs.PathOrder.{path_total}
 use Rattle.cv_base.proofs.Bools.{first_true, second_true}
 use Rattle.cv_base.proofs.Parts.{same_parts}
-use Rattle.cv_base.proofs.PathPrefixes.{behind-Some}
+use Rattle.cv_base.proofs.PathPrefixes.{behind-Some, behind-append}
 
 -- ---- the last name
 
@@ -64,6 +65,10 @@ cmp-behind (a ∷ c) q r = ap (λ o. ordering_then o (path_cmp (c ++ q) (c ++ r)
 -- ---- paths that begin with others
 
 -- what covers a path covers what is below it
+-- each path covers itself
+pub covers_itself : (p : Path) → covers p p ≡ true
+covers_itself p = subst (λ (q : Path). covers p q ≡ true) (append-nil p) (ap is_some (behind-append p []))
+
 pub covers_below : (p q r : Path) → covers p q ≡ true → covers p (q ++ r) ≡ true
 covers_below [] q r h = refl
 covers_below (a ∷ p) [] r h = absurd cc

@@ -8,6 +8,7 @@ pub mod Marker
 pub mod Moment
 pub mod Name
 pub mod ObjectId
+pub mod Objects
 pub mod Told
 pub mod Path
 pub mod PathOrder

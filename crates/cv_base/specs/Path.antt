@@ -1,5 +1,5 @@
 -- Paths of a repository: a path is the list of its names, from the root on, and a name is the list of its bytes.
-use Rattle.std.specs.Prelude.{ℕ, ◌≤◌, ◌≡◌, Bool, true, false, not, ◌==◌, ◌||◌, ◌&&◌, nat_le, List, [], ◌∷◌, length, replicate, Option, Some, None, is_some, if◌then◌else◌}
+use Rattle.std.specs.Prelude.{ℕ, ◌≤◌, ◌≡◌, Bool, true, false, not, ◌==◌, ◌||◌, ◌&&◌, nat_le, List, [], ◌∷◌, ◌++◌, length, replicate, Option, Some, None, is_some, if◌then◌else◌}
 use Rattle.std.specs.declared.cmp.Ordering.{Ordering}
 use Rattle.std.specs.Ordering.{is_eq}
 use Rattle.std.specs.Cmp.Lexicographic.{slice_cmp}
@@ -16,6 +16,10 @@ Path = List (List ℕ)
 -- the text of a path: a slash before each name, so that the text of the root is empty
 abbrev pub text_of : Path → List ℕ
 text_of path = flat_map (λ name. 47 ∷ name) path
+
+-- a name or a folder's path with a slash at its end
+abbrev pub with_slash : List ℕ → List ℕ
+with_slash bytes = bytes ++ 47 ∷ []
 
 -- the key of a path: the MD5 of its text
 abbrev pub key_of : Path → List ℕ

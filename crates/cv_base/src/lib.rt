@@ -33,7 +33,9 @@ pub use digest::{DIGEST_DIGITS, DIGEST_SIZE, digest_digits, digest_text, read_di
 pub use field::{split_array, split_bytes, split_u16, split_u32, split_u64};
 pub use id::{Kind, ObjectId};
 pub use items::Items;
-pub use limits::{KEY_ID_LIMIT, LAST_REVISION, LAST_TIME, MODE_LIMIT, OBJECT_LIMIT, TAG_LIMIT};
+pub use limits::{
+    DIRECTORY_MODE, KEY_ID_LIMIT, LAST_REVISION, LAST_TIME, MODE_LIMIT, OBJECT_LIMIT, TAG_LIMIT,
+};
 pub use line::newline_at;
 pub use marker::{MARKER, ends_in_marker};
 pub use memory::NoMemory;

@@ -15,5 +15,8 @@ pub const TAG_LIMIT: usize = 255;
 /// One more than the greatest mode: the twelve permission bits, as in POSIX.
 pub const MODE_LIMIT: u32 = 4096;
 
+/// The mode of a directory that is made without one being asked for: all may read it and go in, its owner may change it.
+pub const DIRECTORY_MODE: u32 = 0o755;
+
 /// The last second since 1970 that a moment may have.
 pub const LAST_TIME: u64 = (1 << 62) - 1;

@@ -13,7 +13,7 @@ use Rattle.cv_base.specs.Marker.{marker}
 use Rattle.cv_base.specs.ObjectId.{object_id}
 use Rattle.cv_base.specs.declared.id.Kind.TheVariants.{Catalogue}
 use Rattle.cv_base.specs.declared.object.Object.{Object}
-use Rattle.cv_base.proofs.Laws.{some_there}
+use Rattle.cv_base.proofs.Laws.{some_there, covers_itself}
 use Rattle.cv_tree.specs.Tree.{Nodes, at, is_directory, is_file}
 use Rattle.cv_tree.specs.Changes.{nodes_of}
 use Rattle.cv_tree.specs.declared.node.Node.{Node}
@@ -31,7 +31,7 @@ use Rattle.cv_cut.specs.Own.{AreOwn}
 use Rattle.cv_cut.specs.Region.{IsNear, IsOther, KeysApart, row_at}
 use Rattle.cv_cut.specs.Told.{node_as, node_of}
 use Rattle.cv_cut.proofs.Lemmas.{comes_from, covers_append, cut_some, entries_are, entry_tells, first_there, goes_to, later_there, marked-at, nested_decodes, one_decoding, passes_of, passing, region_apart, rest_behind, row_tells, rows_are, stands, stands_at_cut}
-use Rattle.cv_load.proofs.Lemmas.{covers_itself, single_entry}
+use Rattle.cv_load.proofs.Lemmas.{single_entry}
 use Rattle.cv_checkout.specs.Wanting.{IsNamed, Suits, id_of, is_covered, place_of, toward}
 use Rattle.cv_checkout.specs.Progress.{Progress, ComesTo, StartsFrom}
 use Rattle.cv_checkout.specs.Giving.{Takes}

@@ -4,12 +4,12 @@ use Rattle.std.specs.Prelude.{Contains, filter}
 use Rattle.std.proofs.lemmas.Bool.{and_from, and_parts, false_from_ne_true}
 use Rattle.std.proofs.lemmas.List.Elements.{Contains-append_cases}
 use Rattle.cv_base.specs.Path.{Path, covers, overlap}
+use Rattle.cv_base.proofs.Laws.{covers_itself}
 use Rattle.cv_tree.specs.Tree.{Nodes}
 use Rattle.cv_cut.specs.Cuts.{cuts_of}
 use Rattle.cv_cut.specs.Catalogues.{contents_of}
 use Rattle.cv_cut.specs.Own.{AreOwn}
 use Rattle.cv_cut.proofs.Lemmas.{first_or_later, none_there, cut_of_tree}
-use Rattle.cv_load.proofs.Lemmas.{covers_itself}
 use Rattle.cv_checkout.specs.Wanting.{is_covered}
 use Rattle.cv_checkout.specs.Progress.{Progress}
 use Rattle.cv_checkout.specs.Giving.{Takes}

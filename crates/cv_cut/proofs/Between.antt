@@ -7,10 +7,10 @@ use Rattle.std.proofs.lemmas.List.Folds.{list_all_at}
 use Rattle.cv_base.specs.Marker.{marker}
 use Rattle.cv_base.specs.Path.{Path, covers, behind}
 use Rattle.cv_base.specs.PathOrder.{path_exact}
-use Rattle.cv_base.proofs.Laws.{behind-Some, behind-append}
+use Rattle.cv_base.proofs.Laws.{behind-Some, behind-append, first_true, some_there}
 use Rattle.cv_tree.specs.Tree.{Nodes, at, is_directory, is_file}
 use Rattle.cv_tree.specs.declared.node.Node.{Node}
-use Rattle.cv_tree.proofs.Laws.{get-at}
+use Rattle.cv_tree.proofs.Laws.{get-at, some_directory}
 use Rattle.cv_cut.specs.Cuts.{is_marked, is_cut, is_inner, is_near, cuts_of, between}
 use Rattle.cv_cut.specs.Cut.{is_other}
 use Rattle.cv_cut.proofs.Members.{none_there, first_there, later_there, first_or_later, comes_from, goes_to, passing}
@@ -100,12 +100,8 @@ cut_marked t (a ∷ d) some = refl
 -- it is an entry of the tree
 pub other_stands : (t : Nodes) (c d : Path) → is_other t c d ≡ true → (n : Node) × Contains (entries t) (d, n)
 other_stands t c d other =
-    let n = some_there (get t d) (is_file (get t (d ++ marker ∷ []))) (stands_below t c d other).marked in
+    let n = some_there (get t d) (some_directory (get t d) (first_true _ _ (stands_below t c d other).marked)) in
     (n.0, has_entry path_exact t d n.0 n.1)
-  where
-    some_there : (o : Option Node) (b : Bool) → (is_directory o && b) ≡ true → (n : Node) × (o ≡ Some n)
-    some_there None b h = cc
-    some_there (Some n) b h = (n, refl)
 
 -- and among the cuts
 pub other_cut : (t : Nodes) (c d : Path) → is_other t c d ≡ true → Contains (cuts_of t) d

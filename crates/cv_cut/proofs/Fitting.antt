@@ -3,7 +3,7 @@ use Rattle.std.proofs.Common.{◌≡◌, ◌≢◌, ◌<◌, ◌^◌, true, fals
 use Rattle.std.specs.FinMap.{get, same_map}
 use Rattle.cv_base.specs.Path.{Path, covers, key_of}
 use Rattle.cv_base.specs.PathOrder.{path_total, path_exact}
-use Rattle.cv_base.proofs.Laws.{some_there}
+use Rattle.cv_base.proofs.Laws.{some_there, covers_itself}
 use Rattle.cv_tree.specs.Tree.{Nodes, at, put}
 use Rattle.cv_tree.proofs.Laws.{get-at, get-put, at-put, at-at, at-put_apart}
 use Rattle.cv_cut.specs.Cuts.{is_cut, is_marked, is_near, region}
@@ -11,7 +11,6 @@ use Rattle.cv_cut.specs.Catalogues.{catalogue_of, Fits, SharesKey}
 use Rattle.cv_cut.proofs.CanonicalRules.{region_apart}
 use Rattle.cv_cut.proofs.RegionLists.{inner_is}
 use Rattle.cv_cut.proofs.Between.{marked-at}
-use Rattle.cv_cut.proofs.MarkLaws.{covers_append}
 use Rattle.cv_cut.proofs.Joined.{rest_behind}
 use Rattle.cv_cut.proofs.Behind.{is_behind}
 use Rattle.cv_cut.proofs.Trees.{cut-out, cut-in}
@@ -113,7 +112,7 @@ module _ (P : Type 0) (t n : Nodes) (p c r : Path) (g : Replacing t n p c r) whe
       let was = sym (cut-out t p (at n p) d g.unmarked out) ∙ cut in
       elim (is_near (at t d) v) as (λ b. is_near (at t d) v ≡ b → IsSound P (put t p (at n p)) d) [
         | true ↦ λ near.
-            let some : v ≢ [] = λ none. (let wrong : true ≡ false = sym (self p) ∙ ap (covers p) (is ∙ ap (λ (x : Path). d ++ x) none ∙ append-nil d) ∙ out in cc) in
+            let some : v ≢ [] = λ none. (let wrong : true ≡ false = sym (covers_itself p) ∙ ap (covers p) (is ∙ ap (λ (x : Path). d ++ x) none ∙ append-nil d) ∙ out in cc) in
             let same_cut = one_holder t p c r d v g.holds (record { is = is; some = some; cut = was; near = near }) in
             subst (IsSound P (put t p (at n p))) same_cut here
         | false ↦ λ far.
@@ -121,9 +120,6 @@ module _ (P : Type 0) (t n : Nodes) (p c r : Path) (g : Replacing t n p c r) whe
             let a : IsPassed t p (at n p) d v way.0 way.1 = record { tree = g.tree; after = g.after; unmarked = g.unmarked; passes = way.2; apart = region_apart t d was g.fits.apart } in
             record { keys = above_keys t p (at n p) d v way.0 way.1 a; fits = λ _ full. g.fits.limits d (above_full t p (at n p) d v way.0 way.1 a full) }
       ] refl
-    where
-      self : (q : Path) → covers q q ≡ true
-      self q = ap (covers q) (sym (append-nil q)) ∙ covers_append q []
 
   pub all_sound : IsSound P (put t p (at n p)) c → (d : Path) → is_cut (put t p (at n p)) d ≡ true → IsSound P (put t p (at n p)) d
   all_sound here = (λ d cut.

@@ -6,7 +6,7 @@ use Rattle.std.proofs.lemmas.List.Folds.{list_all_at}
 use Rattle.std.proofs.lemmas.List.{map-append}
 use Rattle.cv_base.specs.Marker.{marker, ends_in}
 use Rattle.cv_base.specs.Path.{Path, covers, overlap, text_of, key_of, IsPath}
-use Rattle.cv_base.proofs.Laws.{text_of-injective}
+use Rattle.cv_base.proofs.Laws.{text_of-injective, covers_itself}
 use Rattle.cv_tree.specs.Tree.{Nodes, at, put}
 use Rattle.cv_tree.specs.declared.node.Node.{Node}
 use Rattle.cv_tree.proofs.Laws.{at-at}
@@ -42,15 +42,12 @@ not_on_way u q r o near out =
     elim (covers q r) as (λ b. covers q r ≡ b → b ≡ false) [
       | true ↦ λ h.
           let in' = rest_behind q r h in
-          let more : in'.0 ≢ [] = λ none. (let r-is : r ≡ q = in'.1 ∙ ap (λ (x : Path). q ++ x) none ∙ append-nil q in let yes : covers r q ≡ true = ap (λ (x : Path). covers x q) r-is ∙ itself q in let wrong : true ≡ false = sym yes ∙ out in cc) in
+          let more : in'.0 ≢ [] = λ none. (let r-is : r ≡ q = in'.1 ∙ ap (λ (x : Path). q ++ x) none ∙ append-nil q in let yes : covers r q ≡ true = ap (λ (x : Path). covers x q) r-is ∙ covers_itself q in let wrong : true ≡ false = sym yes ∙ out in cc) in
           let here : Contains (between r) q = subst (λ (x : Path). Contains (between x) q) (sym in'.1) (between_has q in'.0 o.below more) in
           let far : is_near u r ≡ false = list_all_at (λ x. not (is_marked u x)) (between r) here.0 q here.1 (ap (λ x. not (is_marked u x)) here.2 ∙ ap not o.marked) in
           absurd (let wrong : true ≡ false = sym near ∙ far in cc)
       | false ↦ λ h. refl
     ] refl
-  where
-    itself : (q : Path) → covers q q ≡ true
-    itself q = ap (covers q) (sym (append-nil q)) ∙ covers_append q []
 
 -- paths of which neither covers the other
 pub apart_ways : (a b : Path) → covers a b ≡ false → covers b a ≡ false → overlap a b ≡ false

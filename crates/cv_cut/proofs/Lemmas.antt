@@ -16,7 +16,7 @@ pub use Rattle.cv_cut.proofs.Between.{marked-at}
 pub use Rattle.cv_cut.proofs.MarkLaws.{covers_append, longer_covers_not, marked-out, near-here, near-out}
 pub use Rattle.cv_cut.proofs.MeansAfter.{means_after, part_means}
 pub use Rattle.cv_cut.proofs.Members.{comes_from, first_or_later, first_there, goes_to, later_there, none_there, passes, passing}
-pub use Rattle.cv_cut.proofs.Opening.{IsThere, Unsized, misstating_bad, nested_long, nested_there, nested_unopened, opens_there, transition_long, transition_of, unopened, transition_at}
+pub use Rattle.cv_cut.proofs.Opening.{IsThere, Unsized, misstated, misstating_bad, nested_long, nested_there, nested_unopened, opens_there, transition_long, transition_of, unopened, transition_at}
 pub use Rattle.cv_cut.proofs.Over.{more_over, nearest, same_ends, same_over}
 pub use Rattle.cv_cut.proofs.PieceLaws.{fits_subtree, own_only, own_piece, put_whole, ready_of}
 pub use Rattle.cv_cut.proofs.PieceRows.{entries_spelled, entry_there, keys_are, rows_spelled, texts_apart_within}

@@ -14,7 +14,7 @@ use Rattle.cv_base.specs.ObjectId.{object_id}
 use Rattle.cv_base.specs.declared.id.ObjectId.{ObjectId}
 use Rattle.cv_base.specs.declared.id.Kind.TheVariants as id_kind
 use Rattle.cv_base.proofs.Laws.{some_same, not_both}
-use Rattle.cv_ports.specs.Shelf.{Shelf}
+use Rattle.cv_ports.specs.Shelf.{Shelf, HasOtherDigest}
 use Rattle.cv_rows.specs.Catalogue.{Contents, IsCatalogue, IsTransitionAt}
 use Rattle.cv_rows.specs.Places.{IsRoot, StandsAt, root, below}
 use Rattle.cv_rows.specs.declared.row.Row.{Row}
@@ -24,7 +24,7 @@ use Rattle.cv_rows.proofs.Lemmas.{stands_contained, same_by_key, fits_there, sta
 use Rattle.cv_cut.specs.Open.{FitsRow}
 use Rattle.cv_cut.specs.Reached.{ReachedFrom, Reaches, Place, Decodes, FitsPlace, HasCatalogue, Misstates, BadFrom}
 use Rattle.cv_cut.specs.Good.{HasSize}
-use Rattle.cv_cut.specs.Opening.{MayFailFrom, IsUnread, Sizes, Opens, OpensNested, IsTransitionOf, HasOtherDigest, IsUndecodable, IsBadNested, of_size, undecodable, below_id}
+use Rattle.cv_cut.specs.Opening.{MayFailFrom, IsUnread, Sizes, Opens, OpensNested, IsTransitionOf, IsUndecodable, IsBadNested, of_size, undecodable, below_id}
 use Rattle.cv_cut.specs.OpeningInner.{Decoded, Fetched}
 use Rattle.cv_cut.specs.declared.load_fault.LoadFault.{LoadFault}
 use Rattle.cv_cut.specs.declared.load_fault.LoadFault.TheVariants as fault
@@ -113,6 +113,11 @@ opens_found shelf id c n None answer is has none size h = absurd (let t = transi
 opens_found shelf id c n (Some row) answer is has stands size h = opens_nested shelf id c n row.now answer (transition_at c n row.now is has stands) size h
 
 -- ---- what is there and decodes is opened, unless the shelf fails or memory is wanted
+
+-- bytes of another size
+pub misstated : (o : Option (List ℕ)) (size : ℕ) → IsSomeAnd o (λ bytes. length bytes ≢ size) → (bytes : List ℕ) × (o ≡ Some bytes) × (length bytes ≢ size)
+misstated None size h = absurd h
+misstated (Some bytes) size h = (bytes, refl, h)
 
 undamaged : (shelf : Shelf) (id : ObjectId) (found bytes : List ℕ) → shelf id ≡ Some bytes → sha1 bytes ≡ id.hash → HasOtherDigest shelf id found → ⊥
 undamaged shelf id found bytes there hash h = h.other (h.digest ∙ ap sha1 (some_same (shelf id) h.bytes bytes h.there there) ∙ hash)
@@ -204,10 +209,6 @@ module _ (shelf : Shelf) (from : List ℕ) (start : Place) where
 
     nested_bad : (x : ObjectId) → IsBadNested shelf id c n x → BadFrom shelf from start x
     nested_bad x (of_size h) = let m = misstated (shelf (below_id n)) n.size h in misstating_bad id id place c kind reached has refl (Misstates.nested there m.1 m.2)
-      where
-        misstated : (o : Option (List ℕ)) (size : ℕ) → IsSomeAnd o (λ bytes. length bytes ≢ size) → (bytes : List ℕ) × (o ≡ Some bytes) × (length bytes ≢ size)
-        misstated None size h = absurd h
-        misstated (Some bytes) size h = (bytes, refl, h)
     nested_bad x (undecodable r t u) = undecodable_bad (below_id n) (below_id n) (record { path = n.path; row = Some r }) refl (nested_reached r t) refl u
 
     pub nested_unopened : (f : LoadFault) → OpensNested shelf id c n (Err f) → MayFailFrom shelf from start f

@@ -1,7 +1,6 @@
 -- The catalogues further above the path of a replacement: one nested entry changes, and nothing else.
 use Rattle.std.proofs.Common.{◌≡◌, ◌≢◌, ℕ, ◌<◌, ◌^◌, true, false, cond, not, List, [], ◌∷◌, ◌++◌, map, length, refl, sym, ap, subst, ◌∙◌, inl, inr, arith, length-append}
 use Rattle.std.specs.Prelude.{Contains}
-use Rattle.std.specs.Int.{w64, to_be_bytes}
 use Rattle.std.specs.List.{flat_map, AllByRecursion}
 use Rattle.std.specs.declared.cmp.Ordering.TheVariants.{Less}
 use Rattle.std.proofs.lemmas.List.Concat.{flat_map-cons}
@@ -13,11 +12,10 @@ use Rattle.cv_base.specs.Path.{Path, covers, same_path, text_of}
 use Rattle.cv_base.proofs.Laws.{digest_sha1}
 use Rattle.cv_tree.specs.Tree.{Nodes, at, put}
 use Rattle.cv_rows.specs.Catalogue.{Contents, catalogue_bytes, nested_cmp}
-use Rattle.cv_rows.specs.Row.{text_field}
 use Rattle.cv_rows.specs.Nested.{nested_bytes}
 use Rattle.cv_rows.specs.declared.row.Row.{Row}
 use Rattle.cv_rows.specs.declared.nested.Nested.{Nested}
-use Rattle.cv_rows.proofs.Lemmas.{file_len}
+use Rattle.cv_rows.proofs.Lemmas.{entry_len, file_len}
 use Rattle.cv_cut.specs.Cuts.{is_cut, is_marked, is_near, between, region}
 use Rattle.cv_cut.specs.Catalogues.{rows_of, nested_of, entry_of, cat, IsFull}
 use Rattle.cv_cut.proofs.Canonical.{cat_is, cat-put_apart}
@@ -63,24 +61,6 @@ blocked u a x some more marked near =
     let wrong : true ≡ false = sym near ∙ far in cc
 
 -- ---- bytes
-
-size_bytes : (m n : ℕ) → length (to_be_bytes w64 m) ≡ length (to_be_bytes w64 n)
-size_bytes m n = refl
-
-entry_len : (m n : Nested) → m.path ≡ n.path → length m.hash ≡ length n.hash → length (nested_bytes m) ≡ length (nested_bytes n)
-entry_len m n path hash =
-    let text = ap (λ (p : Path). length (text_field (text_of p))) path in
-    let size = size_bytes m.size n.size in
-    omega (
-      arith,
-      text,
-      hash,
-      size,
-      length-append (text_field (text_of m.path) ++ m.hash) (to_be_bytes w64 m.size),
-      length-append (text_field (text_of m.path)) m.hash,
-      length-append (text_field (text_of n.path) ++ n.hash) (to_be_bytes w64 n.size),
-      length-append (text_field (text_of n.path)) n.hash,
-    )
 
 renewed_len : (p : Path) (bytes : List ℕ) (n : Nested) → length n.hash ≡ 20 → length (nested_bytes (renewed p bytes n)) ≡ length (nested_bytes n)
 renewed_len p bytes n hash =

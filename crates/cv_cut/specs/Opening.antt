@@ -4,8 +4,8 @@ use Rattle.sha1.specs.Sha1.{sha1}
 use Rattle.cv_base.specs.ObjectId.{object_id}
 use Rattle.cv_base.specs.declared.id.ObjectId.{ObjectId}
 use Rattle.cv_base.specs.declared.id.Kind.TheVariants.{Catalogue}
-use Rattle.cv_ports.specs.Calls.{raised}
-use Rattle.cv_ports.specs.Shelf.{Shelf}
+use Rattle.cv_base.specs.Counts.{raised}
+use Rattle.cv_ports.specs.Shelf.{Shelf, HasOtherDigest}
 use Rattle.cv_rows.specs.Catalogue.{Contents}
 use Rattle.cv_rows.specs.Places.{StandsAt}
 use Rattle.cv_rows.specs.declared.row.Row.{Row}
@@ -17,13 +17,6 @@ use Rattle.cv_cut.specs.declared.load_fault.LoadFault.{LoadFault}
 use Rattle.cv_cut.specs.declared.load_fault.LoadFault.TheVariants as fault
 
 -- ---- causes of faults, in what is reached from a catalogue at a place
-
--- bytes stand under the id, and this digest of theirs is another than its hash
-pub record HasOtherDigest (shelf : Shelf) (id : ObjectId) (found : List ℕ) : Type 0 where
-  pub bytes : List ℕ
-  pub there : shelf id ≡ Some bytes
-  pub digest : found ≡ sha1 bytes
-  pub other : found ≢ id.hash
 
 -- a reached catalogue whose bytes have another digest
 pub record IsDamagedFrom (shelf : Shelf) (from : List ℕ) (start : Place) (id : ObjectId) (found : List ℕ) : Type 0 where

@@ -2,12 +2,11 @@
 use Rattle.std.specs.Prelude.{◌≡◌, ℕ, List, Some, None, Result, Ok, Err}
 use Rattle.sha1.specs.Sha1.{sha1}
 use Rattle.cv_base.specs.declared.id.ObjectId.{ObjectId}
-use Rattle.cv_ports.specs.Shelf.{Shelf}
+use Rattle.cv_ports.specs.Shelf.{Shelf, HasOtherDigest}
 use Rattle.cv_rows.specs.Catalogue.{Contents}
 use Rattle.cv_cut.specs.Reached.{Place, Decodes}
 use Rattle.cv_cut.specs.declared.load_fault.LoadFault.{LoadFault}
 use Rattle.cv_cut.specs.declared.load_fault.LoadFault.TheVariants as fault
-use Rattle.cv_cut.specs.Opening.{HasOtherDigest}
 
 -- the bytes under an id, or why not
 abbrev pub Fetched : Shelf → ObjectId → Result (List ℕ) LoadFault → Type 0

@@ -1,10 +1,9 @@
 //! Catalogues at the places at which they are named.
 ghost use Rattle.std.specs.Prelude.{◌≡◌, ◌<◌, length, IfOk, IsErrOf, Contains};
 ghost use Rattle.std.specs.Option.{option_copied};
-ghost use Rattle.cv_base.specs.Counts.{HasCause};
+ghost use Rattle.cv_base.specs.Counts.{HasCause, raised};
 ghost use Rattle.cv_base.specs.Told.{WhereTold};
 ghost use Rattle.cv_base.specs.declared.id.Kind.TheVariants as id_kind;
-ghost use Rattle.cv_ports.specs.Calls.{raised};
 ghost use Rattle.cv_rows.specs.Catalogue.{IsCatalogue};
 ghost use Rattle.cv_cut.specs.Opening.{Opens, OpensNested, FetchesOne};
 ghost use Rattle.cv_cut.specs.OpeningInner.{Decoded};

@@ -1,8 +1,7 @@
 //! Single objects of a shelf.
 ghost use Rattle.std.specs.Prelude.{◌≡◌, IsErrOf};
-ghost use Rattle.cv_base.specs.Counts.{HasCause};
+ghost use Rattle.cv_base.specs.Counts.{HasCause, raised};
 ghost use Rattle.cv_base.specs.Told.{WhereTold};
-ghost use Rattle.cv_ports.specs.Calls.{raised};
 ghost use Rattle.cv_cut.specs.Opening.{Sizes};
 ghost use Rattle.cv_cut.specs.OpeningInner.{Fetched};
 ghost use Rattle.cv_cut.specs.declared.load_fault.LoadFault.TheVariants as faults;

@@ -22,12 +22,13 @@ use Rattle.cv_leases.specs.Leases.{busy, refusal_beside, refusal, lease_of, with
 use Rattle.cv_leases.specs.declared.lease.Lease.{Lease}
 use Rattle.cv_leases.specs.declared.lease_fault.LeaseFault.TheVariants as fault
 use Rattle.cv_leases.proofs.Laws.{HasRoom, not_refused}
-use Rattle.cv_objects.specs.Batches.{AreNamed}
+use Rattle.cv_base.specs.Objects.{AreNamed}
 use Rattle.cv_swap.specs.Kept.{Revision, newest, head_of}
 use Rattle.cv_swap.specs.Line.{LineView}
 use Rattle.cv_gate.specs.State.{State, aged}
 use Rattle.cv_gate.specs.Passing.{granted as granted_to}
 use Rattle.cv_gate.specs.Step.{IsNoted, Acts as ActsAs, LeaseStep, OnLease, Grants as GrantsAs, adds, Cancels, takes, MayFail, StoreStep, Stores, FreshIs}
+use Rattle.cv_gate.specs.declared.lease_line.TheConstants.{LEASE_TIME}
 use Rattle.cv_gate.specs.declared.op.Op.{Op}
 use Rattle.cv_gate.specs.declared.op.Op.TheVariants as op
 use Rattle.cv_gate.specs.declared.act.Act.TheVariants as act
@@ -180,7 +181,7 @@ module _ {V S : Type 0} (disk : V → Option Disk) (count : V → ℕ) (left : V
         let mid_head : mid.line.head ≡ head_of r = ap (λ (s : StateView V S). s.line.head) looks.others ∙ is_head in
         let after_line : after.line ≡ mid.line = ap (λ (s : StateView V S). s.line) same in
         let after_leases : after.leases ≡ a.leases ++ lease ∷ [] = ap (λ (s : StateView V S). s.leases) same
-        ∙ (λ i. leases_is i ++ record { token = record { epoch = epoch_is i; number = next_is i }; key = key; path = path; deadline = moment_is i + 7200; from_revision = (mid_head i).revision } ∷ []) in
+        ∙ (λ i. leases_is i ++ record { token = record { epoch = epoch_is i; number = next_is i }; key = key; path = path; deadline = moment_is i + LEASE_TIME; from_revision = (mid_head i).revision } ∷ []) in
         quiet_does disk count left is_seal before after st stands none (op.Lease key path) e noted has_room (a.leases ++ lease ∷ []) (st.next + 1)
         (with_reply _ (step_on a key path out _ room_ (inr (
           r,

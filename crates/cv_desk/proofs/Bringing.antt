@@ -17,7 +17,8 @@ use Rattle.cv_graft.specs.Graft.{grafted_of}
 use Rattle.cv_graft.specs.declared.grafted.Grafted.{Grafted}
 use Rattle.cv_history.specs.declared.record.Record.{Record}
 use Rattle.cv_manifest.specs.declared.head.Head.{Head}
-use Rattle.cv_objects.specs.Batches.{AreNamed, Brings, IsOne, ShownIn, by_one, by_two, by_itself, IsRefused}
+use Rattle.cv_base.specs.Objects.{AreNamed}
+use Rattle.cv_objects.specs.Batches.{Brings, IsOne, ShownIn, by_one, by_two, by_itself, IsRefused}
 use Rattle.cv_objects.specs.Coming.{ClashesOn}
 use Rattle.cv_objects.specs.declared.store_fault.StoreFault.{StoreFault}
 use Rattle.cv_objects.specs.declared.store_fault.StoreFault.TheVariants as fault

@@ -31,7 +31,8 @@ use Rattle.cv_cut.specs.Good.{IsGood}
 use Rattle.cv_cut.specs.Means.{Means}
 use Rattle.cv_cut.specs.Reached.{root_place}
 use Rattle.cv_graft.specs.Both.{GraftsBoth, GivesOffered, MakesNothing}
-use Rattle.cv_graft.specs.Graft.{Grafts, HasOwnIds, HasWay, HasWays}
+use Rattle.cv_base.specs.Objects.{AreNamed}
+use Rattle.cv_graft.specs.Graft.{Grafts, HasWay, HasWays}
 use Rattle.cv_graft.specs.Way.{IsOfEither, TellsDamage}
 use Rattle.cv_graft.specs.declared.grafted.Grafted.{Grafted}
 use Rattle.cv_graft.specs.declared.graft_fault.GraftFault.{GraftFault}
@@ -186,7 +187,7 @@ module _ {V S : Type 0} (disk : V → Option Disk) (count : V → ℕ) (left : V
       (subst (λ x. Publishes l.name (is_seal l.signer) (Some l'.manifest) x) size said)
       (subst (λ b. With b (Ok (head_with (next_record l.head lease key moment g offered tag) g.size))) batch_is (subst (With (others ++ object_of next ∷ [])) (e ∙ ap Ok size) walks)))
 
-  pub refused : (r : Result Head StoreFault) (f : StoreFault) → r ≡ Err f → IsDropped read l' → HasOwnIds g.added → With (others ++ object_of next ∷ []) r → (a : Reply) → a ≡ reply_of f
+  pub refused : (r : Result Head StoreFault) (f : StoreFault) → r ≡ Err f → IsDropped read l' → AreNamed g.added → With (others ++ object_of next ∷ []) r → (a : Reply) → a ≡ reply_of f
       → Readies disk count left is_seal known lease key moment offered tag l l' (Err a)
   refused r f e dropped own walks a told = subst (λ x. Readies disk count left is_seal known lease key moment offered tag l l' (Err x)) (sym told)
       (unprepared read g f reads fetches fit dropped (named_more g.added (object_of (next_record l.head lease key moment g offered tag)) (record { each = own.each }) refl)

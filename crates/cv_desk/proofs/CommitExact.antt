@@ -10,7 +10,8 @@ use Rattle.cv_base.specs.declared.object.Object.{Object}
 use Rattle.cv_base.specs.declared.token.Token.{Token}
 use Rattle.cv_vault.specs.Disk.{Disk, Files}
 use Rattle.cv_vault.proofs.Laws.{quiet_same}
-use Rattle.cv_cut.specs.Opening.{HasOtherDigest, MayFail}
+use Rattle.cv_ports.specs.Shelf.{HasOtherDigest}
+use Rattle.cv_cut.specs.Opening.{MayFail}
 use Rattle.cv_cut.specs.declared.load_fault.LoadFault.{LoadFault}
 use Rattle.cv_cut.specs.declared.load_fault.LoadFault.TheVariants as load
 use Rattle.cv_graft.specs.declared.graft_fault.GraftFault.{GraftFault}
@@ -22,7 +23,7 @@ use Rattle.cv_leases.specs.Leases.{lease_of, without}
 use Rattle.cv_leases.specs.declared.lease.Lease.{Lease}
 use Rattle.cv_leases.proofs.Laws.{lease_of_token}
 use Rattle.cv_objects.specs.Names.{standing_on}
-use Rattle.cv_objects.specs.Batches.{AreNamed}
+use Rattle.cv_base.specs.Objects.{AreNamed}
 use Rattle.cv_objects.specs.declared.store_fault.StoreFault.{StoreFault}
 use Rattle.cv_objects.specs.declared.store_fault.StoreFault.TheVariants as fault
 use Rattle.cv_swap.specs.Kept.{revision_limit, head_with}

@@ -12,13 +12,14 @@ use Rattle.cv_base.specs.declared.token.Token.{Token}
 use Rattle.cv_vault.specs.Names.{on_way}
 use Rattle.cv_vault.specs.Disk.{Disk, File, Files, files_now}
 use Rattle.cv_vault.specs.Walks.{Walks, Gains, Stays, Comes, Nothing}
-use Rattle.cv_cut.specs.Opening.{HasOtherDigest}
+use Rattle.cv_ports.specs.Shelf.{HasOtherDigest}
 use Rattle.cv_cut.specs.declared.load_fault.LoadFault.{LoadFault}
 use Rattle.cv_cut.specs.declared.load_fault.LoadFault.TheVariants as load
 use Rattle.cv_leases.specs.Leases.{lease_of, without}
 use Rattle.cv_leases.specs.declared.lease.Lease.{Lease}
 use Rattle.cv_objects.specs.Names.{is_digest, standing_on}
-use Rattle.cv_objects.specs.Batches.{AreNamed, ShownIn, IsOutside, by_one, by_itself}
+use Rattle.cv_base.specs.Objects.{AreNamed}
+use Rattle.cv_objects.specs.Batches.{ShownIn, IsOutside, by_one, by_itself}
 use Rattle.cv_objects.specs.declared.store_fault.StoreFault.{StoreFault}
 use Rattle.cv_objects.specs.declared.store_fault.StoreFault.TheVariants as fault
 use Rattle.cv_objects.proofs.Lemmas.{is_digest_of}

@@ -13,7 +13,8 @@ use Rattle.cv_vault.specs.Names.{on_way}
 use Rattle.cv_vault.specs.Disk.{Disk, File, May, files_now}
 use Rattle.cv_vault.specs.Walks.{Stays, Comes, Gains, Nothing}
 use Rattle.cv_objects.specs.Names.{is_digest, standing_on}
-use Rattle.cv_objects.specs.Batches.{AreNamed, Brings, IsOne, IsGained, AreStored}
+use Rattle.cv_base.specs.Objects.{AreNamed}
+use Rattle.cv_objects.specs.Batches.{Brings, IsOne, IsGained, AreStored}
 use Rattle.cv_objects.specs.Coming.{ShelfGains}
 use Rattle.cv_objects.proofs.Lemmas.{digest_back, is_digest_of, gains_some, has_all}
 use Rattle.cv_swap.specs.Kept.{newest}

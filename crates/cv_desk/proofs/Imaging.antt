@@ -11,7 +11,8 @@ use Rattle.cv_vault.specs.Names.{on_way}
 use Rattle.cv_vault.specs.Disk.{Disk, Files, Image}
 use Rattle.cv_vault.specs.Walks.{Within, Nothing}
 use Rattle.cv_objects.specs.Names.{is_digest, objects_of}
-use Rattle.cv_objects.specs.Batches.{AreNamed, Brings}
+use Rattle.cv_base.specs.Objects.{AreNamed}
+use Rattle.cv_objects.specs.Batches.{Brings}
 use Rattle.cv_objects.proofs.Lemmas.{digest_back, is_digest_of, named_none}
 use Rattle.cv_swap.specs.Kept.{AreSound, Kept}
 use Rattle.cv_swap.specs.Stands.{head_name, epoch_name, epoch_text}

@@ -5,13 +5,13 @@ use Rattle.std.specs.declared.option.Option.TheVariants.{Some}
 use Rattle.cv_base.specs.Path.{Path}
 use Rattle.cv_base.specs.declared.id.ObjectId.{ObjectId}
 use Rattle.cv_base.specs.declared.token.Token.{Token}
-use Rattle.cv_ports.specs.Shelf.{IsShelf}
+use Rattle.cv_ports.specs.Shelf.{IsShelf, HasOtherDigest}
 use Rattle.cv_tree.specs.Tree.{Nodes}
 use Rattle.cv_tree.specs.Changes.{has_place}
 use Rattle.cv_cut.specs.Above.{replaced}
 use Rattle.cv_cut.specs.Catalogues.{SharesKey, IsFull, Fits}
 use Rattle.cv_cut.specs.Means.{Means}
-use Rattle.cv_cut.specs.Opening.{HasOtherDigest, MayFail as MayFailThere}
+use Rattle.cv_cut.specs.Opening.{MayFail as MayFailThere}
 use Rattle.cv_cut.specs.declared.load_fault.LoadFault.{LoadFault}
 use Rattle.cv_cut.specs.declared.load_fault.LoadFault.TheVariants as load
 use Rattle.cv_load.proofs.Lemmas.{a_tree_is_meant, none_lacking, none_bad}

@@ -16,7 +16,8 @@ use Rattle.cv_vault.specs.Names.{Name, on_way}
 use Rattle.cv_vault.specs.Disk.{Disk, File, Files}
 use Rattle.cv_vault.specs.Walks.{Gains, Walks, Nothing}
 use Rattle.cv_vault.proofs.Laws.{bind, looser}
-use Rattle.cv_objects.specs.Batches.{AreNamed, Brings, Has, IsOne, IsOutside, ShownIn, by_one, by_two, by_itself}
+use Rattle.cv_base.specs.Objects.{AreNamed}
+use Rattle.cv_objects.specs.Batches.{Brings, Has, IsOne, IsOutside, ShownIn, by_one, by_two, by_itself}
 use Rattle.cv_objects.specs.declared.store_fault.StoreFault.{StoreFault}
 use Rattle.cv_objects.specs.declared.store_fault.StoreFault.TheVariants.{Collision, Failed, Damaged, NoMemory}
 use Rattle.cv_objects.proofs.Lemmas.{data_off_way, kept}

@@ -14,7 +14,8 @@ use Rattle.cv_vault.specs.Walks.{Gains, Nothing, Walks}
 use Rattle.cv_vault.proofs.Laws.{bind, looser}
 use Rattle.cv_objects.specs.Names.{standing_on}
 use Rattle.cv_objects.specs.Fresh.{fresh_of}
-use Rattle.cv_objects.specs.Batches.{AreNamed, Brings, IsOne, ShownIn, IsOutside, AreStored, GivesFresh, Stored}
+use Rattle.cv_base.specs.Objects.{AreNamed}
+use Rattle.cv_objects.specs.Batches.{Brings, IsOne, ShownIn, IsOutside, AreStored, GivesFresh, Stored}
 use Rattle.cv_objects.specs.Coming.{ClashesOn}
 use Rattle.cv_objects.specs.declared.store_fault.StoreFault.{StoreFault}
 use Rattle.cv_objects.specs.declared.store_fault.StoreFault.TheVariants as fault

@@ -14,7 +14,8 @@ use Rattle.cv_vault.specs.Walks.{Walks}
 use Rattle.cv_vault.proofs.Laws.{leaves_more}
 use Rattle.cv_leases.specs.Leases.{lease_of, unexpired}
 use Rattle.cv_leases.specs.declared.lease.Lease.{Lease}
-use Rattle.cv_objects.specs.Batches.{AreNamed, Brings}
+use Rattle.cv_base.specs.Objects.{AreNamed}
+use Rattle.cv_objects.specs.Batches.{Brings}
 use Rattle.cv_gate.specs.State.{State, aged}
 use Rattle.cv_gate.specs.Kept.{Pending, whole as sends_whole}
 use Rattle.cv_gate.specs.Sound.{Sound}

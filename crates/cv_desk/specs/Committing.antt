@@ -12,7 +12,7 @@ use Rattle.cv_base.specs.declared.id.ObjectId.{ObjectId}
 use Rattle.cv_base.specs.declared.object.Object.{Object}
 use Rattle.cv_base.specs.declared.token.Token.{Token}
 use Rattle.cv_ports.specs.Calls.{RaisedAtMost}
-use Rattle.cv_ports.specs.Shelf.{Shelf}
+use Rattle.cv_ports.specs.Shelf.{Shelf, HasOtherDigest}
 use Rattle.cv_vault.specs.Names.{on_way}
 use Rattle.cv_vault.specs.Disk.{Disk, Files}
 use Rattle.cv_vault.specs.Moments.{OnlyReads}
@@ -27,7 +27,7 @@ use Rattle.cv_cut.specs.Above.{replaced, cuts_above}
 use Rattle.cv_cut.specs.Catalogues.{SharesKey, IsFull}
 use Rattle.cv_cut.specs.Good.{IsGood}
 use Rattle.cv_cut.specs.Means.{Means}
-use Rattle.cv_cut.specs.Opening.{HasOtherDigest, MayFail}
+use Rattle.cv_cut.specs.Opening.{MayFail}
 use Rattle.cv_cut.specs.Reached.{root_place}
 use Rattle.cv_cut.specs.declared.load_fault.LoadFault.{LoadFault}
 use Rattle.cv_cut.specs.declared.load_fault.LoadFault.TheVariants as load
@@ -43,7 +43,8 @@ use Rattle.cv_manifest.specs.declared.head.Head.{Head}
 use Rattle.cv_leases.specs.Leases.{lease_of, without}
 use Rattle.cv_leases.specs.declared.lease.Lease.{Lease}
 use Rattle.cv_objects.specs.Names.{standing_on}
-use Rattle.cv_objects.specs.Batches.{AreNamed, Brings}
+use Rattle.cv_base.specs.Objects.{AreNamed}
+use Rattle.cv_objects.specs.Batches.{Brings}
 use Rattle.cv_objects.specs.declared.store_fault.StoreFault.{StoreFault}
 use Rattle.cv_swap.specs.Kept.{object_of, head_with}
 use Rattle.cv_swap.specs.Line.{LineView, published, swapped, LineReads, IsReady, IsDropped}

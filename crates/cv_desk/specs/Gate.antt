@@ -9,7 +9,7 @@ use Rattle.cv_base.specs.Told.{WhereTold}
 use Rattle.cv_vault.specs.Disk.{Disk, File, Files, May, files_now}
 use Rattle.cv_vault.specs.Moments.{LeavesOnly}
 use Rattle.cv_vault.specs.declared.vault.VaultFault.{VaultFault}
-use Rattle.cv_cut.specs.Opening.{HasOtherDigest}
+use Rattle.cv_ports.specs.Shelf.{HasOtherDigest}
 use Rattle.cv_objects.specs.Names.{standing_on}
 use Rattle.cv_load.specs.Known.{is_known}
 use Rattle.cv_swap.specs.Kept.{Kept, Revision, newest, records_of, head_of}

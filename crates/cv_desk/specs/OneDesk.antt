@@ -16,9 +16,9 @@ use Rattle.cv_gate.specs.Desk.{DeskView, Call, Calls, asked, listed, fetched, to
 use Rattle.cv_gate.specs.declared.entry.Entry.{Entry}
 use Rattle.cv_gate.specs.declared.op.Op.{Op}
 use Rattle.cv_gate.specs.declared.reply.Reply.{Reply}
+use Rattle.cv_desk.specs.Ends.{OnlyLooks}
 use Rattle.cv_desk.specs.Holds.{Survives}
 use Rattle.cv_desk.specs.Gate.{GateView, StandsFor, IsSameRepository, Steps}
-use Rattle.cv_desk.specs.ActingInner.{OnlyLooks}
 
 -- the gate, whose repository it is for, and the newest head that is known
 pub record OneDeskView (V S : Type 0) : Type 0 where

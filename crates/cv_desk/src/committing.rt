@@ -14,9 +14,9 @@ ghost use Rattle.cv_swap.specs.Kept.{object_of};
 ghost use Rattle.cv_swap.specs.Publishing.{Prepared};
 ghost use Rattle.cv_swap.specs.Stands.{head_with, Publishes};
 ghost use Rattle.cv_objects.specs.Names.{standing_on};
-ghost use Rattle.cv_objects.specs.Batches.{AreNamed, Brings};
+ghost use Rattle.cv_base.specs.Objects.{AreNamed};
+ghost use Rattle.cv_objects.specs.Batches.{Brings};
 ghost use Rattle.cv_objects.specs.declared.store_fault.StoreFault.TheVariants as fault;
-ghost use Rattle.cv_graft.specs.Graft.{HasOwnIds};
 ghost use Rattle.cv_gate.specs.Step.{is_key_id, is_tag};
 ghost use Rattle.cv_gate.specs.declared.reply.Reply.TheVariants as replies;
 ghost use Rattle.cv_swap.specs.Line.{published, LineReads, IsReady, IsDropped};
@@ -148,7 +148,7 @@ fn graft_offered<V: Vault + Drop, S: Signer + Drop>(
     ensures knows { KnowsOn V.disk line.old.vault known.old offered.now.hash result known.new }
     ensures grafts { WhereTold (V.disk line.old.vault) (λ d. GraftsOffered (standing_on d) line.old.head.root offered.now.hash path.now result) }
     ensures kind { IfErr result (λ r. is_unmade r ≡ true) }
-    ensures own { IfOk result (λ g. HasOwnIds g.added) }
+    ensures own { IfOk result (λ g. AreNamed g.added) }
     ensures reads { LineReads V.disk V.count V.left line.old line.new }
     ensures fetches { WhereTold (V.disk line.old.vault) (λ d.
         FetchesOffered (standing_on d) known.old line.old.head.root offered.now.hash path.now line.old.taken line.new.taken) }

@@ -1,9 +1,8 @@
 //! The gate.
 ghost use Rattle.std.specs.Prelude.{◌≡◌, ◌≤◌, ◌<◌, ◌++◌, ◌∷◌, [], max, None, Some, IfOk, IsErrOf, IsSome, ◌≢◌, vec_len, vec_capacity};
-ghost use Rattle.cv_base.specs.Counts.{HasCause};
+ghost use Rattle.cv_base.specs.Counts.{HasCause, raised};
 ghost use Rattle.cv_base.specs.Told.{WhereTold};
 ghost use Rattle.cv_base.specs.Moment.{IsMoment};
-ghost use Rattle.cv_ports.specs.Calls.{raised};
 ghost use Rattle.cv_ports.specs.Shelf.{Fetches, Suits};
 ghost use Rattle.cv_ports.specs.declared.shelf.ShelfFault.TheVariants as shelf_fault;
 ghost use Rattle.cv_objects.specs.Names.{standing_on};
@@ -11,7 +10,7 @@ ghost use Rattle.cv_manifest.specs.Manifest.{IsHead};
 ghost use Rattle.cv_gate.specs.Lines.{lines_of};
 ghost use Rattle.cv_gate.specs.Step.{IsOp};
 ghost use Rattle.cv_gate.specs.declared.reply.Reply.TheVariants as reply;
-ghost use Rattle.cv_desk.specs.ActingInner.{OnlyLooks};
+ghost use Rattle.cv_desk.specs.Ends.{OnlyLooks};
 ghost use Rattle.cv_desk.specs.Begin.{Begins, EndsWaiting};
 ghost use Rattle.cv_desk.specs.declared.begun.Begun.TheVariants as begun;
 ghost use Rattle.cv_desk.specs.Gate.{Steps, GateOpens, IsNew, vault_of, IsFailed};

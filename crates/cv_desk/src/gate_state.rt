@@ -1,16 +1,15 @@
 //! The state of the gate: all but its journal.
 ghost use Rattle.std.specs.Prelude.{◌≡◌, ◌≢◌, ◌≤◌, ◌<◌, ◌+◌, ℕ, List, [], true, false, max, None, Some, Err, Ok, IfOk, IfErr, IsErrOf, OnOk};
-ghost use Rattle.cv_base.specs.Counts.{HasCause};
+ghost use Rattle.cv_base.specs.Counts.{HasCause, raised};
 ghost use Rattle.cv_base.specs.Path.{Path, IsPath};
 ghost use Rattle.cv_base.specs.Told.{WhereTold};
 ghost use Rattle.cv_base.specs.Moment.{IsMoment};
 ghost use Rattle.cv_base.specs.Token.{last_number};
-ghost use Rattle.cv_ports.specs.Calls.{raised};
 ghost use Rattle.cv_ports.specs.Shelf.{Fetches, Suits};
 ghost use Rattle.cv_ports.specs.declared.shelf.ShelfFault.TheVariants as shelf_fault;
 ghost use Rattle.cv_vault.specs.declared.vault.VaultFault.TheVariants as vault_fault;
 ghost use Rattle.cv_objects.specs.Names.{standing_on};
-ghost use Rattle.cv_objects.specs.Batches.{AreNamed};
+ghost use Rattle.cv_base.specs.Objects.{AreNamed};
 ghost use Rattle.cv_gate.specs.declared.act.Act.TheVariants as acts;
 ghost use Rattle.cv_gate.specs.declared.op.Op.TheVariants as ops;
 ghost use Rattle.cv_gate.specs.declared.reply.Reply.TheVariants as replies;
@@ -34,7 +33,7 @@ use crate::listing::list_leases;
 use crate::sent::Sent;
 use crate::taken::{Course, Readied, Taken, commit_act, decline, store_act};
 use cv_base::{Bytes, Kind, NoMemory, Object, ObjectId, RepoPath, Text, Token};
-use cv_gate::{Act, LeaseLine, Op, Reply};
+use cv_gate::{Act, LEASE_TIME, LeaseLine, Op, Reply};
 use cv_graft::directory_at;
 use cv_history::Record;
 use cv_leases::{Lease, LeaseTable};
@@ -46,9 +45,6 @@ use cv_vault::{Vault, VaultFault};
 use std::alloc::Global;
 use std::marker::{Brand, Model};
 use std::sync::ledger::Blank;
-
-/// The seconds for which a lease is granted.
-const LEASE_TIME: u64 = 7200;
 
 /// The line of revisions, the leases, the latest moment at which something was asked, the number of the next lease, and the
 /// catalogues that were found whole, of which each still is.

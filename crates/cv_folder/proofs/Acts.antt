@@ -10,7 +10,8 @@ use Rattle.cv_system.specs.Calls.{Cause, Log, Removed}
 use Rattle.cv_folder.specs.FolderVault.{Acts, AsksAlone, IsUncalled}
 use Rattle.cv_folder.specs.FolderVaultInner.{FindsNamed, MovesOn}
 use Rattle.cv_folder.specs.Hold.{Asked, AskedAt, Asks, AsksInVain, IsHeld, IsRoot, is_unasked}
-use Rattle.cv_system.specs.Names.{is_name, path_of, with_slash}
+use Rattle.cv_base.specs.Path.{with_slash}
+use Rattle.cv_system.specs.Names.{is_name, path_of}
 use Rattle.cv_folder.specs.Listed.{ListsNamed}
 use Rattle.cv_system.specs.Looks.{FailsToReadFile, Finds, ReadsFile}
 use Rattle.cv_folder.specs.Reads.{HasFile, IsUnserved, LacksFile, LooksInVain, MeasuresNamed, ReadsNamed}

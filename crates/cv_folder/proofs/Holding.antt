@@ -7,7 +7,7 @@ use Rattle.cv_folder.specs.declared.hold.Hold.TheVariants.{Absent, Held, Refused
 use Rattle.cv_system.specs.Calls.{cause_of, Done, Log, Made, and_call}
 use Rattle.cv_folder.specs.FolderVaultInner.{MakesHeld}
 use Rattle.cv_folder.specs.Hold.{Locks, LocksAndLeaves, MakesRoot}
-use Rattle.cv_system.specs.Names.{with_slash}
+use Rattle.cv_base.specs.Path.{with_slash}
 
 -- a folder that was made is held, another vault holds it, or it couldn't be locked
 pub makes_held : {F : Type 0} (root path : List ℕ) (before made after : Log) (result : Result (Option F) Error) → path ≡ with_slash root → made ≡ and_call (Made root Done) before

@@ -8,7 +8,7 @@ use Rattle.std.proofs.lemmas.Cmp.{eq_by_cmp_equiv}
 use Rattle.std.proofs.lemmas.List.Elements.{All-contains, All-contains_itself, All-nil, All-push}
 use Rattle.std.proofs.lemmas.List.Kept.{Contains-dedup, Contains-from_dedup, IsStrictlySortedBy-dedup}
 use Rattle.std.proofs.lemmas.List.Sorted.{Contains-permutation, IsPermutation-sym}
-use Rattle.cv_base.specs.Path.{same_name}
+use Rattle.cv_base.specs.Path.{same_name, with_slash}
 use Rattle.cv_base.specs.PathOrder.{same_name_is}
 use Rattle.cv_base.specs.BytesOrder.{bytes_cmp}
 use Rattle.cv_folder.specs.declared.hold.Hold.{Hold}
@@ -16,7 +16,6 @@ use Rattle.cv_folder.specs.declared.hold.Hold.TheVariants.{Absent, Refused, Unas
 use Rattle.cv_system.specs.Calls.{Log}
 use Rattle.cv_folder.specs.Listed.{AllBegin, FindsName, IsListed, IsListing, ListsFiles, ListsNamed}
 use Rattle.cv_folder.specs.Hold.{IsHeld}
-use Rattle.cv_system.specs.Names.{with_slash}
 use Rattle.cv_system.specs.Steps.{Makes}
 
 module _ (found sorted : List (List ℕ)) (moved : IsPermutation found sorted) where

@@ -5,7 +5,8 @@ use Rattle.std.proofs.Math.Seq.{take-append_seam}
 use Rattle.cv_system.specs.declared.seen.Seen.{Seen}
 use Rattle.cv_system.specs.Calls.{Call, Cause, Checked, Done, Entered, Failed, Locked, Log, Looked, Made, Named, Opened, Outcome, Read, Removed, Unmade}
 use Rattle.cv_system.specs.Looks.{FailsToReadFile, MissesFolder, OpensFile, ReadsFile, SeesFolders, folders_past}
-use Rattle.cv_system.specs.Names.{folder_of, next_of, path_of, stands_at, with_slash}
+use Rattle.cv_base.specs.Path.{with_slash}
+use Rattle.cv_system.specs.Names.{folder_of, next_of, path_of, stands_at}
 use Rattle.cv_system.specs.Steps.{IsLook, Makes, Still, Then, Tries}
 use Rattle.cv_system.specs.Walks.{IsUnder}
 use Rattle.cv_system.proofs.Laws.{folder_under, more_under, no_step, one_call, steps_then, steps_wider, under}

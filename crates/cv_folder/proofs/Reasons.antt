@@ -9,7 +9,8 @@ use Rattle.cv_system.specs.declared.seen.Seen.{Seen}
 use Rattle.cv_system.specs.declared.seen.Kind.TheVariants.{Folder}
 use Rattle.cv_system.specs.Calls.{Cause, cause_of, Done, Failed, Log, Looked, Made, Removed, Unmade, and_call}
 use Rattle.cv_system.specs.Looks.{FailsToReadFile, OpensOther}
-use Rattle.cv_system.specs.Names.{folder_of, is_name, next_of, path_of, stands_at, with_slash}
+use Rattle.cv_base.specs.Path.{with_slash}
+use Rattle.cv_system.specs.Names.{folder_of, is_name, next_of, path_of, stands_at}
 use Rattle.cv_system.specs.Steps.{EndsFailed, Grows, Still}
 use Rattle.cv_system.proofs.Laws.{fails_now, fails_then, one_call, reading_fails, steps_then}
 use Rattle.cv_folder.proofs.Growing.{asks_grow, found_grows, opens_fail}

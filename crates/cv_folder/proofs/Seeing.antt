@@ -10,7 +10,8 @@ use Rattle.cv_system.specs.declared.seen.Kind.TheVariants.{File, Folder}
 use Rattle.cv_system.specs.declared.seen.Seen.{Seen}
 use Rattle.cv_system.specs.Calls.{Log, Looked, and_call}
 use Rattle.cv_system.specs.Looks.{Looks, folders_behind, folders_past}
-use Rattle.cv_system.specs.Names.{stands_at, with_slash}
+use Rattle.cv_base.specs.Path.{with_slash}
+use Rattle.cv_system.specs.Names.{stands_at}
 use Rattle.cv_system.specs.Steps.{Makes, Still, Then}
 use Rattle.cv_system.proofs.Laws.{no_step, one_call, steps_then, told_before}
 use Rattle.cv_folder.specs.declared.listing.Listing.{Listing}

@@ -4,7 +4,8 @@ use Rattle.std.specs.declared.io.Error.{Error}
 use Rattle.cv_system.specs.declared.seen.Seen.{Seen}
 use Rattle.cv_system.specs.Calls.{Done, Failed, Locked, Log, Looked, Made, Opened, and_call}
 use Rattle.cv_system.specs.Looks.{Looks, SeesFolders}
-use Rattle.cv_system.specs.Names.{path_of, with_slash}
+use Rattle.cv_base.specs.Path.{with_slash}
+use Rattle.cv_system.specs.Names.{path_of}
 use Rattle.cv_system.specs.Steps.{IsNothing, Then}
 use Rattle.cv_system.proofs.Laws.{no_step, one_call, steps_then}
 use Rattle.cv_folder.specs.declared.folder_vault.FolderVault.{FolderVault}

@@ -8,7 +8,8 @@ use Rattle.cv_folder.specs.declared.hold.Hold.TheVariants.{Absent, Refused}
 use Rattle.cv_folder.specs.Causes.{FailsOnWay, IsRefused}
 use Rattle.cv_folder.specs.Hold.{IsHeld, Locks, LocksAndLeaves}
 use Rattle.cv_system.specs.declared.path_buffer.TheConstants.{PATH_ROOM}
-use Rattle.cv_system.specs.Names.{folder_of, is_name, path_of, with_slash}
+use Rattle.cv_base.specs.Path.{with_slash}
+use Rattle.cv_system.specs.Names.{folder_of, is_name, path_of}
 use Rattle.cv_folder.specs.Reads.{HasFile, LacksFile, LooksInVain}
 use Rattle.cv_folder.specs.Writes.{EndsOnWay, LeadsTo, MovesFile, Prepares, SeesNoOther, SeesOther}
 use Rattle.cv_system.specs.declared.seen.Seen.{Seen}

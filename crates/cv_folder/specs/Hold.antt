@@ -5,7 +5,8 @@ use Rattle.cv_folder.specs.declared.hold.Hold.{Hold}
 use Rattle.cv_folder.specs.declared.hold.Hold.TheVariants.{Absent, Held, Refused, Unasked}
 use Rattle.cv_system.specs.declared.path_buffer.TheConstants.{PATH_ROOM}
 use Rattle.cv_system.specs.Calls.{Cause, Done, Failed, Locked, Log, Made, Opened, Outcome, Unmade, and_call, and_calls}
-use Rattle.cv_system.specs.Names.{folder_of, is_part, last_part, with_slash}
+use Rattle.cv_base.specs.Path.{with_slash}
+use Rattle.cv_system.specs.Names.{folder_of, is_part, last_part}
 
 -- the vault has its folder open and locked
 abbrev pub IsHeld : {F : Type 0} → Hold F → Type 0

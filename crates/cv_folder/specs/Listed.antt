@@ -13,7 +13,8 @@ use Rattle.cv_system.specs.Calls.{Call, Cause, Checked, Created, Entered, IsWant
 use Rattle.cv_folder.specs.GoingOn.{GoesOn}
 use Rattle.cv_folder.specs.Hold.{IsHeld}
 use Rattle.cv_system.specs.Looks.{folders_past}
-use Rattle.cv_system.specs.Names.{is_name, path_of, with_slash}
+use Rattle.cv_base.specs.Path.{with_slash}
+use Rattle.cv_system.specs.Names.{is_name, path_of}
 use Rattle.cv_system.specs.Passed.{HidesNoName}
 use Rattle.cv_system.specs.Steps.{EndsFailed, IsNothing, Makes}
 

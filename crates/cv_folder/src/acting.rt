@@ -8,7 +8,8 @@ ghost use Rattle.cv_folder.specs.FolderVault.{Acts, Adds, AsksAlone, HoldsFirst,
 ghost use Rattle.cv_folder.specs.FolderVaultInner.{FailsToMake, FailsToMoveOn, FindsNamed, HasFolder, IsAt, MovesOn};
 ghost use Rattle.cv_folder.specs.Hold.{Asked, Begins, IsHeld, IsRoot, MakesRoot, is_unasked};
 ghost use Rattle.cv_system.specs.declared.path_buffer.TheConstants.{PATH_ROOM};
-ghost use Rattle.cv_system.specs.Names.{folder_of, is_name, path_of, with_slash};
+ghost use Rattle.cv_base.specs.Path.{with_slash};
+ghost use Rattle.cv_system.specs.Names.{folder_of, is_name, path_of};
 ghost use Rattle.cv_folder.specs.Listed.{FailsToList, IsListed, ListsNamed};
 ghost use Rattle.cv_folder.specs.Noted.{is_noted};
 ghost use Rattle.cv_folder.specs.Reads.{IsUnserved, MeasuresNamed, ReadsNamed};

@@ -4,7 +4,7 @@ ghost use Rattle.std.specs.IoError.{error_kind};
 ghost use Rattle.cv_system.specs.Calls.{Locked, and_call, cause_of};
 ghost use Rattle.cv_folder.specs.FolderVaultInner.{MakesHeld};
 ghost use Rattle.cv_folder.specs.Hold.{AskedAt, AsksInVain, Locks, LocksAndLeaves, LocksNot, OpensNot};
-ghost use Rattle.cv_system.specs.Names.{with_slash};
+ghost use Rattle.cv_base.specs.Path.{with_slash};
 
 use cv_system::System;
 use std::io;

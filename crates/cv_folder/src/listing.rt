@@ -2,12 +2,12 @@
 ghost use Rattle.std.specs.Prelude.{◌≡◌, ◌==◌, ◌↔◌, ◌⊎◌, ◌++◌, ◌∷◌, [], ℕ, List, IfOk, IfErr, IfSome, IsOk, IsSome, Err, string_bytes};
 ghost use Rattle.std.specs.List.{All, Contains, starts_with};
 ghost use Rattle.std.specs.List.Sorted.{IsStrictlySortedBy};
-ghost use Rattle.cv_base.specs.Path.{same_name};
+ghost use Rattle.cv_base.specs.Path.{same_name, with_slash};
 ghost use Rattle.cv_base.specs.BytesOrder.{bytes_cmp};
 ghost use Rattle.cv_folder.specs.Listed.{AllBegin, FailsListing, IsListed, IsListing, ListsFiles};
 ghost use Rattle.cv_folder.specs.ListedInner.{AddsFolder, AddsName, AddsSeen, GoesOrEnds, ListsOn, StandsHere};
 ghost use Rattle.cv_system.specs.Calls.{IsWant, cause_of};
-ghost use Rattle.cv_system.specs.Names.{stands_at, with_slash};
+ghost use Rattle.cv_system.specs.Names.{stands_at};
 ghost use Rattle.cv_system.specs.Passed.{HidesNoName};
 ghost use Rattle.cv_system.specs.Steps.{Makes};
 

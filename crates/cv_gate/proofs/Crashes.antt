@@ -12,7 +12,8 @@ use Rattle.cv_base.specs.Token.{last_number}
 use Rattle.cv_base.specs.Moment.{IsMoment}
 use Rattle.cv_ports.specs.Shelf.{Shelf, IsShelf, HasMore}
 use Rattle.cv_cut.proofs.Lemmas.{none_there}
-use Rattle.cv_objects.specs.Batches.{AreNamed, IsGained}
+use Rattle.cv_base.specs.Objects.{AreNamed}
+use Rattle.cv_objects.specs.Batches.{IsGained}
 use Rattle.cv_swap.specs.Kept.{AreSound, Kept, IsKept}
 use Rattle.cv_gate.specs.State.{State, aged, Settled, certain, unmade, published}
 use Rattle.cv_gate.specs.Objects.{GainsSome, GainsAll}

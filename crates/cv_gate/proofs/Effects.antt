@@ -18,7 +18,7 @@ use Rattle.cv_cut.proofs.Lemmas.{none_there, first_or_later, comes_from}
 use Rattle.cv_leases.specs.Leases.{lease_of, without}
 use Rattle.cv_leases.specs.declared.lease.Lease.{Lease}
 use Rattle.cv_leases.proofs.Laws.{lease_of_token}
-use Rattle.cv_objects.specs.Batches.{AreNamed}
+use Rattle.cv_base.specs.Objects.{AreNamed}
 use Rattle.cv_objects.specs.Coming.{ClashesOn}
 use Rattle.cv_swap.specs.Kept.{Revision, newest, record_object}
 use Rattle.cv_gate.specs.State.{State, with_revision}

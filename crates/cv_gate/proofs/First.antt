@@ -12,7 +12,7 @@ use Rattle.cv_ports.specs.Objects.{same_kind, same_id, shelf_of}
 use Rattle.cv_cut.proofs.Lemmas.{first_there, later_there, none_there, first_or_later}
 use Rattle.cv_swap.specs.Kept.{Revision, record_object, AreSound, IsKept}
 use Rattle.cv_cut.specs.Cut.{catalogue_object}
-use Rattle.cv_objects.specs.Batches.{AreNamed}
+use Rattle.cv_base.specs.Objects.{AreNamed}
 use Rattle.cv_objects.specs.Coming.{HasAll}
 use Rattle.cv_swap.specs.First.{first_revision}
 use Rattle.cv_swap.proofs.Lemmas.{first_sound as first_alone}

@@ -20,7 +20,7 @@ use Rattle.cv_cut.proofs.Lemmas.{none_there, first_or_later}
 use Rattle.cv_leases.specs.Leases.{without}
 use Rattle.cv_leases.specs.declared.lease.Lease.{Lease}
 use Rattle.cv_leases.proofs.Laws.{all_filter, found_all, apart}
-use Rattle.cv_objects.specs.Batches.{AreNamed}
+use Rattle.cv_base.specs.Objects.{AreNamed}
 use Rattle.cv_objects.specs.Coming.{HasAll}
 use Rattle.cv_gate.specs.State.{State, aged, with_revision, Settled, certain, unmade, published}
 use Rattle.cv_swap.specs.Kept.{Revision, newest, IsLine}

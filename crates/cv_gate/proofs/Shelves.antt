@@ -7,7 +7,8 @@ use Rattle.cv_base.specs.declared.id.ObjectId.{ObjectId}
 use Rattle.cv_base.specs.declared.object.Object.{Object}
 use Rattle.cv_ports.specs.Shelf.{Shelf, IsShelf, HasMore}
 use Rattle.cv_gate.specs.State.{State}
-use Rattle.cv_objects.specs.Batches.{AreNamed, IsGained}
+use Rattle.cv_base.specs.Objects.{AreNamed}
+use Rattle.cv_objects.specs.Batches.{IsGained}
 use Rattle.cv_gate.specs.Objects.{GainsSome, GainsAll}
 use Rattle.cv_gate.specs.Sound.{sure}
 

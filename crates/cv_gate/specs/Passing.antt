@@ -15,6 +15,7 @@ use Rattle.cv_objects.specs.Coming.{ClashesOn}
 use Rattle.cv_swap.specs.Kept.{Revision, newest, revision_limit}
 use Rattle.cv_gate.specs.State.{State}
 use Rattle.cv_gate.specs.Commits.{is_base, IsTaken, committed, made}
+use Rattle.cv_gate.specs.declared.lease_line.TheConstants.{LEASE_TIME}
 use Rattle.cv_gate.specs.declared.op.Op.{Op}
 use Rattle.cv_gate.specs.declared.op.Op.TheVariants as op
 
@@ -22,7 +23,7 @@ use Rattle.cv_gate.specs.declared.op.Op.TheVariants as op
 
 -- the seconds for which a lease is granted
 abbrev pub lease_time : ℕ
-lease_time = 7200
+lease_time = LEASE_TIME
 
 -- the lease that is granted to a key on a path
 abbrev pub granted : State → List ℕ → Path → Revision → Lease

@@ -13,7 +13,7 @@ ghost use Rattle.cv_tree.specs.Changes.{has_place};
 ghost use Rattle.cv_tree.specs.Tree.{Nodes, at};
 ghost use Rattle.cv_cut.specs.Cut.{catalogue_object};
 ghost use Rattle.cv_cut.specs.Means.{Means};
-ghost use Rattle.cv_objects.specs.Batches.{AreNamed};
+ghost use Rattle.cv_base.specs.Objects.{AreNamed};
 ghost use Rattle.cv_objects.specs.Coming.{HasAll};
 ghost use Rattle.cv_swap.specs.Kept.{Revision, newest, record_object, AreSound, Kept, IsKept};
 ghost use Rattle.cv_swap.specs.First.{first_revision};

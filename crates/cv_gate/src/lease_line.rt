@@ -1,6 +1,9 @@
 //! Lines of a list of leases.
 use cv_base::{RepoPath, Text};
 
+/// The seconds for which a lease is granted.
+pub const LEASE_TIME: u64 = 7200;
+
 /// What is told of a live lease to everyone: its token is its holder's own.
 #[derive(Debug, Drop)]
 pub struct LeaseLine {

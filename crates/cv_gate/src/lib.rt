@@ -13,6 +13,6 @@ mod reply;
 pub use act::Act;
 pub use desk::Desk;
 pub use entry::{Entry, JOURNAL_LIMIT};
-pub use lease_line::LeaseLine;
+pub use lease_line::{LEASE_TIME, LeaseLine};
 pub use op::Op;
 pub use reply::Reply;

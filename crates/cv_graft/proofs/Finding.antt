@@ -10,7 +10,8 @@ use Rattle.cv_base.specs.ObjectId.{object_id}
 use Rattle.cv_base.specs.declared.id.Kind.TheVariants.{Catalogue}
 use Rattle.cv_base.specs.declared.id.ObjectId.{ObjectId}
 use Rattle.cv_base.proofs.Laws.{first_true}
-use Rattle.cv_ports.specs.Calls.{raised, raised_by, RaisedAtMost}
+use Rattle.cv_base.specs.Counts.{raised}
+use Rattle.cv_ports.specs.Calls.{raised_by, RaisedAtMost}
 use Rattle.cv_ports.specs.Shelf.{Shelf}
 use Rattle.cv_tree.specs.Tree.{Nodes, at, is_directory, IsTree, is_file}
 use Rattle.cv_tree.specs.declared.node.Node.{Node}

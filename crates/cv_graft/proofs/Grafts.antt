@@ -11,7 +11,8 @@ use Rattle.cv_cut.specs.Catalogues.{Fits}
 use Rattle.cv_cut.specs.Above.{cuts_above, OnWay}
 use Rattle.cv_graft.specs.Graft.{Grafts}
 use Rattle.cv_graft.specs.Placed.{HasCuts}
-use Rattle.cv_ports.specs.Calls.{raised, raised_by, RaisedAtMost}
+use Rattle.cv_base.specs.Counts.{raised}
+use Rattle.cv_ports.specs.Calls.{raised_by, RaisedAtMost}
 use Rattle.cv_cut.specs.Reached.{HasCatalogue}
 use Rattle.cv_cut.specs.Opening.{IsUnread}
 use Rattle.cv_cut.specs.declared.load_fault.LoadFault.{LoadFault}

@@ -4,11 +4,11 @@ use Rattle.std.specs.Prelude.{IfErr, IfOk}
 use Rattle.cv_base.specs.Path.{Path}
 use Rattle.cv_base.specs.declared.id.ObjectId.{ObjectId}
 use Rattle.cv_base.specs.declared.id.Kind.TheVariants.{Catalogue}
-use Rattle.cv_ports.specs.Shelf.{Shelf}
+use Rattle.cv_ports.specs.Shelf.{Shelf, HasOtherDigest}
 use Rattle.cv_rows.specs.Catalogue.{Contents}
 use Rattle.cv_rows.specs.declared.nested.Nested.{Nested}
 use Rattle.cv_rows.specs.declared.row.Row.{Row}
-use Rattle.cv_cut.specs.Opening.{Opens, OpensNested, IsNestedCatalogue, IsTransitionOf, IsBadNested, HasOtherDigest, of_size, undecodable, below_id}
+use Rattle.cv_cut.specs.Opening.{Opens, OpensNested, IsNestedCatalogue, IsTransitionOf, IsBadNested, of_size, undecodable, below_id}
 use Rattle.cv_cut.specs.Reached.{Place, HasCatalogue, root_place}
 use Rattle.cv_cut.specs.declared.load_fault.LoadFault.{LoadFault}
 use Rattle.cv_cut.specs.declared.load_fault.LoadFault.TheVariants as fault

@@ -20,7 +20,7 @@ use Rattle.cv_cut.specs.Cuts.{is_cut}
 use Rattle.cv_cut.specs.Catalogues.{IsFull}
 use Rattle.sha1.specs.Sha1.{sha1}
 use Rattle.cv_base.specs.declared.object.Object.{Object}
-use Rattle.cv_graft.specs.Graft.{HasOwnIds}
+use Rattle.cv_base.specs.Objects.{AreNamed}
 use Rattle.cv_cut.specs.Cut.{catalogue_object, keys_at, row_in}
 use Rattle.cv_cut.specs.Piece.{IsFullAmong, cuts_within, region_within}
 use Rattle.cv_cut.specs.declared.cut_fault.CutFault.{CutFault}
@@ -128,11 +128,11 @@ part_tells X c p m fault.NoMemory shelf h = tt
 
 -- ---- objects have their own ids
 
-pub own_objects : (t : Nodes) (ds : List Path) → HasOwnIds (map (catalogue_object t) ds)
+pub own_objects : (t : Nodes) (ds : List Path) → AreNamed (map (catalogue_object t) ds)
 own_objects t ds = record { each = λ o has. let d = comes_from (catalogue_object t) ds o has in ap (λ (x : Object). x.id.hash) (sym d.2) ∙ ap (λ (x : Object). sha1 x.bytes) d.2 }
 
-pub own_more : (m : Nodes) (ds : List Path) (old new : List Object) → new ≡ old ++ map (catalogue_object m) ds → HasOwnIds old → HasOwnIds new
-own_more m ds old new is own = subst HasOwnIds (sym is) (record {
+pub own_more : (m : Nodes) (ds : List Path) (old new : List Object) → new ≡ old ++ map (catalogue_object m) ds → AreNamed old → AreNamed new
+own_more m ds old new is own = subst AreNamed (sym is) (record {
   each = λ o has. elim (Contains-append_cases old (map (catalogue_object m) ds) o has) [
     | inl left ↦ own.each o left
     | inr right ↦ (own_objects m ds).each o right

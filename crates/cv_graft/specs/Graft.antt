@@ -37,10 +37,6 @@ grafted_of t p = record {
   added = map (catalogue_object t) (reverse (cuts_above t p));
 }
 
--- each object has the hash of its own bytes
-pub record HasOwnIds (objects : List Object) : Type 0 where
-  pub each : (o : Object) → Contains objects o → o.id.hash ≡ sha1 o.bytes
-
 -- what is answered of the tree that a graft is to give: it fits, and this is its root, or why it doesn't fit
 abbrev pub Grafts : Nodes → Path → Result Grafted GraftFault → Type 0
 Grafts t p (Ok g) = Fits t × (g ≡ grafted_of t p)

@@ -3,14 +3,14 @@ use Rattle.std.specs.Prelude.{◌≡◌, ◌≢◌, ◌⊎◌, ℕ, Bool, true, 
 use Rattle.cv_base.specs.Path.{Path, covers}
 use Rattle.cv_base.specs.declared.id.ObjectId.{ObjectId}
 use Rattle.cv_base.specs.declared.id.Kind.TheVariants.{Catalogue}
-use Rattle.cv_ports.specs.Shelf.{Shelf}
+use Rattle.cv_ports.specs.Shelf.{Shelf, HasOtherDigest}
 use Rattle.std.specs.FinMap.{get}
 use Rattle.cv_tree.specs.Tree.{Nodes, is_directory}
 use Rattle.cv_rows.specs.Catalogue.{Contents}
 use Rattle.cv_rows.specs.declared.nested.Nested.{Nested}
 use Rattle.cv_rows.specs.declared.row.Row.{Row}
 use Rattle.cv_cut.specs.Reached.{Place, HasCatalogue, root_place}
-use Rattle.cv_cut.specs.Opening.{HasOtherDigest, IsTransitionOf, IsUndecodable, IsUnread, below_id}
+use Rattle.cv_cut.specs.Opening.{IsTransitionOf, IsUndecodable, IsUnread, below_id}
 use Rattle.cv_cut.specs.declared.load_fault.LoadFault.{LoadFault}
 use Rattle.cv_cut.specs.declared.load_fault.LoadFault.TheVariants as load
 use Rattle.cv_graft.specs.declared.graft_fault.GraftFault.{GraftFault}

@@ -14,7 +14,8 @@ ghost use Rattle.cv_cut.specs.Above.{cuts_above, replaced};
 ghost use Rattle.cv_cut.specs.declared.load_fault.LoadFault.TheVariants as load_faults;
 ghost use Rattle.cv_graft.specs.Directories.{IsHolder};
 ghost use Rattle.cv_graft.specs.Both.{GivesOffered, GraftsBoth, MakesNothing};
-ghost use Rattle.cv_graft.specs.Graft.{Grafts, HasOwnIds, HasWay, HasWays};
+ghost use Rattle.cv_base.specs.Objects.{AreNamed};
+ghost use Rattle.cv_graft.specs.Graft.{Grafts, HasWay, HasWays};
 ghost use Rattle.cv_graft.specs.Placed.{HasCuts};
 ghost use Rattle.cv_graft.specs.Way.{BlamesWay, IsOfEither, TellsDamage};
 ghost use Rattle.cv_graft.specs.WayInner.{Finds};
@@ -59,7 +60,7 @@ pub(crate) fn holder<S: Shelf>(
 fn whole<S: Shelf>(alloc: Global, shelf: &mut S, offered: &ObjectId) -> Result<Grafted, GraftFault>
     requires { offered.now.kind ≡ id_kind.Catalogue }
     ensures gives { WhereTold (S.shelf shelf.old) (λ standing. GivesOffered standing offered.now result) }
-    ensures own { IfOk result (λ g. HasOwnIds g.added) }
+    ensures own { IfOk result (λ g. AreNamed g.added) }
     ensures undamaged { (standing : Shelf_) → TellsDamage standing (λ id. ⊥) result }
     ensures reads { S.reads shelf.old shelf.new }
     ensures unchanged { S.shelf shelf.new ≡ S.shelf shelf.old }
@@ -93,7 +94,7 @@ fn below_root<S: Shelf>(
     requires unmarked { ends_in marker path.now ≡ false }
     ensures told { WhereTold (S.shelf shelf.old) (λ standing. (t n : Nodes) → HasWays standing newest.now.hash offered.now.hash t n path.now → IsTrue (has_place t path.now) → Grafts (replaced t n path.now) path.now result) }
     ensures way { WhereTold (S.shelf shelf.old) (λ standing. GraftsBoth standing newest.now.hash offered.now.hash path.now result) }
-    ensures own { IfOk result (λ g. HasOwnIds g.added) }
+    ensures own { IfOk result (λ g. AreNamed g.added) }
     ensures damaged { WhereTold (S.shelf shelf.old) (λ standing. TellsDamage standing (IsOfEither standing newest.now.hash offered.now.hash path.now) result) }
     ensures reads { S.reads shelf.old shelf.new }
     ensures unchanged { S.shelf shelf.new ≡ S.shelf shelf.old }
@@ -138,7 +139,7 @@ pub fn graft<S: Shelf>(
     ensures way { WhereTold (S.shelf shelf.old) (λ standing. path.now ≢ [] → GraftsBoth standing newest.now.hash offered.now.hash path.now result) }
     ensures whole { WhereTold (S.shelf shelf.old) (λ standing. path.now ≡ [] → GivesOffered standing offered.now result) }
     ensures parentless { WhereTold (S.shelf shelf.old) (λ standing. (t : Nodes) → HasWay standing newest.now.hash t path.now → has_place t path.now ≡ false → MakesNothing result) }
-    ensures own { IfOk result (λ g. HasOwnIds g.added) }
+    ensures own { IfOk result (λ g. AreNamed g.added) }
     ensures damaged { WhereTold (S.shelf shelf.old) (λ standing. TellsDamage standing (IsOfEither standing newest.now.hash offered.now.hash path.now) result) }
     ensures reads { S.reads shelf.old shelf.new }
     ensures unchanged { S.shelf shelf.new ≡ S.shelf shelf.old }

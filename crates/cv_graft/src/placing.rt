@@ -18,7 +18,7 @@ ghost use Rattle.cv_cut.specs.Catalogues.{contents_of};
 ghost use Rattle.cv_cut.specs.Cut.{catalogue_object};
 ghost use Rattle.cv_cut.specs.Cuts.{is_cut};
 ghost use Rattle.cv_cut.specs.Piece.{IsPiece};
-ghost use Rattle.cv_graft.specs.Graft.{HasOwnIds};
+ghost use Rattle.cv_base.specs.Objects.{AreNamed};
 ghost use Rattle.cv_graft.specs.MakesInner.{Rejoins, Remakes};
 ghost use Rattle.cv_graft.specs.Placed.{HasCuts};
 ghost use Rattle.cv_graft.specs.PlacedInner.{IsAskedPart, IsMeeting, JoinsLists, JoinsPart, Sets};
@@ -142,7 +142,7 @@ fn rejoined_part(
     ensures unread { IsErrOf result faults.Failed → ⊥ }
     ensures undamaged { (standing : Shelf_) → TellsDamage standing (λ id. ⊥) result }
     ensures digest { IfOk result (λ made. IsDigest made.hash) }
-    ensures own { OnOk result (HasOwnIds added.old.items → HasOwnIds added.new.items) }
+    ensures own { OnOk result (AreNamed added.old.items → AreNamed added.new.items) }
 {
     let joined = joined_part(alloc, cut, catalogue, piece, path, added)?;
     Ok(keep(alloc, &joined, added)?)
@@ -170,7 +170,7 @@ pub(crate) fn rebuilt_with<S: Shelf>(
         → OnWay t path.now catalogue.at r → catalogue ≡ contents_of t catalogue.at → Sets t piece.now.tree path.now catalogue.at r added.old.items added.new.items result) }
     ensures way { WhereTold (S.shelf shelf.old) (λ standing. Remakes standing (λ c r. JoinsPart c path.now piece.now.tree r) path.now id.now catalogue (map (catalogue_object piece.now.tree) piece.now.cuts) added.old.items added.new.items result) }
     ensures digest { IfOk result (λ made. IsDigest made.hash) }
-    ensures own { OnOk result (HasOwnIds added.old.items → HasOwnIds added.new.items) }
+    ensures own { OnOk result (AreNamed added.old.items → AreNamed added.new.items) }
     ensures damaged { WhereTold (S.shelf shelf.old) (λ standing. TellsDamage standing (IsOfWayOf standing id.now catalogue path.now) result) }
     ensures reads { S.reads shelf.old shelf.new }
     ensures unchanged { S.shelf shelf.new ≡ S.shelf shelf.old }

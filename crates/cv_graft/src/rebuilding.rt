@@ -14,7 +14,7 @@ ghost use Rattle.cv_rows.specs.Renewed.{renewed};
 ghost use Rattle.cv_tree.specs.Tree.{Nodes, IsTree, at};
 ghost use Rattle.cv_ports.specs.Calls.{raised_by};
 ghost use Rattle.cv_cut.specs.Above.{cuts_above, replaced, OnWay};
-ghost use Rattle.cv_graft.specs.Graft.{HasOwnIds};
+ghost use Rattle.cv_base.specs.Objects.{AreNamed};
 ghost use Rattle.cv_graft.specs.JoinsInner.{Joins};
 ghost use Rattle.cv_graft.specs.MakesInner.{Rejoins, Remakes};
 ghost use Rattle.cv_graft.specs.Placed.{HasCuts};
@@ -53,7 +53,7 @@ pub(crate) fn keep(
     ensures size { IfOk result (λ made. made.size ≡ length (catalogue_bytes catalogue.now)) }
     ensures added { OnOk result (added.new.items ≡ added.old.items ++ record { id = object_id (sha1 (catalogue_bytes catalogue.now)) id_kind.Catalogue; bytes = catalogue_bytes catalogue.now } ∷ []) }
     ensures digest { IfOk result (λ made. IsDigest made.hash) }
-    ensures own { OnOk result (HasOwnIds added.old.items → HasOwnIds added.new.items) }
+    ensures own { OnOk result (AreNamed added.old.items → AreNamed added.new.items) }
 {
     let bytes = catalogue.encode(alloc)?;
     let id = ObjectId::of(Kind::Catalogue, &bytes);
@@ -89,7 +89,7 @@ fn rejoined(
     ensures unread { IsErrOf result faults.Failed → ⊥ }
     ensures undamaged { (standing : Shelf_) → TellsDamage standing (λ id. ⊥) result }
     ensures digest { IfOk result (λ made. IsDigest made.hash) }
-    ensures own { OnOk result (HasOwnIds added.old.items → HasOwnIds added.new.items) }
+    ensures own { OnOk result (AreNamed added.old.items → AreNamed added.new.items) }
 {
     let joined = joined(alloc, cut, catalogue, other, path)?;
     Ok(keep(alloc, &joined, added)?)
@@ -119,7 +119,7 @@ pub(crate) fn rebuilt<S: Shelf>(
         → OnWay t path.now catalogue.at r → catalogue ≡ contents_of t catalogue.at → Rebuilds (replaced t n path.now) catalogue.at r added.old.items added.new.items result) }
     ensures way { WhereTold (S.shelf shelf.old) (λ standing. Remakes standing (λ c r. Joins c other.now path.now r) path.now id.now catalogue [] added.old.items added.new.items result) }
     ensures digest { IfOk result (λ made. IsDigest made.hash) }
-    ensures own { OnOk result (HasOwnIds added.old.items → HasOwnIds added.new.items) }
+    ensures own { OnOk result (AreNamed added.old.items → AreNamed added.new.items) }
     ensures damaged { WhereTold (S.shelf shelf.old) (λ standing. TellsDamage standing (IsOfWayOf standing id.now catalogue path.now) result) }
     ensures reads { S.reads shelf.old shelf.new }
     ensures unchanged { S.shelf shelf.new ≡ S.shelf shelf.old }

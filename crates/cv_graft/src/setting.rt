@@ -11,7 +11,7 @@ ghost use Rattle.cv_tree.specs.Changes.{FitsUnder, IsTreeAtRoot, has_place, node
 ghost use Rattle.cv_tree.specs.Tree.{Nodes, is_directory, put};
 ghost use Rattle.cv_ports.specs.Shelf.{Shelf as Shelf_};
 ghost use Rattle.cv_cut.specs.Above.{cuts_above};
-ghost use Rattle.cv_graft.specs.Graft.{HasOwnIds};
+ghost use Rattle.cv_base.specs.Objects.{AreNamed};
 ghost use Rattle.cv_graft.specs.Placed.{HasCuts, Places, PlacesNothing};
 ghost use Rattle.cv_graft.specs.PlacedWay.{PlacesOnWay};
 ghost use Rattle.cv_graft.specs.Way.{IsOfWay, TellsDamage};
@@ -30,7 +30,7 @@ use std::alloc::Global;
 fn whole_part(alloc: Global, part: &Part) -> Result<Grafted, GraftFault>
     requires { IsTrue (is_directory (map.get part.now [])) }
     ensures placed { Places part.now [] result }
-    ensures own { IfOk result (λ g. HasOwnIds g.added) }
+    ensures own { IfOk result (λ g. AreNamed g.added) }
     ensures unread { IsErrOf result faults.Failed → ⊥ }
     ensures undamaged { (standing : Shelf_) → TellsDamage standing (λ id. ⊥) result }
 {
@@ -50,7 +50,7 @@ fn at_root(alloc: Global, path: &RepoPath, part: Option<&Part>) -> Result<Grafte
     requires path { path.now ≡ [] }
     requires root { IsTreeAtRoot path.now (nodes_of (option_copied part)) }
     ensures placed { Places (nodes_of (option_copied part.entry)) [] result }
-    ensures own { IfOk result (λ g. HasOwnIds g.added) }
+    ensures own { IfOk result (λ g. AreNamed g.added) }
     ensures unread { IsErrOf result faults.Failed → ⊥ }
     ensures undamaged { (standing : Shelf_) → TellsDamage standing (λ id. ⊥) result }
 {
@@ -74,7 +74,7 @@ fn below_root_with<S: Shelf>(
     requires limits { FitsUnder path.now (nodes_of (option_copied part)) }
     ensures told { WhereTold (S.shelf shelf.old) (λ standing. (t : Nodes) → HasCuts standing base.now.hash t path.now → IsTrue (has_place t path.now) → Places (put t path.now (nodes_of (option_copied part.entry))) path.now result) }
     ensures way { WhereTold (S.shelf shelf.old) (λ standing. PlacesOnWay standing base.now.hash path.now (nodes_of (option_copied part.entry)) result) }
-    ensures own { IfOk result (λ g. HasOwnIds g.added) }
+    ensures own { IfOk result (λ g. AreNamed g.added) }
     ensures damaged { WhereTold (S.shelf shelf.old) (λ standing. TellsDamage standing (IsOfWay standing base.now.hash path.now) result) }
     ensures reads { S.reads shelf.old shelf.new }
     ensures unchanged { S.shelf shelf.new ≡ S.shelf shelf.old }
@@ -123,7 +123,7 @@ pub fn place<S: Shelf>(
     ensures way { WhereTold (S.shelf shelf.old) (λ standing. path.now ≢ [] → PlacesOnWay standing base.now.hash path.now (nodes_of (option_copied part.entry)) result) }
     ensures whole { path.now ≡ [] → Places (nodes_of (option_copied part.entry)) [] result }
     ensures parentless { WhereTold (S.shelf shelf.old) (λ standing. (t : Nodes) → HasCuts standing base.now.hash t path.now → has_place t path.now ≡ false → PlacesNothing (nodes_of (option_copied part.entry)) path.now result) }
-    ensures own { IfOk result (λ g. HasOwnIds g.added) }
+    ensures own { IfOk result (λ g. AreNamed g.added) }
     ensures damaged { WhereTold (S.shelf shelf.old) (λ standing. TellsDamage standing (IsOfWay standing base.now.hash path.now) result) }
     ensures reads { S.reads shelf.old shelf.new }
     ensures unchanged { S.shelf shelf.new ≡ S.shelf shelf.old }

@@ -46,7 +46,7 @@ not_amiss shelf wanted id r (BadLink at revision other) h is m =
     let same = same_record shelf id m.2.found r m.2.stands h in
     m.2.other (sym m.2.is_revision ∙ ap (λ (x : Record). x.revision) same ∙ is)
 not_amiss shelf wanted id r Failed h is m = m
-not_amiss shelf wanted id r (Damaged at found) h is m = m.1.other (m.1.digest ∙ hash_of shelf id r m.1.bytes h m.1.present)
+not_amiss shelf wanted id r (Damaged at found) h is m = m.1.other (m.1.digest ∙ hash_of shelf id r m.1.bytes h m.1.there)
 not_amiss shelf wanted id r NoMemory h is m = m
 
 pub no_break : (shelf : Shelf) (n : ℕ) (id : ObjectId) (rs : List Record) (fault : ChainFault) → Chain (StandsAt shelf) n id rs → Breaks shelf n id fault → ⊥
@@ -64,14 +64,14 @@ one_amiss shelf wanted id (Missing at) (Missing place) m k = ap Missing (m.0 ∙
 one_amiss shelf wanted id (Missing at) (BadRecord place) m k = absurd (none_some (shelf id) _ m.1 k.1.present)
 one_amiss shelf wanted id (Missing at) (BadLink place revision other) m k = absurd (none_some (shelf id) _ m.1 k.2.stands.present)
 one_amiss shelf wanted id (Missing at) Failed m k = absurd k
-one_amiss shelf wanted id (Missing at) (Damaged place found) m k = absurd (none_some (shelf id) _ m.1 k.1.present)
+one_amiss shelf wanted id (Missing at) (Damaged place found) m k = absurd (none_some (shelf id) _ m.1 k.1.there)
 one_amiss shelf wanted id (Missing at) NoMemory m k = absurd k
 one_amiss shelf wanted id (BadRecord at) (Missing place) m k = absurd (none_some (shelf id) _ k.1 m.1.present)
 one_amiss shelf wanted id (BadRecord at) (BadRecord place) m k = ap BadRecord (m.0 ∙ sym k.0)
 one_amiss shelf wanted id (BadRecord at) (BadLink place revision other) m k = absurd (m.1.none k.2.found (spelled shelf id k.2.found m.1.bytes k.2.stands m.1.present))
 one_amiss shelf wanted id (BadRecord at) Failed m k = absurd k
 one_amiss shelf wanted id (BadRecord at) (Damaged place found) m k =
-    absurd (k.1.other (k.1.digest ∙ ap sha1 (some_same (shelf id) _ _ k.1.present m.1.present) ∙ m.1.hash))
+    absurd (k.1.other (k.1.digest ∙ ap sha1 (some_same (shelf id) _ _ k.1.there m.1.present) ∙ m.1.hash))
 one_amiss shelf wanted id (BadRecord at) NoMemory m k = absurd k
 one_amiss shelf wanted id (BadLink at revision other) (Missing place) m k = absurd (none_some (shelf id) _ k.1 m.2.stands.present)
 one_amiss shelf wanted id (BadLink at revision other) (BadRecord place) m k = absurd (k.1.none m.2.found (spelled shelf id m.2.found k.1.bytes m.2.stands k.1.present))
@@ -82,17 +82,17 @@ one_amiss shelf wanted id (BadLink at revision other) (BadLink place number more
     ∙ ap (λ (x : ℕ). BadLink place number x) (m.1 ∙ sym k.1)
 one_amiss shelf wanted id (BadLink at revision other) Failed m k = absurd k
 one_amiss shelf wanted id (BadLink at revision other) (Damaged place found) m k =
-    absurd (k.1.other (k.1.digest ∙ hash_of shelf id m.2.found k.1.bytes m.2.stands k.1.present))
+    absurd (k.1.other (k.1.digest ∙ hash_of shelf id m.2.found k.1.bytes m.2.stands k.1.there))
 one_amiss shelf wanted id (BadLink at revision other) NoMemory m k = absurd k
 one_amiss shelf wanted id Failed b m k = absurd m
-one_amiss shelf wanted id (Damaged at found) (Missing place) m k = absurd (none_some (shelf id) _ k.1 m.1.present)
+one_amiss shelf wanted id (Damaged at found) (Missing place) m k = absurd (none_some (shelf id) _ k.1 m.1.there)
 one_amiss shelf wanted id (Damaged at found) (BadRecord place) m k =
-    absurd (m.1.other (m.1.digest ∙ ap sha1 (some_same (shelf id) _ _ m.1.present k.1.present) ∙ k.1.hash))
+    absurd (m.1.other (m.1.digest ∙ ap sha1 (some_same (shelf id) _ _ m.1.there k.1.present) ∙ k.1.hash))
 one_amiss shelf wanted id (Damaged at found) (BadLink place revision other) m k =
-    absurd (m.1.other (m.1.digest ∙ hash_of shelf id k.2.found m.1.bytes k.2.stands m.1.present))
+    absurd (m.1.other (m.1.digest ∙ hash_of shelf id k.2.found m.1.bytes k.2.stands m.1.there))
 one_amiss shelf wanted id (Damaged at found) Failed m k = absurd k
 one_amiss shelf wanted id (Damaged at found) (Damaged place other) m k =
-    let bytes = some_same (shelf id) m.1.bytes k.1.bytes m.1.present k.1.present in
+    let bytes = some_same (shelf id) m.1.bytes k.1.bytes m.1.there k.1.there in
     ap (λ (x : ObjectId). Damaged x found) (m.0 ∙ sym k.0) ∙ ap (λ (x : List ℕ). Damaged place x) (m.1.digest ∙ ap sha1 bytes ∙ sym k.1.digest)
 one_amiss shelf wanted id (Damaged at found) NoMemory m k = absurd k
 one_amiss shelf wanted id NoMemory b m k = absurd m

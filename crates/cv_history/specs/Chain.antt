@@ -4,7 +4,7 @@ use Rattle.sha1.specs.Sha1.{sha1}
 use Rattle.cv_base.specs.ObjectId.{object_id}
 use Rattle.cv_base.specs.declared.id.Kind.TheVariants.{History}
 use Rattle.cv_base.specs.declared.id.ObjectId.{ObjectId}
-use Rattle.cv_ports.specs.Shelf.{Shelf}
+use Rattle.cv_ports.specs.Shelf.{Shelf, HasOtherDigest}
 use Rattle.cv_history.specs.Record.{IsTyped, IsRecord, Spells, record_bytes}
 use Rattle.cv_history.specs.declared.chain_fault.ChainFault.{ChainFault}
 use Rattle.cv_history.specs.declared.chain_fault.ChainFault.TheVariants.{Missing, BadRecord, BadLink, Failed, Damaged, NoMemory}
@@ -39,13 +39,6 @@ abbrev pub Chain : (ObjectId → Record → Type 0) → ℕ → ObjectId → Lis
 Chain Holds zero id rs = rs ≡ []
 Chain Holds (suc n) id rs = Link Holds (Chain Holds n) (suc n) id rs
 
--- the bytes under the id have another digest
-pub record IsDamaged (shelf : Shelf) (id : ObjectId) (found : List ℕ) : Type 0 where
-  pub bytes : List ℕ
-  pub present : shelf id ≡ Some bytes
-  pub digest : found ≡ sha1 bytes
-  pub other : found ≢ id.hash
-
 -- the bytes under the id are no record
 pub record IsNoRecord (shelf : Shelf) (id : ObjectId) : Type 0 where
   pub bytes : List ℕ
@@ -66,7 +59,7 @@ IsAmiss shelf wanted id (Missing at) = (at ≡ id) × (shelf id ≡ None)
 IsAmiss shelf wanted id (BadRecord at) = (at ≡ id) × IsNoRecord shelf id
 IsAmiss shelf wanted id (BadLink at revision other) = (at ≡ id) × (other ≡ wanted) × IsOther shelf id revision wanted
 IsAmiss shelf wanted id Failed = ⊥
-IsAmiss shelf wanted id (Damaged at found) = (at ≡ id) × IsDamaged shelf id found
+IsAmiss shelf wanted id (Damaged at found) = (at ≡ id) × HasOtherDigest shelf id found
 IsAmiss shelf wanted id NoMemory = ⊥
 
 -- the record of this revision stands under the id, and the chain breaks before it

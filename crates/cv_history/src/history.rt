@@ -1,8 +1,7 @@
 //! The chain of records.
 ghost use Rattle.std.specs.Prelude.{◌≡◌, ◌≤◌, ◌+◌, List, reverse, IfOk, IsErrOf};
-ghost use Rattle.cv_base.specs.Counts.{HasCause};
+ghost use Rattle.cv_base.specs.Counts.{HasCause, raised};
 ghost use Rattle.cv_base.specs.Told.{WhereTold};
-ghost use Rattle.cv_ports.specs.Calls.{raised};
 ghost use Rattle.cv_history.specs.Chain.{Names, Chain, StandsAt, Breaks, Gives, IsList, IsBroken};
 ghost use Rattle.cv_history.specs.ChainInner.{GivesBack, Reads, IsParsed};
 ghost use Rattle.cv_history.specs.declared.chain_fault.ChainFault.{ChainFault as Fault};

@@ -1,8 +1,8 @@
 -- Paths at and below those of a catalogue's rows.
-use Rattle.std.proofs.Common.{◌≡◌, ◌≢◌, ℕ, ◌<◌, ◌≤◌, true, false, List, ◌∷◌, [], ◌++◌, length, get_or, is_some, refl, sym, ap, subst, arith, length-append, append-nil, inl, inr}
+use Rattle.std.proofs.Common.{◌≡◌, ◌≢◌, ℕ, ◌<◌, ◌≤◌, true, false, List, ◌∷◌, [], ◌++◌, length, get_or, refl, sym, ap, subst, arith, length-append, inl, inr}
 use Rattle.std.proofs.lemmas.Bool.{or_cases}
 use Rattle.cv_base.specs.Path.{Path, covers, overlap}
-use Rattle.cv_base.proofs.Laws.{behind-append, overlap-from_covers, covers_through, covers_below}
+use Rattle.cv_base.proofs.Laws.{overlap-from_covers, covers_itself, covers_through, covers_below}
 use Rattle.cv_rows.specs.Row.{holds_rows}
 use Rattle.cv_rows.specs.Catalogue.{Contents, IsCatalogue}
 use Rattle.cv_rows.specs.Places.{StandsAt, root, below}
@@ -15,9 +15,6 @@ use Rattle.cv_cut.proofs.Lemmas.{rest_is, transition_of, transition_long, nested
 use Rattle.std.specs.Prelude.{Contains}
 use Rattle.cv_load.proofs.Filling.{one_row}
 use Rattle.cv_load.proofs.Standing.{holds_not, entry_before}
-
-pub covers_itself : (p : Path) → covers p p ≡ true
-covers_itself p = subst (λ (q : Path). covers p q ≡ true) (append-nil p) (ap is_some (behind-append p []))
 
 pub covers_long : (p q : Path) → covers p q ≡ true → length p ≤ length q
 covers_long p q h = omega (arith, ap (λ (x : Path). length x) (rest_is p q h), length-append p (rest_of p q))

@@ -6,7 +6,7 @@ use Rattle.std.specs.FinMap.{get, empty, get-insert}
 use Rattle.cv_base.specs.PathOrder.{path_total}
 use Rattle.cv_base.specs.Path.{Path, covers}
 use Rattle.cv_base.specs.Unless.{IsUnless}
-use Rattle.cv_base.proofs.Laws.{some_there}
+use Rattle.cv_base.proofs.Laws.{some_there, covers_itself}
 use Rattle.cv_tree.specs.Changes.{has_place, insertion}
 use Rattle.cv_tree.specs.Tree.{Nodes, single, is_directory}
 use Rattle.cv_tree.specs.declared.node.Node.{Node}
@@ -26,7 +26,7 @@ use Rattle.cv_load.proofs.Growing.{StandsBelow}
 use Rattle.cv_load.proofs.Filling.{one_row}
 use Rattle.cv_load.proofs.Standing.{dir_of, so_root, so_below, stands_so}
 use Rattle.cv_load.proofs.LoadedTree.{single_entry}
-use Rattle.cv_load.proofs.Below.{covers_itself, covers_long, stands_covered, nothing_below, entries_apart, entry_below}
+use Rattle.cv_load.proofs.Below.{covers_long, stands_covered, nothing_below, entries_apart, entry_below}
 use Rattle.cv_cut.proofs.Lemmas.{transition_of, directory_node, holder_directory}
 
 -- ---- what an insertion tells

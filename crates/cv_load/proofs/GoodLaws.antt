@@ -8,7 +8,7 @@ use Rattle.cv_base.specs.ObjectId.{object_id}
 use Rattle.cv_base.specs.declared.id.ObjectId.{ObjectId}
 use Rattle.cv_base.specs.declared.id.Kind.TheVariants as id_kind
 use Rattle.cv_base.proofs.Laws.{not_both}
-use Rattle.cv_ports.specs.Shelf.{Shelf, HasMore}
+use Rattle.cv_ports.specs.Shelf.{Shelf, HasMore, HasOtherDigest}
 use Rattle.cv_tree.specs.Tree.{Nodes}
 use Rattle.cv_rows.specs.Catalogue.{Contents}
 use Rattle.cv_rows.specs.Places.{StandsAt}
@@ -24,7 +24,7 @@ use Rattle.cv_load.proofs.OneTree.{cut_there}
 use Rattle.cv_load.proofs.Standing.{same_contents}
 use Rattle.cv_load.proofs.ReachedCuts.{IsCanonical, there_is, decodes_at, own_entry, canonical_entry, content_there, canonical_reached}
 use Rattle.cv_cut.specs.Good.{HasFile, HasSize, IsGood, good, IsWholeAt}
-use Rattle.cv_cut.specs.Opening.{HasOtherDigest, IsDamaged}
+use Rattle.cv_cut.specs.Opening.{IsDamaged}
 use Rattle.cv_cut.proofs.Lemmas.{transition_long, one_decoding}
 
 -- ---- what is good, opened

@@ -5,7 +5,7 @@ pub use Rattle.cv_load.proofs.GoodTree.{a_tree_is_meant}
 -- where a hash means a tree nothing that is reached is lacking or bad
 pub use Rattle.cv_load.proofs.GoodLaws.{none_lacking, none_bad}
 -- where rows and nested entries of a catalogue stand, and what is below them
-pub use Rattle.cv_load.proofs.Below.{covers_itself, entries_apart, entry_below}
+pub use Rattle.cv_load.proofs.Below.{entries_apart, entry_below}
 -- the only node of a single node's tree
 pub use Rattle.cv_load.proofs.LoadedTree.{single_entry}
 -- a loop over a list has come to one element more, and to all

@@ -6,7 +6,9 @@ use Rattle.cv_base.specs.Path.{Path, covers}
 use Rattle.cv_base.specs.ObjectId.{object_id}
 use Rattle.cv_base.specs.declared.id.Kind.TheVariants as id_kind
 use Rattle.cv_base.specs.declared.id.ObjectId.{ObjectId}
-use Rattle.cv_ports.specs.Calls.{raised, raised_by}
+use Rattle.cv_base.specs.Counts.{raised}
+use Rattle.cv_base.proofs.Laws.{covers_itself}
+use Rattle.cv_ports.specs.Calls.{raised_by}
 use Rattle.cv_ports.specs.Shelf.{Shelf}
 use Rattle.cv_rows.specs.Catalogue.{Contents, IsCatalogue}
 use Rattle.cv_rows.specs.declared.nested.Nested.{Nested}
@@ -18,7 +20,7 @@ use Rattle.cv_load.specs.Known.{is_known}
 use Rattle.cv_load.specs.NewFetches.{ReachesNew, new_root, new_nested, VisitedNew, FetchesNew}
 use Rattle.cv_load.specs.NewFetchesInner.{ChecksBelow}
 use Rattle.cv_load.proofs.LoadedTree.{place_at, at_root_place}
-use Rattle.cv_load.proofs.Below.{covers_itself, entries_apart}
+use Rattle.cv_load.proofs.Below.{entries_apart}
 use Rattle.cv_load.proofs.Fetching.{pairs_append, raised_more, inside_below, IsInsideFirst}
 use Rattle.cv_cut.specs.Opening.{IsNestedCatalogue}
 use Rattle.cv_cut.proofs.Lemmas.{transition_of}

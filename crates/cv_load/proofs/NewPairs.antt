@@ -6,6 +6,7 @@ use Rattle.cv_base.specs.Path.{Path, covers}
 use Rattle.cv_base.specs.ObjectId.{object_id}
 use Rattle.cv_base.specs.declared.id.Kind.TheVariants as id_kind
 use Rattle.cv_base.specs.declared.id.ObjectId.{ObjectId}
+use Rattle.cv_base.proofs.Laws.{covers_itself}
 use Rattle.cv_ports.specs.Shelf.{Shelf}
 use Rattle.cv_rows.specs.Catalogue.{Contents, IsCatalogue}
 use Rattle.cv_rows.specs.declared.nested.Nested.{Nested}
@@ -16,7 +17,7 @@ use Rattle.cv_load.specs.Known.{is_known}
 use Rattle.cv_load.specs.NewFetches.{ReachesNew, new_root, new_nested, IsNewPair, IsNewList}
 use Rattle.cv_load.specs.NewFetchesInner.{AddsBelow}
 use Rattle.cv_load.proofs.LoadedTree.{place_at, at_root_place}
-use Rattle.cv_load.proofs.Below.{covers_itself, entries_apart}
+use Rattle.cv_load.proofs.Below.{entries_apart}
 use Rattle.cv_load.proofs.Fetching.{pairs_append, inside_below, IsInsideFirst}
 
 module _ {shelf : Shelf} {known : KnownSet} {top : List ℕ} where

@@ -1,17 +1,16 @@
 -- On a shelf a hash means one tree at most.
-use Rattle.std.proofs.Common.{◌≡◌, ℕ, zero, suc, ◌+◌, ◌<◌, ◌≤◌, Bool, true, false, ◌&&◌, List, [], ◌∷◌, ◌++◌, length, Some, None, IsTrue, IsSome, is_some, refl, sym, ap, ◌∙◌, arith, length-append}
-use Rattle.std.specs.declared.option.Option.{Option}
+use Rattle.std.proofs.Common.{◌≡◌, ℕ, zero, suc, ◌+◌, ◌<◌, ◌≤◌, true, false, ◌&&◌, List, [], ◌∷◌, ◌++◌, length, Some, None, IsTrue, IsSome, refl, sym, ap, ◌∙◌, arith, length-append}
 use Rattle.std.specs.FinMap.{get, same_map}
 use Rattle.sha1.specs.Sha1.{sha1}
 use Rattle.cv_base.specs.Path.{Path}
 use Rattle.cv_base.specs.PathOrder.{path_total, path_exact}
-use Rattle.cv_base.specs.Marker.{marker}
 use Rattle.cv_base.specs.ObjectId.{object_id}
 use Rattle.cv_base.specs.declared.id.Kind.TheVariants.{Catalogue}
 use Rattle.cv_ports.specs.Shelf.{Shelf}
-use Rattle.cv_tree.specs.Tree.{Nodes, IsTree, is_directory, at, is_file}
+use Rattle.cv_tree.specs.Tree.{Nodes, IsTree, at}
 use Rattle.cv_tree.specs.declared.node.Node.{Node}
-use Rattle.cv_tree.proofs.Laws.{get-at, at-at}
+use Rattle.cv_base.proofs.Laws.{first_true, some_there}
+use Rattle.cv_tree.proofs.Laws.{get-at, at-at, some_directory}
 use Rattle.cv_rows.specs.Catalogue.{catalogue_bytes}
 use Rattle.cv_rows.proofs.Lemmas.{one_file, has_file}
 use Rattle.cv_cut.specs.Cuts.{is_near, is_inner, is_cut}
@@ -24,13 +23,9 @@ use Rattle.cv_cut.specs.Region.{IsNear}
 
 -- ---- what stands at two cuts is the same where their regions are, and what stands at the other cuts
 
-some_directory : (o : Option Node) (b : Bool) → (is_directory o && b) ≡ true → (node : Node) × (o ≡ Some node)
-some_directory None b h = absurd cc
-some_directory (Some node) b h = (node, refl)
-
 inner_there : (u : Nodes) (d : Path) → IsTrue (is_inner u d) → (node : Node) × (get u d ≡ Some node)
 inner_there u [] h = absurd cc
-inner_there u (a ∷ p) h = some_directory (get u (a ∷ p)) (is_file (get u ((a ∷ p) ++ marker ∷ []))) h
+inner_there u (a ∷ p) h = some_there (get u (a ∷ p)) (some_directory (get u (a ∷ p)) (first_true _ _ h))
 
 -- the paths of one region are paths of another, and so are its other cuts, at which the same stands
 record GoesOver (u v : Nodes) : Type 0 where
@@ -77,7 +72,7 @@ inner_cut t (b ∷ c) (a ∷ p) h = marked-at t (b ∷ c) (a ∷ p) ∙ h
 
 pub cut_there : (t : Nodes) (c : Path) → IsTree t → IsTrue (is_cut t c) → IsSome (get t c)
 cut_there t [] tree h = tree.part.root
-cut_there t (a ∷ p) tree h = ap is_some (some_directory (get t (a ∷ p)) (is_file (get t ((a ∷ p) ++ marker ∷ []))) h).1
+cut_there t (a ∷ p) tree h = some_directory (get t (a ∷ p)) (first_true _ _ h)
 
 -- ---- trees with the same catalogues
 

@@ -1,7 +1,6 @@
 -- Files whose contents haven't the sizes that their catalogue states.
-use Rattle.std.proofs.Common.{◌≡◌, ◌≢◌, ℕ, List, length, None, Some, refl, sym, ap, subst, ◌∙◌}
-use Rattle.std.specs.Prelude.{Contains, IsSomeAnd}
-use Rattle.std.specs.declared.option.Option.{Option}
+use Rattle.std.proofs.Common.{◌≡◌, ◌≢◌, ℕ, List, Some, sym, ap, subst, ◌∙◌}
+use Rattle.std.specs.Prelude.{Contains}
 use Rattle.cv_base.specs.ObjectId.{object_id}
 use Rattle.cv_base.specs.declared.id.ObjectId.{ObjectId}
 use Rattle.cv_base.specs.declared.id.Kind.TheVariants as id_kind
@@ -13,11 +12,7 @@ use Rattle.cv_cut.specs.Reached.{ReachedFrom, Place, HasCatalogue, ReachesCatalo
 use Rattle.cv_cut.specs.Opening.{MayFail}
 use Rattle.cv_cut.specs.declared.load_fault.LoadFault.{LoadFault}
 use Rattle.cv_cut.specs.declared.load_fault.LoadFault.TheVariants as fault
-use Rattle.cv_cut.proofs.Lemmas.{Unsized, misstating_bad}
-
-misstated : (o : Option (List ℕ)) (size : ℕ) → IsSomeAnd o (λ bytes. length bytes ≢ size) → (bytes : List ℕ) × (o ≡ Some bytes) × (length bytes ≢ size)
-misstated None size h = absurd h
-misstated (Some bytes) size h = (bytes, refl, h)
+use Rattle.cv_cut.proofs.Lemmas.{Unsized, misstated, misstating_bad}
 
 -- why the content of a file of a reached catalogue hasn't its size
 pub file_unsized : (shelf : Shelf) (id : ObjectId) (c : Contents) (r : Row) (hash : List ℕ) (f : LoadFault) → id.kind ≡ id_kind.Catalogue → Contains c.rows r → r.kind ≡ File → r.hash ≡ Some hash

@@ -13,7 +13,8 @@ use Rattle.cv_vault.specs.Disk.{Disk, Slot, File, Settled, IsCalm, slot}
 use Rattle.cv_vault.specs.Walks.{Nothing, Gains, Change, Stays, Comes}
 use Rattle.cv_vault.proofs.Laws.{same_or_not}
 use Rattle.cv_objects.specs.Names.{way_name}
-use Rattle.cv_objects.specs.Batches.{IsReady, is_there, is_coming, AreNamed, IsApart, BringsOne, Brings, IsOne, AreReady, Has, SparesOthers, Shows, ShownIn, by_one, by_two, by_itself}
+use Rattle.cv_base.specs.Objects.{AreNamed}
+use Rattle.cv_objects.specs.Batches.{IsReady, is_there, is_coming, IsApart, BringsOne, Brings, IsOne, AreReady, Has, SparesOthers, Shows, ShownIn, by_one, by_two, by_itself}
 use Rattle.cv_objects.specs.BatchesInner.{Waits, IsWritten, IsPlaced, IsApartFrom, AllWait, stands, can}
 use Rattle.cv_objects.specs.declared.store_fault.StoreFault.{StoreFault}
 use Rattle.cv_objects.specs.declared.store_fault.StoreFault.TheVariants.{Collision, Failed, Damaged, NoMemory}

@@ -11,7 +11,8 @@ use Rattle.cv_vault.specs.Names.{on_way}
 use Rattle.cv_vault.specs.Disk.{Disk}
 use Rattle.cv_vault.specs.Walks.{Gains}
 use Rattle.cv_objects.specs.Names.{standing_on}
-use Rattle.cv_objects.specs.Batches.{AreNamed, AreStored, Agrees, Brings, IsGained, IsOne, ShownIn, by_one, by_two, by_itself}
+use Rattle.cv_base.specs.Objects.{AreNamed}
+use Rattle.cv_objects.specs.Batches.{AreStored, Agrees, Brings, IsGained, IsOne, ShownIn, by_one, by_two, by_itself}
 use Rattle.cv_objects.specs.Coming.{ShelfGains, HasAll, ClashesOn}
 use Rattle.cv_objects.specs.declared.store_fault.StoreFault.TheVariants.{Collision, Damaged}
 use Rattle.cv_objects.proofs.Batching.{is_digest_of}

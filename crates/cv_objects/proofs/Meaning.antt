@@ -11,7 +11,8 @@ use Rattle.cv_vault.specs.Names.{on_way}
 use Rattle.cv_vault.specs.Disk.{Disk, Files}
 use Rattle.cv_vault.specs.Walks.{Change, Stays, Comes, Gains, Within}
 use Rattle.cv_objects.specs.Names.{is_digest, standing_on}
-use Rattle.cv_objects.specs.Batches.{AreNamed, AreHashed, HaveHashes, Brings, IsGained}
+use Rattle.cv_base.specs.Objects.{AreNamed}
+use Rattle.cv_objects.specs.Batches.{AreHashed, HaveHashes, Brings, IsGained}
 use Rattle.cv_base.proofs.Laws.{one_file_name}
 use Rattle.cv_objects.proofs.Naming.{digest_back}
 use Rattle.cv_objects.proofs.Batching.{is_digest_of}

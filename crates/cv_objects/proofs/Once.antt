@@ -5,7 +5,7 @@ use Rattle.std.specs.List.{filter, list_any}
 use Rattle.std.proofs.lemmas.List.{take_more}
 use Rattle.cv_base.specs.declared.id.ObjectId.{ObjectId}
 use Rattle.cv_base.specs.declared.object.Object.{Object}
-use Rattle.cv_base.proofs.Laws.{same_id-eq}
+use Rattle.cv_base.proofs.Laws.{same_id-eq, or_swap}
 use Rattle.cv_ports.specs.Objects.{same_id}
 use Rattle.cv_ports.specs.Shelf.{Shelf}
 use Rattle.cv_objects.specs.Fresh.{each_once, lacking}
@@ -37,13 +37,7 @@ once_push (y ∷ ys) x = by (once_push ys x) (has ys x) (same_id y x) refl refl
 
 has_push : (xs : List ObjectId) (y x : ObjectId) → has (xs ++ y ∷ []) x ≡ (same_id y x || has xs x)
 has_push [] y x = refl
-has_push (z ∷ zs) y x = ap (λ b. same_id z x || b) (has_push zs y x) ∙ swap (same_id z x) (same_id y x) (has zs x)
-  where
-    swap : (a b c : Bool) → (a || (b || c)) ≡ (b || (a || c))
-    swap true true c = refl
-    swap true false c = refl
-    swap false true c = refl
-    swap false false c = refl
+has_push (z ∷ zs) y x = ap (λ b. same_id z x || b) (has_push zs y x) ∙ or_swap (same_id z x) (same_id y x) (has zs x)
 
 -- ---- ids that are noted, against those that a shelf lacks
 

@@ -9,6 +9,7 @@ use Rattle.std.specs.declared.option.Option.{Option}
 use Rattle.cv_base.specs.Digest.{IsDigest}
 use Rattle.cv_base.specs.ObjectId.{file_name}
 use Rattle.cv_base.specs.declared.id.ObjectId.{ObjectId}
+use Rattle.cv_base.specs.Objects.{AreNamed}
 use Rattle.cv_base.specs.declared.object.Object.{Object}
 use Rattle.cv_ports.specs.Shelf.{Shelf}
 use Rattle.cv_vault.specs.Names.{Name, on_way}
@@ -18,10 +19,6 @@ use Rattle.cv_objects.specs.Names.{way_name, standing_on}
 use Rattle.cv_objects.specs.Fresh.{fresh_of}
 use Rattle.cv_objects.specs.declared.store_fault.StoreFault.{StoreFault}
 use Rattle.cv_objects.specs.declared.store_fault.StoreFault.TheVariants.{Collision, Failed, Damaged, NoMemory}
-
--- each object's id is that of its bytes
-pub record AreNamed (batch : List Object) : Type 0 where
-  pub each : (o : Object) → Contains batch o → o.id.hash ≡ sha1 o.bytes
 
 -- objects of one id have the same bytes
 pub record IsOne (batch : List Object) : Type 0 where

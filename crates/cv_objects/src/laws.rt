@@ -7,7 +7,8 @@ ghost use Rattle.cv_vault.specs.Names.{on_way};
 ghost use Rattle.cv_vault.specs.Disk.{Disk, Files};
 ghost use Rattle.cv_vault.specs.Walks.{Gains, Within};
 ghost use Rattle.cv_objects.specs.Names.{standing_on};
-ghost use Rattle.cv_objects.specs.Batches.{AreNamed, AreHashed, AreStored, HaveHashes, Agrees, Brings, IsGained, IsOne, ShownIn};
+ghost use Rattle.cv_base.specs.Objects.{AreNamed};
+ghost use Rattle.cv_objects.specs.Batches.{AreHashed, AreStored, HaveHashes, Agrees, Brings, IsGained, IsOne, ShownIn};
 ghost use Rattle.cv_objects.specs.Coming.{ShelfGains, HasAll, ClashesOn};
 ghost use Rattle.cv_objects.specs.declared.store_fault.StoreFault.TheVariants as fault;
 

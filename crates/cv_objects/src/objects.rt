@@ -12,7 +12,8 @@ ghost use Rattle.cv_vault.specs.Replace.{IsWaiting, Came, MovedIn, Replaced, Fou
 ghost use Rattle.cv_vault.specs.declared.vault.VaultFault.TheVariants as vault_fault;
 ghost use Rattle.cv_vault.proofs.Laws.{quiet_none, quiet_then, quiet_same};
 ghost use Rattle.cv_objects.specs.Names.{IsNoObject, standing_on};
-ghost use Rattle.cv_objects.specs.Batches.{AreNamed, AreReady, Brings, Brought, GivesFresh, IsApart, IsOne, IsRefusal, RefusesSettled, Stored, WroteAll};
+ghost use Rattle.cv_base.specs.Objects.{AreNamed};
+ghost use Rattle.cv_objects.specs.Batches.{AreReady, Brings, Brought, GivesFresh, IsApart, IsOne, IsRefusal, RefusesSettled, Stored, WroteAll};
 ghost use Rattle.cv_objects.specs.declared.store_fault.StoreFault.TheVariants as fault;
 
 use crate::batch::clash_in;

@@ -52,10 +52,8 @@ fn note_hash(
 ) -> Result<(), NoMemory>
     ensures { OnOk result (Updates bytes_cmp places.old places.new hash (Some place)) }
 {
-    match places.insert(hash, place) {
-        Ok(_) => Ok(()),
-        Err(_) => Err(NoMemory),
-    }
+    places.insert(hash, place)?;
+    Ok(())
 }
 
 /// Notes the place of an id.

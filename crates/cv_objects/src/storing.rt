@@ -9,7 +9,8 @@ ghost use Rattle.cv_vault.specs.Disk.{IsCalm, Syncs};
 ghost use Rattle.cv_vault.specs.Moments.{Calls, OnlyReads};
 ghost use Rattle.cv_vault.specs.declared.vault.VaultFault.TheVariants as vault_fault;
 ghost use Rattle.cv_vault.specs.Walks.{Walks, Nothing, SparesIn, BringsNothing};
-ghost use Rattle.cv_objects.specs.Batches.{IsApart, WroteAll, Brought, Stored, Brings, BringsOne, IsRefusal, RefusesSettled, AreNamed, AreReady, IsOne};
+ghost use Rattle.cv_base.specs.Objects.{AreNamed};
+ghost use Rattle.cv_objects.specs.Batches.{IsApart, WroteAll, Brought, Stored, Brings, BringsOne, IsRefusal, RefusesSettled, AreReady, IsOne};
 ghost use Rattle.cv_objects.specs.BatchesInner.{Compares, IsApartFrom, Looked, Wrote, WroteAbsent, Placed, PlacedAll, Waits, AllWait};
 ghost use Rattle.cv_objects.specs.declared.store_fault.StoreFault.TheVariants as fault;
 

@@ -1,6 +1,6 @@
 //! Digests are those of `sha1sum`: of `hello` and of `world`, each with a newline.
 ghost use Rattle.std.specs.Prelude.{IfOk, OnOk};
-ghost use Rattle.cv_objects.specs.Batches.{AreNamed};
+ghost use Rattle.cv_base.specs.Objects.{AreNamed};
 
 use cv_base::{Bytes, Kind, Object, ObjectId};
 use cv_objects::{Objects, StoreFault};
@@ -9,16 +9,33 @@ use cv_vault::{MemoryVault, Vault};
 use std::alloc::Global;
 use std::test::Fail;
 
-fn hello() -> [u8; 20] {
-    [
-        245, 114, 211, 150, 250, 233, 32, 102, 40, 113, 79, 178, 206, 0, 247, 46, 148, 242, 37, 143,
-    ]
+// Objects in a vault in memory.
+type TestObjects = Objects<MemoryVault>;
+
+const HELLO: [u8; 20] = [
+    245, 114, 211, 150, 250, 233, 32, 102, 40, 113, 79, 178, 206, 0, 247, 46, 148, 242, 37, 143,
+];
+
+const WORLD: [u8; 20] = [
+    149, 145, 129, 140, 7, 233, 0, 219, 126, 30, 11, 196, 184, 132, 201, 69, 230, 166, 27, 36,
+];
+
+const HELLO_NAME: &str = "data/f5/72d396fae9206628714fb2ce00f72e94f2258f";
+
+const WORLD_NAME: &str = "data/95/91818c07e900db7e1e0bc4b884c945e6a61b24C";
+
+fn hello() -> ObjectId {
+    ObjectId {
+        hash: HELLO,
+        kind: Kind::Plain,
+    }
 }
 
-fn world() -> [u8; 20] {
-    [
-        149, 145, 129, 140, 7, 233, 0, 219, 126, 30, 11, 196, 184, 132, 201, 69, 230, 166, 27, 36,
-    ]
+fn world() -> ObjectId {
+    ObjectId {
+        hash: WORLD,
+        kind: Kind::Catalogue,
+    }
 }
 
 // One object more.
@@ -32,55 +49,97 @@ fn add(alloc: Global, batch: &mut Vec<Object>, kind: Kind, bytes: &[u8]) -> Resu
     Ok(())
 }
 
-// Three objects, the last of which is the first again.
-fn three(alloc: Global) -> Result<Vec<Object>, Fail>
+// Three objects, the last of which is the first again, or so many of them.
+fn three(alloc: Global, count: u64) -> Result<Vec<Object>, Fail>
     ensures { IfOk result (λ batch. AreNamed batch.items) }
 {
     let mut batch = Vec::new(alloc);
     add(alloc, &mut batch, Kind::Catalogue, b"world\n")?;
+    if count == 1 {
+        return Ok(batch);
+    }
     add(alloc, &mut batch, Kind::Plain, b"hello\n")?;
+    if count == 2 {
+        return Ok(batch);
+    }
     add(alloc, &mut batch, Kind::Catalogue, b"world\n")?;
     Ok(batch)
 }
 
-// Whether the vault has just the three under their names.
-fn has_three(vault: &mut MemoryVault) -> Result<bool, Fail> {
-    let first = vault.read("data/95/91818c07e900db7e1e0bc4b884c945e6a61b24C")?;
-    let second = vault.read("data/f5/72d396fae9206628714fb2ce00f72e94f2258f")?;
-    let names = vault.list("data/")?;
-    let (Some(first), Some(second)) = (first, second) else {
-        return Ok(false);
+// The objects in a vault whose calls of these numbers fail.
+fn empty(alloc: Global, failing: Vec<u64>) -> Result<TestObjects, Fail> {
+    Ok(Objects::new(MemoryVault::new(alloc, failing)?))
+}
+
+// The ids of a batch that are fresh.
+fn fresh_of(
+    alloc: Global,
+    objects: &mut TestObjects,
+    batch: &[Object],
+) -> Result<Vec<ObjectId>, StoreFault> {
+    objects.fresh(alloc, batch)
+}
+
+// Those of the three objects.
+fn fresh(
+    alloc: Global,
+    objects: &mut TestObjects,
+) -> Result<Result<Vec<ObjectId>, StoreFault>, Fail> {
+    let batch = three(alloc, 3)?;
+    Ok(fresh_of(alloc, objects, batch.as_slice()))
+}
+
+// Stores so many of the three.
+fn store(
+    alloc: Global,
+    objects: &mut TestObjects,
+    count: u64,
+) -> Result<Result<(), StoreFault>, Fail> {
+    let batch = three(alloc, count)?;
+    Ok(objects.store(alloc, batch.as_slice()))
+}
+
+// Whether a name has these bytes.
+fn has(vault: &mut MemoryVault, name: &str, bytes: &[u8]) -> Result<bool, Fail> {
+    match vault.read(name)? {
+        Some(file) => Ok(file.as_slice() == bytes),
+        None => Ok(false),
+    }
+}
+
+// How many names of objects have a file.
+fn name_count(vault: &mut MemoryVault) -> Result<usize, Fail> {
+    Ok(vault.list("data/")?.len())
+}
+
+// Whether just the three stand under their names.
+fn has_three(objects: TestObjects) -> Result<bool, Fail> {
+    let mut vault = objects.into_vault();
+    let first = has(&mut vault, WORLD_NAME, b"world\n")?;
+    let second = has(&mut vault, HELLO_NAME, b"hello\n")?;
+    Ok(first && second && name_count(&mut vault)? == 2)
+}
+
+// Whether the shelf serves the second of them, and says how many bytes it has.
+fn serves(alloc: Global, objects: &mut TestObjects) -> Result<bool, Fail> {
+    let served = match objects.fetch(alloc, &hello())? {
+        Some(found) => found.as_slice() == b"hello\n".as_slice(),
+        None => false,
     };
-    Ok(
-        first.as_slice() == b"world\n".as_slice()
-            && second.as_slice() == b"hello\n".as_slice()
-            && names.len() == 2,
-    )
+    Ok(served && objects.length(alloc, &hello())? == Some(6))
 }
 
 #[test]
 fn stores_a_batch_under_the_names_of_its_ids(rt: HostRuntime) -> Result<(), Fail> {
     let alloc = rt.alloc();
-    let mut objects = Objects::new(MemoryVault::new(alloc, Vec::new(alloc))?);
-    let batch = three(alloc)?;
-    let fresh = objects.fresh(alloc, batch.as_slice())?;
-    let first = ObjectId {
-        hash: world(),
-        kind: Kind::Catalogue,
-    };
-    let plain = ObjectId {
-        hash: hello(),
-        kind: Kind::Plain,
-    };
-    assert!(rt; fresh.as_slice() == [first, plain].as_slice());
-    assert_eq!(rt; objects.store(alloc, batch.as_slice()), Ok(()));
-    assert!(rt; objects.fresh(alloc, batch.as_slice())?.is_empty());
+    let mut objects = empty(alloc, Vec::new(alloc))?;
+    let ids = fresh(alloc, &mut objects)??;
+    assert!(rt; ids.as_slice() == [world(), hello()].as_slice());
+    assert_eq!(rt; store(alloc, &mut objects, 3)?, Ok(()));
+    assert!(rt; fresh(alloc, &mut objects)??.is_empty());
     assert_eq!(rt; objects.settle(), Ok(()));
-    let found = objects.fetch(alloc, &plain)?;
-    assert!(rt; found.is_some_and(|bytes| bytes.as_slice() == b"hello\n".as_slice()));
-    assert_eq!(rt; objects.length(alloc, &plain), Ok(Some(6)));
-    let mut vault = objects.into_vault();
-    assert!(rt; has_three(&mut vault)?);
+    assert!(rt; serves(alloc, &mut objects)?);
+    assert!(rt; has_three(objects)?);
     Ok(())
 }
 
@@ -90,12 +149,10 @@ fn stores_again(alloc: Global, call: u64, made: bool) -> Result<(bool, bool), Fa
     if made {
         failing.push(call)?;
     }
-    let mut objects = Objects::new(MemoryVault::new(alloc, failing)?);
-    let batch = three(alloc)?;
-    let failed = objects.store(alloc, batch.as_slice()) == Err(StoreFault::Failed);
-    objects.store(alloc, batch.as_slice())?;
-    let mut vault = objects.into_vault();
-    Ok((failed, has_three(&mut vault)?))
+    let mut objects = empty(alloc, failing)?;
+    let failed = store(alloc, &mut objects, 3)? == Err(StoreFault::Failed);
+    store(alloc, &mut objects, 3)??;
+    Ok((failed, has_three(objects)?))
 }
 
 #[test]
@@ -112,13 +169,9 @@ fn a_store_goes_on_where_an_earlier_one_failed(rt: HostRuntime) -> Result<(), Fa
 
 // Two stores, the second of a batch that the first brought in part: whether it ends well where the call of this number fails.
 fn stores_more(alloc: Global, call: u64) -> Result<bool, Fail> {
-    let failing = vec![in alloc; call]?;
-    let mut objects = Objects::new(MemoryVault::new(alloc, failing)?);
-    let mut batch = Vec::new(alloc);
-    add(alloc, &mut batch, Kind::Catalogue, b"world\n")?;
-    objects.store(alloc, batch.as_slice())?;
-    add(alloc, &mut batch, Kind::Plain, b"hello\n")?;
-    Ok(objects.store(alloc, batch.as_slice()).is_ok())
+    let mut objects = empty(alloc, vec![in alloc; call]?)?;
+    store(alloc, &mut objects, 1)??;
+    Ok(store(alloc, &mut objects, 2)?.is_ok())
 }
 
 #[test]
@@ -132,31 +185,36 @@ fn a_store_behind_one_that_ended_well_begins_without_a_sync(rt: HostRuntime) -> 
     Ok(())
 }
 
+// Objects in whose vault `world` stands under the name of `hello`.
+fn damaged(alloc: Global) -> Result<TestObjects, Fail> {
+    let mut vault = MemoryVault::new(alloc, Vec::new(alloc))?;
+    vault.write(HELLO_NAME, b"world\n")?;
+    Ok(Objects::new(vault))
+}
+
+// A batch of `hello`, and of `world` under its id.
+fn colliding(alloc: Global) -> Result<Vec<Object>, Fail> {
+    let mut batch = Vec::new(alloc);
+    for text in ["hello\n", "world\n"] {
+        let bytes = Bytes::from_slice(alloc, text.as_bytes())?;
+        batch.push(Object { id: hello(), bytes })?;
+    }
+    Ok(batch)
+}
+
 #[test]
 fn other_bytes_under_an_id_are_refused(rt: HostRuntime) -> Result<(), Fail> {
     let alloc = rt.alloc();
-    let mut vault = MemoryVault::new(alloc, Vec::new(alloc))?;
-    vault.write("data/f5/72d396fae9206628714fb2ce00f72e94f2258f", b"world\n")?;
-    let mut objects = Objects::new(vault);
-    let id = ObjectId {
-        hash: hello(),
-        kind: Kind::Plain,
+    let mut objects = damaged(alloc)?;
+    let fault = StoreFault::Damaged {
+        id: hello(),
+        found: WORLD,
     };
-    let damaged = StoreFault::Damaged { id, found: world() };
-    let batch = three(alloc)?;
-    assert!(rt;
-        objects
-            .fresh(alloc, batch.as_slice())
-            .is_err_and(|fault| fault == damaged)
-    );
-    assert_eq!(rt; objects.store(alloc, batch.as_slice()), Err(damaged));
-    let mut other = Vec::new(alloc);
-    add(alloc, &mut other, Kind::Plain, b"hello\n")?;
-    let bytes = Bytes::from_slice(alloc, b"world\n")?;
-    other.push(Object { id, bytes })?;
-    let fault = objects.fresh(alloc, other.as_slice());
-    assert!(rt; fault.is_err_and(|fault| fault == StoreFault::Collision(id)));
-    let mut vault = objects.into_vault();
-    assert!(rt; vault.list("data/")?.len() == 1);
+    assert!(rt; fresh(alloc, &mut objects)?.err() == Some(fault));
+    assert_eq!(rt; store(alloc, &mut objects, 3)?, Err(fault));
+    let batch = colliding(alloc)?;
+    let refused = fresh_of(alloc, &mut objects, batch.as_slice()).err();
+    assert!(rt; refused == Some(StoreFault::Collision(hello())));
+    assert_eq!(rt; name_count(&mut objects.into_vault())?, 1);
     Ok(())
 }

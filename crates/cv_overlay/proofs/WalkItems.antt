@@ -8,16 +8,16 @@ use Rattle.std.specs.Ordering.{is_eq, ordering_then}
 use Rattle.std.specs.Cmp.Lexicographic.{nat_list_cmp_total}
 use Rattle.std.specs.List.{AllByRecursion}
 use Rattle.std.specs.List.Sorted.{IsStrictlySortedBy}
-use Rattle.cv_base.specs.Path.{Path, IsPath, same_name, same_path}
+use Rattle.cv_base.specs.Path.{Path, IsPath, same_name, same_path, with_slash}
 use Rattle.cv_base.specs.PathOrder.{same_path_is, same_name_is, same_name_itself}
 use Rattle.cv_base.specs.BytesOrder.{bytes_cmp}
-use Rattle.cv_base.proofs.Laws.{cmp-behind}
+use Rattle.cv_base.proofs.Laws.{cmp-behind, or_swap}
 use Rattle.cv_ports.specs.declared.folder.FolderItem.{FolderItem}
 use Rattle.cv_ports.specs.Folder.{FolderView, Ascend, IsOrdered, names_of}
 use Rattle.cv_overlay.specs.declared.event.Event.{Event}
 use Rattle.cv_overlay.specs.declared.event.Event.TheVariants.{Item, Below}
 use Rattle.cv_overlay.specs.Walk.{Visit, path_of, paths_of, takes, is_dir, is_way, item_named, item_from, found_at, IsWalk}
-use Rattle.cv_overlay.specs.EventsInner.{slashed, goes_before, put_below, placed_all, visits_of, visits_deep}
+use Rattle.cv_overlay.specs.EventsInner.{goes_before, put_below, placed_all, visits_of, visits_deep}
 use Rattle.cv_overlay.proofs.Limits.{takes_depth, takes_path, depth_with}
 use Rattle.cv_overlay.proofs.WalkOrder.{AreDeeper, are_deeper, ascend_deep, IsBehind, IsOf, all_map, of_below}
 
@@ -56,11 +56,11 @@ item_in n (Below name ∷ es) = item_in n es
 
 item_in-put : (n name : List ℕ) (es : List Event) → item_in n (put_below name es) ≡ item_in n es
 item_in-put n name [] = refl
-item_in-put n name (Item item ∷ es) = elim (goes_before (slashed name) (Item item)) as (λ b. item_in n (cond b (Below name ∷ Item item ∷ es) (Item item ∷ put_below name es)) ≡ item_in n (Item item ∷ es)) [
+item_in-put n name (Item item ∷ es) = elim (goes_before (with_slash name) (Item item)) as (λ b. item_in n (cond b (Below name ∷ Item item ∷ es) (Item item ∷ put_below name es)) ≡ item_in n (Item item ∷ es)) [
   | true ↦ refl
   | false ↦ ap (λ (o : Option FolderItem). cond (same_name item.name n) (Some item) o) (item_in-put n name es)
 ]
-item_in-put n name (Below m ∷ es) = elim (goes_before (slashed name) (Below m)) as (λ b. item_in n (cond b (Below name ∷ Below m ∷ es) (Below m ∷ put_below name es)) ≡ item_in n (Below m ∷ es)) [
+item_in-put n name (Below m ∷ es) = elim (goes_before (with_slash name) (Below m)) as (λ b. item_in n (cond b (Below name ∷ Below m ∷ es) (Below m ∷ put_below name es)) ≡ item_in n (Below m ∷ es)) [
   | true ↦ refl
   | false ↦ item_in-put n name es
 ]
@@ -90,18 +90,13 @@ has_below n [] = false
 has_below n (Item item ∷ es) = has_below n es
 has_below n (Below name ∷ es) = same_name name n || has_below n es
 
-or_swap : (a b c : Bool) → (a || (b || c)) ≡ (b || (a || c))
-or_swap true true c = refl
-or_swap true false c = refl
-or_swap false b c = refl
-
 has_below-put : (n name : List ℕ) (es : List Event) → has_below n (put_below name es) ≡ (same_name name n || has_below n es)
 has_below-put n name [] = refl
-has_below-put n name (Item item ∷ es) = elim (goes_before (slashed name) (Item item)) as (λ b. has_below n (cond b (Below name ∷ Item item ∷ es) (Item item ∷ put_below name es)) ≡ (same_name name n || has_below n es)) [
+has_below-put n name (Item item ∷ es) = elim (goes_before (with_slash name) (Item item)) as (λ b. has_below n (cond b (Below name ∷ Item item ∷ es) (Item item ∷ put_below name es)) ≡ (same_name name n || has_below n es)) [
   | true ↦ refl
   | false ↦ has_below-put n name es
 ]
-has_below-put n name (Below m ∷ es) = elim (goes_before (slashed name) (Below m)) as (λ b. has_below n (cond b (Below name ∷ Below m ∷ es) (Below m ∷ put_below name es)) ≡ (same_name name n || (same_name m n || has_below n es))) [
+has_below-put n name (Below m ∷ es) = elim (goes_before (with_slash name) (Below m)) as (λ b. has_below n (cond b (Below name ∷ Below m ∷ es) (Below m ∷ put_below name es)) ≡ (same_name name n || (same_name m n || has_below n es))) [
   | true ↦ refl
   | false ↦ ap (λ (t : Bool). same_name m n || t) (has_below-put n name es) ∙ or_swap (same_name m n) (same_name name n) (has_below n es)
 ]

@@ -7,7 +7,7 @@ use Rattle.std.specs.Cmp.{IsTotalOrder, tied_itself}
 use Rattle.std.specs.Cmp.Lexicographic.{nat_list_cmp_total}
 use Rattle.std.specs.List.{AllByRecursion}
 use Rattle.std.specs.List.Sorted.{IsStrictlySortedBy}
-use Rattle.cv_base.specs.Path.{Path, path_cmp}
+use Rattle.cv_base.specs.Path.{Path, path_cmp, with_slash}
 use Rattle.cv_base.specs.PathOrder.{path_total, name_exact}
 use Rattle.cv_base.specs.BytesOrder.{bytes_cmp}
 use Rattle.cv_base.proofs.Laws.{cmp-behind}
@@ -16,13 +16,13 @@ use Rattle.cv_ports.specs.Folder.{FolderView, Ascend, IsOrdered, names_of}
 use Rattle.cv_overlay.specs.declared.event.Event.{Event}
 use Rattle.cv_overlay.specs.declared.event.Event.TheVariants.{Item, Below}
 use Rattle.cv_overlay.specs.Walk.{Visit, path_of, paths_of, with_slashes, walk_cmp, takes, is_dir}
-use Rattle.cv_overlay.specs.EventsInner.{slashed, goes_before, put_below, placed_all, visits_of, visits_deep}
+use Rattle.cv_overlay.specs.EventsInner.{goes_before, put_below, placed_all, visits_of, visits_deep}
 
 -- ---- the order of events
 -- an event as the names that its visits begin with
 abbrev pub names_at : Event → Path
 names_at (Item item) = item.name ∷ []
-names_at (Below name) = slashed name ∷ [] ∷ []
+names_at (Below name) = with_slash name ∷ [] ∷ []
 
 abbrev pub Earlier : Event → Event → Type 0
 Earlier d e = path_cmp (names_at d) (names_at e) ≡ Less
@@ -72,42 +72,42 @@ own_earlier : (item : FolderItem) → Earlier (Item item) (Below item.name)
 own_earlier item = rw (less_longer item.name item.name 47 (itself item.name)) refl
 
 -- where a directory's walk doesn't go before an event, the event is earlier
-goes_is : (name : List ℕ) (e : Event) → goes_before (slashed name) e ≡ true → Earlier (Below name) e
-goes_is name (Item item) h = elim (bytes_cmp (slashed name) item.name) as (λ r. is_lt r ≡ true → ordering_then r Greater ≡ Less) [ Less ↦ λ _. refl | Equal ↦ λ k. cc | Greater ↦ λ k. cc ] h
-goes_is name (Below other) h = elim (bytes_cmp (slashed name) (slashed other)) as (λ r. is_lt r ≡ true → ordering_then r Equal ≡ Less) [ Less ↦ λ _. refl | Equal ↦ λ k. cc | Greater ↦ λ k. cc ] h
+goes_is : (name : List ℕ) (e : Event) → goes_before (with_slash name) e ≡ true → Earlier (Below name) e
+goes_is name (Item item) h = elim (bytes_cmp (with_slash name) item.name) as (λ r. is_lt r ≡ true → ordering_then r Greater ≡ Less) [ Less ↦ λ _. refl | Equal ↦ λ k. cc | Greater ↦ λ k. cc ] h
+goes_is name (Below other) h = elim (bytes_cmp (with_slash name) (with_slash other)) as (λ r. is_lt r ≡ true → ordering_then r Equal ≡ Less) [ Less ↦ λ _. refl | Equal ↦ λ k. cc | Greater ↦ λ k. cc ] h
 
-slash_apart : (a b : List ℕ) → slashed a ≡ slashed b → a ≡ b
+slash_apart : (a b : List ℕ) → with_slash a ≡ with_slash b → a ≡ b
 slash_apart [] [] h = refl
 slash_apart [] (y ∷ []) h = cc
 slash_apart [] (y ∷ z ∷ b) h = cc
 slash_apart (x ∷ []) [] h = cc
 slash_apart (x ∷ z ∷ a) [] h = cc
-slash_apart (x ∷ a) (y ∷ b) h = let first : x ≡ y = cc in let rest : slashed a ≡ slashed b = cc in λ i. first i ∷ slash_apart a b rest i
+slash_apart (x ∷ a) (y ∷ b) h = let first : x ≡ y = cc in let rest : with_slash a ≡ with_slash b = cc in λ i. first i ∷ slash_apart a b rest i
 
-stays_is : (name : List ℕ) (e : Event) → bytes_cmp name (name_of e) ≡ Less → goes_before (slashed name) e ≡ false → Earlier e (Below name)
+stays_is : (name : List ℕ) (e : Event) → bytes_cmp name (name_of e) ≡ Less → goes_before (with_slash name) e ≡ false → Earlier e (Below name)
 stays_is name (Item item) above h =
     let o : IsTotalOrder bytes_cmp = nat_list_cmp_total in
-    elim (bytes_cmp (slashed name) item.name) as (λ r. bytes_cmp (slashed name) item.name ≡ r → is_lt r ≡ false → Earlier (Item item) (Below name)) [
+    elim (bytes_cmp (with_slash name) item.name) as (λ r. bytes_cmp (with_slash name) item.name ≡ r → is_lt r ≡ false → Earlier (Item item) (Below name)) [
       | Less ↦ λ _ k. cc
-      | Equal ↦ λ e _. rw (o.antisymm item.name (slashed name), e) refl
-      | Greater ↦ λ e _. rw (o.antisymm item.name (slashed name), e) refl
+      | Equal ↦ λ e _. rw (o.antisymm item.name (with_slash name), e) refl
+      | Greater ↦ λ e _. rw (o.antisymm item.name (with_slash name), e) refl
     ] refl h
 stays_is name (Below other) above h =
     let o : IsTotalOrder bytes_cmp = nat_list_cmp_total in
-    elim (bytes_cmp (slashed name) (slashed other)) as (λ r. bytes_cmp (slashed name) (slashed other) ≡ r → is_lt r ≡ false → Earlier (Below other) (Below name)) [
+    elim (bytes_cmp (with_slash name) (with_slash other)) as (λ r. bytes_cmp (with_slash name) (with_slash other) ≡ r → is_lt r ≡ false → Earlier (Below other) (Below name)) [
       | Less ↦ λ _ k. cc
       | Equal ↦ λ e _. absurd (same e)
-      | Greater ↦ λ e _. rw (o.antisymm (slashed other) (slashed name), e) refl
+      | Greater ↦ λ e _. rw (o.antisymm (with_slash other) (with_slash name), e) refl
     ] refl h
   where
-    same : bytes_cmp (slashed name) (slashed other) ≡ Equal → ⊥
-    same e = let is : name ≡ other = slash_apart name other (name_exact (slashed name) (slashed other) e) in
+    same : bytes_cmp (with_slash name) (with_slash other) ≡ Equal → ⊥
+    same e = let is : name ≡ other = slash_apart name other (name_exact (with_slash name) (with_slash other) e) in
         let no : Equal ≡ Less = sym (tied_itself nat_list_cmp_total name) ∙ ap (bytes_cmp name) is ∙ above in cc
 
 -- ---- events stay in order
 put_all : (P : Event → Type 0) (name : List ℕ) (es : List Event) → P (Below name) → AllByRecursion P es → AllByRecursion P (put_below name es)
 put_all P name [] own all = (own, tt)
-put_all P name (e ∷ es) own all = elim (goes_before (slashed name) e) as (λ b. AllByRecursion P (cond b (Below name ∷ e ∷ es) (e ∷ put_below name es))) [
+put_all P name (e ∷ es) own all = elim (goes_before (with_slash name) e) as (λ b. AllByRecursion P (cond b (Below name ∷ e ∷ es) (e ∷ put_below name es))) [
   | true ↦ (own, all)
   | false ↦ (all.0, put_all P name es own all.1)
 ]
@@ -115,7 +115,7 @@ put_all P name (e ∷ es) own all = elim (goes_before (slashed name) e) as (λ b
 put_in_order : (name : List ℕ) (es : List Event) → AreAbove name es → AreInOrder es → AreInOrder (put_below name es)
 put_in_order name [] above order = (tt, tt)
 put_in_order name (e ∷ es) above order =
-    elim (goes_before (slashed name) e) as (λ b. goes_before (slashed name) e ≡ b → AreInOrder (cond b (Below name ∷ e ∷ es) (e ∷ put_below name es))) [
+    elim (goes_before (with_slash name) e) as (λ b. goes_before (with_slash name) e ≡ b → AreInOrder (cond b (Below name ∷ e ∷ es) (e ∷ put_below name es))) [
       | true ↦ λ is. ((goes_is name e is, all_earlier (Below name) e es (goes_is name e is) order.0), order)
       | false ↦ λ is. (put_all (λ x. Earlier e x) name es (stays_is name e above.0 is) order.0, put_in_order name es above.1 order.1)
     ] refl
@@ -145,13 +145,13 @@ placed_in_order (item ∷ items) h =
     ]
 
 -- ---- paths of visits
-with_slashes-append : (p : Path) (a : List ℕ) (r : Path) → with_slashes (p ++ a ∷ r) ≡ map slashed p ++ with_slashes (a ∷ r)
+with_slashes-append : (p : Path) (a : List ℕ) (r : Path) → with_slashes (p ++ a ∷ r) ≡ map with_slash p ++ with_slashes (a ∷ r)
 with_slashes-append [] a r = refl
 with_slashes-append (b ∷ []) a r = refl
-with_slashes-append (b ∷ c ∷ p) a r = ap (λ (w : Path). slashed b ∷ w) (with_slashes-append (c ∷ p) a r)
+with_slashes-append (b ∷ c ∷ p) a r = ap (λ (w : Path). with_slash b ∷ w) (with_slashes-append (c ∷ p) a r)
 
 walk_cmp-append : (p : Path) (a : List ℕ) (r : Path) (b : List ℕ) (s : Path) → walk_cmp (p ++ a ∷ r) (p ++ b ∷ s) ≡ path_cmp (with_slashes (a ∷ r)) (with_slashes (b ∷ s))
-walk_cmp-append p a r b s = (λ i. path_cmp (with_slashes-append p a r i) (with_slashes-append p b s i)) ∙ cmp-behind (map slashed p) (with_slashes (a ∷ r)) (with_slashes (b ∷ s))
+walk_cmp-append p a r b s = (λ i. path_cmp (with_slashes-append p a r i) (with_slashes-append p b s i)) ∙ cmp-behind (map with_slash p) (with_slashes (a ∷ r)) (with_slashes (b ∷ s))
 
 -- a path behind another
 abbrev pub IsBehind : Path → Path → Type 0
@@ -181,7 +181,7 @@ apart p (Item a) (Item b) q r h qs rs = rw (qs, rs) (walk_cmp-append p a.name []
 apart p (Item a) (Below n) q r h qs (b, more, rs) = rw (qs, rs) (walk_cmp-append p a.name [] n (b ∷ more) ∙ rw (none_less b more) h)
 apart p (Below n) (Item a) q r h (b, more, qs) rs = rw (qs, rs) (walk_cmp-append p n (b ∷ more) a.name [] ∙ rw (some_greater b more) h)
 apart p (Below n) (Below m) q r h (b, more, qs) (c, others, rs) =
-    rw (qs, rs) (walk_cmp-append p n (b ∷ more) m (c ∷ others) ∙ less_first (bytes_cmp (slashed n) (slashed m)) (path_cmp (with_slashes (b ∷ more)) (with_slashes (c ∷ others))) h)
+    rw (qs, rs) (walk_cmp-append p n (b ∷ more) m (c ∷ others) ∙ less_first (bytes_cmp (with_slash n) (with_slash m)) (path_cmp (with_slashes (b ∷ more)) (with_slashes (c ∷ others))) h)
 
 paths_of-append : (vs ws : List Visit) → paths_of (vs ++ ws) ≡ paths_of vs ++ paths_of ws
 paths_of-append [] ws = refl

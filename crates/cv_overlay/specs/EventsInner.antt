@@ -1,7 +1,7 @@
 -- The walk of a directory as a list of events: its items, and the walks of the directories among them.
 use Rattle.std.specs.Prelude.{ℕ, ◌+◌, Bool, List, [], ◌∷◌, ◌++◌, if◌then◌else◌, zero, suc}
 use Rattle.std.specs.Ordering.{is_lt}
-use Rattle.cv_base.specs.Path.{Path}
+use Rattle.cv_base.specs.Path.{Path, with_slash}
 use Rattle.cv_base.specs.BytesOrder.{bytes_cmp}
 use Rattle.cv_ports.specs.declared.folder.FolderItem.{FolderItem}
 use Rattle.cv_ports.specs.Folder.{FolderView}
@@ -9,14 +9,10 @@ use Rattle.cv_overlay.specs.declared.event.Event.{Event}
 use Rattle.cv_overlay.specs.declared.event.Event.TheVariants.{Item, Below}
 use Rattle.cv_overlay.specs.Walk.{Visit, is_dir, takes}
 
--- a directory's name as it stands before the names in it
-abbrev pub slashed : List ℕ → List ℕ
-slashed name = name ++ 47 ∷ []
-
 -- what an event is ordered by
 abbrev pub key_of : Event → List ℕ
 key_of (Item item) = item.name
-key_of (Below name) = slashed name
+key_of (Below name) = with_slash name
 
 -- the walk of a directory comes before an event
 abbrev pub goes_before : List ℕ → Event → Bool
@@ -30,7 +26,7 @@ place_in key (e ∷ es) = if goes_before key e then 0 else 1 + place_in key es
 -- the walk of the directory of this name put among events
 abbrev pub put_below : List ℕ → List Event → List Event
 put_below name [] = Below name ∷ []
-put_below name (e ∷ es) = if goes_before (slashed name) e then Below name ∷ e ∷ es else e ∷ put_below name es
+put_below name (e ∷ es) = if goes_before (with_slash name) e then Below name ∷ e ∷ es else e ∷ put_below name es
 
 -- an item before the events of those behind it
 abbrev pub placed : FolderItem → List Event → List Event

@@ -2,6 +2,7 @@
 use Rattle.std.specs.Prelude.{ℕ, Bool, true, false, not, ◌||◌, List, [], ◌∷◌, ◌++◌, Option, Some, None, is_some, if◌then◌else◌}
 use Rattle.std.specs.List.{filter}
 use Rattle.std.specs.FinMap.{get, entries, from_entries}
+use Rattle.cv_base.specs.Attr.{new_directory}
 use Rattle.cv_base.specs.Path.{Path, last_name_of}
 use Rattle.cv_tree.specs.declared.node.Node.{Node}
 use Rattle.cv_tree.specs.declared.node.Node.TheVariants.{Dir, File, Link}
@@ -39,7 +40,7 @@ or_else (Some x) y = Some x
 -- the root keeps the attributes of the base's directory
 abbrev pub root_of : Option Node → ℕ → Node
 root_of (Some (Dir attr)) now = Dir attr
-root_of other now = Dir (record { mode = 493; mtime = now; uid = 0; gid = 0 })
+root_of other now = Dir (new_directory now)
 
 -- what stands at each path: the root; what the folder names; what of the base isn't hidden
 abbrev pub over_at : Nodes → Nodes → ℕ → Path → Option Node

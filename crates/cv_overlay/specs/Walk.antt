@@ -6,7 +6,8 @@ use Rattle.std.specs.List.{list_all}
 use Rattle.std.specs.List.Sorted.{IsStrictlySortedBy}
 use Rattle.std.specs.FinMap.{get}
 use Rattle.sha1.specs.Sha1.{sha1}
-use Rattle.cv_base.specs.Path.{Path, last_name_of, path_cmp, same_name, same_path}
+use Rattle.cv_base.specs.Attr.{new_directory}
+use Rattle.cv_base.specs.Path.{Path, last_name_of, path_cmp, same_name, same_path, with_slash}
 use Rattle.cv_base.specs.PathText.{joined}
 use Rattle.cv_base.specs.Target.{is_target}
 use Rattle.cv_base.specs.declared.attr.Attr.{Attr}
@@ -40,7 +41,7 @@ paths_of (v ∷ vs) = path_of v ∷ paths_of vs
 abbrev pub with_slashes : Path → Path
 with_slashes [] = []
 with_slashes (a ∷ []) = a ∷ []
-with_slashes (a ∷ b ∷ p) = (a ++ 47 ∷ []) ∷ with_slashes (b ∷ p)
+with_slashes (a ∷ b ∷ p) = with_slash a ∷ with_slashes (b ∷ p)
 
 abbrev pub has_no_slash : List ℕ → Bool
 has_no_slash name = list_all (λ byte. not (byte == 47)) name
@@ -142,7 +143,7 @@ pub record IsContent (f : FolderView) (at : Path) (bytes : List ℕ) : Type 0 wh
 
 -- the attributes of the root that stands for the folder itself
 abbrev pub root_attr : Attr
-root_attr = record { mode = 493; mtime = 0; uid = 0; gid = 0 }
+root_attr = new_directory 0
 
 -- the changes of a folder: at each path the node of the item that it finds, below a root; and each of the contents is that of a file
 -- that is no whiteout

@@ -1,7 +1,8 @@
 //! The walk of a directory as a list of events.
 ghost use Rattle.std.specs.Prelude.{◌≡◌, ◌≤◌, [], IfOk, OnOk, string_bytes};
 ghost use Rattle.std.specs.VecDeque.{deque_len};
-ghost use Rattle.cv_overlay.specs.EventsInner.{slashed, goes_before, place_in, put_below, placed, placed_all};
+ghost use Rattle.cv_base.specs.Path.{with_slash};
+ghost use Rattle.cv_overlay.specs.EventsInner.{goes_before, place_in, put_below, placed, placed_all};
 ghost use Rattle.cv_overlay.specs.Walk.{is_dir};
 
 use cv_base::{NoMemory, Text};
@@ -19,8 +20,8 @@ pub(crate) enum Event {
 }
 
 /// A directory's name as it stands before the names in it.
-fn slashed(alloc: Global, name: &str) -> Result<String, NoMemory>
-    ensures { IfOk result (λ key. string_bytes key ≡ slashed name.now) }
+fn with_slash(alloc: Global, name: &str) -> Result<String, NoMemory>
+    ensures { IfOk result (λ key. string_bytes key ≡ with_slash name.now) }
 {
     let mut key = String::from_str(alloc, name)?;
     key.push('/')?;
@@ -34,7 +35,7 @@ fn goes_before(alloc: Global, key: &str, event: &Event) -> Result<bool, NoMemory
     match event {
         Event::Item(item) => Ok(key < item.name.as_str()),
         Event::Below(name) => {
-            let other = slashed(alloc, name.as_str())?;
+            let other = with_slash(alloc, name.as_str())?;
             Ok(key < other.as_str())
         }
     }
@@ -58,7 +59,7 @@ fn place_in(alloc: Global, key: &str, events: &VecDeque<Event>) -> Result<usize,
 fn put_below(alloc: Global, events: &mut VecDeque<Event>, name: &Text) -> Result<(), NoMemory>
     ensures { OnOk result (events.new.items ≡ put_below name.now events.old.items) }
 {
-    let key = slashed(alloc, name.as_str())?;
+    let key = with_slash(alloc, name.as_str())?;
     let place = place_in(alloc, key.as_str(), events)?;
     let below = Event::Below(name.copy(alloc)?);
     events.insert(place, below)?;

@@ -72,14 +72,8 @@ impl Found {
     pub(crate) fn new(alloc: Global) -> Result<Found, NoMemory>
         ensures { IfOk result (λ made. made ≡ record { nodes = single (Dir root_attr); objects = []; sum = 0 }) }
     {
-        let root = Attr {
-            mode: 0o755,
-            mtime: 0,
-            uid: 0,
-            gid: 0,
-        };
         Ok(Found {
-            tree: Tree::new(alloc, root)?,
+            tree: Tree::new(alloc, Attr::new_directory(0))?,
             contents: Contents::new(alloc),
             sum: 0,
         })

@@ -23,12 +23,7 @@ fn root_of(root: Option<&Node>, now: u64) -> Node
 {
     match root {
         Some(Node::Dir(attr)) => Node::Dir(*attr),
-        _ => Node::Dir(Attr {
-            mode: 0o755,
-            mtime: now,
-            uid: 0,
-            gid: 0,
-        }),
+        _ => Node::Dir(Attr::new_directory(now)),
     }
 }
 

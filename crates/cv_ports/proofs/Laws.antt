@@ -1,7 +1,8 @@
 -- What the crates above may cite of counts that are raised, and of pieces one after another.
 pub use Rattle.cv_ports.proofs.Streams.{front_twice, onto_twice, wrote_back, wrote_front, onto_none}
 use Rattle.std.proofs.Common.{◌≡◌, ◌+◌, ℕ, zero, suc, ap, ◌∙◌, arith}
-use Rattle.cv_ports.specs.Calls.{raised, raised_by, RaisedAtMost}
+use Rattle.cv_base.specs.Counts.{raised}
+use Rattle.cv_ports.specs.Calls.{raised_by, RaisedAtMost}
 
 -- so many more, and then so many more
 raised_sum : (k m n : ℕ) → raised_by k (raised_by m n) ≡ raised_by (k + m) n

@@ -1,17 +1,13 @@
 -- Counts that stay at their last number, and the calls of an object in memory, of which those of stated numbers fail.
-use Rattle.std.specs.Prelude.{◌≡◌, ◌≤◌, ℕ, zero, suc, ◌+◌, ◌==◌, List, Bool, min, if◌then◌else◌}
+use Rattle.std.specs.Prelude.{◌≡◌, ◌≤◌, ℕ, zero, suc, ◌==◌, List, Bool, if◌then◌else◌}
 use Rattle.std.specs.List.{list_any}
-use Rattle.cv_base.specs.Counts.{last_count}
+use Rattle.cv_base.specs.Counts.{raised}
 
 -- the numbers of the calls that are to fail, how many calls were made, and how many failed
 pub record Calls : Type 0 where
   pub failing : List ℕ
   pub count : ℕ
   pub faults : ℕ
-
--- one more, up to the last number of 64 bits
-abbrev pub raised : ℕ → ℕ
-raised count = min (count + 1) last_count
 
 -- so many more, up to the last number of 64 bits
 abbrev pub raised_by : ℕ → ℕ → ℕ

@@ -1,6 +1,6 @@
 -- What a dial tells of its dials and of its links, and its count of faults.
 use Rattle.std.specs.Prelude.{◌++◌, [], ◌∷◌, ℕ, List, Option, ◌||◌, nat_lt, if◌then◌else◌}
-use Rattle.cv_ports.specs.Calls.{raised}
+use Rattle.cv_base.specs.Counts.{raised}
 use Rattle.cv_ports.specs.declared.link.Link.{Link}
 
 -- a link that came back: where it led, and what it gave, has left, took and passed on, where that is told

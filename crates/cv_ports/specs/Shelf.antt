@@ -20,6 +20,13 @@ pub record IsShelf (shelf : Shelf) : Type 0 where
 abbrev pub HasMore : Shelf → Shelf → Type 0
 HasMore shelf more = (id : ObjectId) (bytes : List ℕ) → shelf id ≡ Some bytes → more id ≡ Some bytes
 
+-- bytes stand under the id, and this digest of theirs is another than its hash
+pub record HasOtherDigest (shelf : Shelf) (id : ObjectId) (found : List ℕ) : Type 0 where
+  pub bytes : List ℕ
+  pub there : shelf id ≡ Some bytes
+  pub digest : found ≡ sha1 bytes
+  pub other : found ≢ id.hash
+
 -- what stands under an id, as a fetch gives it: the bytes where they have the id's hash, and their own digest where they have another
 abbrev pub fetched : ObjectId → Option (List ℕ) → Result (Option (List ℕ)) ShelfFault
 fetched id None = Ok None

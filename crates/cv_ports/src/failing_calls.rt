@@ -1,7 +1,7 @@
 //! Which calls of an object in memory are to fail.
 ghost use Rattle.std.specs.Prelude.{◌≡◌, ⊤, IsTrue};
-ghost use Rattle.cv_base.specs.Counts.{HasCause};
-ghost use Rattle.cv_ports.specs.Calls.{raised, fails, called, Calls};
+ghost use Rattle.cv_base.specs.Counts.{HasCause, raised};
+ghost use Rattle.cv_ports.specs.Calls.{fails, called, Calls};
 
 use std::marker::Model;
 

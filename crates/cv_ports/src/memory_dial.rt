@@ -1,8 +1,8 @@
 //! A dial in memory.
 ghost use Rattle.std.specs.Prelude.{◌≡◌, ◌<◌, ◌≤◌, ◌++◌, ◌∷◌, [], ◌⊎◌, ◌↔◌, Some, IfOk, OnErr, IsErr, IsTrue, IsSome, length, is_err, if◌then◌else◌, option_map, map};
-ghost use Rattle.cv_base.specs.Counts.{HasCause};
+ghost use Rattle.cv_base.specs.Counts.{HasCause, raised};
 ghost use Rattle.cv_base.specs.Told.{WhereTold};
-ghost use Rattle.cv_ports.specs.Calls.{fails, raised};
+ghost use Rattle.cv_ports.specs.Calls.{fails};
 ghost use Rattle.cv_ports.specs.Dial.{and_failed, and_opened, and_back, after_back};
 ghost use Rattle.cv_ports.specs.Streams.{Look};
 ghost use Rattle.cv_ports.specs.MemoryDial.{came_in_memory, backs_of, told_of, GivesFirst};

@@ -3,10 +3,10 @@ ghost use Rattle.std.proofs.Common.{◌∙◌};
 ghost use Rattle.std.specs.Prelude.{◌≡◌, refl, ◌↔◌, IfErr, IfOk, IsErrOf, IsTrue, OnOk, Some, option_copied, if◌then◌else◌};
 ghost use Rattle.std.specs.BTreeMap.{Updates};
 ghost use Rattle.cv_base.specs.BytesOrder.{bytes_cmp};
-ghost use Rattle.cv_base.specs.Counts.{HasCause};
+ghost use Rattle.cv_base.specs.Counts.{HasCause, raised};
 ghost use Rattle.cv_base.specs.Told.{WhereTold};
 ghost use Rattle.cv_base.specs.declared.id.ObjectId.{ObjectId as Id};
-ghost use Rattle.cv_ports.specs.Calls.{fails, called, raised};
+ghost use Rattle.cv_ports.specs.Calls.{fails, called};
 ghost use Rattle.cv_ports.specs.Shelf.{Gives, Fetches, Suits, Measures, IsUnread};
 ghost use Rattle.cv_ports.specs.Objects.{shelf_of, same_id};
 ghost use Rattle.cv_ports.specs.MemoryShelf.{standing};
@@ -94,10 +94,8 @@ impl MemoryShelf {
 fn put_in(map: &mut BTreeMap<[u8; 20], Bytes>, hash: [u8; 20], bytes: Bytes) -> Result<(), NoMemory>
     ensures { OnOk result (Updates bytes_cmp map.old map.new hash (Some bytes)) }
 {
-    match map.insert(hash, bytes) {
-        Ok(_) => Ok(()),
-        Err(_) => Err(NoMemory),
-    }
+    map.insert(hash, bytes)?;
+    Ok(())
 }
 
 /// What a fetch gives of the bytes that stand under an id.

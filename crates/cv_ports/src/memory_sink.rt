@@ -1,8 +1,8 @@
 //! A sink in memory.
 ghost use Rattle.std.specs.Prelude.{◌≡◌, ◌≤◌, ◌<◌, ◌-◌, ℕ, List, Option, Some, [], length, take, min, IsTrue, ◌↔◌, ◌⊎◌, OnOk, OnErr, IfOk, IsErr, is_err, if◌then◌else◌};
-ghost use Rattle.cv_base.specs.Counts.{HasCause};
+ghost use Rattle.cv_base.specs.Counts.{HasCause, raised};
 ghost use Rattle.cv_ports.specs.Streams.{onto};
-ghost use Rattle.cv_ports.specs.Calls.{fails, called, raised};
+ghost use Rattle.cv_ports.specs.Calls.{fails, called};
 ghost use Rattle.cv_ports.specs.Memory.{IsFull};
 
 use crate::failed::Failed;

@@ -1,8 +1,7 @@
 //! Where objects stand.
 ghost use Rattle.std.specs.Prelude.{◌≡◌, ℕ, Option, IfErr, IsErrOf};
-ghost use Rattle.cv_base.specs.Counts.{HasCause};
+ghost use Rattle.cv_base.specs.Counts.{HasCause, raised};
 ghost use Rattle.cv_base.specs.Told.{WhereTold};
-ghost use Rattle.cv_ports.specs.Calls.{raised};
 ghost use Rattle.cv_ports.specs.Shelf.{Shelf as Standing, Fetches, Suits, Measures, IsUnread};
 ghost use Rattle.cv_ports.specs.declared.shelf.ShelfFault.TheVariants as fault;
 

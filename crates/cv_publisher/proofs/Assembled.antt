@@ -17,7 +17,7 @@ use Rattle.cv_overlay.specs.Overlay.{hidden, named, or_else, over_at}
 use Rattle.cv_overlay.specs.Whiteout.{is_whiteout}
 use Rattle.cv_overlay.specs.declared.overlay_fault.OverlayFault.{OverlayFault}
 use Rattle.cv_overlay.specs.declared.overlay_fault.OverlayFault.TheVariants as overlay
-use Rattle.cv_graft.specs.Graft.{HasOwnIds}
+use Rattle.cv_base.specs.Objects.{AreNamed}
 use Rattle.cv_publisher.specs.Assembling.{Assembles, Delivers, is_bad, unfetched, unlaid}
 use Rattle.cv_base.specs.declared.id.ObjectId.{ObjectId}
 use Rattle.cv_publisher.specs.declared.assembling.Delivery.{Delivery}
@@ -35,7 +35,7 @@ contents_own c os are = λ k d within.
     let own = are.own k (get_or os k d) (slice_get-get_or os k d within) in
     record { hash = ap (λ i. i.hash) own; kind = λ history. let plain = ap (λ i. i.kind) own in cc; size = are.sizes k (get_or os k d) (slice_get-get_or os k d within) }
 
-made_own : (os : List Object) → HasOwnIds os → All IsCatalogueObject os → All IsPacked os
+made_own : (os : List Object) → AreNamed os → All IsCatalogueObject os → All IsPacked os
 made_own os has are = λ k d within.
     let one : IsCatalogueObject (get_or os k d) = are k d within in
     record {
@@ -44,14 +44,14 @@ made_own os has are = λ k d within.
       size = one.size;
     }
 
-pub sent_own : (c : Nodes) (contents made : List Object) (fetched : Shelf) → AreContents c contents → HasOwnIds made → All IsCatalogueObject made
+pub sent_own : (c : Nodes) (contents made : List Object) (fetched : Shelf) → AreContents c contents → AreNamed made → All IsCatalogueObject made
     → All IsPacked (contents ++ unfetched fetched made)
 sent_own c contents made fetched are has kinds =
     All-append IsPacked contents (unfetched fetched made) (contents_own c contents are) (All-filter (λ (o : Object). not (is_some (fetched o.id))) IsPacked made (made_own made has kinds))
 
 -- what is sent, by what was put in order
 pub delivers : (c : Nodes) (contents os cs xs catalogues : List Object) (ps places : List ℕ) (fetched : Shelf) (g : Grafted) (root : List ℕ) → root ≡ g.root.hash
-    → cs ≡ unfetched fetched g.added → os ≡ contents → xs ≡ cs → catalogues ≡ cs → places ≡ ps → AreContents c contents → HasOwnIds g.added → All IsCatalogueObject g.added
+    → cs ≡ unfetched fetched g.added → os ≡ contents → xs ≡ cs → catalogues ≡ cs → places ≡ ps → AreContents c contents → AreNamed g.added → All IsCatalogueObject g.added
     → AreInOrder (os ++ xs) (objects_at (os ++ xs) ps) → All (λ p. p < length (os ++ xs)) ps
     → Delivers contents fetched g (record { root = root; catalogues = catalogues; places = places })
 delivers c contents os cs xs catalogues ps places fetched g root is made whole same kept there are own kinds ordered within =

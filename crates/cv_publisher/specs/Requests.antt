@@ -8,8 +8,9 @@ use Rattle.cv_base.specs.Token.{token_text}
 use Rattle.cv_base.specs.declared.id.ObjectId.{ObjectId}
 use Rattle.cv_base.specs.declared.object.Object.{Object}
 use Rattle.cv_base.specs.declared.token.Token.{Token}
+use Rattle.cv_http.specs.Requests.{request_for_file}
 use Rattle.cv_http.specs.declared.outgoing.Outgoing.{Outgoing}
-use Rattle.cv_http.specs.declared.verb.Verb.TheVariants.{Get, Post, Delete}
+use Rattle.cv_http.specs.declared.verb.Verb.TheVariants.{Post, Delete}
 use Rattle.cv_keys.specs.Header.{header_of}
 use Rattle.cv_keys.specs.declared.key.Key.{Key}
 use Rattle.cv_manifest.specs.Manifest.{manifest_name}
@@ -44,18 +45,8 @@ lease_request keys plan = record {
 
 -- ---- files of the repository
 
-abbrev pub file_target : List ℕ → List ℕ → List ℕ
-file_target name file = codes "/cvmfs/" ++ name ++ codes "/" ++ file
-
 abbrev pub file_request : Plan → List ℕ → Outgoing
-file_request plan file = record {
-  method = Get;
-  host = plan.host;
-  target = file_target plan.name file;
-  authorization = None;
-  message_size = None;
-  body = [];
-}
+file_request plan file = request_for_file plan.host plan.name file
 
 abbrev pub manifest_request : Plan → Outgoing
 manifest_request plan = file_request plan manifest_name

@@ -4,6 +4,7 @@ use Rattle.std.specs.Option.{option_or}
 use Rattle.cv_base.specs.declared.object.Object.{Object}
 use Rattle.cv_base.specs.declared.token.Token.{Token}
 use Rattle.cv_ports.specs.Objects.{shelf_of}
+use Rattle.cv_http.specs.declared.code.TheConstants.{OK}
 use Rattle.cv_http.specs.declared.http_reply.HttpReply.{HttpReply}
 use Rattle.cv_answers.specs.declared.answer.Answer.{Answer}
 use Rattle.cv_answers.specs.declared.answer.Answer.TheVariants as answer
@@ -43,12 +44,12 @@ pub data AfterLease (reply : HttpReply) (next : Stage) : Type 0 where
 -- ---- the manifest: it is read, and the catalogues of its root are wanted; or it has a fault, or the reply has no manifest
 
 pub data AfterManifest (is_seal : List ℕ → List ℕ → Bool) (reply : HttpReply) (plan : Plan) (token : Token) (read : Option Manifest) (next : Stage) : Type 0 where
-  manifest_read : (m : Manifest) → reply.code ≡ 200 → Says is_seal reply.body m → read ≡ Some m → next ≡ Fetching token m.head.root (begun m.head.root plan.path)
+  manifest_read : (m : Manifest) → reply.code ≡ OK → Says is_seal reply.body m → read ≡ Some m → next ≡ Fetching token m.head.root (begun m.head.root plan.path)
       → AfterManifest is_seal reply plan token read next
-  manifest_bad : (f : ManifestFault) → reply.code ≡ 200 → Shows is_seal reply.body f → read ≡ None → next ≡ Cancelling token (of_manifest f)
+  manifest_bad : (f : ManifestFault) → reply.code ≡ OK → Shows is_seal reply.body f → read ≡ None → next ≡ Cancelling token (of_manifest f)
       → AfterManifest is_seal reply plan token read next
-  manifest_unsaid : reply.code ≢ 200 → read ≡ None → next ≡ Cancelling token BadReply → AfterManifest is_seal reply plan token read next
-  manifest_lost : (m : Manifest) → reply.code ≡ 200 → Says is_seal reply.body m → read ≡ Some m → next ≡ Cancelling token NoMemory
+  manifest_unsaid : reply.code ≢ OK → read ≡ None → next ≡ Cancelling token BadReply → AfterManifest is_seal reply plan token read next
+  manifest_lost : (m : Manifest) → reply.code ≡ OK → Says is_seal reply.body m → read ≡ Some m → next ≡ Cancelling token NoMemory
       → AfterManifest is_seal reply plan token read next
 
 -- ---- a catalogue: another is wanted, or all that was fetched makes an offer; or the catalogue is refused, or the reply says nothing of it

@@ -6,6 +6,7 @@ use Rattle.cv_base.specs.Path.{Path}
 use Rattle.cv_base.specs.declared.id.ObjectId.{ObjectId}
 use Rattle.cv_base.specs.declared.object.Object.{Object}
 use Rattle.cv_base.specs.declared.token.Token.{Token}
+use Rattle.cv_http.specs.declared.code.TheConstants.{NOT_FOUND, OK}
 use Rattle.cv_http.specs.declared.http_reply.HttpReply.{HttpReply}
 use Rattle.cv_http.specs.declared.outgoing.Outgoing.{Outgoing}
 use Rattle.cv_keys.specs.declared.key.Key.{Key}
@@ -92,8 +93,8 @@ request_for keys plan terms commit = commit_request keys plan terms.token terms.
 -- pack was stored, and the revision made
 abbrev pub IsServed : (List ℕ → List ℕ → Bool) → Terms → Errand → HttpReply → Type 0
 IsServed is_seal terms lease reply = (revision : ℕ) × (root : List ℕ) × (answer_in reply ≡ Some (answer.Granted terms.token revision root))
-IsServed is_seal terms manifest reply = (m : Manifest) × (reply.code ≡ 200) × Says is_seal reply.body m × (terms.base ≡ m.head.root)
-IsServed is_seal terms (catalogue id) reply = (reply.code ≡ 200) × (sha1 reply.body ≡ id.hash)
+IsServed is_seal terms manifest reply = (m : Manifest) × (reply.code ≡ OK) × Says is_seal reply.body m × (terms.base ≡ m.head.root)
+IsServed is_seal terms (catalogue id) reply = (reply.code ≡ OK) × (sha1 reply.body ≡ id.hash)
 IsServed is_seal terms (payload pack) reply = answer_in reply ≡ Some answer.Done
 IsServed is_seal terms commit reply = (root : List ℕ) × (answer_in reply ≡ Some (answer.Committed terms.revision root))
 
@@ -136,15 +137,15 @@ pub data IsUnmade (plan : Plan) (f : PublishFault) : Type 0 where
 pub data Faults (is_seal : List ℕ → List ℕ → Bool) (plan : Plan) (wanted : List Wanted) (reply : HttpReply) (f : PublishFault) : Errand → Type 0 where
   not_granted : ((token : Token) (revision : ℕ) (root : List ℕ) → answer_in reply ≢ Some (answer.Granted token revision root))
       → f ≡ fault_in (answer_in reply) → Faults is_seal plan wanted reply f lease
-  no_manifest : reply.code ≢ 200 → f ≡ fault.BadReply → Faults is_seal plan wanted reply f manifest
-  bad_manifest : (g : ManifestFault) → reply.code ≡ 200 → Shows is_seal reply.body g → f ≡ of_manifest g → Faults is_seal plan wanted reply f manifest
-  no_catalogue : {id : ObjectId} → reply.code ≢ 200 → reply.code ≢ 404 → f ≡ fault.BadReply → Faults is_seal plan wanted reply f (catalogue id)
-  not_served : {id : ObjectId} → reply.code ≡ 404 → f ≡ fault.NotServed id → Faults is_seal plan wanted reply f (catalogue id)
-  other_bytes : {id : ObjectId} → reply.code ≡ 200 → sha1 reply.body ≢ id.hash → f ≡ fault.BadObject id (sha1 reply.body)
+  no_manifest : reply.code ≢ OK → f ≡ fault.BadReply → Faults is_seal plan wanted reply f manifest
+  bad_manifest : (g : ManifestFault) → reply.code ≡ OK → Shows is_seal reply.body g → f ≡ of_manifest g → Faults is_seal plan wanted reply f manifest
+  no_catalogue : {id : ObjectId} → reply.code ≢ OK → reply.code ≢ NOT_FOUND → f ≡ fault.BadReply → Faults is_seal plan wanted reply f (catalogue id)
+  not_served : {id : ObjectId} → reply.code ≡ NOT_FOUND → f ≡ fault.NotServed id → Faults is_seal plan wanted reply f (catalogue id)
+  other_bytes : {id : ObjectId} → reply.code ≡ OK → sha1 reply.body ≢ id.hash → f ≡ fault.BadObject id (sha1 reply.body)
       → Faults is_seal plan wanted reply f (catalogue id)
-  bad_catalogue : {id : ObjectId} → reply.code ≡ 200 → IsBadThere wanted id reply.body → f ≡ fault.BadCatalogue id
+  bad_catalogue : {id : ObjectId} → reply.code ≡ OK → IsBadThere wanted id reply.body → f ≡ fault.BadCatalogue id
       → Faults is_seal plan wanted reply f (catalogue id)
-  unmade : {id : ObjectId} → reply.code ≡ 200 → IsGiven plan.path wanted id reply.body [] → IsUnmade plan f
+  unmade : {id : ObjectId} → reply.code ≡ OK → IsGiven plan.path wanted id reply.body [] → IsUnmade plan f
       → Faults is_seal plan wanted reply f (catalogue id)
   not_stored : {pack : List Object} → answer_in reply ≢ Some answer.Done → f ≡ fault_in (answer_in reply) → Faults is_seal plan wanted reply f (payload pack)
   not_committed : ((revision : ℕ) (root : List ℕ) → answer_in reply ≢ Some (answer.Committed revision root))

@@ -2,7 +2,7 @@
 ghost use Rattle.std.specs.Prelude.{◌≡◌, false, All, IfOk, IsTrue};
 ghost use Rattle.std.specs.Option.{option_copied};
 ghost use Rattle.cv_base.specs.Marker.{marker, ends_in};
-ghost use Rattle.cv_graft.specs.Graft.{HasOwnIds};
+ghost use Rattle.cv_base.specs.Objects.{AreNamed};
 ghost use Rattle.cv_ports.specs.MemoryShelf.{standing};
 ghost use Rattle.cv_tree.specs.Changes.{FitsUnder, IsTreeAtRoot, nodes_of};
 ghost use Rattle.cv_publisher.specs.Assembling.{Assembles, Delivers, Sets, unfetched};
@@ -70,7 +70,7 @@ fn delivered(
     grafted: Grafted,
     fetched: &mut MemoryShelf,
 ) -> Result<Delivery, NoMemory>
-    requires { HasOwnIds grafted.added }
+    requires { AreNamed grafted.added }
     ensures { IfOk result (Delivers plan.now.changes.objects (standing fetched.old) grafted) }
 {
     if !are_catalogues(grafted.added.as_slice()) {

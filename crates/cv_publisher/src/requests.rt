@@ -4,12 +4,12 @@ ghost use Rattle.cv_base.specs.Token.{token_text};
 ghost use Rattle.cv_messages.specs.Targets.{lease_target};
 ghost use Rattle.cv_pack.specs.Pack.{contents_size, pack_bytes};
 ghost use Rattle.cv_publisher.specs.Packing.{AreSendable, objects_at};
-ghost use Rattle.cv_publisher.specs.Requests.{SendsFront, cancel_request, commit_message, commit_request, file_request, file_target, lease_message, lease_request, manifest_request, object_request, payload_message, payload_request, signature};
+ghost use Rattle.cv_publisher.specs.Requests.{SendsFront, cancel_request, commit_message, commit_request, file_request, lease_message, lease_request, manifest_request, object_request, payload_message, payload_request, signature};
 
 use crate::filling::{filled, front_of};
 use crate::plan::Plan;
 use cv_base::{Bytes, Name, NoMemory, Object, ObjectId, RepoPath, Text, Token};
-use cv_http::{Outgoing, Verb};
+use cv_http::{Outgoing, Verb, request_for_file};
 use cv_keys::KeyTable;
 use cv_manifest::MANIFEST_NAME;
 use cv_messages::{CommitAsk, LEASE, LEASES, LeaseAsk, PAYLOADS, PayloadAsk};
@@ -55,29 +55,11 @@ pub(crate) fn lease_request(
     })
 }
 
-/// The target of a file of a repository.
-fn file_target(alloc: Global, name: &Name, file: &str) -> Result<String, NoMemory>
-    ensures { IfOk result (λ text. string_bytes text ≡ file_target name.now file.now) }
-{
-    let mut text = String::from_str(alloc, "/cvmfs/")?;
-    text.push_str(name.text())?;
-    text.push_str("/")?;
-    text.push_str(file)?;
-    Ok(text)
-}
-
 /// The request for a file of the repository.
 fn file_request(alloc: Global, plan: &Plan, file: &str) -> Result<Outgoing, NoMemory>
     ensures { IfOk result (λ request. request ≡ file_request plan.now file.now) }
 {
-    Ok(Outgoing {
-        method: Verb::Get,
-        host: plan.host.copy(alloc)?,
-        target: Text::new(file_target(alloc, &plan.name, file)?),
-        authorization: None,
-        message_size: None,
-        body: Bytes::new(Vec::new(alloc)),
-    })
+    request_for_file(alloc, &plan.host, plan.name.text(), file)
 }
 
 /// The request for the manifest.

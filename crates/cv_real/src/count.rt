@@ -1,7 +1,6 @@
 //! A count of faults.
 ghost use Rattle.std.specs.Prelude.{◌≡◌, ⊤};
-ghost use Rattle.cv_base.specs.Counts.{HasCause};
-ghost use Rattle.cv_ports.specs.Calls.{raised};
+ghost use Rattle.cv_base.specs.Counts.{HasCause, raised};
 
 /// How many calls failed. The count stays at its last value.
 #[derive(Debug, Drop)]

@@ -23,6 +23,25 @@ goes_to f [] x has = absurd (let lt = has.1 in omega arith)
 goes_to f (z ∷ xs) x (zero, lt, is) = (0, omega arith, ap f is)
 goes_to f (z ∷ xs) x (suc k, lt, is) = Contains-append_right (f z ∷ []) (map f xs) (f x) (goes_to f xs x (k, omega arith, is))
 
+size_bytes : (m n : ℕ) → length (to_be_bytes w64 m) ≡ length (to_be_bytes w64 n)
+size_bytes m n = refl
+
+-- entries of one path, and of hashes of one length, are as long
+pub entry_len : (m n : Nested) → m.path ≡ n.path → length m.hash ≡ length n.hash → length (nested_bytes m) ≡ length (nested_bytes n)
+entry_len m n path hashes =
+    let text = ap (λ (p : Path). length (text_field (text_of p))) path in
+    let sizes = size_bytes m.size n.size in
+    omega (
+      arith,
+      text,
+      hashes,
+      sizes,
+      length-append (text_field (text_of m.path) ++ m.hash) (to_be_bytes w64 m.size),
+      length-append (text_field (text_of m.path)) m.hash,
+      length-append (text_field (text_of n.path) ++ n.hash) (to_be_bytes w64 n.size),
+      length-append (text_field (text_of n.path)) n.hash,
+    )
+
 module _ (p : Path) (hash : List ℕ) (size : ℕ) (digest : IsDigest hash) (small : size < 2 ^ 64) where
   pub renewed_path : (n : Nested) → (renewed p hash size n).path ≡ n.path
   renewed_path n = elim (same_path n.path p) as (λ b. (cond b (record { path = n.path; hash = hash; size = size }) n).path ≡ n.path) [ true ↦ refl | false ↦ refl ]
@@ -32,24 +51,6 @@ module _ (p : Path) (hash : List ℕ) (size : ℕ) (digest : IsDigest hash) (sma
     | true ↦ record { path = is.path; hash = digest; size = small }
     | false ↦ is
   ]
-
-  size_bytes : (m n : ℕ) → length (to_be_bytes w64 m) ≡ length (to_be_bytes w64 n)
-  size_bytes m n = refl
-
-  entry_len : (m n : Nested) → m.path ≡ n.path → length m.hash ≡ length n.hash → length (nested_bytes m) ≡ length (nested_bytes n)
-  entry_len m n path hashes =
-      let text = ap (λ (p : Path). length (text_field (text_of p))) path in
-      let sizes = size_bytes m.size n.size in
-      omega (
-        arith,
-        text,
-        hashes,
-        sizes,
-        length-append (text_field (text_of m.path) ++ m.hash) (to_be_bytes w64 m.size),
-        length-append (text_field (text_of m.path)) m.hash,
-        length-append (text_field (text_of n.path) ++ n.hash) (to_be_bytes w64 n.size),
-        length-append (text_field (text_of n.path)) n.hash,
-      )
 
   renewed_len : (n : Nested) → IsNested n → length (nested_bytes (renewed p hash size n)) ≡ length (nested_bytes n)
   renewed_len n is =

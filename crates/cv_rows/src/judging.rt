@@ -1,12 +1,13 @@
 //! Whether rows and nested entries in any order are those of a catalogue: whether their keys differ, and whether they pass
 //! no limit.
-ghost use Rattle.std.specs.Prelude.{◌≡◌, ◌+◌, ◌<◌, ◌≤◌, ◌↔◌, ◌++◌, take, length, IsTrue, IfOk, OnOk, MatchBool, MatchOption};
+ghost use Rattle.std.specs.Prelude.{◌≡◌, ◌+◌, ◌*◌, ◌<◌, ◌≤◌, ◌↔◌, ◌++◌, take, length, IsTrue, IfOk, OnOk, MatchBool, MatchOption};
 ghost use Rattle.std.specs.List.{flat_map, AllByRecursion};
 ghost use Rattle.cv_base.specs.declared.limits.TheConstants.{OBJECT_LIMIT};
 ghost use Rattle.cv_rows.specs.Row.{IsRow, row_bytes};
 ghost use Rattle.cv_rows.specs.Nested.{IsNested, nested_bytes};
 ghost use Rattle.cv_rows.specs.Made.{AreApart, IsTwice, PassesLimit, keys_of};
 ghost use Rattle.cv_rows.specs.MadeInner.{Judges};
+ghost use Rattle.cv_rows.specs.declared.judging.TheConstants.{ROW_ROOM};
 ghost use Rattle.cv_rows.specs.declared.limits.TheConstants.{ROW_LIMIT};
 
 use crate::keys::add;
@@ -31,11 +32,14 @@ fn key_twice(alloc: Global, rows: &[Row]) -> Result<Option<PathKey>, NoMemory>
     Ok(None)
 }
 
+/// The most bytes that a row has in a row file: those of its fields, a hash, a name and a target.
+const ROW_ROOM: usize = 8279;
+
 /// How many bytes a row has in a row file.
 fn row_len(row: &Row) -> usize
     requires { IsRow row.now }
     ensures value { result ≡ length (row_bytes row.now) }
-    ensures bound { result ≤ 8279 }
+    ensures bound { result ≤ ROW_ROOM }
 {
     let hash = match row.hash {
         Some(_) => 20,
@@ -49,7 +53,7 @@ fn rows_len(rows: &[Row]) -> usize
     requires count { length rows.now ≤ ROW_LIMIT }
     requires spelled { AllByRecursion IsRow rows.now }
     ensures value { result ≡ length (flat_map row_bytes rows.now) }
-    ensures bound { result ≤ 413950000 }
+    ensures bound { result ≤ ROW_LIMIT * ROW_ROOM }
 {
     let mut len = 0;
     for row in rows {
@@ -60,7 +64,7 @@ fn rows_len(rows: &[Row]) -> usize
 
 /// Whether nested entries, behind so many bytes, pass the limit of a row file.
 fn is_too_long(len: usize, nested: &[Nested]) -> bool
-    requires len { len ≤ 413950012 }
+    requires len { len ≤ ROW_LIMIT * ROW_ROOM + 12 }
     requires spelled { AllByRecursion IsNested nested.now }
     ensures { IsTrue result ↔ (OBJECT_LIMIT < len + length (flat_map nested_bytes nested.now)) }
 {

@@ -10,7 +10,8 @@ use Rattle.cv_vault.specs.Disk.{Disk, Slot, File, Files, Settled, slot}
 use Rattle.cv_vault.specs.Walks.{Walks, Spares, SparesIn}
 use Rattle.cv_vault.specs.Replace.{IsWaiting}
 use Rattle.cv_vault.proofs.Laws.{sure_waits}
-use Rattle.cv_objects.specs.Batches.{AreNamed, Brings, IsApart}
+use Rattle.cv_base.specs.Objects.{AreNamed}
+use Rattle.cv_objects.specs.Batches.{Brings, IsApart}
 use Rattle.cv_swap.specs.Stands.{head_name, head_way}
 use Rattle.cv_swap.specs.Publishing.{ArePrepared, Prepared}
 use Rattle.cv_swap.proofs.Names.{head_apart, head_place_apart}

@@ -17,7 +17,8 @@ use Rattle.cv_vault.specs.Replace.{IsSure, IsWaiting, Came}
 use Rattle.cv_vault.proofs.Laws.{here, elsewhere, call, bind, looser, writes, ok, err, sync_ok, sync_err, sure_then}
 use Rattle.cv_objects.specs.Faults.{fault_of}
 use Rattle.cv_objects.specs.Names.{way_name}
-use Rattle.cv_objects.specs.Batches.{AreNamed, AreReady, IsReady, is_there, is_coming, IsApart, Has, Brings, Brought, WroteAll, ShownIn, IsOutside}
+use Rattle.cv_base.specs.Objects.{AreNamed}
+use Rattle.cv_objects.specs.Batches.{AreReady, IsReady, is_there, is_coming, IsApart, Has, Brings, Brought, WroteAll, ShownIn, IsOutside}
 use Rattle.cv_objects.specs.declared.store_fault.StoreFault.{StoreFault}
 use Rattle.cv_objects.specs.declared.store_fault.StoreFault.TheVariants.{Collision, Failed, Damaged, NoMemory}
 use Rattle.cv_objects.proofs.Lemmas.{data_off_way, outside, brings_later, has_then}

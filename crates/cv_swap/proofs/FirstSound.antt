@@ -12,7 +12,7 @@ use Rattle.cv_base.specs.declared.attr.Attr.{Attr}
 use Rattle.cv_base.specs.declared.id.Kind.TheVariants.{Catalogue}
 use Rattle.cv_base.proofs.Laws.{digest_sha1, no_target}
 use Rattle.cv_ports.specs.Shelf.{Shelf, IsShelf}
-use Rattle.cv_base.specs.Attr.{IsAttr}
+use Rattle.cv_base.specs.Attr.{IsAttr, new_directory}
 use Rattle.cv_base.specs.Moment.{IsMoment}
 use Rattle.cv_tree.specs.Tree.{single}
 use Rattle.cv_tree.specs.declared.node.Node.{Node}
@@ -28,10 +28,7 @@ use Rattle.cv_swap.specs.Kept.{record_object, AreSound}
 
 -- ---- its tree
 
-abbrev first_attr : ℕ → Attr
-first_attr now = record { mode = 493; mtime = now; uid = 0; gid = 0 }
-
-good_attr : (now : ℕ) → IsMoment now → IsAttr (first_attr now)
+good_attr : (now : ℕ) → IsMoment now → IsAttr (new_directory now)
 good_attr now limit = record { mode = omega arith; mtime = omega (arith, limit); uid = omega arith; gid = omega arith }
 
 no_file : (m : Node) (q : Path) (n : Node) → get (single m) q ≡ Some n → n ≡ m
@@ -43,11 +40,11 @@ no_file m q n e =
 
 first_means : (s : Shelf) (now : ℕ) → IsMoment now → s (catalogue_object (first_tree now) []).id ≡ Some (cat (first_tree now) []) → Means s (root_of (first_tree now)) (first_tree now)
 first_means s now limit there = record {
-  tree = IsTree-single (first_attr now) (good_attr now limit);
-  fits = Fits-single (first_attr now) (good_attr now limit);
+  tree = IsTree-single (new_directory now) (good_attr now limit);
+  fits = Fits-single (new_directory now) (good_attr now limit);
   root = refl;
-  catalogues = λ c cut. subst (λ (x : Path). s (object_id (sha1 (cat (first_tree now) x)) Catalogue) ≡ Some (cat (first_tree now) x)) (sym (cut_single (first_attr now) c (good_attr now limit) cut)) there;
-  files = λ q a file is. (let other : File a file ≡ Dir (first_attr now) = no_file (Dir (first_attr now)) q (File a file) is in absurd cc);
+  catalogues = λ c cut. subst (λ (x : Path). s (object_id (sha1 (cat (first_tree now) x)) Catalogue) ≡ Some (cat (first_tree now) x)) (sym (cut_single (new_directory now) c (good_attr now limit) cut)) there;
+  files = λ q a file is. (let other : File a file ≡ Dir (new_directory now) = no_file (Dir (new_directory now)) q (File a file) is in absurd cc);
 }
 
 -- ---- its objects
@@ -56,7 +53,7 @@ cuts_single : (m : Node) → cuts_of (single m) ≡ [] ∷ []
 cuts_single m = ap (λ (es : List (Path × Node)). filter (is_cut (single m)) (map (λ e. e.0) es)) (entries_single m)
 
 pub first_batch_is : (now : ℕ) → first_batch now ≡ catalogue_object (first_tree now) [] ∷ record_object (first_revision now) ∷ []
-first_batch_is now = ap (λ (cs : List Path). map (catalogue_object (first_tree now)) (reverse cs) ++ record_object (first_revision now) ∷ []) (cuts_single (Dir (first_attr now)))
+first_batch_is now = ap (λ (cs : List Path). map (catalogue_object (first_tree now)) (reverse cs) ++ record_object (first_revision now) ∷ []) (cuts_single (Dir (new_directory now)))
 
 -- ---- its record
 

@@ -6,7 +6,7 @@ use Rattle.cv_base.specs.Path.{Path}
 use Rattle.cv_base.specs.declared.object.Object.{Object}
 use Rattle.cv_tree.specs.Tree.{Nodes}
 use Rattle.cv_cut.specs.Cut.{catalogue_object, cut_of}
-use Rattle.cv_objects.specs.Batches.{AreNamed}
+use Rattle.cv_base.specs.Objects.{AreNamed}
 use Rattle.cv_swap.specs.First.{first_batch, first_tree, first_record}
 use Rattle.cv_cut.specs.Catalogues.{root_of}
 use Rattle.cv_swap.proofs.Views.{named_push}

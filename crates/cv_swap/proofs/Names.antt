@@ -11,7 +11,8 @@ use Rattle.cv_base.specs.ObjectId.{file_name, id_text, suffix_of}
 use Rattle.cv_base.specs.declared.id.ObjectId.{ObjectId}
 use Rattle.cv_base.specs.declared.object.Object.{Object}
 use Rattle.cv_vault.specs.Disk.{File, Files}
-use Rattle.cv_objects.specs.Batches.{AreNamed, IsApart}
+use Rattle.cv_base.specs.Objects.{AreNamed}
+use Rattle.cv_objects.specs.Batches.{IsApart}
 use Rattle.cv_objects.specs.Names.{objects_of, is_digest, way_name}
 use Rattle.cv_objects.proofs.Lemmas.{is_digest_of}
 use Rattle.cv_vault.specs.Names.{on_way}

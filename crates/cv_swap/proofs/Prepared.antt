@@ -14,7 +14,8 @@ use Rattle.cv_vault.specs.Disk.{Disk, File, Files, Image, IsCalm, LeftAt, Mark, 
 use Rattle.cv_vault.specs.Walks.{Change, Stays, Comes, Gains, Within}
 use Rattle.cv_vault.proofs.Laws.{calm_image, within_image}
 use Rattle.cv_objects.specs.Names.{is_digest, objects_of, standing_on}
-use Rattle.cv_objects.specs.Batches.{AreNamed, Brings, IsGained}
+use Rattle.cv_base.specs.Objects.{AreNamed}
+use Rattle.cv_objects.specs.Batches.{Brings, IsGained}
 use Rattle.cv_objects.specs.Coming.{ShelfGains}
 use Rattle.cv_objects.proofs.Lemmas.{digest_back, is_digest_of, gains_some}
 use Rattle.cv_swap.specs.Kept.{Kept, Revision}

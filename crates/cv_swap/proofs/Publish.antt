@@ -17,7 +17,8 @@ use Rattle.cv_vault.specs.Walks.{Gains, Within, Walks, Nothing, ComesTo}
 use Rattle.cv_vault.specs.Replace.{IsSure, MovedIn, IsWaiting}
 use Rattle.cv_vault.proofs.Laws.{here, elsewhere, call, bind, looser, leaves_more, leaves_then, gains_then, gains_more, gains_none, within_then, within_more, quiet_walks, writes, ok, err, sync_ok, sync_err, sure_then, sure_waits}
 use Rattle.cv_objects.specs.Faults.{fault_of}
-use Rattle.cv_objects.specs.Batches.{AreNamed, Has, Brings, IsOne, IsRefusal, Stored}
+use Rattle.cv_base.specs.Objects.{AreNamed}
+use Rattle.cv_objects.specs.Batches.{Has, Brings, IsOne, IsRefusal, Stored}
 use Rattle.cv_objects.specs.declared.store_fault.StoreFault.{StoreFault}
 use Rattle.cv_objects.specs.declared.store_fault.StoreFault.TheVariants.{Collision, Failed, Damaged, NoMemory}
 use Rattle.cv_objects.proofs.Lemmas.{outside, has_then}

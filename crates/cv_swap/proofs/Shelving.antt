@@ -17,7 +17,8 @@ use Rattle.cv_vault.specs.Walks.{Gains, Walks, Nothing, BringsNothing}
 use Rattle.cv_vault.proofs.Laws.{bind, looser}
 use Rattle.cv_objects.specs.Names.{standing_on}
 use Rattle.cv_objects.specs.Fresh.{each_once, lacking, fresh_of}
-use Rattle.cv_objects.specs.Batches.{AreNamed, Agrees, Has, Brings, Brought, GivesFresh, WroteAll, IsOne, ShownIn, IsOutside, IsRefusal, Stored}
+use Rattle.cv_base.specs.Objects.{AreNamed}
+use Rattle.cv_objects.specs.Batches.{Agrees, Has, Brings, Brought, GivesFresh, WroteAll, IsOne, ShownIn, IsOutside, IsRefusal, Stored}
 use Rattle.cv_objects.specs.declared.store_fault.StoreFault.{StoreFault}
 use Rattle.cv_objects.specs.declared.store_fault.StoreFault.TheVariants.{Collision, Failed, Damaged, NoMemory}
 use Rattle.cv_objects.proofs.Lemmas.{brings_nothing, brings_later, is_digest_of, standing_is, refusal_inside}

@@ -9,7 +9,8 @@ use Rattle.std.proofs.lemmas.List.{take_at, length-take-le}
 use Rattle.cv_base.specs.declared.object.Object.{Object}
 use Rattle.cv_history.specs.declared.record.Record.{Record}
 use Rattle.cv_vault.proofs.Laws.{looser, stand, gains_none}
-use Rattle.cv_objects.specs.Batches.{AreNamed, Brings, Has, IsOne, IsRefusal}
+use Rattle.cv_base.specs.Objects.{AreNamed}
+use Rattle.cv_objects.specs.Batches.{Brings, Has, IsOne, IsRefusal}
 use Rattle.cv_objects.specs.declared.store_fault.StoreFault.{StoreFault}
 use Rattle.cv_objects.specs.declared.store_fault.StoreFault.TheVariants.{Collision, Failed, Damaged, NoMemory}
 use Rattle.cv_objects.proofs.Lemmas.{named_more}

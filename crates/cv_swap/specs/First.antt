@@ -5,13 +5,14 @@ use Rattle.cv_tree.specs.Tree.{Nodes, single}
 use Rattle.cv_tree.specs.declared.node.Node.TheVariants.{Dir}
 use Rattle.cv_cut.specs.Catalogues.{root_of}
 use Rattle.cv_cut.specs.Cut.{cut_of}
+use Rattle.cv_base.specs.Attr.{new_directory}
 use Rattle.cv_history.specs.Record.{no_hash}
 use Rattle.cv_history.specs.declared.record.Record.{Record}
 use Rattle.cv_swap.specs.Kept.{Revision, object_of}
 
 -- a directory with nothing in it, made at a moment
 abbrev pub first_tree : ℕ → Nodes
-first_tree now = single (Dir (record { mode = 493; mtime = now; uid = 0; gid = 0 }))
+first_tree now = single (Dir (new_directory now))
 
 -- the record of a first revision, with this root
 abbrev pub first_record : List ℕ → ℕ → Record

@@ -3,7 +3,7 @@ ghost use Rattle.std.specs.Prelude.{◌≡◌, [], Some, IfOk};
 ghost use Rattle.cv_base.specs.Moment.{IsMoment};
 ghost use Rattle.cv_history.specs.Record.{IsRecord};
 ghost use Rattle.cv_cut.specs.Cut.{cut_of};
-ghost use Rattle.cv_objects.specs.Batches.{AreNamed};
+ghost use Rattle.cv_base.specs.Objects.{AreNamed};
 ghost use Rattle.cv_swap.specs.First.{first_record, first_revision, first_tree, first_batch};
 ghost use Rattle.cv_swap.specs.Stands.{head_of, head_text, Publishes};
 
@@ -19,13 +19,7 @@ use std::alloc::Global;
 fn first_cut(alloc: Global, now: u64) -> Result<Cut, NoMemory>
     ensures { IfOk result (λ made. made ≡ cut_of (first_tree now)) }
 {
-    let root = Attr {
-        mode: 0o755,
-        mtime: now,
-        uid: 0,
-        gid: 0,
-    };
-    let tree = Tree::new(alloc, root)?;
+    let tree = Tree::new(alloc, Attr::new_directory(now))?;
     match cut(alloc, &tree) {
         Ok(made) => Ok(made),
         // No two paths share a key there, and no catalogue is full.

@@ -1,8 +1,8 @@
 //! What stands in a vault is opened, or refused by its first fault.
 
-use crate::tests::{HEAD, live, name, signer};
+use crate::tests::{HEAD, live, open};
 use cv_history::ChainFault;
-use cv_swap::{Line, OpenFault};
+use cv_swap::OpenFault;
 use cv_vault::{MemoryVault, Vault};
 use std::alloc::Global;
 use std::test::Fail;
@@ -198,7 +198,7 @@ fn set(vault: &mut MemoryVault, at: &str, bytes: &Option<&[u8]>) -> Result<(), F
 }
 
 /// What a fault is called in the table.
-fn said(fault: OpenFault) -> &'static str {
+pub(crate) fn said(fault: OpenFault) -> &'static str {
     match fault {
         OpenFault::NoRepository => "no repository",
         OpenFault::BadManifest(_) => "bad manifest",
@@ -213,25 +213,23 @@ fn said(fault: OpenFault) -> &'static str {
     }
 }
 
-/// Whether opening answers so, where an object that is no record stands beside those of the repository.
-fn answers(alloc: Global, opening: &Opening) -> Result<bool, Fail> {
-    let (path, bytes, epoch, repository, secret, answer) = opening;
+/// What opening answers, where an object that is no record stands beside those of the repository.
+fn answer(alloc: Global, opening: &Opening) -> Result<&'static str, Fail> {
+    let (path, bytes, epoch, repository, secret, _) = opening;
     let (_, mut vault) = live(alloc, Vec::new(alloc))?;
-    vault.write(HELLO, b"hello\n")?;
+    set(&mut vault, HELLO, &Some(b"hello\n"))?;
     set(&mut vault, path, bytes)?;
     set(&mut vault, EPOCH, epoch)?;
-    let (name, signer) = (name(alloc, repository)?, signer(alloc, secret)?);
-    let given = match Line::open(vault, alloc, name, signer) {
-        Ok(_) => "opened",
-        Err((fault, _)) => said(fault),
-    };
-    Ok(given == *answer)
+    match open(alloc, vault, repository, secret)? {
+        Ok(_) => Ok("opened"),
+        Err((word, _)) => Ok(word),
+    }
 }
 
 #[test]
 fn what_stands_is_opened_or_refused_in_order(rt: HostRuntime) -> Result<(), Fail> {
     for opening in &OPENINGS {
-        assert!(rt; answers(rt.alloc(), opening)?);
+        assert!(rt; answer(rt.alloc(), opening)? == opening.5);
     }
     Ok(())
 }

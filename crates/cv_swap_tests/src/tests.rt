@@ -1,14 +1,14 @@
 //! A repository over a vault in memory, against the files of `tools/line_vectors.py`.
-ghost use Rattle.std.specs.Prelude.{◌≡◌, IfOk};
+ghost use Rattle.std.specs.Prelude.{IfOk};
+ghost use Rattle.cv_base.specs.Objects.{AreNamed};
 ghost use Rattle.cv_history.specs.Record.{IsRecord};
-ghost use Rattle.cv_objects.specs.Batches.{AreNamed};
-ghost use Rattle.cv_swap.specs.declared.stage.Stage.TheVariants as stage;
 
+use crate::opening_tests::said;
 use cv_base::{Bytes, Kind, Name, Object, ObjectId};
 use cv_history::Record;
 use cv_ports::Shelf;
 use cv_seal::KeyedHash;
-use cv_swap::{InitFault, Line, OpenFault};
+use cv_swap::{InitFault, Line};
 use cv_vault::{MemoryVault, Mortal, Vault};
 use std::alloc::Global;
 use std::test::Fail;
@@ -68,35 +68,64 @@ const RECORD: &[u8] =
 /// The name of the manifest.
 pub(crate) const HEAD: &str = ".cvmfspublished";
 
-pub(crate) fn name(alloc: Global, text: &str) -> Result<Name, Fail> {
+/// The repository's name, and its secret.
+const NAME: &str = "sw.example.org";
+
+const SECRET: &str = "seal";
+
+fn name(alloc: Global, text: &str) -> Result<Name, Fail> {
     match Name::read(alloc, text)? {
         Some(name) => Ok(name),
         None => Err(Fail::new("no name")),
     }
 }
 
-pub(crate) fn signer(alloc: Global, secret: &str) -> Result<KeyedHash, Fail> {
+fn signer(alloc: Global, secret: &str) -> Result<KeyedHash, Fail> {
     Ok(KeyedHash::new(String::from_str(alloc, secret)?))
 }
 
-/// Makes the repository.
-fn init(
-    alloc: Global,
-    vault: MemoryVault,
-) -> Result<Result<MemoryVault, (InitFault, MemoryVault)>, Fail> {
-    let (name, signer) = (name(alloc, "sw.example.org")?, signer(alloc, "seal")?);
-    Ok(Line::init(vault, alloc, &name, &signer, 1700000000))
+/// Makes the repository in a vault: `made`, or why it isn't.
+fn made(alloc: Global, vault: MemoryVault) -> Result<(&'static str, MemoryVault), Fail> {
+    let (name, signer) = (name(alloc, NAME)?, signer(alloc, SECRET)?);
+    match Line::init(vault, alloc, &name, &signer, 1700000000) {
+        Ok(vault) => Ok(("made", vault)),
+        Err((InitFault::Exists, vault)) => Ok(("exists", vault)),
+        Err((_, vault)) => Ok(("another", vault)),
+    }
 }
 
-/// Opens it.
-fn open(
+/// Opens what stands in a vault under a name and a secret, or says why it can't.
+pub(crate) fn open(
     alloc: Global,
     vault: MemoryVault,
-) -> Result<Result<TestLine, (OpenFault, MemoryVault)>, Fail>
-    ensures { IfOk result (λ opened. IfOk opened (λ line. line.stage ≡ stage.Calm)) }
-{
-    let (name, signer) = (name(alloc, "sw.example.org")?, signer(alloc, "seal")?);
-    Ok(Line::open(vault, alloc, name, signer))
+    repository: &str,
+    secret: &str,
+) -> Result<Result<TestLine, (&'static str, MemoryVault)>, Fail> {
+    let (name, signer) = (name(alloc, repository)?, signer(alloc, secret)?);
+    match Line::open(vault, alloc, name, signer) {
+        Ok(line) => Ok(Ok(line)),
+        Err((fault, vault)) => Ok(Err((said(fault), vault))),
+    }
+}
+
+/// Makes the repository and opens it, or says how far that came: 0 while it was made, 1 while it was opened.
+fn begun(alloc: Global, failing: Vec<u64>) -> Result<Result<TestLine, (u64, MemoryVault)>, Fail> {
+    let (word, vault) = made(alloc, MemoryVault::new(alloc, failing)?)?;
+    if word != "made" {
+        return Ok(Err((0, vault)));
+    }
+    match open(alloc, vault, NAME, SECRET)? {
+        Ok(line) => Ok(Ok(line)),
+        Err((_, vault)) => Ok(Err((1, vault))),
+    }
+}
+
+/// The repository, made and opened.
+fn opened(alloc: Global, failing: Vec<u64>) -> Result<TestLine, Fail> {
+    match begun(alloc, failing)? {
+        Ok(line) => Ok(line),
+        Err(_) => Err(Fail::new("not made and opened")),
+    }
 }
 
 /// The record of the second revision.
@@ -117,29 +146,52 @@ fn others(alloc: Global) -> Result<Vec<Object>, Fail>
     Ok(batch)
 }
 
-/// Publishes the second revision, and how far that came: 2 to its bringing or preparing, 3 to its swap, 4 to the end.
-fn publish(alloc: Global, line: &mut TestLine) -> Result<u64, Fail>
-    requires { line.old.stage ≡ stage.Calm }
-{
-    let record = second(alloc)?;
-    let others = others(alloc)?;
-    if line.shelve(alloc, &record, others).is_err() {
-        return Ok(2);
+/// Brings the second revision's record and its other object, and whether that was done.
+fn shelved(alloc: Global, line: &mut TestLine) -> Result<bool, Fail> {
+    if line.in_doubt() {
+        return Err(Fail::new("in doubt before it is brought"));
     }
+    let (record, others) = (second(alloc)?, others(alloc)?);
+    Ok(line.shelve(alloc, &record, others).is_ok())
+}
+
+/// Prepares the second revision, and swaps it in where that is asked: 2 where it wasn't prepared, 3 where it wasn't swapped
+/// in, and 4 at the end.
+fn prepared(alloc: Global, line: &mut TestLine, swaps: bool) -> Result<u64, Fail> {
+    if line.in_doubt() {
+        return Err(Fail::new("in doubt before it is prepared"));
+    }
+    let record = second(alloc)?;
     if line.prepare(alloc, record, 81).is_err() {
         return Ok(2);
     }
-    Ok(if line.swap().is_ok() { 4 } else { 3 })
+    Ok(if swaps && line.swap().is_ok() { 4 } else { 3 })
+}
+
+/// Publishes the second revision, and how far that came: 2 to its bringing or preparing, 3 to its swap, 4 to the end.
+fn publish(alloc: Global, line: &mut TestLine) -> Result<u64, Fail> {
+    if shelved(alloc, line)? {
+        prepared(alloc, line, true)
+    } else {
+        Ok(2)
+    }
+}
+
+/// Whether the vault has this file.
+fn has_file(alloc: Global, vault: &mut MemoryVault, file: &File) -> Result<bool, Fail> {
+    let (path, length, name) = file;
+    let Some(found) = vault.read(path)? else {
+        return Ok(false);
+    };
+    let bytes = found.as_slice();
+    let text = ObjectId::of(Kind::Plain, bytes).file_name(alloc)?;
+    Ok(bytes.len() == *length && text.as_str() == *name)
 }
 
 /// Whether the vault has these files.
 fn has(alloc: Global, vault: &mut MemoryVault, files: &[File]) -> Result<bool, Fail> {
-    for (path, length, name) in files {
-        let Some(file) = vault.read(path)? else {
-            return Ok(false);
-        };
-        let id = ObjectId::of(Kind::Plain, file.as_slice());
-        if file.as_slice().len() != *length || id.file_name(alloc)?.as_str() != *name {
+    for file in files {
+        if !has_file(alloc, vault, file)? {
             return Ok(false);
         }
     }
@@ -161,32 +213,34 @@ fn has_revision(alloc: Global, vault: &mut MemoryVault, revision: u64) -> Result
 /// A life of a repository: it is made, opened and published in, up to the first call that fails. How far it came: 0 while it
 /// was made, 1 while it was opened, 2 while the revision was brought or prepared, 3 while it was swapped in, 4 at the end.
 pub(crate) fn live(alloc: Global, failing: Vec<u64>) -> Result<(u64, MemoryVault), Fail> {
-    let vault = match init(alloc, MemoryVault::new(alloc, failing)?)? {
-        Ok(vault) => vault,
-        Err((_, vault)) => return Ok((0, vault)),
-    };
-    let mut line = match open(alloc, vault)? {
-        Ok(line) => line,
-        Err((_, vault)) => return Ok((1, vault)),
-    };
-    let came = publish(alloc, &mut line)?;
-    Ok((came, line.into_vault()))
+    match begun(alloc, failing)? {
+        Ok(mut line) => {
+            let came = publish(alloc, &mut line)?;
+            Ok((came, line.into_vault()))
+        },
+        Err(early) => Ok(early),
+    }
+}
+
+/// The revision and the epoch of a line, how many records it has, and its vault.
+fn parts(line: TestLine) -> (u64, u64, u64, MemoryVault) {
+    let (revision, epoch) = (line.head().revision, line.epoch());
+    let records = line.records().len() as u64;
+    (revision, epoch, records, line.into_vault())
 }
 
 /// The revision that is found when the vault is opened, and the epoch; and whether all of the revision is there.
 fn found(alloc: Global, vault: MemoryVault) -> Result<(u64, u64, bool), Fail> {
-    match open(alloc, vault)? {
+    match open(alloc, vault, NAME, SECRET)? {
         Ok(line) => {
-            let (revision, epoch) = (line.head().revision, line.epoch());
-            let records = line.records().len() as u64;
-            let mut vault = line.into_vault();
+            let (revision, epoch, records, mut vault) = parts(line);
             let whole = has_revision(alloc, &mut vault, revision)?;
             Ok((revision, epoch, whole && records == revision))
         },
-        Err((OpenFault::NoRepository, mut vault)) => {
-            Ok((0, 0, has_revision(alloc, &mut vault, 0)?))
+        Err((fault, mut vault)) => {
+            let none = has_revision(alloc, &mut vault, 0)?;
+            Ok((0, 0, none && fault == "no repository"))
         },
-        Err(_) => Ok((0, 0, false)),
     }
 }
 
@@ -201,71 +255,80 @@ fn may(came: u64, revision: u64, epoch: u64) -> bool {
     }
 }
 
+/// A call of this number is to fail, the change made or not.
+fn failing(alloc: Global, call: u64, made: bool) -> Result<Vec<u64>, Fail> {
+    let mut calls = vec![in alloc; call]?;
+    if made {
+        calls.push(call)?;
+    }
+    Ok(calls)
+}
+
 /// How far a life came whose call of this number failed, the change made or not, and which a crash ended; and whether it
 /// left what it may.
 fn survives(alloc: Global, call: u64, made: bool, pick: u64) -> Result<(u64, bool), Fail> {
-    let mut failing = vec![in alloc; call]?;
-    if made {
-        failing.push(call)?;
-    }
-    let (came, vault) = live(alloc, failing)?;
+    let (came, vault) = live(alloc, failing(alloc, call, made)?)?;
     let (revision, epoch, whole) = found(alloc, vault.crash(pick))?;
     Ok((came, whole && may(came, revision, epoch)))
+}
+
+/// Whether every life whose call of this number failed, the change made or not, left what it may, by each of sixteen picks.
+fn all_survive(alloc: Global, call: u64) -> Result<bool, Fail> {
+    for pick in 0..32u64 {
+        if !survives(alloc, call, pick >= 16, pick % 16)?.1 {
+            return Ok(false);
+        }
+    }
+    Ok(true)
 }
 
 /// Seventeen calls make the repository, eight open it and fourteen publish a revision, by three syncs: of what is on its way, of
 /// what came with the manifest, and of the manifest's name.
 #[test]
 fn a_crash_at_any_call_leaves_a_whole_revision(rt: HostRuntime) -> Result<(), Fail> {
-    let alloc = rt.alloc();
     for call in 1..40u64 {
-        for pick in 0..16u64 {
-            assert!(rt; survives(alloc, call, false, pick)?.1);
-            assert!(rt; survives(alloc, call, true, pick)?.1);
-        }
+        assert!(rt; all_survive(rt.alloc(), call)?, "at {call}");
     }
-    assert!(rt; survives(alloc, 39, false, 0)? == (3, true));
-    assert!(rt; survives(alloc, 1000, false, 0)? == (4, true));
+    assert!(rt; survives(rt.alloc(), 39, false, 0)? == (3, true));
+    assert!(rt; survives(rt.alloc(), 1000, false, 0)? == (4, true));
     Ok(())
+}
+
+/// Makes the repository, and once more where it stands: the words of both, whether the first one's files stand between them,
+/// and what is found then.
+fn made_twice(alloc: Global) -> Result<(&'static str, bool, &'static str, (u64, u64, bool)), Fail> {
+    let (first, mut vault) = made(alloc, MemoryVault::new(alloc, Vec::new(alloc))?)?;
+    let stands = has_revision(alloc, &mut vault, 1)?;
+    let (again, vault) = made(alloc, vault)?;
+    Ok((first, stands, again, found(alloc, vault)?))
 }
 
 #[test]
 fn a_repository_is_made_opened_and_published_in(rt: HostRuntime) -> Result<(), Fail> {
-    let alloc = rt.alloc();
-    let Ok(mut vault) = init(alloc, MemoryVault::new(alloc, Vec::new(alloc))?)? else {
-        return Err(Fail::new("not made"));
-    };
-    assert!(rt; has_revision(alloc, &mut vault, 1)?);
-    let Err((fault, vault)) = init(alloc, vault)? else {
-        return Err(Fail::new("made twice"));
-    };
-    assert_eq!(rt; fault, InitFault::Exists);
-    assert!(rt; found(alloc, vault)? == (1, 1, true));
-    let (came, vault) = live(alloc, Vec::new(alloc))?;
+    let (first, stands, again, look) = made_twice(rt.alloc())?;
+    assert!(rt; first == "made" && stands);
+    assert!(rt; again == "exists" && look == (1, 1, true));
+    let (came, vault) = live(rt.alloc(), Vec::new(rt.alloc()))?;
     assert!(rt; came == 4);
-    assert!(rt; found(alloc, vault)? == (2, 2, true));
+    assert!(rt; found(rt.alloc(), vault)? == (2, 2, true));
     Ok(())
 }
 
-/// A swap whose rename fails, made or not, and a look that settles it: whether it came, and the revision of the head then.
-fn settles(alloc: Global, made: bool) -> Result<(bool, u64), Fail> {
-    // The rename is the thirteenth call of publishing.
-    let mut failing = vec![in alloc; 38]?;
-    if made {
-        failing.push(38)?;
-    }
-    let Ok(vault) = init(alloc, MemoryVault::new(alloc, failing)?)? else {
-        return Err(Fail::new("not made"));
-    };
-    let Ok(mut line) = open(alloc, vault)? else {
-        return Err(Fail::new("not opened"));
-    };
-    let _came = publish(alloc, &mut line)?;
+/// Settles a line in doubt: whether its revision came, and the revision of the head then.
+fn recovered(line: &mut TestLine) -> Result<(bool, u64), Fail> {
     if !line.in_doubt() {
         return Err(Fail::new("no doubt"));
     }
     let came = line.recover()?;
     Ok((came, line.head().revision))
+}
+
+/// A swap whose rename fails, made or not, and a look that settles it: whether it came, and the revision of the head then.
+fn settles(alloc: Global, made: bool) -> Result<(bool, u64), Fail> {
+    // The rename is the thirteenth call of publishing.
+    let mut line = opened(alloc, failing(alloc, 38, made)?)?;
+    let _came = publish(alloc, &mut line)?;
+    recovered(&mut line)
 }
 
 #[test]
@@ -277,21 +340,21 @@ fn a_failed_swap_is_settled_as_it_was_made(rt: HostRuntime) -> Result<(), Fail> 
 
 /// Whether the second revision is prepared where the call of this number fails, with its record brought before or not.
 fn prepares(alloc: Global, brought: bool, call: u64) -> Result<bool, Fail> {
-    let failing = vec![in alloc; call]?;
-    let Ok(vault) = init(alloc, MemoryVault::new(alloc, failing)?)? else {
-        return Err(Fail::new("not made"));
-    };
-    let Ok(mut line) = open(alloc, vault)? else {
-        return Err(Fail::new("not opened"));
-    };
-    let record = second(alloc)?;
-    if brought {
-        let others = others(alloc)?;
-        if line.shelve(alloc, &record, others).is_err() {
-            return Err(Fail::new("not brought"));
+    let mut line = opened(alloc, failing(alloc, call, false)?)?;
+    if brought && !shelved(alloc, &mut line)? {
+        return Err(Fail::new("not brought"));
+    }
+    Ok(prepared(alloc, &mut line, false)? == 3)
+}
+
+/// The first number from this one on whose call may fail, and the second revision is prepared all the same.
+fn first_prepared(alloc: Global, brought: bool, from: u64) -> Result<u64, Fail> {
+    for call in from..40 {
+        if prepares(alloc, brought, call)? {
+            return Ok(call);
         }
     }
-    Ok(line.prepare(alloc, record, 81).is_ok())
+    Err(Fail::new("never prepared"))
 }
 
 /// Behind the 25 calls that make and open the repository, nine bring the record with a catalogue: a sync, and a read and a write
@@ -299,36 +362,80 @@ fn prepares(alloc: Global, brought: bool, call: u64) -> Result<bool, Fail> {
 /// and of the record two reads, a write and a rename.
 #[test]
 fn a_record_that_stands_is_prepared_by_three_calls(rt: HostRuntime) -> Result<(), Fail> {
-    let alloc = rt.alloc();
-    for call in 35..38u64 {
-        assert!(rt; !prepares(alloc, true, call)?);
-    }
-    assert!(rt; prepares(alloc, true, 38)?);
-    for call in 26..34u64 {
-        assert!(rt; !prepares(alloc, false, call)?);
-    }
-    assert!(rt; prepares(alloc, false, 34)?);
+    assert_eq!(rt; first_prepared(rt.alloc(), true, 35)?, 38);
+    assert_eq!(rt; first_prepared(rt.alloc(), false, 26)?, 34);
     Ok(())
+}
+
+/// How many objects of the other one's batch a line lacks.
+fn fresh_count(alloc: Global, line: &mut TestLine) -> Result<usize, Fail> {
+    let batch = others(alloc)?;
+    Ok(line.fresh(alloc, batch.as_slice())?.len())
+}
+
+/// Stores the other object, and whether that was done.
+fn stored(alloc: Global, line: &mut TestLine) -> Result<bool, Fail> {
+    let batch = others(alloc)?;
+    Ok(line.store(alloc, batch.as_slice()).is_ok())
+}
+
+/// How many bytes a line says that the other object has.
+fn length_of(alloc: Global, line: &mut TestLine) -> Result<Option<u64>, Fail> {
+    Ok(line.length(alloc, &ObjectId::of(Kind::Catalogue, CATALOGUE))?)
+}
+
+/// Whether a line serves the other object.
+fn serves(alloc: Global, line: &mut TestLine) -> Result<bool, Fail> {
+    match line.fetch(alloc, &ObjectId::of(Kind::Catalogue, CATALOGUE))? {
+        Some(found) => Ok(found.as_slice() == CATALOGUE),
+        None => Ok(false),
+    }
+}
+
+/// What is asked of a line about the other object.
+#[derive(Clone, Copy)]
+enum Ask {
+    /// How many objects of its batch the line lacks.
+    Lacked,
+    /// That it be stored: 1 where it was.
+    Store,
+    /// How many bytes it has.
+    Length,
+    /// The object: 1 where its bytes are served.
+    Serve,
+}
+
+/// The number that a line answers.
+fn number_of(alloc: Global, line: &mut TestLine, asked: Ask) -> Result<Option<u64>, Fail> {
+    Ok(match asked {
+        Ask::Lacked => Some(fresh_count(alloc, line)? as u64),
+        Ask::Store => Some(u64::from(stored(alloc, line)?)),
+        Ask::Length => length_of(alloc, line)?,
+        Ask::Serve => Some(u64::from(serves(alloc, line)?)),
+    })
+}
+
+static ASKED: [(Ask, Option<u64>); 5] = [
+    (Ask::Lacked, Some(1)),
+    (Ask::Store, Some(1)),
+    (Ask::Lacked, Some(0)),
+    (Ask::Length, Some(81)),
+    (Ask::Serve, Some(1)),
+];
+
+/// The number of the first row that a line answers otherwise, in a repository that was just opened.
+fn first_other(alloc: Global, rows: &[(Ask, Option<u64>)]) -> Result<Option<usize>, Fail> {
+    let mut line = opened(alloc, Vec::new(alloc))?;
+    for (number, (asked, answer)) in rows.iter().enumerate() {
+        if number_of(alloc, &mut line, *asked)? != *answer {
+            return Ok(Some(number));
+        }
+    }
+    Ok(None)
 }
 
 #[test]
 fn objects_are_stored_and_served_by_a_line(rt: HostRuntime) -> Result<(), Fail> {
-    let alloc = rt.alloc();
-    let Ok(vault) = init(alloc, MemoryVault::new(alloc, Vec::new(alloc))?)? else {
-        return Err(Fail::new("not made"));
-    };
-    let Ok(mut line) = open(alloc, vault)? else {
-        return Err(Fail::new("not opened"));
-    };
-    let batch = others(alloc)?;
-    assert!(rt; line.fresh(alloc, batch.as_slice())?.len() == 1);
-    assert_eq!(rt; line.store(alloc, batch.as_slice()), Ok(()));
-    assert!(rt; line.fresh(alloc, batch.as_slice())?.is_empty());
-    let id = ObjectId::of(Kind::Catalogue, CATALOGUE);
-    assert_eq!(rt; line.length(alloc, &id), Ok(Some(81)));
-    assert!(rt;
-        line.fetch(alloc, &id)?
-            .is_some_and(|found| found.as_slice() == CATALOGUE)
-    );
+    assert_eq!(rt; first_other(rt.alloc(), &ASKED)?, None);
     Ok(())
 }

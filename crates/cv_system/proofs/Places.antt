@@ -10,6 +10,7 @@ use Rattle.std.proofs.lemmas.List.Sums.{AllPass-from_list_all}
 use Rattle.std.proofs.lemmas.Slice.Eq.{starts_is}
 use Rattle.std.proofs.lemmas.Bool.Decides.{Decides-eqb}
 use Rattle.std.proofs.lemmas.Str.Pattern.{starts_text}
+use Rattle.std.proofs.lemmas.Bool.{not-true}
 use Rattle.cv_base.specs.Path.{Path, is_dots, last_name_of}
 use Rattle.cv_base.specs.PathText.{parts_of}
 use Rattle.cv_base.proofs.Laws.{first_true, second_true}
@@ -45,15 +46,11 @@ pub another_front : (name : List ℕ) → FindsTextPrefix (codes "txn/") name No
 unfolding stands_at
 another_front name none = ap (λ b. cond (b && list_all (λ b. not (b == 47)) (drop 4 name)) (codes ".cvkit-txn-" ++ drop 4 name) name) (sym (starts_text false (codes "txn/") name none))
 
-is_false : (a : Bool) → not a ≡ true → a ≡ false
-is_false false h = refl
-is_false true h = absurd (cc)
-
 -- a text without a slash is one part
 sole_part : (bytes : List ℕ) → list_all (λ b. not (b == 47)) bytes ≡ true → parts_of bytes ≡ bytes ∷ []
 sole_part bytes free =
     slice_split_none (λ b. b == 47) bytes
-    (All-weaker (λ b. not (b == 47) ≡ true) (λ b. (b == 47) ≡ false) (λ b plain. is_false (b == 47) plain) bytes (AllPass-from_list_all (λ b. not (b == 47)) bytes free))
+    (All-weaker (λ b. not (b == 47) ≡ true) (λ b. (b == 47) ≡ false) (λ b plain. not-true (b == 47) plain) bytes (AllPass-from_list_all (λ b. not (b == 47)) bytes free))
 
 not_own : (a b c : Bool) → (a && b && not c) ≡ true → c ≡ false
 not_own false b c h = absurd (cc)

@@ -4,7 +4,8 @@ use Rattle.cv_system.specs.declared.seen.Seen.{Seen}
 use Rattle.cv_system.specs.declared.syncing.Unsynced.{Unsynced}
 use Rattle.cv_system.specs.declared.syncing.Unsynced.TheVariants.{Lost, NotOpened}
 use Rattle.cv_system.specs.Calls.{Call, Cause, Done, Entered, Failed, Log, Looked, Named, Opened, Outcome, Removed, Synced}
-use Rattle.cv_system.specs.Names.{names_in, with_slash}
+use Rattle.cv_base.specs.Path.{with_slash}
+use Rattle.cv_system.specs.Names.{names_in}
 use Rattle.cv_system.specs.Passed.{IsShut, Passes, StopsAt}
 use Rattle.cv_system.specs.Steps.{Makes, Still, Then, Tries}
 use Rattle.cv_system.specs.Syncs.{ClearsFolder, FailsFolder, FailsToSync, FailsTop, PassesFolder, SettlesFolder, syncs}

@@ -6,7 +6,7 @@ use Rattle.cv_base.specs.Counts.{last_count}
 use Rattle.cv_system.specs.declared.syncing.Unsynced.{Unsynced}
 use Rattle.cv_system.specs.declared.syncing.Unsynced.TheVariants.{NotOpened}
 use Rattle.cv_system.specs.Calls.{Log}
-use Rattle.cv_system.specs.Names.{with_slash}
+use Rattle.cv_base.specs.Path.{with_slash}
 use Rattle.cv_system.specs.Syncs.{FailsTop, PassesFolder, SettlesFolder}
 use Rattle.cv_system.specs.Walks.{Begins, FailsAll, FailsTurn, FindsNext, IsUnder, SettlesAll, Turns, Walks, first_of, is_inside}
 use Rattle.cv_system.proofs.LastParts.{first_under}

@@ -45,10 +45,6 @@ folder_of path =
 abbrev pub next_of : List ℕ → List ℕ → List ℕ
 next_of root name = folder_of (path_of root name) ++ codes ".cvkit-next"
 
--- a folder's path with the slash at its end
-abbrev pub with_slash : List ℕ → List ℕ
-with_slash folder = folder ++ 47 ∷ []
-
 -- the names in what the system gives of a folder, between which NULs stand
 abbrev pub names_in : List ℕ → List (List ℕ)
 names_in bytes = slice_split (λ b. b == 0) bytes

@@ -14,7 +14,8 @@ use Rattle.cv_system.specs.declared.seen.Kind.TheVariants.{Folder}
 use Rattle.cv_system.specs.declared.syncing.Unsynced.{Unsynced}
 use Rattle.cv_system.specs.declared.syncing.Unsynced.TheVariants.{NotOpened}
 use Rattle.cv_system.specs.Calls.{Cause, Log, Done, Failed, Looked, Entered, Named, and_call}
-use Rattle.cv_system.specs.Names.{above, is_part, names_in, with_slash}
+use Rattle.cv_base.specs.Path.{with_slash}
+use Rattle.cv_system.specs.Names.{above, is_part, names_in}
 use Rattle.cv_system.specs.Passed.{HidesNoName, IsShut, Passes, StopsAt}
 use Rattle.cv_system.specs.Steps.{IsNothing}
 use Rattle.cv_system.specs.Syncs.{FailsFolder, FailsTop, PassesFolder, SettlesFolder}

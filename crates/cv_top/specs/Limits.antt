@@ -1,6 +1,6 @@
 -- The limits that several crates' definitions name by the code's own constants, as numbers.
 use Rattle.std.specs.Prelude.{◌≡◌, ◌+◌, ◌^◌}
-use Rattle.cv_base.specs.declared.limits.TheConstants.{KEY_ID_LIMIT, LAST_REVISION, LAST_TIME, MODE_LIMIT, OBJECT_LIMIT, TAG_LIMIT}
+use Rattle.cv_base.specs.declared.limits.TheConstants.{DIRECTORY_MODE, KEY_ID_LIMIT, LAST_REVISION, LAST_TIME, MODE_LIMIT, OBJECT_LIMIT, TAG_LIMIT}
 use Rattle.cv_base.specs.declared.name.TheConstants.{NAME_LIMIT}
 use Rattle.cv_base.specs.declared.path_name.TheConstants.{PATH_NAME_LIMIT}
 use Rattle.cv_base.specs.declared.repo_path.TheConstants.{NAMES_LIMIT, PATH_LIMIT}
@@ -22,6 +22,7 @@ use Rattle.cv_client.specs.declared.pinning.TheConstants.{CATALOGUES}
 use Rattle.cv_shell.specs.declared.lines.TheConstants.{LINE_LIMIT}
 use Rattle.cv_leases.specs.declared.limits.TheConstants.{LEASE_LIMIT}
 use Rattle.cv_gate.specs.declared.entry.TheConstants.{JOURNAL_LIMIT}
+use Rattle.cv_gate.specs.declared.lease_line.TheConstants.{LEASE_TIME}
 use Rattle.cv_session.specs.declared.exchange.TheConstants.{REQUEST_LIMIT}
 use Rattle.cv_session.specs.declared.payload.TheConstants.{MESSAGE_LIMIT}
 
@@ -34,14 +35,15 @@ pub record AreTextLimits : Type 0 where
   pub host : HOST_LIMIT ≡ 253
   pub room : PATH_ROOM ≡ 4096
 
--- of a tree: bytes of names, paths and links, names of a path, permission bits, rows of a catalogue, and bytes of an object, of which
--- one more is read
+-- of a tree: bytes of names, paths and links, names of a path, permission bits and those of a directory that is made without being asked
+-- for, rows of a catalogue, and bytes of an object, of which one more is read
 pub record AreTreeLimits : Type 0 where
   pub name : PATH_NAME_LIMIT ≡ 255
   pub path : PATH_LIMIT ≡ 4095
   pub names : NAMES_LIMIT ≡ 64
   pub target : TARGET_LIMIT ≡ 4095
   pub mode : MODE_LIMIT ≡ 4096
+  pub directory : DIRECTORY_MODE ≡ 493
   pub rows : ROW_LIMIT ≡ 50000
   pub object : OBJECT_LIMIT ≡ 16777216
   pub read : FOLDER_READ_LIMIT ≡ 16777217
@@ -54,14 +56,15 @@ pub record AreClientLimits : Type 0 where
   pub catalogues : CATALOGUES ≡ 64
   pub line : LINE_LIMIT ≡ 8192
 
--- of a gateway: revisions, seconds since 1970, seconds that a manifest says it lasts, keys, live leases, entries of the journal, and
--- objects and bytes of a pack, and bytes of its header
+-- of a gateway: revisions, seconds since 1970, seconds that a manifest says it lasts, keys, live leases, seconds for which a lease
+-- is granted, entries of the journal, and objects and bytes of a pack, and bytes of its header
 pub record AreGateLimits : Type 0 where
   pub revision : LAST_REVISION ≡ 262144
   pub time : LAST_TIME + 1 ≡ 2 ^ 62
   pub lasts : TIME_TO_LIVE ≡ 240
   pub keys : KEY_LIMIT ≡ 256
   pub leases : LEASE_LIMIT ≡ 4096
+  pub granted : LEASE_TIME ≡ 7200
   pub journal : JOURNAL_LIMIT ≡ 262144
   pub count : COUNT_LIMIT ≡ 10000
   pub total : TOTAL_LIMIT ≡ 33554432

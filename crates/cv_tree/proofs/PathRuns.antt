@@ -9,6 +9,7 @@ use Rattle.std.specs.Cmp.{tied_itself}
 use Rattle.std.specs.Cmp.Lexicographic.{nat_list_cmp_total}
 use Rattle.std.specs.List.{AllByRecursion, filter}
 use Rattle.std.specs.Map.{keys_of}
+use Rattle.std.proofs.lemmas.Bool.{not-true}
 use Rattle.cv_base.specs.Path.{Path, path_cmp, same_name, behind, covers}
 use Rattle.cv_base.specs.PathOrder.{path_total, name_exact, same_name_is, same_name_itself}
 use Rattle.cv_base.specs.BytesOrder.{bytes_cmp}
@@ -75,14 +76,10 @@ past_it p q r from outside later =
       | None ↦ λ e. refl
       | Some s ↦ λ e.
           let not_before : not (is_lt (path_cmp q p)) ≡ true = sym (stands_from-lt p q) ∙ from in
-          let inside = covers_between p q r (not_true (is_lt (path_cmp q p)) not_before) later (ap is_some e) in
+          let inside = covers_between p q r (not-true (is_lt (path_cmp q p)) not_before) later (ap is_some e) in
           let none : covers p q ≡ false = ap is_some outside in
           cc
     ] refl
-  where
-    not_true : (b : Bool) → not b ≡ true → b ≡ false
-    not_true true h = cc
-    not_true false h = refl
 
 module _ {X : Type 0} where
   -- what a path covers is all there from the path on

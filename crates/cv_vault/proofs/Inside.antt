@@ -6,14 +6,14 @@ use Rattle.std.specs.declared.option.Option.{Option}
 use Rattle.std.specs.declared.option.Option.TheVariants.{Some, None}
 use Rattle.std.specs.declared.result.Result.{Result}
 use Rattle.std.specs.declared.result.Result.TheVariants.{Ok, Err}
-use Rattle.cv_base.specs.Counts.{last_count}
+use Rattle.cv_base.specs.Counts.{last_count, raised}
 use Rattle.cv_base.proofs.Laws.{not_there}
 use Rattle.std.proofs.lemmas.List.Sums.{sum_by-cons}
 use Rattle.cv_vault.specs.Names.{Name, same_name}
 use Rattle.cv_vault.specs.Disk.{Disk, File, Reads, Lists, Writes, Renames, Removes, Syncs, Absent, Made, Unmade, synced}
 use Rattle.cv_vault.specs.Events.{NamedSlot, Event, Differs, Same, file_count, after, any_unsettled, write_of, rename_of, removal_of, Settles}
 use Rattle.cv_vault.specs.EventsInner.{disk_of, has_file, first_disk}
-use Rattle.cv_vault.specs.Failures.{times_next, next_call}
+use Rattle.cv_vault.specs.Failures.{times_next}
 use Rattle.cv_vault.specs.FailuresInner.{fate_of, fate_fails, fate_makes}
 use Rattle.cv_vault.specs.TableInner as table_inner
 use Rattle.cv_vault.specs.Table.{entries_of, past_of}
@@ -42,7 +42,7 @@ changed_adds e v v' a = record { first = a.first; past = a.past }
 pub record Next (s s' : Schedule) (ends : Fate) : Type 0 where
   pub fate : ends ≡ fate_of (times_next s.failing.items s.calls)
   pub failing : s'.failing ≡ s.failing
-  pub calls : s'.calls ≡ next_call s.calls
+  pub calls : s'.calls ≡ raised s.calls
   pub faults : s'.faults ≡ cond (fate_fails ends) (min (s.faults + 1) last_count) s.faults
 
 pub numbered_next : {X : Type 0} (v v' : Inside) (fate : Fate) (r : Result X VaultFault) → Next v.schedule v'.schedule fate

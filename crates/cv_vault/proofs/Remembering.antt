@@ -4,11 +4,10 @@ use Rattle.std.specs.declared.result.Result.{Result}
 use Rattle.std.specs.declared.result.Result.TheVariants.{Ok, Err}
 use Rattle.std.proofs.lemmas.List.{take_all, take-append-le}
 use Rattle.std.proofs.lemmas.Bool.Decides.{nat_tests}
-use Rattle.cv_base.specs.Counts.{last_count}
+use Rattle.cv_base.specs.Counts.{last_count, raised}
 use Rattle.cv_vault.specs.Names.{Name}
 use Rattle.cv_vault.specs.Disk.{Disk, Files, Image}
 use Rattle.cv_vault.specs.Events.{Event, Differs, Same, LeftBy, after, replay}
-use Rattle.cv_vault.specs.Failures.{next_call}
 use Rattle.cv_vault.specs.FailuresInner.{fate_of, fate_fails, fate_makes}
 use Rattle.cv_vault.specs.Memory.{Memory, began, memory_disk, times, MemoryCalls, Kept, Changed, Makes, Counted, Numbered}
 use Rattle.cv_vault.specs.declared.fate.Fate.{Fate}
@@ -109,7 +108,7 @@ makes_if_twice n fate is fails =
     twice n met = grind (arith, nat_tests)
 
 -- a call has the next number
-pub numbered_by : {X : Type 0} (v v' : Memory) (fate : Fate) (r : Result X VaultFault) → v'.failing ≡ v.failing → v'.calls ≡ next_call v.calls → fate ≡ fate_of (times v)
+pub numbered_by : {X : Type 0} (v v' : Memory) (fate : Fate) (r : Result X VaultFault) → v'.failing ≡ v.failing → v'.calls ≡ raised v.calls → fate ≡ fate_of (times v)
     → v'.faults ≡ cond (fate_fails fate) (min (v.faults + 1) last_count) v.faults → (r ≡ Err Failed → fate_fails fate ≡ true) → ((x : X) → r ≡ Ok x → fate_fails fate ≡ false) → Numbered v v' r
 numbered_by v v' fate r same next is faults failed worked = record {
   failing = same;

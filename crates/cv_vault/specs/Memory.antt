@@ -4,12 +4,12 @@ use Rattle.std.specs.declared.option.Option.{Option}
 use Rattle.std.specs.declared.option.Option.TheVariants.{Some, None}
 use Rattle.std.specs.declared.result.Result.{Result}
 use Rattle.std.specs.declared.result.Result.TheVariants.{Ok, Err}
-use Rattle.cv_base.specs.Counts.{last_count}
+use Rattle.cv_base.specs.Counts.{last_count, raised}
 use Rattle.cv_vault.specs.Names.{Name}
 use Rattle.cv_vault.specs.Disk.{File, Files, Disk, settled}
 use Rattle.cv_vault.specs.Events.{NamedSlot, Event, IfDiffers, LeftBy, after, replay, value_at, file_count, any_unsettled}
 use Rattle.cv_vault.specs.Moments.{Calls}
-use Rattle.cv_vault.specs.Failures.{times_next, next_call, later_failures}
+use Rattle.cv_vault.specs.Failures.{times_next, later_failures}
 use Rattle.cv_vault.specs.declared.vault.VaultFault.{VaultFault}
 use Rattle.cv_vault.specs.declared.vault.VaultFault.TheVariants.{Failed}
 
@@ -67,7 +67,7 @@ Counted v v' = IfDiffers (memory_disk v) (memory_disk v') (memory_count v' ≡ m
 -- the call has the next number. It answers Failed only where that number is to fail, and doesn't answer Ok where it is
 pub record Numbered {X : Type 0} (v v' : Memory) (r : Result X VaultFault) : Type 0 where
   pub failing : v'.failing ≡ v.failing
-  pub calls : v'.calls ≡ next_call v.calls
+  pub calls : v'.calls ≡ raised v.calls
   pub faults : v'.faults ≡ (if nat_lt 0 (times v) then min (v.faults + 1) last_count else v.faults)
   pub failed : r ≡ Err Failed → 0 < times v
   pub fails : (x : X) → r ≡ Ok x → times v ≡ 0

@@ -1,7 +1,7 @@
 //! The calls of a vault in memory that are to fail.
 ghost use Rattle.std.specs.Prelude.{◌≡◌, ◌+◌, ◌≤◌, min, if◌then◌else◌};
-ghost use Rattle.cv_base.specs.Counts.{last_count};
-ghost use Rattle.cv_vault.specs.Failures.{times_next, next_call, later_failures};
+ghost use Rattle.cv_base.specs.Counts.{last_count, raised};
+ghost use Rattle.cv_vault.specs.Failures.{times_next, later_failures};
 ghost use Rattle.cv_vault.specs.FailuresInner.{fate_of, fate_fails};
 
 use crate::fate::Fate;
@@ -19,7 +19,7 @@ impl Schedule {
     pub fn next(&mut self) -> Fate
         ensures fate { result ≡ fate_of (times_next self.old.failing.items self.old.calls) }
         ensures failing { self.new.failing ≡ self.old.failing }
-        ensures calls { self.new.calls ≡ next_call self.old.calls }
+        ensures calls { self.new.calls ≡ raised self.old.calls }
         ensures faults { self.new.faults ≡ (if fate_fails result then min (self.old.faults + 1) last_count else self.old.faults) }
         ensures later { later_failures self.new.failing.items self.new.calls + (if fate_fails result then 1 else 0) ≤ later_failures self.old.failing.items self.old.calls }
     {

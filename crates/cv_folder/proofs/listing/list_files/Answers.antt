@@ -1,7 +1,7 @@
 use Rattle.std.proofs.Common.{◌∙◌, Ok, Err, inl, inr, refl, subst, sym}
 use Rattle.std.proofs.lemmas.Result.{err_from_is_err_and}
 use Rattle.cv_folder.specs.Listed.{IsListed}
-use Rattle.cv_system.specs.Names.{with_slash}
+use Rattle.cv_base.specs.Path.{with_slash}
 use Rattle.cv_system.specs.Steps.{Still}
 use Rattle.cv_system.proofs.Laws.{steps_then}
 use Rattle.cv_folder.proofs.Ending.{done_goes, fails_listing, goes_then, passed_so}

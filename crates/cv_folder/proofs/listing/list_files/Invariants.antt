@@ -1,7 +1,7 @@
 use Rattle.cv_folder.specs.GoingOn.{GoesOn}
 use Rattle.cv_folder.specs.Listed.{AllBegin, IsSkipped}
 use Rattle.cv_folder.specs.ListedInner.{Stands}
-use Rattle.cv_system.specs.Names.{with_slash}
+use Rattle.cv_base.specs.Path.{with_slash}
 use Rattle.cv_folder.proofs.listing.list_files.Given as goal
 
 abbrev pub invariant-loop : goal.invariant-loop

@@ -4,7 +4,7 @@ use Rattle.cv_cut.specs.Cut.{cut_of}
 use Rattle.cv_swap.specs.Kept.{object_of}
 use Rattle.cv_swap.specs.Stands.{head_with}
 use Rattle.cv_swap.specs.First.{first_tree, first_record, first_batch}
-use Rattle.cv_objects.specs.Batches.{AreNamed}
+use Rattle.cv_base.specs.Objects.{AreNamed}
 use Rattle.cv_swap.proofs.Made.{if_ok_more}
 use Rattle.cv_swap.proofs.Named.{first_named}
 use Rattle.cv_swap.proofs.first.first_parts.Goals as goal

@@ -5,7 +5,7 @@ pub returns : goal.returns
 returns c =
     record {
       texts = record { repository = refl; key = refl; secret = refl; tag = refl; host = refl; room = refl };
-      tree = record { name = refl; path = refl; names = refl; target = refl; mode = refl; rows = refl; object = refl; read = refl };
+      tree = record { name = refl; path = refl; names = refl; target = refl; mode = refl; directory = refl; rows = refl; object = refl; read = refl };
       client = record { sum = refl; links = refl; catalogues = refl; line = refl };
       gate =
           record {
@@ -14,6 +14,7 @@ returns c =
             lasts = refl;
             keys = refl;
             leases = refl;
+            granted = refl;
             journal = refl;
             count = refl;
             total = refl;

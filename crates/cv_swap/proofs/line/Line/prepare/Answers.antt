@@ -1,7 +1,8 @@
 use Rattle.std.proofs.Common.{rules, ◌≡◌, ℕ, ◌+◌, List, [], ◌∷◌, ◌++◌, take, length, length-append, refl, sym, ap, subst, ◌∙◌, arith}
 use Rattle.std.proofs.lemmas.List.{length-take-le}
 use Rattle.cv_vault.specs.Walks.{BringsNothing}
-use Rattle.cv_objects.specs.Batches.{AreNamed, IsOne}
+use Rattle.cv_base.specs.Objects.{AreNamed}
+use Rattle.cv_objects.specs.Batches.{IsOne}
 use Rattle.cv_objects.specs.declared.store_fault.StoreFault.TheVariants.{NoMemory}
 use Rattle.cv_objects.proofs.Lemmas.{same_fault, refusal_inside, named_none}
 use Rattle.cv_base.specs.Told.{WhereTold}

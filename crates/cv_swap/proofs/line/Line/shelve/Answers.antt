@@ -1,6 +1,6 @@
 use Rattle.std.proofs.Common.{rules, ◌≡◌, [], ◌∷◌, ◌++◌, refl, sym, subst}
 use Rattle.cv_vault.specs.Walks.{BringsNothing}
-use Rattle.cv_objects.specs.Batches.{AreNamed}
+use Rattle.cv_base.specs.Objects.{AreNamed}
 use Rattle.cv_objects.specs.declared.store_fault.StoreFault.TheVariants.{NoMemory}
 use Rattle.cv_objects.proofs.Lemmas.{same_fault, refusal_inside}
 use Rattle.cv_swap.specs.Kept.{object_of}
