@@ -4,10 +4,9 @@ use Rattle.std.specs.Prelude.{Bool, true, false, nat_lt, ◌||◌, if◌then◌e
 use Rattle.std.specs.declared.result.Result.TheVariants.{Err}
 use Rattle.std.proofs.lemmas.Option.{none-some}
 use Rattle.std.proofs.lemmas.Bool.{lt-ltb, false≢true}
-use Rattle.cv_base.specs.Counts.{Rose}
+use Rattle.cv_base.specs.Counts.{Rose, raised}
 use Rattle.cv_base.specs.Told.{WhereTold}
 use Rattle.cv_ports.specs.Streams.{Look, front, onto, Wrote}
-use Rattle.cv_ports.specs.Calls.{raised}
 use Rattle.cv_ports.specs.Dial.{Came, after_back}
 use Rattle.cv_http.specs.Requests.{request_text}
 use Rattle.cv_http.specs.ReplyTexts.{IsAwaitedReply, ReplyLost}

@@ -7,6 +7,7 @@ use Rattle.cv_base.specs.declared.id.ObjectId.{ObjectId}
 use Rattle.cv_ports.specs.Dial.{Came, Event, Story, Back}
 use Rattle.cv_tree.specs.Tree.{Nodes, IsTree}
 use Rattle.cv_cut.specs.Catalogues.{root_of, Fits}
+use Rattle.cv_http.specs.declared.code.TheConstants.{OK}
 use Rattle.cv_http.specs.Requests.{request_text}
 use Rattle.cv_http.specs.ReplyTexts.{IsReply}
 use Rattle.cv_http.specs.declared.http_reply.HttpReply.{HttpReply}
@@ -41,7 +42,7 @@ pub record SendsFile (content : List ℕ) (c : Came) : Type 0 where
   pub reply : HttpReply
   pub later : List ℕ
   pub is : IsReply ⊤ (given ++ left) reply later
-  pub code : reply.code ≡ 200
+  pub code : reply.code ≡ OK
   pub body : reply.body ≡ content
 
 -- a link that took the request for a file that the server has sends it

@@ -1,43 +1,25 @@
 //! Files of a served repository.
-ghost use Rattle.std.specs.Prelude.{◌≡◌, ℕ, List, Some, IfOk, string_bytes};
+ghost use Rattle.std.specs.Prelude.{◌≡◌, ℕ, List, Some, IfOk};
 ghost use Rattle.cv_base.specs.Counts.{HasCause};
 ghost use Rattle.cv_client.specs.Asking.{AsksFirst};
 ghost use Rattle.cv_client.specs.Fetch.{Fetches, SaysFile};
-ghost use Rattle.cv_client.specs.Requests.{file_request, target_of};
+ghost use Rattle.cv_client.specs.Requests.{file_request};
 ghost use Rattle.cv_client.specs.Served.{Files, ServedBy, IsFetched};
 ghost use Rattle.cv_client.specs.declared.exchanging.ExchangeFault.TheVariants.{LinkFailed};
 
 use crate::exchanging::{ExchangeFault, exchange};
 use crate::url::Url;
-use cv_base::{Bytes, NoMemory, Text};
+use cv_base::{Bytes, NoMemory};
 use cv_http::laws::{more_behind_a_reply, one_reply, reply_or_fault};
-use cv_http::{HttpReply, NOT_FOUND, OK, Outgoing, Verb};
+use cv_http::{HttpReply, NOT_FOUND, OK, Outgoing, request_for_file};
 use cv_ports::Dial;
 use std::alloc::Global;
-
-/// The target of a file of a repository.
-fn target(alloc: Global, repository: &str, file: &str) -> Result<String, NoMemory>
-    ensures { IfOk result (λ text. string_bytes text ≡ target_of repository.now file.now) }
-{
-    let mut text = String::from_str(alloc, "/cvmfs/")?;
-    text.push_str(repository)?;
-    text.push_str("/")?;
-    text.push_str(file)?;
-    Ok(text)
-}
 
 /// The request for a file of a repository.
 fn request(alloc: Global, url: &Url, file: &str) -> Result<Outgoing, NoMemory>
     ensures { IfOk result (λ request. request ≡ file_request url.now file.now) }
 {
-    Ok(Outgoing {
-        method: Verb::Get,
-        host: url.authority.copy(alloc)?,
-        target: Text::new(target(alloc, url.repository.text(), file)?),
-        authorization: None,
-        message_size: None,
-        body: Bytes::new(Vec::new(alloc)),
-    })
+    request_for_file(alloc, &url.authority, url.repository.text(), file)
 }
 
 /// What a reply says of a file: its content, or that there is none.

@@ -4,6 +4,21 @@ use Rattle.cv_http.specs.declared.verb.Verb.{Verb}
 use Rattle.cv_http.specs.declared.verb.Verb.TheVariants.{Get, Post, Delete}
 use Rattle.cv_http.specs.declared.outgoing.Outgoing.{Outgoing}
 
+-- the target of a file of a repository that is served
+abbrev pub file_target : List ℕ → List ℕ → List ℕ
+file_target repository file = codes "/cvmfs/" ++ (repository ++ (codes "/" ++ file))
+
+-- the request to this host for a file of a repository
+abbrev pub request_for_file : List ℕ → List ℕ → List ℕ → Outgoing
+request_for_file host repository file = record {
+  method = Get;
+  host = host;
+  target = file_target repository file;
+  authorization = None;
+  message_size = None;
+  body = [];
+}
+
 -- the name of the method
 abbrev pub verb_text : Verb → List ℕ
 verb_text Get = codes "GET"

@@ -33,7 +33,7 @@ pub use head::RequestHead;
 pub use http_reply::HttpReply;
 pub use judge::HEAD_LIMIT;
 pub use method::Method;
-pub use outgoing::{Outgoing, write_request};
+pub use outgoing::{Outgoing, request_for_file, write_request};
 pub use reply::{SendFault, write_continue, write_reply};
 pub use verb::Verb;
 pub use wire::{BODY_LIMIT, INTERIM_LIMIT, Wire};

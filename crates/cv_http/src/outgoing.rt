@@ -2,7 +2,7 @@
 ghost use Rattle.std.specs.Prelude.{◌≡◌, ◌≢◌, ◌++◌, OnOk, OnErr, IfOk, string_bytes, decimal};
 ghost use Rattle.cv_base.specs.Counts.{HasCause};
 ghost use Rattle.cv_ports.specs.Streams.{onto, Wrote};
-ghost use Rattle.cv_http.specs.Requests.{field_line, authorization_line, message_size_line, request_line, request_head, request_text};
+ghost use Rattle.cv_http.specs.Requests.{field_line, authorization_line, file_target, message_size_line, request_for_file, request_line, request_head, request_text};
 ghost use Rattle.cv_http.specs.declared.reply.SendFault.TheVariants as send_fault;
 ghost use Rattle.cv_http.specs.declared.reply.SendFault.TheVariants.{WriteFault};
 
@@ -25,6 +25,36 @@ pub struct Outgoing {
     /// The value of Message-Size.
     pub message_size: Option<u64>,
     pub body: Bytes,
+}
+
+/// The target of a file of a repository that is served.
+fn file_target(alloc: Global, repository: &str, file: &str) -> Result<String, NoMemory>
+    ensures { IfOk result (λ text. string_bytes text ≡ file_target repository.now file.now) }
+{
+    let mut text = String::from_str(alloc, "/cvmfs/")?;
+    text.push_str(repository)?;
+    text.push_str("/")?;
+    text.push_str(file)?;
+    Ok(text)
+}
+
+/// The request to a host for a file of a repository that it serves, which stands below `/cvmfs/<repository>/`.
+pub fn request_for_file(
+    alloc: Global,
+    host: &Text,
+    repository: &str,
+    file: &str,
+) -> Result<Outgoing, NoMemory>
+    ensures { IfOk result (λ request. request ≡ request_for_file host.now repository.now file.now) }
+{
+    Ok(Outgoing {
+        method: Verb::Get,
+        host: host.copy(alloc)?,
+        target: Text::new(file_target(alloc, repository, file)?),
+        authorization: None,
+        message_size: None,
+        body: Bytes::new(Vec::new(alloc)),
+    })
 }
 
 /// Adds the line of a field.

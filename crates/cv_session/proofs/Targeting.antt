@@ -8,7 +8,8 @@ use Rattle.cv_base.specs.Digest.{IsDigest}
 use Rattle.cv_base.specs.ObjectId.{file_name}
 use Rattle.cv_base.specs.declared.id.ObjectId.{ObjectId}
 use Rattle.cv_manifest.specs.Manifest.{manifest_name}
-use Rattle.cv_session.specs.Targets.{target_of, Names, NamesNothing, manifest, object}
+use Rattle.cv_http.specs.Requests.{file_target}
+use Rattle.cv_session.specs.Targets.{Names, NamesNothing, manifest, object}
 use Rattle.cv_session.specs.declared.target.Resource.TheVariants.{Manifest, Object}
 
 -- what is known of the rest behind a front is known of the whole
@@ -23,16 +24,16 @@ not_same xs ys equal is false-is same =
     let holds = (bytes_eq-Decides xs ys).1 same in
     cc
 
-module _ (repository target file : List ℕ) (below : target ≡ target_of repository file) where
-  pub same_file : (other : List ℕ) → target ≡ target_of repository other → file ≡ other
+module _ (repository target file : List ℕ) (below : target ≡ file_target repository file) where
+  pub same_file : (other : List ℕ) → target ≡ file_target repository other → file ≡ other
   same_file other e =
       append_cancel_left (codes "/") file other (append_cancel_left repository _ _ (append_cancel_left (codes "/cvmfs/") _ _ (sym below ∙ e)))
 
   pub names_manifest : file ≡ manifest_name → Names repository target Manifest
-  names_manifest is = manifest (below ∙ ap (target_of repository) is)
+  names_manifest is = manifest (below ∙ ap (file_target repository) is)
 
   pub names_object : (id : ObjectId) → IsDigest id.hash → file ≡ file_name id → Names repository target (Object id)
-  names_object id digest is = object id digest (below ∙ ap (target_of repository) is)
+  names_object id digest is = object id digest (below ∙ ap (file_target repository) is)
 
   pub names_nothing : file ≢ manifest_name → ((id : ObjectId) → IsDigest id.hash → file ≢ file_name id) → NamesNothing repository target
   names_nothing other none Manifest (manifest e) = other (same_file manifest_name e)

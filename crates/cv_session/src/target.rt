@@ -1,6 +1,7 @@
 //! The targets of requests.
 ghost use Rattle.std.specs.Prelude.{◌≡◌, ◌≢◌, ◌++◌, ℕ, List, MatchOption};
-ghost use Rattle.cv_session.specs.Targets.{target_of, Names, NamesNothing};
+ghost use Rattle.cv_http.specs.Requests.{file_target};
+ghost use Rattle.cv_session.specs.Targets.{Names, NamesNothing};
 
 use cv_base::ObjectId;
 use cv_manifest::MANIFEST_NAME;
@@ -23,7 +24,7 @@ fn strip<'a>(text: &'a [u8], prefix: &[u8]) -> Option<&'a [u8]>
 
 /// The file that a target names below the repository.
 fn file_below<'a>(repository: &str, target: &'a [u8]) -> Option<&'a [u8]>
-    ensures { MatchOption result ((file : List ℕ) → target.now ≢ target_of repository.now file) (λ file. target.now ≡ target_of repository.now file.now) }
+    ensures { MatchOption result ((file : List ℕ) → target.now ≢ file_target repository.now file) (λ file. target.now ≡ file_target repository.now file.now) }
 {
     let rest = strip(target, b"/cvmfs/".as_slice())?;
     let rest = strip(rest, repository.as_bytes())?;

@@ -192,6 +192,6 @@ module _ {u : Url} where
       elim (comes_blamed f of says comes) [
         | inl same ↦
             let ends : asked.stage ≡ Ends (Err f) = ended_at asked.stage (Err f) (sym (ap (λ (c : Client). answer_in c.asked) (same.0 ∙ asked.is)) ∙ says) in
-            absurd (not_blameless asked.stage f (begun_blameless _ _ _ _ _ asked.begins) ends of)
+            absurd (not_blameless asked.stage f (begun_blameless _ _ _ _ _ _ asked.begins) ends of)
         | inr b ↦ b
       ]

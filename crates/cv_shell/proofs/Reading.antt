@@ -38,10 +38,6 @@ unfilled left b held ReadFault is part same = (part, same)
 unfilled left b held NoMemory is part same = same
 
 module _ {R : Type 0} (left given : R → Option (List ℕ)) (looks : R → Look → Type 0) where
-  -- no read began
-  pub looks_still : (w m w' : WireView R) (P : List ℕ → Option (List ℕ) → Type 0) → Looks left looks w m P → w'.source ≡ m.source → Looks left looks w w' P
-  looks_still w m w' P first same = λ look is. first look (subst (λ s. looks s look) same is)
-
   -- one more began where a part of a line is held
   pub looks_on : (w0 w w' : WireView R) (passed : Option (List ℕ)) → Looks left looks w0 w (Beside passed IsLine) → Gets left given w0 w → IsLine w.held
       → Looks left looks w w' (Beside passed (λ b. b ≡ w.held)) → Looks left looks w0 w' (Beside passed IsLine)

@@ -1,9 +1,9 @@
 use Rattle.std.proofs.Common.{◌≡◌, ◌≤◌, ◌∙◌, sym, subst, refl, arith, inl, Err}
 use Rattle.cv_http.specs.Wires.{Draws}
-use Rattle.cv_http.proofs.Lemmas.{gets_same, gets_moved, gets_on, draws_of}
+use Rattle.cv_http.proofs.Lemmas.{gets_same, gets_moved, gets_on, draws_of, looks_still}
 use Rattle.cv_shell.specs.Lines.{IsLine, LineRead}
 use Rattle.cv_shell.specs.declared.lines.LineFault.TheVariants.{ReadFault}
-use Rattle.cv_shell.proofs.Reading.{by_fault, found_none, unfound, not_unread, unfilled, looks_still, looks_on}
+use Rattle.cv_shell.proofs.Reading.{by_fault, found_none, unfound, not_unread, unfilled, looks_on}
 use Rattle.cv_shell.proofs.lines.Lines.next_line.Goals as goal
 
 pub pieces-init : goal.pieces-init
@@ -42,7 +42,7 @@ returns-in_err-fill-clause-looks g c =
     let line : IsLine c.take_line.new.self.held = subst IsLine (sym part.1) part.0 in
     let gets = gets_moved g.R.Source.left g.R.Source.given c.args.self.now c.pieces.self c.take_line.new.self c.pieces.invariant.gets c.take_line.ensures.source part.1 in
     looks_on g.R.Source.left g.R.Source.given g.R.Source.looks c.args.self.now c.take_line.new.self c.fill.new.self _
-    (looks_still g.R.Source.left g.R.Source.given g.R.Source.looks c.args.self.now c.pieces.self c.take_line.new.self _ c.pieces.invariant.looks c.take_line.ensures.source)
+    (looks_still g.R.Source.left g.R.Source.looks c.args.self.now c.pieces.self c.take_line.new.self _ c.pieces.invariant.looks c.take_line.ensures.source)
     gets line c.fill.ensures.looks
 
 pub returns-then-not-branch-clause-reads : goal.returns-then-not-branch-clause-reads
@@ -62,7 +62,7 @@ pieces-preserved g c =
       gets = gets_on g.R.Source.left g.R.Source.given c.args.self.now c.take_line.new.self c.fill.new.self gets c.fill.ensures.gets;
       looks =
           looks_on g.R.Source.left g.R.Source.given g.R.Source.looks c.args.self.now c.take_line.new.self c.fill.new.self _
-          (looks_still g.R.Source.left g.R.Source.given g.R.Source.looks c.args.self.now c.pieces.self c.take_line.new.self _ c.pieces.invariant.looks c.take_line.ensures.source)
+          (looks_still g.R.Source.left g.R.Source.looks c.args.self.now c.pieces.self c.take_line.new.self _ c.pieces.invariant.looks c.take_line.ensures.source)
           gets line c.fill.ensures.looks;
       later = omega (arith, was, read);
     }
