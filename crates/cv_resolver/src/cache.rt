@@ -91,9 +91,7 @@ impl Catalogues {
         ensures put { OnOk result (self.new ≡ with_catalogue self.old hash catalogue) }
         ensures unchanged { OnErr result (self.new ≡ self.old) }
     {
-        match self.cache.put(hash, catalogue) {
-            Ok(_) => Ok(()),
-            Err(_) => Err(NoMemory),
-        }
+        self.cache.put(hash, catalogue)?;
+        Ok(())
     }
 }
