@@ -3,10 +3,9 @@ ghost use Rattle.std.specs.Prelude.{IfOk};
 ghost use Rattle.cv_tree.specs.Node.{IsNode};
 ghost use Rattle.cv_tree.specs.Changes.{FitsUnder};
 
-use cv_base::{Attr, RepoPath, Target};
+use cv_base::{Attr, NoMemory, RepoPath, Target};
 use cv_tree::{FileRef, Node, Part, Tree, TreeFault};
 use std::alloc::Global;
-use std::process::Abort;
 use std::test::Fail;
 
 /// The SHA-1 of `hello` and a newline, by `sha1sum`.
@@ -52,77 +51,41 @@ fn kind_of(node: Option<&Node>) -> Kind {
     }
 }
 
-fn look(
-    rt: &impl Abort,
-    tree: &Tree,
-    alloc: Global,
-    expected: [(&str, Kind); 7],
-) -> Result<(), Fail> {
-    for (text, expected) in expected {
-        let path = RepoPath::read(alloc, text)?;
-        assert_eq!(rt; kind_of(tree.get(&path)), expected, "at {text}");
-    }
-    Ok(())
+/// A call of a tree at a path.
+#[derive(Clone, Copy)]
+enum Call {
+    /// Inserts a directory, or a file.
+    Insert(bool),
+    /// Takes out what stands there.
+    TakeOut,
+    /// Adds a file of this name to what stands there, by a replacement.
+    AddFile(&'static str),
+    /// Looks whether this stands there.
+    Has(Kind),
+    /// Looks whether there is no part.
+    Lacks,
+    /// Looks whether the whole tree has so many nodes.
+    Counts(usize),
 }
+
+/// A path, a call there, and what it answers: true where it has no answer, or finds what it looks for.
+type Row = (&'static str, Call, Result<bool, TreeFault>);
 
 /// The directory `/d` with the files `f` and `g`, and the file `/db` beside it.
-fn small_tree(alloc: Global) -> Result<Tree, Fail> {
-    let mut tree = Tree::new(alloc, ATTR)?;
-    for (text, is_directory) in [
-        ("/d", true),
-        ("/d/f", false),
-        ("/d/g", false),
-        ("/db", false),
-    ] {
-        let path = RepoPath::read(alloc, text)?;
-        tree.insert(&path, node(is_directory))?;
-    }
-    Ok(tree)
-}
-
-#[test]
-fn a_node_stands_in_a_directory(rt: HostRuntime) -> Result<(), Fail> {
-    let mut tree = small_tree(rt.alloc())?;
-    assert_eq!(rt; tree.entries(rt.alloc())?.len(), 5);
-    let inserts = [
-        ("/x/y", false, Err(TreeFault::NoParent)),
-        ("/d", true, Err(TreeFault::Exists)),
-        ("/", true, Err(TreeFault::Exists)),
-        ("/d/f", false, Err(TreeFault::Exists)),
-        ("/d/f/h", false, Err(TreeFault::NoParent)),
-        ("/x", true, Ok(())),
-        ("/x/y", false, Ok(())),
-    ];
-    for (text, is_directory, expected) in inserts {
-        let path = RepoPath::read(rt.alloc(), text)?;
-        assert_eq!(rt;
-            tree.insert(&path, node(is_directory)),
-            expected,
-            "at {text}"
-        );
-    }
-    look(
-        &rt,
-        &tree,
-        rt.alloc(),
-        [
-            ("/", Kind::Directory),
-            ("/d", Kind::Directory),
-            ("/d/f", Kind::File(6)),
-            ("/d/f/h", Kind::Nothing),
-            ("/db", Kind::File(6)),
-            ("/x/y", Kind::File(6)),
-            ("/y", Kind::Nothing),
-        ],
-    )
-}
+const SMALL: [Row; 4] = [
+    ("/d", Call::Insert(true), Ok(true)),
+    ("/d/f", Call::Insert(false), Ok(true)),
+    ("/d/g", Call::Insert(false), Ok(true)),
+    ("/db", Call::Insert(false), Ok(true)),
+];
 
 /// Takes out what stands at a path.
-fn take_out(tree: &mut Tree, path: &RepoPath) -> Result<(), TreeFault> {
+fn take_out(tree: &mut Tree, path: &RepoPath) -> Result<bool, TreeFault> {
     if path.names().is_empty() {
         return Err(TreeFault::Exists);
     }
-    tree.replace(path, None)
+    tree.replace(path, None)?;
+    Ok(true)
 }
 
 /// Adds a file of this name to a part that fits at a path.
@@ -145,7 +108,7 @@ fn replace_with_file(
     tree: &mut Tree,
     place: &RepoPath,
     name: &str,
-) -> Result<(), Fail> {
+) -> Result<bool, Fail> {
     let part = tree.subtree(alloc, place)?;
     if tree.get(place).is_none() || place.names().is_empty() {
         return Err(Fail::new("no path below the root"));
@@ -155,72 +118,182 @@ fn replace_with_file(
     };
     add_file(alloc, &mut part, place, name)?;
     tree.replace(place, Some(part))?;
+    Ok(true)
+}
+
+fn insert(tree: &mut Tree, path: &RepoPath, is_directory: bool) -> Result<bool, TreeFault> {
+    tree.insert(path, node(is_directory))?;
+    Ok(true)
+}
+
+fn kind_at(tree: &Tree, path: &RepoPath) -> Kind {
+    kind_of(tree.get(path))
+}
+
+fn lacks(alloc: Global, tree: &Tree, path: &RepoPath) -> Result<bool, NoMemory> {
+    Ok(tree.subtree(alloc, path)?.is_none())
+}
+
+fn count(alloc: Global, tree: &Tree) -> Result<usize, NoMemory> {
+    Ok(tree.entries(alloc)?.len())
+}
+
+/// Makes a call at a path.
+fn make(
+    alloc: Global,
+    tree: &mut Tree,
+    path: &RepoPath,
+    call: Call,
+) -> Result<Result<bool, TreeFault>, Fail> {
+    match call {
+        Call::Insert(is_directory) => Ok(insert(tree, path, is_directory)),
+        Call::TakeOut => Ok(take_out(tree, path)),
+        Call::AddFile(name) => Ok(Ok(replace_with_file(alloc, tree, path, name)?)),
+        Call::Has(kind) => Ok(Ok(kind_at(tree, path) == kind)),
+        Call::Lacks => Ok(Ok(lacks(alloc, tree, path)?)),
+        Call::Counts(nodes) => Ok(Ok(count(alloc, tree)? == nodes)),
+    }
+}
+
+/// The number of the first row whose call answers otherwise.
+fn first_other(alloc: Global, tree: &mut Tree, rows: &[Row]) -> Result<Option<usize>, Fail> {
+    for (number, (text, call, answer)) in rows.iter().enumerate() {
+        let path = RepoPath::read(alloc, text)?;
+        if make(alloc, tree, &path, *call)? != *answer {
+            return Ok(Some(number));
+        }
+    }
+    Ok(None)
+}
+
+/// The same where a small tree is made, and of the rows of a test behind that.
+fn first_others(alloc: Global, rows: &[Row]) -> Result<[Option<usize>; 2], Fail> {
+    let mut tree = Tree::new(alloc, ATTR)?;
+    let making = first_other(alloc, &mut tree, &SMALL)?;
+    let testing = first_other(alloc, &mut tree, rows)?;
+    Ok([making, testing])
+}
+
+const STANDING: [Row; 15] = [
+    ("/", Call::Counts(5), Ok(true)),
+    ("/x/y", Call::Insert(false), Err(TreeFault::NoParent)),
+    ("/d", Call::Insert(true), Err(TreeFault::Exists)),
+    ("/", Call::Insert(true), Err(TreeFault::Exists)),
+    ("/d/f", Call::Insert(false), Err(TreeFault::Exists)),
+    ("/d/f/h", Call::Insert(false), Err(TreeFault::NoParent)),
+    ("/x", Call::Insert(true), Ok(true)),
+    ("/x/y", Call::Insert(false), Ok(true)),
+    ("/", Call::Has(Kind::Directory), Ok(true)),
+    ("/d", Call::Has(Kind::Directory), Ok(true)),
+    ("/d/f", Call::Has(Kind::File(6)), Ok(true)),
+    ("/d/f/h", Call::Has(Kind::Nothing), Ok(true)),
+    ("/db", Call::Has(Kind::File(6)), Ok(true)),
+    ("/x/y", Call::Has(Kind::File(6)), Ok(true)),
+    ("/y", Call::Has(Kind::Nothing), Ok(true)),
+];
+
+#[test]
+fn a_node_stands_in_a_directory(rt: HostRuntime) -> Result<(), Fail> {
+    assert_eq!(rt; first_others(rt.alloc(), &STANDING)?, [None, None]);
     Ok(())
 }
 
+const REPLACED: [Row; 18] = [
+    ("/d", Call::AddFile(".cvmfscatalog"), Ok(true)),
+    ("/", Call::Has(Kind::Directory), Ok(true)),
+    ("/d", Call::Has(Kind::Directory), Ok(true)),
+    ("/d/f", Call::Has(Kind::File(6)), Ok(true)),
+    ("/d/g", Call::Has(Kind::File(6)), Ok(true)),
+    ("/d/.cvmfscatalog", Call::Has(Kind::File(6)), Ok(true)),
+    ("/db", Call::Has(Kind::File(6)), Ok(true)),
+    ("/.cvmfscatalog", Call::Has(Kind::Nothing), Ok(true)),
+    ("/x/y", Call::TakeOut, Err(TreeFault::NoParent)),
+    ("/d", Call::TakeOut, Ok(true)),
+    ("/d", Call::Lacks, Ok(true)),
+    ("/", Call::Has(Kind::Directory), Ok(true)),
+    ("/d", Call::Has(Kind::Nothing), Ok(true)),
+    ("/d/f", Call::Has(Kind::Nothing), Ok(true)),
+    ("/d/.cvmfscatalog", Call::Has(Kind::Nothing), Ok(true)),
+    ("/db", Call::Has(Kind::File(6)), Ok(true)),
+    ("/f", Call::Has(Kind::Nothing), Ok(true)),
+    ("/x", Call::Has(Kind::Nothing), Ok(true)),
+];
+
 #[test]
 fn a_part_takes_the_place_of_what_a_path_covers(rt: HostRuntime) -> Result<(), Fail> {
-    let mut tree = small_tree(rt.alloc())?;
-    let directory = RepoPath::read(rt.alloc(), "/d")?;
-    let below = RepoPath::read(rt.alloc(), "/x/y")?;
-    replace_with_file(rt.alloc(), &mut tree, &directory, ".cvmfscatalog")?;
-    look(
-        &rt,
-        &tree,
-        rt.alloc(),
-        [
-            ("/", Kind::Directory),
-            ("/d", Kind::Directory),
-            ("/d/f", Kind::File(6)),
-            ("/d/g", Kind::File(6)),
-            ("/d/.cvmfscatalog", Kind::File(6)),
-            ("/db", Kind::File(6)),
-            ("/.cvmfscatalog", Kind::Nothing),
-        ],
-    )?;
-    assert_eq!(rt; take_out(&mut tree, &below), Err(TreeFault::NoParent));
-    assert_eq!(rt; take_out(&mut tree, &directory), Ok(()));
-    assert!(rt; tree.subtree(rt.alloc(), &directory)?.is_none());
-    look(
-        &rt,
-        &tree,
-        rt.alloc(),
-        [
-            ("/", Kind::Directory),
-            ("/d", Kind::Nothing),
-            ("/d/f", Kind::Nothing),
-            ("/d/.cvmfscatalog", Kind::Nothing),
-            ("/db", Kind::File(6)),
-            ("/f", Kind::Nothing),
-            ("/x", Kind::Nothing),
-        ],
-    )
+    assert_eq!(rt; first_others(rt.alloc(), &REPLACED)?, [None, None]);
+    Ok(())
 }
 
 /// A link with this target.
-fn link(target: Target) -> Result<Node, Fail>
+fn link(alloc: Global, text: &str) -> Result<Node, Fail>
     ensures { IfOk result IsNode }
 {
+    let target = Target::read(alloc, text)?.ok_or("no target")?;
     if target.text().is_empty() {
         return Err(Fail::new("an empty target"));
     }
     Ok(Node::Link(ATTR, target))
 }
 
+/// Inserts a node of a kind in a part, or none for nothing.
+fn insert_kind(
+    alloc: Global,
+    part: &mut Part,
+    path: &RepoPath,
+    kind: Kind,
+) -> Result<Result<(), TreeFault>, Fail> {
+    let node = match kind {
+        Kind::Directory => node(true),
+        Kind::File(_) => node(false),
+        Kind::Link => link(alloc, "../x")?,
+        Kind::Nothing => return Ok(Ok(())),
+    };
+    Ok(part.insert(path, node))
+}
+
+fn kind_in(part: &Part, path: &RepoPath) -> Kind {
+    kind_of(part.get(path))
+}
+
+/// A path, what is inserted there, what that answers, and what stands there afterwards.
+type Insertion = (&'static str, Kind, Result<(), TreeFault>, Kind);
+
+/// The number of the first row that is otherwise, in a part that begins with a directory or a file.
+fn first_other_insertion(
+    alloc: Global,
+    is_directory: bool,
+    rows: &[Insertion],
+) -> Result<Option<usize>, Fail> {
+    let mut part = Part::new(alloc, node(is_directory))?;
+    for (number, (text, kind, answer, stands)) in rows.iter().enumerate() {
+        let path = RepoPath::read(alloc, text)?;
+        let given = insert_kind(alloc, &mut part, &path, *kind)?;
+        if given != *answer || kind_in(&part, &path) != *stands {
+            return Ok(Some(number));
+        }
+    }
+    Ok(None)
+}
+
+const IN_A_FILE: [Insertion; 4] = [
+    ("/", Kind::Nothing, Ok(()), Kind::File(6)),
+    ("/l", Kind::File(6), Err(TreeFault::NoParent), Kind::Nothing),
+    ("/", Kind::Directory, Err(TreeFault::Exists), Kind::File(6)),
+    ("/l", Kind::Nothing, Ok(()), Kind::Nothing),
+];
+
+const IN_A_DIRECTORY: [Insertion; 1] = [("/l", Kind::Link, Ok(()), Kind::Link)];
+
 #[test]
 fn a_part_begins_with_any_node(rt: HostRuntime) -> Result<(), Fail> {
-    let root = RepoPath::root(rt.alloc());
-    let place = RepoPath::read(rt.alloc(), "/l")?;
-    let Some(target) = Target::read(rt.alloc(), "../x")? else {
-        return Err(Fail::new("no target"));
-    };
-    let mut file = Part::new(rt.alloc(), node(false))?;
-    let mut directory = Part::new(rt.alloc(), node(true))?;
-    assert_eq!(rt; kind_of(file.get(&root)), Kind::File(6));
-    assert_eq!(rt; file.insert(&place, node(false)), Err(TreeFault::NoParent));
-    assert_eq!(rt; file.insert(&root, node(true)), Err(TreeFault::Exists));
-    assert_eq!(rt; directory.insert(&place, link(target)?), Ok(()));
-    assert_eq!(rt; kind_of(directory.get(&place)), Kind::Link);
-    assert_eq!(rt; kind_of(file.get(&place)), Kind::Nothing);
+    let tables = [
+        (false, IN_A_FILE.as_slice()),
+        (true, IN_A_DIRECTORY.as_slice()),
+    ];
+    for (is_directory, rows) in tables {
+        let other = first_other_insertion(rt.alloc(), is_directory, rows)?;
+        assert_eq!(rt; other, None, "in a directory: {is_directory}");
+    }
     Ok(())
 }
