@@ -127,6 +127,10 @@ def function(name, data):
     return f"fn {name}() -> [u8; {len(data)}] {{\n    {numbers(data)}\n}}"
 
 
+def record_id(name, data):
+    return f"const {name}: ObjectId = ObjectId {{ hash: {numbers(sha1(data))}, kind: Kind::History }};"
+
+
 FIRST_EDITS = ((12, 1), (31, 1), (52, 0), (79, 1), (87, 1), (89, 1), (91, 1), (101, 1))
 SECOND_EDITS = (
     (3, ord("2")), (4, 1), (11, 0), (9, 5), (88, 16), (90, ord("a")),
@@ -144,10 +148,10 @@ settle(
     [
         function("first", first),
         function("second", second),
-        function("first_hash", sha1(first)),
-        function("second_hash", sha1(second)),
-        function("nothing", sha1(b"")),
-        function("hello", sha1(hello)),
+        record_id("FIRST_ID", first),
+        record_id("SECOND_ID", second),
+        record_id("HELLO_ID", hello),
+        f"const NOTHING: [u8; 20] = {numbers(sha1(b''))};",
         array([edited(first, *edit) for edit in FIRST_EDITS]),
         array([edited(second, *edit) for edit in SECOND_EDITS]),
     ],
