@@ -6,7 +6,7 @@ use cv_base::{Bytes, Items, Kind, Name, ObjectId, RepoPath, Text, ends_in_marker
 use cv_http::{HttpReply, Outgoing};
 use cv_keys::KeyTable;
 use cv_overlay::read_folder;
-use cv_ports::{FolderItem, FoundKind, MemoryFolder};
+use cv_ports::{Folder, FolderItem, FoundKind, MemoryFolder};
 use cv_publisher::{PublishFault, Publisher, Want};
 use cv_seal::KeyedHash;
 use std::alloc::Global;
@@ -172,6 +172,21 @@ static ROWS: [(&str, &str, &str, &str); 19] = [
     ),
 ];
 
+/// The digits of a size, where there is one.
+fn size_text(alloc: Global, size: Option<u64>) -> Result<String, Fail> {
+    match size {
+        Some(size) => Ok(size.to_string(alloc)?),
+        None => Ok(String::from_str(alloc, "-")?),
+    }
+}
+
+/// The length and the digits of the SHA-1 of a body.
+fn body_text(alloc: Global, body: &[u8]) -> Result<String, Fail> {
+    let length = body.len();
+    let hash = ObjectId::of(Kind::Plain, body).text(alloc)?;
+    Ok(format!(in alloc; "{length} {hash}")?)
+}
+
 /// The text of a request.
 fn request_text(alloc: Global, request: &Outgoing) -> Result<String, Fail> {
     let method = request.method.text();
@@ -180,13 +195,9 @@ fn request_text(alloc: Global, request: &Outgoing) -> Result<String, Fail> {
         Some(text) => text.as_str(),
         None => "-",
     };
-    let message = match request.message_size {
-        Some(size) => size.to_string(alloc)?,
-        None => String::from_str(alloc, "-")?,
-    };
-    let length = request.body.as_slice().len();
-    let hash = ObjectId::of(Kind::Plain, request.body.as_slice()).text(alloc)?;
-    Ok(format!(in alloc; "{method} {target} {header} {message} {length} {hash}")?)
+    let message = size_text(alloc, request.message_size)?;
+    let body = body_text(alloc, request.body.as_slice())?;
+    Ok(format!(in alloc; "{method} {target} {header} {message} {body}")?)
 }
 
 /// The text of a fault.
@@ -206,42 +217,76 @@ fn fault_text(fault: &PublishFault) -> &'static str {
     }
 }
 
-/// The text of what a publisher wants.
-fn want_text(alloc: Global, publisher: &mut Publisher) -> Result<String, Fail> {
-    let keys = KeyTable::read(
+/// The text of what is wanted.
+fn want_text(alloc: Global, want: &Want) -> Result<String, Fail> {
+    match want {
+        Want::Exchange(request) => request_text(alloc, request),
+        Want::Done(Ok(revision)) => Ok(format!(in alloc; "revision {revision}")?),
+        Want::Done(Err(fault)) => Ok(String::from_str(alloc, fault_text(fault))?),
+    }
+}
+
+/// The keys, of which the first is used.
+fn two_keys(alloc: Global) -> Result<KeyTable, Fail> {
+    let read = KeyTable::read(
         alloc,
         b"{\"keys\":[{\"id\":\"k1\",\"secret\":\"s1\"},{\"id\":\"k2\",\"secret\":\"s2\"}]}",
     );
-    let Ok(keys) = keys else {
-        return Err(Fail::from("no keys"));
-    };
-    match publisher.want(alloc, &keys)? {
-        Want::Exchange(request) => request_text(alloc, &request),
-        Want::Done(Ok(revision)) => Ok(format!(in alloc; "revision {revision}")?),
-        Want::Done(Err(fault)) => Ok(String::from_str(alloc, fault_text(&fault))?),
+    match read {
+        Ok(keys) => Ok(keys),
+        Err(_) => Err(Fail::from("no keys")),
     }
 }
 
-/// Gives the reply of this name.
-fn give(alloc: Global, publisher: &mut Publisher, name: &str) -> Result<(), Fail> {
-    let signer = KeyedHash::new(String::from_str(alloc, "seal")?);
+/// The reply of this name.
+fn reply_of(alloc: Global, name: &str) -> Result<HttpReply, Fail> {
     for (own, code, body) in &REPLIES {
         if *own == name {
-            let reply = HttpReply {
-                code: *code,
-                body: Bytes::from_slice(alloc, body)?,
-            };
-            publisher.take(alloc, reply, &signer);
+            let code = *code;
+            let body = Bytes::from_slice(alloc, body)?;
+            return Ok(HttpReply { code, body });
         }
     }
-    Ok(())
+    Err(Fail::from("no reply"))
 }
 
-/// A folder of these files.
-fn folder(alloc: Global, names: &str) -> Result<MemoryFolder, Fail> {
-    let root = RepoPath::root(alloc);
+/// One end of a publication: a publisher is made of much, and what goes through one is proved over any.
+trait Talks {
+    /// The text of what it wants.
+    fn wants(&mut self, alloc: Global) -> Result<String, Fail>;
+
+    /// Gives it the reply of this name.
+    fn takes(&mut self, alloc: Global, name: &str) -> Result<(), Fail>;
+}
+
+impl Talks for Publisher {
+    fn wants(&mut self, alloc: Global) -> Result<String, Fail> {
+        let keys = two_keys(alloc)?;
+        want_text(alloc, &self.want(alloc, &keys)?)
+    }
+
+    fn takes(&mut self, alloc: Global, name: &str) -> Result<(), Fail> {
+        let signer = KeyedHash::new(String::from_str(alloc, "seal")?);
+        self.take(alloc, reply_of(alloc, name)?, &signer);
+        Ok(())
+    }
+}
+
+/// What is wanted before each of these replies and behind the last, a line each.
+fn talk<T: Talks>(alloc: Global, publisher: &mut T, replies: &str) -> Result<String, Fail> {
+    let mut lines = String::new(alloc);
+    for reply in replies.split(' ') {
+        lines.push_str(publisher.wants(alloc)?.as_str())?;
+        lines.push('\n')?;
+        publisher.takes(alloc, reply)?;
+    }
+    lines.push_str(publisher.wants(alloc)?.as_str())?;
+    Ok(lines)
+}
+
+/// Files of these names.
+fn items_of(alloc: Global, names: &str) -> Result<Vec<FolderItem>, Fail> {
     let mut items = Vec::new(alloc);
-    let mut files = Vec::new(alloc);
     for name in names.split(' ') {
         items.push(FolderItem {
             name: Text::from_str(alloc, name)?,
@@ -249,90 +294,95 @@ fn folder(alloc: Global, names: &str) -> Result<MemoryFolder, Fail> {
             mode: 0o644,
             mtime: NOW,
         })?;
-        files.push((
-            root.join(alloc, name)?,
-            Bytes::from_slice(alloc, b"hello\n")?,
-        ))?;
     }
-    let mut directories = Vec::new(alloc);
-    directories.push((root, Items::new(items)))?;
+    Ok(items)
+}
+
+/// What they contain.
+fn contents_of(alloc: Global, names: &str) -> Result<Vec<(RepoPath, Bytes)>, Fail> {
+    let mut files = Vec::new(alloc);
+    for name in names.split(' ') {
+        let path = RepoPath::root(alloc).join(alloc, name)?;
+        files.push((path, Bytes::from_slice(alloc, b"hello\n")?))?;
+    }
+    Ok(files)
+}
+
+/// A folder of these files.
+fn folder(alloc: Global, names: &str) -> Result<MemoryFolder, Fail> {
+    let items = Items::new(items_of(alloc, names)?);
+    let directories = vec![in alloc; (RepoPath::root(alloc), items)]?;
+    let files = contents_of(alloc, names)?;
     let made = MemoryFolder::new(directories, files, Vec::new(alloc));
     Ok(made.ok_or("out of order")?)
 }
 
-/// A publisher of a folder of these files.
-fn publisher(alloc: Global, path: &str, names: &str) -> Result<Publisher, Fail> {
-    let path = RepoPath::read(alloc, path)?;
-    let Ok(changes) = read_folder(alloc, &mut folder(alloc, names)?, &path) else {
-        return Err(Fail::from("no changes"));
-    };
-    let Some(repository) = Name::read(alloc, "sw.example.org")? else {
-        return Err(Fail::from("no name"));
-    };
+/// The name of the repository.
+fn repository(alloc: Global) -> Result<Name, Fail> {
+    Ok(Name::read(alloc, "sw.example.org")?.ok_or("no name")?)
+}
+
+/// A publisher of a folder at a path.
+fn publisher<F: Folder>(alloc: Global, path: RepoPath, folder: &mut F) -> Result<Publisher, Fail> {
     if ends_in_marker(&path) {
         return Err(Fail::from("a marker"));
     }
+    let name = repository(alloc)?;
     let host = Text::from_str(alloc, "h:81")?;
-    Ok(Publisher::new(alloc, repository, host, path, changes, NOW)?)
+    let Ok(changes) = read_folder(alloc, folder, &path) else {
+        return Err(Fail::from("no changes"));
+    };
+    Ok(Publisher::new(alloc, name, host, path, changes, NOW)?)
 }
 
-/// Goes through a publication by these replies, and compares each request.
-fn publish(
-    alloc: Global,
-    publisher: &mut Publisher,
-    requests: &[&str],
-    replies: &str,
-) -> Result<(), Fail> {
-    for (request, reply) in requests.iter().zip(replies.split(' ')) {
-        if want_text(alloc, publisher)?.as_str() != *request {
-            return Err(Fail::from("another request"));
+/// What a publication wants of a folder of these files at a path.
+fn told(alloc: Global, path: &str, names: &str, replies: &str) -> Result<String, Fail> {
+    let mut folder = folder(alloc, names)?;
+    let path = RepoPath::read(alloc, path)?;
+    let mut publisher = publisher(alloc, path, &mut folder)?;
+    talk(alloc, &mut publisher, replies)
+}
+
+/// Whether these requests are told, and then the revision 2.
+fn becomes_a_revision(told: &str, requests: &[&'static str]) -> bool {
+    let mut lines = told.split('\n');
+    for request in requests {
+        if lines.next() != Some(*request) {
+            return false;
         }
-        give(alloc, publisher, reply)?;
     }
-    Ok(())
+    lines.next() == Some("revision 2") && lines.next().is_none()
 }
 
 #[test]
 fn a_folder_becomes_a_revision(rt: HostRuntime) -> Result<(), Fail> {
-    let alloc = rt.alloc();
-    let mut below = publisher(alloc, "/r", "f")?;
-    publish(
-        alloc,
-        &mut below,
-        &BELOW,
-        "granted manifest catalogue done committed",
-    )?;
-    assert!(rt; want_text(alloc, &mut below)?.as_str() == "revision 2");
+    let replies = "granted manifest catalogue done committed";
+    let told = told(rt.alloc(), "/r", "f", replies)?;
+    assert!(rt; becomes_a_revision(told.as_str(), &BELOW));
     Ok(())
 }
 
 #[test]
 fn equal_files_are_sent_once_and_unchanged_catalogues_not(rt: HostRuntime) -> Result<(), Fail> {
-    let alloc = rt.alloc();
-    let mut whole = publisher(alloc, "", "f g")?;
-    publish(
-        alloc,
-        &mut whole,
-        &AT_THE_ROOT,
-        "granted outer-manifest outer inner done committed",
-    )?;
-    assert!(rt; want_text(alloc, &mut whole)?.as_str() == "revision 2");
+    let replies = "granted outer-manifest outer inner done committed";
+    let told = told(rt.alloc(), "", "f g", replies)?;
+    assert!(rt; becomes_a_revision(told.as_str(), &AT_THE_ROOT));
     Ok(())
+}
+
+/// Whether a story has this end, and the lease's before it or not.
+fn ends_so(told: &str, end: &str, cancelled: bool) -> bool {
+    let mut lines = told.rsplit('\n');
+    let (last, before) = (lines.next(), lines.next());
+    (before == Some(CANCEL)) == cancelled && last == Some(end)
 }
 
 #[test]
 fn each_fault_ends_the_lease_and_is_told(rt: HostRuntime) -> Result<(), Fail> {
-    let alloc = rt.alloc();
     for (path, name, replies, end) in &ROWS {
-        let mut publisher = publisher(alloc, path, name)?;
-        let mut last = String::new(alloc);
-        for reply in replies.split(' ') {
-            last = want_text(alloc, &mut publisher)?;
-            give(alloc, &mut publisher, reply)?;
-        }
+        let told = told(rt.alloc(), path, name, replies)?;
         let cancelled = replies.contains(' ') && *end != "revision 2";
-        assert!(rt; (last.as_str() == CANCEL) == cancelled);
-        assert!(rt; want_text(alloc, &mut publisher)?.as_str() == *end);
+        assert!(rt; ends_so(told.as_str(), end, cancelled));
     }
     Ok(())
 }
