@@ -1,12 +1,13 @@
 //! A folder of changes over a real folder.
 
-use cv_base::{Items, RepoPath};
+use crate::made::{Item, make_all};
+use cv_base::RepoPath;
 use cv_ports::{Folder, FolderFault, FolderItem, FoundKind};
 use cv_real::SystemFolder;
 use std::alloc::Global;
 use std::fs::{File, Permissions};
-use std::os::unix::fs::{PermissionsExt, symlink};
-use std::os::unix::net::UnixListener;
+use std::os::unix::fs::PermissionsExt;
+use std::process::Abort;
 use std::test::Fail;
 use std::time::{Duration, SystemTime, UNIX_EPOCH};
 use std::{fs, io};
@@ -19,41 +20,49 @@ fn stamp(rt: &HostRuntime, path: &str, mode: u32, time: Option<SystemTime>) -> i
 }
 
 // A folder `top` with one of each kind, beside a file and a folder that it has links to.
-fn make_all(rt: &HostRuntime) -> io::Result<()> {
-    let _ = fs::remove_dir_all(rt, "changes");
-    fs::create_dir_all(rt, "changes/outside")?;
-    fs::write(rt, "changes/outside/victim", b"victim".as_slice())?;
-    fs::create_dir_all(rt, "changes/top/folder/below")?;
-    fs::write(rt, "changes/top/folder/inside", b"inside".as_slice())?;
-    fs::write(rt, "changes/top/file", b"file".as_slice())?;
-    fs::write(rt, "changes/top/a..b", b"dots".as_slice())?;
-    fs::write(rt, "changes/top/é", b"".as_slice())?;
-    fs::hard_link(rt, "changes/outside/victim", "changes/top/hard")?;
-    symlink(rt, "file", "changes/top/link")?;
-    symlink(rt, "../outside", "changes/top/linked")?;
-    symlink(rt, "nowhere", "changes/top/dangling")?;
-    let _ = UnixListener::bind(rt, "changes/top/socket")?;
-    symlink(rt, "top", "changes/named")?;
+static ITEMS: [(&str, Item); 13] = [
+    ("changes/outside", Item::Folder),
+    ("changes/outside/victim", Item::File(b"victim")),
+    ("changes/top/folder/below", Item::Folder),
+    ("changes/top/folder/inside", Item::File(b"inside")),
+    ("changes/top/file", Item::File(b"file")),
+    ("changes/top/a..b", Item::File(b"dots")),
+    ("changes/top/é", Item::File(b"")),
+    ("changes/top/hard", Item::Hard("changes/outside/victim")),
+    ("changes/top/link", Item::Link("file")),
+    ("changes/top/linked", Item::Link("../outside")),
+    ("changes/top/dangling", Item::Link("nowhere")),
+    ("changes/top/socket", Item::Socket),
+    ("changes/named", Item::Link("top")),
+];
+
+// Makes them. One file has a time before 1970.
+fn make_folder(rt: &HostRuntime) -> io::Result<()> {
+    make_all(rt, "changes", &ITEMS)?;
     let later = UNIX_EPOCH.checked_add(Duration::from_millis(1_000_000_007_900));
-    let before = UNIX_EPOCH.checked_sub(Duration::from_millis(7_900));
     stamp(rt, "changes/top/file", 0o4750, later)?;
+    let before = UNIX_EPOCH.checked_sub(Duration::from_millis(7_900));
     stamp(rt, "changes/top/a..b", 0o600, before)
 }
 
+// What is behind the name of an item of this kind.
+fn mark(kind: &FoundKind) -> (char, &str) {
+    match kind {
+        FoundKind::Dir => ('/', ""),
+        FoundKind::File => ('=', ""),
+        FoundKind::Special => ('!', ""),
+        FoundKind::Link(target) => ('>', target.as_str()),
+    }
+}
+
 // The items of a listing: each name with what it is.
-fn names(alloc: Global, items: &Items<FolderItem>) -> Result<String, Fail> {
+fn names(alloc: Global, items: &[FolderItem]) -> Result<String, Fail> {
     let mut text = String::new(alloc);
-    for item in items.as_slice() {
+    for item in items {
+        let (sign, target) = mark(&item.kind);
         text.push_str(item.name.as_str())?;
-        match &item.kind {
-            FoundKind::Dir => text.push('/')?,
-            FoundKind::File => text.push('=')?,
-            FoundKind::Special => text.push('!')?,
-            FoundKind::Link(target) => {
-                text.push('>')?;
-                text.push_str(target.as_str())?;
-            }
-        }
+        text.push(sign)?;
+        text.push_str(target)?;
         text.push(' ')?;
     }
     Ok(text)
@@ -70,7 +79,7 @@ fn word(fault: FolderFault) -> &'static str {
 // What a listing of a path says.
 fn listed<F: Folder>(alloc: Global, folder: &mut F, path: &RepoPath) -> Result<String, Fail> {
     match folder.list(alloc, path) {
-        Ok(items) => names(alloc, &items),
+        Ok(items) => names(alloc, items.as_slice()),
         Err(fault) => Ok(String::from_str(alloc, word(fault))?),
     }
 }
@@ -105,71 +114,107 @@ const ROWS: [(&str, &str, &str); 15] = [
     ("/socket", "failed", "failed"),
 ];
 
-#[test]
-fn each_call_agrees_on_what_stands_at_a_path(rt: HostRuntime) -> Result<(), Fail> {
-    let alloc = rt.alloc();
-    make_all(&rt)?;
-    assert!(rt; RepoPath::read(alloc, "/../outside/victim").is_err());
-    let mut folder = SystemFolder::new(rt);
-    assert_eq!(rt;
-        listed(alloc, &mut folder, &RepoPath::root(alloc))?.as_str(),
-        "failed"
-    );
-    assert!(rt; folder.root(alloc, "").is_err());
-    for name in ["changes/top", "changes/named", "changes/outside/../top/"] {
-        assert!(rt; folder.root(alloc, name).is_ok());
-        for (path, items, bytes) in ROWS {
-            let path = RepoPath::read(alloc, path)?;
-            assert_eq!(rt;
-                listed(alloc, &mut folder, &path)?.as_str(),
-                items,
-                "{name}"
-            );
-            assert_eq!(rt;
-                content(alloc, &mut folder, &path)?.as_str(),
-                bytes,
-                "{name}"
-            );
-        }
-    }
-    for name in ["changes/top/file", "changes/absent", "changes/top/socket"] {
-        assert!(rt; folder.root(alloc, name).is_ok());
-        assert_eq!(rt;
-            listed(alloc, &mut folder, &RepoPath::root(alloc))?.as_str(),
-            "failed"
-        );
+// Whether a folder opens at this name.
+fn opens<F: Folder>(alloc: Global, folder: &mut F, name: &str) -> bool {
+    folder.root(alloc, name).is_ok()
+}
+
+// What a listing of the root says.
+fn root_listed<F: Folder>(alloc: Global, folder: &mut F) -> Result<String, Fail> {
+    listed(alloc, folder, &RepoPath::root(alloc))
+}
+
+// Whether a listing of a path says these items, and a read gives these bytes.
+fn stands<F: Folder>(
+    alloc: Global,
+    folder: &mut F,
+    row: &(&'static str, &'static str, &'static str),
+) -> Result<bool, Fail> {
+    let (path, items, bytes) = row;
+    let path = RepoPath::read(alloc, path)?;
+    let are_listed = listed(alloc, folder, &path)?.as_str() == *items;
+    Ok(are_listed && content(alloc, folder, &path)?.as_str() == *bytes)
+}
+
+// Asserts each row of a folder that is opened at this name.
+fn assert_rows<F: Folder>(
+    rt: &impl Abort,
+    alloc: Global,
+    folder: &mut F,
+    name: &str,
+) -> Result<(), Fail> {
+    assert!(rt; opens(alloc, folder, name));
+    for row in &ROWS {
+        assert!(rt; stands(alloc, folder, row)?, "{name}");
     }
     Ok(())
 }
+
+#[test]
+fn each_call_agrees_on_what_stands_at_a_path(rt: HostRuntime) -> Result<(), Fail> {
+    let alloc = rt.alloc();
+    make_folder(&rt)?;
+    assert!(rt; RepoPath::read(alloc, "/../outside/victim").is_err());
+    let mut folder = SystemFolder::new(rt);
+    assert!(rt; root_listed(alloc, &mut folder)?.as_str() == "failed");
+    assert!(rt; !opens(alloc, &mut folder, ""));
+    for name in ["changes/top", "changes/named", "changes/outside/../top/"] {
+        assert_rows(&rt, alloc, &mut folder, name)?;
+    }
+    for name in ["changes/top/file", "changes/absent", "changes/top/socket"] {
+        assert!(rt; opens(alloc, &mut folder, name));
+        assert!(rt; root_listed(alloc, &mut folder)?.as_str() == "failed");
+    }
+    Ok(())
+}
+
+// The mode and the time of the item of a name in the root.
+fn mode_and_time<F: Folder>(
+    alloc: Global,
+    folder: &mut F,
+    name: &str,
+) -> Result<Option<(u32, u64)>, Fail> {
+    let items = folder.list(alloc, &RepoPath::root(alloc))?;
+    for item in items.as_slice() {
+        if item.name.as_str() == name {
+            return Ok(Some((item.mode, item.mtime)));
+        }
+    }
+    Ok(None)
+}
+
+// How many bytes are read of the file at a path.
+fn length_read<F: Folder>(alloc: Global, folder: &mut F, path: &str) -> Result<usize, Fail> {
+    let path = RepoPath::read(alloc, path)?;
+    Ok(folder.read(alloc, &path)?.as_slice().len())
+}
+
+const STAMPS: [(&str, u32, u64); 2] = [("file", 0o4750, 1_000_000_007), ("a..b", 0o600, 0)];
+
+// The length of a file, and how much of it is read.
+const LENGTHS: [(u64, usize); 3] = [
+    (16_777_216, 16_777_216),
+    (16_777_217, 16_777_217),
+    (1 << 40, 16_777_217),
+];
 
 // The bits and the time of a file; a time before 1970; and of a file above 16 MiB no more than one byte above.
 #[test]
 fn modes_times_and_long_files_are_as_they_stand(rt: HostRuntime) -> Result<(), Fail> {
     let alloc = rt.alloc();
-    make_all(&rt)?;
+    make_folder(&rt)?;
     let mut folder = SystemFolder::new(rt);
-    assert!(rt; folder.root(alloc, "changes/top").is_ok());
-    let items = folder.list(alloc, &RepoPath::root(alloc))?;
-    for (name, mode, mtime) in [("file", 0o4750, 1_000_000_007), ("a..b", 0o600, 0)] {
-        let found = items
-            .as_slice()
-            .iter()
-            .find(|item| item.name.as_str() == name);
-        assert_eq!(rt;
-            found.map(|item| (item.mode, item.mtime)),
-            Some((mode, mtime)),
-            "{name}"
-        );
+    assert!(rt; opens(alloc, &mut folder, "changes/top"));
+    for (name, mode, mtime) in STAMPS {
+        let found = mode_and_time(alloc, &mut folder, name)?;
+        assert!(rt; found == Some((mode, mtime)), "{name}");
     }
-    let long = File::create(&rt, "changes/top/long")?;
-    for (size, read) in [
-        (16_777_216, 16_777_216usize),
-        (16_777_217, 16_777_217),
-        (1u64 << 40, 16_777_217),
-    ] {
-        long.set_len(size)?;
-        let bytes = folder.read(alloc, &RepoPath::read(alloc, "/long")?)?;
-        assert_eq!(rt; bytes.as_slice().len(), read, "of {size}");
+    for (size, read) in LENGTHS {
+        File::create(&rt, "changes/top/long")?.set_len(size)?;
+        assert!(rt;
+            length_read(alloc, &mut folder, "/long")? == read,
+            "of {size}"
+        );
     }
     fs::remove_file(&rt, "changes/top/long")?;
     Ok(())

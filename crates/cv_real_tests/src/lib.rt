@@ -6,6 +6,8 @@ mod dial_tests;
 #[cfg(test)]
 mod folder_tests;
 #[cfg(test)]
+mod made;
+#[cfg(test)]
 mod small_tests;
 #[cfg(test)]
 mod tests;
