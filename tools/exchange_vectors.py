@@ -178,6 +178,11 @@ SESSIONS += [
 ]
 # A commit, which the desk of the tests refuses.
 SESSIONS.append(([(commit("1-1"), refused("revisions_full"))], CLEAN))
+# cut behind the head, in the pack's header, and in a body that is passed over
+SESSIONS += [
+    ([(payload(*EMPTY, keep=-left, **how), "")], bad("Short"))
+    for left, how in ((BODY, {}), (3, {}), (3, {"size": "0x10"}), (3, {"signed": False}))
+]
 
 
 # ---- what is asked of the desk
@@ -303,6 +308,9 @@ def failing():
         yield line("grants", 100, 0, call, NONE + NONE, taken, "WriteFault", "")
     asked, said = payload(*EMPTY, EXPECT), LINE + DONE
     told = told_of(asked, said)
+    # the read of the body behind its line, where 100 bytes come by a call
+    reads = -(-(asked.index("\r\n\r\n") + 4) // 100)
+    yield line("grants", 100, reads + 1, 0, asked, LINE, "ReadFault", "")
     for call, taken in (1, ""), (2, LINE):
         yield line("grants", 100, 0, call, asked, taken, "WriteFault", "")
     for call, taken in (3, LINE), (4, LINE + DONE[: -len('{"status":"ok"}')]), (5, said):
