@@ -9,6 +9,7 @@ use Rattle.cv_ports.specs.declared.folder.TheConstants.{FOLDER_READ_LIMIT}
 use Rattle.cv_ports.specs.declared.host_name.TheConstants.{HOST_LIMIT}
 use Rattle.cv_system.specs.declared.path_buffer.TheConstants.{PATH_ROOM}
 use Rattle.cv_http.specs.declared.buffer.TheConstants.{PIECE}
+use Rattle.cv_http.specs.declared.code.TheConstants.{NOT_FOUND, OK}
 use Rattle.cv_http.specs.declared.field_faults.TheConstants.{FIELD_LIMIT}
 use Rattle.cv_http.specs.declared.judge.TheConstants.{HEAD_LIMIT}
 use Rattle.cv_http.specs.declared.wire.TheConstants.{BODY_LIMIT, INTERIM_LIMIT}
@@ -71,7 +72,8 @@ pub record AreGateLimits : Type 0 where
   pub header : HEADER_LIMIT ≡ 1048576
 
 -- of a connection: bytes of a head, and its fields; interim heads of a reply, and bytes of its body; bytes of a piece that is read, and
--- of a payload's message or the body of another request; and requests
+-- of a payload's message or the body of another request; requests; and the codes of a reply that has what was asked for, and that
+-- there is none
 pub record AreWireLimits : Type 0 where
   pub head : HEAD_LIMIT ≡ 16384
   pub fields : FIELD_LIMIT ≡ 64
@@ -80,6 +82,8 @@ pub record AreWireLimits : Type 0 where
   pub piece : PIECE ≡ 65536
   pub message : MESSAGE_LIMIT ≡ 65536
   pub requests : REQUEST_LIMIT ≡ 1000
+  pub found : OK ≡ 200
+  pub absent : NOT_FOUND ≡ 404
 
 pub record AreLimits : Type 0 where
   pub texts : AreTextLimits

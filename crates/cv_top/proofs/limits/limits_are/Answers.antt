@@ -20,5 +20,16 @@ returns c =
             total = refl;
             header = refl;
           };
-      wire = record { head = refl; fields = refl; interim = refl; body = refl; piece = refl; message = refl; requests = refl };
+      wire =
+          record {
+            head = refl;
+            fields = refl;
+            interim = refl;
+            body = refl;
+            piece = refl;
+            message = refl;
+            requests = refl;
+            found = refl;
+            absent = refl;
+          };
     }
