@@ -21,15 +21,23 @@ use cv_ports::{Folder, FolderItem, FoundKind};
 use cv_real::{SystemCalls, SystemFolder, program_words};
 use cv_vault::{MemoryVault, Vault, VaultFault};
 use std::alloc::AllocError;
+use std::fs::File;
 use std::io::Read;
 use std::process::ExitCode;
+use std::rt::{Files, Runtime};
+use std::thread::Threads;
 use std::time::Instant;
 use std::{env, io};
 
-type Vaulted = FolderVault<SystemCalls<HostRuntime>>;
+/// What the runtime of this program can do.
+trait Host: Runtime + Files<File = File> + AllocGlobal + Copy + Threads {}
+
+impl<R: Runtime + Files<File = File> + AllocGlobal + Copy + Threads> Host for R {}
+
+type Vaulted<R> = FolderVault<SystemCalls<R>>;
 
 /// The vault over the folder at a path.
-fn vault_at(rt: &HostRuntime, root: &str) -> Result<Vaulted, AllocError> {
+fn vault_at<R: Host>(rt: &R, root: &str) -> Result<Vaulted<R>, AllocError> {
     FolderVault::new(rt.alloc(), SystemCalls::new(*rt), root)
 }
 
@@ -77,7 +85,7 @@ fn word_of(answer: Answer) -> &'static str {
     }
 }
 
-fn write_all(rt: &HostRuntime, vault: &mut Vaulted, count: u32, size: usize) -> io::Result<bool> {
+fn write_all<R: Host>(rt: &R, vault: &mut Vaulted<R>, count: u32, size: usize) -> io::Result<bool> {
     let bytes = vec![in rt.alloc(); 120u8; size]?;
     for number in 0..count {
         let way = format!(in rt.alloc(); "txn/{number:038x}")?;
@@ -88,7 +96,7 @@ fn write_all(rt: &HostRuntime, vault: &mut Vaulted, count: u32, size: usize) -> 
     Ok(vault.sync().is_ok())
 }
 
-fn move_all(rt: &HostRuntime, vault: &mut Vaulted, count: u32) -> io::Result<bool> {
+fn move_all<R: Host>(rt: &R, vault: &mut Vaulted<R>, count: u32) -> io::Result<bool> {
     for number in 0..count {
         let way = format!(in rt.alloc(); "txn/{number:038x}")?;
         let bucket = number % 256;
@@ -101,7 +109,7 @@ fn move_all(rt: &HostRuntime, vault: &mut Vaulted, count: u32) -> io::Result<boo
 }
 
 /// Writes so many names into a vault in memory, ten in each folder, and syncs.
-fn write_names(rt: &HostRuntime, vault: &mut MemoryVault, count: u32) -> Option<()> {
+fn write_names<R: Host>(rt: &R, vault: &mut MemoryVault, count: u32) -> Option<()> {
     for number in 0..count {
         let folder = number / 10;
         let name = format!(in rt.alloc(); "data/{folder:05}/{number:06}").ok()?;
@@ -127,7 +135,7 @@ fn nanoseconds(from: Instant, to: Instant) -> u128 {
 }
 
 /// The nanoseconds of writing so many names, of listing ten, and of changing one.
-fn times(rt: &HostRuntime, count: u32) -> Option<(u128, u128, u128)> {
+fn times<R: Host>(rt: &R, count: u32) -> Option<(u128, u128, u128)> {
     let mut vault = MemoryVault::new(rt.alloc(), Vec::new(rt.alloc())).ok()?;
     let begin = Instant::now(rt).ok()?;
     write_names(rt, &mut vault, count)?;
@@ -143,14 +151,14 @@ fn times(rt: &HostRuntime, count: u32) -> Option<(u128, u128, u128)> {
     ))
 }
 
-fn print_times(rt: &HostRuntime, count: &str) -> io::Result<()> {
+fn print_times<R: Host>(rt: &R, count: &str) -> io::Result<()> {
     match times(rt, count.parse::<u32>().unwrap_or(0)) {
         Some((writes, lists, change)) => println!(rt; "{writes} {lists} {change}"),
         None => println!(rt; "failed"),
     }
 }
 
-fn print_names(rt: &HostRuntime, vault: &mut Vaulted, prefix: &str) -> io::Result<()> {
+fn print_names<R: Host>(rt: &R, vault: &mut Vaulted<R>, prefix: &str) -> io::Result<()> {
     match vault.list(prefix) {
         Ok(names) => {
             print!(rt; "names")?;
@@ -168,7 +176,7 @@ fn print_names(rt: &HostRuntime, vault: &mut Vaulted, prefix: &str) -> io::Resul
 }
 
 /// The items of a directory of a folder of changes.
-fn items_at(rt: &HostRuntime, root: &str, path: &str) -> Option<Items<FolderItem>> {
+fn items_at<R: Host>(rt: &R, root: &str, path: &str) -> Option<Items<FolderItem>> {
     let mut folder = SystemFolder::new(*rt);
     folder.root(rt.alloc(), root).ok()?;
     folder
@@ -177,7 +185,7 @@ fn items_at(rt: &HostRuntime, root: &str, path: &str) -> Option<Items<FolderItem
 }
 
 /// The content of a file of a folder of changes.
-fn content_at(rt: &HostRuntime, root: &str, path: &str) -> Option<Bytes> {
+fn content_at<R: Host>(rt: &R, root: &str, path: &str) -> Option<Bytes> {
     let mut folder = SystemFolder::new(*rt);
     folder.root(rt.alloc(), root).ok()?;
     folder
@@ -194,7 +202,7 @@ fn mark_of(kind: &FoundKind) -> &'static str {
     }
 }
 
-fn print_items(rt: &HostRuntime, root: &str, path: &str) -> io::Result<()> {
+fn print_items<R: Host>(rt: &R, root: &str, path: &str) -> io::Result<()> {
     let Some(items) = items_at(rt, root, path) else {
         return println!(rt; "failed");
     };
@@ -207,7 +215,7 @@ fn print_items(rt: &HostRuntime, root: &str, path: &str) -> io::Result<()> {
     println!(rt; "")
 }
 
-fn print_content(rt: &HostRuntime, root: &str, path: &str) -> io::Result<()> {
+fn print_content<R: Host>(rt: &R, root: &str, path: &str) -> io::Result<()> {
     match content_at(rt, root, path) {
         Some(bytes) => {
             let length = bytes.as_slice().len();
@@ -217,9 +225,9 @@ fn print_content(rt: &HostRuntime, root: &str, path: &str) -> io::Result<()> {
     }
 }
 
-fn answer_of(
-    rt: &HostRuntime,
-    vault: &mut Vaulted,
+fn answer_of<R: Host>(
+    rt: &R,
+    vault: &mut Vaulted<R>,
     call: &str,
     name: &str,
     other: &str,
@@ -242,7 +250,7 @@ fn answer_of(
         }
         "wait" => {
             let mut byte = [0u8; 1];
-            let _ = rt.stdin().read(&mut byte);
+            let _ = rt.reader().read(&mut byte);
             Ok(Answer::Done)
         }
         "also" => {
@@ -253,9 +261,9 @@ fn answer_of(
     }
 }
 
-fn make_call(
-    rt: &HostRuntime,
-    vault: &mut Vaulted,
+fn make_call<R: Host>(
+    rt: &R,
+    vault: &mut Vaulted<R>,
     call: &str,
     name: &str,
     other: &str,
@@ -276,7 +284,7 @@ fn make_call(
     println!(rt; "{word}")
 }
 
-fn make_calls(rt: &HostRuntime, words: &Vec<String>) -> io::Result<()> {
+fn make_calls<R: Host>(rt: &R, words: &Vec<String>) -> io::Result<()> {
     let root = words.first().map_or("srv", |word| word.as_str());
     let mut vault = vault_at(rt, root)?;
     for word in words.iter().skip(1) {

@@ -4,7 +4,7 @@ use Rattle.std.specs.Prelude.{◌⊎◌, IsOk, IsTrue, OnOk, is_ok}
 use Rattle.cv_folder.specs.declared.folder_vault.FolderVault.{FolderVault}
 use Rattle.cv_folder.specs.declared.hold.Hold.{Hold}
 use Rattle.cv_folder.specs.declared.hold.Hold.TheVariants.{Absent}
-use Rattle.cv_system.specs.Calls.{Log}
+use Rattle.cv_system.specs.Calls.{Done, Ended, Log, and_call}
 use Rattle.cv_system.specs.declared.seen.Seen.{Seen}
 use Rattle.cv_folder.specs.FolderVault.{Acts, AsksAlone, HoldsFirst, IsUncalled}
 use Rattle.cv_folder.specs.FolderVaultInner.{MovesOn}
@@ -13,9 +13,10 @@ use Rattle.cv_system.specs.Names.{folder_of, is_name, next_of, path_of}
 use Rattle.cv_system.specs.Steps.{Tries}
 use Rattle.cv_system.specs.Syncs.{syncs}
 use Rattle.cv_system.specs.Walks.{SettlesAll}
+use Rattle.cv_system.specs.Ways.{SyncsAllWays}
 use Rattle.cv_folder.specs.Syncs.{SettlesFirst, SyncsAll, SyncsHeld}
 use Rattle.cv_system.specs.Looks.{folders_past}
-use Rattle.cv_folder.specs.Writes.{EndsOnWay, Leads, LeadsTo, MovesFile, Prepares, Puts, WritesFile}
+use Rattle.cv_folder.specs.Writes.{EndsOnWay, Leads, LeadsTo, MovesFile, Prepares, Puts, WritesFile, syncs_by}
 use Rattle.cv_folder.proofs.Acts.{acts_so}
 use Rattle.cv_folder.proofs.Preparing.{prepares_wider}
 
@@ -83,11 +84,11 @@ module _ {F : Type 0} (root name bytes : List ℕ) (was hold : Hold F) (is_unset
     writes_on_way ends = (begun, begins, inr (held, named, ready, prepared, inr (refl, way_so (λ n p log. EndsOnWay n p log ready) _ _ _ _ _ _ size at same ends, refl)))
 
     -- the file is put, or that fails
-    pub writes_so : (done : Bool) (after : Log) → next ≡ folder_of path ++ codes ".cvkit-next" → LeadsTo from path noted set ready → Puts next path bytes done ready after → WritesFile root name bytes was hold is_unsettled noted done before after
+    pub writes_so : (done : Bool) (after : Log) → next ≡ folder_of path ++ codes ".cvkit-next" → LeadsTo from path noted set ready → Puts (syncs_by name) next path bytes done ready after → WritesFile root name bytes was hold is_unsettled noted done before after
     unfolding WritesFile
     writes_so done after beside (leads, above) puts =
         let own : next ≡ next_of root name = beside ∙ ap (λ (p : List ℕ). folder_of p ++ codes ".cvkit-next") at in
-        (begun, begins, inr (held, named, ready, prepared, inl ((led leads, subst (λ (p : List ℕ). IsTrue (noted (folder_of p))) at above), subst (λ (n : List ℕ). Puts n (path_of root name) bytes done ready after) own (subst (λ (p : List ℕ). Puts next p bytes done ready after) at puts))))
+        (begun, begins, inr (held, named, ready, prepared, inl ((led leads, subst (λ (p : List ℕ). IsTrue (noted (folder_of p))) at above), subst (λ (n : List ℕ). Puts (syncs_by name) n (path_of root name) bytes done ready after) own (subst (λ (p : List ℕ). Puts (syncs_by name) next p bytes done ready after) at puts))))
 
 -- a write is what it was where more is unsettled by then, and more is noted
 pub writes_by_then : {F : Type 0} (root name bytes : List ℕ) (was hold : Hold F) (is_unsettled by_then : Bool) (noted more : List ℕ → Bool) (done : Bool) (before after : Log)
@@ -118,18 +119,24 @@ settles_nothing root true before after never same = absurd (cc)
 settles_nothing root false before after never same = same
 
 -- all is
-pub settles_all : (root : List ℕ) (is_unsettled : Bool) (before above after : Log) → is_unsettled ≡ true
-    → Tries (syncs (folder_of root ∷ [])) true before above → SettlesAll root above after → SettlesFirst root is_unsettled before after
+pub settles_all : (root : List ℕ) (is_unsettled : Bool) (before ways above after : Log) → is_unsettled ≡ true → SyncsAllWays root (Ok tt) before ways
+    → Tries (syncs (folder_of root ∷ [])) true ways above → SettlesAll root above after → SettlesFirst root is_unsettled before after
 unfolding SettlesFirst
-settles_all root true before above after is tried settles = (above, tried, settles)
-settles_all root false before above after is tried settles = absurd (cc)
+settles_all root true before ways above after is first tried settles = (ways, above, first, tried, settles)
+settles_all root false before ways above after is first tried settles = absurd (cc)
+
+-- the syncs that were begun are ended
+pub ended_so : (before ended : Log) → Tries (Ended ∷ []) true before ended → ended ≡ and_call (Ended Done) before
+ended_so before ended (inl (all, is)) = is
+ended_so before ended (inr (cause, never, is)) = absurd (cc)
 
 -- and then each folder that was noted
-pub syncs_all : {E : Type 0} (root : List ℕ) (is_unsettled : Bool) (noted : List (List ℕ)) (before settled after : Log) (result : Result (Unit {0}) E)
-    → SettlesFirst root is_unsettled before settled → Tries (syncs noted) (is_ok result) settled after → OnOk result (SyncsAll root is_unsettled noted before after)
+pub syncs_all : {E : Type 0} (root : List ℕ) (is_unsettled : Bool) (noted : List (List ℕ)) (before ended settled after : Log) (result : Result (Unit {0}) E)
+    → Tries (Ended ∷ []) true before ended → SettlesFirst root is_unsettled ended settled → Tries (syncs noted) (is_ok result) settled after → OnOk result (SyncsAll root is_unsettled noted before after)
 unfolding SyncsAll
-syncs_all root is_unsettled noted before settled after (Ok x) first tried = (settled, first, tried)
-syncs_all root is_unsettled noted before settled after (Err error) first tried = tt
+syncs_all root is_unsettled noted before ended settled after (Ok x) ends first tried =
+    (settled, subst (λ (log : Log). SettlesFirst root is_unsettled log settled) (ended_so before ended ends) first, tried)
+syncs_all root is_unsettled noted before ended settled after (Err error) ends first tried = tt
 
 module _ {F : Type 0} (root : List ℕ) (was hold : Hold F) (is_unsettled : Bool) (noted : List (List ℕ)) (before after : Log) where
   -- without a folder nothing is synced

@@ -12,6 +12,7 @@ mod Preparing
 mod Quiet
 mod Reasons
 mod Seeing
+mod SyncsBy
 mod Vain
 mod Well
 mod Within

@@ -9,38 +9,54 @@ use Rattle.cv_folder.specs.Hold.{Asks, IsHeld, is_unasked}
 use Rattle.cv_folder.specs.Syncs.{SettlesFirst}
 use Rattle.cv_folder.specs.Unsynced.{FailsFirst, FailsSync, SyncsInVain, SyncsNotAll, is_lost}
 use Rattle.cv_folder.proofs.Acts.{acts_so}
-use Rattle.cv_system.specs.Calls.{Log}
+use Rattle.cv_folder.proofs.Filing.{ended_so}
+use Rattle.cv_system.specs.Calls.{Ended, Log}
 use Rattle.cv_system.specs.Names.{folder_of}
 use Rattle.cv_system.specs.Steps.{Tries}
 use Rattle.cv_system.specs.Syncs.{EndsBy, FailsToSync, syncs}
 use Rattle.cv_system.specs.Walks.{FailsAll}
+use Rattle.cv_system.specs.Ways.{SyncsAllWays}
 use Rattle.cv_system.specs.declared.syncing.Unsynced.{Unsynced}
+use Rattle.cv_system.specs.declared.syncing.Unsynced.TheVariants.{Lost}
 
 module _ (root : List ℕ) (unsynced : Unsynced) where
-  -- the folder above the root isn't made durable
-  pub fails_above : (is_unsettled : Bool) (before after : Log) → is_unsettled ≡ true → FailsToSync (folder_of root) unsynced before after → FailsFirst root is_unsettled unsynced before after
+  -- a file on its way isn't made durable
+  pub fails_ways : (is_unsettled : Bool) (before after : Log) → is_unsettled ≡ true → SyncsAllWays root (Err unsynced) before after → FailsFirst root is_unsettled unsynced before after
   unfolding FailsFirst
-  fails_above true before after is fails = inl fails
-  fails_above false before after is fails = absurd (cc)
+  fails_ways true before after is fails = inl fails
+  fails_ways false before after is fails = absurd (cc)
 
-  -- nor is one that the walk comes to
-  pub fails_walk : (is_unsettled : Bool) (before above after : Log) → is_unsettled ≡ true → Tries (syncs (folder_of root ∷ [])) true before above → FailsAll root unsynced above after
-      → FailsFirst root is_unsettled unsynced before after
-  unfolding FailsFirst
-  fails_walk true before above after is tried fails = inr (above, tried, fails)
-  fails_walk false before above after is tried fails = absurd (cc)
+  module _ (is_unsettled : Bool) (before ways after : Log) (is : is_unsettled ≡ true) (first : SyncsAllWays root (Ok tt) before ways) where
+    -- nor is the folder above the root
+    pub fails_above : FailsToSync (folder_of root) unsynced ways after → FailsFirst root is_unsettled unsynced before after
+    unfolding FailsFirst
+    fails_above fails = subst (λ (all : Bool). FailsFirst root all unsynced before after) (sym is) (inr (ways, first, inl fails))
 
-  -- all isn't made durable where that fails
-  pub not_first : (is_unsettled : Bool) (noted : List (List ℕ)) (before after : Log) → FailsFirst root is_unsettled unsynced before after → SyncsNotAll root is_unsettled noted unsynced before after
-  unfolding SyncsNotAll
-  not_first is_unsettled noted before after fails = inl fails
+    -- nor is one that the walk comes to
+    pub fails_walk : (above : Log) → Tries (syncs (folder_of root ∷ [])) true ways above → FailsAll root unsynced above after → FailsFirst root is_unsettled unsynced before after
+    unfolding FailsFirst
+    fails_walk above tried fails = subst (λ (all : Bool). FailsFirst root all unsynced before after) (sym is) (inr (ways, first, inr (above, tried, fails)))
+
+  module _ (is_unsettled : Bool) (noted : List (List ℕ)) (before after : Log) where
+    -- the syncs that were begun end in vain
+    pub not_ended : unsynced ≡ Lost → Tries (Ended ∷ []) false before after → SyncsNotAll root is_unsettled noted unsynced before after
+    unfolding SyncsNotAll
+    not_ended lost (inl (never, is)) = absurd (cc)
+    not_ended lost (inr (cause, never, is)) = inl (lost, cause, is)
+
+    -- all isn't made durable where that fails
+    pub not_first : (ended : Log) → Tries (Ended ∷ []) true before ended → FailsFirst root is_unsettled unsynced ended after → SyncsNotAll root is_unsettled noted unsynced before after
+    unfolding SyncsNotAll
+    not_first ended ends fails = inr (inl (subst (λ (log : Log). FailsFirst root is_unsettled unsynced log after) (ended_so before ended ends) fails))
 
 -- or where a folder that was noted isn't
-pub not_noted : {T : Type 0} (root : List ℕ) (is_unsettled : Bool) (noted : List (List ℕ)) (before settled after : Log) (result : Result T Unsynced) → SettlesFirst root is_unsettled before settled
+pub not_noted : {T : Type 0} (root : List ℕ) (is_unsettled : Bool) (noted : List (List ℕ)) (before ended settled after : Log) (result : Result T Unsynced)
+    → Tries (Ended ∷ []) true before ended → SettlesFirst root is_unsettled ended settled
     → Tries (syncs noted) (is_ok result) settled after → IfErr result (λ unsynced. EndsBy unsynced after) → IfErr result (λ unsynced. SyncsNotAll root is_unsettled noted unsynced before after)
 unfolding SyncsNotAll
-not_noted root is_unsettled noted before settled after (Ok x) first tried ends = tt
-not_noted root is_unsettled noted before settled after (Err unsynced) first tried ends = inr (settled, first, tried, ends)
+not_noted root is_unsettled noted before ended settled after (Ok x) ends first tried ends_by = tt
+not_noted root is_unsettled noted before ended settled after (Err unsynced) ends first tried ends_by =
+    inr (inr (settled, subst (λ (log : Log). SettlesFirst root is_unsettled log settled) (ended_so before ended ends) first, tried, ends_by))
 
 module _ {S F N : Type 0} (log : S → Log) (before between after : FolderVault S F N) where
   -- a sync does nothing where something was lost before

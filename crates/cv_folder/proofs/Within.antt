@@ -3,12 +3,13 @@ use Rattle.std.proofs.Common.{◌≡◌, ◌++◌, ◌∷◌, [], Bool, Decides,
 use Rattle.std.specs.Prelude.{◌⊎◌, IsTrue}
 use Rattle.cv_system.specs.declared.seen.Seen.{Seen}
 use Rattle.cv_system.specs.declared.syncing.Unsynced.{Unsynced}
-use Rattle.cv_system.specs.Calls.{Created, Done, Failed, Log, Looked, Outcome, Removed, Renamed, Synced, Wrote, and_call}
+use Rattle.cv_system.specs.Calls.{Call, Created, Done, Ended, Failed, Log, Looked, Outcome, Removed, Renamed, Wrote, and_call}
 use Rattle.cv_system.specs.Names.{folder_of, is_name, next_of, path_of}
 use Rattle.cv_system.specs.Steps.{Makes, Still, Then, Tries}
 use Rattle.cv_system.specs.Syncs.{syncs}
 use Rattle.cv_system.specs.Walks.{IsUnder}
-use Rattle.cv_system.proofs.Laws.{fails_all_makes, more_under, no_step, one_call, settles_all_makes, steps_then, steps_wider, sync_fails_make, syncs_make}
+use Rattle.cv_system.specs.Ways.{SyncsAllWays}
+use Rattle.cv_system.proofs.Laws.{all_ways_make, fails_all_makes, more_under, no_step, one_call, settles_all_makes, steps_then, steps_wider, sync_fails_make, syncs_make}
 use Rattle.cv_folder.specs.declared.folder_vault.FolderVault.{FolderVault}
 use Rattle.cv_folder.specs.declared.hold.Hold.{Hold}
 use Rattle.cv_folder.specs.FolderVault.{Acts, SyncsDone}
@@ -17,16 +18,17 @@ use Rattle.cv_folder.specs.Reads.{MeasuresNamed, ReadsNamed}
 use Rattle.cv_folder.specs.Syncs.{SettlesFirst, SyncsAll, SyncsHeld}
 use Rattle.cv_folder.specs.Unsynced.{FailsFirst, FailsSync, SyncsInVain, SyncsNotAll}
 use Rattle.cv_folder.specs.Within.{ChangesWithin, IsWithin, NamesWhole, StaysWithin}
-use Rattle.cv_folder.specs.Writes.{MovesFile, MovesNamed, Puts, RemovesNamed, TriesAnew, WritesFile, put}
+use Rattle.cv_folder.specs.Writes.{MovesFile, MovesNamed, Puts, RemovesNamed, TriesAnew, WritesFile, put, syncs_by}
 use Rattle.cv_folder.proofs.Quiet.{Quiet, asks_quiet, begins_quiet, has_quiet, in_vain_quiet, lacks_quiet, lists_quiet, next_within, no_other_quiet, other_quiet, path_within, prepares_quiet, reads_quiet, removes_quiet, unread_quiet}
+use Rattle.cv_folder.proofs.SyncsBy.{by_renames_nothing, by_within}
 
 -- what changes little stays within the folder
 pub quiet_within : (root : List ℕ) (before after : Log) → Makes (Quiet root) before after → StaysWithin root before after
 quiet_within root before after quiet = steps_wider (λ one other (call, such, is). (call, such.0, is)) quiet
 
 -- and gives no file a name
-quiet_names : (root next path bytes : List ℕ) (before after : Log) → Makes (Quiet root) before after → NamesWhole next path bytes before after
-quiet_names root next path bytes before after quiet = steps_wider (λ one other (call, such, is). inl (call, such.1, is)) quiet
+quiet_names : (By : List ℕ → Outcome → Call) (root next path bytes : List ℕ) (before after : Log) → Makes (Quiet root) before after → NamesWhole By next path bytes before after
+quiet_names By root next path bytes before after quiet = steps_wider (λ one other (call, such, is). inl (call, such.1, is)) quiet
 
 module _ (root : List ℕ) where
   -- ---- a call about a name
@@ -107,25 +109,25 @@ module _ (root : List ℕ) where
     path_so : IsWithin root (path_of root name)
     path_so = inr (path_within root name)
 
-    put_within : (all : Bool) (before after : Log) → Tries (put (next_of root name) (path_of root name) bytes) all before after → StaysWithin root before after
+    put_within : (all : Bool) (before after : Log) → Tries (put (syncs_by name) (next_of root name) (path_of root name) bytes) all before after → StaysWithin root before after
     put_within all before after (inl (inl (inl (made, is)))) =
-        Then (Then (one_call (Wrote (next_of root name) bytes Done) next_so refl) (Synced (next_of root name) Done, tt, refl)) (Renamed (next_of root name) (path_of root name) Done, (next_so, path_so), is)
+        Then (Then (one_call (Wrote (next_of root name) bytes Done) next_so refl) (syncs_by name (next_of root name) Done, by_within root name (next_of root name) Done, refl)) (Renamed (next_of root name) (path_of root name) Done, (next_so, path_so), is)
     put_within all before after (inl (inl (inr (cause, never, is)))) =
-        Then (Then (one_call (Wrote (next_of root name) bytes Done) next_so refl) (Synced (next_of root name) Done, tt, refl)) (Renamed (next_of root name) (path_of root name) (Failed cause), (next_so, path_so), is)
-    put_within all before after (inl (inr (cause, never, is))) = Then (one_call (Wrote (next_of root name) bytes Done) next_so refl) (Synced (next_of root name) (Failed cause), tt, is)
+        Then (Then (one_call (Wrote (next_of root name) bytes Done) next_so refl) (syncs_by name (next_of root name) Done, by_within root name (next_of root name) Done, refl)) (Renamed (next_of root name) (path_of root name) (Failed cause), (next_so, path_so), is)
+    put_within all before after (inl (inr (cause, never, is))) = Then (one_call (Wrote (next_of root name) bytes Done) next_so refl) (syncs_by name (next_of root name) (Failed cause), by_within root name (next_of root name) (Failed cause), is)
     put_within all before after (inr (cause, never, is)) = one_call (Wrote (next_of root name) bytes (Failed cause)) next_so is
 
-    put_names : (all : Bool) (before after : Log) → Tries (put (next_of root name) (path_of root name) bytes) all (and_call (Created (next_of root name) Done) before) after
-        → NamesWhole (next_of root name) (path_of root name) bytes before after
+    put_names : (all : Bool) (before after : Log) → Tries (put (syncs_by name) (next_of root name) (path_of root name) bytes) all (and_call (Created (next_of root name) Done) before) after
+        → NamesWhole (syncs_by name) (next_of root name) (path_of root name) bytes before after
     put_names all before after (inl (inl (inl (made, is)))) = Then Still (inr is)
     put_names all before after (inl (inl (inr (cause, never, is)))) =
-        Then (Then (Then (Then Still (inl (Created (next_of root name) Done, tt, refl))) (inl (Wrote (next_of root name) bytes Done, tt, refl))) (inl (Synced (next_of root name) Done, tt, refl)))
+        Then (Then (Then (Then Still (inl (Created (next_of root name) Done, tt, refl))) (inl (Wrote (next_of root name) bytes Done, tt, refl))) (inl (syncs_by name (next_of root name) Done, by_renames_nothing name (next_of root name) Done, refl)))
         (inl (Renamed (next_of root name) (path_of root name) (Failed cause), tt, is))
     put_names all before after (inl (inr (cause, never, is))) =
-        Then (Then (Then Still (inl (Created (next_of root name) Done, tt, refl))) (inl (Wrote (next_of root name) bytes Done, tt, refl))) (inl (Synced (next_of root name) (Failed cause), tt, is))
+        Then (Then (Then Still (inl (Created (next_of root name) Done, tt, refl))) (inl (Wrote (next_of root name) bytes Done, tt, refl))) (inl (syncs_by name (next_of root name) (Failed cause), by_renames_nothing name (next_of root name) (Failed cause), is))
     put_names all before after (inr (cause, never, is)) = Then (Then Still (inl (Created (next_of root name) Done, tt, refl))) (inl (Wrote (next_of root name) bytes (Failed cause), tt, is))
 
-    anew_within : (all : Bool) (before after : Log) → TriesAnew (next_of root name) (put (next_of root name) (path_of root name) bytes) all before after → StaysWithin root before after
+    anew_within : (all : Bool) (before after : Log) → TriesAnew (next_of root name) (put (syncs_by name) (next_of root name) (path_of root name) bytes) all before after → StaysWithin root before after
     anew_within all before after (inl tried) = steps_then (one_call (Created (next_of root name) Done) next_so refl) (put_within all _ after tried)
     anew_within all before after (inr (inl (never, cause, other, is))) = one_call (Created (next_of root name) (Failed cause)) next_so is
     anew_within all before after (inr (inr (cause, taken, inl (inl tried)))) =
@@ -135,7 +137,7 @@ module _ (root : List ℕ) where
     anew_within all before after (inr (inr (cause, taken, inr (other, never, is)))) =
         Then (one_call (Created (next_of root name) (Failed cause)) next_so refl) (Removed (next_of root name) (Failed other), next_so, is)
 
-    anew_names : (all : Bool) (before after : Log) → TriesAnew (next_of root name) (put (next_of root name) (path_of root name) bytes) all before after → NamesWhole (next_of root name) (path_of root name) bytes before after
+    anew_names : (all : Bool) (before after : Log) → TriesAnew (next_of root name) (put (syncs_by name) (next_of root name) (path_of root name) bytes) all before after → NamesWhole (syncs_by name) (next_of root name) (path_of root name) bytes before after
     anew_names all before after (inl tried) = put_names all before after tried
     anew_names all before after (inr (inl (never, cause, other, is))) = Then Still (inl (Created (next_of root name) (Failed cause), tt, is))
     anew_names all before after (inr (inr (cause, taken, inl (inl tried)))) =
@@ -145,12 +147,12 @@ module _ (root : List ℕ) where
     anew_names all before after (inr (inr (cause, taken, inr (other, never, is)))) =
         Then (Then Still (inl (Created (next_of root name) (Failed cause), tt, refl))) (inl (Removed (next_of root name) (Failed other), tt, is))
 
-    puts_within : (done : Bool) (before after : Log) → Puts (next_of root name) (path_of root name) bytes done before after → StaysWithin root before after
+    puts_within : (done : Bool) (before after : Log) → Puts (syncs_by name) (next_of root name) (path_of root name) bytes done before after → StaysWithin root before after
     unfolding Puts
     puts_within true before after anew = anew_within true before after anew
     puts_within false before after (tried, gone, anew, is) = Then (anew_within false before tried anew) (Removed (next_of root name) gone, next_so, is)
 
-    puts_names : (done : Bool) (before after : Log) → Puts (next_of root name) (path_of root name) bytes done before after → NamesWhole (next_of root name) (path_of root name) bytes before after
+    puts_names : (done : Bool) (before after : Log) → Puts (syncs_by name) (next_of root name) (path_of root name) bytes done before after → NamesWhole (syncs_by name) (next_of root name) (path_of root name) bytes before after
     unfolding Puts
     puts_names true before after anew = anew_names true before after anew
     puts_names false before after (tried, gone, anew, is) = Then (anew_names false before tried anew) (inl (Removed (next_of root name) gone, tt, is))
@@ -165,17 +167,17 @@ module _ (root : List ℕ) where
       writes_within (begun, begins, inr (held, named, ready, prepares, inr (never, ends, same))) =
           steps_then (quiet_within root before ready (steps_then (begins_quiet root was hold is_unsettled noted before begun begins) (prepares_quiet root name noted begun ready prepares))) (no_step same)
 
-      pub writes_whole : WritesFile root name bytes was hold is_unsettled noted done before after → NamesWhole (next_of root name) (path_of root name) bytes before after
+      pub writes_whole : WritesFile root name bytes was hold is_unsettled noted done before after → NamesWhole (syncs_by name) (next_of root name) (path_of root name) bytes before after
       unfolding WritesFile
       writes_whole (begun, begins, inl (never, same)) =
-          steps_then (quiet_names root (next_of root name) (path_of root name) bytes before begun (begins_quiet root was hold is_unsettled noted before begun begins)) (no_step same)
+          steps_then (quiet_names (syncs_by name) root (next_of root name) (path_of root name) bytes before begun (begins_quiet root was hold is_unsettled noted before begun begins)) (no_step same)
       writes_whole (begun, begins, inr (held, named, ready, prepares, inl (leads, puts))) =
           steps_then
-          (quiet_names root (next_of root name) (path_of root name) bytes before ready (steps_then (begins_quiet root was hold is_unsettled noted before begun begins) (prepares_quiet root name noted begun ready prepares)))
+          (quiet_names (syncs_by name) root (next_of root name) (path_of root name) bytes before ready (steps_then (begins_quiet root was hold is_unsettled noted before begun begins) (prepares_quiet root name noted begun ready prepares)))
           (puts_names done ready after puts)
       writes_whole (begun, begins, inr (held, named, ready, prepares, inr (never, ends, same))) =
           steps_then
-          (quiet_names root (next_of root name) (path_of root name) bytes before ready (steps_then (begins_quiet root was hold is_unsettled noted before begun begins) (prepares_quiet root name noted begun ready prepares)))
+          (quiet_names (syncs_by name) root (next_of root name) (path_of root name) bytes before ready (steps_then (begins_quiet root was hold is_unsettled noted before begun begins) (prepares_quiet root name noted begun ready prepares)))
           (no_step same)
 
   -- ---- a sync
@@ -187,33 +189,42 @@ module _ (root : List ℕ) where
   syncs_within folders all before after tried =
       syncs_make root (ChangesWithin root) (λ path told. tt) (λ path out. tt) (λ path out. tt) (λ folder out. tt) (λ folder told. tt) own_within folders all before after tried
 
+  ways_within : (result : Result (Unit {0}) Unsynced) (before after : Log) → SyncsAllWays root result before after → StaysWithin root before after
+  ways_within result before after syncs =
+      all_ways_make (ChangesWithin root) (λ path told. tt) (λ path out. tt) (λ path told. tt) (λ path out. tt) (λ folder out. tt) (λ folder told. tt) root result before after syncs
+
   settles_within : (is_unsettled : Bool) (before after : Log) → SettlesFirst root is_unsettled before after → StaysWithin root before after
   unfolding SettlesFirst
   settles_within false before after same = no_step same
-  settles_within true before after (above, tried, settles) =
-      steps_then (syncs_within (folder_of root ∷ []) true before above tried)
+  settles_within true before after (ways, above, first, tried, settles) =
+      steps_then (steps_then (ways_within (Ok tt) before ways first) (syncs_within (folder_of root ∷ []) true ways above tried))
       (settles_all_makes root (ChangesWithin root) (λ path told. tt) (λ path out. tt) (λ path out. tt) (λ folder out. tt) (λ folder told. tt) own_within above after settles)
 
   fails_first_within : (is_unsettled : Bool) (unsynced : Unsynced) (before after : Log) → FailsFirst root is_unsettled unsynced before after → StaysWithin root before after
   unfolding FailsFirst
   fails_first_within false unsynced before after never = absurd never
-  fails_first_within true unsynced before after (inl fails) =
-      sync_fails_make root (ChangesWithin root) (λ path told. tt) (λ path out. tt) (λ path out. tt) (λ folder out. tt) (λ folder told. tt) own_within (folder_of root) unsynced before after fails
-  fails_first_within true unsynced before after (inr (above, tried, fails)) =
-      steps_then (syncs_within (folder_of root ∷ []) true before above tried)
+  fails_first_within true unsynced before after (inl fails) = ways_within (Err unsynced) before after fails
+  fails_first_within true unsynced before after (inr (ways, first, inl fails)) =
+      steps_then (ways_within (Ok tt) before ways first)
+      (sync_fails_make root (ChangesWithin root) (λ path told. tt) (λ path out. tt) (λ path out. tt) (λ folder out. tt) (λ folder told. tt) own_within (folder_of root) unsynced ways after fails)
+  fails_first_within true unsynced before after (inr (ways, first, inr (above, tried, fails))) =
+      steps_then (steps_then (ways_within (Ok tt) before ways first) (syncs_within (folder_of root ∷ []) true ways above tried))
       (fails_all_makes root (ChangesWithin root) (λ path told. tt) (λ path out. tt) (λ path out. tt) (λ folder out. tt) (λ folder told. tt) own_within unsynced above after fails)
 
   module _ {F : Type 0} (was hold : Hold F) (is_unsettled : Bool) (noted : List (List ℕ)) (before after : Log) where
     held_within : SyncsHeld root was hold is_unsettled noted before after → StaysWithin root before after
     unfolding SyncsAll SyncsHeld
     held_within (inl (absent, same)) = no_step same
-    held_within (inr (held, (settled, first, tried))) = steps_then (settles_within _ before settled first) (syncs_within noted true settled after tried)
+    held_within (inr (held, (settled, first, tried))) =
+        steps_then (one_call (Ended Done) tt refl) (steps_then (settles_within _ _ settled first) (syncs_within noted true settled after tried))
 
     vain_within : (lost : Bool) → SyncsInVain root was hold is_unsettled noted lost before after → StaysWithin root before after
     unfolding SyncsInVain SyncsNotAll
     vain_within lost (inl (never, whole, same)) = no_step same
-    vain_within lost (inr (held, unsynced, is, inl fails)) = fails_first_within _ unsynced before after fails
-    vain_within lost (inr (held, unsynced, is, inr (settled, first, tried, ends))) = steps_then (settles_within _ before settled first) (syncs_within noted false settled after tried)
+    vain_within lost (inr (held, unsynced, is, inl (told, cause, ended))) = one_call (Ended (Failed cause)) tt ended
+    vain_within lost (inr (held, unsynced, is, inr (inl fails))) = steps_then (one_call (Ended Done) tt refl) (fails_first_within _ unsynced _ after fails)
+    vain_within lost (inr (held, unsynced, is, inr (inr (settled, first, tried, ends)))) =
+        steps_then (one_call (Ended Done) tt refl) (steps_then (settles_within _ _ settled first) (syncs_within noted false settled after tried))
 
 -- a rename of a name to itself, or to what is no name, makes no call
 pub either_way : {X : Type 0} (from to : List ℕ) (same : Bool) → Decides same (from ≡ to) → (named : Bool) → is_name to ≡ named

@@ -9,7 +9,7 @@ use Rattle.cv_folder.specs.declared.hold.Hold.TheVariants.{Absent, Refused, Unas
 use Rattle.cv_system.specs.declared.seen.Kind.{Kind}
 use Rattle.cv_system.specs.declared.seen.Seen.{Seen}
 use Rattle.cv_system.specs.declared.seen.Kind.TheVariants.{File, Folder}
-use Rattle.cv_system.specs.Calls.{Call, Cause, Checked, Created, Entered, IsWant, Locked, Log, Looked, Made, Named, Opened, Read, Removed, Renamed, Synced, Unmade, Wrote, and_call}
+use Rattle.cv_system.specs.Calls.{Begun, Call, Cause, Checked, Created, Ended, Entered, IsWant, Locked, Log, Looked, Made, Named, Opened, Read, Removed, Renamed, Synced, Unmade, Wrote, and_call}
 use Rattle.cv_folder.specs.GoingOn.{GoesOn}
 use Rattle.cv_folder.specs.Hold.{IsHeld}
 use Rattle.cv_system.specs.Looks.{folders_past}
@@ -37,6 +37,8 @@ IsListing front (Opened path out) = ⊥
 IsListing front (Created path out) = ⊥
 IsListing front (Wrote path bytes out) = ⊥
 IsListing front (Synced path out) = ⊥
+IsListing front (Begun path out) = ⊥
+IsListing front (Ended out) = ⊥
 IsListing front (Checked path seen) = ⊥
 IsListing front (Read path bytes) = ⊥
 IsListing front (Locked path held) = ⊥

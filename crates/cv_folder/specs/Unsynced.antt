@@ -1,31 +1,36 @@
 -- How a sync fails.
-use Rattle.std.specs.Prelude.{ℕ, Bool, true, false, ◌≡◌, ◌⊎◌, ◌||◌, List, [], ◌∷◌, IsTrue, map, string_bytes}
+use Rattle.std.specs.Prelude.{ℕ, Bool, true, false, ◌≡◌, ◌⊎◌, ◌||◌, List, [], ◌∷◌, IsTrue, map, string_bytes, Err}
 use Rattle.cv_folder.specs.declared.folder_vault.FolderVault.{FolderVault}
 use Rattle.cv_folder.specs.declared.hold.Hold.{Hold}
 use Rattle.cv_folder.specs.declared.hold.Hold.TheVariants.{Refused, Unasked}
 use Rattle.cv_folder.specs.FolderVault.{Acts, Rests}
 use Rattle.cv_folder.specs.Hold.{IsHeld, is_unasked}
 use Rattle.cv_folder.specs.Syncs.{SettlesFirst}
-use Rattle.cv_system.specs.Calls.{Log}
+use Rattle.cv_system.specs.Calls.{Cause, Done, Ended, Failed, Log, and_call}
 use Rattle.cv_system.specs.Names.{folder_of}
 use Rattle.cv_system.specs.Steps.{Tries}
 use Rattle.cv_system.specs.Syncs.{EndsBy, FailsToSync, syncs}
 use Rattle.cv_system.specs.Walks.{FailsAll}
+use Rattle.cv_system.specs.Ways.{SyncsAllWays, done}
 use Rattle.cv_system.specs.declared.syncing.Unsynced.{Unsynced}
 use Rattle.cv_system.specs.declared.syncing.Unsynced.TheVariants.{Lost, NotOpened}
 
--- all folders are to be made durable, and one isn't: the folder above the root, or one that the walk from the root on comes to
+-- all that an earlier process left is to be made durable, and something isn't: a file on its way, the folder above the root, or a folder that the walk from
+-- the root on comes to
 unfoldable pub FailsFirst : List ℕ → Bool → Unsynced → Log → Log → Type 0
 FailsFirst root false unsynced before after = ⊥
 FailsFirst root true unsynced before after =
-    FailsToSync (folder_of root) unsynced before after
-    ⊎ ((above : Log) × Tries (syncs (folder_of root ∷ [])) true before above × FailsAll root unsynced above after)
+    SyncsAllWays root (Err unsynced) before after
+    ⊎ ((ways : Log) × SyncsAllWays root done before ways
+    × (FailsToSync (folder_of root) unsynced ways after
+    ⊎ ((above : Log) × Tries (syncs (folder_of root ∷ [])) true ways above × FailsAll root unsynced above after)))
 
--- a sync ends before all is durable: so, or with a folder that was noted
+-- a sync ends before all is durable: the system lost something that was written to a file whose sync was begun, or so, or with a folder that was noted
 unfoldable pub SyncsNotAll : List ℕ → Bool → List (List ℕ) → Unsynced → Log → Log → Type 0
 SyncsNotAll root is_unsettled noted unsynced before after =
-    FailsFirst root is_unsettled unsynced before after
-    ⊎ ((settled : Log) × SettlesFirst root is_unsettled before settled × Tries (syncs noted) false settled after × EndsBy unsynced after)
+    ((unsynced ≡ Lost) × (cause : Cause) × (after ≡ and_call (Ended (Failed cause)) before))
+    ⊎ FailsFirst root is_unsettled unsynced (and_call (Ended Done) before) after
+    ⊎ ((settled : Log) × SettlesFirst root is_unsettled (and_call (Ended Done) before) settled × Tries (syncs noted) false settled after × EndsBy unsynced after)
 
 -- whether a sync that ends so lost something
 abbrev pub is_lost : Unsynced → Bool

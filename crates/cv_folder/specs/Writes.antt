@@ -1,14 +1,14 @@
 -- How a file gets its name, and the folders that it stands in.
-use Rattle.std.specs.Prelude.{ℕ, ◌≡◌, ◌≢◌, ◌⊎◌, ◌<◌, ◌≤◌, ◌+◌, Bool, true, false, List, [], ◌∷◌, ◌++◌, length, Result, Ok, Err, IsTrue, ⊤}
+use Rattle.std.specs.Prelude.{ℕ, ◌≡◌, ◌≢◌, ◌⊎◌, ◌<◌, ◌≤◌, ◌+◌, Bool, true, false, List, [], ◌∷◌, ◌++◌, length, Result, Ok, Err, IsTrue, if◌then◌else◌, ⊤}
 use Rattle.std.specs.declared.io.ErrorKind.TheVariants.{AlreadyExists}
-use Rattle.cv_system.specs.Calls.{Cause, Call, Created, Done, Failed, Log, Looked, Made, Outcome, Removed, Renamed, Synced, Wrote, and_call, and_calls}
+use Rattle.cv_system.specs.Calls.{Begun, Cause, Call, Created, Done, Failed, Log, Looked, Made, Outcome, Removed, Renamed, Synced, Wrote, and_call, and_calls}
 use Rattle.cv_system.specs.Steps.{IsLook, IsNothing, Makes, Steps, Tries}
 use Rattle.cv_system.specs.declared.seen.Seen.{Seen}
 use Rattle.cv_system.specs.declared.seen.Kind.TheVariants.{Folder}
 use Rattle.cv_system.specs.Looks.{IsSame, folders_past}
 use Rattle.cv_folder.specs.Reads.{HasFile, LacksFile, LooksInVain}
 use Rattle.cv_folder.specs.Hold.{Begins, IsHeld}
-use Rattle.cv_system.specs.Names.{folder_of, is_name, next_of, path_of}
+use Rattle.cv_system.specs.Names.{folder_of, is_name, is_way, next_of, path_of}
 use Rattle.cv_folder.specs.declared.hold.Hold.{Hold}
 
 -- the own file is created anew, also where something stood there and was removed, and then these calls are tried; or it can't be, for another cause
@@ -18,15 +18,19 @@ TriesAnew next calls all before after =
     ⊎ ((all ≡ false) × (cause : Cause) × (cause.kind ≢ AlreadyExists) × (after ≡ and_call (Created next (Failed cause)) before))
     ⊎ ((cause : Cause) × (cause.kind ≡ AlreadyExists) × Tries (Removed next ∷ Created next ∷ calls) all (and_call (Created next (Failed cause)) before) after)
 
--- all the bytes are written to the own file, it is made durable, and then it is renamed onto the name
-abbrev pub put : List ℕ → List ℕ → List ℕ → List (Outcome → Call)
-put next path bytes = Wrote next bytes ∷ Synced next ∷ Renamed next path ∷ []
+-- by which call a file that is written under a name becomes durable: of a name on its way the sync is begun, and the next sync of the vault ends it
+unfoldable pub syncs_by : List ℕ → List ℕ → Outcome → Call
+syncs_by name = if is_way name then Begun else Synced
+
+-- all the bytes are written to the own file, it becomes durable by such a call, and then it is renamed onto the name
+abbrev pub put : (List ℕ → Outcome → Call) → List ℕ → List ℕ → List ℕ → List (Outcome → Call)
+put By next path bytes = Wrote next bytes ∷ By next ∷ Renamed next path ∷ []
 
 -- a whole file was put under a name, or it wasn't: then the own file was removed, if it could be
-unfoldable pub Puts : List ℕ → List ℕ → List ℕ → Bool → Log → Log → Type 0
-Puts next path bytes true before after = TriesAnew next (put next path bytes) true before after
-Puts next path bytes false before after =
-    (tried : Log) × (gone : Outcome) × TriesAnew next (put next path bytes) false before tried × (after ≡ and_call (Removed next gone) tried)
+unfoldable pub Puts : (List ℕ → Outcome → Call) → List ℕ → List ℕ → List ℕ → Bool → Log → Log → Type 0
+Puts By next path bytes true before after = TriesAnew next (put By next path bytes) true before after
+Puts By next path bytes false before after =
+    (tried : Log) × (gone : Outcome) × TriesAnew next (put By next path bytes) false before tried × (after ≡ and_call (Removed next gone) tried)
 
 -- a folder on the way of a path, past its first bytes
 abbrev pub IsOnWay : ℕ → List ℕ → List ℕ → Type 0
@@ -94,7 +98,7 @@ WritesFile root name bytes was hold is_unsettled noted done before after =
     (begun : Log) × Begins root was hold is_unsettled noted before begun
     × (((done ≡ false) × (after ≡ begun))
     ⊎ (IsHeld hold × IsTrue (is_name name) × (ready : Log) × Prepares (length root + 1) (path_of root name) noted begun ready
-    × ((LeadsTo (length root + 1) (path_of root name) noted begun ready × Puts (next_of root name) (path_of root name) bytes done ready after)
+    × ((LeadsTo (length root + 1) (path_of root name) noted begun ready × Puts (syncs_by name) (next_of root name) (path_of root name) bytes done ready after)
     ⊎ ((done ≡ false) × EndsOnWay (length root + 1) (path_of root name) begun ready × (after ≡ ready)))))
 
 -- a file has more names than one, and a look sees that a path is another of them

@@ -375,6 +375,7 @@ impl<S: System + Drop> FolderVault<S> {
         put_file(
             &mut self.system,
             self.next.as_str(),
+            name,
             self.path.as_str(),
             bytes,
         )

@@ -1,12 +1,12 @@
 //! A file that gets its name.
 ghost use Rattle.std.specs.Prelude.{◌≡◌, [], ◌∷◌, IfErr, IfOk, IsSome, is_ok};
-ghost use Rattle.cv_system.specs.Calls.{Created, Removed, cause_of};
+ghost use Rattle.cv_system.specs.Calls.{Created, Removed, and_call, cause_of, outcome};
 ghost use Rattle.cv_folder.specs.FolderVaultInner.{LooksForOther, RemovesOwn};
 ghost use Rattle.cv_system.specs.Steps.{EndsFailed, Tries};
-ghost use Rattle.cv_folder.specs.Writes.{MovesFile, Puts, TriesAnew, put};
+ghost use Rattle.cv_folder.specs.Writes.{MovesFile, Puts, TriesAnew, put, syncs_by};
 
 use cv_system::looks::seen;
-use cv_system::{Seen, System};
+use cv_system::{Seen, System, is_way};
 use std::io;
 use std::io::ErrorKind;
 
@@ -35,28 +35,52 @@ fn create_next<S: System>(system: &mut S, path: &str) -> io::Result<S::File>
     }
 }
 
-/// Makes a new file with these bytes, durable before it has the name.
-fn put_next<S: System>(system: &mut S, next: &str, path: &str, bytes: &[u8]) -> io::Result<()>
-    ensures tries { TriesAnew next.now (put next.now path.now bytes.now) (is_ok result)
-        (S.log system.old) (S.log system.new) }
+/// Makes a file durable that was written, or begins to where it is on its way.
+fn sync_written<S: System>(system: &mut S, file: S::File, name: &str) -> io::Result<()>
+    ensures { S.log system.new
+        ≡ and_call (syncs_by name.now (S.place file) (outcome result)) (S.log system.old) }
+{
+    if is_way(name) {
+        system.begin_sync(file)
+    } else {
+        system.sync(&file)
+    }
+}
+
+/// Makes a new file with these bytes, durable before it has the path of the name. Of a name on its way the sync is begun by then.
+fn put_next<S: System>(
+    system: &mut S,
+    next: &str,
+    name: &str,
+    path: &str,
+    bytes: &[u8],
+) -> io::Result<()>
+    ensures tries { TriesAnew next.now (put (syncs_by name.now) next.now path.now bytes.now)
+        (is_ok result) (S.log system.old) (S.log system.new) }
     ensures fails { IfErr result (λ error. EndsFailed (cause_of error) (S.log system.old)
         (S.log system.new)) }
 {
     let mut file = create_next(system, next)?;
     system.write_all(&mut file, bytes)?;
-    system.sync(&file)?;
+    sync_written(system, file, name)?;
     system.rename(next, path)
 }
 
-/// Makes a new file with these bytes under `next`, and gives it its name once they are durable. Where that fails the file
-/// goes again.
-pub fn put_file<S: System>(system: &mut S, next: &str, path: &str, bytes: &[u8]) -> io::Result<()>
-    ensures puts { Puts next.now path.now bytes.now (is_ok result) (S.log system.old)
-        (S.log system.new) }
+/// Makes a new file with these bytes under `next`, and gives it the path of the name once they are durable, or their sync is
+/// begun. Where that fails the file goes again.
+pub fn put_file<S: System>(
+    system: &mut S,
+    next: &str,
+    name: &str,
+    path: &str,
+    bytes: &[u8],
+) -> io::Result<()>
+    ensures puts { Puts (syncs_by name.now) next.now path.now bytes.now (is_ok result)
+        (S.log system.old) (S.log system.new) }
     ensures fails { IfErr result (λ error. RemovesOwn next.now (cause_of error)
         (S.log system.old) (S.log system.new)) }
 {
-    match put_next(system, next, path, bytes) {
+    match put_next(system, next, name, path, bytes) {
         Ok(()) => Ok(()),
         Err(error) => {
             let _ = system.remove_file(next);

@@ -7,11 +7,12 @@ ghost use Rattle.cv_folder.specs.Unsynced.{FailsFirst, FailsSync, SyncsNotAll};
 
 use crate::folder_vault::FolderVault;
 use crate::hold::{Hold, refused};
-use cv_system::{System, Unsynced, folder_of, sync_folder, sync_folders};
+use cv_system::{System, Unsynced, end_begun, folder_of, sync_folder, sync_folders};
 use std::io;
 
 impl<S: System + Drop> FolderVault<S> {
-    /// Makes all folders durable where an earlier process may have changed some, and the one above the root first.
+    /// Makes durable what an earlier process may have left, where there may be such: the files on their way first, then the
+    /// folder above the root, and then all folders.
     pub(crate) fn settle(&mut self) -> Result<(), Unsynced>
         ensures stays { Stays self.old self.new }
         ensures faults { self.new.faults ≡ self.old.faults }
@@ -24,11 +25,13 @@ impl<S: System + Drop> FolderVault<S> {
         if !self.is_unsettled {
             return Ok(());
         }
+        self.walk.sync_ways(&mut self.system, self.root.as_str())?;
         sync_folder(&mut self.system, folder_of(self.root.as_str()))?;
         self.walk.sync_all(&mut self.system, self.root.as_str())
     }
 
-    /// Makes the folders durable that changed, or all of them where an earlier process may have changed some.
+    /// Ends the syncs of files that were begun, and makes the folders durable that changed, or all that an earlier process may
+    /// have left.
     pub(crate) fn sync_changed(&mut self) -> Result<(), Unsynced>
         ensures stays { Stays self.old self.new }
         ensures faults { self.new.faults ≡ self.old.faults }
@@ -39,6 +42,7 @@ impl<S: System + Drop> FolderVault<S> {
             (S.log self.old.system) (S.log self.new.system)) }
         ensures hold { self.new.hold ≡ self.old.hold }
     {
+        end_begun(&mut self.system)?;
         self.settle()?;
         sync_folders(&mut self.system, &self.folders)
     }

@@ -1,2 +1,3 @@
+pub mod BegunInner
 pub mod ListingInner
 pub mod SeenInner

@@ -9,9 +9,10 @@ use std::fs::File;
 use std::io;
 use std::io::Read;
 use std::rt::Files;
+use std::thread::Threads;
 
 /// The first bytes of a file that was found, so many at most. However long it is, it takes no more memory than for these.
-pub fn read_front<R: Files<File = File> + Drop>(
+pub fn read_front<R: Files<File = File> + AllocGlobal + Threads + Drop>(
     system: &mut SystemCalls<R>,
     alloc: Global,
     path: &str,

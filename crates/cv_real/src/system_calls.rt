@@ -5,18 +5,21 @@ ghost use Rattle.std.specs.Prelude.{◌≡◌, [], None};
 ghost use Rattle.std.specs.Fs.{file_type, metadata_len};
 ghost use Rattle.cv_real.specs.SeenInner.{IsKind};
 
+use crate::begun::BegunSyncs;
 use cv_system::{Kind, Seen, System};
 use std::alloc::Global;
 use std::fs::{File, Metadata, TryLockError};
 use std::io::{Read, Write};
 use std::os::unix::fs::MetadataExt;
 use std::rt::Files;
+use std::thread::Threads;
 use std::{fs, io};
 
 /// The calls of the system that this runtime has. They tell nothing: that each does what it says is trusted.
 #[derive(Drop)]
-pub struct SystemCalls<R: Files<File = File> + Drop> {
+pub struct SystemCalls<R: Files<File = File> + AllocGlobal + Drop> {
     rt: R,
+    begun: BegunSyncs,
 }
 
 /// What kind of thing has this metadata.
@@ -46,12 +49,13 @@ pub fn seen_of(found: &Metadata) -> Seen
     }
 }
 
-impl<R: Files<File = File> + Drop> SystemCalls<R> {
+impl<R: Files<File = File> + AllocGlobal + Drop> SystemCalls<R> {
     /// The calls of this runtime.
     pub fn new(rt: R) -> SystemCalls<R>
         ensures { result.rt ≡ rt }
     {
-        SystemCalls { rt }
+        let begun = BegunSyncs::new(rt.alloc());
+        SystemCalls { rt, begun }
     }
 
     /// The runtime.
@@ -62,7 +66,7 @@ impl<R: Files<File = File> + Drop> SystemCalls<R> {
     }
 }
 
-impl<R: Files<File = File> + Drop> System for SystemCalls<R> {
+impl<R: Files<File = File> + AllocGlobal + Threads + Drop> System for SystemCalls<R> {
     type File = File;
 
     type Names = R::Dir;
@@ -92,6 +96,14 @@ impl<R: Files<File = File> + Drop> System for SystemCalls<R> {
 
     fn sync(&mut self, file: &File) -> io::Result<()> {
         file.sync_all()
+    }
+
+    fn begin_sync(&mut self, file: File) -> io::Result<()> {
+        self.begun.begin(&self.rt, file)
+    }
+
+    fn end_syncs(&mut self) -> io::Result<()> {
+        self.begun.end(&self.rt)
     }
 
     fn check(&mut self, file: &File) -> io::Result<Seen> {

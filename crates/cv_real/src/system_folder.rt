@@ -19,6 +19,7 @@ use std::fs::File;
 use std::io;
 use std::io::ErrorKind;
 use std::rt::Files;
+use std::thread::Threads;
 
 /// A real folder, which may be given by a link. Below it no link is followed, and nothing but folders and regular files is
 /// opened. It tells the name, and nothing of content.
@@ -30,7 +31,7 @@ use std::rt::Files;
 /// Nobody else may change the folder meanwhile. A file that took another's place is not read, but a pipe that takes one's
 /// place in the moment in which it is opened blocks the call.
 #[derive(Drop)]
-pub struct SystemFolder<R: Files<File = File> + AllocGlobal + Clone + Drop> {
+pub struct SystemFolder<R: Files<File = File> + AllocGlobal + Threads + Clone + Drop> {
     system: SystemCalls<R>,
     /// The folder's path as it was given, once one was.
     name: Option<Text>,
@@ -58,7 +59,7 @@ fn folder_path(alloc: Global, root: &str, names: &[PathName]) -> io::Result<Stri
     Ok(path)
 }
 
-impl<R: Files<File = File> + AllocGlobal + Clone + Drop> SystemFolder<R> {
+impl<R: Files<File = File> + AllocGlobal + Threads + Clone + Drop> SystemFolder<R> {
     /// A folder that isn't named yet: until then no path leads to anything.
     pub fn new(rt: R) -> SystemFolder<R>
         ensures faults { result.faults.number ≡ 0 }
@@ -132,7 +133,7 @@ impl<R: Files<File = File> + AllocGlobal + Clone + Drop> SystemFolder<R> {
     }
 }
 
-impl<R: Files<File = File> + AllocGlobal + Clone + Drop> Folder for SystemFolder<R> {
+impl<R: Files<File = File> + AllocGlobal + Threads + Clone + Drop> Folder for SystemFolder<R> {
     ghost holds = { λ f. None };
 
     ghost folder = { λ f. None };

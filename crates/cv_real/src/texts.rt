@@ -13,6 +13,7 @@ use std::env::Args;
 use std::fs::File;
 use std::io::ErrorKind;
 use std::rt::Files;
+use std::thread::Threads;
 use std::{fs, io};
 
 /// The most bytes that a text is read of. More than each text of the product may have.
@@ -46,7 +47,7 @@ pub fn program_words(
 
 /// The text of a regular file of at most `TEXT_LIMIT` bytes, and else an empty one. A pipe or a device, which may have no end, isn't opened, and no more
 /// is read of a file that grows meanwhile.
-fn regular_text<R: Files<File = File> + AllocGlobal + Clone + Drop>(
+fn regular_text<R: Files<File = File> + AllocGlobal + Threads + Clone + Drop>(
     rt: &R,
     name: &str,
 ) -> io::Result<String>
@@ -70,7 +71,7 @@ fn regular_text<R: Files<File = File> + AllocGlobal + Clone + Drop>(
 
 /// The text of a regular file. Empty where no such file is there, it has more than `TEXT_LIMIT` bytes, can't be read or
 /// isn't UTF-8.
-pub fn text_or_empty<R: Files<File = File> + AllocGlobal + Clone + Drop>(
+pub fn text_or_empty<R: Files<File = File> + AllocGlobal + Threads + Clone + Drop>(
     rt: &R,
     name: &str,
 ) -> Result<String, NoMemory>

@@ -13,3 +13,4 @@ mod Stepping
 mod Trying
 mod WalkCalls
 mod Walking
+mod WaySyncs

@@ -25,13 +25,15 @@ pub data Outcome : Type 0 where
   Done : Outcome
   Failed : Cause → Outcome
 
--- a call, by the path that it was about, what else it was asked, and how it came out
+-- a call, by the path that it was about, what else it was asked, and how it came out. A sync of a file is begun, and all that were are ended
 pub data Call : Type 0 where
   Looked : (path : List ℕ) → Result Seen Cause → Call
   Opened : (path : List ℕ) → Outcome → Call
   Created : (path : List ℕ) → Outcome → Call
   Wrote : (path bytes : List ℕ) → Outcome → Call
   Synced : (path : List ℕ) → Outcome → Call
+  Begun : (path : List ℕ) → Outcome → Call
+  Ended : Outcome → Call
   Checked : (path : List ℕ) → Result Seen Cause → Call
   Read : (path : List ℕ) → Result (List ℕ) Cause → Call
   Locked : (path : List ℕ) → Result Bool Cause → Call
@@ -87,6 +89,8 @@ came_out (Opened path out) = out
 came_out (Created path out) = out
 came_out (Wrote path bytes out) = out
 came_out (Synced path out) = out
+came_out (Begun path out) = out
+came_out (Ended out) = out
 came_out (Checked path seen) = outcome_of seen
 came_out (Read path bytes) = outcome_of bytes
 came_out (Locked path held) = outcome_of held

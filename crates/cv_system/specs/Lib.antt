@@ -7,3 +7,4 @@ pub mod Steps
 pub mod Syncs
 pub mod SyncsInner
 pub mod Walks
+pub mod Ways

@@ -1,7 +1,7 @@
 -- What calls lead from one log to a later one.
 use Rattle.std.specs.Prelude.{◌≡◌, ◌⊎◌, Bool, false, List, [], ◌∷◌, IsTrue, ⊤}
 use Rattle.std.specs.declared.io.ErrorKind.TheVariants.{NotFound, NotADirectory}
-use Rattle.cv_system.specs.Calls.{Cause, Call, Log, Outcome, and_call, came_out, Done, Failed, Looked, Opened, Created, Wrote, Synced, Checked, Read, Locked, Renamed, Removed, Made, Unmade, Entered, Named}
+use Rattle.cv_system.specs.Calls.{Cause, Call, Log, Outcome, and_call, came_out, Done, Failed, Looked, Opened, Created, Wrote, Synced, Begun, Ended, Checked, Read, Locked, Renamed, Removed, Made, Unmade, Entered, Named}
 
 -- a look that fails for such a cause says that nothing stands at the path
 abbrev pub IsNothing : Cause → Type 0
@@ -19,6 +19,8 @@ IsLook (Opened path out) = ⊥
 IsLook (Created path out) = ⊥
 IsLook (Wrote path bytes out) = ⊥
 IsLook (Synced path out) = ⊥
+IsLook (Begun path out) = ⊥
+IsLook (Ended out) = ⊥
 IsLook (Checked path seen) = ⊥
 IsLook (Read path bytes) = ⊥
 IsLook (Locked path held) = ⊥

@@ -12,13 +12,15 @@ mod seen;
 mod syncing;
 mod system;
 mod walk;
+mod ways;
 
 pub use cut::{NAMES_ROOM, cut_name};
 pub use names::{
-    NEXT, folder_of, has_no_slash, is_name, is_part, is_root, names_stand_apart, way_at, way_part,
+    NEXT, folder_of, has_no_slash, is_name, is_part, is_root, is_way, names_stand_apart, way_at,
+    way_part,
 };
 pub use path_buffer::{PATH_ROOM, PathBuffer};
 pub use seen::{Kind, Seen};
-pub use syncing::{Unsynced, sync_folder, sync_folders};
+pub use syncing::{Unsynced, end_begun, sync_folder, sync_folders};
 pub use system::System;
 pub use walk::Walk;

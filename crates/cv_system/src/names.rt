@@ -4,7 +4,7 @@ ghost use Rattle.std.specs.List.{list_all};
 ghost use Rattle.cv_base.specs.Path.{is_dots};
 ghost use Rattle.cv_base.specs.PathText.{parts_of};
 ghost use Rattle.cv_system.specs.declared.path_buffer.TheConstants.{PATH_ROOM};
-ghost use Rattle.cv_system.specs.Names.{above, is_own, is_part, is_name, last_part, folder_of, path_of, stands_at};
+ghost use Rattle.cv_system.specs.Names.{above, is_own, is_part, is_name, is_way, last_part, folder_of, path_of, stands_at};
 
 /// The own file of a folder at which the next file of one of its names is written, until it is whole.
 pub const NEXT: &str = ".cvkit-next";
@@ -56,6 +56,16 @@ pub fn has_no_slash(text: &str) -> bool
     ensures { result ≡ list_all (λ b. not (b == 47)) text.now }
 {
     text.bytes().all(|byte| byte != b'/')
+}
+
+/// Whether a name is a way: one part behind `txn/`.
+pub fn is_way(name: &str) -> bool
+    ensures { result ≡ is_way name.now }
+{
+    match name.strip_prefix("txn/") {
+        Some(part) => has_no_slash(part),
+        None => false,
+    }
 }
 
 /// What a way has behind `txn/`, if a name is one.

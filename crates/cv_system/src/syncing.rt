@@ -1,5 +1,6 @@
-//! Folders made durable.
+//! Folders made durable, and files whose syncs were begun.
 ghost use Rattle.std.specs.Prelude.{◌≡◌, ◌↔◌, [], ◌∷◌, IfErr, IsOk, is_ok, map, string_bytes};
+ghost use Rattle.cv_system.specs.Calls.{Ended};
 ghost use Rattle.cv_system.specs.Steps.{Tries};
 ghost use Rattle.cv_system.specs.Syncs.{EndsBy, FailsToSync, syncs};
 ghost use Rattle.cv_system.specs.SyncsInner.{SyncsAt};
@@ -10,8 +11,8 @@ use std::io;
 /// A sync that didn't come to its end.
 #[derive(Clone, Copy)]
 pub enum Unsynced {
-    /// A folder couldn't be opened or gone through. The system told nothing of what was written, and a later try is as good as
-    /// this one.
+    /// A folder couldn't be opened or gone through, or a file couldn't be looked at or opened. The system told nothing of what
+    /// was written, and a later try is as good as this one.
     NotOpened,
     /// The system said that it lost what was written. It says so once.
     Lost,
@@ -48,6 +49,14 @@ pub fn sync_folder<S: System>(system: &mut S, folder: &str) -> Result<(), Unsync
         Ok(synced) => told(&synced),
         Err(_) => Err(Unsynced::NotOpened),
     }
+}
+
+/// Makes durable each file whose sync was begun.
+pub fn end_begun<S: System>(system: &mut S) -> Result<(), Unsynced>
+    ensures tries { Tries (Ended ∷ []) (is_ok result) (S.log system.old) (S.log system.new) }
+    ensures lost { IfErr result (λ unsynced. unsynced ≡ Unsynced.Lost) }
+{
+    told(&system.end_syncs())
 }
 
 /// Makes each folder durable.

@@ -1,6 +1,6 @@
 //! What a vault over a folder asks of the system.
 ghost use Rattle.std.specs.Prelude.{◌≡◌, ℕ, List, IfOk, IsSome, length, ◌≤◌};
-ghost use Rattle.cv_system.specs.Calls.{Log, and_call, outcome, told, told_bytes, told_names, Looked, Opened, Created, Wrote, Synced, Checked, Read, Locked, Renamed, Removed, Made, Unmade, Entered, Named};
+ghost use Rattle.cv_system.specs.Calls.{Log, and_call, outcome, told, told_bytes, told_names, Looked, Opened, Created, Wrote, Synced, Begun, Ended, Checked, Read, Locked, Renamed, Removed, Made, Unmade, Entered, Named};
 
 use crate::seen::Seen;
 use std::alloc::Global;
@@ -47,6 +47,16 @@ pub trait System {
     /// Makes durable what was written to a file, or what changed in a folder.
     fn sync(&mut self, file: &Self::File) -> io::Result<()>
         ensures { log self.new ≡ and_call (Synced (place file.now) (outcome result)) (log self.old) };
+
+    /// Takes an open file that was written. It is durable for sure once a later `end_syncs` is done; the system may make it durable
+    /// at once.
+    fn begin_sync(&mut self, file: Self::File) -> io::Result<()>
+        ensures { log self.new ≡ and_call (Begun (place file) (outcome result)) (log self.old) };
+
+    /// Makes durable each file whose sync was begun and isn't ended yet. After an error something that was written to them is lost,
+    /// which is said once.
+    fn end_syncs(&mut self) -> io::Result<()>
+        ensures { log self.new ≡ and_call (Ended (outcome result)) (log self.old) };
 
     /// What an open file is.
     fn check(&mut self, file: &Self::File) -> io::Result<Seen>

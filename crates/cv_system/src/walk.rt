@@ -5,12 +5,14 @@ ghost use Rattle.cv_system.specs.declared.path_buffer.TheConstants.{PATH_ROOM};
 ghost use Rattle.cv_system.specs.Names.{above, names_in};
 ghost use Rattle.cv_system.specs.Passed.{Passes, StopsAt};
 ghost use Rattle.cv_system.specs.Walks.{FailsAll, FailsAmong, FailsRound, FailsToReadAll, FailsTurn, FindsNext, GoesRound, IsUnder, LooksAtAll, ReadsAll, SettlesAll, Turns, is_inside};
+ghost use Rattle.cv_system.specs.Ways.{SyncsAllWays};
 
 use crate::cut::{NAMES_ROOM, cut_name};
 use crate::names::above;
 use crate::place::Place;
 use crate::syncing::Unsynced;
 use crate::system::System;
+use crate::ways::sync_named;
 use std::alloc::{AllocError, Global};
 use std::io;
 
@@ -134,6 +136,24 @@ impl Walk {
         }
         self.look_round(system, top)?;
         Ok(self.place.is_above_next())
+    }
+
+    /// Makes durable each file on its way in the folder of this path.
+    pub fn sync_ways<S: System>(&mut self, system: &mut S, top: &str) -> Result<(), Unsynced>
+        ensures { SyncsAllWays top.now result (S.log system.old) (S.log system.new) }
+    {
+        self.place.begin(top)?;
+        let folder = self.place.folder.as_str();
+        let Ok(entered) = system.open_names(folder) else {
+            return Err(Unsynced::NotOpened);
+        };
+        sync_named(
+            system,
+            entered,
+            folder,
+            &mut self.place.entry,
+            &mut self.names,
+        )
     }
 
     /// Whether the folder is the one at the top, which is that of this path.
