@@ -53,7 +53,7 @@ module _ {K : Type 0} {does : K → List Call → K → Type 0} {repository : Li
   behind_request : (end : SessionEnd) → Handles does repository seal turn last taken taken' before after (Some end) → is_behind_request end ≡ true
   behind_request end (answered answer _ d (whole _ end_is legible took)) =
       elim (end_kind answer last end end_is) [ inl closed_ ↦ ap is_behind_request closed_ | inr full_ ↦ ap is_behind_request full_ ]
-  behind_request _ (answered answer _ d (front took)) = refl
+  behind_request _ (answered answer _ d (front legible took)) = refl
   behind_request _ (answered answer _ d (nothing same)) = refl
   behind_request _ (unanswered d same) = refl
 

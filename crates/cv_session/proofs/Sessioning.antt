@@ -232,7 +232,7 @@ module _ {K : Type 0} {does : K → List Call → K → Type 0} {repository : Li
       unfolding refusing_one
       breaks_refusing taken'' took =
           ends_beside [] (made_none does none after)
-          (broken (refusing_one code) later taken'' s.opened (next_fault why code is_bad has_code refl) (refusal code)
+          (broken (refusing_one code) later taken'' s.opened (next_fault why code is_bad has_code refl) (refusal code) (code_written code)
           (subst (λ (o : Option (List ℕ)). Wrote o taken'' (reply_of (Fixed code) true)) (said_line false taken' (onto_none taken')) took))
 
     -- without the line nothing was taken
@@ -360,20 +360,20 @@ module _ {K : Type 0} {does : K → List Call → K → Type 0} {repository : Li
             ]
 
         -- a front of the reply was said
-        front_comes : (taken2 : Option (List ℕ)) → Wrote taken1 taken2 (reply_of answer (is_some (end_after answer t.last))) → Session does repository keys seal Fit b held taken taken2 before after' WriteFault
+        front_comes : (taken2 : Option (List ℕ)) → IsLegible answer → Wrote taken1 taken2 (reply_of answer (is_some (end_after answer t.last))) → Session does repository keys seal Fit b held taken taken2 before after' WriteFault
         unfolding one
-        front_comes taken2 took =
+        front_comes taken2 legible took =
             let closes : is_some (end_after answer t.last) ≡ is_last one = sym (last_of (is_full answer) t.last) in
             let took_reply = subst (λ (l : Bool). Wrote taken1 taken2 (reply_of answer l)) closes took in
             ends_beside d.calls d.made
-            (broken one later taken2 s.opened (next_request next) d.answers
+            (broken one later taken2 s.opened (next_request next) d.answers legible
             (subst (λ (o : Option (List ℕ)). Wrote o taken2 (reply_of answer (is_last one))) (said_line t.waited taken1 took_line) took_reply))
 
       -- what comes of the request
       pub comes : {end : Option SessionEnd} {taken2 : Option (List ℕ)} → Handles does repository seal t.what t.last taken1 taken2 after after' end
           → ComesOut does repository keys seal Fit b held taken before (count + 1) taken2 after' end
       comes {taken2 = taken2} (answered answer _ d (whole end end_is legible took)) = whole_comes answer d end taken2 end_is legible took
-      comes {taken2 = taken2} (answered answer _ d (front took)) = front_comes answer d taken2 took
+      comes {taken2 = taken2} (answered answer _ d (front legible took)) = front_comes answer d taken2 legible took
       comes (answered answer _ d (nothing same)) = nothing_said (record { calls = d.calls; answers = unsaid answer d.answers; made = d.made }) same
       comes (unanswered d same) = nothing_said d same
 

@@ -71,7 +71,7 @@ end_after answer last = if is_full answer then Some JournalFull else if last the
 -- what the sink takes of the reply with an answer, and how the session ends with it, if it does
 pub data Sends (answer : Response) (last : Bool) (taken taken' : Option (List ℕ)) : Option SessionEnd → Type 0 where
   whole : (end : Option SessionEnd) → end ≡ end_after answer last → IsLegible answer → taken' ≡ onto taken (reply_of answer (is_some end)) → Sends answer last taken taken' end
-  front : Wrote taken taken' (reply_of answer (is_some (end_after answer last))) → Sends answer last taken taken' (Some WriteFault)
+  front : IsLegible answer → Wrote taken taken' (reply_of answer (is_some (end_after answer last))) → Sends answer last taken taken' (Some WriteFault)
   nothing : taken' ≡ taken → Sends answer last taken taken' (Some NoMemory)
 
 -- what comes of the turn of a request that is to be the last or isn't, what the sink takes, and how the session ends with it, if it does

@@ -87,8 +87,9 @@ module _ (repository : List ℕ) (keys : List Key) (seal : List ℕ → List ℕ
       full : (last : IsLast es held) (taken' : Option (List ℕ)) → is_full last.last_.answer ≡ true → taken' ≡ onto taken (sayings es) → Ended held taken es [] taken' JournalFull
       -- the source failed where more bytes were waited for: all that was whole was answered, and nothing then
       unread : (rest : List ℕ) (line : Bool) (taken' : Option (List ℕ)) → Opened es rest → Awaits rest line → taken' ≡ onto taken (sayings es ++ line_text line) → Ended held taken es [] taken' ReadFault
-      -- the sink failed in a reply: all before it was said, the line that asks for the body too, and no further turn was taken
-      broken : (e : Exchange) (rest : List ℕ) (taken' : Option (List ℕ)) → Opened es rest → Comes (length es) rest e.asked held → IsAnswered e
+      -- the sink failed in a reply as the program writes one, or behind it: all before it was said, the line that asks for the body too,
+      -- and no further turn was taken
+      broken : (e : Exchange) (rest : List ℕ) (taken' : Option (List ℕ)) → Opened es rest → Comes (length es) rest e.asked held → IsAnswered e → IsWritten e
           → Wrote (onto taken (sayings es ++ line_text e.asked.waited)) taken' (reply_of e.answer (is_last e)) → Ended held taken es e.calls taken' WriteFault
       -- the sink failed in the line that asks for a body
       broken_line : (rest : List ℕ) (taken' : Option (List ℕ)) → Opened es rest → Reached rest true → Wrote (onto taken (sayings es)) taken' continue_line → Ended held taken es [] taken' WriteFault

@@ -39,7 +39,8 @@ pub fn one_opening()
         → Opens repository keys 0 b ts later → IsAsked repository keys b all line end → IsFront ts all }
 {}
 
-/// What was written for the same turns fixes the answers: of the gate's replies those of the interface.
+/// What was written for the same turns fixes the answers: of the gate's replies those of the interface. The exchange in which
+/// the output failed may stand among these, since its reply is one as the program writes it (`broken`).
 pub fn one_saying()
     ensures { (repository : List ℕ) (keys : List Key) (seal : List ℕ → List ℕ) (es es' : List Exchange) → turns es ≡ turns es'
         → AllByRecursion (IsAnswered repository keys seal) es → AllByRecursion (IsAnswered repository keys seal) es'

@@ -42,7 +42,7 @@ fn write_message<W: Sink>(
     last: bool,
 ) -> Result<(), SendFault>
     requires { is_answer message.now ≡ true }
-    ensures legible { OnOk result ((length (compact_text (answer_data message.now)) < 2 ^ 64) × ReadsBack message.now) }
+    ensures legible { result ≢ Err NoMemory → (length (compact_text (answer_data message.now)) < 2 ^ 64) × ReadsBack message.now }
     ensures whole { OnOk result (W.taken sink.new ≡ onto (W.taken sink.old) (message_reply message.now last)) }
     ensures part { Wrote (W.taken sink.old) (W.taken sink.new) (message_reply message.now last) }
     ensures nothing { result ≡ Err NoMemory → W.taken sink.new ≡ W.taken sink.old }
@@ -86,7 +86,7 @@ pub(crate) fn write_answer<W: Sink>(
     last: bool,
 ) -> Result<(), SendFault>
     requires { is_writable answer ≡ true }
-    ensures legible { OnOk result (IsLegible answer) }
+    ensures legible { result ≢ Err NoMemory → IsLegible answer }
     ensures whole { OnOk result (W.taken sink.new ≡ onto (W.taken sink.old) (reply_of answer last)) }
     ensures part { Wrote (W.taken sink.old) (W.taken sink.new) (reply_of answer last) }
     ensures nothing { result ≡ Err NoMemory → W.taken sink.new ≡ W.taken sink.old }

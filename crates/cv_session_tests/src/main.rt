@@ -1,6 +1,6 @@
 //! The tests of cv_session, as a table: each line of standard input is a session, and prints what it wrote, how it ended, what was
-//! asked of the desk, and how often it was held where a payload was read and where a lease was answered; with a bar between each
-//! two.
+//! asked of the desk, with each store behind how many holds, and how often it was held where a payload was read and where a lease
+//! was answered; with a bar between each two.
 //!
 //! A row is a word for the desk, how many bytes the source gives a call, the number of the source's call that fails and of the
 //! sink's (0 for none), and the input, with a bar between each two. `told_desk` says what the words are; `seat` is a desk whose
@@ -41,17 +41,17 @@ struct Served {
 fn serve<K: Desk>(
     alloc: Global,
     desk: &mut K,
+    hold: &MemoryHold,
     source: MemorySource,
     sink: MemorySink,
 ) -> Result<Served, Fail> {
     let keys = KeyTable::read(alloc, KEYS)?;
     let signer = KeyedHash::new(String::from_str(alloc, "seal")?);
     let mut clock = MemoryClock::new(Vec::from_slice(alloc, &[1_700_000_000])?);
-    let hold = MemoryHold::new(None);
     let mut wire = Wire::new(alloc, source);
     let mut sink = sink;
     let end = session(
-        alloc, desk, &keys, &signer, &mut clock, &hold, &mut wire, &mut sink,
+        alloc, desk, &keys, &signer, &mut clock, hold, &mut wire, &mut sink,
     );
     Ok(Served {
         payloads: hold.count(Point::PayloadRead),
@@ -80,12 +80,13 @@ fn answer(alloc: Global, line: &str) -> Result<String, Fail> {
     };
     let source = source_of(alloc, piece, reading, input)?;
     let sink = sink_of(alloc, ROOM, writing)?;
+    let hold = MemoryHold::new(None);
     if desk == "seat" {
-        let served = serve(alloc, &mut seat_desk::seat(alloc)?, source, sink)?;
+        let served = serve(alloc, &mut seat_desk::seat(alloc)?, &hold, source, sink)?;
         return text_of(alloc, &served, "");
     }
-    let mut desk = ToldDesk::new(alloc, desk)?;
-    let served = serve(alloc, &mut desk, source, sink)?;
+    let mut desk = ToldDesk::new(alloc, desk, &hold)?;
+    let served = serve(alloc, &mut desk, &hold, source, sink)?;
     text_of(alloc, &served, desk.told())
 }
 

@@ -1,7 +1,8 @@
 //! A desk that tells what was asked of it, and replies by a word.
 //!
 //! By `grants` it grants and stores all that is asked, but commits nothing, and behind each of its entries stands one of another
-//! seat. By any other word it replies what `replies` says.
+//! seat. By any other word it replies what `replies` says. With a store it tells how often sessions were held by then where a
+//! payload was read.
 ghost use Rattle.std.specs.Prelude.{◌≡◌, ◌≤◌};
 ghost use Rattle.cv_base.specs.Counts.{Rose};
 
@@ -9,22 +10,23 @@ use crate::replies::reply_of;
 use cv_base::{Bytes, Name, NoMemory, ObjectId, RepoPath, Text, Token, digest_text};
 use cv_gate::{Desk, LeaseLine, Op, Reply};
 use cv_manifest::Head;
-use cv_ports::ShelfFault;
+use cv_ports::{MemoryHold, Point, ShelfFault};
 use std::alloc::Global;
 use std::test::Fail;
 
 /// A desk that can be seen in no way: no journal stands behind it. Each of its entries counts as a fault of the store, so that
 /// it may say that the store failed.
 #[derive(Drop)]
-pub(crate) struct ToldDesk {
+pub(crate) struct ToldDesk<'h> {
     name: Name,
     word: String,
+    hold: &'h MemoryHold,
     entries: u64,
     told: String,
 }
 
-/// An op in words.
-fn op_text(alloc: Global, op: &Op) -> Result<String, NoMemory> {
+/// An op in words, before which sessions were held so often where a payload was read.
+fn op_text(alloc: Global, op: &Op, holds: u64) -> Result<String, NoMemory> {
     match op {
         Op::Lease { key, path } => {
             let (key, path) = (key.as_str(), path.text(alloc)?);
@@ -38,7 +40,8 @@ fn op_text(alloc: Global, op: &Op) -> Result<String, NoMemory> {
         } => {
             let (key, token) = (key.as_str(), token.text(alloc)?);
             let (digest, count) = (digest_text(alloc, digest)?, batch.as_slice().len());
-            Ok(format!(in alloc; "store {key} of {token}: {count} of {digest}")?)
+            let what = format!(in alloc; "{count} of {digest} behind {holds} holds")?;
+            Ok(format!(in alloc; "store {key} of {token}: {what}")?)
         }
         Op::Commit {
             key,
@@ -67,9 +70,13 @@ fn line(alloc: Global, key: &str, path: &str, remaining: u64) -> Result<LeaseLin
     })
 }
 
-impl ToldDesk {
-    /// A desk of the repository `sw.example.org` that replies by this word.
-    pub(crate) fn new(alloc: Global, word: &str) -> Result<ToldDesk, Fail> {
+impl<'h> ToldDesk<'h> {
+    /// A desk of the repository `sw.example.org` that replies by this word, to sessions that are held here.
+    pub(crate) fn new(
+        alloc: Global,
+        word: &str,
+        hold: &'h MemoryHold,
+    ) -> Result<ToldDesk<'h>, Fail> {
         let Some(name) = Name::read(alloc, "sw.example.org")? else {
             return Err(Fail::new("no name"));
         };
@@ -78,6 +85,7 @@ impl ToldDesk {
         Ok(ToldDesk {
             name,
             word,
+            hold,
             entries: 0,
             told,
         })
@@ -131,13 +139,13 @@ impl ToldDesk {
         ensures name { self.new.name ≡ self.old.name }
         ensures entries { self.new.entries ≡ self.old.entries }
     {
-        let words = op_text(alloc, op)?;
+        let words = op_text(alloc, op, self.hold.count(Point::PayloadRead))?;
         self.tell(words.as_str())?;
         self.reply(alloc, number, op)
     }
 }
 
-impl Desk for ToldDesk {
+impl<'h> Desk for ToldDesk<'h> {
     ghost stands = { λ d v. ⊥ };
 
     ghost does = { λ a calls b. Unit {0} };

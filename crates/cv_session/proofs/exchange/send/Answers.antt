@@ -7,12 +7,12 @@ use Rattle.cv_session.proofs.exchange.send.Goals as goal
 
 pub returns-in-Ok-clause-sends : goal.returns-in-Ok-clause-sends
 returns-in-Ok-clause-sends g c =
-    whole c.end_after-end.result c.end_after-end.ensures c.in-Ok.ensures.legible
+    whole c.end_after-end.result c.end_after-end.ensures (c.write_answer.ensures.legible (λ e. cc))
     (c.in-Ok.ensures.whole ∙ ap (λ last. onto (g.W.Sink.taken c.args.sink.now) (reply_of c.args.answer last)) c.is_some.ensures)
 
 pub returns-in-Err-WriteFault-clause-sends : goal.returns-in-Err-WriteFault-clause-sends
 returns-in-Err-WriteFault-clause-sends g c =
-    front
+    front (c.write_answer.ensures.legible (λ e. cc))
     (subst (λ (last : Bool). Wrote (g.W.Sink.taken c.args.sink.now) (g.W.Sink.taken c.write_answer.new.sink) (reply_of c.args.answer last))
     (c.is_some.ensures ∙ ap is_some c.end_after-end.ensures) c.write_answer.ensures.part)
 
