@@ -68,9 +68,9 @@ module _ {V : Type 0} (disk : V → Option Disk) (count : V → ℕ) (left : V �
   why_refused name seal d k v v' x kept (inl opens) = refuses name (is_seal_by seal) (files_now d) k x kept opens.finds
   why_refused name seal d k v v' x kept (inr both) = subst MayRefuse (sym both.0) tt
 
-  module _ {R W C F N : Type 0} (faults : V → ℕ) (rest : R → Option (List ℕ)) (looks : R → Look → Type 0) (taken passed : W → Option (List ℕ)) (moments : C → Option (ℕ → ℕ)) (words : List (List ℕ)) (keys seal : List ℕ) (a b : Outside V R W C F N) where
+  module _ {R W C F N : Type 0} (faults : V → ℕ) (rest given : R → Option (List ℕ)) (looks : R → Look → Type 0) (taken passed : W → Option (List ℕ)) (moments : C → Option (ℕ → ℕ)) (words : List (List ℕ)) (keys seal : List ℕ) (a b : Outside V R W C F N) where
     served_ends : (name : List ℕ) (table : List Key) (status : Status) (d : Disk) (k : Kept) → disk a.vault ≡ Some d → StandsKept name (is_seal_by seal) (files_now d) k
-        → Serves disk count left faults rest looks taken passed moments name table seal a.vault b.vault a.input b.input a.output b.output a.clock b.clock status → Unfailed status → ends_served status ≡ true
+        → Serves disk count left faults rest given looks taken passed moments name table seal a.vault b.vault a.input b.input a.output b.output a.clock b.clock status → Unfailed status → ends_served status ≡ true
     served_ends name table status d k told kept (ended gate desk' end opens new later talks served same) fine = by_session end fine
     served_ends name table status d k told kept (unopened x opens input output clock) fine = by_opening x (why_refused name seal d k a.vault b.vault x kept (opens d told)) fine
 
@@ -79,7 +79,7 @@ module _ {V : Type 0} (disk : V → Option Disk) (count : V → ℕ) (left : V �
     made_ends name status d told vacant (unsaid makes wrote) fine = absurd (fine.writes refl)
     made_ends name status d told vacant (refused x makes same) fine = by_making d vacant makes.now x (makes.makes d told).answers fine
 
-    serves : (holds : F → Option Folders) (named : F → Option (List ℕ)) (came : N → Links) (status : Status) → Unfailed status → Runs disk count left faults rest looks taken passed moments holds named came words keys seal a b status → (name : List ℕ) → Asks words (Stdio name) → HasKeys (Stdio name) keys → seal ≢ []
+    serves : (holds : F → Option Folders) (named : F → Option (List ℕ)) (came : N → Links) (status : Status) → Unfailed status → Runs disk count left faults rest given looks taken passed moments holds named came words keys seal a b status → (name : List ℕ) → Asks words (Stdio name) → HasKeys (Stdio name) keys → seal ≢ []
         → (d : Disk) (k : Kept) → disk a.vault ≡ Some d → StandsKept name (is_seal_by seal) (files_now d) k → ends_served status ≡ true
     serves holds named came status fine (usage never same) name asks has some d k told kept = absurd (never (record { command = Stdio name; asks = asks }))
     serves holds named came status fine (bad_keys other asked fault same) name asks has some d k told kept = (let e : Ok has.0 ≡ Err fault.fault = sym has.1 ∙ fault.is in absurd cc)
@@ -94,7 +94,7 @@ module _ {V : Type 0} (disk : V → Option Disk) (count : V → ℕ) (left : V �
         let is : other ≡ name = one_name other name asked asks in
         served_ends other table how d k told (subst (λ n. StandsKept n (is_seal_by seal) (files_now d) k) (sym is) kept) served fine
 
-    makes : (holds : F → Option Folders) (named : F → Option (List ℕ)) (came : N → Links) (status : Status) → Unfailed status → Runs disk count left faults rest looks taken passed moments holds named came words keys seal a b status → (name : List ℕ) → Asks words (Init name) → seal ≢ [] → (d : Disk) → disk a.vault ≡ Some d → IsVacant d → ends_made status ≡ true
+    makes : (holds : F → Option Folders) (named : F → Option (List ℕ)) (came : N → Links) (status : Status) → Unfailed status → Runs disk count left faults rest given looks taken passed moments holds named came words keys seal a b status → (name : List ℕ) → Asks words (Init name) → seal ≢ [] → (d : Disk) → disk a.vault ≡ Some d → IsVacant d → ends_made status ≡ true
     makes holds named came status fine (usage never same) name asks some d told vacant = absurd (never (record { command = Init name; asks = asks }))
     makes holds named came status fine (bad_keys other asked fault same) name asks some d told vacant = absurd (not_both name other asks asked)
     makes holds named came status fine (unsigned u path root asked fault same) name asks some d told vacant = absurd (no_publish_init u path root name asked asks)
@@ -106,5 +106,5 @@ module _ {V : Type 0} (disk : V → Option Disk) (count : V → ℕ) (left : V �
     makes holds named came status fine (publish u path root table how asked are good publishes same near) name asks some d told vacant = absurd (no_publish_init u path root name asked asks)
     makes holds named came status fine (stdio other table how asked are good served still near) name asks some d told vacant = absurd (not_both name other asks asked)
 
-    pub completes : (holds : F → Option Folders) (named : F → Option (List ℕ)) (came : N → Links) (status : Status) → Unfailed status → Runs disk count left faults rest looks taken passed moments holds named came words keys seal a b status → Completes words keys seal (disk a.vault) status
+    pub completes : (holds : F → Option Folders) (named : F → Option (List ℕ)) (came : N → Links) (status : Status) → Unfailed status → Runs disk count left faults rest given looks taken passed moments holds named came words keys seal a b status → Completes words keys seal (disk a.vault) status
     completes holds named came status fine ran = record { serves = serves holds named came status fine ran; makes = makes holds named came status fine ran }

@@ -100,8 +100,8 @@ pub looks_fine : {W N : Type 0} {taken : W → Option (List ℕ)} {came : N → 
 looks_fine (looked.answered found status told prints) is = prints_fine prints is
 looks_fine (looked.unanswered fault told same) is = ask_fine fault is
 
-pub lines_fine : {R W : Type 0} {rest : R → Option (List ℕ)} {looks : R → Look → Type 0} {taken passed : W → Option (List ℕ)} {seal : List ℕ} {u : Url} {before after : Links} {i i' : R} {o o' : W} {s : Status}
-    → AnswersLines rest looks taken passed seal u before after i i' o o' s → s ≢ FolderFailed
+pub lines_fine : {R W : Type 0} {rest given : R → Option (List ℕ)} {looks : R → Look → Type 0} {taken passed : W → Option (List ℕ)} {seal : List ℕ} {u : Url} {before after : Links} {i i' : R} {o o' : W} {s : Status}
+    → AnswersLines rest given looks taken passed seal u before after i i' o o' s → s ≢ FolderFailed
 lines_fine (lines.answered mid client client' end pins answering) is = shell_fine end is
 lines_fine (lines.unpinned fault pins input output) is = ask_fine fault is
 
@@ -111,7 +111,7 @@ module _ {V W C : Type 0} {disk : V → Option Disk} {count : V → ℕ} {left :
   inits_fine (runs.unsaid makes wrote) is = absurd cc
   inits_fine (runs.refused fault makes same) is = init_fine fault is
 
-  pub serves_fine : {R : Type 0} {faults : V → ℕ} {rest : R → Option (List ℕ)} {looks : R → Look → Type 0} {passed : W → Option (List ℕ)} {table : List Key} {i i' : R} {s : Status}
-      → Serves disk count left faults rest looks taken passed moments name table seal v v' i i' o o' c c' s → s ≢ FolderFailed
+  pub serves_fine : {R : Type 0} {faults : V → ℕ} {rest given : R → Option (List ℕ)} {looks : R → Look → Type 0} {passed : W → Option (List ℕ)} {table : List Key} {i i' : R} {s : Status}
+      → Serves disk count left faults rest given looks taken passed moments name table seal v v' i i' o o' c c' s → s ≢ FolderFailed
   serves_fine (runs.ended gate desk end opens new later talks served same) is = end_fine end is
   serves_fine (runs.unopened fault opens input output clock) is = open_fine fault is

@@ -32,13 +32,13 @@ silent_fault ask_fault.NoMemory none = refl
 silent_fault (ask_fault.Refused fault) none = absurd cc
 
 module _ {V : Type 0} (disk : V → Option Disk) (count : V → ℕ) (left : V → ℕ → Files → Type 0)
-    {R W C F N : Type 0} (faults : V → ℕ) (rest : R → Option (List ℕ)) (looks : R → Look → Type 0) (taken passed : W → Option (List ℕ)) (moments : C → Option (ℕ → ℕ)) (holds : F → Option Folders) (named : F → Option (List ℕ)) (came : N → Links)
+    {R W C F N : Type 0} (faults : V → ℕ) (rest given : R → Option (List ℕ)) (looks : R → Look → Type 0) (taken passed : W → Option (List ℕ)) (moments : C → Option (ℕ → ℕ)) (holds : F → Option Folders) (named : F → Option (List ℕ)) (came : N → Links)
     (words : List (List ℕ)) (keys seal : List ℕ) (a b : Outside V R W C F N) where
   abbrev Tells : Status → Type 0
-  Tells = TellsLines rest taken words seal (came a.dial) (came b.dial) a.input b.input a.output b.output
+  Tells = TellsLines rest given taken words seal (came a.dial) (came b.dial) a.input b.input a.output b.output
 
   pinned_tell : (u : Url) (mid : Links) (client client' : Client) (end : ShellEnd) → Asks words (Shell u) → Pins (is_seal_by seal) u (came a.dial) mid (Ok client)
-      → Answering rest looks taken passed seal u client client' mid (came b.dial) a.input b.input a.output b.output end → Tells (shell_status end)
+      → Answering rest given looks taken passed seal u client client' mid (came b.dial) a.input b.input a.output b.output end → Tells (shell_status end)
   pinned_tell u mid client client' end asks (pinned first fetched) answering =
       let shells = answering.are in
       lines (record {
@@ -48,7 +48,8 @@ module _ {V : Type 0} (disk : V → Option Disk) (count : V → ℕ) (left : V �
         mid = mid;
         fetched = fetched;
         read = answering.got;
-        got = answering.told;
+        told = answering.told;
+        gave = answering.gave;
         turns = shells.turns;
         client = client';
         end = end;
@@ -57,14 +58,14 @@ module _ {V : Type 0} (disk : V → Option Disk) (count : V → ℕ) (left : V �
         tells = λ later links last runs. lines_tell (is_seal_by seal) u first mid runs;
       })
 
-  answers_tell : (u : Url) (status : Status) → Asks words (Shell u) → AnswersLines rest looks taken passed seal u (came a.dial) (came b.dial) a.input b.input a.output b.output status → Tells status
+  answers_tell : (u : Url) (status : Status) → Asks words (Shell u) → AnswersLines rest given looks taken passed seal u (came a.dial) (came b.dial) a.input b.input a.output b.output status → Tells status
   answers_tell u status asks (answered mid client client' end pins answering) = pinned_tell u mid client client' end asks pins answering
   answers_tell u status asks (unpinned fault pins input output) = silent (silent_fault fault (never_refused fault pins)) input output
 
   untouched : {status : Status} → is_silent status ≡ true → b ≡ a → Tells status
   untouched is same = silent is (ap (λ (o : Outside V R W C F N). o.input) same) (ap (λ (o : Outside V R W C F N). o.output) same)
 
-  pub lines_tell_truly : (status : Status) → Runs disk count left faults rest looks taken passed moments holds named came words keys seal a b status → IsShell words → Tells status
+  pub lines_tell_truly : (status : Status) → Runs disk count left faults rest given looks taken passed moments holds named came words keys seal a b status → IsShell words → Tells status
   lines_tell_truly status (usage never same) asked = absurd (never (record { command = Shell asked.url; asks = asked.asks }))
   lines_tell_truly status (bad_keys name asks has same) asked = untouched refl same
   lines_tell_truly status (unsigned v path root asks has same) asked = untouched refl same

@@ -56,7 +56,7 @@ module _ (in_order : IsPublishedInOrder) (ended_once : IsEndedOnce) where
     publishes_once (unread fault status reads how same still near) = inr (record { untouched = near; undone = undone (read_status fault) status (unread_undone fault) how })
 
   module _ {V : Type 0} (disk : V → Option Disk) (count : V → ℕ) (left : V → ℕ → Files → Type 0)
-      {R W C F N : Type 0} (faults : V → ℕ) (rest : R → Option (List ℕ)) (looks : R → Look → Type 0) (taken passed : W → Option (List ℕ)) (moments : C → Option (ℕ → ℕ)) (holds : F → Option Folders) (named : F → Option (List ℕ)) (came : N → Links)
+      {R W C F N : Type 0} (faults : V → ℕ) (rest given : R → Option (List ℕ)) (looks : R → Look → Type 0) (taken passed : W → Option (List ℕ)) (moments : C → Option (ℕ → ℕ)) (holds : F → Option Folders) (named : F → Option (List ℕ)) (came : N → Links)
       (words : List (List ℕ)) (keys seal : List ℕ) (a b : Outside V R W C F N) where
     abbrev So : Status → Type 0
     So = PublishesAsked taken moments holds named came words keys seal a.output b.output a.clock b.clock a.folder b.folder a.dial b.dial
@@ -69,7 +69,7 @@ module _ (in_order : IsPublishedInOrder) (ended_once : IsEndedOnce) where
     as_asked u path root table status asks are (inl one) = asked u path root table asks are one
     as_asked u path root table status asks are (inr none) = unasked none
 
-    pub publishes_as_asked : (status : Status) → Runs disk count left faults rest looks taken passed moments holds named came words keys seal a b status → IsPublisher words → So status
+    pub publishes_as_asked : (status : Status) → Runs disk count left faults rest given looks taken passed moments holds named came words keys seal a b status → IsPublisher words → So status
     publishes_as_asked status (usage never same) by = absurd (never (record { command = Publish by.url by.path by.root; asks = by.asks }))
     publishes_as_asked status (bad_keys name asks has same) by = absurd (no_publish_stdio by.url by.path by.root name by.asks asks)
     publishes_as_asked status (unsigned u path root asks has same) by = sends_nothing (λ is. absurd cc) same

@@ -26,7 +26,8 @@ line_is FolderFailed other = refl
 line_is BadKeys other = refl
 line_is OutOfMemory other = refl
 
-onto_then : (o : Option (List ℕ)) {o1 o2 : Option (List ℕ)} (a b : List ℕ) → o1 ≡ onto o a → o2 ≡ onto o1 b → o2 ≡ onto o (a ++ b)
+-- two pieces, one after the other
+pub onto_then : (o : Option (List ℕ)) {o1 o2 : Option (List ℕ)} (a b : List ℕ) → o1 ≡ onto o a → o2 ≡ onto o1 b → o2 ≡ onto o (a ++ b)
 onto_then o a b first second = second ∙ ap (λ x. onto x b) first ∙ onto_twice o a b
 
 -- of two pieces the first and a front of the second

@@ -116,18 +116,18 @@ module _ {V : Type 0} (disk : V → Option Disk) (count : V → ℕ) (left : V �
 
 -- a session over the desk of a gate that was opened
 module _ {V R W C : Type 0} (disk : V → Option Disk) (count : V → ℕ) (left : V → ℕ → Files → Type 0) (only_now : (v : V) (f : Files) → left v (count v) f → ImageOf (disk v) f)
-    (faults : V → ℕ) (rest : R → Option (List ℕ)) (looks : R → Look → Type 0) (taken passed : W → Option (List ℕ)) (moments : C → Option (ℕ → ℕ))
+    (faults : V → ℕ) (rest given : R → Option (List ℕ)) (looks : R → Look → Type 0) (taken passed : W → Option (List ℕ)) (moments : C → Option (ℕ → ℕ))
     (name seal : List ℕ) (gate : GateView V (List ℕ)) (new : IsNew name seal gate) (in_order : InOrder) (raises : KeepsRaised) (apart : (st : State) (entries : List Entry) (st' : State) → Run st entries st' → AreLeases st → AreLeases st')
     (v : V) (opens : WhereTold (disk v) (λ d. IsOpened disk count left name is_seal_by seal d v gate)) (later : faults v ≤ faults gate.state.line.vault)
     (begins : (st : State) → gate.journal ≡ [] → StandsFor disk is_seal_by gate.state st → Stands disk is_seal_by (desk_over gate) (first_view st))
     (keys : List Key) (desk' : OneDeskView V (List ℕ)) (input input' : R) (output output' : W) (clock clock' : C) (end : SessionEnd) where
   abbrev Talked : List ℕ → Type 0
-  Talked n = Talks disk count left faults rest looks taken passed moments n keys seal (desk_over gate) desk' input input' output output' clock clock' end
+  Talked n = Talks disk count left faults rest given looks taken passed moments n keys seal (desk_over gate) desk' input input' output output' clock clock' end
 
-  by_name : Talked name → Serves disk count left faults rest looks taken passed moments name keys seal v desk'.gate.state.line.vault input input' output output' clock clock' (end_status end)
+  by_name : Talked name → Serves disk count left faults rest given looks taken passed moments name keys seal v desk'.gate.state.line.vault input input' output output' clock clock' (end_status end)
   by_name talks = ended gate desk' end opens new later talks
-      (λ d told k kept. serves_kept disk count left only_now name seal gate new in_order raises apart v desk' (calls_in disk count left faults rest looks taken passed moments talks) d k (opens d told) begins talks.session.made.does_ kept) refl
+      (λ d told k kept. serves_kept disk count left only_now name seal gate new in_order raises apart v desk' (calls_in disk count left faults rest given looks taken passed moments talks) d k (opens d told) begins talks.session.made.does_ kept) refl
 
   -- it bears the name of the gate's line
-  pub serves_gate : Talked gate.state.line.name → Serves disk count left faults rest looks taken passed moments name keys seal v desk'.gate.state.line.vault input input' output output' clock clock' (end_status end)
+  pub serves_gate : Talked gate.state.line.name → Serves disk count left faults rest given looks taken passed moments name keys seal v desk'.gate.state.line.vault input input' output output' clock clock' (end_status end)
   serves_gate talks = by_name (subst Talked new.named talks)

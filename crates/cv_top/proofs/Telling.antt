@@ -169,14 +169,14 @@ module _ (seal : List ℕ) (u : Url) (q : Question) (before after : Links) where
     tells_fault (ask_fault.Refused client_fault.NoMemory) told speaks = absurd cc
 
 module _ {V : Type 0} (disk : V → Option Disk) (count : V → ℕ) (left : V → ℕ → Files → Type 0)
-    {R W C F N : Type 0} (faults : V → ℕ) (rest : R → Option (List ℕ)) (looks : R → Look → Type 0) (taken passed : W → Option (List ℕ)) (moments : C → Option (ℕ → ℕ)) (holds : F → Option Folders) (named : F → Option (List ℕ)) (came : N → Links)
+    {R W C F N : Type 0} (faults : V → ℕ) (rest given : R → Option (List ℕ)) (looks : R → Look → Type 0) (taken passed : W → Option (List ℕ)) (moments : C → Option (ℕ → ℕ)) (holds : F → Option Folders) (named : F → Option (List ℕ)) (came : N → Links)
     (words : List (List ℕ)) (keys seal : List ℕ) (a b : Outside V R W C F N) where
   looks_tell : (u : Url) (q : Question) (status : Status) → Asks words (Looking u q) → Looks taken came seal u q a.output b.output a.dial b.dial status → tells_of_tree status ≡ true
       → Tells taken words seal (came a.dial) (came b.dial) a.output b.output status
   looks_tell u q status asks (answered found how told prints) speaks = tells_found seal u q (came a.dial) (came b.dial) taken words asks a.output b.output found status (ground seal u q (came a.dial) (came b.dial) (Ok found) told refl) prints speaks
   looks_tell u q status asks (unanswered fault told same) speaks = tells_fault seal u q (came a.dial) (came b.dial) taken words asks a.output b.output fault told speaks
 
-  pub tells_truly : (status : Status) → Runs disk count left faults rest looks taken passed moments holds named came words keys seal a b status → IsQuestion words → tells_of_tree status ≡ true
+  pub tells_truly : (status : Status) → Runs disk count left faults rest given looks taken passed moments holds named came words keys seal a b status → IsQuestion words → tells_of_tree status ≡ true
       → Tells taken words seal (came a.dial) (came b.dial) a.output b.output status
   tells_truly status (usage never same) asked speaks = absurd cc
   tells_truly status (bad_keys name asks has same) asked speaks = absurd cc

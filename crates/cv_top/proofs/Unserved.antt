@@ -94,9 +94,9 @@ module _ {V : Type 0} (disk : V → Option Disk) (count : V → ℕ) (left : V �
 
   -- ---- words that ask to serve
 
-  module _ {R W C F N : Type 0} (faults : V → ℕ) (rest : R → Option (List ℕ)) (looks : R → Look → Type 0) (taken passed : W → Option (List ℕ)) (moments : C → Option (ℕ → ℕ)) (words : List (List ℕ)) (keys seal : List ℕ) (a b : Outside V R W C F N) where
+  module _ {R W C F N : Type 0} (faults : V → ℕ) (rest given : R → Option (List ℕ)) (looks : R → Look → Type 0) (taken passed : W → Option (List ℕ)) (moments : C → Option (ℕ → ℕ)) (words : List (List ℕ)) (keys seal : List ℕ) (a b : Outside V R W C F N) where
     abbrev Has : List ℕ → Disk → Kept → Type 0
-    Has name d k = HasLine disk count left faults rest looks taken passed moments name keys seal d k a b
+    Has name d k = HasLine disk count left faults rest given looks taken passed moments name keys seal d k a b
 
     has_none : (name : List ℕ) (d : Disk) (k : Kept) → disk a.vault ≡ Some d → StandsKept name (is_seal_by seal) (files_now d) k → b ≡ a → Has name d k
     has_none name d k told kept same = record {
@@ -106,11 +106,11 @@ module _ {V : Type 0} (disk : V → Option Disk) (count : V → ℕ) (left : V �
     }
 
     serves_so : (name : List ℕ) (table : List Key) (status : Status) (d : Disk) (k : Kept) → keys_of keys ≡ Ok table → disk a.vault ≡ Some d → StandsKept name (is_seal_by seal) (files_now d) k
-        → Serves disk count left faults rest looks taken passed moments name table seal a.vault b.vault a.input b.input a.output b.output a.clock b.clock status → Has name d k
+        → Serves disk count left faults rest given looks taken passed moments name table seal a.vault b.vault a.input b.input a.output b.output a.clock b.clock status → Has name d k
     serves_so name table status d k are told kept (ended gate desk' end opens new later talks served same) = record {
-      calls = calls_in disk count left faults rest looks taken passed moments talks;
+      calls = calls_in disk count left faults rest given looks taken passed moments talks;
       made = talked table (desk_over gate) desk' end are same talks;
-      keeps = λ first lives begun lived. subst (λ (u : V). KeepsLine name seal first lives k (calls_in disk count left faults rest looks taken passed moments talks) disk count left d a.vault u) (sym same) ((served d told k kept).line first lives begun lived);
+      keeps = λ first lives begun lived. subst (λ (u : V). KeepsLine name seal first lives k (calls_in disk count left faults rest given looks taken passed moments talks) disk count left d a.vault u) (sym same) ((served d told k kept).line first lives begun lived);
     }
     serves_so name table status d k are told kept (unopened x opens input output clock) = record {
       calls = [];
@@ -118,7 +118,7 @@ module _ {V : Type 0} (disk : V → Option Disk) (count : V → ℕ) (left : V �
       keeps = λ first lives begun lived. refused name seal d k kept first lives begun lived x a.vault b.vault told (opens d told);
     }
 
-    pub keeps : (holds : F → Option Folders) (named : F → Option (List ℕ)) (came : N → Links) (status : Status) → Runs disk count left faults rest looks taken passed moments holds named came words keys seal a b status → Keeps disk count left faults rest looks taken passed moments words keys seal a b
+    pub keeps : (holds : F → Option Folders) (named : F → Option (List ℕ)) (came : N → Links) (status : Status) → Runs disk count left faults rest given looks taken passed moments holds named came words keys seal a b status → Keeps disk count left faults rest given looks taken passed moments words keys seal a b
     keeps holds named came status (usage never same) name asks d told k kept = absurd (never (record { command = Stdio name; asks = asks }))
     keeps holds named came status (bad_keys other asked has same) name asks d told k kept = has_none name d k told kept same
     keeps holds named came status (unsigned u path root asked has same) name asks d told k kept = has_none name d k told kept same

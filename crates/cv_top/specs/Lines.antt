@@ -1,8 +1,8 @@
 -- What the shell's command does: it pins a client at the head that is served, and answers the lines of its input.
 use Rattle.std.specs.Prelude.{◌≡◌, ℕ, Bool, true, false, List, Option}
 use Rattle.std.specs.declared.result.Result.TheVariants.{Ok, Err}
-use Rattle.cv_ports.specs.Streams.{Look, front}
-use Rattle.cv_http.specs.Wires.{Reads}
+use Rattle.cv_ports.specs.Streams.{Look, front, onto}
+use Rattle.cv_http.specs.Wires.{Draws}
 use Rattle.cv_manifest.specs.declared.manifest.Manifest.{Manifest}
 use Rattle.cv_resolver.specs.Resolver.{Client}
 use Rattle.cv_client.specs.Exchange.{Links}
@@ -33,11 +33,11 @@ is_silent BadKeys = true
 is_silent OutOfMemory = true
 is_silent other = false
 
--- what an input has left, and when its reads began; what an output took and passed on
-module _ {R W : Type 0} (rest : R → Option (List ℕ)) (looks : R → Look → Type 0) (taken passed : W → Option (List ℕ)) where
+-- what an input has left and gave, and when its reads began; what an output took and passed on
+module _ {R W : Type 0} (rest given : R → Option (List ℕ)) (looks : R → Look → Type 0) (taken passed : W → Option (List ℕ)) where
   -- lines were read of the input and answered, by a client that was pinned when these links had come back
   abbrev pub Answering : (seal : List ℕ) → Url → Client → Client → (mid after : Links) → (input input' : R) → (output output' : W) → ShellEnd → Type 0
-  Answering seal u client client' mid after input input' output output' end = Reads rest (unheld input) (unheld input') (λ b.
+  Answering seal u client client' mid after input input' output output' end = Draws rest given (unheld input) (unheld input') (λ b.
       Shells (is_seal_by seal) u (ReadsUpToDate (is_seal_by seal) u rest looks (unheld input) (unheld input') mid client (taken output) (passed output))
       (rest input') b mid after client client' (taken output) (taken output') end)
 
@@ -49,11 +49,11 @@ module _ {R W : Type 0} (rest : R → Option (List ℕ)) (looks : R → Look →
     unpinned : (fault : AskFault) → Pins (is_seal_by seal) u before after (Err fault) → input' ≡ input → output' ≡ output
         → AnswersLines seal u before after input input' output output' (ask_status fault)
 
--- what an input has left, and what an output took
-module _ {R W : Type 0} (rest : R → Option (List ℕ)) (taken : W → Option (List ℕ)) where
-  -- The manifest came in the first exchange, and has its seal. A client that was pinned there answered the lines of these turns, until the
-  -- shell ended so; and by the links and the client to which they came, each text is so in the tree with the root of the manifest at which
-  -- the client was pinned then.
+-- what an input has left and gave, and what an output took
+module _ {R W : Type 0} (rest given : R → Option (List ℕ)) (taken : W → Option (List ℕ)) where
+  -- The manifest came in the first exchange, and has its seal. A client that was pinned there answered the lines of these turns, which
+  -- the input gave, until the shell ended so; and by the links and the client to which they came, each text is so in the tree with the
+  -- root of the manifest at which the client was pinned then.
   pub record LinesTold (words : List (List ℕ)) (seal : List ℕ) (before after : Links) (input input' : R) (output output' : W) (status : Status) : Type 0 where
     pub url : Url
     pub asks : Asks words (Shell url)
@@ -61,7 +61,8 @@ module _ {R W : Type 0} (rest : R → Option (List ℕ)) (taken : W → Option (
     pub mid : Links
     pub fetched : FetchesManifest (is_seal_by seal) url before mid (Ok first)
     pub read : List ℕ
-    pub got : rest input ≡ front read (rest input')
+    pub told : rest input ≡ front read (rest input')
+    pub gave : given input' ≡ onto (given input) read
     pub turns : List Turn
     pub client : Client
     pub end : ShellEnd

@@ -120,13 +120,14 @@ module _ {V : Type 0} (disk : V → Option Disk) (count : V → ℕ) (left : V �
     pub line : (first : Kept) (lives : List Life) → IsKept first → Lives first lives k → KeepsLine name seal first lives k calls disk count left d v desk.gate.state.line.vault
     pub behind : (least more : List Call) → calls ≡ least ++ more → Behind name seal d k least more v start desk
 
-  -- a vault's faults; what an input has left, and when its reads began; what an output took and passed on; and the moments that a
+  -- a vault's faults; what an input has left and gave, and when its reads began; what an output took and passed on; and the moments that a
   -- clock will give
-  module _ {R W C : Type 0} (faults : V → ℕ) (rest : R → Option (List ℕ)) (looks : R → Look → Type 0) (taken passed : W → Option (List ℕ)) (moments : C → Option (ℕ → ℕ)) where
-    -- from a desk to a desk, the session over the bytes that were read of the input
+  module _ {R W C : Type 0} (faults : V → ℕ) (rest given : R → Option (List ℕ)) (looks : R → Look → Type 0) (taken passed : W → Option (List ℕ)) (moments : C → Option (ℕ → ℕ)) where
+    -- from a desk to a desk, the session over the bytes that were read of the input, which it gave
     pub record Talks (name : List ℕ) (keys : List Key) (seal : List ℕ) (desk desk' : OneDeskView V (List ℕ)) (input input' : R) (output output' : W) (clock clock' : C) (end : SessionEnd) : Type 0 where
       pub read : List ℕ
       pub told : rest input ≡ front read (rest input')
+      pub gave : given input' ≡ onto (given input) read
       pub held : List ℕ
       pub session : Session (DoesCalls disk count left is_seal_by) name keys (hmac_sha1 seal)
           (ReadsUpToDate name keys (hmac_sha1 seal) rest looks (record { source = input; held = [] }) (record { source = input'; held = held }) (taken output) (passed output))
@@ -175,7 +176,7 @@ module _ {V : Type 0} (disk : V → Option Disk) (count : V → ℕ) (left : V �
             → Looks taken came seal u q before.output after.output before.dial after.dial status
             → after ≡ outside before.vault before.input after.output before.clock before.folder after.dial → Runs words keys seal before after status
         shell : (u : Url) (status : Status) → Asks words (Shelling u) → seal ≢ []
-            → AnswersLines rest looks taken passed seal u (came before.dial) (came after.dial) before.input after.input before.output after.output status
+            → AnswersLines rest given looks taken passed seal u (came before.dial) (came after.dial) before.input after.input before.output after.output status
             → after ≡ outside before.vault after.input after.output before.clock before.folder after.dial → Runs words keys seal before after status
         publish : (u : Url) (path : Path) (root : List ℕ) (table : List Key) (status : Status) → Asks words (Publishing u path root) → keys_of keys ≡ Ok table → seal ≢ []
             → Publishes taken moments holds named came table seal u path root before.output after.output before.clock after.clock before.folder after.folder before.dial after.dial status

@@ -73,7 +73,7 @@ fn do_stdio<V: Vault + Drop, R: Source<Beside = W> + Drop, W: Sink, C: Clock, H:
     hold: &H,
 ) -> (Status, V, R)
     ensures does { Sealed seal.now ((result.1 ≡ vault) × (result.2 ≡ input) × (output.new ≡ output.old) × (clock.new ≡ clock.old))
-        (Serves V.disk V.count V.left V.faults R.left R.looks W.taken W.passed C.moments name.now table.now seal.now
+        (Serves V.disk V.count V.left V.faults R.left R.given R.looks W.taken W.passed C.moments name.now table.now seal.now
         vault result.1 input result.2 output.old output.new clock.old clock.new) result.0 }
     ensures flushed { result.0 ≢ OutputFailed → W.passed output.old ≡ W.taken output.old → W.passed output.new ≡ W.taken output.new }
     ensures reads { HasCause (R.faults input) (R.faults result.2) (result.0 ≡ InputFailed) }
@@ -131,7 +131,7 @@ fn do_shell<R: Source<Beside = W> + Drop, W: Sink, N: Dial>(
     dial: &mut N,
 ) -> (Status, R)
     ensures does { Sealed seal.now ((result.1 ≡ input) × (output.new ≡ output.old) × (dial.new ≡ dial.old))
-        (AnswersLines R.left R.looks W.taken W.passed seal.now url.now (N.came dial.old) (N.came dial.new)
+        (AnswersLines R.left R.given R.looks W.taken W.passed seal.now url.now (N.came dial.old) (N.came dial.new)
         input result.1 output.old output.new) result.0 }
     ensures flushed { result.0 ≢ OutputFailed → W.passed output.old ≡ W.taken output.old → W.passed output.new ≡ W.taken output.new }
     ensures reads { HasCause (R.faults input) (R.faults result.1) (result.0 ≡ InputFailed) }
@@ -202,7 +202,7 @@ fn do_command<
     dial: &mut N,
     hold: &H,
 ) -> (Status, V, R)
-    ensures runs { Runs V.disk V.count V.left V.faults R.left R.looks W.taken W.passed C.moments F.holds F.named N.came (map string_bytes words.now) keys.now seal.now
+    ensures runs { Runs V.disk V.count V.left V.faults R.left R.given R.looks W.taken W.passed C.moments F.holds F.named N.came (map string_bytes words.now) keys.now seal.now
         (outside vault input output.old clock.old folder.old dial.old) (outside result.1 result.2 output.new clock.new folder.new dial.new) result.0 }
     ensures flushed { result.0 ≢ OutputFailed → W.passed output.old ≡ W.taken output.old → W.passed output.new ≡ W.taken output.new }
     ensures reads { HasCause (R.faults input) (R.faults result.2) (result.0 ≡ InputFailed) }
@@ -282,11 +282,11 @@ pub fn run<
     words: &[String],
     parts: Parts<V, R, W, E, C, F, N, H>,
 ) -> (Status, Parts<V, R, W, E, C, F, N, H>)
-    ensures runs { Runs V.disk V.count V.left V.faults R.left R.looks W.taken W.passed C.moments F.holds F.named N.came (map string_bytes words.now) (string_bytes parts.keys) (string_bytes parts.seal)
+    ensures runs { Runs V.disk V.count V.left V.faults R.left R.given R.looks W.taken W.passed C.moments F.holds F.named N.came (map string_bytes words.now) (string_bytes parts.keys) (string_bytes parts.seal)
         (outside parts.vault parts.input parts.output parts.clock parts.folder parts.dial) (outside result.1.vault result.1.input result.1.output result.1.clock result.1.folder result.1.dial) result.0 }
 
     // The headline: what is kept stays on one line of revisions, whatever is asked, and whenever the program is cut.
-    ensures headline { Keeps V.disk V.count V.left V.faults R.left R.looks W.taken W.passed C.moments (map string_bytes words.now) (string_bytes parts.keys) (string_bytes parts.seal)
+    ensures headline { Keeps V.disk V.count V.left V.faults R.left R.given R.looks W.taken W.passed C.moments (map string_bytes words.now) (string_bytes parts.keys) (string_bytes parts.seal)
         (outside parts.vault parts.input parts.output parts.clock parts.folder parts.dial) (outside result.1.vault result.1.input result.1.output result.1.clock result.1.folder result.1.dial) }
     ensures texts { (result.1.keys ≡ parts.keys) × (result.1.seal ≡ parts.seal) × (result.1.hold ≡ parts.hold) }
 
@@ -319,7 +319,7 @@ pub fn run<
     // The same of a shell, line by line, in the tree of the head at which its client is pinned; and where the links of a line sent
     // what a server has, which is all that it wants, the line is answered by the tree.
     ensures shell { IsShell (map string_bytes words.now)
-        → TellsLines R.left W.taken (map string_bytes words.now) (string_bytes parts.seal) (N.came parts.dial) (N.came result.1.dial)
+        → TellsLines R.left R.given W.taken (map string_bytes words.now) (string_bytes parts.seal) (N.came parts.dial) (N.came result.1.dial)
         parts.input result.1.input parts.output result.1.output result.0 }
 
     // And of a publisher: what went over its links was one publication of the folder's changes, whose end is told.

@@ -87,6 +87,29 @@ fn exchange_once<N: Dial>(
 
 /// Sends what a publisher wants, exchange by exchange, until it wants nothing, and answers its end. After an exchange that has
 /// no reply none follows. What can't be done in 2 to the 64th exchanges is answered as want of memory.
+fn exchange_each<N: Dial>(
+    alloc: Global,
+    dial: &mut N,
+    url: &Url,
+    keys: &KeyTable,
+    signer: &KeyedHash,
+    publisher: &mut Publisher,
+) -> Result<Result<u64, PublishFault>, ExchangeFault>
+    ensures exchanged { Exchanged (is_seal_by signer.now) keys.now url.now (N.came dial.old) (N.came dial.new) publisher.old result }
+    ensures asks { AsksFirst N.came N.looks dial.old dial.new }
+    ensures cause { HasCause (N.faults dial.old) (N.faults dial.new) (result ≡ Err exchange_fault.LinkFailed) }
+{
+    'exchanges: for _ in 0..u64::MAX {
+        match exchange_once(alloc, dial, url, keys, signer, publisher) {
+            Ok(None) => {}
+            Ok(Some(end)) => return Ok(end),
+            Err(fault) => return Err(fault),
+        }
+    }
+    Err(ExchangeFault::NoMemory)
+}
+
+/// Does so with a publisher of its own, which is done with then.
 fn exchange_all<N: Dial>(
     alloc: Global,
     dial: &mut N,
@@ -100,14 +123,7 @@ fn exchange_all<N: Dial>(
     ensures cause { HasCause (N.faults dial.old) (N.faults dial.new) (result ≡ Err exchange_fault.LinkFailed) }
 {
     let mut publisher = publisher;
-    'exchanges: for _ in 0..u64::MAX {
-        match exchange_once(alloc, dial, url, keys, signer, &mut publisher) {
-            Ok(None) => {}
-            Ok(Some(end)) => return Ok(end),
-            Err(fault) => return Err(fault),
-        }
-    }
-    Err(ExchangeFault::NoMemory)
+    exchange_each(alloc, dial, url, keys, signer, &mut publisher)
 }
 
 /// Prints the revision that was published.

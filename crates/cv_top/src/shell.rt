@@ -21,7 +21,7 @@ pub(crate) fn answer_lines<R: Source<Beside = W> + Drop, W: Sink, N: Dial>(
     output: &mut W,
     dial: &mut N,
 ) -> (Status, R)
-    ensures answers { AnswersLines R.left R.looks W.taken W.passed signer.now url.now (N.came dial.old) (N.came dial.new)
+    ensures answers { AnswersLines R.left R.given R.looks W.taken W.passed signer.now url.now (N.came dial.old) (N.came dial.new)
         input result.1 output.old output.new result.0 }
     ensures flushed { result.0 ≢ OutputFailed → W.passed output.old ≡ W.taken output.old → W.passed output.new ≡ W.taken output.new }
     ensures reads { HasCause (R.faults input) (R.faults result.1) (result.0 ≡ InputFailed) }

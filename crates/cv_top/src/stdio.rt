@@ -30,7 +30,7 @@ fn talk<V: Vault + Drop, R: Source<Beside = W> + Drop, W: Sink, C: Clock, H: Hol
     clock: &mut C,
     hold: &H,
 ) -> (SessionEnd, R)
-    ensures talks { Talks V.disk V.count V.left V.faults R.left R.looks W.taken W.passed C.moments desk.old.gate.state.line.name keys.now signer.now desk.old desk.new
+    ensures talks { Talks V.disk V.count V.left V.faults R.left R.given R.looks W.taken W.passed C.moments desk.old.gate.state.line.name keys.now signer.now desk.old desk.new
         input result.1 output.old output.new clock.old clock.new result.0 }
     ensures flushed { result.0 ≢ WriteFault → W.passed output.old ≡ W.taken output.old → W.passed output.new ≡ W.taken output.new }
     ensures reads { HasCause (R.faults input) (R.faults result.1) (result.0 ≡ ReadFault) }
@@ -56,7 +56,7 @@ pub(crate) fn serve<V: Vault + Drop, R: Source<Beside = W> + Drop, W: Sink, C: C
     hold: &H,
 ) -> (Status, V, R)
     requires signed { signer ≡ repository.signer }
-    ensures serves { Serves V.disk V.count V.left V.faults R.left R.looks W.taken W.passed C.moments repository.name keys.now repository.signer
+    ensures serves { Serves V.disk V.count V.left V.faults R.left R.given R.looks W.taken W.passed C.moments repository.name keys.now repository.signer
         vault result.1 input result.2 output.old output.new clock.old clock.new result.0 }
     ensures flushed { result.0 ≢ OutputFailed → W.passed output.old ≡ W.taken output.old → W.passed output.new ≡ W.taken output.new }
     ensures reads { HasCause (R.faults input) (R.faults result.2) (result.0 ≡ InputFailed) }

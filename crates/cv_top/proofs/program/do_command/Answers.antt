@@ -12,31 +12,31 @@ use Rattle.cv_top.proofs.program.do_command.Goals as goal
 
 pub returns-in-Ok-Init-clause-runs : goal.returns-in-Ok-Init-clause-runs
 returns-in-Ok-Init-clause-runs g c =
-    runs_init g.V.Vault.disk g.V.Vault.count g.V.Vault.left g.V.Vault.faults g.R.Source.left g.R.Source.looks g.W.Sink.taken g.W.Sink.passed g.C.Clock.moments g.F.Folder.holds g.F.Folder.named g.N.Dial.came
+    runs_init g.V.Vault.disk g.V.Vault.count g.V.Vault.left g.V.Vault.faults g.R.Source.left g.R.Source.given g.R.Source.looks g.W.Sink.taken g.W.Sink.passed g.C.Clock.moments g.F.Folder.holds g.F.Folder.named g.N.Dial.came
     (map string_bytes c.args.words.now) c.args.keys.now c.args.seal.now _ _ _ _ _ _ _ _ _ _ _ (subst (Asks (map string_bytes c.args.words.now)) c.in-Ok-Init.field-0-is c.in-Ok-Init.ensures.command)
     c.do_init-status.ensures.does
 
 pub returns-in-Ok-clause-runs : goal.returns-in-Ok-clause-runs
 returns-in-Ok-clause-runs g c =
-    runs_stdio g.V.Vault.disk g.V.Vault.count g.V.Vault.left g.V.Vault.faults g.R.Source.left g.R.Source.looks g.W.Sink.taken g.W.Sink.passed g.C.Clock.moments g.F.Folder.holds g.F.Folder.named g.N.Dial.came
+    runs_stdio g.V.Vault.disk g.V.Vault.count g.V.Vault.left g.V.Vault.faults g.R.Source.left g.R.Source.given g.R.Source.looks g.W.Sink.taken g.W.Sink.passed g.C.Clock.moments g.F.Folder.holds g.F.Folder.named g.N.Dial.came
     (map string_bytes c.args.words.now) c.args.keys.now c.args.seal.now _ _ _ _ _ _ _ _ _ _ _ _ (subst (Asks (map string_bytes c.args.words.now)) c.in-Ok-Stdio.field-0-is c.in-Ok-Stdio.ensures.command)
     _ (ap keys_of (sym c.as_bytes.ensures.value) ∙ sym c.in-Ok.ensures) c.do_stdio.ensures.does
 
 pub returns-in-Ok-Look-clause-runs : goal.returns-in-Ok-Look-clause-runs
 returns-in-Ok-Look-clause-runs g c =
-    runs_look g.V.Vault.disk g.V.Vault.count g.V.Vault.left g.V.Vault.faults g.R.Source.left g.R.Source.looks g.W.Sink.taken g.W.Sink.passed g.C.Clock.moments g.F.Folder.holds g.F.Folder.named g.N.Dial.came
+    runs_look g.V.Vault.disk g.V.Vault.count g.V.Vault.left g.V.Vault.faults g.R.Source.left g.R.Source.given g.R.Source.looks g.W.Sink.taken g.W.Sink.passed g.C.Clock.moments g.F.Folder.holds g.F.Folder.named g.N.Dial.came
     (map string_bytes c.args.words.now) c.args.keys.now c.args.seal.now _ _ _ _ _ _ _ _ _ _ _ (subst (Asks (map string_bytes c.args.words.now)) c.in-Ok-Look.field-0-is c.in-Ok-Look.ensures.command)
     c.do_look-status.ensures.does
 
 pub returns-in-Ok-Shell-clause-runs : goal.returns-in-Ok-Shell-clause-runs
 returns-in-Ok-Shell-clause-runs g c =
-    runs_shell g.V.Vault.disk g.V.Vault.count g.V.Vault.left g.V.Vault.faults g.R.Source.left g.R.Source.looks g.W.Sink.taken g.W.Sink.passed g.C.Clock.moments g.F.Folder.holds g.F.Folder.named g.N.Dial.came
+    runs_shell g.V.Vault.disk g.V.Vault.count g.V.Vault.left g.V.Vault.faults g.R.Source.left g.R.Source.given g.R.Source.looks g.W.Sink.taken g.W.Sink.passed g.C.Clock.moments g.F.Folder.holds g.F.Folder.named g.N.Dial.came
     (map string_bytes c.args.words.now) c.args.keys.now c.args.seal.now _ _ _ _ _ _ _ _ _ _ _ (subst (Asks (map string_bytes c.args.words.now)) c.in-Ok-Shell.field-0-is c.in-Ok-Shell.ensures.command)
     c.do_shell-status.ensures.does
 
 pub returns-in-Ok-Publish-clause-runs : goal.returns-in-Ok-Publish-clause-runs
 returns-in-Ok-Publish-clause-runs g c =
-    runs_publish g.V.Vault.disk g.V.Vault.count g.V.Vault.left g.V.Vault.faults g.R.Source.left g.R.Source.looks g.W.Sink.taken g.W.Sink.passed g.C.Clock.moments g.F.Folder.holds g.F.Folder.named g.N.Dial.came
+    runs_publish g.V.Vault.disk g.V.Vault.count g.V.Vault.left g.V.Vault.faults g.R.Source.left g.R.Source.given g.R.Source.looks g.W.Sink.taken g.W.Sink.passed g.C.Clock.moments g.F.Folder.holds g.F.Folder.named g.N.Dial.came
     (map string_bytes c.args.words.now) c.args.keys.now c.args.seal.now _ _ _ _ _ _ _ _ _ _ _ _ _ (subst (Asks (map string_bytes c.args.words.now)) c.in-Ok-Publish.field-0-is c.in-Ok-Publish.ensures.command)
     _ c.do_publish-status.ensures.does
 

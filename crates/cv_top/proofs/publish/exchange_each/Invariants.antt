@@ -2,7 +2,7 @@ use Rattle.std.proofs.Common.{◌≤◌}
 use Rattle.cv_client.specs.Asking.{AsksFirst}
 use Rattle.cv_top.specs.Publishes.{Goes}
 use Rattle.cv_top.specs.Seal.{is_seal_by}
-use Rattle.cv_top.proofs.publish.exchange_all.Given as goal
+use Rattle.cv_top.proofs.publish.exchange_each.Given as goal
 
 abbrev pub invariant-exchanges : goal.invariant-exchanges
 invariant-exchanges g l = record {

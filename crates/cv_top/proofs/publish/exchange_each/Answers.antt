@@ -6,7 +6,7 @@ use Rattle.cv_client.specs.declared.exchanging.ExchangeFault.{ExchangeFault}
 use Rattle.cv_client.specs.declared.exchanging.ExchangeFault.TheVariants.{LinkFailed}
 use Rattle.cv_top.specs.Publishes.{begins}
 use Rattle.cv_top.proofs.Publishing.{goes_on, ends, breaks, no_memory}
-use Rattle.cv_top.proofs.publish.exchange_all.Goals as goal
+use Rattle.cv_top.proofs.publish.exchange_each.Goals as goal
 
 pub exchanges-init : goal.exchanges-init
 exchanges-init g c = record { went = begins; asks = asks_none; later = omega arith }
