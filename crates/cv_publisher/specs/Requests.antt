@@ -1,5 +1,5 @@
 -- The requests of a publisher.
-use Rattle.std.specs.Prelude.{◌≡◌, ◌≢◌, ℕ, List, [], ◌++◌, codes, length, slice_get, option_map, Option, Some, None}
+use Rattle.std.specs.Prelude.{◌≡◌, ◌≢◌, ℕ, List, [], ◌++◌, length, slice_get, option_map, Option, Some, None}
 use Rattle.sha1.specs.Sha1.{sha1}
 use Rattle.serde_json.specs.Written.{compact_text}
 use Rattle.cv_base.specs.ObjectId.{file_name}

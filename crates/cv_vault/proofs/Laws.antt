@@ -4,7 +4,7 @@
 pub use Rattle.cv_vault.proofs.Names.{here, elsewhere, same_or_not}
 -- what a crash leaves at a settled name, the one image of a calm disk, and names that are left out of account
 pub use Rattle.cv_vault.proofs.Calling.{may_settled, calm_image, apart}
--- what comes by each call
+-- what comes by a read, a write and a rename
 pub use Rattle.cv_vault.proofs.Calling.{reads, writes, renames}
 -- reads, one after another: a walk by which nothing comes
 pub use Rattle.cv_vault.proofs.Quiet.{quiet_none, quiet_then, quiet_walks, quiet_same, quiet_call}
