@@ -1,5 +1,5 @@
 //! Checkouts of trees whose cuts are told by hand.
-ghost use Rattle.std.specs.Prelude.{◌≡◌, IfOk};
+ghost use Rattle.std.specs.Prelude.{◌≡◌};
 ghost use Rattle.cv_base.specs.declared.id.Kind.TheVariants as id_kind;
 
 use cv_base::{Bytes, Kind, Object, ObjectId, RepoPath};
@@ -121,16 +121,22 @@ fn catalogue_id(hash: [u8; 20]) -> ObjectId
     }
 }
 
-/// A checkout of a path of what is published.
-fn begun(
-    alloc: Global,
-    published: &Published,
-    objects: &[Object],
-    path: &str,
-) -> Result<Checkout, Fail> {
-    let root = catalogue_of(published, objects, "/")?;
+/// A checkout of a path below a root of this hash.
+fn begun(alloc: Global, root: [u8; 20], path: &str) -> Result<Checkout, Fail> {
     let path = RepoPath::read(alloc, path)?;
-    Ok(Checkout::new(alloc, &catalogue_id(root.id.hash), path)?)
+    Ok(Checkout::new(alloc, &catalogue_id(root), path)?)
+}
+
+/// Gives a checkout these bytes, or none, in the place of what it wants: what it wants, and its fault.
+fn give_bytes(
+    alloc: Global,
+    checkout: &mut Checkout,
+    bytes: Option<Bytes>,
+) -> Result<(ObjectId, Option<CheckoutFault>), Fail> {
+    match checkout.want() {
+        Some(wanted) => Ok((wanted, checkout.give(alloc, bytes).err())),
+        None => Err(Fail::new("nothing is wanted")),
+    }
 }
 
 /// Gives the catalogue of a cut, which has to be the one that is wanted.
@@ -138,27 +144,49 @@ fn give(
     alloc: Global,
     checkout: &mut Checkout,
     object: &Object,
-) -> Result<Result<(), CheckoutFault>, Fail> {
-    let Some(wanted) = checkout.want() else {
-        return Err(Fail::new("nothing is wanted"));
-    };
+) -> Result<Option<CheckoutFault>, Fail> {
+    let bytes = Bytes::from_slice(alloc, object.bytes.as_slice())?;
+    let (wanted, fault) = give_bytes(alloc, checkout, Some(bytes))?;
     if wanted != object.id {
         return Err(Fail::new("another catalogue is wanted"));
     }
-    let bytes = Bytes::from_slice(alloc, object.bytes.as_slice())?;
-    Ok(checkout.give(alloc, Some(bytes)))
+    Ok(fault)
+}
+
+/// Gives the catalogues of these cuts in turn, as they are wanted.
+fn give_all(
+    alloc: Global,
+    checkout: &mut Checkout,
+    published: &Published,
+    objects: &[Object],
+    cuts: &str,
+) -> Result<(), Fail> {
+    for cut in cuts.split(' ') {
+        let object = catalogue_of(published, objects, cut)?;
+        if give(alloc, checkout, object)?.is_some() {
+            return Err(Fail::new("a fault"));
+        }
+    }
+    Ok(())
+}
+
+/// A checkout to which the catalogues of these cuts were given in turn.
+fn begun_with(
+    alloc: Global,
+    published: &Published,
+    path: &str,
+    cuts: &str,
+) -> Result<Checkout, Fail> {
+    let objects = catalogues(alloc, published)?;
+    let root = catalogue_of(published, &objects, "/")?.id.hash;
+    let mut checkout = begun(alloc, root, path)?;
+    give_all(alloc, &mut checkout, published, &objects, cuts)?;
+    Ok(checkout)
 }
 
 /// What a checkout tells to which the catalogues of these cuts were given in turn, as they were wanted.
 fn base_of(alloc: Global, published: &Published, path: &str, cuts: &str) -> Result<Base, Fail> {
-    let objects = catalogues(alloc, published)?;
-    let mut checkout = begun(alloc, published, &objects, path)?;
-    for cut in cuts.split(' ') {
-        let object = catalogue_of(published, &objects, cut)?;
-        if give(alloc, &mut checkout, object)?.is_err() {
-            return Err(Fail::new("a fault"));
-        }
-    }
+    let checkout = begun_with(alloc, published, path, cuts)?;
     match checkout.want() {
         Some(_) => Err(Fail::new("one more is wanted")),
         None => Ok(checkout.finish(alloc)?),
@@ -186,26 +214,50 @@ fn has_paths(alloc: Global, part: Option<&Part>, paths: Option<&str>) -> Result<
     }
 }
 
+/// Whether a checkout tells these paths, and that its own has a place or not.
+fn tells(alloc: Global, row: &Row) -> Result<bool, Fail> {
+    let (published, path, cuts, paths, has_place) = row;
+    let base = base_of(alloc, published, path, cuts)?;
+    Ok(has_paths(alloc, base.part.as_ref(), *paths)? && base.has_place == *has_place)
+}
+
 #[test]
 fn catalogues_are_wanted_in_turn_and_tell_the_part(rt: HostRuntime) -> Result<(), Fail> {
-    for (published, path, cuts, paths, has_place) in &ROWS {
-        let base = base_of(rt.alloc(), published, path, cuts)?;
-        assert!(rt; has_paths(rt.alloc(), base.part.as_ref(), *paths)?);
-        assert!(rt; base.has_place == *has_place);
+    for row in &ROWS {
+        assert!(rt; tells(rt.alloc(), row)?);
     }
     Ok(())
 }
 
+/// The cuts whose catalogues are given.
+const GIVEN: &str = "/ /a /a/c /a/c/d";
+
+/// Whether a cut is among them.
+fn is_given(cut: &str) -> bool {
+    GIVEN.split(' ').any(|given| given == cut)
+}
+
+/// Whether a shelf has an object.
+fn has<S: Shelf>(alloc: Global, shelf: &mut S, id: &ObjectId) -> Result<bool, Fail> {
+    Ok(shelf.fetch(alloc, id)?.is_some())
+}
+
+/// Whether a shelf has the catalogues that are given, of these, and no other.
+fn has_given<S: Shelf>(alloc: Global, shelf: &mut S, objects: &[Object]) -> Result<bool, Fail> {
+    for (object, cut) in objects.iter().zip(DEEP.cuts.split(' ')) {
+        if has(alloc, shelf, &object.id)? != is_given(cut) {
+            return Ok(false);
+        }
+    }
+    Ok(true)
+}
+
 #[test]
 fn each_catalogue_that_was_given_is_kept(rt: HostRuntime) -> Result<(), Fail> {
-    let alloc = rt.alloc();
-    let objects = catalogues(alloc, &DEEP)?;
-    let mut base = base_of(alloc, &DEEP, "/a/c", "/ /a /a/c /a/c/d")?;
-    for cut in DEEP.cuts.split(' ') {
-        let object = catalogue_of(&DEEP, &objects, cut)?;
-        let kept = base.catalogues.fetch(alloc, &object.id)?;
-        assert!(rt; kept.is_some() == "/ /a /a/c /a/c/d".split(' ').any(|given| given == cut));
-    }
+    let objects = catalogues(rt.alloc(), &DEEP)?;
+    assert!(rt; objects.len() == 6);
+    let mut base = base_of(rt.alloc(), &DEEP, "/a/c", GIVEN)?;
+    assert!(rt; has_given(rt.alloc(), &mut base.catalogues, &objects)?);
     Ok(())
 }
 
@@ -214,73 +266,79 @@ const HELLO: &str = "f572d396fae9206628714fb2ce00f72e94f2258fC";
 
 /// What is answered where these bytes are given in the place of the catalogue of `/a`.
 fn fault_of(alloc: Global, given: Option<&str>) -> Result<(ObjectId, Option<CheckoutFault>), Fail> {
-    let objects = catalogues(alloc, &DEEP)?;
-    let mut checkout = begun(alloc, &DEEP, &objects, "/a/c")?;
-    let root = catalogue_of(&DEEP, &objects, "/")?;
-    if give(alloc, &mut checkout, root)?.is_err() {
-        return Err(Fail::new("a fault"));
-    }
-    let Some(wanted) = checkout.want() else {
-        return Err(Fail::new("nothing is wanted"));
-    };
     let bytes = match given {
         Some(text) => Some(Bytes::from_slice(alloc, text.as_bytes())?),
         None => None,
     };
-    Ok((wanted, checkout.give(alloc, bytes).err()))
+    let mut checkout = begun_with(alloc, &DEEP, "/a/c", "/")?;
+    give_bytes(alloc, &mut checkout, bytes)
 }
 
 #[test]
 fn what_is_not_served_or_has_another_digest_is_refused(rt: HostRuntime) -> Result<(), Fail> {
     let (wanted, fault) = fault_of(rt.alloc(), None)?;
     assert!(rt; fault == Some(CheckoutFault::NotServed(wanted)));
-    let Some(hello) = ObjectId::read(HELLO) else {
-        return Err(Fail::new("no id"));
-    };
-    let (wanted, fault) = fault_of(rt.alloc(), Some("hello\n"))?;
-    let id = wanted;
-    let found = hello.hash;
+    let found = ObjectId::read(HELLO).ok_or("no id")?.hash;
+    let (id, fault) = fault_of(rt.alloc(), Some("hello\n"))?;
     assert!(rt; fault == Some(CheckoutFault::BadObject { id, found }));
     Ok(())
 }
 
-#[test]
-fn what_decodes_elsewhere_is_refused(rt: HostRuntime) -> Result<(), Fail> {
-    let alloc = rt.alloc();
+/// Whether the catalogue of `/a` is bad in the place of a root.
+fn is_bad_as_a_root(alloc: Global) -> Result<bool, Fail> {
     let objects = catalogues(alloc, &DEEP)?;
     let nested = catalogue_of(&DEEP, &objects, "/a")?;
-    let path = RepoPath::read(alloc, "/a/c")?;
-    let mut checkout = Checkout::new(alloc, &catalogue_id(nested.id.hash), path)?;
-    let answer = give(alloc, &mut checkout, nested)?;
-    assert!(rt; answer == Err(CheckoutFault::BadCatalogue(nested.id)));
+    let mut checkout = begun(alloc, nested.id.hash, "/a/c")?;
+    let fault = give(alloc, &mut checkout, nested)?;
+    Ok(fault == Some(CheckoutFault::BadCatalogue(nested.id)))
+}
+
+#[test]
+fn what_decodes_elsewhere_is_refused(rt: HostRuntime) -> Result<(), Fail> {
+    assert!(rt; is_bad_as_a_root(rt.alloc())?);
     Ok(())
 }
 
+/// The bytes of the root's catalogue, but that another size is stated of the one of this hash at `/e`.
+fn misstated(alloc: Global, root: &[u8], hash: [u8; 20]) -> Result<Bytes, Fail> {
+    let path = RepoPath::read(alloc, "/e")?;
+    let mut catalogue = Catalogue::decode(alloc, root, &RepoPath::root(alloc))?;
+    catalogue.renew(&path, hash, 1);
+    Ok(Bytes::new(catalogue.encode(alloc)?))
+}
+
+/// Gives a checkout a root and then a catalogue, and tells both faults.
+fn faults_of_two(
+    alloc: Global,
+    root: &Object,
+    nested: &Object,
+) -> Result<[Option<CheckoutFault>; 2], Fail> {
+    let mut checkout = begun(alloc, root.id.hash, "/e")?;
+    let first = give(alloc, &mut checkout, root)?;
+    Ok([first, give(alloc, &mut checkout, nested)?])
+}
+
 /// The root's catalogue, but that another size is stated of the one at `/e`.
-fn misstated(alloc: Global, objects: &[Object]) -> Result<Object, Fail>
-    ensures { IfOk result (λ object. object.id.kind ≡ id_kind.Catalogue) }
-{
-    let root = catalogue_of(&DEEP, objects, "/")?;
+fn misstated_root(alloc: Global, objects: &[Object]) -> Result<Object, Fail> {
     let nested = catalogue_of(&DEEP, objects, "/e")?;
-    let at = RepoPath::root(alloc);
-    let mut catalogue = Catalogue::decode(alloc, root.bytes.as_slice(), &at)?;
+    let root = catalogue_of(&DEEP, objects, "/")?;
     let hash = ObjectId::of(Kind::Catalogue, nested.bytes.as_slice()).hash;
-    catalogue.renew(&RepoPath::read(alloc, "/e")?, hash, 1);
-    let bytes = Bytes::new(catalogue.encode(alloc)?);
+    let bytes = misstated(alloc, root.bytes.as_slice(), hash)?;
     let id = ObjectId::of(Kind::Catalogue, bytes.as_slice());
     Ok(Object { id, bytes })
 }
 
+/// Whether that root is taken, and the catalogue of `/e` is bad then.
+fn is_bad_below_misstated(alloc: Global) -> Result<bool, Fail> {
+    let objects = catalogues(alloc, &DEEP)?;
+    let root = misstated_root(alloc, &objects)?;
+    let nested = catalogue_of(&DEEP, &objects, "/e")?;
+    let faults = faults_of_two(alloc, &root, nested)?;
+    Ok(faults == [None, Some(CheckoutFault::BadCatalogue(nested.id))])
+}
+
 #[test]
 fn a_catalogue_of_another_size_is_refused(rt: HostRuntime) -> Result<(), Fail> {
-    let alloc = rt.alloc();
-    let objects = catalogues(alloc, &DEEP)?;
-    let root = misstated(alloc, &objects)?;
-    let path = RepoPath::read(alloc, "/e")?;
-    let mut checkout = Checkout::new(alloc, &root.id, path)?;
-    assert!(rt; give(alloc, &mut checkout, &root)? == Ok(()));
-    let nested = catalogue_of(&DEEP, &objects, "/e")?;
-    let answer = give(alloc, &mut checkout, nested)?;
-    assert!(rt; answer == Err(CheckoutFault::BadCatalogue(nested.id)));
+    assert!(rt; is_bad_below_misstated(rt.alloc())?);
     Ok(())
 }

@@ -1,6 +1,6 @@
 //! What the contracts can't say: values from outside, and that calls find memory.
 
-use cv_base::{Attr, Bytes, Items, Target, Text};
+use cv_base::{Attr, Bytes, Items, NoMemory, Target, Text};
 use cv_client::{Url, found_text};
 use cv_resolver::{Found, StatLine};
 use cv_rows::RowKind;
@@ -143,6 +143,16 @@ static LINES: [(RowKind, u32, u32, u32, u64, u64, &str, &str); 6] = [
     ),
 ];
 
+/// What is read of a text.
+fn read(alloc: Global, text: &str) -> Result<Option<Url>, NoMemory> {
+    Url::read(alloc, text)
+}
+
+/// Whether a text is a URL.
+fn is_read(alloc: Global, text: &str) -> Result<bool, NoMemory> {
+    Ok(read(alloc, text)?.is_some())
+}
+
 /// A text is the URL of a row.
 fn is_url(
     alloc: Global,
@@ -152,7 +162,7 @@ fn is_url(
     authority: &str,
     repository: &str,
 ) -> Result<bool, Fail> {
-    let Some(url) = Url::read(alloc, text)? else {
+    let Some(url) = read(alloc, text)? else {
         return Ok(false);
     };
     let is_authority = url.host.as_str() == host
@@ -173,8 +183,7 @@ fn a_url_has_a_host_a_port_and_a_name(rt: HostRuntime) -> Result<(), Fail> {
 #[test]
 fn other_texts_are_no_url(rt: HostRuntime) -> Result<(), Fail> {
     for text in &NO_URLS {
-        let none = Url::read(rt.alloc(), text)?.is_none();
-        assert!(rt; none, "at {text}");
+        assert!(rt; !is_read(rt.alloc(), text)?, "at {text}");
     }
     Ok(())
 }
@@ -196,7 +205,7 @@ fn long_url(alloc: Global, host: usize, name: usize) -> Result<String, Fail> {
 fn hosts_and_names_have_limits(rt: HostRuntime) -> Result<(), Fail> {
     for (host, name, good) in &LENGTHS {
         let text = long_url(rt.alloc(), *host, *name)?;
-        let is = Url::read(rt.alloc(), text.as_str())?.is_some();
+        let is = is_read(rt.alloc(), text.as_str())?;
         assert!(rt; is == *good, "at {host} and {name}");
     }
     Ok(())
@@ -213,6 +222,11 @@ fn entry(alloc: Global, kind: RowKind, attr: Attr, size: u64, target: &str) -> R
     }))
 }
 
+/// Whether these bytes are the text of what was found.
+fn is_text(alloc: Global, found: Found, text: &[u8]) -> Result<bool, NoMemory> {
+    Ok(found_text(alloc, found)?.as_slice() == text)
+}
+
 #[test]
 fn an_entry_is_a_line(rt: HostRuntime) -> Result<(), Fail> {
     for (kind, mode, uid, gid, size, mtime, target, line) in &LINES {
@@ -223,8 +237,7 @@ fn an_entry_is_a_line(rt: HostRuntime) -> Result<(), Fail> {
             gid: *gid,
         };
         let found = entry(rt.alloc(), *kind, attr, *size, target)?;
-        let text = found_text(rt.alloc(), found)?;
-        assert!(rt; text.as_slice() == line.as_bytes(), "at {line}");
+        assert!(rt; is_text(rt.alloc(), found, line.as_bytes())?, "at {line}");
     }
     Ok(())
 }
@@ -238,19 +251,21 @@ fn listing(alloc: Global, names: &[&str]) -> Result<Found, Fail> {
     Ok(Found::Names(Items::new(texts)))
 }
 
+/// Names, and the text of a listing of them.
+static LISTINGS: [(&[&str], &str); 2] = [(&["a", "b c", "é"], "a\nb c\né\n"), (&[], "")];
+
 #[test]
 fn names_are_lines(rt: HostRuntime) -> Result<(), Fail> {
-    let some = found_text(rt.alloc(), listing(rt.alloc(), &["a", "b c", "é"])?)?;
-    assert!(rt; some.as_slice() == "a\nb c\né\n".as_bytes());
-    let none = found_text(rt.alloc(), listing(rt.alloc(), &[])?)?;
-    assert!(rt; none.as_slice().is_empty());
+    for (names, text) in &LISTINGS {
+        let found = listing(rt.alloc(), names)?;
+        assert!(rt; is_text(rt.alloc(), found, text.as_bytes())?);
+    }
     Ok(())
 }
 
 #[test]
 fn a_content_is_as_it_is(rt: HostRuntime) -> Result<(), Fail> {
     let bytes = Bytes::from_slice(rt.alloc(), b"a\n\xff")?;
-    let text = found_text(rt.alloc(), Found::Bytes(bytes))?;
-    assert!(rt; text.as_slice() == b"a\n\xff".as_slice());
+    assert!(rt; is_text(rt.alloc(), Found::Bytes(bytes), b"a\n\xff")?);
     Ok(())
 }

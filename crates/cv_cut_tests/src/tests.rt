@@ -1,11 +1,13 @@
 //! Catalogues of trees against those of another program, which no clause speaks of: it finds memory.
+ghost use Rattle.std.specs.Prelude.{◌≡◌, ◌≢◌, [], false, option_copied};
+ghost use Rattle.cv_base.specs.Marker.{marker, ends_in};
+ghost use Rattle.cv_tree.specs.Changes.{FitsUnder, nodes_of};
 
 use cv_base::{Object, ObjectId, RepoPath, ends_in_marker};
-use cv_cut::{CutFault, PieceCut, alone, cut, cut_piece, piece_at};
+use cv_cut::{Cut, CutFault, PieceCut, alone, cut, cut_piece, piece_at};
 use cv_samples::{Modes, file, tree_of};
-use cv_tree::Tree;
+use cv_tree::{Part, Tree};
 use std::alloc::Global;
-use std::process::Abort;
 use std::test::Fail;
 
 // The table is that of tools/cut_vectors.py, which makes the catalogues from the definition of the format.
@@ -13,7 +15,7 @@ use std::test::Fail;
 /// Trees as texts of their paths, in which `/d/` is a directory, `/l=t` a link to `t`, and anything else a file whose
 /// content is the text of its path; the id of the root's catalogue and its bytes; how many catalogues there are, and
 /// their bytes together.
-const TREES: [(&str, &str, u64, usize, usize); 20] = [
+static TREES: [(&str, &str, u64, usize, usize); 20] = [
     ("", "307aac20fe5391faacd0ea38f9589fb797a3685cC", 81, 1, 81),
     (
         "/a",
@@ -159,31 +161,36 @@ fn bytes_of(objects: &[Object]) -> usize {
     bytes
 }
 
-/// Cuts a tree, and compares its catalogues with what the table has.
-fn check(
-    rt: &impl Abort,
-    alloc: Global,
-    text: &str,
-    root: &str,
-    size: u64,
-    count: usize,
-    total: usize,
-) -> Result<(), Fail> {
-    let tree = tree_of(alloc, Modes::Usual, text)?;
-    let made = cut(alloc, &tree)?;
+/// What cutting a tree answers.
+fn cut_of(alloc: Global, tree: &Tree) -> Result<Cut, CutFault> {
+    cut(alloc, tree)
+}
+
+/// What is seen of a tree's cut: whether this is the id of the root's catalogue, and how many bytes that one has; how many
+/// catalogues there are, and their bytes together; and whether the last one is the root's.
+type Seen = (bool, u64, usize, usize, bool);
+
+/// What is seen of a cut.
+fn seen_of(alloc: Global, made: &Cut, root: &str) -> Result<Seen, Fail> {
+    let is_root = made.root.text(alloc)?.as_str() == root;
     let catalogues = made.catalogues.as_slice();
-    assert_eq!(rt; made.root.text(alloc)?.as_str(), root, "the root of {text}");
-    assert_eq!(rt; made.size, size, "its size");
-    assert_eq!(rt; catalogues.len(), count, "the catalogues of {text}");
-    assert_eq!(rt; bytes_of(catalogues), total, "their bytes");
-    assert!(rt; catalogues.last().is_some_and(|last| last.id == made.root));
-    Ok(())
+    let is_last = catalogues.last().is_some_and(|last| last.id == made.root);
+    let (count, total) = (catalogues.len(), bytes_of(catalogues));
+    Ok((is_root, made.size, count, total, is_last))
+}
+
+/// What is seen of the cut of the tree of a text.
+fn seen(alloc: Global, text: &str, root: &str) -> Result<Seen, Fail> {
+    let tree = tree_of(alloc, Modes::Usual, text)?;
+    let made = cut_of(alloc, &tree)?;
+    seen_of(alloc, &made, root)
 }
 
 #[test]
 fn trees_have_these_catalogues(rt: HostRuntime) -> Result<(), Fail> {
     for (text, root, size, count, total) in &TREES {
-        check(&rt, rt.alloc(), text, root, *size, *count, *total)?;
+        let expected = (true, *size, *count, *total, true);
+        assert_eq!(rt; seen(rt.alloc(), text, root)?, expected, "at {text}");
     }
     Ok(())
 }
@@ -208,7 +215,7 @@ fn add_files(
 
 /// Which cut a tree has whose catalogue is full, by the text of its path.
 fn full_cut(alloc: Global, tree: &Tree) -> Result<Option<String>, Fail> {
-    match cut(alloc, tree) {
+    match cut_of(alloc, tree) {
         Err(CutFault::CatalogueFull(path)) => Ok(Some(path.text(alloc)?)),
         Err(fault) => Err(fault.into()),
         Ok(_) => Ok(None),
@@ -217,7 +224,7 @@ fn full_cut(alloc: Global, tree: &Tree) -> Result<Option<String>, Fail> {
 
 /// Trees, and paths at which they are to be cut: how many rows and nested entries the catalogue above gets, how many catalogues
 /// the part has, and the id of the one nested in no other of them.
-const PARTS: [(&str, &str, usize, usize, usize, &str); 6] = [
+static PARTS: [(&str, &str, usize, usize, usize, &str); 6] = [
     ("/a/ /a/b/ /a/b/f /c", "/a/b", 2, 0, 0, ""),
     (
         "/a/ /a/b/ /a/b/.cvmfscatalog /a/b/c/ /a/b/c/.cvmfscatalog /a/b/c/f",
@@ -247,46 +254,83 @@ const PARTS: [(&str, &str, usize, usize, usize, &str); 6] = [
     ("/a/ /a/f", "/a/g", 0, 0, 0, ""),
 ];
 
+/// What is cut of a part that stands alone at a path.
+#[tactic(auto, using(cv_cut::proofs::Lemmas::ready_of))]
+fn alone_cut(alloc: Global, path: &RepoPath, part: Option<&Part>) -> Result<PieceCut, Fail>
+    requires below { path.now ≢ [] }
+    requires unmarked { ends_in marker path.now ≡ false }
+    requires limits { FitsUnder path.now (nodes_of (option_copied part)) }
+{
+    let alone = alone(alloc, path, part)?;
+    let piece = piece_at(alloc, alone, path)?;
+    Ok(cut_piece(alloc, &piece)?)
+}
+
 /// What is cut of the part that a tree has at a path.
-#[tactic(auto, using(cv_cut::proofs::Lemmas::fits_subtree, cv_cut::proofs::Lemmas::ready_of))]
+#[tactic(auto, using(cv_cut::proofs::Lemmas::fits_subtree))]
 fn part_cut(alloc: Global, text: &str, at: &str) -> Result<PieceCut, Fail> {
-    let tree = tree_of(alloc, Modes::Usual, text)?;
     let path = RepoPath::read(alloc, at)?;
     if path.names().is_empty() || ends_in_marker(&path) {
         return Err(Fail::new("no path of a part"));
     }
+    let tree = tree_of(alloc, Modes::Usual, text)?;
     let _tree = tree.get(&path);
     let part = tree.subtree(alloc, &path)?;
-    let alone = alone(alloc, &path, part.as_ref())?;
-    let piece = piece_at(alloc, alone, &path)?;
-    Ok(cut_piece(alloc, &piece)?)
+    alone_cut(alloc, &path, part.as_ref())
+}
+
+/// How many rows and nested entries the catalogue above gets, how many catalogues the part has, and the id of the last.
+fn part_seen(
+    alloc: Global,
+    text: &str,
+    at: &str,
+) -> Result<(usize, usize, usize, Option<ObjectId>), Fail> {
+    let made = part_cut(alloc, text, at)?;
+    let catalogues = made.catalogues.as_slice();
+    let last = match catalogues.last() {
+        Some(object) => Some(object.id),
+        None => None,
+    };
+    let (rows, nested) = (made.rows.as_slice().len(), made.nested.as_slice().len());
+    Ok((rows, nested, catalogues.len(), last))
 }
 
 #[test]
 fn parts_are_cut_so(rt: HostRuntime) -> Result<(), Fail> {
     for (text, at, rows, nested, catalogues, last) in &PARTS {
-        let made = part_cut(rt.alloc(), text, at)?;
-        assert!(rt; made.rows.as_slice().len() == *rows);
-        assert!(rt; made.nested.as_slice().len() == *nested);
-        assert!(rt; made.catalogues.as_slice().len() == *catalogues);
-        let id = match made.catalogues.as_slice().last() {
-            Some(object) => Some(object.id),
-            None => None,
-        };
-        assert!(rt; id == ObjectId::read(last));
+        let expected = (*rows, *nested, *catalogues, ObjectId::read(last));
+        assert!(rt;
+            part_seen(rt.alloc(), text, at)? == expected,
+            "at {at} of {text}"
+        );
     }
     Ok(())
 }
 
+/// The numbers of files that are added to a directory, and which cut is full then. The rows of the directory and of its marker
+/// are there already.
+static FULL: [(u32, u32, Option<&str>); 2] = [
+    (2, MOST_ROWS, None),
+    (MOST_ROWS, MOST_ROWS + 1, Some("/d")),
+];
+
+/// Adds files to a directory of a tree, and gives the cut that is full then.
+fn full_cut_with(
+    alloc: Global,
+    tree: &mut Tree,
+    first: u32,
+    end: u32,
+) -> Result<Option<String>, Fail> {
+    add_files(alloc, tree, "/d", first, end)?;
+    full_cut(alloc, tree)
+}
+
 #[test]
 fn a_nested_catalogue_of_too_many_rows_is_full(rt: HostRuntime) -> Result<(), Fail> {
-    let alloc = rt.alloc();
-
-    // The rows of the directory and of its marker are there already.
-    let mut tree = tree_of(alloc, Modes::Usual, "/d/ /d/.cvmfscatalog")?;
-    add_files(alloc, &mut tree, "/d", 2, MOST_ROWS)?;
-    assert!(&rt; full_cut(alloc, &tree)?.is_none());
-    add_files(alloc, &mut tree, "/d", MOST_ROWS, MOST_ROWS + 1)?;
-    assert_eq!(&rt; full_cut(alloc, &tree)?.as_deref(), Some("/d"));
+    let mut tree = tree_of(rt.alloc(), Modes::Usual, "/d/ /d/.cvmfscatalog")?;
+    for (first, end, cut) in &FULL {
+        let full = full_cut_with(rt.alloc(), &mut tree, *first, *end)?;
+        assert_eq!(&rt; full.as_deref(), *cut);
+    }
     Ok(())
 }

@@ -1,11 +1,12 @@
 //! Grafts against the cutting of the whole tree by another program, that of `tools/graft_vectors.py`.
-ghost use Rattle.std.specs.Prelude.{◌≡◌, IfOk};
+ghost use Rattle.std.specs.Prelude.{◌≡◌, false, IfOk};
+ghost use Rattle.cv_base.specs.Marker.{marker, ends_in};
 ghost use Rattle.cv_base.specs.declared.id.Kind.TheVariants as id_kind;
 
 use cv_base::{Kind, Object, ObjectId, RepoPath, ends_in_marker};
-use cv_cut::cut;
+use cv_cut::{LoadFault, cut};
 use cv_graft::{GraftFault, Grafted, directory_at, graft, place};
-use cv_ports::MemoryShelf;
+use cv_ports::{MemoryShelf, Shelf};
 use cv_samples::{Modes, file, tree_of};
 use cv_tree::Tree;
 use std::alloc::Global;
@@ -16,7 +17,7 @@ use std::test::*;
 ///
 /// Trees are texts of their paths, in which `/d/` is a directory and anything else a file whose content is the text of its
 /// path.
-const GRAFTS: [(&str, &str, &str, &str, usize, usize); 9] = [
+static GRAFTS: [(&str, &str, &str, &str, usize, usize); 9] = [
     (
         "/a/ /a/f /b",
         "/a",
@@ -92,7 +93,7 @@ const GRAFTS: [(&str, &str, &str, &str, usize, usize); 9] = [
 ];
 
 /// A newest tree in which the path's parent is no directory, the path, and an offered tree.
-const PARENTLESS: [(&str, &str, &str); 5] = [
+static PARENTLESS: [(&str, &str, &str); 5] = [
     ("/b", "/a/x", "/a/ /a/x"),
     ("/a /b", "/a/x", "/a/ /a/x"),
     ("/b", "/a/x", "/a/"),
@@ -108,7 +109,7 @@ const PARENTLESS: [(&str, &str, &str); 5] = [
 const PLACES: &str = "/a/ /a/.cvmfscatalog /a/b/ /a/b/x /c";
 
 /// Whether a path is a directory of it.
-const DIRECTORIES: [(&str, bool); 9] = [
+static DIRECTORIES: [(&str, bool); 9] = [
     ("/", true),
     ("/a", true),
     ("/a/b", true),
@@ -120,24 +121,57 @@ const DIRECTORIES: [(&str, bool); 9] = [
     ("/b", false),
 ];
 
-/// Adds the catalogues of a tree, and gives the root's id.
-fn add_cut(alloc: Global, objects: &mut Vec<Object>, tree: &Tree) -> Result<ObjectId, Fail>
-    ensures { IfOk result (λ id. id.kind ≡ id_kind.Catalogue) }
+/// The id of the catalogue of a hash.
+fn root_of(hash: [u8; 20]) -> ObjectId
+    ensures { result.kind ≡ id_kind.Catalogue }
 {
-    let made = cut(alloc, tree)?;
-    let hash = made.root.hash;
-    for object in made.catalogues.into_vec() {
-        objects.push(object)?;
-    }
     let kind = Kind::Catalogue;
-    Ok(ObjectId { hash, kind })
+    ObjectId { hash, kind }
 }
 
-/// The same of the tree that a text says.
-fn add_catalogues(alloc: Global, objects: &mut Vec<Object>, text: &str) -> Result<ObjectId, Fail>
-    ensures { IfOk result (λ id. id.kind ≡ id_kind.Catalogue) }
+/// The hash of the root of a tree, and all its catalogues.
+fn cut_of(alloc: Global, tree: &Tree) -> Result<([u8; 20], Vec<Object>), Fail> {
+    let made = cut(alloc, tree)?;
+    let hash = made.root.hash;
+    Ok((hash, made.catalogues.into_vec()))
+}
+
+/// Adds the catalogues of the tree that a text says, and gives the root's hash.
+fn add_catalogues(alloc: Global, objects: &mut Vec<Object>, text: &str) -> Result<[u8; 20], Fail> {
+    let (root, catalogues) = cut_of(alloc, &tree_of(alloc, Modes::Usual, text)?)?;
+    for object in catalogues {
+        objects.push(object)?;
+    }
+    Ok(root)
+}
+
+/// The shelf of these objects.
+fn shelf_of(alloc: Global, objects: Vec<Object>) -> Result<MemoryShelf, Fail> {
+    Ok(MemoryShelf::new(alloc, objects, Vec::new(alloc))?)
+}
+
+/// The path of a text, of which the last name isn't that of a marker.
+fn path_of(alloc: Global, text: &str) -> Result<RepoPath, Fail>
+    ensures { IfOk result (λ path. ends_in marker path ≡ false) }
 {
-    add_cut(alloc, objects, &tree_of(alloc, Modes::Usual, text)?)
+    let path = RepoPath::read(alloc, text)?;
+    if ends_in_marker(&path) {
+        return Err(Fail::new("a marker"));
+    }
+    Ok(path)
+}
+
+/// What a graft of the tree of one root into that of another answers.
+fn graft_over<S: Shelf>(
+    alloc: Global,
+    shelf: &mut S,
+    newest: [u8; 20],
+    offered: [u8; 20],
+    path: &RepoPath,
+) -> Result<Grafted, GraftFault>
+    requires { ends_in marker path.now ≡ false }
+{
+    graft(alloc, shelf, &root_of(newest), &root_of(offered), path)
 }
 
 /// What a graft answers.
@@ -147,31 +181,27 @@ fn graft_answer(
     at: &str,
     offered: &str,
 ) -> Result<Result<Grafted, GraftFault>, Fail> {
+    let path = path_of(alloc, at)?;
     let mut objects = Vec::new(alloc);
     let newest = add_catalogues(alloc, &mut objects, newest)?;
     let offered = add_catalogues(alloc, &mut objects, offered)?;
-    let mut shelf = MemoryShelf::new(alloc, objects, Vec::new(alloc))?;
-    let path = RepoPath::read(alloc, at)?;
-    if ends_in_marker(&path) {
-        return Err(Fail::new("a marker"));
-    }
-    Ok(graft(alloc, &mut shelf, &newest, &offered, &path))
+    let mut shelf = shelf_of(alloc, objects)?;
+    Ok(graft_over(alloc, &mut shelf, newest, offered, &path))
 }
 
-/// What a graft gives.
-fn grafted(alloc: Global, newest: &str, at: &str, offered: &str) -> Result<Grafted, Fail> {
-    match graft_answer(alloc, newest, at, offered)? {
-        Ok(grafted) => Ok(grafted),
+/// The root that a graft or a setting gives, and how many catalogues it made.
+fn outcome(grafted: Result<Grafted, GraftFault>) -> Result<(Option<ObjectId>, usize), Fail> {
+    match grafted {
+        Ok(grafted) => Ok((Some(grafted.root), grafted.added.as_slice().len())),
         Err(_) => Err(Fail::new("no graft")),
     }
 }
 
 #[test]
 fn a_graft_is_the_cut_of_the_tree(rt: HostRuntime) -> Result<(), Fail> {
-    for (newest, at, offered, root, made, _) in &GRAFTS {
-        let grafted = grafted(rt.alloc(), newest, at, offered)?;
-        assert!(rt; Some(grafted.root) == ObjectId::read(root));
-        assert!(rt; grafted.added.as_slice().len() == *made);
+    for (newest, at, offered, root, above, _) in &GRAFTS {
+        let made = outcome(graft_answer(rt.alloc(), newest, at, offered)?)?;
+        assert!(rt; made == (ObjectId::read(root), *above));
     }
     Ok(())
 }
@@ -185,46 +215,60 @@ fn a_path_whose_parent_went_away_is_not_grafted(rt: HostRuntime) -> Result<(), F
     Ok(())
 }
 
-/// What setting the offered tree's part gives, over a shelf of these objects.
+/// What setting what a tree has at a path gives, in the tree of a root.
 #[tactic(auto, using(cv_cut::proofs::Lemmas::fits_subtree, crate::proofs::Parts::root_subtree))]
-fn set(
+fn set<S: Shelf>(
     alloc: Global,
-    objects: Vec<Object>,
-    base: &ObjectId,
-    at: &str,
-    offered: &str,
+    shelf: &mut S,
+    base: [u8; 20],
+    path: &RepoPath,
+    tree: &Tree,
 ) -> Result<Result<Grafted, GraftFault>, Fail>
-    requires { base.now.kind ≡ id_kind.Catalogue }
+    requires { ends_in marker path.now ≡ false }
 {
-    let mut shelf = MemoryShelf::new(alloc, objects, Vec::new(alloc))?;
-    let path = RepoPath::read(alloc, at)?;
-    if ends_in_marker(&path) {
-        return Err(Fail::new("a marker"));
-    }
-    let tree = tree_of(alloc, Modes::Usual, offered)?;
-    let _root = tree.get(&path);
-    let part = tree.subtree(alloc, &path)?;
-    Ok(place(alloc, &mut shelf, base, &path, part.as_ref()))
+    let _root = tree.get(path);
+    let part = tree.subtree(alloc, path)?;
+    Ok(place(alloc, shelf, &root_of(base), path, part.as_ref()))
 }
 
-/// What setting the offered tree's part gives in a tree.
-fn placed(alloc: Global, base: &str, at: &str, offered: &str) -> Result<Grafted, Fail> {
+/// What setting the offered tree's part gives, in the tree of a root among these objects.
+fn set_answer(
+    alloc: Global,
+    objects: Vec<Object>,
+    base: [u8; 20],
+    at: &str,
+    offered: &str,
+) -> Result<Result<Grafted, GraftFault>, Fail> {
+    let path = path_of(alloc, at)?;
+    let tree = tree_of(alloc, Modes::Usual, offered)?;
+    let mut shelf = shelf_of(alloc, objects)?;
+    set(alloc, &mut shelf, base, &path, &tree)
+}
+
+/// What setting the offered tree's part in a tree gives.
+fn placed(
+    alloc: Global,
+    base: &str,
+    at: &str,
+    offered: &str,
+) -> Result<(Option<ObjectId>, usize), Fail> {
     let mut objects = Vec::new(alloc);
     let base = add_catalogues(alloc, &mut objects, base)?;
-    match set(alloc, objects, &base, at, offered)? {
-        Ok(placed) => Ok(placed),
-        Err(_) => Err(Fail::new("no place")),
-    }
+    outcome(set_answer(alloc, objects, base, at, offered)?)
 }
 
 #[test]
 fn a_placed_part_is_the_cut_of_the_tree(rt: HostRuntime) -> Result<(), Fail> {
     for (base, at, offered, root, above, brought) in &GRAFTS {
-        let placed = placed(rt.alloc(), base, at, offered)?;
-        assert!(rt; Some(placed.root) == ObjectId::read(root));
-        let made = placed.added.as_slice().len();
-        assert!(rt; made == above.saturating_add(*brought));
+        let made = above.saturating_add(*brought);
+        assert!(rt; placed(rt.alloc(), base, at, offered)? == (ObjectId::read(root), made));
     }
+    Ok(())
+}
+
+/// Adds a file at a path of this text.
+fn add_file(alloc: Global, tree: &mut Tree, text: &str) -> Result<(), Fail> {
+    tree.insert(&RepoPath::read(alloc, text)?, file(Modes::Usual, "f")?)?;
     Ok(())
 }
 
@@ -233,38 +277,53 @@ fn files(alloc: Global, count: usize) -> Result<Tree, Fail> {
     let mut tree = tree_of(alloc, Modes::Usual, "")?;
     for i in 0..count {
         let path = format!(in alloc; "/f{i}")?;
-        tree.insert(
-            &RepoPath::read(alloc, path.as_str())?,
-            file(Modes::Usual, "f")?,
-        )?;
+        add_file(alloc, &mut tree, path.as_str())?;
     }
     Ok(tree)
 }
 
 /// Whether the root's catalogue has no room for one more file beside so many.
 fn is_full(alloc: Global, count: usize) -> Result<bool, Fail> {
-    let mut objects = Vec::new(alloc);
-    let base = add_cut(alloc, &mut objects, &files(alloc, count)?)?;
-    match set(alloc, objects, &base, "/x", "/x")? {
+    let (base, objects) = cut_of(alloc, &files(alloc, count)?)?;
+    match set_answer(alloc, objects, base, "/x", "/x")? {
         Ok(_) => Ok(false),
         Err(GraftFault::CatalogueFull(cut)) => Ok(cut.names().is_empty()),
         Err(_) => Err(Fail::new("another fault")),
     }
 }
 
+/// How many files there are, and whether there is no room for one more.
+static FULL: [(usize, bool); 2] = [(49_998, false), (49_999, true)];
+
 #[test]
 fn a_catalogue_takes_no_more_than_50000_rows(rt: HostRuntime) -> Result<(), Fail> {
-    assert!(rt; !is_full(rt.alloc(), 49_998)?);
-    assert!(rt; is_full(rt.alloc(), 49_999)?);
+    for (count, is) in &FULL {
+        assert!(rt; is_full(rt.alloc(), *count)? == *is);
+    }
     Ok(())
+}
+
+/// Whether a path is a directory of the tree of a root.
+fn tells_directory<S: Shelf>(
+    alloc: Global,
+    shelf: &mut S,
+    root: [u8; 20],
+    path: &RepoPath,
+) -> Result<bool, LoadFault> {
+    directory_at(alloc, shelf, &root_of(root), path)
+}
+
+/// The shelf of the tree's catalogues, and the hash of the root.
+fn shelf_of_places(alloc: Global) -> Result<([u8; 20], MemoryShelf), Fail> {
+    let (root, objects) = cut_of(alloc, &tree_of(alloc, Modes::Usual, PLACES)?)?;
+    Ok((root, shelf_of(alloc, objects)?))
 }
 
 /// Whether a path is a directory of the tree.
 fn is_directory(alloc: Global, path: &str) -> Result<bool, Fail> {
-    let mut objects = Vec::new(alloc);
-    let root = add_catalogues(alloc, &mut objects, PLACES)?;
-    let mut shelf = MemoryShelf::new(alloc, objects, Vec::new(alloc))?;
-    match directory_at(alloc, &mut shelf, &root, &RepoPath::read(alloc, path)?) {
+    let path = RepoPath::read(alloc, path)?;
+    let (root, mut shelf) = shelf_of_places(alloc)?;
+    match tells_directory(alloc, &mut shelf, root, &path) {
         Ok(is) => Ok(is),
         Err(_) => Err(Fail::new("no answer")),
     }

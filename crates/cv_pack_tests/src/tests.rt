@@ -1,7 +1,6 @@
-use cv_base::{Kind, ObjectId};
+use cv_base::{Bytes, Kind, NoMemory, ObjectId};
 use cv_pack::{AddFault, Pack, PackFault, PackReader, PackWriter};
 use std::alloc::Global;
-use std::process::Abort;
 use std::test::*;
 
 // Expected values are those of tools/pack_vectors.py.
@@ -9,13 +8,13 @@ use std::test::*;
 const HEADER: &[u8] =
     b"V2\nS177\nN2\n--\nC f572d396fae9206628714fb2ce00f72e94f2258f 6\nC e6d2e652fce99490956f1126db1cc69c2babc5ceC 171\n";
 
-const HEADER_DIGEST: [u8; 20] = [
+static HEADER_DIGEST: [u8; 20] = [
     232, 82, 143, 9, 151, 72, 26, 6, 100, 64, 99, 221, 236, 170, 178, 248, 94, 163, 222, 55,
 ];
 
 const HELLO: &[u8] = b"hello\n";
 
-const CATALOGUE: [u8; 171] = [
+static CATALOGUE: [u8; 171] = [
     67, 86, 82, 49, 0, 0, 0, 2, 0, 0, 0, 0, 6, 57, 118, 127, 62, 158, 170, 215, 41, 181, 64, 55,
     167, 226, 171, 245, 212, 29, 140, 217, 143, 0, 178, 4, 233, 128, 9, 152, 236, 248, 66, 126, 0,
     0, 0, 4, 0, 0, 129, 164, 0, 0, 0, 0, 101, 83, 241, 0, 0, 0, 0, 0, 0, 0, 0, 0, 0, 0, 0, 0, 0, 0,
@@ -25,12 +24,12 @@ const CATALOGUE: [u8; 171] = [
     101, 83, 241, 0, 0, 0, 0, 0, 0, 0, 0, 0, 0, 0, 0, 0, 0, 0, 0, 0, 0, 0, 0, 0, 0,
 ];
 
-const EMPTY_DIGEST: [u8; 20] = [
+static EMPTY_DIGEST: [u8; 20] = [
     176, 138, 9, 199, 32, 194, 157, 1, 234, 197, 93, 137, 204, 193, 43, 173, 113, 134, 212, 95,
 ];
 
 // Each text shows the fault by its last byte.
-const FAULTS: [(&[u8], PackFault); 33] = [
+static FAULTS: [(&[u8], PackFault); 33] = [
     (b"X", PackFault::BadHeader(0)),
     (b"V2\r", PackFault::BadHeader(0)),
     (b"V2\nT", PackFault::BadHeader(3)),
@@ -116,116 +115,186 @@ fn two_objects(alloc: Global, first: &[u8]) -> Result<Vec<u8>, Fail> {
     Ok(pack)
 }
 
+/// What a reader answers to a piece.
+fn feed(reader: &mut PackReader, piece: &[u8]) -> Result<(), PackFault> {
+    reader.feed(piece)
+}
+
+/// What a reader gives in the end.
+fn finish(reader: PackReader) -> Result<Pack, PackFault> {
+    reader.finish()
+}
+
 /// What a pack in pieces of one byte gives.
 fn read_by_bytes(alloc: Global, bytes: &[u8]) -> Result<Pack, PackFault> {
     let mut reader = PackReader::new(alloc);
     for byte in bytes {
-        reader.feed(&[*byte])?;
+        feed(&mut reader, &[*byte])?;
     }
-    reader.finish()
+    finish(reader)
 }
 
 /// What a pack in one piece gives.
 fn read(alloc: Global, bytes: &[u8]) -> Result<Pack, PackFault> {
     let mut reader = PackReader::new(alloc);
-    reader.feed(bytes)?;
-    reader.finish()
+    feed(&mut reader, bytes)?;
+    finish(reader)
 }
 
-/// Sees that this is the pack of two objects.
-fn see_two_objects(rt: &impl Abort, pack: &Pack) {
-    assert_eq!(rt; pack.header, 107);
-    assert_eq!(rt; pack.digest, HEADER_DIGEST);
+/// The id of an object.
+fn id_of(kind: Kind, bytes: &[u8]) -> ObjectId {
+    ObjectId::of(kind, bytes)
+}
+
+/// Whether a pack has just these objects.
+fn holds(pack: &Pack, expected: &[(Kind, &[u8])]) -> bool {
     let objects = pack.objects.as_slice();
-    assert_eq!(rt; objects.len(), 2);
-    assert_eq!(rt; objects[0].id, ObjectId::of(Kind::Plain, HELLO));
-    assert_eq!(rt; objects[0].bytes.as_slice(), HELLO);
-    assert_eq!(rt; objects[1].id, ObjectId::of(Kind::Catalogue, &CATALOGUE));
-    assert_eq!(rt; objects[1].bytes.as_slice(), CATALOGUE.as_slice());
+    if objects.len() != expected.len() {
+        return false;
+    }
+    for (object, (kind, bytes)) in objects.iter().zip(expected) {
+        if object.id != id_of(*kind, bytes) || object.bytes.as_slice() != *bytes {
+            return false;
+        }
+    }
+    true
+}
+
+/// Whether a pack has a header of so many bytes and this digest, and just these objects.
+fn is_pack(pack: &Pack, header: u64, digest: &[u8; 20], objects: &[(Kind, &[u8])]) -> bool {
+    pack.header == header && pack.digest == *digest && holds(pack, objects)
+}
+
+/// Whether the pack of two objects is read.
+fn reads_two(alloc: Global, bytes: &[u8], by_bytes: bool) -> Result<bool, Fail> {
+    let pack = if by_bytes {
+        read_by_bytes(alloc, bytes)?
+    } else {
+        read(alloc, bytes)?
+    };
+    let objects = [
+        (Kind::Plain, HELLO),
+        (Kind::Catalogue, CATALOGUE.as_slice()),
+    ];
+    Ok(is_pack(&pack, 107, &HEADER_DIGEST, &objects))
 }
 
 #[test]
 fn reads_two_objects(rt: HostRuntime) -> Result<(), Fail> {
     let bytes = two_objects(rt.alloc(), HELLO)?;
     assert_eq!(rt; bytes.len(), 284);
-    let pack = read(rt.alloc(), &bytes).ok().ok_or("a pack in one piece")?;
-    see_two_objects(&rt, &pack);
-    let pack = read_by_bytes(rt.alloc(), &bytes)
-        .ok()
-        .ok_or("a pack by bytes")?;
-    see_two_objects(&rt, &pack);
+    for by_bytes in [false, true] {
+        assert!(rt; reads_two(rt.alloc(), &bytes, by_bytes)?);
+    }
     Ok(())
+}
+
+#[test]
+fn reads_no_objects(rt: HostRuntime) -> Result<(), Fail> {
+    let pack = read(rt.alloc(), b"V2\nS0\nN0\n--\n")?;
+    assert!(rt; is_pack(&pack, 12, &EMPTY_DIGEST, &[]));
+    Ok(())
+}
+
+/// The fault that these bytes show in one piece.
+fn fault_of(alloc: Global, bytes: &[u8]) -> Option<PackFault> {
+    read(alloc, bytes).err()
 }
 
 #[test]
 fn lacks_each_byte(rt: HostRuntime) -> Result<(), Fail> {
     let bytes = two_objects(rt.alloc(), HELLO)?;
     for end in 0..bytes.len() {
-        assert_eq!(rt;
-            read(rt.alloc(), &bytes[..end]).err(),
-            Some(PackFault::Short)
-        );
+        assert_eq!(rt; fault_of(rt.alloc(), &bytes[..end]), Some(PackFault::Short));
     }
     Ok(())
+}
+
+/// A first content, what stands behind all, and the fault that the pack of two objects shows then.
+static OTHERS: [(&[u8], &[u8], PackFault); 2] = [
+    (HELLO, b"\0", PackFault::Trailing),
+    (b"hellO\n", b"", PackFault::HashDiffers(0)),
+];
+
+/// The fault of the pack of two objects, with this as the first content and that behind all.
+fn fault_with(alloc: Global, first: &[u8], behind: &[u8]) -> Result<Option<PackFault>, Fail> {
+    let mut bytes = two_objects(alloc, first)?;
+    bytes.extend_from_slice(behind)?;
+    Ok(fault_of(alloc, &bytes))
 }
 
 #[test]
 fn refuses_other_bytes(rt: HostRuntime) -> Result<(), Fail> {
-    let mut longer = two_objects(rt.alloc(), HELLO)?;
-    longer.push(0)?;
-    assert_eq!(rt; read(rt.alloc(), &longer).err(), Some(PackFault::Trailing));
-    let other = two_objects(rt.alloc(), b"hellO\n")?;
-    assert_eq!(rt;
-        read(rt.alloc(), &other).err(),
-        Some(PackFault::HashDiffers(0))
-    );
-    Ok(())
-}
-
-#[test]
-fn reads_no_objects(rt: HostRuntime) -> Result<(), Fail> {
-    let pack = read(rt.alloc(), b"V2\nS0\nN0\n--\n")
-        .ok()
-        .ok_or("a pack of nothing")?;
-    assert_eq!(rt; pack.objects.as_slice().len(), 0);
-    assert_eq!(rt; pack.header, 12);
-    assert_eq!(rt; pack.digest, EMPTY_DIGEST);
-    Ok(())
-}
-
-/// Sees that the last byte of a text shows this fault, and that the fault stays.
-fn see_fault(rt: &impl Abort, alloc: Global, text: &[u8], fault: PackFault) -> Result<(), Fail> {
-    let (last, before) = text.split_last().ok_or("a text")?;
-    let mut reader = PackReader::new(alloc);
-    assert_eq!(rt; reader.feed(before), Ok(()));
-    assert_eq!(rt; reader.feed(&[*last]), Err(fault));
-    assert_eq!(rt; reader.feed(b"V2\n"), Err(fault));
-    assert_eq!(rt; reader.finish().err(), Some(fault));
-    assert_eq!(rt; read(alloc, text).err(), Some(fault));
-    Ok(())
-}
-
-#[test]
-fn shows_each_fault(rt: HostRuntime) -> Result<(), Fail> {
-    for (text, fault) in &FAULTS {
-        see_fault(&rt, rt.alloc(), text, *fault)?;
+    for (first, behind, fault) in &OTHERS {
+        assert_eq!(rt; fault_with(rt.alloc(), first, behind)?, Some(*fault));
     }
     Ok(())
 }
 
+/// What a reader answers to the bytes before the last one, to that one, to more bytes and at the end.
+fn answers(alloc: Global, before: &[u8], last: u8) -> [Option<PackFault>; 4] {
+    let mut reader = PackReader::new(alloc);
+    let first = feed(&mut reader, before).err();
+    let second = feed(&mut reader, &[last]).err();
+    let third = feed(&mut reader, b"V2\n").err();
+    [first, second, third, finish(reader).err()]
+}
+
+/// Whether the last byte of a text shows this fault, and the fault stays.
+fn shows(alloc: Global, text: &[u8], fault: PackFault) -> Result<bool, Fail> {
+    let (last, before) = text.split_last().ok_or("a text")?;
+    let shown = Some(fault);
+    let is_shown = answers(alloc, before, *last) == [None, shown, shown, shown];
+    Ok(is_shown && fault_of(alloc, text) == shown)
+}
+
+#[test]
+fn shows_each_fault(rt: HostRuntime) -> Result<(), Fail> {
+    for (number, (text, fault)) in FAULTS.iter().enumerate() {
+        assert!(rt; shows(rt.alloc(), text, *fault)?, "at {number}");
+    }
+    Ok(())
+}
+
+/// What adding these bytes as content answers. None where an object of their id is there already.
+fn add(writer: &mut PackWriter, bytes: &[u8]) -> Option<Result<(), AddFault>> {
+    let id = ObjectId::of(Kind::Plain, bytes);
+    if writer.has(&id) {
+        return None;
+    }
+    Some(writer.add(&id, bytes))
+}
+
+/// The same of a catalogue.
+fn add_catalogue(writer: &mut PackWriter, bytes: &[u8]) -> Option<Result<(), AddFault>> {
+    let id = ObjectId::of(Kind::Catalogue, bytes);
+    if writer.has(&id) {
+        return None;
+    }
+    Some(writer.add(&id, bytes))
+}
+
+/// What a writer gives in the end.
+fn finish_writing(writer: PackWriter) -> Result<Bytes, NoMemory> {
+    writer.finish()
+}
+
+/// The pack that is written of the two objects, if both are added.
+fn written(alloc: Global) -> Result<Option<Bytes>, Fail> {
+    let mut writer = PackWriter::new(alloc);
+    let first = add(&mut writer, HELLO);
+    let second = add_catalogue(&mut writer, &CATALOGUE);
+    if first != Some(Ok(())) || second != Some(Ok(())) {
+        return Ok(None);
+    }
+    Ok(Some(finish_writing(writer)?))
+}
+
 #[test]
 fn writes_two_objects(rt: HostRuntime) -> Result<(), Fail> {
-    let hello = ObjectId::of(Kind::Plain, HELLO);
-    let catalogue = ObjectId::of(Kind::Catalogue, &CATALOGUE);
-    let mut writer = PackWriter::new(rt.alloc());
-    assert_eq!(rt; writer.add(&hello, HELLO), Ok(()));
-    assert!(rt; !writer.has(&catalogue));
-    assert_eq!(rt; writer.add(&catalogue, &CATALOGUE), Ok(()));
-    let bytes = writer.finish().ok().ok_or("a pack")?;
-    assert_eq!(rt;
-        bytes.as_slice(),
-        two_objects(rt.alloc(), HELLO)?.as_slice()
-    );
+    let expected = two_objects(rt.alloc(), HELLO)?;
+    let bytes = written(rt.alloc())?.ok_or("not added")?;
+    assert_eq!(rt; bytes.as_slice(), expected.as_slice());
     Ok(())
 }
 
@@ -233,47 +302,31 @@ fn writes_two_objects(rt: HostRuntime) -> Result<(), Fail> {
 fn is_full_at_10_000_objects(rt: HostRuntime) {
     let mut writer = PackWriter::new(rt.alloc());
     for number in 0..10_001u32 {
-        let bytes = number.to_be_bytes();
-        let id = ObjectId::of(Kind::Plain, &bytes);
-        assert!(rt; !writer.has(&id));
         let expected = if number < 10_000 {
             Ok(())
         } else {
             Err(AddFault::Full)
         };
-        assert_eq!(rt; writer.add(&id, &bytes), expected);
+        let bytes = number.to_be_bytes();
+        assert_eq!(rt; add(&mut writer, &bytes), Some(expected));
     }
 }
 
-/// What adding so many bytes of one value answers.
-fn add_filled(
-    rt: &impl Abort,
-    writer: &mut PackWriter,
-    alloc: Global,
-    byte: u8,
-    size: usize,
-) -> Result<Result<(), AddFault>, Fail> {
-    let bytes = vec![in alloc; byte; size]?;
-    let id = ObjectId::of(Kind::Plain, &bytes);
-    assert!(rt; !writer.has(&id));
-    Ok(writer.add(&id, &bytes))
-}
+/// A value, how many bytes of it are added, and what that answers.
+static ADDS: [(u8, usize, Result<(), AddFault>); 5] = [
+    (0, 16_777_217, Err(AddFault::Full)),
+    (0, 16_777_216, Ok(())),
+    (1, 16_777_216, Ok(())),
+    (2, 1, Err(AddFault::Full)),
+    (2, 0, Ok(())),
+];
 
 #[test]
 fn is_full_at_the_limits_of_size(rt: HostRuntime) -> Result<(), Fail> {
     let mut writer = PackWriter::new(rt.alloc());
-    let adds = [
-        (0, 16_777_217, Err(AddFault::Full)),
-        (0, 16_777_216, Ok(())),
-        (1, 16_777_216, Ok(())),
-        (2, 1, Err(AddFault::Full)),
-        (2, 0, Ok(())),
-    ];
-    for (byte, size, expected) in adds {
-        assert_eq!(rt;
-            add_filled(&rt, &mut writer, rt.alloc(), byte, size)?,
-            expected
-        );
+    for (byte, size, expected) in &ADDS {
+        let bytes = vec![in rt.alloc(); *byte; *size]?;
+        assert_eq!(rt; add(&mut writer, &bytes), Some(*expected));
     }
     Ok(())
 }

@@ -6,15 +6,18 @@ use cv_ports::{MemorySink, Sink, Source};
 use cv_real::{StreamSink, StreamSource, SystemCalls};
 use cv_vault::{Vault, VaultFault};
 use std::alloc::{AllocError, Global};
+use std::fs::File;
 use std::process::Abort;
 use std::rt::Files;
 use std::test::Fail;
+use std::thread::Threads;
 use std::{fs, io};
 
-type Vaulted = FolderVault<SystemCalls<HostRuntime>>;
-
 // The vault over the folder at a path.
-fn vault_at(rt: HostRuntime, root: &str) -> Result<Vaulted, AllocError> {
+fn vault_at<R: Files<File = File> + AllocGlobal + Threads + Drop>(
+    rt: R,
+    root: &str,
+) -> Result<FolderVault<SystemCalls<R>>, AllocError> {
     FolderVault::new(rt.alloc(), SystemCalls::new(rt), root)
 }
 
@@ -336,6 +339,47 @@ fn a_first_sync_goes_over_each_folder(rt: HostRuntime) -> Result<(), Fail> {
         let left = left_in(rt.alloc(), number)?;
         assert!(rt; is_absent(&rt, left.as_str()), "{number}");
     }
+    Ok(())
+}
+
+// The name on its way of this number.
+fn way(alloc: Global, number: u32) -> Result<String, Fail> {
+    Ok(format!(in alloc; "txn/{number}")?)
+}
+
+// Whether so many files are written on their way, each with its name as its content.
+fn writes_ways<V: Vault>(alloc: Global, vault: &mut V, count: u32) -> Result<bool, Fail> {
+    for number in 0..count {
+        let name = way(alloc, number)?;
+        if writes(vault, name.as_str(), name.as_bytes()) != "yes" {
+            return Ok(false);
+        }
+    }
+    Ok(true)
+}
+
+// Whether these files stand there.
+fn has_ways<V: Vault>(alloc: Global, vault: &mut V, count: u32) -> Result<bool, Fail> {
+    for number in 0..count {
+        let name = way(alloc, number)?;
+        if has(vault, name.as_str(), name.as_bytes()) != "yes" {
+            return Ok(false);
+        }
+    }
+    Ok(true)
+}
+
+// More files on their way than wait for their syncs at once stand after a sync, in this process and in a later one.
+#[test]
+fn a_sync_ends_the_syncs_of_many_files(rt: HostRuntime) -> Result<(), Fail> {
+    begin(&rt, "begun")?;
+    let mut vault = vault_at(rt, "begun/srv")?;
+    assert!(rt; writes_ways(rt.alloc(), &mut vault, 1_100)?);
+    assert!(rt; syncs(&mut vault) == "yes");
+    drop(vault);
+    let mut later = vault_at(rt, "begun/srv")?;
+    assert!(rt; syncs(&mut later) == "yes");
+    assert!(rt; has_ways(rt.alloc(), &mut later, 1_100)?);
     Ok(())
 }
 

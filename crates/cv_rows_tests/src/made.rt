@@ -51,6 +51,13 @@ pub(crate) fn of(alloc: Global, text: &str) -> Result<String, Fail> {
     made_text(alloc, made)
 }
 
+/// Why nothing was added, and the catalogue that comes back.
+fn refused_text(alloc: Global, back: &Catalogue, fault: WithFault) -> Result<String, Fail> {
+    let fault = fault_text(alloc, fault)?;
+    let back = digits(alloc, back)?;
+    Ok(format!(in alloc; "{fault} {back}")?)
+}
+
 /// Why the rows of the root's directory aren't added once more, and what comes back.
 pub(crate) fn with(alloc: Global, text: &str) -> Result<String, Fail> {
     let at = RepoPath::root(alloc);
@@ -58,12 +65,7 @@ pub(crate) fn with(alloc: Global, text: &str) -> Result<String, Fail> {
     let more = whole.children(alloc, at.key())?;
     match whole.with(alloc, more, Vec::new(alloc)) {
         Ok(made) => digits(alloc, &made),
-        Err((back, fault)) => {
-            let mut text = fault_text(alloc, fault)?;
-            text.push(' ')?;
-            text.push_str(digits(alloc, &back)?.as_str())?;
-            Ok(text)
-        }
+        Err((back, fault)) => refused_text(alloc, &back, fault),
     }
 }
 

@@ -3,7 +3,7 @@
 use cv_base::Name;
 use cv_client::Url;
 use cv_manifest::{Head, Manifest};
-use cv_ports::{MemoryDial, MemoryLink, MemorySink, MemorySource};
+use cv_ports::{Dial, MemoryDial, MemoryLink, MemorySink, MemorySource, Sink, Source};
 use cv_resolver::Resolver;
 use cv_seal::KeyedHash;
 use cv_shell::{ShellEnd, shell};
@@ -37,13 +37,19 @@ const INPUT: &[u8] =
 const OUTPUT: &[u8] =
     b"names 2\nf\nl\nfile 0644 0 0 6 1700000000\nlink 0777 0 0 1 1700000000 -> f\nbytes 6\nhello\n\nrefused: not a directory\nrefused: not a file\nrefused: not found\nrefused: not served f572d396fae9206628714fb2ce00f72e94f2258f\nrefused: bad object f572d396fae9206628714fb2ce00f72e94f2258f\nrefused: bad line\nrefused: bad line\nrefused: bad line\nrefused: bad line\nrefused: bad line\nrefused: older\nrefused: forked\nrefused: other repository\nrefused: bad manifest\nrevision 6\nrefused: bad catalogue c911297212d955d650502555d84de2c922b6e4f9C\nrevision 7\nnames 2\nf\nl\n";
 
+/// A link that gives a reply.
+fn link_of(alloc: Global, reply: &[u8]) -> Result<MemoryLink, Fail> {
+    let bytes = Vec::from_slice(alloc, reply)?;
+    let reads = MemorySource::new(bytes, 16, Vec::new(alloc));
+    let writes = MemorySink::new(alloc, 4096, Vec::new(alloc))?;
+    Ok(MemoryLink::new(alloc, reads, writes)?)
+}
+
 /// A dial that gives one link for each of these replies.
 fn dial_of(alloc: Global, replies: &[&[u8]]) -> Result<MemoryDial, Fail> {
     let mut links = Vec::new(alloc);
     for reply in replies {
-        let reads = MemorySource::new(Vec::from_slice(alloc, reply)?, 16, Vec::new(alloc));
-        let writes = MemorySink::new(alloc, 4096, Vec::new(alloc))?;
-        links.push(MemoryLink::new(alloc, reads, writes)?)?;
+        links.push(link_of(alloc, reply)?)?;
     }
     Ok(MemoryDial::new(alloc, links, Vec::new(alloc))?)
 }
@@ -66,39 +72,65 @@ fn pinned(alloc: Global) -> Result<Resolver, Fail> {
     Ok(Resolver::new(alloc, manifest, 8)?)
 }
 
-/// How a shell ends over this input, where the read of this number fails (none for 0), and an output with so much room.
-fn end_of(
+/// Where the repository is served, and its seal.
+fn server(alloc: Global) -> Result<(Url, KeyedHash), Fail> {
+    let seal = String::from_str(alloc, "seal")?;
+    let url = Url::read(alloc, "http://h/cvmfs/r")?.ok_or("no URL")?;
+    Ok((url, KeyedHash::new(seal)))
+}
+
+/// An input of these bytes, of which the read of this number fails (none for 0).
+fn input_of(alloc: Global, bytes: &[u8], failing: u64) -> Result<MemorySource, Fail> {
+    let failing = Vec::from_slice(alloc, &[failing])?;
+    let bytes = Vec::from_slice(alloc, bytes)?;
+    Ok(MemorySource::new(bytes, 4096, failing))
+}
+
+/// How a shell ends.
+fn run<N: Dial, R: Source<Beside = W> + Drop, W: Sink>(
+    alloc: Global,
+    dial: &mut N,
+    server: &(Url, KeyedHash),
+    resolver: &mut Resolver,
+    input: R,
+    output: &mut W,
+) -> ShellEnd {
+    let (end, _) = shell(alloc, dial, &server.0, &server.1, resolver, input, output);
+    end
+}
+
+/// How a shell over a dial ends that is pinned at revision 5.
+fn run_pinned<N: Dial, R: Source<Beside = W> + Drop, W: Sink>(
+    alloc: Global,
+    dial: &mut N,
+    input: R,
+    output: &mut W,
+) -> Result<ShellEnd, Fail> {
+    let server = server(alloc)?;
+    let mut resolver = pinned(alloc)?;
+    Ok(run(alloc, dial, &server, &mut resolver, input, output))
+}
+
+/// How a shell ends over this input, where the read of this number fails (none for 0), and what has passed of an output with so
+/// much room.
+fn ended(
     alloc: Global,
     replies: &[&[u8]],
     input: &[u8],
     failing: u64,
-    output: &mut MemorySink,
-) -> Result<ShellEnd, Fail> {
+    room: usize,
+) -> Result<(ShellEnd, Vec<u8>), Fail> {
+    let input = input_of(alloc, input, failing)?;
     let mut dial = dial_of(alloc, replies)?;
-    let url = Url::read(alloc, "http://h/cvmfs/r")?.ok_or("no URL")?;
-    let signer = KeyedHash::new(String::from_str(alloc, "seal")?);
-    let mut resolver = pinned(alloc)?;
-    let failing = Vec::from_slice(alloc, &[failing])?;
-    let input = MemorySource::new(Vec::from_slice(alloc, input)?, 4096, failing);
-    let (end, _) = shell(
-        alloc,
-        &mut dial,
-        &url,
-        &signer,
-        &mut resolver,
-        input,
-        output,
-    );
-    Ok(end)
+    let mut output = MemorySink::new(alloc, room, Vec::new(alloc))?;
+    let end = run_pinned(alloc, &mut dial, input, &mut output)?;
+    Ok((end, Vec::from_slice(alloc, output.passed())?))
 }
 
 #[test]
 fn lines_are_answered_in_order(rt: HostRuntime) -> Result<(), Fail> {
-    let alloc = rt.alloc();
-    let mut output = MemorySink::new(alloc, 4096, Vec::new(alloc))?;
-    let end = end_of(alloc, &REPLIES, INPUT, 0, &mut output)?;
-    assert!(rt; end == ShellEnd::Ended);
-    assert!(rt; output.passed() == OUTPUT);
+    let (end, passed) = ended(rt.alloc(), &REPLIES, INPUT, 0, 4096)?;
+    assert!(rt; end == ShellEnd::Ended && passed.as_slice() == OUTPUT);
     Ok(())
 }
 
@@ -112,36 +144,31 @@ static ENDS: [(&[u8], u64, usize, ShellEnd); 4] = [
 
 #[test]
 fn faults_end_the_shell(rt: HostRuntime) -> Result<(), Fail> {
-    let alloc = rt.alloc();
     for (input, failing, room, end) in &ENDS {
-        let mut output = MemorySink::new(alloc, *room, Vec::new(alloc))?;
-        let found = end_of(alloc, &[], input, *failing, &mut output)?;
+        let (found, _) = ended(rt.alloc(), &[], input, *failing, *room)?;
         assert!(rt; found == *end);
     }
     Ok(())
 }
 
+/// The text for a line that isn't one.
+const REFUSED: &[u8] = b"refused: bad line\n";
+
 #[test]
 fn a_bad_reply_ends_the_shell(rt: HostRuntime) -> Result<(), Fail> {
-    let alloc = rt.alloc();
-    let mut output = MemorySink::new(alloc, 64, Vec::new(alloc))?;
-    let end = end_of(alloc, &[b"hello"], b"x\nrenew\nx\n", 0, &mut output)?;
-    assert!(rt; end == ShellEnd::BadReply);
-    assert!(rt; output.passed() == b"refused: bad line\n".as_slice());
+    let (end, passed) = ended(rt.alloc(), &[b"hello"], b"x\nrenew\nx\n", 0, 64)?;
+    assert!(rt; end == ShellEnd::BadReply && passed.as_slice() == REFUSED);
     Ok(())
 }
 
 #[test]
 fn a_line_has_8192_bytes_at_most(rt: HostRuntime) -> Result<(), Fail> {
-    let alloc = rt.alloc();
-    let mut line = vec![in alloc; b'x'; 8_192]?;
+    let mut line = vec![in rt.alloc(); b'x'; 8_192]?;
     line.push(b'\n')?;
-    let mut output = MemorySink::new(alloc, 64, Vec::new(alloc))?;
-    let end = end_of(alloc, &[], line.as_slice(), 0, &mut output)?;
-    assert!(rt; end == ShellEnd::Ended);
-    assert!(rt; output.passed() == b"refused: bad line\n".as_slice());
+    let (end, passed) = ended(rt.alloc(), &[], line.as_slice(), 0, 64)?;
+    assert!(rt; end == ShellEnd::Ended && passed.as_slice() == REFUSED);
     line.insert(0, b'x')?;
-    let end = end_of(alloc, &[], line.as_slice(), 0, &mut output)?;
+    let (end, _) = ended(rt.alloc(), &[], line.as_slice(), 0, 64)?;
     assert!(rt; end == ShellEnd::TooLong);
     Ok(())
 }

@@ -1,4 +1,0 @@
-use Rattle.cv_leases_tests.proofs.tests.leases_are_found_and_end.Given as goal
-
-abbrev pub ghosts-all_leases : goal.ghosts-all_leases
-ghosts-all_leases g a = record { name = a.blank.name; parts = a.blank.parts }
