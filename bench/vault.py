@@ -92,7 +92,7 @@ def traced(runs, names, top):
         for path in FSYNC.findall(file.read()):
             if path.startswith(top + os.sep):
                 number = int(path[len(top) + 1 :].split(os.sep)[0])
-                counts[number][not path.endswith(".cvkit-next")] += 1
+                counts[number][not os.path.basename(path).startswith(".cvkit-")] += 1
     return counts, [int(word) / 1e9 for word in told[-3:]]
 
 

@@ -160,13 +160,14 @@ def contents_by_shell(place, files):
     lines = "".join(f"cat {AT}/{path}\n" for path in files).encode()
     status, output, line = place.run("shell", place.url, given=lines)
     expect(status == 0, "the shell", line)
+    at = 0
     for path in files:
-        head, _, output = output.partition(b"\n")
+        end = output.find(b"\n", at)
+        head = output[at:end]
         expect(head.startswith(b"bytes "), f"the shell's answer on {path}", head)
-        size = int(head[6:])
-        content, output = output[:size], output[size + 1 :]
-        yield path, content
-    expect(output == b"", "the shell's last answer", output[:80])
+        at = end + 1 + int(head[6:]) + 1
+        yield path, output[end + 1 : at - 1]
+    expect(at == len(output), "the shell's last answer", output[at : at + 80])
 
 
 def look_at_entries(place, first, taken):

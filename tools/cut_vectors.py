@@ -122,7 +122,7 @@ def item():
         total = sum(len(data) for data in made.values())
         root = made[""]
         rows.append(f'("{text}", "{hashlib.sha1(root).hexdigest()}C", {len(root)}, {len(made)}, {total})')
-    return table("TREES", "(&str, &str, u64, usize, usize)", rows)
+    return table("TREES", "(&str, &str, u64, usize, usize)", rows, "static")
 
 
 def covers(path, other):
@@ -140,7 +140,7 @@ def part(nodes, path):
 
 def part_item():
     rows = [f'("{text}", "{path}", {", ".join(map(str, part(read(text), path)[:3]))}, "{part(read(text), path)[3]}")' for text, path in PARTS]
-    return table("PARTS", "(&str, &str, usize, usize, usize, &str)", rows)
+    return table("PARTS", "(&str, &str, usize, usize, usize, &str)", rows, "static")
 
 
 if __name__ == "__main__":

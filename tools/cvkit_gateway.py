@@ -1,8 +1,8 @@
 """What the scripts share that publish by the program's own client: a listener in front of one `cvkit stdio`.
 
 The program serves one connection, and leases last as long as its process: so the listener takes connections one after another,
-reads one request of each, and passes it on to the one process without its `Connection` field, by which a session would end. The
-reply goes back as it came, and the connection ends.
+and passes one request of each on to the one process as it comes, without its `Connection` field, by which a session would end.
+The reply goes back as it came, and the connection ends.
 """
 import contextlib
 import socket
@@ -12,29 +12,43 @@ from cvkit_client import REPOSITORIES, Session, Wrong, expect
 
 # The seconds in which an answer has to come, and in which a peer has to send its request.
 PATIENCE = 300
+# The most bytes that are passed on at once.
+PIECE = 1 << 18
 
 
-def read_request(link):
-    """The head of the request that a connection has, without its Connection field, and its body. None where it has none."""
+def read_head(link):
+    """The lines of the head of the request that a connection has, and the bytes that came behind it. None where it has none."""
     held = b""
     while b"\r\n\r\n" not in held:
-        data = link.recv(1 << 20)
+        data = link.recv(PIECE)
         if not data:
             return None
         held += data
-    head, _, body = held.partition(b"\r\n\r\n")
-    lines = head.split(b"\r\n")
-    sizes = [int(line.split(b":")[1]) for line in lines if line.lower().startswith(b"content-length:")]
-    size, pieces = sum(sizes), [body]
-    held = len(body)
-    while held < size:
-        data = link.recv(1 << 20)
-        if not data:
-            return None
-        pieces.append(data)
-        held += len(data)
-    kept = [line for line in lines if not line.lower().startswith(b"connection:")]
-    return b"\r\n".join(kept) + b"\r\n\r\n" + b"".join(pieces)
+    head, _, behind = held.partition(b"\r\n\r\n")
+    return head.split(b"\r\n"), behind
+
+
+def is_field(line, name):
+    return line.lower().startswith(name + b":")
+
+
+def passed(lines):
+    """A head as it is passed on, without its Connection field, and how many bytes its body has."""
+    kept = [line for line in lines if not is_field(line, b"connection")]
+    size = sum(int(line.split(b":")[1]) for line in lines if is_field(line, b"content-length"))
+    return b"\r\n".join(kept) + b"\r\n\r\n", size
+
+
+def pass_on(link, session, lines, behind):
+    """Passes the request of a connection on as it comes."""
+    head, size = passed(lines)
+    session.send(head + behind)
+    left = size - len(behind)
+    while left > 0:
+        data = link.recv(min(left, PIECE))
+        expect(data, "a connection ended inside a body", left)
+        session.send(data)
+        left -= len(data)
 
 
 def written(reply):
@@ -46,10 +60,11 @@ def written(reply):
 def answer(link, session, asked):
     """Passes the request of a connection on, and its reply back."""
     link.settimeout(PATIENCE)
-    request = read_request(link)
-    if request is not None:
-        asked.append(request.split(b"\r\n", 1)[0].decode())
-        session.send(request)
+    read = read_head(link)
+    if read is not None:
+        lines, behind = read
+        asked.append(lines[0].decode())
+        pass_on(link, session, lines, behind)
         link.sendall(written(session.reply(PATIENCE)))
 
 

@@ -7,6 +7,7 @@ Digests are made by hashlib, signatures by hmac.
 """
 import hashlib
 import hmac
+import itertools
 import json
 import re
 
@@ -212,10 +213,16 @@ def row(desk, piece, reading, writing, exchanges, end):
     return line(desk, piece, reading, writing, asked, said, end, told, *counts)
 
 
+def with_holds(told):
+    """What was asked, with each store behind how many holds: a session is held where a payload was read, before it's stored."""
+    holds = itertools.count(1)
+    return re.sub("store [^;]*", lambda store: f"{store[0]} behind {next(holds)} holds", told)
+
+
 def line(desk, piece, reading, writing, asked, said, end, told, payloads=0, leases=0):
     given = f"{desk}|{piece}|{reading}|{writing}|{in_line(asked.encode())}"
     said = said if isinstance(said, bytes) else said.encode()
-    return given, f"{in_line(said)}|{end}|{told}|{payloads} {leases}"
+    return given, f"{in_line(said)}|{end}|{with_holds(told)}|{payloads} {leases}"
 
 
 # ---- requests one by one

@@ -54,10 +54,10 @@ def items():
         made = sum(is_made(nodes, path, at) for path in nodes)
         brought = sum(is_brought(nodes, path, at) for path in nodes)
         rows.append(f'("{newest}", "{at}", "{offered}", "{root}C", {made}, {brought})')
-    yield table("GRAFTS", "(&str, &str, &str, &str, usize, usize)", rows)
+    yield table("GRAFTS", "(&str, &str, &str, &str, usize, usize)", rows, "static")
     there = read(PLACES)
     kinds = [there.get(path.rstrip("/"), ("none",))[0] for path in PATHS]
-    yield table("DIRECTORIES", "(&str, bool)", [f'("{path}", {str(kind == "dir").lower()})' for path, kind in zip(PATHS, kinds)])
+    yield table("DIRECTORIES", "(&str, bool)", [f'("{path}", {str(kind == "dir").lower()})' for path, kind in zip(PATHS, kinds)], "static")
     yield f'const PLACES: &str = "{PLACES}";'
 
 

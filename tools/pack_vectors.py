@@ -159,10 +159,10 @@ settle(
     "crates/cv_pack_tests/src/tests.rt",
     [
         constant("HEADER", "&[u8]", literal(header)),
-        constant("HEADER_DIGEST", "[u8; 20]", numbers(hashlib.sha1(header).digest())),
+        constant("HEADER_DIGEST", "[u8; 20]", numbers(hashlib.sha1(header).digest()), "static"),
         constant("HELLO", "&[u8]", literal(hello)),
-        constant("CATALOGUE", "[u8; 171]", numbers(catalogue)),
-        constant("EMPTY_DIGEST", "[u8; 20]", numbers(hashlib.sha1(empty_header).digest())),
-        table("FAULTS", "(&[u8], PackFault)", [shown(data) for data in TABLE]),
+        constant("CATALOGUE", "[u8; 171]", numbers(catalogue), "static"),
+        constant("EMPTY_DIGEST", "[u8; 20]", numbers(hashlib.sha1(empty_header).digest()), "static"),
+        table("FAULTS", "(&[u8], PackFault)", [shown(data) for data in TABLE], "static"),
     ],
 )
