@@ -1,5 +1,5 @@
 //! A source, with what it gave and nothing was made of yet.
-ghost use Rattle.std.specs.Prelude.{◌≡◌, ◌≤◌, ◌<◌, ◌+◌, ◌⊎◌, Ok, Err, [], length, drop, true, false, OnErr};
+ghost use Rattle.std.specs.Prelude.{◌≡◌, ◌≤◌, ◌<◌, ◌+◌, ◌⊎◌, ◌≢◌, Ok, Err, [], length, drop, true, false, OnErr};
 ghost use Rattle.cv_base.specs.Counts.{HasCause};
 ghost use Rattle.cv_ports.specs.Streams.{Look, front};
 ghost use Rattle.cv_http.specs.Wires.{rest, Looks, Beside, HasEnded, Gets};
@@ -69,6 +69,7 @@ fn read_piece<R: Source>(
     ensures most { length held.new.items ≤ length held.old.items + length piece.old }
     ensures lost { OnErr result (held.new.items ≡ held.old.items) }
     ensures end { result ≡ Ok false → (held.new.items ≡ held.old.items) × HasEnded (R.left source.new) }
+    ensures no_read_failed { result ≢ Err ReadFault → R.faults source.new ≡ R.faults source.old }
     ensures cause { HasCause (R.faults source.old) (R.faults source.new) (result ≡ Err ReadFault) }
     ensures looks { (look : Look) → R.looks source.new look
         → R.looks source.old look ⊎ (look ≡ record { left = R.left source.old; passed = R.Beside.passed beside.now }) }
@@ -126,6 +127,7 @@ impl<R: Source + Drop> Buffer<R> {
         ensures most { length self.new.held ≤ length self.old.held + PIECE }
         ensures lost { OnErr result (self.new.held ≡ self.old.held) }
         ensures end { result ≡ Ok false → (self.new.held ≡ self.old.held) × HasEnded (R.left self.new.source) }
+        ensures no_read_failed { result ≢ Err ReadFault → R.faults self.new.source ≡ R.faults self.old.source }
         ensures cause { HasCause (R.faults self.old.source) (R.faults self.new.source) (result ≡ Err ReadFault) }
         ensures looks { Looks R.left R.looks self.old self.new (Beside (R.Beside.passed beside.now) (λ b. b ≡ self.old.held)) }
     {

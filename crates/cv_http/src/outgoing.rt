@@ -140,6 +140,7 @@ pub fn write_request<W: Sink>(
     ensures nothing { result ≡ Err send_fault.NoMemory → W.taken sink.new ≡ W.taken sink.old }
     ensures flushed { result ≢ Err WriteFault → W.passed sink.old ≡ W.taken sink.old → W.passed sink.new ≡ W.taken sink.new }
     ensures held { OnErr result (W.passed sink.new ≡ W.passed sink.old) }
+    ensures no_write_failed { result ≢ Err WriteFault → W.faults sink.new ≡ W.faults sink.old }
     ensures cause { HasCause (W.faults sink.old) (W.faults sink.new) (result ≡ Err WriteFault) }
 {
     let head = head_text(alloc, request)?;

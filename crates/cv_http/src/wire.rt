@@ -106,6 +106,7 @@ impl<R: Source + Drop> Wire<R> {
         ensures lost { OnErr result (self.new.held ≡ self.old.held) }
         ensures end { result ≡ Ok false → (self.new.held ≡ self.old.held) × WhereTold (R.left self.new.source) (λ left. left ≡ []) }
         ensures faults { IfErr result IsPieceFault }
+        ensures no_read_failed { result ≢ Err ReadFault → R.faults self.new.source ≡ R.faults self.old.source }
         ensures cause { HasCause (R.faults self.old.source) (R.faults self.new.source) (result ≡ Err ReadFault) }
         ensures looks { Looks R.left R.looks self.old self.new (Beside (R.Beside.passed beside.now) (λ b. b ≡ self.old.held)) }
     {
@@ -187,6 +188,7 @@ impl<R: Source + Drop> Wire<R> {
         ensures nothing_left { result ≡ Ok None → WhereTold (rest R.left self.new) (λ b. b ≡ []) }
         ensures cut { result ≡ Err Short → WhereTold (R.left self.new.source) (λ left. left ≡ []) }
         ensures faults { IfErr result IsHeadFault }
+        ensures no_read_failed { result ≢ Err ReadFault → R.faults self.new.source ≡ R.faults self.old.source }
         ensures cause { HasCause (R.faults self.old.source) (R.faults self.new.source) (result ≡ Err ReadFault) }
         ensures looks { Looks R.left R.looks self.old self.new (Beside (R.Beside.passed beside.now) (AwaitedAs H.form)) }
     {
@@ -215,6 +217,7 @@ impl<R: Source + Drop> Wire<R> {
         ensures nothing_left { result ≡ Ok None → WhereTold (rest R.left self.new) (λ b. b ≡ []) }
         ensures cut { result ≡ Err Short → WhereTold (R.left self.new.source) (λ left. left ≡ []) }
         ensures faults { IfErr result IsHeadFault }
+        ensures no_read_failed { result ≢ Err ReadFault → R.faults self.new.source ≡ R.faults self.old.source }
         ensures cause { HasCause (R.faults self.old.source) (R.faults self.new.source) (result ≡ Err ReadFault) }
         ensures looks { Looks R.left R.looks self.old self.new (Beside (R.Beside.passed beside.now) IsAwaited) }
     {
@@ -229,6 +232,7 @@ impl<R: Source + Drop> Wire<R> {
         ensures end { result ≡ Ok false → (self.new.held ≡ []) × WhereTold (R.left self.new.source) (λ left. left ≡ []) }
         ensures lost { OnErr result ((self.old.held ≡ []) × (self.new.held ≡ [])) }
         ensures faults { IfErr result IsPieceFault }
+        ensures no_read_failed { result ≢ Err ReadFault → R.faults self.new.source ≡ R.faults self.old.source }
         ensures cause { HasCause (R.faults self.old.source) (R.faults self.new.source) (result ≡ Err ReadFault) }
         ensures looks { Looks R.left R.looks self.old self.new (Beside (R.Beside.passed beside.now) (λ b. b ≡ [])) }
     {
@@ -266,6 +270,7 @@ impl<R: Source + Drop> Wire<R> {
         ensures piece { IfOk result (λ piece. length piece ≤ PIECE) }
         ensures cut { result ≡ Err Short → WhereTold (R.left self.new.source) (λ left. left ≡ []) }
         ensures faults { IfErr result IsBodyFault }
+        ensures no_read_failed { result ≢ Err ReadFault → R.faults self.new.source ≡ R.faults self.old.source }
         ensures cause { HasCause (R.faults self.old.source) (R.faults self.new.source) (result ≡ Err ReadFault) }
         ensures looks { Looks R.left R.looks self.old self.new (Beside (R.Beside.passed beside.now) (λ b. b ≡ [])) }
     {
@@ -294,6 +299,7 @@ impl<R: Source + Drop> Wire<R> {
         ensures short { result ≡ Err Short → WhereTold (rest R.left self.old) (λ b. length b < size) }
         ensures cut { result ≡ Err Short → WhereTold (R.left self.new.source) (λ left. left ≡ []) }
         ensures faults { IfErr result IsBodyFault }
+        ensures no_read_failed { result ≢ Err ReadFault → R.faults self.new.source ≡ R.faults self.old.source }
         ensures cause { HasCause (R.faults self.old.source) (R.faults self.new.source) (result ≡ Err ReadFault) }
         ensures looks { Looks R.left R.looks self.old self.new (Beside (R.Beside.passed beside.now) (λ b. length b < size)) }
     {

@@ -1,5 +1,5 @@
 //! What a link in memory gives.
-ghost use Rattle.std.specs.Prelude.{◌≡◌, ◌≤◌, ◌<◌, ℕ, Some, [], length, take, min, IsTrue, ◌↔◌, ◌⊎◌, OnErr, IfOk, IsErr};
+ghost use Rattle.std.specs.Prelude.{◌≡◌, ◌≤◌, ◌<◌, ◌↔◌, ◌⊎◌, ℕ, Some, [], length, take, min, IsTrue, OnErr, IfOk, IsErr, OnOk};
 ghost use Rattle.cv_base.specs.Counts.{HasCause};
 ghost use Rattle.cv_base.specs.Told.{WhereTold};
 ghost use Rattle.cv_ports.specs.Streams.{Look, front, onto};
@@ -68,6 +68,7 @@ impl Source for LinkSource {
         ensures end { IfOk result (λ count. count ≡ 0 → 0 < length buf.old → WhereTold (Some self.new.left) (λ more. more ≡ [])) }
         ensures unchanged { OnErr result (Some self.new.left ≡ Some self.old.left) }
         ensures ungiven { OnErr result (Some self.new.given ≡ Some self.old.given) }
+        ensures no_read_failed { OnOk result (self.new.calls.faults ≡ self.old.calls.faults) }
         ensures cause { HasCause self.old.calls.faults self.new.calls.faults (IsErr result) }
         ensures noted { (look : Look) → ⊥ → ⊥ ⊎ (look ≡ record { left = Some self.old.left; passed = Some beside.now.passed }) }
         ensures most { IfOk result (λ count. count ≡ min (min (length self.old.left) (length buf.old)) self.old.piece) }

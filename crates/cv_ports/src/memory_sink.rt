@@ -88,6 +88,7 @@ impl Sink for MemorySink {
         ensures takes { IfOk result (λ count. Some self.new.taken ≡ onto (Some self.old.taken) (take count bytes.now)) }
         ensures unchanged { OnErr result (Some self.new.taken ≡ Some self.old.taken) }
         ensures held { Some self.new.passed ≡ Some self.old.passed }
+        ensures no_write_failed { OnOk result (self.new.calls.faults ≡ self.old.calls.faults) }
         ensures cause { HasCause self.old.calls.faults self.new.calls.faults (IsErr result) }
         ensures most { IfOk result (λ count. count ≡ min (length bytes.now) (self.old.room - length self.old.taken)) }
         ensures failing { IsErr result ↔ (IsTrue (fails self.old.calls) ⊎ IsFull self.old bytes.now) }
@@ -112,6 +113,7 @@ impl Sink for MemorySink {
         ensures same { Some self.new.taken ≡ Some self.old.taken }
         ensures passes { OnOk result (Some self.new.passed ≡ Some self.new.taken) }
         ensures held { OnErr result (Some self.new.passed ≡ Some self.old.passed) }
+        ensures no_write_failed { OnOk result (self.new.calls.faults ≡ self.old.calls.faults) }
         ensures cause { HasCause self.old.calls.faults self.new.calls.faults (IsErr result) }
         ensures failing { IsErr result ↔ IsTrue (fails self.old.calls) }
         ensures after { self.new ≡ record self.old { passed = if fails self.old.calls then self.old.passed else self.old.taken; calls = called self.old.calls } }

@@ -24,6 +24,7 @@ pub trait Sink {
         ensures takes { IfOk result (λ count. taken self.new ≡ onto (taken self.old) (take count bytes.now)) }
         ensures unchanged { OnErr result (taken self.new ≡ taken self.old) }
         ensures held { passed self.new ≡ passed self.old }
+        ensures no_write_failed { OnOk result (faults self.new ≡ faults self.old) }
         ensures cause { HasCause (faults self.old) (faults self.new) (IsErr result) };
 
     /// Passes on what was taken and may still be held. What was taken stays taken.
@@ -31,6 +32,7 @@ pub trait Sink {
         ensures same { taken self.new ≡ taken self.old }
         ensures passes { OnOk result (passed self.new ≡ taken self.new) }
         ensures held { OnErr result (passed self.new ≡ passed self.old) }
+        ensures no_write_failed { OnOk result (faults self.new ≡ faults self.old) }
         ensures cause { HasCause (faults self.old) (faults self.new) (IsErr result) };
 }
 
@@ -39,6 +41,7 @@ pub fn write_all<W: Sink>(sink: &mut W, bytes: &[u8]) -> Result<(), Failed>
     ensures whole { OnOk result (W.taken sink.new ≡ onto (W.taken sink.old) bytes.now) }
     ensures part { Wrote (W.taken sink.old) (W.taken sink.new) bytes.now }
     ensures held { W.passed sink.new ≡ W.passed sink.old }
+    ensures no_write_failed { OnOk result (W.faults sink.new ≡ W.faults sink.old) }
     ensures cause { HasCause (W.faults sink.old) (W.faults sink.new) (IsErr result) }
 {
     let mut written = 0;

@@ -1,5 +1,5 @@
 //! Where bytes come from.
-ghost use Rattle.std.specs.Prelude.{◌≡◌, ◌≤◌, ◌<◌, ◌⊎◌, ℕ, List, Option, [], length, take, OnErr, IfOk, IsErr};
+ghost use Rattle.std.specs.Prelude.{◌≡◌, ◌≤◌, ◌<◌, ◌⊎◌, ℕ, List, Option, [], length, take, OnErr, IfOk, IsErr, OnOk};
 ghost use Rattle.cv_base.specs.Counts.{HasCause};
 ghost use Rattle.cv_base.specs.Told.{WhereTold};
 ghost use Rattle.cv_ports.specs.Streams.{Look, front, onto};
@@ -33,6 +33,7 @@ pub trait Source {
         ensures end { IfOk result (λ count. count ≡ 0 → 0 < length buf.old → WhereTold (left self.new) (λ more. more ≡ [])) }
         ensures unchanged { OnErr result (left self.new ≡ left self.old) }
         ensures ungiven { OnErr result (given self.new ≡ given self.old) }
+        ensures no_read_failed { OnOk result (faults self.new ≡ faults self.old) }
         ensures cause { HasCause (faults self.old) (faults self.new) (IsErr result) }
         ensures noted { (look : Look) → looks self.new look
             → looks self.old look ⊎ (look ≡ record { left = left self.old; passed = Self.Beside.passed beside.now }) };

@@ -1,5 +1,5 @@
 //! Any reader of std as a source, and any writer as a sink.
-ghost use Rattle.std.specs.Prelude.{◌≡◌, ◌≤◌, ◌<◌, None, IfOk, IsErr, length};
+ghost use Rattle.std.specs.Prelude.{◌≡◌, ◌≤◌, ◌<◌, None, IfOk, OnOk, IsErr, length};
 ghost use Rattle.std.specs.Io.{ReadsAtMost};
 ghost use Rattle.std.specs.Io.KnownBytes.{Keeps, ReadConsumes, WriteAppends};
 ghost use Rattle.cv_base.specs.Counts.{HasCause};
@@ -86,6 +86,7 @@ impl<T: Read, W: Sink> Source for StreamSource<T, W> {
         ensures fits { IfOk result (λ count. count ≤ length buf.old) }
         ensures consumes { ReadConsumes (T.remaining self.old.inner) (T.remaining self.new.inner)
             result buf.new }
+        ensures no_read_failed { OnOk result (self.new.faults.number ≡ self.old.faults.number) }
         ensures cause { HasCause self.old.faults.number self.new.faults.number (IsErr result) }
     {
         if let Ok(count) = read_retrying(&mut self.inner, buf) {
@@ -142,6 +143,7 @@ impl<T: Write> Sink for StreamSink<T> {
         ensures some { IfOk result (λ count. 0 < length bytes.now → 0 < count) }
         ensures appends { WriteAppends (T.contents self.old.inner) (T.contents self.new.inner)
             result bytes.now }
+        ensures no_write_failed { OnOk result (self.new.faults.number ≡ self.old.faults.number) }
         ensures cause { HasCause self.old.faults.number self.new.faults.number (IsErr result) }
     {
         if bytes.is_empty() {
@@ -156,6 +158,7 @@ impl<T: Write> Sink for StreamSink<T> {
 
     fn flush(&mut self) -> Result<(), Failed>
         ensures keeps { Keeps (T.contents self.old.inner) (T.contents self.new.inner) }
+        ensures no_write_failed { OnOk result (self.new.faults.number ≡ self.old.faults.number) }
         ensures cause { HasCause self.old.faults.number self.new.faults.number (IsErr result) }
     {
         match self.inner.flush() {

@@ -39,11 +39,19 @@ pub fn one_opening()
         → Opens repository keys 0 b ts later → IsAsked repository keys b all line end → IsFront ts all }
 {}
 
-/// What was written for the same turns fixes the answers: of the gate's replies those of the interface. The exchange in which
-/// the output failed may stand among these, since its reply is one as the program writes it (`broken`).
+/// What a sink took fixes the answers: where the turns of one list of exchanges begin those of another, and what was taken begins
+/// with what is said in either, the answers of the one begin those of the other; of the gate's replies those of the interface.
+/// The exchange in which the output failed may stand last among these, once its reply is whole: it is one as the program writes
+/// it (`broken`).
 pub fn one_saying()
-    ensures { (repository : List ℕ) (keys : List Key) (seal : List ℕ → List ℕ) (es es' : List Exchange) → turns es ≡ turns es'
+    ensures { (repository : List ℕ) (keys : List Key) (seal : List ℕ → List ℕ) (es es' : List Exchange) (more more' : List ℕ) → IsFront (turns es) (turns es')
         → AllByRecursion (IsAnswered repository keys seal) es → AllByRecursion (IsAnswered repository keys seal) es'
         → AllByRecursion IsWritten es → AllByRecursion IsWritten es'
-        → sayings es ≡ sayings es' → map (λ e. said e.answer) es ≡ map (λ e. said e.answer) es' }
+        → sayings es ++ more ≡ sayings es' ++ more' → IsFront (map (λ e. said e.answer) es) (map (λ e. said e.answer) es') }
+{}
+
+/// No reply is a proper front of another: where the output failed in one, what was taken of it is no whole reply, or all of it.
+pub fn one_whole()
+    ensures { (answer answer' : Response) (last last' : Bool) (more : List ℕ) → IsLegible answer → IsLegible answer'
+        → reply_of answer' last' ≡ reply_of answer last ++ more → more ≡ [] }
 {}

@@ -1,5 +1,5 @@
 //! What a payload asks. Its pack is read in pieces, and held as its objects alone.
-ghost use Rattle.std.specs.Prelude.{◌≡◌, ◌++◌, ℕ, List, [], length, take, true, Err, option_map, IfOk, IfErr, MatchResult};
+ghost use Rattle.std.specs.Prelude.{◌≡◌, ◌++◌, ◌≢◌, ℕ, List, [], length, take, true, Err, option_map, IfOk, IfErr, MatchResult};
 ghost use Rattle.sha1.specs.Sha1.{sha1, Holds};
 ghost use Rattle.cv_base.specs.Counts.{HasCause};
 ghost use Rattle.cv_base.specs.Told.{WhereTold};
@@ -91,6 +91,7 @@ fn pass_over<R: Source<Beside = W> + Drop, W: Sink>(
     ensures reads { ReadsBody R.left R.given wire.old wire.new size (λ body made. Unit {0}) result }
     ensures cut { result ≡ Err Short → WhereTold (R.left wire.new.source) (λ left. left ≡ []) }
     ensures faults { IfErr result IsBodyFault }
+    ensures no_read_failed { result ≢ Err ReadFault → R.faults wire.new.source ≡ R.faults wire.old.source }
     ensures cause { HasCause (R.faults wire.old.source) (R.faults wire.new.source) (result ≡ Err ReadFault) }
     ensures looks { LooksWithin R.left R.looks wire.old wire.new (W.passed beside.now) size }
 {
@@ -183,6 +184,7 @@ fn read_pack<R: Source<Beside = W> + Drop, W: Sink>(
     ensures reads { ReadsBody R.left R.given wire.old wire.new size (Says (payload_on announced.key announced.ask)) result }
     ensures cut { result ≡ Err Short → WhereTold (R.left wire.new.source) (λ left. left ≡ []) }
     ensures faults { IfErr result IsBodyFault }
+    ensures no_read_failed { result ≢ Err ReadFault → R.faults wire.new.source ≡ R.faults wire.old.source }
     ensures cause { HasCause (R.faults wire.old.source) (R.faults wire.new.source) (result ≡ Err ReadFault) }
     ensures looks { LooksWithin R.left R.looks wire.old wire.new (W.passed beside.now) size }
 {
@@ -215,6 +217,7 @@ fn pass_denied<R: Source<Beside = W> + Drop, W: Sink>(
         → ReadsBody R.left R.given wire.old wire.new size (Says says) result }
     ensures cut { result ≡ Err Short → WhereTold (R.left wire.new.source) (λ left. left ≡ []) }
     ensures faults { IfErr result IsBodyFault }
+    ensures no_read_failed { result ≢ Err ReadFault → R.faults wire.new.source ≡ R.faults wire.old.source }
     ensures cause { HasCause (R.faults wire.old.source) (R.faults wire.new.source) (result ≡ Err ReadFault) }
     ensures looks { LooksWithin R.left R.looks wire.old wire.new (W.passed beside.now) size }
 {
@@ -240,6 +243,7 @@ fn read_rest<R: Source<Beside = W> + Drop, W: Sink>(
         → ReadsBody R.left R.given wire.old wire.new size (Says says) result }
     ensures cut { result ≡ Err Short → WhereTold (R.left wire.new.source) (λ left. left ≡ []) }
     ensures faults { IfErr result IsBodyFault }
+    ensures no_read_failed { result ≢ Err ReadFault → R.faults wire.new.source ≡ R.faults wire.old.source }
     ensures cause { HasCause (R.faults wire.old.source) (R.faults wire.new.source) (result ≡ Err ReadFault) }
     ensures looks { LooksWithin R.left R.looks wire.old wire.new (W.passed beside.now) size }
 {
@@ -269,6 +273,7 @@ pub(crate) fn read_payload<R: Source<Beside = W> + Drop, W: Sink>(
         ReadsBody R.left R.given wire.old wire.new size (Says says) result }
     ensures cut { result ≡ Err Short → WhereTold (R.left wire.new.source) (λ left. left ≡ []) }
     ensures faults { IfErr result IsBodyFault }
+    ensures no_read_failed { result ≢ Err ReadFault → R.faults wire.new.source ≡ R.faults wire.old.source }
     ensures cause { HasCause (R.faults wire.old.source) (R.faults wire.new.source) (result ≡ Err ReadFault) }
     ensures looks { LooksWithin R.left R.looks wire.old wire.new (W.passed beside.now) size }
 {

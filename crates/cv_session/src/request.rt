@@ -91,6 +91,7 @@ fn say_line<W: Sink>(sink: &mut W, head: &RequestHead) -> Result<(), Failed>
     ensures part { Wrote (W.taken sink.old) (W.taken sink.new) (line_text (waits head.now)) }
     ensures waiting { OnErr result (waits head.now ≡ true) }
     ensures flushed { OnOk result (W.passed sink.old ≡ W.taken sink.old → W.passed sink.new ≡ W.taken sink.new) }
+    ensures no_write_failed { OnOk result (W.faults sink.new ≡ W.faults sink.old) }
     ensures cause { HasCause (W.faults sink.old) (W.faults sink.new) (IsErr result) }
 {
     if head.expects && body_size(head) > 0 {
@@ -112,6 +113,7 @@ fn read_turn<R: Source<Beside = W> + Drop, W: Sink>(
     ensures reads { ReadsBody R.left R.given wire.old wire.new (body_size head.now) (Asks repository.now keys.now head.now) result }
     ensures cut { result ≡ Err Short → WhereTold (R.left wire.new.source) (λ left. left ≡ []) }
     ensures faults { IfErr result IsBodyFault }
+    ensures no_read_failed { result ≢ Err ReadFault → R.faults wire.new.source ≡ R.faults wire.old.source }
     ensures cause { HasCause (R.faults wire.old.source) (R.faults wire.new.source) (result ≡ Err ReadFault) }
     ensures looks { LooksWithin R.left R.looks wire.old wire.new (W.passed beside.now) (body_size head.now) }
 {
@@ -135,8 +137,10 @@ fn read_asked<R: Source<Beside = W> + Drop, W: Sink>(
     ensures gets { Draws R.left R.given wire.old wire.new (λ b.
         GetsBehind repository.now keys.now head.now b wire.new.held (W.taken sink.old) (W.taken sink.new) result) }
     ensures cut { result ≡ Err (Fault Short) → WhereTold (R.left wire.new.source) (λ left. left ≡ []) }
+    ensures no_read_failed { result ≢ Err (Fault ReadFault) → R.faults wire.new.source ≡ R.faults wire.old.source }
     ensures reads { HasCause (R.faults wire.old.source) (R.faults wire.new.source) (result ≡ Err (Fault ReadFault)) }
     ensures flushed { result ≢ Err Unsaid → W.passed sink.old ≡ W.taken sink.old → W.passed sink.new ≡ W.taken sink.new }
+    ensures no_write_failed { result ≢ Err Unsaid → W.faults sink.new ≡ W.faults sink.old }
     ensures writes { HasCause (W.faults sink.old) (W.faults sink.new) (result ≡ Err Unsaid) }
     ensures looks { W.passed sink.old ≡ W.taken sink.old → Looks R.left R.looks wire.old wire.new (IsAskingBehind head.now (W.taken sink.old)) }
 {
@@ -168,8 +172,10 @@ pub(crate) fn next_asked<R: Source<Beside = W> + Drop, W: Sink>(
     ensures good { IfOk result (λ found. IfSome found (λ asked. IsGood asked.turn)) }
     ensures nothing_left { result ≡ Ok None → WhereTold (R.left wire.new.source) (λ left. left ≡ []) }
     ensures cut { result ≡ Err (Fault Short) → WhereTold (R.left wire.new.source) (λ left. left ≡ []) }
+    ensures no_read_failed { result ≢ Err (Fault ReadFault) → R.faults wire.new.source ≡ R.faults wire.old.source }
     ensures reads { HasCause (R.faults wire.old.source) (R.faults wire.new.source) (result ≡ Err (Fault ReadFault)) }
     ensures flushed { result ≢ Err Unsaid → W.passed sink.old ≡ W.taken sink.old → W.passed sink.new ≡ W.taken sink.new }
+    ensures no_write_failed { result ≢ Err Unsaid → W.faults sink.new ≡ W.faults sink.old }
     ensures writes { HasCause (W.faults sink.old) (W.faults sink.new) (result ≡ Err Unsaid) }
     ensures looks { W.passed sink.old ≡ W.taken sink.old → Looks R.left R.looks wire.old wire.new (IsAsking (W.taken sink.old)) }
 {

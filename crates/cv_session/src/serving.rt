@@ -25,6 +25,7 @@ use std::alloc::Global;
 fn refuse_fault<W: Sink>(alloc: Global, sink: &mut W, fault: HttpFault) -> SessionEnd
     ensures ends { EndsBy (Fault fault) (W.taken sink.old) (W.taken sink.new) result }
     ensures flushed { result ≢ WriteFault → W.passed sink.old ≡ W.taken sink.old → W.passed sink.new ≡ W.taken sink.new }
+    ensures no_write_failed { result ≢ WriteFault → W.faults sink.new ≡ W.faults sink.old }
     ensures cause { HasCause (W.faults sink.old) (W.faults sink.new) (result ≡ WriteFault) }
 {
     let Some(code) = fault_code(fault) else {
@@ -45,6 +46,7 @@ fn refuse_fault<W: Sink>(alloc: Global, sink: &mut W, fault: HttpFault) -> Sessi
 fn refuse<W: Sink>(alloc: Global, sink: &mut W, why: Unread) -> SessionEnd
     ensures ends { EndsBy why (W.taken sink.old) (W.taken sink.new) result }
     ensures flushed { result ≢ WriteFault → W.passed sink.old ≡ W.taken sink.old → W.passed sink.new ≡ W.taken sink.new }
+    ensures no_write_failed { result ≢ WriteFault → W.faults sink.new ≡ W.faults sink.old }
     ensures later { W.faults sink.old ≤ W.faults sink.new }
     ensures cause { why ≢ Unsaid → HasCause (W.faults sink.old) (W.faults sink.new) (result ≡ WriteFault) }
 {
@@ -81,6 +83,10 @@ pub fn session<K: Desk, S: Signer, C: Clock, H: Hold, R: Source<Beside = W> + Dr
     ensures cut { result ≡ Bad Short → WhereTold (R.left wire.new.source) (λ left. left ≡ []) }
     ensures reads { HasCause (R.faults wire.old.source) (R.faults wire.new.source) (result ≡ ReadFault) }
     ensures writes { HasCause (W.faults sink.old) (W.faults sink.new) (result ≡ WriteFault) }
+
+    // No turn is taken after a stream failed: a session that ends otherwise met no such failure.
+    ensures no_read_failed { result ≢ ReadFault → R.faults wire.new.source ≡ R.faults wire.old.source }
+    ensures no_write_failed { result ≢ WriteFault → W.faults sink.new ≡ W.faults sink.old }
     ensures named { K.named desk.new ≡ K.named desk.old }
     ensures later { K.faults desk.old ≤ K.faults desk.new }
 {

@@ -1,5 +1,5 @@
 //! Lines of a source.
-ghost use Rattle.std.specs.Prelude.{◌≡◌, ◌≤◌, ◌<◌, [], length, drop, true, false, Ok, Err, OnErr, IfErr};
+ghost use Rattle.std.specs.Prelude.{◌≡◌, ◌≤◌, ◌<◌, ◌≢◌, [], length, drop, true, false, Ok, Err, OnErr, IfErr};
 ghost use Rattle.cv_base.specs.Counts.{HasCause};
 ghost use Rattle.cv_http.specs.Wires.{Draws, Looks, Beside, HasEnded, Gets};
 ghost use Rattle.cv_shell.specs.Lines.{IsLine, LineRead, filling};
@@ -99,6 +99,7 @@ impl<R: Source + Drop> Lines<R> {
         ensures lost { OnErr result (self.new.held ≡ self.old.held) }
         ensures end { result ≡ Ok false → (self.new.held ≡ self.old.held) × HasEnded (R.left self.new.source) }
         ensures faults { IfErr result IsPieceFault }
+        ensures no_read_failed { result ≢ Err ReadFault → R.faults self.new.source ≡ R.faults self.old.source }
         ensures cause { HasCause (R.faults self.old.source) (R.faults self.new.source) (result ≡ Err ReadFault) }
         ensures looks { Looks R.left R.looks self.old self.new (Beside (R.Beside.passed beside.now) (λ b. b ≡ self.old.held)) }
     {
@@ -149,6 +150,7 @@ impl<R: Source + Drop> Lines<R> {
         beside: &R::Beside,
     ) -> Result<Option<Bytes>, LineFault>
         ensures reads { Draws R.left R.given self.old self.new (λ b. LineRead (R.left self.new.source) b self.new.held result) }
+        ensures no_read_failed { result ≢ Err ReadFault → R.faults self.new.source ≡ R.faults self.old.source }
         ensures cause { HasCause (R.faults self.old.source) (R.faults self.new.source) (result ≡ Err ReadFault) }
         ensures looks { Looks R.left R.looks self.old self.new (Beside (R.Beside.passed beside.now) IsLine) }
     {

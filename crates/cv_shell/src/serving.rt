@@ -21,6 +21,7 @@ fn write_text<W: Sink>(output: &mut W, text: &[u8]) -> Result<(), Failed>
     ensures whole { OnOk result (W.taken output.new ≡ onto (W.taken output.old) text.now) }
     ensures part { Wrote (W.taken output.old) (W.taken output.new) text.now }
     ensures passed { OnOk result (W.passed output.new ≡ W.taken output.new) }
+    ensures no_write_failed { OnOk result (W.faults output.new ≡ W.faults output.old) }
     ensures cause { HasCause (W.faults output.old) (W.faults output.new) (IsErr result) }
 {
     write_all(output, text)?;
@@ -40,6 +41,7 @@ fn serve_line<N: Dial, S: Signer, W: Sink>(
     ensures answered { Answered (S.is_seal signer.now) url.now line.now (N.came dial.old) (N.came dial.new) resolver.old resolver.new
         (W.taken output.old) (W.taken output.new) result }
     ensures flushed { result ≢ Some OutputFailed → W.passed output.old ≡ W.taken output.old → W.passed output.new ≡ W.taken output.new }
+    ensures no_write_failed { result ≢ Some OutputFailed → W.faults output.new ≡ W.faults output.old }
     ensures writes { HasCause (W.faults output.old) (W.faults output.new) (result ≡ Some OutputFailed) }
     ensures asks { AsksFirst N.came N.looks dial.old dial.new }
     ensures links { HasCause (N.faults dial.old) (N.faults dial.new) (result ≡ Some LinkFailed) }
@@ -69,7 +71,9 @@ fn serve_lines<N: Dial, S: Signer, R: Source<Beside = W> + Drop, W: Sink>(
         (ReadsUpToDate (S.is_seal signer.now) url.now R.left R.looks lines.old lines.new (N.came dial.old) resolver.old (W.taken output.old) (W.passed output.old))
         (R.left lines.new.source) b (N.came dial.old) (N.came dial.new) resolver.old resolver.new (W.taken output.old) (W.taken output.new) result) }
     ensures flushed { result ≢ OutputFailed → W.passed output.old ≡ W.taken output.old → W.passed output.new ≡ W.taken output.new }
+    ensures no_read_failed { result ≢ InputFailed → R.faults lines.new.source ≡ R.faults lines.old.source }
     ensures reads { HasCause (R.faults lines.old.source) (R.faults lines.new.source) (result ≡ InputFailed) }
+    ensures no_write_failed { result ≢ OutputFailed → W.faults output.new ≡ W.faults output.old }
     ensures writes { HasCause (W.faults output.old) (W.faults output.new) (result ≡ OutputFailed) }
     ensures asks { AsksFirst N.came N.looks dial.old dial.new }
     ensures links { HasCause (N.faults dial.old) (N.faults dial.new) (result ≡ LinkFailed) }
@@ -110,7 +114,9 @@ pub fn shell<N: Dial, S: Signer, R: Source<Beside = W> + Drop, W: Sink>(
 
     // Where the output didn't fail, all that it took is passed on.
     ensures flushed { result.0 ≢ OutputFailed → W.passed output.old ≡ W.taken output.old → W.passed output.new ≡ W.taken output.new }
+    ensures no_read_failed { result.0 ≢ InputFailed → R.faults result.1 ≡ R.faults input }
     ensures reads { HasCause (R.faults input) (R.faults result.1) (result.0 ≡ InputFailed) }
+    ensures no_write_failed { result.0 ≢ OutputFailed → W.faults output.new ≡ W.faults output.old }
     ensures writes { HasCause (W.faults output.old) (W.faults output.new) (result.0 ≡ OutputFailed) }
     ensures asks { AsksFirst N.came N.looks dial.old dial.new }
     ensures links { HasCause (N.faults dial.old) (N.faults dial.new) (result.0 ≡ LinkFailed) }

@@ -19,6 +19,7 @@ fn write_first<W: Sink>(output: &mut W) -> Result<(), Failed>
     ensures whole { OnOk result (W.taken output.new ≡ onto (W.taken output.old) first_line) }
     ensures part { Wrote (W.taken output.old) (W.taken output.new) first_line }
     ensures passed { OnOk result (W.passed output.new ≡ W.taken output.new) }
+    ensures no_write_failed { OnOk result (W.faults output.new ≡ W.faults output.old) }
     ensures cause { HasCause (W.faults output.old) (W.faults output.new) (IsErr result) }
 {
     print(output, b"revision 1\n".as_slice())
@@ -36,6 +37,7 @@ pub(crate) fn init<V: Vault + Drop, W: Sink, C: Clock>(
     ensures inits { Inits V.disk V.count V.left W.taken C.moments name.now signer.now vault result.1 output.old output.new clock.old clock.new result.0 }
     ensures flushed { result.0 ≢ OutputFailed → W.passed output.old ≡ W.taken output.old → W.passed output.new ≡ W.taken output.new }
     ensures reads { result.0 ≢ InputFailed }
+    ensures no_write_failed { result.0 ≢ OutputFailed → W.faults output.new ≡ W.faults output.old }
     ensures writes { HasCause (W.faults output.old) (W.faults output.new) (result.0 ≡ OutputFailed) }
     ensures stores { HasCause (V.faults vault) (V.faults result.1) (result.0 ≡ StoreFailed) }
     ensures links { result.0 ≢ LinkFailed }

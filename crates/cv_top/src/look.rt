@@ -21,6 +21,7 @@ fn print_answer<W: Sink>(alloc: Global, found: Found, output: &mut W) -> Status
     ensures prints { Prints W.taken (found_text found) output.old output.new result }
     ensures flushed { result ≢ OutputFailed → W.passed output.old ≡ W.taken output.old → W.passed output.new ≡ W.taken output.new }
     ensures reads { result ≢ InputFailed }
+    ensures no_write_failed { result ≢ OutputFailed → W.faults output.new ≡ W.faults output.old }
     ensures writes { HasCause (W.faults output.old) (W.faults output.new) (result ≡ OutputFailed) }
     ensures stores { result ≢ StoreFailed }
     ensures links { result ≢ LinkFailed }
@@ -46,6 +47,7 @@ pub(crate) fn look<W: Sink, N: Dial>(
     ensures looks { Looks W.taken N.came signer.now url.now question output.old output.new dial.old dial.new result }
     ensures flushed { result ≢ OutputFailed → W.passed output.old ≡ W.taken output.old → W.passed output.new ≡ W.taken output.new }
     ensures reads { result ≢ InputFailed }
+    ensures no_write_failed { result ≢ OutputFailed → W.faults output.new ≡ W.faults output.old }
     ensures writes { HasCause (W.faults output.old) (W.faults output.new) (result ≡ OutputFailed) }
     ensures stores { result ≢ StoreFailed }
     ensures asks { AsksFirst N.came N.looks dial.old dial.new }

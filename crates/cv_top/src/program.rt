@@ -49,6 +49,7 @@ fn do_init<V: Vault + Drop, W: Sink, C: Clock>(
         (Inits V.disk V.count V.left W.taken C.moments name.now seal.now vault result.1 output.old output.new clock.old clock.new) result.0 }
     ensures flushed { result.0 ≢ OutputFailed → W.passed output.old ≡ W.taken output.old → W.passed output.new ≡ W.taken output.new }
     ensures reads { result.0 ≢ InputFailed }
+    ensures no_write_failed { result.0 ≢ OutputFailed → W.faults output.new ≡ W.faults output.old }
     ensures writes { HasCause (W.faults output.old) (W.faults output.new) (result.0 ≡ OutputFailed) }
     ensures stores { HasCause (V.faults vault) (V.faults result.1) (result.0 ≡ StoreFailed) }
     ensures links { result.0 ≢ LinkFailed }
@@ -76,7 +77,9 @@ fn do_stdio<V: Vault + Drop, R: Source<Beside = W> + Drop, W: Sink, C: Clock, H:
         (Serves V.disk V.count V.left V.faults R.left R.given R.looks W.taken W.passed C.moments name.now table.now seal.now
         vault result.1 input result.2 output.old output.new clock.old clock.new) result.0 }
     ensures flushed { result.0 ≢ OutputFailed → W.passed output.old ≡ W.taken output.old → W.passed output.new ≡ W.taken output.new }
+    ensures no_read_failed { result.0 ≢ InputFailed → R.faults result.2 ≡ R.faults input }
     ensures reads { HasCause (R.faults input) (R.faults result.2) (result.0 ≡ InputFailed) }
+    ensures no_write_failed { result.0 ≢ OutputFailed → W.faults output.new ≡ W.faults output.old }
     ensures writes { HasCause (W.faults output.old) (W.faults output.new) (result.0 ≡ OutputFailed) }
     ensures stores { HasCause (V.faults vault) (V.faults result.1) (result.0 ≡ StoreFailed) }
     ensures links { result.0 ≢ LinkFailed }
@@ -107,6 +110,7 @@ fn do_look<W: Sink, N: Dial>(
         (Looks W.taken N.came seal.now url.now question output.old output.new dial.old dial.new) result }
     ensures flushed { result ≢ OutputFailed → W.passed output.old ≡ W.taken output.old → W.passed output.new ≡ W.taken output.new }
     ensures reads { result ≢ InputFailed }
+    ensures no_write_failed { result ≢ OutputFailed → W.faults output.new ≡ W.faults output.old }
     ensures writes { HasCause (W.faults output.old) (W.faults output.new) (result ≡ OutputFailed) }
     ensures stores { result ≢ StoreFailed }
     ensures asks { AsksFirst N.came N.looks dial.old dial.new }
@@ -134,7 +138,9 @@ fn do_shell<R: Source<Beside = W> + Drop, W: Sink, N: Dial>(
         (AnswersLines R.left R.given R.looks W.taken W.passed seal.now url.now (N.came dial.old) (N.came dial.new)
         input result.1 output.old output.new) result.0 }
     ensures flushed { result.0 ≢ OutputFailed → W.passed output.old ≡ W.taken output.old → W.passed output.new ≡ W.taken output.new }
+    ensures no_read_failed { result.0 ≢ InputFailed → R.faults result.1 ≡ R.faults input }
     ensures reads { HasCause (R.faults input) (R.faults result.1) (result.0 ≡ InputFailed) }
+    ensures no_write_failed { result.0 ≢ OutputFailed → W.faults output.new ≡ W.faults output.old }
     ensures writes { HasCause (W.faults output.old) (W.faults output.new) (result.0 ≡ OutputFailed) }
     ensures stores { result.0 ≢ StoreFailed }
     ensures asks { AsksFirst N.came N.looks dial.old dial.new }
@@ -166,6 +172,7 @@ fn do_publish<W: Sink, C: Clock, F: Folder, N: Dial>(
         output.old output.new clock.old clock.new folder.old folder.new dial.old dial.new) result }
     ensures flushed { result ≢ OutputFailed → W.passed output.old ≡ W.taken output.old → W.passed output.new ≡ W.taken output.new }
     ensures reads { result ≢ InputFailed }
+    ensures no_write_failed { result ≢ OutputFailed → W.faults output.new ≡ W.faults output.old }
     ensures writes { HasCause (W.faults output.old) (W.faults output.new) (result ≡ OutputFailed) }
     ensures stores { result ≢ StoreFailed }
     ensures asks { AsksFirst N.came N.looks dial.old dial.new }
@@ -205,7 +212,9 @@ fn do_command<
     ensures runs { Runs V.disk V.count V.left V.faults R.left R.given R.looks W.taken W.passed C.moments F.holds F.named N.came (map string_bytes words.now) keys.now seal.now
         (outside vault input output.old clock.old folder.old dial.old) (outside result.1 result.2 output.new clock.new folder.new dial.new) result.0 }
     ensures flushed { result.0 ≢ OutputFailed → W.passed output.old ≡ W.taken output.old → W.passed output.new ≡ W.taken output.new }
+    ensures no_read_failed { result.0 ≢ InputFailed → R.faults result.2 ≡ R.faults input }
     ensures reads { HasCause (R.faults input) (R.faults result.2) (result.0 ≡ InputFailed) }
+    ensures no_write_failed { result.0 ≢ OutputFailed → W.faults output.new ≡ W.faults output.old }
     ensures writes { HasCause (W.faults output.old) (W.faults output.new) (result.0 ≡ OutputFailed) }
     ensures stores { HasCause (V.faults vault) (V.faults result.1) (result.0 ≡ StoreFailed) }
     ensures asks { AsksFirst N.came N.looks dial.old dial.new }
@@ -299,6 +308,10 @@ pub fn run<
     ensures stores { HasCause (V.faults parts.vault) (V.faults result.1.vault) (result.0 ≡ StoreFailed) }
     ensures links { HasCause (N.faults parts.dial) (N.faults result.1.dial) (result.0 ≡ LinkFailed) }
     ensures folders { HasCause (F.faults parts.folder) (F.faults result.1.folder) (result.0 ≡ FolderFailed) }
+
+    // No line or request is taken after the input or the output failed: what ends otherwise met no such failure.
+    ensures no_read_failed { result.0 ≢ InputFailed → R.faults result.1.input ≡ R.faults parts.input }
+    ensures no_write_failed { result.0 ≢ OutputFailed → W.faults result.1.output ≡ W.faults parts.output }
 
     // Each read of a link began when that link had passed on a whole request, and had given no whole reply.
     ensures asks { AsksFirst N.came N.looks parts.dial result.1.dial }

@@ -131,6 +131,7 @@ fn print_revision<W: Sink>(alloc: Global, revision: u64, output: &mut W) -> Stat
     ensures prints { Prints W.taken (revision_line revision) output.old output.new result }
     ensures flushed { result ≢ OutputFailed → W.passed output.old ≡ W.taken output.old → W.passed output.new ≡ W.taken output.new }
     ensures reads { result ≢ InputFailed }
+    ensures no_write_failed { result ≢ OutputFailed → W.faults output.new ≡ W.faults output.old }
     ensures writes { HasCause (W.faults output.old) (W.faults output.new) (result ≡ OutputFailed) }
     ensures stores { result ≢ StoreFailed }
     ensures links { result ≢ LinkFailed }
@@ -166,6 +167,7 @@ fn publish<W: Sink, C: Clock, F: Folder, N: Dial>(
         output.old output.new clock.old clock.new folder.old folder.new dial.old dial.new result }
     ensures flushed { result ≢ OutputFailed → W.passed output.old ≡ W.taken output.old → W.passed output.new ≡ W.taken output.new }
     ensures reads { result ≢ InputFailed }
+    ensures no_write_failed { result ≢ OutputFailed → W.faults output.new ≡ W.faults output.old }
     ensures writes { HasCause (W.faults output.old) (W.faults output.new) (result ≡ OutputFailed) }
     ensures stores { result ≢ StoreFailed }
     ensures asks { AsksFirst N.came N.looks dial.old dial.new }
@@ -208,6 +210,7 @@ pub(crate) fn publish_sealed<W: Sink, C: Clock, F: Folder, N: Dial>(
         output.old output.new clock.old clock.new folder.old folder.new dial.old dial.new) result }
     ensures flushed { result ≢ OutputFailed → W.passed output.old ≡ W.taken output.old → W.passed output.new ≡ W.taken output.new }
     ensures reads { result ≢ InputFailed }
+    ensures no_write_failed { result ≢ OutputFailed → W.faults output.new ≡ W.faults output.old }
     ensures writes { HasCause (W.faults output.old) (W.faults output.new) (result ≡ OutputFailed) }
     ensures stores { result ≢ StoreFailed }
     ensures asks { AsksFirst N.came N.looks dial.old dial.new }

@@ -24,7 +24,9 @@ pub(crate) fn answer_lines<R: Source<Beside = W> + Drop, W: Sink, N: Dial>(
     ensures answers { AnswersLines R.left R.given R.looks W.taken W.passed signer.now url.now (N.came dial.old) (N.came dial.new)
         input result.1 output.old output.new result.0 }
     ensures flushed { result.0 ≢ OutputFailed → W.passed output.old ≡ W.taken output.old → W.passed output.new ≡ W.taken output.new }
+    ensures no_read_failed { result.0 ≢ InputFailed → R.faults result.1 ≡ R.faults input }
     ensures reads { HasCause (R.faults input) (R.faults result.1) (result.0 ≡ InputFailed) }
+    ensures no_write_failed { result.0 ≢ OutputFailed → W.faults output.new ≡ W.faults output.old }
     ensures writes { HasCause (W.faults output.old) (W.faults output.new) (result.0 ≡ OutputFailed) }
     ensures stores { result.0 ≢ StoreFailed }
     ensures asks { AsksFirst N.came N.looks dial.old dial.new }

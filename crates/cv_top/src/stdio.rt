@@ -33,7 +33,9 @@ fn talk<V: Vault + Drop, R: Source<Beside = W> + Drop, W: Sink, C: Clock, H: Hol
     ensures talks { Talks V.disk V.count V.left V.faults R.left R.given R.looks W.taken W.passed C.moments desk.old.gate.state.line.name keys.now signer.now desk.old desk.new
         input result.1 output.old output.new clock.old clock.new result.0 }
     ensures flushed { result.0 ≢ WriteFault → W.passed output.old ≡ W.taken output.old → W.passed output.new ≡ W.taken output.new }
+    ensures no_read_failed { result.0 ≢ ReadFault → R.faults result.1 ≡ R.faults input }
     ensures reads { HasCause (R.faults input) (R.faults result.1) (result.0 ≡ ReadFault) }
+    ensures no_write_failed { result.0 ≢ WriteFault → W.faults output.new ≡ W.faults output.old }
     ensures writes { HasCause (W.faults output.old) (W.faults output.new) (result.0 ≡ WriteFault) }
     ensures stores { V.faults desk.old.gate.state.line.vault ≤ V.faults desk.new.gate.state.line.vault }
 {
@@ -59,7 +61,9 @@ pub(crate) fn serve<V: Vault + Drop, R: Source<Beside = W> + Drop, W: Sink, C: C
     ensures serves { Serves V.disk V.count V.left V.faults R.left R.given R.looks W.taken W.passed C.moments repository.name keys.now repository.signer
         vault result.1 input result.2 output.old output.new clock.old clock.new result.0 }
     ensures flushed { result.0 ≢ OutputFailed → W.passed output.old ≡ W.taken output.old → W.passed output.new ≡ W.taken output.new }
+    ensures no_read_failed { result.0 ≢ InputFailed → R.faults result.2 ≡ R.faults input }
     ensures reads { HasCause (R.faults input) (R.faults result.2) (result.0 ≡ InputFailed) }
+    ensures no_write_failed { result.0 ≢ OutputFailed → W.faults output.new ≡ W.faults output.old }
     ensures writes { HasCause (W.faults output.old) (W.faults output.new) (result.0 ≡ OutputFailed) }
     ensures stores { HasCause (V.faults vault) (V.faults result.1) (result.0 ≡ StoreFailed) }
     ensures links { result.0 ≢ LinkFailed }

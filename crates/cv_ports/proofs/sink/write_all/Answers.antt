@@ -9,7 +9,7 @@ writes-preserved g c = record {
   within = grind (arith, common_steps);
   taken = one_more _ _ _ c.args.bytes.now c.writes.written c.in_ok-written.field-0 c.writes.invariant.taken c.in_ok-written.ensures.takes;
   held = c.write.ensures.held ∙ c.writes.invariant.held;
-  later = omega (arith, c.write.ensures.cause.later);
+  no_write_failed = c.in_ok-written.ensures.no_write_failed ∙ c.writes.invariant.no_write_failed;
 }
 
 pub returns-in_err-written-clause-part : goal.returns-in_err-written-clause-part

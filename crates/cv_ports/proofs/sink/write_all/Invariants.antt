@@ -7,7 +7,7 @@ invariant-writes g l = record {
   within : l.written ≤ length l.bytes;
   taken : g.W.Sink.taken l.sink ≡ onto (g.W.Sink.taken l.fn.sink) (take l.written l.bytes);
   held : g.W.Sink.passed l.sink ≡ g.W.Sink.passed l.fn.sink;
-  later : g.W.Sink.faults l.fn.sink ≤ g.W.Sink.faults l.sink;
+  no_write_failed : g.W.Sink.faults l.sink ≡ g.W.Sink.faults l.fn.sink;
 }
 
 abbrev pub decreases-writes : goal.decreases-writes

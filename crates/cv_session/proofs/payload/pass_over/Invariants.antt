@@ -1,4 +1,4 @@
-use Rattle.std.proofs.Common.{◌≤◌, ◌-◌}
+use Rattle.std.proofs.Common.{◌≡◌, ◌≤◌, ◌-◌}
 use Rattle.cv_http.specs.Wires.{Draws}
 use Rattle.cv_session.specs.PayloadsInner.{Came, LooksWithin}
 use Rattle.cv_session.proofs.payload.pass_over.Given as goal
@@ -8,7 +8,7 @@ invariant-pieces g l = record {
   came : Draws g.R.Source.left g.R.Source.given l.fn.wire l.wire (λ b. Came l.count (λ body. Unit {0}) b l.wire.held);
   looks : LooksWithin g.R.Source.left g.R.Source.looks l.fn.wire l.wire (g.W.Sink.passed l.beside) l.size;
   below : l.count ≤ l.size;
-  reads : g.R.Source.faults l.fn.wire.source ≤ g.R.Source.faults l.wire.source;
+  no_read_failed : g.R.Source.faults l.wire.source ≡ g.R.Source.faults l.fn.wire.source;
 }
 
 abbrev pub decreases-pieces : goal.decreases-pieces

@@ -1,4 +1,4 @@
-use Rattle.std.proofs.Common.{◌≡◌, refl, ap, length, arith}
+use Rattle.std.proofs.Common.{◌≡◌, ◌∙◌, refl, ap, length, arith}
 use Rattle.cv_http.proofs.Lemmas.{by_fault, looks_none}
 use Rattle.cv_session.specs.Payloads.{payload_on}
 use Rattle.cv_session.specs.PayloadsInner.{ReadsBody, Says}
@@ -10,7 +10,7 @@ pieces-init g c = record {
   came = came_none g.R.Source.left g.R.Source.given _ (Fed_ c.new-reader.result c.new-hasher.result c.args.announced.ask.header_size) (fed_none _ _ _ c.new-reader.ensures.fed c.new-hasher.ensures);
   looks = looks_none g.R.Source.left g.R.Source.looks c.args.wire.now c.args.wire.now _ refl;
   below = omega arith;
-  reads = omega arith;
+  no_read_failed = refl;
 }
 
 pub pieces-preserved : goal.pieces-preserved
@@ -18,8 +18,6 @@ pieces-preserved g c =
     let same : length c.as_slice-in-pieces-2.result.now ≡ length c.in_ok-piece.piece = ap length c.as_slice-in-pieces-2.ensures in
     let most = c.in_ok-piece.ensures.most in
     let below = c.pieces.invariant.below in
-    let was = c.pieces.invariant.reads in
-    let read = c.in_ok-piece.ensures.cause.later in
     let hashes = rw c.as_slice.ensures at c.hash_front.ensures in
     let feeds = rw c.as_slice-in-pieces.ensures at c.feed.ensures in
     record {
@@ -28,7 +26,7 @@ pieces-preserved g c =
           (λ body size so. (feeds body so.0, hashes body size so.1)));
       looks = came_looks g.R.Source.left g.R.Source.given g.R.Source.looks c.args.wire.now c.pieces.wire c.read_some.new.self _ c.pieces.count c.args.size _ c.pieces.invariant.looks c.pieces.invariant.came (omega (arith, c.pieces-test.true)) c.in_ok-piece.ensures.looks;
       below = omega (arith, same, most, below);
-      reads = omega (arith, was, read);
+      no_read_failed = c.in_ok-piece.ensures.no_read_failed (λ e. cc) ∙ c.pieces.invariant.no_read_failed;
     }
 
 pub returns-in_err-piece-clause-reads : goal.returns-in_err-piece-clause-reads

@@ -15,8 +15,8 @@ requests-init g c = record {
   below = omega arith;
   named = refl;
   flushed = λ was. was;
-  reads = omega arith;
-  writes = omega arith;
+  no_read_failed = refl;
+  no_write_failed = refl;
   counted = omega arith;
 }
 
@@ -43,7 +43,7 @@ returns-in-Some-clause-cut g c = λ is. absurd (not_by_reading (Bad Short) refl 
 
 pub returns-in-Some-clause-reads : goal.returns-in-Some-clause-reads
 returns-in-Some-clause-reads g c = record {
-  later = let read = c.next_asked.ensures.reads.later in let was = c.requests.invariant.reads in omega (arith, read, was);
+  later = let read = c.next_asked.ensures.reads.later in let was = c.requests.invariant.no_read_failed in omega (arith, read, was);
   failed = λ is. absurd (not_by_reading ReadFault refl c.in-Some.ensures.handles is);
 }
 
@@ -54,8 +54,8 @@ requests-preserved g c = record {
   below = let not = goes_below c.in-Ok-Some.asked.last (c.requests.count + 1) c.ends_with-last.ensures c.in-None.ensures.handles in omega (arith, not);
   named = c.in-None.ensures.named ∙ c.requests.invariant.named;
   flushed = λ was. c.in-None.ensures.flushed (λ e. cc) (c.in-Ok-Some.ensures.flushed (λ e. cc) (c.requests.invariant.flushed was));
-  reads = let read = c.next_asked.ensures.reads.later in let was = c.requests.invariant.reads in omega (arith, read, was);
-  writes = let line = c.next_asked.ensures.writes.later in let reply = c.in-None.ensures.cause.later in let was = c.requests.invariant.writes in omega (arith, line, reply, was);
+  no_read_failed = c.in-Ok-Some.ensures.no_read_failed (λ e. cc) ∙ c.requests.invariant.no_read_failed;
+  no_write_failed = c.in-None.ensures.no_write_failed (λ e. cc) ∙ (c.in-Ok-Some.ensures.no_write_failed (λ e. cc) ∙ c.requests.invariant.no_write_failed);
   counted = let more = c.in-None.ensures.later in let was = c.requests.invariant.counted in omega (arith, more, was);
 }
 
@@ -67,7 +67,7 @@ returns-in-Err-clause-cut g c = λ is. c.next_asked.ensures.cut (c.in-Err.is ∙
 
 pub returns-in-Err-clause-reads : goal.returns-in-Err-clause-reads
 returns-in-Err-clause-reads g c = record {
-  later = let read = c.next_asked.ensures.reads.later in let was = c.requests.invariant.reads in omega (arith, read, was);
+  later = let read = c.next_asked.ensures.reads.later in let was = c.requests.invariant.no_read_failed in omega (arith, read, was);
   failed = λ is.
       let rose = c.next_asked.ensures.reads.failed (c.in-Err.is ∙ ap (λ why. Err why) (by_read_fault c.refuse.ensures.ends is)) in
       let was = c.requests.invariant.reads in omega (arith, rose, was);

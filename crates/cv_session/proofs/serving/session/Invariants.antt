@@ -15,8 +15,8 @@ invariant-requests g l = record {
   below : l.count < 1000;
   named : g.K.Desk.named l.desk ≡ g.K.Desk.named l.fn.desk;
   flushed : g.W.Sink.passed l.fn.sink ≡ g.W.Sink.taken l.fn.sink → g.W.Sink.passed l.sink ≡ g.W.Sink.taken l.sink;
-  reads : g.R.Source.faults l.fn.wire.source ≤ g.R.Source.faults l.wire.source;
-  writes : g.W.Sink.faults l.fn.sink ≤ g.W.Sink.faults l.sink;
+  no_read_failed : g.R.Source.faults l.wire.source ≡ g.R.Source.faults l.fn.wire.source;
+  no_write_failed : g.W.Sink.faults l.sink ≡ g.W.Sink.faults l.fn.sink;
   counted : g.K.Desk.faults l.fn.desk ≤ g.K.Desk.faults l.desk;
 }
 

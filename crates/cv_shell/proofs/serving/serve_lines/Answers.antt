@@ -11,8 +11,8 @@ turns-init g c = record {
       (at_first (g.S.Signer.is_seal c.args.signer.now) c.args.url.now _ (g.N.Dial.came c.args.dial.now) c.args.resolver.now (g.W.Sink.taken c.args.output.now) (g.R.Source.left c.args.lines.now.source) c.args.lines.now.held
       (λ was look is. inl is));
   flushed = λ was. was;
-  reads = omega arith;
-  writes = omega arith;
+  no_read_failed = refl;
+  no_write_failed = refl;
   asks = asks_none;
   later = omega arith;
 }
@@ -46,11 +46,7 @@ returns-in-Some-clause-shells g c =
 pub turns-preserved : goal.turns-preserved
 turns-preserved g c =
     let same : c.as_slice.result.now ≡ c.in-Ok-Some.line = search rules in
-    let read = c.next_line.ensures.cause.later in
-    let wrote = c.serve_line.ensures.writes.later in
     let dialled = c.serve_line.ensures.links.later in
-    let reads = c.turns.invariant.reads in
-    let writes = c.turns.invariant.writes in
     let later = c.turns.invariant.later in
     let so_far =
     up_to_date_on (g.S.Signer.is_seal c.args.signer.now) c.args.url.now g.R.Source.left g.R.Source.given g.R.Source.looks c.args.lines.now (g.N.Dial.came c.args.dial.now) c.args.resolver.now (g.W.Sink.taken c.args.output.now) (g.W.Sink.passed c.args.output.now)
@@ -61,8 +57,8 @@ turns-preserved g c =
           (up_to_date_grows (g.S.Signer.is_seal c.args.signer.now) c.args.url.now g.R.Source.left g.R.Source.given g.R.Source.looks c.args.lines.now (g.N.Dial.came c.args.dial.now) c.args.resolver.now (g.W.Sink.taken c.args.output.now) (g.W.Sink.passed c.args.output.now) c.next_line.new.self so.turns)
           next (rw same at c.serve_line.ensures.answered));
       flushed = λ was. c.serve_line.ensures.flushed (λ is. absurd (c.in_default.not-Some _ is)) (c.turns.invariant.flushed was);
-      reads = omega (arith, read, reads);
-      writes = omega (arith, wrote, writes);
+      no_read_failed = c.in-Ok-Some.ensures.no_read_failed (λ e. cc) ∙ c.turns.invariant.no_read_failed;
+      no_write_failed = c.serve_line.ensures.no_write_failed (λ is. absurd (c.in_default.not-Some _ is)) ∙ c.turns.invariant.no_write_failed;
       asks = asks_then c.turns.invariant.asks c.serve_line.ensures.asks;
       later = omega (arith, dialled, later);
     }

@@ -13,8 +13,8 @@ invariant-turns g l = record {
       (g.N.Dial.came l.fn.dial) l.fn.resolver (g.W.Sink.taken l.fn.output)
       (g.R.Source.left l.lines.source) b l.lines.held (g.N.Dial.came l.dial) l.resolver (g.W.Sink.taken l.output));
   flushed : g.W.Sink.passed l.fn.output ≡ g.W.Sink.taken l.fn.output → g.W.Sink.passed l.output ≡ g.W.Sink.taken l.output;
-  reads : g.R.Source.faults l.fn.lines.source ≤ g.R.Source.faults l.lines.source;
-  writes : g.W.Sink.faults l.fn.output ≤ g.W.Sink.faults l.output;
+  no_read_failed : g.R.Source.faults l.lines.source ≡ g.R.Source.faults l.fn.lines.source;
+  no_write_failed : g.W.Sink.faults l.output ≡ g.W.Sink.faults l.fn.output;
   asks : AsksFirst g.N.Dial.came g.N.Dial.looks l.fn.dial l.dial;
   later : g.N.Dial.faults l.fn.dial ≤ g.N.Dial.faults l.dial;
 }

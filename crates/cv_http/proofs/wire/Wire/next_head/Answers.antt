@@ -1,4 +1,4 @@
-use Rattle.std.proofs.Common.{◌≡◌, ◌≤◌, ◌∙◌, sym, subst, ap, refl, length, length-append, arith, Err}
+use Rattle.std.proofs.Common.{◌≡◌, ◌∙◌, sym, subst, ap, refl, length, length-append, arith, Err}
 use Rattle.std.specs.Prelude.{IfErr}
 use Rattle.cv_http.specs.Forms.{AwaitedAs}
 use Rattle.cv_http.specs.Wires.{Draws, HeadReadAs}
@@ -14,7 +14,7 @@ pieces-init g c = record {
   looks = looks_none g.R.Source.left g.R.Source.looks c.args.self.now c.args.self.now _ refl;
   within = omega arith;
   none = none_yet g.H.Head.form g.met.H.Head.ends c.args.self.now.held;
-  later = omega arith;
+  no_read_failed = refl;
 }
 
 pub returns-in_err-head-clause-reads : goal.returns-in_err-head-clause-reads
@@ -35,7 +35,7 @@ returns-in_err-head-clause-faults g c =
 
 pub returns-in_err-head-clause-cause : goal.returns-in_err-head-clause-cause
 returns-in_err-head-clause-cause g c = record {
-  later = subst (λ s. g.R.Source.faults c.args.self.now.source ≤ g.R.Source.faults s) (sym c.seek_head.ensures.source) c.pieces.invariant.later;
+  later = let same = ap g.R.Source.faults c.seek_head.ensures.source in let was = c.pieces.invariant.no_read_failed in omega (arith, same, was);
   failed = λ is.
       absurd (by_fault c.from_residual.result _ (λ r. r ≡ Err ReadFault → ⊥) c.from_residual.ensures.1
       ((read_lost g.H.Head.form g.met.H.Head.refusal c.pieces.self.held c.seek_head.new.self.held _ c.in_err-head.ensures.found).2 _ refl) is);
@@ -64,8 +64,6 @@ pieces-preserved g c =
     let found = found_none g.H.Head.form (AwaitedAs g.H.Head.form) c.pieces.self.held c.seek_head.new.self.held c.in_ok-head.field-0 c.in_ok-head.ensures.found c.in_default.not-Some in
     let waits : AwaitedAs g.H.Head.form c.seek_head.new.self.held = subst (AwaitedAs g.H.Head.form) (sym found.1) found.0 in
     let gets = gets_moved g.R.Source.left g.R.Source.given c.args.self.now c.pieces.self c.seek_head.new.self c.pieces.invariant.gets c.seek_head.ensures.source found.1 in
-    let was = subst (λ s. g.R.Source.faults c.args.self.now.source ≤ g.R.Source.faults s) (sym c.seek_head.ensures.source) c.pieces.invariant.later in
-    let read = c.fill.ensures.cause.later in
     let seen = ap length c.bytes-seen.ensures in
     let grown = ap length c.fill.ensures.gets.more ∙ length-append c.seek_head.new.self.held c.fill.ensures.gets.got in
     record {
@@ -76,5 +74,5 @@ pieces-preserved g c =
           (draws_reads g.R.Source.left g.R.Source.given c.args.self.now c.seek_head.new.self _ (draws_of g.R.Source.left g.R.Source.given c.args.self.now c.seek_head.new.self c.seek_head.new.self (λ b. b ≡ c.seek_head.new.self.held) gets refl refl)) waits c.fill.ensures.looks;
       within = omega (arith, seen, grown);
       none = none_on g.H.Head.form g.met.H.Head.ends (length c.bytes-seen.result.now) c.seek_head.new.self.held c.fill.new.self.held c.fill.ensures.gets.got c.fill.ensures.gets.more (omega (arith, seen)) (none_at_all g.H.Head.form g.met.H.Head.ends (length c.bytes-seen.result.now) waits.none);
-      later = omega (arith, was, read);
+      no_read_failed = c.in_ok-fill.ensures.no_read_failed (λ is. cc) ∙ (ap g.R.Source.faults c.seek_head.ensures.source ∙ c.pieces.invariant.no_read_failed);
     }

@@ -1,4 +1,4 @@
-use Rattle.std.proofs.Common.{◌≤◌, length, ◌-◌}
+use Rattle.std.proofs.Common.{◌≡◌, ◌≤◌, length, ◌-◌}
 use Rattle.cv_http.specs.Wires.{Looks, Beside, Gets}
 use Rattle.cv_http.specs.Forms.{AwaitedAs}
 use Rattle.cv_http.specs.HeadEndsInner.{NoneWithin}
@@ -11,7 +11,7 @@ invariant-pieces g l = record {
   looks : Looks g.R.Source.left g.R.Source.looks l.fn.self l.self (Beside (g.R.Beside.Sink.passed l.beside) (AwaitedAs g.H.Head.form));
   within : l.seen ≤ length l.self.held;
   none : NoneWithin g.H.Head.form l.seen l.self.held;
-  later : g.R.Source.faults l.fn.self.source ≤ g.R.Source.faults l.self.source;
+  no_read_failed : g.R.Source.faults l.self.source ≡ g.R.Source.faults l.fn.self.source;
 }
 
 abbrev pub decreases-pieces : goal.decreases-pieces

@@ -60,5 +60,5 @@ parts-preserved g c =
           (draws_reads g.R.Source.left g.R.Source.given c.args.self.now c.parts.self _ c.parts.invariant.draws) (search rules) c.has_some.ensures.looks)
           c.take_part.ensures.source;
       within = search rules;
-      later = search rules;
+      no_read_failed = search rules;
     }

@@ -9,7 +9,7 @@ invariant-parts g l = record {
   draws : Draws g.R.Source.left g.R.Source.given l.fn.self l.self (λ b. b ≡ l.body.items ++ l.self.held);
   looks : Looks g.R.Source.left g.R.Source.looks l.fn.self l.self (Beside (g.R.Beside.Sink.passed l.beside) (λ b. length b < l.size));
   within : vec_len l.body ≤ l.size;
-  later : g.R.Source.faults l.fn.self.source ≤ g.R.Source.faults l.self.source;
+  no_read_failed : g.R.Source.faults l.self.source ≡ g.R.Source.faults l.fn.self.source;
 }
 
 abbrev pub decreases-parts : goal.decreases-parts

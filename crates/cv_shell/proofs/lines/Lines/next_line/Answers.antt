@@ -1,4 +1,4 @@
-use Rattle.std.proofs.Common.{◌≡◌, ◌≤◌, ◌∙◌, sym, subst, refl, arith, inl, Err}
+use Rattle.std.proofs.Common.{◌≡◌, ◌∙◌, sym, subst, ap, refl, arith, inl, Err}
 use Rattle.cv_http.specs.Wires.{Draws}
 use Rattle.cv_http.proofs.Lemmas.{gets_same, gets_moved, gets_on, draws_of, looks_still}
 use Rattle.cv_shell.specs.Lines.{IsLine, LineRead}
@@ -10,7 +10,7 @@ pub pieces-init : goal.pieces-init
 pieces-init g c = record {
   gets = gets_same g.R.Source.left g.R.Source.given c.args.self.now c.args.self.now refl refl refl;
   looks = λ look is. inl is;
-  later = omega arith;
+  no_read_failed = refl;
 }
 
 pub returns-in_err-line-clause-reads : goal.returns-in_err-line-clause-reads
@@ -21,7 +21,7 @@ returns-in_err-line-clause-reads g c =
 
 pub returns-in_err-line-clause-cause : goal.returns-in_err-line-clause-cause
 returns-in_err-line-clause-cause g c = record {
-  later = subst (λ s. g.R.Source.faults c.args.self.now.source ≤ g.R.Source.faults s) (sym c.take_line.ensures.source) c.pieces.invariant.later;
+  later = let same = ap g.R.Source.faults c.take_line.ensures.source in let was = c.pieces.invariant.no_read_failed in omega (arith, same, was);
   failed = λ is.
       absurd (by_fault c.from_residual.result _ (λ r. r ≡ Err ReadFault → ⊥) c.from_residual.ensures.1
       (λ same. not_unread c.pieces.self.held c.take_line.new.self.held _ c.in_err-line.ensures.found cc) is);
@@ -56,13 +56,11 @@ pieces-preserved g c =
     let part = found_none c.pieces.self.held c.take_line.new.self.held c.in_ok-line.field-0 c.in_ok-line.ensures.found c.in_default.not-Some in
     let line : IsLine c.take_line.new.self.held = subst IsLine (sym part.1) part.0 in
     let gets = gets_moved g.R.Source.left g.R.Source.given c.args.self.now c.pieces.self c.take_line.new.self c.pieces.invariant.gets c.take_line.ensures.source part.1 in
-    let was = subst (λ s. g.R.Source.faults c.args.self.now.source ≤ g.R.Source.faults s) (sym c.take_line.ensures.source) c.pieces.invariant.later in
-    let read = c.fill.ensures.cause.later in
     record {
       gets = gets_on g.R.Source.left g.R.Source.given c.args.self.now c.take_line.new.self c.fill.new.self gets c.fill.ensures.gets;
       looks =
           looks_on g.R.Source.left g.R.Source.given g.R.Source.looks c.args.self.now c.take_line.new.self c.fill.new.self _
           (looks_still g.R.Source.left g.R.Source.looks c.args.self.now c.pieces.self c.take_line.new.self _ c.pieces.invariant.looks c.take_line.ensures.source)
           gets line c.fill.ensures.looks;
-      later = omega (arith, was, read);
+      no_read_failed = c.in_ok-fill.ensures.no_read_failed (λ is. cc) ∙ (ap g.R.Source.faults c.take_line.ensures.source ∙ c.pieces.invariant.no_read_failed);
     }
