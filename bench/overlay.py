@@ -69,12 +69,11 @@ fn base(alloc: Global, directories: u32) -> Option<Part> {
 }
 
 /// How many entries the part has, and the nanoseconds of a reading and of an overlay.
-fn measured(rt: &HostRuntime, name: &str, base: &Part) -> Option<(usize, u128, u128)> {
+fn measured<F: Folder>(rt: &HostRuntime, folder: &mut F, name: &str, base: &Part) -> Option<(usize, u128, u128)> {
     let alloc = rt.alloc();
-    let mut folder = SystemFolder::new(*rt);
     folder.root(alloc, name).ok()?;
     let begin = Instant::now(rt).ok()?;
-    let changes = read_folder(alloc, &mut folder, &RepoPath::root(alloc)).ok()?;
+    let changes = read_folder(alloc, folder, &RepoPath::root(alloc)).ok()?;
     let reading = begin.elapsed(rt).ok()?.as_nanos();
     let begin = Instant::now(rt).ok()?;
     let part = overlay(alloc, Some(base), &changes, 5).ok()?;
@@ -83,11 +82,11 @@ fn measured(rt: &HostRuntime, name: &str, base: &Part) -> Option<(usize, u128, u
 }
 
 /// The same with the best times of three.
-fn best(rt: &HostRuntime, name: &str, directories: u32) -> Option<(usize, u128, u128)> {
+fn best<F: Folder>(rt: &HostRuntime, folder: &mut F, name: &str, directories: u32) -> Option<(usize, u128, u128)> {
     let base = base(rt.alloc(), directories)?;
-    let (mut entries, mut reading, mut laying) = measured(rt, name, &base)?;
+    let (mut entries, mut reading, mut laying) = measured(rt, folder, name, &base)?;
     for _ in 0..2u64 {
-        let next = measured(rt, name, &base)?;
+        let next = measured(rt, folder, name, &base)?;
         entries = entries.max(next.0);
         reading = reading.min(next.1);
         laying = laying.min(next.2);
@@ -95,13 +94,15 @@ fn best(rt: &HostRuntime, name: &str, directories: u32) -> Option<(usize, u128, 
     Some((entries, reading, laying))
 }
 
+// The handle on threads is this function's alone: what wants it is made here.
 fn main(rt: HostRuntime) {
+    let mut folder = SystemFolder::new(rt);
     let Ok(Some(words)) = program_words(rt.alloc(), env::args(&rt)) else {
         return;
     };
     if let (Some(name), Some(directories)) = (words.first(), words.get(1)) {
         let directories = directories.parse::<u32>().unwrap_or(0);
-        if let Some((entries, reading, laying)) = best(&rt, name.as_str(), directories) {
+        if let Some((entries, reading, laying)) = best(&rt, &mut folder, name.as_str(), directories) {
             let _ = println!(rt; "{entries} {reading} {laying}");
         }
     }

@@ -120,7 +120,8 @@ abbrev pub IsNext : List Wanted → Errand → Type 0
 IsNext wanted (catalogue id) = next_of wanted ≡ Some id
 IsNext wanted (payload pack) = wanted ≡ []
 IsNext wanted commit = wanted ≡ []
-IsNext wanted other = ⊤
+IsNext wanted lease = ⊤
+IsNext wanted manifest = ⊤
 
 -- ---- faults
 

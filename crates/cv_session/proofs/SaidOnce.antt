@@ -3,7 +3,7 @@ use Rattle.std.proofs.Common.{◌≡◌, ◌++◌, ◌∷◌, ℕ, List, [], len
 use Rattle.std.specs.Prelude.{Bool, Result}
 use Rattle.std.specs.declared.option.Option.TheVariants.{Some}
 use Rattle.std.specs.List.{AllByRecursion}
-use Rattle.std.proofs.lemmas.List.{append_cancel_left, take-append-drop}
+use Rattle.std.proofs.lemmas.List.{append_cancel_left, take-append-drop, take_all, length-map}
 use Rattle.serde_json.specs.Written.{compact_text}
 use Rattle.cv_http.specs.Replies.{reply}
 use Rattle.cv_http.specs.declared.body_kind.BodyKind.{BodyKind}
@@ -79,11 +79,11 @@ module _ (repository : List ℕ) (seal : List ℕ → List ℕ) where
   -- ---- all of them
 
   -- the answers of exchanges begin those of others, where their turns do and what was taken begins with what is said in either
-  said_first : (es es' : List Exchange) (more more' : List ℕ) → IsFront (turns es) (turns es') → AllByRecursion (IsAnswered repository seal) es → AllByRecursion (IsAnswered repository seal) es'
+  said_first : (keys : List Key) (es es' : List Exchange) (more more' : List ℕ) → IsFront (turns es) (turns es') → AllByRecursion (IsAnswered repository keys seal) es → AllByRecursion (IsAnswered repository keys seal) es'
       → AllByRecursion IsWritten es → AllByRecursion IsWritten es' → sayings es ++ more ≡ sayings es' ++ more' → map (λ e. said e.answer) es ≡ take (length es) (map (λ e. said e.answer) es')
-  said_first [] es' more more' front are are' is is' same = refl
-  said_first (e ∷ es) [] more more' front are are' is is' same = let none : [] ≡ e.asked ∷ (turns es ++ front.more) = front.split in cc
-  said_first (e ∷ es) (e' ∷ es') more more' front are are' is is' same =
+  said_first keys [] es' more more' front are are' is is' same = refl
+  said_first keys (e ∷ es) [] more more' front are are' is is' same = let none : [] ≡ e.asked ∷ (turns es ++ front.more) = front.split in cc
+  said_first keys (e ∷ es) (e' ∷ es') more more' front are are' is is' same =
       let both_turns : e'.asked ∷ turns es' ≡ e.asked ∷ (turns es ++ front.more) = front.split in
       let turn : e.asked ≡ e'.asked = cc in
       let later : turns es' ≡ turns es ++ front.more = cc in
@@ -95,21 +95,29 @@ module _ (repository : List ℕ) (seal : List ℕ → List ℕ) where
       let parts = one_reply e.answer e'.answer (is_last e) (is_last e') (sayings es ++ more) (sayings es' ++ more') is.0 is'.0 (append_cancel_left (line_text e.asked.waited) reply_ reply' both) in
       let first : said e.answer ≡ said e'.answer =
       one_answer e.asked.what e.calls e'.calls e.answer e'.answer are.0 (subst (λ (t : Turned). Answers repository seal t.what e'.calls (Some e'.answer)) (sym turn) are'.0) is.0 is'.0 parts.0 parts.1 in
-      let rest = said_first es es' more more' (record { more = front.more; split = later }) are.1 are'.1 is.1 is'.1 parts.2 in
+      let rest = said_first keys es es' more more' (record { more = front.more; split = later }) are.1 are'.1 is.1 is'.1 parts.2 in
       rw (first, rest) refl
     where
       said_on : (line reply_ later more : List ℕ) → ((line ++ reply_) ++ later) ++ more ≡ line ++ (reply_ ++ (later ++ more))
       said_on line reply_ later more = append_assoc (line ++ reply_) later more ∙ append_assoc line reply_ (later ++ more)
 
-  pub one_saying : (es es' : List Exchange) (more more' : List ℕ) → IsFront (turns es) (turns es') → AllByRecursion (IsAnswered repository seal) es → AllByRecursion (IsAnswered repository seal) es'
+  pub one_saying : (keys : List Key) (es es' : List Exchange) (more more' : List ℕ) → IsFront (turns es) (turns es') → AllByRecursion (IsAnswered repository keys seal) es → AllByRecursion (IsAnswered repository keys seal) es'
       → AllByRecursion IsWritten es → AllByRecursion IsWritten es' → sayings es ++ more ≡ sayings es' ++ more' → IsFront (map (λ e. said e.answer) es) (map (λ e. said e.answer) es')
-  one_saying es es' more more' front are are' is is' same =
+  one_saying keys es es' more more' front are are' is is' same =
       let all : List Response = map (λ e. said e.answer) es' in
       record {
         more = drop (length es) all;
-        split = sym (take-append-drop (length es) all) ∙ ap (λ l. l ++ drop (length es) all) (sym (said_first es es' more more' front are are' is is' same));
+        split = sym (take-append-drop (length es) all) ∙ ap (λ l. l ++ drop (length es) all) (sym (said_first keys es es' more more' front are are' is is' same));
       }
 
+  pub same_saying : (keys : List Key) (es es' : List Exchange) (more more' : List ℕ) → turns es ≡ turns es' → AllByRecursion (IsAnswered repository keys seal) es → AllByRecursion (IsAnswered repository keys seal) es'
+      → AllByRecursion IsWritten es → AllByRecursion IsWritten es' → sayings es ++ more ≡ sayings es' ++ more' → map (λ e. said e.answer) es ≡ map (λ e. said e.answer) es'
+  same_saying keys es es' more more' asked are are' is is' same =
+      let all : List Response = map (λ e. said e.answer) es' in
+      let size : length es ≡ length all = sym (length-map (λ e. e.asked) es) ∙ ap length asked ∙ length-map (λ e. e.asked) es' ∙ sym (length-map (λ e. said e.answer) es') in
+      let front : IsFront (turns es) (turns es') = record { more = []; split = sym asked ∙ sym (append-nil (turns es)) } in
+      said_first keys es es' more more' front are are' is is' same ∙ ap (λ n. take n all) size ∙ take_all all
+
 -- no reply is a proper front of another
-pub one_whole : (a a' : Response) (last last' : Bool) (more : List ℕ) → IsLegible a → IsLegible a' → reply_of a' last' ≡ reply_of a last ++ more → more ≡ []
-one_whole a a' last last' more is is' same = (one_reply a a' last last' more [] is is' (sym same ∙ sym (append-nil (reply_of a' last')))).2
+pub no_reply_begins_another : (a a' : Response) (last last' : Bool) (more : List ℕ) → IsLegible a → IsLegible a' → reply_of a' last' ≡ reply_of a last ++ more → more ≡ []
+no_reply_begins_another a a' last last' more is is' same = (one_reply a a' last last' more [] is is' (sym same ∙ sym (append-nil (reply_of a' last')))).2

@@ -17,7 +17,7 @@ use Rattle.cv_session.specs.Said.{IsLegible}
 use Rattle.cv_session.specs.Standing.{Standing, Made}
 use Rattle.cv_session.specs.declared.response.Response.{Response}
 use Rattle.cv_session.specs.declared.session_end.SessionEnd.{SessionEnd}
-use Rattle.cv_session.specs.declared.session_end.SessionEnd.TheVariants.{Clean, Closed, ReadFault, WriteFault, JournalFull, NoMemory}
+use Rattle.cv_session.specs.declared.session_end.SessionEnd.TheVariants.{Clean, Closed, Bad, ReadFault, WriteFault, JournalFull, NoMemory}
 
 -- what was asked, what the desk was asked for it and answered, and the answer
 pub record Exchange : Type 0 where
@@ -71,11 +71,16 @@ module _ (repository : List ℕ) (keys : List Key) (seal : List ℕ → List ℕ
       pub opened : Opened first rest
       pub next : IsNext repository keys (length first + 1) rest last_.asked later
 
-    -- what is still held where the session ended by the bytes: nothing at the end of the input, and what follows the last request
+    -- what is still held where the session ended by the bytes: nothing at the end of the input, and what follows the last request;
+    -- of the other ends nothing is said
     abbrev pub Holds : List Exchange → List ℕ → SessionEnd → Type 0
     Holds es held Clean = held ≡ []
     Holds es held Closed = IsLast es held
-    Holds es held other = Unit {0}
+    Holds es held (Bad why) = Unit {0}
+    Holds es held ReadFault = Unit {0}
+    Holds es held WriteFault = Unit {0}
+    Holds es held JournalFull = Unit {0}
+    Holds es held NoMemory = Unit {0}
 
     -- how a session ended over the bytes read, of which these are still held: what was said whole in these exchanges, what the desk
     -- was asked besides, and what the sink took

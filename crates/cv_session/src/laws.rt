@@ -1,7 +1,7 @@
 //! What a request asks is one thing, and so is what the bytes of a connection ask; and what was written fixes the answers.
 //!
 //! The functions do nothing. Their contracts hold of all requests and bytes.
-ghost use Rattle.std.specs.Prelude.{◌≡◌, ◌⊎◌, ℕ, List, length, map, Bool};
+ghost use Rattle.std.specs.Prelude.{◌≡◌, ◌⊎◌, ◌++◌, ℕ, List, [], length, map, Bool};
 ghost use Rattle.std.specs.List.{AllByRecursion};
 ghost use Rattle.cv_http.specs.declared.head.RequestHead.{RequestHead};
 ghost use Rattle.cv_keys.specs.declared.key.Key.{Key};
@@ -9,8 +9,10 @@ ghost use Rattle.cv_gate.specs.Heads.{IsFront};
 ghost use Rattle.cv_session.specs.Asking.{Turned, Opens, IsAsked};
 ghost use Rattle.cv_session.specs.OneAsked.{IsOne, IsOpenBehind};
 ghost use Rattle.cv_session.specs.Requests.{WantsAny};
-ghost use Rattle.cv_session.specs.Said.{said};
+ghost use Rattle.cv_session.specs.Responses.{reply_of};
+ghost use Rattle.cv_session.specs.Said.{said, IsLegible};
 ghost use Rattle.cv_session.specs.Sessions.{Exchange, turns, sayings, IsWritten, IsAnswered};
+ghost use Rattle.cv_session.specs.declared.response.Response.{Response};
 ghost use Rattle.cv_session.specs.declared.session_end.SessionEnd.{SessionEnd};
 ghost use Rattle.cv_session.specs.declared.turn.Turn.{Turn};
 
@@ -40,18 +42,22 @@ pub fn one_opening()
 {}
 
 /// What a sink took fixes the answers: where the turns of one list of exchanges begin those of another, and what was taken begins
-/// with what is said in either, the answers of the one begin those of the other; of the gate's replies those of the interface.
-/// The exchange in which the output failed may stand last among these, once its reply is whole: it is one as the program writes
-/// it (`broken`).
+/// with what is said in either, the answers of the one begin those of the other, of the gate's replies those of the interface;
+/// and of the same turns there are the same answers. The exchange in which the output failed may stand last among these, once
+/// its reply is whole: it is one as the program writes it (`broken`).
 pub fn one_saying()
-    ensures { (repository : List ℕ) (keys : List Key) (seal : List ℕ → List ℕ) (es es' : List Exchange) (more more' : List ℕ) → IsFront (turns es) (turns es')
+    ensures fronts { (repository : List ℕ) (keys : List Key) (seal : List ℕ → List ℕ) (es es' : List Exchange) (more more' : List ℕ) → IsFront (turns es) (turns es')
         → AllByRecursion (IsAnswered repository keys seal) es → AllByRecursion (IsAnswered repository keys seal) es'
         → AllByRecursion IsWritten es → AllByRecursion IsWritten es'
         → sayings es ++ more ≡ sayings es' ++ more' → IsFront (map (λ e. said e.answer) es) (map (λ e. said e.answer) es') }
+    ensures whole { (repository : List ℕ) (keys : List Key) (seal : List ℕ → List ℕ) (es es' : List Exchange) (more more' : List ℕ) → turns es ≡ turns es'
+        → AllByRecursion (IsAnswered repository keys seal) es → AllByRecursion (IsAnswered repository keys seal) es'
+        → AllByRecursion IsWritten es → AllByRecursion IsWritten es'
+        → sayings es ++ more ≡ sayings es' ++ more' → map (λ e. said e.answer) es ≡ map (λ e. said e.answer) es' }
 {}
 
 /// No reply is a proper front of another: where the output failed in one, what was taken of it is no whole reply, or all of it.
-pub fn one_whole()
+pub fn no_reply_begins_another()
     ensures { (answer answer' : Response) (last last' : Bool) (more : List ℕ) → IsLegible answer → IsLegible answer'
         → reply_of answer' last' ≡ reply_of answer last ++ more → more ≡ [] }
 {}

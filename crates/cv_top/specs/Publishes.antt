@@ -110,7 +110,11 @@ exchange_status exchange_fault.NoMemory = OutOfMemory
 abbrev pub refusal_status : Answer → Status
 refusal_status (answer.PathBusy token remaining) = Refused refused.PathBusy
 refusal_status (answer.Refused refusal) = Refused (refused.Said refusal)
-refusal_status other = BadReply
+refusal_status (answer.Granted token revision root) = BadReply
+refusal_status answer.Done = BadReply
+refusal_status (answer.Committed revision root) = BadReply
+refusal_status (answer.Leases items) = BadReply
+refusal_status (answer.Repos names) = BadReply
 
 -- where nothing was published
 abbrev pub publish_status : PublishFault → Status
