@@ -1,3 +1,2 @@
-pub mod BegunInner
 pub mod ListingInner
 pub mod SeenInner

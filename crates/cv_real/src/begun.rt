@@ -1,122 +1,155 @@
-//! Files whose syncs were begun, which are made many at once.
-ghost use Rattle.std.specs.Prelude.{◌≡◌, ◌≤◌, ◌⊎◌, [], None, IsErr, IsSome, IsTrue, length};
-ghost use Rattle.cv_real.specs.BegunInner.{some_failed};
-ghost use Rattle.cv_real.specs.declared.begun.TheConstants.{BEGUN_LIMIT};
+//! Files whose syncs were begun, which threads make while the program goes on.
+ghost use Rattle.std.specs.Prelude.{◌≡◌, ◌≤◌, ◌<◌, ◌⊎◌, [], None, IsErr, IsSome, length};
+ghost use Rattle.cv_real.specs.declared.begun.TheConstants.{GROUP_SIZE, THREAD_LIMIT};
 
 use std::alloc::Global;
 use std::fs::File;
-use std::io;
-use std::io::ErrorKind;
-use std::thread::{Threads, join};
+use std::thread::{Promise, PromisedHandle, Threads, spawn_with};
+use std::{io, mem};
 
-/// How many files wait at most. Each is open until its sync is made, and a process may have few open at once.
-pub const BEGUN_LIMIT: usize = 128;
+/// How many files a thread syncs, one after another.
+pub const GROUP_SIZE: usize = 8;
 
-/// How many syncs are made at once.
-const SYNC_THREADS: usize = 16;
+/// How many threads are at it at most. With the files that no thread has yet, 136 files are open at most: a process may have few
+/// open at once.
+pub const THREAD_LIMIT: usize = 16;
 
-/// A file whose sync was begun.
+/// What a thread promises of its answer: nothing, since nothing is known of a disk.
 #[derive(Drop)]
-pub struct BegunSync {
-    file: File,
-    /// How its sync came out. One that isn't made yet counts as failed.
-    synced: io::Result<()>,
-}
+pub struct Untold;
 
-impl BegunSync {
-    /// Makes the sync.
-    fn make(&mut self) {
-        self.synced = self.file.sync_all();
-    }
-}
-
-/// Makes the syncs of these files.
-fn make_each(waiting: &mut [BegunSync]) {
-    for begun in waiting {
-        begun.make();
-    }
-}
-
-/// Makes the syncs of these files, of so many each in a thread of its own.
-fn make_parts<R: Threads>(rt: &R, size: usize, waiting: &mut [BegunSync]) {
-    if size == 0 || waiting.len() <= size {
-        make_each(waiting);
-        return;
-    }
-    let (part, rest) = waiting.split_at_mut(size);
-    join(rt, || make_each(part), || make_parts(rt, size, rest));
+impl Promise<io::Result<()>> for Untold {
+    ghost kept_by = { λ p answer. Unit {0} };
 }
 
 /// The files whose syncs were begun and aren't ended yet.
 #[derive(Drop)]
 pub struct BegunSyncs {
-    waiting: Vec<BegunSync>,
-    /// The error of a sync that was made before they are ended.
+    alloc: Global,
+    /// Files that no thread has yet.
+    waiting: Vec<File>,
+    /// The threads in the order of their starts. Each answers how the syncs of its files came out.
+    threads: Vec<PromisedHandle<io::Result<()>, Untold>>,
+    /// The error of a sync that failed since the last end.
     failed: Option<io::Error>,
+}
+
+/// Syncs each of these files, and answers an error where one failed.
+fn sync_each(files: &[File]) -> io::Result<()> {
+    let mut all = Ok(());
+    for file in files {
+        all = all.and(file.sync_all());
+    }
+    all
 }
 
 impl BegunSyncs {
     /// None was begun yet.
     pub fn new(alloc: Global) -> BegunSyncs
         ensures waiting { result.waiting.items ≡ [] }
+        ensures threads { result.threads.items ≡ [] }
         ensures failed { result.failed ≡ None }
     {
         BegunSyncs {
+            alloc,
             waiting: Vec::new(alloc),
+            threads: Vec::new(alloc),
             failed: None,
         }
     }
 
-    /// Closes the files, whose syncs were made, and keeps an error where one failed.
-    fn close(&mut self)
-        ensures waiting { self.new.waiting.items ≡ [] }
-        ensures failed { IsSome self.old.failed ⊎ IsTrue (some_failed self.old.waiting.items)
-            → IsSome self.new.failed }
+    /// Keeps the error of syncs that came out so.
+    fn note(&mut self, synced: io::Result<()>)
+        ensures failed { IsSome self.old.failed ⊎ IsErr synced → IsSome self.new.failed }
+        ensures waiting { self.new.waiting ≡ self.old.waiting }
+        ensures threads { self.new.threads ≡ self.old.threads }
     {
-        while let Some(begun) = self.waiting.pop() {
-            if let Err(error) = begun.synced {
-                self.failed = Some(error);
+        if let Err(error) = synced {
+            self.failed = Some(error);
+        }
+    }
+
+    /// Waits for the thread that was started first, where all threads are at work.
+    fn make_room<R: Threads>(&mut self, rt: &R)
+        ensures failed { IsSome self.old.failed → IsSome self.new.failed }
+        ensures waiting { self.new.waiting ≡ self.old.waiting }
+        ensures threads { length self.old.threads.items ≤ THREAD_LIMIT
+            → length self.new.threads.items < THREAD_LIMIT }
+    {
+        if self.threads.len() >= THREAD_LIMIT {
+            let first = self.threads.remove(0);
+            self.note(first.join(rt));
+        }
+    }
+
+    /// Keeps a thread, or waits for it where there is no memory for that.
+    fn keep<R: Threads>(&mut self, rt: &R, thread: PromisedHandle<io::Result<()>, Untold>)
+        ensures failed { IsSome self.old.failed → IsSome self.new.failed }
+        ensures waiting { self.new.waiting ≡ self.old.waiting }
+        ensures threads { length self.old.threads.items < THREAD_LIMIT
+            → length self.new.threads.items ≤ THREAD_LIMIT }
+    {
+        if let Err(refused) = self.threads.push(thread) {
+            self.note(refused.value.join(rt));
+        }
+    }
+
+    /// Has a thread sync the files that wait, or syncs them where none can be started.
+    fn hand_over<R: Threads>(&mut self, rt: &R)
+        ensures failed { IsSome self.old.failed → IsSome self.new.failed }
+        ensures waiting { self.new.waiting.items ≡ [] }
+        ensures threads { length self.old.threads.items ≤ THREAD_LIMIT
+            → length self.new.threads.items ≤ THREAD_LIMIT }
+    {
+        let files = mem::replace(&mut self.waiting, Vec::new(self.alloc));
+        self.make_room(rt);
+        match spawn_with(rt, Untold, move || sync_each(files.as_slice())) {
+            Ok(thread) => self.keep(rt, thread),
+            Err(refused) => {
+                let sync = refused.value;
+                self.note(sync());
             }
         }
     }
 
-    /// Makes the syncs that wait, and keeps an error where one failed.
-    fn make<R: Threads>(&mut self, rt: &R)
-        ensures waiting { self.new.waiting.items ≡ [] }
-        ensures failed { IsSome self.old.failed → IsSome self.new.failed }
-    {
-        let size = self.waiting.len().div_ceil(SYNC_THREADS);
-        make_parts(rt, size, self.waiting.as_mut_slice());
-        self.close();
-    }
-
-    /// Begins the sync of a file. Where too many wait they are made before, and where there is no memory for the file its own is
-    /// made at once.
+    /// Begins the sync of a file. Where there is no memory for the file its sync is made at once.
     pub fn begin<R: Threads>(&mut self, rt: &R, file: File) -> io::Result<()>
-        ensures waiting { length self.old.waiting.items ≤ BEGUN_LIMIT
-            → length self.new.waiting.items ≤ BEGUN_LIMIT }
         ensures failed { IsSome self.old.failed → IsSome self.new.failed }
+        ensures waiting { length self.old.waiting.items < GROUP_SIZE
+            → length self.new.waiting.items < GROUP_SIZE }
+        ensures threads { length self.old.threads.items ≤ THREAD_LIMIT
+            → length self.new.threads.items ≤ THREAD_LIMIT }
     {
-        if self.waiting.len() >= BEGUN_LIMIT {
-            self.make(rt);
+        if let Err(refused) = self.waiting.push(file) {
+            return refused.value.sync_all();
         }
-        let begun = BegunSync {
-            file,
-            synced: Err(io::Error::from(ErrorKind::Other)),
-        };
-        match self.waiting.push(begun) {
-            Ok(()) => Ok(()),
-            Err(refused) => refused.value.file.sync_all(),
+        if self.waiting.len() >= GROUP_SIZE {
+            self.hand_over(rt);
+        }
+        Ok(())
+    }
+
+    /// Waits for the threads that are at work.
+    fn join_all<R: Threads>(&mut self, rt: &R)
+        ensures failed { IsSome self.old.failed → IsSome self.new.failed }
+        ensures waiting { self.new.waiting ≡ self.old.waiting }
+        ensures threads { self.new.threads.items ≡ [] }
+    {
+        while let Some(thread) = self.threads.pop() {
+            self.note(thread.join(rt));
         }
     }
 
-    /// Makes the syncs that wait. It fails where one that was begun since the last end failed.
+    /// Ends the syncs that were begun: none is at work or waits behind it. It fails where one that was begun since the last end
+    /// failed.
     pub fn end<R: Threads>(&mut self, rt: &R) -> io::Result<()>
         ensures waiting { self.new.waiting.items ≡ [] }
+        ensures threads { self.new.threads.items ≡ [] }
         ensures fails { IsSome self.old.failed → IsErr result }
         ensures once { self.new.failed ≡ None }
     {
-        self.make(rt);
+        self.hand_over(rt);
+        self.join_all(rt);
         match self.failed.take() {
             Some(error) => Err(error),
             None => Ok(()),

@@ -72,7 +72,7 @@ not_clean (refused other code same has said) is = cc
 not_clean (broken_off other code same has said) is = cc
 not_clean (cut_short same stays) is = cc
 not_clean (not_read same stays) is = cc
-not_clean (no_memory other same stays) is = cc
+not_clean (no_memory other same read stays) is = cc
 not_clean (not_said same stays) is = cc
 
 pub by_short : {why : Unread} {taken taken' : Option (List ℕ)} {end : SessionEnd} → EndsBy why taken taken' end → end ≡ Bad Short → why ≡ Fault Short
@@ -80,7 +80,7 @@ by_short (refused other code same has said) is = let e : other ≡ Short = cc in
 by_short (broken_off other code same has said) is = cc
 by_short (cut_short same stays) is = same
 by_short (not_read same stays) is = cc
-by_short (no_memory other same stays) is = cc
+by_short (no_memory other same read stays) is = cc
 by_short (not_said same stays) is = cc
 
 pub by_read_fault : {why : Unread} {taken taken' : Option (List ℕ)} {end : SessionEnd} → EndsBy why taken taken' end → end ≡ ReadFault → why ≡ Fault Unread_
@@ -88,7 +88,7 @@ by_read_fault (refused other code same has said) is = cc
 by_read_fault (broken_off other code same has said) is = cc
 by_read_fault (cut_short same stays) is = cc
 by_read_fault (not_read same stays) is = same
-by_read_fault (no_memory other same stays) is = cc
+by_read_fault (no_memory other same read stays) is = cc
 by_read_fault (not_said same stays) is = cc
 
 pub by_unsaid : {why : Unread} {taken taken' : Option (List ℕ)} {end : SessionEnd} → EndsBy why taken taken' end → why ≡ Unsaid → end ≡ WriteFault
@@ -96,5 +96,13 @@ by_unsaid (refused other code same has said) is = let both : Unsaid ≡ Fault ot
 by_unsaid (broken_off other code same has said) is = refl
 by_unsaid (cut_short same stays) is = let both : Unsaid ≡ Fault Short = sym is ∙ same in cc
 by_unsaid (not_read same stays) is = let both : Unsaid ≡ Fault Unread_ = sym is ∙ same in cc
-by_unsaid (no_memory other same stays) is = let both : Unsaid ≡ Fault other = sym is ∙ same in cc
+by_unsaid (no_memory other same read stays) is = let both : Unsaid ≡ Fault other = sym is ∙ same in cc
 by_unsaid (not_said same stays) is = refl
+
+pub ends_unread : {why : Unread} {taken taken' : Option (List ℕ)} {end : SessionEnd} → EndsBy why taken taken' end → why ≡ Fault Unread_ → end ≡ ReadFault
+ends_unread (refused other code same has said) is = let e : other ≡ Unread_ = cc in let none : None ≡ Some code = sym (ap code_of_fault e) ∙ has in cc
+ends_unread (broken_off other code same has said) is = let e : other ≡ Unread_ = cc in let none : None ≡ Some code = sym (ap code_of_fault e) ∙ has in cc
+ends_unread (cut_short same stays) is = let both : Fault Short ≡ Fault Unread_ = sym same ∙ is in cc
+ends_unread (not_read same stays) is = refl
+ends_unread (no_memory other same read stays) is = let e : other ≡ Unread_ = cc in absurd (read e)
+ends_unread (not_said same stays) is = let both : Unsaid ≡ Fault Unread_ = sym same ∙ is in cc

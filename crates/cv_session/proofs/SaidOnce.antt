@@ -1,5 +1,5 @@
 -- What was written fixes the answers.
-use Rattle.std.proofs.Common.{◌≡◌, ◌++◌, ◌∷◌, ℕ, List, [], length, map, take, drop, refl, ap, sym, subst, ◌∙◌, append_assoc, append-nil, Ok}
+use Rattle.std.proofs.Common.{◌≡◌, ◌++◌, ◌∷◌, ℕ, List, [], length, map, take, drop, refl, ap, sym, subst, ◌∙◌, append_assoc, append-nil, Ok, arith}
 use Rattle.std.specs.Prelude.{Bool, Result}
 use Rattle.std.specs.declared.option.Option.TheVariants.{Some}
 use Rattle.std.specs.List.{AllByRecursion}
@@ -114,9 +114,9 @@ module _ (repository : List ℕ) (seal : List ℕ → List ℕ) where
       → AllByRecursion IsWritten es → AllByRecursion IsWritten es' → sayings es ++ more ≡ sayings es' ++ more' → map (λ e. said e.answer) es ≡ map (λ e. said e.answer) es'
   same_saying keys es es' more more' asked are are' is is' same =
       let all : List Response = map (λ e. said e.answer) es' in
-      let size : length es ≡ length all = sym (length-map (λ e. e.asked) es) ∙ ap length asked ∙ length-map (λ e. e.asked) es' ∙ sym (length-map (λ e. said e.answer) es') in
+      let size : length es ≡ length all = sym (length-map es (λ e. e.asked)) ∙ ap length asked ∙ length-map es' (λ e. e.asked) ∙ sym (length-map es' (λ e. said e.answer)) in
       let front : IsFront (turns es) (turns es') = record { more = []; split = sym asked ∙ sym (append-nil (turns es)) } in
-      said_first keys es es' more more' front are are' is is' same ∙ ap (λ n. take n all) size ∙ take_all all
+      said_first keys es es' more more' front are are' is is' same ∙ ap (λ n. take n all) size ∙ take_all (length all) all (omega arith)
 
 -- no reply is a proper front of another
 pub no_reply_begins_another : (a a' : Response) (last last' : Bool) (more : List ℕ) → IsLegible a → IsLegible a' → reply_of a' last' ≡ reply_of a last ++ more → more ≡ []

@@ -266,7 +266,7 @@ module _ {K : Type 0} {does : K → List Call → K → Type 0} {repository : Li
     by_fault_end none why line taken1 taken2 _ reached is took (not_read same stays) =
         let here : why ≡ Unread_ = cc in
         ends_here (unread later line taken2 s.opened (subst (IsWhy later line) here is) (said_line line taken2 (stays ∙ took)))
-    by_fault_end none why line taken1 taken2 _ reached is took (no_memory other same stays) = ends_here (forgotten later line taken2 s.opened reached (said_line line taken2 (stays ∙ took)))
+    by_fault_end none why line taken1 taken2 _ reached is took (no_memory other same read stays) = ends_here (forgotten later line taken2 s.opened reached (said_line line taken2 (stays ∙ took)))
     by_fault_end none why line taken1 taken2 _ reached is took (not_said same stays) = cc
 
     by_line_end : {held : List ℕ} (taken1 taken2 : Option (List ℕ)) (end : SessionEnd) → Reached later true → Wrote taken' taken1 continue_line
@@ -275,7 +275,7 @@ module _ {K : Type 0} {does : K → List Call → K → Type 0} {repository : Li
     by_line_end taken1 taken2 _ reached took (broken_off other code same has said) = cc
     by_line_end taken1 taken2 _ reached took (cut_short same stays) = cc
     by_line_end taken1 taken2 _ reached took (not_read same stays) = cc
-    by_line_end taken1 taken2 _ reached took (no_memory other same stays) = cc
+    by_line_end taken1 taken2 _ reached took (no_memory other same read stays) = cc
     by_line_end taken1 taken2 _ reached took (not_said same stays) =
         ends_here
         (broken_line later taken2 s.opened reached

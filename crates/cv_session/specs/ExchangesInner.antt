@@ -87,5 +87,5 @@ pub data EndsBy (why : Unread) (before after : Option (List ℕ)) : SessionEnd �
   broken_off : (fault : HttpFault) (code : Code) → why ≡ Fault fault → code_of_fault fault ≡ Some code → Wrote before after (reply_of (Fixed code) true) → EndsBy why before after WriteFault
   cut_short : why ≡ Fault Short → after ≡ before → EndsBy why before after (Bad Short)
   not_read : why ≡ Fault Unread_ → after ≡ before → EndsBy why before after ReadFault
-  no_memory : (fault : HttpFault) → why ≡ Fault fault → after ≡ before → EndsBy why before after NoMemory
+  no_memory : (fault : HttpFault) → why ≡ Fault fault → fault ≢ Unread_ → after ≡ before → EndsBy why before after NoMemory
   not_said : why ≡ Unsaid → after ≡ before → EndsBy why before after WriteFault

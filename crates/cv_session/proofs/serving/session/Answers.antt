@@ -1,10 +1,10 @@
 use Rattle.std.proofs.Common.{◌≡◌, ◌∙◌, ◌+◌, refl, ap, Err, arith}
-use Rattle.cv_http.specs.declared.fault.HttpFault.TheVariants.{Short}
+use Rattle.cv_http.specs.declared.fault.HttpFault.TheVariants.{Short, ReadFault as Unread_}
 use Rattle.cv_http.proofs.Lemmas.{draws_none, draws_then}
-use Rattle.cv_session.specs.declared.request.Unread.TheVariants.{Unsaid}
+use Rattle.cv_session.specs.declared.request.Unread.TheVariants.{Fault, Unsaid}
 use Rattle.cv_session.specs.declared.session_end.SessionEnd.TheVariants.{Clean, Bad, ReadFault, WriteFault}
 use Rattle.cv_session.specs.Sessions.{ReadsUpToDate}
-use Rattle.cv_session.proofs.Endings.{not_clean, by_short, by_read_fault, by_unsaid, goes_below, not_by_reading}
+use Rattle.cv_session.proofs.Endings.{not_clean, by_short, by_read_fault, by_unsaid, ends_unread, goes_below, not_by_reading}
 use Rattle.cv_session.proofs.Sessioning.{begin, so_more, up_to_date_none, up_to_date_on, up_to_date_grows, clean_end, other_end, answered_one}
 use Rattle.cv_session.proofs.serving.session.Goals as goal
 
@@ -70,7 +70,7 @@ returns-in-Err-clause-reads g c = record {
   later = let read = c.next_asked.ensures.reads.later in let was = c.requests.invariant.no_read_failed in omega (arith, read, was);
   failed = λ is.
       let rose = c.next_asked.ensures.reads.failed (c.in-Err.is ∙ ap (λ why. Err why) (by_read_fault c.refuse.ensures.ends is)) in
-      let was = c.requests.invariant.reads in omega (arith, rose, was);
+      let was = c.requests.invariant.no_read_failed in omega (arith, rose, was);
 }
 
 pub returns-in-Some-clause-flushed : goal.returns-in-Some-clause-flushed
@@ -81,3 +81,8 @@ pub returns-in-Err-clause-flushed : goal.returns-in-Err-clause-flushed
 returns-in-Err-clause-flushed g c = λ written was.
     c.refuse.ensures.flushed written
     (c.in-Err.ensures.flushed (λ e. let same : c.in-Err.why ≡ Unsaid = cc in written (by_unsaid c.refuse.ensures.ends same)) (c.requests.invariant.flushed was))
+
+pub returns-in-Err-clause-no_read_failed : goal.returns-in-Err-clause-no_read_failed
+returns-in-Err-clause-no_read_failed g c = λ not.
+    c.in-Err.ensures.no_read_failed (λ is. not (ends_unread c.refuse.ensures.ends (let why : c.in-Err.why ≡ Fault Unread_ = cc in why)))
+    ∙ c.requests.invariant.no_read_failed

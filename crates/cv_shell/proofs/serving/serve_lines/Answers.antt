@@ -1,4 +1,4 @@
-use Rattle.std.proofs.Common.{◌≡◌, refl, rules, arith, inl}
+use Rattle.std.proofs.Common.{◌≡◌, ◌∙◌, refl, rules, arith, inl}
 use Rattle.cv_http.proofs.Lemmas.{gets_same, draws_of, draws_as}
 use Rattle.cv_client.proofs.Lemmas.{asks_none, asks_then}
 use Rattle.cv_shell.proofs.Streams.{draws_then}
