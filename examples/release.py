@@ -6,8 +6,8 @@
 The gateway is one `cvkit stdio` behind a small listener (`tools/cvkit_gateway.py`). The first folder has the package's files, a
 catalogue of their own, and some that the second takes away: by whiteouts, by a changed file, and by an opaque directory. What is
 published is read from a plain web server by `cvkit ls` and `cvkit cat`, in the full form by a shell's lines, and each file is
-compared with what `sha1sum` says of it; and of the first hundred links and files `cvkit stat` tells what the system tells of
-them. The package is one in apt's cache: the smallest that has from 20 to 300 files of 256 KiB in all, or in the full form the
+compared with what `sha1sum` says of it; and of the first hundred directories, links and files `cvkit stat` tells what the system
+tells of them, but for the owners, which are 0. The package is one in apt's cache: the smallest that has from 20 to 300 files of 256 KiB in all, or in the full form the
 first that has from 1,000 to 20,000; or else one that `apt-get download` brings. Without either
 nothing is done.
 """
@@ -96,6 +96,7 @@ def make_folders(package, first, second, wanted):
     changed, gone = files[0], files[-1]
     write(os.path.join(first, MARKER), b"")
     write(os.path.join(first, "old"), b"It goes with the next release.\n")
+    os.symlink(changed, os.path.join(first, "link"))
     for name in "abc":
         write(os.path.join(first, "hidden", name), name.encode())
     shutil.copytree(first, wanted, symlinks=True)
@@ -113,11 +114,15 @@ def make_folders(package, first, second, wanted):
 
 
 def told_of(path):
-    """What `cvkit stat` tells of a file or a link that was published from here."""
+    """What `cvkit stat` tells of what was published from here."""
     found = os.lstat(path)
-    kind, target = ("link", f" -> {os.readlink(path)}") if stat.S_ISLNK(found.st_mode) else ("file", "")
     time = max(0, int(found.st_mtime // 1))
-    return f"{kind} {stat.S_IMODE(found.st_mode):04o} {found.st_uid} {found.st_gid} {found.st_size} {time}{target}\n"
+    kind, size, target = "file", found.st_size, ""
+    if stat.S_ISDIR(found.st_mode):
+        kind, size = "dir", 0
+    elif stat.S_ISLNK(found.st_mode):
+        kind, target = "link", f" -> {os.readlink(path)}"
+    return f"{kind} {stat.S_IMODE(found.st_mode):04o} 0 0 {size} {time}{target}\n"
 
 
 def digests_of(folder):
@@ -170,15 +175,21 @@ def contents_by_shell(place, files):
     expect(at == len(output), "the shell's last answer", output[at : at + 80])
 
 
-def look_at_entries(place, first, taken):
+def look_at_entries(place, first, second, taken):
     """What is told of the entries of the first release that the second leaves as they are."""
-    links = paths_below(first, os.path.islink)
-    files = [path for path in files_below(first) if path not in taken and not path.startswith("hidden/")]
-    links, files = links[:100], files[:100]
-    for path in links + files:
-        found = place.look("stat", f"{AT}/{path}")
-        expect(found == (0, os.fsencode(told_of(os.path.join(first, path))), ""), f"what is told of {path}", found)
-    print(f"of {len(links)} links and {len(files)} files the kind, permissions, owners, size, time and target are those of the package")
+    kinds = {
+        "directories": paths_below(first, lambda path: os.path.isdir(path) and not os.path.islink(path)),
+        "links": paths_below(first, os.path.islink),
+        "files": files_below(first),
+    }
+    counts = []
+    for kind, paths in kinds.items():
+        stay = [path for path in paths if path not in taken and not path.startswith("hidden/") and not os.path.lexists(os.path.join(second, path))]
+        for path in stay[:100]:
+            found = place.look("stat", f"{AT}/{path}")
+            expect(found == (0, os.fsencode(told_of(os.path.join(first, path))), ""), f"what is told of {path}", found)
+        counts.append(f"{len(stay[:100])} {kind}")
+    print(f"of {', '.join(counts)} the kind, permissions, size, time and target are those of the package")
 
 
 def read_back(place, wanted, gone):
@@ -230,7 +241,7 @@ def script(program, _short):
         with web_server(folder) as (port, _):
             place = Place(program, folder, port)
             read_back(place, wanted, gone)
-            look_at_entries(place, first, (gone, changed, "old"))
+            look_at_entries(place, first, second, (gone, "old"))
 
 
 sys.argv = [word for word in sys.argv if word != "--full"]

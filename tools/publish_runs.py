@@ -6,7 +6,7 @@ import json
 
 import runs
 from cut_vectors import catalogues
-from cvkit_client import LEASES, PAYLOADS, REPOSITORY, authorization, commit_message, digest_of, lease_message, pack, pack_header, payload_message
+from cvkit_client import LEASES, PAYLOADS, REPOSITORY, authorization, commit_message, digest_of, lease_message, object_name, pack, pack_header, payload_message
 from line_vectors import first, manifest
 
 TIME = 1700000000
@@ -127,6 +127,11 @@ ITEMS = ["dir /d", "file /d/.wh.x", "file /d/z hello\\n"]
 STORY = begun("/r", BASE) + [(payload(*made(NEXT, HELLO)), DONE), (commit(BASE, NEXT), committed(NEXT))]
 CAUGHT = begun("/r", BASE)
 FILE = ["file /f hello\\n"]
+# A manifest under another seal; and one whose root's catalogue is a text.
+RESEALED = octets(manifest(2, catalogues(BASE, TIME)[""], first)[:-1] + b"!")
+GRANTED_FILE = said(revision=1, root_hash=digest_of(HELLO), session_token="1-1", status="ok")
+SERVED_FILE = octets(manifest(2, HELLO, first))
+FILE_NAME = f"{object_name(digest_of(HELLO))}C"
 PUBLISHED = [
     # One file is taken out, and one is brought.
     publish("/r", ITEMS, STORY, b"revision 3\n"),
@@ -143,6 +148,9 @@ PUBLISHED = [
     publish("/r", ITEMS, STORY[:4] + [(STORY[4][0], STALE), (CANCEL, GONE)], code=4, line="refused: stale_base"),
     publish("/r", FILE, [(lease("/r"), granted(BASE)), (HEAD, ABSENT), (CANCEL, DONE)], code=12, line="bad reply"),
     publish("/r", FILE, CAUGHT[:2] + [(CAUGHT[2][0], ABSENT), (CANCEL, DONE)], code=11, line=f"not served {root_of(BASE)}C"),
+    publish("/r", FILE, CAUGHT[:2] + [(CAUGHT[2][0], octets(HELLO)), (CANCEL, DONE)], code=11, line=f"bad object {root_of(BASE)}C"),
+    publish("/r", FILE, CAUGHT[:1] + [(HEAD, RESEALED), (CANCEL, DONE)], code=11, line="bad manifest"),
+    publish("/r", FILE, [(lease("/r"), GRANTED_FILE), (HEAD, SERVED_FILE), (get(FILE_NAME), octets(HELLO)), (CANCEL, DONE)], code=11, line=f"bad catalogue {digest_of(HELLO)}C"),
     publish("/r", FILE, CAUGHT[:2] + [(CAUGHT[2][0], b"hello\n")], code=12, line="bad reply"),
     publish("/r", FILE, CAUGHT[:2] + [(CAUGHT[2][0], None)], code=8, line="link failed"),
     publish("/r", ["special /p"], [], code=13, line="changes: special /p"),

@@ -34,7 +34,7 @@ unread_undone read_fault.NoMemory is = absurd cc
 
 undone : (wanted status : Status) → wanted ≢ Done → IsOrMemory wanted status → status ≢ Done
 undone wanted status other (inl is) done = other (sym is ∙ done)
-undone wanted status other (inr lacks) done = (let is : OutOfMemory ≡ Done = sym lacks ∙ done in absurd cc)
+undone wanted status other (inr lacks) done = (let is : OutOfMemory ≡ Done = sym lacks.1 ∙ done in absurd cc)
 
 module _ (in_order : IsPublishedInOrder) (ended_once : IsEndedOnce) where
   module _ {W C F N : Type 0} {taken : W → Option (List ℕ)} {moments : C → Option (ℕ → ℕ)} {holds : F → Option Folders} {named : F → Option (List ℕ)} {came : N → Links}

@@ -1,5 +1,5 @@
 -- What the command `publish` does: it reads a folder of changes, and sends what a publisher of them wants, exchange by exchange.
-use Rattle.std.specs.Prelude.{◌≡◌, ◌≢◌, ◌⊎◌, ℕ, Bool, List, [], ◌∷◌, Option, Some, None, Result, Ok, Err}
+use Rattle.std.specs.Prelude.{◌≡◌, ◌≢◌, ◌⊎◌, ℕ, Bool, true, false, List, [], ◌∷◌, Option, Some, None, Result, Ok, Err}
 use Rattle.cv_base.specs.Path.{Path, text_of}
 use Rattle.cv_base.specs.Told.{WhereTold}
 use Rattle.cv_ports.specs.Folder.{Folders}
@@ -88,9 +88,14 @@ module _ (is_seal : List ℕ → List ℕ → Bool) (keys : List Key) (u : Url) 
 
 -- ---- how the program ends by them
 
--- it is this status, or memory was wanted
+-- the line of the status has the text of a path, which takes memory
+abbrev pub has_path : Status → Bool
+has_path (Changes fault path) = true
+has_path other = false
+
+-- it is this status, or memory was wanted for the text of its path
 abbrev pub IsOrMemory : Status → Status → Type 0
-IsOrMemory wanted status = (status ≡ wanted) ⊎ (status ≡ OutOfMemory)
+IsOrMemory wanted status = (status ≡ wanted) ⊎ ((has_path wanted ≡ true) × (status ≡ OutOfMemory))
 
 -- where the changes weren't read
 abbrev pub read_status : ReadFault → Status
