@@ -266,10 +266,10 @@ module _ (t m : Nodes) (p c r : Path) (g : Placing t m p c r) where
 
     module _ (rows_apart : AreApart (keys_of (rest.rows ++ map (row_in m []) (region_within m p))))
         (texts : AreApart (texts_of (rest.nested ++ map (λ e. nested_in m e.0) (filter (λ e. is_other m [] e.0) (region_within m p))))) (keys : KeysApart c (at (put t p (at m p)) c)) where
-      abbrev all_rows : List Row
+      abbrev pub all_rows : List Row
       all_rows = rest.rows ++ map (row_in m []) (region_within m p)
 
-      abbrev all_nested : List Nested
+      abbrev pub all_nested : List Nested
       all_nested = rest.nested ++ map (λ (e : Path × Node). nested_in m e.0) (filter (λ e. is_other m [] e.0) (region_within m p))
 
       pub contents_after : contents_of (put t p (at m p)) c ≡ in_order c all_rows all_nested
