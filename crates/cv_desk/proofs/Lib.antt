@@ -30,3 +30,4 @@ mod CommitSteps
 mod Preparing
 mod CommitCalls
 mod CommitExact
+pub mod Lemmas

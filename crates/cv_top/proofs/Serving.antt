@@ -18,7 +18,7 @@ use Rattle.cv_gate.specs.Sound.{AreLeases}
 use Rattle.cv_gate.specs.declared.entry.Entry.{Entry}
 use Rattle.cv_desk.specs.Gate.{GateView, StandsFor, IsSameRepository, IsOpened, IsNew}
 use Rattle.cv_desk.specs.OneDesk.{OneDeskView, Stands, IsLeft, behind, DoesEach, DoesCalls, first_view}
-use Rattle.cv_desk.specs.Calls.{calls_none, calls_one, calls_more}
+use Rattle.cv_desk.proofs.Lemmas.{calls_none, calls_one, calls_more}
 use Rattle.cv_top.specs.Headline.{prolonged}
 use Rattle.cv_top.specs.Runs.{ServesKept, Behind, Talks, calls_in, Serves, ended, desk_over}
 use Rattle.cv_session.specs.declared.session_end.SessionEnd.{SessionEnd}
