@@ -1,16 +1,14 @@
 -- The parent of a path keeps the limits of a path.
-use Rattle.std.proofs.Common.{◌≡◌, ℕ, suc, ◌-◌, ◌≤◌, Bool, true, ◌&&◌, [], ◌∷◌, length, take, refl, ap, ◌∙◌, arith, length-append}
+use Rattle.std.proofs.Common.{◌≡◌, ℕ, suc, ◌-◌, ◌≤◌, true, [], ◌∷◌, length, take, refl, ap, ◌∙◌, arith, length-append}
 use Rattle.std.specs.List.{list_all}
+use Rattle.std.proofs.lemmas.Bool.{and_from}
 use Rattle.cv_base.specs.Path.{Path, IsPath, parent, text_of, is_path_name}
 use Rattle.cv_base.proofs.Bools.{first_true, second_true}
-
-both : (a b : Bool) → a ≡ true → b ≡ true → (a && b) ≡ true
-both a b h k = rw (h, k) refl
 
 names : (p : Path) → list_all is_path_name p ≡ true → list_all is_path_name (parent p) ≡ true
 names [] h = refl
 names (a ∷ []) h = refl
-names (a ∷ b ∷ p) h = both (is_path_name a) (list_all is_path_name (parent (b ∷ p))) (first_true (is_path_name a) _ h) (names (b ∷ p) (second_true (is_path_name a) _ h))
+names (a ∷ b ∷ p) h = and_from (is_path_name a) (list_all is_path_name (parent (b ∷ p))) (first_true (is_path_name a) _ h) (names (b ∷ p) (second_true (is_path_name a) _ h))
 
 depth : (p : Path) → length (parent p) ≤ length p
 depth [] = omega arith

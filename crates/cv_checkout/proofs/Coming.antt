@@ -5,7 +5,7 @@ use Rattle.std.specs.List.{AllZip}
 use Rattle.std.specs.declared.option.Option.{Option}
 use Rattle.std.specs.declared.option.Option.TheVariants.{None, Some}
 use Rattle.std.specs.FinMap.{empty, get, get-empty}
-use Rattle.std.proofs.lemmas.Bool.{and_parts, or_cases}
+use Rattle.std.proofs.lemmas.Bool.{and_parts, or_cases, or_right}
 use Rattle.std.proofs.lemmas.List.Elements.{Contains-append_cases, Contains-append_left, Contains-append_right, Contains-push, Contains-push_cases}
 use Rattle.sha1.specs.Sha1.{sha1}
 use Rattle.cv_base.specs.Path.{Path, path_cmp, covers, overlap}
@@ -38,7 +38,7 @@ use Rattle.cv_checkout.specs.Giving.{Takes}
 use Rattle.cv_checkout.specs.InTree.{AreApart, IsOn, IsToward, IsWanted}
 use Rattle.cv_checkout.specs.declared.wanted.Wanted.{Wanted}
 use Rattle.cv_checkout.proofs.Zips.{zipped}
-use Rattle.cv_checkout.proofs.Covering.{apart_append, below_place, covered_by, coverer, named_apart, named_of, or_right, overlap_above, overlap_sym}
+use Rattle.cv_checkout.proofs.Covering.{apart_append, below_place, covered_by, coverer, named_apart, named_of, overlap_above, overlap_sym}
 
 -- ---- the bytes that are given
 

@@ -1,7 +1,7 @@
 -- How many cuts are left.
 use Rattle.std.proofs.Common.{◌≡◌, ◌≢◌, ℕ, ◌<◌, ◌≤◌, Bool, true, false, cond, List, [], ◌∷◌, ◌++◌, length, refl, sym, ap, subst, ◌∙◌, arith, inl, inr}
 use Rattle.std.specs.Prelude.{Contains, filter}
-use Rattle.std.proofs.lemmas.Bool.{and_from, and_parts, false_from_ne_true}
+use Rattle.std.proofs.lemmas.Bool.{and_from, and_parts, false_from_ne_true, or_left, or_right}
 use Rattle.std.proofs.lemmas.List.Elements.{Contains-append_cases}
 use Rattle.cv_base.specs.Path.{Path, covers, overlap}
 use Rattle.cv_base.proofs.Laws.{covers_itself}
@@ -15,7 +15,7 @@ use Rattle.cv_checkout.specs.Progress.{Progress}
 use Rattle.cv_checkout.specs.Giving.{Takes}
 use Rattle.cv_checkout.specs.InTree.{AreApart, IsOn, cuts_toward, is_left, left_in}
 use Rattle.cv_checkout.specs.declared.wanted.Wanted.{Wanted}
-use Rattle.cv_checkout.proofs.Covering.{below_place, coverer, covered_by, named_of, or_left, or_right}
+use Rattle.cv_checkout.proofs.Covering.{below_place, coverer, covered_by, named_of}
 use Rattle.cv_checkout.proofs.Coming.{TakenIn, taken_in}
 
 -- ---- tests that fewer pass

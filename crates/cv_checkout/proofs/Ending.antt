@@ -4,7 +4,7 @@ use Rattle.std.specs.Prelude.{Contains, IfOk, Result, Ok, Err}
 use Rattle.std.specs.declared.option.Option.{Option}
 use Rattle.std.specs.declared.option.Option.TheVariants.{None, Some}
 use Rattle.std.specs.FinMap.{get, get-empty, same_map}
-use Rattle.std.proofs.lemmas.Bool.{and_parts}
+use Rattle.std.proofs.lemmas.Bool.{and_parts, or_left, or_right}
 use Rattle.std.proofs.lemmas.Slice.Eq.{bytes_eq-Decides}
 use Rattle.std.specs.Str.{bytes_eq}
 use Rattle.sha1.specs.Sha1.{sha1}
@@ -32,7 +32,6 @@ use Rattle.cv_checkout.specs.Progress.{Progress, begun}
 use Rattle.cv_checkout.specs.InTree.{IsBase, IsIdToward, IsOn, IsToward, IsWanted}
 use Rattle.cv_checkout.specs.declared.base.Base.{Base}
 use Rattle.cv_checkout.specs.declared.wanted.Wanted.{Wanted}
-use Rattle.cv_checkout.proofs.Covering.{or_left, or_right}
 
 -- ---- the beginning
 

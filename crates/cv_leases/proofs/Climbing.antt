@@ -1,6 +1,6 @@
 -- Ways up the tree of names, from a place to one above it.
 use Rattle.std.proofs.Common.{◌≡◌, ◌≢◌, ◌<◌, ◌≤◌, ◌+◌, ℕ, zero, suc, List, [], ◌∷◌, ◌++◌, length, None, Some, Contains, refl, sym, ap, subst, ◌∙◌, arith}
-use Rattle.std.proofs.lemmas.Option.{same_Some}
+use Rattle.std.proofs.lemmas.Option.{none-some, same_Some}
 use Rattle.cv_links.specs.declared.id.Id.{Id}
 use Rattle.cv_links.specs.declared.arena.Arena.{Arena}
 use Rattle.cv_links.specs.Arena.{value_at}
@@ -8,7 +8,6 @@ use Rattle.cv_links.proofs.Laws.{none_within}
 use Rattle.cv_leases.specs.declared.names.Place.{Place}
 use Rattle.cv_leases.specs.declared.names.Names.{Names}
 use Rattle.cv_leases.specs.Names.{above_of, below_of, IsTree, Climbs, IsWithin}
-use Rattle.cv_leases.proofs.Reaching.{none_some}
 
 -- a way up stays where each place keeps the one above it
 pub climbs_kept : (a d : Arena Place) → ((i up : Id) → above_of (value_at a i) ≡ Some up → above_of (value_at d i) ≡ Some up) → (way : List Id) (top from : Id) → Climbs a way top from → Climbs d way top from
@@ -31,7 +30,7 @@ climbs_on a (up ∷ first) second top middle from h k = (h.0, climbs_on a first 
 before_root : (a : Arena Place) (root : Id) → above_of (value_at a root) ≡ None → (long way : List Id) (top from : Id) → Climbs a long root from → Climbs a way top from
     → (rest : List Id) × Climbs a rest root top × (length way + length rest ≡ length long)
 before_root a root none long [] top from h k = (long, subst (λ i. Climbs a long root i) k h, omega arith)
-before_root a root none [] (up ∷ way) top from h k = absurd (none_some up (sym none ∙ ap (λ i. above_of (value_at a i)) (sym h) ∙ k.0))
+before_root a root none [] (up ∷ way) top from h k = absurd (none-some up (sym none ∙ ap (λ i. above_of (value_at a i)) (sym h) ∙ k.0))
 before_root a root none (x ∷ long) (up ∷ way) top from h k =
     let same : x ≡ up = same_Some x up (sym h.0 ∙ k.0) in
     let rest = before_root a root none long way top up (subst (λ i. Climbs a long root i) same h.1) k.1 in
@@ -67,7 +66,7 @@ pub nearer : (names : Names) (depth : ℕ) (up id : Id) → above_of (value_at n
 nearer names depth up id above top h = each h.way h.climbs h.short
   where
     each : (way : List Id) → Climbs names.places way h.root id → length way ≤ depth + 1 → IsWithin names depth up
-    each [] k short = absurd (none_some up (sym (top h.root h.is) ∙ ap (λ i. above_of (value_at names.places i)) (sym k) ∙ above))
+    each [] k short = absurd (none-some up (sym (top h.root h.is) ∙ ap (λ i. above_of (value_at names.places i)) (sym k) ∙ above))
     each (x ∷ way) k short =
         let same : x ≡ up = same_Some x up (sym k.0 ∙ above) in
         record { root = h.root; is = h.is; way = way; climbs = subst (λ i. Climbs names.places way h.root i) same k.1; short = omega (arith, short) }
@@ -78,4 +77,4 @@ is_root names depth id none h = each h.way h.climbs
   where
     each : (way : List Id) → Climbs names.places way h.root id → names.root ≡ Some id
     each [] k = h.is ∙ ap (λ i. Some i) (sym k)
-    each (x ∷ way) k = absurd (none_some x (sym none ∙ k.0))
+    each (x ∷ way) k = absurd (none-some x (sym none ∙ k.0))

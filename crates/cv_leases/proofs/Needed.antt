@@ -1,6 +1,6 @@
 -- Places that a lease needs, as places and leases come and go.
 use Rattle.std.proofs.Common.{◌≡◌, ◌≢◌, ◌⊎◌, ◌<◌, ◌≤◌, ◌+◌, ◌-◌, ℕ, true, false, List, [], ◌∷◌, ◌++◌, length, Option, None, Some, IfSome, is_some, Contains, refl, sym, ap, subst, ◌∙◌, inl, inr, arith}
-use Rattle.std.proofs.lemmas.Option.{same_Some}
+use Rattle.std.proofs.lemmas.Option.{none-some, same_Some}
 use Rattle.std.proofs.lemmas.List.{length-append}
 use Rattle.cv_links.specs.declared.id.Id.{Id}
 use Rattle.cv_links.specs.declared.arena.Arena.{Arena}
@@ -10,7 +10,6 @@ use Rattle.cv_leases.specs.declared.names.Place.{Place}
 use Rattle.cv_leases.specs.declared.names.Names.{Names}
 use Rattle.cv_leases.specs.Names.{is_leased, above_of, below_of, Climbs, IsOver, IsWithin, IsNames, IsNeeded, IsPruned}
 use Rattle.cv_leases.specs.NamesInner.{IsPrunedBut, IsPrunedTo}
-use Rattle.cv_leases.proofs.Reaching.{none_some}
 use Rattle.cv_leases.proofs.Trees.{IsAttached, above_live}
 use Rattle.cv_leases.proofs.Pruned.{IsDetached}
 use Rattle.cv_leases.proofs.Rooted.{Labels, Roots, aboves_labelled, lives_labelled}
@@ -18,7 +17,7 @@ use Rattle.cv_leases.proofs.Climbing.{climbs_kept, climbs_less, climbs_on, no_lo
 
 -- a place that names one above it is live
 names_live : (o : Option Place) (up : Id) → above_of o ≡ Some up → is_some o ≡ true
-names_live None up e = absurd (none_some up e)
+names_live None up e = absurd (none-some up e)
 names_live (Some place) up e = refl
 
 -- nothing is above the root
@@ -55,7 +54,7 @@ module _ (names : Names) (id : Id) (whole : IsNames names) (but : IsPrunedBut na
           (climbs_on names.places over.way (id ∷ []) id kid id over.climbs (above, refl))
 
       by_kid : IsOver names.places x id → (names.root ≡ Some kid) ⊎ IsNeeded names.places kid ⊎ IsOver names.places kid id → IsNeeded names.places x
-      by_kid over (inl root) = absurd (none_some id (sym (root_top names kid whole root) ∙ above))
+      by_kid over (inl root) = absurd (none-some id (sym (root_top names kid whole root) ∙ above))
       by_kid over (inr (inl need)) = record {
         end = need.end;
         over = record { way = need.over.way ++ id ∷ over.way; climbs = climbs_on names.places need.over.way (id ∷ over.way) x kid need.end need.over.climbs (above, over.climbs) };
@@ -77,7 +76,7 @@ module _ (names : Names) (id : Id) (whole : IsNames names) (but : IsPrunedBut na
     where
       each : (way : List Id) → Climbs names.places way x id → names.root ≡ Some x
       each [] k = root ∙ ap (λ i. Some i) k
-      each (up ∷ way) k = absurd (none_some up (sym (root_top names id whole root) ∙ k.0))
+      each (up ∷ way) k = absurd (none-some up (sym (root_top names id whole root) ∙ k.0))
 
 -- ---- on the way up
 
@@ -214,7 +213,7 @@ pub pruned_root : (old new : Names) (id : Id) (place : Place) → IsNames old �
 pruned_root old new id place whole none root h i live =
     elim (id_cases i id) [
       | inl same ↦ inl (root ∙ ap (λ j. Some j) (sym same))
-      | inr away ↦ (let was = whole.rooted i (ap is_some (sym (h.puts.others i away)) ∙ live) in absurd (none_some was.root (sym none ∙ was.is)))
+      | inr away ↦ (let was = whole.rooted i (ap is_some (sym (h.puts.others i away)) ∙ live) in absurd (none-some was.root (sym none ∙ was.is)))
     ]
 
 -- ---- a place that left

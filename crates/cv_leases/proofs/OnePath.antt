@@ -1,6 +1,6 @@
 -- One path alone leads to a place.
 use Rattle.std.proofs.Common.{◌≡◌, ◌⊎◌, ◌≤◌, ◌+◌, ◌||◌, ℕ, zero, suc, true, false, cond, List, [], ◌∷◌, ◌++◌, length, Option, None, Some, is_some, Contains, refl, sym, ap, subst, ◌∙◌, inl, inr, arith}
-use Rattle.std.proofs.lemmas.Option.{same_Some}
+use Rattle.std.proofs.lemmas.Option.{none-some, same_Some}
 use Rattle.std.proofs.lemmas.List.{length-append}
 use Rattle.std.specs.List.{AllByRecursion}
 use Rattle.cv_base.specs.Path.{Path, behind, overlap}
@@ -18,13 +18,13 @@ use Rattle.cv_leases.specs.Queue.{before_rest, leases_by, leases_in, ids_of}
 use Rattle.cv_leases.specs.Names.{has_name, is_leased, above_of, named, step, place_of, below_of, IsNames}
 use Rattle.cv_leases.specs.NamesInner.{SameLeased}
 use Rattle.cv_leases.specs.Linked.{AreTied}
-use Rattle.cv_leases.proofs.Reaching.{none_some, reach_more}
+use Rattle.cv_leases.proofs.Reaching.{reach_more}
 use Rattle.cv_leases.proofs.Needed.{root_top}
 use Rattle.cv_leases.proofs.Tables.{none_overlaps}
 
 -- the place that is found by a name is among the others, and has it
 named_is : (at : Id → Option Place) (name : List ℕ) (xs : List Id) (id : Id) → named at name xs ≡ Some id → Contains xs id × (has_name name (at id) ≡ true)
-named_is at name [] id found = absurd (none_some id found)
+named_is at name [] id found = absurd (none-some id found)
 named_is at name (x ∷ xs) id found =
     elim (has_name name (at x)) as (λ b. has_name name (at x) ≡ b → cond b (Some x) (named at name xs) ≡ Some id → Contains (x ∷ xs) id × (has_name name (at id) ≡ true)) [
       | true ↦ λ e is. let same : x ≡ id = same_Some x id is in (subst (λ i. Contains (x ∷ xs) i) same (here x xs), subst (λ i. has_name name (at i) ≡ true) same e)
@@ -33,7 +33,7 @@ named_is at name (x ∷ xs) id found =
 
 -- the place that a step leads to is below one
 step_is : (at : Id → Option Place) (below : Id → List Id) (name : List ℕ) (o : Option Id) (id : Id) → step at below name o ≡ Some id → (from : Id) × (o ≡ Some from) × Contains (below from) id × (has_name name (at id) ≡ true)
-step_is at below name None id found = absurd (none_some id found)
+step_is at below name None id found = absurd (none-some id found)
 step_is at below name (Some from) id found = let is = named_is at name (below from) id found in (from, refl, is.0, is.1)
 
 names_same : (o : Option Place) (m n : List ℕ) → has_name m o ≡ true → has_name n o ≡ true → m ≡ n
@@ -51,7 +51,7 @@ unsnoc (x ∷ xs) =
 module _ (names : Names) (whole : IsNames names) where
   -- nothing is above the root
   none_above : (id up : Id) → names.root ≡ Some id → above_of (value_at names.places id) ≡ Some up → ⊥
-  none_above id up e above = none_some up (sym (root_top names id whole e) ∙ above)
+  none_above id up e above = none-some up (sym (root_top names id whole e) ∙ above)
 
   -- what the last name of a path leads to
   last_step : (path front : Path) (last : List ℕ) (id : Id) → path ≡ front ++ last ∷ [] → place_of names path ≡ Some id

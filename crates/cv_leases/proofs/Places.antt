@@ -1,6 +1,6 @@
 -- Names as a place comes to them or leaves them.
 use Rattle.std.proofs.Common.{◌≡◌, ◌≢◌, ℕ, ◌<◌, ◌+◌, length, take, get_or, true, false, List, [], ◌∷◌, ◌++◌, Option, None, Some, IfSome, is_some, Contains, sym, ap, subst, ◌∙◌, inl, inr}
-use Rattle.std.proofs.lemmas.Option.{same_Some}
+use Rattle.std.proofs.lemmas.Option.{none-some, same_Some}
 use Rattle.std.proofs.lemmas.List.{take_more}
 use Rattle.cv_base.specs.Path.{Path}
 use Rattle.cv_links.specs.declared.id.Id.{Id}
@@ -13,7 +13,7 @@ use Rattle.cv_leases.specs.declared.names.Names.{Names}
 use Rattle.cv_leases.specs.Names.{has_name, is_leased, above_of, named, reach, place_of, list_below, below_of, IsTree, IsNames, IsWithin, step}
 use Rattle.cv_leases.specs.NamesInner.{SamePlaces, SameLeased, Ends}
 use Rattle.cv_leases.proofs.Queues.{absent}
-use Rattle.cv_leases.proofs.Reaching.{none_some, reach_more, named_kept, named_more, named_new, named_less, reach_kept, reach_less}
+use Rattle.cv_leases.proofs.Reaching.{reach_more, named_kept, named_more, named_new, named_less, reach_kept, reach_less}
 use Rattle.cv_leases.proofs.Trees.{IsAttached, known_below}
 use Rattle.cv_leases.proofs.Pruned.{IsDetached}
 use Rattle.cv_leases.proofs.Needed.{rooted_attached, rooted_detached}
@@ -27,7 +27,7 @@ module _ (a d : Arena Place) (up id : Id) (new : Place) (tree : IsTree a) (h : I
       elim (id_cases from up) [
         | inl is ↦ subst (λ l. named (value_at d) name l ≡ Some x) (sym (ap (below_of d) is ∙ h.below_up ∙ ap (λ j. below_of a j ++ id ∷ []) (sym is))) (named_more (value_at a) (value_at d) name (below_of a from) (id ∷ []) x same found)
         | inr nu ↦ elim (id_cases from id) [
-          | inl is ↦ absurd (none_some x (sym (ap (named (value_at a) name) (ap (below_of a) is ∙ ap (list_below a) h.fresh)) ∙ found))
+          | inl is ↦ absurd (none-some x (sym (ap (named (value_at a) name) (ap (below_of a) is ∙ ap (list_below a) h.fresh)) ∙ found))
           | inr ni ↦ ap (named (value_at d) name) (h.below from nu ni) ∙ named_kept (value_at a) (value_at d) name (below_of a from) same ∙ found
         ]
       ]
@@ -82,7 +82,7 @@ module _ (a d : Arena Place) (up id : Id) (tree : IsTree a) (h : IsDetached a d 
             ap (named (value_at d) name) (ap (below_of d) is ∙ h.below_up parts.0 parts.1 parts.2)
             ∙ named_less (value_at a) (value_at d) name parts.0 parts.1 id x (h.names name) (λ i m. absent parts.0 parts.1 id i (subst AreApart parts.2 h.apart) m) other (ap (named (value_at a) name) (sym (ap (below_of a) is ∙ parts.2)) ∙ found)
         | inr nu ↦ elim (id_cases from id) [
-          | inl is ↦ absurd (none_some x (sym (ap (named (value_at a) name) (ap (below_of a) is ∙ h.leaf)) ∙ found))
+          | inl is ↦ absurd (none-some x (sym (ap (named (value_at a) name) (ap (below_of a) is ∙ h.leaf)) ∙ found))
           | inr ni ↦
               let same : (i : Id) → Contains (below_of a from) i → has_name name (value_at d i) ≡ has_name name (value_at a i) = λ i m. h.names name i (λ e. nu (same_Some from up (sym (tree.below from i m) ∙ ap (λ j. above_of (value_at a j)) e ∙ tree.below up id h.within))) in
               ap (named (value_at d) name) (h.below from nu ni) ∙ named_kept (value_at a) (value_at d) name (below_of a from) same ∙ found

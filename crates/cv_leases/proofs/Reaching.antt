@@ -1,6 +1,7 @@
 -- Where paths lead to in the tree of names, as places come and go.
-use Rattle.std.proofs.Common.{◌≡◌, ◌≢◌, ◌||◌, ℕ, Bool, true, false, cond, List, [], ◌∷◌, ◌++◌, Option, None, Some, Contains, refl, sym, ap, subst, ◌∙◌, inl, inr}
-use Rattle.std.proofs.lemmas.Option.{same_Some}
+use Rattle.std.proofs.Common.{◌≡◌, ◌≢◌, ℕ, true, false, cond, List, [], ◌∷◌, ◌++◌, Option, None, Some, Contains, refl, sym, ap, subst, ◌∙◌, inl, inr}
+use Rattle.std.proofs.lemmas.Bool.{or_parts}
+use Rattle.std.proofs.lemmas.Option.{none-some, same_Some}
 use Rattle.cv_base.specs.Path.{Path, same_name, overlap}
 use Rattle.cv_base.specs.PathOrder.{same_name_is, same_name_itself}
 use Rattle.cv_links.specs.declared.id.Id.{Id}
@@ -8,9 +9,6 @@ use Rattle.cv_links.proofs.Laws.{here, later, id_cases}
 use Rattle.cv_leases.specs.declared.names.Place.{Place}
 use Rattle.cv_leases.specs.Names.{has_name, is_leased, named, step, reach}
 use Rattle.cv_leases.specs.NamesInner.{leased_at, meets}
-
-pub none_some : {A : Type 0} (x : A) → None ≡ Some x → ⊥
-none_some x e = cc
 
 module _ (at : Id → Option Place) (below : Id → List Id) where
   pub reach_none : (path : Path) → reach at below path None ≡ None
@@ -26,10 +24,6 @@ module _ (at : Id → Option Place) (below : Id → List Id) where
   reach_more [] name from = refl
   reach_more (first ∷ path) name from = reach_more path name (step at below first from)
 
-  or_false : (a b : Bool) → (a || b) ≡ false → (a ≡ false) × (b ≡ false)
-  or_false true b e = absurd cc
-  or_false false b e = (refl, e)
-
   other_name : (m n : List ℕ) → same_name m n ≡ false → same_name n m ≡ false
   other_name m n e =
       elim (same_name n m) as (λ b. same_name n m ≡ b → b ≡ false) [
@@ -39,16 +33,16 @@ module _ (at : Id → Option Place) (below : Id → List Id) where
 
   -- where a path meets no lease, no lease overlaps it
   pub clear : (path other : Path) (from : Option Id) (id : Id) → meets at below path from ≡ false → reach at below other from ≡ Some id → is_leased (at id) ≡ true → overlap other path ≡ false
-  clear [] other None id free there leased = absurd (none_some id (sym (reach_none other) ∙ there))
+  clear [] other None id free there leased = absurd (none-some id (sym (reach_none other) ∙ there))
   clear [] other (Some from) id free there leased = absurd cc
   clear (n ∷ path) [] from id free there leased =
       let one : leased_at at from ≡ true = ap (leased_at at) there ∙ leased in
-      let two = or_false (leased_at at from) _ free in absurd cc
+      let two = or_parts (leased_at at from) _ free in absurd cc
   clear (n ∷ path) (m ∷ other) from id free there leased =
       elim (same_name m n) as (λ b. same_name m n ≡ b → overlap (m ∷ other) (n ∷ path) ≡ false) [
         | true ↦ λ t.
             let same : m ≡ n = same_name_is m n t in
-            let rest = clear path other (step at below n from) id (or_false (leased_at at from) _ free).1 (subst (λ (x : List ℕ). reach at below other (step at below x from) ≡ Some id) same there) leased in
+            let rest = clear path other (step at below n from) id (or_parts (leased_at at from) _ free).1 (subst (λ (x : List ℕ). reach at below other (step at below x from) ≡ Some id) same there) leased in
             subst (λ (x : List ℕ). overlap (x ∷ other) (n ∷ path) ≡ false) (sym same) (rw (same_name_itself n) rest)
         | false ↦ λ t. rw (t, other_name m n t) refl
       ] refl
@@ -103,10 +97,10 @@ named_less at now name (x ∷ front) back gone id same apart other found =
 pub reach_kept : (at now : Id → Option Place) (below after : Id → List Id) → ((name : List ℕ) (from id : Id) → named at name (below from) ≡ Some id → named now name (after from) ≡ Some id)
     → (path : Path) (from : Option Id) (id : Id) → reach at below path from ≡ Some id → reach now after path from ≡ Some id
 reach_kept at now below after finds [] from id there = there
-reach_kept at now below after finds (name ∷ path) None id there = absurd (none_some id (sym (reach_none at below path) ∙ there))
+reach_kept at now below after finds (name ∷ path) None id there = absurd (none-some id (sym (reach_none at below path) ∙ there))
 reach_kept at now below after finds (name ∷ path) (Some from) id there =
     elim (named at name (below from)) as (λ o. named at name (below from) ≡ o → reach at below path o ≡ Some id → reach now after path (named now name (after from)) ≡ Some id) [
-      | None ↦ λ e is. absurd (none_some id (sym (reach_none at below path) ∙ is))
+      | None ↦ λ e is. absurd (none-some id (sym (reach_none at below path) ∙ is))
       | Some next ↦ λ e is. rw (finds name from next e) (reach_kept at now below after finds path (Some next) id is)
     ] refl there
 
@@ -114,10 +108,10 @@ reach_kept at now below after finds (name ∷ path) (Some from) id there =
 pub reach_less : (at now : Id → Option Place) (below after : Id → List Id) (gone : Id) → below gone ≡ [] → ((name : List ℕ) (from id : Id) → gone ≢ id → named at name (below from) ≡ Some id → named now name (after from) ≡ Some id)
     → (path : Path) (from : Option Id) (id : Id) → gone ≢ id → reach at below path from ≡ Some id → reach now after path from ≡ Some id
 reach_less at now below after gone leaf finds [] from id other there = there
-reach_less at now below after gone leaf finds (name ∷ path) None id other there = absurd (none_some id (sym (reach_none at below path) ∙ there))
+reach_less at now below after gone leaf finds (name ∷ path) None id other there = absurd (none-some id (sym (reach_none at below path) ∙ there))
 reach_less at now below after gone leaf finds (name ∷ path) (Some from) id other there =
     elim (named at name (below from)) as (λ o. named at name (below from) ≡ o → reach at below path o ≡ Some id → reach now after path (named now name (after from)) ≡ Some id) [
-      | None ↦ λ e is. absurd (none_some id (sym (reach_none at below path) ∙ is))
+      | None ↦ λ e is. absurd (none-some id (sym (reach_none at below path) ∙ is))
       | Some next ↦ λ e is. elim (id_cases gone next) [
         | inl same ↦ absurd (stops path (subst (λ x. reach at below path (Some x) ≡ Some id) (sym same) is))
         | inr away ↦ rw (finds name from next away e) (reach_less at now below after gone leaf finds path (Some next) id other is)
@@ -126,4 +120,4 @@ reach_less at now below after gone leaf finds (name ∷ path) (Some from) id oth
   where
     stops : (path : Path) → reach at below path (Some gone) ≡ Some id → ⊥
     stops [] is = other (same_Some gone id is)
-    stops (name ∷ path) is = none_some id (sym (reach_none at below path) ∙ sym (ap (λ xs. reach at below path (named at name xs)) leaf) ∙ is)
+    stops (name ∷ path) is = none-some id (sym (reach_none at below path) ∙ sym (ap (λ xs. reach at below path (named at name xs)) leaf) ∙ is)

@@ -1,6 +1,6 @@
 -- The tree of places as a root comes, and as a lease begins or ends at a place.
 use Rattle.std.proofs.Common.{◌≡◌, ◌≢◌, ℕ, Bool, true, false, cond, List, [], ◌∷◌, Option, None, Some, IfSome, is_some, Contains, refl, sym, ap, subst, ◌∙◌, inl, inr, arith}
-use Rattle.std.proofs.lemmas.Option.{same_Some}
+use Rattle.std.proofs.lemmas.Option.{none-some, same_Some}
 use Rattle.cv_base.specs.Path.{Path, same_name}
 use Rattle.cv_links.specs.declared.id.Id.{Id}
 use Rattle.cv_links.specs.declared.lane.Lane.{Lane}
@@ -15,7 +15,7 @@ use Rattle.cv_leases.specs.declared.names.Place.{Place}
 use Rattle.cv_leases.specs.declared.names.Names.{Names}
 use Rattle.cv_leases.specs.Names.{has_name, is_leased, above_of, named, reach, list_below, below_of, IsTree, IsNames, IsWithin}
 use Rattle.cv_leases.specs.NamesInner.{SamePlaces, SameLeased, Begins, Ends}
-use Rattle.cv_leases.proofs.Reaching.{none_some, reach_none, named_kept, reach_kept}
+use Rattle.cv_leases.proofs.Reaching.{reach_none, named_kept, reach_kept}
 use Rattle.cv_leases.proofs.Trees.{known_below}
 use Rattle.cv_leases.proofs.Climbing.{within_kept, root_within, within_more}
 
@@ -189,7 +189,7 @@ whole_rooted old new id place whole none root h = record {
   tree = rooted old.places new.places id place whole.tree h;
   rooted = λ i live. elim (id_cases i id) [
     | inl same ↦ subst (λ j. IsWithin new 64 j) (sym same) (within_more new 0 64 id (omega arith) (root_within new id root))
-    | inr away ↦ (let was = whole.rooted i (ap is_some (sym (h.puts.others i away)) ∙ live) in absurd (none_some was.root (sym none ∙ was.is)))
+    | inr away ↦ (let was = whole.rooted i (ap is_some (sym (h.puts.others i away)) ∙ live) in absurd (none-some was.root (sym none ∙ was.is)))
   ];
   root = subst (λ o. IfSome o (λ i. IsLive new.places i × (above_of (value_at new.places i) ≡ None))) (sym root) (ap is_some h.puts.here, ap above_of h.puts.here ∙ h.above);
 }
@@ -197,7 +197,7 @@ whole_rooted old new id place whole none root h = record {
 -- without a root no path leads anywhere
 pub leases_rooted : (old new : Names) (id : Id) (place : Place) → old.root ≡ None → place.leased ≡ false → Roots old.places new.places id place → SameLeased old new
 leases_rooted old new id place none unleased h = record {
-  kept = λ path x at. absurd (none_some x (sym (ap (reach (value_at old.places) (below_of old.places) path) none ∙ reach_none (value_at old.places) (below_of old.places) path) ∙ at.place));
+  kept = λ path x at. absurd (none-some x (sym (ap (reach (value_at old.places) (below_of old.places) path) none ∙ reach_none (value_at old.places) (below_of old.places) path) ∙ at.place));
   none = λ x leased. elim (id_cases x id) [
     | inl same ↦ let no : is_leased (value_at new.places x) ≡ false = ap (λ j. is_leased (value_at new.places j)) same ∙ ap is_leased h.puts.here ∙ unleased in absurd cc
     | inr away ↦ ap is_leased (sym (h.puts.others x away)) ∙ leased

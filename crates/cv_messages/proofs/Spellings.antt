@@ -1,5 +1,5 @@
 -- What a text spells is read back, and nothing but what it spells is read.
-use Rattle.std.proofs.Common.{◌≡◌, ◌≢◌, ℕ, zero, suc, ◌<◌, ◌^◌, ◌==◌, Bool, true, false, not, cond, ◌&&◌, List, [], ◌∷◌, ◌++◌, length, get_or, drop, decimal, nat_lt, Option, Some, None, Result, Ok, Err, inl, inr, refl, sym, ap, subst, ◌∙◌, arith, length-append}
+use Rattle.std.proofs.Common.{◌≡◌, ◌≢◌, ℕ, zero, suc, ◌<◌, ◌^◌, ◌==◌, true, false, not, cond, ◌&&◌, List, [], ◌∷◌, ◌++◌, length, get_or, drop, decimal, nat_lt, Option, Some, None, Result, Ok, Err, inl, inr, refl, sym, ap, subst, ◌∙◌, arith, length-append}
 use Rattle.std.specs.Prelude.{option_and_then}
 use Rattle.std.specs.List.{before_first, after_first, position_or_len}
 use Rattle.std.specs.Result.{result_ok}
@@ -9,6 +9,7 @@ use Rattle.std.proofs.lemmas.Bool.{and_parts, cases_lt, eqb-true, lt-ltb, ltb-tr
 use Rattle.std.proofs.lemmas.Fmt.{decimal_is_IsNumeral, decimal_nonempty}
 use Rattle.std.proofs.lemmas.List.{take_at, drop_at, drop_more}
 use Rattle.std.proofs.lemmas.List.Sums.{prefix_len_stops, split_at_first}
+use Rattle.std.proofs.lemmas.Option.{cond_some}
 use Rattle.std.proofs.lemmas.Slice.Eq.{bytes_eq-Decides}
 use Rattle.std.proofs.Math.ListN.{drop_of_length-le}
 use Rattle.hex.specs.Hex.{encode_lower, decode_sized}
@@ -19,11 +20,6 @@ use Rattle.cv_base.specs.Token.{token_text}
 use Rattle.cv_base.specs.declared.token.Token.{Token}
 use Rattle.cv_base.proofs.Laws.{decimal-no_dash, bytes_eq-own}
 use Rattle.cv_messages.specs.Spelling.{IsToken, decimal_of, is_dash, token_by, token_of, digest_of}
-
--- what is kept under a test
-kept : {A : Type 0} (b : Bool) (x y : A) → cond b (Some x) None ≡ Some y → (b ≡ true) × (x ≡ y)
-kept true x y h = (refl, cc)
-kept false x y h = cc
 
 -- an option that is no value is none
 none : {A : Type 0} (read : Option A) → ((x : A) → read ≡ Some x → ⊥) → read ≡ None
@@ -38,7 +34,7 @@ decimal_of-decimal n small =
 decimal_of-Some : (text : List ℕ) (n : ℕ) → decimal_of text ≡ Some n → (n < 2 ^ 64) × (text ≡ decimal n)
 decimal_of-Some text n h =
     let v : ℕ = digits_value 10 text in
-    let k = kept (nat_lt v (2 ^ 64) && bytes_eq (decimal v) text) v n h in
+    let k = cond_some (nat_lt v (2 ^ 64) && bytes_eq (decimal v) text) v n h in
     let p = and_parts _ _ k.0 in
     let small : v < 2 ^ 64 = ltb-true v (2 ^ 64) p.0 in
     let same : decimal v ≡ text = (bytes_eq-Decides (decimal v) text).0 p.1 in
@@ -113,7 +109,7 @@ digest_of-Some text hash h = by (decode_sized text 20) refl h
         → option_and_then (λ hash. cond (bytes_eq (encode_lower hash) text) (Some hash) None) (result_ok r) ≡ Some hash
         → IsDigest hash × (text ≡ encode_lower hash)
     by (Ok bytes) e h =
-        let k = kept (bytes_eq (encode_lower bytes) text) bytes hash h in
+        let k = cond_some (bytes_eq (encode_lower bytes) text) bytes hash h in
         let same : encode_lower bytes ≡ text = (bytes_eq-Decides (encode_lower bytes) text).0 k.0 in
         let size = decode_sized-ok text 20 bytes e in
         let decoded = decode_of-ok text bytes (sym (decode_sized-twice text 20 size) ∙ e) in

@@ -1,13 +1,11 @@
 -- The paths of rows, one after another, and the rows that stand directly in a directory.
-use Rattle.std.proofs.Common.{◌≡◌, ◌≢◌, ℕ, ◌+◌, ◌<◌, ◌≤◌, ◌↔◌, Bool, true, false, not, ◌&&◌, bytes_eq, List, [], ◌∷◌, ◌++◌, length, take, filter, get_or, refl, sym, ap, subst, ◌∙◌, arith, inl, inr}
+use Rattle.std.proofs.Common.{◌≡◌, ◌≢◌, ℕ, ◌+◌, ◌<◌, ◌≤◌, ◌↔◌, Bool, true, false, not, bytes_eq, List, [], ◌∷◌, ◌++◌, length, take, filter, get_or, refl, sym, ap, subst, ◌∙◌, arith, inl, inr}
 use Rattle.std.specs.Prelude.{Contains, MatchBool}
-use Rattle.std.specs.Ordering.{is_eq}
-use Rattle.std.specs.Cmp.{tied_itself}
-use Rattle.std.proofs.lemmas.Bool.{and_parts}
+use Rattle.std.proofs.lemmas.Bool.{and_from, and_parts}
 use Rattle.std.proofs.lemmas.List.{take_more, take_all, get_or_default}
 use Rattle.cv_base.specs.Path.{Path, key_of, covers, same_path}
-use Rattle.cv_base.specs.PathOrder.{same_path_is, path_total}
-use Rattle.cv_base.proofs.Laws.{last_same}
+use Rattle.cv_base.specs.PathOrder.{same_path_is}
+use Rattle.cv_base.proofs.Laws.{last_same, same_path-itself}
 use Rattle.cv_rows.specs.Catalogue.{Contents, IsCatalogue, is_below}
 use Rattle.cv_rows.specs.Listing.{IsListing}
 use Rattle.cv_rows.specs.ListingInner.{is_in}
@@ -71,9 +69,6 @@ module _ (c : Contents) (is : IsCatalogue c) where
         | false ↦ λ e. refl
       ] refl
 
-      both : (a b : Bool) → a ≡ true → b ≡ true → (a && b) ≡ true
-      both a b h k = λ i. h i && k i
-
       back : {x : Path} → StandsAt c.at c.rows r x → (IsRoot c.at r → ⊥) × (name : List ℕ) × (x ≡ p ++ name ∷ []) → is_in (key_of c.at) directory.key.0 r ≡ true
       back (root has top) h = absurd (h.0 top)
       back (below {p = above} {q = front} has apart up child) h =
@@ -81,7 +76,7 @@ module _ (c : Contents) (is : IsCatalogue c) where
           let one : above ≡ directory = one_there above directory p (subst (StandsAt c.at c.rows above) same up) here in
           let key : r.parent.0 ≡ directory.key.0 = child.parent ∙ ap (λ (x : Row). x.key.0) one in
           let other : r.key.0 ≢ directory.key.0 = λ e. child.other (e ∙ sym (ap (λ (x : Row). x.key.0) one)) in
-          both _ _ (both _ _ ((bytes_eq-Decides r.parent.0 directory.key.0).1 key) (differs r.key.0 directory.key.0 other)) (differs r.key.0 (key_of c.at) (λ e. h.0 (root_by r has e)))
+          and_from _ _ (and_from _ _ ((bytes_eq-Decides r.parent.0 directory.key.0).1 key) (differs r.key.0 directory.key.0 other)) (differs r.key.0 (key_of c.at) (λ e. h.0 (root_by r has e)))
 
   -- where no row stands at the path, none stands in it
   pub nothing_in : (p : Path) → ((r : Row) → StandsAt c.at c.rows r p → ⊥) → (r : Row) (q : Path) → StandsAt c.at c.rows r q → (false ≡ true) ↔ ((IsRoot c.at r → ⊥) × (name : List ℕ) × (q ≡ p ++ name ∷ []))
@@ -114,11 +109,8 @@ above_is a p b covered is = elim (same_path p a) as (λ s. same_path p a ≡ s �
   | false ↦ λ h yes. subst (λ (x : Bool). MatchBool x (IsAbove a p) (IsAbove a p → ⊥)) (sym yes) (record { covered = covered; apart = λ same. differs same h })
 ] refl is
   where
-    itself : (x : Path) → same_path x x ≡ true
-    itself x = ap is_eq (tied_itself path_total x)
-
     differs : p ≡ a → same_path p a ≡ false → ⊥
-    differs same h = (let yes : same_path p a ≡ true = ap (same_path p) (sym same) ∙ itself p in let e : true ≡ false = sym yes ∙ h in cc)
+    differs same h = (let yes : same_path p a ≡ true = ap (same_path p) (sym same) ∙ same_path-itself p in let e : true ≡ false = sym yes ∙ h in cc)
 
 pub none_above : (nested : List Nested) (i : ℕ) (p : Path) → ((k : ℕ) (d : Nested) → k < i → IsAbove (get_or nested k d).path p → ⊥) → ((d : Nested) → IsAbove (get_or nested i d).path p → ⊥)
     → (k : ℕ) (d : Nested) → k < i + 1 → IsAbove (get_or nested k d).path p → ⊥
