@@ -1,11 +1,11 @@
 -- A revision is made ready in two batches: its objects are brought, and then its record, which stands among them, is prepared.
 use Rattle.std.proofs.Common.{◌≡◌, ℕ, Bool, List, [], ◌∷◌, ◌++◌, sym, ap, subst, ◌∙◌, inl}
 use Rattle.std.proofs.lemmas.List.Elements.{Contains-append_right}
-use Rattle.std.proofs.lemmas.Option.{same_Some}
+use Rattle.std.proofs.lemmas.Option.{none-some, same_Some}
 use Rattle.std.specs.List.{Contains}
 use Rattle.std.specs.Prelude.{IfOk, OnErr}
 use Rattle.std.specs.declared.option.Option.{Option}
-use Rattle.std.specs.declared.option.Option.TheVariants.{None, Some}
+use Rattle.std.specs.declared.option.Option.TheVariants.{Some}
 use Rattle.std.specs.declared.result.Result.{Result}
 use Rattle.std.specs.declared.result.Result.TheVariants.{Ok, Err}
 use Rattle.sha1.specs.Sha1.{sha1}
@@ -43,10 +43,7 @@ module _ (batch part : List Object) (among : (o : Object) → Contains part o �
 
   -- nothing of it comes
   none_comes : (n : Name) (f : File) → Brings d part n f → Nothing n f
-  none_comes n f b = let e = sym b.one.absent ∙ ap (λ (x : Name). (d x).now) b.one.name ∙ has.each b.object (among b.object b.among) in none_is e
-    where
-      none_is : {x : List ℕ} → None ≡ Some x → ⊥
-      none_is e = cc
+  none_comes n f b = let e = sym b.one.absent ∙ ap (λ (x : Name). (d x).now) b.one.name ∙ has.each b.object (among b.object b.among) in none-some _ e
 
   -- where a part is prepared, all of it is
   prepared_whole : {X : Type 0} (d0 : Disk) (manifest : List ℕ) → AreNamed batch → IsOne batch → (r : Result X StoreFault) (d' : Disk) → Gains on_way Nothing d d' → Prepared d part manifest r d' → Prepared d0 batch manifest r d'

@@ -6,6 +6,7 @@ use Rattle.std.specs.Str.{bytes_eq}
 use Rattle.std.proofs.lemmas.Bool.{eqb-true, leb-true, lt-ltb, ltb-true}
 use Rattle.std.proofs.lemmas.List.{take_at}
 use Rattle.std.proofs.lemmas.Option.{slice_get-get_or}
+use Rattle.std.proofs.lemmas.Result.{IfOk-weaker}
 use Rattle.std.proofs.lemmas.Slice.Eq.{bytes_eq-Decides}
 use Rattle.hex.specs.Hex.{lower_digits}
 use Rattle.hex.proofs.HexLemmas.{length-encode_with, IsAscii-encode_with}
@@ -116,21 +117,16 @@ pub parts-wrong : (keys : List Key) (id mac message : List ℕ) (decoded_ : Opti
 parts-wrong keys id mac message decoded_ place key is at found wrong =
     parts-known keys id mac message decoded_ place key is at found ∙ rw wrong refl
 
--- what holds of the value of an answer
-IfOk-map : {A E : Type 0} (r : Result A E) (P Q : A → Type 0) → ((x : A) → P x → Q x) → IfOk r P → IfOk r Q
-IfOk-map (Ok x) P Q f h = f x h
-IfOk-map (Err e) P Q f h = tt
-
 -- the text of a header is that of the key, and checked as that key's
 pub header-told : {E : Type 0} (keys : List Key) (place : ℕ) (key : Key) (message : List ℕ) (r : Result (String Global) E) → slice_get keys place ≡ Some key
     → IfOk r (λ text. string_bytes text ≡ header_of key message) → IfOk r (λ text. option_map (λ found. header_of found message) (slice_get keys place) ≡ Some (string_bytes text))
 header-told keys place key message r is h =
-    IfOk-map r _ (λ text. option_map (λ found. header_of found message) (slice_get keys place) ≡ Some (string_bytes text)) (λ text spelt. rw is (ap Some (sym spelt))) h
+    IfOk-weaker r _ (λ text. option_map (λ found. header_of found message) (slice_get keys place) ≡ Some (string_bytes text)) (λ text spelt. rw is (ap Some (sym spelt))) h
 
 pub header-accepted : {E : Type 0} (keys : List Key) (place : ℕ) (key : Key) (message : List ℕ) (r : Result (String Global) E) → IsTable keys → slice_get keys place ≡ Some key
     → IfOk r (λ text. string_bytes text ≡ header_of key message) → IfOk r (λ text. IsSomeAnd (slice_get keys place) (λ found. checked keys (Some (string_bytes text)) message ≡ Ok found))
 header-accepted keys place key message r table is h =
-    IfOk-map r _ (λ text. IsSomeAnd (slice_get keys place) (λ found. checked keys (Some (string_bytes text)) message ≡ Ok found))
+    IfOk-weaker r _ (λ text. IsSomeAnd (slice_get keys place) (λ found. checked keys (Some (string_bytes text)) message ≡ Ok found))
     (λ text spelt. rw is (ap (λ w. checked keys (Some w) message) spelt ∙ checked-header_of keys place key message table is)) h
 
 -- an element that was indexed stands at its place

@@ -1,6 +1,6 @@
 -- Objects that are brought to their names.
-use Rattle.std.proofs.Common.{◌≡◌, ℕ, Bool, true, false, List, refl, sym, ap, subst, ◌∙◌}
-use Rattle.std.proofs.lemmas.Option.{same_Some}
+use Rattle.std.proofs.Common.{◌≡◌, ℕ, Bool, true, false, refl, sym, ap, subst, ◌∙◌}
+use Rattle.std.proofs.lemmas.Option.{none-some, same_Some}
 use Rattle.std.specs.declared.option.Option.{Option}
 use Rattle.std.specs.declared.option.Option.TheVariants.{None, Some}
 use Rattle.std.specs.declared.result.Result.{Result}
@@ -43,17 +43,14 @@ gain : (d : Disk) (o : Object) (r : Result Bool VaultFault) (d' : Disk) → IsCo
 gain d o r d' h x = renames (way_name o.id) (file_name o.id) d (way_on_way o.id) (data_off_way o.id) (ap (λ (s : Slot). s.mark) h.on_its_way) (ap (λ (s : Slot). s.mark) h.absent)
     (record { name = refl; file = ap (λ (s : Slot). s.now) h.on_its_way; absent = ap (λ (s : Slot). s.now) h.absent }) r d' x
 
-none_is : {a : List ℕ} → None ≡ Some a → ⊥
-none_is e = cc
-
 -- an object that waits shows no fault of its own
 pub shows_waits : (d : Disk) (o : Object) (e : StoreFault) → o.id.hash ≡ sha1 o.bytes → Waits d o → Shows d o e → IsOutside e
 shows_waits d o Failed named w h = tt
 shows_waits d o NoMemory named w h = tt
 shows_waits d o (Collision id) named (stands s) h = h.1.other (same_Some _ _ (sym h.1.present ∙ s))
-shows_waits d o (Collision id) named (can a b) h = none_is (sym (ap (λ (s : Slot). s.now) a) ∙ h.1.present)
+shows_waits d o (Collision id) named (can a b) h = none-some _ (sym (ap (λ (s : Slot). s.now) a) ∙ h.1.present)
 shows_waits d o (Damaged id found) named (stands s) h = h.1.other (h.1.digest ∙ ap sha1 (same_Some _ _ (sym h.1.present ∙ s)) ∙ sym named)
-shows_waits d o (Damaged id found) named (can a b) h = none_is (sym (ap (λ (s : Slot). s.now) a) ∙ h.1.present)
+shows_waits d o (Damaged id found) named (can a b) h = none-some _ (sym (ap (λ (s : Slot). s.now) a) ∙ h.1.present)
 
 module _ {V : Type 0} {disk : V → Option Disk} {count : V → ℕ} {left : V → ℕ → Files → Type 0} {d : Disk} {v v1 : V} (o : Object) where
   -- what stands there isn't the object's

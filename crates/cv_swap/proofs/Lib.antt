@@ -12,7 +12,6 @@ mod Begins
 mod Growing
 mod Prepared
 mod Prefixes
-mod Made
 mod Named
 mod Chains
 mod Reopened
