@@ -10,7 +10,7 @@ use Rattle.std.specs.List.Sorted.{IsStrictlySortedBy}
 use Rattle.cv_base.specs.Path.{Path, path_cmp, with_slash}
 use Rattle.cv_base.specs.PathOrder.{path_total, name_exact}
 use Rattle.cv_base.specs.BytesOrder.{bytes_cmp}
-use Rattle.cv_base.proofs.Laws.{cmp-behind}
+use Rattle.cv_base.proofs.Laws.{all_append, cmp-behind}
 use Rattle.cv_ports.specs.declared.folder.FolderItem.{FolderItem}
 use Rattle.cv_ports.specs.Folder.{FolderView, Ascend, IsOrdered, names_of}
 use Rattle.cv_overlay.specs.declared.event.Event.{Event}
@@ -186,10 +186,6 @@ apart p (Below n) (Below m) q r h (b, more, qs) (c, others, rs) =
 paths_of-append : (vs ws : List Visit) → paths_of (vs ++ ws) ≡ paths_of vs ++ paths_of ws
 paths_of-append [] ws = refl
 paths_of-append (v ∷ vs) ws = ap (λ (l : List Path). path_of v ∷ l) (paths_of-append vs ws)
-
-all_append : (P : Path → Type 0) (xs ys : List Path) → AllByRecursion P xs → AllByRecursion P ys → AllByRecursion P (xs ++ ys)
-all_append P [] ys h k = k
-all_append P (x ∷ xs) ys h k = (h.0, all_append P xs ys h.1 k)
 
 pub all_map : (P Q : Path → Type 0) (xs : List Path) → ((q : Path) → P q → Q q) → AllByRecursion P xs → AllByRecursion Q xs
 all_map P Q [] f h = tt

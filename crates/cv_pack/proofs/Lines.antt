@@ -18,9 +18,9 @@ use Rattle.cv_pack.specs.declared.pack_fault.PackFault.{PackFault}
 use Rattle.cv_pack.specs.declared.pack_fault.PackFault.TheVariants.{BadHeader, TooLarge, TooMany, Duplicate}
 use Rattle.cv_pack.specs.Pack.{entry, line, total_size, header_of}
 use Rattle.cv_base.specs.Sequence.{◌>>=◌}
-use Rattle.cv_base.proofs.Laws.{either, ok_is}
+use Rattle.cv_base.proofs.Laws.{bind_ok, either, ok_is}
 use Rattle.cv_pack.specs.Reading.{Header, text_at, is_hash_digit, digits_at, number_at, hash_named, fresh, id_from, is_named, size_from, blank_from, suffix_from, hash_from, line_from, lines_from, dashes_from, count_from, count_line_from, total_from, total_line_from, header_at}
-use Rattle.cv_pack.proofs.Numbers.{bind_ok, chosen, text_takes, text_again, number_takes, number_again}
+use Rattle.cv_pack.proofs.Numbers.{chosen, text_takes, text_again, number_takes, number_again}
 use Rattle.cv_pack.proofs.Hashes.{hash_digits, digits_pass, digits_take, digits_again}
 
 -- an entry that a header may have

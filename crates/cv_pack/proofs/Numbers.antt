@@ -7,13 +7,8 @@ use Rattle.std.specs.Char.{is_ascii_digit}
 use Rattle.cv_pack.specs.declared.pack_fault.PackFault.{PackFault}
 use Rattle.cv_pack.specs.declared.pack_fault.PackFault.TheVariants.{BadHeader}
 use Rattle.cv_base.specs.Sequence.{◌>>=◌}
-use Rattle.cv_base.proofs.Laws.{either, ok_is}
+use Rattle.cv_base.proofs.Laws.{bind_ok, either, ok_is}
 use Rattle.cv_pack.specs.Reading.{text_at, with_digit, limited, ended, number_at}
-
--- the value of a step that did not fail
-pub bind_ok : {A B : Type 0} (r : Result A PackFault) (f : A → Result B PackFault) (y : B) → (r >>= f) ≡ Ok y → (x : A) × (r ≡ Ok x) × (f x ≡ Ok y)
-bind_ok (Ok x) f y e = (x, refl, e)
-bind_ok (Err d) f y e = absurd cc
 
 -- a choice that did not fail
 pub chosen : {A : Type 0} (b : Bool) (x : Result A PackFault) (fault : PackFault) (y : A) → cond b x (Err fault) ≡ Ok y → (b ≡ true) × (x ≡ Ok y)

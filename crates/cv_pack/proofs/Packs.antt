@@ -18,14 +18,14 @@ use Rattle.cv_base.specs.ObjectId.{object_id, same_kind, same_id}
 use Rattle.cv_base.specs.declared.id.Kind.{Kind}
 use Rattle.cv_base.specs.declared.id.ObjectId.{ObjectId}
 use Rattle.cv_base.specs.declared.object.Object.{Object}
-use Rattle.cv_base.proofs.Laws.{either, digest_sha1, same_kind-eq, same_id-own, ok_is}
+use Rattle.cv_base.proofs.Laws.{either, digest_sha1, same_kind-eq, same_id-own, ok_is, bind_ok}
 use Rattle.cv_pack.specs.declared.entry.Entry.{Entry}
 use Rattle.cv_pack.specs.declared.pack_fault.PackFault.{PackFault}
 use Rattle.cv_pack.specs.declared.pack_fault.PackFault.TheVariants.{HashDiffers, Short}
 use Rattle.cv_pack.specs.Pack.{entry, entry_of, ids, total_size, header_of, header_bytes, contents, contents_size, pack_bytes, IsPacked, IsPack}
 use Rattle.cv_base.specs.Sequence.{◌>>=◌}
 use Rattle.cv_pack.specs.Reading.{Header, object, is_named, header_at, contents_at, reading}
-use Rattle.cv_pack.proofs.Numbers.{bind_ok, chosen}
+use Rattle.cv_pack.proofs.Numbers.{chosen}
 use Rattle.cv_pack.proofs.Lines.{IsLine, AreLines, IsHeader, header_takes, header_again}
 
 -- ---- the same id
