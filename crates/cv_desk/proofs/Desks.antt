@@ -9,11 +9,10 @@ use Rattle.std.specs.declared.option.Option.{Option}
 use Rattle.std.specs.declared.option.Option.TheVariants.{None, Some}
 use Rattle.cv_base.specs.Told.{WhereTold}
 use Rattle.cv_base.specs.declared.id.ObjectId.{ObjectId}
-use Rattle.cv_base.proofs.Laws.{last_map}
+use Rattle.cv_base.proofs.Laws.{bytes_eq-own, last_map}
 use Rattle.cv_ports.specs.Shelf.{Shelf, IsShelf, Gives, Fetches}
 use Rattle.cv_ports.specs.declared.shelf.ShelfFault.{ShelfFault}
 use Rattle.cv_ports.specs.declared.shelf.ShelfFault.TheVariants.{Failed, Damaged, NoMemory}
-use Rattle.cv_seal.specs.Seals.{bytes_eq-itself}
 use Rattle.cv_vault.specs.Disk.{Disk, Files, ImageOf}
 use Rattle.cv_vault.specs.Moments.{LeavesOnly}
 use Rattle.cv_vault.specs.Names.{on_way}
@@ -253,7 +252,7 @@ pub finds_of : (id : ObjectId) (shelf : Shelf) → IsShelf shelf → (r : Result
 finds_of id shelf h (Ok found) given = elim (shelf id) as (λ o. shelf id ≡ o → Gives id o (Ok found) → found ≡ o) [
   | None ↦ λ _ e. cc
   | Some bytes ↦ λ there e. (
-      let same : bytes_eq (sha1 bytes) id.hash ≡ true = subst (λ x. bytes_eq (sha1 bytes) x ≡ true) (sym (h.hash id bytes there)) (bytes_eq-itself (sha1 bytes)) in
+      let same : bytes_eq (sha1 bytes) id.hash ≡ true = subst (λ x. bytes_eq (sha1 bytes) x ≡ true) (sym (h.hash id bytes there)) (bytes_eq-own (sha1 bytes)) in
       let f : Ok found ≡ Ok (Some bytes) = e ∙ rw same refl in
       cc)
 ] refl given
@@ -261,7 +260,7 @@ finds_of id shelf h (Err Failed) given = tt
 finds_of id shelf h (Err (Damaged named found)) given = elim (shelf id) as (λ o. shelf id ≡ o → Gives id o (Err (Damaged named found)) → ⊥) [
   | None ↦ λ _ e. absurd cc
   | Some bytes ↦ λ there e. (
-      let same : bytes_eq (sha1 bytes) id.hash ≡ true = subst (λ x. bytes_eq (sha1 bytes) x ≡ true) (sym (h.hash id bytes there)) (bytes_eq-itself (sha1 bytes)) in
+      let same : bytes_eq (sha1 bytes) id.hash ≡ true = subst (λ x. bytes_eq (sha1 bytes) x ≡ true) (sym (h.hash id bytes there)) (bytes_eq-own (sha1 bytes)) in
       let f : Err (Damaged named found) ≡ Ok (Some bytes) = e ∙ rw same refl in
       absurd cc)
 ] refl given

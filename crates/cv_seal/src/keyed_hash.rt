@@ -1,8 +1,8 @@
 //! The keyed hash as a signer.
 ghost use Rattle.std.specs.Prelude.{◌≡◌, IfOk, string_bytes};
 ghost use Rattle.std.specs.Str.{bytes_eq};
+ghost use Rattle.cv_base.proofs.Laws.{bytes_eq-own};
 ghost use Rattle.cv_seal.specs.Hmac.{hmac_sha1};
-ghost use Rattle.cv_seal.specs.Seals.{bytes_eq-itself};
 
 use crate::compare::same_bytes;
 use crate::hmac::hmac_sha1;
@@ -41,7 +41,7 @@ impl Signer for KeyedHash {
 
     ghost is_seal = { λ secret text seal. bytes_eq seal (hmac_sha1 secret text) };
 
-    ghost signed_verifies = { λ secret text. bytes_eq-itself (hmac_sha1 secret text) };
+    ghost signed_verifies = { λ secret text. bytes_eq-own (hmac_sha1 secret text) };
 
     fn sign(&self, alloc: Global, text: &[u8]) -> Result<Bytes, NoMemory> {
         let seal = hmac_sha1(self.secret.as_bytes(), text);
