@@ -1,6 +1,6 @@
 -- What is judged of the bytes held holds of all that is left.
 use Rattle.std.proofs.Common.{◌≡◌, ◌<◌, ◌≤◌, ◌-◌, ◌++◌, ℕ, List, [], length, take, drop, refl, ap, sym, subst, ◌∙◌, append_assoc, append-nil, arith, inl, inr, length-append}
-use Rattle.std.specs.Prelude.{Option, ◌⊎◌, Some, None, Result, Ok, Err, IfSome, IsErrAnd}
+use Rattle.std.specs.Prelude.{Option, ◌⊎◌, Some, None, Result, Ok, Err, IfSome}
 use Rattle.std.proofs.lemmas.List.{take-append-le, take-append-drop, take_all}
 use Rattle.std.proofs.lemmas.Bool.{cases_lt}
 use Rattle.std.proofs.Math.Seq.{take-append-add}
@@ -111,11 +111,6 @@ module _ {R : Type 0} (left given : R → Option (List ℕ)) where
 -- a part more of a body
 pub parted : (body body' held held' : List ℕ) (n : ℕ) → body' ≡ body ++ take n held → held' ≡ drop n held → body' ++ held' ≡ body ++ held
 parted body body' held held' n is then_ = rw (is, then_) (append_assoc body (take n held) (drop n held) ∙ ap (λ x. body ++ x) (take-append-drop n held))
-
--- a fault that is handed on
-pub by_fault : {A : Type 0} (r : Result A HttpFault) (fault : HttpFault) (P : Result A HttpFault → Type 0) → IsErrAnd r (λ d. d ≡ fault) → P (Err fault) → P r
-by_fault (Ok made) fault P h p = absurd h
-by_fault (Err d) fault P h p = subst (λ (x : HttpFault). P (Err x)) (sym h) p
 
 -- a body that wasn't read for a fault of the source or want of memory, of which fewer bytes were there
 pub body_unread : {A : Type 0} (P : List ℕ → A → Type 0) (b held : List ℕ) (size : ℕ) (fault : HttpFault) → IsPieceFault fault → length b < size → BodyRead size P b held (Err fault)

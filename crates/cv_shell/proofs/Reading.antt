@@ -1,6 +1,6 @@
 -- A line is read, piece after piece.
 use Rattle.std.proofs.Common.{◌≡◌, ◌++◌, ℕ, List, sym, subst, ap, ◌∙◌, refl}
-use Rattle.std.specs.Prelude.{Option, Some, None, Result, Ok, Err, IsErrAnd}
+use Rattle.std.specs.Prelude.{Option, Some, None, Ok, Err}
 use Rattle.cv_ports.specs.Streams.{Look}
 use Rattle.cv_http.specs.Wires.{WireView, Looks, Beside, Gets}
 use Rattle.cv_http.proofs.Lemmas.{looks_then}
@@ -8,11 +8,6 @@ use Rattle.cv_shell.specs.Lines.{IsLine, LineRead}
 use Rattle.cv_shell.specs.LinesInner.{LineFound, IsPieceFault}
 use Rattle.cv_shell.specs.declared.lines.LineFault.{LineFault}
 use Rattle.cv_shell.specs.declared.lines.LineFault.TheVariants.{TooLong, ReadFault, NoMemory}
-
--- a fault that is handed on
-pub by_fault : {A : Type 0} (r : Result A LineFault) (fault : LineFault) (P : Result A LineFault → Type 0) → IsErrAnd r (λ d. d ≡ fault) → P (Err fault) → P r
-by_fault (Ok made) fault P h p = absurd h
-by_fault (Err d) fault P h p = subst (λ (x : LineFault). P (Err x)) (sym h) p
 
 -- where no line was found, a part of one is held
 pub found_none : (b held : List ℕ) (found : Option (List ℕ)) → LineFound b held (Ok found) → ((line : List ℕ) → found ≡ Some line → ⊥) → IsLine b × (held ≡ b)

@@ -1,5 +1,6 @@
 use Rattle.std.proofs.Common.{◌≡◌, ◌∙◌, refl, ap, length, arith}
-use Rattle.cv_http.proofs.Lemmas.{by_fault, looks_none}
+use Rattle.cv_base.proofs.Laws.{left_by}
+use Rattle.cv_http.proofs.Lemmas.{looks_none}
 use Rattle.cv_session.specs.PayloadsInner.{ReadsBody}
 use Rattle.cv_session.proofs.Payloads.{came_none, came_on, came_short, came_looks}
 use Rattle.cv_session.proofs.payload.pass_over.Goals as goal
@@ -22,7 +23,7 @@ pieces-preserved g c =
 
 pub returns-in_err-piece-clause-reads : goal.returns-in_err-piece-clause-reads
 returns-in_err-piece-clause-reads g c =
-    by_fault c.from_residual.result _ (λ r. ReadsBody g.R.Source.left g.R.Source.given c.args.wire.now c.read_some.new.self c.args.size (λ body made. Unit {0}) r) c.from_residual.ensures.1
+    left_by (λ r. ReadsBody g.R.Source.left g.R.Source.given c.args.wire.now c.read_some.new.self c.args.size (λ body made. Unit {0}) r) c.from_residual.result _ c.from_residual.ensures.1
     (came_short g.R.Source.left g.R.Source.given {A = Unit {0}} (λ body made. Unit {0}) _ _ _ c.pieces.count c.args.size (λ body. Unit {0}) _ c.pieces.invariant.came c.in_err-piece.ensures.reads (omega (arith, c.pieces-test.true)))
 
 pub returns-in_err-piece-clause-looks : goal.returns-in_err-piece-clause-looks

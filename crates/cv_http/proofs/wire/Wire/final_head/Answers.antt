@@ -1,9 +1,10 @@
 use Rattle.std.proofs.Common.{◌≡◌, ℕ, refl, subst, arith}
+use Rattle.cv_base.proofs.Laws.{left_by}
 use Rattle.cv_http.specs.ReplyTexts.{Passes, no_more, many}
 use Rattle.cv_http.specs.ReplyTextsInner.{FinalRead}
 use Rattle.cv_http.specs.Wires.{Draws}
 use Rattle.cv_http.proofs.Replying.{one_passed, final_found, final_lost, final_none, interim_looks}
-use Rattle.cv_http.proofs.Streams.{draws_none, draws_as, draws_then, looks_none, by_fault}
+use Rattle.cv_http.proofs.Streams.{draws_none, draws_as, draws_then, looks_none}
 use Rattle.cv_http.proofs.wire.Wire.final_head.Goals as goal
 
 pub interim-init : goal.interim-init
@@ -16,7 +17,7 @@ interim-init g c = record {
 
 pub returns-in_err-head-clause-reads : goal.returns-in_err-head-clause-reads
 returns-in_err-head-clause-reads g c =
-    by_fault c.from_residual.result _ (λ r. Draws g.R.Source.left g.R.Source.given c.args.self.now c.next_head.new.self (λ b. FinalRead b c.next_head.new.self.held r)) c.from_residual.ensures.1
+    left_by (λ r. Draws g.R.Source.left g.R.Source.given c.args.self.now c.next_head.new.self (λ b. FinalRead b c.next_head.new.self.held r)) c.from_residual.result _ c.from_residual.ensures.1
     (draws_then g.R.Source.left g.R.Source.given c.args.self.now c.interim.self c.next_head.new.self (λ b. Passes c.interim.passed b c.interim.self.held) _ _ c.interim.invariant.draws c.in_err-head.ensures.reads
     (λ b more passes is. final_lost more c.next_head.new.self.held passes c.interim-test.true _ is))
 

@@ -1,11 +1,12 @@
 use Rattle.std.proofs.Common.{◌≡◌, ◌∙◌, sym, subst, ap, refl, length, length-append, arith, Err}
 use Rattle.std.specs.Prelude.{IfErr}
+use Rattle.cv_base.proofs.Laws.{left_by}
 use Rattle.cv_http.specs.Forms.{AwaitedAs}
 use Rattle.cv_http.specs.Wires.{Draws, HeadReadAs}
 use Rattle.cv_http.specs.Faults.{IsHeadFault}
 use Rattle.cv_http.specs.declared.fault.HttpFault.TheVariants.{Short, ReadFault}
 use Rattle.cv_http.proofs.HeadEnds.{none_yet, none_at_all, none_on}
-use Rattle.cv_http.proofs.Streams.{gets_same, gets_moved, gets_on, draws_of, draws_reads, read_lost, found_none, head_unread, by_fault, looks_none, looks_still, head_looks}
+use Rattle.cv_http.proofs.Streams.{gets_same, gets_moved, gets_on, draws_of, draws_reads, read_lost, found_none, head_unread, looks_none, looks_still, head_looks}
 use Rattle.cv_http.proofs.wire.Wire.next_head.Goals as goal
 
 pub pieces-init : goal.pieces-init
@@ -19,25 +20,25 @@ pieces-init g c = record {
 
 pub returns-in_err-head-clause-reads : goal.returns-in_err-head-clause-reads
 returns-in_err-head-clause-reads g c =
-    by_fault c.from_residual.result _ (λ r. Draws g.R.Source.left g.R.Source.given c.args.self.now c.seek_head.new.self (λ b. HeadReadAs g.H.Head.form b c.seek_head.new.self.held r)) c.from_residual.ensures.1
+    left_by (λ r. Draws g.R.Source.left g.R.Source.given c.args.self.now c.seek_head.new.self (λ b. HeadReadAs g.H.Head.form b c.seek_head.new.self.held r)) c.from_residual.result _ c.from_residual.ensures.1
     (draws_of g.R.Source.left g.R.Source.given c.args.self.now c.pieces.self c.seek_head.new.self _ c.pieces.invariant.gets c.seek_head.ensures.source
     (read_lost g.H.Head.form g.met.H.Head.refusal c.pieces.self.held c.seek_head.new.self.held _ c.in_err-head.ensures.found).0)
 
 pub returns-in_err-head-clause-cut : goal.returns-in_err-head-clause-cut
 returns-in_err-head-clause-cut g c = λ is.
-    absurd (by_fault c.from_residual.result _ (λ r. r ≡ Err Short → ⊥) c.from_residual.ensures.1
+    absurd (left_by (λ r. r ≡ Err Short → ⊥) c.from_residual.result _ c.from_residual.ensures.1
     ((read_lost g.H.Head.form g.met.H.Head.refusal c.pieces.self.held c.seek_head.new.self.held _ c.in_err-head.ensures.found).3 _ refl) is)
 
 pub returns-in_err-head-clause-faults : goal.returns-in_err-head-clause-faults
 returns-in_err-head-clause-faults g c =
-    by_fault c.from_residual.result _ (λ r. IfErr r IsHeadFault) c.from_residual.ensures.1
+    left_by (λ r. IfErr r IsHeadFault) c.from_residual.result _ c.from_residual.ensures.1
     (read_lost g.H.Head.form g.met.H.Head.refusal c.pieces.self.held c.seek_head.new.self.held _ c.in_err-head.ensures.found).1
 
 pub returns-in_err-head-clause-cause : goal.returns-in_err-head-clause-cause
 returns-in_err-head-clause-cause g c = record {
   later = let same = ap g.R.Source.faults c.seek_head.ensures.source in let was = c.pieces.invariant.no_read_failed in omega (arith, same, was);
   failed = λ is.
-      absurd (by_fault c.from_residual.result _ (λ r. r ≡ Err ReadFault → ⊥) c.from_residual.ensures.1
+      absurd (left_by (λ r. r ≡ Err ReadFault → ⊥) c.from_residual.result _ c.from_residual.ensures.1
       ((read_lost g.H.Head.form g.met.H.Head.refusal c.pieces.self.held c.seek_head.new.self.held _ c.in_err-head.ensures.found).2 _ refl) is);
 }
 
@@ -46,7 +47,7 @@ returns-in_err-fill-clause-reads g c =
     let found = found_none g.H.Head.form (AwaitedAs g.H.Head.form) c.pieces.self.held c.seek_head.new.self.held c.in_ok-head.field-0 c.in_ok-head.ensures.found c.in_default.not-Some in
     let waits : AwaitedAs g.H.Head.form c.fill.new.self.held = subst (AwaitedAs g.H.Head.form) (sym (c.in_err-fill.ensures.lost ∙ found.1)) found.0 in
     let gets = gets_moved g.R.Source.left g.R.Source.given c.args.self.now c.pieces.self c.seek_head.new.self c.pieces.invariant.gets c.seek_head.ensures.source found.1 in
-    by_fault c.from_residual-in_err-fill.result _ (λ r. Draws g.R.Source.left g.R.Source.given c.args.self.now c.fill.new.self (λ b. HeadReadAs g.H.Head.form b c.fill.new.self.held r)) c.from_residual-in_err-fill.ensures.1
+    left_by (λ r. Draws g.R.Source.left g.R.Source.given c.args.self.now c.fill.new.self (λ b. HeadReadAs g.H.Head.form b c.fill.new.self.held r)) c.from_residual-in_err-fill.result _ c.from_residual-in_err-fill.ensures.1
     (draws_of g.R.Source.left g.R.Source.given c.args.self.now c.fill.new.self c.fill.new.self _ (gets_on g.R.Source.left g.R.Source.given c.args.self.now c.seek_head.new.self c.fill.new.self gets c.fill.ensures.gets) refl
     (head_unread g.H.Head.form c.fill.new.self.held _ c.in_err-fill.ensures.faults waits))
 

@@ -1,11 +1,12 @@
 use Rattle.std.proofs.Common.{rules, Bool, Ok, ◌≡◌, ◌++◌, ◌∙◌, length, append-nil, ap, refl, arith}
+use Rattle.cv_base.proofs.Laws.{left_by}
 use Rattle.cv_http.specs.Wires.{Draws, BodyRead}
-use Rattle.cv_http.proofs.Streams.{body_on, draws_as, draws_lost, draws_reads, by_fault, body_unread, looks_still, body_looks}
+use Rattle.cv_http.proofs.Streams.{body_on, draws_as, draws_lost, draws_reads, body_unread, looks_still, body_looks}
 use Rattle.cv_http.proofs.wire.Wire.read_body.Goals as goal
 
 pub returns-in_err-has_some-clause-draws : goal.returns-in_err-has_some-clause-draws
 returns-in_err-has_some-clause-draws g c =
-    by_fault c.from_residual.result _ (λ r. Draws g.R.Source.left g.R.Source.given c.args.self.now c.has_some.new.self (λ b. BodyRead c.args.size (λ text body. body ≡ text) b c.has_some.new.self.held r)) c.from_residual.ensures.1
+    left_by (λ r. Draws g.R.Source.left g.R.Source.given c.args.self.now c.has_some.new.self (λ b. BodyRead c.args.size (λ text body. body ≡ text) b c.has_some.new.self.held r)) c.from_residual.result _ c.from_residual.ensures.1
     (draws_as g.R.Source.left g.R.Source.given c.args.self.now c.has_some.new.self _ _
     (body_on g.R.Source.left g.R.Source.given c.args.self.now c.parts.self c.has_some.new.self c.has_some.new.self c.parts.body.items c.parts.body.items c.parts.invariant.draws c.has_some.ensures.gets refl refl)
     (λ b read.
@@ -32,7 +33,7 @@ returns-then-not-branch-clause-reads g c = draws_reads g.R.Source.left g.R.Sourc
 
 pub returns-in_err-take_part-clause-draws : goal.returns-in_err-take_part-clause-draws
 returns-in_err-take_part-clause-draws g c =
-    by_fault c.from_residual-in_err-take_part.result _ (λ r. Draws g.R.Source.left g.R.Source.given c.args.self.now c.take_part.new.self (λ b. BodyRead c.args.size (λ text body. body ≡ text) b c.take_part.new.self.held r)) c.from_residual-in_err-take_part.ensures.1
+    left_by (λ r. Draws g.R.Source.left g.R.Source.given c.args.self.now c.take_part.new.self (λ b. BodyRead c.args.size (λ text body. body ≡ text) b c.take_part.new.self.held r)) c.from_residual-in_err-take_part.result _ c.from_residual-in_err-take_part.ensures.1
     (draws_lost g.R.Source.left g.R.Source.given c.args.self.now c.parts.self c.has_some.new.self c.take_part.new.self _ c.parts.invariant.draws c.has_some.ensures.gets c.take_part.ensures.source)
 
 pub returns-in_err-take_part-clause-reads : goal.returns-in_err-take_part-clause-reads

@@ -1,13 +1,14 @@
+use Rattle.cv_base.proofs.Laws.{left_by}
 use Rattle.cv_http.specs.ReplyTexts.{HasFinal, ReplyRead}
 use Rattle.cv_http.specs.Wires.{HasEnded, Draws}
 use Rattle.cv_http.proofs.Replying.{body_lost, body_looks, replied}
-use Rattle.cv_http.proofs.Streams.{draws_then, by_fault}
+use Rattle.cv_http.proofs.Streams.{draws_then}
 use Rattle.cv_http.proofs.wire.Wire.read_reply.Goals as goal
 
 pub returns-in_err-body-clause-reads : goal.returns-in_err-body-clause-reads
 returns-in_err-body-clause-reads g c =
-    by_fault c.from_residual-in_err-body.result _ (λ r. Draws g.R.Source.left g.R.Source.given c.args.self.now c.reply_body.new.self
-    (λ b. ReplyRead (HasEnded (g.R.Source.left c.reply_body.new.self.source)) b c.reply_body.new.self.held r)) c.from_residual-in_err-body.ensures.1
+    left_by (λ r. Draws g.R.Source.left g.R.Source.given c.args.self.now c.reply_body.new.self
+    (λ b. ReplyRead (HasEnded (g.R.Source.left c.reply_body.new.self.source)) b c.reply_body.new.self.held r)) c.from_residual-in_err-body.result _ c.from_residual-in_err-body.ensures.1
     (draws_then g.R.Source.left g.R.Source.given c.args.self.now c.final_head.new.self c.reply_body.new.self (λ b. HasFinal b c.in_ok-head.head c.final_head.new.self.held) _ _ c.in_ok-head.ensures.reads c.in_err-body.ensures.reads
     (λ b more final is. body_lost (HasEnded (g.R.Source.left c.reply_body.new.self.source)) b more c.final_head.new.self.held c.reply_body.new.self.held c.in_ok-head.head _ final is))
 

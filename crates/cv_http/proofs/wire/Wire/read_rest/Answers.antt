@@ -1,8 +1,9 @@
 use Rattle.std.proofs.Common.{rules, ◌≡◌, ◌+◌, ◌-◌, ◌++◌, ◌∙◌, length, length-append, min, None, ap, refl, arith}
+use Rattle.cv_base.proofs.Laws.{left_by}
 use Rattle.cv_http.specs.ReplyTextsInner.{ReplyBodyRead}
 use Rattle.cv_http.specs.Wires.{Draws, HasEnded}
 use Rattle.cv_http.specs.declared.wire.TheConstants.{BODY_LIMIT}
-use Rattle.cv_http.proofs.Streams.{body_on, by_fault, draws_as, draws_lost, draws_reads, looks_still, body_looks}
+use Rattle.cv_http.proofs.Streams.{body_on, draws_as, draws_lost, draws_reads, looks_still, body_looks}
 use Rattle.cv_http.proofs.wire.Wire.read_rest.Goals as goal
 
 pub returns-then-bytes-most-clause-reads : goal.returns-then-bytes-most-clause-reads
@@ -18,7 +19,7 @@ returns-then-bytes-most-clause-reads g c =
 
 pub returns-in_err-take_part-clause-reads : goal.returns-in_err-take_part-clause-reads
 returns-in_err-take_part-clause-reads g c =
-    by_fault c.from_residual-in_err-take_part.result _ (λ r. Draws g.R.Source.left g.R.Source.given c.args.self.now c.take_part.new.self (λ b. ReplyBodyRead (HasEnded (g.R.Source.left c.take_part.new.self.source)) None b c.take_part.new.self.held r)) c.from_residual-in_err-take_part.ensures.1
+    left_by (λ r. Draws g.R.Source.left g.R.Source.given c.args.self.now c.take_part.new.self (λ b. ReplyBodyRead (HasEnded (g.R.Source.left c.take_part.new.self.source)) None b c.take_part.new.self.held r)) c.from_residual-in_err-take_part.result _ c.from_residual-in_err-take_part.ensures.1
     (draws_lost g.R.Source.left g.R.Source.given c.args.self.now c.parts.self c.has_some.new.self c.take_part.new.self _ c.parts.invariant.draws c.has_some.ensures.gets c.take_part.ensures.source)
 
 pub parts-preserved : goal.parts-preserved
