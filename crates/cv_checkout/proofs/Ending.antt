@@ -172,16 +172,17 @@ module _ (t : Nodes) (s : Progress) (on : IsOn t s) (over : s.wanted ≡ []) whe
         holds (object_id (sha1 (cat t c)) Catalogue) ∙ found s.objects c cut on.own on.has there;
   }
 
+-- where nothing is asked for, nothing is wanted
+pub none_wanted : (ws : List Wanted) → next_of ws ≡ None → ws ≡ []
+none_wanted [] is = refl
+none_wanted (w ∷ ws) is = absurd cc
+
 pub base_is : (t : Nodes) (s : Progress) (b : Base) → IsOn t s → next_of s.wanted ≡ None → b.part ≡ subtree_of (nodes_of s.tree) s.path → b.has_place ≡ has_place (nodes_of s.tree) s.path
     → ((id : ObjectId) → standing b.catalogues id ≡ shelf_of s.objects id) → IsBase t s.path b
 base_is t s b on none part place shelf =
-    let over = all_given s.wanted none in
+    let over = none_wanted s.wanted none in
     record {
       part_is = part ∙ same_part t s on over;
       place_is = place ∙ same_place t s on over;
       cuts = has_cuts t s on over (standing b.catalogues) shelf;
     }
-  where
-    all_given : (ws : List Wanted) → next_of ws ≡ None → ws ≡ []
-    all_given [] h = refl
-    all_given (w ∷ ws) h = cc

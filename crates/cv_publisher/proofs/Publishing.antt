@@ -18,6 +18,7 @@ use Rattle.cv_checkout.specs.Progress.{Progress, begun}
 use Rattle.cv_checkout.specs.Wanting.{id_of, next_of, root_wanted}
 use Rattle.cv_checkout.specs.declared.fault.CheckoutFault.{CheckoutFault}
 use Rattle.cv_checkout.specs.declared.fault.CheckoutFault.TheVariants as checkout
+use Rattle.cv_checkout.proofs.Lemmas.{none_wanted}
 use Rattle.cv_ports.specs.Objects.{shelf_of}
 use Rattle.cv_tree.specs.Changes.{has_place, nodes_of, subtree_of}
 use Rattle.cv_overlay.specs.Answers.{HasNoBad}
@@ -40,7 +41,7 @@ use Rattle.cv_publisher.specs.declared.stage.Stage.TheVariants.{Leasing, Reading
 use Rattle.cv_publisher.specs.declared.want.Want.TheVariants.{Exchange}
 use Rattle.cv_publisher.proofs.Missing.{ids_of, never_fetched}
 use Rattle.cv_publisher.proofs.Replying.{Seal, IsCatalogue, SaysNothing, given_digest, says_nothing, taken, refused, IsGranted, is_granted, isnt_granted, lease_cases}
-use Rattle.cv_publisher.proofs.Served.{Assembled, Comes, asks_toward, begins, comes_more, completed, explained, none_bad, none_wanted, offered, served_later}
+use Rattle.cv_publisher.proofs.Served.{Assembled, Comes, asks_toward, begins, comes_more, completed, explained, none_bad, offered, served_later}
 use Rattle.cv_publisher.proofs.Unmade.{IsOrdered, made_in_order, unmade_by}
 use Rattle.cv_publisher.proofs.Talking.{runs_of, End, Runs, IsOver, at_end, at_cancel, plain_err, Ends, whole, broken, before, breaks, rests, Sent, at_offer}
 

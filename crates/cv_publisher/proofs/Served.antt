@@ -18,9 +18,8 @@ use Rattle.cv_checkout.specs.Giving.{Gives}
 use Rattle.cv_checkout.specs.InTree.{IsIdToward, IsOn}
 use Rattle.cv_checkout.specs.Progress.{Progress, begun}
 use Rattle.cv_checkout.specs.Wanting.{next_of}
-use Rattle.cv_checkout.specs.declared.wanted.Wanted.{Wanted}
 use Rattle.cv_checkout.specs.declared.fault.CheckoutFault.TheVariants as checkout
-use Rattle.cv_checkout.proofs.Lemmas.{comes_on, gives_good, has_cuts, next_toward, same_part, same_place, starts_on}
+use Rattle.cv_checkout.proofs.Lemmas.{comes_on, gives_good, has_cuts, next_toward, none_wanted, same_part, same_place, starts_on}
 use Rattle.cv_overlay.specs.Overlay.{over}
 use Rattle.cv_publisher.specs.Assembling.{unfetched, Assembles, is_bad, is_orphan, is_laid, unlaid, Sets, is_set, collides, is_full, unset}
 use Rattle.cv_publisher.specs.Replies.{served_in}
@@ -144,10 +143,6 @@ unmade_told plan t from fetched b place r f tells (unlaid is) err = let same : f
 -- what is assembled of a checkout to which all was given
 abbrev pub Assembled : Plan → List ℕ → Progress → Result Delivery PublishFault → Type 0
 Assembled plan from s r = Assembles plan from (shelf_of s.objects) (nodes_of (subtree_of (nodes_of s.tree) s.path)) (has_place (nodes_of s.tree) s.path) r
-
-pub none_wanted : (ws : List Wanted) → next_of ws ≡ None → ws ≡ []
-none_wanted [] is = refl
-none_wanted (w ∷ ws) is = absurd cc
 
 tells : (plan : Plan) (t : Nodes) (from : List ℕ) (s : Progress) (more : List (List ℕ)) → Comes t from s more → next_of s.wanted ≡ None → s.path ≡ plan.path
     → Tells plan t from (shelf_of s.objects) (nodes_of (subtree_of (nodes_of s.tree) s.path)) (has_place (nodes_of s.tree) s.path)
