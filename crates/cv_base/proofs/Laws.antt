@@ -16,6 +16,6 @@ pub use Rattle.cv_base.proofs.NamedPaths.{IsNamed, path_named-own, path_named-is
 pub use Rattle.cv_base.proofs.Sets.{contains-more}
 pub use Rattle.cv_base.proofs.SameIds.{same_id-eq, same_id-own}
 pub use Rattle.cv_base.proofs.Values.{some_same, not_both, some_there, not_there, chosen, OnOk-map, on_err_only, handed_on, one_fault, left_by, first_false, either, unchosen, same_or_other, is_less, is_equal, then_equal}
-pub use Rattle.cv_base.proofs.Lists.{all_push, all_append, each_all, item_there, stands_there, image_at, last_push, last_map, fields_length, drop_is, rest_all, bytes_itself, bytes_eq-own, bytes_are, not_less}
-pub use Rattle.cv_base.proofs.PathFacts.{parent-append, last_same, all_last, joined_path, same_name-symm, rising, same_path-itself, cmp-behind, covers_below, covers_itself, not_before, covers_through}
+pub use Rattle.cv_base.proofs.Lists.{all_push, all_append, all_weaker, each_all, item_there, stands_there, goes_to, image_at, last_push, last_map, fields_length, drop_is, rest_all, bytes_itself, bytes_eq-own, bytes_are, not_less}
+pub use Rattle.cv_base.proofs.PathFacts.{parent-append, last_same, all_last, joined_path, same_name-symm, rising, same_path-itself, cmp-behind, covers_below, covers_itself, only_root, second_covers, not_before, covers_through}
 pub use Rattle.cv_base.proofs.Targets.{no_target}

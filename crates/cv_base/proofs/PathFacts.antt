@@ -8,7 +8,7 @@ use Rattle.std.specs.Cmp.{tied_itself, eq_by_cmp_equiv}
 use Rattle.std.specs.Cmp.Lexicographic.{nat_list_cmp_total}
 use Rattle.std.proofs.lemmas.Bool.{le-ltb}
 use Rattle.cv_base.specs.BytesOrder.{bytes_cmp}
-use Rattle.cv_base.specs.Path.{Path, IsPath, path_cmp, same_name, same_path, behind, covers, parent, text_of, is_path_name}
+use Rattle.cv_base.specs.Path.{Path, IsPath, path_cmp, same_name, same_path, behind, covers, overlap, parent, text_of, is_path_name}
 use Rattle.cv_base.specs.PathText.{joined}
 use Rattle.cv_base.specs.PathOrder.{path_total}
 use Rattle.cv_base.proofs.Bools.{first_true, second_true}
@@ -68,6 +68,14 @@ cmp-behind (a ∷ c) q r = ap (λ o. ordering_then o (path_cmp (c ++ q) (c ++ r)
 -- each path covers itself
 pub covers_itself : (p : Path) → covers p p ≡ true
 covers_itself p = subst (λ (q : Path). covers p q ≡ true) (append-nil p) (ap is_some (behind-append p []))
+
+pub only_root : (p : Path) → covers p [] ≡ true → p ≡ []
+only_root [] h = refl
+only_root (a ∷ p) h = absurd cc
+
+-- of two paths that overlap the second covers the first, where the first doesn't cover it
+pub second_covers : (a b : Path) → covers a b ≡ false → overlap a b ≡ true → covers b a ≡ true
+second_covers a b out over = rw out at over
 
 pub covers_below : (p q r : Path) → covers p q ≡ true → covers p (q ++ r) ≡ true
 covers_below [] q r h = refl

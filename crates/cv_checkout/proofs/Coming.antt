@@ -13,7 +13,7 @@ use Rattle.cv_base.specs.Marker.{marker}
 use Rattle.cv_base.specs.ObjectId.{object_id}
 use Rattle.cv_base.specs.declared.id.Kind.TheVariants.{Catalogue}
 use Rattle.cv_base.specs.declared.object.Object.{Object}
-use Rattle.cv_base.proofs.Laws.{some_there, covers_itself}
+use Rattle.cv_base.proofs.Laws.{some_there, covers_itself, only_root}
 use Rattle.cv_tree.specs.Tree.{Nodes, at, is_directory, is_file}
 use Rattle.cv_tree.specs.Changes.{nodes_of}
 use Rattle.cv_tree.specs.declared.node.Node.{Node}
@@ -210,17 +210,13 @@ module _ (t : Nodes) (s : Progress) (on : IsOn t s) (first : Wanted) (rest : Lis
           elim (on.told [] n.0 (or_right (covers s.path []) true refl) n.1) [
             | inl told ↦ absurd (no_node (subst (λ (u : Option Nodes). get (nodes_of u) [] ≡ Some n.0) none told))
             | inr covered ↦ elim (was_covered [] covered) [
-              | inl here_ ↦ top c here_
+              | inl here_ ↦ only_root c here_
               | inr left ↦
                   let w = coverer rest [] left in
-                  absurd (places.0 w.0 w.1 (subst (λ (x : Path). overlap c x ≡ true) (sym (top w.0.path w.2)) (or_right (covers c []) true refl)))
+                  absurd (places.0 w.0 w.1 (subst (λ (x : Path). overlap c x ≡ true) (sym (only_root w.0.path w.2)) (or_right (covers c []) true refl)))
             ]
           ]
         where
-          top : (p : Path) → covers p [] ≡ true → p ≡ []
-          top [] h = refl
-          top (a ∷ p) h = absurd cc
-
           no_node : {m : Node} → get (empty {X = Node} {R = path_cmp}) [] ≡ Some m → ⊥
           no_node {m} e = let wrong : None ≡ Some m = sym (get-empty path_cmp []) ∙ e in cc
 

@@ -2,6 +2,7 @@
 use Rattle.std.proofs.Common.{◌≡◌, zero, suc, Bool, true, false, cond, List, [], ◌∷◌, map, refl, sym, ap, subst, ◌∙◌, arith, ◌⊎◌, inl, inr}
 use Rattle.std.specs.Prelude.{Contains}
 use Rattle.std.specs.List.{filter}
+pub use Rattle.cv_base.proofs.Laws.{goes_to}
 
 module _ {X : Type 0} where
   pub none_there : (x : X) → Contains [] x → ⊥
@@ -50,12 +51,4 @@ module _ {X Y : Type 0} where
       elim (first_or_later (f x) (map f xs) y has) [
         | inl same ↦ (x, first_there x xs, same)
         | inr later ↦ let rest = comes_from f xs y later in (rest.0, later_there x xs rest.0 rest.1, rest.2)
-      ]
-
-  pub goes_to : (f : X → Y) (xs : List X) (x : X) → Contains xs x → Contains (map f xs) (f x)
-  goes_to f [] x has = absurd (none_there x has)
-  goes_to f (z ∷ xs) x has =
-      elim (first_or_later z xs x has) [
-        | inl same ↦ subst (λ w. Contains (f z ∷ map f xs) (f w)) same (first_there (f z) (map f xs))
-        | inr later ↦ later_there (f z) (map f xs) (f x) (goes_to f xs x later)
       ]

@@ -2,6 +2,7 @@
 use Rattle.std.proofs.Common.{◌≡◌, ◌≢◌, ℕ, zero, suc, ◌+◌, ◌≤◌, true, false, [], ◌∷◌, ◌++◌, length, length-append, refl, sym, ap, subst, ◌∙◌, append-nil, append_assoc, arith}
 use Rattle.cv_base.specs.Marker.{marker, ends_in}
 use Rattle.cv_base.specs.Path.{Path, covers, overlap}
+use Rattle.cv_base.proofs.Laws.{second_covers}
 use Rattle.cv_tree.specs.Tree.{Nodes, IsTree, at, put}
 use Rattle.cv_tree.proofs.Laws.{at-at, at-put}
 use Rattle.cv_cut.specs.Above.{Holds, OnWay}
@@ -62,9 +63,6 @@ alone_holds m p s some only = of (holder_of m p some)
 
 -- ---- what fits
 
-second_of : (a b : Path) → covers a b ≡ false → overlap a b ≡ true → covers b a ≡ true
-second_of a b out over = rw out at over
-
 module _ (P : Type 0) (t m : Nodes) (p : Path) (tree : IsTree t) (after : IsTree (put t p (at m p))) (unmarked : ends_in marker p ≡ false) where
   pub same_below : (q : Path) → at m (p ++ q) ≡ at (put t p (at m p)) (p ++ q)
   same_below q = sym (at-at m p q) ∙ ap (λ (w : Nodes). at w q) (sym (at-put t p (at m p))) ∙ at-at (put t p (at m p)) p q
@@ -94,7 +92,7 @@ module _ (P : Type 0) (t m : Nodes) (p : Path) (tree : IsTree t) (after : IsTree
               let b = rest_behind p d h in
               let there = subst (λ (x : Path). is_cut (put t p (at m p)) x ≡ true) b.1 cut in
               subst (IsSound P (put t p (at m p))) (sym b.1) (moved_sound P m (put t p (at m p)) (p ++ b.0) (same_below b.0) there (below (p ++ b.0) (sym (cut-in t m p b.0) ∙ there) (covers_append p b.0)))
-          | false ↦ λ out. let b = rest_behind d p (second_of p d out over) in sound_above d b.0 cut out b.1
+          | false ↦ λ out. let b = rest_behind d p (second_covers p d out over) in sound_above d b.0 cut out b.1
         ] refl
 
 -- no two paths share a key, where none does at the cut that holds the path, and none of the part

@@ -6,7 +6,7 @@ use Rattle.std.specs.Prelude.{IfSome, ⊤}
 use Rattle.std.specs.List.{cons_option, AllByRecursion, Contains}
 use Rattle.cv_cut.proofs.Lemmas.{first_there, later_there}
 use Rattle.cv_base.specs.declared.object.Object.{Object}
-use Rattle.cv_base.proofs.Laws.{all_push}
+use Rattle.cv_base.proofs.Laws.{all_push, all_weaker}
 use Rattle.cv_leases.specs.declared.lease.Lease.{Lease}
 use Rattle.cv_leases.proofs.Laws.{all_filter, found_all}
 use Rattle.cv_gate.specs.State.{State, aged, with_revision, Settled, certain, unmade, published}
@@ -78,10 +78,6 @@ grant_from lease = record { token = lease.token; key = lease.key; path = lease.p
 pub record Known (P : Grant → Type 0) (st : State) : Type 0 where
   pub leases : AllByRecursion (λ lease. P (grant_from lease)) st.leases
   pub doubt : IfSome st.doubt (λ new. P (grant_under new))
-
-pub all_weaker : {X : Type 0} (P Q : X → Type 0) (xs : List X) → ((x : X) → P x → Q x) → AllByRecursion P xs → AllByRecursion Q xs
-all_weaker P Q [] f h = tt
-all_weaker P Q (x ∷ xs) f h = (f x h.0, all_weaker P Q xs f h.1)
 
 if_weaker : {X : Type 0} (P Q : X → Type 0) (o : Option X) → ((x : X) → P x → Q x) → IfSome o P → IfSome o Q
 if_weaker P Q None f h = tt

@@ -8,7 +8,7 @@ use Rattle.std.specs.Prelude.{⊤}
 use Rattle.std.proofs.lemmas.List.Elements.{All-from_recursion}
 use Rattle.std.proofs.lemmas.List.Kept.{AllPairs-cons}
 use Rattle.cv_base.specs.declared.token.Token.{Token}
-use Rattle.cv_base.proofs.Laws.{all_push, all_append}
+use Rattle.cv_base.proofs.Laws.{all_push, all_append, all_weaker}
 use Rattle.cv_ports.specs.Shelf.{Shelf}
 use Rattle.cv_tree.specs.Tree.{Nodes, at}
 use Rattle.cv_tree.proofs.Laws.{kept-put}
@@ -20,7 +20,7 @@ use Rattle.cv_gate.specs.Laws.{tokens_given, tokens_from, Numbers}
 use Rattle.cv_gate.specs.Lives.{Life, ran, cut, Ran, Lived, Lives, Grant, grants_of, grant_under, MakesLast, whole, last, MadeBy, none, by_run, by_cut, EachReplaces, tokens_of, Prolongs}
 use Rattle.cv_gate.specs.declared.entry.Entry.{Entry}
 use Rattle.cv_gate.proofs.Effects.{IsItsOwn, own as its_own}
-use Rattle.cv_gate.proofs.Growth.{as_before, Known, OrGranted, maker_known, known_aged, all_weaker, Grew, grows}
+use Rattle.cv_gate.proofs.Growth.{as_before, Known, OrGranted, maker_known, known_aged, Grew, grows}
 use Rattle.cv_gate.proofs.Histories.{some_newest}
 use Rattle.cv_gate.proofs.Tokens as tokens
 

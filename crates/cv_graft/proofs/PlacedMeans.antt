@@ -5,6 +5,7 @@ use Rattle.std.proofs.lemmas.List.Elements.{Contains-append_left, Contains-appen
 use Rattle.std.proofs.lemmas.List.Sorted.{Contains-permutation, IsPermutation-reverse}
 use Rattle.cv_base.specs.Path.{Path, covers, overlap}
 use Rattle.cv_base.specs.declared.object.Object.{Object}
+use Rattle.cv_base.proofs.Laws.{second_covers}
 use Rattle.cv_ports.specs.Shelf.{Shelf, HasMore}
 use Rattle.cv_tree.specs.Tree.{Nodes, IsTree, put}
 use Rattle.cv_cut.specs.Above.{cuts_above}
@@ -28,11 +29,8 @@ added_all t p c tree cut over =
     let higher : List Object = map (catalogue_object t) (reverse (cuts_above t p)) in
     elim (covers p c) as (λ b. covers p c ≡ b → Contains (below ++ higher) (catalogue_object t c)) [
       | true ↦ λ inside. Contains-append_left below higher _ (made_of t (cuts_within t p) c (passing (λ x. covers p x) (cuts_of t) c (cut_of_tree t c tree cut) inside))
-      | false ↦ λ out. Contains-append_right below higher _ (made_of t (cuts_above t p) c (cut_covers t c p cut (second p c out over) out))
+      | false ↦ λ out. Contains-append_right below higher _ (made_of t (cuts_above t p) c (cut_covers t c p cut (second_covers p c out over) out))
     ] refl
-  where
-    second : (a b : Path) → covers a b ≡ false → overlap a b ≡ true → covers b a ≡ true
-    second a b out over = rw out at over
 
 pub placed_means : (shelf more : Shelf) (hash : List ℕ) (t s : Nodes) (p : Path) → Means shelf hash t → IsTree (put t p s) → FitsOver (put t p s) p → HasMore shelf more → HasObjects more (placed_of (put t p s) p).added → HasContentsOf more s
     → Means more (root_of (put t p s)) (put t p s)

@@ -1,18 +1,15 @@
 -- Where the lines of a text end.
 use Rattle.std.proofs.Common.{◌≡◌, ℕ, true, false, List, [], ◌∷◌, ◌++◌, codes, refl, sym, ap, ◌∙◌, append_assoc}
 use Rattle.std.specs.List.{AllByRecursion}
+use Rattle.cv_base.proofs.Laws.{all_weaker}
 use Rattle.cv_manifest.specs.Lines.{has_newline, ended, IsLine}
 use Rattle.cv_manifest.proofs.Cuts.{one_cut, newline_in, not_nil, ended-cons, ended-first}
 
 abbrev pub IsWhole : List ℕ → Type 0
 IsWhole line = has_newline line ≡ false
 
-pub all_weaker : {X : Type 0} (P Q : X → Type 0) → ((x : X) → P x → Q x) → (xs : List X) → AllByRecursion P xs → AllByRecursion Q xs
-all_weaker P Q h [] all = tt
-all_weaker P Q h (x ∷ xs) all = (h x all.0, all_weaker P Q h xs all.1)
-
 pub are_whole : (lines : List (List ℕ)) → AllByRecursion IsLine lines → AllByRecursion IsWhole lines
-are_whole lines = all_weaker IsLine IsWhole (λ line is. is.whole) lines
+are_whole lines = all_weaker IsLine IsWhole lines (λ line is. is.whole)
 
 -- the lines that a text begins with are the first of all its lines
 pub record Follow (all front : List (List ℕ)) (rest : List ℕ) : Type 0 where

@@ -7,6 +7,7 @@ use Rattle.std.proofs.lemmas.Fmt.{decimal_injective}
 use Rattle.sha1.specs.Sha1.{sha1}
 use Rattle.hex.specs.Hex.{encode_lower}
 use Rattle.cv_base.specs.declared.limits.TheConstants.{LAST_TIME}
+use Rattle.cv_base.proofs.Laws.{all_weaker}
 use Rattle.cv_manifest.specs.declared.field.Field.{Field}
 use Rattle.cv_manifest.specs.declared.field.Field.TheVariants.{Revision, Name, Time}
 use Rattle.cv_manifest.specs.declared.fields.Fields.{Fields}
@@ -19,7 +20,6 @@ use Rattle.cv_manifest.specs.Manifest.{value_of, InRange, IsManifest, Says}
 use Rattle.cv_manifest.specs.Fault.{IsGood, is_none_of, Shows}
 use Rattle.cv_manifest.specs.SplitInner.{IsSplit}
 use Rattle.cv_manifest.specs.FieldsInner.{texts, HaveFields, LacksField}
-use Rattle.cv_manifest.proofs.Endings.{all_weaker}
 use Rattle.cv_manifest.proofs.Exact.{Seals}
 use Rattle.cv_manifest.proofs.Progress.{have_faultless}
 
@@ -99,7 +99,7 @@ show_manifest is_seal text front ready fields have m is in_range =
       has = ready.split.has;
       is_sealed = sealed is_seal text front ready;
       say = record {
-        full = all_weaker IsGood (λ line. line ≢ []) (λ line good. good.full) lines has.good;
+        full = all_weaker IsGood (λ line. line ≢ []) lines (λ line good. good.full) has.good;
         fields = each;
         limits = is_manifest lines m has.good each in_range;
       };

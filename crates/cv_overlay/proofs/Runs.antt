@@ -15,6 +15,7 @@ use Rattle.cv_base.specs.declared.id.Kind.TheVariants.{Plain}
 use Rattle.cv_base.specs.declared.object.Object.{Object}
 use Rattle.cv_base.specs.ObjectId.{object_id}
 use Rattle.cv_base.specs.Sequence.{◌>>=◌}
+use Rattle.cv_base.proofs.Laws.{all_weaker}
 use Rattle.cv_ports.specs.declared.folder.FolderItem.{FolderItem}
 use Rattle.cv_ports.specs.declared.folder.FoundKind.{FoundKind}
 use Rattle.cv_ports.specs.declared.folder.FoundKind.TheVariants as kind
@@ -185,10 +186,6 @@ found_own (v ∷ vs) order = (rw (eq_itself (path_of v)) refl, behind vs order.0
     behind [] less own = tt
     behind (w ∷ ws) less own = (rw (first_apart (path_of w) less.0) own.0, behind ws less.1 own.1)
 
-all_visits : (P Q : Visit → Type 0) (vs : List Visit) → ((v : Visit) → P v → Q v) → AllByRecursion P vs → AllByRecursion Q vs
-all_visits P Q [] f h = tt
-all_visits P Q (v ∷ vs) f h = (f v h.0, all_visits P Q vs f h.1)
-
 all_at : (P : Object → Type 0) (os : List Object) (i : ℕ) (o : Object) → AllByRecursion P os → slice_get os i ≡ Some o → P o
 all_at P [] i o h e = cc
 all_at P (x ∷ os) zero o h e = let same : x ≡ o = cc in subst P same h.0
@@ -212,7 +209,7 @@ run_changes f at vs t walk h = record {
       ∙ node_or-None (item_from f at [] (name ∷ names)) (f.content (name ∷ names));
   contents = λ i o there. all_at (λ (x : Object). IsContent f at x.bytes) t.objects i o
       (run_objects f at (IsContent f at) vs nothing_found t
-      (all_visits (λ v. found_at (path_of v) vs ≡ Some v.item) (Holds f (IsContent f at)) vs
+      (all_weaker (λ v. found_at (path_of v) vs ≡ Some v.item) (Holds f (IsContent f at)) vs
       (λ v own file named. record { path = path_of v; item = v.item; there = sym (walk.items (path_of v)) ∙ own; file = file; named = named; is = refl }) (found_own vs walk.ascend))
       tt h) there;
 }

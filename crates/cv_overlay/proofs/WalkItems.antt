@@ -11,7 +11,7 @@ use Rattle.std.specs.List.Sorted.{IsStrictlySortedBy}
 use Rattle.cv_base.specs.Path.{Path, IsPath, same_name, same_path, with_slash}
 use Rattle.cv_base.specs.PathOrder.{same_path_is, same_name_is, same_name_itself}
 use Rattle.cv_base.specs.BytesOrder.{bytes_cmp}
-use Rattle.cv_base.proofs.Laws.{cmp-behind, or_swap}
+use Rattle.cv_base.proofs.Laws.{all_weaker, cmp-behind, or_swap}
 use Rattle.cv_ports.specs.declared.folder.FolderItem.{FolderItem}
 use Rattle.cv_ports.specs.Folder.{FolderView, Ascend, IsOrdered, names_of}
 use Rattle.cv_overlay.specs.declared.event.Event.{Event}
@@ -19,7 +19,7 @@ use Rattle.cv_overlay.specs.declared.event.Event.TheVariants.{Item, Below}
 use Rattle.cv_overlay.specs.Walk.{Visit, path_of, paths_of, takes, is_dir, is_way, item_named, item_from, found_at, IsWalk}
 use Rattle.cv_overlay.specs.EventsInner.{goes_before, put_below, placed_all, visits_of, visits_deep}
 use Rattle.cv_overlay.proofs.Limits.{takes_depth, takes_path, depth_with}
-use Rattle.cv_overlay.proofs.WalkOrder.{AreDeeper, are_deeper, ascend_deep, IsBehind, IsOf, all_map, of_below}
+use Rattle.cv_overlay.proofs.WalkOrder.{AreDeeper, are_deeper, ascend_deep, IsBehind, IsOf, of_below}
 
 -- ---- paths that are others
 no_path : (p : Path) (b : List ℕ) (r : Path) → p ≡ p ++ b ∷ r → ⊥
@@ -80,7 +80,7 @@ found_one deeper at p n (Item item ∷ es) h = rw (same_last p item.name n, foun
 found_one deeper at p n (Below name ∷ es) h =
     let below = cond (takes (at ++ p) name) (deeper (p ++ name ∷ [])) [] in
     found_at-append (p ++ n ∷ []) below (visits_of deeper at p es)
-    ∙ rw (none_found (p ++ n ∷ []) below (all_map (IsOf p (Below name)) (λ r. same_path r (p ++ n ∷ []) ≡ false) (paths_of below)
+    ∙ rw (none_found (p ++ n ∷ []) below (all_weaker (IsOf p (Below name)) (λ r. same_path r (p ++ n ∷ []) ≡ false) (paths_of below)
     (λ r is. subst (λ (w : Path). same_path w (p ++ n ∷ []) ≡ false) (sym is.2) (apart_front p (name ∷ is.0 ∷ is.1) (n ∷ []) (λ e. cc))) (of_below deeper at p name h)))
     (found_one deeper at p n es h)
 
@@ -147,7 +147,7 @@ found_more deeper at p n m names (Below name ∷ es) h =
     ∙ elim (same_name name n) as (λ s. same_name name n ≡ s → option_or (found_at q below) (cond (has_below n es) there None) ≡ cond (s || has_below n es) there None) [
       | true ↦ λ same. let is : found_at q below ≡ there = ap (λ (k : List ℕ). found_at q (cond (takes (at ++ p) k) (deeper (p ++ k ∷ [])) [])) (same_name_is name n same) ∙ found_cond q (takes (at ++ p) n) (deeper (p ++ n ∷ [])) in
           ap (λ (o : Option FolderItem). option_or o (cond (has_below n es) there None)) is ∙ or_again (has_below n es) there
-      | false ↦ λ same. ap (λ (o : Option FolderItem). option_or o (cond (has_below n es) there None)) (none_found q below (all_map (IsOf p (Below name)) (λ r. same_path r q ≡ false) (paths_of below)
+      | false ↦ λ same. ap (λ (o : Option FolderItem). option_or o (cond (has_below n es) there None)) (none_found q below (all_weaker (IsOf p (Below name)) (λ r. same_path r q ≡ false) (paths_of below)
           (λ r is. subst (λ (w : Path). same_path w q ≡ false) (sym is.2) (apart_front p (name ∷ is.0 ∷ is.1) (n ∷ m ∷ names) (differ name n is.0 is.1 m names same))) (of_below deeper at p name h)))
     ] refl
   where
@@ -168,7 +168,7 @@ items_deep : (left : ℕ) (f : FolderView) (at p rest : Path) → IsOrdered f �
 unfolding visits_deep
 items_deep left f at p [] h is fuel =
     none_found (p ++ []) (visits_deep (suc left) f at p)
-    (all_map (IsBehind p) (λ r. same_path r (p ++ []) ≡ false) (paths_of (visits_deep (suc left) f at p))
+    (all_weaker (IsBehind p) (λ r. same_path r (p ++ []) ≡ false) (paths_of (visits_deep (suc left) f at p))
     (λ r is. other (p ++ []) r (λ e. no_path p is.0 is.1 (sym (append-nil p) ∙ sym e ∙ is.2))) ((are_deeper (suc left) f at h).behind p))
 items_deep left f at p (n ∷ []) h is fuel =
     found_one (visits_deep left f at) at p n (placed_all (f.items p) []) (are_deeper left f at h) ∙ item_in-placed n (f.items p)

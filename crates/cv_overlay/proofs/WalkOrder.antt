@@ -10,7 +10,7 @@ use Rattle.std.specs.List.Sorted.{IsStrictlySortedBy}
 use Rattle.cv_base.specs.Path.{Path, path_cmp, with_slash}
 use Rattle.cv_base.specs.PathOrder.{path_total, name_exact}
 use Rattle.cv_base.specs.BytesOrder.{bytes_cmp}
-use Rattle.cv_base.proofs.Laws.{all_append, cmp-behind}
+use Rattle.cv_base.proofs.Laws.{all_append, all_weaker, cmp-behind}
 use Rattle.cv_ports.specs.declared.folder.FolderItem.{FolderItem}
 use Rattle.cv_ports.specs.Folder.{FolderView, Ascend, IsOrdered, names_of}
 use Rattle.cv_overlay.specs.declared.event.Event.{Event}
@@ -187,10 +187,6 @@ paths_of-append : (vs ws : List Visit) → paths_of (vs ++ ws) ≡ paths_of vs +
 paths_of-append [] ws = refl
 paths_of-append (v ∷ vs) ws = ap (λ (l : List Path). path_of v ∷ l) (paths_of-append vs ws)
 
-pub all_map : (P Q : Path → Type 0) (xs : List Path) → ((q : Path) → P q → Q q) → AllByRecursion P xs → AllByRecursion Q xs
-all_map P Q [] f h = tt
-all_map P Q (x ∷ xs) f h = (f x h.0, all_map P Q xs f h.1)
-
 sorted_append : (xs ys : List Path) → IsStrictlySortedBy walk_cmp xs → IsStrictlySortedBy walk_cmp ys → AllByRecursion (λ x. AllByRecursion (λ y. walk_cmp x y ≡ Less) ys) xs → IsStrictlySortedBy walk_cmp (xs ++ ys)
 unfolding IsStrictlySortedBy
 sorted_append [] ys h k all = k
@@ -220,7 +216,7 @@ pub of_below : (deeper : Path → List Visit) (at p : Path) (name : List ℕ) �
     → AllByRecursion (IsOf p (Below name)) (paths_of (cond (takes (at ++ p) name) (deeper (p ++ name ∷ [])) []))
 of_below deeper at p name h =
     taken_all (IsOf p (Below name)) (takes (at ++ p) name) (deeper (p ++ name ∷ []))
-    (all_map (IsBehind (p ++ name ∷ [])) (IsOf p (Below name)) (paths_of (deeper (p ++ name ∷ []))) (nested p name) (h.behind (p ++ name ∷ [])))
+    (all_weaker (IsBehind (p ++ name ∷ [])) (IsOf p (Below name)) (paths_of (deeper (p ++ name ∷ []))) (nested p name) (h.behind (p ++ name ∷ [])))
 
 -- a visit of an earlier event is below all of these
 before_all : (deeper : Path → List Visit) (at p : Path) (e : Event) (q : Path) (es : List Event) → AreDeeper deeper → IsOf p e q → AllByRecursion (λ x. Earlier e x) es
@@ -231,7 +227,7 @@ before_all deeper at p e q (Below name ∷ es) h of all =
     let below = cond (takes (at ++ p) name) (deeper (p ++ name ∷ [])) [] in
     rw (paths_of-append below (visits_of deeper at p es))
     (all_append (λ r. walk_cmp q r ≡ Less) (paths_of below) (paths_of (visits_of deeper at p es))
-    (all_map (IsOf p (Below name)) (λ r. walk_cmp q r ≡ Less) (paths_of below) (λ r is. apart p e (Below name) q r all.0 of is) (of_below deeper at p name h))
+    (all_weaker (IsOf p (Below name)) (λ r. walk_cmp q r ≡ Less) (paths_of below) (λ r is. apart p e (Below name) q r all.0 of is) (of_below deeper at p name h))
     (before_all deeper at p e q es h of all.1))
 
 sorted_of : (deeper : Path → List Visit) (at p : Path) (es : List Event) → AreDeeper deeper → AreInOrder es → IsStrictlySortedBy walk_cmp (paths_of (visits_of deeper at p es))
@@ -242,7 +238,7 @@ sorted_of deeper at p (Below name ∷ es) h order =
     let below = cond (takes (at ++ p) name) (deeper (p ++ name ∷ [])) [] in
     rw (paths_of-append below (visits_of deeper at p es))
     (sorted_append (paths_of below) (paths_of (visits_of deeper at p es)) (taken_sorted (takes (at ++ p) name) (deeper (p ++ name ∷ [])) (h.order (p ++ name ∷ []))) (sorted_of deeper at p es h order.1)
-    (all_map (IsOf p (Below name)) (λ x. AllByRecursion (λ y. walk_cmp x y ≡ Less) (paths_of (visits_of deeper at p es))) (paths_of below)
+    (all_weaker (IsOf p (Below name)) (λ x. AllByRecursion (λ y. walk_cmp x y ≡ Less) (paths_of (visits_of deeper at p es))) (paths_of below)
     (λ q is. before_all deeper at p (Below name) q es h is order.0) (of_below deeper at p name h)))
 
 behind_of : (deeper : Path → List Visit) (at p : Path) (es : List Event) → AreDeeper deeper → AllByRecursion (IsBehind p) (paths_of (visits_of deeper at p es))
@@ -252,7 +248,7 @@ behind_of deeper at p (Below name ∷ es) h =
     let below = cond (takes (at ++ p) name) (deeper (p ++ name ∷ [])) [] in
     rw (paths_of-append below (visits_of deeper at p es))
     (all_append (IsBehind p) (paths_of below) (paths_of (visits_of deeper at p es))
-    (all_map (IsOf p (Below name)) (IsBehind p) (paths_of below) (λ q is. (name, is.0 ∷ is.1, is.2)) (of_below deeper at p name h))
+    (all_weaker (IsOf p (Below name)) (IsBehind p) (paths_of below) (λ q is. (name, is.0 ∷ is.1, is.2)) (of_below deeper at p name h))
     (behind_of deeper at p es h))
 
 pub are_deeper : (depth : ℕ) (f : FolderView) (at : Path) → IsOrdered f → AreDeeper (visits_deep depth f at)

@@ -3,10 +3,7 @@ use Rattle.std.proofs.Common.{◌≡◌, ◌≢◌, ℕ, true, false, cond, List
 use Rattle.cv_base.specs.Path.{Path, behind, covers, same_name}
 use Rattle.cv_base.specs.PathOrder.{same_name_is, same_name_itself}
 use Rattle.cv_base.specs.Marker.{ends_in}
-
-only_root : (p : Path) → covers p [] ≡ true → p ≡ []
-only_root [] h = refl
-only_root (a ∷ p) h = absurd cc
+use Rattle.cv_base.proofs.Laws.{only_root}
 
 -- what covers a path with one more name, and not the path, is that path with the name
 pub covers_last : (p q : Path) (name : List ℕ) → covers p q ≡ false → covers p (q ++ name ∷ []) ≡ true → p ≡ q ++ name ∷ []

@@ -1,15 +1,15 @@
 -- A catalogue of which a nested entry comes to name another catalogue is a catalogue.
-use Rattle.std.proofs.Common.{◌≡◌, ℕ, zero, suc, ◌<◌, ◌^◌, true, false, cond, List, [], ◌∷◌, ◌++◌, map, length, refl, sym, ap, subst, ◌∙◌, arith, length-append}
-use Rattle.std.specs.Prelude.{Contains}
+use Rattle.std.proofs.Common.{◌≡◌, ℕ, ◌<◌, ◌^◌, true, false, cond, List, [], ◌∷◌, ◌++◌, map, length, refl, sym, ap, subst, ◌∙◌, arith, length-append}
 use Rattle.std.specs.Int.{w64, to_be_bytes}
 use Rattle.std.specs.List.{AllByRecursion, flat_map}
 use Rattle.std.specs.List.Sorted.{IsStrictlySortedBy}
 use Rattle.std.specs.declared.cmp.Ordering.TheVariants.{Less}
 use Rattle.std.proofs.lemmas.List.Concat.{flat_map-cons}
-use Rattle.std.proofs.lemmas.List.Elements.{All-from_recursion, recursion_from_All, All-map, All-weaker, Contains-append_right}
+use Rattle.std.proofs.lemmas.List.Elements.{All-from_recursion, recursion_from_All, All-map, All-weaker}
 use Rattle.cv_base.specs.BytesOrder.{bytes_cmp}
 use Rattle.cv_base.specs.Digest.{IsDigest}
 use Rattle.cv_base.specs.Path.{Path, same_path, text_of}
+use Rattle.cv_base.proofs.Laws.{goes_to}
 use Rattle.cv_rows.specs.Row.{text_field}
 use Rattle.cv_rows.specs.Nested.{IsNested, nested_bytes}
 use Rattle.cv_rows.specs.Places.{StandsAt}
@@ -17,11 +17,6 @@ use Rattle.cv_rows.specs.Catalogue.{Contents, IsCatalogue, IsTransitionAt, IsLis
 use Rattle.cv_rows.specs.Renewed.{renewed}
 use Rattle.cv_rows.specs.declared.nested.Nested.{Nested}
 use Rattle.cv_rows.proofs.Regions.{file_len}
-
-goes_to : {X Y : Type 0} (f : X → Y) (xs : List X) (x : X) → Contains xs x → Contains (map f xs) (f x)
-goes_to f [] x has = absurd (let lt = has.1 in omega arith)
-goes_to f (z ∷ xs) x (zero, lt, is) = (0, omega arith, ap f is)
-goes_to f (z ∷ xs) x (suc k, lt, is) = Contains-append_right (f z ∷ []) (map f xs) (f x) (goes_to f xs x (k, omega arith, is))
 
 size_bytes : (m n : ℕ) → length (to_be_bytes w64 m) ≡ length (to_be_bytes w64 n)
 size_bytes m n = refl
