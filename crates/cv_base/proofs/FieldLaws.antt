@@ -1,12 +1,12 @@
 -- A field that is read is the field that was written, and what was written is read again.
-use Rattle.std.proofs.Common.{◌≡◌, ℕ, ◌+◌, ◌^◌, ◌<◌, ◌≤◌, Bool, true, false, cond, ltb, List, ◌++◌, length, take, drop, Option, Some, None, Result, Ok, Err, refl, sym, ap, subst, ◌∙◌, append_assoc, arith, inl, inr}
+use Rattle.std.proofs.Common.{◌≡◌, ℕ, ◌+◌, ◌^◌, ◌<◌, ◌≤◌, Bool, true, false, cond, leb, ltb, List, ◌++◌, length, take, drop, Option, Some, None, Result, Ok, Err, refl, sym, ap, subst, ◌∙◌, append_assoc, arith, inl, inr}
 use Rattle.std.specs.Int.{Width, w16, w32, w64, byte_len, from_be_bytes, to_be_bytes}
 use Rattle.std.proofs.lemmas.Bool.{cases_lt, ltb-false, le-ltb}
 use Rattle.std.proofs.lemmas.List.{take_at, drop_at, take-append-drop, length-append, length-take, get_or-drop, get_or-take, get_or_past}
 use Rattle.std.proofs.lemmas.Nat.{be_bytes_2, be_bytes_4, be_bytes_8, from_be_bytes-to_be_bytes_2, from_be_bytes-to_be_bytes_4, from_be_bytes-to_be_bytes_8}
 use Rattle.hex.specs.Hex.{IsBytes}
 use Rattle.cv_base.specs.Sequence.{◌>>=◌}
-use Rattle.cv_base.specs.Fields.{accepted, number_at, bytes_at, Takes, TakesBytes, IsWide}
+use Rattle.cv_base.specs.Fields.{accepted, number_at, bytes_at, length_at, text_field, Takes, TakesBytes, IsWide}
 
 pub IsBytes-drop : (n : ℕ) (bytes : List ℕ) → IsBytes bytes → IsBytes (drop n bytes)
 IsBytes-drop n bytes h i = rw get_or-drop (h (n + i))
@@ -105,3 +105,22 @@ pub bytes_again : {F : Type 0} (short : F) (n : ℕ) (text rest : List ℕ) → 
 bytes_again short n text rest len =
     let long : ltb (length (text ++ rest)) n ≡ false = le-ltb _ _ (omega (arith, length-append text rest)) in
     rw (long, take_at text rest n len, drop_at text rest n len) refl
+
+-- ---- texts behind their lengths
+
+pub length_takes : {F : Type 0} (short long : F) (limit : ℕ) (text : List ℕ) (n : ℕ) (rest : List ℕ) → IsBytes text → length_at short long limit text ≡ Ok (n, rest) → Takes text (to_be_bytes w16 n) rest × (leb n limit ≡ true)
+unfolding length_at
+length_takes short long limit text n rest fits e =
+    let a = bind_ok (number_at short w16 text) (λ len. cond (leb len.0 limit) (Ok len) (Err long)) (n, rest) e in
+    let g = guard_ended (leb a.0.0 limit) long a.0 (n, rest) a.2 in
+    let t = number_takes short w16 (2 ^ 16) wide16 text a.0.0 a.0.1 fits a.1 in
+    subst (λ (x : ℕ × List ℕ). Takes text (to_be_bytes w16 x.0) x.1 × (leb x.0 limit ≡ true)) g.1 (t.0, g.0)
+
+pub length_again : {F : Type 0} (short long : F) (limit n : ℕ) (rest : List ℕ) → n < 2 ^ 16 → leb n limit ≡ true → length_at short long limit (to_be_bytes w16 n ++ rest) ≡ Ok (n, rest)
+unfolding length_at
+length_again short long limit n rest lt le = rw (number_again short w16 (2 ^ 16) wide16 n rest lt, le) refl
+
+-- a length and so many bytes are a text
+pub text_taken : (text : List ℕ) (n : ℕ) (after bytes rest : List ℕ) → Takes text (to_be_bytes w16 n) after → TakesBytes n after bytes rest → Takes text (text_field bytes) rest
+text_taken text n after bytes rest len t =
+    subst (λ (k : ℕ). Takes text (to_be_bytes w16 k ++ bytes) rest) (sym t.size) (Takes-then text (to_be_bytes w16 n) after bytes rest len t.takes)

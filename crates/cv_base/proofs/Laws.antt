@@ -11,7 +11,7 @@ pub use Rattle.cv_base.proofs.Bools.{first_true, second_true, or_swap}
 pub use Rattle.cv_base.proofs.Decimals.{decimal-no_dash}
 pub use Rattle.cv_base.proofs.Parts.{same_parts}
 pub use Rattle.cv_base.proofs.PathPrefixes.{behind-Some, behind-append, eq_by_cmp-append, is_behind, overlap-from_covers}
-pub use Rattle.cv_base.proofs.FieldLaws.{bind_ok, guard_ended, passes, ok_is, accepted_ok, IsBytes-drop, IsBytes-take, Takes-then, wide16, wide32, wide64, number_takes, number_again, bytes_take, bytes_again}
+pub use Rattle.cv_base.proofs.FieldLaws.{bind_ok, guard_ended, passes, ok_is, accepted_ok, IsBytes-drop, IsBytes-take, Takes-then, wide16, wide32, wide64, number_takes, number_again, bytes_take, bytes_again, length_takes, length_again, text_taken}
 pub use Rattle.cv_base.proofs.NamedPaths.{IsNamed, path_named-own, path_named-is}
 pub use Rattle.cv_base.proofs.Sets.{contains-more}
 pub use Rattle.cv_base.proofs.SameIds.{same_id-eq, same_id-own}

@@ -17,7 +17,8 @@ use Rattle.cv_base.specs.Attr.{IsAttr}
 use Rattle.cv_tree.specs.Tree.{Nodes, IsTree, single, at}
 use Rattle.cv_tree.proofs.Laws.{entries-from_entries, get-at, IsTree-single}
 use Rattle.cv_rows.specs.Catalogue.{file_of}
-use Rattle.cv_rows.specs.Row.{row_bytes, text_field}
+use Rattle.cv_base.specs.Fields.{text_field}
+use Rattle.cv_rows.specs.Row.{row_bytes}
 use Rattle.cv_rows.specs.declared.row.Row.{Row}
 use Rattle.cv_rows.specs.declared.nested.Nested.{Nested}
 use Rattle.cv_cut.specs.Cuts.{is_cut, is_near, region, is_inner}

@@ -1,5 +1,5 @@
 -- What is read of a field is spelled there, and what is spelled so is read.
-use Rattle.std.proofs.Common.{◌≡◌, ℕ, ◌^◌, ◌<◌, ◌≤◌, ◌==◌, Bool, true, List, ◌++◌, length, codes, Option, Some, Result, Ok, Err, refl, ap, subst, arith}
+use Rattle.std.proofs.Common.{◌≡◌, ℕ, ◌^◌, ◌<◌, ◌≤◌, ◌==◌, Bool, true, List, ◌++◌, length, codes, Option, Some, Result, Ok, Err, refl, ap, subst, ◌∙◌, append_assoc, arith}
 use Rattle.std.specs.Prelude.{bytes_eq, nat_le}
 use Rattle.std.specs.Int.{w16, w64, to_be_bytes}
 use Rattle.std.proofs.lemmas.Bool.{leb-true, le-leb}
@@ -7,11 +7,11 @@ use Rattle.std.proofs.lemmas.Slice.Eq.{bytes_eq-Decides}
 use Rattle.hex.specs.Hex.{IsBytes}
 use Rattle.cv_base.specs.Sequence.{◌>>=◌}
 use Rattle.cv_base.specs.Digest.{IsDigest}
-use Rattle.cv_base.specs.Fields.{accepted, number_at, bytes_at, Takes}
+use Rattle.cv_base.specs.Fields.{accepted, bad, number_at, bytes_at, length_at, text_field, Takes}
 use Rattle.cv_base.specs.declared.limits.TheConstants.{LAST_TIME}
 use Rattle.cv_base.specs.declared.token.Token.{Token}
-use Rattle.cv_base.proofs.Laws.{bind_ok, guard_ended, accepted_ok, Takes-then, wide16, wide64, number_takes, number_again, bytes_take, bytes_again, bytes_eq-own, ok_is}
-use Rattle.cv_history.specs.Reading.{Read, bad, right_at, where_first, is_format, is_revision, revision_at, hash_at, count_at, token_at, time_at, size_at, text_at}
+use Rattle.cv_base.proofs.Laws.{bind_ok, guard_ended, accepted_ok, Takes-then, wide64, number_takes, number_again, bytes_take, bytes_again, length_takes, length_again, text_taken, bytes_eq-own, ok_is}
+use Rattle.cv_history.specs.Reading.{Read, right_at, where_first, is_format, is_revision, revision_at, hash_at, count_at, token_at, time_at, text_at}
 use Rattle.cv_history.specs.declared.record_fault.RecordFault.{RecordFault}
 use Rattle.cv_history.specs.declared.record_fault.RecordFault.TheVariants.{BadRecord}
 
@@ -28,7 +28,7 @@ bind_then read next y Found e k =
 right_read : {A : Type 0} (all : ℕ) (text : List ℕ) (is_right : A → Bool) (read : Read A) (x : A) (rest : List ℕ) → right_at all text is_right read ≡ Ok (x, rest) → (read ≡ Ok (x, rest)) × (is_right x ≡ true)
 right_read {A} all text is_right (Ok found) x rest e =
     let y : A × List ℕ = (x, rest) in
-    let g = guard_ended (is_right found.0) (bad all text) found y e in
+    let g = guard_ended (is_right found.0) (bad BadRecord all text) found y e in
     (ap done g.1, subst (λ (z : A × List ℕ). is_right z.0 ≡ true) g.1 g.0)
 right_read all text is_right (Err fault) x rest e = absurd cc
 
@@ -146,27 +146,11 @@ time_again all n rest early =
 
 -- ---- texts
 
--- the bytes of a text behind its length
-abbrev pub text_field : List ℕ → List ℕ
-text_field bytes = to_be_bytes w16 (length bytes) ++ bytes
-
 -- these bytes were taken as a text, which says this
 pub record TakesText {A : Type 0} (limit : ℕ) (said : List ℕ → Option A) (bytes text : List ℕ) (x : A) (rest : List ℕ) : Type 0 where
   pub takes : Takes text (text_field bytes) rest
   pub short : length bytes ≤ limit
   pub says : said bytes ≡ Some x
-
-size_takes : (all limit : ℕ) (text : List ℕ) (n : ℕ) (rest : List ℕ) → IsBytes text → size_at all limit text ≡ Ok (n, rest) → Takes text (to_be_bytes w16 n) rest × (n ≤ limit)
-unfolding size_at
-size_takes all limit text n rest fits e =
-    let r = right_read all text (λ (size : ℕ). nat_le size limit) (number_at (BadRecord all) w16 text) n rest e in
-    ((number_takes (BadRecord all) w16 (2 ^ 16) wide16 text n rest fits r.0).0, leb-true n limit r.1)
-
-size_again : (all limit n : ℕ) (rest : List ℕ) → n < 2 ^ 16 → n ≤ limit → size_at all limit (to_be_bytes w16 n ++ rest) ≡ Ok (n, rest)
-unfolding size_at
-size_again all limit n rest small short =
-    right_again all (to_be_bytes w16 n ++ rest) (λ (size : ℕ). nat_le size limit) (number_at (BadRecord all) w16 (to_be_bytes w16 n ++ rest)) n rest
-    (number_again (BadRecord all) w16 (2 ^ 16) wide16 n rest small) (le-leb n limit short)
 
 -- where bytes say this, they are its own
 pub text_takes : {A : Type 0} (all limit : ℕ) (said : List ℕ → Option A) (own : A → List ℕ) → ((bytes : List ℕ) (x : A) → said bytes ≡ Some x → bytes ≡ own x)
@@ -175,23 +159,27 @@ unfolding text_at
 text_takes {A} all limit said own only text x rest fits e =
     let read : A × List ℕ = (x, rest) in
     let Found : Type 0 = TakesText limit said (own x) text x rest in
-    bind_then (size_at all limit text) (λ size. bytes_at (BadRecord all) size.0 size.1 >>= λ bytes. accepted (bad all size.1) (said bytes.0) >>= λ value. Ok (value, bytes.1)) read Found e (λ n sized e.
-    bind_then (bytes_at (BadRecord all) n.0 n.1) (λ bytes. accepted (bad all n.1) (said bytes.0) >>= λ value. Ok (value, bytes.1)) read Found e (λ b taken e.
-    bind_then (accepted (bad all n.1) (said b.0)) (λ value. Ok (value, b.1)) read Found e (λ y says e.
-    let size = size_takes all limit text n.0 n.1 fits sized in
+    bind_then (length_at (BadRecord all) (bad BadRecord all text) limit text) (λ size. bytes_at (BadRecord all) size.0 size.1 >>= λ bytes. accepted (bad BadRecord all size.1) (said bytes.0) >>= λ value. Ok (value, bytes.1)) read Found e (λ n sized e.
+    bind_then (bytes_at (BadRecord all) n.0 n.1) (λ bytes. accepted (bad BadRecord all n.1) (said bytes.0) >>= λ value. Ok (value, bytes.1)) read Found e (λ b taken e.
+    bind_then (accepted (bad BadRecord all n.1) (said b.0)) (λ value. Ok (value, b.1)) read Found e (λ y says e.
+    let size = length_takes (BadRecord all) (bad BadRecord all text) limit text n.0 n.1 fits sized in
     let t = bytes_take (BadRecord all) n.0 n.1 b.0 b.1 size.0.rest_fits taken in
-    let front : Takes text (to_be_bytes w16 (length b.0)) n.1 = rw t.size size.0 in
     let found : TakesText limit said b.0 text y b.1 = record {
-      takes = Takes-then text (to_be_bytes w16 (length b.0)) n.1 b.0 b.1 front t.takes;
-      short = rw t.size size.1;
-      says = accepted_ok (bad all n.1) (said b.0) y says;
+      takes = text_taken text n.0 n.1 b.0 b.1 size.0 t;
+      short = rw t.size (leb-true n.0 limit size.1);
+      says = accepted_ok (bad BadRecord all n.1) (said b.0) y says;
     } in
     let made : A × List ℕ = (y, b.1) in
     subst (λ (z : A × List ℕ). TakesText limit said (own z.0) text z.0 z.1) (ok_is made read e)
     (subst (λ (l : List ℕ). TakesText limit said l text y b.1) (only b.0 y found.says) found))))
 
 pub text_again : {A : Type 0} (all limit : ℕ) (said : List ℕ → Option A) (bytes : List ℕ) (x : A) (rest : List ℕ) → length bytes < 2 ^ 16 → length bytes ≤ limit → said bytes ≡ Some x
-    → text_at all limit said (to_be_bytes w16 (length bytes) ++ (bytes ++ rest)) ≡ Ok (x, rest)
+    → text_at all limit said (text_field bytes ++ rest) ≡ Ok (x, rest)
 unfolding text_at
 text_again all limit said bytes x rest small short says =
-    rw (size_again all limit (length bytes) (bytes ++ rest) small short, bytes_again (BadRecord all) (length bytes) bytes rest refl, says) refl
+    let text : List ℕ = to_be_bytes w16 (length bytes) ++ (bytes ++ rest) in
+    ap (text_at all limit said) (append_assoc (to_be_bytes w16 (length bytes)) bytes rest) ∙ rw (
+      length_again (BadRecord all) (bad BadRecord all text) limit (length bytes) (bytes ++ rest) small (le-leb (length bytes) limit short),
+      bytes_again (BadRecord all) (length bytes) bytes rest refl,
+      says,
+    ) refl

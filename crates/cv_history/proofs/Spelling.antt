@@ -1,14 +1,14 @@
 -- Bytes are read as a record exactly where they spell it.
 use Rattle.std.proofs.Common.{◌≡◌, ℕ, ◌≤◌, ◌==◌, Bool, true, false, cond, List, [], ◌∷◌, ◌++◌, length, codes, Result, Ok, Err, refl, sym, ap, subst, ◌∙◌, append_assoc, append-nil, arith}
 use Rattle.std.specs.Prelude.{bytes_eq, IfOk, nat_le}
-use Rattle.std.specs.Int.{w16, w64, to_be_bytes}
+use Rattle.std.specs.Int.{w64, to_be_bytes}
 use Rattle.std.specs.List.{concat, list_all}
 use Rattle.std.proofs.lemmas.Bool.{and_parts, eqb-true, eq-eqb, leb-true, le-leb}
 use Rattle.std.proofs.lemmas.List.{nil_from_length}
 use Rattle.std.proofs.lemmas.Slice.Eq.{bytes_eq-Decides}
 use Rattle.hex.specs.Hex.{IsBytes}
 use Rattle.cv_base.specs.Digest.{IsDigest}
-use Rattle.cv_base.specs.Fields.{bytes_at}
+use Rattle.cv_base.specs.Fields.{bad, bytes_at, text_field}
 use Rattle.cv_base.specs.Path.{Path, IsPath, text_of}
 use Rattle.cv_base.specs.PathText.{path_named}
 use Rattle.cv_base.specs.Sequence.{◌>>=◌}
@@ -19,7 +19,7 @@ use Rattle.cv_base.specs.declared.repo_path.TheConstants.{PATH_LIMIT}
 use Rattle.cv_base.specs.declared.token.Token.{Token}
 use Rattle.cv_base.proofs.Laws.{guard_ended, bytes_again, path_named-own, path_named-is, bytes_itself, ok_is}
 use Rattle.cv_history.specs.Record.{IsFirst, IsRecord, IsTyped, Spells, no_hash, is_tag_byte}
-use Rattle.cv_history.specs.Reading.{bad, where_first, limit_of, is_revision, revision_at, hash_at, token_at, time_at, path_at, key_at, tag_of, tag_at, record_of}
+use Rattle.cv_history.specs.Reading.{where_first, limit_of, is_revision, revision_at, hash_at, token_at, time_at, path_at, key_at, tag_of, tag_at, record_of}
 use Rattle.cv_history.specs.declared.record.Record.{Record}
 use Rattle.cv_history.specs.declared.record_fault.RecordFault.{RecordFault}
 use Rattle.cv_history.specs.declared.record_fault.RecordFault.TheVariants.{BadRecord, NoMemory}
@@ -145,10 +145,10 @@ record_again text r s =
     let first : Bool = r.revision == 1 in
     let f = fields_of r s.typed s.limits in
     let path = text_of r.path in
-    let tag : List ℕ = to_be_bytes w16 (length r.tag) ++ (r.tag ++ []) in
+    let tag : List ℕ = text_field r.tag ++ [] in
     let time : List ℕ = to_be_bytes w64 r.time ++ tag in
-    let key : List ℕ = to_be_bytes w16 (length r.key) ++ (r.key ++ time) in
-    let named : List ℕ = to_be_bytes w16 (length path) ++ (path ++ key) in
+    let key : List ℕ = text_field r.key ++ time in
+    let named : List ℕ = text_field path ++ key in
     let token : List ℕ = to_be_bytes w64 r.token.epoch ++ (to_be_bytes w64 r.token.number ++ named) in
     let offered : List ℕ = r.offered ++ token in
     let root : List ℕ = r.root ++ offered in
@@ -178,7 +178,7 @@ made revision previous root offered token path key time tag =
     record { revision = revision; previous = previous; root = root; offered = offered; token = token; path = path; key = key; time = time; tag = tag }
 
 abbrev from_end : ℕ → Record → List ℕ → Result Record RecordFault
-from_end all r rest = cond (length rest == 0) (Ok r) (Err (bad all rest))
+from_end all r rest = cond (length rest == 0) (Ok r) (Err (bad BadRecord all rest))
 
 abbrev from_tag : ℕ → ℕ → List ℕ → List ℕ → List ℕ → Token → Path → List ℕ → ℕ × List ℕ → Result Record RecordFault
 from_tag all n previous root offered token path key time =
@@ -206,9 +206,9 @@ abbrev from_previous : ℕ → ℕ × List ℕ → Result Record RecordFault
 from_previous all revision = hash_at all (revision.0 == 1) no_hash revision.1 >>= from_root all revision.0
 
 -- fields one behind another
-joined : (text a b c d e f g h i j k l m n r1 r2 r3 r4 r5 r6 r7 r8 r9 : List ℕ) → text ≡ (a ++ b) ++ r1 → r1 ≡ c ++ r2 → r2 ≡ d ++ r3 → r3 ≡ e ++ r4 → r4 ≡ (f ++ g) ++ r5 → r5 ≡ (h ++ i) ++ r6 → r6 ≡ (j ++ k) ++ r7 → r7 ≡ l ++ r8
-    → r8 ≡ (m ++ n) ++ r9 → r9 ≡ [] → text ≡ concat (a ∷ b ∷ c ∷ d ∷ e ∷ f ∷ g ∷ h ∷ i ∷ j ∷ k ∷ l ∷ m ∷ n ∷ [])
-joined text a b c d e f g h i j k l m n r1 r2 r3 r4 r5 r6 r7 r8 r9 h1 h2 h3 h4 h5 h6 h7 h8 h9 none =
+joined : (text a b c d e f g h i j k r1 r2 r3 r4 r5 r6 r7 r8 r9 : List ℕ) → text ≡ (a ++ b) ++ r1 → r1 ≡ c ++ r2 → r2 ≡ d ++ r3 → r3 ≡ e ++ r4 → r4 ≡ (f ++ g) ++ r5 → r5 ≡ h ++ r6 → r6 ≡ i ++ r7 → r7 ≡ j ++ r8
+    → r8 ≡ k ++ r9 → r9 ≡ [] → text ≡ concat (a ∷ b ∷ c ∷ d ∷ e ∷ f ∷ g ∷ h ∷ i ∷ j ∷ k ∷ [])
+joined text a b c d e f g h i j k r1 r2 r3 r4 r5 r6 r7 r8 r9 h1 h2 h3 h4 h5 h6 h7 h8 h9 none =
     rw (h1, h2, h3, h4, h5, h6, h7, h8, h9, none) (simp (append_assoc, append-nil))
 
 -- what was read of each field, and what followed it
@@ -248,7 +248,7 @@ is_read_by text r e =
     bind_then (time_at all k.1) (from_tag all n.0 a.0 b.0 c.0 t.0 p.0 k.0) r Found e (λ m time e.
     bind_then (tag_at all (n.0 == 1) m.1) (λ tag. from_end all (made n.0 a.0 b.0 c.0 t.0 p.0 k.0 m.0 tag.0) tag.1) r Found e (λ g tag e.
     let found : Record = made n.0 a.0 b.0 c.0 t.0 p.0 k.0 m.0 g.0 in
-    let ended = guard_ended (length g.1 == 0) (bad all g.1) found r e in
+    let ended = guard_ended (length g.1 == 0) (bad BadRecord all g.1) found r e in
     subst (λ (z : Record). IsReadBy text z) ended.1 (record {
       behind_revision = n.1;
       behind_previous = a.1;
@@ -307,7 +307,7 @@ record_takes text r fits e =
       typed = typed_of first r has;
       limits = limits_of r has;
       bytes = joined text (codes "CVH1") (to_be_bytes w64 r.revision) r.previous r.root r.offered (to_be_bytes w64 r.token.epoch) (to_be_bytes w64 r.token.number)
-          (to_be_bytes w16 (length (text_of r.path))) (text_of r.path) (to_be_bytes w16 (length r.key)) r.key (to_be_bytes w64 r.time) (to_be_bytes w16 (length r.tag)) r.tag
+          (text_field (text_of r.path)) (text_field r.key) (to_be_bytes w64 r.time) (text_field r.tag)
           by.behind_revision by.behind_previous by.behind_root by.behind_offered by.behind_token by.behind_path by.behind_key by.behind_time by.behind_tag
           revision.0.parts previous.0.takes.parts root.takes.parts offered.0.takes.parts token.0.parts path.takes.parts key.takes.parts time.0.parts tag.takes.parts by.end;
     }

@@ -9,8 +9,8 @@ pub seven : (a b c d e f g s t u v w x y z : List ℕ) → s ≡ [] → t ≡ s 
 seven a b c d e f g s t u v w x y z none h1 h2 h3 h4 h5 h6 h7 =
     rw (h7, h6, h5, h4, h3, h2, h1, none) (simp (append_assoc, append-nil))
 
--- seven more fields, of which some are put together
-pub fourteen : (a b c d e f g h i j k l m n s t u v w : List ℕ) → s ≡ concat (a ∷ b ∷ c ∷ d ∷ e ∷ f ∷ g ∷ []) → t ≡ s ++ h ++ i → u ≡ t ++ j ++ k → v ≡ u ++ l
-    → w ≡ v ++ m ++ n → w ≡ concat (a ∷ b ∷ c ∷ d ∷ e ∷ f ∷ g ∷ h ∷ i ∷ j ∷ k ∷ l ∷ m ∷ n ∷ [])
-fourteen a b c d e f g h i j k l m n s t u v w front h1 h2 h3 h4 =
+-- four more fields
+pub eleven : (a b c d e f g h i j k s t u v w : List ℕ) → s ≡ concat (a ∷ b ∷ c ∷ d ∷ e ∷ f ∷ g ∷ []) → t ≡ s ++ h → u ≡ t ++ i → v ≡ u ++ j → w ≡ v ++ k
+    → w ≡ concat (a ∷ b ∷ c ∷ d ∷ e ∷ f ∷ g ∷ h ∷ i ∷ j ∷ k ∷ [])
+eleven a b c d e f g h i j k s t u v w front h1 h2 h3 h4 =
     rw (h4, h3, h2, h1, front) (simp (append_assoc, append-nil))

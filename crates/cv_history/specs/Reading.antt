@@ -1,8 +1,8 @@
 -- Reading the fields of a record, one after another from its first byte on.
-use Rattle.std.specs.Prelude.{ℕ, ◌-◌, ◌==◌, Bool, true, ◌&&◌, nat_le, bytes_eq, if◌then◌else◌, List, length, codes, Option, None, Result, Ok, Err}
-use Rattle.std.specs.Int.{w16, w64}
+use Rattle.std.specs.Prelude.{ℕ, ◌==◌, Bool, true, ◌&&◌, nat_le, bytes_eq, if◌then◌else◌, List, length, codes, Option, None, Result, Ok, Err}
+use Rattle.std.specs.Int.{w64}
 use Rattle.std.specs.List.{list_all}
-use Rattle.cv_base.specs.Fields.{accepted, number_at, bytes_at}
+use Rattle.cv_base.specs.Fields.{accepted, bad, number_at, bytes_at, length_at}
 use Rattle.cv_base.specs.Path.{Path}
 use Rattle.cv_base.specs.PathText.{path_named}
 use Rattle.cv_base.specs.Sequence.{◌>>=◌}
@@ -20,15 +20,11 @@ use Rattle.cv_history.specs.declared.record_fault.RecordFault.TheVariants.{BadRe
 abbrev pub Read : Type 0 → Type 0
 Read A = Result (A × List ℕ) RecordFault
 
--- the field at the front of the text isn't as it has to be
-abbrev pub bad : ℕ → List ℕ → RecordFault
-bad all text = BadRecord (all - length text)
-
 -- what was read at the front of the text, if it is right
 abbrev pub right_at : {A : Type 0} → ℕ → List ℕ → (A → Bool) → Read A → Read A
 right_at all text is_right read = do
   (found, rest) ← read
-  if is_right found then Ok (found, rest) else Err (bad all text)
+  if is_right found then Ok (found, rest) else Err (bad BadRecord all text)
 
 -- what is asked of the first record alone
 abbrev pub where_first : Bool → Bool → Bool
@@ -69,16 +65,12 @@ token_at all first text = do
 unfoldable pub time_at : ℕ → List ℕ → Read ℕ
 time_at all text = right_at all text (λ time. nat_le time LAST_TIME) (number_at (BadRecord all) w64 text)
 
--- the length of a text of at most so many bytes
-unfoldable pub size_at : ℕ → ℕ → List ℕ → Read ℕ
-size_at all limit text = right_at all text (λ size. nat_le size limit) (number_at (BadRecord all) w16 text)
-
 -- what a text says, behind its length
 unfoldable pub text_at : {A : Type 0} → ℕ → ℕ → (List ℕ → Option A) → List ℕ → Read A
 text_at all limit said text = do
-  (size, rest) ← size_at all limit text
+  (size, rest) ← length_at (BadRecord all) (bad BadRecord all text) limit text
   (bytes, after) ← bytes_at (BadRecord all) size rest
-  value ← accepted (bad all rest) (said bytes)
+  value ← accepted (bad BadRecord all rest) (said bytes)
   Ok (value, after)
 
 abbrev pub path_at : ℕ → Bool → List ℕ → Read Path
@@ -111,4 +103,4 @@ record_of text = do
   (time, rest) ← time_at all rest
   (tag, rest) ← tag_at all first rest
   let found : Record = record { revision = revision; previous = previous; root = root; offered = offered; token = token; path = path; key = key; time = time; tag = tag }
-  if length rest == 0 then Ok found else Err (bad all rest)
+  if length rest == 0 then Ok found else Err (bad BadRecord all rest)

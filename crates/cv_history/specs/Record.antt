@@ -1,8 +1,9 @@
 -- A record of the history, and its bytes.
 use Rattle.std.specs.Prelude.{◌≡◌, ◌≤◌, ◌<◌, ◌^◌, ℕ, true, List, [], ◌∷◌, length, codes, replicate}
-use Rattle.std.specs.Int.{w16, w64, to_be_bytes}
+use Rattle.std.specs.Int.{w64, to_be_bytes}
 use Rattle.std.specs.List.{concat, list_all}
 use Rattle.cv_base.specs.Digest.{IsDigest}
+use Rattle.cv_base.specs.Fields.{text_field}
 use Rattle.cv_base.specs.Path.{IsPath, text_of}
 use Rattle.cv_base.specs.Target.{is_target}
 use Rattle.cv_base.specs.declared.limits.TheConstants.{KEY_ID_LIMIT, LAST_REVISION, LAST_TIME, TAG_LIMIT}
@@ -15,10 +16,7 @@ fields r =
     codes "CVH1" ∷ to_be_bytes w64 r.revision
     ∷ r.previous ∷ r.root ∷ r.offered
     ∷ to_be_bytes w64 r.token.epoch ∷ to_be_bytes w64 r.token.number
-    ∷ to_be_bytes w16 (length (text_of r.path)) ∷ text_of r.path
-    ∷ to_be_bytes w16 (length r.key) ∷ r.key
-    ∷ to_be_bytes w64 r.time
-    ∷ to_be_bytes w16 (length r.tag) ∷ r.tag ∷ []
+    ∷ text_field (text_of r.path) ∷ text_field r.key ∷ to_be_bytes w64 r.time ∷ text_field r.tag ∷ []
 
 abbrev pub record_bytes : Record → List ℕ
 record_bytes r = concat (fields r)

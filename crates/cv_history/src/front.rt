@@ -1,11 +1,12 @@
-//! The fields of a record that are numbers and hashes.
+//! The fields of a record that are numbers and hashes, read at the front of bytes. `all` is the count of all bytes of
+//! the record, by which a fault names the offset of a field. Each function gives what follows its field too.
 ghost use Rattle.std.specs.Prelude.{◌≡◌};
+ghost use Rattle.cv_base.specs.Fields.{seen};
 ghost use Rattle.cv_history.specs.Reading.{where_first, is_revision, revision_at, hash_at, count_at, token_at, time_at};
-ghost use Rattle.cv_history.specs.ReadingInner.{seen};
 
-use crate::fields::{bad, read_bytes, read_hash, read_u64};
+use crate::fields::bad;
 use crate::record_fault::RecordFault;
-use cv_base::{LAST_REVISION, LAST_TIME, Token};
+use cv_base::{LAST_REVISION, LAST_TIME, Token, read_array, read_bytes, read_u64};
 
 /// What is asked of the first record alone.
 fn where_first(first: bool, right: bool) -> bool
@@ -26,11 +27,11 @@ fn is_revision(revision: u64) -> bool
 pub fn read_revision(all: usize, text: &[u8]) -> Result<(u64, &[u8]), RecordFault>
     ensures { seen result ≡ revision_at all text.now }
 {
-    let (format, rest) = read_bytes(all, 4, text)?;
+    let (format, rest) = read_bytes(RecordFault::BadRecord(all), 4, text)?;
     if format != b"CVH1".as_slice() {
         return Err(bad(all, text));
     }
-    let (revision, after) = read_u64(all, rest)?;
+    let (revision, after) = read_u64(RecordFault::BadRecord(all), rest)?;
     if !is_revision(revision) {
         return Err(bad(all, rest));
     }
@@ -47,7 +48,7 @@ pub fn read_hash_of<'a>(
 ) -> Result<([u8; 20], &'a [u8]), RecordFault>
     ensures { seen result ≡ hash_at all first wanted.now text.now }
 {
-    let (hash, rest) = read_hash(all, text)?;
+    let (hash, rest) = read_array(RecordFault::BadRecord(all), text)?;
     if !where_first(first, hash == *wanted) {
         return Err(bad(all, text));
     }
@@ -59,7 +60,7 @@ pub fn read_hash_of<'a>(
 fn read_count(all: usize, first: bool, text: &[u8]) -> Result<(u64, &[u8]), RecordFault>
     ensures { seen result ≡ count_at all first text.now }
 {
-    let (count, rest) = read_u64(all, text)?;
+    let (count, rest) = read_u64(RecordFault::BadRecord(all), text)?;
     if !where_first(first, count == 0) {
         return Err(bad(all, text));
     }
@@ -81,7 +82,7 @@ pub fn read_token(all: usize, first: bool, text: &[u8]) -> Result<(Token, &[u8])
 pub fn read_time(all: usize, text: &[u8]) -> Result<(u64, &[u8]), RecordFault>
     ensures { seen result ≡ time_at all text.now }
 {
-    let (time, rest) = read_u64(all, text)?;
+    let (time, rest) = read_u64(RecordFault::BadRecord(all), text)?;
     if time > LAST_TIME {
         return Err(bad(all, text));
     }

@@ -1,18 +1,19 @@
 //! Records of the history.
 ghost use Rattle.std.specs.Prelude.{◌≡◌, ◌≤◌, ◌<◌, ◌^◌, ◌++◌, length, Ok, IfOk, OnOk};
-ghost use Rattle.std.specs.Int.{w16, w64, to_be_bytes};
+ghost use Rattle.std.specs.Int.{w64, to_be_bytes};
 ghost use Rattle.cv_base.specs.Digest.{IsDigest};
+ghost use Rattle.cv_base.specs.Fields.{text_field};
 ghost use Rattle.cv_base.specs.Unless.{IsUnless};
 ghost use Rattle.cv_base.specs.declared.repo_path.TheConstants.{PATH_LIMIT};
 ghost use Rattle.cv_history.specs.Reading.{record_of};
 ghost use Rattle.cv_history.specs.declared.record.Record.{Record as Value};
 ghost use Rattle.cv_history.specs.declared.record_fault.RecordFault.TheVariants as fault;
 
-use crate::fields::{bad, read_hash};
+use crate::fields::bad;
 use crate::front::{read_hash_of, read_revision, read_time, read_token};
 use crate::record_fault::RecordFault;
 use crate::texts::{read_key, read_path, read_tag};
-use cv_base::{NoMemory, RepoPath, Target, Token};
+use cv_base::{NoMemory, RepoPath, Target, Token, read_array};
 use std::alloc::{AllocError, Global};
 
 /// What the history keeps of one revision. An object of the history is the bytes of one record.
@@ -58,7 +59,7 @@ fn push_hash(bytes: &mut Vec<u8>, hash: [u8; 20]) -> Result<(), AllocError>
 /// Writes a text behind its length.
 fn push_text(bytes: &mut Vec<u8>, text: &[u8]) -> Result<(), AllocError>
     requires { length text.now ≤ PATH_LIMIT }
-    ensures { OnOk result (bytes.new.items ≡ bytes.old.items ++ to_be_bytes w16 (length text.now) ++ text.now) }
+    ensures { OnOk result (bytes.new.items ≡ bytes.old.items ++ text_field text.now) }
 {
     let size = text.len() as u16;
     bytes.extend_from_slice(&size.to_be_bytes())?;
@@ -75,7 +76,7 @@ fn read_record(alloc: Global, bytes: &[u8]) -> Result<Record, RecordFault>
     let (revision, rest) = read_revision(all, bytes)?;
     let first = revision == 1;
     let (previous, rest) = read_hash_of(all, first, &[0; 20], rest)?;
-    let (root, rest) = read_hash(all, rest)?;
+    let (root, rest) = read_array(RecordFault::BadRecord(all), rest)?;
     let (offered, rest) = read_hash_of(all, first, &root, rest)?;
     let (token, rest) = read_token(all, first, rest)?;
     let (path, rest) = read_path(alloc, all, first, rest)?;

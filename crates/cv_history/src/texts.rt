@@ -1,13 +1,16 @@
-//! The texts of a record, each behind its length.
+//! The texts of a record, each behind its length, read as the fields before them.
 ghost use Rattle.std.specs.Prelude.{◌≡◌, IfOk};
+ghost use Rattle.cv_base.specs.Fields.{seen};
 ghost use Rattle.cv_base.specs.Unless.{IsUnless};
-ghost use Rattle.cv_history.specs.Reading.{limit_of, size_at, path_at, key_at, tag_of, tag_at};
-ghost use Rattle.cv_history.specs.ReadingInner.{seen};
+ghost use Rattle.cv_history.specs.Reading.{limit_of, path_at, key_at, tag_of, tag_at};
 ghost use Rattle.cv_history.specs.declared.record_fault.RecordFault.TheVariants as fault;
 
-use crate::fields::{bad, read_bytes, read_u16};
+use crate::fields::bad;
 use crate::record_fault::RecordFault;
-use cv_base::{KEY_ID_LIMIT, NoMemory, PATH_LIMIT, RepoPath, TAG_LIMIT, Target, are_tag_bytes};
+use cv_base::{
+    KEY_ID_LIMIT, NoMemory, PATH_LIMIT, RepoPath, TAG_LIMIT, Target, are_tag_bytes, read_bytes,
+    read_length,
+};
 use std::alloc::Global;
 
 /// The most bytes of a text, of which the first record has none.
@@ -15,19 +18,6 @@ fn limit_of(first: bool, limit: usize) -> usize
     ensures { result ≡ limit_of first limit }
 {
     if first { 0 } else { limit }
-}
-
-/// The length of a text of at most `limit` bytes.
-#[tactic(auto, unfolding(crate::specs::Reading::size_at))]
-fn read_size(all: usize, limit: usize, text: &[u8]) -> Result<(usize, &[u8]), RecordFault>
-    ensures { seen result ≡ size_at all limit text.now }
-{
-    let (size, rest) = read_u16(all, text)?;
-    let size = usize::from(size);
-    if size > limit {
-        return Err(bad(all, text));
-    }
-    Ok((size, rest))
 }
 
 /// The path of the lease.
@@ -40,8 +30,9 @@ pub fn read_path(
 ) -> Result<(RepoPath, &[u8]), RecordFault>
     ensures { IsUnless fault.NoMemory (seen result) (path_at all first text.now) }
 {
-    let (size, rest) = read_size(all, limit_of(first, PATH_LIMIT), text)?;
-    let (bytes, after) = read_bytes(all, size, rest)?;
+    let short = RecordFault::BadRecord(all);
+    let (size, rest) = read_length(short, bad(all, text), limit_of(first, PATH_LIMIT), text)?;
+    let (bytes, after) = read_bytes(short, size, rest)?;
     match RepoPath::of_bytes(alloc, bytes)? {
         Some(path) => Ok((path, after)),
         None => Err(bad(all, rest)),
@@ -58,8 +49,9 @@ pub fn read_key(
 ) -> Result<(Target, &[u8]), RecordFault>
     ensures { IsUnless fault.NoMemory (seen result) (key_at all first text.now) }
 {
-    let (size, rest) = read_size(all, limit_of(first, KEY_ID_LIMIT), text)?;
-    let (bytes, after) = read_bytes(all, size, rest)?;
+    let short = RecordFault::BadRecord(all);
+    let (size, rest) = read_length(short, bad(all, text), limit_of(first, KEY_ID_LIMIT), text)?;
+    let (bytes, after) = read_bytes(short, size, rest)?;
     match Target::of_bytes(alloc, bytes)? {
         Some(key) => Ok((key, after)),
         None => Err(bad(all, rest)),
@@ -87,8 +79,9 @@ pub fn read_tag(
 ) -> Result<(Target, &[u8]), RecordFault>
     ensures { IsUnless fault.NoMemory (seen result) (tag_at all first text.now) }
 {
-    let (size, rest) = read_size(all, limit_of(first, TAG_LIMIT), text)?;
-    let (bytes, after) = read_bytes(all, size, rest)?;
+    let short = RecordFault::BadRecord(all);
+    let (size, rest) = read_length(short, bad(all, text), limit_of(first, TAG_LIMIT), text)?;
+    let (bytes, after) = read_bytes(short, size, rest)?;
     match tag_of(alloc, bytes)? {
         Some(tag) => Ok((tag, after)),
         None => Err(bad(all, rest)),

@@ -15,14 +15,13 @@ use Rattle.cv_base.specs.PathText.{path_named}
 use Rattle.cv_rows.specs.declared.row.Row.{Row}
 use Rattle.cv_rows.specs.declared.nested.Nested.{Nested}
 use Rattle.cv_rows.specs.declared.row_fault.RowFault.{RowFault}
-use Rattle.cv_rows.specs.declared.row_fault.RowFault.TheVariants.{Short, BadMagic, TrailingBytes, TooLarge}
-use Rattle.cv_rows.specs.Row.{IsRow, text_field, row_bytes}
+use Rattle.cv_rows.specs.declared.row_fault.RowFault.TheVariants.{Short, BadField, BadMagic, TrailingBytes, TooLarge}
+use Rattle.cv_rows.specs.Row.{IsRow, row_bytes}
 use Rattle.cv_rows.specs.Nested.{IsNested, nested_bytes}
 use Rattle.cv_rows.specs.Catalogue.{file_of}
-use Rattle.cv_base.specs.Fields.{accepted, number_at, bytes_at, Takes}
-use Rattle.cv_rows.specs.Reading.{bad, length_at, row_at, path_at, nested_at, many_at, Entries, entries_at, number_in, is_too_large, entries_of}
-use Rattle.cv_base.proofs.Laws.{path_named-own, path_named-is, bind_ok, guard_ended, passes, accepted_ok, IsBytes-drop, IsBytes-take, Takes-then, wide32, wide64, number_takes, number_again, bytes_take, bytes_again, ok_is}
-use Rattle.cv_rows.proofs.RowFields.{length_takes, length_reads, text_takes}
+use Rattle.cv_base.specs.Fields.{accepted, bad, number_at, bytes_at, length_at, text_field, Takes}
+use Rattle.cv_rows.specs.Reading.{row_at, path_at, nested_at, many_at, Entries, entries_at, number_in, is_too_large, entries_of}
+use Rattle.cv_base.proofs.Laws.{path_named-own, path_named-is, bind_ok, guard_ended, passes, accepted_ok, IsBytes-drop, IsBytes-take, Takes-then, wide32, wide64, number_takes, number_again, bytes_take, bytes_again, length_takes, length_again, text_taken, ok_is}
 use Rattle.cv_rows.proofs.RowLaws.{row_takes, row_reads}
 use Rattle.cv_rows.proofs.Sizes.{nested_le}
 
@@ -32,13 +31,13 @@ path_takes : (all : ℕ) (text : List ℕ) (path : Path) (rest : List ℕ) → I
 unfolding path_at
 path_takes all text path rest fits e =
     let x : Path × List ℕ = (path, rest) in
-    let a = bind_ok (length_at all 4095 text) (λ len. bytes_at Short len.0 len.1 >>= λ name. accepted (bad all len.1) (path_named name.0) >>= λ path. Ok (path, name.1)) x e in
-    let b = bind_ok (bytes_at Short a.0.0 a.0.1) (λ name. accepted (bad all a.0.1) (path_named name.0) >>= λ path. Ok (path, name.1)) x a.2 in
-    let p = bind_ok (accepted (bad all a.0.1) (path_named b.0.0)) (λ path. Ok (path, b.0.1)) x b.2 in
-    let is = path_named-is b.0.0 p.0 (accepted_ok (bad all a.0.1) (path_named b.0.0) p.0 p.1) in
-    let len = length_takes all 4095 text a.0.0 a.0.1 fits a.1 in
+    let a = bind_ok (length_at Short (bad BadField all text) 4095 text) (λ len. bytes_at Short len.0 len.1 >>= λ name. accepted (bad BadField all len.1) (path_named name.0) >>= λ path. Ok (path, name.1)) x e in
+    let b = bind_ok (bytes_at Short a.0.0 a.0.1) (λ name. accepted (bad BadField all a.0.1) (path_named name.0) >>= λ path. Ok (path, name.1)) x a.2 in
+    let p = bind_ok (accepted (bad BadField all a.0.1) (path_named b.0.0)) (λ path. Ok (path, b.0.1)) x b.2 in
+    let is = path_named-is b.0.0 p.0 (accepted_ok (bad BadField all a.0.1) (path_named b.0.0) p.0 p.1) in
+    let len = length_takes Short (bad BadField all text) 4095 text a.0.0 a.0.1 fits a.1 in
     let t = bytes_take Short a.0.0 a.0.1 b.0.0 b.0.1 len.0.rest_fits b.1 in
-    let whole : Takes text (text_field (text_of p.0)) b.0.1 = subst (λ (w : List ℕ). Takes text (text_field w) b.0.1) is.text_is (text_takes text a.0.0 a.0.1 b.0.0 b.0.1 len.0 t) in
+    let whole : Takes text (text_field (text_of p.0)) b.0.1 = subst (λ (w : List ℕ). Takes text (text_field w) b.0.1) is.text_is (text_taken text a.0.0 a.0.1 b.0.0 b.0.1 len.0 t) in
     let y : Path × List ℕ = (p.0, b.0.1) in
     subst (λ (z : Path × List ℕ). Takes text (text_field (text_of z.0)) z.1 × IsPath z.0) (ok_is y x p.2) (whole, is.is_path)
 
@@ -49,7 +48,7 @@ path_reads all path rest is =
     let short : leb (length name) 4095 ≡ true = le-leb (length name) 4095 is.size in
     let fits : length name < 2 ^ 16 = omega (arith, is.size) in
     let regrouped : text_field name ++ rest ≡ to_be_bytes w16 (length name) ++ (name ++ rest) = append_assoc (to_be_bytes w16 (length name)) name rest in
-    ap (path_at all) regrouped ∙ rw (length_reads all 4095 (length name) (name ++ rest) fits short, bytes_again Short (length name) name rest refl, path_named-own path is) refl
+    ap (path_at all) regrouped ∙ rw (length_again Short (bad BadField all (to_be_bytes w16 (length name) ++ (name ++ rest))) 4095 (length name) (name ++ rest) fits short, bytes_again Short (length name) name rest refl, path_named-own path is) refl
 
 -- a nested entry with its parts to the right
 nested_parts : (n : Nested) (rest : List ℕ) → nested_bytes n ++ rest ≡ text_field (text_of n.path) ++ (n.hash ++ (to_be_bytes w64 n.size ++ rest))

@@ -10,7 +10,7 @@ use Rattle.cv_base.specs.BytesOrder.{bytes_cmp}
 use Rattle.cv_base.specs.Digest.{IsDigest}
 use Rattle.cv_base.specs.Path.{Path, same_path, text_of}
 use Rattle.cv_base.proofs.Laws.{goes_to}
-use Rattle.cv_rows.specs.Row.{text_field}
+use Rattle.cv_base.specs.Fields.{text_field}
 use Rattle.cv_rows.specs.Nested.{IsNested, nested_bytes}
 use Rattle.cv_rows.specs.Places.{StandsAt}
 use Rattle.cv_rows.specs.Catalogue.{Contents, IsCatalogue, IsTransitionAt, IsListed, nested_cmp}

@@ -17,11 +17,11 @@ use Rattle.cv_base.proofs.Laws.{first_true, second_true, ok_is}
 use Rattle.cv_rows.specs.declared.row_kind.RowKind.{RowKind}
 use Rattle.cv_rows.specs.declared.row_kind.RowKind.TheVariants.{Directory, Transition, NestedRoot, File, Link}
 use Rattle.cv_rows.specs.declared.row_fault.RowFault.{RowFault}
-use Rattle.cv_rows.specs.declared.row_fault.RowFault.TheVariants.{Short}
-use Rattle.cv_rows.specs.Row.{flags_of, type_bits, is_row_name, hash_field, text_field}
-use Rattle.cv_base.specs.Fields.{accepted, number_at, bytes_at, Takes, TakesBytes}
-use Rattle.cv_rows.specs.Reading.{bad, kind_of, kind_at, permissions, attr_at, is_size, size_at, hash_at, length_at, name_at, target_limit, is_size_of, target_at}
-use Rattle.cv_base.proofs.Laws.{either, bind_ok, guard_ended, passes, accepted_ok, Takes-then, wide16, wide32, wide64, number_takes, number_again, bytes_take, bytes_again}
+use Rattle.cv_rows.specs.declared.row_fault.RowFault.TheVariants.{Short, BadField}
+use Rattle.cv_rows.specs.Row.{flags_of, type_bits, is_row_name, hash_field}
+use Rattle.cv_base.specs.Fields.{accepted, bad, number_at, bytes_at, length_at, text_field, Takes, TakesBytes}
+use Rattle.cv_rows.specs.Reading.{kind_of, kind_at, permissions, attr_at, is_size, size_at, hash_at, name_at, target_limit, is_size_of, target_at}
+use Rattle.cv_base.proofs.Laws.{either, bind_ok, guard_ended, passes, accepted_ok, Takes-then, wide16, wide32, wide64, number_takes, number_again, bytes_take, bytes_again, length_takes, length_again, text_taken}
 
 abbrev some : {A : Type 0} → A → Option A
 some x = Some x
@@ -60,9 +60,9 @@ flags_fit Link = omega arith
 pub kind_takes : (all : ℕ) (text : List ℕ) (kind : RowKind) (rest : List ℕ) → IsBytes text → kind_at all text ≡ Ok (kind, rest) → Takes text (to_be_bytes w32 (flags_of kind)) rest
 unfolding kind_at
 kind_takes all text kind rest fits e =
-    let a = bind_ok (number_at Short w32 text) (λ flags. accepted (bad all text) (kind_of flags.0) >>= λ kind. Ok (kind, flags.1)) (kind, rest) e in
-    let b = bind_ok (accepted (bad all text) (kind_of a.0.0)) (λ kind. Ok (kind, a.0.1)) (kind, rest) a.2 in
-    let flags = kind_flags a.0.0 b.0 (accepted_ok (bad all text) (kind_of a.0.0) b.0 b.1) in
+    let a = bind_ok (number_at Short w32 text) (λ flags. accepted (bad BadField all text) (kind_of flags.0) >>= λ kind. Ok (kind, flags.1)) (kind, rest) e in
+    let b = bind_ok (accepted (bad BadField all text) (kind_of a.0.0)) (λ kind. Ok (kind, a.0.1)) (kind, rest) a.2 in
+    let flags = kind_flags a.0.0 b.0 (accepted_ok (bad BadField all text) (kind_of a.0.0) b.0 b.1) in
     let t = number_takes Short w32 (2 ^ 32) wide32 text a.0.0 a.0.1 fits a.1 in
     let same : Takes text (to_be_bytes w32 (flags_of b.0)) a.0.1 = subst (λ (n : ℕ). Takes text (to_be_bytes w32 n) a.0.1) flags t.0 in
     subst (λ (x : RowKind × List ℕ). Takes text (to_be_bytes w32 (flags_of x.0)) x.1) (ok_is (b.0, a.0.1) (kind, rest) b.2) same
@@ -104,12 +104,12 @@ bits_fit Link x lt = omega arith
 pub attr_takes : (all : ℕ) (kind : RowKind) (text : List ℕ) (a : Attr) (rest : List ℕ) → IsBytes text → attr_at all kind text ≡ Ok (a, rest) → Takes text (attr_bytes kind a) rest × IsAttr a
 unfolding attr_at
 attr_takes all kind text attr rest fits e =
-    let a = bind_ok (number_at Short w32 text) (λ bits. accepted (bad all text) (permissions kind bits.0) >>= λ mode. number_at Short w64 bits.1 >>= λ mtime. number_at Short w32 mtime.1 >>= λ uid. number_at Short w32 uid.1 >>= λ gid. Ok (record { mode = mode; mtime = mtime.0; uid = uid.0; gid = gid.0 }, gid.1)) (attr, rest) e in
-    let m = bind_ok (accepted (bad all text) (permissions kind a.0.0)) (λ mode. number_at Short w64 a.0.1 >>= λ mtime. number_at Short w32 mtime.1 >>= λ uid. number_at Short w32 uid.1 >>= λ gid. Ok (record { mode = mode; mtime = mtime.0; uid = uid.0; gid = gid.0 }, gid.1)) (attr, rest) a.2 in
+    let a = bind_ok (number_at Short w32 text) (λ bits. accepted (bad BadField all text) (permissions kind bits.0) >>= λ mode. number_at Short w64 bits.1 >>= λ mtime. number_at Short w32 mtime.1 >>= λ uid. number_at Short w32 uid.1 >>= λ gid. Ok (record { mode = mode; mtime = mtime.0; uid = uid.0; gid = gid.0 }, gid.1)) (attr, rest) e in
+    let m = bind_ok (accepted (bad BadField all text) (permissions kind a.0.0)) (λ mode. number_at Short w64 a.0.1 >>= λ mtime. number_at Short w32 mtime.1 >>= λ uid. number_at Short w32 uid.1 >>= λ gid. Ok (record { mode = mode; mtime = mtime.0; uid = uid.0; gid = gid.0 }, gid.1)) (attr, rest) a.2 in
     let b = bind_ok (number_at Short w64 a.0.1) (λ mtime. number_at Short w32 mtime.1 >>= λ uid. number_at Short w32 uid.1 >>= λ gid. Ok (record { mode = m.0; mtime = mtime.0; uid = uid.0; gid = gid.0 }, gid.1)) (attr, rest) m.2 in
     let c = bind_ok (number_at Short w32 b.0.1) (λ uid. number_at Short w32 uid.1 >>= λ gid. Ok (record { mode = m.0; mtime = b.0.0; uid = uid.0; gid = gid.0 }, gid.1)) (attr, rest) b.2 in
     let d = bind_ok (number_at Short w32 c.0.1) (λ gid. Ok (record { mode = m.0; mtime = b.0.0; uid = c.0.0; gid = gid.0 }, gid.1)) (attr, rest) c.2 in
-    let mode = within (type_bits kind) a.0.0 m.0 (accepted_ok (bad all text) (permissions kind a.0.0) m.0 m.1) in
+    let mode = within (type_bits kind) a.0.0 m.0 (accepted_ok (bad BadField all text) (permissions kind a.0.0) m.0 m.1) in
     let ta = number_takes Short w32 (2 ^ 32) wide32 text a.0.0 a.0.1 fits a.1 in
     let tb = number_takes Short w64 (2 ^ 64) wide64 a.0.1 b.0.0 b.0.1 ta.0.rest_fits b.1 in
     let tc = number_takes Short w32 (2 ^ 32) wide32 b.0.1 c.0.0 c.0.1 tb.0.rest_fits c.1 in
@@ -132,8 +132,8 @@ attr_reads all kind a rest fits =
 pub size_takes : (all : ℕ) (kind : RowKind) (text : List ℕ) (n : ℕ) (rest : List ℕ) → IsBytes text → size_at all kind text ≡ Ok (n, rest) → Takes text (to_be_bytes w64 n) rest × (is_size kind n ≡ true)
 unfolding size_at
 size_takes all kind text n rest fits e =
-    let a = bind_ok (number_at Short w64 text) (λ size. cond (is_size kind size.0) (Ok size) (Err (bad all text))) (n, rest) e in
-    let g = guard_ended (is_size kind a.0.0) (bad all text) a.0 (n, rest) a.2 in
+    let a = bind_ok (number_at Short w64 text) (λ size. cond (is_size kind size.0) (Ok size) (Err (bad BadField all text))) (n, rest) e in
+    let g = guard_ended (is_size kind a.0.0) (bad BadField all text) a.0 (n, rest) a.2 in
     let t = number_takes Short w64 (2 ^ 64) wide64 text a.0.0 a.0.1 fits a.1 in
     subst (λ (x : ℕ × List ℕ). Takes text (to_be_bytes w64 x.0) x.1 × (is_size kind x.0 ≡ true)) g.1 (t.0, g.0)
 
@@ -189,11 +189,11 @@ some_hash len rest o after fault fits e =
 pub hash_takes : (all : ℕ) (kind : RowKind) (text : List ℕ) (o : Option (List ℕ)) (after : List ℕ) → IsBytes text → hash_at all kind text ≡ Ok (o, after) → Takes text (hash_field o) after × HashFits kind o
 unfolding hash_at
 hash_takes all kind [] o after fits e = absurd cc
-hash_takes all Directory (len ∷ rest) o after fits e = no_hash len rest o after (len ∷ rest) (bad all (len ∷ rest)) fits e
-hash_takes all Transition (len ∷ rest) o after fits e = no_hash len rest o after (len ∷ rest) (bad all (len ∷ rest)) fits e
-hash_takes all NestedRoot (len ∷ rest) o after fits e = no_hash len rest o after (len ∷ rest) (bad all (len ∷ rest)) fits e
-hash_takes all File (len ∷ rest) o after fits e = some_hash len rest o after (bad all (len ∷ rest)) fits e
-hash_takes all Link (len ∷ rest) o after fits e = no_hash len rest o after (len ∷ rest) (bad all (len ∷ rest)) fits e
+hash_takes all Directory (len ∷ rest) o after fits e = no_hash len rest o after (len ∷ rest) (bad BadField all (len ∷ rest)) fits e
+hash_takes all Transition (len ∷ rest) o after fits e = no_hash len rest o after (len ∷ rest) (bad BadField all (len ∷ rest)) fits e
+hash_takes all NestedRoot (len ∷ rest) o after fits e = no_hash len rest o after (len ∷ rest) (bad BadField all (len ∷ rest)) fits e
+hash_takes all File (len ∷ rest) o after fits e = some_hash len rest o after (bad BadField all (len ∷ rest)) fits e
+hash_takes all Link (len ∷ rest) o after fits e = no_hash len rest o after (len ∷ rest) (bad BadField all (len ∷ rest)) fits e
 
 none_reads : (all : ℕ) (kind : RowKind) (rest : List ℕ) → HashFits kind None → hash_at all kind (0 ∷ rest) ≡ Ok (None, rest)
 unfolding hash_at
@@ -217,32 +217,15 @@ hash_reads all kind (Some hash) rest h = some_reads all kind hash rest h
 
 -- ---- texts
 
-pub length_takes : (all limit : ℕ) (text : List ℕ) (n : ℕ) (rest : List ℕ) → IsBytes text → length_at all limit text ≡ Ok (n, rest) → Takes text (to_be_bytes w16 n) rest × (leb n limit ≡ true)
-unfolding length_at
-length_takes all limit text n rest fits e =
-    let a = bind_ok (number_at Short w16 text) (λ len. cond (leb len.0 limit) (Ok len) (Err (bad all text))) (n, rest) e in
-    let g = guard_ended (leb a.0.0 limit) (bad all text) a.0 (n, rest) a.2 in
-    let t = number_takes Short w16 (2 ^ 16) wide16 text a.0.0 a.0.1 fits a.1 in
-    subst (λ (x : ℕ × List ℕ). Takes text (to_be_bytes w16 x.0) x.1 × (leb x.0 limit ≡ true)) g.1 (t.0, g.0)
-
-pub length_reads : (all limit n : ℕ) (rest : List ℕ) → n < 2 ^ 16 → leb n limit ≡ true → length_at all limit (to_be_bytes w16 n ++ rest) ≡ Ok (n, rest)
-unfolding length_at
-length_reads all limit n rest lt le = rw (number_again Short w16 (2 ^ 16) wide16 n rest lt, le) refl
-
--- a length and so many bytes are a text
-pub text_takes : (text : List ℕ) (n : ℕ) (after bytes rest : List ℕ) → Takes text (to_be_bytes w16 n) after → TakesBytes n after bytes rest → Takes text (text_field bytes) rest
-text_takes text n after bytes rest len t =
-    subst (λ (k : ℕ). Takes text (to_be_bytes w16 k ++ bytes) rest) (sym t.size) (Takes-then text (to_be_bytes w16 n) after bytes rest len t.takes)
-
 pub name_takes : (all : ℕ) (parent text name rest : List ℕ) → IsBytes text → name_at all parent text ≡ Ok (name, rest) → Takes text (text_field name) rest × (is_row_name parent name ≡ true)
 unfolding name_at
 name_takes all parent text name rest fits e =
-    let a = bind_ok (length_at all 255 text) (λ len. bytes_at Short len.0 len.1 >>= λ name. cond (is_row_name parent name.0) (Ok name) (Err (bad all len.1))) (name, rest) e in
-    let b = bind_ok (bytes_at Short a.0.0 a.0.1) (λ name. cond (is_row_name parent name.0) (Ok name) (Err (bad all a.0.1))) (name, rest) a.2 in
-    let g = guard_ended (is_row_name parent b.0.0) (bad all a.0.1) b.0 (name, rest) b.2 in
-    let len = length_takes all 255 text a.0.0 a.0.1 fits a.1 in
+    let a = bind_ok (length_at Short (bad BadField all text) 255 text) (λ len. bytes_at Short len.0 len.1 >>= λ name. cond (is_row_name parent name.0) (Ok name) (Err (bad BadField all len.1))) (name, rest) e in
+    let b = bind_ok (bytes_at Short a.0.0 a.0.1) (λ name. cond (is_row_name parent name.0) (Ok name) (Err (bad BadField all a.0.1))) (name, rest) a.2 in
+    let g = guard_ended (is_row_name parent b.0.0) (bad BadField all a.0.1) b.0 (name, rest) b.2 in
+    let len = length_takes Short (bad BadField all text) 255 text a.0.0 a.0.1 fits a.1 in
     let t = bytes_take Short a.0.0 a.0.1 b.0.0 b.0.1 len.0.rest_fits b.1 in
-    subst (λ (x : List ℕ × List ℕ). Takes text (text_field x.0) x.1 × (is_row_name parent x.0 ≡ true)) g.1 (text_takes text a.0.0 a.0.1 b.0.0 b.0.1 len.0 t, g.0)
+    subst (λ (x : List ℕ × List ℕ). Takes text (text_field x.0) x.1 × (is_row_name parent x.0 ≡ true)) g.1 (text_taken text a.0.0 a.0.1 b.0.0 b.0.1 len.0 t, g.0)
 
 -- a name has at most 255 bytes
 name_size : (parent name : List ℕ) → is_row_name parent name ≡ true → leb (length name) 255 ≡ true
@@ -264,7 +247,7 @@ unfolding name_at
 name_reads all parent name rest is =
     let size = name_size parent name is in
     let regrouped : text_field name ++ rest ≡ to_be_bytes w16 (length name) ++ (name ++ rest) = append_assoc (to_be_bytes w16 (length name)) name rest in
-    ap (name_at all parent) regrouped ∙ rw (length_reads all 255 (length name) (name ++ rest) (short_name (length name) size) size, bytes_again Short (length name) name rest refl, is) refl
+    ap (name_at all parent) regrouped ∙ rw (length_again Short (bad BadField all (to_be_bytes w16 (length name) ++ (name ++ rest))) 255 (length name) (name ++ rest) (short_name (length name) size) size, bytes_again Short (length name) name rest refl, is) refl
 
 -- what a target is in a row of this kind and this size
 pub record TargetFits (kind : RowKind) (size : ℕ) (target : List ℕ) : Type 0 where
@@ -275,14 +258,14 @@ pub record TargetFits (kind : RowKind) (size : ℕ) (target : List ℕ) : Type 0
 pub target_takes : (all : ℕ) (kind : RowKind) (size : ℕ) (sized text target rest : List ℕ) → IsBytes text → target_at all kind size sized text ≡ Ok (target, rest) → Takes text (text_field target) rest × TargetFits kind size target
 unfolding target_at
 target_takes all kind size sized text target rest fits e =
-    let a = bind_ok (length_at all (target_limit kind) text) (λ len. bytes_at Short len.0 len.1 >>= λ target. cond (not (is_size_of kind size target.0)) (Err (bad all sized)) (cond (is_target target.0) (Ok target) (Err (bad all len.1)))) (target, rest) e in
-    let b = bind_ok (bytes_at Short a.0.0 a.0.1) (λ target. cond (not (is_size_of kind size target.0)) (Err (bad all sized)) (cond (is_target target.0) (Ok target) (Err (bad all a.0.1)))) (target, rest) a.2 in
-    let p = passes (not (is_size_of kind size b.0.0)) (bad all sized) (cond (is_target b.0.0) (Ok b.0) (Err (bad all a.0.1))) (target, rest) b.2 in
-    let g = guard_ended (is_target b.0.0) (bad all a.0.1) b.0 (target, rest) p.1 in
-    let len = length_takes all (target_limit kind) text a.0.0 a.0.1 fits a.1 in
+    let a = bind_ok (length_at Short (bad BadField all text) (target_limit kind) text) (λ len. bytes_at Short len.0 len.1 >>= λ target. cond (not (is_size_of kind size target.0)) (Err (bad BadField all sized)) (cond (is_target target.0) (Ok target) (Err (bad BadField all len.1)))) (target, rest) e in
+    let b = bind_ok (bytes_at Short a.0.0 a.0.1) (λ target. cond (not (is_size_of kind size target.0)) (Err (bad BadField all sized)) (cond (is_target target.0) (Ok target) (Err (bad BadField all a.0.1)))) (target, rest) a.2 in
+    let p = passes (not (is_size_of kind size b.0.0)) (bad BadField all sized) (cond (is_target b.0.0) (Ok b.0) (Err (bad BadField all a.0.1))) (target, rest) b.2 in
+    let g = guard_ended (is_target b.0.0) (bad BadField all a.0.1) b.0 (target, rest) p.1 in
+    let len = length_takes Short (bad BadField all text) (target_limit kind) text a.0.0 a.0.1 fits a.1 in
     let t = bytes_take Short a.0.0 a.0.1 b.0.0 b.0.1 len.0.rest_fits b.1 in
     let fit : TargetFits kind size b.0.0 = record { limit = rw t.size len.1; size_is = not-false (is_size_of kind size b.0.0) p.0; text = g.0 } in
-    subst (λ (x : List ℕ × List ℕ). Takes text (text_field x.0) x.1 × TargetFits kind size x.0) g.1 (text_takes text a.0.0 a.0.1 b.0.0 b.0.1 len.0 t, fit)
+    subst (λ (x : List ℕ × List ℕ). Takes text (text_field x.0) x.1 × TargetFits kind size x.0) g.1 (text_taken text a.0.0 a.0.1 b.0.0 b.0.1 len.0 t, fit)
 
 target_short : (kind : RowKind) (n : ℕ) → leb n (target_limit kind) ≡ true → n < 2 ^ 16
 target_short Directory n h = grind (arith, nat_tests)
@@ -295,4 +278,4 @@ pub target_reads : (all : ℕ) (kind : RowKind) (size : ℕ) (sized target rest 
 unfolding target_at
 target_reads all kind size sized target rest fits =
     let regrouped : text_field target ++ rest ≡ to_be_bytes w16 (length target) ++ (target ++ rest) = append_assoc (to_be_bytes w16 (length target)) target rest in
-    ap (target_at all kind size sized) regrouped ∙ rw (length_reads all (target_limit kind) (length target) (target ++ rest) (target_short kind (length target) fits.limit) fits.limit, bytes_again Short (length target) target rest refl, fits.size_is, fits.text) refl
+    ap (target_at all kind size sized) regrouped ∙ rw (length_again Short (bad BadField all (to_be_bytes w16 (length target) ++ (target ++ rest))) (target_limit kind) (length target) (target ++ rest) (target_short kind (length target) fits.limit) fits.limit, bytes_again Short (length target) target rest refl, fits.size_is, fits.text) refl

@@ -15,8 +15,8 @@ use Rattle.cv_rows.specs.declared.row_kind.RowKind.{RowKind}
 use Rattle.cv_rows.specs.declared.row_kind.RowKind.TheVariants.{Directory, Transition, NestedRoot, File, Link}
 use Rattle.cv_rows.specs.declared.row_fault.RowFault.{RowFault}
 use Rattle.cv_rows.specs.declared.row_fault.RowFault.TheVariants.{Short}
-use Rattle.cv_rows.specs.Row.{flags_of, is_row_name, IsKey, IsRow, HasContent, hash_field, text_field, row_bytes}
-use Rattle.cv_base.specs.Fields.{bytes_at, Takes}
+use Rattle.cv_rows.specs.Row.{flags_of, is_row_name, IsKey, IsRow, HasContent, hash_field, row_bytes}
+use Rattle.cv_base.specs.Fields.{bytes_at, text_field, Takes}
 use Rattle.cv_rows.specs.Reading.{kind_at, attr_at, is_size, size_at, hash_at, name_at, target_limit, is_size_of, target_at, row_behind, row_at}
 use Rattle.cv_base.proofs.Laws.{bind_ok, bytes_take, bytes_again}
 use Rattle.cv_base.specs.Attr.{IsAttr}

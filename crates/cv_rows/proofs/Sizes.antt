@@ -4,7 +4,8 @@ use Rattle.std.proofs.lemmas.List.Concat.{flat_map-cons}
 use Rattle.std.specs.Int.{w32, w64, to_be_bytes}
 use Rattle.std.specs.List.{flat_map}
 use Rattle.cv_base.specs.Path.{text_of}
-use Rattle.cv_rows.specs.Row.{row_bytes, text_field}
+use Rattle.cv_base.specs.Fields.{text_field}
+use Rattle.cv_rows.specs.Row.{row_bytes}
 use Rattle.cv_rows.specs.Nested.{nested_bytes}
 use Rattle.cv_rows.specs.Catalogue.{file_of}
 use Rattle.cv_rows.specs.declared.row.Row.{Row}

@@ -3,7 +3,7 @@ use Rattle.std.specs.Prelude.{ℕ, ◌^◌, ◌<◌, List, ◌++◌}
 use Rattle.std.specs.Int.{w64, to_be_bytes}
 use Rattle.cv_base.specs.Digest.{IsDigest}
 use Rattle.cv_base.specs.Path.{IsPath, text_of}
-use Rattle.cv_rows.specs.Row.{text_field}
+use Rattle.cv_base.specs.Fields.{text_field}
 use Rattle.cv_rows.specs.declared.nested.Nested.{Nested}
 
 -- the conditions that a nested entry has a spelling

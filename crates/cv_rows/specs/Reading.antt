@@ -3,8 +3,8 @@
 -- is the offset of its field; that of a text is the offset of the length where it passes its limit, and of the bytes otherwise. The
 -- size of a link is judged at once where no target has that size, and once the target is there otherwise.
 use Rattle.std.specs.Prelude.{ℕ, zero, suc, ◌+◌, ◌-◌, Bool, true, not, ◌&&◌, ◌==◌, nat_le, nat_lt, bytes_eq, if◌then◌else◌, List, [], ◌∷◌, length, take, drop, codes, Option, Some, None, Result, Ok, Err}
-use Rattle.std.specs.Int.{w16, w32, w64, from_be_bytes}
-use Rattle.cv_base.specs.Fields.{accepted, number_at, bytes_at}
+use Rattle.std.specs.Int.{w32, w64, from_be_bytes}
+use Rattle.cv_base.specs.Fields.{accepted, bad, number_at, bytes_at, length_at}
 use Rattle.cv_base.specs.Path.{Path}
 use Rattle.cv_base.specs.PathText.{path_named}
 use Rattle.cv_base.specs.Target.{is_target}
@@ -26,10 +26,6 @@ use Rattle.cv_rows.specs.declared.row_fault.RowFault.TheVariants.{Short, BadMagi
 -- Below, `all` is the count of all bytes, and a field is read from the text that begins with it: so its
 -- offset is `all` less the bytes of that text. What is read comes with the text after it.
 
--- the field at the front of the text isn't as it has to be
-abbrev pub bad : ℕ → List ℕ → RowFault
-bad all text = BadField (all - length text)
-
 -- ---- the fields of a row
 
 abbrev pub kind_of : ℕ → Option RowKind
@@ -44,7 +40,7 @@ kind_of flags =
 unfoldable pub kind_at : ℕ → List ℕ → Result (RowKind × List ℕ) RowFault
 kind_at all text = do
   flags ← number_at Short w32 text
-  kind ← accepted (bad all text) (kind_of flags.0)
+  kind ← accepted (bad BadField all text) (kind_of flags.0)
   Ok (kind, flags.1)
 
 -- the permission bits in a mode with the type bits of this kind
@@ -54,7 +50,7 @@ permissions kind mode = if nat_le (type_bits kind) mode && nat_lt mode (type_bit
 unfoldable pub attr_at : ℕ → RowKind → List ℕ → Result (Attr × List ℕ) RowFault
 attr_at all kind text = do
   bits ← number_at Short w32 text
-  mode ← accepted (bad all text) (permissions kind bits.0)
+  mode ← accepted (bad BadField all text) (permissions kind bits.0)
   mtime ← number_at Short w64 bits.1
   uid ← number_at Short w32 mtime.1
   gid ← number_at Short w32 uid.1
@@ -71,28 +67,22 @@ is_size Link size = nat_le 1 size && nat_le size TARGET_LIMIT
 unfoldable pub size_at : ℕ → RowKind → List ℕ → Result (ℕ × List ℕ) RowFault
 size_at all kind text = do
   size ← number_at Short w64 text
-  if is_size kind size.0 then Ok size else Err (bad all text)
+  if is_size kind size.0 then Ok size else Err (bad BadField all text)
 
 -- the hash, behind the byte of its length
 abbrev pub hash_behind : ℕ → RowKind → List ℕ → ℕ → List ℕ → Result (Option (List ℕ) × List ℕ) RowFault
-hash_behind all File text len rest = if len == 20 then (bytes_at Short 20 rest >>= λ hash. Ok (Some hash.0, hash.1)) else Err (bad all text)
-hash_behind all kind text len rest = if len == 0 then Ok (None, rest) else Err (bad all text)
+hash_behind all File text len rest = if len == 20 then (bytes_at Short 20 rest >>= λ hash. Ok (Some hash.0, hash.1)) else Err (bad BadField all text)
+hash_behind all kind text len rest = if len == 0 then Ok (None, rest) else Err (bad BadField all text)
 
 unfoldable pub hash_at : ℕ → RowKind → List ℕ → Result (Option (List ℕ) × List ℕ) RowFault
 hash_at all kind [] = Err Short
 hash_at all kind (len ∷ rest) = hash_behind all kind (len ∷ rest) len rest
 
--- the length of a text that has at most `limit` bytes
-unfoldable pub length_at : ℕ → ℕ → List ℕ → Result (ℕ × List ℕ) RowFault
-length_at all limit text = do
-  len ← number_at Short w16 text
-  if nat_le len.0 limit then Ok len else Err (bad all text)
-
 unfoldable pub name_at : ℕ → List ℕ → List ℕ → Result (List ℕ × List ℕ) RowFault
 name_at all parent text = do
-  len ← length_at all PATH_NAME_LIMIT text
+  len ← length_at Short (bad BadField all text) PATH_NAME_LIMIT text
   name ← bytes_at Short len.0 len.1
-  if is_row_name parent name.0 then Ok name else Err (bad all len.1)
+  if is_row_name parent name.0 then Ok name else Err (bad BadField all len.1)
 
 -- the most bytes of a target
 abbrev pub target_limit : RowKind → ℕ
@@ -107,11 +97,11 @@ is_size_of kind size target = true
 -- a target, in a row whose size is this and begins the text `sized`
 unfoldable pub target_at : ℕ → RowKind → ℕ → List ℕ → List ℕ → Result (List ℕ × List ℕ) RowFault
 target_at all kind size sized text = do
-  len ← length_at all (target_limit kind) text
+  len ← length_at Short (bad BadField all text) (target_limit kind) text
   target ← bytes_at Short len.0 len.1
-  if not (is_size_of kind size target.0) then Err (bad all sized)
+  if not (is_size_of kind size target.0) then Err (bad BadField all sized)
       else if is_target target.0 then Ok target
-      else Err (bad all len.1)
+      else Err (bad BadField all len.1)
 
 -- the row of these first fields, whose size, hash, name and target begin the text
 unfoldable pub row_behind : ℕ → List ℕ → List ℕ → RowKind → Attr → List ℕ → Result (Row × List ℕ) RowFault
@@ -134,9 +124,9 @@ row_at all text = do
 
 unfoldable pub path_at : ℕ → List ℕ → Result (Path × List ℕ) RowFault
 path_at all text = do
-  len ← length_at all PATH_LIMIT text
+  len ← length_at Short (bad BadField all text) PATH_LIMIT text
   name ← bytes_at Short len.0 len.1
-  path ← accepted (bad all len.1) (path_named name.0)
+  path ← accepted (bad BadField all len.1) (path_named name.0)
   Ok (path, name.1)
 
 unfoldable pub nested_at : ℕ → List ℕ → Result (Nested × List ℕ) RowFault

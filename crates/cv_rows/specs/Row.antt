@@ -1,10 +1,11 @@
 -- A row, and its bytes.
 use Rattle.std.specs.Prelude.{◌≡◌, ℕ, ◌+◌, ◌≤◌, Bool, true, false, ◌&&◌, ◌==◌, nat_le, bytes_eq, List, [], ◌∷◌, ◌++◌, length, Option, Some, None, IsSomeAnd}
-use Rattle.std.specs.Int.{w16, w32, w64, to_be_bytes}
+use Rattle.std.specs.Int.{w32, w64, to_be_bytes}
 use Rattle.hex.specs.Hex.{IsBytes}
 use Rattle.cv_base.specs.declared.limits.TheConstants.{OBJECT_LIMIT}
 use Rattle.cv_base.specs.Attr.{IsAttr}
 use Rattle.cv_base.specs.Digest.{IsDigest}
+use Rattle.cv_base.specs.Fields.{text_field}
 use Rattle.cv_base.specs.Path.{is_path_name, no_key}
 use Rattle.cv_base.specs.Target.{is_target}
 use Rattle.cv_rows.specs.declared.row.Row.{Row}
@@ -77,10 +78,6 @@ pub record IsRow (r : Row) : Type 0 where
 abbrev pub hash_field : Option (List ℕ) → List ℕ
 hash_field None = 0 ∷ []
 hash_field (Some hash) = 20 ∷ hash
-
--- a length of two bytes, and the bytes of the text
-abbrev pub text_field : List ℕ → List ℕ
-text_field text = to_be_bytes w16 (length text) ++ text
 
 -- the fields of a row, one after another
 abbrev pub row_bytes : Row → List ℕ

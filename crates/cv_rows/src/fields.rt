@@ -1,64 +1,25 @@
 //! The fields of row files, read at the front of bytes. `all` is the count of all bytes of the file, by
 //! which a fault names the offset of a field. Each function gives what follows its field too.
 ghost use Rattle.std.specs.Prelude.{◌≡◌, IfOk};
-ghost use Rattle.std.specs.Int.{w16, w32, w64};
-ghost use Rattle.cv_base.specs.Fields.{number_at, bytes_at};
-ghost use Rattle.cv_rows.specs.Reading.{bad, kind_of, kind_at, attr_at, permissions, is_size, size_at, hash_at, length_at, name_at, target_limit, is_size_of, target_at, path_at};
+ghost use Rattle.cv_base.specs.Fields.{bad};
+ghost use Rattle.cv_rows.specs.Reading.{kind_of, kind_at, attr_at, permissions, is_size, size_at, hash_at, name_at, target_limit, is_size_of, target_at, path_at};
 ghost use Rattle.cv_rows.specs.ReadingInner.{Gives, row_name_of};
 ghost use Rattle.cv_rows.specs.Row.{is_row_name};
-ghost use Rattle.cv_rows.specs.declared.row_fault.RowFault.TheVariants.{Short};
+ghost use Rattle.cv_rows.specs.declared.row_fault.RowFault.TheVariants.{BadField};
 
 use crate::row_fault::RowFault;
 use crate::row_kind::RowKind;
 use cv_base::{
     Attr, MODE_LIMIT, NoMemory, OBJECT_LIMIT, PATH_LIMIT, PATH_NAME_LIMIT, PathKey, RepoPath,
-    TARGET_LIMIT, Target, is_path_name, split_bytes, split_u16, split_u32, split_u64,
+    TARGET_LIMIT, Target, is_path_name, read_array, read_bytes, read_length, read_u32, read_u64,
 };
 use std::alloc::Global;
 
 /// The fault that the field which begins with this text isn't as it has to be.
 pub fn bad(all: usize, text: &[u8]) -> RowFault
-    ensures { result ≡ bad all text.now }
+    ensures { result ≡ bad BadField all text.now }
 {
     RowFault::BadField(all.saturating_sub(text.len()))
-}
-
-/// A number of two bytes.
-fn read_u16(text: &[u8]) -> Result<(u16, &[u8]), RowFault>
-    ensures { Gives (λ x. (x.0, x.1.now)) result (number_at Short w16 text.now) }
-{
-    split_u16(text).ok_or(RowFault::Short)
-}
-
-/// A number of four bytes.
-pub fn read_u32(text: &[u8]) -> Result<(u32, &[u8]), RowFault>
-    ensures { Gives (λ x. (x.0, x.1.now)) result (number_at Short w32 text.now) }
-{
-    split_u32(text).ok_or(RowFault::Short)
-}
-
-/// A number of eight bytes.
-pub fn read_u64(text: &[u8]) -> Result<(u64, &[u8]), RowFault>
-    ensures { Gives (λ x. (x.0, x.1.now)) result (number_at Short w64 text.now) }
-{
-    split_u64(text).ok_or(RowFault::Short)
-}
-
-/// So many bytes.
-pub fn read_bytes(text: &[u8], len: usize) -> Result<(&[u8], &[u8]), RowFault>
-    ensures { Gives (λ x. (x.0.now, x.1.now)) result (bytes_at Short len text.now) }
-{
-    split_bytes(text, len).ok_or(RowFault::Short)
-}
-
-/// An array of bytes.
-pub fn read_array<const N: usize>(text: &[u8]) -> Result<([u8; N], &[u8]), RowFault>
-    ensures { Gives (λ x. (x.0, x.1.now)) result (bytes_at Short N text.now) }
-{
-    match text.split_first_chunk::<N>() {
-        Some((array, rest)) => Ok((*array, rest)),
-        None => Err(RowFault::Short),
-    }
 }
 
 /// The kind that these flags stand for.
@@ -80,7 +41,7 @@ fn kind_of_flags(flags: u32) -> Option<RowKind>
 pub fn read_kind(all: usize, text: &[u8]) -> Result<(RowKind, &[u8]), RowFault>
     ensures { Gives (λ x. (x.0, x.1.now)) result (kind_at all text.now) }
 {
-    let (flags, rest) = read_u32(text)?;
+    let (flags, rest) = read_u32(RowFault::Short, text)?;
     match kind_of_flags(flags) {
         Some(kind) => Ok((kind, rest)),
         None => Err(bad(all, text)),
@@ -104,13 +65,13 @@ fn permissions(kind: RowKind, mode: u32) -> Option<u32>
 pub fn read_attr(all: usize, kind: RowKind, text: &[u8]) -> Result<(Attr, &[u8]), RowFault>
     ensures { Gives (λ x. (x.0, x.1.now)) result (attr_at all kind text.now) }
 {
-    let (mode, rest) = read_u32(text)?;
+    let (mode, rest) = read_u32(RowFault::Short, text)?;
     let Some(mode) = permissions(kind, mode) else {
         return Err(bad(all, text));
     };
-    let (mtime, rest) = read_u64(rest)?;
-    let (uid, rest) = read_u32(rest)?;
-    let (gid, rest) = read_u32(rest)?;
+    let (mtime, rest) = read_u64(RowFault::Short, rest)?;
+    let (uid, rest) = read_u32(RowFault::Short, rest)?;
+    let (gid, rest) = read_u32(RowFault::Short, rest)?;
     let attr = Attr {
         mode,
         mtime,
@@ -136,7 +97,7 @@ fn is_size(kind: RowKind, size: u64) -> bool
 pub fn read_size(all: usize, kind: RowKind, text: &[u8]) -> Result<(u64, &[u8]), RowFault>
     ensures { Gives (λ x. (x.0, x.1.now)) result (size_at all kind text.now) }
 {
-    let (size, rest) = read_u64(text)?;
+    let (size, rest) = read_u64(RowFault::Short, text)?;
     if is_size(kind, size) {
         Ok((size, rest))
     } else {
@@ -158,26 +119,12 @@ pub fn read_hash(
     };
     match (kind, *len) {
         (RowKind::File, 20) => {
-            let (hash, rest) = read_array(rest)?;
+            let (hash, rest) = read_array(RowFault::Short, rest)?;
             Ok((Some(hash), rest))
         }
         (RowKind::File, _) => Err(bad(all, text)),
         (_, 0) => Ok((None, rest)),
         _ => Err(bad(all, text)),
-    }
-}
-
-/// The length of a text of at most `limit` bytes.
-#[tactic(auto, unfolding(crate::specs::Reading::length_at))]
-pub fn read_length(all: usize, limit: usize, text: &[u8]) -> Result<(usize, &[u8]), RowFault>
-    ensures { Gives (λ x. (x.0, x.1.now)) result (length_at all limit text.now) }
-{
-    let (len, rest) = read_u16(text)?;
-    let len = usize::from(len);
-    if len <= limit {
-        Ok((len, rest))
-    } else {
-        Err(bad(all, text))
     }
 }
 
@@ -202,8 +149,8 @@ pub fn read_name<'a>(
 ) -> Result<(Target, &'a [u8]), RowFault>
     ensures { Gives (λ x. (x.0, x.1.now)) result (name_at all parent.now.0 text.now) }
 {
-    let (len, rest) = read_length(all, PATH_NAME_LIMIT, text)?;
-    let (name, after) = read_bytes(rest, len)?;
+    let (len, rest) = read_length(RowFault::Short, bad(all, text), PATH_NAME_LIMIT, text)?;
+    let (name, after) = read_bytes(RowFault::Short, len, rest)?;
     match name_of(alloc, parent, name)? {
         Some(name) => Ok((name, after)),
         None => Err(bad(all, rest)),
@@ -256,8 +203,8 @@ pub fn read_target<'a>(
 ) -> Result<(Target, &'a [u8]), RowFault>
     ensures { Gives (λ x. (x.0, x.1.now)) result (target_at all kind size sized.now text.now) }
 {
-    let (len, rest) = read_length(all, target_limit(kind), text)?;
-    let (target, after) = read_bytes(rest, len)?;
+    let (len, rest) = read_length(RowFault::Short, bad(all, text), target_limit(kind), text)?;
+    let (target, after) = read_bytes(RowFault::Short, len, rest)?;
     if !is_size_of(kind, size, target) {
         return Err(bad(all, sized));
     }
@@ -272,8 +219,8 @@ pub fn read_target<'a>(
 pub fn read_path(alloc: Global, all: usize, text: &[u8]) -> Result<(RepoPath, &[u8]), RowFault>
     ensures { Gives (λ x. (x.0, x.1.now)) result (path_at all text.now) }
 {
-    let (len, rest) = read_length(all, PATH_LIMIT, text)?;
-    let (name, after) = read_bytes(rest, len)?;
+    let (len, rest) = read_length(RowFault::Short, bad(all, text), PATH_LIMIT, text)?;
+    let (name, after) = read_bytes(RowFault::Short, len, rest)?;
     match RepoPath::of_bytes(alloc, name)? {
         Some(path) => Ok((path, after)),
         None => Err(bad(all, rest)),

@@ -4,8 +4,7 @@ ghost use Rattle.cv_rows.specs.Reading.{row_behind, row_at, nested_at, many_at, 
 ghost use Rattle.cv_rows.specs.ReadingInner.{Gives};
 
 use crate::fields::{
-    read_array, read_attr, read_hash, read_kind, read_name, read_path, read_size, read_target,
-    read_u64,
+    read_attr, read_hash, read_kind, read_name, read_path, read_size, read_target,
 };
 use crate::limits::ROW_LIMIT;
 use crate::nested::Nested;
@@ -13,7 +12,7 @@ use crate::row::Row;
 use crate::row_fault::RowFault;
 use crate::row_kind::RowKind;
 use crate::write::MAGIC;
-use cv_base::{Attr, OBJECT_LIMIT, PathKey};
+use cv_base::{Attr, OBJECT_LIMIT, PathKey, read_array, read_u64};
 use std::alloc::Global;
 
 /// The rows and the nested entries of a row file, in its order.
@@ -54,8 +53,8 @@ fn read_behind(
 fn read_row(alloc: Global, all: usize, text: &[u8]) -> Result<(Row, &[u8]), RowFault>
     ensures { Gives (λ x. (x.0, x.1.now)) result (row_at all text.now) }
 {
-    let (key, rest) = read_array(text)?;
-    let (parent, rest) = read_array(rest)?;
+    let (key, rest) = read_array(RowFault::Short, text)?;
+    let (parent, rest) = read_array(RowFault::Short, rest)?;
     let (kind, rest) = read_kind(all, rest)?;
     let (attr, rest) = read_attr(all, kind, rest)?;
     read_behind(alloc, all, PathKey(key), PathKey(parent), kind, attr, rest)
@@ -67,8 +66,8 @@ fn read_nested(alloc: Global, all: usize, text: &[u8]) -> Result<(Nested, &[u8])
     ensures { Gives (λ x. (x.0, x.1.now)) result (nested_at all text.now) }
 {
     let (path, rest) = read_path(alloc, all, text)?;
-    let (hash, rest) = read_array(rest)?;
-    let (size, rest) = read_u64(rest)?;
+    let (hash, rest) = read_array(RowFault::Short, rest)?;
+    let (size, rest) = read_u64(RowFault::Short, rest)?;
     Ok((Nested { path, hash, size }, rest))
 }
 

@@ -3,7 +3,8 @@ ghost use Rattle.std.specs.Prelude.{◌≡◌, ◌+◌, ◌++◌, ◌<◌, ◌^�
 ghost use Rattle.std.specs.List.{AllByRecursion};
 ghost use Rattle.std.specs.Int.{w32, w64, to_be_bytes};
 ghost use Rattle.cv_base.specs.Attr.{IsAttr};
-ghost use Rattle.cv_rows.specs.Row.{IsRow, hash_field, text_field, row_bytes, type_bits};
+ghost use Rattle.cv_base.specs.Fields.{text_field};
+ghost use Rattle.cv_rows.specs.Row.{IsRow, hash_field, row_bytes, type_bits};
 ghost use Rattle.cv_rows.specs.Nested.{IsNested, nested_bytes};
 ghost use Rattle.cv_rows.specs.Catalogue.{file_of};
 ghost use Rattle.cv_rows.specs.declared.limits.TheConstants.{ROW_LIMIT};

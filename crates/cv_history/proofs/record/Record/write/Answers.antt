@@ -1,9 +1,10 @@
 use Rattle.std.proofs.Common.{◌≡◌, ◌∙◌, ap, arith, length}
 use Rattle.std.specs.Prelude.{codes, string_bytes}
-use Rattle.std.specs.Int.{w16, w64, to_be_bytes}
+use Rattle.std.specs.Int.{w64, to_be_bytes}
+use Rattle.cv_base.specs.Fields.{text_field}
 use Rattle.cv_base.specs.Path.{text_of}
 use Rattle.cv_base.proofs.Laws.{Spells-path_of}
-use Rattle.cv_history.proofs.Written.{fourteen}
+use Rattle.cv_history.proofs.Written.{eleven}
 use Rattle.cv_history.proofs.record.Record.write.Goals as goal
 
 pub push_text-requires : goal.push_text-requires
@@ -31,8 +32,7 @@ returns c =
         tag = c.text-3.ensures.limits;
       };
       limits = c.requires;
-      bytes = fourteen (codes "CVH1") (to_be_bytes w64 r.revision) r.previous r.root r.offered (to_be_bytes w64 r.token.epoch) (to_be_bytes w64 r.token.number)
-          (to_be_bytes w16 (length (text_of r.path))) (text_of r.path) (to_be_bytes w16 (length r.key)) r.key (to_be_bytes w64 r.time)
-          (to_be_bytes w16 (length r.tag)) r.tag _ _ _ _ _ c.in_ok-bytes.ensures.bytes (rw path at c.in_ok-push_text.ensures) (rw key at c.in_ok-push_text-2.ensures)
+      bytes = eleven (codes "CVH1") (to_be_bytes w64 r.revision) r.previous r.root r.offered (to_be_bytes w64 r.token.epoch) (to_be_bytes w64 r.token.number)
+          (text_field (text_of r.path)) (text_field r.key) (to_be_bytes w64 r.time) (text_field r.tag) _ _ _ _ _ c.in_ok-bytes.ensures.bytes (rw path at c.in_ok-push_text.ensures) (rw key at c.in_ok-push_text-2.ensures)
           c.in_ok-push_u64.ensures (rw tag at c.in_ok-push_text-3.ensures);
     }
