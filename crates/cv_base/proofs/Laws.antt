@@ -1,7 +1,7 @@
 -- What this crate proves for those above it: the text and the file name of an id tell the id, and the text of a path the path; a SHA-1 is
--- a digest; kinds that compare as the same are one; a path is the one of its text; what a path covers, and what is behind it; facts of
--- booleans, of the parts of a list and of sets of texts; and a field that is read is the field that was written, and what was written is
--- read again.
+-- a digest; kinds that compare as the same are one; a path is the one of its text; what a path covers, and what is behind it; paths and
+-- their names are in a total order; facts of booleans, of the parts of a list and of sets of texts; and a field that is read is the field
+-- that was written, and what was written is read again.
 pub use Rattle.cv_base.proofs.Digests.{IsByte, digest_sha1, byte_small, bytes_at}
 pub use Rattle.cv_base.proofs.FileNames.{one_id_text, one_file_name, same_digits}
 pub use Rattle.cv_base.proofs.IdTexts.{length-digits}
@@ -19,3 +19,5 @@ pub use Rattle.cv_base.proofs.Values.{some_same, not_both, some_there, not_there
 pub use Rattle.cv_base.proofs.Lists.{all_push, all_append, all_weaker, each_all, item_there, stands_there, goes_to, image_at, last_push, last_map, fields_length, drop_is, rest_all, bytes_itself, bytes_eq-own, bytes_are, not_less}
 pub use Rattle.cv_base.proofs.PathFacts.{parent-append, last_same, all_last, joined_path, same_name-symm, rising, same_path-itself, cmp-behind, covers_below, covers_itself, only_root, second_covers, not_before, covers_through}
 pub use Rattle.cv_base.proofs.Targets.{no_target}
+pub use Rattle.cv_base.specs.PathOrder.{path_total}
+pub use Rattle.cv_base.proofs.PathOrder.{name_exact, path_exact, same_name_is, same_name_itself, same_path_is}

@@ -14,6 +14,7 @@ mod Parents
 mod Parts
 mod PathFacts
 mod PathGrammar
+mod PathOrder
 mod PathPrefixes
 mod PathTexts
 mod NamedPaths

@@ -6,7 +6,7 @@ use Rattle.std.specs.declared.option.Option.TheVariants.{None, Some}
 use Rattle.std.specs.Ordering.{is_eq, eq_by_cmp, ordering_then}
 use Rattle.std.specs.List.{starts_with}
 use Rattle.cv_base.specs.Path.{Path, path_cmp, same_name, behind, covers, overlap}
-use Rattle.cv_base.specs.PathOrder.{name_exact, same_name_is, same_name_itself}
+use Rattle.cv_base.proofs.PathOrder.{name_exact, same_name_is, same_name_itself}
 use Rattle.cv_base.specs.BytesOrder.{bytes_cmp}
 
 -- covers, as the code tests it

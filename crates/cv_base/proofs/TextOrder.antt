@@ -13,7 +13,7 @@ use Rattle.std.proofs.lemmas.List.{drop_all, length-drop}
 use Rattle.std.proofs.lemmas.List.Folds.{list_all-append}
 use Rattle.std.proofs.lemmas.Slice.Eq.{starts_is}
 use Rattle.cv_base.specs.Path.{Path, IsPath, text_of, is_path_name, is_path_byte, same_name}
-use Rattle.cv_base.specs.PathOrder.{same_name_is, same_name_itself}
+use Rattle.cv_base.proofs.PathOrder.{same_name_is, same_name_itself}
 use Rattle.cv_base.specs.TextOrderInner.{Follows}
 use Rattle.cv_base.proofs.Bools.{first_true, second_true}
 use Rattle.cv_base.specs.BytesOrder.{bytes_cmp}

@@ -7,8 +7,7 @@ use Rattle.std.proofs.lemmas.List.{get_or_default}
 use Rattle.std.proofs.lemmas.List.Elements.{Contains-append_cases}
 use Rattle.std.proofs.lemmas.List.Kept.{AllPairs-filter}
 use Rattle.cv_base.specs.Path.{Path, behind, covers, overlap, same_name}
-use Rattle.cv_base.specs.PathOrder.{same_name_is, same_name_itself}
-use Rattle.cv_base.proofs.Laws.{covers_through, covers_itself}
+use Rattle.cv_base.proofs.Laws.{covers_through, covers_itself, same_name_is, same_name_itself}
 use Rattle.cv_rows.specs.Catalogue.{Contents, IsCatalogue}
 use Rattle.cv_rows.specs.declared.nested.Nested.{Nested}
 use Rattle.cv_cut.proofs.Lemmas.{first_or_later, first_there, later_there, none_there, passes}

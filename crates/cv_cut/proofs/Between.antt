@@ -6,8 +6,7 @@ use Rattle.std.specs.FinMap.{get, entries, keys}
 use Rattle.std.proofs.lemmas.List.Folds.{list_all_at}
 use Rattle.cv_base.specs.Marker.{marker}
 use Rattle.cv_base.specs.Path.{Path, covers, behind}
-use Rattle.cv_base.specs.PathOrder.{path_exact}
-use Rattle.cv_base.proofs.Laws.{behind-Some, behind-append, first_true, some_there}
+use Rattle.cv_base.proofs.Laws.{behind-Some, behind-append, first_true, some_there, path_exact}
 use Rattle.cv_tree.specs.Tree.{Nodes, at, is_directory, is_file}
 use Rattle.cv_tree.specs.declared.node.Node.{Node}
 use Rattle.cv_tree.proofs.Laws.{get-at, some_directory}

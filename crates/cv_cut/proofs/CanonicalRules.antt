@@ -9,8 +9,7 @@ use Rattle.std.proofs.lemmas.List.{length-map}
 use Rattle.std.proofs.lemmas.List.Sorted.{IsPermutation-sym, length_permutation, Contains-permutation}
 use Rattle.cv_base.specs.Marker.{marker}
 use Rattle.cv_base.specs.Path.{Path, same_path, text_of}
-use Rattle.cv_base.specs.PathOrder.{path_total, same_path_is}
-use Rattle.cv_base.proofs.Laws.{first_true, second_true, fields_length}
+use Rattle.cv_base.proofs.Laws.{first_true, second_true, fields_length, path_total, same_path_is}
 use Rattle.cv_tree.specs.Tree.{Nodes, IsTree, at, is_directory, is_file}
 use Rattle.cv_tree.proofs.Laws.{get-at}
 use Rattle.cv_tree.specs.declared.node.Node.{Node}

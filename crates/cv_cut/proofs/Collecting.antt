@@ -13,8 +13,7 @@ use Rattle.std.proofs.lemmas.List.{nil_from_length}
 use Rattle.std.proofs.lemmas.List.Elements.{All-contains, Contains-append_left, Contains-append_right, Contains-get_or}
 use Rattle.std.proofs.lemmas.List.Filters.{length-filter_both}
 use Rattle.cv_base.specs.Path.{Path, path_cmp, covers}
-use Rattle.cv_base.specs.PathOrder.{path_total}
-use Rattle.cv_base.proofs.Laws.{first_true, second_true, covers_through}
+use Rattle.cv_base.proofs.Laws.{first_true, second_true, covers_through, path_total}
 use Rattle.cv_tree.proofs.Laws.{covers_before}
 use Rattle.cv_tree.specs.Tree.{Nodes}
 use Rattle.cv_tree.specs.declared.node.Node.{Node}

@@ -9,8 +9,7 @@ use Rattle.std.proofs.lemmas.List.Elements.{All-more, All-contains}
 use Rattle.std.proofs.lemmas.List.Sorted.{IsPermutation-reverse, IsPermutation-sym, Contains-permutation}
 use Rattle.std.proofs.lemmas.Option.{slice_get-get_or, slice_get_within, same_Some}
 use Rattle.cv_base.specs.Path.{Path, covers, key_of}
-use Rattle.cv_base.specs.PathOrder.{path_exact}
-use Rattle.cv_base.proofs.Laws.{some_there, image_at, stands_there}
+use Rattle.cv_base.proofs.Laws.{some_there, image_at, stands_there, path_exact}
 use Rattle.cv_tree.specs.Tree.{Nodes, IsTree, at}
 use Rattle.cv_tree.specs.declared.node.Node.{Node}
 use Rattle.cv_rows.specs.Made.{AreApart}

@@ -12,8 +12,7 @@ use Rattle.std.proofs.lemmas.List.{get_or-reverse, get_or-take, get_or_default, 
 use Rattle.std.proofs.lemmas.List.Kept.{IsStrictlySortedBy-filter}
 use Rattle.std.proofs.lemmas.List.Sorted.{IsPermutation-reverse, Contains-permutation}
 use Rattle.cv_base.specs.Path.{Path, path_cmp, covers}
-use Rattle.cv_base.specs.PathOrder.{path_total, path_exact}
-use Rattle.cv_base.proofs.Laws.{covers_below}
+use Rattle.cv_base.proofs.Laws.{covers_below, path_total, path_exact}
 use Rattle.cv_tree.proofs.Laws.{covers_before}
 use Rattle.cv_tree.specs.Tree.{Nodes}
 use Rattle.cv_cut.specs.Cuts.{cuts_of, is_cut}

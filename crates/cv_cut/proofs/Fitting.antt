@@ -2,8 +2,7 @@
 use Rattle.std.proofs.Common.{◌≡◌, ◌≢◌, ◌<◌, ◌^◌, true, false, [], ◌∷◌, ◌++◌, length, refl, sym, ap, subst, ◌∙◌, append-nil, inl, inr}
 use Rattle.std.specs.FinMap.{get, same_map}
 use Rattle.cv_base.specs.Path.{Path, covers, key_of}
-use Rattle.cv_base.specs.PathOrder.{path_total, path_exact}
-use Rattle.cv_base.proofs.Laws.{some_there, covers_itself}
+use Rattle.cv_base.proofs.Laws.{some_there, covers_itself, path_total, path_exact}
 use Rattle.cv_tree.specs.Tree.{Nodes, at, put}
 use Rattle.cv_tree.proofs.Laws.{get-at, get-put, at-put, at-at, at-put_apart}
 use Rattle.cv_cut.specs.Cuts.{is_cut, is_marked, is_near, region}

@@ -11,8 +11,7 @@ use Rattle.std.proofs.lemmas.Bool.{not-true}
 use Rattle.std.proofs.lemmas.List.Elements.{Contains-append_left, Contains-append_right, Contains-append_cases}
 use Rattle.cv_base.specs.Marker.{marker, ends_in}
 use Rattle.cv_base.specs.Path.{Path, covers, behind}
-use Rattle.cv_base.proofs.Laws.{behind-Some}
-use Rattle.cv_base.specs.PathOrder.{same_name_itself}
+use Rattle.cv_base.proofs.Laws.{behind-Some, same_name_itself}
 use Rattle.cv_tree.specs.Tree.{Nodes, at, put}
 use Rattle.cv_tree.specs.declared.node.Node.{Node}
 use Rattle.cv_tree.specs.declared.node.Node.TheVariants as node

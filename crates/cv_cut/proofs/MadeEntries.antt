@@ -8,8 +8,7 @@ use Rattle.std.specs.BTreeMap.{BTreeMap, Updates}
 use Rattle.std.specs.BTreeMap as tree
 use Rattle.std.proofs.lemmas.List.Elements.{All-contains, All-more, All-weaker}
 use Rattle.cv_base.specs.Path.{Path, path_cmp, covers}
-use Rattle.cv_base.specs.PathOrder.{path_total, same_path_is}
-use Rattle.cv_base.proofs.Laws.{not_there, behind-append}
+use Rattle.cv_base.proofs.Laws.{not_there, behind-append, path_total, same_path_is}
 use Rattle.cv_tree.specs.Tree.{Nodes, at}
 use Rattle.cv_tree.specs.declared.node.Node.{Node}
 use Rattle.cv_rows.specs.declared.nested.Nested.{Nested}

@@ -9,11 +9,10 @@ use Rattle.std.specs.declared.option.Option.{Option}
 use Rattle.std.proofs.lemmas.List.Elements.{All-contains}
 use Rattle.sha1.specs.Sha1.{sha1}
 use Rattle.cv_base.specs.Path.{Path, same_path}
-use Rattle.cv_base.specs.PathOrder.{path_total, same_path_is}
 use Rattle.cv_base.specs.ObjectId.{object_id}
 use Rattle.cv_base.specs.declared.id.ObjectId.{ObjectId}
 use Rattle.cv_base.specs.declared.id.Kind.TheVariants as id_kind
-use Rattle.cv_base.proofs.Laws.{some_same, not_both}
+use Rattle.cv_base.proofs.Laws.{some_same, not_both, path_total, same_path_is}
 use Rattle.cv_ports.specs.Shelf.{Shelf, HasOtherDigest}
 use Rattle.cv_rows.specs.Catalogue.{Contents, IsCatalogue, IsTransitionAt}
 use Rattle.cv_rows.specs.Places.{IsRoot, StandsAt, root, below}

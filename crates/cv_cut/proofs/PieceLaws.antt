@@ -11,9 +11,8 @@ use Rattle.std.specs.Ordering.{eq_by_cmp}
 use Rattle.std.proofs.lemmas.List.Elements.{All-contains, Contains-get_or, filter-append}
 use Rattle.cv_base.specs.Marker.{marker, ends_in}
 use Rattle.cv_base.specs.Path.{Path, IsPath, covers, key_of, path_cmp}
-use Rattle.cv_base.specs.PathOrder.{path_total, path_exact}
 use Rattle.cv_base.specs.declared.attr.Attr.{Attr}
-use Rattle.cv_base.proofs.Laws.{some_there, image_at, stands_there, covers_below}
+use Rattle.cv_base.proofs.Laws.{some_there, image_at, stands_there, covers_below, path_total, path_exact}
 use Rattle.cv_tree.specs.Tree.{Nodes, IsTree, at, put, is_directory, single, is_file}
 use Rattle.cv_tree.specs.Changes.{FitsUnder, nodes_of, subtree_of}
 use Rattle.cv_tree.specs.declared.node.Node.{Node}

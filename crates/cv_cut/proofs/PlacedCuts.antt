@@ -6,10 +6,9 @@ use Rattle.std.proofs.lemmas.List.{get_or_default}
 use Rattle.std.proofs.lemmas.List.Sorted.{IsPermutation-reverse, IsPermutation-sym, Contains-permutation}
 use Rattle.sha1.specs.Sha1.{sha1}
 use Rattle.cv_base.specs.Path.{Path, covers, overlap, key_of}
-use Rattle.cv_base.specs.PathOrder.{path_total}
 use Rattle.cv_base.specs.ObjectId.{object_id}
 use Rattle.cv_base.specs.declared.id.Kind.TheVariants.{Catalogue}
-use Rattle.cv_base.proofs.Laws.{some_there}
+use Rattle.cv_base.proofs.Laws.{some_there, path_total}
 use Rattle.cv_tree.specs.Tree.{Nodes, IsTree, at, put}
 use Rattle.cv_tree.specs.declared.node.Node.{Node}
 use Rattle.cv_tree.proofs.Laws.{at-at, at-put}

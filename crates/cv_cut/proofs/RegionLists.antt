@@ -7,8 +7,7 @@ use Rattle.std.specs.FinMap.Entries.{is_sorted-where_key}
 use Rattle.std.proofs.lemmas.Option.{slice_get-get_or}
 use Rattle.cv_base.specs.BytesOrder.{bytes_cmp}
 use Rattle.cv_base.specs.Path.{Path, path_cmp, text_of, key_of}
-use Rattle.cv_base.specs.PathOrder.{path_total, path_exact}
-use Rattle.cv_base.proofs.Laws.{text_of-injective}
+use Rattle.cv_base.proofs.Laws.{text_of-injective, path_total, path_exact}
 use Rattle.cv_tree.specs.Tree.{Nodes, at}
 use Rattle.cv_tree.specs.declared.node.Node.{Node}
 use Rattle.cv_rows.specs.Made.{AreParts, AreApart, keys_of, texts_of, by_key, by_text}

@@ -9,8 +9,7 @@ use Rattle.std.specs.Map.{keys_of}
 use Rattle.std.specs.FinMap.{entries, is_sorted, entries_sorted}
 use Rattle.std.specs.FinMap.Entries.{below_all}
 use Rattle.cv_base.specs.Path.{Path, path_cmp, behind}
-use Rattle.cv_base.specs.PathOrder.{path_total}
-use Rattle.cv_base.proofs.Laws.{behind-Some, first_true, second_true, is_less, cmp-behind}
+use Rattle.cv_base.proofs.Laws.{behind-Some, first_true, second_true, is_less, cmp-behind, path_total}
 use Rattle.cv_tree.specs.Tree.{Nodes, at, cons_behind, entries_behind}
 use Rattle.cv_tree.specs.declared.node.Node.{Node}
 use Rattle.cv_tree.proofs.Laws.{entries-from_entries}

@@ -6,8 +6,7 @@ use Rattle.std.specs.Prelude.{Contains}
 use Rattle.std.proofs.lemmas.List.Folds.{list_all_at}
 use Rattle.cv_base.specs.Marker.{marker, ends_in}
 use Rattle.cv_base.specs.Path.{Path, covers, same_path}
-use Rattle.cv_base.specs.PathOrder.{same_path_is}
-use Rattle.cv_base.proofs.Laws.{same_path-itself}
+use Rattle.cv_base.proofs.Laws.{same_path-itself, same_path_is}
 use Rattle.cv_tree.specs.Tree.{Nodes, put}
 use Rattle.sha1.specs.Sha1.{sha1}
 use Rattle.cv_rows.specs.Renewed as rows

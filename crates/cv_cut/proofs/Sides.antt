@@ -14,8 +14,7 @@ use Rattle.std.proofs.lemmas.Bool.{cases_lt, not-true}
 use Rattle.std.proofs.lemmas.List.{length-map}
 use Rattle.std.proofs.lemmas.List.Elements.{All-from_recursion, filter_passes}
 use Rattle.cv_base.specs.Path.{Path, path_cmp, covers}
-use Rattle.cv_base.specs.PathOrder.{path_total}
-use Rattle.cv_base.proofs.Laws.{is_less}
+use Rattle.cv_base.proofs.Laws.{is_less, path_total}
 use Rattle.cv_tree.specs.declared.node.Node.{Node}
 use Rattle.cv_tree.proofs.Laws.{covers_before, covers_between}
 use Rattle.cv_cut.specs.CutInner.{StandFrom}

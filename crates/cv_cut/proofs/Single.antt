@@ -9,7 +9,7 @@ use Rattle.std.specs.List.Sorted.{IsStrictlySortedBy}
 use Rattle.std.specs.FinMap.{empty, get, entries, values, from_entries, get-insert, get-empty, same_map}
 use Rattle.cv_base.specs.BytesOrder.{bytes_cmp}
 use Rattle.cv_base.specs.Path.{Path, path_cmp, text_of, key_of, no_key}
-use Rattle.cv_base.specs.PathOrder.{path_total, path_exact, same_path_is}
+use Rattle.cv_base.proofs.Laws.{path_total, path_exact, same_path_is}
 use Rattle.cv_base.specs.declared.attr.Attr.{Attr}
 use Rattle.cv_tree.specs.declared.node.Node.{Node}
 use Rattle.cv_tree.specs.declared.node.Node.TheVariants.{Dir}

@@ -14,8 +14,7 @@ use Rattle.std.proofs.lemmas.List.Sorted.{IsPermutation-refl, IsPermutation-sym,
 use Rattle.cv_rows.specs.Made.{AreApart}
 use Rattle.std.proofs.lemmas.Option.{slice_get-get_or}
 use Rattle.cv_base.specs.BytesOrder.{bytes_cmp}
-use Rattle.cv_base.specs.PathOrder.{name_exact}
-use Rattle.cv_base.proofs.Laws.{first_true, second_true, is_less}
+use Rattle.cv_base.proofs.Laws.{first_true, second_true, is_less, name_exact}
 use Rattle.cv_cut.proofs.Members.{first_there, later_there, comes_from}
 use Rattle.cv_cut.proofs.Entries.{found_there}
 use Rattle.cv_cut.proofs.Bools.{so}

@@ -4,7 +4,7 @@ use Rattle.std.specs.List.{All}
 use Rattle.std.specs.FinMap.{get, entries}
 use Rattle.std.proofs.lemmas.List.Elements.{All-filter, Contains-get_or}
 use Rattle.cv_base.specs.Path.{Path, covers}
-use Rattle.cv_base.specs.PathOrder.{path_total}
+use Rattle.cv_base.proofs.Laws.{path_total}
 use Rattle.cv_tree.specs.Tree.{Nodes}
 use Rattle.cv_tree.specs.declared.node.Node.{Node}
 use Rattle.cv_cut.specs.Cut.{region_at}

@@ -3,7 +3,7 @@ use Rattle.std.proofs.Common.{◌≡◌, ◌≢◌, false, List, [], ◌∷◌, 
 use Rattle.std.specs.FinMap.{get, same_map}
 use Rattle.cv_base.specs.Marker.{marker, ends_in}
 use Rattle.cv_base.specs.Path.{Path, covers}
-use Rattle.cv_base.specs.PathOrder.{path_total, path_exact}
+use Rattle.cv_base.proofs.Laws.{path_total, path_exact}
 use Rattle.cv_tree.specs.Tree.{Nodes, at, put}
 use Rattle.cv_tree.proofs.Laws.{at_rest, get-at, get-put}
 use Rattle.cv_cut.specs.Cuts.{is_marked, is_cut}

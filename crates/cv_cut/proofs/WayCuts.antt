@@ -8,8 +8,7 @@ use Rattle.std.proofs.lemmas.List.{map-append}
 use Rattle.std.proofs.lemmas.List.Elements.{filter-append}
 use mathlib.Core.List.{reverse-cons}
 use Rattle.cv_base.specs.Path.{Path}
-use Rattle.cv_base.specs.PathOrder.{path_total, path_exact}
-use Rattle.cv_base.proofs.Laws.{first_true, second_true}
+use Rattle.cv_base.proofs.Laws.{first_true, second_true, path_total, path_exact}
 use Rattle.cv_tree.specs.Tree.{Nodes, at}
 use Rattle.cv_tree.proofs.Laws.{get-at, at-at}
 use Rattle.cv_cut.specs.Cuts.{is_cut, is_marked, is_near, between}

@@ -9,7 +9,7 @@ use Rattle.std.proofs.lemmas.List.Elements.{All-contains, All-contains_itself, A
 use Rattle.std.proofs.lemmas.List.Kept.{Contains-dedup, Contains-from_dedup, IsStrictlySortedBy-dedup}
 use Rattle.std.proofs.lemmas.List.Sorted.{Contains-permutation, IsPermutation-sym}
 use Rattle.cv_base.specs.Path.{same_name, with_slash}
-use Rattle.cv_base.specs.PathOrder.{same_name_is}
+use Rattle.cv_base.proofs.Laws.{same_name_is}
 use Rattle.cv_base.specs.BytesOrder.{bytes_cmp}
 use Rattle.cv_folder.specs.declared.hold.Hold.{Hold}
 use Rattle.cv_folder.specs.declared.hold.Hold.TheVariants.{Absent, Refused, Unasked}

@@ -4,7 +4,7 @@ use Rattle.std.specs.Prelude.{Contains}
 use Rattle.std.proofs.lemmas.List.{take_more, take_all}
 use Rattle.std.proofs.lemmas.List.Elements.{All-contains, Contains-append_cases}
 use Rattle.cv_base.specs.Path.{Path, covers, same_path}
-use Rattle.cv_base.specs.PathOrder.{same_path_is}
+use Rattle.cv_base.proofs.Laws.{same_path_is}
 use Rattle.cv_rows.specs.Catalogue.{Contents, IsCatalogue, IsTransitionAt}
 use Rattle.cv_rows.specs.declared.nested.Nested.{Nested}
 use Rattle.cv_graft.specs.Way.{IsNext, HasNone}

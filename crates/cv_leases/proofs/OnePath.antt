@@ -4,7 +4,7 @@ use Rattle.std.proofs.lemmas.Option.{none-some, same_Some}
 use Rattle.std.proofs.lemmas.List.{length-append}
 use Rattle.std.specs.List.{AllByRecursion}
 use Rattle.cv_base.specs.Path.{Path, behind, overlap}
-use Rattle.cv_base.specs.PathOrder.{same_name_is, same_name_itself}
+use Rattle.cv_base.proofs.Laws.{same_name_is, same_name_itself}
 use Rattle.cv_links.specs.declared.id.Id.{Id}
 use Rattle.cv_links.specs.Arena.{value_at}
 use Rattle.cv_links.proofs.Laws.{here, later, cons_cases, none_within}

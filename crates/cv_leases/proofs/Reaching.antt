@@ -3,7 +3,7 @@ use Rattle.std.proofs.Common.{◌≡◌, ◌≢◌, ℕ, true, false, cond, List
 use Rattle.std.proofs.lemmas.Bool.{or_parts}
 use Rattle.std.proofs.lemmas.Option.{none-some, same_Some}
 use Rattle.cv_base.specs.Path.{Path, same_name, overlap}
-use Rattle.cv_base.specs.PathOrder.{same_name_is, same_name_itself}
+use Rattle.cv_base.proofs.Laws.{same_name_is, same_name_itself}
 use Rattle.cv_links.specs.declared.id.Id.{Id}
 use Rattle.cv_links.proofs.Laws.{here, later, id_cases}
 use Rattle.cv_leases.specs.declared.names.Place.{Place}

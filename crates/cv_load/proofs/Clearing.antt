@@ -3,10 +3,9 @@ use Rattle.std.proofs.Common.{◌≡◌, ◌≢◌, ℕ, ◌+◌, ◌<◌, ◌�
 use Rattle.std.specs.Prelude.{Contains, Result, Ok, Err}
 use Rattle.std.proofs.lemmas.Bool.{false_from_ne_true}
 use Rattle.std.specs.FinMap.{get, empty, get-insert}
-use Rattle.cv_base.specs.PathOrder.{path_total}
 use Rattle.cv_base.specs.Path.{Path, covers}
 use Rattle.cv_base.specs.Unless.{IsUnless}
-use Rattle.cv_base.proofs.Laws.{some_there, covers_itself}
+use Rattle.cv_base.proofs.Laws.{some_there, covers_itself, path_total}
 use Rattle.cv_tree.specs.Changes.{has_place, insertion}
 use Rattle.cv_tree.specs.Tree.{Nodes, single, is_directory}
 use Rattle.cv_tree.specs.declared.node.Node.{Node}

@@ -11,7 +11,7 @@ use Rattle.std.proofs.lemmas.List.Kept.{AllPairs-cons, AllPairs-filter}
 use Rattle.std.proofs.lemmas.Map.Made.{is_member-Decides, length-from_same_keys, IsDistinct-from_AllPairs}
 use Rattle.std.proofs.lemmas.Option.{slice_get-get_or}
 use Rattle.cv_base.specs.Path.{Path, path_cmp}
-use Rattle.cv_base.specs.PathOrder.{path_total, same_path_is}
+use Rattle.cv_base.proofs.Laws.{path_total, same_path_is}
 use Rattle.cv_base.specs.declared.id.ObjectId.{ObjectId}
 use Rattle.cv_ports.specs.Shelf.{Shelf}
 use Rattle.cv_tree.specs.Tree.{Nodes}

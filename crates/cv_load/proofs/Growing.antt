@@ -8,8 +8,7 @@ use Rattle.std.specs.FinMap.{get, insert, get-insert}
 use Rattle.std.proofs.lemmas.Bool.{cases_lt}
 use Rattle.std.proofs.lemmas.List.{get_or_default}
 use Rattle.cv_base.specs.Path.{Path, path_cmp, parent}
-use Rattle.cv_base.specs.PathOrder.{path_total, same_path_is}
-use Rattle.cv_base.proofs.Laws.{parent-append, some_there}
+use Rattle.cv_base.proofs.Laws.{parent-append, some_there, path_total, same_path_is}
 use Rattle.cv_tree.specs.Tree.{Nodes}
 use Rattle.cv_tree.specs.declared.node.Node.{Node}
 use Rattle.cv_rows.specs.Catalogue.{Contents, IsCatalogue}

@@ -9,7 +9,7 @@ use Rattle.std.specs.BTreeMap as tree
 use Rattle.cv_base.specs.BytesOrder.{bytes_cmp}
 use Rattle.cv_base.specs.Path.{Path, path_cmp}
 use Rattle.cv_base.specs.declared.id.ObjectId.{ObjectId}
-use Rattle.cv_base.specs.PathOrder.{path_total, same_name_is, same_name_itself, same_path_is}
+use Rattle.cv_base.proofs.Laws.{path_total, same_name_is, same_name_itself, same_path_is}
 use Rattle.cv_load.specs.declared.known_set.KnownSet.{KnownSet}
 use Rattle.cv_ports.specs.Shelf.{Shelf, HasMore}
 use Rattle.cv_load.proofs.GoodLaws.{good_more}

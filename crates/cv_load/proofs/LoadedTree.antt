@@ -3,7 +3,7 @@ use Rattle.std.proofs.Common.{◌≡◌, true, false, cond, [], Ok, Err, None, S
 use Rattle.std.specs.Ordering.{eq_by_cmp}
 use Rattle.std.specs.FinMap.{get, empty, get-insert, get-empty}
 use Rattle.cv_base.specs.Path.{Path, path_cmp}
-use Rattle.cv_base.specs.PathOrder.{path_total, same_path_is}
+use Rattle.cv_base.proofs.Laws.{path_total, same_path_is}
 use Rattle.cv_base.specs.declared.id.ObjectId.{ObjectId}
 use Rattle.cv_base.specs.declared.id.Kind.TheVariants as id_kind
 use Rattle.cv_ports.specs.Shelf.{Shelf}

@@ -3,13 +3,12 @@ use Rattle.std.proofs.Common.{◌≡◌, ℕ, zero, suc, ◌+◌, ◌<◌, ◌�
 use Rattle.std.specs.FinMap.{get, same_map}
 use Rattle.sha1.specs.Sha1.{sha1}
 use Rattle.cv_base.specs.Path.{Path}
-use Rattle.cv_base.specs.PathOrder.{path_total, path_exact}
 use Rattle.cv_base.specs.ObjectId.{object_id}
 use Rattle.cv_base.specs.declared.id.Kind.TheVariants.{Catalogue}
 use Rattle.cv_ports.specs.Shelf.{Shelf}
 use Rattle.cv_tree.specs.Tree.{Nodes, IsTree, at}
 use Rattle.cv_tree.specs.declared.node.Node.{Node}
-use Rattle.cv_base.proofs.Laws.{first_true, some_there}
+use Rattle.cv_base.proofs.Laws.{first_true, some_there, path_total, path_exact}
 use Rattle.cv_tree.proofs.Laws.{get-at, at-at, some_directory}
 use Rattle.cv_rows.specs.Catalogue.{catalogue_bytes}
 use Rattle.cv_rows.proofs.Lemmas.{one_file, has_file}

@@ -11,7 +11,7 @@ use Rattle.std.specs.Cmp.Lexicographic.{nat_list_cmp_total}
 use Rattle.std.specs.List.{AllByRecursion}
 use Rattle.std.specs.FinMap.{find, get, entries, get-entries}
 use Rattle.cv_base.specs.Path.{Path, path_cmp, text_of, parent, last_name_of}
-use Rattle.cv_base.specs.PathOrder.{same_path_is}
+use Rattle.cv_base.proofs.Laws.{same_path_is}
 use Rattle.cv_base.specs.BytesOrder.{bytes_cmp}
 use Rattle.cv_tree.specs.declared.node.Node.{Node}
 use Rattle.cv_tree.specs.Tree.{Nodes}

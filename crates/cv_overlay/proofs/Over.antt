@@ -6,7 +6,7 @@ use Rattle.std.specs.Ordering.{eq_by_cmp}
 use Rattle.std.specs.List.{filter}
 use Rattle.std.specs.FinMap.{find, get, entries, get-from_entries, get-entries}
 use Rattle.cv_base.specs.Path.{Path, path_cmp, last_name_of}
-use Rattle.cv_base.specs.PathOrder.{path_total, same_path_is}
+use Rattle.cv_base.proofs.Laws.{path_total, same_path_is}
 use Rattle.cv_tree.specs.declared.node.Node.{Node}
 use Rattle.cv_base.specs.Path.{IsPath}
 use Rattle.cv_tree.specs.declared.node.Node.TheVariants.{Dir, File, Link}

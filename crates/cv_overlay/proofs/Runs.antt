@@ -10,12 +10,11 @@ use Rattle.std.specs.List.{AllByRecursion}
 use Rattle.std.specs.List.Sorted.{IsStrictlySortedBy}
 use Rattle.sha1.specs.Sha1.{sha1}
 use Rattle.cv_base.specs.Path.{Path, IsPath, path_cmp, same_path, last_name_of}
-use Rattle.cv_base.specs.PathOrder.{path_total, same_path_is}
 use Rattle.cv_base.specs.declared.id.Kind.TheVariants.{Plain}
 use Rattle.cv_base.specs.declared.object.Object.{Object}
 use Rattle.cv_base.specs.ObjectId.{object_id}
 use Rattle.cv_base.specs.Sequence.{◌>>=◌}
-use Rattle.cv_base.proofs.Laws.{all_weaker}
+use Rattle.cv_base.proofs.Laws.{all_weaker, path_total, same_path_is}
 use Rattle.cv_ports.specs.declared.folder.FolderItem.{FolderItem}
 use Rattle.cv_ports.specs.declared.folder.FoundKind.{FoundKind}
 use Rattle.cv_ports.specs.declared.folder.FoundKind.TheVariants as kind

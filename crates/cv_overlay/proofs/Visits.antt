@@ -5,7 +5,7 @@ use Rattle.std.specs.Ordering.{eq_by_cmp}
 use Rattle.std.specs.FinMap.{get, insert, get-insert}
 use Rattle.std.proofs.lemmas.List.{length-take, take_all}
 use Rattle.cv_base.specs.Path.{Path, path_cmp}
-use Rattle.cv_base.specs.PathOrder.{path_total, same_path_is}
+use Rattle.cv_base.proofs.Laws.{path_total, same_path_is}
 use Rattle.cv_base.specs.declared.attr.Attr.{Attr}
 use Rattle.cv_ports.specs.Folder.{read_front}
 use Rattle.cv_tree.specs.declared.node.Node.{Node}

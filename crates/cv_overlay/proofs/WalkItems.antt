@@ -9,9 +9,8 @@ use Rattle.std.specs.Cmp.Lexicographic.{nat_list_cmp_total}
 use Rattle.std.specs.List.{AllByRecursion}
 use Rattle.std.specs.List.Sorted.{IsStrictlySortedBy}
 use Rattle.cv_base.specs.Path.{Path, IsPath, same_name, same_path, with_slash}
-use Rattle.cv_base.specs.PathOrder.{same_path_is, same_name_is, same_name_itself}
 use Rattle.cv_base.specs.BytesOrder.{bytes_cmp}
-use Rattle.cv_base.proofs.Laws.{all_weaker, cmp-behind, or_swap}
+use Rattle.cv_base.proofs.Laws.{all_weaker, cmp-behind, or_swap, same_path_is, same_name_is, same_name_itself}
 use Rattle.cv_ports.specs.declared.folder.FolderItem.{FolderItem}
 use Rattle.cv_ports.specs.Folder.{FolderView, Ascend, IsOrdered, names_of}
 use Rattle.cv_overlay.specs.declared.event.Event.{Event}

@@ -22,8 +22,7 @@ use Rattle.std.proofs.lemmas.Map.Keys as by_keys
 use Rattle.std.proofs.lemmas.Map.Keys.{IsDistinct-from_apart, IsDistinct-IsPermutation, Less-from_sorted, sorted_from_all_adjacent}
 use Rattle.cv_base.specs.BytesOrder.{bytes_cmp}
 use Rattle.cv_base.specs.Path.{Path, key_of, last_name_of, path_cmp, same_name, same_path}
-use Rattle.cv_base.specs.PathOrder.{path_total, same_name_is, same_path_is}
-use Rattle.cv_base.proofs.Laws.{same_name-symm, is_less, then_equal, rising}
+use Rattle.cv_base.proofs.Laws.{same_name-symm, is_less, then_equal, rising, path_total, same_name_is, same_path_is}
 use Rattle.cv_tree.specs.Tree.{Nodes, IsTree, at}
 use Rattle.cv_tree.specs.declared.node.Node.{Node}
 use Rattle.cv_tree.proofs.Laws.{get-at}

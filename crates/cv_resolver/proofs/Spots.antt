@@ -11,7 +11,6 @@ use Rattle.std.proofs.lemmas.List.{map-append, length-map}
 use Rattle.std.proofs.lemmas.List.Elements.{Contains-push, Contains-push_cases, Contains-append_left}
 use Rattle.sha1.specs.Sha1.{sha1}
 use Rattle.cv_base.specs.Path.{Path, parent, same_path}
-use Rattle.cv_base.specs.PathOrder.{path_total, same_path_is}
 use Rattle.std.specs.Ordering.{is_eq}
 use Rattle.std.specs.Cmp.{tied_itself}
 use Rattle.cv_tree.specs.Tree.{Nodes, IsTree, is_directory}
@@ -20,7 +19,7 @@ use Rattle.cv_rows.specs.Places.{StandsAt}
 use Rattle.cv_rows.specs.Catalogue.{Contents, catalogue_bytes}
 use Rattle.cv_tree.specs.declared.node.Node.TheVariants.{Dir, Link}
 use Rattle.cv_base.specs.declared.attr.Attr.{Attr}
-use Rattle.cv_base.proofs.Laws.{parent-append}
+use Rattle.cv_base.proofs.Laws.{parent-append, path_total, same_path_is}
 use Rattle.cv_rows.specs.declared.row.Row.{Row}
 use Rattle.cv_rows.specs.declared.nested.Nested.{Nested}
 use Rattle.cv_rows.specs.declared.row_kind.RowKind.TheVariants as kind

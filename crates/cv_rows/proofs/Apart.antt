@@ -13,8 +13,7 @@ use Rattle.std.proofs.lemmas.Map.Text.{is_eq-slice_cmp}
 use Rattle.std.proofs.lemmas.Option.{slice_get_within, get_or_from_slice_get, slice_get-get_or}
 use Rattle.std.proofs.lemmas.Slice.Eq.{bytes_eq-Decides}
 use Rattle.cv_base.specs.Path.{same_name}
-use Rattle.cv_base.specs.PathOrder.{same_name_is, same_name_itself}
-use Rattle.cv_base.proofs.Laws.{same_name-symm}
+use Rattle.cv_base.proofs.Laws.{same_name-symm, same_name_is, same_name_itself}
 use Rattle.cv_rows.specs.Made.{IsTwice, AreApart}
 
 -- no two are the same just where the test tells all apart

@@ -1,9 +1,8 @@
 -- Paths that cover a path with one more name.
 use Rattle.std.proofs.Common.{◌≡◌, ◌≢◌, ℕ, true, false, cond, List, [], ◌∷◌, ◌++◌, None, is_some, refl, sym, subst}
 use Rattle.cv_base.specs.Path.{Path, behind, covers, same_name}
-use Rattle.cv_base.specs.PathOrder.{same_name_is, same_name_itself}
 use Rattle.cv_base.specs.Marker.{ends_in}
-use Rattle.cv_base.proofs.Laws.{only_root}
+use Rattle.cv_base.proofs.Laws.{only_root, same_name_is, same_name_itself}
 
 -- what covers a path with one more name, and not the path, is that path with the name
 pub covers_last : (p q : Path) (name : List ℕ) → covers p q ≡ false → covers p (q ++ name ∷ []) ≡ true → p ≡ q ++ name ∷ []

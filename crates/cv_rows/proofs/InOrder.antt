@@ -16,8 +16,7 @@ use Rattle.std.proofs.lemmas.Map.Keys as keys
 use Rattle.std.proofs.lemmas.Option.{slice_get_within, get_or_from_slice_get, slice_get-get_or}
 use Rattle.cv_base.specs.BytesOrder.{bytes_cmp}
 use Rattle.cv_base.specs.Path.{same_name}
-use Rattle.cv_base.specs.PathOrder.{name_exact, same_name_is}
-use Rattle.cv_base.proofs.Laws.{rising}
+use Rattle.cv_base.proofs.Laws.{rising, name_exact, same_name_is}
 use Rattle.cv_rows.specs.Made.{AreApart}
 use Rattle.cv_rows.proofs.Sorting.{sorted_all}
 use Rattle.cv_rows.proofs.Apart.{distinct_from_apart, distinct_moved}

@@ -4,8 +4,7 @@ use Rattle.std.specs.Prelude.{Contains, MatchBool}
 use Rattle.std.proofs.lemmas.Bool.{and_from, and_parts}
 use Rattle.std.proofs.lemmas.List.{take_more, take_all, get_or_default}
 use Rattle.cv_base.specs.Path.{Path, key_of, covers, same_path}
-use Rattle.cv_base.specs.PathOrder.{same_path_is}
-use Rattle.cv_base.proofs.Laws.{last_same, same_path-itself}
+use Rattle.cv_base.proofs.Laws.{last_same, same_path-itself, same_path_is}
 use Rattle.cv_rows.specs.Catalogue.{Contents, IsCatalogue, is_below}
 use Rattle.cv_rows.specs.Listing.{IsListing}
 use Rattle.cv_rows.specs.ListingInner.{is_in}

@@ -5,8 +5,7 @@ use Rattle.std.specs.List.{HoldsAt, All, list_any}
 use Rattle.std.specs.List.Sorted.{IsStrictlySortedBy}
 use Rattle.std.proofs.lemmas.Slice.Eq.{bytes_eq-Decides}
 use Rattle.cv_base.specs.Path.{Path, IsPath, key_of, same_path}
-use Rattle.cv_base.specs.PathOrder.{same_path_is}
-use Rattle.cv_base.proofs.Laws.{first_true, second_true, same_path-itself}
+use Rattle.cv_base.proofs.Laws.{first_true, second_true, same_path-itself, same_path_is}
 use Rattle.cv_rows.specs.Row.{same_kind}
 use Rattle.cv_rows.specs.Places.{StandsAt}
 use Rattle.cv_rows.specs.ParentsInner.{IsPlacing, HasPath}

@@ -14,8 +14,7 @@ use Rattle.std.proofs.lemmas.List.{get_or_default}
 use Rattle.std.proofs.lemmas.Map.Keys.{Less-from_sorted, sorted_from_all_adjacent}
 use Rattle.cv_base.specs.BytesOrder.{bytes_cmp}
 use Rattle.cv_base.specs.Path.{text_of}
-use Rattle.cv_base.specs.PathOrder.{name_exact}
-use Rattle.cv_base.proofs.Laws.{not_less}
+use Rattle.cv_base.proofs.Laws.{not_less, name_exact}
 use Rattle.cv_rows.specs.Catalogue.{row_cmp, nested_cmp}
 use Rattle.cv_rows.specs.declared.row.Row.{Row}
 

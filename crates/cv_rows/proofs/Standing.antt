@@ -11,8 +11,7 @@ use Rattle.std.proofs.lemmas.List.{take_more, get_or_default}
 use Rattle.std.proofs.lemmas.List.Elements.{Contains-get_or}
 use Rattle.std.proofs.lemmas.Slice.Eq.{bytes_eq-Decides}
 use Rattle.cv_base.specs.Path.{Path, same_name, key_of, same_path}
-use Rattle.cv_base.specs.PathOrder.{path_total, same_name_is, same_name_itself, same_path_is}
-use Rattle.cv_base.proofs.Laws.{last_same}
+use Rattle.cv_base.proofs.Laws.{last_same, path_total, same_name_is, same_name_itself, same_path_is}
 use Rattle.cv_rows.specs.Catalogue.{Contents, IsCatalogue, row_cmp}
 use Rattle.cv_rows.specs.Places.{IsRoot, IsChild, StandsAt, root, below}
 use Rattle.cv_rows.specs.ParentsInner.{IsParentOf}

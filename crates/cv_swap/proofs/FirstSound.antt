@@ -6,10 +6,9 @@ use Rattle.std.specs.List.{filter}
 use Rattle.std.specs.FinMap.{empty, get, get-insert, get-empty}
 use Rattle.sha1.specs.Sha1.{sha1}
 use Rattle.cv_base.specs.Path.{Path, path_cmp}
-use Rattle.cv_base.specs.PathOrder.{path_total}
 use Rattle.cv_base.specs.ObjectId.{object_id}
 use Rattle.cv_base.specs.declared.id.Kind.TheVariants.{Catalogue}
-use Rattle.cv_base.proofs.Laws.{digest_sha1, no_target}
+use Rattle.cv_base.proofs.Laws.{digest_sha1, no_target, path_total}
 use Rattle.cv_ports.specs.Shelf.{Shelf, IsShelf}
 use Rattle.cv_base.specs.Attr.{IsAttr, new_directory}
 use Rattle.cv_base.specs.Moment.{IsMoment}

@@ -6,7 +6,7 @@ use Rattle.std.specs.declared.option.Option.{Option}
 use Rattle.std.specs.declared.option.Option.TheVariants.{None, Some}
 use Rattle.std.specs.FinMap.{empty, insert, get, get-insert}
 use Rattle.cv_base.specs.Path.{Path, path_cmp, IsPath}
-use Rattle.cv_base.specs.PathOrder.{path_total, same_path_is}
+use Rattle.cv_base.proofs.Laws.{path_total, same_path_is}
 use Rattle.cv_tree.specs.declared.node.Node.{Node}
 use Rattle.cv_tree.specs.Tree.{Nodes, IsTree, at}
 use Rattle.cv_tree.specs.Changes.{nodes_of, subtree_of, FitsUnder}

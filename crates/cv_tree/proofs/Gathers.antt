@@ -14,8 +14,7 @@ use Rattle.std.proofs.lemmas.List.Elements.{All-head, All-tail, filter_passes}
 use Rattle.std.proofs.lemmas.List.Kept.{IsStrictlySortedBy-filter}
 use Rattle.std.proofs.lemmas.Map.Keys.{sorted_head, sorted_tail}
 use Rattle.cv_base.specs.Path.{Path, path_cmp, behind, covers}
-use Rattle.cv_base.specs.PathOrder.{path_total, path_exact, same_path_is}
-use Rattle.cv_base.proofs.Laws.{behind-append, behind-Some}
+use Rattle.cv_base.proofs.Laws.{behind-append, behind-Some, path_total, path_exact, same_path_is}
 use Rattle.cv_tree.specs.Tree.{entries_behind, entries_under, entries_outside, at, under, outside_with, put}
 use Rattle.cv_tree.proofs.PathRuns.{stands_from, entries_behind-from, entries_behind-past, keys_of-from}
 use Rattle.cv_tree.proofs.Replacements.{or_else, or_else-None, at_rest, find-entries_behind, find-entries_under, find-entries_outside, get-at, get-under, get-outside_with}

@@ -4,8 +4,7 @@ use Rattle.std.specs.Prelude.{IfSome}
 use Rattle.std.specs.declared.option.Option.TheVariants.{None, Some}
 use Rattle.std.specs.FinMap.{empty, get, get-empty, same_map}
 use Rattle.cv_base.specs.Path.{Path, path_cmp, covers, overlap}
-use Rattle.cv_base.specs.PathOrder.{path_total, path_exact}
-use Rattle.cv_base.proofs.Laws.{not_before}
+use Rattle.cv_base.proofs.Laws.{not_before, path_total, path_exact}
 use Rattle.cv_tree.specs.Tree.{Nodes, is_directory, HasParents, IsPart, IsTree, at, put}
 use Rattle.cv_tree.specs.Changes.{has_place, nodes_of, subtree_of}
 use Rattle.cv_tree.proofs.Replacements.{get-at, kept-put}

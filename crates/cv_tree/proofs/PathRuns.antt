@@ -11,7 +11,7 @@ use Rattle.std.specs.List.{AllByRecursion, filter}
 use Rattle.std.specs.Map.{keys_of}
 use Rattle.std.proofs.lemmas.Bool.{not-true}
 use Rattle.cv_base.specs.Path.{Path, path_cmp, same_name, behind, covers}
-use Rattle.cv_base.specs.PathOrder.{path_total, name_exact, same_name_is, same_name_itself}
+use Rattle.cv_base.proofs.Laws.{path_total, name_exact, same_name_is, same_name_itself}
 use Rattle.cv_base.specs.BytesOrder.{bytes_cmp}
 use Rattle.cv_tree.specs.Tree.{entries_behind, cons_behind}
 

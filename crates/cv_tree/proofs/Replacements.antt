@@ -6,8 +6,7 @@ use Rattle.std.specs.Ordering.{is_eq, eq_by_cmp}
 use Rattle.std.specs.Cmp.{eq_by_cmp_equiv}
 use Rattle.std.specs.FinMap.{FinMap, find, get, entries, get-from_entries, get-entries, same_map}
 use Rattle.cv_base.specs.Path.{Path, path_cmp, behind, covers, overlap}
-use Rattle.cv_base.specs.PathOrder.{path_total, path_exact, same_path_is}
-use Rattle.cv_base.proofs.Laws.{is_behind, eq_by_cmp-append, behind-Some, behind-append, overlap-from_covers}
+use Rattle.cv_base.proofs.Laws.{is_behind, eq_by_cmp-append, behind-Some, behind-append, overlap-from_covers, path_total, path_exact, same_path_is}
 use Rattle.cv_tree.specs.Tree.{cons_behind, entries_behind, entries_under, entries_outside, at, under, outside_with, put}
 
 symm : (a b : Path) → eq_by_cmp path_cmp a b ≡ eq_by_cmp path_cmp b a

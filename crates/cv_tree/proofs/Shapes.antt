@@ -7,9 +7,8 @@ use Rattle.std.specs.Ordering.{eq_by_cmp}
 use Rattle.std.specs.FinMap.{empty, insert, get, get-empty, get-insert, same_map}
 use Rattle.cv_base.specs.Path.{Path, path_cmp, same_name, behind, parent, IsPath}
 use Rattle.cv_base.specs.Unless.{IsUnless}
-use Rattle.cv_base.specs.PathOrder.{path_total, path_exact, same_name_is, same_path_is}
 use Rattle.cv_base.specs.declared.memory.NoMemory.{NoMemory as Lack}
-use Rattle.cv_base.proofs.Laws.{behind-Some, parent-append}
+use Rattle.cv_base.proofs.Laws.{behind-Some, parent-append, path_total, path_exact, same_name_is, same_path_is}
 use Rattle.cv_tree.specs.declared.node.Node.{Node}
 use Rattle.cv_tree.specs.declared.node.Node.TheVariants.{Dir}
 use Rattle.cv_tree.specs.declared.tree_fault.TreeFault.{TreeFault}

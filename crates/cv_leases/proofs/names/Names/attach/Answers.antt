@@ -1,5 +1,5 @@
 use Rattle.std.proofs.Common.{◌∙◌, Some, false, is_some, ap, refl}
-use Rattle.cv_base.specs.PathOrder.{same_name_itself}
+use Rattle.cv_base.proofs.Laws.{same_name_itself}
 use Rattle.cv_links.specs.Lends.{with_value}
 use Rattle.cv_leases.proofs.Places.{places_attached, leases_attached, names_attached, found_new}
 use Rattle.cv_leases.proofs.Rooted.{same_names}

@@ -1,6 +1,6 @@
 use Rattle.std.proofs.Common.{◌∙◌, sym, ap}
 use Rattle.std.specs.FinMap as map
-use Rattle.cv_base.specs.PathOrder.{path_total}
+use Rattle.cv_base.proofs.Laws.{path_total}
 use Rattle.cv_tree.proofs.Maps.{entries-from_entries}
 use Rattle.cv_tree.proofs.node_map.NodeMap.entries.Goals as goal
 

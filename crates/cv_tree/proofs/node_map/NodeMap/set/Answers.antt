@@ -1,6 +1,6 @@
 use Rattle.std.proofs.Common.{◌∙◌, ap}
 use Rattle.std.specs.FinMap as map
-use Rattle.cv_base.specs.PathOrder.{path_total, path_exact}
+use Rattle.cv_base.proofs.Laws.{path_total, path_exact}
 use Rattle.cv_tree.proofs.Maps.{insert-lookup}
 use Rattle.cv_tree.proofs.node_map.NodeMap.set.Goals as goal
 
