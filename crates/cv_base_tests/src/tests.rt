@@ -1,8 +1,8 @@
 //! What the contracts can't say: values from outside, and that calls find memory.
 
 use cv_base::{
-    Kind, Name, ObjectId, PathFault, RepoPath, Target, Token, cmp_texts, read_decimal, split_u16,
-    split_u32, split_u64,
+    Kind, Name, ObjectId, PathFault, RepoPath, Target, Token, cmp_texts, read_array, read_bytes,
+    read_decimal, read_length, read_u16, read_u32, read_u64, split_u16, split_u32, split_u64,
 };
 use std::alloc::Global;
 use std::cmp::Ordering;
@@ -398,4 +398,11 @@ fn fields_are_big_endian(rt: HostRuntime) {
     assert!(rt; split_u32(b"\x01\x02\x03\x04").is_some_and(|field| field.0 == 0x0102_0304));
     assert!(rt; split_u64(b"\0\0\0\0\0\0\x01\x02").is_some_and(|field| field.1.is_empty()));
     assert!(rt; split_u64(b"\0\0\0\0\0\0\x01").is_none());
+    assert!(rt; read_u16('s', b"\x01\x02\x03").is_ok_and(|field| field.0 == 0x0102));
+    assert!(rt; read_u32('s', b"\x01\x02\x03\x04").is_ok_and(|field| field.0 == 0x0102_0304));
+    assert!(rt; read_u64('s', b"\0\0\0\0\0\0\x01").is_err_and(|fault| fault == 's'));
+    assert!(rt; read_bytes('s', 2, b"abc").is_ok_and(|field| field.1.first() == Some(&b'c')));
+    assert!(rt; read_array::<2, char>('s', b"abc").is_ok_and(|field| field.0 == *b"ab"));
+    assert!(rt; read_length('s', 'l', 3, b"\0\x03abc").is_ok_and(|field| field.0 == 3));
+    assert!(rt; read_length('s', 'l', 2, b"\0\x03abc").is_err_and(|fault| fault == 'l'));
 }
