@@ -55,7 +55,8 @@ pub data Call : Type 0 where
 abbrev pub moments_in : Call → List ℕ
 moments_in (asked o now r) = now ∷ []
 moments_in (listed now lines) = now ∷ []
-moments_in other = []
+moments_in (fetched id r) = []
+moments_in (told head) = []
 
 abbrev pub moments_of : List Call → List ℕ
 moments_of calls = flat_map moments_in calls
@@ -73,7 +74,8 @@ fault_in_fetch other = 0
 abbrev pub faults_in : Call → ℕ
 faults_in (asked o now r) = fault_in_reply r
 faults_in (fetched id r) = fault_in_fetch r
-faults_in other = 0
+faults_in (listed now lines) = 0
+faults_in (told head) = 0
 
 abbrev pub faults_of : List Call → ℕ
 faults_of calls = sum_by faults_in calls

@@ -132,7 +132,19 @@ detail_of (Repository fault) = text_of fault
 detail_of (Refused cause) = refused_text_of cause
 detail_of (Changes fault path) = path
 detail_of (Served fault) = object_text_of fault
-detail_of other = []
+detail_of Done = []
+detail_of Usage = []
+detail_of InputFailed = []
+detail_of OutputFailed = []
+detail_of StoreFailed = []
+detail_of LinkFailed = []
+detail_of JournalFull = []
+detail_of (NoAnswer fault) = []
+detail_of BadReply = []
+detail_of BadRequest = []
+detail_of FolderFailed = []
+detail_of BadKeys = []
+detail_of OutOfMemory = []
 
 -- a line of the program: its name, what is said, and of what
 abbrev pub said : List ℕ → List ℕ → List ℕ
