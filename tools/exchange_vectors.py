@@ -309,6 +309,8 @@ def failing():
     # two requests in one read, behind which the source fails: both are answered
     yield line("grants", 100, 2, 0, NONE + NONE, NOT_FOUND * 2, "ReadFault", "")
     yield line("grants", 100, 1, 0, NONE, "", "ReadFault", "")
+    # nothing is read behind the end
+    yield line("grants", 100, 3, 0, NONE + NONE, NOT_FOUND * 2, CLEAN, "")
     # a head, a body and a flush
     top = NOT_FOUND.index("Not Found\n", 20)
     for call, taken in (1, ""), (2, NOT_FOUND[:top]), (3, NOT_FOUND), (4, NOT_FOUND):
@@ -325,6 +327,8 @@ def failing():
     said = granted("1-1")
     for call, taken in (1, ""), (3, said):
         yield line("grants", 100, 0, call, lease("/a"), taken, "WriteFault", "lease k1 on '/a';", 0, 0)
+    # a flush that fails where the next request is held whole: that isn't asked of the desk
+    yield line("grants", 1000, 0, 3, lease("/a") + lease("/b"), said, "WriteFault", "lease k1 on '/a';", 0, 0)
 
 
 # ---- the table
