@@ -4,8 +4,9 @@
     examples/curl.py [PROGRAM]
 
 A listener of Python on a free port of the loopback starts `cvkit stdio` on each connection, which is its input and its output.
-curl makes all its requests on one: a lease, the pack, one that is refused, and each object. With the head of the pack it sends
-`Expect: 100-continue`, and would wait for the line for longer than it is given to end.
+curl makes its requests on one: a lease, the pack, and each object; and on another the pack by a wrong signature, which is refused.
+With the head of the pack it sends `Expect: 100-continue`, and would wait for the line for longer than it is given to end. The
+program holds the objects of the pack and not its body beside them, and of the pack that it refuses nothing: so its memory shows.
 """
 import os
 import shutil
@@ -13,6 +14,7 @@ import socket
 import subprocess
 import sys
 import threading
+import time
 
 sys.path.insert(0, os.path.join(os.path.dirname(os.path.abspath(__file__)), "..", "tools"))
 from cvkit_client import (
@@ -28,6 +30,7 @@ from cvkit_client import (
     pack,
     pack_header,
     payload_message,
+    peak_of,
     plain,
     repository,
 )
@@ -36,6 +39,8 @@ from cvkit_client import (
 SIZE, COUNT = 1 << 20, 20
 # The seconds that curl is given, and those for which it would wait for `100 Continue`.
 PATIENCE, WAIT = 60, 600
+# The most memory of the program, in MiB, where it stores the pack, and where it passes it over.
+STORES, PASSES = 36, 16
 TOKEN = "1-1"
 INTERIM = "HTTP/1.1 100 Continue"
 
@@ -44,7 +49,7 @@ class Listener:
     """The program serving each connection of a port, one after another."""
 
     def __init__(self, program, folder):
-        self.program, self.folder, self.ends = program, folder, []
+        self.program, self.folder, self.ends, self.peaks = program, folder, [], []
         self.socket = socket.create_server(("127.0.0.1", 0))
         self.thread = threading.Thread(target=self.serve, daemon=True)
 
@@ -65,8 +70,14 @@ class Listener:
                 return
             with connection:
                 words = [self.program, "stdio", REPOSITORY]
-                ran = subprocess.run(words, cwd=self.folder, stdin=connection, stdout=connection, stderr=subprocess.PIPE)
-                self.ends.append((ran.returncode, ran.stderr))
+                child = subprocess.Popen(words, cwd=self.folder, stdin=connection, stdout=connection, stderr=subprocess.PIPE)
+                peak = 0
+                while child.poll() is None:
+                    peak = max(peak, peak_of(child.pid))
+                    time.sleep(0.002)
+                self.ends.append((child.returncode, child.stderr.read()))
+                child.stderr.close()
+                self.peaks.append(peak)
 
 
 def written(folder, name, content):
@@ -122,8 +133,14 @@ def script(program, _short):
         listener = Listener(program, folder)
         with listener as url:
             reads = [[f"{url}/cvmfs/{REPOSITORY}/{object_name(id_)}"] for id_, _ in objects]
-            heads, bodies = curl(folder, posts(folder, url, objects) + reads)
-        expect(listener.ends == [(0, b"")], "one connection, and how the program ended on it", listener.ends)
+            asks, stores, refused = posts(folder, url, objects)
+            heads, bodies = curl(folder, [asks, stores, *reads])
+            for one, more in zip((heads, bodies), curl(folder, [refused])):
+                one.insert(2, more[0])
+        expect(listener.ends == [(0, b"")] * 2, "two connections, and how the program ended on them", listener.ends)
+        for most, peak, what in zip((STORES, PASSES), listener.peaks, ("stored", "passed over"), strict=True):
+            expect(peak <= most, f"the MiB of the program where the pack is {what}", peak)
+            print(f"the pack was {what} in {peak:.1f} MiB")
     expect(f'"session_token":"{TOKEN}"'.encode() in bodies[0], "a lease", bodies[0])
     expect(bodies[1] == b'{"status":"ok"}', "the pack", bodies[1])
     expect(bodies[2] == b'{"reason":"wrong_mac","status":"error"}', "the pack by a wrong signature", bodies[2])
