@@ -84,7 +84,7 @@ pub fn session<K: Desk, S: Signer, C: Clock, H: Hold, R: Source<Beside = W> + Dr
     ensures reads { HasCause (R.faults wire.old.source) (R.faults wire.new.source) (result ≡ ReadFault) }
     ensures writes { HasCause (W.faults sink.old) (W.faults sink.new) (result ≡ WriteFault) }
 
-    // No turn is taken after a stream failed: a session that ends otherwise met no such failure.
+    // A session in which a stream failed ends by that: behind a failed write nothing is read, behind a failed read nothing written.
     ensures no_read_failed { result ≢ ReadFault → R.faults wire.new.source ≡ R.faults wire.old.source }
     ensures no_write_failed { result ≢ WriteFault → W.faults sink.new ≡ W.faults sink.old }
     ensures named { K.named desk.new ≡ K.named desk.old }

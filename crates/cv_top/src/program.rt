@@ -309,7 +309,7 @@ pub fn run<
     ensures links { HasCause (N.faults parts.dial) (N.faults result.1.dial) (result.0 ≡ LinkFailed) }
     ensures folders { HasCause (F.faults parts.folder) (F.faults result.1.folder) (result.0 ≡ FolderFailed) }
 
-    // No line or request is taken after the input or the output failed: what ends otherwise met no such failure.
+    // Where the input or the output failed, the program ends by that: behind a failed write nothing is read, and the other way.
     ensures no_read_failed { result.0 ≢ InputFailed → R.faults result.1.input ≡ R.faults parts.input }
     ensures no_write_failed { result.0 ≢ OutputFailed → W.faults result.1.output ≡ W.faults parts.output }
 
