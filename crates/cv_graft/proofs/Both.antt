@@ -1,8 +1,10 @@
 -- What comes of the catalogues on the way to a path in both trees.
-use Rattle.std.proofs.Common.{◌≡◌, ◌≢◌, ℕ, List, [], ◌++◌, length, Some, None, Result, Ok, Err, sym, ap, subst, ◌∙◌}
+use Rattle.std.proofs.Common.{◌≡◌, ◌≢◌, ℕ, true, false, List, [], ◌∷◌, ◌++◌, length, Some, None, Result, Ok, Err, inl, inr, sym, ap, subst, ◌∙◌}
 use Rattle.std.specs.Option.{option_map}
 use Rattle.std.specs.Prelude.{IsSomeAnd}
 use Rattle.std.specs.declared.option.Option.{Option}
+use Rattle.sha1.specs.Sha1.{sha1}
+use Rattle.cv_base.specs.Marker.{marker, ends_in}
 use Rattle.cv_base.specs.Path.{Path}
 use Rattle.cv_base.specs.ObjectId.{object_id}
 use Rattle.cv_base.specs.declared.id.ObjectId.{ObjectId}
@@ -10,44 +12,50 @@ use Rattle.cv_base.specs.declared.id.Kind.{Kind}
 use Rattle.cv_base.specs.declared.id.Kind.TheVariants.{Catalogue}
 use Rattle.cv_base.specs.declared.object.Object.{Object}
 use Rattle.cv_ports.specs.Shelf.{Shelf}
-use Rattle.cv_tree.specs.Tree.{Nodes, at, put}
+use Rattle.cv_tree.specs.Changes.{has_place}
+use Rattle.cv_tree.specs.Tree.{Nodes, IsTree, at, put}
+use Rattle.cv_tree.proofs.Laws.{IsTree-put_at}
 use Rattle.cv_rows.specs.Catalogue.{Contents}
-use Rattle.cv_cut.specs.Catalogues.{cat, root_of, Fits}
+use Rattle.cv_cut.specs.Catalogues.{cat, contents_of, root_of, Fits}
 use Rattle.cv_cut.specs.Reached.{HasCatalogue, root_place}
 use Rattle.cv_cut.specs.declared.load_fault.LoadFault.{LoadFault}
 use Rattle.cv_cut.specs.declared.load_fault.LoadFault.TheVariants as load
-use Rattle.cv_cut.proofs.Lemmas.{put-root}
+use Rattle.cv_cut.specs.Replaced.{Grafting}
+use Rattle.cv_cut.proofs.Lemmas.{made_all, put-root, region_apart}
 use Rattle.cv_graft.specs.Both.{IsGrafted, GraftsBoth, GivesOffered}
 use Rattle.cv_graft.specs.Directories.{IsHolder}
 use Rattle.cv_graft.specs.Faults.{of_load}
-use Rattle.cv_graft.specs.Graft.{Grafts, HasWays}
-use Rattle.cv_graft.specs.Joins.{IsJoined}
-use Rattle.cv_graft.specs.JoinsInner.{Joins}
-use Rattle.cv_graft.specs.Makes.{Makes}
+use Rattle.cv_graft.specs.Graft.{Grafts, HasWay, HasWays}
+use Rattle.cv_graft.specs.Joins.{IsJoined, CollidesAt, IsFullAt}
+use Rattle.cv_graft.specs.JoinsInner.{from_tree}
+use Rattle.cv_graft.specs.Makes.{Makes, as_object}
 use Rattle.cv_graft.specs.MakesInner.{IsRemade, RefusesOn, Remakes}
-use Rattle.cv_graft.specs.Way.{IsOnWay}
+use Rattle.cv_graft.specs.Way.{IsOfEither, IsOnWay, TellsDamage}
 use Rattle.cv_graft.specs.declared.grafted.Grafted.{Grafted}
 use Rattle.cv_graft.specs.declared.made.Made.{Made}
 use Rattle.cv_graft.specs.declared.graft_fault.GraftFault.{GraftFault}
 use Rattle.cv_graft.specs.declared.graft_fault.GraftFault.TheVariants as fault
+use Rattle.cv_graft.proofs.Finding.{cuts_way}
 use Rattle.cv_graft.proofs.Holders.{top_at}
+use Rattle.cv_graft.proofs.Joined.{joined_full, joined_shares, joined_tree}
+use Rattle.cv_graft.proofs.Rebuilds.{IsOfHolder, IsOfTree, holder_there, top_tree, undamaged}
 
 -- ---- from the root on
 
 pub grafted_top : (shelf : Shelf) (newest : ObjectId) (offered : List ℕ) (top p : Path) (c o : Contents) (before after : List Object) (made : Made) (g : Grafted) → top ≡ [] → HasCatalogue shelf newest.hash (record { path = top; row = None }) c
-    → IsHolder shelf offered p o → IsRemade shelf (λ k r. Joins k o p r) p c [] before after made → before ≡ [] → g ≡ record { root = object_id made.hash Catalogue; size = made.size; added = after } → IsGrafted shelf newest.hash offered p g
+    → IsHolder shelf offered p o → IsRemade shelf (from_tree o p) p c [] before after made → before ≡ [] → g ≡ record { root = object_id made.hash Catalogue; size = made.size; added = after } → IsGrafted shelf newest.hash offered p g
 grafted_top shelf newest offered top p c o before after made g none there held m first is = record {
   top = c;
   there = top_at shelf newest.hash top c none there;
   other = o;
   held = held;
   made = m.is;
-  makes = subst (λ (l : List Object). Makes shelf (λ k x. IsJoined k o p x) p c m.is l) (sym (ap (λ (x : Grafted). x.added) is ∙ m.added ∙ ap (λ (l : List Object). l ++ m.objects) first)) m.makes;
+  makes = subst (λ (l : List Object). Makes shelf (λ k made_. IsJoined k o p made_) p c m.is l) (sym (ap (λ (x : Grafted). x.added) is ∙ m.added ∙ ap (λ (l : List Object). l ++ m.objects) first)) m.makes;
   root = ap (λ (x : Grafted). x.root) is ∙ ap (λ (x : List ℕ). object_id x Catalogue) m.hash;
   size = ap (λ (x : Grafted). x.size) is ∙ m.size;
 }
 
-refused : (shelf : Shelf) (newest offered : List ℕ) (p : Path) (o : Contents) (f : GraftFault) → IsHolder shelf offered p o → RefusesOn shelf newest p (λ k r. Joins k o p r) f → GraftsBoth shelf newest offered p (Err f)
+refused : (shelf : Shelf) (newest offered : List ℕ) (p : Path) (o : Contents) (f : GraftFault) → IsHolder shelf offered p o → RefusesOn shelf newest p (from_tree o p) f → GraftsBoth shelf newest offered p (Err f)
 refused shelf newest offered p o (fault.PathCollision a b) held h = (h.0, o, record { holds = h.1; held = held }, h.2)
 refused shelf newest offered p o (fault.CatalogueFull d) held h = (h.0, o, record { holds = h.1; held = held }, h.2)
 refused shelf newest offered p o fault.Failed held h = tt
@@ -55,7 +63,7 @@ refused shelf newest offered p o (fault.Damaged id found) held h = tt
 refused shelf newest offered p o fault.NoMemory held h = tt
 
 pub refused_top : (shelf : Shelf) (newest : ObjectId) (offered : List ℕ) (top p : Path) (c o : Contents) (before after : List Object) (f : GraftFault) → p ≢ [] → top ≡ [] → HasCatalogue shelf newest.hash (record { path = top; row = None }) c
-    → IsHolder shelf offered p o → Remakes shelf (λ k r. Joins k o p r) p newest c [] before after (Err f) → GraftsBoth shelf newest.hash offered p (Err f)
+    → IsHolder shelf offered p o → Remakes shelf (from_tree o p) p newest c [] before after (Err f) → GraftsBoth shelf newest.hash offered p (Err f)
 refused_top shelf newest offered top p c o before after f some none there held h =
     refused shelf newest.hash offered p o f held (h newest.hash root_place (IsOnWay.top some) (top_at shelf newest.hash top c none there))
 
@@ -65,6 +73,60 @@ unread_both shelf newest offered p (load.Bad x) = tt
 unread_both shelf newest offered p load.Failed = tt
 unread_both shelf newest offered p (load.Damaged id found) = tt
 unread_both shelf newest offered p load.NoMemory = tt
+
+-- where both roots mean trees, it is what is answered of the tree with the other one's subtree
+module _ (shelf : Shelf) (newest offered : List ℕ) (t n : Nodes) (p : Path) (way : HasWay shelf newest t p) (other : HasWay shelf offered n p) (some : p ≢ []) (place : has_place t p ≡ true) (unmarked : ends_in marker p ≡ false) where
+  after : IsTree (put t p (at n p))
+  after = IsTree-put_at t n p way.tree other.tree place
+
+  holds : (c : Contents) → IsHolder shelf newest p c → IsOfHolder t p c
+  holds c h = holder_there shelf newest t p (cuts_way way) c h
+
+  held : (o : Contents) → IsHolder shelf offered p o → IsOfHolder n p o
+  held o h = holder_there shelf offered n p (cuts_way other) o h
+
+  grafting : (c o : Contents) (x : IsOfHolder t p c) (y : IsOfHolder n p o) → Grafting t n p c.at x.rest o.at y.rest
+  grafting c o x y = record {
+    tree = way.tree;
+    other = other.tree;
+    after = after;
+    unmarked = unmarked;
+    holds = x.holds;
+    held = y.holds;
+    apart = region_apart t c.at x.holds.cut way.fits.apart;
+    apart_ = region_apart n o.at y.holds.cut other.fits.apart;
+  }
+
+  of_both : (Q : Contents → Contents → Type 0) (c o : Contents) (x : IsOfHolder t p c) (y : IsOfHolder n p o) → Q c o → Q (contents_of t c.at) (contents_of n o.at)
+  of_both Q c o x y h = subst (λ (k : Contents). Q (contents_of t c.at) k) y.is (subst (λ (k : Contents). Q k o) x.is h)
+
+  last_tree : (o : Contents) (y : IsOfHolder n p o) (c made : Contents) (x : IsOfHolder t p c) → IsJoined c o p made → IsOfTree (Fits (put t p (at n p))) (put t p (at n p)) c.at x.rest made (as_object made ∷ [])
+  last_tree o y c made x h = joined_tree t n p c.at x.rest o.at y.rest (grafting c o x y) way.fits other.fits made (of_both (λ k m. IsJoined k m p made) c o x y h)
+
+  pub grafts_tree : (r : Result Grafted GraftFault) → GraftsBoth shelf newest offered p r → TellsDamage shelf (IsOfEither shelf newest offered p) r → Grafts (put t p (at n p)) p r
+  grafts_tree (Ok g) h tells =
+      let m = top_tree shelf newest t p (cuts_way way) n after unmarked (Fits (put t p (at n p))) (λ c k. IsJoined c h.other p k) (last_tree h.other (held h.other h.held)) h.top h.made g.added some h.there h.makes in (
+        m.known,
+        λ i. record {
+          root = (h.root ∙ ap (λ (b : List ℕ). object_id (sha1 b) Catalogue) m.bytes) i;
+          size = (h.size ∙ ap (λ (b : List ℕ). length b) m.bytes) i;
+          added = (m.objects_are ∙ made_all (put t p (at n p)) p) i;
+        },
+      )
+  grafts_tree (Err (fault.PathCollision a b)) (c, o, both, h) tells =
+      let x = holds c both.holds in
+      let y = held o both.held in
+      joined_shares t n p c.at x.rest o.at y.rest (grafting c o x y) way.fits other.fits a b (of_both (λ k m. CollidesAt k m p a b) c o x y h)
+  grafts_tree (Err (fault.CatalogueFull d)) (c, o, both, h) tells =
+      let x = holds c both.holds in
+      let y = held o both.held in
+      joined_full t n p c.at x.rest o.at y.rest (grafting c o x y) way.fits other.fits d (of_both (λ k m. IsFullAt k m p d) c o x y h)
+  grafts_tree (Err fault.Failed) h tells = tt
+  grafts_tree (Err (fault.Damaged id found)) h tells = elim tells.0 [
+    | inl of ↦ undamaged shelf newest t p (cuts_way way) id found of tells.1
+    | inr of ↦ undamaged shelf offered n p (cuts_way other) id found of tells.1
+  ]
+  grafts_tree (Err fault.NoMemory) h tells = tt
 
 -- ---- at the root
 

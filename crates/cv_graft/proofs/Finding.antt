@@ -129,7 +129,7 @@ none_holds t p c r tree w none = record {
 cat_bytes : (t : Nodes) (c : Path) → IsTree t → is_cut t c ≡ true → cat t c ≡ catalogue_bytes (contents_of t c)
 cat_bytes t c tree cut = cat_is t c tree (cut_some t c tree cut)
 
-same_some : (a b : List ℕ) (o : Option (List ℕ)) → o ≡ Some a → o ≡ Some b → a ≡ b
+pub same_some : (a b : List ℕ) (o : Option (List ℕ)) → o ≡ Some a → o ≡ Some b → a ≡ b
 same_some a b o h k = cc
 
 -- a catalogue on the way that was opened is the canonical one
@@ -198,7 +198,7 @@ module _ (shelf : Shelf) (hash : List ℕ) (t : Nodes) (p r : Path) (c : Content
   on_next = deeper t p c.at r next_here.e next_here.f next_here.passes
 
   -- its bytes are there and decode
-  next_there : IsThere shelf c entry
+  pub next_there : IsThere shelf c entry
   next_there =
       let own : entry ≡ entry_of entry.path (cat t entry.path) = next_here.entry ∙ ap (λ (q : Path). entry_of q (cat t q)) (sym entry_path) in
       let hash : entry.hash ≡ sha1 (cat t entry.path) = ap (λ (m : Nested). m.hash) own in

@@ -1,8 +1,9 @@
 mod Parts
 mod Nexts
 mod Finding
+mod Tops
 mod Rebuilds
-mod Grafts
+mod Joined
 mod Makes
 mod Both
 mod Parentless
@@ -10,7 +11,6 @@ mod RowsAt
 mod Crossing
 mod PlacedParts
 mod PlacedMade
-mod PlacedAbove
 mod PlacedWay
 mod PlacedWhole
 mod PlacedMeans

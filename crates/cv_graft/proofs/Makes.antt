@@ -1,5 +1,6 @@
 -- What comes of the catalogues on the way to a path, one by one from the last upwards.
 use Rattle.std.proofs.Common.{◌≡◌, ℕ, List, [], ◌∷◌, ◌++◌, map, Some, Result, Ok, Err, ap, subst, ◌∙◌, append_assoc}
+use Rattle.std.specs.Prelude.{IsErrOf}
 use Rattle.cv_base.specs.Path.{Path}
 use Rattle.cv_base.specs.declared.id.ObjectId.{ObjectId}
 use Rattle.cv_base.specs.declared.object.Object.{Object}
@@ -13,8 +14,8 @@ use Rattle.cv_cut.specs.declared.load_fault.LoadFault.TheVariants as load
 use Rattle.cv_graft.specs.Directories.{IsHolder}
 use Rattle.cv_graft.specs.Faults.{of_load}
 use Rattle.cv_graft.specs.Makes.{joins, names, as_object, naming}
-use Rattle.cv_graft.specs.MakesInner.{Answer, IsKept, Rejoins, IsRemade, RefusesOn, Remakes}
-use Rattle.cv_graft.specs.Way.{HasNone, IsNext}
+use Rattle.cv_graft.specs.MakesInner.{IsKept, IsRemade, Joins, Outcomes, RefusesOn, Rejoins, Remakes}
+use Rattle.cv_graft.specs.Way.{HasNone, IsNext, TellsDamage}
 use Rattle.cv_graft.specs.declared.made.Made.{Made}
 use Rattle.cv_graft.specs.declared.graft_fault.GraftFault.{GraftFault}
 use Rattle.cv_graft.specs.declared.graft_fault.GraftFault.TheVariants as fault
@@ -22,24 +23,46 @@ use Rattle.cv_graft.proofs.Holders.{on_below}
 
 -- ---- the catalogue that holds the path
 
-refuses : (shelf : Shelf) (answers : Answer) (root : List ℕ) (p : Path) (c : Contents) (f : GraftFault) → IsHolder shelf root p c → answers c (Err f) → RefusesOn shelf root p answers f
-refuses shelf answers root p c (fault.PathCollision a b) holder h = (c, holder, h)
-refuses shelf answers root p c (fault.CatalogueFull d) holder h = (c, holder, h)
-refuses shelf answers root p c fault.Failed holder h = tt
-refuses shelf answers root p c (fault.Damaged id found) holder h = tt
-refuses shelf answers root p c fault.NoMemory holder h = tt
+refuses : (shelf : Shelf) (x : Outcomes) (root : List ℕ) (p : Path) (c : Contents) (f : GraftFault) → IsHolder shelf root p c → Joins x c (Err f) → RefusesOn shelf root p x f
+refuses shelf x root p c (fault.PathCollision a b) holder h = (c, holder, h)
+refuses shelf x root p c (fault.CatalogueFull d) holder h = (c, holder, h)
+refuses shelf x root p c fault.Failed holder h = tt
+refuses shelf x root p c (fault.Damaged id found) holder h = tt
+refuses shelf x root p c fault.NoMemory holder h = tt
 
-pub remade_here : (shelf : Shelf) (answers : Answer) (p : Path) (id : ObjectId) (c : Contents) (own before after : List Object) (result : Result Made GraftFault) → HasNone c p → Rejoins answers c own before after result
-    → Remakes shelf answers p id c own before after result
-remade_here shelf answers p id c own before after (Ok made) none h =
+pub remade_here : (shelf : Shelf) (x : Outcomes) (p : Path) (id : ObjectId) (c : Contents) (own before after : List Object) (result : Result Made GraftFault) → HasNone c p → Rejoins x c own before after result
+    → Remakes shelf x p id c own before after result
+remade_here shelf x p id c own before after (Ok made) none h =
     record { is = h.is; objects = as_object h.is ∷ []; makes = joins none h.joined; hash = h.kept.hash; size = h.kept.size; added = h.kept.added }
-remade_here shelf answers p id c own before after (Err f) none h = λ root place on has. refuses shelf answers root p c f (record { hash = id.hash; place = place; on = on; has = has; none = none }) h
+remade_here shelf x p id c own before after (Err f) none h = λ root place on has. refuses shelf x root p c f (record { hash = id.hash; place = place; on = on; has = has; none = none }) h
+
+-- it wasn't for the shelf
+pub rejoins_unread : (x : Outcomes) (c : Contents) (own before after : List Object) (result : Result Made GraftFault) → Rejoins x c own before after result → IsErrOf result fault.Failed → ⊥
+rejoins_unread x c own before after (Ok made) h is = cc
+rejoins_unread x c own before after (Err (fault.PathCollision a b)) h is = cc
+rejoins_unread x c own before after (Err (fault.CatalogueFull d)) h is = cc
+rejoins_unread x c own before after (Err fault.Failed) h is = h
+rejoins_unread x c own before after (Err (fault.Damaged id found)) h is = h
+rejoins_unread x c own before after (Err fault.NoMemory) h is = cc
+
+pub rejoins_tells : (shelf : Shelf) (which : ObjectId → Type 0) (x : Outcomes) (c : Contents) (own before after : List Object) (result : Result Made GraftFault) → Rejoins x c own before after result → TellsDamage shelf which result
+rejoins_tells shelf which x c own before after (Ok made) h = tt
+rejoins_tells shelf which x c own before after (Err (fault.PathCollision a b)) h = tt
+rejoins_tells shelf which x c own before after (Err (fault.CatalogueFull d)) h = tt
+rejoins_tells shelf which x c own before after (Err fault.Failed) h = tt
+rejoins_tells shelf which x c own before after (Err (fault.Damaged id found)) h = absurd h
+rejoins_tells shelf which x c own before after (Err fault.NoMemory) h = tt
+
+-- kept behind the objects of what came there
+pub kept_behind : (k : Contents) (own before between after : List Object) (made : Made) → between ≡ before ++ own → IsKept k [] between after made → IsKept k own before after made
+kept_behind k own before between after made first h =
+    record { hash = h.hash; size = h.size; added = h.added ∙ ap (λ (l : List Object). l ++ as_object k ∷ []) first ∙ append_assoc before own (as_object k ∷ []) }
 
 -- ---- a catalogue further above
 
-pub remade_above : (shelf : Shelf) (answers : Answer) (p : Path) (c below k : Contents) (n : Nested) (own before between after : List Object) (made kept : Made) → IsNext c p n → IsNestedCatalogue shelf c n below
-    → IsRemade shelf answers p below own before between made → k ≡ record c { nested = map (rows.renewed n.path made.hash made.size) c.nested } → IsKept k [] between after kept → IsRemade shelf answers p c own before after kept
-remade_above shelf answers p c below k n own before between after made kept next opened m is h =
+pub remade_above : (shelf : Shelf) (x : Outcomes) (p : Path) (c below k : Contents) (n : Nested) (own before between after : List Object) (made kept : Made) → IsNext c p n → IsNestedCatalogue shelf c n below
+    → IsRemade shelf x p below own before between made → k ≡ record c { nested = map (rows.renewed n.path made.hash made.size) c.nested } → IsKept k [] between after kept → IsRemade shelf x p c own before after kept
+remade_above shelf x p c below k n own before between after made kept next opened m is h =
     let same : k ≡ naming c n.path m.is = is ∙ (λ i. record c { nested = map (rows.renewed n.path (m.hash i) (m.size i)) c.nested }) in
     let last : IsKept (naming c n.path m.is) [] between after kept = subst (λ (x : Contents). IsKept x [] between after kept) same h in
     let object : List Object = as_object (naming c n.path m.is) ∷ [] in
@@ -52,18 +75,18 @@ remade_above shelf answers p c below k n own before between after made kept next
       added = last.added ∙ ap (λ (l : List Object). l ++ object) m.added ∙ append_assoc before (own ++ m.objects) object ∙ ap (λ (l : List Object). before ++ l) (append_assoc own m.objects object);
     }
 
-unread_refuses : (shelf : Shelf) (answers : Answer) (root : List ℕ) (p : Path) (f : LoadFault) → RefusesOn shelf root p answers (of_load f)
-unread_refuses shelf answers root p (load.Missing x) = tt
-unread_refuses shelf answers root p (load.Bad x) = tt
-unread_refuses shelf answers root p load.Failed = tt
-unread_refuses shelf answers root p (load.Damaged id found) = tt
-unread_refuses shelf answers root p load.NoMemory = tt
+unread_refuses : (shelf : Shelf) (x : Outcomes) (root : List ℕ) (p : Path) (f : LoadFault) → RefusesOn shelf root p x (of_load f)
+unread_refuses shelf x root p (load.Missing id) = tt
+unread_refuses shelf x root p (load.Bad id) = tt
+unread_refuses shelf x root p load.Failed = tt
+unread_refuses shelf x root p (load.Damaged id found) = tt
+unread_refuses shelf x root p load.NoMemory = tt
 
 -- where the next one isn't opened
-pub unread_remakes : (shelf : Shelf) (answers : Answer) (p : Path) (id : ObjectId) (c : Contents) (own before after : List Object) (f : LoadFault) → Remakes shelf answers p id c own before after (Err (of_load f))
-unread_remakes shelf answers p id c own before after f = λ root place on has. unread_refuses shelf answers root p f
+pub unread_remakes : (shelf : Shelf) (x : Outcomes) (p : Path) (id : ObjectId) (c : Contents) (own before after : List Object) (f : LoadFault) → Remakes shelf x p id c own before after (Err (of_load f))
+unread_remakes shelf x p id c own before after f = λ root place on has. unread_refuses shelf x root p f
 
 -- a fault of the next one
-pub fault_remakes : (shelf : Shelf) (answers : Answer) (p : Path) (id : ObjectId) (c below : Contents) (n : Nested) (own before after : List Object) (f : GraftFault) → IsNext c p n → IsNestedCatalogue shelf c n below
-    → Remakes shelf answers p (below_id n) below own before after (Err f) → Remakes shelf answers p id c own before after (Err f)
-fault_remakes shelf answers p id c below n own before after f next opened h = λ root place on there. h root (record { path = n.path; row = Some opened.row }) (on_below on there next opened) opened.opened
+pub fault_remakes : (shelf : Shelf) (x : Outcomes) (p : Path) (id : ObjectId) (c below : Contents) (n : Nested) (own before after : List Object) (f : GraftFault) → IsNext c p n → IsNestedCatalogue shelf c n below
+    → Remakes shelf x p (below_id n) below own before after (Err f) → Remakes shelf x p id c own before after (Err f)
+fault_remakes shelf x p id c below n own before after f next opened h = λ root place on there. h root (record { path = n.path; row = Some opened.row }) (on_below on there next opened) opened.opened

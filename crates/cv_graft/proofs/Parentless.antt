@@ -1,8 +1,6 @@
 -- Where a tree lacks the directory in which a path stands, nothing is made.
-use Rattle.std.proofs.Common.{◌≡◌, ◌≢◌, true, false, List, ℕ, [], Result, Ok, Err, inl, inr, refl, sym, ap, subst, ◌∙◌}
+use Rattle.std.proofs.Common.{◌≡◌, ◌≢◌, true, false, List, ℕ, [], Result, Ok, Err, inl, inr, sym, ap, subst, ◌∙◌}
 use Rattle.cv_base.specs.Path.{Path}
-use Rattle.cv_base.specs.ObjectId.{object_id}
-use Rattle.cv_base.specs.declared.id.Kind.TheVariants.{Catalogue}
 use Rattle.cv_base.specs.declared.object.Object.{Object}
 use Rattle.cv_ports.specs.Shelf.{Shelf}
 use Rattle.cv_tree.specs.Tree.{Nodes, IsTree, at, is_directory}
@@ -10,10 +8,8 @@ use Rattle.cv_tree.specs.Changes.{has_place}
 use Rattle.cv_tree.proofs.Laws.{has_place-append}
 use Rattle.cv_rows.specs.Catalogue.{Contents}
 use Rattle.cv_rows.specs.Places.{StandsAt}
-use Rattle.cv_cut.specs.Above.{OnWay}
 use Rattle.cv_cut.specs.Catalogues.{contents_of}
 use Rattle.cv_cut.specs.Cuts.{is_cut}
-use Rattle.cv_cut.specs.Reached.{Place, HasCatalogue}
 use Rattle.cv_cut.specs.Region.{KeysApart}
 use Rattle.cv_cut.proofs.Lemmas.{row_tells, holder_directory}
 use Rattle.cv_graft.specs.Both.{GraftsBoth, MakesNothing}
@@ -23,12 +19,12 @@ use Rattle.cv_graft.specs.Makes.{Makes, joins, names}
 use Rattle.cv_graft.specs.Placed.{HasCuts, PlacesNothing}
 use Rattle.cv_graft.specs.PlacedWay.{IsFullThere, IsPlaced, PlacesOnWay, of_part, of_cut_}
 use Rattle.cv_graft.specs.Places.{HasPlace}
-use Rattle.cv_graft.specs.Way.{IsOnWay, top, next}
+use Rattle.cv_graft.specs.Way.{top}
 use Rattle.cv_graft.specs.declared.grafted.Grafted.{Grafted}
 use Rattle.cv_graft.specs.declared.graft_fault.GraftFault.{GraftFault}
 use Rattle.cv_graft.specs.declared.graft_fault.GraftFault.TheVariants as fault
-use Rattle.cv_graft.proofs.Finding.{some_of, step_down, step_to, way_covers}
-use Rattle.cv_graft.proofs.Grafts.{top_is}
+use Rattle.cv_graft.proofs.Finding.{some_of, step_down, way_covers}
+use Rattle.cv_graft.proofs.Rebuilds.{IsOfCut, of_cut_there}
 
 -- a path with a place in the catalogue of a cut has one in the tree
 place_there : (t : Nodes) (p c : Path) (k : Contents) → IsTree t → is_cut t c ≡ true → KeysApart c (at t c) → k ≡ contents_of t c → HasPlace k p → has_place t p ≡ true
@@ -36,30 +32,15 @@ place_there t p c k tree cut apart is h =
     let stands : StandsAt c (contents_of t c).rows h.row h.front = subst (λ (x : Contents). StandsAt x.at x.rows h.row h.front) is h.stands in
     ap (has_place t) h.is ∙ has_place-append t h.front h.name ∙ ap is_directory (row_tells t tree c cut apart h.row h.front stands) ∙ holder_directory h.row.kind h.row h.holds
 
--- the catalogue is that of a cut on the way
-record IsOfCut (t : Nodes) (p : Path) (c : Contents) : Type 0 where
-  rest : Path
-  on : OnWay t p c.at rest
-  is : c ≡ contents_of t c.at
-
 pub some_below : (t : Nodes) (p : Path) → has_place t p ≡ false → p ≢ []
 some_below t p none root = (let wrong : true ≡ false = ap (has_place t) (sym root) ∙ none in cc)
 
 module _ (shelf : Shelf) (root : List ℕ) (t : Nodes) (p : Path) (way : HasCuts shelf root t p) where
-  of_cut_there : (c : Contents) {hash : List ℕ} {place : Place} → IsOnWay shelf root p hash place → HasCatalogue shelf hash place c → IsOfCut t p c
-  of_cut_there c (top some) has =
-      let x = top_is shelf (object_id root Catalogue) t p [] c way some has refl in
-      record { rest = p; on = x.on; is = x.is }
-  of_cut_there c (next {c = above} {n = n} {r = r} on there below t_) has =
-      let a = of_cut_there above on there in
-      let s = step_to shelf root t p a.rest above n way a.on a.is below c r has in
-      record { rest = s.f; on = s.on; is = s.is_ }
-
   place_held : (c : Contents) → IsOfCut t p c → HasPlace c p → has_place t p ≡ true
   place_held c x h = place_there t p c.at c way.tree x.on.cut (way.fits c.at x.on.cut (way_covers t p c.at x.rest x.on) (some_of t p c.at x.rest x.on)).apart x.is h
 
   holder_place : (c : Contents) → IsHolder shelf root p c → HasPlace c p → has_place t p ≡ true
-  holder_place c h place = place_held c (of_cut_there c h.on h.has) place
+  holder_place c h place = place_held c (of_cut_there shelf root t p way c h.on h.has) place
 
   makes_place : (Last : Contents → Contents → Type 0) → ((c made : Contents) → Last c made → HasPlace c p) → (c made : Contents) (objects : List Object) → IsOfCut t p c → Makes shelf Last p c made objects → has_place t p ≡ true
   makes_place Last place c made objects x (joins none last) = place_held c x (place c made last)
@@ -71,7 +52,7 @@ module _ (shelf : Shelf) (root : List ℕ) (t : Nodes) (p : Path) (way : HasCuts
   no_place none place = (let wrong : true ≡ false = sym place ∙ none in cc)
 
   pub nothing_made : (offered : List ℕ) (r : Result Grafted GraftFault) → has_place t p ≡ false → GraftsBoth shelf root offered p r → MakesNothing r
-  nothing_made offered (Ok g) none h = no_place none (makes_place (λ k x. IsJoined k h.other p x) (λ k x last. last.parts.place) h.top h.made g.added (of_cut_there h.top (top (some_below t p none)) h.there) h.makes)
+  nothing_made offered (Ok g) none h = no_place none (makes_place (λ k x. IsJoined k h.other p x) (λ k x last. last.parts.place) h.top h.made g.added (of_cut_there shelf root t p way h.top (top (some_below t p none)) h.there) h.makes)
   nothing_made offered (Err (fault.PathCollision a b)) none h = no_place none (holder_place h.0 h.2.holds h.3.parts.place)
   nothing_made offered (Err (fault.CatalogueFull d)) none h = no_place none (holder_place h.0 h.2.holds h.3.parts.place)
   nothing_made offered (Err fault.Failed) none h = tt
@@ -84,7 +65,7 @@ module _ (shelf : Shelf) (root : List ℕ) (t : Nodes) (p : Path) (way : HasCuts
 
   pub nothing_placed : (s : Nodes) (r : Result Grafted GraftFault) → has_place t p ≡ false → PlacesOnWay shelf root p s r → PlacesNothing s p r
   nothing_placed s (Ok g) none h =
-      no_place none (makes_place (λ k x. IsPlaced k p h.around x) (λ k x last. last.rests.place) h.top h.made h.objects (of_cut_there h.top (top (some_below t p none)) h.there) h.makes)
+      no_place none (makes_place (λ k x. IsPlaced k p h.around x) (λ k x last. last.rests.place) h.top h.made h.objects (of_cut_there shelf root t p way h.top (top (some_below t p none)) h.there) h.makes)
   nothing_placed s (Err (fault.PathCollision a b)) none (inl own) = own
   nothing_placed s (Err (fault.PathCollision a b)) none (inr h) = absurd (no_place none (holder_place h.0 h.2.holds h.3.place))
   nothing_placed s (Err (fault.CatalogueFull d)) none h = no_place none (holder_place h.0 h.2.holds (full_place h.0 h.1 d h.3))

@@ -7,6 +7,7 @@ use Rattle.std.proofs.lemmas.List.Elements.{All-contains, All-from_recursion, Co
 use Rattle.std.proofs.lemmas.Bool.{not-true}
 use Rattle.cv_base.specs.Path.{Path, covers, key_of, text_of}
 use Rattle.cv_base.proofs.Laws.{text_of-injective}
+use Rattle.cv_base.specs.declared.id.ObjectId.{ObjectId}
 use Rattle.cv_ports.specs.Shelf.{Shelf}
 use Rattle.cv_tree.specs.Tree.{Nodes, IsTree}
 use Rattle.cv_tree.specs.declared.node.Node.{Node}
@@ -26,8 +27,9 @@ use Rattle.cv_cut.specs.Piece.{IsFullAmong, cuts_within, region_within}
 use Rattle.cv_cut.specs.declared.cut_fault.CutFault.{CutFault}
 use Rattle.cv_cut.specs.declared.cut_fault.CutFault.TheVariants as cut
 use Rattle.cv_cut.proofs.Lemmas.{among_within, within_among, keys_are, entry_there, texts_apart_within, passes, comes_from, first_or_later, none_there, row_key, sorted_apart, apart_append}
+use Rattle.cv_graft.specs.MakesInner.{Joins}
 use Rattle.cv_graft.specs.Placed.{of_cut}
-use Rattle.cv_graft.specs.PlacedInner.{IsMeeting, JoinsLists, JoinsPart}
+use Rattle.cv_graft.specs.PlacedInner.{IsMeeting, JoinsLists, from_part}
 use Rattle.cv_graft.specs.PlacedWay.{ArePathsCrossed, MeetsPath, Rests, rows_within, entries_within, of_part, of_cut_}
 use Rattle.cv_graft.specs.Places.{HasPlace}
 use Rattle.cv_graft.specs.Way.{TellsDamage}
@@ -80,14 +82,14 @@ paths_all rows coming i le h = subst (ArePathsCrossed rows) (take_all i coming l
 
 -- ---- what is put together
 
-pub meets_at : (c rest : Contents) (p : Path) (m : Nodes) (es : List (Path × Node)) (f : GraftFault) → HasPlace c p → IsWithout c p rest → es ≡ region_within m p → IsMeeting rest es f → JoinsPart c p m (Err f)
+pub meets_at : (c rest : Contents) (p : Path) (m : Nodes) (es : List (Path × Node)) (f : GraftFault) → HasPlace c p → IsWithout c p rest → es ≡ region_within m p → IsMeeting rest es f → Joins (from_part m p) c (Err f)
 meets_at c rest p m es (fault.PathCollision a b) place without is h = record { place = place; rest = rest; without = without; meets = subst (λ (l : List (Path × Node)). MeetsPath rest l a b) is h }
 meets_at c rest p m es (fault.CatalogueFull d) place without is h = absurd h
 meets_at c rest p m es fault.Failed place without is h = absurd h
 meets_at c rest p m es (fault.Damaged id found) place without is h = absurd h
 meets_at c rest p m es fault.NoMemory place without is h = tt
 
-pub full_at : (c : Contents) (p : Path) (m : Nodes) (cuts : List Path) (f : CutFault) → Rests c p m → cuts ≡ reverse (cuts_within m p) → IsFullAmong m cuts f → JoinsPart c p m (Err (of_cut f))
+pub full_at : (c : Contents) (p : Path) (m : Nodes) (cuts : List Path) (f : CutFault) → Rests c p m → cuts ≡ reverse (cuts_within m p) → IsFullAmong m cuts f → Joins (from_part m p) c (Err (of_cut f))
 full_at c p m cuts (cut.PathCollision a b) rests is h = absurd h
 full_at c p m cuts (cut.CatalogueFull d) rests is h = of_part rests h.0 (among_within m p cuts d is h.1).1
 full_at c p m cuts cut.NoMemory rests is h = tt
@@ -96,11 +98,11 @@ pub none_full : (m : Nodes) (p : Path) (cuts : List Path) → IsTree m → cuts 
 none_full m p cuts whole is all d cut inside = All-contains (λ c. IsFull m c → ⊥) cuts d all (within_among m p cuts d whole is cut inside)
 
 pub lists_join : (c : Contents) (p : Path) (m : Nodes) (rows : List Row) (nested : List Nested) (r : Result Contents GraftFault) → (x : Rests c p m) → ((d : Path) → is_cut m d ≡ true → covers p d ≡ true → IsFull m d → ⊥)
-    → rows ≡ rows_within m p → nested ≡ entries_within m p → JoinsLists x.rest rows nested r → JoinsPart c p m r
+    → rows ≡ rows_within m p → nested ≡ entries_within m p → JoinsLists x.rest rows nested r → Joins (from_part m p) c r
 lists_join c p m rows nested r x limits rows-is nested-is h =
     of r (subst (λ (l : List Row). JoinsLists x.rest l (entries_within m p) r) rows-is (subst (λ (l : List Nested). JoinsLists x.rest rows l r) nested-is h))
   where
-    of : (r : Result Contents GraftFault) → JoinsLists x.rest (rows_within m p) (entries_within m p) r → JoinsPart c p m r
+    of : (r : Result Contents GraftFault) → JoinsLists x.rest (rows_within m p) (entries_within m p) r → Joins (from_part m p) c r
     of (Ok made) h = record { rests = x; limits = limits; fits = h.1; is = h.0 ∙ ap (λ (q : Path). in_order q (x.rest.rows ++ rows_within m p) (x.rest.nested ++ entries_within m p)) x.without.at }
     of (Err (fault.PathCollision a b)) h = absurd h
     of (Err (fault.CatalogueFull d)) h = of_cut_ x (h.0 ∙ x.without.at) h.1
@@ -108,23 +110,15 @@ lists_join c p m rows nested r x limits rows-is nested-is h =
     of (Err (fault.Damaged id found)) h = absurd h
     of (Err fault.NoMemory) h = tt
 
--- the shelf failed
-abbrev pub Fails : {X : Type 0} → Result X GraftFault → Type 0
-Fails r = IsErrOf r fault.Failed
+pub cut_tells : (X : Type 0) (shelf : Shelf) (which : ObjectId → Type 0) (f : CutFault) → TellsDamage shelf which {X = X} (Err (of_cut f))
+cut_tells X shelf which (cut.PathCollision a b) = tt
+cut_tells X shelf which (cut.CatalogueFull c) = tt
+cut_tells X shelf which cut.NoMemory = tt
 
-pub part_not_failed : (X : Type 0) (c : Contents) (p : Path) (m : Nodes) (f : GraftFault) → JoinsPart c p m (Err f) → Fails {X = X} (Err f) → ⊥
-part_not_failed X c p m (fault.PathCollision a b) h is = cc
-part_not_failed X c p m (fault.CatalogueFull d) h is = cc
-part_not_failed X c p m fault.Failed h is = h
-part_not_failed X c p m (fault.Damaged id found) h is = cc
-part_not_failed X c p m fault.NoMemory h is = cc
-
-pub part_tells : (X : Type 0) (c : Contents) (p : Path) (m : Nodes) (f : GraftFault) (shelf : Shelf) → JoinsPart c p m (Err f) → TellsDamage shelf (λ id. ⊥) {X = X} (Err f)
-part_tells X c p m (fault.PathCollision a b) shelf h = tt
-part_tells X c p m (fault.CatalogueFull d) shelf h = tt
-part_tells X c p m fault.Failed shelf h = tt
-part_tells X c p m (fault.Damaged id found) shelf h = absurd h
-part_tells X c p m fault.NoMemory shelf h = tt
+pub cut_not_failed : (X : Type 0) (f : CutFault) → IsErrOf {T = X} (Err (of_cut f)) fault.Failed → ⊥
+cut_not_failed X (cut.PathCollision a b) is = cc
+cut_not_failed X (cut.CatalogueFull c) is = cc
+cut_not_failed X cut.NoMemory is = cc
 
 -- ---- objects have their own ids
 

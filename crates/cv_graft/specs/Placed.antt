@@ -53,6 +53,7 @@ Places t p (Err fault.NoMemory) = Unit {0}
 -- two paths share a key where a part stands alone at a path: at it or below it, in one region of a tree whose cuts but the root's are those of the part
 pub record SharesOwn (s : Nodes) (p a b : Path) : Type 0 where
   pub around : Nodes
+  pub tree : IsTree around
   pub alone : HasOnly around p s
   pub shares : SharesWithin around p a b
 

@@ -1,5 +1,5 @@
 //! Grafting.
-ghost use Rattle.std.specs.Prelude.{◌≡◌, ◌≢◌, ◌≤◌, ◌+◌, [], true, false, ℕ, List, length, IfOk, IfErr, IsTrue, IsErrOf};
+ghost use Rattle.std.specs.Prelude.{◌≡◌, ◌≢◌, ◌+◌, [], true, false, length, IfOk, IfErr, IsTrue, IsErrOf};
 ghost use Rattle.cv_base.specs.Counts.{HasCause};
 ghost use Rattle.cv_base.specs.Marker.{marker, ends_in};
 ghost use Rattle.cv_base.specs.Path.{covers};
@@ -92,7 +92,6 @@ fn below_root<S: Shelf>(
     requires offered { offered.now.kind ≡ id_kind.Catalogue }
     requires path { path.now ≢ [] }
     requires unmarked { ends_in marker path.now ≡ false }
-    ensures told { WhereTold (S.shelf shelf.old) (λ standing. (t n : Nodes) → HasWays standing newest.now.hash offered.now.hash t n path.now → IsTrue (has_place t path.now) → Grafts (replaced t n path.now) path.now result) }
     ensures way { WhereTold (S.shelf shelf.old) (λ standing. GraftsBoth standing newest.now.hash offered.now.hash path.now result) }
     ensures own { IfOk result (λ g. AreNamed g.added) }
     ensures damaged { WhereTold (S.shelf shelf.old) (λ standing. TellsDamage standing (IsOfEither standing newest.now.hash offered.now.hash path.now) result) }

@@ -1,5 +1,5 @@
 //! What one catalogue has outside a path, with what another has there.
-ghost use Rattle.std.specs.Prelude.{◌≡◌, ◌≢◌, ◌∷◌, ◌++◌, [], ℕ, List, true, false, IfOk, IfErr, IsErrOf, OnOk, Contains};
+ghost use Rattle.std.specs.Prelude.{◌≡◌, ◌≢◌, ◌∷◌, ◌++◌, [], ℕ, List, true, false, IfOk, IfErr, OnOk, Contains};
 ghost use Rattle.cv_base.specs.Marker.{marker, ends_in};
 ghost use Rattle.cv_base.specs.Path.{covers};
 ghost use Rattle.cv_rows.specs.Catalogue.{IsCatalogue};
@@ -7,14 +7,12 @@ ghost use Rattle.cv_rows.specs.Places.{StandsAt};
 ghost use Rattle.cv_rows.specs.Without.{IsWithout};
 ghost use Rattle.cv_rows.specs.declared.row.Row.{Row as TheRow};
 ghost use Rattle.cv_graft.specs.Joins.{AreCrossed};
-ghost use Rattle.cv_graft.specs.JoinsInner.{IsCollision, Joins};
+ghost use Rattle.cv_graft.specs.JoinsInner.{IsCollision, from_tree};
 ghost use Rattle.cv_graft.specs.Places.{HasPlace};
-ghost use Rattle.cv_graft.specs.Way.{TellsDamage};
-ghost use Rattle.cv_ports.specs.Shelf.{Shelf as Shelf_};
-ghost use Rattle.cv_graft.specs.declared.graft_fault.GraftFault.TheVariants as faults;
 
+use crate::coming::Coming;
 use crate::graft_fault::GraftFault;
-use cv_base::{NoMemory, RepoPath};
+use cv_base::{NoMemory, Object, RepoPath};
 use cv_rows::{Catalogue, Row, WithFault};
 use std::alloc::Global;
 
@@ -102,35 +100,33 @@ pub(crate) fn without(
     }
 }
 
-/// The rows and nested entries of a catalogue that a path doesn't cover, with those of another that it covers.
-pub(crate) fn joined(
-    alloc: Global,
-    at: &RepoPath,
-    catalogue: Catalogue,
-    other: &Catalogue,
-    path: &RepoPath,
-) -> Result<Catalogue, GraftFault>
-    requires place { catalogue.at ≡ at.now }
-    requires below { covers catalogue.at path.now ≡ true }
-    requires apart { path.now ≢ catalogue.at }
-    requires other { IsCatalogue other.now }
-    requires other_below { covers other.now.at path.now ≡ true }
-    requires other_apart { path.now ≢ other.now.at }
-    requires unmarked { ends_in marker path.now ≡ false }
-    ensures joins { Joins catalogue other.now path.now result }
-    ensures unread { IsErrOf result faults.Failed → ⊥ }
-    ensures undamaged { (standing : Shelf_) → TellsDamage standing (λ id. ⊥) result }
-{
-    let (rows, nested) = other.within(alloc, path)?;
-    let rest = without(alloc, catalogue, path)?;
-    if !has_place(alloc, &rest, path)? {
-        return Err(GraftFault::NoMemory);
-    }
-    check_keys(alloc, &rest, other, &rows)?;
-    match rest.with(alloc, rows, nested) {
-        Ok(joined) => Ok(joined),
-        Err((_, WithFault::Full)) => Err(GraftFault::CatalogueFull(at.copy(alloc)?)),
-        Err((_, WithFault::Collision { first: _ })) => unreachable!(),
-        Err((_, WithFault::NoMemory)) => Err(GraftFault::NoMemory),
+/// What another tree has at the path: its catalogue that directly holds it.
+impl Coming for Catalogue {
+    ghost ready = { λ other path. IsCatalogue other × (covers other.at path ≡ true) × (path ≢ other.at) };
+
+    ghost outcomes = { λ other path. from_tree other path };
+
+    ghost own = { λ other. [] };
+
+    fn join(
+        &self,
+        alloc: Global,
+        at: &RepoPath,
+        catalogue: Catalogue,
+        path: &RepoPath,
+        _added: &mut Vec<Object>,
+    ) -> Result<Catalogue, GraftFault> {
+        let (rows, nested) = self.within(alloc, path)?;
+        let rest = without(alloc, catalogue, path)?;
+        if !has_place(alloc, &rest, path)? {
+            return Err(GraftFault::NoMemory);
+        }
+        check_keys(alloc, &rest, self, &rows)?;
+        match rest.with(alloc, rows, nested) {
+            Ok(joined) => Ok(joined),
+            Err((_, WithFault::Full)) => Err(GraftFault::CatalogueFull(at.copy(alloc)?)),
+            Err((_, WithFault::Collision { first: _ })) => unreachable!(),
+            Err((_, WithFault::NoMemory)) => Err(GraftFault::NoMemory),
+        }
     }
 }

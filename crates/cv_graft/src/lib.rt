@@ -1,6 +1,7 @@
 //! A subtree of one tree in the place of another's, by the catalogues on the way alone.
 #![tactic(auto)]
 
+mod coming;
 mod directories;
 mod graft_fault;
 mod grafted;

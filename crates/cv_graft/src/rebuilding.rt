@@ -8,23 +8,21 @@ ghost use Rattle.cv_base.specs.ObjectId.{object_id};
 ghost use Rattle.cv_base.specs.Path.{covers};
 ghost use Rattle.cv_base.specs.Told.{WhereTold};
 ghost use Rattle.cv_base.specs.declared.id.Kind.TheVariants as id_kind;
-ghost use Rattle.cv_ports.specs.Shelf.{Shelf as Shelf_};
-ghost use Rattle.cv_rows.specs.Catalogue.{IsCatalogue, catalogue_bytes};
+ghost use Rattle.cv_rows.specs.Catalogue.{catalogue_bytes};
 ghost use Rattle.cv_rows.specs.Renewed.{renewed};
-ghost use Rattle.cv_tree.specs.Tree.{Nodes, IsTree, at};
+ghost use Rattle.cv_tree.specs.Tree.{Nodes, at};
 ghost use Rattle.cv_ports.specs.Calls.{raised_by};
-ghost use Rattle.cv_cut.specs.Above.{cuts_above, replaced, OnWay};
+ghost use Rattle.cv_cut.specs.Above.{cuts_above, OnWay};
 ghost use Rattle.cv_base.specs.Objects.{AreNamed};
-ghost use Rattle.cv_graft.specs.JoinsInner.{Joins};
 ghost use Rattle.cv_graft.specs.MakesInner.{Rejoins, Remakes};
 ghost use Rattle.cv_graft.specs.Placed.{HasCuts};
 ghost use Rattle.cv_graft.specs.Way.{TellsDamage};
-ghost use Rattle.cv_graft.specs.WayInner.{IsAsked, IsOffered, IsOfWayOf, Rebuilds};
-ghost use Rattle.cv_cut.specs.Catalogues.{Fits, contents_of};
+ghost use Rattle.cv_graft.specs.WayInner.{IsOfWayOf};
+ghost use Rattle.cv_cut.specs.Catalogues.{contents_of};
 ghost use Rattle.cv_graft.specs.declared.graft_fault.GraftFault.TheVariants as faults;
 
+use crate::coming::Coming;
 use crate::graft_fault::GraftFault;
-use crate::joining::joined;
 use crate::made::Made;
 use crate::way::entry_above;
 use cv_base::{Bytes, Kind, NoMemory, Object, ObjectId, RepoPath};
@@ -34,7 +32,7 @@ use cv_rows::Catalogue;
 use std::alloc::Global;
 
 /// The catalogue with another hash and size in the nested entry of a path.
-pub(crate) fn with_entry(mut catalogue: Catalogue, path: &RepoPath, made: &Made) -> Catalogue
+fn with_entry(mut catalogue: Catalogue, path: &RepoPath, made: &Made) -> Catalogue
     requires { IsDigest made.now.hash }
     ensures { result ≡ record catalogue { nested = map (renewed path.now made.now.hash made.now.size) catalogue.nested } }
 {
@@ -44,11 +42,7 @@ pub(crate) fn with_entry(mut catalogue: Catalogue, path: &RepoPath, made: &Made)
 }
 
 /// Keeps a catalogue as an object.
-pub(crate) fn keep(
-    alloc: Global,
-    catalogue: &Catalogue,
-    added: &mut Vec<Object>,
-) -> Result<Made, NoMemory>
+fn keep(alloc: Global, catalogue: &Catalogue, added: &mut Vec<Object>) -> Result<Made, NoMemory>
     ensures hash { IfOk result (λ made. made.hash ≡ sha1 (catalogue_bytes catalogue.now)) }
     ensures size { IfOk result (λ made. made.size ≡ length (catalogue_bytes catalogue.now)) }
     ensures added { OnOk result (added.new.items ≡ added.old.items ++ record { id = object_id (sha1 (catalogue_bytes catalogue.now)) id_kind.Catalogue; bytes = catalogue_bytes catalogue.now } ∷ []) }
@@ -67,57 +61,46 @@ pub(crate) fn keep(
     Ok(made)
 }
 
-/// The catalogue that directly holds the path, with what the other tree's has there.
-fn rejoined(
+/// The catalogue that directly holds the path, with what comes there, kept behind what is made of that.
+fn rejoined<C: Coming>(
     alloc: Global,
     cut: &RepoPath,
     catalogue: Catalogue,
-    other: &Catalogue,
+    coming: &C,
     path: &RepoPath,
     added: &mut Vec<Object>,
 ) -> Result<Made, GraftFault>
     requires place { catalogue.at ≡ cut.now }
-    requires rules { IsCatalogue catalogue }
     requires below { covers catalogue.at path.now ≡ true }
     requires apart { path.now ≢ catalogue.at }
-    requires other { IsCatalogue other.now }
-    requires other_below { covers other.now.at path.now ≡ true }
-    requires other_apart { path.now ≢ other.now.at }
     requires unmarked { ends_in marker path.now ≡ false }
-    ensures made { (t n : Nodes) (r d v : List (List ℕ)) → IsAsked t n path.now catalogue.at r d v → catalogue ≡ contents_of t catalogue.at → other.now ≡ contents_of n d → Rebuilds (replaced t n path.now) catalogue.at r added.old.items added.new.items result }
-    ensures rejoins { Rejoins (λ c r. Joins c other.now path.now r) catalogue [] added.old.items added.new.items result }
-    ensures unread { IsErrOf result faults.Failed → ⊥ }
-    ensures undamaged { (standing : Shelf_) → TellsDamage standing (λ id. ⊥) result }
+    requires ready { C.ready coming.now path.now }
+    ensures rejoins { Rejoins (C.outcomes coming.now path.now) catalogue (C.own coming.now) added.old.items added.new.items result }
     ensures digest { IfOk result (λ made. IsDigest made.hash) }
     ensures own { OnOk result (AreNamed added.old.items → AreNamed added.new.items) }
 {
-    let joined = joined(alloc, cut, catalogue, other, path)?;
+    let joined = coming.join(alloc, cut, catalogue, path, added)?;
     Ok(keep(alloc, &joined, added)?)
 }
 
 /// Makes the catalogues from one on downwards to the path, those below before it, and tells of this one.
-pub(crate) fn rebuilt<S: Shelf>(
+pub(crate) fn rebuilt<S: Shelf, C: Coming>(
     alloc: Global,
     shelf: &mut S,
     id: &ObjectId,
     cut: &RepoPath,
     catalogue: Catalogue,
-    other: &Catalogue,
+    coming: &C,
     path: &RepoPath,
     added: &mut Vec<Object>,
 ) -> Result<Made, GraftFault>
     requires kind { id.now.kind ≡ id_kind.Catalogue }
     requires place { catalogue.at ≡ cut.now }
-    requires rules { IsCatalogue catalogue }
     requires below { covers catalogue.at path.now ≡ true }
     requires apart { path.now ≢ catalogue.at }
-    requires other { IsCatalogue other.now }
-    requires other_below { covers other.now.at path.now ≡ true }
-    requires other_apart { path.now ≢ other.now.at }
     requires unmarked { ends_in marker path.now ≡ false }
-    ensures told { WhereTold (S.shelf shelf.old) (λ standing. (hash : List ℕ) (t n : Nodes) (r : List (List ℕ)) → HasCuts standing hash t path.now → Fits t → IsOffered n path.now other.now → IsTree (replaced t n path.now)
-        → OnWay t path.now catalogue.at r → catalogue ≡ contents_of t catalogue.at → Rebuilds (replaced t n path.now) catalogue.at r added.old.items added.new.items result) }
-    ensures way { WhereTold (S.shelf shelf.old) (λ standing. Remakes standing (λ c r. Joins c other.now path.now r) path.now id.now catalogue [] added.old.items added.new.items result) }
+    requires ready { C.ready coming.now path.now }
+    ensures way { WhereTold (S.shelf shelf.old) (λ standing. Remakes standing (C.outcomes coming.now path.now) path.now id.now catalogue (C.own coming.now) added.old.items added.new.items result) }
     ensures digest { IfOk result (λ made. IsDigest made.hash) }
     ensures own { OnOk result (AreNamed added.old.items → AreNamed added.new.items) }
     ensures damaged { WhereTold (S.shelf shelf.old) (λ standing. TellsDamage standing (IsOfWayOf standing id.now catalogue path.now) result) }
@@ -129,7 +112,7 @@ pub(crate) fn rebuilt<S: Shelf>(
     ensures most { (k : ℕ) × (k + length catalogue.at < length path.now) × (S.taken shelf.new ≡ raised_by k (S.taken shelf.old)) }
 {
     let Some(entry) = entry_above(alloc, &catalogue, path)? else {
-        return rejoined(alloc, cut, catalogue, other, path, added);
+        return rejoined(alloc, cut, catalogue, coming, path, added);
     };
     let below = nested_catalogue(alloc, shelf, id, &catalogue, &entry)?;
     let below_id = ObjectId {
@@ -142,7 +125,7 @@ pub(crate) fn rebuilt<S: Shelf>(
         &below_id,
         &entry.path,
         below,
-        other,
+        coming,
         path,
         added,
     )?;

@@ -19,7 +19,7 @@ ghost use Rattle.cv_graft.specs.declared.graft_fault.GraftFault.TheVariants as f
 
 use crate::graft_fault::GraftFault;
 use crate::grafted::Grafted;
-use crate::placing::rebuilt_with;
+use crate::rebuilding::rebuilt;
 use cv_base::{Items, Kind, ObjectId, RepoPath};
 use cv_cut::{alone, catalogue_at, cut, piece_at, whole};
 use cv_ports::Shelf;
@@ -72,7 +72,6 @@ fn below_root_with<S: Shelf>(
     requires path { path.now ≢ [] }
     requires unmarked { ends_in marker path.now ≡ false }
     requires limits { FitsUnder path.now (nodes_of (option_copied part)) }
-    ensures told { WhereTold (S.shelf shelf.old) (λ standing. (t : Nodes) → HasCuts standing base.now.hash t path.now → IsTrue (has_place t path.now) → Places (put t path.now (nodes_of (option_copied part.entry))) path.now result) }
     ensures way { WhereTold (S.shelf shelf.old) (λ standing. PlacesOnWay standing base.now.hash path.now (nodes_of (option_copied part.entry)) result) }
     ensures own { IfOk result (λ g. AreNamed g.added) }
     ensures damaged { WhereTold (S.shelf shelf.old) (λ standing. TellsDamage standing (IsOfWay standing base.now.hash path.now) result) }
@@ -87,7 +86,7 @@ fn below_root_with<S: Shelf>(
     let top = RepoPath::root(alloc);
     let catalogue = catalogue_at(alloc, shelf, base, &top, None)?;
     let mut added = Vec::new(alloc);
-    let made = rebuilt_with(
+    let made = rebuilt(
         alloc, shelf, base, &top, catalogue, &piece, path, &mut added,
     )?;
     let hash = made.hash;

@@ -1,21 +1,17 @@
-use Rattle.std.proofs.Common.{length, Result, List, [], Ok, Err, ap, subst, ◌∙◌, arith}
-use Rattle.cv_tree.proofs.Laws.{IsTree-put_at}
+use Rattle.std.proofs.Common.{length, Result, List, ap, ◌∙◌, arith}
 use Rattle.cv_base.specs.declared.id.Kind.TheVariants.{Catalogue}
 use Rattle.cv_base.specs.declared.object.Object.{Object}
 use Rattle.cv_base.proofs.Laws.{left_by}
+use Rattle.cv_ports.proofs.Laws.{raised_both}
 use Rattle.cv_graft.specs.Both.{GraftsBoth}
-use Rattle.cv_graft.specs.Graft.{Grafts}
-use Rattle.cv_graft.proofs.Both.{grafted_top, refused_top, unread_both}
-use Rattle.cv_graft.proofs.Finding.{cuts_way, from_top, some_count, some_long, top_unread}
-use Rattle.cv_graft.proofs.Holders.{top_blamed, tells_way, tells_top, tells_left, tells_right}
-use Rattle.cv_graft.proofs.Grafts.{offered_of, top_is, top_taken, rebuilt_at, made_graft, fault_graft, unread_graft}
 use Rattle.cv_graft.specs.Way.{IsOfEither, TellsDamage}
-use Rattle.cv_graft.specs.WayInner.{IsMade}
 use Rattle.cv_graft.specs.declared.grafted.Grafted.{Grafted}
 use Rattle.cv_graft.specs.declared.graft_fault.GraftFault.{GraftFault}
+use Rattle.cv_graft.proofs.Both.{grafted_top, refused_top, unread_both}
+use Rattle.cv_graft.proofs.Finding.{cuts_way, from_top, some_count, some_long}
+use Rattle.cv_graft.proofs.Holders.{top_blamed, tells_way, tells_top, tells_left, tells_right}
+use Rattle.cv_graft.proofs.Tops.{top_is, top_taken}
 use Rattle.cv_graft.proofs.grafting.below_root.Goals as goal
-use Rattle.cv_ports.proofs.Laws.{raised_both}
-use Rattle.cv_cut.specs.Above.{replaced}
 
 pub returns-in_err-other-clause-taken : goal.returns-in_err-other-clause-taken
 returns-in_err-other-clause-taken g c = λ standing told t n way other.
@@ -30,19 +26,6 @@ returns-in_err-catalogue-clause-taken g c = λ standing told t n way other.
     let one = c.holder.ensures.taken standing told n (cuts_way other) in
     raised_both _ _ _ _ _ one (1, some_count t p c.requires.path, c.in_err-catalogue.ensures.taken)
 
-pub returns-in_err-made-clause-told : goal.returns-in_err-made-clause-told
-returns-in_err-made-clause-told g c = λ standing told t n ways place.
-    let p = c.args.path.now in
-    let there = c.holder.ensures.unchanged ∙ told in
-    let way = cuts_way ways.way in
-    let top = top_is standing c.args.newest.now t p c.root-top.result c.in_ok-catalogue.catalogue way c.requires.path (c.in_ok-catalogue.ensures.told standing there) c.root-top.ensures in
-    let offered = offered_of n p c.in_ok-other.other ways.other.tree ways.other.fits (c.in_ok-other.ensures.told standing told n (cuts_way ways.other)) in
-    let after = IsTree-put_at t n p ways.way.tree ways.other.tree place in
-    left_by (Grafts (replaced t n p) p) _ _ c.from_residual-in_err-made.ensures.1
-    (fault_graft (replaced t n p) p c.new-added.result.items c.rebuilt.new.added.items c.in_err-made.field-0.0
-    (rebuilt_at (replaced t n p) p c.in_ok-catalogue.catalogue t c.new-added.result.items c.rebuilt.new.added.items (Err c.in_err-made.field-0.0) top
-    (c.in_err-made.ensures.told standing (c.catalogue_at.ensures.unchanged ∙ there) c.args.newest.now.hash t n p way ways.way.fits offered after top.on top.is)))
-
 pub returns-in_err-made-clause-taken : goal.returns-in_err-made-clause-taken
 returns-in_err-made-clause-taken g c = λ standing told t n way other.
     let p = c.args.path.now in
@@ -52,19 +35,6 @@ returns-in_err-made-clause-taken g c = λ standing told t n way other.
     let one = c.holder.ensures.taken standing told n (cuts_way other) in
     let below = top_taken t p c.in_ok-catalogue.catalogue top _ _ _ c.catalogue_at.ensures.taken (c.rebuilt.ensures.taken standing (c.catalogue_at.ensures.unchanged ∙ there) c.args.newest.now.hash t p cuts) in
     raised_both _ _ _ _ _ one below
-
-pub returns-clause-told : goal.returns-clause-told
-returns-clause-told g c = λ standing told t n ways place.
-    let p = c.args.path.now in
-    let there = c.holder.ensures.unchanged ∙ told in
-    let way = cuts_way ways.way in
-    let top = top_is standing c.args.newest.now t p c.root-top.result c.in_ok-catalogue.catalogue way c.requires.path (c.in_ok-catalogue.ensures.told standing there) c.root-top.ensures in
-    let offered = offered_of n p c.in_ok-other.other ways.other.tree ways.other.fits (c.in_ok-other.ensures.told standing told n (cuts_way ways.other)) in
-    let after = IsTree-put_at t n p ways.way.tree ways.other.tree place in
-    let made = rebuilt_at (replaced t n p) p c.in_ok-catalogue.catalogue t c.new-added.result.items c.rebuilt.new.added.items (Ok c.in_ok-made.made) top
-    (c.in_ok-made.ensures.told standing (c.catalogue_at.ensures.unchanged ∙ there) c.args.newest.now.hash t n p way ways.way.fits offered after top.on top.is) in
-    made_graft (replaced t n p) p c.rebuilt.new.added.items c.in_ok-made.made _ (subst (λ (l : List Object). IsMade (replaced t n p) [] p l c.rebuilt.new.added.items c.in_ok-made.made) c.new-added.ensures.items made)
-    (ap (λ (l : List Object). record { root = record { hash = c.in_ok-made.made.hash; kind = Catalogue }; size = c.in_ok-made.made.size; added = l }) c.new.ensures)
 
 pub returns-clause-taken : goal.returns-clause-taken
 returns-clause-taken g c = λ standing told t n way other.
@@ -85,25 +55,12 @@ returns-in_err-made-clause-reads g c = g.met.S.Shelf.reads_then _ _ _ c.holder.e
 pub returns-clause-reads : goal.returns-clause-reads
 returns-clause-reads g c = g.met.S.Shelf.reads_then _ _ _ c.holder.ensures.reads (g.met.S.Shelf.reads_then _ _ _ c.catalogue_at.ensures.reads c.rebuilt.ensures.reads)
 
-pub returns-in_err-other-clause-told : goal.returns-in_err-other-clause-told
-returns-in_err-other-clause-told g c = λ standing told t n ways place.
-    let p = c.args.path.now in
-    left_by (Grafts (replaced t n p) p) _ _ c.from_residual.ensures.1
-    (unread_graft (replaced t n p) p _ (c.in_err-other.ensures.told standing told n (cuts_way ways.other)))
-
 pub returns-in_err-other-clause-damaged : goal.returns-in_err-other-clause-damaged
 returns-in_err-other-clause-damaged g c = λ standing told.
     let one = c.args.newest.now.hash in
     let other = c.args.offered.now.hash in
     left_by (λ (x : Result Grafted GraftFault). TellsDamage standing (IsOfEither standing one other c.args.path.now) x) _ _ c.from_residual.ensures.1
     (tells_right Grafted standing one other c.args.path.now _ (tells_way Grafted standing c.args.offered.now.hash c.args.path.now _ (c.in_err-other.ensures.fault standing told)))
-
-pub returns-in_err-catalogue-clause-told : goal.returns-in_err-catalogue-clause-told
-returns-in_err-catalogue-clause-told g c = λ standing told t n ways place.
-    let p = c.args.path.now in
-    left_by (Grafts (replaced t n p) p) _ _ c.from_residual-in_err-catalogue.ensures.1
-    (unread_graft (replaced t n p) p _ (top_unread standing c.args.newest.now t p c.root-top.result _ (cuts_way ways.way) c.requires.path c.requires.newest c.root-top.ensures
-    (c.in_err-catalogue.ensures.told standing (c.holder.ensures.unchanged ∙ told))))
 
 pub returns-in_err-catalogue-clause-damaged : goal.returns-in_err-catalogue-clause-damaged
 returns-in_err-catalogue-clause-damaged g c = λ standing told.

@@ -1,8 +1,8 @@
-use Rattle.std.proofs.Common.{◌≡◌, [], length, sym, ◌∙◌, arith}
+use Rattle.std.proofs.Common.{rules, ◌≡◌, ◌≢◌, [], length, sym, ◌∙◌, arith}
 use Rattle.std.proofs.lemmas.Bool.Decides.{Decides-eqb}
 use Rattle.std.proofs.lemmas.List.{nil_from_length}
 use Rattle.cv_graft.specs.Way.{IsOfEither}
-use Rattle.cv_graft.proofs.Both.{at_root}
+use Rattle.cv_graft.proofs.Both.{at_root, grafts_tree}
 use Rattle.cv_graft.proofs.Finding.{cuts_way}
 use Rattle.cv_graft.proofs.Holders.{tells_none}
 use Rattle.cv_graft.proofs.Parentless.{nothing_made, some_below}
@@ -29,6 +29,12 @@ returns-then-is_empty-clause-damaged g c = λ standing told. tells_none standing
 
 pub returns-then-is_empty-clause-most : goal.returns-then-is_empty-clause-most
 returns-then-is_empty-clause-most g c = (0, omega arith, c.whole.ensures.taken)
+
+pub returns-clause-told : goal.returns-clause-told
+returns-clause-told g c = λ standing told t n ways place.
+    let some : c.args.path.now ≢ [] = search rules in
+    grafts_tree standing c.args.newest.now.hash c.args.offered.now.hash t n c.args.path.now ways.way ways.other some place c.requires.unmarked c.below_root.result
+    (c.below_root.ensures.way standing told) (c.below_root.ensures.damaged standing told)
 
 pub returns-clause-way : goal.returns-clause-way
 returns-clause-way g c = λ standing told some. c.below_root.ensures.way standing told

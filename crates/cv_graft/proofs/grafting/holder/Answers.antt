@@ -8,7 +8,7 @@ use Rattle.cv_graft.specs.Directories.{IsHolder}
 use Rattle.cv_graft.specs.Way.{BlamesWay}
 use Rattle.cv_graft.specs.WayInner.{Finds}
 use Rattle.cv_graft.proofs.Holders.{fails_top, holds_top, top_blamed}
-use Rattle.cv_graft.proofs.Grafts.{top_is, top_count}
+use Rattle.cv_graft.proofs.Tops.{top_is, top_count}
 use Rattle.cv_graft.proofs.grafting.holder.Goals as goal
 use Rattle.cv_ports.specs.Calls.{raised_by}
 

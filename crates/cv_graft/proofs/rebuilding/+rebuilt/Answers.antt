@@ -1,54 +1,26 @@
-use Rattle.std.proofs.Common.{refl, [], Result, subst, ◌∙◌, arith}
+use Rattle.std.proofs.Common.{refl, Result, ◌∙◌, arith}
 use Rattle.cv_base.proofs.Laws.{left_by}
-use Rattle.cv_rows.specs.Catalogue.{Contents}
 use Rattle.cv_graft.specs.Way.{HasNone, IsNext, TellsDamage}
-use Rattle.cv_graft.specs.JoinsInner.{Joins}
 use Rattle.cv_graft.specs.MakesInner.{Remakes}
-use Rattle.cv_graft.specs.WayInner.{IsOfWayOf, Rebuilds}
-use Rattle.cv_graft.proofs.Makes.{fault_remakes, remade_above, remade_here, unread_remakes}
+use Rattle.cv_graft.specs.WayInner.{IsOfWayOf}
 use Rattle.cv_graft.specs.declared.made.Made.{Made}
 use Rattle.cv_graft.specs.declared.graft_fault.GraftFault.{GraftFault}
-use Rattle.cv_graft.proofs.Holders.{tells_next, tells_below, tells_none}
+use Rattle.cv_graft.proofs.Makes.{fault_remakes, remade_above, rejoins_tells, rejoins_unread, remade_here, unread_remakes}
+use Rattle.cv_graft.proofs.Holders.{tells_next, tells_below}
 use Rattle.cv_graft.proofs.Nexts.{above_shorter, next_shorter}
-use Rattle.cv_graft.proofs.Finding.{none_or_one, one_more, none_holds, step_unread, step_down, step_taken, more_than_one, at_most_below}
-use Rattle.cv_graft.proofs.Rebuilds.{asked_of, above_of, above_made, upper_fault, unread_fault}
+use Rattle.cv_graft.proofs.Finding.{none_or_one, one_more, step_taken, more_than_one, at_most_below}
 use Rattle.cv_graft.proofs.rebuilding.+rebuilt.Goals as goal
-use Rattle.cv_cut.specs.Above.{replaced}
-
-pub returns-in_default-clause-told : goal.returns-in_default-clause-told
-returns-in_default-clause-told g m c = λ standing told hash t n r way fits offered after w is.
-    let p = c.args.path.now in
-    let none : HasNone c.args.catalogue p = rw c.in_default.is at c.in_ok-entry.ensures.found in
-    let holds = none_holds t p c.args.catalogue.at r way.tree w (subst (λ (x : Contents). HasNone x p) is none) in
-    c.rejoined.ensures.made t n r offered.cut offered.rest (asked_of standing hash t n p c.args.catalogue.at r c.args.other.now way fits offered after c.requires.unmarked holds) is offered.is
 
 pub returns-in_default-clause-cause : goal.returns-in_default-clause-cause
-returns-in_default-clause-cause g m c = record { later = omega arith; failed = λ is. absurd (c.rejoined.ensures.unread is) }
+returns-in_default-clause-cause g m c = record { later = omega arith; failed = λ is. absurd (rejoins_unread _ _ _ _ _ c.rejoined.result c.rejoined.ensures.rejoins is) }
 
 pub returns-in_default-clause-damaged : goal.returns-in_default-clause-damaged
-returns-in_default-clause-damaged g m c = λ standing told. tells_none standing (IsOfWayOf standing c.args.id.now c.args.catalogue c.args.path.now) c.rejoined.result (c.rejoined.ensures.undamaged standing)
-
-pub returns-in_err-below-clause-told : goal.returns-in_err-below-clause-told
-returns-in_err-below-clause-told g m c = λ standing told hash t n r way fits offered after w is.
-    let p = c.args.path.now in
-    let items = c.args.added.now.items in
-    let next : IsNext c.args.catalogue p c.in-Some.entry = rw c.in-Some.is at c.in_ok-entry.ensures.found in
-    left_by (Rebuilds (replaced t n p) c.args.catalogue.at r items items) _ _ c.from_residual-in_err-below.ensures.1
-    (unread_fault (replaced t n p) c.args.catalogue.at r items items _ (step_unread standing hash t p r c.args.catalogue c.in-Some.entry way w is next c.args.id.now _ (c.in_err-below.ensures.told standing told)))
+returns-in_default-clause-damaged g m c = λ standing told. rejoins_tells standing _ _ _ _ _ _ c.rejoined.result c.rejoined.ensures.rejoins
 
 pub returns-in_err-below-clause-taken : goal.returns-in_err-below-clause-taken
 returns-in_err-below-clause-taken g m c = λ standing told hash t r way w is.
     let next : IsNext c.args.catalogue c.args.path.now c.in-Some.entry = rw c.in-Some.is at c.in_ok-entry.ensures.found in
     at_most_below _ _ _ (more_than_one standing hash t c.args.path.now r c.args.catalogue c.in-Some.entry way w is next) c.in_err-below.ensures.taken
-
-pub returns-in_err-made-clause-told : goal.returns-in_err-made-clause-told
-returns-in_err-made-clause-told g m c = λ standing told hash t n r way fits offered after w is.
-    let p = c.args.path.now in
-    let next : IsNext c.args.catalogue p c.in-Some.entry = rw c.in-Some.is at c.in_ok-entry.ensures.found in
-    let s = step_down standing hash t p r c.args.catalogue c.in-Some.entry way w is next c.in_ok-below.below (c.in_ok-below.ensures.told standing told) in
-    left_by (Rebuilds (replaced t n p) c.args.catalogue.at r c.args.added.now.items c.rebuilt.new.added.items) _ _ c.from_residual-in_err-made.ensures.1
-    (upper_fault (replaced t n p) c.in_ok-below.below.at s.f c.args.catalogue.at r c.args.added.now.items c.rebuilt.new.added.items c.args.added.now.items c.rebuilt.new.added.items _
-    (c.in_err-made.ensures.told standing (c.nested_catalogue.ensures.unchanged ∙ told) hash t n s.f way fits offered after s.on s.is_))
 
 pub returns-in_err-made-clause-taken : goal.returns-in_err-made-clause-taken
 returns-in_err-made-clause-taken g m c = λ standing told hash t r way w is.
@@ -67,15 +39,6 @@ returns-clause-taken g m c = λ standing told hash t r way w is.
     let next : IsNext c.args.catalogue c.args.path.now c.in-Some.entry = rw c.in-Some.is at c.in_ok-entry.ensures.found in
     step_taken standing hash t c.args.path.now r c.args.catalogue c.in-Some.entry way w is next c.in_ok-below.below (c.in_ok-below.ensures.told standing told) _ _ _ c.in_ok-below.ensures.taken
     (λ f. c.rebuilt.ensures.taken standing (c.nested_catalogue.ensures.unchanged ∙ told) hash t f way)
-
-pub returns-clause-told : goal.returns-clause-told
-returns-clause-told g m c = λ standing told hash t n r way fits offered after w is.
-    let p = c.args.path.now in
-    let next : IsNext c.args.catalogue p c.in-Some.entry = rw c.in-Some.is at c.in_ok-entry.ensures.found in
-    let s = step_down standing hash t p r c.args.catalogue c.in-Some.entry way w is next c.in_ok-below.below (c.in_ok-below.ensures.told standing told) in
-    let deep = c.in_ok-made.ensures.told standing (c.nested_catalogue.ensures.unchanged ∙ told) hash t n s.f way fits offered after s.on s.is_ in
-    above_made t n p c.args.catalogue.at r s.e s.f c.in_ok-below.below.at c.args.catalogue c.with_entry-catalogue.result c.in-Some.entry.path c.args.added.now.items c.rebuilt.new.added.items c.keep.new.added.items c.in_ok-made.made c.in_ok-keep.field-0
-    (above_of t n p c.args.catalogue.at r s.e s.f way.tree fits after c.requires.unmarked s.passes) s.place s.path is deep c.with_entry-catalogue.ensures c.in_ok-keep.ensures.hash c.in_ok-keep.ensures.size c.in_ok-keep.ensures.added
 
 pub returns-in_err-made-clause-reads : goal.returns-in_err-made-clause-reads
 returns-in_err-made-clause-reads g t c = g.met.S.Shelf.reads_then _ _ _ c.nested_catalogue.ensures.reads c.rebuilt.ensures.reads
@@ -131,35 +94,37 @@ pub returns-in_default-clause-way : goal.returns-in_default-clause-way
 returns-in_default-clause-way g m c = λ standing told.
     let p = c.args.path.now in
     let none : HasNone c.args.catalogue p = rw c.in_default.is at c.in_ok-entry.ensures.found in
-    remade_here standing (λ k r. Joins k c.args.other.now p r) p c.args.id.now c.args.catalogue [] c.args.added.now.items c.rejoined.new.added.items c.rejoined.result none c.rejoined.ensures.rejoins
+    remade_here standing (g.C.Coming.outcomes c.args.coming.now p) p c.args.id.now c.args.catalogue (g.C.Coming.own c.args.coming.now) c.args.added.now.items c.rejoined.new.added.items c.rejoined.result none c.rejoined.ensures.rejoins
 
 pub returns-in_err-below-clause-way : goal.returns-in_err-below-clause-way
 returns-in_err-below-clause-way g m c = λ standing told.
     let p = c.args.path.now in
-    let answers = λ (k : Contents) (r : Result Contents GraftFault). Joins k c.args.other.now p r in
+    let x = g.C.Coming.outcomes c.args.coming.now p in
+    let own = g.C.Coming.own c.args.coming.now in
     let items = c.args.added.now.items in
-    left_by (Remakes standing answers p c.args.id.now c.args.catalogue [] items items) _ _ c.from_residual-in_err-below.ensures.1 (unread_remakes standing answers p c.args.id.now c.args.catalogue [] items items _)
+    left_by (Remakes standing x p c.args.id.now c.args.catalogue own items items) _ _ c.from_residual-in_err-below.ensures.1 (unread_remakes standing x p c.args.id.now c.args.catalogue own items items _)
 
 pub returns-in_err-made-clause-way : goal.returns-in_err-made-clause-way
 returns-in_err-made-clause-way g m c = λ standing told.
     let p = c.args.path.now in
-    let answers = λ (k : Contents) (r : Result Contents GraftFault). Joins k c.args.other.now p r in
+    let x = g.C.Coming.outcomes c.args.coming.now p in
+    let own = g.C.Coming.own c.args.coming.now in
     let next : IsNext c.args.catalogue p c.in-Some.entry = rw c.in-Some.is at c.in_ok-entry.ensures.found in
     let items = c.args.added.now.items in
     let more = c.rebuilt.new.added.items in
-    left_by (Remakes standing answers p c.args.id.now c.args.catalogue [] items more) _ _ c.from_residual-in_err-made.ensures.1
-    (fault_remakes standing answers p c.args.id.now c.args.catalogue c.in_ok-below.below c.in-Some.entry [] items more _ next (c.in_ok-below.ensures.told standing told)
+    left_by (Remakes standing x p c.args.id.now c.args.catalogue own items more) _ _ c.from_residual-in_err-made.ensures.1
+    (fault_remakes standing x p c.args.id.now c.args.catalogue c.in_ok-below.below c.in-Some.entry own items more _ next (c.in_ok-below.ensures.told standing told)
     (c.in_err-made.ensures.way standing (c.nested_catalogue.ensures.unchanged ∙ told)))
 
 pub returns-in_err-keep-clause-way : goal.returns-in_err-keep-clause-way
 returns-in_err-keep-clause-way g m c = λ standing told.
     let p = c.args.path.now in
-    left_by (Remakes standing (λ k r. Joins k c.args.other.now p r) p c.args.id.now c.args.catalogue [] c.args.added.now.items c.keep.new.added.items) _ _ c.from_residual-in_err-keep.ensures.1 (λ root place on has. tt)
+    left_by (Remakes standing (g.C.Coming.outcomes c.args.coming.now p) p c.args.id.now c.args.catalogue (g.C.Coming.own c.args.coming.now) c.args.added.now.items c.keep.new.added.items) _ _ c.from_residual-in_err-keep.ensures.1 (λ root place on has. tt)
 
 pub returns-clause-way : goal.returns-clause-way
 returns-clause-way g m c = λ standing told.
     let p = c.args.path.now in
     let next : IsNext c.args.catalogue p c.in-Some.entry = rw c.in-Some.is at c.in_ok-entry.ensures.found in
-    remade_above standing (λ k r. Joins k c.args.other.now p r) p c.args.catalogue c.in_ok-below.below c.with_entry-catalogue.result c.in-Some.entry [] c.args.added.now.items c.rebuilt.new.added.items c.keep.new.added.items
+    remade_above standing (g.C.Coming.outcomes c.args.coming.now p) p c.args.catalogue c.in_ok-below.below c.with_entry-catalogue.result c.in-Some.entry (g.C.Coming.own c.args.coming.now) c.args.added.now.items c.rebuilt.new.added.items c.keep.new.added.items
     c.in_ok-made.made c.in_ok-keep.field-0 next (c.in_ok-below.ensures.told standing told) (c.in_ok-made.ensures.way standing (c.nested_catalogue.ensures.unchanged ∙ told)) c.with_entry-catalogue.ensures
     (record { hash = c.in_ok-keep.ensures.hash; size = c.in_ok-keep.ensures.size; added = c.in_ok-keep.ensures.added })

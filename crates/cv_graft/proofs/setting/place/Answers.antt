@@ -1,4 +1,4 @@
-use Rattle.std.proofs.Common.{◌≡◌, [], length, refl, sym, ◌∙◌, arith}
+use Rattle.std.proofs.Common.{rules, ◌≡◌, ◌≢◌, [], length, refl, sym, ◌∙◌, arith}
 use Rattle.std.proofs.lemmas.Bool.Decides.{Decides-eqb}
 use Rattle.std.proofs.lemmas.List.{nil_from_length}
 use Rattle.std.specs.Option.{option_copied}
@@ -6,6 +6,7 @@ use Rattle.cv_tree.specs.Changes.{nodes_of}
 use Rattle.cv_graft.specs.Way.{IsOfWay}
 use Rattle.cv_graft.proofs.Holders.{tells_none}
 use Rattle.cv_graft.proofs.Parentless.{nothing_placed, some_below}
+use Rattle.cv_graft.proofs.PlacedWay.{places_tree}
 use Rattle.cv_graft.proofs.PlacedWhole.{placed_root}
 use Rattle.cv_graft.proofs.setting.place.Goals as goal
 
@@ -36,6 +37,12 @@ pub returns-then-is_empty-clause-way : goal.returns-then-is_empty-clause-way
 returns-then-is_empty-clause-way g c = λ standing told some.
     let size = (Decides-eqb (length c.names.result.now) 0).0 (sym c.is_empty.ensures ∙ c.if-is_empty.true) in
     absurd (some (sym c.names.ensures.names ∙ nil_from_length c.names.result.now size))
+
+pub returns-clause-told : goal.returns-clause-told
+returns-clause-told g c = λ standing told t way place.
+    let some : c.args.path.now ≢ [] = search rules in
+    places_tree standing c.args.base.now.hash t c.args.path.now (nodes_of (option_copied c.args.part)) way some place c.requires.unmarked c.below_root_with.result
+    (c.below_root_with.ensures.way standing told) (c.below_root_with.ensures.damaged standing told)
 
 pub returns-clause-way : goal.returns-clause-way
 returns-clause-way g c = λ standing told some. c.below_root_with.ensures.way standing told
