@@ -17,55 +17,44 @@ use Rattle.cv_tree.specs.Tree.{Nodes, IsTree, at, put}
 use Rattle.cv_tree.proofs.Laws.{IsTree-put_at}
 use Rattle.cv_rows.specs.Catalogue.{Contents}
 use Rattle.cv_cut.specs.Catalogues.{cat, contents_of, root_of, Fits}
-use Rattle.cv_cut.specs.Reached.{HasCatalogue, root_place}
 use Rattle.cv_cut.specs.declared.load_fault.LoadFault.{LoadFault}
 use Rattle.cv_cut.specs.declared.load_fault.LoadFault.TheVariants as load
 use Rattle.cv_cut.specs.Replaced.{Grafting}
 use Rattle.cv_cut.proofs.Lemmas.{made_all, put-root, region_apart}
-use Rattle.cv_graft.specs.Both.{IsGrafted, GraftsBoth, GivesOffered}
+use Rattle.cv_graft.specs.Both.{GraftsBoth, GivesOffered}
 use Rattle.cv_graft.specs.Directories.{IsHolder}
 use Rattle.cv_graft.specs.Faults.{of_load}
 use Rattle.cv_graft.specs.Graft.{Grafts, HasWay, HasWays}
 use Rattle.cv_graft.specs.Joins.{IsJoined, CollidesAt, IsFullAt}
 use Rattle.cv_graft.specs.JoinsInner.{from_tree}
 use Rattle.cv_graft.specs.Makes.{Makes, as_object}
-use Rattle.cv_graft.specs.MakesInner.{IsRemade, RefusesOn, Remakes}
-use Rattle.cv_graft.specs.Way.{IsOfEither, IsOnWay, TellsDamage}
+use Rattle.cv_graft.specs.MakesInner.{Regrafts}
+use Rattle.cv_graft.specs.Way.{IsOfEither, TellsDamage}
 use Rattle.cv_graft.specs.declared.grafted.Grafted.{Grafted}
-use Rattle.cv_graft.specs.declared.made.Made.{Made}
 use Rattle.cv_graft.specs.declared.graft_fault.GraftFault.{GraftFault}
 use Rattle.cv_graft.specs.declared.graft_fault.GraftFault.TheVariants as fault
 use Rattle.cv_graft.proofs.Finding.{cuts_way}
-use Rattle.cv_graft.proofs.Holders.{top_at}
 use Rattle.cv_graft.proofs.Joined.{joined_full, joined_shares, joined_tree}
 use Rattle.cv_graft.proofs.Rebuilds.{IsOfHolder, IsOfTree, holder_there, top_tree, undamaged}
 
 -- ---- from the root on
 
-pub grafted_top : (shelf : Shelf) (newest : ObjectId) (offered : List ℕ) (top p : Path) (c o : Contents) (before after : List Object) (made : Made) (g : Grafted) → top ≡ [] → HasCatalogue shelf newest.hash (record { path = top; row = None }) c
-    → IsHolder shelf offered p o → IsRemade shelf (from_tree o p) p c [] before after made → before ≡ [] → g ≡ record { root = object_id made.hash Catalogue; size = made.size; added = after } → IsGrafted shelf newest.hash offered p g
-grafted_top shelf newest offered top p c o before after made g none there held m first is = record {
-  top = c;
-  there = top_at shelf newest.hash top c none there;
+pub grafts_way : (shelf : Shelf) (newest offered : List ℕ) (p : Path) (o : Contents) (r : Result Grafted GraftFault) → IsHolder shelf offered p o → Regrafts shelf newest (from_tree o p) p [] r → GraftsBoth shelf newest offered p r
+grafts_way shelf newest offered p o (Ok g) held h = record {
+  top = h.top;
+  there = h.there;
   other = o;
   held = held;
-  made = m.is;
-  makes = subst (λ (l : List Object). Makes shelf (λ k made_. IsJoined k o p made_) p c m.is l) (sym (ap (λ (x : Grafted). x.added) is ∙ m.added ∙ ap (λ (l : List Object). l ++ m.objects) first)) m.makes;
-  root = ap (λ (x : Grafted). x.root) is ∙ ap (λ (x : List ℕ). object_id x Catalogue) m.hash;
-  size = ap (λ (x : Grafted). x.size) is ∙ m.size;
+  made = h.made;
+  makes = subst (λ (l : List Object). Makes shelf (λ c k. IsJoined c o p k) p h.top h.made l) (sym h.added) h.makes;
+  root = h.root;
+  size = h.size;
 }
-
-refused : (shelf : Shelf) (newest offered : List ℕ) (p : Path) (o : Contents) (f : GraftFault) → IsHolder shelf offered p o → RefusesOn shelf newest p (from_tree o p) f → GraftsBoth shelf newest offered p (Err f)
-refused shelf newest offered p o (fault.PathCollision a b) held h = (h.0, o, record { holds = h.1; held = held }, h.2)
-refused shelf newest offered p o (fault.CatalogueFull d) held h = (h.0, o, record { holds = h.1; held = held }, h.2)
-refused shelf newest offered p o fault.Failed held h = tt
-refused shelf newest offered p o (fault.Damaged id found) held h = tt
-refused shelf newest offered p o fault.NoMemory held h = tt
-
-pub refused_top : (shelf : Shelf) (newest : ObjectId) (offered : List ℕ) (top p : Path) (c o : Contents) (before after : List Object) (f : GraftFault) → p ≢ [] → top ≡ [] → HasCatalogue shelf newest.hash (record { path = top; row = None }) c
-    → IsHolder shelf offered p o → Remakes shelf (from_tree o p) p newest c [] before after (Err f) → GraftsBoth shelf newest.hash offered p (Err f)
-refused_top shelf newest offered top p c o before after f some none there held h =
-    refused shelf newest.hash offered p o f held (h newest.hash root_place (IsOnWay.top some) (top_at shelf newest.hash top c none there))
+grafts_way shelf newest offered p o (Err (fault.PathCollision a b)) held h = (h.0, o, record { holds = h.1; held = held }, h.2)
+grafts_way shelf newest offered p o (Err (fault.CatalogueFull d)) held h = (h.0, o, record { holds = h.1; held = held }, h.2)
+grafts_way shelf newest offered p o (Err fault.Failed) held h = tt
+grafts_way shelf newest offered p o (Err (fault.Damaged id found)) held h = tt
+grafts_way shelf newest offered p o (Err fault.NoMemory) held h = tt
 
 pub unread_both : (shelf : Shelf) (newest offered : List ℕ) (p : Path) (f : LoadFault) → GraftsBoth shelf newest offered p (Err (of_load f))
 unread_both shelf newest offered p (load.Missing x) = tt

@@ -137,11 +137,11 @@ tells_top X shelf root top c p f some none has =
     tells_more {X = X} shelf (IsOfWayOf shelf root c p) (IsOfWay shelf root.hash p) (Err f) (λ x h. h root.hash root_place (IsOnWay.top some) (top_at shelf root.hash top c none has))
 
 -- of one of two trees
-pub tells_left : (X : Type 0) (shelf : Shelf) (root other : List ℕ) (p : Path) (f : GraftFault) → TellsDamage shelf (IsOfWay shelf root p) {X = X} (Err f) → TellsDamage shelf (IsOfEither shelf root other p) {X = X} (Err f)
-tells_left X shelf root other p f = tells_more {X = X} shelf (IsOfWay shelf root p) (IsOfEither shelf root other p) (Err f) (λ id. inl)
+pub tells_left : {X : Type 0} (shelf : Shelf) (root other : List ℕ) (p : Path) (result : Result X GraftFault) → TellsDamage shelf (IsOfWay shelf root p) result → TellsDamage shelf (IsOfEither shelf root other p) result
+tells_left shelf root other p result = tells_more shelf (IsOfWay shelf root p) (IsOfEither shelf root other p) result (λ id. inl)
 
-pub tells_right : (X : Type 0) (shelf : Shelf) (root other : List ℕ) (p : Path) (f : GraftFault) → TellsDamage shelf (IsOfWay shelf other p) {X = X} (Err f) → TellsDamage shelf (IsOfEither shelf root other p) {X = X} (Err f)
-tells_right X shelf root other p f = tells_more {X = X} shelf (IsOfWay shelf other p) (IsOfEither shelf root other p) (Err f) (λ id. inr)
+pub tells_right : {X : Type 0} (shelf : Shelf) (root other : List ℕ) (p : Path) (result : Result X GraftFault) → TellsDamage shelf (IsOfWay shelf other p) result → TellsDamage shelf (IsOfEither shelf root other p) result
+tells_right shelf root other p result = tells_more shelf (IsOfWay shelf other p) (IsOfEither shelf root other p) result (λ id. inr)
 
 -- of none
 pub tells_none : {X : Type 0} (shelf : Shelf) (which : ObjectId → Type 0) (result : Result X GraftFault) → TellsDamage shelf (λ id. ⊥) result → TellsDamage shelf which result

@@ -1,7 +1,9 @@
 -- What comes of the catalogues on the way to a path, one by one from the last upwards.
-use Rattle.std.proofs.Common.{◌≡◌, ℕ, List, [], ◌∷◌, ◌++◌, map, Some, Result, Ok, Err, ap, subst, ◌∙◌, append_assoc}
+use Rattle.std.proofs.Common.{◌≡◌, ◌≢◌, ℕ, List, [], ◌∷◌, ◌++◌, map, None, Some, Result, Ok, Err, ap, subst, ◌∙◌, append_assoc}
 use Rattle.std.specs.Prelude.{IsErrOf}
 use Rattle.cv_base.specs.Path.{Path}
+use Rattle.cv_base.specs.ObjectId.{object_id}
+use Rattle.cv_base.specs.declared.id.Kind.TheVariants.{Catalogue}
 use Rattle.cv_base.specs.declared.id.ObjectId.{ObjectId}
 use Rattle.cv_base.specs.declared.object.Object.{Object}
 use Rattle.cv_ports.specs.Shelf.{Shelf}
@@ -9,17 +11,19 @@ use Rattle.cv_rows.specs.Catalogue.{Contents}
 use Rattle.cv_rows.specs.Renewed as rows
 use Rattle.cv_rows.specs.declared.nested.Nested.{Nested}
 use Rattle.cv_cut.specs.Opening.{IsNestedCatalogue, below_id}
+use Rattle.cv_cut.specs.Reached.{HasCatalogue, root_place}
 use Rattle.cv_cut.specs.declared.load_fault.LoadFault.{LoadFault}
 use Rattle.cv_cut.specs.declared.load_fault.LoadFault.TheVariants as load
 use Rattle.cv_graft.specs.Directories.{IsHolder}
 use Rattle.cv_graft.specs.Faults.{of_load}
 use Rattle.cv_graft.specs.Makes.{joins, names, as_object, naming}
-use Rattle.cv_graft.specs.MakesInner.{IsKept, IsRemade, Joins, Outcomes, RefusesOn, Rejoins, Remakes}
-use Rattle.cv_graft.specs.Way.{HasNone, IsNext, TellsDamage}
+use Rattle.cv_graft.specs.MakesInner.{IsKept, IsRegrafted, IsRemade, Joins, Outcomes, RefusesOn, Rejoins, Remakes}
+use Rattle.cv_graft.specs.Way.{HasNone, IsNext, IsOnWay, TellsDamage}
+use Rattle.cv_graft.specs.declared.grafted.Grafted.{Grafted}
 use Rattle.cv_graft.specs.declared.made.Made.{Made}
 use Rattle.cv_graft.specs.declared.graft_fault.GraftFault.{GraftFault}
 use Rattle.cv_graft.specs.declared.graft_fault.GraftFault.TheVariants as fault
-use Rattle.cv_graft.proofs.Holders.{on_below}
+use Rattle.cv_graft.proofs.Holders.{on_below, top_at}
 
 -- ---- the catalogue that holds the path
 
@@ -75,7 +79,7 @@ remade_above shelf x p c below k n own before between after made kept next opene
       added = last.added ∙ ap (λ (l : List Object). l ++ object) m.added ∙ append_assoc before (own ++ m.objects) object ∙ ap (λ (l : List Object). before ++ l) (append_assoc own m.objects object);
     }
 
-unread_refuses : (shelf : Shelf) (x : Outcomes) (root : List ℕ) (p : Path) (f : LoadFault) → RefusesOn shelf root p x (of_load f)
+pub unread_refuses : (shelf : Shelf) (x : Outcomes) (root : List ℕ) (p : Path) (f : LoadFault) → RefusesOn shelf root p x (of_load f)
 unread_refuses shelf x root p (load.Missing id) = tt
 unread_refuses shelf x root p (load.Bad id) = tt
 unread_refuses shelf x root p load.Failed = tt
@@ -90,3 +94,22 @@ unread_remakes shelf x p id c own before after f = λ root place on has. unread_
 pub fault_remakes : (shelf : Shelf) (x : Outcomes) (p : Path) (id : ObjectId) (c below : Contents) (n : Nested) (own before after : List Object) (f : GraftFault) → IsNext c p n → IsNestedCatalogue shelf c n below
     → Remakes shelf x p (below_id n) below own before after (Err f) → Remakes shelf x p id c own before after (Err f)
 fault_remakes shelf x p id c below n own before after f next opened h = λ root place on there. h root (record { path = n.path; row = Some opened.row }) (on_below on there next opened) opened.opened
+
+-- ---- from the root on
+
+pub regrafted_top : (shelf : Shelf) (x : Outcomes) (root : ObjectId) (top p : Path) (c : Contents) (own before after : List Object) (made : Made) (g : Grafted) → top ≡ [] → HasCatalogue shelf root.hash (record { path = top; row = None }) c
+    → IsRemade shelf x p c own before after made → before ≡ [] → g ≡ record { root = object_id made.hash Catalogue; size = made.size; added = after } → IsRegrafted shelf root.hash x p own g
+regrafted_top shelf x root top p c own before after made g none there m first is = record {
+  top = c;
+  there = top_at shelf root.hash top c none there;
+  made = m.is;
+  objects = m.objects;
+  makes = m.makes;
+  added = ap (λ (y : Grafted). y.added) is ∙ m.added ∙ ap (λ (l : List Object). l ++ (own ++ m.objects)) first;
+  root = ap (λ (y : Grafted). y.root) is ∙ ap (λ (y : List ℕ). object_id y Catalogue) m.hash;
+  size = ap (λ (y : Grafted). y.size) is ∙ m.size;
+}
+
+pub refused_top : (shelf : Shelf) (x : Outcomes) (root : ObjectId) (top p : Path) (c : Contents) (own before after : List Object) (f : GraftFault) → p ≢ [] → top ≡ [] → HasCatalogue shelf root.hash (record { path = top; row = None }) c
+    → Remakes shelf x p root c own before after (Err f) → RefusesOn shelf root.hash p x f
+refused_top shelf x root top p c own before after f some none there h = h root.hash root_place (IsOnWay.top some) (top_at shelf root.hash top c none there)

@@ -1,12 +1,10 @@
 -- What is answered by the part and the catalogues on the way to a path at which it is set.
-use Rattle.std.proofs.Common.{◌≡◌, ◌≢◌, ℕ, true, false, List, [], ◌∷◌, ◌++◌, map, reverse, length, None, Result, Ok, Err, inl, inr, ap, subst, ◌∙◌}
+use Rattle.std.proofs.Common.{◌≡◌, ◌≢◌, ℕ, true, false, List, [], ◌∷◌, ◌++◌, map, reverse, length, Result, Ok, Err, inl, inr, ap, subst, ◌∙◌}
 use Rattle.sha1.specs.Sha1.{sha1}
 use Rattle.cv_base.specs.Marker.{marker, ends_in}
 use Rattle.cv_base.specs.Path.{Path}
 use Rattle.cv_base.specs.ObjectId.{object_id}
-use Rattle.cv_base.specs.declared.id.ObjectId.{ObjectId}
 use Rattle.cv_base.specs.declared.id.Kind.TheVariants.{Catalogue}
-use Rattle.cv_base.specs.declared.object.Object.{Object}
 use Rattle.cv_ports.specs.Shelf.{Shelf}
 use Rattle.cv_tree.specs.Changes.{has_place}
 use Rattle.cv_tree.specs.Tree.{Nodes, IsTree, at, put}
@@ -14,26 +12,20 @@ use Rattle.cv_tree.proofs.Laws.{IsTree-put_at}
 use Rattle.cv_rows.specs.Catalogue.{Contents}
 use Rattle.cv_cut.specs.Cut.{catalogue_object}
 use Rattle.cv_cut.specs.Piece.{HasOnly, IsPiece, IsSharedWithin, cuts_within}
-use Rattle.cv_cut.specs.Reached.{HasCatalogue, root_place}
 use Rattle.cv_cut.specs.declared.pieces.Piece.{Piece}
 use Rattle.cv_cut.specs.declared.cut_fault.CutFault.{CutFault}
 use Rattle.cv_cut.specs.declared.cut_fault.CutFault.TheVariants as cut
-use Rattle.cv_cut.specs.declared.load_fault.LoadFault.{LoadFault}
-use Rattle.cv_cut.specs.declared.load_fault.LoadFault.TheVariants as load
 use Rattle.cv_cut.specs.Replaced.{FitsOver, IsFullOver, SharesOver}
 use Rattle.cv_cut.proofs.Lemmas.{holder_of, made_all, own_only, own_piece, part_objects, shares_over}
-use Rattle.cv_graft.specs.Faults.{of_load}
 use Rattle.cv_graft.specs.Makes.{as_object}
-use Rattle.cv_graft.specs.MakesInner.{IsRemade, RefusesOn, Remakes}
+use Rattle.cv_graft.specs.MakesInner.{Regrafts}
 use Rattle.cv_graft.specs.Placed.{HasCuts, Places, SharesOwn, of_cut}
 use Rattle.cv_graft.specs.PlacedInner.{from_part}
 use Rattle.cv_graft.specs.PlacedWay.{HasHolder, IsFullThere, IsPlaced, IsSetOnWay, MeetsAt, PlacesOnWay, StandsAlone}
-use Rattle.cv_graft.specs.Way.{IsOfWay, IsOnWay, TellsDamage}
+use Rattle.cv_graft.specs.Way.{IsOfWay, TellsDamage}
 use Rattle.cv_graft.specs.declared.grafted.Grafted.{Grafted}
-use Rattle.cv_graft.specs.declared.made.Made.{Made}
 use Rattle.cv_graft.specs.declared.graft_fault.GraftFault.{GraftFault}
 use Rattle.cv_graft.specs.declared.graft_fault.GraftFault.TheVariants as fault
-use Rattle.cv_graft.proofs.Holders.{top_at}
 use Rattle.cv_graft.proofs.PlacedMade.{placed_full, placed_shares, placed_tree, placing}
 use Rattle.cv_graft.proofs.Rebuilds.{IsOfHolder, IsOfTree, holder_there, top_tree, undamaged}
 
@@ -44,41 +36,25 @@ stands_alone x t s p is only =
 
 -- ---- from the root on
 
-pub placed_top : (shelf : Shelf) (base : ObjectId) (top p : Path) (s m : Nodes) (c : Contents) (cuts : List Path) (before after : List Object) (made : Made) (g : Grafted) → StandsAlone s p m → top ≡ []
-    → HasCatalogue shelf base.hash (record { path = top; row = None }) c → cuts ≡ reverse (cuts_within m p) → IsRemade shelf (from_part m p) p c (map (catalogue_object m) cuts) before after made → before ≡ []
-    → g ≡ record { root = object_id made.hash Catalogue; size = made.size; added = after } → IsSetOnWay shelf base.hash p s g
-placed_top shelf base top p s m c cuts before after made g alone none there same h first is = record {
+pub places_way : (shelf : Shelf) (base : List ℕ) (p : Path) (s m : Nodes) (cuts : List Path) (r : Result Grafted GraftFault) → StandsAlone s p m → cuts ≡ reverse (cuts_within m p) → Regrafts shelf base (from_part m p) p (map (catalogue_object m) cuts) r
+    → PlacesOnWay shelf base p s r
+places_way shelf base p s m cuts (Ok g) alone same h = record {
   around = m;
   alone = alone;
-  top = c;
-  there = top_at shelf base.hash top c none there;
-  made = h.is;
+  top = h.top;
+  there = h.there;
+  made = h.made;
   objects = h.objects;
   makes = h.makes;
-  added = ap (λ (x : Grafted). x.added) is ∙ h.added ∙ ap (λ (l : List Object). l ++ (map (catalogue_object m) cuts ++ h.objects)) first
-      ∙ ap (λ (ds : List Path). map (catalogue_object m) ds ++ h.objects) same;
-  root = ap (λ (x : Grafted). x.root) is ∙ ap (λ (x : List ℕ). object_id x Catalogue) h.hash;
-  size = ap (λ (x : Grafted). x.size) is ∙ h.size;
+  added = h.added ∙ ap (λ (ds : List Path). map (catalogue_object m) ds ++ h.objects) same;
+  root = h.root;
+  size = h.size;
 }
-
-unplaced : (shelf : Shelf) (base : List ℕ) (p : Path) (s m : Nodes) (f : GraftFault) → StandsAlone s p m → RefusesOn shelf base p (from_part m p) f → PlacesOnWay shelf base p s (Err f)
-unplaced shelf base p s m (fault.PathCollision a b) alone h = inr (h.0, m, record { holds = h.1; alone = alone }, h.2)
-unplaced shelf base p s m (fault.CatalogueFull d) alone h = (h.0, m, record { holds = h.1; alone = alone }, h.2)
-unplaced shelf base p s m fault.Failed alone h = tt
-unplaced shelf base p s m (fault.Damaged id found) alone h = tt
-unplaced shelf base p s m fault.NoMemory alone h = tt
-
-pub unplaced_top : (shelf : Shelf) (base : ObjectId) (top p : Path) (s m : Nodes) (c : Contents) (own before after : List Object) (f : GraftFault) → p ≢ [] → StandsAlone s p m → top ≡ []
-    → HasCatalogue shelf base.hash (record { path = top; row = None }) c → Remakes shelf (from_part m p) p base c own before after (Err f) → PlacesOnWay shelf base.hash p s (Err f)
-unplaced_top shelf base top p s m c own before after f some alone none there h =
-    unplaced shelf base.hash p s m f alone (h base.hash root_place (IsOnWay.top some) (top_at shelf base.hash top c none there))
-
-pub unread_way : (shelf : Shelf) (base : List ℕ) (p : Path) (s : Nodes) (f : LoadFault) → PlacesOnWay shelf base p s (Err (of_load f))
-unread_way shelf base p s (load.Missing x) = tt
-unread_way shelf base p s (load.Bad x) = tt
-unread_way shelf base p s load.Failed = tt
-unread_way shelf base p s (load.Damaged id found) = tt
-unread_way shelf base p s load.NoMemory = tt
+places_way shelf base p s m cuts (Err (fault.PathCollision a b)) alone same h = inr (h.0, m, record { holds = h.1; alone = alone }, h.2)
+places_way shelf base p s m cuts (Err (fault.CatalogueFull d)) alone same h = (h.0, m, record { holds = h.1; alone = alone }, h.2)
+places_way shelf base p s m cuts (Err fault.Failed) alone same h = tt
+places_way shelf base p s m cuts (Err (fault.Damaged id found)) alone same h = tt
+places_way shelf base p s m cuts (Err fault.NoMemory) alone same h = tt
 
 -- paths of the part that share a key
 pub early_way : (shelf : Shelf) (base : List ℕ) (p : Path) (s m : Nodes) (f : CutFault) → HasOnly m p s → IsTree m → IsSharedWithin m p f → PlacesOnWay shelf base p s (Err (of_cut f))

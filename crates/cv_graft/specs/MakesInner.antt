@@ -2,14 +2,17 @@
 use Rattle.std.specs.Prelude.{◌≡◌, ℕ, List, [], ◌∷◌, ◌++◌, length, Result, Ok, Err}
 use Rattle.sha1.specs.Sha1.{sha1}
 use Rattle.cv_base.specs.Path.{Path}
+use Rattle.cv_base.specs.ObjectId.{object_id}
+use Rattle.cv_base.specs.declared.id.Kind.TheVariants.{Catalogue}
 use Rattle.cv_base.specs.declared.id.ObjectId.{ObjectId}
 use Rattle.cv_base.specs.declared.object.Object.{Object}
 use Rattle.cv_ports.specs.Shelf.{Shelf}
 use Rattle.cv_rows.specs.Catalogue.{Contents, catalogue_bytes}
-use Rattle.cv_cut.specs.Reached.{Place, HasCatalogue}
+use Rattle.cv_cut.specs.Reached.{Place, HasCatalogue, root_place}
 use Rattle.cv_graft.specs.Directories.{IsHolder}
 use Rattle.cv_graft.specs.Makes.{Makes, as_object}
 use Rattle.cv_graft.specs.Way.{IsOnWay}
+use Rattle.cv_graft.specs.declared.grafted.Grafted.{Grafted}
 use Rattle.cv_graft.specs.declared.made.Made.{Made}
 use Rattle.cv_graft.specs.declared.graft_fault.GraftFault.{GraftFault}
 use Rattle.cv_graft.specs.declared.graft_fault.GraftFault.TheVariants as fault
@@ -67,3 +70,19 @@ RefusesOn shelf root p x fault.NoMemory = Unit {0}
 abbrev pub Remakes : Shelf → Outcomes → Path → ObjectId → Contents → List Object → List Object → List Object → Result Made GraftFault → Type 0
 Remakes shelf x p id c own before after (Ok made) = IsRemade shelf x p c own before after made
 Remakes shelf x p id c own before after (Err f) = (root : List ℕ) (place : Place) → IsOnWay shelf root p id.hash place → HasCatalogue shelf id.hash place c → RefusesOn shelf root p x f
+
+-- from the root on: its catalogue is there, and what comes of those on the way stands behind the other objects
+pub record IsRegrafted (shelf : Shelf) (hash : List ℕ) (x : Outcomes) (p : Path) (own : List Object) (g : Grafted) : Type 0 where
+  pub top : Contents
+  pub there : HasCatalogue shelf hash root_place top
+  pub made : Contents
+  pub objects : List Object
+  pub makes : Makes shelf x.becomes p top made objects
+  pub added : g.added ≡ own ++ objects
+  pub root : g.root ≡ object_id (sha1 (catalogue_bytes made)) Catalogue
+  pub size : g.size ≡ length (catalogue_bytes made)
+
+-- or something couldn't come to the path
+abbrev pub Regrafts : Shelf → List ℕ → Outcomes → Path → List Object → Result Grafted GraftFault → Type 0
+Regrafts shelf hash x p own (Ok g) = IsRegrafted shelf hash x p own g
+Regrafts shelf hash x p own (Err f) = RefusesOn shelf hash p x f

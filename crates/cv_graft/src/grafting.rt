@@ -23,9 +23,9 @@ ghost use Rattle.cv_graft.specs.declared.graft_fault.GraftFault.TheVariants as f
 
 use crate::graft_fault::GraftFault;
 use crate::grafted::Grafted;
-use crate::rebuilding::rebuilt;
+use crate::rebuilding::from_root;
 use crate::way::holder_from;
-use cv_base::{Items, Kind, ObjectId, RepoPath};
+use cv_base::{Items, ObjectId, RepoPath};
 use cv_cut::{LoadFault, catalogue_at};
 use cv_ports::{Shelf, ShelfFault};
 use cv_rows::Catalogue;
@@ -102,19 +102,7 @@ fn below_root<S: Shelf>(
     ensures most { RaisedAtMost (length path.now + length path.now) (S.taken shelf.old) (S.taken shelf.new) }
 {
     let other = holder(alloc, shelf, offered, path)?;
-    let top = RepoPath::root(alloc);
-    let catalogue = catalogue_at(alloc, shelf, newest, &top, None)?;
-    let mut added = Vec::new(alloc);
-    let made = rebuilt(
-        alloc, shelf, newest, &top, catalogue, &other, path, &mut added,
-    )?;
-    let hash = made.hash;
-    let kind = Kind::Catalogue;
-    Ok(Grafted {
-        root: ObjectId { hash, kind },
-        size: made.size,
-        added: Items::new(added),
-    })
+    from_root(alloc, shelf, newest, &other, path)
 }
 
 /// The newest tree with the subtree at a path replaced by the offered tree's, or taken out where the offered tree lacks the

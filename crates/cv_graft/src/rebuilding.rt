@@ -11,22 +11,23 @@ ghost use Rattle.cv_base.specs.declared.id.Kind.TheVariants as id_kind;
 ghost use Rattle.cv_rows.specs.Catalogue.{catalogue_bytes};
 ghost use Rattle.cv_rows.specs.Renewed.{renewed};
 ghost use Rattle.cv_tree.specs.Tree.{Nodes, at};
-ghost use Rattle.cv_ports.specs.Calls.{raised_by};
+ghost use Rattle.cv_ports.specs.Calls.{RaisedAtMost, raised_by};
 ghost use Rattle.cv_cut.specs.Above.{cuts_above, OnWay};
 ghost use Rattle.cv_base.specs.Objects.{AreNamed};
-ghost use Rattle.cv_graft.specs.MakesInner.{Rejoins, Remakes};
+ghost use Rattle.cv_graft.specs.MakesInner.{Regrafts, Rejoins, Remakes};
 ghost use Rattle.cv_graft.specs.Placed.{HasCuts};
-ghost use Rattle.cv_graft.specs.Way.{TellsDamage};
+ghost use Rattle.cv_graft.specs.Way.{IsOfWay, TellsDamage};
 ghost use Rattle.cv_graft.specs.WayInner.{IsOfWayOf};
 ghost use Rattle.cv_cut.specs.Catalogues.{contents_of};
 ghost use Rattle.cv_graft.specs.declared.graft_fault.GraftFault.TheVariants as faults;
 
 use crate::coming::Coming;
 use crate::graft_fault::GraftFault;
+use crate::grafted::Grafted;
 use crate::made::Made;
 use crate::way::entry_above;
-use cv_base::{Bytes, Kind, NoMemory, Object, ObjectId, RepoPath};
-use cv_cut::nested_catalogue;
+use cv_base::{Bytes, Items, Kind, NoMemory, Object, ObjectId, RepoPath};
+use cv_cut::{catalogue_at, nested_catalogue};
 use cv_ports::Shelf;
 use cv_rows::Catalogue;
 use std::alloc::Global;
@@ -84,7 +85,7 @@ fn rejoined<C: Coming>(
 }
 
 /// Makes the catalogues from one on downwards to the path, those below before it, and tells of this one.
-pub(crate) fn rebuilt<S: Shelf, C: Coming>(
+fn rebuilt<S: Shelf, C: Coming>(
     alloc: Global,
     shelf: &mut S,
     id: &ObjectId,
@@ -131,4 +132,40 @@ pub(crate) fn rebuilt<S: Shelf, C: Coming>(
     )?;
     let catalogue = with_entry(catalogue, &entry.path, &made);
     Ok(keep(alloc, &catalogue, added)?)
+}
+
+/// What comes of the tree of a root, where something comes to a path below it.
+pub(crate) fn from_root<S: Shelf, C: Coming>(
+    alloc: Global,
+    shelf: &mut S,
+    root: &ObjectId,
+    coming: &C,
+    path: &RepoPath,
+) -> Result<Grafted, GraftFault>
+    requires kind { root.now.kind ≡ id_kind.Catalogue }
+    requires path { path.now ≢ [] }
+    requires unmarked { ends_in marker path.now ≡ false }
+    requires ready { C.ready coming.now path.now }
+    ensures way { WhereTold (S.shelf shelf.old) (λ standing. Regrafts standing root.now.hash (C.outcomes coming.now path.now) path.now (C.own coming.now) result) }
+    ensures own { IfOk result (λ g. AreNamed g.added) }
+    ensures damaged { WhereTold (S.shelf shelf.old) (λ standing. TellsDamage standing (IsOfWay standing root.now.hash path.now) result) }
+    ensures reads { S.reads shelf.old shelf.new }
+    ensures unchanged { S.shelf shelf.new ≡ S.shelf shelf.old }
+    ensures cause { HasCause (S.faults shelf.old) (S.faults shelf.new) (IsErrOf result faults.Failed) }
+    ensures taken { WhereTold (S.shelf shelf.old) (λ standing. (t : Nodes) → HasCuts standing root.now.hash t path.now → RaisedAtMost (length (cuts_above t path.now)) (S.taken shelf.old) (S.taken shelf.new)) }
+    ensures most { RaisedAtMost (length path.now) (S.taken shelf.old) (S.taken shelf.new) }
+{
+    let top = RepoPath::root(alloc);
+    let catalogue = catalogue_at(alloc, shelf, root, &top, None)?;
+    let mut added = Vec::new(alloc);
+    let made = rebuilt(
+        alloc, shelf, root, &top, catalogue, coming, path, &mut added,
+    )?;
+    let hash = made.hash;
+    let kind = Kind::Catalogue;
+    Ok(Grafted {
+        root: ObjectId { hash, kind },
+        size: made.size,
+        added: Items::new(added),
+    })
 }

@@ -19,9 +19,9 @@ ghost use Rattle.cv_graft.specs.declared.graft_fault.GraftFault.TheVariants as f
 
 use crate::graft_fault::GraftFault;
 use crate::grafted::Grafted;
-use crate::rebuilding::rebuilt;
-use cv_base::{Items, Kind, ObjectId, RepoPath};
-use cv_cut::{alone, catalogue_at, cut, piece_at, whole};
+use crate::rebuilding::from_root;
+use cv_base::{ObjectId, RepoPath};
+use cv_cut::{alone, cut, piece_at, whole};
 use cv_ports::Shelf;
 use cv_tree::Part;
 use std::alloc::Global;
@@ -83,19 +83,7 @@ fn below_root_with<S: Shelf>(
 {
     let tree = alone(alloc, path, part)?;
     let piece = piece_at(alloc, tree, path)?;
-    let top = RepoPath::root(alloc);
-    let catalogue = catalogue_at(alloc, shelf, base, &top, None)?;
-    let mut added = Vec::new(alloc);
-    let made = rebuilt(
-        alloc, shelf, base, &top, catalogue, &piece, path, &mut added,
-    )?;
-    let hash = made.hash;
-    let kind = Kind::Catalogue;
-    Ok(Grafted {
-        root: ObjectId { hash, kind },
-        size: made.size,
-        added: Items::new(added),
-    })
+    from_root(alloc, shelf, base, &piece, path)
 }
 
 /// A tree with a part set at a path, or with what it has there taken out, by the catalogues on the way alone. A file or a link
