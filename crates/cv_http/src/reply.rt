@@ -89,6 +89,7 @@ pub fn write_reply<W: Sink>(
     ensures part { Wrote (W.taken sink.old) (W.taken sink.new) (reply code kind last body.now) }
     ensures nothing { result ≡ Err send_fault.NoMemory → W.taken sink.new ≡ W.taken sink.old }
     ensures flushed { result ≢ Err WriteFault → W.passed sink.old ≡ W.taken sink.old → W.passed sink.new ≡ W.taken sink.new }
+    ensures held { OnErr result (W.passed sink.new ≡ W.passed sink.old) }
     ensures no_write_failed { result ≢ Err WriteFault → W.faults sink.new ≡ W.faults sink.old }
     ensures cause { HasCause (W.faults sink.old) (W.faults sink.new) (result ≡ Err WriteFault) }
 {
@@ -104,6 +105,7 @@ pub fn write_continue<W: Sink>(sink: &mut W) -> Result<(), Failed>
     ensures whole { OnOk result (W.taken sink.new ≡ onto (W.taken sink.old) continue_line) }
     ensures part { Wrote (W.taken sink.old) (W.taken sink.new) continue_line }
     ensures flushed { OnOk result (W.passed sink.new ≡ W.taken sink.new) }
+    ensures held { OnErr result (W.passed sink.new ≡ W.passed sink.old) }
     ensures no_write_failed { OnOk result (W.faults sink.new ≡ W.faults sink.old) }
     ensures cause { HasCause (W.faults sink.old) (W.faults sink.new) (IsErr result) }
 {
