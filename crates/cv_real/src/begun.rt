@@ -148,7 +148,9 @@ impl BegunSyncs {
         ensures fails { IsSome self.old.failed → IsErr result }
         ensures once { self.new.failed ≡ None }
     {
-        self.hand_over(rt);
+        if !self.waiting.is_empty() {
+            self.hand_over(rt);
+        }
         self.join_all(rt);
         match self.failed.take() {
             Some(error) => Err(error),
