@@ -217,14 +217,15 @@ class Full(Exception):
 
 
 class Sink:
-    """Room for so many bytes, and the call that fails."""
+    """Room for so many bytes, and the call that fails; each behind a failed one fails too."""
 
     def __init__(self, room, call):
-        self.room, self.call, self.taken, self.passed, self.calls = room, call, b"", 0, 0
+        self.room, self.call, self.taken, self.passed, self.calls, self.broken = room, call, b"", 0, 0, False
 
     def count(self, is_full=False):
         self.calls += 1
-        if self.calls == self.call or is_full:
+        self.broken = self.broken or self.calls == self.call or is_full
+        if self.broken:
             raise Full
 
     def put(self, *parts):

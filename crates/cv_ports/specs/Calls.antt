@@ -1,5 +1,5 @@
 -- Counts that stay at their last number, and the calls of an object in memory, of which those of stated numbers fail.
-use Rattle.std.specs.Prelude.{◌≡◌, ◌≤◌, ℕ, zero, suc, ◌==◌, List, Bool, if◌then◌else◌}
+use Rattle.std.specs.Prelude.{◌≡◌, ◌≤◌, ℕ, zero, suc, ◌==◌, ◌||◌, nat_lt, List, Bool, if◌then◌else◌}
 use Rattle.std.specs.List.{list_any}
 use Rattle.cv_base.specs.Counts.{raised}
 
@@ -25,3 +25,11 @@ fails c = list_any (λ number. number == raised c.count) c.failing
 -- after the next call
 abbrev pub called : Calls → Calls
 called c = record c { count = raised c.count; faults = if fails c then raised c.faults else c.faults }
+
+-- the next call is to fail where a failure lasts: its number is among them, or one failed before
+abbrev pub breaks : Calls → Bool
+breaks c = fails c || nat_lt 0 c.faults
+
+-- after the next call, where a failure lasts
+abbrev pub called_while_whole : Calls → Calls
+called_while_whole c = record c { count = raised c.count; faults = if breaks c then raised c.faults else c.faults }

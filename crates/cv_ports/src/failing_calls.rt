@@ -1,7 +1,7 @@
 //! Which calls of an object in memory are to fail.
 ghost use Rattle.std.specs.Prelude.{◌≡◌, ⊤, IsTrue};
 ghost use Rattle.cv_base.specs.Counts.{HasCause, raised};
-ghost use Rattle.cv_ports.specs.Calls.{fails, called, Calls};
+ghost use Rattle.cv_ports.specs.Calls.{fails, called, breaks, called_while_whole, Calls};
 
 use std::marker::Model;
 
@@ -34,18 +34,40 @@ impl FailingCalls {
         }
     }
 
+    /// Counts one more call, and whether its number is among those that are to fail.
+    fn next_is_listed(&mut self) -> bool
+        ensures listed { result ≡ fails self.old }
+        ensures counted { self.new ≡ record self.old { count = raised self.old.count } }
+    {
+        self.count = self.count.saturating_add(1);
+        self.failing.contains(&self.count)
+    }
+
     /// Counts one more call, and whether it is to fail.
     pub fn next_fails(&mut self) -> bool
         ensures fails { result ≡ fails self.old }
         ensures called { self.new ≡ called self.old }
         ensures cause { HasCause self.old.faults self.new.faults (IsTrue result) }
     {
-        self.count = self.count.saturating_add(1);
-        let fails = self.failing.contains(&self.count);
+        let fails = self.next_is_listed();
         if fails {
-            self.faults = self.faults.saturating_add(1);
+            self.add_fault();
         }
         fails
+    }
+
+    /// Counts one more call of an object whose failure lasts, and whether it is to fail: also behind each that failed.
+    pub fn next_breaks(&mut self) -> bool
+        ensures breaks { result ≡ breaks self.old }
+        ensures called { self.new ≡ called_while_whole self.old }
+        ensures cause { HasCause self.old.faults self.new.faults (IsTrue result) }
+    {
+        let broken = self.faults > 0;
+        let breaks = self.next_is_listed() || broken;
+        if breaks {
+            self.add_fault();
+        }
+        breaks
     }
 
     /// Counts one more fault, of a call that fails by itself.

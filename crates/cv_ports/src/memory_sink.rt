@@ -2,7 +2,7 @@
 ghost use Rattle.std.specs.Prelude.{◌≡◌, ◌≤◌, ◌<◌, ◌-◌, ℕ, List, Option, Some, [], length, take, min, IsTrue, ◌↔◌, ◌⊎◌, OnOk, OnErr, IfOk, IsErr, is_err, if◌then◌else◌};
 ghost use Rattle.cv_base.specs.Counts.{HasCause, raised};
 ghost use Rattle.cv_ports.specs.Streams.{onto};
-ghost use Rattle.cv_ports.specs.Calls.{fails, called};
+ghost use Rattle.cv_ports.specs.Calls.{breaks, called_while_whole};
 ghost use Rattle.cv_ports.specs.Memory.{IsFull};
 
 use crate::failed::Failed;
@@ -13,7 +13,7 @@ use std::alloc::Global;
 use std::marker::Model;
 
 /// Takes bytes into room of a stated size. The writes and flushes of stated numbers fail, from 1 on, and so does a write
-/// for which no room is left.
+/// for which no room is left, and each call behind one that failed.
 #[derive(Debug, Drop)]
 pub struct MemorySink {
     taken: Vec<u8>,
@@ -88,14 +88,15 @@ impl Sink for MemorySink {
         ensures takes { IfOk result (λ count. Some self.new.taken ≡ onto (Some self.old.taken) (take count bytes.now)) }
         ensures unchanged { OnErr result (Some self.new.taken ≡ Some self.old.taken) }
         ensures held { Some self.new.passed ≡ Some self.old.passed }
+        ensures sticks { 0 < self.old.calls.faults → IsErr result }
         ensures no_write_failed { OnOk result (self.new.calls.faults ≡ self.old.calls.faults) }
         ensures cause { HasCause self.old.calls.faults self.new.calls.faults (IsErr result) }
         ensures most { IfOk result (λ count. count ≡ min (length bytes.now) (self.old.room - length self.old.taken)) }
-        ensures failing { IsErr result ↔ (IsTrue (fails self.old.calls) ⊎ IsFull self.old bytes.now) }
+        ensures failing { IsErr result ↔ (IsTrue (breaks self.old.calls) ⊎ IsFull self.old bytes.now) }
         ensures calls { self.new.calls ≡ record self.old.calls { count = raised self.old.calls.count; faults = if is_err result then raised self.old.calls.faults else self.old.calls.faults } }
         ensures room { self.new.room ≡ self.old.room }
     {
-        if self.calls.next_fails() {
+        if self.calls.next_breaks() {
             return Err(Failed);
         }
         let count = bytes.len().min(self.room - self.taken.len());
@@ -113,12 +114,13 @@ impl Sink for MemorySink {
         ensures same { Some self.new.taken ≡ Some self.old.taken }
         ensures passes { OnOk result (Some self.new.passed ≡ Some self.new.taken) }
         ensures held { OnErr result (Some self.new.passed ≡ Some self.old.passed) }
+        ensures sticks { 0 < self.old.calls.faults → IsErr result }
         ensures no_write_failed { OnOk result (self.new.calls.faults ≡ self.old.calls.faults) }
         ensures cause { HasCause self.old.calls.faults self.new.calls.faults (IsErr result) }
-        ensures failing { IsErr result ↔ IsTrue (fails self.old.calls) }
-        ensures after { self.new ≡ record self.old { passed = if fails self.old.calls then self.old.passed else self.old.taken; calls = called self.old.calls } }
+        ensures failing { IsErr result ↔ IsTrue (breaks self.old.calls) }
+        ensures after { self.new ≡ record self.old { passed = if breaks self.old.calls then self.old.passed else self.old.taken; calls = called_while_whole self.old.calls } }
     {
-        if self.calls.next_fails() {
+        if self.calls.next_breaks() {
             return Err(Failed);
         }
         self.passed = self.taken.len();

@@ -5,7 +5,7 @@ ghost use Rattle.cv_ports.specs.Streams.{onto, Wrote};
 
 use crate::failed::Failed;
 
-/// Where bytes go, as a file, a pipe or a connection.
+/// Where bytes go, as a file, a pipe or a connection. Once a call failed each later one fails, so that nothing comes behind a gap.
 pub trait Sink {
     /// The bytes that it took so far, where it tells.
     ghost taken: { Self → Option (List ℕ) };
@@ -24,6 +24,7 @@ pub trait Sink {
         ensures takes { IfOk result (λ count. taken self.new ≡ onto (taken self.old) (take count bytes.now)) }
         ensures unchanged { OnErr result (taken self.new ≡ taken self.old) }
         ensures held { passed self.new ≡ passed self.old }
+        ensures sticks { 0 < faults self.old → IsErr result }
         ensures no_write_failed { OnOk result (faults self.new ≡ faults self.old) }
         ensures cause { HasCause (faults self.old) (faults self.new) (IsErr result) };
 
@@ -32,6 +33,7 @@ pub trait Sink {
         ensures same { taken self.new ≡ taken self.old }
         ensures passes { OnOk result (passed self.new ≡ taken self.new) }
         ensures held { OnErr result (passed self.new ≡ passed self.old) }
+        ensures sticks { 0 < faults self.old → IsErr result }
         ensures no_write_failed { OnOk result (faults self.new ≡ faults self.old) }
         ensures cause { HasCause (faults self.old) (faults self.new) (IsErr result) };
 }

@@ -40,12 +40,12 @@ fn source_gives_pieces_and_its_end(rt: HostRuntime) -> Result<(), Fail> {
     Ok(())
 }
 
-// What is written, or a flush for nothing; whether it is done; and what has passed then.
+// What is written, or a flush for nothing; whether it is done; and what has passed then. The last step fails, as the one before did.
 static STEPS: [(&[u8], bool, &[u8]); 4] = [
     (b"ab", true, b""),
-    (b"", false, b""),
     (b"", true, b"ab"),
     (b"cde", false, b"ab"),
+    (b"", false, b"ab"),
 ];
 
 // Writes these bytes, or flushes where there are none, and answers whether it was done.
@@ -56,16 +56,26 @@ fn step<W: Sink>(sink: &mut W, bytes: &[u8]) -> bool {
     write_all(sink, bytes).is_ok()
 }
 
-#[test]
-fn sink_takes_what_fits(rt: HostRuntime) -> Result<(), Fail> {
-    let failing = Vec::from_slice(rt.alloc(), &[2])?;
-    let mut sink = MemorySink::new(rt.alloc(), 4, failing)?;
+// Whether the steps come out so in room for four bytes, where the call of this number fails; and what was taken.
+fn steps_in_room(alloc: Global, failing: u64) -> Result<(bool, Vec<u8>), Fail> {
+    let mut sink = MemorySink::new(alloc, 4, vec![in alloc; failing]?)?;
+    let mut so = true;
     for (bytes, done, passed) in &STEPS {
         let found = step(&mut sink, bytes);
-        assert!(rt; found == *done && sink.passed() == *passed);
+        so = so && found == *done && sink.passed() == *passed;
     }
-    assert!(rt; sink.as_slice() == b"abcd".as_slice());
-    assert!(rt; sink.into_vec().as_slice() == b"abcd".as_slice());
+    let count = sink.as_slice().len();
+    let taken = sink.into_vec();
+    Ok((so && count == taken.len(), taken))
+}
+
+// Three bytes don't fit behind two, or the third call fails.
+#[test]
+fn sink_takes_what_fits_until_a_call_fails(rt: HostRuntime) -> Result<(), Fail> {
+    for (failing, taken) in [(0, b"abcd".as_slice()), (3, b"ab".as_slice())] {
+        let (so, found) = steps_in_room(rt.alloc(), failing)?;
+        assert!(rt; so && found.as_slice() == taken);
+    }
     Ok(())
 }
 

@@ -1,5 +1,5 @@
 //! Any reader of std as a source, and any writer as a sink.
-ghost use Rattle.std.specs.Prelude.{◌≡◌, ◌≤◌, ◌<◌, None, IfOk, OnOk, IsErr, length};
+ghost use Rattle.std.specs.Prelude.{◌≡◌, ◌≤◌, ◌<◌, ⊤, None, IfOk, OnOk, IsErr, length};
 ghost use Rattle.std.specs.Io.{ReadsAtMost};
 ghost use Rattle.std.specs.Io.KnownBytes.{Keeps, ReadConsumes, WriteAppends};
 ghost use Rattle.cv_base.specs.Counts.{HasCause};
@@ -97,7 +97,8 @@ impl<T: Read, W: Sink> Source for StreamSource<T, W> {
     }
 }
 
-/// A sink over what std writes: standard output, a file or a connection. It tells nothing of its content.
+/// A sink over what std writes: standard output, a file or a connection. It tells nothing of its content. Once a call failed
+/// the writer isn't asked any more, and each later call fails.
 #[derive(Drop)]
 pub struct StreamSink<T: Write> {
     inner: T,
@@ -123,6 +124,15 @@ impl<T: Write> StreamSink<T> {
         self.faults.number
     }
 
+    /// One more call failed.
+    fn fault(&mut self) -> Failed
+        ensures inner { self.new.inner ≡ self.old.inner }
+        ensures cause { HasCause self.old.faults.number self.new.faults.number ⊤ }
+    {
+        self.faults.raise();
+        Failed
+    }
+
     /// The writer.
     pub(crate) fn inner(&self) -> &T
         ensures { result.now ≡ self.now.inner }
@@ -143,30 +153,34 @@ impl<T: Write> Sink for StreamSink<T> {
         ensures some { IfOk result (λ count. 0 < length bytes.now → 0 < count) }
         ensures appends { WriteAppends (T.contents self.old.inner) (T.contents self.new.inner)
             result bytes.now }
+        ensures sticks { 0 < self.old.faults.number → IsErr result }
         ensures no_write_failed { OnOk result (self.new.faults.number ≡ self.old.faults.number) }
         ensures cause { HasCause self.old.faults.number self.new.faults.number (IsErr result) }
     {
+        if self.faults.number > 0 {
+            return Err(self.fault());
+        }
         if bytes.is_empty() {
             return Ok(0);
         }
-        if let Ok(count) = write_retrying(&mut self.inner, bytes) {
-            return Ok(count);
+        match write_retrying(&mut self.inner, bytes) {
+            Ok(count) => Ok(count),
+            Err(_) => Err(self.fault()),
         }
-        self.faults.raise();
-        Err(Failed)
     }
 
     fn flush(&mut self) -> Result<(), Failed>
         ensures keeps { Keeps (T.contents self.old.inner) (T.contents self.new.inner) }
+        ensures sticks { 0 < self.old.faults.number → IsErr result }
         ensures no_write_failed { OnOk result (self.new.faults.number ≡ self.old.faults.number) }
         ensures cause { HasCause self.old.faults.number self.new.faults.number (IsErr result) }
     {
+        if self.faults.number > 0 {
+            return Err(self.fault());
+        }
         match self.inner.flush() {
             Ok(()) => Ok(()),
-            Err(_) => {
-                self.faults.raise();
-                Err(Failed)
-            }
+            Err(_) => Err(self.fault()),
         }
     }
 }
