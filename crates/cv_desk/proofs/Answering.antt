@@ -7,7 +7,7 @@ use Rattle.std.specs.declared.result.Result.{Result}
 use Rattle.std.specs.declared.result.Result.TheVariants.{Ok, Err}
 use Rattle.cv_history.specs.declared.record.Record.{Record}
 use Rattle.cv_leases.specs.declared.lease.Lease.{Lease}
-use Rattle.cv_swap.specs.Kept.{revision_limit}
+use Rattle.cv_base.specs.declared.limits.TheConstants.{LAST_REVISION}
 use Rattle.cv_gate.specs.Laws.{is_committed}
 use Rattle.cv_gate.specs.declared.reply.Reply.{Reply}
 use Rattle.cv_gate.specs.declared.reply.Reply.TheVariants as reply
@@ -44,7 +44,7 @@ taken_uncommitted (Some r) out h = says_none (reply.TagTaken r.revision) out h r
 
 pub opposition_uncommitted : (newest : ℕ) (records : List Record) (from : ℕ) (old_root tag : List ℕ) (out : Reply) → opposition_by newest records from old_root tag ≡ Some out → is_committed out ≡ false
 opposition_uncommitted newest records from old_root tag out h =
-    elim (nat_le revision_limit newest) as (λ full. cond full (Some reply.RevisionsFull) (cond (has_base records from old_root) (taken_by (holder_of tag records)) (Some (reply.StaleBase from))) ≡ Some out → is_committed out ≡ false) [
+    elim (nat_le LAST_REVISION newest) as (λ full. cond full (Some reply.RevisionsFull) (cond (has_base records from old_root) (taken_by (holder_of tag records)) (Some (reply.StaleBase from))) ≡ Some out → is_committed out ≡ false) [
       | true ↦ λ e. says_none reply.RevisionsFull out e refl
       | false ↦ λ e. elim (has_base records from old_root) as (λ base. cond base (taken_by (holder_of tag records)) (Some (reply.StaleBase from)) ≡ Some out → is_committed out ≡ false) [
         | true ↦ λ e2. taken_uncommitted (holder_of tag records) out e2

@@ -26,7 +26,8 @@ use Rattle.cv_objects.specs.Names.{standing_on}
 use Rattle.cv_base.specs.Objects.{AreNamed}
 use Rattle.cv_objects.specs.declared.store_fault.StoreFault.{StoreFault}
 use Rattle.cv_objects.specs.declared.store_fault.StoreFault.TheVariants as fault
-use Rattle.cv_swap.specs.Kept.{revision_limit, head_with}
+use Rattle.cv_base.specs.declared.limits.TheConstants.{LAST_REVISION}
+use Rattle.cv_swap.specs.Kept.{head_with}
 use Rattle.cv_swap.specs.Line.{LineView, published}
 use Rattle.cv_swap.specs.Publishing.{Prepared}
 use Rattle.cv_swap.specs.declared.stage.Stage.{Stage}
@@ -61,7 +62,7 @@ plain_taken (Some r) out h id found is = let e : Some (reply.TagTaken r.revision
 
 plain_opposition : (newest : ℕ) (records : List Record) (from : ℕ) (old_root tag : List ℕ) (out : Reply) → opposition_by newest records from old_root tag ≡ Some out → IsPlain out
 plain_opposition newest records from old_root tag out h id found is =
-    elim (nat_le revision_limit newest) as (λ full. cond full (Some reply.RevisionsFull) (cond (has_base records from old_root) (taken_by (holder_of tag records)) (Some (reply.StaleBase from))) ≡ Some out → ⊥) [
+    elim (nat_le LAST_REVISION newest) as (λ full. cond full (Some reply.RevisionsFull) (cond (has_base records from old_root) (taken_by (holder_of tag records)) (Some (reply.StaleBase from))) ≡ Some out → ⊥) [
       | true ↦ λ e. (let f : Some reply.RevisionsFull ≡ Some (reply.Damaged id found) = e ∙ ap Some is in cc)
       | false ↦ λ e. elim (has_base records from old_root) as (λ base. cond base (taken_by (holder_of tag records)) (Some (reply.StaleBase from)) ≡ Some out → ⊥) [
         | true ↦ λ e2. plain_taken (holder_of tag records) out e2 id found is

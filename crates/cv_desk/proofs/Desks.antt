@@ -26,7 +26,7 @@ use Rattle.cv_gate.specs.declared.lease_line.LeaseLine.{LeaseLine}
 use Rattle.cv_gate.specs.State.{State, Settled, certain, unmade, published}
 use Rattle.cv_gate.specs.Step.{Run}
 use Rattle.cv_gate.specs.Laws.{GrowsBy}
-use Rattle.cv_gate.specs.Desk.{journal_limit}
+use Rattle.cv_gate.specs.declared.entry.TheConstants.{JOURNAL_LIMIT}
 use Rattle.cv_gate.specs.Heads.{IsFront, heads_since, last_head}
 use Rattle.cv_gate.specs.Desk.{DeskView, Call, asked, listed, fetched, told, Between, Learns, Does as Comes, Finds}
 use Rattle.cv_gate.specs.Desk.{made as takes_made}
@@ -174,7 +174,7 @@ module _ {V S : Type 0} (disk : V → Option Disk) (count : V → ℕ) (left : V
 
     -- the journal was full
     full_goes : ((f : Files) → left d.gate.state.line.vault (count d.gate.state.line.vault) f → ImageOf (disk d.gate.state.line.vault) f)
-        → length d.gate.journal ≡ journal_limit → r ≡ reply.JournalFull → after ≡ d.gate → (v : DeskView) → Stands disk is_seal d v
+        → length d.gate.journal ≡ JOURNAL_LIMIT → r ≡ reply.JournalFull → after ≡ d.gate → (v : DeskView) → Stands disk is_seal d v
         → Goes disk count left is_seal d (asked o now r ∷ []) (record d { gate = after; head = head }) v
     full_goes only counted is same v s =
         let stands : StandsFor disk is_seal after.state v.state = subst (λ (g : GateView V S). StandsFor disk is_seal g.state v.state) (sym same) s.state in
@@ -198,7 +198,7 @@ module _ {V S : Type 0} (disk : V → Option Disk) (count : V → ℕ) (left : V
         }
 
     -- the op was taken
-    made_goes : length d.gate.journal < journal_limit → (e : Entry) → e.seat ≡ 0 → e.now ≡ now → e.reply ≡ r → after.journal ≡ d.gate.journal ++ e ∷ [] → (v : DeskView) → Stands disk is_seal d v
+    made_goes : length d.gate.journal < JOURNAL_LIMIT → (e : Entry) → e.seat ≡ 0 → e.now ≡ now → e.reply ≡ r → after.journal ≡ d.gate.journal ++ e ∷ [] → (v : DeskView) → Stands disk is_seal d v
         → Does disk count left is_seal o e d.gate.state after.state v.state → Goes disk count left is_seal d (asked o now r ∷ []) (record d { gate = after; head = head }) v
     made_goes room e seat moment replied journal v s taken =
         let st' : State = taken.next in
@@ -219,7 +219,7 @@ module _ {V S : Type 0} (disk : V → Option Disk) (count : V → ℕ) (left : V
           };
           calls_ = (
             v',
-            takes_made [] v.state e (none_between v s.run) (λ a. subst (λ (l : List Entry). length l < journal_limit) (sym s.seen) room) (seat ∙ sym s.seat) moment replied taken.step (record { view = refl; heads = on.0 }),
+            takes_made [] v.state e (none_between v s.run) (λ a. subst (λ (l : List Entry). length l < JOURNAL_LIMIT) (sym s.seen) room) (seat ∙ sym s.seat) moment replied taken.step (record { view = refl; heads = on.0 }),
             refl,
           );
           leaves = leaves_more taken.leaves (λ f x. within [] [] v o now r refl refl

@@ -8,7 +8,8 @@ use Rattle.std.specs.declared.option.Option.TheVariants.{None, Some}
 use Rattle.cv_base.specs.declared.token.Token.{Token}
 use Rattle.cv_history.specs.declared.record.Record.{Record}
 use Rattle.cv_leases.specs.declared.lease.Lease.{Lease}
-use Rattle.cv_swap.specs.Kept.{Revision, newest, records_of, revision_limit}
+use Rattle.cv_base.specs.declared.limits.TheConstants.{LAST_REVISION}
+use Rattle.cv_swap.specs.Kept.{Revision, newest, records_of}
 use Rattle.cv_gate.specs.State.{State}
 use Rattle.cv_gate.specs.Commits.{is_base, tagged, IsTaken}
 use Rattle.cv_gate.specs.Step.{Commits}
@@ -54,7 +55,7 @@ free_of history (b ∷ tag) e taken is =
 -- nothing stands against a commit: there is room for a revision more, the old root is that of one since the lease was granted, and the tag
 -- is free
 pub record IsUnopposed (history : List Revision) (head : Revision) (from : ℕ) (old_root tag : List ℕ) : Type 0 where
-  pub room : head.record_.revision < revision_limit
+  pub room : head.record_.revision < LAST_REVISION
   pub base : is_base history from old_root ≡ true
   pub free : (taken : Revision) → IsTaken history tag taken → ⊥
 
@@ -63,7 +64,7 @@ module _ (history : List Revision) (head : Revision) (from : ℕ) (old_root tag 
   against full base = cond full (Some reply.RevisionsFull) (cond base (taken_by (holder_of tag (records_of history))) (Some (reply.StaleBase from)))
 
   abbrev is_full : Bool
-  is_full = nat_le revision_limit head.record_.revision
+  is_full = nat_le LAST_REVISION head.record_.revision
 
   abbrev is_based : Bool
   is_based = has_base (records_of history) from old_root
@@ -86,8 +87,8 @@ module _ (st : State) (head : Revision) (is : newest st.history ≡ Some head) (
   abbrev based : Bool
   based = is_based st.history head lease.from_revision old_root tag
 
-  no_room : nat_le revision_limit head.record_.revision ≡ false → revision_limit ≤ head.record_.revision → ⊥
-  no_room room full = let few : head.record_.revision < revision_limit = search rules in omega (arith, few, full)
+  no_room : nat_le LAST_REVISION head.record_.revision ≡ false → LAST_REVISION ≤ head.record_.revision → ⊥
+  no_room room full = let few : head.record_.revision < LAST_REVISION = search rules in omega (arith, few, full)
 
   pub opposed : opposition_by head.record_.revision (records_of st.history) lease.from_revision old_root tag ≡ Some o → Refused
   opposed h =

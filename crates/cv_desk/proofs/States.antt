@@ -12,7 +12,7 @@ use Rattle.cv_leases.specs.Leases.{refusal, lease_of, without}
 use Rattle.cv_leases.specs.declared.lease.Lease.{Lease}
 use Rattle.cv_leases.proofs.Laws.{HasRoom, not_refused}
 use Rattle.cv_swap.specs.Kept.{Revision}
-use Rattle.cv_gate.specs.Passing.{lease_time}
+use Rattle.cv_gate.specs.declared.lease_line.TheConstants.{LEASE_TIME}
 use Rattle.cv_gate.specs.Sound.{AreLeases}
 use Rattle.cv_gate.proofs.Lemmas.{by_ageing, filtered, granted_apart, is_new, ends_last}
 use Rattle.cv_desk.specs.Gate.{StateView, state_of}
@@ -77,4 +77,4 @@ module _ {V S : Type 0} (s : StateView V S) (lease : Lease) (leases : List Lease
   pub deadline_is_last : AllByRecursion (λ other. other.deadline ≤ lease.deadline) leases
   deadline_is_last =
       subst (λ (l : Lease). AllByRecursion (λ other. other.deadline ≤ l.deadline) leases) (sym e)
-      (subst (AllByRecursion (λ other. other.deadline ≤ s.moment + lease_time)) (sym same) (ends_last (state_of s) s.leases h.leases.granted))
+      (subst (AllByRecursion (λ other. other.deadline ≤ s.moment + LEASE_TIME)) (sym same) (ends_last (state_of s) s.leases h.leases.granted))

@@ -28,7 +28,7 @@ use Rattle.cv_gate.specs.Step.{IsOp, HasTypes, HasNoFresh, IsFault, Records}
 use Rattle.cv_gate.specs.declared.op.Op.{Op}
 use Rattle.cv_gate.specs.declared.reply.Reply.{Reply}
 use Rattle.cv_gate.specs.declared.reply.Reply.TheVariants as reply
-use Rattle.cv_gate.specs.Desk.{journal_limit}
+use Rattle.cv_gate.specs.declared.entry.TheConstants.{JOURNAL_LIMIT}
 use Rattle.cv_gate.specs.declared.act.Act.{Act}
 use Rattle.cv_gate.specs.declared.act.Act.TheVariants as acts
 use Rattle.cv_gate.specs.declared.op.Op.TheVariants as op
@@ -189,7 +189,7 @@ module _ {V S : Type 0} (disk : V → Option Disk) (count : V → ℕ) (left : V
 
 -- an op that is taken, and noted, is a step
 pub steps_taken : {V S : Type 0} (disk : V → Option Disk) (count : V → ℕ) (left : V → ℕ → Files → Type 0) (is_seal : S → List ℕ → List ℕ → Bool) (o : Op) (seat now : ℕ) (t : Taken) (before after : GateView V S) (r : Reply)
-    → IsOp o → IsMoment now → length before.journal < journal_limit → Takes disk count left is_seal o now t before.state after.state → r ≡ t.answer → r ≢ reply.JournalFull
+    → IsOp o → IsMoment now → length before.journal < JOURNAL_LIMIT → Takes disk count left is_seal o now t before.state after.state → r ≡ t.answer → r ≢ reply.JournalFull
     → after.journal ≡ before.journal ++ record { seat = seat; now = now; key = t.key; act = t.act; reply = t.answer } ∷ [] → Steps disk count left is_seal o seat now before after r
 steps_taken disk count left is_seal o seat now t before after r is_op moment room takes said never grown =
     let e : Entry = record { seat = seat; now = now; key = t.key; act = t.act; reply = t.answer } in
@@ -202,14 +202,14 @@ steps_taken disk count left is_seal o seat now t before after r is_op moment roo
 
 -- it is over
 pub begun_done : {V S : Type 0} (disk : V → Option Disk) (count : V → ℕ) (left : V → ℕ → Files → Type 0) (is_seal : S → List ℕ → List ℕ → Bool) (o : Op) (seat now : ℕ) (t : Taken) (before after : GateView V S) (r : Reply)
-    → IsOp o → IsMoment now → length before.journal < journal_limit → Takes disk count left is_seal o now t before.state after.state → r ≡ t.answer → r ≢ reply.JournalFull
+    → IsOp o → IsMoment now → length before.journal < JOURNAL_LIMIT → Takes disk count left is_seal o now t before.state after.state → r ≡ t.answer → r ≢ reply.JournalFull
     → after.journal ≡ before.journal ++ record { seat = seat; now = now; key = t.key; act = t.act; reply = t.answer } ∷ [] → after.ready ≡ None → Begins disk count left is_seal o seat now before after (Done r)
 begun_done disk count left is_seal o seat now t before after r is_op moment room takes said never grown idle =
     over r (steps_taken disk count left is_seal o seat now t before after r is_op moment room takes said never grown) idle (λ c. subst (λ x. is_committed x ≡ false) (sym said) (takes.unpublished c)) takes.calm
 
 -- it is ready
 pub begun_ready : {V S : Type 0} (disk : V → Option Disk) (count : V → ℕ) (left : V → ℕ → Files → Type 0) (is_seal : S → List ℕ → List ℕ → Bool) (o : Op) (seat now : ℕ) (w : Readied) (before after : GateView V S)
-    → IsOp o → IsMoment now → length before.journal < journal_limit → TakesReady disk count left is_seal o now w before.state after.state → after.journal ≡ before.journal
+    → IsOp o → IsMoment now → length before.journal < JOURNAL_LIMIT → TakesReady disk count left is_seal o now w before.state after.state → after.journal ≡ before.journal
     → after.ready ≡ Some (record { seat = seat; now = now; key = w.key; act = w.act; token = w.token }) → Begins disk count left is_seal o seat now before after (Ready w.head)
 begun_ready disk count left is_seal o seat now w before after is_op moment room takes same there =
     let waiting : Waiting = record { seat = seat; now = now; key = w.key; act = w.act; token = w.token } in

@@ -20,7 +20,7 @@ use Rattle.cv_gate.specs.Sound.{Sound}
 use Rattle.cv_gate.specs.Ready.{IsReady, Ends}
 use Rattle.cv_gate.specs.Step.{Records}
 use Rattle.cv_gate.specs.Laws.{is_committed}
-use Rattle.cv_gate.specs.Desk.{journal_limit}
+use Rattle.cv_gate.specs.declared.entry.TheConstants.{JOURNAL_LIMIT}
 use Rattle.cv_gate.specs.declared.op.Op.{Op}
 use Rattle.cv_gate.specs.declared.op.Op.TheVariants as op
 use Rattle.cv_gate.specs.declared.entry.Entry.{Entry}
@@ -101,7 +101,7 @@ pub data Begins {V S : Type 0} (disk : V → Option Disk) (count : V → ℕ) (l
   over : (r : Reply) → Steps disk count left is_seal o seat now before after r → after.ready ≡ None → (IsCommit o → is_committed r ≡ false)
       → (before.state.line.stage ≢ stage.Doubtful → after.state.line.stage ≢ stage.Doubtful) → Begins disk count left is_seal o seat now before after (Done r)
   waits : (head : Head) (w : Waiting) → after.ready ≡ Some w → w.seat ≡ seat → w.now ≡ now → ((r : Reply) → Records (entry_of w r) o)
-      → length before.journal < journal_limit → after.journal ≡ before.journal → IsCommit o → IsSameRepository before.state.line after.state.line
+      → length before.journal < JOURNAL_LIMIT → after.journal ≡ before.journal → IsCommit o → IsSameRepository before.state.line after.state.line
       → after.state.line.stage ≡ stage.Ready → head ≡ after.state.line.next_head
       → (from : StateView V S) → Resumes disk count left before.state from → WaitsSo disk count left is_seal o now w.token from after.state
       → ((st : State) → StandsFor disk is_seal before.state st → GetsReady disk count left is_seal o w.now w.token before.state after.state st)

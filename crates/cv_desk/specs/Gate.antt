@@ -24,7 +24,7 @@ use Rattle.cv_gate.specs.State.{State, aged}
 use Rattle.cv_gate.specs.Sound.{Sound}
 use Rattle.cv_gate.specs.Step.{Step, Records, CancelStep, IsFault, HasNoFresh}
 use Rattle.cv_gate.specs.Kept.{reopened}
-use Rattle.cv_gate.specs.Desk.{journal_limit}
+use Rattle.cv_gate.specs.declared.entry.TheConstants.{JOURNAL_LIMIT}
 use Rattle.cv_gate.specs.declared.op.Op.{Op}
 use Rattle.cv_gate.specs.declared.op.Op.TheVariants as op
 use Rattle.cv_gate.specs.declared.act.Act.{Act}
@@ -78,9 +78,9 @@ state_of g = record { history = []; leases = g.leases; doubt = None; shelf = λ 
 -- where a commit is ready its record and its manifest wait, and the journal has a place for it
 pub record IsGate {V S : Type 0} (g : GateView V S) : Type 0 where
   pub next : g.state.next ≤ length g.journal + 1
-  pub count : length g.journal ≤ journal_limit
+  pub count : length g.journal ≤ JOURNAL_LIMIT
   pub waits : IsSome g.ready → g.state.line.stage ≡ stage.Ready
-  pub room : IsSome g.ready → length g.journal < journal_limit
+  pub room : IsSome g.ready → length g.journal < JOURNAL_LIMIT
 
 -- ---- opening
 
@@ -173,8 +173,8 @@ pub record Does {V S : Type 0} (disk : V → Option Disk) (count : V → ℕ) (l
 -- The journal grows by one entry, which records the op, the seat and the moment with this reply, whatever the vault tells; and after
 -- a reply that is no fault no commit is in doubt. Where the journal is full nothing is done.
 pub data Steps {V S : Type 0} (disk : V → Option Disk) (count : V → ℕ) (left : V → ℕ → Files → Type 0) (is_seal : S → List ℕ → List ℕ → Bool) (o : Op) (seat now : ℕ) (before after : GateView V S) (r : Reply) : Type 0 where
-  full : length before.journal ≡ journal_limit → r ≡ reply.JournalFull → after ≡ before → Steps disk count left is_seal o seat now before after r
-  made : length before.journal < journal_limit → r ≢ reply.JournalFull → (e : Entry) → e.seat ≡ seat → e.now ≡ now → e.reply ≡ r → Records e o
+  full : length before.journal ≡ JOURNAL_LIMIT → r ≡ reply.JournalFull → after ≡ before → Steps disk count left is_seal o seat now before after r
+  made : length before.journal < JOURNAL_LIMIT → r ≢ reply.JournalFull → (e : Entry) → e.seat ≡ seat → e.now ≡ now → e.reply ≡ r → Records e o
       → after.journal ≡ before.journal ++ e ∷ [] → IsSameRepository before.state.line after.state.line
       → Proceeds disk count left is_seal o now e.act r before.state after.state
       → (after.state.line.stage ≡ stage.Doubtful → IsFault r)

@@ -9,7 +9,7 @@ use Rattle.cv_leases.specs.Leases.{refusal}
 use Rattle.cv_leases.specs.declared.lease.Lease.{Lease}
 use Rattle.cv_leases.specs.declared.lease_fault.LeaseFault.{LeaseFault}
 use Rattle.cv_leases.specs.declared.lease_fault.LeaseFault.TheVariants as fault
-use Rattle.cv_swap.specs.Kept.{revision_limit}
+use Rattle.cv_base.specs.declared.limits.TheConstants.{LAST_REVISION}
 use Rattle.cv_swap.specs.Line.{LineView, published}
 use Rattle.cv_gate.specs.declared.reply.Reply.{Reply}
 use Rattle.cv_gate.specs.declared.reply.Reply.TheVariants as reply
@@ -49,7 +49,7 @@ taken_by (Some r) = Some (reply.TagTaken r.revision)
 -- why they refuse a commit under a lease that was granted at a revision, if they do: the newest of them, and all of them
 abbrev pub opposition_by : ℕ → List Record → ℕ → List ℕ → List ℕ → Option Reply
 opposition_by newest records from old_root tag =
-    if nat_le revision_limit newest then Some reply.RevisionsFull else
+    if nat_le LAST_REVISION newest then Some reply.RevisionsFull else
     if has_base records from old_root then taken_by (holder_of tag records) else Some (reply.StaleBase from)
 
 abbrev pub opposition : {V S : Type 0} → LineView V S → ℕ → List ℕ → List ℕ → Option Reply

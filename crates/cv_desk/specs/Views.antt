@@ -7,7 +7,7 @@ use Rattle.cv_leases.specs.Leases.{unexpired}
 use Rattle.cv_leases.specs.declared.lease.Lease.{Lease}
 use Rattle.cv_load.specs.declared.known_set.KnownSet.{KnownSet}
 use Rattle.cv_swap.specs.Line.{LineView}
-use Rattle.cv_gate.specs.Passing.{lease_time}
+use Rattle.cv_gate.specs.declared.lease_line.TheConstants.{LEASE_TIME}
 use Rattle.cv_gate.specs.declared.entry.Entry.{Entry}
 use Rattle.cv_desk.specs.declared.waiting.Waiting.{Waiting}
 
@@ -40,7 +40,7 @@ abbrev pub next_token : {V S : Type 0} → StateView V S → Token
 next_token s = record { epoch = s.line.epoch; number = s.next }
 
 abbrev pub new_lease : {V S : Type 0} → StateView V S → List ℕ → Path → Lease
-new_lease s key path = record { token = next_token s; key = key; path = path; deadline = s.moment + lease_time; from_revision = s.line.head.revision }
+new_lease s key path = record { token = next_token s; key = key; path = path; deadline = s.moment + LEASE_TIME; from_revision = s.line.head.revision }
 
 abbrev pub with_lease : {V S : Type 0} → StateView V S → List ℕ → Path → StateView V S
 with_lease s key path = record s { leases = s.leases ++ new_lease s key path ∷ []; next = s.next + 1 }

@@ -43,7 +43,7 @@ pub struct Gate<V: Vault + Drop, S: Signer + Drop> {
 
 impl<V: Vault + Drop, S: Signer + Drop> Model for Gate<V, S> {
     ghost use Rattle.std.specs.Prelude.{◌≤◌, vec_capacity};
-    ghost use Rattle.cv_gate.specs.Desk.{journal_limit};
+    ghost use Rattle.cv_gate.specs.declared.entry.TheConstants.{JOURNAL_LIMIT};
     ghost use Rattle.cv_desk.specs.Gate.{GateView, IsGate};
     ghost use Rattle.std.specs.Coded.{codes};
     ghost use Rattle.cv_load.specs.contracts.known_set.KnownSet as known_set;
@@ -54,7 +54,7 @@ impl<V: Vault + Drop, S: Signer + Drop> Model for Gate<V, S> {
 
     ghost view = { λ g. record { state = g.state; journal = g.journal.items; ready = g.ready } };
 
-    ghost invariant = { λ g. IsGate (record { state = g.state; journal = g.journal.items; ready = g.ready }) × (journal_limit ≤ vec_capacity g.journal) };
+    ghost invariant = { λ g. IsGate (record { state = g.state; journal = g.journal.items; ready = g.ready }) × (JOURNAL_LIMIT ≤ vec_capacity g.journal) };
 }
 
 impl<V: Vault + Drop, S: Signer + Drop> Gate<V, S> {

@@ -7,7 +7,8 @@ use Rattle.cv_gate.specs.declared.entry.Entry.{Entry}
 use Rattle.cv_gate.specs.declared.reply.Reply.{Reply}
 use Rattle.cv_gate.specs.Lines.{lines_of}
 use Rattle.cv_gate.specs.Heads.{head_of, heads_since, last_head}
-use Rattle.cv_gate.specs.Desk.{DeskView, Call, asked, listed, fetched, told, Knows, Learns, made, full, Finds, Does, Calls, journal_limit}
+use Rattle.cv_gate.specs.declared.entry.TheConstants.{JOURNAL_LIMIT}
+use Rattle.cv_gate.specs.Desk.{DeskView, Call, asked, listed, fetched, told, Knows, Learns, made, full, Finds, Does, Calls}
 use Rattle.cv_gate.specs.Solo.{IsAlone, Answers, AnswersAll, Makes, steps, lists, fetches, tells}
 use Rattle.cv_gate.specs.Solo.{full as answers_full}
 use Rattle.cv_gate.proofs.Runs.{run_on, last_of_part}
@@ -70,7 +71,7 @@ one_call v (asked o now r) v' (made others before e between room seat moment is 
     }
 one_call v (asked o now r) v' (full is learns count) a =
     let same = learns_same v v' learns a in
-    let counted : length v.seen ≡ journal_limit = ap length (sym (same.seen ∙ append-nil v.seen)) ∙ count in
+    let counted : length v.seen ≡ JOURNAL_LIMIT = ap length (sym (same.seen ∙ append-nil v.seen)) ∙ count in
     quiet v v' (asked o now r) (subst (λ (x : Reply). Answers (length v.seen) v.state (asked o now x) [] v.state) (sym is) (answers_full o now counted)) same
 one_call v (listed now lines) v' does a =
     let same = learns_same v v' does.0 a in

@@ -16,7 +16,8 @@ use Rattle.cv_base.specs.declared.object.Object.{Object}
 use Rattle.cv_base.proofs.Laws.{all_push}
 use Rattle.cv_gate.specs.State.{State, aged, Settled, certain, unmade, published}
 use Rattle.cv_swap.specs.Kept.{Revision}
-use Rattle.cv_gate.specs.Passing.{lease_time, granted}
+use Rattle.cv_gate.specs.declared.lease_line.TheConstants.{LEASE_TIME}
+use Rattle.cv_gate.specs.Passing.{granted}
 use Rattle.cv_gate.specs.Step.{Step, Run}
 use Rattle.cv_gate.specs.Sound.{IsGranted, AreLeases}
 use Rattle.cv_gate.specs.declared.op.Op.{Op}
@@ -68,7 +69,7 @@ is_new st (lease ∷ leases) h =
     ] refl
 
 -- no lease ends after one that is granted now
-pub ends_last : (st : State) (leases : List Lease) → AllByRecursion (IsGranted st) leases → AllByRecursion (λ other. other.deadline ≤ st.moment + lease_time) leases
+pub ends_last : (st : State) (leases : List Lease) → AllByRecursion (IsGranted st) leases → AllByRecursion (λ other. other.deadline ≤ st.moment + LEASE_TIME) leases
 ends_last st [] h = tt
 ends_last st (lease ∷ leases) h = (h.0.deadline, ends_last st leases h.1)
 

@@ -21,7 +21,8 @@ use Rattle.cv_cut.proofs.Lemmas.{goes_to, first_there, later_there, none_there, 
 use Rattle.std.proofs.lemmas.List.Sorted.{IsPermutation-reverse, Contains-permutation}
 use Rattle.cv_history.specs.Record.{is_tag_byte}
 use Rattle.cv_leases.specs.declared.lease.Lease.{Lease}
-use Rattle.cv_swap.specs.Kept.{Revision, revision_limit, record_object, IsRevision, Follows}
+use Rattle.cv_base.specs.declared.limits.TheConstants.{LAST_REVISION}
+use Rattle.cv_swap.specs.Kept.{Revision, record_object, IsRevision, Follows}
 use Rattle.cv_cut.specs.Above.{cuts_above}
 use Rattle.cv_cut.specs.Cut.{catalogue_object}
 use Rattle.cv_objects.specs.Coming.{HasAll}
@@ -109,7 +110,7 @@ pub record IsWritten (now : ℕ) (lease : Lease) : Type 0 where
   pub number : lease.token.number < 2 ^ 64
   pub held : IsHeld lease
 
-committed_follows : (s : Shelf) (now : ℕ) (head : Revision) (lease : Lease) (n : Nodes) (root tag : List ℕ) → IsRevision s head → head.record_.revision < revision_limit → Means s root n → has_place head.tree lease.path ≡ true
+committed_follows : (s : Shelf) (now : ℕ) (head : Revision) (lease : Lease) (n : Nodes) (root tag : List ℕ) → IsRevision s head → head.record_.revision < LAST_REVISION → Means s root n → has_place head.tree lease.path ≡ true
     → IsWritten now lease → is_tag tag ≡ true → Fits (replaced head lease n) → HasAll (made (committed now head lease n root tag)) s → Follows s head (committed now head lease n root tag)
 committed_follows s now head lease n root tag h room hn place w good fits has =
     let key = key_text lease.key w.held.key in

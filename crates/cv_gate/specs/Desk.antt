@@ -19,10 +19,6 @@ use Rattle.cv_gate.specs.declared.reply.Reply.{Reply}
 use Rattle.cv_gate.specs.declared.reply.Reply.TheVariants.{JournalFull, StoreFailed}
 use Rattle.cv_gate.specs.Heads.{IsFront, heads_since, last_head}
 
--- the most entries of a journal
-abbrev pub journal_limit : ℕ
-journal_limit = JOURNAL_LIMIT
-
 -- How a desk may be seen: the state with which its gate was opened, the number of its seat, whether it asks the gate alone,
 -- the entries of the journal that it has seen, a state to which they run, and the heads that stood published, as far as it knows
 -- of them.
@@ -102,10 +98,10 @@ pub record Learns (v v' : DeskView) : Type 0 where
 -- an op was asked at a moment: the entry with the reply is a step behind all others, and where the desk is alone the journal had room for
 -- it; or the journal is full
 pub data Takes (o : Op) (now : ℕ) (r : Reply) (v v' : DeskView) : Type 0 where
-  made : (others : List Entry) (before : State) (e : Entry) → Between v others before → (v.alone ≡ true → length v.seen < journal_limit)
+  made : (others : List Entry) (before : State) (e : Entry) → Between v others before → (v.alone ≡ true → length v.seen < JOURNAL_LIMIT)
       → e.seat ≡ v.seat → e.now ≡ now → e.reply ≡ r
       → Step before o e v'.state → Knows v ((v.seen ++ others) ++ e ∷ []) v' → Takes o now r v v'
-  full : r ≡ JournalFull → Learns v v' → length v'.seen ≡ journal_limit → Takes o now r v v'
+  full : r ≡ JournalFull → Learns v v' → length v'.seen ≡ JOURNAL_LIMIT → Takes o now r v v'
 
 -- what is told of an object is what stands on the shelf, unless the store failed or memory was wanted
 abbrev pub Finds : ObjectId → Shelf → Result (Option (List ℕ)) ShelfFault → Type 0

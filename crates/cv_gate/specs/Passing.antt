@@ -12,7 +12,8 @@ use Rattle.cv_leases.specs.declared.limits.TheConstants.{LEASE_LIMIT}
 use Rattle.cv_leases.specs.Leases.{busy, lease_of}
 use Rattle.cv_leases.specs.declared.lease.Lease.{Lease}
 use Rattle.cv_objects.specs.Coming.{ClashesOn}
-use Rattle.cv_swap.specs.Kept.{Revision, newest, revision_limit}
+use Rattle.cv_base.specs.declared.limits.TheConstants.{LAST_REVISION}
+use Rattle.cv_swap.specs.Kept.{Revision, newest}
 use Rattle.cv_gate.specs.State.{State}
 use Rattle.cv_gate.specs.Commits.{is_base, IsTaken, committed, made}
 use Rattle.cv_gate.specs.declared.lease_line.TheConstants.{LEASE_TIME}
@@ -21,17 +22,13 @@ use Rattle.cv_gate.specs.declared.op.Op.TheVariants as op
 
 -- ---- a lease
 
--- the seconds for which a lease is granted
-abbrev pub lease_time : ℕ
-lease_time = LEASE_TIME
-
 -- the lease that is granted to a key on a path
 abbrev pub granted : State → List ℕ → Path → Revision → Lease
 granted st key p head = record {
   token = record { epoch = st.epoch; number = st.next };
   key = key;
   path = p;
-  deadline = st.moment + lease_time;
+  deadline = st.moment + LEASE_TIME;
   from_revision = head.record_.revision;
 }
 
@@ -55,7 +52,7 @@ pub record Passes (st : State) (key : List ℕ) (token : Token) (old_root new_ro
   pub own : bytes_eq lease.key key ≡ true
   pub head : Revision
   pub is_newest : newest st.history ≡ Some head
-  pub room : head.record_.revision < revision_limit
+  pub room : head.record_.revision < LAST_REVISION
   pub base : is_base st.history lease.from_revision old_root ≡ true
   pub free : (taken : Revision) → IsTaken st.history tag taken → ⊥
   pub offered : Nodes

@@ -9,7 +9,8 @@ use Rattle.cv_gate.specs.declared.entry.Entry.{Entry}
 use Rattle.cv_gate.specs.declared.op.Op.{Op}
 use Rattle.cv_gate.specs.declared.reply.Reply.TheVariants.{JournalFull}
 use Rattle.cv_gate.specs.Heads.{head_of, heads_since}
-use Rattle.cv_gate.specs.Desk.{DeskView, Call, asked, listed, fetched, told, Finds, journal_limit}
+use Rattle.cv_gate.specs.declared.entry.TheConstants.{JOURNAL_LIMIT}
+use Rattle.cv_gate.specs.Desk.{DeskView, Call, asked, listed, fetched, told, Finds}
 
 -- the desk asks alone, and has seen all from the start on
 pub record IsAlone (v : DeskView) : Type 0 where
@@ -19,8 +20,8 @@ pub record IsAlone (v : DeskView) : Type 0 where
 
 -- where the journal has so many entries a call answers by the state, the journal gains these entries, and then the state is this one
 pub data Answers (count : ℕ) (st : State) : Call → List Entry → State → Type 0 where
-  steps : (o : Op) (e : Entry) (st' : State) → count < journal_limit → Step st o e st' → Answers count st (asked o e.now e.reply) (e ∷ []) st'
-  full : (o : Op) (now : ℕ) → count ≡ journal_limit → Answers count st (asked o now JournalFull) [] st
+  steps : (o : Op) (e : Entry) (st' : State) → count < JOURNAL_LIMIT → Step st o e st' → Answers count st (asked o e.now e.reply) (e ∷ []) st'
+  full : (o : Op) (now : ℕ) → count ≡ JOURNAL_LIMIT → Answers count st (asked o now JournalFull) [] st
   lists : (now : ℕ) (lines : Option _) → IfSome lines (λ l. l ≡ lines_of (max st.moment now) st.leases) → Answers count st (listed now lines) [] st
   fetches : (id : _) (r : _) → Finds id st.shelf r → Answers count st (fetched id r) [] st
   tells : (head : _) → option_map head_of (newest st.history) ≡ Some head → Answers count st (told head) [] st

@@ -13,7 +13,8 @@ use Rattle.cv_swap.specs.Kept.{Revision, newest, IsLine, AreSound}
 use Rattle.cv_objects.specs.Coming.{HasAll}
 use Rattle.cv_gate.specs.State.{State}
 use Rattle.cv_gate.specs.Commits.{made}
-use Rattle.cv_gate.specs.Passing.{lease_time, Passes}
+use Rattle.cv_gate.specs.declared.lease_line.TheConstants.{LEASE_TIME}
+use Rattle.cv_gate.specs.Passing.{Passes}
 use Rattle.cv_gate.specs.Step.{is_key_id, IsValid}
 use Rattle.cv_gate.specs.declared.op.Op.TheVariants as op
 
@@ -27,7 +28,7 @@ sure st id = if st.loose id then None else st.shelf id
 pub record IsGranted (st : State) (lease : Lease) : Type 0 where
   pub epoch : lease.token.epoch ≡ st.epoch
   pub number : lease.token.number < st.next
-  pub deadline : lease.deadline ≤ st.moment + lease_time
+  pub deadline : lease.deadline ≤ st.moment + LEASE_TIME
 
 -- what a record needs of it
 pub record IsHeld (lease : Lease) : Type 0 where

@@ -22,7 +22,8 @@ use Rattle.cv_leases.specs.Leases.{busy, lease_of, without}
 use Rattle.cv_leases.specs.declared.lease.Lease.{Lease}
 use Rattle.cv_objects.specs.Fresh.{fresh_of}
 use Rattle.cv_objects.specs.Coming.{ClashesOn}
-use Rattle.cv_swap.specs.Kept.{Revision, newest, revision_limit}
+use Rattle.cv_base.specs.declared.limits.TheConstants.{LAST_REVISION}
+use Rattle.cv_swap.specs.Kept.{Revision, newest}
 use Rattle.cv_gate.specs.State.{State, aged, with_revision, Settled}
 use Rattle.cv_gate.specs.Objects.{GainsSome, GainsAll}
 use Rattle.cv_gate.specs.Commits.{is_base, IsTaken, committed, made}
@@ -126,7 +127,7 @@ pub record MeansNone (st : State) (root : List ℕ) (r : Reply) (st' : State) : 
 abbrev pub Commits : State → List ℕ → Token → List ℕ → List ℕ → List ℕ → Reply → State → Lease → Type 0
 Commits st key token old_root new_root tag r st' lease =
     (head : Revision) × (newest st.history ≡ Some head) × (
-    RefusesIf st r st' (revision_limit ≤ head.record_.revision) reply.RevisionsFull (
+    RefusesIf st r st' (LAST_REVISION ≤ head.record_.revision) reply.RevisionsFull (
     RefusesIf st r st' (is_base st.history lease.from_revision old_root ≡ false) (reply.StaleBase lease.from_revision) (
     Refuses st r st' (IsTaken st.history tag) (λ taken. reply.TagTaken taken.record_.revision) (
     MayFail st r st' (

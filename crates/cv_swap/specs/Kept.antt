@@ -19,10 +19,6 @@ pub record Revision : Type 0 where
   pub record_ : Record
   pub tree : Nodes
 
--- the most revisions
-abbrev pub revision_limit : ℕ
-revision_limit = LAST_REVISION
-
 abbrev pub newest : List Revision → Option Revision
 newest history = last_or None history
 
@@ -75,7 +71,7 @@ TagsDiffer (r ∷ history) = AllByRecursion (λ later. r.record_.tag ≢ [] → 
 pub record AreSound (shelf : Shelf) (history : List Revision) : Type 0 where
   pub hashes : IsShelf shelf
   pub line : IsLine shelf history
-  pub revisions : length history ≤ revision_limit
+  pub revisions : length history ≤ LAST_REVISION
   pub tags : TagsDiffer history
 
 -- what is kept
